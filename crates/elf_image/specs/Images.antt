@@ -1,0 +1,55 @@
+-- Images as plain data.
+use Rattle.std.specs.Prelude.{◌≤◌, ◌<◌, ◌+◌, ◌-◌, ◌^◌, ℕ, List, [], ◌∷◌, length, map, sum_by, Option, None, Bool, true, IsTrue, nat_le, nat_lt, ◌&&◌, ◌||◌, if◌then◌else◌, slice_get}
+use Rattle.std.specs.List.{list_all}
+use Rattle.elf_image.specs.declared.images.Image.TheInside.{Inside}
+use Rattle.elf_image.specs.declared.images.Segment.{Segment}
+
+-- the bytes from an address on
+pub record SegmentData : Type 0 where
+  pub at : ℕ
+  pub bytes : List ℕ
+
+-- the address at which the program begins, and its segments
+pub record ImageData : Type 0 where
+  pub entry : ℕ
+  pub segments : List SegmentData
+
+abbrev pub segment_data : Segment → SegmentData
+segment_data s = record { at = s.at; bytes = s.bytes.items }
+
+abbrev pub image_data : Inside → ImageData
+image_data i = record { entry = i.entry; segments = map segment_data i.segments.items }
+
+-- a byte at least, and none past 2^32
+abbrev pub is_segment : SegmentData → Bool
+is_segment s = nat_lt 0 (length s.bytes) && nat_le (s.at + length s.bytes) (2 ^ 32)
+
+-- two segments that share no address
+abbrev pub are_apart : SegmentData → SegmentData → Bool
+are_apart s t = nat_le (s.at + length s.bytes) t.at || nat_le (t.at + length t.bytes) s.at
+
+-- no two segments share an address
+abbrev pub all_apart : List SegmentData → Bool
+all_apart [] = true
+all_apart (s ∷ ss) = list_all (are_apart s) ss && all_apart ss
+
+-- the limits of an image
+pub record IsImage (i : ImageData) : Type 0 where
+  pub entry : i.entry < 2 ^ 32
+  pub few : length i.segments ≤ 64
+  pub segments : IsTrue (list_all is_segment i.segments)
+  pub apart : IsTrue (all_apart i.segments)
+  pub small : sum_by (λ s. length s.bytes) i.segments ≤ 2 ^ 24
+
+-- the segment holds the address
+abbrev pub holds : SegmentData → ℕ → Bool
+holds s x = nat_le s.at x && nat_lt x (s.at + length s.bytes)
+
+-- the byte of the segment that holds x
+abbrev pub byte_in : List SegmentData → ℕ → Option ℕ
+byte_in [] x = None
+byte_in (s ∷ ss) x = if holds s x then slice_get s.bytes (x - s.at) else byte_in ss x
+
+-- the byte of the image at x, None where no segment holds x
+abbrev pub image_byte : ImageData → ℕ → Option ℕ
+image_byte i x = byte_in i.segments x

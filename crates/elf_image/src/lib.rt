@@ -1,0 +1,6 @@
+//! Executables: ELF32 files, and the image that they load.
+#![tactic(auto)]
+
+mod images;
+
+pub use images::{Image, Segment};

@@ -1,0 +1,125 @@
+-- Which bytes spell an instruction.
+use Rattle.std.specs.Prelude.{◌≡◌, ◌+◌, ◌*◌, ◌/◌, ◌%◌, ◌^◌, ◌<◌, ◌==◌, ◌&&◌, ◌||◌, not, ℕ, List, [], ◌∷◌, ◌++◌, length, Bool, true, false, IsTrue, nat_lt, Option, Some, None, slice_get, if◌then◌else◌}
+use Rattle.std.specs.List.{list_any}
+use Rattle.tc_isa.specs.Rows.{RowData, listed}
+use Rattle.tc_isa.specs.declared.fields.Fields.{Fields}
+use Rattle.tc_isa.specs.declared.fields.Uses.{Uses}
+use Rattle.tc_isa.specs.Words.{IsBelow, bounds, second_bound, word, fields, span, is_long_form, form_index}
+
+-- two bytes stand side by side
+abbrev pub has_pair : ℕ → ℕ → List ℕ → Bool
+has_pair a b [] = false
+has_pair a b (x ∷ []) = false
+has_pair a b (x ∷ y ∷ rest) = x == a && y == b || has_pair a b (y ∷ rest)
+
+abbrev pub has_byte : ℕ → List ℕ → Bool
+has_byte a xs = list_any (λ x. x == a) xs
+
+-- the fields that a row's text names: c, s1, s2 (or the constant k4 kept there), n, and k or a target
+abbrev pub uses_of : RowData → Uses
+uses_of r = record {
+  c = has_byte 99 r.operands;
+  s1 = has_pair 115 49 r.operands;
+  s2 = has_pair 115 50 r.operands || has_pair 107 52 r.operands;
+  n = has_byte 110 r.operands;
+  k = has_byte 107 r.operands || has_byte 84 r.operands || has_byte 85 r.operands;
+}
+
+-- a field that isn't named is 0
+abbrev pub rest_is_zero : Uses → Fields → Bool
+rest_is_zero u f = (u.c || f.c == 0) && (u.s1 || f.s1 == 0) && (u.s2 || f.s2 == 0) && (u.n || f.n == 0) && (u.k || f.k == 0)
+
+-- a post-increment of an address register isn't of the base itself
+abbrev pub is_apart : RowData → Fields → Bool
+is_apart r f = not ((r.op1 == 9 || r.op1 == 137) && r.op2 == 6) || not (f.s1 == f.s2)
+
+-- the fields fit the row
+pub record Fits (r : RowData) (f : Fields) : Type 0 where
+  pub below : IsBelow f (bounds r.form)
+  pub zero : rest_is_zero (uses_of r) f ≡ true
+  pub apart : is_apart r f ≡ true
+
+abbrev pub word_of : RowData → Fields → ℕ
+word_of r f = word r.form r.op1 r.op2 f
+
+-- a word of 32 bits begins with an odd byte
+abbrev pub is_long : RowData → Bool
+is_long r = r.op1 % 2 == 1
+
+-- the row at this place has the word with these fields
+pub record Has (rows : List RowData) (long : Bool) (w : ℕ) (place : ℕ) (f : Fields) : Type 0 where
+  pub row : RowData
+  pub at : slice_get rows place ≡ Some row
+  pub size : is_long row ≡ long
+  pub fits : Fits row f
+  pub is : word_of row f ≡ w
+
+abbrev pub same_test : Bool → Bool → Bool
+same_test true b = b
+same_test false b = not b
+
+-- the least fields of a row: 0, but for an address register that may not be the base
+abbrev pub least : RowData → Fields
+least r = if is_apart r (fields 0 0 0 0 0) then fields 0 0 0 0 0 else fields 0 1 0 0 0
+
+-- the codes fit the form, and the least fields the row
+pub record IsRow (r : RowData) : Type 0 where
+  pub first : r.op1 < 256
+  pub second : r.op2 < second_bound r.form
+  pub has_least : Fits r (least r)
+  pub size : is_long r ≡ is_long_form r.form
+
+abbrev pub is_below_test : Fields → Fields → Bool
+is_below_test f b = nat_lt f.c b.c && nat_lt f.s1 b.s1 && nat_lt f.s2 b.s2 && nat_lt f.n b.n && nat_lt f.k b.k
+
+-- the same as a test
+unfoldable pub is_row : RowData → Bool
+is_row r = nat_lt r.op1 256 && nat_lt r.op2 (second_bound r.form) && is_below_test (least r) (bounds r.form) && rest_is_zero (uses_of r) (least r) && is_apart r (least r) && same_test (is_long r) (is_long_form r.form)
+
+-- some fields of the row begin with these low bytes
+pub record GoesOn (rows : List RowData) (long : Bool) (n part place : ℕ) (f : Fields) : Type 0 where
+  pub row : RowData
+  pub at : slice_get rows place ≡ Some row
+  pub size : is_long row ≡ long
+  pub fits : Fits row f
+  pub is : word_of row f % span n ≡ part
+
+-- a number as bytes, the lowest first
+abbrev pub two_bytes : ℕ → List ℕ
+two_bytes w = w % 256 ∷ w / 256 ∷ []
+
+abbrev pub four_bytes : ℕ → List ℕ
+four_bytes w = w % 256 ∷ w / 2 ^ 8 % 256 ∷ w / 2 ^ 16 % 256 ∷ w / 2 ^ 24 ∷ []
+
+abbrev pub spelled : Bool → ℕ → List ℕ
+spelled true w = four_bytes w
+spelled false w = two_bytes w
+
+-- the bytes of a row with these fields
+abbrev pub spelling : RowData → Fields → List ℕ
+spelling r f = spelled (is_long r) (word_of r f)
+
+-- the spelling of the row at this place begins the bytes, and has n of them
+pub record Begins (bytes : List ℕ) (place : ℕ) (f : Fields) (n : ℕ) : Type 0 where
+  pub row : RowData
+  pub at : slice_get listed place ≡ Some row
+  pub fits : Fits row f
+  pub len : n ≡ length (spelling row f)
+  pub rest : List ℕ
+  pub is : bytes ≡ spelling row f ++ rest
+
+-- the bytes begin a spelling
+pub record IsFront (bytes : List ℕ) (place : ℕ) (f : Fields) : Type 0 where
+  pub row : RowData
+  pub at : slice_get listed place ≡ Some row
+  pub fits : Fits row f
+  pub rest : List ℕ
+  pub is : bytes ++ rest ≡ spelling row f
+
+-- two rows that some word could have both: one first code, and another form or the same second code
+abbrev pub clash : RowData → RowData → Bool
+clash r s = r.op1 == s.op1 && (not (form_index r.form == form_index s.form) || r.op2 == s.op2)
+
+abbrev pub none_clash : List RowData → Bool
+none_clash [] = true
+none_clash (r ∷ rs) = not (list_any (clash r) rs) && none_clash rs

@@ -1,0 +1,24 @@
+-- Instructions as plain data.
+use Rattle.std.specs.Prelude.{◌≡◌, ℕ, Option, Some, slice_get}
+use Rattle.tc_isa.specs.Rows.{RowData, listed}
+use Rattle.tc_isa.specs.declared.fields.Fields.{Fields}
+use Rattle.tc_isa.specs.Words.{fields}
+use Rattle.tc_isa.specs.Codec.{Fits}
+
+-- the place of a row, and fields
+pub record InstData : Type 0 where
+  pub row : ℕ
+  pub c : ℕ
+  pub s1 : ℕ
+  pub s2 : ℕ
+  pub n : ℕ
+  pub k : ℕ
+
+abbrev pub fields_in : InstData → Fields
+fields_in i = fields i.c i.s1 i.s2 i.n i.k
+
+-- it names a row, and the fields fit
+pub record IsInst (i : InstData) : Type 0 where
+  pub row : RowData
+  pub at : slice_get listed i.row ≡ Some row
+  pub fits : Fits row (fields_in i)

@@ -1,0 +1,28 @@
+// Small types that several crates speak of.
+
+/// The addresses from `at` on, `len` of them, both in bytes.
+#[derive(Clone, Copy, Debug, Default, PartialEq, Eq)]
+pub struct Range {
+    pub at: u32,
+    pub len: u32,
+}
+
+/// Want of memory.
+#[derive(Clone, Copy, Debug, PartialEq, Eq)]
+pub struct NoMemory;
+
+/// The first fault of a file: its kind (1 Short, 2 Magic, 3 Order, 4 BadValue, 5 Limit, 6 Trailing) and the place of
+/// its first byte.
+#[derive(Clone, Copy, Debug, PartialEq, Eq)]
+pub struct FormErr {
+    pub kind: u8,
+    pub at: u32,
+}
+
+/// The layout of PCXI: `V13` has PCPN in bits 31:24, PIE in 23 and UL in 22, `V16` has PCPN in 29:22, PIE in 21 and UL
+/// in 20. The link is in bits 19:0 in both.
+#[derive(Clone, Copy, Debug, PartialEq, Eq)]
+pub enum Core {
+    V13,
+    V16,
+}

@@ -1,0 +1,124 @@
+-- Plans as plain data, and what every plan meets.
+use Rattle.std.specs.Prelude.{◌≡◌, ◌≤◌, ◌<◌, ◌+◌, ◌*◌, ◌/◌, ◌%◌, ◌^◌, ℕ, List, [], ◌∷◌, ◌++◌, length, map, sum_by, Bool, true, IsTrue, nat_le, nat_lt, ◌&&◌, ◌||◌, ◌==◌}
+use Rattle.std.specs.List.{list_all}
+use Rattle.std.specs.List.Sorted.{IsStrictlyIncreasing}
+use Rattle.tcd_base.specs.declared.parts.Range.{Range}
+use Rattle.tcd_base.specs.declared.parts.Core.{Core}
+use Rattle.tcd_plan.specs.declared.plans.Device.{Device}
+use Rattle.tcd_plan.specs.declared.plans.Plan.TheInside.{Inside}
+
+pub record PlanData : Type 0 where
+  pub rom : List Range
+  pub ram : List Range
+  pub devices : List Device
+  pub csa_at : ℕ
+  pub areas : ℕ
+  pub reserve : ℕ
+  pub sp : ℕ
+  pub isp : ℕ
+  pub biv : ℕ
+  pub btv : ℕ
+  pub irqs : List ℕ
+  pub sys : Bool
+  pub aln : Bool
+  pub start_ie : Bool
+  pub start_ccpn : ℕ
+  pub start_is : Bool
+  pub globals : List ℕ
+  pub core : Core
+
+abbrev pub plan_data : Inside → PlanData
+plan_data p = record {
+  rom = p.rom.items;
+  ram = p.ram.items;
+  devices = p.devices.items;
+  csa_at = p.csa_at;
+  areas = p.areas;
+  reserve = p.reserve;
+  sp = p.sp;
+  isp = p.isp;
+  biv = p.biv;
+  btv = p.btv;
+  irqs = p.irqs.items;
+  sys = p.sys;
+  aln = p.aln;
+  start_ie = p.start_ie;
+  start_ccpn = p.start_ccpn;
+  start_is = p.start_is;
+  globals = p.globals;
+  core = p.core;
+}
+
+-- a range of whole words, with one at least, that doesn't pass 2^32
+abbrev pub is_range : Range → Bool
+is_range r = (r.at % 4 == 0) && (r.len % 4 == 0) && nat_lt 0 r.len && nat_le (r.at + r.len) (2 ^ 32)
+
+abbrev pub is_device : Device → Bool
+is_device d = is_range d.range && nat_le d.lo d.hi && nat_lt d.hi (2 ^ 32)
+
+-- the save areas, of 64 bytes each
+abbrev pub areas_range : PlanData → Range
+areas_range p = record { at = p.csa_at; len = 64 * p.areas }
+
+-- all ranges of the plan, in the order in which an overlap counts them
+abbrev pub all_ranges : PlanData → List Range
+all_ranges p = p.rom ++ p.ram ++ map (λ d. d.range) p.devices ++ areas_range p ∷ []
+
+-- two ranges that share no byte
+abbrev pub ranges_apart : Range → Range → Bool
+ranges_apart r s = nat_le (r.at + r.len) s.at || nat_le (s.at + s.len) r.at
+
+-- no two of the ranges share a byte
+abbrev pub all_apart : List Range → Bool
+all_apart [] = true
+all_apart (r ∷ rs) = list_all (ranges_apart r) rs && all_apart rs
+
+-- rom, ram and devices
+pub record AreRanges (p : PlanData) : Type 0 where
+  pub some : 1 ≤ length p.rom
+  pub few_rom : length p.rom ≤ 16
+  pub few_ram : length p.ram ≤ 16
+  pub few_devices : length p.devices ≤ 16
+  pub rom : IsTrue (list_all is_range p.rom)
+  pub ram : IsTrue (list_all is_range p.ram)
+  pub devices : IsTrue (list_all is_device p.devices)
+  pub small_rom : sum_by (λ r. r.len) p.rom ≤ 2 ^ 22
+  pub small_ram : sum_by (λ r. r.len) p.ram ≤ 2 ^ 22
+
+-- the save areas: whole areas in one segment of 2^22 bytes, whose first link isn't 0
+pub record AreAreas (p : PlanData) : Type 0 where
+  pub some : 1 ≤ p.areas
+  pub few : p.areas ≤ 4096
+  pub reserved : 1 ≤ p.reserve
+  pub reserve_within : p.reserve ≤ p.areas
+  pub word : p.csa_at < 2 ^ 32
+  pub not_zero : 0 < p.csa_at
+  pub aligned : p.csa_at % 64 ≡ 0
+  pub in_segment : p.csa_at / 2 ^ 22 % 2 ^ 6 ≡ 0
+  pub fit : p.csa_at % 2 ^ 22 + 64 * p.areas ≤ 2 ^ 22
+
+-- the words of the start state
+pub record AreWords (p : PlanData) : Type 0 where
+  pub sp : p.sp < 2 ^ 32
+  pub isp : p.isp < 2 ^ 32
+  pub biv : p.biv < 2 ^ 32
+  pub btv : p.btv < 2 ^ 32
+  pub even_biv : p.biv % 2 ≡ 0
+  pub even_btv : p.btv % 2 ≡ 0
+  pub ccpn : p.start_ccpn < 2 ^ 8
+  pub four : length p.globals ≡ 4
+  pub globals : IsTrue (list_all (λ w. nat_lt w (2 ^ 32)) p.globals)
+
+-- the interrupts: ascending, from 1 to 255
+pub record AreIrqs (irqs : List ℕ) : Type 0 where
+  pub few : length irqs ≤ 32
+  pub rising : IsStrictlyIncreasing irqs
+  pub each : IsTrue (list_all (λ q. nat_lt 0 q && nat_lt q (2 ^ 8)) irqs)
+
+-- what every plan meets
+pub record IsPlan (p : PlanData) : Type 0 where
+  pub ranges : AreRanges p
+  pub areas : AreAreas p
+  pub words : AreWords p
+  pub irqs : AreIrqs p.irqs
+  pub apart : IsTrue (all_apart (all_ranges p))
