@@ -1,0 +1,6 @@
+//! Instructions as bytes.
+#![tactic(auto)]
+
+mod codes;
+
+pub use codes::{Code, DecodeErr};
