@@ -1,5 +1,5 @@
 -- Reading fields from left to right: the value and the place after it, or the first fault.
-use Rattle.std.specs.Prelude.{◌≡◌, ◌+◌, ℕ, length, slice_index, nat_le, if◌then◌else◌, Result, Ok, Err}
+use Rattle.std.specs.Prelude.{◌≡◌, ◌+◌, ℕ, List, length, take, drop, slice_index, nat_le, if◌then◌else◌, Result, Ok, Err}
 use Rattle.tcd_base.specs.Bytes.{half_at, word_at}
 use Rattle.tcd_base.specs.Place.{Place}
 use Rattle.tcd_base.specs.declared.parts.FormErr.{FormErr}
@@ -25,6 +25,10 @@ u16_at p = if nat_le (p.place + 2) (length p.bytes) then Ok (half_at p.bytes p.p
 -- the same of four bytes
 unfoldable pub u32_at : Place → Result (ℕ × Place) FormErr
 u32_at p = if nat_le (p.place + 4) (length p.bytes) then Ok (word_at p.bytes p.place, record p { place = p.place + 4 }) else fault_at 1 p
+
+-- a field of n bytes, as they stand
+unfoldable pub bytes_at : ℕ → Place → Result (List ℕ × Place) FormErr
+bytes_at n p = if nat_le (p.place + n) (length p.bytes) then Ok (take n (drop p.place p.bytes), record p { place = p.place + n }) else fault_at 1 p
 
 -- the answer is the value that was read, with the cursor at the place after it, or the fault
 abbrev pub Reads : {A : Type 0} → Result A FormErr → Place → Result (A × Place) FormErr → Type 0

@@ -17,5 +17,5 @@ use mem_files::is_listed;
 pub use mem_sink::MemSink;
 pub use numbers::{bits, put_u32, sext};
 pub use parts::{Core, FormErr, NoMemory, Range};
-pub use reading::{read_u8, read_u16, read_u32};
+pub use reading::{read_bytes, read_u8, read_u16, read_u32};
 pub use sink::{Sink, SinkErr};

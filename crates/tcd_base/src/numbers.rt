@@ -1,6 +1,8 @@
 // Fields of words, and words as bytes.
-ghost use Rattle.std.specs.Prelude.{◌≡◌, ◌<◌, ◌≤◌, ◌^◌, ◌++◌, OnOk, OnErr};
+ghost use Rattle.std.specs.Prelude.{◌≡◌, ◌<◌, ◌≤◌, ◌^◌, ◌++◌, ℕ, List, OnOk, OnErr};
 ghost use Rattle.tcd_base.specs.Bytes.{bytes_of_word};
+ghost use Rattle.tcd_base.specs.Place.{between};
+ghost use Rattle.tcd_base.specs.Reading.{u32_at};
 ghost use Rattle.tcd_base.specs.Numbers.{bits_of, sext_of};
 
 use crate::NoMemory;
@@ -33,6 +35,9 @@ pub fn sext(x: u32, n: u8) -> u32
 pub fn put_u32(out: &mut Vec<u8>, x: u32) -> Result<(), NoMemory>
     ensures ok { OnOk result (out.new.items ≡ out.old.items ++ bytes_of_word x) }
     ensures err { OnErr result (out.new.items ≡ out.old.items) }
+
+    // A reader at the word reads it, and then stands before whatever comes after it.
+    ensures back { OnOk result ((rest : List ℕ) → u32_at (between out.old.items (bytes_of_word x ++ rest)) ≡ Ok (x, between out.new.items rest)) }
 {
     out.extend_from_slice(&x.to_le_bytes())?;
     Ok(())

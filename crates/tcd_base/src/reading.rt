@@ -1,6 +1,6 @@
 // Fields read from left to right, each with the fault Short at its first byte.
-ghost use Rattle.std.specs.Prelude.{◌≡◌, ◌≤◌, ◌^◌, length};
-ghost use Rattle.tcd_base.specs.Reading.{Reads, u8_at, u16_at, u32_at};
+ghost use Rattle.std.specs.Prelude.{◌≡◌, ◌≤◌, ◌^◌, length, MatchResult};
+ghost use Rattle.tcd_base.specs.Reading.{Reads, u8_at, u16_at, u32_at, bytes_at};
 
 use crate::{Cursor, FormErr};
 
@@ -48,6 +48,23 @@ pub fn read_u32(c: &mut Cursor<'_>) -> Result<u32, FormErr>
     let at = c.place();
     match c.take_u32() {
         Some(word) => Ok(word),
+        None => Err(FormErr {
+            kind: 1,
+            at: at as u32,
+        }),
+    }
+}
+
+/// A field of `n` bytes.
+#[tactic(auto, unfolding(crate::specs::Reading::bytes_at))]
+pub fn read_bytes<'a>(c: &mut Cursor<'a>, n: usize) -> Result<&'a [u8], FormErr>
+    requires { length c.old.bytes ≤ 2 ^ 30 }
+    ensures read { MatchResult result (λ r. bytes_at n c.old ≡ Ok (r.now, c.new)) (λ e. bytes_at n c.old ≡ Err e) }
+    ensures bytes { c.new.bytes ≡ c.old.bytes }
+{
+    let at = c.place();
+    match c.take(n) {
+        Some(part) => Ok(part),
         None => Err(FormErr {
             kind: 1,
             at: at as u32,
