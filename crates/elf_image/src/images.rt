@@ -1,4 +1,5 @@
 // An image: the segments of an executable, with the limits that it always keeps.
+use crate::holding::{byte_of, is_held};
 use std::marker::Model;
 
 /// The bytes from `at` on.
@@ -24,4 +25,21 @@ impl Model for Image {
     ghost view = { image_data };
 
     ghost invariant = { λ i. IsImage (image_data i) };
+}
+
+impl Image {
+    ghost use Rattle.std.specs.Prelude.{◌≡◌};
+    ghost use Rattle.elf_image.specs.Images.{image_byte};
+
+    /// The byte at an address; nothing where no segment holds it. Looks at each segment once, and at one byte.
+    pub fn byte(&self, addr: u32) -> Option<u8>
+        ensures byte { result ≡ image_byte self.now addr }
+    {
+        for segment in &self.segments {
+            if is_held(segment, addr) {
+                return byte_of(segment, addr);
+            }
+        }
+        None
+    }
 }

@@ -1,6 +1,10 @@
 //! Executables: ELF32 files, and the image that they load.
 #![tactic(auto)]
 
+mod errors;
+mod headers;
+mod holding;
 mod images;
 
+pub use errors::ImageErr;
 pub use images::{Image, Segment};
