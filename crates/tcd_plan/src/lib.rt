@@ -2,5 +2,7 @@
 #![tactic(auto)]
 
 mod plans;
+mod texts;
 
 pub use plans::{Device, Plan, PlanErr, PlanKey};
+pub use texts::key_text;
