@@ -1,0 +1,13 @@
+//! The tool: all that the program does.
+#![tactic(auto)]
+
+/// How a command ended; the exit status of the program is its number, counted from 0.
+#[derive(Clone, Copy, Debug, PartialEq, Eq)]
+pub enum Status {
+    Done,
+    Refused,
+    BadInput,
+    Fault,
+    NoMemory,
+    BadWords,
+}
