@@ -2,7 +2,7 @@
 use Rattle.std.specs.Prelude.{◌≡◌, ◌≤◌, ◌⊎◌, ◌↔◌, ℕ, List, ◌++◌, length, take, Ok, Err}
 use Rattle.tc_isa.specs.Insts.{InstData}
 use Rattle.tc_isa.specs.Spelling.{Spells, Begins, IsFront}
-use Rattle.tc_encode.specs.declared.codes.DecodeErr.TheVariants.{Short, NotListed}
+use Rattle.tc_encode.specs.declared.errors.DecodeErr.TheVariants.{Short, NotListed}
 use Rattle.tc_encode.specs.Decoding.{decoded_of}
 
 -- more bytes behind an instruction change nothing

@@ -2,5 +2,9 @@
 #![tactic(auto)]
 
 mod codes;
+mod errors;
+mod forms;
 
-pub use codes::{Code, DecodeErr};
+pub use codes::Code;
+pub use errors::DecodeErr;
+use forms::{join, split};
