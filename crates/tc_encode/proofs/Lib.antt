@@ -7,3 +7,6 @@ pub mod Complete
 pub mod Bytes
 pub mod Spelled
 pub mod Apart
+pub mod Found
+pub mod Fronts
+pub mod DecodeProofs

@@ -4,7 +4,9 @@
 mod codes;
 mod errors;
 mod forms;
+mod laws;
 
 pub use codes::Code;
 pub use errors::DecodeErr;
+pub use laws::decoding_laws;
 use forms::{join, split};
