@@ -3,7 +3,7 @@ use Rattle.std.proofs.Common.{◌≡◌, ◌≢◌, ◌⊎◌, inl, inr, ◌+◌
 use Rattle.std.specs.Prelude.{slice_get, if◌then◌else◌, ◌↔◌}
 use Rattle.std.specs.List.{list_any}
 use Rattle.std.proofs.lemmas.Bool.{cases_Bool, cond-true, cond-false, both_ways, or_cases, or_left, or_right, false_from_ne_true}
-use Rattle.std.proofs.lemmas.List.{take_at, take_all, take-append-drop}
+use Rattle.std.proofs.lemmas.List.{take_at, take_all, take-append-drop, append-nil}
 use Rattle.tc_isa.specs.declared.fields.Fields.{Fields}
 use Rattle.tc_isa.specs.Rows.{RowData, listed}
 use Rattle.tc_isa.specs.Insts.{InstData, IsInst, fields_in}
@@ -12,7 +12,7 @@ use Rattle.tc_isa.specs.Spelling.{Spells, Begins, IsFront}
 use Rattle.tc_encode.specs.declared.errors.DecodeErr.{DecodeErr}
 use Rattle.tc_encode.specs.declared.errors.DecodeErr.TheVariants.{Short, NotListed}
 use Rattle.tc_encode.specs.Decoding.{size_of, begins_with, goes_on_as, fields_at, instruction, first_of, answer_of, decoded_of}
-use Rattle.tc_encode.specs.DecodeLaws.{MoreChangesNothing, LengthsAreRight, DecodedSpells, SpelledDecodes, ShortIsFront, NotListedIsRest, DecodeLaws}
+use Rattle.tc_encode.specs.DecodeLaws.{MoreChangesNothing, LengthsAreRight, DecodedSpells, SpelledDecodes, ShortIsFront, NotListedIsRest, DecodeLaws, NoneSpellsTwo, NoneIsPrefix, SpellingLaws}
 use Rattle.tc_encode.proofs.Bytes.{word-lt}
 use Rattle.tc_encode.proofs.Table.{row_at}
 use Rattle.tc_encode.proofs.Spelled.{begins_here, fields_here, fits_there, stands_there, size_spelling}
@@ -195,3 +195,28 @@ decode_laws = record {
   short = short_is_front;
   not_listed = not_listed_is_rest;
 }
+
+-- two answers to one question are one
+one_answer : {A E : Type 0} (r : Result A E) (x y : A) → r ≡ Ok x → r ≡ Ok y → x ≡ y
+one_answer r x y p q = ok_same x y (sym p ∙ q)
+  where
+    ok_same : {A E : Type 0} (x y : A) → ◌≡◌ {A = Result A E} (Ok x) (Ok y) → x ≡ y
+    ok_same x y e = cc
+
+whole_decodes : (bytes : List ℕ) (i : InstData) → Spells bytes i → decoded_of bytes ≡ Ok (i, length bytes)
+whole_decodes bytes i spells = subst (λ bs. decoded_of bs ≡ Ok (i, length bytes)) (append-nil bytes) (spelled_decodes bytes [] i spells)
+
+pub none_spells_two : NoneSpellsTwo
+none_spells_two bytes i j p q = ap (λ a. a.0) (one_answer (decoded_of bytes) (i, length bytes) (j, length bytes) (whole_decodes bytes i p) (whole_decodes bytes j q))
+
+nothing : (more : List ℕ) → length more ≡ 0 → more ≡ []
+nothing [] e = refl
+nothing (b ∷ bs) e = absurd (omega arith)
+
+pub none_is_prefix : NoneIsPrefix
+none_is_prefix bytes more i j p q =
+    let same : length bytes ≡ length (bytes ++ more) = ap (λ a. a.1) (one_answer (decoded_of (bytes ++ more)) (i, length bytes) (j, length (bytes ++ more)) (spelled_decodes bytes more i p) (whole_decodes (bytes ++ more) j q)) in
+    nothing more (omega (arith, same, length-append bytes more))
+
+pub spelling_laws : SpellingLaws
+spelling_laws = record { one = none_spells_two; apart = none_is_prefix }

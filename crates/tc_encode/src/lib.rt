@@ -8,5 +8,5 @@ mod laws;
 
 pub use codes::Code;
 pub use errors::DecodeErr;
-pub use laws::decoding_laws;
+pub use laws::{decoding_laws, spelling_laws};
 use forms::{join, split};
