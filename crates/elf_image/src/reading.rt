@@ -1,0 +1,84 @@
+// What an image is loaded from: the checks of a file, in their order.
+ghost use Rattle.std.specs.Prelude.{◌≡◌, ◌+◌, ◌≤◌, ◌<◌, ◌⊎◌, length, map, find, All, Option, Some, None, OnOk, IfOk, IfErr, true, false};
+ghost use Rattle.std.specs.Result.{result_err};
+ghost use Rattle.std.specs.Option.{option_map};
+ghost use Rattle.elf_image.specs.Elf.{e_phnum, header_at, headers_of, is_bad, start_refusal, segment_refusal, meets, loads_of, is_large, overlap_refusal};
+
+use crate::ImageErr;
+use crate::headers::{Header, half_at, is_bad, meets};
+use std::alloc::Global;
+
+// That a file begins as an executable ELF file for this machine.
+#[tactic(auto, unfolding(crate::specs::Elf::start_refusal))]
+pub(crate) fn check_start(bytes: &[u8]) -> Result<(), ImageErr>
+    ensures refusal { result_err result ≡ start_refusal bytes.now }
+    ensures long { OnOk result (52 ≤ length bytes.now) }
+{
+    if bytes.len() < 52 {
+        return Err(ImageErr::Short);
+    }
+    if !bytes.starts_with(&[127, 69, 76, 70, 1, 1]) {
+        return Err(ImageErr::NotElf32Le);
+    }
+    if half_at(bytes, 18) != 44 {
+        return Err(ImageErr::NotTriCore);
+    }
+    if half_at(bytes, 16) != 2 {
+        return Err(ImageErr::NotExec);
+    }
+    Ok(())
+}
+
+// The number of the first program header that can't be used.
+fn first_bad(bytes: &[u8]) -> Option<u32>
+    requires { 52 ≤ length bytes.now }
+    ensures { result ≡ option_map (λ h. h.number) (find (is_bad bytes.now) (headers_of bytes.now)) }
+{
+    let count = half_at(bytes, 44);
+    for number in 0..count {
+        if is_bad(bytes, number) {
+            return Some(u32::from(number));
+        }
+    }
+    None
+}
+
+// That each program header can be used.
+#[tactic(auto, unfolding(crate::specs::Elf::segment_refusal))]
+pub(crate) fn check_segments(bytes: &[u8]) -> Result<(), ImageErr>
+    requires { 52 ≤ length bytes.now }
+    ensures { result_err result ≡ segment_refusal bytes.now }
+{
+    if half_at(bytes, 44) > 0 && half_at(bytes, 42) != 32 {
+        return Err(ImageErr::BadSegment(0));
+    }
+    match first_bad(bytes) {
+        Some(number) => Err(ImageErr::BadSegment(number)),
+        None => Ok(()),
+    }
+}
+
+// The number of the first of these headers that shares an address with the first.
+fn first_meeting(header: &Header, others: &[Header]) -> Option<u32>
+    ensures { result ≡ option_map (λ k. k.number) (find (meets header.now) others.now) }
+{
+    for other in others {
+        if meets(header, other) {
+            return Some(other.number);
+        }
+    }
+    None
+}
+
+// That no two of the headers that load bytes share an address.
+#[tactic(auto, unfolding(crate::specs::Elf::overlap_refusal))]
+pub(crate) fn check_apart(loads: &[Header]) -> Result<(), ImageErr>
+    ensures { result_err result ≡ overlap_refusal loads.now }
+{
+    for (i, header) in loads.iter().enumerate() {
+        if let Some(other) = first_meeting(header, &loads[i + 1..]) {
+            return Err(ImageErr::Overlap(header.number, other));
+        }
+    }
+    Ok(())
+}
