@@ -5,7 +5,7 @@ ghost use Rattle.std.specs.Option.{option_map};
 ghost use Rattle.elf_image.specs.Elf.{e_phnum, header_at, headers_of, is_bad, start_refusal, segment_refusal, meets, loads_of, is_large, overlap_refusal};
 
 use crate::ImageErr;
-use crate::headers::{Header, half_at, is_bad, meets};
+use crate::headers::{Header, half_at, has_bytes, header_at, is_bad, meets};
 use std::alloc::Global;
 
 // That a file begins as an executable ELF file for this machine.
@@ -81,4 +81,27 @@ pub(crate) fn check_apart(loads: &[Header]) -> Result<(), ImageErr>
         }
     }
     Ok(())
+}
+
+// The headers that load bytes, in order; at most 64, with at most 2^24 bytes together.
+pub(crate) fn loads_of(alloc: Global, bytes: &[u8]) -> Result<Vec<Header>, ImageErr>
+    requires long { 52 ≤ length bytes.now }
+    requires good { segment_refusal bytes.now ≡ None }
+    ensures ok { IfOk result (λ v. (v.items ≡ loads_of bytes.now) × (is_large (loads_of bytes.now) ≡ false)) }
+    ensures err { IfErr result (λ e. (e ≡ ImageErr.NoMemory) ⊎ ((e ≡ ImageErr.TooLarge) × (is_large (loads_of bytes.now) ≡ true))) }
+{
+    let mut loads = Vec::new(alloc);
+    let mut total = 0u32;
+    let count = half_at(bytes, 44);
+    for number in 0..count {
+        let header = header_at(bytes, number);
+        if has_bytes(&header) {
+            if loads.len() == 64 || header.file_size > 16_777_216 - total {
+                return Err(ImageErr::TooLarge);
+            }
+            total += header.file_size;
+            loads.push(header)?;
+        }
+    }
+    Ok(loads)
 }
