@@ -3,9 +3,11 @@ ghost use Rattle.std.specs.Prelude.{◌≡◌, ◌+◌, ◌≤◌, ◌<◌, ◌�
 ghost use Rattle.std.specs.Result.{result_err};
 ghost use Rattle.std.specs.Option.{option_map};
 ghost use Rattle.elf_image.specs.Elf.{e_phnum, header_at, headers_of, is_bad, start_refusal, segment_refusal, meets, loads_of, is_large, overlap_refusal};
+ghost use Rattle.elf_image.specs.Elf.{segment_of};
+ghost use Rattle.elf_image.specs.Images.{segment_data};
 
-use crate::ImageErr;
 use crate::headers::{Header, half_at, has_bytes, header_at, is_bad, meets};
+use crate::{ImageErr, Segment};
 use std::alloc::Global;
 
 // That a file begins as an executable ELF file for this machine.
@@ -104,4 +106,37 @@ pub(crate) fn loads_of(alloc: Global, bytes: &[u8]) -> Result<Vec<Header>, Image
         }
     }
     Ok(loads)
+}
+
+// The bytes that a header loads, at their address.
+fn segment_of(alloc: Global, bytes: &[u8], load: &Header) -> Result<Segment, ImageErr>
+    requires { load.now.offset + load.now.file_size ≤ length bytes.now }
+    ensures ok { IfOk result (λ s. segment_data s ≡ segment_of bytes.now load.now) }
+    ensures err { IfErr result (λ e. e ≡ ImageErr.NoMemory) }
+{
+    let start = load.offset as usize;
+    let end = start + load.file_size as usize;
+    let loaded = Vec::from_slice(alloc, &bytes[start..end])?;
+    Ok(Segment {
+        at: load.address,
+        bytes: loaded,
+    })
+}
+
+// The segments of these headers, in order.
+pub(crate) fn segments_of(
+    alloc: Global,
+    bytes: &[u8],
+    loads: &[Header],
+) -> Result<Vec<Segment>, ImageErr>
+    requires { All (λ h. h.offset + h.file_size ≤ length bytes.now) loads.now }
+    ensures ok { IfOk result (λ v. map segment_data v.items ≡ map (segment_of bytes.now) loads.now) }
+    ensures err { IfErr result (λ e. e ≡ ImageErr.NoMemory) }
+{
+    let mut segments = Vec::new(alloc);
+    for load in loads {
+        let segment = segment_of(alloc, bytes, load)?;
+        segments.push(segment)?;
+    }
+    Ok(segments)
 }
