@@ -1,6 +1,6 @@
-use Rattle.std.proofs.Common.{◌≡◌, ◌⊎◌, inl, inr, subst, sym, refl, ap, ◌∙◌, arith, List, Vec, Global}
+use Rattle.std.proofs.Common.{inr, subst, sym, refl, ap, ◌∙◌, arith, List, Vec, Global}
 use Rattle.elf_image.specs.declared.headers.Header.{Header}
-use Rattle.elf_image.specs.Elf.{loads_of, is_large}
+use Rattle.elf_image.specs.Elf.{is_large}
 use Rattle.elf_image.proofs.Good.{headers_whole}
 use Rattle.elf_image.proofs.Loads.{LoadsSoFar, loads_none, loads_pass, loads_more, loads_many, loads_long, loads_all, loads_fit, loads_same}
 use Rattle.elf_image.proofs.reading.loads_of.Goals as goal

@@ -1,6 +1,3 @@
-use Rattle.std.proofs.Common.{◌≡◌, ◌≤◌, ◌^◌, ◌++◌, filter, sum_by, length}
-use Rattle.elf_image.specs.Elf.{has_bytes, loads_of}
-use Rattle.elf_image.proofs.Rest.{rest_of}
 use Rattle.elf_image.proofs.Loads.{LoadsSoFar}
 use Rattle.elf_image.proofs.reading.loads_of.Given as goal
 
