@@ -6,6 +6,7 @@ mod headers;
 mod holding;
 mod images;
 mod reading;
+mod writing;
 
 pub use errors::ImageErr;
 pub use images::{Image, Segment};
