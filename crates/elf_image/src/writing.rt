@@ -1,13 +1,14 @@
 // The file of an image, part by part.
-ghost use Rattle.std.specs.Prelude.{◌≡◌, ◌++◌, ◌≤◌, ◌^◌, length, map, sum_by, OnOk, OnErr, IfErr};
+ghost use Rattle.std.specs.Prelude.{◌≡◌, ◌++◌, ◌≤◌, ◌^◌, length, map, sum_by, OnOk, IfOk, IfErr};
 ghost use Rattle.elf_image.specs.Images.{segment_data};
-ghost use Rattle.elf_image.specs.Written.{elf_header, program_header, program_headers, contents, contents_place};
+ghost use Rattle.elf_image.specs.Written.{elf_header, program_header, program_headers, contents, contents_place, file_of};
 
 use crate::{ImageErr, Segment};
+use std::alloc::Global;
 
 // The ELF header of an executable with this entry and so many program headers.
 #[tactic(auto, unfolding(crate::specs::Written::elf_header))]
-pub(crate) fn elf_header(entry: u32, count: u16) -> [u8; 52]
+fn elf_header(entry: u32, count: u16) -> [u8; 52]
     ensures { result ≡ elf_header entry count }
 {
     let e = entry.to_le_bytes();
@@ -35,7 +36,7 @@ fn program_header(offset: u32, at: u32, len: u32) -> [u8; 32]
 
 // Appends the program headers.
 #[tactic(auto, unfolding(crate::specs::Written::program_headers))]
-pub(crate) fn put_headers(out: &mut Vec<u8>, segments: &[Segment]) -> Result<(), ImageErr>
+fn put_headers(out: &mut Vec<u8>, segments: &[Segment]) -> Result<(), ImageErr>
     requires few { length segments.now ≤ 64 }
     requires small { sum_by (λ s. length s.bytes) (map segment_data segments.now) ≤ 2 ^ 24 }
     ensures ok { OnOk result (out.new.items ≡ out.old.items ++ program_headers (contents_place (map segment_data segments.now)) (map segment_data segments.now)) }
@@ -52,7 +53,7 @@ pub(crate) fn put_headers(out: &mut Vec<u8>, segments: &[Segment]) -> Result<(),
 
 // Appends the segments' bytes.
 #[tactic(auto, unfolding(crate::specs::Written::contents))]
-pub(crate) fn put_contents(out: &mut Vec<u8>, segments: &[Segment]) -> Result<(), ImageErr>
+fn put_contents(out: &mut Vec<u8>, segments: &[Segment]) -> Result<(), ImageErr>
     ensures ok { OnOk result (out.new.items ≡ out.old.items ++ contents (map segment_data segments.now)) }
     ensures err { IfErr result (λ e. e ≡ ImageErr.NoMemory) }
 {
@@ -60,4 +61,20 @@ pub(crate) fn put_contents(out: &mut Vec<u8>, segments: &[Segment]) -> Result<()
         out.extend_from_slice(&segment.bytes)?;
     }
     Ok(())
+}
+
+// The file of these segments, with the address at which the program begins.
+#[tactic(auto, unfolding(crate::specs::Written::file_of))]
+pub(crate) fn written(alloc: Global, entry: u32, segments: &[Segment]) -> Result<Vec<u8>, ImageErr>
+    requires few { length segments.now ≤ 64 }
+    requires small { sum_by (λ s. length s.bytes) (map segment_data segments.now) ≤ 2 ^ 24 }
+    ensures ok { IfOk result (λ v. v.items ≡ file_of (record { entry = entry; segments = map segment_data segments.now })) }
+    ensures err { IfErr result (λ e. e ≡ ImageErr.NoMemory) }
+{
+    let mut out = Vec::new(alloc);
+    let header = elf_header(entry, segments.len() as u16);
+    out.extend_from_slice(&header)?;
+    put_headers(&mut out, segments)?;
+    put_contents(&mut out, segments)?;
+    Ok(out)
 }
