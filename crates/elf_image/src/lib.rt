@@ -5,6 +5,8 @@ mod errors;
 mod headers;
 mod holding;
 mod images;
+mod reading;
+mod writing;
 
 pub use errors::ImageErr;
 pub use images::{Image, Segment};
