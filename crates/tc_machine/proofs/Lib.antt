@@ -1,0 +1,4 @@
+pub mod PlanLaws
+pub mod Saves
+pub mod Fetched
+pub mod Areas
