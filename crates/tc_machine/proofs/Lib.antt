@@ -2,3 +2,4 @@ pub mod PlanLaws
 pub mod Saves
 pub mod Fetched
 pub mod Areas
+pub mod Steps
