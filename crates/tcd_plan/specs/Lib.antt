@@ -1,2 +1,4 @@
 pub mod PlanData
 pub mod Keys
+pub mod KeyRows
+pub mod Values

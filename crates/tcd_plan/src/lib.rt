@@ -2,7 +2,9 @@
 #![tactic(auto)]
 
 mod plans;
+mod rows;
 mod texts;
+mod values;
 
 pub use plans::{Device, Plan, PlanErr, PlanKey};
 pub use texts::key_text;
