@@ -2,6 +2,7 @@
 #![tactic(auto)]
 
 mod plans;
+mod objects;
 mod rows;
 mod texts;
 mod values;
