@@ -33,18 +33,25 @@ objects_of Csa d = object_at (codes "csa") d
 objects_of Start d = object_at (codes "start") d
 objects_of Globals d = object_at (codes "globals") d
 
--- the numbers ascend from above the first
-abbrev pub ascend_above : ℕ → List ℕ → Bool
+-- ascending numbers from above `low` up to 255
+abbrev pub ascend_above : ℕ → List Data → Bool
 ascend_above low [] = true
-ascend_above low (q ∷ qs) = nat_lt low q && ascend_above q qs
+ascend_above low (d ∷ ds) = passes (λ q. nat_lt low q && nat_lt q 256 && ascend_above q ds) (number_of d)
 
--- ascending numbers from 1 to 255
-abbrev pub are_irqs : List Data → Bool
-are_irqs ds = list_all (λ d. passes (λ q. nat_lt q 256) (number_of d)) ds && ascend_above 0 (map (λ d. unwrap_or (number_of d) 0) ds)
+abbrev pub is_trap : Data → Bool
+is_trap d = is_text (codes "sys") d || is_text (codes "aln") d
 
 -- a list without repeats of `sys` and `aln`
 abbrev pub are_traps : List Data → Bool
-are_traps ds = list_all (λ d. is_text (codes "sys") d || is_text (codes "aln") d) ds && nat_le (count_by (is_text (codes "sys")) ds) 1 && nat_le (count_by (is_text (codes "aln")) ds) 1
+are_traps ds = list_all is_trap ds && nat_le (count_by (is_text (codes "sys")) ds) 1 && nat_le (count_by (is_text (codes "aln")) ds) 1
+
+-- a multiple of 4, not 0, that doesn't pass 2^32 from `at` on
+abbrev pub is_len : ℕ → ℕ → Bool
+is_len at len = nat_lt 0 len && (len % 4 == 0) && nat_le (at + len) (2 ^ 32)
+
+-- `1.3` or `1.6`, or nothing at all
+abbrev pub is_core : Option Data → Bool
+is_core o = option_map_or (λ d. is_text (codes "1.3") d || is_text (codes "1.6") d) o true
 
 -- what stands at a key of an object has the form
 abbrev pub has_form : Form → List ℕ → Data → Bool
@@ -52,14 +59,14 @@ has_form Ranges name o = passes (λ ds. nat_lt 0 (length ds) && list_all is_obje
 has_form Objects name o = passes (list_all is_object) (places_at name o)
 has_form Object name o = passes is_object (get name o)
 has_form At name o = passes (λ n. n % 4 == 0) (number_at name o)
-has_form Len name o = passes (λ n. nat_lt 0 n && (n % 4 == 0) && nat_le (word_at (codes "at") o + n) (2 ^ 32)) (number_at name o)
+has_form Len name o = passes (is_len (word_at (codes "at") o)) (number_at name o)
 has_form Hi name o = passes (λ n. nat_le (word_at (codes "lo") o) n) (number_at name o)
 has_form Word name o = is_some (number_at name o)
 has_form Byte name o = passes (λ n. nat_lt n 256) (number_at name o)
 has_form Truth name o = passes (λ n. nat_lt n 2) (number_at name o)
-has_form Irqs name o = passes are_irqs (places_at name o)
+has_form Irqs name o = passes (ascend_above 0) (places_at name o)
 has_form Traps name o = passes are_traps (places_at name o)
-has_form CoreText name o = option_map_or (λ d. is_text (codes "1.3") d || is_text (codes "1.6") d) (get name o) true
+has_form CoreText name o = is_core (get name o)
 
 abbrev pub may_be_absent : Form → Bool
 may_be_absent CoreText = true

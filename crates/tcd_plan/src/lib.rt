@@ -1,8 +1,8 @@
 //! Plans: what is told of the board, the start state, the interrupts and the traps.
 #![tactic(auto)]
 
-mod plans;
 mod objects;
+mod plans;
 mod rows;
 mod texts;
 mod values;
