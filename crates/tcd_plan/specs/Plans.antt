@@ -1,6 +1,6 @@
 -- Which plan a document is, or the first refusal.
 use Rattle.std.specs.Prelude.{◌≡◌, ℕ, ◌+◌, ◌*◌, ◌/◌, ◌%◌, ◌^◌, ◌<◌, ◌&&◌, ◌==◌, List, [], ◌∷◌, codes, length, map, sum_by, Bool, not, nat_lt, nat_le, if◌then◌else◌, Option, Some, None, option_map, unwrap_or, position, Result, Ok, Err, IsUtf8}
-use Rattle.std.specs.List.{find, list_all, list_any}
+use Rattle.std.specs.List.{find, list_any}
 use Rattle.std.specs.Option.{option_map_or, option_or}
 use Rattle.serde_json.specs.Data.{Data}
 use Rattle.serde_json.specs.Find.{get}
@@ -10,9 +10,9 @@ use Rattle.tcd_base.specs.declared.parts.Core.{Core}
 use Rattle.tcd_base.specs.declared.parts.Core.TheVariants.{V13, V16}
 use Rattle.tcd_plan.specs.Keys.{key_texts}
 use Rattle.tcd_plan.specs.KeyRows.{KeyRow, key_rows, holders, holder_key}
-use Rattle.tcd_plan.specs.Objects.{has_form, is_known, lacks, objects_of, passes}
+use Rattle.tcd_plan.specs.Objects.{has_unknown, is_bad, lacks, objects_of, passes}
 use Rattle.tcd_plan.specs.PlanData.{PlanData, all_ranges, ranges_apart}
-use Rattle.tcd_plan.specs.Values.{is_object, is_text, names_in, number_of, places_at, word_at, word_in}
+use Rattle.tcd_plan.specs.Values.{is_object, is_text, number_of, places_at, word_at, word_in}
 use Rattle.tcd_plan.specs.declared.plans.Device.{Device}
 use Rattle.tcd_plan.specs.declared.plans.PlanKey.{PlanKey}
 use Rattle.tcd_plan.specs.declared.plans.PlanErr.{PlanErr}
@@ -33,11 +33,11 @@ missing_of d = first_key lacks d
 
 -- the first object, or array of objects, with a key that isn't one of its own
 unfoldable pub unknown_of : Data → Option PlanKey
-unknown_of d = option_map (λ h. numbered (holder_key h)) (find (λ h. list_any (λ o. not (list_all (is_known h) (names_in o))) (objects_of h d)) holders)
+unknown_of d = option_map (λ h. numbered (holder_key h)) (find (λ h. list_any (has_unknown h) (objects_of h d)) holders)
 
 -- the first key at which something else stands than may stand there
 unfoldable pub bad_value_of : Data → Option PlanKey
-bad_value_of d = first_key (λ r o. not (has_form r.form r.name o)) d
+bad_value_of d = first_key is_bad d
 
 abbrev pub range_of : Data → Range
 range_of o = record { at = word_at (codes "at") o; len = word_at (codes "len") o }

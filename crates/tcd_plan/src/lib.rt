@@ -3,6 +3,7 @@
 
 mod objects;
 mod plans;
+mod refusals;
 mod rows;
 mod texts;
 mod values;
