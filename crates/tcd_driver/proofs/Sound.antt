@@ -10,6 +10,7 @@ use Rattle.tc_isa.specs.declared.shapes.Target.TheVariants.{Rel, Abs, Reg}
 use Rattle.tc_isa.specs.declared.shapes.Shape.{Shape}
 use Rattle.tc_isa.specs.declared.shapes.Shape.TheVariants.{Store, Jump, Call, Ret, Nothing}
 use Rattle.tc_encode.specs.DecodeLaws.{DecodeLaws}
+use Rattle.tc_encode.proofs.DecodeProofs.{decode_laws}
 use Rattle.tc_machine.specs.declared.events.Event.{Event}
 use Rattle.tc_machine.specs.Machine.{Machine, a11, moved}
 use Rattle.tc_machine.specs.Instructions.{does, target_of}
@@ -118,8 +119,9 @@ module _ (laws : DecodeLaws) (image : ImageData) (plan : PlanData) (ok : IsPlan 
       }
 
 -- ---- the theorem
-pub accepted_is_safe : DecodeLaws → (image : ImageData) (plan : PlanData) (cert : List NodeData) → IsPlan plan → plan.irqs ≡ [] → Accepts image plan cert → Safe image plan (need_of (start_of image cert))
-accepted_is_safe laws image plan cert ok polled accepted m es e start all_fit fits =
+pub accepted_is_safe : (image : ImageData) (plan : PlanData) (cert : List NodeData) → IsPlan plan → plan.irqs ≡ [] → Accepts image plan cert → Safe image plan (need_of (start_of image cert))
+accepted_is_safe image plan cert ok polled accepted m es e start all_fit fits =
+    let laws : DecodeLaws = decode_laws in
     let most = need_of (start_of image cert) in
     let s = start_found image plan cert (start_of image cert) refl accepted.start in
     let need = s.need in
