@@ -54,7 +54,7 @@ form_back Srr = refl
 form_back Slr = refl
 form_back Ssr = refl
 
-same_form : (f g : Form) → form_index f ≡ form_index g → f ≡ g
+pub same_form : (f g : Form) → form_index f ≡ form_index g → f ≡ g
 same_form f g e = sym (form_back f) ∙ ap form_at e ∙ form_back g
 
 -- rows with one word have one first code, and another form or one second code

@@ -111,10 +111,10 @@ spelled_decodes bytes rest i spells =
     let place : i.row ≡ g.at = one_row i.row g.at r g.row f h spells.inst.at g.listed spells.inst.fits gits word in
     let rows : r ≡ g.row = same_row i.row g.at r g.row spells.inst.at g.listed place in
     let is : some.0 ≡ (i, size_of r) =
-      g.is
-      ∙ ap (λ p. (instruction p h, size_of g.row)) (zero-add g.at ∙ sym place)
-      ∙ ap (λ s. (instruction i.row (fields_at xs s), size_of s)) (sym rows)
-      ∙ ap (λ e. (instruction i.row e, size_of r)) (fields_here r f rest row spells.inst.fits) in
+    g.is
+    ∙ ap (λ p. (instruction p h, size_of g.row)) (zero-add g.at ∙ sym place)
+    ∙ ap (λ s. (instruction i.row (fields_at xs s), size_of s)) (sym rows)
+    ∙ ap (λ e. (instruction i.row e, size_of r)) (fields_here r f rest row spells.inst.fits) in
     let size : size_of r ≡ length bytes = sym (size_spelling r f) ∙ sym (ap length spells.is) in
     let done : decoded_of xs ≡ Ok (i, length bytes) = found_ok xs some.0 some.1 ∙ ap (λ p. Ok p) (is ∙ ap (λ n. (i, n)) size) in
     subst (λ bs. decoded_of (bs ++ rest) ≡ Ok (i, length bytes)) (sym spells.is) done
@@ -177,14 +177,16 @@ ahead_front xs a =
     }
 
 pub short_is_front : ShortIsFront
-short_is_front xs =
-    (λ e. (ahead_front xs (ahead_from xs listed (short_answer xs (sym (answer_none xs (err_none xs Short e)) ∙ e))), err_begins_none xs Short e),
-    λ p. answer_none xs (none_from xs p.1) ∙ cond-true {A = Result (InstData × ℕ) DecodeErr} (list_any (goes_on_as xs) listed) (Err Short) (Err NotListed) (front_any xs p.0))
+short_is_front xs = (
+  λ e. (ahead_front xs (ahead_from xs listed (short_answer xs (sym (answer_none xs (err_none xs Short e)) ∙ e))), err_begins_none xs Short e),
+  λ p. answer_none xs (none_from xs p.1) ∙ cond-true {A = Result (InstData × ℕ) DecodeErr} (list_any (goes_on_as xs) listed) (Err Short) (Err NotListed) (front_any xs p.0),
+)
 
 pub not_listed_is_rest : NotListedIsRest
-not_listed_is_rest xs =
-    (λ e. (λ front. both_ways _ (not_answer xs (sym (answer_none xs (err_none xs NotListed e)) ∙ e)) (front_any xs front), err_begins_none xs NotListed e),
-    λ p. answer_none xs (none_from xs p.1) ∙ cond-false {A = Result (InstData × ℕ) DecodeErr} (list_any (goes_on_as xs) listed) (Err Short) (Err NotListed) (false_from_ne_true _ (λ t. p.0 (ahead_front xs (ahead_from xs listed t)))))
+not_listed_is_rest xs = (
+  λ e. (λ front. both_ways _ (not_answer xs (sym (answer_none xs (err_none xs NotListed e)) ∙ e)) (front_any xs front), err_begins_none xs NotListed e),
+  λ p. answer_none xs (none_from xs p.1) ∙ cond-false {A = Result (InstData × ℕ) DecodeErr} (list_any (goes_on_as xs) listed) (Err Short) (Err NotListed) (false_from_ne_true _ (λ t. p.0 (ahead_front xs (ahead_from xs listed t)))),
+)
 
 pub decode_laws : DecodeLaws
 decode_laws = record {

@@ -1,6 +1,5 @@
 pub mod Inverse
 pub mod Only
-pub mod Places
 pub mod Mixed
 pub mod Complete
 pub mod Bytes
@@ -9,3 +8,4 @@ pub mod Apart
 pub mod Found
 pub mod Fronts
 pub mod DecodeProofs
+pub mod Finds

@@ -3,10 +3,12 @@
 
 mod codes;
 mod errors;
+mod finding;
 mod forms;
+mod index;
 mod laws;
 
 pub use codes::Code;
 pub use errors::DecodeErr;
+pub use finding::find;
 pub use laws::{decoding_laws, spelling_laws};
-use forms::{join, split};
