@@ -18,7 +18,7 @@ use Rattle.tc_isa.proofs.TableFacts.{row_at}
 use Rattle.tc_encode.proofs.Spelled.{begins_here, fields_here, fits_there, stands_there, size_spelling}
 use Rattle.tc_encode.proofs.Apart.{one_row, one_word}
 use Rattle.tc_encode.proofs.Found.{Gives, found_gives, none_found, some_found}
-use Rattle.tc_encode.proofs.Fronts.{front_goes_on, goes_on_short, goes_on_begins}
+use Rattle.tc_encode.proofs.FrontFacts.{front_goes_on, goes_on_short, goes_on_begins}
 
 ok_err : {A E : Type 0} (x : A) (e : E) → Ok x ≡ Err e → ⊥
 ok_err x e is = cc

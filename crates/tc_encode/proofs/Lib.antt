@@ -6,6 +6,7 @@ pub mod Bytes
 pub mod Spelled
 pub mod Apart
 pub mod Found
-pub mod Fronts
+pub mod FrontFacts
 pub mod DecodeProofs
 pub mod Finds
+pub mod Goes

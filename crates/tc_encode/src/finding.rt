@@ -10,9 +10,10 @@ use crate::index::groups;
 use tc_isa::{Fields, Form, Inst, Row, inst, rows};
 
 /// The instruction of this row that has the word.
-fn inst_by(place: u8, row: &Row, w: u32) -> Option<Inst>
+pub fn inst_by(place: u8, row: &Row, w: u32) -> Option<Inst>
     requires { slice_get listed place ≡ Some (row_of row.now) }
     ensures some { IfSome result (Makes w) }
+    ensures place { IfSome result (λ i. i.row ≡ place) }
     ensures none { IfNone result ((i : InstData) → Makes w i → i.row ≡ place → ⊥) }
 {
     let f = split(row.form, w);
