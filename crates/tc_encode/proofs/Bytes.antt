@@ -1,16 +1,9 @@
 -- Words and their bytes.
-use Rattle.std.proofs.Common.{◌≡◌, ◌+◌, ◌*◌, ◌/◌, ◌%◌, ◌^◌, ◌<◌, ◌≤◌, ℕ, Bool, true, false, List, [], ◌∷◌, ◌++◌, Some, refl, sym, ap, subst, ◌∙◌, arith, length, ◌==◌}
-use Rattle.std.specs.Prelude.{slice_get}
-use Rattle.std.proofs.lemmas.Bool.{eqb-true, eq-eqb}
+use Rattle.std.proofs.Common.{◌≡◌, ◌^◌, ◌<◌, ℕ, false, arith}
 use Rattle.tc_isa.specs.declared.fields.Fields.{Fields}
-use Rattle.tc_isa.specs.Rows.{RowData, listed}
 use Rattle.tc_isa.specs.declared.table.Form.{Form}
 use Rattle.tc_isa.specs.declared.table.Form.TheVariants.{Rlc, Rr, Rc, Bol, Bo, Brr, Brc, B, Abs, Sys, Sr, Sc, Sb, Sbr, Src, Srr, Slr, Ssr}
-use Rattle.tc_isa.specs.Words.{fields, IsBelow, bounds, second_bound, word, is_long_form}
-use Rattle.tc_encode.specs.Finding.{span}
-use Rattle.tc_isa.specs.Codec.{Fits, IsRow, word_of, is_long}
-use Rattle.tc_encode.proofs.Inverse.{first-word}
-use Rattle.tc_isa.proofs.TableFacts.{row_at}
+use Rattle.tc_isa.specs.Words.{IsBelow, bounds, second_bound, word, is_long_form}
 
 -- a word of 32 bits, and one of 16
 pub word-lt : (form : Form) (op1 op2 : ℕ) (f : Fields) → op1 < 256 → op2 < second_bound form → IsBelow f (bounds form) → word form op1 op2 f < 2 ^ 32

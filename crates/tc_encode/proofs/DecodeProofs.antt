@@ -1,23 +1,22 @@
 -- The laws of decoding.
-use Rattle.std.proofs.Common.{◌≡◌, ◌≢◌, ◌⊎◌, inl, inr, ◌+◌, ◌-◌, ◌*◌, ◌/◌, ◌%◌, ◌^◌, ◌<◌, ◌≤◌, min, ℕ, zero, suc, Bool, true, false, List, [], ◌∷◌, ◌++◌, length, take, drop, refl, sym, ap, subst, ◌∙◌, arith, Option, Some, None, Result, Ok, Err, length-append, length-drop, length-take, zero-add}
-use Rattle.std.specs.Prelude.{slice_get, if◌then◌else◌, ◌↔◌}
+use Rattle.std.proofs.Common.{◌≡◌, ◌⊎◌, inl, inr, ◌-◌, ◌≤◌, min, ℕ, zero, suc, Bool, true, false, List, [], ◌∷◌, ◌++◌, length, take, drop, refl, sym, ap, subst, ◌∙◌, arith, Option, Some, None, Result, Ok, Err, length-append, length-drop, length-take, zero-add}
+use Rattle.std.specs.Prelude.{slice_get, if◌then◌else◌}
 use Rattle.std.specs.List.{list_any}
 use Rattle.std.proofs.lemmas.Bool.{cases_Bool, cond-true, cond-false, both_ways, or_cases, or_left, or_right, false_from_ne_true}
-use Rattle.std.proofs.lemmas.List.{take_at, take_all, take-append-drop, append-nil}
-use Rattle.tc_isa.specs.declared.fields.Fields.{Fields}
+use Rattle.std.proofs.lemmas.List.{take_all, take-append-drop, append-nil, length-take-le}
 use Rattle.tc_isa.specs.Rows.{RowData, listed}
-use Rattle.tc_isa.specs.Insts.{InstData, IsInst, fields_in}
-use Rattle.tc_isa.specs.Codec.{Fits, IsRow, word_of, is_long, least, spelled, spelling}
+use Rattle.tc_isa.specs.Insts.{InstData, fields_in}
+use Rattle.tc_isa.specs.Codec.{word_of, is_long, least, spelling}
 use Rattle.tc_isa.specs.Spelling.{Spells, Begins, IsFront}
 use Rattle.tc_encode.specs.declared.errors.DecodeErr.{DecodeErr}
 use Rattle.tc_encode.specs.declared.errors.DecodeErr.TheVariants.{Short, NotListed}
-use Rattle.tc_encode.specs.Decoding.{size_of, begins_with, goes_on_as, fields_at, instruction, first_of, answer_of, decoded_of}
-use Rattle.tc_encode.specs.DecodeLaws.{MoreChangesNothing, LengthsAreRight, DecodedSpells, SpelledDecodes, ShortIsFront, NotListedIsRest, DecodeLaws, NoneSpellsTwo, NoneIsPrefix, SpellingLaws}
+use Rattle.tc_encode.specs.Decoding.{size_of, goes_on_as, fields_at, instruction, first_of, answer_of, decoded_of}
+use Rattle.tc_encode.specs.DecodeLaws.{MoreChangesNothing, LengthsAreRight, DecodedSpells, DecodedBegins, SpelledDecodes, ShortIsFront, NotListedIsRest, DecodeLaws, NoneSpellsTwo, NoneIsPrefix, SpellingLaws}
 use Rattle.tc_encode.proofs.Bytes.{word-lt}
 use Rattle.tc_isa.proofs.TableFacts.{row_at}
 use Rattle.tc_encode.proofs.Spelled.{begins_here, fields_here, fits_there, stands_there, size_spelling}
 use Rattle.tc_encode.proofs.Apart.{one_row, one_word}
-use Rattle.tc_encode.proofs.Found.{Gives, found_gives, none_found, some_found}
+use Rattle.tc_encode.proofs.Found.{Gives, found_gives, some_found}
 use Rattle.tc_encode.proofs.FrontFacts.{front_goes_on, goes_on_short, goes_on_begins}
 
 ok_err : {A E : Type 0} (x : A) (e : E) → Ok x ≡ Err e → ⊥
@@ -188,11 +187,18 @@ not_listed_is_rest xs = (
   λ p. answer_none xs (none_from xs p.1) ∙ cond-false {A = Result (InstData × ℕ) DecodeErr} (list_any (goes_on_as xs) listed) (Err Short) (Err NotListed) (false_from_ne_true _ (λ t. p.0 (ahead_front xs (ahead_from xs listed t)))),
 )
 
+pub decoded_begins : DecodedBegins
+decoded_begins xs i n = (
+  λ e. record { within = (lengths_are_right xs i n e).0; spells = decoded_spells xs i n e },
+  λ b. begun_decodes xs i n b ∙ ap (λ m. Ok (i, m)) (length-take-le n xs b.within),
+)
+
 pub decode_laws : DecodeLaws
 decode_laws = record {
   more = more_changes_nothing;
   lengths = lengths_are_right;
   decoded = decoded_spells;
+  begins = decoded_begins;
   spelled = spelled_decodes;
   short = short_is_front;
   not_listed = not_listed_is_rest;

@@ -1,6 +1,6 @@
 -- Instructions that have a word, and where they stand.
-use Rattle.std.proofs.Common.{◌≡◌, ◌⊎◌, inl, inr, ◌+◌, ◌%◌, ◌^◌, ◌<◌, ◌≤◌, ℕ, zero, suc, Bool, true, false, List, [], ◌∷◌, length, get_or, refl, sym, ap, subst, ◌∙◌, arith, Option, Some, None, zero-add}
-use Rattle.std.specs.Prelude.{slice_get, nat_le, nat_lt, ◌&&◌, ◌==◌, IfNone, IfSome}
+use Rattle.std.proofs.Common.{◌≡◌, ◌+◌, ◌%◌, ◌<◌, ◌≤◌, ℕ, zero, suc, true, List, [], ◌∷◌, length, get_or, sym, ap, subst, ◌∙◌, arith, Option, Some, None, zero-add}
+use Rattle.std.specs.Prelude.{slice_get, nat_le, IfNone}
 use Rattle.std.specs.List.{list_all}
 use Rattle.std.proofs.lemmas.Bool.{and_parts, ltb-true, leb-true, eqb-true}
 use Rattle.std.proofs.lemmas.Option.{slice_get-get_or}
@@ -9,7 +9,7 @@ use Rattle.tc_isa.specs.declared.fields.Fields.{Fields}
 use Rattle.tc_isa.specs.declared.table.Form.{Form}
 use Rattle.tc_isa.specs.Rows.{RowData, listed}
 use Rattle.tc_isa.specs.Words.{fields_of, second_of, form_index}
-use Rattle.tc_isa.specs.Codec.{Fits, IsRow, word_of}
+use Rattle.tc_isa.specs.Codec.{Fits, word_of}
 use Rattle.tc_isa.specs.Insts.{InstData, IsInst, fields_in}
 use Rattle.tc_isa.proofs.TableFacts.{row_at}
 use Rattle.tc_encode.specs.Decoding.{instruction}

@@ -1,10 +1,9 @@
 -- Instructions that go on from the front of a word.
-use Rattle.std.proofs.Common.{◌≡◌, ◌+◌, ◌*◌, ◌/◌, ◌%◌, ◌^◌, ◌<◌, ◌≤◌, ℕ, zero, suc, Bool, true, false, List, length, get_or, refl, sym, ap, subst, ◌∙◌, arith, Option, Some, None}
-use Rattle.std.specs.Prelude.{slice_get, IfNone, IfSome}
-use Rattle.tc_isa.specs.declared.fields.Fields.{Fields}
+use Rattle.std.proofs.Common.{◌≡◌, ◌+◌, ◌*◌, ◌/◌, ◌%◌, ◌<◌, ◌≤◌, ℕ, zero, suc, true, List, length, get_or, refl, sym, ap, subst, ◌∙◌, arith, Option, Some, None}
+use Rattle.std.specs.Prelude.{slice_get, IfSome}
 use Rattle.tc_isa.specs.Rows.{RowData, listed}
-use Rattle.tc_isa.specs.Codec.{Fits, IsRow, word_of, least}
-use Rattle.tc_isa.specs.Insts.{InstData, IsInst, fields_in}
+use Rattle.tc_isa.specs.Codec.{Fits, word_of, least}
+use Rattle.tc_isa.specs.Insts.{InstData, fields_in}
 use Rattle.tc_isa.proofs.TableFacts.{row_at}
 use Rattle.tc_encode.specs.Decoding.{instruction, size_of}
 use Rattle.tc_encode.specs.Finding.{Makes, GoesOn, span, hold_all}

@@ -10,3 +10,4 @@ pub mod FrontFacts
 pub mod DecodeProofs
 pub mod Finds
 pub mod Goes
+pub mod Wholes

@@ -1,5 +1,7 @@
 // The instruction that bytes begin with.
-ghost use Rattle.std.specs.Prelude.{◌≡◌, ◌≢◌, ◌<◌, ◌≤◌, ◌%◌, ℕ, List, [], ◌∷◌, length, Err, nat_lt, All};
+ghost use Rattle.std.specs.Prelude.{◌≡◌, ◌↔◌, Ok, ◌<◌, ◌≤◌, ◌%◌, ◌^◌, ℕ, List, [], ◌∷◌, length, Err, All, slice_index};
+ghost use Rattle.tc_isa.specs.Insts.{InstData};
+ghost use Rattle.tc_isa.specs.Spelling.{Begins, IsFront};
 ghost use Rattle.tc_encode.specs.Decoding.{decoded_of, need_of, number_of};
 
 use crate::errors::DecodeErr;
@@ -47,16 +49,35 @@ fn front(first: u8, n: u8, part: u32) -> DecodeErr
 /// The instruction with whose spelling the bytes begin, and how many bytes it has. Short exactly where the bytes are a
 /// proper prefix of a listed spelling and none begins them; NotListed exactly where neither holds.
 pub fn decode(bytes: &[u8]) -> Result<(Inst, usize), DecodeErr>
+    ensures decoded { result ≡ decoded_of bytes.now }
+
+    // The same by the relation of bytes and instructions: each answer comes exactly where it says.
+    ensures ok { (i : InstData) (n : ℕ) → (result ≡ Ok (i, n)) ↔ Begins bytes.now i n }
+    ensures short { (result ≡ Err DecodeErr.Short)
+        ↔ (IsFront bytes.now × ((i : InstData) (n : ℕ) → Begins bytes.now i n → ⊥)) }
+    ensures not_listed { (result ≡ Err DecodeErr.NotListed)
+        ↔ ((IsFront bytes.now → ⊥) × ((i : InstData) (n : ℕ) → Begins bytes.now i n → ⊥)) }
+{
+    decode_by_first(bytes)
+}
+
+/// The same, by the first byte: bit 0 of it tells the length.
+fn decode_by_first(bytes: &[u8]) -> Result<(Inst, usize), DecodeErr>
     ensures { result ≡ decoded_of bytes.now }
 {
     match bytes {
         [] => Err(DecodeErr::Short),
-        [a, ..] => if a % 2 == 1 { decode_long(bytes) } else { decode_short(bytes) },
+        [a, ..] => if a % 2 == 1 {
+            decode_long(bytes)
+        } else {
+            decode_short(bytes)
+        },
     }
 }
 
 /// The same where the first byte is odd.
 fn decode_long(bytes: &[u8]) -> Result<(Inst, usize), DecodeErr>
+    requires { slice_index bytes.now 0 % 2 ≡ 1 }
     ensures { result ≡ decoded_of bytes.now }
 {
     match bytes {
@@ -74,6 +95,7 @@ fn decode_long(bytes: &[u8]) -> Result<(Inst, usize), DecodeErr>
 
 /// The same where the first byte is even.
 fn decode_short(bytes: &[u8]) -> Result<(Inst, usize), DecodeErr>
+    requires { slice_index bytes.now 0 % 2 ≡ 0 }
     ensures { result ≡ decoded_of bytes.now }
 {
     match bytes {

@@ -2,6 +2,7 @@
 #![tactic(auto)]
 
 mod codes;
+mod decoding;
 mod errors;
 mod finding;
 mod forms;
@@ -10,7 +11,6 @@ mod index;
 mod laws;
 
 pub use codes::Code;
+pub use decoding::decode;
 pub use errors::DecodeErr;
-pub use finding::find;
-pub use fronts::completed;
 pub use laws::{decoding_laws, spelling_laws};

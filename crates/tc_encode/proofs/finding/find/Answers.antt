@@ -1,4 +1,4 @@
-use Rattle.std.proofs.Common.{◌≡◌, ◌<◌, ◌≤◌, ◌%◌, arith, length, ap, sym, ◌∙◌, get_or}
+use Rattle.std.proofs.Common.{◌≤◌, ◌%◌, arith, ap, sym, ◌∙◌, get_or}
 use Rattle.std.specs.Prelude.{slice_get}
 use Rattle.tc_isa.specs.Rows.{listed}
 use Rattle.tc_isa.proofs.Made.{at_listed}

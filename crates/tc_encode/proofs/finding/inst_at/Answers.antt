@@ -1,6 +1,6 @@
-use Rattle.std.proofs.Common.{◌≡◌, ◌∙◌, sym, ap, arith, ◌<◌, length, subst}
-use Rattle.std.specs.Prelude.{slice_get, Some}
-use Rattle.tc_isa.specs.Rows.{row_of, listed}
+use Rattle.std.proofs.Common.{◌∙◌, sym, ap, arith}
+use Rattle.std.specs.Prelude.{slice_get}
+use Rattle.tc_isa.specs.Rows.{listed}
 use Rattle.tc_isa.proofs.Made.{at_listed}
 use Rattle.tc_encode.proofs.Finds.{second_is, none_map}
 use Rattle.tc_encode.proofs.finding.inst_at.Goals as goal

@@ -1,4 +1,4 @@
-use Rattle.std.proofs.Common.{◌≡◌, ◌∙◌, sym, ap, subst, refl}
+use Rattle.std.proofs.Common.{◌∙◌, sym, subst, refl}
 use Rattle.tc_isa.specs.Rows.{row_of}
 use Rattle.tc_isa.specs.Insts.{IsInst}
 use Rattle.tc_isa.proofs.TableFacts.{row_at}

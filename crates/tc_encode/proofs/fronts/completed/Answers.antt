@@ -1,4 +1,4 @@
-use Rattle.std.proofs.Common.{◌≡◌, ◌<◌, ◌≤◌, sym, subst, get_or}
+use Rattle.std.proofs.Common.{◌<◌, ◌≤◌, sym, subst, get_or}
 use Rattle.tc_encode.proofs.Finds.{none_map}
 use Rattle.tc_encode.proofs.Goes.{goes_between}
 use Rattle.tc_encode.proofs.fronts.completed.Goals as goal
