@@ -11,3 +11,4 @@ pub mod DecodeProofs
 pub mod Finds
 pub mod Goes
 pub mod Wholes
+pub mod Encodes

@@ -3,6 +3,7 @@
 
 mod codes;
 mod decoding;
+mod encoding;
 mod errors;
 mod finding;
 mod forms;
@@ -12,5 +13,6 @@ mod laws;
 
 pub use codes::Code;
 pub use decoding::decode;
+pub use encoding::encode;
 pub use errors::DecodeErr;
 pub use laws::{decoding_laws, spelling_laws};
