@@ -1,4 +1,5 @@
 // Small types that several crates speak of.
+use std::alloc::{AllocError, AllocFailed};
 
 /// The addresses from `at` on, `len` of them, both in bytes.
 #[derive(Clone, Copy, Debug, Default, PartialEq, Eq)]
@@ -10,6 +11,18 @@ pub struct Range {
 /// Want of memory.
 #[derive(Clone, Copy, Debug, PartialEq, Eq)]
 pub struct NoMemory;
+
+impl From<AllocError> for NoMemory {
+    fn from(_: AllocError) -> Self {
+        NoMemory
+    }
+}
+
+impl<T: Drop> From<AllocFailed<T>> for NoMemory {
+    fn from(_: AllocFailed<T>) -> Self {
+        NoMemory
+    }
+}
 
 /// The first fault of a file: its kind (1 Short, 2 Magic, 3 Order, 4 BadValue, 5 Limit, 6 Trailing) and the place of
 /// its first byte.

@@ -1,0 +1,11 @@
+-- What callers see of a cursor.
+use Rattle.std.specs.Prelude.{ℕ, List, ◌++◌, length}
+
+-- bytes, and the place of the first that was not taken
+pub record Place : Type 0 where
+  pub bytes : List ℕ
+  pub place : ℕ
+
+-- the place between two parts of the bytes
+abbrev pub between : List ℕ → List ℕ → Place
+between front rest = record { bytes = front ++ rest; place = length front }

@@ -1,0 +1,36 @@
+-- Reading fields from left to right: the value and the place after it, or the first fault.
+use Rattle.std.specs.Prelude.{◌≡◌, ◌+◌, ℕ, List, length, take, drop, slice_index, nat_le, if◌then◌else◌, Result, Ok, Err}
+use Rattle.tcd_base.specs.Bytes.{half_at, word_at}
+use Rattle.tcd_base.specs.Place.{Place}
+use Rattle.tcd_base.specs.declared.parts.FormErr.{FormErr}
+
+-- what follows a reading that went well
+infixl 10 ◌>>=◌
+abbrev pub ◌>>=◌ : {A B : Type 0} → Result A FormErr → (A → Result B FormErr) → Result B FormErr
+(Ok x) >>= f = f x
+(Err e) >>= f = Err e
+
+-- a fault of this kind at the place
+abbrev pub fault_at : {A : Type 0} → ℕ → Place → Result A FormErr
+fault_at kind p = Err (record { kind = kind; at = p.place })
+
+-- a field of one byte, and the place after it; Short (kind 1) at the field's first byte where the bytes end before it does
+unfoldable pub u8_at : Place → Result (ℕ × Place) FormErr
+u8_at p = if nat_le (p.place + 1) (length p.bytes) then Ok (slice_index p.bytes p.place, record p { place = p.place + 1 }) else fault_at 1 p
+
+-- the same of two bytes
+unfoldable pub u16_at : Place → Result (ℕ × Place) FormErr
+u16_at p = if nat_le (p.place + 2) (length p.bytes) then Ok (half_at p.bytes p.place, record p { place = p.place + 2 }) else fault_at 1 p
+
+-- the same of four bytes
+unfoldable pub u32_at : Place → Result (ℕ × Place) FormErr
+u32_at p = if nat_le (p.place + 4) (length p.bytes) then Ok (word_at p.bytes p.place, record p { place = p.place + 4 }) else fault_at 1 p
+
+-- a field of n bytes, as they stand
+unfoldable pub bytes_at : ℕ → Place → Result (List ℕ × Place) FormErr
+bytes_at n p = if nat_le (p.place + n) (length p.bytes) then Ok (take n (drop p.place p.bytes), record p { place = p.place + n }) else fault_at 1 p
+
+-- the answer is the value that was read, with the cursor at the place after it, or the fault
+abbrev pub Reads : {A : Type 0} → Result A FormErr → Place → Result (A × Place) FormErr → Type 0
+Reads (Ok x) after read = read ≡ Ok (x, after)
+Reads (Err e) after read = read ≡ Err e

@@ -1,0 +1,73 @@
+// Fields read from left to right, each with the fault Short at its first byte.
+ghost use Rattle.std.specs.Prelude.{◌≡◌, ◌≤◌, ◌^◌, length, MatchResult};
+ghost use Rattle.tcd_base.specs.Reading.{Reads, u8_at, u16_at, u32_at, bytes_at};
+
+use crate::{Cursor, FormErr};
+
+/// A field of one byte.
+#[tactic(auto, unfolding(crate::specs::Reading::u8_at))]
+pub fn read_u8(c: &mut Cursor<'_>) -> Result<u8, FormErr>
+    requires { length c.old.bytes ≤ 2 ^ 30 }
+    ensures read { Reads result c.new (u8_at c.old) }
+    ensures bytes { c.new.bytes ≡ c.old.bytes }
+{
+    let at = c.place();
+    match c.take_u8() {
+        Some(byte) => Ok(byte),
+        None => Err(FormErr {
+            kind: 1,
+            at: at as u32,
+        }),
+    }
+}
+
+/// A field of two bytes, little-endian.
+#[tactic(auto, unfolding(crate::specs::Reading::u16_at))]
+pub fn read_u16(c: &mut Cursor<'_>) -> Result<u16, FormErr>
+    requires { length c.old.bytes ≤ 2 ^ 30 }
+    ensures read { Reads result c.new (u16_at c.old) }
+    ensures bytes { c.new.bytes ≡ c.old.bytes }
+{
+    let at = c.place();
+    match c.take_u16() {
+        Some(half) => Ok(half),
+        None => Err(FormErr {
+            kind: 1,
+            at: at as u32,
+        }),
+    }
+}
+
+/// A field of four bytes, little-endian.
+#[tactic(auto, unfolding(crate::specs::Reading::u32_at))]
+pub fn read_u32(c: &mut Cursor<'_>) -> Result<u32, FormErr>
+    requires { length c.old.bytes ≤ 2 ^ 30 }
+    ensures read { Reads result c.new (u32_at c.old) }
+    ensures bytes { c.new.bytes ≡ c.old.bytes }
+{
+    let at = c.place();
+    match c.take_u32() {
+        Some(word) => Ok(word),
+        None => Err(FormErr {
+            kind: 1,
+            at: at as u32,
+        }),
+    }
+}
+
+/// A field of `n` bytes.
+#[tactic(auto, unfolding(crate::specs::Reading::bytes_at))]
+pub fn read_bytes<'a>(c: &mut Cursor<'a>, n: usize) -> Result<&'a [u8], FormErr>
+    requires { length c.old.bytes ≤ 2 ^ 30 }
+    ensures read { MatchResult result (λ r. bytes_at n c.old ≡ Ok (r.now, c.new)) (λ e. bytes_at n c.old ≡ Err e) }
+    ensures bytes { c.new.bytes ≡ c.old.bytes }
+{
+    let at = c.place();
+    match c.take(n) {
+        Some(part) => Ok(part),
+        None => Err(FormErr {
+            kind: 1,
+            at: at as u32,
+        }),
+    }
+}

@@ -1,0 +1,15 @@
+// What holds of all values and states.
+ghost use Rattle.value_domain.specs.Laws.{AreJoins, AreMembers, IsClosure};
+ghost use Rattle.value_domain.specs.StateLaws.{AreJoined};
+
+/// A value is its members; `cover` gives the least value that holds a set, `join` the least value above two.
+pub fn value_laws()
+    ensures members { AreMembers }
+    ensures closure { IsClosure }
+    ensures joins { AreJoins }
+{}
+
+/// Joining gives the least state that covers both.
+pub fn state_laws()
+    ensures { AreJoined }
+{}
