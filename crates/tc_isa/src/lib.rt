@@ -1,6 +1,7 @@
 //! The instruction table: rows, instructions and what they do.
 #![tactic(auto)]
 
+mod arithmetic;
 mod bounds;
 mod fields;
 mod instruction;
@@ -9,6 +10,7 @@ mod shapes;
 mod table;
 mod used;
 
+pub use arithmetic::{alu, taken};
 pub use fields::{Fields, Uses};
 pub use instruction::Inst;
 pub use making::inst;
