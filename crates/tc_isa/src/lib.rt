@@ -6,6 +6,8 @@ mod bounds;
 mod fields;
 mod instruction;
 mod making;
+mod meaning;
+mod meanings;
 mod shapes;
 mod table;
 mod used;
