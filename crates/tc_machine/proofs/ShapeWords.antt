@@ -1,6 +1,5 @@
 -- The numbers in what instructions do: words, sizes, and the bounds of fields.
-use Rattle.std.proofs.Common.{◌≡◌, ℕ, zero, suc, ◌+◌, ◌-◌, ◌*◌, ◌/◌, ◌%◌, ◌^◌, ◌<◌, ◌≤◌, ◌⊎◌, inl, inr, Bool, true, false, cond, List, [], ◌∷◌, Option, Some, None, slice_get, refl, subst, ap, arith, nat_lt}
-use Rattle.std.proofs.lemmas.Bool.{cond_both}
+use Rattle.std.proofs.Common.{◌≡◌, ℕ, zero, suc, ◌+◌, ◌-◌, ◌%◌, ◌^◌, ◌<◌, ◌≤◌, ◌⊎◌, inl, inr, Bool, true, false, cond, List, [], ◌∷◌, Option, Some, None, slice_get, refl, subst, arith, nat_lt}
 use Rattle.std.specs.List.{AllByRecursion}
 use Rattle.tc_isa.specs.declared.fields.Fields.{Fields}
 use Rattle.tc_isa.specs.declared.table.Form.{Form}
@@ -10,8 +9,7 @@ use Rattle.tc_isa.specs.declared.shapes.Arg.TheVariants.{Reg, Word}
 use Rattle.tc_isa.specs.declared.shapes.Target.{Target}
 use Rattle.tc_isa.specs.declared.shapes.Target.TheVariants as target
 use Rattle.tc_isa.specs.declared.shapes.Shape.{Shape}
-use Rattle.tc_isa.specs.declared.shapes.Shape.TheVariants.{Compute, Load, Jump, Call, Bisr, Syscall, Nothing}
-use Rattle.tc_isa.specs.Arithmetic.{sign_extended}
+use Rattle.tc_isa.specs.declared.shapes.Shape.TheVariants.{Compute, Load, Jump, Call, Bisr, Syscall}
 use Rattle.tc_isa.specs.Words.{bounds}
 use Rattle.tc_isa.specs.Insts.{InstData, IsInst, fields_in}
 use Rattle.tc_isa.specs.Shapes.{sk, uk, high, place, code_place, Line, meanings, by_line, shape_of}
@@ -89,148 +87,432 @@ Suits l = (f : Fields) → f.k < 2 ^ 32 → IsShape (l.shape f)
 
 all_suit : AllByRecursion Suits meanings
 all_suit = (
-  λ f s. (tt, sk_16_lt f), (
-  λ f s. (tt, high_lt f), (
-  λ f s. (tt, high_lt f), (
-  λ f s. (zero_lt, sk_16_lt f), (
-  λ f s. (zero_lt, s), (
-  λ f s. (zero_lt, high_lt f), (
-  λ f s. (zero_lt, high_lt f), (
-  λ f s. tt, (
-  λ f s. tt, (
-  λ f s. (tt, tt), (
-  λ f s. (tt, tt), (
-  λ f s. (tt, tt), (
-  λ f s. (tt, tt), (
-  λ f s. (tt, tt), (
-  λ f s. (tt, tt), (
-  λ f s. (tt, tt), (
-  λ f s. (tt, tt), (
-  λ f s. (zero_lt, tt), (
-  λ f s. (tt, tt), (
-  λ f s. (tt, tt), (
-  λ f s. (tt, tt), (
-  λ f s. (tt, tt), (
-  λ f s. (tt, tt), (
-  λ f s. (tt, tt), (
-  λ f s. (tt, tt), (
-  λ f s. (tt, tt), (
-  λ f s. (tt, tt), (
-  λ f s. (tt, tt), (
-  λ f s. (tt, sk_9_lt f), (
-  λ f s. (sk_9_lt f, tt), (
-  λ f s. (tt, sk_9_lt f), (
-  λ f s. (tt, sk_9_lt f), (
-  λ f s. (tt, sk_9_lt f), (
-  λ f s. (tt, s), (
-  λ f s. (tt, sk_9_lt f), (
-  λ f s. (tt, s), (
-  λ f s. (tt, sk_9_lt f), (
-  λ f s. (tt, sk_9_lt f), (
-  λ f s. (tt, s), (
-  λ f s. (tt, s), (
-  λ f s. (tt, s), (
-  λ f s. low_byte (uk f), (
-  λ f s. low_word (uk f), (
-  λ f s. (zero_lt, tt), (
-  λ f s. (tt, tt), (
-  λ f s. (tt, tt), (
-  λ f s. (zero_lt, tt), (
-  λ f s. tt, (
-  λ f s. (zero_lt, tt), (
-  λ f s. tt, (
-  λ f s. tt, (
-  λ f s. tt, (
-  λ f s. tt, (
-  λ f s. tt, (
-  λ f s. tt, (
-  λ f s. tt, (
-  λ f s. tt, (
-  λ f s. tt, (
-  λ f s. tt, (
-  λ f s. tt, (
-  λ f s. size_1, (
-  λ f s. size_1, (
-  λ f s. size_2, (
-  λ f s. size_2, (
-  λ f s. size_4, (
-  λ f s. size_4, (
-  λ f s. size_1, (
-  λ f s. size_1, (
-  λ f s. size_2, (
-  λ f s. size_2, (
-  λ f s. size_4, (
-  λ f s. size_4, (
-  λ f s. tt, (
-  λ f s. tt, (
-  λ f s. tt, (
-  λ f s. tt, (
-  λ f s. tt, (
-  λ f s. tt, (
-  λ f s. tt, (
-  λ f s. tt, (
-  λ f s. (tt, sk_10_lt f), (
-  λ f s. size_4, (
-  λ f s. size_4, (
-  λ f s. tt, (
-  λ f s. (tt, sk_16_lt f), (
-  λ f s. size_4, (
-  λ f s. size_4, (
-  λ f s. tt, (
-  λ f s. tt, (
-  λ f s. (zero_lt, place_lt f), (
-  λ f s. tt, (
-  λ f s. tt, (
-  λ f s. tt, (
-  λ f s. tt, (
-  λ f s. tt, (
-  λ f s. tt, (
-  λ f s. tt, (
-  λ f s. tt, (
-  λ f s. tt, (
-  λ f s. tt, (
-  λ f s. tt, (
-  λ f s. tt, (
-  λ f s. tt, (
-  λ f s. tt, (
-  λ f s. tt, (
-  λ f s. tt, (
-  λ f s. tt, (
-  λ f s. tt, (
-  λ f s. code_place_lt f, (
-  λ f s. tt, (
-  λ f s. code_place_lt f, (
-  λ f s. tt, (
-  λ f s. tt, (
-  λ f s. tt, (
-  λ f s. tt, (
-  λ f s. low_byte (uk f), (
-  λ f s. (zero_lt, s), (
-  λ f s. (tt, s), (
-  λ f s. tt, (
-  λ f s. tt, (
-  λ f s. tt, (
-  λ f s. tt, (
-  λ f s. tt, (
-  λ f s. tt, (
-  λ f s. (zero_lt, tt), (
-  λ f s. (tt, tt), (
-  λ f s. (tt, tt), (
-  λ f s. (tt, tt), (
-  λ f s. (tt, tt), (
-  λ f s. (tt, tt), (
-  λ f s. (zero_lt, tt), (
-  λ f s. (zero_lt, tt), (
-  λ f s. (zero_lt, tt), (
-  λ f s. (tt, tt), (
-  λ f s. (zero_lt, sk_4_lt f), (
-  λ f s. (tt, sk_4_lt f), (
-  λ f s. (zero_lt, s), (
-  λ f s. (tt, sk_4_lt f), (
-  λ f s. size_4, (
-  λ f s. size_4, (
-  λ f s. tt, (
-  λ f s. tt, tt))))))))))))))))))))))))))))))))))))))))))))))))))))))))))))))))))))))))))))))))))))))))))))))))))))))))))))))))))))))))))))))))))))))))))))))
+  λ f s. (tt, sk_16_lt f),
+  (
+    λ f s. (tt, high_lt f),
+    (
+      λ f s. (tt, high_lt f),
+      (
+        λ f s. (zero_lt, sk_16_lt f),
+        (
+          λ f s. (zero_lt, s),
+          (
+            λ f s. (zero_lt, high_lt f),
+            (
+              λ f s. (zero_lt, high_lt f),
+              (
+                λ f s. tt,
+                (
+                  λ f s. tt,
+                  (
+                    λ f s. (tt, tt),
+                    (
+                      λ f s. (tt, tt),
+                      (
+                        λ f s. (tt, tt),
+                        (
+                          λ f s. (tt, tt),
+                          (
+                            λ f s. (tt, tt),
+                            (
+                              λ f s. (tt, tt),
+                              (
+                                λ f s. (tt, tt),
+                                (
+                                  λ f s. (tt, tt),
+                                  (
+                                    λ f s. (zero_lt, tt),
+                                    (
+                                      λ f s. (tt, tt),
+                                      (
+                                        λ f s. (tt, tt),
+                                        (
+                                          λ f s. (tt, tt),
+                                          (
+                                            λ f s. (tt, tt),
+                                            (
+                                              λ f s. (tt, tt),
+                                              (
+                                                λ f s. (tt, tt),
+                                                (
+                                                  λ f s. (tt, tt),
+                                                  (
+                                                    λ f s. (tt, tt),
+                                                    (
+                                                      λ f s. (tt, tt),
+                                                      (
+                                                        λ f s. (tt, tt),
+                                                        (
+                                                          λ f s. (tt, sk_9_lt f),
+                                                          (
+                                                            λ f s. (sk_9_lt f, tt),
+                                                            (
+                                                              λ f s. (tt, sk_9_lt f),
+                                                              (
+                                                                λ f s. (tt, sk_9_lt f),
+                                                                (
+                                                                  λ f s. (tt, sk_9_lt f),
+                                                                  (
+                                                                    λ f s. (tt, s),
+                                                                    (
+                                                                      λ f s. (tt, sk_9_lt f),
+                                                                      (
+                                                                        λ f s. (tt, s),
+                                                                        (
+                                                                          λ f s. (tt, sk_9_lt f),
+                                                                          (
+                                                                            λ f s. (tt, sk_9_lt f),
+                                                                            (
+                                                                              λ f s. (tt, s),
+                                                                              (
+                                                                                λ f s. (tt, s),
+                                                                                (
+                                                                                  λ f s. (tt, s),
+                                                                                  (
+                                                                                    λ f s. low_byte (uk f),
+                                                                                    (
+                                                                                      λ f s. low_word (uk f),
+                                                                                      (
+                                                                                        λ f s. (zero_lt, tt),
+                                                                                        (
+                                                                                          λ f s. (tt, tt),
+                                                                                          (
+                                                                                            λ f s. (tt, tt),
+                                                                                            (
+                                                                                              λ f s. (zero_lt, tt),
+                                                                                              (
+                                                                                                λ f s. tt,
+                                                                                                (
+                                                                                                  λ f s. (zero_lt, tt),
+                                                                                                  (
+                                                                                                    λ f s. tt,
+                                                                                                    (
+                                                                                                      λ f s. tt,
+                                                                                                      (
+                                                                                                        λ f s. tt,
+                                                                                                        (
+                                                                                                          λ f s. tt,
+                                                                                                          (
+                                                                                                            λ f s. tt,
+                                                                                                            (
+                                                                                                              λ f s. tt,
+                                                                                                              (
+                                                                                                                λ f s. tt,
+                                                                                                                (
+                                                                                                                  λ f s. tt,
+                                                                                                                  (
+                                                                                                                    λ f s. tt,
+                                                                                                                    (
+                                                                                                                      λ f s. tt,
+                                                                                                                      (
+                                                                                                                        λ f s. tt,
+                                                                                                                        (
+                                                                                                                          λ f s. size_1,
+                                                                                                                          (
+                                                                                                                            λ f s. size_1,
+                                                                                                                            (
+                                                                                                                              λ f s. size_2,
+                                                                                                                              (
+                                                                                                                                λ f s. size_2,
+                                                                                                                                (
+                                                                                                                                  λ f s. size_4,
+                                                                                                                                  (
+                                                                                                                                    λ f s. size_4,
+                                                                                                                                    (
+                                                                                                                                      λ f s. size_1,
+                                                                                                                                      (
+                                                                                                                                        λ f s. size_1,
+                                                                                                                                        (
+                                                                                                                                          λ f s. size_2,
+                                                                                                                                          (
+                                                                                                                                            λ f s. size_2,
+                                                                                                                                            (
+                                                                                                                                              λ f s. size_4,
+                                                                                                                                              (
+                                                                                                                                                λ f s. size_4,
+                                                                                                                                                (
+                                                                                                                                                  λ f s. tt,
+                                                                                                                                                  (
+                                                                                                                                                    λ f s. tt,
+                                                                                                                                                    (
+                                                                                                                                                      λ f s. tt,
+                                                                                                                                                      (
+                                                                                                                                                        λ f s. tt,
+                                                                                                                                                        (
+                                                                                                                                                          λ f s. tt,
+                                                                                                                                                          (
+                                                                                                                                                            λ f s. tt,
+                                                                                                                                                            (
+                                                                                                                                                              λ f s. tt,
+                                                                                                                                                              (
+                                                                                                                                                                λ f s. tt,
+                                                                                                                                                                (
+                                                                                                                                                                  λ f s. (tt, sk_10_lt f),
+                                                                                                                                                                  (
+                                                                                                                                                                    λ f s. size_4,
+                                                                                                                                                                    (
+                                                                                                                                                                      λ f s. size_4,
+                                                                                                                                                                      (
+                                                                                                                                                                        λ f s. tt,
+                                                                                                                                                                        (
+                                                                                                                                                                          λ f s. (tt, sk_16_lt f),
+                                                                                                                                                                          (
+                                                                                                                                                                            λ f s. size_4,
+                                                                                                                                                                            (
+                                                                                                                                                                              λ f s. size_4,
+                                                                                                                                                                              (
+                                                                                                                                                                                λ f s. tt,
+                                                                                                                                                                                (
+                                                                                                                                                                                  λ f s. tt,
+                                                                                                                                                                                  (
+                                                                                                                                                                                    λ f s. (zero_lt, place_lt f),
+                                                                                                                                                                                    (
+                                                                                                                                                                                      λ f s. tt,
+                                                                                                                                                                                      (
+                                                                                                                                                                                        λ f s. tt,
+                                                                                                                                                                                        (
+                                                                                                                                                                                          λ f s. tt,
+                                                                                                                                                                                          (
+                                                                                                                                                                                            λ f s. tt,
+                                                                                                                                                                                            (
+                                                                                                                                                                                              λ f s. tt,
+                                                                                                                                                                                              (
+                                                                                                                                                                                                λ f s. tt,
+                                                                                                                                                                                                (
+                                                                                                                                                                                                  λ f s. tt,
+                                                                                                                                                                                                  (
+                                                                                                                                                                                                    λ f s. tt,
+                                                                                                                                                                                                    (
+                                                                                                                                                                                                      λ f s. tt,
+                                                                                                                                                                                                      (
+                                                                                                                                                                                                        λ f s. tt,
+                                                                                                                                                                                                        (
+                                                                                                                                                                                                          λ f s. tt,
+                                                                                                                                                                                                          (
+                                                                                                                                                                                                            λ f s. tt,
+                                                                                                                                                                                                            (
+                                                                                                                                                                                                              λ f s. tt,
+                                                                                                                                                                                                              (
+                                                                                                                                                                                                                λ f s. tt,
+                                                                                                                                                                                                                (
+                                                                                                                                                                                                                  λ f s. tt,
+                                                                                                                                                                                                                  (
+                                                                                                                                                                                                                    λ f s. tt,
+                                                                                                                                                                                                                    (
+                                                                                                                                                                                                                      λ f s. tt,
+                                                                                                                                                                                                                      (
+                                                                                                                                                                                                                        λ f s. tt,
+                                                                                                                                                                                                                        (
+                                                                                                                                                                                                                          λ f s. code_place_lt f,
+                                                                                                                                                                                                                          (
+                                                                                                                                                                                                                            λ f s. tt,
+                                                                                                                                                                                                                            (
+                                                                                                                                                                                                                              λ f s. code_place_lt f,
+                                                                                                                                                                                                                              (
+                                                                                                                                                                                                                                λ f s. tt,
+                                                                                                                                                                                                                                (
+                                                                                                                                                                                                                                  λ f s. tt,
+                                                                                                                                                                                                                                  (
+                                                                                                                                                                                                                                    λ f s. tt,
+                                                                                                                                                                                                                                    (
+                                                                                                                                                                                                                                      λ f s. tt,
+                                                                                                                                                                                                                                      (
+                                                                                                                                                                                                                                        λ f s. low_byte (uk f),
+                                                                                                                                                                                                                                        (
+                                                                                                                                                                                                                                          λ f s. (zero_lt, s),
+                                                                                                                                                                                                                                          (
+                                                                                                                                                                                                                                            λ f s. (tt, s),
+                                                                                                                                                                                                                                            (
+                                                                                                                                                                                                                                              λ f s. tt,
+                                                                                                                                                                                                                                              (
+                                                                                                                                                                                                                                                λ f s. tt,
+                                                                                                                                                                                                                                                (
+                                                                                                                                                                                                                                                  λ f s. tt,
+                                                                                                                                                                                                                                                  (
+                                                                                                                                                                                                                                                    λ f s. tt,
+                                                                                                                                                                                                                                                    (
+                                                                                                                                                                                                                                                      λ f s. tt,
+                                                                                                                                                                                                                                                      (
+                                                                                                                                                                                                                                                        λ f s. tt,
+                                                                                                                                                                                                                                                        (
+                                                                                                                                                                                                                                                          λ f s. (zero_lt, tt),
+                                                                                                                                                                                                                                                          (
+                                                                                                                                                                                                                                                            λ f s. (tt, tt),
+                                                                                                                                                                                                                                                            (
+                                                                                                                                                                                                                                                              λ f s. (tt, tt),
+                                                                                                                                                                                                                                                              (
+                                                                                                                                                                                                                                                                λ f s. (tt, tt),
+                                                                                                                                                                                                                                                                (
+                                                                                                                                                                                                                                                                  λ f s. (tt, tt),
+                                                                                                                                                                                                                                                                  (
+                                                                                                                                                                                                                                                                    λ f s. (tt, tt),
+                                                                                                                                                                                                                                                                    (
+                                                                                                                                                                                                                                                                      λ f s. (zero_lt, tt),
+                                                                                                                                                                                                                                                                      (
+                                                                                                                                                                                                                                                                        λ f s. (zero_lt, tt),
+                                                                                                                                                                                                                                                                        (
+                                                                                                                                                                                                                                                                          λ f s. (zero_lt, tt),
+                                                                                                                                                                                                                                                                          (
+                                                                                                                                                                                                                                                                            λ f s. (tt, tt),
+                                                                                                                                                                                                                                                                            (
+                                                                                                                                                                                                                                                                              λ f s. (zero_lt, sk_4_lt f),
+                                                                                                                                                                                                                                                                              (
+                                                                                                                                                                                                                                                                                λ f s. (tt, sk_4_lt f),
+                                                                                                                                                                                                                                                                                (
+                                                                                                                                                                                                                                                                                  λ f s. (zero_lt, s),
+                                                                                                                                                                                                                                                                                  (
+                                                                                                                                                                                                                                                                                    λ f s. (tt, sk_4_lt f),
+                                                                                                                                                                                                                                                                                    (
+                                                                                                                                                                                                                                                                                      λ f s. size_4,
+                                                                                                                                                                                                                                                                                      (
+                                                                                                                                                                                                                                                                                        λ f s. size_4,
+                                                                                                                                                                                                                                                                                        (
+                                                                                                                                                                                                                                                                                          λ f s. tt,
+                                                                                                                                                                                                                                                                                          (
+                                                                                                                                                                                                                                                                                            λ f s. tt,
+                                                                                                                                                                                                                                                                                            tt,
+                                                                                                                                                                                                                                                                                          ),
+                                                                                                                                                                                                                                                                                        ),
+                                                                                                                                                                                                                                                                                      ),
+                                                                                                                                                                                                                                                                                    ),
+                                                                                                                                                                                                                                                                                  ),
+                                                                                                                                                                                                                                                                                ),
+                                                                                                                                                                                                                                                                              ),
+                                                                                                                                                                                                                                                                            ),
+                                                                                                                                                                                                                                                                          ),
+                                                                                                                                                                                                                                                                        ),
+                                                                                                                                                                                                                                                                      ),
+                                                                                                                                                                                                                                                                    ),
+                                                                                                                                                                                                                                                                  ),
+                                                                                                                                                                                                                                                                ),
+                                                                                                                                                                                                                                                              ),
+                                                                                                                                                                                                                                                            ),
+                                                                                                                                                                                                                                                          ),
+                                                                                                                                                                                                                                                        ),
+                                                                                                                                                                                                                                                      ),
+                                                                                                                                                                                                                                                    ),
+                                                                                                                                                                                                                                                  ),
+                                                                                                                                                                                                                                                ),
+                                                                                                                                                                                                                                              ),
+                                                                                                                                                                                                                                            ),
+                                                                                                                                                                                                                                          ),
+                                                                                                                                                                                                                                        ),
+                                                                                                                                                                                                                                      ),
+                                                                                                                                                                                                                                    ),
+                                                                                                                                                                                                                                  ),
+                                                                                                                                                                                                                                ),
+                                                                                                                                                                                                                              ),
+                                                                                                                                                                                                                            ),
+                                                                                                                                                                                                                          ),
+                                                                                                                                                                                                                        ),
+                                                                                                                                                                                                                      ),
+                                                                                                                                                                                                                    ),
+                                                                                                                                                                                                                  ),
+                                                                                                                                                                                                                ),
+                                                                                                                                                                                                              ),
+                                                                                                                                                                                                            ),
+                                                                                                                                                                                                          ),
+                                                                                                                                                                                                        ),
+                                                                                                                                                                                                      ),
+                                                                                                                                                                                                    ),
+                                                                                                                                                                                                  ),
+                                                                                                                                                                                                ),
+                                                                                                                                                                                              ),
+                                                                                                                                                                                            ),
+                                                                                                                                                                                          ),
+                                                                                                                                                                                        ),
+                                                                                                                                                                                      ),
+                                                                                                                                                                                    ),
+                                                                                                                                                                                  ),
+                                                                                                                                                                                ),
+                                                                                                                                                                              ),
+                                                                                                                                                                            ),
+                                                                                                                                                                          ),
+                                                                                                                                                                        ),
+                                                                                                                                                                      ),
+                                                                                                                                                                    ),
+                                                                                                                                                                  ),
+                                                                                                                                                                ),
+                                                                                                                                                              ),
+                                                                                                                                                            ),
+                                                                                                                                                          ),
+                                                                                                                                                        ),
+                                                                                                                                                      ),
+                                                                                                                                                    ),
+                                                                                                                                                  ),
+                                                                                                                                                ),
+                                                                                                                                              ),
+                                                                                                                                            ),
+                                                                                                                                          ),
+                                                                                                                                        ),
+                                                                                                                                      ),
+                                                                                                                                    ),
+                                                                                                                                  ),
+                                                                                                                                ),
+                                                                                                                              ),
+                                                                                                                            ),
+                                                                                                                          ),
+                                                                                                                        ),
+                                                                                                                      ),
+                                                                                                                    ),
+                                                                                                                  ),
+                                                                                                                ),
+                                                                                                              ),
+                                                                                                            ),
+                                                                                                          ),
+                                                                                                        ),
+                                                                                                      ),
+                                                                                                    ),
+                                                                                                  ),
+                                                                                                ),
+                                                                                              ),
+                                                                                            ),
+                                                                                          ),
+                                                                                        ),
+                                                                                      ),
+                                                                                    ),
+                                                                                  ),
+                                                                                ),
+                                                                              ),
+                                                                            ),
+                                                                          ),
+                                                                        ),
+                                                                      ),
+                                                                    ),
+                                                                  ),
+                                                                ),
+                                                              ),
+                                                            ),
+                                                          ),
+                                                        ),
+                                                      ),
+                                                    ),
+                                                  ),
+                                                ),
+                                              ),
+                                            ),
+                                          ),
+                                        ),
+                                      ),
+                                    ),
+                                  ),
+                                ),
+                              ),
+                            ),
+                          ),
+                        ),
+                      ),
+                    ),
+                  ),
+                ),
+              ),
+            ),
+          ),
+        ),
+      ),
+    ),
+  ),
+)
 
 at_place : (P : Line → Type 0) (ls : List Line) (i : ℕ) (l : Line) → AllByRecursion P ls → slice_get ls i ≡ Some l → P l
 at_place P [] i l h e = cc

@@ -1,5 +1,5 @@
 -- Every step keeps the bounds of a machine's registers and bytes.
-use Rattle.std.proofs.Common.{◌≡◌, ℕ, suc, ◌+◌, ◌-◌, ◌*◌, ◌/◌, ◌%◌, ◌^◌, ◌<◌, ◌≤◌, inl, inr, Bool, true, false, cond, List, [], ◌∷◌, ◌++◌, length, get_or, set, Result, Ok, Err, refl, ap, arith, bit_or, ◌==◌, nat_lt}
+use Rattle.std.proofs.Common.{◌≡◌, ℕ, ◌+◌, ◌-◌, ◌*◌, ◌/◌, ◌%◌, ◌^◌, ◌<◌, Bool, true, false, cond, List, [], ◌∷◌, get_or, set, Result, Ok, Err, refl, arith, bit_or, ◌==◌, nat_lt}
 use Rattle.std.proofs.lemmas.Bool.{cond_both}
 use Rattle.std.proofs.lemmas.Nat.{or_lt}
 use Rattle.csa_chain.specs.Chain.{link_in, link_address, is_area, area_word}
@@ -15,9 +15,8 @@ use Rattle.tc_isa.specs.declared.shapes.Shape.{Shape}
 use Rattle.tc_isa.specs.declared.shapes.Shape.TheVariants.{Compute, Scaled, Load, Store, Branch, Jump, Call, Ret, Rfe, Svlcx, Rslcx, Bisr, Enable, Disable, Syscall, Mfcr, Mtcr, Nothing}
 use Rattle.tc_isa.specs.Arithmetic.{alu_of, taken_of}
 use Rattle.tc_isa.specs.Insts.{InstData, IsInst}
-use Rattle.tc_isa.specs.Shapes.{shape_of}
 use Rattle.tc_encode.specs.Decoding.{decoded_of}
-use Rattle.tc_encode.specs.DecodeLaws.{DecodeLaws}
+use Rattle.tc_encode.proofs.DecodeProofs.{decode_laws}
 use Rattle.tc_encode.specs.declared.errors.DecodeErr.{DecodeErr}
 use Rattle.tc_machine.specs.declared.events.Cause.{Cause}
 use Rattle.tc_machine.specs.declared.events.Cause.TheVariants.{Fcd, Fcu, Csu, Ctyp, NoArea, NoCode}
@@ -27,11 +26,11 @@ use Rattle.tc_machine.specs.declared.events.Event.{Event}
 use Rattle.tc_machine.specs.Machine.{Machine, reg, with_reg, arg, a10, a11, is_of, handler_psw, with_status, moved, advanced, died, goes_on, then_}
 use Rattle.tc_machine.specs.Contexts.{context_of, saved, save, has_kind, last_context, released, restored, restore}
 use Rattle.tc_machine.specs.Fetching.{mapped_bytes, shaped, fetched, loaded, extended, with_bytes}
-use Rattle.tc_machine.specs.Instructions.{handler_stack, at_handler, interrupt, trap, access_address, with_base, traps_at, misaligned, icr_of, core_register, with_core_register, target_of, lowered, does}
+use Rattle.tc_machine.specs.Instructions.{handler_stack, at_handler, interrupt, trap, access_address, with_base, traps_at, misaligned, core_register, with_core_register, target_of, lowered, does}
 use Rattle.tc_machine.specs.Stepping.{is_taken, executed, done, step}
 use Rattle.tc_machine.specs.Safe.{AreRegisters, IsMachine}
 use Rattle.tc_machine.proofs.Saves.{moved-lt}
-use Rattle.tc_machine.proofs.ShapeWords.{IsArg, IsTarget, IsSize, IsShape, shape_of-suits}
+use Rattle.tc_machine.proofs.ShapeWords.{IsArg, IsTarget, IsShape, shape_of-suits}
 use Rattle.tc_machine.proofs.Words.{register_lt, AreRegisters-set, alu_lt, load_lt, HasBytes-with_bytes}
 
 abbrev IsWord : ℕ → Type 0
@@ -309,19 +308,19 @@ shaped-suits : (r : Result (InstData × ℕ) DecodeErr) → ((i : InstData) (n :
 shaped-suits (Ok found) h = shape_of-suits found.0 (h found.0 found.1 refl)
 shaped-suits (Err e) h = tt
 
-fetched-suits : DecodeLaws → (m : Machine) → IfShape (fetched m)
+fetched-suits : (m : Machine) → IfShape (fetched m)
 unfolding fetched
-fetched-suits laws m =
+fetched-suits m =
     let bytes = mapped_bytes 4 m.mem m.pc in
-    cond_both (m.pc % 2 == 0) (shaped (decoded_of bytes)) (Err NoCode) IfShape (λ _. shaped-suits (decoded_of bytes) (λ i n is. (laws.decoded bytes i n is).inst)) (λ _. tt)
+    cond_both (m.pc % 2 == 0) (shaped (decoded_of bytes)) (Err NoCode) IfShape (λ _. shaped-suits (decoded_of bytes) (λ i n is. (decode_laws.decoded bytes i n is).inst)) (λ _. tt)
 
 stays_executed : (m : Machine) → IsMachine m → (e : Event) → e.input < 2 ^ 32 → (r : Result (Shape × ℕ) Cause) → IfShape r → IsMachine (executed m e r)
 stays_executed m k e small (Ok found) h = stays_does m k e small found.0 found.1 h
 stays_executed m k e small (Err cause) h = stays_died m k cause
 
-stays_done : DecodeLaws → (m : Machine) → IsMachine m → (e : Event) → e.irq < 2 ^ 8 → e.input < 2 ^ 32 → IsMachine (done m e)
-stays_done laws m k e irq small =
-    cond_both (is_taken m e) (interrupt m e.irq) (executed m e (fetched m)) IsMachine (λ _. stays_interrupt m k e.irq irq) (λ _. stays_executed m k e small (fetched m) (fetched-suits laws m))
+stays_done : (m : Machine) → IsMachine m → (e : Event) → e.irq < 2 ^ 8 → e.input < 2 ^ 32 → IsMachine (done m e)
+stays_done m k e irq small =
+    cond_both (is_taken m e) (interrupt m e.irq) (executed m e (fetched m)) IsMachine (λ _. stays_interrupt m k e.irq irq) (λ _. stays_executed m k e small (fetched m) (fetched-suits m))
 
 with_status-lt : (psw status : ℕ) → status < 2 ^ 8 → with_status psw status < 2 ^ 32
 with_status-lt psw status h = omega arith
@@ -329,7 +328,7 @@ with_status-lt psw status h = omega arith
 stays_status : (m : Machine) → IsMachine m → (status : ℕ) → status < 2 ^ 8 → IsMachine (record m { psw = with_status m.psw status })
 stays_status m k status small = record { d = k.d; a = k.a; pc = k.pc; psw = with_status-lt m.psw status small; pcxi = k.pcxi; fcx = k.fcx; lcx = k.lcx; ccpn = k.ccpn; biv = k.biv; btv = k.btv; isp = k.isp; bytes = k.bytes }
 
-pub stays_step : DecodeLaws → (m : Machine) (e : Event) → IsMachine m → e.irq < 2 ^ 8 → e.input < 2 ^ 32 → e.status < 2 ^ 8 → IsMachine (step m e)
+pub stays_step : (m : Machine) (e : Event) → IsMachine m → e.irq < 2 ^ 8 → e.input < 2 ^ 32 → e.status < 2 ^ 8 → IsMachine (step m e)
 unfolding step
-stays_step laws m e k irq input status =
-    stays_then m k _ (λ n kn. stays_then (done n e) (stays_done laws n kn e irq input) _ (λ r kr. stays_status r kr e.status status))
+stays_step m e k irq input status =
+    stays_then m k _ (λ n kn. stays_then (done n e) (stays_done n kn e irq input) _ (λ r kr. stays_status r kr e.status status))

@@ -1,5 +1,5 @@
 -- One step at a time: what an event of a running machine does, and what some instructions do.
-use Rattle.std.proofs.Common.{◌≡◌, ℕ, ◌/◌, ◌*◌, Bool, true, false, cond, set, Result, Ok, Option, None, refl, ap, ◌∙◌}
+use Rattle.std.proofs.Common.{◌≡◌, ℕ, ◌/◌, ◌*◌, true, false, cond, set, Result, Ok, None, refl, ap, ◌∙◌}
 use Rattle.tc_isa.specs.declared.shapes.Target.{Target}
 use Rattle.tc_isa.specs.declared.shapes.Shape.{Shape}
 use Rattle.tc_isa.specs.declared.shapes.Shape.TheVariants.{Call, Jump, Ret, Nothing}

@@ -1,4 +1,3 @@
-use Rattle.tc_encode.proofs.DecodeProofs.{decode_laws}
 use Rattle.tc_machine.proofs.Saves.{save-is, restore-is}
 use Rattle.tc_machine.proofs.Fetched.{fetched-is}
 use Rattle.tc_machine.proofs.Areas.{whole_at_start}
@@ -10,7 +9,7 @@ pub returns-clause-start : goal.returns-clause-start
 returns-clause-start c = whole_at_start
 
 pub returns-clause-fetch : goal.returns-clause-fetch
-returns-clause-fetch c = λ image plan m bytes inst ok rom even spells. fetched-is decode_laws image ok m rom even bytes inst spells
+returns-clause-fetch c = λ image plan m bytes inst ok rom even spells. fetched-is image ok m rom even bytes inst spells
 
 pub returns-clause-save : goal.returns-clause-save
 returns-clause-save c = save-is
@@ -22,4 +21,4 @@ pub returns-clause-does : goal.returns-clause-does
 returns-clause-does c = step_does
 
 pub returns-clause-stays : goal.returns-clause-stays
-returns-clause-stays c = stays_step decode_laws
+returns-clause-stays c = stays_step
