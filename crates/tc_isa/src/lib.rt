@@ -1,14 +1,18 @@
 //! The instruction table: rows, instructions and what they do.
 #![tactic(auto)]
 
+mod arithmetic;
 mod bounds;
 mod fields;
 mod instruction;
 mod making;
+mod meaning;
+mod meanings;
 mod shapes;
 mod table;
 mod used;
 
+pub use arithmetic::{alu, taken};
 pub use fields::{Fields, Uses};
 pub use instruction::Inst;
 pub use making::inst;

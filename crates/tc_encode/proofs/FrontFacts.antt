@@ -1,12 +1,12 @@
 -- Bytes that are the front of a spelling go on as the row's least spelling.
-use Rattle.std.proofs.Common.{◌≡◌, ◌≢◌, ◌+◌, ◌-◌, ◌*◌, ◌/◌, ◌%◌, ◌^◌, ◌<◌, ◌≤◌, ℕ, zero, suc, Bool, true, false, List, [], ◌∷◌, ◌++◌, length, take, drop, refl, sym, ap, subst, ◌∙◌, arith, length-append, length-drop}
-use Rattle.std.specs.Prelude.{nat_lt, ◌&&◌, if◌then◌else◌}
+use Rattle.std.proofs.Common.{◌≡◌, ◌≢◌, ◌+◌, ◌*◌, ◌/◌, ◌%◌, ◌^◌, ◌<◌, ◌≤◌, ℕ, zero, suc, Bool, true, false, List, [], ◌∷◌, ◌++◌, length, take, drop, refl, sym, ap, subst, ◌∙◌, arith, length-append}
+use Rattle.std.specs.Prelude.{if◌then◌else◌}
 use Rattle.std.proofs.lemmas.Bool.{and_parts, and_from, ltb-true, lt-ltb}
 use Rattle.std.proofs.lemmas.List.{take_at, append-nil}
 use Rattle.tc_isa.specs.declared.fields.Fields.{Fields}
 use Rattle.tc_isa.specs.Rows.{RowData}
-use Rattle.tc_isa.specs.Words.{mix, span}
-use Rattle.tc_isa.specs.Codec.{Fits, IsRow, word_of, is_long, least, spelled, spelling, two_bytes, four_bytes}
+use Rattle.tc_encode.specs.Finding.{mix}
+use Rattle.tc_isa.specs.Codec.{Fits, IsRow, word_of, is_long, least, spelled, spelling}
 use Rattle.tc_encode.specs.Decoding.{size_of, begins_with, goes_on_as}
 use Rattle.tc_encode.proofs.Complete.{completed}
 use Rattle.tc_encode.proofs.Spelled.{begins_here, size_spelling}
@@ -48,7 +48,7 @@ gone_on r f zero row fits short = least_goes_on r row
 gone_on r f (suc n) row fits short =
     let x = completed r (suc n) f row fits (omega arith) (omega (arith, size_small (is_long r))) in
     let is : spelling r x.0 ≡ take (suc n) (spelling r f) ++ drop (suc n) (spelling r (least r)) =
-      ap (spelled (is_long r)) x.2 ∙ mixed_bytes (is_long r) (suc n) (word_of r f) (word_of r (least r)) (omega arith) short in
+    ap (spelled (is_long r)) x.2 ∙ mixed_bytes (is_long r) (suc n) (word_of r f) (word_of r (least r)) (omega arith) short in
     subst (λ bs. begins_with bs r ≡ true) (append-nil (spelling r x.0) ∙ is) (begins_here r x.0 [] row x.1)
 
 has_some : (rest : List ℕ) → rest ≢ [] → 1 ≤ length rest
