@@ -85,434 +85,156 @@ code_place_lt f = omega arith
 abbrev Suits : Line → Type 0
 Suits l = (f : Fields) → f.k < 2 ^ 32 → IsShape (l.shape f)
 
+-- the fact of a row, and those of the rows after it
+infixr 20 ◌&◌
+◌&◌ : {A B : Type 0} → A → B → A × B
+a & b = (a, b)
+
 all_suit : AllByRecursion Suits meanings
-all_suit = (
-  λ f s. (tt, sk_16_lt f),
-  (
-    λ f s. (tt, high_lt f),
-    (
-      λ f s. (tt, high_lt f),
-      (
-        λ f s. (zero_lt, sk_16_lt f),
-        (
-          λ f s. (zero_lt, s),
-          (
-            λ f s. (zero_lt, high_lt f),
-            (
-              λ f s. (zero_lt, high_lt f),
-              (
-                λ f s. tt,
-                (
-                  λ f s. tt,
-                  (
-                    λ f s. (tt, tt),
-                    (
-                      λ f s. (tt, tt),
-                      (
-                        λ f s. (tt, tt),
-                        (
-                          λ f s. (tt, tt),
-                          (
-                            λ f s. (tt, tt),
-                            (
-                              λ f s. (tt, tt),
-                              (
-                                λ f s. (tt, tt),
-                                (
-                                  λ f s. (tt, tt),
-                                  (
-                                    λ f s. (zero_lt, tt),
-                                    (
-                                      λ f s. (tt, tt),
-                                      (
-                                        λ f s. (tt, tt),
-                                        (
-                                          λ f s. (tt, tt),
-                                          (
-                                            λ f s. (tt, tt),
-                                            (
-                                              λ f s. (tt, tt),
-                                              (
-                                                λ f s. (tt, tt),
-                                                (
-                                                  λ f s. (tt, tt),
-                                                  (
-                                                    λ f s. (tt, tt),
-                                                    (
-                                                      λ f s. (tt, tt),
-                                                      (
-                                                        λ f s. (tt, tt),
-                                                        (
-                                                          λ f s. (tt, sk_9_lt f),
-                                                          (
-                                                            λ f s. (sk_9_lt f, tt),
-                                                            (
-                                                              λ f s. (tt, sk_9_lt f),
-                                                              (
-                                                                λ f s. (tt, sk_9_lt f),
-                                                                (
-                                                                  λ f s. (tt, sk_9_lt f),
-                                                                  (
-                                                                    λ f s. (tt, s),
-                                                                    (
-                                                                      λ f s. (tt, sk_9_lt f),
-                                                                      (
-                                                                        λ f s. (tt, s),
-                                                                        (
-                                                                          λ f s. (tt, sk_9_lt f),
-                                                                          (
-                                                                            λ f s. (tt, sk_9_lt f),
-                                                                            (
-                                                                              λ f s. (tt, s),
-                                                                              (
-                                                                                λ f s. (tt, s),
-                                                                                (
-                                                                                  λ f s. (tt, s),
-                                                                                  (
-                                                                                    λ f s. low_byte (uk f),
-                                                                                    (
-                                                                                      λ f s. low_word (uk f),
-                                                                                      (
-                                                                                        λ f s. (zero_lt, tt),
-                                                                                        (
-                                                                                          λ f s. (tt, tt),
-                                                                                          (
-                                                                                            λ f s. (tt, tt),
-                                                                                            (
-                                                                                              λ f s. (zero_lt, tt),
-                                                                                              (
-                                                                                                λ f s. tt,
-                                                                                                (
-                                                                                                  λ f s. (zero_lt, tt),
-                                                                                                  (
-                                                                                                    λ f s. tt,
-                                                                                                    (
-                                                                                                      λ f s. tt,
-                                                                                                      (
-                                                                                                        λ f s. tt,
-                                                                                                        (
-                                                                                                          λ f s. tt,
-                                                                                                          (
-                                                                                                            λ f s. tt,
-                                                                                                            (
-                                                                                                              λ f s. tt,
-                                                                                                              (
-                                                                                                                λ f s. tt,
-                                                                                                                (
-                                                                                                                  λ f s. tt,
-                                                                                                                  (
-                                                                                                                    λ f s. tt,
-                                                                                                                    (
-                                                                                                                      λ f s. tt,
-                                                                                                                      (
-                                                                                                                        λ f s. tt,
-                                                                                                                        (
-                                                                                                                          λ f s. size_1,
-                                                                                                                          (
-                                                                                                                            λ f s. size_1,
-                                                                                                                            (
-                                                                                                                              λ f s. size_2,
-                                                                                                                              (
-                                                                                                                                λ f s. size_2,
-                                                                                                                                (
-                                                                                                                                  λ f s. size_4,
-                                                                                                                                  (
-                                                                                                                                    λ f s. size_4,
-                                                                                                                                    (
-                                                                                                                                      λ f s. size_1,
-                                                                                                                                      (
-                                                                                                                                        λ f s. size_1,
-                                                                                                                                        (
-                                                                                                                                          λ f s. size_2,
-                                                                                                                                          (
-                                                                                                                                            λ f s. size_2,
-                                                                                                                                            (
-                                                                                                                                              λ f s. size_4,
-                                                                                                                                              (
-                                                                                                                                                λ f s. size_4,
-                                                                                                                                                (
-                                                                                                                                                  λ f s. tt,
-                                                                                                                                                  (
-                                                                                                                                                    λ f s. tt,
-                                                                                                                                                    (
-                                                                                                                                                      λ f s. tt,
-                                                                                                                                                      (
-                                                                                                                                                        λ f s. tt,
-                                                                                                                                                        (
-                                                                                                                                                          λ f s. tt,
-                                                                                                                                                          (
-                                                                                                                                                            λ f s. tt,
-                                                                                                                                                            (
-                                                                                                                                                              λ f s. tt,
-                                                                                                                                                              (
-                                                                                                                                                                λ f s. tt,
-                                                                                                                                                                (
-                                                                                                                                                                  λ f s. (tt, sk_10_lt f),
-                                                                                                                                                                  (
-                                                                                                                                                                    λ f s. size_4,
-                                                                                                                                                                    (
-                                                                                                                                                                      λ f s. size_4,
-                                                                                                                                                                      (
-                                                                                                                                                                        λ f s. tt,
-                                                                                                                                                                        (
-                                                                                                                                                                          λ f s. (tt, sk_16_lt f),
-                                                                                                                                                                          (
-                                                                                                                                                                            λ f s. size_4,
-                                                                                                                                                                            (
-                                                                                                                                                                              λ f s. size_4,
-                                                                                                                                                                              (
-                                                                                                                                                                                λ f s. tt,
-                                                                                                                                                                                (
-                                                                                                                                                                                  λ f s. tt,
-                                                                                                                                                                                  (
-                                                                                                                                                                                    λ f s. (zero_lt, place_lt f),
-                                                                                                                                                                                    (
-                                                                                                                                                                                      λ f s. tt,
-                                                                                                                                                                                      (
-                                                                                                                                                                                        λ f s. tt,
-                                                                                                                                                                                        (
-                                                                                                                                                                                          λ f s. tt,
-                                                                                                                                                                                          (
-                                                                                                                                                                                            λ f s. tt,
-                                                                                                                                                                                            (
-                                                                                                                                                                                              λ f s. tt,
-                                                                                                                                                                                              (
-                                                                                                                                                                                                λ f s. tt,
-                                                                                                                                                                                                (
-                                                                                                                                                                                                  λ f s. tt,
-                                                                                                                                                                                                  (
-                                                                                                                                                                                                    λ f s. tt,
-                                                                                                                                                                                                    (
-                                                                                                                                                                                                      λ f s. tt,
-                                                                                                                                                                                                      (
-                                                                                                                                                                                                        λ f s. tt,
-                                                                                                                                                                                                        (
-                                                                                                                                                                                                          λ f s. tt,
-                                                                                                                                                                                                          (
-                                                                                                                                                                                                            λ f s. tt,
-                                                                                                                                                                                                            (
-                                                                                                                                                                                                              λ f s. tt,
-                                                                                                                                                                                                              (
-                                                                                                                                                                                                                λ f s. tt,
-                                                                                                                                                                                                                (
-                                                                                                                                                                                                                  λ f s. tt,
-                                                                                                                                                                                                                  (
-                                                                                                                                                                                                                    λ f s. tt,
-                                                                                                                                                                                                                    (
-                                                                                                                                                                                                                      λ f s. tt,
-                                                                                                                                                                                                                      (
-                                                                                                                                                                                                                        λ f s. tt,
-                                                                                                                                                                                                                        (
-                                                                                                                                                                                                                          λ f s. code_place_lt f,
-                                                                                                                                                                                                                          (
-                                                                                                                                                                                                                            λ f s. tt,
-                                                                                                                                                                                                                            (
-                                                                                                                                                                                                                              λ f s. code_place_lt f,
-                                                                                                                                                                                                                              (
-                                                                                                                                                                                                                                λ f s. tt,
-                                                                                                                                                                                                                                (
-                                                                                                                                                                                                                                  λ f s. tt,
-                                                                                                                                                                                                                                  (
-                                                                                                                                                                                                                                    λ f s. tt,
-                                                                                                                                                                                                                                    (
-                                                                                                                                                                                                                                      λ f s. tt,
-                                                                                                                                                                                                                                      (
-                                                                                                                                                                                                                                        λ f s. low_byte (uk f),
-                                                                                                                                                                                                                                        (
-                                                                                                                                                                                                                                          λ f s. (zero_lt, s),
-                                                                                                                                                                                                                                          (
-                                                                                                                                                                                                                                            λ f s. (tt, s),
-                                                                                                                                                                                                                                            (
-                                                                                                                                                                                                                                              λ f s. tt,
-                                                                                                                                                                                                                                              (
-                                                                                                                                                                                                                                                λ f s. tt,
-                                                                                                                                                                                                                                                (
-                                                                                                                                                                                                                                                  λ f s. tt,
-                                                                                                                                                                                                                                                  (
-                                                                                                                                                                                                                                                    λ f s. tt,
-                                                                                                                                                                                                                                                    (
-                                                                                                                                                                                                                                                      λ f s. tt,
-                                                                                                                                                                                                                                                      (
-                                                                                                                                                                                                                                                        λ f s. tt,
-                                                                                                                                                                                                                                                        (
-                                                                                                                                                                                                                                                          λ f s. (zero_lt, tt),
-                                                                                                                                                                                                                                                          (
-                                                                                                                                                                                                                                                            λ f s. (tt, tt),
-                                                                                                                                                                                                                                                            (
-                                                                                                                                                                                                                                                              λ f s. (tt, tt),
-                                                                                                                                                                                                                                                              (
-                                                                                                                                                                                                                                                                λ f s. (tt, tt),
-                                                                                                                                                                                                                                                                (
-                                                                                                                                                                                                                                                                  λ f s. (tt, tt),
-                                                                                                                                                                                                                                                                  (
-                                                                                                                                                                                                                                                                    λ f s. (tt, tt),
-                                                                                                                                                                                                                                                                    (
-                                                                                                                                                                                                                                                                      λ f s. (zero_lt, tt),
-                                                                                                                                                                                                                                                                      (
-                                                                                                                                                                                                                                                                        λ f s. (zero_lt, tt),
-                                                                                                                                                                                                                                                                        (
-                                                                                                                                                                                                                                                                          λ f s. (zero_lt, tt),
-                                                                                                                                                                                                                                                                          (
-                                                                                                                                                                                                                                                                            λ f s. (tt, tt),
-                                                                                                                                                                                                                                                                            (
-                                                                                                                                                                                                                                                                              λ f s. (zero_lt, sk_4_lt f),
-                                                                                                                                                                                                                                                                              (
-                                                                                                                                                                                                                                                                                λ f s. (tt, sk_4_lt f),
-                                                                                                                                                                                                                                                                                (
-                                                                                                                                                                                                                                                                                  λ f s. (zero_lt, s),
-                                                                                                                                                                                                                                                                                  (
-                                                                                                                                                                                                                                                                                    λ f s. (tt, sk_4_lt f),
-                                                                                                                                                                                                                                                                                    (
-                                                                                                                                                                                                                                                                                      λ f s. size_4,
-                                                                                                                                                                                                                                                                                      (
-                                                                                                                                                                                                                                                                                        λ f s. size_4,
-                                                                                                                                                                                                                                                                                        (
-                                                                                                                                                                                                                                                                                          λ f s. tt,
-                                                                                                                                                                                                                                                                                          (
-                                                                                                                                                                                                                                                                                            λ f s. tt,
-                                                                                                                                                                                                                                                                                            tt,
-                                                                                                                                                                                                                                                                                          ),
-                                                                                                                                                                                                                                                                                        ),
-                                                                                                                                                                                                                                                                                      ),
-                                                                                                                                                                                                                                                                                    ),
-                                                                                                                                                                                                                                                                                  ),
-                                                                                                                                                                                                                                                                                ),
-                                                                                                                                                                                                                                                                              ),
-                                                                                                                                                                                                                                                                            ),
-                                                                                                                                                                                                                                                                          ),
-                                                                                                                                                                                                                                                                        ),
-                                                                                                                                                                                                                                                                      ),
-                                                                                                                                                                                                                                                                    ),
-                                                                                                                                                                                                                                                                  ),
-                                                                                                                                                                                                                                                                ),
-                                                                                                                                                                                                                                                              ),
-                                                                                                                                                                                                                                                            ),
-                                                                                                                                                                                                                                                          ),
-                                                                                                                                                                                                                                                        ),
-                                                                                                                                                                                                                                                      ),
-                                                                                                                                                                                                                                                    ),
-                                                                                                                                                                                                                                                  ),
-                                                                                                                                                                                                                                                ),
-                                                                                                                                                                                                                                              ),
-                                                                                                                                                                                                                                            ),
-                                                                                                                                                                                                                                          ),
-                                                                                                                                                                                                                                        ),
-                                                                                                                                                                                                                                      ),
-                                                                                                                                                                                                                                    ),
-                                                                                                                                                                                                                                  ),
-                                                                                                                                                                                                                                ),
-                                                                                                                                                                                                                              ),
-                                                                                                                                                                                                                            ),
-                                                                                                                                                                                                                          ),
-                                                                                                                                                                                                                        ),
-                                                                                                                                                                                                                      ),
-                                                                                                                                                                                                                    ),
-                                                                                                                                                                                                                  ),
-                                                                                                                                                                                                                ),
-                                                                                                                                                                                                              ),
-                                                                                                                                                                                                            ),
-                                                                                                                                                                                                          ),
-                                                                                                                                                                                                        ),
-                                                                                                                                                                                                      ),
-                                                                                                                                                                                                    ),
-                                                                                                                                                                                                  ),
-                                                                                                                                                                                                ),
-                                                                                                                                                                                              ),
-                                                                                                                                                                                            ),
-                                                                                                                                                                                          ),
-                                                                                                                                                                                        ),
-                                                                                                                                                                                      ),
-                                                                                                                                                                                    ),
-                                                                                                                                                                                  ),
-                                                                                                                                                                                ),
-                                                                                                                                                                              ),
-                                                                                                                                                                            ),
-                                                                                                                                                                          ),
-                                                                                                                                                                        ),
-                                                                                                                                                                      ),
-                                                                                                                                                                    ),
-                                                                                                                                                                  ),
-                                                                                                                                                                ),
-                                                                                                                                                              ),
-                                                                                                                                                            ),
-                                                                                                                                                          ),
-                                                                                                                                                        ),
-                                                                                                                                                      ),
-                                                                                                                                                    ),
-                                                                                                                                                  ),
-                                                                                                                                                ),
-                                                                                                                                              ),
-                                                                                                                                            ),
-                                                                                                                                          ),
-                                                                                                                                        ),
-                                                                                                                                      ),
-                                                                                                                                    ),
-                                                                                                                                  ),
-                                                                                                                                ),
-                                                                                                                              ),
-                                                                                                                            ),
-                                                                                                                          ),
-                                                                                                                        ),
-                                                                                                                      ),
-                                                                                                                    ),
-                                                                                                                  ),
-                                                                                                                ),
-                                                                                                              ),
-                                                                                                            ),
-                                                                                                          ),
-                                                                                                        ),
-                                                                                                      ),
-                                                                                                    ),
-                                                                                                  ),
-                                                                                                ),
-                                                                                              ),
-                                                                                            ),
-                                                                                          ),
-                                                                                        ),
-                                                                                      ),
-                                                                                    ),
-                                                                                  ),
-                                                                                ),
-                                                                              ),
-                                                                            ),
-                                                                          ),
-                                                                        ),
-                                                                      ),
-                                                                    ),
-                                                                  ),
-                                                                ),
-                                                              ),
-                                                            ),
-                                                          ),
-                                                        ),
-                                                      ),
-                                                    ),
-                                                  ),
-                                                ),
-                                              ),
-                                            ),
-                                          ),
-                                        ),
-                                      ),
-                                    ),
-                                  ),
-                                ),
-                              ),
-                            ),
-                          ),
-                        ),
-                      ),
-                    ),
-                  ),
-                ),
-              ),
-            ),
-          ),
-        ),
-      ),
-    ),
-  ),
-)
+all_suit =
+    (λ f s. (tt, sk_16_lt f)) &
+    (λ f s. (tt, high_lt f)) &
+    (λ f s. (tt, high_lt f)) &
+    (λ f s. (zero_lt, sk_16_lt f)) &
+    (λ f s. (zero_lt, s)) &
+    (λ f s. (zero_lt, high_lt f)) &
+    (λ f s. (zero_lt, high_lt f)) &
+    (λ f s. tt) &
+    (λ f s. tt) &
+    (λ f s. (tt, tt)) &
+    (λ f s. (tt, tt)) &
+    (λ f s. (tt, tt)) &
+    (λ f s. (tt, tt)) &
+    (λ f s. (tt, tt)) &
+    (λ f s. (tt, tt)) &
+    (λ f s. (tt, tt)) &
+    (λ f s. (tt, tt)) &
+    (λ f s. (zero_lt, tt)) &
+    (λ f s. (tt, tt)) &
+    (λ f s. (tt, tt)) &
+    (λ f s. (tt, tt)) &
+    (λ f s. (tt, tt)) &
+    (λ f s. (tt, tt)) &
+    (λ f s. (tt, tt)) &
+    (λ f s. (tt, tt)) &
+    (λ f s. (tt, tt)) &
+    (λ f s. (tt, tt)) &
+    (λ f s. (tt, tt)) &
+    (λ f s. (tt, sk_9_lt f)) &
+    (λ f s. (sk_9_lt f, tt)) &
+    (λ f s. (tt, sk_9_lt f)) &
+    (λ f s. (tt, sk_9_lt f)) &
+    (λ f s. (tt, sk_9_lt f)) &
+    (λ f s. (tt, s)) &
+    (λ f s. (tt, sk_9_lt f)) &
+    (λ f s. (tt, s)) &
+    (λ f s. (tt, sk_9_lt f)) &
+    (λ f s. (tt, sk_9_lt f)) &
+    (λ f s. (tt, s)) &
+    (λ f s. (tt, s)) &
+    (λ f s. (tt, s)) &
+    (λ f s. low_byte (uk f)) &
+    (λ f s. low_word (uk f)) &
+    (λ f s. (zero_lt, tt)) &
+    (λ f s. (tt, tt)) &
+    (λ f s. (tt, tt)) &
+    (λ f s. (zero_lt, tt)) &
+    (λ f s. tt) &
+    (λ f s. (zero_lt, tt)) &
+    (λ f s. tt) &
+    (λ f s. tt) &
+    (λ f s. tt) &
+    (λ f s. tt) &
+    (λ f s. tt) &
+    (λ f s. tt) &
+    (λ f s. tt) &
+    (λ f s. tt) &
+    (λ f s. tt) &
+    (λ f s. tt) &
+    (λ f s. tt) &
+    (λ f s. size_1) &
+    (λ f s. size_1) &
+    (λ f s. size_2) &
+    (λ f s. size_2) &
+    (λ f s. size_4) &
+    (λ f s. size_4) &
+    (λ f s. size_1) &
+    (λ f s. size_1) &
+    (λ f s. size_2) &
+    (λ f s. size_2) &
+    (λ f s. size_4) &
+    (λ f s. size_4) &
+    (λ f s. tt) &
+    (λ f s. tt) &
+    (λ f s. tt) &
+    (λ f s. tt) &
+    (λ f s. tt) &
+    (λ f s. tt) &
+    (λ f s. tt) &
+    (λ f s. tt) &
+    (λ f s. (tt, sk_10_lt f)) &
+    (λ f s. size_4) &
+    (λ f s. size_4) &
+    (λ f s. tt) &
+    (λ f s. (tt, sk_16_lt f)) &
+    (λ f s. size_4) &
+    (λ f s. size_4) &
+    (λ f s. tt) &
+    (λ f s. tt) &
+    (λ f s. (zero_lt, place_lt f)) &
+    (λ f s. tt) &
+    (λ f s. tt) &
+    (λ f s. tt) &
+    (λ f s. tt) &
+    (λ f s. tt) &
+    (λ f s. tt) &
+    (λ f s. tt) &
+    (λ f s. tt) &
+    (λ f s. tt) &
+    (λ f s. tt) &
+    (λ f s. tt) &
+    (λ f s. tt) &
+    (λ f s. tt) &
+    (λ f s. tt) &
+    (λ f s. tt) &
+    (λ f s. tt) &
+    (λ f s. tt) &
+    (λ f s. tt) &
+    (λ f s. code_place_lt f) &
+    (λ f s. tt) &
+    (λ f s. code_place_lt f) &
+    (λ f s. tt) &
+    (λ f s. tt) &
+    (λ f s. tt) &
+    (λ f s. tt) &
+    (λ f s. low_byte (uk f)) &
+    (λ f s. (zero_lt, s)) &
+    (λ f s. (tt, s)) &
+    (λ f s. tt) &
+    (λ f s. tt) &
+    (λ f s. tt) &
+    (λ f s. tt) &
+    (λ f s. tt) &
+    (λ f s. tt) &
+    (λ f s. (zero_lt, tt)) &
+    (λ f s. (tt, tt)) &
+    (λ f s. (tt, tt)) &
+    (λ f s. (tt, tt)) &
+    (λ f s. (tt, tt)) &
+    (λ f s. (tt, tt)) &
+    (λ f s. (zero_lt, tt)) &
+    (λ f s. (zero_lt, tt)) &
+    (λ f s. (zero_lt, tt)) &
+    (λ f s. (tt, tt)) &
+    (λ f s. (zero_lt, sk_4_lt f)) &
+    (λ f s. (tt, sk_4_lt f)) &
+    (λ f s. (zero_lt, s)) &
+    (λ f s. (tt, sk_4_lt f)) &
+    (λ f s. size_4) &
+    (λ f s. size_4) &
+    (λ f s. tt) &
+    (λ f s. tt) &
+    tt
 
 at_place : (P : Line → Type 0) (ls : List Line) (i : ℕ) (l : Line) → AllByRecursion P ls → slice_get ls i ≡ Some l → P l
 at_place P [] i l h e = cc

@@ -1,6 +1,8 @@
 -- Every step keeps the bounds of a machine's registers and bytes.
-use Rattle.std.proofs.Common.{◌≡◌, ℕ, ◌+◌, ◌-◌, ◌*◌, ◌/◌, ◌%◌, ◌^◌, ◌<◌, Bool, true, false, cond, List, [], ◌∷◌, get_or, set, Result, Ok, Err, refl, arith, bit_or, ◌==◌, nat_lt}
-use Rattle.std.proofs.lemmas.Bool.{cond_both}
+use Rattle.std.proofs.Common.{◌≡◌, ℕ, ◌+◌, ◌-◌, ◌*◌, ◌/◌, ◌%◌, ◌^◌, ◌<◌, Bool, true, false, cond, List, [], ◌∷◌, get_or, set, Result, Ok, Err, refl, arith, bit_or, ◌==◌, nat_lt, ◌&&◌, inl, inr, subst}
+use Rattle.std.proofs.lemmas.Bool.{cond_both, and_parts, ltb-true}
+use Rattle.std.proofs.lemmas.List.Sums.{AllPass-from_list_all}
+use Rattle.tcd_plan.specs.PlanData.{PlanData, IsPlan}
 use Rattle.std.proofs.lemmas.Nat.{or_lt}
 use Rattle.csa_chain.specs.Chain.{link_in, link_address, is_area, area_word}
 use Rattle.csa_chain.specs.MemoryChanges.{HasWords}
@@ -27,8 +29,8 @@ use Rattle.tc_machine.specs.Machine.{Machine, reg, with_reg, arg, a10, a11, is_o
 use Rattle.tc_machine.specs.Contexts.{context_of, saved, save, has_kind, last_context, released, restored, restore}
 use Rattle.tc_machine.specs.Fetching.{mapped_bytes, shaped, fetched, loaded, extended, with_bytes}
 use Rattle.tc_machine.specs.Instructions.{handler_stack, at_handler, interrupt, trap, access_address, with_base, traps_at, misaligned, core_register, with_core_register, target_of, lowered, does}
-use Rattle.tc_machine.specs.Stepping.{is_taken, executed, done, step}
-use Rattle.tc_machine.specs.Safe.{AreRegisters, IsMachine}
+use Rattle.tc_machine.specs.Stepping.{is_taken, executed, done, step, run}
+use Rattle.tc_machine.specs.Safe.{AreRegisters, IsMachine, Fits, AllFit}
 use Rattle.tc_machine.proofs.Saves.{moved-lt}
 use Rattle.tc_machine.proofs.ShapeWords.{IsArg, IsTarget, IsShape, shape_of-suits}
 use Rattle.tc_machine.proofs.Words.{register_lt, AreRegisters-set, alu_lt, load_lt, HasBytes-with_bytes}
@@ -332,3 +334,19 @@ pub stays_step : (m : Machine) (e : Event) → IsMachine m → e.irq < 2 ^ 8 →
 unfolding step
 stays_step m e k irq input status =
     stays_then m k _ (λ n kn. stays_then (done n e) (stays_done n kn e irq input) _ (λ r kr. stays_status r kr e.status status))
+
+-- ---- runs
+one_irq : (q : ℕ) → (nat_lt 0 q && nat_lt q (2 ^ 8)) ≡ true → q < 2 ^ 8
+one_irq q h = ltb-true q (2 ^ 8) (and_parts (nat_lt 0 q) (nat_lt q (2 ^ 8)) h).1
+
+-- the interrupt of an event that fits has 8 bits
+pub irq_lt : {plan : PlanData} → IsPlan plan → (m : Machine) (e : Event) → Fits plan m e → e.irq < 2 ^ 8
+irq_lt {plan = plan} ok m e fits =
+    elim fits.irq [
+      | inl none ↦ omega arith
+      | inr c ↦ subst (λ q. q < 2 ^ 8) c.2 (one_irq _ (AllPass-from_list_all (λ q. nat_lt 0 q && nat_lt q (2 ^ 8)) plan.irqs (ok.irqs).each c.0 e.irq c.1))
+    ]
+
+pub stays_run : {plan : PlanData} → IsPlan plan → (m : Machine) (es : List Event) → IsMachine m → AllFit plan m es → IsMachine (run m es)
+stays_run ok m [] k fits = k
+stays_run ok m (e ∷ es) k fits = stays_run ok (step m e) es (stays_step m e k (irq_lt ok m e fits.0) fits.0.input fits.0.status) fits.1

@@ -12,8 +12,8 @@ use Rattle.tc_machine.specs.Machine.{Machine, with_status}
 use Rattle.tc_machine.specs.Contexts.{saved, save, has_kind, restored, restore}
 use Rattle.tc_machine.specs.Fetching.{fetched}
 use Rattle.tc_machine.specs.Instructions.{does}
-use Rattle.tc_machine.specs.Stepping.{is_taken, step}
-use Rattle.tc_machine.specs.Safe.{IsMachine, Starts, HoldsRom, SpellsAt, ChainsAreWhole}
+use Rattle.tc_machine.specs.Stepping.{is_taken, step, run}
+use Rattle.tc_machine.specs.Safe.{IsMachine, Starts, AllFit, HoldsRom, SpellsAt, ChainsAreWhole}
 
 -- in a start state all areas are free
 abbrev pub StartsWhole : Type 0
@@ -44,3 +44,7 @@ StepDoes =
 -- a step leaves words in the registers and bytes in the memory
 abbrev pub StepStays : Type 0
 StepStays = (m : Machine) (e : Event) → IsMachine m → e.irq < 2 ^ 8 → e.input < 2 ^ 32 → e.status < 2 ^ 8 → IsMachine (step m e)
+
+-- and so does every run from a start state, under events that fit
+abbrev pub RunStays : Type 0
+RunStays = (image : ImageData) (plan : PlanData) (m : Machine) (es : List Event) → IsPlan plan → Starts image plan m → AllFit plan m es → IsMachine (run m es)
