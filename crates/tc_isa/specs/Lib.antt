@@ -7,3 +7,4 @@ pub mod Arithmetic
 pub mod Shapes
 pub mod Writes
 pub mod Meanings
+pub mod Bounded

@@ -22,11 +22,13 @@ use Rattle.tc_isa.specs.declared.shapes.Shape.TheVariants.{Compute, Scaled, Load
 use Rattle.tc_isa.specs.Arithmetic.{sign_extended}
 use Rattle.tc_isa.specs.Shapes.{d, a, sk, uk, high, place, code_place, ahead, ahead_only}
 
--- register fields are below 16
+-- register fields have four bits, n two, and k at most 24
 pub record AreSmall (f : Fields) : Type 0 where
   pub c : f.c < 16
   pub s1 : f.s1 < 16
   pub s2 : f.s2 < 16
+  pub n : f.n < 4
+  pub k : f.k < 2 ^ 24
 
 abbrev pub register_of : Place → Fields → ℕ
 register_of Dc f = d f.c

@@ -9,12 +9,16 @@ mod making;
 mod meaning;
 mod meanings;
 mod shapes;
+mod shaping;
 mod table;
 mod used;
+mod writing;
 
 pub use arithmetic::{alu, taken};
 pub use fields::{Fields, Uses};
 pub use instruction::Inst;
 pub use making::inst;
 pub use shapes::{Arg, Cond, Op, Shape, Target};
+pub use shaping::{shape, shape_laws};
 pub use table::{Form, Row, rows};
+pub use writing::writes;
