@@ -55,6 +55,10 @@ irq_of q = unwrap_or (number_of q) 0
 abbrev pub core_of : Data → Core
 core_of d = if passes (is_text (codes "1.6")) (get (codes "core") d) then V16 else V13
 
+-- the words of A0, A1, A8 and A9
+abbrev pub globals_of : Data → List ℕ
+globals_of d = map (λ name. word_in (codes "globals") name d) (codes "a0" ∷ codes "a1" ∷ codes "a8" ∷ codes "a9" ∷ [])
+
 -- what the document tells, where nothing is refused
 unfoldable pub told_by : Data → PlanData
 told_by d = record {
@@ -74,7 +78,7 @@ told_by d = record {
   start_ie = word_in (codes "start") (codes "ie") d == 1;
   start_ccpn = word_in (codes "start") (codes "ccpn") d;
   start_is = word_in (codes "start") (codes "is") d == 1;
-  globals = word_in (codes "globals") (codes "a0") d ∷ word_in (codes "globals") (codes "a1") d ∷ word_in (codes "globals") (codes "a8") d ∷ word_in (codes "globals") (codes "a9") d ∷ [];
+  globals = globals_of d;
   core = core_of d;
 }
 

@@ -4,6 +4,7 @@
 mod limits;
 mod objects;
 mod plans;
+mod reader;
 mod readings;
 mod refusals;
 mod rows;

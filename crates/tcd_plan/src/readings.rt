@@ -3,7 +3,7 @@ ghost use Rattle.std.specs.Prelude.{◌≡◌, ◌<◌, ◌≤◌, ◌+◌, ◌^
 ghost use Rattle.std.specs.List.{list_all, list_any};
 ghost use Rattle.arrayvec.specs.ArrayVec.{array_vec_len};
 ghost use Rattle.serde_json.specs.View.{view};
-ghost use Rattle.tcd_plan.specs.Plans.{core_of, device_of, irq_of, places_of, range_of};
+ghost use Rattle.tcd_plan.specs.Plans.{core_of, device_of, globals_of, irq_of, places_of, range_of};
 ghost use Rattle.tcd_plan.specs.Values.{is_text, word_in};
 
 use crate::Device;
@@ -101,4 +101,16 @@ pub fn core_of(value: &Value) -> Core
         Some(core) if is_text(core, "1.6") => Core::V16,
         _ => Core::V13,
     }
+}
+
+/// The words of A0, A1, A8 and A9.
+pub fn globals_of(value: &Value) -> [u32; 4]
+    ensures { result ≡ globals_of (view value.now) }
+{
+    [
+        word_in(value, "globals", "a0"),
+        word_in(value, "globals", "a1"),
+        word_in(value, "globals", "a8"),
+        word_in(value, "globals", "a9"),
+    ]
 }
