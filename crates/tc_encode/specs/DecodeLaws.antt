@@ -1,9 +1,21 @@
--- What holds of decoding, whatever the bytes are.
-use Rattle.std.specs.Prelude.{◌≡◌, ◌≤◌, ◌⊎◌, ◌↔◌, ℕ, List, ◌++◌, length, take, Ok, Err}
+-- What holds of spellings, and of decoding, whatever the bytes are.
+use Rattle.std.specs.Prelude.{◌≡◌, ◌≤◌, ◌⊎◌, ◌↔◌, ℕ, List, [], ◌++◌, length, take, Ok, Err}
 use Rattle.tc_isa.specs.Insts.{InstData}
 use Rattle.tc_isa.specs.Spelling.{Spells, Begins, IsFront}
-use Rattle.tc_encode.specs.declared.codes.DecodeErr.TheVariants.{Short, NotListed}
+use Rattle.tc_encode.specs.declared.errors.DecodeErr.TheVariants.{Short, NotListed}
 use Rattle.tc_encode.specs.Decoding.{decoded_of}
+
+-- no bytes spell two instructions
+abbrev pub NoneSpellsTwo : Type 0
+NoneSpellsTwo = (bytes : List ℕ) (i j : InstData) → Spells bytes i → Spells bytes j → i ≡ j
+
+-- no spelling is a proper prefix of another
+abbrev pub NoneIsPrefix : Type 0
+NoneIsPrefix = (bytes more : List ℕ) (i j : InstData) → Spells bytes i → Spells (bytes ++ more) j → more ≡ []
+
+pub record SpellingLaws : Type 0 where
+  pub one : NoneSpellsTwo
+  pub apart : NoneIsPrefix
 
 -- more bytes behind an instruction change nothing
 abbrev pub MoreChangesNothing : Type 0

@@ -7,8 +7,8 @@ use Rattle.tc_isa.specs.Rows.{RowData, listed}
 use Rattle.tc_isa.specs.Words.{bounds, fields_of}
 use Rattle.tc_isa.specs.Codec.{uses_of, rest_is_zero, is_apart, is_below_test, is_long, least, spelling}
 use Rattle.tc_isa.specs.Insts.{InstData}
-use Rattle.tc_encode.specs.declared.codes.DecodeErr.{DecodeErr}
-use Rattle.tc_encode.specs.declared.codes.DecodeErr.TheVariants.{Short, NotListed}
+use Rattle.tc_encode.specs.declared.errors.DecodeErr.{DecodeErr}
+use Rattle.tc_encode.specs.declared.errors.DecodeErr.TheVariants.{Short, NotListed}
 
 -- bytes as a number, the first byte lowest
 abbrev pub number_of : List ℕ → ℕ

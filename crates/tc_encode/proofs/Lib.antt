@@ -1,0 +1,12 @@
+pub mod Inverse
+pub mod Only
+pub mod Places
+pub mod Table
+pub mod Mixed
+pub mod Complete
+pub mod Bytes
+pub mod Spelled
+pub mod Apart
+pub mod Found
+pub mod Fronts
+pub mod DecodeProofs
