@@ -1,5 +1,9 @@
 // An image: the segments of an executable, with the limits that it always keeps.
+use crate::ImageErr;
+use crate::headers::word_at;
 use crate::holding::{byte_of, is_held};
+use crate::reading::{check_apart, check_segments, check_start, loads_of, segments_of};
+use std::alloc::Global;
 use std::marker::Model;
 
 /// The bytes from `at` on.
@@ -28,8 +32,26 @@ impl Model for Image {
 }
 
 impl Image {
-    ghost use Rattle.std.specs.Prelude.{◌≡◌};
+    ghost use Rattle.std.specs.Prelude.{◌≡◌, ◌≤◌, ◌^◌, length};
     ghost use Rattle.elf_image.specs.Images.{image_byte};
+    ghost use Rattle.elf_image.specs.Elf.{Gives, image_of};
+
+    /// The image that an executable ELF file of 32 bits for this machine loads: the segments of type PT_LOAD with
+    /// bytes in the file, in the order of their headers, each at its physical address.
+    pub fn read(alloc: Global, bytes: &[u8]) -> Result<Image, ImageErr>
+        requires { length bytes.now ≤ 2 ^ 30 }
+        ensures { Gives result (image_of bytes.now) }
+    {
+        check_start(bytes)?;
+        check_segments(bytes)?;
+        let loads = loads_of(alloc, bytes)?;
+        check_apart(&loads)?;
+        let segments = segments_of(alloc, bytes, &loads)?;
+        Ok(Image {
+            entry: word_at(bytes, 24),
+            segments,
+        })
+    }
 
     /// The byte at an address; nothing where no segment holds it. Looks at each segment once, and at one byte.
     pub fn byte(&self, addr: u32) -> Option<u8>

@@ -5,6 +5,7 @@ mod errors;
 mod headers;
 mod holding;
 mod images;
+mod reading;
 
 pub use errors::ImageErr;
 pub use images::{Image, Segment};

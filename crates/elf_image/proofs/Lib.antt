@@ -1,0 +1,5 @@
+pub mod Good
+pub mod Loaded
+pub mod Loads
+pub mod Refusals
+pub mod Rest
