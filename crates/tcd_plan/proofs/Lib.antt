@@ -1,1 +1,3 @@
 pub mod Tables
+pub mod HexLemmas
+pub mod ViewLemmas
