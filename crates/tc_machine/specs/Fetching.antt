@@ -7,8 +7,8 @@ use Rattle.tc_isa.specs.Shapes.{shape_of}
 use Rattle.tc_isa.specs.Arithmetic.{sign_extended}
 use Rattle.tc_isa.specs.declared.shapes.Shape.{Shape}
 use Rattle.tc_encode.specs.Decoding.{decoded_of}
-use Rattle.tc_encode.specs.declared.codes.DecodeErr.{DecodeErr}
-use Rattle.tc_encode.specs.declared.codes.DecodeErr.TheVariants.{Short}
+use Rattle.tc_encode.specs.declared.errors.DecodeErr.{DecodeErr}
+use Rattle.tc_encode.specs.declared.errors.DecodeErr.TheVariants.{Short}
 use Rattle.tc_machine.specs.declared.events.Cause.{Cause}
 use Rattle.tc_machine.specs.declared.events.Cause.TheVariants.{NotListed, NoCode}
 use Rattle.tc_machine.specs.Machine.{Machine}
