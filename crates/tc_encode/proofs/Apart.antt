@@ -10,7 +10,7 @@ use Rattle.tc_isa.specs.Rows.{RowData, listed}
 use Rattle.tc_isa.specs.Words.{bounds, second_of, form_index, word}
 use Rattle.tc_isa.specs.Codec.{Fits, IsRow, word_of, clash, none_clash, is_long, spelled, spelling}
 use Rattle.tc_encode.proofs.Inverse.{first-word, second-word}
-use Rattle.tc_encode.proofs.Table.{row_at, rows_are_apart}
+use Rattle.tc_isa.proofs.TableFacts.{row_at, rows_are_apart}
 
 -- a form by its number
 form_at : ℕ → Form

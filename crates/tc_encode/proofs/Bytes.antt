@@ -9,7 +9,7 @@ use Rattle.tc_isa.specs.declared.table.Form.TheVariants.{Rlc, Rr, Rc, Bol, Bo, B
 use Rattle.tc_isa.specs.Words.{fields, IsBelow, bounds, second_bound, word, is_long_form, span}
 use Rattle.tc_isa.specs.Codec.{Fits, IsRow, word_of, is_long, Has, GoesOn, spelled, spelling, two_bytes, four_bytes, Begins, IsFront}
 use Rattle.tc_encode.proofs.Inverse.{first-word}
-use Rattle.tc_encode.proofs.Table.{row_at}
+use Rattle.tc_isa.proofs.TableFacts.{row_at}
 
 -- a word of 32 bits, and one of 16
 pub word-lt : (form : Form) (op1 op2 : ℕ) (f : Fields) → op1 < 256 → op2 < second_bound form → IsBelow f (bounds form) → word form op1 op2 f < 2 ^ 32

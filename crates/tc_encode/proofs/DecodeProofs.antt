@@ -14,7 +14,7 @@ use Rattle.tc_encode.specs.declared.errors.DecodeErr.TheVariants.{Short, NotList
 use Rattle.tc_encode.specs.Decoding.{size_of, begins_with, goes_on_as, fields_at, instruction, first_of, answer_of, decoded_of}
 use Rattle.tc_encode.specs.DecodeLaws.{MoreChangesNothing, LengthsAreRight, DecodedSpells, SpelledDecodes, ShortIsFront, NotListedIsRest, DecodeLaws, NoneSpellsTwo, NoneIsPrefix, SpellingLaws}
 use Rattle.tc_encode.proofs.Bytes.{word-lt}
-use Rattle.tc_encode.proofs.Table.{row_at}
+use Rattle.tc_isa.proofs.TableFacts.{row_at}
 use Rattle.tc_encode.proofs.Spelled.{begins_here, fields_here, fits_there, stands_there, size_spelling}
 use Rattle.tc_encode.proofs.Apart.{one_row, one_word}
 use Rattle.tc_encode.proofs.Found.{Gives, found_gives, none_found, some_found}

@@ -1,7 +1,6 @@
 pub mod Inverse
 pub mod Only
 pub mod Places
-pub mod Table
 pub mod Mixed
 pub mod Complete
 pub mod Bytes

@@ -8,7 +8,7 @@ use Rattle.tc_isa.specs.Rows.{RowData, listed, row_of}
 use Rattle.tc_isa.specs.Words.{second_bound, bounds, is_long_form, form_index}
 use Rattle.tc_isa.specs.Codec.{IsRow, is_row, same_test, none_clash}
 
-both : (a b : Bool) → (a && b) ≡ true → (a ≡ true) × (b ≡ true)
+pub both : (a b : Bool) → (a && b) ≡ true → (a ≡ true) × (b ≡ true)
 both true true e = (refl, refl)
 both true false e = cc
 both false b e = cc
