@@ -1,2 +1,4 @@
+pub mod Coded
 pub mod Deciding
 pub mod Found
+pub mod Ranges

@@ -70,6 +70,17 @@ pub data Fails (image : ImageData) (plan : PlanData) (cert : List NodeData) : �
   great_need : (start : NodeData) → start_of image cert ≡ Some start → plan.areas - plan.reserve < start.need → Fails image plan cert 14 0 image.entry image.entry
   at_point : (node : NodeData) (p rule : ℕ) → Contains cert node → Contains node.points p → FailsAt image plan cert node p rule → Fails image plan cert rule node.kind node.entry p
 
+-- the start node, where rule 1 holds
+pub record IsGoodStart (image : ImageData) (plan : PlanData) (cert : List NodeData) (start : NodeData) : Type 0 where
+  pub is_start : start_of image cert ≡ Some start
+  pub point : Contains start.points image.entry
+  pub off : plan.start_ie ≡ false
+  pub stack : plan.start_is ≡ false
+
+-- the need of the start is above the areas without the reserve
+abbrev pub HasGreatNeed : ImageData → PlanData → List NodeData → Type 0
+HasGreatNeed image plan cert = (start : NodeData) × (start_of image cert ≡ Some start) × (plan.areas - plan.reserve < start.need)
+
 -- some point's code is none of a program of calls
 pub record HasOther (image : ImageData) (plan : PlanData) (cert : List NodeData) : Type 0 where
   pub node : NodeData
@@ -108,7 +119,11 @@ Judges image plan cert (verdict.Yes n) = Accepts image plan cert × (n ≡ need_
 Judges image plan cert (verdict.No rule kind entry addr) = Fails image plan cert rule kind entry addr
 Judges image plan cert verdict.NotBuilt = HasOther image plan cert
 
--- at a node: nothing, or a verdict
-abbrev pub FindsNode : ImageData → PlanData → List NodeData → NodeData → Option Verdict → Type 0
-FindsNode image plan cert node None = HoldsAtNode image plan cert node
-FindsNode image plan cert node (Some v) = Judges image plan cert v
+-- at a point, and at a node: nothing, or a verdict
+abbrev pub IsPointVerdict : ImageData → PlanData → List NodeData → NodeData → ℕ → Option Verdict → Type 0
+IsPointVerdict image plan cert node p None = HoldsAtPoint image plan cert node p
+IsPointVerdict image plan cert node p (Some v) = Judges image plan cert v
+
+abbrev pub IsNodeVerdict : ImageData → PlanData → List NodeData → NodeData → Option Verdict → Type 0
+IsNodeVerdict image plan cert node None = HoldsAtNode image plan cert node
+IsNodeVerdict image plan cert node (Some v) = Judges image plan cert v

@@ -31,6 +31,13 @@ pub(crate) fn has_point(node: &CallNode, addr: u32) -> bool
     node.points.contains(&addr)
 }
 
+// Whether the node has a point at its entry.
+pub(crate) fn is_entered(node: &CallNode) -> bool
+    ensures { IsTrue result ↔ Contains node.now.points node.now.entry }
+{
+    node.points.contains(&node.entry)
+}
+
 // The node of a key.
 pub(crate) fn node_of(nodes: &[CallNode], kind: u8, entry: u32) -> Option<&CallNode>
     ensures { option_map (λ n. n.now) result ≡ node_of nodes.now kind entry }

@@ -1,8 +1,8 @@
 // The instruction at an address of an image.
 ghost use Rattle.std.specs.Prelude.{◌≡◌, ◌≤◌, ◌+◌, ◌^◌, ◌↔◌, IsTrue};
 ghost use Rattle.std.specs.Option.{option_map};
-ghost use Rattle.tcd_driver.specs.Code.{held_bytes, FindsInRom, FindsBytes};
-ghost use Rattle.tc_machine.specs.Ranges.{IsInOne, IsWithin};
+ghost use Rattle.tcd_driver.specs.Code.{held_bytes, is_in_one, FindsInRom, FindsBytes};
+ghost use Rattle.tc_machine.specs.Ranges.{IsInOne};
 ghost use Rattle.tcd_driver.specs.Failures.{FindsCode};
 
 use elf_image::Image;
@@ -11,25 +11,22 @@ use tc_isa::Shape;
 use tcd_base::Range;
 use tcd_plan::Plan;
 
+// Whether `count` bytes from the address on lie in one of the ranges.
+fn is_in_one(ranges: &[Range], addr: u32, count: u32) -> bool
+    ensures { result ≡ is_in_one addr count ranges.now }
+{
+    let end = u64::from(addr) + u64::from(count);
+    ranges
+        .iter()
+        .any(|range| range.at <= addr && end <= u64::from(range.at) + u64::from(range.len))
+}
+
 // Whether `count` bytes from the address on lie in one rom range.
 fn is_in_rom(plan: &Plan, addr: u32, count: u32) -> bool
     ensures decides { IsTrue result ↔ IsInOne addr count plan.now.rom }
     ensures fits { IsTrue result → addr + count ≤ 2 ^ 32 }
 {
-    for range in plan.rom.as_slice() {
-        if has_bytes(range, addr, count) {
-            return true;
-        }
-    }
-    false
-}
-
-// Whether `count` bytes from the address on lie in the range.
-fn has_bytes(range: &Range, addr: u32, count: u32) -> bool
-    ensures { IsTrue result ↔ IsWithin addr count range.now }
-{
-    let end = u64::from(addr) + u64::from(count);
-    range.at <= addr && end <= u64::from(range.at) + u64::from(range.len)
+    is_in_one(plan.rom.as_slice(), addr, count)
 }
 
 // Two bytes of the image, where segments hold them.
@@ -55,15 +52,17 @@ fn four_bytes(image: &Image, addr: u32) -> Option<[u8; 4]>
 }
 
 // What the instruction does with which the bytes begin, and its length.
-fn shape_in(bytes: &[u8]) -> Option<(Shape, usize)>
+fn shape_in(bytes: &[u8]) -> Option<(Shape, u32)>
     ensures { FindsBytes bytes.now result }
 {
-    let (inst, size) = decode(bytes).ok()?;
-    Some((shape(&inst), size))
+    match decode(bytes) {
+        Ok((inst, size)) => Some((shape(&inst), size as u32)),
+        Err(_) => None,
+    }
 }
 
 // The instruction at an address, with its length: at an even one, in one rom range, and held by segments.
-pub(crate) fn code_at(image: &Image, plan: &Plan, addr: u32) -> Option<(Shape, usize)>
+pub(crate) fn code_at(image: &Image, plan: &Plan, addr: u32) -> Option<(Shape, u32)>
     ensures { FindsCode image.now plan.now addr result }
 {
     if addr % 2 == 1 {

@@ -7,7 +7,7 @@ ghost use Rattle.tc_isa.specs.declared.shapes.Shape.TheVariants.{Call};
 ghost use Rattle.std.specs.Prelude.{Some};
 ghost use Rattle.tc_isa.specs.declared.shapes.Target.{Target};
 
-use crate::calls::{CallNode, has_point, node_of};
+use crate::calls::{CallNode, has_point, is_entered, node_of};
 use crate::findings::Finding;
 use tc_isa::{Shape, Target};
 
@@ -32,7 +32,7 @@ fn call_finding(nodes: &[CallNode], node: &CallNode, target: u32, back: u32) -> 
     if called.exit && !has_point(node, back) {
         return Finding::Fails(4);
     }
-    if !has_point(called, called.entry) {
+    if !is_entered(called) {
         return Finding::Fails(5);
     }
     if called.need >= node.need {

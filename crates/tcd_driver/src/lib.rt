@@ -2,6 +2,7 @@
 #![tactic(auto)]
 
 mod calls;
+mod checking;
 mod code;
 mod findings;
 mod follows;
