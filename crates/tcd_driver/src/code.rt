@@ -56,7 +56,7 @@ fn shape_in(bytes: &[u8]) -> Option<(Shape, u32)>
     ensures { FindsBytes bytes.now result }
 {
     match decode(bytes) {
-        Ok((inst, size)) => Some((shape(&inst), size as u32)),
+        Ok(found) => Some((shape(&found.0), found.1 as u32)),
         Err(_) => None,
     }
 }

@@ -6,15 +6,15 @@ mod checking;
 mod code;
 mod findings;
 mod follows;
+mod inputs;
+mod lines;
+mod outcome;
 mod pending;
+mod printing;
+mod reading;
+mod reading_parts;
+mod status;
+mod tools;
 
-/// How a command ended; the exit status of the program is its number, counted from 0.
-#[derive(Clone, Copy, Debug, PartialEq, Eq)]
-pub enum Status {
-    Done,
-    Refused,
-    BadInput,
-    Fault,
-    NoMemory,
-    BadWords,
-}
+pub use status::Status;
+pub use tools::tool;
