@@ -1,5 +1,5 @@
 -- The objects of a document, and whether what stands in them has its form.
-use Rattle.std.specs.Prelude.{ℕ, ◌+◌, ◌%◌, ◌^◌, ◌&&◌, ◌||◌, ◌==◌, List, [], ◌∷◌, codes, length, map, count_by, Bool, true, false, not, nat_lt, nat_le, if◌then◌else◌, Option, Some, None, is_none, is_some, option_to_list, unwrap_or}
+use Rattle.std.specs.Prelude.{ℕ, ◌+◌, ◌%◌, ◌^◌, ◌&&◌, ◌||◌, ◌==◌, List, [], ◌∷◌, codes, length, count_by, Bool, true, false, not, nat_lt, nat_le, if◌then◌else◌, Option, is_none, is_some, option_to_list, unwrap_or}
 use Rattle.std.specs.List.{list_all, list_any}
 use Rattle.std.specs.Option.{option_map_or}
 use Rattle.std.specs.Str.{bytes_eq}
@@ -76,6 +76,17 @@ may_be_absent _ = false
 abbrev pub lacks : KeyRow → Data → Bool
 lacks r o = not (may_be_absent r.form) && is_none (get r.name o)
 
--- a key stands in the object, or in one of the objects
+-- something else stands at a key of an object than may stand there
+abbrev pub is_bad : KeyRow → Data → Bool
+is_bad r o = not (has_form r.form r.name o)
+
+abbrev pub is_named : Holder → List ℕ → KeyRow → Bool
+is_named h name r = (holder_key r.holder == holder_key h) && bytes_eq r.name name
+
+-- the object, or each of the objects, may have the key
 abbrev pub is_known : Holder → List ℕ → Bool
-is_known h name = list_any (λ r. (holder_key r.holder == holder_key h) && bytes_eq r.name name) key_rows
+is_known h name = list_any (is_named h name) key_rows
+
+-- an object has a key that isn't one of its own
+abbrev pub has_unknown : Holder → Data → Bool
+has_unknown h o = not (list_all (is_known h) (names_in o))
