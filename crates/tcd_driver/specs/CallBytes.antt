@@ -25,12 +25,14 @@ node_bytes n = head_bytes n.kind n.entry n.need n.exit (length n.points) ++ flat
 abbrev pub cert_bytes : List NodeData → List ℕ
 cert_bytes nodes = 84 ∷ 67 ∷ 68 ∷ 67 ∷ 1 ∷ 0 ∷ (bytes_of_half (length nodes) ++ flat_map node_bytes nodes)
 
--- a node: its kind is 0 or 1, only kind 1 has an exit, the need is at most 4,096, and the points ascend
+-- a node: its kind is 0 or 1, only kind 1 has an exit, the need is at most 4,096, and the points, at most 65,536,
+-- ascend
 pub record IsCallNode (n : NodeData) : Type 0 where
   pub kind : n.kind ≤ 1
   pub entry : n.entry < 2 ^ 32
   pub need : n.need ≤ 4096
   pub exit : n.exit ≡ true → n.kind ≡ 1
+  pub few : length n.points ≤ 65536
   pub words : All (λ p. p < 2 ^ 32) n.points
   pub rising : IsStrictlyIncreasing n.points
 
@@ -42,7 +44,7 @@ key_of n = n.kind * 2 ^ 32 + n.entry
 pub record IsCallCert (nodes : List NodeData) : Type 0 where
   pub few : length nodes ≤ 2048
   pub few_points : sum_by (λ n. length n.points) nodes ≤ 65536
-  pub nodes : All IsCallNode nodes
+  pub each : All IsCallNode nodes
   pub rising : IsStrictlyIncreasing (map key_of nodes)
 
 -- the bytes spell the certificate

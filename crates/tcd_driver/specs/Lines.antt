@@ -1,5 +1,5 @@
 -- The printed lines.
-use Rattle.std.specs.Prelude.{ℕ, ◌+◌, ◌/◌, ◌%◌, ◌^◌, ◌==◌, Bool, nat_lt, if◌then◌else◌, List, [], ◌∷◌, ◌++◌, codes, slice_index_or}
+use Rattle.std.specs.Prelude.{ℕ, ◌+◌, ◌/◌, ◌%◌, ◌^◌, ◌==◌, Bool, nat_lt, if◌then◌else◌, List, [], ◌∷◌, ◌++◌, codes, slice_get, unwrap_or}
 use Rattle.std.specs.Fmt.{decimal}
 use Rattle.elf_image.specs.declared.errors.ImageErr.{ImageErr}
 use Rattle.elf_image.specs.declared.errors.ImageErr.TheVariants as elf
@@ -35,7 +35,7 @@ at_two i j = codes " at " ++ (decimal i ++ (codes " " ++ (decimal j ++ 10 ∷ []
 
 -- a plan's key
 unfoldable pub at_key : PlanKey → List ℕ
-at_key key = codes " key " ++ (slice_index_or key_texts key.0 [] ++ 10 ∷ [])
+at_key key = codes " key " ++ (unwrap_or (slice_get key_texts key.0) [] ++ 10 ∷ [])
 
 -- why a file is no image: 0 where it is above its limit
 unfoldable pub long_elf_line : List ℕ

@@ -45,10 +45,10 @@ is_bare p = (length p.irqs == 0) && not p.sys && not p.aln && (length p.devices 
 
 -- the three inputs, each in its form
 pub record HoldsInputs (held : Option Map) (names : Names) (image : ImageData) (plan : PlanData) (cert : List NodeData) : Type 0 where
-  pub image : HoldsImage held names.elf image
-  pub plan : HoldsPlan held names.plan plan
+  pub is_image : HoldsImage held names.elf image
+  pub is_plan : HoldsPlan held names.plan plan
   pub bare : is_bare plan â‰¡ true
-  pub cert : HoldsCert held names.cert cert
+  pub is_cert : HoldsCert held names.cert cert
 
 -- ---- what is printed
 -- of the executable, where it is no image
@@ -91,7 +91,7 @@ pub data HasEnded (held : Option Map) (names : Names) (old new : Option (List â„
 
 -- the files are steady and hold the three inputs
 pub record AreSure (steady : Bool) (held : Option Map) (names : Names) : Type 0 where
-  pub steady : IsTrue steady
+  pub are_steady : IsTrue steady
   pub elf : Holds held names.elf
   pub plan : Holds held names.plan
   pub cert : Holds held names.cert

@@ -1,5 +1,5 @@
 // What a command comes to, before anything is printed.
-use crate::Status;
+use crate::status::Status;
 
 /// A text with its status; or a file couldn't be read; or memory ran out.
 #[derive(Drop)]

@@ -4,15 +4,15 @@
 mod calls;
 mod checking;
 mod code;
+mod ending;
 mod findings;
 mod follows;
 mod inputs;
 mod lines;
-mod outcome;
 mod pending;
 mod printing;
 mod reading;
-mod reading_parts;
+mod saying;
 mod status;
 mod tools;
 

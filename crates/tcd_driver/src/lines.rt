@@ -1,7 +1,7 @@
 // The printed lines.
 ghost use Rattle.std.specs.Prelude.{◌≡◌, ◌≢◌, ◌<◌, ◌++◌, length, codes, IfOk, OnOk};
 ghost use Rattle.std.specs.Fmt.{decimal};
-ghost use Rattle.tcd_driver.specs.Lines.{hex_digit, hex_word, kind_text, at_key, elf_line, plan_line, refused_line, certified_line};
+ghost use Rattle.tcd_driver.specs.Lines.{bad_words_line, long_elf_line, long_plan_line, not_built_plan_line, not_built_cert_line, not_built_code_line, hex_digit, hex_word, kind_text, at_key, elf_line, plan_line, refused_line, certified_line};
 ghost use Rattle.tcd_plan.specs.Plans.{HasText};
 ghost use Rattle.tcd_plan.specs.Keys.{key_texts};
 
@@ -60,6 +60,51 @@ pub(crate) fn line_of(alloc: Global, text: &[u8]) -> Result<Vec<u8>, NoMemory>
     ensures { IfOk result (λ line. line.items ≡ text.now) }
 {
     Ok(Vec::from_slice(alloc, text)?)
+}
+
+// A file above its limit.
+#[tactic(auto, unfolding(crate::specs::Lines::long_elf_line))]
+pub(crate) fn long_elf_line() -> &'static [u8]
+    ensures { result.now ≡ long_elf_line }
+{
+    b"bad elf 0\n"
+}
+
+#[tactic(auto, unfolding(crate::specs::Lines::long_plan_line))]
+pub(crate) fn long_plan_line() -> &'static [u8]
+    ensures { result.now ≡ long_plan_line }
+{
+    b"bad plan 0\n"
+}
+
+// Inputs and code that this check doesn't know yet.
+#[tactic(auto, unfolding(crate::specs::Lines::not_built_plan_line))]
+pub(crate) fn not_built_plan_line() -> &'static [u8]
+    ensures { result.now ≡ not_built_plan_line }
+{
+    b"not built plan\n"
+}
+
+#[tactic(auto, unfolding(crate::specs::Lines::not_built_cert_line))]
+pub(crate) fn not_built_cert_line() -> &'static [u8]
+    ensures { result.now ≡ not_built_cert_line }
+{
+    b"not built cert\n"
+}
+
+#[tactic(auto, unfolding(crate::specs::Lines::not_built_code_line))]
+pub(crate) fn not_built_code_line() -> &'static [u8]
+    ensures { result.now ≡ not_built_code_line }
+{
+    b"not built code\n"
+}
+
+// The words of no form.
+#[tactic(auto, unfolding(crate::specs::Lines::bad_words_line))]
+pub(crate) fn bad_words_line() -> &'static [u8]
+    ensures { result.now ≡ bad_words_line }
+{
+    b"bad words\n"
 }
 
 // Why a file is no image.
