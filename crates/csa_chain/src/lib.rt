@@ -8,6 +8,7 @@ mod links;
 ghost use Rattle.std.specs.Prelude.{ℕ, List};
 ghost use Rattle.csa_chain.specs.Memory.{Memory};
 ghost use Rattle.csa_chain.specs.ChainChanges.{SaveMoves, RestoreMoves, StoreLeaves};
+ghost use Rattle.csa_chain.specs.MemoryChanges.{WordsComeBack, BytesStay, WordsStay};
 ghost use Rattle.csa_chain.specs.ContextChanges.{FieldsComeBack, UpperComesBack, LowerComesBack};
 
 pub use contexts::{load_lower, load_upper, lower_words, upper_words};
@@ -25,4 +26,11 @@ pub fn laws_of_contexts()
     ensures fields { FieldsComeBack }
     ensures upper { UpperComesBack }
     ensures lower { LowerComesBack }
+{}
+
+/// What is read after words are written, and that bytes stay bytes and words stay words.
+pub fn laws_of_memories()
+    ensures written { WordsComeBack }
+    ensures bytes { BytesStay }
+    ensures words { WordsStay }
 {}

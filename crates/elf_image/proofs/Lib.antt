@@ -1,3 +1,5 @@
+pub mod Again
+pub mod Fields
 pub mod Good
 pub mod Loaded
 pub mod Loads

@@ -3,6 +3,7 @@ use crate::ImageErr;
 use crate::headers::word_at;
 use crate::holding::{byte_of, is_held};
 use crate::reading::{check_apart, check_segments, check_start, loads_of, segments_of};
+use crate::writing::written;
 use std::alloc::Global;
 use std::marker::Model;
 
@@ -32,9 +33,10 @@ impl Model for Image {
 }
 
 impl Image {
-    ghost use Rattle.std.specs.Prelude.{◌≡◌, ◌≤◌, ◌^◌, length};
+    ghost use Rattle.std.specs.Prelude.{◌≡◌, ◌≤◌, ◌^◌, length, Ok, IfOk, IfErr};
     ghost use Rattle.elf_image.specs.Images.{image_byte};
     ghost use Rattle.elf_image.specs.Elf.{Gives, image_of};
+    ghost use Rattle.elf_image.specs.Written.{file_of};
 
     /// The image that an executable ELF file of 32 bits for this machine loads: the segments of type PT_LOAD with
     /// bytes in the file, in the order of their headers, each at its physical address.
@@ -51,6 +53,17 @@ impl Image {
             entry: word_at(bytes, 24),
             segments,
         })
+    }
+
+    /// The executable file of the image: the ELF header, a program header for each segment, and the segments' bytes
+    /// without gaps. `read` gives the image again.
+    pub fn write(&self, alloc: Global) -> Result<Vec<u8>, ImageErr>
+        ensures bytes { IfOk result (λ v. v.items ≡ file_of self.now) }
+        ensures small { IfOk result (λ v. length v.items ≤ 2 ^ 30) }
+        ensures again { IfOk result (λ v. image_of v.items ≡ Ok self.now) }
+        ensures err { IfErr result (λ e. e ≡ ImageErr.NoMemory) }
+    {
+        written(alloc, self.entry, &self.segments)
     }
 
     /// The byte at an address; nothing where no segment holds it. Looks at each segment once, and at one byte.

@@ -6,6 +6,9 @@ mod headers;
 mod holding;
 mod images;
 mod reading;
+#[cfg(test)]
+mod tests;
+mod writing;
 
 pub use errors::ImageErr;
 pub use images::{Image, Segment};

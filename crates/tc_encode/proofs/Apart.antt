@@ -1,13 +1,13 @@
 -- No bytes begin with spellings of two rows.
-use Rattle.std.proofs.Common.{◌≡◌, ◌⊎◌, inl, inr, ◌+◌, ◌*◌, ◌/◌, ◌%◌, ◌^◌, ◌<◌, ◌≤◌, ℕ, zero, suc, Bool, true, false, List, [], ◌∷◌, ◌++◌, length, take, drop, refl, sym, ap, subst, ◌∙◌, arith, ◌==◌, Option, Some, None}
-use Rattle.std.specs.Prelude.{not, ◌&&◌, ◌||◌, slice_get}
+use Rattle.std.proofs.Common.{◌≡◌, inl, inr, ◌/◌, ◌%◌, ◌^◌, ◌<◌, ℕ, zero, suc, Bool, true, false, List, [], ◌∷◌, ◌++◌, refl, sym, ap, subst, ◌∙◌, arith, ◌==◌, Some}
+use Rattle.std.specs.Prelude.{slice_get}
 use Rattle.std.specs.List.{list_any}
 use Rattle.std.proofs.lemmas.Bool.{and_parts, and_from, eqb-true, eq-eqb, or_parts, or_left, or_right, not-true, cases_Bool, not_from_false, both_ways, cases_order}
 use Rattle.tc_isa.specs.declared.fields.Fields.{Fields}
 use Rattle.tc_isa.specs.declared.table.Form.{Form}
 use Rattle.tc_isa.specs.declared.table.Form.TheVariants.{Rlc, Rr, Rc, Bol, Bo, Brr, Brc, B, Abs, Sys, Sr, Sc, Sb, Sbr, Src, Srr, Slr, Ssr}
 use Rattle.tc_isa.specs.Rows.{RowData, listed}
-use Rattle.tc_isa.specs.Words.{bounds, second_of, form_index, word}
+use Rattle.tc_isa.specs.Words.{second_of, form_index}
 use Rattle.tc_isa.specs.Codec.{Fits, IsRow, word_of, clash, none_clash, is_long, spelled, spelling}
 use Rattle.tc_encode.proofs.Inverse.{first-word, second-word}
 use Rattle.tc_isa.proofs.TableFacts.{row_at, rows_are_apart}
@@ -54,7 +54,7 @@ form_back Srr = refl
 form_back Slr = refl
 form_back Ssr = refl
 
-same_form : (f g : Form) → form_index f ≡ form_index g → f ≡ g
+pub same_form : (f g : Form) → form_index f ≡ form_index g → f ≡ g
 same_form f g e = sym (form_back f) ∙ ap form_at e ∙ form_back g
 
 -- rows with one word have one first code, and another form or one second code

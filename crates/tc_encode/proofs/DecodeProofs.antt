@@ -1,24 +1,23 @@
 -- The laws of decoding.
-use Rattle.std.proofs.Common.{◌≡◌, ◌≢◌, ◌⊎◌, inl, inr, ◌+◌, ◌-◌, ◌*◌, ◌/◌, ◌%◌, ◌^◌, ◌<◌, ◌≤◌, min, ℕ, zero, suc, Bool, true, false, List, [], ◌∷◌, ◌++◌, length, take, drop, refl, sym, ap, subst, ◌∙◌, arith, Option, Some, None, Result, Ok, Err, length-append, length-drop, length-take, zero-add}
-use Rattle.std.specs.Prelude.{slice_get, if◌then◌else◌, ◌↔◌}
+use Rattle.std.proofs.Common.{◌≡◌, ◌⊎◌, inl, inr, ◌-◌, ◌≤◌, min, ℕ, zero, suc, Bool, true, false, List, [], ◌∷◌, ◌++◌, length, take, drop, refl, sym, ap, subst, ◌∙◌, arith, Option, Some, None, Result, Ok, Err, length-append, length-drop, length-take, zero-add}
+use Rattle.std.specs.Prelude.{slice_get, if◌then◌else◌}
 use Rattle.std.specs.List.{list_any}
 use Rattle.std.proofs.lemmas.Bool.{cases_Bool, cond-true, cond-false, both_ways, or_cases, or_left, or_right, false_from_ne_true}
-use Rattle.std.proofs.lemmas.List.{take_at, take_all, take-append-drop, append-nil}
-use Rattle.tc_isa.specs.declared.fields.Fields.{Fields}
+use Rattle.std.proofs.lemmas.List.{take_all, take-append-drop, append-nil, length-take-le}
 use Rattle.tc_isa.specs.Rows.{RowData, listed}
-use Rattle.tc_isa.specs.Insts.{InstData, IsInst, fields_in}
-use Rattle.tc_isa.specs.Codec.{Fits, IsRow, word_of, is_long, least, spelled, spelling}
+use Rattle.tc_isa.specs.Insts.{InstData, fields_in}
+use Rattle.tc_isa.specs.Codec.{word_of, is_long, least, spelling}
 use Rattle.tc_isa.specs.Spelling.{Spells, Begins, IsFront}
 use Rattle.tc_encode.specs.declared.errors.DecodeErr.{DecodeErr}
 use Rattle.tc_encode.specs.declared.errors.DecodeErr.TheVariants.{Short, NotListed}
-use Rattle.tc_encode.specs.Decoding.{size_of, begins_with, goes_on_as, fields_at, instruction, first_of, answer_of, decoded_of}
-use Rattle.tc_encode.specs.DecodeLaws.{MoreChangesNothing, LengthsAreRight, DecodedSpells, SpelledDecodes, ShortIsFront, NotListedIsRest, DecodeLaws, NoneSpellsTwo, NoneIsPrefix, SpellingLaws}
+use Rattle.tc_encode.specs.Decoding.{size_of, goes_on_as, fields_at, instruction, first_of, answer_of, decoded_of}
+use Rattle.tc_encode.specs.DecodeLaws.{MoreChangesNothing, LengthsAreRight, DecodedSpells, DecodedBegins, SpelledDecodes, ShortIsFront, NotListedIsRest, DecodeLaws, NoneSpellsTwo, NoneIsPrefix, SpellingLaws}
 use Rattle.tc_encode.proofs.Bytes.{word-lt}
 use Rattle.tc_isa.proofs.TableFacts.{row_at}
 use Rattle.tc_encode.proofs.Spelled.{begins_here, fields_here, fits_there, stands_there, size_spelling}
 use Rattle.tc_encode.proofs.Apart.{one_row, one_word}
-use Rattle.tc_encode.proofs.Found.{Gives, found_gives, none_found, some_found}
-use Rattle.tc_encode.proofs.Fronts.{front_goes_on, goes_on_short, goes_on_begins}
+use Rattle.tc_encode.proofs.Found.{Gives, found_gives, some_found}
+use Rattle.tc_encode.proofs.FrontFacts.{front_goes_on, goes_on_short, goes_on_begins}
 
 ok_err : {A E : Type 0} (x : A) (e : E) → Ok x ≡ Err e → ⊥
 ok_err x e is = cc
@@ -111,10 +110,10 @@ spelled_decodes bytes rest i spells =
     let place : i.row ≡ g.at = one_row i.row g.at r g.row f h spells.inst.at g.listed spells.inst.fits gits word in
     let rows : r ≡ g.row = same_row i.row g.at r g.row spells.inst.at g.listed place in
     let is : some.0 ≡ (i, size_of r) =
-      g.is
-      ∙ ap (λ p. (instruction p h, size_of g.row)) (zero-add g.at ∙ sym place)
-      ∙ ap (λ s. (instruction i.row (fields_at xs s), size_of s)) (sym rows)
-      ∙ ap (λ e. (instruction i.row e, size_of r)) (fields_here r f rest row spells.inst.fits) in
+    g.is
+    ∙ ap (λ p. (instruction p h, size_of g.row)) (zero-add g.at ∙ sym place)
+    ∙ ap (λ s. (instruction i.row (fields_at xs s), size_of s)) (sym rows)
+    ∙ ap (λ e. (instruction i.row e, size_of r)) (fields_here r f rest row spells.inst.fits) in
     let size : size_of r ≡ length bytes = sym (size_spelling r f) ∙ sym (ap length spells.is) in
     let done : decoded_of xs ≡ Ok (i, length bytes) = found_ok xs some.0 some.1 ∙ ap (λ p. Ok p) (is ∙ ap (λ n. (i, n)) size) in
     subst (λ bs. decoded_of (bs ++ rest) ≡ Ok (i, length bytes)) (sym spells.is) done
@@ -177,20 +176,29 @@ ahead_front xs a =
     }
 
 pub short_is_front : ShortIsFront
-short_is_front xs =
-    (λ e. (ahead_front xs (ahead_from xs listed (short_answer xs (sym (answer_none xs (err_none xs Short e)) ∙ e))), err_begins_none xs Short e),
-    λ p. answer_none xs (none_from xs p.1) ∙ cond-true {A = Result (InstData × ℕ) DecodeErr} (list_any (goes_on_as xs) listed) (Err Short) (Err NotListed) (front_any xs p.0))
+short_is_front xs = (
+  λ e. (ahead_front xs (ahead_from xs listed (short_answer xs (sym (answer_none xs (err_none xs Short e)) ∙ e))), err_begins_none xs Short e),
+  λ p. answer_none xs (none_from xs p.1) ∙ cond-true {A = Result (InstData × ℕ) DecodeErr} (list_any (goes_on_as xs) listed) (Err Short) (Err NotListed) (front_any xs p.0),
+)
 
 pub not_listed_is_rest : NotListedIsRest
-not_listed_is_rest xs =
-    (λ e. (λ front. both_ways _ (not_answer xs (sym (answer_none xs (err_none xs NotListed e)) ∙ e)) (front_any xs front), err_begins_none xs NotListed e),
-    λ p. answer_none xs (none_from xs p.1) ∙ cond-false {A = Result (InstData × ℕ) DecodeErr} (list_any (goes_on_as xs) listed) (Err Short) (Err NotListed) (false_from_ne_true _ (λ t. p.0 (ahead_front xs (ahead_from xs listed t)))))
+not_listed_is_rest xs = (
+  λ e. (λ front. both_ways _ (not_answer xs (sym (answer_none xs (err_none xs NotListed e)) ∙ e)) (front_any xs front), err_begins_none xs NotListed e),
+  λ p. answer_none xs (none_from xs p.1) ∙ cond-false {A = Result (InstData × ℕ) DecodeErr} (list_any (goes_on_as xs) listed) (Err Short) (Err NotListed) (false_from_ne_true _ (λ t. p.0 (ahead_front xs (ahead_from xs listed t)))),
+)
+
+pub decoded_begins : DecodedBegins
+decoded_begins xs i n = (
+  λ e. record { within = (lengths_are_right xs i n e).0; spells = decoded_spells xs i n e },
+  λ b. begun_decodes xs i n b ∙ ap (λ m. Ok (i, m)) (length-take-le n xs b.within),
+)
 
 pub decode_laws : DecodeLaws
 decode_laws = record {
   more = more_changes_nothing;
   lengths = lengths_are_right;
   decoded = decoded_spells;
+  begins = decoded_begins;
   spelled = spelled_decodes;
   short = short_is_front;
   not_listed = not_listed_is_rest;

@@ -1,9 +1,9 @@
 -- The fields of an instruction's word are its fields.
-use Rattle.std.proofs.Common.{◌≡◌, ◌+◌, ◌*◌, ◌/◌, ◌%◌, ◌^◌, ◌<◌, ◌≤◌, ℕ, refl, arith}
+use Rattle.std.proofs.Common.{◌≡◌, ◌%◌, ◌<◌, ℕ, arith}
 use Rattle.tc_isa.specs.declared.table.Form.{Form}
 use Rattle.tc_isa.specs.declared.table.Form.TheVariants.{Rlc, Rr, Rc, Bol, Bo, Brr, Brc, B, Abs, Sys, Sr, Sc, Sb, Sbr, Src, Srr, Slr, Ssr}
 use Rattle.tc_isa.specs.declared.fields.Fields.{Fields}
-use Rattle.tc_isa.specs.Words.{fields, IsBelow, bounds, second_bound, word, fields_of, second_of, mix1, mix2, mix3}
+use Rattle.tc_isa.specs.Words.{IsBelow, bounds, second_bound, word, fields_of, second_of}
 
 same : (a b : Fields) → a.c ≡ b.c → a.s1 ≡ b.s1 → a.s2 ≡ b.s2 → a.n ≡ b.n → a.k ≡ b.k → a ≡ b
 same a b c s1 s2 n k = λ i. record { c = c i; s1 = s1 i; s2 = s2 i; n = n i; k = k i }
@@ -70,66 +70,3 @@ first-word Src op1 op2 f first second below = omega arith
 first-word Srr op1 op2 f first second below = omega arith
 first-word Slr op1 op2 f first second below = omega arith
 first-word Ssr op1 op2 f first second below = omega arith
-
-pub mix1-word : (form : Form) (op1 op2 : ℕ) (f g : Fields) → op1 < 256 → op2 < second_bound form → IsBelow f (bounds form) → IsBelow g (bounds form) → word form op1 op2 (fields_of form (mix1 (word form op1 op2 f) (word form op1 op2 g))) ≡ mix1 (word form op1 op2 f) (word form op1 op2 g)
-unfolding word fields_of bounds second_bound
-mix1-word Rlc op1 op2 f g first second below under = omega arith
-mix1-word Rr op1 op2 f g first second below under = omega arith
-mix1-word Rc op1 op2 f g first second below under = omega arith
-mix1-word Bol op1 op2 f g first second below under = omega arith
-mix1-word Bo op1 op2 f g first second below under = omega arith
-mix1-word Brr op1 op2 f g first second below under = omega arith
-mix1-word Brc op1 op2 f g first second below under = omega arith
-mix1-word B op1 op2 f g first second below under = omega arith
-mix1-word Abs op1 op2 f g first second below under = omega arith
-mix1-word Sys op1 op2 f g first second below under = omega arith
-mix1-word Sr op1 op2 f g first second below under = omega arith
-mix1-word Sc op1 op2 f g first second below under = omega arith
-mix1-word Sb op1 op2 f g first second below under = omega arith
-mix1-word Sbr op1 op2 f g first second below under = omega arith
-mix1-word Src op1 op2 f g first second below under = omega arith
-mix1-word Srr op1 op2 f g first second below under = omega arith
-mix1-word Slr op1 op2 f g first second below under = omega arith
-mix1-word Ssr op1 op2 f g first second below under = omega arith
-
-pub mix2-word : (form : Form) (op1 op2 : ℕ) (f g : Fields) → op1 < 256 → op2 < second_bound form → IsBelow f (bounds form) → IsBelow g (bounds form) → word form op1 op2 (fields_of form (mix2 (word form op1 op2 f) (word form op1 op2 g))) ≡ mix2 (word form op1 op2 f) (word form op1 op2 g)
-unfolding word fields_of bounds second_bound
-mix2-word Rlc op1 op2 f g first second below under = omega arith
-mix2-word Rr op1 op2 f g first second below under = omega arith
-mix2-word Rc op1 op2 f g first second below under = omega arith
-mix2-word Bol op1 op2 f g first second below under = omega arith
-mix2-word Bo op1 op2 f g first second below under = omega arith
-mix2-word Brr op1 op2 f g first second below under = omega arith
-mix2-word Brc op1 op2 f g first second below under = omega arith
-mix2-word B op1 op2 f g first second below under = omega arith
-mix2-word Abs op1 op2 f g first second below under = omega arith
-mix2-word Sys op1 op2 f g first second below under = omega arith
-mix2-word Sr op1 op2 f g first second below under = omega arith
-mix2-word Sc op1 op2 f g first second below under = omega arith
-mix2-word Sb op1 op2 f g first second below under = omega arith
-mix2-word Sbr op1 op2 f g first second below under = omega arith
-mix2-word Src op1 op2 f g first second below under = omega arith
-mix2-word Srr op1 op2 f g first second below under = omega arith
-mix2-word Slr op1 op2 f g first second below under = omega arith
-mix2-word Ssr op1 op2 f g first second below under = omega arith
-
-pub mix3-word : (form : Form) (op1 op2 : ℕ) (f g : Fields) → op1 < 256 → op2 < second_bound form → IsBelow f (bounds form) → IsBelow g (bounds form) → word form op1 op2 (fields_of form (mix3 (word form op1 op2 f) (word form op1 op2 g))) ≡ mix3 (word form op1 op2 f) (word form op1 op2 g)
-unfolding word fields_of bounds second_bound
-mix3-word Rlc op1 op2 f g first second below under = omega arith
-mix3-word Rr op1 op2 f g first second below under = omega arith
-mix3-word Rc op1 op2 f g first second below under = omega arith
-mix3-word Bol op1 op2 f g first second below under = omega arith
-mix3-word Bo op1 op2 f g first second below under = omega arith
-mix3-word Brr op1 op2 f g first second below under = omega arith
-mix3-word Brc op1 op2 f g first second below under = omega arith
-mix3-word B op1 op2 f g first second below under = omega arith
-mix3-word Abs op1 op2 f g first second below under = omega arith
-mix3-word Sys op1 op2 f g first second below under = omega arith
-mix3-word Sr op1 op2 f g first second below under = omega arith
-mix3-word Sc op1 op2 f g first second below under = omega arith
-mix3-word Sb op1 op2 f g first second below under = omega arith
-mix3-word Sbr op1 op2 f g first second below under = omega arith
-mix3-word Src op1 op2 f g first second below under = omega arith
-mix3-word Srr op1 op2 f g first second below under = omega arith
-mix3-word Slr op1 op2 f g first second below under = omega arith
-mix3-word Ssr op1 op2 f g first second below under = omega arith

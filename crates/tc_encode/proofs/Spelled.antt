@@ -1,17 +1,16 @@
 -- What stands at the front of bytes, against a row.
-use Rattle.std.proofs.Common.{◌≡◌, ◌≢◌, ◌+◌, ◌*◌, ◌/◌, ◌%◌, ◌^◌, ◌<◌, ◌≤◌, ℕ, Bool, true, false, List, [], ◌∷◌, ◌++◌, length, take, drop, refl, sym, ap, subst, ◌∙◌, arith, ◌==◌, append_assoc}
-use Rattle.std.specs.Prelude.{nat_lt, ◌&&◌, if◌then◌else◌}
-use Rattle.std.specs.Str.{bytes_eq}
+use Rattle.std.proofs.Common.{◌≡◌, ◌^◌, ◌<◌, ℕ, Bool, true, false, List, ◌++◌, length, take, refl, sym, ap, ◌∙◌, arith}
+use Rattle.std.specs.Prelude.{if◌then◌else◌}
 use Rattle.std.proofs.lemmas.Bool.{and_parts, and_from, ltb-true, lt-ltb}
 use Rattle.std.proofs.lemmas.Slice.Eq.{bytes_eq-Decides}
 use Rattle.std.proofs.lemmas.List.{take_at}
 use Rattle.tc_isa.specs.declared.fields.Fields.{Fields}
 use Rattle.tc_isa.specs.Rows.{RowData}
-use Rattle.tc_isa.specs.Words.{bounds, fields_of, IsBelow, word}
-use Rattle.tc_isa.specs.Codec.{Fits, IsRow, word_of, uses_of, rest_is_zero, is_apart, is_below_test, is_long, least, spelled, spelling, two_bytes, four_bytes}
-use Rattle.tc_encode.specs.Decoding.{number_of, size_of, do_fit, fields_at, begins_with, goes_on_as}
+use Rattle.tc_isa.specs.Words.{bounds, fields_of, IsBelow}
+use Rattle.tc_isa.specs.Codec.{Fits, IsRow, word_of, is_below_test, is_long, spelled, spelling, two_bytes, four_bytes}
+use Rattle.tc_encode.specs.Decoding.{number_of, size_of, do_fit, fields_at, begins_with}
 use Rattle.tc_encode.proofs.Inverse.{fields-word}
-use Rattle.tc_encode.proofs.Bytes.{word-lt, short-lt}
+use Rattle.tc_encode.proofs.Bytes.{word-lt}
 
 -- the fields fit where the test says so
 pub below_from : (f b : Fields) → is_below_test f b ≡ true → IsBelow f b

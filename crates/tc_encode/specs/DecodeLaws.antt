@@ -29,6 +29,10 @@ LengthsAreRight = (xs : List ℕ) (i : InstData) (n : ℕ) → decoded_of xs ≡
 abbrev pub DecodedSpells : Type 0
 DecodedSpells = (xs : List ℕ) (i : InstData) (n : ℕ) → decoded_of xs ≡ Ok (i, n) → Spells (take n xs) i
 
+-- what is decoded is what the bytes begin with
+abbrev pub DecodedBegins : Type 0
+DecodedBegins = (xs : List ℕ) (i : InstData) (n : ℕ) → (decoded_of xs ≡ Ok (i, n)) ↔ Begins xs i n
+
 -- what spells an instruction is decoded, whatever follows
 abbrev pub SpelledDecodes : Type 0
 SpelledDecodes = (bytes rest : List ℕ) (i : InstData) → Spells bytes i → decoded_of (bytes ++ rest) ≡ Ok (i, length bytes)
@@ -45,6 +49,7 @@ pub record DecodeLaws : Type 0 where
   pub more : MoreChangesNothing
   pub lengths : LengthsAreRight
   pub decoded : DecodedSpells
+  pub begins : DecodedBegins
   pub spelled : SpelledDecodes
   pub short : ShortIsFront
   pub not_listed : NotListedIsRest

@@ -1,11 +1,11 @@
 -- Bytes read as an instruction.
-use Rattle.std.specs.Prelude.{◌+◌, ◌*◌, ◌&&◌, ℕ, suc, Bool, List, [], ◌∷◌, ◌++◌, length, take, drop, Option, Some, None, Result, Ok, Err, nat_lt, if◌then◌else◌}
+use Rattle.std.specs.Prelude.{◌+◌, ◌*◌, ◌%◌, ◌==◌, ◌&&◌, ℕ, suc, Bool, List, [], ◌∷◌, ◌++◌, length, take, drop, Option, Some, None, Result, Ok, Err, nat_lt, if◌then◌else◌}
 use Rattle.std.specs.List.{list_any}
 use Rattle.std.specs.Str.{bytes_eq}
 use Rattle.tc_isa.specs.declared.fields.Fields.{Fields}
 use Rattle.tc_isa.specs.Rows.{RowData, listed}
 use Rattle.tc_isa.specs.Words.{bounds, fields_of}
-use Rattle.tc_isa.specs.Codec.{uses_of, rest_is_zero, is_apart, is_below_test, is_long, least, spelling}
+use Rattle.tc_isa.specs.Codec.{uses_of, rest_is_zero, is_apart, is_below_test, least, spelling}
 use Rattle.tc_isa.specs.Insts.{InstData}
 use Rattle.tc_encode.specs.declared.errors.DecodeErr.{DecodeErr}
 use Rattle.tc_encode.specs.declared.errors.DecodeErr.TheVariants.{Short, NotListed}
@@ -15,9 +15,13 @@ abbrev pub number_of : List ℕ → ℕ
 number_of [] = 0
 number_of (b ∷ bs) = b + 256 * number_of bs
 
+-- how many bytes what begins with this byte has: bit 0 of the first byte tells it
+abbrev pub need_of : ℕ → ℕ
+need_of first = if first % 2 == 1 then 4 else 2
+
 -- how many bytes the spellings of a row have
 abbrev pub size_of : RowData → ℕ
-size_of r = if is_long r then 4 else 2
+size_of r = need_of r.op1
 
 -- whether fields fit a row
 abbrev pub do_fit : RowData → Fields → Bool

@@ -2,7 +2,6 @@
 ghost use Rattle.std.specs.Prelude.{◌≡◌, ◌<◌, ◌^◌, ◌↔◌, IsTrue};
 ghost use Rattle.tc_isa.specs.Words.{IsBelow, bounds, second_bound, word, fields_of, second_of};
 
-
 use tc_isa::{Fields, Form};
 
 /// The fields of a word.
@@ -113,6 +112,23 @@ pub fn split(form: Form, w: u32) -> Fields
             n: 0,
             k: 0,
         },
+    }
+}
+
+/// The second code of a word.
+#[tactic(auto, unfolding(tc_isa::specs::Words::second_of))]
+pub fn second_code(form: Form, w: u32) -> u8
+    requires { w < 2 ^ 32 }
+    ensures { result ≡ second_of form w }
+{
+    match form {
+        Form::Rr => (w / 1048576 % 256) as u8,
+        Form::Rc => (w / 2097152 % 128) as u8,
+        Form::Bo | Form::Sys => (w / 4194304 % 64) as u8,
+        Form::Brr | Form::Brc => (w / 2147483648) as u8,
+        Form::Abs => (w / 67108864 % 4) as u8,
+        Form::Sr => (w / 4096 % 16) as u8,
+        _ => 0,
     }
 }
 

@@ -32,3 +32,8 @@ inst_within rows i are is =
 
 pub uses_listed : (rows : List Row) (uses : List Uses) (i : ℕ) (d : Row) (u : Uses) → map row_of rows ≡ listed → uses ≡ map uses_of listed → i < length rows → get_or uses i u ≡ uses_of (row_of (get_or rows i d))
 uses_listed rows uses i d u are is within = uses_here rows uses i d u (is ∙ ap (map uses_of) (sym are)) within
+
+-- the row of an instruction is the one at this place of the program's table
+pub row_of_inst : (rows : List Row) (p : ℕ) (d : Row) (i : InstData) (is : IsInst i) → map row_of rows ≡ listed → p ≡ i.row → is.row ≡ row_of (get_or rows p d)
+row_of_inst rows p d i is are same =
+    some_same is.row (row_of (get_or rows p d)) (sym is.at ∙ ap (slice_get listed) (sym same) ∙ at_listed rows p d are (subst (λ q. q < length rows) (sym same) (inst_within rows i are is)))

@@ -30,4 +30,3 @@ uses_here rows uses i d u is h =
 
 pub at_here : (rows : List Row) (i : ℕ) (d : Row) → i < length rows → slice_get (map row_of rows) i ≡ Some (row_of (get_or rows i d))
 at_here rows i d h = slice_get-get_or (map row_of rows) i (row_of d) (long_map rows i h) ∙ ap (λ r. Some r) (get_or-map row_of rows i d (row_of d) h)
-

@@ -1,5 +1,6 @@
 -- Arithmetic on words, by whole numbers modulo 2 ^ 32 (TriCore 1 architecture manual, volume 2, instruction set).
 use Rattle.std.specs.Prelude.{◌+◌, ◌-◌, ◌*◌, ◌/◌, ◌%◌, ◌^◌, ℕ, Bool, not, ◌==◌, nat_lt, nat_le, if◌then◌else◌, bit_and, bit_or, bit_xor}
+use Rattle.tcd_base.specs.Numbers.{sext_of}
 use Rattle.tc_isa.specs.declared.shapes.Op.{Op}
 use Rattle.tc_isa.specs.declared.shapes.Op.TheVariants as op
 use Rattle.tc_isa.specs.declared.shapes.Cond.{Cond}
@@ -7,7 +8,7 @@ use Rattle.tc_isa.specs.declared.shapes.Cond.TheVariants as cond
 
 -- a number of n bits, sign-extended to 32
 abbrev pub sign_extended : ℕ → ℕ → ℕ
-sign_extended n x = if nat_lt x (2 ^ (n - 1)) then x else x + 2 ^ 32 - 2 ^ n
+sign_extended n x = sext_of x n
 
 -- a word's place in the signed order: words stand in it as these numbers stand in theirs
 abbrev pub signed_place : ℕ → ℕ

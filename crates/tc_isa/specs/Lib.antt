@@ -6,3 +6,5 @@ pub mod Spelling
 pub mod Arithmetic
 pub mod Shapes
 pub mod Writes
+pub mod Meanings
+pub mod Bounded

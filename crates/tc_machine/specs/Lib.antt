@@ -5,3 +5,4 @@ pub mod Instructions
 pub mod Stepping
 pub mod Ranges
 pub mod Safe
+pub mod MachineLaws

@@ -2,5 +2,7 @@
 #![tactic(auto)]
 
 mod events;
+mod laws;
 
 pub use events::{Cause, End, Event};
+pub use laws::laws_of_machines;

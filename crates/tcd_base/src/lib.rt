@@ -10,6 +10,8 @@ mod numbers;
 mod parts;
 mod reading;
 mod sink;
+#[cfg(test)]
+mod tests;
 
 pub use cursor::Cursor;
 pub use files::{FileErr, Files};

@@ -2,3 +2,8 @@ pub mod Coded
 pub mod Deciding
 pub mod Found
 pub mod Ranges
+pub mod Frames
+pub mod Steps
+pub mod Rules
+pub mod Start
+pub mod Sound

@@ -6,8 +6,8 @@ ghost use Rattle.tc_machine.specs.Ranges.{IsInOne};
 ghost use Rattle.tcd_driver.specs.Failures.{FindsCode};
 
 use elf_image::Image;
-use crate::pending::{decode, shape};
-use tc_isa::Shape;
+use tc_encode::decode;
+use tc_isa::{Shape, shape};
 use tcd_base::Range;
 use tcd_plan::Plan;
 

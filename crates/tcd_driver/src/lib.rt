@@ -8,13 +8,14 @@ mod ending;
 mod findings;
 mod follows;
 mod inputs;
+mod laws;
 mod lines;
-mod pending;
 mod printing;
 mod reading;
 mod saying;
 mod status;
 mod tools;
 
+pub use laws::accepted_is_safe;
 pub use status::Status;
 pub use tools::tool;

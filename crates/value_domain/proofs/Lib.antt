@@ -1,0 +1,12 @@
+pub mod SetLaws
+pub mod LimitLaws
+pub mod CoverLaws
+pub mod ExtentLaws
+pub mod Loops
+pub mod PutLaws
+pub mod RangeLaws
+pub mod RegLaws
+pub mod JoinLaws
+pub mod WordLaws
+pub mod EndLaws
+pub mod FloorLaws

@@ -1,0 +1,136 @@
+-- The steps of loops.
+use Rattle.std.proofs.Common.{◌≡◌, ℕ, zero, suc, ◌+◌, ◌-◌, ◌*◌, ◌^◌, ◌<◌, ◌≤◌, inl, inr, true, false, List, [], ◌∷◌, length, refl, sym, ap, ◌∙◌, arith, min, max, drop, subst, get_or, add-one, ◌/◌, ◌%◌, eqb}
+use Rattle.std.proofs.Math.Seq.{drop-cons}
+use Rattle.std.proofs.lemmas.List.{drop_all}
+use Rattle.std.proofs.lemmas.Bool.{cases_lt, lt-ltb, le-ltb, le-leb, lt-leb, eqb-true, eq-eqb, or_cases, or_right}
+use Rattle.std.specs.List.{list_any, insert}
+use Rattle.value_domain.proofs.ExtentLaws.{some_length, extent_rising, extent_range}
+use Rattle.value_domain.proofs.CoverLaws.{step_cases}
+use Rattle.value_domain.specs.Values.{IsExtent, IsWell, range}
+use Rattle.value_domain.specs.declared.values.Val.TheVariants.{Span}
+use Rattle.value_domain.specs.Sets.{Among, Rising, twos, step_of, least, greatest, put, AreWords}
+use Rattle.value_domain.specs.Floors.{floor, above}
+use Rattle.value_domain.proofs.SetLaws.{put-lt, put-gt, rising_put, among_put, length_put, put_has, greatest_greatest}
+
+pub drop_at : (xs : List ℕ) (i : ℕ) → i < length xs → drop i xs ≡ get_or xs i 0 ∷ drop (i + 1) xs
+drop_at xs i h = rw (add-one) (drop-cons xs i 0 h)
+
+pub step_more : (xs : List ℕ) (i step t : ℕ) → i < length xs → step_of xs ≡ min step (step_of (drop i xs)) → t ≡ twos (get_or xs i 0)
+    → step_of xs ≡ min (min t step) (step_of (drop (i + 1) xs))
+unfolding step_of
+step_more xs i step t h inv e =
+    let d : step_of (drop i xs) ≡ min (twos (get_or xs i 0)) (step_of (drop (i + 1) xs)) = ap step_of (drop_at xs i h) in
+    omega arith
+
+pub step_all : (xs : List ℕ) (i step : ℕ) → length xs ≤ i → step ≤ 2 → step_of xs ≡ min step (step_of (drop i xs)) → step ≡ step_of xs
+unfolding step_of
+step_all xs i step h small inv = let d : step_of (drop i xs) ≡ 2 = ap step_of (drop_all i xs h) in omega arith
+
+pub floor_more : (ts : List ℕ) (x i best : ℕ) → i < length ts → floor ts x ≡ max best (floor (drop i ts) x) →
+    (get_or ts i 0 ≤ x → floor ts x ≡ max (max best (get_or ts i 0)) (floor (drop (i + 1) ts) x))
+    × (x < get_or ts i 0 → floor ts x ≡ max best (floor (drop (i + 1) ts) x))
+unfolding floor
+floor_more ts x i best h inv =
+    let d = ap (λ (l : List ℕ). floor l x) (drop_at ts i h) in (
+      (λ low. let e : floor (drop i ts) x ≡ max (get_or ts i 0) (floor (drop (i + 1) ts) x) = rw (le-leb (get_or ts i 0) x low) at d in omega arith),
+      (λ high. let e : floor (drop i ts) x ≡ floor (drop (i + 1) ts) x = rw (lt-leb (get_or ts i 0) x high) at d in omega arith),
+    )
+
+pub floor_all : (ts : List ℕ) (x i best : ℕ) → length ts ≤ i → floor ts x ≡ max best (floor (drop i ts) x) → best ≡ floor ts x
+unfolding floor
+floor_all ts x i best h inv = let d : floor (drop i ts) x ≡ 0 = ap (λ (l : List ℕ). floor l x) (drop_all i ts h) in omega arith
+
+pub above_more : (ts : List ℕ) (x i best : ℕ) → i < length ts → above ts x ≡ min best (above (drop i ts) x) →
+    (x < get_or ts i 0 → above ts x ≡ min (min best (get_or ts i 0)) (above (drop (i + 1) ts) x))
+    × (get_or ts i 0 ≤ x → above ts x ≡ min best (above (drop (i + 1) ts) x))
+unfolding above
+above_more ts x i best h inv =
+    let d = ap (λ (l : List ℕ). above l x) (drop_at ts i h) in (
+      (λ low. let e : above (drop i ts) x ≡ min (get_or ts i 0) (above (drop (i + 1) ts) x) = rw (lt-ltb x (get_or ts i 0) low) at d in omega arith),
+      (λ high. let e : above (drop i ts) x ≡ above (drop (i + 1) ts) x = rw (le-ltb x (get_or ts i 0) high) at d in omega arith),
+    )
+
+pub above_all : (ts : List ℕ) (x i best : ℕ) → x < 2 ^ 32 → best ≤ 2 ^ 32 → length ts ≤ i → above ts x ≡ min best (above (drop i ts) x) → best ≡ above ts x
+unfolding above
+above_all ts x i best small low h inv = let d : above (drop i ts) x ≡ max (x + 1) (2 ^ 32) = ap (λ (l : List ℕ). above l x) (drop_all i ts h) in omega arith
+
+pub among_any : (x : ℕ) (xs : List ℕ) → (list_any (λ y. eqb x y) xs ≡ true → Among x xs) × (Among x xs → list_any (λ y. eqb x y) xs ≡ true)
+among_any x [] = ((λ h. absurd (let f : false ≡ true = h in cc)), (λ i. absurd i))
+among_any x (y ∷ ys) =
+    let rest = among_any x ys in (
+      (λ h. elim (or_cases (eqb x y) (list_any (λ y. eqb x y) ys) h) [ inl e ↦ inl (eqb-true x y e) | inr r ↦ inr (rest.0 r) ]),
+      (λ i. elim i [ inl e ↦ or_from_left x y ys e | inr j ↦ or_from_right x y ys (rest.1 j) ]),
+    )
+  where
+    or_from_left : (x y : ℕ) (ys : List ℕ) → x ≡ y → list_any (λ y. eqb x y) (y ∷ ys) ≡ true
+    or_from_left x y ys e = rw (eq-eqb x y e) refl
+
+    or_from_right : (x y : ℕ) (ys : List ℕ) → list_any (λ y. eqb x y) ys ≡ true → list_any (λ y. eqb x y) (y ∷ ys) ≡ true
+    or_from_right x y ys h = or_right (eqb x y) (list_any (λ y. eqb x y) ys) h
+
+-- the elements of a list by their places
+pub among_get : (ws : List ℕ) (i : ℕ) → i < length ws → Among (get_or ws i 0) ws
+among_get [] i h = absurd (omega arith)
+among_get (w ∷ ws) zero h = inl refl
+among_get (w ∷ ws) (suc i) h = inr (among_get ws i (omega arith))
+
+-- a word that isn't there goes before the first greater one
+pub put-insert : (x : ℕ) (ws : List ℕ) (at : ℕ) → Rising ws → at ≤ length ws → (0 < at → get_or ws (at - 1) 0 < x) → (at < length ws → x < get_or ws at 0)
+    → put x ws ≡ insert ws at x
+unfolding put
+put-insert x [] zero r within before after = refl
+put-insert x [] (suc at) r within before after = absurd (omega arith)
+put-insert x (y ∷ ys) zero r within before after = put-lt x y ys (after (omega arith))
+put-insert x (y ∷ ys) (suc zero) r within before after =
+    let high : y < x = before (omega arith) in
+    put-gt x y ys high ∙ ap (λ (l : List ℕ). y ∷ l) (put-insert x ys zero r.1 (omega arith) (λ h. absurd (omega arith)) (λ h. after (omega arith)))
+put-insert x (y ∷ ys) (suc (suc at)) r within before after =
+    let two : get_or (y ∷ ys) (suc (suc at) - 1) 0 ≡ get_or ys at 0 = let e : suc (suc at) - 1 ≡ suc at = omega arith in ap (λ i. get_or (y ∷ ys) i 0) e in
+    let last : get_or ys at 0 < x = rw two at (before (omega arith)) in
+    let over : y < get_or ys at 0 = r.0 (get_or ys at 0) (among_get ys at (omega arith)) in
+    put-gt x y ys (omega arith)
+    ∙ ap (λ (l : List ℕ). y ∷ l) (put-insert x ys (suc at) r.1 (omega arith) (λ h. let e : suc at - 1 ≡ at = omega arith in rw e last) (λ h. after (omega arith)))
+
+pub words_put : (x : ℕ) (ws : List ℕ) → AreWords ws → length ws < 128 → x < 2 ^ 32 → AreWords (put x ws)
+words_put x ws a room small = record {
+  some = some_length (put x ws) x (put_has x ws);
+  few = omega (arith, length_put x ws);
+  rising = rising_put x ws a.rising;
+  below = λ z i. elim (among_put z x ws i) [ inl e ↦ let e2 : z ≡ x = e in omega arith | inr j ↦ a.below z j ];
+}
+
+pub greatest-last : (ws : List ℕ) → Rising ws → 1 ≤ length ws → greatest ws ≡ get_or ws (length ws - 1) 0
+unfolding greatest
+greatest-last [] r some = absurd (omega arith)
+greatest-last (w ∷ []) r some = omega arith
+greatest-last (w ∷ v ∷ vs) r some =
+    let rest : greatest (v ∷ vs) ≡ get_or (v ∷ vs) (length (v ∷ vs) - 1) 0 = greatest-last (v ∷ vs) r.1 (omega arith) in
+    let over : w < v = r.0 v (inl refl) in
+    let high : v ≤ greatest (v ∷ vs) = greatest_greatest (v ∷ vs) v (inl refl) in
+    let i : length (w ∷ v ∷ vs) - 1 ≡ suc (length (v ∷ vs) - 1) = omega arith in
+    let m : max w (greatest (v ∷ vs)) ≡ greatest (v ∷ vs) = omega arith in
+    m ∙ rest ∙ ap (λ i. get_or (w ∷ v ∷ vs) i 0) (sym i)
+
+pub least-first : (ws : List ℕ) → 1 ≤ length ws → least ws ≡ get_or ws 0 0
+unfolding least
+least-first [] some = refl
+least-first (w ∷ ws) some = refl
+
+pub extent_places : (ws : List ℕ) (step : ℕ) → AreWords ws → step ≡ step_of ws → IsExtent ws (get_or ws 0 0) (get_or ws (length ws - 1) 0) step
+extent_places ws step a e = rw (← least-first ws a.some, ← greatest-last ws a.rising a.some, e) (extent_rising ws a.rising a.some)
+
+-- a shift gives the unit of a step
+unit_shift : (s : ℕ) → s ≤ 2 → 1 * 2 ^ s % 2 ^ 64 ≡ 2 ^ s
+unit_shift = step_cases (λ s. 1 * 2 ^ s % 2 ^ 64 ≡ 2 ^ s) refl refl refl
+
+pub extent_units : (lo last s lo2 last2 : ℕ) → lo2 ≡ lo → last2 ≡ last → IsWell (Span lo last s)
+    → IsExtent (range lo last s) ((lo2 + (1 * 2 ^ s % 2 ^ 64 - 1)) / (1 * 2 ^ s % 2 ^ 64) * (1 * 2 ^ s % 2 ^ 64)) (last2 / (1 * 2 ^ s % 2 ^ 64) * (1 * 2 ^ s % 2 ^ 64)) s
+extent_units lo last s lo2 last2 e f well = rw (unit_shift s well.0, e, f) (extent_range lo last s well.0 (omega (arith, well.1)))
+
+pub above_absent : (x : ℕ) (ws : List ℕ) (at : ℕ) → (Among x ws → ⊥) → (at < length ws → x ≤ get_or ws at 0) → at < length ws → x < get_or ws at 0
+above_absent x ws at absent low h =
+    let l : x ≤ get_or ws at 0 = low h in
+    elim (cases_lt x (get_or ws at 0)) [
+      | inl lt ↦ lt
+      | inr ge ↦ let e : get_or ws at 0 ≡ x = omega arith in absurd (absent (subst (λ (z : ℕ). Among z ws) e (among_get ws at h)))
+    ]

@@ -1,0 +1,8 @@
+-- Where ranges begin and end.
+use Rattle.std.specs.Prelude.{◌+◌, ℕ, List, [], ◌∷◌}
+use Rattle.tcd_base.specs.declared.parts.Range.{Range}
+
+-- the first address of each range, and the one past its last
+abbrev pub ends : List Range → List ℕ
+ends [] = []
+ends (r ∷ rs) = r.at ∷ (r.at + r.len) ∷ ends rs

@@ -1,0 +1,10 @@
+pub mod Ends
+pub mod Floors
+pub mod Laws
+pub mod Limits
+pub mod Sets
+pub mod State
+pub mod StateLaws
+pub mod Thresholds
+pub mod Values
+pub mod Versions

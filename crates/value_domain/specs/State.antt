@@ -1,0 +1,60 @@
+-- States, the covering of one by another, and the least state that covers two.
+use Rattle.std.specs.Prelude.{◌<◌, ◌≤◌, ℕ, Bool, ◌&&◌, ◌||◌, ◌==◌, if◌then◌else◌, min, List, [], ◌∷◌, ◌++◌, length, Option, Some, None, IsTrue, slice_index_or}
+use Rattle.value_domain.specs.declared.values.Val.{Val}
+use Rattle.value_domain.specs.declared.states.State.{State}
+use Rattle.value_domain.specs.Limits.{Limits}
+use Rattle.value_domain.specs.Values.{IsWell, IsValue, IsBelow, cover, members, any_val}
+
+-- each register of a list has a well-formed value, a value of the plan, a value below another's
+abbrev pub AreWell : List Val → Type 0
+AreWell vs = (r : ℕ) → r < length vs → IsWell (slice_index_or vs r any_val)
+
+abbrev pub AreValues : Limits → List Val → Type 0
+AreValues b vs = (r : ℕ) → r < length vs → IsValue b (slice_index_or vs r any_val)
+
+abbrev pub AreBelow : List Val → List Val → Type 0
+AreBelow vs ws = (r : ℕ) → r < length vs → IsBelow (slice_index_or vs r any_val) (slice_index_or ws r any_val)
+
+-- as many flags, and each implies the other's
+abbrev pub ImpliedBy : List Bool → List Bool → Type 0
+ImpliedBy [] [] = Unit {0}
+ImpliedBy [] (y ∷ ys) = ⊥
+ImpliedBy (x ∷ xs) [] = ⊥
+ImpliedBy (x ∷ xs) (y ∷ ys) = (IsTrue x → IsTrue y) × ImpliedBy xs ys
+
+-- the context of the upper state covers that of a state
+abbrev pub CoversContext : State → State → Type 0
+CoversContext upper s = (IsTrue s.ie → IsTrue upper.ie) × (upper.ccpn ≤ s.ccpn) × (IsTrue upper.lower → IsTrue s.lower)
+
+-- the upper state covers a state
+pub record Covers (upper s : State) : Type 0 where
+  pub regs : AreBelow s.regs upper.regs
+  pub context : CoversContext upper s
+  pub locals : ImpliedBy upper.locals.items s.locals.items
+
+abbrev pub join_of : Limits → Val → Val → Val
+join_of b v w = cover b (members v ++ members w)
+
+unfoldable pub joined_regs : Limits → List Val → List Val → List Val
+joined_regs b [] ws = []
+joined_regs b (v ∷ vs) [] = []
+joined_regs b (v ∷ vs) (w ∷ ws) = join_of b v w ∷ joined_regs b vs ws
+
+abbrev pub joined_locals : List Bool → List Bool → List Bool
+joined_locals [] ys = []
+joined_locals (x ∷ xs) [] = []
+joined_locals (x ∷ xs) (y ∷ ys) = (x && y) ∷ joined_locals xs ys
+
+-- the least state that covers both
+abbrev pub joined_of : Limits → State → State → State
+joined_of b s t = record {
+  regs = joined_regs b s.regs t.regs;
+  ie = s.ie || t.ie;
+  ccpn = min s.ccpn t.ccpn;
+  lower = s.lower && t.lower;
+  locals = record { items = joined_locals s.locals.items t.locals.items };
+}
+
+-- none for unequal numbers of locals
+abbrev pub joined : Limits → State → State → Option State
+joined b s t = if length s.locals.items == length t.locals.items then Some (joined_of b s t) else None

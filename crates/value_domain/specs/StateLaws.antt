@@ -1,0 +1,17 @@
+-- What holds of the joining of states.
+use Rattle.std.specs.Prelude.{◌≡◌, length}
+use Rattle.value_domain.specs.declared.states.State.{State}
+use Rattle.value_domain.specs.Limits.{Limits, AreLimits}
+use Rattle.value_domain.specs.State.{Covers, AreValues, joined_of}
+
+-- j is the least state that covers both
+pub record IsJoin (b : Limits) (s t j : State) : Type 0 where
+  pub values : AreValues b j.regs
+  pub left : Covers j s
+  pub right : Covers j t
+  pub least : (u : State) → length u.regs ≡ length s.regs → AreValues b u.regs → Covers u s → Covers u t → Covers u j
+
+abbrev pub AreJoined : Type 0
+AreJoined =
+    (b : Limits) (s t : State) → AreLimits b → length s.regs ≡ length t.regs → length s.locals.items ≡ length t.locals.items
+    → AreValues b s.regs → AreValues b t.regs → IsJoin b s t (joined_of b s t)

@@ -1,0 +1,18 @@
+-- The thresholds of a plan, and the limits of a version.
+use Rattle.std.specs.Prelude.{◌^◌, ℕ, zero, suc, List, [], ◌∷◌, ◌++◌}
+use Rattle.tcd_plan.specs.PlanData.{PlanData, all_ranges}
+use Rattle.value_domain.specs.Ends.{ends}
+use Rattle.value_domain.specs.Limits.{Limits}
+use Rattle.value_domain.specs.Versions.{width_of, most_of}
+
+-- the first n powers of two, from 1 on
+unfoldable pub powers_of_two : ℕ → List ℕ
+powers_of_two zero = []
+powers_of_two (suc n) = powers_of_two n ++ 2 ^ n ∷ []
+
+-- 0, the powers of two from 1 to 2^32, and where each range of the plan begins and ends
+abbrev pub thresholds_of : PlanData → List ℕ
+thresholds_of p = (0 ∷ powers_of_two 33) ++ ends (all_ranges p)
+
+abbrev pub limits_for : PlanData → ℕ → Limits
+limits_for p version = record { thresholds = thresholds_of p; width = width_of version; most = most_of version }

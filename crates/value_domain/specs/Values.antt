@@ -1,0 +1,70 @@
+-- Values, and the least value that holds a set.
+use Rattle.std.specs.Prelude.{Option, Some, None, ◌≡◌, ◌<◌, ◌≤◌, ◌+◌, ◌-◌, ◌/◌, ◌^◌, ℕ, nat_le, if◌then◌else◌, List, length}
+use Rattle.value_domain.specs.declared.values.Val.{Val}
+use Rattle.value_domain.specs.declared.values.Val.TheVariants.{Set, Span}
+use Rattle.value_domain.specs.Sets.{Among, AreWords, distinct, twos, least, greatest, step_of, multiples}
+use Rattle.value_domain.specs.Limits.{Limits}
+use Rattle.value_domain.specs.Floors.{floor, above}
+
+-- a word is one of a value's members
+abbrev pub IsMember : ℕ → Val → Type 0
+IsMember x (Set ws) = Among x ws
+IsMember x (Span lo last step) = (lo ≤ x) × (x ≤ last) × (step ≤ twos x)
+
+-- a range's first multiple of 2 ^ step, in units, and how many it has
+abbrev pub first_in : ℕ → ℕ → ℕ
+first_in lo step = (lo + (2 ^ step - 1)) / 2 ^ step
+
+abbrev pub count_in : ℕ → ℕ → ℕ → ℕ
+count_in lo last step = (last / 2 ^ step + 1) - first_in lo step
+
+-- the multiples of 2 ^ step in lo..=last
+abbrev pub range : ℕ → ℕ → ℕ → List ℕ
+range lo last step = multiples (count_in lo last step) (first_in lo step) (2 ^ step)
+
+abbrev pub members : Val → List ℕ
+members (Set ws) = ws
+members (Span lo last step) = range lo last step
+
+-- a Set of ascending words, or a Span of more than 64
+abbrev pub IsWell : Val → Type 0
+IsWell (Set ws) = AreWords ws
+IsWell (Span lo last step) = (step ≤ 2) × (64 < count_in lo last step) × (last < 2 ^ 32)
+
+-- the least value that holds an ascending list
+abbrev pub value_of : Limits → List ℕ → Val
+value_of b ws =
+    if nat_le (length ws) b.width
+    then Set ws
+    else Span (floor b.thresholds (least ws)) (above b.thresholds (greatest ws) - 1) (step_of ws)
+
+-- the least value that holds all words of a list
+unfoldable pub cover : Limits → List ℕ → Val
+cover b xs = value_of b (distinct xs)
+
+-- a value is the cover of its members
+pub record IsValue (b : Limits) (v : Val) : Type 0 where
+  pub well : IsWell v
+  pub own : cover b (members v) ≡ v
+
+-- each member of one value is a member of the other
+abbrev pub IsBelow : Val → Val → Type 0
+IsBelow v w = (x : ℕ) → IsMember x v → IsMember x w
+
+-- lo and hi are the least and the greatest of a set, and s is the greatest step up to 2 that fits all of it
+pub record IsExtent (xs : List ℕ) (lo hi s : ℕ) : Type 0 where
+  pub low_in : Among lo xs
+  pub high_in : Among hi xs
+  pub low : (z : ℕ) → Among z xs → lo ≤ z
+  pub high : (z : ℕ) → Among z xs → z ≤ hi
+  pub fits : (z : ℕ) → Among z xs → s ≤ twos z
+  pub small : s ≤ 2
+  pub full : (t : ℕ) → t ≤ 2 → ((z : ℕ) → Among z xs → t ≤ twos z) → t ≤ s
+
+-- all words
+abbrev pub any_val : Val
+any_val = Span 0 4294967295 0
+
+abbrev pub words_of : Val → Option (List ℕ)
+words_of (Set ws) = Some ws
+words_of (Span lo last step) = None

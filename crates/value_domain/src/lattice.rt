@@ -1,0 +1,316 @@
+// The least value that holds a set.
+ghost use Rattle.std.specs.Prelude.{◌≡◌, ◌==◌, ◌≤◌, ◌<◌, ◌+◌, ◌-◌, ◌*◌, ◌/◌, ◌^◌, IsTrue, length, min, max, [], ◌∷◌, ◌++◌, List, ℕ, ◌↔◌};
+ghost use Rattle.value_domain.specs.Sets.{AreWords, Among, Within, least, greatest, step_of};
+ghost use Rattle.value_domain.specs.Sets as sets;
+ghost use Rattle.std.specs.List.{list_any};
+ghost use Rattle.value_domain.specs.Floors.{floor, above};
+ghost use Rattle.value_domain.specs.Limits.{AreLimits};
+ghost use Rattle.value_domain.specs.Values.{IsMember, IsWell, IsValue, IsBelow, IsExtent, cover, members, range, count_in, first_in};
+ghost use Rattle.value_domain.specs.declared.values.Val.TheVariants.{Set, Span};
+
+use crate::{Bounds, Val, Words};
+
+/// The least and the greatest member of a value, and its step.
+#[derive(Clone, Copy)]
+pub struct Extent {
+    pub least: u32,
+    pub greatest: u32,
+    pub step: u8,
+}
+
+/// How often two divides a word, counted up to 2.
+#[tactic(auto, unfolding(crate::specs::Sets::twos))]
+pub fn twos(x: u32) -> u8
+    ensures { result ≡ sets.twos x }
+{
+    if x % 4 == 0 {
+        2
+    } else if x % 2 == 0 {
+        1
+    } else {
+        0
+    }
+}
+
+pub fn member(x: u32, v: &Val) -> bool
+    requires { IsWell v.now }
+    ensures { IsTrue result ↔ IsMember x v.now }
+{
+    match v {
+        Val::Set(words) => has(words.as_slice(), x),
+        Val::Span { lo, last, step } => *lo <= x && x <= *last && *step <= twos(x),
+    }
+}
+
+fn has(words: &[u32], x: u32) -> bool
+    ensures { result ≡ list_any (λ y. x == y) words.now }
+{
+    words.iter().any(|w| x == *w)
+}
+
+fn set_extent(words: &[u32]) -> Extent
+    requires { AreWords words.now }
+    ensures { IsExtent words.now result.least result.greatest result.step }
+{
+    Extent {
+        least: words[0],
+        greatest: words[words.len() - 1],
+        step: least_step(words),
+    }
+}
+
+fn least_step(words: &[u32]) -> u8
+    ensures { result ≡ step_of words.now }
+{
+    let mut step = 2;
+    for x in words {
+        step = twos(*x).min(step);
+    }
+    step
+}
+
+fn span_extent(lo: u32, last: u32, step: u8) -> Extent
+    requires { IsWell (Span lo last step) }
+    ensures { IsExtent (range lo last step) result.least result.greatest result.step }
+{
+    let unit = 1u64 << step;
+    Extent {
+        least: ((u64::from(lo) + (unit - 1)) / unit * unit) as u32,
+        greatest: (u64::from(last) / unit * unit) as u32,
+        step,
+    }
+}
+
+pub fn extent_of(v: &Val) -> Extent
+    requires { IsWell v.now }
+    ensures { IsExtent (members v.now) result.least result.greatest result.step }
+{
+    match v {
+        Val::Set(words) => set_extent(words.as_slice()),
+        Val::Span { lo, last, step } => span_extent(*lo, *last, *step),
+    }
+}
+
+fn span(b: &Bounds, least: u32, greatest: u32, step: u8) -> Val
+    ensures { result ≡ Span (floor b.now.thresholds least) (above b.now.thresholds greatest - 1) step }
+{
+    Val::Span {
+        lo: b.floor(least),
+        last: (b.above(greatest) - 1) as u32,
+        step,
+    }
+}
+
+/// The value with one more word.
+pub fn with_word(b: &Bounds, v: Val, x: u32) -> Val
+    requires { IsValue b.now v }
+    ensures cover { result ≡ cover b.now (x ∷ members v) }
+    ensures value { IsValue b.now result }
+{
+    let _width = b.width();
+    put_word(b, v, x)
+}
+
+fn put_word(b: &Bounds, v: Val, x: u32) -> Val
+    requires { IsValue b.now v }
+    ensures { result ≡ cover b.now (x ∷ members v) }
+{
+    let width = b.width();
+    if member(x, &v) {
+        return v;
+    }
+    match v {
+        Val::Set(mut words) => {
+            if words.as_slice().len() < width {
+                words.put(x);
+                return Val::Set(words);
+            }
+            let e = set_extent(words.as_slice());
+            wider(b, &e, x)
+        }
+        Val::Span { lo, last, step } => {
+            let e = span_extent(lo, last, step);
+            wider(b, &e, x)
+        }
+    }
+}
+
+fn wider(b: &Bounds, e: &Extent, x: u32) -> Val
+    ensures { result ≡ Span (floor b.now.thresholds (min x e.now.least)) (above b.now.thresholds (max x e.now.greatest) - 1) (min (sets.twos x) e.now.step) }
+{
+    span(b, x.min(e.least), x.max(e.greatest), twos(x).min(e.step))
+}
+
+fn with_words(b: &Bounds, v: Val, words: &[u32]) -> Val
+    requires { IsValue b.now v }
+    ensures cover { result ≡ cover b.now (members v ++ words.now) }
+    ensures value { IsValue b.now result }
+{
+    let mut out = v;
+    for x in words {
+        out = with_word(b, out, *x);
+    }
+    out
+}
+
+/// The least value that holds the words.
+pub fn cover_words(b: &Bounds, words: &[u32]) -> Val
+    requires { 1 ≤ length words.now }
+    ensures cover { result ≡ cover b.now words.now }
+    ensures value { IsValue b.now result }
+{
+    let _width = b.width();
+    with_words(b, Val::one(words[0]), words)
+}
+
+/// The least value that holds both.
+pub fn join(b: &Bounds, v: &Val, w: &Val) -> Val
+    requires left { IsValue b.now v.now }
+    requires right { IsValue b.now w.now }
+    ensures cover { result ≡ cover b.now (members v.now ++ members w.now) }
+    ensures value { IsValue b.now result }
+{
+    let _width = b.width();
+    match w {
+        Val::Set(words) => with_words(b, v.copy(), words.as_slice()),
+        Val::Span { lo, last, step } => join_span(b, v, *lo, *last, *step),
+    }
+}
+
+fn join_span(b: &Bounds, v: &Val, lo: u32, last: u32, step: u8) -> Val
+    requires left { IsValue b.now v.now }
+    requires right { IsValue b.now (Span lo last step) }
+    ensures { result ≡ cover b.now (members v.now ++ range lo last step) }
+{
+    let e = extent_of(v);
+    let f = span_extent(lo, last, step);
+    span(
+        b,
+        e.least.min(f.least),
+        e.greatest.max(f.greatest),
+        e.step.min(f.step),
+    )
+}
+
+/// Whether each member of `v` is one of `w`.
+pub fn leq(v: &Val, w: &Val) -> bool
+    requires left { IsWell v.now }
+    requires right { IsWell w.now }
+    ensures { IsTrue result ↔ IsBelow v.now w.now }
+{
+    match w {
+        Val::Span { lo, last, step } => {
+            let e = extent_of(v);
+            is_inside(&e, *lo, *last, *step)
+        }
+        Val::Set(words) => match v {
+            Val::Set(own) => are_among(own.as_slice(), words.as_slice()),
+            Val::Span { lo, last, step } => is_range_among(*lo, *last, *step, words.as_slice()),
+        },
+    }
+}
+
+fn is_inside(e: &Extent, lo: u32, last: u32, step: u8) -> bool
+    ensures { IsTrue result ↔ ((lo ≤ e.now.least) × (e.now.greatest ≤ last) × (step ≤ e.now.step)) }
+{
+    lo <= e.least && e.greatest <= last && step <= e.step
+}
+
+fn are_among(own: &[u32], words: &[u32]) -> bool
+    ensures { IsTrue result ↔ Within own.now words.now }
+{
+    for x in own {
+        if !has(words, *x) {
+            return false;
+        }
+    }
+    true
+}
+
+fn is_range_among(lo: u32, last: u32, step: u8, words: &[u32]) -> bool
+    requires { step ≤ 2 }
+    ensures { IsTrue result ↔ Within (range lo last step) words.now }
+{
+    let unit = 1u64 << step;
+    let start = (u64::from(lo) + (unit - 1)) / unit;
+    let end = u64::from(last) / unit + 1;
+    for k in start..end {
+        if !has(words, (k * unit) as u32) {
+            return false;
+        }
+    }
+    true
+}
+
+/// Whether a value is one of the plan and the version.
+pub fn is_value(b: &Bounds, v: &Val) -> bool
+    ensures { IsTrue result ↔ IsValue b.now v.now }
+{
+    match v {
+        Val::Set(words) => words.as_slice().len() <= b.width(),
+        Val::Span { lo, last, step } => is_span(b, *lo, *last, *step),
+    }
+}
+
+fn is_span(b: &Bounds, lo: u32, last: u32, step: u8) -> bool
+    ensures { IsTrue result ↔ IsValue b.now (Span lo last step) }
+{
+    if step > 2 {
+        return false;
+    }
+    if count_of(lo, last, step) <= b.width() as u64 {
+        return false;
+    }
+    let e = span_extent(lo, last, step);
+    lo == b.floor(e.least) && u64::from(last) + 1 == b.above(e.greatest)
+}
+
+/// How many multiples of `2 ^ step` a range has.
+pub fn count_of(lo: u32, last: u32, step: u8) -> u64
+    requires { step ≤ 2 }
+    ensures { result ≡ count_in lo last step }
+{
+    let unit = 1u64 << step;
+    (u64::from(last) / unit + 1).saturating_sub((u64::from(lo) + (unit - 1)) / unit)
+}
+
+/// The least value that holds the multiples of `2 ^ step` in `first..=last`.
+pub fn cover(b: &Bounds, first: u32, last: u32, step: u8) -> Val
+    requires step { step ≤ 2 }
+    requires some { 1 ≤ count_in first last step }
+    ensures cover { result ≡ cover b.now (range first last step) }
+    ensures value { IsValue b.now result }
+{
+    let width = b.width();
+    if count_of(first, last, step) > width as u64 {
+        many(b, first, last, step)
+    } else {
+        few(b, first, last, step)
+    }
+}
+
+fn many(b: &Bounds, first: u32, last: u32, step: u8) -> Val
+    requires step { step ≤ 2 }
+    requires many { b.now.width < count_in first last step }
+    requires limits { AreLimits b.now }
+    ensures { result ≡ cover b.now (range first last step) }
+{
+    let e = span_extent(first, last, step);
+    span(b, e.least, e.greatest, e.step)
+}
+
+fn few(b: &Bounds, first: u32, last: u32, step: u8) -> Val
+    requires step { step ≤ 2 }
+    requires some { 1 ≤ count_in first last step }
+    ensures { result ≡ cover b.now (range first last step) }
+{
+    let _width = b.width();
+    let unit = 1u64 << step;
+    let start = (u64::from(first) + (unit - 1)) / unit;
+    let end = u64::from(last) / unit + 1;
+    let mut out = Val::one((start * unit) as u32);
+    for k in start + 1..end {
+        out = with_word(b, out, (k * unit) as u32);
+    }
+    out
+}

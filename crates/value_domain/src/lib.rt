@@ -1,0 +1,16 @@
+//! Values: a finite lattice of sets of words, and states of 27 registers over it.
+#![tactic(auto)]
+
+mod lattice;
+mod laws;
+mod limits;
+mod states;
+mod values;
+
+pub use lattice::{
+    Extent, count_of, cover, cover_words, extent_of, is_value, join, leq, member, twos, with_word,
+};
+pub use laws::{state_laws, value_laws};
+pub use limits::Bounds;
+pub use states::{State, covers, join_states};
+pub use values::{Val, Words};

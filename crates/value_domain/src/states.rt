@@ -1,0 +1,146 @@
+// States of 27 registers.
+ghost use Rattle.std.specs.Prelude.{◌≡◌, ◌≤◌, ◌<◌, ◌↔◌, IsTrue, length, ℕ, slice_index_or, ◌&&◌};
+ghost use Rattle.value_domain.specs.Values.{IsWell, IsValue, IsBelow, any_val};
+ghost use Rattle.value_domain.specs.State.{Covers, AreWell, AreValues, joined, joined_regs, joined_locals, AreBelow, ImpliedBy, CoversContext};
+
+use crate::values::copy_of;
+use crate::{Bounds, Val, join, leq};
+use arrayvec::ArrayVec;
+
+/// The values of the registers D0..D15, A2..A7, A10, A12..A15, and what is known of the context.
+#[derive(Drop)]
+pub struct State {
+    pub regs: [Val; 27],
+    pub ie: bool,
+    pub ccpn: u8,
+    pub lower: bool,
+    pub locals: ArrayVec<bool, 8>,
+}
+
+impl State {
+    pub fn copy(&self) -> State
+        ensures { result ≡ self.now }
+    {
+        State {
+            regs: copy_regs(&self.regs),
+            ie: self.ie,
+            ccpn: self.ccpn,
+            lower: self.lower,
+            locals: copy_of(&self.locals),
+        }
+    }
+}
+
+fn copy_regs(regs: &[Val; 27]) -> [Val; 27]
+    ensures { result ≡ regs.now }
+{
+    let mut copy = std::array::from_fn(|_| Val::any());
+    for (i, v) in regs.iter().enumerate() {
+        copy[i] = v.copy();
+    }
+    copy
+}
+
+/// Whether each run that a state allows is allowed by the upper one.
+pub fn covers(upper: &State, s: &State) -> bool
+    requires upper { AreWell upper.now.regs }
+    requires state { AreWell s.now.regs }
+    ensures { IsTrue result ↔ Covers upper.now s.now }
+{
+    if !is_context_covered(upper, s) {
+        return false;
+    }
+    if !are_implied(upper.locals.as_slice(), s.locals.as_slice()) {
+        return false;
+    }
+    are_below(&s.regs, &upper.regs)
+}
+
+fn is_context_covered(upper: &State, s: &State) -> bool
+    ensures { IsTrue result ↔ CoversContext upper.now s.now }
+{
+    implies(s.ie, upper.ie) && upper.ccpn <= s.ccpn && implies(upper.lower, s.lower)
+}
+
+fn implies(a: bool, b: bool) -> bool
+    ensures { IsTrue result ↔ (IsTrue a → IsTrue b) }
+{
+    if a { b } else { true }
+}
+
+fn are_below(low: &[Val; 27], high: &[Val; 27]) -> bool
+    requires low { AreWell low.now }
+    requires high { AreWell high.now }
+    ensures { IsTrue result ↔ AreBelow low.now high.now }
+{
+    for i in 0..27 {
+        if !leq(&low[i], &high[i]) {
+            return false;
+        }
+    }
+    true
+}
+
+/// Whether there are as many flags, and each implies the other's.
+fn are_implied(flags: &[bool], others: &[bool]) -> bool
+    ensures { IsTrue result ↔ ImpliedBy flags.now others.now }
+{
+    if flags.len() != others.len() {
+        return false;
+    }
+    for (i, flag) in flags.iter().enumerate() {
+        if !implies(*flag, others[i]) {
+            return false;
+        }
+    }
+    true
+}
+
+/// The least state that covers both, if they have as many locals.
+pub fn join_states(b: &Bounds, s: &State, t: &State) -> Option<State>
+    requires left { AreValues b.now s.now.regs }
+    requires right { AreValues b.now t.now.regs }
+    ensures { result ≡ joined b.now s.now t.now }
+{
+    if s.locals.len() != t.locals.len() {
+        return None;
+    }
+    Some(State {
+        regs: join_regs(b, &s.regs, &t.regs),
+        ie: s.ie || t.ie,
+        ccpn: s.ccpn.min(t.ccpn),
+        lower: s.lower && t.lower,
+        locals: join_locals(s.locals.as_slice(), t.locals.as_slice()),
+    })
+}
+
+fn join_regs(b: &Bounds, s: &[Val; 27], t: &[Val; 27]) -> [Val; 27]
+    requires left { AreValues b.now s.now }
+    requires right { AreValues b.now t.now }
+    ensures { result ≡ joined_regs b.now s.now t.now }
+{
+    let mut out = std::array::from_fn(|_| Val::any());
+    for i in 0..27 {
+        out[i] = join(b, &s[i], &t[i]);
+    }
+    out
+}
+
+fn join_locals(s: &[bool], t: &[bool]) -> ArrayVec<bool, 8>
+    requires same { length s.now ≡ length t.now }
+    requires few { length s.now ≤ 8 }
+    ensures { result.items ≡ joined_locals s.now t.now }
+{
+    let mut out = ArrayVec::new();
+    for (i, flag) in s.iter().enumerate() {
+        let both = and(*flag, t[i]);
+        out.push(both);
+    }
+    out
+}
+
+fn and(a: bool, b: bool) -> bool
+    ensures { result ≡ (a && b) }
+{
+    a && b
+}

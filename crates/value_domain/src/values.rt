@@ -1,0 +1,165 @@
+// A value is a set of words: at most so many written out, or the multiples of a power of two in a range.
+ghost use Rattle.std.specs.Prelude.{◌≡◌, ◌≤◌, ◌<◌, ◌+◌, ◌-◌, ◌^◌, IsTrue, length, IfSome, IfNone, [], ◌∷◌, List, ℕ, option_map, ◌↔◌, slice_index};
+ghost use Rattle.std.specs.Prelude.{IsSome};
+ghost use Rattle.std.specs.List.Sorted.{IsStrictlyIncreasing};
+ghost use Rattle.value_domain.specs.Sets.{AreWords, Among, put, Rising};
+
+use arrayvec::ArrayVec;
+use std::marker::Model;
+
+/// From 1 to 128 words in ascending order.
+#[derive(Drop)]
+pub struct Words {
+    words: ArrayVec<u32, 128>,
+}
+
+impl Model for Words {
+    ghost use Rattle.std.specs.Prelude.{List, ℕ};
+    ghost use Rattle.value_domain.specs.Sets.{AreWords};
+
+    ghost Value = { List ℕ };
+
+    ghost view = { λ w. w.words.items };
+
+    ghost invariant = { λ w. AreWords w.words.items };
+}
+
+impl Words {
+    pub fn one(x: u32) -> Words
+        ensures { result ≡ x ∷ [] }
+    {
+        let mut words = ArrayVec::new();
+        words.push(x);
+        Words { words }
+    }
+
+    /// The words, if they ascend and are neither none nor too many.
+    pub fn of(words: &[u32]) -> Option<Words>
+        ensures some { IsSome result ↔ ((1 ≤ length words.now) × (length words.now ≤ 128) × IsStrictlyIncreasing words.now) }
+        ensures value { IfSome result (λ w. w ≡ words.now) }
+    {
+        if words.is_empty() || words.len() > 128 || !are_ascending(words) {
+            return None;
+        }
+        let copy = vec_of(words);
+        Some(Words { words: copy })
+    }
+
+    pub fn as_slice(&self) -> &[u32]
+        ensures items { result.now ≡ self.now }
+        ensures words { AreWords self.now }
+    {
+        self.words.as_slice()
+    }
+
+    pub fn copy(&self) -> Words
+        ensures { result ≡ self.now }
+    {
+        Words {
+            words: copy_of(&self.words),
+        }
+    }
+
+    /// Puts a word in its place.
+    pub fn put(&mut self, x: u32)
+        requires room { length self.old < 128 }
+        requires absent { ¬ Among x self.old }
+        ensures { self.new ≡ put x self.old }
+    {
+        let at = place(self.words.as_slice(), x);
+        self.words.insert(at, x);
+    }
+}
+
+fn are_ascending(words: &[u32]) -> bool
+    ensures { IsTrue result ↔ IsStrictlyIncreasing words.now }
+{
+    for i in 1..words.len() {
+        if words[i] <= words[i - 1] {
+            return false;
+        }
+    }
+    true
+}
+
+/// The first place from the end whose word is below `x`, and the place after it.
+fn place(words: &[u32], x: u32) -> usize
+    ensures within { result ≤ length words.now }
+    ensures before { 0 < result → slice_index words.now (result - 1) < x }
+    ensures after { (k : ℕ) → result ≤ k → k < length words.now → x ≤ slice_index words.now k }
+{
+    let mut at = words.len();
+    while at > 0 && words[at - 1] >= x {
+        at -= 1;
+    }
+    at
+}
+
+fn vec_of(words: &[u32]) -> ArrayVec<u32, 128>
+    requires { length words.now ≤ 128 }
+    ensures { result.items ≡ words.now }
+{
+    let mut copy = ArrayVec::new();
+    copy.try_extend_from_slice(words).unwrap();
+    copy
+}
+
+/// A vector with the same elements.
+pub(crate) fn copy_of<T: Copy + Default, const N: usize>(v: &ArrayVec<T, N>) -> ArrayVec<T, N>
+    ensures { result.items ≡ v.now.items }
+{
+    let mut copy = ArrayVec::new();
+    copy.try_extend_from_slice(v.as_slice()).unwrap();
+    copy
+}
+
+/// A set of words: a Set has the words that it lists, a Span the multiples of 2^`step` (`step` is at most 2) in
+/// `lo..=last`.
+#[derive(Drop)]
+pub enum Val {
+    Set(Words),
+    Span { lo: u32, last: u32, step: u8 },
+}
+
+impl Val {
+    ghost use Rattle.value_domain.specs.Values.{any_val, words_of};
+    ghost use Rattle.value_domain.specs.declared.values.Val.TheVariants.{Set};
+
+    pub fn any() -> Val
+        ensures { result ≡ any_val }
+    {
+        Val::Span {
+            lo: 0,
+            last: u32::MAX,
+            step: 0,
+        }
+    }
+
+    pub fn one(x: u32) -> Val
+        ensures { result ≡ Set (x ∷ []) }
+    {
+        Val::Set(Words::one(x))
+    }
+
+    pub fn words(&self) -> Option<&[u32]>
+        ensures { option_map (λ s. s.now) result ≡ words_of self.now }
+    {
+        match self {
+            Val::Set(words) => Some(words.as_slice()),
+            Val::Span { .. } => None,
+        }
+    }
+
+    pub fn copy(&self) -> Val
+        ensures { result ≡ self.now }
+    {
+        match self {
+            Val::Set(words) => Val::Set(words.copy()),
+            Val::Span { lo, last, step } => Val::Span {
+                lo: *lo,
+                last: *last,
+                step: *step,
+            },
+        }
+    }
+}
