@@ -7,6 +7,7 @@ use Rattle.tcd_plan.specs.PlanData.{PlanData}
 use Rattle.tcd_plan.specs.Plans.{Gives, Answers}
 use Rattle.tcd_plan.specs.declared.plans.PlanErr.{PlanErr}
 use Rattle.tcd_plan.specs.declared.plans.PlanErr.TheVariants as plan
+use Rattle.tc_machine.specs.Safe.{Safe}
 use Rattle.tcd_base.specs.Files.{Map, Rose, Holds, IsTooLong}
 use Rattle.tcd_driver.specs.Calls.{NodeData, Accepts, start_of, need_of}
 use Rattle.tcd_driver.specs.CallBytes.{SpellsCert}
@@ -67,7 +68,7 @@ SaidWith status IsText outcome.NoMemory = Unit {0}
 pub data SaysOf (image : ImageData) (plan : PlanData) (cert : List NodeData) : Status → List ℕ → Type 0 where
   other_code : HasOther image plan cert → SaysOf image plan cert status.BadInput not_built_code_line
   refused : (rule kind entry addr : ℕ) → Fails image plan cert rule kind entry addr → SaysOf image plan cert status.Refused (refused_line rule kind entry addr (is_in_key plan kind))
-  certified : Accepts image plan cert → SaysOf image plan cert status.Done (certified_line (need_of (start_of image cert)) (plan.areas - plan.reserve))
+  certified : Accepts image plan cert → Safe image plan (need_of (start_of image cert)) → SaysOf image plan cert status.Done (certified_line (need_of (start_of image cert)) (plan.areas - plan.reserve))
 
 abbrev pub IsVerdict : ImageData → PlanData → List NodeData → Outcome → Type 0
 IsVerdict image plan cert (outcome.Says s text) = SaysOf image plan cert s text.items

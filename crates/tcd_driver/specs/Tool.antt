@@ -29,15 +29,15 @@ abbrev pub command : List (List ℕ) → Option Names
 command (verb ∷ elf ∷ plan ∷ cert ∷ []) = if bytes_eq verb (codes "check") then Some (record { elf = elf; plan = plan; cert = cert }) else None
 command words = None
 
--- ---- the inputs, as the files hold them
+-- ---- the inputs, as the files hold them, within their limits
 abbrev pub HoldsImage : Option Map → List ℕ → ImageData → Type 0
-HoldsImage held name image = (bytes : List ℕ) × Reads held name bytes × (image_of bytes ≡ Ok image)
+HoldsImage held name image = (bytes : List ℕ) × Reads held name bytes × (length bytes ≤ 2 ^ 24) × (image_of bytes ≡ Ok image)
 
 abbrev pub HoldsPlan : Option Map → List ℕ → PlanData → Type 0
-HoldsPlan held name plan = (bytes : List ℕ) × Reads held name bytes × Gives bytes (Ok plan)
+HoldsPlan held name plan = (bytes : List ℕ) × Reads held name bytes × (length bytes ≤ 2 ^ 24) × Gives bytes (Ok plan)
 
 abbrev pub HoldsCert : Option Map → List ℕ → List NodeData → Type 0
-HoldsCert held name cert = (bytes : List ℕ) × Reads held name bytes × SpellsCert bytes cert
+HoldsCert held name cert = (bytes : List ℕ) × Reads held name bytes × (length bytes ≤ 2 ^ 30) × SpellsCert bytes cert
 
 -- no interrupt, no trap and no device
 abbrev pub is_bare : PlanData → Bool
@@ -53,19 +53,19 @@ pub record HoldsInputs (held : Option Map) (names : Names) (image : ImageData) (
 -- ---- what is printed
 -- of the executable, where it is no image
 pub data ImageText (held : Option Map) (name : List ℕ) : List ℕ → Type 0 where
-  too_long : IsTooLong held name (2 ^ 24) → ImageText held name long_elf_line
-  refusal : (bytes : List ℕ) (e : ImageErr) → Reads held name bytes → image_of bytes ≡ Err e → ImageText held name (elf_line e)
+  long_image : IsTooLong held name (2 ^ 24) → ImageText held name long_elf_line
+  refused_image : (bytes : List ℕ) (e : ImageErr) → Reads held name bytes → image_of bytes ≡ Err e → ImageText held name (elf_line e)
 
 -- of the plan, where it is none, or none that this check knows
 pub data PlanText (held : Option Map) (name : List ℕ) : List ℕ → Type 0 where
-  too_long : IsTooLong held name (2 ^ 24) → PlanText held name long_plan_line
-  refusal : (bytes : List ℕ) (e : PlanErr) → Reads held name bytes → Answers bytes (Err e) → e ≢ plan.NoMemory → PlanText held name (plan_line e)
-  not_bare : (plan : PlanData) → HoldsPlan held name plan → is_bare plan ≡ false → PlanText held name not_built_plan_line
+  long_plan : IsTooLong held name (2 ^ 24) → PlanText held name long_plan_line
+  refused_plan : (bytes : List ℕ) (e : PlanErr) → Reads held name bytes → Answers bytes (Err e) → e ≢ plan.NoMemory → PlanText held name (plan_line e)
+  rich_plan : (bytes : List ℕ) (plan : PlanData) → Reads held name bytes → Gives bytes (Ok plan) → is_bare plan ≡ false → PlanText held name not_built_plan_line
 
 -- of the certificate, where it is none of a program of calls
 pub data CertText (held : Option Map) (name : List ℕ) : List ℕ → Type 0 where
-  too_long : IsTooLong held name (2 ^ 30) → CertText held name not_built_cert_line
-  refusal : (bytes : List ℕ) → Reads held name bytes → ((cert : List NodeData) → SpellsCert bytes cert → ⊥) → CertText held name not_built_cert_line
+  long_cert : IsTooLong held name (2 ^ 30) → CertText held name not_built_cert_line
+  refused_cert : (bytes : List ℕ) → Reads held name bytes → ((cert : List NodeData) → SpellsCert bytes cert → ⊥) → CertText held name not_built_cert_line
 
 -- the interrupt stack is in use in the frame of a key: as the plan says in the start, and not in a call
 abbrev pub is_in_key : PlanData → ℕ → Bool

@@ -1,5 +1,5 @@
 // The inputs of the check, each read and brought into its form.
-ghost use Rattle.std.specs.Prelude.{◌≡◌, ◌≤◌, ◌^◌, length, true, Ok, IfOk, IfErr};
+ghost use Rattle.std.specs.Prelude.{◌≡◌, ◌≤◌, ◌^◌, length, true, Ok, IsOkAnd, IfOk, IfErr};
 ghost use Rattle.tcd_base.specs.Files.{Reads};
 ghost use Rattle.elf_image.specs.Elf.{image_of};
 ghost use Rattle.tcd_plan.specs.Plans.{Gives};
@@ -17,14 +17,14 @@ use crate::status::Status;
 use elf_image::Image;
 use std::alloc::Global;
 use tcd_base::{FileErr, Files, NoMemory};
-use tcd_plan::{Plan, PlanErr};
+use tcd_plan::Plan;
 
 const LIMIT: u32 = 16_777_216;
 const CERT_LIMIT: u32 = 1_073_741_824;
 
 // An input that isn't in its form, and what is printed of it.
 fn bad_input(line: Result<Vec<u8>, NoMemory>) -> Outcome
-    ensures { SaidWith Status.BadInput (λ t. IfOk line (λ l. t ≡ l.items)) result }
+    ensures { SaidWith Status.BadInput (λ t. IsOkAnd line (λ l. t ≡ l.items)) result }
 {
     says(Status::BadInput, line)
 }
@@ -51,7 +51,7 @@ fn bytes_of<F: Files>(
 
 // The image that the bytes are.
 fn image_from(alloc: Global, bytes: &[u8]) -> Result<Image, Outcome>
-    requires { length bytes.now ≤ 2 ^ 30 }
+    requires { length bytes.now ≤ 2 ^ 24 }
     ensures found { IfOk result (λ image. image_of bytes.now ≡ Ok image) }
     ensures stops { IfErr result (StopsWith (IsBadImage bytes.now) ⊥) }
 {
@@ -63,7 +63,7 @@ fn image_from(alloc: Global, bytes: &[u8]) -> Result<Image, Outcome>
 
 // The plan that the bytes are, without interrupts, traps and devices.
 fn plan_from(alloc: Global, bytes: &[u8]) -> Result<Plan, Outcome>
-    requires { length bytes.now ≤ 2 ^ 30 }
+    requires { length bytes.now ≤ 2 ^ 24 }
     ensures found { IfOk result (λ plan. Gives bytes.now (Ok plan) × (is_bare plan ≡ true)) }
     ensures stops { IfErr result (StopsWith (IsBadPlan bytes.now) ⊥) }
 {
@@ -75,7 +75,6 @@ fn plan_from(alloc: Global, bytes: &[u8]) -> Result<Plan, Outcome>
                 Err(bad_input(line_of(alloc, not_built_plan_line())))
             }
         }
-        Err(PlanErr::NoMemory) => Err(Outcome::NoMemory),
         Err(e) => Err(bad_input(plan_line(alloc, e))),
     }
 }

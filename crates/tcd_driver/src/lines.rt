@@ -1,5 +1,5 @@
 // The printed lines.
-ghost use Rattle.std.specs.Prelude.{◌≡◌, ◌≢◌, ◌<◌, ◌++◌, length, codes, IfOk, OnOk};
+ghost use Rattle.std.specs.Prelude.{◌≡◌, ◌≢◌, ◌<◌, ◌++◌, ◌∷◌, [], if◌then◌else◌, length, codes, IsErr, IfOk, OnOk};
 ghost use Rattle.std.specs.Fmt.{decimal};
 ghost use Rattle.tcd_driver.specs.Lines.{bad_words_line, long_elf_line, long_plan_line, not_built_plan_line, not_built_cert_line, not_built_code_line, hex_digit, hex_word, kind_text, at_key, elf_line, plan_line, refused_line, certified_line};
 ghost use Rattle.tcd_plan.specs.Plans.{HasText};
@@ -53,6 +53,13 @@ fn append_kind(line: &mut Vec<u8>, kind: u8) -> Result<(), NoMemory>
     } else {
         append(line, b"call ")
     }
+}
+
+// Whether the interrupt stack is in use, and the line's end.
+fn stack_text(is: bool) -> &'static [u8]
+    ensures { result.now ≡ (if is then 49 else 48) ∷ 10 ∷ [] }
+{
+    if is { b"1\n" } else { b"0\n" }
 }
 
 // Copies a text that never changes.
@@ -110,7 +117,8 @@ pub(crate) fn bad_words_line() -> &'static [u8]
 // Why a file is no image.
 #[tactic(auto, unfolding(crate::specs::Lines::elf_line, crate::specs::Lines::at_one, crate::specs::Lines::at_two))]
 pub(crate) fn elf_line(alloc: Global, e: ImageErr) -> Result<Vec<u8>, NoMemory>
-    ensures { IfOk result (λ line. line.items ≡ elf_line e) }
+    ensures line { IfOk result (λ line. line.items ≡ elf_line e) }
+    ensures memory { e ≡ ImageErr.NoMemory → IsErr result }
 {
     match e {
         ImageErr::Short => line_of(alloc, b"bad elf 1\n"),
@@ -126,31 +134,39 @@ pub(crate) fn elf_line(alloc: Global, e: ImageErr) -> Result<Vec<u8>, NoMemory>
 
 // A refusal of a plan that names a key.
 #[tactic(auto, unfolding(crate::specs::Lines::at_key))]
-fn key_line(alloc: Global, number: u8, key: PlanKey) -> Result<Vec<u8>, NoMemory>
+fn key_line(alloc: Global, front: &str, key: PlanKey) -> Result<Vec<u8>, NoMemory>
     requires { key.0 < length key_texts }
-    ensures { IfOk result (λ line. line.items ≡ codes "bad plan " ++ (decimal number ++ at_key key)) }
+    ensures { IfOk result (λ line. line.items ≡ front.now ++ at_key key) }
 {
     let text = key_text(key);
-    Ok(format!(in alloc; "bad plan {number} key {text}\n")?.into_bytes())
+    Ok(format!(in alloc; "{front} key {text}\n")?.into_bytes())
 }
 
 // Why a file is no plan.
 #[tactic(auto, unfolding(crate::specs::Lines::plan_line, crate::specs::Lines::at_two))]
 pub(crate) fn plan_line(alloc: Global, e: PlanErr) -> Result<Vec<u8>, NoMemory>
     requires { HasText e }
-    ensures { IfOk result (λ line. line.items ≡ plan_line e) }
+    ensures line { IfOk result (λ line. line.items ≡ plan_line e) }
+    ensures memory { e ≡ PlanErr.NoMemory → IsErr result }
 {
     match e {
         PlanErr::NotJson => line_of(alloc, b"bad plan 1\n"),
-        PlanErr::Missing(key) => key_line(alloc, 2, key),
-        PlanErr::Unknown(key) => key_line(alloc, 3, key),
-        PlanErr::BadValue(key) => key_line(alloc, 4, key),
-        PlanErr::TooMany(key) => key_line(alloc, 5, key),
+        PlanErr::Missing(key) => key_line(alloc, "bad plan 2", key),
+        PlanErr::Unknown(key) => key_line(alloc, "bad plan 3", key),
+        PlanErr::BadValue(key) => key_line(alloc, "bad plan 4", key),
+        PlanErr::TooMany(key) => key_line(alloc, "bad plan 5", key),
         PlanErr::BadCsa => line_of(alloc, b"bad plan 6\n"),
         PlanErr::BadVector => line_of(alloc, b"bad plan 7\n"),
         PlanErr::Overlap(i, j) => Ok(format!(in alloc; "bad plan 8 at {i} {j}\n")?.into_bytes()),
         PlanErr::NoMemory => Err(NoMemory),
     }
+}
+
+// What a line on a rule that fails begins with.
+fn refused_front(alloc: Global, rule: u8) -> Result<Vec<u8>, NoMemory>
+    ensures { IfOk result (λ line. line.items ≡ codes "refused K" ++ (decimal rule ++ codes " at ")) }
+{
+    Ok(format!(in alloc; "refused K{rule} at ")?.into_bytes())
 }
 
 // The rule that fails, the address, and the key.
@@ -165,13 +181,13 @@ pub(crate) fn refused_line(
 ) -> Result<Vec<u8>, NoMemory>
     ensures { IfOk result (λ line. line.items ≡ refused_line rule kind entry addr is) }
 {
-    let mut line = format!(in alloc; "refused K{rule} at ")?.into_bytes();
+    let mut line = refused_front(alloc, rule)?;
     append(&mut line, &hex_word(addr))?;
     append(&mut line, b" in ")?;
     append_kind(&mut line, kind)?;
     append(&mut line, &hex_word(entry))?;
     append(&mut line, b" prio 0 is ")?;
-    append(&mut line, if is { b"1\n" } else { b"0\n" })?;
+    append(&mut line, stack_text(is))?;
     Ok(line)
 }
 

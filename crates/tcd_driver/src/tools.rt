@@ -1,6 +1,6 @@
 // The tool, and its command `check`.
-ghost use Rattle.std.specs.Prelude.{◌≡◌, ◌≤◌, map, string_bytes, IsNone, IfSome, IfNone};
-ghost use Rattle.tcd_driver.specs.Tool.{command, Ends, EndsBadly};
+ghost use Rattle.std.specs.Prelude.{◌≡◌, ◌≤◌, true, map, string_bytes, IsNone, IfSome, IfNone};
+ghost use Rattle.tcd_driver.specs.Tool.{command, Ends, EndsBadly, is_bare, is_in_key};
 ghost use Rattle.tcd_driver.specs.Tool.{AreSure};
 ghost use Rattle.tcd_driver.specs.Inputs.{ComesTo, IsVerdict};
 ghost use Rattle.tcd_base.specs.Files.{Rose};
@@ -90,6 +90,7 @@ fn judge_files<F: Files>(
 
 // Checks a certificate, and makes the line of the verdict.
 fn judge(alloc: Global, image: &Image, plan: &Plan, nodes: &[CallNode]) -> Outcome
+    requires { is_bare plan.now ≡ true }
     ensures { IsVerdict image.now plan.now nodes.now result }
 {
     match check(image, plan, nodes) {
@@ -102,9 +103,16 @@ fn judge(alloc: Global, image: &Image, plan: &Plan, nodes: &[CallNode]) -> Outco
             entry,
             addr,
         } => {
-            let is = plan.start_is && kind == 0;
+            let is = is_in_key(plan, kind);
             says(Status::Refused, refused_line(alloc, rule, kind, entry, addr, is))
         }
         Verdict::NotBuilt => says(Status::BadInput, line_of(alloc, not_built_code_line())),
     }
+}
+
+// Whether the interrupt stack is in use in the frame of a key.
+fn is_in_key(plan: &Plan, kind: u8) -> bool
+    ensures { result ≡ is_in_key plan.now kind }
+{
+    plan.start_is && kind == 0
 }
