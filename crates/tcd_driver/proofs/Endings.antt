@@ -132,9 +132,9 @@ never_fault held names s text (refused j q d rule kind entry addr k fails) e = c
 never_fault held names s text (certified j q d k a safe) e = cc
 
 -- ---- the command's end
-with_room : (room : Option ℕ) (may : Status → List ℕ → Type 0) (s : Status) (text printed : List ℕ) (X : Type 0) → IsSomeAnd room (λ n. (s : Status) (t : List ℕ) → may s t → length t ≤ n) → may s text → printed ≡ text → IfSome room (λ n. length printed ≤ n → X) → X
-with_room None may s text printed X has said same fits = absurd has
-with_room (Some n) may s text printed X has said same fits = fits (let l = has s text said in let e = ap (λ (l : List ℕ). length l) same in omega arith)
+with_room : (room : Option ℕ) (may : Status → List ℕ → Type 0) (s : Status) (text shown : List ℕ) (X : Type 0) → IsSomeAnd room (λ n. (s : Status) (t : List ℕ) → may s t → length t ≤ n) → may s text → shown ≡ text → IfSome room (λ n. length shown ≤ n → X) → X
+with_room None may s text shown X has said same fits = absurd has
+with_room (Some n) may s text shown X has said same fits = fits (let l = has s text said in let e = ap (λ (l : List ℕ). length l) same in omega arith)
 
 prints_ended : (held : Option Map) (names : Names) (old new : Option (List ℕ)) (a a' b b' : ℕ) (s : Status) (text : List ℕ) (result : Status) → Says held names s text → Prints text s old new b b' result → HasEnded held names old new a a' b b' result
 prints_ended held names old new a a' b b' s text result says (printing.whole e wrote) = let P : Status → Type 0 = λ x. HasEnded held names old new a a' b b' x in subst P (sym e) (printed s text says wrote)
@@ -180,7 +180,8 @@ comes_image held names steady a b outcome.Unread h = (h.rose, λ s. h.unsure s.a
 comes_image held names steady a b outcome.NoMemory h = tt
 
 later_rose : (a b c : ℕ) → a ≤ b → Rose b c → Rose a c
-later_rose a b c le rose = omega arith
+later_rose a b c le (inl h) = inl (omega arith)
+later_rose a b c le (inr h) = inr h
 
 comes_plan_here : (held : Option Map) (names : Names) (image : ImageData) (steady : Bool) (a b c : ℕ) (o : Outcome) → HoldsImage held names.elf image → a ≤ b → StopsWith (PlanText held names.plan) (HasFailed names.plan steady held b c) o → ComesTo held names (Rose a c × (AreSure steady held names → ⊥)) o
 comes_plan_here held names image steady a b c (outcome.Says s text) is le h = let P : Status → Type 0 = λ x. Says held names x text.items in subst P (sym h.0) (bad_plan image text.items is h.1)
@@ -227,6 +228,7 @@ comes_here held names image p cert F (outcome.Says s text) h verdict = said_inpu
 comes_here held names image p cert F outcome.Unread h verdict = absurd verdict
 comes_here held names image p cert F outcome.NoMemory h verdict = tt
 
-pub comes_verdict : (held held' held'' : Option Map) (names : Names) (image : ImageData) (p : PlanData) (cert : List NodeData) (F : Type 0) (o : Outcome) → held' ≡ held → held'' ≡ held' → HoldsImage held names.elf image → HoldsPlan held' names.plan p × (is_bare p ≡ true) → HoldsCert held'' names.cert cert → IsVerdict image p cert o → ComesTo held names F o
-comes_verdict held held' held'' names image p cert F o e f is is_plan is_cert verdict =
-    comes_here held names image p cert F o (record { is_image = is; is_plan = plan_back held held' names.plan p e is_plan.0; bare = is_plan.1; is_cert = cert_back held held'' names.cert cert (f ∙ e) is_cert }) verdict
+pub comes_verdict : (held held' held'' : Option Map) (names : Names) (image : ImageData) (p : PlanData) (cert items : List NodeData) (F : Type 0) (o : Outcome) → held' ≡ held → held'' ≡ held' → HoldsImage held names.elf image → HoldsPlan held' names.plan p × (is_bare p ≡ true) → HoldsCert held'' names.cert cert → items ≡ cert → IsVerdict image p items o → ComesTo held names F o
+comes_verdict held held' held'' names image p cert items F o e f is is_plan is_cert same verdict =
+    let P : List NodeData → Type 0 = λ x. IsVerdict image p x o in
+    comes_here held names image p cert F o (record { is_image = is; is_plan = plan_back held held' names.plan p e is_plan.0; bare = is_plan.1; is_cert = cert_back held held'' names.cert cert (f ∙ e) is_cert }) (subst P same verdict)

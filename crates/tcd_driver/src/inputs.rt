@@ -29,6 +29,17 @@ fn bad_input(line: Result<Vec<u8>, NoMemory>) -> Outcome
     says(Status::BadInput, line)
 }
 
+// A file that wasn't read; `line` is printed where it is too long.
+fn unread(alloc: Global, e: FileErr, line: &[u8]) -> Outcome
+    ensures { StopsWith (λ t. (e ≡ FileErr.TooLong) × (t ≡ line.now)) (e ≡ FileErr.Failed) result }
+{
+    match e {
+        FileErr::Failed => Outcome::Unread,
+        FileErr::TooLong => bad_input(line_of(alloc, line)),
+        FileErr::NoMemory => Outcome::NoMemory,
+    }
+}
+
 // The bytes of a file; `line` is printed where it is too long.
 fn bytes_of<F: Files>(
     alloc: Global,
@@ -43,9 +54,7 @@ fn bytes_of<F: Files>(
 {
     match files.read(alloc, name, limit) {
         Ok(bytes) => Ok(bytes),
-        Err(FileErr::Failed) => Err(Outcome::Unread),
-        Err(FileErr::TooLong) => Err(bad_input(line_of(alloc, line))),
-        Err(FileErr::NoMemory) => Err(Outcome::NoMemory),
+        Err(e) => Err(unread(alloc, e, line)),
     }
 }
 

@@ -1,6 +1,6 @@
-use Rattle.std.proofs.Common.{refl}
-use Rattle.tcd_driver.proofs.Said.{said_stops, line_is}
+use Rattle.std.proofs.Common.{ap, Err}
+use Rattle.tcd_driver.proofs.Said.{stops_weaker}
 use Rattle.tcd_driver.proofs.inputs.bytes_of.Goals as goal
 
-pub returns-in-Err-TooLong-clause-stops : goal.returns-in-Err-TooLong-clause-stops
-returns-in-Err-TooLong-clause-stops g c = said_stops _ _ _ _ c.bad_input.ensures (λ t p. (c.read.ensures.too_long c.in-Err-TooLong.is, line_is _ c.line_of.result t _ c.line_of.ensures p))
+pub returns-in-Err-clause-stops : goal.returns-in-Err-clause-stops
+returns-in-Err-clause-stops g c = stops_weaker _ _ _ _ c.unread.result c.unread.ensures (λ t p. (c.in-Err.ensures.too_long (ap (λ e. Err e) p.0), p.1)) (λ f. record { rose = c.in-Err.ensures.cause.failed (ap (λ e. Err e) f); unsure = λ s h. c.in-Err.ensures.never s h (ap (λ e. Err e) f) })

@@ -11,4 +11,4 @@ pub returns-in-Err-read_cert-clause-comes : goal.returns-in-Err-read_cert-clause
 returns-in-Err-read_cert-clause-comes g c = comes_cert _ _ _ (record { elf = c.args.elf.now; plan = c.args.plan.now; cert = c.args.cert.now }) _ _ _ _ _ _ _ _ _ c.in-Err-read_cert.outcome c.read_image.ensures.kept c.read_plan.ensures.kept c.in-Ok.ensures.found c.in-Ok-read_plan.ensures.found c.in-Err-read_cert.ensures.stops
 
 pub returns-clause-comes : goal.returns-clause-comes
-returns-clause-comes g c = comes_verdict _ _ _ (record { elf = c.args.elf.now; plan = c.args.plan.now; cert = c.args.cert.now }) _ _ _ _ _ c.read_image.ensures.kept.held_stays c.read_plan.ensures.kept.held_stays c.in-Ok.ensures.found c.in-Ok-read_plan.ensures.found c.in-Ok-read_cert.ensures.found c.judge.ensures
+returns-clause-comes g c = comes_verdict _ _ _ (record { elf = c.args.elf.now; plan = c.args.plan.now; cert = c.args.cert.now }) _ _ _ _ _ _ c.read_image.ensures.kept.held_stays c.read_plan.ensures.kept.held_stays c.in-Ok.ensures.found c.in-Ok-read_plan.ensures.found c.in-Ok-read_cert.ensures.found c.deref.ensures.value c.judge.ensures
