@@ -1,0 +1,6 @@
+pub mod Answers
+pub mod Certs
+pub mod Grammar
+pub mod Keys
+pub mod Nodes
+pub mod Spelling
