@@ -13,7 +13,8 @@ use Rattle.depth_cert.specs.declared.keys.Key.{Key}
 use Rattle.depth_cert.specs.declared.points.Exit.{Exit}
 use Rattle.depth_cert.specs.declared.points.Point.{Point}
 use Rattle.depth_cert.specs.Keys.{key_number}
-use Rattle.depth_cert.specs.Nodes.{NodeData, addresses}
+use Rattle.depth_cert.specs.Points.{addresses}
+use Rattle.depth_cert.specs.Nodes.{NodeData}
 use Rattle.depth_cert.specs.Certs.{CertData, key_numbers, count_points}
 
 -- ---- fields

@@ -3,4 +3,5 @@ pub mod Certs
 pub mod Grammar
 pub mod Keys
 pub mod Nodes
+pub mod Points
 pub mod Spelling

@@ -5,6 +5,7 @@ mod cert_fields;
 mod certs;
 mod errors;
 mod keys;
+mod lookup;
 mod node_fields;
 mod nodes;
 mod point_fields;

@@ -3,7 +3,7 @@ ghost use Rattle.std.specs.Prelude.{◌≡◌, ◌≤◌, ◌+◌, ◌^◌, ◌-
 ghost use Rattle.tcd_base.specs.Reading.{Reads};
 ghost use Rattle.depth_cert.specs.Grammar.{flag_at, values_at, locals_at, state_at, address_after, point_after, point_count_at, points_at, is_above, many_at};
 ghost use Rattle.depth_cert.specs.Answers.{IsFaultOf};
-ghost use Rattle.depth_cert.specs.Nodes.{addresses, ArePoints};
+ghost use Rattle.depth_cert.specs.Points.{addresses, ArePoints};
 
 use crate::value_fields::{fault, read_flag, read_values};
 use crate::{CertErr, Point};

@@ -1,9 +1,11 @@
 // The one spelling of a certificate, written.
-ghost use Rattle.std.specs.Prelude.{◌≡◌, ◌≤◌, ◌<◌, ◌+◌, ◌^◌, ◌∷◌, [], ◌++◌, length, map, OnOk, IfSome};
+ghost use Rattle.std.specs.Prelude.{◌≡◌, ◌≤◌, ◌<◌, ◌+◌, ◌^◌, ◌∷◌, [], ◌++◌, ◌⊎◌, length, map, OnOk, IfSome};
 ghost use Rattle.std.specs.List.{All, flat_map};
 ghost use Rattle.tcd_base.specs.Bytes.{bytes_of_half, bytes_of_word};
 ghost use Rattle.depth_cert.specs.Keys.{byte_of};
 ghost use Rattle.depth_cert.specs.Spelling.{bytes_of_value, bytes_of_state, bytes_of_point, bytes_of_key, bytes_of_exit, bytes_of_node};
+ghost use Rattle.depth_cert.specs.Nodes.{IsNode};
+ghost use Rattle.depth_cert.specs.Certs.{count_points};
 ghost use Rattle.value_domain.specs.Values.{IsWell};
 ghost use Rattle.value_domain.specs.declared.values.Val.TheVariants.{Set, Span};
 
@@ -162,4 +164,16 @@ fn write_node(out: &mut Vec<u8>, node: &Node) -> Result<(), NoMemory>
     write_exit(out, &node.exit)?;
     put_u32(out, node.points.len() as u32)?;
     write_points(out, &node.points)
+}
+
+pub(crate) fn write_nodes(out: &mut Vec<u8>, version: u8, nodes: &[Node]) -> Result<(), NoMemory>
+    requires version { (version ≡ 1) ⊎ (version ≡ 2) }
+    requires nodes { All (IsNode version) nodes.now }
+    requires points { count_points nodes.now ≤ 2 ^ 16 }
+    ensures { OnOk result (out.new.items ≡ out.old.items ++ flat_map bytes_of_node nodes.now) }
+{
+    for node in nodes {
+        write_node(out, node)?;
+    }
+    Ok(())
 }

@@ -1,6 +1,6 @@
 use Rattle.std.proofs.Common.{◌≡◌, ◌-◌, length, []}
 use Rattle.depth_cert.specs.Grammar.{many_at, point_after}
-use Rattle.depth_cert.specs.Nodes.{ArePoints}
+use Rattle.depth_cert.specs.Points.{ArePoints}
 use Rattle.depth_cert.proofs.point_fields.read_points.Given as goal
 
 abbrev pub invariant-loop-i : goal.invariant-loop-i
