@@ -1,6 +1,6 @@
 -- Finding an element by a number that rises over the list.
-use Rattle.std.proofs.Common.{◌≡◌, ℕ, zero, suc, ◌+◌, ◌-◌, ◌<◌, ◌≤◌, List, [], ◌∷◌, length, map, get_or, Bool, true, false, Some, None, refl, sym, ap, ◌∙◌, arith, ltb, eqb, inl, inr}
-use Rattle.std.specs.List.{find, AllWithin, HoldsAt}
+use Rattle.std.proofs.Common.{◌≡◌, ℕ, zero, suc, ◌+◌, ◌<◌, ◌≤◌, List, [], ◌∷◌, length, map, get_or, Bool, true, false, Some, None, refl, sym, ap, ◌∙◌, arith, ltb, eqb, inl, inr}
+use Rattle.std.specs.List.{find}
 use Rattle.std.specs.List.Sorted.{IsStrictlyIncreasing, IsNonDecreasingBy, IsPartitionPoint}
 use Rattle.std.proofs.lemmas.Bool.{cases_lt, ltb-true, ltb-false, eqb-false, ne_eqb}
 use Rattle.std.proofs.lemmas.List.{length-map, get_or-map}
@@ -41,19 +41,19 @@ pub missing : {A : Type 0} (f : A → ℕ) (xs : List A) (x i : ℕ) (d : A) →
 missing f xs x i d rising place other =
     find_none (λ y. eqb (f y) x) xs
     (λ k e h. ne_eqb _ _ (λ same.
-        let s : f (get_or xs k e) ≡ x = same in
-        elim (cases_lt k i) [
-          | inl before ↦ let low : f (get_or xs k e) < x = ltb-true _ _ (place.0 k e (omega arith) before) in absurd (omega arith)
-          | inr after ↦
-              let first : x ≤ f (get_or xs i d) = ltb-false _ _ (place.1 i d (omega arith) (omega arith)) in
-              elim (cases_lt i k) [
-                | inl past ↦ let over = strictly_below f xs i k e rising (omega arith) h in let low : x ≤ f (get_or xs i e) = ltb-false _ _ (place.1 i e (omega arith) (omega arith)) in absurd (omega arith)
-                | inr here ↦
-                    let at : k ≡ i = omega arith in
-                    let one : f (get_or xs i d) ≡ x = sym (number_at f xs i d (omega arith)) ∙ ap (λ j. get_or (map f xs) j 0) (sym at) ∙ number_at f xs k e h ∙ s in
-                    eqb-false _ _ other one
-              ]
-        ]))
+    let s : f (get_or xs k e) ≡ x = same in
+    elim (cases_lt k i) [
+      | inl before ↦ let low : f (get_or xs k e) < x = ltb-true _ _ (place.0 k e (omega arith) before) in absurd (omega arith)
+      | inr after ↦
+          let first : x ≤ f (get_or xs i d) = ltb-false _ _ (place.1 i d (omega arith) (omega arith)) in
+          elim (cases_lt i k) [
+            | inl past ↦ let over = strictly_below f xs i k e rising (omega arith) h in let low : x ≤ f (get_or xs i e) = ltb-false _ _ (place.1 i e (omega arith) (omega arith)) in absurd (omega arith)
+            | inr here ↦
+                let at : k ≡ i = omega arith in
+                let one : f (get_or xs i d) ≡ x = sym (number_at f xs i d (omega arith)) ∙ ap (λ j. get_or (map f xs) j 0) (sym at) ∙ number_at f xs k e h ∙ s in
+                eqb-false _ _ other one
+          ]
+    ]))
 
 pub missing_end : {A : Type 0} (f : A → ℕ) (xs : List A) (x i : ℕ) → IsPartitionPoint (λ y. ltb (f y) x ≡ true) (λ y. ltb (f y) x ≡ false) xs i → length xs ≤ i → find (λ y. eqb (f y) x) xs ≡ None
 missing_end f xs x i place end =

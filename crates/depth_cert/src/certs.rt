@@ -4,15 +4,14 @@ ghost use Rattle.std.specs.Option.{option_map};
 ghost use Rattle.depth_cert.specs.declared.errors.CertErr.TheVariants.{NoMemory};
 ghost use Rattle.depth_cert.specs.Answers.{IsFaultOf};
 
-use crate::cert_fields::{read_magic, read_node_count, read_nodes, read_version};
+use crate::cert_fields::read_parts;
 use crate::lookup::{node_at, node_place};
 use crate::node_fields::number_of;
-use crate::value_fields::fault;
 use crate::writing::{put_u16, write_nodes};
 use crate::{CertErr, Key, Node};
 use std::alloc::Global;
 use std::marker::Model;
-use tcd_base::{Cursor, put_u32};
+use tcd_base::put_u32;
 
 /// A certificate of version 1 or 2: nodes by ascending key.
 #[derive(Drop)]
@@ -37,29 +36,34 @@ impl Cert {
     ghost use Rattle.depth_cert.specs.Spelling.{bytes_of};
 
     /// The certificate that the bytes spell, or their first fault.
-    #[tactic(auto, unfolding(crate::specs::Grammar::certificate_of, crate::specs::Grammar::cert_at))]
     pub fn read(alloc: Global, bytes: &[u8]) -> Result<Cert, CertErr>
         requires { length bytes.now ≤ 2 ^ 30 }
         ensures ok { IfOk result (λ c. certificate_of bytes.now ≡ Ok c) }
         ensures err { IfErr result (IsFaultOf (certificate_of bytes.now)) }
+
+        // No other bytes spell it.
+        ensures one { IfOk result (λ c. bytes_of c ≡ bytes.now) }
     {
-        let mut c = Cursor::new(bytes);
-        let _magic = read_magic(&mut c)?;
-        let version = read_version(&mut c)?;
-        let count = read_node_count(&mut c)?;
-        let nodes = read_nodes(alloc, &mut c, version, count)?;
-        let end = c.place();
-        if end != bytes.len() {
-            return Err(CertErr::Bad(fault(6, end)));
-        }
+        let (version, nodes) = read_parts(alloc, bytes)?;
         Ok(Cert { version, nodes })
     }
 
     /// The bytes that spell the certificate.
-    #[tactic(auto, unfolding(crate::specs::Spelling::bytes_of))]
     pub fn write(&self, alloc: Global) -> Result<Vec<u8>, CertErr>
         ensures ok { IfOk result (λ out. out.items ≡ bytes_of self.now) }
         ensures err { IfErr result (λ e. e ≡ NoMemory) }
+
+        // Reading them gives the certificate back.
+        ensures back { IfOk result (λ out. certificate_of out.items ≡ Ok self.now) }
+    {
+        let _version = self.version;
+        let out = self.spelled(alloc)?;
+        Ok(out)
+    }
+
+    #[tactic(auto, unfolding(crate::specs::Spelling::bytes_of))]
+    fn spelled(&self, alloc: Global) -> Result<Vec<u8>, tcd_base::NoMemory>
+        ensures { IfOk result (λ out. out.items ≡ bytes_of self.now) }
     {
         let mut out = Vec::new(alloc);
         put_u32(&mut out, 0x4344_4354)?;

@@ -8,5 +8,5 @@ invariant-loop-i l = record {
   read : many_at (node_after l.version) l.count [] l.initial.c ≡ many_at (node_after l.version) (l.count - l._i) l.nodes.items l.c;
   bytes : l.c.bytes ≡ l.initial.c.bytes;
   used : l.used ≡ count_points l.nodes.items;
-  few : l.used ≤ 2 ^ 16
+  few : l.used ≤ 2 ^ 16;
 }

@@ -20,6 +20,6 @@ returns c =
     elim c.else-at-nodes.branch [
       | else-at-nodes-via-then-at-nodes+else-is_node w ↦
           sym (missing number c.args.nodes.now c.args.number c.args.at w.index-nodes-at.result c.requires.rising c.requires.place
-              (ap (λ (n : NodeData). eqb (number n) c.args.number) (sym w.index-nodes-at.is) ∙ sym w.if-is_node.ensures))
+          (ap (λ (n : NodeData). eqb (number n) c.args.number) (sym w.index-nodes-at.is) ∙ sym w.if-is_node.ensures))
       | else-at-nodes-via-else-at-nodes w ↦ sym (missing_end number c.args.nodes.now c.args.number c.args.at c.requires.place w.if-at-nodes.false)
     ]

@@ -1,4 +1,4 @@
-use Rattle.std.proofs.Common.{◌≡◌, ◌∙◌, sym, ap, Some, ℕ, get_or, eq-eqb}
+use Rattle.std.proofs.Common.{◌∙◌, sym, ap, Some, ℕ, eq-eqb}
 use Rattle.std.proofs.lemmas.Bool.{ne_eqb}
 use Rattle.std.proofs.lemmas.List.{get_or_default}
 use Rattle.depth_cert.specs.declared.points.Point.{Point}

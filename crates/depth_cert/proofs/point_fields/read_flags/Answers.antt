@@ -1,4 +1,4 @@
-use Rattle.std.proofs.Common.{◌≡◌, ◌∙◌, arith}
+use Rattle.std.proofs.Common.{◌∙◌, arith}
 use Rattle.std.proofs.lemmas.Result.{err_from_is_err_and}
 use Rattle.depth_cert.specs.Grammar.{flag_at}
 use Rattle.depth_cert.proofs.ManyLaws.{many_more, many_fail, many_end}

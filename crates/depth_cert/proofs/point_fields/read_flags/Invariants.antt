@@ -6,5 +6,5 @@ abbrev pub invariant-loop-i : goal.invariant-loop-i
 invariant-loop-i l = record {
   read : many_at (λ before. flag_at) l.count [] l.initial.c ≡ many_at (λ before. flag_at) (l.count - l._i) l.flags.items l.c;
   bytes : l.c.bytes ≡ l.initial.c.bytes;
-  count : length l.flags.items ≡ l._i
+  count : length l.flags.items ≡ l._i;
 }

@@ -8,5 +8,5 @@ invariant-loop-i l = record {
   read : many_at (point_after l.version) l.count [] l.initial.c ≡ many_at (point_after l.version) (l.count - l._i) l.points.items l.c;
   bytes : l.c.bytes ≡ l.initial.c.bytes;
   count : length l.points.items ≡ l._i;
-  rising : ArePoints l.points.items
+  rising : ArePoints l.points.items;
 }

@@ -1,7 +1,5 @@
-use Rattle.std.proofs.Common.{◌≡◌, ap, ◌∙◌, arith, refl}
+use Rattle.std.proofs.Common.{◌∙◌, arith, refl}
 use Rattle.std.proofs.lemmas.Result.{err_from_is_err_and}
-use Rattle.tcd_base.specs.Reading.{◌>>=◌}
-use Rattle.value_domain.specs.declared.values.Val.TheVariants.{Set}
 use Rattle.depth_cert.specs.Grammar.{word_after, set_at}
 use Rattle.depth_cert.proofs.ManyLaws.{many_more, many_fail, many_end, rising_push}
 use Rattle.depth_cert.proofs.value_fields.read_set.Goals as goal

@@ -8,5 +8,5 @@ invariant-loop-i l = record {
   read : many_at word_after l.n [] l.initial.c ≡ many_at word_after (l.n - l._i) l.words.items l.c;
   bytes : l.c.bytes ≡ l.initial.c.bytes;
   count : length l.words.items ≡ l._i;
-  rising : IsStrictlyIncreasing l.words.items
+  rising : IsStrictlyIncreasing l.words.items;
 }
