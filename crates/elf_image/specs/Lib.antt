@@ -1,1 +1,3 @@
+pub mod Elf
 pub mod Images
+pub mod Written

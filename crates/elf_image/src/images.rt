@@ -1,4 +1,10 @@
 // An image: the segments of an executable, with the limits that it always keeps.
+use crate::ImageErr;
+use crate::headers::word_at;
+use crate::holding::{byte_of, is_held};
+use crate::reading::{check_apart, check_segments, check_start, loads_of, segments_of};
+use crate::writing::written;
+use std::alloc::Global;
 use std::marker::Model;
 
 /// The bytes from `at` on.
@@ -24,4 +30,51 @@ impl Model for Image {
     ghost view = { image_data };
 
     ghost invariant = { λ i. IsImage (image_data i) };
+}
+
+impl Image {
+    ghost use Rattle.std.specs.Prelude.{◌≡◌, ◌≤◌, ◌^◌, length, Ok, IfOk, IfErr};
+    ghost use Rattle.elf_image.specs.Images.{image_byte};
+    ghost use Rattle.elf_image.specs.Elf.{Gives, image_of};
+    ghost use Rattle.elf_image.specs.Written.{file_of};
+
+    /// The image that an executable ELF file of 32 bits for this machine loads: the segments of type PT_LOAD with
+    /// bytes in the file, in the order of their headers, each at its physical address.
+    pub fn read(alloc: Global, bytes: &[u8]) -> Result<Image, ImageErr>
+        requires { length bytes.now ≤ 2 ^ 30 }
+        ensures { Gives result (image_of bytes.now) }
+    {
+        check_start(bytes)?;
+        check_segments(bytes)?;
+        let loads = loads_of(alloc, bytes)?;
+        check_apart(&loads)?;
+        let segments = segments_of(alloc, bytes, &loads)?;
+        Ok(Image {
+            entry: word_at(bytes, 24),
+            segments,
+        })
+    }
+
+    /// The executable file of the image: the ELF header, a program header for each segment, and the segments' bytes
+    /// without gaps. `read` gives the image again.
+    pub fn write(&self, alloc: Global) -> Result<Vec<u8>, ImageErr>
+        ensures bytes { IfOk result (λ v. v.items ≡ file_of self.now) }
+        ensures small { IfOk result (λ v. length v.items ≤ 2 ^ 30) }
+        ensures again { IfOk result (λ v. image_of v.items ≡ Ok self.now) }
+        ensures err { IfErr result (λ e. e ≡ ImageErr.NoMemory) }
+    {
+        written(alloc, self.entry, &self.segments)
+    }
+
+    /// The byte at an address; nothing where no segment holds it. Looks at each segment once, and at one byte.
+    pub fn byte(&self, addr: u32) -> Option<u8>
+        ensures byte { result ≡ image_byte self.now addr }
+    {
+        for segment in &self.segments {
+            if is_held(segment, addr) {
+                return byte_of(segment, addr);
+            }
+        }
+        None
+    }
 }

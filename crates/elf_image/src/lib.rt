@@ -1,6 +1,12 @@
 //! Executables: ELF32 files, and the image that they load.
 #![tactic(auto)]
 
+mod errors;
+mod headers;
+mod holding;
 mod images;
+mod reading;
+mod writing;
 
+pub use errors::ImageErr;
 pub use images::{Image, Segment};

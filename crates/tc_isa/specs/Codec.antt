@@ -1,10 +1,10 @@
 -- Which bytes spell an instruction.
-use Rattle.std.specs.Prelude.{◌≡◌, ◌+◌, ◌*◌, ◌/◌, ◌%◌, ◌^◌, ◌<◌, ◌==◌, ◌&&◌, ◌||◌, not, ℕ, List, [], ◌∷◌, ◌++◌, length, Bool, true, false, IsTrue, nat_lt, Option, Some, None, slice_get, if◌then◌else◌}
+use Rattle.std.specs.Prelude.{◌≡◌, ◌/◌, ◌%◌, ◌^◌, ◌<◌, ◌==◌, ◌&&◌, ◌||◌, not, ℕ, List, [], ◌∷◌, Bool, true, false, nat_lt, if◌then◌else◌}
 use Rattle.std.specs.List.{list_any}
-use Rattle.tc_isa.specs.Rows.{RowData, listed}
+use Rattle.tc_isa.specs.Rows.{RowData}
 use Rattle.tc_isa.specs.declared.fields.Fields.{Fields}
 use Rattle.tc_isa.specs.declared.fields.Uses.{Uses}
-use Rattle.tc_isa.specs.Words.{IsBelow, bounds, second_bound, word, fields, span, is_long_form, form_index}
+use Rattle.tc_isa.specs.Words.{IsBelow, bounds, second_bound, word, fields, is_long_form, form_index}
 
 -- two bytes stand side by side
 abbrev pub has_pair : ℕ → ℕ → List ℕ → Bool
@@ -46,14 +46,6 @@ word_of r f = word r.form r.op1 r.op2 f
 abbrev pub is_long : RowData → Bool
 is_long r = r.op1 % 2 == 1
 
--- the row at this place has the word with these fields
-pub record Has (rows : List RowData) (long : Bool) (w : ℕ) (place : ℕ) (f : Fields) : Type 0 where
-  pub row : RowData
-  pub at : slice_get rows place ≡ Some row
-  pub size : is_long row ≡ long
-  pub fits : Fits row f
-  pub is : word_of row f ≡ w
-
 abbrev pub same_test : Bool → Bool → Bool
 same_test true b = b
 same_test false b = not b
@@ -76,14 +68,6 @@ is_below_test f b = nat_lt f.c b.c && nat_lt f.s1 b.s1 && nat_lt f.s2 b.s2 && na
 unfoldable pub is_row : RowData → Bool
 is_row r = nat_lt r.op1 256 && nat_lt r.op2 (second_bound r.form) && is_below_test (least r) (bounds r.form) && rest_is_zero (uses_of r) (least r) && is_apart r (least r) && same_test (is_long r) (is_long_form r.form)
 
--- some fields of the row begin with these low bytes
-pub record GoesOn (rows : List RowData) (long : Bool) (n part place : ℕ) (f : Fields) : Type 0 where
-  pub row : RowData
-  pub at : slice_get rows place ≡ Some row
-  pub size : is_long row ≡ long
-  pub fits : Fits row f
-  pub is : word_of row f % span n ≡ part
-
 -- a number as bytes, the lowest first
 abbrev pub two_bytes : ℕ → List ℕ
 two_bytes w = w % 256 ∷ w / 256 ∷ []
@@ -98,23 +82,6 @@ spelled false w = two_bytes w
 -- the bytes of a row with these fields
 abbrev pub spelling : RowData → Fields → List ℕ
 spelling r f = spelled (is_long r) (word_of r f)
-
--- the spelling of the row at this place begins the bytes, and has n of them
-pub record Begins (bytes : List ℕ) (place : ℕ) (f : Fields) (n : ℕ) : Type 0 where
-  pub row : RowData
-  pub at : slice_get listed place ≡ Some row
-  pub fits : Fits row f
-  pub len : n ≡ length (spelling row f)
-  pub rest : List ℕ
-  pub is : bytes ≡ spelling row f ++ rest
-
--- the bytes begin a spelling
-pub record IsFront (bytes : List ℕ) (place : ℕ) (f : Fields) : Type 0 where
-  pub row : RowData
-  pub at : slice_get listed place ≡ Some row
-  pub fits : Fits row f
-  pub rest : List ℕ
-  pub is : bytes ++ rest ≡ spelling row f
 
 -- two rows that some word could have both: one first code, and another form or the same second code
 abbrev pub clash : RowData → RowData → Bool

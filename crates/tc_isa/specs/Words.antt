@@ -1,5 +1,5 @@
 -- The words of instructions, by their form.
-use Rattle.std.specs.Prelude.{zero, suc, ◌≡◌, ◌+◌, ◌-◌, ◌*◌, ◌/◌, ◌%◌, ◌^◌, ◌<◌, ℕ, Bool, true, false, ◌&&◌, nat_lt}
+use Rattle.std.specs.Prelude.{◌+◌, ◌*◌, ◌/◌, ◌%◌, ◌^◌, ◌<◌, ℕ, Bool, true, false}
 use Rattle.tc_isa.specs.declared.fields.Fields.{Fields}
 use Rattle.tc_isa.specs.declared.table.Form.{Form}
 use Rattle.tc_isa.specs.declared.table.Form.TheVariants.{Rlc, Rr, Rc, Bol, Bo, Brr, Brc, B, Abs, Sys, Sr, Sc, Sb, Sbr, Src, Srr, Slr, Ssr}
@@ -119,27 +119,6 @@ second_of Src w = 0
 second_of Srr w = 0
 second_of Slr w = 0
 second_of Ssr w = 0
-
--- the low n bytes of a, and the rest of b
-abbrev pub mix1 : ℕ → ℕ → ℕ
-mix1 a b = a % 2 ^ 8 + b / 2 ^ 8 * 2 ^ 8
-
-abbrev pub mix2 : ℕ → ℕ → ℕ
-mix2 a b = a % 2 ^ 16 + b / 2 ^ 16 * 2 ^ 16
-
-abbrev pub mix3 : ℕ → ℕ → ℕ
-mix3 a b = a % 2 ^ 24 + b / 2 ^ 24 * 2 ^ 24
-
--- 256 to the number of bytes kept
-abbrev pub span : ℕ → ℕ
-span zero = 1
-span (suc zero) = 2 ^ 8
-span (suc (suc zero)) = 2 ^ 16
-span (suc (suc (suc n))) = 2 ^ 24
-
--- the low n bytes of a, and the rest of b
-abbrev pub mix : ℕ → ℕ → ℕ → ℕ
-mix n a b = a % span n + b / span n * span n
 
 -- a form of 32 bits
 unfoldable pub is_long_form : Form → Bool

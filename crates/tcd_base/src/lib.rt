@@ -1,6 +1,7 @@
 //! The types that all crates share, and the seams to the outside: files and a sink of text.
 #![tactic(auto)]
 
+mod counts;
 mod cursor;
 mod files;
 mod mem_files;
@@ -9,11 +10,12 @@ mod numbers;
 mod parts;
 mod reading;
 mod sink;
+#[cfg(test)]
+mod tests;
 
 pub use cursor::Cursor;
 pub use files::{FileErr, Files};
 pub use mem_files::MemFiles;
-use mem_files::is_listed;
 pub use mem_sink::MemSink;
 pub use numbers::{bits, put_u32, sext};
 pub use parts::{Core, FormErr, NoMemory, Range};

@@ -1,0 +1,7 @@
+pub mod Again
+pub mod Fields
+pub mod Good
+pub mod Loaded
+pub mod Loads
+pub mod Refusals
+pub mod Rest

@@ -1,0 +1,71 @@
+-- What a file without a refusal loads keeps the limits of an image.
+use Rattle.std.proofs.Common.{◌≡◌, ℕ, ◌^◌, ◌<◌, ◌≤◌, Bool, true, false, ◌&&◌, List, [], ◌∷◌, length, map, find, drop, sum_by, Option, Some, None, refl, arith}
+use Rattle.std.specs.List.{list_all, AllByRecursion}
+use Rattle.std.specs.Option.{option_map, option_or}
+use Rattle.std.proofs.lemmas.List.{length-take, length-drop, length-map}
+use Rattle.std.proofs.lemmas.List.Elements.{recursion_from_All}
+use Rattle.std.proofs.lemmas.List.Sums.{sum_by-cons}
+use Rattle.std.proofs.lemmas.Bool.Decides.{nat_tests}
+use Rattle.elf_image.specs.declared.headers.Header.{Header}
+use Rattle.elf_image.specs.declared.errors.ImageErr.{ImageErr}
+use Rattle.elf_image.specs.declared.errors.ImageErr.TheVariants.{Overlap}
+use Rattle.elf_image.specs.Images.{SegmentData, IsImage, is_segment, are_apart, all_apart}
+use Rattle.elf_image.specs.Elf.{meets, loads_of, segment_refusal, is_large, overlap_refusal, segment_of}
+use Rattle.elf_image.proofs.Good.{Good, loads_good, unfound_head, unfound_tail}
+
+both : {a b : Bool} → a ≡ true → b ≡ true → (a && b) ≡ true
+both e f = rw (e, f) refl
+
+length-segment_of : (bytes : List ℕ) (h : Header) → Good bytes h → length (segment_of bytes h).bytes ≡ h.file_size
+length-segment_of bytes h good = omega (arith, length-take h.file_size (drop h.offset bytes), length-drop h.offset bytes, good.inside)
+
+a_segment : (bytes : List ℕ) (h : Header) → Good bytes h → is_segment (segment_of bytes h) ≡ true
+a_segment bytes h good = let len = length-segment_of bytes h good in grind (arith, nat_tests)
+
+segments : (bytes : List ℕ) (hs : List Header) → AllByRecursion (Good bytes) hs → list_all is_segment (map (segment_of bytes) hs) ≡ true
+segments bytes [] good = refl
+segments bytes (h ∷ hs) good = both (a_segment bytes h good.0) (segments bytes hs good.1)
+
+apart : (bytes : List ℕ) (h k : Header) → Good bytes h → Good bytes k → meets h k ≡ false → are_apart (segment_of bytes h) (segment_of bytes k) ≡ true
+unfolding meets
+apart bytes h k good_h good_k e =
+    let len_h = length-segment_of bytes h good_h in
+    let len_k = length-segment_of bytes k good_k in
+    grind (arith, nat_tests)
+
+apart_all : (bytes : List ℕ) (h : Header) (hs : List Header) → Good bytes h → AllByRecursion (Good bytes) hs → find (meets h) hs ≡ None → list_all (are_apart (segment_of bytes h)) (map (segment_of bytes) hs) ≡ true
+apart_all bytes h [] good_h good e = refl
+apart_all bytes h (k ∷ hs) good_h good e = both (apart bytes h k good_h good.0 (unfound_head (meets h) k hs e)) (apart_all bytes h hs good_h good.1 (unfound_tail (meets h) k hs e))
+
+first_none : (o : Option Header) (h : Header) (p : Option ImageErr) → option_or (option_map (λ k. Overlap h.number k.number) o) p ≡ None → (o ≡ None) × (p ≡ None)
+first_none None h p e = (refl, e)
+first_none (Some k) h p e = absurd cc
+
+all_are_apart : (bytes : List ℕ) (hs : List Header) → AllByRecursion (Good bytes) hs → overlap_refusal hs ≡ None → all_apart (map (segment_of bytes) hs) ≡ true
+unfolding overlap_refusal
+all_are_apart bytes [] good e = refl
+all_are_apart bytes (h ∷ hs) good e =
+    let none = first_none (find (meets h) hs) h (overlap_refusal hs) e in
+    both (apart_all bytes h hs good.0 good.1 none.0) (all_are_apart bytes hs good.1 none.1)
+
+sizes : (bytes : List ℕ) (hs : List Header) → AllByRecursion (Good bytes) hs → sum_by (λ s. length s.bytes) (map (segment_of bytes) hs) ≡ sum_by (λ h. h.file_size) hs
+sizes bytes [] good = refl
+sizes bytes (h ∷ hs) good =
+    omega (arith, sum_by-cons (λ (s : SegmentData). length s.bytes) (segment_of bytes h) (map (segment_of bytes) hs), sum_by-cons (λ (x : Header). x.file_size) h hs, length-segment_of bytes h good.0, sizes bytes hs good.1)
+
+not_large : (hs : List Header) → is_large hs ≡ false → (length hs ≤ 64) × (sum_by (λ h. h.file_size) hs ≤ 2 ^ 24)
+unfolding is_large
+not_large hs e = (grind (arith, nat_tests), grind (arith, nat_tests))
+
+pub loaded_is_image : (bytes : List ℕ) (entry : ℕ) (ss : List SegmentData) → entry < 2 ^ 32 → segment_refusal bytes ≡ None → is_large (loads_of bytes) ≡ false → overlap_refusal (loads_of bytes) ≡ None → ss ≡ map (segment_of bytes) (loads_of bytes) → IsImage (record { entry = entry; segments = ss })
+loaded_is_image bytes entry ss below fine small alone e =
+    let hs = loads_of bytes in
+    let good = recursion_from_All (Good bytes) hs (loads_good bytes fine) in
+    let limits = not_large hs small in
+    rw e (record {
+      entry = below;
+      few = omega (arith, limits.0, length-map hs (segment_of bytes));
+      segments = segments bytes hs good;
+      apart = all_are_apart bytes hs good alone;
+      small = omega (arith, limits.1, sizes bytes hs good);
+    })

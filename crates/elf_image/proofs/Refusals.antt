@@ -1,0 +1,60 @@
+-- The first refusal, step by step.
+use Rattle.std.proofs.Common.{◌≡◌, ◌⊎◌, inl, inr, ℕ, true, false, List, map, Option, Some, None, Ok, Err, refl, sym, ap, ◌∙◌}
+use Rattle.std.specs.Bool.{then_some}
+use Rattle.std.specs.Option.{option_or}
+use Rattle.elf_image.specs.declared.errors.ImageErr.{ImageErr}
+use Rattle.elf_image.specs.declared.errors.ImageErr.TheVariants.{Short, NotElf32Le, NotTriCore, NotExec, BadSegment, TooLarge, Overlap, NoMemory}
+use Rattle.elf_image.specs.declared.headers.Header.{Header}
+use Rattle.elf_image.specs.Images.{SegmentData}
+use Rattle.elf_image.specs.Elf.{e_entry, loads_of, start_refusal, segment_refusal, is_large, overlap_refusal, refusal_of, segment_of, loaded, unless, image_of, Gives}
+
+-- the answer with a refusal
+pub refused : (bytes : List ℕ) (e : ImageErr) → refusal_of bytes ≡ Some e → Gives (Err e) (image_of bytes)
+unfolding image_of
+refused bytes Short h = ap (λ o. unless o (loaded bytes)) h
+refused bytes NotElf32Le h = ap (λ o. unless o (loaded bytes)) h
+refused bytes NotTriCore h = ap (λ o. unless o (loaded bytes)) h
+refused bytes NotExec h = ap (λ o. unless o (loaded bytes)) h
+refused bytes (BadSegment i) h = ap (λ o. unless o (loaded bytes)) h
+refused bytes TooLarge h = ap (λ o. unless o (loaded bytes)) h
+refused bytes (Overlap i j) h = ap (λ o. unless o (loaded bytes)) h
+refused bytes NoMemory h = tt
+
+first : (a b c d : Option ImageErr) (e : ImageErr) → Some e ≡ a → option_or a (option_or b (option_or c d)) ≡ Some e
+first a b c d e h = rw (← h) refl
+
+second : (a b c d : Option ImageErr) (e : ImageErr) → None ≡ a → Some e ≡ b → option_or a (option_or b (option_or c d)) ≡ Some e
+second a b c d e h i = rw (← h, ← i) refl
+
+third : (a b c d : Option ImageErr) (e : ImageErr) → None ≡ a → None ≡ b → Some e ≡ c → option_or a (option_or b (option_or c d)) ≡ Some e
+third a b c d e h i j = rw (← h, ← i, ← j) refl
+
+fourth : (a b c d x : Option ImageErr) → None ≡ a → None ≡ b → None ≡ c → x ≡ d → option_or a (option_or b (option_or c d)) ≡ x
+fourth a b c d x h i j k = rw (← h, ← i, ← j, k) refl
+
+pub refused_start : (bytes : List ℕ) (e : ImageErr) → Some e ≡ start_refusal bytes → Gives (Err e) (image_of bytes)
+unfolding refusal_of
+refused_start bytes e h = refused bytes e (first (start_refusal bytes) (segment_refusal bytes) (then_some (is_large (loads_of bytes)) TooLarge) (overlap_refusal (loads_of bytes)) e h)
+
+pub refused_segment : (bytes : List ℕ) (e : ImageErr) → None ≡ start_refusal bytes → Some e ≡ segment_refusal bytes → Gives (Err e) (image_of bytes)
+unfolding refusal_of
+refused_segment bytes e h i = refused bytes e (second (start_refusal bytes) (segment_refusal bytes) (then_some (is_large (loads_of bytes)) TooLarge) (overlap_refusal (loads_of bytes)) e h i)
+
+pub refused_size : (bytes : List ℕ) → None ≡ start_refusal bytes → None ≡ segment_refusal bytes → is_large (loads_of bytes) ≡ true → Gives (Err TooLarge) (image_of bytes)
+unfolding refusal_of
+refused_size bytes h i j = refused bytes TooLarge (third (start_refusal bytes) (segment_refusal bytes) (then_some (is_large (loads_of bytes)) TooLarge) (overlap_refusal (loads_of bytes)) TooLarge h i (ap (λ b. then_some b TooLarge) (sym j)))
+
+pub refused_loads : (bytes : List ℕ) (e : ImageErr) → None ≡ start_refusal bytes → None ≡ segment_refusal bytes → (e ≡ NoMemory) ⊎ ((e ≡ TooLarge) × (is_large (loads_of bytes) ≡ true)) → Gives (Err e) (image_of bytes)
+refused_loads bytes e h i (inl j) = rw j tt
+refused_loads bytes e h i (inr j) = rw j.0 (refused_size bytes h i j.1)
+
+pub refused_overlap : (bytes : List ℕ) (e : ImageErr) → None ≡ start_refusal bytes → None ≡ segment_refusal bytes → is_large (loads_of bytes) ≡ false → (loads : List Header) → loads ≡ loads_of bytes → Some e ≡ overlap_refusal loads → Gives (Err e) (image_of bytes)
+unfolding refusal_of
+refused_overlap bytes e h i j loads l k = refused bytes e (fourth (start_refusal bytes) (segment_refusal bytes) (then_some (is_large (loads_of bytes)) TooLarge) (overlap_refusal (loads_of bytes)) (Some e) h i (ap (λ b. then_some b TooLarge) (sym j)) (k ∙ ap overlap_refusal l))
+
+-- the image, where there is none
+pub image_of-loaded : (bytes : List ℕ) (entry : ℕ) (ss : List SegmentData) → None ≡ start_refusal bytes → None ≡ segment_refusal bytes → is_large (loads_of bytes) ≡ false → None ≡ overlap_refusal (loads_of bytes) → entry ≡ e_entry bytes → ss ≡ map (segment_of bytes) (loads_of bytes) → image_of bytes ≡ Ok (record { entry = entry; segments = ss })
+unfolding refusal_of image_of loaded
+image_of-loaded bytes entry ss h i j k e f =
+    let none = fourth (start_refusal bytes) (segment_refusal bytes) (then_some (is_large (loads_of bytes)) TooLarge) (overlap_refusal (loads_of bytes)) None h i (ap (λ b. then_some b TooLarge) (sym j)) k in
+    ap (λ o. unless o (loaded bytes)) none ∙ rw (e, f) refl

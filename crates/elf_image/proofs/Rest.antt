@@ -1,0 +1,38 @@
+-- The program headers of a file that a loop has still to look at.
+use Rattle.std.proofs.Common.{◌≡◌, ℕ, suc, ◌+◌, ◌-◌, ◌<◌, ◌≤◌, List, [], ◌∷◌, map, find, cond, true, false, Some, refl, ap, ◌∙◌, arith}
+use Rattle.std.specs.List.{range_with_len}
+use Rattle.elf_image.specs.declared.headers.Header.{Header}
+use Rattle.elf_image.specs.Elf.{header_at, headers_of, e_phnum, is_bad}
+
+-- from a number on, up to the end
+unfoldable pub rest_of : List ℕ → ℕ → ℕ → List Header
+rest_of bytes i n = map (header_at bytes) (range_with_len i (n - i))
+
+pub rest_of-more : (bytes : List ℕ) (i n : ℕ) → i < n → rest_of bytes i n ≡ header_at bytes i ∷ rest_of bytes (i + 1) n
+unfolding rest_of
+rest_of-more bytes i n lt =
+    let e : n - i ≡ suc (n - (i + 1)) = omega arith in
+    ap (λ (m : ℕ). map (header_at bytes) (range_with_len i m)) e
+
+pub rest_of-end : (bytes : List ℕ) (i n : ℕ) → n ≤ i → rest_of bytes i n ≡ []
+unfolding rest_of
+rest_of-end bytes i n le =
+    let e : n - i ≡ 0 = omega arith in
+    ap (λ (m : ℕ). map (header_at bytes) (range_with_len i m)) e
+
+pub rest_of-start : (bytes : List ℕ) → rest_of bytes 0 (e_phnum bytes) ≡ headers_of bytes
+unfolding rest_of headers_of
+rest_of-start bytes =
+    let e : e_phnum bytes - 0 ≡ e_phnum bytes = omega arith in
+    ap (λ (m : ℕ). map (header_at bytes) (range_with_len 0 m)) e
+
+pub number-header_at : (bytes : List ℕ) (i : ℕ) → (header_at bytes i).number ≡ i
+unfolding header_at
+number-header_at bytes i = refl
+
+-- the first bad header of what is left, where the next one is bad and where it isn't
+pub find_bad-now : (bytes : List ℕ) (i n : ℕ) → i < n → is_bad bytes (header_at bytes i) ≡ true → find (is_bad bytes) (rest_of bytes i n) ≡ Some (header_at bytes i)
+find_bad-now bytes i n lt bad = ap (find (is_bad bytes)) (rest_of-more bytes i n lt) ∙ ap (λ b. cond b (Some (header_at bytes i)) (find (is_bad bytes) (rest_of bytes (i + 1) n))) bad
+
+pub find_bad-later : (bytes : List ℕ) (i n : ℕ) → i < n → is_bad bytes (header_at bytes i) ≡ false → find (is_bad bytes) (rest_of bytes i n) ≡ find (is_bad bytes) (rest_of bytes (i + 1) n)
+find_bad-later bytes i n lt good = ap (find (is_bad bytes)) (rest_of-more bytes i n lt) ∙ ap (λ b. cond b (Some (header_at bytes i)) (find (is_bad bytes) (rest_of bytes (i + 1) n))) good

@@ -1,0 +1,97 @@
+// The fields of an ELF file, by their places.
+ghost use Rattle.std.specs.Prelude.{◌≡◌, ◌+◌, ◌*◌, ◌≤◌, ◌<◌, ◌^◌, length};
+ghost use Rattle.elf_image.specs.Elf.{half_at, word_at, place_of, header_at, passes_bounds, is_bad, has_bytes, meets};
+
+/// A program header, with its number in the file.
+#[derive(Clone, Copy)]
+pub(crate) struct Header {
+    pub(crate) number: u32,
+    pub(crate) kind: u32,
+    pub(crate) offset: u32,
+    pub(crate) address: u32,
+    pub(crate) file_size: u32,
+    pub(crate) memory_size: u32,
+}
+
+#[tactic(auto, unfolding(crate::specs::Elf::half_at))]
+pub(crate) fn half_at(bytes: &[u8], at: usize) -> u16
+    requires { at + 2 ≤ length bytes.now }
+    ensures { result ≡ half_at bytes.now at }
+{
+    u16::from_le_bytes([bytes[at], bytes[at + 1]])
+}
+
+#[tactic(auto, unfolding(crate::specs::Elf::word_at))]
+pub(crate) fn word_at(bytes: &[u8], at: usize) -> u32
+    requires { at + 4 ≤ length bytes.now }
+    ensures { result ≡ word_at bytes.now at }
+{
+    u32::from_le_bytes([bytes[at], bytes[at + 1], bytes[at + 2], bytes[at + 3]])
+}
+
+// Where the program header of a number begins.
+pub(crate) fn place_of(bytes: &[u8], number: u16) -> usize
+    requires { 52 ≤ length bytes.now }
+    ensures place { result ≡ place_of bytes.now number }
+    ensures small { result < 2 ^ 33 }
+{
+    word_at(bytes, 28) as usize + 32 * number as usize
+}
+
+// The program header of a number that is wholly in the file.
+#[tactic(auto, unfolding(crate::specs::Elf::header_at))]
+pub(crate) fn header_at(bytes: &[u8], number: u16) -> Header
+    requires long { 52 ≤ length bytes.now }
+    requires whole { place_of bytes.now number + 32 ≤ length bytes.now }
+    ensures { result ≡ header_at bytes.now number }
+{
+    let place = place_of(bytes, number);
+    Header {
+        number: u32::from(number),
+        kind: word_at(bytes, place),
+        offset: word_at(bytes, place + 4),
+        address: word_at(bytes, place + 12),
+        file_size: word_at(bytes, place + 16),
+        memory_size: word_at(bytes, place + 20),
+    }
+}
+
+// Whether the header's bytes pass the end of a file of this length, the last address or its own memory size.
+pub(crate) fn passes_bounds(len: usize, header: &Header) -> bool
+    ensures { result ≡ passes_bounds len header.now }
+{
+    let size = u64::from(header.file_size);
+    u64::from(header.offset) + size > len as u64
+        || u64::from(header.address) + size > 1 << 32
+        || header.memory_size < header.file_size
+}
+
+// Whether the program header of a number can't be used.
+#[tactic(auto, unfolding(crate::specs::Elf::is_bad, crate::specs::Elf::header_at))]
+pub(crate) fn is_bad(bytes: &[u8], number: u16) -> bool
+    requires { 52 ≤ length bytes.now }
+    ensures { result ≡ is_bad bytes.now (header_at bytes.now number) }
+{
+    if place_of(bytes, number) + 32 > bytes.len() {
+        return true;
+    }
+    let header = header_at(bytes, number);
+    header.kind == 1 && passes_bounds(bytes.len(), &header)
+}
+
+// Whether a program header loads bytes of the file.
+#[tactic(auto, unfolding(crate::specs::Elf::has_bytes))]
+pub(crate) fn has_bytes(header: &Header) -> bool
+    ensures { result ≡ has_bytes header.now }
+{
+    header.kind == 1 && header.file_size > 0
+}
+
+// Whether two program headers that load bytes share an address.
+#[tactic(auto, unfolding(crate::specs::Elf::meets))]
+pub(crate) fn meets(header: &Header, other: &Header) -> bool
+    ensures { result ≡ meets header.now other.now }
+{
+    let (at, other_at) = (u64::from(header.address), u64::from(other.address));
+    at < other_at + u64::from(other.file_size) && other_at < at + u64::from(header.file_size)
+}

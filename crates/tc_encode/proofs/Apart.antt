@@ -1,0 +1,119 @@
+-- No bytes begin with spellings of two rows.
+use Rattle.std.proofs.Common.{◌≡◌, inl, inr, ◌/◌, ◌%◌, ◌^◌, ◌<◌, ℕ, zero, suc, Bool, true, false, List, [], ◌∷◌, ◌++◌, refl, sym, ap, subst, ◌∙◌, arith, ◌==◌, Some}
+use Rattle.std.specs.Prelude.{slice_get}
+use Rattle.std.specs.List.{list_any}
+use Rattle.std.proofs.lemmas.Bool.{and_parts, and_from, eqb-true, eq-eqb, or_parts, or_left, or_right, not-true, cases_Bool, not_from_false, both_ways, cases_order}
+use Rattle.tc_isa.specs.declared.fields.Fields.{Fields}
+use Rattle.tc_isa.specs.declared.table.Form.{Form}
+use Rattle.tc_isa.specs.declared.table.Form.TheVariants.{Rlc, Rr, Rc, Bol, Bo, Brr, Brc, B, Abs, Sys, Sr, Sc, Sb, Sbr, Src, Srr, Slr, Ssr}
+use Rattle.tc_isa.specs.Rows.{RowData, listed}
+use Rattle.tc_isa.specs.Words.{second_of, form_index}
+use Rattle.tc_isa.specs.Codec.{Fits, IsRow, word_of, clash, none_clash, is_long, spelled, spelling}
+use Rattle.tc_encode.proofs.Inverse.{first-word, second-word}
+use Rattle.tc_isa.proofs.TableFacts.{row_at, rows_are_apart}
+
+-- a form by its number
+form_at : ℕ → Form
+form_at zero = Rlc
+form_at (suc zero) = Rr
+form_at (suc (suc zero)) = Rc
+form_at (suc (suc (suc zero))) = Bol
+form_at (suc (suc (suc (suc zero)))) = Bo
+form_at (suc (suc (suc (suc (suc zero))))) = Brr
+form_at (suc (suc (suc (suc (suc (suc zero)))))) = Brc
+form_at (suc (suc (suc (suc (suc (suc (suc zero))))))) = B
+form_at (suc (suc (suc (suc (suc (suc (suc (suc zero)))))))) = Abs
+form_at (suc (suc (suc (suc (suc (suc (suc (suc (suc zero))))))))) = Sys
+form_at (suc (suc (suc (suc (suc (suc (suc (suc (suc (suc zero)))))))))) = Sr
+form_at (suc (suc (suc (suc (suc (suc (suc (suc (suc (suc (suc zero))))))))))) = Sc
+form_at (suc (suc (suc (suc (suc (suc (suc (suc (suc (suc (suc (suc zero)))))))))))) = Sb
+form_at (suc (suc (suc (suc (suc (suc (suc (suc (suc (suc (suc (suc (suc zero))))))))))))) = Sbr
+form_at (suc (suc (suc (suc (suc (suc (suc (suc (suc (suc (suc (suc (suc (suc zero)))))))))))))) = Src
+form_at (suc (suc (suc (suc (suc (suc (suc (suc (suc (suc (suc (suc (suc (suc (suc zero))))))))))))))) = Srr
+form_at (suc (suc (suc (suc (suc (suc (suc (suc (suc (suc (suc (suc (suc (suc (suc (suc zero)))))))))))))))) = Slr
+form_at (suc (suc (suc (suc (suc (suc (suc (suc (suc (suc (suc (suc (suc (suc (suc (suc (suc n))))))))))))))))) = Ssr
+
+form_back : (f : Form) → form_at (form_index f) ≡ f
+unfolding form_at form_index
+form_back Rlc = refl
+form_back Rr = refl
+form_back Rc = refl
+form_back Bol = refl
+form_back Bo = refl
+form_back Brr = refl
+form_back Brc = refl
+form_back B = refl
+form_back Abs = refl
+form_back Sys = refl
+form_back Sr = refl
+form_back Sc = refl
+form_back Sb = refl
+form_back Sbr = refl
+form_back Src = refl
+form_back Srr = refl
+form_back Slr = refl
+form_back Ssr = refl
+
+pub same_form : (f g : Form) → form_index f ≡ form_index g → f ≡ g
+same_form f g e = sym (form_back f) ∙ ap form_at e ∙ form_back g
+
+-- rows with one word have one first code, and another form or one second code
+pub clash_of : (r s : RowData) (f g : Fields) → IsRow r → IsRow s → Fits r f → Fits s g → word_of r f ≡ word_of s g → clash r s ≡ true
+clash_of r s f g row sow fits gits is =
+    let first : r.op1 ≡ s.op1 = sym (first-word r.form r.op1 r.op2 f row.first row.second fits.below) ∙ ap (λ w. w % 256) is ∙ first-word s.form s.op1 s.op2 g sow.first sow.second gits.below in
+    and_from _ _ (eq-eqb _ _ first) (elim (cases_Bool (form_index r.form == form_index s.form)) [
+      | inr other ↦ or_left _ _ (not_from_false _ other)
+      | inl same ↦
+          let form : r.form ≡ s.form = same_form r.form s.form (eqb-true _ _ same) in
+          let second : r.op2 ≡ s.op2 = sym (second-word r.form r.op1 r.op2 f row.first row.second fits.below) ∙ ap (second_of r.form) is ∙ ap (λ x. second_of x (word_of s g)) form ∙ second-word s.form s.op1 s.op2 g sow.first sow.second gits.below in
+          or_right _ _ (eq-eqb _ _ second)
+    ])
+
+-- no row clashes with a later one
+any_false : {X : Type 0} (t : X → Bool) (xs : List X) (q : ℕ) (x : X) → list_any t xs ≡ false → slice_get xs q ≡ Some x → t x ≡ false
+any_false t [] q x none at = cc
+any_false t (y ∷ ys) zero x none at = let e : y ≡ x = cc in subst (λ z. t z ≡ false) e (or_parts _ _ none).0
+any_false t (y ∷ ys) (suc q) x none at = any_false t ys q x (or_parts _ _ none).1 at
+
+later : (rs : List RowData) (p q : ℕ) (r s : RowData) → none_clash rs ≡ true → slice_get rs p ≡ Some r → slice_get rs q ≡ Some s → p < q → clash r s ≡ false
+later [] p q r s none at to lt = cc
+later (x ∷ xs) zero zero r s none at to lt = absurd (omega arith)
+later (x ∷ xs) zero (suc q) r s none at to lt =
+    let e : x ≡ r = cc in
+    subst (λ z. clash z s ≡ false) e (any_false (clash x) xs q s (not-true _ (and_parts _ _ none).0) to)
+later (x ∷ xs) (suc p) zero r s none at to lt = absurd (omega arith)
+later (x ∷ xs) (suc p) (suc q) r s none at to lt = later xs p q r s (and_parts _ _ none).1 at to (omega arith)
+
+-- listed rows with one word are one
+pub one_row : (p q : ℕ) (r s : RowData) (f g : Fields) → slice_get listed p ≡ Some r → slice_get listed q ≡ Some s → Fits r f → Fits s g → word_of r f ≡ word_of s g → p ≡ q
+one_row p q r s f g at to fits gits is =
+    elim (cases_order p q) [
+      | inl same ↦ same
+      | inr apart ↦ elim apart [
+        | inl less ↦ absurd (both_ways _ (later listed p q r s rows_are_apart at to less) (clash_of r s f g (row_at p r at) (row_at q s to) fits gits is))
+        | inr more ↦ absurd (both_ways _ (later listed q p s r rows_are_apart to at more) (clash_of s r g f (row_at q s to) (row_at p r at) gits fits (sym is)))
+      ]
+    ]
+
+-- bytes that begin with two spellings have one first byte, so the spellings are as long, and so the same
+head_of : (l m : Bool) (v w : ℕ) (x y : List ℕ) → spelled l v ++ x ≡ spelled m w ++ y → v % 256 ≡ w % 256
+head_of true true v w x y e = cc
+head_of true false v w x y e = cc
+head_of false true v w x y e = cc
+head_of false false v w x y e = cc
+
+same_word : (l : Bool) (v w : ℕ) (x y : List ℕ) → v < 2 ^ 32 → w < 2 ^ 32 → spelled l v ++ x ≡ spelled l w ++ y → v ≡ w
+same_word true v w x y hv hw e =
+    let a : v % 256 ≡ w % 256 = cc in let b : v / 2 ^ 8 % 256 ≡ w / 2 ^ 8 % 256 = cc in
+    let c : v / 2 ^ 16 % 256 ≡ w / 2 ^ 16 % 256 = cc in let d : v / 2 ^ 24 ≡ w / 2 ^ 24 = cc in omega arith
+same_word false v w x y hv hw e = let a : v % 256 ≡ w % 256 = cc in let b : v / 256 ≡ w / 256 = cc in omega arith
+
+pub one_length : (r s : RowData) (f g : Fields) (x y : List ℕ) → IsRow r → IsRow s → Fits r f → Fits s g → spelling r f ++ x ≡ spelling s g ++ y → is_long r ≡ is_long s
+one_length r s f g x y row sow fits gits e =
+    let first : r.op1 ≡ s.op1 = sym (first-word r.form r.op1 r.op2 f row.first row.second fits.below) ∙ head_of (is_long r) (is_long s) (word_of r f) (word_of s g) x y e ∙ first-word s.form s.op1 s.op2 g sow.first sow.second gits.below in
+    ap (λ x. x % 2 == 1) first
+
+pub one_word : (r s : RowData) (f g : Fields) (x y : List ℕ) → IsRow r → IsRow s → Fits r f → Fits s g → word_of r f < 2 ^ 32 → word_of s g < 2 ^ 32 → spelling r f ++ x ≡ spelling s g ++ y → word_of r f ≡ word_of s g
+one_word r s f g x y row sow fits gits hr hs e =
+    let long : is_long r ≡ is_long s = one_length r s f g x y row sow fits gits e in
+    same_word (is_long r) (word_of r f) (word_of s g) x y hr hs (e ∙ ap (λ l. spelled l (word_of s g) ++ y) (sym long))

@@ -1,0 +1,45 @@
+-- The bytes of an instruction's word.
+use Rattle.std.proofs.Common.{◌≡◌, ◌/◌, ◌%◌, ◌^◌, ◌<◌, ℕ, zero, suc, Bool, true, false, List, [], ◌∷◌, take, drop, get_or, refl, sym, ap, subst, ◌∙◌, arith}
+use Rattle.std.specs.Prelude.{All, if◌then◌else◌}
+use Rattle.std.specs.Int.{w32, to_le_bytes}
+use Rattle.tc_isa.specs.Codec.{word_of, is_long, spelled, four_bytes}
+use Rattle.tc_isa.specs.Insts.{InstData, IsInst, fields_in}
+use Rattle.tc_isa.specs.Spelling.{Spells}
+use Rattle.tc_isa.proofs.TableFacts.{row_at}
+use Rattle.tc_encode.specs.Decoding.{need_of}
+use Rattle.tc_encode.proofs.Bytes.{word-lt, short-lt}
+
+four_le : (w : ℕ) → w < 2 ^ 32 → to_le_bytes w32 w ≡ four_bytes w
+four_le w h =
+    let p : w / 2 ^ 24 % 256 ≡ w / 2 ^ 24 = omega arith in
+    ap (λ d. w % 256 ∷ w / 2 ^ 8 % 256 ∷ w / 2 ^ 16 % 256 ∷ d ∷ []) p
+
+-- what is taken and what is left of the four bytes
+taken : (long : Bool) (w : ℕ) → (long ≡ false → w < 2 ^ 16) → take (if long then 4 else 2) (four_bytes w) ≡ spelled long w
+taken true w small = refl
+taken false w small = let h = small refl in let p : w / 2 ^ 8 % 256 ≡ w / 256 = omega arith in rw p refl
+
+left : (long : Bool) (w : ℕ) → (long ≡ false → w < 2 ^ 16) → All (λ b. b ≡ 0) (drop (if long then 4 else 2) (four_bytes w))
+left true w small = λ k d h. absurd (omega arith)
+left false w small = λ k d h. zeros k d h
+  where
+    zeros : (k d : ℕ) → k < 2 → get_or (w / 2 ^ 16 % 256 ∷ w / 2 ^ 24 ∷ []) k d ≡ 0
+    zeros zero d h = let p = small refl in omega arith
+    zeros (suc zero) d h = let p = small refl in omega arith
+    zeros (suc (suc k)) d h = absurd (omega arith)
+
+module _ (i : InstData) (is : IsInst i) (w len : ℕ) (bytes : List ℕ) (word_is : w ≡ word_of is.row (fields_in i)) (bytes_are : bytes ≡ to_le_bytes w32 w) (len_is : len ≡ need_of is.row.op1) where
+  below : w < 2 ^ 32
+  below = let row = row_at i.row is.row is.at in rw word_is (word-lt is.row.form is.row.op1 is.row.op2 (fields_in i) row.first row.second is.fits.below)
+
+  small : is_long is.row ≡ false → w < 2 ^ 16
+  small short = let row = row_at i.row is.row is.at in rw word_is (short-lt is.row.form is.row.op1 is.row.op2 (fields_in i) row.first row.second is.fits.below (sym row.size ∙ short))
+
+  four : bytes ≡ four_bytes w
+  four = bytes_are ∙ four_le w below
+
+  pub encoded : Spells (take len bytes) i
+  encoded = record { inst = is; is = ap (λ n. take n bytes) len_is ∙ ap (take (need_of is.row.op1)) four ∙ taken (is_long is.row) w small ∙ ap (spelled (is_long is.row)) word_is }
+
+  pub padded : All (λ b. b ≡ 0) (drop len bytes)
+  padded = subst (λ n. All (λ b. b ≡ 0) (drop n bytes)) (sym len_is) (subst (λ bs. All (λ b. b ≡ 0) (drop (need_of is.row.op1) bs)) (sym four) (left (is_long is.row) w small))

@@ -1,0 +1,104 @@
+-- Instructions that have a word, and where they stand.
+use Rattle.std.proofs.Common.{◌≡◌, ◌+◌, ◌%◌, ◌<◌, ◌≤◌, ℕ, zero, suc, true, List, [], ◌∷◌, length, get_or, sym, ap, subst, ◌∙◌, arith, Option, Some, None, zero-add}
+use Rattle.std.specs.Prelude.{slice_get, nat_le, IfNone}
+use Rattle.std.specs.List.{list_all}
+use Rattle.std.proofs.lemmas.Bool.{and_parts, ltb-true, leb-true, eqb-true}
+use Rattle.std.proofs.lemmas.Option.{slice_get-get_or}
+use Rattle.std.proofs.lemmas.List.Sums.{AllPass-from_list_all}
+use Rattle.tc_isa.specs.declared.fields.Fields.{Fields}
+use Rattle.tc_isa.specs.declared.table.Form.{Form}
+use Rattle.tc_isa.specs.Rows.{RowData, listed}
+use Rattle.tc_isa.specs.Words.{fields_of, second_of, form_index}
+use Rattle.tc_isa.specs.Codec.{Fits, word_of}
+use Rattle.tc_isa.specs.Insts.{InstData, IsInst, fields_in}
+use Rattle.tc_isa.proofs.TableFacts.{row_at}
+use Rattle.tc_encode.specs.Decoding.{instruction}
+use Rattle.tc_encode.specs.Finding.{Makes, is_between, has_form, hold_all}
+use Rattle.tc_encode.proofs.Inverse.{first-word, second-word}
+use Rattle.tc_encode.proofs.Only.{only}
+use Rattle.tc_encode.proofs.Apart.{same_form}
+
+some_same : {A : Type 0} (x y : A) → Some x ≡ Some y → x ≡ y
+some_same x y e = cc
+
+-- the row of an instruction is the one at its place
+pub row_is : (place : ℕ) (r : RowData) (i : InstData) (is : IsInst i) → slice_get listed place ≡ Some r → i.row ≡ place → is.row ≡ r
+row_is place r i is at same = some_same is.row r (sym is.at ∙ ap (slice_get listed) same ∙ at)
+
+-- the fields that stand in the word are those of the instruction that has it
+pub makes_listed : (place w : ℕ) (r : RowData) (f : Fields) → slice_get listed place ≡ Some r → f ≡ fields_of r.form w → (i : InstData) → Makes w i → i.row ≡ place → IsInst (instruction place f) × (word_of r f ≡ w)
+makes_listed place w r f at is i m same =
+    let row = row_is place r i m.inst at same in
+    let fits : Fits r (fields_in i) = subst (λ (s : RowData). Fits s (fields_in i)) row m.inst.fits in
+    let word : word_of r (fields_in i) ≡ w = subst (λ (s : RowData). word_of s (fields_in i) ≡ w) row m.is in
+    let fields : fields_in i ≡ f = sym (is ∙ only r (fields_in i) w (row_at place r at) fits word) in
+    (record { row = r; at = at; fits = subst (λ (g : Fields). Fits r g) fields fits }, subst (λ (g : Fields). word_of r g ≡ w) fields word)
+
+pub makes_by : (place w : ℕ) (r : RowData) (f : Fields) (i : InstData) → slice_get listed place ≡ Some r → i ≡ instruction place f → IsInst i → word_of r f ≡ w → Makes w i
+makes_by place w r f i at is inst word =
+    let row = row_is place r i inst at (ap (λ (j : InstData). j.row) is) in
+    record { inst = inst; is = ap (λ (s : RowData). word_of s (fields_in i)) row ∙ ap (λ (j : InstData). word_of r (fields_in j)) is ∙ word }
+
+-- its second code stands in the word
+pub second_is : (place w : ℕ) (r : RowData) (form : Form) (i : InstData) → slice_get listed place ≡ Some r → (m : Makes w i) → i.row ≡ place → form_index m.inst.row.form ≡ form_index form → second_of form w ≡ r.op2
+second_is place w r form i at m same index =
+    let s = m.inst.row in let row = row_at i.row s m.inst.at in
+    ap (λ f. second_of f w) (sym (same_form s.form form index))
+    ∙ ap (second_of s.form) (sym m.is)
+    ∙ second-word s.form s.op1 s.op2 (fields_in i) row.first row.second m.inst.fits.below
+    ∙ ap (λ (t : RowData). t.op2) (row_is place r i m.inst at same)
+
+pub first_is : (w : ℕ) (i : InstData) (m : Makes w i) → w % 256 ≡ m.inst.row.op1
+first_is w i m =
+    let s = m.inst.row in let row = row_at i.row s m.inst.at in
+    ap (λ x. x % 256) (sym m.is) ∙ first-word s.form s.op1 s.op2 (fields_in i) row.first row.second m.inst.fits.below
+
+-- rows stand between the start and the end of their first byte
+held : (starts ends : List ℕ) (place : ℕ) (rows : List RowData) (q : ℕ) (r : RowData) → hold_all starts ends place rows ≡ true → slice_get rows q ≡ Some r → is_between (place + q) r (slice_get starts r.op1) (slice_get ends r.op1) ≡ true
+held starts ends place [] q r all at = cc
+held starts ends place (x ∷ xs) zero r all at =
+    let e = some_same x r at in
+    subst (λ (s : RowData). is_between (place + 0) s (slice_get starts s.op1) (slice_get ends s.op1) ≡ true) e
+    (let z : place ≡ place + 0 = omega arith in subst (λ p. is_between p x (slice_get starts x.op1) (slice_get ends x.op1) ≡ true) z (and_parts _ _ all).0)
+held starts ends place (x ∷ xs) (suc q) r all at =
+    let z : suc place + q ≡ place + suc q = omega arith in
+    subst (λ p. is_between p r (slice_get starts r.op1) (slice_get ends r.op1) ≡ true) z (held starts ends (suc place) xs q r (and_parts _ _ all).1 at)
+
+-- what a test of the two says
+pub record Between (place : ℕ) (r : RowData) (start end : ℕ) : Type 0 where
+  pub from : start ≤ place
+  pub to : place < end
+  pub form : has_form r (slice_get listed start) ≡ true
+
+between_from : (place : ℕ) (r : RowData) (o p : Option ℕ) (start end : ℕ) → is_between place r o p ≡ true → o ≡ Some start → p ≡ Some end → Between place r start end
+between_from place r None p start end e is iz = cc
+between_from place r (Some s) None start end e is iz = cc
+between_from place r (Some s) (Some t) start end e is iz =
+    let a = and_parts _ _ e in let b = and_parts _ _ a.0 in
+    let x : s ≡ start = some_same s start is in let y : t ≡ end = some_same t end iz in
+    record {
+      from = subst (λ z. z ≤ place) x (leb-true _ _ b.0);
+      to = subst (λ z. place < z) y (ltb-true _ _ b.1);
+      form = subst (λ z. has_form r (slice_get listed z) ≡ true) x a.1;
+    }
+
+pub stands_between : (starts ends : List ℕ) (w : ℕ) (i : InstData) (m : Makes w i) → hold_all starts ends 0 listed ≡ true → length starts ≡ 256 → length ends ≡ 256 → Between i.row m.inst.row (get_or starts (w % 256) 0) (get_or ends (w % 256) 0)
+stands_between starts ends w i m all ls le =
+    let r = m.inst.row in
+    let first = first_is w i m in
+    let small : w % 256 < 256 = omega arith in
+    between_from i.row r (slice_get starts r.op1) (slice_get ends r.op1) (get_or starts (w % 256) 0) (get_or ends (w % 256) 0)
+    (subst (λ p. is_between p r (slice_get starts r.op1) (slice_get ends r.op1) ≡ true) (zero-add i.row) (held starts ends 0 listed i.row r all m.inst.at))
+    (ap (slice_get starts) (sym first) ∙ slice_get-get_or starts (w % 256) 0 (omega arith))
+    (ap (slice_get ends) (sym first) ∙ slice_get-get_or ends (w % 256) 0 (omega arith))
+
+pub form_is : (place : ℕ) (r s : RowData) (start end : ℕ) → Between place r start end → slice_get listed start ≡ Some s → form_index r.form ≡ form_index s.form
+form_is place r s start end b at = sym (eqb-true (form_index s.form) (form_index r.form) (subst (λ o. has_form r o ≡ true) at b.form))
+
+-- a bound of each number of a list
+pub bounded : (xs : List ℕ) (n k : ℕ) → list_all (λ x. nat_le x n) xs ≡ true → k < length xs → get_or xs k 0 ≤ n
+bounded xs n k all within = leb-true _ _ (AllPass-from_list_all (λ x. nat_le x n) xs all k 0 within)
+
+pub none_map : {X : Type 0} {P Q : Type 0} (r : Option X) → IfNone r P → (P → Q) → IfNone r Q
+none_map None p f = f p
+none_map (Some x) p f = tt

@@ -1,0 +1,53 @@
+-- The first row with a spelling at the front of bytes.
+use Rattle.std.proofs.Common.{◌≡◌, inl, inr, ◌+◌, ℕ, zero, suc, true, false, List, [], ◌∷◌, refl, sym, ap, subst, ◌∙◌, arith, Option, Some, None, add-zero}
+use Rattle.std.specs.Prelude.{slice_get}
+use Rattle.std.proofs.lemmas.Bool.{cases_Bool, cond-true, cond-false, both_ways}
+use Rattle.tc_isa.specs.Rows.{RowData}
+use Rattle.tc_isa.specs.Insts.{InstData}
+use Rattle.tc_encode.specs.Decoding.{begins_with, size_of, fields_at, instruction, first_of}
+
+-- the row at this place, numbered from `place` on, has a spelling at the front of the bytes, and gives this
+pub record Gives (bytes : List ℕ) (place : ℕ) (rows : List RowData) (found : InstData × ℕ) : Type 0 where
+  pub at : ℕ
+  pub row : RowData
+  pub listed : slice_get rows at ≡ Some row
+  pub begins : begins_with bytes row ≡ true
+  pub is : found ≡ (instruction (place + at) (fields_at bytes row), size_of row)
+
+some_none : {A : Type 0} (x : A) → Some x ≡ None → ⊥
+some_none x e = cc
+
+some_same : {A : Type 0} (x y : A) → Some x ≡ Some y → x ≡ y
+some_same x y e = cc
+
+pub found_gives : (bytes : List ℕ) (place : ℕ) (rows : List RowData) (found : InstData × ℕ) → first_of bytes place rows ≡ Some found → Gives bytes place rows found
+found_gives bytes place [] found e = absurd (some_none found (sym e))
+found_gives bytes place (r ∷ rs) found e = elim (cases_Bool (begins_with bytes r)) [
+  | inl has ↦
+      let is : found ≡ (instruction place (fields_at bytes r), size_of r) = sym (some_same _ _ (sym (cond-true (begins_with bytes r) (Some (instruction place (fields_at bytes r), size_of r)) (first_of bytes (suc place) rs) has) ∙ e)) in
+      record { at = 0; row = r; listed = refl; begins = has; is = rw add-zero is }
+  | inr lacks ↦
+      let g = found_gives bytes (suc place) rs found (sym (cond-false (begins_with bytes r) (Some (instruction place (fields_at bytes r), size_of r)) (first_of bytes (suc place) rs) lacks) ∙ e) in
+      let same : suc place + g.at ≡ place + suc g.at = omega arith in
+      record { at = suc g.at; row = g.row; listed = g.listed; begins = g.begins; is = g.is ∙ ap (λ p. (instruction p (fields_at bytes g.row), size_of g.row)) same }
+]
+
+-- where none is found, no row has one
+pub none_found : (bytes : List ℕ) (place : ℕ) (rows : List RowData) → first_of bytes place rows ≡ None → (q : ℕ) (r : RowData) → slice_get rows q ≡ Some r → begins_with bytes r ≡ false
+none_found bytes place [] e q r at = absurd (some_none r (sym at))
+none_found bytes place (x ∷ xs) e q r at = elim (cases_Bool (begins_with bytes x)) [
+  | inl has ↦ absurd (some_none (instruction place (fields_at bytes x), size_of x) (sym (cond-true (begins_with bytes x) (Some (instruction place (fields_at bytes x), size_of x)) (first_of bytes (suc place) xs) has) ∙ e))
+  | inr lacks ↦ none_here bytes place x xs q r lacks (none_found bytes (suc place) xs (sym (cond-false (begins_with bytes x) (Some (instruction place (fields_at bytes x), size_of x)) (first_of bytes (suc place) xs) lacks) ∙ e)) at
+]
+  where
+    none_here : (bytes : List ℕ) (place : ℕ) (x : RowData) (xs : List RowData) (q : ℕ) (r : RowData) → begins_with bytes x ≡ false → ((q : ℕ) (r : RowData) → slice_get xs q ≡ Some r → begins_with bytes r ≡ false) → slice_get (x ∷ xs) q ≡ Some r → begins_with bytes r ≡ false
+    none_here bytes place x xs zero r lacks more at = subst (λ z. begins_with bytes z ≡ false) (some_same x r at) lacks
+    none_here bytes place x xs (suc q) r lacks more at = more q r at
+
+-- where the row at q has one, some row has one
+pub some_found : (bytes : List ℕ) (place : ℕ) (rows : List RowData) (q : ℕ) (r : RowData) → slice_get rows q ≡ Some r → begins_with bytes r ≡ true → (found : InstData × ℕ) × (first_of bytes place rows ≡ Some found)
+some_found bytes place rows q r at has = cases (first_of bytes place rows) refl
+  where
+    cases : (o : Option (InstData × ℕ)) → first_of bytes place rows ≡ o → (found : InstData × ℕ) × (first_of bytes place rows ≡ Some found)
+    cases (Some found) e = (found, e)
+    cases None e = absurd (both_ways _ (none_found bytes place rows e q r at) has)

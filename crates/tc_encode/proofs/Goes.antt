@@ -1,0 +1,65 @@
+-- Instructions that go on from the front of a word.
+use Rattle.std.proofs.Common.{◌≡◌, ◌+◌, ◌*◌, ◌/◌, ◌%◌, ◌<◌, ◌≤◌, ℕ, zero, suc, true, List, length, get_or, refl, sym, ap, subst, ◌∙◌, arith, Option, Some, None}
+use Rattle.std.specs.Prelude.{slice_get, IfSome}
+use Rattle.tc_isa.specs.Rows.{RowData, listed}
+use Rattle.tc_isa.specs.Codec.{Fits, word_of, least}
+use Rattle.tc_isa.specs.Insts.{InstData, fields_in}
+use Rattle.tc_isa.proofs.TableFacts.{row_at}
+use Rattle.tc_encode.specs.Decoding.{instruction, size_of}
+use Rattle.tc_encode.specs.Finding.{Makes, GoesOn, span, hold_all}
+use Rattle.tc_encode.proofs.Complete.{completed, same_mix}
+use Rattle.tc_encode.proofs.Finds.{row_is, first_is, Between, stands_between}
+
+pub some_map : {X : Type 0} {P Q : X → Type 0} (r : Option X) → IfSome r P → ((x : X) → P x → Q x) → IfSome r Q
+some_map None p f = tt
+some_map (Some x) p f = f x p
+
+-- the low bytes of a number that was put together
+low_part : (n part rest : ℕ) → part < span n → (part + rest / span n * span n) % span n ≡ part
+low_part zero part rest h = omega arith
+low_part (suc zero) part rest h = omega arith
+low_part (suc (suc zero)) part rest h = omega arith
+low_part (suc (suc (suc n))) part rest h = omega arith
+
+pub goes_from : (place n part rest s : ℕ) (r : RowData) (i : InstData) → slice_get listed place ≡ Some r → n < size_of r → part < span n → s ≡ span n → i.row ≡ place → Makes (part + rest / s * s) i → GoesOn n part i
+goes_from place n part rest s r i at longer small is same m =
+    let row = row_is place r i m.inst at same in
+    record {
+      inst = m.inst;
+      longer = subst (λ (t : RowData). n < size_of t) (sym row) longer;
+      is = ap (λ w. w % span n) (m.is ∙ ap (λ z. part + rest / z * z) is) ∙ low_part n part rest small;
+    }
+
+-- what goes on can go on as the row's least spelling
+pub goes_least : (place n part rest s : ℕ) (r : RowData) (i : InstData) → slice_get listed place ≡ Some r → 1 ≤ n → n ≤ 3 → s ≡ span n → rest ≡ word_of r (least r) → i.row ≡ place → GoesOn n part i → (j : InstData) × (j.row ≡ place) × Makes (part + rest / s * s) j
+goes_least place n part rest s r i at low high is least_is same g =
+    let row = row_is place r i g.inst at same in
+    let fits : Fits r (fields_in i) = subst (λ (t : RowData). Fits t (fields_in i)) row g.inst.fits in
+    let part_is : word_of r (fields_in i) % span n ≡ part = subst (λ (t : RowData). word_of t (fields_in i) % span n ≡ part) row g.is in
+    let x = completed r n (fields_in i) (row_at place r at) fits low high in
+    (instruction place x.0, refl, record { inst = record { row = r; at = at; fits = x.1 }; is = x.2 ∙ same_mix n (word_of r (fields_in i)) (word_of r (least r)) part rest s part_is least_is is })
+
+-- the first byte of what goes on
+low_byte : (n w : ℕ) → 1 ≤ n → w % span n % 256 ≡ w % 256
+low_byte zero w h = absurd (omega arith)
+low_byte (suc zero) w h = omega arith
+low_byte (suc (suc zero)) w h = omega arith
+low_byte (suc (suc (suc n))) w h = omega arith
+
+pub goes_between : (starts ends : List ℕ) (first n part : ℕ) (i : InstData) (g : GoesOn n part i) → hold_all starts ends 0 listed ≡ true → length starts ≡ 256 → length ends ≡ 256 → 1 ≤ n → first ≡ part % 256 → Between i.row g.inst.row (get_or starts first 0) (get_or ends first 0)
+goes_between starts ends first n part i g all ls le low is =
+    let w = word_of g.inst.row (fields_in i) in
+    let same : w % 256 ≡ first = sym (low_byte n w low) ∙ ap (λ p. p % 256) g.is ∙ sym is in
+    subst (λ p. Between i.row g.inst.row (get_or starts p 0) (get_or ends p 0)) same (stands_between starts ends w i (record { inst = g.inst; is = refl }) all ls le)
+
+pub goes_first : (place n part : ℕ) (r : RowData) (i : InstData) → slice_get listed place ≡ Some r → 1 ≤ n → GoesOn n part i → i.row ≡ place → r.op1 ≡ part % 256
+goes_first place n part r i at low g same =
+    let w = word_of g.inst.row (fields_in i) in
+    ap (λ (t : RowData). t.op1) (sym (row_is place r i g.inst at same))
+    ∙ sym (first_is w i (record { inst = g.inst; is = refl }))
+    ∙ sym (low_byte n w low)
+    ∙ ap (λ p. p % 256) g.is
+
+pub both_some : {X : Type 0} {P Q R : X → Type 0} (r : Option X) → IfSome r P → IfSome r Q → ((x : X) → P x → Q x → R x) → IfSome r R
+both_some None p q f = tt
+both_some (Some x) p q f = f x p q

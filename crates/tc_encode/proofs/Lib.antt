@@ -1,0 +1,14 @@
+pub mod Inverse
+pub mod Only
+pub mod Mixed
+pub mod Complete
+pub mod Bytes
+pub mod Spelled
+pub mod Apart
+pub mod Found
+pub mod FrontFacts
+pub mod DecodeProofs
+pub mod Finds
+pub mod Goes
+pub mod Wholes
+pub mod Encodes

@@ -1,0 +1,74 @@
+-- What stands at the front of bytes, against a row.
+use Rattle.std.proofs.Common.{◌≡◌, ◌^◌, ◌<◌, ℕ, Bool, true, false, List, ◌++◌, length, take, refl, sym, ap, ◌∙◌, arith}
+use Rattle.std.specs.Prelude.{if◌then◌else◌}
+use Rattle.std.proofs.lemmas.Bool.{and_parts, and_from, ltb-true, lt-ltb}
+use Rattle.std.proofs.lemmas.Slice.Eq.{bytes_eq-Decides}
+use Rattle.std.proofs.lemmas.List.{take_at}
+use Rattle.tc_isa.specs.declared.fields.Fields.{Fields}
+use Rattle.tc_isa.specs.Rows.{RowData}
+use Rattle.tc_isa.specs.Words.{bounds, fields_of, IsBelow}
+use Rattle.tc_isa.specs.Codec.{Fits, IsRow, word_of, is_below_test, is_long, spelled, spelling, two_bytes, four_bytes}
+use Rattle.tc_encode.specs.Decoding.{number_of, size_of, do_fit, fields_at, begins_with}
+use Rattle.tc_encode.proofs.Inverse.{fields-word}
+use Rattle.tc_encode.proofs.Bytes.{word-lt}
+
+-- the fields fit where the test says so
+pub below_from : (f b : Fields) → is_below_test f b ≡ true → IsBelow f b
+below_from f b e =
+    let p = and_parts _ _ e in let q = and_parts _ _ p.0 in let r = and_parts _ _ q.0 in let s = and_parts _ _ r.0 in
+    record { c = ltb-true _ _ s.0; s1 = ltb-true _ _ s.1; s2 = ltb-true _ _ r.1; n = ltb-true _ _ q.1; k = ltb-true _ _ p.1 }
+
+pub below_true : (f b : Fields) → IsBelow f b → is_below_test f b ≡ true
+below_true f b e = and_from _ _ (and_from _ _ (and_from _ _ (and_from _ _ (lt-ltb _ _ e.c) (lt-ltb _ _ e.s1)) (lt-ltb _ _ e.s2)) (lt-ltb _ _ e.n)) (lt-ltb _ _ e.k)
+
+pub fits_from : (r : RowData) (f : Fields) → do_fit r f ≡ true → Fits r f
+fits_from r f e =
+    let p = and_parts _ _ e in let q = and_parts _ _ p.0 in
+    record { below = below_from f (bounds r.form) q.0; zero = q.1; apart = p.1 }
+
+pub fits_true : (r : RowData) (f : Fields) → Fits r f → do_fit r f ≡ true
+fits_true r f fits = and_from _ _ (and_from _ _ (below_true f (bounds r.form) fits.below) fits.zero) fits.apart
+
+-- a row's spelling has the row's size
+size_spelled : (long : Bool) (w : ℕ) → length (spelled long w) ≡ (if long then 4 else 2)
+size_spelled true w = refl
+size_spelled false w = refl
+
+pub size_spelling : (r : RowData) (f : Fields) → length (spelling r f) ≡ size_of r
+size_spelling r f = size_spelled (is_long r) (word_of r f)
+
+-- the number of a spelling is the word
+four_number : (w : ℕ) → w < 2 ^ 32 → number_of (four_bytes w) ≡ w
+four_number w h = omega arith
+
+two_number : (w : ℕ) → number_of (two_bytes w) ≡ w
+two_number w = omega arith
+
+spelled_number : (long : Bool) (w : ℕ) → w < 2 ^ 32 → number_of (spelled long w) ≡ w
+spelled_number true w h = four_number w h
+spelled_number false w h = two_number w
+
+pub front_is : (r : RowData) (f : Fields) (rest : List ℕ) → take (size_of r) (spelling r f ++ rest) ≡ spelling r f
+front_is r f rest = take_at (spelling r f) rest (size_of r) (size_spelling r f)
+
+-- the fields that stand in a spelling are those that it was made of
+pub fields_here : (r : RowData) (f : Fields) (rest : List ℕ) → IsRow r → Fits r f → fields_at (spelling r f ++ rest) r ≡ f
+fields_here r f rest row fits =
+    ap (λ bs. fields_of r.form (number_of bs)) (front_is r f rest)
+    ∙ ap (fields_of r.form) (spelled_number (is_long r) (word_of r f) (word-lt r.form r.op1 r.op2 f row.first row.second fits.below))
+    ∙ fields-word r.form r.op1 r.op2 f row.first row.second fits.below
+
+-- bytes that a spelling of the row begins
+pub begins_here : (r : RowData) (f : Fields) (rest : List ℕ) → IsRow r → Fits r f → begins_with (spelling r f ++ rest) r ≡ true
+begins_here r f rest row fits =
+    let same = fields_here r f rest row fits in
+    and_from _ _
+    (ap (do_fit r) same ∙ fits_true r f fits)
+    ((bytes_eq-Decides _ _).1 (front_is r f rest ∙ sym (ap (spelling r) same)))
+
+-- and back
+pub fits_there : (bytes : List ℕ) (r : RowData) → begins_with bytes r ≡ true → Fits r (fields_at bytes r)
+fits_there bytes r e = fits_from r (fields_at bytes r) (and_parts _ _ e).0
+
+pub stands_there : (bytes : List ℕ) (r : RowData) → begins_with bytes r ≡ true → take (size_of r) bytes ≡ spelling r (fields_at bytes r)
+stands_there bytes r e = (bytes_eq-Decides _ _).0 (and_parts _ _ e).1

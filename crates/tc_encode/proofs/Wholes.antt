@@ -1,0 +1,194 @@
+-- What bytes decode as, by the number that they are.
+use Rattle.std.proofs.Common.{◌≡◌, ◌+◌, ◌*◌, ◌/◌, ◌%◌, ◌^◌, ◌<◌, ◌≤◌, ℕ, Bool, true, false, List, [], ◌∷◌, ◌++◌, length, take, drop, refl, sym, ap, subst, ◌∙◌, arith, ◌==◌, Ok, Err, length-append, length-drop, length-take}
+use Rattle.std.specs.Prelude.{All, if◌then◌else◌}
+use Rattle.std.proofs.lemmas.Bool.{eq-eqb}
+use Rattle.std.proofs.lemmas.List.{take-append-drop}
+use Rattle.tc_isa.specs.Words.{fields_of, bounds, word}
+use Rattle.tc_isa.specs.Insts.{InstData, IsInst, fields_in}
+use Rattle.tc_isa.specs.Codec.{word_of, is_long, spelled, spelling, two_bytes, four_bytes}
+use Rattle.tc_isa.specs.Spelling.{Begins, IsFront}
+use Rattle.tc_isa.proofs.TableFacts.{row_at}
+use Rattle.tc_encode.specs.declared.errors.DecodeErr.TheVariants.{Short, NotListed}
+use Rattle.tc_encode.specs.Decoding.{decoded_of, need_of, size_of, number_of}
+use Rattle.tc_encode.specs.Finding.{Makes, GoesOn, span}
+use Rattle.tc_encode.proofs.Inverse.{first-word}
+use Rattle.tc_encode.proofs.Spelled.{size_spelling}
+use Rattle.tc_encode.proofs.Finds.{first_is}
+use Rattle.tc_encode.proofs.DecodeProofs.{spelled_decodes, short_is_front, not_listed_is_rest}
+
+-- the first byte of a spelling is the row's first code
+head_of : (long : Bool) (w a : ℕ) (more rest : List ℕ) → a ∷ more ≡ spelled long w ++ rest → a ≡ w % 256
+head_of true w a more rest e = cc
+head_of false w a more rest e = cc
+
+pub first_of_spelling : (i : InstData) (is : IsInst i) (a : ℕ) (more rest : List ℕ) → a ∷ more ≡ spelling is.row (fields_in i) ++ rest → is.row.op1 ≡ a
+first_of_spelling i is a more rest e =
+    let row = row_at i.row is.row is.at in
+    sym (head_of (is_long is.row) (word_of is.row (fields_in i)) a more rest e ∙ first-word is.row.form is.row.op1 is.row.op2 (fields_in i) row.first row.second is.fits.below)
+
+-- how long what begins with a byte is
+pub odd_need : (a : ℕ) → a % 2 ≡ 1 → need_of a ≡ 4
+odd_need a odd = ap (λ b. if b then 4 else 2) (eq-eqb _ _ odd)
+
+pub even_need : (a : ℕ) → a % 2 ≡ 0 → need_of a ≡ 2
+even_need a even = ap (λ m. if m == 1 then 4 else 2) even
+
+pub length_of_spelling : (i : InstData) (is : IsInst i) (a : ℕ) (more rest : List ℕ) → a ∷ more ≡ spelling is.row (fields_in i) ++ rest → length (spelling is.row (fields_in i)) ≡ need_of a
+length_of_spelling i is a more rest e = size_spelling is.row (fields_in i) ∙ ap need_of (first_of_spelling i is a more rest e)
+
+-- a spelling that begins bytes
+begun : (xs : List ℕ) (i : InstData) (n : ℕ) (b : Begins xs i n) → xs ≡ spelling b.spells.inst.row (fields_in i) ++ drop n xs
+begun xs i n b = sym (take-append-drop n xs) ∙ ap (λ front. front ++ drop n xs) b.spells.is
+
+-- bytes enough are no front
+nonempty : (rest : List ℕ) → length rest ≡ 0 → rest ≡ []
+nonempty [] e = refl
+nonempty (x ∷ xs) e = absurd (omega arith)
+
+pub no_front : (a : ℕ) (more : List ℕ) → need_of a ≤ length (a ∷ more) → IsFront (a ∷ more) → ⊥
+no_front a more enough front =
+    let s = front.spells in
+    let whole : (a ∷ more) ++ front.rest ≡ spelling s.inst.row (fields_in front.inst) ++ [] = s.is ∙ sym (append_nil (spelling s.inst.row (fields_in front.inst))) in
+    let size = length_of_spelling front.inst s.inst a (more ++ front.rest) [] whole in
+    front.more (nonempty front.rest (omega (arith, length-append (a ∷ more) front.rest, ap length s.is, size)))
+  where
+    append_nil : (ys : List ℕ) → ys ++ [] ≡ ys
+    append_nil [] = refl
+    append_nil (y ∷ ys) = ap (λ zs. y ∷ zs) (append_nil ys)
+
+-- too few bytes begin with no spelling
+pub none_begins : (a : ℕ) (more : List ℕ) → length (a ∷ more) < need_of a → (i : InstData) (n : ℕ) → Begins (a ∷ more) i n → ⊥
+none_begins a more few i n b =
+    let size = length_of_spelling i b.spells.inst a more (drop n (a ∷ more)) (begun (a ∷ more) i n b) in
+    let whole = ap length b.spells.is in
+    omega (arith, size, whole, length-take n (a ∷ more))
+
+-- four bytes and their word
+four_bytes_of : (w a b c d : ℕ) → w ≡ a + b * 2 ^ 8 + c * 2 ^ 16 + d * 2 ^ 24 → a < 256 → b < 256 → c < 256 → d < 256 → four_bytes w ≡ a ∷ b ∷ c ∷ d ∷ []
+four_bytes_of w a b c d e la lb lc ld = let p : w % 256 ≡ a = omega arith in let q : w / 2 ^ 8 % 256 ≡ b = omega arith in let r : w / 2 ^ 16 % 256 ≡ c = omega arith in let s : w / 2 ^ 24 ≡ d = omega arith in rw (p, q, r, s) refl
+
+two_bytes_of : (w a b : ℕ) → w ≡ a + b * 2 ^ 8 → a < 256 → b < 256 → two_bytes w ≡ a ∷ b ∷ []
+two_bytes_of w a b e la lb = let p : w % 256 ≡ a = omega arith in let q : w / 256 ≡ b = omega arith in rw (p, q) refl
+
+long_is : (i : InstData) (is : IsInst i) (a : ℕ) → is.row.op1 ≡ a → a % 2 ≡ 1 → is_long is.row ≡ true
+long_is i is a first odd = ap (λ x. x % 2 == 1) first ∙ eq-eqb _ _ odd
+
+short_is : (i : InstData) (is : IsInst i) (a : ℕ) → is.row.op1 ≡ a → a % 2 ≡ 0 → is_long is.row ≡ false
+short_is i is a first even = ap (λ x. x % 2 == 1) first ∙ ap (λ m. m == 1) even
+
+pub long_ok : (a b c d w : ℕ) (i : InstData) (rest : List ℕ) → a % 2 ≡ 1 → a < 256 → b < 256 → c < 256 → d < 256 → w ≡ a + b * 2 ^ 8 + c * 2 ^ 16 + d * 2 ^ 24 → Makes w i → decoded_of (a ∷ b ∷ c ∷ d ∷ rest) ≡ Ok (i, 4)
+long_ok a b c d w i rest odd la lb lc ld is m =
+    let first : m.inst.row.op1 ≡ a = sym (first_is w i m) ∙ omega arith in
+    let bytes : a ∷ b ∷ c ∷ d ∷ [] ≡ spelling m.inst.row (fields_in i) =
+    sym (ap (λ l. spelled l (word_of m.inst.row (fields_in i))) (long_is i m.inst a first odd) ∙ ap four_bytes m.is ∙ four_bytes_of w a b c d is la lb lc ld) in
+    spelled_decodes (a ∷ b ∷ c ∷ d ∷ []) rest i (record { inst = m.inst; is = bytes })
+
+four_parts : (w a b c d : ℕ) (more rest : List ℕ) → a ∷ b ∷ c ∷ d ∷ more ≡ four_bytes w ++ rest → w ≡ a + b * 2 ^ 8 + c * 2 ^ 16 + d * 2 ^ 24
+four_parts w a b c d more rest e =
+    let p : a ≡ w % 256 = cc in let q : b ≡ w / 2 ^ 8 % 256 = cc in let r : c ≡ w / 2 ^ 16 % 256 = cc in let s : d ≡ w / 2 ^ 24 = cc in omega arith
+
+pub long_none : (a b c d w : ℕ) (rest : List ℕ) → a % 2 ≡ 1 → w ≡ a + b * 2 ^ 8 + c * 2 ^ 16 + d * 2 ^ 24 → ((i : InstData) → Makes w i → ⊥) → decoded_of (a ∷ b ∷ c ∷ d ∷ rest) ≡ Err NotListed
+long_none a b c d w rest odd is none =
+    let xs = a ∷ b ∷ c ∷ d ∷ rest in
+    (not_listed_is_rest xs).1 (
+      no_front a (b ∷ c ∷ d ∷ rest) (omega (arith, odd_need a odd)),
+      λ i n begins.
+          let inst = begins.spells.inst in
+          let whole = begun xs i n begins in
+          let first = first_of_spelling i inst a (b ∷ c ∷ d ∷ rest) (drop n xs) whole in
+          let bytes : xs ≡ four_bytes (word_of inst.row (fields_in i)) ++ drop n xs = whole ∙ ap (λ l. spelled l (word_of inst.row (fields_in i)) ++ drop n xs) (long_is i inst a first odd) in
+          none i (record { inst = inst; is = four_parts _ a b c d rest (drop n xs) bytes ∙ sym is }),
+    )
+
+pub short_ok : (a b w : ℕ) (i : InstData) (rest : List ℕ) → a % 2 ≡ 0 → a < 256 → b < 256 → w ≡ a + b * 2 ^ 8 → Makes w i → decoded_of (a ∷ b ∷ rest) ≡ Ok (i, 2)
+short_ok a b w i rest even la lb is m =
+    let first : m.inst.row.op1 ≡ a = sym (first_is w i m) ∙ omega arith in
+    let bytes : a ∷ b ∷ [] ≡ spelling m.inst.row (fields_in i) =
+    sym (ap (λ l. spelled l (word_of m.inst.row (fields_in i))) (short_is i m.inst a first even) ∙ ap two_bytes m.is ∙ two_bytes_of w a b is la lb) in
+    spelled_decodes (a ∷ b ∷ []) rest i (record { inst = m.inst; is = bytes })
+
+two_parts : (w a b : ℕ) (more rest : List ℕ) → a ∷ b ∷ more ≡ two_bytes w ++ rest → w ≡ a + b * 2 ^ 8
+two_parts w a b more rest e = let p : a ≡ w % 256 = cc in let q : b ≡ w / 256 = cc in omega arith
+
+pub short_none : (a b w : ℕ) (rest : List ℕ) → a % 2 ≡ 0 → w ≡ a + b * 2 ^ 8 → ((i : InstData) → Makes w i → ⊥) → decoded_of (a ∷ b ∷ rest) ≡ Err NotListed
+short_none a b w rest even is none =
+    let xs = a ∷ b ∷ rest in
+    (not_listed_is_rest xs).1 (
+      no_front a (b ∷ rest) (omega (arith, even_need a even)),
+      λ i n begins.
+          let inst = begins.spells.inst in
+          let whole = begun xs i n begins in
+          let first = first_of_spelling i inst a (b ∷ rest) (drop n xs) whole in
+          let bytes : xs ≡ two_bytes (word_of inst.row (fields_in i)) ++ drop n xs = whole ∙ ap (λ l. spelled l (word_of inst.row (fields_in i)) ++ drop n xs) (short_is i inst a first even) in
+          none i (record { inst = inst; is = two_parts _ a b rest (drop n xs) bytes ∙ sym is }),
+    )
+
+-- one to three bytes and the number that they are
+low_bytes : (long : Bool) (w : ℕ) (bytes : List ℕ) → All (λ b. b < 256) bytes → 1 ≤ length bytes → length bytes < (if long then 4 else 2) → w % span (length bytes) ≡ number_of bytes → take (length bytes) (spelled long w) ≡ bytes
+low_bytes long w [] all low high is = absurd (omega arith)
+low_bytes true w (a ∷ []) all low high is = let p : w % 256 ≡ a = omega arith in rw p refl
+low_bytes true w (a ∷ b ∷ []) all low high is =
+    let la : a < 256 = all 0 0 (omega arith) in let lb : b < 256 = all 1 0 (omega arith) in
+    let p : w % 256 ≡ a = omega arith in let q : w / 2 ^ 8 % 256 ≡ b = omega arith in rw (p, q) refl
+low_bytes true w (a ∷ b ∷ c ∷ []) all low high is =
+    let la : a < 256 = all 0 0 (omega arith) in let lb : b < 256 = all 1 0 (omega arith) in let lc : c < 256 = all 2 0 (omega arith) in
+    let p : w % 256 ≡ a = omega arith in let q : w / 2 ^ 8 % 256 ≡ b = omega arith in let r : w / 2 ^ 16 % 256 ≡ c = omega arith in rw (p, q, r) refl
+low_bytes true w (a ∷ b ∷ c ∷ d ∷ more) all low high is = absurd (omega arith)
+low_bytes false w (a ∷ []) all low high is = let p : w % 256 ≡ a = omega arith in rw p refl
+low_bytes false w (a ∷ b ∷ more) all low high is = absurd (omega arith)
+
+low_number : (long : Bool) (w : ℕ) (bytes rest : List ℕ) → 1 ≤ length bytes → length bytes < (if long then 4 else 2) → bytes ++ rest ≡ spelled long w → w % span (length bytes) ≡ number_of bytes
+low_number long w [] rest low high is = absurd (omega arith)
+low_number true w (a ∷ []) rest low high is = let p : a ≡ w % 256 = cc in omega arith
+low_number true w (a ∷ b ∷ []) rest low high is = let p : a ≡ w % 256 = cc in let q : b ≡ w / 2 ^ 8 % 256 = cc in omega arith
+low_number true w (a ∷ b ∷ c ∷ []) rest low high is = let p : a ≡ w % 256 = cc in let q : b ≡ w / 2 ^ 8 % 256 = cc in let r : c ≡ w / 2 ^ 16 % 256 = cc in omega arith
+low_number true w (a ∷ b ∷ c ∷ d ∷ more) rest low high is = absurd (omega arith)
+low_number false w (a ∷ []) rest low high is = let p : a ≡ w % 256 = cc in omega arith
+low_number false w (a ∷ b ∷ more) rest low high is = absurd (omega arith)
+
+-- what goes on is a front
+pub goes_front : (bytes : List ℕ) (i : InstData) → All (λ b. b < 256) bytes → 1 ≤ length bytes → GoesOn (length bytes) (number_of bytes) i → IsFront bytes
+goes_front bytes i all low g =
+    let s = spelling g.inst.row (fields_in i) in
+    let front : take (length bytes) s ≡ bytes = low_bytes (is_long g.inst.row) (word_of g.inst.row (fields_in i)) bytes all low g.longer g.is in
+    record {
+      rest = drop (length bytes) s;
+      more = λ e. let gone : length (drop (length bytes) s) ≡ 0 = ap length e in omega (arith, gone, length-drop (length bytes) s, size_spelling g.inst.row (fields_in i), g.longer);
+      inst = i;
+      spells = record { inst = g.inst; is = ap (λ f. f ++ drop (length bytes) s) (sym front) ∙ take-append-drop (length bytes) s };
+    }
+
+pub front_goes : (a : ℕ) (more : List ℕ) → length (a ∷ more) < need_of a → (front : IsFront (a ∷ more)) → GoesOn (length (a ∷ more)) (number_of (a ∷ more)) front.inst
+front_goes a more few front =
+    let s = front.spells in
+    let first = first_of_spelling front.inst s.inst a (more ++ front.rest) [] (s.is ∙ sym (append_nil (spelling s.inst.row (fields_in front.inst)))) in
+    let longer : length (a ∷ more) < size_of s.inst.row = subst (λ n. length (a ∷ more) < need_of n) (sym first) few in
+    record { inst = s.inst; longer = longer; is = low_number (is_long s.inst.row) (word_of s.inst.row (fields_in front.inst)) (a ∷ more) front.rest (omega arith) longer s.is }
+  where
+    append_nil : (ys : List ℕ) → ys ++ [] ≡ ys
+    append_nil [] = refl
+    append_nil (y ∷ ys) = ap (λ zs. y ∷ zs) (append_nil ys)
+
+pub front_short : (bytes : List ℕ) (n part first : ℕ) (i : InstData) → 1 ≤ n → n < need_of first → first ≡ part % 256 → length bytes ≡ n → All (λ b. b < 256) bytes → number_of bytes ≡ part → GoesOn n part i → decoded_of bytes ≡ Err Short
+front_short [] n part first i low high head len all num g = absurd (omega arith)
+front_short (a ∷ more) n part first i low high head len all num g =
+    let la : a < 256 = all 0 0 (omega arith) in
+    let same : first ≡ a = head ∙ omega (arith, num) in
+    let few : length (a ∷ more) < need_of a = subst (λ x. length (a ∷ more) < need_of x) same (omega (arith, high, len)) in
+    let goes : GoesOn (length (a ∷ more)) (number_of (a ∷ more)) i = subst (λ p. GoesOn (length (a ∷ more)) p i) (sym num) (subst (λ m. GoesOn m part i) (sym len) g) in
+    (short_is_front (a ∷ more)).1 (goes_front (a ∷ more) i all (omega arith) goes, none_begins a more few)
+
+pub front_none : (bytes : List ℕ) (n part first : ℕ) → 1 ≤ n → n < need_of first → first ≡ part % 256 → length bytes ≡ n → All (λ b. b < 256) bytes → number_of bytes ≡ part → ((i : InstData) → GoesOn n part i → ⊥) → decoded_of bytes ≡ Err NotListed
+front_none [] n part first low high head len all num none = absurd (omega arith)
+front_none (a ∷ more) n part first low high head len all num none =
+    let la : a < 256 = all 0 0 (omega arith) in
+    let same : first ≡ a = head ∙ omega (arith, num) in
+    let few : length (a ∷ more) < need_of a = subst (λ x. length (a ∷ more) < need_of x) same (omega (arith, high, len)) in
+    (not_listed_is_rest (a ∷ more)).1
+    (λ front. none front.inst (subst (λ p. GoesOn n p front.inst) num (subst (λ m. GoesOn m (number_of (a ∷ more)) front.inst) len (front_goes a more few front))), none_begins a more few)
+
+-- no byte is a front
+pub empty_short : (xs : List ℕ) → length xs ≡ 0 → Err Short ≡ decoded_of xs
+unfolding decoded_of fields_of bounds word
+empty_short [] e = refl
+empty_short (x ∷ xs) e = absurd (omega arith)

@@ -1,0 +1,55 @@
+-- What holds of spellings, and of decoding, whatever the bytes are.
+use Rattle.std.specs.Prelude.{◌≡◌, ◌≤◌, ◌⊎◌, ◌↔◌, ℕ, List, [], ◌++◌, length, take, Ok, Err}
+use Rattle.tc_isa.specs.Insts.{InstData}
+use Rattle.tc_isa.specs.Spelling.{Spells, Begins, IsFront}
+use Rattle.tc_encode.specs.declared.errors.DecodeErr.TheVariants.{Short, NotListed}
+use Rattle.tc_encode.specs.Decoding.{decoded_of}
+
+-- no bytes spell two instructions
+abbrev pub NoneSpellsTwo : Type 0
+NoneSpellsTwo = (bytes : List ℕ) (i j : InstData) → Spells bytes i → Spells bytes j → i ≡ j
+
+-- no spelling is a proper prefix of another
+abbrev pub NoneIsPrefix : Type 0
+NoneIsPrefix = (bytes more : List ℕ) (i j : InstData) → Spells bytes i → Spells (bytes ++ more) j → more ≡ []
+
+pub record SpellingLaws : Type 0 where
+  pub one : NoneSpellsTwo
+  pub apart : NoneIsPrefix
+
+-- more bytes behind an instruction change nothing
+abbrev pub MoreChangesNothing : Type 0
+MoreChangesNothing = (xs ys : List ℕ) (i : InstData) → decoded_of xs ≡ Ok (i, length xs) → decoded_of (xs ++ ys) ≡ Ok (i, length xs)
+
+-- an instruction has two or four bytes, all of them there
+abbrev pub LengthsAreRight : Type 0
+LengthsAreRight = (xs : List ℕ) (i : InstData) (n : ℕ) → decoded_of xs ≡ Ok (i, n) → (n ≤ length xs) × (n ≤ 4) × ((n ≡ 2) ⊎ (n ≡ 4))
+
+-- what is decoded spells the instruction
+abbrev pub DecodedSpells : Type 0
+DecodedSpells = (xs : List ℕ) (i : InstData) (n : ℕ) → decoded_of xs ≡ Ok (i, n) → Spells (take n xs) i
+
+-- what is decoded is what the bytes begin with
+abbrev pub DecodedBegins : Type 0
+DecodedBegins = (xs : List ℕ) (i : InstData) (n : ℕ) → (decoded_of xs ≡ Ok (i, n)) ↔ Begins xs i n
+
+-- what spells an instruction is decoded, whatever follows
+abbrev pub SpelledDecodes : Type 0
+SpelledDecodes = (bytes rest : List ℕ) (i : InstData) → Spells bytes i → decoded_of (bytes ++ rest) ≡ Ok (i, length bytes)
+
+-- Short is the front of a spelling, which no spelling begins
+abbrev pub ShortIsFront : Type 0
+ShortIsFront = (xs : List ℕ) → (decoded_of xs ≡ Err Short) ↔ (IsFront xs × ((i : InstData) (n : ℕ) → Begins xs i n → ⊥))
+
+-- NotListed is all else
+abbrev pub NotListedIsRest : Type 0
+NotListedIsRest = (xs : List ℕ) → (decoded_of xs ≡ Err NotListed) ↔ ((IsFront xs → ⊥) × ((i : InstData) (n : ℕ) → Begins xs i n → ⊥))
+
+pub record DecodeLaws : Type 0 where
+  pub more : MoreChangesNothing
+  pub lengths : LengthsAreRight
+  pub decoded : DecodedSpells
+  pub begins : DecodedBegins
+  pub spelled : SpelledDecodes
+  pub short : ShortIsFront
+  pub not_listed : NotListedIsRest

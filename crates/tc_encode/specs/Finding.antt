@@ -1,0 +1,54 @@
+-- How an instruction is found: by its word, and by the front of a word.
+use Rattle.std.specs.Prelude.{◌≡◌, ◌+◌, ◌*◌, ◌/◌, ◌%◌, ◌^◌, ◌<◌, ℕ, zero, suc, Bool, true, false, ◌==◌, ◌&&◌, nat_lt, nat_le, List, [], ◌∷◌, Option, Some, None, slice_get}
+use Rattle.tc_isa.specs.Rows.{RowData, listed}
+use Rattle.tc_isa.specs.Words.{form_index}
+use Rattle.tc_isa.specs.Codec.{word_of}
+use Rattle.tc_isa.specs.Insts.{InstData, IsInst, fields_in}
+use Rattle.tc_encode.specs.Decoding.{size_of}
+
+-- the instruction's word is w
+pub record Makes (w : ℕ) (i : InstData) : Type 0 where
+  pub inst : IsInst i
+  pub is : word_of inst.row (fields_in i) ≡ w
+
+-- the low n bytes of a, and the rest of b
+abbrev pub mix1 : ℕ → ℕ → ℕ
+mix1 a b = a % 2 ^ 8 + b / 2 ^ 8 * 2 ^ 8
+
+abbrev pub mix2 : ℕ → ℕ → ℕ
+mix2 a b = a % 2 ^ 16 + b / 2 ^ 16 * 2 ^ 16
+
+abbrev pub mix3 : ℕ → ℕ → ℕ
+mix3 a b = a % 2 ^ 24 + b / 2 ^ 24 * 2 ^ 24
+
+-- 256 to the number of bytes kept
+abbrev pub span : ℕ → ℕ
+span zero = 1
+span (suc zero) = 2 ^ 8
+span (suc (suc zero)) = 2 ^ 16
+span (suc (suc (suc n))) = 2 ^ 24
+
+-- the low n bytes of a, and the rest of b
+abbrev pub mix : ℕ → ℕ → ℕ → ℕ
+mix n a b = a % span n + b / span n * span n
+
+-- the instruction's word has these low n bytes, and more
+pub record GoesOn (n part : ℕ) (i : InstData) : Type 0 where
+  pub inst : IsInst i
+  pub longer : n < size_of inst.row
+  pub is : word_of inst.row (fields_in i) % span n ≡ part
+
+abbrev pub has_form : RowData → Option RowData → Bool
+has_form r None = false
+has_form r (Some s) = form_index s.form == form_index r.form
+
+-- the place stands from the start on and before the end, and the row at the start has the form of this row
+abbrev pub is_between : ℕ → RowData → Option ℕ → Option ℕ → Bool
+is_between place r None end = false
+is_between place r (Some start) None = false
+is_between place r (Some start) (Some end) = nat_le start place && nat_lt place end && has_form r (slice_get listed start)
+
+-- each row, numbered from here on, stands between the start and the end of its first byte
+abbrev pub hold_all : List ℕ → List ℕ → ℕ → List RowData → Bool
+hold_all starts ends place [] = true
+hold_all starts ends place (r ∷ rs) = is_between place r (slice_get starts r.op1) (slice_get ends r.op1) && hold_all starts ends (suc place) rs

@@ -1,0 +1,108 @@
+// Fronts of spellings.
+ghost use Rattle.std.specs.Prelude.{◌≡◌, ◌<◌, ◌≤◌, ◌%◌, IfSome, IfNone, slice_get, Some};
+ghost use Rattle.tc_isa.specs.Rows.{row_of, listed, RowData};
+ghost use Rattle.tc_isa.specs.Codec.{least};
+ghost use Rattle.tc_isa.specs.Insts.{InstData};
+ghost use Rattle.tc_encode.specs.Decoding.{size_of, need_of};
+ghost use Rattle.tc_encode.specs.Finding.{GoesOn, span};
+
+use crate::finding::inst_by;
+use crate::forms::join;
+use crate::index::groups;
+use tc_isa::{Fields, Inst, Row, rows};
+
+/// The least fields that fit the row.
+fn least_of(row: &Row) -> Fields
+    ensures { result ≡ least (row_of row.now) }
+{
+    let s1 = if (row.op1 == 9 || row.op1 == 137) && row.op2 == 6 {
+        1
+    } else {
+        0
+    };
+    Fields {
+        c: 0,
+        s1,
+        s2: 0,
+        n: 0,
+        k: 0,
+    }
+}
+
+/// 256 to the number of bytes.
+fn span_of(n: u8) -> u32
+    requires low { 1 ≤ n }
+    requires high { n ≤ 3 }
+    ensures span { result ≡ span n }
+    ensures some { 0 < result }
+{
+    match n {
+        1 => 256,
+        2 => 65536,
+        _ => 16_777_216,
+    }
+}
+
+/// An instruction of this row with these n low bytes.
+fn completed_by(place: u8, row: &Row, n: u8, part: u32) -> Option<Inst>
+    requires place { slice_get listed place ≡ Some (row_of row.now) }
+    requires low { 1 ≤ n }
+    requires high { n ≤ 3 }
+    requires part { part < span n }
+    requires longer { n < size_of (row_of row.now) }
+    ensures some { IfSome result (GoesOn n part) }
+    ensures none { IfNone result ((i : InstData) → GoesOn n part i → i.row ≡ place → ⊥) }
+{
+    let rest = join(row.form, row.op1, row.op2, &least_of(row));
+    let span = span_of(n);
+    inst_by(place, row, part + rest / span * span)
+}
+
+/// An instruction of the row at this place with these n low bytes, where the row begins with the lowest.
+fn completed_at(place: u8, first: u8, n: u8, part: u32) -> Option<Inst>
+    requires place { place < 142 }
+    requires low { 1 ≤ n }
+    requires high { n < need_of first }
+    requires part { part < span n }
+    requires first { first ≡ part % 256 }
+    ensures some { IfSome result (GoesOn n part) }
+    ensures none { IfNone result ((i : InstData) → GoesOn n part i → i.row ≡ place → ⊥) }
+{
+    let row = &rows()[usize::from(place)];
+    if row.op1 != first {
+        return None;
+    }
+    completed_by(place, row, n, part)
+}
+
+/// An instruction of a row from one place on and before the other with these n low bytes.
+fn completed_between(from: u8, to: u8, first: u8, n: u8, part: u32) -> Option<Inst>
+    requires places { to ≤ 142 }
+    requires low { 1 ≤ n }
+    requires high { n < need_of first }
+    requires part { part < span n }
+    requires first { first ≡ part % 256 }
+    ensures some { IfSome result (GoesOn n part) }
+    ensures none { IfNone result ((i : InstData) → GoesOn n part i → from ≤ i.row → i.row < to → ⊥) }
+{
+    for place in from..to {
+        if let Some(found) = completed_at(place, first, n, part) {
+            return Some(found);
+        }
+    }
+    None
+}
+
+/// An instruction with these n low bytes, and more.
+pub fn completed(first: u8, n: u8, part: u32) -> Option<Inst>
+    requires low { 1 ≤ n }
+    requires high { n < need_of first }
+    requires part { part < span n }
+    requires first { first ≡ part % 256 }
+    ensures some { IfSome result (GoesOn n part) }
+    ensures none { IfNone result ((i : InstData) → GoesOn n part i → ⊥) }
+{
+    let (starts, ends) = groups();
+    let place = usize::from(first);
+    completed_between(starts[place], ends[place], first, n, part)
+}

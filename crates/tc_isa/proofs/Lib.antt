@@ -1,0 +1,5 @@
+pub mod Places
+pub mod TableFacts
+pub mod Made
+pub mod Shaped
+pub mod ShapeBounds

@@ -1,0 +1,39 @@
+-- Instructions by the rows of the table in the program.
+use Rattle.std.proofs.Common.{◌≡◌, ◌<◌, ◌≤◌, ℕ, List, map, length, get_or, Option, Some, None, ap, sym, subst, ◌∙◌, arith}
+use Rattle.std.specs.Prelude.{slice_get}
+use Rattle.std.proofs.lemmas.List.{length-map}
+use Rattle.std.proofs.lemmas.Option.{slice_get_within}
+use Rattle.tc_isa.specs.Rows.{RowData, row_of, listed}
+use Rattle.tc_isa.specs.declared.table.Row.{Row}
+use Rattle.tc_isa.specs.declared.fields.Uses.{Uses}
+use Rattle.tc_isa.specs.Codec.{Fits, uses_of}
+use Rattle.tc_isa.specs.Insts.{InstData, IsInst, fields_in}
+use Rattle.tc_isa.proofs.Places.{at_here, uses_here}
+
+some_same : {A : Type 0} (x y : A) → Some x ≡ Some y → x ≡ y
+some_same x y e = cc
+
+pub at_listed : (rows : List Row) (p : ℕ) (d : Row) → map row_of rows ≡ listed → p < length rows → slice_get listed p ≡ Some (row_of (get_or rows p d))
+at_listed rows p d are within = ap (λ rs. slice_get rs p) (sym are) ∙ at_here rows p d within
+
+-- the instruction whose row stands at this place in the program's table
+pub made : (rows : List Row) (p : ℕ) (d : Row) (i : InstData) → map row_of rows ≡ listed → p ≡ i.row → p < length rows → Fits (row_of (get_or rows p d)) (fields_in i) → IsInst i
+made rows p d i are same within fits = record { row = row_of (get_or rows p d); at = ap (slice_get listed) (sym same) ∙ at_listed rows p d are within; fits = fits }
+
+pub made_fits : (rows : List Row) (p : ℕ) (d : Row) (i : InstData) → map row_of rows ≡ listed → p ≡ i.row → p < length rows → IsInst i → Fits (row_of (get_or rows p d)) (fields_in i)
+made_fits rows p d i are same within is =
+    subst (λ (r : RowData). Fits r (fields_in i)) (some_same is.row (row_of (get_or rows p d)) (sym is.at ∙ ap (slice_get listed) (sym same) ∙ at_listed rows p d are within)) is.fits
+
+pub inst_within : (rows : List Row) (i : InstData) → map row_of rows ≡ listed → IsInst i → i.row < length rows
+inst_within rows i are is =
+    let a = slice_get_within listed i.row is.row is.at in
+    let b : length listed ≡ length rows = sym (ap length are) ∙ length-map rows row_of in
+    subst (λ n. i.row < n) b a
+
+pub uses_listed : (rows : List Row) (uses : List Uses) (i : ℕ) (d : Row) (u : Uses) → map row_of rows ≡ listed → uses ≡ map uses_of listed → i < length rows → get_or uses i u ≡ uses_of (row_of (get_or rows i d))
+uses_listed rows uses i d u are is within = uses_here rows uses i d u (is ∙ ap (map uses_of) (sym are)) within
+
+-- the row of an instruction is the one at this place of the program's table
+pub row_of_inst : (rows : List Row) (p : ℕ) (d : Row) (i : InstData) (is : IsInst i) → map row_of rows ≡ listed → p ≡ i.row → is.row ≡ row_of (get_or rows p d)
+row_of_inst rows p d i is are same =
+    some_same is.row (row_of (get_or rows p d)) (sym is.at ∙ ap (slice_get listed) (sym same) ∙ at_listed rows p d are (subst (λ q. q < length rows) (sym same) (inst_within rows i are is)))

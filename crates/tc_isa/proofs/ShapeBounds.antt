@@ -1,0 +1,172 @@
+-- What an instruction does is within bounds.
+use Rattle.std.proofs.Common.{◌≡◌, ◌⊎◌, inl, inr, ◌+◌, ◌-◌, ◌*◌, ◌/◌, ◌%◌, ◌^◌, ◌<◌, ◌≤◌, ℕ, Bool, true, false, List, map, length, get_or, ap, sym, subst, ◌∙◌, arith, refl, ◌==◌}
+use Rattle.std.specs.Prelude.{◌||◌, nat_lt, if◌then◌else◌}
+use Rattle.std.specs.List.{list_all}
+use Rattle.std.proofs.lemmas.Bool.{cases_lt, lt-ltb, le-ltb, or_cases, eqb-true}
+use Rattle.std.proofs.lemmas.List.Sums.{AllPass-from_list_all}
+use Rattle.tcd_base.specs.Numbers.{sext_of}
+use Rattle.tc_isa.specs.declared.fields.Fields.{Fields}
+use Rattle.tc_isa.specs.declared.meaning.Place.{Place}
+use Rattle.tc_isa.specs.declared.meaning.Place.TheVariants.{Dc, Ds1, Ds2, D15, Ac, As1, As2, A10}
+use Rattle.tc_isa.specs.declared.meaning.Constant.{Constant}
+use Rattle.tc_isa.specs.declared.meaning.Constant.TheVariants.{Zero, Signed4, Signed9, Signed10, Signed16, Unsigned, High, Address, SignedS2, UnsignedS2}
+use Rattle.tc_isa.specs.declared.meaning.Operand.{Operand}
+use Rattle.tc_isa.specs.declared.meaning.Operand.TheVariants.{At, Of}
+use Rattle.tc_isa.specs.declared.meaning.Distance.{Distance}
+use Rattle.tc_isa.specs.declared.meaning.Distance.TheVariants.{Ahead8, Ahead15, Ahead24, AheadOnly}
+use Rattle.tc_isa.specs.declared.meaning.Goal.{Goal}
+use Rattle.tc_isa.specs.declared.meaning.Goal.TheVariants.{By, Code, In}
+use Rattle.tc_isa.specs.declared.meaning.Meaning.{Meaning}
+use Rattle.tc_isa.specs.declared.meaning.Meaning.TheVariants.{Computes, Scales, Loads, Stores, Branches, Jumps, Calls, Masks, Traps, ReadsCore, WritesCore, Always}
+use Rattle.tc_isa.specs.declared.meanings.TheConstants.{MEANINGS}
+use Rattle.tc_isa.specs.declared.shapes.Shape.{Shape}
+use Rattle.tc_isa.specs.declared.shapes.Shape.TheVariants.{Compute, Scaled, Load, Store, Branch, Jump, Call, Ret, Rfe, Svlcx, Rslcx, Bisr, Enable, Disable, Syscall, Mfcr, Mtcr, Nothing}
+use Rattle.tc_isa.specs.Insts.{InstData, IsInst, fields_in}
+use Rattle.tc_isa.specs.Rows.{listed}
+use Rattle.tc_isa.specs.Shapes.{meanings, shape_of}
+use Rattle.tc_isa.specs.Bounded.{IsRegister, IsWord, IsArg, IsTarget, IsSize, IsShape}
+use Rattle.tc_isa.specs.Meanings.{AreSmall, register_of, word_at, operand_of, distance_of, goal_of, meant}
+use Rattle.tc_isa.proofs.Shaped.{small, row_below, shaped}
+
+sext_lt : (x n : ℕ) → x < 2 ^ n → x < 2 ^ 32 → sext_of x n < 2 ^ 32
+sext_lt x n low word = elim (cases_lt x (2 ^ (n - 1))) [
+  | inl plus ↦ rw (lt-ltb x (2 ^ (n - 1)) plus) word
+  | inr minus ↦ rw (le-ltb x (2 ^ (n - 1)) minus) (omega arith)
+]
+
+register_is : (p : Place) (f : Fields) → AreSmall f → IsRegister (register_of p f)
+register_is Dc f s = omega arith
+register_is Ds1 f s = omega arith
+register_is Ds2 f s = omega arith
+register_is D15 f s = omega arith
+register_is Ac f s = omega arith
+register_is As1 f s = omega arith
+register_is As2 f s = omega arith
+register_is A10 f s = omega arith
+
+word_is : (c : Constant) (f : Fields) → AreSmall f → IsWord (word_at c f)
+word_is Zero f s = omega arith
+word_is Signed4 f s = sext_lt (f.k % 2 ^ 4) 4 (omega arith) (omega arith)
+word_is Signed9 f s = sext_lt (f.k % 2 ^ 9) 9 (omega arith) (omega arith)
+word_is Signed10 f s = sext_lt (f.k % 2 ^ 10) 10 (omega arith) (omega arith)
+word_is Signed16 f s = sext_lt (f.k % 2 ^ 16) 16 (omega arith) (omega arith)
+word_is Unsigned f s = omega arith
+word_is High f s = omega arith
+word_is Address f s = omega arith
+word_is SignedS2 f s = sext_lt (f.s2 % 2 ^ 4) 4 (omega arith) (omega arith)
+word_is UnsignedS2 f s = omega arith
+
+operand_is : (o : Operand) (f : Fields) → AreSmall f → IsArg (operand_of o f)
+operand_is (At p) f s = register_is p f s
+operand_is (Of c) f s = word_is c f s
+
+distance_is : (b : Distance) (f : Fields) → AreSmall f → IsWord (distance_of b f)
+distance_is Ahead8 f s = omega arith
+distance_is Ahead15 f s = omega arith
+distance_is Ahead24 f s = omega arith
+distance_is AheadOnly f s = omega arith
+
+target_is : (g : Goal) (f : Fields) → AreSmall f → IsTarget (goal_of g f)
+target_is (By b) f s = distance_is b f s
+target_is Code f s = omega arith
+target_is (In p) f s = register_is p f s
+
+-- the sizes of the table's accesses, and the shapes that have no parts
+is_size : ℕ → Bool
+is_size n = n == 1 || (n == 2 || n == 4)
+
+has_no_parts : Shape → Bool
+has_no_parts (Compute op dst x y) = false
+has_no_parts (Scaled dst base index n) = false
+has_no_parts (Load dst base offset size sign after) = false
+has_no_parts (Store src base offset size after) = false
+has_no_parts (Branch cond x y by lowers) = false
+has_no_parts (Jump to) = false
+has_no_parts (Call to) = false
+has_no_parts Ret = true
+has_no_parts Rfe = true
+has_no_parts Svlcx = true
+has_no_parts Rslcx = true
+has_no_parts (Bisr c) = false
+has_no_parts Enable = true
+has_no_parts Disable = true
+has_no_parts (Syscall tin) = false
+has_no_parts (Mfcr dst number) = false
+has_no_parts (Mtcr src number) = false
+has_no_parts Nothing = true
+
+is_sound : Meaning → Bool
+is_sound (Computes op dst x y) = true
+is_sound (Scales dst base index) = true
+is_sound (Loads dst base offset size sign after) = is_size size
+is_sound (Stores src base offset size after) = is_size size
+is_sound (Branches cond x y by lowers) = true
+is_sound (Jumps to) = true
+is_sound (Calls to) = true
+is_sound Masks = true
+is_sound Traps = true
+is_sound (ReadsCore dst) = true
+is_sound (WritesCore src) = true
+is_sound (Always s) = has_no_parts s
+
+size_is : (n : ℕ) → is_size n ≡ true → IsSize n
+unfolding is_size
+size_is n e = elim (or_cases (n == 1) (n == 2 || n == 4) e) [
+  | inl a ↦ inl (eqb-true _ _ a)
+  | inr b ↦ elim (or_cases (n == 2) (n == 4) b) [ inl c ↦ inr (inl (eqb-true _ _ c)) | inr d ↦ inr (inr (eqb-true _ _ d)) ]
+]
+
+plain_is : (s : Shape) → has_no_parts s ≡ true → IsShape s
+unfolding has_no_parts
+plain_is (Compute op dst x y) e = cc
+plain_is (Scaled dst base index n) e = cc
+plain_is (Load dst base offset size sign after) e = cc
+plain_is (Store src base offset size after) e = cc
+plain_is (Branch cond x y by lowers) e = cc
+plain_is (Jump to) e = cc
+plain_is (Call to) e = cc
+plain_is Ret e = tt
+plain_is Rfe e = tt
+plain_is Svlcx e = tt
+plain_is Rslcx e = tt
+plain_is (Bisr c) e = cc
+plain_is Enable e = tt
+plain_is Disable e = tt
+plain_is (Syscall tin) e = cc
+plain_is (Mfcr dst number) e = cc
+plain_is (Mtcr src number) e = cc
+plain_is Nothing e = tt
+
+meant_is : (m : Meaning) (f : Fields) → AreSmall f → is_sound m ≡ true → IsShape (meant m f)
+unfolding is_sound
+meant_is (Computes op dst x y) f s e = (register_is dst f s, operand_is x f s, operand_is y f s)
+meant_is (Scales dst base index) f s e = (register_is dst f s, register_is base f s, register_is index f s, s.n)
+meant_is (Loads dst base offset size sign after) f s e = (register_is dst f s, operand_is base f s, word_is offset f s, size_is size e)
+meant_is (Stores src base offset size after) f s e = (register_is src f s, operand_is base f s, word_is offset f s, size_is size e)
+meant_is (Branches cond x y by lowers) f s e = (register_is x f s, operand_is y f s, distance_is by f s)
+meant_is (Jumps to) f s e = target_is to f s
+meant_is (Calls to) f s e = target_is to f s
+meant_is Masks f s e = omega arith
+meant_is Traps f s e = omega arith
+meant_is (ReadsCore dst) f s e = (register_is dst f s, omega arith)
+meant_is (WritesCore src) f s e = (register_is src f s, omega arith)
+meant_is (Always shape) f s e = plain_is shape e
+
+all_sound : list_all is_sound MEANINGS ≡ true
+unfolding is_sound is_size has_no_parts
+all_sound = refl
+
+are_listed : map meant MEANINGS ≡ map (λ l. l.shape) meanings
+are_listed = refl
+
+count : length MEANINGS ≡ 142
+count = refl
+
+pub shape_is : (i : InstData) → IsInst i → IsShape (shape_of i)
+shape_is i is =
+    let within : i.row < length MEANINGS = subst (λ n. i.row < n) (sym count) (row_below i is) in
+    subst IsShape (shaped MEANINGS i.row Masks i are_listed refl is)
+    (meant_is (get_or MEANINGS i.row Masks) (fields_in i) (small i is) (AllPass-from_list_all is_sound MEANINGS all_sound i.row Masks within))
+
+pub names_listed : map (λ l. l.name) meanings ≡ map (λ r. r.name) listed
+names_listed = refl

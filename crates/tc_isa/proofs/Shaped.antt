@@ -1,0 +1,65 @@
+-- The meaning of a row in the program's table is that of the instruction.
+use Rattle.std.proofs.Common.{◌≡◌, ◌<◌, ◌≤◌, ℕ, List, [], map, length, get_or, Option, Some, ap, sym, subst, ◌∙◌, arith, refl}
+use Rattle.std.specs.Prelude.{slice_get}
+use Rattle.std.proofs.lemmas.List.{get_or-map, length-map}
+use Rattle.std.proofs.lemmas.Option.{slice_get-get_or, slice_get_within}
+use Rattle.tc_isa.specs.declared.fields.Fields.{Fields}
+use Rattle.tc_isa.specs.declared.meaning.Meaning.{Meaning}
+use Rattle.tc_isa.specs.declared.shapes.Shape.{Shape}
+use Rattle.tc_isa.specs.declared.table.Form.{Form}
+use Rattle.tc_isa.specs.declared.table.Form.TheVariants.{Rlc, Rr, Rc, Bol, Bo, Brr, Brc, B, Abs, Sys, Sr, Sc, Sb, Sbr, Src, Srr, Slr, Ssr}
+use Rattle.tc_isa.specs.Rows.{listed}
+use Rattle.tc_isa.specs.Words.{IsBelow, bounds}
+use Rattle.tc_isa.specs.Insts.{InstData, IsInst, fields_in}
+use Rattle.tc_isa.specs.Shapes.{Line, meanings, by_line, shape_of}
+use Rattle.tc_isa.specs.Meanings.{AreSmall, meant}
+
+-- how small the fields of a form are
+small_in : (form : Form) (f : Fields) → IsBelow f (bounds form) → AreSmall f
+unfolding bounds
+small_in Rlc f b = record { c = omega arith; s1 = omega arith; s2 = omega arith; n = omega arith; k = omega arith }
+small_in Rr f b = record { c = omega arith; s1 = omega arith; s2 = omega arith; n = omega arith; k = omega arith }
+small_in Rc f b = record { c = omega arith; s1 = omega arith; s2 = omega arith; n = omega arith; k = omega arith }
+small_in Bol f b = record { c = omega arith; s1 = omega arith; s2 = omega arith; n = omega arith; k = omega arith }
+small_in Bo f b = record { c = omega arith; s1 = omega arith; s2 = omega arith; n = omega arith; k = omega arith }
+small_in Brr f b = record { c = omega arith; s1 = omega arith; s2 = omega arith; n = omega arith; k = omega arith }
+small_in Brc f b = record { c = omega arith; s1 = omega arith; s2 = omega arith; n = omega arith; k = omega arith }
+small_in B f b = record { c = omega arith; s1 = omega arith; s2 = omega arith; n = omega arith; k = omega arith }
+small_in Abs f b = record { c = omega arith; s1 = omega arith; s2 = omega arith; n = omega arith; k = omega arith }
+small_in Sys f b = record { c = omega arith; s1 = omega arith; s2 = omega arith; n = omega arith; k = omega arith }
+small_in Sr f b = record { c = omega arith; s1 = omega arith; s2 = omega arith; n = omega arith; k = omega arith }
+small_in Sc f b = record { c = omega arith; s1 = omega arith; s2 = omega arith; n = omega arith; k = omega arith }
+small_in Sb f b = record { c = omega arith; s1 = omega arith; s2 = omega arith; n = omega arith; k = omega arith }
+small_in Sbr f b = record { c = omega arith; s1 = omega arith; s2 = omega arith; n = omega arith; k = omega arith }
+small_in Src f b = record { c = omega arith; s1 = omega arith; s2 = omega arith; n = omega arith; k = omega arith }
+small_in Srr f b = record { c = omega arith; s1 = omega arith; s2 = omega arith; n = omega arith; k = omega arith }
+small_in Slr f b = record { c = omega arith; s1 = omega arith; s2 = omega arith; n = omega arith; k = omega arith }
+small_in Ssr f b = record { c = omega arith; s1 = omega arith; s2 = omega arith; n = omega arith; k = omega arith }
+
+pub small : (i : InstData) → IsInst i → AreSmall (fields_in i)
+small i is = small_in is.row.form (fields_in i) is.fits.below
+
+count_listed : length listed ≡ 142
+count_listed = refl
+
+count_meanings : length meanings ≡ 142
+count_meanings = refl
+
+pub row_below : (i : InstData) → IsInst i → i.row < 142
+row_below i is = subst (λ n. i.row < n) count_listed (slice_get_within listed i.row is.row is.at)
+
+pub meanings_enough : (ms : List Meaning) (p : ℕ) (i : InstData) → map meant ms ≡ map (λ l. l.shape) meanings → p ≡ i.row → IsInst i → p < length ms
+meanings_enough ms p i are same is =
+    let count : length ms ≡ 142 = sym (length-map ms meant) ∙ ap length are ∙ length-map meanings (λ (l : Line). l.shape) ∙ count_meanings in
+    omega (arith, count, row_below i is, same)
+
+pub shaped : (ms : List Meaning) (p : ℕ) (d : Meaning) (i : InstData) → map meant ms ≡ map (λ l. l.shape) meanings → p ≡ i.row → IsInst i → meant (get_or ms p d) (fields_in i) ≡ shape_of i
+unfolding shape_of
+shaped ms p d i are same is =
+    let within = meanings_enough ms p i are same is in
+    let e : Line = record { name = []; shape = meant d } in
+    let there : p < length meanings = omega (arith, row_below i is, same, count_meanings) in
+    let one : meant (get_or ms p d) ≡ (get_or meanings p e).shape =
+    sym (get_or-map meant ms p d (meant d) within) ∙ ap (λ (fs : List (Fields → Shape)). get_or fs p (meant d)) are ∙ get_or-map (λ (l : Line). l.shape) meanings p e (meant d) there in
+    let line : by_line (slice_get meanings i.row) ≡ (get_or meanings p e).shape = ap (λ q. by_line (slice_get meanings q)) (sym same) ∙ ap by_line (slice_get-get_or meanings p e there) in
+    ap (λ (m : Fields → Shape). m (fields_in i)) (one ∙ sym line)

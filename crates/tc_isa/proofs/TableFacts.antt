@@ -1,0 +1,57 @@
+use Rattle.std.proofs.Common.{◌≡◌, ◌<◌, ℕ, Bool, true, false, List, [], ◌∷◌, map, length, refl, ap, sym, subst, ◌∙◌, ◌&&◌}
+use Rattle.std.specs.Prelude.{All, nat_lt, slice_get, Some}
+use Rattle.std.proofs.lemmas.Option.{get_or_from_slice_get, slice_get_within}
+use Rattle.std.specs.List.{list_all}
+use Rattle.std.proofs.lemmas.Bool.{ltb-true}
+use Rattle.std.proofs.lemmas.List.Sums.{AllPass-from_list_all}
+use Rattle.tc_isa.specs.Rows.{RowData, listed, row_of}
+use Rattle.tc_isa.specs.Words.{second_bound, bounds, is_long_form, form_index}
+use Rattle.tc_isa.specs.Codec.{IsRow, is_row, same_test, none_clash}
+
+pub both : (a b : Bool) → (a && b) ≡ true → (a ≡ true) × (b ≡ true)
+both true true e = (refl, refl)
+both true false e = cc
+both false b e = cc
+
+same_tested : (a b : Bool) → same_test a b ≡ true → a ≡ b
+same_tested true true e = refl
+same_tested true false e = cc
+same_tested false true e = cc
+same_tested false false e = refl
+
+row_from : (r : RowData) → is_row r ≡ true → IsRow r
+unfolding is_row
+row_from r e =
+    let z = both _ _ e in
+    let p = both _ _ z.0 in
+    let q = both _ _ p.0 in
+    let s = both _ _ q.0 in
+    let t = both _ _ s.0 in
+    let b1 = both _ _ s.1 in
+    let b2 = both _ _ b1.0 in
+    let b3 = both _ _ b2.0 in
+    let b4 = both _ _ b3.0 in
+    record {
+      first = ltb-true _ _ t.0;
+      second = ltb-true _ _ t.1;
+      has_least = record {
+        below = record { c = ltb-true _ _ b4.0; s1 = ltb-true _ _ b4.1; s2 = ltb-true _ _ b3.1; n = ltb-true _ _ b2.1; k = ltb-true _ _ b1.1 };
+        zero = q.1;
+        apart = p.1;
+      };
+      size = same_tested _ _ z.1;
+    }
+
+pub all_tested : list_all is_row listed ≡ true
+unfolding is_row second_bound bounds is_long_form
+all_tested = refl
+
+pub rows_are : All IsRow listed
+rows_are = λ k d h. row_from _ (AllPass-from_list_all is_row listed all_tested k d h)
+
+pub row_at : (place : ℕ) (r : RowData) → slice_get listed place ≡ Some r → IsRow r
+row_at place r at = subst IsRow (get_or_from_slice_get listed place r r at) (rows_are place r (slice_get_within listed place r at))
+
+pub rows_are_apart : none_clash listed ≡ true
+unfolding form_index
+rows_are_apart = refl

@@ -1,0 +1,62 @@
+-- Arithmetic on words, by whole numbers modulo 2 ^ 32 (TriCore 1 architecture manual, volume 2, instruction set).
+use Rattle.std.specs.Prelude.{◌+◌, ◌-◌, ◌*◌, ◌/◌, ◌%◌, ◌^◌, ℕ, Bool, not, ◌==◌, nat_lt, nat_le, if◌then◌else◌, bit_and, bit_or, bit_xor}
+use Rattle.tcd_base.specs.Numbers.{sext_of}
+use Rattle.tc_isa.specs.declared.shapes.Op.{Op}
+use Rattle.tc_isa.specs.declared.shapes.Op.TheVariants as op
+use Rattle.tc_isa.specs.declared.shapes.Cond.{Cond}
+use Rattle.tc_isa.specs.declared.shapes.Cond.TheVariants as cond
+
+-- a number of n bits, sign-extended to 32
+abbrev pub sign_extended : ℕ → ℕ → ℕ
+sign_extended n x = sext_of x n
+
+-- a word's place in the signed order: words stand in it as these numbers stand in theirs
+abbrev pub signed_place : ℕ → ℕ
+signed_place x = (x + 2 ^ 31) % 2 ^ 32
+
+-- all bits of a word turned over
+abbrev pub complement : ℕ → ℕ
+complement x = 2 ^ 32 - 1 - x
+
+-- whether a condition holds of two words; Lt and Ge are signed, LtU and GeU unsigned
+unfoldable pub taken_of : Cond → ℕ → ℕ → Bool
+taken_of cond.Eq x y = x == y
+taken_of cond.Ne x y = not (x == y)
+taken_of cond.Lt x y = nat_lt (signed_place x) (signed_place y)
+taken_of cond.LtU x y = nat_lt x y
+taken_of cond.Ge x y = nat_le (signed_place y) (signed_place x)
+taken_of cond.GeU x y = nat_le y x
+
+abbrev pub one_if : Bool → ℕ
+one_if b = if b then 1 else 0
+
+-- the shift by a count of six bits, which is a signed number: left by it below 32, else right by 64 less it, filled
+-- with zeros
+abbrev pub shifted : ℕ → ℕ → ℕ
+shifted x n = if nat_lt n 32 then x * 2 ^ n % 2 ^ 32 else x / 2 ^ (64 - n)
+
+-- the same, but to the right filled with the sign bit
+abbrev pub shifted_signed : ℕ → ℕ → ℕ
+shifted_signed x n = if nat_lt n 32 then x * 2 ^ n % 2 ^ 32 else if nat_lt x (2 ^ 31) then x / 2 ^ (64 - n) else complement (complement x / 2 ^ (64 - n))
+
+-- the result of an operation on two words
+unfoldable pub alu_of : Op → ℕ → ℕ → ℕ
+alu_of op.Second x y = y
+alu_of op.Add x y = (x + y) % 2 ^ 32
+alu_of op.Sub x y = (x + 2 ^ 32 - y) % 2 ^ 32
+alu_of op.And x y = bit_and x y
+alu_of op.Nand x y = complement (bit_and x y)
+alu_of op.Or x y = bit_or x y
+alu_of op.Nor x y = complement (bit_or x y)
+alu_of op.Xor x y = bit_xor x y
+alu_of op.Xnor x y = complement (bit_xor x y)
+alu_of op.Andn x y = bit_and x (complement y)
+alu_of op.Orn x y = bit_or x (complement y)
+alu_of op.Eq x y = one_if (x == y)
+alu_of op.Ne x y = one_if (not (x == y))
+alu_of op.Lt x y = one_if (nat_lt (signed_place x) (signed_place y))
+alu_of op.LtU x y = one_if (nat_lt x y)
+alu_of op.Ge x y = one_if (nat_le (signed_place y) (signed_place x))
+alu_of op.GeU x y = one_if (nat_le y x)
+alu_of op.Sh x y = shifted x (y % 64)
+alu_of op.Sha x y = shifted_signed x (y % 64)

@@ -1,0 +1,48 @@
+-- What holds of each shape that an instruction has: its registers and words are registers and words.
+use Rattle.std.specs.Prelude.{◌≡◌, ◌<◌, ◌^◌, ◌⊎◌, ℕ}
+use Rattle.tc_isa.specs.declared.shapes.Arg.{Arg}
+use Rattle.tc_isa.specs.declared.shapes.Arg.TheVariants.{Reg, Word}
+use Rattle.tc_isa.specs.declared.shapes.Target.{Target}
+use Rattle.tc_isa.specs.declared.shapes.Target.TheVariants as target
+use Rattle.tc_isa.specs.declared.shapes.Shape.{Shape}
+use Rattle.tc_isa.specs.declared.shapes.Shape.TheVariants.{Compute, Scaled, Load, Store, Branch, Jump, Call, Ret, Rfe, Svlcx, Rslcx, Bisr, Enable, Disable, Syscall, Mfcr, Mtcr, Nothing}
+
+-- one of the 32 registers
+abbrev pub IsRegister : ℕ → Type 0
+IsRegister r = r < 32
+
+abbrev pub IsWord : ℕ → Type 0
+IsWord w = w < 2 ^ 32
+
+abbrev pub IsArg : Arg → Type 0
+IsArg (Reg r) = IsRegister r
+IsArg (Word w) = IsWord w
+
+abbrev pub IsTarget : Target → Type 0
+IsTarget (target.Rel w) = IsWord w
+IsTarget (target.Abs w) = IsWord w
+IsTarget (target.Reg r) = IsRegister r
+
+-- how many bytes an access has
+abbrev pub IsSize : ℕ → Type 0
+IsSize n = (n ≡ 1) ⊎ ((n ≡ 2) ⊎ (n ≡ 4))
+
+abbrev pub IsShape : Shape → Type 0
+IsShape (Compute op dst x y) = IsRegister dst × IsArg x × IsArg y
+IsShape (Scaled dst base index n) = IsRegister dst × IsRegister base × IsRegister index × (n < 4)
+IsShape (Load dst base offset size sign after) = IsRegister dst × IsArg base × IsWord offset × IsSize size
+IsShape (Store src base offset size after) = IsRegister src × IsArg base × IsWord offset × IsSize size
+IsShape (Branch cond x y by lowers) = IsRegister x × IsArg y × IsWord by
+IsShape (Jump to) = IsTarget to
+IsShape (Call to) = IsTarget to
+IsShape Ret = Unit {0}
+IsShape Rfe = Unit {0}
+IsShape Svlcx = Unit {0}
+IsShape Rslcx = Unit {0}
+IsShape (Bisr c) = c < 256
+IsShape Enable = Unit {0}
+IsShape Disable = Unit {0}
+IsShape (Syscall tin) = tin < 256
+IsShape (Mfcr dst number) = IsRegister dst × (number < 2 ^ 16)
+IsShape (Mtcr src number) = IsRegister src × (number < 2 ^ 16)
+IsShape Nothing = Unit {0}

@@ -1,0 +1,42 @@
+-- The registers that an instruction itself writes.
+use Rattle.std.specs.Prelude.{◌^◌, ℕ, Bool, if◌then◌else◌, bit_or}
+use Rattle.tc_isa.specs.declared.shapes.Arg.{Arg}
+use Rattle.tc_isa.specs.declared.shapes.Arg.TheVariants.{Reg, Word}
+use Rattle.tc_isa.specs.declared.shapes.Shape.{Shape}
+use Rattle.tc_isa.specs.declared.shapes.Shape.TheVariants.{Compute, Scaled, Load, Store, Branch, Jump, Call, Ret, Rfe, Svlcx, Rslcx, Bisr, Enable, Disable, Syscall, Mfcr, Mtcr, Nothing}
+use Rattle.tc_isa.specs.Insts.{InstData}
+use Rattle.tc_isa.specs.Shapes.{shape_of}
+
+-- the bit of a register
+abbrev pub bit_of : ℕ → ℕ
+bit_of r = 2 ^ r
+
+-- the bit of a base that is a register and is increased
+abbrev pub base_bit : Bool → Arg → ℕ
+base_bit after (Reg r) = if after then bit_of r else 0
+base_bit after (Word w) = 0
+
+-- the bits of the registers that a shape writes: what saves and restores write, and A11 of calls, aren't among them
+abbrev pub written_by : Shape → ℕ
+written_by (Compute op dst x y) = bit_of dst
+written_by (Scaled dst base index n) = bit_of dst
+written_by (Load dst base offset size sign after) = bit_or (bit_of dst) (base_bit after base)
+written_by (Store src base offset size after) = base_bit after base
+written_by (Branch cond x y by lowers) = if lowers then bit_of x else 0
+written_by (Jump to) = 0
+written_by (Call to) = 0
+written_by Ret = 0
+written_by Rfe = 0
+written_by Svlcx = 0
+written_by Rslcx = 0
+written_by (Bisr c) = 0
+written_by Enable = 0
+written_by Disable = 0
+written_by (Syscall tin) = 0
+written_by (Mfcr dst number) = bit_of dst
+written_by (Mtcr src number) = 0
+written_by Nothing = 0
+
+-- bit r is set for each register r that the instruction itself writes
+abbrev pub written_registers : InstData → ℕ
+written_registers i = written_by (shape_of i)

@@ -1,0 +1,96 @@
+// Arithmetic on words.
+ghost use Rattle.std.specs.Prelude.{◌≡◌, ◌<◌};
+ghost use Rattle.tc_isa.specs.Arithmetic.{alu_of, taken_of, shifted, shifted_signed, signed_place, complement, one_if};
+
+use crate::{Cond, Op};
+
+/// The result of an operation on two words, modulo 2^32. A shift takes the low six bits of `y` as a signed count: left
+/// by it, or right by its opposite, filled with zeros (`Sh`) or the sign bit (`Sha`).
+#[tactic(auto, unfolding(crate::specs::Arithmetic::alu_of))]
+pub fn alu(op: Op, x: u32, y: u32) -> u32
+    ensures { result ≡ alu_of op x y }
+{
+    match op {
+        Op::Second => y,
+        Op::Add => x.wrapping_add(y),
+        Op::Sub => x.wrapping_sub(y),
+        Op::And => x & y,
+        Op::Nand => turned(x & y),
+        Op::Or => x | y,
+        Op::Nor => turned(x | y),
+        Op::Xor => x ^ y,
+        Op::Xnor => turned(x ^ y),
+        Op::Andn => x & turned(y),
+        Op::Orn => x | turned(y),
+        Op::Eq => word_of_truth(x == y),
+        Op::Ne => word_of_truth(x != y),
+        Op::Lt => word_of_truth(place_of(x) < place_of(y)),
+        Op::LtU => word_of_truth(x < y),
+        Op::Ge => word_of_truth(place_of(x) >= place_of(y)),
+        Op::GeU => word_of_truth(x >= y),
+        Op::Sh => shift(x, (y % 64) as u8),
+        Op::Sha => shift_signed(x, (y % 64) as u8),
+    }
+}
+
+/// Whether the condition holds of two words.
+#[tactic(auto, unfolding(crate::specs::Arithmetic::taken_of))]
+pub fn taken(cond: Cond, x: u32, y: u32) -> bool
+    ensures { result ≡ taken_of cond x y }
+{
+    match cond {
+        Cond::Eq => x == y,
+        Cond::Ne => x != y,
+        Cond::Lt => place_of(x) < place_of(y),
+        Cond::LtU => x < y,
+        Cond::Ge => place_of(x) >= place_of(y),
+        Cond::GeU => x >= y,
+    }
+}
+
+/// All bits turned over.
+fn turned(x: u32) -> u32
+    ensures { result ≡ complement x }
+{
+    u32::MAX - x
+}
+
+/// 1 for true, 0 for false.
+fn word_of_truth(b: bool) -> u32
+    ensures { result ≡ one_if b }
+{
+    if b { 1 } else { 0 }
+}
+
+/// A word's place in the signed order.
+fn place_of(x: u32) -> u32
+    ensures { result ≡ signed_place x }
+{
+    x.wrapping_add(0x8000_0000)
+}
+
+/// Left by `n` below 32, else right by 64 less `n`, filled with zeros.
+fn shift(x: u32, n: u8) -> u32
+    requires { n < 64 }
+    ensures { result ≡ shifted x n }
+{
+    if n < 32 {
+        x << n
+    } else if n == 32 {
+        0
+    } else {
+        x >> (64 - n)
+    }
+}
+
+/// The same, but to the right filled with the sign bit.
+fn shift_signed(x: u32, n: u8) -> u32
+    requires { n < 64 }
+    ensures { result ≡ shifted_signed x n }
+{
+    if n < 32 || x < 0x8000_0000 {
+        shift(x, n)
+    } else {
+        turned(shift(turned(x), n))
+    }
+}

@@ -1,0 +1,118 @@
+// The bounds of the operand fields, form by form.
+ghost use Rattle.std.specs.Prelude.{◌≡◌, ◌↔◌, IsTrue};
+ghost use Rattle.tc_isa.specs.Words.{IsBelow, bounds};
+
+use crate::{Fields, Form};
+
+/// The bounds of a form's fields, 1 for those that it doesn't have.
+#[tactic(auto, unfolding(crate::specs::Words::bounds))]
+pub fn bounds_of(form: Form) -> Fields
+    ensures { result ≡ bounds form }
+{
+    match form {
+        Form::Rlc => Fields {
+            c: 16,
+            s1: 16,
+            s2: 1,
+            n: 1,
+            k: 65536,
+        },
+        Form::Rr => Fields {
+            c: 16,
+            s1: 16,
+            s2: 16,
+            n: 4,
+            k: 1,
+        },
+        Form::Rc => Fields {
+            c: 16,
+            s1: 16,
+            s2: 1,
+            n: 1,
+            k: 512,
+        },
+        Form::Bol => Fields {
+            c: 1,
+            s1: 16,
+            s2: 16,
+            n: 1,
+            k: 65536,
+        },
+        Form::Bo => Fields {
+            c: 1,
+            s1: 16,
+            s2: 16,
+            n: 1,
+            k: 1024,
+        },
+        Form::Brr | Form::Brc => Fields {
+            c: 1,
+            s1: 16,
+            s2: 16,
+            n: 1,
+            k: 32768,
+        },
+        Form::B => Fields {
+            c: 1,
+            s1: 1,
+            s2: 1,
+            n: 1,
+            k: 16777216,
+        },
+        Form::Abs => Fields {
+            c: 1,
+            s1: 16,
+            s2: 1,
+            n: 1,
+            k: 262144,
+        },
+        Form::Sys => Fields {
+            c: 1,
+            s1: 1,
+            s2: 1,
+            n: 1,
+            k: 1,
+        },
+        Form::Sr => Fields {
+            c: 1,
+            s1: 16,
+            s2: 1,
+            n: 1,
+            k: 1,
+        },
+        Form::Sc | Form::Sb => Fields {
+            c: 1,
+            s1: 1,
+            s2: 1,
+            n: 1,
+            k: 256,
+        },
+        Form::Sbr => Fields {
+            c: 1,
+            s1: 1,
+            s2: 16,
+            n: 1,
+            k: 16,
+        },
+        Form::Src => Fields {
+            c: 1,
+            s1: 16,
+            s2: 1,
+            n: 1,
+            k: 16,
+        },
+        Form::Srr | Form::Slr | Form::Ssr => Fields {
+            c: 1,
+            s1: 16,
+            s2: 16,
+            n: 1,
+            k: 1,
+        },
+    }
+}
+
+pub fn is_below(f: &Fields, bounds: &Fields) -> bool
+    ensures { IsTrue result ↔ IsBelow f.now bounds.now }
+{
+    f.c < bounds.c && f.s1 < bounds.s1 && f.s2 < bounds.s2 && f.n < bounds.n && f.k < bounds.k
+}

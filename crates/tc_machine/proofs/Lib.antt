@@ -1,0 +1,5 @@
+pub mod PlanLaws
+pub mod Saves
+pub mod Fetched
+pub mod Areas
+pub mod Steps

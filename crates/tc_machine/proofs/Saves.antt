@@ -1,0 +1,35 @@
+-- Saves and restores where they meet what they need.
+use Rattle.std.proofs.Common.{◌≡◌, ◌≢◌, ℕ, ◌^◌, ◌<◌, Bool, true, false, cond, length, refl, ap, ◌∙◌, arith, ◌==◌}
+use Rattle.std.proofs.lemmas.Bool.{ne_eqb}
+use Rattle.csa_chain.specs.Chain.{link_in, is_area}
+use Rattle.tc_machine.specs.declared.events.End.TheVariants.{Running}
+use Rattle.tc_machine.specs.declared.events.Cause.TheVariants.{Fcd, Fcu, Csu, Ctyp, NoArea}
+use Rattle.tc_machine.specs.Machine.{Machine, died, goes_on, then_, moved}
+use Rattle.tc_machine.specs.Contexts.{context_of, saved, save, has_kind, restored, restore}
+
+-- a save stands where the first free area is mapped and isn't the list's limit
+pub save-is : (m : Machine) (upper : Bool) → link_in m.fcx ≢ 0 → is_area m.mem (link_in m.fcx) ≡ true → link_in m.fcx ≢ link_in m.lcx → save m upper ≡ saved m upper
+unfolding save
+save-is m upper some here last =
+    ap (λ t. cond t (died Fcu m) (cond (is_area m.mem (link_in m.fcx)) (cond (link_in m.fcx == link_in m.lcx) (died Fcd (saved m upper)) (saved m upper)) (died NoArea m))) (ne_eqb _ _ some)
+    ∙ ap (λ t. cond t (cond (link_in m.fcx == link_in m.lcx) (died Fcd (saved m upper)) (saved m upper)) (died NoArea m)) here
+    ∙ ap (λ t. cond t (died Fcd (saved m upper)) (saved m upper)) (ne_eqb _ _ last)
+
+-- a restore stands where PCXI names a mapped area with a context of its kind
+pub restore-is : (m : Machine) (upper : Bool) → link_in m.pcxi ≢ 0 → has_kind m upper ≡ true → is_area m.mem (link_in m.pcxi) ≡ true → restore m upper ≡ restored m upper
+unfolding restore
+restore-is m upper some kind here =
+    ap (λ t. cond t (died Csu m) (cond (has_kind m upper) (cond (is_area m.mem (link_in m.pcxi)) (restored m upper) (died NoArea m)) (died Ctyp m))) (ne_eqb _ _ some)
+    ∙ ap (λ t. cond t (cond (is_area m.mem (link_in m.pcxi)) (restored m upper) (died NoArea m)) (died Ctyp m)) kind
+    ∙ ap (λ t. cond t (restored m upper) (died NoArea m)) here
+
+pub then_-running : (m : Machine) (next : Machine → Machine) → m.end ≡ Running → then_ m next ≡ next m
+then_-running m next e = ap (λ end. goes_on end m next) e
+
+-- a context has 16 words
+pub length-context_of : (m : Machine) (upper : Bool) → length (context_of m upper) ≡ 16
+length-context_of m true = refl
+length-context_of m false = refl
+
+pub moved-lt : (at by : ℕ) → moved at by < 2 ^ 32
+moved-lt at by = omega arith

@@ -1,0 +1,57 @@
+-- One step at a time: what an event of a running machine does, and what some instructions do.
+use Rattle.std.proofs.Common.{◌≡◌, ℕ, ◌/◌, ◌*◌, Bool, true, false, cond, set, Result, Ok, Option, None, refl, ap, ◌∙◌}
+use Rattle.tc_isa.specs.declared.shapes.Target.{Target}
+use Rattle.tc_isa.specs.declared.shapes.Shape.{Shape}
+use Rattle.tc_isa.specs.declared.shapes.Shape.TheVariants.{Call, Jump, Ret, Nothing}
+use Rattle.tc_machine.specs.declared.events.Cause.{Cause}
+use Rattle.tc_machine.specs.declared.events.Event.{Event}
+use Rattle.tc_machine.specs.declared.events.End.TheVariants.{Running}
+use Rattle.tc_machine.specs.Machine.{Machine, a11, with_status, moved, advanced, then_}
+use Rattle.tc_machine.specs.Contexts.{save, restore}
+use Rattle.tc_machine.specs.Fetching.{fetched}
+use Rattle.tc_machine.specs.Instructions.{interrupt, target_of, does}
+use Rattle.tc_machine.specs.Stepping.{is_taken, executed, done, step, store_in, where_running, stored}
+use Rattle.tc_machine.proofs.Saves.{then_-running}
+
+-- where no interrupt is taken, the instruction at pc is done
+pub done-is : (m : Machine) (e : Event) (shape : Shape) (n : ℕ) → is_taken m e ≡ false → fetched m ≡ Ok (shape, n) → done m e ≡ does m e shape n
+done-is m e shape n none at = ap (λ t. cond t (interrupt m e.irq) (executed m e (fetched m))) none ∙ ap (executed m e) at
+
+-- the machine after an event that left it running
+abbrev pub with_event : Machine → Event → Machine
+with_event n e = record n { psw = with_status n.psw e.status }
+
+pub step-is : (m : Machine) (e : Event) → m.end ≡ Running → (done m e).end ≡ Running → step m e ≡ with_event (done m e) e
+unfolding step
+step-is m e here after =
+    then_-running m (λ m. then_ (done m e) (λ n. with_event n e)) here ∙ then_-running (done m e) (λ n. with_event n e) after
+
+-- what stores is the instruction at pc, where the machine runs and no interrupt is taken
+pub stored-is : (m : Machine) (e : Event) (found : Result (Shape × ℕ) Cause) → m.end ≡ Running → is_taken m e ≡ false → fetched m ≡ found → stored m e ≡ store_in m e found
+unfolding stored
+stored-is m e found here none at =
+    ap (λ end. where_running end (cond (is_taken m e) None (store_in m e (fetched m)))) here
+    ∙ ap (λ t. cond t None (store_in m e (fetched m))) none ∙ ap (store_in m e) at
+
+-- ---- instructions
+abbrev pub called : Machine → ℕ → ℕ → Machine
+called m to back = then_ (save m true) (λ s. record s { a = set s.a 11 back; pc = to })
+
+abbrev pub returned : Machine → Machine
+returned m = then_ (restore m true) (λ r. record r { pc = a11 m / 2 * 2 })
+
+pub does-call : (m : Machine) (e : Event) (to : Target) (n : ℕ) → does m e (Call to) n ≡ called m (target_of m to) (moved m.pc n)
+unfolding does
+does-call m e to n = refl
+
+pub does-jump : (m : Machine) (e : Event) (to : Target) (n : ℕ) → does m e (Jump to) n ≡ record m { pc = target_of m to }
+unfolding does
+does-jump m e to n = refl
+
+pub does-ret : (m : Machine) (e : Event) (n : ℕ) → does m e Ret n ≡ returned m
+unfolding does
+does-ret m e n = refl
+
+pub does-nothing : (m : Machine) (e : Event) (n : ℕ) → does m e Nothing n ≡ advanced n m
+unfolding does
+does-nothing m e n = refl

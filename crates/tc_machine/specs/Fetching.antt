@@ -1,0 +1,52 @@
+-- The instruction at pc, and the bytes that loads and stores reach.
+use Rattle.std.specs.Prelude.{ℕ, zero, suc, ◌+◌, ◌*◌, ◌/◌, ◌%◌, ◌^◌, Bool, ◌==◌, if◌then◌else◌, List, [], ◌∷◌, Option, Some, None, Result, Ok, Err, unwrap_or}
+use Rattle.std.specs.FinMap as map
+use Rattle.csa_chain.specs.Memory.{Memory, with_byte}
+use Rattle.tc_isa.specs.Insts.{InstData}
+use Rattle.tc_isa.specs.Shapes.{shape_of}
+use Rattle.tc_isa.specs.Arithmetic.{sign_extended}
+use Rattle.tc_isa.specs.declared.shapes.Shape.{Shape}
+use Rattle.tc_encode.specs.Decoding.{decoded_of}
+use Rattle.tc_encode.specs.declared.errors.DecodeErr.{DecodeErr}
+use Rattle.tc_encode.specs.declared.errors.DecodeErr.TheVariants.{Short}
+use Rattle.tc_machine.specs.declared.events.Cause.{Cause}
+use Rattle.tc_machine.specs.declared.events.Cause.TheVariants.{NotListed, NoCode}
+use Rattle.tc_machine.specs.Machine.{Machine}
+
+abbrev pub in_front : Option ℕ → List ℕ → List ℕ
+in_front None bytes = []
+in_front (Some b) bytes = b ∷ bytes
+
+-- the mapped bytes from x on, at most n, up to the first that isn't mapped
+unfoldable pub mapped_bytes : ℕ → Memory → ℕ → List ℕ
+mapped_bytes zero m x = []
+mapped_bytes (suc n) m x = in_front (map.get m x) (mapped_bytes n m ((x + 1) % 2 ^ 32))
+
+-- bytes that are the front of an instruction are no code; others that aren't listed are that
+abbrev pub cause_of : DecodeErr → Cause
+cause_of Short = NoCode
+cause_of _ = NotListed
+
+-- what the instruction does, and its length in bytes
+abbrev pub shaped : Result (InstData × ℕ) DecodeErr → Result (Shape × ℕ) Cause
+shaped (Ok found) = Ok (shape_of found.0, found.1)
+shaped (Err e) = Err (cause_of e)
+
+-- the instruction at pc, decoded from at most four mapped bytes; there is none at an odd address
+unfoldable pub fetched : Machine → Result (Shape × ℕ) Cause
+fetched m = if m.pc % 2 == 0 then shaped (decoded_of (mapped_bytes 4 m.mem m.pc)) else Err NoCode
+
+-- A load of n bytes from x: each mapped byte from memory, byte i of the access that isn't mapped from byte i of the
+-- input, the lowest first
+unfoldable pub loaded : Memory → ℕ → ℕ → ℕ → ℕ
+loaded m input x zero = 0
+loaded m input x (suc n) = unwrap_or (map.get m x) (input % 2 ^ 8) + 2 ^ 8 * loaded m (input / 2 ^ 8) ((x + 1) % 2 ^ 32) n
+
+-- a loaded number of so many bytes as a word
+abbrev pub extended : Bool → ℕ → ℕ → ℕ
+extended signed size w = if signed then sign_extended (8 * size) w else w
+
+-- The memory after a store of the low n bytes of w from x on. A byte that isn't mapped is dropped.
+unfoldable pub with_bytes : Memory → ℕ → ℕ → ℕ → Memory
+with_bytes m x w zero = m
+with_bytes m x w (suc n) = with_bytes (with_byte m x (w % 2 ^ 8)) ((x + 1) % 2 ^ 32) (w / 2 ^ 8) n

@@ -1,0 +1,80 @@
+-- The state of the machine: its registers, its memory and its end.
+use Rattle.std.specs.Prelude.{ℕ, ◌+◌, ◌-◌, ◌*◌, ◌/◌, ◌%◌, ◌^◌, Bool, ◌==◌, nat_lt, if◌then◌else◌, List, slice_index, slice_set}
+use Rattle.csa_chain.specs.Memory.{Memory}
+use Rattle.tcd_base.specs.declared.parts.Core.{Core}
+use Rattle.tc_isa.specs.declared.shapes.Arg.{Arg}
+use Rattle.tc_isa.specs.declared.shapes.Arg.TheVariants.{Reg, Word}
+use Rattle.tc_machine.specs.declared.events.Cause.{Cause}
+use Rattle.tc_machine.specs.declared.events.End.{End}
+use Rattle.tc_machine.specs.declared.events.End.TheVariants.{Running, Dead}
+
+-- TriCore 1 architecture manual, volume 1, core registers: D0..D15, A0..A15, PSW, PCXI, FCX, LCX, ICR (its fields CCPN
+-- and IE), BIV, BTV, ISP. The memory is what is mapped; `end` tells whether the machine runs; no step changes the core
+pub record Machine : Type 0 where
+  pub pc : ℕ
+  pub d : List ℕ
+  pub a : List ℕ
+  pub psw : ℕ
+  pub pcxi : ℕ
+  pub fcx : ℕ
+  pub lcx : ℕ
+  pub ccpn : ℕ
+  pub ie : Bool
+  pub biv : ℕ
+  pub btv : ℕ
+  pub isp : ℕ
+  pub mem : Memory
+  pub end : End
+  pub core : Core
+
+-- register r: 0 to 15 is D, 16 to 31 is A
+abbrev pub reg : Machine → ℕ → ℕ
+reg m r = if nat_lt r 16 then slice_index m.d r else slice_index m.a (r - 16)
+
+-- the machine with the word w in register r
+abbrev pub with_reg : Machine → ℕ → ℕ → Machine
+with_reg m r w = if nat_lt r 16 then record m { d = slice_set m.d r w } else record m { a = slice_set m.a (r - 16) w }
+
+-- the value of an operand
+abbrev pub arg : Machine → Arg → ℕ
+arg m (Reg r) = reg m r
+arg m (Word w) = w
+
+-- A10 is the stack pointer, A11 the return address
+abbrev pub a10 : Machine → ℕ
+a10 m = slice_index m.a 10
+
+abbrev pub a11 : Machine → ℕ
+a11 m = slice_index m.a 11
+
+-- PSW.IS, bit 9: the interrupt stack is in use
+abbrev pub is_of : ℕ → Bool
+is_of psw = psw / 2 ^ 9 % 2 == 1
+
+-- PSW in a handler: IO (bits 11:10) 2, GW (bit 8) 0, PRS (bits 13:12) 0 and IS 1
+abbrev pub handler_psw : ℕ → ℕ
+handler_psw psw = psw / 2 ^ 14 * 2 ^ 14 + 2 * 2 ^ 10 + 2 ^ 9 + psw % 2 ^ 8
+
+-- PSW with this status in bits 31:24
+abbrev pub with_status : ℕ → ℕ → ℕ
+with_status psw status = status * 2 ^ 24 + psw % 2 ^ 24
+
+-- the address that is so many bytes on
+abbrev pub moved : ℕ → ℕ → ℕ
+moved at by = (at + by) % 2 ^ 32
+
+-- the machine after an instruction of n bytes that goes on with the next one
+abbrev pub advanced : ℕ → Machine → Machine
+advanced n m = record m { pc = moved m.pc n }
+
+-- a machine that dies: nothing else changes
+abbrev pub died : Cause → Machine → Machine
+died cause m = record m { end = Dead cause }
+
+abbrev pub goes_on : End → Machine → (Machine → Machine) → Machine
+goes_on Running m next = next m
+goes_on (Dead cause) m next = m
+
+-- what comes next where the machine runs: a dead machine doesn't change
+abbrev pub then_ : Machine → (Machine → Machine) → Machine
+then_ m next = goes_on m.end m next

@@ -1,0 +1,138 @@
+-- Which states start an image under a plan, which events fit, and when every run is safe.
+use Rattle.std.specs.Prelude.{◌≡◌, ℕ, ◌+◌, ◌-◌, ◌/◌, ◌%◌, ◌^◌, ◌<◌, ◌≤◌, ◌⊎◌, ◌↔◌, true, false, nat_lt, if◌then◌else◌, List, [], ◌∷◌, ◌++◌, length, reverse, slice_index, Option, Some, IfSome, All, Contains}
+use Rattle.std.specs.FinMap as map
+use Rattle.csa_chain.specs.Memory.{Memory, is_mapped}
+use Rattle.csa_chain.specs.Chain.{chain, area_word}
+use Rattle.elf_image.specs.Images.{ImageData, image_byte}
+use Rattle.tcd_plan.specs.declared.plans.Device.{Device}
+use Rattle.tcd_plan.specs.PlanData.{PlanData}
+use Rattle.tc_isa.specs.Insts.{InstData}
+use Rattle.tc_isa.specs.Spelling.{Spells}
+use Rattle.tc_machine.specs.declared.events.Event.{Event}
+use Rattle.tc_machine.specs.declared.events.End.TheVariants.{Running}
+use Rattle.tc_machine.specs.Machine.{Machine, is_of}
+use Rattle.tc_machine.specs.Stepping.{step, run, stored, is_taken, load_at_pc}
+use Rattle.tc_machine.specs.Ranges.{IsWithin, IsInOne, IsInDevice, IsMappedBy, first_link, plan_areas}
+
+-- the bytes of a memory are bytes
+abbrev pub HasBytes : Memory → Type 0
+HasBytes m = (x b : ℕ) → map.get m x ≡ Some b → b < 2 ^ 8
+
+-- 16 words
+pub record AreRegisters (ws : List ℕ) : Type 0 where
+  pub count : length ws ≡ 16
+  pub words : All (λ w. w < 2 ^ 32) ws
+
+-- words, addresses, bytes and truth values in the registers and the memory of a machine
+pub record IsMachine (m : Machine) : Type 0 where
+  pub d : AreRegisters m.d
+  pub a : AreRegisters m.a
+  pub pc : m.pc < 2 ^ 32
+  pub psw : m.psw < 2 ^ 32
+  pub pcxi : m.pcxi < 2 ^ 32
+  pub fcx : m.fcx < 2 ^ 32
+  pub lcx : m.lcx < 2 ^ 32
+  pub ccpn : m.ccpn < 2 ^ 8
+  pub biv : m.biv < 2 ^ 32
+  pub btv : m.btv < 2 ^ 32
+  pub isp : m.isp < 2 ^ 32
+  pub bytes : HasBytes m.mem
+
+-- word 0 of each area is the link of the next one, and 0 in the last
+abbrev pub IsLinkedUp : PlanData → Memory → Type 0
+IsLinkedUp plan mem =
+    (i : ℕ) → i < plan.areas → area_word mem (first_link plan + i) 0 ≡ (if nat_lt (i + 1) plan.areas then first_link plan + (i + 1) else 0)
+
+-- the rom bytes that a segment holds are the image's
+abbrev pub HoldsRom : ImageData → PlanData → Memory → Type 0
+HoldsRom image plan mem = (x b : ℕ) → IsInOne x 1 plan.rom → image_byte image x ≡ Some b → map.get mem x ≡ Some b
+
+-- the mapped memory is the plan's
+abbrev pub IsPlanMemory : PlanData → Memory → Type 0
+IsPlanMemory plan mem = (x : ℕ) → (is_mapped mem x ≡ true) ↔ IsMappedBy plan x
+
+-- A0, A1, A8 and A9 are the plan's globals
+abbrev pub HasGlobals : PlanData → List ℕ → Type 0
+HasGlobals plan a = slice_index a 0 ∷ slice_index a 1 ∷ slice_index a 8 ∷ slice_index a 9 ∷ [] ≡ plan.globals
+
+-- A state that starts the image under the plan. All other bytes and registers are any.
+pub record Starts (image : ImageData) (plan : PlanData) (m : Machine) : Type 0 where
+  pub machine : IsMachine m
+  pub memory : IsPlanMemory plan m.mem
+  pub rom : HoldsRom image plan m.mem
+  pub linked : IsLinkedUp plan m.mem
+  pub fcx : m.fcx ≡ first_link plan
+  pub lcx : m.lcx ≡ first_link plan + (plan.areas - plan.reserve)
+  pub pcxi : m.pcxi ≡ 0
+  pub pc : m.pc ≡ image.entry
+  pub sp : slice_index m.a 10 ≡ plan.sp
+  pub globals : HasGlobals plan m.a
+  pub biv : m.biv ≡ plan.biv
+  pub btv : m.btv ≡ plan.btv
+  pub isp : m.isp ≡ plan.isp
+  pub ie : m.ie ≡ plan.start_ie
+  pub ccpn : m.ccpn ≡ plan.start_ccpn
+  pub is : is_of m.psw ≡ plan.start_is
+  pub io : m.psw / 2 ^ 10 % 4 ≡ 2
+  pub end : m.end ≡ Running
+  pub core : m.core ≡ plan.core
+
+-- the input lies in the bounds of each device that has the four bytes at x
+abbrev pub AnswersAt : ℕ → ℕ → List Device → Type 0
+AnswersAt x input ds = All (λ d. IsWithin x 4 d.range → (d.lo ≤ input) × (input ≤ d.hi)) ds
+
+-- a word that is loaded from a device lies in the device's bounds
+abbrev pub AnswersLoad : PlanData → ℕ → Option (ℕ × ℕ) → Type 0
+AnswersLoad plan input load = IfSome load (λ l. l.1 ≡ 4 → AnswersAt l.0 input plan.devices)
+
+-- An event that fits the plan and the state: its interrupt is none or a stated one, and, where no interrupt is taken, a
+-- word that the instruction loads from a device lies in that device's bounds.
+pub record Fits (plan : PlanData) (m : Machine) (e : Event) : Type 0 where
+  pub irq : (e.irq ≡ 0) ⊎ Contains plan.irqs e.irq
+  pub input : e.input < 2 ^ 32
+  pub status : e.status < 2 ^ 8
+  pub answers : is_taken m e ≡ false → AnswersLoad plan e.input (load_at_pc m)
+
+-- each event fits the state that it meets
+abbrev pub AllFit : PlanData → Machine → List Event → Type 0
+AllFit plan m [] = Unit {0}
+AllFit plan m (e ∷ es) = Fits plan m e × AllFit plan (step m e) es
+
+-- The areas, each once, are the used ones and the free ones; at most so many are in use.
+pub record ChainsAreWhole (plan : PlanData) (most : ℕ) (m : Machine) : Type 0 where
+  pub used : List ℕ
+  pub free : List ℕ
+  pub used_chain : chain m.mem m.pcxi ≡ Some used
+  pub free_chain : chain m.mem m.fcx ≡ Some free
+  pub areas_partition : reverse used ++ free ≡ plan_areas plan
+  pub within_need : length used ≤ most
+
+-- the bytes at p, in one rom range and held by segments of the image, spell this instruction
+pub record SpellsAt (image : ImageData) (plan : PlanData) (p : ℕ) (bytes : List ℕ) (inst : InstData) : Type 0 where
+  pub spelled : Spells bytes inst
+  pub in_rom : IsInOne p (length bytes) plan.rom
+  pub held : (i : ℕ) → i < length bytes → image_byte image (p + i) ≡ Some (slice_index bytes i)
+
+-- the bytes at pc begin with a spelling in one rom range, held by segments, and have the image's values
+pub record IsAtCode (image : ImageData) (plan : PlanData) (m : Machine) : Type 0 where
+  pub bytes : List ℕ
+  pub inst : InstData
+  pub spells : SpellsAt image plan m.pc bytes inst
+  pub there : (i : ℕ) → i < length bytes → map.get m.mem (m.pc + i) ≡ Some (slice_index bytes i)
+
+-- a store doesn't pass 2^32, and lies wholly in one ram range or one device range
+abbrev pub IsStoreInRange : PlanData → ℕ × ℕ → Type 0
+IsStoreInRange plan at = (at.0 + at.1 ≤ 2 ^ 32) × (IsInOne at.0 at.1 plan.ram ⊎ IsInDevice at.0 at.1 plan.devices)
+
+-- a state of a run, and what its next event may do
+pub record IsSafeAt (image : ImageData) (plan : PlanData) (most : ℕ) (m : Machine) (e : Event) : Type 0 where
+  pub running : m.end ≡ Running
+  pub chains : ChainsAreWhole plan most m
+  pub code_in_rom : IsAtCode image plan m
+  pub stores_in_range : IfSome (stored m e) (IsStoreInRange plan)
+
+-- In every run from every start state, under every list of fitting events and every next one: the machine runs, the
+-- areas are the used and the free list, at most so many are in use, the code lies in rom, and stores are in range.
+abbrev pub Safe : ImageData → PlanData → ℕ → Type 0
+Safe image plan most =
+    (m : Machine) (es : List Event) (e : Event) → Starts image plan m → AllFit plan m es → Fits plan (run m es) e → IsSafeAt image plan most (run m es) e

@@ -1,0 +1,57 @@
+-- One event, and runs.
+use Rattle.std.specs.Prelude.{ℕ, Bool, ◌&&◌, nat_lt, if◌then◌else◌, List, [], ◌∷◌, Option, Some, None, Result, Ok, Err}
+use Rattle.tc_isa.specs.declared.shapes.Shape.{Shape}
+use Rattle.tc_isa.specs.declared.shapes.Shape.TheVariants.{Load, Store}
+use Rattle.tc_machine.specs.declared.events.Cause.{Cause}
+use Rattle.tc_machine.specs.declared.events.Event.{Event}
+use Rattle.tc_machine.specs.declared.events.End.{End}
+use Rattle.tc_machine.specs.declared.events.End.TheVariants.{Running, Dead}
+use Rattle.tc_machine.specs.Machine.{Machine, died, then_, with_status}
+use Rattle.tc_machine.specs.Fetching.{fetched}
+use Rattle.tc_machine.specs.Instructions.{does, interrupt, access_address, traps_at}
+
+-- the event's interrupt is taken: interrupts are on, and its priority is above the current one
+abbrev pub is_taken : Machine → Event → Bool
+is_taken m e = m.ie && nat_lt m.ccpn e.irq
+
+-- what the instruction found does
+abbrev pub executed : Machine → Event → Result (Shape × ℕ) Cause → Machine
+executed m e (Ok found) = does m e found.0 found.1
+executed m e (Err cause) = died cause m
+
+-- an event of a machine that runs: an interrupt, else the instruction at pc
+abbrev pub done : Machine → Event → Machine
+done m e = if is_taken m e then interrupt m e.irq else executed m e (fetched m)
+
+-- One event. A dead machine doesn't change; after an event that didn't end the machine the status byte is the event's.
+unfoldable pub step : Machine → Event → Machine
+step m e = then_ m (λ m. then_ (done m e) (λ n. record n { psw = with_status n.psw e.status }))
+
+-- all events, one after another
+abbrev pub run : Machine → List Event → Machine
+run m [] = m
+run m (e ∷ es) = run (step m e) es
+
+-- the address and the size of the load that this instruction is
+abbrev pub load_in : Machine → Result (Shape × ℕ) Cause → Option (ℕ × ℕ)
+load_in m (Ok (Load dst base offset size signed after, n)) = Some (access_address m base offset after, size)
+load_in m _ = None
+
+-- the address and the size of the load that the instruction at pc is
+abbrev pub load_at_pc : Machine → Option (ℕ × ℕ)
+load_at_pc m = load_in m (fetched m)
+
+-- the address and the size that this instruction stores at, unless the access traps
+abbrev pub store_in : Machine → Event → Result (Shape × ℕ) Cause → Option (ℕ × ℕ)
+store_in m e (Ok (Store src base offset size after, n)) =
+    if traps_at e (access_address m base offset after) size then None else Some (access_address m base offset after, size)
+store_in m e _ = None
+
+abbrev pub where_running : End → Option (ℕ × ℕ) → Option (ℕ × ℕ)
+where_running Running found = found
+where_running (Dead cause) found = None
+
+-- The address and the size that the step of this event stores at: none where the machine is dead, an interrupt or the
+-- trap of a misaligned access is taken, or the instruction is no store.
+unfoldable pub stored : Machine → Event → Option (ℕ × ℕ)
+stored m e = where_running m.end (if is_taken m e then None else store_in m e (fetched m))

@@ -1,0 +1,11 @@
+// What holds of machines whatever the program is.
+
+ghost use Rattle.tc_machine.specs.MachineLaws.{StartsWhole, FetchesSpelled, SaveStands, RestoreStands};
+
+/// What holds of the machine's areas at the start, of what it fetches, and of saves and restores.
+pub fn laws_of_machines()
+    ensures start { StartsWhole }
+    ensures fetch { FetchesSpelled }
+    ensures save { SaveStands }
+    ensures restore { RestoreStands }
+{}

@@ -1,0 +1,11 @@
+-- Counts of calls and of faults, and the calls that fail by their number.
+use Rattle.std.specs.Prelude.{◌+◌, ◌-◌, ◌^◌, ℕ, min, List, Bool, ◌==◌}
+use Rattle.std.specs.List.{list_any}
+
+-- one more, up to the last value
+abbrev pub one_more : ℕ → ℕ
+one_more n = min (n + 1) (2 ^ 64 - 1)
+
+-- the call of this number is one of those that fail
+abbrev pub is_listed : List ℕ → ℕ → Bool
+is_listed failing call = list_any (λ n. n == call) failing

@@ -1,0 +1,17 @@
+//! The tool: all that the program does.
+#![tactic(auto)]
+
+mod laws;
+
+pub use laws::accepted_is_safe;
+
+/// How a command ended; the exit status of the program is its number, counted from 0.
+#[derive(Clone, Copy, Debug, PartialEq, Eq)]
+pub enum Status {
+    Done,
+    Refused,
+    BadInput,
+    Fault,
+    NoMemory,
+    BadWords,
+}

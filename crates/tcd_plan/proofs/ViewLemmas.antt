@@ -1,0 +1,27 @@
+-- The values of the code beside the data that they stand for.
+use Rattle.std.proofs.Common.{Bool, ℕ, Option, Some, ◌∙◌, sym, ◌≡◌, List, [], ◌∷◌, map, String, string_bytes, refl, ap}
+use Rattle.std.specs.declared.alloc.Global.{Global}
+use Rattle.std.specs.List.{list_all}
+use Rattle.std.specs.Option.{option_map_or}
+use Rattle.std.proofs.lemmas.List.Folds.{list_all-map}
+use Rattle.serde_json.specs.Data.{Data, Members}
+use Rattle.serde_json.specs.View.{view, items_view, members_view}
+use Rattle.serde_json.specs.declared.value.Value.{Value}
+use Rattle.tcd_plan.specs.Values.{list_of, names_of}
+
+pub list_of_items : (values : List Value) → list_of (items_view values) ≡ map view values
+list_of_items [] = refl
+list_of_items (v ∷ values) = ap (λ ds. view v ∷ ds) (list_of_items values)
+
+pub names_of_members : (entries : List (String Global × Value)) → names_of (members_view entries) ≡ map (λ e. string_bytes e.0) entries
+names_of_members [] = refl
+names_of_members (e ∷ entries) = ap (λ names. string_bytes e.0 ∷ names) (names_of_members entries)
+
+-- a test of each key of the members
+pub each_name : (test : List ℕ → Bool) (entries : List (String Global × Value)) (members : Option Members) → Some (members_view entries) ≡ members
+    → list_all (λ name. test (string_bytes name)) (map (λ e. e.0) entries) ≡ list_all test (option_map_or names_of members [])
+each_name test entries members is =
+    list_all-map (λ name. test (string_bytes name)) (λ e. e.0) entries
+    ∙ sym (list_all-map test (λ e. string_bytes e.0) entries)
+    ∙ ap (list_all test) (sym (names_of_members entries))
+    ∙ ap (λ ms. list_all test (option_map_or names_of ms [])) is

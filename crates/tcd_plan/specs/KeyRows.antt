@@ -1,0 +1,70 @@
+-- Where each key of a plan stands in its document, and what may stand there.
+use Rattle.std.specs.Prelude.{ℕ, List, [], ◌∷◌, codes}
+use Rattle.tcd_plan.specs.declared.rows.Row.{Row}
+use Rattle.tcd_plan.specs.declared.rows.Form.{Form}
+use Rattle.tcd_plan.specs.declared.rows.Form.TheVariants.{Ranges, Objects, Object, At, Len, Hi, Word, Byte, Truth, Irqs, Traps, CoreText}
+use Rattle.tcd_plan.specs.declared.rows.Holder.{Holder}
+use Rattle.tcd_plan.specs.declared.rows.Holder.TheVariants.{Root, Rom, Ram, Devices, Csa, Start, Globals}
+
+-- the number of a printed key, the object or objects in which it stands, its name there, and what stands at it
+pub record KeyRow : Type 0 where
+  pub key : ℕ
+  pub holder : Holder
+  pub name : List ℕ
+  pub form : Form
+
+abbrev pub row_of : Row → KeyRow
+row_of r = record { key = r.key; holder = r.holder; name = r.name.now; form = r.form }
+
+abbrev pub row : ℕ → Holder → List ℕ → Form → KeyRow
+row key holder name form = record { key = key; holder = holder; name = name; form = form }
+
+-- the keys in the order in which they are printed; `root` stands in no object
+unfoldable pub key_rows : List KeyRow
+key_rows =
+    row 1 Root (codes "rom") Ranges ∷
+    row 2 Rom (codes "at") At ∷
+    row 3 Rom (codes "len") Len ∷
+    row 4 Root (codes "ram") Objects ∷
+    row 5 Ram (codes "at") At ∷
+    row 6 Ram (codes "len") Len ∷
+    row 7 Root (codes "devices") Objects ∷
+    row 8 Devices (codes "at") At ∷
+    row 9 Devices (codes "len") Len ∷
+    row 10 Devices (codes "lo") Word ∷
+    row 11 Devices (codes "hi") Hi ∷
+    row 12 Root (codes "csa") Object ∷
+    row 13 Csa (codes "at") Word ∷
+    row 14 Csa (codes "areas") Word ∷
+    row 15 Csa (codes "reserve") Word ∷
+    row 16 Root (codes "sp") Word ∷
+    row 17 Root (codes "isp") Word ∷
+    row 18 Root (codes "biv") Word ∷
+    row 19 Root (codes "btv") Word ∷
+    row 20 Root (codes "irqs") Irqs ∷
+    row 21 Root (codes "traps") Traps ∷
+    row 22 Root (codes "start") Object ∷
+    row 23 Start (codes "ie") Truth ∷
+    row 24 Start (codes "ccpn") Byte ∷
+    row 25 Start (codes "is") Truth ∷
+    row 26 Root (codes "globals") Object ∷
+    row 27 Globals (codes "a0") Word ∷
+    row 28 Globals (codes "a1") Word ∷
+    row 29 Globals (codes "a8") Word ∷
+    row 30 Globals (codes "a9") Word ∷
+    row 31 Root (codes "core") CoreText ∷
+    []
+
+-- the objects of a document, in the order in which their keys are printed
+abbrev pub holders : List Holder
+holders = Root ∷ Rom ∷ Ram ∷ Devices ∷ Csa ∷ Start ∷ Globals ∷ []
+
+-- the number of the key that stands for an object
+abbrev pub holder_key : Holder → ℕ
+holder_key Root = 0
+holder_key Rom = 1
+holder_key Ram = 4
+holder_key Devices = 7
+holder_key Csa = 12
+holder_key Start = 22
+holder_key Globals = 26

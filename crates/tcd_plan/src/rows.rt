@@ -1,0 +1,277 @@
+// Where each key of a plan stands in its document, and what may stand there.
+ghost use Rattle.std.specs.Prelude.{◌≡◌, map};
+ghost use Rattle.tcd_plan.specs.KeyRows.{holder_key, holders, key_rows, row_of};
+
+/// The objects of a document in which keys stand.
+#[derive(Clone, Copy, Debug, PartialEq, Eq)]
+pub enum Holder {
+    Root,
+    Rom,
+    Ram,
+    Devices,
+    Csa,
+    Start,
+    Globals,
+}
+
+/// What may stand at a key.
+#[derive(Clone, Copy, Debug, PartialEq, Eq)]
+pub enum Form {
+    /// An array of objects, one at least.
+    Ranges,
+    /// An array of objects.
+    Objects,
+    Object,
+    /// The address of a range, in bytes: a multiple of 4.
+    At,
+    /// The length of a range, in bytes: a multiple of 4, not 0, that doesn't pass 2^32 from `at` on.
+    Len,
+    /// A number that isn't below `lo`.
+    Hi,
+    Word,
+    /// A number up to 255.
+    Byte,
+    /// 0 or 1.
+    Truth,
+    /// An array of ascending numbers from 1 to 255.
+    Irqs,
+    /// An array of `sys` and `aln`, each once at most.
+    Traps,
+    /// `1.3` or `1.6`; the key may be absent.
+    CoreText,
+}
+
+#[derive(Clone, Copy)]
+pub struct Row {
+    pub key: u8,
+    pub holder: Holder,
+    pub name: &'static str,
+    pub form: Form,
+}
+
+static ROWS: [Row; 31] = [
+    Row {
+        key: 1,
+        holder: Holder::Root,
+        name: "rom",
+        form: Form::Ranges,
+    },
+    Row {
+        key: 2,
+        holder: Holder::Rom,
+        name: "at",
+        form: Form::At,
+    },
+    Row {
+        key: 3,
+        holder: Holder::Rom,
+        name: "len",
+        form: Form::Len,
+    },
+    Row {
+        key: 4,
+        holder: Holder::Root,
+        name: "ram",
+        form: Form::Objects,
+    },
+    Row {
+        key: 5,
+        holder: Holder::Ram,
+        name: "at",
+        form: Form::At,
+    },
+    Row {
+        key: 6,
+        holder: Holder::Ram,
+        name: "len",
+        form: Form::Len,
+    },
+    Row {
+        key: 7,
+        holder: Holder::Root,
+        name: "devices",
+        form: Form::Objects,
+    },
+    Row {
+        key: 8,
+        holder: Holder::Devices,
+        name: "at",
+        form: Form::At,
+    },
+    Row {
+        key: 9,
+        holder: Holder::Devices,
+        name: "len",
+        form: Form::Len,
+    },
+    Row {
+        key: 10,
+        holder: Holder::Devices,
+        name: "lo",
+        form: Form::Word,
+    },
+    Row {
+        key: 11,
+        holder: Holder::Devices,
+        name: "hi",
+        form: Form::Hi,
+    },
+    Row {
+        key: 12,
+        holder: Holder::Root,
+        name: "csa",
+        form: Form::Object,
+    },
+    Row {
+        key: 13,
+        holder: Holder::Csa,
+        name: "at",
+        form: Form::Word,
+    },
+    Row {
+        key: 14,
+        holder: Holder::Csa,
+        name: "areas",
+        form: Form::Word,
+    },
+    Row {
+        key: 15,
+        holder: Holder::Csa,
+        name: "reserve",
+        form: Form::Word,
+    },
+    Row {
+        key: 16,
+        holder: Holder::Root,
+        name: "sp",
+        form: Form::Word,
+    },
+    Row {
+        key: 17,
+        holder: Holder::Root,
+        name: "isp",
+        form: Form::Word,
+    },
+    Row {
+        key: 18,
+        holder: Holder::Root,
+        name: "biv",
+        form: Form::Word,
+    },
+    Row {
+        key: 19,
+        holder: Holder::Root,
+        name: "btv",
+        form: Form::Word,
+    },
+    Row {
+        key: 20,
+        holder: Holder::Root,
+        name: "irqs",
+        form: Form::Irqs,
+    },
+    Row {
+        key: 21,
+        holder: Holder::Root,
+        name: "traps",
+        form: Form::Traps,
+    },
+    Row {
+        key: 22,
+        holder: Holder::Root,
+        name: "start",
+        form: Form::Object,
+    },
+    Row {
+        key: 23,
+        holder: Holder::Start,
+        name: "ie",
+        form: Form::Truth,
+    },
+    Row {
+        key: 24,
+        holder: Holder::Start,
+        name: "ccpn",
+        form: Form::Byte,
+    },
+    Row {
+        key: 25,
+        holder: Holder::Start,
+        name: "is",
+        form: Form::Truth,
+    },
+    Row {
+        key: 26,
+        holder: Holder::Root,
+        name: "globals",
+        form: Form::Object,
+    },
+    Row {
+        key: 27,
+        holder: Holder::Globals,
+        name: "a0",
+        form: Form::Word,
+    },
+    Row {
+        key: 28,
+        holder: Holder::Globals,
+        name: "a1",
+        form: Form::Word,
+    },
+    Row {
+        key: 29,
+        holder: Holder::Globals,
+        name: "a8",
+        form: Form::Word,
+    },
+    Row {
+        key: 30,
+        holder: Holder::Globals,
+        name: "a9",
+        form: Form::Word,
+    },
+    Row {
+        key: 31,
+        holder: Holder::Root,
+        name: "core",
+        form: Form::CoreText,
+    },
+];
+
+static HOLDERS: [Holder; 7] = [
+    Holder::Root,
+    Holder::Rom,
+    Holder::Ram,
+    Holder::Devices,
+    Holder::Csa,
+    Holder::Start,
+    Holder::Globals,
+];
+
+#[tactic(auto, unfolding(crate::specs::KeyRows::key_rows))]
+pub fn rows() -> &'static [Row]
+    ensures { map row_of result.now ≡ key_rows }
+{
+    &ROWS
+}
+
+pub fn holders() -> &'static [Holder]
+    ensures { result.now ≡ holders }
+{
+    &HOLDERS
+}
+
+/// The number of the key that stands for an object.
+pub fn holder_key(holder: Holder) -> u8
+    ensures { result ≡ holder_key holder }
+{
+    match holder {
+        Holder::Root => 0,
+        Holder::Rom => 1,
+        Holder::Ram => 4,
+        Holder::Devices => 7,
+        Holder::Csa => 12,
+        Holder::Start => 22,
+        Holder::Globals => 26,
+    }
+}
