@@ -1,0 +1,5 @@
+pub mod Intervals
+pub mod Laws
+pub mod Operations
+pub mod Refinement
+pub mod Signs
