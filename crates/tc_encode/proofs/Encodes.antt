@@ -1,16 +1,11 @@
 -- The bytes of an instruction's word.
-use Rattle.std.proofs.Common.{◌≡◌, ◌+◌, ◌*◌, ◌/◌, ◌%◌, ◌^◌, ◌<◌, ◌≤◌, ℕ, zero, suc, Bool, true, false, List, [], ◌∷◌, length, take, drop, get_or, refl, sym, ap, subst, ◌∙◌, arith, map, ◌==◌}
-use Rattle.std.specs.Prelude.{All, if◌then◌else◌, slice_get}
+use Rattle.std.proofs.Common.{◌≡◌, ◌/◌, ◌%◌, ◌^◌, ◌<◌, ℕ, zero, suc, Bool, true, false, List, [], ◌∷◌, take, drop, get_or, refl, sym, ap, subst, ◌∙◌, arith}
+use Rattle.std.specs.Prelude.{All, if◌then◌else◌}
 use Rattle.std.specs.Int.{w32, to_le_bytes}
-use Rattle.tc_isa.specs.declared.fields.Fields.{Fields}
-use Rattle.tc_isa.specs.declared.table.Row.{Row}
-use Rattle.tc_isa.specs.Rows.{RowData, row_of, listed}
-use Rattle.tc_isa.specs.Words.{word, bounds, second_bound, IsBelow}
-use Rattle.tc_isa.specs.Codec.{Fits, IsRow, word_of, is_long, spelled, spelling, four_bytes, two_bytes}
+use Rattle.tc_isa.specs.Codec.{word_of, is_long, spelled, four_bytes}
 use Rattle.tc_isa.specs.Insts.{InstData, IsInst, fields_in}
 use Rattle.tc_isa.specs.Spelling.{Spells}
 use Rattle.tc_isa.proofs.TableFacts.{row_at}
-use Rattle.tc_isa.proofs.Made.{at_listed, inst_within, made_fits}
 use Rattle.tc_encode.specs.Decoding.{need_of}
 use Rattle.tc_encode.proofs.Bytes.{word-lt, short-lt}
 

@@ -22,3 +22,6 @@ pub use shapes::{Arg, Cond, Op, Shape, Target};
 pub use shaping::{shape, shape_laws};
 pub use table::{Form, Row, rows};
 pub use writing::writes;
+
+#[cfg(test)]
+mod tests;

@@ -1,8 +1,7 @@
-use Rattle.std.proofs.Common.{◌≡◌, ◌<◌, ◌∙◌, sym, ap, subst, length}
-use Rattle.tc_isa.specs.Rows.{RowData, row_of}
+use Rattle.std.proofs.Common.{◌<◌, ◌∙◌, sym, ap, subst, length}
+use Rattle.tc_isa.specs.Rows.{RowData}
 use Rattle.tc_isa.specs.Words.{IsBelow, bounds, fields}
 use Rattle.tc_isa.specs.Codec.{word_of}
-use Rattle.tc_isa.specs.Insts.{InstData, fields_in}
 use Rattle.tc_isa.proofs.TableFacts.{row_at}
 use Rattle.tc_isa.proofs.Made.{at_listed, inst_within, row_of_inst}
 use Rattle.tc_encode.specs.Decoding.{need_of}
