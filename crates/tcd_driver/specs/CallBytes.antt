@@ -1,53 +1,52 @@
--- The bytes of certificates for programs of calls.
-use Rattle.std.specs.Prelude.{◌≡◌, ◌≤◌, ◌<◌, ◌+◌, ◌*◌, ◌^◌, ℕ, Bool, true, if◌then◌else◌, List, [], ◌∷◌, ◌++◌, length, map, replicate, sum_by, All}
-use Rattle.std.specs.List.{flat_map}
-use Rattle.std.specs.List.Sorted.{IsStrictlyIncreasing}
-use Rattle.tcd_base.specs.Bytes.{bytes_of_half, bytes_of_word}
+-- Certificates for programs of calls, as certificates: each value is any word, interrupts are off, and there are no locals.
+use Rattle.std.specs.Prelude.{◌≡◌, ◌&&◌, ◌==◌, ℕ, Bool, true, false, not, nat_le, List, length, map, Option, Some, None, is_some, Result, Ok}
+use Rattle.std.specs.List.{list_all}
+use Rattle.value_domain.specs.declared.values.Val.{Val}
+use Rattle.value_domain.specs.declared.values.Val.TheVariants.{Set, Span}
+use Rattle.value_domain.specs.declared.states.State.{State}
+use Rattle.depth_cert.specs.declared.keys.Key.{Key}
+use Rattle.depth_cert.specs.declared.points.Exit.{Exit}
+use Rattle.depth_cert.specs.declared.points.Point.{Point}
+use Rattle.depth_cert.specs.Certs.{CertData}
+use Rattle.depth_cert.specs.Nodes as cert
+use Rattle.depth_cert.specs.Grammar.{certificate_of}
 use Rattle.tcd_driver.specs.Calls.{NodeData}
 
--- A point: its address, and one byte 0 for each of ie, ccpn, lower, the number of locals, and the 27 values, which are
--- all any word.
-abbrev pub point_bytes : ℕ → List ℕ
-point_bytes addr = bytes_of_word addr ++ replicate 31 0
+-- any word
+abbrev pub is_any : Val → Bool
+is_any (Set ws) = false
+is_any (Span lo last step) = (lo == 0) && (last == 4294967295) && (step == 0)
 
--- An exit: whether there is one, and then one byte 0 for each of ie, ccpn and the 14 values.
-abbrev pub exit_bytes : Bool → List ℕ
-exit_bytes exit = if exit then 1 ∷ replicate 16 0 else 0 ∷ []
+-- each register any word, interrupts off at every priority, no locals, and nothing said of the lower registers
+abbrev pub is_plain : State → Bool
+is_plain s = list_all is_any s.regs && not s.ie && (s.ccpn == 0) && not s.lower && (length s.locals.items == 0)
 
--- What stands before the points of a node: kind, entry, prio 0, is 0, need, exit, and the number of points.
-abbrev pub head_bytes : ℕ → ℕ → ℕ → Bool → ℕ → List ℕ
-head_bytes kind entry need exit count = kind ∷ (bytes_of_word entry ++ (0 ∷ 0 ∷ (bytes_of_half need ++ (exit_bytes exit ++ bytes_of_word count))))
+-- an exit that says nothing of the lower registers, with interrupts off
+abbrev pub is_plain_exit : Option Exit → Bool
+is_plain_exit None = true
+is_plain_exit (Some e) = list_all is_any e.lower && not e.ie && (e.ccpn == 0)
 
-abbrev pub node_bytes : NodeData → List ℕ
-node_bytes n = head_bytes n.kind n.entry n.need n.exit (length n.points) ++ flat_map point_bytes n.points
+-- the start or a call, outside interrupts and not on the interrupt stack
+abbrev pub is_call_key : Key → Bool
+is_call_key k = nat_le k.kind 1 && (k.prio == 0) && not k.is
 
--- The whole certificate: TCDC, version 1, the number of nodes, and the nodes.
-abbrev pub cert_bytes : List NodeData → List ℕ
-cert_bytes nodes = 84 ∷ 67 ∷ 68 ∷ 67 ∷ 1 ∷ 0 ∷ (bytes_of_half (length nodes) ++ flat_map node_bytes nodes)
+abbrev pub are_plain : List Point → Bool
+are_plain points = list_all (λ p. is_plain p.state) points
 
--- a node: its kind is 0 or 1, only kind 1 has an exit, the need is at most 4,096, and the points, at most 65,536,
--- ascend
-pub record IsCallNode (n : NodeData) : Type 0 where
-  pub kind : n.kind ≤ 1
-  pub entry : n.entry < 2 ^ 32
-  pub need : n.need ≤ 4096
-  pub exit : n.exit ≡ true → n.kind ≡ 1
-  pub few : length n.points ≤ 65536
-  pub words : All (λ p. p < 2 ^ 32) n.points
-  pub rising : IsStrictlyIncreasing n.points
+abbrev pub is_call_node : cert.NodeData → Bool
+is_call_node n = is_call_key n.key && is_plain_exit n.exit && are_plain n.points
 
--- kind and entry, as one number
-abbrev pub key_of : NodeData → ℕ
-key_of n = n.kind * 2 ^ 32 + n.entry
+-- a certificate of version 1 for a program of calls
+abbrev pub is_of_calls : CertData → Bool
+is_of_calls c = (c.version == 1) && list_all is_call_node c.nodes
 
--- a certificate: at most 2,048 nodes and 65,536 points, and the keys ascend
-pub record IsCallCert (nodes : List NodeData) : Type 0 where
-  pub few : length nodes ≤ 2048
-  pub few_points : sum_by (λ n. length n.points) nodes ≤ 65536
-  pub each : All IsCallNode nodes
-  pub rising : IsStrictlyIncreasing (map key_of nodes)
+-- what such a node says
+abbrev pub call_node : cert.NodeData → NodeData
+call_node n = record { kind = (n.key).kind; entry = (n.key).entry; need = n.need; exit = is_some n.exit; points = map (λ p. p.addr) n.points }
 
--- the bytes spell the certificate
+-- the bytes spell a certificate for a program of calls, with these nodes
 pub record SpellsCert (bytes : List ℕ) (nodes : List NodeData) : Type 0 where
-  pub is : IsCallCert nodes
-  pub spelled : bytes ≡ cert_bytes nodes
+  pub cert : CertData
+  pub spelled : certificate_of bytes ≡ Ok cert
+  pub of_calls : is_of_calls cert ≡ true
+  pub are : nodes ≡ map call_node cert.nodes
