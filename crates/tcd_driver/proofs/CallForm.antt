@@ -1,4 +1,3 @@
--- LEAD NOTE: read /tmp/h/driver/LEAD-NOTE-READ-ME.md before you go on here (remove this line).
 -- What spells a certificate of a program of calls.
 use Rattle.std.proofs.Common.{◌≡◌, ℕ, List, Ok, Result, map, sym, ap, ◌∙◌}
 use Rattle.tcd_base.specs.declared.parts.FormErr.{FormErr}

@@ -97,6 +97,7 @@ fn is_bare(plan: &Plan) -> bool
 
 // The certificate that the bytes are.
 fn cert_from(alloc: Global, bytes: &[u8]) -> Result<Vec<CallNode>, Outcome>
+    requires { length bytes.now ≤ 2 ^ 30 }
     ensures found { IfOk result (λ cert. SpellsCert bytes.now cert.items) }
     ensures stops { IfErr result (StopsWith (IsBadCert bytes.now) ⊥) }
 {

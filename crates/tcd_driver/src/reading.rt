@@ -1,4 +1,3 @@
-// LEAD NOTE: read /tmp/h/driver/LEAD-NOTE-READ-ME.md before you write this function (remove this line).
 // Certificates of programs of calls, from their bytes.
 ghost use Rattle.std.specs.Prelude.{◌≡◌, ◌≤◌, ◌^◌, false, true, length, map, List, IfOk, IsErrOf};
 ghost use Rattle.tcd_driver.specs.Calls.{NodeData};
