@@ -1,0 +1,5 @@
+pub mod Accesses
+pub mod AreaLaws
+pub mod Mapped
+pub mod Search
+pub mod Stored
