@@ -1,7 +1,8 @@
 -- Reads and writes of a page that was found, and of one that wasn't, seen as those of the memory.
-use Rattle.std.proofs.Common.{◌≡◌, ◌≢◌, ◌+◌, ◌-◌, ◌*◌, ◌/◌, ◌%◌, ◌^◌, ◌<◌, ◌≤◌, ◌==◌, ℕ, Bool, true, false, cond, List, length, get_or, set, All, Option, Some, None, refl, sym, ap, ◌∙◌, arith, add_assoc, length-set}
+use Rattle.std.proofs.Common.{◌≡◌, ◌≢◌, ◌+◌, ◌-◌, ◌*◌, ◌/◌, ◌%◌, ◌^◌, ◌<◌, ◌≤◌, ◌==◌, ℕ, Bool, true, false, cond, List, length, get_or, set, All, Option, Some, None, sym, ap, ◌∙◌, arith, add_assoc}
 use Rattle.std.proofs.lemmas.Bool.{eqb-true}
 use Rattle.std.specs.Prelude.{is_some, IfSome}
+use Rattle.std.specs.Bool.{OnFalse}
 use Rattle.std.specs.FinMap as finite
 use Rattle.std.proofs.lemmas.List.{set-get_or}
 use Rattle.csa_chain.specs.Memory.{Memory, is_mapped, are_mapped, with_byte, with_words, word_at, words_at}
@@ -11,7 +12,7 @@ use Rattle.tc_mem.specs.Areas.{area_of, with_area}
 use Rattle.tc_mem.specs.Pages.{is_set, byte_of, memory_of, bytes_with, ArePages, number_of}
 use Rattle.tc_mem.specs.declared.page.Page.{Page}
 use Rattle.tc_mem.proofs.Search.{no_page, number_at, number_at_is}
-use Rattle.tc_mem.proofs.Stored.{IsAt, with_bytes, changed, ArePages-changed, page_at, length-bytes_with, get_found, mapped_found, memory_of-changed, memory_of-words}
+use Rattle.tc_mem.proofs.Stored.{IsAt, ArePages-changed, page_at, get_found, mapped_found, memory_of-changed, memory_of-words}
 use Rattle.tc_mem.proofs.AreaLaws.{get_none, area_none, area_mapped, all_set, word_at_is, words_are}
 
 pub is_at : (ps : List Page) (i n : ℕ) → ArePages ps → i < length ps → number_at ps i ≡ n → IsAt ps i n
@@ -47,6 +48,10 @@ pub write_keeps : (ps : List Page) (i n : ℕ) (bytes : List ℕ) → IsAt ps i 
 write_keeps ps i n bytes at size true = ArePages-changed ps i bytes at.pages at.within (size ∙ (page_at ps i at.pages at.within).bytes)
 write_keeps ps i n bytes at size false = ArePages-changed ps i (get_or ps i no_page).bytes at.pages at.within (page_at ps i at.pages at.within).bytes
 
+pub write_kept : (old new : Memory) (a b : ℕ) (t : Bool) → t ≡ is_mapped old a → new ≡ with_byte old a b → OnFalse t (new ≡ old)
+write_kept old new a b true is written = tt
+write_kept old new a b false is written = written ∙ with_byte_gone old a b (sym is)
+
 -- ---- areas
 -- an area lies inside one page
 pub record IsArea (ps : List Page) (i a : ℕ) : Type 0 where
@@ -81,10 +86,10 @@ read_area_none ps a pages none = ap (λ (t : Bool). cond t (Some (words_at (memo
 words_found : (ps : List Page) (i a : ℕ) (ws : List ℕ) → IsArea ps i a → (get_or (get_or ps i no_page).mapped (a % 4096 / 64) 0 == 2 ^ 64 - 1) ≡ true → length ws ≡ 16 → ((k : ℕ) → k < 16 → get_or ws k 0 ≡ word_in (get_or ps i no_page).bytes (a % 4096 + 4 * k)) → ws ≡ words_at (memory_of ps) a 16
 words_found ps i a ws area all size each =
     words_are (memory_of ps) a ws 16 size (λ k h.
-        let f = offset_fits a area.aligned in
-        each k h
-        ∙ sym (word_at_is ps i (a / 4096) (a % 4096 + 4 * k) area.at (omega arith) (λ j l. ap (is_set (get_or ps i no_page).mapped) (add_assoc (a % 4096) (4 * k) j) ∙ full ps i a area all (4 * k + j) (omega arith)))
-        ∙ ap (word_at (memory_of ps)) (sym (add_assoc (a / 4096 * 4096) (a % 4096) (4 * k)) ∙ ap (λ (x : ℕ). x + 4 * k) (place a)))
+    let f = offset_fits a area.aligned in
+    each k h
+    ∙ sym (word_at_is ps i (a / 4096) (a % 4096 + 4 * k) area.at (omega arith) (λ j l. ap (is_set (get_or ps i no_page).mapped) (add_assoc (a % 4096) (4 * k) j) ∙ full ps i a area all (4 * k + j) (omega arith)))
+    ∙ ap (word_at (memory_of ps)) (sym (add_assoc (a / 4096 * 4096) (a % 4096) (4 * k)) ∙ ap (λ (x : ℕ). x + 4 * k) (place a)))
 
 pub read_area_found : (ps : List Page) (i a : ℕ) (r : Option (List ℕ)) → IsArea ps i a → is_some r ≡ (get_or (get_or ps i no_page).mapped (a % 4096 / 64) 0 == 2 ^ 64 - 1) → IfSome r (λ ws. length ws ≡ 16) → IfSome r (λ ws. (k : ℕ) → k < 16 → get_or ws k 0 ≡ word_in (get_or ps i no_page).bytes (a % 4096 + 4 * k)) → r ≡ area_of (memory_of ps) a
 read_area_found ps i a None area is size each = ap (λ (t : Bool). cond t (Some (words_at (memory_of ps) a 16)) None) (is ∙ area_is ps i a area)

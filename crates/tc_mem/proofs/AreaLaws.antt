@@ -1,5 +1,5 @@
 -- The 64 bytes of a save area inside a page.
-use Rattle.std.proofs.Common.{◌≡◌, ◌≢◌, ◌+◌, ◌-◌, ◌*◌, ◌/◌, ◌%◌, ◌^◌, ◌<◌, ◌≤◌, ◌==◌, ℕ, zero, suc, Bool, true, false, cond, List, [], ◌∷◌, length, get_or, set, All, Option, Some, None, refl, sym, ap, ◌∙◌, arith, inl, inr, ◌⊎◌, add-zero, add_assoc}
+use Rattle.std.proofs.Common.{◌≡◌, ◌≢◌, ◌+◌, ◌-◌, ◌*◌, ◌/◌, ◌%◌, ◌^◌, ◌<◌, ◌≤◌, ◌==◌, ℕ, zero, suc, Bool, true, false, cond, List, [], ◌∷◌, length, get_or, All, Option, Some, None, refl, sym, ap, ◌∙◌, arith, inl, inr, add-zero, add_assoc}
 use Rattle.std.specs.Prelude.{is_some, unwrap_or}
 use Rattle.std.specs.Int.{bit_at}
 use Rattle.std.specs.FinMap as finite
@@ -8,16 +8,16 @@ use Rattle.std.proofs.lemmas.Nat.Bits.{bit_at_ones, same_from_bits_below}
 use Rattle.csa_chain.specs.Memory.{Memory, is_mapped, byte_at, are_mapped, word_at, words_at}
 use Rattle.csa_chain.proofs.ChainLaws.{are_mapped_each, are_mapped_from}
 use Rattle.tcd_base.specs.Bytes.{word_at as word_in}
-use Rattle.tc_mem.specs.Pages.{is_set, byte_of, memory_of, ArePages, number_of}
+use Rattle.tc_mem.specs.Pages.{is_set, memory_of, ArePages, number_of}
 use Rattle.tc_mem.specs.declared.page.Page.{Page}
 use Rattle.tc_mem.proofs.Search.{no_page}
-use Rattle.tc_mem.proofs.Mapped.{byte_in, byte_of_same, get-memory_of, byte_in_none}
+use Rattle.tc_mem.proofs.Mapped.{byte_of_same, get-memory_of, byte_in_none}
 use Rattle.tc_mem.proofs.Stored.{IsAt, get_found, mapped_found}
 
 clash : true ≡ false → ⊥
 clash e = cc
 
-not_true : (b : Bool) → (b ≡ true → ⊥) → b ≡ false
+pub not_true : (b : Bool) → (b ≡ true → ⊥) → b ≡ false
 not_true true h = absurd (h refl)
 not_true false h = refl
 
@@ -85,7 +85,7 @@ all_set mapped o aligned full j lt =
 pub set_all : (mapped : List ℕ) (o : ℕ) → o % 64 ≡ 0 → get_or mapped (o / 64) 0 < 2 ^ 64 → ((j : ℕ) → j < 64 → is_set mapped (o + j) ≡ true) → get_or mapped (o / 64) 0 ≡ 2 ^ 64 - 1
 set_all mapped o aligned fits each =
     same_from_bits_below 64 (get_or mapped (o / 64) 0) (2 ^ 64 - 1) fits (omega arith) (λ j lt.
-        eqb-true (bit_at (get_or mapped (o / 64) 0) j) 1 (sym (bit_is mapped o j aligned lt) ∙ each j lt) ∙ sym (bit_at_ones 64 j lt))
+    eqb-true (bit_at (get_or mapped (o / 64) 0) j) 1 (sym (bit_is mapped o j aligned lt) ∙ each j lt) ∙ sym (bit_at_ones 64 j lt))
 
 -- whether the area is mapped: its one word says so
 pub area_mapped : (ps : List Page) (i n o : ℕ) → IsAt ps i n → o % 64 ≡ 0 → o < 4096 → get_or (get_or ps i no_page).mapped (o / 64) 0 < 2 ^ 64 → are_mapped (memory_of ps) (n * 4096 + o) 64 ≡ (get_or (get_or ps i no_page).mapped (o / 64) 0 == 2 ^ 64 - 1)
@@ -96,7 +96,7 @@ area_mapped ps i n o at aligned lt fits =
           ∙ sym (eq-eqb (get_or (get_or ps i no_page).mapped (o / 64) 0) (2 ^ 64 - 1) full)
       | inr less ↦
           not_true (are_mapped (memory_of ps) (n * 4096 + o) 64) (λ all. less (set_all (get_or ps i no_page).mapped o aligned fits (λ j h.
-              sym (mapped_at ps i n (o + j) at (omega arith)) ∙ ap (is_mapped (memory_of ps)) (sym (add_assoc (n * 4096) o j)) ∙ are_mapped_each (memory_of ps) (n * 4096 + o) 64 all j h)))
+          sym (mapped_at ps i n (o + j) at (omega arith)) ∙ ap (is_mapped (memory_of ps)) (sym (add_assoc (n * 4096) o j)) ∙ are_mapped_each (memory_of ps) (n * 4096 + o) 64 all j h)))
           ∙ sym (ne_eqb (get_or (get_or ps i no_page).mapped (o / 64) 0) (2 ^ 64 - 1) less)
     ]
 
@@ -107,6 +107,6 @@ get_none ps a pages none = get-memory_of ps a pages.whole ∙ byte_in_none a ps 
 pub area_none : (ps : List Page) (a : ℕ) → ArePages ps → All (λ p. number_of p ≢ a / 4096) ps → are_mapped (memory_of ps) a 64 ≡ false
 area_none ps a pages none =
     not_true (are_mapped (memory_of ps) a 64) (λ all.
-        let first : is_mapped (memory_of ps) a ≡ true = rw add-zero at (are_mapped_each (memory_of ps) a 64 all 0 (omega arith)) in
-        let gone : is_mapped (memory_of ps) a ≡ false = ap is_some (get_none ps a pages none) in
-        clash (sym first ∙ gone))
+    let first : is_mapped (memory_of ps) a ≡ true = rw add-zero at (are_mapped_each (memory_of ps) a 64 all 0 (omega arith)) in
+    let gone : is_mapped (memory_of ps) a ≡ false = ap is_some (get_none ps a pages none) in
+    clash (sym first ∙ gone))

@@ -1,10 +1,10 @@
 -- The memory that pages are: what it has at an address, and what a byte that is written changes.
-use Rattle.std.proofs.Common.{◌≡◌, ◌≢◌, ◌+◌, ◌-◌, ◌*◌, ◌/◌, ◌%◌, ◌<◌, ◌≤◌, ◌==◌, ◌⊎◌, ℕ, zero, suc, Bool, true, false, cond, List, [], ◌∷◌, ◌++◌, map, length, get_or, set, All, Option, Some, None, inl, inr, refl, sym, ap, ◌∙◌, subst, arith, length-set}
-use Rattle.std.specs.Prelude.{nat_le, slice_get, is_some}
-use Rattle.std.proofs.lemmas.Bool.{cases_lt, cases_eq, cases_order, eqb-true, eq-eqb, ne_eqb, leb-true, leb-false, le-leb, lt-leb}
-use Rattle.std.proofs.lemmas.List.{length-map, get_or-set_same, get_or-set_other, set-set}
+use Rattle.std.proofs.Common.{◌≡◌, ◌≢◌, ◌+◌, ◌-◌, ◌*◌, ◌/◌, ◌%◌, ◌<◌, ◌==◌, ℕ, zero, suc, Bool, true, false, cond, List, [], ◌∷◌, ◌++◌, map, length, get_or, set, All, Option, Some, None, inl, inr, refl, sym, ap, ◌∙◌, arith}
+use Rattle.std.specs.Prelude.{nat_le, slice_get}
+use Rattle.std.proofs.lemmas.Bool.{cases_lt, cases_eq, cases_order, eq-eqb, ne_eqb, le-leb, lt-leb}
+use Rattle.std.proofs.lemmas.List.{length-map}
 use Rattle.std.proofs.Math.Seq.{map-set_same}
-use Rattle.std.proofs.lemmas.List.Elements.{All-head, All-tail, All-get_or, All-set, All-from_get_or}
+use Rattle.std.proofs.lemmas.List.Elements.{All-head, All-tail, All-set, All-from_get_or}
 use Rattle.std.proofs.lemmas.Option.{slice_get-get_or, slice_get_past}
 use Rattle.std.specs.FinMap as finite
 use Rattle.std.specs.FinMap.{find, get-from_entries}
@@ -12,7 +12,7 @@ use Rattle.std.specs.Ordering.{nat_cmp, eq_by_cmp}
 use Rattle.std.specs.Cmp.{nat_cmp_total, unsigned_tied}
 use Rattle.tc_mem.specs.Pages.{is_set, byte_of, entries_from, entries_of, memory_of, IsPage, ArePages, number_of}
 use Rattle.tc_mem.specs.declared.page.Page.{Page}
-use Rattle.tc_mem.proofs.Search.{no_page, number_at, number_at_is, rises}
+use Rattle.tc_mem.proofs.Search.{no_page, number_at_is, rises}
 
 abbrev or_else : Option ℕ → Option ℕ → Option ℕ
 or_else None other = other
@@ -106,16 +106,16 @@ part_is q p page =
           ∙ ap (λ (o : Option ℕ). cond (is_set p.mapped (q % 4096)) o None) there
           ∙ sym (byte_of_same q p same)
       | inr other ↦ elim (cases_lt q (p.number * 4096)) [
-          | inl below ↦
-              let from : nat_le (p.number * 4096) q ≡ false = lt-leb (p.number * 4096) q below in
-              ap (λ (t : Bool). cond t (cond (is_set p.mapped (q % 4096)) (slice_get p.bytes (q - p.number * 4096)) None) None) from
-              ∙ sym (byte_of_other q p other)
-          | inr above ↦
-              let past = slice_get_past p.bytes (q - p.number * 4096) (omega arith) in
-              ap (λ (o : Option ℕ). cond (nat_le (p.number * 4096) q) (cond (is_set p.mapped (q % 4096)) o None) None) past
-              ∙ none_both (nat_le (p.number * 4096) q) (is_set p.mapped (q % 4096))
-              ∙ sym (byte_of_other q p other)
-        ]
+        | inl below ↦
+            let from : nat_le (p.number * 4096) q ≡ false = lt-leb (p.number * 4096) q below in
+            ap (λ (t : Bool). cond t (cond (is_set p.mapped (q % 4096)) (slice_get p.bytes (q - p.number * 4096)) None) None) from
+            ∙ sym (byte_of_other q p other)
+        | inr above ↦
+            let past = slice_get_past p.bytes (q - p.number * 4096) (omega arith) in
+            ap (λ (o : Option ℕ). cond (nat_le (p.number * 4096) q) (cond (is_set p.mapped (q % 4096)) o None) None) past
+            ∙ none_both (nat_le (p.number * 4096) q) (is_set p.mapped (q % 4096))
+            ∙ sym (byte_of_other q p other)
+      ]
     ]
 
 -- ---- pages

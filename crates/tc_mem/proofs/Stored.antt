@@ -1,5 +1,5 @@
 -- What bytes and words that are written into a page change in the memory.
-use Rattle.std.proofs.Common.{◌≡◌, ◌≢◌, ◌+◌, ◌*◌, ◌/◌, ◌%◌, ◌^◌, ◌<◌, ◌≤◌, ◌==◌, ◌⊎◌, ℕ, Bool, true, false, cond, List, [], ◌∷◌, length, get_or, set, take, drop, All, Option, Some, None, inl, inr, refl, sym, ap, ◌∙◌, arith, length-set, add-zero}
+use Rattle.std.proofs.Common.{◌≡◌, ◌≢◌, ◌+◌, ◌*◌, ◌/◌, ◌%◌, ◌^◌, ◌<◌, ◌≤◌, ℕ, Bool, true, false, cond, List, [], ◌∷◌, length, get_or, set, drop, Some, None, inl, inr, refl, sym, ap, ◌∙◌, arith, length-set, add-zero}
 use Rattle.std.specs.Prelude.{is_some}
 use Rattle.std.proofs.lemmas.Bool.{cases_eq}
 use Rattle.std.proofs.lemmas.List.{get_or-set_same, get_or-set_other, set-set, set-get_or, drop_more}
@@ -9,7 +9,7 @@ use Rattle.std.specs.FinMap as finite
 use Rattle.std.specs.FinMap.{same_map, nat_cmp-IsAntisymmetric}
 use Rattle.std.specs.Cmp.{nat_cmp_total}
 use Rattle.csa_chain.specs.Memory.{Memory, is_mapped, with_byte, with_word, with_words}
-use Rattle.csa_chain.proofs.MemoryLaws.{get-with_byte_other, get-with_byte_same, with_byte_gone}
+use Rattle.csa_chain.proofs.MemoryLaws.{get-with_byte_other, get-with_byte_same}
 use Rattle.tc_mem.specs.Pages.{is_set, byte_of, memory_of, bytes_with, IsPage, ArePages, number_of}
 use Rattle.tc_mem.specs.declared.page.Page.{Page}
 use Rattle.tc_mem.proofs.Search.{no_page}
@@ -91,21 +91,21 @@ memory_of-changed a b ps i pages lt is here =
     let size : length bytes ≡ 4096 = length-set p.bytes (a % 4096) b ∙ page.bytes in
     let after : ArePages (changed ps i bytes) = ArePages-changed ps i bytes pages lt size in
     same_map nat_cmp_total nat_cmp-IsAntisymmetric (memory_of (changed ps i bytes)) (with_byte (memory_of ps) a b) (λ q.
-        get-memory_of (changed ps i bytes) q after.whole
-        ∙ elim (cases_eq q a) [
-            | inl same ↦
-                let there : get_or (changed ps i bytes) i no_page ≡ with_bytes p bytes = get_or-set_same ps i (with_bytes p bytes) no_page lt in
-                ap (λ (k : ℕ). byte_in k (changed ps i bytes)) same
-                ∙ byte_in_found a (changed ps i bytes) i after (rw length-set lt) (ap number_of there ∙ is)
-                ∙ ap (byte_of a) there
-                ∙ written_same a b p page is here
-                ∙ sym (get-with_byte_same (memory_of ps) a b (mapped_found a ps i pages lt is ∙ here))
-                ∙ ap (λ (k : ℕ). finite.get (with_byte (memory_of ps) a b) k) (sym same)
-            | inr other ↦
-                byte_in_set q ps i (with_bytes p bytes) lt (written_other a b q p is other)
-                ∙ sym (get-memory_of ps q pages.whole)
-                ∙ sym (get-with_byte_other (memory_of ps) a b q other)
-          ])
+    get-memory_of (changed ps i bytes) q after.whole
+    ∙ elim (cases_eq q a) [
+      | inl same ↦
+          let there : get_or (changed ps i bytes) i no_page ≡ with_bytes p bytes = get_or-set_same ps i (with_bytes p bytes) no_page lt in
+          ap (λ (k : ℕ). byte_in k (changed ps i bytes)) same
+          ∙ byte_in_found a (changed ps i bytes) i after (rw length-set lt) (ap number_of there ∙ is)
+          ∙ ap (byte_of a) there
+          ∙ written_same a b p page is here
+          ∙ sym (get-with_byte_same (memory_of ps) a b (mapped_found a ps i pages lt is ∙ here))
+          ∙ ap (λ (k : ℕ). finite.get (with_byte (memory_of ps) a b) k) (sym same)
+      | inr other ↦
+          byte_in_set q ps i (with_bytes p bytes) lt (written_other a b q p is other)
+          ∙ sym (get-memory_of ps q pages.whole)
+          ∙ sym (get-with_byte_other (memory_of ps) a b q other)
+    ])
 
 -- ---- one write after another into one page
 changed_there : (ps : List Page) (i : ℕ) (bytes : List ℕ) → i < length ps → get_or (changed ps i bytes) i no_page ≡ with_bytes (get_or ps i no_page) bytes

@@ -1,5 +1,6 @@
 // What is done in pages with ascending numbers, seen as a memory.
 ghost use Rattle.std.specs.Prelude.{◌≡◌, ◌%◌};
+ghost use Rattle.std.specs.Bool.{OnFalse};
 ghost use Rattle.std.specs.FinMap as finite;
 ghost use Rattle.csa_chain.specs.Memory.{is_mapped as has_byte, are_mapped, with_byte};
 ghost use Rattle.tc_mem.specs.Areas.{area_of, with_area};
@@ -24,6 +25,7 @@ pub(crate) fn write(pages: &mut [Page], addr: u32, byte: u8) -> bool
     requires { ArePages pages.old }
     ensures mapped { result ≡ has_byte (memory_of pages.old) addr }
     ensures written { memory_of pages.new ≡ with_byte (memory_of pages.old) addr byte }
+    ensures kept { OnFalse result (memory_of pages.new ≡ memory_of pages.old) }
     ensures pages { ArePages pages.new }
 {
     let Some(i) = find_page(pages, addr / 4096) else {

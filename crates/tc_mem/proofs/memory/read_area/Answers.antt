@@ -1,5 +1,4 @@
-use Rattle.std.proofs.Common.{◌∙◌}
-use Rattle.tc_mem.proofs.Accesses.{IsArea, is_at, read_area_none, read_area_found}
+use Rattle.tc_mem.proofs.Accesses.{is_at, read_area_none, read_area_found}
 use Rattle.tc_mem.proofs.memory.read_area.Goals as goal
 
 pub returns-in_default : goal.returns-in_default

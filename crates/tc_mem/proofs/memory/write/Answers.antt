@@ -1,9 +1,8 @@
-use Rattle.std.proofs.Common.{◌%◌, ◌/◌, set, get_or, subst, sym, ap, ◌∙◌, length-set}
+use Rattle.std.proofs.Common.{◌%◌, set, get_or, subst, sym, ap, ◌∙◌, length-set}
 use Rattle.tc_mem.specs.Pages.{memory_of, ArePages}
 use Rattle.tc_mem.specs.declared.page.Page.{Page}
 use Rattle.tc_mem.proofs.Search.{no_page}
-use Rattle.tc_mem.proofs.Stored.{IsAt}
-use Rattle.tc_mem.proofs.Accesses.{is_at, unmapped, write_none, mapped_is, write_found, write_keeps}
+use Rattle.tc_mem.proofs.Accesses.{is_at, unmapped, write_none, mapped_is, write_found, write_kept, write_keeps}
 use Rattle.tc_mem.proofs.memory.write.Goals as goal
 
 pub returns-in_default-clause-mapped : goal.returns-in_default-clause-mapped
@@ -28,3 +27,6 @@ returns-clause-pages c =
     let at = is_at c.args.pages.now c.in-Some.i _ c.requires c.in-Some.ensures.within c.in-Some.ensures.found in
     subst (λ (p : Page). ArePages (set c.args.pages.now c.in-Some.i p)) (sym c.put_byte.ensures.written)
     (write_keeps c.args.pages.now c.in-Some.i _ (set (get_or c.args.pages.now c.in-Some.i no_page).bytes (c.args.addr % 4096) c.args.byte) at (length-set _ _ _) c.put_byte.result)
+
+pub returns-clause-kept : goal.returns-clause-kept
+returns-clause-kept c = write_kept (memory_of c.args.pages.now) _ c.args.addr c.args.byte c.put_byte.result (returns-clause-mapped c) (returns-clause-written c)

@@ -1,8 +1,8 @@
-use Rattle.std.proofs.Common.{◌%◌, ◌/◌, set, get_or, subst, sym, ap, ◌∙◌}
+use Rattle.std.proofs.Common.{◌%◌, set, get_or, subst, sym, ap, ◌∙◌}
 use Rattle.tc_mem.specs.Pages.{memory_of, ArePages, bytes_with}
 use Rattle.tc_mem.specs.declared.page.Page.{Page}
 use Rattle.tc_mem.proofs.Search.{no_page}
-use Rattle.tc_mem.proofs.Stored.{IsAt, length-bytes_with}
+use Rattle.tc_mem.proofs.Stored.{length-bytes_with}
 use Rattle.tc_mem.proofs.AreaLaws.{area_none}
 use Rattle.tc_mem.proofs.Accesses.{IsArea, is_at, write_area_none, area_is, write_area_found, write_keeps}
 use Rattle.tc_mem.proofs.memory.write_area.Goals as goal

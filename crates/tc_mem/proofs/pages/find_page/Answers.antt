@@ -1,7 +1,5 @@
-use Rattle.std.proofs.Common.{◌≡◌, ◌<◌, ◌+◌, ◌-◌, ◌/◌, arith, sym, ◌∙◌}
-use Rattle.std.proofs.lemmas.List.{get_or-map}
-use Rattle.tc_mem.specs.Pages.{number_of}
-use Rattle.tc_mem.proofs.Search.{number_at, narrowed_up, narrowed_down, narrowed_out}
+use Rattle.std.proofs.Common.{arith}
+use Rattle.tc_mem.proofs.Search.{narrowed_up, narrowed_down, narrowed_out}
 use Rattle.tc_mem.proofs.pages.find_page.Goals as goal
 
 pub loop-from-preserved-then-at-number-2 : goal.loop-from-preserved-then-at-number-2

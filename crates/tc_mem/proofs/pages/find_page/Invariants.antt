@@ -1,4 +1,4 @@
-use Rattle.std.proofs.Common.{◌-◌, ◌≤◌, ℕ}
+use Rattle.std.proofs.Common.{◌-◌}
 use Rattle.tc_mem.proofs.Search.{Narrowed}
 use Rattle.tc_mem.proofs.pages.find_page.Given as goal
 
