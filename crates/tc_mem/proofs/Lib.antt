@@ -6,3 +6,4 @@ pub mod Marks
 pub mod Numbers
 pub mod Search
 pub mod Stored
+pub mod Small

@@ -7,7 +7,7 @@ use Rattle.tc_mem.proofs.Search.{no_page, number_at_is}
 use Rattle.tc_mem.proofs.Mapped.{get-memory_of, byte_in_found, byte_in_none}
 use Rattle.tc_mem.proofs.Numbers.{place_of, not_contained}
 use Rattle.tc_mem.proofs.AreaLaws.{not_true}
-use Rattle.tc_mem.specs.Pages.{byte_of, is_in, memory_of, IsPage, ArePages, IsZeros, number_of}
+use Rattle.tc_mem.specs.Pages.{byte_of, is_in, memory_of, IsPage, ArePages, AreSmall, IsMem, IsZeros, number_of}
 use Rattle.tc_mem.specs.declared.page.Page.{Page}
 use Rattle.tcd_base.specs.declared.parts.Range.{Range}
 
@@ -20,6 +20,14 @@ pub record AreMade (ranges : List Range) (numbers : List ℕ) (ps : List Page) :
   pub numbers_are : map number_of ps ≡ numbers
   pub pages : All IsPage ps
   pub zeros : All (IsZeroPage ranges) ps
+  pub small : AreSmall ps
+
+-- pages with ascending numbers are a memory's
+pub made_mem : (ranges : List Range) (numbers : List ℕ) (ps : List Page) → AreMade ranges numbers ps → IsStrictlyIncreasing numbers → IsMem ps
+made_mem ranges numbers ps made rising = record {
+  pages = record { whole = made.pages; rising = subst IsStrictlyIncreasing (sym made.numbers_are) rising };
+  small = made.small;
+}
 
 -- pages with ascending numbers, for all the numbers that the ranges need, are the ranges' zeros
 pub made_zeros : (ranges : List Range) (numbers : List ℕ) (ps : List Page) → AreMade ranges numbers ps → IsStrictlyIncreasing numbers → ((q : ℕ) → IsTrue (is_in ranges q) → Contains numbers (q / 4096)) → IsZeros ranges (memory_of ps)

@@ -14,7 +14,7 @@ use Rattle.tc_mem.specs.Pages.{is_set, byte_of, entries_from, entries_of, memory
 use Rattle.tc_mem.specs.declared.page.Page.{Page}
 use Rattle.tc_mem.proofs.Search.{no_page, number_at_is, rises}
 
-abbrev or_else : Option ℕ → Option ℕ → Option ℕ
+abbrev pub or_else : Option ℕ → Option ℕ → Option ℕ
 or_else None other = other
 or_else (Some x) other = Some x
 

@@ -1,5 +1,5 @@
 -- Pages of 4,096 bytes, and the memory that a list of them is.
-use Rattle.std.specs.Prelude.{◌≡◌, ◌+◌, ◌*◌, ◌/◌, ◌%◌, ◌^◌, ℕ, Bool, ◌==◌, ◌&&◌, nat_le, nat_lt, if◌then◌else◌, List, [], ◌∷◌, ◌++◌, map, length, slice_index, slice_set, Option, Some, None, All}
+use Rattle.std.specs.Prelude.{◌≡◌, ◌<◌, ◌+◌, ◌*◌, ◌/◌, ◌%◌, ◌^◌, ℕ, Bool, ◌==◌, ◌&&◌, nat_le, nat_lt, if◌then◌else◌, List, [], ◌∷◌, ◌++◌, map, length, slice_index, slice_set, Option, Some, None, All}
 use Rattle.std.specs.List.{list_any}
 use Rattle.std.specs.List.Sorted.{IsStrictlyIncreasing}
 use Rattle.std.specs.Int.{bit_at}
@@ -43,6 +43,15 @@ number_of p = p.number
 pub record ArePages (ps : List Page) : Type 0 where
   pub whole : All IsPage ps
   pub rising : IsStrictlyIncreasing (map number_of ps)
+
+-- each byte of the pages is below 256
+abbrev pub AreSmall : List Page → Type 0
+AreSmall ps = All (λ p. (k : ℕ) → slice_index p.bytes k < 256) ps
+
+-- what the pages of a memory keep
+pub record IsMem (ps : List Page) : Type 0 where
+  pub pages : ArePages ps
+  pub small : AreSmall ps
 
 -- whether an address lies in one of the ranges
 abbrev pub is_in : List Range → ℕ → Bool

@@ -1,7 +1,8 @@
 // Pages for ranges, all of their bytes zero.
 ghost use Rattle.std.specs.Prelude.{◌≡◌, ◌<◌, ◌≤◌, ◌+◌, ◌*◌, ◌/◌, ◌^◌, ℕ, All, Contains, IfOk, IsTrue, false, OnOk, OnErr, Some, None, if◌then◌else◌, slice_index, length};
 ghost use Rattle.std.specs.List.Sorted.{IsStrictlyIncreasing};
-ghost use Rattle.tc_mem.specs.Pages.{IsPage, ArePages, is_set, byte_of, is_in, memory_of, IsZeros};
+ghost use Rattle.csa_chain.specs.MemoryChanges.{HasBytes};
+ghost use Rattle.tc_mem.specs.Pages.{IsPage, IsMem, is_set, byte_of, is_in, memory_of, IsZeros};
 
 use crate::bits::set_range;
 use crate::page::Page;
@@ -12,6 +13,7 @@ use tcd_base::{NoMemory, Range};
 fn zeros() -> [u8; 4096]
     ensures size { length result ≡ 4096 }
     ensures zeros { (k : ℕ) → k < 4096 → slice_index result k ≡ 0 }
+    ensures small { (k : ℕ) → slice_index result k < 256 }
 {
     [0; 4096]
 }
@@ -28,6 +30,7 @@ fn no_bits() -> [u64; 64]
 fn page_of(number: u32, ranges: &[Range]) -> Page
     ensures number { result.number ≡ number }
     ensures page { IsPage result }
+    ensures small { (k : ℕ) → slice_index result.bytes k < 256 }
     ensures zeros { (q : ℕ) → q / 4096 ≡ number → byte_of q result ≡ (if is_in ranges.now q then Some 0 else None) }
 {
     let mut mapped = no_bits();
@@ -69,7 +72,8 @@ fn page_numbers(alloc: Global, ranges: &[Range]) -> Result<Vec<u32>, NoMemory>
 
 // The pages of the ranges.
 pub(crate) fn pages_of(alloc: Global, ranges: &[Range]) -> Result<Vec<Page>, NoMemory>
-    ensures pages { IfOk result (λ v. ArePages v.items) }
+    ensures pages { IfOk result (λ v. IsMem v.items) }
+    ensures bytes { IfOk result (λ v. HasBytes (memory_of v.items)) }
     ensures zeros { IfOk result (λ v. IsZeros ranges.now (memory_of v.items)) }
 {
     let numbers = page_numbers(alloc, ranges)?;

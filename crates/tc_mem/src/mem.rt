@@ -3,6 +3,7 @@ ghost use Rattle.std.specs.Prelude.{◌≡◌, ◌≤◌, ◌+◌, ◌%◌, ◌^
 ghost use Rattle.std.specs.Bool.{OnFalse};
 ghost use Rattle.std.specs.FinMap as finite;
 ghost use Rattle.csa_chain.specs.Memory.{is_mapped, are_mapped, with_byte};
+ghost use Rattle.csa_chain.specs.MemoryChanges.{HasBytes};
 ghost use Rattle.tc_mem.specs.Areas.{area_of, with_area};
 ghost use Rattle.tc_mem.specs.Pages.{IsZeros};
 
@@ -24,7 +25,7 @@ impl Model for Mem {
     ghost use Rattle.std.specs.FinMap as finite;
     ghost use Rattle.std.specs.Coded.{coded_ℕ};
     ghost use Rattle.csa_chain.specs.Memory.{Memory};
-    ghost use Rattle.tc_mem.specs.Pages.{memory_of, ArePages};
+    ghost use Rattle.tc_mem.specs.Pages.{memory_of, IsMem};
 
     ghost Value = { Memory };
 
@@ -32,14 +33,15 @@ impl Model for Mem {
 
     ghost view = { λ m. memory_of m.pages.items };
 
-    ghost invariant = { λ m. ArePages m.pages.items };
+    ghost invariant = { λ m. IsMem m.pages.items };
 }
 
 impl Mem {
     /// The memory in which the bytes of the ranges are mapped, all of them zero.
     pub fn of(alloc: Global, ranges: &[Range]) -> Result<Mem, NoMemory>
         requires { All (λ r. r.at + r.len ≤ 2 ^ 32) ranges.now }
-        ensures { IfOk result (λ m. IsZeros ranges.now m) }
+        ensures zeros { IfOk result (λ m. IsZeros ranges.now m) }
+        ensures bytes { IfOk result (λ m. HasBytes m) }
     {
         Ok(Mem {
             pages: pages_of(alloc, ranges)?,
@@ -48,7 +50,8 @@ impl Mem {
 
     /// The byte at an address, or nothing where none is mapped.
     pub fn get(&self, addr: u32) -> Option<u8>
-        ensures { result ≡ finite.get self.now addr }
+        ensures byte { result ≡ finite.get self.now addr }
+        ensures bytes { HasBytes self.now }
     {
         read(&self.pages, addr)
     }
@@ -58,6 +61,7 @@ impl Mem {
         ensures mapped { result ≡ is_mapped self.old addr }
         ensures written { self.new ≡ with_byte self.old addr byte }
         ensures kept { OnFalse result (self.new ≡ self.old) }
+        ensures bytes { HasBytes self.new }
     {
         write(&mut self.pages, addr, byte)
     }
@@ -66,7 +70,8 @@ impl Mem {
     /// bytes isn't mapped.
     pub fn area(&self, addr: u32) -> Option<[u32; 16]>
         requires { addr % 64 ≡ 0 }
-        ensures { result ≡ area_of self.now addr }
+        ensures words { result ≡ area_of self.now addr }
+        ensures bytes { HasBytes self.now }
     {
         read_area(&self.pages, addr)
     }
@@ -78,6 +83,7 @@ impl Mem {
         ensures mapped { result ≡ are_mapped self.old addr 64 }
         ensures written { self.new ≡ with_area self.old addr words.now }
         ensures kept { OnFalse result (self.new ≡ self.old) }
+        ensures bytes { HasBytes self.new }
     {
         write_area(&mut self.pages, addr, words)
     }
