@@ -27,10 +27,10 @@ struct Edit {
 
 /// Each document is the board's with one edit.
 fn edits_give<R: Abort + AllocGlobal>(rt: &R, edits: &[Edit]) -> Result<(), Fail> {
-    for edit in edits {
-        let text = BOARD.replace(rt.alloc(), edit.from, edit.to)?;
-        assert_ne!(rt; text.as_str(), BOARD);
-        assert_eq!(rt; refused(rt, text.as_bytes()), edit.want, "{}", edit.to);
+    for Edit { from, to, want } in edits {
+        assert!(rt; BOARD.contains(*from), "{from}");
+        let text = BOARD.replace(rt.alloc(), *from, *to)?;
+        assert_eq!(rt; refused(rt, text.as_bytes()), *want, "{to}");
     }
     Ok(())
 }
