@@ -1,18 +1,17 @@
--- Each key that a refusal names has a text; and the answers on a document are answers on its bytes.
-use Rattle.std.proofs.Common.{◌≡◌, ℕ, ◌+◌, ◌<◌, Bool, true, false, not, cond, nat_lt, nat_le, List, [], ◌∷◌, length, Option, Some, None, option_map, Result, Ok, Err, IfSome, IsUtf8, refl, sym, subst, lit<}
+-- Each key that a refusal names has a text.
+use Rattle.std.proofs.Common.{◌≡◌, ℕ, ◌+◌, ◌<◌, Bool, true, false, not, cond, nat_lt, nat_le, List, [], ◌∷◌, length, Option, Some, None, option_map, IfSome, refl, subst, lit<}
 use Rattle.std.specs.List.{find, list_all, list_any, position}
 use Rattle.std.specs.Option.{option_map_or, option_or}
 use Rattle.std.proofs.lemmas.Bool.{and_parts, ltb-true}
 use Rattle.serde_json.specs.Data.{Data}
-use Rattle.serde_json.specs.Read.{read}
 use Rattle.tcd_base.specs.declared.parts.Range.{Range}
 use Rattle.tcd_plan.specs.KeyRows.{KeyRow, holder_key, holders, key_rows}
 use Rattle.tcd_plan.specs.Objects.{has_unknown, is_bad, lacks, objects_of}
 use Rattle.tcd_plan.specs.PlanData.{PlanData, all_ranges, ranges_apart}
-use Rattle.tcd_plan.specs.Plans.{Answers, HasText, are_few, bad_value_of, first_key, has_areas, has_vectors, missing_of, numbered, overlap_from, overlap_of, plan_of, refusal_of, told_by, too_many_of, unknown_of, where_it}
+use Rattle.tcd_plan.specs.Plans.{HasText, are_few, bad_value_of, first_key, has_areas, has_vectors, missing_of, numbered, overlap_from, overlap_of, refusal_of, told_by, too_many_of, unknown_of, where_it}
 use Rattle.tcd_plan.specs.Values.{is_object}
 use Rattle.tcd_plan.specs.declared.plans.PlanErr.{PlanErr}
-use Rattle.tcd_plan.specs.declared.plans.PlanErr.TheVariants.{NotJson, Missing, Unknown, BadValue, TooMany, BadCsa, BadVector, Overlap, NoMemory}
+use Rattle.tcd_plan.specs.declared.plans.PlanErr.TheVariants.{NotJson, Missing, Unknown, BadValue, TooMany, BadCsa, BadVector, Overlap}
 use Rattle.tcd_plan.specs.declared.plans.PlanKey.{PlanKey}
 use Rattle.tcd_plan.specs.declared.rows.Holder.{Holder}
 use Rattle.tcd_plan.specs.declared.rows.Holder.TheVariants.{Root, Rom, Ram, Devices, Csa, Start, Globals}
@@ -111,16 +110,3 @@ refusal_of-text d =
 
 pub refused-text : (d : Data) (err : PlanErr) → refusal_of d ≡ Some err → HasText err
 refused-text d err e = let P : Option PlanErr → Type 0 = λ o. IfSome o HasText in subst P e (refusal_of-text d)
-
--- what the document gives is an answer on the bytes
-pub answers : (bytes : List ℕ) (d : Data) (r : Result PlanData PlanErr) → IsUtf8 bytes → read bytes ≡ Some d → r ≡ plan_of d → Answers bytes r
-answers bytes d (Ok p) text is gives = (d, text, is, sym gives)
-answers bytes d (Err NotJson) text is gives = λ e u same. let one : d ≡ e = cc in rw (← one) (sym gives)
-answers bytes d (Err (Missing key)) text is gives = (d, text, is, sym gives)
-answers bytes d (Err (Unknown key)) text is gives = (d, text, is, sym gives)
-answers bytes d (Err (BadValue key)) text is gives = (d, text, is, sym gives)
-answers bytes d (Err (TooMany key)) text is gives = (d, text, is, sym gives)
-answers bytes d (Err BadCsa) text is gives = (d, text, is, sym gives)
-answers bytes d (Err BadVector) text is gives = (d, text, is, sym gives)
-answers bytes d (Err (Overlap i j)) text is gives = (d, text, is, sym gives)
-answers bytes d (Err NoMemory) text is gives = tt

@@ -148,8 +148,8 @@ plan_of d = option_map_or Err (refusal_of d) (Ok (told_by d))
 abbrev pub Gives : List ℕ → Result PlanData PlanErr → Type 0
 Gives bytes r = (d : Data) × IsUtf8 bytes × (read bytes ≡ Some d) × (plan_of d ≡ r)
 
--- an answer on a file's bytes: NotJson where no text of a document is an object, else what the document gives; want of
--- memory is free
+-- an answer on a file's bytes: NotJson where they are no text of a document that is an object, else what the document
+-- gives; want of memory is free
 abbrev pub Answers : List ℕ → Result PlanData PlanErr → Type 0
 Answers bytes (Err NoMemory) = Unit {0}
 Answers bytes (Err NotJson) = (d : Data) → IsUtf8 bytes → read bytes ≡ Some d → plan_of d ≡ Err NotJson

@@ -17,22 +17,256 @@ fn refused<R: Abort + AllocGlobal>(rt: &R, bytes: &[u8]) -> Option<PlanErr> {
     }
 }
 
-/// Each document is the board's, with one text in place of another.
-fn edits_give<R: Abort + AllocGlobal>(
-    rt: &R,
-    edits: &[(&str, &str, Option<PlanErr>)],
-) -> Result<(), Fail> {
-    for (from, to, want) in edits {
+/// A document with one text in place of another, and why it is refused.
+#[derive(Clone, Copy)]
+struct Edit {
+    from: &'static str,
+    to: &'static str,
+    want: Option<PlanErr>,
+}
+
+/// Each document is the board's with one edit.
+fn edits_give<R: Abort + AllocGlobal>(rt: &R, edits: &[Edit]) -> Result<(), Fail> {
+    for Edit { from, to, want } in edits {
+        assert!(rt; BOARD.contains(*from), "{from}");
         let text = BOARD.replace(rt.alloc(), *from, *to)?;
-        assert_ne!(rt; text.as_str(), BOARD);
         assert_eq!(rt; refused(rt, text.as_bytes()), *want, "{to}");
     }
     Ok(())
 }
 
-fn bad(key: u8) -> Option<PlanErr> {
-    Some(PlanErr::BadValue(PlanKey(key)))
-}
+/// In the order of the refusals' numbers, and of the keys.
+static REFUSALS: [Edit; 29] = [
+    Edit {
+        from: r#""sp":"0xD0009000","#,
+        to: "",
+        want: Some(PlanErr::Missing(PlanKey(16))),
+    },
+    Edit {
+        from: r#""sp":"0xD0009000","#,
+        to: r#""spare":0,"#,
+        want: Some(PlanErr::Missing(PlanKey(16))),
+    },
+    Edit {
+        from: r#""sp":"0xD0009000""#,
+        to: r#""sp":0,"spare":0"#,
+        want: Some(PlanErr::Unknown(PlanKey(0))),
+    },
+    Edit {
+        from: r#""0x1000"}],"ram""#,
+        to: r#""0x1000","to":1}],"ram""#,
+        want: Some(PlanErr::Unknown(PlanKey(1))),
+    },
+    Edit {
+        from: r#"{"at":"0x80000000","len":"0x1000"}"#,
+        to: "{}",
+        want: Some(PlanErr::Missing(PlanKey(2))),
+    },
+    Edit {
+        from: r#"{"at":"0x80000000","len":"0x1000"}"#,
+        to: "{},1",
+        want: Some(PlanErr::BadValue(PlanKey(1))),
+    },
+    Edit {
+        from: r#"{"at":"0x80000000","len":"0x1000"}"#,
+        to: "",
+        want: Some(PlanErr::BadValue(PlanKey(1))),
+    },
+    Edit {
+        from: r#""at":"0x80000000""#,
+        to: r#""at":"0x80000002""#,
+        want: Some(PlanErr::BadValue(PlanKey(2))),
+    },
+    Edit {
+        from: r#""0x80000000","len":"0x1000""#,
+        to: r#""0xFFFFFFF8","len":8"#,
+        want: None,
+    },
+    Edit {
+        from: r#""0x80000000","len":"0x1000""#,
+        to: r#""0xFFFFFFF8","len":12"#,
+        want: Some(PlanErr::BadValue(PlanKey(3))),
+    },
+    Edit {
+        from: r#""0x80000000","len":"0x1000""#,
+        to: r#""0x80000000","len":0"#,
+        want: Some(PlanErr::BadValue(PlanKey(3))),
+    },
+    Edit {
+        from: r#""devices":[]"#,
+        to: r#""devices":[{"at":0,"len":4,"lo":5,"hi":4}]"#,
+        want: Some(PlanErr::BadValue(PlanKey(11))),
+    },
+    Edit {
+        from: r#""devices":[]"#,
+        to: r#""devices":[{"at":0,"len":4,"lo":5,"hi":5}]"#,
+        want: None,
+    },
+    Edit {
+        from: r#""irqs":[]"#,
+        to: r#""irqs":[10,10]"#,
+        want: Some(PlanErr::BadValue(PlanKey(20))),
+    },
+    Edit {
+        from: r#""irqs":[]"#,
+        to: r#""irqs":[0]"#,
+        want: Some(PlanErr::BadValue(PlanKey(20))),
+    },
+    Edit {
+        from: r#""irqs":[]"#,
+        to: r#""irqs":[1,256]"#,
+        want: Some(PlanErr::BadValue(PlanKey(20))),
+    },
+    Edit {
+        from: r#""traps":[]"#,
+        to: r#""traps":["aln","sys"]"#,
+        want: None,
+    },
+    Edit {
+        from: r#""traps":[]"#,
+        to: r#""traps":["sys","aln","sys"]"#,
+        want: Some(PlanErr::BadValue(PlanKey(21))),
+    },
+    Edit {
+        from: r#""ie":0"#,
+        to: r#""ie":2"#,
+        want: Some(PlanErr::BadValue(PlanKey(23))),
+    },
+    Edit {
+        from: r#""ccpn":0"#,
+        to: r#""ccpn":256"#,
+        want: Some(PlanErr::BadValue(PlanKey(24))),
+    },
+    Edit {
+        from: r#""traps":[]"#,
+        to: r#""traps":[],"core":"1.3""#,
+        want: None,
+    },
+    Edit {
+        from: r#""traps":[]"#,
+        to: r#""traps":[],"core":"1.5""#,
+        want: Some(PlanErr::BadValue(PlanKey(31))),
+    },
+    Edit {
+        from: r#""0x80000000","len":"0x1000""#,
+        to: r#""0x80000000","len":"0x400004""#,
+        want: Some(PlanErr::TooMany(PlanKey(1))),
+    },
+    Edit {
+        from: r#""reserve":2"#,
+        to: r#""reserve":0"#,
+        want: Some(PlanErr::BadCsa),
+    },
+    Edit {
+        from: r#""reserve":2"#,
+        to: r#""reserve":5"#,
+        want: Some(PlanErr::BadCsa),
+    },
+    Edit {
+        from: r#""at":"0xD0000000""#,
+        to: r#""at":"0xD0400000""#,
+        want: Some(PlanErr::BadCsa),
+    },
+    Edit {
+        from: r#""at":"0xD0000000""#,
+        to: r#""at":0"#,
+        want: Some(PlanErr::BadCsa),
+    },
+    Edit {
+        from: r#""0x80000400""#,
+        to: r#""0x80000401""#,
+        want: Some(PlanErr::BadVector),
+    },
+    Edit {
+        from: r#""at":"0xD0000000""#,
+        to: r#""at":"0xD0008000""#,
+        want: Some(PlanErr::Overlap(1, 2)),
+    },
+];
+
+/// Numbers, repeated keys and ends of the text.
+static CORNERS: [Edit; 16] = [
+    Edit {
+        from: r#""sp":"0xD0009000""#,
+        to: r#""sp":"x","sp":4"#,
+        want: None,
+    },
+    Edit {
+        from: r#""sp":"0xD0009000""#,
+        to: r#""sp":4,"sp":"x""#,
+        want: Some(PlanErr::BadValue(PlanKey(16))),
+    },
+    Edit {
+        from: r#""0xD0009000""#,
+        to: "4294967295",
+        want: None,
+    },
+    Edit {
+        from: r#""0xD0009000""#,
+        to: "4294967296",
+        want: Some(PlanErr::BadValue(PlanKey(16))),
+    },
+    Edit {
+        from: r#""0xD0009000""#,
+        to: "18446744073709551616",
+        want: Some(PlanErr::BadValue(PlanKey(16))),
+    },
+    Edit {
+        from: r#""0xD0009000""#,
+        to: "1.0",
+        want: Some(PlanErr::BadValue(PlanKey(16))),
+    },
+    Edit {
+        from: r#""0xD0009000""#,
+        to: "1e3",
+        want: Some(PlanErr::BadValue(PlanKey(16))),
+    },
+    Edit {
+        from: r#""0xD0009000""#,
+        to: "-0",
+        want: Some(PlanErr::BadValue(PlanKey(16))),
+    },
+    Edit {
+        from: r#""0xD0009000""#,
+        to: "-1",
+        want: Some(PlanErr::BadValue(PlanKey(16))),
+    },
+    Edit {
+        from: r#""0xD0009000""#,
+        to: r#""0XD0009000""#,
+        want: Some(PlanErr::BadValue(PlanKey(16))),
+    },
+    Edit {
+        from: r#""0xD0009000""#,
+        to: r#""0x""#,
+        want: Some(PlanErr::BadValue(PlanKey(16))),
+    },
+    Edit {
+        from: r#""0xD0009000""#,
+        to: r#""0x0D0009000""#,
+        want: Some(PlanErr::BadValue(PlanKey(16))),
+    },
+    Edit {
+        from: r#""0xD0009000""#,
+        to: r#""D0009000""#,
+        want: Some(PlanErr::BadValue(PlanKey(16))),
+    },
+    Edit {
+        from: r#""a9":0}}"#,
+        to: "\"a9\":0}} \n",
+        want: None,
+    },
+    Edit {
+        from: r#""a9":0}}"#,
+        to: r#""a9":0}}x"#,
+        want: Some(PlanErr::NotJson),
+    },
+    Edit {
+        from: r#""a9":0}}"#,
+        to: r#""a9":0}"#,
+        want: Some(PlanErr::NotJson),
+    },
+];
 
 #[test]
 fn reads_a_board(rt: HostRuntime) -> Result<(), Fail> {
@@ -77,115 +311,23 @@ fn reads_a_board(rt: HostRuntime) -> Result<(), Fail> {
 
 #[test]
 fn refuses_in_order(rt: HostRuntime) -> Result<(), Fail> {
-    let missing = |key| Some(PlanErr::Missing(PlanKey(key)));
-    edits_give(
-        &rt,
-        &[
-            (r#""sp":"0xD0009000","#, "", missing(16)),
-            (r#""sp":"0xD0009000","#, r#""spare":0,"#, missing(16)),
-            (
-                r#""sp":"0xD0009000""#,
-                r#""sp":0,"spare":0"#,
-                Some(PlanErr::Unknown(PlanKey(0))),
-            ),
-            (
-                r#""0x1000"}],"ram""#,
-                r#""0x1000","to":1}],"ram""#,
-                Some(PlanErr::Unknown(PlanKey(1))),
-            ),
-            (r#"{"at":"0x80000000","len":"0x1000"}"#, r#"{}"#, missing(2)),
-            (r#"{"at":"0x80000000","len":"0x1000"}"#, r#"{},1"#, bad(1)),
-            (r#"{"at":"0x80000000","len":"0x1000"}"#, "", bad(1)),
-            (r#""at":"0x80000000""#, r#""at":"0x80000002""#, bad(2)),
-            (
-                r#""0x80000000","len":"0x1000""#,
-                r#""0xFFFFFFF8","len":8"#,
-                None,
-            ),
-            (
-                r#""0x80000000","len":"0x1000""#,
-                r#""0xFFFFFFF8","len":12"#,
-                bad(3),
-            ),
-            (
-                r#""0x80000000","len":"0x1000""#,
-                r#""0x80000000","len":0"#,
-                bad(3),
-            ),
-            (
-                r#""devices":[]"#,
-                r#""devices":[{"at":0,"len":4,"lo":5,"hi":4}]"#,
-                bad(11),
-            ),
-            (
-                r#""devices":[]"#,
-                r#""devices":[{"at":0,"len":4,"lo":5,"hi":5}]"#,
-                None,
-            ),
-            (r#""irqs":[]"#, r#""irqs":[10,10]"#, bad(20)),
-            (r#""irqs":[]"#, r#""irqs":[0]"#, bad(20)),
-            (r#""irqs":[]"#, r#""irqs":[1,256]"#, bad(20)),
-            (r#""traps":[]"#, r#""traps":["aln","sys"]"#, None),
-            (r#""traps":[]"#, r#""traps":["sys","aln","sys"]"#, bad(21)),
-            (r#""ie":0"#, r#""ie":2"#, bad(23)),
-            (r#""ccpn":0"#, r#""ccpn":256"#, bad(24)),
-            (r#""traps":[]"#, r#""traps":[],"core":"1.3""#, None),
-            (r#""traps":[]"#, r#""traps":[],"core":"1.5""#, bad(31)),
-            (
-                r#""0x80000000","len":"0x1000""#,
-                r#""0x80000000","len":"0x400004""#,
-                Some(PlanErr::TooMany(PlanKey(1))),
-            ),
-            (r#""reserve":2"#, r#""reserve":0"#, Some(PlanErr::BadCsa)),
-            (r#""reserve":2"#, r#""reserve":5"#, Some(PlanErr::BadCsa)),
-            (
-                r#""at":"0xD0000000""#,
-                r#""at":"0xD0400000""#,
-                Some(PlanErr::BadCsa),
-            ),
-            (r#""at":"0xD0000000""#, r#""at":0"#, Some(PlanErr::BadCsa)),
-            (
-                r#""0x80000400""#,
-                r#""0x80000401""#,
-                Some(PlanErr::BadVector),
-            ),
-            (
-                r#""at":"0xD0000000""#,
-                r#""at":"0xD0008000""#,
-                Some(PlanErr::Overlap(1, 2)),
-            ),
-        ],
-    )
+    edits_give(&rt, &REFUSALS)
 }
 
 #[test]
 fn reads_json(rt: HostRuntime) -> Result<(), Fail> {
-    edits_give(
-        &rt,
-        &[
-            (r#""sp":"0xD0009000""#, r#""sp":"x","sp":4"#, None),
-            (r#""sp":"0xD0009000""#, r#""sp":4,"sp":"x""#, bad(16)),
-            (r#""0xD0009000""#, "4294967295", None),
-            (r#""0xD0009000""#, "4294967296", bad(16)),
-            (r#""0xD0009000""#, "18446744073709551616", bad(16)),
-            (r#""0xD0009000""#, "1.0", bad(16)),
-            (r#""0xD0009000""#, "1e3", bad(16)),
-            (r#""0xD0009000""#, "-0", bad(16)),
-            (r#""0xD0009000""#, "-1", bad(16)),
-            (r#""0xD0009000""#, r#""0XD0009000""#, bad(16)),
-            (r#""0xD0009000""#, r#""0x""#, bad(16)),
-            (r#""0xD0009000""#, r#""0x0D0009000""#, bad(16)),
-            (r#""0xD0009000""#, r#""D0009000""#, bad(16)),
-            (r#""a9":0}}"#, "\"a9\":0}} \n", None),
-            (r#""a9":0}}"#, r#""a9":0}}x"#, Some(PlanErr::NotJson)),
-            (r#""a9":0}}"#, r#""a9":0}"#, Some(PlanErr::NotJson)),
-        ],
-    )?;
-    for (levels, want) in [(126, bad(16)), (127, Some(PlanErr::NotJson))] {
+    edits_give(&rt, &CORNERS)
+}
+
+#[test]
+fn reads_no_other_documents(rt: HostRuntime) -> Result<(), Fail> {
+    let bad_value = PlanErr::BadValue(PlanKey(16));
+    for (levels, want) in [(126, bad_value), (127, PlanErr::NotJson)] {
         let opened = "[".repeat(rt.alloc(), levels)?;
         let closed = "]".repeat(rt.alloc(), levels)?;
         let nested = format!(in rt.alloc(); "{opened}{closed}")?;
-        edits_give(&rt, &[(r#""0xD0009000""#, nested.as_str(), want)])?;
+        let text = BOARD.replace(rt.alloc(), r#""0xD0009000""#, nested.as_str())?;
+        assert_eq!(&rt; refused(&rt, text.as_bytes()), Some(want));
     }
     assert_eq!(&rt; refused(&rt, b""), Some(PlanErr::NotJson));
     assert_eq!(&rt; refused(&rt, b"[]"), Some(PlanErr::NotJson));
