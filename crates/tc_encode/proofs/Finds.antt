@@ -1,19 +1,20 @@
 -- Instructions that have a word, and where they stand.
-use Rattle.std.proofs.Common.{◌≡◌, ◌+◌, ◌%◌, ◌<◌, ◌≤◌, ℕ, zero, suc, true, List, [], ◌∷◌, length, get_or, sym, ap, subst, ◌∙◌, arith, Option, Some, None, zero-add}
+use Rattle.std.proofs.Common.{◌≡◌, ◌+◌, ◌%◌, ◌<◌, ◌≤◌, ℕ, zero, suc, true, List, [], ◌∷◌, length, get_or, sym, ap, subst, ◌∙◌, arith, Option, Some, None, zero-add, ◌==◌, ◌^◌, false, refl, inl, inr}
 use Rattle.std.specs.Prelude.{slice_get, nat_le, IfNone}
 use Rattle.std.specs.List.{list_all}
-use Rattle.std.proofs.lemmas.Bool.{and_parts, ltb-true, leb-true, eqb-true}
+use Rattle.std.proofs.lemmas.Bool.{and_parts, ltb-true, leb-true, eqb-true, eqb-false, cases_eq}
 use Rattle.std.proofs.lemmas.Option.{slice_get-get_or}
 use Rattle.std.proofs.lemmas.List.Sums.{AllPass-from_list_all}
 use Rattle.tc_isa.specs.declared.fields.Fields.{Fields}
 use Rattle.tc_isa.specs.declared.table.Form.{Form}
 use Rattle.tc_isa.specs.Rows.{RowData, listed}
-use Rattle.tc_isa.specs.Words.{fields_of, second_of, form_index}
-use Rattle.tc_isa.specs.Codec.{Fits, word_of}
+use Rattle.tc_isa.specs.Words.{IsBelow, bounds, fields_of, second_of, form_index, is_long_form}
+use Rattle.tc_isa.specs.Codec.{Fits, word_of, uses_of, rest_is_zero, is_apart}
 use Rattle.tc_isa.specs.Insts.{InstData, IsInst, fields_in}
 use Rattle.tc_isa.proofs.TableFacts.{row_at}
 use Rattle.tc_encode.specs.Decoding.{instruction}
-use Rattle.tc_encode.specs.Finding.{Makes, is_between, has_form, hold_all}
+use Rattle.tc_encode.specs.Finding.{Makes, is_between, has_form, hold_all, is_at, is_place, hold_places, has_no_gap}
+use Rattle.tc_encode.proofs.Gaps.{fields_below, word_back, full_word}
 use Rattle.tc_encode.proofs.Inverse.{first-word, second-word}
 use Rattle.tc_encode.proofs.Only.{only}
 use Rattle.tc_encode.proofs.Apart.{same_form}
@@ -102,3 +103,80 @@ bounded xs n k all within = leb-true _ _ (AllPass-from_list_all (λ x. nat_le x 
 pub none_map : {X : Type 0} {P Q : Type 0} (r : Option X) → IfNone r P → (P → Q) → IfNone r Q
 none_map None p f = f p
 none_map (Some x) p f = tt
+
+-- what an instruction's word says of the row at its place, whose fields stand in it
+pub record Stands (w : ℕ) (r : RowData) (f : Fields) : Type 0 where
+  pub first : r.op1 ≡ w % 256
+  pub second : r.op2 ≡ second_of r.form w
+  pub full : has_no_gap r.form w ≡ true
+  pub fits : Fits r f
+
+pub stands : (place w : ℕ) (r : RowData) → slice_get listed place ≡ Some r → (i : InstData) → Makes w i → i.row ≡ place → Stands w r (fields_of r.form w)
+stands place w r at i m same =
+    let row = row_is place r i m.inst at same in
+    let own = row_at place r at in
+    let fits : Fits r (fields_in i) = subst (λ (s : RowData). Fits s (fields_in i)) row m.inst.fits in
+    let word : word_of r (fields_in i) ≡ w = subst (λ (s : RowData). word_of s (fields_in i) ≡ w) row m.is in
+    record {
+      first = sym (first-word r.form r.op1 r.op2 (fields_in i) own.first own.second fits.below) ∙ ap (λ x. x % 256) word;
+      second = sym (second-word r.form r.op1 r.op2 (fields_in i) own.first own.second fits.below) ∙ ap (second_of r.form) word;
+      full = ap (has_no_gap r.form) (sym word) ∙ full_word r.form r.op1 r.op2 (fields_in i) own.first own.second fits.below;
+      fits = subst (λ (g : Fields). Fits r g) (sym (only r (fields_in i) w own fits word)) fits;
+    }
+
+even_of : (op1 w : ℕ) → (op1 % 2 == 1) ≡ false → op1 ≡ w % 256 → w % 2 ≡ 0
+even_of op1 w e is = let odd = eqb-false (op1 % 2) 1 e in elim (cases_eq (op1 % 2) 1) [ inl x ↦ absurd (odd x) | inr y ↦ omega (arith, y) ]
+
+-- a word with the row's codes and no gap is the spelling of the fields that stand in it, where they fit
+pub makes_of : (place w : ℕ) (r : RowData) (f : Fields) → slice_get listed place ≡ Some r → f ≡ fields_of r.form w → w < 2 ^ 32 → (w % 2 ≡ 0 → w < 2 ^ 16) → r.op1 ≡ w % 256 → r.op2 ≡ second_of r.form w → has_no_gap r.form w ≡ true → rest_is_zero (uses_of r) f ≡ true → is_apart r f ≡ true → Makes w (instruction place f)
+makes_of place w r f at is word short first second full rest apart =
+    let row = row_at place r at in
+    let small : is_long_form r.form ≡ false → w < 2 ^ 16 = λ e. short (even_of r.op1 w (row.size ∙ e) first) in
+    record {
+      inst = record { row = r; at = at; fits = record { below = subst (λ (g : Fields). IsBelow g (bounds r.form)) (sym is) (fields_below r.form w word); zero = rest; apart = apart } };
+      is = ap (word_of r) is ∙ word_back r.form r.op1 r.op2 w word small first second full;
+    }
+
+-- rows stand past the base of their first byte
+held_at : (bases places : List ℕ) (place : ℕ) (rows : List RowData) (q : ℕ) (r : RowData) → hold_places bases places place rows ≡ true → slice_get rows q ≡ Some r → is_at places (place + q) r (slice_get bases r.op1) ≡ true
+held_at bases places place [] q r all at = cc
+held_at bases places place (x ∷ xs) zero r all at =
+    subst (λ (s : RowData). is_at places (place + 0) s (slice_get bases s.op1) ≡ true) (some_same x r at)
+    (let z : place ≡ place + 0 = omega arith in subst (λ p. is_at places p x (slice_get bases x.op1) ≡ true) z (and_parts _ _ all).0)
+held_at bases places place (x ∷ xs) (suc q) r all at =
+    let z : suc place + q ≡ place + suc q = omega arith in
+    subst (λ p. is_at places p r (slice_get bases r.op1) ≡ true) z (held_at bases places (suc place) xs q r (and_parts _ _ all).1 at)
+
+at_from : (places : List ℕ) (place : ℕ) (r : RowData) (o : Option ℕ) (base : ℕ) → is_at places place r o ≡ true → o ≡ Some base → slice_get places (base + r.op2) ≡ Some place
+at_from places place r None base e is = cc
+at_from places place r (Some b) base e is = place_from (slice_get places (base + r.op2)) (subst (λ z. is_at places place r (Some z) ≡ true) (some_same b base is) e)
+  where
+    place_from : (p : Option ℕ) → is_place place p ≡ true → p ≡ Some place
+    place_from None e = cc
+    place_from (Some p) e = ap (λ z. Some z) (eqb-true p place e)
+
+pub stands_past : (bases places : List ℕ) (w : ℕ) (i : InstData) (m : Makes w i) → hold_places bases places 0 listed ≡ true → length bases ≡ 256 → slice_get places (get_or bases (w % 256) 0 + m.inst.row.op2) ≡ Some i.row
+stands_past bases places w i m all count =
+    let r = m.inst.row in
+    let first = first_is w i m in
+    at_from places i.row r (slice_get bases r.op1) (get_or bases (w % 256) 0)
+    (subst (λ p. is_at places p r (slice_get bases r.op1) ≡ true) (zero-add i.row) (held_at bases places 0 listed i.row r all m.inst.at))
+    (ap (slice_get bases) (sym first) ∙ slice_get-get_or bases (w % 256) 0 (omega (arith, count)))
+
+pub row_between : (starts ends : List ℕ) (first place : ℕ) (r : RowData) → hold_all starts ends 0 listed ≡ true → length starts ≡ 256 → length ends ≡ 256 → first < 256 → slice_get listed place ≡ Some r → r.op1 ≡ first → Between place r (get_or starts first 0) (get_or ends first 0)
+row_between starts ends first place r all ls le small at is =
+    between_from place r (slice_get starts r.op1) (slice_get ends r.op1) (get_or starts first 0) (get_or ends first 0)
+    (subst (λ p. is_between p r (slice_get starts r.op1) (slice_get ends r.op1) ≡ true) (zero-add place) (held starts ends 0 listed place r all at))
+    (ap (slice_get starts) is ∙ slice_get-get_or starts first 0 (omega (arith, ls)))
+    (ap (slice_get ends) is ∙ slice_get-get_or ends first 0 (omega (arith, le)))
+
+pub place_only : (bases places : List ℕ) (w a b : ℕ) (form : Form) (i : InstData) (m : Makes w i) → hold_places bases places 0 listed ≡ true → length bases ≡ 256 → a ≡ get_or bases (w % 256) 0 → b ≡ second_of form w → form_index m.inst.row.form ≡ form_index form → slice_get places (a + b) ≡ Some i.row
+place_only bases places w a b form i m all count is_a is_b index =
+    let second : b ≡ m.inst.row.op2 = is_b ∙ second_is i.row w m.inst.row form i m.inst.at m refl index in
+    ap (λ x. slice_get places (x + b)) is_a ∙ ap (λ y. slice_get places (get_or bases (w % 256) 0 + y)) second ∙ stands_past bases places w i m all count
+
+pub none_some : (x : ℕ) → None ≡ Some x → ⊥
+none_some x e = cc
+
+pub same_some : (x y : ℕ) → Some x ≡ Some y → x ≡ y
+same_some x y e = cc

@@ -12,3 +12,4 @@ pub mod Finds
 pub mod Goes
 pub mod Wholes
 pub mod Encodes
+pub mod Gaps

@@ -1,5 +1,7 @@
 -- How an instruction is found: by its word, and by the front of a word.
 use Rattle.std.specs.Prelude.{◌≡◌, ◌+◌, ◌*◌, ◌/◌, ◌%◌, ◌^◌, ◌<◌, ℕ, zero, suc, Bool, true, false, ◌==◌, ◌&&◌, nat_lt, nat_le, List, [], ◌∷◌, Option, Some, None, slice_get}
+use Rattle.tc_isa.specs.declared.table.Form.{Form}
+use Rattle.tc_isa.specs.declared.table.Form.TheVariants.{Rlc, Rr, Rc, Bol, Bo, Brr, Brc, B, Abs, Sys, Sr, Sc, Sb, Sbr, Src, Srr, Slr, Ssr}
 use Rattle.tc_isa.specs.Rows.{RowData, listed}
 use Rattle.tc_isa.specs.Words.{form_index}
 use Rattle.tc_isa.specs.Codec.{word_of}
@@ -52,3 +54,38 @@ is_between place r (Some start) (Some end) = nat_le start place && nat_lt place 
 abbrev pub hold_all : List ℕ → List ℕ → ℕ → List RowData → Bool
 hold_all starts ends place [] = true
 hold_all starts ends place (r ∷ rs) = is_between place r (slice_get starts r.op1) (slice_get ends r.op1) && hold_all starts ends (suc place) rs
+
+abbrev pub is_place : ℕ → Option ℕ → Bool
+is_place place None = false
+is_place place (Some p) = p == place
+
+-- the place stands as many places past the base as the row's second code says
+abbrev pub is_at : List ℕ → ℕ → RowData → Option ℕ → Bool
+is_at places place r None = false
+is_at places place r (Some base) = is_place place (slice_get places (base + r.op2))
+
+-- each row, numbered from here on, stands past the base of its first byte
+abbrev pub hold_places : List ℕ → List ℕ → ℕ → List RowData → Bool
+hold_places bases places place [] = true
+hold_places bases places place (r ∷ rs) = is_at places place r (slice_get bases r.op1) && hold_places bases places (suc place) rs
+
+-- the bits that a form has for no field are 0
+unfoldable pub has_no_gap : Form → ℕ → Bool
+has_no_gap Rlc w = true
+has_no_gap Rr w = w / 2 ^ 18 % 4 == 0
+has_no_gap Rc w = true
+has_no_gap Bol w = true
+has_no_gap Bo w = true
+has_no_gap Brr w = true
+has_no_gap Brc w = true
+has_no_gap B w = true
+has_no_gap Abs w = true
+has_no_gap Sys w = w / 2 ^ 28 == 0 && w / 2 ^ 8 % 2 ^ 14 == 0
+has_no_gap Sr w = true
+has_no_gap Sc w = true
+has_no_gap Sb w = true
+has_no_gap Sbr w = true
+has_no_gap Src w = true
+has_no_gap Srr w = true
+has_no_gap Slr w = true
+has_no_gap Ssr w = true

@@ -1,72 +1,126 @@
 // The instruction that has a word.
-ghost use Rattle.std.specs.Prelude.{◌≡◌, ◌<◌, ◌≤◌, ◌%◌, ◌^◌, IfSome, IfNone, slice_get, Some};
-ghost use Rattle.tc_isa.specs.Rows.{row_of, listed};
+ghost use Rattle.std.specs.Prelude.{◌≡◌, ◌<◌, ◌%◌, ◌^◌, ℕ, IfSome, IfNone, slice_get, Some};
+ghost use Rattle.tc_isa.specs.Rows.{RowData, row_of, listed};
 ghost use Rattle.tc_isa.specs.Words.{second_of, form_index};
+ghost use Rattle.tc_isa.specs.Codec.{uses_of, rest_is_zero, is_apart};
 ghost use Rattle.tc_isa.specs.Insts.{InstData};
-ghost use Rattle.tc_encode.specs.Finding.{Makes};
+ghost use Rattle.tc_encode.specs.Finding.{Makes, has_no_gap};
 
-use crate::forms::{join, second_code, split};
-use crate::index::groups;
-use tc_isa::{Fields, Form, Inst, Row, inst, rows};
+use crate::forms::{second_code, split};
+use crate::index::{codes, groups};
+use tc_isa::{Fields, Form, Inst, Row, Uses, rows, uses};
 
-/// The instruction of this row that has the word.
-pub fn inst_by(place: u8, row: &Row, w: u32) -> Option<Inst>
-    requires { slice_get listed place ≡ Some (row_of row.now) }
-    ensures some { IfSome result (Makes w) }
-    ensures place { IfSome result (λ i. i.row ≡ place) }
-    ensures none { IfNone result ((i : InstData) → Makes w i → i.row ≡ place → ⊥) }
-{
-    let f = split(row.form, w);
-    let Some(found) = inst(place, f.c, f.s1, f.s2, f.n, f.k) else {
-        return None;
-    };
-    if join(row.form, row.op1, row.op2, &f) != w {
-        return None;
-    }
-    Some(found)
-}
-
-/// The instruction of the row at this place that has the word and its second code.
-fn inst_at(place: u8, form: Form, second: u8, w: u32) -> Option<Inst>
-    requires place { place < 142 }
-    requires second { second ≡ second_of form w }
-    ensures some { IfSome result (Makes w) }
-    ensures none { IfNone result ((i : InstData) (m : Makes w i) → i.row ≡ place
-        → form_index m.inst.row.form ≡ form_index form → ⊥) }
-{
-    let row = &rows()[usize::from(place)];
-    if row.op2 != second {
-        return None;
-    }
-    inst_by(place, row, w)
-}
-
-/// The instruction of a row of this form, from one place on and before the other, that has the word.
-fn inst_between(from: u8, to: u8, form: Form, w: u32) -> Option<Inst>
-    requires places { to ≤ 142 }
-    ensures some { IfSome result (Makes w) }
-    ensures none { IfNone result ((i : InstData) (m : Makes w i) → from ≤ i.row → i.row < to
-        → form_index m.inst.row.form ≡ form_index form → ⊥) }
-{
-    let second = second_code(form, w);
-    for place in from..to {
-        if let Some(found) = inst_at(place, form, second, w) {
-            return Some(found);
-        }
-    }
-    None
-}
-
-/// The instruction that has the word.
+/// The instruction that has the word. A word that begins with an even byte has two bytes.
 pub fn find(w: u32) -> Option<Inst>
+    requires { w % 2 ≡ 0 → w < 2 ^ 16 }
     ensures some { IfSome result (Makes w) }
     ensures none { IfNone result ((i : InstData) → Makes w i → ⊥) }
 {
-    let (starts, ends) = groups();
-    let first = (w % 256) as usize;
-    let (from, to) = (starts[first], ends[first]);
-    if from >= to {
+    let Some(place) = place_by(w) else {
+        return None;
+    };
+    inst_at(place, w)
+}
+
+/// The only place at which the row of an instruction with this word can stand.
+fn place_by(w: u32) -> Option<u8>
+    ensures within { IfSome result (λ p. p < 142) }
+    ensures only { (i : InstData) → Makes w i → result ≡ Some i.row }
+{
+    let first = usize::from((w % 256) as u8);
+    let second = second_code(form_by((w % 256) as u8), w);
+    let (bases, places) = codes();
+    let at = usize::from(bases[first]) + usize::from(second);
+    if at < places.len() {
+        Some(places[at])
+    } else {
+        None
+    }
+}
+
+/// The form of the rows that begin with this byte, where there are any.
+fn form_by(first: u8) -> Form
+    ensures { (place : ℕ) (r : RowData) → slice_get listed place ≡ Some r → r.op1 ≡ first
+        → form_index r.form ≡ form_index result }
+{
+    let (starts, _) = groups();
+    rows()[usize::from(starts[usize::from(first)])].form
+}
+
+/// The instruction of the row at this place that has the word.
+fn inst_at(place: u8, w: u32) -> Option<Inst>
+    requires place { place < 142 }
+    requires short { w % 2 ≡ 0 → w < 2 ^ 16 }
+    ensures some { IfSome result (Makes w) }
+    ensures none { IfNone result ((i : InstData) → Makes w i → i.row ≡ place → ⊥) }
+{
+    let at = usize::from(place);
+    let row = &rows()[at];
+    if row.op1 != (w % 256) as u8 {
         return None;
     }
-    inst_between(from, to, rows()[usize::from(from)].form, w)
+    if row.op2 != second_code(row.form, w) {
+        return None;
+    }
+    inst_of(place, row, &uses()[at], w)
+}
+
+/// The instruction of this row, which has the word's codes, where the rest of the word is its spelling.
+fn inst_of(place: u8, row: &Row, uses: &Uses, w: u32) -> Option<Inst>
+    requires place { slice_get listed place ≡ Some (row_of row.now) }
+    requires uses { uses.now ≡ uses_of (row_of row.now) }
+    requires first { row.now.op1 ≡ w % 256 }
+    requires second { row.now.op2 ≡ second_of row.now.form w }
+    requires short { w % 2 ≡ 0 → w < 2 ^ 16 }
+    ensures some { IfSome result (Makes w) }
+    ensures none { IfNone result ((i : InstData) → Makes w i → i.row ≡ place → ⊥) }
+{
+    let f = split(row.form, w);
+    if !is_full(row.form, w) {
+        return None;
+    }
+    if !is_zero_elsewhere(uses, &f) {
+        return None;
+    }
+    if !parts_differ(row, &f) {
+        return None;
+    }
+    Some(Inst {
+        row: place,
+        c: f.c,
+        s1: f.s1,
+        s2: f.s2,
+        n: f.n,
+        k: f.k,
+    })
+}
+
+/// Whether the bits that the form has for no field are 0.
+#[tactic(auto, unfolding(crate::specs::Finding::has_no_gap))]
+fn is_full(form: Form, w: u32) -> bool
+    ensures { result ≡ has_no_gap form w }
+{
+    match form {
+        Form::Rr => w / 262_144 % 4 == 0,
+        Form::Sys => w / 268_435_456 == 0 && w / 256 % 16384 == 0,
+        _ => true,
+    }
+}
+
+/// Whether the fields that aren't used are 0.
+fn is_zero_elsewhere(uses: &Uses, f: &Fields) -> bool
+    ensures { result ≡ rest_is_zero uses.now f.now }
+{
+    (uses.c || f.c == 0)
+        && (uses.s1 || f.s1 == 0)
+        && (uses.s2 || f.s2 == 0)
+        && (uses.n || f.n == 0)
+        && (uses.k || f.k == 0)
+}
+
+/// Whether the row may have these registers: a post-increment of an address register isn't of the base itself.
+fn parts_differ(row: &Row, f: &Fields) -> bool
+    ensures { result ≡ is_apart (row_of row.now) f.now }
+{
+    !((row.op1 == 9 || row.op1 == 137) && row.op2 == 6) || f.s1 != f.s2
 }

@@ -4,12 +4,28 @@ ghost use Rattle.tc_isa.specs.Rows.{row_of, listed, RowData};
 ghost use Rattle.tc_isa.specs.Codec.{least};
 ghost use Rattle.tc_isa.specs.Insts.{InstData};
 ghost use Rattle.tc_encode.specs.Decoding.{size_of, need_of};
-ghost use Rattle.tc_encode.specs.Finding.{GoesOn, span};
+ghost use Rattle.tc_encode.specs.Finding.{GoesOn, Makes, span};
 
-use crate::finding::inst_by;
-use crate::forms::join;
+use crate::forms::{join, split};
 use crate::index::groups;
-use tc_isa::{Fields, Inst, Row, rows};
+use tc_isa::{Fields, Inst, Row, inst, rows};
+
+/// The instruction of this row that has the word.
+fn inst_by(place: u8, row: &Row, w: u32) -> Option<Inst>
+    requires { slice_get listed place ≡ Some (row_of row.now) }
+    ensures some { IfSome result (Makes w) }
+    ensures place { IfSome result (λ i. i.row ≡ place) }
+    ensures none { IfNone result ((i : InstData) → Makes w i → i.row ≡ place → ⊥) }
+{
+    let f = split(row.form, w);
+    let Some(found) = inst(place, f.c, f.s1, f.s2, f.n, f.k) else {
+        return None;
+    };
+    if join(row.form, row.op1, row.op2, &f) != w {
+        return None;
+    }
+    Some(found)
+}
 
 /// The least fields that fit the row.
 fn least_of(row: &Row) -> Fields

@@ -2,7 +2,7 @@
 ghost use Rattle.std.specs.Prelude.{◌≡◌, length, true, nat_le};
 ghost use Rattle.std.specs.List.{list_all};
 ghost use Rattle.tc_isa.specs.Rows.{listed};
-ghost use Rattle.tc_encode.specs.Finding.{hold_all};
+ghost use Rattle.tc_encode.specs.Finding.{hold_all, hold_places};
 
 // By the first byte, the place of the first row that begins with it.
 static STARTS: [u8; 256] = [
@@ -35,9 +35,53 @@ static ENDS: [u8; 256] = [
 /// The places of the first rows, and those past the last ones, by their first byte.
 pub fn groups() -> (&'static [u8; 256], &'static [u8; 256])
     ensures starts { length result.0.now ≡ 256 }
+    ensures start_within { list_all (λ n. nat_le n 141) result.0.now ≡ true }
     ensures ends { length result.1.now ≡ 256 }
     ensures all { hold_all result.0.now result.1.now 0 listed ≡ true }
     ensures within { list_all (λ n. nat_le n 142) result.1.now ≡ true }
 {
     (&STARTS, &ENDS)
+}
+
+// By the first byte, where its rows begin in the list below; 0 where it has none.
+static BASES: [u16; 256] = [
+    0, 10, 110, 0, 0, 0, 0, 0, 0, 111, 0, 150, 0, 182, 0, 202, 0, 218, 0, 0, 0, 0, 0, 0, 0, 219, 0,
+    220, 0, 221, 0, 0, 222, 0, 0, 0, 0, 0, 223, 0, 0, 0, 0, 0, 0, 224, 0, 0, 228, 0, 0, 0, 0, 0, 0,
+    0, 0, 0, 0, 229, 230, 0, 0, 231, 233, 0, 234, 0, 0, 0, 0, 0, 0, 235, 0, 0, 0, 276, 0, 0, 0, 0,
+    0, 0, 277, 0, 0, 0, 0, 278, 0, 0, 279, 0, 0, 280, 282, 0, 0, 0, 0, 0, 0, 0, 0, 0, 0, 0, 0, 283,
+    284, 0, 0, 0, 0, 0, 285, 0, 286, 0, 0, 0, 0, 287, 0, 288, 0, 290, 292, 0, 293, 0, 0, 294, 0, 0,
+    0, 297, 0, 336, 0, 0, 0, 358, 0, 371, 0, 0, 0, 0, 0, 0, 0, 372, 0, 373, 0, 374, 0, 0, 375, 0,
+    376, 0, 0, 377, 380, 0, 0, 0, 0, 0, 0, 381, 0, 0, 386, 0, 0, 0, 0, 0, 0, 0, 0, 0, 0, 387, 0,
+    388, 0, 390, 0, 0, 392, 0, 0, 393, 394, 0, 0, 0, 0, 0, 0, 395, 0, 0, 0, 0, 0, 0, 396, 0, 0, 0,
+    0, 397, 398, 0, 399, 0, 0, 400, 402, 0, 0, 0, 0, 0, 0, 0, 0, 0, 0, 0, 0, 403, 404, 0, 0, 0, 0,
+    0, 405, 0, 406, 0, 0, 0, 0, 0, 0, 407, 0, 408,
+];
+
+// The places of the rows of one first byte after another, each as far on as its second code says; 0 where there is none.
+static PLACES: [u8; 410] = [
+    111, 0, 0, 0, 0, 0, 0, 0, 112, 113, 43, 44, 45, 0, 0, 0, 0, 0, 0, 0, 0, 0, 0, 0, 0, 0, 0, 0, 0,
+    0, 0, 0, 0, 0, 0, 0, 0, 0, 0, 0, 0, 0, 0, 0, 0, 0, 0, 0, 0, 0, 0, 0, 0, 0, 0, 0, 0, 0, 0, 0, 0,
+    0, 0, 0, 0, 0, 0, 0, 0, 0, 0, 0, 0, 0, 0, 0, 0, 0, 0, 0, 0, 0, 0, 0, 0, 0, 46, 0, 0, 0, 0, 0,
+    0, 0, 0, 0, 0, 0, 0, 0, 0, 0, 0, 0, 0, 0, 47, 0, 0, 48, 124, 60, 61, 62, 63, 64, 0, 65, 0, 0,
+    0, 0, 0, 0, 0, 0, 0, 0, 0, 0, 0, 0, 0, 0, 0, 0, 0, 0, 0, 0, 0, 0, 0, 66, 67, 68, 69, 70, 0, 71,
+    9, 0, 0, 0, 0, 0, 0, 0, 10, 0, 0, 0, 0, 0, 0, 0, 11, 12, 13, 14, 15, 16, 0, 0, 0, 0, 0, 0, 0,
+    0, 0, 17, 51, 0, 0, 0, 0, 0, 52, 53, 54, 55, 0, 0, 56, 57, 0, 0, 0, 0, 58, 59, 18, 19, 0, 0, 0,
+    0, 0, 0, 20, 21, 22, 23, 24, 25, 26, 27, 2, 81, 0, 109, 117, 127, 49, 0, 0, 50, 133, 3, 119,
+    92, 93, 130, 125, 0, 0, 0, 0, 0, 0, 0, 0, 0, 0, 0, 0, 0, 0, 0, 0, 0, 0, 0, 0, 0, 0, 0, 0, 0, 0,
+    0, 0, 0, 0, 0, 0, 0, 0, 0, 0, 0, 0, 0, 0, 80, 7, 138, 83, 118, 90, 91, 131, 107, 120, 140, 122,
+    5, 96, 97, 94, 95, 132, 134, 85, 0, 86, 72, 0, 73, 0, 74, 0, 75, 0, 0, 0, 0, 0, 0, 0, 0, 0, 0,
+    0, 0, 0, 0, 0, 0, 0, 0, 0, 0, 0, 0, 0, 0, 0, 76, 0, 77, 0, 78, 0, 79, 28, 0, 0, 0, 0, 0, 0, 0,
+    29, 0, 0, 0, 0, 0, 0, 0, 30, 31, 32, 33, 34, 35, 36, 37, 0, 0, 0, 0, 0, 0, 38, 0, 39, 0, 40, 6,
+    82, 1, 110, 136, 126, 87, 0, 88, 128, 41, 0, 0, 0, 42, 137, 4, 98, 99, 103, 105, 135, 89, 129,
+    8, 139, 84, 116, 114, 101, 102, 115, 108, 121, 141, 123, 100, 104, 106,
+];
+
+/// By the first byte where its rows begin in the list of places, and that list.
+pub fn codes() -> (&'static [u16; 256], &'static [u8; 410])
+    ensures bases { length result.0.now ≡ 256 }
+    ensures places { length result.1.now ≡ 410 }
+    ensures all { hold_places result.0.now result.1.now 0 listed ≡ true }
+    ensures within { list_all (λ n. nat_le n 141) result.1.now ≡ true }
+{
+    (&BASES, &PLACES)
 }

@@ -21,6 +21,7 @@ pub use making::inst;
 pub use shapes::{Arg, Cond, Op, Shape, Target};
 pub use shaping::{shape, shape_laws};
 pub use table::{Form, Row, rows};
+pub use used::uses;
 pub use writing::writes;
 
 #[cfg(test)]

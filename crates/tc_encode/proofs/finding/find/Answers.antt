@@ -1,15 +1,9 @@
-use Rattle.std.proofs.Common.{◌≤◌, ◌%◌, arith, ap, sym, ◌∙◌, get_or}
-use Rattle.std.specs.Prelude.{slice_get}
-use Rattle.tc_isa.specs.Rows.{listed}
-use Rattle.tc_isa.proofs.Made.{at_listed}
-use Rattle.tc_encode.proofs.Finds.{stands_between, form_is, none_map, bounded}
+use Rattle.std.proofs.Common.{sym}
+use Rattle.tc_encode.proofs.Finds.{none_map, none_some, same_some}
 use Rattle.tc_encode.proofs.finding.find.Goals as goal
 
-pub returns-then-from-to-clause-none : goal.returns-then-from-to-clause-none
-returns-then-from-to-clause-none c = λ i m. let b = stands_between c.groups.result.0.now c.groups.result.1.now c.args.w i m c.groups.ensures.all c.groups.ensures.starts c.groups.ensures.ends in omega (arith, b.from, b.to)
+pub returns-in_default-clause-none : goal.returns-in_default-clause-none
+returns-in_default-clause-none c = λ i m. none_some i.row (c.in_default.ensures.only i m)
 
 pub returns-clause-none : goal.returns-clause-none
-returns-clause-none c = none_map c.inst_between.result c.inst_between.ensures.none (λ none i m.
-    let b = stands_between c.groups.result.0.now c.groups.result.1.now c.args.w i m c.groups.ensures.all c.groups.ensures.starts c.groups.ensures.ends in
-    let most : get_or c.groups.result.1.now (c.args.w % 256) 0 ≤ 142 = bounded c.groups.result.1.now 142 (c.args.w % 256) c.groups.ensures.within (omega (arith, c.groups.ensures.ends)) in
-    none i m b.from b.to (form_is i.row m.inst.row _ _ _ b (ap (slice_get listed) (sym c.from.ensures) ∙ at_listed c.rows.result.now c.from.result _ c.rows.ensures.rows (omega (arith, most, c.rows.ensures.count, c.from.ensures)))))
+returns-clause-none c = none_map c.inst_at.result c.inst_at.ensures.none (λ none i m. none i m (same_some i.row c.in-Some.place (sym (c.in-Some.ensures.only i m))))

@@ -1,15 +1,19 @@
 use Rattle.std.proofs.Common.{◌∙◌, sym, ap, arith}
 use Rattle.std.specs.Prelude.{slice_get}
 use Rattle.tc_isa.specs.Rows.{listed}
-use Rattle.tc_isa.proofs.Made.{at_listed}
-use Rattle.tc_encode.proofs.Finds.{second_is, none_map}
+use Rattle.tc_isa.proofs.Made.{at_listed, uses_listed}
+use Rattle.tc_encode.proofs.Finds.{stands}
 use Rattle.tc_encode.proofs.finding.inst_at.Goals as goal
 
-pub returns-then-row-second-clause-none : goal.returns-then-row-second-clause-none
-returns-then-row-second-clause-none c = λ i m same index. c.if-row-second.true (sym (c.requires.second ∙ second_is c.args.place c.args.w _ c.args.form i (ap (slice_get listed) (sym c.from.ensures) ∙ at_listed c.rows.result.now c.from.result _ c.rows.ensures.rows (omega arith)) m same index))
+pub returns-then-row-w-clause-none : goal.returns-then-row-w-clause-none
+returns-then-row-w-clause-none c = λ i m same. c.if-row-w.true (stands c.args.place c.args.w _ (ap (slice_get listed) (sym c.from-at.ensures) ∙ at_listed c.rows.result.now c.from-at.result _ c.rows.ensures.rows (omega arith)) i m same).first
 
-pub inst_by-requires : goal.inst_by-requires
-inst_by-requires c = ap (slice_get listed) (sym c.from.ensures) ∙ at_listed c.rows.result.now c.from.result _ c.rows.ensures.rows (omega arith)
+pub returns-then-row-second_code-clause-none : goal.returns-then-row-second_code-clause-none
+returns-then-row-second_code-clause-none c = λ i m same. c.if-row-second_code.true ((stands c.args.place c.args.w _ (ap (slice_get listed) (sym c.from-at.ensures) ∙ at_listed c.rows.result.now c.from-at.result _ c.rows.ensures.rows (omega arith)) i m same).second ∙ sym c.second_code.ensures)
 
-pub returns-clause-none : goal.returns-clause-none
-returns-clause-none c = none_map c.inst_by.result c.inst_by.ensures.none (λ none i m same index. none i m same)
+pub inst_of-requires-clause-place : goal.inst_of-requires-clause-place
+inst_of-requires-clause-place c = ap (slice_get listed) (sym c.from-at.ensures) ∙ at_listed c.rows.result.now c.from-at.result _ c.rows.ensures.rows (omega arith)
+
+pub inst_of-requires-clause-uses : goal.inst_of-requires-clause-uses
+inst_of-requires-clause-uses c =
+    uses_listed c.rows.result.now c.uses.result.now c.from-at.result _ _ c.rows.ensures.rows c.uses.ensures (omega arith)

@@ -3,7 +3,7 @@ use Rattle.tc_isa.specs.Rows.{row_of}
 use Rattle.tc_isa.specs.Insts.{IsInst}
 use Rattle.tc_isa.proofs.TableFacts.{row_at}
 use Rattle.tc_encode.proofs.Finds.{makes_listed, makes_by}
-use Rattle.tc_encode.proofs.finding.inst_by.Goals as goal
+use Rattle.tc_encode.proofs.fronts.inst_by.Goals as goal
 
 pub returns-in_default-clause-none : goal.returns-in_default-clause-none
 returns-in_default-clause-none c = λ i m same. let x = c.in_default.ensures.listed.1 (makes_listed c.args.place c.args.w (row_of c.args.row.now) c.split-f.result c.requires c.split-f.ensures i m same).0 in cc
