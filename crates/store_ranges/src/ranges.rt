@@ -1,5 +1,6 @@
 // The ranges that hold an access.
 ghost use Rattle.std.specs.Prelude.{◌≡◌, ◌+◌, ◌&&◌, find};
+ghost use Rattle.std.specs.List.{list_any};
 ghost use Rattle.store_ranges.specs.Accesses as accesses;
 
 use tcd_base::Range;
@@ -24,6 +25,13 @@ pub(crate) fn range_at(ranges: &[Range], x: u32, n: u8) -> Option<Range>
     ensures { result ≡ find (accesses.is_inside x n) ranges.now }
 {
     ranges.iter().find(|r| is_inside(x, n, r)).copied()
+}
+
+/// Whether the `n` addresses from `x` on lie in one of the ranges.
+pub(crate) fn is_in_one(ranges: &[Range], x: u32, n: u8) -> bool
+    ensures { result ≡ list_any (accesses.is_inside x n) ranges.now }
+{
+    ranges.iter().any(|r| is_inside(x, n, r))
 }
 
 /// The first device in whose range an access of `n` bytes lies both at `low` and at `high`.
