@@ -5,6 +5,8 @@ mod loads;
 mod ranges;
 mod rom;
 mod stores;
+#[cfg(test)]
+mod tests;
 
 pub use loads::load_of;
 pub use rom::loaded_rom;
