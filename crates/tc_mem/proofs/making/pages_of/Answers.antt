@@ -1,0 +1,11 @@
+use Rattle.std.proofs.Common.{ℕ, List, subst, ◌∙◌}
+use Rattle.std.proofs.lemmas.List.{take_all}
+use Rattle.tc_mem.proofs.Made.{AreMade, made_zeros}
+use Rattle.tc_mem.proofs.making.pages_of.Goals as goal
+
+pub returns-clause-zeros : goal.returns-clause-zeros
+returns-clause-zeros c =
+    let all = take_all c.loop-number.number-index c.deref-number-items.result.now c.loop-number-test.false ∙ c.deref-number-items.ensures.value in
+    made_zeros c.args.ranges.now c.in_ok-numbers.numbers.items c.loop-number.pages.items
+    (subst (λ (ns : List ℕ). AreMade c.args.ranges.now ns c.loop-number.pages.items) all c.loop-number.invariant)
+    c.in_ok-numbers.ensures.rising c.in_ok-numbers.ensures.all

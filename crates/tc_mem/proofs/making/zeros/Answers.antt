@@ -1,0 +1,5 @@
+use Rattle.std.proofs.lemmas.List.{get_or-replicate}
+use Rattle.tc_mem.proofs.making.zeros.Goals as goal
+
+pub returns-clause-zeros : goal.returns-clause-zeros
+returns-clause-zeros c = λ k h. get_or-replicate 4096 k 0 0 h
