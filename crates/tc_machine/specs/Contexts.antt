@@ -4,7 +4,8 @@ use Rattle.csa_chain.specs.Memory.{with_words}
 use Rattle.csa_chain.specs.Chain.{link_in, link_address, is_area, area_word}
 use Rattle.csa_chain.specs.Contexts.{pcxi_word_of, ul_of, with_link, upper_words_of, lower_words_of, d_after_upper, a_after_upper, d_after_lower, a_after_lower}
 use Rattle.tc_machine.specs.declared.events.Cause.TheVariants.{Fcd, Fcu, Csu, Ctyp, NoArea}
-use Rattle.tc_machine.specs.Machine.{Machine, died}
+use Rattle.tc_machine.specs.declared.state.Machine.{Machine}
+use Rattle.tc_machine.specs.Machine.{died}
 
 -- the 16 words of the upper or the lower context
 abbrev pub context_of : Machine → Bool → List ℕ

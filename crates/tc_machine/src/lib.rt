@@ -3,6 +3,8 @@
 
 mod events;
 mod laws;
+mod state;
 
 pub use events::{Cause, End, Event};
 pub use laws::laws_of_machines;
+pub use state::Machine;
