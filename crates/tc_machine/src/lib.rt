@@ -1,8 +1,10 @@
 //! The reference machine: its state, what one event does to it, and when every run is safe.
 #![tactic(auto)]
 
+mod contexts;
 mod events;
 mod laws;
+mod registers;
 mod state;
 
 pub use events::{Cause, End, Event};
