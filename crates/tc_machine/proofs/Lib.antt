@@ -6,3 +6,4 @@ pub mod Steps
 pub mod ShapeWords
 pub mod Words
 pub mod Stays
+pub mod ContextWords

@@ -1,6 +1,7 @@
 //! The reference machine: its state, what one event does to it, and when every run is safe.
 #![tactic(auto)]
 
+mod accesses;
 mod contexts;
 mod events;
 mod laws;
