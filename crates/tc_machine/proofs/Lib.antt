@@ -7,3 +7,4 @@ pub mod ShapeWords
 pub mod Words
 pub mod Stays
 pub mod ContextWords
+pub mod Decoded

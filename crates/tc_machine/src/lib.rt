@@ -3,8 +3,13 @@
 
 mod accesses;
 mod contexts;
+mod core_registers;
 mod events;
+mod fetching;
+mod handlers;
+mod instructions;
 mod laws;
+mod operands;
 mod registers;
 mod state;
 
