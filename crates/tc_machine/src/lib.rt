@@ -12,6 +12,7 @@ mod laws;
 mod operands;
 mod registers;
 mod state;
+mod stepping;
 
 pub use events::{Cause, End, Event};
 pub use laws::laws_of_machines;
