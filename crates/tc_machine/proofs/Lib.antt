@@ -8,3 +8,4 @@ pub mod Words
 pub mod Stays
 pub mod ContextWords
 pub mod Decoded
+pub mod Counted

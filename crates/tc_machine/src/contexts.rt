@@ -11,7 +11,7 @@ use csa_chain::{PcxiParts, address_of, load_lower, load_upper, lower_words, pcxi
 use tc_mem::Mem;
 
 /// The link in bits 19:0 of a word.
-fn link(word: u32) -> u32
+pub(crate) fn link(word: u32) -> u32
     ensures { result ≡ link_in word }
 {
     word % 0x10_0000
@@ -58,7 +58,7 @@ impl Machine {
 impl Machine {
     /// The words of the area that a link names, where it is mapped.
     #[tactic(auto, using(crate::proofs::ContextWords::area_of_words))]
-    fn words_of(&self, named: u32) -> Option<[u32; 16]>
+    pub(crate) fn words_of(&self, named: u32) -> Option<[u32; 16]>
         requires { named < 2 ^ 20 }
         ensures { result ≡ (if is_area self.now.mem named then Some (area_words self.now.mem named) else None) }
     {

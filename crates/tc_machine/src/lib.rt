@@ -2,6 +2,7 @@
 #![tactic(auto)]
 
 mod accesses;
+mod chains;
 mod contexts;
 mod core_registers;
 mod events;
