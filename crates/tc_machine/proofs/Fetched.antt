@@ -10,7 +10,7 @@ use Rattle.tc_isa.specs.Shapes.{shape_of}
 use Rattle.tc_encode.specs.Decoding.{decoded_of}
 use Rattle.tc_encode.proofs.DecodeProofs.{decode_laws}
 use Rattle.tc_machine.specs.declared.events.Cause.TheVariants.{NoCode}
-use Rattle.tc_machine.specs.Machine.{Machine}
+use Rattle.tc_machine.specs.declared.state.Machine.{Machine}
 use Rattle.tc_machine.specs.Fetching.{in_front, mapped_bytes, shaped, fetched}
 use Rattle.tc_machine.specs.Safe.{HoldsRom, SpellsAt, IsAtCode}
 use Rattle.tc_machine.proofs.PlanLaws.{in_one, rom_fits}

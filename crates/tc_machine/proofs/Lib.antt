@@ -6,3 +6,6 @@ pub mod Steps
 pub mod ShapeWords
 pub mod Words
 pub mod Stays
+pub mod ContextWords
+pub mod Decoded
+pub mod Counted

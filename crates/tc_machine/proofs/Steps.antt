@@ -6,7 +6,8 @@ use Rattle.tc_isa.specs.declared.shapes.Shape.TheVariants.{Call, Jump, Ret, Noth
 use Rattle.tc_machine.specs.declared.events.Cause.{Cause}
 use Rattle.tc_machine.specs.declared.events.Event.{Event}
 use Rattle.tc_machine.specs.declared.events.End.TheVariants.{Running}
-use Rattle.tc_machine.specs.Machine.{Machine, a11, with_status, moved, advanced, then_}
+use Rattle.tc_machine.specs.declared.state.Machine.{Machine}
+use Rattle.tc_machine.specs.Machine.{a11, with_status, moved, advanced, then_}
 use Rattle.tc_machine.specs.Contexts.{save, restore}
 use Rattle.tc_machine.specs.Fetching.{fetched}
 use Rattle.tc_machine.specs.Instructions.{interrupt, target_of, does}

@@ -8,7 +8,8 @@ use Rattle.tc_isa.specs.Shapes.{shape_of}
 use Rattle.tc_isa.specs.declared.shapes.Shape.{Shape}
 use Rattle.tc_machine.specs.declared.events.Event.{Event}
 use Rattle.tc_machine.specs.declared.events.End.TheVariants.{Running}
-use Rattle.tc_machine.specs.Machine.{Machine, with_status}
+use Rattle.tc_machine.specs.declared.state.Machine.{Machine}
+use Rattle.tc_machine.specs.Machine.{with_status}
 use Rattle.tc_machine.specs.Contexts.{saved, save, has_kind, restored, restore}
 use Rattle.tc_machine.specs.Fetching.{fetched}
 use Rattle.tc_machine.specs.Instructions.{does}

@@ -10,7 +10,8 @@ use Rattle.tc_isa.specs.declared.shapes.Target.TheVariants.{Rel, Abs, Reg}
 use Rattle.tc_isa.specs.declared.shapes.Shape.{Shape}
 use Rattle.tc_isa.specs.declared.shapes.Shape.TheVariants.{Store, Jump, Call, Ret, Nothing}
 use Rattle.tc_machine.specs.declared.events.Event.{Event}
-use Rattle.tc_machine.specs.Machine.{Machine, a11, moved}
+use Rattle.tc_machine.specs.declared.state.Machine.{Machine}
+use Rattle.tc_machine.specs.Machine.{a11, moved}
 use Rattle.tc_machine.specs.Instructions.{does, target_of}
 use Rattle.tc_machine.specs.Stepping.{is_taken, done, step, run, store_in}
 use Rattle.tc_machine.specs.Safe.{Fits, AllFit, IsStoreInRange, IsSafeAt, Safe}
