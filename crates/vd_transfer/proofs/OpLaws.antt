@@ -1,5 +1,5 @@
 -- Operations are sound and monotone.
-use Rattle.std.proofs.Common.{◌≡◌, ℕ, zero, suc, ◌+◌, ◌-◌, ◌*◌, ◌%◌, ◌^◌, ◌<◌, ◌≤◌, inl, inr, List, [], ◌∷◌, ◌++◌, length, refl, sym, ap, ◌∙◌, subst, arith, min, map, ltb, leb, take, get_or, append_assoc, append-nil, Bool, true, false, not, ◌||◌, eqb, bit_and, bit_or, bit_xor, ◌⊎◌, ◌/◌}
+use Rattle.std.proofs.Common.{◌≡◌, ℕ, zero, suc, ◌+◌, ◌-◌, ◌*◌, ◌%◌, ◌^◌, ◌<◌, ◌≤◌, inl, inr, List, [], ◌∷◌, ◌++◌, length, refl, sym, ap, ◌∙◌, subst, arith, min, map, ltb, leb, take, get_or, append_assoc, append-nil, Bool, true, false, not, ◌||◌, eqb, bit_and, bit_or, bit_xor, ◌⊎◌}
 use Rattle.std.proofs.lemmas.Bool.{cases_lt, lt-ltb, le-ltb, cases_Bool}
 use Rattle.std.proofs.lemmas.List.{take_more}
 use Rattle.std.proofs.Math.Nat.{mul-le-mul_right}
@@ -20,7 +20,7 @@ use Rattle.value_domain.proofs.RangeLaws.{words_more, members_below, some_member
 use Rattle.tc_isa.specs.declared.shapes.Op.{Op}
 use Rattle.tc_isa.specs.declared.shapes.Op.TheVariants.{Second, Add, Sub, And, Nand, Or, Nor, Xor, Xnor, Andn, Orn, Eq, Ne, Lt, LtU, Ge, GeU, Sh, Sha}
 use Rattle.tc_isa.specs.Arithmetic.{alu_of, shifted, shifted_signed, complement, one_if, signed_place}
-use Rattle.vd_transfer.specs.Operations.{low, high, step, results, row, row_of, pairs, whole, run, all_of, runs, bounds, gives_truth, by_count, Shifts, differences, sums, shifts, signed_shifts, value_of, range_of}
+use Rattle.vd_transfer.specs.Operations.{low, high, step, results, row, pairs, whole, all_of, runs, bounds, gives_truth, by_count, Shifts, differences, sums, shifts, signed_shifts, value_of, range_of}
 use Rattle.vd_transfer.specs.Laws.{AreSound, AreMonotone}
 use Rattle.vd_transfer.proofs.Rows.{Lies, sums_have, sums_grow, differences_have, differences_grow, ands_have, ands_grow, shifts_have, shifts_grow, shifts_below}
 
@@ -84,7 +84,7 @@ shifts_step a b p n =
       | inr t ↦ rw t (omega arith)
     ]
 
-logical : AreShifts shifts shifted
+pub logical : AreShifts shifts shifted
 logical = record {
   have = shifts_have;
   grow = λ a b p n a2 b2 p2 small bb la hb hp. shifts_grow a b p n a2 b2 p2 small la hb hp;
@@ -123,7 +123,7 @@ as_any : (a b p n : ℕ) → 32 ≤ n → 2 ^ 31 ≤ b → signed_shifts a b p n
 unfolding signed_shifts
 as_any a b p n right big = rw (le-ltb n 32 right, le-ltb b (2 ^ 31) big) refl
 
-arithmetic : AreShifts signed_shifts shifted_signed
+pub arithmetic : AreShifts signed_shifts shifted_signed
 arithmetic = record {
   have = λ x a b p n small l bb.
       elim (cases_lt n 32) [
@@ -180,10 +180,10 @@ truth_among : (b : Bool) → Among (one_if b) (0 ∷ 1 ∷ [])
 truth_among true = inr (inl refl)
 truth_among false = inl refl
 
-complement_below : (x : ℕ) → complement x < 2 ^ 32
+pub complement_below : (x : ℕ) → complement x < 2 ^ 32
 complement_below x = omega arith
 
-and_below : (x y : ℕ) → x < 2 ^ 32 → bit_and x y < 2 ^ 32
+pub and_below : (x y : ℕ) → x < 2 ^ 32 → bit_and x y < 2 ^ 32
 and_below x y h = omega (arith, and_le_l x y)
 
 pub row_has : (op : Op) (v w : Val) → IsWell v → IsWell w → (x y : ℕ) → Among x (members v) → Among y (members w) → Among (alu_of op x y) (row op v w)
@@ -285,7 +285,7 @@ into_all xs below z i = all_have z (below z i)
 all_below : (z s : ℕ) → s ≤ 2 → Among z (all_of s) → z < 2 ^ 32
 all_below z s small i = let m = range_among z 0 (2 ^ 32 - 1) s small i in omega (arith, m.1)
 
-by_below : {shift : Shifts} {by : ℕ → ℕ → ℕ} (are : AreShifts shift by) (v w : Val) → IsWell v → (z : ℕ) → Among z (range_of (by_count shift (low v) (high v) (step v) w)) → z < 2 ^ 32
+pub by_below : {shift : Shifts} {by : ℕ → ℕ → ℕ} (are : AreShifts shift by) (v w : Val) → IsWell v → (z : ℕ) → Among z (range_of (by_count shift (low v) (high v) (step v) w)) → z < 2 ^ 32
 by_below are v (Set []) wv z i = all_below z 0 (omega arith) i
 by_below are v (Set (y ∷ [])) wv z i = are.below (low v) (high v) (step v) (y % 64) z (bounds_of v wv).small (high_below v wv) i
 by_below are v (Set (y ∷ u ∷ ys)) wv z i = all_below z 0 (omega arith) i
@@ -352,11 +352,11 @@ row_grows b Sh v w v2 w2 vv vw vv2 vw2 there here = by_grows logical b v w v2 w2
 row_grows b Sha v w v2 w2 vv vw vv2 vw2 there here = by_grows arithmetic b v w v2 w2 vv vw vv2 vw2 there here
 
 -- the results aren't none
-some_results : (op : Op) (v w : Val) → IsWell v → IsWell w → 1 ≤ length (results op v w)
+pub some_results : (op : Op) (v w : Val) → IsWell v → IsWell w → 1 ≤ length (results op v w)
 some_results op v w wv ww =
     some_length (results op v w) (alu_of op (low v) (low w)) (results_have op v w wv ww (low v) (low w) (bounds_of v wv).low_in (bounds_of w ww).low_in)
 
-within_members : (b : Limits) (v w : Val) → IsValue b v → IsValue b w → IsBelow v w → Within (members v) (members w)
+pub within_members : (b : Limits) (v w : Val) → IsValue b v → IsValue b w → IsBelow v w → Within (members v) (members w)
 within_members b v w vv vw below z i = among_member w z (has_step w vw.well) (below z (member_among v z (has_step v vv.well) i))
 
 -- where both are Sets, each result is a result of the larger pair

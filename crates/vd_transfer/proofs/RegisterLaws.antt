@@ -1,5 +1,5 @@
 -- The registers of a state.
-use Rattle.std.proofs.Common.{◌≡◌, ℕ, zero, suc, ◌+◌, ◌-◌, ◌^◌, ◌<◌, ◌≤◌, inl, inr, Bool, true, false, cond, IsTrue, List, [], ◌∷◌, length, refl, sym, ap, ◌∙◌, subst, arith, get_or, Option, Some, None, ltb, leb, eqb, ◌&&◌, ◌++◌, take, set}
+use Rattle.std.proofs.Common.{◌≡◌, ℕ, zero, suc, ◌+◌, ◌^◌, ◌<◌, inl, inr, true, cond, IsTrue, List, [], ◌∷◌, length, refl, sym, ap, ◌∙◌, arith, get_or, Option, Some, None, ltb, eqb, ◌++◌, take, set}
 use Rattle.std.proofs.lemmas.List.{take_more, take_more_set}
 use Rattle.std.specs.List.{list_all}
 use Rattle.std.proofs.lemmas.Bool.{cases_lt, cases_Bool, and_parts, ltb-true}
@@ -12,7 +12,7 @@ use Rattle.value_domain.specs.Values.{IsValue, any_val}
 use Rattle.value_domain.specs.State.{AreValues}
 use Rattle.value_domain.proofs.RangeLaws.{one_value, any_value}
 use Rattle.vd_transfer.specs.Effects.{forgotten_from, is_lower_slot}
-use Rattle.vd_transfer.specs.Registers.{slot, reg_of, value_at, fixed_of, global_of, word_val}
+use Rattle.vd_transfer.specs.Registers.{slot, reg_of, value_at, fixed_of, global_of}
 
 -- the plan's words are words
 abbrev pub AreGlobals : PlanData → Type 0

@@ -7,7 +7,7 @@ use Rattle.std.proofs.Math.Nat.{mul-le-mul_right}
 use Rattle.value_domain.specs.Sets.{Among, Within, twos}
 use Rattle.value_domain.specs.Values.{range}
 use Rattle.value_domain.proofs.CoverLaws.{range_among, among_range, from_units}
-use Rattle.tc_isa.specs.Arithmetic.{shifted, shifted_signed}
+use Rattle.tc_isa.specs.Arithmetic.{shifted}
 use Rattle.vd_transfer.specs.Operations.{sums, differences, shifts, range_of}
 use Rattle.vd_transfer.proofs.Steps.{twos_add, twos_sub, twos_mod, twos_and_both, twos_shift}
 

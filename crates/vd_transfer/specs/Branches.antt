@@ -1,5 +1,5 @@
 -- What a branch does to a state on each of its sides.
-use Rattle.std.specs.Prelude.{ℕ, Bool, true, false, ◌==◌, if◌then◌else◌, Option, Some, None}
+use Rattle.std.specs.Prelude.{ℕ, Bool, false, ◌==◌, if◌then◌else◌, Option, Some, None}
 use Rattle.tcd_plan.specs.PlanData.{PlanData}
 use Rattle.tc_isa.specs.declared.shapes.Op.TheVariants.{Sub}
 use Rattle.tc_isa.specs.declared.shapes.Cond.{Cond}
@@ -41,8 +41,8 @@ refined b p cond x y s side =
     if is_reg x y
     then with_one s x (cover_some b (kept_both cond side (members (reg_of p s x))))
     else with_two s x y
-        (cover_some b (kept_left cond side (members (reg_of p s x)) (members (arg_of p s y))))
-        (cover_some b (kept_right cond side (members (reg_of p s x)) (members (arg_of p s y))))
+    (cover_some b (kept_left cond side (members (reg_of p s x)) (members (arg_of p s y))))
+    (cover_some b (kept_right cond side (members (reg_of p s x)) (members (arg_of p s y))))
 
 -- a loop lowers its register by 1, on both sides
 abbrev pub lowered : Limits → PlanData → ℕ → Bool → Option State → Option State

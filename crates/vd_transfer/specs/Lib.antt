@@ -1,5 +1,6 @@
 pub mod Branches
 pub mod Effects
+pub mod Holding
 pub mod Intervals
 pub mod Laws
 pub mod Operations
@@ -7,3 +8,4 @@ pub mod Refinement
 pub mod Registers
 pub mod Relations
 pub mod Signs
+pub mod Soundness

@@ -141,7 +141,14 @@ fn with_value(b: &Bounds, s: &State, x: u8, v: Option<Val>) -> Option<State>
     Some(out)
 }
 
-fn with_values(b: &Bounds, s: &State, x: u8, y: Arg, v: Option<Val>, w: Option<Val>) -> Option<State>
+fn with_values(
+    b: &Bounds,
+    s: &State,
+    x: u8,
+    y: Arg,
+    v: Option<Val>,
+    w: Option<Val>,
+) -> Option<State>
     requires values { AreValues b.now s.now.regs }
     requires left { IfSome v (IsValue b.now) }
     requires right { IfSome w (IsValue b.now) }

@@ -105,20 +105,42 @@ pub(crate) fn computed(b: &Bounds, plan: &Plan, s: &State, op: Op, dst: u8, x: A
     out
 }
 
-pub(crate) fn scaled(b: &Bounds, plan: &Plan, s: &State, dst: u8, base: u8, index: u8, n: u8) -> State
+pub(crate) fn scaled(
+    b: &Bounds,
+    plan: &Plan,
+    s: &State,
+    dst: u8,
+    base: u8,
+    index: u8,
+    n: u8,
+) -> State
     requires registers { (base < 32) × (index < 32) }
     requires values { AreValues b.now s.now.regs }
     ensures write { result ≡ write_reg s.now dst (value_of b.now Add (reg_of plan.now s.now base) (value_of b.now Sh (reg_of plan.now s.now index) (word_val n))) }
     ensures values { AreValues b.now result.regs }
 {
     let mut out = s.copy();
-    let by = operation(b, Op::Sh, &reg_value(b, plan, s, index), &constant(b, u32::from(n)));
+    let by = operation(
+        b,
+        Op::Sh,
+        &reg_value(b, plan, s, index),
+        &constant(b, u32::from(n)),
+    );
     let v = operation(b, Op::Add, &reg_value(b, plan, s, base), &by);
     write(b, &mut out, dst, v);
     out
 }
 
-pub(crate) fn after_load(b: &Bounds, plan: &Plan, s: &State, base: Arg, offset: u32, after: bool, dst: u8, v: &Val) -> State
+pub(crate) fn after_load(
+    b: &Bounds,
+    plan: &Plan,
+    s: &State,
+    base: Arg,
+    offset: u32,
+    after: bool,
+    dst: u8,
+    v: &Val,
+) -> State
     requires base { IsArg base }
     requires values { AreValues b.now s.now.regs }
     requires loaded { IsValue b.now v.now }
@@ -131,7 +153,14 @@ pub(crate) fn after_load(b: &Bounds, plan: &Plan, s: &State, base: Arg, offset: 
     out
 }
 
-pub(crate) fn after_store(b: &Bounds, plan: &Plan, s: &State, base: Arg, offset: u32, after: bool) -> State
+pub(crate) fn after_store(
+    b: &Bounds,
+    plan: &Plan,
+    s: &State,
+    base: Arg,
+    offset: u32,
+    after: bool,
+) -> State
     requires base { IsArg base }
     requires values { AreValues b.now s.now.regs }
     ensures base { result ≡ with_base b.now plan.now s.now base offset after }

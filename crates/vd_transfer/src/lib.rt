@@ -12,6 +12,6 @@ mod signs;
 mod transferring;
 
 pub use branching::refine;
-pub use laws::{operation_laws, refinement_laws};
+pub use laws::{effect_laws, operation_laws, refinement_laws};
 pub use registers::reg;
 pub use transferring::{address, transfer};

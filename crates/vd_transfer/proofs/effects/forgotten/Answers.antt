@@ -1,4 +1,4 @@
-use Rattle.std.proofs.Common.{◌∙◌, ap, sym, arith, cond, get_or}
+use Rattle.std.proofs.Common.{◌∙◌, ap, sym, arith, cond}
 use Rattle.std.proofs.lemmas.List.{take_all, get_or_default}
 use Rattle.std.proofs.Math.ListN.{length-set}
 use Rattle.value_domain.specs.declared.values.Val.{Val}

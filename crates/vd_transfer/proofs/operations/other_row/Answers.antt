@@ -8,7 +8,7 @@ covered : (c : goal.After-run_of-run) → range_of c.run_of-run.result ≡ row c
 covered c =
     ap range_of c.run_of-run.ensures
     ∙ row_runs c.args.op c.args.v.now c.args.w.now c.extent_of.result c.extent_of-2.result c.requires.other (sym c.gives_truth.ensures ∙ c.if-gives_truth.false)
-        (same_bounds c.extent_of.result c.args.v.now c.requires.left.well c.extent_of.ensures) (same_bounds c.extent_of-2.result c.args.w.now c.requires.right.well c.extent_of-2.ensures)
+    (same_bounds c.extent_of.result c.args.v.now c.requires.left.well c.extent_of.ensures) (same_bounds c.extent_of-2.result c.args.w.now c.requires.right.well c.extent_of-2.ensures)
 
 pub run_of-run-requires : goal.run_of-run-requires
 run_of-run-requires c = record { left = c.extent_of.ensures.low _ c.extent_of.ensures.high_in; right = c.extent_of-2.ensures.low _ c.extent_of-2.ensures.high_in }
