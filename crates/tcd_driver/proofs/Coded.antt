@@ -107,32 +107,32 @@ pub none_in_four : (image : ImageData) (plan : PlanData) (x : ℕ) (bs : List �
 none_in_four image plan x bs at none bytes inst code =
     let held = held_to image x 4 bs at.1 in
     elim (two_or_four bytes inst code.spells.spelled) [
-      inl two ↦
-        let size : length (take 2 bs) ≡ 2 = omega (arith, length-take 2 bs, held.0) in
-        let front = held_by_length image x 2 (take 2 bs) size (front_held image x 2 bs (omega (arith, held.0)) held.1) in
-        let same : take 2 bs ≡ bytes = some_same _ _ _ front (held_of image plan x 2 bytes inst code two) in
-        begins_none bs bytes (drop 2 bs) inst none (sym (take-append-drop 2 bs) ∙ ap (λ (l : List ℕ). l ++ drop 2 bs) same) code.spells.spelled
-    | inr four ↦
-        let same : bs ≡ bytes = some_same _ _ _ at.1 (held_of image plan x 4 bytes inst code four) in
-        begins_none bs bytes [] inst none (same ∙ sym (append-nil bytes)) code.spells.spelled
+      | inl two ↦
+          let size : length (take 2 bs) ≡ 2 = omega (arith, length-take 2 bs, held.0) in
+          let front = held_by_length image x 2 (take 2 bs) size (front_held image x 2 bs (omega (arith, held.0)) held.1) in
+          let same : take 2 bs ≡ bytes = some_same _ _ _ front (held_of image plan x 2 bytes inst code two) in
+          begins_none bs bytes (drop 2 bs) inst none (sym (take-append-drop 2 bs) ∙ ap (λ (l : List ℕ). l ++ drop 2 bs) same) code.spells.spelled
+      | inr four ↦
+          let same : bs ≡ bytes = some_same _ _ _ at.1 (held_of image plan x 4 bytes inst code four) in
+          begins_none bs bytes [] inst none (same ∙ sym (append-nil bytes)) code.spells.spelled
     ]
 
 -- no four bytes are there, and two that begin with no instruction
 pub none_in_two : (image : ImageData) (plan : PlanData) (x : ℕ) (bs : List ℕ) → FindsInRom image plan x 4 None → FindsInRom image plan x 2 (Some bs) → FindsBytes bs None → HasNoCode image plan x
 none_in_two image plan x bs no_four at none bytes inst code =
     elim (two_or_four bytes inst code.spells.spelled) [
-      inl two ↦
-        let same : bs ≡ bytes = some_same _ _ _ at.1 (held_of image plan x 2 bytes inst code two) in
-        begins_none bs bytes [] inst none (same ∙ sym (append-nil bytes)) code.spells.spelled
-    | inr four ↦ none_some _ bytes (no_four (in_rom_of image plan x 4 bytes inst code four)) (held_of image plan x 4 bytes inst code four)
+      | inl two ↦
+          let same : bs ≡ bytes = some_same _ _ _ at.1 (held_of image plan x 2 bytes inst code two) in
+          begins_none bs bytes [] inst none (same ∙ sym (append-nil bytes)) code.spells.spelled
+      | inr four ↦ none_some _ bytes (no_four (in_rom_of image plan x 4 bytes inst code four)) (held_of image plan x 4 bytes inst code four)
     ]
 
 -- neither four nor two bytes are there
 pub none_there : (image : ImageData) (plan : PlanData) (x : ℕ) → FindsInRom image plan x 4 None → FindsInRom image plan x 2 None → HasNoCode image plan x
 none_there image plan x no_four no_two bytes inst code =
     elim (two_or_four bytes inst code.spells.spelled) [
-      inl two ↦ none_some _ bytes (no_two (in_rom_of image plan x 2 bytes inst code two)) (held_of image plan x 2 bytes inst code two)
-    | inr four ↦ none_some _ bytes (no_four (in_rom_of image plan x 4 bytes inst code four)) (held_of image plan x 4 bytes inst code four)
+      | inl two ↦ none_some _ bytes (no_two (in_rom_of image plan x 2 bytes inst code two)) (held_of image plan x 2 bytes inst code two)
+      | inr four ↦ none_some _ bytes (no_four (in_rom_of image plan x 4 bytes inst code four)) (held_of image plan x 4 bytes inst code four)
     ]
 
 -- the code at an even address, by four bytes
@@ -172,13 +172,13 @@ two_and_four image plan x a b i j c d e f =
 one_code : (image : ImageData) (plan : PlanData) (x : ℕ) (a b : List ℕ) (i j : InstData) → IsCode image plan x a i → IsCode image plan x b j → (i ≡ j) × (length a ≡ length b)
 one_code image plan x a b i j c d =
     elim (two_or_four a i c.spells.spelled) [
-      inl two ↦ elim (two_or_four b j d.spells.spelled) [
-        inl two' ↦ same_size image plan x 2 a b i j c d two two'
-      | inr four ↦ two_and_four image plan x a b i j c d two four
+      | inl two ↦ elim (two_or_four b j d.spells.spelled) [
+        | inl two' ↦ same_size image plan x 2 a b i j c d two two'
+        | inr four ↦ two_and_four image plan x a b i j c d two four
       ]
-    | inr four ↦ elim (two_or_four b j d.spells.spelled) [
-        inl two ↦ let s = two_and_four image plan x b a j i d c two four in (sym s.0, sym s.1)
-      | inr four' ↦ same_size image plan x 4 a b i j c d four four'
+      | inr four ↦ elim (two_or_four b j d.spells.spelled) [
+        | inl two ↦ let s = two_and_four image plan x b a j i d c two four in (sym s.0, sym s.1)
+        | inr four' ↦ same_size image plan x 4 a b i j c d four four'
       ]
     ]
 

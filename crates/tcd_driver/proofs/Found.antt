@@ -6,9 +6,10 @@ use Rattle.tc_isa.specs.declared.shapes.Shape.{Shape}
 use Rattle.tc_isa.specs.declared.shapes.Target.{Target}
 use Rattle.tc_isa.specs.declared.shapes.Shape.TheVariants.{Jump, Nothing}
 use Rattle.tc_machine.specs.Machine.{moved}
-use Rattle.tcd_driver.specs.Calls.{NodeData, node_of, start_of, need_of, static_target, HoldsAtNode, Accepts}
+use Rattle.tcd_driver.specs.Calls.{NodeData, node_of, start_of, need_of, static_target, HoldsAtPoint, HoldsAtNode, Accepts}
 use Rattle.std.specs.Prelude.{Contains, All}
-use Rattle.tcd_driver.specs.Failures.{IsGoodStart, FindsSuccessor, FindsShape, FindsPoint, HasShape, no_target, no_next, misses}
+use Rattle.tcd_driver.proofs.Rules.{All-at, node_of-is}
+use Rattle.tcd_driver.specs.Failures.{IsAtStart, IsGoodStart, FindsSuccessor, FindsShape, FindsPoint, HasShape, no_target, no_next, misses}
 use Rattle.tcd_driver.specs.declared.findings.Finding.{Finding}
 use Rattle.tcd_driver.specs.declared.findings.Finding.TheVariants.{Holds, Fails, NotBuilt}
 
@@ -51,3 +52,28 @@ accepted image plan cert start good fits nodes = record {
 
 pub need_is : (image : ImageData) (plan : PlanData) (cert : List NodeData) (start : NodeData) (n : ℕ) → IsGoodStart image plan cert start → n ≡ start.need → n ≡ need_of (start_of image cert)
 need_is image plan cert start n good e = rw good.is_start e
+
+-- a point at the entry of the start's key, by the fields that were compared
+pub at_start : (image : ImageData) (plan : PlanData) (cert : List NodeData) (node : NodeData) (p begin kind entry : ℕ) → begin ≡ image.entry → kind ≡ node.kind → entry ≡ node.entry →
+    kind ≡ 0 → entry ≡ begin → p ≡ begin → Contains cert node → Contains node.points p → HoldsAtPoint image plan cert node p → IsAtStart image plan cert node
+at_start image plan cert node p begin kind entry b k e zero same here member point holds =
+    let there : p ≡ image.entry = here ∙ b in
+    record {
+      member = member;
+      kind = sym k ∙ zero;
+      entry = sym e ∙ same ∙ b;
+      point = subst (λ (x : ℕ). Contains node.points x) there point;
+      holds = subst (λ (x : ℕ). HoldsAtPoint image plan cert node x) there holds;
+    }
+
+-- the start node, where all nodes hold
+pub good_at_start : (image : ImageData) (plan : PlanData) (cert : List NodeData) (start : NodeData) → IsGoodStart image plan cert start → All (HoldsAtNode image plan cert) cert → IsAtStart image plan cert start
+good_at_start image plan cert start good nodes =
+    let found = node_of-is cert 0 image.entry start good.is_start in
+    record {
+      member = found.0;
+      kind = found.1;
+      entry = found.2;
+      point = good.point;
+      holds = All-at (HoldsAtPoint image plan cert start) start.points image.entry (All-at (HoldsAtNode image plan cert) cert start nodes found.0).points good.point;
+    }

@@ -89,7 +89,10 @@ fails_refutes image plan cert rule kind entry addr (no_start_point start e far) 
 fails_refutes image plan cert rule kind entry addr (interrupts_on e) accepted = differ (off image plan (start_of image cert) accepted.start).0 e
 fails_refutes image plan cert rule kind entry addr (other_stack e) accepted = differ (off image plan (start_of image cert) accepted.start).1 e
 fails_refutes image plan cert rule kind entry addr (no_entry_point node is_node far) accepted = far (All-contains (HoldsAtNode image plan cert) cert node accepted.nodes is_node).entered
-fails_refutes image plan cert rule kind entry addr (great_need start e great) accepted = let room = (start_holds image plan cert start accepted e).room in omega arith
+fails_refutes image plan cert rule kind entry addr (great_need node great at) accepted =
+    let room = (start_holds image plan cert great.0 accepted great.1).room in
+    let more = great.2 in
+    omega arith
 fails_refutes image plan cert rule kind entry addr (at_point node p r is_node is_point failed) accepted = not_failed_at image plan cert node p r failed (holds_at image plan cert node p accepted is_node is_point)
 
 -- and so does other code

@@ -58,16 +58,29 @@ pub record IsOther (image : ImageData) (plan : PlanData) (p : ℕ) : Type 0 wher
   pub code : HasShape image plan p shape size
   pub other : is_of_calls p shape ≡ false
 
+-- the need of the start is above the areas without the reserve; the start's frame isn't on the interrupt stack
+abbrev pub HasGreatNeed : ImageData → PlanData → List NodeData → Type 0
+HasGreatNeed image plan cert = (start : NodeData) × (start_of image cert ≡ Some start) × (plan.areas - plan.reserve < start.need) × (plan.start_is ≡ false)
+
+-- a node of the start's key, with a point at its entry at which all rules hold: there the start's need is asked
+pub record IsAtStart (image : ImageData) (plan : PlanData) (cert : List NodeData) (node : NodeData) : Type 0 where
+  pub member : Contains cert node
+  pub kind : node.kind ≡ 0
+  pub entry : node.entry ≡ image.entry
+  pub point : Contains node.points image.entry
+  pub holds : HoldsAtPoint image plan cert node image.entry
+
 -- A rule fails in a certificate, at the key of a kind and an entry and at an address. Rule 1: the start node is missing,
 -- has no point at its entry, or that point doesn't cover the start state. Rule 2: a node has no point at its entry. Rule
--- 14: the need of the start is above the areas without the reserve. All other rules: at a point of a node.
+-- 14 at the start's entry, where no other rule fails there: the need of the start is above the areas without the reserve.
+-- All other rules: at a point of a node.
 pub data Fails (image : ImageData) (plan : PlanData) (cert : List NodeData) : ℕ → ℕ → ℕ → ℕ → Type 0 where
   no_start : start_of image cert ≡ None → Fails image plan cert 1 0 image.entry image.entry
   no_start_point : (start : NodeData) → start_of image cert ≡ Some start → (Contains start.points image.entry → ⊥) → Fails image plan cert 1 0 image.entry image.entry
   interrupts_on : plan.start_ie ≡ true → Fails image plan cert 1 0 image.entry image.entry
   other_stack : plan.start_is ≡ true → Fails image plan cert 1 0 image.entry image.entry
   no_entry_point : (node : NodeData) → Contains cert node → (Contains node.points node.entry → ⊥) → Fails image plan cert 2 node.kind node.entry node.entry
-  great_need : (start : NodeData) → start_of image cert ≡ Some start → plan.areas - plan.reserve < start.need → Fails image plan cert 14 0 image.entry image.entry
+  great_need : (node : NodeData) → HasGreatNeed image plan cert → IsAtStart image plan cert node → Fails image plan cert 14 0 image.entry image.entry
   at_point : (node : NodeData) (p rule : ℕ) → Contains cert node → Contains node.points p → FailsAt image plan cert node p rule → Fails image plan cert rule node.kind node.entry p
 
 -- the start node, where rule 1 holds
@@ -76,10 +89,6 @@ pub record IsGoodStart (image : ImageData) (plan : PlanData) (cert : List NodeDa
   pub point : Contains start.points image.entry
   pub off : plan.start_ie ≡ false
   pub stack : plan.start_is ≡ false
-
--- the need of the start is above the areas without the reserve
-abbrev pub HasGreatNeed : ImageData → PlanData → List NodeData → Type 0
-HasGreatNeed image plan cert = (start : NodeData) × (start_of image cert ≡ Some start) × (plan.areas - plan.reserve < start.need)
 
 -- some point's code is none of a program of calls
 pub record HasOther (image : ImageData) (plan : PlanData) (cert : List NodeData) : Type 0 where

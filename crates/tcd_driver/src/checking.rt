@@ -41,7 +41,7 @@ fn point_verdict(
 {
     match point_finding(image, plan, nodes, node, addr) {
         Finding::Holds => {
-            if over && node.kind == 0 && addr == image.entry {
+            if over && node.kind == 0 && node.entry == image.entry && addr == image.entry {
                 Some(start_fault(14, image))
             } else {
                 None

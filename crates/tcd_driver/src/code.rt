@@ -16,9 +16,7 @@ fn is_in_one(ranges: &[Range], addr: u32, count: u32) -> bool
     ensures { result ≡ is_in_one addr count ranges.now }
 {
     let end = u64::from(addr) + u64::from(count);
-    ranges
-        .iter()
-        .any(|range| range.at <= addr && end <= u64::from(range.at) + u64::from(range.len))
+    ranges.iter().any(|range| range.at <= addr && end <= u64::from(range.at) + u64::from(range.len))
 }
 
 // Whether `count` bytes from the address on lie in one rom range.

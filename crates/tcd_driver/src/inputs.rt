@@ -10,9 +10,12 @@ ghost use Rattle.tcd_driver.specs.Inputs.{KeepsFiles, HasFailed, SaidWith, Stops
 
 use crate::calls::CallNode;
 use crate::ending::Outcome;
-use crate::lines::{elf_line, line_of, long_elf_line, long_plan_line, not_built_cert_line, not_built_plan_line, plan_line};
-use crate::saying::says;
+use crate::lines::{
+    elf_line, line_of, long_elf_line, long_plan_line, not_built_cert_line, not_built_plan_line,
+    plan_line,
+};
 use crate::reading::{CallsErr, calls_from};
+use crate::saying::says;
 use crate::status::Status;
 use elf_image::Image;
 use std::alloc::Global;
@@ -20,6 +23,7 @@ use tcd_base::{FileErr, Files, NoMemory};
 use tcd_plan::Plan;
 
 const LIMIT: u32 = 16_777_216;
+
 const CERT_LIMIT: u32 = 1_073_741_824;
 
 // An input that isn't in its form, and what is printed of it.
@@ -125,11 +129,7 @@ pub(crate) fn read_image<F: Files>(
 }
 
 /// The plan.
-pub(crate) fn read_plan<F: Files>(
-    alloc: Global,
-    name: &str,
-    files: &mut F,
-) -> Result<Plan, Outcome>
+pub(crate) fn read_plan<F: Files>(alloc: Global, name: &str, files: &mut F) -> Result<Plan, Outcome>
     ensures kept { KeepsFiles name.now (F.steady files.old) (F.steady files.new) (F.held files.old) (F.held files.new) (F.faults files.old) (F.faults files.new) }
     ensures found { IfOk result (λ plan. HoldsPlan (F.held files.old) name.now plan × (is_bare plan ≡ true)) }
     ensures stops { IfErr result (StopsWith (PlanText (F.held files.old) name.now) (HasFailed name.now (F.steady files.old) (F.held files.old) (F.faults files.old) (F.faults files.new))) }

@@ -14,6 +14,8 @@ mod printing;
 mod reading;
 mod saying;
 mod status;
+#[cfg(test)]
+mod tests;
 mod tools;
 
 pub use laws::accepted_is_safe;

@@ -62,13 +62,7 @@ fn check_files<F: Files, S: Sink>(
 }
 
 // Reads the three files and checks the certificate.
-fn judge_files<F: Files>(
-    alloc: Global,
-    elf: &str,
-    plan: &str,
-    cert: &str,
-    files: &mut F,
-) -> Outcome
+fn judge_files<F: Files>(alloc: Global, elf: &str, plan: &str, cert: &str, files: &mut F) -> Outcome
     ensures held { F.held files.new ≡ F.held files.old }
     ensures sure { AreSure (F.steady files.old) (F.held files.old) (record { elf = elf.now; plan = plan.now; cert = cert.now }) → F.faults files.new ≡ F.faults files.old }
     ensures comes { ComesTo (F.held files.old) (record { elf = elf.now; plan = plan.now; cert = cert.now }) (Rose (F.faults files.old) (F.faults files.new) × (AreSure (F.steady files.old) (F.held files.old) (record { elf = elf.now; plan = plan.now; cert = cert.now }) → ⊥)) result }
@@ -95,7 +89,10 @@ fn judge(alloc: Global, image: &Image, plan: &Plan, nodes: &[CallNode]) -> Outco
 {
     match check(image, plan, nodes) {
         Verdict::Yes(need) => {
-            says(Status::Done, certified_line(alloc, need, plan.areas - plan.reserve))
+            says(
+                Status::Done,
+                certified_line(alloc, need, plan.areas - plan.reserve),
+            )
         }
         Verdict::No {
             rule,
@@ -104,7 +101,10 @@ fn judge(alloc: Global, image: &Image, plan: &Plan, nodes: &[CallNode]) -> Outco
             addr,
         } => {
             let is = is_in_key(plan, kind);
-            says(Status::Refused, refused_line(alloc, rule, kind, entry, addr, is))
+            says(
+                Status::Refused,
+                refused_line(alloc, rule, kind, entry, addr, is),
+            )
         }
         Verdict::NotBuilt => says(Status::BadInput, line_of(alloc, not_built_code_line())),
     }
