@@ -1,5 +1,6 @@
 pub mod Covers
 pub mod Finds
+pub mod Growth
 pub mod LoadLaws
 pub mod RomLaws
 pub mod Sound

@@ -26,7 +26,7 @@ all_at n r (x ∷ xs) z t i =
     let both = and_parts (is_inside x n r) (list_all (λ x. is_inside x n r) xs) t in
     elim i [ inl e ↦ subst (λ (y : ℕ). is_inside y n r ≡ true) (sym e) both.0 | inr j ↦ all_at n r xs z both.1 j ]
 
-all_from : (n : ℕ) (r : Range) (xs : List ℕ) → ((z : ℕ) → Among z xs → is_inside z n r ≡ true) → list_all (λ x. is_inside x n r) xs ≡ true
+pub all_from : (n : ℕ) (r : Range) (xs : List ℕ) → ((z : ℕ) → Among z xs → is_inside z n r ≡ true) → list_all (λ x. is_inside x n r) xs ≡ true
 all_from n r [] each = refl
 all_from n r (x ∷ xs) each = and_from _ _ (each x (inl refl)) (all_from n r xs (λ z i. each z (inr i)))
 

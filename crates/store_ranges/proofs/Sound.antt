@@ -36,7 +36,7 @@ byte_lt : (o : Option ℕ) (d : ℕ) → ((b : ℕ) → o ≡ Some b → b < 2 ^
 byte_lt None d each h = h
 byte_lt (Some b) d each h = each b refl
 
-one_more_byte : (n b l p : ℕ) → p ≡ 2 ^ (8 * n) → b < 2 ^ 8 → l < p → b + 2 ^ 8 * l < 2 ^ 8 * p
+pub one_more_byte : (n b l p : ℕ) → p ≡ 2 ^ (8 * n) → b < 2 ^ 8 → l < p → b + 2 ^ 8 * l < 2 ^ 8 * p
 one_more_byte n b l p e byte below = omega arith
 
 pub loaded_lt : (mem : Memory) → HasBytes mem → (input x n : ℕ) → loaded mem input x n < 2 ^ (8 * n)
@@ -51,7 +51,7 @@ loaded_lt mem bytes input x (suc n) =
     (one_more_byte n _ _ (2 ^ (8 * n)) refl byte rest)
 
 -- ---- rom
-held_parts : (o p : Option ℕ) (w : ℕ) → option_and_then (λ b. option_map (λ w. b + 2 ^ 8 * w) p) o ≡ Some w → (b : ℕ) × (v : ℕ) × (o ≡ Some b) × (p ≡ Some v) × (b + 2 ^ 8 * v ≡ w)
+pub held_parts : (o p : Option ℕ) (w : ℕ) → option_and_then (λ b. option_map (λ w. b + 2 ^ 8 * w) p) o ≡ Some w → (b : ℕ) × (v : ℕ) × (o ≡ Some b) × (p ≡ Some v) × (b + 2 ^ 8 * v ≡ w)
 held_parts None p w e = absurd (let g : None ≡ Some w = e in cc)
 held_parts (Some b) None w e = absurd (let g : None ≡ Some w = e in cc)
 held_parts (Some b) (Some v) w e = (b, v, refl, refl, (let g : Some (b + 2 ^ 8 * v) ≡ Some w = e in cc))
@@ -77,12 +77,12 @@ loaded-held image mem input x (suc n) w fits there e =
 
 -- ---- devices
 -- no byte of a device's range is mapped
-in_ranges : (x n : ℕ) (ds : List Device) → IsInDevice x n ds → IsInOne x n (map (λ d. d.range) ds)
+pub in_ranges : (x n : ℕ) (ds : List Device) → IsInDevice x n ds → IsInOne x n (map (λ d. d.range) ds)
 in_ranges x n [] i = i
 in_ranges x n (d ∷ ds) (inl w) = inl w
 in_ranges x n (d ∷ ds) (inr i) = inr (in_ranges x n ds i)
 
-device_apart : (plan : PlanData) (y : ℕ) → IsPlan plan → IsInDevice y 1 plan.devices → IsMappedBy plan y → ⊥
+pub device_apart : (plan : PlanData) (y : ℕ) → IsPlan plan → IsInDevice y 1 plan.devices → IsMappedBy plan y → ⊥
 device_apart plan y ok i mapped =
     let devices = map (λ d. d.range) plan.devices in
     let device = in_ranges y 1 plan.devices i in
@@ -119,7 +119,7 @@ loaded-input mem input x small fits none =
     (ap (map.get mem) p2 ∙ none (x + 2) (omega arith) (omega arith)) (ap (map.get mem) p3 ∙ none (x + 3) (omega arith) (omega arith))
 
 -- a word is its own extension
-extended-word : (signed : Bool) (w : ℕ) → w < 2 ^ 32 → extended signed 4 w ≡ w
+pub extended-word : (signed : Bool) (w : ℕ) → w < 2 ^ 32 → extended signed 4 w ≡ w
 extended-word false w below = refl
 extended-word true w below = elim (cases_lt w (2 ^ 31)) [
   | inl low ↦ rw (lt-ltb w (2 ^ 31) low) refl

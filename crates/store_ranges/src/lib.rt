@@ -1,6 +1,7 @@
 //! The addresses that stores and loads reach, and what loads give.
 #![tactic(auto)]
 
+mod laws;
 mod loads;
 mod ranges;
 mod rom;
@@ -8,6 +9,7 @@ mod stores;
 #[cfg(test)]
 mod tests;
 
+pub use laws::load_laws;
 pub use loads::load_of;
 pub use rom::loaded_rom;
 pub use stores::{aligned, store_ok};
