@@ -1,12 +1,10 @@
 -- What is in the memory of a start state.
-use Rattle.std.proofs.Common.{◌≡◌, ◌≢◌, ℕ, zero, suc, ◌+◌, ◌-◌, ◌*◌, ◌^◌, ◌<◌, ◌≤◌, ◌⊎◌, inl, inr, Bool, true, false, cond, List, [], ◌∷◌, ◌++◌, length, get_or, Option, Some, None, refl, sym, ap, ◌∙◌, arith, nat_lt}
+use Rattle.std.proofs.Common.{◌≡◌, ◌≢◌, ℕ, zero, suc, ◌+◌, ◌*◌, ◌<◌, ◌≤◌, ◌⊎◌, inl, inr, true, List, [], ◌∷◌, Option, Some, None, refl, sym, ap, ◌∙◌, arith}
 use Rattle.std.proofs.lemmas.Bool.{cases_eq, cases_lt}
 use Rattle.std.specs.Prelude.{is_some}
 use Rattle.std.specs.FinMap as map
-use Rattle.csa_chain.specs.Memory.{Memory, is_mapped, word_at, with_byte, with_words}
-use Rattle.csa_chain.specs.Chain.{link_address, is_area, area_word}
+use Rattle.csa_chain.specs.Memory.{Memory, is_mapped, with_byte}
 use Rattle.csa_chain.proofs.MemoryLaws.{get-with_byte_same, get-with_byte_other, is_mapped-with_byte, is_mapped-with_words, get-with_words_other}
-use Rattle.csa_chain.proofs.ChainLaws.{area_word-written, SameArea-written, area_word_same, is_area-written}
 use Rattle.csa_chain.proofs.WordLaws.{HasBytes-with_words}
 use Rattle.elf_image.specs.Images.{ImageData, image_byte}
 use Rattle.tcd_base.specs.declared.parts.Range.{Range}

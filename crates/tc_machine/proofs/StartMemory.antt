@@ -1,21 +1,19 @@
 -- What is in the memory of a start state, by the plan.
-use Rattle.std.proofs.Common.{◌≡◌, ◌≢◌, ℕ, zero, suc, ◌+◌, ◌-◌, ◌*◌, ◌/◌, ◌%◌, ◌^◌, ◌<◌, ◌≤◌, ◌⊎◌, ◌↔◌, inl, inr, Bool, true, false, cond, List, [], ◌∷◌, ◌++◌, map, length, get_or, Option, Some, None, refl, sym, ap, subst, ◌∙◌, arith, nat_lt, append_assoc, lit<, lit≤}
+use Rattle.std.proofs.Common.{◌≡◌, ℕ, zero, suc, ◌+◌, ◌*◌, ◌^◌, ◌<◌, ◌≤◌, ◌⊎◌, inl, inr, Bool, true, false, cond, [], ◌∷◌, ◌++◌, map, Some, None, refl, sym, ap, subst, ◌∙◌, arith, nat_lt, append_assoc, lit<, lit≤}
 use Rattle.std.proofs.lemmas.Bool.{cases_eq, cases_lt}
 use Rattle.std.specs.Prelude.{is_some}
 use Rattle.std.specs.FinMap as finite
 use Rattle.csa_chain.specs.Memory.{Memory, is_mapped, word_at, with_words}
 use Rattle.csa_chain.specs.Chain.{link_address, is_area, area_word}
-use Rattle.csa_chain.proofs.MemoryLaws.{word_at_agrees}
 use Rattle.csa_chain.proofs.ChainLaws.{area_word-written, SameArea-written, area_word_same, are_mapped_from}
 use Rattle.elf_image.specs.Images.{ImageData, image_byte}
-use Rattle.tcd_base.specs.declared.parts.Range.{Range}
 use Rattle.tcd_plan.specs.PlanData.{PlanData, IsPlan, areas_range, all_apart}
 use Rattle.tc_mem.specs.Pages.{is_in, IsZeros}
-use Rattle.tc_machine.specs.Ranges.{IsWithin, IsInOne, IsInAreas, IsMappedBy, first_link}
+use Rattle.tc_machine.specs.Ranges.{IsInOne, IsInAreas, IsMappedBy, first_link}
 use Rattle.tc_machine.specs.Safe.{HasBytes, IsLinkedUp, HoldsRom, IsPlanMemory}
 use Rattle.tc_machine.specs.Starting.{with_images, next_link, with_links, mapped_ranges_of, IsFilled}
 use Rattle.tc_machine.proofs.Filled.{images_put, images_mapped, images_none, images_outside, links_mapped, links_bytes, links_outside}
-use Rattle.tc_machine.proofs.PlanLaws.{IsInOne-front, IsInOne-behind, all_apart-before, all_apart-behind, link_address-area, link_lt, rom_apart}
+use Rattle.tc_machine.proofs.PlanLaws.{IsInOne-front, IsInOne-behind, all_apart-before, link_address-area, link_lt, rom_apart}
 use Rattle.tc_machine.proofs.Zeros.{is_in-one, IsInOne-parts, zero_at}
 
 word_of_zeros : (m : Memory) (y : ℕ) → ((t : ℕ) → t < 4 → finite.get m (y + t) ≡ Some 0) → word_at m y ≡ 0

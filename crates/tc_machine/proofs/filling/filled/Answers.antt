@@ -1,5 +1,5 @@
 -- The ranges are those of the plan, so the memory is made as it says.
-use Rattle.std.proofs.Common.{subst, ◌∙◌, ◌*◌}
+use Rattle.std.proofs.Common.{subst, ◌∙◌}
 use Rattle.tc_mem.specs.Pages.{IsZeros}
 use Rattle.tc_machine.specs.Safe.{HasBytes}
 use Rattle.tc_machine.specs.Starting.{mapped_ranges_of}

@@ -1,7 +1,7 @@
 -- The plan and the image are what is seen of them, and the memory is filled as the plan says.
-use Rattle.std.proofs.Common.{◌≡◌, ap, subst, sym, ◌∙◌}
-use Rattle.tcd_plan.specs.PlanData.{PlanData, plan_data}
-use Rattle.tc_machine.specs.Starting.{IsFilled, StartsInZeros, mapped_ranges_of}
+use Rattle.std.proofs.Common.{ap, subst}
+use Rattle.tcd_plan.specs.PlanData.{plan_data}
+use Rattle.tc_machine.specs.Starting.{IsFilled, StartsInZeros}
 use Rattle.tc_machine.proofs.StartMemory.{filled_memory}
 use Rattle.tc_machine.proofs.Started.{mapped_fit, state_of, starts_in_zeros}
 use Rattle.tc_machine.proofs.state.Machine.start.Goals as goal
