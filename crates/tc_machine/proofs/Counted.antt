@@ -1,5 +1,5 @@
 -- How a chain is counted, link after link.
-use Rattle.std.proofs.Common.{◌≡◌, ℕ, zero, suc, ◌+◌, ◌-◌, ◌<◌, ◌≤◌, ◌≢◌, Bool, true, false, cond, List, [], ◌∷◌, length, Option, Some, None, refl, sym, ap, ◌∙◌, arith, ◌==◌}
+use Rattle.std.proofs.Common.{◌≡◌, ℕ, zero, suc, ◌+◌, ◌-◌, ◌≤◌, ◌≢◌, Bool, true, false, cond, List, [], ◌∷◌, length, Option, Some, None, refl, sym, ap, ◌∙◌, arith}
 use Rattle.std.proofs.lemmas.Bool.{eq-eqb, ne_eqb}
 use Rattle.std.proofs.lemmas.Option.{cond_some}
 use Rattle.std.specs.Option.{option_map}
@@ -45,7 +45,7 @@ counted_unmapped (suc most) n m word ne unmapped = rw (ne_eqb (link_in word) 0 n
 
 -- a link, and the rest of the chain
 pub counted_more : (most rest n : ℕ) (m : Memory) (word : ℕ) → most ≡ rest + 1 → link_in word ≢ 0 → is_area m (link_in word) ≡ true →
-  counted most n m word ≡ counted rest (n + 1) m (area_word m (link_in word) 0)
+    counted most n m word ≡ counted rest (n + 1) m (area_word m (link_in word) 0)
 unfolding chain_within
 counted_more zero rest n m word e ne mapped = absurd (omega arith)
 counted_more (suc most) rest n m word e ne mapped =
@@ -59,11 +59,11 @@ none_false true x e = cc
 none_false false x e = refl
 
 pub counted_stops : (most n : ℕ) (m : Memory) (word : ℕ) (next : Option ℕ) → next ≡ cond (is_area m (link_in word)) (Some (area_word m (link_in word) 0)) None →
-  next ≡ None → link_in word ≢ 0 → counted most n m word ≡ None
+    next ≡ None → link_in word ≢ 0 → counted most n m word ≡ None
 counted_stops most n m word next is none ne = counted_unmapped most n m word ne (none_false (is_area m (link_in word)) (area_word m (link_in word) 0) (sym is ∙ none))
 
 pub counted_goes_on : (n w : ℕ) (m : Memory) (word : ℕ) (next : Option ℕ) → next ≡ cond (is_area m (link_in word)) (Some (area_word m (link_in word) 0)) None →
-  next ≡ Some w → n ≤ 4096 → n ≢ 4096 → link_in word ≢ 0 → counted (4096 - n) n m word ≡ counted (4096 - (n + 1)) (n + 1) m w
+    next ≡ Some w → n ≤ 4096 → n ≢ 4096 → link_in word ≢ 0 → counted (4096 - n) n m word ≡ counted (4096 - (n + 1)) (n + 1) m w
 counted_goes_on n w m word next is some few other ne =
     let parts = cond_some (is_area m (link_in word)) (area_word m (link_in word) 0) w (sym is ∙ some) in
     counted_more (4096 - n) (4096 - (n + 1)) n m word (omega arith) ne parts.0 ∙ ap (counted (4096 - (n + 1)) (n + 1) m) parts.1

@@ -9,3 +9,7 @@ pub mod Stays
 pub mod ContextWords
 pub mod Decoded
 pub mod Counted
+pub mod Filled
+pub mod Zeros
+pub mod StartMemory
+pub mod Started

@@ -5,4 +5,5 @@ pub mod Instructions
 pub mod Stepping
 pub mod Ranges
 pub mod Safe
+pub mod Starting
 pub mod MachineLaws

@@ -1,7 +1,5 @@
 -- The state of the machine: its registers, its memory and its end.
-use Rattle.std.specs.Prelude.{ℕ, ◌+◌, ◌-◌, ◌*◌, ◌/◌, ◌%◌, ◌^◌, Bool, ◌==◌, nat_lt, if◌then◌else◌, List, slice_index, slice_set}
-use Rattle.csa_chain.specs.Memory.{Memory}
-use Rattle.tcd_base.specs.declared.parts.Core.{Core}
+use Rattle.std.specs.Prelude.{ℕ, ◌+◌, ◌-◌, ◌*◌, ◌/◌, ◌%◌, ◌^◌, Bool, ◌==◌, nat_lt, if◌then◌else◌, slice_index, slice_set}
 use Rattle.tc_isa.specs.declared.shapes.Arg.{Arg}
 use Rattle.tc_isa.specs.declared.shapes.Arg.TheVariants.{Reg, Word}
 use Rattle.tc_machine.specs.declared.events.Cause.{Cause}

@@ -7,7 +7,9 @@ ghost use Rattle.tc_mem.specs.Areas.{area_of};
 ghost use Rattle.tc_machine.specs.Contexts.{context_of, saved, save, area_words, last_context, released, restored_upper, restored_lower, restored, restore};
 
 use crate::{Cause, Machine};
-use csa_chain::{PcxiParts, address_of, load_lower, load_upper, lower_words, pcxi_parts, pcxi_word, upper_words};
+use csa_chain::{
+    PcxiParts, address_of, load_lower, load_upper, lower_words, pcxi_parts, pcxi_word, upper_words,
+};
 use tc_mem::Mem;
 
 /// The link in bits 19:0 of a word.
@@ -19,7 +21,7 @@ pub(crate) fn link(word: u32) -> u32
 
 /// Puts a word into the four bytes from an address on.
 #[tactic(auto, unfolding(csa_chain::specs::Memory::with_word))]
-fn put_word(mem: &mut Mem, addr: u32, word: u32)
+pub(crate) fn put_word(mem: &mut Mem, addr: u32, word: u32)
     requires { addr + 3 < 2 ^ 32 }
     ensures { mem.new ≡ with_word mem.old addr word }
 {

@@ -5,12 +5,19 @@ ghost use Rattle.tc_machine.specs.Instructions.{core_register, with_core_registe
 use crate::{Event, Machine};
 
 const PCXI: u16 = 0xfe00;
+
 const PSW: u16 = 0xfe04;
+
 const BIV: u16 = 0xfe20;
+
 const BTV: u16 = 0xfe24;
+
 const ISP: u16 = 0xfe28;
+
 const ICR: u16 = 0xfe2c;
+
 const FCX: u16 = 0xfe38;
+
 const LCX: u16 = 0xfe3c;
 
 /// ICR: CCPN in bits 7:0, IE in bit 8, the rest from outside.

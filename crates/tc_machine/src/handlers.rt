@@ -27,10 +27,10 @@ impl Machine {
     /// Goes to a handler that goes back to an address.
     fn enter(&mut self, back: u32, entry: u32, stack: u32, psw: u32)
         ensures { self.new ≡ record self.old {
-            a = slice_set (slice_set self.old.a 11 back) 10 stack;
-            psw = handler_psw psw;
-            ie = false;
-            pc = entry;
+          a = slice_set (slice_set self.old.a 11 back) 10 stack;
+          psw = handler_psw psw;
+          ie = false;
+          pc = entry;
         } }
     {
         self.a[11] = back;

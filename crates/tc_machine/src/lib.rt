@@ -7,13 +7,17 @@ mod contexts;
 mod core_registers;
 mod events;
 mod fetching;
+mod filling;
 mod handlers;
 mod instructions;
 mod laws;
 mod operands;
 mod registers;
+mod starting;
 mod state;
 mod stepping;
+#[cfg(test)]
+mod tests;
 
 pub use events::{Cause, End, Event};
 pub use laws::laws_of_machines;

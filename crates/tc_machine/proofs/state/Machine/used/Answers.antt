@@ -22,8 +22,8 @@ loop-word-preserved c =
     let more : link_in c.loop-word.word ≢ 0 = λ e. c.loop-word-test.true (c.link.ensures ∙ e) in record {
       few = omega arith;
       same =
-        sym (counted_goes_on c.loop-word.count c.in_ok-word.word c.args.self.now.mem c.loop-word.word c.word_after.result c.word_after.ensures c.in_ok-word.was c.loop-word.invariant.few c.if-count-eq4096.false more)
-        ∙ c.loop-word.invariant.same;
+          sym (counted_goes_on c.loop-word.count c.in_ok-word.word c.args.self.now.mem c.loop-word.word c.word_after.result c.word_after.ensures c.in_ok-word.was c.loop-word.invariant.few c.if-count-eq4096.false more)
+          ∙ c.loop-word.invariant.same;
     }
 
 pub returns : goal.returns

@@ -1,0 +1,48 @@
+-- What is mapped in ranges of zeros.
+use Rattle.std.proofs.Common.{◌≡◌, ℕ, ◌+◌, ◌^◌, ◌<◌, ◌⊎◌, inl, inr, Bool, true, false, ◌||◌, ◌&&◌, cond, List, [], ◌∷◌, ◌++◌, Some, None, refl, sym, ap, ◌∙◌, arith, nat_le, nat_lt}
+use Rattle.std.proofs.lemmas.Bool.{and_parts, and_from, or_cases, le-leb, leb-true, lt-ltb, ltb-true}
+use Rattle.std.specs.FinMap as map
+use Rattle.csa_chain.specs.Memory.{Memory}
+use Rattle.tcd_base.specs.declared.parts.Range.{Range}
+use Rattle.tc_mem.specs.Pages.{is_in, IsZeros}
+use Rattle.tc_machine.specs.Ranges.{IsInOne}
+use Rattle.tc_machine.specs.Safe.{HasBytes}
+
+or_left : (a b : Bool) → a ≡ true → (a || b) ≡ true
+or_left a b e = ap (λ t. t || b) e
+
+or_right : (a b : Bool) → b ≡ true → (a || b) ≡ true
+or_right true b e = refl
+or_right false b e = e
+
+pub is_in-from : (q : ℕ) (rs : List Range) → IsInOne q 1 rs → is_in rs q ≡ true
+is_in-from q [] h = absurd h
+is_in-from q (r ∷ rs) (inl h) =
+    or_left _ (is_in rs q) (and_from (nat_le r.at q) (nat_lt q (r.at + r.len)) (le-leb r.at q h.0) (lt-ltb q (r.at + r.len) (let lt = h.1 in omega arith)))
+is_in-from q (r ∷ rs) (inr h) = or_right _ (is_in rs q) (is_in-from q rs h)
+
+pub is_in-one : (q : ℕ) (rs : List Range) → is_in rs q ≡ true → IsInOne q 1 rs
+is_in-one q [] e = cc
+is_in-one q (r ∷ rs) e =
+    elim (or_cases (nat_le r.at q && nat_lt q (r.at + r.len)) (is_in rs q) e) [
+      | inl here ↦
+          let low = leb-true r.at q (and_parts (nat_le r.at q) (nat_lt q (r.at + r.len)) here).0 in
+          let high = ltb-true q (r.at + r.len) (and_parts (nat_le r.at q) (nat_lt q (r.at + r.len)) here).1 in
+          inl (low, omega arith)
+      | inr rest ↦ inr (is_in-one q rs rest)
+    ]
+
+pub IsInOne-parts : (q n : ℕ) (rs ss : List Range) → IsInOne q n (rs ++ ss) → IsInOne q n rs ⊎ IsInOne q n ss
+IsInOne-parts q n [] ss h = inr h
+IsInOne-parts q n (r ∷ rs) ss (inl h) = inl (inl h)
+IsInOne-parts q n (r ∷ rs) ss (inr h) = elim (IsInOne-parts q n rs ss h) [ inl a ↦ inl (inr a) | inr b ↦ inr b ]
+
+byte_zero : (t : Bool) (b : ℕ) → cond t (Some 0) None ≡ Some b → b < 2 ^ 8
+byte_zero true b e = let z : 0 ≡ b = cc in omega arith
+byte_zero false b e = cc
+
+pub zeros_bytes : (ranges : List Range) (m : Memory) → IsZeros ranges m → HasBytes m
+zeros_bytes ranges m zeros x b at = byte_zero (is_in ranges x) b (sym (zeros x) ∙ at)
+
+pub zero_at : (ranges : List Range) (m : Memory) (q : ℕ) → IsZeros ranges m → IsInOne q 1 ranges → map.get m q ≡ Some 0
+zero_at ranges m q zeros h = zeros q ∙ ap (λ t. cond t (Some 0) None) (is_in-from q ranges h)

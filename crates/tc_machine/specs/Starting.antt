@@ -1,0 +1,74 @@
+-- The state that a machine is made in, and how its memory is filled.
+use Rattle.std.specs.Prelude.{◌≡◌, ℕ, zero, suc, ◌+◌, ◌*◌, ◌/◌, ◌%◌, ◌^◌, ◌<◌, Bool, nat_lt, if◌then◌else◌, List, [], ◌∷◌, ◌++◌, slice_index, Option, Some, None}
+use Rattle.std.specs.FinMap as map
+use Rattle.csa_chain.specs.Memory.{Memory, with_byte, with_words}
+use Rattle.csa_chain.specs.Chain.{area_word}
+use Rattle.elf_image.specs.Images.{ImageData, image_byte}
+use Rattle.tcd_base.specs.declared.parts.Range.{Range}
+use Rattle.tcd_plan.specs.PlanData.{PlanData}
+use Rattle.tc_mem.specs.Pages.{IsZeros}
+use Rattle.tc_machine.specs.declared.state.Machine.{Machine}
+use Rattle.tc_machine.specs.Ranges.{IsInOne, first_link}
+use Rattle.tc_machine.specs.Safe.{HasBytes, Starts}
+
+-- ---- the memory is filled
+abbrev pub with_some : Memory → ℕ → Option ℕ → Memory
+with_some m x (Some b) = with_byte m x b
+with_some m x None = m
+
+-- the memory with the image's bytes in the n bytes from x on
+unfoldable pub with_image : ImageData → Memory → ℕ → ℕ → Memory
+with_image image m x zero = m
+with_image image m x (suc n) = with_some (with_image image m x n) (x + n) (image_byte image (x + n))
+
+-- and in all of these ranges
+abbrev pub with_images : ImageData → Memory → List Range → Memory
+with_images image m [] = m
+with_images image m (r ∷ rs) = with_images image (with_image image m r.at r.len) rs
+
+-- the link of the area after area i of n: 0 after the last one
+abbrev pub next_link : ℕ → ℕ → ℕ → ℕ
+next_link first n i = if nat_lt (i + 1) n then first + (i + 1) else 0
+
+-- the memory with the links of n areas in the first k of them, which lie from an address on
+unfoldable pub with_links : ℕ → ℕ → ℕ → Memory → ℕ → Memory
+with_links at first n m zero = m
+with_links at first n m (suc k) = with_words (with_links at first n m k) (at + 64 * k) (next_link first n k ∷ [])
+
+-- the link of the area at an address
+abbrev pub link_at : ℕ → ℕ
+link_at at = at / 2 ^ 28 * 2 ^ 16 + at % 2 ^ 28 / 64
+
+-- the mapped ranges: rom, ram and n areas from an address on
+abbrev pub mapped_ranges_of : List Range → List Range → ℕ → ℕ → List Range
+mapped_ranges_of rom ram at n = rom ++ ram ++ record { at = at; len = 64 * n } ∷ []
+
+-- a memory made of zeros in those ranges, the image's bytes in rom, and the links
+pub record IsFilled (image : ImageData) (rom ram : List Range) (at n : ℕ) (mem : Memory) : Type 0 where
+  pub zeros : Memory
+  pub are_zeros : IsZeros (mapped_ranges_of rom ram at n) zeros
+  pub bytes : HasBytes (with_images image zeros rom)
+  pub is : mem ≡ with_links at (link_at at) n (with_images image zeros rom) n
+
+-- ---- the start
+-- A0 to A15 at the start: the globals, the stack pointer, and 0 in the others
+abbrev pub a_at_start : PlanData → List ℕ
+a_at_start plan =
+    slice_index plan.globals 0 ∷ slice_index plan.globals 1 ∷ 0 ∷ 0 ∷ 0 ∷ 0 ∷ 0 ∷ 0
+    ∷ slice_index plan.globals 2 ∷ slice_index plan.globals 3 ∷ plan.sp ∷ 0 ∷ 0 ∷ 0 ∷ 0 ∷ 0 ∷ []
+
+-- PSW at the start: IO (bits 11:10) is 2, IS (bit 9) is the plan's, the other bits are 0
+abbrev pub psw_at_start : Bool → ℕ
+psw_at_start is = if is then 2 * 2 ^ 10 + 2 ^ 9 else 2 * 2 ^ 10
+
+-- The state that starts the image under the plan, in which all that a start state may choose is 0: the registers that
+-- the plan doesn't give, the other bits of PSW, the bytes of ram, those of rom that no segment holds, and the words of
+-- the save areas that are no link.
+pub record StartsInZeros (image : ImageData) (plan : PlanData) (m : Machine) : Type 0 where
+  pub starts : Starts image plan m
+  pub d : m.d ≡ 0 ∷ 0 ∷ 0 ∷ 0 ∷ 0 ∷ 0 ∷ 0 ∷ 0 ∷ 0 ∷ 0 ∷ 0 ∷ 0 ∷ 0 ∷ 0 ∷ 0 ∷ 0 ∷ []
+  pub a : m.a ≡ a_at_start plan
+  pub psw : m.psw ≡ psw_at_start plan.start_is
+  pub ram : (x : ℕ) → IsInOne x 1 plan.ram → map.get m.mem x ≡ Some 0
+  pub rom : (x : ℕ) → IsInOne x 1 plan.rom → image_byte image x ≡ None → map.get m.mem x ≡ Some 0
+  pub words : (i k : ℕ) → i < plan.areas → 0 < k → k < 16 → area_word m.mem (first_link plan + i) k ≡ 0

@@ -1,0 +1,57 @@
+// The start of a machine.
+ghost use Rattle.std.specs.Prelude.{◌≡◌, IfOk};
+ghost use Rattle.tc_machine.specs.Starting.{psw_at_start, StartsInZeros};
+
+use crate::filling::{area_link, filled};
+use crate::{End, Machine};
+use elf_image::Image;
+use std::alloc::Global;
+use tcd_base::NoMemory;
+use tcd_plan::Plan;
+
+/// PSW at the start: IO is 2, IS the plan's, and the other bits are 0.
+fn start_psw(is: bool) -> u32
+    ensures { result ≡ psw_at_start is }
+{
+    if is { 0xa00 } else { 0x800 }
+}
+
+impl Machine {
+    /// The state that starts the image under the plan, in which all that a start state may choose is 0.
+    pub fn start(alloc: Global, image: &Image, plan: &Plan) -> Result<Machine, NoMemory>
+        ensures { IfOk result (λ m. StartsInZeros image.now plan.now m) }
+    {
+        let csa_at = plan.csa_at;
+        let areas = plan.areas;
+        let mem = filled(
+            alloc,
+            image,
+            plan.rom.as_slice(),
+            plan.ram.as_slice(),
+            csa_at,
+            areas,
+        )?;
+        let first = area_link(csa_at);
+        let globals = plan.globals;
+        Ok(Machine {
+            pc: image.entry,
+            d: [0; 16],
+            a: [
+                globals[0], globals[1], 0, 0, 0, 0, 0, 0, globals[2], globals[3], plan.sp, 0, 0, 0,
+                0, 0,
+            ],
+            psw: start_psw(plan.start_is),
+            pcxi: 0,
+            fcx: first,
+            lcx: first + (areas - plan.reserve),
+            ccpn: plan.start_ccpn,
+            ie: plan.start_ie,
+            biv: plan.biv,
+            btv: plan.btv,
+            isp: plan.isp,
+            mem,
+            end: End::Running,
+            core: plan.core,
+        })
+    }
+}
