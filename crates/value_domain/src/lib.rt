@@ -14,3 +14,6 @@ pub use laws::{state_laws, value_laws};
 pub use limits::Bounds;
 pub use states::{State, covers, join_states};
 pub use values::{Val, Words};
+
+#[cfg(test)]
+mod tests;

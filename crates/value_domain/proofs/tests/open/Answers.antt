@@ -1,0 +1,17 @@
+use Rattle.std.proofs.Common.{◌≡◌, ◌<◌, ℕ, List, length, replicate, sym, ap, arith, slice_index_or}
+use Rattle.std.proofs.lemmas.List.{get_or-replicate}
+use Rattle.std.proofs.Math.ListN.{length-replicate}
+use Rattle.value_domain.specs.declared.values.Val.{Val}
+use Rattle.value_domain.specs.Values.{IsWell, IsValue, any_val}
+use Rattle.value_domain.proofs.RangeLaws.{any_value}
+use Rattle.value_domain.proofs.tests.open.Goals as goal
+
+-- each of the values is any word
+each_any : (vs : List Val) → vs ≡ replicate 27 any_val → (r : ℕ) → r < length vs → slice_index_or vs r any_val ≡ any_val
+each_any vs e r lt = rw e (get_or-replicate 27 r any_val any_val (omega (arith, lt, ap (λ (l : List Val). length l) e, length-replicate 27 any_val)))
+
+pub returns-clause-well : goal.returns-clause-well
+returns-clause-well c = λ r lt. rw (each_any c.any_regs.result c.any_regs.ensures r lt) (omega arith, omega arith, omega arith)
+
+pub returns-clause-values : goal.returns-clause-values
+returns-clause-values c = λ b limits r lt. rw (each_any c.any_regs.result c.any_regs.ensures r lt) (any_value b limits)
