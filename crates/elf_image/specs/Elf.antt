@@ -14,7 +14,9 @@ half_at bytes at = slice_index bytes at + slice_index bytes (at + 1) * 2 ^ 8
 
 -- the four bytes of a file from a place on (ELF's Elf32_Word, Elf32_Addr and Elf32_Off)
 unfoldable pub word_at : List ℕ → ℕ → ℕ
-word_at bytes at = slice_index bytes at + slice_index bytes (at + 1) * 2 ^ 8 + slice_index bytes (at + 2) * 2 ^ 16 + slice_index bytes (at + 3) * 2 ^ 24
+word_at bytes at =
+    slice_index bytes at + slice_index bytes (at + 1) * 2 ^ 8
+    + slice_index bytes (at + 2) * 2 ^ 16 + slice_index bytes (at + 3) * 2 ^ 24
 
 -- ---- the fields of the ELF header, Elf32_Ehdr
 
@@ -71,7 +73,10 @@ is_load h = h.kind == 1
 
 -- its bytes pass the end of a file of this length, or the last address; or its file part is longer than the whole
 abbrev pub passes_bounds : ℕ → Header → Bool
-passes_bounds len h = nat_lt len (h.offset + h.file_size) || nat_lt (2 ^ 32) (h.address + h.file_size) || nat_lt h.memory_size h.file_size
+passes_bounds len h =
+    nat_lt len (h.offset + h.file_size)
+    || nat_lt (2 ^ 32) (h.address + h.file_size)
+    || nat_lt h.memory_size h.file_size
 
 unfoldable pub is_bad : List ℕ → Header → Bool
 is_bad bytes h = is_cut bytes h.number || (is_load h && passes_bounds (length bytes) h)
@@ -92,11 +97,18 @@ meets h k = nat_lt h.address (k.address + k.file_size) && nat_lt k.address (h.ad
 
 -- what isn't an ELF file, 32 bits, the least significant byte first; for this machine (44); executable (ET_EXEC)
 unfoldable pub start_refusal : List ℕ → Option ImageErr
-start_refusal bytes = if nat_lt (length bytes) 52 then Some Short else (if not (starts_with nat_eq bytes ident) then Some NotElf32Le else (if not (e_machine bytes == 44) then Some NotTriCore else (if not (e_type bytes == 2) then Some NotExec else None)))
+start_refusal bytes =
+    if nat_lt (length bytes) 52 then Some Short
+    else (if not (starts_with nat_eq bytes ident) then Some NotElf32Le
+    else (if not (e_machine bytes == 44) then Some NotTriCore
+    else (if not (e_type bytes == 2) then Some NotExec
+    else None)))
 
 -- program headers that aren't of 32 bytes, or else the first one that is bad
 unfoldable pub segment_refusal : List ℕ → Option ImageErr
-segment_refusal bytes = if nat_lt 0 (e_phnum bytes) && not (e_phentsize bytes == 32) then Some (BadSegment 0) else option_map (λ h. BadSegment h.number) (find (is_bad bytes) (headers_of bytes))
+segment_refusal bytes =
+    if nat_lt 0 (e_phnum bytes) && not (e_phentsize bytes == 32) then Some (BadSegment 0)
+    else option_map (λ h. BadSegment h.number) (find (is_bad bytes) (headers_of bytes))
 
 -- more than an image holds
 unfoldable pub is_large : List Header → Bool
@@ -105,11 +117,16 @@ is_large loads = nat_lt 64 (length loads) || nat_lt (2 ^ 24) (sum_by (λ h. h.fi
 -- the first header that shares an address with a later one, and the first that it shares one with
 unfoldable pub overlap_refusal : List Header → Option ImageErr
 overlap_refusal [] = None
-overlap_refusal (h ∷ hs) = option_or (option_map (λ k. Overlap h.number k.number) (find (meets h) hs)) (overlap_refusal hs)
+overlap_refusal (h ∷ hs) =
+    option_or (option_map (λ k. Overlap h.number k.number) (find (meets h) hs)) (overlap_refusal hs)
 
 -- the first refusal, in their order
 unfoldable pub refusal_of : List ℕ → Option ImageErr
-refusal_of bytes = option_or (start_refusal bytes) (option_or (segment_refusal bytes) (option_or (then_some (is_large (loads_of bytes)) TooLarge) (overlap_refusal (loads_of bytes))))
+refusal_of bytes =
+    option_or (start_refusal bytes)
+    (option_or (segment_refusal bytes)
+    (option_or (then_some (is_large (loads_of bytes)) TooLarge)
+    (overlap_refusal (loads_of bytes))))
 
 -- ---- the image of a file
 

@@ -24,12 +24,14 @@ elf_header entry count =
 
 -- p_type PT_LOAD, p_offset, p_vaddr, p_paddr; p_filesz, p_memsz, p_flags readable and executable, p_align
 unfoldable pub program_header : ℕ → ℕ → ℕ → List ℕ
-program_header offset at len = word 1 ++ word offset ++ word at ++ word at ++ word len ++ word len ++ word 5 ++ word 1
+program_header offset at len =
+    word 1 ++ word offset ++ word at ++ word at ++ word len ++ word len ++ word 5 ++ word 1
 
 -- the program headers of segments whose bytes begin at this place of the file
 unfoldable pub program_headers : ℕ → List SegmentData → List ℕ
 program_headers offset [] = []
-program_headers offset (s ∷ ss) = program_header offset s.at (length s.bytes) ++ program_headers (offset + length s.bytes) ss
+program_headers offset (s ∷ ss) =
+    program_header offset s.at (length s.bytes) ++ program_headers (offset + length s.bytes) ss
 
 -- where the segments' bytes begin
 abbrev pub contents_place : List SegmentData → ℕ
@@ -40,4 +42,6 @@ unfoldable pub contents : List SegmentData → List ℕ
 contents ss = flat_map (λ s. s.bytes) ss
 
 unfoldable pub file_of : ImageData → List ℕ
-file_of i = elf_header i.entry (length i.segments) ++ (program_headers (contents_place i.segments) i.segments ++ contents i.segments)
+file_of i =
+    elf_header i.entry (length i.segments)
+    ++ (program_headers (contents_place i.segments) i.segments ++ contents i.segments)

@@ -6,6 +6,8 @@ mod headers;
 mod holding;
 mod images;
 mod reading;
+#[cfg(test)]
+mod tests;
 mod writing;
 
 pub use errors::ImageErr;

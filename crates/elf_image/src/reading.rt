@@ -2,8 +2,7 @@
 ghost use Rattle.std.specs.Prelude.{◌≡◌, ◌+◌, ◌≤◌, ◌<◌, ◌⊎◌, length, map, find, All, Option, Some, None, OnOk, IfOk, IfErr, true, false};
 ghost use Rattle.std.specs.Result.{result_err};
 ghost use Rattle.std.specs.Option.{option_map};
-ghost use Rattle.elf_image.specs.Elf.{e_phnum, header_at, headers_of, is_bad, start_refusal, segment_refusal, meets, loads_of, is_large, overlap_refusal};
-ghost use Rattle.elf_image.specs.Elf.{segment_of};
+ghost use Rattle.elf_image.specs.Elf.{e_phnum, header_at, headers_of, is_bad, start_refusal, segment_refusal, meets, loads_of, is_large, overlap_refusal, segment_of};
 ghost use Rattle.elf_image.specs.Images.{segment_data};
 
 use crate::headers::{Header, half_at, has_bytes, header_at, is_bad, meets};
@@ -89,8 +88,10 @@ pub(crate) fn check_apart(loads: &[Header]) -> Result<(), ImageErr>
 pub(crate) fn loads_of(alloc: Global, bytes: &[u8]) -> Result<Vec<Header>, ImageErr>
     requires long { 52 ≤ length bytes.now }
     requires good { segment_refusal bytes.now ≡ None }
-    ensures ok { IfOk result (λ v. (v.items ≡ loads_of bytes.now) × (is_large (loads_of bytes.now) ≡ false)) }
-    ensures err { IfErr result (λ e. (e ≡ ImageErr.NoMemory) ⊎ ((e ≡ ImageErr.TooLarge) × (is_large (loads_of bytes.now) ≡ true))) }
+    ensures ok { IfOk result (λ v.
+        (v.items ≡ loads_of bytes.now) × (is_large (loads_of bytes.now) ≡ false)) }
+    ensures err { IfErr result (λ e.
+        (e ≡ ImageErr.NoMemory) ⊎ ((e ≡ ImageErr.TooLarge) × (is_large (loads_of bytes.now) ≡ true))) }
 {
     let mut loads = Vec::new(alloc);
     let mut total = 0u32;
@@ -130,7 +131,8 @@ pub(crate) fn segments_of(
     loads: &[Header],
 ) -> Result<Vec<Segment>, ImageErr>
     requires { All (λ h. h.offset + h.file_size ≤ length bytes.now) loads.now }
-    ensures ok { IfOk result (λ v. map segment_data v.items ≡ map (segment_of bytes.now) loads.now) }
+    ensures ok { IfOk result (λ v.
+        map segment_data v.items ≡ map (segment_of bytes.now) loads.now) }
     ensures err { IfErr result (λ e. e ≡ ImageErr.NoMemory) }
 {
     let mut segments = Vec::new(alloc);

@@ -39,7 +39,8 @@ fn program_header(offset: u32, at: u32, len: u32) -> [u8; 32]
 fn put_headers(out: &mut Vec<u8>, segments: &[Segment]) -> Result<(), ImageErr>
     requires few { length segments.now ≤ 64 }
     requires small { sum_by (λ s. length s.bytes) (map segment_data segments.now) ≤ 2 ^ 24 }
-    ensures ok { OnOk result (out.new.items ≡ out.old.items ++ program_headers (contents_place (map segment_data segments.now)) (map segment_data segments.now)) }
+    ensures ok { let all = map segment_data segments.now in
+        OnOk result (out.new.items ≡ out.old.items ++ program_headers (contents_place all) all) }
     ensures err { IfErr result (λ e. e ≡ ImageErr.NoMemory) }
 {
     let mut offset = 52 + 32 * segments.len() as u32;
@@ -54,7 +55,8 @@ fn put_headers(out: &mut Vec<u8>, segments: &[Segment]) -> Result<(), ImageErr>
 // Appends the segments' bytes.
 #[tactic(auto, unfolding(crate::specs::Written::contents))]
 fn put_contents(out: &mut Vec<u8>, segments: &[Segment]) -> Result<(), ImageErr>
-    ensures ok { OnOk result (out.new.items ≡ out.old.items ++ contents (map segment_data segments.now)) }
+    ensures ok { OnOk result
+        (out.new.items ≡ out.old.items ++ contents (map segment_data segments.now)) }
     ensures err { IfErr result (λ e. e ≡ ImageErr.NoMemory) }
 {
     for segment in segments {
@@ -68,7 +70,8 @@ fn put_contents(out: &mut Vec<u8>, segments: &[Segment]) -> Result<(), ImageErr>
 pub(crate) fn written(alloc: Global, entry: u32, segments: &[Segment]) -> Result<Vec<u8>, ImageErr>
     requires few { length segments.now ≤ 64 }
     requires small { sum_by (λ s. length s.bytes) (map segment_data segments.now) ≤ 2 ^ 24 }
-    ensures ok { IfOk result (λ v. v.items ≡ file_of (record { entry = entry; segments = map segment_data segments.now })) }
+    ensures ok { IfOk result (λ v.
+        v.items ≡ file_of (record { entry = entry; segments = map segment_data segments.now })) }
     ensures err { IfErr result (λ e. e ≡ ImageErr.NoMemory) }
 {
     let mut out = Vec::new(alloc);

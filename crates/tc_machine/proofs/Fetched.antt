@@ -8,9 +8,9 @@ use Rattle.tcd_plan.specs.PlanData.{PlanData, IsPlan}
 use Rattle.tc_isa.specs.Insts.{InstData}
 use Rattle.tc_isa.specs.Shapes.{shape_of}
 use Rattle.tc_encode.specs.Decoding.{decoded_of}
-use Rattle.tc_encode.specs.DecodeLaws.{DecodeLaws}
+use Rattle.tc_encode.proofs.DecodeProofs.{decode_laws}
 use Rattle.tc_machine.specs.declared.events.Cause.TheVariants.{NoCode}
-use Rattle.tc_machine.specs.Machine.{Machine}
+use Rattle.tc_machine.specs.declared.state.Machine.{Machine}
 use Rattle.tc_machine.specs.Fetching.{in_front, mapped_bytes, shaped, fetched}
 use Rattle.tc_machine.specs.Safe.{HoldsRom, SpellsAt, IsAtCode}
 use Rattle.tc_machine.proofs.PlanLaws.{in_one, rom_fits}
@@ -35,7 +35,7 @@ mapped_bytes-front (suc n) m x (b ∷ c ∷ bytes) le fits there =
           ∙ ap (λ y. b ∷ mapped_bytes n m y) (small_mod (x + 1) (omega arith)) ∙ ap (λ bs. b ∷ bs) more.1,
     )
 
-module _ (laws : DecodeLaws) (image : ImageData) {plan : PlanData} (ok : IsPlan plan) where
+module _ (image : ImageData) {plan : PlanData} (ok : IsPlan plan) where
   -- the image's code is in memory
   pub code_there : (m : Machine) → HoldsRom image plan m.mem → (bytes : List ℕ) (inst : InstData) → SpellsAt image plan m.pc bytes inst → (i : ℕ) → i < length bytes → map.get m.mem (m.pc + i) ≡ Some (get_or bytes i 0)
   code_there m rom bytes inst s i lt = rom (m.pc + i) (get_or bytes i 0) (in_one m.pc (length bytes) i plan.rom lt s.in_rom) (s.held i lt)
@@ -44,11 +44,11 @@ module _ (laws : DecodeLaws) (image : ImageData) {plan : PlanData} (ok : IsPlan 
   pub fetched-is : (m : Machine) → HoldsRom image plan m.mem → m.pc % 2 ≡ 0 → (bytes : List ℕ) (inst : InstData) → SpellsAt image plan m.pc bytes inst → fetched m ≡ Ok (shape_of inst, length bytes)
   unfolding fetched
   fetched-is m rom even bytes inst s =
-      let short = (laws.lengths (bytes ++ []) inst (length bytes) (laws.spelled bytes [] inst s.spelled)).1 in
+      let short = (decode_laws.lengths (bytes ++ []) inst (length bytes) (decode_laws.spelled bytes [] inst s.spelled)).1 in
       let front = mapped_bytes-front 4 m.mem m.pc bytes short (rom_fits ok m.pc (length bytes) s.in_rom) (code_there m rom bytes inst s) in
       ap (λ t. cond t (shaped (decoded_of (mapped_bytes 4 m.mem m.pc))) (Err NoCode)) (eq-eqb _ _ even)
       ∙ ap (λ bs. shaped (decoded_of bs)) front.1
-      ∙ ap shaped (laws.spelled bytes front.0 inst s.spelled)
+      ∙ ap shaped (decode_laws.spelled bytes front.0 inst s.spelled)
 
   pub IsAtCode-from : (m : Machine) → HoldsRom image plan m.mem → (bytes : List ℕ) (inst : InstData) → SpellsAt image plan m.pc bytes inst → IsAtCode image plan m
   IsAtCode-from m rom bytes inst s = record { bytes = bytes; inst = inst; spells = s; there = code_there m rom bytes inst s }

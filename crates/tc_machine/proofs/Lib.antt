@@ -3,3 +3,9 @@ pub mod Saves
 pub mod Fetched
 pub mod Areas
 pub mod Steps
+pub mod ShapeWords
+pub mod Words
+pub mod Stays
+pub mod ContextWords
+pub mod Decoded
+pub mod Counted

@@ -4,7 +4,8 @@ use Rattle.std.proofs.lemmas.Bool.{ne_eqb}
 use Rattle.csa_chain.specs.Chain.{link_in, is_area}
 use Rattle.tc_machine.specs.declared.events.End.TheVariants.{Running}
 use Rattle.tc_machine.specs.declared.events.Cause.TheVariants.{Fcd, Fcu, Csu, Ctyp, NoArea}
-use Rattle.tc_machine.specs.Machine.{Machine, died, goes_on, then_, moved}
+use Rattle.tc_machine.specs.declared.state.Machine.{Machine}
+use Rattle.tc_machine.specs.Machine.{died, goes_on, then_, moved}
 use Rattle.tc_machine.specs.Contexts.{context_of, saved, save, has_kind, restored, restore}
 
 -- a save stands where the first free area is mapped and isn't the list's limit

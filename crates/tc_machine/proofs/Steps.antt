@@ -1,12 +1,13 @@
 -- One step at a time: what an event of a running machine does, and what some instructions do.
-use Rattle.std.proofs.Common.{◌≡◌, ℕ, ◌/◌, ◌*◌, Bool, true, false, cond, set, Result, Ok, Option, None, refl, ap, ◌∙◌}
+use Rattle.std.proofs.Common.{◌≡◌, ℕ, ◌/◌, ◌*◌, true, false, cond, set, Result, Ok, None, refl, ap, ◌∙◌}
 use Rattle.tc_isa.specs.declared.shapes.Target.{Target}
 use Rattle.tc_isa.specs.declared.shapes.Shape.{Shape}
 use Rattle.tc_isa.specs.declared.shapes.Shape.TheVariants.{Call, Jump, Ret, Nothing}
 use Rattle.tc_machine.specs.declared.events.Cause.{Cause}
 use Rattle.tc_machine.specs.declared.events.Event.{Event}
 use Rattle.tc_machine.specs.declared.events.End.TheVariants.{Running}
-use Rattle.tc_machine.specs.Machine.{Machine, a11, with_status, moved, advanced, then_}
+use Rattle.tc_machine.specs.declared.state.Machine.{Machine}
+use Rattle.tc_machine.specs.Machine.{a11, with_status, moved, advanced, then_}
 use Rattle.tc_machine.specs.Contexts.{save, restore}
 use Rattle.tc_machine.specs.Fetching.{fetched}
 use Rattle.tc_machine.specs.Instructions.{interrupt, target_of, does}
@@ -25,6 +26,11 @@ pub step-is : (m : Machine) (e : Event) → m.end ≡ Running → (done m e).end
 unfolding step
 step-is m e here after =
     then_-running m (λ m. then_ (done m e) (λ n. with_event n e)) here ∙ then_-running (done m e) (λ n. with_event n e) after
+
+pub step_does : (m : Machine) (e : Event) (shape : Shape) (n : ℕ) → m.end ≡ Running → is_taken m e ≡ false → fetched m ≡ Ok (shape, n) → (does m e shape n).end ≡ Running → step m e ≡ with_event (does m e shape n) e
+step_does m e shape n here none at after =
+    let is = done-is m e shape n none at in
+    step-is m e here (ap (λ r. r.end) is ∙ after) ∙ ap (λ r. with_event r e) is
 
 -- what stores is the instruction at pc, where the machine runs and no interrupt is taken
 pub stored-is : (m : Machine) (e : Event) (found : Result (Shape × ℕ) Cause) → m.end ≡ Running → is_taken m e ≡ false → fetched m ≡ found → stored m e ≡ store_in m e found

@@ -1,10 +1,11 @@
 -- Saving and restoring contexts (TriCore 1 architecture manual, volume 1, context management).
 use Rattle.std.specs.Prelude.{ℕ, Bool, not, ◌==◌, if◌then◌else◌, List, [], ◌∷◌, map}
-use Rattle.csa_chain.specs.Memory.{with_words}
+use Rattle.csa_chain.specs.Memory.{Memory, with_words}
 use Rattle.csa_chain.specs.Chain.{link_in, link_address, is_area, area_word}
 use Rattle.csa_chain.specs.Contexts.{pcxi_word_of, ul_of, with_link, upper_words_of, lower_words_of, d_after_upper, a_after_upper, d_after_lower, a_after_lower}
 use Rattle.tc_machine.specs.declared.events.Cause.TheVariants.{Fcd, Fcu, Csu, Ctyp, NoArea}
-use Rattle.tc_machine.specs.Machine.{Machine, died}
+use Rattle.tc_machine.specs.declared.state.Machine.{Machine}
+use Rattle.tc_machine.specs.Machine.{died}
 
 -- the 16 words of the upper or the lower context
 abbrev pub context_of : Machine → Bool → List ℕ
@@ -42,10 +43,13 @@ released m =
       fcx = with_link m.fcx used;
     }
 
--- the 16 words of the area that PCXI names
+-- the 16 words of the area of a link
+abbrev pub area_words : Memory → ℕ → List ℕ
+area_words mem link = map (area_word mem link) (0 ∷ 1 ∷ 2 ∷ 3 ∷ 4 ∷ 5 ∷ 6 ∷ 7 ∷ 8 ∷ 9 ∷ 10 ∷ 11 ∷ 12 ∷ 13 ∷ 14 ∷ 15 ∷ [])
+
+-- those of the area that PCXI names
 abbrev pub last_context : Machine → List ℕ
-last_context m =
-    map (area_word m.mem (link_in m.pcxi)) (0 ∷ 1 ∷ 2 ∷ 3 ∷ 4 ∷ 5 ∷ 6 ∷ 7 ∷ 8 ∷ 9 ∷ 10 ∷ 11 ∷ 12 ∷ 13 ∷ 14 ∷ 15 ∷ [])
+last_context m = area_words m.mem (link_in m.pcxi)
 
 -- the machine once the upper context, PSW with it, has come back from that area
 abbrev pub restored_upper : Machine → Machine

@@ -11,7 +11,7 @@ use Rattle.tc_encode.specs.declared.errors.DecodeErr.{DecodeErr}
 use Rattle.tc_encode.specs.declared.errors.DecodeErr.TheVariants.{Short}
 use Rattle.tc_machine.specs.declared.events.Cause.{Cause}
 use Rattle.tc_machine.specs.declared.events.Cause.TheVariants.{NotListed, NoCode}
-use Rattle.tc_machine.specs.Machine.{Machine}
+use Rattle.tc_machine.specs.declared.state.Machine.{Machine}
 
 abbrev pub in_front : Option ℕ → List ℕ → List ℕ
 in_front None bytes = []

@@ -9,7 +9,8 @@ use Rattle.tc_isa.specs.declared.shapes.Shape.{Shape}
 use Rattle.tc_isa.specs.declared.shapes.Shape.TheVariants.{Compute, Scaled, Load, Store, Branch, Jump, Call, Ret, Rfe, Svlcx, Rslcx, Bisr, Enable, Disable, Syscall, Mfcr, Mtcr, Nothing}
 use Rattle.tc_isa.specs.declared.shapes.Target.TheVariants as target
 use Rattle.tc_machine.specs.declared.events.Event.{Event}
-use Rattle.tc_machine.specs.Machine.{Machine, reg, with_reg, arg, a10, a11, is_of, handler_psw, moved, advanced, then_}
+use Rattle.tc_machine.specs.declared.state.Machine.{Machine}
+use Rattle.tc_machine.specs.Machine.{reg, with_reg, arg, a10, a11, is_of, handler_psw, moved, advanced, then_}
 use Rattle.tc_machine.specs.Contexts.{save, restore}
 use Rattle.tc_machine.specs.Fetching.{loaded, extended, with_bytes}
 

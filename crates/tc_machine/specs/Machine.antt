@@ -7,25 +7,7 @@ use Rattle.tc_isa.specs.declared.shapes.Arg.TheVariants.{Reg, Word}
 use Rattle.tc_machine.specs.declared.events.Cause.{Cause}
 use Rattle.tc_machine.specs.declared.events.End.{End}
 use Rattle.tc_machine.specs.declared.events.End.TheVariants.{Running, Dead}
-
--- TriCore 1 architecture manual, volume 1, core registers: D0..D15, A0..A15, PSW, PCXI, FCX, LCX, ICR (its fields CCPN
--- and IE), BIV, BTV, ISP. The memory is what is mapped; `end` tells whether the machine runs; no step changes the core
-pub record Machine : Type 0 where
-  pub pc : ℕ
-  pub d : List ℕ
-  pub a : List ℕ
-  pub psw : ℕ
-  pub pcxi : ℕ
-  pub fcx : ℕ
-  pub lcx : ℕ
-  pub ccpn : ℕ
-  pub ie : Bool
-  pub biv : ℕ
-  pub btv : ℕ
-  pub isp : ℕ
-  pub mem : Memory
-  pub end : End
-  pub core : Core
+pub use Rattle.tc_machine.specs.declared.state.Machine.{Machine}
 
 -- register r: 0 to 15 is D, 16 to 31 is A
 abbrev pub reg : Machine → ℕ → ℕ

@@ -10,7 +10,8 @@ use Rattle.tc_isa.specs.Insts.{InstData}
 use Rattle.tc_isa.specs.Spelling.{Spells}
 use Rattle.tc_machine.specs.declared.events.Event.{Event}
 use Rattle.tc_machine.specs.declared.events.End.TheVariants.{Running}
-use Rattle.tc_machine.specs.Machine.{Machine, is_of}
+use Rattle.tc_machine.specs.declared.state.Machine.{Machine}
+use Rattle.tc_machine.specs.Machine.{is_of}
 use Rattle.tc_machine.specs.Stepping.{step, run, stored, is_taken, load_at_pc}
 use Rattle.tc_machine.specs.Ranges.{IsWithin, IsInOne, IsInDevice, IsMappedBy, first_link, plan_areas}
 

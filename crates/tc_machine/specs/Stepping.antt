@@ -1,13 +1,17 @@
 -- One event, and runs.
-use Rattle.std.specs.Prelude.{ℕ, Bool, ◌&&◌, nat_lt, if◌then◌else◌, List, [], ◌∷◌, Option, Some, None, Result, Ok, Err}
+use Rattle.std.specs.Prelude.{ℕ, Bool, ◌&&◌, nat_lt, if◌then◌else◌, List, [], ◌∷◌, length, Option, Some, None, Result, Ok, Err}
+use Rattle.std.specs.Option.{option_map}
+use Rattle.csa_chain.specs.Chain.{chain}
+use Rattle.tc_encode.specs.Decoding.{decoded_of}
 use Rattle.tc_isa.specs.declared.shapes.Shape.{Shape}
 use Rattle.tc_isa.specs.declared.shapes.Shape.TheVariants.{Load, Store}
 use Rattle.tc_machine.specs.declared.events.Cause.{Cause}
 use Rattle.tc_machine.specs.declared.events.Event.{Event}
 use Rattle.tc_machine.specs.declared.events.End.{End}
 use Rattle.tc_machine.specs.declared.events.End.TheVariants.{Running, Dead}
-use Rattle.tc_machine.specs.Machine.{Machine, died, then_, with_status}
-use Rattle.tc_machine.specs.Fetching.{fetched}
+use Rattle.tc_machine.specs.declared.state.Machine.{Machine}
+use Rattle.tc_machine.specs.Machine.{died, then_, with_status}
+use Rattle.tc_machine.specs.Fetching.{fetched, mapped_bytes, shaped}
 use Rattle.tc_machine.specs.Instructions.{does, interrupt, access_address, traps_at}
 
 -- the event's interrupt is taken: interrupts are on, and its priority is above the current one
@@ -32,6 +36,10 @@ abbrev pub run : Machine → List Event → Machine
 run m [] = m
 run m (e ∷ es) = run (step m e) es
 
+abbrev pub where_running : End → Option (ℕ × ℕ) → Option (ℕ × ℕ)
+where_running Running found = found
+where_running (Dead cause) found = None
+
 -- the address and the size of the load that this instruction is
 abbrev pub load_in : Machine → Result (Shape × ℕ) Cause → Option (ℕ × ℕ)
 load_in m (Ok (Load dst base offset size signed after, n)) = Some (access_address m base offset after, size)
@@ -41,15 +49,21 @@ load_in m _ = None
 abbrev pub load_at_pc : Machine → Option (ℕ × ℕ)
 load_at_pc m = load_in m (fetched m)
 
+-- The address and the size of the load that the bytes at pc are, whether pc is odd or even: none where the machine is
+-- dead, where they decode to nothing, and where they are no load.
+abbrev pub next_load_of : Machine → Option (ℕ × ℕ)
+next_load_of m = where_running m.end (load_in m (shaped (decoded_of (mapped_bytes 4 m.mem m.pc))))
+
+-- how many areas the chain that begins in PCXI has: none where it has no end within 4,096 links or meets an area that
+-- isn't mapped
+abbrev pub used_of : Machine → Option ℕ
+used_of m = option_map length (chain m.mem m.pcxi)
+
 -- the address and the size that this instruction stores at, unless the access traps
 abbrev pub store_in : Machine → Event → Result (Shape × ℕ) Cause → Option (ℕ × ℕ)
 store_in m e (Ok (Store src base offset size after, n)) =
     if traps_at e (access_address m base offset after) size then None else Some (access_address m base offset after, size)
 store_in m e _ = None
-
-abbrev pub where_running : End → Option (ℕ × ℕ) → Option (ℕ × ℕ)
-where_running Running found = found
-where_running (Dead cause) found = None
 
 -- The address and the size that the step of this event stores at: none where the machine is dead, an interrupt or the
 -- trap of a misaligned access is taken, or the instruction is no store.

@@ -1,11 +1,14 @@
 // What holds of machines whatever the program is.
 
-ghost use Rattle.tc_machine.specs.MachineLaws.{StartsWhole, FetchesSpelled, SaveStands, RestoreStands};
+ghost use Rattle.tc_machine.specs.MachineLaws.{StartsWhole, FetchesSpelled, SaveStands, RestoreStands, StepDoes, StepStays, RunStays};
 
-/// What holds of the machine's areas at the start, of what it fetches, and of saves and restores.
+/// What holds of the machine's areas at the start, of what it fetches, and of saves, restores and steps.
 pub fn laws_of_machines()
     ensures start { StartsWhole }
     ensures fetch { FetchesSpelled }
     ensures save { SaveStands }
     ensures restore { RestoreStands }
+    ensures does { StepDoes }
+    ensures stays { StepStays }
+    ensures runs { RunStays }
 {}

@@ -1,8 +1,20 @@
 //! The reference machine: its state, what one event does to it, and when every run is safe.
 #![tactic(auto)]
 
+mod accesses;
+mod chains;
+mod contexts;
+mod core_registers;
 mod events;
+mod fetching;
+mod handlers;
+mod instructions;
 mod laws;
+mod operands;
+mod registers;
+mod state;
+mod stepping;
 
 pub use events::{Cause, End, Event};
 pub use laws::laws_of_machines;
+pub use state::Machine;

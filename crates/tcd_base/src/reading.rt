@@ -4,6 +4,17 @@ ghost use Rattle.tcd_base.specs.Reading.{Reads, u8_at, u16_at, u32_at, bytes_at}
 
 use crate::{Cursor, FormErr};
 
+// The bytes end in the field that begins at this place.
+fn short(at: usize) -> FormErr
+    requires { at ≤ 2 ^ 30 }
+    ensures { result ≡ record { kind = 1; at = at } }
+{
+    FormErr {
+        kind: 1,
+        at: at as u32,
+    }
+}
+
 /// A field of one byte.
 #[tactic(auto, unfolding(crate::specs::Reading::u8_at))]
 pub fn read_u8(c: &mut Cursor<'_>) -> Result<u8, FormErr>
@@ -14,10 +25,7 @@ pub fn read_u8(c: &mut Cursor<'_>) -> Result<u8, FormErr>
     let at = c.place();
     match c.take_u8() {
         Some(byte) => Ok(byte),
-        None => Err(FormErr {
-            kind: 1,
-            at: at as u32,
-        }),
+        None => Err(short(at)),
     }
 }
 
@@ -31,10 +39,7 @@ pub fn read_u16(c: &mut Cursor<'_>) -> Result<u16, FormErr>
     let at = c.place();
     match c.take_u16() {
         Some(half) => Ok(half),
-        None => Err(FormErr {
-            kind: 1,
-            at: at as u32,
-        }),
+        None => Err(short(at)),
     }
 }
 
@@ -48,10 +53,7 @@ pub fn read_u32(c: &mut Cursor<'_>) -> Result<u32, FormErr>
     let at = c.place();
     match c.take_u32() {
         Some(word) => Ok(word),
-        None => Err(FormErr {
-            kind: 1,
-            at: at as u32,
-        }),
+        None => Err(short(at)),
     }
 }
 
@@ -65,9 +67,6 @@ pub fn read_bytes<'a>(c: &mut Cursor<'a>, n: usize) -> Result<&'a [u8], FormErr>
     let at = c.place();
     match c.take(n) {
         Some(part) => Ok(part),
-        None => Err(FormErr {
-            kind: 1,
-            at: at as u32,
-        }),
+        None => Err(short(at)),
     }
 }

@@ -8,7 +8,8 @@ use Rattle.elf_image.specs.Images.{ImageData}
 use Rattle.tcd_base.specs.declared.parts.Core.{Core}
 use Rattle.tcd_plan.specs.PlanData.{PlanData}
 use Rattle.tc_machine.specs.declared.events.End.TheVariants.{Running}
-use Rattle.tc_machine.specs.Machine.{Machine, a11}
+use Rattle.tc_machine.specs.declared.state.Machine.{Machine}
+use Rattle.tc_machine.specs.Machine.{a11}
 use Rattle.tc_machine.specs.Safe.{HoldsRom}
 use Rattle.tc_machine.proofs.Areas.{Areas}
 use Rattle.tcd_driver.specs.Calls.{NodeData}

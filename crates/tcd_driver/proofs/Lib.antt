@@ -1,3 +1,11 @@
+pub mod CallForm
+pub mod Coded
+pub mod Deciding
+pub mod Endings
+pub mod Found
+pub mod Ranges
+pub mod Refuted
+pub mod Said
 pub mod Frames
 pub mod Steps
 pub mod Rules

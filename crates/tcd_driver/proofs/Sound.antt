@@ -9,10 +9,9 @@ use Rattle.tc_isa.specs.declared.shapes.Target.{Target}
 use Rattle.tc_isa.specs.declared.shapes.Target.TheVariants.{Rel, Abs, Reg}
 use Rattle.tc_isa.specs.declared.shapes.Shape.{Shape}
 use Rattle.tc_isa.specs.declared.shapes.Shape.TheVariants.{Store, Jump, Call, Ret, Nothing}
-use Rattle.tc_encode.specs.DecodeLaws.{DecodeLaws}
-use Rattle.tc_encode.proofs.DecodeProofs.{decode_laws}
 use Rattle.tc_machine.specs.declared.events.Event.{Event}
-use Rattle.tc_machine.specs.Machine.{Machine, a11, moved}
+use Rattle.tc_machine.specs.declared.state.Machine.{Machine}
+use Rattle.tc_machine.specs.Machine.{a11, moved}
 use Rattle.tc_machine.specs.Instructions.{does, target_of}
 use Rattle.tc_machine.specs.Stepping.{is_taken, done, step, run, store_in}
 use Rattle.tc_machine.specs.Safe.{Fits, AllFit, IsStoreInRange, IsSafeAt, Safe}
@@ -43,7 +42,7 @@ record Goes (image : ImageData) (plan : PlanData) (cert : List NodeData) (most :
   pub below : List Frame
   pub kept : Kept image plan cert most m frame below
 
-module _ (laws : DecodeLaws) (image : ImageData) (plan : PlanData) (ok : IsPlan plan) (polled : plan.irqs ≡ []) (cert : List NodeData) (accepted : Accepts image plan cert) (most : ℕ) (few : most ≤ plan.areas - plan.reserve) where
+module _ (image : ImageData) (plan : PlanData) (ok : IsPlan plan) (polled : plan.irqs ≡ []) (cert : List NodeData) (accepted : Accepts image plan cert) (most : ℕ) (few : most ≤ plan.areas - plan.reserve) where
   rules : (m : Machine) (frame : Frame) (below : List Frame) → Kept image plan cert most m frame below → HoldsAtPoint image plan cert frame.node m.pc
   rules m frame below k = rules_at image plan cert accepted frame.node m.pc k.stands k.point
 
@@ -94,7 +93,7 @@ module _ (laws : DecodeLaws) (image : ImageData) (plan : PlanData) (ok : IsPlan 
   step-kept : (m : Machine) (e : Event) (frame : Frame) (below : List Frame) → Kept image plan cert most m frame below → Fits plan m e → Goes image plan cert most (step m e)
   step-kept m e frame below k fits =
       let r = rules m frame below k in
-      let at = fetched-is laws image ok m k.rom (r.code).even r.bytes r.inst (r.code).spells in
+      let at = fetched-is image ok m k.rom (r.code).even r.bytes r.inst (r.code).spells in
       let does_is = done-is m e (shape_of r.inst) (length r.bytes) (no_irq m e fits) at in
       let after : Goes image plan cert most (done m e) = subst (Goes image plan cert most) (sym does_is) (follows m frame below k e (shape_of r.inst) (length r.bytes) r.follows) in
       subst (Goes image plan cert most) (sym (step-is m e k.running (after.kept).running))
@@ -108,25 +107,24 @@ module _ (laws : DecodeLaws) (image : ImageData) (plan : PlanData) (ok : IsPlan 
   safe-kept : (m : Machine) (e : Event) (frame : Frame) (below : List Frame) → Kept image plan cert most m frame below → Fits plan m e → IsSafeAt image plan most m e
   safe-kept m e frame below k fits =
       let r = rules m frame below k in
-      let at = fetched-is laws image ok m k.rom (r.code).even r.bytes r.inst (r.code).spells in
+      let at = fetched-is image ok m k.rom (r.code).even r.bytes r.inst (r.code).spells in
       let none = stored-is m e (Ok (shape_of r.inst, length r.bytes)) k.running (no_irq m e fits) at ∙ no_store m e cert frame.node (shape_of r.inst) (length r.bytes) r.follows in
       let within = need-Frames cert m.core most m.mem m.pcxi (a11 m) frame below k.frames in
       record {
         running = k.running;
         chains = ChainsAreWhole-from ok most m (used_by frame below) k.free (Links-Frames cert m.core most m.mem m.pcxi (a11 m) frame below k.frames) k.areas (omega arith);
-        code_in_rom = IsAtCode-from laws image ok m k.rom r.bytes r.inst (r.code).spells;
+        code_in_rom = IsAtCode-from image ok m k.rom r.bytes r.inst (r.code).spells;
         stores_in_range = subst (λ o. IfSome o (IsStoreInRange plan)) (sym none) tt;
       }
 
 -- ---- the theorem
 pub accepted_is_safe : (image : ImageData) (plan : PlanData) (cert : List NodeData) → IsPlan plan → plan.irqs ≡ [] → Accepts image plan cert → Safe image plan (need_of (start_of image cert))
 accepted_is_safe image plan cert ok polled accepted m es e start all_fit fits =
-    let laws : DecodeLaws = decode_laws in
     let most = need_of (start_of image cert) in
     let s = start_found image plan cert (start_of image cert) refl accepted.start in
     let need = s.need in
     let room = (s.holds).room in
     let few : need_of (start_of image cert) ≤ plan.areas - plan.reserve = omega arith in
     let first = Kept-start image plan ok m start cert (need_of (start_of image cert)) s.node s.stands s.kind (omega arith) (s.holds).point in
-    let k = run-kept laws image plan ok polled cert accepted (need_of (start_of image cert)) few m es (record { frame = oldest s.node; below = []; kept = first }) all_fit in
-    safe-kept laws image plan ok polled cert accepted (need_of (start_of image cert)) few (run m es) e k.frame k.below k.kept fits
+    let k = run-kept image plan ok polled cert accepted (need_of (start_of image cert)) few m es (record { frame = oldest s.node; below = []; kept = first }) all_fit in
+    safe-kept image plan ok polled cert accepted (need_of (start_of image cert)) few (run m es) e k.frame k.below k.kept fits

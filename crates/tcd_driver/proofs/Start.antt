@@ -3,7 +3,7 @@ use Rattle.std.proofs.Common.{◌≡◌, ℕ, ◌≤◌, List, [], Option, Some,
 use Rattle.csa_chain.specs.Chain.{link_in}
 use Rattle.elf_image.specs.Images.{ImageData}
 use Rattle.tcd_plan.specs.PlanData.{PlanData, IsPlan}
-use Rattle.tc_machine.specs.Machine.{Machine}
+use Rattle.tc_machine.specs.declared.state.Machine.{Machine}
 use Rattle.tc_machine.specs.Ranges.{plan_areas}
 use Rattle.tc_machine.specs.Safe.{Starts}
 use Rattle.tc_machine.proofs.Areas.{Areas-start}

@@ -9,7 +9,8 @@ use Rattle.elf_image.specs.Images.{ImageData}
 use Rattle.tcd_plan.specs.PlanData.{PlanData, IsPlan}
 use Rattle.tc_machine.specs.declared.events.Event.{Event}
 use Rattle.tc_machine.specs.declared.events.End.TheVariants.{Running}
-use Rattle.tc_machine.specs.Machine.{Machine, a11}
+use Rattle.tc_machine.specs.declared.state.Machine.{Machine}
+use Rattle.tc_machine.specs.Machine.{a11}
 use Rattle.tc_machine.specs.Contexts.{context_of, restored}
 use Rattle.tc_machine.proofs.PlanLaws.{HoldsRom-written}
 use Rattle.tc_machine.proofs.Saves.{save-is, restore-is}

@@ -1,17 +1,21 @@
 //! The tool: all that the program does.
 #![tactic(auto)]
 
+mod calls;
+mod checking;
+mod code;
+mod ending;
+mod findings;
+mod follows;
+mod inputs;
 mod laws;
+mod lines;
+mod printing;
+mod reading;
+mod saying;
+mod status;
+mod tools;
 
 pub use laws::accepted_is_safe;
-
-/// How a command ended; the exit status of the program is its number, counted from 0.
-#[derive(Clone, Copy, Debug, PartialEq, Eq)]
-pub enum Status {
-    Done,
-    Refused,
-    BadInput,
-    Fault,
-    NoMemory,
-    BadWords,
-}
+pub use status::Status;
+pub use tools::tool;

@@ -1,10 +1,8 @@
-use Rattle.std.proofs.Common.{◌≡◌, ◌<◌, ◌≤◌, ◌^◌, ◌+◌, ℕ, List, length, take, true, arith}
-use Rattle.std.specs.List.{list_all}
+use Rattle.std.proofs.Common.{◌<◌, ◌≤◌, ◌^◌, ℕ, List, length, take, arith}
 use Rattle.std.specs.Str.Parse.{digits_value, AllDigits}
 use Rattle.std.proofs.lemmas.List.{length-take}
 use Rattle.std.proofs.lemmas.Int.Digits.{digits_value-lt}
 use Rattle.std.proofs.Math.Nat.{pow-le-pow_right}
-use Rattle.tcd_plan.specs.Values.{is_hex}
 
 -- at most seven hex digits
 pub seven : (cs : List ℕ) (i : ℕ) → AllDigits 16 (take i cs) → i ≤ 7 → digits_value 16 (take i cs) < 2 ^ 28

@@ -2,3 +2,11 @@ pub mod Tables
 pub mod HexLemmas
 pub mod ViewLemmas
 pub mod Finds
+pub mod Overlaps
+pub mod Small
+pub mod Accepted
+pub mod Words
+pub mod Forms
+pub mod Pieces
+pub mod TellsPlan
+pub mod KeyTexts

@@ -1,8 +1,9 @@
 -- The values of the code beside the data that they stand for.
-use Rattle.std.proofs.Common.{Bool, ℕ, Option, Some, ◌∙◌, sym, ◌≡◌, List, [], ◌∷◌, map, String, string_bytes, refl, ap}
+use Rattle.std.proofs.Common.{Bool, length, ◌≤◌, arith, ℕ, Option, Some, ◌∙◌, sym, ◌≡◌, List, [], ◌∷◌, map, String, string_bytes, refl, ap}
 use Rattle.std.specs.declared.alloc.Global.{Global}
 use Rattle.std.specs.List.{list_all}
 use Rattle.std.specs.Option.{option_map_or}
+use Rattle.std.proofs.lemmas.List.{length-map}
 use Rattle.std.proofs.lemmas.List.Folds.{list_all-map}
 use Rattle.serde_json.specs.Data.{Data, Members}
 use Rattle.serde_json.specs.View.{view, items_view, members_view}
@@ -25,3 +26,6 @@ each_name test entries members is =
     ∙ sym (list_all-map test (λ e. string_bytes e.0) entries)
     ∙ ap (list_all test) (sym (names_of_members entries))
     ∙ ap (λ ms. list_all test (option_map_or names_of ms [])) is
+
+pub length-seen : (values : List Value) (ds : List Data) (n : ℕ) → map view values ≡ ds → length ds ≤ n → length values ≤ n
+length-seen values ds n same few = let e : length (map view values) ≡ length ds = ap length same in omega (arith, e, length-map values view)

@@ -1,5 +1,7 @@
 -- Where each key of a plan stands in its document, and what may stand there.
-use Rattle.std.specs.Prelude.{ℕ, List, [], ◌∷◌, codes}
+use Rattle.std.specs.Prelude.{ℕ, ◌==◌, Bool, List, [], ◌∷◌, ◌++◌, codes, if◌then◌else◌, slice_get, unwrap_or}
+use Rattle.std.specs.Str.{bytes_eq}
+use Rattle.tcd_plan.specs.Keys.{key_texts}
 use Rattle.tcd_plan.specs.declared.rows.Row.{Row}
 use Rattle.tcd_plan.specs.declared.rows.Form.{Form}
 use Rattle.tcd_plan.specs.declared.rows.Form.TheVariants.{Ranges, Objects, Object, At, Len, Hi, Word, Byte, Truth, Irqs, Traps, CoreText}
@@ -68,3 +70,10 @@ holder_key Devices = 7
 holder_key Csa = 12
 holder_key Start = 22
 holder_key Globals = 26
+
+abbrev pub text_of : ℕ → List ℕ
+text_of key = unwrap_or (slice_get key_texts key) []
+
+-- a key is printed by its name, behind the key of the objects in which it stands
+abbrev pub is_printed : KeyRow → Bool
+is_printed r = bytes_eq (text_of r.key) (if holder_key r.holder == 0 then r.name else text_of (holder_key r.holder) ++ codes "." ++ r.name)

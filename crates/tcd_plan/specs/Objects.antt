@@ -1,5 +1,5 @@
 -- The objects of a document, and whether what stands in them has its form.
-use Rattle.std.specs.Prelude.{ℕ, ◌+◌, ◌%◌, ◌^◌, ◌&&◌, ◌||◌, ◌==◌, List, [], ◌∷◌, codes, length, map, count_by, Bool, true, false, not, nat_lt, nat_le, if◌then◌else◌, Option, Some, None, is_none, is_some, option_to_list, unwrap_or}
+use Rattle.std.specs.Prelude.{ℕ, ◌+◌, ◌%◌, ◌^◌, ◌&&◌, ◌||◌, ◌==◌, List, [], ◌∷◌, codes, length, count_by, Bool, true, false, not, nat_lt, nat_le, if◌then◌else◌, Option, is_none, is_some, option_to_list, unwrap_or}
 use Rattle.std.specs.List.{list_all, list_any}
 use Rattle.std.specs.Option.{option_map_or}
 use Rattle.std.specs.Str.{bytes_eq}

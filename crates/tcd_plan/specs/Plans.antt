@@ -1,5 +1,5 @@
 -- Which plan a document is, or the first refusal.
-use Rattle.std.specs.Prelude.{◌≡◌, ℕ, ◌+◌, ◌*◌, ◌/◌, ◌%◌, ◌^◌, ◌<◌, ◌&&◌, ◌==◌, List, [], ◌∷◌, codes, length, map, sum_by, Bool, not, nat_lt, nat_le, if◌then◌else◌, Option, Some, None, option_map, unwrap_or, position, Result, Ok, Err, IsUtf8}
+use Rattle.std.specs.Prelude.{◌≡◌, ℕ, ◌+◌, ◌*◌, ◌/◌, ◌%◌, ◌^◌, ◌<◌, ◌≤◌, ◌&&◌, ◌==◌, List, [], ◌∷◌, codes, length, map, sum_by, Bool, not, nat_lt, nat_le, if◌then◌else◌, Option, Some, None, option_map, unwrap_or, position, Result, Ok, Err, IsUtf8}
 use Rattle.std.specs.List.{find, list_any}
 use Rattle.std.specs.Option.{option_map_or, option_or}
 use Rattle.serde_json.specs.Data.{Data}
@@ -17,8 +17,7 @@ use Rattle.tcd_plan.specs.declared.plans.Device.{Device}
 use Rattle.tcd_plan.specs.declared.plans.PlanKey.{PlanKey}
 use Rattle.tcd_plan.specs.declared.plans.PlanErr.{PlanErr}
 use Rattle.tcd_plan.specs.declared.plans.PlanErr.TheVariants.{NotJson, Missing, Unknown, BadValue, TooMany, BadCsa, BadVector, Overlap, NoMemory}
-use Rattle.tcd_plan.specs.declared.rows.Holder.{Holder}
-use Rattle.tcd_plan.specs.declared.rows.Holder.TheVariants.{Root, Rom, Ram, Devices, Csa, Start, Globals}
+use Rattle.tcd_plan.specs.declared.rows.Holder.TheVariants.{Rom, Ram, Devices}
 
 abbrev pub numbered : ℕ → PlanKey
 numbered key = record { 0 = key }
@@ -49,6 +48,17 @@ device_of o = record { range = range_of o; lo = word_at (codes "lo") o; hi = wor
 abbrev pub places_of : List ℕ → Data → List Data
 places_of name d = unwrap_or (places_at name d) []
 
+abbrev pub irq_of : Data → ℕ
+irq_of q = unwrap_or (number_of q) 0
+
+-- the layout of the word PCXI, without the key the first
+abbrev pub core_of : Data → Core
+core_of d = if passes (is_text (codes "1.6")) (get (codes "core") d) then V16 else V13
+
+-- the words of A0, A1, A8 and A9
+abbrev pub globals_of : Data → List ℕ
+globals_of d = map (λ name. word_in (codes "globals") name d) (codes "a0" ∷ codes "a1" ∷ codes "a8" ∷ codes "a9" ∷ [])
+
 -- what the document tells, where nothing is refused
 unfoldable pub told_by : Data → PlanData
 told_by d = record {
@@ -62,14 +72,14 @@ told_by d = record {
   isp = word_at (codes "isp") d;
   biv = word_at (codes "biv") d;
   btv = word_at (codes "btv") d;
-  irqs = map (λ q. unwrap_or (number_of q) 0) (places_of (codes "irqs") d);
+  irqs = map irq_of (places_of (codes "irqs") d);
   sys = list_any (is_text (codes "sys")) (places_of (codes "traps") d);
   aln = list_any (is_text (codes "aln")) (places_of (codes "traps") d);
   start_ie = word_in (codes "start") (codes "ie") d == 1;
   start_ccpn = word_in (codes "start") (codes "ccpn") d;
   start_is = word_in (codes "start") (codes "is") d == 1;
-  globals = word_in (codes "globals") (codes "a0") d ∷ word_in (codes "globals") (codes "a1") d ∷ word_in (codes "globals") (codes "a8") d ∷ word_in (codes "globals") (codes "a9") d ∷ [];
-  core = if passes (is_text (codes "1.6")) (get (codes "core") d) then V16 else V13;
+  globals = globals_of d;
+  core = core_of d;
 }
 
 -- at most 16 ranges, of 2^22 bytes together
@@ -90,6 +100,14 @@ has_areas p = are_areas p.csa_at p.areas p.reserve
 
 unfoldable pub has_vectors : PlanData → Bool
 has_vectors p = (p.biv % 2 == 0) && (p.btv % 2 == 0)
+
+-- no array of a document is too long, and neither are the save areas
+pub record AreFew (d : Data) : Type 0 where
+  pub rom : length (objects_of Rom d) ≤ 16
+  pub ram : length (objects_of Ram d) ≤ 16
+  pub devices : length (objects_of Devices d) ≤ 16
+  pub irqs : length (places_of (codes "irqs") d) ≤ 32
+  pub areas : word_in (codes "csa") (codes "areas") d ≤ 4096
 
 -- the first pair of ranges that share a byte; the first of the list is the range i
 abbrev pub overlap_from : ℕ → List Range → Option PlanErr
@@ -130,8 +148,8 @@ plan_of d = option_map_or Err (refusal_of d) (Ok (told_by d))
 abbrev pub Gives : List ℕ → Result PlanData PlanErr → Type 0
 Gives bytes r = (d : Data) × IsUtf8 bytes × (read bytes ≡ Some d) × (plan_of d ≡ r)
 
--- an answer on a file's bytes: NotJson where no text of a document is an object, else what the document gives; want of
--- memory is free
+-- an answer on a file's bytes: NotJson where they are no text of a document that is an object, else what the document
+-- gives; want of memory is free
 abbrev pub Answers : List ℕ → Result PlanData PlanErr → Type 0
 Answers bytes (Err NoMemory) = Unit {0}
 Answers bytes (Err NotJson) = (d : Data) → IsUtf8 bytes → read bytes ≡ Some d → plan_of d ≡ Err NotJson

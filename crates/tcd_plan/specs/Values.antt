@@ -1,11 +1,11 @@
 -- What stands in the document of a plan: objects, arrays, texts, and numbers of 32 bits.
-use Rattle.std.specs.Prelude.{◌≡◌, ℕ, ◌^◌, ◌&&◌, ◌==◌, List, [], ◌∷◌, length, Bool, true, false, nat_lt, nat_le, if◌then◌else◌, Option, Some, None, option_map, option_and_then, is_some, unwrap_or}
+use Rattle.std.specs.Prelude.{ℕ, ◌^◌, ◌&&◌, ◌==◌, List, [], ◌∷◌, length, Bool, false, nat_lt, nat_le, if◌then◌else◌, Option, Some, None, option_map, option_and_then, is_some, unwrap_or}
 use Rattle.std.specs.Char.{digit_value}
 use Rattle.std.specs.List.{list_all}
 use Rattle.std.specs.Option.{option_map_or}
 use Rattle.std.specs.Str.{bytes_eq}
 use Rattle.std.specs.Str.Parse.{digits_value}
-use Rattle.serde_json.specs.Data.{Num, Data, null, boolean, number, string, array, object, Items, no_items, item, Members, no_members, member}
+use Rattle.serde_json.specs.Data.{Data, null, boolean, number, string, array, object, Items, no_items, item, Members, no_members, member}
 use Rattle.serde_json.specs.Find.{get, as_array, as_object, as_str, as_u64}
 
 abbrev pub list_of : Items → List Data

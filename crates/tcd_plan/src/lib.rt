@@ -1,10 +1,15 @@
 //! Plans: what is told of the board, the start state, the interrupts and the traps.
 #![tactic(auto)]
 
+mod limits;
 mod objects;
 mod plans;
+mod reader;
+mod readings;
 mod refusals;
 mod rows;
+#[cfg(test)]
+mod tests;
 mod texts;
 mod values;
 

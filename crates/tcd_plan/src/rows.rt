@@ -1,6 +1,7 @@
 // Where each key of a plan stands in its document, and what may stand there.
-ghost use Rattle.std.specs.Prelude.{◌≡◌, map};
-ghost use Rattle.tcd_plan.specs.KeyRows.{holder_key, holders, key_rows, row_of};
+ghost use Rattle.std.specs.Prelude.{◌≡◌, map, true};
+ghost use Rattle.std.specs.List.{list_all, range_with_len};
+ghost use Rattle.tcd_plan.specs.KeyRows.{holder_key, holders, is_printed, key_rows, row_of};
 
 /// The objects of a document in which keys stand.
 #[derive(Clone, Copy, Debug, PartialEq, Eq)]
@@ -250,7 +251,9 @@ static HOLDERS: [Holder; 7] = [
 
 #[tactic(auto, unfolding(crate::specs::KeyRows::key_rows))]
 pub fn rows() -> &'static [Row]
-    ensures { map row_of result.now ≡ key_rows }
+    ensures rows { map row_of result.now ≡ key_rows }
+    ensures numbers { map (λ r. r.key) key_rows ≡ range_with_len 1 31 }
+    ensures texts { list_all is_printed key_rows ≡ true }
 {
     &ROWS
 }

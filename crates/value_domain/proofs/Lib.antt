@@ -9,3 +9,4 @@ pub mod RegLaws
 pub mod JoinLaws
 pub mod WordLaws
 pub mod EndLaws
+pub mod FloorLaws

@@ -1,7 +1,10 @@
 -- What holds of all values.
 use Rattle.std.specs.Prelude.{◌<◌, ◌≤◌, ◌^◌, ◌++◌, ◌↔◌, ℕ, List, length}
 use Rattle.value_domain.specs.declared.values.Val.{Val}
+use Rattle.tcd_plan.specs.PlanData.{PlanData}
 use Rattle.value_domain.specs.Sets.{Among}
+use Rattle.value_domain.specs.Floors.{floor, above, IsFloor, IsAbove}
+use Rattle.value_domain.specs.Thresholds.{thresholds_of}
 use Rattle.value_domain.specs.Limits.{Limits, AreLimits}
 use Rattle.value_domain.specs.Values.{IsMember, IsWell, IsValue, IsBelow, cover, members}
 
@@ -35,3 +38,12 @@ pub record IsLeastAbove (b : Limits) (v w u : Val) : Type 0 where
 abbrev pub AreJoins : Type 0
 AreJoins =
     (b : Limits) (v w : Val) → AreLimits b → IsValue b v → IsValue b w → IsLeastAbove b v w (cover b (members v ++ members w))
+
+-- a word and the thresholds of a plan next to it
+pub record HasThresholds (ts : List ℕ) (x : ℕ) : Type 0 where
+  pub floor : IsFloor ts x (floor ts x)
+  pub above : IsAbove ts x (above ts x)
+
+-- each word lies between the greatest threshold not above it and the least above it
+abbrev pub AreThresholds : Type 0
+AreThresholds = (plan : PlanData) (x : ℕ) → x < 2 ^ 32 → HasThresholds (thresholds_of plan) x

@@ -1,4 +1,4 @@
-use Rattle.std.proofs.Common.{sym, ◌∙◌, rules, tests}
+use Rattle.std.proofs.Common.{◌∙◌, rules, tests}
 use Rattle.std.specs.List.{list_any}
 use Rattle.std.proofs.lemmas.Iterator.{YieldsList-from_slice}
 use Rattle.std.proofs.lemmas.Iterator.Search.{find_from_yields_List}
@@ -15,4 +15,4 @@ unfolding bad_value_of
 returns c =
     let test = λ (r : KeyRow). list_any (is_bad r) (objects_of r.holder (view c.args.value.now)) in
     let found = find_from_yields_List (λ (r : Row). test (row_of r)) _ _ c.find.result c.find.ensures.ran (YieldsList-from_slice c.rows.result.now cc) (λ x b q k. search (rules, tests)) in
-    c.key_of.ensures ∙ key_found test c.rows.result.now _ c.rows.ensures found
+    c.key_of.ensures ∙ key_found test c.rows.result.now _ c.rows.ensures.rows found

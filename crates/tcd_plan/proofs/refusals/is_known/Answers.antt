@@ -12,4 +12,4 @@ pub returns : goal.returns
 returns c =
     let test = is_named c.args.holder c.args.name.now in
     any_from_yields_List (λ (r : Row). test (row_of r)) _ _ _ c.any.ensures.ran (YieldsList-from_slice c.rows.result.now cc) (λ x b q k. search (rules, tests))
-    ∙ sym (list_any-map test row_of c.rows.result.now) ∙ ap (list_any test) c.rows.ensures
+    ∙ sym (list_any-map test row_of c.rows.result.now) ∙ ap (list_any test) c.rows.ensures.rows

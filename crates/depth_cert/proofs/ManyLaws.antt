@@ -1,0 +1,84 @@
+-- Reading many items, one after another.
+use Rattle.std.proofs.Common.{◌≡◌, ℕ, zero, suc, ◌+◌, ◌-◌, ◌<◌, ◌≤◌, List, [], ◌∷◌, ◌++◌, length, get_or, true, false, Result, Ok, Err, refl, sym, ap, ◌∙◌, arith, ltb, eqb, inl, inr, map}
+use Rattle.std.specs.List.Sorted.{IsStrictlyIncreasing}
+use Rattle.std.proofs.lemmas.Bool.{cases_lt, ltb-true}
+use Rattle.std.proofs.lemmas.List.{get_or_append_left, length_push, length-map, get_or-map, map-append}
+use Rattle.std.proofs.Math.Seq.{get_or-append_seam}
+use Rattle.tcd_base.specs.declared.parts.FormErr.{FormErr}
+use Rattle.tcd_base.specs.Place.{Place}
+use Rattle.tcd_base.specs.Reading.{◌>>=◌}
+use Rattle.depth_cert.specs.declared.errors.CertErr.{CertErr}
+use Rattle.depth_cert.specs.declared.errors.CertErr.TheVariants.{Bad, NoMemory}
+use Rattle.depth_cert.specs.Answers.{IsFaultOf}
+use Rattle.depth_cert.specs.Grammar.{many_at, is_above}
+
+-- one item more of those that are left
+pub many_more : {A : Type 0} (item : List A → Place → Result (A × Place) FormErr) (n i : ℕ) (before : List A) (start p q : Place) (x : A) → i < n
+    → many_at item n [] start ≡ many_at item (n - i) before p → item before p ≡ Ok (x, q) → many_at item n [] start ≡ many_at item (n - (i + 1)) (before ++ x ∷ []) q
+unfolding many_at
+many_more {A} item n i before start p q x h inv e =
+    let left : n - i ≡ suc (n - (i + 1)) = omega arith in
+    inv
+    ∙ ap (λ k. many_at item k before p) left
+    ∙ ap (λ (r : Result (A × Place) FormErr). r >>= λ x. many_at item (n - (i + 1)) (before ++ x.0 ∷ []) x.1) e
+
+-- the first fault of an item
+pub many_fail : {A : Type 0} (item : List A → Place → Result (A × Place) FormErr) (n i : ℕ) (before : List A) (start p : Place) (e : FormErr) → i < n
+    → many_at item n [] start ≡ many_at item (n - i) before p → item before p ≡ Err e → many_at item n [] start ≡ Err e
+unfolding many_at
+many_fail {A} item n i before start p e h inv f =
+    let left : n - i ≡ suc (n - (i + 1)) = omega arith in
+    inv
+    ∙ ap (λ k. many_at item k before p) left
+    ∙ ap (λ (r : Result (A × Place) FormErr). r >>= λ x. many_at item (n - (i + 1)) (before ++ x.0 ∷ []) x.1) f
+
+-- the same of an error
+pub many_fault : {A : Type 0} (item : List A → Place → Result (A × Place) FormErr) (n i : ℕ) (before : List A) (start p : Place) (e : CertErr) → i < n
+    → many_at item n [] start ≡ many_at item (n - i) before p → IsFaultOf (item before p) e → IsFaultOf (many_at item n [] start) e
+many_fault item n i before start p (Bad e) h inv f = many_fail item n i before start p e h inv f
+many_fault item n i before start p NoMemory h inv f = tt
+
+pub many_end : {A : Type 0} (item : List A → Place → Result (A × Place) FormErr) (n i : ℕ) (before : List A) (start p : Place) → n ≤ i
+    → many_at item n [] start ≡ many_at item (n - i) before p → many_at item n [] start ≡ Ok (before, p)
+unfolding many_at
+many_end item n i before start p h inv = let none : n - i ≡ 0 = omega arith in inv ∙ ap (λ k. many_at item k before p) none
+
+-- ---- numbers that ascend
+pub is_above-last : (xs : List ℕ) (x : ℕ) → 1 ≤ length xs → is_above xs x ≡ ltb (get_or xs (length xs - 1) 0) x
+is_above-last [] x h = absurd (omega arith)
+is_above-last (y ∷ []) x h = refl
+is_above-last (y ∷ z ∷ zs) x h =
+    let i : length (y ∷ z ∷ zs) - 1 ≡ suc (length (z ∷ zs) - 1) = omega arith in
+    is_above-last (z ∷ zs) x (omega arith) ∙ ap (λ k. ltb (get_or (y ∷ z ∷ zs) k 0) x) (sym i)
+
+pub rising_push : (xs : List ℕ) (x : ℕ) → IsStrictlyIncreasing xs → is_above xs x ≡ true → IsStrictlyIncreasing (xs ++ x ∷ [])
+rising_push xs x rising above k h =
+    let len = length_push xs x in
+    elim (cases_lt (k + 1) (length xs)) [
+      | inl lt ↦
+          let low = get_or_append_left xs (x ∷ []) 0 k (omega arith) in
+          let high = get_or_append_left xs (x ∷ []) 0 (k + 1) lt in
+          omega (arith, rising k lt)
+      | inr ge ↦
+          let last : k ≡ length xs - 1 = omega arith in
+          let low = get_or_append_left xs (x ∷ []) 0 k (omega arith) in
+          let high : get_or (xs ++ x ∷ []) (k + 1) 0 ≡ x = let e : k + 1 ≡ length xs = omega arith in ap (λ j. get_or (xs ++ x ∷ []) j 0) e ∙ get_or-append_seam xs x [] 0 in
+          let under : get_or xs (length xs - 1) 0 < x = ltb-true _ _ (sym (is_above-last xs x (omega arith)) ∙ above) in
+          let same : get_or xs k 0 ≡ get_or xs (length xs - 1) 0 = ap (λ j. get_or xs j 0) last in
+          omega arith
+    ]
+
+-- a list that isn't empty has an element
+pub some_elements : (n : ℕ) → false ≡ eqb n 0 → 1 ≤ n
+some_elements zero h = cc
+some_elements (suc n) h = omega arith
+
+-- the same of a number of the last element
+pub is_above-map : {A : Type 0} (f : A → ℕ) (xs : List A) (x : ℕ) (d : A) → 1 ≤ length xs → is_above (map f xs) x ≡ ltb (f (get_or xs (length xs - 1) d)) x
+is_above-map f xs x d h =
+    is_above-last (map f xs) x (omega (arith, length-map xs f))
+    ∙ ap (λ k. ltb (get_or (map f xs) (k - 1) 0) x) (length-map xs f)
+    ∙ ap (λ k. ltb k x) (get_or-map f xs (length xs - 1) d 0 (omega arith))
+
+pub rising_map_push : {A : Type 0} (f : A → ℕ) (xs : List A) (x : A) → IsStrictlyIncreasing (map f xs) → is_above (map f xs) (f x) ≡ true → IsStrictlyIncreasing (map f (xs ++ x ∷ []))
+rising_map_push f xs x rising above = rw (map-append f xs (x ∷ [])) (rising_push (map f xs) (f x) rising above)

@@ -1,0 +1,31 @@
+-- Certificates as plain data, and what they keep.
+use Rattle.std.specs.Prelude.{◌≡◌, ◌≤◌, ◌⊎◌, ◌^◌, ◌==◌, ℕ, List, length, map, sum_by, find, Option}
+use Rattle.std.specs.List.{All}
+use Rattle.std.specs.List.Sorted.{IsStrictlyIncreasing}
+use Rattle.depth_cert.specs.declared.keys.Key.{Key}
+use Rattle.depth_cert.specs.Keys.{number_of_key}
+use Rattle.depth_cert.specs.Nodes.{NodeData, IsNode}
+
+pub record CertData : Type 0 where
+  pub version : ℕ
+  pub nodes : List NodeData
+
+-- the keys of nodes, as key_numbers
+abbrev pub key_numbers : List NodeData → List ℕ
+key_numbers ns = map (λ n. number_of_key n.key) ns
+
+-- how many points nodes have together
+abbrev pub count_points : List NodeData → ℕ
+count_points ns = sum_by (λ n. length n.points) ns
+
+-- the order and the limits of a certificate: nodes by ascending key, at most 2,048 of them with at most 65,536 points
+pub record IsCert (c : CertData) : Type 0 where
+  pub version : (c.version ≡ 1) ⊎ (c.version ≡ 2)
+  pub few : length c.nodes ≤ 2048
+  pub rising : IsStrictlyIncreasing (key_numbers c.nodes)
+  pub nodes : All (IsNode c.version) c.nodes
+  pub points : count_points c.nodes ≤ 2 ^ 16
+
+-- the node of a key, if there is one
+abbrev pub find_node : Key → List NodeData → Option NodeData
+find_node k ns = find (λ n. number_of_key n.key == number_of_key k) ns

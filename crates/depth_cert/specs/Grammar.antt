@@ -1,0 +1,143 @@
+-- The grammar of certificates: fields read from left to right, and the first fault. Its kinds are 1 Short (of every
+-- field), 2 Magic, 3 Order, 4 BadValue, 5 Limit, 6 Trailing.
+use Rattle.std.specs.Prelude.{◌+◌, ◌-◌, ◌^◌, ◌==◌, ◌&&◌, ◌||◌, not, nat_lt, nat_le, if◌then◌else◌, ℕ, zero, suc, Bool, true, List, [], ◌∷◌, ◌++◌, length, Option, Some, None, Result, Ok}
+use Rattle.tcd_base.specs.declared.parts.FormErr.{FormErr}
+use Rattle.tcd_base.specs.Place.{Place}
+use Rattle.tcd_base.specs.Reading.{◌>>=◌, fault_at, u8_at, u16_at, u32_at}
+use Rattle.value_domain.specs.declared.values.Val.{Val}
+use Rattle.value_domain.specs.declared.values.Val.TheVariants.{Set, Span}
+use Rattle.value_domain.specs.declared.states.State.{State}
+use Rattle.value_domain.specs.Values.{any_val, count_in}
+use Rattle.value_domain.specs.Versions.{width_of, most_of}
+use Rattle.depth_cert.specs.declared.keys.Key.{Key}
+use Rattle.depth_cert.specs.declared.points.Exit.{Exit}
+use Rattle.depth_cert.specs.declared.points.Point.{Point}
+use Rattle.depth_cert.specs.Keys.{key_number}
+use Rattle.depth_cert.specs.Points.{addresses}
+use Rattle.depth_cert.specs.Nodes.{NodeData}
+use Rattle.depth_cert.specs.Certs.{CertData, key_numbers, count_points}
+
+-- ---- fields
+-- n items more after those before, each read in the light of those before it
+unfoldable pub many_at : {A : Type 0} → (List A → Place → Result (A × Place) FormErr) → ℕ → List A → Place → Result (List A × Place) FormErr
+many_at item zero before p = Ok (before, p)
+many_at item (suc n) before p = item before p >>= λ x. many_at item n (before ++ x.0 ∷ []) x.1
+
+-- a number that a field may have, or a fault of this kind at the field
+abbrev pub checked : ℕ → Bool → Place → ℕ × Place → Result (ℕ × Place) FormErr
+checked kind good p x = if good then Ok x else fault_at kind p
+
+-- a number is above the last of those before it, if there is one
+abbrev pub is_above : List ℕ → ℕ → Bool
+is_above [] x = true
+is_above (y ∷ []) x = nat_lt y x
+is_above (y ∷ z ∷ zs) x = is_above (z ∷ zs) x
+
+-- a truth value
+unfoldable pub flag_at : Place → Result (Bool × Place) FormErr
+flag_at p = u8_at p >>= λ b. if nat_lt 1 b.0 then fault_at 4 p else Ok (b.0 == 1, b.1)
+
+-- ---- values
+-- a word of a Set
+unfoldable pub word_after : List ℕ → Place → Result (ℕ × Place) FormErr
+word_after before p = u32_at p >>= λ w. checked 4 (is_above before w.0) p w
+
+unfoldable pub set_at : ℕ → Place → Result (Val × Place) FormErr
+set_at n p = many_at word_after n [] p >>= λ ws. Ok (Set ws.0, ws.1)
+
+abbrev pub is_any : ℕ → ℕ → ℕ → Bool
+is_any lo last step = lo == 0 && last == 4294967295 && step == 0
+
+-- more members than a Set may have (so lo isn't above last), and not all words, which have their own spelling
+abbrev pub is_span : ℕ → ℕ → ℕ → ℕ → Bool
+is_span version lo last step = nat_lt (width_of version) (count_in lo last step) && not (is_any lo last step)
+
+-- a Span whose first byte is at start
+unfoldable pub span_at : ℕ → ℕ → Place → Place → Result (Val × Place) FormErr
+span_at version step start p =
+    u32_at p >>= λ lo. u32_at lo.1 >>= λ last. if is_span version lo.0 last.0 step then Ok (Span lo.0 last.0 step, last.1) else fault_at 4 start
+
+unfoldable pub value_at : ℕ → Place → Result (Val × Place) FormErr
+value_at version p =
+    u8_at p >>= λ b.
+    if b.0 == 0 then Ok (any_val, b.1)
+    else if nat_le b.0 (width_of version) then set_at b.0 b.1
+    else if nat_le 240 b.0 && nat_le b.0 242 then span_at version (b.0 - 240) p b.1
+    else fault_at 4 p
+
+-- n values
+unfoldable pub values_at : ℕ → ℕ → Place → Result (List Val × Place) FormErr
+values_at version n p = many_at (λ before. value_at version) n [] p
+
+-- ---- points
+unfoldable pub locals_at : ℕ → Place → Result (List Bool × Place) FormErr
+locals_at version p =
+    u8_at p >>= λ n. checked 5 (nat_le n.0 (most_of version)) p n >>= λ n. many_at (λ before. flag_at) n.0 [] n.1
+
+unfoldable pub state_at : ℕ → Place → Result (State × Place) FormErr
+state_at version p =
+    flag_at p >>= λ ie. u8_at ie.1 >>= λ ccpn. flag_at ccpn.1 >>= λ lower. locals_at version lower.1 >>= λ locals. values_at version 27 locals.1 >>= λ regs.
+    Ok (record { regs = regs.0; ie = ie.0; ccpn = ccpn.0; lower = lower.0; locals = record { items = locals.0 } }, regs.1)
+
+-- an address after those before
+unfoldable pub address_after : List ℕ → Place → Result (ℕ × Place) FormErr
+address_after before p = u32_at p >>= λ addr. checked 3 (is_above before addr.0) p addr
+
+unfoldable pub point_after : ℕ → List Point → Place → Result (Point × Place) FormErr
+point_after version before p =
+    address_after (addresses before) p >>= λ addr. state_at version addr.1 >>= λ s. Ok (record { addr = addr.0; state = s.0 }, s.1)
+
+-- ---- nodes
+-- a key after those whose numbers are given; its order is told at its kind, once `is` was read
+unfoldable pub key_after : List ℕ → Place → Result (Key × Place) FormErr
+key_after before p =
+    u8_at p >>= λ kind. checked 4 (nat_le kind.0 4) p kind >>= λ kind. u32_at kind.1 >>= λ entry. u8_at entry.1 >>= λ prio. u8_at prio.1 >>= λ is.
+    checked 3 (is_above before (key_number kind.0 entry.0 prio.0 is.0)) p is >>= λ is. checked 4 (nat_le is.0 1) prio.1 is >>= λ is.
+    Ok (record { kind = kind.0; entry = entry.0; prio = prio.0; is = is.0 == 1 }, is.1)
+
+unfoldable pub need_at : Place → Result (ℕ × Place) FormErr
+need_at p = u16_at p >>= λ need. checked 5 (nat_le need.0 4096) p need
+
+-- only calls and system calls may have an exit
+unfoldable pub has_exit_at : ℕ → Place → Result (Bool × Place) FormErr
+has_exit_at kind p = flag_at p >>= λ exit. if exit.0 && not (kind == 1 || kind == 3) then fault_at 4 p else Ok exit
+
+unfoldable pub exit_at : ℕ → Place → Result (Exit × Place) FormErr
+exit_at version p =
+    flag_at p >>= λ ie. u8_at ie.1 >>= λ ccpn. values_at version 14 ccpn.1 >>= λ lower. Ok (record { ie = ie.0; ccpn = ccpn.0; lower = lower.0 }, lower.1)
+
+unfoldable pub exits_at : ℕ → ℕ → Place → Result (Option Exit × Place) FormErr
+exits_at version kind p =
+    has_exit_at kind p >>= λ has. if has.0 then (exit_at version has.1 >>= λ exit. Ok (Some exit.0, exit.1)) else Ok (None, has.1)
+
+-- the number of a node's points, which with those of the nodes before are at most 65,536
+unfoldable pub point_count_at : ℕ → Place → Result (ℕ × Place) FormErr
+point_count_at used p = u32_at p >>= λ n. checked 5 (nat_le (used + n.0) (2 ^ 16)) p n
+
+unfoldable pub points_at : ℕ → ℕ → Place → Result (List Point × Place) FormErr
+points_at version used p = point_count_at used p >>= λ n. many_at (point_after version) n.0 [] n.1
+
+unfoldable pub node_after : ℕ → List NodeData → Place → Result (NodeData × Place) FormErr
+node_after version before p =
+    key_after (key_numbers before) p >>= λ key. need_at key.1 >>= λ need. exits_at version key.0.kind need.1 >>= λ exit. points_at version (count_points before) exit.1 >>= λ points.
+    Ok (record { key = key.0; need = need.0; exit = exit.0; points = points.0 }, points.1)
+
+-- ---- certificates
+-- the bytes 54 43 44 43
+unfoldable pub magic_at : Place → Result (ℕ × Place) FormErr
+magic_at p = u32_at p >>= λ magic. checked 2 (magic.0 == 0x43444354) p magic
+
+unfoldable pub version_at : Place → Result (ℕ × Place) FormErr
+version_at p = u16_at p >>= λ version. checked 2 (version.0 == 1 || version.0 == 2) p version
+
+unfoldable pub node_count_at : Place → Result (ℕ × Place) FormErr
+node_count_at p = u16_at p >>= λ n. checked 5 (nat_le n.0 2048) p n
+
+unfoldable pub cert_at : Place → Result (CertData × Place) FormErr
+cert_at p =
+    magic_at p >>= λ magic. version_at magic.1 >>= λ version. node_count_at version.1 >>= λ n. many_at (node_after version.0) n.0 [] n.1 >>= λ nodes.
+    Ok (record { version = version.0; nodes = nodes.0 }, nodes.1)
+
+-- the certificate that the bytes spell, or their first fault
+unfoldable pub certificate_of : List ℕ → Result CertData FormErr
+certificate_of bytes = cert_at (record { bytes = bytes; place = 0 }) >>= λ c. if c.1.place == length bytes then Ok c.0 else fault_at 6 c.1

@@ -1,0 +1,21 @@
+-- Keys and their order.
+use Rattle.std.specs.Prelude.{◌≤◌, ◌<◌, ◌+◌, ◌*◌, ◌^◌, ℕ, Bool, true, false}
+use Rattle.depth_cert.specs.declared.keys.Key.{Key}
+
+-- a truth value as a byte
+abbrev pub byte_of : Bool → ℕ
+byte_of true = 1
+byte_of false = 0
+
+-- a key as one number: keys are ordered by kind, then entry, then prio, then is
+abbrev pub key_number : ℕ → ℕ → ℕ → ℕ → ℕ
+key_number kind entry prio is = ((kind * 2 ^ 32 + entry) * 2 ^ 8 + prio) * 2 ^ 8 + is
+
+abbrev pub number_of_key : Key → ℕ
+number_of_key k = key_number k.kind k.entry k.prio (byte_of k.is)
+
+-- the kinds are start, call, irq, sys and aln
+pub record IsKey (k : Key) : Type 0 where
+  pub kind : k.kind ≤ 4
+  pub entry : k.entry < 2 ^ 32
+  pub prio : k.prio < 2 ^ 8

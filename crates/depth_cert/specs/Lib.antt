@@ -1,0 +1,7 @@
+pub mod Answers
+pub mod Certs
+pub mod Grammar
+pub mod Keys
+pub mod Nodes
+pub mod Points
+pub mod Spelling

@@ -1,0 +1,44 @@
+-- Points and exits, and what they keep.
+use Rattle.std.specs.Prelude.{◌≡◌, ◌≤◌, ◌<◌, ◌^◌, ◌==◌, ℕ, List, length, map, find, Option}
+use Rattle.std.specs.List.{All}
+use Rattle.std.specs.List.Sorted.{IsStrictlyIncreasing}
+use Rattle.value_domain.specs.declared.values.Val.{Val}
+use Rattle.value_domain.specs.declared.values.Val.TheVariants.{Set, Span}
+use Rattle.value_domain.specs.declared.states.State.{State}
+use Rattle.value_domain.specs.Sets.{AreWords}
+use Rattle.value_domain.specs.Values.{count_in}
+use Rattle.value_domain.specs.Versions.{width_of, most_of}
+use Rattle.depth_cert.specs.declared.points.Exit.{Exit}
+use Rattle.depth_cert.specs.declared.points.Point.{Point}
+
+-- a well-formed value of the version: a Set within its width, or a Span of more members than that
+abbrev pub IsWellOf : ℕ → Val → Type 0
+IsWellOf version (Set ws) = AreWords ws × (length ws ≤ width_of version)
+IsWellOf version (Span lo last step) = (step ≤ 2) × (width_of version < count_in lo last step) × (last < 2 ^ 32)
+
+-- a state that a certificate of the version may have
+pub record IsState (version : ℕ) (s : State) : Type 0 where
+  pub regs : length s.regs ≡ 27
+  pub values : All (IsWellOf version) s.regs
+  pub ccpn : s.ccpn < 2 ^ 8
+  pub locals : length s.locals.items ≤ most_of version
+
+pub record IsPoint (version : ℕ) (p : Point) : Type 0 where
+  pub addr : p.addr < 2 ^ 32
+  pub state : IsState version p.state
+
+pub record IsExit (version : ℕ) (e : Exit) : Type 0 where
+  pub lower : length e.lower ≡ 14
+  pub values : All (IsWellOf version) e.lower
+  pub ccpn : e.ccpn < 2 ^ 8
+
+abbrev pub addresses : List Point → List ℕ
+addresses ps = map (λ p. p.addr) ps
+
+-- points stand by ascending address
+abbrev pub ArePoints : List Point → Type 0
+ArePoints ps = IsStrictlyIncreasing (addresses ps)
+
+-- the point at an address, if there is one
+abbrev pub find_point : ℕ → List Point → Option Point
+find_point addr ps = find (λ p. p.addr == addr) ps

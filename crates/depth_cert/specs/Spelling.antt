@@ -1,0 +1,40 @@
+-- The one spelling of a certificate.
+use Rattle.std.specs.Prelude.{◌+◌, if◌then◌else◌, ℕ, List, [], ◌∷◌, ◌++◌, length, map, Option, Some, None}
+use Rattle.std.specs.List.{flat_map}
+use Rattle.tcd_base.specs.Bytes.{bytes_of_half, bytes_of_word}
+use Rattle.value_domain.specs.declared.values.Val.{Val}
+use Rattle.value_domain.specs.declared.values.Val.TheVariants.{Set, Span}
+use Rattle.value_domain.specs.declared.states.State.{State}
+use Rattle.depth_cert.specs.declared.keys.Key.{Key}
+use Rattle.depth_cert.specs.declared.points.Exit.{Exit}
+use Rattle.depth_cert.specs.declared.points.Point.{Point}
+use Rattle.depth_cert.specs.Keys.{byte_of}
+use Rattle.depth_cert.specs.Nodes.{NodeData}
+use Rattle.depth_cert.specs.Certs.{CertData}
+use Rattle.depth_cert.specs.Grammar.{is_any}
+
+unfoldable pub bytes_of_value : Val → List ℕ
+bytes_of_value (Set ws) = length ws ∷ flat_map bytes_of_word ws
+bytes_of_value (Span lo last step) = if is_any lo last step then 0 ∷ [] else (240 + step) ∷ bytes_of_word lo ++ bytes_of_word last
+
+unfoldable pub bytes_of_state : State → List ℕ
+bytes_of_state s =
+    byte_of s.ie ∷ s.ccpn ∷ byte_of s.lower ∷ length s.locals.items ∷ map byte_of s.locals.items ++ flat_map bytes_of_value s.regs
+
+unfoldable pub bytes_of_point : Point → List ℕ
+bytes_of_point p = bytes_of_word p.addr ++ bytes_of_state p.state
+
+unfoldable pub bytes_of_key : Key → List ℕ
+bytes_of_key k = k.kind ∷ bytes_of_word k.entry ++ (k.prio ∷ byte_of k.is ∷ [])
+
+unfoldable pub bytes_of_exit : Option Exit → List ℕ
+bytes_of_exit None = 0 ∷ []
+bytes_of_exit (Some e) = 1 ∷ byte_of e.ie ∷ e.ccpn ∷ flat_map bytes_of_value e.lower
+
+unfoldable pub bytes_of_node : NodeData → List ℕ
+bytes_of_node n =
+    bytes_of_key n.key ++ (bytes_of_half n.need ++ (bytes_of_exit n.exit ++ (bytes_of_word (length n.points) ++ flat_map bytes_of_point n.points)))
+
+-- the magic word, the version, how many nodes, and the nodes
+unfoldable pub bytes_of : CertData → List ℕ
+bytes_of c = bytes_of_word 0x43444354 ++ (bytes_of_half c.version ++ (bytes_of_half (length c.nodes) ++ flat_map bytes_of_node c.nodes))

@@ -1,0 +1,105 @@
+// The fields of a certificate, read.
+ghost use Rattle.std.specs.Prelude.{◌≡◌, ◌≤◌, ◌+◌, ◌^◌, ◌-◌, ◌⊎◌, [], length, true, Ok, Err, IfOk, IfErr};
+ghost use Rattle.tcd_base.specs.Reading.{Reads};
+ghost use Rattle.depth_cert.specs.Answers.{IsFaultOf};
+ghost use Rattle.depth_cert.specs.Grammar.{magic_at, version_at, node_count_at, node_after, many_at, certificate_of};
+ghost use Rattle.depth_cert.specs.Certs.{count_points};
+
+use crate::node_fields::read_node;
+use crate::value_fields::fault;
+use crate::{CertErr, Node};
+use std::alloc::Global;
+use tcd_base::{Cursor, FormErr, read_u16, read_u32};
+
+/// The bytes 54 43 44 43.
+#[tactic(auto, unfolding(crate::specs::Grammar::magic_at))]
+fn read_magic(c: &mut Cursor<'_>) -> Result<u32, FormErr>
+    requires { length c.old.bytes ≤ 2 ^ 30 }
+    ensures read { Reads result c.new (magic_at c.old) }
+    ensures bytes { c.new.bytes ≡ c.old.bytes }
+{
+    let start = c.place();
+    let magic = read_u32(c)?;
+    if magic != 0x4344_4354 {
+        return Err(fault(2, start));
+    }
+    Ok(magic)
+}
+
+/// Version 1 or 2.
+#[tactic(auto, unfolding(crate::specs::Grammar::version_at))]
+fn read_version(c: &mut Cursor<'_>) -> Result<u8, FormErr>
+    requires { length c.old.bytes ≤ 2 ^ 30 }
+    ensures read { Reads result c.new (version_at c.old) }
+    ensures known { IfOk result (λ v. (v ≡ 1) ⊎ (v ≡ 2)) }
+    ensures bytes { c.new.bytes ≡ c.old.bytes }
+{
+    let start = c.place();
+    let version = read_u16(c)?;
+    if version == 1 || version == 2 {
+        Ok(version as u8)
+    } else {
+        Err(fault(2, start))
+    }
+}
+
+/// How many nodes.
+#[tactic(auto, unfolding(crate::specs::Grammar::node_count_at))]
+fn read_node_count(c: &mut Cursor<'_>) -> Result<u16, FormErr>
+    requires { length c.old.bytes ≤ 2 ^ 30 }
+    ensures read { Reads result c.new (node_count_at c.old) }
+    ensures bytes { c.new.bytes ≡ c.old.bytes }
+{
+    let start = c.place();
+    let count = read_u16(c)?;
+    if count > 2048 {
+        return Err(fault(5, start));
+    }
+    Ok(count)
+}
+
+fn read_nodes(
+    alloc: Global,
+    c: &mut Cursor<'_>,
+    version: u8,
+    count: u16,
+) -> Result<Vec<Node>, CertErr>
+    requires { length c.old.bytes ≤ 2 ^ 30 }
+    ensures ok { IfOk result (λ ns. many_at (node_after version) count [] c.old ≡ Ok (ns.items, c.new)) }
+    ensures err { IfErr result (IsFaultOf (many_at (node_after version) count [] c.old)) }
+    ensures bytes { c.new.bytes ≡ c.old.bytes }
+{
+    let mut nodes = Vec::new(alloc);
+    let mut used = 0;
+    for _i in 0..count {
+        let node = read_node(alloc, c, version, &nodes, used)?;
+        used += count_of(&node);
+        nodes.push(node)?;
+    }
+    Ok(nodes)
+}
+
+fn count_of(node: &Node) -> usize
+    ensures { result ≡ length node.now.points }
+{
+    node.points.len()
+}
+
+/// The version and the nodes of the certificate that the bytes spell, or their first fault.
+#[tactic(auto, unfolding(crate::specs::Grammar::certificate_of, crate::specs::Grammar::cert_at))]
+pub(crate) fn read_parts(alloc: Global, bytes: &[u8]) -> Result<(u8, Vec<Node>), CertErr>
+    requires { length bytes.now ≤ 2 ^ 30 }
+    ensures ok { IfOk result (λ r. certificate_of bytes.now ≡ Ok (record { version = r.0; nodes = r.1.items })) }
+    ensures err { IfErr result (IsFaultOf (certificate_of bytes.now)) }
+{
+    let mut c = Cursor::new(bytes);
+    let _magic = read_magic(&mut c)?;
+    let version = read_version(&mut c)?;
+    let count = read_node_count(&mut c)?;
+    let nodes = read_nodes(alloc, &mut c, version, count)?;
+    let end = c.place();
+    if end != bytes.len() {
+        return Err(CertErr::Bad(fault(6, end)));
+    }
+    Ok((version, nodes))
+}

@@ -1,0 +1,85 @@
+// Certificates, with the facts that they always keep.
+ghost use Rattle.std.specs.Prelude.{◌≡◌, ◌≤◌, ◌^◌, length, Ok, IfOk, IfErr};
+ghost use Rattle.std.specs.Option.{option_map};
+ghost use Rattle.depth_cert.specs.declared.errors.CertErr.TheVariants.{NoMemory};
+ghost use Rattle.depth_cert.specs.Answers.{IsFaultOf};
+
+use crate::cert_fields::read_parts;
+use crate::lookup::{node_at, node_place};
+use crate::node_fields::number_of;
+use crate::writing::{put_u16, write_nodes};
+use crate::{CertErr, Key, Node};
+use std::alloc::Global;
+use std::marker::Model;
+use tcd_base::put_u32;
+
+/// A certificate of version 1 or 2: nodes by ascending key.
+#[derive(Drop)]
+pub struct Cert {
+    pub version: u8,
+    pub nodes: Vec<Node>,
+}
+
+impl Model for Cert {
+    ghost use Rattle.depth_cert.specs.Certs.{CertData, IsCert};
+
+    ghost Value = { CertData };
+
+    ghost view = { λ c. record { version = c.version; nodes = c.nodes.items } };
+
+    ghost invariant = { λ c. IsCert (record { version = c.version; nodes = c.nodes.items }) };
+}
+
+impl Cert {
+    ghost use Rattle.depth_cert.specs.Certs.{find_node};
+    ghost use Rattle.depth_cert.specs.Grammar.{certificate_of};
+    ghost use Rattle.depth_cert.specs.Spelling.{bytes_of};
+
+    /// The certificate that the bytes spell, or their first fault.
+    pub fn read(alloc: Global, bytes: &[u8]) -> Result<Cert, CertErr>
+        requires { length bytes.now ≤ 2 ^ 30 }
+        ensures ok { IfOk result (λ c. certificate_of bytes.now ≡ Ok c) }
+        ensures err { IfErr result (IsFaultOf (certificate_of bytes.now)) }
+
+        // No other bytes spell it.
+        ensures one { IfOk result (λ c. bytes_of c ≡ bytes.now) }
+    {
+        let (version, nodes) = read_parts(alloc, bytes)?;
+        Ok(Cert { version, nodes })
+    }
+
+    /// The bytes that spell the certificate.
+    pub fn write(&self, alloc: Global) -> Result<Vec<u8>, CertErr>
+        ensures ok { IfOk result (λ out. out.items ≡ bytes_of self.now) }
+        ensures err { IfErr result (λ e. e ≡ NoMemory) }
+
+        // Reading them gives the certificate back.
+        ensures back { IfOk result (λ out. certificate_of out.items ≡ Ok self.now) }
+    {
+        let _version = self.version;
+        let out = self.spelled(alloc)?;
+        Ok(out)
+    }
+
+    #[tactic(auto, unfolding(crate::specs::Spelling::bytes_of))]
+    fn spelled(&self, alloc: Global) -> Result<Vec<u8>, tcd_base::NoMemory>
+        ensures { IfOk result (λ out. out.items ≡ bytes_of self.now) }
+    {
+        let mut out = Vec::new(alloc);
+        put_u32(&mut out, 0x4344_4354)?;
+        put_u16(&mut out, u16::from(self.version))?;
+        put_u16(&mut out, self.nodes.len() as u16)?;
+        write_nodes(&mut out, self.version, &self.nodes)?;
+        Ok(out)
+    }
+
+    /// The node of a key, or nothing where there is none.
+    pub fn node(&self, key: &Key) -> Option<&Node>
+        ensures { option_map (λ n. n.now) result ≡ find_node key.now self.now.nodes }
+    {
+        let number = number_of(key);
+        let nodes = self.nodes.as_slice();
+        let at = node_place(nodes, number);
+        node_at(nodes, number, at)
+    }
+}

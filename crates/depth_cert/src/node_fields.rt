@@ -1,0 +1,160 @@
+// The fields of nodes, read.
+ghost use Rattle.std.specs.Prelude.{◌≡◌, ◌≤◌, ◌<◌, ◌+◌, ◌^◌, ◌-◌, [], length, true, Ok, Err, IfOk, IfErr};
+ghost use Rattle.tcd_base.specs.Reading.{Reads};
+ghost use Rattle.depth_cert.specs.Answers.{IsFaultOf};
+ghost use Rattle.depth_cert.specs.Grammar.{values_at, key_after, need_at, has_exit_at, exit_at, exits_at, node_after, is_above};
+ghost use Rattle.depth_cert.specs.Keys.{key_number, number_of_key};
+ghost use Rattle.depth_cert.specs.Certs.{key_numbers, count_points};
+
+use crate::point_fields::read_points;
+use crate::value_fields::{fault, read_flag, read_values};
+use crate::{CertErr, Exit, Key, Node};
+use std::alloc::Global;
+use tcd_base::{Cursor, FormErr, read_u8, read_u16, read_u32};
+use value_domain::Val;
+
+/// The fields of a key as one number, which orders keys.
+fn number(kind: u8, entry: u32, prio: u8, is: u8) -> u64
+    ensures { result ≡ key_number kind entry prio is }
+{
+    ((u64::from(kind) * 4_294_967_296 + u64::from(entry)) * 256 + u64::from(prio)) * 256
+        + u64::from(is)
+}
+
+pub(crate) fn number_of(key: &Key) -> u64
+    ensures { result ≡ number_of_key key.now }
+{
+    number(key.kind, key.entry, key.prio, if key.is { 1 } else { 0 })
+}
+
+/// Whether a key's number is above that of the last node.
+fn is_next(before: &[Node], key: u64) -> bool
+    ensures { result ≡ is_above (key_numbers before.now) key }
+{
+    if before.is_empty() {
+        return true;
+    }
+    let last = &before[before.len() - 1];
+    number_of(&last.key) < key
+}
+
+#[tactic(auto, unfolding(crate::specs::Grammar::key_after))]
+fn read_key(c: &mut Cursor<'_>, before: &[Node]) -> Result<Key, FormErr>
+    requires { length c.old.bytes ≤ 2 ^ 30 }
+    ensures read { Reads result c.new (key_after (key_numbers before.now) c.old) }
+    ensures bytes { c.new.bytes ≡ c.old.bytes }
+{
+    let start = c.place();
+    let kind = read_u8(c)?;
+    if kind > 4 {
+        return Err(fault(4, start));
+    }
+    let entry = read_u32(c)?;
+    let prio = read_u8(c)?;
+    let at = c.place();
+    let is = read_u8(c)?;
+    if !is_next(before, number(kind, entry, prio, is)) {
+        return Err(fault(3, start));
+    }
+    if is > 1 {
+        return Err(fault(4, at));
+    }
+    Ok(Key {
+        kind,
+        entry,
+        prio,
+        is: is == 1,
+    })
+}
+
+#[tactic(auto, unfolding(crate::specs::Grammar::need_at))]
+fn read_need(c: &mut Cursor<'_>) -> Result<u16, FormErr>
+    requires { length c.old.bytes ≤ 2 ^ 30 }
+    ensures read { Reads result c.new (need_at c.old) }
+    ensures bytes { c.new.bytes ≡ c.old.bytes }
+{
+    let start = c.place();
+    let need = read_u16(c)?;
+    if need > 4096 {
+        return Err(fault(5, start));
+    }
+    Ok(need)
+}
+
+#[tactic(auto, unfolding(crate::specs::Grammar::has_exit_at))]
+fn read_has_exit(c: &mut Cursor<'_>, kind: u8) -> Result<bool, FormErr>
+    requires { length c.old.bytes ≤ 2 ^ 30 }
+    ensures read { Reads result c.new (has_exit_at kind c.old) }
+    ensures bytes { c.new.bytes ≡ c.old.bytes }
+{
+    let start = c.place();
+    let exit = read_flag(c)?;
+    if exit && !(kind == 1 || kind == 3) {
+        return Err(fault(4, start));
+    }
+    Ok(exit)
+}
+
+fn read_lower(c: &mut Cursor<'_>, version: u8) -> Result<[Val; 14], FormErr>
+    requires { length c.old.bytes ≤ 2 ^ 30 }
+    ensures read { Reads result c.new (values_at version 14 c.old) }
+    ensures bytes { c.new.bytes ≡ c.old.bytes }
+{
+    let mut lower: [Val; 14] = std::array::from_fn(|_| Val::any());
+    read_values(c, version, &mut lower)?;
+    Ok(lower)
+}
+
+#[tactic(auto, unfolding(crate::specs::Grammar::exit_at))]
+fn read_exit(c: &mut Cursor<'_>, version: u8) -> Result<Exit, FormErr>
+    requires { length c.old.bytes ≤ 2 ^ 30 }
+    ensures read { Reads result c.new (exit_at version c.old) }
+    ensures bytes { c.new.bytes ≡ c.old.bytes }
+{
+    let ie = read_flag(c)?;
+    let ccpn = read_u8(c)?;
+    let lower = read_lower(c, version)?;
+    Ok(Exit { ie, ccpn, lower })
+}
+
+#[tactic(auto, unfolding(crate::specs::Grammar::exits_at))]
+fn read_exits(c: &mut Cursor<'_>, version: u8, kind: u8) -> Result<Option<Exit>, FormErr>
+    requires { length c.old.bytes ≤ 2 ^ 30 }
+    ensures read { Reads result c.new (exits_at version kind c.old) }
+    ensures bytes { c.new.bytes ≡ c.old.bytes }
+{
+    if !read_has_exit(c, kind)? {
+        return Ok(None);
+    }
+    let exit = read_exit(c, version)?;
+    Ok(Some(exit))
+}
+
+/// A node after those before, which have `used` points together.
+#[tactic(auto, unfolding(crate::specs::Grammar::node_after))]
+pub(crate) fn read_node(
+    alloc: Global,
+    c: &mut Cursor<'_>,
+    version: u8,
+    before: &[Node],
+    used: usize,
+) -> Result<Node, CertErr>
+    requires short { length c.old.bytes ≤ 2 ^ 30 }
+    requires used { used ≡ count_points before.now }
+    requires few { used ≤ 2 ^ 16 }
+    ensures ok { IfOk result (λ n. node_after version before.now c.old ≡ Ok (n, c.new)) }
+    ensures err { IfErr result (IsFaultOf (node_after version before.now c.old)) }
+    ensures few { IfOk result (λ n. used + length n.points ≤ 2 ^ 16) }
+    ensures bytes { c.new.bytes ≡ c.old.bytes }
+{
+    let key = read_key(c, before)?;
+    let need = read_need(c)?;
+    let exit = read_exits(c, version, key.kind)?;
+    let points = read_points(alloc, c, version, used)?;
+    Ok(Node {
+        key,
+        need,
+        exit,
+        points,
+    })
+}

@@ -1,0 +1,151 @@
+// The fields of points, read.
+ghost use Rattle.std.specs.Prelude.{◌≡◌, ◌≤◌, ◌+◌, ◌^◌, ◌-◌, [], length, vec_len, true, Ok, Err, IfOk, IfErr};
+ghost use Rattle.tcd_base.specs.Reading.{Reads};
+ghost use Rattle.depth_cert.specs.Grammar.{flag_at, values_at, locals_at, state_at, address_after, point_after, point_count_at, points_at, is_above, many_at};
+ghost use Rattle.depth_cert.specs.Answers.{IsFaultOf};
+ghost use Rattle.depth_cert.specs.Points.{addresses, ArePoints};
+
+use crate::value_fields::{fault, read_flag, read_values};
+use crate::{CertErr, Point};
+use arrayvec::ArrayVec;
+use std::alloc::Global;
+use tcd_base::{Cursor, FormErr, read_u8, read_u32};
+use value_domain::{State, Val};
+
+/// A list of truth values: how many, and each.
+#[tactic(auto, unfolding(crate::specs::Grammar::locals_at))]
+fn read_locals(c: &mut Cursor<'_>, version: u8) -> Result<ArrayVec<bool, 8>, FormErr>
+    requires { length c.old.bytes ≤ 2 ^ 30 }
+    ensures ok { IfOk result (λ l. locals_at version c.old ≡ Ok (l.items, c.new)) }
+    ensures err { IfErr result (λ e. locals_at version c.old ≡ Err e) }
+    ensures bytes { c.new.bytes ≡ c.old.bytes }
+{
+    let start = c.place();
+    let count = read_u8(c)?;
+    let most = if version == 1 { 4 } else { 8 };
+    if count > most {
+        return Err(fault(5, start));
+    }
+    read_flags(c, count)
+}
+
+#[tactic(auto, unfolding(crate::specs::Grammar::many_at))]
+fn read_flags(c: &mut Cursor<'_>, count: u8) -> Result<ArrayVec<bool, 8>, FormErr>
+    requires short { length c.old.bytes ≤ 2 ^ 30 }
+    requires few { count ≤ 8 }
+    ensures ok { IfOk result (λ l. many_at (λ before. flag_at) count [] c.old ≡ Ok (l.items, c.new)) }
+    ensures err { IfErr result (λ e. many_at (λ before. flag_at) count [] c.old ≡ Err e) }
+    ensures bytes { c.new.bytes ≡ c.old.bytes }
+{
+    let mut flags = ArrayVec::new();
+    for _i in 0..count {
+        let flag = read_flag(c)?;
+        flags.push(flag);
+    }
+    Ok(flags)
+}
+
+fn read_regs(c: &mut Cursor<'_>, version: u8) -> Result<[Val; 27], FormErr>
+    requires { length c.old.bytes ≤ 2 ^ 30 }
+    ensures read { Reads result c.new (values_at version 27 c.old) }
+    ensures bytes { c.new.bytes ≡ c.old.bytes }
+{
+    let mut regs: [Val; 27] = std::array::from_fn(|_| Val::any());
+    read_values(c, version, &mut regs)?;
+    Ok(regs)
+}
+
+#[tactic(auto, unfolding(crate::specs::Grammar::state_at))]
+fn read_state(c: &mut Cursor<'_>, version: u8) -> Result<State, FormErr>
+    requires { length c.old.bytes ≤ 2 ^ 30 }
+    ensures read { Reads result c.new (state_at version c.old) }
+    ensures bytes { c.new.bytes ≡ c.old.bytes }
+{
+    let ie = read_flag(c)?;
+    let ccpn = read_u8(c)?;
+    let lower = read_flag(c)?;
+    let locals = read_locals(c, version)?;
+    let regs = read_regs(c, version)?;
+    Ok(State {
+        regs,
+        ie,
+        ccpn,
+        lower,
+        locals,
+    })
+}
+
+/// Whether an address is above that of the last point.
+fn is_next(before: &[Point], addr: u32) -> bool
+    ensures { result ≡ is_above (addresses before.now) addr }
+{
+    before.is_empty() || before[before.len() - 1].addr < addr
+}
+
+#[tactic(auto, unfolding(crate::specs::Grammar::address_after))]
+fn read_address(c: &mut Cursor<'_>, before: &[Point]) -> Result<u32, FormErr>
+    requires { length c.old.bytes ≤ 2 ^ 30 }
+    ensures read { Reads result c.new (address_after (addresses before.now) c.old) }
+    ensures next { IfOk result (λ addr. is_above (addresses before.now) addr ≡ true) }
+    ensures bytes { c.new.bytes ≡ c.old.bytes }
+{
+    let start = c.place();
+    let addr = read_u32(c)?;
+    if !is_next(before, addr) {
+        return Err(fault(3, start));
+    }
+    Ok(addr)
+}
+
+#[tactic(auto, unfolding(crate::specs::Grammar::point_after))]
+fn read_point(c: &mut Cursor<'_>, version: u8, before: &[Point]) -> Result<Point, FormErr>
+    requires { length c.old.bytes ≤ 2 ^ 30 }
+    ensures read { Reads result c.new (point_after version before.now c.old) }
+    ensures next { IfOk result (λ p. is_above (addresses before.now) p.addr ≡ true) }
+    ensures bytes { c.new.bytes ≡ c.old.bytes }
+{
+    let addr = read_address(c, before)?;
+    let state = read_state(c, version)?;
+    Ok(Point { addr, state })
+}
+
+#[tactic(auto, unfolding(crate::specs::Grammar::point_count_at))]
+fn read_point_count(c: &mut Cursor<'_>, used: usize) -> Result<u32, FormErr>
+    requires short { length c.old.bytes ≤ 2 ^ 30 }
+    requires used { used ≤ 2 ^ 16 }
+    ensures read { Reads result c.new (point_count_at used c.old) }
+    ensures few { IfOk result (λ n. used + n ≤ 2 ^ 16) }
+    ensures bytes { c.new.bytes ≡ c.old.bytes }
+{
+    let start = c.place();
+    let count = read_u32(c)?;
+    if used as u64 + u64::from(count) > 65536 {
+        return Err(fault(5, start));
+    }
+    Ok(count)
+}
+
+/// How many points, and each; those before the node are `used`.
+#[tactic(auto, unfolding(crate::specs::Grammar::points_at))]
+pub(crate) fn read_points(
+    alloc: Global,
+    c: &mut Cursor<'_>,
+    version: u8,
+    used: usize,
+) -> Result<Vec<Point>, CertErr>
+    requires short { length c.old.bytes ≤ 2 ^ 30 }
+    requires used { used ≤ 2 ^ 16 }
+    ensures ok { IfOk result (λ ps. points_at version used c.old ≡ Ok (ps.items, c.new)) }
+    ensures err { IfErr result (IsFaultOf (points_at version used c.old)) }
+    ensures rising { IfOk result (λ ps. ArePoints ps.items) }
+    ensures few { IfOk result (λ ps. used + vec_len ps ≤ 2 ^ 16) }
+    ensures bytes { c.new.bytes ≡ c.old.bytes }
+{
+    let count = read_point_count(c, used)?;
+    let mut points = Vec::new(alloc);
+    for _i in 0..count {
+        let point = read_point(c, version, &points)?;
+        points.push(point)?;
+    }
+    Ok(points)
+}

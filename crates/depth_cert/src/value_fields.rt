@@ -1,0 +1,147 @@
+// The fields of values, read.
+ghost use Rattle.std.specs.Prelude.{◌≡◌, ◌≤◌, ◌<◌, ◌^◌, ◌-◌, ◌∷◌, [], IsTrue, ℕ, length, Ok, Err, OnOk, IfOk, IfErr, true};
+ghost use Rattle.tcd_base.specs.Reading.{Reads};
+ghost use Rattle.value_domain.specs.declared.values.Val.TheVariants.{Set, Span};
+ghost use Rattle.std.specs.List.Sorted.{IsStrictlyIncreasing};
+ghost use Rattle.depth_cert.specs.Grammar.{flag_at, word_after, many_at, set_at, span_at, value_at, values_at, is_above, is_span};
+
+use arrayvec::ArrayVec;
+use tcd_base::{Cursor, FormErr, read_u8, read_u32};
+use value_domain::{Val, Words, count_of};
+
+/// A fault of a kind at a place.
+pub(crate) fn fault(kind: u8, at: usize) -> FormErr
+    requires { at ≤ 2 ^ 30 }
+    ensures { result ≡ record { kind = kind; at = at } }
+{
+    FormErr {
+        kind,
+        at: at as u32,
+    }
+}
+
+/// A truth value.
+#[tactic(auto, unfolding(crate::specs::Grammar::flag_at))]
+pub(crate) fn read_flag(c: &mut Cursor<'_>) -> Result<bool, FormErr>
+    requires { length c.old.bytes ≤ 2 ^ 30 }
+    ensures read { Reads result c.new (flag_at c.old) }
+    ensures bytes { c.new.bytes ≡ c.old.bytes }
+{
+    let at = c.place();
+    let byte = read_u8(c)?;
+    if byte > 1 {
+        return Err(fault(4, at));
+    }
+    Ok(byte == 1)
+}
+
+/// Whether a word is above the last of those before it.
+fn is_next(before: &[u32], x: u32) -> bool
+    ensures { result ≡ is_above before.now x }
+{
+    before.is_empty() || before[before.len() - 1] < x
+}
+
+#[tactic(auto, unfolding(crate::specs::Grammar::word_after))]
+fn read_word(c: &mut Cursor<'_>, before: &[u32]) -> Result<u32, FormErr>
+    requires { length c.old.bytes ≤ 2 ^ 30 }
+    ensures read { Reads result c.new (word_after before.now c.old) }
+    ensures next { IfOk result (λ w. is_above before.now w ≡ true) }
+    ensures bytes { c.new.bytes ≡ c.old.bytes }
+{
+    let at = c.place();
+    let word = read_u32(c)?;
+    if !is_next(before, word) {
+        return Err(fault(4, at));
+    }
+    Ok(word)
+}
+
+/// A Set of so many words.
+#[tactic(auto, unfolding(crate::specs::Grammar::set_at))]
+fn read_set(c: &mut Cursor<'_>, n: usize) -> Result<Val, FormErr>
+    requires short { length c.old.bytes ≤ 2 ^ 30 }
+    requires some { 1 ≤ n }
+    requires few { n ≤ 128 }
+    ensures read { Reads result c.new (set_at n c.old) }
+    ensures bytes { c.new.bytes ≡ c.old.bytes }
+{
+    let mut words: ArrayVec<u32, 128> = ArrayVec::new();
+    for _i in 0..n {
+        let word = read_word(c, words.as_slice())?;
+        words.push(word);
+    }
+    Ok(Val::Set(words_of(words.as_slice())))
+}
+
+/// Words that ascend.
+fn words_of(words: &[u32]) -> Words
+    requires some { 1 ≤ length words.now }
+    requires few { length words.now ≤ 128 }
+    requires rising { IsStrictlyIncreasing words.now }
+    ensures { result ≡ words.now }
+{
+    Words::of(words).unwrap()
+}
+
+/// A Span whose first byte was read from `start`.
+#[tactic(auto, unfolding(crate::specs::Grammar::span_at))]
+fn read_span(c: &mut Cursor<'_>, version: u8, step: u8, start: usize) -> Result<Val, FormErr>
+    requires short { length c.old.bytes ≤ 2 ^ 30 }
+    requires step { step ≤ 2 }
+    requires start { start ≤ length c.old.bytes }
+    ensures read { Reads result c.new (span_at version step (record { bytes = c.old.bytes; place = start }) c.old) }
+    ensures bytes { c.new.bytes ≡ c.old.bytes }
+{
+    let lo = read_u32(c)?;
+    let last = read_u32(c)?;
+    if !is_span(version, lo, last, step) {
+        return Err(fault(4, start));
+    }
+    Ok(Val::Span { lo, last, step })
+}
+
+fn is_span(version: u8, lo: u32, last: u32, step: u8) -> bool
+    requires { step ≤ 2 }
+    ensures { result ≡ is_span version lo last step }
+{
+    let width = if version == 1 { 64 } else { 128 };
+    width < count_of(lo, last, step) && !(lo == 0 && last == u32::MAX && step == 0)
+}
+
+/// A value.
+#[tactic(auto, unfolding(crate::specs::Grammar::value_at))]
+fn read_value(c: &mut Cursor<'_>, version: u8) -> Result<Val, FormErr>
+    requires { length c.old.bytes ≤ 2 ^ 30 }
+    ensures read { Reads result c.new (value_at version c.old) }
+    ensures bytes { c.new.bytes ≡ c.old.bytes }
+{
+    let start = c.place();
+    let byte = read_u8(c)?;
+    if byte == 0 {
+        return Ok(Val::any());
+    }
+    let width = if version == 1 { 64 } else { 128 };
+    if byte <= width {
+        return read_set(c, byte as usize);
+    }
+    if byte < 240 || byte > 242 {
+        return Err(fault(4, start));
+    }
+    read_span(c, version, byte - 240, start)
+}
+
+/// Reads a value into each place.
+#[tactic(auto, unfolding(crate::specs::Grammar::values_at))]
+pub(crate) fn read_values(c: &mut Cursor<'_>, version: u8, out: &mut [Val]) -> Result<(), FormErr>
+    requires { length c.old.bytes ≤ 2 ^ 30 }
+    ensures ok { OnOk result (values_at version (length out.old) c.old ≡ Ok (out.new, c.new)) }
+    ensures err { IfErr result (λ e. values_at version (length out.old) c.old ≡ Err e) }
+    ensures bytes { c.new.bytes ≡ c.old.bytes }
+{
+    for i in 0..out.len() {
+        let v = read_value(c, version)?;
+        out[i] = v;
+    }
+    Ok(())
+}

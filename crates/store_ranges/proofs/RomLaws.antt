@@ -1,0 +1,70 @@
+-- Numbers in rom.
+use Rattle.std.proofs.Common.{◌≡◌, ℕ, zero, suc, ◌+◌, ◌*◌, ◌^◌, ◌<◌, ◌≤◌, inl, inr, true, false, List, [], ◌∷◌, Option, Some, None, refl, sym, ap, ◌∙◌, arith}
+use Rattle.std.specs.Prelude.{option_and_then}
+use Rattle.std.specs.Option.{option_map}
+use Rattle.std.specs.List.{list_any}
+use Rattle.std.proofs.lemmas.Bool.{or_cases, or_left, or_right}
+use Rattle.tcd_base.specs.declared.parts.Range.{Range}
+use Rattle.tcd_plan.specs.PlanData.{PlanData, IsPlan}
+use Rattle.tc_machine.specs.Ranges.{IsInOne}
+use Rattle.tc_machine.proofs.PlanLaws.{rom_fits}
+use Rattle.elf_image.specs.Images.{ImageData, image_byte}
+use Rattle.store_ranges.specs.Accesses.{is_inside}
+use Rattle.store_ranges.specs.Loads.{held_number}
+use Rattle.store_ranges.proofs.Finds.{within_true, true_within}
+
+-- ---- in one range
+pub any_one : (x n : ℕ) (rs : List Range) → list_any (is_inside x n) rs ≡ true → IsInOne x n rs
+any_one x n [] t = absurd (let f : false ≡ true = t in cc)
+any_one x n (r ∷ rs) t =
+    elim (or_cases (is_inside x n r) (list_any (is_inside x n) rs) t) [
+      | inl h ↦ inl (within_true x n r h)
+      | inr h ↦ inr (any_one x n rs h)
+    ]
+
+pub one_any : (x n : ℕ) (rs : List Range) → IsInOne x n rs → list_any (is_inside x n) rs ≡ true
+one_any x n [] i = absurd i
+one_any x n (r ∷ rs) (inl w) = or_left (is_inside x n r) (list_any (is_inside x n) rs) (true_within x n r w)
+one_any x n (r ∷ rs) (inr i) = or_right (is_inside x n r) (list_any (is_inside x n) rs) (one_any x n rs i)
+
+pub any_fits : (plan : PlanData) (x n : ℕ) → IsPlan plan → list_any (is_inside x n) plan.rom ≡ true → x + n ≤ 2 ^ 32
+any_fits plan x n ok t = rom_fits ok x n (any_one x n plan.rom t)
+
+-- ---- numbers, from the last byte on
+pub held_more : (image : ImageData) (y z k b number : ℕ) → z ≡ y + 1 → image_byte image y ≡ Some b → held_number image z k ≡ Some number → held_number image y (k + 1) ≡ Some (b + 256 * number)
+unfolding held_number
+held_more image y z k b number next byte rest =
+    let e : held_number image (y + 1) k ≡ Some number = ap (λ a. held_number image a k) (sym next) ∙ rest in
+    let s : k + 1 ≡ suc k = omega arith in
+    ap (held_number image y) s
+    ∙ ap (λ o. option_and_then (λ b. option_map (λ w. b + 2 ^ 8 * w) (held_number image (y + 1) k)) o) byte
+    ∙ ap (option_map (λ w. b + 2 ^ 8 * w)) e
+
+pub held_none : (image : ImageData) (x i n : ℕ) → i < n → image_byte image (x + i) ≡ None → held_number image x n ≡ None
+unfolding held_number
+held_none image x i zero lt none = absurd (omega arith)
+held_none image x zero (suc n) lt none =
+    let here : x + 0 ≡ x = omega arith in
+    ap (λ o. option_and_then (λ b. option_map (λ w. b + 2 ^ 8 * w) (held_number image (x + 1) n)) o) (ap (image_byte image) (sym here) ∙ none)
+held_none image x (suc i) (suc n) lt none =
+    let next : x + suc i ≡ x + 1 + i = omega arith in
+    let rest = held_none image (x + 1) i n (omega arith) (ap (image_byte image) (sym next) ∙ none) in
+    later (image_byte image x) (held_number image (x + 1) n) rest
+  where
+    later : (o p : Option ℕ) → p ≡ None → option_and_then (λ b. option_map (λ w. b + 2 ^ 8 * w) p) o ≡ None
+    later None p e = refl
+    later (Some b) p e = ap (option_map (λ w. b + 2 ^ 8 * w)) e
+
+pub number_lt : (k b number : ℕ) → k < 4 → b < 256 → number < 2 ^ (8 * k) → b + 256 * number < 2 ^ (8 * (k + 1))
+number_lt zero b number lt byte below = omega arith
+number_lt (suc zero) b number lt byte below = omega arith
+number_lt (suc (suc zero)) b number lt byte below = omega arith
+number_lt (suc (suc (suc zero))) b number lt byte below = omega arith
+number_lt (suc (suc (suc (suc k)))) b number lt byte below = absurd (omega arith)
+
+pub number_fits : (k b number : ℕ) → k < 4 → b < 256 → number < 2 ^ (8 * k) → b + 256 * number < 2 ^ 32
+number_fits zero b number lt byte below = omega arith
+number_fits (suc zero) b number lt byte below = omega arith
+number_fits (suc (suc zero)) b number lt byte below = omega arith
+number_fits (suc (suc (suc zero))) b number lt byte below = omega arith
+number_fits (suc (suc (suc (suc k)))) b number lt byte below = absurd (omega arith)

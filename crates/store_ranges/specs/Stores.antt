@@ -1,0 +1,27 @@
+-- Where the accesses from the members of a value lie.
+use Rattle.std.specs.Prelude.{◌≡◌, ◌<◌, ◌≤◌, ◌+◌, ◌%◌, ◌^◌, ℕ}
+use Rattle.tcd_plan.specs.PlanData.{PlanData}
+use Rattle.tc_machine.specs.Safe.{IsStoreInRange}
+use Rattle.value_domain.specs.declared.values.Val.{Val}
+use Rattle.value_domain.specs.Sets.{twos}
+use Rattle.value_domain.specs.Values.{IsMember}
+
+-- every access from a member doesn't pass 2^32 and lies wholly in one ram range or one device range
+abbrev pub AreStoresInRange : PlanData → Val → ℕ → Type 0
+AreStoresInRange plan v size = (x : ℕ) → IsMember x v → IsStoreInRange plan (x, size)
+
+-- every member is a multiple of the size
+abbrev pub AreAligned : Val → ℕ → Type 0
+AreAligned v size = (x : ℕ) → IsMember x v → x % size ≡ 0
+
+-- the access from x, and each later one that ends at the end or before, is in range
+pub record StaysInRange (plan : PlanData) (size x end : ℕ) : Type 0 where
+  pub here : x + size ≤ end
+  pub within : end ≤ 2 ^ 32
+  pub each : (y : ℕ) → x ≤ y → y + size ≤ end → IsStoreInRange plan (y, size)
+
+-- the least multiple of 2 ^ step above x
+pub record IsNextMultiple (step x next : ℕ) : Type 0 where
+  pub above : x < next
+  pub fits : step ≤ twos next
+  pub least : (y : ℕ) → x < y → step ≤ twos y → next ≤ y

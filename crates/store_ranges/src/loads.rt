@@ -1,0 +1,137 @@
+// What a load from the members of a value may give.
+ghost use Rattle.std.specs.Prelude.{◌≡◌, ◌≤◌, ◌<◌, ◌+◌, ◌-◌, ◌*◌, ◌^◌, ◌&&◌, ◌==◌, if◌then◌else◌, find, length, List, ℕ, IfSome};
+ghost use Rattle.std.specs.List.{flat_map};
+ghost use Rattle.tc_machine.specs.Fetching as fetching;
+ghost use Rattle.value_domain.specs.Values.{IsValue, cover, members};
+ghost use Rattle.value_domain.specs.declared.values.Val.TheVariants.{Set, Span};
+ghost use Rattle.store_ranges.specs.Accesses as accesses;
+ghost use Rattle.store_ranges.specs.Accesses.{IsSize};
+ghost use Rattle.store_ranges.specs.Loads as loads;
+ghost use Rattle.store_ranges.specs.Loads.{HoldsLoads, all_extended, given, loaded_of};
+
+use crate::ranges::device_at;
+use crate::rom::rom_number;
+use elf_image::Image;
+use tcd_base::sext;
+use tcd_plan::{Device, Plan};
+use value_domain::{Bounds, Val, cover, cover_words, extent_of, join};
+
+/// The least value that holds what the loads of 1, 2 or 4 bytes (`size`) from all members of `at` may give. An address
+/// in rom gives the image's word, a word of a device what the plan lets the device answer, any other address anything.
+pub fn load_of(b: &Bounds, image: &Image, plan: &Plan, at: &Val, size: u8, signed: bool) -> Val
+    requires at { IsValue b.now at.now }
+    requires size { IsSize size }
+    ensures loaded { result ≡ loaded_of b.now image.now plan.now at.now size signed }
+    ensures value { IsValue b.now result }
+    ensures sound { HoldsLoads image.now plan.now at.now size signed result }
+{
+    // The promises that every plan keeps are known once it is read.
+    let _areas = plan.areas;
+    match at {
+        Val::Set(words) => load_each(b, image, plan, words.as_slice(), size, signed),
+        Val::Span { .. } => load_span(b, plan, at, size, signed),
+    }
+}
+
+/// The join of what each address gives.
+fn load_each(b: &Bounds, image: &Image, plan: &Plan, words: &[u32], size: u8, signed: bool) -> Val
+    requires some { 1 ≤ length words.now }
+    requires size { IsSize size }
+    ensures loaded { result ≡ cover b.now (flat_map (given image.now plan.now size signed) words.now) }
+    ensures value { IsValue b.now result }
+{
+    let mut out = load_at(b, image, plan, words[0], size, signed);
+    for x in words {
+        let one = load_at(b, image, plan, *x, size, signed);
+        out = join(b, &out, &one);
+    }
+    out
+}
+
+fn load_at(b: &Bounds, image: &Image, plan: &Plan, x: u32, size: u8, signed: bool) -> Val
+    requires { IsSize size }
+    ensures loaded { result ≡ cover b.now (given image.now plan.now size signed x) }
+    ensures value { IsValue b.now result }
+    ensures some { 1 ≤ length (given image.now plan.now size signed x) }
+{
+    let device = device_for(plan, x, x, size);
+    match rom_number(image, plan, x, size) {
+        Some(number) => cover_words(b, &[extended(number, size, signed)]),
+        None => answers(b, device, size, signed),
+    }
+}
+
+fn load_span(b: &Bounds, plan: &Plan, at: &Val, size: u8, signed: bool) -> Val
+    requires at { IsValue b.now at.now }
+    requires size { IsSize size }
+    ensures loaded { result ≡ cover b.now (loads.answers size signed (loads.device_of plan.now size (members at.now))) }
+    ensures value { IsValue b.now result }
+{
+    let e = extent_of(at);
+    let device = device_for(plan, e.least, e.greatest, size);
+    answers(b, device, size, signed)
+}
+
+/// The device in whose range an access of a word lies both at `low` and at `high`; none for smaller accesses.
+fn device_for(plan: &Plan, low: u32, high: u32, size: u8) -> Option<Device>
+    ensures device { result ≡ (if size == 4 then find (λ d. accesses.is_inside low 4 d.range && accesses.is_inside high 4 d.range) plan.now.devices else None) }
+    ensures bounds { IfSome result (λ d. d.lo ≤ d.hi) }
+{
+    if size != 4 {
+        return None;
+    }
+    device_at(plan.devices.as_slice(), low, high, 4)
+}
+
+/// A loaded number of `size` bytes as a word.
+fn extended(number: u32, size: u8, signed: bool) -> u32
+    requires size { IsSize size }
+    requires below { number < 2 ^ (8 * size) }
+    ensures { result ≡ fetching.extended signed size number }
+{
+    if signed {
+        sext(number, 8 * size)
+    } else {
+        number
+    }
+}
+
+/// What a device may answer; without one, anything.
+fn answers(b: &Bounds, device: Option<Device>, size: u8, signed: bool) -> Val
+    requires size { IsSize size }
+    requires bounds { IfSome device (λ d. d.lo ≤ d.hi) }
+    ensures cover { result ≡ cover b.now (loads.answers size signed device) }
+    ensures value { IsValue b.now result }
+    ensures some { 1 ≤ length (loads.answers size signed device) }
+{
+    match device {
+        Some(device) => cover(b, device.lo, device.hi, 0),
+        None => anything(b, size, signed),
+    }
+}
+
+/// All words that a load of this size and sign may give.
+fn anything(b: &Bounds, size: u8, signed: bool) -> Val
+    requires { IsSize size }
+    ensures cover { result ≡ cover b.now (all_extended size signed) }
+    ensures value { IsValue b.now result }
+{
+    let _width = b.width();
+    if signed {
+        Val::any()
+    } else {
+        cover(b, 0, greatest_of(size), 0)
+    }
+}
+
+/// The greatest number of `size` bytes.
+fn greatest_of(size: u8) -> u32
+    requires { IsSize size }
+    ensures { result ≡ 2 ^ (8 * size) - 1 }
+{
+    match size {
+        1 => 0xFF,
+        2 => 0xFFFF,
+        _ => 0xFFFF_FFFF,
+    }
+}

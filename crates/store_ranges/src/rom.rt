@@ -1,0 +1,68 @@
+// Bytes of an image in rom.
+ghost use Rattle.std.specs.Prelude.{◌≡◌, ◌≤◌, ◌<◌, ◌+◌, ◌*◌, ◌^◌, ◌↔◌, ℕ, IfSome, IsSome, IsTrue};
+ghost use Rattle.std.specs.Bool.{OnTrue};
+ghost use Rattle.std.specs.List.{list_any};
+ghost use Rattle.elf_image.specs.Images.{image_byte};
+ghost use Rattle.store_ranges.specs.Accesses as accesses;
+ghost use Rattle.store_ranges.specs.Loads as loads;
+ghost use Rattle.store_ranges.specs.Loads.{IsLoadedRom};
+
+use crate::ranges::is_in_one;
+use elf_image::Image;
+use tcd_plan::Plan;
+
+/// Whether the `len` bytes from `addr` on lie, without passing 2^32, in one rom range and are held by segments of the
+/// image.
+pub fn loaded_rom(image: &Image, plan: &Plan, addr: u32, len: u8) -> bool
+    ensures { IsTrue result ↔ IsLoadedRom image.now plan.now addr len }
+{
+    if !is_in_rom(plan, addr, len) {
+        return false;
+    }
+    are_held(image, addr, len)
+}
+
+fn is_in_rom(plan: &Plan, x: u32, n: u8) -> bool
+    ensures value { result ≡ list_any (accesses.is_inside x n) plan.now.rom }
+    ensures fits { OnTrue result (x + n ≤ 2 ^ 32) }
+{
+    is_in_one(plan.rom.as_slice(), x, n)
+}
+
+fn are_held(image: &Image, x: u32, n: u8) -> bool
+    requires { x + n ≤ 2 ^ 32 }
+    ensures { IsTrue result ↔ ((i : ℕ) → i < n → IsSome (image_byte image.now (x + i))) }
+{
+    for i in 0..n {
+        if image.byte(x + u32::from(i)).is_none() {
+            return false;
+        }
+    }
+    true
+}
+
+/// The number in the `n` bytes from `x` on, little-endian, where they lie in one rom range and are held.
+pub(crate) fn rom_number(image: &Image, plan: &Plan, x: u32, n: u8) -> Option<u32>
+    requires { n ≤ 4 }
+    ensures value { result ≡ loads.rom_number image.now plan.now x n }
+    ensures small { IfSome result (λ w. w < 2 ^ (8 * n)) }
+{
+    if !is_in_rom(plan, x, n) {
+        return None;
+    }
+    held_number(image, x, n)
+}
+
+fn held_number(image: &Image, x: u32, n: u8) -> Option<u32>
+    requires few { n ≤ 4 }
+    requires fits { x + n ≤ 2 ^ 32 }
+    ensures value { result ≡ loads.held_number image.now x n }
+    ensures small { IfSome result (λ w. w < 2 ^ (8 * n)) }
+{
+    let mut number = 0;
+    for k in 0..n {
+        let byte = image.byte(x + u32::from(n - 1 - k))?;
+        number = u32::from(byte) + 256 * number;
+    }
+    Some(number)
+}

@@ -1,0 +1,5 @@
+pub mod FrontLaws
+pub mod CutLaws
+pub mod TextLaws
+pub mod LongestLaws
+pub mod LineLaws

@@ -1,0 +1,38 @@
+-- What a token is, apart from how a line is cut.
+use Rattle.std.specs.Prelude.{◌≡◌, ◌<◌, ◌≤◌, ◌==◌, ◌&&◌, ◌||◌, ℕ, Bool, true, false, List, [], ◌∷◌, length, take, codes}
+use Rattle.std.specs.List.{list_all}
+use Rattle.std.specs.Str.{bytes_eq}
+use Rattle.tc_lex.specs.declared.kinds.TokenKind.{TokenKind}
+use Rattle.tc_lex.specs.declared.kinds.TokenKind.TheVariants.{Word, Number, Comma, Colon, Open, Close, Plus, Minus}
+use Rattle.tc_lex.specs.Bytes.{is_digit, is_hex, is_name_first, is_name_byte}
+
+-- a first byte and further ones, each of which passes its test
+abbrev pub is_run : (ℕ → Bool) → (ℕ → Bool) → List ℕ → Bool
+is_run first each [] = false
+is_run first each (c ∷ cs) = first c && list_all each (c ∷ cs)
+
+-- `0x` and at least one hex digit
+abbrev pub is_hex_text : List ℕ → Bool
+is_hex_text (z ∷ x ∷ c ∷ cs) = z == 48 && (x == 120 && list_all is_hex (c ∷ cs))
+is_hex_text bs = false
+
+-- the texts of each kind of token
+unfoldable pub is_token : TokenKind → List ℕ → Bool
+is_token Word text = is_run is_name_first is_name_byte text
+is_token Number text = is_run is_digit is_digit text || is_hex_text text
+is_token Comma text = bytes_eq text (codes ",")
+is_token Colon text = bytes_eq text (codes ":")
+is_token Open text = bytes_eq text (codes "[")
+is_token Close text = bytes_eq text (codes "]")
+is_token Plus text = bytes_eq text (codes "+")
+is_token Minus text = bytes_eq text (codes "-")
+
+-- the first `len` bytes are a token, and no longer front of the text is one of any kind
+pub record IsLongest (kind : TokenKind) (len : ℕ) (text : List ℕ) : Type 0 where
+  pub within : len ≤ length text
+  pub stands : is_token kind (take len text) ≡ true
+  pub longest : (other : TokenKind) (n : ℕ) → len < n → n ≤ length text → is_token other (take n text) ≡ false
+
+-- no front of the text is a token
+abbrev pub BeginsNone : List ℕ → Type 0
+BeginsNone text = (kind : TokenKind) (n : ℕ) → n ≤ length text → is_token kind (take n text) ≡ false

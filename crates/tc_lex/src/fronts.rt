@@ -1,0 +1,94 @@
+// The longest token at the front.
+ghost use Rattle.std.specs.Prelude.{◌≡◌, ◌<◌, ◌≤◌, ◌-◌, drop, length, IsTrue, slice_index, true};
+ghost use Rattle.std.specs.List.{prefix_len};
+ghost use Rattle.tc_lex.specs.Bytes.{is_digit, is_hex, is_name_byte};
+ghost use Rattle.tc_lex.specs.Cut.{has_hex_front, number_len, front_of, front_at, IsWithin};
+
+use crate::bytes::{is_digit, is_hex, is_name_byte, is_name_first};
+use crate::kinds::{Front, TokenKind};
+
+fn digits_len(rest: &[u8]) -> usize
+    ensures value { result ≡ prefix_len is_digit rest.now }
+    ensures within { result ≤ length rest.now }
+{
+    rest.iter().take_while(|c| is_digit(**c)).count()
+}
+
+fn hex_len(rest: &[u8]) -> usize
+    ensures value { result ≡ prefix_len is_hex rest.now }
+    ensures within { result ≤ length rest.now }
+{
+    rest.iter().take_while(|c| is_hex(**c)).count()
+}
+
+fn word_len(rest: &[u8]) -> usize
+    ensures value { result ≡ prefix_len is_name_byte rest.now }
+    ensures within { result ≤ length rest.now }
+{
+    rest.iter().take_while(|c| is_name_byte(**c)).count()
+}
+
+#[tactic(auto, unfolding(crate::specs::Cut::has_hex_front))]
+fn has_hex_front(rest: &[u8]) -> bool
+    ensures value { result ≡ has_hex_front rest.now }
+    ensures long { IsTrue result → 2 < length rest.now }
+{
+    rest.len() > 2 && rest[0] == b'0' && rest[1] == b'x' && is_hex(rest[2])
+}
+
+#[tactic(auto, unfolding(crate::specs::Cut::number_len))]
+fn number_len(rest: &[u8]) -> usize
+    ensures value { result ≡ number_len rest.now }
+    ensures within { result ≤ length rest.now }
+    ensures some { 0 < length rest.now → is_digit (slice_index rest.now 0) ≡ true → 0 < result }
+{
+    if has_hex_front(rest) {
+        2 + hex_len(&rest[2..])
+    } else {
+        digits_len(rest)
+    }
+}
+
+// What a text with this first byte begins with.
+#[tactic(auto, unfolding(crate::specs::Cut::front_at))]
+fn front_at(c: u8, text: &[u8]) -> Front
+    requires some { 0 < length text.now }
+    requires first { c ≡ slice_index text.now 0 }
+    ensures value { result ≡ front_at c text.now }
+    ensures within { IsWithin result (length text.now) }
+{
+    if c == b'#' {
+        Front::End
+    } else if c == b' ' {
+        Front::Blank
+    } else if c == b'\t' {
+        Front::Blank
+    } else if c == b',' {
+        Front::Token(TokenKind::Comma, 1)
+    } else if c == b':' {
+        Front::Token(TokenKind::Colon, 1)
+    } else if c == b'[' {
+        Front::Token(TokenKind::Open, 1)
+    } else if c == b']' {
+        Front::Token(TokenKind::Close, 1)
+    } else if c == b'+' {
+        Front::Token(TokenKind::Plus, 1)
+    } else if c == b'-' {
+        Front::Token(TokenKind::Minus, 1)
+    } else if is_name_first(c) {
+        Front::Token(TokenKind::Word, word_len(text))
+    } else if is_digit(c) {
+        Front::Token(TokenKind::Number, number_len(text))
+    } else {
+        Front::Bad
+    }
+}
+
+/// What stands at a place of the line.
+pub(crate) fn front(line: &[u8], at: usize) -> Front
+    requires { at < length line.now }
+    ensures value { result ≡ front_of (drop at line.now) }
+    ensures within { IsWithin result (length line.now - at) }
+{
+    front_at(line[at], &line[at..])
+}

@@ -1,0 +1,76 @@
+// Loads and stores.
+ghost use Rattle.std.specs.Prelude.{◌≡◌, ◌<◌, ◌%◌, ◌^◌, unwrap_or};
+ghost use Rattle.std.specs.FinMap as map;
+ghost use Rattle.tc_isa.specs.Bounded.{IsSize};
+ghost use Rattle.tc_machine.specs.Fetching.{loaded, extended, with_bytes};
+
+use crate::registers::ahead;
+use tc_mem::Mem;
+use tcd_base::sext;
+
+/// The byte at an address, or the low byte of the input where none is mapped.
+fn byte(mem: &Mem, input: u32, addr: u32) -> u8
+    ensures { result ≡ unwrap_or (map.get mem.now addr) (input % 2 ^ 8) }
+{
+    mem.get(addr).unwrap_or((input % 256) as u8)
+}
+
+/// The two bytes from an address on.
+#[tactic(auto, unfolding(crate::specs::Fetching::loaded))]
+fn half(mem: &Mem, input: u32, addr: u32) -> u16
+    ensures { result ≡ loaded mem.now input addr 2 }
+{
+    let low = byte(mem, input, addr);
+    let high = byte(mem, input / 256, ahead(addr, 1));
+    u16::from(low) + 256 * u16::from(high)
+}
+
+/// The four bytes from an address on.
+#[tactic(auto, unfolding(crate::specs::Fetching::loaded))]
+fn word(mem: &Mem, input: u32, addr: u32) -> u32
+    ensures { result ≡ loaded mem.now input addr 4 }
+{
+    let low = byte(mem, input, addr);
+    let second = byte(mem, input / 256, ahead(addr, 1));
+    let high = half(mem, input / 256 / 256, ahead(ahead(addr, 1), 1));
+    u32::from(low) + 256 * (u32::from(second) + 256 * u32::from(high))
+}
+
+/// The one byte from an address on, as a number.
+#[tactic(auto, unfolding(crate::specs::Fetching::loaded))]
+fn single(mem: &Mem, input: u32, addr: u32) -> u8
+    ensures { result ≡ loaded mem.now input addr 1 }
+{
+    byte(mem, input, addr)
+}
+
+/// What a load of so many bytes from an address gives.
+pub(crate) fn load(mem: &Mem, input: u32, addr: u32, size: u8, signed: bool) -> u32
+    requires { IsSize size }
+    ensures { result ≡ extended signed size (loaded mem.now input addr size) }
+{
+    if size == 4 {
+        return word(mem, input, addr);
+    }
+    let number = if size == 2 {
+        u32::from(half(mem, input, addr))
+    } else {
+        u32::from(single(mem, input, addr))
+    };
+    if signed {
+        sext(number, 8 * size)
+    } else {
+        number
+    }
+}
+
+/// Stores the low n bytes of a word from an address on.
+#[tactic(auto, unfolding(crate::specs::Fetching::with_bytes))]
+pub(crate) fn store(mem: &mut Mem, addr: u32, word: u32, n: u8)
+    ensures { mem.new ≡ with_bytes mem.old addr word n }
+{
+    if n > 0 {
+        mem.set(addr, (word % 256) as u8);
+        store(mem, ahead(addr, 1), word / 256, n - 1);
+    }
+}

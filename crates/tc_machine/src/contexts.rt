@@ -1,0 +1,161 @@
+// Saving and restoring contexts.
+ghost use Rattle.std.specs.Prelude.{◌≡◌, ◌<◌, ◌%◌, ◌^◌, Some, None, if◌then◌else◌, slice_index, true, [], ◌∷◌, ◌+◌};
+ghost use Rattle.csa_chain.specs.Memory.{with_word};
+ghost use Rattle.csa_chain.specs.Chain.{link_in, link_address, is_area, area_word};
+ghost use Rattle.csa_chain.specs.Contexts.{pcxi_word_of};
+ghost use Rattle.tc_mem.specs.Areas.{area_of};
+ghost use Rattle.tc_machine.specs.Contexts.{context_of, saved, save, area_words, last_context, released, restored_upper, restored_lower, restored, restore};
+
+use crate::{Cause, Machine};
+use csa_chain::{PcxiParts, address_of, load_lower, load_upper, lower_words, pcxi_parts, pcxi_word, upper_words};
+use tc_mem::Mem;
+
+/// The link in bits 19:0 of a word.
+pub(crate) fn link(word: u32) -> u32
+    ensures { result ≡ link_in word }
+{
+    word % 0x10_0000
+}
+
+/// Puts a word into the four bytes from an address on.
+#[tactic(auto, unfolding(csa_chain::specs::Memory::with_word))]
+fn put_word(mem: &mut Mem, addr: u32, word: u32)
+    requires { addr + 3 < 2 ^ 32 }
+    ensures { mem.new ≡ with_word mem.old addr word }
+{
+    mem.set(addr, (word % 256) as u8);
+    mem.set(addr + 1, (word / 256 % 256) as u8);
+    mem.set(addr + 2, (word / 65536 % 256) as u8);
+    mem.set(addr + 3, (word / 16777216 % 256) as u8);
+}
+
+impl Machine {
+    /// The words of the upper or the lower context.
+    fn context(&self, upper: bool) -> [u32; 16]
+        ensures { result ≡ context_of self.now upper }
+    {
+        if upper {
+            upper_words(self.pcxi, self.psw, &self.d, &self.a)
+        } else {
+            lower_words(self.pcxi, &self.d, &self.a)
+        }
+    }
+
+    /// PCXI once a context has gone into the area of a link.
+    fn pcxi_after(&self, upper: bool, free: u32) -> u32
+        ensures { result ≡ pcxi_word_of self.now.core self.now.ccpn self.now.ie upper (link_in free) }
+    {
+        let parts = PcxiParts {
+            pcpn: self.ccpn,
+            pie: self.ie,
+            ul: upper,
+            link: free,
+        };
+        pcxi_word(self.core, &parts)
+    }
+}
+
+impl Machine {
+    /// The words of the area that a link names, where it is mapped.
+    #[tactic(auto, using(crate::proofs::ContextWords::area_of_words))]
+    pub(crate) fn words_of(&self, named: u32) -> Option<[u32; 16]>
+        requires { named < 2 ^ 20 }
+        ensures { result ≡ (if is_area self.now.mem named then Some (area_words self.now.mem named) else None) }
+    {
+        self.mem.area(address_of(named))
+    }
+
+    /// Puts the context into the area of the first free link, whose word 0 is the link of the next free one.
+    fn save_to(&mut self, free: u32, next: u32, upper: bool)
+        requires free { free ≡ link_in self.old.fcx }
+        requires mapped { is_area self.old.mem free ≡ true }
+        requires next { next ≡ area_word self.old.mem free 0 }
+        ensures { self.new ≡ saved self.old upper }
+    {
+        let words = self.context(upper);
+        self.mem.set_area(address_of(free), &words);
+        self.pcxi = self.pcxi_after(upper, free);
+        self.fcx = self.fcx / 0x10_0000 * 0x10_0000 + link(next);
+    }
+
+    /// Saves a context, or dies of an empty list, of an area that isn't mapped, or, once the save stands, of the list's
+    /// limit (TriCore 1 architecture manual, volume 1, context management).
+    #[tactic(auto, unfolding(crate::specs::Contexts::save))]
+    pub(crate) fn save(&mut self, upper: bool)
+        ensures { self.new ≡ save self.old upper }
+    {
+        let free = link(self.fcx);
+        if free == 0 {
+            self.die(Cause::Fcu);
+            return;
+        }
+        let Some(words) = self.words_of(free) else {
+            self.die(Cause::NoArea);
+            return;
+        };
+        let limit = link(self.lcx);
+        self.save_to(free, words[0], upper);
+        if free == limit {
+            self.die(Cause::Fcd);
+        }
+    }
+
+    /// Gives the area that PCXI names back to the front of the free list; the word 0 that it had becomes PCXI.
+    #[tactic(auto, unfolding(csa_chain::specs::Memory::with_words))]
+    fn release(&mut self, used: u32, before: u32)
+        requires used { used ≡ link_in self.old.pcxi }
+        requires before { before ≡ area_word self.old.mem used 0 }
+        ensures { self.new ≡ released self.old }
+    {
+        put_word(&mut self.mem, address_of(used), self.fcx);
+        self.pcxi = before;
+        self.fcx = self.fcx / 0x10_0000 * 0x10_0000 + used;
+    }
+
+    /// Takes the registers of an upper context from the words of the area that PCXI names, and gives that area back.
+    fn restore_upper(&mut self, used: u32, words: &[u32; 16])
+        requires used { used ≡ link_in self.old.pcxi }
+        requires words { words.now ≡ last_context self.old }
+        ensures { self.new ≡ restored_upper self.old }
+    {
+        let (before, psw) = load_upper(words, &mut self.d, &mut self.a);
+        self.psw = psw;
+        self.release(used, before);
+    }
+
+    /// Takes the registers of a lower context from the words of the area that PCXI names, and gives that area back.
+    fn restore_lower(&mut self, used: u32, words: &[u32; 16])
+        requires used { used ≡ link_in self.old.pcxi }
+        requires words { words.now ≡ last_context self.old }
+        ensures { self.new ≡ restored_lower self.old }
+    {
+        let before = load_lower(words, &mut self.d, &mut self.a);
+        self.release(used, before);
+    }
+
+    /// Restores a context, or dies where there is none, of one of the other kind, or of an area that isn't mapped
+    /// (TriCore 1 architecture manual, volume 1, context management).
+    #[tactic(auto, unfolding(crate::specs::Contexts::restore))]
+    pub(crate) fn restore(&mut self, upper: bool)
+        ensures { self.new ≡ restore self.old upper }
+    {
+        let parts = pcxi_parts(self.core, self.pcxi);
+        if parts.link == 0 {
+            self.die(Cause::Csu);
+            return;
+        }
+        if parts.ul != upper {
+            self.die(Cause::Ctyp);
+            return;
+        }
+        let Some(words) = self.words_of(parts.link) else {
+            self.die(Cause::NoArea);
+            return;
+        };
+        if upper {
+            self.restore_upper(parts.link, &words);
+        } else {
+            self.restore_lower(parts.link, &words);
+        }
+    }
+}

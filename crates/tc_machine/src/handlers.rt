@@ -1,0 +1,77 @@
+// Entries of handlers.
+ghost use Rattle.std.specs.Prelude.{◌≡◌, ◌<◌, ◌*◌, ◌^◌, slice_set, false};
+ghost use Rattle.tc_machine.specs.Machine.{is_of, handler_psw, moved};
+ghost use Rattle.tc_machine.specs.Instructions.{handler_stack, interrupt, trap};
+
+use crate::{End, Machine};
+
+/// PSW in a handler.
+fn psw_of_handler(psw: u32) -> u32
+    ensures { result ≡ handler_psw psw }
+{
+    psw / 0x4000 * 0x4000 + 0xa00 + psw % 0x100
+}
+
+impl Machine {
+    /// The stack pointer of a handler: the interrupt stack's, or A10 where that is in use already.
+    fn stack_of_handler(&self) -> u32
+        ensures { result ≡ handler_stack self.now }
+    {
+        if self.psw / 0x200 % 2 == 1 {
+            self.a[10]
+        } else {
+            self.isp
+        }
+    }
+
+    /// Goes to a handler that goes back to an address.
+    fn enter(&mut self, back: u32, entry: u32, stack: u32, psw: u32)
+        ensures { self.new ≡ record self.old {
+            a = slice_set (slice_set self.old.a 11 back) 10 stack;
+            psw = handler_psw psw;
+            ie = false;
+            pc = entry;
+        } }
+    {
+        self.a[11] = back;
+        self.a[10] = stack;
+        self.psw = psw_of_handler(psw);
+        self.ie = false;
+        self.pc = entry;
+    }
+
+    /// Takes an interrupt (TriCore 1 architecture manual, volume 1, interrupts).
+    pub(crate) fn interrupt(&mut self, irq: u8)
+        ensures { self.new ≡ interrupt self.old irq }
+    {
+        let back = self.pc;
+        let entry = self.biv | u32::from(irq) * 32;
+        let stack = self.stack_of_handler();
+        let psw = self.psw;
+        self.save(true);
+        match self.end {
+            End::Running => {
+                self.enter(back, entry, stack, psw);
+                self.ccpn = irq;
+            }
+            End::Dead(_) => {}
+        }
+    }
+
+    /// Takes a trap of a class, with its identification number in D15 (TriCore 1 architecture manual, volume 1, traps).
+    pub(crate) fn trap(&mut self, class: u8, tin: u8, back: u32)
+        ensures { self.new ≡ trap self.old class tin back }
+    {
+        let entry = self.btv | u32::from(class) * 32;
+        let stack = self.stack_of_handler();
+        let psw = self.psw;
+        self.save(true);
+        match self.end {
+            End::Running => {
+                self.enter(back, entry, stack, psw);
+                self.d[15] = u32::from(tin);
+            }
+            End::Dead(_) => {}
+        }
+    }
+}

@@ -1,0 +1,263 @@
+// What each instruction does.
+ghost use Rattle.std.specs.Prelude.{◌≡◌, ◌<◌};
+ghost use Rattle.tc_isa.specs.Bounded.{IsShape, IsArg, IsTarget, IsSize};
+ghost use Rattle.tc_machine.specs.declared.events.Event.{Event};
+ghost use Rattle.tc_machine.specs.Instructions.{does};
+
+use crate::accesses::{load, store};
+use crate::operands::traps;
+use crate::registers::ahead;
+use crate::{End, Event, Machine};
+use csa_chain::pcxi_parts;
+use tc_isa::{Arg, Cond, Op, Shape, Target, alu, taken};
+
+/// A load's or a store's operand, offset and size in bytes, and whether the base register is increased afterwards.
+#[derive(Clone, Copy)]
+struct Access {
+    base: Arg,
+    offset: u32,
+    size: u8,
+    after: bool,
+}
+
+impl Machine {
+    /// An operation on two words.
+    #[tactic(auto, unfolding(crate::specs::Instructions::does))]
+    fn compute(&mut self, op: Op, dst: u8, x: Arg, y: Arg, n: u32)
+        requires { IsShape (Shape.Compute op dst x y) }
+        ensures { (event : Event) → self.new ≡ does self.old event (Shape.Compute op dst x y) n }
+    {
+        let word = alu(op, self.arg(x), self.arg(y));
+        self.set_reg(dst, word);
+        self.advance(n);
+    }
+
+    /// A base plus a shifted index.
+    #[tactic(auto, unfolding(crate::specs::Instructions::does))]
+    fn scaled(&mut self, dst: u8, base: u8, index: u8, k: u8, n: u32)
+        requires { IsShape (Shape.Scaled dst base index k) }
+        ensures { (event : Event) → self.new ≡ does self.old event (Shape.Scaled dst base index k) n }
+    {
+        let word = ahead(self.reg(base), self.reg(index) << k);
+        self.set_reg(dst, word);
+        self.advance(n);
+    }
+
+    /// A load, or the trap of a misaligned one.
+    #[tactic(auto, unfolding(crate::specs::Instructions::does))]
+    fn load(&mut self, event: &Event, dst: u8, at: Access, signed: bool, n: u32)
+        requires { IsShape (Shape.Load dst at.base at.offset at.size signed at.after) }
+        ensures { self.new ≡ does self.old event.now (Shape.Load dst at.base at.offset at.size signed at.after) n }
+    {
+        let addr = self.access(at.base, at.offset, at.after);
+        if traps(event, addr, at.size) {
+            self.trap(2, 4, self.pc);
+            return;
+        }
+        let word = load(&self.mem, event.input, addr, at.size, signed);
+        self.move_base(at.base, at.offset, at.after);
+        self.set_reg(dst, word);
+        self.advance(n);
+    }
+
+    /// A store, or the trap of a misaligned one.
+    #[tactic(auto, unfolding(crate::specs::Instructions::does))]
+    fn store(&mut self, event: &Event, src: u8, at: Access, n: u32)
+        requires { IsShape (Shape.Store src at.base at.offset at.size at.after) }
+        ensures { self.new ≡ does self.old event.now (Shape.Store src at.base at.offset at.size at.after) n }
+    {
+        let addr = self.access(at.base, at.offset, at.after);
+        if traps(event, addr, at.size) {
+            self.trap(2, 4, self.pc);
+            return;
+        }
+        let word = self.reg(src);
+        self.move_base(at.base, at.offset, at.after);
+        store(&mut self.mem, addr, word, at.size);
+        self.advance(n);
+    }
+
+    /// A branch, taken or not.
+    #[tactic(auto, unfolding(crate::specs::Instructions::does))]
+    fn branch(&mut self, cond: Cond, x: u8, y: Arg, by: u32, lowers: bool, n: u32)
+        requires { IsShape (Shape.Branch cond x y by lowers) }
+        ensures { (event : Event) → self.new ≡ does self.old event (Shape.Branch cond x y by lowers) n }
+    {
+        let goes = taken(cond, self.reg(x), self.arg(y));
+        let distance = if goes { by } else { n };
+        self.lower(x, lowers);
+        self.advance(distance);
+    }
+
+    /// A call.
+    #[tactic(auto, unfolding(crate::specs::Instructions::does))]
+    fn call(&mut self, to: Target, n: u32)
+        requires { IsShape (Shape.Call to) }
+        ensures { (event : Event) → self.new ≡ does self.old event (Shape.Call to) n }
+    {
+        let entry = self.target(to);
+        let back = ahead(self.pc, n);
+        self.save(true);
+        match self.end {
+            End::Running => {
+                self.a[11] = back;
+                self.pc = entry;
+            }
+            End::Dead(_) => {}
+        }
+    }
+
+    /// A return from a call.
+    #[tactic(auto, unfolding(crate::specs::Instructions::does))]
+    fn go_back(&mut self, n: u32)
+        ensures { (event : Event) → self.new ≡ does self.old event Shape.Ret n }
+    {
+        let back = self.a[11] / 2 * 2;
+        self.restore(true);
+        match self.end {
+            End::Running => self.pc = back,
+            End::Dead(_) => {}
+        }
+    }
+
+    /// A return from a handler, which takes IE and CCPN from PCXI.
+    #[tactic(auto, unfolding(crate::specs::Instructions::does))]
+    fn leave_handler(&mut self, n: u32)
+        ensures { (event : Event) → self.new ≡ does self.old event Shape.Rfe n }
+    {
+        let back = self.a[11] / 2 * 2;
+        let parts = pcxi_parts(self.core, self.pcxi);
+        self.restore(true);
+        match self.end {
+            End::Running => {
+                self.pc = back;
+                self.ie = parts.pie;
+                self.ccpn = parts.pcpn;
+            }
+            End::Dead(_) => {}
+        }
+    }
+
+    /// A save of the lower context.
+    #[tactic(auto, unfolding(crate::specs::Instructions::does))]
+    fn save_lower(&mut self, n: u32)
+        ensures { (event : Event) → self.new ≡ does self.old event Shape.Svlcx n }
+    {
+        self.save(false);
+        match self.end {
+            End::Running => self.advance(n),
+            End::Dead(_) => {}
+        }
+    }
+
+    /// A restore of the lower context.
+    #[tactic(auto, unfolding(crate::specs::Instructions::does))]
+    fn take_lower(&mut self, n: u32)
+        ensures { (event : Event) → self.new ≡ does self.old event Shape.Rslcx n }
+    {
+        self.restore(false);
+        match self.end {
+            End::Running => self.advance(n),
+            End::Dead(_) => {}
+        }
+    }
+
+    /// A save of the lower context, with a new priority and interrupts on.
+    #[tactic(auto, unfolding(crate::specs::Instructions::does))]
+    fn begin_interruptible(&mut self, c: u8, n: u32)
+        ensures { (event : Event) → self.new ≡ does self.old event (Shape.Bisr c) n }
+    {
+        self.save(false);
+        match self.end {
+            End::Running => {
+                self.advance(n);
+                self.ccpn = c;
+                self.ie = true;
+            }
+            End::Dead(_) => {}
+        }
+    }
+}
+
+impl Machine {
+    /// What an instruction of n bytes does (TriCore 1 architecture manual, volume 2, instruction set).
+    #[tactic(auto, unfolding(crate::specs::Instructions::does))]
+    pub(crate) fn execute(&mut self, event: &Event, shape: Shape, n: u32)
+        requires { IsShape shape }
+        ensures { self.new ≡ does self.old event.now shape n }
+    {
+        match shape {
+            Shape::Compute { op, dst, x, y } => self.compute(op, dst, x, y, n),
+            Shape::Scaled {
+                dst,
+                base,
+                index,
+                n: k,
+            } => self.scaled(dst, base, index, k, n),
+            Shape::Load {
+                dst,
+                base,
+                offset,
+                size,
+                signed,
+                after,
+            } => {
+                let at = Access {
+                    base,
+                    offset,
+                    size,
+                    after,
+                };
+                self.load(event, dst, at, signed, n)
+            }
+            Shape::Store {
+                src,
+                base,
+                offset,
+                size,
+                after,
+            } => {
+                let at = Access {
+                    base,
+                    offset,
+                    size,
+                    after,
+                };
+                self.store(event, src, at, n)
+            }
+            Shape::Branch {
+                cond,
+                x,
+                y,
+                by,
+                lowers,
+            } => self.branch(cond, x, y, by, lowers, n),
+            Shape::Jump { to } => self.pc = self.target(to),
+            Shape::Call { to } => self.call(to, n),
+            Shape::Ret => self.go_back(n),
+            Shape::Rfe => self.leave_handler(n),
+            Shape::Svlcx => self.save_lower(n),
+            Shape::Rslcx => self.take_lower(n),
+            Shape::Bisr { c } => self.begin_interruptible(c, n),
+            Shape::Enable => {
+                self.advance(n);
+                self.ie = true;
+            }
+            Shape::Disable => {
+                self.advance(n);
+                self.ie = false;
+            }
+            Shape::Syscall { tin } => self.trap(6, tin, ahead(self.pc, n)),
+            Shape::Mfcr { dst, number } => {
+                let word = self.core_register(event, number);
+                self.set_reg(dst, word);
+                self.advance(n);
+            }
+            Shape::Mtcr { src, number } => {
+                self.set_core_register(number, self.reg(src));
+                self.advance(n);
+            }
+            Shape::Nothing => self.advance(n),
+        }
+    }
+}

@@ -1,0 +1,49 @@
+// One event, and runs.
+ghost use Rattle.std.specs.Prelude.{◌≡◌};
+ghost use Rattle.tc_machine.specs.Stepping.{done, step, run};
+
+use crate::{End, Event, Machine};
+
+impl Machine {
+    /// An event of a machine that runs: its interrupt, where interrupts are on and its priority is above the current
+    /// one, else the instruction at pc.
+    fn perform(&mut self, event: &Event)
+        ensures { self.new ≡ done self.old event.now }
+    {
+        if self.ie && self.ccpn < event.irq {
+            self.interrupt(event.irq);
+            return;
+        }
+        match self.fetch() {
+            Ok((shape, n)) => self.execute(event, shape, n),
+            Err(cause) => self.die(cause),
+        }
+    }
+
+    /// Does one event: takes its interrupt, or does the instruction at pc; a machine that still runs then has the
+    /// event's status byte in PSW. A dead machine doesn't change (TriCore 1 architecture manual, volumes 1 and 2).
+    #[tactic(auto, unfolding(crate::specs::Stepping::step))]
+    pub fn step(&mut self, event: &Event)
+        ensures { self.new ≡ step self.old event.now }
+    {
+        match self.end {
+            End::Running => self.perform(event),
+            End::Dead(_) => return,
+        }
+        match self.end {
+            End::Running => {
+                self.psw = u32::from(event.status) * 0x100_0000 + self.psw % 0x100_0000;
+            }
+            End::Dead(_) => {}
+        }
+    }
+
+    /// Does all events, one after another.
+    pub fn run(&mut self, events: &[Event])
+        ensures { self.new ≡ run self.old events.now }
+    {
+        for event in events {
+            self.step(event);
+        }
+    }
+}

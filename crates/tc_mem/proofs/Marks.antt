@@ -1,0 +1,48 @@
+-- A bit that is set.
+use Rattle.std.proofs.Common.{◌≡◌, ◌≢◌, ◌*◌, ◌/◌, ◌%◌, ◌^◌, ◌<◌, ◌==◌, ◌||◌, ℕ, Bool, true, false, List, length, get_or, set, replicate, bit_or, inl, inr, refl, sym, ap, ◌∙◌, arith}
+use Rattle.std.specs.Int.{bit_at, w64}
+use Rattle.std.proofs.lemmas.Bool.{cases_eq, eq-eqb, ne_eqb}
+use Rattle.std.proofs.lemmas.List.{get_or-set_same, get_or-set_other, get_or-replicate}
+use Rattle.std.proofs.lemmas.Nat.Bits.{bit_at_set_same, bit_at_set_other, bit_at-zero}
+use Rattle.tc_mem.specs.Pages.{is_set}
+
+or_true : (b : Bool) → (b || true) ≡ true
+or_true true = refl
+or_true false = refl
+
+or_false : (b : Bool) → (b || false) ≡ b
+or_false true = refl
+or_false false = refl
+
+-- the bit of an offset is set, and all others stay
+pub is_set-marked : (ms : List ℕ) (o k : ℕ) → length ms ≡ 64 → o < 4096 → is_set (set ms (o / 64) (bit_or (get_or ms (o / 64) 0) (1 * 2 ^ (o % 64) % 2 ^ 64))) k ≡ (is_set ms k || (k == o))
+is_set-marked ms o k size lt =
+    let new : ℕ = bit_or (get_or ms (o / 64) 0) (1 * 2 ^ (o % 64) % 2 ^ 64) in
+    let in_word : o % 64 < 64 = omega arith in
+    let in_list : o / 64 < length ms = omega arith in
+    elim (cases_eq k o) [
+      | inl same ↦
+          ap (is_set (set ms (o / 64) new)) same
+          ∙ ap (λ (w : ℕ). bit_at w (o % 64) == 1) (get_or-set_same ms (o / 64) new 0 in_list)
+          ∙ eq-eqb (bit_at new (o % 64)) 1 (bit_at_set_same w64 (get_or ms (o / 64) 0) (o % 64) in_word)
+          ∙ sym (or_true (is_set ms k))
+          ∙ ap (λ (t : Bool). is_set ms k || t) (sym (eq-eqb k o same))
+      | inr other ↦
+          elim (cases_eq (k / 64) (o / 64)) [
+            | inl word ↦
+                let apart : k % 64 ≢ o % 64 = λ e. other (omega arith) in
+                ap (λ (i : ℕ). bit_at (get_or (set ms (o / 64) new) i 0) (k % 64) == 1) word
+                ∙ ap (λ (w : ℕ). bit_at w (k % 64) == 1) (get_or-set_same ms (o / 64) new 0 in_list)
+                ∙ ap (λ (b : ℕ). b == 1) (bit_at_set_other w64 (get_or ms (o / 64) 0) (o % 64) in_word (k % 64) apart)
+                ∙ ap (λ (i : ℕ). bit_at (get_or ms i 0) (k % 64) == 1) (sym word)
+            | inr words ↦ ap (λ (w : ℕ). bit_at w (k % 64) == 1) (get_or-set_other ms (o / 64) (k / 64) new 0 words)
+          ]
+          ∙ sym (or_false (is_set ms k))
+          ∙ ap (λ (t : Bool). is_set ms k || t) (sym (ne_eqb k o other))
+    ]
+
+-- no bit is set in zeros
+pub is_set-zeros : (k : ℕ) → k < 4096 → is_set (replicate 64 0) k ≡ false
+is_set-zeros k lt =
+    ap (λ (w : ℕ). bit_at w (k % 64) == 1) (get_or-replicate 64 (k / 64) 0 0 (omega arith))
+    ∙ ap (λ (b : ℕ). b == 1) (bit_at-zero (k % 64))

@@ -1,0 +1,68 @@
+-- Pages of 4,096 bytes, and the memory that a list of them is.
+use Rattle.std.specs.Prelude.{◌≡◌, ◌<◌, ◌+◌, ◌*◌, ◌/◌, ◌%◌, ◌^◌, ℕ, Bool, ◌==◌, ◌&&◌, nat_le, nat_lt, if◌then◌else◌, List, [], ◌∷◌, ◌++◌, map, length, slice_index, slice_set, Option, Some, None, All}
+use Rattle.std.specs.List.{list_any}
+use Rattle.std.specs.List.Sorted.{IsStrictlyIncreasing}
+use Rattle.std.specs.Int.{bit_at}
+use Rattle.std.specs.FinMap as finite
+use Rattle.csa_chain.specs.Memory.{Memory}
+use Rattle.tcd_base.specs.declared.parts.Range.{Range}
+use Rattle.tc_mem.specs.declared.page.Page.{Page}
+
+-- whether the byte at an offset of a page is mapped: a bit for each, 64 to a word
+abbrev pub is_set : List ℕ → ℕ → Bool
+is_set mapped offset = bit_at (slice_index mapped (offset / 64)) (offset % 64) == 1
+
+-- the byte at an address, where it lies in the page and is mapped
+abbrev pub byte_of : ℕ → Page → Option ℕ
+byte_of q p = if q / 4096 == p.number then (if is_set p.mapped (q % 4096) then Some (slice_index p.bytes (q % 4096)) else None) else None
+
+-- the mapped ones of the bytes from an address on, each with its address
+unfoldable pub entries_from : List ℕ → ℕ → List ℕ → List (ℕ × ℕ)
+entries_from mapped at [] = []
+entries_from mapped at (b ∷ bs) = if is_set mapped (at % 4096) then (at, b) ∷ entries_from mapped (at + 1) bs else entries_from mapped (at + 1) bs
+
+-- those of all pages
+unfoldable pub entries_of : List Page → List (ℕ × ℕ)
+entries_of [] = []
+entries_of (p ∷ ps) = entries_from p.mapped (p.number * 4096) p.bytes ++ entries_of ps
+
+-- the memory that these pages are
+unfoldable pub memory_of : List Page → Memory
+memory_of ps = finite.from_entries (entries_of ps)
+
+-- a page has 4,096 bytes and as many bits
+pub record IsPage (p : Page) : Type 0 where
+  pub bytes : length p.bytes ≡ 4096
+  pub bits : length p.mapped ≡ 64
+
+-- the number of a page: its first address, divided by 4,096
+abbrev pub number_of : Page → ℕ
+number_of p = p.number
+
+-- pages with ascending numbers
+pub record ArePages (ps : List Page) : Type 0 where
+  pub whole : All IsPage ps
+  pub rising : IsStrictlyIncreasing (map number_of ps)
+
+-- each byte of the pages is below 256
+abbrev pub AreSmall : List Page → Type 0
+AreSmall ps = All (λ p. (k : ℕ) → slice_index p.bytes k < 256) ps
+
+-- what the pages of a memory keep
+pub record IsMem (ps : List Page) : Type 0 where
+  pub pages : ArePages ps
+  pub small : AreSmall ps
+
+-- whether an address lies in one of the ranges
+abbrev pub is_in : List Range → ℕ → Bool
+is_in ranges q = list_any (λ r. nat_le r.at q && nat_lt q (r.at + r.len)) ranges
+
+-- the ranges are mapped, to zeros, and nothing else
+abbrev pub IsZeros : List Range → Memory → Type 0
+IsZeros ranges m = (q : ℕ) → finite.get m q ≡ (if is_in ranges q then Some 0 else None)
+
+-- the 32-bit words from an offset on, the last ones first, written into the bytes of a page
+unfoldable pub bytes_with : List ℕ → ℕ → List ℕ → List ℕ
+bytes_with bytes offset [] = bytes
+bytes_with bytes offset (w ∷ ws) =
+    slice_set (slice_set (slice_set (slice_set (bytes_with bytes (offset + 4) ws) offset (w % 2 ^ 8)) (offset + 1) (w / 2 ^ 8 % 2 ^ 8)) (offset + 2) (w / 2 ^ 16 % 2 ^ 8)) (offset + 3) (w / 2 ^ 24 % 2 ^ 8)

@@ -1,0 +1,66 @@
+// What is done in pages with ascending numbers, seen as a memory.
+ghost use Rattle.std.specs.Prelude.{◌≡◌, ◌%◌};
+ghost use Rattle.std.specs.Bool.{OnFalse};
+ghost use Rattle.std.specs.FinMap as finite;
+ghost use Rattle.csa_chain.specs.Memory.{is_mapped as has_byte, are_mapped, with_byte};
+ghost use Rattle.csa_chain.specs.MemoryChanges.{HasBytes};
+ghost use Rattle.tc_mem.specs.Areas.{area_of, with_area};
+ghost use Rattle.tc_mem.specs.Pages.{memory_of, IsMem};
+
+use crate::page::Page;
+use crate::pages::{area_in, byte, find_page, put_area, put_byte};
+
+// The byte at an address.
+pub(crate) fn read(pages: &[Page], addr: u32) -> Option<u8>
+    requires { IsMem pages.now }
+    ensures byte { result ≡ finite.get (memory_of pages.now) addr }
+    ensures bytes { HasBytes (memory_of pages.now) }
+{
+    let Some(i) = find_page(pages, addr / 4096) else {
+        return None;
+    };
+    byte(&pages[i], addr)
+}
+
+// Writes a mapped byte, and says whether it is mapped.
+pub(crate) fn write(pages: &mut [Page], addr: u32, byte: u8) -> bool
+    requires { IsMem pages.old }
+    ensures mapped { result ≡ has_byte (memory_of pages.old) addr }
+    ensures written { memory_of pages.new ≡ with_byte (memory_of pages.old) addr byte }
+    ensures kept { OnFalse result (memory_of pages.new ≡ memory_of pages.old) }
+    ensures pages { IsMem pages.new }
+    ensures bytes { HasBytes (memory_of pages.new) }
+{
+    let Some(i) = find_page(pages, addr / 4096) else {
+        return false;
+    };
+    put_byte(&mut pages[i], (addr % 4096) as usize, byte)
+}
+
+// The words of an area that is wholly mapped.
+pub(crate) fn read_area(pages: &[Page], addr: u32) -> Option<[u32; 16]>
+    requires pages { IsMem pages.now }
+    requires aligned { addr % 64 ≡ 0 }
+    ensures words { result ≡ area_of (memory_of pages.now) addr }
+    ensures bytes { HasBytes (memory_of pages.now) }
+{
+    let Some(i) = find_page(pages, addr / 4096) else {
+        return None;
+    };
+    area_in(&pages[i], (addr % 4096) as usize)
+}
+
+// Writes an area that is wholly mapped, and says whether it is.
+pub(crate) fn write_area(pages: &mut [Page], addr: u32, words: &[u32; 16]) -> bool
+    requires pages { IsMem pages.old }
+    requires aligned { addr % 64 ≡ 0 }
+    ensures mapped { result ≡ are_mapped (memory_of pages.old) addr 64 }
+    ensures written { memory_of pages.new ≡ with_area (memory_of pages.old) addr words.now }
+    ensures pages { IsMem pages.new }
+    ensures bytes { HasBytes (memory_of pages.new) }
+{
+    let Some(i) = find_page(pages, addr / 4096) else {
+        return false;
+    };
+    put_area(&mut pages[i], (addr % 4096) as usize, words)
+}

@@ -1,0 +1,146 @@
+// What is done inside one page, and the search for a page.
+ghost use Rattle.std.specs.Prelude.{◌≡◌, ◌≢◌, ◌<◌, ◌≤◌, ◌+◌, ◌-◌, ◌==◌, [], ◌∷◌, ℕ, ◌*◌, ◌/◌, ◌%◌, ◌^◌, All, IfSome, IfNone, is_some, map, length, slice_index, slice_set, if◌then◌else◌};
+ghost use Rattle.std.specs.List.Sorted.{IsStrictlyIncreasing};
+ghost use Rattle.tcd_base.specs.Bytes.{word_at};
+ghost use Rattle.tc_mem.specs.Pages.{is_set, byte_of, bytes_with, number_of};
+
+use crate::page::Page;
+
+// Whether the byte at an offset is mapped.
+fn is_mapped(page: &Page, offset: usize) -> bool
+    requires { offset < 4096 }
+    ensures { result ≡ is_set page.now.mapped offset }
+{
+    (page.mapped[offset / 64] >> (offset % 64)) % 2 == 1
+}
+
+// The byte at an address of the page.
+pub(crate) fn byte(page: &Page, addr: u32) -> Option<u8>
+    requires { page.now.number ≡ addr / 4096 }
+    ensures { result ≡ byte_of addr page.now }
+{
+    let offset = (addr % 4096) as usize;
+    if is_mapped(page, offset) {
+        Some(page.bytes[offset])
+    } else {
+        None
+    }
+}
+
+// Writes the byte at an offset where it is mapped, and says whether it is.
+pub(crate) fn put_byte(page: &mut Page, offset: usize, byte: u8) -> bool
+    requires { offset < 4096 }
+    ensures mapped { result ≡ is_set page.old.mapped offset }
+    ensures written { page.new ≡ record page.old { bytes = if result then slice_set page.old.bytes offset byte else page.old.bytes } }
+{
+    let mapped = is_mapped(page, offset);
+    if mapped {
+        page.bytes[offset] = byte;
+    }
+    mapped
+}
+
+// The place of the page with this number.
+pub(crate) fn find_page(pages: &[Page], number: u32) -> Option<usize>
+    requires { IsStrictlyIncreasing (map number_of pages.now) }
+    ensures within { IfSome result (λ i. i < length pages.now) }
+    ensures found { IfSome result (λ i. slice_index (map number_of pages.now) i ≡ number) }
+    ensures none { IfNone result (All (λ p. number_of p ≢ number) pages.now) }
+{
+    let mut from = 0;
+    let mut to = pages.len();
+    while from < to {
+        let middle = from + (to - from) / 2;
+        let at = pages[middle].number;
+        if at == number {
+            return Some(middle);
+        }
+        if at < number {
+            from = middle + 1;
+        } else {
+            to = middle;
+        }
+    }
+    None
+}
+
+// The word of the four bytes from an offset on, the lowest byte first.
+fn word_in(bytes: &[u8; 4096], offset: usize) -> u32
+    requires { offset + 4 ≤ 4096 }
+    ensures { result ≡ word_at bytes.now offset }
+{
+    u32::from_le_bytes([
+        bytes[offset],
+        bytes[offset + 1],
+        bytes[offset + 2],
+        bytes[offset + 3],
+    ])
+}
+
+// Puts a word into the four bytes from an offset on, the lowest byte first.
+#[tactic(auto, unfolding(crate::specs::Pages::bytes_with))]
+fn put_word(bytes: &mut [u8; 4096], offset: usize, word: u32)
+    requires { offset + 4 ≤ 4096 }
+    ensures { bytes.new ≡ bytes_with bytes.old offset (word ∷ []) }
+{
+    let parts = word.to_le_bytes();
+    bytes[offset] = parts[0];
+    bytes[offset + 1] = parts[1];
+    bytes[offset + 2] = parts[2];
+    bytes[offset + 3] = parts[3];
+}
+
+// The 16 words from an offset on, each with its lowest byte first.
+fn words_from(bytes: &[u8; 4096], offset: usize) -> [u32; 16]
+    requires { offset + 64 ≤ 4096 }
+    ensures size { length result ≡ 16 }
+    ensures words { (k : ℕ) → k < 16 → slice_index result k ≡ word_at bytes.now (offset + 4 * k) }
+{
+    let mut words = [0; 16];
+    for i in 0..16 {
+        words[i] = word_in(bytes, offset + 4 * i);
+    }
+    words
+}
+
+// The 16 words from an offset on, where the one word of their bits says that all are mapped.
+pub(crate) fn area_in(page: &Page, offset: usize) -> Option<[u32; 16]>
+    requires aligned { offset % 64 ≡ 0 }
+    requires within { offset < 4096 }
+    ensures fits { slice_index page.now.mapped (offset / 64) < 2 ^ 64 }
+    ensures mapped { is_some result ≡ (slice_index page.now.mapped (offset / 64) == 2 ^ 64 - 1) }
+    ensures size { IfSome result (λ ws. length ws ≡ 16) }
+    ensures words { IfSome result (λ ws. (k : ℕ) → k < 16 → slice_index ws k ≡ word_at page.now.bytes (offset + 4 * k)) }
+{
+    if page.mapped[offset / 64] != u64::MAX {
+        return None;
+    }
+    Some(words_from(&page.bytes, offset))
+}
+
+// Puts 16 words at an offset, each with its lowest byte first.
+fn put_words(bytes: &mut [u8; 4096], offset: usize, words: &[u32; 16])
+    requires { offset + 64 ≤ 4096 }
+    ensures { bytes.new ≡ bytes_with bytes.old offset words.now }
+{
+    let mut i = 16;
+    while i > 0 {
+        i -= 1;
+        put_word(bytes, offset + 4 * i, words[i]);
+    }
+}
+
+// Puts 16 words at an offset where the one word of their bits says that all are mapped, and says whether it does.
+pub(crate) fn put_area(page: &mut Page, offset: usize, words: &[u32; 16]) -> bool
+    requires aligned { offset % 64 ≡ 0 }
+    requires within { offset < 4096 }
+    ensures fits { slice_index page.old.mapped (offset / 64) < 2 ^ 64 }
+    ensures mapped { result ≡ (slice_index page.old.mapped (offset / 64) == 2 ^ 64 - 1) }
+    ensures written { page.new ≡ record page.old { bytes = if result then bytes_with page.old.bytes offset words.now else page.old.bytes } }
+{
+    let mapped = page.mapped[offset / 64] == u64::MAX;
+    if mapped {
+        put_words(&mut page.bytes, offset, words);
+    }
+    mapped
+}

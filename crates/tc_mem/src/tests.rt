@@ -1,0 +1,56 @@
+// Each public call on its happy path, and each refusal once.
+use crate::Mem;
+use std::test::Fail;
+use tcd_base::Range;
+
+#[test]
+fn bytes_across_two_pages(rt: HostRuntime) -> Result<(), Fail> {
+    let mut mem = Mem::of(rt.alloc(), &[Range { at: 0xffe, len: 4 }])?;
+    assert_eq!(rt; mem.get(0xffd), None);
+    assert_eq!(rt; mem.get(0xffe), Some(0));
+    assert_eq!(rt; mem.set(0x1001, 7), true);
+    assert_eq!(rt; mem.get(0x1001), Some(7));
+    assert_eq!(rt; mem.set(0x1002, 1), false);
+    assert_eq!(rt; mem.area(0xfc0), None);
+    Ok(())
+}
+
+#[test]
+fn areas_hold_words(rt: HostRuntime) -> Result<(), Fail> {
+    let ranges = [
+        Range {
+            at: 0xd000_0000,
+            len: 128,
+        },
+        Range {
+            at: 0x8000_0000,
+            len: 4,
+        },
+    ];
+    let mut mem = Mem::of(rt.alloc(), &ranges)?;
+    let words = [
+        0x0302_0100,
+        1,
+        2,
+        3,
+        4,
+        5,
+        6,
+        7,
+        8,
+        9,
+        10,
+        11,
+        12,
+        13,
+        14,
+        0xffff_ffff,
+    ];
+    assert_eq!(rt; mem.set_area(0xd000_0040, &words), true);
+    assert_eq!(rt; mem.area(0xd000_0040), Some(words));
+    assert_eq!(rt; mem.get(0xd000_0041), Some(1));
+    assert_eq!(rt; mem.get(0xd000_003f), Some(0));
+    assert_eq!(rt; mem.set_area(0x8000_0000, &words), false);
+    assert_eq!(rt; mem.get(0x8000_0001), Some(0));
+    Ok(())
+}

@@ -1,0 +1,104 @@
+-- Fields: what was written is held, all else stays, and what is held reaches the value.
+use Rattle.std.proofs.Common.{◌≡◌, ◌+◌, ◌^◌, ◌<◌, ◌≤◌, ℕ, None, arith}
+use Rattle.std.proofs.lemmas.Bool.Decides.{nat_tests}
+use Rattle.tc_reloc.specs.Refusals.{refusal_of}
+use Rattle.tc_reloc.specs.Fields.{content_of, room_of, spread_of, rest_of}
+use Rattle.tc_reloc.specs.Held.{held_of, reached_by}
+use Rattle.tc_reloc.proofs.EachKind.{EachKind, at_kind}
+
+module _ (w k : ℕ) (word : w < 2 ^ 32) where
+  abbrev Fits : ℕ → Type 0
+  Fits kind = k < room_of kind → rest_of kind w + spread_of kind k < 2 ^ 32
+
+  fits_each : EachKind Fits
+  unfolding room_of spread_of rest_of
+  fits_each = record {
+    rel24 = λ h. omega arith;
+    abs24 = λ h. omega arith;
+    rel15 = λ h. omega arith;
+    upper = λ h. omega arith;
+    lower = λ h. omega arith;
+    offset = λ h. omega arith;
+    word = λ h. omega arith;
+  }
+
+  -- a word with a written field is a word
+  pub written_below : (kind : ℕ) → 1 ≤ kind → kind ≤ 7 → k < room_of kind → rest_of kind w + spread_of kind k < 2 ^ 32
+  written_below kind some most = at_kind Fits fits_each kind some most
+
+  abbrev Held : ℕ → Type 0
+  Held kind = k < room_of kind → held_of kind (rest_of kind w + spread_of kind k) ≡ k
+
+  held_each : EachKind Held
+  unfolding room_of spread_of rest_of held_of
+  held_each = record {
+    rel24 = λ h. omega arith;
+    abs24 = λ h. omega arith;
+    rel15 = λ h. omega arith;
+    upper = λ h. omega arith;
+    lower = λ h. omega arith;
+    offset = λ h. omega arith;
+    word = λ h. omega arith;
+  }
+
+  -- the field holds what was written
+  pub held_of-written : (kind : ℕ) → 1 ≤ kind → kind ≤ 7 → k < room_of kind → held_of kind (rest_of kind w + spread_of kind k) ≡ k
+  held_of-written kind some most = at_kind Held held_each kind some most
+
+  abbrev Stays : ℕ → Type 0
+  Stays kind = k < room_of kind → rest_of kind (rest_of kind w + spread_of kind k) ≡ rest_of kind w
+
+  stays_each : EachKind Stays
+  unfolding room_of spread_of rest_of
+  stays_each = record {
+    rel24 = λ h. omega arith;
+    abs24 = λ h. omega arith;
+    rel15 = λ h. omega arith;
+    upper = λ h. omega arith;
+    lower = λ h. omega arith;
+    offset = λ h. omega arith;
+    word = λ h. omega arith;
+  }
+
+  -- and all other bits stay
+  pub rest_of-written : (kind : ℕ) → 1 ≤ kind → kind ≤ 7 → k < room_of kind → rest_of kind (rest_of kind w + spread_of kind k) ≡ rest_of kind w
+  rest_of-written kind some most = at_kind Stays stays_each kind some most
+
+module _ (place value : ℕ) (place_word : place < 2 ^ 32) (value_word : value < 2 ^ 32) where
+  abbrev Below : ℕ → Type 0
+  Below kind = content_of kind place value < room_of kind
+
+  below_each : EachKind Below
+  unfolding content_of room_of
+  below_each = record {
+    rel24 = omega arith;
+    abs24 = omega arith;
+    rel15 = omega arith;
+    upper = omega arith;
+    lower = omega arith;
+    offset = omega arith;
+    word = omega arith;
+  }
+
+  -- what is written fits the field
+  pub content_below : (kind k : ℕ) → k ≡ content_of kind place value → 1 ≤ kind → kind ≤ 7 → k < room_of kind
+  content_below kind k is some most = rw is (at_kind Below below_each kind some most)
+
+  abbrev Reaches : ℕ → Type 0
+  Reaches kind = refusal_of kind place value ≡ None → reached_by kind place value (content_of kind place value) ≡ value
+
+  reaches_each : EachKind Reaches
+  unfolding content_of reached_by refusal_of
+  reaches_each = record {
+    rel24 = λ h. grind (arith, nat_tests);
+    abs24 = λ h. grind (arith, nat_tests);
+    rel15 = λ h. grind (arith, nat_tests);
+    upper = λ h. grind (arith, nat_tests);
+    lower = λ h. grind (arith, nat_tests);
+    offset = λ h. grind (arith, nat_tests);
+    word = λ h. grind (arith, nat_tests);
+  }
+
+  -- what is written where nothing refuses it reaches the value
+  pub reached_by-content_of : (kind : ℕ) → 1 ≤ kind → kind ≤ 7 → refusal_of kind place value ≡ None → reached_by kind place value (content_of kind place value) ≡ value
+  reached_by-content_of kind some most = at_kind Reaches reaches_each kind some most

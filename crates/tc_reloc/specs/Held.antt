@@ -1,0 +1,29 @@
+-- What a written field means: the instruction that holds it reaches the value.
+use Rattle.std.specs.Prelude.{◌+◌, ◌*◌, ◌/◌, ◌%◌, ◌^◌, ◌==◌, ◌||◌, if◌then◌else◌, ℕ}
+use Rattle.tcd_base.specs.Numbers.{sext_of}
+use Rattle.tc_reloc.specs.Fields.{content_of}
+
+-- the number in the field of a word
+unfoldable pub held_of : ℕ → ℕ → ℕ
+held_of kind w =
+    if kind == 1 || kind == 2 then w / 2 ^ 16 + w / 2 ^ 8 % 2 ^ 8 * 2 ^ 16
+    else if kind == 3 then w / 2 ^ 16 % 2 ^ 15
+    else if kind == 4 || kind == 5 then w / 2 ^ 12 % 2 ^ 16
+    else if kind == 6 then w / 2 ^ 16 % 2 ^ 6 + w / 2 ^ 28 * 2 ^ 6 + w / 2 ^ 22 % 2 ^ 6 * 2 ^ 10
+    else w
+
+-- an upper half, to which a lower half is added with its sign
+abbrev pub sum_of_halves : ℕ → ℕ → ℕ
+sum_of_halves upper lower = (upper * 2 ^ 16 + sext_of lower 16) % 2 ^ 32
+
+-- the address that an instruction at the place reaches by this number in its field; kind 4 with the lower half of the
+-- value in a later instruction, kinds 5 and 6 with the upper half in an earlier one (TriCore 1 architecture manual,
+-- volume 2: CALL and J, CALLA and JA, JEQ and its like, MOVH.A with LEA or ADDI)
+unfoldable pub reached_by : ℕ → ℕ → ℕ → ℕ → ℕ
+reached_by kind place value k =
+    if kind == 1 then (place + sext_of k 24 * 2) % 2 ^ 32
+    else if kind == 2 then k / 2 ^ 20 * 2 ^ 28 + k % 2 ^ 20 * 2
+    else if kind == 3 then (place + sext_of k 15 * 2) % 2 ^ 32
+    else if kind == 4 then sum_of_halves k (content_of 5 place value)
+    else if kind == 5 || kind == 6 then sum_of_halves (content_of 4 place value) k
+    else k

@@ -1,0 +1,32 @@
+-- When a value can't be written.
+use Rattle.std.specs.Prelude.{◌+◌, ◌-◌, ◌/◌, ◌%◌, ◌^◌, ◌==◌, ◌&&◌, ◌||◌, not, nat_lt, nat_le, if◌then◌else◌, ℕ, Bool, Option, Some, None}
+use Rattle.tc_reloc.specs.declared.refusals.RelocErr.{RelocErr}
+use Rattle.tc_reloc.specs.declared.refusals.RelocErr.TheVariants.{Odd, FarOff, Segment}
+
+-- how far a value is from a place, modulo 2^32
+abbrev pub distance : ℕ → ℕ → ℕ
+distance place value = (value + 2 ^ 32 - place) % 2 ^ 32
+
+-- a distance, read as a signed word, is twice a signed number of so many bits: from -2^bits on, and below 2^bits
+abbrev pub is_near : ℕ → ℕ → Bool
+is_near bits d = nat_lt d (2 ^ bits) || nat_le (2 ^ 32 - 2 ^ bits) d
+
+-- kinds 1 and 3 jump over an even distance, kind 2 to an even address
+abbrev pub is_odd : ℕ → ℕ → ℕ → Bool
+is_odd kind place value = ((kind == 1 || kind == 3) && distance place value % 2 == 1) || (kind == 2 && value % 2 == 1)
+
+-- a displacement has 24 bits in kind 1, 15 bits in kind 3
+abbrev pub is_far : ℕ → ℕ → ℕ → Bool
+is_far kind place value = (kind == 1 && not (is_near 24 (distance place value))) || (kind == 3 && not (is_near 15 (distance place value)))
+
+-- an absolute jump reaches the first 2^21 bytes of each segment of 2^28: bits 27:21 are zero
+abbrev pub is_outside : ℕ → ℕ → Bool
+is_outside kind value = kind == 2 && nat_lt 0 (value / 2 ^ 21 % 2 ^ 7)
+
+-- the first of these that is so
+unfoldable pub refusal_of : ℕ → ℕ → ℕ → Option RelocErr
+refusal_of kind place value =
+    if is_odd kind place value then Some Odd
+    else if is_far kind place value then Some FarOff
+    else if is_outside kind value then Some Segment
+    else None

@@ -1,0 +1,29 @@
+// A relocation, applied.
+ghost use Rattle.std.specs.Prelude.{◌≡◌, ◌≤◌, OnOk, IfOk};
+ghost use Rattle.tcd_base.specs.Bytes.{word_at};
+ghost use Rattle.tc_reloc.specs.Fields.{content_of, rest_of};
+ghost use Rattle.tc_reloc.specs.Held.{held_of, reached_by};
+ghost use Rattle.tc_reloc.specs.Applied.{applied};
+
+use crate::fields::{content, rest, spread};
+use crate::refusals::{RelocErr, refusal};
+
+/// The four bytes of a field at `place`, with `value` written as this kind says: 1 a near call or jump, 2 an absolute
+/// one, 3 a conditional jump, 4 the upper half of an address, 5 the lower half as a constant, 6 the lower half as an
+/// offset, 7 a whole word. All other bits stay.
+pub fn apply(kind: u8, field: [u8; 4], place: u32, value: u32) -> Result<[u8; 4], RelocErr>
+    requires some { 1 ≤ kind }
+    requires most { kind ≤ 7 }
+    ensures applied { result ≡ applied kind field place value }
+
+    // The field holds the number that reaches the value, and all bits outside of it stay.
+    ensures held { IfOk result (λ new. held_of kind (word_at new 0) ≡ content_of kind place value) }
+    ensures reached { OnOk result (reached_by kind place value (content_of kind place value) ≡ value) }
+    ensures rest { IfOk result (λ new. rest_of kind (word_at new 0) ≡ rest_of kind (word_at field 0)) }
+{
+    if let Some(err) = refusal(kind, place, value) {
+        return Err(err);
+    }
+    let word = rest(kind, u32::from_le_bytes(field)) + spread(kind, content(kind, place, value));
+    Ok(word.to_le_bytes())
+}

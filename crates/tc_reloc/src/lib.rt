@@ -1,0 +1,11 @@
+//! Relocations: the value of a symbol, written into the field of an instruction or into a word of data.
+#![tactic(auto)]
+
+mod applying;
+mod fields;
+mod refusals;
+#[cfg(test)]
+mod tests;
+
+pub use applying::apply;
+pub use refusals::RelocErr;

@@ -1,0 +1,46 @@
+// The program: the words of the command line, real files and standard output, around the tool.
+#![tactic(auto)]
+
+mod real;
+
+use real::{RealFiles, Stdout};
+use std::process::ExitCode;
+use std::{env, io};
+use tcd_driver::{Status, tool};
+
+fn main(rt: HostRuntime) -> ExitCode {
+    match words(&rt) {
+        Ok(words) => {
+            let mut files = RealFiles { rt: &rt, failed: 0 };
+            let mut out = Stdout { rt: &rt, failed: 0 };
+            let status = tool(rt.alloc(), &words, &mut files, &mut out);
+            ExitCode::from(code(status))
+        }
+        Err(e) => match e.kind() {
+            io::ErrorKind::OutOfMemory => ExitCode::from(code(Status::NoMemory)),
+            _ => ExitCode::from(code(Status::Fault)),
+        },
+    }
+}
+
+// The words after the program's name.
+fn words<R: env::Env + AllocGlobal>(rt: &R) -> io::Result<Vec<String>> {
+    let mut words = Vec::new(rt.alloc());
+    for (i, word) in env::args(rt)?.enumerate() {
+        if i > 0 {
+            words.push(word)?;
+        }
+    }
+    Ok(words)
+}
+
+fn code(status: Status) -> u8 {
+    match status {
+        Status::Done => 0,
+        Status::Refused => 1,
+        Status::BadInput => 2,
+        Status::Fault => 3,
+        Status::NoMemory => 4,
+        Status::BadWords => 5,
+    }
+}

@@ -1,0 +1,89 @@
+-- A document in which nothing is refused tells a plan.
+use Rattle.std.proofs.Common.{◌≡◌, ℕ, ◌+◌, ◌*◌, ◌%◌, ◌/◌, ◌<◌, ◌≤◌, ◌^◌, true, List, codes, length, map, get_or, None, ◌==◌, nat_le, nat_lt, arith, lit<}
+use Rattle.std.proofs.lemmas.Bool.{and_parts, leb-true, ltb-true, eqb-true}
+use Rattle.std.proofs.lemmas.List.{length-map}
+use Rattle.serde_json.specs.Data.{Data}
+use Rattle.tcd_plan.specs.Objects.{objects_of}
+use Rattle.tcd_plan.specs.PlanData.{PlanData}
+use Rattle.tcd_plan.specs.Plans.{AreFew, are_areas, are_few, bad_value_of, has_areas, has_vectors, device_of, irq_of, numbered, overlap_of, places_of, range_of, refusal_of, refusals, told_by, too_many_of}
+use Rattle.tcd_plan.specs.Values.{word_in}
+use Rattle.tcd_plan.specs.declared.plans.PlanErr.TheVariants.{BadValue, TooMany, BadCsa, BadVector}
+use Rattle.tcd_base.specs.declared.parts.Range.{Range}
+use Rattle.tcd_plan.specs.declared.rows.Holder.TheVariants.{Rom, Ram, Devices}
+use Rattle.tcd_plan.proofs.Small.{first_some_none, four_hold, option_map_none, where_none}
+
+-- what the save areas meet, on numbers
+pub record AreasHold (at areas reserve : ℕ) : Type 0 where
+  pub some : 1 ≤ areas
+  pub few : areas ≤ 4096
+  pub reserved : 1 ≤ reserve
+  pub reserve_within : reserve ≤ areas
+  pub aligned : at % 64 ≡ 0
+  pub in_segment : at / 2 ^ 22 % 2 ^ 6 ≡ 0
+  pub not_zero : 0 < at
+  pub fit : at % 2 ^ 22 + 64 * areas ≤ 2 ^ 22
+
+pub record IsAccepted (d : Data) : Type 0 where
+  pub bad_value : bad_value_of d ≡ None
+  pub too_many : too_many_of (told_by d) ≡ None
+  pub areas : has_areas (told_by d) ≡ true
+  pub vectors : has_vectors (told_by d) ≡ true
+  pub overlap : overlap_of (told_by d) ≡ None
+
+stands : (d : Data) → refusal_of d ≡ None → (i : ℕ) → i < 8 → get_or (refusals d) i None ≡ None
+unfolding refusal_of
+stands d e i within = first_some_none (refusals d) i e within
+
+pub accepted : (d : Data) → refusal_of d ≡ None → IsAccepted d
+accepted d e =
+    record {
+      bad_value = option_map_none BadValue (bad_value_of d) (stands d e 3 (lit< tt));
+      too_many = option_map_none TooMany (too_many_of (told_by d)) (stands d e 4 (lit< tt));
+      areas = where_none (has_areas (told_by d)) BadCsa (stands d e 5 (lit< tt));
+      vectors = where_none (has_vectors (told_by d)) BadVector (stands d e 6 (lit< tt));
+      overlap = stands d e 7 (lit< tt);
+    }
+
+-- the tests of what a document tells, one by one
+pub few_ranges : (p : PlanData) → too_many_of p ≡ None → (are_few p.rom ≡ true) × (are_few p.ram ≡ true) × (nat_le (length p.devices) 16 ≡ true) × (nat_le (length p.irqs) 32 ≡ true)
+unfolding too_many_of
+few_ranges p e = four_hold (are_few p.rom) (are_few p.ram) (nat_le (length p.devices) 16) (nat_le (length p.irqs) 32) (numbered 1) (numbered 4) (numbered 7) (numbered 20) e
+
+few_of : (rs : List Range) → are_few rs ≡ true → length rs ≤ 16
+few_of rs e = leb-true _ _ (and_parts (nat_le (length rs) 16) _ e).0
+
+pub are_areas_parts : (at areas reserve : ℕ) → are_areas at areas reserve ≡ true → AreasHold at areas reserve
+are_areas_parts at areas reserve e =
+    let fit = and_parts _ (nat_le (at % 2 ^ 22 + 64 * areas) (2 ^ 22)) e in
+    let not_zero = and_parts _ (nat_lt 0 at) fit.0 in
+    let segment = and_parts _ (at / 2 ^ 22 % 2 ^ 6 == 0) not_zero.0 in
+    let aligned = and_parts _ (at % 64 == 0) segment.0 in
+    let within = and_parts _ (nat_le reserve areas) aligned.0 in
+    let reserved = and_parts _ (nat_le 1 reserve) within.0 in
+    let few = and_parts (nat_le 1 areas) (nat_le areas 4096) reserved.0 in
+    record {
+      some = leb-true _ _ few.0;
+      few = leb-true _ _ few.1;
+      reserved = leb-true _ _ reserved.1;
+      reserve_within = leb-true _ _ within.1;
+      aligned = eqb-true _ _ aligned.1;
+      in_segment = eqb-true _ _ segment.1;
+      not_zero = ltb-true _ _ not_zero.1;
+      fit = leb-true _ _ fit.1;
+    }
+
+pub few_arrays : (d : Data) → too_many_of (told_by d) ≡ None → has_areas (told_by d) ≡ true → AreFew d
+unfolding told_by has_areas
+few_arrays d many areas =
+    let few = few_ranges (told_by d) many in
+    let rom = few_of (map range_of (objects_of Rom d)) few.0 in
+    let ram = few_of (map range_of (objects_of Ram d)) few.1 in
+    let devices = leb-true (length (map device_of (objects_of Devices d))) 16 few.2 in
+    let irqs = leb-true (length (map irq_of (places_of (codes "irqs") d))) 32 few.3 in
+    record {
+      rom = omega (arith, rom, length-map (objects_of Rom d) range_of);
+      ram = omega (arith, ram, length-map (objects_of Ram d) range_of);
+      devices = omega (arith, devices, length-map (objects_of Devices d) device_of);
+      irqs = omega (arith, irqs, length-map (places_of (codes "irqs") d) irq_of);
+      areas = (are_areas_parts (word_in (codes "csa") (codes "at") d) (word_in (codes "csa") (codes "areas") d) (word_in (codes "csa") (codes "reserve") d) areas).few;
+    }

@@ -1,0 +1,112 @@
+-- Each key that a refusal names has a text.
+use Rattle.std.proofs.Common.{◌≡◌, ℕ, ◌+◌, ◌<◌, Bool, true, false, not, cond, nat_lt, nat_le, List, [], ◌∷◌, length, Option, Some, None, option_map, IfSome, refl, subst, lit<}
+use Rattle.std.specs.List.{find, list_all, list_any, position}
+use Rattle.std.specs.Option.{option_map_or, option_or}
+use Rattle.std.proofs.lemmas.Bool.{and_parts, ltb-true}
+use Rattle.serde_json.specs.Data.{Data}
+use Rattle.tcd_base.specs.declared.parts.Range.{Range}
+use Rattle.tcd_plan.specs.KeyRows.{KeyRow, holder_key, holders, key_rows}
+use Rattle.tcd_plan.specs.Objects.{has_unknown, is_bad, lacks, objects_of}
+use Rattle.tcd_plan.specs.PlanData.{PlanData, all_ranges, ranges_apart}
+use Rattle.tcd_plan.specs.Plans.{HasText, are_few, bad_value_of, first_key, has_areas, has_vectors, missing_of, numbered, overlap_from, overlap_of, refusal_of, told_by, too_many_of, unknown_of, where_it}
+use Rattle.tcd_plan.specs.Values.{is_object}
+use Rattle.tcd_plan.specs.declared.plans.PlanErr.{PlanErr}
+use Rattle.tcd_plan.specs.declared.plans.PlanErr.TheVariants.{NotJson, Missing, Unknown, BadValue, TooMany, BadCsa, BadVector, Overlap}
+use Rattle.tcd_plan.specs.declared.plans.PlanKey.{PlanKey}
+use Rattle.tcd_plan.specs.declared.rows.Holder.{Holder}
+use Rattle.tcd_plan.specs.declared.rows.Holder.TheVariants.{Root, Rom, Ram, Devices, Csa, Start, Globals}
+
+abbrev IsKey : PlanKey → Type 0
+IsKey key = key.0 < 32
+
+either : {T : Type 0} (P : T → Type 0) (a b : Option T) → IfSome a P → IfSome b P → IfSome (option_or a b) P
+either P None b ha hb = hb
+either P (Some x) b ha hb = ha
+
+found_passes : {T : Type 0} (test good : T → Bool) (xs : List T) → list_all good xs ≡ true → IfSome (find test xs) (λ x. good x ≡ true)
+found_passes test good [] e = tt
+found_passes {T} test good (x ∷ xs) e =
+    let parts = and_parts (good x) (list_all good xs) e in
+    elim (test x) as (λ b. IfSome (cond b (Some x) (find test xs)) (λ y. good y ≡ true)) [ true ↦ parts.0 | false ↦ found_passes test good xs parts.1 ]
+
+keyed : (o : Option KeyRow) → IfSome o (λ r. nat_lt r.key 32 ≡ true) → IfSome (option_map (λ r. numbered r.key) o) IsKey
+keyed None h = tt
+keyed (Some r) h = ltb-true r.key 32 h
+
+keys_small : list_all (λ r. nat_lt r.key 32) key_rows ≡ true
+unfolding key_rows
+keys_small = refl
+
+first_key-small : (test : KeyRow → Data → Bool) (d : Data) → IfSome (first_key test d) IsKey
+first_key-small test d = keyed _ (found_passes (λ r. list_any (test r) (objects_of r.holder d)) (λ r. nat_lt r.key 32) key_rows keys_small)
+
+missing-small : (d : Data) → IfSome (missing_of d) IsKey
+unfolding missing_of
+missing-small d = first_key-small lacks d
+
+bad_value-small : (d : Data) → IfSome (bad_value_of d) IsKey
+unfolding bad_value_of
+bad_value-small d = first_key-small is_bad d
+
+holder_small : (h : Holder) → holder_key h < 32
+holder_small Root = lit< tt
+holder_small Rom = lit< tt
+holder_small Ram = lit< tt
+holder_small Devices = lit< tt
+holder_small Csa = lit< tt
+holder_small Start = lit< tt
+holder_small Globals = lit< tt
+
+held : (o : Option Holder) → IfSome (option_map (λ h. numbered (holder_key h)) o) IsKey
+held None = tt
+held (Some h) = holder_small h
+
+unknown-small : (d : Data) → IfSome (unknown_of d) IsKey
+unfolding unknown_of
+unknown-small d = held (find (λ h. list_any (has_unknown h) (objects_of h d)) holders)
+
+if_not : {T : Type 0} (P : T → Type 0) (b : Bool) (x : T) (o : Option T) → P x → IfSome o P → IfSome (cond (not b) (Some x) o) P
+if_not P true x o hx ho = ho
+if_not P false x o hx ho = hx
+
+too_many-small : (p : PlanData) → IfSome (too_many_of p) IsKey
+unfolding too_many_of
+too_many-small p =
+    if_not IsKey (are_few p.rom) (numbered 1) _ (lit< tt)
+    (if_not IsKey (are_few p.ram) (numbered 4) _ (lit< tt)
+    (if_not IsKey (nat_le (length p.devices) 16) (numbered 7) _ (lit< tt) (if_not IsKey (nat_le (length p.irqs) 32) (numbered 20) None (lit< tt) tt)))
+
+wrapped : (err : PlanKey → PlanErr) (o : Option PlanKey) → ((key : PlanKey) → IsKey key → HasText (err key)) → IfSome o IsKey → IfSome (option_map err o) HasText
+wrapped err None tells h = tt
+wrapped err (Some key) tells h = tells key h
+
+stated : (b : Bool) (err : PlanErr) → HasText err → IfSome (where_it b err) HasText
+stated true err h = h
+stated false err h = tt
+
+paired : (i : ℕ) (o : Option ℕ) (rest : Option PlanErr) → IfSome rest HasText → IfSome (option_map_or (λ k. Some (Overlap i (i + 1 + k))) o rest) HasText
+paired i None rest h = h
+paired i (Some k) rest h = tt
+
+overlap-text : (i : ℕ) (rs : List Range) → IfSome (overlap_from i rs) HasText
+overlap-text i [] = tt
+overlap-text i (r ∷ rs) = paired i (position (λ s. not (ranges_apart r s)) rs) (overlap_from (i + 1) rs) (overlap-text (i + 1) rs)
+
+overlap_of-text : (p : PlanData) → IfSome (overlap_of p) HasText
+unfolding overlap_of
+overlap_of-text p = overlap-text 0 (all_ranges p)
+
+pub refusal_of-text : (d : Data) → IfSome (refusal_of d) HasText
+unfolding refusal_of
+refusal_of-text d =
+    either HasText (where_it (not (is_object d)) NotJson) _ (stated _ NotJson tt)
+    (either HasText (option_map Missing (missing_of d)) _ (wrapped Missing _ (λ key h. h) (missing-small d))
+    (either HasText (option_map Unknown (unknown_of d)) _ (wrapped Unknown _ (λ key h. h) (unknown-small d))
+    (either HasText (option_map BadValue (bad_value_of d)) _ (wrapped BadValue _ (λ key h. h) (bad_value-small d))
+    (either HasText (option_map TooMany (too_many_of (told_by d))) _ (wrapped TooMany _ (λ key h. h) (too_many-small (told_by d)))
+    (either HasText (where_it (not (has_areas (told_by d))) BadCsa) _ (stated _ BadCsa tt)
+    (either HasText (where_it (not (has_vectors (told_by d))) BadVector) _ (stated _ BadVector tt)
+    (either HasText (overlap_of (told_by d)) None (overlap_of-text (told_by d)) tt)))))))
+
+pub refused-text : (d : Data) (err : PlanErr) → refusal_of d ≡ Some err → HasText err
+refused-text d err e = let P : Option PlanErr → Type 0 = λ o. IfSome o HasText in subst P e (refusal_of-text d)

@@ -1,0 +1,34 @@
+-- The first pair of ranges that share a byte.
+use Rattle.std.proofs.Common.{◌≡◌, ℕ, ◌+◌, ◌-◌, ◌<◌, List, [], ◌∷◌, ◌++◌, length, map, get_or, take, drop, Option, Some, not, refl, sym, ap, ◌∙◌, arith}
+use Rattle.std.specs.List.{position}
+use Rattle.std.specs.Option.{option_map_or}
+use Rattle.std.proofs.lemmas.List.{at_drop_more, take_all, length-drop}
+use Rattle.serde_json.specs.Data.{Data}
+use Rattle.tcd_base.specs.declared.parts.Range.{Range}
+use Rattle.tcd_plan.specs.PlanData.{all_ranges, areas_range, ranges_apart}
+use Rattle.tcd_plan.specs.Objects.{objects_of}
+use Rattle.tcd_plan.specs.Plans.{device_of, overlap_from, range_of, told_by}
+use Rattle.tcd_plan.specs.declared.rows.Holder.TheVariants.{Rom, Ram, Devices}
+use Rattle.tcd_plan.specs.declared.plans.PlanErr.TheVariants.{Overlap}
+
+abbrev pub sharing : Range → List Range → Option ℕ
+sharing r rs = position (λ s. not (ranges_apart r s)) rs
+
+-- one range on: the answer of the ranges after it, else what the later ones give
+pub overlap_step : (ranges : List Range) (i : ℕ) (r : Range) (found : Option ℕ) → i < length ranges → found ≡ sharing (get_or ranges i r) (take (length ranges - (i + 1)) (drop (i + 1) ranges))
+    → overlap_from i (drop i ranges) ≡ option_map_or (λ k. Some (Overlap i (i + 1 + k))) found (overlap_from (i + 1) (drop (i + 1) ranges))
+overlap_step ranges i r found within is =
+    let all : take (length ranges - (i + 1)) (drop (i + 1) ranges) ≡ drop (i + 1) ranges = take_all _ _ (omega (arith, length-drop (i + 1) ranges)) in
+    at_drop_more (overlap_from i) ranges i r within
+    ∙ ap (λ o. option_map_or (λ k. Some (Overlap i (i + 1 + k))) o (overlap_from (i + 1) (drop (i + 1) ranges))) (sym (is ∙ ap (sharing (get_or ranges i r)) all))
+
+pub ranges_of_devices : (objects : List Data) → map (λ d. d.range) (map device_of objects) ≡ map range_of objects
+ranges_of_devices [] = refl
+ranges_of_devices (o ∷ objects) = ap (λ rs. range_of o ∷ rs) (ranges_of_devices objects)
+
+-- rom, ram, devices and the save areas, one after another
+pub all_gathered : (d : Data) (rom ram devices all : List Range) → rom ≡ map range_of (objects_of Rom d) → ram ≡ rom ++ map range_of (objects_of Ram d) → devices ≡ ram ++ map range_of (objects_of Devices d)
+    → all ≡ devices ++ areas_range (told_by d) ∷ [] → all ≡ all_ranges (told_by d)
+unfolding told_by
+all_gathered d rom ram devices all is_rom is_ram is_devices is_all =
+    let e = ranges_of_devices (objects_of Devices d) in cc

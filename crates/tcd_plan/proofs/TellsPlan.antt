@@ -1,0 +1,126 @@
+-- A document in which nothing is refused tells a plan.
+use Rattle.std.proofs.Common.{◌≡◌, ℕ, ◌<◌, ◌≤◌, ◌^◌, ◌%◌, Bool, true, ◌==◌, nat_lt, List, [], ◌∷◌, codes, length, map, None, Some, Option, sum_by, ◌+◌, nat_le, refl, arith}
+use Rattle.std.specs.List.{list_all}
+use Rattle.std.specs.Option.{option_map_or}
+use Rattle.std.proofs.lemmas.Bool.{and_from, and_parts, eqb-true, leb-true, lt-ltb, ltb-true}
+use Rattle.std.proofs.lemmas.List.{length-map}
+use Rattle.serde_json.specs.Data.{Data}
+use Rattle.serde_json.specs.Find.{get}
+use Rattle.tcd_base.specs.declared.parts.Range.{Range}
+use Rattle.tcd_plan.specs.Objects.{ascend_above, has_form, objects_of}
+use Rattle.tcd_plan.specs.PlanData.{AreAreas, AreIrqs, AreRanges, AreWords, IsPlan, PlanData, all_apart, all_ranges, ranges_apart}
+use Rattle.tcd_plan.specs.Plans.{are_few, bad_value_of, has_areas, has_vectors, overlap_from, overlap_of, places_of, range_of, refusal_of, told_by}
+use Rattle.tcd_plan.specs.Values.{places_at, word_at, word_in}
+use Rattle.tcd_plan.specs.declared.plans.PlanErr.TheVariants.{Overlap}
+use Rattle.tcd_plan.specs.declared.rows.Form.TheVariants.{Irqs, Object, Ranges}
+use Rattle.tcd_plan.specs.declared.rows.Holder.TheVariants.{Devices, Ram, Rom}
+use Rattle.tcd_plan.proofs.Accepted.{IsAccepted, accepted, are_areas_parts, few_ranges}
+use Rattle.tcd_plan.proofs.Forms.{devices_at, devices_hi, devices_len, irqs_form, ram_at, ram_len, rom_at, rom_form, rom_len, start_ccpn, start_form}
+use Rattle.tcd_plan.proofs.Pieces.{devices_are, inner_word, irqs_each, irqs_rise, ranges_are, some_objects}
+use Rattle.tcd_plan.proofs.Small.{no_position, passes-unwrap_or}
+use Rattle.tcd_plan.proofs.Words.{word_at-lt, word_in-lt}
+
+-- what holds of the whole document, which is one object of its own
+alone : (test : Data → Bool) (d : Data) → list_all test (d ∷ []) ≡ true → test d ≡ true
+alone test d e = (and_parts (test d) true e).0
+
+pub ascending : (d : Data) → bad_value_of d ≡ None → ascend_above 0 (places_of (codes "irqs") d) ≡ true
+ascending d e = passes-unwrap_or (ascend_above 0) (places_at (codes "irqs") d) [] (alone (has_form Irqs (codes "irqs")) d (irqs_form d e))
+
+pub ccpn-lt : (d : Data) → bad_value_of d ≡ None → word_in (codes "start") (codes "ccpn") d < 2 ^ 8
+ccpn-lt d e =
+    ltb-true _ _ (inner_word (λ n. nat_lt n 256) (codes "ccpn") (get (codes "start") d) (alone (has_form Object (codes "start")) d (start_form d e)) (start_ccpn d e))
+
+rom_some : (d : Data) → bad_value_of d ≡ None → 0 < length (objects_of Rom d)
+rom_some d e = some_objects (places_at (codes "rom") d) (alone (has_form Ranges (codes "rom")) d (rom_form d e))
+
+sum_of : (rs : List Range) → are_few rs ≡ true → sum_by (λ r. r.len) rs ≤ 2 ^ 22
+sum_of rs e = leb-true _ _ (and_parts (nat_le (length rs) 16) _ e).1
+
+are_ranges : (d : Data) → IsAccepted d → AreRanges (told_by d)
+unfolding told_by
+are_ranges d a =
+    let few = few_ranges (told_by d) a.too_many in
+    let some = rom_some d a.bad_value in
+    record {
+      some = omega (arith, some, length-map (objects_of Rom d) range_of);
+      few_rom = leb-true _ _ (and_parts (nat_le (length (map range_of (objects_of Rom d))) 16) _ few.0).0;
+      few_ram = leb-true _ _ (and_parts (nat_le (length (map range_of (objects_of Ram d))) 16) _ few.1).0;
+      few_devices = leb-true _ _ few.2;
+      rom = ranges_are (objects_of Rom d) (rom_at d a.bad_value) (rom_len d a.bad_value);
+      ram = ranges_are (objects_of Ram d) (ram_at d a.bad_value) (ram_len d a.bad_value);
+      devices = devices_are (objects_of Devices d) (devices_at d a.bad_value) (devices_len d a.bad_value) (devices_hi d a.bad_value);
+      small_rom = sum_of (map range_of (objects_of Rom d)) few.0;
+      small_ram = sum_of (map range_of (objects_of Ram d)) few.1;
+    }
+
+are_areas : (d : Data) → IsAccepted d → AreAreas (told_by d)
+unfolding told_by has_areas
+are_areas d a =
+    let hold = are_areas_parts (word_in (codes "csa") (codes "at") d) (word_in (codes "csa") (codes "areas") d) (word_in (codes "csa") (codes "reserve") d) a.areas in
+    record {
+      some = hold.some;
+      few = hold.few;
+      reserved = hold.reserved;
+      reserve_within = hold.reserve_within;
+      word = word_in-lt (codes "csa") (codes "at") d;
+      not_zero = hold.not_zero;
+      aligned = hold.aligned;
+      in_segment = hold.in_segment;
+      fit = hold.fit;
+    }
+
+words_small : (d : Data) (names : List (List ℕ)) → list_all (λ w. nat_lt w (2 ^ 32)) (map (λ name. word_in (codes "globals") name d) names) ≡ true
+words_small d [] = refl
+words_small d (name ∷ names) = and_from _ _ (lt-ltb _ _ (word_in-lt (codes "globals") name d)) (words_small d names)
+
+are_words : (d : Data) → IsAccepted d → AreWords (told_by d)
+unfolding told_by has_vectors
+are_words d a =
+    let even = and_parts (word_at (codes "biv") d % 2 == 0) (word_at (codes "btv") d % 2 == 0) a.vectors in
+    record {
+      sp = word_at-lt (codes "sp") d;
+      isp = word_at-lt (codes "isp") d;
+      biv = word_at-lt (codes "biv") d;
+      btv = word_at-lt (codes "btv") d;
+      even_biv = eqb-true _ _ even.0;
+      even_btv = eqb-true _ _ even.1;
+      ccpn = ccpn-lt d a.bad_value;
+      four = refl;
+      globals = words_small d (codes "a0" ∷ codes "a1" ∷ codes "a8" ∷ codes "a9" ∷ []);
+    }
+
+are_irqs : (d : Data) → IsAccepted d → AreIrqs (told_by d).irqs
+unfolding told_by
+are_irqs d a =
+    let few = few_ranges (told_by d) a.too_many in
+    record {
+      few = leb-true _ _ few.3;
+      rising = irqs_rise 0 (places_of (codes "irqs") d) (ascending d a.bad_value);
+      each = irqs_each 0 (places_of (codes "irqs") d) (ascending d a.bad_value);
+    }
+
+after_none : {T : Type 0} (f : ℕ → T) (rest : Option T) (o : Option ℕ) → option_map_or (λ k. Some (f k)) o rest ≡ None → (o ≡ None) × (rest ≡ None)
+after_none f rest None e = (refl, e)
+after_none f rest (Some k) e = cc
+
+apart_from : (i : ℕ) (rs : List Range) → overlap_from i rs ≡ None → all_apart rs ≡ true
+apart_from i [] e = refl
+apart_from i (r ∷ rs) e =
+    let parts = after_none (λ k. Overlap i (i + 1 + k)) (overlap_from (i + 1) rs) _ e in
+    and_from _ _ (no_position (ranges_apart r) rs parts.0) (apart_from (i + 1) rs parts.1)
+
+are_apart : (p : PlanData) → overlap_of p ≡ None → all_apart (all_ranges p) ≡ true
+unfolding overlap_of
+are_apart p e = apart_from 0 (all_ranges p) e
+
+pub tells_plan : (d : Data) → refusal_of d ≡ None → IsPlan (told_by d)
+tells_plan d e =
+    let a = accepted d e in
+    record {
+      ranges = are_ranges d a;
+      areas = are_areas d a;
+      words = are_words d a;
+      irqs = are_irqs d a;
+      apart = are_apart (told_by d) a.overlap;
+    }

@@ -1,0 +1,141 @@
+// The refusals by what a document tells: too many, the save areas, the vectors, ranges that overlap.
+ghost use Rattle.std.specs.Prelude.{◌≡◌, ◌<◌, ◌≤◌, ◌+◌, IfSome, None, length, map, not, position, sum_by, true};
+ghost use Rattle.serde_json.specs.View.{view};
+ghost use Rattle.tcd_plan.specs.PlanData.{areas_range, ranges_apart};
+ghost use Rattle.tcd_plan.specs.Plans.{AreFew, are_areas, are_few, has_areas, has_vectors, overlap_from, overlap_of, range_of, told_by, too_many_of};
+
+use crate::objects::objects_of;
+use crate::readings::{places_of, push_ranges};
+use crate::rows::Holder;
+use crate::values::{word_at, word_in};
+use crate::{PlanErr, PlanKey};
+use arrayvec::ArrayVec;
+use serde_json::Value;
+use tcd_base::Range;
+
+/// The first array that is too long, or whose ranges are.
+#[tactic(auto, unfolding(crate::specs::Plans::told_by, crate::specs::Plans::too_many_of))]
+pub fn too_many(value: &Value) -> Option<PlanKey>
+    ensures { result ≡ too_many_of (told_by (view value.now)) }
+{
+    if !are_few(objects_of(Holder::Rom, value)) {
+        return Some(PlanKey(1));
+    }
+    if !are_few(objects_of(Holder::Ram, value)) {
+        return Some(PlanKey(4));
+    }
+    if objects_of(Holder::Devices, value).len() > 16 {
+        return Some(PlanKey(7));
+    }
+    if places_of(value, "irqs").len() > 32 {
+        return Some(PlanKey(20));
+    }
+    None
+}
+
+/// Whether there are at most 16 ranges, of 2^22 bytes together.
+fn are_few(objects: &[Value]) -> bool
+    ensures { result ≡ are_few (map range_of (map view objects.now)) }
+{
+    objects.len() <= 16 && total_len(objects) <= 1 << 22
+}
+
+/// The bytes of all ranges together.
+fn total_len(objects: &[Value]) -> u64
+    requires { length objects.now ≤ 16 }
+    ensures { result ≡ sum_by (λ r. r.len) (map range_of (map view objects.now)) }
+{
+    let mut total = 0u64;
+    for object in objects {
+        total += u64::from(word_at(object, "len"));
+    }
+    total
+}
+
+#[tactic(auto, unfolding(crate::specs::Plans::told_by, crate::specs::Plans::has_areas))]
+pub fn has_areas(value: &Value) -> bool
+    ensures { result ≡ has_areas (told_by (view value.now)) }
+{
+    are_areas(
+        word_in(value, "csa", "at"),
+        word_in(value, "csa", "areas"),
+        word_in(value, "csa", "reserve"),
+    )
+}
+
+/// Whether whole save areas, from `at` on, lie in one segment of 2^22 bytes, and the first link isn't 0.
+fn are_areas(at: u32, areas: u32, reserve: u32) -> bool
+    ensures { result ≡ are_areas at areas reserve }
+{
+    1 <= areas
+        && areas <= 4096
+        && 1 <= reserve
+        && reserve <= areas
+        && at % 64 == 0
+        && at / 0x40_0000 % 64 == 0
+        && at > 0
+        && at % 0x40_0000 + 64 * areas <= 0x40_0000
+}
+
+#[tactic(auto, unfolding(crate::specs::Plans::told_by, crate::specs::Plans::has_vectors))]
+pub fn has_vectors(value: &Value) -> bool
+    ensures { result ≡ has_vectors (told_by (view value.now)) }
+{
+    word_at(value, "biv") % 2 == 0 && word_at(value, "btv") % 2 == 0
+}
+
+/// The first pair of ranges that share a byte, counted over rom, ram, devices and the save areas.
+pub fn overlap(value: &Value) -> Option<PlanErr>
+    requires { AreFew (view value.now) }
+    ensures { result ≡ overlap_of (told_by (view value.now)) }
+{
+    let mut ranges: ArrayVec<Range, 49> = ArrayVec::new();
+    push_ranges(&mut ranges, objects_of(Holder::Rom, value));
+    push_ranges(&mut ranges, objects_of(Holder::Ram, value));
+    push_ranges(&mut ranges, objects_of(Holder::Devices, value));
+    ranges.push(areas_range(value));
+    first_overlap(ranges.as_slice())
+}
+
+#[tactic(auto, unfolding(crate::specs::Plans::told_by))]
+fn areas_range(value: &Value) -> Range
+    requires { AreFew (view value.now) }
+    ensures { result ≡ areas_range (told_by (view value.now)) }
+{
+    Range {
+        at: word_in(value, "csa", "at"),
+        len: 64 * word_in(value, "csa", "areas"),
+    }
+}
+
+fn first_overlap(ranges: &[Range]) -> Option<PlanErr>
+    requires { length ranges.now ≤ 49 }
+    ensures { result ≡ overlap_from 0 ranges.now }
+{
+    for i in 0..ranges.len() {
+        let range = ranges[i];
+        if let Some(further) = first_sharing(range, &ranges[i + 1..]) {
+            return Some(PlanErr::Overlap(i as u32, (i + 1 + further) as u32));
+        }
+    }
+    None
+}
+
+fn first_sharing(range: Range, others: &[Range]) -> Option<usize>
+    ensures value { result ≡ position (λ other. not (ranges_apart range other)) others.now }
+    ensures within { IfSome result (λ k. k < length others.now) }
+{
+    others.iter().position(|other| !are_apart(&range, other))
+}
+
+fn are_apart(range: &Range, other: &Range) -> bool
+    ensures { result ≡ ranges_apart range.now other.now }
+{
+    end_of(range) <= u64::from(other.at) || end_of(other) <= u64::from(range.at)
+}
+
+fn end_of(range: &Range) -> u64
+    ensures { result ≡ range.now.at + range.now.len }
+{
+    u64::from(range.at) + u64::from(range.len)
+}

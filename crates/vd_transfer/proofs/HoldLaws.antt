@@ -1,0 +1,358 @@
+-- What instructions do to words that lie in a state lies in what they do to the state.
+use Rattle.std.proofs.Common.{◌≡◌, ℕ, ◌+◌, ◌-◌, ◌*◌, ◌%◌, ◌^◌, ◌<◌, ◌≤◌, inl, inr, Bool, true, false, cond, not, List, [], ◌∷◌, length, get_or, set, refl, sym, ap, ◌∙◌, subst, arith, Option, Some, None, eqb, IsTrue, IsSome, eq-eqb, if◌then◌else◌}
+use Rattle.std.specs.Prelude.{IsSomeAnd}
+use Rattle.std.specs.List.{list_any}
+use Rattle.std.proofs.lemmas.Bool.{cases_Bool, eqb-true, eqb-false, lt-ltb, ne_eqb}
+use Rattle.std.proofs.Math.ListN.{length-set}
+use Rattle.std.proofs.lemmas.List.{get_or-set_same, get_or-set_other}
+use Rattle.tcd_plan.specs.PlanData.{PlanData}
+use Rattle.tc_isa.specs.declared.shapes.Arg.{Arg}
+use Rattle.tc_isa.specs.declared.shapes.Arg.TheVariants.{Reg, Word}
+use Rattle.tc_isa.specs.declared.shapes.Cond.{Cond}
+use Rattle.tc_isa.specs.declared.shapes.Op.TheVariants.{Add, Sub, Sh}
+use Rattle.tc_isa.specs.declared.shapes.Shape.TheVariants.{Compute, Scaled, Load, Store, Branch, Jump, Call, Ret, Rfe, Svlcx, Rslcx, Bisr, Enable, Disable, Syscall, Mfcr, Mtcr, Nothing}
+use Rattle.tc_isa.specs.Arithmetic.{alu_of, taken_of, shifted}
+use Rattle.tc_isa.specs.Bounded.{IsArg}
+use Rattle.value_domain.specs.declared.values.Val.{Val}
+use Rattle.value_domain.specs.declared.states.State.{State}
+use Rattle.value_domain.specs.Limits.{Limits, AreLimits}
+use Rattle.value_domain.specs.Sets.{Among}
+use Rattle.value_domain.specs.Values.{IsMember, IsValue, any_val, members}
+use Rattle.value_domain.specs.State.{AreValues}
+use Rattle.value_domain.proofs.CoverLaws.{among_member, has_step, cover_holds}
+use Rattle.value_domain.proofs.RangeLaws.{one_value, cover_value, members_below}
+use Rattle.vd_transfer.specs.Operations.{value_of}
+use Rattle.vd_transfer.specs.Refinement.{cover_some, kept_left, kept_right, kept_both, holds}
+use Rattle.vd_transfer.specs.Registers.{slot, reg_of, arg_of, value_at, fixed_of, set_at, set_reg, write_reg, word_val, is_lower}
+use Rattle.vd_transfer.specs.Effects.{with_base, access_of, saved_lower, restored_lower, is_lower_slot, transfer_of, address_of}
+use Rattle.vd_transfer.specs.Branches.{is_reg, set_arg, with_one, with_two, refined, lowered, refine_of}
+use Rattle.vd_transfer.specs.Holding.{Holds, set_word, word_of, access_word, with_base_word, words_after, ie_after, ccpn_after, HasValue, HasBaseValue}
+use Rattle.vd_transfer.specs.Soundness.{IsSetting, TransferHolds, RestoreHolds, BranchHolds, AddressHolds}
+use Rattle.vd_transfer.proofs.Meets.{filter_has, among_any, among_filter}
+use Rattle.vd_transfer.proofs.OpLaws.{sound}
+use Rattle.vd_transfer.proofs.RegisterLaws.{reg_is_value, get_or-forgotten}
+use Rattle.vd_transfer.proofs.SlotLaws.{slot_is, slot_apart, not_lower}
+use Rattle.vd_transfer.proofs.ValueLaws.{value_of_value}
+
+-- ---- one register
+-- what a set register leaves as it was
+same_ie : (s : State) (v : Val) (o : Option ℕ) → (set_at s v o).ie ≡ s.ie
+same_ie s v (Some i) = refl
+same_ie s v None = refl
+
+same_ccpn : (s : State) (v : Val) (o : Option ℕ) → (set_at s v o).ccpn ≡ s.ccpn
+same_ccpn s v (Some i) = refl
+same_ccpn s v None = refl
+
+pub same_length : (s : State) (v : Val) (o : Option ℕ) → length (set_at s v o).regs ≡ length s.regs
+same_length s v (Some i) = length-set s.regs i v
+same_length s v None = refl
+
+-- the value of another register
+reg_of-other : (p : PlanData) (s : State) (r q : ℕ) (v : Val) (o o2 : Option ℕ) → o ≡ slot r → o2 ≡ slot q → (q ≡ r → ⊥) → value_at p (set_at s v o) q o2 ≡ value_at p s q o2
+reg_of-other p s r q v None o2 e f apart = refl
+reg_of-other p s r q v (Some i) None e f apart = refl
+reg_of-other p s r q v (Some i) (Some j) e f apart =
+    get_or-set_other s.regs i j v any_val (λ same. apart (slot_apart q r i j (sym f) (sym e) (sym same)))
+
+reg_of-here : (p : PlanData) (s : State) (r : ℕ) (v : Val) (o : Option ℕ) → length s.regs ≡ 27 → o ≡ slot r → IsSome o → value_at p (set_at s v o) r o ≡ v
+reg_of-here p s r v (Some i) len e some = get_or-set_same s.regs i v any_val (omega (arith, (slot_is r i (sym e)).within))
+reg_of-here p s r v None len e some = absurd (let f : false ≡ true = some in cc)
+
+-- the words lie in a state with register r set, where r's word does and the others are as they were
+held_set : (p : PlanData) (s : State) (word word2 : ℕ → ℕ) (ie : Bool) (ccpn r : ℕ) (v : Val) → IsMember (word2 r) (value_at p (set_at s v (slot r)) r (slot r))
+    → ((q : ℕ) → (q ≡ r → ⊥) → word2 q ≡ word q) → Holds p word ie ccpn s → Holds p word2 ie ccpn (set_reg s r v)
+held_set p s word word2 ie ccpn r v here others h = record {
+  regs = λ q small.
+      elim (cases_Bool (eqb q r)) [
+        | inl same ↦ subst (λ n. IsMember (word2 n) (reg_of p (set_reg s r v) n)) (sym (eqb-true q r same)) here
+        | inr other ↦
+            let apart = eqb-false q r other in
+            rw (others q apart) (subst (λ (u : Val). IsMember (word q) u) (sym (reg_of-other p s r q v (slot r) (slot q) refl refl apart)) (h.regs q small))
+      ];
+  enabled = λ t. same_ie s v (slot r) ∙ h.enabled t;
+  priority = omega (arith, same_ccpn s v (slot r), h.priority);
+}
+
+set_word-here : (word : ℕ → ℕ) (r w : ℕ) → set_word word r w r ≡ w
+set_word-here word r w = rw (eq-eqb r r refl) refl
+
+set_word-other : (word : ℕ → ℕ) (r w q : ℕ) → (q ≡ r → ⊥) → set_word word r w q ≡ word q
+set_word-other word r w q apart = rw (ne_eqb q r apart) refl
+
+-- register r gets the word w and a value of which it is a member
+pub holds_set : (p : PlanData) (s : State) (word : ℕ → ℕ) (ie : Bool) (ccpn r w : ℕ) (v : Val) → length s.regs ≡ 27 → HasValue r → IsMember w v → Holds p word ie ccpn s
+    → Holds p (set_word word r w) ie ccpn (set_reg s r v)
+holds_set p s word ie ccpn r w v len has m h =
+    held_set p s word (set_word word r w) ie ccpn r v
+    (rw (set_word-here word r w) (subst (λ (u : Val). IsMember w u) (sym (reg_of-here p s r v (slot r) len refl has)) m))
+    (set_word-other word r w) h
+
+narrow_here : (p : PlanData) (s : State) (w r : ℕ) (v : Val) (o : Option ℕ) → length s.regs ≡ 27 → o ≡ slot r → IsMember w v → IsMember w (value_at p s r o) → IsMember w (value_at p (set_at s v o) r o)
+narrow_here p s w r v None len e m old = old
+narrow_here p s w r v (Some i) len e m old = subst (λ (u : Val). IsMember w u) (sym (reg_of-here p s r v (Some i) len e refl)) m
+
+-- a register's value is narrowed to one of which its word is a member
+pub holds_narrow : (p : PlanData) (s : State) (word : ℕ → ℕ) (ie : Bool) (ccpn r : ℕ) (v : Val) → length s.regs ≡ 27 → r < 32 → IsMember (word r) v → Holds p word ie ccpn s → Holds p word ie ccpn (set_reg s r v)
+holds_narrow p s word ie ccpn r v len small m h = held_set p s word word ie ccpn r v (narrow_here p s (word r) r v (slot r) len refl m (h.regs r small)) (λ q apart. refl) h
+
+-- ---- operands
+const_member : (w : ℕ) → IsMember w (word_val w)
+const_member w = inl refl
+
+const_value : (b : Limits) (w : ℕ) → AreLimits b → w < 2 ^ 32 → IsValue b (word_val w)
+const_value b w limits small = one_value b w limits small
+
+pub arg_member : (p : PlanData) (s : State) (word : ℕ → ℕ) (ie : Bool) (ccpn : ℕ) (y : Arg) → IsArg y → Holds p word ie ccpn s → IsMember (word_of word y) (arg_of p s y)
+arg_member p s word ie ccpn (Reg r) small h = h.regs r small
+arg_member p s word ie ccpn (Word w) small h = const_member w
+
+pub reg_value : (b : Limits) (p : PlanData) (s : State) (r : ℕ) → IsSetting b p s → IsValue b (reg_of p s r)
+reg_value b p s r set = reg_is_value b p s r set.limits set.plan.words.globals set.values
+
+pub arg_value : (b : Limits) (p : PlanData) (s : State) (y : Arg) → IsSetting b p s → IsArg y → IsValue b (arg_of p s y)
+arg_value b p s (Reg r) set small = reg_value b p s r set
+arg_value b p s (Word w) set small = const_value b w set.limits small
+
+-- a sum with a constant, modulo 2 ^ 32
+sum_member : (b : Limits) (v : Val) (x offset : ℕ) → AreLimits b → IsValue b v → offset < 2 ^ 32 → IsMember x v → IsMember ((x + offset) % 2 ^ 32) (value_of b Add v (word_val offset))
+unfolding alu_of
+sum_member b v x offset limits vv small m = sound b Add v (word_val offset) limits vv (const_value b offset limits small) x offset m (const_member offset)
+
+-- ---- instructions
+-- the values stay, whatever else of the state changes
+moved : (p : PlanData) (s t : State) (word : ℕ → ℕ) (ie ie2 : Bool) (ccpn ccpn2 : ℕ) → t.regs ≡ s.regs → (IsTrue ie2 → IsTrue t.ie) → t.ccpn ≤ ccpn2 → Holds p word ie ccpn s → Holds p word ie2 ccpn2 t
+moved p s t word ie ie2 ccpn ccpn2 same enabled priority h = record {
+  regs = λ q small. same_at p s t word q (slot q) same (h.regs q small);
+  enabled = enabled;
+  priority = priority;
+}
+  where
+    same_at : (p : PlanData) (s t : State) (word : ℕ → ℕ) (q : ℕ) (o : Option ℕ) → t.regs ≡ s.regs → IsMember (word q) (value_at p s q o) → IsMember (word q) (value_at p t q o)
+    same_at p s t word q (Some i) same m = subst (λ (l : List Val). IsMember (word q) (get_or l i any_val)) (sym same) m
+    same_at p s t word q None same m = m
+
+-- writing a register only forgets that the lower registers are the entry's
+written : (p : PlanData) (s : State) (word : ℕ → ℕ) (ie : Bool) (ccpn r : ℕ) (v : Val) → Holds p word ie ccpn (set_reg s r v) → Holds p word ie ccpn (write_reg s r v)
+written p s word ie ccpn r v h = moved p (set_reg s r v) (write_reg s r v) word ie ie ccpn ccpn refl h.enabled h.priority h
+
+holds_write : (p : PlanData) (s : State) (word : ℕ → ℕ) (ie : Bool) (ccpn r w : ℕ) (v : Val) → length s.regs ≡ 27 → HasValue r → IsMember w v → Holds p word ie ccpn s
+    → Holds p (set_word word r w) ie ccpn (write_reg s r v)
+holds_write p s word ie ccpn r w v len has m h = written p s (set_word word r w) ie ccpn r v (holds_set p s word ie ccpn r w v len has m h)
+
+base_holds : (b : Limits) (p : PlanData) (s : State) (word : ℕ → ℕ) (ie : Bool) (ccpn : ℕ) (base : Arg) (offset : ℕ) (after : Bool) → IsSetting b p s → IsArg base → offset < 2 ^ 32 → HasBaseValue base after
+    → Holds p word ie ccpn s → Holds p (with_base_word word base offset after) ie ccpn (with_base b p s base offset after)
+base_holds b p s word ie ccpn (Word w) offset after set small off has h = h
+base_holds b p s word ie ccpn (Reg r) offset false set small off has h = h
+base_holds b p s word ie ccpn (Reg r) offset true set small off has h =
+    holds_write p s word ie ccpn r ((word r + offset) % 2 ^ 32) (value_of b Add (reg_of p s r) (word_val offset)) set.regs (has refl)
+    (sum_member b (reg_of p s r) (word r) offset set.limits (reg_value b p s r set) off (h.regs r small)) h
+
+write_length : (s : State) (r : ℕ) (v : Val) → length (write_reg s r v).regs ≡ length s.regs
+write_length s r v = same_length s v (slot r)
+
+base_length : (b : Limits) (p : PlanData) (s : State) (base : Arg) (offset : ℕ) (after : Bool) → length (with_base b p s base offset after).regs ≡ length s.regs
+base_length b p s (Word w) offset after = refl
+base_length b p s (Reg r) offset false = refl
+base_length b p s (Reg r) offset true = write_length s r (value_of b Add (reg_of p s r) (word_val offset))
+
+scaled_word : (a x n : ℕ) → n < 4 → (a + shifted x (n % 64)) % 2 ^ 32 ≡ (a + x * 2 ^ n) % 2 ^ 32
+scaled_word a x n small =
+    let same : n % 64 ≡ n = omega arith in
+    rw (same, lt-ltb n 32 (omega arith)) (mod_twice a (x * 2 ^ n))
+  where
+    mod_twice : (a z : ℕ) → (a + z % 2 ^ 32) % 2 ^ 32 ≡ (a + z) % 2 ^ 32
+    mod_twice a z = omega arith
+
+scaled_member : (b : Limits) (p : PlanData) (s : State) (word : ℕ → ℕ) (ie : Bool) (ccpn base index n : ℕ) → IsSetting b p s → base < 32 → index < 32 → n < 4 → Holds p word ie ccpn s
+    → IsMember ((word base + word index * 2 ^ n) % 2 ^ 32) (value_of b Add (reg_of p s base) (value_of b Sh (reg_of p s index) (word_val n)))
+unfolding alu_of
+scaled_member b p s word ie ccpn base index n set small_b small_i few h =
+    let vb = reg_value b p s base set in
+    let vi = reg_value b p s index set in
+    let vn = const_value b n set.limits (omega arith) in
+    let by : IsMember (shifted (word index) (n % 64)) (value_of b Sh (reg_of p s index) (word_val n)) = sound b Sh (reg_of p s index) (word_val n) set.limits vi vn (word index) n (h.regs index small_i) (const_member n) in
+    let sum : IsMember ((word base + shifted (word index) (n % 64)) % 2 ^ 32) (value_of b Add (reg_of p s base) (value_of b Sh (reg_of p s index) (word_val n))) =
+    sound b Add (reg_of p s base) (value_of b Sh (reg_of p s index) (word_val n)) set.limits vb (value_of_value b Sh (reg_of p s index) (word_val n) set.limits vi vn) (word base) (shifted (word index) (n % 64)) (h.regs base small_b) by in
+    subst (λ (w : ℕ). IsMember w (value_of b Add (reg_of p s base) (value_of b Sh (reg_of p s index) (word_val n)))) (scaled_word (word base) (word index) n few) sum
+
+any_member : (w : ℕ) → w < 2 ^ 32 → IsMember w any_val
+any_member w h = (omega arith, omega arith, omega arith)
+
+pub transfer_holds : TransferHolds
+unfolding transfer_of words_after ie_after ccpn_after
+transfer_holds b p (Compute op dst x y) s loaded word ie ccpn input set is writes stays small reads h =
+    holds_write p s word ie ccpn dst (alu_of op (word_of word x) (word_of word y)) (value_of b op (arg_of p s x) (arg_of p s y)) set.regs writes
+    (sound b op (arg_of p s x) (arg_of p s y) set.limits (arg_value b p s x set is.1) (arg_value b p s y set is.2) (word_of word x) (word_of word y) (arg_member p s word ie ccpn x is.1 h) (arg_member p s word ie ccpn y is.2 h)) h
+transfer_holds b p (Scaled dst base index n) s loaded word ie ccpn input set is writes stays small reads h =
+    holds_write p s word ie ccpn dst _ _ set.regs writes (scaled_member b p s word ie ccpn base index n set is.1 is.2 is.3 h) h
+transfer_holds b p (Load dst base offset size signed after) s loaded word ie ccpn input set is writes stays small reads h =
+    holds_write p (with_base b p s base offset after) (with_base_word word base offset after) ie ccpn dst input loaded (base_length b p s base offset after ∙ set.regs) writes.0 reads
+    (base_holds b p s word ie ccpn base offset after set is.1 is.2 writes.1 h)
+transfer_holds b p (Store src base offset size after) s loaded word ie ccpn input set is writes stays small reads h =
+    base_holds b p s word ie ccpn base offset after set is.1 is.2 writes h
+transfer_holds b p (Branch cond x y by lowers) s loaded word ie ccpn input set is writes stays small reads h = absurd stays
+transfer_holds b p (Jump to) s loaded word ie ccpn input set is writes stays small reads h = absurd stays
+transfer_holds b p (Call to) s loaded word ie ccpn input set is writes stays small reads h = absurd stays
+transfer_holds b p Ret s loaded word ie ccpn input set is writes stays small reads h = absurd stays
+transfer_holds b p Rfe s loaded word ie ccpn input set is writes stays small reads h = absurd stays
+transfer_holds b p Svlcx s loaded word ie ccpn input set is writes stays small reads h = moved p s (saved_lower s) word ie ie ccpn ccpn refl h.enabled h.priority h
+transfer_holds b p Rslcx s loaded word ie ccpn input set is writes stays small reads h = absurd stays
+transfer_holds b p (Bisr c) s loaded word ie ccpn input set is writes stays small reads h =
+    moved p s (record (saved_lower s) { ie = true; ccpn = c }) word ie true ccpn c refl (λ t. refl) (omega arith) h
+transfer_holds b p Enable s loaded word ie ccpn input set is writes stays small reads h = moved p s (record s { ie = true }) word ie true ccpn ccpn refl (λ t. refl) h.priority h
+transfer_holds b p Disable s loaded word ie ccpn input set is writes stays small reads h = moved p s (record s { ie = false }) word ie false ccpn ccpn refl (λ t. t) h.priority h
+transfer_holds b p (Syscall tin) s loaded word ie ccpn input set is writes stays small reads h = absurd stays
+transfer_holds b p (Mfcr dst number) s loaded word ie ccpn input set is writes stays small reads h =
+    holds_write p s word ie ccpn dst input any_val set.regs writes (any_member input small) h
+transfer_holds b p (Mtcr src number) s loaded word ie ccpn input set is writes stays small reads h = absurd writes
+transfer_holds b p Nothing s loaded word ie ccpn input set is writes stays small reads h = h
+
+-- ---- restoring
+restored_at : (p : PlanData) (s : State) (word word2 : ℕ → ℕ) (q : ℕ) (o : Option ℕ) → length s.regs ≡ 27 → o ≡ slot q → word2 q < 2 ^ 32 → (is_lower q ≡ false → word2 q ≡ word q) → (o ≡ None → word2 q ≡ word q)
+    → IsMember (word q) (value_at p s q o) → IsMember (word2 q) (value_at p (restored_lower s) q o)
+restored_at p s word word2 q None len e small same none m = subst (λ (w : ℕ). IsMember w (fixed_of p q)) (sym (none refl)) m
+restored_at p s word word2 q (Some i) len e small same none m =
+    let is = slot_is q i (sym e) in
+    rw (get_or-forgotten 0 s.regs i any_val (omega (arith, is.within)))
+    (let at : is_lower_slot (0 + i) ≡ is_lower q = let z : 0 + i ≡ i = omega arith in ap is_lower_slot z ∙ is.lower in
+    rw at (elim (cases_Bool (is_lower q)) [
+      | inl low ↦ rw low (any_member (word2 q) small)
+      | inr high ↦ rw (high, same high) m
+    ]))
+
+pub restore_holds : RestoreHolds
+restore_holds p s word word2 ie ccpn len small same h = record {
+  regs = λ q lt. restored_at p s word word2 q (slot q) len refl (small q lt) (same q lt) (λ none. same q lt (not_lower q none)) (h.regs q lt);
+  enabled = h.enabled;
+  priority = h.priority;
+}
+
+pub address_holds : AddressHolds
+unfolding address_of
+address_holds = record {
+  load = λ b p dst base offset size signed after s word ie ccpn set is off h. access_member b p s word ie ccpn base offset after set is off h;
+  store = λ b p src base offset size after s word ie ccpn set is off h. access_member b p s word ie ccpn base offset after set is off h;
+}
+  where
+    access_member : (b : Limits) (p : PlanData) (s : State) (word : ℕ → ℕ) (ie : Bool) (ccpn : ℕ) (base : Arg) (offset : ℕ) (after : Bool) → IsSetting b p s → IsArg base → offset < 2 ^ 32 → Holds p word ie ccpn s
+        → IsMember (access_word word base offset after) (access_of b p s base offset after)
+    access_member b p s word ie ccpn base offset true set is off h = arg_member p s word ie ccpn base is h
+    access_member b p s word ie ccpn base offset false set is off h = sum_member b (arg_of p s base) (word_of word base) offset set.limits (arg_value b p s base set is) off (arg_member p s word ie ccpn base is h)
+
+-- ---- branches
+-- a value with a member that is a word
+pub record HasMember (b : Limits) (x : ℕ) (v : Val) : Type 0 where
+  pub value : IsValue b v
+  pub member : IsMember x v
+
+-- what is kept of a set has its words as members
+kept_has : (b : Limits) (xs : List ℕ) (x : ℕ) → AreLimits b → Among x xs → ((z : ℕ) → Among z xs → z < 2 ^ 32) → IsSomeAnd (cover_some b xs) (HasMember b x)
+kept_has b [] x limits i below = absurd i
+kept_has b (y ∷ ys) x limits i below = record { value = cover_value b (y ∷ ys) x limits i below; member = cover_holds b (y ∷ ys) x i }
+
+-- the condition goes to the side that it takes
+goes : (cond : Cond) (side : Bool) (x y : ℕ) → taken_of cond x y ≡ side → holds cond side x y ≡ true
+goes cond true x y e = e
+goes cond false x y e = ap not e
+
+left_has : (b : Limits) (cond : Cond) (side : Bool) (v w : Val) (x y : ℕ) → AreLimits b → IsValue b v → IsValue b w → IsMember x v → IsMember y w → taken_of cond x y ≡ side
+    → IsSomeAnd (cover_some b (kept_left cond side (members v) (members w))) (HasMember b x)
+unfolding kept_left
+left_has b cond side v w x y limits vv vw mx my e =
+    kept_has b _ x limits
+    (filter_has (λ x. list_any (λ y. holds cond side x y) (members w)) x (members v) (among_member v x (has_step v vv.well) mx)
+    (among_any (λ y. holds cond side x y) y (members w) (among_member w y (has_step w vw.well) my) (goes cond side x y e)))
+    (λ z i. members_below v vv.well z (among_filter _ z (members v) i).0)
+
+right_has : (b : Limits) (cond : Cond) (side : Bool) (v w : Val) (x y : ℕ) → AreLimits b → IsValue b v → IsValue b w → IsMember x v → IsMember y w → taken_of cond x y ≡ side
+    → IsSomeAnd (cover_some b (kept_right cond side (members v) (members w))) (HasMember b y)
+unfolding kept_right
+right_has b cond side v w x y limits vv vw mx my e =
+    kept_has b _ y limits
+    (filter_has (λ y. list_any (λ x. holds cond side x y) (members v)) y (members w) (among_member w y (has_step w vw.well) my)
+    (among_any (λ x. holds cond side x y) x (members v) (among_member v x (has_step v vv.well) mx) (goes cond side x y e)))
+    (λ z i. members_below w vw.well z (among_filter _ z (members w) i).0)
+
+both_has : (b : Limits) (cond : Cond) (side : Bool) (v : Val) (x : ℕ) → AreLimits b → IsValue b v → IsMember x v → taken_of cond x x ≡ side → IsSomeAnd (cover_some b (kept_both cond side (members v))) (HasMember b x)
+unfolding kept_both
+both_has b cond side v x limits vv mx e =
+    kept_has b _ x limits (filter_has (λ z. holds cond side z z) x (members v) (among_member v x (has_step v vv.well) mx) (goes cond side x x e)) (λ z i. members_below v vv.well z (among_filter _ z (members v) i).0)
+
+set_values_at : (b : Limits) (s : State) (v : Val) (o : Option ℕ) → AreValues b s.regs → IsValue b v → AreValues b (set_at s v o).regs
+set_values_at b s v None values value r h = values r h
+set_values_at b s v (Some i) values value r h =
+    let len : length (set s.regs i v) ≡ length s.regs = length-set s.regs i v in
+    let k : r < length s.regs = omega arith in
+    elim (cases_Bool (eqb r i)) [
+      | inl same ↦ let e : r ≡ i = eqb-true r i same in rw e (rw (get_or-set_same s.regs i v any_val (omega arith)) value)
+      | inr other ↦ rw (get_or-set_other s.regs i r v any_val (eqb-false r i other)) (values r k)
+    ]
+
+-- a state that holds the words, with values
+pub record HoldsWell (b : Limits) (p : PlanData) (word : ℕ → ℕ) (ie : Bool) (ccpn : ℕ) (s : State) : Type 0 where
+  pub holds : Holds p word ie ccpn s
+  pub setting : IsSetting b p s
+
+narrowed_reg : (b : Limits) (p : PlanData) (s : State) (word : ℕ → ℕ) (ie : Bool) (ccpn r : ℕ) (v : Val) → r < 32 → HasMember b (word r) v → HoldsWell b p word ie ccpn s → HoldsWell b p word ie ccpn (set_reg s r v)
+narrowed_reg b p s word ie ccpn r v small m h = record {
+  holds = holds_narrow p s word ie ccpn r v h.setting.regs small m.member h.holds;
+  setting = record { limits = h.setting.limits; plan = h.setting.plan; regs = same_length s v (slot r) ∙ h.setting.regs; values = set_values_at b s v (slot r) h.setting.values m.value };
+}
+
+narrowed_arg : (b : Limits) (p : PlanData) (s : State) (word : ℕ → ℕ) (ie : Bool) (ccpn : ℕ) (y : Arg) (v : Val) → IsArg y → HasMember b (word_of word y) v → HoldsWell b p word ie ccpn s → HoldsWell b p word ie ccpn (set_arg s y v)
+narrowed_arg b p s word ie ccpn (Reg r) v small m h = narrowed_reg b p s word ie ccpn r v small m h
+narrowed_arg b p s word ie ccpn (Word w) v small m h = h
+
+one_holds : (b : Limits) (p : PlanData) (s : State) (word : ℕ → ℕ) (ie : Bool) (ccpn x : ℕ) (z : Option Val) → x < 32 → IsSomeAnd z (HasMember b (word x)) → HoldsWell b p word ie ccpn s → IsSomeAnd (with_one s x z) (HoldsWell b p word ie ccpn)
+one_holds b p s word ie ccpn x None small m h = m
+one_holds b p s word ie ccpn x (Some z) small m h = narrowed_reg b p s word ie ccpn x z small m h
+
+two_holds : (b : Limits) (p : PlanData) (s : State) (word : ℕ → ℕ) (ie : Bool) (ccpn x : ℕ) (y : Arg) (v w : Option Val) → x < 32 → IsArg y → IsSomeAnd v (HasMember b (word x)) → IsSomeAnd w (HasMember b (word_of word y))
+    → HoldsWell b p word ie ccpn s → IsSomeAnd (with_two s x y v w) (HoldsWell b p word ie ccpn)
+two_holds b p s word ie ccpn x y None w small is m n h = m
+two_holds b p s word ie ccpn x y (Some v) None small is m n h = n
+two_holds b p s word ie ccpn x y (Some v) (Some w) small is m n h = narrowed_arg b p (set_reg s x v) word ie ccpn y w is n (narrowed_reg b p s word ie ccpn x v small m h)
+
+same_reg : (x : ℕ) (y : Arg) (word : ℕ → ℕ) → is_reg x y ≡ true → word_of word y ≡ word x
+same_reg x (Reg r) word e = ap word (sym (eqb-true x r e))
+same_reg x (Word w) word e = absurd (let f : false ≡ true = e in cc)
+
+refined_holds : (b : Limits) (p : PlanData) (cond : Cond) (x : ℕ) (y : Arg) (s : State) (side : Bool) (word : ℕ → ℕ) (ie : Bool) (ccpn : ℕ) → x < 32 → IsArg y → HoldsWell b p word ie ccpn s
+    → taken_of cond (word x) (word_of word y) ≡ side → IsSomeAnd (refined b p cond x y s side) (HoldsWell b p word ie ccpn)
+refined_holds b p cond x y s side word ie ccpn small is h e =
+    let set = h.setting in
+    let vx = reg_value b p s x set in
+    let mx = h.holds.regs x small in
+    elim (cases_Bool (is_reg x y)) [
+      | inl one ↦
+          let same : word_of word y ≡ word x = same_reg x y word one in
+          rw one (one_holds b p s word ie ccpn x _ small (both_has b cond side (reg_of p s x) (word x) set.limits vx mx (ap (taken_of cond (word x)) (sym same) ∙ e)) h)
+      | inr two ↦
+          let vy = arg_value b p s y set is in
+          let my = arg_member p s word ie ccpn y is h.holds in
+          rw two (two_holds b p s word ie ccpn x y _ _ small is
+          (left_has b cond side (reg_of p s x) (arg_of p s y) (word x) (word_of word y) set.limits vx vy mx my e)
+          (right_has b cond side (reg_of p s x) (arg_of p s y) (word x) (word_of word y) set.limits vx vy mx my e) h)
+    ]
+
+-- one less, modulo 2 ^ 32
+less_member : (b : Limits) (v : Val) (x : ℕ) → AreLimits b → IsValue b v → IsMember x v → IsMember ((x + (2 ^ 32 - 1)) % 2 ^ 32) (value_of b Sub v (word_val 1))
+unfolding alu_of
+less_member b v x limits vv m =
+    let same : (x + 2 ^ 32 - 1) % 2 ^ 32 ≡ (x + (2 ^ 32 - 1)) % 2 ^ 32 = omega arith in
+    subst (λ (w : ℕ). IsMember w (value_of b Sub v (word_val 1))) same (sound b Sub v (word_val 1) limits vv (const_value b 1 limits (omega arith)) x 1 m (const_member 1))
+
+lowered_holds : (b : Limits) (p : PlanData) (x : ℕ) (lowers : Bool) (t : Option State) (word : ℕ → ℕ) (ie : Bool) (ccpn : ℕ) → x < 32 → (IsTrue lowers → HasValue x) → IsSomeAnd t (HoldsWell b p word ie ccpn)
+    → IsSomeAnd (lowered b p x lowers t) (Holds p (if lowers then set_word word x ((word x + (2 ^ 32 - 1)) % 2 ^ 32) else word) ie ccpn)
+lowered_holds b p x lowers None word ie ccpn small has h = h
+lowered_holds b p x false (Some s) word ie ccpn small has h = h.holds
+lowered_holds b p x true (Some s) word ie ccpn small has h =
+    holds_write p s word ie ccpn x ((word x + (2 ^ 32 - 1)) % 2 ^ 32) (value_of b Sub (reg_of p s x) (word_val 1)) h.setting.regs (has refl)
+    (less_member b (reg_of p s x) (word x) h.setting.limits (reg_value b p s x h.setting) (h.holds.regs x small)) h.holds
+
+pub branch_holds : BranchHolds
+unfolding refine_of words_after
+branch_holds b p cond x y by lowers s side word ie ccpn set is writes h e =
+    lowered_holds b p x lowers (refined b p cond x y s side) word ie ccpn is.0 writes
+    (refined_holds b p cond x y s side word ie ccpn is.0 is.1 (record { holds = h; setting = set }) e)

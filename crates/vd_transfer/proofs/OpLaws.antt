@@ -1,0 +1,552 @@
+-- Operations are sound and monotone.
+use Rattle.std.proofs.Common.{◌≡◌, ℕ, zero, suc, ◌+◌, ◌-◌, ◌*◌, ◌%◌, ◌^◌, ◌<◌, ◌≤◌, inl, inr, List, [], ◌∷◌, ◌++◌, length, refl, sym, ap, ◌∙◌, subst, arith, min, map, ltb, leb, take, get_or, append_assoc, append-nil, Bool, true, false, not, ◌||◌, eqb, bit_and, bit_or, bit_xor, ◌⊎◌}
+use Rattle.std.proofs.lemmas.Bool.{cases_lt, lt-ltb, le-ltb, cases_Bool}
+use Rattle.std.proofs.lemmas.List.{take_more}
+use Rattle.std.proofs.Math.Nat.{mul-le-mul_right}
+use Rattle.std.proofs.Math.Pow.{pow_mono}
+use Rattle.std.proofs.lemmas.Nat.{shl_below, shr_le, or_of_32, xor_of_32, and_le_l}
+use Rattle.value_domain.specs.declared.values.Val.{Val}
+use Rattle.value_domain.specs.declared.values.Val.TheVariants.{Set, Span}
+use Rattle.value_domain.specs.Sets.{Among, Within, Rising}
+use Rattle.value_domain.specs.Limits.{Limits}
+use Rattle.value_domain.specs.Values.{IsMember, IsWell, IsValue, IsBelow, IsExtent, cover, members, range, count_in, first_in}
+use Rattle.value_domain.proofs.SetLaws.{length_within}
+use Rattle.value_domain.proofs.CoverLaws.{cover-same, cover_holds, cover_mono, cover_own, cover_step, among_member, member_among, has_step, range_among, among_range, rising_multiples, unit_some, length-multiples}
+use Rattle.value_domain.specs.declared.lattice.Extent.{Extent}
+use Rattle.vd_transfer.specs.declared.runs.Run.{Run}
+use Rattle.value_domain.proofs.Loops.{among_get}
+use Rattle.value_domain.proofs.ExtentLaws.{cover-part, extent_only, extent_rising, append_left, append_right, among_append, some_length}
+use Rattle.value_domain.proofs.RangeLaws.{words_more, members_below, some_members, span_count, set_value}
+use Rattle.tc_isa.specs.declared.shapes.Op.{Op}
+use Rattle.tc_isa.specs.declared.shapes.Op.TheVariants.{Second, Add, Sub, And, Nand, Or, Nor, Xor, Xnor, Andn, Orn, Eq, Ne, Lt, LtU, Ge, GeU, Sh, Sha}
+use Rattle.tc_isa.specs.Arithmetic.{alu_of, shifted, shifted_signed, complement, one_if, signed_place}
+use Rattle.vd_transfer.specs.Operations.{low, high, step, results, row, pairs, whole, all_of, runs, bounds, gives_truth, by_count, Shifts, differences, sums, shifts, signed_shifts, value_of, range_of}
+use Rattle.vd_transfer.specs.Laws.{AreSound, AreMonotone}
+use Rattle.vd_transfer.proofs.Rows.{Lies, sums_have, sums_grow, differences_have, differences_grow, ands_have, ands_grow, shifts_have, shifts_grow, shifts_below}
+
+-- ---- the bounds of a value
+pub rising_members : (v : Val) → IsWell v → Rising (members v)
+rising_members (Set ws) w = w.rising
+rising_members (Span lo last s) w = rising_multiples (count_in lo last s) (first_in lo s) (2 ^ s) (unit_some s)
+
+pub bounds_of : (v : Val) → IsWell v → IsExtent (members v) (low v) (high v) (step v)
+bounds_of v w = extent_rising (members v) (rising_members v w) (some_members v w)
+
+pub high_below : (v : Val) → IsWell v → high v < 2 ^ 32
+high_below v w = members_below v w (high v) (bounds_of v w).high_in
+
+pub lies : (v : Val) → IsWell v → (x : ℕ) → Among x (members v) → Lies x (low v) (high v) (step v)
+lies v w x i = let e = bounds_of v w in record { from = e.low x i; to = e.high x i; fits = e.fits x i }
+
+-- the bounds of a smaller value lie inside
+pub record Narrower (v v2 : Val) : Type 0 where
+  pub low_in : low v2 ≤ low v
+  pub high_in : high v ≤ high v2
+  pub step_in : step v2 ≤ step v
+
+pub narrower : (v v2 : Val) → IsWell v → IsWell v2 → Within (members v) (members v2) → Narrower v v2
+narrower v v2 w w2 there =
+    let e = bounds_of v w in
+    let f = bounds_of v2 w2 in
+    record {
+      low_in = f.low (low v) (there (low v) e.low_in);
+      high_in = f.high (high v) (there (high v) e.high_in);
+      step_in = e.full (step v2) f.small (λ z i. f.fits z (there z i));
+    }
+
+pub low_high : (v : Val) → IsWell v → low v ≤ high v
+low_high v w = let e = bounds_of v w in e.low (high v) e.high_in
+
+-- ---- Sound
+all_have : (x : ℕ) → x < 2 ^ 32 → Among x (all_of 0)
+all_have x h = among_range x 0 (2 ^ 32 - 1) 0 (omega arith) (omega arith, omega arith, omega arith)
+
+-- what is known of a kind of shifts: they hold the shifted words, grow with the bounds, and give words
+pub record AreShifts (shift : Shifts) (by : ℕ → ℕ → ℕ) : Type 0 where
+  pub have : (x a b p n : ℕ) → p ≤ 2 → Lies x a b p → b < 2 ^ 32 → Among (by x n) (range_of (shift a b p n))
+  pub grow : (a b p n a2 b2 p2 : ℕ) → p ≤ 2 → b < 2 ^ 32 → a2 ≤ a → b ≤ b2 → p2 ≤ p → Within (range_of (shift a b p n)) (range_of (shift a2 b2 p2 n))
+  pub below : (a b p n z : ℕ) → p ≤ 2 → b < 2 ^ 32 → Among z (range_of (shift a b p n)) → z < 2 ^ 32
+  pub word : (x n : ℕ) → x < 2 ^ 32 → by x n < 2 ^ 32
+  pub small : (a b p n : ℕ) → (shift a b p n).step ≤ 2
+
+shifted_below : (x n : ℕ) → x < 2 ^ 32 → shifted x n < 2 ^ 32
+shifted_below x n h =
+    elim (cases_lt n 32) [
+      | inl left ↦ rw (lt-ltb n 32 left) (omega arith)
+      | inr right ↦ rw (le-ltb n 32 right) (omega (arith, shr_le x (64 - n)))
+    ]
+
+shifts_step : (a b p n : ℕ) → (shifts a b p n).step ≤ 2
+unfolding shifts
+shifts_step a b p n =
+    elim (cases_Bool (ltb n 32)) [
+      | inl t ↦ rw t (elim (cases_Bool (ltb (b * 2 ^ n) (2 ^ 32))) [ inl u ↦ rw u (omega arith) | inr u ↦ rw u (omega arith) ])
+      | inr t ↦ rw t (omega arith)
+    ]
+
+pub logical : AreShifts shifts shifted
+logical = record {
+  have = shifts_have;
+  grow = λ a b p n a2 b2 p2 small bb la hb hp. shifts_grow a b p n a2 b2 p2 small la hb hp;
+  below = shifts_below;
+  word = shifted_below;
+  small = shifts_step;
+}
+
+-- a shift to the left, and one of a word without the sign bit, is filled with zeros
+same_left : (x n : ℕ) → n < 32 → shifted_signed x n ≡ shifted x n
+same_left x n h = rw (lt-ltb n 32 h) refl
+
+same_right : (x n : ℕ) → 32 ≤ n → x < 2 ^ 31 → shifted_signed x n ≡ shifted x n
+same_right x n h small = rw (le-ltb n 32 h, lt-ltb x (2 ^ 31) small) refl
+
+signed_word : (x n : ℕ) → x < 2 ^ 32 → shifted_signed x n < 2 ^ 32
+signed_word x n h =
+    elim (cases_lt n 32) [
+      | inl left ↦ rw (same_left x n left) (shifted_below x n h)
+      | inr right ↦ elim (cases_lt x (2 ^ 31)) [
+        | inl small ↦ rw (same_right x n right small) (shifted_below x n h)
+        | inr big ↦ rw (le-ltb n 32 right, le-ltb x (2 ^ 31) big) (omega arith)
+      ]
+    ]
+
+-- the two forms of a signed shift's run
+as_logical : (a b p n : ℕ) → (n < 32) ⊎ (b < 2 ^ 31) → signed_shifts a b p n ≡ shifts a b p n
+unfolding signed_shifts
+as_logical a b p n h = elim h [ inl left ↦ rw (lt-ltb n 32 left) refl | inr small ↦ rw (lt-ltb b (2 ^ 31) small, or_true (ltb n 32)) refl ]
+  where
+    or_true : (c : Bool) → (c || true) ≡ true
+    or_true true = refl
+    or_true false = refl
+
+as_any : (a b p n : ℕ) → 32 ≤ n → 2 ^ 31 ≤ b → signed_shifts a b p n ≡ whole 0
+unfolding signed_shifts
+as_any a b p n right big = rw (le-ltb n 32 right, le-ltb b (2 ^ 31) big) refl
+
+pub arithmetic : AreShifts signed_shifts shifted_signed
+arithmetic = record {
+  have = λ x a b p n small l bb.
+      elim (cases_lt n 32) [
+        | inl left ↦ rw (as_logical a b p n (inl left), same_left x n left) (shifts_have x a b p n small l bb)
+        | inr right ↦ elim (cases_lt b (2 ^ 31)) [
+          | inl low ↦ rw (as_logical a b p n (inr low), same_right x n right (omega (arith, l.to))) (shifts_have x a b p n small l bb)
+          | inr big ↦ rw (as_any a b p n right big) (all_have (shifted_signed x n) (signed_word x n (omega (arith, l.to))))
+        ]
+      ];
+  grow = λ a b p n a2 b2 p2 small bb la hb hp.
+      elim (cases_lt n 32) [
+        | inl left ↦ rw (as_logical a b p n (inl left), as_logical a2 b2 p2 n (inl left)) (shifts_grow a b p n a2 b2 p2 small la hb hp)
+        | inr right ↦ elim (cases_lt b2 (2 ^ 31)) [
+          | inl low2 ↦ rw (as_logical a b p n (inr (omega arith)), as_logical a2 b2 p2 n (inr low2)) (shifts_grow a b p n a2 b2 p2 small la hb hp)
+          | inr big2 ↦ rw (as_any a2 b2 p2 n right big2) (λ z i. all_have z (signed_below a b p n z small bb i))
+        ]
+      ];
+  below = signed_below;
+  word = signed_word;
+  small = λ a b p n.
+      elim (cases_lt n 32) [
+        | inl left ↦ rw (as_logical a b p n (inl left)) (shifts_step a b p n)
+        | inr right ↦ elim (cases_lt b (2 ^ 31)) [
+          | inl low ↦ rw (as_logical a b p n (inr low)) (shifts_step a b p n)
+          | inr big ↦ rw (as_any a b p n right big) (omega arith)
+        ]
+      ];
+}
+  where
+    signed_below : (a b p n z : ℕ) → p ≤ 2 → b < 2 ^ 32 → Among z (range_of (signed_shifts a b p n)) → z < 2 ^ 32
+    signed_below a b p n z small bb i =
+        elim (cases_lt n 32) [
+          | inl left ↦ shifts_below a b p n z small bb (rw (as_logical a b p n (inl left)) at i)
+          | inr right ↦ elim (cases_lt b (2 ^ 31)) [
+            | inl low ↦ shifts_below a b p n z small bb (rw (as_logical a b p n (inr low)) at i)
+            | inr big ↦ let m = range_among z 0 (2 ^ 32 - 1) 0 (omega arith) (rw (as_any a b p n right big) at i) in omega (arith, m.1)
+          ]
+        ]
+
+by_value : {shift : Shifts} {by : ℕ → ℕ → ℕ} (are : AreShifts shift by) (v w : Val) → IsWell v → IsWell w → (x y : ℕ) → Among x (members v) → Among y (members w)
+    → Among (by x (y % 64)) (range_of (by_count shift (low v) (high v) (step v) w))
+by_value are v (Set []) wv ww x y i j = absurd j
+by_value {shift} {by} are v (Set (w ∷ [])) wv ww x y i j =
+    elim j [
+      | inl e ↦
+          subst (λ (n : ℕ). Among (by x (n % 64)) (range_of (shift (low v) (high v) (step v) (w % 64)))) (sym e)
+          (are.have x (low v) (high v) (step v) (w % 64) (bounds_of v wv).small (lies v wv x i) (high_below v wv))
+      | inr n ↦ absurd n
+    ]
+by_value {shift} {by} are v (Set (w ∷ u ∷ us)) wv ww x y i j = all_have (by x (y % 64)) (are.word x (y % 64) (members_below v wv x i))
+by_value {shift} {by} are v (Span lo last s) wv ww x y i j = all_have (by x (y % 64)) (are.word x (y % 64) (members_below v wv x i))
+
+truth_among : (b : Bool) → Among (one_if b) (0 ∷ 1 ∷ [])
+truth_among true = inr (inl refl)
+truth_among false = inl refl
+
+pub complement_below : (x : ℕ) → complement x < 2 ^ 32
+complement_below x = omega arith
+
+pub and_below : (x y : ℕ) → x < 2 ^ 32 → bit_and x y < 2 ^ 32
+and_below x y h = omega (arith, and_le_l x y)
+
+pub row_has : (op : Op) (v w : Val) → IsWell v → IsWell w → (x y : ℕ) → Among x (members v) → Among y (members w) → Among (alu_of op x y) (row op v w)
+unfolding row runs gives_truth alu_of
+row_has Second v w wv ww x y i j = j
+row_has Add v w wv ww x y i j =
+    let l = lies v wv x i in
+    let k = lies w ww y j in
+    let e = bounds_of v wv in
+    let f = bounds_of w ww in
+    sums_have x y (low v) (high v) (low w) (high w) (min (step v) (step w)) (omega (arith, e.small))
+    (record { from = l.from; to = l.to; fits = omega (arith, l.fits) })
+    (record { from = k.from; to = k.to; fits = omega (arith, k.fits) })
+    (high_below v wv) (high_below w ww)
+row_has Sub v w wv ww x y i j =
+    let l = lies v wv x i in
+    let k = lies w ww y j in
+    let e = bounds_of v wv in
+    let f = bounds_of w ww in
+    differences_have x y (low v) (high v) (low w) (high w) (min (step v) (step w)) (omega (arith, e.small))
+    (record { from = l.from; to = l.to; fits = omega (arith, l.fits) })
+    (record { from = k.from; to = k.to; fits = omega (arith, k.fits) })
+    (high_below v wv) (high_below w ww)
+row_has And v w wv ww x y i j =
+    let l = lies v wv x i in
+    let k = lies w ww y j in
+    ands_have x y (high v) (high w) (step v) (step w) (bounds_of v wv).small (bounds_of w ww).small l.to k.to l.fits k.fits
+row_has Nand v w wv ww x y i j = all_have (complement (bit_and x y)) (complement_below (bit_and x y))
+row_has Or v w wv ww x y i j = all_have (bit_or x y) (or_of_32 x y (members_below v wv x i) (members_below w ww y j))
+row_has Nor v w wv ww x y i j = all_have (complement (bit_or x y)) (complement_below (bit_or x y))
+row_has Xor v w wv ww x y i j = all_have (bit_xor x y) (xor_of_32 x y (members_below v wv x i) (members_below w ww y j))
+row_has Xnor v w wv ww x y i j = all_have (complement (bit_xor x y)) (complement_below (bit_xor x y))
+row_has Andn v w wv ww x y i j = all_have (bit_and x (complement y)) (and_below x (complement y) (members_below v wv x i))
+row_has Orn v w wv ww x y i j = all_have (bit_or x (complement y)) (or_of_32 x (complement y) (members_below v wv x i) (complement_below y))
+row_has Eq v w wv ww x y i j = truth_among (eqb x y)
+row_has Ne v w wv ww x y i j = truth_among (not (eqb x y))
+row_has Lt v w wv ww x y i j = truth_among (ltb (signed_place x) (signed_place y))
+row_has LtU v w wv ww x y i j = truth_among (ltb x y)
+row_has Ge v w wv ww x y i j = truth_among (leb (signed_place y) (signed_place x))
+row_has GeU v w wv ww x y i j = truth_among (leb y x)
+row_has Sh v w wv ww x y i j = by_value logical v w wv ww x y i j
+row_has Sha v w wv ww x y i j = by_value arithmetic v w wv ww x y i j
+
+among_map : (op : Op) (x y : ℕ) (ys : List ℕ) → Among y ys → Among (alu_of op x y) (map (alu_of op x) ys)
+among_map op x y [] i = absurd i
+among_map op x y (z ∷ ys) i = elim i [ inl e ↦ inl (ap (alu_of op x) e) | inr j ↦ inr (among_map op x y ys j) ]
+
+map_among : (op : Op) (x z : ℕ) (ys : List ℕ) → Among z (map (alu_of op x) ys) → (y : ℕ) × Among y ys × (z ≡ alu_of op x y)
+map_among op x z [] i = absurd i
+map_among op x z (y ∷ ys) i = elim i [ inl e ↦ (y, inl refl, e) | inr j ↦ let r = map_among op x z ys j in (r.0, inr r.1, r.2) ]
+
+pub pairs_have : (op : Op) (x y : ℕ) (xs ys : List ℕ) → Among x xs → Among y ys → Among (alu_of op x y) (pairs op xs ys)
+unfolding pairs
+pairs_have op x y [] ys i j = absurd i
+pairs_have op x y (w ∷ xs) ys i j =
+    elim i [
+      | inl e ↦ append_left (alu_of op x y) (map (alu_of op w) ys) (pairs op xs ys) (subst (λ (v : ℕ). Among (alu_of op x y) (map (alu_of op v) ys)) e (among_map op x y ys j))
+      | inr k ↦ append_right (alu_of op x y) (map (alu_of op w) ys) (pairs op xs ys) (pairs_have op x y xs ys k j)
+    ]
+
+pub pairs_among : (op : Op) (z : ℕ) (xs ys : List ℕ) → Among z (pairs op xs ys) → (x : ℕ) × (y : ℕ) × Among x xs × Among y ys × (z ≡ alu_of op x y)
+unfolding pairs
+pairs_among op z [] ys i = absurd i
+pairs_among op z (w ∷ xs) ys i =
+    elim (among_append z (map (alu_of op w) ys) (pairs op xs ys) i) [
+      | inl j ↦ let r = map_among op w z ys j in (w, r.0, inl refl, r.1, r.2)
+      | inr j ↦ let r = pairs_among op z xs ys j in (r.0, r.1, inr r.2, r.3, r.4)
+    ]
+
+pub results_have : (op : Op) (v w : Val) → IsWell v → IsWell w → (x y : ℕ) → Among x (members v) → Among y (members w) → Among (alu_of op x y) (results op v w)
+unfolding results
+results_have op (Set xs) (Set ys) wv ww x y i j = pairs_have op x y xs ys i j
+results_have op (Set xs) (Span lo last s) wv ww x y i j = row_has op (Set xs) (Span lo last s) wv ww x y i j
+results_have op (Span lo last s) w wv ww x y i j = row_has op (Span lo last s) w wv ww x y i j
+
+pub sound : AreSound
+sound b op v w limits vv vw x y m n =
+    cover_holds b (results op v w) (alu_of op x y)
+    (results_have op v w vv.well vw.well x y (among_member v x (has_step v vv.well) m) (among_member w y (has_step w vw.well) n))
+
+-- ---- Monotone
+-- a cover is below another that holds its set
+pub cover_below : (b : Limits) (xs ys : List ℕ) → 1 ≤ length xs → 1 ≤ length ys → ((z : ℕ) → Among z xs → IsMember z (cover b ys)) → IsBelow (cover b xs) (cover b ys)
+cover_below b xs ys some_x some_y there z m =
+    rw (cover_own b ys some_y) at (cover_mono b xs (members (cover b ys)) some_x (λ x i. among_member (cover b ys) x (cover_step b ys) (there x i)) z m)
+
+-- a Span isn't below a Set
+pub span_not_below : (b : Limits) (lo last s : ℕ) (ws : List ℕ) → IsValue b (Span lo last s) → IsValue b (Set ws) → IsBelow (Span lo last s) (Set ws) → ⊥
+span_not_below b lo last s ws vs vw below =
+    let shorter : length (range lo last s) ≤ length ws =
+    length_within (range lo last s) ws (rising_members (Span lo last s) vs.well) vw.well.rising (λ z i. below z (range_among z lo last s vs.well.0 i))
+    in
+    let few : length ws ≤ b.width = (set_value b ws vw.well).1 vw in
+    absurd (omega (arith, span_count b lo last s vs, length-multiples (count_in lo last s) (first_in lo s) (2 ^ s)))
+
+into_all : (xs : List ℕ) → ((z : ℕ) → Among z xs → z < 2 ^ 32) → Within xs (all_of 0)
+into_all xs below z i = all_have z (below z i)
+
+all_below : (z s : ℕ) → s ≤ 2 → Among z (all_of s) → z < 2 ^ 32
+all_below z s small i = let m = range_among z 0 (2 ^ 32 - 1) s small i in omega (arith, m.1)
+
+pub by_below : {shift : Shifts} {by : ℕ → ℕ → ℕ} (are : AreShifts shift by) (v w : Val) → IsWell v → (z : ℕ) → Among z (range_of (by_count shift (low v) (high v) (step v) w)) → z < 2 ^ 32
+by_below are v (Set []) wv z i = all_below z 0 (omega arith) i
+by_below are v (Set (y ∷ [])) wv z i = are.below (low v) (high v) (step v) (y % 64) z (bounds_of v wv).small (high_below v wv) i
+by_below are v (Set (y ∷ u ∷ ys)) wv z i = all_below z 0 (omega arith) i
+by_below are v (Span lo last s) wv z i = all_below z 0 (omega arith) i
+
+by_one : {shift : Shifts} {by : ℕ → ℕ → ℕ} (are : AreShifts shift by) (b : Limits) (v w v2 : Val) (y : ℕ) → IsValue b v → IsValue b w → IsValue b v2 → IsValue b (Set (y ∷ []))
+    → Within (members v) (members v2) → Within (members w) (y ∷ [])
+    → Within (range_of (by_count shift (low v) (high v) (step v) w)) (range_of (by_count shift (low v2) (high v2) (step v2) (Set (y ∷ []))))
+by_one are b v (Set []) v2 y vv vw vv2 vy there here = absurd (omega (arith, vw.well.some))
+by_one are b v (Set (u ∷ [])) v2 y vv vw vv2 vy there here =
+    let e : u ≡ y = elim (here u (inl refl)) [ inl e ↦ e | inr n ↦ absurd n ] in
+    let n = narrower v v2 vv.well vv2.well there in
+    rw e (are.grow (low v) (high v) (step v) (y % 64) (low v2) (high v2) (step v2) (bounds_of v vv.well).small (high_below v vv.well) n.low_in n.high_in n.step_in)
+by_one are b v (Set (u ∷ t ∷ us)) v2 y vv vw vv2 vy there here =
+    let e : u ≡ y = elim (here u (inl refl)) [ inl e ↦ e | inr n ↦ absurd n ] in
+    let f : t ≡ y = elim (here t (inr (inl refl))) [ inl e ↦ e | inr n ↦ absurd n ] in
+    let g : u < t = vw.well.rising.0 t (inl refl) in
+    absurd (omega arith)
+by_one are b v (Span lo last s) v2 y vv vw vv2 vy there here =
+    absurd (span_not_below b lo last s (y ∷ []) vw vy (λ z m. here z (among_member (Span lo last s) z vw.well.0 m)))
+
+by_grows : {shift : Shifts} {by : ℕ → ℕ → ℕ} (are : AreShifts shift by) (b : Limits) (v w v2 w2 : Val) → IsValue b v → IsValue b w → IsValue b v2 → IsValue b w2
+    → Within (members v) (members v2) → Within (members w) (members w2)
+    → Within (range_of (by_count shift (low v) (high v) (step v) w)) (range_of (by_count shift (low v2) (high v2) (step v2) w2))
+by_grows are b v w v2 (Set []) vv vw vv2 vw2 there here = absurd (omega (arith, vw2.well.some))
+by_grows are b v w v2 (Set (y ∷ [])) vv vw vv2 vw2 there here = by_one are b v w v2 y vv vw vv2 vw2 there here
+by_grows {shift} are b v w v2 (Set (y ∷ u ∷ ys)) vv vw vv2 vw2 there here = into_all (range_of (by_count shift (low v) (high v) (step v) w)) (by_below are v w vv.well)
+by_grows {shift} are b v w v2 (Span lo last s) vv vw vv2 vw2 there here = into_all (range_of (by_count shift (low v) (high v) (step v) w)) (by_below are v w vv.well)
+
+pub row_grows : (b : Limits) (op : Op) (v w v2 w2 : Val) → IsValue b v → IsValue b w → IsValue b v2 → IsValue b w2 → Within (members v) (members v2) → Within (members w) (members w2)
+    → Within (row op v w) (row op v2 w2)
+unfolding row runs gives_truth
+row_grows b Second v w v2 w2 vv vw vv2 vw2 there here = here
+row_grows b Add v w v2 w2 vv vw vv2 vw2 there here =
+    let n = narrower v v2 vv.well vv2.well there in
+    let m = narrower w w2 vw.well vw2.well here in
+    sums_grow (low v) (high v) (low w) (high w) (min (step v) (step w)) (low v2) (high v2) (low w2) (high w2) (min (step v2) (step w2))
+    (omega (arith, (bounds_of v vv.well).small)) (omega (arith, n.step_in, m.step_in)) (low_high v vv.well) (low_high w vw.well) n.low_in n.high_in m.low_in m.high_in
+    (high_below v2 vv2.well) (high_below w2 vw2.well)
+row_grows b Sub v w v2 w2 vv vw vv2 vw2 there here =
+    let n = narrower v v2 vv.well vv2.well there in
+    let m = narrower w w2 vw.well vw2.well here in
+    differences_grow (low v) (high v) (low w) (high w) (min (step v) (step w)) (low v2) (high v2) (low w2) (high w2) (min (step v2) (step w2))
+    (omega (arith, (bounds_of v vv.well).small)) (omega (arith, n.step_in, m.step_in)) (low_high v vv.well) (low_high w vw.well) n.low_in n.high_in m.low_in m.high_in
+    (high_below v2 vv2.well) (high_below w2 vw2.well)
+row_grows b And v w v2 w2 vv vw vv2 vw2 there here =
+    let n = narrower v v2 vv.well vv2.well there in
+    let m = narrower w w2 vw.well vw2.well here in
+    ands_grow (high v) (high w) (step v) (step w) (high v2) (high w2) (step v2) (step w2) (bounds_of v vv.well).small (bounds_of w vw.well).small n.high_in m.high_in n.step_in m.step_in
+row_grows b Nand v w v2 w2 vv vw vv2 vw2 there here = λ z i. i
+row_grows b Or v w v2 w2 vv vw vv2 vw2 there here = λ z i. i
+row_grows b Nor v w v2 w2 vv vw vv2 vw2 there here = λ z i. i
+row_grows b Xor v w v2 w2 vv vw vv2 vw2 there here = λ z i. i
+row_grows b Xnor v w v2 w2 vv vw vv2 vw2 there here = λ z i. i
+row_grows b Andn v w v2 w2 vv vw vv2 vw2 there here = λ z i. i
+row_grows b Orn v w v2 w2 vv vw vv2 vw2 there here = λ z i. i
+row_grows b Eq v w v2 w2 vv vw vv2 vw2 there here = λ z i. i
+row_grows b Ne v w v2 w2 vv vw vv2 vw2 there here = λ z i. i
+row_grows b Lt v w v2 w2 vv vw vv2 vw2 there here = λ z i. i
+row_grows b LtU v w v2 w2 vv vw vv2 vw2 there here = λ z i. i
+row_grows b Ge v w v2 w2 vv vw vv2 vw2 there here = λ z i. i
+row_grows b GeU v w v2 w2 vv vw vv2 vw2 there here = λ z i. i
+row_grows b Sh v w v2 w2 vv vw vv2 vw2 there here = by_grows logical b v w v2 w2 vv vw vv2 vw2 there here
+row_grows b Sha v w v2 w2 vv vw vv2 vw2 there here = by_grows arithmetic b v w v2 w2 vv vw vv2 vw2 there here
+
+-- the results aren't none
+pub some_results : (op : Op) (v w : Val) → IsWell v → IsWell w → 1 ≤ length (results op v w)
+some_results op v w wv ww =
+    some_length (results op v w) (alu_of op (low v) (low w)) (results_have op v w wv ww (low v) (low w) (bounds_of v wv).low_in (bounds_of w ww).low_in)
+
+pub within_members : (b : Limits) (v w : Val) → IsValue b v → IsValue b w → IsBelow v w → Within (members v) (members w)
+within_members b v w vv vw below z i = among_member w z (has_step w vw.well) (below z (member_among v z (has_step v vv.well) i))
+
+-- where both are Sets, each result is a result of the larger pair
+sets_below : (b : Limits) (op : Op) (xs ys : List ℕ) (v2 w2 : Val) → IsValue b (Set xs) → IsValue b (Set ys) → IsValue b v2 → IsValue b w2
+    → IsBelow (Set xs) v2 → IsBelow (Set ys) w2 → IsBelow (value_of b op (Set xs) (Set ys)) (value_of b op v2 w2)
+unfolding results
+sets_below b op xs ys v2 w2 vv vw vv2 vw2 there here =
+    cover_below b (pairs op xs ys) (results op v2 w2) (some_results op (Set xs) (Set ys) vv.well vw.well) (some_results op v2 w2 vv2.well vw2.well)
+    (λ z i.
+    let r = pairs_among op z xs ys i in
+    subst (λ (n : ℕ). IsMember n (cover b (results op v2 w2))) (sym r.4)
+    (cover_holds b (results op v2 w2) (alu_of op r.0 r.1)
+    (results_have op v2 w2 vv2.well vw2.well r.0 r.1 (within_members b (Set xs) v2 vv vv2 there r.0 r.2) (within_members b (Set ys) w2 vw vw2 here r.1 r.3))))
+
+-- where one is a Span, its larger value is one too
+rows_below : (b : Limits) (op : Op) (v w v2 w2 : Val) → IsValue b v → IsValue b w → IsValue b v2 → IsValue b w2 → IsBelow v v2 → IsBelow w w2
+    → results op v w ≡ row op v w → results op v2 w2 ≡ row op v2 w2 → IsBelow (value_of b op v w) (value_of b op v2 w2)
+rows_below b op v w v2 w2 vv vw vv2 vw2 there here e f =
+    cover_mono b (results op v w) (results op v2 w2) (some_results op v w vv.well vw.well)
+    (rw (e, f) (row_grows b op v w v2 w2 vv vw vv2 vw2 (within_members b v v2 vv vv2 there) (within_members b w w2 vw vw2 here)))
+
+pub monotone : AreMonotone
+unfolding results
+monotone b op (Set xs) (Set ys) v2 w2 limits vv vw vv2 vw2 there here = sets_below b op xs ys v2 w2 vv vw vv2 vw2 there here
+monotone b op (Set xs) (Span lo last s) v2 (Set ys) limits vv vw vv2 vw2 there here = absurd (span_not_below b lo last s ys vw vw2 here)
+monotone b op (Set xs) (Span lo last s) (Set xs2) (Span lo2 last2 s2) limits vv vw vv2 vw2 there here =
+    rows_below b op (Set xs) (Span lo last s) (Set xs2) (Span lo2 last2 s2) vv vw vv2 vw2 there here refl refl
+monotone b op (Set xs) (Span lo last s) (Span l h t) (Span lo2 last2 s2) limits vv vw vv2 vw2 there here =
+    rows_below b op (Set xs) (Span lo last s) (Span l h t) (Span lo2 last2 s2) vv vw vv2 vw2 there here refl refl
+monotone b op (Span lo last s) w (Set xs) w2 limits vv vw vv2 vw2 there here = absurd (span_not_below b lo last s xs vv vv2 there)
+monotone b op (Span lo last s) w (Span lo2 last2 s2) w2 limits vv vw vv2 vw2 there here =
+    rows_below b op (Span lo last s) w (Span lo2 last2 s2) w2 vv vw vv2 vw2 there here refl refl
+
+-- ---- the Rust bodies
+-- the extents of values are their bounds
+pub same_bounds : (e : Extent) (v : Val) → IsWell v → IsExtent (members v) e.least e.greatest e.step → e ≡ bounds v
+same_bounds e v w h =
+    let only = extent_only (members v) h (bounds_of v w) in
+    ap (λ n. record { least = n; greatest = e.greatest; step = e.step }) only.0
+    ∙ ap (λ n. record { least = low v; greatest = n; step = e.step }) only.1
+    ∙ ap (λ n. record { least = low v; greatest = high v; step = n }) only.2
+
+by_count-bounds : (shift : Shifts) (e : Extent) (v w : Val) → e ≡ bounds v → by_count shift e.least e.greatest e.step w ≡ by_count shift (low v) (high v) (step v) w
+by_count-bounds shift e v w same = ap (λ (x : Extent). by_count shift x.least x.greatest x.step w) same
+
+pub row_runs : (op : Op) (v w : Val) (e f : Extent) → (op ≡ Second → ⊥) → gives_truth op ≡ false → e ≡ bounds v → f ≡ bounds w → range_of (runs op e f w) ≡ row op v w
+unfolding row gives_truth
+row_runs Second v w e f n t a c = absurd (n refl)
+row_runs Add v w e f n t a c = rw (a, c) refl
+row_runs Sub v w e f n t a c = rw (a, c) refl
+row_runs And v w e f n t a c = rw (a, c) refl
+row_runs Nand v w e f n t a c = rw (a, c) refl
+row_runs Or v w e f n t a c = rw (a, c) refl
+row_runs Nor v w e f n t a c = rw (a, c) refl
+row_runs Xor v w e f n t a c = rw (a, c) refl
+row_runs Xnor v w e f n t a c = rw (a, c) refl
+row_runs Andn v w e f n t a c = rw (a, c) refl
+row_runs Orn v w e f n t a c = rw (a, c) refl
+row_runs Eq v w e f n t a c = cc
+row_runs Ne v w e f n t a c = cc
+row_runs Lt v w e f n t a c = cc
+row_runs LtU v w e f n t a c = cc
+row_runs Ge v w e f n t a c = cc
+row_runs GeU v w e f n t a c = cc
+row_runs Sh v w e f n t a c = rw (a, c) refl
+row_runs Sha v w e f n t a c = rw (a, c) refl
+
+sums_step : (a b c d m : ℕ) → (sums a b c d m).step ≡ m
+unfolding sums
+sums_step a b c d m =
+    elim (cases_Bool (ltb (b + d) (2 ^ 32))) [
+      | inl t ↦ rw t refl
+      | inr f ↦ rw f (elim (cases_Bool (leb (2 ^ 32) (a + c))) [ inl t ↦ rw t refl | inr g ↦ rw g refl ])
+    ]
+
+differences_step : (a b c d m : ℕ) → (differences a b c d m).step ≡ m
+unfolding differences
+differences_step a b c d m =
+    elim (cases_Bool (leb d a)) [
+      | inl t ↦ rw t refl
+      | inr f ↦ rw f (elim (cases_Bool (ltb b c)) [ inl t ↦ rw t refl | inr g ↦ rw g refl ])
+    ]
+
+by_count_step : {shift : Shifts} {by : ℕ → ℕ → ℕ} (are : AreShifts shift by) (a b p : ℕ) (w : Val) → (by_count shift a b p w).step ≤ 2
+by_count_step are a b p (Set []) = omega arith
+by_count_step are a b p (Set (y ∷ [])) = are.small a b p (y % 64)
+by_count_step are a b p (Set (x ∷ y ∷ ys)) = omega arith
+by_count_step are a b p (Span lo last s) = omega arith
+
+pub runs_step : (op : Op) (e f : Extent) (w : Val) → e.step ≤ 2 → f.step ≤ 2 → (runs op e f w).step ≤ 2
+unfolding runs
+runs_step Add e f w a b = omega (arith, sums_step e.least e.greatest f.least f.greatest (min e.step f.step))
+runs_step Sub e f w a b = omega (arith, differences_step e.least e.greatest f.least f.greatest (min e.step f.step))
+runs_step And e f w a b = omega arith
+runs_step Sh e f w a b = by_count_step logical e.least e.greatest e.step w
+runs_step Sha e f w a b = by_count_step arithmetic e.least e.greatest e.step w
+runs_step Second e f w a b = omega arith
+runs_step Nand e f w a b = omega arith
+runs_step Or e f w a b = omega arith
+runs_step Nor e f w a b = omega arith
+runs_step Xor e f w a b = omega arith
+runs_step Xnor e f w a b = omega arith
+runs_step Andn e f w a b = omega arith
+runs_step Orn e f w a b = omega arith
+runs_step Eq e f w a b = omega arith
+runs_step Ne e f w a b = omega arith
+runs_step Lt e f w a b = omega arith
+runs_step LtU e f w a b = omega arith
+runs_step Ge e f w a b = omega arith
+runs_step GeU e f w a b = omega arith
+
+-- a run that a row covers isn't empty
+pub run_some : (r : Run) (op : Op) (v w : Val) → IsWell v → IsWell w → range_of r ≡ row op v w → 1 ≤ count_in r.first r.last r.step
+run_some r op v w wv ww e =
+    let i = row_has op v w wv ww (low v) (low w) (bounds_of v wv).low_in (bounds_of w ww).low_in in
+    let j : Among (alu_of op (low v) (low w)) (range_of r) = rw e i in
+    omega (arith, some_length (range_of r) (alu_of op (low v) (low w)) j, length-multiples (count_in r.first r.last r.step) (first_in r.first r.step) (2 ^ r.step))
+
+pub row-Second : (b : Limits) (v w : Val) → IsValue b w → w ≡ cover b (row Second v w)
+unfolding row
+row-Second b v w value = sym value.own
+
+pub row-truth : (b : Limits) (op : Op) (v w : Val) → (op ≡ Second → ⊥) → gives_truth op ≡ true → cover b (0 ∷ 1 ∷ []) ≡ cover b (row op v w)
+unfolding row gives_truth
+row-truth b Second v w n t = absurd (n refl)
+row-truth b Add v w n t = cc
+row-truth b Sub v w n t = cc
+row-truth b And v w n t = cc
+row-truth b Nand v w n t = cc
+row-truth b Or v w n t = cc
+row-truth b Nor v w n t = cc
+row-truth b Xor v w n t = cc
+row-truth b Xnor v w n t = cc
+row-truth b Andn v w n t = cc
+row-truth b Orn v w n t = cc
+row-truth b Eq v w n t = refl
+row-truth b Ne v w n t = refl
+row-truth b Lt v w n t = refl
+row-truth b LtU v w n t = refl
+row-truth b Ge v w n t = refl
+row-truth b GeU v w n t = refl
+row-truth b Sh v w n t = cc
+row-truth b Sha v w n t = cc
+
+map_at : (op : Op) (x i : ℕ) (ys : List ℕ) → i < length ys → get_or (map (alu_of op x) ys) i 0 ≡ alu_of op x (get_or ys i 0)
+map_at op x i [] h = absurd (omega arith)
+map_at op x zero (y ∷ ys) h = refl
+map_at op x (suc i) (y ∷ ys) h = map_at op x i ys (omega arith)
+
+map_length : (op : Op) (x : ℕ) (ys : List ℕ) → length (map (alu_of op x) ys) ≡ length ys
+map_length op x [] = refl
+map_length op x (y ∷ ys) = ap suc (map_length op x ys)
+
+-- the results of one word with many
+pub results_more : (b : Limits) (v out : Val) (op : Op) (x i : ℕ) (ys : List ℕ) → IsWell v → i < length ys
+    → out ≡ cover b (members v ++ take i (map (alu_of op x) ys)) → cover b (alu_of op x (get_or ys i 0) ∷ members out) ≡ cover b (members v ++ take (i + 1) (map (alu_of op x) ys))
+results_more b v out op x i ys well h e =
+    let at : get_or (map (alu_of op x) ys) i 0 ≡ alu_of op x (get_or ys i 0) = map_at op x i ys h in
+    let more = words_more b v out (map (alu_of op x) ys) i well (omega (arith, map_length op x ys)) e in
+    rw (at) at more
+
+-- the results of many words with many
+pairs-push : (op : Op) (x : ℕ) (xs ys : List ℕ) → pairs op (xs ++ x ∷ []) ys ≡ pairs op xs ys ++ map (alu_of op x) ys
+unfolding pairs
+pairs-push op x [] ys = append-nil (map (alu_of op x) ys)
+pairs-push op x (w ∷ xs) ys = ap (λ (l : List ℕ). map (alu_of op w) ys ++ l) (pairs-push op x xs ys) ∙ sym (append_assoc (map (alu_of op w) ys) (pairs op xs ys) (map (alu_of op x) ys))
+
+pub pairs_more : (b : Limits) (out : Val) (op : Op) (first i : ℕ) (xs ys : List ℕ) → i < length xs → out ≡ cover b (first ∷ pairs op (take i xs) ys)
+    → cover b (members out ++ map (alu_of op (get_or xs i 0)) ys) ≡ cover b (first ∷ pairs op (take (i + 1) xs) ys)
+pairs_more b out op first i xs ys h e =
+    ap (λ (o : Val). cover b (members o ++ map (alu_of op (get_or xs i 0)) ys)) e
+    ∙ cover-part b (first ∷ pairs op (take i xs) ys) (map (alu_of op (get_or xs i 0)) ys) (omega arith)
+    ∙ ap (λ (l : List ℕ). cover b (first ∷ l)) (sym (pairs-push op (get_or xs i 0) (take i xs) ys) ∙ ap (λ (l : List ℕ). pairs op l ys) (sym (take_more xs i 0 h)))
+
+pub pairs_first : (b : Limits) (op : Op) (xs ys : List ℕ) → 1 ≤ length xs → 1 ≤ length ys
+    → cover b (alu_of op (get_or xs 0 0) (get_or ys 0 0) ∷ pairs op xs ys) ≡ cover b (pairs op xs ys)
+pairs_first b op xs ys some_x some_y =
+    cover-same b (alu_of op (get_or xs 0 0) (get_or ys 0 0) ∷ pairs op xs ys) (pairs op xs ys)
+    (λ z i. elim i [
+      | inl e ↦ subst (λ (n : ℕ). Among n (pairs op xs ys)) (sym e) (pairs_have op (get_or xs 0 0) (get_or ys 0 0) xs ys (among_get xs 0 some_x) (among_get ys 0 some_y))
+      | inr j ↦ j
+    ])
+    (λ z i. inr i)
+
+pub pairs-none : (op : Op) (x : ℕ) (ys : List ℕ) → x ∷ [] ≡ x ∷ pairs op [] ys
+unfolding pairs
+pairs-none op x ys = refl
+
+pub shift_fits : (a b n : ℕ) → a ≤ b → b * 2 ^ n % 2 ^ 64 < 2 ^ 32 → b * 2 ^ n < 2 ^ 64 → a * 2 ^ n % 2 ^ 64 < 2 ^ 32
+shift_fits a b n le small fits = let m : a * 2 ^ n ≤ b * 2 ^ n = mul-le-mul_right (2 ^ n) le in omega arith
+
+pub shift_whole : (b n : ℕ) → b < 2 ^ 32 → n < 32 → b * 2 ^ n < 2 ^ 64
+shift_whole b n h k = omega (arith, shl_below b 32 n h, pow_mono {i = 32 + n} {j = 64} (omega arith))

@@ -1,0 +1,76 @@
+-- The registers of a state.
+use Rattle.std.proofs.Common.{◌≡◌, ℕ, zero, suc, ◌+◌, ◌^◌, ◌<◌, inl, inr, true, cond, IsTrue, List, [], ◌∷◌, length, refl, sym, ap, ◌∙◌, arith, get_or, Option, Some, None, ltb, eqb, ◌++◌, take, set}
+use Rattle.std.proofs.lemmas.List.{take_more, take_more_set}
+use Rattle.std.specs.List.{list_all}
+use Rattle.std.proofs.lemmas.Bool.{cases_lt, cases_Bool, and_parts, ltb-true}
+use Rattle.std.proofs.Math.ListN.{get_or-eq_default}
+use Rattle.tcd_plan.specs.PlanData.{PlanData}
+use Rattle.value_domain.specs.declared.values.Val.{Val}
+use Rattle.value_domain.specs.declared.states.State.{State}
+use Rattle.value_domain.specs.Limits.{Limits, AreLimits}
+use Rattle.value_domain.specs.Values.{IsValue, any_val}
+use Rattle.value_domain.specs.State.{AreValues}
+use Rattle.value_domain.proofs.RangeLaws.{one_value, any_value}
+use Rattle.vd_transfer.specs.Effects.{forgotten_from, is_lower_slot}
+use Rattle.vd_transfer.specs.Registers.{slot, reg_of, value_at, fixed_of, global_of}
+
+-- the plan's words are words
+abbrev pub AreGlobals : PlanData → Type 0
+AreGlobals p = IsTrue (list_all (λ w. ltb w (2 ^ 32)) p.globals)
+
+word_at : (ws : List ℕ) (i : ℕ) → list_all (λ w. ltb w (2 ^ 32)) ws ≡ true → get_or ws i 0 < 2 ^ 32
+word_at [] i h = omega arith
+word_at (w ∷ ws) zero h = ltb-true _ _ (and_parts (ltb w (2 ^ 32)) (list_all (λ w. ltb w (2 ^ 32)) ws) h).0
+word_at (w ∷ ws) (suc i) h = word_at ws i (and_parts (ltb w (2 ^ 32)) (list_all (λ w. ltb w (2 ^ 32)) ws) h).1
+
+pub global_small : (p : PlanData) (r : ℕ) → AreGlobals p → global_of p r < 2 ^ 32
+global_small p r h = word_at p.globals _ h
+
+pub fixed_is_value : (b : Limits) (p : PlanData) (r : ℕ) → AreLimits b → AreGlobals p → IsValue b (fixed_of p r)
+fixed_is_value b p r limits globals =
+    elim (cases_Bool (eqb r 27)) [
+      | inl t ↦ rw t (any_value b limits)
+      | inr f ↦ rw f (one_value b (global_of p r) limits (global_small p r globals))
+    ]
+
+pub at_is_value : (b : Limits) (vs : List Val) (i : ℕ) → AreLimits b → AreValues b vs → IsValue b (get_or vs i any_val)
+at_is_value b vs i limits values =
+    elim (cases_lt i (length vs)) [
+      | inl h ↦ values i h
+      | inr h ↦ rw (get_or-eq_default vs any_val h) (any_value b limits)
+    ]
+
+value_at_is_value : (b : Limits) (p : PlanData) (s : State) (r : ℕ) (o : Option ℕ) → AreLimits b → AreGlobals p → AreValues b s.regs → IsValue b (value_at p s r o)
+value_at_is_value b p s r (Some i) limits globals values = at_is_value b s.regs i limits values
+value_at_is_value b p s r None limits globals values = fixed_is_value b p r limits globals
+
+pub reg_is_value : (b : Limits) (p : PlanData) (s : State) (r : ℕ) → AreLimits b → AreGlobals p → AreValues b s.regs → IsValue b (reg_of p s r)
+reg_is_value b p s r limits globals values = value_at_is_value b p s r (slot r) limits globals values
+
+-- ---- values that are forgotten
+pub length-forgotten : (k : ℕ) (vs : List Val) → length (forgotten_from k vs) ≡ length vs
+unfolding forgotten_from
+length-forgotten k [] = refl
+length-forgotten k (v ∷ vs) = ap suc (length-forgotten (k + 1) vs)
+
+pub get_or-forgotten : (k : ℕ) (vs : List Val) (i : ℕ) (d : Val) → i < length vs → get_or (forgotten_from k vs) i d ≡ cond (is_lower_slot (k + i)) any_val (get_or vs i d)
+unfolding forgotten_from
+get_or-forgotten k [] i d h = absurd (omega arith)
+get_or-forgotten k (v ∷ vs) zero d h = let e : k ≡ k + zero = omega arith in ap (λ n. cond (is_lower_slot n) any_val v) e
+get_or-forgotten k (v ∷ vs) (suc i) d h = let e : k + 1 + i ≡ k + suc i = omega arith in get_or-forgotten (k + 1) vs i d (omega arith) ∙ ap (λ n. cond (is_lower_slot n) any_val (get_or vs i d)) e
+
+-- one value more
+pub forgotten_more : (vs out : List Val) (i : ℕ) (v : Val) → i < length vs → i < length out → v ≡ cond (is_lower_slot i) any_val (get_or vs i any_val) → take i out ≡ take i (forgotten_from 0 vs)
+    → take (i + 1) (set out i v) ≡ take (i + 1) (forgotten_from 0 vs)
+forgotten_more vs out i v h k e inv =
+    let at : i ≡ 0 + i = omega arith in
+    take_more_set out i v k
+    ∙ ap (λ (l : List Val). l ++ v ∷ []) inv
+    ∙ ap (λ (u : Val). take i (forgotten_from 0 vs) ++ u ∷ []) (e ∙ ap (λ n. cond (is_lower_slot n) any_val (get_or vs i any_val)) at ∙ sym (get_or-forgotten 0 vs i any_val h))
+    ∙ sym (take_more (forgotten_from 0 vs) i any_val (omega (arith, length-forgotten 0 vs)))
+
+pub forgotten_values : (b : Limits) (vs : List Val) → AreLimits b → AreValues b vs → AreValues b (forgotten_from 0 vs)
+forgotten_values b vs limits values r h =
+    let k : r < length vs = omega (arith, length-forgotten 0 vs) in
+    rw (get_or-forgotten 0 vs r any_val k)
+    (elim (cases_Bool (is_lower_slot (0 + r))) [ inl t ↦ rw t (any_value b limits) | inr f ↦ rw f (values r k) ])

@@ -1,0 +1,156 @@
+-- Conditions as relations.
+use Rattle.std.proofs.Common.{◌≡◌, ℕ, inl, inr, Bool, true, false, not, List, [], ◌∷◌, refl, sym, ap, ◌∙◌, arith, Some, None, leb, ltb, eqb, eq-eqb}
+use Rattle.std.specs.List.{filter, list_any}
+use Rattle.std.proofs.lemmas.Bool.{cases_lt, cases_Bool, lt-ltb, le-ltb, le-leb, lt-leb, eqb-true, eqb-false, ne_eqb}
+use Rattle.tc_isa.specs.declared.shapes.Cond.{Cond}
+use Rattle.tc_isa.specs.declared.shapes.Cond.TheVariants as cond
+use Rattle.tc_isa.specs.Arithmetic.{taken_of, signed_place}
+use Rattle.value_domain.specs.declared.values.Val.{Val}
+use Rattle.value_domain.specs.Limits.{Limits}
+use Rattle.value_domain.specs.Values.{IsValue, members}
+use Rattle.value_domain.proofs.RangeLaws.{some_members}
+use Rattle.vd_transfer.specs.declared.refinement.Rel.{Rel}
+use Rattle.vd_transfer.specs.declared.refinement.Rel.TheVariants.{Same, Other, Less, AtLeast, More, AtMost}
+use Rattle.vd_transfer.specs.Intervals.{related, kept_by}
+use Rattle.vd_transfer.specs.Refinement.{holds, kept_left, kept_right, kept_both, cover_some}
+use Rattle.vd_transfer.specs.Relations.{relation_of, is_signed, converse, self_holds}
+use Rattle.vd_transfer.specs.Signs.{kept_signed}
+use Rattle.vd_transfer.proofs.Meets.{cover_some-some}
+
+not_ltb : (x y : ℕ) → not (ltb x y) ≡ leb y x
+not_ltb x y = elim (cases_lt x y) [ inl h ↦ rw (lt-ltb x y h, lt-leb y x h) refl | inr h ↦ rw (le-ltb x y h, le-leb y x h) refl ]
+
+not_leb : (x y : ℕ) → not (leb x y) ≡ ltb y x
+not_leb x y = elim (cases_lt y x) [ inl h ↦ rw (lt-leb x y h, lt-ltb y x h) refl | inr h ↦ rw (le-leb x y h, le-ltb y x h) refl ]
+
+not_not : (b : Bool) → not (not b) ≡ b
+not_not true = refl
+not_not false = refl
+
+eqb_swapped : (x y : ℕ) → eqb y x ≡ eqb x y
+eqb_swapped x y =
+    elim (cases_Bool (eqb x y)) [
+      | inl same ↦ rw same (eq-eqb y x (sym (eqb-true x y same)))
+      | inr other ↦ rw other (ne_eqb y x (λ e. eqb-false x y other (sym e)))
+    ]
+
+-- the relation of a condition's side
+pub related_holds : (c : Cond) (side : Bool) (x y : ℕ) → is_signed c ≡ false → related (relation_of c side) x y ≡ holds c side x y
+unfolding related relation_of is_signed taken_of
+related_holds cond.Eq true x y e = refl
+related_holds cond.Eq false x y e = refl
+related_holds cond.Ne true x y e = refl
+related_holds cond.Ne false x y e = sym (not_not (eqb x y))
+related_holds cond.Lt side x y e = cc
+related_holds cond.LtU true x y e = refl
+related_holds cond.LtU false x y e = sym (not_ltb x y)
+related_holds cond.Ge side x y e = cc
+related_holds cond.GeU true x y e = refl
+related_holds cond.GeU false x y e = sym (not_leb y x)
+
+-- the same in the signed order
+pub related_signed : (c : Cond) (side : Bool) (x y : ℕ) → is_signed c ≡ true → related (relation_of c side) (signed_place x) (signed_place y) ≡ holds c side x y
+unfolding related relation_of is_signed taken_of
+related_signed cond.Eq side x y e = cc
+related_signed cond.Ne side x y e = cc
+related_signed cond.Lt true x y e = refl
+related_signed cond.Lt false x y e = sym (not_ltb (signed_place x) (signed_place y))
+related_signed cond.LtU side x y e = cc
+related_signed cond.Ge true x y e = refl
+related_signed cond.Ge false x y e = sym (not_leb (signed_place y) (signed_place x))
+related_signed cond.GeU side x y e = cc
+
+pub converse_related : (rel : Rel) (x y : ℕ) → related (converse rel) y x ≡ related rel x y
+unfolding related converse
+converse_related Same x y = eqb_swapped x y
+converse_related Other x y = ap not (eqb_swapped x y)
+converse_related Less x y = refl
+converse_related AtLeast x y = refl
+converse_related More x y = refl
+converse_related AtMost x y = refl
+
+-- a signed condition isn't equality
+pub signed_order : (c : Cond) (side : Bool) → is_signed c ≡ true → relation_of c side ≡ Same → ⊥
+unfolding relation_of is_signed
+signed_order cond.Eq side e f = absurd (let g : false ≡ true = e in cc)
+signed_order cond.Ne side e f = absurd (let g : false ≡ true = e in cc)
+signed_order cond.Lt true e f = cc
+signed_order cond.Lt false e f = cc
+signed_order cond.LtU side e f = absurd (let g : false ≡ true = e in cc)
+signed_order cond.Ge true e f = cc
+signed_order cond.Ge false e f = cc
+signed_order cond.GeU side e f = absurd (let g : false ≡ true = e in cc)
+
+pub converse_order : (rel : Rel) → (rel ≡ Same → ⊥) → converse rel ≡ Same → ⊥
+unfolding converse
+converse_order Same n f = n refl
+converse_order Other n f = cc
+converse_order Less n f = cc
+converse_order AtLeast n f = cc
+converse_order More n f = cc
+converse_order AtMost n f = cc
+
+-- ---- tests that are alike
+any_same : (p q : ℕ → Bool) (ws : List ℕ) → ((y : ℕ) → p y ≡ q y) → list_any p ws ≡ list_any q ws
+any_same p q [] h = refl
+any_same p q (w ∷ ws) h = rw (h w, any_same p q ws h) refl
+
+filter_same : (p q : ℕ → Bool) (vs : List ℕ) → ((x : ℕ) → p x ≡ q x) → filter p vs ≡ filter q vs
+filter_same p q [] h = refl
+filter_same p q (v ∷ vs) h = rw (h v, filter_same p q vs h) refl
+
+pub left_plain : (c : Cond) (side : Bool) (vs ws : List ℕ) → is_signed c ≡ false → kept_by (relation_of c side) vs ws ≡ kept_left c side vs ws
+unfolding kept_by kept_left
+left_plain c side vs ws e = filter_same _ _ vs (λ x. any_same _ _ ws (λ y. related_holds c side x y e))
+
+pub left_signed : (c : Cond) (side : Bool) (vs ws : List ℕ) → is_signed c ≡ true → kept_signed (relation_of c side) vs ws ≡ kept_left c side vs ws
+unfolding kept_signed kept_left
+left_signed c side vs ws e = filter_same _ _ vs (λ x. any_same _ _ ws (λ y. related_signed c side x y e))
+
+pub right_plain : (c : Cond) (side : Bool) (vs ws : List ℕ) → is_signed c ≡ false → kept_by (converse (relation_of c side)) ws vs ≡ kept_right c side vs ws
+unfolding kept_by kept_right
+right_plain c side vs ws e = filter_same _ _ ws (λ y. any_same _ _ vs (λ x. converse_related (relation_of c side) x y ∙ related_holds c side x y e))
+
+pub right_signed : (c : Cond) (side : Bool) (vs ws : List ℕ) → is_signed c ≡ true → kept_signed (converse (relation_of c side)) ws vs ≡ kept_right c side vs ws
+unfolding kept_signed kept_right
+right_signed c side vs ws e = filter_same _ _ ws (λ y. any_same _ _ vs (λ x. converse_related (relation_of c side) (signed_place x) (signed_place y) ∙ related_signed c side x y e))
+
+-- ---- one register twice
+ltb_self : (z : ℕ) → ltb z z ≡ false
+ltb_self z = le-ltb z z (omega arith)
+
+leb_self : (z : ℕ) → leb z z ≡ true
+leb_self z = le-leb z z (omega arith)
+
+pub self_is : (c : Cond) (side : Bool) (z : ℕ) → holds c side z z ≡ self_holds c side
+unfolding self_holds taken_of
+self_is cond.Eq true z = eq-eqb z z refl
+self_is cond.Eq false z = ap not (eq-eqb z z refl)
+self_is cond.Ne true z = ap not (eq-eqb z z refl)
+self_is cond.Ne false z = ap (λ b. not (not b)) (eq-eqb z z refl)
+self_is cond.Lt true z = ltb_self (signed_place z)
+self_is cond.Lt false z = ap not (ltb_self (signed_place z))
+self_is cond.LtU true z = ltb_self z
+self_is cond.LtU false z = ap not (ltb_self z)
+self_is cond.Ge true z = leb_self (signed_place z)
+self_is cond.Ge false z = ap not (leb_self (signed_place z))
+self_is cond.GeU true z = leb_self z
+self_is cond.GeU false z = ap not (leb_self z)
+
+filter_all : (p : ℕ → Bool) (zs : List ℕ) → ((z : ℕ) → p z ≡ true) → filter p zs ≡ zs
+filter_all p [] h = refl
+filter_all p (z ∷ zs) h = rw (h z) (ap (λ (l : List ℕ). z ∷ l) (filter_all p zs h))
+
+filter_none : (p : ℕ → Bool) (zs : List ℕ) → ((z : ℕ) → p z ≡ false) → filter p zs ≡ []
+filter_none p [] h = refl
+filter_none p (z ∷ zs) h = rw (h z) (filter_none p zs h)
+
+pub both_all : (b : Limits) (c : Cond) (side : Bool) (v : Val) → IsValue b v → self_holds c side ≡ true → Some v ≡ cover_some b (kept_both c side (members v))
+unfolding kept_both
+both_all b c side v value e =
+    let all : filter (λ z. holds c side z z) (members v) ≡ members v = filter_all (λ z. holds c side z z) (members v) (λ z. self_is c side z ∙ e) in
+    ap (λ (u : Val). Some u) (sym value.own) ∙ cover_some-some b (members v) (some_members v value.well) ∙ ap (cover_some b) (sym all)
+
+pub both_none : (b : Limits) (c : Cond) (side : Bool) (v : Val) → self_holds c side ≡ false → None ≡ cover_some b (kept_both c side (members v))
+unfolding kept_both
+both_none b c side v e = ap (cover_some b) (sym (filter_none (λ z. holds c side z z) (members v) (λ z. self_is c side z ∙ e)))

@@ -1,0 +1,116 @@
+-- The value of an operation is one of the plan and the version.
+use Rattle.std.proofs.Common.{◌≡◌, ℕ, ◌+◌, ◌%◌, ◌^◌, ◌<◌, ◌≤◌, inl, inr, Bool, true, false, not, [], ◌∷◌, sym, arith, min, max, subst, bit_and, bit_or, bit_xor, ltb, leb, eqb}
+use Rattle.std.proofs.lemmas.Bool.{cases_lt, lt-ltb, le-ltb, le-leb, lt-leb}
+use Rattle.std.proofs.lemmas.Nat.{or_of_32, xor_of_32}
+use Rattle.tc_isa.specs.declared.shapes.Op.{Op}
+use Rattle.tc_isa.specs.declared.shapes.Op.TheVariants.{Second, Add, Sub, And, Nand, Or, Nor, Xor, Xnor, Andn, Orn, Eq, Ne, Lt, LtU, Ge, GeU, Sh, Sha}
+use Rattle.tc_isa.specs.Arithmetic.{alu_of, complement, one_if, signed_place}
+use Rattle.value_domain.specs.declared.values.Val.{Val}
+use Rattle.value_domain.specs.declared.values.Val.TheVariants.{Set, Span}
+use Rattle.value_domain.specs.Sets.{Among}
+use Rattle.value_domain.specs.Limits.{Limits, AreLimits}
+use Rattle.value_domain.specs.Values.{IsWell, IsValue}
+use Rattle.value_domain.proofs.CoverLaws.{range_among, cover_least}
+use Rattle.value_domain.proofs.RangeLaws.{members_below}
+use Rattle.vd_transfer.specs.Operations.{results, row, runs, bounds, gives_truth, sums, differences, value_of, range_of, whole, run, low, high, step}
+use Rattle.vd_transfer.specs.declared.runs.Run.{Run}
+use Rattle.vd_transfer.proofs.OpLaws.{logical, arithmetic, complement_below, and_below, pairs_among, some_results, runs_step, bounds_of, high_below, by_below}
+
+truth_below : (b : Bool) → one_if b < 2 ^ 32
+truth_below true = omega arith
+truth_below false = omega arith
+
+-- the result on words is a word
+pub alu_below : (op : Op) (x y : ℕ) → x < 2 ^ 32 → y < 2 ^ 32 → alu_of op x y < 2 ^ 32
+unfolding alu_of
+alu_below Second x y h k = k
+alu_below Add x y h k = omega arith
+alu_below Sub x y h k = omega arith
+alu_below And x y h k = and_below x y h
+alu_below Nand x y h k = complement_below (bit_and x y)
+alu_below Or x y h k = or_of_32 x y h k
+alu_below Nor x y h k = complement_below (bit_or x y)
+alu_below Xor x y h k = xor_of_32 x y h k
+alu_below Xnor x y h k = complement_below (bit_xor x y)
+alu_below Andn x y h k = and_below x (complement y) h
+alu_below Orn x y h k = or_of_32 x (complement y) h (complement_below y)
+alu_below Eq x y h k = truth_below (eqb x y)
+alu_below Ne x y h k = truth_below (not (eqb x y))
+alu_below Lt x y h k = truth_below (ltb (signed_place x) (signed_place y))
+alu_below LtU x y h k = truth_below (ltb x y)
+alu_below Ge x y h k = truth_below (leb (signed_place y) (signed_place x))
+alu_below GeU x y h k = truth_below (leb y x)
+alu_below Sh x y h k = logical.word x (y % 64) h
+alu_below Sha x y h k = arithmetic.word x (y % 64) h
+
+sums_last : (a b c d m : ℕ) → b < 2 ^ 32 → d < 2 ^ 32 → (sums a b c d m).last < 2 ^ 32
+unfolding sums
+sums_last a b c d m h k =
+    elim (cases_lt (b + d) (2 ^ 32)) [
+      | inl fit ↦ rw (lt-ltb (b + d) (2 ^ 32) fit) fit
+      | inr past ↦ rw (le-ltb (b + d) (2 ^ 32) past) (elim (cases_lt (a + c) (2 ^ 32)) [
+        | inl some ↦ rw (lt-leb (2 ^ 32) (a + c) some) (omega arith)
+        | inr all ↦ rw (le-leb (2 ^ 32) (a + c) all) (omega arith)
+      ])
+    ]
+
+differences_last : (a b c d m : ℕ) → b < 2 ^ 32 → (differences a b c d m).last < 2 ^ 32
+unfolding differences
+differences_last a b c d m h =
+    elim (cases_lt a d) [
+      | inr fit ↦ rw (le-leb d a fit) (omega arith)
+      | inl past ↦ rw (lt-leb d a past) (elim (cases_lt b c) [
+        | inl all ↦ rw (lt-ltb b c all) (omega arith)
+        | inr some ↦ rw (le-ltb b c some) (omega arith)
+      ])
+    ]
+
+-- the words of a run whose last is a word
+run_below : (r : Run) (z : ℕ) → r.step ≤ 2 → r.last < 2 ^ 32 → Among z (range_of r) → z < 2 ^ 32
+run_below r z small last i = let m = range_among z r.first r.last r.step small i in omega (arith, m.1)
+
+all_words : (z : ℕ) → Among z (range_of (whole 0)) → z < 2 ^ 32
+all_words z i = run_below (whole 0) z (omega arith) (omega arith) i
+
+bit_word : (z : ℕ) → Among z (0 ∷ 1 ∷ []) → z < 2 ^ 32
+bit_word z i = elim i [ inl e ↦ let f : z ≡ 0 = e in omega arith | inr j ↦ elim j [ inl e ↦ let f : z ≡ 1 = e in omega arith | inr n ↦ absurd n ] ]
+
+-- the words of a row are words
+row_below : (op : Op) (v w : Val) → IsWell v → IsWell w → (z : ℕ) → Among z (row op v w) → z < 2 ^ 32
+unfolding row runs gives_truth
+row_below Second v w wv ww z i = members_below w ww z i
+row_below Add v w wv ww z i =
+    run_below (sums (low v) (high v) (low w) (high w) (min (step v) (step w))) z (runs_step Add (bounds v) (bounds w) w (bounds_of v wv).small (bounds_of w ww).small)
+    (sums_last (low v) (high v) (low w) (high w) (min (step v) (step w)) (high_below v wv) (high_below w ww)) i
+row_below Sub v w wv ww z i =
+    run_below (differences (low v) (high v) (low w) (high w) (min (step v) (step w))) z (runs_step Sub (bounds v) (bounds w) w (bounds_of v wv).small (bounds_of w ww).small)
+    (differences_last (low v) (high v) (low w) (high w) (min (step v) (step w)) (high_below v wv)) i
+row_below And v w wv ww z i =
+    run_below (run 0 (min (high v) (high w)) (max (step v) (step w))) z (runs_step And (bounds v) (bounds w) w (bounds_of v wv).small (bounds_of w ww).small) (omega (arith, high_below v wv)) i
+row_below Nand v w wv ww z i = all_words z i
+row_below Or v w wv ww z i = all_words z i
+row_below Nor v w wv ww z i = all_words z i
+row_below Xor v w wv ww z i = all_words z i
+row_below Xnor v w wv ww z i = all_words z i
+row_below Andn v w wv ww z i = all_words z i
+row_below Orn v w wv ww z i = all_words z i
+row_below Eq v w wv ww z i = bit_word z i
+row_below Ne v w wv ww z i = bit_word z i
+row_below Lt v w wv ww z i = bit_word z i
+row_below LtU v w wv ww z i = bit_word z i
+row_below Ge v w wv ww z i = bit_word z i
+row_below GeU v w wv ww z i = bit_word z i
+row_below Sh v w wv ww z i = by_below logical v w wv z i
+row_below Sha v w wv ww z i = by_below arithmetic v w wv z i
+
+pub results_below : (op : Op) (v w : Val) → IsWell v → IsWell w → (z : ℕ) → Among z (results op v w) → z < 2 ^ 32
+unfolding results
+results_below op (Set xs) (Set ys) wv ww z i =
+    let r = pairs_among op z xs ys i in subst (λ (n : ℕ). n < 2 ^ 32) (sym r.4) (alu_below op r.0 r.1 (wv.below r.0 r.2) (ww.below r.1 r.3))
+results_below op (Set xs) (Span lo last s) wv ww z i = row_below op (Set xs) (Span lo last s) wv ww z i
+results_below op (Span lo last s) w wv ww z i = row_below op (Span lo last s) w wv ww z i
+
+-- the value of an operation is a value
+pub value_of_value : (b : Limits) (op : Op) (v w : Val) → AreLimits b → IsValue b v → IsValue b w → IsValue b (value_of b op v w)
+value_of_value b op v w limits vv vw =
+    (cover_least b (results op v w) limits (record { some = some_results op v w vv.well vw.well; below = results_below op v w vv.well vw.well })).value

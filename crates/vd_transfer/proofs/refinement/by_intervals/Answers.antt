@@ -1,0 +1,16 @@
+use Rattle.std.proofs.Common.{◌∙◌}
+use Rattle.std.specs.List.{filter}
+use Rattle.value_domain.specs.Values.{members}
+use Rattle.value_domain.proofs.RangeLaws.{members_below}
+use Rattle.vd_transfer.specs.Refinement.{in_span}
+use Rattle.vd_transfer.proofs.Meets.{kept_intervals}
+use Rattle.vd_transfer.proofs.refinement.by_intervals.Goals as goal
+
+pub returns-clause-kept : goal.returns-clause-kept
+returns-clause-kept c =
+    let i = c.reached.result.0 in
+    let j = c.reached.result.1 in
+    let vs = members c.args.v.now in
+    c.join_some.ensures.both (filter (in_span c.reached.result.0.lo c.reached.result.0.last 0) vs) (filter (in_span c.reached.result.1.lo c.reached.result.1.last 0) vs) c.meet-here.ensures.meet c.meet-there.ensures.meet
+    ∙ kept_intervals c.args.b.now c.args.rel vs (members c.args.w.now) i j c.extent_of-e.result.least c.extent_of-e.result.greatest c.extent_of-e.result.step
+    c.requires.order c.extent_of-e.ensures (members_below c.args.v.now c.requires.left.well) c.reached.ensures

@@ -1,0 +1,55 @@
+-- What a branch does to a state on each of its sides.
+use Rattle.std.specs.Prelude.{ℕ, Bool, false, ◌==◌, if◌then◌else◌, Option, Some, None}
+use Rattle.tcd_plan.specs.PlanData.{PlanData}
+use Rattle.tc_isa.specs.declared.shapes.Op.TheVariants.{Sub}
+use Rattle.tc_isa.specs.declared.shapes.Cond.{Cond}
+use Rattle.tc_isa.specs.declared.shapes.Arg.{Arg}
+use Rattle.tc_isa.specs.declared.shapes.Arg.TheVariants.{Reg, Word}
+use Rattle.tc_isa.specs.declared.shapes.Shape.{Shape}
+use Rattle.tc_isa.specs.declared.shapes.Shape.TheVariants.{Branch}
+use Rattle.value_domain.specs.declared.values.Val.{Val}
+use Rattle.value_domain.specs.declared.states.State.{State}
+use Rattle.value_domain.specs.Values.{members}
+use Rattle.value_domain.specs.Limits.{Limits}
+use Rattle.vd_transfer.specs.Operations.{value_of}
+use Rattle.vd_transfer.specs.Refinement.{cover_some, kept_left, kept_right, kept_both}
+use Rattle.vd_transfer.specs.Registers.{reg_of, arg_of, set_reg, write_reg, word_val}
+
+-- the operand is this register
+abbrev pub is_reg : ℕ → Arg → Bool
+is_reg x (Reg y) = x == y
+is_reg x (Word w) = false
+
+abbrev pub set_arg : State → Arg → Val → State
+set_arg s (Reg r) v = set_reg s r v
+set_arg s (Word w) v = s
+
+-- the register takes what is left of its value, if anything is
+abbrev pub with_one : State → ℕ → Option Val → Option State
+with_one s x None = None
+with_one s x (Some z) = Some (set_reg s x z)
+
+-- both operands do
+abbrev pub with_two : State → ℕ → Arg → Option Val → Option Val → Option State
+with_two s x y None w = None
+with_two s x y (Some v) None = None
+with_two s x y (Some v) (Some w) = Some (set_arg (set_reg s x v) y w)
+
+-- the state on a side of the condition, if the side is possible
+abbrev pub refined : Limits → PlanData → Cond → ℕ → Arg → State → Bool → Option State
+refined b p cond x y s side =
+    if is_reg x y
+    then with_one s x (cover_some b (kept_both cond side (members (reg_of p s x))))
+    else with_two s x y
+    (cover_some b (kept_left cond side (members (reg_of p s x)) (members (arg_of p s y))))
+    (cover_some b (kept_right cond side (members (reg_of p s x)) (members (arg_of p s y))))
+
+-- a loop lowers its register by 1, on both sides
+abbrev pub lowered : Limits → PlanData → ℕ → Bool → Option State → Option State
+lowered b p x lowers None = None
+lowered b p x lowers (Some s) = Some (if lowers then write_reg s x (value_of b Sub (reg_of p s x) (word_val 1)) else s)
+
+-- the state on a side of a branch, if the side is possible
+unfoldable pub refine_of : Limits → PlanData → Shape → State → Bool → Option State
+refine_of b p (Branch cond x y by lowers) s side = lowered b p x lowers (refined b p cond x y s side)
+refine_of b p _ s side = None

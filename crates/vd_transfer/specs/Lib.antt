@@ -1,0 +1,11 @@
+pub mod Branches
+pub mod Effects
+pub mod Holding
+pub mod Intervals
+pub mod Laws
+pub mod Operations
+pub mod Refinement
+pub mod Registers
+pub mod Relations
+pub mod Signs
+pub mod Soundness

@@ -1,0 +1,60 @@
+-- The registers of a state: D0..D15, A2..A7, A10 and A12..A15 have a value each; A0, A1, A8 and A9 are the plan's, and
+-- A11 is any. Registers are numbered 0 to 15 for D and 16 to 31 for A.
+use Rattle.std.specs.Prelude.{◌-◌, ℕ, Bool, not, ◌&&◌, ◌||◌, ◌==◌, nat_lt, nat_le, if◌then◌else◌, [], ◌∷◌, Option, Some, None, slice_index, slice_index_or, slice_set}
+use Rattle.tcd_plan.specs.PlanData.{PlanData}
+use Rattle.tc_isa.specs.declared.shapes.Arg.{Arg}
+use Rattle.tc_isa.specs.declared.shapes.Arg.TheVariants.{Reg, Word}
+use Rattle.value_domain.specs.declared.values.Val.{Val}
+use Rattle.value_domain.specs.declared.values.Val.TheVariants.{Set}
+use Rattle.value_domain.specs.declared.states.State.{State}
+use Rattle.value_domain.specs.Values.{any_val}
+
+-- where a state has the value of a register
+unfoldable pub slot : ℕ → Option ℕ
+slot r =
+    if nat_lt r 16 then Some r
+    else if nat_le 18 r && nat_le r 23 then Some (r - 2)
+    else if r == 26 then Some 22
+    else if nat_le 28 r && nat_le r 31 then Some (r - 5)
+    else None
+
+-- a constant
+abbrev pub word_val : ℕ → Val
+word_val w = Set (w ∷ [])
+
+-- the plan's word of A0, A1, A8 or A9
+abbrev pub global_of : PlanData → ℕ → ℕ
+global_of p r = slice_index p.globals (if r == 16 then 0 else if r == 17 then 1 else if r == 24 then 2 else 3)
+
+-- the value of a register that a state has none for
+abbrev pub fixed_of : PlanData → ℕ → Val
+fixed_of p r = if r == 27 then any_val else word_val (global_of p r)
+
+abbrev pub value_at : PlanData → State → ℕ → Option ℕ → Val
+value_at p s r (Some i) = slice_index_or s.regs i any_val
+value_at p s r None = fixed_of p r
+
+-- the value of a register
+abbrev pub reg_of : PlanData → State → ℕ → Val
+reg_of p s r = value_at p s r (slot r)
+
+-- the value of an operand
+abbrev pub arg_of : PlanData → State → Arg → Val
+arg_of p s (Reg r) = reg_of p s r
+arg_of p s (Word w) = word_val w
+
+abbrev pub set_at : State → Val → Option ℕ → State
+set_at s v (Some i) = record s { regs = slice_set s.regs i v }
+set_at s v None = s
+
+-- the state with a register's value, where it has one
+abbrev pub set_reg : State → ℕ → Val → State
+set_reg s r v = set_at s v (slot r)
+
+-- the lower registers, which a lower context holds: D0..D7 and A2..A7
+abbrev pub is_lower : ℕ → Bool
+is_lower r = nat_lt r 8 || (nat_le 18 r && nat_le r 23)
+
+-- the state after an instruction wrote a register
+abbrev pub write_reg : State → ℕ → Val → State
+write_reg s r v = record (set_reg s r v) { lower = s.lower && not (is_lower r) }

@@ -1,0 +1,57 @@
+-- What instructions do to words of registers lies in what they do to a state: the statements of the laws.
+use Rattle.std.specs.Prelude.{◌≡◌, ◌<◌, ◌^◌, ℕ, Bool, false, length, IsSomeAnd}
+use Rattle.tcd_plan.specs.PlanData.{PlanData, IsPlan}
+use Rattle.tc_isa.specs.declared.shapes.Arg.{Arg}
+use Rattle.tc_isa.specs.declared.shapes.Cond.{Cond}
+use Rattle.tc_isa.specs.declared.shapes.Shape.{Shape}
+use Rattle.tc_isa.specs.declared.shapes.Shape.TheVariants.{Load, Store, Branch}
+use Rattle.tc_isa.specs.Arithmetic.{taken_of}
+use Rattle.tc_isa.specs.Bounded.{IsShape, IsArg}
+use Rattle.value_domain.specs.declared.values.Val.{Val}
+use Rattle.value_domain.specs.declared.states.State.{State}
+use Rattle.value_domain.specs.Limits.{Limits, AreLimits}
+use Rattle.value_domain.specs.Values.{IsMember}
+use Rattle.value_domain.specs.State.{AreValues}
+use Rattle.vd_transfer.specs.Registers.{is_lower}
+use Rattle.vd_transfer.specs.Effects.{transfer_of, address_of, restored_lower}
+use Rattle.vd_transfer.specs.Branches.{refine_of}
+use Rattle.vd_transfer.specs.Holding.{Holds, word_of, access_word, words_after, ie_after, ccpn_after, WritesValues, StaysPlain, ReadsMember}
+
+-- limits, a plan, and a state whose 27 registers have values
+pub record IsSetting (b : Limits) (p : PlanData) (s : State) : Type 0 where
+  pub limits : AreLimits b
+  pub plan : IsPlan p
+  pub regs : length s.regs ≡ 27
+  pub values : AreValues b s.regs
+
+-- after an instruction that restores nothing the words lie in its state
+abbrev pub TransferHolds : Type 0
+TransferHolds =
+    (b : Limits) (p : PlanData) (shape : Shape) (s : State) (loaded : Val) (word : ℕ → ℕ) (ie : Bool) (ccpn input : ℕ) → IsSetting b p s
+    → IsShape shape → WritesValues shape → StaysPlain shape → input < 2 ^ 32 → ReadsMember shape input loaded → Holds p word ie ccpn s
+    → Holds p (words_after shape input word) (ie_after shape ie) (ccpn_after shape ccpn) (transfer_of b p shape s loaded)
+
+-- after a lower context was restored, whatever words it had
+abbrev pub RestoreHolds : Type 0
+RestoreHolds =
+    (p : PlanData) (s : State) (word word2 : ℕ → ℕ) (ie : Bool) (ccpn : ℕ) → length s.regs ≡ 27 → ((r : ℕ) → r < 32 → word2 r < 2 ^ 32)
+    → ((r : ℕ) → r < 32 → is_lower r ≡ false → word2 r ≡ word r) → Holds p word ie ccpn s → Holds p word2 ie ccpn (restored_lower s)
+
+-- the side that a branch takes is possible, and the words lie in its state
+abbrev pub BranchHolds : Type 0
+BranchHolds =
+    (b : Limits) (p : PlanData) (cond : Cond) (x : ℕ) (y : Arg) (by : ℕ) (lowers : Bool) (s : State) (side : Bool) (word : ℕ → ℕ) (ie : Bool) (ccpn : ℕ)
+    → IsSetting b p s → IsShape (Branch cond x y by lowers) → WritesValues (Branch cond x y by lowers) → Holds p word ie ccpn s
+    → taken_of cond (word x) (word_of word y) ≡ side
+    → IsSomeAnd (refine_of b p (Branch cond x y by lowers) s side) (Holds p (words_after (Branch cond x y by lowers) 0 word) ie ccpn)
+
+-- the address of an access is one of its addresses
+pub record AddressHolds : Type 0 where
+  pub load :
+      (b : Limits) (p : PlanData) (dst : ℕ) (base : Arg) (offset size : ℕ) (signed after : Bool) (s : State) (word : ℕ → ℕ) (ie : Bool) (ccpn : ℕ)
+      → IsSetting b p s → IsArg base → offset < 2 ^ 32 → Holds p word ie ccpn s
+      → IsMember (access_word word base offset after) (address_of b p (Load dst base offset size signed after) s)
+  pub store :
+      (b : Limits) (p : PlanData) (src : ℕ) (base : Arg) (offset size : ℕ) (after : Bool) (s : State) (word : ℕ → ℕ) (ie : Bool) (ccpn : ℕ)
+      → IsSetting b p s → IsArg base → offset < 2 ^ 32 → Holds p word ie ccpn s
+      → IsMember (access_word word base offset after) (address_of b p (Store src base offset size after) s)

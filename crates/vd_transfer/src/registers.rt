@@ -1,0 +1,122 @@
+// The registers of a state.
+ghost use Rattle.std.specs.Prelude.{◌≡◌, ◌<◌, ◌≤◌, IfSome};
+ghost use Rattle.value_domain.specs.Values.{IsValue};
+ghost use Rattle.value_domain.specs.State.{AreValues};
+ghost use Rattle.tc_isa.specs.Bounded.{IsArg};
+ghost use Rattle.vd_transfer.specs.Registers.{slot, reg_of, arg_of, fixed_of, set_reg, write_reg, is_lower, word_val};
+
+use tc_isa::Arg;
+use tcd_plan::Plan;
+use value_domain::{Bounds, State, Val};
+
+/// Where a state has the value of a register.
+#[tactic(auto, unfolding(crate::specs::Registers::slot))]
+fn slot_of(r: u8) -> Option<usize>
+    ensures slot { result ≡ slot r }
+    ensures within { IfSome result (λ i. i < 27) }
+{
+    if r < 16 {
+        Some(r as usize)
+    } else if 18 <= r && r <= 23 {
+        Some(r as usize - 2)
+    } else if r == 26 {
+        Some(22)
+    } else if 28 <= r && r <= 31 {
+        Some(r as usize - 5)
+    } else {
+        None
+    }
+}
+
+/// The value of a register: the state's, or the plan's for A0, A1, A8 and A9; A11 is any.
+pub fn reg(plan: &Plan, s: &State, r: u8) -> Val
+    requires { r < 32 }
+    ensures { result ≡ reg_of plan.now s.now r }
+{
+    match slot_of(r) {
+        Some(i) => s.regs[i].copy(),
+        None => fixed(plan, r),
+    }
+}
+
+fn fixed(plan: &Plan, r: u8) -> Val
+    ensures { result ≡ fixed_of plan.now r }
+{
+    if r == 27 {
+        return Val::any();
+    }
+    let i = if r == 16 {
+        0
+    } else if r == 17 {
+        1
+    } else if r == 24 {
+        2
+    } else {
+        3
+    };
+    Val::one(plan.globals[i])
+}
+
+/// The value of a register, which is one of the plan and the version.
+pub(crate) fn reg_value(b: &Bounds, plan: &Plan, s: &State, r: u8) -> Val
+    requires register { r < 32 }
+    requires values { AreValues b.now s.now.regs }
+    ensures reg { result ≡ reg_of plan.now s.now r }
+    ensures value { IsValue b.now result }
+{
+    let _width = b.width();
+    let _globals = &plan.globals;
+    reg(plan, s, r)
+}
+
+/// A constant.
+pub(crate) fn constant(b: &Bounds, w: u32) -> Val
+    ensures word { result ≡ word_val w }
+    ensures value { IsValue b.now result }
+{
+    let _width = b.width();
+    Val::one(w)
+}
+
+/// The value of an operand.
+pub(crate) fn arg(b: &Bounds, plan: &Plan, s: &State, a: Arg) -> Val
+    requires operand { IsArg a }
+    requires values { AreValues b.now s.now.regs }
+    ensures arg { result ≡ arg_of plan.now s.now a }
+    ensures value { IsValue b.now result }
+{
+    match a {
+        Arg::Reg(r) => reg_value(b, plan, s, r),
+        Arg::Word(w) => constant(b, w),
+    }
+}
+
+/// Gives a register a value, where the state has one for it.
+pub(crate) fn set(b: &Bounds, s: &mut State, r: u8, v: Val)
+    requires values { AreValues b.now s.old.regs }
+    requires value { IsValue b.now v }
+    ensures set { s.new ≡ set_reg s.old r v }
+    ensures values { AreValues b.now s.new.regs }
+{
+    if let Some(i) = slot_of(r) {
+        s.regs[i] = v;
+    }
+}
+
+fn is_lower(r: u8) -> bool
+    ensures { result ≡ is_lower r }
+{
+    r < 8 || 18 <= r && r <= 23
+}
+
+/// Writes a register: after a lower one the lower registers aren't those of the frame's entry.
+pub(crate) fn write(b: &Bounds, s: &mut State, r: u8, v: Val)
+    requires values { AreValues b.now s.old.regs }
+    requires value { IsValue b.now v }
+    ensures write { s.new ≡ write_reg s.old r v }
+    ensures values { AreValues b.now s.new.regs }
+{
+    set(b, s, r, v);
+    let kept = !is_lower(r);
+    s.lower = s.lower && kept;
+}
