@@ -1,6 +1,6 @@
 -- The laws of decoding.
 use Rattle.std.proofs.Common.{◌≡◌, ◌⊎◌, inl, inr, ◌-◌, ◌≤◌, min, ℕ, zero, suc, Bool, true, false, List, [], ◌∷◌, ◌++◌, length, take, drop, refl, sym, ap, subst, ◌∙◌, arith, Option, Some, None, Result, Ok, Err, length-append, length-drop, length-take, zero-add}
-use Rattle.std.specs.Prelude.{slice_get, if◌then◌else◌}
+use Rattle.std.specs.Prelude.{slice_get, if◌then◌else◌, IfOk}
 use Rattle.std.specs.List.{list_any}
 use Rattle.std.proofs.lemmas.Bool.{cases_Bool, cond-true, cond-false, both_ways, or_cases, or_left, or_right, false_from_ne_true}
 use Rattle.std.proofs.lemmas.List.{take_all, take-append-drop, append-nil, length-take-le}
@@ -228,3 +228,12 @@ none_is_prefix bytes more i j p q =
 
 pub spelling_laws : SpellingLaws
 spelling_laws = record { one = none_spells_two; apart = none_is_prefix }
+
+-- how many bytes an answer has
+pub sized : (xs : List ℕ) (r : Result (InstData × ℕ) DecodeErr) → r ≡ decoded_of xs → IfOk r (λ p. (2 ≤ p.1) × (p.1 ≤ 4) × (p.1 ≤ length xs))
+sized xs (Ok p) e = let h = lengths_are_right xs p.0 p.1 (sym e) in (at_least p.1 h.2, h.1, h.0)
+  where
+    at_least : (n : ℕ) → (n ≡ 2) ⊎ (n ≡ 4) → 2 ≤ n
+    at_least n (inl e) = omega arith
+    at_least n (inr e) = omega arith
+sized xs (Err e) is = tt

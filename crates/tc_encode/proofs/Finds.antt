@@ -1,10 +1,12 @@
 -- Instructions that have a word, and where they stand.
-use Rattle.std.proofs.Common.{◌≡◌, ◌+◌, ◌%◌, ◌<◌, ◌≤◌, ℕ, zero, suc, true, List, [], ◌∷◌, length, get_or, sym, ap, subst, ◌∙◌, arith, Option, Some, None, zero-add, ◌==◌, ◌^◌, false, refl, inl, inr}
+use Rattle.std.proofs.Common.{Bool, ◌≡◌, ◌+◌, ◌%◌, ◌<◌, ◌≤◌, ℕ, zero, suc, true, List, [], ◌∷◌, length, get_or, sym, ap, subst, ◌∙◌, arith, Option, Some, None, zero-add, ◌==◌, ◌^◌, false, refl, inl, inr, map, ◌||◌}
 use Rattle.std.specs.Prelude.{slice_get, nat_le, IfNone}
 use Rattle.std.specs.List.{list_all}
-use Rattle.std.proofs.lemmas.Bool.{and_parts, ltb-true, leb-true, eqb-true, eqb-false, cases_eq}
-use Rattle.std.proofs.lemmas.Option.{slice_get-get_or}
+use Rattle.std.proofs.lemmas.Bool.{and_parts, ltb-true, leb-true, eqb-true, eqb-false, cases_eq, and_from, eq-eqb}
+use Rattle.std.proofs.lemmas.Option.{slice_get-get_or, slice_get_within, get_or_from_slice_get}
 use Rattle.std.proofs.lemmas.List.Sums.{AllPass-from_list_all}
+use Rattle.std.proofs.lemmas.List.{get_or-map}
+use Rattle.tc_isa.specs.declared.fields.Uses.{Uses}
 use Rattle.tc_isa.specs.declared.fields.Fields.{Fields}
 use Rattle.tc_isa.specs.declared.table.Form.{Form}
 use Rattle.tc_isa.specs.Rows.{RowData, listed}
@@ -13,7 +15,7 @@ use Rattle.tc_isa.specs.Codec.{Fits, word_of, uses_of, rest_is_zero, is_apart}
 use Rattle.tc_isa.specs.Insts.{InstData, IsInst, fields_in}
 use Rattle.tc_isa.proofs.TableFacts.{row_at}
 use Rattle.tc_encode.specs.Decoding.{instruction}
-use Rattle.tc_encode.specs.Finding.{Makes, is_between, has_form, hold_all, is_at, is_place, hold_places, has_no_gap}
+use Rattle.tc_encode.specs.Finding.{Makes, is_between, has_form, hold_all, is_at, is_place, hold_places, has_no_gap, names_all, names_or_lacks}
 use Rattle.tc_encode.proofs.Gaps.{fields_below, word_back, full_word}
 use Rattle.tc_encode.proofs.Inverse.{first-word, second-word}
 use Rattle.tc_encode.proofs.Only.{only}
@@ -170,13 +172,39 @@ row_between starts ends first place r all ls le small at is =
     (ap (slice_get starts) is ∙ slice_get-get_or starts first 0 (omega (arith, ls)))
     (ap (slice_get ends) is ∙ slice_get-get_or ends first 0 (omega (arith, le)))
 
-pub place_only : (bases places : List ℕ) (w a b : ℕ) (form : Form) (i : InstData) (m : Makes w i) → hold_places bases places 0 listed ≡ true → length bases ≡ 256 → a ≡ get_or bases (w % 256) 0 → b ≡ second_of form w → form_index m.inst.row.form ≡ form_index form → slice_get places (a + b) ≡ Some i.row
-place_only bases places w a b form i m all count is_a is_b index =
-    let second : b ≡ m.inst.row.op2 = is_b ∙ second_is i.row w m.inst.row form i m.inst.at m refl index in
-    ap (λ x. slice_get places (x + b)) is_a ∙ ap (λ y. slice_get places (get_or bases (w % 256) 0 + y)) second ∙ stands_past bases places w i m all count
-
 pub none_some : (x : ℕ) → None ≡ Some x → ⊥
 none_some x e = cc
 
 pub same_some : (x y : ℕ) → Some x ≡ Some y → x ≡ y
 same_some x y e = cc
+
+-- the row of two codes stands where the index has it
+pub place_has : (bases places : List ℕ) (first a b place : ℕ) (r : RowData) → hold_places bases places 0 listed ≡ true → length bases ≡ 256 → first < 256 → a ≡ get_or bases first 0 → slice_get listed place ≡ Some r → r.op1 ≡ first → r.op2 ≡ b → slice_get places (a + b) ≡ Some place
+place_has bases places first a b place r all count small is_a at is_first is_b =
+    ap (λ x. slice_get places (x + b)) is_a ∙ ap (λ y. slice_get places (get_or bases first 0 + y)) (sym is_b)
+    ∙ at_from places place r (slice_get bases r.op1) (get_or bases first 0)
+    (subst (λ p. is_at places p r (slice_get bases r.op1) ≡ true) (zero-add place) (held_at bases places 0 listed place r all at))
+    (ap (slice_get bases) is_first ∙ slice_get-get_or bases first 0 (omega (arith, count)))
+
+-- a row that names all fields of its form leaves none to be 0
+one_plain : (u : Bool) (x b : ℕ) → (u || b == 1) ≡ true → x < b → (u || x == 0) ≡ true
+one_plain true x b e low = refl
+one_plain false x b e low = let one : b ≡ 1 = eqb-true b 1 e in eq-eqb x 0 (omega arith)
+
+pub plain_zero : (u : Uses) (f b : Fields) → names_or_lacks u b ≡ true → IsBelow f b → rest_is_zero u f ≡ true
+plain_zero u f b e low =
+    let p = and_parts _ _ e in let q = and_parts _ _ p.0 in let r = and_parts _ _ q.0 in let s = and_parts _ _ r.0 in
+    and_from _ _ (and_from _ _ (and_from _ _ (and_from _ _
+    (one_plain u.c f.c b.c s.0 low.c) (one_plain u.s1 f.s1 b.s1 s.1 low.s1)) (one_plain u.s2 f.s2 b.s2 r.1 low.s2)) (one_plain u.n f.n b.n q.1 low.n)) (one_plain u.k f.k b.k p.1 low.k)
+
+-- and the list of such rows tells it of a row at its place
+pub plain_at : (plain : List Bool) (place : ℕ) (d : Bool) (r : RowData) → plain ≡ map names_all listed → slice_get listed place ≡ Some r → get_or plain place d ≡ names_all r
+plain_at plain place d r are at =
+    ap (λ bs. get_or bs place d) are ∙ get_or-map names_all listed place r d (slice_get_within listed place r at) ∙ ap names_all (get_or_from_slice_get listed place r r at)
+
+pub second_at : (form : Form) (place first second w : ℕ) (r : RowData) → ((place : ℕ) (r : RowData) → slice_get listed place ≡ Some r → r.op1 ≡ first → form_index r.form ≡ form_index form) → second ≡ second_of form w → slice_get listed place ≡ Some r → r.op1 ≡ first → second ≡ second_of r.form w
+second_at form place first second w r forms is at one = is ∙ ap (λ f. second_of f w) (sym (same_form r.form form (forms place r at one)))
+
+pub uses_at : (uses : List Uses) (place : ℕ) (d : Uses) (r : RowData) → uses ≡ map uses_of listed → slice_get listed place ≡ Some r → get_or uses place d ≡ uses_of r
+uses_at uses place d r are at =
+    ap (λ us. get_or us place d) are ∙ get_or-map uses_of listed place r d (slice_get_within listed place r at) ∙ ap uses_of (get_or_from_slice_get listed place r r at)

@@ -1,10 +1,12 @@
 -- How an instruction is found: by its word, and by the front of a word.
-use Rattle.std.specs.Prelude.{◌≡◌, ◌+◌, ◌*◌, ◌/◌, ◌%◌, ◌^◌, ◌<◌, ℕ, zero, suc, Bool, true, false, ◌==◌, ◌&&◌, nat_lt, nat_le, List, [], ◌∷◌, Option, Some, None, slice_get}
+use Rattle.std.specs.Prelude.{◌≡◌, ◌+◌, ◌*◌, ◌/◌, ◌%◌, ◌^◌, ◌<◌, ℕ, zero, suc, Bool, true, false, ◌==◌, ◌&&◌, ◌||◌, nat_lt, nat_le, List, [], ◌∷◌, Option, Some, None, slice_get}
 use Rattle.tc_isa.specs.declared.table.Form.{Form}
 use Rattle.tc_isa.specs.declared.table.Form.TheVariants.{Rlc, Rr, Rc, Bol, Bo, Brr, Brc, B, Abs, Sys, Sr, Sc, Sb, Sbr, Src, Srr, Slr, Ssr}
 use Rattle.tc_isa.specs.Rows.{RowData, listed}
-use Rattle.tc_isa.specs.Words.{form_index}
-use Rattle.tc_isa.specs.Codec.{word_of}
+use Rattle.tc_isa.specs.declared.fields.Fields.{Fields}
+use Rattle.tc_isa.specs.declared.fields.Uses.{Uses}
+use Rattle.tc_isa.specs.Words.{form_index, bounds}
+use Rattle.tc_isa.specs.Codec.{word_of, uses_of}
 use Rattle.tc_isa.specs.Insts.{InstData, IsInst, fields_in}
 use Rattle.tc_encode.specs.Decoding.{size_of}
 
@@ -68,6 +70,14 @@ is_at places place r (Some base) = is_place place (slice_get places (base + r.op
 abbrev pub hold_places : List ℕ → List ℕ → ℕ → List RowData → Bool
 hold_places bases places place [] = true
 hold_places bases places place (r ∷ rs) = is_at places place r (slice_get bases r.op1) && hold_places bases places (suc place) rs
+
+-- each field is named or is 0 in the form
+abbrev pub names_or_lacks : Uses → Fields → Bool
+names_or_lacks u b = (u.c || b.c == 1) && (u.s1 || b.s1 == 1) && (u.s2 || b.s2 == 1) && (u.n || b.n == 1) && (u.k || b.k == 1)
+
+-- the row names all fields that its form has
+abbrev pub names_all : RowData → Bool
+names_all r = names_or_lacks (uses_of r) (bounds r.form)
 
 -- the bits that a form has for no field are 0
 unfoldable pub has_no_gap : Form → ℕ → Bool

@@ -1,5 +1,5 @@
 // The instruction that bytes begin with.
-ghost use Rattle.std.specs.Prelude.{◌≡◌, ◌↔◌, Ok, ◌<◌, ◌≤◌, ◌%◌, ◌^◌, ℕ, List, [], ◌∷◌, length, Err, All, slice_index};
+ghost use Rattle.std.specs.Prelude.{◌≡◌, ◌↔◌, Ok, ◌<◌, ◌≤◌, ◌%◌, ◌^◌, ℕ, List, [], ◌∷◌, length, Err, All, slice_index, IfOk};
 ghost use Rattle.tc_isa.specs.Insts.{InstData};
 ghost use Rattle.tc_isa.specs.Spelling.{Begins, IsFront};
 ghost use Rattle.tc_encode.specs.Decoding.{decoded_of, need_of, number_of};
@@ -50,6 +50,7 @@ fn front(first: u8, n: u8, part: u32) -> DecodeErr
 /// proper prefix of a listed spelling and none begins them; NotListed exactly where neither holds.
 pub fn decode(bytes: &[u8]) -> Result<(Inst, usize), DecodeErr>
     ensures decoded { result ≡ decoded_of bytes.now }
+    ensures size { IfOk result (λ p. (2 ≤ p.1) × (p.1 ≤ 4) × (p.1 ≤ length bytes.now)) }
 
     // The same by the relation of bytes and instructions: each answer comes exactly where it says.
     ensures ok { (i : InstData) (n : ℕ) → (result ≡ Ok (i, n)) ↔ Begins bytes.now i n }

@@ -6,6 +6,7 @@ use tc_isa::{Fields, Form};
 
 /// The fields of a word.
 #[tactic(auto, unfolding(tc_isa::specs::Words::fields_of))]
+#[inline(always)]
 pub fn split(form: Form, w: u32) -> Fields
     requires { w < 2 ^ 32 }
     ensures { result ≡ fields_of form w }

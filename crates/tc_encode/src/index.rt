@@ -1,8 +1,8 @@
 // Between which places the rows of a first byte stand.
-ghost use Rattle.std.specs.Prelude.{◌≡◌, length, true, nat_le};
+ghost use Rattle.std.specs.Prelude.{◌≡◌, length, map, true, nat_le};
 ghost use Rattle.std.specs.List.{list_all};
 ghost use Rattle.tc_isa.specs.Rows.{listed};
-ghost use Rattle.tc_encode.specs.Finding.{hold_all, hold_places};
+ghost use Rattle.tc_encode.specs.Finding.{hold_all, hold_places, names_all};
 
 // By the first byte, the place of the first row that begins with it.
 static STARTS: [u8; 256] = [
@@ -84,4 +84,26 @@ pub fn codes() -> (&'static [u16; 256], &'static [u8; 410])
     ensures within { list_all (λ n. nat_le n 141) result.1.now ≡ true }
 {
     (&BASES, &PLACES)
+}
+
+// Whether a row names all fields of its form, by its place.
+static PLAIN: [bool; 142] = [
+    true, true, true, false, false, false, false, false, false, false, false, false, false, false,
+    false, false, false, false, false, false, false, false, false, false, false, false, false,
+    false, true, true, true, true, true, true, true, true, true, true, true, true, true, false,
+    false, false, false, false, false, true, false, false, false, true, true, true, true, true,
+    true, true, true, true, true, true, true, true, true, true, true, true, true, true, true, true,
+    true, true, true, true, true, true, true, true, true, true, true, true, true, true, true, true,
+    true, true, true, true, true, true, true, true, true, true, false, false, false, true, true,
+    true, true, true, true, true, true, true, true, false, false, false, true, true, true, true,
+    true, true, true, true, true, true, true, true, true, true, true, true, true, true, true, true,
+    true, true, true, true, true, true, true, true,
+];
+
+/// Whether each row names all fields of its form, in the order of the rows.
+#[tactic(auto, unfolding(tc_isa::specs::Words::bounds))]
+pub fn plain_rows() -> &'static [bool; 142]
+    ensures { result.now ≡ map names_all listed }
+{
+    &PLAIN
 }
