@@ -111,9 +111,15 @@ mod tests {
         files.write(rt.alloc(), "tcd_adapter_test", b"areas")?;
         let bytes = files.read(rt.alloc(), "tcd_adapter_test", 5)?;
         assert_eq!(rt; bytes.as_slice(), b"areas".as_slice());
-        assert_eq!(rt; files.read(rt.alloc(), "tcd_adapter_test", 4).err(), Some(FileErr::TooLong));
+        assert_eq!(rt;
+            files.read(rt.alloc(), "tcd_adapter_test", 4).err(),
+            Some(FileErr::TooLong)
+        );
         assert_eq!(rt; files.failed, 0);
-        assert_eq!(rt; files.read(rt.alloc(), "tcd_missing_test", 5).err(), Some(FileErr::Failed));
+        assert_eq!(rt;
+            files.read(rt.alloc(), "tcd_missing_test", 5).err(),
+            Some(FileErr::Failed)
+        );
         assert_eq!(rt; files.failed, 1);
         Ok(())
     }
