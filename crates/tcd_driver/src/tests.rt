@@ -118,3 +118,42 @@ fn words_of_no_command_are_bad(rt: HostRuntime) -> Result<(), Fail> {
     assert_eq!(rt; out.text(), b"bad words\n".as_slice());
     Ok(())
 }
+
+// A plan, and the line that refuses it.
+struct Refusal {
+    plan: &'static str,
+    line: &'static str,
+}
+
+static REFUSALS: [Refusal; 4] = [
+    Refusal {
+        plan: "{\"rom\":[{\"at\":\"0x80000000\",\"len\":\"0x1000\"}],\"ram\":[{\"at\":\"0xD0008000\",\"len\":\"0x1000\"}],\"devices\":[],\"csa\":{\"at\":\"0xD0000000\",\"areas\":4,\"reserve\":2},\"isp\":\"0xD0008800\",\"biv\":\"0x80000400\",\"btv\":\"0x80000100\",\"irqs\":[],\"traps\":[],\"start\":{\"ie\":0,\"ccpn\":0,\"is\":0},\"globals\":{\"a0\":0,\"a1\":0,\"a8\":0,\"a9\":0}}",
+        line: "bad plan 2 key sp\n",
+    },
+    Refusal {
+        plan: "{\"rom\":[{\"at\":\"0x80000000\",\"len\":\"0x1000\"}],\"ram\":[{\"at\":\"0xD0008000\",\"len\":\"0x1000\"}],\"devices\":[],\"csa\":{\"at\":\"0xD0008000\",\"areas\":4,\"reserve\":2},\"sp\":\"0xD0009000\",\"isp\":\"0xD0008800\",\"biv\":\"0x80000400\",\"btv\":\"0x80000100\",\"irqs\":[],\"traps\":[],\"start\":{\"ie\":0,\"ccpn\":0,\"is\":0},\"globals\":{\"a0\":0,\"a1\":0,\"a8\":0,\"a9\":0}}",
+        line: "bad plan 8 at 1 2\n",
+    },
+    Refusal {
+        plan: "{\"rom\":[{\"at\":\"0x80000000\",\"len\":\"0x1000\"}],\"ram\":[{\"at\":\"0xD0008000\",\"len\":\"0x1000\"}],\"devices\":[],\"csa\":{\"at\":\"0xD0000000\",\"areas\":4,\"reserve\":0},\"sp\":\"0xD0009000\",\"isp\":\"0xD0008800\",\"biv\":\"0x80000400\",\"btv\":\"0x80000100\",\"irqs\":[],\"traps\":[],\"start\":{\"ie\":0,\"ccpn\":0,\"is\":0},\"globals\":{\"a0\":0,\"a1\":0,\"a8\":0,\"a9\":0}}",
+        line: "bad plan 6\n",
+    },
+    Refusal {
+        plan: "[]",
+        line: "bad plan 1\n",
+    },
+];
+
+#[test]
+fn files_of_other_forms_are_named(rt: HostRuntime) -> Result<(), Fail> {
+    let alloc = rt.alloc();
+    let (status, text) = checked(alloc, &IMAGE[..51], PLAN.as_bytes(), &CERT)?;
+    assert_eq!(rt; status, Status::BadInput);
+    assert_eq!(rt; text.as_slice(), b"bad elf 1\n".as_slice());
+    for row in &REFUSALS {
+        let (status, text) = checked(alloc, &IMAGE, row.plan.as_bytes(), &CERT)?;
+        assert_eq!(rt; status, Status::BadInput);
+        assert_eq!(rt; text.as_slice(), row.line.as_bytes());
+    }
+    Ok(())
+}

@@ -9,7 +9,7 @@ use Rattle.tc_machine.proofs.filling.filled.Goals as goal
 pub returns : goal.returns
 returns c =
     let zeros : IsZeros (mapped_ranges_of c.args.rom.now c.args.ram.now c.args.at c.args.n) c.in_ok-mem.mem =
-    subst (λ rs. IsZeros rs c.in_ok-mem.mem) (c.deref.ensures.value ∙ c.in_ok-ranges.ensures) c.in_ok-mem.ensures in
+    subst (λ rs. IsZeros rs c.in_ok-mem.mem) (c.deref.ensures.value ∙ c.in_ok-ranges.ensures) c.in_ok-mem.ensures.zeros in
     record {
       zeros = c.in_ok-mem.mem;
       are_zeros = zeros;
