@@ -1,0 +1,7 @@
+pub mod Accepting
+pub mod Code
+pub mod Duties
+pub mod Entries
+pub mod Flows
+pub mod Moves
+pub mod Own

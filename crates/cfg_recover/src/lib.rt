@@ -1,0 +1,6 @@
+//! The duties of a certificate's points.
+#![tactic(auto)]
+
+mod flows;
+
+pub use flows::{Enter, Flow, Jump, Leave};
