@@ -1,5 +1,5 @@
 -- What reading an input comes to.
-use Rattle.std.specs.Prelude.{◌≡◌, ◌≢◌, ◌≤◌, ◌-◌, ℕ, List, Bool, false, IsTrue, Option, Ok, Err}
+use Rattle.std.specs.Prelude.{◌≡◌, ◌≢◌, ◌≤◌, ◌-◌, ℕ, List, [], Bool, IsTrue, Option, Ok, Err}
 use Rattle.elf_image.specs.Images.{ImageData}
 use Rattle.elf_image.specs.Elf.{image_of}
 use Rattle.elf_image.specs.declared.errors.ImageErr.{ImageErr}
@@ -8,33 +8,42 @@ use Rattle.tcd_plan.specs.Plans.{Gives, Answers}
 use Rattle.tcd_plan.specs.declared.plans.PlanErr.{PlanErr}
 use Rattle.tcd_plan.specs.declared.plans.PlanErr.TheVariants as plan
 use Rattle.tc_machine.specs.Safe.{Safe}
-use Rattle.tcd_base.specs.Files.{Map, Rose, Holds, IsTooLong}
-use Rattle.tcd_driver.specs.Calls.{NodeData, Accepts, start_of, need_of}
-use Rattle.tcd_driver.specs.CallBytes.{SpellsCert}
-use Rattle.tcd_driver.specs.Lines.{elf_line, plan_line, not_built_plan_line, not_built_cert_line, not_built_code_line, refused_line, certified_line}
-use Rattle.tcd_driver.specs.Failures.{Fails, HasOther}
-use Rattle.tcd_driver.specs.Tool.{Names, Says, is_bare, is_in_key}
+use Rattle.tcd_base.specs.declared.parts.FormErr.{FormErr}
+use Rattle.tcd_base.specs.Files.{Map, Rose, IsTooLong}
+use Rattle.depth_cert.specs.Certs.{CertData}
+use Rattle.depth_cert.specs.Grammar.{certificate_of}
+use Rattle.depth_cert.specs.declared.keys.Key.{Key}
+use Rattle.cfg_recover.specs.Accepting.{Accepts, IsFirstFault, certified_need}
+use Rattle.tc_machine.specs.declared.state.Machine.{Machine}
+use Rattle.tc_machine.specs.Starting.{StartsInZeros}
+use Rattle.tc_script.specs.ScriptData.{ScriptData}
+use Rattle.tc_script.specs.Reading.{script_of}
+use Rattle.tc_script.specs.declared.errors.ScriptErr.{ScriptErr}
+use Rattle.tcd_driver.specs.Commands.{Command}
+use Rattle.tcd_driver.specs.Lines.{elf_line, plan_line, cert_line, script_line, refused_line, certified_line}
+use Rattle.tcd_driver.specs.Running.{told_run}
+use Rattle.tcd_driver.specs.Tool.{Says, HoldsAll}
 use Rattle.tcd_driver.specs.declared.status.Status.{Status}
 use Rattle.tcd_driver.specs.declared.status.Status.TheVariants as status
 use Rattle.tcd_driver.specs.declared.ending.Outcome.{Outcome}
 use Rattle.tcd_driver.specs.declared.ending.Outcome.TheVariants as outcome
 
--- what a call that reads one file leaves: what is held and whether it is steady, and the count of faults where it is
+-- what calls that read the named files leave: what is held and whether it is steady, and the count of faults where it is
 -- sure
-pub record KeepsFiles (name : List ℕ) (steady steady' : Bool) (held held' : Option Map) (files files' : ℕ) : Type 0 where
+pub record KeepsFiles (names : List (List ℕ)) (steady steady' : Bool) (held held' : Option Map) (files files' : ℕ) : Type 0 where
   pub held_stays : held' ≡ held
   pub steady_stays : steady' ≡ steady
   pub later : files ≤ files'
-  pub sure : IsTrue steady → Holds held name → files' ≡ files
+  pub sure : IsTrue steady → HoldsAll held names → files' ≡ files
 
--- the count of faults rose, and the files aren't steady or don't hold the file
-pub record HasFailed (name : List ℕ) (steady : Bool) (held : Option Map) (files files' : ℕ) : Type 0 where
+-- the count of faults rose, and the files aren't steady or don't hold one of the named files
+pub record HasFailed (names : List (List ℕ)) (steady : Bool) (held : Option Map) (files files' : ℕ) : Type 0 where
   pub rose : Rose files files'
-  pub unsure : IsTrue steady → Holds held name → ⊥
+  pub unsure : IsTrue steady → HoldsAll held names → ⊥
 
 -- an input that isn't there: one of these texts is printed; or it couldn't be read, where that may be; or memory ran out
 abbrev pub StopsWith : (List ℕ → Type 0) → Type 0 → Outcome → Type 0
-StopsWith IsText MayFail (outcome.Says s text) = (s ≡ status.BadInput) × IsText text.items
+StopsWith IsText MayFail (outcome.Says s text writes) = (s ≡ status.BadInput) × IsText text.items × (writes.items ≡ [])
 StopsWith IsText MayFail outcome.Unread = MayFail
 StopsWith IsText MayFail outcome.NoMemory = Unit {0}
 
@@ -45,32 +54,44 @@ IsLong held name limit line text = IsTooLong held name limit × (text ≡ line)
 abbrev pub IsBadImage : List ℕ → List ℕ → Type 0
 IsBadImage bytes text = (e : ImageErr) × (image_of bytes ≡ Err e) × (text ≡ elf_line e)
 
-pub data IsBadPlan (bytes : List ℕ) : List ℕ → Type 0 where
-  refusal : (e : PlanErr) → Answers bytes (Err e) → e ≢ plan.NoMemory → IsBadPlan bytes (plan_line e)
-  not_bare : (plan : PlanData) → Gives bytes (Ok plan) → is_bare plan ≡ false → IsBadPlan bytes not_built_plan_line
+abbrev pub IsBadPlan : List ℕ → List ℕ → Type 0
+IsBadPlan bytes text = (e : PlanErr) × Answers bytes (Err e) × (e ≢ plan.NoMemory) × (text ≡ plan_line e)
 
 abbrev pub IsBadCert : List ℕ → List ℕ → Type 0
-IsBadCert bytes text = ((cert : List NodeData) → SpellsCert bytes cert → ⊥) × (text ≡ not_built_cert_line)
+IsBadCert bytes text = (e : FormErr) × (certificate_of bytes ≡ Err e) × (text ≡ cert_line e)
 
--- ---- what the whole command comes to
-abbrev pub ComesTo : Option Map → Names → Type 0 → Outcome → Type 0
-ComesTo held names MayFail (outcome.Says s text) = Says held names s text.items
-ComesTo held names MayFail outcome.Unread = MayFail
-ComesTo held names MayFail outcome.NoMemory = Unit {0}
+abbrev pub IsBadScript : PlanData → List ℕ → List ℕ → Type 0
+IsBadScript plan bytes text = (e : ScriptErr) × (script_of plan bytes ≡ Err e) × (text ≡ script_line e)
 
--- one of these texts is said with the status, unless memory ran out
+-- ---- what a whole command comes to
+abbrev pub ComesTo : Option Map → Command → Type 0 → Outcome → Type 0
+ComesTo held command MayFail (outcome.Says s text writes) = Says held command s text.items writes.items
+ComesTo held command MayFail outcome.Unread = MayFail
+ComesTo held command MayFail outcome.NoMemory = Unit {0}
+
+-- one of these texts is said with the status, and nothing is written, unless memory ran out
 abbrev pub SaidWith : Status → (List ℕ → Type 0) → Outcome → Type 0
-SaidWith status IsText (outcome.Says s text) = (s ≡ status) × IsText text.items
+SaidWith status IsText (outcome.Says s text writes) = (s ≡ status) × IsText text.items × (writes.items ≡ [])
 SaidWith status IsText outcome.Unread = ⊥
 SaidWith status IsText outcome.NoMemory = Unit {0}
 
--- the verdict on inputs that are in their forms, as it is said
-pub data SaysOf (image : ImageData) (plan : PlanData) (cert : List NodeData) : Status → List ℕ → Type 0 where
-  other_code : HasOther image plan cert → SaysOf image plan cert status.BadInput not_built_code_line
-  refused : (rule kind entry addr : ℕ) → Fails image plan cert rule kind entry addr → SaysOf image plan cert status.Refused (refused_line rule kind entry addr (is_in_key plan kind))
-  certified : Accepts image plan cert → Safe image plan (need_of (start_of image cert)) → SaysOf image plan cert status.Done (certified_line (need_of (start_of image cert)) (plan.areas - plan.reserve))
+-- the verdict on an image, a plan and a certificate, as `check` says it
+pub data Judged (image : ImageData) (plan : PlanData) (cert : CertData) : Status → List ℕ → Type 0 where
+  refused : (rule : ℕ) (key : Key) (addr : ℕ) → IsFirstFault image plan cert rule key addr → Judged image plan cert status.Refused (refused_line rule key addr)
+  certified :
+      Accepts image plan cert → Safe image plan (certified_need image plan cert)
+      → Judged image plan cert status.Done (certified_line (certified_need image plan cert) (plan.areas - plan.reserve))
 
-abbrev pub IsVerdict : ImageData → PlanData → List NodeData → Outcome → Type 0
-IsVerdict image plan cert (outcome.Says s text) = SaysOf image plan cert s text.items
+abbrev pub IsVerdict : ImageData → PlanData → CertData → Outcome → Type 0
+IsVerdict image plan cert (outcome.Says s text writes) = Judged image plan cert s text.items × (writes.items ≡ [])
 IsVerdict image plan cert outcome.Unread = ⊥
 IsVerdict image plan cert outcome.NoMemory = Unit {0}
+
+-- a run by a script from the start of a machine, as `run` says it
+pub data Driven (image : ImageData) (plan : PlanData) (script : ScriptData) : Status → List ℕ → Type 0 where
+  driven : (m : Machine) → StartsInZeros image plan m → Driven image plan script status.Done (told_run plan script m)
+
+abbrev pub IsRun : ImageData → PlanData → ScriptData → Outcome → Type 0
+IsRun image plan script (outcome.Says s text writes) = Driven image plan script s text.items × (writes.items ≡ [])
+IsRun image plan script outcome.Unread = ⊥
+IsRun image plan script outcome.NoMemory = Unit {0}

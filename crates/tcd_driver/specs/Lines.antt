@@ -3,6 +3,15 @@ use Rattle.std.specs.Prelude.{ℕ, ◌+◌, ◌/◌, ◌%◌, ◌^◌, ◌==◌,
 use Rattle.std.specs.Fmt.{decimal}
 use Rattle.elf_image.specs.declared.errors.ImageErr.{ImageErr}
 use Rattle.elf_image.specs.declared.errors.ImageErr.TheVariants as elf
+use Rattle.tcd_base.specs.declared.parts.FormErr.{FormErr}
+use Rattle.depth_cert.specs.declared.keys.Key.{Key}
+use Rattle.tc_machine.specs.declared.events.Cause.{Cause}
+use Rattle.tc_machine.specs.declared.events.Cause.TheVariants.{Fcd, Fcu, Csu, Ctyp, NotListed, NoCode, NoArea}
+use Rattle.tc_machine.specs.declared.events.End.{End}
+use Rattle.tc_machine.specs.declared.events.End.TheVariants.{Running, Dead}
+use Rattle.tc_machine.specs.declared.state.Machine.{Machine}
+use Rattle.tc_script.specs.declared.errors.ScriptErr.{ScriptErr}
+use Rattle.tc_script.specs.declared.errors.ScriptErr.TheVariants as script
 use Rattle.tcd_plan.specs.Keys.{key_texts}
 use Rattle.tcd_plan.specs.declared.plans.PlanKey.{PlanKey}
 use Rattle.tcd_plan.specs.declared.plans.PlanErr.{PlanErr}
@@ -18,9 +27,18 @@ hex_word x =
     hex_digit (x / 2 ^ 28 % 16) ∷ hex_digit (x / 2 ^ 24 % 16) ∷ hex_digit (x / 2 ^ 20 % 16) ∷ hex_digit (x / 2 ^ 16 % 16)
     ∷ hex_digit (x / 2 ^ 12 % 16) ∷ hex_digit (x / 2 ^ 8 % 16) ∷ hex_digit (x / 2 ^ 4 % 16) ∷ hex_digit (x % 16) ∷ []
 
--- the kind of a key: the start (0) or a call
+-- the kind of a key: the start (0), a call, an interrupt, a system call or a misaligned access
 unfoldable pub kind_text : ℕ → List ℕ
-kind_text kind = if kind == 0 then codes "start " else codes "call "
+kind_text kind =
+    if kind == 0 then codes "start "
+    else if kind == 1 then codes "call "
+    else if kind == 2 then codes "irq "
+    else if kind == 3 then codes "sys "
+    else codes "aln "
+
+-- a key: its kind, its entry, its priority, and whether the interrupt stack is in use
+unfoldable pub key_line : Key → List ℕ
+key_line key = kind_text key.kind ++ (hex_word key.entry ++ (codes " prio " ++ (decimal key.prio ++ (codes " is " ++ ((if key.is then 49 else 48) ∷ 10 ∷ [])))))
 
 -- the words of no form
 unfoldable pub bad_words_line : List ℕ
@@ -66,22 +84,47 @@ plan_line plan.BadVector = codes "bad plan 7" ++ 10 ∷ []
 plan_line (plan.Overlap i j) = codes "bad plan 8" ++ at_two i j
 plan_line plan.NoMemory = []
 
--- inputs and code that this check doesn't know yet
-unfoldable pub not_built_plan_line : List ℕ
-not_built_plan_line = codes "not built plan" ++ 10 ∷ []
+-- why a file is no certificate: 0 where it is above its limit
+unfoldable pub long_cert_line : List ℕ
+long_cert_line = codes "bad cert 0" ++ 10 ∷ []
 
-unfoldable pub not_built_cert_line : List ℕ
-not_built_cert_line = codes "not built cert" ++ 10 ∷ []
+unfoldable pub cert_line : FormErr → List ℕ
+cert_line e = codes "bad cert " ++ (decimal e.kind ++ at_one e.at)
 
-unfoldable pub not_built_code_line : List ℕ
-not_built_code_line = codes "not built code" ++ 10 ∷ []
-
--- the rule that fails, the address, and the key: kind, entry, priority, and whether the interrupt stack is in use
-unfoldable pub refused_line : ℕ → ℕ → ℕ → ℕ → Bool → List ℕ
-refused_line rule kind entry addr is =
-    codes "refused K" ++ (decimal rule ++ (codes " at " ++ (hex_word addr ++ (codes " in " ++ (kind_text kind ++ (hex_word entry
-    ++ (codes " prio 0 is " ++ ((if is then 49 else 48) ∷ 10 ∷ []))))))))
+-- the rule that fails, the address, and the key
+unfoldable pub refused_line : ℕ → Key → ℕ → List ℕ
+refused_line rule key addr = codes "refused K" ++ (decimal rule ++ (codes " at " ++ (hex_word addr ++ (codes " in " ++ key_line key))))
 
 -- so many areas are needed, of so many
 unfoldable pub certified_line : ℕ → ℕ → List ℕ
 certified_line need areas = codes "certified " ++ (decimal need ++ (codes " of " ++ (decimal areas ++ (codes " areas" ++ 10 ∷ []))))
+
+-- why a file is no script: 0 where it is above its limit; else the line
+unfoldable pub long_script_line : List ℕ
+long_script_line = codes "bad script 0" ++ 10 ∷ []
+
+unfoldable pub script_line : ScriptErr → List ℕ
+script_line (script.BadLine n) = codes "bad script 1" ++ at_one n
+script_line (script.NoSource n) = codes "bad script 2" ++ at_one n
+script_line (script.OutOfRange n) = codes "bad script 3" ++ at_one n
+script_line (script.TooMany n) = codes "bad script 4" ++ at_one n
+script_line script.NoMemory = []
+
+-- a cause of death
+unfoldable pub cause_text : Cause → List ℕ
+cause_text Fcd = codes "fcd"
+cause_text Fcu = codes "fcu"
+cause_text Csu = codes "csu"
+cause_text Ctyp = codes "ctyp"
+cause_text NotListed = codes "notlisted"
+cause_text NoCode = codes "nocode"
+cause_text NoArea = codes "noarea"
+
+-- whether a machine runs, or died, of what and where
+unfoldable pub end_text : End → ℕ → List ℕ
+end_text Running pc = codes "running" ++ 10 ∷ []
+end_text (Dead cause) pc = codes "dead " ++ (cause_text cause ++ (codes " at " ++ (hex_word pc ++ 10 ∷ [])))
+
+-- so many events, at most so many areas in use, and the machine after the last event
+unfoldable pub run_line : ℕ → ℕ → Machine → List ℕ
+run_line events peak m = codes "events " ++ (decimal events ++ (codes " peak " ++ (decimal peak ++ (codes " " ++ end_text m.end m.pc))))

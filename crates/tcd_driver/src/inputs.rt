@@ -1,24 +1,26 @@
 // The inputs of the check, each read and brought into its form.
-ghost use Rattle.std.specs.Prelude.{◌≡◌, ◌≤◌, ◌^◌, length, true, Ok, IsOkAnd, IfOk, IfErr};
+ghost use Rattle.std.specs.Prelude.{◌≡◌, ◌≤◌, ◌^◌, ◌∷◌, [], length, Ok, IsOkAnd, IfOk, IfErr};
 ghost use Rattle.tcd_base.specs.Files.{Reads};
 ghost use Rattle.elf_image.specs.Elf.{image_of};
 ghost use Rattle.tcd_plan.specs.Plans.{Gives};
-ghost use Rattle.tcd_driver.specs.CallBytes.{SpellsCert};
-ghost use Rattle.tcd_driver.specs.Lines.{long_elf_line, long_plan_line, not_built_cert_line};
-ghost use Rattle.tcd_driver.specs.Tool.{HoldsImage, HoldsPlan, HoldsCert, ImageText, PlanText, CertText, is_bare};
-ghost use Rattle.tcd_driver.specs.Inputs.{KeepsFiles, HasFailed, SaidWith, StopsWith, IsLong, IsBadImage, IsBadPlan, IsBadCert};
+ghost use Rattle.depth_cert.specs.Grammar.{certificate_of};
+ghost use Rattle.tc_script.specs.Reading.{script_of};
+ghost use Rattle.tc_script.specs.Fitting.{FitsPlan};
+ghost use Rattle.tcd_driver.specs.Lines.{long_elf_line, long_plan_line, long_cert_line, long_script_line};
+ghost use Rattle.tcd_driver.specs.Held.{HoldsImage, HoldsPlan, HoldsCert, HoldsScript, ImageText, PlanText, CertText, ScriptText};
+ghost use Rattle.tcd_driver.specs.Inputs.{KeepsFiles, HasFailed, SaidWith, StopsWith, IsLong, IsBadImage, IsBadPlan, IsBadCert, IsBadScript};
 
-use crate::calls::CallNode;
 use crate::ending::Outcome;
 use crate::lines::{
-    elf_line, line_of, long_elf_line, long_plan_line, not_built_cert_line, not_built_plan_line,
-    plan_line,
+    cert_line, elf_line, line_of, long_cert_line, long_elf_line, long_plan_line, long_script_line,
+    plan_line, script_line,
 };
-use crate::reading::{CallsErr, calls_from};
 use crate::saying::says;
 use crate::status::Status;
+use depth_cert::{Cert, CertErr};
 use elf_image::Image;
 use std::alloc::Global;
+use tc_script::{Script, ScriptErr};
 use tcd_base::{FileErr, Files, NoMemory};
 use tcd_plan::Plan;
 
@@ -27,10 +29,10 @@ const LIMIT: u32 = 16_777_216;
 const CERT_LIMIT: u32 = 1_073_741_824;
 
 // An input that isn't in its form, and what is printed of it.
-fn bad_input(line: Result<Vec<u8>, NoMemory>) -> Outcome
+fn bad_input(alloc: Global, line: Result<Vec<u8>, NoMemory>) -> Outcome
     ensures { SaidWith Status.BadInput (λ t. IsOkAnd line (λ l. t ≡ l.items)) result }
 {
-    says(Status::BadInput, line)
+    says(alloc, Status::BadInput, line)
 }
 
 // A file that wasn't read; `line` is printed where it is too long.
@@ -39,7 +41,7 @@ fn unread(alloc: Global, e: FileErr, line: &[u8]) -> Outcome
 {
     match e {
         FileErr::Failed => Outcome::Unread,
-        FileErr::TooLong => bad_input(line_of(alloc, line)),
+        FileErr::TooLong => bad_input(alloc, line_of(alloc, line)),
         FileErr::NoMemory => Outcome::NoMemory,
     }
 }
@@ -52,9 +54,9 @@ fn bytes_of<F: Files>(
     line: &[u8],
     files: &mut F,
 ) -> Result<Vec<u8>, Outcome>
-    ensures kept { KeepsFiles name.now (F.steady files.old) (F.steady files.new) (F.held files.old) (F.held files.new) (F.faults files.old) (F.faults files.new) }
+    ensures kept { KeepsFiles (name.now ∷ []) (F.steady files.old) (F.steady files.new) (F.held files.old) (F.held files.new) (F.faults files.old) (F.faults files.new) }
     ensures found { IfOk result (λ v. Reads (F.held files.old) name.now v.items × (length v.items ≤ limit)) }
-    ensures stops { IfErr result (StopsWith (IsLong (F.held files.old) name.now limit line.now) (HasFailed name.now (F.steady files.old) (F.held files.old) (F.faults files.old) (F.faults files.new))) }
+    ensures stops { IfErr result (StopsWith (IsLong (F.held files.old) name.now limit line.now) (HasFailed (name.now ∷ []) (F.steady files.old) (F.held files.old) (F.faults files.old) (F.faults files.new))) }
 {
     match files.read(alloc, name, limit) {
         Ok(bytes) => Ok(bytes),
@@ -70,45 +72,45 @@ fn image_from(alloc: Global, bytes: &[u8]) -> Result<Image, Outcome>
 {
     match Image::read(alloc, bytes) {
         Ok(image) => Ok(image),
-        Err(e) => Err(bad_input(elf_line(alloc, e))),
+        Err(e) => Err(bad_input(alloc, elf_line(alloc, e))),
     }
 }
 
-// The plan that the bytes are, without interrupts, traps and devices.
+// The plan that the bytes are.
 fn plan_from(alloc: Global, bytes: &[u8]) -> Result<Plan, Outcome>
     requires { length bytes.now ≤ 2 ^ 24 }
-    ensures found { IfOk result (λ plan. Gives bytes.now (Ok plan) × (is_bare plan ≡ true)) }
+    ensures found { IfOk result (λ plan. Gives bytes.now (Ok plan)) }
     ensures stops { IfErr result (StopsWith (IsBadPlan bytes.now) ⊥) }
 {
     match Plan::read(alloc, bytes) {
-        Ok(plan) => {
-            if is_bare(&plan) {
-                Ok(plan)
-            } else {
-                Err(bad_input(line_of(alloc, not_built_plan_line())))
-            }
-        }
-        Err(e) => Err(bad_input(plan_line(alloc, e))),
+        Ok(plan) => Ok(plan),
+        Err(e) => Err(bad_input(alloc, plan_line(alloc, e))),
     }
 }
 
-// Whether a plan has no interrupt, no trap and no device.
-fn is_bare(plan: &Plan) -> bool
-    ensures { result ≡ is_bare plan.now }
-{
-    plan.irqs.as_slice().len() == 0 && !plan.sys && !plan.aln && plan.devices.as_slice().len() == 0
-}
-
 // The certificate that the bytes are.
-fn cert_from(alloc: Global, bytes: &[u8]) -> Result<Vec<CallNode>, Outcome>
+fn cert_from(alloc: Global, bytes: &[u8]) -> Result<Cert, Outcome>
     requires { length bytes.now ≤ 2 ^ 30 }
-    ensures found { IfOk result (λ cert. SpellsCert bytes.now cert.items) }
+    ensures found { IfOk result (λ cert. certificate_of bytes.now ≡ Ok cert) }
     ensures stops { IfErr result (StopsWith (IsBadCert bytes.now) ⊥) }
 {
-    match calls_from(alloc, bytes) {
-        Ok(nodes) => Ok(nodes),
-        Err(CallsErr::Form) => Err(bad_input(line_of(alloc, not_built_cert_line()))),
-        Err(CallsErr::NoMemory) => Err(Outcome::NoMemory),
+    match Cert::read(alloc, bytes) {
+        Ok(cert) => Ok(cert),
+        Err(CertErr::Bad(e)) => Err(bad_input(alloc, cert_line(alloc, e))),
+        Err(CertErr::NoMemory) => Err(Outcome::NoMemory),
+    }
+}
+
+// The script that the bytes are, for a plan.
+fn script_from(alloc: Global, bytes: &[u8], plan: &Plan) -> Result<Script, Outcome>
+    requires { length bytes.now ≤ 2 ^ 24 }
+    ensures found { IfOk result (λ script. script_of plan.now bytes.now ≡ Ok script) }
+    ensures fits { IfOk result (FitsPlan plan.now) }
+    ensures stops { IfErr result (StopsWith (IsBadScript plan.now bytes.now) ⊥) }
+{
+    match Script::read(alloc, bytes, plan) {
+        Ok(script) => Ok(script),
+        Err(e) => Err(bad_input(alloc, script_line(alloc, e))),
     }
 }
 
@@ -118,9 +120,9 @@ pub(crate) fn read_image<F: Files>(
     name: &str,
     files: &mut F,
 ) -> Result<Image, Outcome>
-    ensures kept { KeepsFiles name.now (F.steady files.old) (F.steady files.new) (F.held files.old) (F.held files.new) (F.faults files.old) (F.faults files.new) }
+    ensures kept { KeepsFiles (name.now ∷ []) (F.steady files.old) (F.steady files.new) (F.held files.old) (F.held files.new) (F.faults files.old) (F.faults files.new) }
     ensures found { IfOk result (HoldsImage (F.held files.old) name.now) }
-    ensures stops { IfErr result (StopsWith (ImageText (F.held files.old) name.now) (HasFailed name.now (F.steady files.old) (F.held files.old) (F.faults files.old) (F.faults files.new))) }
+    ensures stops { IfErr result (StopsWith (ImageText (F.held files.old) name.now) (HasFailed (name.now ∷ []) (F.steady files.old) (F.held files.old) (F.faults files.old) (F.faults files.new))) }
 {
     match bytes_of(alloc, name, LIMIT, long_elf_line(), files) {
         Ok(bytes) => image_from(alloc, &bytes),
@@ -130,9 +132,9 @@ pub(crate) fn read_image<F: Files>(
 
 /// The plan.
 pub(crate) fn read_plan<F: Files>(alloc: Global, name: &str, files: &mut F) -> Result<Plan, Outcome>
-    ensures kept { KeepsFiles name.now (F.steady files.old) (F.steady files.new) (F.held files.old) (F.held files.new) (F.faults files.old) (F.faults files.new) }
-    ensures found { IfOk result (λ plan. HoldsPlan (F.held files.old) name.now plan × (is_bare plan ≡ true)) }
-    ensures stops { IfErr result (StopsWith (PlanText (F.held files.old) name.now) (HasFailed name.now (F.steady files.old) (F.held files.old) (F.faults files.old) (F.faults files.new))) }
+    ensures kept { KeepsFiles (name.now ∷ []) (F.steady files.old) (F.steady files.new) (F.held files.old) (F.held files.new) (F.faults files.old) (F.faults files.new) }
+    ensures found { IfOk result (HoldsPlan (F.held files.old) name.now) }
+    ensures stops { IfErr result (StopsWith (PlanText (F.held files.old) name.now) (HasFailed (name.now ∷ []) (F.steady files.old) (F.held files.old) (F.faults files.old) (F.faults files.new))) }
 {
     match bytes_of(alloc, name, LIMIT, long_plan_line(), files) {
         Ok(bytes) => plan_from(alloc, &bytes),
@@ -141,17 +143,31 @@ pub(crate) fn read_plan<F: Files>(alloc: Global, name: &str, files: &mut F) -> R
 }
 
 /// The certificate.
-pub(crate) fn read_cert<F: Files>(
+pub(crate) fn read_cert<F: Files>(alloc: Global, name: &str, files: &mut F) -> Result<Cert, Outcome>
+    ensures kept { KeepsFiles (name.now ∷ []) (F.steady files.old) (F.steady files.new) (F.held files.old) (F.held files.new) (F.faults files.old) (F.faults files.new) }
+    ensures found { IfOk result (HoldsCert (F.held files.old) name.now) }
+    ensures stops { IfErr result (StopsWith (CertText (F.held files.old) name.now) (HasFailed (name.now ∷ []) (F.steady files.old) (F.held files.old) (F.faults files.old) (F.faults files.new))) }
+{
+    match bytes_of(alloc, name, CERT_LIMIT, long_cert_line(), files) {
+        Ok(bytes) => cert_from(alloc, &bytes),
+        Err(outcome) => Err(outcome),
+    }
+}
+
+/// The script, for a plan.
+pub(crate) fn read_script<F: Files>(
     alloc: Global,
     name: &str,
+    plan: &Plan,
     files: &mut F,
-) -> Result<Vec<CallNode>, Outcome>
-    ensures kept { KeepsFiles name.now (F.steady files.old) (F.steady files.new) (F.held files.old) (F.held files.new) (F.faults files.old) (F.faults files.new) }
-    ensures found { IfOk result (λ cert. HoldsCert (F.held files.old) name.now cert.items) }
-    ensures stops { IfErr result (StopsWith (CertText (F.held files.old) name.now) (HasFailed name.now (F.steady files.old) (F.held files.old) (F.faults files.old) (F.faults files.new))) }
+) -> Result<Script, Outcome>
+    ensures kept { KeepsFiles (name.now ∷ []) (F.steady files.old) (F.steady files.new) (F.held files.old) (F.held files.new) (F.faults files.old) (F.faults files.new) }
+    ensures found { IfOk result (HoldsScript (F.held files.old) name.now plan.now) }
+    ensures fits { IfOk result (FitsPlan plan.now) }
+    ensures stops { IfErr result (StopsWith (ScriptText (F.held files.old) name.now plan.now) (HasFailed (name.now ∷ []) (F.steady files.old) (F.held files.old) (F.faults files.old) (F.faults files.new))) }
 {
-    match bytes_of(alloc, name, CERT_LIMIT, not_built_cert_line(), files) {
-        Ok(bytes) => cert_from(alloc, &bytes),
+    match bytes_of(alloc, name, LIMIT, long_script_line(), files) {
+        Ok(bytes) => script_from(alloc, &bytes, plan),
         Err(outcome) => Err(outcome),
     }
 }

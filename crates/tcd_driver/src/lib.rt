@@ -1,23 +1,19 @@
 //! The tool: all that the program does.
 #![tactic(auto)]
 
-mod calls;
-mod checking;
-mod code;
+mod checks;
 mod ending;
-mod findings;
-mod follows;
+mod finishing;
 mod inputs;
-mod laws;
 mod lines;
 mod printing;
-mod reading;
+mod runs;
 mod saying;
 mod status;
 #[cfg(test)]
 mod tests;
 mod tools;
+mod writing;
 
-pub use laws::accepted_is_safe;
 pub use status::Status;
 pub use tools::tool;

@@ -1,13 +1,16 @@
 // The printed lines.
 ghost use Rattle.std.specs.Prelude.{◌≡◌, ◌≢◌, ◌<◌, ◌++◌, ◌∷◌, [], if◌then◌else◌, length, codes, IsErr, IfOk, OnOk};
 ghost use Rattle.std.specs.Fmt.{decimal};
-ghost use Rattle.tcd_driver.specs.Lines.{bad_words_line, long_elf_line, long_plan_line, not_built_plan_line, not_built_cert_line, not_built_code_line, hex_digit, hex_word, kind_text, at_key, elf_line, plan_line, refused_line, certified_line};
+ghost use Rattle.tcd_driver.specs.Lines.{bad_words_line, long_elf_line, long_plan_line, long_cert_line, long_script_line, hex_digit, hex_word, kind_text, key_line, at_key, elf_line, plan_line, cert_line, script_line, cause_text, end_text, run_line, refused_line, certified_line};
 ghost use Rattle.tcd_plan.specs.Plans.{HasText};
 ghost use Rattle.tcd_plan.specs.Keys.{key_texts};
 
+use depth_cert::Key;
 use elf_image::ImageErr;
 use std::alloc::Global;
-use tcd_base::NoMemory;
+use tc_machine::{Cause, End, Machine};
+use tc_script::ScriptErr;
+use tcd_base::{FormErr, NoMemory};
 use tcd_plan::{PlanErr, PlanKey, key_text};
 
 // A hex digit, in upper case.
@@ -48,10 +51,12 @@ fn append(line: &mut Vec<u8>, bytes: &[u8]) -> Result<(), NoMemory>
 fn append_kind(line: &mut Vec<u8>, kind: u8) -> Result<(), NoMemory>
     ensures { OnOk result (line.new.items ≡ line.old.items ++ kind_text kind) }
 {
-    if kind == 0 {
-        append(line, b"start ")
-    } else {
-        append(line, b"call ")
+    match kind {
+        0 => append(line, b"start "),
+        1 => append(line, b"call "),
+        2 => append(line, b"irq "),
+        3 => append(line, b"sys "),
+        _ => append(line, b"aln "),
     }
 }
 
@@ -84,26 +89,18 @@ pub(crate) fn long_plan_line() -> &'static [u8]
     b"bad plan 0\n"
 }
 
-// Inputs and code that this check doesn't know yet.
-#[tactic(auto, unfolding(crate::specs::Lines::not_built_plan_line))]
-pub(crate) fn not_built_plan_line() -> &'static [u8]
-    ensures { result.now ≡ not_built_plan_line }
+#[tactic(auto, unfolding(crate::specs::Lines::long_cert_line))]
+pub(crate) fn long_cert_line() -> &'static [u8]
+    ensures { result.now ≡ long_cert_line }
 {
-    b"not built plan\n"
+    b"bad cert 0\n"
 }
 
-#[tactic(auto, unfolding(crate::specs::Lines::not_built_cert_line))]
-pub(crate) fn not_built_cert_line() -> &'static [u8]
-    ensures { result.now ≡ not_built_cert_line }
+#[tactic(auto, unfolding(crate::specs::Lines::long_script_line))]
+pub(crate) fn long_script_line() -> &'static [u8]
+    ensures { result.now ≡ long_script_line }
 {
-    b"not built cert\n"
-}
-
-#[tactic(auto, unfolding(crate::specs::Lines::not_built_code_line))]
-pub(crate) fn not_built_code_line() -> &'static [u8]
-    ensures { result.now ≡ not_built_code_line }
-{
-    b"not built code\n"
+    b"bad script 0\n"
 }
 
 // The words of no form.
@@ -134,7 +131,7 @@ pub(crate) fn elf_line(alloc: Global, e: ImageErr) -> Result<Vec<u8>, NoMemory>
 
 // A refusal of a plan that names a key.
 #[tactic(auto, unfolding(crate::specs::Lines::at_key))]
-fn key_line(alloc: Global, front: &str, key: PlanKey) -> Result<Vec<u8>, NoMemory>
+fn plan_key_line(alloc: Global, front: &str, key: PlanKey) -> Result<Vec<u8>, NoMemory>
     requires { key.0 < length key_texts }
     ensures { IfOk result (λ line. line.items ≡ front.now ++ at_key key) }
 {
@@ -151,15 +148,25 @@ pub(crate) fn plan_line(alloc: Global, e: PlanErr) -> Result<Vec<u8>, NoMemory>
 {
     match e {
         PlanErr::NotJson => line_of(alloc, b"bad plan 1\n"),
-        PlanErr::Missing(key) => key_line(alloc, "bad plan 2", key),
-        PlanErr::Unknown(key) => key_line(alloc, "bad plan 3", key),
-        PlanErr::BadValue(key) => key_line(alloc, "bad plan 4", key),
-        PlanErr::TooMany(key) => key_line(alloc, "bad plan 5", key),
+        PlanErr::Missing(key) => plan_key_line(alloc, "bad plan 2", key),
+        PlanErr::Unknown(key) => plan_key_line(alloc, "bad plan 3", key),
+        PlanErr::BadValue(key) => plan_key_line(alloc, "bad plan 4", key),
+        PlanErr::TooMany(key) => plan_key_line(alloc, "bad plan 5", key),
         PlanErr::BadCsa => line_of(alloc, b"bad plan 6\n"),
         PlanErr::BadVector => line_of(alloc, b"bad plan 7\n"),
         PlanErr::Overlap(i, j) => Ok(format!(in alloc; "bad plan 8 at {i} {j}\n")?.into_bytes()),
         PlanErr::NoMemory => Err(NoMemory),
     }
+}
+
+// Why a file is no certificate.
+#[tactic(auto, unfolding(crate::specs::Lines::cert_line, crate::specs::Lines::at_one))]
+pub(crate) fn cert_line(alloc: Global, e: FormErr) -> Result<Vec<u8>, NoMemory>
+    ensures { IfOk result (λ line. line.items ≡ cert_line e) }
+{
+    let kind = e.kind;
+    let at = e.at;
+    Ok(format!(in alloc; "bad cert {kind} at {at}\n")?.into_bytes())
 }
 
 // What a line on a rule that fails begins with.
@@ -169,25 +176,39 @@ fn refused_front(alloc: Global, rule: u8) -> Result<Vec<u8>, NoMemory>
     Ok(format!(in alloc; "refused K{rule} at ")?.into_bytes())
 }
 
+// A priority, in a key.
+fn prio_text(alloc: Global, prio: u8) -> Result<Vec<u8>, NoMemory>
+    ensures { IfOk result (λ text. text.items ≡ codes " prio " ++ (decimal prio ++ codes " is ")) }
+{
+    Ok(format!(in alloc; " prio {prio} is ")?.into_bytes())
+}
+
+// A key, and the line's end.
+#[tactic(auto, unfolding(crate::specs::Lines::key_line))]
+fn append_key(alloc: Global, line: &mut Vec<u8>, key: Key) -> Result<(), NoMemory>
+    ensures { OnOk result (line.new.items ≡ line.old.items ++ key_line key) }
+{
+    append_kind(line, key.kind)?;
+    append(line, &hex_word(key.entry))?;
+    let prio = prio_text(alloc, key.prio)?;
+    append(line, &prio)?;
+    append(line, stack_text(key.is))
+}
+
 // The rule that fails, the address, and the key.
 #[tactic(auto, unfolding(crate::specs::Lines::refused_line))]
 pub(crate) fn refused_line(
     alloc: Global,
     rule: u8,
-    kind: u8,
-    entry: u32,
+    key: Key,
     addr: u32,
-    is: bool,
 ) -> Result<Vec<u8>, NoMemory>
-    ensures { IfOk result (λ line. line.items ≡ refused_line rule kind entry addr is) }
+    ensures { IfOk result (λ line. line.items ≡ refused_line rule key addr) }
 {
     let mut line = refused_front(alloc, rule)?;
     append(&mut line, &hex_word(addr))?;
     append(&mut line, b" in ")?;
-    append_kind(&mut line, kind)?;
-    append(&mut line, &hex_word(entry))?;
-    append(&mut line, b" prio 0 is ")?;
-    append(&mut line, stack_text(is))?;
+    append_key(alloc, &mut line, key)?;
     Ok(line)
 }
 
@@ -197,4 +218,73 @@ pub(crate) fn certified_line(alloc: Global, need: u32, areas: u32) -> Result<Vec
     ensures { IfOk result (λ line. line.items ≡ certified_line need areas) }
 {
     Ok(format!(in alloc; "certified {need} of {areas} areas\n")?.into_bytes())
+}
+
+// Why a file is no script.
+#[tactic(auto, unfolding(crate::specs::Lines::script_line, crate::specs::Lines::at_one))]
+pub(crate) fn script_line(alloc: Global, e: ScriptErr) -> Result<Vec<u8>, NoMemory>
+    ensures line { IfOk result (λ line. line.items ≡ script_line e) }
+    ensures memory { e ≡ ScriptErr.NoMemory → IsErr result }
+{
+    match e {
+        ScriptErr::BadLine(n) => Ok(format!(in alloc; "bad script 1 at {n}\n")?.into_bytes()),
+        ScriptErr::NoSource(n) => Ok(format!(in alloc; "bad script 2 at {n}\n")?.into_bytes()),
+        ScriptErr::OutOfRange(n) => Ok(format!(in alloc; "bad script 3 at {n}\n")?.into_bytes()),
+        ScriptErr::TooMany(n) => Ok(format!(in alloc; "bad script 4 at {n}\n")?.into_bytes()),
+        ScriptErr::NoMemory => Err(NoMemory),
+    }
+}
+
+// A cause of death.
+#[tactic(auto, unfolding(crate::specs::Lines::cause_text))]
+fn cause_text(cause: Cause) -> &'static [u8]
+    ensures { result.now ≡ cause_text cause }
+{
+    match cause {
+        Cause::Fcd => b"fcd",
+        Cause::Fcu => b"fcu",
+        Cause::Csu => b"csu",
+        Cause::Ctyp => b"ctyp",
+        Cause::NotListed => b"notlisted",
+        Cause::NoCode => b"nocode",
+        Cause::NoArea => b"noarea",
+    }
+}
+
+// Whether a machine runs, or died, of what and where.
+#[tactic(auto, unfolding(crate::specs::Lines::end_text))]
+fn append_end(line: &mut Vec<u8>, end: End, pc: u32) -> Result<(), NoMemory>
+    ensures { OnOk result (line.new.items ≡ line.old.items ++ end_text end pc) }
+{
+    match end {
+        End::Running => append(line, b"running\n"),
+        End::Dead(cause) => append_death(line, cause, pc),
+    }
+}
+
+fn append_death(line: &mut Vec<u8>, cause: Cause, pc: u32) -> Result<(), NoMemory>
+    ensures { OnOk result (line.new.items ≡ line.old.items ++ (codes "dead " ++ (cause_text cause ++ (codes " at " ++ (hex_word pc ++ 10 ∷ []))))) }
+{
+    append(line, b"dead ")?;
+    append(line, cause_text(cause))?;
+    append(line, b" at ")?;
+    append(line, &hex_word(pc))?;
+    append(line, b"\n")
+}
+
+// What a line on a run begins with.
+fn run_front(alloc: Global, events: u32, peak: u32) -> Result<Vec<u8>, NoMemory>
+    ensures { IfOk result (λ line. line.items ≡ codes "events " ++ (decimal events ++ (codes " peak " ++ (decimal peak ++ codes " ")))) }
+{
+    Ok(format!(in alloc; "events {events} peak {peak} ")?.into_bytes())
+}
+
+// What a run came to.
+#[tactic(auto, unfolding(crate::specs::Lines::run_line))]
+pub(crate) fn run_line(alloc: Global, events: u32, peak: u32, m: &Machine) -> Result<Vec<u8>, NoMemory>
+    ensures { IfOk result (λ line. line.items ≡ run_line events peak m.now) }
+{
+    let mut line = run_front(alloc, events, peak)?;
+    append_end(&mut line, m.end, m.pc)?;
+    Ok(line)
 }

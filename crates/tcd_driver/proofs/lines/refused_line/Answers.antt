@@ -2,18 +2,15 @@ use Rattle.std.proofs.Common.{◌≡◌, List, ℕ, ap, ◌∙◌, ◌++◌}
 use Rattle.std.specs.Prelude.{codes}
 use Rattle.std.specs.Fmt.{decimal}
 use Rattle.tcd_driver.specs.Lines.{refused_line}
-use Rattle.tcd_driver.proofs.Said.{seven_pieces}
+use Rattle.tcd_driver.proofs.Said.{four_pieces}
 use Rattle.tcd_driver.proofs.lines.refused_line.Goals as goal
 
 pub returns : goal.returns
 unfolding refused_line
 returns c =
     let l0 = c.in_ok-line.line.items in
-    seven_pieces (codes "refused K") (decimal c.args.rule) (codes " at ") _ _ _ _ _ _ l0 c.append.new.line.items c.append-2.new.line.items c.append_kind.new.line.items c.append-3.new.line.items c.append-4.new.line.items c.append-5.new.line.items
+    four_pieces (codes "refused K") (decimal c.args.rule) (codes " at ") _ _ _ l0 c.append.new.line.items c.append-2.new.line.items c.append_key.new.line.items
     c.in_ok-line.ensures
     (c.in_ok-append.ensures ∙ ap (λ (l : List ℕ). l0 ++ l) c.hex_word.ensures)
     c.in_ok-append-2.ensures
-    c.in_ok-append_kind.ensures
-    (c.in_ok-append-3.ensures ∙ ap (λ (l : List ℕ). c.append_kind.new.line.items ++ l) c.hex_word-2.ensures)
-    c.in_ok-append-4.ensures
-    (c.in_ok-append-5.ensures ∙ ap (λ (l : List ℕ). c.append-4.new.line.items ++ l) c.stack_text.ensures)
+    c.in_ok-append_key.ensures
