@@ -35,9 +35,9 @@ apart_at r (e ∷ ds) (suc k) d all here = apart_at r ds k d (and_parts (ranges_
 
 no_both : (x : ℕ) (r s : Range) → ranges_apart r s ≡ true → IsWithin x 1 r → IsWithin x 1 s → ⊥
 no_both x r s apart in_r in_s = elim (or_cases (nat_le (r.at + r.len) s.at) (nat_le (s.at + s.len) r.at) apart) [
-      inl below ↦ let le = leb-true (r.at + r.len) s.at below in omega (arith, le, in_r.0, in_r.1, in_s.0, in_s.1)
-    | inr above ↦ let le = leb-true (s.at + s.len) r.at above in omega (arith, le, in_r.0, in_r.1, in_s.0, in_s.1)
-  ]
+  | inl below ↦ let le = leb-true (r.at + r.len) s.at below in omega (arith, le, in_r.0, in_r.1, in_s.0, in_s.1)
+  | inr above ↦ let le = leb-true (s.at + s.len) r.at above in omega (arith, le, in_r.0, in_r.1, in_s.0, in_s.1)
+]
 
 lies_at : (x t : ℕ) (ds : List Device) (bs : List Bounds) (k : ℕ) (d : Device) → AreInside ds bs → all_apart (ranges_of ds) ≡ true → slice_get ds k ≡ Some d → IsWithin x 1 d.range → Lies (answer_at ds bs x t) d
 lies_at x t [] bs k d inside apart here has = cc
@@ -51,7 +51,7 @@ lies_at x t (e ∷ ds) (b ∷ bs) zero d inside apart here has =
 lies_at x t (e ∷ ds) (b ∷ bs) (suc k) d inside apart here has =
     let parts = and_parts (list_all (ranges_apart e.range) (ranges_of ds)) (all_apart (ranges_of ds)) apart in
     elim (cases_Bool (is_within x 1 e.range)) [
-        inl first ↦ absurd (no_both x e.range d.range (apart_at e.range ds k d parts.0 here) (IsWithin-from x 1 e.range first) has)
+      | inl first ↦ absurd (no_both x e.range d.range (apart_at e.range ds k d parts.0 here) (IsWithin-from x 1 e.range first) has)
       | inr other ↦ subst (λ w. Lies w d) (sym (cond-false (is_within x 1 e.range) (answer_of b t) (answer_at ds bs x t) other)) (lies_at x t ds bs k d inside.1 parts.1 here has)
     ]
 

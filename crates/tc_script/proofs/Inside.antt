@@ -35,7 +35,7 @@ one_ordered : (verb : List ℕ) (n : ℕ) → IsOrderedIf (of_one_number verb n)
 one_ordered verb n =
     cond_both (bytes_eq verb (codes "step")) _ _ IsOrderedIf (λ _. ordered_if (nat_le 1 n && nat_le n 100000) (Step n) (λ _. tt))
     (λ _. cond_both (bytes_eq verb (codes "irq")) _ _ IsOrderedIf (λ _. ordered_if (nat_le n 255) (Irq n) (λ _. tt))
-        (λ _. cond_both (bytes_eq verb (codes "aln")) (some_if (nat_le n 1) (Aln (n == 1))) None IsOrderedIf (λ _. ordered_if (nat_le n 1) (Aln (n == 1)) (λ _. tt)) (λ _. tt)))
+    (λ _. cond_both (bytes_eq verb (codes "aln")) (some_if (nat_le n 1) (Aln (n == 1))) None IsOrderedIf (λ _. ordered_if (nat_le n 1) (Aln (n == 1)) (λ _. tt)) (λ _. tt)))
 
 then_ordered : (o : Option ℕ) (f : ℕ → Option Statement) → ((n : ℕ) → IsOrderedIf (f n)) → IsOrderedIf (option_and_then f o)
 then_ordered None f h = tt
@@ -67,17 +67,17 @@ FitsIf plan (Err e) = Unit {0}
 source_contained : (q : ℕ) (qs : List ℕ) → list_any (λ r. r == q) qs ≡ true → Contains qs q
 source_contained q [] is = absurd (false≢true is)
 source_contained q (r ∷ qs) is = elim (or_cases (r == q) (list_any (λ r. r == q) qs) is) [
-      inl here ↦ (0, omega arith, eqb-true r q here)
-    | inr there ↦ let found = source_contained q qs there in (suc found.0, omega (arith, found.1), found.2)
-  ]
+  | inl here ↦ (0, omega arith, eqb-true r q here)
+  | inr there ↦ let found = source_contained q qs there in (suc found.0, omega (arith, found.1), found.2)
+]
 
 turns_fit : (plan : PlanData) (line count irq : ℕ) (d : Draft) → (irq ≡ 0) ⊎ Contains plan.irqs irq → Fits plan d → FitsIf plan (with_turns line count irq d)
 turns_fit plan line count irq d source h =
     cond_both (nat_le (length d.script.turns + count) 100000) _ _ (FitsIf plan)
     (λ _. record {
-        sources = All-append (λ turn. (turn.irq ≡ 0) ⊎ Contains plan.irqs turn.irq) d.script.turns _ h.sources (All-replicate (λ turn. (turn.irq ≡ 0) ⊎ Contains plan.irqs turn.irq) count _ source);
-        bounds = h.bounds;
-      })
+      sources = All-append (λ turn. (turn.irq ≡ 0) ⊎ Contains plan.irqs turn.irq) d.script.turns _ h.sources (All-replicate (λ turn. (turn.irq ≡ 0) ⊎ Contains plan.irqs turn.irq) count _ source);
+      bounds = h.bounds;
+    })
     (λ _. tt)
 
 holds_parts : (o : Option Device) (d : Device) (lo hi : ℕ) → o ≡ Some d → holds_bounds o lo hi ≡ true → (d.lo ≤ lo) × (hi ≤ d.hi)

@@ -1,5 +1,5 @@
 -- A script that answers for the devices has one list of events.
-use Rattle.std.proofs.Common.{◌≡◌, ℕ, ◌+◌, ◌⊎◌, inl, inr, Bool, true, false, cond, List, [], ◌∷◌, Option, Some, None, refl, sym, ap, subst, ◌∙◌}
+use Rattle.std.proofs.Common.{◌≡◌, ℕ, ◌+◌, ◌⊎◌, inl, inr, Bool, true, false, cond, List, [], ◌∷◌, length, Option, Some, None, refl, sym, ap, subst, ◌∙◌}
 use Rattle.std.specs.List.{list_any}
 use Rattle.std.proofs.lemmas.Bool.{cond-true, cond-false, cases_Bool}
 use Rattle.tcd_plan.specs.declared.plans.Device.{Device}
@@ -8,12 +8,15 @@ use Rattle.tc_machine.specs.declared.events.Event.{Event}
 use Rattle.tc_machine.specs.declared.events.End.{End}
 use Rattle.tc_machine.specs.declared.events.End.TheVariants.{Running, Dead}
 use Rattle.tc_machine.specs.declared.state.Machine.{Machine}
-use Rattle.tc_machine.specs.Stepping.{step, next_load_of}
+use Rattle.tc_machine.specs.Stepping.{step, run, next_load_of}
+use Rattle.tc_machine.specs.Safe.{AllFit}
+use Rattle.tc_script.specs.declared.driving.Peak.{Peak}
 use Rattle.tc_script.specs.declared.scripts.Turn.{Turn}
 use Rattle.tc_script.specs.declared.scripts.Bounds.{Bounds}
+use Rattle.tc_script.specs.ScriptData.{ScriptData}
 use Rattle.tc_script.specs.Ports.{is_within}
-use Rattle.tc_script.specs.Runs.{Answers, IsInput, IsEventOf, IsDead, ScriptedRun}
-use Rattle.tc_script.specs.ScriptRuns.{answer_at, input_of, event_of, while_running, events_of}
+use Rattle.tc_script.specs.Runs.{Answers, IsInput, IsEventOf, IsDead, ScriptedRun, peak_of, IsDriven}
+use Rattle.tc_script.specs.ScriptRuns.{answer_at, input_of, event_of, while_running, events_of, IsScriptRun}
 use Rattle.tc_script.proofs.Events.{inside, outside, in_one-true}
 
 -- the answers are those of the script
@@ -25,7 +28,7 @@ input_is devices bounds answers by t None w is = is
 input_is devices bounds answers by t (Some load) w (inl is) = by load.0 t w is.1 ∙ sym (cond-true _ _ 0 (in_one-true load.0 load.1 devices is.0))
 input_is devices bounds answers by t (Some load) w (inr is) =
     elim (cases_Bool (list_any (λ d. is_within load.0 load.1 d.range) devices)) [
-        inl there ↦ absurd (is.0 (inside load.0 load.1 devices there))
+      | inl there ↦ absurd (is.0 (inside load.0 load.1 devices there))
       | inr none ↦ is.1 ∙ sym (cond-false _ (answer_at devices bounds load.0 t) 0 none)
     ]
 
@@ -62,3 +65,14 @@ only plan bounds answers by t (turn ∷ turns) m (e ∷ es) h =
     ∙ ap (λ xs. event_of plan.devices bounds t turn m ∷ xs) (only plan bounds answers by (t + 1) turns (step m e) es h.2)
     ∙ ap (λ x. event_of plan.devices bounds t turn m ∷ events_of plan.devices bounds (t + 1) turns (step m x)) same
     ∙ sym (running_end m.end _ h.0)
+
+-- a machine that is driven by answers of the script
+pub script_run : {plan : PlanData} {answers : Answers} {old new : Machine} {done : Peak} (script : ScriptData) → IsDriven plan answers script.turns old new done → AnswersBy plan.devices script.bounds answers → IsScriptRun plan script old new done
+script_run {plan} {answers} {old} {new} {done} script d by =
+    let same = only plan script.bounds answers by 0 script.turns old d.events d.scripted in
+    record {
+      fits = subst (AllFit plan old) same d.fits;
+      after = d.after ∙ ap (run old) same;
+      count = d.count ∙ ap length same;
+      peak = d.peak ∙ ap (peak_of old) same;
+    }

@@ -47,9 +47,9 @@ module _ {plan : PlanData} {answers : Answers} {turns : List Turn} {old : Machin
     count = count;
     after = is ∙ ap (λ m. step m e) d.after ∙ sym (run-push old d.events e);
     goes_on = λ es h.
-    let front : ScriptedRun plan answers t (turn ∷ drop (t + 1) turns) now (e ∷ es) = (running, event, subst (λ m. ScriptedRun plan answers (t + 1) (drop (t + 1) turns) m es) is h) in
-    let all : ScriptedRun plan answers 0 turns old (d.events ++ (e ∷ es)) = d.goes_on (e ∷ es) (subst (λ ts. ScriptedRun plan answers t ts now (e ∷ es)) (sym rest) front) in
-    subst (λ xs. ScriptedRun plan answers 0 turns old xs) (sym (append_assoc d.events (e ∷ []) es)) all;
+        let front : ScriptedRun plan answers t (turn ∷ drop (t + 1) turns) now (e ∷ es) = (running, event, subst (λ m. ScriptedRun plan answers (t + 1) (drop (t + 1) turns) m es) is h) in
+        let all : ScriptedRun plan answers 0 turns old (d.events ++ (e ∷ es)) = d.goes_on (e ∷ es) (subst (λ ts. ScriptedRun plan answers t ts now (e ∷ es)) (sym rest) front) in
+        subst (λ xs. ScriptedRun plan answers 0 turns old xs) (sym (append_assoc d.events (e ∷ []) es)) all;
     fits = AllFit-push plan old d.events e d.fits (subst (λ m. Fits plan m e) d.after fits);
     peak = peak ∙ ap (λ n. max n (unwrap_or (used_of new) 0)) d.peak ∙ ap (λ m. max (peak_of old d.events) (unwrap_or (used_of m) 0)) (is ∙ ap (λ m. step m e) d.after) ∙ sym (peak-push old d.events e);
   }

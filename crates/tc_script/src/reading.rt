@@ -76,7 +76,9 @@ impl Draft {
         if after > 100_000 {
             return Err(ScriptErr::TooMany(line));
         }
-        self.script.turns.resize(after, Turn { irq, aln: self.aln })?;
+        self.script
+            .turns
+            .resize(after, Turn { irq, aln: self.aln })?;
         Ok(())
     }
 
