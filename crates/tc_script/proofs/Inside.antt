@@ -1,0 +1,134 @@
+-- What is read fits the plan.
+use Rattle.std.proofs.Common.{◌≡◌, ℕ, zero, suc, ◌+◌, ◌≤◌, ◌<◌, ◌⊎◌, inl, inr, Bool, true, false, cond, List, [], ◌∷◌, ◌++◌, length, map, replicate, set, slice_get, Option, Some, None, Result, Ok, Err, refl, sym, ap, subst, ◌∙◌, arith}
+use Rattle.std.specs.Prelude.{nat_le, nat_lt, ◌==◌, ◌&&◌, All, Contains, IfSome, codes}
+use Rattle.std.specs.List.{list_any, list_all}
+use Rattle.std.specs.Option.{option_and_then}
+use Rattle.std.specs.Str.{bytes_eq}
+use Rattle.std.proofs.lemmas.Bool.{and_parts, leb-true, eqb-true, or_cases, cases_cond, cond_both, cases_Bool, false≢true}
+use Rattle.std.proofs.lemmas.List.Elements.{All-nil, All-append, All-replicate}
+use Rattle.tcd_plan.specs.declared.plans.Device.{Device}
+use Rattle.tcd_plan.specs.PlanData.{PlanData, IsPlan, is_device, is_range}
+use Rattle.tc_script.specs.declared.errors.ScriptErr.{ScriptErr}
+use Rattle.tc_script.specs.declared.errors.ScriptErr.TheVariants.{BadLine, NoSource, OutOfRange, TooMany}
+use Rattle.tc_script.specs.declared.reading.Draft.{Draft}
+use Rattle.tc_script.specs.declared.scripts.Turn.{Turn}
+use Rattle.tc_script.specs.declared.scripts.Bounds.{Bounds}
+use Rattle.tc_script.specs.declared.statements.Statement.{Statement}
+use Rattle.tc_script.specs.declared.statements.Statement.TheVariants.{Blank, Step, Irq, Aln, In}
+use Rattle.tc_script.specs.Numbers.{number_of}
+use Rattle.tc_script.specs.Statements.{some_if, of_one_number, of_three_numbers, words_of, statement_of, is_blank, IsOrdered}
+use Rattle.tc_script.specs.Fitting.{HasSources, AreInside, FitsPlan}
+use Rattle.tc_script.specs.Reading.{own_bounds, begun, with_turns, is_source, holds_bounds, with_bounds, stated, if_said, line_read, then_read, lines_read}
+
+-- ---- bounds in order
+abbrev IsOrderedIf : Option Statement → Type 0
+IsOrderedIf o = IfSome o IsOrdered
+
+ordered_if : (test : Bool) (said : Statement) → (test ≡ true → IsOrdered said) → IsOrderedIf (some_if test said)
+ordered_if true said h = h refl
+ordered_if false said h = tt
+
+three_ordered : (verb : List ℕ) (device lo hi : ℕ) → IsOrderedIf (of_three_numbers verb device lo hi)
+three_ordered verb device lo hi = cond_both (bytes_eq verb (codes "in")) (some_if (nat_le lo hi) (In device lo hi)) None IsOrderedIf (λ _. ordered_if (nat_le lo hi) (In device lo hi) (λ is. leb-true lo hi is)) (λ _. tt)
+
+one_ordered : (verb : List ℕ) (n : ℕ) → IsOrderedIf (of_one_number verb n)
+one_ordered verb n =
+    cond_both (bytes_eq verb (codes "step")) _ _ IsOrderedIf (λ _. ordered_if (nat_le 1 n && nat_le n 100000) (Step n) (λ _. tt))
+    (λ _. cond_both (bytes_eq verb (codes "irq")) _ _ IsOrderedIf (λ _. ordered_if (nat_le n 255) (Irq n) (λ _. tt))
+    (λ _. cond_both (bytes_eq verb (codes "aln")) (some_if (nat_le n 1) (Aln (n == 1))) None IsOrderedIf (λ _. ordered_if (nat_le n 1) (Aln (n == 1)) (λ _. tt)) (λ _. tt)))
+
+then_ordered : (o : Option ℕ) (f : ℕ → Option Statement) → ((n : ℕ) → IsOrderedIf (f n)) → IsOrderedIf (option_and_then f o)
+then_ordered None f h = tt
+then_ordered (Some n) f h = h n
+
+blank_ordered : (word : List ℕ) → IsOrderedIf (is_blank word)
+blank_ordered [] = tt
+blank_ordered (c ∷ cs) = tt
+
+-- the bounds of a statement are in order
+pub statement_ordered : (words : List (List ℕ)) → IsOrderedIf (statement_of words)
+unfolding statement_of
+statement_ordered [] = tt
+statement_ordered (word ∷ []) = blank_ordered word
+statement_ordered (verb ∷ x ∷ []) = then_ordered (number_of x) (of_one_number verb) (one_ordered verb)
+statement_ordered (verb ∷ x ∷ y ∷ []) = tt
+statement_ordered (verb ∷ x ∷ y ∷ z ∷ []) =
+    then_ordered (number_of x) _ (λ device. then_ordered (number_of y) _ (λ lo. then_ordered (number_of z) _ (λ hi. three_ordered verb device lo hi)))
+statement_ordered (verb ∷ x ∷ y ∷ z ∷ w ∷ words) = tt
+
+-- ---- what is said fits
+abbrev Fits : PlanData → Draft → Type 0
+Fits plan d = FitsPlan plan d.script
+
+abbrev FitsIf : PlanData → Result Draft ScriptErr → Type 0
+FitsIf plan (Ok d) = Fits plan d
+FitsIf plan (Err e) = Unit {0}
+
+source_contained : (q : ℕ) (qs : List ℕ) → list_any (λ r. r == q) qs ≡ true → Contains qs q
+source_contained q [] is = absurd (false≢true is)
+source_contained q (r ∷ qs) is = elim (or_cases (r == q) (list_any (λ r. r == q) qs) is) [
+  | inl here ↦ (0, omega arith, eqb-true r q here)
+  | inr there ↦ let found = source_contained q qs there in (suc found.0, omega (arith, found.1), found.2)
+]
+
+turns_fit : (plan : PlanData) (line count irq : ℕ) (d : Draft) → (irq ≡ 0) ⊎ Contains plan.irqs irq → Fits plan d → FitsIf plan (with_turns line count irq d)
+turns_fit plan line count irq d source h =
+    cond_both (nat_le (length d.script.turns + count) 100000) _ _ (FitsIf plan)
+    (λ _. record {
+      sources = All-append (λ turn. (turn.irq ≡ 0) ⊎ Contains plan.irqs turn.irq) d.script.turns _ h.sources (All-replicate (λ turn. (turn.irq ≡ 0) ⊎ Contains plan.irqs turn.irq) count _ source);
+      bounds = h.bounds;
+    })
+    (λ _. tt)
+
+holds_parts : (o : Option Device) (d : Device) (lo hi : ℕ) → o ≡ Some d → holds_bounds o lo hi ≡ true → (d.lo ≤ lo) × (hi ≤ d.hi)
+holds_parts None d lo hi is holds = absurd (false≢true holds)
+holds_parts (Some e) d lo hi is holds = let same : e ≡ d = cc in let both = and_parts _ _ holds in subst (λ f. (f.lo ≤ lo) × (hi ≤ f.hi)) same (leb-true _ _ both.0, leb-true _ _ both.1)
+
+bounds_set : (ds : List Device) (bs : List Bounds) (i lo hi : ℕ) → lo ≤ hi → holds_bounds (slice_get ds i) lo hi ≡ true → AreInside ds bs → AreInside ds (set bs i (record { lo = lo; hi = hi }))
+bounds_set [] [] i lo hi ordered holds h = h
+bounds_set [] (b ∷ bs) i lo hi ordered holds h = absurd h
+bounds_set (d ∷ ds) [] i lo hi ordered holds h = absurd h
+bounds_set (d ∷ ds) (b ∷ bs) zero lo hi ordered holds h = let both = holds_parts (Some d) d lo hi refl holds in ((both.0, ordered, both.1), h.1)
+bounds_set (d ∷ ds) (b ∷ bs) (suc i) lo hi ordered holds h = (h.0, bounds_set ds bs i lo hi ordered holds h.1)
+
+stated_fits : (plan : PlanData) (line : ℕ) (said : Statement) (d : Draft) → IsOrdered said → Fits plan d → FitsIf plan (stated plan line said d)
+unfolding stated
+stated_fits plan line Blank d ordered h = h
+stated_fits plan line (Step n) d ordered h = turns_fit plan line n 0 d (inl refl) h
+stated_fits plan line (Irq irq) d ordered h =
+    cond_both (is_source plan irq) _ _ (FitsIf plan) (λ is. turns_fit plan line 1 irq d (inr (source_contained irq plan.irqs is)) h) (λ _. tt)
+stated_fits plan line (Aln aln) d ordered h = h
+stated_fits plan line (In device lo hi) d ordered h =
+    cond_both (holds_bounds (slice_get plan.devices device) lo hi) (Ok (with_bounds device lo hi d)) (Err (OutOfRange line)) (FitsIf plan)
+    (λ is. record { sources = h.sources; bounds = bounds_set plan.devices d.script.bounds device lo hi ordered is h.bounds })
+    (λ _. tt)
+
+said_fits : (plan : PlanData) (line : ℕ) (o : Option Statement) (d : Draft) → IsOrderedIf o → Fits plan d → FitsIf plan (if_said plan line o d)
+said_fits plan line None d ordered h = tt
+said_fits plan line (Some said) d ordered h = stated_fits plan line said d ordered h
+
+then_fits : (plan : PlanData) (r : Result Draft ScriptErr) (next : Draft → Result Draft ScriptErr) → FitsIf plan r → ((d : Draft) → Fits plan d → FitsIf plan (next d)) → FitsIf plan (then_read r next)
+then_fits plan (Ok d) next h more = more d h
+then_fits plan (Err e) next h more = tt
+
+lines_fit : (plan : PlanData) (n : ℕ) (lines : List (List ℕ)) (d : Draft) → Fits plan d → FitsIf plan (lines_read plan n lines d)
+unfolding lines_read
+lines_fit plan n [] d h = h
+lines_fit plan n (line ∷ lines) d h =
+    then_fits plan (line_read plan n line d) _ (said_fits plan n (statement_of (words_of line)) d (statement_ordered (words_of line)) h) (λ d k. lines_fit plan (n + 1) lines d k)
+
+own_inside : (ds : List Device) → list_all is_device ds ≡ true → AreInside ds (map own_bounds ds)
+own_inside [] all = tt
+own_inside (d ∷ ds) all =
+    let both = and_parts (is_device d) (list_all is_device ds) all in
+    let parts = and_parts (is_range d.range && nat_le d.lo d.hi) _ both.0 in
+    let more = and_parts (is_range d.range) (nat_le d.lo d.hi) parts.0 in
+    let lies = leb-true d.lo d.hi more.1 in
+    ((omega arith, omega arith, lies), own_inside ds both.1)
+
+begun_fits : (plan : PlanData) → IsPlan plan → Fits plan (begun plan)
+begun_fits plan ok = record { sources = All-nil (λ turn. (turn.irq ≡ 0) ⊎ Contains plan.irqs turn.irq); bounds = own_inside plan.devices ok.ranges.devices }
+
+-- the script that is read fits the plan
+pub script_fits : (plan : PlanData) (lines : List (List ℕ)) (d : Draft) → IsPlan plan → lines_read plan 1 lines (begun plan) ≡ Ok d → FitsPlan plan d.script
+script_fits plan lines d ok is = subst (FitsIf plan) is (lines_fit plan 1 lines (begun plan) (begun_fits plan ok))

@@ -1,0 +1,10 @@
+pub mod Events
+pub mod Runs
+pub mod Lines
+pub mod Inside
+pub mod Only
+pub mod Cuts
+pub mod Small
+pub mod Words
+pub mod Answered
+pub mod Bounded

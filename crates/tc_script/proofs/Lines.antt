@@ -1,0 +1,36 @@
+-- One line after another.
+use Rattle.std.proofs.Common.{◌≡◌, ℕ, ◌+◌, List, [], ◌∷◌, Result, Ok, Err, refl, sym, ap, subst, ◌∙◌}
+use Rattle.tcd_plan.specs.PlanData.{PlanData}
+use Rattle.tc_script.specs.declared.errors.ScriptErr.{ScriptErr}
+use Rattle.tc_script.specs.declared.errors.ScriptErr.TheVariants.{BadLine, NoSource, OutOfRange, TooMany, NoMemory}
+use Rattle.tc_script.specs.declared.reading.Draft.{Draft}
+use Rattle.tc_script.specs.ScriptData.{ScriptData}
+use Rattle.tc_script.specs.Reading.{line_read, then_read, lines_read, script_in, Refuses, Takes, Gives}
+
+lines_read-cons : (plan : PlanData) (n : ℕ) (line : List ℕ) (lines : List (List ℕ)) (d : Draft) → lines_read plan n (line ∷ lines) d ≡ then_read (line_read plan n line d) (λ d. lines_read plan (n + 1) lines d)
+unfolding lines_read
+lines_read-cons plan n line lines d = refl
+
+module _ (plan : PlanData) (n : ℕ) (parts : List (List ℕ)) (line : List ℕ) (lines : List (List ℕ)) (d : Draft) (all : Result Draft ScriptErr) (cut : parts ≡ line ∷ lines) (so_far : lines_read plan n parts d ≡ all) where
+  answer : all ≡ then_read (line_read plan n line d) (λ d. lines_read plan (n + 1) lines d)
+  answer = sym so_far ∙ ap (λ ls. lines_read plan n ls d) cut ∙ lines_read-cons plan n line lines d
+
+  -- a line that is taken
+  pub taken : (new : Draft) → line_read plan n line d ≡ Ok new → lines_read plan (n + 1) lines new ≡ all
+  taken new is = sym (answer ∙ ap (λ r. then_read r (λ d. lines_read plan (n + 1) lines d)) is)
+
+  refusal : (e : ScriptErr) → line_read plan n line d ≡ Err e → script_in all ≡ Err e
+  refusal e is = ap script_in (answer ∙ ap (λ r. then_read r (λ d. lines_read plan (n + 1) lines d)) is)
+
+  -- a line that is refused
+  pub refused : (e : ScriptErr) → Refuses e (line_read plan n line d) → Gives (Err e) (script_in all)
+  refused (BadLine k) is = refusal (BadLine k) is
+  refused (NoSource k) is = refusal (NoSource k) is
+  refused (OutOfRange k) is = refusal (OutOfRange k) is
+  refused (TooMany k) is = refusal (TooMany k) is
+  refused NoMemory is = tt
+
+-- all lines are read
+pub all_read : (plan : PlanData) (n : ℕ) (d : Draft) (all : Result Draft ScriptErr) → lines_read plan n [] d ≡ all → all ≡ Ok d
+unfolding lines_read
+all_read plan n d all is = sym is

@@ -1,0 +1,29 @@
+use Rattle.std.proofs.Common.{◌≡◌, ◌<◌, ◌^◌, ◌⊎◌, max, inl, inr, refl, sym, ap, subst, ◌∙◌, arith}
+use Rattle.std.specs.Prelude.{Contains}
+use Rattle.std.proofs.lemmas.List.{drop_all}
+use Rattle.tc_machine.specs.declared.events.End.TheVariants.{Running}
+use Rattle.tc_script.specs.Runs.{IsEventOf}
+use Rattle.tc_script.proofs.Events.{fits_event, all_at, drop_at}
+use Rattle.tc_script.proofs.Runs.{one_more, ended}
+use Rattle.tc_script.proofs.driving.drive.Goals as goal
+
+pub returns-then-not-is_running : goal.returns-then-not-is_running
+returns-then-not-is_running g c = ended c.loop-t.t c.loop-t.m c.loop-t.done c.loop-t.invariant (inr c.if-not-is_running.ensures)
+
+pub loop-t-preserved : goal.loop-t-preserved
+loop-t-preserved g c =
+    let plan = c.args.plan.now in
+    let answers = goal.F-post g c.args.ports.now.answer in
+    let m = c.loop-t.m in
+    let turn = c.turn.result in
+    let e = c.event-event.result in
+    let running : m.end ≡ Running = c.if-not-is_running.ensures in
+    let event : IsEventOf plan.devices answers c.loop-t.t turn m e = subst (λ ds. IsEventOf ds answers c.loop-t.t turn m e) c.requires.devices c.event-event.ensures.event in
+    let source = all_at (λ turn. (turn.irq ≡ 0) ⊎ Contains plan.irqs turn.irq) c.args.script.now.turns c.loop-t.t turn c.requires.sources c.turn.ensures in
+    let early : c.loop-t.t < 2 ^ 32 = omega arith in
+    one_more c.loop-t.t m c.loop-t.done turn e c.step.new.self _ c.loop-t.invariant running (drop_at c.args.script.now.turns c.loop-t.t turn c.turn.ensures) event
+    (fits_event plan answers c.loop-t.t turn m e running event c.requires.bounded source early c.event-event.ensures.word) c.step.ensures refl
+    (c.max.ensures ∙ ap (λ n. max c.loop-t.done.peak n) c.used-in-loop-t.ensures)
+
+pub returns : goal.returns
+returns g c = ended c.loop-t.t c.loop-t.m c.loop-t.done c.loop-t.invariant (inl (drop_all c.loop-t.t c.args.script.now.turns (omega arith)))

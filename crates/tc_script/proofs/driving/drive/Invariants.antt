@@ -1,0 +1,5 @@
+use Rattle.tc_script.proofs.Runs.{DrivenSoFar}
+use Rattle.tc_script.proofs.driving.drive.Given as goal
+
+abbrev pub invariant-loop-t : goal.invariant-loop-t
+invariant-loop-t g l = DrivenSoFar l.plan (goal.F-post g l.ports.answer) l.script.turns l.fn.m l.t l.m l.done

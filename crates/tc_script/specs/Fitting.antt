@@ -1,0 +1,21 @@
+-- Scripts that fit a plan.
+use Rattle.std.specs.Prelude.{◌≡◌, ℕ, ◌≤◌, ◌⊎◌, List, [], ◌∷◌, All, Contains}
+use Rattle.tcd_plan.specs.declared.plans.Device.{Device}
+use Rattle.tcd_plan.specs.PlanData.{PlanData}
+use Rattle.tc_script.specs.declared.scripts.Turn.{Turn}
+use Rattle.tc_script.specs.declared.scripts.Bounds.{Bounds}
+use Rattle.tc_script.specs.ScriptData.{ScriptData}
+
+-- the interrupt of each turn is none or one of the plan's
+abbrev pub HasSources : PlanData → List Turn → Type 0
+HasSources plan turns = All (λ turn. (turn.irq ≡ 0) ⊎ Contains plan.irqs turn.irq) turns
+
+-- for each device, bounds inside its own
+abbrev pub AreInside : List Device → List Bounds → Type 0
+AreInside [] [] = Unit {0}
+AreInside (d ∷ ds) (b ∷ bs) = ((d.lo ≤ b.lo) × (b.lo ≤ b.hi) × (b.hi ≤ d.hi)) × AreInside ds bs
+AreInside _ _ = ⊥
+
+pub record FitsPlan (plan : PlanData) (script : ScriptData) : Type 0 where
+  pub sources : HasSources plan script.turns
+  pub bounds : AreInside plan.devices script.bounds

@@ -1,0 +1,9 @@
+pub mod Parts
+pub mod Numbers
+pub mod Statements
+pub mod ScriptData
+pub mod Reading
+pub mod Fitting
+pub mod Ports
+pub mod Runs
+pub mod ScriptRuns

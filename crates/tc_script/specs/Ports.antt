@@ -1,0 +1,23 @@
+-- What answers for the devices.
+use Rattle.std.specs.Prelude.{ℕ, ◌+◌, ◌^◌, ◌<◌, ◌≤◌, ◌&&◌, nat_le, Bool, List, All}
+use Rattle.tcd_base.specs.declared.parts.Range.{Range}
+use Rattle.tcd_plan.specs.declared.plans.Device.{Device}
+use Rattle.tc_machine.specs.Ranges.{IsWithin}
+
+-- the devices, and the closure
+pub record PortsData (F : Type 0) : Type 0 where
+  pub devices : List Device
+  pub answer : F
+
+-- it may be asked at each address of each device, and for the number of each event
+abbrev pub IsAskable : (ℕ → ℕ → Type 0) → List Device → Type 0
+IsAskable can devices = All (λ d. (addr t : ℕ) → IsWithin addr 1 d.range → t < 2 ^ 32 → can addr t) devices
+
+-- each word that it answers there lies in that device's bounds
+abbrev pub IsBounded : (ℕ → ℕ → ℕ → Type 0) → List Device → Type 0
+IsBounded gives devices =
+    All (λ d. (addr t w : ℕ) → IsWithin addr 1 d.range → t < 2 ^ 32 → w < 2 ^ 32 → gives addr t w → (d.lo ≤ w) × (w ≤ d.hi)) devices
+
+-- the n bytes from x on lie in the range
+abbrev pub is_within : ℕ → ℕ → Range → Bool
+is_within x n r = nat_le r.at x && nat_le (x + n) (r.at + r.len)

@@ -1,0 +1,54 @@
+-- Runs by a script that answers for the devices itself: there is one list of events.
+use Rattle.std.specs.Prelude.{◌≡◌, ℕ, ◌+◌, if◌then◌else◌, List, [], ◌∷◌, length, Option, Some, None}
+use Rattle.std.specs.List.{list_any}
+use Rattle.tcd_plan.specs.declared.plans.Device.{Device}
+use Rattle.tcd_plan.specs.PlanData.{PlanData}
+use Rattle.tc_machine.specs.declared.events.Event.{Event}
+use Rattle.tc_machine.specs.declared.events.End.{End}
+use Rattle.tc_machine.specs.declared.events.End.TheVariants.{Running, Dead}
+use Rattle.tc_machine.specs.declared.state.Machine.{Machine}
+use Rattle.tc_machine.specs.Stepping.{step, run, next_load_of}
+use Rattle.tc_machine.specs.Safe.{AllFit}
+use Rattle.tc_script.specs.declared.driving.Peak.{Peak}
+use Rattle.tc_script.specs.declared.scripts.Turn.{Turn}
+use Rattle.tc_script.specs.declared.scripts.Bounds.{Bounds}
+use Rattle.tc_script.specs.ScriptData.{ScriptData, answer_of}
+use Rattle.tc_script.specs.Ports.{is_within}
+use Rattle.tc_script.specs.Runs.{peak_of}
+
+-- what the device that has the address answers at an event, 0 where none has it
+abbrev pub answer_at : List Device → List Bounds → ℕ → ℕ → ℕ
+answer_at [] bounds x t = 0
+answer_at (d ∷ ds) [] x t = 0
+answer_at (d ∷ ds) (b ∷ bs) x t = if is_within x 1 d.range then answer_of b t else answer_at ds bs x t
+
+-- the input at an event: the answer at the load's address, where the load lies wholly in one device range, else 0
+abbrev pub input_of : List Device → List Bounds → ℕ → Option (ℕ × ℕ) → ℕ
+input_of devices bounds t None = 0
+input_of devices bounds t (Some load) = if list_any (λ d. is_within load.0 load.1 d.range) devices then answer_at devices bounds load.0 t else 0
+
+-- the event of a turn
+abbrev pub event_of : List Device → List Bounds → ℕ → Turn → Machine → Event
+event_of devices bounds t turn m = record { irq = turn.irq; input = input_of devices bounds t (next_load_of m); status = 0; aln = turn.aln }
+
+abbrev pub while_running : End → List Event → List Event
+while_running Running events = events
+while_running (Dead cause) events = []
+
+-- the events of these turns until the machine is dead or the turns end; the first one has this number
+abbrev pub events_of : List Device → List Bounds → ℕ → List Turn → Machine → List Event
+events_of devices bounds t [] m = []
+events_of devices bounds t (turn ∷ turns) m =
+    let e = event_of devices bounds t turn m in
+    while_running m.end (e ∷ events_of devices bounds (t + 1) turns (step m e))
+
+-- all events of a script
+abbrev pub script_events : PlanData → ScriptData → Machine → List Event
+script_events plan script m = events_of plan.devices script.bounds 0 script.turns m
+
+-- the machine is driven by a script
+pub record IsScriptRun (plan : PlanData) (script : ScriptData) (old new : Machine) (done : Peak) : Type 0 where
+  pub fits : AllFit plan old (script_events plan script old)
+  pub after : new ≡ run old (script_events plan script old)
+  pub count : done.events ≡ length (script_events plan script old)
+  pub peak : done.peak ≡ peak_of old (script_events plan script old)

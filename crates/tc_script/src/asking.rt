@@ -1,0 +1,71 @@
+// What answers for the devices.
+ghost use Rattle.std.specs.Prelude.{◌≡◌, ◌<◌, ◌^◌};
+ghost use Rattle.std.specs.List.{list_any};
+ghost use Rattle.tc_machine.specs.Ranges.{IsInDevice};
+ghost use Rattle.tc_script.specs.Ports.{is_within, IsAskable, IsBounded};
+
+use arrayvec::ArrayVec;
+use std::marker::Model;
+use tcd_base::Range;
+use tcd_plan::{Device, Plan};
+
+/// Whether the bytes from an address on lie wholly in a range, without wrapping.
+pub(crate) fn is_within(range: &Range, addr: u32, size: u8) -> bool
+    ensures { result ≡ is_within addr size range.now }
+{
+    let from = u64::from(addr);
+    let to = from + u64::from(size);
+    u64::from(range.at) <= from && to <= u64::from(range.at) + u64::from(range.len)
+}
+
+/// The devices of a plan, and a closure that answers for them: for an address of a device and the number of an event a
+/// word within that device's bounds. A struct can't keep a fact about a closure, so `new` ensures this and each call
+/// that asks requires it.
+#[derive(Drop)]
+pub struct Ports<F: Fn(u32, u32) -> u32> {
+    devices: ArrayVec<Device, 16>,
+    answer: F,
+}
+
+impl<F: Fn(u32, u32) -> u32> Model for Ports<F> {
+    ghost use Rattle.tc_script.specs.Ports.{PortsData};
+
+    ghost Value = { PortsData F };
+
+    ghost view = { λ p. record { devices = p.devices.items; answer = p.answer } };
+}
+
+impl<F: Fn(u32, u32) -> u32> Ports<F> {
+    /// Ports for a plan's devices.
+    pub fn new(plan: &Plan, answer: F) -> Ports<F>
+        requires askable { IsAskable (F.pre answer) plan.now.devices }
+        requires bounded { IsBounded (F.post answer) plan.now.devices }
+        ensures devices { result.devices ≡ plan.now.devices }
+        ensures answer { result.answer ≡ answer }
+        ensures askable { IsAskable (F.pre result.answer) plan.now.devices }
+        ensures bounded { IsBounded (F.post result.answer) plan.now.devices }
+    {
+        let mut devices = ArrayVec::new();
+        devices
+            .try_extend_from_slice(plan.devices.as_slice())
+            .unwrap();
+        Ports { devices, answer }
+    }
+
+    /// Whether the bytes from an address on lie wholly in one device range.
+    pub(crate) fn holds(&self, addr: u32, size: u8) -> bool
+        ensures { result ≡ list_any (λ d. is_within addr size d.range) self.now.devices }
+    {
+        self.devices
+            .iter()
+            .any(|device| is_within(&device.range, addr, size))
+    }
+
+    /// The closure's answer.
+    pub(crate) fn ask(&self, addr: u32, t: u32) -> u32
+        requires { F.pre self.now.answer addr t }
+        ensures { F.post self.now.answer addr t result }
+    {
+        (self.answer)(addr, t)
+    }
+}

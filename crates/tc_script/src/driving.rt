@@ -1,0 +1,110 @@
+// The machine, driven by the turns of a script.
+ghost use Rattle.std.specs.Prelude.{◌≡◌, ◌≤◌, ◌<◌, ◌^◌, Some, IfSome, unwrap_or};
+ghost use Rattle.std.specs.Bool.{MatchBool};
+ghost use Rattle.tc_machine.specs.Stepping.{used_of};
+ghost use Rattle.tc_script.specs.Fitting.{HasSources};
+ghost use Rattle.tc_script.specs.Ports.{IsAskable, IsBounded};
+ghost use Rattle.tc_script.specs.Runs.{IsInput, IsEventOf, IsDead, IsDriven};
+
+use crate::asking::Ports;
+use crate::{Script, Turn};
+use tc_machine::{End, Event, Machine};
+use tcd_plan::Plan;
+
+/// How many events were done, and the greatest number of save areas that were in use.
+#[derive(Clone, Copy, Debug, PartialEq, Eq)]
+pub struct Peak {
+    pub events: u32,
+    pub peak: u32,
+}
+
+/// How many areas are in use, 0 where that isn't known.
+fn used(m: &Machine) -> u32
+    ensures { result ≡ unwrap_or (used_of m.now) 0 }
+{
+    m.used().unwrap_or(0)
+}
+
+/// Whether the machine runs.
+fn is_running(m: &Machine) -> bool
+    ensures { MatchBool result (m.now.end ≡ End.Running) (IsDead m.now.end) }
+{
+    match m.end {
+        End::Running => true,
+        End::Dead(_) => false,
+    }
+}
+
+/// The input of an event whose load is this one: the closure's answer where the load lies wholly in one device range,
+/// else 0.
+fn input_at<F: Fn(u32, u32) -> u32>(ports: &Ports<F>, addr: u32, size: u8, t: u32) -> u32
+    requires some { 1 ≤ size }
+    requires askable { IsAskable (F.pre ports.now.answer) ports.now.devices }
+    ensures { IsInput ports.now.devices (F.post ports.now.answer) t (Some (addr, size)) result }
+{
+    if ports.holds(addr, size) {
+        ports.ask(addr, t)
+    } else {
+        0
+    }
+}
+
+/// The input of an event, 0 where no load comes.
+fn input<F: Fn(u32, u32) -> u32>(ports: &Ports<F>, load: Option<(u32, u8)>, t: u32) -> u32
+    requires some { IfSome load (λ l. 1 ≤ l.1) }
+    requires askable { IsAskable (F.pre ports.now.answer) ports.now.devices }
+    ensures { IsInput ports.now.devices (F.post ports.now.answer) t load result }
+{
+    match load {
+        Some((addr, size)) => input_at(ports, addr, size, t),
+        None => 0,
+    }
+}
+
+/// The event of a turn.
+fn event<F: Fn(u32, u32) -> u32>(ports: &Ports<F>, m: &Machine, turn: Turn, t: u32) -> Event
+    requires { IsAskable (F.pre ports.now.answer) ports.now.devices }
+    ensures event { IsEventOf ports.now.devices (F.post ports.now.answer) t turn m.now result }
+    ensures word { result.input < 2 ^ 32 }
+{
+    let input = input(ports, m.next_load(), t);
+    Event {
+        irq: turn.irq,
+        input,
+        status: 0,
+        aln: turn.aln,
+    }
+}
+
+/// Does one event for each turn of the script, until the machine is dead or the turns end. An event has the turn's
+/// interrupt and its way with misaligned accesses, status 0, and as input the answer of the ports where the load at pc
+/// lies wholly in one device range, else 0.
+pub fn drive<F: Fn(u32, u32) -> u32>(
+    m: &mut Machine,
+    plan: &Plan,
+    script: &Script,
+    ports: &Ports<F>,
+) -> Peak
+    requires devices { ports.now.devices ≡ plan.now.devices }
+    requires sources { HasSources plan.now script.now.turns }
+    requires askable { IsAskable (F.pre ports.now.answer) plan.now.devices }
+    requires bounded { IsBounded (F.post ports.now.answer) plan.now.devices }
+    ensures { IsDriven plan.now (F.post ports.now.answer) script.now.turns m.old m.new result }
+{
+    let mut done = Peak {
+        events: 0,
+        peak: used(m),
+    };
+    for t in 0..script.len() {
+        if !is_running(m) {
+            return done;
+        }
+        let event = event(ports, m, script.turn(t), t);
+        m.step(&event);
+        done = Peak {
+            events: t + 1,
+            peak: done.peak.max(used(m)),
+        };
+    }
+    done
+}

@@ -1,0 +1,20 @@
+//! Scripts: the turns of a run and what the devices answer in it; the machine driven by them.
+#![tactic(auto)]
+
+mod asking;
+mod driving;
+mod errors;
+mod numbers;
+mod parts;
+mod reading;
+mod scripted;
+mod scripts;
+mod statements;
+#[cfg(test)]
+mod tests;
+
+pub use asking::Ports;
+pub use driving::{Peak, drive};
+pub use errors::ScriptErr;
+pub use scripted::drive_by_script;
+pub use scripts::{Bounds, Script, Turn};

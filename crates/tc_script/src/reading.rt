@@ -1,0 +1,159 @@
+// A script from the bytes of a file.
+ghost use Rattle.std.specs.Prelude.{◌≡◌, ◌<◌, ◌≤◌, ◌^◌, IsTrue, IfOk, length, map, slice_get};
+ghost use Rattle.tcd_plan.specs.PlanData.{IsPlan};
+ghost use Rattle.tc_script.specs.Fitting.{FitsPlan};
+ghost use Rattle.tc_script.specs.Statements.{IsOrdered};
+ghost use Rattle.tc_script.specs.Reading.{own_bounds, begun, with_turns, is_source, holds_bounds, with_bounds, stated, line_read, Takes, script_of, Gives};
+
+use crate::parts::cut;
+use crate::statements::{Statement, statement_in};
+use crate::{Bounds, Script, ScriptErr, Turn};
+use arrayvec::ArrayVec;
+use std::alloc::Global;
+use tcd_plan::{Device, Plan};
+
+/// What is read so far, and whether a misaligned access traps in the turns that follow.
+#[derive(Drop)]
+pub(crate) struct Draft {
+    pub(crate) script: Script,
+    pub(crate) aln: bool,
+}
+
+fn bounds_of(devices: &[Device]) -> ArrayVec<Bounds, 16>
+    requires { length devices.now ≤ 16 }
+    ensures { result.items ≡ map own_bounds devices.now }
+{
+    let mut bounds = ArrayVec::new();
+    for device in devices {
+        bounds.push(Bounds {
+            lo: device.lo,
+            hi: device.lo,
+        });
+    }
+    bounds
+}
+
+/// Whether an interrupt is one of the plan's.
+fn is_source(plan: &Plan, irq: u8) -> bool
+    ensures { result ≡ is_source plan.now irq }
+{
+    plan.irqs.iter().any(|q| *q == irq)
+}
+
+/// Whether the device is there, and its own bounds hold these.
+fn holds_bounds(devices: &[Device], device: usize, lo: u32, hi: u32) -> bool
+    ensures value { result ≡ holds_bounds (slice_get devices.now device) lo hi }
+    ensures there { IsTrue result → device < length devices.now }
+{
+    match devices.get(device) {
+        Some(device) => device.lo <= lo && hi <= device.hi,
+        None => false,
+    }
+}
+
+impl Draft {
+    /// In front of the first line.
+    fn new(alloc: Global, plan: &Plan) -> Draft
+        ensures begun { result ≡ begun plan.now }
+        ensures plan { IsPlan plan.now }
+    {
+        Draft {
+            script: Script {
+                turns: Vec::new(alloc),
+                bounds: bounds_of(plan.devices.as_slice()),
+            },
+            aln: false,
+        }
+    }
+
+    /// So many turns more with this interrupt.
+    fn add_turns(&mut self, line: u32, count: u32, irq: u8) -> Result<(), ScriptErr>
+        ensures turns { Takes result self.new (with_turns line count irq self.old) }
+        ensures devices { length self.new.script.bounds ≡ length self.old.script.bounds }
+    {
+        let before = self.script.turns.len();
+        let after = before + count as usize;
+        if after > 100_000 {
+            return Err(ScriptErr::TooMany(line));
+        }
+        self.script
+            .turns
+            .resize(after, Turn { irq, aln: self.aln })?;
+        Ok(())
+    }
+
+    /// Other bounds for a device.
+    fn set_bounds(&mut self, device: usize, lo: u32, hi: u32)
+        requires there { device < length self.old.script.bounds }
+        requires ordered { lo ≤ hi }
+        ensures { self.new ≡ with_bounds device lo hi self.old }
+    {
+        self.script.bounds[device] = Bounds { lo, hi };
+    }
+
+    /// What a statement does.
+    #[tactic(auto, unfolding(crate::specs::Reading::stated))]
+    fn state(&mut self, plan: &Plan, line: u32, said: Statement) -> Result<(), ScriptErr>
+        requires ordered { IsOrdered said }
+        requires devices { length self.old.script.bounds ≡ length plan.now.devices }
+        ensures stated { Takes result self.new (stated plan.now line said self.old) }
+        ensures devices { length self.new.script.bounds ≡ length self.old.script.bounds }
+    {
+        match said {
+            Statement::Blank => Ok(()),
+            Statement::Step(n) => self.add_turns(line, n, 0),
+            Statement::Irq(irq) => {
+                if !is_source(plan, irq) {
+                    return Err(ScriptErr::NoSource(line));
+                }
+                self.add_turns(line, 1, irq)
+            }
+            Statement::Aln(aln) => {
+                self.aln = aln;
+                Ok(())
+            }
+            Statement::In { device, lo, hi } => {
+                let place = device as usize;
+                if !holds_bounds(plan.devices.as_slice(), place, lo, hi) {
+                    return Err(ScriptErr::OutOfRange(line));
+                }
+                self.set_bounds(place, lo, hi);
+                Ok(())
+            }
+        }
+    }
+
+    /// What a line does.
+    fn read_line(&mut self, plan: &Plan, number: u32, line: &[u8]) -> Result<(), ScriptErr>
+        requires { length self.old.script.bounds ≡ length plan.now.devices }
+        ensures read { Takes result self.new (line_read plan.now number line.now self.old) }
+        ensures devices { length self.new.script.bounds ≡ length self.old.script.bounds }
+    {
+        match statement_in(line) {
+            Some(said) => self.state(plan, number, said),
+            None => Err(ScriptErr::BadLine(number)),
+        }
+    }
+}
+
+impl Script {
+    /// The script that the bytes of a file are: lines `step N`, `irq P`, `aln 0`, `aln 1` and `in DEVICE LO HI`, and
+    /// empty ones. The first bad line decides, and there the least refusal.
+    pub fn read(alloc: Global, bytes: &[u8], plan: &Plan) -> Result<Script, ScriptErr>
+        requires { length bytes.now ≤ 2 ^ 30 }
+        ensures script { Gives result (script_of plan.now bytes.now) }
+        ensures fits { IfOk result (FitsPlan plan.now) }
+    {
+        let mut draft = Draft::new(alloc, plan);
+        let mut rest = Some(bytes);
+        let mut number = 0;
+        'lines: while let Some(text) = rest {
+            let (line, behind) = cut(text, b'\n');
+            number += 1;
+            draft.read_line(plan, number, line)?;
+            rest = behind;
+        }
+        let Draft { script, aln: _ } = draft;
+        Ok(script)
+    }
+}

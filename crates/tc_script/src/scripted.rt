@@ -1,0 +1,39 @@
+// The machine, driven by a script that answers for the devices, too.
+ghost use Rattle.std.specs.Prelude.{◌≡◌, ◌≤◌, length};
+ghost use Rattle.tc_script.specs.Fitting.{AreInside, FitsPlan};
+ghost use Rattle.tc_script.specs.ScriptRuns.{answer_at, IsScriptRun};
+
+use crate::asking::is_within;
+use crate::{Peak, Ports, Script, drive};
+use tc_machine::Machine;
+use tcd_plan::{Device, Plan};
+
+/// What the device that has an address answers at an event, 0 where none has it.
+fn answer_at(devices: &[Device], script: &Script, addr: u32, t: u32) -> u32
+    requires { length script.now.bounds ≡ length devices.now }
+    ensures { result ≡ answer_at devices.now script.now.bounds addr t }
+{
+    for (i, device) in devices.iter().enumerate() {
+        if is_within(&device.range, addr, 1) {
+            return script.answer(i, t);
+        }
+    }
+    0
+}
+
+/// Does one event for each turn of the script, until the machine is dead or the turns end; what the device that has an
+/// address answers is what the script says.
+pub fn drive_by_script(m: &mut Machine, plan: &Plan, script: &Script) -> Peak
+    requires { FitsPlan plan.now script.now }
+    ensures { IsScriptRun plan.now script.now m.old m.new result }
+{
+    let devices = plan.devices.as_slice();
+    let ports = Ports::new(
+        plan,
+        |addr: u32, t: u32| -> u32
+            requires { length script.now.bounds ≡ length devices.now }
+            ensures { result ≡ answer_at devices.entry.now script.entry.now.bounds addr t }
+        { answer_at(devices, script, addr, t) },
+    );
+    drive(m, plan, script, &ports)
+}

@@ -1,0 +1,73 @@
+// A script.
+ghost use Rattle.std.specs.Prelude.{◌≡◌, ◌<◌, ◌≤◌, length, slice_get, Some, option_map};
+ghost use Rattle.tc_script.specs.ScriptData.{answer_of};
+
+use arrayvec::ArrayVec;
+use std::marker::Model;
+
+/// What stands at an event, counted from 0: the words from `lo` up to `hi`, one after another and over again.
+fn answer(bounds: Bounds, at: u32) -> u32
+    requires { bounds.lo ≤ bounds.hi }
+    ensures { result ≡ answer_of bounds at }
+{
+    let count = u64::from(bounds.hi - bounds.lo) + 1;
+    (u64::from(bounds.lo) + u64::from(at) % count) as u32
+}
+
+/// One turn: the interrupt that asks (0 for none), and whether a misaligned access traps.
+#[derive(Clone, Copy, Debug, PartialEq, Eq)]
+pub struct Turn {
+    pub irq: u8,
+    pub aln: bool,
+}
+
+/// What a device answers: words from `lo` up to `hi`.
+#[derive(Clone, Copy, Debug, Default, PartialEq, Eq)]
+pub struct Bounds {
+    pub lo: u32,
+    pub hi: u32,
+}
+
+/// At most 100,000 turns, and for each device of the plan the bounds of its answers.
+#[derive(Drop)]
+pub struct Script {
+    pub(crate) turns: Vec<Turn>,
+    pub(crate) bounds: ArrayVec<Bounds, 16>,
+}
+
+impl Model for Script {
+    ghost use Rattle.tc_script.specs.ScriptData.{ScriptData, IsScript};
+
+    ghost Value = { ScriptData };
+
+    ghost view = { λ s. record { turns = s.turns.items; bounds = s.bounds.items } };
+
+    ghost invariant = { λ s. IsScript s.turns.items s.bounds.items };
+}
+
+impl Script {
+    /// The number of turns.
+    pub fn len(&self) -> u32
+        ensures len { result ≡ length self.now.turns }
+        ensures few { result ≤ 100000 }
+    {
+        self.turns.len() as u32
+    }
+
+    /// A turn, counted from 0.
+    pub fn turn(&self, at: u32) -> Turn
+        requires { at < length self.now.turns }
+        ensures { slice_get self.now.turns at ≡ Some result }
+    {
+        self.turns[at as usize]
+    }
+
+    /// What a device answers at an event, both counted from 0: the words from the device's `lo` up to its `hi`, one
+    /// after another and over again.
+    pub fn answer(&self, device: usize, at: u32) -> u32
+        requires { device < length self.now.bounds }
+        ensures { option_map (λ b. answer_of b at) (slice_get self.now.bounds device) ≡ Some result }
+    {
+        answer(self.bounds.as_slice()[device], at)
+    }
+}

@@ -1,0 +1,116 @@
+// The statement that a line is.
+ghost use Rattle.std.specs.Prelude.{◌≡◌, [], ◌∷◌, IfSome};
+ghost use Rattle.tc_script.specs.Statements.{of_one_number, of_three_numbers, words_of, statement_of, IsOrdered};
+
+use crate::numbers::number;
+use crate::parts::cut;
+
+/// What a line says: nothing, so many turns without an interrupt, a turn with one, whether a misaligned access traps in
+/// the turns that follow, or what a device may answer.
+#[derive(Clone, Copy, Debug, PartialEq, Eq)]
+pub(crate) enum Statement {
+    Blank,
+    Step(u32),
+    Irq(u8),
+    Aln(bool),
+    In { device: u32, lo: u32, hi: u32 },
+}
+
+fn of_one_number(verb: &[u8], n: u32) -> Option<Statement>
+    ensures { result ≡ of_one_number verb.now n }
+{
+    match verb {
+        b"step" if 1 <= n && n <= 100_000 => Some(Statement::Step(n)),
+        b"irq" if n <= 255 => Some(Statement::Irq(n as u8)),
+        b"aln" if n <= 1 => Some(Statement::Aln(n == 1)),
+        _ => None,
+    }
+}
+
+fn of_three_numbers(verb: &[u8], device: u32, lo: u32, hi: u32) -> Option<Statement>
+    ensures { result ≡ of_three_numbers verb.now device lo hi }
+{
+    match verb {
+        b"in" if lo <= hi => Some(Statement::In { device, lo, hi }),
+        _ => None,
+    }
+}
+
+/// The statement that a line of one word is.
+#[tactic(auto, unfolding(crate::specs::Statements::statement_of))]
+fn of_one_word(word: &[u8]) -> Option<Statement>
+    ensures { result ≡ statement_of (word.now ∷ []) }
+{
+    if word.is_empty() {
+        Some(Statement::Blank)
+    } else {
+        None
+    }
+}
+
+/// The statement that a line of two words is.
+#[tactic(auto, unfolding(crate::specs::Statements::statement_of))]
+fn of_two_words(verb: &[u8], word: &[u8]) -> Option<Statement>
+    ensures { result ≡ statement_of (verb.now ∷ word.now ∷ []) }
+{
+    match number(word) {
+        Some(n) => of_one_number(verb, n),
+        None => None,
+    }
+}
+
+/// The statement that a line of four words is.
+#[tactic(auto, unfolding(crate::specs::Statements::statement_of))]
+fn of_four_words(verb: &[u8], first: &[u8], second: &[u8], third: &[u8]) -> Option<Statement>
+    ensures { result ≡ statement_of (verb.now ∷ first.now ∷ second.now ∷ third.now ∷ []) }
+{
+    let device = number(first)?;
+    let lo = number(second)?;
+    let hi = number(third)?;
+    of_three_numbers(verb, device, lo, hi)
+}
+
+/// The statement of three words and the words of what is left of the line.
+fn of_last_words(verb: &[u8], first: &[u8], second: &[u8], rest: &[u8]) -> Option<Statement>
+    ensures { result ≡ statement_of (verb.now ∷ first.now ∷ second.now ∷ words_of rest.now) }
+{
+    let (third, rest) = cut(rest, b' ');
+    match rest {
+        Some(_) => None,
+        None => of_four_words(verb, first, second, third),
+    }
+}
+
+/// The statement of two words and the words of what is left of the line.
+fn of_more_words(verb: &[u8], first: &[u8], rest: &[u8]) -> Option<Statement>
+    ensures { result ≡ statement_of (verb.now ∷ first.now ∷ words_of rest.now) }
+{
+    let (second, rest) = cut(rest, b' ');
+    match rest {
+        Some(rest) => of_last_words(verb, first, second, rest),
+        None => None,
+    }
+}
+
+/// The statement of a word and the words of what is left of the line.
+fn of_words(verb: &[u8], rest: &[u8]) -> Option<Statement>
+    ensures { result ≡ statement_of (verb.now ∷ words_of rest.now) }
+{
+    let (first, rest) = cut(rest, b' ');
+    match rest {
+        Some(rest) => of_more_words(verb, first, rest),
+        None => of_two_words(verb, first),
+    }
+}
+
+/// The statement that a line is.
+pub(crate) fn statement_in(line: &[u8]) -> Option<Statement>
+    ensures said { result ≡ statement_of (words_of line.now) }
+    ensures ordered { IfSome result IsOrdered }
+{
+    let (verb, rest) = cut(line, b' ');
+    match rest {
+        Some(rest) => of_words(verb, rest),
+        None => of_one_word(verb),
+    }
+}
