@@ -12,7 +12,12 @@ use Rattle.tc_machine.specs.Safe.{Safe}
 use Rattle.depth_cert.specs.Certs.{CertData}
 use Rattle.depth_cert.specs.Grammar.{certificate_of}
 use Rattle.cfg_recover.specs.Accepting.{Accepts, certified_need}
-use Rattle.tcd_driver.specs.Lines.{certified_line}
+use Rattle.tcd_driver.specs.Lines.{certified_line, run_line}
+use Rattle.tcd_driver.specs.Running.{told_run}
+use Rattle.tc_machine.specs.declared.state.Machine.{Machine}
+use Rattle.tc_script.specs.declared.driving.Peak.{Peak}
+use Rattle.tc_script.specs.Runs.{peak_of}
+use Rattle.tc_script.specs.ScriptRuns.{script_events, IsScriptRun}
 use Rattle.tc_script.specs.ScriptData.{ScriptData}
 use Rattle.tc_script.specs.Reading.{script_of, Refuses}
 use Rattle.tc_script.specs.declared.errors.ScriptErr.{ScriptErr}
@@ -116,3 +121,9 @@ script_refused (reading.NoSource n) answer some h = h
 script_refused (reading.OutOfRange n) answer some h = h
 script_refused (reading.TooMany n) answer some h = h
 script_refused reading.NoMemory answer some h = absurd (some refl)
+
+-- the line of a run, by what the run came to
+pub told_is : (plan : PlanData) (script : ScriptData) (old new : Machine) (done : Peak) → IsScriptRun plan script old new done → run_line done.events done.peak new ≡ told_run plan script old
+told_is plan script old new done h =
+    ap (λ (n : ℕ). run_line n done.peak new) h.count ∙ ap (λ (n : ℕ). run_line (length (script_events plan script old)) n new) h.peak
+    ∙ ap (λ (m : Machine). run_line (length (script_events plan script old)) (peak_of old (script_events plan script old)) m) h.after

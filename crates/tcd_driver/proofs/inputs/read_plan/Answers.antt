@@ -4,7 +4,7 @@ use Rattle.tcd_driver.proofs.Said.{err_weaker, stops_weaker, text_by, plan_text}
 use Rattle.tcd_driver.proofs.inputs.read_plan.Goals as goal
 
 pub returns-in-Ok-clause-stops : goal.returns-in-Ok-clause-stops
-returns-in-Ok-clause-stops g c = err_weaker _ _ _ _ c.plan_from.result c.plan_from.ensures.stops (λ t bad. plan_text _ _ c.in-Ok.bytes.items _ t c.deref.ensures.value c.in-Ok.ensures.found.0 (rw (← c.deref.ensures.value) c.in-Ok.ensures.found.1) bad) (λ no. absurd no)
+returns-in-Ok-clause-stops g c = err_weaker _ _ _ _ c.plan_from.result c.plan_from.ensures.stops (λ t bad. plan_text _ _ c.in-Ok.bytes.items _ t c.deref.ensures.value c.in-Ok.ensures.found.0 c.in-Ok.ensures.found.1 bad) (λ no. absurd no)
 
 pub returns-in-Err-clause-stops : goal.returns-in-Err-clause-stops
 returns-in-Err-clause-stops g c = stops_weaker _ _ _ _ c.in-Err.outcome c.in-Err.ensures.stops (λ t long. text_by (PlanText _ _) t _ (long.1 ∙ c.long_plan_line.ensures) (long_plan long.0)) (λ f. f)
