@@ -78,16 +78,19 @@ pub holds_call : (plan : PlanData) (s : State) (word word2 : ℕ → ℕ) (ie : 
 holds_call plan s word word2 ie ccpn small others h = holds_same plan s (call_entry s) word word2 ie ie ccpn ccpn refl h.enabled h.priority small others h
 
 -- ---- registers without a value
+some_none : (i : ℕ) → Some i ≡ None → ⊥
+some_none i e = cc
+
 some_slot : (r : ℕ) → r < 32 → r ≢ 16 → r ≢ 17 → r ≢ 24 → r ≢ 25 → r ≢ 27 → slot r ≡ None → ⊥
 unfolding slot
 some_slot r lt n16 n17 n24 n25 n27 e =
     elim (cases_lt r 16) [
-      | inl dr ↦ let f : Some r ≡ None = rw (lt-ltb r 16 dr) at e in absurd cc
+      | inl dr ↦ some_none r (rw (lt-ltb r 16 dr) at e)
       | inr address ↦ elim (cases_lt r 24) [
-        | inl low ↦ let f : Some (r - 2) ≡ None = rw (le-ltb r 16 address, le-leb 18 r (omega arith), le-leb r 23 (omega arith)) at e in cc
+        | inl low ↦ some_none (r - 2) (rw (le-ltb r 16 address, le-leb 18 r (omega arith), le-leb r 23 (omega arith)) at e)
         | inr high ↦ elim (cases_eq r 26) [
-          | inl stack ↦ let f : Some 22 ≡ None = subst (λ n. slot n ≡ None) stack e in cc
-          | inr other ↦ let f : Some (r - 5) ≡ None = rw (le-ltb r 16 address, le-leb 18 r (omega arith), lt-leb r 23 (omega arith), ne_eqb r 26 other, le-leb 28 r (omega arith), le-leb r 31 (omega arith)) at e in cc
+          | inl stack ↦ some_none 22 (subst (λ n. slot n ≡ None) stack e)
+          | inr other ↦ some_none (r - 5) (rw (le-ltb r 16 address, le-leb 18 r (omega arith), lt-leb r 23 (omega arith), ne_eqb r 26 other, le-leb 28 r (omega arith), le-leb r 31 (omega arith)) at e)
         ]
       ]
     ]
@@ -127,7 +130,8 @@ globals_stay plan s word word2 ie ccpn small same h =
     (rw (same 25 (omega arith) (omega arith)) (h.regs 25 (omega arith)))
     (any_member (word2 27) small)
 
-reg_lt : (m : Machine) → IsMachine m → (r : ℕ) → reg m r < 2 ^ 32
+-- the word of a machine's register
+pub reg_lt : (m : Machine) → IsMachine m → (r : ℕ) → reg m r < 2 ^ 32
 reg_lt m k r =
     elim (cases_Bool (ltb r 16)) [
       | inl dr ↦ rw dr (register_lt m.d (k.d) r)

@@ -1,1 +1,6 @@
 pub mod EntryLaws
+pub mod Members
+pub mod Went
+pub mod Keeps
+pub mod Writes
+pub mod MoveLaws
