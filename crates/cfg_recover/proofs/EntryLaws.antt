@@ -1,10 +1,10 @@
 -- Words that lie in a state lie in the states that cover it, at the entries that it leads to, in exits, and after calls.
-use Rattle.std.proofs.Common.{◌≡◌, ◌≢◌, ℕ, zero, suc, ◌+◌, ◌-◌, ◌<◌, ◌≤◌, ◌^◌, ◌⊎◌, ◌&&◌, inl, inr, Bool, true, false, cond, List, [], ◌∷◌, ◌++◌, length, get_or, take, drop, replicate, refl, sym, ap, ◌∙◌, subst, arith, Option, Some, None, IsTrue, IsSome, eqb, ltb, leb, if◌then◌else◌, length-append, length-take-le, length-drop, get_or-take, get_or-drop}
+use Rattle.std.proofs.Common.{◌≡◌, ◌≢◌, ℕ, zero, suc, ◌+◌, ◌-◌, ◌<◌, ◌≤◌, ◌^◌, ◌⊎◌, ◌&&◌, inl, inr, Bool, true, false, cond, List, [], ◌∷◌, length, get_or, take, drop, replicate, refl, sym, ap, ◌∙◌, subst, arith, Option, Some, None, IsTrue, ltb, leb, if◌then◌else◌, length-append, length-take-le, length-drop, get_or-take, get_or-drop}
 use Rattle.std.specs.Prelude.{IfSome}
-use Rattle.std.proofs.lemmas.Bool.{cases_Bool, cases_eq, cases_lt, eqb-true, eqb-false, eq-eqb, ne_eqb, lt-ltb, le-ltb, le-leb, lt-leb, ltb-true, leb-true, and_parts, or_cases, cond_both}
+use Rattle.std.proofs.lemmas.Bool.{cases_Bool, cases_eq, cases_lt, eq-eqb, ne_eqb, lt-ltb, le-ltb, le-leb, lt-leb, ltb-true, leb-true, and_parts, or_cases, cond_both}
 use Rattle.std.proofs.lemmas.List.{get_or-replicate, length-replicate, get_or_append_left, get_or-append_right}
 use Rattle.elf_image.specs.Images.{ImageData}
-use Rattle.tcd_plan.specs.PlanData.{PlanData, IsPlan}
+use Rattle.tcd_plan.specs.PlanData.{PlanData}
 use Rattle.tc_isa.specs.declared.shapes.Arg.{Arg}
 use Rattle.tc_isa.specs.declared.shapes.Arg.TheVariants.{Reg, Word}
 use Rattle.tc_isa.specs.declared.shapes.Cond.{Cond}
@@ -25,7 +25,7 @@ use Rattle.vd_transfer.specs.Operations.{value_of}
 use Rattle.vd_transfer.specs.Registers.{slot, reg_of, value_at, fixed_of, set_reg, word_val, is_lower}
 use Rattle.vd_transfer.specs.Effects.{with_base, is_lower_slot, transfer_of}
 use Rattle.vd_transfer.specs.Branches.{refine_of, refined, lowered, with_one, with_two, set_arg, is_reg}
-use Rattle.vd_transfer.specs.Holding.{Holds, HasValue, set_word}
+use Rattle.vd_transfer.specs.Holding.{Holds, set_word}
 use Rattle.vd_transfer.proofs.RegisterLaws.{length-forgotten}
 use Rattle.vd_transfer.proofs.SlotLaws.{slot_is, not_lower}
 use Rattle.vd_transfer.proofs.HoldLaws.{same_length, holds_set, holds_narrow}

@@ -1,7 +1,7 @@
 -- What instructions that stay in their frame leave: locals, registers without a value, and lower registers where the state says so.
-use Rattle.std.proofs.Common.{◌≡◌, ◌≢◌, ℕ, ◌+◌, ◌-◌, ◌%◌, ◌^◌, ◌<◌, inl, inr, Bool, true, false, not, ◌&&◌, cond, refl, sym, ap, ◌∙◌, subst, Option, Some, None, IsTrue, arith}
+use Rattle.std.proofs.Common.{◌≡◌, ◌≢◌, ℕ, ◌+◌, ◌-◌, ◌%◌, ◌^◌, Bool, true, false, not, ◌&&◌, cond, refl, sym, ap, ◌∙◌, Option, Some, None}
 use Rattle.std.specs.Prelude.{IfSome, is_some}
-use Rattle.std.proofs.lemmas.Bool.{cases_Bool, and_parts, not-true, both_ways, cond_both}
+use Rattle.std.proofs.lemmas.Bool.{and_parts, not-true, both_ways, cond_both}
 use Rattle.tcd_plan.specs.PlanData.{PlanData}
 use Rattle.tc_isa.specs.declared.shapes.Arg.{Arg}
 use Rattle.tc_isa.specs.declared.shapes.Arg.TheVariants.{Reg, Word}

@@ -3,4 +3,5 @@ pub mod Members
 pub mod Went
 pub mod Keeps
 pub mod Writes
+pub mod Points
 pub mod MoveLaws

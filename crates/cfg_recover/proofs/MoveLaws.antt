@@ -1,7 +1,6 @@
 -- What a machine at a point does next, against what the point owes.
-use Rattle.std.proofs.Common.{◌≡◌, ℕ, ◌+◌, ◌-◌, ◌*◌, ◌/◌, ◌%◌, ◌^◌, ◌<◌, ◌≤◌, ◌⊎◌, inl, inr, Bool, true, false, not, ◌&&◌, cond, List, [], ◌∷◌, length, map, refl, sym, ap, ◌∙◌, subst, arith, Option, Some, None, Ok, IsTrue, eqb, ltb, if◌then◌else◌, unwrap_or}
-use Rattle.std.specs.Prelude.{IfSome, IsSome, IsSomeAnd, Contains, filter}
-use Rattle.std.specs.List.{list_all}
+use Rattle.std.proofs.Common.{◌≡◌, ℕ, ◌*◌, ◌/◌, ◌%◌, ◌^◌, ◌<◌, inl, inr, Bool, true, false, not, ◌&&◌, cond, List, [], refl, sym, ap, ◌∙◌, subst, arith, Option, Some, None, Ok, eqb, ltb, unwrap_or}
+use Rattle.std.specs.Prelude.{IfSome, IsSome, IsSomeAnd, Contains}
 use Rattle.std.specs.FinMap as memory_map
 use Rattle.std.proofs.lemmas.Bool.{cases_Bool, and_parts, both_ways, not-true, ltb-true, lt-ltb, eq-eqb, false≢true, cond_both}
 use Rattle.std.proofs.lemmas.List.Elements.{Contains-append_left, Contains-append_right}
@@ -9,7 +8,6 @@ use Rattle.csa_chain.specs.Memory.{Memory}
 use Rattle.elf_image.specs.Images.{ImageData}
 use Rattle.tcd_plan.specs.PlanData.{PlanData, IsPlan}
 use Rattle.tc_isa.specs.declared.shapes.Arg.{Arg}
-use Rattle.tc_isa.specs.declared.shapes.Arg.TheVariants.{Reg, Word}
 use Rattle.tc_isa.specs.declared.shapes.Cond.{Cond}
 use Rattle.tc_isa.specs.declared.shapes.Op.TheVariants.{Add}
 use Rattle.tc_isa.specs.declared.shapes.Target.{Target}
@@ -17,8 +15,7 @@ use Rattle.tc_isa.specs.declared.shapes.Target.TheVariants as target
 use Rattle.tc_isa.specs.declared.shapes.Shape.{Shape}
 use Rattle.tc_isa.specs.declared.shapes.Shape.TheVariants.{Compute, Scaled, Load, Store, Branch, Jump, Call, Ret, Rfe, Svlcx, Rslcx, Bisr, Enable, Disable, Syscall, Mfcr, Mtcr, Nothing}
 use Rattle.tc_isa.specs.Arithmetic.{taken_of}
-use Rattle.tc_isa.specs.Bounded.{IsShape, IsArg, IsTarget}
-use Rattle.tc_isa.proofs.ShapeBounds.{shape_is}
+use Rattle.tc_isa.specs.Bounded.{IsArg, IsTarget}
 use Rattle.tc_machine.specs.declared.events.Event.{Event}
 use Rattle.tc_machine.specs.declared.events.End.TheVariants.{Running}
 use Rattle.tc_machine.specs.declared.state.Machine.{Machine}
@@ -28,7 +25,6 @@ use Rattle.tc_machine.specs.Instructions.{does, access_address, traps_at, target
 use Rattle.tc_machine.specs.Stepping.{is_taken, load_in, store_in, where_running, stored, step}
 use Rattle.tc_machine.specs.Ranges.{IsInAreas}
 use Rattle.tc_machine.specs.Safe.{IsMachine, HoldsRom, IsPlanMemory, Fits, AnswersLoad, IsStoreInRange}
-use Rattle.tc_machine.proofs.Fetched.{fetched-is}
 use Rattle.tc_machine.proofs.Steps.{with_event, step_does, stored-is}
 use Rattle.tc_machine.proofs.Stays.{stays_step, irq_lt}
 use Rattle.tc_machine.proofs.Words.{load_lt}
@@ -40,10 +36,10 @@ use Rattle.value_domain.specs.Values.{IsMember, IsValue, IsWell, members}
 use Rattle.value_domain.proofs.CoverLaws.{among_member, has_step}
 use Rattle.value_domain.proofs.RangeLaws.{one_value}
 use Rattle.value_domain.proofs.SetLaws.{distinct_has}
-use Rattle.vd_transfer.specs.Registers.{slot, reg_of, arg_of, is_lower, word_val}
+use Rattle.vd_transfer.specs.Registers.{slot, reg_of, arg_of, word_val}
 use Rattle.vd_transfer.specs.Effects.{access_of, address_of, transfer_of}
 use Rattle.vd_transfer.specs.Branches.{refine_of}
-use Rattle.vd_transfer.specs.Holding.{Holds, word_of, access_word, words_after, ie_after, ccpn_after, WritesValues, ReadsMember}
+use Rattle.vd_transfer.specs.Holding.{Holds, word_of, words_after, ie_after, ccpn_after, ReadsMember}
 use Rattle.vd_transfer.specs.Soundness.{IsSetting}
 use Rattle.vd_transfer.proofs.HoldLaws.{transfer_holds, branch_holds, address_holds, arg_value}
 use Rattle.vd_transfer.proofs.ValueLaws.{value_of_value}
@@ -53,29 +49,14 @@ use Rattle.store_ranges.proofs.Sound.{set_sound, span_sound}
 use Rattle.depth_cert.specs.declared.keys.Key.{Key}
 use Rattle.cfg_recover.specs.Entries.{aln_key, aln_entry, irq_key, irq_entry, call_key, call_entry}
 use Rattle.cfg_recover.specs.Own.{named_by, targets_of, are_aligned}
-use Rattle.cfg_recover.specs.Duties.{Owed, owed, jump, enter, resume, entered_and_back, loaded_at, successors_of, jump_on, misaligned_of, misaligned_at, irqs_of, duties_of}
-use Rattle.cfg_recover.specs.Moves.{InState, IsAtPoint, MovesTo, StaysInFrame, traps, Moved, MovesInFrame, TrapsOwed, CallOwed, CallsOwed, InterruptsOwed, StoresHeld}
+use Rattle.cfg_recover.specs.Duties.{owed, jump, enter, entered_and_back, loaded_at, successors_of, jump_on, misaligned_at, irqs_of, duties_of}
+use Rattle.cfg_recover.specs.Moves.{InState, IsAtPoint, MovesTo, traps, Moved, MovesInFrame, TrapsOwed, CallsOwed, InterruptsOwed, StoresHeld}
 use Rattle.cfg_recover.proofs.EntryLaws.{reg_lt}
+use Rattle.cfg_recover.proofs.Points.{setting, bounded, writes, fetched_at}
 use Rattle.cfg_recover.proofs.Members.{contains_first, contains_among, contains_map, contains_flat, contains_filter, passes_each, contains_jump, owes_successor, owes_entry, owes_misaligned, owes_interrupt}
-use Rattle.cfg_recover.proofs.Went.{reg_in, arg-is, address-is, changed, Went, does-compute, does-scaled, does-mfcr, does-enable, does-disable, does-nop, does-goto, does-load, does-store, does-branch}
+use Rattle.cfg_recover.proofs.Went.{reg_in, address-is, Went, does-compute, does-scaled, does-mfcr, does-enable, does-disable, does-nop, does-goto, does-load, does-store, does-branch}
 use Rattle.cfg_recover.proofs.Keeps.{KeepsLower, GoesOn, IsKept, keeps_lower, keeps_valueless, keeps_locals, keeps_branch}
 use Rattle.cfg_recover.proofs.Writes.{store_keeps_areas, store_keeps_rom, store_keeps_mapped}
-
--- ---- points
-module _ {b : Limits} {image : ImageData} {plan : PlanData} {key : Key} {m : Machine} {s : State} {shape : Shape} {n : ℕ} (at : IsAtPoint b image plan key m s shape n) where
-  setting : IsSetting b plan s
-  setting = record { limits = at.limits; plan = at.is_plan; regs = at.regs; values = at.values }
-
-  bounded : IsShape shape
-  bounded = subst IsShape at.code.shaped (shape_is at.code.inst at.code.spells.spelled.inst)
-
-  writes : WritesValues shape
-  writes = (at.own 13).writes refl
-
-  fetched_at : fetched m ≡ Ok (shape, n)
-  fetched_at =
-      fetched-is image at.is_plan m at.rom at.code.even at.code.bytes at.code.inst at.code.spells
-      ∙ ap (λ (t : Shape). Ok (t, length at.code.bytes)) at.code.shaped ∙ ap (λ (k : ℕ). Ok (shape, k)) at.code.sized
 
 -- ---- one step
 -- a memory in which rom, the save areas and what is mapped are as before

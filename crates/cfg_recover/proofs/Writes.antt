@@ -1,5 +1,5 @@
 -- A store in one ram range or one device range leaves rom, the save areas and what is mapped.
-use Rattle.std.proofs.Common.{◌≡◌, ℕ, zero, suc, ◌+◌, ◌-◌, ◌*◌, ◌/◌, ◌%◌, ◌^◌, ◌<◌, ◌≤◌, ◌⊎◌, inl, inr, true, List, [], ◌∷◌, ◌++◌, map, Some, refl, sym, ap, ◌∙◌, subst, arith, append_assoc}
+use Rattle.std.proofs.Common.{◌≡◌, ℕ, zero, suc, ◌+◌, ◌-◌, ◌/◌, ◌%◌, ◌^◌, ◌<◌, ◌≤◌, ◌⊎◌, inl, inr, true, List, [], ◌∷◌, ◌++◌, map, refl, sym, ap, ◌∙◌, subst, arith, append_assoc}
 use Rattle.std.proofs.lemmas.Bool.{cases_lt}
 use Rattle.std.specs.FinMap as memory_map
 use Rattle.csa_chain.specs.Memory.{Memory, is_mapped, with_byte}
@@ -8,7 +8,7 @@ use Rattle.elf_image.specs.Images.{ImageData}
 use Rattle.tcd_base.specs.declared.parts.Range.{Range}
 use Rattle.tcd_plan.specs.declared.plans.Device.{Device}
 use Rattle.tcd_plan.specs.PlanData.{PlanData, IsPlan, all_apart, areas_range}
-use Rattle.tc_machine.specs.Ranges.{IsWithin, IsInOne, IsInAreas, IsInDevice}
+use Rattle.tc_machine.specs.Ranges.{IsWithin, IsInOne, IsInAreas}
 use Rattle.tc_machine.specs.Fetching.{with_bytes}
 use Rattle.tc_machine.specs.Safe.{HoldsRom, IsPlanMemory, IsStoreInRange}
 use Rattle.tc_machine.proofs.PlanLaws.{in_one, IsInOne-front, IsInOne-behind, all_apart-before}
