@@ -1,0 +1,3 @@
+pub mod FlowAligned
+pub mod FlowStates
+pub mod FlowTargets
