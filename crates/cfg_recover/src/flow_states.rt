@@ -12,6 +12,7 @@ use vd_transfer::reg;
 
 /// Where a state has the values of A10 and of D15.
 const STACK: usize = 22;
+
 const NUMBER: usize = 15;
 
 /// The stack pointer of a handler.

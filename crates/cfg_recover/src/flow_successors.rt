@@ -44,11 +44,8 @@ pub(crate) fn successors(
             }),
             None,
         ],
-        Shape::Call { .. }
-        | Shape::Ret
-        | Shape::Rfe
-        | Shape::Syscall { .. }
-        | Shape::Mtcr { .. } => [None, None],
+        Shape::Call { .. } | Shape::Ret | Shape::Rfe | Shape::Syscall { .. } | Shape::Mtcr { .. } =>
+            [None, None],
         _ => [Some(step(b, image, plan, addr, s, inst, size)), None],
     }
 }
