@@ -4,6 +4,7 @@ ghost use Rattle.tc_isa.specs.Shapes.{shape_of};
 ghost use Rattle.value_domain.specs.State.{AreValues};
 ghost use Rattle.vd_transfer.specs.Effects.{HasRoom};
 ghost use Rattle.cfg_recover.specs.Duties.{duties_of};
+ghost use Rattle.cfg_recover.specs.FlowValues.{HasValues};
 ghost use Rattle.cfg_recover.specs.Flows.{told_by};
 
 use crate::Flow;
@@ -30,14 +31,15 @@ fn flow_of(
 ) -> Flow
     requires values { AreValues b.now s.now.regs }
     requires room { HasRoom b.now (shape_of inst.now) s.now }
-    ensures { told_by plan.now key.now s.now result ≡ duties_of b.now image.now plan.now key.now addr s.now (shape_of inst.now) size }
+    ensures values { HasValues b.now result }
+    ensures told { told_by plan.now key.now s.now result ≡ duties_of b.now image.now plan.now key.now addr s.now (shape_of inst.now) size }
 {
     Flow {
         jumps: successors(b, image, plan, addr, s, inst, size),
-        enter: entry(plan, key, addr, s, inst, size),
+        enter: entry(b, plan, key, addr, s, inst, size),
         aln: misaligned(b, plan, key, s, inst),
         irqs: interrupts(plan, s),
-        irq_entry: interrupt_entry(plan, key, s),
+        irq_entry: interrupt_entry(b, plan, key, s),
         leave: leaving(key, s, inst),
     }
 }

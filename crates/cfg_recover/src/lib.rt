@@ -11,4 +11,5 @@ mod flow_targets;
 mod flows;
 
 pub use flow_after::after;
+pub use flow_states::start_state;
 pub use flows::{Enter, Flow, Jump, Leave};
