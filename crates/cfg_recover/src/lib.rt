@@ -1,6 +1,7 @@
 //! The duties of a certificate's points.
 #![tactic(auto)]
 
+mod code;
 mod flows;
 
 pub use flows::{Enter, Flow, Jump, Leave};
