@@ -3,5 +3,7 @@
 
 mod code;
 mod flows;
+mod own;
+mod own_rules;
 
 pub use flows::{Enter, Flow, Jump, Leave};
