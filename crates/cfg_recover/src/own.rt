@@ -42,13 +42,7 @@ pub(crate) fn own_or_code(
 }
 
 /// The least rule whose own part fails at an instruction.
-pub(crate) fn own_fault(
-    b: &Bounds,
-    plan: &Plan,
-    key: &Key,
-    s: &State,
-    inst: &Inst,
-) -> Option<u8>
+pub(crate) fn own_fault(b: &Bounds, plan: &Plan, key: &Key, s: &State, inst: &Inst) -> Option<u8>
     requires { AreValues b.now s.now.regs }
     ensures { (p : ℕ) → IsLeastBroken b.now plan.now key.now p s.now (shape_of inst.now) result }
 {
@@ -57,14 +51,7 @@ pub(crate) fn own_fault(
 }
 
 /// Tries the rules in their order, for an instruction of this shape whose access is at these addresses.
-fn first_fault(
-    b: &Bounds,
-    plan: &Plan,
-    key: &Key,
-    s: &State,
-    shape: Shape,
-    at: &Val,
-) -> Option<u8>
+fn first_fault(b: &Bounds, plan: &Plan, key: &Key, s: &State, shape: Shape, at: &Val) -> Option<u8>
     requires shape { IsShape shape }
     requires address { at.now ≡ address_of b.now plan.now shape s.now }
     requires well { IsWell at.now }

@@ -1,10 +1,10 @@
 // The own parts of rules at an instruction, each by the instruction's shape.
 ghost use Rattle.std.specs.Prelude.{◌≡◌, ◌⊎◌, ◌↔◌, ℕ, true, length, IsTrue, IsSome};
-ghost use Rattle.tc_isa.specs.Bounded.{IsShape, IsTarget};
+ghost use Rattle.tc_isa.specs.Bounded.{IsShape, IsSize, IsTarget};
 ghost use Rattle.value_domain.specs.Values.{IsWell};
 ghost use Rattle.vd_transfer.specs.Effects.{HasRoom};
 ghost use Rattle.vd_transfer.specs.Holding.{HasValue, HasBaseValue, WritesValues};
-ghost use Rattle.cfg_recover.specs.Own.{named_by, targets_of, KnowsTargets, MayReturn, MayReturnFromException, MayCallSystem};
+ghost use Rattle.cfg_recover.specs.Own.{are_aligned, named_by, targets_of, KnowsTargets, MayReturn, MayReturnFromException, MayCallSystem};
 ghost use Rattle.cfg_recover.specs.OwnFaults.{StoresInRangeAt, MayAccessAt};
 
 use depth_cert::Key;
@@ -112,9 +112,18 @@ pub(crate) fn may_access(plan: &Plan, at: &Val, shape: Shape) -> bool
     ensures { IsTrue result ↔ MayAccessAt plan.now at.now shape }
 {
     match shape {
-        Shape::Load { size, .. } | Shape::Store { size, .. } => plan.aln || aligned(at, size),
+        Shape::Load { size, .. } => is_allowed(plan, at, size),
+        Shape::Store { size, .. } => is_allowed(plan, at, size),
         _ => true,
     }
+}
+
+fn is_allowed(plan: &Plan, at: &Val, size: u8) -> bool
+    requires well { IsWell at.now }
+    requires size { IsSize size }
+    ensures { IsTrue result ↔ ((are_aligned at.now size ≡ true) ⊎ (plan.now.aln ≡ true)) }
+{
+    plan.aln || aligned(at, size)
 }
 
 /// Rule 12: the trap of system calls is stated.
@@ -132,9 +141,8 @@ pub(crate) fn writes_values(shape: Shape) -> bool
     ensures { IsTrue result ↔ WritesValues shape }
 {
     match shape {
-        Shape::Compute { dst, .. } | Shape::Scaled { dst, .. } | Shape::Mfcr { dst, .. } => has_value(
-            dst,
-        ),
+        Shape::Compute { dst, .. } | Shape::Scaled { dst, .. } | Shape::Mfcr { dst, .. } =>
+            has_value(dst),
         Shape::Load {
             dst,
             base,

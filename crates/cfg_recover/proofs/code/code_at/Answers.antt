@@ -1,5 +1,5 @@
 use Rattle.std.proofs.Common.{arith}
-use Rattle.cfg_recover.proofs.CodeLaws.{by_four, by_two, none_there, odd_has_none}
+use Rattle.cfg_recover.proofs.CodeLaws.{by_four, by_two, none_there}
 use Rattle.cfg_recover.proofs.code.code_at.Goals as goal
 
 pub returns-in-Some : goal.returns-in-Some
