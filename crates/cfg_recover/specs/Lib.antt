@@ -3,6 +3,8 @@ pub mod Code
 pub mod Duties
 pub mod Entries
 pub mod FlowValues
+pub mod Finding
 pub mod Flows
 pub mod Moves
 pub mod Own
+pub mod OwnFaults

@@ -8,8 +8,12 @@ mod flow_point;
 mod flow_states;
 mod flow_successors;
 mod flow_targets;
+mod code;
 mod flows;
+mod own;
+mod own_rules;
 
 pub use flow_after::after;
+pub use flow_point::flow;
 pub use flow_states::start_state;
 pub use flows::{Enter, Flow, Jump, Leave};
