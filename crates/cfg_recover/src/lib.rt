@@ -1,6 +1,7 @@
 //! The duties of a certificate's points.
 #![tactic(auto)]
 
+mod code;
 mod flow_after;
 mod flow_entries;
 mod flow_interrupts;
@@ -8,7 +9,6 @@ mod flow_point;
 mod flow_states;
 mod flow_successors;
 mod flow_targets;
-mod code;
 mod flows;
 mod own;
 mod own_rules;
