@@ -1,0 +1,116 @@
+-- When the rules accept a certificate, and the first rule that fails.
+use Rattle.std.specs.Prelude.{◌≡◌, ◌+◌, ◌-◌, ◌*◌, ◌^◌, ◌<◌, ◌≤◌, ◌⊎◌, ℕ, Bool, List, length, Option, Some, None, IsSome, IsTrue, IfSome, IsSomeAnd, All, Contains}
+use Rattle.elf_image.specs.Images.{ImageData}
+use Rattle.tcd_plan.specs.PlanData.{PlanData}
+use Rattle.tc_isa.specs.declared.shapes.Shape.{Shape}
+use Rattle.value_domain.specs.declared.states.State.{State}
+use Rattle.value_domain.specs.Limits.{Limits}
+use Rattle.value_domain.specs.State.{Covers, AreBelow, AreValues}
+use Rattle.value_domain.specs.Thresholds.{limits_for}
+use Rattle.depth_cert.specs.declared.keys.Key.{Key}
+use Rattle.depth_cert.specs.declared.points.Exit.{Exit}
+use Rattle.depth_cert.specs.declared.points.Point.{Point}
+use Rattle.depth_cert.specs.Keys.{number_of_key}
+use Rattle.depth_cert.specs.Points.{find_point}
+use Rattle.depth_cert.specs.Nodes.{NodeData}
+use Rattle.depth_cert.specs.Certs.{CertData, find_node}
+use Rattle.cfg_recover.specs.Code.{IsCode}
+use Rattle.cfg_recover.specs.Entries.{start_key, start_state, after_of}
+use Rattle.cfg_recover.specs.Own.{OwnHolds, IsFaultless}
+use Rattle.cfg_recover.specs.Duties.{Duty, jump, enter, resume, leave, Owed, duties_of}
+
+-- the limits of values in a certificate
+abbrev pub limits_in : PlanData → CertData → Limits
+limits_in plan cert = limits_for plan cert.version
+
+-- ---- what stands and covers
+-- the node has a point at this address that covers the state
+abbrev pub HasPoint : NodeData → ℕ → State → Type 0
+HasPoint node q s = IsSomeAnd (find_point q node.points) (λ p. Covers p.state s)
+
+-- an exit covers another
+pub record ExitCovers (upper x : Exit) : Type 0 where
+  pub lower : AreBelow x.lower upper.lower
+  pub enabled : IsTrue x.ie → IsTrue upper.ie
+  pub priority : upper.ccpn ≤ x.ccpn
+
+-- a duty of a node's point with this state is met
+abbrev pub IsMet : CertData → NodeData → State → Duty → Type 0
+IsMet cert node s (jump q t) = HasPoint node q t
+IsMet cert node s (enter k t) = IsSomeAnd (find_node k cert.nodes) (λ n. HasPoint n k.entry t)
+IsMet cert node s (resume k q) = IfSome (find_node k cert.nodes) (λ n. IfSome n.exit (λ x. HasPoint node q (after_of s x k.kind)))
+IsMet cert node s (leave x) = IsSomeAnd node.exit (λ y. ExitCovers y x)
+
+-- ---- needs
+-- a node's need is above that of a node it enters, by the areas of its locals and the one of the entry
+abbrev pub IsNeedAbove : CertData → NodeData → State → Duty → Type 0
+IsNeedAbove cert node s (enter k t) = IfSome (find_node k cert.nodes) (λ n. length s.locals.items + 1 + n.need ≤ node.need)
+IsNeedAbove cert node s _ = Unit {0}
+
+-- what rule 14 asks at a point: room for the locals and for each entry; at the start's entry that the need is at most the
+-- areas without the reserve
+pub record HasNeed (image : ImageData) (plan : PlanData) (cert : CertData) (node : NodeData) (point : Point) (duties : List Owed) : Type 0 where
+  pub locals : length (point.state).locals.items ≤ node.need
+  pub entered : All (λ d. IsNeedAbove cert node point.state d.duty) duties
+  pub start : node.key ≡ start_key image plan → point.addr ≡ image.entry → node.need ≤ plan.areas - plan.reserve
+
+-- ---- rules
+-- Rule r holds at a point of a node. Where a value is none of the plan's (rule 2), the other rules ask nothing; where the
+-- own part of a rule fails, nothing is asked of other points and of needs.
+pub record RuleHolds (image : ImageData) (plan : PlanData) (cert : CertData) (node : NodeData) (point : Point) (r : ℕ) : Type 0 where
+  pub values : r ≡ 2 → AreValues (limits_in plan cert) (point.state).regs
+  pub own : AreValues (limits_in plan cert) (point.state).regs → OwnHolds (limits_in plan cert) image plan node.key point.addr point.state r
+  pub covered :
+      (shape : Shape) (n : ℕ) (d : Owed) → AreValues (limits_in plan cert) (point.state).regs
+      → IsFaultless (limits_in plan cert) image plan node.key point.addr point.state → IsCode image plan point.addr shape n
+      → Contains (duties_of (limits_in plan cert) image plan node.key point.addr point.state shape n) d → d.rule ≡ r → IsMet cert node point.state d.duty
+  pub needs :
+      (shape : Shape) (n : ℕ) → r ≡ 14 → AreValues (limits_in plan cert) (point.state).regs
+      → IsFaultless (limits_in plan cert) image plan node.key point.addr point.state → IsCode image plan point.addr shape n
+      → HasNeed image plan cert node point (duties_of (limits_in plan cert) image plan node.key point.addr point.state shape n)
+
+-- rule 1: the start's node stands, and its point at the entry covers the start state
+abbrev pub HoldsAtStart : ImageData → PlanData → CertData → Type 0
+HoldsAtStart image plan cert = IsSomeAnd (find_node (start_key image plan) cert.nodes) (λ n. HasPoint n image.entry (start_state plan))
+
+-- rule 2 at a node's entry: it has a point there, and its exit's values are the plan's
+pub record HoldsAtEntry (b : Limits) (node : NodeData) : Type 0 where
+  pub point : IsSome (find_point (node.key).entry node.points)
+  pub exit : IfSome node.exit (λ x. AreValues b x.lower)
+
+-- A rule fails at a key and an address.
+pub data Fails (image : ImageData) (plan : PlanData) (cert : CertData) : ℕ → Key → ℕ → Type 0 where
+  at_start : (HoldsAtStart image plan cert → ⊥) → Fails image plan cert 1 (start_key image plan) image.entry
+  at_entry : (node : NodeData) → Contains cert.nodes node → (HoldsAtEntry (limits_in plan cert) node → ⊥) → Fails image plan cert 2 node.key (node.key).entry
+  at_point :
+      (node : NodeData) (point : Point) (r : ℕ) → Contains cert.nodes node → Contains node.points point → (RuleHolds image plan cert node point r → ⊥)
+      → Fails image plan cert r node.key point.addr
+
+-- all rules hold at all points of a node
+pub record HoldsAtNode (image : ImageData) (plan : PlanData) (cert : CertData) (node : NodeData) : Type 0 where
+  pub entry : HoldsAtEntry (limits_in plan cert) node
+  pub points : All (λ p. (r : ℕ) → RuleHolds image plan cert node p r) node.points
+
+-- no rule fails
+pub record Accepts (image : ImageData) (plan : PlanData) (cert : CertData) : Type 0 where
+  pub start : HoldsAtStart image plan cert
+  pub nodes : All (HoldsAtNode image plan cert) cert.nodes
+
+-- ---- the first fault
+-- faults are ordered by key, then address, then rule
+abbrev pub fault_number : ℕ → Key → ℕ → ℕ
+fault_number r k p = (number_of_key k * 2 ^ 32 + p) * 2 ^ 4 + r
+
+-- The fault of rule 1 comes before all others; else it is the least by key, address and rule.
+pub record IsFirstFault (image : ImageData) (plan : PlanData) (cert : CertData) (r : ℕ) (k : Key) (p : ℕ) : Type 0 where
+  pub fails : Fails image plan cert r k p
+  pub start : (r ≡ 1) ⊎ HoldsAtStart image plan cert
+  pub least : (q : ℕ) (j : Key) (x : ℕ) → Fails image plan cert q j x → (r ≡ 1) ⊎ (fault_number r k p ≤ fault_number q j x)
+
+-- the need of the start's node
+abbrev pub need_of : Option NodeData → ℕ
+need_of None = 0
+need_of (Some n) = n.need
+
+abbrev pub certified_need : ImageData → PlanData → CertData → ℕ
+certified_need image plan cert = need_of (find_node (start_key image plan) cert.nodes)

@@ -1,0 +1,107 @@
+-- What a point owes: the points, entries and exits that a certificate must have, because the machine may come there from
+-- this point, and the states that they must cover.
+use Rattle.std.specs.Prelude.{◌==◌, ℕ, Bool, true, false, nat_lt, if◌then◌else◌, List, [], ◌∷◌, ◌++◌, map, filter, Option, Some, None, unwrap_or}
+use Rattle.std.specs.List.{flat_map}
+use Rattle.elf_image.specs.Images.{ImageData}
+use Rattle.tcd_plan.specs.PlanData.{PlanData}
+use Rattle.tc_isa.specs.declared.shapes.Shape.{Shape}
+use Rattle.tc_isa.specs.declared.shapes.Shape.TheVariants.{Compute, Scaled, Load, Store, Branch, Jump, Call, Ret, Rfe, Svlcx, Rslcx, Bisr, Enable, Disable, Syscall, Mfcr, Mtcr, Nothing}
+use Rattle.tc_machine.specs.Machine.{moved}
+use Rattle.value_domain.specs.declared.values.Val.{Val}
+use Rattle.value_domain.specs.declared.states.State.{State}
+use Rattle.value_domain.specs.Limits.{Limits}
+use Rattle.value_domain.specs.Values.{any_val}
+use Rattle.vd_transfer.specs.Effects.{transfer_of, address_of}
+use Rattle.vd_transfer.specs.Branches.{refine_of}
+use Rattle.store_ranges.specs.Loads.{loaded_of}
+use Rattle.depth_cert.specs.declared.keys.Key.{Key}
+use Rattle.depth_cert.specs.declared.points.Exit.{Exit}
+use Rattle.cfg_recover.specs.Entries.{call_key, irq_key, sys_key, aln_key, call_entry, irq_entry, sys_entry, aln_entry, exit_of}
+use Rattle.cfg_recover.specs.Own.{targets_of, are_aligned}
+
+-- One duty. A jump: the same node has a point at this address that covers the state. An entry: the node of this key stands,
+-- and its point at its entry covers the state. A resuming: where the node of this key has an exit, the same node has a point
+-- at this address that covers the state after that exit. A leaving: the node has an exit that covers this one.
+pub data Duty : Type 0 where
+  jump : ℕ → State → Duty
+  enter : Key → State → Duty
+  resume : Key → ℕ → Duty
+  leave : Exit → Duty
+
+-- a duty, and the rule that asks for it
+pub record Owed : Type 0 where
+  pub rule : ℕ
+  pub duty : Duty
+
+abbrev pub owed : ℕ → Duty → Owed
+owed rule duty = record { rule = rule; duty = duty }
+
+-- what is loaded at a load; nothing else uses it
+abbrev pub loaded_at : Limits → ImageData → PlanData → State → Shape → Val
+loaded_at b image plan s (Load dst base offset size signed after) =
+    loaded_of b image plan (address_of b plan (Load dst base offset size signed after) s) size signed
+loaded_at b image plan s _ = any_val
+
+-- a jump to each of these addresses with this state
+abbrev pub jumps_to : State → List ℕ → List Owed
+jumps_to s targets = map (λ t. owed 4 (jump t s)) targets
+
+-- a jump on a side of a branch that is possible
+abbrev pub jump_on : ℕ → Option State → List Owed
+jump_on q None = []
+jump_on q (Some s) = owed 4 (jump q s) ∷ []
+
+-- the next instruction, with the state after this one
+abbrev pub next_of : Limits → ImageData → PlanData → ℕ → State → Shape → ℕ → List Owed
+next_of b image plan p s shape n = owed 4 (jump (moved p n) (transfer_of b plan shape s (loaded_at b image plan s shape))) ∷ []
+
+-- the successors in the same frame, without those after a call or a system call (rule 4)
+abbrev pub successors_of : Limits → ImageData → PlanData → ℕ → State → Shape → ℕ → List Owed
+successors_of b image plan p s (Branch cond x y by lowers) n =
+    jump_on (moved p n) (refine_of b plan (Branch cond x y by lowers) s false) ++ jump_on (moved p by) (refine_of b plan (Branch cond x y by lowers) s true)
+successors_of b image plan p s (Jump to) n = jumps_to s (unwrap_or (targets_of plan s p to) [])
+successors_of b image plan p s (Call to) n = []
+successors_of b image plan p s Ret n = []
+successors_of b image plan p s Rfe n = []
+successors_of b image plan p s (Syscall tin) n = []
+successors_of b image plan p s (Mtcr src number) n = []
+successors_of b image plan p s shape n = next_of b image plan p s shape n
+
+-- an entry by a call (rule 5) or a system call (rule 12), and its coming back (rule 4)
+abbrev pub entered_and_back : ℕ → Key → State → ℕ → List Owed
+entered_and_back rule key s back = owed rule (enter key s) ∷ owed 4 (resume key back) ∷ []
+
+-- the entries by the instruction itself
+abbrev pub entries_of : PlanData → Key → ℕ → State → Shape → ℕ → List Owed
+entries_of plan key p s (Call to) n = flat_map (λ t. entered_and_back 5 (call_key key t) (call_entry s) (moved p n)) (unwrap_or (targets_of plan s p to) [])
+entries_of plan key p s (Syscall tin) n = entered_and_back 12 (sys_key plan key) (sys_entry plan key s tin) (moved p n)
+entries_of plan key p s _ n = []
+
+-- the entry of the handler of misaligned accesses, where an address may be no multiple of the size (rule 10)
+abbrev pub misaligned_at : PlanData → Key → State → Val → ℕ → List Owed
+misaligned_at plan key s at size = if are_aligned at size then [] else owed 10 (enter (aln_key plan key) (aln_entry plan key s)) ∷ []
+
+abbrev pub misaligned_of : Limits → PlanData → Key → State → Shape → List Owed
+misaligned_of b plan key s (Load dst base offset size signed after) =
+    misaligned_at plan key s (address_of b plan (Load dst base offset size signed after) s) size
+misaligned_of b plan key s (Store src base offset size after) = misaligned_at plan key s (address_of b plan (Store src base offset size after) s) size
+misaligned_of b plan key s _ = []
+
+-- the interrupts that may be taken: where interrupts may be on, each stated one above the number that CCPN isn't below
+abbrev pub irqs_of : PlanData → State → List ℕ
+irqs_of plan s = if s.ie then filter (λ p. nat_lt s.ccpn p) plan.irqs else []
+
+-- the entries of their handlers (rule 11)
+abbrev pub interrupts_of : PlanData → Key → State → List Owed
+interrupts_of plan key s = map (λ p. owed 11 (enter (irq_key plan p) (irq_entry plan key s p))) (irqs_of plan s)
+
+-- the leavings: of a call (rule 6), and of a system call's handler (rule 7)
+abbrev pub leavings_of : Key → State → Shape → List Owed
+leavings_of key s Ret = owed 6 (leave (exit_of s)) ∷ []
+leavings_of key s Rfe = if key.kind == 3 then owed 7 (leave (exit_of s)) ∷ [] else []
+leavings_of key s _ = []
+
+-- all that the point p of a node with this key owes, by its state and by the shape and the size of its instruction
+unfoldable pub duties_of : Limits → ImageData → PlanData → Key → ℕ → State → Shape → ℕ → List Owed
+duties_of b image plan key p s shape n =
+    successors_of b image plan p s shape n ++ entries_of plan key p s shape n ++ misaligned_of b plan key s shape ++ interrupts_of plan key s ++ leavings_of key s shape

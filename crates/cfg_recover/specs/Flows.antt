@@ -1,0 +1,65 @@
+-- The duties that a Flow tells.
+use Rattle.std.specs.Prelude.{◌≡◌, ◌==◌, ℕ, Bool, true, if◌then◌else◌, List, [], ◌∷◌, ◌++◌, map, Option, Some, None}
+use Rattle.std.specs.List.{flat_map}
+use Rattle.elf_image.specs.Images.{ImageData}
+use Rattle.tcd_plan.specs.PlanData.{PlanData}
+use Rattle.tc_isa.specs.declared.shapes.Shape.{Shape}
+use Rattle.value_domain.specs.declared.states.State.{State}
+use Rattle.value_domain.specs.Limits.{Limits}
+use Rattle.depth_cert.specs.declared.keys.Key.{Key}
+use Rattle.cfg_recover.specs.declared.flows.Jump.{Jump}
+use Rattle.cfg_recover.specs.declared.flows.Enter.{Enter}
+use Rattle.cfg_recover.specs.declared.flows.Leave.{Leave}
+use Rattle.cfg_recover.specs.declared.flows.Leave.TheVariants.{Stays, Ret, Rfe}
+use Rattle.cfg_recover.specs.declared.flows.Flow.{Flow}
+use Rattle.cfg_recover.specs.Code.{IsCode}
+use Rattle.cfg_recover.specs.Entries.{irq_key, exit_of}
+use Rattle.cfg_recover.specs.Own.{IsFaultless}
+use Rattle.cfg_recover.specs.Duties.{Owed, owed, jump, enter, resume, leave, jumps_to, duties_of}
+
+abbrev pub told_jump : Option Jump → List Owed
+told_jump None = []
+told_jump (Some j) = jumps_to j.state j.targets.items
+
+abbrev pub told_jumps : List (Option Jump) → List Owed
+told_jumps jumps = flat_map told_jump jumps
+
+-- a frame that is entered by a call runs on the same stack, every other one on the interrupt stack
+abbrev pub entered_key : Key → ℕ → ℕ → Key
+entered_key key kind target = record { kind = kind; entry = target; prio = key.prio; is = if kind == 1 then key.is else true }
+
+abbrev pub told_back : Key → Option ℕ → List Owed
+told_back key None = []
+told_back key (Some q) = owed 4 (resume key q) ∷ []
+
+abbrev pub told_entry : ℕ → Key → Option Enter → List Owed
+told_entry rule key None = []
+told_entry rule key (Some e) =
+    flat_map (λ t. owed rule (enter (entered_key key e.kind t) e.state) ∷ told_back (entered_key key e.kind t) e.resume) e.targets.items
+
+-- rule 5 asks for the entries of calls, rule 12 for that of a system call
+abbrev pub rule_of_entry : Option Enter → ℕ
+rule_of_entry None = 5
+rule_of_entry (Some e) = if e.kind == 1 then 5 else 12
+
+-- the state at an interrupt's entry is the told one with the interrupt's priority
+abbrev pub told_irqs : PlanData → State → List ℕ → List Owed
+told_irqs plan entry irqs = map (λ p. owed 11 (enter (irq_key plan p) (record entry { ccpn = p }))) irqs
+
+abbrev pub told_leaving : Key → State → Leave → List Owed
+told_leaving key s Stays = []
+told_leaving key s Ret = owed 6 (leave (exit_of s)) ∷ []
+told_leaving key s Rfe = if key.kind == 3 then owed 7 (leave (exit_of s)) ∷ [] else []
+
+-- the duties of a point with this key and state that a flow tells
+abbrev pub told_by : PlanData → Key → State → Flow → List Owed
+told_by plan key s f =
+    told_jumps f.jumps ++ told_entry (rule_of_entry f.enter) key f.enter ++ told_entry 10 key f.aln ++ told_irqs plan f.irq_entry f.irqs.items ++ told_leaving key s f.leave
+
+-- the flow of a point without a fault of its own: it tells the point's duties
+pub record Tells (b : Limits) (image : ImageData) (plan : PlanData) (key : Key) (p : ℕ) (s : State) (f : Flow) : Type 0 where
+  pub faultless : IsFaultless b image plan key p s
+  pub shape : Shape
+  pub size : ℕ
+  pub code : IsCode image plan p shape size
+  pub told : told_by plan key s f ≡ duties_of b image plan key p s shape size

@@ -1,0 +1,129 @@
+-- What a machine whose registers lie in the state of a point does next, against what the point owes: the statements of the
+-- laws.
+use Rattle.std.specs.FinMap as map
+use Rattle.std.specs.Prelude.{◌≡◌, ◌<◌, ◌^◌, ◌==◌, ℕ, Bool, true, false, List, length, IfSome, Contains}
+use Rattle.elf_image.specs.Images.{ImageData}
+use Rattle.tcd_plan.specs.PlanData.{PlanData, IsPlan}
+use Rattle.tc_isa.specs.declared.shapes.Arg.{Arg}
+use Rattle.tc_isa.specs.declared.shapes.Target.{Target}
+use Rattle.tc_isa.specs.declared.shapes.Shape.{Shape}
+use Rattle.tc_isa.specs.declared.shapes.Shape.TheVariants.{Compute, Scaled, Load, Store, Branch, Jump, Call, Ret, Rfe, Svlcx, Rslcx, Bisr, Enable, Disable, Syscall, Mfcr, Mtcr, Nothing}
+use Rattle.tc_machine.specs.declared.events.Event.{Event}
+use Rattle.tc_machine.specs.declared.events.End.TheVariants.{Running}
+use Rattle.tc_machine.specs.declared.state.Machine.{Machine}
+use Rattle.tc_machine.specs.Machine.{reg, a11, moved}
+use Rattle.tc_machine.specs.Instructions.{does, access_address, traps_at, target_of}
+use Rattle.tc_machine.specs.Stepping.{is_taken, stored}
+use Rattle.tc_machine.specs.Ranges.{IsInAreas}
+use Rattle.tc_machine.specs.Safe.{IsMachine, HoldsRom, IsPlanMemory, Fits, IsStoreInRange}
+use Rattle.value_domain.specs.declared.states.State.{State}
+use Rattle.value_domain.specs.Limits.{Limits, AreLimits}
+use Rattle.value_domain.specs.State.{AreValues}
+use Rattle.vd_transfer.specs.Registers.{is_lower}
+use Rattle.vd_transfer.specs.Holding.{Holds}
+use Rattle.store_ranges.specs.Laws.{HasImageBytes}
+use Rattle.depth_cert.specs.declared.keys.Key.{Key}
+use Rattle.cfg_recover.specs.Code.{IsCode}
+use Rattle.cfg_recover.specs.Entries.{call_key, irq_key, aln_key, call_entry, irq_entry, aln_entry}
+use Rattle.cfg_recover.specs.Own.{OwnRule}
+use Rattle.cfg_recover.specs.Duties.{owed, jump, enter, resume, duties_of}
+
+-- the machine's registers, IE and CCPN lie in the state
+abbrev pub InState : PlanData → Machine → State → Type 0
+InState plan m s = Holds plan (reg m) m.ie m.ccpn s
+
+-- A running machine at a point: the plan's memory with the image's bytes in rom, an instruction of this shape and size at pc
+-- that breaks no rule by itself, and registers that lie in the point's state.
+pub record IsAtPoint (b : Limits) (image : ImageData) (plan : PlanData) (key : Key) (m : Machine) (s : State) (shape : Shape) (n : ℕ) : Type 0 where
+  pub limits : AreLimits b
+  pub is_plan : IsPlan plan
+  pub bytes : HasImageBytes image
+  pub machine : IsMachine m
+  pub running : m.end ≡ Running
+  pub memory : IsPlanMemory plan m.mem
+  pub rom : HoldsRom image plan m.mem
+  pub code : IsCode image plan m.pc shape n
+  pub own : (r : ℕ) → OwnRule b plan key m.pc s shape r
+  pub regs : length s.regs ≡ 27
+  pub values : AreValues b s.regs
+  pub inside : InState plan m s
+
+-- The machine goes from m to n inside its frame, and its registers from state s to state t. The save areas, the words of
+-- the context list, PSW and A11 stay; where t says that the lower registers are the entry's, they are as they were.
+pub record MovesTo (image : ImageData) (plan : PlanData) (m n : Machine) (s t : State) : Type 0 where
+  pub inside : InState plan n t
+  pub lower : t.lower ≡ true → (s.lower ≡ true) × ((r : ℕ) → is_lower r ≡ true → reg n r ≡ reg m r)
+  pub locals : t.locals.items ≡ s.locals.items
+  pub a11 : a11 n ≡ a11 m
+  pub psw : n.psw ≡ m.psw
+  pub pcxi : n.pcxi ≡ m.pcxi
+  pub fcx : n.fcx ≡ m.fcx
+  pub lcx : n.lcx ≡ m.lcx
+  pub biv : n.biv ≡ m.biv
+  pub btv : n.btv ≡ m.btv
+  pub isp : n.isp ≡ m.isp
+  pub core : n.core ≡ m.core
+  pub end : n.end ≡ Running
+  pub areas : (x : ℕ) → IsInAreas plan x → map.get n.mem x ≡ map.get m.mem x
+  pub rom : HoldsRom image plan n.mem
+  pub memory : IsPlanMemory plan n.mem
+
+-- the instruction leaves the frame and its contexts alone
+abbrev pub StaysInFrame : Shape → Type 0
+StaysInFrame (Call to) = ⊥
+StaysInFrame Ret = ⊥
+StaysInFrame Rfe = ⊥
+StaysInFrame Svlcx = ⊥
+StaysInFrame Rslcx = ⊥
+StaysInFrame (Bisr c) = ⊥
+StaysInFrame (Syscall tin) = ⊥
+StaysInFrame (Mtcr src number) = ⊥
+StaysInFrame _ = Unit {0}
+
+-- the instruction is a load or a store whose access traps
+abbrev pub traps : Machine → Event → Shape → Bool
+traps m e (Load dst base offset size signed after) = traps_at e (access_address m base offset after) size
+traps m e (Store src base offset size after) = traps_at e (access_address m base offset after) size
+traps m e _ = false
+
+-- A step inside a frame goes where the point owes a jump, and into its state.
+pub record Moved (b : Limits) (image : ImageData) (plan : PlanData) (key : Key) (m : Machine) (e : Event) (s : State) (shape : Shape) (n : ℕ) : Type 0 where
+  pub state : State
+  pub owes : Contains (duties_of b image plan key m.pc s shape n) (owed 4 (jump (does m e shape n).pc state))
+  pub moves : MovesTo image plan m (does m e shape n) s state
+
+abbrev pub MovesInFrame : Type 0
+MovesInFrame =
+    (b : Limits) (image : ImageData) (plan : PlanData) (key : Key) (m : Machine) (e : Event) (s : State) (shape : Shape) (n : ℕ)
+    → IsAtPoint b image plan key m s shape n → Fits plan m e → is_taken m e ≡ false → StaysInFrame shape → traps m e shape ≡ false
+    → Moved b image plan key m e s shape n
+
+-- where an access traps, the point owes the entry of its handler
+abbrev pub TrapsOwed : Type 0
+TrapsOwed =
+    (b : Limits) (image : ImageData) (plan : PlanData) (key : Key) (m : Machine) (e : Event) (s : State) (shape : Shape) (n : ℕ)
+    → IsAtPoint b image plan key m s shape n → traps m e shape ≡ true
+    → Contains (duties_of b image plan key m.pc s shape n) (owed 10 (enter (aln_key plan key) (aln_entry plan key s)))
+
+-- where a call goes, the point owes that entry, and the coming back
+pub record CallOwed (b : Limits) (image : ImageData) (plan : PlanData) (key : Key) (m : Machine) (s : State) (to : Target) (n : ℕ) : Type 0 where
+  pub entered : Contains (duties_of b image plan key m.pc s (Call to) n) (owed 5 (enter (call_key key (target_of m to)) (call_entry s)))
+  pub back : Contains (duties_of b image plan key m.pc s (Call to) n) (owed 4 (resume (call_key key (target_of m to)) (moved m.pc n)))
+
+abbrev pub CallsOwed : Type 0
+CallsOwed =
+    (b : Limits) (image : ImageData) (plan : PlanData) (key : Key) (m : Machine) (s : State) (to : Target) (n : ℕ)
+    → IsAtPoint b image plan key m s (Call to) n → CallOwed b image plan key m s to n
+
+-- where an interrupt is taken, the point owes the entry of its handler
+abbrev pub InterruptsOwed : Type 0
+InterruptsOwed =
+    (b : Limits) (image : ImageData) (plan : PlanData) (key : Key) (m : Machine) (e : Event) (s : State) (shape : Shape) (n : ℕ)
+    → IsAtPoint b image plan key m s shape n → Fits plan m e → is_taken m e ≡ true
+    → Contains (duties_of b image plan key m.pc s shape n) (owed 11 (enter (irq_key plan e.irq) (irq_entry plan key s e.irq)))
+
+-- each store of a step lies in range
+abbrev pub StoresHeld : Type 0
+StoresHeld =
+    (b : Limits) (image : ImageData) (plan : PlanData) (key : Key) (m : Machine) (e : Event) (s : State) (shape : Shape) (n : ℕ)
+    → IsAtPoint b image plan key m s shape n → IfSome (stored m e) (IsStoreInRange plan)

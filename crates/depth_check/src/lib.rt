@@ -1,0 +1,6 @@
+//! The certificate checker.
+#![tactic(auto)]
+
+mod verdicts;
+
+pub use verdicts::Verdict;
