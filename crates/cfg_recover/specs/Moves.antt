@@ -36,7 +36,7 @@ InState plan m s = Holds plan (reg m) m.ie m.ccpn s
 -- that breaks no rule by itself, and registers that lie in the point's state.
 pub record IsAtPoint (b : Limits) (image : ImageData) (plan : PlanData) (key : Key) (m : Machine) (s : State) (shape : Shape) (n : ℕ) : Type 0 where
   pub limits : AreLimits b
-  pub ok : IsPlan plan
+  pub is_plan : IsPlan plan
   pub bytes : HasImageBytes image
   pub machine : IsMachine m
   pub running : m.end ≡ Running
