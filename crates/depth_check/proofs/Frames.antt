@@ -1,7 +1,6 @@
 -- The invariant of a run of certified code: a list of frames, the newest first, stands for the state.
 use Rattle.std.proofs.Common.{◌≡◌, ◌≢◌, ℕ, zero, suc, ◌+◌, ◌-◌, ◌*◌, ◌/◌, ◌^◌, ◌<◌, ◌≤◌, ◌⊎◌, Bool, true, false, List, [], ◌∷◌, ◌++◌, length, get_or, Some, refl, sym, ap, ◌∙◌, subst, arith, length-append, Contains, IsTrue}
 use Rattle.std.proofs.lemmas.List.{append-nil}
-use Rattle.std.specs.Prelude.{nat_lt, if◌then◌else◌}
 use Rattle.csa_chain.specs.Memory.{Memory}
 use Rattle.csa_chain.specs.Chain.{link_in, is_area, area_word}
 use Rattle.csa_chain.specs.Contexts.{ul_of, pie_of, pcpn_of}
@@ -15,7 +14,6 @@ use Rattle.tc_machine.specs.declared.state.Machine.{Machine}
 use Rattle.tc_machine.specs.Machine.{reg, a11, is_of}
 use Rattle.tc_machine.specs.Safe.{HoldsRom, IsPlanMemory}
 use Rattle.tc_machine.proofs.Areas.{Areas}
-use Rattle.value_domain.specs.Values.{IsMember, any_val}
 use Rattle.value_domain.specs.State.{ImpliedBy}
 use Rattle.vd_transfer.specs.Registers.{is_lower, global_of}
 use Rattle.vd_transfer.specs.Holding.{Holds}
@@ -25,6 +23,7 @@ use Rattle.depth_cert.specs.Points.{find_point}
 use Rattle.depth_cert.specs.Nodes.{NodeData}
 use Rattle.depth_cert.specs.Certs.{CertData}
 use Rattle.cfg_recover.specs.Moves.{InState}
+use Rattle.cfg_recover.proofs.EntryLaws.{HoldsExit}
 
 -- What stays of a frame while it runs: its node, the area that was saved at its entry (0 for the start), the registers at
 -- its entry, and the areas of its lower contexts with their flags, the newest first.
@@ -48,21 +47,13 @@ LowerSame word0 word = (r : ℕ) → is_lower r ≡ true → word r ≡ word0 r
 abbrev pub UpperSame : (ℕ → ℕ) → (ℕ → ℕ) → Type 0
 UpperSame word0 word = (r : ℕ) → r < 32 → is_lower r ≡ false → r ≢ 27 → word r ≡ word0 r
 
--- the place of a lower register in an exit
-abbrev pub lower_place : ℕ → ℕ
-lower_place r = if nat_lt r 8 then r else r - 10
-
--- the lower registers have values of an exit
-abbrev pub LeavesIn : Exit → (ℕ → ℕ) → Type 0
-LeavesIn x word = (r : ℕ) → is_lower r ≡ true → IsMember (word r) (get_or x.lower (lower_place r) any_val)
-
 -- How a frame may end: by RET, with the exit's values; by RFE of a system call, with those and the status of PCXI; and by RFE
 -- of another handler, with the lower registers of its entry and the status of PCXI.
 pub data Leaves (pie : Bool) (pcpn : ℕ) (node : NodeData) (word0 word : ℕ → ℕ) (ie : Bool) (ccpn : ℕ) : Type 0 where
-  by_return :
-      (x : Exit) → node.exit ≡ Some x → (node.key).kind ≡ 1 → LeavesIn x word → (IsTrue ie → IsTrue x.ie) → x.ccpn ≤ ccpn
+  by_return : (x : Exit) → node.exit ≡ Some x → (node.key).kind ≡ 1 → HoldsExit word ie ccpn x → Leaves pie pcpn node word0 word ie ccpn
+  from_system :
+      (x : Exit) (ie2 : Bool) (ccpn2 : ℕ) → node.exit ≡ Some x → (node.key).kind ≡ 3 → HoldsExit word ie2 ccpn2 x → ie ≡ pie → ccpn ≡ pcpn
       → Leaves pie pcpn node word0 word ie ccpn
-  from_system : (x : Exit) → node.exit ≡ Some x → (node.key).kind ≡ 3 → LeavesIn x word → ie ≡ pie → ccpn ≡ pcpn → Leaves pie pcpn node word0 word ie ccpn
   from_handler : ((node.key).kind ≡ 2) ⊎ ((node.key).kind ≡ 4) → LowerSame word0 word → ie ≡ pie → ccpn ≡ pcpn → Leaves pie pcpn node word0 word ie ccpn
 
 -- a suspended frame that goes on at A11, bit 0 cleared, with these registers and this status
@@ -276,7 +267,3 @@ ImpliedBy-trans (f ∷ fs) (g ∷ gs) [] a b = absurd b
 pub no_locals : {A : Type 0} (ls : List A) → length ls ≡ 0 → ls ≡ []
 no_locals [] h = refl
 no_locals (l ∷ ls) h = absurd (omega arith)
-
--- ---- registers, one after another
-
-

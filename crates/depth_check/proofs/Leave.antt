@@ -19,9 +19,11 @@ use Rattle.tc_machine.proofs.Areas.{Areas, Areas-restored, is_freed}
 use Rattle.value_domain.specs.declared.states.State.{State}
 use Rattle.vd_transfer.specs.Holding.{Holds}
 use Rattle.vd_transfer.specs.Registers.{slot, global_of, is_lower}
+use Rattle.depth_cert.specs.declared.points.Exit.{Exit}
 use Rattle.depth_cert.specs.Nodes.{NodeData}
 use Rattle.depth_cert.specs.Certs.{CertData}
-use Rattle.depth_check.proofs.Frames.{Frame, LowerSame, UpperSame, LeavesIn, Leaves, by_return, from_system, from_handler, Resumed, under, Entry, Frames, used_by, Kept, Frames-same, Links-Frames, no_locals}
+use Rattle.cfg_recover.proofs.EntryLaws.{HoldsExit}
+use Rattle.depth_check.proofs.Frames.{Frame, LowerSame, UpperSame, Leaves, by_return, from_system, from_handler, Resumed, under, Entry, Frames, used_by, Kept, Frames-same, Links-Frames, no_locals}
 use Rattle.depth_check.proofs.Registers.{each_upper, upper_leaves_globals, upper-LowerSame}
 use Rattle.depth_check.proofs.Enter.{IsPlanMemory-written, counted}
 
@@ -39,11 +41,13 @@ pub area_words-at : (mem : Memory) (l : ℕ) (i : ℕ) → i < 16 → get_or (ar
 area_words-at mem l = below_16 (λ i. get_or (area_words mem l) i 0 ≡ area_word mem l i) refl refl refl refl refl refl refl refl refl refl refl refl refl refl refl refl
 
 -- the lower registers tell how a frame ends
+HoldsExit-same : (word word' : ℕ → ℕ) (ie : Bool) (ccpn : ℕ) (x : Exit) → LowerSame word word' → HoldsExit word ie ccpn x → HoldsExit word' ie ccpn x
+HoldsExit-same word word' ie ccpn x same h = record { lower = λ r low. rw (same r low) (h.lower r low); enabled = h.enabled; priority = h.priority }
+
 pub Leaves-same : {pie : Bool} {pcpn : ℕ} (node : NodeData) (word0 word word' : ℕ → ℕ) (ie : Bool) (ccpn : ℕ) → LowerSame word word' → Leaves pie pcpn node word0 word ie ccpn → Leaves pie pcpn node word0 word' ie ccpn
-Leaves-same node word0 word word' ie ccpn same (by_return x is kind inside enabled priority) =
-    by_return x is kind (λ r low. rw (same r low) (inside r low)) enabled priority
-Leaves-same node word0 word word' ie ccpn same (from_system x is kind inside enabled priority) =
-    from_system x is kind (λ r low. rw (same r low) (inside r low)) enabled priority
+Leaves-same node word0 word word' ie ccpn same (by_return x is kind h) = by_return x is kind (HoldsExit-same word word' ie ccpn x same h)
+Leaves-same node word0 word word' ie ccpn same (from_system x ie2 ccpn2 is kind h enabled priority) =
+    from_system x ie2 ccpn2 is kind (HoldsExit-same word word' ie2 ccpn2 x same h) enabled priority
 Leaves-same node word0 word word' ie ccpn same (from_handler kind lower enabled priority) =
     from_handler kind (λ r low. same r low ∙ lower r low) enabled priority
 
