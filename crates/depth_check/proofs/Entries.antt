@@ -33,7 +33,7 @@ use Rattle.depth_check.proofs.Enter.{Begins, reg_lt}
 use Rattle.depth_check.proofs.Rules.{even_at, Found}
 
 -- ---- registers
-lower_not : (r q : ℕ) → is_lower q ≡ false → is_lower r ≡ true → r ≢ q
+pub lower_not : (r q : ℕ) → is_lower q ≡ false → is_lower r ≡ true → r ≢ q
 lower_not r q not low e = absurd (let f : true ≡ false = sym low ∙ ap is_lower e ∙ not in cc)
 
 any_a11 : (plan : PlanData) (s : State) (w : ℕ) → w < 2 ^ 32 → IsMember w (registers.reg_of plan s 27)
@@ -51,19 +51,15 @@ point_for node q s None e h = absurd h
 point_for node q s (Some p) e h = record { point = p; found = e; covers = h }
 
 -- an exit that is there has what an exit must have
-if_some : {A : Type 0} (P : A → Type 0) (o : Option A) (x : A) → IfSome o P → o ≡ Some x → P x
+pub if_some : {A : Type 0} (P : A → Type 0) (o : Option A) (x : A) → IfSome o P → o ≡ Some x → P x
 if_some P None x h e = absurd (let f : None ≡ Some x = e in cc)
 if_some P (Some y) x h e = let same : y ≡ x = cc in subst P same h
 
 module _ (image : ImageData) (plan : PlanData) (cert : CertData) (most : ℕ) (is_cert : IsCert cert) (accepted : Accepts image plan cert) where
   module _ (m : Machine) (words : IsMachine m) (frame : Frame) (below : List Frame) (k : Kept image plan cert most m frame below) (regs : length ((k.point).state).regs ≡ 27) where
-    -- the state at the point
-    s : State
-    s = (k.point).state
-
     -- ---- where a frame goes on
     -- the upper registers that come back lie in the state
-    upper_in : (word : ℕ → ℕ) → UpperSame (reg m) word → word 27 < 2 ^ 32 → (r : ℕ) → r < 32 → is_lower r ≡ false → IsMember (word r) (registers.reg_of plan (k.point).state r)
+    pub upper_in : (word : ℕ → ℕ) → UpperSame (reg m) word → word 27 < 2 ^ 32 → (r : ℕ) → r < 32 → is_lower r ≡ false → IsMember (word r) (registers.reg_of plan (k.point).state r)
     upper_in word upper small r lt high =
         elim (cases_eq r 27) [
           | inl is ↦ subst (λ n. IsMember (word n) (registers.reg_of plan (k.point).state n)) (sym is) (any_a11 plan (k.point).state (word 27) small)
@@ -71,7 +67,7 @@ module _ (image : ImageData) (plan : PlanData) (cert : CertData) (most : ℕ) (i
         ]
 
     -- after a call or a system call, at the point for the exit
-    after : (x : Exit) (kind back : ℕ) (word : ℕ → ℕ) (ie : Bool) (ccpn : ℕ) → PointFor frame.node back (after_of (k.point).state x kind) → Holds plan word ie ccpn (after_of (k.point).state x kind)
+    pub after : (x : Exit) (kind back : ℕ) (word : ℕ → ℕ) (ie : Bool) (ccpn : ℕ) → PointFor frame.node back (after_of (k.point).state x kind) → Holds plan word ie ccpn (after_of (k.point).state x kind)
         → Resumed plan frame back word ie ccpn
     after x kind back word ie ccpn at holds = record {
       point = at.point;
@@ -82,7 +78,7 @@ module _ (image : ImageData) (plan : PlanData) (cert : CertData) (most : ℕ) (i
     }
 
     -- after a handler, at the same point with the same registers
-    again : (word : ℕ → ℕ) (ie : Bool) (ccpn : ℕ) → UpperSame (reg m) word → word 27 < 2 ^ 32 → LowerSame (reg m) word → ie ≡ m.ie → ccpn ≡ m.ccpn → Resumed plan frame m.pc word ie ccpn
+    pub again : (word : ℕ → ℕ) (ie : Bool) (ccpn : ℕ) → UpperSame (reg m) word → word 27 < 2 ^ 32 → LowerSame (reg m) word → ie ≡ m.ie → ccpn ≡ m.ccpn → Resumed plan frame m.pc word ie ccpn
     again word ie ccpn upper small lower same_ie same_ccpn = record {
       point = k.point;
       found = subst (λ q. find_point q (frame.node).points ≡ Some k.point) (sym (even_at image plan cert is_cert accepted frame.node m.pc k.point k.stands k.found)) k.found;
