@@ -78,9 +78,7 @@ limits_are plan version =
 
 -- ---- points
 -- what the rules ask at a point of a node
-pub record PointHolds (image : ImageData) (plan : PlanData) (cert : CertData) (node : NodeData) (p : ℕ) (s : State) : Type 0 where
-  pub shape : Shape
-  pub size : ℕ
+pub record PointHolds (image : ImageData) (plan : PlanData) (cert : CertData) (node : NodeData) (p : ℕ) (s : State) (shape : Shape) (size : ℕ) : Type 0 where
   pub code : IsCode image plan p shape size
   pub regs : length s.regs ≡ 27
   pub values : AreValues (limits_in plan cert) s.regs
@@ -90,6 +88,11 @@ pub record PointHolds (image : ImageData) (plan : PlanData) (cert : CertData) (n
   pub entered : (d : Owed) → Contains (duties_of (limits_in plan cert) image plan node.key p s shape size) d → IsNeedAbove cert node s d.duty
   pub start : node.key ≡ start_key image plan → p ≡ image.entry → node.need ≤ plan.areas - plan.reserve
 
+pub record PointRules (image : ImageData) (plan : PlanData) (cert : CertData) (node : NodeData) (p : ℕ) (s : State) : Type 0 where
+  pub shape : Shape
+  pub size : ℕ
+  pub holds : PointHolds image plan cert node p s shape size
+
 module _ (image : ImageData) (plan : PlanData) (cert : CertData) (is_cert : IsCert cert) (accepted : Accepts image plan cert) where
   pub node_is : (node : NodeData) → Contains cert.nodes node → IsNode cert.version node
   node_is node stands = All-at (IsNode cert.version) cert.nodes node is_cert.nodes stands
@@ -97,7 +100,7 @@ module _ (image : ImageData) (plan : PlanData) (cert : CertData) (is_cert : IsCe
   rules_of_node : (node : NodeData) → Contains cert.nodes node → HoldsAtNode image plan cert node
   rules_of_node node stands = All-at (HoldsAtNode image plan cert) cert.nodes node accepted.nodes stands
 
-  rules_at_point : (node : NodeData) (point : Point) → Contains cert.nodes node → Contains node.points point → PointHolds image plan cert node point.addr point.state
+  rules_at_point : (node : NodeData) (point : Point) → Contains cert.nodes node → Contains node.points point → PointRules image plan cert node point.addr point.state
   rules_at_point node point stands there =
       let all : (r : ℕ) → RuleHolds image plan cert node point r = All-at (λ p. (r : ℕ) → RuleHolds image plan cert node p r) node.points point (rules_of_node node stands).points there in
       let values : AreValues (limits_in plan cert) (point.state).regs = (all 2).values refl in
@@ -108,24 +111,26 @@ module _ (image : ImageData) (plan : PlanData) (cert : CertData) (is_cert : IsCe
       record {
         shape = has.shape;
         size = has.size;
-        code = has.code;
-        regs = (is.state).regs;
-        values = values;
-        own = λ r. (faultless r).own has.shape has.size has.code;
-        met = λ d c. (all d.rule).covered has.shape has.size d values faultless has.code c refl;
-        locals = needs.locals;
-        entered = λ d c. All-at (λ d. IsNeedAbove cert node point.state d.duty) _ d needs.entered c;
-        start = needs.start;
+        holds = record {
+          code = has.code;
+          regs = (is.state).regs;
+          values = values;
+          own = λ r. (faultless r).own has.shape has.size has.code;
+          met = λ d c. (all d.rule).covered has.shape has.size d values faultless has.code c refl;
+          locals = needs.locals;
+          entered = λ d c. All-at (λ d. IsNeedAbove cert node point.state d.duty) _ d needs.entered c;
+          start = needs.start;
+        };
       }
 
-  pub rules_at : (node : NodeData) (q : ℕ) (point : Point) → Contains cert.nodes node → find_point q node.points ≡ Some point → PointHolds image plan cert node q point.state
+  pub rules_at : (node : NodeData) (q : ℕ) (point : Point) → Contains cert.nodes node → find_point q node.points ≡ Some point → PointRules image plan cert node q point.state
   rules_at node q point stands found =
       let there = found_in (λ p. p.addr == q) node.points point found in
-      subst (λ x. PointHolds image plan cert node x point.state) (eqb-true _ _ there.1) (rules_at_point node point stands there.0)
+      subst (λ x. PointRules image plan cert node x point.state) (eqb-true _ _ there.1) (rules_at_point node point stands there.0)
 
   -- where a point stands, there is code at an even address
   pub even_at : (node : NodeData) (q : ℕ) (point : Point) → Contains cert.nodes node → find_point q node.points ≡ Some point → q / 2 * 2 ≡ q
-  even_at node q point stands found = let e = ((rules_at node q point stands found).code).even in omega arith
+  even_at node q point stands found = let e = (((rules_at node q point stands found).holds).code).even in omega arith
 
   -- the node of a key
   pub record Found (k : Key) (n : NodeData) : Type 0 where
