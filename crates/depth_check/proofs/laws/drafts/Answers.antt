@@ -1,6 +1,6 @@
 use Rattle.std.proofs.Common.{refl}
-use Rattle.depth_check.proofs.Lengths as lengths
+use Rattle.depth_check.proofs.Owes as owes
 use Rattle.depth_check.proofs.laws.drafts.Goals as goal
 
 pub returns : goal.returns
-returns c = let x = lengths.jump_long in (λ n. refl)
+returns c = let x = owes.traps-is in (λ n. refl)
