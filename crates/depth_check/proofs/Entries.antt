@@ -90,7 +90,7 @@ module _ (image : ImageData) (plan : PlanData) (cert : CertData) (most : ℕ) (i
     }
 
     -- ---- a call
-    module _ (target back need : ℕ) (small : back < 2 ^ 32) (node : NodeData) (found : Found image plan cert is_cert accepted (call_key (frame.node).key target) node)
+    module _ (target back : ℕ) (small : back < 2 ^ 32) (node : NodeData) (found : Found image plan cert is_cert accepted (call_key (frame.node).key target) node)
         (at : PointFor node target (call_entry (k.point).state)) (exits : IfSome node.exit (λ x. PointFor frame.node back (after_of (k.point).state x 1)))
         (room : length ((k.point).state).locals.items + 1 + node.need ≤ (frame.node).need) where
       call_back : get_or (set m.a 11 back) 11 0 ≡ back
