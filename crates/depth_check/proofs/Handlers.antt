@@ -42,7 +42,7 @@ set_none : (s : State) (v : Val) (o : Option ℕ) → length (set_at s v o).loca
 set_none s v (Some i) = refl
 set_none s v None = refl
 
-entry_none : (sp : Val) (ie : Bool) (ccpn : ℕ) (lower : Bool) → length (entry_with sp ie ccpn lower).locals.items ≡ 0
+pub entry_none : (sp : Val) (ie : Bool) (ccpn : ℕ) (lower : Bool) → length (entry_with sp ie ccpn lower).locals.items ≡ 0
 entry_none sp ie ccpn lower = set_none (record { regs = replicate 27 any_val; ie = ie; ccpn = ccpn; lower = lower; locals = record { items = [] } }) sp (slot 26)
 
 -- A0 to A15 at the entry of a handler

@@ -144,7 +144,7 @@ module _ (image : ImageData) (plan : PlanData) (ok : IsPlan plan) (cert : CertDa
         }
 
     module _ (shape : Shape) (n : ℕ) (h : PointHolds image plan cert frame.node m.pc (k.point).state shape n) where
-      at_point : IsAtPoint (limits_in plan cert) image plan (frame.node).key m (k.point).state shape n
+      pub at_point : IsAtPoint (limits_in plan cert) image plan (frame.node).key m (k.point).state shape n
       at_point = record {
         limits = limits_are plan cert.version;
         is_plan = ok;
