@@ -1,10 +1,10 @@
 -- Words that lie in a state lie in the states that cover it, at the entries that it leads to, in exits, and after calls.
-use Rattle.std.proofs.Common.{◌≡◌, ◌≢◌, ℕ, zero, suc, ◌+◌, ◌-◌, ◌<◌, ◌≤◌, ◌^◌, ◌⊎◌, ◌&&◌, inl, inr, Bool, true, false, cond, List, [], ◌∷◌, ◌++◌, length, get_or, take, drop, replicate, refl, sym, ap, ◌∙◌, subst, arith, Option, Some, None, IsTrue, IsSome, eqb, ltb, leb, if◌then◌else◌, length-append, length-take-le, length-drop, get_or-take, get_or-drop}
+use Rattle.std.proofs.Common.{◌≡◌, ◌≢◌, ℕ, zero, suc, ◌+◌, ◌-◌, ◌<◌, ◌≤◌, ◌^◌, ◌⊎◌, ◌&&◌, inl, inr, Bool, true, false, cond, List, [], ◌∷◌, length, get_or, take, drop, replicate, refl, sym, ap, ◌∙◌, subst, arith, Option, Some, None, IsTrue, ltb, leb, if◌then◌else◌, length-append, length-take-le, length-drop, get_or-take, get_or-drop}
 use Rattle.std.specs.Prelude.{IfSome}
-use Rattle.std.proofs.lemmas.Bool.{cases_Bool, cases_eq, cases_lt, eqb-true, eqb-false, eq-eqb, ne_eqb, lt-ltb, le-ltb, le-leb, lt-leb, ltb-true, leb-true, and_parts, or_cases, cond_both}
+use Rattle.std.proofs.lemmas.Bool.{cases_Bool, cases_eq, cases_lt, eq-eqb, ne_eqb, lt-ltb, le-ltb, le-leb, lt-leb, ltb-true, leb-true, and_parts, or_cases, cond_both}
 use Rattle.std.proofs.lemmas.List.{get_or-replicate, length-replicate, get_or_append_left, get_or-append_right}
 use Rattle.elf_image.specs.Images.{ImageData}
-use Rattle.tcd_plan.specs.PlanData.{PlanData, IsPlan}
+use Rattle.tcd_plan.specs.PlanData.{PlanData}
 use Rattle.tc_isa.specs.declared.shapes.Arg.{Arg}
 use Rattle.tc_isa.specs.declared.shapes.Arg.TheVariants.{Reg, Word}
 use Rattle.tc_isa.specs.declared.shapes.Cond.{Cond}
@@ -25,7 +25,7 @@ use Rattle.vd_transfer.specs.Operations.{value_of}
 use Rattle.vd_transfer.specs.Registers.{slot, reg_of, value_at, fixed_of, set_reg, word_val, is_lower}
 use Rattle.vd_transfer.specs.Effects.{with_base, is_lower_slot, transfer_of}
 use Rattle.vd_transfer.specs.Branches.{refine_of, refined, lowered, with_one, with_two, set_arg, is_reg}
-use Rattle.vd_transfer.specs.Holding.{Holds, HasValue, set_word}
+use Rattle.vd_transfer.specs.Holding.{Holds, set_word}
 use Rattle.vd_transfer.proofs.RegisterLaws.{length-forgotten}
 use Rattle.vd_transfer.proofs.SlotLaws.{slot_is, not_lower}
 use Rattle.vd_transfer.proofs.HoldLaws.{same_length, holds_set, holds_narrow}
@@ -78,16 +78,19 @@ pub holds_call : (plan : PlanData) (s : State) (word word2 : ℕ → ℕ) (ie : 
 holds_call plan s word word2 ie ccpn small others h = holds_same plan s (call_entry s) word word2 ie ie ccpn ccpn refl h.enabled h.priority small others h
 
 -- ---- registers without a value
+some_none : (i : ℕ) → Some i ≡ None → ⊥
+some_none i e = cc
+
 some_slot : (r : ℕ) → r < 32 → r ≢ 16 → r ≢ 17 → r ≢ 24 → r ≢ 25 → r ≢ 27 → slot r ≡ None → ⊥
 unfolding slot
 some_slot r lt n16 n17 n24 n25 n27 e =
     elim (cases_lt r 16) [
-      | inl dr ↦ let f : Some r ≡ None = rw (lt-ltb r 16 dr) at e in absurd cc
+      | inl dr ↦ some_none r (rw (lt-ltb r 16 dr) at e)
       | inr address ↦ elim (cases_lt r 24) [
-        | inl low ↦ let f : Some (r - 2) ≡ None = rw (le-ltb r 16 address, le-leb 18 r (omega arith), le-leb r 23 (omega arith)) at e in cc
+        | inl low ↦ some_none (r - 2) (rw (le-ltb r 16 address, le-leb 18 r (omega arith), le-leb r 23 (omega arith)) at e)
         | inr high ↦ elim (cases_eq r 26) [
-          | inl stack ↦ let f : Some 22 ≡ None = subst (λ n. slot n ≡ None) stack e in cc
-          | inr other ↦ let f : Some (r - 5) ≡ None = rw (le-ltb r 16 address, le-leb 18 r (omega arith), lt-leb r 23 (omega arith), ne_eqb r 26 other, le-leb 28 r (omega arith), le-leb r 31 (omega arith)) at e in cc
+          | inl stack ↦ some_none 22 (subst (λ n. slot n ≡ None) stack e)
+          | inr other ↦ some_none (r - 5) (rw (le-ltb r 16 address, le-leb 18 r (omega arith), lt-leb r 23 (omega arith), ne_eqb r 26 other, le-leb 28 r (omega arith), le-leb r 31 (omega arith)) at e)
         ]
       ]
     ]
@@ -127,7 +130,8 @@ globals_stay plan s word word2 ie ccpn small same h =
     (rw (same 25 (omega arith) (omega arith)) (h.regs 25 (omega arith)))
     (any_member (word2 27) small)
 
-reg_lt : (m : Machine) → IsMachine m → (r : ℕ) → reg m r < 2 ^ 32
+-- the word of a machine's register
+pub reg_lt : (m : Machine) → IsMachine m → (r : ℕ) → reg m r < 2 ^ 32
 reg_lt m k r =
     elim (cases_Bool (ltb r 16)) [
       | inl dr ↦ rw dr (register_lt m.d (k.d) r)

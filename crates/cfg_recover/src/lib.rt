@@ -2,5 +2,7 @@
 #![tactic(auto)]
 
 mod flows;
+mod laws;
 
 pub use flows::{Enter, Flow, Jump, Leave};
+pub use laws::move_laws;
