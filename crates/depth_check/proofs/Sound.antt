@@ -23,7 +23,7 @@ use Rattle.depth_cert.specs.Nodes.{NodeData}
 use Rattle.depth_cert.specs.Certs.{CertData, IsCert, find_node}
 use Rattle.cfg_recover.specs.Entries.{start_key, start_state}
 use Rattle.cfg_recover.specs.Accepting.{limits_in, HasPoint, Accepts, need_of, certified_need}
-use Rattle.cfg_recover.specs.Moves.{MovesInFrame, TrapsOwed, CallsOwed, InterruptsOwed, StoresHeld}
+use Rattle.cfg_recover.proofs.MoveLaws.{moves_in_frame, traps_owed, calls_owed, interrupts_owed, stores_held}
 use Rattle.cfg_recover.proofs.EntryLaws.{holds_covered, holds_start, entry_length}
 use Rattle.depth_check.specs.Headline.{AcceptedIsSafe}
 use Rattle.depth_check.proofs.Frames.{Frame, used_by, Kept, Links-Frames, need-Frames, length-ImpliedBy}
@@ -84,12 +84,12 @@ module _ (image : ImageData) (plan : PlanData) (ok : IsPlan plan) (cert : CertDa
       let few : (b.node).need ≤ plan.areas - plan.reserve = (rules.holds).start found.key refl in
       omega arith
 
-  module _ (bytes : HasImageBytes image) (moves_in_frame : MovesInFrame) (traps_owed : TrapsOwed) (calls_owed : CallsOwed) (interrupts_owed : InterruptsOwed) (stores_held : StoresHeld) (most : ℕ) (few : most ≤ plan.areas - plan.reserve) where
+  module _ (bytes : HasImageBytes image) (most : ℕ) (few : most ≤ plan.areas - plan.reserve) where
     run-kept : (m : Machine) (es : List Event) → IsMachine m → Goes image plan cert most m → AllFit plan m es → Goes image plan cert most (run m es)
     run-kept m [] words g fits = g
     run-kept m (e ∷ es) words g fits =
         run-kept (step m e) es (stays_step m e words (irq_lt ok m e fits.0) (fits.0).input (fits.0).status)
-        (step-kept image plan ok cert most few is_cert accepted bytes moves_in_frame traps_owed calls_owed interrupts_owed m words e fits.0 g) fits.1
+        (step-kept image plan ok cert most few is_cert accepted bytes m words e fits.0 g) fits.1
 
     -- the invariant says that the state is safe
     safe-kept : (m : Machine) (e : Event) → IsMachine m → (frame : Frame) (below : List Frame) → Kept image plan cert most m frame below → IsSafeAt image plan most m e
@@ -108,12 +108,12 @@ module _ (image : ImageData) (plan : PlanData) (ok : IsPlan plan) (cert : CertDa
         }
 
 -- ---- the theorem
-pub accepted_is_safe : MovesInFrame → TrapsOwed → CallsOwed → InterruptsOwed → StoresHeld → AcceptedIsSafe
-accepted_is_safe moves_in_frame traps_owed calls_owed interrupts_owed stores_held image plan cert ok bytes is_cert accepted m es e start all_fit fits =
+pub accepted_is_safe : AcceptedIsSafe
+accepted_is_safe image plan cert ok bytes is_cert accepted m es e start all_fit fits =
     let small : IsKey (start_key image plan) = record { kind = omega arith; entry = subst (λ p. p < 2 ^ 32) start.pc (start.machine).pc; prio = omega arith } in
     let b = begun image plan ok cert is_cert accepted small (find_node (start_key image plan) cert.nodes) refl accepted.start in
     let few = few_at_start image plan ok cert is_cert accepted (certified_need image plan cert) b in
     let first = Kept-start image plan ok cert is_cert accepted m start (certified_need image plan cert) b in
-    let g = run-kept image plan ok cert is_cert accepted bytes moves_in_frame traps_owed calls_owed interrupts_owed stores_held (certified_need image plan cert) few m es start.machine
+    let g = run-kept image plan ok cert is_cert accepted bytes (certified_need image plan cert) few m es start.machine
         (record { frame = oldest m b.node; below = []; kept = first }) all_fit in
-    safe-kept image plan ok cert is_cert accepted bytes moves_in_frame traps_owed calls_owed interrupts_owed stores_held (certified_need image plan cert) few (run m es) e (stays_run ok m es start.machine all_fit) g.frame g.below g.kept
+    safe-kept image plan ok cert is_cert accepted bytes (certified_need image plan cert) few (run m es) e (stays_run ok m es start.machine all_fit) g.frame g.below g.kept

@@ -39,7 +39,8 @@ use Rattle.cfg_recover.specs.Code.{IsCode}
 use Rattle.cfg_recover.specs.Entries.{call_key, irq_key, sys_key, aln_key, call_entry, irq_entry, sys_entry, aln_entry, exit_of, after_of}
 use Rattle.cfg_recover.specs.Duties.{jump, enter, resume, leave, owed, duties_of}
 use Rattle.cfg_recover.specs.Accepting.{limits_in, HasPoint, ExitCovers, Accepts}
-use Rattle.cfg_recover.specs.Moves.{IsAtPoint, StaysInFrame, traps, MovesInFrame, TrapsOwed, CallsOwed, InterruptsOwed}
+use Rattle.cfg_recover.specs.Moves.{IsAtPoint, StaysInFrame, traps}
+use Rattle.cfg_recover.proofs.MoveLaws.{moves_in_frame, traps_owed, calls_owed, interrupts_owed}
 use Rattle.cfg_recover.proofs.EntryLaws.{holds_same, holds_exit}
 use Rattle.depth_check.proofs.Frames.{Frame, Leaves, by_return, from_system, from_handler, Kept, length-ImpliedBy}
 use Rattle.depth_check.proofs.Enter.{Begins, begun, entered, room, begins, saves, reg_lt}
@@ -173,8 +174,8 @@ module _ (image : ImageData) (plan : PlanData) (ok : IsPlan plan) (cert : CertDa
       jumping q t owes = point_for frame.node q t (find_point q (frame.node).points) refl (h.met (owed 4 (jump q t)) owes)
 
       -- ---- inside the frame
-      plain : MovesInFrame → (e : Event) → Fits plan m e → is_taken m e ≡ false → StaysInFrame shape → traps m e shape ≡ false → Goes image plan cert most (does m e shape n)
-      plain moves_in_frame e fits none stays free =
+      plain : (e : Event) → Fits plan m e → is_taken m e ≡ false → StaysInFrame shape → traps m e shape ≡ false → Goes image plan cert most (does m e shape n)
+      plain e fits none stays free =
           let mv = moves_in_frame (limits_in plan cert) image plan (frame.node).key m e (k.point).state shape n at_point fits none stays free in
           let at = jumping (does m e shape n).pc mv.state mv.owes in
           record {
@@ -185,8 +186,8 @@ module _ (image : ImageData) (plan : PlanData) (ok : IsPlan plan) (cert : CertDa
           }
 
       -- ---- a misaligned access
-      trapped : TrapsOwed → (e : Event) → traps m e shape ≡ true → Goes image plan cert most (does m e shape n)
-      trapped traps_owed e t =
+      trapped : (e : Event) → traps m e shape ≡ true → Goes image plan cert most (does m e shape n)
+      trapped e t =
           let small : IsKey (aln_key plan (frame.node).key) = record { kind = omega arith; entry = or_lt 32 plan.btv (2 * 2 ^ 5) (ok.words).btv (omega arith); prio = key_small.prio } in
           let f = entering 10 (aln_key plan (frame.node).key) (aln_entry plan (frame.node).key (k.point).state) small (traps_owed (limits_in plan cert) image plan (frame.node).key m e (k.point).state shape n at_point t) in
           let b = began (set m.d 15 4) (handler_a m m.pc) (bit_or m.btv (2 * 2 ^ 5)) (handler_psw m.psw) false m.ccpn
@@ -194,8 +195,8 @@ module _ (image : ImageData) (plan : PlanData) (ok : IsPlan plan) (cert : CertDa
           subst (Goes image plan cert most) (sym (traps-is m e shape n t ∙ trap-is m k.running b.saves 2 4 m.pc)) b.goes
 
       -- ---- an interrupt
-      pub interrupted : InterruptsOwed → (e : Event) → Fits plan m e → is_taken m e ≡ true → Goes image plan cert most (interrupt m e.irq)
-      interrupted interrupts_owed e fits taken =
+      pub interrupted : (e : Event) → Fits plan m e → is_taken m e ≡ true → Goes image plan cert most (interrupt m e.irq)
+      interrupted e fits taken =
           let low = irq_lt ok m e fits in
           let small : IsKey (irq_key plan e.irq) = record { kind = omega arith; entry = or_lt 32 plan.biv (e.irq * 2 ^ 5) (ok.words).biv (omega arith); prio = low } in
           let f = entering 11 (irq_key plan e.irq) (irq_entry plan (frame.node).key (k.point).state e.irq) small (interrupts_owed (limits_in plan cert) image plan (frame.node).key m e (k.point).state shape n at_point fits taken) in
@@ -204,8 +205,8 @@ module _ (image : ImageData) (plan : PlanData) (ok : IsPlan plan) (cert : CertDa
           subst (Goes image plan cert most) (sym (interrupt-is m k.running b.saves e.irq)) b.goes
 
     -- ---- a call
-    calls : CallsOwed → (e : Event) (to : Target) (n : ℕ) → PointHolds image plan cert frame.node m.pc (k.point).state (Call to) n → Goes image plan cert most (does m e (Call to) n)
-    calls calls_owed e to n h =
+    calls : (e : Event) (to : Target) (n : ℕ) → PointHolds image plan cert frame.node m.pc (k.point).state (Call to) n → Goes image plan cert most (does m e (Call to) n)
+    calls e to n h =
         let key = call_key (frame.node).key (target_of m to) in
         let small : IsKey (call_key (frame.node).key (target_of m to)) = record { kind = omega arith; entry = target_lt m words to (shape_is image plan m.pc (Call to) n h.code); prio = key_small.prio } in
         let owes = calls_owed (limits_in plan cert) image plan (frame.node).key m (k.point).state to n (at_point (Call to) n h) in
@@ -291,12 +292,12 @@ module _ (image : ImageData) (plan : PlanData) (ok : IsPlan plan) (cert : CertDa
         subst (Goes image plan cert most) (sym (rslcx-is m k.running p.restores e n)) (record { frame = p.frame2; below = below; kept = p.kept })
 
     -- ---- what the instruction at pc does
-    module _ (moves_in_frame : MovesInFrame) (traps_owed : TrapsOwed) (calls_owed : CallsOwed) (e : Event) (fits : Fits plan m e) (none : is_taken m e ≡ false) where
+    module _ (e : Event) (fits : Fits plan m e) (none : is_taken m e ≡ false) where
       accesses : (shape : Shape) (n : ℕ) (h : PointHolds image plan cert frame.node m.pc (k.point).state shape n) → StaysInFrame shape → Goes image plan cert most (does m e shape n)
       accesses shape n h stays =
           elim (cases_Bool (traps m e shape)) [
-            | inl t ↦ trapped m words frame below k shape n h traps_owed e t
-            | inr f ↦ plain m words frame below k shape n h moves_in_frame e fits none stays f
+            | inl t ↦ trapped m words frame below k shape n h e t
+            | inr f ↦ plain m words frame below k shape n h e fits none stays f
           ]
 
       pub follows : (shape : Shape) (n : ℕ) → PointHolds image plan cert frame.node m.pc (k.point).state shape n → Goes image plan cert most (does m e shape n)
@@ -306,7 +307,7 @@ module _ (image : ImageData) (plan : PlanData) (ok : IsPlan plan) (cert : CertDa
       follows (Store src base offset size after) n h = accesses (Store src base offset size after) n h tt
       follows (Branch test x y by lowers) n h = accesses (Branch test x y by lowers) n h tt
       follows (Jump to) n h = accesses (Jump to) n h tt
-      follows (Call to) n h = calls m words frame below k calls_owed e to n h
+      follows (Call to) n h = calls m words frame below k e to n h
       follows Ret n h = returns e n h
       follows Rfe n h = comes_from e n h
       follows Svlcx n h =
@@ -324,24 +325,23 @@ module _ (image : ImageData) (plan : PlanData) (ok : IsPlan plan) (cert : CertDa
       follows Nothing n h = accesses Nothing n h tt
 
   -- ---- one event
-  module _ (moves_in_frame : MovesInFrame) (traps_owed : TrapsOwed) (calls_owed : CallsOwed) (interrupts_owed : InterruptsOwed) where
-    done-kept : (m : Machine) → IsMachine m → (e : Event) → Fits plan m e → (g : Goes image plan cert most m) → Goes image plan cert most (done m e)
-    done-kept m words e fits g =
-        let k = g.kept in
-        let r = rules_at image plan cert is_cert accepted (g.frame).node m.pc (g.kept).point (g.kept).stands (g.kept).found in
-        let code = (r.holds).code in
-        elim (cases_Bool (is_taken m e)) [
-          | inl taken ↦
-              subst (Goes image plan cert most) (sym (ap (λ t. cond t (interrupt m e.irq) (executed m e (fetched m))) taken))
-              (interrupted m words g.frame g.below g.kept r.shape r.size r.holds interrupts_owed e fits taken)
-          | inr none ↦
-              let at : fetched m ≡ Ok (r.shape, r.size) = fetched-is image ok m (g.kept).rom code.even code.bytes code.inst code.spells ∙ ap (λ s. Ok (s, length code.bytes)) code.shaped ∙ ap (λ l. Ok (r.shape, l)) code.sized in
-              subst (Goes image plan cert most) (sym (done-is m e r.shape r.size none at))
-              (follows m words g.frame g.below g.kept moves_in_frame traps_owed calls_owed e fits none r.shape r.size r.holds)
-        ]
+  done-kept : (m : Machine) → IsMachine m → (e : Event) → Fits plan m e → (g : Goes image plan cert most m) → Goes image plan cert most (done m e)
+  done-kept m words e fits g =
+      let k = g.kept in
+      let r = rules_at image plan cert is_cert accepted (g.frame).node m.pc (g.kept).point (g.kept).stands (g.kept).found in
+      let code = (r.holds).code in
+      elim (cases_Bool (is_taken m e)) [
+        | inl taken ↦
+            subst (Goes image plan cert most) (sym (ap (λ t. cond t (interrupt m e.irq) (executed m e (fetched m))) taken))
+            (interrupted m words g.frame g.below g.kept r.shape r.size r.holds e fits taken)
+        | inr none ↦
+            let at : fetched m ≡ Ok (r.shape, r.size) = fetched-is image ok m (g.kept).rom code.even code.bytes code.inst code.spells ∙ ap (λ s. Ok (s, length code.bytes)) code.shaped ∙ ap (λ l. Ok (r.shape, l)) code.sized in
+            subst (Goes image plan cert most) (sym (done-is m e r.shape r.size none at))
+            (follows m words g.frame g.below g.kept e fits none r.shape r.size r.holds)
+      ]
 
-    pub step-kept : (m : Machine) → IsMachine m → (e : Event) → Fits plan m e → Goes image plan cert most m → Goes image plan cert most (step m e)
-    step-kept m words e fits g =
-        let after = done-kept m words e fits g in
-        subst (Goes image plan cert most) (sym (step-is m e (g.kept).running (after.kept).running))
-        (record { frame = after.frame; below = after.below; kept = Kept-event image plan cert most (done m e) e after.frame after.below after.kept })
+  pub step-kept : (m : Machine) → IsMachine m → (e : Event) → Fits plan m e → Goes image plan cert most m → Goes image plan cert most (step m e)
+  step-kept m words e fits g =
+      let after = done-kept m words e fits g in
+      subst (Goes image plan cert most) (sym (step-is m e (g.kept).running (after.kept).running))
+      (record { frame = after.frame; below = after.below; kept = Kept-event image plan cert most (done m e) e after.frame after.below after.kept })

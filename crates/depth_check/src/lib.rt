@@ -4,5 +4,5 @@
 mod laws;
 mod verdicts;
 
-pub use laws::drafts;
+pub use laws::accepted_is_safe;
 pub use verdicts::Verdict;
