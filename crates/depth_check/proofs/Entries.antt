@@ -1,35 +1,31 @@
 -- What calls, interrupts and traps begin.
-use Rattle.std.proofs.Common.{◌≡◌, ◌≢◌, ℕ, zero, suc, ◌+◌, ◌-◌, ◌*◌, ◌/◌, ◌%◌, ◌^◌, ◌<◌, ◌≤◌, ◌⊎◌, inl, inr, Bool, true, false, List, [], ◌∷◌, length, get_or, set, Some, refl, sym, ap, ◌∙◌, subst, arith, length-set, IsTrue, Contains}
+use Rattle.std.proofs.Common.{◌≡◌, ◌≢◌, ℕ, ◌+◌, ◌^◌, ◌<◌, ◌≤◌, inl, inr, Bool, true, false, List, [], length, get_or, set, Some, refl, sym, ap, ◌∙◌, subst, arith}
 use Rattle.std.proofs.lemmas.Bool.{cases_Bool, cases_eq}
-use Rattle.std.proofs.lemmas.List.{get_or-set_same, get_or-set_other}
-use Rattle.std.specs.Prelude.{Option, None, IsSomeAnd, IfSome, bit_or}
+use Rattle.std.proofs.lemmas.List.{get_or-set_same}
+use Rattle.std.specs.Prelude.{Option, None, IsSomeAnd, IfSome}
 use Rattle.csa_chain.proofs.ContextLaws.{reg_of}
 use Rattle.elf_image.specs.Images.{ImageData}
-use Rattle.tcd_plan.specs.PlanData.{PlanData, IsPlan}
+use Rattle.tcd_plan.specs.PlanData.{PlanData}
 use Rattle.tc_machine.specs.declared.state.Machine.{Machine}
-use Rattle.tc_machine.specs.Machine.{reg, a10, a11, is_of, handler_psw, moved}
-use Rattle.tc_machine.specs.Instructions.{handler_stack}
+use Rattle.tc_machine.specs.Machine.{reg}
 use Rattle.tc_machine.specs.Safe.{IsMachine}
-use Rattle.tc_machine.proofs.Words.{register_lt, AreRegisters-set}
-use Rattle.tc_machine.proofs.Saves.{moved-lt}
 use Rattle.value_domain.specs.declared.states.State.{State}
-use Rattle.value_domain.specs.Values.{IsMember, any_val}
-use Rattle.value_domain.specs.State.{Covers, ImpliedBy}
+use Rattle.value_domain.specs.Values.{IsMember}
+use Rattle.value_domain.specs.State.{Covers}
 use Rattle.vd_transfer.specs.Registers.{slot, is_lower}
 use Rattle.vd_transfer.specs.Registers as registers
 use Rattle.vd_transfer.specs.Holding.{Holds}
-use Rattle.depth_cert.specs.declared.keys.Key.{Key}
 use Rattle.depth_cert.specs.declared.points.Exit.{Exit}
 use Rattle.depth_cert.specs.declared.points.Point.{Point}
 use Rattle.depth_cert.specs.Points.{find_point}
 use Rattle.depth_cert.specs.Nodes.{NodeData}
-use Rattle.depth_cert.specs.Certs.{CertData, IsCert, find_node}
-use Rattle.cfg_recover.specs.Entries.{call_key, irq_key, sys_key, aln_key, call_entry, irq_entry, sys_entry, aln_entry, stack_of, after_of}
-use Rattle.cfg_recover.specs.Accepting.{Accepts, HasPoint}
-use Rattle.cfg_recover.proofs.EntryLaws.{holds_covered, holds_same, holds_call, holds_irq, holds_aln, holds_sys, entry_length, aln_length, sys_length, stack_member, HoldsExit, holds_after_call, holds_after_system, after_length}
-use Rattle.depth_check.proofs.Frames.{Frame, oldest_first, LowerSame, UpperSame, Leaves, by_return, from_system, from_handler, Resumed, Kept, length-ImpliedBy, ImpliedBy-trans}
-use Rattle.depth_check.proofs.Registers.{set_a11, set_a10, set_d15}
-use Rattle.depth_check.proofs.Enter.{Begins, reg_lt}
+use Rattle.depth_cert.specs.Certs.{CertData, IsCert}
+use Rattle.cfg_recover.specs.Entries.{call_key, call_entry, after_of}
+use Rattle.cfg_recover.specs.Accepting.{Accepts}
+use Rattle.cfg_recover.proofs.EntryLaws.{holds_covered, holds_same, holds_call, holds_after_call, after_length}
+use Rattle.depth_check.proofs.Frames.{Frame, LowerSame, UpperSame, Leaves, by_return, from_system, from_handler, Resumed, Kept, length-ImpliedBy, ImpliedBy-trans}
+use Rattle.depth_check.proofs.Registers.{set_a11}
+use Rattle.depth_check.proofs.Enter.{Begins}
 use Rattle.depth_check.proofs.Rules.{even_at, Found}
 
 -- ---- registers

@@ -1,22 +1,20 @@
 -- What interrupts and traps begin.
-use Rattle.std.proofs.Common.{◌≡◌, ◌≢◌, ℕ, zero, suc, ◌+◌, ◌-◌, ◌*◌, ◌/◌, ◌%◌, ◌^◌, ◌<◌, ◌≤◌, ◌⊎◌, inl, inr, Bool, true, false, List, [], ◌∷◌, length, get_or, set, Some, refl, sym, ap, ◌∙◌, subst, arith, length-set, IsTrue, Contains, ◌==◌}
+use Rattle.std.proofs.Common.{◌≡◌, ◌≢◌, ℕ, ◌+◌, ◌-◌, ◌*◌, ◌/◌, ◌%◌, ◌^◌, ◌<◌, ◌≤◌, ◌⊎◌, inl, inr, Bool, true, false, List, [], length, get_or, set, Some, refl, sym, ap, ◌∙◌, subst, arith, length-set}
 use Rattle.std.proofs.lemmas.Bool.{cond_both, eq-eqb}
 use Rattle.std.proofs.lemmas.List.{get_or-set_same, get_or-set_other}
 use Rattle.std.specs.Prelude.{Option, None, IfSome, bit_or, nat_lt, replicate}
 use Rattle.csa_chain.proofs.ContextLaws.{reg_of}
 use Rattle.elf_image.specs.Images.{ImageData}
-use Rattle.tcd_plan.specs.PlanData.{PlanData, IsPlan}
+use Rattle.tcd_plan.specs.PlanData.{PlanData}
 use Rattle.tc_machine.specs.declared.state.Machine.{Machine}
-use Rattle.tc_machine.specs.Machine.{reg, a10, a11, is_of, handler_psw}
+use Rattle.tc_machine.specs.Machine.{reg, a10, is_of, handler_psw}
 use Rattle.tc_machine.specs.Instructions.{handler_stack}
 use Rattle.tc_machine.specs.Safe.{IsMachine, AreRegisters}
 use Rattle.tc_machine.proofs.Words.{register_lt, AreRegisters-set}
 use Rattle.value_domain.specs.declared.states.State.{State}
 use Rattle.value_domain.specs.declared.values.Val.{Val}
 use Rattle.value_domain.specs.Values.{IsMember, any_val}
-use Rattle.vd_transfer.specs.Registers.{is_lower, slot, set_at, word_val}
-use Rattle.vd_transfer.specs.Holding.{Holds}
-use Rattle.depth_cert.specs.Points.{find_point}
+use Rattle.vd_transfer.specs.Registers.{slot, set_at, word_val}
 use Rattle.depth_cert.specs.Nodes.{NodeData}
 use Rattle.depth_cert.specs.Certs.{CertData, IsCert}
 use Rattle.cfg_recover.specs.Entries.{irq_key, sys_key, aln_key, irq_entry, sys_entry, aln_entry, stack_of, entry_with, after_of}

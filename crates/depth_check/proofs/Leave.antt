@@ -1,16 +1,16 @@
 -- A restored upper context ends a frame, and the suspended one goes on.
-use Rattle.std.proofs.Common.{◌≡◌, ◌≢◌, ℕ, zero, suc, ◌+◌, ◌-◌, ◌*◌, ◌/◌, ◌^◌, ◌<◌, ◌≤◌, inl, inr, Bool, true, false, List, [], ◌∷◌, ◌++◌, length, get_or, Some, refl, sym, ap, ◌∙◌, subst, arith, Contains}
+use Rattle.std.proofs.Common.{◌≡◌, ℕ, zero, suc, ◌-◌, ◌*◌, ◌/◌, ◌^◌, ◌<◌, ◌≤◌, inl, inr, Bool, true, List, [], ◌∷◌, ◌++◌, length, get_or, refl, sym, ap, ◌∙◌, subst, arith}
 use Rattle.csa_chain.specs.Memory.{Memory, with_words}
 use Rattle.csa_chain.specs.Chain.{link_in, link_address, area_word}
 use Rattle.csa_chain.specs.Contexts.{pie_of, pcpn_of, d_after_upper, a_after_upper}
 use Rattle.csa_chain.proofs.WordLaws.{area_word-lt}
 use Rattle.csa_chain.proofs.ChainLaws.{Links, SameAreas-written}
-use Rattle.csa_chain.proofs.ContextLaws.{reg_of, upper_regs, global_regs, below_16, upper_back, link_in-lt}
+use Rattle.csa_chain.proofs.ContextLaws.{reg_of, global_regs, below_16, upper_back, link_in-lt}
 use Rattle.elf_image.specs.Images.{ImageData}
 use Rattle.tcd_plan.specs.PlanData.{PlanData, IsPlan}
 use Rattle.tc_machine.specs.declared.events.End.TheVariants.{Running}
 use Rattle.tc_machine.specs.declared.state.Machine.{Machine}
-use Rattle.tc_machine.specs.Machine.{reg, a11, is_of}
+use Rattle.tc_machine.specs.Machine.{reg, a11}
 use Rattle.tc_machine.specs.Contexts.{area_words, last_context, restored, restore}
 use Rattle.tc_machine.specs.Safe.{IsMachine}
 use Rattle.tc_machine.proofs.PlanLaws.{HoldsRom-written}
@@ -18,12 +18,12 @@ use Rattle.tc_machine.proofs.Saves.{restore-is}
 use Rattle.tc_machine.proofs.Areas.{Areas, Areas-restored, is_freed}
 use Rattle.value_domain.specs.declared.states.State.{State}
 use Rattle.vd_transfer.specs.Holding.{Holds}
-use Rattle.vd_transfer.specs.Registers.{slot, global_of, is_lower}
+use Rattle.vd_transfer.specs.Registers.{slot, global_of}
 use Rattle.depth_cert.specs.declared.points.Exit.{Exit}
 use Rattle.depth_cert.specs.Nodes.{NodeData}
 use Rattle.depth_cert.specs.Certs.{CertData}
 use Rattle.cfg_recover.proofs.EntryLaws.{HoldsExit}
-use Rattle.depth_check.proofs.Frames.{Frame, LowerSame, UpperSame, Leaves, by_return, from_system, from_handler, Resumed, under, Entry, Frames, used_by, Kept, Frames-same, Links-Frames, no_locals}
+use Rattle.depth_check.proofs.Frames.{Frame, LowerSame, UpperSame, Leaves, by_return, from_system, from_handler, under, Entry, used_by, Kept, Frames-same, Links-Frames, no_locals}
 use Rattle.depth_check.proofs.Registers.{each_upper, upper_leaves_globals, upper-LowerSame}
 use Rattle.depth_check.proofs.Enter.{IsPlanMemory-written, counted}
 
@@ -70,10 +70,10 @@ module _ (image : ImageData) (plan : PlanData) (ok : IsPlan plan) (cert : CertDa
         let e = entry in
         let lower = upper-LowerSame (last_context m) m.d m.a in
         let goes = e.goes_on (reg_of (d_after_upper (last_context m) m.d) (a_after_upper (last_context m) m.a)) ie ccpn upper (area_word-lt m.mem words.bytes (link_in m.pcxi) 3)
-            (Leaves-same frame.node frame.word0 (reg m) (reg_of (d_after_upper (last_context m) m.d) (a_after_upper (last_context m) m.a)) ie ccpn lower leaves) in
+        (Leaves-same frame.node frame.word0 (reg m) (reg_of (d_after_upper (last_context m) m.d) (a_after_upper (last_context m) m.a)) ie ccpn lower leaves) in
         let areas : Areas plan m.mem m.fcx m.lcx (frame.area ∷ used_by suspended below) k.free = subst (λ ls. Areas plan m.mem m.fcx m.lcx (ls ++ frame.area ∷ used_by suspended below) k.free) none k.areas in
         let links : Links m.mem m.pcxi (frame.area ∷ used_by suspended below) =
-            subst (λ ls. Links m.mem m.pcxi (ls ++ frame.area ∷ used_by suspended below)) none (Links-Frames plan cert most m.core m.mem m.pcxi (a11 m) frame (suspended ∷ below) k.frames) in
+        subst (λ ls. Links m.mem m.pcxi (ls ++ frame.area ∷ used_by suspended below)) none (Links-Frames plan cert most m.core m.mem m.pcxi (a11 m) frame (suspended ∷ below) k.frames) in
         let freed = is_freed m.mem m.fcx m.lcx frame.area (used_by suspended below) k.free areas in
         let small : frame.area < 2 ^ 20 = subst (λ l. l < 2 ^ 20) e.named (link_in-lt m.pcxi) in
         record {

@@ -1,8 +1,8 @@
 -- The states that a point owes jumps to have a value for each register.
-use Rattle.std.proofs.Common.{◌≡◌, ℕ, zero, suc, ◌<◌, ◌≤◌, Bool, true, false, cond, List, [], ◌∷◌, ◌++◌, length, get_or, Some, refl, sym, ap, ◌∙◌, subst, arith, ◌==◌, Contains}
+use Rattle.std.proofs.Common.{◌≡◌, ℕ, zero, suc, ◌<◌, true, false, List, [], ◌∷◌, ◌++◌, length, get_or, Some, ◌∙◌, subst, arith, ◌==◌, Contains}
 use Rattle.std.proofs.lemmas.Bool.{cond_both}
 use Rattle.std.specs.List.{flat_map}
-use Rattle.std.specs.Prelude.{Option, None, map, unwrap_or, IfSome, filter}
+use Rattle.std.specs.Prelude.{Option, None, map, unwrap_or, IfSome}
 use Rattle.elf_image.specs.Images.{ImageData}
 use Rattle.tcd_plan.specs.PlanData.{PlanData}
 use Rattle.tc_isa.specs.declared.shapes.Shape.{Shape}
@@ -14,9 +14,9 @@ use Rattle.value_domain.specs.Limits.{Limits}
 use Rattle.vd_transfer.specs.Effects.{address_of}
 use Rattle.vd_transfer.specs.Branches.{refine_of}
 use Rattle.depth_cert.specs.declared.keys.Key.{Key}
-use Rattle.cfg_recover.specs.Entries.{call_key, call_entry, sys_key, sys_entry, aln_key, aln_entry, irq_key, irq_entry, exit_of}
+use Rattle.cfg_recover.specs.Entries.{call_key, call_entry, aln_key, aln_entry, irq_key, irq_entry, exit_of}
 use Rattle.cfg_recover.specs.Own.{targets_of, are_aligned}
-use Rattle.cfg_recover.specs.Duties.{Duty, jump, enter, resume, leave, Owed, owed, loaded_at, jumps_to, jump_on, successors_of, entered_and_back, entries_of, misaligned_at, misaligned_of, irqs_of, interrupts_of, leavings_of, duties_of}
+use Rattle.cfg_recover.specs.Duties.{Duty, jump, enter, leave, Owed, owed, loaded_at, jumps_to, jump_on, successors_of, entered_and_back, entries_of, misaligned_at, misaligned_of, irqs_of, interrupts_of, leavings_of, duties_of}
 use Rattle.cfg_recover.proofs.EntryLaws.{transfer_length, refine_length}
 
 abbrev IsLong : Duty → Type 0

@@ -1,5 +1,5 @@
 -- Lower contexts that a frame saves and restores.
-use Rattle.std.proofs.Common.{◌≡◌, ◌≢◌, ℕ, zero, suc, ◌+◌, ◌-◌, ◌*◌, ◌/◌, ◌^◌, ◌<◌, ◌≤◌, inl, inr, Bool, true, false, not, List, [], ◌∷◌, ◌++◌, length, get_or, take, Some, refl, sym, ap, ◌∙◌, subst, arith, IsTrue, Contains}
+use Rattle.std.proofs.Common.{◌≡◌, ℕ, suc, ◌-◌, ◌^◌, ◌<◌, ◌≤◌, inl, inr, Bool, true, false, not, List, [], ◌∷◌, ◌++◌, length, get_or, take, refl, sym, ap, ◌∙◌, subst, arith, IsTrue}
 use Rattle.std.proofs.lemmas.Bool.{cases_eq}
 use Rattle.csa_chain.specs.Memory.{Memory, with_words}
 use Rattle.csa_chain.specs.Chain.{link_in, link_address, area_word}
@@ -20,15 +20,14 @@ use Rattle.tc_machine.proofs.Saves.{restore-is}
 use Rattle.tc_machine.proofs.Stays.{stays_restore}
 use Rattle.tc_machine.proofs.Areas.{Areas, HasFree, Areas-saved, Areas-restored, is_freed}
 use Rattle.value_domain.specs.declared.states.State.{State}
-use Rattle.value_domain.specs.State.{Covers, ImpliedBy}
-use Rattle.vd_transfer.specs.Registers.{is_lower}
+use Rattle.value_domain.specs.State.{ImpliedBy}
 use Rattle.vd_transfer.specs.Effects as effects
 use Rattle.vd_transfer.specs.Holding.{Holds}
 use Rattle.vd_transfer.proofs.HoldLaws.{restore_holds}
 use Rattle.vd_transfer.proofs.RegisterLaws.{length-forgotten}
 use Rattle.depth_cert.specs.Certs.{CertData}
 use Rattle.cfg_recover.proofs.EntryLaws.{holds_covered}
-use Rattle.depth_check.proofs.Frames.{Frame, oldest_first, LowerSame, Local, Locals, under, Frames, used_by, Kept, Frames-same, Links-Frames, Frames-moved, own_locals, length-Locals, ImpliedBy-trans}
+use Rattle.depth_check.proofs.Frames.{Frame, oldest_first, Local, Locals, under, Frames, used_by, Kept, Frames-same, Links-Frames, Frames-moved, own_locals, ImpliedBy-trans}
 use Rattle.depth_check.proofs.Registers.{each_lower, lower_is_lower, lower-UpperSame}
 use Rattle.depth_check.proofs.Enter.{reg_lt, IsPlanMemory-written, counted}
 use Rattle.depth_check.proofs.Leave.{area_words-at}
@@ -102,7 +101,7 @@ module _ (image : ImageData) (plan : PlanData) (ok : IsPlan plan) (cert : CertDa
       lower_pushed pc ie ccpn t pushed same_lower long holds at =
           let mem = with_words m.mem (link_address (link_in m.fcx)) (context_of m false) in
           let stay = Frames-same plan cert most m.core m.mem (with_words m.mem (link_address (link_in m.fcx)) (context_of m false)) m.pcxi (a11 m) frame below
-              (SameAreas-written m.mem (link_in m.fcx) (used_by frame below) (context_of m false) (omega arith) free.avoids_used) k.frames in
+          (SameAreas-written m.mem (link_in m.fcx) (used_by frame below) (context_of m false) (omega arith) free.avoids_used) k.frames in
           let link_small = link_in-lt m.fcx in
           record {
             stands = k.stands;
@@ -115,8 +114,7 @@ module _ (image : ImageData) (plan : PlanData) (ok : IsPlan plan) (cert : CertDa
             is = k.is;
             lower_kept = λ e. k.lower_kept (sym same_lower ∙ ((at.covers).context).2 e);
             frames = Frames-moved plan cert most m.core (with_words m.mem (link_address (link_in m.fcx)) (context_of m false)) m.pcxi (pcxi_word_of m.core m.ccpn m.ie false (link_in m.fcx)) (a11 m) frame below (link_in m.fcx ∷ frame.locals) (((k.point).state).lower ∷ frame.flags)
-                (ap (λ w. under (with_words m.mem (link_address (link_in m.fcx)) (context_of m false)) w frame.locals) (word 0 (omega arith) words.pcxi))
-                (
+                (ap (λ w. under (with_words m.mem (link_address (link_in m.fcx)) (context_of m false)) w frame.locals) (word 0 (omega arith) words.pcxi)) (
                   record {
                     some = free.some;
                     named = link_in-pcxi_word m.core m.ccpn m.ie false (link_in m.fcx) link_small;
@@ -149,7 +147,7 @@ module _ (image : ImageData) (plan : PlanData) (ok : IsPlan plan) (cert : CertDa
     lower_popped pc some long at =
         let count = counted image plan ok cert most few m frame below k in
         let top : Newest m.core m.mem m.pcxi (a11 m) frame.word0 frame.flags frame.locals =
-            newest m.core m.mem m.pcxi (a11 m) frame.word0 frame.flags frame.locals (own_locals plan cert most m.core m.mem m.pcxi (a11 m) frame below k.frames) (omega arith) in
+        newest m.core m.mem m.pcxi (a11 m) frame.word0 frame.flags frame.locals (own_locals plan cert most m.core m.mem m.pcxi (a11 m) frame below k.frames) (omega arith) in
         let local : Local m.core m.mem m.pcxi (a11 m) top.area top.flag frame.word0 = top.local in
         let after : Frame = with_locals frame top.areas top.flags in
         let used : used_by frame below ≡ top.area ∷ used_by (with_locals frame top.areas top.flags) below = used_popped frame below top.area top.areas top.flags top.same_areas in
@@ -162,7 +160,7 @@ module _ (image : ImageData) (plan : PlanData) (ok : IsPlan plan) (cert : CertDa
         let same_a11 : area_word m.mem (link_in m.pcxi) 1 ≡ a11 m = rw local.named local.a11_is in
         let flags = ImpliedBy-pop ((k.point).state).locals.items (oldest_first top.flags) top.flag (subst (λ fs. ImpliedBy ((k.point).state).locals.items (oldest_first fs)) top.same_flags k.flags) in
         let popped : Frames plan cert most m.core m.mem (area_word m.mem top.area 0) (a11 m) (with_locals frame top.areas top.flags) below =
-            Frames-moved plan cert most m.core m.mem m.pcxi (area_word m.mem top.area 0) (a11 m) frame below top.areas top.flags (sym (ap (under m.mem m.pcxi) top.same_areas)) top.others k.frames in
+        Frames-moved plan cert most m.core m.mem m.pcxi (area_word m.mem top.area 0) (a11 m) frame below top.areas top.flags (sym (ap (under m.mem m.pcxi) top.same_areas)) top.others k.frames in
         record {
           restores = restores;
           frame2 = with_locals frame top.areas top.flags;

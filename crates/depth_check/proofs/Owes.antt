@@ -1,5 +1,5 @@
 -- What an instruction owes, and what it does where its contexts are there.
-use Rattle.std.proofs.Common.{◌≡◌, ℕ, zero, suc, ◌+◌, ◌*◌, ◌/◌, ◌^◌, ◌<◌, ◌≤◌, Bool, true, false, cond, List, [], ◌∷◌, ◌++◌, length, get_or, set, Some, refl, sym, ap, ◌∙◌, subst, arith, ◌==◌, Contains}
+use Rattle.std.proofs.Common.{◌≡◌, ℕ, ◌*◌, ◌/◌, ◌^◌, Bool, true, false, cond, [], ◌∷◌, ◌++◌, set, refl, sym, ap, ◌∙◌, subst, arith, Contains}
 use Rattle.std.proofs.lemmas.Bool.{eq-eqb}
 use Rattle.std.proofs.lemmas.List.Elements.{Contains-append_right}
 use Rattle.std.specs.Prelude.{bit_or}
@@ -7,7 +7,7 @@ use Rattle.csa_chain.specs.Contexts.{pie_of, pcpn_of}
 use Rattle.elf_image.specs.Images.{ImageData}
 use Rattle.tcd_plan.specs.PlanData.{PlanData}
 use Rattle.tc_isa.specs.declared.shapes.Shape.{Shape}
-use Rattle.tc_isa.specs.declared.shapes.Shape.TheVariants.{Compute, Scaled, Load, Store, Branch, Jump, Call, Ret, Rfe, Svlcx, Rslcx, Bisr, Enable, Disable, Syscall, Mfcr, Mtcr, Nothing}
+use Rattle.tc_isa.specs.declared.shapes.Shape.TheVariants.{Load, Store, Call, Ret, Rfe, Svlcx, Rslcx, Bisr, Syscall}
 use Rattle.tc_isa.specs.declared.shapes.Target.{Target}
 use Rattle.tc_machine.specs.declared.events.Event.{Event}
 use Rattle.tc_machine.specs.declared.events.End.TheVariants.{Running}
@@ -15,15 +15,14 @@ use Rattle.tc_machine.specs.declared.state.Machine.{Machine}
 use Rattle.tc_machine.specs.Machine.{reg, a11, moved, advanced, then_, with_reg, handler_psw}
 use Rattle.tc_machine.specs.Contexts.{saved, save, restored, restore}
 use Rattle.tc_machine.specs.Fetching.{loaded, extended, with_bytes}
-use Rattle.tc_machine.specs.Instructions.{interrupt, trap, misaligned, does, access_address, traps_at, with_base, target_of}
+use Rattle.tc_machine.specs.Instructions.{interrupt, trap, misaligned, does, access_address, with_base, target_of}
 use Rattle.tc_machine.proofs.Saves.{then_-running}
 use Rattle.value_domain.specs.declared.states.State.{State}
 use Rattle.value_domain.specs.Limits.{Limits}
-use Rattle.value_domain.specs.Values.{any_val}
 use Rattle.vd_transfer.specs.Effects.{saved_lower, restored_lower, transfer_of}
 use Rattle.depth_cert.specs.declared.keys.Key.{Key}
 use Rattle.cfg_recover.specs.Entries.{sys_key, sys_entry, exit_of}
-use Rattle.cfg_recover.specs.Duties.{jump, enter, resume, leave, Owed, owed, interrupts_of, duties_of}
+use Rattle.cfg_recover.specs.Duties.{jump, enter, resume, leave, owed, interrupts_of, duties_of}
 use Rattle.cfg_recover.specs.Moves.{traps}
 use Rattle.depth_check.proofs.Enter.{begun}
 use Rattle.depth_check.proofs.Handlers.{handler_a}

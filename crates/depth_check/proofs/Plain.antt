@@ -1,9 +1,9 @@
 -- A step inside a frame keeps the frames.
 use Rattle.std.specs.FinMap as map
-use Rattle.std.proofs.Common.{◌≡◌, ◌≢◌, ℕ, zero, suc, ◌+◌, ◌-◌, ◌*◌, ◌<◌, ◌≤◌, Bool, true, List, [], ◌∷◌, length, Some, refl, sym, ap, ◌∙◌, subst, arith}
+use Rattle.std.proofs.Common.{◌≡◌, ℕ, zero, suc, ◌+◌, ◌<◌, List, [], ◌∷◌, length, Some, sym, ap, ◌∙◌, subst, arith}
 use Rattle.csa_chain.specs.Memory.{Memory}
 use Rattle.csa_chain.specs.Chain.{link_address}
-use Rattle.csa_chain.proofs.ChainLaws.{Links, SameArea, SameAreas, Links-same, reverse_onto}
+use Rattle.csa_chain.proofs.ChainLaws.{SameArea, SameAreas, Links-same, reverse_onto}
 use Rattle.elf_image.specs.Images.{ImageData}
 use Rattle.tcd_plan.specs.PlanData.{PlanData, IsPlan}
 use Rattle.tc_machine.specs.declared.state.Machine.{Machine}
@@ -18,7 +18,7 @@ use Rattle.depth_cert.specs.Points.{find_point}
 use Rattle.depth_cert.specs.Certs.{CertData}
 use Rattle.cfg_recover.specs.Moves.{MovesTo}
 use Rattle.cfg_recover.proofs.EntryLaws.{holds_covered}
-use Rattle.depth_check.proofs.Frames.{Frame, oldest_first, Frames, used_by, Kept, Frames-same, ImpliedBy-trans}
+use Rattle.depth_check.proofs.Frames.{Frame, Frames, used_by, Kept, Frames-same, ImpliedBy-trans}
 
 -- areas of two lists, one behind the other
 SameAreas-onto : (m n : Memory) (xs ys : List ℕ) → SameAreas m n (reverse_onto xs ys) → SameAreas m n xs × SameAreas m n ys

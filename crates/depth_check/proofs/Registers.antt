@@ -1,10 +1,9 @@
 -- Registers one after another, and what saves and restores leave of them.
-use Rattle.std.proofs.Common.{◌≡◌, ◌≢◌, ℕ, zero, suc, ◌+◌, ◌-◌, ◌<◌, ◌≤◌, Bool, true, false, cond, List, get_or, inl, inr, refl, sym, ap, ◌∙◌, subst, arith, ◌==◌, set, length}
-use Rattle.std.proofs.lemmas.Bool.{cases_lt, le-ltb, lt-ltb, le-leb, lt-leb, or_left, or_right}
-use Rattle.std.proofs.lemmas.List.{get_or-set_same, get_or-set_other}
-use Rattle.std.specs.Prelude.{nat_lt, nat_le, ◌||◌, ◌&&◌}
+use Rattle.std.proofs.Common.{◌≡◌, ◌≢◌, ℕ, zero, suc, ◌+◌, ◌-◌, ◌<◌, ◌≤◌, true, false, List, get_or, inl, inr, refl, sym, ap, ◌∙◌, subst, arith, set}
+use Rattle.std.proofs.lemmas.Bool.{cases_lt, le-ltb, lt-ltb, le-leb, lt-leb}
+use Rattle.std.proofs.lemmas.List.{get_or-set_other}
 use Rattle.csa_chain.specs.Contexts.{d_after_upper, a_after_upper, d_after_lower, a_after_lower}
-use Rattle.csa_chain.proofs.ContextLaws.{reg_of, upper_regs, lower_regs, global_regs, below_14, below_16, upper_back, upper_leaves_lower, lower_back, lower_leaves_upper}
+use Rattle.csa_chain.proofs.ContextLaws.{reg_of, upper_regs, lower_regs, global_regs, below_14, below_16, upper_leaves_lower, lower_leaves_upper}
 use Rattle.vd_transfer.specs.Registers.{is_lower}
 use Rattle.depth_check.proofs.Frames.{LowerSame, UpperSame}
 

@@ -1,5 +1,5 @@
 -- An accepted certificate: every state of every run is safe.
-use Rattle.std.proofs.Common.{◌≡◌, ℕ, ◌+◌, ◌-◌, ◌^◌, ◌<◌, ◌≤◌, false, List, [], ◌∷◌, length, Some, refl, sym, ap, ◌∙◌, subst, arith, Contains, IfSome}
+use Rattle.std.proofs.Common.{◌≡◌, ℕ, ◌-◌, ◌^◌, ◌<◌, ◌≤◌, false, List, [], ◌∷◌, Some, refl, sym, ap, ◌∙◌, subst, arith}
 use Rattle.std.specs.Prelude.{Option, None, IsSomeAnd}
 use Rattle.csa_chain.specs.Chain.{link_in}
 use Rattle.elf_image.specs.Images.{ImageData}
@@ -9,26 +9,24 @@ use Rattle.tc_machine.specs.declared.state.Machine.{Machine}
 use Rattle.tc_machine.specs.Machine.{reg, a11}
 use Rattle.tc_machine.specs.Stepping.{step, run}
 use Rattle.tc_machine.specs.Ranges.{plan_areas}
-use Rattle.tc_machine.specs.Safe.{IsMachine, Starts, Fits, AllFit, IsSafeAt, Safe}
+use Rattle.tc_machine.specs.Safe.{IsMachine, Starts, AllFit, IsSafeAt}
 use Rattle.tc_machine.proofs.Fetched.{IsAtCode-from}
 use Rattle.tc_machine.proofs.Stays.{irq_lt, stays_step, stays_run}
 use Rattle.tc_machine.proofs.Areas.{Areas-start, ChainsAreWhole-from}
-use Rattle.value_domain.specs.declared.states.State.{State}
 use Rattle.vd_transfer.specs.Registers.{word_val}
 use Rattle.store_ranges.specs.Laws.{HasImageBytes}
-use Rattle.depth_cert.specs.declared.keys.Key.{Key}
 use Rattle.depth_cert.specs.Keys.{IsKey}
 use Rattle.depth_cert.specs.Points.{find_point}
 use Rattle.depth_cert.specs.Nodes.{NodeData}
 use Rattle.depth_cert.specs.Certs.{CertData, IsCert, find_node}
 use Rattle.cfg_recover.specs.Entries.{start_key, start_state}
 use Rattle.cfg_recover.specs.Accepting.{limits_in, HasPoint, Accepts, need_of, certified_need}
-use Rattle.cfg_recover.proofs.MoveLaws.{moves_in_frame, traps_owed, calls_owed, interrupts_owed, stores_held}
+use Rattle.cfg_recover.proofs.MoveLaws.{stores_held}
 use Rattle.cfg_recover.proofs.EntryLaws.{holds_covered, holds_start, entry_length}
 use Rattle.depth_check.specs.Headline.{AcceptedIsSafe}
 use Rattle.depth_check.proofs.Frames.{Frame, used_by, Kept, Links-Frames, need-Frames, length-ImpliedBy}
 use Rattle.depth_check.proofs.Enter.{implied_none, counted}
-use Rattle.depth_check.proofs.Rules.{PointHolds, rules_at, Found, node_found}
+use Rattle.depth_check.proofs.Rules.{rules_at, Found, node_found}
 use Rattle.depth_check.proofs.Entries.{PointFor, point_for}
 use Rattle.depth_check.proofs.Handlers.{entry_none}
 use Rattle.depth_check.proofs.Step.{Goes, at_point, step-kept}
@@ -115,5 +113,5 @@ accepted_is_safe image plan cert ok bytes is_cert accepted m es e start all_fit 
     let few = few_at_start image plan ok cert is_cert accepted (certified_need image plan cert) b in
     let first = Kept-start image plan ok cert is_cert accepted m start (certified_need image plan cert) b in
     let g = run-kept image plan ok cert is_cert accepted bytes (certified_need image plan cert) few m es start.machine
-        (record { frame = oldest m b.node; below = []; kept = first }) all_fit in
+    (record { frame = oldest m b.node; below = []; kept = first }) all_fit in
     safe-kept image plan ok cert is_cert accepted bytes (certified_need image plan cert) few (run m es) e (stays_run ok m es start.machine all_fit) g.frame g.below g.kept

@@ -1,5 +1,5 @@
 -- One event keeps the invariant.
-use Rattle.std.proofs.Common.{◌≡◌, ◌≢◌, ℕ, zero, suc, ◌+◌, ◌-◌, ◌*◌, ◌/◌, ◌%◌, ◌^◌, ◌<◌, ◌≤◌, ◌==◌, inl, inr, Bool, true, false, cond, List, [], ◌∷◌, ◌++◌, length, get_or, set, Some, Ok, refl, sym, ap, ◌∙◌, subst, arith, length-append, Contains}
+use Rattle.std.proofs.Common.{◌≡◌, ◌≢◌, ℕ, ◌+◌, ◌-◌, ◌*◌, ◌/◌, ◌%◌, ◌^◌, ◌<◌, ◌≤◌, ◌==◌, inl, inr, Bool, true, false, cond, List, [], ◌∷◌, ◌++◌, length, set, Some, Ok, refl, sym, ap, ◌∙◌, subst, arith, length-append, Contains}
 use Rattle.std.proofs.lemmas.Bool.{cases_Bool}
 use Rattle.std.proofs.lemmas.Nat.{or_lt}
 use Rattle.std.specs.Prelude.{Option, None, IsSomeAnd, IfSome, bit_or}
@@ -27,7 +27,6 @@ use Rattle.tc_machine.proofs.Stays.{irq_lt}
 use Rattle.tc_machine.proofs.Steps.{done-is, step-is, with_event}
 use Rattle.value_domain.specs.declared.states.State.{State}
 use Rattle.vd_transfer.specs.Effects.{saved_lower, restored_lower}
-use Rattle.vd_transfer.specs.Holding.{Holds}
 use Rattle.store_ranges.specs.Laws.{HasImageBytes}
 use Rattle.depth_cert.specs.declared.keys.Key.{Key}
 use Rattle.depth_cert.specs.declared.points.Exit.{Exit}
@@ -46,7 +45,7 @@ use Rattle.depth_check.proofs.Frames.{Frame, Leaves, by_return, from_system, fro
 use Rattle.depth_check.proofs.Enter.{Begins, begun, entered, room, begins, saves, reg_lt}
 use Rattle.depth_check.proofs.Leave.{globals_held, comes_back, restores, none_held}
 use Rattle.depth_check.proofs.Plain.{Kept-moved}
-use Rattle.depth_check.proofs.Rules.{limits_are, PointHolds, PointRules, node_is, rules_at, Found, node_found}
+use Rattle.depth_check.proofs.Rules.{limits_are, PointHolds, node_is, rules_at, Found, node_found}
 use Rattle.depth_check.proofs.Entries.{PointFor, point_for, if_some, call_begins}
 use Rattle.depth_check.proofs.Handlers.{handler_a, irq_begins, aln_begins, sys_begins}
 use Rattle.depth_check.proofs.Locals.{with_locals, lower_pushed, lower_popped}
@@ -191,7 +190,7 @@ module _ (image : ImageData) (plan : PlanData) (ok : IsPlan plan) (cert : CertDa
           let small : IsKey (aln_key plan (frame.node).key) = record { kind = omega arith; entry = or_lt 32 plan.btv (2 * 2 ^ 5) (ok.words).btv (omega arith); prio = key_small.prio } in
           let f = entering 10 (aln_key plan (frame.node).key) (aln_entry plan (frame.node).key (k.point).state) small (traps_owed (limits_in plan cert) image plan (frame.node).key m e (k.point).state shape n at_point t) in
           let b = began (set m.d 15 4) (handler_a m m.pc) (bit_or m.btv (2 * 2 ^ 5)) (handler_psw m.psw) false m.ccpn
-              (aln_begins image plan cert most is_cert accepted m words frame below k h.regs f.node f.found f.at f.room) in
+          (aln_begins image plan cert most is_cert accepted m words frame below k h.regs f.node f.found f.at f.room) in
           subst (Goes image plan cert most) (sym (traps-is m e shape n t ∙ trap-is m k.running b.saves 2 4 m.pc)) b.goes
 
       -- ---- an interrupt
@@ -201,7 +200,7 @@ module _ (image : ImageData) (plan : PlanData) (ok : IsPlan plan) (cert : CertDa
           let small : IsKey (irq_key plan e.irq) = record { kind = omega arith; entry = or_lt 32 plan.biv (e.irq * 2 ^ 5) (ok.words).biv (omega arith); prio = low } in
           let f = entering 11 (irq_key plan e.irq) (irq_entry plan (frame.node).key (k.point).state e.irq) small (interrupts_owed (limits_in plan cert) image plan (frame.node).key m e (k.point).state shape n at_point fits taken) in
           let b = began m.d (handler_a m m.pc) (bit_or m.biv (e.irq * 2 ^ 5)) (handler_psw m.psw) false e.irq
-              (irq_begins image plan cert most is_cert accepted m words frame below k h.regs e.irq f.node f.found f.at f.room) in
+          (irq_begins image plan cert most is_cert accepted m words frame below k h.regs e.irq f.node f.found f.at f.room) in
           subst (Goes image plan cert most) (sym (interrupt-is m k.running b.saves e.irq)) b.goes
 
     -- ---- a call
@@ -213,7 +212,7 @@ module _ (image : ImageData) (plan : PlanData) (ok : IsPlan plan) (cert : CertDa
         let f = entering (Call to) n h 5 (call_key (frame.node).key (target_of m to)) (call_entry (k.point).state) small owes.entered in
         let exits = resuming (Call to) n h 4 (call_key (frame.node).key (target_of m to)) (call_entry (k.point).state) (moved m.pc n) f owes.back in
         let b = began m.d (set m.a 11 (moved m.pc n)) (target_of m to) m.psw m.ie m.ccpn
-            (call_begins image plan cert most is_cert accepted m words frame below k h.regs (target_of m to) (moved m.pc n) (moved-lt m.pc n) f.node f.found f.at exits f.room) in
+        (call_begins image plan cert most is_cert accepted m words frame below k h.regs (target_of m to) (moved m.pc n) (moved-lt m.pc n) f.node f.found f.at exits f.room) in
         subst (Goes image plan cert most) (sym (call-is m k.running b.saves e to n)) b.goes
 
     -- ---- a system call
@@ -222,11 +221,11 @@ module _ (image : ImageData) (plan : PlanData) (ok : IsPlan plan) (cert : CertDa
         let small : IsKey (sys_key plan (frame.node).key) = record { kind = omega arith; entry = or_lt 32 plan.btv (6 * 2 ^ 5) (ok.words).btv (omega arith); prio = key_small.prio } in
         let tin_small : tin < 2 ^ 32 = shape_is image plan m.pc (Syscall tin) n h.code in
         let f = entering (Syscall tin) n h 12 (sys_key plan (frame.node).key) (sys_entry plan (frame.node).key (k.point).state tin) small
-            (owes-syscall (limits_in plan cert) image plan (frame.node).key m.pc (k.point).state n tin) in
+        (owes-syscall (limits_in plan cert) image plan (frame.node).key m.pc (k.point).state n tin) in
         let exits = resuming (Syscall tin) n h 4 (sys_key plan (frame.node).key) (sys_entry plan (frame.node).key (k.point).state tin) (moved m.pc n) f
-            (owes-syscall_back (limits_in plan cert) image plan (frame.node).key m.pc (k.point).state n tin) in
+        (owes-syscall_back (limits_in plan cert) image plan (frame.node).key m.pc (k.point).state n tin) in
         let b = began (set m.d 15 tin) (handler_a m (moved m.pc n)) (bit_or m.btv (6 * 2 ^ 5)) (handler_psw m.psw) false m.ccpn
-            (sys_begins image plan cert most is_cert accepted m words frame below k h.regs tin tin_small (moved m.pc n) (moved-lt m.pc n) f.node f.found f.at exits f.room) in
+        (sys_begins image plan cert most is_cert accepted m words frame below k h.regs tin tin_small (moved m.pc n) (moved-lt m.pc n) f.node f.found f.at exits f.room) in
         subst (Goes image plan cert most) (sym (syscall-is m k.running e tin n ∙ trap-is m k.running b.saves 6 tin (moved m.pc n))) b.goes
 
   -- ---- frames that end
