@@ -1,6 +1,7 @@
 //! The certificate checker.
 #![tactic(auto)]
 
+mod image_bytes;
 mod laws;
 mod verdicts;
 
