@@ -1,6 +1,7 @@
 //! The certificate checker.
 #![tactic(auto)]
 
+mod covering;
 mod verdicts;
 
 pub use verdicts::Verdict;
