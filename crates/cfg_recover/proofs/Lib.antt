@@ -1,0 +1,4 @@
+pub mod FlowAligned
+pub mod FlowDuties
+pub mod FlowStates
+pub mod FlowTargets
