@@ -9,6 +9,8 @@ use Rattle.depth_cert.specs.declared.points.Point.{Point}
 use Rattle.depth_cert.specs.Nodes.{NodeData}
 use Rattle.depth_cert.specs.Certs.{CertData, find_node}
 use Rattle.cfg_recover.specs.declared.flows.Jump.{Jump}
+use Rattle.cfg_recover.specs.declared.flows.Enter.{Enter}
+use Rattle.cfg_recover.specs.declared.flows.Flow.{Flow}
 use Rattle.cfg_recover.specs.declared.flows.Leave.{Leave}
 use Rattle.cfg_recover.specs.declared.flows.Leave.TheVariants.{Stays, Ret, Rfe}
 use Rattle.cfg_recover.specs.Entries.{start_key, exit_of, after_of}
@@ -19,6 +21,19 @@ use Rattle.cfg_recover.specs.Accepting.{limits_in, HasPoint, IsMet, IsNeedAbove,
 pub record IsWellNode (node : NodeData) : Type 0 where
   pub points : All (λ p. AreWell (p.state).regs) node.points
   pub exit : IfSome node.exit (λ x. AreWell x.lower)
+
+-- where a flow has a state to go with, its values are well-formed
+abbrev pub IsWellJump : Option Jump → Type 0
+IsWellJump jump = IfSome jump (λ j. All (λ t. AreWell (j.state).regs) j.targets.items)
+
+abbrev pub IsWellEnter : Option Enter → Type 0
+IsWellEnter entered = IfSome entered (λ e. All (λ t. AreWell (e.state).regs) e.targets.items)
+
+pub record IsWellFlow (f : Flow) : Type 0 where
+  pub jumps : All IsWellJump f.jumps
+  pub enter : IsWellEnter f.enter
+  pub aln : IsWellEnter f.aln
+  pub irqs : All (λ p. AreWell (f.irq_entry).regs) f.irqs.items
 
 -- ---- rules
 -- r is the least rule that doesn't hold

@@ -1,9 +1,9 @@
 // Whether points and exits cover.
-ghost use Rattle.std.specs.Prelude.{◌≡◌, ◌≤◌, ◌+◌, ◌↔◌, IsTrue, length, All, IfSome};
+ghost use Rattle.std.specs.Prelude.{◌≡◌, ◌≤◌, ◌↔◌, IsTrue, length, All};
 ghost use Rattle.value_domain.specs.State.{AreWell, AreBelow, AreValues};
 ghost use Rattle.cfg_recover.specs.Entries.{exit_of, lower_values};
 ghost use Rattle.cfg_recover.specs.Accepting.{HasPoint, ExitCovers};
-ghost use Rattle.depth_check.specs.Finding.{IsWellNode, HasPoints, IsJumpMet, HasExit};
+ghost use Rattle.depth_check.specs.Finding.{IsWellNode, IsWellJump, HasPoints, IsJumpMet, HasExit};
 
 use cfg_recover::Jump;
 use depth_cert::{Exit, Node};
@@ -24,7 +24,7 @@ pub(crate) fn has_point(node: &Node, addr: u32, s: &State) -> bool
 /// Whether it has such points at all these addresses.
 fn has_points(node: &Node, targets: &[u32], s: &State) -> bool
     requires node { IsWellNode node.now }
-    requires state { AreWell s.now.regs }
+    requires state { All (λ t. AreWell s.now.regs) targets.now }
     ensures { IsTrue result ↔ HasPoints node.now s.now targets.now }
 {
     for t in targets {
@@ -37,7 +37,7 @@ fn has_points(node: &Node, targets: &[u32], s: &State) -> bool
 
 fn is_jump_met(node: &Node, jump: &Option<Jump>) -> bool
     requires node { IsWellNode node.now }
-    requires state { IfSome jump.now (λ j. AreWell j.state.regs) }
+    requires state { IsWellJump jump.now }
     ensures { IsTrue result ↔ IsJumpMet node.now jump.now }
 {
     match jump {
@@ -49,7 +49,7 @@ fn is_jump_met(node: &Node, jump: &Option<Jump>) -> bool
 /// Whether it has such points wherever its instruction jumps.
 pub(crate) fn are_jumps_met(node: &Node, jumps: &[Option<Jump>]) -> bool
     requires node { IsWellNode node.now }
-    requires states { All (λ jump. IfSome jump (λ j. AreWell j.state.regs)) jumps.now }
+    requires states { All IsWellJump jumps.now }
     ensures { IsTrue result ↔ All (IsJumpMet node.now) jumps.now }
 {
     for jump in jumps {

@@ -2,6 +2,7 @@
 #![tactic(auto)]
 
 mod covering;
+mod duties;
 mod verdicts;
 
 pub use verdicts::Verdict;
