@@ -1,10 +1,16 @@
 -- Lists of values that are made or written place by place.
-use Rattle.std.proofs.Common.{◌≡◌, ℕ, zero, suc, ◌+◌, ◌-◌, ◌<◌, Bool, true, false, cond, List, [], ◌∷◌, ◌++◌, length, refl, sym, ap, ◌∙◌, arith, get_or, take, set, replicate, ltb}
-use Rattle.std.proofs.lemmas.List.{take_more, take_more_set}
+use Rattle.std.proofs.Common.{◌≡◌, ◌≢◌, inl, inr, ℕ, zero, suc, ◌+◌, ◌-◌, ◌<◌, Bool, true, false, cond, List, [], ◌∷◌, ◌++◌, length, refl, sym, ap, ◌∙◌, arith, get_or, take, set, replicate, ltb}
+use Rattle.std.proofs.lemmas.Bool.{cases_eq}
+use Rattle.std.proofs.lemmas.List.{take_more, take_more_set, get_or-set_same, get_or-set_other, get_or-replicate, length-replicate}
+use Rattle.std.proofs.Math.ListN.{length-set}
 use Rattle.value_domain.specs.declared.values.Val.{Val}
-use Rattle.value_domain.specs.Values.{any_val}
+use Rattle.value_domain.specs.Limits.{Limits, AreLimits}
+use Rattle.value_domain.specs.Values.{IsValue, any_val}
+use Rattle.value_domain.specs.State.{AreValues}
+use Rattle.value_domain.proofs.RangeLaws.{any_value}
+use Rattle.vd_transfer.specs.Registers.{slot}
 use Rattle.vd_transfer.specs.Effects.{is_lower_slot}
-use Rattle.cfg_recover.specs.Entries.{with_lower_from}
+use Rattle.cfg_recover.specs.Entries.{with_lower_from, entry_with}
 
 -- a list that has one value everywhere
 pub replicate-all : (v : Val) (n : ℕ) (vs : List Val) → length vs ≡ n → ((i : ℕ) → i < n → get_or vs i v ≡ v) → vs ≡ replicate n v
@@ -47,3 +53,19 @@ lower_more lower vs out i v h k e inv =
 
 pub with_lower_length : (lower vs : List Val) → length (with_lower_from 0 lower vs) ≡ length vs
 with_lower_length lower vs = length-with_lower 0 lower vs
+
+-- ---- lists of values of the plan
+pub set_values : (b : Limits) (vs : List Val) (i : ℕ) (v : Val) → AreValues b vs → IsValue b v → AreValues b (set vs i v)
+set_values b vs i v values value r h =
+    let within : r < length vs = omega (arith, length-set {A = Val}) in
+    elim (cases_eq r i) [
+      | inl e ↦ let e2 : r ≡ i = e in let at : i < length vs = omega arith in rw (e2, get_or-set_same vs i v any_val at) value
+      | inr n ↦ rw (get_or-set_other vs i r v any_val n) (values r within)
+    ]
+
+pub entry_values : (b : Limits) (sp : Val) (ie : Bool) (ccpn : ℕ) (lower : Bool) → AreLimits b → IsValue b sp → AreValues b (entry_with sp ie ccpn lower).regs
+unfolding slot
+entry_values b sp ie ccpn lower limits value =
+    set_values b (replicate 27 any_val) 22 sp
+    (λ r h. let within : r < 27 = omega (arith, length-replicate 27 any_val) in rw (get_or-replicate 27 r any_val any_val within) (any_value b limits))
+    value

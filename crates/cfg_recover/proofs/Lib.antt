@@ -1,4 +1,6 @@
-pub mod FlowAligned
+pub mod CodeLaws
 pub mod FlowDuties
 pub mod FlowStates
 pub mod FlowTargets
+pub mod OwnLaws
+pub mod RomTests

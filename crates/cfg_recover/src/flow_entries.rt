@@ -6,6 +6,7 @@ ghost use Rattle.value_domain.specs.State.{AreValues};
 ghost use Rattle.store_ranges.specs.Accesses.{IsSize};
 ghost use Rattle.cfg_recover.specs.Own.{are_aligned};
 ghost use Rattle.cfg_recover.specs.Duties.{entries_of, misaligned_at, misaligned_of, leavings_of};
+ghost use Rattle.cfg_recover.specs.FlowValues.{EntersWithValues};
 ghost use Rattle.cfg_recover.specs.Flows.{told_entry, rule_of_entry, told_leaving};
 
 use crate::flow_states::{call_entry, misaligned_entry, system_entry};
@@ -20,6 +21,7 @@ use vd_transfer::address;
 
 /// The entries by a call or a system call.
 pub(crate) fn entry(
+    b: &Bounds,
     plan: &Plan,
     key: &Key,
     addr: u32,
@@ -27,7 +29,9 @@ pub(crate) fn entry(
     inst: &Inst,
     size: u32,
 ) -> Option<Enter>
-    ensures { told_entry (rule_of_entry result) key.now result ≡ entries_of plan.now key.now addr s.now (shape_of inst.now) size }
+    requires { AreValues b.now s.now.regs }
+    ensures entry { told_entry (rule_of_entry result) key.now result ≡ entries_of plan.now key.now addr s.now (shape_of inst.now) size }
+    ensures values { EntersWithValues b.now result }
 {
     let resume = Some(addr.wrapping_add(size));
     match shape(inst) {
@@ -40,7 +44,7 @@ pub(crate) fn entry(
         Shape::Syscall { tin } => Some(Enter {
             kind: 3,
             targets: one(plan.btv | 6 * 32),
-            state: system_entry(plan, key, s, tin),
+            state: system_entry(b, plan, key, s, tin),
             resume,
         }),
         _ => None,
@@ -56,7 +60,8 @@ pub(crate) fn misaligned(
     inst: &Inst,
 ) -> Option<Enter>
     requires { AreValues b.now s.now.regs }
-    ensures { told_entry 10 key.now result ≡ misaligned_of b.now plan.now key.now s.now (shape_of inst.now) }
+    ensures entry { told_entry 10 key.now result ≡ misaligned_of b.now plan.now key.now s.now (shape_of inst.now) }
+    ensures values { EntersWithValues b.now result }
 {
     match shape(inst) {
         Shape::Load { size, .. } => {
@@ -77,9 +82,11 @@ fn unless_aligned(
     at: &Val,
     size: u8,
 ) -> Option<Enter>
+    requires values { AreValues b.now s.now.regs }
     requires at { IsValue b.now at.now }
     requires size { IsSize size }
-    ensures { told_entry 10 key.now result ≡ misaligned_at plan.now key.now s.now at.now size }
+    ensures entry { told_entry 10 key.now result ≡ misaligned_at plan.now key.now s.now at.now size }
+    ensures values { EntersWithValues b.now result }
 {
     if is_aligned(b, at, size) {
         return None;
@@ -87,7 +94,7 @@ fn unless_aligned(
     Some(Enter {
         kind: 4,
         targets: one(plan.btv | 2 * 32),
-        state: misaligned_entry(plan, key, s),
+        state: misaligned_entry(b, plan, key, s),
         resume: None,
     })
 }

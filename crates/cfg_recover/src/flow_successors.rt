@@ -1,11 +1,12 @@
 // The successors of a point in its frame.
-ghost use Rattle.std.specs.Prelude.{◌≡◌, Some};
+ghost use Rattle.std.specs.Prelude.{◌≡◌, All, Some};
 ghost use Rattle.tc_isa.specs.Shapes.{shape_of};
 ghost use Rattle.value_domain.specs.Values.{IsValue, any_val};
 ghost use Rattle.value_domain.specs.State.{AreValues};
 ghost use Rattle.vd_transfer.specs.Effects.{HasRoom};
 ghost use Rattle.vd_transfer.specs.Branches.{refine_of};
 ghost use Rattle.cfg_recover.specs.Duties.{jump_on, loaded_at, next_of, successors_of};
+ghost use Rattle.cfg_recover.specs.FlowValues.{JumpsWithValues};
 ghost use Rattle.cfg_recover.specs.Flows.{told_jump, told_jumps};
 
 use crate::Jump;
@@ -29,7 +30,8 @@ pub(crate) fn successors(
 ) -> [Option<Jump>; 2]
     requires values { AreValues b.now s.now.regs }
     requires room { HasRoom b.now (shape_of inst.now) s.now }
-    ensures { told_jumps result ≡ successors_of b.now image.now plan.now addr s.now (shape_of inst.now) size }
+    ensures values { All (JumpsWithValues b.now) result }
+    ensures jumps { told_jumps result ≡ successors_of b.now image.now plan.now addr s.now (shape_of inst.now) size }
 {
     let next = addr.wrapping_add(size);
     match shape(inst) {
@@ -53,7 +55,8 @@ pub(crate) fn successors(
 /// A jump on a side of a branch, if that side is possible.
 fn side(b: &Bounds, plan: &Plan, inst: &Inst, s: &State, taken: bool, to: u32) -> Option<Jump>
     requires { AreValues b.now s.now.regs }
-    ensures { told_jump result ≡ jump_on to (refine_of b.now plan.now (shape_of inst.now) s.now taken) }
+    ensures values { JumpsWithValues b.now result }
+    ensures jump { told_jump result ≡ jump_on to (refine_of b.now plan.now (shape_of inst.now) s.now taken) }
 {
     let state = refine(b, plan, inst, s, taken)?;
     Some(Jump {
@@ -74,7 +77,8 @@ fn step(
 ) -> Jump
     requires values { AreValues b.now s.now.regs }
     requires room { HasRoom b.now (shape_of inst.now) s.now }
-    ensures { told_jump (Some result) ≡ next_of b.now image.now plan.now addr s.now (shape_of inst.now) size }
+    ensures values { JumpsWithValues b.now (Some result) }
+    ensures jump { told_jump (Some result) ≡ next_of b.now image.now plan.now addr s.now (shape_of inst.now) size }
 {
     let value = loaded(b, image, plan, s, inst);
     Jump {

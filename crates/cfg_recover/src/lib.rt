@@ -1,6 +1,7 @@
 //! The duties of a certificate's points.
 #![tactic(auto)]
 
+mod code;
 mod flow_after;
 mod flow_entries;
 mod flow_interrupts;
@@ -9,6 +10,10 @@ mod flow_states;
 mod flow_successors;
 mod flow_targets;
 mod flows;
+mod own;
+mod own_rules;
 
 pub use flow_after::after;
+pub use flow_point::flow;
+pub use flow_states::start_state;
 pub use flows::{Enter, Flow, Jump, Leave};
