@@ -8,19 +8,19 @@ use Rattle.std.proofs.lemmas.List.Concat.{flat_map-append}
 use Rattle.std.proofs.lemmas.List.Elements.{All-nil, All-cons, All-head, All-tail, All-append}
 use Rattle.tcd_plan.specs.PlanData.{PlanData}
 use Rattle.value_domain.specs.declared.states.State.{State}
-use Rattle.value_domain.specs.State.{AreWell}
 use Rattle.depth_cert.specs.declared.keys.Key.{Key}
 use Rattle.depth_cert.specs.Nodes.{NodeData}
 use Rattle.depth_cert.specs.Certs.{CertData, find_node}
 use Rattle.cfg_recover.specs.declared.flows.Jump.{Jump}
 use Rattle.cfg_recover.specs.declared.flows.Enter.{Enter}
+use Rattle.cfg_recover.specs.declared.flows.Flow.{Flow}
 use Rattle.cfg_recover.specs.declared.flows.Leave.{Leave}
 use Rattle.cfg_recover.specs.declared.flows.Leave.TheVariants.{Stays, Ret, Rfe}
 use Rattle.cfg_recover.specs.Entries.{exit_of, irq_key}
 use Rattle.cfg_recover.specs.Duties.{Owed, owed, jump, enter, resume, leave, jumps_to}
-use Rattle.cfg_recover.specs.Flows.{entered_key, told_back, told_entry, told_irqs, told_jump, told_jumps, told_leaving}
+use Rattle.cfg_recover.specs.Flows.{entered_key, told_back, told_entry, told_irqs, told_jump, told_jumps, told_leaving, rule_of_entry, told_by}
 use Rattle.cfg_recover.specs.Accepting.{HasPoint, IsMet}
-use Rattle.depth_check.specs.Finding.{IsWellJump, IsWellEnter, Finds, IsLeastBroken, least_of, unless, DutyHolds, DutiesHold, HasPoints, IsJumpMet, GoesOn, HasExit, LeavingHolds}
+use Rattle.depth_check.specs.Finding.{Finds, IsLeastBroken, least_of, unless, DutyHolds, DutiesHold, HasPoints, IsJumpMet, GoesOn, HasExit, LeavingHolds}
 use Rattle.depth_check.proofs.LeastLaws.{found_by, found_both, found_same}
 
 -- what holds of an appended list holds of its parts
@@ -222,9 +222,15 @@ pub leaving_found : (cert : CertData) (node : NodeData) (s : State) (l : Leave) 
 leaving_found cert node s l o f =
     found_same (LeavingHolds node s l) (DutiesHold cert node s (told_leaving node.key s l)) o (λ q h. leaving_to cert node s l q h) (λ q h. leaving_from cert node s l q h) f
 
--- ---- well-formed values where a flow has states
-pub well_jump : (o : Option Jump) (j : Jump) (targets : List ℕ) → o ≡ Some j → targets ≡ j.targets.items → IsWellJump o → All (λ t. AreWell (j.state).regs) targets
-well_jump o j targets some same h = let w : IsWellJump (Some j) = rw some at h in subst (λ (l : List ℕ). All (λ t. AreWell (j.state).regs) l) (sym same) w
-
-pub well_enter : (o : Option Enter) (e : Enter) (targets : List ℕ) (i : ℕ) → o ≡ Some e → targets ≡ e.targets.items → i < length targets → IsWellEnter o → AreWell (e.state).regs
-well_enter o e targets i some same lt h = let w : IsWellEnter (Some e) = rw some at h in subst (λ (l : List ℕ). All (λ t. AreWell (e.state).regs) l) (sym same) w i 0 lt
+-- ---- all parts
+pub told_found : (cert : CertData) (node : NodeData) (s : State) (plan : PlanData) (f : Flow) (jumps entered misaligned interrupts leaving : Option ℕ) → Finds (DutiesHold cert node s (told_jumps f.jumps)) jumps
+    → Finds (DutiesHold cert node s (told_entry (rule_of_entry f.enter) node.key f.enter)) entered → Finds (DutiesHold cert node s (told_entry 10 node.key f.aln)) misaligned
+    → Finds (DutiesHold cert node s (told_irqs plan f.irq_entry f.irqs.items)) interrupts → Finds (DutiesHold cert node s (told_leaving node.key s f.leave)) leaving
+    → Finds (DutiesHold cert node s (told_by plan node.key s f)) (least_of (least_of (least_of (least_of jumps entered) misaligned) interrupts) leaving)
+told_found cert node s plan f jumps entered misaligned interrupts leaving j e m i l =
+    let js = told_jumps f.jumps in
+    let es = told_entry (rule_of_entry f.enter) node.key f.enter in
+    let ms = told_entry 10 node.key f.aln in
+    let is = told_irqs plan f.irq_entry f.irqs.items in
+    duties_append cert node s (js ++ es ++ ms ++ is) (told_leaving node.key s f.leave) _ leaving
+    (duties_append cert node s (js ++ es ++ ms) is _ interrupts (duties_append cert node s (js ++ es) ms _ misaligned (duties_append cert node s js es jumps entered j e) m) i) l

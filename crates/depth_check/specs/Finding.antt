@@ -1,5 +1,5 @@
 -- The least rule that fails, and what is looked at for it: the duties of a point, its need, and a node's faults.
-use Rattle.std.specs.Prelude.{◌≡◌, ◌+◌, ◌-◌, ◌*◌, ◌^◌, ◌<◌, ◌≤◌, ◌==◌, ℕ, Bool, if◌then◌else◌, min, List, length, Option, Some, None, IfSome, IsSomeAnd, All, Contains}
+use Rattle.std.specs.Prelude.{◌≡◌, ◌+◌, ◌-◌, ◌*◌, ◌^◌, ◌<◌, ◌≤◌, ℕ, unwrap_or, Bool, if◌then◌else◌, min, List, length, Option, Some, None, IfSome, IsSomeAnd, All, Contains}
 use Rattle.elf_image.specs.Images.{ImageData}
 use Rattle.tcd_plan.specs.PlanData.{PlanData}
 use Rattle.value_domain.specs.declared.states.State.{State}
@@ -22,18 +22,18 @@ pub record IsWellNode (node : NodeData) : Type 0 where
   pub points : All (λ p. AreWell (p.state).regs) node.points
   pub exit : IfSome node.exit (λ x. AreWell x.lower)
 
--- where a flow has a state to go with, its values are well-formed
+-- the values of a flow's states are
 abbrev pub IsWellJump : Option Jump → Type 0
-IsWellJump jump = IfSome jump (λ j. All (λ t. AreWell (j.state).regs) j.targets.items)
+IsWellJump jump = IfSome jump (λ j. AreWell (j.state).regs)
 
 abbrev pub IsWellEnter : Option Enter → Type 0
-IsWellEnter entered = IfSome entered (λ e. All (λ t. AreWell (e.state).regs) e.targets.items)
+IsWellEnter entered = IfSome entered (λ e. AreWell (e.state).regs)
 
 pub record IsWellFlow (f : Flow) : Type 0 where
   pub jumps : All IsWellJump f.jumps
   pub enter : IsWellEnter f.enter
   pub aln : IsWellEnter f.aln
-  pub irqs : All (λ p. AreWell (f.irq_entry).regs) f.irqs.items
+  pub interrupts : AreWell (f.irq_entry).regs
 
 -- ---- rules
 -- r is the least rule that doesn't hold
@@ -100,3 +100,7 @@ pub record IsNodeFault (image : ImageData) (plan : PlanData) (cert : CertData) (
   pub points : (point : Point) (q : ℕ) → Contains node.points point → (RuleHolds image plan cert node point q → ⊥) → p * 2 ^ 4 + r ≤ point.addr * 2 ^ 4 + q
   pub rule : r ≤ 14
   pub addr : p < 2 ^ 32
+
+-- the least rule that fails at an address, where rule 2 may fail as at an entry
+abbrev pub here_of : Option ℕ → Bool → Option ℕ
+here_of found at_entry = if at_entry then Some (min (unwrap_or found 2) 2) else found

@@ -24,7 +24,7 @@ pub(crate) fn has_point(node: &Node, addr: u32, s: &State) -> bool
 /// Whether it has such points at all these addresses.
 fn has_points(node: &Node, targets: &[u32], s: &State) -> bool
     requires node { IsWellNode node.now }
-    requires state { All (λ t. AreWell s.now.regs) targets.now }
+    requires state { AreWell s.now.regs }
     ensures { IsTrue result ↔ HasPoints node.now s.now targets.now }
 {
     for t in targets {

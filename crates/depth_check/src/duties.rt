@@ -153,7 +153,7 @@ fn interrupts_rule(
     requires nodes { All IsWellNode cert.now.nodes }
     requires node { IsWellNode node.now }
     requires state { AreWell s.now.regs }
-    requires entry { All (λ p. AreWell entry.regs) irqs.now }
+    requires entry { AreWell entry.regs }
     ensures { Finds (DutiesHold cert.now node.now s.now (told_irqs plan.now entry irqs.now)) result }
 {
     let mut entry = entry;

@@ -3,6 +3,8 @@
 
 mod covering;
 mod duties;
+mod nodes;
+mod rules;
 mod verdicts;
 
 pub use verdicts::Verdict;

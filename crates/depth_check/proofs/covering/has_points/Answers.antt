@@ -7,6 +7,3 @@ returns-then-not-has_point c = no _ (λ all. refuted _ _ c.if-not-has_point.true
 
 pub returns : goal.returns
 returns c = yes _ (all_done (λ t. HasPoint c.args.node.now t c.args.s.now) c.args.targets.now c.loop-t.t-index c.loop-t-test.false c.loop-t.invariant)
-
-pub has_point-requires-clause-state : goal.has_point-requires-clause-state
-has_point-requires-clause-state c = c.requires.state c.loop-t.t-index 0 c.loop-t-test.true

@@ -1,12 +1,8 @@
 use Rattle.std.proofs.Common.{ap, ◌∙◌, get_or}
 use Rattle.depth_cert.specs.Nodes.{NodeData}
 use Rattle.cfg_recover.specs.Flows.{entered_key}
-use Rattle.depth_check.proofs.DutyLaws.{entries_more, entries_done, well_enter}
+use Rattle.depth_check.proofs.DutyLaws.{entries_more, entries_done}
 use Rattle.depth_check.proofs.duties.entries_rule.Goals as goal
-
-pub entry_rule-one-requires-clause-entry : goal.entry_rule-one-requires-clause-entry
-entry_rule-one-requires-clause-entry c =
-    well_enter c.args.entries.now c.in-Some.e c.as_slice-t-items.result.now c.loop-t.t-index c.in-Some.is c.as_slice-t-items.ensures.value c.loop-t-test.true c.requires.entry
 
 pub loop-t-preserved : goal.loop-t-preserved
 loop-t-preserved c =

@@ -6,7 +6,7 @@ use Rattle.depth_check.proofs.duties.interrupts_rule.Goals as goal
 
 pub entry_rule-one-requires-clause-entry : goal.entry_rule-one-requires-clause-entry
 entry_rule-one-requires-clause-entry c =
-    subst (λ (t : State). AreWell t.regs) (sym c.loop-p.invariant.same) (c.requires.entry c.loop-p.p-index 0 c.loop-p-test.true)
+    subst (λ (t : State). AreWell t.regs) (sym c.loop-p.invariant.same) c.requires.entry
 
 pub loop-p-preserved : goal.loop-p-preserved
 loop-p-preserved c = record {
