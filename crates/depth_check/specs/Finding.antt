@@ -1,5 +1,5 @@
--- The least rule that fails, and what is looked at for it: the duties of a point, its need, and a node's faults.
-use Rattle.std.specs.Prelude.{◌≡◌, ◌+◌, ◌-◌, ◌*◌, ◌^◌, ◌<◌, ◌≤◌, ℕ, unwrap_or, Bool, if◌then◌else◌, min, List, length, Option, Some, None, IfSome, IsSomeAnd, All, Contains}
+-- The least rule that fails, and what is looked at for it: the duties of a point and its need.
+use Rattle.std.specs.Prelude.{◌≡◌, ◌+◌, ◌-◌, ◌<◌, ◌≤◌, ℕ, Bool, if◌then◌else◌, min, List, length, Option, Some, None, IfSome, IsSomeAnd, All}
 use Rattle.elf_image.specs.Images.{ImageData}
 use Rattle.tcd_plan.specs.PlanData.{PlanData}
 use Rattle.value_domain.specs.declared.states.State.{State}
@@ -15,7 +15,7 @@ use Rattle.cfg_recover.specs.declared.flows.Leave.{Leave}
 use Rattle.cfg_recover.specs.declared.flows.Leave.TheVariants.{Stays, Ret, Rfe}
 use Rattle.cfg_recover.specs.Entries.{start_key, exit_of, after_of}
 use Rattle.cfg_recover.specs.Duties.{Owed}
-use Rattle.cfg_recover.specs.Accepting.{limits_in, HasPoint, IsMet, IsNeedAbove, ExitCovers, RuleHolds, HoldsAtEntry, HoldsAtNode, Fails}
+use Rattle.cfg_recover.specs.Accepting.{HasPoint, IsMet, IsNeedAbove, ExitCovers}
 
 -- the values of a node are well-formed
 pub record IsWellNode (node : NodeData) : Type 0 where
@@ -91,16 +91,3 @@ LeavingHolds node s Rfe q = (node.key).kind ≡ 3 → 7 ≡ q → HasExit node s
 pub record HasOwnNeed (image : ImageData) (plan : PlanData) (node : NodeData) (point : Point) : Type 0 where
   pub locals : length (point.state).locals.items ≤ node.need
   pub start : node.key ≡ start_key image plan → point.addr ≡ image.entry → node.need ≤ plan.areas - plan.reserve
-
--- ---- nodes
--- rule r is the first that fails in a node, at the address p
-pub record IsNodeFault (image : ImageData) (plan : PlanData) (cert : CertData) (node : NodeData) (r p : ℕ) : Type 0 where
-  pub fails : Fails image plan cert r node.key p
-  pub entry : (HoldsAtEntry (limits_in plan cert) node → ⊥) → p * 2 ^ 4 + r ≤ (node.key).entry * 2 ^ 4 + 2
-  pub points : (point : Point) (q : ℕ) → Contains node.points point → (RuleHolds image plan cert node point q → ⊥) → p * 2 ^ 4 + r ≤ point.addr * 2 ^ 4 + q
-  pub rule : r ≤ 14
-  pub addr : p < 2 ^ 32
-
--- the least rule that fails at an address, where rule 2 may fail as at an entry
-abbrev pub here_of : Option ℕ → Bool → Option ℕ
-here_of found at_entry = if at_entry then Some (min (unwrap_or found 2) 2) else found

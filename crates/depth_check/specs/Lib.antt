@@ -1,2 +1,4 @@
 pub mod Finding
+pub mod FirstFaults
 pub mod Judging
+pub mod NodeFaults

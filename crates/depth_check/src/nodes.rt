@@ -1,7 +1,9 @@
 // The first fault of a node.
-ghost use Rattle.std.specs.Prelude.{◌≡◌, ◌↔◌, IsTrue, IsSome, All, Contains, MatchOption, Some, None, Option, if◌then◌else◌, min, unwrap_or};
+ghost use Rattle.std.specs.Prelude.{◌≡◌, ◌↔◌, IsTrue, All, Contains, MatchOption};
 ghost use Rattle.cfg_recover.specs.Accepting.{limits_in, HoldsAtEntry, HoldsAtNode};
-ghost use Rattle.depth_check.specs.Finding.{IsWellNode, IsNodeFault, here_of};
+ghost use Rattle.depth_check.specs.Finding.{IsWellNode};
+ghost use Rattle.depth_check.specs.NodeFaults as nodes;
+ghost use Rattle.depth_check.specs.NodeFaults.{IsNodeFault};
 
 use crate::covering::are_values;
 use crate::rules::point_rule;
@@ -11,6 +13,7 @@ use tcd_plan::Plan;
 use value_domain::Bounds;
 
 /// A rule that fails in a node, and the address of its place.
+#[derive(Clone, Copy)]
 pub(crate) struct Fault {
     pub rule: u8,
     pub addr: u32,
@@ -29,14 +32,30 @@ fn holds_at_entry(b: &Bounds, node: &Node) -> bool
     }
 }
 
-/// The least rule that fails at an address, from that of its point and whether rule 2 fails there as at an entry.
-fn rule_here(found: Option<u8>, at_entry: bool) -> Option<u8>
-    ensures { result ≡ here_of found at_entry }
+/// The fault at a point, or rule 2 at the entry of a node that isn't good there, whichever comes first; nothing where that
+/// entry lies behind the point.
+fn first_of(good: bool, entry: u32, addr: u32, found: Option<u8>) -> Option<Fault>
+    ensures { result ≡ nodes.first_of good entry addr found }
 {
-    if at_entry {
-        Some(found.unwrap_or(2).min(2))
-    } else {
-        found
+    if good || addr < entry {
+        return found.map(|rule| Fault { rule, addr });
+    }
+    if entry < addr {
+        return Some(entry_fault(entry));
+    }
+    Some(Fault {
+        rule: found.unwrap_or(2).min(2),
+        addr,
+    })
+}
+
+/// Rule 2 at the entry of a node.
+fn entry_fault(entry: u32) -> Fault
+    ensures { result ≡ record { rule = 2; addr = entry } }
+{
+    Fault {
+        rule: 2,
+        addr: entry,
     }
 }
 
@@ -54,28 +73,12 @@ pub(crate) fn node_fault(
     ensures { MatchOption result (HoldsAtNode image.now plan.now cert.now node.now) (λ f. IsNodeFault image.now plan.now cert.now node.now f.rule f.addr) }
 {
     let entry = node.key.entry;
-    let bad = !holds_at_entry(b, node);
+    let good = holds_at_entry(b, node);
     for point in &node.points {
-        if bad && entry < point.addr {
-            return Some(entry_fault(entry));
-        }
         let found = point_rule(b, image, plan, cert, node, point);
-        if let Some(rule) = rule_here(found, bad && entry == point.addr) {
-            return Some(Fault {
-                rule,
-                addr: point.addr,
-            });
+        if let Some(fault) = first_of(good, entry, point.addr, found) {
+            return Some(fault);
         }
     }
-    if bad { Some(entry_fault(entry)) } else { None }
-}
-
-/// Rule 2 at the entry of a node.
-fn entry_fault(entry: u32) -> Fault
-    ensures { result ≡ record { rule = 2; addr = entry } }
-{
-    Fault {
-        rule: 2,
-        addr: entry,
-    }
+    if good { None } else { Some(entry_fault(entry)) }
 }
