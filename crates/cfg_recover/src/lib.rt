@@ -17,3 +17,6 @@ pub use flow_after::after;
 pub use flow_point::flow;
 pub use flow_states::start_state;
 pub use flows::{Enter, Flow, Jump, Leave};
+
+#[cfg(test)]
+mod flow_tests;
