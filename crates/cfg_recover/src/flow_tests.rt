@@ -181,7 +181,8 @@ fn interrupts(rt: HostRuntime) -> Result<(), Fail> {
     let mask = flow_at(&image, 0, 16).ok().ok_or("refused")?;
     assert_eq!(rt; mask.irqs.as_slice(), [20].as_slice());
     assert_eq!(rt; mask.irq_entry.ccpn, 0);
-    assert!(rt; has_words(&mask.irq_entry.regs[22], &[0xD000_8800]));
+    let regs = &mask.irq_entry.regs[..];
+    assert!(rt; has_words(&regs[22], &[0xD000_8800]));
     Ok(())
 }
 
