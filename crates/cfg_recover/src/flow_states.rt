@@ -62,7 +62,7 @@ fn stack(b: &Bounds, plan: &Plan, key: &Key, s: &State) -> Val
 }
 
 /// The state at a handler's entry.
-fn handler_entry(b: &Bounds, sp: Val, ccpn: u8) -> State
+pub(crate) fn handler_entry(b: &Bounds, sp: Val, ccpn: u8) -> State
     requires { IsValue b.now sp }
     ensures entry { result ≡ entry_with sp false ccpn true }
     ensures values { AreValues b.now result.regs }
@@ -92,7 +92,7 @@ pub(crate) fn misaligned_entry(b: &Bounds, plan: &Plan, key: &Key, s: &State) ->
     state
 }
 
-fn constant(b: &Bounds, x: u32) -> Val
+pub(crate) fn constant(b: &Bounds, x: u32) -> Val
     ensures word { result ≡ word_val x }
     ensures value { IsValue b.now result }
 {

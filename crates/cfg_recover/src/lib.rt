@@ -19,3 +19,6 @@ pub use flow_point::flow;
 pub use flow_states::start_state;
 pub use flows::{Enter, Flow, Jump, Leave};
 pub use laws::move_laws;
+
+#[cfg(test)]
+mod flow_tests;
