@@ -23,7 +23,7 @@ use Rattle.cfg_recover.proofs.EntryLaws.{holds_covered, holds_irq, holds_aln, ho
 use Rattle.depth_check.proofs.Frames.{Frame, LowerSame, UpperSame, Leaves, by_return, from_system, from_handler, Resumed, Kept, length-ImpliedBy}
 use Rattle.depth_check.proofs.Registers.{set_a11, set_a10, set_d15}
 use Rattle.depth_check.proofs.Enter.{Begins}
-use Rattle.depth_check.proofs.Rules.{Found}
+use Rattle.depth_check.proofs.AcceptedRules.{Found}
 use Rattle.depth_check.proofs.Entries.{lower_not, if_some, PointFor, after, again, upper_in}
 
 reg_of_lt : (d a : List ℕ) → AreRegisters d → AreRegisters a → (r : ℕ) → reg_of d a r < 2 ^ 32

@@ -32,8 +32,8 @@ fn start_node<'a>(image: &Image, plan: &Plan, cert: &'a Cert) -> Option<&'a Node
     }
 }
 
-/// Whether the rules accept a certificate: the need of the start, or the first rule that fails.
-pub fn check(image: &Image, plan: &Plan, cert: &Cert) -> Verdict
+// Whether the rules accept a certificate: the need of the start, or the first rule that fails.
+pub(crate) fn judged(image: &Image, plan: &Plan, cert: &Cert) -> Verdict
     ensures { Judges image.now plan.now cert.now result }
 {
     let b = Bounds::of(plan, cert.version);

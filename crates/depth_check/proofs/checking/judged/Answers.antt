@@ -8,7 +8,7 @@ use Rattle.cfg_recover.specs.Entries.{start_key}
 use Rattle.cfg_recover.specs.Accepting.{HoldsAtNode, IsFirstFault, Accepts, need_of}
 use Rattle.depth_check.proofs.Deciding.{all_more, all_done}
 use Rattle.depth_check.proofs.FirstLaws.{start_first, node_first, need_small}
-use Rattle.depth_check.proofs.checking.check.Goals as goal
+use Rattle.depth_check.proofs.checking.judged.Goals as goal
 
 pub returns-in_default : goal.returns-in_default
 returns-in_default c =
