@@ -10,8 +10,8 @@ use Rattle.cfg_recover.specs.OwnFaults.{FindsFaultless}
 use Rattle.value_domain.specs.declared.states.State.{State}
 use Rattle.vd_transfer.specs.Registers.{slot}
 use Rattle.depth_cert.specs.declared.keys.Key.{Key}
-use Rattle.cfg_recover.specs.Entries.{irq_key, irq_entry}
-use Rattle.cfg_recover.specs.Duties.{Owed, owed, enter, irqs_of, interrupts_of}
+use Rattle.cfg_recover.specs.Entries.{irq_entry}
+use Rattle.cfg_recover.specs.Duties.{irqs_of, interrupts_of}
 use Rattle.cfg_recover.specs.Flows.{told_irqs}
 
 -- the state at an interrupt's entry is that of priority 0 with another priority

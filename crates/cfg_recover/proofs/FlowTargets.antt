@@ -2,7 +2,7 @@
 use Rattle.std.proofs.Common.{◌≡◌, ℕ, zero, suc, ◌+◌, ◌-◌, ◌*◌, ◌/◌, ◌<◌, ◌≤◌, inl, inr, List, [], ◌∷◌, ◌++◌, length, map, take, get_or, slice_get, Some, None, refl, sym, ap, ◌∙◌, subst, arith}
 use Rattle.std.proofs.lemmas.List.{take_more, map-append, length-map, length-take-le}
 use Rattle.value_domain.specs.Sets.{Among, Rising, put, distinct}
-use Rattle.value_domain.proofs.SetLaws.{put-lt, put-eq, put-gt, put_has, length_put, distinct_same, among_distinct}
+use Rattle.value_domain.proofs.SetLaws.{put-eq, put-gt, put_has, length_put, distinct_same, among_distinct}
 use Rattle.value_domain.proofs.ExtentLaws.{among_append, append_left, append_right}
 
 -- ---- a word behind an ascending list

@@ -1,5 +1,5 @@
 -- The values of the states that a flow tells.
-use Rattle.std.specs.Prelude.{ℕ, All, IfSome, Option}
+use Rattle.std.specs.Prelude.{All, IfSome, Option}
 use Rattle.value_domain.specs.Limits.{Limits}
 use Rattle.value_domain.specs.State.{AreValues}
 use Rattle.cfg_recover.specs.declared.flows.Jump.{Jump}

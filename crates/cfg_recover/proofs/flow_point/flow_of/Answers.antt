@@ -1,6 +1,5 @@
-use Rattle.std.proofs.Common.{◌≡◌, refl}
+use Rattle.std.proofs.Common.{refl}
 use Rattle.cfg_recover.specs.Duties.{duties_of}
-use Rattle.cfg_recover.specs.Flows.{told_irqs}
 use Rattle.cfg_recover.proofs.FlowDuties.{told_irqs-is}
 use Rattle.cfg_recover.proofs.flow_point.flow_of.Goals as goal
 

@@ -1,4 +1,3 @@
-use Rattle.std.proofs.Common.{◌≡◌, ℕ, ◌<◌, get_or, rules}
 use Rattle.value_domain.specs.Values.{any_val}
 use Rattle.cfg_recover.proofs.FlowStates.{replicate-all}
 use Rattle.cfg_recover.proofs.flow_states.any_regs.Goals as goal

@@ -1,5 +1,4 @@
-use Rattle.std.proofs.Common.{◌≡◌, false, true, sym, ◌∙◌, ap}
-use Rattle.std.specs.Prelude.{slice_get, length, ◌-◌, Some, List, ℕ}
+use Rattle.std.proofs.Common.{◌≡◌, false, true, sym, ◌∙◌}
 use Rattle.cfg_recover.proofs.FlowTargets.{put-again, put-behind}
 use Rattle.cfg_recover.proofs.flow_targets.add_once.Goals as goal
 

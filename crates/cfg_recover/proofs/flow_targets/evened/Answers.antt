@@ -1,4 +1,4 @@
-use Rattle.std.proofs.Common.{◌≡◌, ℕ, List, length, sym, ◌∙◌, ap, arith, subst, map, take, get_or, ◌<◌}
+use Rattle.std.proofs.Common.{ℕ, List, length, sym, ◌∙◌, ap, arith, subst, map, take, get_or, ◌<◌}
 use Rattle.value_domain.specs.Sets.{Among, Rising, put}
 use Rattle.value_domain.proofs.SetLaws.{rising_distinct}
 use Rattle.cfg_recover.proofs.FlowTargets.{length_evens, evens_before, evens-more, evens-none, even_of}
