@@ -1,3 +1,10 @@
+pub mod EntryLaws
+pub mod Members
+pub mod Went
+pub mod Keeps
+pub mod Writes
+pub mod Points
+pub mod MoveLaws
 pub mod CodeLaws
 pub mod FlowDuties
 pub mod FlowStates

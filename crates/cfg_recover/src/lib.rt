@@ -10,6 +10,7 @@ mod flow_states;
 mod flow_successors;
 mod flow_targets;
 mod flows;
+mod laws;
 mod own;
 mod own_rules;
 
@@ -17,6 +18,7 @@ pub use flow_after::after;
 pub use flow_point::flow;
 pub use flow_states::start_state;
 pub use flows::{Enter, Flow, Jump, Leave};
+pub use laws::move_laws;
 
 #[cfg(test)]
 mod flow_tests;
