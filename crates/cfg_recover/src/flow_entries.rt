@@ -7,7 +7,7 @@ ghost use Rattle.store_ranges.specs.Accesses.{IsSize};
 ghost use Rattle.cfg_recover.specs.Own.{are_aligned};
 ghost use Rattle.cfg_recover.specs.Duties.{entries_of, misaligned_at, misaligned_of, leavings_of};
 ghost use Rattle.cfg_recover.specs.FlowValues.{EntersWithValues};
-ghost use Rattle.cfg_recover.specs.Flows.{told_entry, rule_of_entry, told_leaving};
+ghost use Rattle.cfg_recover.specs.Flows.{told_entry, rule_of_entry, told_leaving, leave_of};
 
 use crate::flow_states::{call_entry, misaligned_entry, system_entry};
 use crate::flow_targets::{one, targets};
@@ -110,8 +110,10 @@ fn is_aligned(b: &Bounds, at: &Val, size: u8) -> bool
 }
 
 /// Whether the instruction leaves its frame.
+#[tactic(auto, unfolding(crate::specs::Flows::leave_of))]
 pub(crate) fn leaving(key: &Key, s: &State, inst: &Inst) -> Leave
-    ensures { told_leaving key.now s.now result ≡ leavings_of key.now s.now (shape_of inst.now) }
+    ensures told { told_leaving key.now s.now result ≡ leavings_of key.now s.now (shape_of inst.now) }
+    ensures leave { result ≡ leave_of (shape_of inst.now) }
 {
     match shape(inst) {
         Shape::Ret => Leave::Ret,

@@ -4,8 +4,9 @@ ghost use Rattle.tc_isa.specs.Shapes.{shape_of};
 ghost use Rattle.value_domain.specs.State.{AreValues};
 ghost use Rattle.vd_transfer.specs.Effects.{HasRoom};
 ghost use Rattle.cfg_recover.specs.Duties.{duties_of};
+ghost use Rattle.cfg_recover.specs.Entries.{irq_entry};
 ghost use Rattle.cfg_recover.specs.FlowValues.{HasValues};
-ghost use Rattle.cfg_recover.specs.Flows.{told_by, Tells};
+ghost use Rattle.cfg_recover.specs.Flows.{told_by, leave_of, Tells};
 ghost use Rattle.cfg_recover.specs.Own.{IsOwnFault};
 
 use crate::Flow;
@@ -56,6 +57,8 @@ fn flow_of(
     requires room { HasRoom b.now (shape_of inst.now) s.now }
     ensures values { HasValues b.now result }
     ensures told { told_by plan.now key.now s.now result ≡ duties_of b.now image.now plan.now key.now addr s.now (shape_of inst.now) size }
+    ensures entry { result.irq_entry ≡ irq_entry plan.now key.now s.now 0 }
+    ensures leaves { result.leave ≡ leave_of (shape_of inst.now) }
 {
     Flow {
         jumps: successors(b, image, plan, addr, s, inst, size),

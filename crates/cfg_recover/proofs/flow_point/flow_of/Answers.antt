@@ -7,4 +7,4 @@ pub returns-clause-told : goal.returns-clause-told
 unfolding duties_of
 returns-clause-told c =
     let interrupts = told_irqs-is c.args.plan.now c.args.key.now c.args.s.now c.interrupt_entry.result c.interrupts.result.items c.interrupt_entry.ensures.entry c.interrupts.ensures in
-    rw (c.successors.ensures.jumps, c.entry.ensures.entry, c.misaligned.ensures.entry, interrupts, c.leaving.ensures) refl
+    rw (c.successors.ensures.jumps, c.entry.ensures.entry, c.misaligned.ensures.entry, interrupts, c.leaving.ensures.told) refl
