@@ -1,9 +1,10 @@
 -- The duties that a Flow tells.
-use Rattle.std.specs.Prelude.{◌≡◌, ◌==◌, ℕ, Bool, true, if◌then◌else◌, List, [], ◌∷◌, ◌++◌, map, Option, Some, None}
+use Rattle.std.specs.Prelude.{◌≡◌, ◌==◌, ℕ, true, if◌then◌else◌, List, [], ◌∷◌, ◌++◌, map, Option, Some, None}
 use Rattle.std.specs.List.{flat_map}
 use Rattle.elf_image.specs.Images.{ImageData}
 use Rattle.tcd_plan.specs.PlanData.{PlanData}
 use Rattle.tc_isa.specs.declared.shapes.Shape.{Shape}
+use Rattle.tc_isa.specs.declared.shapes.Shape.TheVariants as shape
 use Rattle.value_domain.specs.declared.states.State.{State}
 use Rattle.value_domain.specs.Limits.{Limits}
 use Rattle.depth_cert.specs.declared.keys.Key.{Key}
@@ -13,9 +14,9 @@ use Rattle.cfg_recover.specs.declared.flows.Leave.{Leave}
 use Rattle.cfg_recover.specs.declared.flows.Leave.TheVariants.{Stays, Ret, Rfe}
 use Rattle.cfg_recover.specs.declared.flows.Flow.{Flow}
 use Rattle.cfg_recover.specs.Code.{IsCode}
-use Rattle.cfg_recover.specs.Entries.{irq_key, exit_of}
+use Rattle.cfg_recover.specs.Entries.{irq_key, irq_entry, exit_of}
 use Rattle.cfg_recover.specs.Own.{IsFaultless}
-use Rattle.cfg_recover.specs.Duties.{Owed, owed, jump, enter, resume, leave, jumps_to, duties_of}
+use Rattle.cfg_recover.specs.Duties.{Owed, owed, enter, resume, leave, jumps_to, duties_of}
 
 abbrev pub told_jump : Option Jump → List Owed
 told_jump None = []
@@ -56,10 +57,19 @@ abbrev pub told_by : PlanData → Key → State → Flow → List Owed
 told_by plan key s f =
     told_jumps f.jumps ++ told_entry (rule_of_entry f.enter) key f.enter ++ told_entry 10 key f.aln ++ told_irqs plan f.irq_entry f.irqs.items ++ told_leaving key s f.leave
 
--- the flow of a point without a fault of its own: it tells the point's duties
+-- how an instruction of this shape leaves its frame
+unfoldable pub leave_of : Shape → Leave
+leave_of shape.Ret = Ret
+leave_of shape.Rfe = Rfe
+leave_of _ = Stays
+
+-- the flow of a point without a fault of its own: it tells the point's duties, the
+-- state at an interrupt's entry but for its CCPN, and how the frame is left
 pub record Tells (b : Limits) (image : ImageData) (plan : PlanData) (key : Key) (p : ℕ) (s : State) (f : Flow) : Type 0 where
   pub faultless : IsFaultless b image plan key p s
   pub shape : Shape
   pub size : ℕ
   pub code : IsCode image plan p shape size
   pub told : told_by plan key s f ≡ duties_of b image plan key p s shape size
+  pub entry : f.irq_entry ≡ irq_entry plan key s 0
+  pub leaves : f.leave ≡ leave_of shape

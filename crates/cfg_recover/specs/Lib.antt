@@ -2,6 +2,9 @@ pub mod Accepting
 pub mod Code
 pub mod Duties
 pub mod Entries
+pub mod FlowValues
+pub mod Finding
 pub mod Flows
 pub mod Moves
 pub mod Own
+pub mod OwnFaults

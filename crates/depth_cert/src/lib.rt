@@ -10,6 +10,8 @@ mod node_fields;
 mod nodes;
 mod point_fields;
 mod points;
+#[cfg(test)]
+mod tests;
 mod value_fields;
 mod writing;
 

@@ -12,3 +12,8 @@ use Rattle.depth_check.specs.declared.verdicts.Verdict.TheVariants.{Yes, No}
 abbrev pub Judges : ImageData → PlanData → CertData → Verdict → Type 0
 Judges image plan cert (Yes n) = Accepts image plan cert × (n ≡ certified_need image plan cert) × (n ≤ plan.areas - plan.reserve)
 Judges image plan cert (No rule key addr) = IsFirstFault image plan cert rule key addr
+
+-- where the answer is yes, the fact holds of its number
+abbrev pub IfYes : Verdict → (ℕ → Type 0) → Type 0
+IfYes (Yes n) P = P n
+IfYes (No rule key addr) P = Unit {0}

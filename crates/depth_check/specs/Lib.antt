@@ -1,2 +1,5 @@
+pub mod Finding
+pub mod FirstFaults
 pub mod Judging
-pub mod Safety
+pub mod Headline
+pub mod NodeFaults

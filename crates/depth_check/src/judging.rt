@@ -1,18 +1,25 @@
-// STUB
-ghost use Rattle.depth_check.specs.Judging.{Judges};
-ghost use Rattle.depth_check.specs.Safety.{IfYes};
+// The check of a certificate, with what it promises.
 ghost use Rattle.tc_machine.specs.Safe.{Safe};
+ghost use Rattle.depth_check.specs.Judging.{Judges, IfYes};
 
 use crate::Verdict;
+use crate::checking::judged;
+use crate::image_bytes::has_bytes;
 use depth_cert::Cert;
 use elf_image::Image;
 use tcd_plan::Plan;
 
-/// Whether a certificate is accepted.
-pub fn check(_image: &Image, _plan: &Plan, _cert: &Cert) -> Verdict
-    requires stub { ⊥ }
-    ensures judges { Judges _image.now _plan.now _cert.now result }
-    ensures safe { IfYes result (Safe _image.now _plan.now) }
+/// Whether the rules accept a certificate for an image under a plan: yes, with the need of the start (in areas), or the first
+/// rule that fails, with its node and its address. It takes no memory.
+///
+/// Where it is yes, every run of the image under the plan is safe with that need.
+pub fn check(image: &Image, plan: &Plan, cert: &Cert) -> Verdict
+    ensures judges { Judges image.now plan.now cert.now result }
+    ensures safe { IfYes result (Safe image.now plan.now) }
 {
-    Verdict::Yes(0)
+    // What every plan and every certificate keep is known once they are read.
+    let _areas = plan.areas;
+    let _version = cert.version;
+    has_bytes(image);
+    judged(image, plan, cert)
 }

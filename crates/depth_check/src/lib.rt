@@ -1,8 +1,18 @@
 //! The certificate checker.
 #![tactic(auto)]
 
+mod checking;
+mod covering;
+mod duties;
+mod first_faults;
+mod image_bytes;
 mod judging;
+mod laws;
+mod nodes;
+mod rules;
 mod verdicts;
 
+pub use first_faults::first_fault_laws;
 pub use judging::check;
+pub use laws::accepted_is_safe;
 pub use verdicts::Verdict;

@@ -1,9 +1,9 @@
 -- Rows by their place in the table.
-use Rattle.std.proofs.Common.{◌≡◌, ◌<◌, ℕ, List, map, length, get_or, Option, Some, None, ap, sym, subst, ◌∙◌}
+use Rattle.std.proofs.Common.{◌≡◌, ◌<◌, ℕ, List, map, length, get_or, Option, Some, None, ap, subst, ◌∙◌}
 use Rattle.std.specs.Prelude.{All, IfSome, IfNone, slice_get}
 use Rattle.std.proofs.lemmas.List.{get_or-map, length-map}
-use Rattle.std.proofs.lemmas.Option.{slice_get-get_or, slice_get_within}
-use Rattle.tc_isa.specs.Rows.{RowData, row_of}
+use Rattle.std.proofs.lemmas.Option.{slice_get-get_or}
+use Rattle.tc_isa.specs.Rows.{row_of}
 use Rattle.tc_isa.specs.declared.table.Row.{Row}
 use Rattle.tc_isa.specs.declared.fields.Uses.{Uses}
 use Rattle.tc_isa.specs.Codec.{IsRow, uses_of}

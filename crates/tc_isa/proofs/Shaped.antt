@@ -1,5 +1,5 @@
 -- The meaning of a row in the program's table is that of the instruction.
-use Rattle.std.proofs.Common.{◌≡◌, ◌<◌, ◌≤◌, ℕ, List, [], map, length, get_or, Option, Some, ap, sym, subst, ◌∙◌, arith, refl}
+use Rattle.std.proofs.Common.{◌≡◌, ◌<◌, ℕ, List, [], map, length, get_or, ap, sym, subst, ◌∙◌, arith, refl}
 use Rattle.std.specs.Prelude.{slice_get}
 use Rattle.std.proofs.lemmas.List.{get_or-map, length-map}
 use Rattle.std.proofs.lemmas.Option.{slice_get-get_or, slice_get_within}

@@ -1,10 +1,10 @@
-use Rattle.std.proofs.Common.{◌≡◌, ◌<◌, ℕ, Bool, true, false, List, [], ◌∷◌, map, length, refl, ap, sym, subst, ◌∙◌, ◌&&◌}
-use Rattle.std.specs.Prelude.{All, nat_lt, slice_get, Some}
+use Rattle.std.proofs.Common.{◌≡◌, ℕ, Bool, true, false, refl, subst, ◌&&◌}
+use Rattle.std.specs.Prelude.{All, slice_get, Some}
 use Rattle.std.proofs.lemmas.Option.{get_or_from_slice_get, slice_get_within}
 use Rattle.std.specs.List.{list_all}
 use Rattle.std.proofs.lemmas.Bool.{ltb-true}
 use Rattle.std.proofs.lemmas.List.Sums.{AllPass-from_list_all}
-use Rattle.tc_isa.specs.Rows.{RowData, listed, row_of}
+use Rattle.tc_isa.specs.Rows.{RowData, listed}
 use Rattle.tc_isa.specs.Words.{second_bound, bounds, is_long_form, form_index}
 use Rattle.tc_isa.specs.Codec.{IsRow, is_row, same_test, none_clash}
 

@@ -1,5 +1,5 @@
 -- Instructions as plain data.
-use Rattle.std.specs.Prelude.{◌≡◌, ℕ, Option, Some, slice_get}
+use Rattle.std.specs.Prelude.{◌≡◌, ℕ, Some, slice_get}
 use Rattle.tc_isa.specs.Rows.{RowData, listed}
 use Rattle.tc_isa.specs.declared.fields.Fields.{Fields}
 use Rattle.tc_isa.specs.Words.{fields}

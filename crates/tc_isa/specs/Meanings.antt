@@ -1,5 +1,5 @@
 -- What an instruction does, by places for what its fields give.
-use Rattle.std.specs.Prelude.{◌+◌, ◌*◌, ◌/◌, ◌%◌, ◌^◌, ◌<◌, ℕ}
+use Rattle.std.specs.Prelude.{◌%◌, ◌^◌, ◌<◌, ℕ}
 use Rattle.tc_isa.specs.declared.fields.Fields.{Fields}
 use Rattle.tc_isa.specs.declared.meaning.Place.{Place}
 use Rattle.tc_isa.specs.declared.meaning.Place.TheVariants.{Dc, Ds1, Ds2, D15, Ac, As1, As2, A10}

@@ -9,6 +9,8 @@ mod refinement;
 mod registers;
 mod runs;
 mod signs;
+#[cfg(test)]
+mod tests;
 mod transferring;
 
 pub use branching::refine;

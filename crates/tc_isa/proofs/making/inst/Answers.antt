@@ -1,7 +1,6 @@
-use Rattle.std.proofs.Common.{◌≡◌, ◌<◌, ◌≤◌, length, arith, ap, refl}
+use Rattle.std.proofs.Common.{arith, refl}
 use Rattle.std.proofs.lemmas.Bool.{both_ways}
 use Rattle.tc_isa.proofs.Made.{made, made_fits, inst_within, uses_listed}
-use Rattle.tc_isa.specs.Insts.{InstData}
 use Rattle.tc_isa.proofs.making.inst.Goals as goal
 
 pub returns-then-place-rows-clause-listed : goal.returns-then-place-rows-clause-listed

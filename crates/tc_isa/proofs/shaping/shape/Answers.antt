@@ -1,6 +1,4 @@
-use Rattle.std.proofs.Common.{◌≡◌, ◌∙◌, sym, ap, subst}
-use Rattle.tc_isa.specs.declared.shapes.Shape.{Shape}
-use Rattle.tc_isa.specs.Insts.{InstData}
+use Rattle.std.proofs.Common.{◌∙◌, sym, ap, subst}
 use Rattle.tc_isa.specs.Shapes.{shape_of}
 use Rattle.tc_isa.specs.Bounded.{IsShape}
 use Rattle.tc_isa.proofs.Shaped.{small, meanings_enough, shaped}

@@ -1,0 +1,13 @@
+pub mod EntryLaws
+pub mod Members
+pub mod Went
+pub mod Keeps
+pub mod Writes
+pub mod Points
+pub mod MoveLaws
+pub mod CodeLaws
+pub mod FlowDuties
+pub mod FlowStates
+pub mod FlowTargets
+pub mod OwnLaws
+pub mod RomTests

@@ -1,0 +1,69 @@
+-- What holds of a machine at a point, and what the other instructions of its frame do.
+use Rattle.std.proofs.Common.{◌≡◌, ℕ, ◌/◌, ◌*◌, length, true, false, Ok, refl, ap, ◌∙◌, subst}
+use Rattle.std.proofs.lemmas.Bool.{false≢true}
+use Rattle.csa_chain.specs.Contexts.{pcpn_of, pie_of}
+use Rattle.elf_image.specs.Images.{ImageData}
+use Rattle.tcd_plan.specs.PlanData.{PlanData}
+use Rattle.tc_isa.specs.declared.shapes.Shape.{Shape}
+use Rattle.tc_isa.specs.declared.shapes.Shape.TheVariants.{Load, Store, Rfe, Svlcx, Rslcx, Bisr, Syscall}
+use Rattle.tc_isa.specs.Bounded.{IsShape}
+use Rattle.tc_isa.proofs.ShapeBounds.{shape_is}
+use Rattle.tc_machine.specs.declared.events.Event.{Event}
+use Rattle.tc_machine.specs.declared.state.Machine.{Machine}
+use Rattle.tc_machine.specs.Machine.{a11, moved, advanced, then_}
+use Rattle.tc_machine.specs.Contexts.{save, restore}
+use Rattle.tc_machine.specs.Fetching.{fetched}
+use Rattle.tc_machine.specs.Instructions.{does, trap, misaligned}
+use Rattle.tc_machine.proofs.Fetched.{fetched-is}
+use Rattle.value_domain.specs.declared.states.State.{State}
+use Rattle.value_domain.specs.Limits.{Limits}
+use Rattle.vd_transfer.specs.Holding.{WritesValues}
+use Rattle.vd_transfer.specs.Soundness.{IsSetting}
+use Rattle.depth_cert.specs.declared.keys.Key.{Key}
+use Rattle.cfg_recover.specs.Moves.{IsAtPoint, traps}
+
+module _ {b : Limits} {image : ImageData} {plan : PlanData} {key : Key} {m : Machine} {s : State} {shape : Shape} {n : ℕ} (at : IsAtPoint b image plan key m s shape n) where
+  -- what the laws of effects ask for
+  pub setting : IsSetting b plan s
+  setting = record { limits = at.limits; plan = at.is_plan; regs = at.regs; values = at.values }
+
+  pub bounded : IsShape shape
+  bounded = subst IsShape at.code.shaped (shape_is at.code.inst at.code.spells.spelled.inst)
+
+  pub writes : WritesValues shape
+  writes = (at.own 13).writes refl
+
+  -- the instruction of the point is what the machine fetches
+  pub fetched_at : fetched m ≡ Ok (shape, n)
+  fetched_at =
+      fetched-is image at.is_plan m at.rom at.code.even at.code.bytes at.code.inst at.code.spells
+      ∙ ap (λ (t : Shape). Ok (t, length at.code.bytes)) at.code.shaped ∙ ap (λ (k : ℕ). Ok (shape, k)) at.code.sized
+
+-- ---- instructions on contexts
+module _ (m : Machine) (e : Event) (n : ℕ) where
+  pub does-rfe : does m e Rfe n ≡ then_ (restore m true) (λ r. record r { pc = a11 m / 2 * 2; ie = pie_of m.core m.pcxi; ccpn = pcpn_of m.core m.pcxi })
+  unfolding does
+  does-rfe = refl
+
+  pub does-svlcx : does m e Svlcx n ≡ then_ (save m false) (advanced n)
+  unfolding does
+  does-svlcx = refl
+
+  pub does-rslcx : does m e Rslcx n ≡ then_ (restore m false) (advanced n)
+  unfolding does
+  does-rslcx = refl
+
+  pub does-bisr : (c : ℕ) → does m e (Bisr c) n ≡ then_ (save m false) (λ s. record (advanced n s) { ccpn = c; ie = true })
+  unfolding does
+  does-bisr c = refl
+
+  pub does-syscall : (tin : ℕ) → does m e (Syscall tin) n ≡ trap m 6 tin (moved m.pc n)
+  unfolding does
+  does-syscall tin = refl
+
+  -- an access that traps does nothing else
+  pub does-trapped : (shape : Shape) → traps m e shape ≡ true → does m e shape n ≡ misaligned m
+  unfolding does
+  does-trapped (Load dst base offset size signed after) t = rw t refl
+  does-trapped (Store src base offset size after) t = rw t refl
+  does-trapped shape t = absurd (false≢true t)

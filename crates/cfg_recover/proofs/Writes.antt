@@ -1,0 +1,88 @@
+-- A store in one ram range or one device range leaves rom, the save areas and what is mapped.
+use Rattle.std.proofs.Common.{◌≡◌, ℕ, zero, suc, ◌+◌, ◌-◌, ◌/◌, ◌%◌, ◌^◌, ◌<◌, ◌≤◌, ◌⊎◌, inl, inr, true, List, [], ◌∷◌, ◌++◌, map, refl, sym, ap, ◌∙◌, subst, arith, append_assoc}
+use Rattle.std.proofs.lemmas.Bool.{cases_lt}
+use Rattle.std.specs.FinMap as memory_map
+use Rattle.csa_chain.specs.Memory.{Memory, is_mapped, with_byte}
+use Rattle.csa_chain.proofs.MemoryLaws.{get-with_byte_other, is_mapped-with_byte}
+use Rattle.elf_image.specs.Images.{ImageData}
+use Rattle.tcd_base.specs.declared.parts.Range.{Range}
+use Rattle.tcd_plan.specs.declared.plans.Device.{Device}
+use Rattle.tcd_plan.specs.PlanData.{PlanData, IsPlan, all_apart, areas_range}
+use Rattle.tc_machine.specs.Ranges.{IsWithin, IsInOne, IsInAreas}
+use Rattle.tc_machine.specs.Fetching.{with_bytes}
+use Rattle.tc_machine.specs.Safe.{HoldsRom, IsPlanMemory, IsStoreInRange}
+use Rattle.tc_machine.proofs.PlanLaws.{in_one, IsInOne-front, IsInOne-behind, all_apart-before}
+use Rattle.store_ranges.proofs.Sound.{in_ranges}
+
+-- ---- memory
+-- a byte outside of what is written stays
+pub get-with_bytes_other : (m : Memory) (x w n y : ℕ) → x + n ≤ 2 ^ 32 → (y < x) ⊎ (x + n ≤ y) → memory_map.get (with_bytes m x w n) y ≡ memory_map.get m y
+unfolding with_bytes
+get-with_bytes_other m x w zero y fits out = refl
+get-with_bytes_other m x w (suc zero) y fits out = get-with_byte_other m x (w % 2 ^ 8) y (λ e. elim out [ inl low ↦ omega arith | inr high ↦ omega arith ])
+get-with_bytes_other m x w (suc (suc n)) y fits out =
+    let next : (x + 1) % 2 ^ 32 ≡ x + 1 = omega arith in
+    let out2 : (y < x + 1) ⊎ (x + 1 + suc n ≤ y) = elim out [ inl low ↦ inl (omega arith) | inr high ↦ inr (omega arith) ] in
+    ap (λ z. memory_map.get (with_bytes (with_byte m x (w % 2 ^ 8)) z (w / 2 ^ 8) (suc n)) y) next
+    ∙ get-with_bytes_other (with_byte m x (w % 2 ^ 8)) (x + 1) (w / 2 ^ 8) (suc n) y (omega arith) out2
+    ∙ get-with_byte_other m x (w % 2 ^ 8) y (λ e. elim out [ inl low ↦ omega arith | inr high ↦ omega arith ])
+
+-- a store maps nothing new
+pub is_mapped-with_bytes : (m : Memory) (x w n y : ℕ) → is_mapped (with_bytes m x w n) y ≡ is_mapped m y
+unfolding with_bytes
+is_mapped-with_bytes m x w zero y = refl
+is_mapped-with_bytes m x w (suc n) y = is_mapped-with_bytes (with_byte m x (w % 2 ^ 8)) ((x + 1) % 2 ^ 32) (w / 2 ^ 8) n y ∙ is_mapped-with_byte m x (w % 2 ^ 8) y
+
+-- ---- ranges
+module _ (plan : PlanData) (ok : IsPlan plan) where
+  abbrev devices : List Range
+  devices = map (λ (d : Device). d.range) plan.devices
+
+  -- no address that may be stored at lies in rom
+  unwritten_rom : (y : ℕ) → IsInOne y 1 plan.ram ⊎ IsInOne y 1 devices → IsInOne y 1 plan.rom → ⊥
+  unwritten_rom y at rom =
+      let apart : all_apart (plan.rom ++ (plan.ram ++ (devices ++ areas_range plan ∷ []))) ≡ true =
+      sym (ap all_apart (append_assoc (plan.rom ++ plan.ram) devices (areas_range plan ∷ []) ∙ append_assoc plan.rom plan.ram (devices ++ areas_range plan ∷ []))) ∙ ok.apart
+      in
+      all_apart-before y plan.rom (plan.ram ++ (devices ++ areas_range plan ∷ [])) apart rom
+      (elim at [
+        | inl ram ↦ IsInOne-front y 1 plan.ram (devices ++ areas_range plan ∷ []) ram
+        | inr device ↦ IsInOne-behind y 1 plan.ram (devices ++ areas_range plan ∷ []) (IsInOne-front y 1 devices (areas_range plan ∷ []) device)
+      ])
+
+  -- nor in the areas
+  unwritten_areas : (y : ℕ) → IsInOne y 1 plan.ram ⊎ IsInOne y 1 devices → IsInAreas plan y → ⊥
+  unwritten_areas y at inside =
+      let within : IsWithin y 1 (areas_range plan) = (inside.0, (let lt = inside.1 in omega arith)) in
+      all_apart-before y (plan.rom ++ plan.ram ++ devices) (areas_range plan ∷ []) ok.apart
+      (elim at [
+        | inl ram ↦ IsInOne-front y 1 (plan.rom ++ plan.ram) devices (IsInOne-behind y 1 plan.rom plan.ram ram)
+        | inr device ↦ IsInOne-behind y 1 (plan.rom ++ plan.ram) devices device
+      ])
+      (inl within)
+
+  -- an address of a store is one that may be stored at
+  stored_at : (x n y : ℕ) → IsStoreInRange plan (x, n) → x ≤ y → y < x + n → IsInOne y 1 plan.ram ⊎ IsInOne y 1 devices
+  stored_at x n y range low high =
+      let is : x + (y - x) ≡ y = omega arith in
+      elim range.1 [
+        | inl ram ↦ inl (subst (λ z. IsInOne z 1 plan.ram) is (in_one x n (y - x) plan.ram (omega arith) ram))
+        | inr device ↦ inr (subst (λ z. IsInOne z 1 devices) is (in_one x n (y - x) devices (omega arith) (in_ranges x n plan.devices device)))
+      ]
+
+  outside : (x n y : ℕ) → IsStoreInRange plan (x, n) → (IsInOne y 1 plan.ram ⊎ IsInOne y 1 devices → ⊥) → (y < x) ⊎ (x + n ≤ y)
+  outside x n y range not_there =
+      elim (cases_lt y x) [
+        | inl low ↦ inl low
+        | inr from ↦ elim (cases_lt y (x + n)) [ inl to ↦ absurd (not_there (stored_at x n y range from to)) | inr high ↦ inr high ]
+      ]
+
+  module _ (image : ImageData) (mem : Memory) (x w n : ℕ) (range : IsStoreInRange plan (x, n)) where
+    pub store_keeps_areas : (y : ℕ) → IsInAreas plan y → memory_map.get (with_bytes mem x w n) y ≡ memory_map.get mem y
+    store_keeps_areas y at = get-with_bytes_other mem x w n y range.0 (outside x n y range (λ there. unwritten_areas y there at))
+
+    pub store_keeps_rom : HoldsRom image plan mem → HoldsRom image plan (with_bytes mem x w n)
+    store_keeps_rom rom y c at is = get-with_bytes_other mem x w n y range.0 (outside x n y range (λ there. unwritten_rom y there at)) ∙ rom y c at is
+
+    pub store_keeps_mapped : IsPlanMemory plan mem → IsPlanMemory plan (with_bytes mem x w n)
+    store_keeps_mapped memory y = (λ t. (memory y).0 (sym (is_mapped-with_bytes mem x w n y) ∙ t), λ i. is_mapped-with_bytes mem x w n y ∙ (memory y).1 i)

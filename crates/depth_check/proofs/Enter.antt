@@ -1,0 +1,143 @@
+-- A save of the upper context begins a frame.
+use Rattle.std.proofs.Common.{◌≡◌, ℕ, suc, ◌+◌, ◌-◌, ◌^◌, ◌<◌, ◌≤◌, ◌↔◌, Bool, true, List, [], ◌∷◌, length, get_or, Some, refl, sym, ap, ◌∙◌, subst, arith, Contains}
+use Rattle.std.specs.Prelude.{nat_lt}
+use Rattle.std.proofs.lemmas.Bool.{cond_both}
+use Rattle.csa_chain.specs.Memory.{Memory, with_words}
+use Rattle.csa_chain.specs.Chain.{link_in, link_address, area_word}
+use Rattle.csa_chain.specs.Contexts.{pcxi_word_of, pcpn_of}
+use Rattle.csa_chain.proofs.MemoryLaws.{is_mapped-with_words}
+use Rattle.csa_chain.proofs.ChainLaws.{SameAreas-written, area_word-written, is_area-written}
+use Rattle.csa_chain.proofs.ContextLaws.{reg_of, upper_regs, global_regs, upper_word, link_in-pcxi_word, ul_of-pcxi_word, pie_of-pcxi_word, pcpn_of-pcxi_word, link_in-lt}
+use Rattle.elf_image.specs.Images.{ImageData}
+use Rattle.tcd_plan.specs.PlanData.{PlanData, IsPlan}
+use Rattle.tc_machine.specs.declared.events.End.TheVariants.{Running}
+use Rattle.tc_machine.specs.declared.state.Machine.{Machine}
+use Rattle.tc_machine.specs.Machine.{reg, a11, is_of}
+use Rattle.tc_machine.specs.Contexts.{context_of, saved, save}
+use Rattle.tc_machine.specs.Ranges.{IsMappedBy}
+use Rattle.tc_machine.specs.Safe.{IsMachine, IsPlanMemory}
+use Rattle.tc_machine.proofs.Words.{register_lt}
+use Rattle.tc_machine.proofs.PlanLaws.{HoldsRom-written}
+use Rattle.tc_machine.proofs.Saves.{save-is}
+use Rattle.tc_machine.proofs.Areas.{HasFree, has_free, Areas-saved}
+use Rattle.value_domain.specs.declared.states.State.{State}
+use Rattle.value_domain.specs.State.{ImpliedBy}
+use Rattle.vd_transfer.specs.Holding.{Holds}
+use Rattle.vd_transfer.specs.Registers.{global_of}
+use Rattle.depth_cert.specs.declared.points.Point.{Point}
+use Rattle.depth_cert.specs.Points.{find_point}
+use Rattle.depth_cert.specs.Nodes.{NodeData}
+use Rattle.depth_cert.specs.Certs.{CertData}
+use Rattle.depth_check.proofs.Frames.{Frame, oldest_first, LowerSame, UpperSame, Leaves, Resumed, used_by, Kept, Frames-same, need-Frames, own_locals, length-Locals, length-ImpliedBy, length-oldest_first}
+
+-- the machine once its upper context is saved, with these registers, address and status
+abbrev pub begun : Machine → List ℕ → List ℕ → ℕ → ℕ → Bool → ℕ → Machine
+begun m d a pc psw ie ccpn = record (saved m true) { d = d; a = a; pc = pc; psw = psw; ie = ie; ccpn = ccpn }
+
+-- the frame that begins there
+abbrev pub entered : Machine → NodeData → Frame
+entered m node = record { node = node; area = link_in m.fcx; word0 = reg m; locals = []; flags = [] }
+
+-- What a frame's beginning from a point with this state asks of the certificate: the node with its point, room for it, and
+-- where the suspended frame goes on.
+pub record Begins (plan : PlanData) (cert : CertData) (m : Machine) (frame : Frame) (s : State) (d a : List ℕ) (pc psw : ℕ) (ie : Bool) (ccpn : ℕ) : Type 0 where
+  pub node : NodeData
+  pub stands : Contains cert.nodes node
+  pub need : length s.locals.items + 1 + node.need ≤ (frame.node).need
+  pub point : Point
+  pub found : find_point pc node.points ≡ Some point
+  pub inside : Holds plan (reg_of d a) ie ccpn point.state
+  pub none : length (point.state).locals.items ≡ 0
+  pub is : is_of psw ≡ (node.key).is
+  pub lower : LowerSame (reg m) (reg_of d a)
+  pub goes_on :
+      (word : ℕ → ℕ) (ie : Bool) (ccpn : ℕ) → UpperSame (reg m) word → word 27 < 2 ^ 32 → Leaves m.ie m.ccpn node (reg m) word ie ccpn
+      → Resumed plan frame (get_or a 11 0) word ie ccpn
+
+abbrev saved_mem : Machine → Memory
+saved_mem m = with_words m.mem (link_address (link_in m.fcx)) (context_of m true)
+
+abbrev saved_pcxi : Machine → ℕ
+saved_pcxi m = pcxi_word_of m.core m.ccpn m.ie true (link_in m.fcx)
+
+pub IsPlanMemory-written : (plan : PlanData) (mem : Memory) (x : ℕ) (ws : List ℕ) → IsPlanMemory plan mem → IsPlanMemory plan (with_words mem x ws)
+IsPlanMemory-written plan mem x ws h = λ y. subst (λ b. (b ≡ true) ↔ IsMappedBy plan y) (sym (is_mapped-with_words mem x ws y)) (h y)
+
+pub implied_none : (fs : List Bool) → length fs ≡ 0 → ImpliedBy fs []
+implied_none [] h = tt
+implied_none (f ∷ fs) h = absurd (omega arith)
+
+pub reg_lt : (m : Machine) → IsMachine m → (r : ℕ) → reg m r < 2 ^ 32
+reg_lt m k r = cond_both (nat_lt r 16) (get_or m.d r 0) (get_or m.a (r - 16) 0) (λ w. w < 2 ^ 32) (λ _. register_lt m.d k.d r) (λ _. register_lt m.a k.a (r - 16))
+
+module _ (image : ImageData) (plan : PlanData) (ok : IsPlan plan) (cert : CertData) (most : ℕ) (few : most ≤ plan.areas - plan.reserve) where
+  module _ (m : Machine) (frame : Frame) (below : List Frame) (k : Kept image plan cert most m frame below) where
+    -- the state has as many lower contexts as the frame
+    pub counted : length ((k.point).state).locals.items ≡ length frame.locals
+    counted =
+        length-ImpliedBy ((k.point).state).locals.items (oldest_first frame.flags) k.flags ∙ length-oldest_first frame.flags
+        ∙ length-Locals m.core m.mem m.pcxi (a11 m) frame.word0 frame.flags frame.locals (own_locals plan cert most m.core m.mem m.pcxi (a11 m) frame below k.frames)
+
+    -- where the need has room for one more area, there is a free one
+    pub room : (need : ℕ) → length ((k.point).state).locals.items + 1 + need ≤ (frame.node).need → HasFree plan m.mem m.fcx m.lcx (used_by frame below)
+    room need fits =
+        let within = need-Frames plan cert most m.core m.mem m.pcxi (a11 m) frame below k.frames in
+        let count = counted in
+        has_free ok most few m.mem m.fcx m.lcx (used_by frame below) k.free k.areas (omega arith)
+
+    -- a word of the new area
+    word : IsMachine m → (free : HasFree plan m.mem m.fcx m.lcx (used_by frame below)) (i : ℕ) → i < 16 → get_or (context_of m true) i 0 < 2 ^ 32 → area_word (saved_mem m) (link_in m.fcx) i ≡ get_or (context_of m true) i 0
+    word words free i lt fits = area_word-written m.mem (link_in m.fcx) (context_of m true) i (omega arith) free.area lt fits
+
+    upper_saved : IsMachine m → (free : HasFree plan m.mem m.fcx m.lcx (used_by frame below)) (j : ℕ) → j < 14 → area_word (saved_mem m) (link_in m.fcx) (suc (suc j)) ≡ reg m (get_or upper_regs j 0)
+    upper_saved words free j lt =
+        let e : get_or (context_of m true) (suc (suc j)) 0 ≡ reg m (get_or upper_regs j 0) = upper_word m.pcxi m.psw m.d m.a j lt in
+        word words free (suc (suc j)) (omega arith) (subst (λ x. x < 2 ^ 32) (sym e) (reg_lt m words (get_or upper_regs j 0))) ∙ e
+
+    pub begins : IsMachine m → (d a : List ℕ) (pc psw : ℕ) (ie : Bool) (ccpn : ℕ) (b : Begins plan cert m frame (k.point).state d a pc psw ie ccpn) → HasFree plan m.mem m.fcx m.lcx (used_by frame below) →
+        ((j : ℕ) → j < 4 → reg m (get_or global_regs j 0) ≡ global_of plan (get_or global_regs j 0)) →
+        Kept image plan cert most (record (begun m d a pc psw ie ccpn) { end = Running }) (entered m b.node) (frame ∷ below)
+    begins words d a pc psw ie ccpn b free globals =
+        let count = counted in
+        let need = b.need in
+        let link_small = link_in-lt m.fcx in
+        record {
+          stands = b.stands;
+          point = b.point;
+          found = b.found;
+          inside = b.inside;
+          flags = implied_none _ b.none;
+          is = b.is;
+          lower_kept = λ _. b.lower;
+          frames = (
+            tt,
+            record {
+              some = free.some;
+              named = link_in-pcxi_word m.core m.ccpn m.ie true (link_in m.fcx) link_small;
+              ul = ul_of-pcxi_word m.core m.ccpn m.ie true (link_in m.fcx) link_small;
+              area = is_area-written m.mem (link_in m.fcx) (link_in m.fcx) (context_of m true) ∙ free.area;
+              stands = k.stands;
+              need = omega arith;
+              is = ap is_of (word words free 1 (omega arith) words.psw) ∙ k.is;
+              upper = λ j lt ne. upper_saved words free j lt;
+              globals = globals;
+              goes_on = λ w ie2 ccpn2 upper small leaves.
+                  b.goes_on w ie2 ccpn2 upper small
+                  (subst (λ p. Leaves m.ie p b.node (reg m) w ie2 ccpn2) (pcpn_of-pcxi_word m.core m.ccpn m.ie true (link_in m.fcx) link_small words.ccpn)
+                  (subst (λ t. Leaves t (pcpn_of m.core (saved_pcxi m)) b.node (reg m) w ie2 ccpn2) (pie_of-pcxi_word m.core m.ccpn m.ie true (link_in m.fcx) link_small) leaves));
+            },
+            rw (word words free 0 (omega arith) words.pcxi, word words free 3 (omega arith) (register_lt m.a words.a 11))
+                (Frames-same plan cert most m.core m.mem (saved_mem m) m.pcxi (a11 m) frame below (SameAreas-written m.mem (link_in m.fcx) (used_by frame below) (context_of m true) (omega arith) free.avoids_used) k.frames),
+          );
+          free = free.rest;
+          areas = Areas-saved m.mem m.fcx m.lcx (used_by frame below) k.free free k.areas (context_of m true) refl;
+          rom = HoldsRom-written image m.mem ok (link_in m.fcx) (length (used_by frame below)) (context_of m true) free.place free.within (omega arith) k.rom;
+          memory = IsPlanMemory-written plan m.mem (link_address (link_in m.fcx)) (context_of m true) k.memory;
+          biv = k.biv;
+          btv = k.btv;
+          isp = k.isp;
+          running = refl;
+        }
+
+    pub saves : HasFree plan m.mem m.fcx m.lcx (used_by frame below) → (upper : Bool) → save m upper ≡ saved m upper
+    saves free upper = save-is m upper free.some free.area free.not_last

@@ -1,0 +1,113 @@
+-- What an instruction owes, and what it does where its contexts are there.
+use Rattle.std.proofs.Common.{◌≡◌, ℕ, ◌*◌, ◌/◌, ◌^◌, Bool, true, false, cond, [], ◌∷◌, ◌++◌, set, refl, sym, ap, ◌∙◌, subst, arith, Contains}
+use Rattle.std.proofs.lemmas.Bool.{eq-eqb}
+use Rattle.std.proofs.lemmas.List.Elements.{Contains-append_right}
+use Rattle.std.specs.Prelude.{bit_or}
+use Rattle.csa_chain.specs.Contexts.{pie_of, pcpn_of}
+use Rattle.elf_image.specs.Images.{ImageData}
+use Rattle.tcd_plan.specs.PlanData.{PlanData}
+use Rattle.tc_isa.specs.declared.shapes.Shape.{Shape}
+use Rattle.tc_isa.specs.declared.shapes.Shape.TheVariants.{Load, Store, Call, Ret, Rfe, Svlcx, Rslcx, Bisr, Syscall}
+use Rattle.tc_isa.specs.declared.shapes.Target.{Target}
+use Rattle.tc_machine.specs.declared.events.Event.{Event}
+use Rattle.tc_machine.specs.declared.events.End.TheVariants.{Running}
+use Rattle.tc_machine.specs.declared.state.Machine.{Machine}
+use Rattle.tc_machine.specs.Machine.{reg, a11, moved, advanced, then_, with_reg, handler_psw}
+use Rattle.tc_machine.specs.Contexts.{saved, save, restored, restore}
+use Rattle.tc_machine.specs.Fetching.{loaded, extended, with_bytes}
+use Rattle.tc_machine.specs.Instructions.{interrupt, trap, misaligned, does, access_address, with_base, target_of}
+use Rattle.tc_machine.proofs.Saves.{then_-running}
+use Rattle.value_domain.specs.declared.states.State.{State}
+use Rattle.value_domain.specs.Limits.{Limits}
+use Rattle.vd_transfer.specs.Effects.{saved_lower, restored_lower, transfer_of}
+use Rattle.depth_cert.specs.declared.keys.Key.{Key}
+use Rattle.cfg_recover.specs.Entries.{sys_key, sys_entry, exit_of}
+use Rattle.cfg_recover.specs.Duties.{jump, enter, resume, leave, owed, interrupts_of, duties_of}
+use Rattle.cfg_recover.specs.Moves.{traps}
+use Rattle.depth_check.proofs.Enter.{begun}
+use Rattle.depth_check.proofs.Handlers.{handler_a}
+
+-- ---- duties
+module _ (b : Limits) (image : ImageData) (plan : PlanData) (key : Key) (p : ℕ) (s : State) (n : ℕ) where
+  pub owes-svlcx : Contains (duties_of b image plan key p s Svlcx n) (owed 4 (jump (moved p n) (saved_lower s)))
+  unfolding duties_of transfer_of
+  owes-svlcx = (0, omega arith, refl)
+
+  pub owes-bisr : (c : ℕ) → Contains (duties_of b image plan key p s (Bisr c) n) (owed 4 (jump (moved p n) (record (saved_lower s) { ie = true; ccpn = c })))
+  unfolding duties_of transfer_of
+  owes-bisr c = (0, omega arith, refl)
+
+  pub owes-rslcx : Contains (duties_of b image plan key p s Rslcx n) (owed 4 (jump (moved p n) (restored_lower s)))
+  unfolding duties_of transfer_of
+  owes-rslcx = (0, omega arith, refl)
+
+  pub owes-syscall : (tin : ℕ) → Contains (duties_of b image plan key p s (Syscall tin) n) (owed 12 (enter (sys_key plan key) (sys_entry plan key s tin)))
+  unfolding duties_of
+  owes-syscall tin = (0, omega arith, refl)
+
+  pub owes-syscall_back : (tin : ℕ) → Contains (duties_of b image plan key p s (Syscall tin) n) (owed 4 (resume (sys_key plan key) (moved p n)))
+  unfolding duties_of
+  owes-syscall_back tin = (1, omega arith, refl)
+
+  pub owes-ret : Contains (duties_of b image plan key p s Ret n) (owed 6 (leave (exit_of s)))
+  unfolding duties_of
+  owes-ret = Contains-append_right (interrupts_of plan key s) (owed 6 (leave (exit_of s)) ∷ []) (owed 6 (leave (exit_of s))) (0, omega arith, refl)
+
+  pub owes-rfe : key.kind ≡ 3 → Contains (duties_of b image plan key p s Rfe n) (owed 7 (leave (exit_of s)))
+  unfolding duties_of
+  owes-rfe sys =
+      subst (λ t. Contains (interrupts_of plan key s ++ cond t (owed 7 (leave (exit_of s)) ∷ []) []) (owed 7 (leave (exit_of s)))) (sym (eq-eqb key.kind 3 sys))
+      (Contains-append_right (interrupts_of plan key s) (owed 7 (leave (exit_of s)) ∷ []) (owed 7 (leave (exit_of s))) (0, omega arith, refl))
+
+-- ---- what is done
+-- after a save that stands, and after a restore
+pub saved_then : (m : Machine) (upper : Bool) (next : Machine → Machine) → save m upper ≡ saved m upper → m.end ≡ Running → then_ (save m upper) next ≡ next (record (saved m upper) { end = Running })
+saved_then m upper next is running = ap (λ s. then_ s next) is ∙ then_-running (saved m upper) next running ∙ ap (λ x. next (record (saved m upper) { end = x })) running
+
+pub restored_then : (m : Machine) (upper : Bool) (next : Machine → Machine) → restore m upper ≡ restored m upper → m.end ≡ Running → then_ (restore m upper) next ≡ next (record (restored m upper) { end = Running })
+restored_then m true next is running = ap (λ s. then_ s next) is ∙ then_-running (restored m true) next running ∙ ap (λ x. next (record (restored m true) { end = x })) running
+restored_then m false next is running = ap (λ s. then_ s next) is ∙ then_-running (restored m false) next running ∙ ap (λ x. next (record (restored m false) { end = x })) running
+
+module _ (m : Machine) (running : m.end ≡ Running) where
+  pub interrupt-is : save m true ≡ saved m true → (irq : ℕ) → interrupt m irq ≡ record (begun m m.d (handler_a m m.pc) (bit_or m.biv (irq * 2 ^ 5)) (handler_psw m.psw) false irq) { end = Running }
+  interrupt-is is irq = saved_then m true _ is running
+
+  pub trap-is : save m true ≡ saved m true → (class tin back : ℕ) → trap m class tin back ≡ record (begun m (set m.d 15 tin) (handler_a m back) (bit_or m.btv (class * 2 ^ 5)) (handler_psw m.psw) false m.ccpn) { end = Running }
+  trap-is is class tin back = saved_then m true _ is running
+
+  pub call-is : save m true ≡ saved m true → (e : Event) (to : Target) (n : ℕ) → does m e (Call to) n ≡ record (begun m m.d (set m.a 11 (moved m.pc n)) (target_of m to) m.psw m.ie m.ccpn) { end = Running }
+  unfolding does
+  call-is is e to n = saved_then m true _ is running
+
+  pub syscall-is : (e : Event) (tin n : ℕ) → does m e (Syscall tin) n ≡ trap m 6 tin (moved m.pc n)
+  unfolding does
+  syscall-is e tin n = refl
+
+  pub ret-is : restore m true ≡ restored m true → (e : Event) (n : ℕ) → does m e Ret n ≡ record (restored m true) { pc = a11 m / 2 * 2; ie = m.ie; ccpn = m.ccpn; end = Running }
+  unfolding does
+  ret-is is e n = restored_then m true _ is running
+
+  pub rfe-is : restore m true ≡ restored m true → (e : Event) (n : ℕ) → does m e Rfe n ≡ record (restored m true) { pc = a11 m / 2 * 2; ie = pie_of m.core m.pcxi; ccpn = pcpn_of m.core m.pcxi; end = Running }
+  unfolding does
+  rfe-is is e n = restored_then m true _ is running
+
+  pub svlcx-is : save m false ≡ saved m false → (e : Event) (n : ℕ) → does m e Svlcx n ≡ record (saved m false) { pc = moved m.pc n; ie = m.ie; ccpn = m.ccpn; end = Running }
+  unfolding does
+  svlcx-is is e n = saved_then m false _ is running
+
+  pub bisr-is : save m false ≡ saved m false → (e : Event) (c n : ℕ) → does m e (Bisr c) n ≡ record (saved m false) { pc = moved m.pc n; ie = true; ccpn = c; end = Running }
+  unfolding does
+  bisr-is is e c n = saved_then m false _ is running
+
+  pub rslcx-is : restore m false ≡ restored m false → (e : Event) (n : ℕ) → does m e Rslcx n ≡ record (restored m false) { pc = moved m.pc n; end = Running }
+  unfolding does
+  rslcx-is is e n = restored_then m false _ is running
+
+-- an access that traps
+pub traps-is : (m : Machine) (e : Event) (shape : Shape) (n : ℕ) → traps m e shape ≡ true → does m e shape n ≡ misaligned m
+unfolding does
+traps-is m e (Load dst base offset size signed after) n h =
+    ap (λ t. cond t (misaligned m) (advanced n (with_reg (with_base m base offset after) dst (extended signed size (loaded m.mem e.input (access_address m base offset after) size))))) h
+traps-is m e (Store src base offset size after) n h =
+    ap (λ t. cond t (misaligned m) (advanced n (record (with_base m base offset after) { mem = with_bytes m.mem (access_address m base offset after) (reg m src) size }))) h
+traps-is m e _ n h = absurd (let f : false ≡ true = h in cc)

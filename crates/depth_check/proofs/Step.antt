@@ -1,0 +1,346 @@
+-- One event keeps the invariant.
+use Rattle.std.proofs.Common.{◌≡◌, ◌≢◌, ℕ, ◌+◌, ◌-◌, ◌*◌, ◌/◌, ◌%◌, ◌^◌, ◌<◌, ◌≤◌, ◌==◌, inl, inr, Bool, true, false, cond, List, [], ◌∷◌, ◌++◌, length, set, Some, Ok, refl, sym, ap, ◌∙◌, subst, arith, length-append, Contains}
+use Rattle.std.proofs.lemmas.Bool.{cases_Bool}
+use Rattle.std.proofs.lemmas.Nat.{or_lt}
+use Rattle.std.specs.Prelude.{Option, None, IsSomeAnd, IfSome, bit_or}
+use Rattle.csa_chain.specs.Chain.{link_in}
+use Rattle.csa_chain.specs.Contexts.{pie_of, pcpn_of}
+use Rattle.elf_image.specs.Images.{ImageData}
+use Rattle.tcd_plan.specs.PlanData.{PlanData, IsPlan}
+use Rattle.tc_isa.specs.declared.shapes.Shape.{Shape}
+use Rattle.tc_isa.specs.declared.shapes.Shape.TheVariants.{Compute, Scaled, Load, Store, Branch, Jump, Call, Ret, Rfe, Svlcx, Rslcx, Bisr, Enable, Disable, Syscall, Mfcr, Mtcr, Nothing}
+use Rattle.tc_isa.specs.declared.shapes.Target.{Target}
+use Rattle.tc_isa.specs.declared.shapes.Target.TheVariants as target
+use Rattle.tc_machine.specs.declared.events.Event.{Event}
+use Rattle.tc_machine.specs.declared.events.End.TheVariants.{Running}
+use Rattle.tc_machine.specs.declared.state.Machine.{Machine}
+use Rattle.tc_machine.specs.Machine.{reg, a11, is_of, handler_psw, moved, with_status}
+use Rattle.tc_machine.specs.Contexts.{saved, save, restored, restore}
+use Rattle.tc_machine.specs.Instructions.{interrupt, target_of, does}
+use Rattle.tc_machine.specs.Stepping.{is_taken, executed, done, step}
+use Rattle.tc_machine.specs.Fetching.{fetched}
+use Rattle.tc_machine.specs.Safe.{IsMachine, Fits}
+use Rattle.tc_machine.proofs.Saves.{moved-lt}
+use Rattle.tc_machine.proofs.Fetched.{fetched-is}
+use Rattle.tc_machine.proofs.ShapeWords.{IsShape, IsTarget, shape_of-suits}
+use Rattle.tc_machine.proofs.Stays.{irq_lt}
+use Rattle.tc_machine.proofs.Steps.{done-is, step-is, with_event}
+use Rattle.value_domain.specs.declared.states.State.{State}
+use Rattle.vd_transfer.specs.Effects.{saved_lower, restored_lower}
+use Rattle.store_ranges.specs.Laws.{HasImageBytes}
+use Rattle.depth_cert.specs.declared.keys.Key.{Key}
+use Rattle.depth_cert.specs.declared.points.Exit.{Exit}
+use Rattle.depth_cert.specs.Keys.{IsKey}
+use Rattle.depth_cert.specs.Points.{find_point}
+use Rattle.depth_cert.specs.Nodes.{NodeData}
+use Rattle.depth_cert.specs.Certs.{CertData, IsCert, find_node}
+use Rattle.cfg_recover.specs.Code.{IsCode}
+use Rattle.cfg_recover.specs.Entries.{call_key, irq_key, sys_key, aln_key, call_entry, irq_entry, sys_entry, aln_entry, exit_of, after_of}
+use Rattle.cfg_recover.specs.Duties.{jump, enter, resume, leave, owed, duties_of}
+use Rattle.cfg_recover.specs.Accepting.{limits_in, HasPoint, ExitCovers, Accepts}
+use Rattle.cfg_recover.specs.Moves.{IsAtPoint, StaysInFrame, traps}
+use Rattle.cfg_recover.proofs.MoveLaws.{moves_in_frame, traps_owed, calls_owed, interrupts_owed}
+use Rattle.cfg_recover.proofs.EntryLaws.{holds_same, holds_exit}
+use Rattle.depth_check.proofs.Frames.{Frame, Leaves, by_return, from_system, from_handler, Kept, length-ImpliedBy}
+use Rattle.depth_check.proofs.Enter.{Begins, begun, entered, room, begins, saves, reg_lt}
+use Rattle.depth_check.proofs.Leave.{globals_held, comes_back, restores, none_held}
+use Rattle.depth_check.proofs.Plain.{Kept-moved}
+use Rattle.depth_check.proofs.AcceptedRules.{limits_are, PointHolds, node_is, rules_at, Found, node_found}
+use Rattle.depth_check.proofs.Entries.{PointFor, point_for, if_some, call_begins}
+use Rattle.depth_check.proofs.Handlers.{handler_a, irq_begins, aln_begins, sys_begins}
+use Rattle.depth_check.proofs.Locals.{with_locals, lower_pushed, lower_popped}
+use Rattle.depth_check.proofs.Lengths.{jump_long}
+use Rattle.depth_check.proofs.Owes.{owes-svlcx, owes-bisr, owes-rslcx, owes-syscall, owes-syscall_back, owes-ret, owes-rfe, interrupt-is, trap-is, call-is, syscall-is, ret-is, rfe-is, svlcx-is, bisr-is, rslcx-is, traps-is}
+
+-- the invariant, with some frames
+pub record Goes (image : ImageData) (plan : PlanData) (cert : CertData) (most : ℕ) (m : Machine) : Type 0 where
+  pub frame : Frame
+  pub below : List Frame
+  pub kept : Kept image plan cert most m frame below
+
+-- ---- shapes
+shape_is : (image : ImageData) (plan : PlanData) (p : ℕ) (shape : Shape) (n : ℕ) → IsCode image plan p shape n → IsShape shape
+shape_is image plan p shape n code = subst IsShape code.shaped (shape_of-suits code.inst ((code.spells).spelled).inst)
+
+target_lt : (m : Machine) → IsMachine m → (to : Target) → IsTarget to → target_of m to < 2 ^ 32
+target_lt m words (target.Rel by) h = moved-lt m.pc by
+target_lt m words (target.Abs x) h = h
+target_lt m words (target.Reg r) h = let small = reg_lt m words r in omega arith
+
+-- the status byte of an event leaves PSW.IS
+status_is : (psw status : ℕ) → is_of (with_status psw status) ≡ is_of psw
+status_is psw status = ap (λ b. b == 1) (bit psw status)
+  where
+    bit : (psw status : ℕ) → (status * 2 ^ 24 + psw % 2 ^ 24) / 2 ^ 9 % 2 ≡ psw / 2 ^ 9 % 2
+    bit psw status = omega arith
+
+pub Kept-event : (image : ImageData) (plan : PlanData) (cert : CertData) (most : ℕ) (m : Machine) (e : Event) (frame : Frame) (below : List Frame) → Kept image plan cert most m frame below → Kept image plan cert most (with_event m e) frame below
+Kept-event image plan cert most m e frame below k = record {
+  stands = k.stands;
+  point = k.point;
+  found = k.found;
+  inside = k.inside;
+  flags = k.flags;
+  is = status_is m.psw e.status ∙ k.is;
+  lower_kept = k.lower_kept;
+  frames = k.frames;
+  free = k.free;
+  areas = k.areas;
+  rom = k.rom;
+  memory = k.memory;
+  biv = k.biv;
+  btv = k.btv;
+  isp = k.isp;
+  running = k.running;
+}
+
+points_for : (node : NodeData) (q : ℕ) (s : State) (kind : ℕ) (o : Option Exit) → IfSome o (λ x. HasPoint node q (after_of s x kind)) → IfSome o (λ x. PointFor node q (after_of s x kind))
+points_for node q s kind None h = tt
+points_for node q s kind (Some x) h = point_for node q (after_of s x kind) (find_point q node.points) refl h
+
+-- an exit of a node that covers another
+record ExitFor (node : NodeData) (x : Exit) : Type 0 where
+  pub exit : Exit
+  pub is : node.exit ≡ Some exit
+  pub covers : ExitCovers exit x
+
+exit_for : (node : NodeData) (x : Exit) (o : Option Exit) → node.exit ≡ o → IsSomeAnd o (λ y. ExitCovers y x) → ExitFor node x
+exit_for node x None e h = absurd h
+exit_for node x (Some y) e h = record { exit = y; is = e; covers = h }
+
+module _ (image : ImageData) (plan : PlanData) (ok : IsPlan plan) (cert : CertData) (most : ℕ) (few : most ≤ plan.areas - plan.reserve) (is_cert : IsCert cert) (accepted : Accepts image plan cert) (bytes : HasImageBytes image) where
+  -- the node that a duty to enter names
+  record NodeFor (frame : Frame) (s : State) (key : Key) (t : State) : Type 0 where
+    pub node : NodeData
+    pub is : find_node key cert.nodes ≡ Some node
+    pub found : Found image plan cert is_cert accepted key node
+    pub at : PointFor node key.entry t
+    pub room : length s.locals.items + 1 + node.need ≤ (frame.node).need
+
+  node_for : (frame : Frame) (s : State) (key : Key) (t : State) → IsKey key → (o : Option NodeData) → find_node key cert.nodes ≡ o → IsSomeAnd o (λ n. HasPoint n key.entry t) → IfSome o (λ n. length s.locals.items + 1 + n.need ≤ (frame.node).need) → NodeFor frame s key t
+  node_for frame s key t small None e h fits = absurd h
+  node_for frame s key t small (Some n) e h fits =
+      record { node = n; is = e; found = node_found image plan cert is_cert accepted key n small e; at = point_for n key.entry t (find_point key.entry n.points) refl h; room = fits }
+
+  module _ (m : Machine) (words : IsMachine m) (frame : Frame) (below : List Frame) (k : Kept image plan cert most m frame below) where
+    key_small : IsKey (frame.node).key
+    key_small = (node_is image plan cert is_cert accepted frame.node k.stands).key
+
+    -- ---- frames that begin
+    record Began (d a : List ℕ) (pc psw : ℕ) (ie : Bool) (ccpn : ℕ) : Type 0 where
+      pub saves : save m true ≡ saved m true
+      pub goes : Goes image plan cert most (record (begun m d a pc psw ie ccpn) { end = Running })
+
+    began : (d a : List ℕ) (pc psw : ℕ) (ie : Bool) (ccpn : ℕ) → Begins plan cert m frame (k.point).state d a pc psw ie ccpn → Began d a pc psw ie ccpn
+    began d a pc psw ie ccpn b =
+        let free = room image plan ok cert most few m frame below k (b.node).need b.need in
+        record {
+          saves = saves image plan ok cert most few m frame below k free true;
+          goes = record {
+            frame = entered m b.node;
+            below = frame ∷ below;
+            kept = begins image plan ok cert most few m frame below k words d a pc psw ie ccpn b free (globals_held plan (reg m) m.ie m.ccpn (k.point).state k.inside);
+          };
+        }
+
+    module _ (shape : Shape) (n : ℕ) (h : PointHolds image plan cert frame.node m.pc (k.point).state shape n) where
+      pub at_point : IsAtPoint (limits_in plan cert) image plan (frame.node).key m (k.point).state shape n
+      at_point = record {
+        limits = limits_are plan cert.version;
+        is_plan = ok;
+        bytes = bytes;
+        machine = words;
+        running = k.running;
+        memory = k.memory;
+        rom = k.rom;
+        code = h.code;
+        own = h.own;
+        regs = h.regs;
+        values = h.values;
+        inside = k.inside;
+      }
+
+      entering : (rule : ℕ) (key : Key) (t : State) → IsKey key → Contains (duties_of (limits_in plan cert) image plan (frame.node).key m.pc (k.point).state shape n) (owed rule (enter key t)) → NodeFor frame (k.point).state key t
+      entering rule key t small owes = node_for frame (k.point).state key t small (find_node key cert.nodes) refl (h.met (owed rule (enter key t)) owes) (h.entered (owed rule (enter key t)) owes)
+
+      resuming : (rule : ℕ) (key : Key) (t : State) (q : ℕ) → (f : NodeFor frame (k.point).state key t) → Contains (duties_of (limits_in plan cert) image plan (frame.node).key m.pc (k.point).state shape n) (owed rule (resume key q))
+          → IfSome (f.node).exit (λ x. PointFor frame.node q (after_of (k.point).state x key.kind))
+      resuming rule key t q f owes =
+          points_for frame.node q (k.point).state key.kind (f.node).exit
+          (if_some (λ n. IfSome n.exit (λ x. HasPoint frame.node q (after_of (k.point).state x key.kind))) (find_node key cert.nodes) f.node (h.met (owed rule (resume key q)) owes) f.is)
+
+      jumping : (q : ℕ) (t : State) → Contains (duties_of (limits_in plan cert) image plan (frame.node).key m.pc (k.point).state shape n) (owed 4 (jump q t)) → PointFor frame.node q t
+      jumping q t owes = point_for frame.node q t (find_point q (frame.node).points) refl (h.met (owed 4 (jump q t)) owes)
+
+      -- ---- inside the frame
+      plain : (e : Event) → Fits plan m e → is_taken m e ≡ false → StaysInFrame shape → traps m e shape ≡ false → Goes image plan cert most (does m e shape n)
+      plain e fits none stays free =
+          let mv = moves_in_frame (limits_in plan cert) image plan (frame.node).key m e (k.point).state shape n at_point fits none stays free in
+          let at = jumping (does m e shape n).pc mv.state mv.owes in
+          record {
+            frame = frame;
+            below = below;
+            kept = Kept-moved image plan ok cert most m (does m e shape n) frame below k mv.state mv.moves
+                (jump_long (limits_in plan cert) image plan (frame.node).key m.pc (k.point).state n h.regs shape (does m e shape n).pc mv.state mv.owes) at.point at.found at.covers;
+          }
+
+      -- ---- a misaligned access
+      trapped : (e : Event) → traps m e shape ≡ true → Goes image plan cert most (does m e shape n)
+      trapped e t =
+          let small : IsKey (aln_key plan (frame.node).key) = record { kind = omega arith; entry = or_lt 32 plan.btv (2 * 2 ^ 5) (ok.words).btv (omega arith); prio = key_small.prio } in
+          let f = entering 10 (aln_key plan (frame.node).key) (aln_entry plan (frame.node).key (k.point).state) small (traps_owed (limits_in plan cert) image plan (frame.node).key m e (k.point).state shape n at_point t) in
+          let b = began (set m.d 15 4) (handler_a m m.pc) (bit_or m.btv (2 * 2 ^ 5)) (handler_psw m.psw) false m.ccpn
+          (aln_begins image plan cert most is_cert accepted m words frame below k h.regs f.node f.found f.at f.room) in
+          subst (Goes image plan cert most) (sym (traps-is m e shape n t ∙ trap-is m k.running b.saves 2 4 m.pc)) b.goes
+
+      -- ---- an interrupt
+      pub interrupted : (e : Event) → Fits plan m e → is_taken m e ≡ true → Goes image plan cert most (interrupt m e.irq)
+      interrupted e fits taken =
+          let low = irq_lt ok m e fits in
+          let small : IsKey (irq_key plan e.irq) = record { kind = omega arith; entry = or_lt 32 plan.biv (e.irq * 2 ^ 5) (ok.words).biv (omega arith); prio = low } in
+          let f = entering 11 (irq_key plan e.irq) (irq_entry plan (frame.node).key (k.point).state e.irq) small (interrupts_owed (limits_in plan cert) image plan (frame.node).key m e (k.point).state shape n at_point fits taken) in
+          let b = began m.d (handler_a m m.pc) (bit_or m.biv (e.irq * 2 ^ 5)) (handler_psw m.psw) false e.irq
+          (irq_begins image plan cert most is_cert accepted m words frame below k h.regs e.irq f.node f.found f.at f.room) in
+          subst (Goes image plan cert most) (sym (interrupt-is m k.running b.saves e.irq)) b.goes
+
+    -- ---- a call
+    calls : (e : Event) (to : Target) (n : ℕ) → PointHolds image plan cert frame.node m.pc (k.point).state (Call to) n → Goes image plan cert most (does m e (Call to) n)
+    calls e to n h =
+        let key = call_key (frame.node).key (target_of m to) in
+        let small : IsKey (call_key (frame.node).key (target_of m to)) = record { kind = omega arith; entry = target_lt m words to (shape_is image plan m.pc (Call to) n h.code); prio = key_small.prio } in
+        let owes = calls_owed (limits_in plan cert) image plan (frame.node).key m (k.point).state to n (at_point (Call to) n h) in
+        let f = entering (Call to) n h 5 (call_key (frame.node).key (target_of m to)) (call_entry (k.point).state) small owes.entered in
+        let exits = resuming (Call to) n h 4 (call_key (frame.node).key (target_of m to)) (call_entry (k.point).state) (moved m.pc n) f owes.back in
+        let b = began m.d (set m.a 11 (moved m.pc n)) (target_of m to) m.psw m.ie m.ccpn
+        (call_begins image plan cert most is_cert accepted m words frame below k h.regs (target_of m to) (moved m.pc n) (moved-lt m.pc n) f.node f.found f.at exits f.room) in
+        subst (Goes image plan cert most) (sym (call-is m k.running b.saves e to n)) b.goes
+
+    -- ---- a system call
+    system : (e : Event) (tin n : ℕ) → PointHolds image plan cert frame.node m.pc (k.point).state (Syscall tin) n → Goes image plan cert most (does m e (Syscall tin) n)
+    system e tin n h =
+        let small : IsKey (sys_key plan (frame.node).key) = record { kind = omega arith; entry = or_lt 32 plan.btv (6 * 2 ^ 5) (ok.words).btv (omega arith); prio = key_small.prio } in
+        let tin_small : tin < 2 ^ 32 = shape_is image plan m.pc (Syscall tin) n h.code in
+        let f = entering (Syscall tin) n h 12 (sys_key plan (frame.node).key) (sys_entry plan (frame.node).key (k.point).state tin) small
+        (owes-syscall (limits_in plan cert) image plan (frame.node).key m.pc (k.point).state n tin) in
+        let exits = resuming (Syscall tin) n h 4 (sys_key plan (frame.node).key) (sys_entry plan (frame.node).key (k.point).state tin) (moved m.pc n) f
+        (owes-syscall_back (limits_in plan cert) image plan (frame.node).key m.pc (k.point).state n tin) in
+        let b = began (set m.d 15 tin) (handler_a m (moved m.pc n)) (bit_or m.btv (6 * 2 ^ 5)) (handler_psw m.psw) false m.ccpn
+        (sys_begins image plan cert most is_cert accepted m words frame below k h.regs tin tin_small (moved m.pc n) (moved-lt m.pc n) f.node f.found f.at exits f.room) in
+        subst (Goes image plan cert most) (sym (syscall-is m k.running e tin n ∙ trap-is m k.running b.saves 6 tin (moved m.pc n))) b.goes
+
+  -- ---- frames that end
+  -- no frame is left below the start's
+  left_to : (m : Machine) (words : IsMachine m) (frame : Frame) (below : List Frame) (k : Kept image plan cert most m frame below) → length ((k.point).state).locals.items ≡ 0 → (frame.node).key.kind ≢ 0 →
+      (ie : Bool) (ccpn : ℕ) → Leaves (pie_of m.core m.pcxi) (pcpn_of m.core m.pcxi) frame.node frame.word0 (reg m) ie ccpn → (n : Machine) →
+      (restore m true ≡ restored m true → n ≡ record (restored m true) { pc = a11 m / 2 * 2; ie = ie; ccpn = ccpn; end = Running }) → Goes image plan cert most n
+  left_to m words frame [] k none other ie ccpn leaves n is = absurd (other ((k.frames).1).kind)
+  left_to m words frame (suspended ∷ below) k none other ie ccpn leaves n is =
+      let held = none_held image plan ok cert most few m frame (suspended ∷ below) k none in
+      subst (Goes image plan cert most) (sym (is (restores image plan ok cert most few m words frame suspended below k held)))
+      (record { frame = suspended; below = below; kept = comes_back image plan ok cert most few m words frame suspended below k held ie ccpn leaves })
+
+  module _ (m : Machine) (words : IsMachine m) (frame : Frame) (below : List Frame) (k : Kept image plan cert most m frame below) where
+    leaving : (rule n : ℕ) (shape : Shape) → (h : PointHolds image plan cert frame.node m.pc (k.point).state shape n) → Contains (duties_of (limits_in plan cert) image plan (frame.node).key m.pc (k.point).state shape n) (owed rule (leave (exit_of (k.point).state))) → ExitFor frame.node (exit_of (k.point).state)
+    leaving rule n shape h owes = exit_for frame.node (exit_of (k.point).state) (frame.node).exit refl (h.met (owed rule (leave (exit_of (k.point).state))) owes)
+
+    returns : (e : Event) (n : ℕ) → PointHolds image plan cert frame.node m.pc (k.point).state Ret n → Goes image plan cert most (does m e Ret n)
+    returns e n h =
+        let own = (h.own 6).returns refl in
+        let kind = own.0 in
+        let x = leaving 6 n Ret h (owes-ret (limits_in plan cert) image plan (frame.node).key m.pc (k.point).state n) in
+        left_to m words frame below k own.1 (λ zero_kind. omega arith) m.ie m.ccpn
+        (by_return x.exit x.is own.0 (holds_exit plan (k.point).state (reg m) m.ie m.ccpn x.exit h.regs x.covers k.inside)) (does m e Ret n) (λ is. ret-is m k.running is e n)
+
+    comes_from : (e : Event) (n : ℕ) → PointHolds image plan cert frame.node m.pc (k.point).state Rfe n → Goes image plan cert most (does m e Rfe n)
+    comes_from e n h =
+        let own = (h.own 7).exceptions refl in
+        elim own.1 [
+          | inl handler ↦
+              left_to m words frame below k own.0 (λ z. elim handler.0 [ inl two ↦ omega arith | inr four ↦ omega arith ]) (pie_of m.core m.pcxi) (pcpn_of m.core m.pcxi) (from_handler handler.0 (k.lower_kept handler.1) refl refl)
+              (does m e Rfe n) (λ is. rfe-is m k.running is e n)
+          | inr sys ↦
+              let x = leaving 7 n Rfe h (owes-rfe (limits_in plan cert) image plan (frame.node).key m.pc (k.point).state n sys) in
+              left_to m words frame below k own.0 (λ z. omega arith) (pie_of m.core m.pcxi) (pcpn_of m.core m.pcxi)
+              (from_system x.exit m.ie m.ccpn x.is sys (holds_exit plan (k.point).state (reg m) m.ie m.ccpn x.exit h.regs x.covers k.inside) refl refl) (does m e Rfe n) (λ is. rfe-is m k.running is e n)
+        ]
+
+    -- ---- lower contexts
+    saves_lower : (shape : Shape) (n : ℕ) (h : PointHolds image plan cert frame.node m.pc (k.point).state shape n) (pc : ℕ) (ie : Bool) (ccpn : ℕ) →
+        Contains (duties_of (limits_in plan cert) image plan (frame.node).key m.pc (k.point).state shape n) (owed 4 (jump pc (record (saved_lower (k.point).state) { ie = ie; ccpn = ccpn }))) → (ie2 : Bool) (ccpn2 : ℕ) → (ie2 ≡ true → ie ≡ true) → ccpn ≤ ccpn2 →
+        (n2 : Machine) → (save m false ≡ saved m false → n2 ≡ record (saved m false) { pc = pc; ie = ie2; ccpn = ccpn2; end = Running }) → Goes image plan cert most n2
+    saves_lower shape n h pc ie ccpn owes ie2 ccpn2 enabled priority n2 is =
+        let t : State = record (saved_lower (k.point).state) { ie = ie; ccpn = ccpn } in
+        let at = jumping m words frame below k shape n h pc (record (saved_lower (k.point).state) { ie = ie; ccpn = ccpn }) owes in
+        let next = (rules_at image plan cert is_cert accepted frame.node pc at.point k.stands at.found).holds in
+        let fits = next.locals in
+        let same = length-ImpliedBy ((at.point).state).locals.items (((k.point).state).locals.items ++ ((k.point).state).lower ∷ []) (at.covers).locals in
+        let long = length-append ((k.point).state).locals.items (((k.point).state).lower ∷ []) in
+        let free = room image plan ok cert most few m frame below k 0 (omega arith) in
+        subst (Goes image plan cert most) (sym (is (saves image plan ok cert most few m frame below k free false)))
+        (record {
+          frame = with_locals frame (link_in m.fcx ∷ frame.locals) (((k.point).state).lower ∷ frame.flags);
+          below = below;
+          kept = lower_pushed image plan ok cert most few m words frame below k free pc ie2 ccpn2 (record (saved_lower (k.point).state) { ie = ie; ccpn = ccpn }) refl refl h.regs
+              (holds_same plan (k.point).state (record (saved_lower (k.point).state) { ie = ie; ccpn = ccpn }) (reg m) (reg m) m.ie ie2 m.ccpn ccpn2 refl enabled priority (reg_lt m words 27) (λ r lt other. refl) k.inside) at;
+        })
+
+    restores_lower : (e : Event) (n : ℕ) → PointHolds image plan cert frame.node m.pc (k.point).state Rslcx n → Goes image plan cert most (does m e Rslcx n)
+    restores_lower e n h =
+        let at = jumping m words frame below k Rslcx n h (moved m.pc n) (restored_lower (k.point).state) (owes-rslcx (limits_in plan cert) image plan (frame.node).key m.pc (k.point).state n) in
+        let p = lower_popped image plan ok cert most few m words frame below k (moved m.pc n) ((h.own 8).room refl) h.regs at in
+        subst (Goes image plan cert most) (sym (rslcx-is m k.running p.restores e n)) (record { frame = p.frame2; below = below; kept = p.kept })
+
+    -- ---- what the instruction at pc does
+    module _ (e : Event) (fits : Fits plan m e) (none : is_taken m e ≡ false) where
+      accesses : (shape : Shape) (n : ℕ) (h : PointHolds image plan cert frame.node m.pc (k.point).state shape n) → StaysInFrame shape → Goes image plan cert most (does m e shape n)
+      accesses shape n h stays =
+          elim (cases_Bool (traps m e shape)) [
+            | inl t ↦ trapped m words frame below k shape n h e t
+            | inr f ↦ plain m words frame below k shape n h e fits none stays f
+          ]
+
+      pub follows : (shape : Shape) (n : ℕ) → PointHolds image plan cert frame.node m.pc (k.point).state shape n → Goes image plan cert most (does m e shape n)
+      follows (Compute op dst x y) n h = accesses (Compute op dst x y) n h tt
+      follows (Scaled dst base index c) n h = accesses (Scaled dst base index c) n h tt
+      follows (Load dst base offset size signed after) n h = accesses (Load dst base offset size signed after) n h tt
+      follows (Store src base offset size after) n h = accesses (Store src base offset size after) n h tt
+      follows (Branch test x y by lowers) n h = accesses (Branch test x y by lowers) n h tt
+      follows (Jump to) n h = accesses (Jump to) n h tt
+      follows (Call to) n h = calls m words frame below k e to n h
+      follows Ret n h = returns e n h
+      follows Rfe n h = comes_from e n h
+      follows Svlcx n h =
+          saves_lower Svlcx n h (moved m.pc n) ((k.point).state).ie ((k.point).state).ccpn (owes-svlcx (limits_in plan cert) image plan (frame.node).key m.pc (k.point).state n) m.ie m.ccpn
+          (k.inside).enabled (k.inside).priority (does m e Svlcx n) (λ is. svlcx-is m k.running is e n)
+      follows Rslcx n h = restores_lower e n h
+      follows (Bisr c) n h =
+          saves_lower (Bisr c) n h (moved m.pc n) true c (owes-bisr (limits_in plan cert) image plan (frame.node).key m.pc (k.point).state n c) true c
+          (λ t. t) (omega arith) (does m e (Bisr c) n) (λ is. bisr-is m k.running is e c n)
+      follows Enable n h = accesses Enable n h tt
+      follows Disable n h = accesses Disable n h tt
+      follows (Syscall tin) n h = system m words frame below k e tin n h
+      follows (Mfcr dst number) n h = accesses (Mfcr dst number) n h tt
+      follows (Mtcr src number) n h = absurd ((h.own 13).writes refl)
+      follows Nothing n h = accesses Nothing n h tt
+
+  -- ---- one event
+  done-kept : (m : Machine) → IsMachine m → (e : Event) → Fits plan m e → (g : Goes image plan cert most m) → Goes image plan cert most (done m e)
+  done-kept m words e fits g =
+      let k = g.kept in
+      let r = rules_at image plan cert is_cert accepted (g.frame).node m.pc (g.kept).point (g.kept).stands (g.kept).found in
+      let code = (r.holds).code in
+      elim (cases_Bool (is_taken m e)) [
+        | inl taken ↦
+            subst (Goes image plan cert most) (sym (ap (λ t. cond t (interrupt m e.irq) (executed m e (fetched m))) taken))
+            (interrupted m words g.frame g.below g.kept r.shape r.size r.holds e fits taken)
+        | inr none ↦
+            let at : fetched m ≡ Ok (r.shape, r.size) = fetched-is image ok m (g.kept).rom code.even code.bytes code.inst code.spells ∙ ap (λ s. Ok (s, length code.bytes)) code.shaped ∙ ap (λ l. Ok (r.shape, l)) code.sized in
+            subst (Goes image plan cert most) (sym (done-is m e r.shape r.size none at))
+            (follows m words g.frame g.below g.kept e fits none r.shape r.size r.holds)
+      ]
+
+  pub step-kept : (m : Machine) → IsMachine m → (e : Event) → Fits plan m e → Goes image plan cert most m → Goes image plan cert most (step m e)
+  step-kept m words e fits g =
+      let after = done-kept m words e fits g in
+      subst (Goes image plan cert most) (sym (step-is m e (g.kept).running (after.kept).running))
+      (record { frame = after.frame; below = after.below; kept = Kept-event image plan cert most (done m e) e after.frame after.below after.kept })
