@@ -101,8 +101,8 @@ pub certified_text : (image : ImageData) (fields plan : PlanData) (cert : CertDa
 certified_text image fields plan cert need t same accepted is safe e =
     let areas : fields.areas - fields.reserve ≡ plan.areas - plan.reserve = ap (λ (p : PlanData). p.areas - p.reserve) same in
     text_by (λ x. Judged image plan cert Done x) t (certified_line (certified_need image plan cert) (plan.areas - plan.reserve))
-        (e ∙ ap (λ (n : ℕ). certified_line n (fields.areas - fields.reserve)) is ∙ ap (λ (n : ℕ). certified_line (certified_need image plan cert) n) areas)
-        (certified accepted (let P : ℕ → Type 0 = λ n. Safe image plan n in subst P is safe))
+    (e ∙ ap (λ (n : ℕ). certified_line n (fields.areas - fields.reserve)) is ∙ ap (λ (n : ℕ). certified_line (certified_need image plan cert) n) areas)
+    (certified accepted (let P : ℕ → Type 0 = λ n. Safe image plan n in subst P is safe))
 
 pub script_text : (held : Option Map) (name bytes items t : List ℕ) (plan : PlanData) → items ≡ bytes → Reads held name bytes → length bytes ≤ 2 ^ 24 → IsBadScript plan items t → ScriptText held name plan t
 script_text held name bytes items t plan same reads within bad =

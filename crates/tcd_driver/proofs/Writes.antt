@@ -23,11 +23,11 @@ wrote_more writes i w steady steady' steady'' held held' held'' a b c lt h set s
     let e : suc i ≡ i + 1 = omega arith in
     let P : ℕ → Type 0 = λ n. HasWritten writes n steady steady'' held held'' a c in
     subst P e (record {
-  held_is = set ∙ ap (λ (m : Option Map). with_file m (get_or writes i w).name (get_or writes i w).bytes) h.held_is ∙ sym (with_more held writes i w lt);
-  steady_stays = stays ∙ h.steady_stays;
-  later = let x = h.later in omega arith;
-  sure = λ s. sure (subst IsTrue (sym h.steady_stays) s) ∙ h.sure s;
-})
+      held_is = set ∙ ap (λ (m : Option Map). with_file m (get_or writes i w).name (get_or writes i w).bytes) h.held_is ∙ sym (with_more held writes i w lt);
+      steady_stays = stays ∙ h.steady_stays;
+      later = let x = h.later in omega arith;
+      sure = λ s. sure (subst IsTrue (sym h.steady_stays) s) ∙ h.sure s;
+    })
 
 parted : (ws : List Written) (i : ℕ) (w : Written) → i < length ws → ws ≡ take i ws ++ get_or ws i w ∷ drop (suc i) ws
 parted [] i w lt = absurd (omega arith)

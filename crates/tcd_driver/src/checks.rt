@@ -66,11 +66,7 @@ fn judge(alloc: Global, image: &Image, plan: &Plan, cert: &Cert) -> Outcome
             )
         }
         Verdict::No { rule, key, addr } => {
-            says(
-                alloc,
-                Status::Refused,
-                refused_line(alloc, rule, key, addr),
-            )
+            says(alloc, Status::Refused, refused_line(alloc, rule, key, addr))
         }
     }
 }

@@ -281,7 +281,12 @@ fn run_front(alloc: Global, events: u32, peak: u32) -> Result<Vec<u8>, NoMemory>
 
 // What a run came to.
 #[tactic(auto, unfolding(crate::specs::Lines::run_line))]
-pub(crate) fn run_line(alloc: Global, events: u32, peak: u32, m: &Machine) -> Result<Vec<u8>, NoMemory>
+pub(crate) fn run_line(
+    alloc: Global,
+    events: u32,
+    peak: u32,
+    m: &Machine,
+) -> Result<Vec<u8>, NoMemory>
     ensures { IfOk result (λ line. line.items ≡ run_line events peak m.now) }
 {
     let mut line = run_front(alloc, events, peak)?;

@@ -11,5 +11,5 @@ pub loop-write-preserved : goal.loop-write-preserved
 loop-write-preserved g c =
     wrote_more c.args.writes.now c.loop-write.write-index c.write-item.result _ _ _ _ _ _ _ _ _ c.loop-write-test.true c.loop-write.invariant
     (set_by _ _ _ _ _ _ (item_name c.args.writes.now c.loop-write.write-index c.write-item.result _ _ c.write-item.is c.write.view_is c.deref.ensures)
-        (item_bytes c.args.writes.now c.loop-write.write-index c.write-item.result _ _ c.write-item.is c.write.view_is c.deref-in-loop-write.ensures.value) c.in-Ok.ensures.set)
+    (item_bytes c.args.writes.now c.loop-write.write-index c.write-item.result _ _ c.write-item.is c.write.view_is c.deref-in-loop-write.ensures.value) c.in-Ok.ensures.set)
     c.write-in-loop-write.ensures.steady c.write-in-loop-write.ensures.cause.later c.write-in-loop-write.ensures.sure
