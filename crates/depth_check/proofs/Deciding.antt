@@ -1,6 +1,6 @@
 -- Tests that decide a fact, and what is found in a list.
-use Rattle.std.proofs.Common.{◌≡◌, ℕ, zero, suc, Bool, true, false, ◌≤◌, ◌<◌, ◌+◌, List, [], ◌∷◌, length, get_or, take, subst, sym, refl, arith, Option, Some, None, inl, inr}
-use Rattle.std.specs.Prelude.{IsTrue, ◌↔◌, Contains, All, IsSomeAnd}
+use Rattle.std.proofs.Common.{◌≡◌, ℕ, suc, Bool, true, false, ◌≤◌, ◌<◌, ◌+◌, List, [], ◌∷◌, length, get_or, take, subst, sym, refl, arith, Some, None, inl, inr}
+use Rattle.std.specs.Prelude.{IsTrue, ◌↔◌, Contains, All}
 use Rattle.std.specs.List.{find}
 use Rattle.std.proofs.lemmas.Bool.{cases_Bool}
 use Rattle.std.proofs.lemmas.List.{take_all}

@@ -1,6 +1,6 @@
 -- The least rule that duties break, from those of parts of their list.
-use Rattle.std.proofs.Common.{◌≡◌, ℕ, ◌≤◌, ◌<◌, ◌+◌, Bool, true, false, List, [], ◌∷◌, ◌++◌, length, map, take, get_or, Option, Some, None, inl, inr, arith, refl, subst, sym, ◌∙◌, ap, eqb, eq-eqb, ◌==◌}
-use Rattle.std.specs.Prelude.{IsTrue, ◌↔◌, All, IfSome}
+use Rattle.std.proofs.Common.{◌≡◌, ℕ, ◌≤◌, ◌<◌, ◌+◌, Bool, List, [], ◌∷◌, ◌++◌, length, take, get_or, Option, Some, None, inl, inr, arith, refl, subst, sym, ◌∙◌, ap, eq-eqb, ◌==◌}
+use Rattle.std.specs.Prelude.{IsTrue, ◌↔◌, All}
 use Rattle.std.specs.List.{flat_map}
 use Rattle.std.proofs.lemmas.Bool.{cases_Bool, eqb-true}
 use Rattle.std.proofs.lemmas.List.{append-nil, get_or_append_left, get_or-append-add, length-append, take_more, take_all, map-append}
@@ -19,8 +19,8 @@ use Rattle.cfg_recover.specs.declared.flows.Leave.TheVariants.{Stays, Ret, Rfe}
 use Rattle.cfg_recover.specs.Entries.{exit_of, irq_key}
 use Rattle.cfg_recover.specs.Duties.{Owed, owed, jump, enter, resume, leave, jumps_to}
 use Rattle.cfg_recover.specs.Flows.{entered_key, told_back, told_entry, told_irqs, told_jump, told_jumps, told_leaving, rule_of_entry, told_by}
-use Rattle.cfg_recover.specs.Accepting.{HasPoint, IsMet}
-use Rattle.depth_check.specs.Finding.{Finds, IsLeastBroken, least_of, unless, DutyHolds, DutiesHold, HasPoints, IsJumpMet, GoesOn, HasExit, LeavingHolds}
+use Rattle.cfg_recover.specs.Accepting.{HasPoint}
+use Rattle.depth_check.specs.Finding.{Finds, least_of, unless, DutyHolds, DutiesHold, HasPoints, IsJumpMet, GoesOn, HasExit, LeavingHolds}
 use Rattle.depth_check.proofs.LeastLaws.{found_by, found_both, found_same}
 
 -- what holds of an appended list holds of its parts

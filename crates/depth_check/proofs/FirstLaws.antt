@@ -1,5 +1,5 @@
 -- The first fault of a certificate, from those of its nodes one after another.
-use Rattle.std.proofs.Common.{◌≡◌, ℕ, ◌≤◌, ◌<◌, ◌+◌, ◌*◌, ◌^◌, ◌-◌, ◌⊎◌, List, length, get_or, take, map, Bool, true, false, Option, Some, None, arith, inl, inr, refl, subst, sym, ap, ◌∙◌, ◌==◌}
+use Rattle.std.proofs.Common.{◌≡◌, ℕ, ◌≤◌, ◌<◌, ◌+◌, ◌*◌, ◌^◌, ◌-◌, List, length, get_or, take, map, Bool, true, false, Option, Some, None, arith, inl, inr, refl, subst, sym, ap, ◌∙◌, ◌==◌}
 use Rattle.std.specs.Prelude.{All, Contains, IsSomeAnd}
 use Rattle.std.proofs.lemmas.Bool.{eqb-true}
 use Rattle.std.specs.List.Sorted.{IsStrictlyIncreasing}

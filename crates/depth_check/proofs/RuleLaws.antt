@@ -1,30 +1,28 @@
 -- The least rule that fails at a point, from its values, its own fault, its duties and its need.
-use Rattle.std.proofs.Common.{◌≡◌, ℕ, ◌≤◌, ◌<◌, ◌-◌, Bool, List, length, get_or, Option, Some, None, arith, inl, inr, refl, subst, sym, ap, ◌∙◌}
-use Rattle.std.specs.Prelude.{IsTrue, ◌↔◌, All, Contains, IfSome}
+use Rattle.std.proofs.Common.{◌≡◌, ℕ, ◌≤◌, Bool, List, get_or, Option, Some, None, arith, inl, inr, refl, subst, sym, ap, ◌∙◌}
+use Rattle.std.specs.Prelude.{IsTrue, ◌↔◌, All, Contains}
 use Rattle.std.proofs.lemmas.Bool.{cases_lt}
 use Rattle.std.proofs.lemmas.List.Elements.{All-contains, All-weaker, Contains-get_or}
 use Rattle.elf_image.specs.Images.{ImageData}
 use Rattle.tcd_plan.specs.PlanData.{PlanData}
 use Rattle.tc_isa.specs.declared.shapes.Shape.{Shape}
-use Rattle.value_domain.specs.declared.states.State.{State}
 use Rattle.value_domain.specs.declared.values.Val.{Val}
 use Rattle.value_domain.specs.Limits.{Limits}
 use Rattle.value_domain.specs.State.{AreValues, AreWell}
 use Rattle.depth_cert.specs.declared.points.Point.{Point}
-use Rattle.depth_cert.specs.declared.keys.Key.{Key}
 use Rattle.depth_cert.specs.Nodes.{NodeData}
 use Rattle.depth_cert.specs.Certs.{CertData}
 use Rattle.cfg_recover.specs.declared.flows.Jump.{Jump}
 use Rattle.cfg_recover.specs.declared.flows.Enter.{Enter}
 use Rattle.cfg_recover.specs.declared.flows.Flow.{Flow}
 use Rattle.cfg_recover.specs.Code.{IsCode}
-use Rattle.cfg_recover.specs.Own.{OwnHolds, IsOwnFault, IsFaultless}
+use Rattle.cfg_recover.specs.Own.{IsOwnFault}
 use Rattle.cfg_recover.specs.Duties.{Owed, duties_of}
 use Rattle.cfg_recover.specs.Flows.{Tells, told_by}
 use Rattle.cfg_recover.specs.FlowValues.{HasValues, JumpsWithValues, EntersWithValues}
-use Rattle.cfg_recover.specs.Accepting.{limits_in, RuleHolds, HasNeed, IsMet, IsNeedAbove}
+use Rattle.cfg_recover.specs.Accepting.{limits_in, RuleHolds, IsNeedAbove}
 use Rattle.cfg_recover.proofs.CodeLaws.{IsCode-one}
-use Rattle.depth_check.specs.Finding.{IsWellFlow, IsWellJump, IsWellEnter, Finds, IsLeastBroken, least_of, unless, DutyHolds, DutiesHold, HasOwnNeed}
+use Rattle.depth_check.specs.Finding.{IsWellFlow, IsWellJump, IsWellEnter, Finds, least_of, unless, DutyHolds, DutiesHold, HasOwnNeed}
 use Rattle.depth_check.proofs.LeastLaws.{found_by, found_both, found_same}
 
 -- what holds of each contained element
@@ -124,15 +122,15 @@ module _ (image : ImageData) (plan : PlanData) (cert : CertData) (node : NodeDat
     holds_from : (q : ℕ) → RuleHolds image plan cert node point q → DutiesHold cert node point.state (told_by plan node.key point.state flow) q × (14 ≡ q → HasOwnNeed image plan node point)
     holds_from q h = (
       All-from_contains (DutyHolds cert node point.state q) (told_by plan node.key point.state flow)
-      (λ d c.
-      let at = subst (λ (l : List Owed). Contains l d) tells.told c in
-      record {
-        met = λ e. h.covered tells.shape tells.size d values tells.faultless tells.code at e;
-        need = λ e.
-            All-contains (λ d. IsNeedAbove cert node point.state d.duty) (duties_of (limits_in plan cert) image plan node.key point.addr point.state tells.shape tells.size) d
-            (h.needs tells.shape tells.size e values tells.faultless tells.code).entered at;
-      }),
-      (λ e. let need = h.needs tells.shape tells.size (sym e) values tells.faultless tells.code in record { locals = need.locals; start = need.start })
+          (λ d c.
+          let at = subst (λ (l : List Owed). Contains l d) tells.told c in
+          record {
+            met = λ e. h.covered tells.shape tells.size d values tells.faultless tells.code at e;
+            need = λ e.
+                All-contains (λ d. IsNeedAbove cert node point.state d.duty) (duties_of (limits_in plan cert) image plan node.key point.addr point.state tells.shape tells.size) d
+                (h.needs tells.shape tells.size e values tells.faultless tells.code).entered at;
+          }),
+      (λ e. let need = h.needs tells.shape tells.size (sym e) values tells.faultless tells.code in record { locals = need.locals; start = need.start }),
     )
 
     pub duties_found : (duties : Option ℕ) (own : Bool) → Finds (DutiesHold cert node point.state (told_by plan node.key point.state flow)) duties → (IsTrue own ↔ HasOwnNeed image plan node point)

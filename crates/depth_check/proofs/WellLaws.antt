@@ -1,14 +1,13 @@
 -- The values of a certificate and of the start state are well-formed.
-use Rattle.std.proofs.Common.{◌≡◌, ℕ, ◌≤◌, ◌<◌, ◌^◌, ◌⊎◌, false, List, Option, Some, None, arith, inl, inr, ◌==◌}
+use Rattle.std.proofs.Common.{◌≡◌, ℕ, ◌⊎◌, false, List, Option, Some, None, arith, inl, inr, ◌==◌}
 use Rattle.std.specs.Prelude.{All, IfSome}
 use Rattle.std.proofs.lemmas.Bool.{cases_Bool}
 use Rattle.std.proofs.lemmas.List.Elements.{All-weaker}
 use Rattle.tcd_plan.specs.PlanData.{PlanData, IsPlan}
 use Rattle.value_domain.specs.declared.values.Val.{Val}
 use Rattle.value_domain.specs.declared.values.Val.TheVariants.{Set, Span}
-use Rattle.value_domain.specs.Limits.{Limits, AreLimits}
+use Rattle.value_domain.specs.Limits.{AreLimits}
 use Rattle.value_domain.specs.Thresholds.{limits_for}
-use Rattle.value_domain.specs.Versions.{width_of, most_of}
 use Rattle.value_domain.specs.Values.{IsWell, any_val}
 use Rattle.value_domain.specs.State.{AreWell}
 use Rattle.value_domain.proofs.RangeLaws.{one_value}

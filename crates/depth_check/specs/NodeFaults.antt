@@ -1,5 +1,5 @@
 -- The first fault of a node.
-use Rattle.std.specs.Prelude.{◌≡◌, ◌+◌, ◌*◌, ◌^◌, ◌<◌, ◌≤◌, ◌||◌, nat_lt, ℕ, Bool, if◌then◌else◌, min, Option, Some, unwrap_or, Contains}
+use Rattle.std.specs.Prelude.{◌+◌, ◌*◌, ◌^◌, ◌<◌, ◌≤◌, ◌||◌, nat_lt, ℕ, Bool, if◌then◌else◌, min, Option, Some, unwrap_or, Contains}
 use Rattle.std.specs.Option.{option_map}
 use Rattle.elf_image.specs.Images.{ImageData}
 use Rattle.tcd_plan.specs.PlanData.{PlanData}

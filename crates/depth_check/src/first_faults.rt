@@ -4,5 +4,4 @@ ghost use Rattle.depth_check.specs.FirstFaults.{FirstFaultsRefute};
 /// What holds of first faults: a certificate that has one isn't accepted.
 pub fn first_fault_laws()
     ensures { FirstFaultsRefute }
-{
-}
+{}

@@ -1,8 +1,7 @@
-use Rattle.std.proofs.Common.{sym, ap, ◌∙◌, ◌==◌, subst}
-use Rattle.tcd_plan.specs.PlanData.{PlanData, IsPlan}
+use Rattle.std.proofs.Common.{sym, ◌==◌, subst}
+use Rattle.tcd_plan.specs.PlanData.{IsPlan}
 use Rattle.value_domain.specs.declared.states.State.{State}
 use Rattle.value_domain.specs.State.{AreWell}
-use Rattle.depth_cert.specs.declared.keys.Key.{Key}
 use Rattle.depth_cert.specs.Keys.{number_of_key}
 use Rattle.depth_cert.specs.Nodes.{NodeData}
 use Rattle.depth_check.specs.Finding.{IsWellNode}

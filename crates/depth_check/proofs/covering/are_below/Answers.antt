@@ -1,4 +1,4 @@
-use Rattle.std.proofs.Common.{refl, arith, sym}
+use Rattle.std.proofs.Common.{refl, arith}
 use Rattle.value_domain.specs.Values.{any_val}
 use Rattle.value_domain.proofs.RegLaws.{read_at, below_more}
 use Rattle.depth_check.proofs.Deciding.{no, refuted}

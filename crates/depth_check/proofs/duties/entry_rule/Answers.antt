@@ -1,4 +1,4 @@
-use Rattle.std.proofs.Common.{sym, ◌==◌, subst}
+use Rattle.std.proofs.Common.{sym, ◌==◌}
 use Rattle.depth_cert.specs.Keys.{number_of_key}
 use Rattle.depth_cert.specs.Nodes.{NodeData}
 use Rattle.depth_check.specs.Finding.{IsWellNode}

@@ -1,4 +1,4 @@
-use Rattle.std.proofs.Common.{sym, ap, subst}
+use Rattle.std.proofs.Common.{sym, subst}
 use Rattle.value_domain.specs.declared.states.State.{State}
 use Rattle.value_domain.specs.State.{AreWell}
 use Rattle.depth_check.proofs.DutyLaws.{interrupts_more, interrupts_done}

@@ -6,5 +6,5 @@ use Rattle.depth_check.proofs.duties.interrupts_rule.Given as goal
 abbrev pub invariant-loop-p : goal.invariant-loop-p
 invariant-loop-p l = record {
   found : Finds (DutiesHold l.cert l.node l.s (told_irqs l.plan l.fn.entry (take l.p-index l.irqs))) l.found;
-  same : record l.entry { ccpn = 0 } ≡ record l.fn.entry { ccpn = 0 }
+  same : record l.entry { ccpn = 0 } ≡ record l.fn.entry { ccpn = 0 };
 }
