@@ -12,3 +12,6 @@ mod verdicts;
 pub use checking::check;
 pub use first_faults::first_fault_laws;
 pub use verdicts::Verdict;
+
+#[cfg(test)]
+mod tests;
