@@ -16,3 +16,6 @@ pub use first_faults::first_fault_laws;
 pub use judging::check;
 pub use laws::accepted_is_safe;
 pub use verdicts::Verdict;
+
+#[cfg(test)]
+mod tests;
