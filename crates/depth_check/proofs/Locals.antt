@@ -140,8 +140,9 @@ module _ (image : ImageData) (plan : PlanData) (ok : IsPlan plan) (cert : CertDa
     -- ---- a restore of the lower context
     pub record Popped (pc : ℕ) : Type 0 where
       pub restores : restore m false ≡ restored m false
-      pub frame2 : Frame
-      pub kept : Kept image plan cert most (record (restored m false) { pc = pc; end = Running }) frame2 below
+      pub areas : List ℕ
+      pub flags : List Bool
+      pub kept : Kept image plan cert most (record (restored m false) { pc = pc; end = Running }) (with_locals frame areas flags) below
 
     pub lower_popped : (pc : ℕ) → 1 ≤ length ((k.point).state).locals.items → length ((k.point).state).regs ≡ 27 → PointFor frame.node pc (effects.restored_lower (k.point).state) → Popped pc
     lower_popped pc some long at =
@@ -163,7 +164,8 @@ module _ (image : ImageData) (plan : PlanData) (ok : IsPlan plan) (cert : CertDa
         Frames-moved plan cert most m.core m.mem m.pcxi (area_word m.mem top.area 0) (a11 m) frame below top.areas top.flags (sym (ap (under m.mem m.pcxi) top.same_areas)) top.others k.frames in
         record {
           restores = restores;
-          frame2 = with_locals frame top.areas top.flags;
+          areas = top.areas;
+          flags = top.flags;
           kept = record {
             stands = k.stands;
             point = at.point;
