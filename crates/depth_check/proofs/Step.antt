@@ -37,9 +37,9 @@ use Rattle.depth_cert.specs.Nodes.{NodeData}
 use Rattle.depth_cert.specs.Certs.{CertData, IsCert, find_node}
 use Rattle.cfg_recover.specs.Code.{IsCode}
 use Rattle.cfg_recover.specs.Entries.{call_key, irq_key, sys_key, aln_key, call_entry, irq_entry, sys_entry, aln_entry, exit_of, after_of}
-use Rattle.cfg_recover.specs.Duties.{jump, enter, resume, leave, owed, duties_of}
+use Rattle.cfg_recover.specs.Duties.{Owed, jump, enter, resume, leave, owed, duties_of}
 use Rattle.cfg_recover.specs.Accepting.{limits_in, HasPoint, ExitCovers, Accepts}
-use Rattle.cfg_recover.specs.Frames.{Way, to, call, irq, sys, aln, ret, rfe, Standing, way_of_shape, way_by, way_in, handler_key, frames_at, frames_entered, frames_left, frames_by, size_in, frames_after}
+use Rattle.cfg_recover.specs.Frames.{Way, to, call, irq, sys, aln, ret, rfe, Standing, way_of_shape, way_by, way_in, handler_key, frames_at, frames_entered, frames_left, frames_by, size_in, frames_after, IsReturn, OwesEntry, IsOwed}
 use Rattle.cfg_recover.specs.Moves.{IsAtPoint, StaysInFrame, traps}
 use Rattle.cfg_recover.proofs.MoveLaws.{moves_in_frame, traps_owed, calls_owed, interrupts_owed}
 use Rattle.cfg_recover.proofs.EntryLaws.{holds_same, holds_exit}
@@ -77,9 +77,20 @@ entered_standing : (key : Key → Key) (back q pc : ℕ) (frame : Frame) (below 
 entered_standing key back q pc frame [] = refl
 entered_standing key back q pc frame (s ∷ below) = refl
 
--- the invariant of a machine x after a step from m with these frames, where the step goes this way
-abbrev GoesBy : ImageData → PlanData → CertData → ℕ → Machine → Frame → List Frame → Event → ℕ → Way → Machine → Type 0
-GoesBy image plan cert most m frame below e n way x = Goes image plan cert most x (frames_by m.pc (moved m.pc n) e.irq way (standing m.pc frame below))
+-- The invariant of a machine x after a step from m with these frames, where the step goes this way: which is among the duties
+-- of the point, or the return to the frame before it.
+pub record Steps (image : ImageData) (plan : PlanData) (cert : CertData) (most : ℕ) (m : Machine) (frame : Frame) (below : List Frame) (ds : List Owed) (e : Event) (n : ℕ) (way : Way) (x : Machine) : Type 0 where
+  pub goes : Goes image plan cert most x (frames_by m.pc (moved m.pc n) e.irq way (standing m.pc frame below))
+  pub owes : IsOwed ds (frame.node).key e.irq (standing m.pc frame below) x.pc way
+
+Steps-as : {image : ImageData} {plan : PlanData} {cert : CertData} {most : ℕ} {m : Machine} {frame : Frame} {below : List Frame} {ds : List Owed} {e : Event} {n : ℕ} {way other : Way} {x : Machine} → other ≡ way
+    → Steps image plan cert most m frame below ds e n way x → Steps image plan cert most m frame below ds e n other x
+Steps-as {image} {plan} {cert} {most} {m} {frame} {below} {ds} {e} {n} {way} {other} {x} same s = subst (λ w. Steps image plan cert most m frame below ds e n w x) (sym same) s
+
+-- a return goes to the frame before the newest
+return_standing : (q pc : ℕ) (frame suspended : Frame) (below : List Frame) → frame.back ≡ q → IsReturn q (standing pc frame (suspended ∷ below))
+return_standing q pc frame suspended [] e = e
+return_standing q pc frame suspended (s ∷ below) e = e
 
 -- an instruction that stays in its frame
 pub stays_to : (shape : Shape) → StaysInFrame shape → (q : ℕ) → way_of_shape shape q ≡ to q
@@ -223,45 +234,57 @@ module _ (image : ImageData) (plan : PlanData) (ok : IsPlan plan) (cert : CertDa
       jumping q t owes = point_for frame.node q t (find_point q (frame.node).points) refl (h.met (owed 4 (jump q t)) owes)
 
       -- ---- inside the frame
-      plain : (e : Event) → Fits plan m e → is_taken m e ≡ false → StaysInFrame shape → traps m e shape ≡ false → GoesBy image plan cert most m frame below e n (way_by m e shape (does m e shape n).pc) (does m e shape n)
+      plain : (e : Event) → Fits plan m e → is_taken m e ≡ false → StaysInFrame shape → traps m e shape ≡ false → Steps image plan cert most m frame below (duties_of (limits_in plan cert) image plan (frame.node).key m.pc (k.point).state shape n) e n (way_by m e shape (does m e shape n).pc) (does m e shape n)
       plain e fits none stays free =
           let mv = moves_in_frame (limits_in plan cert) image plan (frame.node).key m e (k.point).state shape n at_point fits none stays free in
           let at = jumping (does m e shape n).pc mv.state mv.owes in
-          record {
-            frame = frame;
-            below = below;
-            kept = Kept-moved image plan ok cert most m (does m e shape n) frame below k mv.state mv.moves
-                (jump_long (limits_in plan cert) image plan (frame.node).key m.pc (k.point).state n h.regs shape (does m e shape n).pc mv.state mv.owes) at.point at.found at.covers;
-            stands =
-                let q = (does m e shape n).pc in
-                let way : way_by m e shape (does m e shape n).pc ≡ to (does m e shape n).pc = ap (λ t. cond t (aln (does m e shape n).pc) (way_of_shape shape (does m e shape n).pc)) free ∙ stays_to shape stays (does m e shape n).pc in
-                at_standing (does m e shape n).pc m.pc frame below ∙ ap (λ w. frames_by m.pc (moved m.pc n) e.irq w (standing m.pc frame below)) (sym way);
-          }
+          let way : way_by m e shape (does m e shape n).pc ≡ to (does m e shape n).pc =
+              ap (λ t. cond t (aln (does m e shape n).pc) (way_of_shape shape (does m e shape n).pc)) free ∙ stays_to shape stays (does m e shape n).pc
+          in
+          Steps-as way
+          (record {
+            goes = record {
+              frame = frame;
+              below = below;
+              kept = Kept-moved image plan ok cert most m (does m e shape n) frame below k mv.state mv.moves
+                  (jump_long (limits_in plan cert) image plan (frame.node).key m.pc (k.point).state n h.regs shape (does m e shape n).pc mv.state mv.owes) at.point at.found at.covers;
+              stands = at_standing (does m e shape n).pc m.pc frame below;
+            };
+            owes = (mv.state, mv.owes);
+          })
 
       -- ---- a misaligned access
-      trapped : (e : Event) → traps m e shape ≡ true → GoesBy image plan cert most m frame below e n (way_by m e shape (does m e shape n).pc) (does m e shape n)
+      trapped : (e : Event) → traps m e shape ≡ true → Steps image plan cert most m frame below (duties_of (limits_in plan cert) image plan (frame.node).key m.pc (k.point).state shape n) e n (way_by m e shape (does m e shape n).pc) (does m e shape n)
       trapped e t =
           let small : IsKey (aln_key plan (frame.node).key) = record { kind = omega arith; entry = or_lt 32 plan.btv (2 * 2 ^ 5) (ok.words).btv (omega arith); prio = key_small.prio } in
-          let f = entering 10 (aln_key plan (frame.node).key) (aln_entry plan (frame.node).key (k.point).state) small (traps_owed (limits_in plan cert) image plan (frame.node).key m e (k.point).state shape n at_point t) in
+          let owes = traps_owed (limits_in plan cert) image plan (frame.node).key m e (k.point).state shape n at_point t in
+          let f = entering 10 (aln_key plan (frame.node).key) (aln_entry plan (frame.node).key (k.point).state) small owes in
           let b = began (set m.d 15 4) (handler_a m m.pc) (bit_or m.btv (2 * 2 ^ 5)) (handler_psw m.psw) false m.ccpn m.pc (handler_key 4 (bit_or m.btv (2 * 2 ^ 5)) ((frame.node).key).prio)
           (aln_begins image plan cert most is_cert accepted m words frame below k h.regs f.node f.found f.at f.room) in
-          subst (λ x. GoesBy image plan cert most m frame below e n (way_by m e shape x.pc) x) (sym (traps-is m e shape n t ∙ trap-is m k.running b.saves 2 4 m.pc))
-          (Goes-as (entered_standing (λ j. handler_key 4 (bit_or m.btv (2 * 2 ^ 5)) j.prio) m.pc (bit_or m.btv (2 * 2 ^ 5)) m.pc frame below
-          ∙ ap (λ t. frames_by m.pc (moved m.pc n) e.irq (cond t (aln (bit_or m.btv (2 * 2 ^ 5))) (way_of_shape shape (bit_or m.btv (2 * 2 ^ 5)))) (standing m.pc frame below)) (sym t)) b.goes)
+          subst (λ x. Steps image plan cert most m frame below (duties_of (limits_in plan cert) image plan (frame.node).key m.pc (k.point).state shape n) e n (way_by m e shape x.pc) x) (sym (traps-is m e shape n t ∙ trap-is m k.running b.saves 2 4 m.pc))
+          (Steps-as (ap (λ t. cond t (aln (bit_or m.btv (2 * 2 ^ 5))) (way_of_shape shape (bit_or m.btv (2 * 2 ^ 5)))) t)
+          (record {
+            goes = Goes-as (entered_standing (λ j. handler_key 4 (bit_or m.btv (2 * 2 ^ 5)) j.prio) m.pc (bit_or m.btv (2 * 2 ^ 5)) m.pc frame below) b.goes;
+            owes = subst (λ v. OwesEntry (duties_of (limits_in plan cert) image plan (frame.node).key m.pc (k.point).state shape n) 10 (handler_key 4 (bit_or v (2 * 2 ^ 5)) ((frame.node).key).prio)) (sym k.btv) (aln_entry plan (frame.node).key (k.point).state, owes);
+          }))
 
       -- ---- an interrupt
-      pub interrupted : (e : Event) → Fits plan m e → is_taken m e ≡ true → GoesBy image plan cert most m frame below e n (irq (interrupt m e.irq).pc) (interrupt m e.irq)
+      pub interrupted : (e : Event) → Fits plan m e → is_taken m e ≡ true → Steps image plan cert most m frame below (duties_of (limits_in plan cert) image plan (frame.node).key m.pc (k.point).state shape n) e n (irq (interrupt m e.irq).pc) (interrupt m e.irq)
       interrupted e fits taken =
           let low = irq_lt ok m e fits in
           let small : IsKey (irq_key plan e.irq) = record { kind = omega arith; entry = or_lt 32 plan.biv (e.irq * 2 ^ 5) (ok.words).biv (omega arith); prio = low } in
-          let f = entering 11 (irq_key plan e.irq) (irq_entry plan (frame.node).key (k.point).state e.irq) small (interrupts_owed (limits_in plan cert) image plan (frame.node).key m e (k.point).state shape n at_point fits taken) in
+          let owes = interrupts_owed (limits_in plan cert) image plan (frame.node).key m e (k.point).state shape n at_point fits taken in
+          let f = entering 11 (irq_key plan e.irq) (irq_entry plan (frame.node).key (k.point).state e.irq) small owes in
           let b = began m.d (handler_a m m.pc) (bit_or m.biv (e.irq * 2 ^ 5)) (handler_psw m.psw) false e.irq m.pc (handler_key 2 (bit_or m.biv (e.irq * 2 ^ 5)) e.irq)
           (irq_begins image plan cert most is_cert accepted m words frame below k h.regs e.irq f.node f.found f.at f.room) in
-          subst (λ x. GoesBy image plan cert most m frame below e n (irq x.pc) x) (sym (interrupt-is m k.running b.saves e.irq))
-          (Goes-as (entered_standing (λ j. handler_key 2 (bit_or m.biv (e.irq * 2 ^ 5)) e.irq) m.pc (bit_or m.biv (e.irq * 2 ^ 5)) m.pc frame below) b.goes)
+          subst (λ x. Steps image plan cert most m frame below (duties_of (limits_in plan cert) image plan (frame.node).key m.pc (k.point).state shape n) e n (irq x.pc) x) (sym (interrupt-is m k.running b.saves e.irq))
+          (record {
+            goes = Goes-as (entered_standing (λ j. handler_key 2 (bit_or m.biv (e.irq * 2 ^ 5)) e.irq) m.pc (bit_or m.biv (e.irq * 2 ^ 5)) m.pc frame below) b.goes;
+            owes = subst (λ v. OwesEntry (duties_of (limits_in plan cert) image plan (frame.node).key m.pc (k.point).state shape n) 11 (handler_key 2 (bit_or v (e.irq * 2 ^ 5)) e.irq)) (sym k.biv) (irq_entry plan (frame.node).key (k.point).state e.irq, owes);
+          })
 
     -- ---- a call
-    calls : (e : Event) (x : Target) (n : ℕ) → PointHolds image plan cert frame.node m.pc (k.point).state (Call x) n → GoesBy image plan cert most m frame below e n (call (does m e (Call x) n).pc) (does m e (Call x) n)
+    calls : (e : Event) (x : Target) (n : ℕ) → PointHolds image plan cert frame.node m.pc (k.point).state (Call x) n → Steps image plan cert most m frame below (duties_of (limits_in plan cert) image plan (frame.node).key m.pc (k.point).state (Call x) n) e n (call (does m e (Call x) n).pc) (does m e (Call x) n)
     calls e x n h =
         let key = call_key (frame.node).key (target_of m x) in
         let small : IsKey (call_key (frame.node).key (target_of m x)) = record { kind = omega arith; entry = target_lt m words x (shape_is image plan m.pc (Call x) n h.code); prio = key_small.prio } in
@@ -270,11 +293,14 @@ module _ (image : ImageData) (plan : PlanData) (ok : IsPlan plan) (cert : CertDa
         let exits = resuming (Call x) n h 4 (call_key (frame.node).key (target_of m x)) (call_entry (k.point).state) (moved m.pc n) f owes.back in
         let b = began m.d (set m.a 11 (moved m.pc n)) (target_of m x) m.psw m.ie m.ccpn (moved m.pc n) (call_key (frame.node).key (target_of m x))
         (call_begins image plan cert most is_cert accepted m words frame below k h.regs (target_of m x) (moved m.pc n) (moved-lt m.pc n) f.node f.found f.at exits f.room) in
-        subst (λ y. GoesBy image plan cert most m frame below e n (call y.pc) y) (sym (call-is m k.running b.saves e x n))
-        (Goes-as (entered_standing (λ j. call_key j (target_of m x)) (moved m.pc n) (target_of m x) m.pc frame below) b.goes)
+        subst (λ y. Steps image plan cert most m frame below (duties_of (limits_in plan cert) image plan (frame.node).key m.pc (k.point).state (Call x) n) e n (call y.pc) y) (sym (call-is m k.running b.saves e x n))
+        (record {
+          goes = Goes-as (entered_standing (λ j. call_key j (target_of m x)) (moved m.pc n) (target_of m x) m.pc frame below) b.goes;
+          owes = (call_entry (k.point).state, owes.entered);
+        })
 
     -- ---- a system call
-    system : (e : Event) (tin n : ℕ) → PointHolds image plan cert frame.node m.pc (k.point).state (Syscall tin) n → GoesBy image plan cert most m frame below e n (sys (does m e (Syscall tin) n).pc) (does m e (Syscall tin) n)
+    system : (e : Event) (tin n : ℕ) → PointHolds image plan cert frame.node m.pc (k.point).state (Syscall tin) n → Steps image plan cert most m frame below (duties_of (limits_in plan cert) image plan (frame.node).key m.pc (k.point).state (Syscall tin) n) e n (sys (does m e (Syscall tin) n).pc) (does m e (Syscall tin) n)
     system e tin n h =
         let small : IsKey (sys_key plan (frame.node).key) = record { kind = omega arith; entry = or_lt 32 plan.btv (6 * 2 ^ 5) (ok.words).btv (omega arith); prio = key_small.prio } in
         let tin_small : tin < 2 ^ 32 = shape_is image plan m.pc (Syscall tin) n h.code in
@@ -284,26 +310,37 @@ module _ (image : ImageData) (plan : PlanData) (ok : IsPlan plan) (cert : CertDa
         (owes-syscall_back (limits_in plan cert) image plan (frame.node).key m.pc (k.point).state n tin) in
         let b = began (set m.d 15 tin) (handler_a m (moved m.pc n)) (bit_or m.btv (6 * 2 ^ 5)) (handler_psw m.psw) false m.ccpn (moved m.pc n) (handler_key 3 (bit_or m.btv (6 * 2 ^ 5)) ((frame.node).key).prio)
         (sys_begins image plan cert most is_cert accepted m words frame below k h.regs tin tin_small (moved m.pc n) (moved-lt m.pc n) f.node f.found f.at exits f.room) in
-        subst (λ x. GoesBy image plan cert most m frame below e n (sys x.pc) x) (sym (syscall-is m k.running e tin n ∙ trap-is m k.running b.saves 6 tin (moved m.pc n)))
-        (Goes-as (entered_standing (λ j. handler_key 3 (bit_or m.btv (6 * 2 ^ 5)) j.prio) (moved m.pc n) (bit_or m.btv (6 * 2 ^ 5)) m.pc frame below) b.goes)
+        subst (λ x. Steps image plan cert most m frame below (duties_of (limits_in plan cert) image plan (frame.node).key m.pc (k.point).state (Syscall tin) n) e n (sys x.pc) x) (sym (syscall-is m k.running e tin n ∙ trap-is m k.running b.saves 6 tin (moved m.pc n)))
+        (record {
+          goes = Goes-as (entered_standing (λ j. handler_key 3 (bit_or m.btv (6 * 2 ^ 5)) j.prio) (moved m.pc n) (bit_or m.btv (6 * 2 ^ 5)) m.pc frame below) b.goes;
+          owes = subst (λ v. OwesEntry (duties_of (limits_in plan cert) image plan (frame.node).key m.pc (k.point).state (Syscall tin) n) 12 (handler_key 3 (bit_or v (6 * 2 ^ 5)) ((frame.node).key).prio)) (sym k.btv)
+              (sys_entry plan (frame.node).key (k.point).state tin, owes-syscall (limits_in plan cert) image plan (frame.node).key m.pc (k.point).state n tin);
+        })
 
   -- ---- frames that end
+  record Left (m : Machine) (frame : Frame) (below : List Frame) (x : Machine) : Type 0 where
+    pub goes : Goes image plan cert most x (frames_left (standing m.pc frame below))
+    pub owes : IsReturn x.pc (standing m.pc frame below)
+
   -- no frame is left below the start's
   left_to : (m : Machine) (words : IsMachine m) (frame : Frame) (below : List Frame) (k : Kept image plan cert most m frame below) → length ((k.point).state).locals.items ≡ 0 → (frame.node).key.kind ≢ 0 →
       (ie : Bool) (ccpn : ℕ) → Leaves (pie_of m.core m.pcxi) (pcpn_of m.core m.pcxi) frame.node frame.word0 (reg m) ie ccpn → (n : Machine) →
-      (restore m true ≡ restored m true → n ≡ record (restored m true) { pc = a11 m / 2 * 2; ie = ie; ccpn = ccpn; end = Running }) → Goes image plan cert most n (frames_left (standing m.pc frame below))
+      (restore m true ≡ restored m true → n ≡ record (restored m true) { pc = a11 m / 2 * 2; ie = ie; ccpn = ccpn; end = Running }) → Left m frame below n
   left_to m words frame [] k none other ie ccpn leaves n is = absurd (other ((k.frames).1).kind)
   left_to m words frame (suspended ∷ below) k none other ie ccpn leaves n is =
       let held = none_held image plan ok cert most few m frame (suspended ∷ below) k none in
       let back = comes_back image plan ok cert most few m words frame suspended below k held ie ccpn leaves in
-      subst (λ x. Goes image plan cert most x (standing frame.back suspended below)) (sym (is (restores image plan ok cert most few m words frame suspended below k held)))
-      (record { frame = suspended; below = below; kept = back.kept; stands = ap (λ q. standing q suspended below) back.at })
+      subst (Left m frame (suspended ∷ below)) (sym (is (restores image plan ok cert most few m words frame suspended below k held)))
+      (record {
+        goes = record { frame = suspended; below = below; kept = back.kept; stands = ap (λ q. standing q suspended below) back.at };
+        owes = return_standing (a11 m / 2 * 2) m.pc frame suspended below (sym back.at);
+      })
 
   module _ (m : Machine) (words : IsMachine m) (frame : Frame) (below : List Frame) (k : Kept image plan cert most m frame below) where
     leaving : (rule n : ℕ) (shape : Shape) → (h : PointHolds image plan cert frame.node m.pc (k.point).state shape n) → Contains (duties_of (limits_in plan cert) image plan (frame.node).key m.pc (k.point).state shape n) (owed rule (leave (exit_of (k.point).state))) → ExitFor frame.node (exit_of (k.point).state)
     leaving rule n shape h owes = exit_for frame.node (exit_of (k.point).state) (frame.node).exit refl (h.met (owed rule (leave (exit_of (k.point).state))) owes)
 
-    returns : (e : Event) (n : ℕ) → PointHolds image plan cert frame.node m.pc (k.point).state Ret n → Goes image plan cert most (does m e Ret n) (frames_left (standing m.pc frame below))
+    returns : (e : Event) (n : ℕ) → PointHolds image plan cert frame.node m.pc (k.point).state Ret n → Left m frame below (does m e Ret n)
     returns e n h =
         let own = (h.own 6).returns refl in
         let kind = own.0 in
@@ -311,7 +348,7 @@ module _ (image : ImageData) (plan : PlanData) (ok : IsPlan plan) (cert : CertDa
         left_to m words frame below k own.1 (λ zero_kind. omega arith) m.ie m.ccpn
         (by_return x.exit x.is own.0 (holds_exit plan (k.point).state (reg m) m.ie m.ccpn x.exit h.regs x.covers k.inside)) (does m e Ret n) (λ is. ret-is m k.running is e n)
 
-    comes_from : (e : Event) (n : ℕ) → PointHolds image plan cert frame.node m.pc (k.point).state Rfe n → Goes image plan cert most (does m e Rfe n) (frames_left (standing m.pc frame below))
+    comes_from : (e : Event) (n : ℕ) → PointHolds image plan cert frame.node m.pc (k.point).state Rfe n → Left m frame below (does m e Rfe n)
     comes_from e n h =
         let own = (h.own 7).exceptions refl in
         elim own.1 [
@@ -325,10 +362,10 @@ module _ (image : ImageData) (plan : PlanData) (ok : IsPlan plan) (cert : CertDa
         ]
 
     -- ---- lower contexts
-    saves_lower : (shape : Shape) (n : ℕ) (h : PointHolds image plan cert frame.node m.pc (k.point).state shape n) (pc : ℕ) (ie : Bool) (ccpn : ℕ) →
+    saves_lower : (e : Event) (shape : Shape) (n : ℕ) (h : PointHolds image plan cert frame.node m.pc (k.point).state shape n) (pc : ℕ) (ie : Bool) (ccpn : ℕ) →
         Contains (duties_of (limits_in plan cert) image plan (frame.node).key m.pc (k.point).state shape n) (owed 4 (jump pc (record (saved_lower (k.point).state) { ie = ie; ccpn = ccpn }))) → (ie2 : Bool) (ccpn2 : ℕ) → (ie2 ≡ true → ie ≡ true) → ccpn ≤ ccpn2 →
-        (n2 : Machine) → (save m false ≡ saved m false → n2 ≡ record (saved m false) { pc = pc; ie = ie2; ccpn = ccpn2; end = Running }) → Goes image plan cert most n2 (frames_at n2.pc (standing m.pc frame below))
-    saves_lower shape n h pc ie ccpn owes ie2 ccpn2 enabled priority n2 is =
+        (n2 : Machine) → (save m false ≡ saved m false → n2 ≡ record (saved m false) { pc = pc; ie = ie2; ccpn = ccpn2; end = Running }) → Steps image plan cert most m frame below (duties_of (limits_in plan cert) image plan (frame.node).key m.pc (k.point).state shape n) e n (to n2.pc) n2
+    saves_lower e shape n h pc ie ccpn owes ie2 ccpn2 enabled priority n2 is =
         let t : State = record (saved_lower (k.point).state) { ie = ie; ccpn = ccpn } in
         let at = jumping m words frame below k shape n h pc (record (saved_lower (k.point).state) { ie = ie; ccpn = ccpn }) owes in
         let next = (rules_at image plan cert is_cert accepted frame.node pc at.point k.stands at.found).holds in
@@ -336,32 +373,38 @@ module _ (image : ImageData) (plan : PlanData) (ok : IsPlan plan) (cert : CertDa
         let same = length-ImpliedBy ((at.point).state).locals.items (((k.point).state).locals.items ++ ((k.point).state).lower ∷ []) (at.covers).locals in
         let long = length-append ((k.point).state).locals.items (((k.point).state).lower ∷ []) in
         let free = room image plan ok cert most few m frame below k 0 (omega arith) in
-        subst (λ x. Goes image plan cert most x (frames_at x.pc (standing m.pc frame below))) (sym (is (saves image plan ok cert most few m frame below k free false)))
+        subst (λ x. Steps image plan cert most m frame below (duties_of (limits_in plan cert) image plan (frame.node).key m.pc (k.point).state shape n) e n (to x.pc) x) (sym (is (saves image plan ok cert most few m frame below k free false)))
         (record {
+          goes = record {
           frame = with_locals frame (link_in m.fcx ∷ frame.locals) (((k.point).state).lower ∷ frame.flags);
           below = below;
           kept = lower_pushed image plan ok cert most few m words frame below k free pc ie2 ccpn2 (record (saved_lower (k.point).state) { ie = ie; ccpn = ccpn }) refl refl h.regs
               (holds_same plan (k.point).state (record (saved_lower (k.point).state) { ie = ie; ccpn = ccpn }) (reg m) (reg m) m.ie ie2 m.ccpn ccpn2 refl enabled priority (reg_lt m words 27) (λ r lt other. refl) k.inside) at;
           stands = locals_standing pc m.pc frame (link_in m.fcx ∷ frame.locals) (((k.point).state).lower ∷ frame.flags) below;
+          };
+          owes = (record (saved_lower (k.point).state) { ie = ie; ccpn = ccpn }, owes);
         })
 
-    restores_lower : (e : Event) (n : ℕ) → PointHolds image plan cert frame.node m.pc (k.point).state Rslcx n → Goes image plan cert most (does m e Rslcx n) (frames_at (does m e Rslcx n).pc (standing m.pc frame below))
+    restores_lower : (e : Event) (n : ℕ) → PointHolds image plan cert frame.node m.pc (k.point).state Rslcx n → Steps image plan cert most m frame below (duties_of (limits_in plan cert) image plan (frame.node).key m.pc (k.point).state Rslcx n) e n (to (does m e Rslcx n).pc) (does m e Rslcx n)
     restores_lower e n h =
         let at = jumping m words frame below k Rslcx n h (moved m.pc n) (restored_lower (k.point).state) (owes-rslcx (limits_in plan cert) image plan (frame.node).key m.pc (k.point).state n) in
         let p = lower_popped image plan ok cert most few m words frame below k (moved m.pc n) ((h.own 8).room refl) h.regs at in
-        subst (λ x. Goes image plan cert most x (frames_at x.pc (standing m.pc frame below))) (sym (rslcx-is m k.running p.restores e n))
-        (record { frame = with_locals frame p.areas p.flags; below = below; kept = p.kept; stands = locals_standing (moved m.pc n) m.pc frame p.areas p.flags below })
+        subst (λ x. Steps image plan cert most m frame below (duties_of (limits_in plan cert) image plan (frame.node).key m.pc (k.point).state Rslcx n) e n (to x.pc) x) (sym (rslcx-is m k.running p.restores e n))
+        (record {
+          goes = record { frame = with_locals frame p.areas p.flags; below = below; kept = p.kept; stands = locals_standing (moved m.pc n) m.pc frame p.areas p.flags below };
+          owes = (restored_lower (k.point).state, owes-rslcx (limits_in plan cert) image plan (frame.node).key m.pc (k.point).state n);
+        })
 
     -- ---- what the instruction at pc does
     module _ (e : Event) (fits : Fits plan m e) (none : is_taken m e ≡ false) where
-      accesses : (shape : Shape) (n : ℕ) (h : PointHolds image plan cert frame.node m.pc (k.point).state shape n) → StaysInFrame shape → GoesBy image plan cert most m frame below e n (way_by m e shape (does m e shape n).pc) (does m e shape n)
+      accesses : (shape : Shape) (n : ℕ) (h : PointHolds image plan cert frame.node m.pc (k.point).state shape n) → StaysInFrame shape → Steps image plan cert most m frame below (duties_of (limits_in plan cert) image plan (frame.node).key m.pc (k.point).state shape n) e n (way_by m e shape (does m e shape n).pc) (does m e shape n)
       accesses shape n h stays =
           elim (cases_Bool (traps m e shape)) [
             | inl t ↦ trapped m words frame below k shape n h e t
             | inr f ↦ plain m words frame below k shape n h e fits none stays f
           ]
 
-      pub follows : (shape : Shape) (n : ℕ) → PointHolds image plan cert frame.node m.pc (k.point).state shape n → GoesBy image plan cert most m frame below e n (way_by m e shape (does m e shape n).pc) (does m e shape n)
+      pub follows : (shape : Shape) (n : ℕ) → PointHolds image plan cert frame.node m.pc (k.point).state shape n → Steps image plan cert most m frame below (duties_of (limits_in plan cert) image plan (frame.node).key m.pc (k.point).state shape n) e n (way_by m e shape (does m e shape n).pc) (does m e shape n)
       follows (Compute op dst x y) n h = accesses (Compute op dst x y) n h tt
       follows (Scaled dst base index c) n h = accesses (Scaled dst base index c) n h tt
       follows (Load dst base offset size signed after) n h = accesses (Load dst base offset size signed after) n h tt
@@ -369,14 +412,14 @@ module _ (image : ImageData) (plan : PlanData) (ok : IsPlan plan) (cert : CertDa
       follows (Branch test x y by lowers) n h = accesses (Branch test x y by lowers) n h tt
       follows (Jump x) n h = accesses (Jump x) n h tt
       follows (Call x) n h = calls m words frame below k e x n h
-      follows Ret n h = returns e n h
-      follows Rfe n h = comes_from e n h
+      follows Ret n h = let l = returns e n h in record { goes = l.goes; owes = l.owes }
+      follows Rfe n h = let l = comes_from e n h in record { goes = l.goes; owes = l.owes }
       follows Svlcx n h =
-          saves_lower Svlcx n h (moved m.pc n) ((k.point).state).ie ((k.point).state).ccpn (owes-svlcx (limits_in plan cert) image plan (frame.node).key m.pc (k.point).state n) m.ie m.ccpn
+          saves_lower e Svlcx n h (moved m.pc n) ((k.point).state).ie ((k.point).state).ccpn (owes-svlcx (limits_in plan cert) image plan (frame.node).key m.pc (k.point).state n) m.ie m.ccpn
           (k.inside).enabled (k.inside).priority (does m e Svlcx n) (λ is. svlcx-is m k.running is e n)
       follows Rslcx n h = restores_lower e n h
       follows (Bisr c) n h =
-          saves_lower (Bisr c) n h (moved m.pc n) true c (owes-bisr (limits_in plan cert) image plan (frame.node).key m.pc (k.point).state n c) true c
+          saves_lower e (Bisr c) n h (moved m.pc n) true c (owes-bisr (limits_in plan cert) image plan (frame.node).key m.pc (k.point).state n c) true c
           (λ t. t) (omega arith) (does m e (Bisr c) n) (λ is. bisr-is m k.running is e c n)
       follows Enable n h = accesses Enable n h tt
       follows Disable n h = accesses Disable n h tt
@@ -386,27 +429,63 @@ module _ (image : ImageData) (plan : PlanData) (ok : IsPlan plan) (cert : CertDa
       follows Nothing n h = accesses Nothing n h tt
 
   -- ---- one event
-  done-kept : (m : Machine) → IsMachine m → (e : Event) → Fits plan m e → (frame : Frame) (below : List Frame) → Kept image plan cert most m frame below → Goes image plan cert most (done m e)
-      (frames_by m.pc (moved m.pc (size_in (fetched m))) e.irq (cond (is_taken m e) (irq (done m e).pc) (way_in m e (fetched m) (done m e).pc)) (standing m.pc frame below))
+  -- the frames of m after a step of an event to q, by what is fetched
+  abbrev by : Machine → Event → Bool → Result (Shape × ℕ) Cause → ℕ → List Standing → List Standing
+  by m e taken f q fs = frames_by m.pc (moved m.pc (size_in f)) e.irq (cond taken (irq q) (way_in m e f q)) fs
+
+  -- what a step keeps, and how it goes
+  pub record Done (m : Machine) (frame : Frame) (below : List Frame) (k : Kept image plan cert most m frame below) (e : Event) (x : Machine) : Type 0 where
+    pub shape : Shape
+    pub size : ℕ
+    pub code : IsCode image plan m.pc shape size
+    pub goes : Goes image plan cert most x (by m e (is_taken m e) (fetched m) x.pc (standing m.pc frame below))
+    pub owes : IsOwed (duties_of (limits_in plan cert) image plan (frame.node).key m.pc (k.point).state shape size) (frame.node).key e.irq (standing m.pc frame below) x.pc (cond (is_taken m e) (irq x.pc) (way_in m e (fetched m) x.pc))
+
+  done-kept : (m : Machine) → IsMachine m → (e : Event) → Fits plan m e → (frame : Frame) (below : List Frame) (k : Kept image plan cert most m frame below) → Done m frame below k e (done m e)
   done-kept m words e fits frame below k =
       let r = rules_at image plan cert is_cert accepted frame.node m.pc k.point k.stands k.found in
       let code = (r.holds).code in
-      let by = λ (taken : Bool) (f : Result (Shape × ℕ) Cause) (q : ℕ). frames_by m.pc (moved m.pc (size_in f)) e.irq (cond taken (irq q) (way_in m e f q)) (standing m.pc frame below) in
       elim (cases_Bool (is_taken m e)) [
         | inl taken ↦
-            let at : done m e ≡ interrupt m e.irq = ap (λ t. cond t (interrupt m e.irq) (executed m e (fetched m))) taken in
-            subst (λ x. Goes image plan cert most x (by (is_taken m e) (fetched m) x.pc)) (sym at)
-            (Goes-as (ap (λ t. by t (fetched m) (interrupt m e.irq).pc) (sym taken)) (interrupted m words frame below k r.shape r.size r.holds e fits taken))
+            let is : done m e ≡ interrupt m e.irq = ap (λ t. cond t (interrupt m e.irq) (executed m e (fetched m))) taken in
+            let s = interrupted m words frame below k r.shape r.size r.holds e fits taken in
+            subst (Done m frame below k e) (sym is)
+            (record {
+              shape = r.shape;
+              size = r.size;
+              code = (r.holds).code;
+              goes = Goes-as (ap (λ t. by m e t (fetched m) (interrupt m e.irq).pc (standing m.pc frame below)) (sym taken)) s.goes;
+              owes = subst (λ t. IsOwed (duties_of (limits_in plan cert) image plan (frame.node).key m.pc (k.point).state r.shape r.size) (frame.node).key e.irq (standing m.pc frame below) (interrupt m e.irq).pc (cond t (irq (interrupt m e.irq).pc) (way_in m e (fetched m) (interrupt m e.irq).pc)))
+                  (sym taken) s.owes;
+            })
         | inr none ↦
             let at : fetched m ≡ Ok (r.shape, r.size) = fetched_at image plan ok m k.rom r.shape r.size code in
-            subst (λ x. Goes image plan cert most x (by (is_taken m e) (fetched m) x.pc)) (sym (done-is m e r.shape r.size none at))
-            (Goes-as (ap (λ t. by t (Ok (r.shape, r.size)) (does m e r.shape r.size).pc) (sym none) ∙ ap (λ f. by (is_taken m e) f (does m e r.shape r.size).pc) (sym at))
-            (follows m words frame below k e fits none r.shape r.size r.holds))
+            let s = follows m words frame below k e fits none r.shape r.size r.holds in
+            subst (Done m frame below k e) (sym (done-is m e r.shape r.size none at))
+            (record {
+              shape = r.shape;
+              size = r.size;
+              code = (r.holds).code;
+              goes = Goes-as (ap (λ t. by m e t (Ok (r.shape, r.size)) (does m e r.shape r.size).pc (standing m.pc frame below)) (sym none) ∙ ap (λ f. by m e (is_taken m e) f (does m e r.shape r.size).pc (standing m.pc frame below)) (sym at)) s.goes;
+              owes = subst (λ w. IsOwed (duties_of (limits_in plan cert) image plan (frame.node).key m.pc (k.point).state r.shape r.size) (frame.node).key e.irq (standing m.pc frame below) (does m e r.shape r.size).pc w)
+                  (ap (λ t. cond t (irq (does m e r.shape r.size).pc) (way_in m e (Ok (r.shape, r.size)) (does m e r.shape r.size).pc)) (sym none) ∙ ap (λ f. cond (is_taken m e) (irq (does m e r.shape r.size).pc) (way_in m e f (does m e r.shape r.size).pc)) (sym at)) s.owes;
+            })
       ]
+
+  pub step-done : (m : Machine) → IsMachine m → (e : Event) → Fits plan m e → (frame : Frame) (below : List Frame) (k : Kept image plan cert most m frame below) → Done m frame below k e (step m e)
+  step-done m words e fits frame below k =
+      let d = done-kept m words e fits frame below k in
+      let after = d.goes in
+      subst (Done m frame below k e) (sym (step-is m e k.running (after.kept).running))
+      (record {
+        shape = d.shape;
+        size = d.size;
+        code = d.code;
+        goes = record { frame = after.frame; below = after.below; kept = Kept-event image plan cert most (done m e) e after.frame after.below after.kept; stands = after.stands };
+        owes = d.owes;
+      })
 
   pub step-kept : (m : Machine) → IsMachine m → (e : Event) → Fits plan m e → (now : List Standing) → Goes image plan cert most m now → Goes image plan cert most (step m e) (frames_after m e now)
   step-kept m words e fits now g =
-      let after = done-kept m words e fits g.frame g.below g.kept in
-      let by = λ (q : ℕ) (fs : List Standing). frames_by m.pc (moved m.pc (size_in (fetched m))) e.irq (cond (is_taken m e) (irq q) (way_in m e (fetched m) q)) fs in
-      subst (λ x. Goes image plan cert most x (by x.pc now)) (sym (step-is m e (g.kept).running (after.kept).running))
-      (record { frame = after.frame; below = after.below; kept = Kept-event image plan cert most (done m e) e after.frame after.below after.kept; stands = after.stands ∙ ap (by (done m e).pc) g.stands })
+      let d = step-done m words e fits g.frame g.below g.kept in
+      Goes-as (ap (by m e (is_taken m e) (fetched m) (step m e).pc) g.stands) d.goes
