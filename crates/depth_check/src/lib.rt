@@ -4,5 +4,5 @@
 mod laws;
 mod verdicts;
 
-pub use laws::accepted_is_safe;
+pub use laws::{accepted_holds_frames, accepted_is_safe};
 pub use verdicts::Verdict;
