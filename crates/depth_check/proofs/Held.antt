@@ -1,5 +1,5 @@
 -- The frames of runs are held by the certificate, and edges are owed.
-use Rattle.std.proofs.Common.{◌≡◌, ℕ, zero, suc, ◌+◌, ◌-◌, ◌<◌, ◌≤◌, List, [], ◌∷◌, length, get_or, Some, refl, sym, ap, ◌∙◌, subst, arith}
+use Rattle.std.proofs.Common.{ℕ, zero, suc, ◌-◌, ◌<◌, ◌≤◌, List, [], ◌∷◌, length, get_or, refl, sym, ap, subst, arith}
 use Rattle.std.specs.Prelude.{IsSome, IsSomeAnd, is_some}
 use Rattle.csa_chain.specs.Memory.{Memory}
 use Rattle.csa_chain.specs.Chain.{area_word}
@@ -16,11 +16,11 @@ use Rattle.store_ranges.specs.Laws.{HasImageBytes}
 use Rattle.depth_cert.specs.Points.{find_point}
 use Rattle.depth_cert.specs.Certs.{CertData, IsCert, find_node}
 use Rattle.cfg_recover.specs.Accepting.{Accepts, certified_need}
-use Rattle.cfg_recover.specs.Frames.{Standing, frames, LiesAt, HoldFrames, EdgeOwed, FramesHeld, EdgesOwed}
+use Rattle.cfg_recover.specs.Frames.{Standing, LiesAt, HoldFrames, EdgeOwed}
 use Rattle.cfg_recover.specs.Moves.{InState}
 use Rattle.depth_check.specs.Headline.{AcceptedHoldsFrames, AcceptedOwesEdges}
 use Rattle.depth_check.proofs.Frames.{Frame, Stands, standing, Frames, Kept}
-use Rattle.depth_check.proofs.Step.{Goes, Done, step-done}
+use Rattle.depth_check.proofs.Step.{step-done}
 use Rattle.depth_check.proofs.Sound.{few, held}
 
 module _ (image : ImageData) (plan : PlanData) (cert : CertData) (most : ℕ) where

@@ -82,24 +82,24 @@ module _ (image : ImageData) (plan : PlanData) (ok : IsPlan plan) (cert : CertDa
         record {
           at = goes.even ∙ e.same_back;
           kept = record {
-          stands = e.stands;
-          point = goes.point;
-          found = goes.found;
-          inside = goes.inside;
-          flags = goes.flags;
-          is = rw e.named e.is;
-          lower_kept = goes.lower_kept;
-          frames = rw e.named (Frames-same plan cert most m.core m.mem (with_words m.mem (link_address frame.area) (m.fcx ∷ [])) (area_word m.mem frame.area 0) (area_word m.mem frame.area 3) suspended below
-              (SameAreas-written m.mem frame.area (used_by suspended below) (m.fcx ∷ []) (omega arith) freed.avoids_used) (k.frames).2);
-          free = frame.area ∷ k.free;
-          areas = rw e.named (Areas-restored m.mem m.pcxi m.fcx m.lcx frame.area (used_by suspended below) k.free links areas small);
-          rom = rw e.named (HoldsRom-written image m.mem ok frame.area (length (used_by suspended below)) (m.fcx ∷ []) freed.place freed.within (omega arith) k.rom);
-          memory = IsPlanMemory-written plan m.mem (link_address (link_in m.pcxi)) (m.fcx ∷ []) k.memory;
-          biv = k.biv;
-          btv = k.btv;
-          isp = k.isp;
-          running = refl;
-        };
+            stands = e.stands;
+            point = goes.point;
+            found = goes.found;
+            inside = goes.inside;
+            flags = goes.flags;
+            is = rw e.named e.is;
+            lower_kept = goes.lower_kept;
+            frames = rw e.named (Frames-same plan cert most m.core m.mem (with_words m.mem (link_address frame.area) (m.fcx ∷ [])) (area_word m.mem frame.area 0) (area_word m.mem frame.area 3) suspended below
+                (SameAreas-written m.mem frame.area (used_by suspended below) (m.fcx ∷ []) (omega arith) freed.avoids_used) (k.frames).2);
+            free = frame.area ∷ k.free;
+            areas = rw e.named (Areas-restored m.mem m.pcxi m.fcx m.lcx frame.area (used_by suspended below) k.free links areas small);
+            rom = rw e.named (HoldsRom-written image m.mem ok frame.area (length (used_by suspended below)) (m.fcx ∷ []) freed.place freed.within (omega arith) k.rom);
+            memory = IsPlanMemory-written plan m.mem (link_address (link_in m.pcxi)) (m.fcx ∷ []) k.memory;
+            biv = k.biv;
+            btv = k.btv;
+            isp = k.isp;
+            running = refl;
+          };
         }
 
     pub restores : restore m true ≡ restored m true

@@ -39,7 +39,7 @@ use Rattle.cfg_recover.specs.Code.{IsCode}
 use Rattle.cfg_recover.specs.Entries.{call_key, irq_key, sys_key, aln_key, call_entry, irq_entry, sys_entry, aln_entry, exit_of, after_of}
 use Rattle.cfg_recover.specs.Duties.{Owed, jump, enter, resume, leave, owed, duties_of}
 use Rattle.cfg_recover.specs.Accepting.{limits_in, HasPoint, ExitCovers, Accepts}
-use Rattle.cfg_recover.specs.Frames.{Way, to, call, irq, sys, aln, ret, rfe, Standing, way_of_shape, way_by, way_in, handler_key, frames_at, frames_entered, frames_left, frames_by, size_in, frames_after, IsReturn, OwesEntry, IsOwed}
+use Rattle.cfg_recover.specs.Frames.{Way, to, call, irq, sys, aln, Standing, way_of_shape, way_by, way_in, handler_key, frames_at, frames_entered, frames_left, frames_by, size_in, frames_after, IsReturn, OwesEntry, IsOwed}
 use Rattle.cfg_recover.specs.Moves.{IsAtPoint, StaysInFrame, traps}
 use Rattle.cfg_recover.proofs.MoveLaws.{moves_in_frame, traps_owed, calls_owed, interrupts_owed}
 use Rattle.cfg_recover.proofs.EntryLaws.{holds_same, holds_exit}
@@ -239,7 +239,7 @@ module _ (image : ImageData) (plan : PlanData) (ok : IsPlan plan) (cert : CertDa
           let mv = moves_in_frame (limits_in plan cert) image plan (frame.node).key m e (k.point).state shape n at_point fits none stays free in
           let at = jumping (does m e shape n).pc mv.state mv.owes in
           let way : way_by m e shape (does m e shape n).pc ≡ to (does m e shape n).pc =
-              ap (λ t. cond t (aln (does m e shape n).pc) (way_of_shape shape (does m e shape n).pc)) free ∙ stays_to shape stays (does m e shape n).pc
+          ap (λ t. cond t (aln (does m e shape n).pc) (way_of_shape shape (does m e shape n).pc)) free ∙ stays_to shape stays (does m e shape n).pc
           in
           Steps-as way
           (record {
@@ -376,11 +376,11 @@ module _ (image : ImageData) (plan : PlanData) (ok : IsPlan plan) (cert : CertDa
         subst (λ x. Steps image plan cert most m frame below (duties_of (limits_in plan cert) image plan (frame.node).key m.pc (k.point).state shape n) e n (to x.pc) x) (sym (is (saves image plan ok cert most few m frame below k free false)))
         (record {
           goes = record {
-          frame = with_locals frame (link_in m.fcx ∷ frame.locals) (((k.point).state).lower ∷ frame.flags);
-          below = below;
-          kept = lower_pushed image plan ok cert most few m words frame below k free pc ie2 ccpn2 (record (saved_lower (k.point).state) { ie = ie; ccpn = ccpn }) refl refl h.regs
-              (holds_same plan (k.point).state (record (saved_lower (k.point).state) { ie = ie; ccpn = ccpn }) (reg m) (reg m) m.ie ie2 m.ccpn ccpn2 refl enabled priority (reg_lt m words 27) (λ r lt other. refl) k.inside) at;
-          stands = locals_standing pc m.pc frame (link_in m.fcx ∷ frame.locals) (((k.point).state).lower ∷ frame.flags) below;
+            frame = with_locals frame (link_in m.fcx ∷ frame.locals) (((k.point).state).lower ∷ frame.flags);
+            below = below;
+            kept = lower_pushed image plan ok cert most few m words frame below k free pc ie2 ccpn2 (record (saved_lower (k.point).state) { ie = ie; ccpn = ccpn }) refl refl h.regs
+                (holds_same plan (k.point).state (record (saved_lower (k.point).state) { ie = ie; ccpn = ccpn }) (reg m) (reg m) m.ie ie2 m.ccpn ccpn2 refl enabled priority (reg_lt m words 27) (λ r lt other. refl) k.inside) at;
+            stands = locals_standing pc m.pc frame (link_in m.fcx ∷ frame.locals) (((k.point).state).lower ∷ frame.flags) below;
           };
           owes = (record (saved_lower (k.point).state) { ie = ie; ccpn = ccpn }, owes);
         })
