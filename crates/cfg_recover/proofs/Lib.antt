@@ -5,3 +5,9 @@ pub mod Keeps
 pub mod Writes
 pub mod Points
 pub mod MoveLaws
+pub mod CodeLaws
+pub mod FlowDuties
+pub mod FlowStates
+pub mod FlowTargets
+pub mod OwnLaws
+pub mod RomTests

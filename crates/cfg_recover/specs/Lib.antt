@@ -2,7 +2,10 @@ pub mod Accepting
 pub mod Code
 pub mod Duties
 pub mod Entries
+pub mod FlowValues
+pub mod Finding
 pub mod Flows
 pub mod Frames
 pub mod Moves
 pub mod Own
+pub mod OwnFaults

@@ -1,0 +1,30 @@
+-- The interrupts' part of what a flow tells.
+use Rattle.std.proofs.Common.{◌≡◌, ℕ, Bool, true, false, List, ap, refl, sym, ◌∙◌}
+use Rattle.elf_image.specs.Images.{ImageData}
+use Rattle.tcd_plan.specs.PlanData.{PlanData}
+use Rattle.tc_isa.specs.Insts.{InstData}
+use Rattle.tc_isa.specs.Shapes.{shape_of}
+use Rattle.value_domain.specs.Limits.{Limits}
+use Rattle.vd_transfer.specs.Effects.{HasRoom}
+use Rattle.cfg_recover.specs.OwnFaults.{FindsFaultless}
+use Rattle.value_domain.specs.declared.states.State.{State}
+use Rattle.vd_transfer.specs.Registers.{slot}
+use Rattle.depth_cert.specs.declared.keys.Key.{Key}
+use Rattle.cfg_recover.specs.Entries.{irq_key, irq_entry}
+use Rattle.cfg_recover.specs.Duties.{Owed, owed, enter, irqs_of, interrupts_of}
+use Rattle.cfg_recover.specs.Flows.{told_irqs}
+
+-- the state at an interrupt's entry is that of priority 0 with another priority
+pub told_irqs-is : (plan : PlanData) (key : Key) (s entry : State) (irqs : List ℕ) → entry ≡ irq_entry plan key s 0 → irqs ≡ irqs_of plan s → told_irqs plan entry irqs ≡ interrupts_of plan key s
+unfolding slot
+told_irqs-is plan key s entry irqs e f = ap (λ (t : State). told_irqs plan t irqs) e ∙ ap (λ (l : List ℕ). told_irqs plan (irq_entry plan key s 0) l) f
+
+-- two tests that hold together
+pub same_test : (a b : Bool) → (a ≡ true → b ≡ true) → (b ≡ true → a ≡ true) → a ≡ b
+same_test true b there back = sym (there refl)
+same_test false true there back = back refl
+same_test false false there back = refl
+
+-- where rule 8's own part holds there is room
+pub room_of : (b : Limits) (image : ImageData) (plan : PlanData) (key : Key) (p : ℕ) (s : State) (found : InstData × ℕ) → FindsFaultless b image plan key p s found → HasRoom b (shape_of found.0) s
+room_of b image plan key p s found f = ((f.faultless 8).own (shape_of found.0) found.1 f.code).room refl

@@ -1,0 +1,98 @@
+// The instruction at an address of an image.
+ghost use Rattle.std.specs.Prelude.{◌≡◌, ◌≤◌, ◌+◌, ◌^◌, ◌↔◌, IsTrue};
+ghost use Rattle.std.specs.List.{list_any};
+ghost use Rattle.tc_machine.specs.Ranges.{IsInOne};
+ghost use Rattle.store_ranges.specs.Accesses.{is_inside};
+ghost use Rattle.cfg_recover.specs.Finding.{held_bytes, FindsInRom, FindsBytes, FindsCode};
+
+use elf_image::Image;
+use tc_encode::decode;
+use tc_isa::Inst;
+use tcd_base::Range;
+use tcd_plan::Plan;
+
+/// Whether `count` bytes from the address on lie in one of the ranges.
+fn is_in_one(ranges: &[Range], addr: u32, count: u32) -> bool
+    ensures { result ≡ list_any (is_inside addr count) ranges.now }
+{
+    let end = u64::from(addr) + u64::from(count);
+    ranges.iter().any(|range| range.at <= addr && end <= u64::from(range.at) + u64::from(range.len))
+}
+
+/// Whether `count` bytes from the address on lie in one rom range.
+fn is_in_rom(plan: &Plan, addr: u32, count: u32) -> bool
+    ensures decides { IsTrue result ↔ IsInOne addr count plan.now.rom }
+    ensures fits { IsTrue result → addr + count ≤ 2 ^ 32 }
+{
+    is_in_one(plan.rom.as_slice(), addr, count)
+}
+
+/// Two bytes of the image, where segments hold them.
+fn two_bytes(image: &Image, addr: u32) -> Option<[u8; 2]>
+    requires { addr + 2 ≤ 2 ^ 32 }
+    ensures { result ≡ held_bytes image.now addr 2 }
+{
+    let first = image.byte(addr)?;
+    let second = image.byte(addr + 1)?;
+    Some([first, second])
+}
+
+/// Four bytes of the image, where segments hold them.
+fn four_bytes(image: &Image, addr: u32) -> Option<[u8; 4]>
+    requires { addr + 4 ≤ 2 ^ 32 }
+    ensures { result ≡ held_bytes image.now addr 4 }
+{
+    let first = image.byte(addr)?;
+    let second = image.byte(addr + 1)?;
+    let third = image.byte(addr + 2)?;
+    let fourth = image.byte(addr + 3)?;
+    Some([first, second, third, fourth])
+}
+
+/// The instruction with which the bytes begin, and its length.
+fn inst_in(bytes: &[u8]) -> Option<(Inst, u32)>
+    ensures { FindsBytes bytes.now result }
+{
+    match decode(bytes) {
+        Ok(found) => Some((found.0, found.1 as u32)),
+        Err(_) => None,
+    }
+}
+
+/// The instruction at an address, with its length: at an even one, in one rom range, and held by segments.
+pub(crate) fn code_at(image: &Image, plan: &Plan, addr: u32) -> Option<(Inst, u32)>
+    ensures { FindsCode image.now plan.now addr result }
+{
+    if addr % 2 == 1 {
+        return None;
+    }
+    match four_in_rom(image, plan, addr) {
+        Some(bytes) => inst_in(&bytes),
+        None => match two_in_rom(image, plan, addr) {
+            Some(bytes) => inst_in(&bytes),
+            None => None,
+        },
+    }
+}
+
+/// Four bytes of the image in one rom range.
+fn four_in_rom(image: &Image, plan: &Plan, addr: u32) -> Option<[u8; 4]>
+    ensures { FindsInRom image.now plan.now addr 4 result }
+{
+    if is_in_rom(plan, addr, 4) {
+        four_bytes(image, addr)
+    } else {
+        None
+    }
+}
+
+/// Two bytes of the image in one rom range.
+fn two_in_rom(image: &Image, plan: &Plan, addr: u32) -> Option<[u8; 2]>
+    ensures { FindsInRom image.now plan.now addr 2 result }
+{
+    if is_in_rom(plan, addr, 2) {
+        two_bytes(image, addr)
+    } else {
+        None
+    }
+}

@@ -1,0 +1,121 @@
+// The frames that an instruction itself may enter, and whether it leaves its own.
+ghost use Rattle.std.specs.Prelude.{◌≡◌, Some};
+ghost use Rattle.tc_isa.specs.Shapes.{shape_of};
+ghost use Rattle.value_domain.specs.Values.{IsValue};
+ghost use Rattle.value_domain.specs.State.{AreValues};
+ghost use Rattle.store_ranges.specs.Accesses.{IsSize};
+ghost use Rattle.cfg_recover.specs.Own.{are_aligned};
+ghost use Rattle.cfg_recover.specs.Duties.{entries_of, misaligned_at, misaligned_of, leavings_of};
+ghost use Rattle.cfg_recover.specs.FlowValues.{EntersWithValues};
+ghost use Rattle.cfg_recover.specs.Flows.{told_entry, rule_of_entry, told_leaving};
+
+use crate::flow_states::{call_entry, misaligned_entry, system_entry};
+use crate::flow_targets::{one, targets};
+use crate::{Enter, Leave};
+use depth_cert::Key;
+use store_ranges::aligned;
+use tc_isa::{Inst, Shape, shape};
+use tcd_plan::Plan;
+use value_domain::{Bounds, State, Val};
+use vd_transfer::address;
+
+/// The entries by a call or a system call.
+pub(crate) fn entry(
+    b: &Bounds,
+    plan: &Plan,
+    key: &Key,
+    addr: u32,
+    s: &State,
+    inst: &Inst,
+    size: u32,
+) -> Option<Enter>
+    requires { AreValues b.now s.now.regs }
+    ensures entry { told_entry (rule_of_entry result) key.now result ≡ entries_of plan.now key.now addr s.now (shape_of inst.now) size }
+    ensures values { EntersWithValues b.now result }
+{
+    let resume = Some(addr.wrapping_add(size));
+    match shape(inst) {
+        Shape::Call { to } => Some(Enter {
+            kind: 1,
+            targets: targets(plan, s, addr, to),
+            state: call_entry(s),
+            resume,
+        }),
+        Shape::Syscall { tin } => Some(Enter {
+            kind: 3,
+            targets: one(plan.btv | 6 * 32),
+            state: system_entry(b, plan, key, s, tin),
+            resume,
+        }),
+        _ => None,
+    }
+}
+
+/// The entry of the handler of misaligned accesses, where the access of the instruction may be one.
+pub(crate) fn misaligned(
+    b: &Bounds,
+    plan: &Plan,
+    key: &Key,
+    s: &State,
+    inst: &Inst,
+) -> Option<Enter>
+    requires { AreValues b.now s.now.regs }
+    ensures entry { told_entry 10 key.now result ≡ misaligned_of b.now plan.now key.now s.now (shape_of inst.now) }
+    ensures values { EntersWithValues b.now result }
+{
+    match shape(inst) {
+        Shape::Load { size, .. } => {
+            unless_aligned(b, plan, key, s, &address(b, plan, inst, s), size)
+        }
+        Shape::Store { size, .. } => {
+            unless_aligned(b, plan, key, s, &address(b, plan, inst, s), size)
+        }
+        _ => None,
+    }
+}
+
+fn unless_aligned(
+    b: &Bounds,
+    plan: &Plan,
+    key: &Key,
+    s: &State,
+    at: &Val,
+    size: u8,
+) -> Option<Enter>
+    requires values { AreValues b.now s.now.regs }
+    requires at { IsValue b.now at.now }
+    requires size { IsSize size }
+    ensures entry { told_entry 10 key.now result ≡ misaligned_at plan.now key.now s.now at.now size }
+    ensures values { EntersWithValues b.now result }
+{
+    if is_aligned(b, at, size) {
+        return None;
+    }
+    Some(Enter {
+        kind: 4,
+        targets: one(plan.btv | 2 * 32),
+        state: misaligned_entry(b, plan, key, s),
+        resume: None,
+    })
+}
+
+/// Whether each address is a multiple of the size.
+fn is_aligned(b: &Bounds, at: &Val, size: u8) -> bool
+    requires at { IsValue b.now at.now }
+    requires size { IsSize size }
+    ensures { result ≡ are_aligned at.now size }
+{
+    let _width = b.width();
+    aligned(at, size)
+}
+
+/// Whether the instruction leaves its frame.
+pub(crate) fn leaving(key: &Key, s: &State, inst: &Inst) -> Leave
+    ensures { told_leaving key.now s.now result ≡ leavings_of key.now s.now (shape_of inst.now) }
+{
+    match shape(inst) {
+        Shape::Ret => Leave::Ret,
+        Shape::Rfe => Leave::Rfe,
+        _ => Leave::Stays,
+    }
+}

@@ -1,0 +1,31 @@
+// The interrupts that may be taken.
+ghost use Rattle.std.specs.Prelude.{◌≡◌, ◌≤◌, nat_lt, filter, length};
+ghost use Rattle.cfg_recover.specs.Duties.{irqs_of};
+
+use arrayvec::ArrayVec;
+use tcd_plan::Plan;
+use value_domain::State;
+
+/// The stated interrupts that may be taken in a state.
+pub(crate) fn interrupts(plan: &Plan, s: &State) -> ArrayVec<u8, 32>
+    ensures { result.items ≡ irqs_of plan.now s.now }
+{
+    if s.ie {
+        above(plan.irqs.as_slice(), s.ccpn)
+    } else {
+        ArrayVec::new()
+    }
+}
+
+fn above(irqs: &[u8], ccpn: u8) -> ArrayVec<u8, 32>
+    requires { length irqs.now ≤ 32 }
+    ensures { result.items ≡ filter (λ p. nat_lt ccpn p) irqs.now }
+{
+    let mut higher = ArrayVec::new();
+    for p in irqs {
+        if ccpn < *p {
+            higher.push(*p);
+        }
+    }
+    higher
+}

@@ -1,0 +1,68 @@
+// What follows a point.
+ghost use Rattle.std.specs.Prelude.{◌≡◌, IfErr, IfOk};
+ghost use Rattle.tc_isa.specs.Shapes.{shape_of};
+ghost use Rattle.value_domain.specs.State.{AreValues};
+ghost use Rattle.vd_transfer.specs.Effects.{HasRoom};
+ghost use Rattle.cfg_recover.specs.Duties.{duties_of};
+ghost use Rattle.cfg_recover.specs.FlowValues.{HasValues};
+ghost use Rattle.cfg_recover.specs.Flows.{told_by, Tells};
+ghost use Rattle.cfg_recover.specs.Own.{IsOwnFault};
+
+use crate::Flow;
+use crate::flow_entries::{entry, leaving, misaligned};
+use crate::flow_interrupts::interrupts;
+use crate::flow_states::interrupt_entry;
+use crate::flow_successors::successors;
+use crate::own::own_or_code;
+use depth_cert::Key;
+use elf_image::Image;
+use tc_isa::Inst;
+use tcd_plan::Plan;
+use value_domain::{Bounds, State};
+
+/// What may follow a point with this state, where no rule's own part fails there: all that a certificate must have because
+/// of it. Else the least rule whose own part fails.
+pub fn flow(
+    b: &Bounds,
+    image: &Image,
+    plan: &Plan,
+    key: &Key,
+    addr: u32,
+    s: &State,
+) -> Result<Flow, u8>
+    requires { AreValues b.now s.now.regs }
+    ensures fault { IfErr result (IsOwnFault b.now image.now plan.now key.now addr s.now) }
+    ensures duties { IfOk result (Tells b.now image.now plan.now key.now addr s.now) }
+    ensures values { IfOk result (HasValues b.now) }
+{
+    match own_or_code(b, image, plan, key, addr, s) {
+        Ok((inst, size)) => Ok(flow_of(b, image, plan, key, addr, s, &inst, size)),
+        Err(rule) => Err(rule),
+    }
+}
+
+/// The duties of a point, by its instruction and that one's size in bytes.
+fn flow_of(
+    b: &Bounds,
+    image: &Image,
+    plan: &Plan,
+    key: &Key,
+    addr: u32,
+    s: &State,
+    inst: &Inst,
+    size: u32,
+) -> Flow
+    requires values { AreValues b.now s.now.regs }
+    requires room { HasRoom b.now (shape_of inst.now) s.now }
+    ensures values { HasValues b.now result }
+    ensures told { told_by plan.now key.now s.now result ≡ duties_of b.now image.now plan.now key.now addr s.now (shape_of inst.now) size }
+{
+    Flow {
+        jumps: successors(b, image, plan, addr, s, inst, size),
+        enter: entry(b, plan, key, addr, s, inst, size),
+        aln: misaligned(b, plan, key, s, inst),
+        irqs: interrupts(plan, s),
+        irq_entry: interrupt_entry(b, plan, key, s),
+        leave: leaving(key, s, inst),
+    }
+}

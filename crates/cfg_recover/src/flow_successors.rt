@@ -1,0 +1,110 @@
+// The successors of a point in its frame.
+ghost use Rattle.std.specs.Prelude.{◌≡◌, All, Some};
+ghost use Rattle.tc_isa.specs.Shapes.{shape_of};
+ghost use Rattle.value_domain.specs.Values.{IsValue, any_val};
+ghost use Rattle.value_domain.specs.State.{AreValues};
+ghost use Rattle.vd_transfer.specs.Effects.{HasRoom};
+ghost use Rattle.vd_transfer.specs.Branches.{refine_of};
+ghost use Rattle.cfg_recover.specs.Duties.{jump_on, loaded_at, next_of, successors_of};
+ghost use Rattle.cfg_recover.specs.FlowValues.{JumpsWithValues};
+ghost use Rattle.cfg_recover.specs.Flows.{told_jump, told_jumps};
+
+use crate::Jump;
+use crate::flow_targets::{one, targets};
+use elf_image::Image;
+use store_ranges::load_of;
+use tc_isa::{Inst, Shape, shape};
+use tcd_plan::Plan;
+use value_domain::{Bounds, State, Val};
+use vd_transfer::{address, refine, transfer};
+
+/// Where the instruction may go on in its frame, without what follows a call or a system call.
+pub(crate) fn successors(
+    b: &Bounds,
+    image: &Image,
+    plan: &Plan,
+    addr: u32,
+    s: &State,
+    inst: &Inst,
+    size: u32,
+) -> [Option<Jump>; 2]
+    requires values { AreValues b.now s.now.regs }
+    requires room { HasRoom b.now (shape_of inst.now) s.now }
+    ensures values { All (JumpsWithValues b.now) result }
+    ensures jumps { told_jumps result ≡ successors_of b.now image.now plan.now addr s.now (shape_of inst.now) size }
+{
+    let next = addr.wrapping_add(size);
+    match shape(inst) {
+        Shape::Branch { by, .. } => [
+            side(b, plan, inst, s, false, next),
+            side(b, plan, inst, s, true, addr.wrapping_add(by)),
+        ],
+        Shape::Jump { to } => [
+            Some(Jump {
+                targets: targets(plan, s, addr, to),
+                state: s.copy(),
+            }),
+            None,
+        ],
+        Shape::Call { .. } | Shape::Ret | Shape::Rfe | Shape::Syscall { .. } | Shape::Mtcr { .. } =>
+            [None, None],
+        _ => [Some(step(b, image, plan, addr, s, inst, size)), None],
+    }
+}
+
+/// A jump on a side of a branch, if that side is possible.
+fn side(b: &Bounds, plan: &Plan, inst: &Inst, s: &State, taken: bool, to: u32) -> Option<Jump>
+    requires { AreValues b.now s.now.regs }
+    ensures values { JumpsWithValues b.now result }
+    ensures jump { told_jump result ≡ jump_on to (refine_of b.now plan.now (shape_of inst.now) s.now taken) }
+{
+    let state = refine(b, plan, inst, s, taken)?;
+    Some(Jump {
+        targets: one(to),
+        state,
+    })
+}
+
+/// The step to the next instruction.
+fn step(
+    b: &Bounds,
+    image: &Image,
+    plan: &Plan,
+    addr: u32,
+    s: &State,
+    inst: &Inst,
+    size: u32,
+) -> Jump
+    requires values { AreValues b.now s.now.regs }
+    requires room { HasRoom b.now (shape_of inst.now) s.now }
+    ensures values { JumpsWithValues b.now (Some result) }
+    ensures jump { told_jump (Some result) ≡ next_of b.now image.now plan.now addr s.now (shape_of inst.now) size }
+{
+    let value = loaded(b, image, plan, s, inst);
+    Jump {
+        targets: one(addr.wrapping_add(size)),
+        state: transfer(b, plan, inst, s, &value),
+    }
+}
+
+/// What the instruction loads.
+fn loaded(b: &Bounds, image: &Image, plan: &Plan, s: &State, inst: &Inst) -> Val
+    requires { AreValues b.now s.now.regs }
+    ensures loaded { result ≡ loaded_at b.now image.now plan.now s.now (shape_of inst.now) }
+    ensures value { IsValue b.now result }
+{
+    match shape(inst) {
+        Shape::Load { size, signed, .. } => {
+            load_of(b, image, plan, &address(b, plan, inst, s), size, signed)
+        }
+        _ => any(b),
+    }
+}
+
+fn any(b: &Bounds) -> Val
+    ensures any { result ≡ any_val }
+    ensures value { IsValue b.now result }
+{
+    let _width = b.width();
+    Val::any()
+}

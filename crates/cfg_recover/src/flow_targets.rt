@@ -1,0 +1,75 @@
+// Where jumps and calls may go.
+ghost use Rattle.std.specs.Prelude.{◌≡◌, ◌<◌, ◌≤◌, ◌-◌, ◌*◌, ◌/◌, ◌↔◌, [], ◌∷◌, ℕ, IsTrue, Some, length, map, slice_get, unwrap_or};
+ghost use Rattle.tc_isa.specs.Bounded.{IsTarget};
+ghost use Rattle.value_domain.specs.Sets.{Among, AreWords, Rising, distinct, put};
+ghost use Rattle.cfg_recover.specs.Own.{named_by, targets_of};
+
+use arrayvec::ArrayVec;
+use tc_isa::Target;
+use tcd_plan::Plan;
+use value_domain::{State, Val};
+use vd_transfer::reg;
+
+/// The addresses to which a jump or a call at `addr` may go, as far as they are known.
+pub(crate) fn targets(plan: &Plan, s: &State, addr: u32, to: Target) -> ArrayVec<u32, 128>
+    requires { IsTarget to }
+    ensures { result.items ≡ unwrap_or (targets_of plan.now s.now addr to) [] }
+{
+    match to {
+        Target::Rel(by) => one(addr.wrapping_add(by)),
+        Target::Abs(x) => one(x),
+        Target::Reg(r) => named(&reg(plan, s, r)),
+    }
+}
+
+/// One address.
+pub(crate) fn one(x: u32) -> ArrayVec<u32, 128>
+    ensures { result.items ≡ x ∷ [] }
+{
+    let mut targets = ArrayVec::new();
+    targets.push(x);
+    targets
+}
+
+/// The addresses that the words of a value name.
+fn named(v: &Val) -> ArrayVec<u32, 128>
+    ensures { result.items ≡ unwrap_or (named_by v.now) [] }
+{
+    match v {
+        Val::Set(words) => evened(words.as_slice()),
+        Val::Span { .. } => ArrayVec::new(),
+    }
+}
+
+/// The words with bit 0 cleared, each once: where neighbours become equal, one of them.
+fn evened(words: &[u32]) -> ArrayVec<u32, 128>
+    requires { AreWords words.now }
+    ensures { result.items ≡ distinct (map (λ w. w / 2 * 2) words.now) }
+{
+    let mut evened = ArrayVec::new();
+    for word in words {
+        add_once(&mut evened, *word / 2 * 2);
+    }
+    evened
+}
+
+/// Adds a word that isn't below the others, unless it is there already.
+fn add_once(words: &mut ArrayVec<u32, 128>, x: u32)
+    requires room { length words.old.items < 128 }
+    requires rising { Rising words.old.items }
+    requires greatest { (y : ℕ) → Among y words.old.items → y ≤ x }
+    ensures { words.new.items ≡ put x words.old.items }
+{
+    if !ends_with(words.as_slice(), x) {
+        words.push(x);
+    }
+}
+
+fn ends_with(words: &[u32], x: u32) -> bool
+    ensures { IsTrue result ↔ (slice_get words.now (length words.now - 1) ≡ Some x) }
+{
+    match words.last() {
+        Some(last) => *last == x,
+        None => false,
+    }
+}
