@@ -12,7 +12,6 @@ use Rattle.tc_machine.specs.Machine.{a11}
 use Rattle.tc_machine.specs.Stepping.{run}
 use Rattle.tc_machine.specs.Safe.{IsMachine, Fits}
 use Rattle.tc_machine.proofs.Stays.{stays_run}
-use Rattle.store_ranges.specs.Laws.{HasImageBytes}
 use Rattle.depth_cert.specs.Points.{find_point}
 use Rattle.depth_cert.specs.Certs.{CertData, IsCert, find_node}
 use Rattle.cfg_recover.specs.Accepting.{Accepts, certified_need}
@@ -45,23 +44,23 @@ module _ (image : ImageData) (plan : PlanData) (cert : CertData) (most : ℕ) wh
       record { at = refl; nodes = all_stand m.core m.mem m.pcxi (a11 m) m.pc frame (s ∷ below) k.stands k.frames; point = lies_at m frame (s ∷ below) k; is = k.is }
 
   -- what a step does says that its edge is owed
-  edge_done : (m : Machine) (e : Event) (ok : IsPlan plan) (fits_reserve : most ≤ plan.areas - plan.reserve) (is_cert : IsCert cert) (accepted : Accepts image plan cert) (bytes : HasImageBytes image) (words : IsMachine m) → Fits plan m e →
+  edge_done : (m : Machine) (e : Event) (ok : IsPlan plan) (fits_reserve : most ≤ plan.areas - plan.reserve) (is_cert : IsCert cert) (accepted : Accepts image plan cert) (words : IsMachine m) → Fits plan m e →
       (frame : Frame) (below : List Frame) → Kept image plan cert most m frame below → EdgeOwed image plan cert m e (standing m.pc frame below)
-  edge_done m e ok fits_reserve is_cert accepted bytes words fits frame [] k =
-      let d = step-done image plan ok cert most fits_reserve is_cert accepted bytes m words e fits frame [] k in
+  edge_done m e ok fits_reserve is_cert accepted words fits frame [] k =
+      let d = step-done image plan ok cert most fits_reserve is_cert accepted m words e fits frame [] k in
       record { node = frame.node; stands = k.stands; point = k.point; found = k.found; shape = d.shape; size = d.size; code = d.code; owed = d.owes }
-  edge_done m e ok fits_reserve is_cert accepted bytes words fits frame (s ∷ below) k =
-      let d = step-done image plan ok cert most fits_reserve is_cert accepted bytes m words e fits frame (s ∷ below) k in
+  edge_done m e ok fits_reserve is_cert accepted words fits frame (s ∷ below) k =
+      let d = step-done image plan ok cert most fits_reserve is_cert accepted m words e fits frame (s ∷ below) k in
       record { node = frame.node; stands = k.stands; point = k.point; found = k.found; shape = d.shape; size = d.size; code = d.code; owed = d.owes }
 
 -- ---- the theorems
 pub frames_are_held : AcceptedHoldsFrames
-frames_are_held image plan cert ok bytes is_cert accepted m es start all_fit =
-    let g = held image plan ok cert bytes is_cert accepted m es start all_fit in
+frames_are_held image plan cert ok is_cert accepted m es start all_fit =
+    let g = held image plan ok cert is_cert accepted m es start all_fit in
     subst (HoldFrames plan cert (run m es)) g.stands (hold_kept image plan cert (certified_need image plan cert) (run m es) g.frame g.below g.kept)
 
 pub edges_are_owed : AcceptedOwesEdges
-edges_are_owed image plan cert ok bytes is_cert accepted m es e start all_fit fits =
-    let g = held image plan ok cert bytes is_cert accepted m es start all_fit in
+edges_are_owed image plan cert ok is_cert accepted m es e start all_fit fits =
+    let g = held image plan ok cert is_cert accepted m es start all_fit in
     subst (EdgeOwed image plan cert (run m es) e) g.stands
-    (edge_done image plan cert (certified_need image plan cert) (run m es) e ok (few image plan ok cert bytes is_cert accepted m es start all_fit) is_cert accepted bytes (stays_run ok m es start.machine all_fit) fits g.frame g.below g.kept)
+    (edge_done image plan cert (certified_need image plan cert) (run m es) e ok (few image plan ok cert is_cert accepted m es start all_fit) is_cert accepted (stays_run ok m es start.machine all_fit) fits g.frame g.below g.kept)

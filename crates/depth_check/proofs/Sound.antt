@@ -14,7 +14,6 @@ use Rattle.tc_machine.proofs.Fetched.{IsAtCode-from}
 use Rattle.tc_machine.proofs.Stays.{irq_lt, stays_step, stays_run}
 use Rattle.tc_machine.proofs.Areas.{Areas-start, ChainsAreWhole-from}
 use Rattle.vd_transfer.specs.Registers.{word_val}
-use Rattle.store_ranges.specs.Laws.{HasImageBytes}
 use Rattle.depth_cert.specs.Keys.{IsKey}
 use Rattle.depth_cert.specs.Points.{find_point}
 use Rattle.depth_cert.specs.Nodes.{NodeData}
@@ -83,12 +82,12 @@ module _ (image : ImageData) (plan : PlanData) (ok : IsPlan plan) (cert : CertDa
       let few : (b.node).need ≤ plan.areas - plan.reserve = (rules.holds).start found.key refl in
       omega arith
 
-  module _ (bytes : HasImageBytes image) (most : ℕ) (few : most ≤ plan.areas - plan.reserve) where
+  module _ (most : ℕ) (few : most ≤ plan.areas - plan.reserve) where
     run-kept : (m : Machine) (es : List Event) → IsMachine m → (now : List Standing) → Goes image plan cert most m now → AllFit plan m es → Goes image plan cert most (run m es) (frames_from m es now)
     run-kept m [] words now g fits = g
     run-kept m (e ∷ es) words now g fits =
         run-kept (step m e) es (stays_step m e words (irq_lt ok m e fits.0) (fits.0).input (fits.0).status) (frames_after m e now)
-        (step-kept image plan ok cert most few is_cert accepted bytes m words e fits.0 now g) fits.1
+        (step-kept image plan ok cert most few is_cert accepted m words e fits.0 now g) fits.1
 
     -- the invariant says that the state is safe
     safe-kept : (m : Machine) (e : Event) → IsMachine m → (frame : Frame) (below : List Frame) → Kept image plan cert most m frame below → IsSafeAt image plan most m e
@@ -103,11 +102,11 @@ module _ (image : ImageData) (plan : PlanData) (ok : IsPlan plan) (cert : CertDa
           chains = ChainsAreWhole-from ok most m (used_by frame below) k.free (Links-Frames plan cert most m.core m.mem m.pcxi (a11 m) frame below k.frames) k.areas (omega arith);
           code_in_rom = IsAtCode-from image ok m k.rom code.bytes code.inst code.spells;
           stores_in_range = stores_held (limits_in plan cert) image plan (frame.node).key m e (k.point).state r.shape r.size
-              (at_point image plan ok cert most few is_cert accepted bytes m words frame below k r.shape r.size r.holds);
+              (at_point image plan ok cert most few is_cert accepted m words frame below k r.shape r.size r.holds);
         }
 
 -- ---- the theorems
-module _ (image : ImageData) (plan : PlanData) (ok : IsPlan plan) (cert : CertData) (bytes : HasImageBytes image) (is_cert : IsCert cert) (accepted : Accepts image plan cert) (m : Machine) (es : List Event) (start : Starts image plan m) (all_fit : AllFit plan m es) where
+module _ (image : ImageData) (plan : PlanData) (ok : IsPlan plan) (cert : CertData) (is_cert : IsCert cert) (accepted : Accepts image plan cert) (m : Machine) (es : List Event) (start : Starts image plan m) (all_fit : AllFit plan m es) where
   small : IsKey (start_key image plan)
   small = record { kind = omega arith; entry = subst (λ p. p < 2 ^ 32) start.pc (start.machine).pc; prio = omega arith }
 
@@ -120,7 +119,7 @@ module _ (image : ImageData) (plan : PlanData) (ok : IsPlan plan) (cert : CertDa
   -- the invariant holds after a run, with the run's frames
   pub held : Goes image plan cert (certified_need image plan cert) (run m es) (frames image plan m es)
   held =
-      run-kept image plan ok cert is_cert accepted bytes (certified_need image plan cert) few m es start.machine (record { key = start_key image plan; at = m.pc } ∷ [])
+      run-kept image plan ok cert is_cert accepted (certified_need image plan cert) few m es start.machine (record { key = start_key image plan; at = m.pc } ∷ [])
       (record {
         frame = oldest m (first).node;
         below = [];
@@ -129,6 +128,6 @@ module _ (image : ImageData) (plan : PlanData) (ok : IsPlan plan) (cert : CertDa
       }) all_fit
 
 pub accepted_is_safe : AcceptedIsSafe
-accepted_is_safe image plan cert ok bytes is_cert accepted m es e start all_fit fits =
-    let g = held image plan ok cert bytes is_cert accepted m es start all_fit in
-    safe-kept image plan ok cert is_cert accepted bytes (certified_need image plan cert) (few image plan ok cert bytes is_cert accepted m es start all_fit) (run m es) e (stays_run ok m es start.machine all_fit) g.frame g.below g.kept
+accepted_is_safe image plan cert ok is_cert accepted m es e start all_fit fits =
+    let g = held image plan ok cert is_cert accepted m es start all_fit in
+    safe-kept image plan ok cert is_cert accepted (certified_need image plan cert) (few image plan ok cert is_cert accepted m es start all_fit) (run m es) e (stays_run ok m es start.machine all_fit) g.frame g.below g.kept

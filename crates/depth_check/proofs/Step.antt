@@ -28,7 +28,6 @@ use Rattle.tc_machine.proofs.Stays.{irq_lt}
 use Rattle.tc_machine.proofs.Steps.{done-is, step-is, with_event}
 use Rattle.value_domain.specs.declared.states.State.{State}
 use Rattle.vd_transfer.specs.Effects.{saved_lower, restored_lower}
-use Rattle.store_ranges.specs.Laws.{HasImageBytes}
 use Rattle.depth_cert.specs.declared.keys.Key.{Key}
 use Rattle.depth_cert.specs.declared.points.Exit.{Exit}
 use Rattle.depth_cert.specs.Keys.{IsKey}
@@ -168,7 +167,7 @@ exit_for : (node : NodeData) (x : Exit) (o : Option Exit) → node.exit ≡ o �
 exit_for node x None e h = absurd h
 exit_for node x (Some y) e h = record { exit = y; is = e; covers = h }
 
-module _ (image : ImageData) (plan : PlanData) (ok : IsPlan plan) (cert : CertData) (most : ℕ) (few : most ≤ plan.areas - plan.reserve) (is_cert : IsCert cert) (accepted : Accepts image plan cert) (bytes : HasImageBytes image) where
+module _ (image : ImageData) (plan : PlanData) (ok : IsPlan plan) (cert : CertData) (most : ℕ) (few : most ≤ plan.areas - plan.reserve) (is_cert : IsCert cert) (accepted : Accepts image plan cert) where
   -- the node that a duty to enter names
   record NodeFor (frame : Frame) (s : State) (key : Key) (t : State) : Type 0 where
     pub node : NodeData
@@ -209,7 +208,6 @@ module _ (image : ImageData) (plan : PlanData) (ok : IsPlan plan) (cert : CertDa
       at_point = record {
         limits = limits_are plan cert.version;
         is_plan = ok;
-        bytes = bytes;
         machine = words;
         running = k.running;
         memory = k.memory;

@@ -2,7 +2,6 @@
 use Rattle.elf_image.specs.Images.{ImageData}
 use Rattle.tcd_plan.specs.PlanData.{PlanData, IsPlan}
 use Rattle.tc_machine.specs.Safe.{Safe}
-use Rattle.store_ranges.specs.Laws.{HasImageBytes}
 use Rattle.depth_cert.specs.Certs.{CertData, IsCert}
 use Rattle.cfg_recover.specs.Accepting.{Accepts, certified_need}
 use Rattle.cfg_recover.specs.Frames.{FramesHeld, EdgesOwed}
@@ -10,8 +9,7 @@ use Rattle.cfg_recover.specs.Frames.{FramesHeld, EdgesOwed}
 -- a promise of every certificate that the rules accept
 abbrev pub OfAccepted : (ImageData → PlanData → CertData → Type 0) → Type 0
 OfAccepted Promise =
-    (image : ImageData) (plan : PlanData) (cert : CertData) → IsPlan plan → HasImageBytes image → IsCert cert → Accepts image plan cert
-    → Promise image plan cert
+    (image : ImageData) (plan : PlanData) (cert : CertData) → IsPlan plan → IsCert cert → Accepts image plan cert → Promise image plan cert
 
 -- each run is safe, with the need of the start's node
 abbrev pub AcceptedIsSafe : Type 0
