@@ -1,7 +1,5 @@
 -- A save of the upper context begins a frame.
 use Rattle.std.proofs.Common.{◌≡◌, ℕ, suc, ◌+◌, ◌-◌, ◌^◌, ◌<◌, ◌≤◌, ◌↔◌, Bool, true, List, [], ◌∷◌, length, get_or, Some, refl, sym, ap, ◌∙◌, subst, arith}
-use Rattle.std.specs.Prelude.{nat_lt}
-use Rattle.std.proofs.lemmas.Bool.{cond_both}
 use Rattle.csa_chain.specs.Memory.{Memory, with_words}
 use Rattle.csa_chain.specs.Chain.{link_in, link_address, area_word}
 use Rattle.csa_chain.specs.Contexts.{pcxi_word_of, pcpn_of}
@@ -29,6 +27,7 @@ use Rattle.depth_cert.specs.declared.points.Point.{Point}
 use Rattle.depth_cert.specs.Points.{find_point}
 use Rattle.depth_cert.specs.Nodes.{NodeData}
 use Rattle.depth_cert.specs.Certs.{CertData}
+use Rattle.depth_check.proofs.Registers.{reg_of_lt}
 use Rattle.depth_check.proofs.Frames.{Frame, Stands, oldest_first, LowerSame, UpperSame, Leaves, Resumed, used_by, Kept, Frames-same, need-Frames, own_locals, length-Locals, length-ImpliedBy, length-oldest_first}
 
 -- the machine once its upper context is saved, with these registers, address and status
@@ -71,7 +70,7 @@ implied_none [] h = tt
 implied_none (f ∷ fs) h = absurd (omega arith)
 
 pub reg_lt : (m : Machine) → IsMachine m → (r : ℕ) → reg m r < 2 ^ 32
-reg_lt m k r = cond_both (nat_lt r 16) (get_or m.d r 0) (get_or m.a (r - 16) 0) (λ w. w < 2 ^ 32) (λ _. register_lt m.d k.d r) (λ _. register_lt m.a k.a (r - 16))
+reg_lt m k r = reg_of_lt m.d m.a k.d k.a r
 
 module _ (image : ImageData) (plan : PlanData) (ok : IsPlan plan) (cert : CertData) (most : ℕ) (few : most ≤ plan.areas - plan.reserve) where
   module _ (m : Machine) (frame : Frame) (below : List Frame) (k : Kept image plan cert most m frame below) where

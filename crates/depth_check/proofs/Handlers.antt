@@ -1,8 +1,8 @@
 -- What interrupts and traps begin.
-use Rattle.std.proofs.Common.{◌≡◌, ◌≢◌, ℕ, ◌+◌, ◌-◌, ◌*◌, ◌/◌, ◌%◌, ◌^◌, ◌<◌, ◌≤◌, ◌⊎◌, inl, inr, Bool, true, false, List, [], length, get_or, set, Some, refl, sym, ap, ◌∙◌, arith, length-set}
+use Rattle.std.proofs.Common.{◌≡◌, ◌≢◌, ℕ, ◌+◌, ◌*◌, ◌/◌, ◌%◌, ◌^◌, ◌<◌, ◌≤◌, ◌⊎◌, inl, inr, Bool, true, false, List, [], length, get_or, set, Some, refl, sym, ap, ◌∙◌, arith, length-set}
 use Rattle.std.proofs.lemmas.Bool.{cond_both, eq-eqb}
 use Rattle.std.proofs.lemmas.List.{get_or-set_same, get_or-set_other}
-use Rattle.std.specs.Prelude.{Option, None, IfSome, bit_or, nat_lt, replicate}
+use Rattle.std.specs.Prelude.{Option, None, IfSome, bit_or, replicate}
 use Rattle.csa_chain.proofs.ContextLaws.{reg_of}
 use Rattle.elf_image.specs.Images.{ImageData}
 use Rattle.tcd_plan.specs.PlanData.{PlanData}
@@ -22,13 +22,10 @@ use Rattle.cfg_recover.specs.Frames.{handler_key}
 use Rattle.cfg_recover.specs.Accepting.{Accepts}
 use Rattle.cfg_recover.proofs.EntryLaws.{holds_covered, holds_irq, holds_aln, holds_sys, entry_length, aln_length, sys_length, stack_member, holds_after_system}
 use Rattle.depth_check.proofs.Frames.{Frame, LowerSame, UpperSame, Leaves, by_return, from_system, from_handler, Resumed, Kept, length-ImpliedBy}
-use Rattle.depth_check.proofs.Registers.{set_a11, set_a10, set_d15}
+use Rattle.depth_check.proofs.Registers.{reg_of_lt, set_a11, set_a10, set_d15}
 use Rattle.depth_check.proofs.Enter.{Begins}
 use Rattle.depth_check.proofs.Rules.{Found}
 use Rattle.depth_check.proofs.Entries.{lower_not, if_some, PointFor, after, again, upper_in}
-
-reg_of_lt : (d a : List ℕ) → AreRegisters d → AreRegisters a → (r : ℕ) → reg_of d a r < 2 ^ 32
-reg_of_lt d a ds ars r = cond_both (nat_lt r 16) (get_or d r 0) (get_or a (r - 16) 0) (λ w. w < 2 ^ 32) (λ _. register_lt d ds r) (λ _. register_lt a ars (r - 16))
 
 handler_is : (psw : ℕ) → is_of (handler_psw psw) ≡ true
 handler_is psw = eq-eqb _ _ (bit psw)
@@ -126,7 +123,6 @@ module _ (image : ImageData) (plan : PlanData) (cert : CertData) (most : ℕ) (i
 
       pub aln_begins : Begins plan cert m frame (k.point).state (set m.d 15 4) (handler_a m m.pc) (bit_or m.btv (2 * 2 ^ 5)) (handler_psw m.psw) false m.ccpn m.pc (handler_key 4 (bit_or m.btv (2 * 2 ^ 5)) ((frame.node).key).prio)
       aln_begins =
-          let sp = stack_of plan (frame.node).key (k.point).state in
           let ds = trap_ds 4 four m.pc words.pc in
           let same = trap_same 4 four m.pc words.pc in
           record {

@@ -82,9 +82,6 @@ used_popped frame (s ∷ below) l rest flags e = ap (λ ls. ls ++ frame.area ∷
 
 module _ (image : ImageData) (plan : PlanData) (ok : IsPlan plan) (cert : CertData) (most : ℕ) (few : most ≤ plan.areas - plan.reserve) where
   module _ (m : Machine) (words : IsMachine m) (frame : Frame) (below : List Frame) (k : Kept image plan cert most m frame below) where
-    saved_mem : Memory
-    saved_mem = with_words m.mem (link_address (link_in m.fcx)) (context_of m false)
-
     -- ---- a save of the lower context
     module _ (free : HasFree plan m.mem m.fcx m.lcx (used_by frame below)) where
       -- a word of the new area
@@ -99,7 +96,6 @@ module _ (image : ImageData) (plan : PlanData) (ok : IsPlan plan) (cert : CertDa
       pub lower_pushed : (pc : ℕ) (ie : Bool) (ccpn : ℕ) (t : State) → t.locals.items ≡ ((k.point).state).locals.items ++ ((k.point).state).lower ∷ [] → t.lower ≡ ((k.point).state).lower → length t.regs ≡ 27 → Holds plan (reg m) ie ccpn t → PointFor frame.node pc t →
           Kept image plan cert most (record (saved m false) { pc = pc; ie = ie; ccpn = ccpn; end = Running }) (with_locals frame (link_in m.fcx ∷ frame.locals) (((k.point).state).lower ∷ frame.flags)) below
       lower_pushed pc ie ccpn t pushed same_lower long holds at =
-          let mem = with_words m.mem (link_address (link_in m.fcx)) (context_of m false) in
           let stay = Frames-same plan cert most m.core m.mem (with_words m.mem (link_address (link_in m.fcx)) (context_of m false)) m.pcxi (a11 m) frame below
           (SameAreas-written m.mem (link_in m.fcx) (used_by frame below) (context_of m false) (omega arith) free.avoids_used) k.frames in
           let link_small = link_in-lt m.fcx in
@@ -150,7 +146,6 @@ module _ (image : ImageData) (plan : PlanData) (ok : IsPlan plan) (cert : CertDa
         let top : Newest m.core m.mem m.pcxi (a11 m) frame.word0 frame.flags frame.locals =
         newest m.core m.mem m.pcxi (a11 m) frame.word0 frame.flags frame.locals (own_locals plan cert most m.core m.mem m.pcxi (a11 m) frame below k.frames) (omega arith) in
         let local : Local m.core m.mem m.pcxi (a11 m) top.area top.flag frame.word0 = top.local in
-        let after : Frame = with_locals frame top.areas top.flags in
         let used : used_by frame below ≡ top.area ∷ used_by (with_locals frame top.areas top.flags) below = used_popped frame below top.area top.areas top.flags top.same_areas in
         let areas : Areas plan m.mem m.fcx m.lcx (top.area ∷ used_by (with_locals frame top.areas top.flags) below) k.free = subst (λ us. Areas plan m.mem m.fcx m.lcx us k.free) used k.areas in
         let links : Links m.mem m.pcxi (top.area ∷ used_by (with_locals frame top.areas top.flags) below) = subst (Links m.mem m.pcxi) used (Links-Frames plan cert most m.core m.mem m.pcxi (a11 m) frame below k.frames) in

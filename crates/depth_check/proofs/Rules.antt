@@ -70,7 +70,6 @@ key_same j k hj hk e =
 -- ---- limits
 pub limits_are : (plan : PlanData) (version : ℕ) → AreLimits (limits_for plan version)
 limits_are plan version =
-    let v = version == 1 in
     record {
       wide = cond_both (version == 1) 64 128 (λ w. 64 ≤ w) (λ _. omega arith) (λ _. omega arith);
       narrow = cond_both (version == 1) 64 128 (λ w. w ≤ 128) (λ _. omega arith) (λ _. omega arith);
@@ -78,15 +77,19 @@ limits_are plan version =
     }
 
 -- ---- points
+-- what a point of a node owes
+abbrev pub duties_at : ImageData → PlanData → CertData → NodeData → ℕ → State → Shape → ℕ → List Owed
+duties_at image plan cert node p s shape n = duties_of (limits_in plan cert) image plan node.key p s shape n
+
 -- what the rules ask at a point of a node
 pub record PointHolds (image : ImageData) (plan : PlanData) (cert : CertData) (node : NodeData) (p : ℕ) (s : State) (shape : Shape) (size : ℕ) : Type 0 where
   pub code : IsCode image plan p shape size
   pub regs : length s.regs ≡ 27
   pub values : AreValues (limits_in plan cert) s.regs
   pub own : (r : ℕ) → OwnRule (limits_in plan cert) plan node.key p s shape r
-  pub met : (d : Owed) → Contains (duties_of (limits_in plan cert) image plan node.key p s shape size) d → IsMet cert node s d.duty
+  pub met : (d : Owed) → Contains (duties_at image plan cert node p s shape size) d → IsMet cert node s d.duty
   pub locals : length s.locals.items ≤ node.need
-  pub entered : (d : Owed) → Contains (duties_of (limits_in plan cert) image plan node.key p s shape size) d → IsNeedAbove cert node s d.duty
+  pub entered : (d : Owed) → Contains (duties_at image plan cert node p s shape size) d → IsNeedAbove cert node s d.duty
   pub start : node.key ≡ start_key image plan → p ≡ image.entry → node.need ≤ plan.areas - plan.reserve
 
 pub record PointRules (image : ImageData) (plan : PlanData) (cert : CertData) (node : NodeData) (p : ℕ) (s : State) : Type 0 where

@@ -36,7 +36,7 @@ use Rattle.depth_cert.specs.Nodes.{NodeData}
 use Rattle.depth_cert.specs.Certs.{CertData, IsCert, find_node}
 use Rattle.cfg_recover.specs.Code.{IsCode}
 use Rattle.cfg_recover.specs.Entries.{call_key, irq_key, sys_key, aln_key, call_entry, irq_entry, sys_entry, aln_entry, exit_of, after_of}
-use Rattle.cfg_recover.specs.Duties.{Owed, jump, enter, resume, leave, owed, duties_of}
+use Rattle.cfg_recover.specs.Duties.{Owed, jump, enter, resume, leave, owed}
 use Rattle.cfg_recover.specs.Accepting.{limits_in, HasPoint, ExitCovers, Accepts}
 use Rattle.cfg_recover.specs.Frames.{Way, to, call, irq, sys, aln, Standing, way_of_shape, way_by, way_in, handler_key, frames_at, frames_entered, frames_left, frames_by, size_in, frames_after, IsReturn, OwesEntry, IsOwed}
 use Rattle.cfg_recover.specs.Moves.{IsAtPoint, StaysInFrame, traps}
@@ -46,7 +46,7 @@ use Rattle.depth_check.proofs.Frames.{Frame, standing, Leaves, by_return, from_s
 use Rattle.depth_check.proofs.Enter.{Begins, begun, entered, room, begins, saves, reg_lt}
 use Rattle.depth_check.proofs.Leave.{globals_held, comes_back, restores, none_held}
 use Rattle.depth_check.proofs.Plain.{Kept-moved}
-use Rattle.depth_check.proofs.Rules.{limits_are, PointHolds, node_is, rules_at, Found, node_found}
+use Rattle.depth_check.proofs.Rules.{limits_are, PointHolds, duties_at, node_is, rules_at, Found, node_found}
 use Rattle.depth_check.proofs.Entries.{PointFor, point_for, if_some, call_begins}
 use Rattle.depth_check.proofs.Handlers.{handler_a, irq_begins, aln_begins, sys_begins}
 use Rattle.depth_check.proofs.Locals.{with_locals, lower_pushed, lower_popped}
@@ -219,20 +219,20 @@ module _ (image : ImageData) (plan : PlanData) (ok : IsPlan plan) (cert : CertDa
         inside = k.inside;
       }
 
-      entering : (rule : ℕ) (key : Key) (t : State) → IsKey key → Contains (duties_of (limits_in plan cert) image plan (frame.node).key m.pc (k.point).state shape n) (owed rule (enter key t)) → NodeFor frame (k.point).state key t
+      entering : (rule : ℕ) (key : Key) (t : State) → IsKey key → Contains (duties_at image plan cert frame.node m.pc (k.point).state shape n) (owed rule (enter key t)) → NodeFor frame (k.point).state key t
       entering rule key t small owes = node_for frame (k.point).state key t small (find_node key cert.nodes) refl (h.met (owed rule (enter key t)) owes) (h.entered (owed rule (enter key t)) owes)
 
-      resuming : (rule : ℕ) (key : Key) (t : State) (q : ℕ) → (f : NodeFor frame (k.point).state key t) → Contains (duties_of (limits_in plan cert) image plan (frame.node).key m.pc (k.point).state shape n) (owed rule (resume key q))
+      resuming : (rule : ℕ) (key : Key) (t : State) (q : ℕ) → (f : NodeFor frame (k.point).state key t) → Contains (duties_at image plan cert frame.node m.pc (k.point).state shape n) (owed rule (resume key q))
           → IfSome (f.node).exit (λ x. PointFor frame.node q (after_of (k.point).state x key.kind))
       resuming rule key t q f owes =
           points_for frame.node q (k.point).state key.kind (f.node).exit
           (if_some (λ n. IfSome n.exit (λ x. HasPoint frame.node q (after_of (k.point).state x key.kind))) (find_node key cert.nodes) f.node (h.met (owed rule (resume key q)) owes) f.is)
 
-      jumping : (q : ℕ) (t : State) → Contains (duties_of (limits_in plan cert) image plan (frame.node).key m.pc (k.point).state shape n) (owed 4 (jump q t)) → PointFor frame.node q t
+      jumping : (q : ℕ) (t : State) → Contains (duties_at image plan cert frame.node m.pc (k.point).state shape n) (owed 4 (jump q t)) → PointFor frame.node q t
       jumping q t owes = point_for frame.node q t (find_point q (frame.node).points) refl (h.met (owed 4 (jump q t)) owes)
 
       -- ---- inside the frame
-      plain : (e : Event) → Fits plan m e → is_taken m e ≡ false → StaysInFrame shape → traps m e shape ≡ false → Steps image plan cert most m frame below (duties_of (limits_in plan cert) image plan (frame.node).key m.pc (k.point).state shape n) e n (way_by m e shape (does m e shape n).pc) (does m e shape n)
+      plain : (e : Event) → Fits plan m e → is_taken m e ≡ false → StaysInFrame shape → traps m e shape ≡ false → Steps image plan cert most m frame below (duties_at image plan cert frame.node m.pc (k.point).state shape n) e n (way_by m e shape (does m e shape n).pc) (does m e shape n)
       plain e fits none stays free =
           let mv = moves_in_frame (limits_in plan cert) image plan (frame.node).key m e (k.point).state shape n at_point fits none stays free in
           let at = jumping (does m e shape n).pc mv.state mv.owes in
@@ -252,22 +252,22 @@ module _ (image : ImageData) (plan : PlanData) (ok : IsPlan plan) (cert : CertDa
           })
 
       -- ---- a misaligned access
-      trapped : (e : Event) → traps m e shape ≡ true → Steps image plan cert most m frame below (duties_of (limits_in plan cert) image plan (frame.node).key m.pc (k.point).state shape n) e n (way_by m e shape (does m e shape n).pc) (does m e shape n)
+      trapped : (e : Event) → traps m e shape ≡ true → Steps image plan cert most m frame below (duties_at image plan cert frame.node m.pc (k.point).state shape n) e n (way_by m e shape (does m e shape n).pc) (does m e shape n)
       trapped e t =
           let small : IsKey (aln_key plan (frame.node).key) = record { kind = omega arith; entry = or_lt 32 plan.btv (2 * 2 ^ 5) (ok.words).btv (omega arith); prio = key_small.prio } in
           let owes = traps_owed (limits_in plan cert) image plan (frame.node).key m e (k.point).state shape n at_point t in
           let f = entering 10 (aln_key plan (frame.node).key) (aln_entry plan (frame.node).key (k.point).state) small owes in
           let b = began (set m.d 15 4) (handler_a m m.pc) (bit_or m.btv (2 * 2 ^ 5)) (handler_psw m.psw) false m.ccpn m.pc (handler_key 4 (bit_or m.btv (2 * 2 ^ 5)) ((frame.node).key).prio)
           (aln_begins image plan cert most is_cert accepted m words frame below k h.regs f.node f.found f.at f.room) in
-          subst (λ x. Steps image plan cert most m frame below (duties_of (limits_in plan cert) image plan (frame.node).key m.pc (k.point).state shape n) e n (way_by m e shape x.pc) x) (sym (traps-is m e shape n t ∙ trap-is m k.running b.saves 2 4 m.pc))
+          subst (λ x. Steps image plan cert most m frame below (duties_at image plan cert frame.node m.pc (k.point).state shape n) e n (way_by m e shape x.pc) x) (sym (traps-is m e shape n t ∙ trap-is m k.running b.saves 2 4 m.pc))
           (Steps-as (ap (λ t. cond t (aln (bit_or m.btv (2 * 2 ^ 5))) (way_of_shape shape (bit_or m.btv (2 * 2 ^ 5)))) t)
           (record {
             goes = Goes-as (entered_standing (λ j. handler_key 4 (bit_or m.btv (2 * 2 ^ 5)) j.prio) m.pc (bit_or m.btv (2 * 2 ^ 5)) m.pc frame below) b.goes;
-            owes = subst (λ v. OwesEntry (duties_of (limits_in plan cert) image plan (frame.node).key m.pc (k.point).state shape n) 10 (handler_key 4 (bit_or v (2 * 2 ^ 5)) ((frame.node).key).prio)) (sym k.btv) (aln_entry plan (frame.node).key (k.point).state, owes);
+            owes = subst (λ v. OwesEntry (duties_at image plan cert frame.node m.pc (k.point).state shape n) 10 (handler_key 4 (bit_or v (2 * 2 ^ 5)) ((frame.node).key).prio)) (sym k.btv) (aln_entry plan (frame.node).key (k.point).state, owes);
           }))
 
       -- ---- an interrupt
-      pub interrupted : (e : Event) → Fits plan m e → is_taken m e ≡ true → Steps image plan cert most m frame below (duties_of (limits_in plan cert) image plan (frame.node).key m.pc (k.point).state shape n) e n (irq (interrupt m e.irq).pc) (interrupt m e.irq)
+      pub interrupted : (e : Event) → Fits plan m e → is_taken m e ≡ true → Steps image plan cert most m frame below (duties_at image plan cert frame.node m.pc (k.point).state shape n) e n (irq (interrupt m e.irq).pc) (interrupt m e.irq)
       interrupted e fits taken =
           let low = irq_lt ok m e fits in
           let small : IsKey (irq_key plan e.irq) = record { kind = omega arith; entry = or_lt 32 plan.biv (e.irq * 2 ^ 5) (ok.words).biv (omega arith); prio = low } in
@@ -275,30 +275,29 @@ module _ (image : ImageData) (plan : PlanData) (ok : IsPlan plan) (cert : CertDa
           let f = entering 11 (irq_key plan e.irq) (irq_entry plan (frame.node).key (k.point).state e.irq) small owes in
           let b = began m.d (handler_a m m.pc) (bit_or m.biv (e.irq * 2 ^ 5)) (handler_psw m.psw) false e.irq m.pc (handler_key 2 (bit_or m.biv (e.irq * 2 ^ 5)) e.irq)
           (irq_begins image plan cert most is_cert accepted m words frame below k h.regs e.irq f.node f.found f.at f.room) in
-          subst (λ x. Steps image plan cert most m frame below (duties_of (limits_in plan cert) image plan (frame.node).key m.pc (k.point).state shape n) e n (irq x.pc) x) (sym (interrupt-is m k.running b.saves e.irq))
+          subst (λ x. Steps image plan cert most m frame below (duties_at image plan cert frame.node m.pc (k.point).state shape n) e n (irq x.pc) x) (sym (interrupt-is m k.running b.saves e.irq))
           (record {
             goes = Goes-as (entered_standing (λ j. handler_key 2 (bit_or m.biv (e.irq * 2 ^ 5)) e.irq) m.pc (bit_or m.biv (e.irq * 2 ^ 5)) m.pc frame below) b.goes;
-            owes = subst (λ v. OwesEntry (duties_of (limits_in plan cert) image plan (frame.node).key m.pc (k.point).state shape n) 11 (handler_key 2 (bit_or v (e.irq * 2 ^ 5)) e.irq)) (sym k.biv) (irq_entry plan (frame.node).key (k.point).state e.irq, owes);
+            owes = subst (λ v. OwesEntry (duties_at image plan cert frame.node m.pc (k.point).state shape n) 11 (handler_key 2 (bit_or v (e.irq * 2 ^ 5)) e.irq)) (sym k.biv) (irq_entry plan (frame.node).key (k.point).state e.irq, owes);
           })
 
     -- ---- a call
-    calls : (e : Event) (x : Target) (n : ℕ) → PointHolds image plan cert frame.node m.pc (k.point).state (Call x) n → Steps image plan cert most m frame below (duties_of (limits_in plan cert) image plan (frame.node).key m.pc (k.point).state (Call x) n) e n (call (does m e (Call x) n).pc) (does m e (Call x) n)
+    calls : (e : Event) (x : Target) (n : ℕ) → PointHolds image plan cert frame.node m.pc (k.point).state (Call x) n → Steps image plan cert most m frame below (duties_at image plan cert frame.node m.pc (k.point).state (Call x) n) e n (call (does m e (Call x) n).pc) (does m e (Call x) n)
     calls e x n h =
-        let key = call_key (frame.node).key (target_of m x) in
         let small : IsKey (call_key (frame.node).key (target_of m x)) = record { kind = omega arith; entry = target_lt m words x (shape_is image plan m.pc (Call x) n h.code); prio = key_small.prio } in
         let owes = calls_owed (limits_in plan cert) image plan (frame.node).key m (k.point).state x n (at_point (Call x) n h) in
         let f = entering (Call x) n h 5 (call_key (frame.node).key (target_of m x)) (call_entry (k.point).state) small owes.entered in
         let exits = resuming (Call x) n h 4 (call_key (frame.node).key (target_of m x)) (call_entry (k.point).state) (moved m.pc n) f owes.back in
         let b = began m.d (set m.a 11 (moved m.pc n)) (target_of m x) m.psw m.ie m.ccpn (moved m.pc n) (call_key (frame.node).key (target_of m x))
         (call_begins image plan cert most is_cert accepted m words frame below k h.regs (target_of m x) (moved m.pc n) (moved-lt m.pc n) f.node f.found f.at exits f.room) in
-        subst (λ y. Steps image plan cert most m frame below (duties_of (limits_in plan cert) image plan (frame.node).key m.pc (k.point).state (Call x) n) e n (call y.pc) y) (sym (call-is m k.running b.saves e x n))
+        subst (λ y. Steps image plan cert most m frame below (duties_at image plan cert frame.node m.pc (k.point).state (Call x) n) e n (call y.pc) y) (sym (call-is m k.running b.saves e x n))
         (record {
           goes = Goes-as (entered_standing (λ j. call_key j (target_of m x)) (moved m.pc n) (target_of m x) m.pc frame below) b.goes;
           owes = (call_entry (k.point).state, owes.entered);
         })
 
     -- ---- a system call
-    system : (e : Event) (tin n : ℕ) → PointHolds image plan cert frame.node m.pc (k.point).state (Syscall tin) n → Steps image plan cert most m frame below (duties_of (limits_in plan cert) image plan (frame.node).key m.pc (k.point).state (Syscall tin) n) e n (sys (does m e (Syscall tin) n).pc) (does m e (Syscall tin) n)
+    system : (e : Event) (tin n : ℕ) → PointHolds image plan cert frame.node m.pc (k.point).state (Syscall tin) n → Steps image plan cert most m frame below (duties_at image plan cert frame.node m.pc (k.point).state (Syscall tin) n) e n (sys (does m e (Syscall tin) n).pc) (does m e (Syscall tin) n)
     system e tin n h =
         let small : IsKey (sys_key plan (frame.node).key) = record { kind = omega arith; entry = or_lt 32 plan.btv (6 * 2 ^ 5) (ok.words).btv (omega arith); prio = key_small.prio } in
         let tin_small : tin < 2 ^ 32 = shape_is image plan m.pc (Syscall tin) n h.code in
@@ -308,10 +307,10 @@ module _ (image : ImageData) (plan : PlanData) (ok : IsPlan plan) (cert : CertDa
         (owes-syscall_back (limits_in plan cert) image plan (frame.node).key m.pc (k.point).state n tin) in
         let b = began (set m.d 15 tin) (handler_a m (moved m.pc n)) (bit_or m.btv (6 * 2 ^ 5)) (handler_psw m.psw) false m.ccpn (moved m.pc n) (handler_key 3 (bit_or m.btv (6 * 2 ^ 5)) ((frame.node).key).prio)
         (sys_begins image plan cert most is_cert accepted m words frame below k h.regs tin tin_small (moved m.pc n) (moved-lt m.pc n) f.node f.found f.at exits f.room) in
-        subst (λ x. Steps image plan cert most m frame below (duties_of (limits_in plan cert) image plan (frame.node).key m.pc (k.point).state (Syscall tin) n) e n (sys x.pc) x) (sym (syscall-is m k.running e tin n ∙ trap-is m k.running b.saves 6 tin (moved m.pc n)))
+        subst (λ x. Steps image plan cert most m frame below (duties_at image plan cert frame.node m.pc (k.point).state (Syscall tin) n) e n (sys x.pc) x) (sym (syscall-is m k.running e tin n ∙ trap-is m k.running b.saves 6 tin (moved m.pc n)))
         (record {
           goes = Goes-as (entered_standing (λ j. handler_key 3 (bit_or m.btv (6 * 2 ^ 5)) j.prio) (moved m.pc n) (bit_or m.btv (6 * 2 ^ 5)) m.pc frame below) b.goes;
-          owes = subst (λ v. OwesEntry (duties_of (limits_in plan cert) image plan (frame.node).key m.pc (k.point).state (Syscall tin) n) 12 (handler_key 3 (bit_or v (6 * 2 ^ 5)) ((frame.node).key).prio)) (sym k.btv)
+          owes = subst (λ v. OwesEntry (duties_at image plan cert frame.node m.pc (k.point).state (Syscall tin) n) 12 (handler_key 3 (bit_or v (6 * 2 ^ 5)) ((frame.node).key).prio)) (sym k.btv)
               (sys_entry plan (frame.node).key (k.point).state tin, owes-syscall (limits_in plan cert) image plan (frame.node).key m.pc (k.point).state n tin);
         })
 
@@ -335,15 +334,14 @@ module _ (image : ImageData) (plan : PlanData) (ok : IsPlan plan) (cert : CertDa
       })
 
   module _ (m : Machine) (words : IsMachine m) (frame : Frame) (below : List Frame) (k : Kept image plan cert most m frame below) where
-    leaving : (rule n : ℕ) (shape : Shape) → (h : PointHolds image plan cert frame.node m.pc (k.point).state shape n) → Contains (duties_of (limits_in plan cert) image plan (frame.node).key m.pc (k.point).state shape n) (owed rule (leave (exit_of (k.point).state))) → ExitFor frame.node (exit_of (k.point).state)
+    leaving : (rule n : ℕ) (shape : Shape) → (h : PointHolds image plan cert frame.node m.pc (k.point).state shape n) → Contains (duties_at image plan cert frame.node m.pc (k.point).state shape n) (owed rule (leave (exit_of (k.point).state))) → ExitFor frame.node (exit_of (k.point).state)
     leaving rule n shape h owes = exit_for frame.node (exit_of (k.point).state) (frame.node).exit refl (h.met (owed rule (leave (exit_of (k.point).state))) owes)
 
     returns : (e : Event) (n : ℕ) → PointHolds image plan cert frame.node m.pc (k.point).state Ret n → Left m frame below (does m e Ret n)
     returns e n h =
         let own = (h.own 6).returns refl in
-        let kind = own.0 in
         let x = leaving 6 n Ret h (owes-ret (limits_in plan cert) image plan (frame.node).key m.pc (k.point).state n) in
-        left_to m words frame below k own.1 (λ zero_kind. omega arith) m.ie m.ccpn
+        left_to m words frame below k own.1 (λ z. let one = own.0 in omega arith) m.ie m.ccpn
         (by_return x.exit x.is own.0 (holds_exit plan (k.point).state (reg m) m.ie m.ccpn x.exit h.regs x.covers k.inside)) (does m e Ret n) (λ is. ret-is m k.running is e n)
 
     comes_from : (e : Event) (n : ℕ) → PointHolds image plan cert frame.node m.pc (k.point).state Rfe n → Left m frame below (does m e Rfe n)
@@ -361,17 +359,16 @@ module _ (image : ImageData) (plan : PlanData) (ok : IsPlan plan) (cert : CertDa
 
     -- ---- lower contexts
     saves_lower : (e : Event) (shape : Shape) (n : ℕ) (h : PointHolds image plan cert frame.node m.pc (k.point).state shape n) (pc : ℕ) (ie : Bool) (ccpn : ℕ) →
-        Contains (duties_of (limits_in plan cert) image plan (frame.node).key m.pc (k.point).state shape n) (owed 4 (jump pc (record (saved_lower (k.point).state) { ie = ie; ccpn = ccpn }))) → (ie2 : Bool) (ccpn2 : ℕ) → (ie2 ≡ true → ie ≡ true) → ccpn ≤ ccpn2 →
-        (n2 : Machine) → (save m false ≡ saved m false → n2 ≡ record (saved m false) { pc = pc; ie = ie2; ccpn = ccpn2; end = Running }) → Steps image plan cert most m frame below (duties_of (limits_in plan cert) image plan (frame.node).key m.pc (k.point).state shape n) e n (to n2.pc) n2
+        Contains (duties_at image plan cert frame.node m.pc (k.point).state shape n) (owed 4 (jump pc (record (saved_lower (k.point).state) { ie = ie; ccpn = ccpn }))) → (ie2 : Bool) (ccpn2 : ℕ) → (ie2 ≡ true → ie ≡ true) → ccpn ≤ ccpn2 →
+        (n2 : Machine) → (save m false ≡ saved m false → n2 ≡ record (saved m false) { pc = pc; ie = ie2; ccpn = ccpn2; end = Running }) → Steps image plan cert most m frame below (duties_at image plan cert frame.node m.pc (k.point).state shape n) e n (to n2.pc) n2
     saves_lower e shape n h pc ie ccpn owes ie2 ccpn2 enabled priority n2 is =
-        let t : State = record (saved_lower (k.point).state) { ie = ie; ccpn = ccpn } in
         let at = jumping m words frame below k shape n h pc (record (saved_lower (k.point).state) { ie = ie; ccpn = ccpn }) owes in
         let next = (rules_at image plan cert is_cert accepted frame.node pc at.point k.stands at.found).holds in
         let fits = next.locals in
         let same = length-ImpliedBy ((at.point).state).locals.items (((k.point).state).locals.items ++ ((k.point).state).lower ∷ []) (at.covers).locals in
         let long = length-append ((k.point).state).locals.items (((k.point).state).lower ∷ []) in
         let free = room image plan ok cert most few m frame below k 0 (omega arith) in
-        subst (λ x. Steps image plan cert most m frame below (duties_of (limits_in plan cert) image plan (frame.node).key m.pc (k.point).state shape n) e n (to x.pc) x) (sym (is (saves image plan ok cert most few m frame below k free false)))
+        subst (λ x. Steps image plan cert most m frame below (duties_at image plan cert frame.node m.pc (k.point).state shape n) e n (to x.pc) x) (sym (is (saves image plan ok cert most few m frame below k free false)))
         (record {
           goes = record {
             frame = with_locals frame (link_in m.fcx ∷ frame.locals) (((k.point).state).lower ∷ frame.flags);
@@ -383,11 +380,11 @@ module _ (image : ImageData) (plan : PlanData) (ok : IsPlan plan) (cert : CertDa
           owes = (record (saved_lower (k.point).state) { ie = ie; ccpn = ccpn }, owes);
         })
 
-    restores_lower : (e : Event) (n : ℕ) → PointHolds image plan cert frame.node m.pc (k.point).state Rslcx n → Steps image plan cert most m frame below (duties_of (limits_in plan cert) image plan (frame.node).key m.pc (k.point).state Rslcx n) e n (to (does m e Rslcx n).pc) (does m e Rslcx n)
+    restores_lower : (e : Event) (n : ℕ) → PointHolds image plan cert frame.node m.pc (k.point).state Rslcx n → Steps image plan cert most m frame below (duties_at image plan cert frame.node m.pc (k.point).state Rslcx n) e n (to (does m e Rslcx n).pc) (does m e Rslcx n)
     restores_lower e n h =
         let at = jumping m words frame below k Rslcx n h (moved m.pc n) (restored_lower (k.point).state) (owes-rslcx (limits_in plan cert) image plan (frame.node).key m.pc (k.point).state n) in
         let p = lower_popped image plan ok cert most few m words frame below k (moved m.pc n) ((h.own 8).room refl) h.regs at in
-        subst (λ x. Steps image plan cert most m frame below (duties_of (limits_in plan cert) image plan (frame.node).key m.pc (k.point).state Rslcx n) e n (to x.pc) x) (sym (rslcx-is m k.running p.restores e n))
+        subst (λ x. Steps image plan cert most m frame below (duties_at image plan cert frame.node m.pc (k.point).state Rslcx n) e n (to x.pc) x) (sym (rslcx-is m k.running p.restores e n))
         (record {
           goes = record { frame = with_locals frame p.areas p.flags; below = below; kept = p.kept; stands = locals_standing (moved m.pc n) m.pc frame p.areas p.flags below };
           owes = (restored_lower (k.point).state, owes-rslcx (limits_in plan cert) image plan (frame.node).key m.pc (k.point).state n);
@@ -395,14 +392,14 @@ module _ (image : ImageData) (plan : PlanData) (ok : IsPlan plan) (cert : CertDa
 
     -- ---- what the instruction at pc does
     module _ (e : Event) (fits : Fits plan m e) (none : is_taken m e ≡ false) where
-      accesses : (shape : Shape) (n : ℕ) (h : PointHolds image plan cert frame.node m.pc (k.point).state shape n) → StaysInFrame shape → Steps image plan cert most m frame below (duties_of (limits_in plan cert) image plan (frame.node).key m.pc (k.point).state shape n) e n (way_by m e shape (does m e shape n).pc) (does m e shape n)
+      accesses : (shape : Shape) (n : ℕ) (h : PointHolds image plan cert frame.node m.pc (k.point).state shape n) → StaysInFrame shape → Steps image plan cert most m frame below (duties_at image plan cert frame.node m.pc (k.point).state shape n) e n (way_by m e shape (does m e shape n).pc) (does m e shape n)
       accesses shape n h stays =
           elim (cases_Bool (traps m e shape)) [
             | inl t ↦ trapped m words frame below k shape n h e t
             | inr f ↦ plain m words frame below k shape n h e fits none stays f
           ]
 
-      pub follows : (shape : Shape) (n : ℕ) → PointHolds image plan cert frame.node m.pc (k.point).state shape n → Steps image plan cert most m frame below (duties_of (limits_in plan cert) image plan (frame.node).key m.pc (k.point).state shape n) e n (way_by m e shape (does m e shape n).pc) (does m e shape n)
+      pub follows : (shape : Shape) (n : ℕ) → PointHolds image plan cert frame.node m.pc (k.point).state shape n → Steps image plan cert most m frame below (duties_at image plan cert frame.node m.pc (k.point).state shape n) e n (way_by m e shape (does m e shape n).pc) (does m e shape n)
       follows (Compute op dst x y) n h = accesses (Compute op dst x y) n h tt
       follows (Scaled dst base index c) n h = accesses (Scaled dst base index c) n h tt
       follows (Load dst base offset size signed after) n h = accesses (Load dst base offset size signed after) n h tt
@@ -437,7 +434,7 @@ module _ (image : ImageData) (plan : PlanData) (ok : IsPlan plan) (cert : CertDa
     pub size : ℕ
     pub code : IsCode image plan m.pc shape size
     pub goes : Goes image plan cert most x (by m e (is_taken m e) (fetched m) x.pc (standing m.pc frame below))
-    pub owes : IsOwed (duties_of (limits_in plan cert) image plan (frame.node).key m.pc (k.point).state shape size) (frame.node).key e.irq (standing m.pc frame below) x.pc (cond (is_taken m e) (irq x.pc) (way_in m e (fetched m) x.pc))
+    pub owes : IsOwed (duties_at image plan cert frame.node m.pc (k.point).state shape size) (frame.node).key e.irq (standing m.pc frame below) x.pc (cond (is_taken m e) (irq x.pc) (way_in m e (fetched m) x.pc))
 
   done-kept : (m : Machine) → IsMachine m → (e : Event) → Fits plan m e → (frame : Frame) (below : List Frame) (k : Kept image plan cert most m frame below) → Done m frame below k e (done m e)
   done-kept m words e fits frame below k =
@@ -453,7 +450,7 @@ module _ (image : ImageData) (plan : PlanData) (ok : IsPlan plan) (cert : CertDa
               size = r.size;
               code = (r.holds).code;
               goes = Goes-as (ap (λ t. by m e t (fetched m) (interrupt m e.irq).pc (standing m.pc frame below)) (sym taken)) s.goes;
-              owes = subst (λ t. IsOwed (duties_of (limits_in plan cert) image plan (frame.node).key m.pc (k.point).state r.shape r.size) (frame.node).key e.irq (standing m.pc frame below) (interrupt m e.irq).pc (cond t (irq (interrupt m e.irq).pc) (way_in m e (fetched m) (interrupt m e.irq).pc)))
+              owes = subst (λ t. IsOwed (duties_at image plan cert frame.node m.pc (k.point).state r.shape r.size) (frame.node).key e.irq (standing m.pc frame below) (interrupt m e.irq).pc (cond t (irq (interrupt m e.irq).pc) (way_in m e (fetched m) (interrupt m e.irq).pc)))
                   (sym taken) s.owes;
             })
         | inr none ↦
@@ -465,7 +462,7 @@ module _ (image : ImageData) (plan : PlanData) (ok : IsPlan plan) (cert : CertDa
               size = r.size;
               code = (r.holds).code;
               goes = Goes-as (ap (λ t. by m e t (Ok (r.shape, r.size)) (does m e r.shape r.size).pc (standing m.pc frame below)) (sym none) ∙ ap (λ f. by m e (is_taken m e) f (does m e r.shape r.size).pc (standing m.pc frame below)) (sym at)) s.goes;
-              owes = subst (λ w. IsOwed (duties_of (limits_in plan cert) image plan (frame.node).key m.pc (k.point).state r.shape r.size) (frame.node).key e.irq (standing m.pc frame below) (does m e r.shape r.size).pc w)
+              owes = subst (λ w. IsOwed (duties_at image plan cert frame.node m.pc (k.point).state r.shape r.size) (frame.node).key e.irq (standing m.pc frame below) (does m e r.shape r.size).pc w)
                   (ap (λ t. cond t (irq (does m e r.shape r.size).pc) (way_in m e (Ok (r.shape, r.size)) (does m e r.shape r.size).pc)) (sym none) ∙ ap (λ f. cond (is_taken m e) (irq (does m e r.shape r.size).pc) (way_in m e f (does m e r.shape r.size).pc)) (sym at)) s.owes;
             })
       ]
