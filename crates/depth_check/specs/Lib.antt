@@ -1,2 +1,5 @@
-pub mod Judging
+pub mod Finding
+pub mod FirstFaults
 pub mod Headline
+pub mod Judging
+pub mod NodeFaults

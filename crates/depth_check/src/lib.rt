@@ -1,8 +1,19 @@
 //! The certificate checker.
 #![tactic(auto)]
 
+mod checking;
+mod covering;
+mod duties;
+mod first_faults;
 mod laws;
+mod nodes;
+mod rules;
 mod verdicts;
 
+pub use checking::check;
+pub use first_faults::first_fault_laws;
 pub use laws::{accepted_holds_frames, accepted_is_safe};
 pub use verdicts::Verdict;
+
+#[cfg(test)]
+mod tests;

@@ -1,0 +1,56 @@
+use Rattle.std.proofs.Common.{◌^◌, ◌<◌, ◌∙◌, sym, ap, subst, arith, List, ℕ}
+use Rattle.std.specs.Prelude.{IsTrue, ◌↔◌, All}
+use Rattle.value_domain.specs.Limits.{Limits}
+use Rattle.depth_cert.specs.declared.points.Point.{Point}
+use Rattle.depth_cert.specs.Points.{ArePoints}
+use Rattle.depth_cert.specs.Nodes.{NodeData}
+use Rattle.cfg_recover.specs.Accepting.{HoldsAtEntry, RuleHolds}
+use Rattle.depth_check.specs.declared.nodes.Fault.{Fault}
+use Rattle.depth_check.specs.NodeFaults.{IsNodeFault, first_of}
+use Rattle.depth_check.proofs.Deciding.{all_more, all_done, refuted}
+use Rattle.depth_check.proofs.NodeLaws.{fault_at, none_at, entry_alone}
+use Rattle.depth_check.proofs.nodes.node_fault.Goals as goal
+
+pub returns-in-Some : goal.returns-in-Some
+returns-in-Some c =
+    fault_at c.args.image.now c.args.plan.now c.args.cert.now c.args.node.now c.requires.member c.deref-point-items.result.now
+    (c.deref-point-items.ensures.value ∙ ap (λ (n : NodeData). n.points) c.node.view_is)
+    (subst (λ (n : NodeData). ArePoints n.points) c.node.view_is c.node.invariant)
+    c.loop-point.point-index c.point-item.result c.holds_at_entry-good.result c.point_rule-found.result c.in-Some.fault c.loop-point-test.true c.point-item.is c.loop-point.invariant c.point_rule-found.ensures
+    (omega arith)
+    (subst (λ (n : NodeData). (n.key).entry < 2 ^ 32) c.node.view_is (omega arith))
+    (subst (λ (b : Limits). IsTrue c.holds_at_entry-good.result ↔ HoldsAtEntry b c.args.node.now) c.requires.limits c.holds_at_entry-good.ensures)
+    (ap (λ (n : NodeData). first_of c.holds_at_entry-good.result (n.key).entry c.point-item.result.addr c.point_rule-found.result) (sym c.node.view_is) ∙ sym c.first_of.ensures ∙ c.in-Some.is)
+
+pub loop-point-preserved : goal.loop-point-preserved
+loop-point-preserved c =
+    all_more (λ (p : Point). (r : ℕ) → RuleHolds c.args.image.now c.args.plan.now c.args.cert.now c.args.node.now p r) c.deref-point-items.result.now c.loop-point.point-index c.point-item.result c.loop-point-test.true c.point-item.is
+    c.loop-point.invariant
+    (none_at c.args.image.now c.args.plan.now c.args.cert.now c.args.node.now c.requires.member c.deref-point-items.result.now
+    (c.deref-point-items.ensures.value ∙ ap (λ (n : NodeData). n.points) c.node.view_is)
+    (subst (λ (n : NodeData). ArePoints n.points) c.node.view_is c.node.invariant)
+    c.point-item.result c.holds_at_entry-good.result c.point_rule-found.result
+    (ap (λ (n : NodeData). first_of c.holds_at_entry-good.result (n.key).entry c.point-item.result.addr c.point_rule-found.result) (sym c.node.view_is) ∙ sym c.first_of.ensures ∙ c.in_default.is)
+    c.point_rule-found.ensures)
+
+pub returns-then-good : goal.returns-then-good
+returns-then-good c = record {
+  entry = (subst (λ (b : Limits). IsTrue c.holds_at_entry-good.result ↔ HoldsAtEntry b c.args.node.now) c.requires.limits c.holds_at_entry-good.ensures).0 c.if-good.true;
+  points =
+      subst (λ (l : List Point). All (λ (p : Point). (r : ℕ) → RuleHolds c.args.image.now c.args.plan.now c.args.cert.now c.args.node.now p r) l)
+      (c.deref-point-items.ensures.value ∙ ap (λ (n : NodeData). n.points) c.node.view_is)
+      (all_done (λ (p : Point). (r : ℕ) → RuleHolds c.args.image.now c.args.plan.now c.args.cert.now c.args.node.now p r) c.deref-point-items.result.now c.loop-point.point-index c.loop-point-test.false c.loop-point.invariant);
+}
+
+pub returns-else-good : goal.returns-else-good
+returns-else-good c =
+    subst (λ (f : Fault). IsNodeFault c.args.image.now c.args.plan.now c.args.cert.now c.args.node.now f.rule f.addr) (sym c.entry_fault.ensures)
+    (subst (λ (n : NodeData). IsNodeFault c.args.image.now c.args.plan.now c.args.cert.now c.args.node.now 2 (n.key).entry) (sym c.node.view_is)
+    (entry_alone c.args.image.now c.args.plan.now c.args.cert.now c.args.node.now c.requires.member c.deref-point-items.result.now
+    (c.deref-point-items.ensures.value ∙ ap (λ (n : NodeData). n.points) c.node.view_is)
+    (subst (λ (n : NodeData). ArePoints n.points) c.node.view_is c.node.invariant)
+    (subst (λ (l : List Point). All (λ (p : Point). (r : ℕ) → RuleHolds c.args.image.now c.args.plan.now c.args.cert.now c.args.node.now p r) l)
+    (c.deref-point-items.ensures.value ∙ ap (λ (n : NodeData). n.points) c.node.view_is)
+    (all_done (λ (p : Point). (r : ℕ) → RuleHolds c.args.image.now c.args.plan.now c.args.cert.now c.args.node.now p r) c.deref-point-items.result.now c.loop-point.point-index c.loop-point-test.false c.loop-point.invariant))
+    (refuted _ _ c.if-good.false (subst (λ (b : Limits). IsTrue c.holds_at_entry-good.result ↔ HoldsAtEntry b c.args.node.now) c.requires.limits c.holds_at_entry-good.ensures))
+    (subst (λ (n : NodeData). (n.key).entry < 2 ^ 32) c.node.view_is (omega arith))))

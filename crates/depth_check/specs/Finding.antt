@@ -1,0 +1,92 @@
+-- The least rule that fails, and what is looked at for it: the duties of a point and its need.
+use Rattle.std.specs.Prelude.{◌≡◌, ◌-◌, ◌<◌, ◌≤◌, ℕ, Bool, if◌then◌else◌, min, List, length, Option, Some, None, IfSome, IsSomeAnd, All}
+use Rattle.elf_image.specs.Images.{ImageData}
+use Rattle.tcd_plan.specs.PlanData.{PlanData}
+use Rattle.value_domain.specs.declared.states.State.{State}
+use Rattle.value_domain.specs.State.{AreWell}
+use Rattle.depth_cert.specs.declared.points.Point.{Point}
+use Rattle.depth_cert.specs.Nodes.{NodeData}
+use Rattle.depth_cert.specs.Certs.{CertData}
+use Rattle.cfg_recover.specs.declared.flows.Jump.{Jump}
+use Rattle.cfg_recover.specs.declared.flows.Enter.{Enter}
+use Rattle.cfg_recover.specs.declared.flows.Flow.{Flow}
+use Rattle.cfg_recover.specs.declared.flows.Leave.{Leave}
+use Rattle.cfg_recover.specs.declared.flows.Leave.TheVariants.{Stays, Ret, Rfe}
+use Rattle.cfg_recover.specs.Entries.{start_key, exit_of, after_of}
+use Rattle.cfg_recover.specs.Duties.{Owed}
+use Rattle.cfg_recover.specs.Accepting.{HasPoint, IsMet, IsNeedAbove, ExitCovers}
+
+-- the values of a node are well-formed
+pub record IsWellNode (node : NodeData) : Type 0 where
+  pub points : All (λ p. AreWell (p.state).regs) node.points
+  pub exit : IfSome node.exit (λ x. AreWell x.lower)
+
+-- the values of a flow's states are
+abbrev pub IsWellJump : Option Jump → Type 0
+IsWellJump jump = IfSome jump (λ j. AreWell (j.state).regs)
+
+abbrev pub IsWellEnter : Option Enter → Type 0
+IsWellEnter entered = IfSome entered (λ e. AreWell (e.state).regs)
+
+pub record IsWellFlow (f : Flow) : Type 0 where
+  pub jumps : All IsWellJump f.jumps
+  pub enter : IsWellEnter f.enter
+  pub aln : IsWellEnter f.aln
+  pub interrupts : AreWell (f.irq_entry).regs
+
+-- ---- rules
+-- r is the least rule that doesn't hold
+pub record IsLeastBroken (holds : ℕ → Type 0) (r : ℕ) : Type 0 where
+  pub broken : holds r → ⊥
+  pub least : (q : ℕ) → q < r → holds q
+  pub known : r ≤ 14
+
+-- nothing where all rules hold, else the least that doesn't
+abbrev pub Finds : (ℕ → Type 0) → Option ℕ → Type 0
+Finds holds None = (q : ℕ) → holds q
+Finds holds (Some r) = IsLeastBroken holds r
+
+-- the lesser of two rules that were found
+abbrev pub least_of : Option ℕ → Option ℕ → Option ℕ
+least_of None o = o
+least_of (Some a) None = Some a
+least_of (Some a) (Some b) = Some (min a b)
+
+-- a rule, unless what it asks holds
+abbrev pub unless : Bool → ℕ → Option ℕ
+unless holds rule = if holds then None else Some rule
+
+-- ---- duties
+-- what rule q asks of a duty: that it is met, and the need of the entered node
+pub record DutyHolds (cert : CertData) (node : NodeData) (s : State) (q : ℕ) (d : Owed) : Type 0 where
+  pub met : d.rule ≡ q → IsMet cert node s d.duty
+  pub need : q ≡ 14 → IsNeedAbove cert node s d.duty
+
+abbrev pub DutiesHold : CertData → NodeData → State → List Owed → ℕ → Type 0
+DutiesHold cert node s duties q = All (DutyHolds cert node s q) duties
+
+-- the node has points at all these addresses that cover the state
+abbrev pub HasPoints : NodeData → State → List ℕ → Type 0
+HasPoints node s targets = All (λ t. HasPoint node t s) targets
+
+abbrev pub IsJumpMet : NodeData → Option Jump → Type 0
+IsJumpMet node jump = IfSome jump (λ j. HasPoints node j.state j.targets.items)
+
+-- the node goes on where the entered one comes back
+abbrev pub GoesOn : NodeData → State → NodeData → ℕ → Option ℕ → Type 0
+GoesOn node s entered kind back = IfSome back (λ q. IfSome entered.exit (λ x. HasPoint node q (after_of s x kind)))
+
+-- the node has an exit that covers that of the state
+abbrev pub HasExit : NodeData → State → Type 0
+HasExit node s = IsSomeAnd node.exit (λ y. ExitCovers y (exit_of s))
+
+-- what rule q asks where the node is left: rule 6 after a call, rule 7 after a system call
+abbrev pub LeavingHolds : NodeData → State → Leave → ℕ → Type 0
+LeavingHolds node s Stays q = Unit {0}
+LeavingHolds node s Ret q = 6 ≡ q → HasExit node s
+LeavingHolds node s Rfe q = (node.key).kind ≡ 3 → 7 ≡ q → HasExit node s
+
+-- what rule 14 asks of the node itself: room for the locals; at the start's entry the reserve stays free
+pub record HasOwnNeed (image : ImageData) (plan : PlanData) (node : NodeData) (point : Point) : Type 0 where
+  pub locals : length (point.state).locals.items ≤ node.need
+  pub start : node.key ≡ start_key image plan → point.addr ≡ image.entry → node.need ≤ plan.areas - plan.reserve

@@ -1,0 +1,25 @@
+-- The first fault of a node.
+use Rattle.std.specs.Prelude.{◌+◌, ◌*◌, ◌^◌, ◌<◌, ◌≤◌, ◌||◌, nat_lt, ℕ, Bool, if◌then◌else◌, min, Option, Some, unwrap_or, Contains}
+use Rattle.std.specs.Option.{option_map}
+use Rattle.elf_image.specs.Images.{ImageData}
+use Rattle.tcd_plan.specs.PlanData.{PlanData}
+use Rattle.depth_cert.specs.declared.points.Point.{Point}
+use Rattle.depth_cert.specs.Nodes.{NodeData}
+use Rattle.depth_cert.specs.Certs.{CertData}
+use Rattle.cfg_recover.specs.Accepting.{limits_in, RuleHolds, HoldsAtEntry, Fails}
+use Rattle.depth_check.specs.declared.nodes.Fault.{Fault}
+
+-- rule r is the first that fails in a node, at the address p
+pub record IsNodeFault (image : ImageData) (plan : PlanData) (cert : CertData) (node : NodeData) (r p : ℕ) : Type 0 where
+  pub fails : Fails image plan cert r node.key p
+  pub entry : (HoldsAtEntry (limits_in plan cert) node → ⊥) → p * 2 ^ 4 + r ≤ (node.key).entry * 2 ^ 4 + 2
+  pub points : (point : Point) (q : ℕ) → Contains node.points point → (RuleHolds image plan cert node point q → ⊥) → p * 2 ^ 4 + r ≤ point.addr * 2 ^ 4 + q
+  pub rule : r ≤ 14
+  pub addr : p < 2 ^ 32
+
+-- the fault at an address, or rule 2 at an entry that isn't good, whichever comes first; nothing where the entry lies behind
+abbrev pub first_of : Bool → ℕ → ℕ → Option ℕ → Option Fault
+first_of good entry addr found =
+    if good || nat_lt addr entry then option_map (λ r. record { rule = r; addr = addr }) found
+    else if nat_lt entry addr then Some (record { rule = 2; addr = entry })
+    else Some (record { rule = min (unwrap_or found 2) 2; addr = addr })

@@ -1,0 +1,57 @@
+// The check of a certificate.
+ghost use Rattle.std.specs.Prelude.{◌≡◌, All, IsNone, IfSome, Some};
+ghost use Rattle.depth_cert.specs.Certs.{find_node};
+ghost use Rattle.cfg_recover.specs.Accepting.{HoldsAtStart};
+ghost use Rattle.cfg_recover.specs.Entries as entries;
+ghost use Rattle.depth_check.specs.Finding.{IsWellNode};
+ghost use Rattle.depth_check.specs.Judging.{Judges};
+
+use crate::Verdict;
+use crate::covering::has_point;
+use crate::nodes::node_fault;
+use crate::rules::start_key;
+use cfg_recover::start_state;
+use depth_cert::{Cert, Node};
+use elf_image::Image;
+use tcd_plan::Plan;
+use value_domain::Bounds;
+
+/// The node of the start, where its point at the entry covers the start state.
+fn start_node<'a>(image: &Image, plan: &Plan, cert: &'a Cert) -> Option<&'a Node>
+    requires { All IsWellNode cert.now.nodes }
+    ensures none { IsNone result → HoldsAtStart image.now plan.now cert.now → ⊥ }
+    ensures holds { IfSome result (λ n. HoldsAtStart image.now plan.now cert.now) }
+    ensures node { IfSome result (λ n. find_node (entries.start_key image.now plan.now) cert.now.nodes ≡ Some n.now) }
+{
+    let _sp = plan.sp;
+    let node = cert.node(&start_key(image, plan))?;
+    if has_point(node, image.entry, &start_state(plan)) {
+        Some(node)
+    } else {
+        None
+    }
+}
+
+/// Whether the rules accept a certificate: the need of the start, or the first rule that fails.
+pub fn check(image: &Image, plan: &Plan, cert: &Cert) -> Verdict
+    ensures { Judges image.now plan.now cert.now result }
+{
+    let b = Bounds::of(plan, cert.version);
+    let Some(start) = start_node(image, plan, cert) else {
+        return Verdict::No {
+            rule: 1,
+            key: start_key(image, plan),
+            addr: image.entry,
+        };
+    };
+    for node in &cert.nodes {
+        if let Some(fault) = node_fault(&b, image, plan, cert, node) {
+            return Verdict::No {
+                rule: fault.rule,
+                key: node.key,
+                addr: fault.addr,
+            };
+        }
+    }
+    Verdict::Yes(u32::from(start.need))
+}

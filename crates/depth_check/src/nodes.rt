@@ -1,0 +1,84 @@
+// The first fault of a node.
+ghost use Rattle.std.specs.Prelude.{◌≡◌, ◌↔◌, IsTrue, All, Contains, MatchOption};
+ghost use Rattle.cfg_recover.specs.Accepting.{limits_in, HoldsAtEntry, HoldsAtNode};
+ghost use Rattle.depth_check.specs.Finding.{IsWellNode};
+ghost use Rattle.depth_check.specs.NodeFaults as nodes;
+ghost use Rattle.depth_check.specs.NodeFaults.{IsNodeFault};
+
+use crate::covering::are_values;
+use crate::rules::point_rule;
+use depth_cert::{Cert, Node};
+use elf_image::Image;
+use tcd_plan::Plan;
+use value_domain::Bounds;
+
+/// A rule that fails in a node, and the address of its place.
+#[derive(Clone, Copy)]
+pub(crate) struct Fault {
+    pub rule: u8,
+    pub addr: u32,
+}
+
+/// Whether a node has a point at its entry, and an exit with values of the plan if it has one.
+fn holds_at_entry(b: &Bounds, node: &Node) -> bool
+    ensures { IsTrue result ↔ HoldsAtEntry b.now node.now }
+{
+    if node.point(node.key.entry).is_none() {
+        return false;
+    }
+    match &node.exit {
+        Some(exit) => are_values(b, &exit.lower),
+        None => true,
+    }
+}
+
+/// The fault at a point, or rule 2 at the entry of a node that isn't good there, whichever comes first; nothing where that
+/// entry lies behind the point.
+fn first_of(good: bool, entry: u32, addr: u32, found: Option<u8>) -> Option<Fault>
+    ensures { result ≡ nodes.first_of good entry addr found }
+{
+    if good || addr < entry {
+        return found.map(|rule| Fault { rule, addr });
+    }
+    if entry < addr {
+        return Some(entry_fault(entry));
+    }
+    Some(Fault {
+        rule: found.unwrap_or(2).min(2),
+        addr,
+    })
+}
+
+/// Rule 2 at the entry of a node.
+fn entry_fault(entry: u32) -> Fault
+    ensures { result ≡ record { rule = 2; addr = entry } }
+{
+    Fault {
+        rule: 2,
+        addr: entry,
+    }
+}
+
+/// The first fault of a node, by address and then by rule.
+pub(crate) fn node_fault(
+    b: &Bounds,
+    image: &Image,
+    plan: &Plan,
+    cert: &Cert,
+    node: &Node,
+) -> Option<Fault>
+    requires limits { b.now ≡ limits_in plan.now cert.now }
+    requires nodes { All IsWellNode cert.now.nodes }
+    requires member { Contains cert.now.nodes node.now }
+    ensures { MatchOption result (HoldsAtNode image.now plan.now cert.now node.now) (λ f. IsNodeFault image.now plan.now cert.now node.now f.rule f.addr) }
+{
+    let entry = node.key.entry;
+    let good = holds_at_entry(b, node);
+    for point in &node.points {
+        let found = point_rule(b, image, plan, cert, node, point);
+        if let Some(fault) = first_of(good, entry, point.addr, found) {
+            return Some(fault);
+        }
+    }
+    if good { None } else { Some(entry_fault(entry)) }
+}

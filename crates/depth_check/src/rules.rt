@@ -1,0 +1,92 @@
+// The least rule that fails at a point.
+ghost use Rattle.std.specs.Prelude.{◌≡◌, ◌≤◌, ◌↔◌, IsTrue, All, IfOk, IfErr};
+ghost use Rattle.value_domain.specs.State.{AreValues};
+ghost use Rattle.cfg_recover.specs.Accepting.{limits_in, RuleHolds};
+ghost use Rattle.cfg_recover.specs.Entries as entries;
+ghost use Rattle.cfg_recover.specs.Flows.{Tells};
+ghost use Rattle.cfg_recover.specs.FlowValues.{HasValues};
+ghost use Rattle.cfg_recover.specs.Own.{IsOwnFault};
+ghost use Rattle.depth_check.specs.Finding.{IsWellNode, Finds, HasOwnNeed};
+
+use crate::covering::are_values;
+use crate::duties::{duties_rule, least, unless};
+use cfg_recover::{Flow, flow};
+use depth_cert::{Cert, Key, Node, Point};
+use elf_image::Image;
+use tcd_plan::Plan;
+use value_domain::Bounds;
+
+/// The key of the start.
+pub(crate) fn start_key(image: &Image, plan: &Plan) -> Key
+    ensures { result ≡ entries.start_key image.now plan.now }
+{
+    Key {
+        kind: 0,
+        entry: image.entry,
+        prio: 0,
+        is: plan.start_is,
+    }
+}
+
+/// Whether the need of the node has room for the locals of a point, and at the start's entry leaves the reserve free.
+fn has_own_need(image: &Image, plan: &Plan, node: &Node, point: &Point) -> bool
+    ensures { IsTrue result ↔ HasOwnNeed image.now plan.now node.now point.now }
+{
+    if usize::from(node.need) < point.state.locals.len() {
+        return false;
+    }
+    if node.key == start_key(image, plan) && point.addr == image.entry {
+        return u32::from(node.need) <= plan.areas - plan.reserve;
+    }
+    true
+}
+
+/// The least rule that fails at a point whose values are the plan's, by its flow.
+fn found_rule(
+    b: &Bounds,
+    image: &Image,
+    plan: &Plan,
+    cert: &Cert,
+    node: &Node,
+    point: &Point,
+    found: Result<Flow, u8>,
+) -> Option<u8>
+    requires limits { b.now ≡ limits_in plan.now cert.now }
+    requires nodes { All IsWellNode cert.now.nodes }
+    requires node { IsWellNode node.now }
+    requires values { AreValues b.now point.now.state.regs }
+    requires fault { IfErr found (IsOwnFault b.now image.now plan.now node.now.key point.now.addr point.now.state) }
+    requires duties { IfOk found (Tells b.now image.now plan.now node.now.key point.now.addr point.now.state) }
+    requires states { IfOk found (HasValues b.now) }
+    ensures { Finds (RuleHolds image.now plan.now cert.now node.now point.now) result }
+{
+    match found {
+        Err(rule) => Some(rule),
+        Ok(flow) => {
+            let duties = duties_rule(cert, plan, node, &point.state, flow);
+            let need = unless(has_own_need(image, plan, node, point), 14);
+            least(duties, need)
+        }
+    }
+}
+
+/// The least rule that fails at a point of a node.
+pub(crate) fn point_rule(
+    b: &Bounds,
+    image: &Image,
+    plan: &Plan,
+    cert: &Cert,
+    node: &Node,
+    point: &Point,
+) -> Option<u8>
+    requires limits { b.now ≡ limits_in plan.now cert.now }
+    requires nodes { All IsWellNode cert.now.nodes }
+    requires node { IsWellNode node.now }
+    ensures { Finds (RuleHolds image.now plan.now cert.now node.now point.now) result }
+{
+    if !are_values(b, &point.state.regs) {
+        return Some(2);
+    }
+    let found = flow(b, image, plan, &node.key, point.addr, &point.state);
+    found_rule(b, image, plan, cert, node, point, found)
+}
