@@ -9,7 +9,7 @@ use Rattle.tc_machine.specs.declared.state.Machine.{Machine}
 use Rattle.tc_machine.specs.Machine.{reg, a11}
 use Rattle.tc_machine.specs.Stepping.{step, run}
 use Rattle.tc_machine.specs.Ranges.{plan_areas}
-use Rattle.tc_machine.specs.Safe.{IsMachine, Starts, AllFit, IsSafeAt}
+use Rattle.tc_machine.specs.Safe.{IsMachine, Starts, AllFit, IsSafeAt, Safe}
 use Rattle.tc_machine.proofs.Fetched.{IsAtCode-from}
 use Rattle.tc_machine.proofs.Stays.{irq_lt, stays_step, stays_run}
 use Rattle.tc_machine.proofs.Areas.{Areas-start, ChainsAreWhole-from}
@@ -23,7 +23,7 @@ use Rattle.cfg_recover.specs.Frames.{Standing, frames_after, frames_from, frames
 use Rattle.cfg_recover.specs.Accepting.{limits_in, HasPoint, Accepts, need_of, certified_need}
 use Rattle.cfg_recover.proofs.MoveLaws.{stores_held}
 use Rattle.cfg_recover.proofs.EntryLaws.{holds_covered, holds_start, entry_length}
-use Rattle.depth_check.specs.Headline.{AcceptedIsSafe}
+use Rattle.depth_check.specs.Headline.{AcceptedIsSafe, YesIsSafe}
 use Rattle.depth_check.proofs.Frames.{Frame, used_by, Kept, Links-Frames, need-Frames, length-ImpliedBy}
 use Rattle.depth_check.proofs.Enter.{implied_none, counted}
 use Rattle.depth_check.proofs.PointLaws.{rules_at, Found, node_found}
@@ -131,3 +131,6 @@ pub accepted_is_safe : AcceptedIsSafe
 accepted_is_safe image plan cert ok is_cert accepted m es e start all_fit fits =
     let g = held image plan ok cert is_cert accepted m es start all_fit in
     safe-kept image plan ok cert is_cert accepted (certified_need image plan cert) (few image plan ok cert is_cert accepted m es start all_fit) (run m es) e (stays_run ok m es start.machine all_fit) g.frame g.below g.kept
+
+pub yes_is_safe : YesIsSafe
+yes_is_safe image plan cert n ok is_cert yes = subst (Safe image plan) (sym yes.1) (accepted_is_safe image plan cert ok is_cert yes.0)

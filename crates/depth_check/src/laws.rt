@@ -1,10 +1,15 @@
 // What holds of every accepted certificate.
-ghost use Rattle.depth_check.specs.Headline.{AcceptedHoldsFrames, AcceptedIsSafe, AcceptedOwesEdges};
+ghost use Rattle.depth_check.specs.Headline.{AcceptedHoldsFrames, AcceptedIsSafe, AcceptedOwesEdges, YesIsSafe};
 
 /// Where the rules accept a certificate, every run of the image under the plan is safe with its need, whatever interrupts,
 /// traps and devices do.
 pub fn accepted_is_safe()
     ensures { AcceptedIsSafe }
+{}
+
+/// Where a check answers yes, every run of the image under the plan is safe with the answered number of areas.
+pub fn yes_is_safe()
+    ensures { YesIsSafe }
 {}
 
 /// Where the rules accept a certificate, the frames of every run stand at points whose states hold the machine, and the edge

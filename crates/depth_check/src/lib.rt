@@ -12,7 +12,7 @@ mod verdicts;
 
 pub use checking::check;
 pub use first_faults::first_fault_laws;
-pub use laws::{accepted_holds_frames, accepted_is_safe};
+pub use laws::{accepted_holds_frames, accepted_is_safe, yes_is_safe};
 pub use verdicts::Verdict;
 
 #[cfg(test)]
