@@ -5,6 +5,7 @@ pub mod Entries
 pub mod FlowValues
 pub mod Finding
 pub mod Flows
+pub mod Frames
 pub mod Moves
 pub mod Own
 pub mod OwnFaults

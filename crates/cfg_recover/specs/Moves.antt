@@ -20,7 +20,6 @@ use Rattle.value_domain.specs.Limits.{Limits, AreLimits}
 use Rattle.value_domain.specs.State.{AreValues}
 use Rattle.vd_transfer.specs.Registers.{is_lower}
 use Rattle.vd_transfer.specs.Holding.{Holds}
-use Rattle.store_ranges.specs.Laws.{HasImageBytes}
 use Rattle.depth_cert.specs.declared.keys.Key.{Key}
 use Rattle.cfg_recover.specs.Code.{IsCode}
 use Rattle.cfg_recover.specs.Entries.{call_key, irq_key, aln_key, call_entry, irq_entry, aln_entry}
@@ -36,7 +35,6 @@ InState plan m s = Holds plan (reg m) m.ie m.ccpn s
 pub record IsAtPoint (b : Limits) (image : ImageData) (plan : PlanData) (key : Key) (m : Machine) (s : State) (shape : Shape) (n : ℕ) : Type 0 where
   pub limits : AreLimits b
   pub is_plan : IsPlan plan
-  pub bytes : HasImageBytes image
   pub machine : IsMachine m
   pub running : m.end ≡ Running
   pub memory : IsPlanMemory plan m.mem

@@ -1,7 +1,5 @@
 -- A save of the upper context begins a frame.
-use Rattle.std.proofs.Common.{◌≡◌, ℕ, suc, ◌+◌, ◌-◌, ◌^◌, ◌<◌, ◌≤◌, ◌↔◌, Bool, true, List, [], ◌∷◌, length, get_or, Some, refl, sym, ap, ◌∙◌, subst, arith, Contains}
-use Rattle.std.specs.Prelude.{nat_lt}
-use Rattle.std.proofs.lemmas.Bool.{cond_both}
+use Rattle.std.proofs.Common.{◌≡◌, ℕ, suc, ◌+◌, ◌-◌, ◌^◌, ◌<◌, ◌≤◌, ◌↔◌, Bool, true, List, [], ◌∷◌, length, get_or, Some, refl, sym, ap, ◌∙◌, subst, arith}
 use Rattle.csa_chain.specs.Memory.{Memory, with_words}
 use Rattle.csa_chain.specs.Chain.{link_in, link_address, area_word}
 use Rattle.csa_chain.specs.Contexts.{pcxi_word_of, pcpn_of}
@@ -24,25 +22,29 @@ use Rattle.value_domain.specs.declared.states.State.{State}
 use Rattle.value_domain.specs.State.{ImpliedBy}
 use Rattle.vd_transfer.specs.Holding.{Holds}
 use Rattle.vd_transfer.specs.Registers.{global_of}
+use Rattle.depth_cert.specs.declared.keys.Key.{Key}
 use Rattle.depth_cert.specs.declared.points.Point.{Point}
 use Rattle.depth_cert.specs.Points.{find_point}
 use Rattle.depth_cert.specs.Nodes.{NodeData}
 use Rattle.depth_cert.specs.Certs.{CertData}
-use Rattle.depth_check.proofs.Frames.{Frame, oldest_first, LowerSame, UpperSame, Leaves, Resumed, used_by, Kept, Frames-same, need-Frames, own_locals, length-Locals, length-ImpliedBy, length-oldest_first}
+use Rattle.depth_check.proofs.Registers.{reg_of_lt}
+use Rattle.depth_check.proofs.Frames.{Frame, Stands, oldest_first, LowerSame, UpperSame, Leaves, Resumed, used_by, Kept, Frames-same, need-Frames, own_locals, length-Locals, length-ImpliedBy, length-oldest_first}
 
 -- the machine once its upper context is saved, with these registers, address and status
 abbrev pub begun : Machine → List ℕ → List ℕ → ℕ → ℕ → Bool → ℕ → Machine
 begun m d a pc psw ie ccpn = record (saved m true) { d = d; a = a; pc = pc; psw = psw; ie = ie; ccpn = ccpn }
 
 -- the frame that begins there
-abbrev pub entered : Machine → NodeData → Frame
-entered m node = record { node = node; area = link_in m.fcx; word0 = reg m; locals = []; flags = [] }
+abbrev pub entered : Machine → NodeData → ℕ → Frame
+entered m node back = record { node = node; area = link_in m.fcx; back = back; word0 = reg m; locals = []; flags = [] }
 
 -- What a frame's beginning from a point with this state asks of the certificate: the node with its point, room for it, and
 -- where the suspended frame goes on.
-pub record Begins (plan : PlanData) (cert : CertData) (m : Machine) (frame : Frame) (s : State) (d a : List ℕ) (pc psw : ℕ) (ie : Bool) (ccpn : ℕ) : Type 0 where
+pub record Begins (plan : PlanData) (cert : CertData) (m : Machine) (frame : Frame) (s : State) (d a : List ℕ) (pc psw : ℕ) (ie : Bool) (ccpn back : ℕ) (key : Key) : Type 0 where
   pub node : NodeData
-  pub stands : Contains cert.nodes node
+  pub stands : Stands cert node
+  pub key_is : node.key ≡ key
+  pub a11_is : get_or a 11 0 ≡ back
   pub need : length s.locals.items + 1 + node.need ≤ (frame.node).need
   pub point : Point
   pub found : find_point pc node.points ≡ Some point
@@ -52,7 +54,7 @@ pub record Begins (plan : PlanData) (cert : CertData) (m : Machine) (frame : Fra
   pub lower : LowerSame (reg m) (reg_of d a)
   pub goes_on :
       (word : ℕ → ℕ) (ie : Bool) (ccpn : ℕ) → UpperSame (reg m) word → word 27 < 2 ^ 32 → Leaves m.ie m.ccpn node (reg m) word ie ccpn
-      → Resumed plan frame (get_or a 11 0) word ie ccpn
+      → Resumed plan frame back word ie ccpn
 
 abbrev saved_mem : Machine → Memory
 saved_mem m = with_words m.mem (link_address (link_in m.fcx)) (context_of m true)
@@ -68,7 +70,7 @@ implied_none [] h = tt
 implied_none (f ∷ fs) h = absurd (omega arith)
 
 pub reg_lt : (m : Machine) → IsMachine m → (r : ℕ) → reg m r < 2 ^ 32
-reg_lt m k r = cond_both (nat_lt r 16) (get_or m.d r 0) (get_or m.a (r - 16) 0) (λ w. w < 2 ^ 32) (λ _. register_lt m.d k.d r) (λ _. register_lt m.a k.a (r - 16))
+reg_lt m k r = reg_of_lt m.d m.a k.d k.a r
 
 module _ (image : ImageData) (plan : PlanData) (ok : IsPlan plan) (cert : CertData) (most : ℕ) (few : most ≤ plan.areas - plan.reserve) where
   module _ (m : Machine) (frame : Frame) (below : List Frame) (k : Kept image plan cert most m frame below) where
@@ -94,10 +96,10 @@ module _ (image : ImageData) (plan : PlanData) (ok : IsPlan plan) (cert : CertDa
         let e : get_or (context_of m true) (suc (suc j)) 0 ≡ reg m (get_or upper_regs j 0) = upper_word m.pcxi m.psw m.d m.a j lt in
         word words free (suc (suc j)) (omega arith) (subst (λ x. x < 2 ^ 32) (sym e) (reg_lt m words (get_or upper_regs j 0))) ∙ e
 
-    pub begins : IsMachine m → (d a : List ℕ) (pc psw : ℕ) (ie : Bool) (ccpn : ℕ) (b : Begins plan cert m frame (k.point).state d a pc psw ie ccpn) → HasFree plan m.mem m.fcx m.lcx (used_by frame below) →
+    pub begins : IsMachine m → (d a : List ℕ) (pc psw : ℕ) (ie : Bool) (ccpn back : ℕ) (key : Key) (b : Begins plan cert m frame (k.point).state d a pc psw ie ccpn back key) → HasFree plan m.mem m.fcx m.lcx (used_by frame below) →
         ((j : ℕ) → j < 4 → reg m (get_or global_regs j 0) ≡ global_of plan (get_or global_regs j 0)) →
-        Kept image plan cert most (record (begun m d a pc psw ie ccpn) { end = Running }) (entered m b.node) (frame ∷ below)
-    begins words d a pc psw ie ccpn b free globals =
+        Kept image plan cert most (record (begun m d a pc psw ie ccpn) { end = Running }) (entered m b.node back) (frame ∷ below)
+    begins words d a pc psw ie ccpn back key b free globals =
         let count = counted in
         let need = b.need in
         let link_small = link_in-lt m.fcx in
@@ -117,14 +119,16 @@ module _ (image : ImageData) (plan : PlanData) (ok : IsPlan plan) (cert : CertDa
               ul = ul_of-pcxi_word m.core m.ccpn m.ie true (link_in m.fcx) link_small;
               area = is_area-written m.mem (link_in m.fcx) (link_in m.fcx) (context_of m true) ∙ free.area;
               stands = k.stands;
+              same_back = b.a11_is;
               need = omega arith;
               is = ap is_of (word words free 1 (omega arith) words.psw) ∙ k.is;
               upper = λ j lt ne. upper_saved words free j lt;
               globals = globals;
               goes_on = λ w ie2 ccpn2 upper small leaves.
-                  b.goes_on w ie2 ccpn2 upper small
+                  subst (λ x. Resumed plan frame x w ie2 ccpn2) (sym b.a11_is)
+                  (b.goes_on w ie2 ccpn2 upper small
                   (subst (λ p. Leaves m.ie p b.node (reg m) w ie2 ccpn2) (pcpn_of-pcxi_word m.core m.ccpn m.ie true (link_in m.fcx) link_small words.ccpn)
-                  (subst (λ t. Leaves t (pcpn_of m.core (saved_pcxi m)) b.node (reg m) w ie2 ccpn2) (pie_of-pcxi_word m.core m.ccpn m.ie true (link_in m.fcx) link_small) leaves));
+                  (subst (λ t. Leaves t (pcpn_of m.core (saved_pcxi m)) b.node (reg m) w ie2 ccpn2) (pie_of-pcxi_word m.core m.ccpn m.ie true (link_in m.fcx) link_small) leaves)));
             },
             rw (word words free 0 (omega arith) words.pcxi, word words free 3 (omega arith) (register_lt m.a words.a 11))
                 (Frames-same plan cert most m.core m.mem (saved_mem m) m.pcxi (a11 m) frame below (SameAreas-written m.mem (link_in m.fcx) (used_by frame below) (context_of m true) (omega arith) free.avoids_used) k.frames),

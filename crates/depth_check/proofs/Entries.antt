@@ -26,7 +26,7 @@ use Rattle.cfg_recover.proofs.EntryLaws.{holds_covered, holds_same, holds_call, 
 use Rattle.depth_check.proofs.Frames.{Frame, LowerSame, UpperSame, Leaves, by_return, from_system, from_handler, Resumed, Kept, length-ImpliedBy, ImpliedBy-trans}
 use Rattle.depth_check.proofs.Registers.{set_a11}
 use Rattle.depth_check.proofs.Enter.{Begins}
-use Rattle.depth_check.proofs.AcceptedRules.{even_at, Found}
+use Rattle.depth_check.proofs.PointLaws.{even_at, Found}
 
 -- ---- registers
 pub lower_not : (r q : ℕ) → is_lower q ≡ false → is_lower r ≡ true → r ≢ q
@@ -67,6 +67,7 @@ module _ (image : ImageData) (plan : PlanData) (cert : CertData) (most : ℕ) (i
         → Resumed plan frame back word ie ccpn
     after x kind back word ie ccpn at holds = record {
       point = at.point;
+      even = even_at image plan cert is_cert accepted frame.node back at.point k.stands at.found;
       found = subst (λ q. find_point q (frame.node).points ≡ Some at.point) (sym (even_at image plan cert is_cert accepted frame.node back at.point k.stands at.found)) at.found;
       flags = ImpliedBy-trans _ ((k.point).state).locals.items _ (at.covers).locals k.flags;
       inside = holds_covered plan (at.point).state (after_of (k.point).state x kind) word ie ccpn at.covers (after_length (k.point).state x kind ∙ regs) holds;
@@ -77,6 +78,7 @@ module _ (image : ImageData) (plan : PlanData) (cert : CertData) (most : ℕ) (i
     pub again : (word : ℕ → ℕ) (ie : Bool) (ccpn : ℕ) → UpperSame (reg m) word → word 27 < 2 ^ 32 → LowerSame (reg m) word → ie ≡ m.ie → ccpn ≡ m.ccpn → Resumed plan frame m.pc word ie ccpn
     again word ie ccpn upper small lower same_ie same_ccpn = record {
       point = k.point;
+      even = even_at image plan cert is_cert accepted frame.node m.pc k.point k.stands k.found;
       found = subst (λ q. find_point q (frame.node).points ≡ Some k.point) (sym (even_at image plan cert is_cert accepted frame.node m.pc k.point k.stands k.found)) k.found;
       flags = k.flags;
       inside =
@@ -103,10 +105,12 @@ module _ (image : ImageData) (plan : PlanData) (cert : CertData) (most : ℕ) (i
       call_goes_on word ie ccpn upper a11_small (from_handler kind lower enabled priority) =
           let one = call_kind in elim kind [ inl two ↦ absurd (omega arith) | inr four ↦ absurd (omega arith) ]
 
-      pub call_begins : Begins plan cert m frame (k.point).state m.d (set m.a 11 back) target m.psw m.ie m.ccpn
+      pub call_begins : Begins plan cert m frame (k.point).state m.d (set m.a 11 back) target m.psw m.ie m.ccpn back (call_key (frame.node).key target)
       call_begins = record {
         node = node;
         stands = found.stands;
+        key_is = found.key;
+        a11_is = call_back;
         need = room;
         point = at.point;
         found = at.found;
@@ -116,5 +120,5 @@ module _ (image : ImageData) (plan : PlanData) (cert : CertData) (most : ℕ) (i
         none = length-ImpliedBy ((at.point).state).locals.items [] (at.covers).locals;
         is = k.is ∙ sym (ap (λ k. k.is) found.key);
         lower = λ r low. set_a11 m.d m.a back r (lower_not r 27 refl low);
-        goes_on = λ word ie ccpn upper a11_small leaves. subst (λ b. Resumed plan frame b word ie ccpn) (sym call_back) (call_goes_on word ie ccpn upper a11_small leaves);
+        goes_on = call_goes_on;
       }

@@ -1,5 +1,5 @@
 -- The invariant of a run of certified code: a list of frames, the newest first, stands for the state.
-use Rattle.std.proofs.Common.{◌≡◌, ◌≢◌, ℕ, suc, ◌+◌, ◌*◌, ◌/◌, ◌^◌, ◌<◌, ◌≤◌, ◌⊎◌, Bool, true, false, List, [], ◌∷◌, ◌++◌, length, get_or, Some, refl, sym, ap, ◌∙◌, subst, arith, length-append, Contains}
+use Rattle.std.proofs.Common.{◌≡◌, ◌≢◌, ℕ, suc, ◌+◌, ◌*◌, ◌/◌, ◌^◌, ◌<◌, ◌≤◌, ◌⊎◌, Bool, true, false, List, [], ◌∷◌, ◌++◌, length, get_or, Some, refl, sym, ap, ◌∙◌, subst, arith, length-append}
 use Rattle.std.proofs.lemmas.List.{append-nil}
 use Rattle.csa_chain.specs.Memory.{Memory}
 use Rattle.csa_chain.specs.Chain.{link_in, is_area, area_word}
@@ -21,18 +21,24 @@ use Rattle.depth_cert.specs.declared.points.Exit.{Exit}
 use Rattle.depth_cert.specs.declared.points.Point.{Point}
 use Rattle.depth_cert.specs.Points.{find_point}
 use Rattle.depth_cert.specs.Nodes.{NodeData}
-use Rattle.depth_cert.specs.Certs.{CertData}
+use Rattle.depth_cert.specs.Certs.{CertData, find_node}
+use Rattle.cfg_recover.specs.Frames.{Standing}
 use Rattle.cfg_recover.specs.Moves.{InState}
 use Rattle.cfg_recover.proofs.EntryLaws.{HoldsExit}
 
--- What stays of a frame while it runs: its node, the area that was saved at its entry (0 for the start), the registers at
--- its entry, and the areas of its lower contexts with their flags, the newest first.
+-- What stays of a frame while it runs: its node, the area that was saved at its entry and the word that A11 got there (0 for
+-- the start), the registers at its entry, and the areas of its lower contexts with their flags, the newest first.
 pub record Frame : Type 0 where
   pub node : NodeData
   pub area : ℕ
+  pub back : ℕ
   pub word0 : ℕ → ℕ
   pub locals : List ℕ
   pub flags : List Bool
+
+-- the node stands in the certificate
+abbrev pub Stands : CertData → NodeData → Type 0
+Stands cert node = find_node (node.key) cert.nodes ≡ Some node
 
 -- flags as a state has them
 abbrev pub oldest_first : List Bool → List Bool
@@ -60,6 +66,7 @@ pub data Leaves (pie : Bool) (pcpn : ℕ) (node : NodeData) (word0 word : ℕ �
 pub record Resumed (plan : PlanData) (suspended : Frame) (back : ℕ) (word : ℕ → ℕ) (ie : Bool) (ccpn : ℕ) : Type 0 where
   pub point : Point
   pub found : find_point (back / 2 * 2) (suspended.node).points ≡ Some point
+  pub even : back / 2 * 2 ≡ back
   pub flags : ImpliedBy (point.state).locals.items (oldest_first suspended.flags)
   pub inside : Holds plan word ie ccpn point.state
   pub lower_kept : (point.state).lower ≡ true → LowerSame suspended.word0 word
@@ -87,12 +94,13 @@ under mem pcxi (l ∷ ls) = under mem (area_word mem l 0) ls
 
 -- The entry of a frame from a suspended one. PCXI names the area of the entry, an upper context with the suspended frame's
 -- registers; the need of the suspended frame has room for the entered one; and if that ends, the suspended one goes on.
-pub record Entry (plan : PlanData) (cert : CertData) (core : Core) (mem : Memory) (pcxi back : ℕ) (node : NodeData) (entry : ℕ) (word0 : ℕ → ℕ) (suspended : Frame) : Type 0 where
+pub record Entry (plan : PlanData) (cert : CertData) (core : Core) (mem : Memory) (pcxi back : ℕ) (node : NodeData) (entry back0 : ℕ) (word0 : ℕ → ℕ) (suspended : Frame) : Type 0 where
   pub some : entry ≢ 0
   pub named : link_in pcxi ≡ entry
   pub ul : ul_of core pcxi ≡ true
   pub area : is_area mem entry ≡ true
-  pub stands : Contains cert.nodes suspended.node
+  pub stands : Stands cert suspended.node
+  pub same_back : back ≡ back0
   pub need : 1 + length suspended.locals + node.need ≤ (suspended.node).need
   pub is : is_of (area_word mem entry 1) ≡ ((suspended.node).key).is
   pub upper : (j : ℕ) → j < 14 → j ≢ 1 → area_word mem entry (suc (suc j)) ≡ word0 (get_or upper_regs j 0)
@@ -114,7 +122,7 @@ Frames plan cert most core mem pcxi back frame [] =
     Locals core mem pcxi back frame.word0 frame.flags frame.locals × Oldest most (under mem pcxi frame.locals) frame.node
 Frames plan cert most core mem pcxi back frame (suspended ∷ below) =
     Locals core mem pcxi back frame.word0 frame.flags frame.locals
-    × Entry plan cert core mem (under mem pcxi frame.locals) back frame.node frame.area frame.word0 suspended
+    × Entry plan cert core mem (under mem pcxi frame.locals) back frame.node frame.area frame.back frame.word0 suspended
     × Frames plan cert most core mem (area_word mem frame.area 0) (area_word mem frame.area 3) suspended below
 
 -- the areas in use, the newest first
@@ -122,9 +130,14 @@ abbrev pub used_by : Frame → List Frame → List ℕ
 used_by frame [] = frame.locals
 used_by frame (suspended ∷ below) = frame.locals ++ frame.area ∷ used_by suspended below
 
+-- the frames as a run tells them, the running one at an address
+abbrev pub standing : ℕ → Frame → List Frame → List Standing
+standing pc frame [] = record { key = (frame.node).key; at = pc } ∷ []
+standing pc frame (suspended ∷ below) = record { key = (frame.node).key; at = pc } ∷ standing frame.back suspended below
+
 -- the invariant, with the frames that stand for the state
 pub record Kept (image : ImageData) (plan : PlanData) (cert : CertData) (most : ℕ) (m : Machine) (frame : Frame) (below : List Frame) : Type 0 where
-  pub stands : Contains cert.nodes frame.node
+  pub stands : Stands cert frame.node
   pub point : Point
   pub found : find_point m.pc (frame.node).points ≡ Some point
   pub inside : InState plan m point.state
@@ -172,14 +185,15 @@ under-same m n pcxi [] same = refl
 under-same m n pcxi (l ∷ ls) same = ap (λ w. under n w ls) (area_word_same same.0 0 (omega arith)) ∙ under-same m n (area_word m l 0) ls same.1
 
 module _ (plan : PlanData) (cert : CertData) (most : ℕ) (core : Core) where
-  Entry-same : (m n : Memory) (pcxi back : ℕ) (node : NodeData) (entry : ℕ) (word0 : ℕ → ℕ) (suspended : Frame) → SameArea m n entry → Entry plan cert core m pcxi back node entry word0 suspended → Entry plan cert core n pcxi back node entry word0 suspended
-  Entry-same m n pcxi back node entry word0 suspended same h =
+  Entry-same : (m n : Memory) (pcxi back : ℕ) (node : NodeData) (entry back0 : ℕ) (word0 : ℕ → ℕ) (suspended : Frame) → SameArea m n entry → Entry plan cert core m pcxi back node entry back0 word0 suspended → Entry plan cert core n pcxi back node entry back0 word0 suspended
+  Entry-same m n pcxi back node entry back0 word0 suspended same h =
       record {
         some = h.some;
         named = h.named;
         ul = h.ul;
         area = is_area_same same ∙ h.area;
         stands = h.stands;
+        same_back = h.same_back;
         need = h.need;
         is = ap is_of (area_word_same same 1 (omega arith)) ∙ h.is;
         upper = λ j lt ne. area_word_same same (suc (suc j)) (omega arith) ∙ h.upper j lt ne;
@@ -196,8 +210,8 @@ module _ (plan : PlanData) (cert : CertData) (most : ℕ) (core : Core) where
       let own = SameAreas-left m n frame.locals (frame.area ∷ used_by suspended below) same in
       let rest = SameAreas-right m n frame.locals (frame.area ∷ used_by suspended below) same in (
         Locals-same core m n pcxi back frame.word0 frame.flags frame.locals own h.0,
-        subst (λ w. Entry plan cert core n w back frame.node frame.area frame.word0 suspended) (sym (under-same m n pcxi frame.locals own))
-            (Entry-same m n (under m pcxi frame.locals) back frame.node frame.area frame.word0 suspended rest.0 h.1),
+        subst (λ w. Entry plan cert core n w back frame.node frame.area frame.back frame.word0 suspended) (sym (under-same m n pcxi frame.locals own))
+            (Entry-same m n (under m pcxi frame.locals) back frame.node frame.area frame.back frame.word0 suspended rest.0 h.1),
         rw (area_word_same rest.0 0 (omega arith), area_word_same rest.0 3 (omega arith)) (Frames-same m n (area_word m frame.area 0) (area_word m frame.area 3) suspended below rest.1 h.2),
       )
 
@@ -237,7 +251,7 @@ module _ (plan : PlanData) (cert : CertData) (most : ℕ) (core : Core) where
       Frames plan cert most core mem pcxi back frame below → Frames plan cert most core mem pcxi' back (record frame { locals = locals; flags = flags }) below
   Frames-moved mem pcxi pcxi' back frame [] locals flags e h g = (h, subst (λ w. Oldest most w frame.node) (sym e) g.1)
   Frames-moved mem pcxi pcxi' back frame (suspended ∷ below) locals flags e h g =
-      (h, subst (λ w. Entry plan cert core mem w back frame.node frame.area frame.word0 suspended) (sym e) g.1, g.2)
+      (h, subst (λ w. Entry plan cert core mem w back frame.node frame.area frame.back frame.word0 suspended) (sym e) g.1, g.2)
 
 -- ---- numbers of lower contexts
 pub length-Locals : (core : Core) (mem : Memory) (pcxi back : ℕ) (word0 : ℕ → ℕ) (fs : List Bool) (ls : List ℕ) → Locals core mem pcxi back word0 fs ls → length fs ≡ length ls

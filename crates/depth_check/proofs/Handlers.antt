@@ -1,8 +1,8 @@
 -- What interrupts and traps begin.
-use Rattle.std.proofs.Common.{◌≡◌, ◌≢◌, ℕ, ◌+◌, ◌-◌, ◌*◌, ◌/◌, ◌%◌, ◌^◌, ◌<◌, ◌≤◌, ◌⊎◌, inl, inr, Bool, true, false, List, [], length, get_or, set, Some, refl, sym, ap, ◌∙◌, subst, arith, length-set}
+use Rattle.std.proofs.Common.{◌≡◌, ◌≢◌, ℕ, ◌+◌, ◌*◌, ◌/◌, ◌%◌, ◌^◌, ◌<◌, ◌≤◌, ◌⊎◌, inl, inr, Bool, true, false, List, [], length, get_or, set, Some, refl, sym, ap, ◌∙◌, arith, length-set}
 use Rattle.std.proofs.lemmas.Bool.{cond_both, eq-eqb}
 use Rattle.std.proofs.lemmas.List.{get_or-set_same, get_or-set_other}
-use Rattle.std.specs.Prelude.{Option, None, IfSome, bit_or, nat_lt, replicate}
+use Rattle.std.specs.Prelude.{Option, None, IfSome, bit_or, replicate}
 use Rattle.csa_chain.proofs.ContextLaws.{reg_of}
 use Rattle.elf_image.specs.Images.{ImageData}
 use Rattle.tcd_plan.specs.PlanData.{PlanData}
@@ -18,16 +18,14 @@ use Rattle.vd_transfer.specs.Registers.{slot, set_at, word_val}
 use Rattle.depth_cert.specs.Nodes.{NodeData}
 use Rattle.depth_cert.specs.Certs.{CertData, IsCert}
 use Rattle.cfg_recover.specs.Entries.{irq_key, sys_key, aln_key, irq_entry, sys_entry, aln_entry, stack_of, entry_with, after_of}
+use Rattle.cfg_recover.specs.Frames.{handler_key}
 use Rattle.cfg_recover.specs.Accepting.{Accepts}
 use Rattle.cfg_recover.proofs.EntryLaws.{holds_covered, holds_irq, holds_aln, holds_sys, entry_length, aln_length, sys_length, stack_member, holds_after_system}
 use Rattle.depth_check.proofs.Frames.{Frame, LowerSame, UpperSame, Leaves, by_return, from_system, from_handler, Resumed, Kept, length-ImpliedBy}
-use Rattle.depth_check.proofs.Registers.{set_a11, set_a10, set_d15}
+use Rattle.depth_check.proofs.Registers.{reg_of_lt, set_a11, set_a10, set_d15}
 use Rattle.depth_check.proofs.Enter.{Begins}
-use Rattle.depth_check.proofs.AcceptedRules.{Found}
+use Rattle.depth_check.proofs.PointLaws.{Found}
 use Rattle.depth_check.proofs.Entries.{lower_not, if_some, PointFor, after, again, upper_in}
-
-reg_of_lt : (d a : List ℕ) → AreRegisters d → AreRegisters a → (r : ℕ) → reg_of d a r < 2 ^ 32
-reg_of_lt d a ds ars r = cond_both (nat_lt r 16) (get_or d r 0) (get_or a (r - 16) 0) (λ w. w < 2 ^ 32) (λ _. register_lt d ds r) (λ _. register_lt a ars (r - 16))
 
 handler_is : (psw : ℕ) → is_of (handler_psw psw) ≡ true
 handler_is psw = eq-eqb _ _ (bit psw)
@@ -85,12 +83,14 @@ module _ (image : ImageData) (plan : PlanData) (cert : CertData) (most : ℕ) (i
     -- ---- an interrupt
     module _ (irq : ℕ) (node : NodeData) (found : Found image plan cert is_cert accepted (irq_key plan irq) node)
         (at : PointFor node (bit_or plan.biv (irq * 2 ^ 5)) (irq_entry plan (frame.node).key (k.point).state irq)) (room : length ((k.point).state).locals.items + 1 + node.need ≤ (frame.node).need) where
-      pub irq_begins : Begins plan cert m frame (k.point).state m.d (handler_a m m.pc) (bit_or m.biv (irq * 2 ^ 5)) (handler_psw m.psw) false irq
+      pub irq_begins : Begins plan cert m frame (k.point).state m.d (handler_a m m.pc) (bit_or m.biv (irq * 2 ^ 5)) (handler_psw m.psw) false irq m.pc (handler_key 2 (bit_or m.biv (irq * 2 ^ 5)) irq)
       irq_begins =
           let same : (a : List ℕ) (r : ℕ) → r ≢ 15 → reg_of m.d a r ≡ reg_of m.d a r = λ a r ne. refl in
           record {
             node = node;
             stands = found.stands;
+            key_is = found.key ∙ ap (λ v. handler_key 2 (bit_or v (irq * 2 ^ 5)) irq) (sym k.biv);
+            a11_is = handler_back m.d words.d same m.pc words.pc;
             need = room;
             point = at.point;
             found = rw k.biv at.found;
@@ -101,8 +101,7 @@ module _ (image : ImageData) (plan : PlanData) (cert : CertData) (most : ℕ) (i
             none = length-ImpliedBy ((at.point).state).locals.items ((irq_entry plan (frame.node).key (k.point).state irq).locals.items) (at.covers).locals ∙ entry_none (stack_of plan (frame.node).key (k.point).state) false irq true;
             is = handler_is m.psw ∙ sym (ap (λ k. k.is) found.key);
             lower = handler_lower m.d words.d same m.pc words.pc;
-            goes_on = λ word ie ccpn upper a11_small leaves.
-                subst (λ b. Resumed plan frame b word ie ccpn) (sym (handler_back m.d words.d same m.pc words.pc)) (goes_back node (inl (ap (λ k. k.kind) found.key)) word ie ccpn upper a11_small leaves);
+            goes_on = goes_back node (inl (ap (λ k. k.kind) found.key));
           }
 
     -- ---- traps: the class's number is in D15
@@ -122,14 +121,15 @@ module _ (image : ImageData) (plan : PlanData) (cert : CertData) (most : ℕ) (i
       four : 4 < 2 ^ 32
       four = omega arith
 
-      pub aln_begins : Begins plan cert m frame (k.point).state (set m.d 15 4) (handler_a m m.pc) (bit_or m.btv (2 * 2 ^ 5)) (handler_psw m.psw) false m.ccpn
+      pub aln_begins : Begins plan cert m frame (k.point).state (set m.d 15 4) (handler_a m m.pc) (bit_or m.btv (2 * 2 ^ 5)) (handler_psw m.psw) false m.ccpn m.pc (handler_key 4 (bit_or m.btv (2 * 2 ^ 5)) ((frame.node).key).prio)
       aln_begins =
-          let sp = stack_of plan (frame.node).key (k.point).state in
           let ds = trap_ds 4 four m.pc words.pc in
           let same = trap_same 4 four m.pc words.pc in
           record {
             node = node;
             stands = found.stands;
+            key_is = found.key ∙ ap (λ v. handler_key 4 (bit_or v (2 * 2 ^ 5)) ((frame.node).key).prio) (sym k.btv);
+            a11_is = handler_back (set m.d 15 4) ds same m.pc words.pc;
             need = room;
             point = at.point;
             found = rw k.btv at.found;
@@ -142,8 +142,7 @@ module _ (image : ImageData) (plan : PlanData) (cert : CertData) (most : ℕ) (i
                 ∙ set_none (entry_with (stack_of plan (frame.node).key (k.point).state) false ((k.point).state).ccpn true) (word_val 4) (slot 15) ∙ entry_none (stack_of plan (frame.node).key (k.point).state) false ((k.point).state).ccpn true;
             is = handler_is m.psw ∙ sym (ap (λ k. k.is) found.key);
             lower = handler_lower (set m.d 15 4) ds same m.pc words.pc;
-            goes_on = λ word ie ccpn upper a11_small leaves.
-                subst (λ b. Resumed plan frame b word ie ccpn) (sym (handler_back (set m.d 15 4) ds same m.pc words.pc)) (goes_back node (inr (ap (λ k. k.kind) found.key)) word ie ccpn upper a11_small leaves);
+            goes_on = goes_back node (inr (ap (λ k. k.kind) found.key));
           }
 
     -- ---- a system call
@@ -162,13 +161,15 @@ module _ (image : ImageData) (plan : PlanData) (cert : CertData) (most : ℕ) (i
       sys_goes_on word ie ccpn upper a11_small (from_handler kind lower enabled priority) =
           let three = sys_kind in elim kind [ inl two ↦ absurd (omega arith) | inr four ↦ absurd (omega arith) ]
 
-      pub sys_begins : Begins plan cert m frame (k.point).state (set m.d 15 tin) (handler_a m back) (bit_or m.btv (6 * 2 ^ 5)) (handler_psw m.psw) false m.ccpn
+      pub sys_begins : Begins plan cert m frame (k.point).state (set m.d 15 tin) (handler_a m back) (bit_or m.btv (6 * 2 ^ 5)) (handler_psw m.psw) false m.ccpn back (handler_key 3 (bit_or m.btv (6 * 2 ^ 5)) ((frame.node).key).prio)
       sys_begins =
           let ds = trap_ds tin tin_small back small in
           let same = trap_same tin tin_small back small in
           record {
             node = node;
             stands = found.stands;
+            key_is = found.key ∙ ap (λ v. handler_key 3 (bit_or v (6 * 2 ^ 5)) ((frame.node).key).prio) (sym k.btv);
+            a11_is = handler_back (set m.d 15 tin) ds same back small;
             need = room;
             point = at.point;
             found = rw k.btv at.found;
@@ -179,6 +180,5 @@ module _ (image : ImageData) (plan : PlanData) (cert : CertData) (most : ℕ) (i
             none = length-ImpliedBy ((at.point).state).locals.items [] (at.covers).locals;
             is = handler_is m.psw ∙ sym (ap (λ k. k.is) found.key);
             lower = handler_lower (set m.d 15 tin) ds same back small;
-            goes_on = λ word ie ccpn upper a11_small leaves.
-                subst (λ b. Resumed plan frame b word ie ccpn) (sym (handler_back (set m.d 15 tin) ds same back small)) (sys_goes_on word ie ccpn upper a11_small leaves);
+            goes_on = sys_goes_on;
           }

@@ -3,7 +3,6 @@ use Rattle.std.proofs.Common.{◌≡◌, sym, subst}
 use Rattle.elf_image.specs.Images.{ImageData}
 use Rattle.tcd_plan.specs.PlanData.{PlanData, IsPlan}
 use Rattle.tc_machine.specs.Safe.{Safe}
-use Rattle.store_ranges.specs.Laws.{HasImageBytes}
 use Rattle.depth_cert.specs.Certs.{CertData, IsCert}
 use Rattle.depth_check.specs.declared.verdicts.Verdict.{Verdict}
 use Rattle.depth_check.specs.declared.verdicts.Verdict.TheVariants.{Yes, No}
@@ -11,7 +10,7 @@ use Rattle.depth_check.specs.Judging.{Judges, IfYes}
 use Rattle.depth_check.proofs.Sound.{accepted_is_safe}
 
 -- by a plan and a certificate that keep their promises
-pub judged_is_safe : (image : ImageData) (plan fields : PlanData) (cert parts : CertData) (v : Verdict) → HasImageBytes image → fields ≡ plan → IsPlan fields → parts ≡ cert → IsCert parts → Judges image plan cert v → IfYes v (Safe image plan)
-judged_is_safe image plan fields cert parts (Yes n) bytes e ok f is judges =
-    subst (Safe image plan) (sym judges.1) (accepted_is_safe image plan cert (subst IsPlan e ok) bytes (subst IsCert f is) judges.0)
-judged_is_safe image plan fields cert parts (No rule key addr) bytes e ok f is judges = tt
+pub judged_is_safe : (image : ImageData) (plan fields : PlanData) (cert parts : CertData) (v : Verdict) → fields ≡ plan → IsPlan fields → parts ≡ cert → IsCert parts → Judges image plan cert v → IfYes v (Safe image plan)
+judged_is_safe image plan fields cert parts (Yes n) e ok f is judges =
+    subst (Safe image plan) (sym judges.1) (accepted_is_safe image plan cert (subst IsPlan e ok) (subst IsCert f is) judges.0)
+judged_is_safe image plan fields cert parts (No rule key addr) e ok f is judges = tt

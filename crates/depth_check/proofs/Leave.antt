@@ -53,8 +53,8 @@ Leaves-same node word0 word word' ie ccpn same (from_handler kind lower enabled 
 
 module _ (image : ImageData) (plan : PlanData) (ok : IsPlan plan) (cert : CertData) (most : ℕ) (few : most ≤ plan.areas - plan.reserve) where
   module _ (m : Machine) (words : IsMachine m) (frame suspended : Frame) (below : List Frame) (k : Kept image plan cert most m frame (suspended ∷ below)) (none : frame.locals ≡ []) where
-    entry : Entry plan cert m.core m.mem m.pcxi (a11 m) frame.node frame.area frame.word0 suspended
-    entry = subst (λ ls. Entry plan cert m.core m.mem (under m.mem m.pcxi ls) (a11 m) frame.node frame.area frame.word0 suspended) none (k.frames).1
+    entry : Entry plan cert m.core m.mem m.pcxi (a11 m) frame.node frame.area frame.back frame.word0 suspended
+    entry = subst (λ ls. Entry plan cert m.core m.mem (under m.mem m.pcxi ls) (a11 m) frame.node frame.area frame.back frame.word0 suspended) none (k.frames).1
 
     -- the registers that come back
     upper : UpperSame frame.word0 (reg_of (d_after_upper (last_context m) m.d) (a_after_upper (last_context m) m.a))
@@ -64,8 +64,11 @@ module _ (image : ImageData) (plan : PlanData) (ok : IsPlan plan) (cert : CertDa
         upper_back (last_context m) m.d m.a j lt ∙ area_words-at m.mem (link_in m.pcxi) (suc (suc j)) (omega arith) ∙ ap (λ l. area_word m.mem l (suc (suc j))) entry.named ∙ entry.upper j lt ne)
         (λ j lt. upper_leaves_globals (last_context m) m.d m.a j lt ∙ globals_held plan (reg m) m.ie m.ccpn (k.point).state k.inside j lt ∙ sym (entry.globals j lt))
 
-    pub comes_back : (ie : Bool) (ccpn : ℕ) → Leaves (pie_of m.core m.pcxi) (pcpn_of m.core m.pcxi) frame.node frame.word0 (reg m) ie ccpn →
-        Kept image plan cert most (record (restored m true) { pc = a11 m / 2 * 2; ie = ie; ccpn = ccpn; end = Running }) suspended below
+    pub record Back (ie : Bool) (ccpn : ℕ) : Type 0 where
+      pub at : a11 m / 2 * 2 ≡ frame.back
+      pub kept : Kept image plan cert most (record (restored m true) { pc = a11 m / 2 * 2; ie = ie; ccpn = ccpn; end = Running }) suspended below
+
+    pub comes_back : (ie : Bool) (ccpn : ℕ) → Leaves (pie_of m.core m.pcxi) (pcpn_of m.core m.pcxi) frame.node frame.word0 (reg m) ie ccpn → Back ie ccpn
     comes_back ie ccpn leaves =
         let e = entry in
         let lower = upper-LowerSame (last_context m) m.d m.a in
@@ -77,23 +80,26 @@ module _ (image : ImageData) (plan : PlanData) (ok : IsPlan plan) (cert : CertDa
         let freed = is_freed m.mem m.fcx m.lcx frame.area (used_by suspended below) k.free areas in
         let small : frame.area < 2 ^ 20 = subst (λ l. l < 2 ^ 20) e.named (link_in-lt m.pcxi) in
         record {
-          stands = e.stands;
-          point = goes.point;
-          found = goes.found;
-          inside = goes.inside;
-          flags = goes.flags;
-          is = rw e.named e.is;
-          lower_kept = goes.lower_kept;
-          frames = rw e.named (Frames-same plan cert most m.core m.mem (with_words m.mem (link_address frame.area) (m.fcx ∷ [])) (area_word m.mem frame.area 0) (area_word m.mem frame.area 3) suspended below
-              (SameAreas-written m.mem frame.area (used_by suspended below) (m.fcx ∷ []) (omega arith) freed.avoids_used) (k.frames).2);
-          free = frame.area ∷ k.free;
-          areas = rw e.named (Areas-restored m.mem m.pcxi m.fcx m.lcx frame.area (used_by suspended below) k.free links areas small);
-          rom = rw e.named (HoldsRom-written image m.mem ok frame.area (length (used_by suspended below)) (m.fcx ∷ []) freed.place freed.within (omega arith) k.rom);
-          memory = IsPlanMemory-written plan m.mem (link_address (link_in m.pcxi)) (m.fcx ∷ []) k.memory;
-          biv = k.biv;
-          btv = k.btv;
-          isp = k.isp;
-          running = refl;
+          at = goes.even ∙ e.same_back;
+          kept = record {
+            stands = e.stands;
+            point = goes.point;
+            found = goes.found;
+            inside = goes.inside;
+            flags = goes.flags;
+            is = rw e.named e.is;
+            lower_kept = goes.lower_kept;
+            frames = rw e.named (Frames-same plan cert most m.core m.mem (with_words m.mem (link_address frame.area) (m.fcx ∷ [])) (area_word m.mem frame.area 0) (area_word m.mem frame.area 3) suspended below
+                (SameAreas-written m.mem frame.area (used_by suspended below) (m.fcx ∷ []) (omega arith) freed.avoids_used) (k.frames).2);
+            free = frame.area ∷ k.free;
+            areas = rw e.named (Areas-restored m.mem m.pcxi m.fcx m.lcx frame.area (used_by suspended below) k.free links areas small);
+            rom = rw e.named (HoldsRom-written image m.mem ok frame.area (length (used_by suspended below)) (m.fcx ∷ []) freed.place freed.within (omega arith) k.rom);
+            memory = IsPlanMemory-written plan m.mem (link_address (link_in m.pcxi)) (m.fcx ∷ []) k.memory;
+            biv = k.biv;
+            btv = k.btv;
+            isp = k.isp;
+            running = refl;
+          };
         }
 
     pub restores : restore m true ≡ restored m true

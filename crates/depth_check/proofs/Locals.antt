@@ -82,9 +82,6 @@ used_popped frame (s ∷ below) l rest flags e = ap (λ ls. ls ++ frame.area ∷
 
 module _ (image : ImageData) (plan : PlanData) (ok : IsPlan plan) (cert : CertData) (most : ℕ) (few : most ≤ plan.areas - plan.reserve) where
   module _ (m : Machine) (words : IsMachine m) (frame : Frame) (below : List Frame) (k : Kept image plan cert most m frame below) where
-    saved_mem : Memory
-    saved_mem = with_words m.mem (link_address (link_in m.fcx)) (context_of m false)
-
     -- ---- a save of the lower context
     module _ (free : HasFree plan m.mem m.fcx m.lcx (used_by frame below)) where
       -- a word of the new area
@@ -99,7 +96,6 @@ module _ (image : ImageData) (plan : PlanData) (ok : IsPlan plan) (cert : CertDa
       pub lower_pushed : (pc : ℕ) (ie : Bool) (ccpn : ℕ) (t : State) → t.locals.items ≡ ((k.point).state).locals.items ++ ((k.point).state).lower ∷ [] → t.lower ≡ ((k.point).state).lower → length t.regs ≡ 27 → Holds plan (reg m) ie ccpn t → PointFor frame.node pc t →
           Kept image plan cert most (record (saved m false) { pc = pc; ie = ie; ccpn = ccpn; end = Running }) (with_locals frame (link_in m.fcx ∷ frame.locals) (((k.point).state).lower ∷ frame.flags)) below
       lower_pushed pc ie ccpn t pushed same_lower long holds at =
-          let mem = with_words m.mem (link_address (link_in m.fcx)) (context_of m false) in
           let stay = Frames-same plan cert most m.core m.mem (with_words m.mem (link_address (link_in m.fcx)) (context_of m false)) m.pcxi (a11 m) frame below
           (SameAreas-written m.mem (link_in m.fcx) (used_by frame below) (context_of m false) (omega arith) free.avoids_used) k.frames in
           let link_small = link_in-lt m.fcx in
@@ -140,8 +136,9 @@ module _ (image : ImageData) (plan : PlanData) (ok : IsPlan plan) (cert : CertDa
     -- ---- a restore of the lower context
     pub record Popped (pc : ℕ) : Type 0 where
       pub restores : restore m false ≡ restored m false
-      pub frame2 : Frame
-      pub kept : Kept image plan cert most (record (restored m false) { pc = pc; end = Running }) frame2 below
+      pub areas : List ℕ
+      pub flags : List Bool
+      pub kept : Kept image plan cert most (record (restored m false) { pc = pc; end = Running }) (with_locals frame areas flags) below
 
     pub lower_popped : (pc : ℕ) → 1 ≤ length ((k.point).state).locals.items → length ((k.point).state).regs ≡ 27 → PointFor frame.node pc (effects.restored_lower (k.point).state) → Popped pc
     lower_popped pc some long at =
@@ -149,7 +146,6 @@ module _ (image : ImageData) (plan : PlanData) (ok : IsPlan plan) (cert : CertDa
         let top : Newest m.core m.mem m.pcxi (a11 m) frame.word0 frame.flags frame.locals =
         newest m.core m.mem m.pcxi (a11 m) frame.word0 frame.flags frame.locals (own_locals plan cert most m.core m.mem m.pcxi (a11 m) frame below k.frames) (omega arith) in
         let local : Local m.core m.mem m.pcxi (a11 m) top.area top.flag frame.word0 = top.local in
-        let after : Frame = with_locals frame top.areas top.flags in
         let used : used_by frame below ≡ top.area ∷ used_by (with_locals frame top.areas top.flags) below = used_popped frame below top.area top.areas top.flags top.same_areas in
         let areas : Areas plan m.mem m.fcx m.lcx (top.area ∷ used_by (with_locals frame top.areas top.flags) below) k.free = subst (λ us. Areas plan m.mem m.fcx m.lcx us k.free) used k.areas in
         let links : Links m.mem m.pcxi (top.area ∷ used_by (with_locals frame top.areas top.flags) below) = subst (Links m.mem m.pcxi) used (Links-Frames plan cert most m.core m.mem m.pcxi (a11 m) frame below k.frames) in
@@ -163,7 +159,8 @@ module _ (image : ImageData) (plan : PlanData) (ok : IsPlan plan) (cert : CertDa
         Frames-moved plan cert most m.core m.mem m.pcxi (area_word m.mem top.area 0) (a11 m) frame below top.areas top.flags (sym (ap (under m.mem m.pcxi) top.same_areas)) top.others k.frames in
         record {
           restores = restores;
-          frame2 = with_locals frame top.areas top.flags;
+          areas = top.areas;
+          flags = top.flags;
           kept = record {
             stands = k.stands;
             point = at.point;

@@ -1,15 +1,19 @@
 -- Registers one after another, and what saves and restores leave of them.
-use Rattle.std.proofs.Common.{◌≡◌, ◌≢◌, ℕ, zero, suc, ◌+◌, ◌-◌, ◌<◌, ◌≤◌, true, false, List, get_or, inl, inr, refl, sym, ap, ◌∙◌, subst, arith, set}
-use Rattle.std.proofs.lemmas.Bool.{cases_lt, le-ltb, lt-ltb, le-leb, lt-leb}
+use Rattle.std.proofs.Common.{◌≡◌, ◌≢◌, ℕ, zero, suc, ◌+◌, ◌-◌, ◌^◌, ◌<◌, ◌≤◌, true, false, List, get_or, inl, inr, refl, sym, ap, ◌∙◌, subst, arith, set}
+use Rattle.std.proofs.lemmas.Bool.{cond_both, cases_lt, le-ltb, lt-ltb, le-leb, lt-leb}
 use Rattle.std.proofs.lemmas.List.{get_or-set_other}
+use Rattle.std.specs.Prelude.{nat_lt}
 use Rattle.csa_chain.specs.Contexts.{d_after_upper, a_after_upper, d_after_lower, a_after_lower}
 use Rattle.csa_chain.proofs.ContextLaws.{reg_of, upper_regs, lower_regs, global_regs, below_14, below_16, upper_leaves_lower, lower_leaves_upper}
+use Rattle.tc_machine.specs.Safe.{AreRegisters}
+use Rattle.tc_machine.proofs.Words.{register_lt}
 use Rattle.vd_transfer.specs.Registers.{is_lower}
 use Rattle.depth_check.proofs.Frames.{LowerSame, UpperSame}
 
 pub lower_is_lower : (j : ℕ) → j < 14 → is_lower (get_or lower_regs j 0) ≡ true
 lower_is_lower = below_14 (λ j. is_lower (get_or lower_regs j 0) ≡ true) refl refl refl refl refl refl refl refl refl refl refl refl refl refl
 
+-- true isn't false
 no : {A : Type 0} → true ≡ false → A
 no e = absurd (let f : true ≡ false = e in cc)
 
@@ -100,3 +104,7 @@ module _ (d a : List ℕ) where
         | inl first ↦ rw (lt-ltb r 16 first) (get_or-set_other d 15 r w 0 (λ e. other e))
         | inr past ↦ rw (le-ltb r 16 past) refl
       ]
+
+-- registers are words
+pub reg_of_lt : (d a : List ℕ) → AreRegisters d → AreRegisters a → (r : ℕ) → reg_of d a r < 2 ^ 32
+reg_of_lt d a ds ars r = cond_both (nat_lt r 16) (get_or d r 0) (get_or a (r - 16) 0) (λ w. w < 2 ^ 32) (λ _. register_lt d ds r) (λ _. register_lt a ars (r - 16))

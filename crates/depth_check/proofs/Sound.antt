@@ -14,26 +14,26 @@ use Rattle.tc_machine.proofs.Fetched.{IsAtCode-from}
 use Rattle.tc_machine.proofs.Stays.{irq_lt, stays_step, stays_run}
 use Rattle.tc_machine.proofs.Areas.{Areas-start, ChainsAreWhole-from}
 use Rattle.vd_transfer.specs.Registers.{word_val}
-use Rattle.store_ranges.specs.Laws.{HasImageBytes}
 use Rattle.depth_cert.specs.Keys.{IsKey}
 use Rattle.depth_cert.specs.Points.{find_point}
 use Rattle.depth_cert.specs.Nodes.{NodeData}
 use Rattle.depth_cert.specs.Certs.{CertData, IsCert, find_node}
 use Rattle.cfg_recover.specs.Entries.{start_key, start_state}
+use Rattle.cfg_recover.specs.Frames.{Standing, frames_after, frames_from, frames}
 use Rattle.cfg_recover.specs.Accepting.{limits_in, HasPoint, Accepts, need_of, certified_need}
 use Rattle.cfg_recover.proofs.MoveLaws.{stores_held}
 use Rattle.cfg_recover.proofs.EntryLaws.{holds_covered, holds_start, entry_length}
 use Rattle.depth_check.specs.Headline.{AcceptedIsSafe}
 use Rattle.depth_check.proofs.Frames.{Frame, used_by, Kept, Links-Frames, need-Frames, length-ImpliedBy}
 use Rattle.depth_check.proofs.Enter.{implied_none, counted}
-use Rattle.depth_check.proofs.AcceptedRules.{rules_at, Found, node_found}
+use Rattle.depth_check.proofs.PointLaws.{rules_at, Found, node_found}
 use Rattle.depth_check.proofs.Entries.{PointFor, point_for}
 use Rattle.depth_check.proofs.Handlers.{entry_none}
 use Rattle.depth_check.proofs.Step.{Goes, at_point, step-kept}
 
 -- the frame of the start
 abbrev pub oldest : Machine → NodeData → Frame
-oldest m node = record { node = node; area = 0; word0 = reg m; locals = []; flags = [] }
+oldest m node = record { node = node; area = 0; back = 0; word0 = reg m; locals = []; flags = [] }
 
 module _ (image : ImageData) (plan : PlanData) (ok : IsPlan plan) (cert : CertData) (is_cert : IsCert cert) (accepted : Accepts image plan cert) where
   -- the start's node of an accepted certificate
@@ -82,12 +82,12 @@ module _ (image : ImageData) (plan : PlanData) (ok : IsPlan plan) (cert : CertDa
       let few : (b.node).need ≤ plan.areas - plan.reserve = (rules.holds).start found.key refl in
       omega arith
 
-  module _ (bytes : HasImageBytes image) (most : ℕ) (few : most ≤ plan.areas - plan.reserve) where
-    run-kept : (m : Machine) (es : List Event) → IsMachine m → Goes image plan cert most m → AllFit plan m es → Goes image plan cert most (run m es)
-    run-kept m [] words g fits = g
-    run-kept m (e ∷ es) words g fits =
-        run-kept (step m e) es (stays_step m e words (irq_lt ok m e fits.0) (fits.0).input (fits.0).status)
-        (step-kept image plan ok cert most few is_cert accepted bytes m words e fits.0 g) fits.1
+  module _ (most : ℕ) (few : most ≤ plan.areas - plan.reserve) where
+    run-kept : (m : Machine) (es : List Event) → IsMachine m → (now : List Standing) → Goes image plan cert most m now → AllFit plan m es → Goes image plan cert most (run m es) (frames_from m es now)
+    run-kept m [] words now g fits = g
+    run-kept m (e ∷ es) words now g fits =
+        run-kept (step m e) es (stays_step m e words (irq_lt ok m e fits.0) (fits.0).input (fits.0).status) (frames_after m e now)
+        (step-kept image plan ok cert most few is_cert accepted m words e fits.0 now g) fits.1
 
     -- the invariant says that the state is safe
     safe-kept : (m : Machine) (e : Event) → IsMachine m → (frame : Frame) (below : List Frame) → Kept image plan cert most m frame below → IsSafeAt image plan most m e
@@ -102,16 +102,32 @@ module _ (image : ImageData) (plan : PlanData) (ok : IsPlan plan) (cert : CertDa
           chains = ChainsAreWhole-from ok most m (used_by frame below) k.free (Links-Frames plan cert most m.core m.mem m.pcxi (a11 m) frame below k.frames) k.areas (omega arith);
           code_in_rom = IsAtCode-from image ok m k.rom code.bytes code.inst code.spells;
           stores_in_range = stores_held (limits_in plan cert) image plan (frame.node).key m e (k.point).state r.shape r.size
-              (at_point image plan ok cert most few is_cert accepted bytes m words frame below k r.shape r.size r.holds);
+              (at_point image plan ok cert most few is_cert accepted m words frame below k r.shape r.size r.holds);
         }
 
--- ---- the theorem
+-- ---- the theorems
+module _ (image : ImageData) (plan : PlanData) (ok : IsPlan plan) (cert : CertData) (is_cert : IsCert cert) (accepted : Accepts image plan cert) (m : Machine) (es : List Event) (start : Starts image plan m) (all_fit : AllFit plan m es) where
+  small : IsKey (start_key image plan)
+  small = record { kind = omega arith; entry = subst (λ p. p < 2 ^ 32) start.pc (start.machine).pc; prio = omega arith }
+
+  first : Begun image plan ok cert is_cert accepted (certified_need image plan cert)
+  first = begun image plan ok cert is_cert accepted small (find_node (start_key image plan) cert.nodes) refl accepted.start
+
+  pub few : certified_need image plan cert ≤ plan.areas - plan.reserve
+  few = few_at_start image plan ok cert is_cert accepted (certified_need image plan cert) first
+
+  -- the invariant holds after a run, with the run's frames
+  pub held : Goes image plan cert (certified_need image plan cert) (run m es) (frames image plan m es)
+  held =
+      run-kept image plan ok cert is_cert accepted (certified_need image plan cert) few m es start.machine (record { key = start_key image plan; at = m.pc } ∷ [])
+      (record {
+        frame = oldest m (first).node;
+        below = [];
+        kept = Kept-start image plan ok cert is_cert accepted m start (certified_need image plan cert) first;
+        stands = ap (λ j. record { key = j; at = m.pc } ∷ []) ((first).found).key;
+      }) all_fit
+
 pub accepted_is_safe : AcceptedIsSafe
-accepted_is_safe image plan cert ok bytes is_cert accepted m es e start all_fit fits =
-    let small : IsKey (start_key image plan) = record { kind = omega arith; entry = subst (λ p. p < 2 ^ 32) start.pc (start.machine).pc; prio = omega arith } in
-    let b = begun image plan ok cert is_cert accepted small (find_node (start_key image plan) cert.nodes) refl accepted.start in
-    let few = few_at_start image plan ok cert is_cert accepted (certified_need image plan cert) b in
-    let first = Kept-start image plan ok cert is_cert accepted m start (certified_need image plan cert) b in
-    let g = run-kept image plan ok cert is_cert accepted bytes (certified_need image plan cert) few m es start.machine
-    (record { frame = oldest m b.node; below = []; kept = first }) all_fit in
-    safe-kept image plan ok cert is_cert accepted bytes (certified_need image plan cert) few (run m es) e (stays_run ok m es start.machine all_fit) g.frame g.below g.kept
+accepted_is_safe image plan cert ok is_cert accepted m es e start all_fit fits =
+    let g = held image plan ok cert is_cert accepted m es start all_fit in
+    safe-kept image plan ok cert is_cert accepted (certified_need image plan cert) (few image plan ok cert is_cert accepted m es start all_fit) (run m es) e (stays_run ok m es start.machine all_fit) g.frame g.below g.kept

@@ -1,5 +1,5 @@
 pub mod Finding
 pub mod FirstFaults
-pub mod Judging
 pub mod Headline
+pub mod Judging
 pub mod NodeFaults

@@ -4,7 +4,6 @@ ghost use Rattle.depth_check.specs.Judging.{Judges, IfYes};
 
 use crate::Verdict;
 use crate::checking::judged;
-use crate::image_bytes::has_bytes;
 use depth_cert::Cert;
 use elf_image::Image;
 use tcd_plan::Plan;
@@ -20,6 +19,5 @@ pub fn check(image: &Image, plan: &Plan, cert: &Cert) -> Verdict
     // What every plan and every certificate keep is known once they are read.
     let _areas = plan.areas;
     let _version = cert.version;
-    has_bytes(image);
     judged(image, plan, cert)
 }

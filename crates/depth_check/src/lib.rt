@@ -5,7 +5,6 @@ mod checking;
 mod covering;
 mod duties;
 mod first_faults;
-mod image_bytes;
 mod judging;
 mod laws;
 mod nodes;
@@ -14,7 +13,7 @@ mod verdicts;
 
 pub use first_faults::first_fault_laws;
 pub use judging::check;
-pub use laws::accepted_is_safe;
+pub use laws::{accepted_holds_frames, accepted_is_safe};
 pub use verdicts::Verdict;
 
 #[cfg(test)]

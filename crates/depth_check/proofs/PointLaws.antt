@@ -1,5 +1,5 @@
 -- From an accepted certificate to what its rules ask at a point.
-use Rattle.std.proofs.Common.{◌≡◌, ℕ, suc, ◌+◌, ◌-◌, ◌*◌, ◌/◌, ◌^◌, ◌<◌, ◌≤◌, Bool, true, false, cond, List, [], ◌∷◌, length, Some, refl, ap, ◌∙◌, subst, arith, ◌==◌, All, Contains}
+use Rattle.std.proofs.Common.{◌≡◌, ℕ, suc, ◌+◌, ◌-◌, ◌*◌, ◌/◌, ◌^◌, ◌<◌, ◌≤◌, Bool, true, false, cond, List, [], ◌∷◌, length, Some, refl, sym, ap, ◌∙◌, subst, arith, ◌==◌, All, Contains}
 use Rattle.std.proofs.lemmas.Bool.{eqb-true, cond_both}
 use Rattle.std.specs.List.{find}
 use Rattle.std.specs.Prelude.{None}
@@ -21,6 +21,7 @@ use Rattle.cfg_recover.specs.Entries.{start_key}
 use Rattle.cfg_recover.specs.Own.{OwnRule, IsFaultless}
 use Rattle.cfg_recover.specs.Duties.{Owed, duties_of}
 use Rattle.cfg_recover.specs.Accepting.{limits_in, IsMet, IsNeedAbove, RuleHolds, HasNeed, HoldsAtNode, Accepts}
+use Rattle.depth_check.proofs.Frames.{Stands}
 
 -- ---- lists
 -- what holds of each element holds of one that is contained
@@ -69,7 +70,6 @@ key_same j k hj hk e =
 -- ---- limits
 pub limits_are : (plan : PlanData) (version : ℕ) → AreLimits (limits_for plan version)
 limits_are plan version =
-    let v = version == 1 in
     record {
       wide = cond_both (version == 1) 64 128 (λ w. 64 ≤ w) (λ _. omega arith) (λ _. omega arith);
       narrow = cond_both (version == 1) 64 128 (λ w. w ≤ 128) (λ _. omega arith) (λ _. omega arith);
@@ -77,15 +77,19 @@ limits_are plan version =
     }
 
 -- ---- points
+-- what a point of a node owes
+abbrev pub duties_at : ImageData → PlanData → CertData → NodeData → ℕ → State → Shape → ℕ → List Owed
+duties_at image plan cert node p s shape n = duties_of (limits_in plan cert) image plan node.key p s shape n
+
 -- what the rules ask at a point of a node
 pub record PointHolds (image : ImageData) (plan : PlanData) (cert : CertData) (node : NodeData) (p : ℕ) (s : State) (shape : Shape) (size : ℕ) : Type 0 where
   pub code : IsCode image plan p shape size
   pub regs : length s.regs ≡ 27
   pub values : AreValues (limits_in plan cert) s.regs
   pub own : (r : ℕ) → OwnRule (limits_in plan cert) plan node.key p s shape r
-  pub met : (d : Owed) → Contains (duties_of (limits_in plan cert) image plan node.key p s shape size) d → IsMet cert node s d.duty
+  pub met : (d : Owed) → Contains (duties_at image plan cert node p s shape size) d → IsMet cert node s d.duty
   pub locals : length s.locals.items ≤ node.need
-  pub entered : (d : Owed) → Contains (duties_of (limits_in plan cert) image plan node.key p s shape size) d → IsNeedAbove cert node s d.duty
+  pub entered : (d : Owed) → Contains (duties_at image plan cert node p s shape size) d → IsNeedAbove cert node s d.duty
   pub start : node.key ≡ start_key image plan → p ≡ image.entry → node.need ≤ plan.areas - plan.reserve
 
 pub record PointRules (image : ImageData) (plan : PlanData) (cert : CertData) (node : NodeData) (p : ℕ) (s : State) : Type 0 where
@@ -94,13 +98,16 @@ pub record PointRules (image : ImageData) (plan : PlanData) (cert : CertData) (n
   pub holds : PointHolds image plan cert node p s shape size
 
 module _ (image : ImageData) (plan : PlanData) (cert : CertData) (is_cert : IsCert cert) (accepted : Accepts image plan cert) where
-  pub node_is : (node : NodeData) → Contains cert.nodes node → IsNode cert.version node
-  node_is node stands = All-at (IsNode cert.version) cert.nodes node is_cert.nodes stands
+  stands_in : (node : NodeData) → Stands cert node → Contains cert.nodes node
+  stands_in node stands = (found_in (λ n. number_of_key n.key == number_of_key node.key) cert.nodes node stands).0
 
-  rules_of_node : (node : NodeData) → Contains cert.nodes node → HoldsAtNode image plan cert node
-  rules_of_node node stands = All-at (HoldsAtNode image plan cert) cert.nodes node accepted.nodes stands
+  pub node_is : (node : NodeData) → Stands cert node → IsNode cert.version node
+  node_is node stands = All-at (IsNode cert.version) cert.nodes node is_cert.nodes (stands_in node stands)
 
-  rules_at_point : (node : NodeData) (point : Point) → Contains cert.nodes node → Contains node.points point → PointRules image plan cert node point.addr point.state
+  rules_of_node : (node : NodeData) → Stands cert node → HoldsAtNode image plan cert node
+  rules_of_node node stands = All-at (HoldsAtNode image plan cert) cert.nodes node accepted.nodes (stands_in node stands)
+
+  rules_at_point : (node : NodeData) (point : Point) → Stands cert node → Contains node.points point → PointRules image plan cert node point.addr point.state
   rules_at_point node point stands there =
       let all : (r : ℕ) → RuleHolds image plan cert node point r = All-at (λ p. (r : ℕ) → RuleHolds image plan cert node p r) node.points point (rules_of_node node stands).points there in
       let values : AreValues (limits_in plan cert) (point.state).regs = (all 2).values refl in
@@ -123,21 +130,23 @@ module _ (image : ImageData) (plan : PlanData) (cert : CertData) (is_cert : IsCe
         };
       }
 
-  pub rules_at : (node : NodeData) (q : ℕ) (point : Point) → Contains cert.nodes node → find_point q node.points ≡ Some point → PointRules image plan cert node q point.state
+  pub rules_at : (node : NodeData) (q : ℕ) (point : Point) → Stands cert node → find_point q node.points ≡ Some point → PointRules image plan cert node q point.state
   rules_at node q point stands found =
       let there = found_in (λ p. p.addr == q) node.points point found in
       subst (λ x. PointRules image plan cert node x point.state) (eqb-true _ _ there.1) (rules_at_point node point stands there.0)
 
   -- where a point stands, there is code at an even address
-  pub even_at : (node : NodeData) (q : ℕ) (point : Point) → Contains cert.nodes node → find_point q node.points ≡ Some point → q / 2 * 2 ≡ q
+  pub even_at : (node : NodeData) (q : ℕ) (point : Point) → Stands cert node → find_point q node.points ≡ Some point → q / 2 * 2 ≡ q
   even_at node q point stands found = let e = (((rules_at node q point stands found).holds).code).even in omega arith
 
   -- the node of a key
   pub record Found (k : Key) (n : NodeData) : Type 0 where
-    pub stands : Contains cert.nodes n
+    pub stands : Stands cert n
     pub key : n.key ≡ k
 
   pub node_found : (k : Key) (n : NodeData) → IsKey k → find_node k cert.nodes ≡ Some n → Found k n
   node_found k n small found =
       let there = found_in (λ n. number_of_key n.key == number_of_key k) cert.nodes n found in
-      record { stands = there.0; key = key_same n.key k (node_is n there.0).key small (eqb-true _ _ there.1) }
+      let all : All (IsNode cert.version) cert.nodes = is_cert.nodes in
+      let same = key_same n.key k (All-at (IsNode cert.version) cert.nodes n all there.0).key small (eqb-true _ _ there.1) in
+      record { stands = subst (λ j. find_node j cert.nodes ≡ Some n) (sym same) found; key = same }
