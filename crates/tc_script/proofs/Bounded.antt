@@ -1,13 +1,13 @@
 -- What a script answers lies in the bounds of the device that is asked.
-use Rattle.std.proofs.Common.{◌≡◌, ℕ, zero, suc, ◌+◌, ◌-◌, ◌%◌, ◌<◌, ◌≤◌, ◌^◌, ◌⊎◌, inl, inr, Bool, true, false, cond, List, [], ◌∷◌, ◌++◌, length, map, slice_get, slice_index_or, Option, Some, None, refl, sym, ap, subst, ◌∙◌, arith}
-use Rattle.std.specs.Prelude.{All, ◌&&◌, nat_le}
+use Rattle.std.proofs.Common.{◌≡◌, ℕ, zero, suc, ◌+◌, ◌-◌, ◌≤◌, inl, inr, true, List, [], ◌∷◌, ◌++◌, map, slice_get, slice_index_or, Some, refl, sym, subst, ◌∙◌, arith}
+use Rattle.std.specs.Prelude.{nat_le}
 use Rattle.std.specs.List.{list_all}
 use Rattle.std.proofs.lemmas.Bool.{and_parts, and_from, or_cases, leb-true, cases_Bool, cond-true, cond-false}
 use Rattle.std.proofs.lemmas.List.Folds.{list_all-append}
 use Rattle.std.proofs.lemmas.Option.{slice_get-get_or}
 use Rattle.tcd_base.specs.declared.parts.Range.{Range}
 use Rattle.tcd_plan.specs.declared.plans.Device.{Device}
-use Rattle.tcd_plan.specs.PlanData.{PlanData, IsPlan, ranges_apart, all_apart, all_ranges, areas_range}
+use Rattle.tcd_plan.specs.PlanData.{PlanData, IsPlan, ranges_apart, all_apart, areas_range}
 use Rattle.tc_machine.specs.Ranges.{IsWithin}
 use Rattle.tc_machine.proofs.PlanLaws.{all_apart-behind}
 use Rattle.tc_script.specs.declared.scripts.Bounds.{Bounds}
@@ -71,9 +71,3 @@ pub bounded_by : (plan : PlanData) (bounds : List Bounds) (answers : Answers) �
 bounded_by plan bounds answers ok inside by = λ k d lt addr t w has early small gives.
     subst (λ v. Lies v (slice_index_or plan.devices k d)) (sym (by addr t w gives))
     (lies_at addr t plan.devices bounds k (slice_index_or plan.devices k d) inside (devices_apart plan ok) (slice_get-get_or plan.devices k d lt) has)
-
-pub even : (ds : List Device) (bs : List Bounds) → AreInside ds bs → length bs ≡ length ds
-even [] [] h = refl
-even [] (b ∷ bs) h = absurd h
-even (d ∷ ds) [] h = absurd h
-even (d ∷ ds) (b ∷ bs) h = ap suc (even ds bs h.1)

@@ -1,23 +1,23 @@
 -- What is read fits the plan.
-use Rattle.std.proofs.Common.{◌≡◌, ℕ, zero, suc, ◌+◌, ◌≤◌, ◌<◌, ◌⊎◌, inl, inr, Bool, true, false, cond, List, [], ◌∷◌, ◌++◌, length, map, replicate, set, slice_get, Option, Some, None, Result, Ok, Err, refl, sym, ap, subst, ◌∙◌, arith}
-use Rattle.std.specs.Prelude.{nat_le, nat_lt, ◌==◌, ◌&&◌, All, Contains, IfSome, codes}
+use Rattle.std.proofs.Common.{◌≡◌, ℕ, zero, suc, ◌+◌, ◌≤◌, ◌⊎◌, inl, inr, Bool, true, false, List, [], ◌∷◌, length, map, set, slice_get, Option, Some, None, Result, Ok, Err, refl, subst, ◌∙◌, arith}
+use Rattle.std.specs.Prelude.{nat_le, ◌==◌, ◌&&◌, Contains, IfSome, codes}
 use Rattle.std.specs.List.{list_any, list_all}
 use Rattle.std.specs.Option.{option_and_then}
 use Rattle.std.specs.Str.{bytes_eq}
-use Rattle.std.proofs.lemmas.Bool.{and_parts, leb-true, eqb-true, or_cases, cases_cond, cond_both, cases_Bool, false≢true}
+use Rattle.std.proofs.lemmas.Bool.{and_parts, leb-true, eqb-true, or_cases, cond_both, false≢true}
+use Rattle.std.proofs.lemmas.List.{length-set, length-map}
 use Rattle.std.proofs.lemmas.List.Elements.{All-nil, All-append, All-replicate}
 use Rattle.tcd_plan.specs.declared.plans.Device.{Device}
 use Rattle.tcd_plan.specs.PlanData.{PlanData, IsPlan, is_device, is_range}
 use Rattle.tc_script.specs.declared.errors.ScriptErr.{ScriptErr}
-use Rattle.tc_script.specs.declared.errors.ScriptErr.TheVariants.{BadLine, NoSource, OutOfRange, TooMany}
+use Rattle.tc_script.specs.declared.errors.ScriptErr.TheVariants.{OutOfRange}
 use Rattle.tc_script.specs.declared.reading.Draft.{Draft}
-use Rattle.tc_script.specs.declared.scripts.Turn.{Turn}
 use Rattle.tc_script.specs.declared.scripts.Bounds.{Bounds}
 use Rattle.tc_script.specs.declared.statements.Statement.{Statement}
 use Rattle.tc_script.specs.declared.statements.Statement.TheVariants.{Blank, Step, Irq, Aln, In}
 use Rattle.tc_script.specs.Numbers.{number_of}
 use Rattle.tc_script.specs.Statements.{some_if, of_one_number, of_three_numbers, words_of, statement_of, is_blank, IsOrdered}
-use Rattle.tc_script.specs.Fitting.{HasSources, AreInside, FitsPlan}
+use Rattle.tc_script.specs.Fitting.{AreInside, FitsPlan}
 use Rattle.tc_script.specs.Reading.{own_bounds, begun, with_turns, is_source, holds_bounds, with_bounds, stated, if_said, line_read, then_read, lines_read}
 
 -- ---- bounds in order
@@ -76,6 +76,7 @@ turns_fit plan line count irq d source h =
     cond_both (nat_le (length d.script.turns + count) 100000) _ _ (FitsIf plan)
     (λ _. record {
       sources = All-append (λ turn. (turn.irq ≡ 0) ⊎ Contains plan.irqs turn.irq) d.script.turns _ h.sources (All-replicate (λ turn. (turn.irq ≡ 0) ⊎ Contains plan.irqs turn.irq) count _ source);
+      devices = h.devices;
       bounds = h.bounds;
     })
     (λ _. tt)
@@ -100,7 +101,7 @@ stated_fits plan line (Irq irq) d ordered h =
 stated_fits plan line (Aln aln) d ordered h = h
 stated_fits plan line (In device lo hi) d ordered h =
     cond_both (holds_bounds (slice_get plan.devices device) lo hi) (Ok (with_bounds device lo hi d)) (Err (OutOfRange line)) (FitsIf plan)
-    (λ is. record { sources = h.sources; bounds = bounds_set plan.devices d.script.bounds device lo hi ordered is h.bounds })
+    (λ is. record { sources = h.sources; devices = length-set d.script.bounds device (record { lo = lo; hi = hi }) ∙ h.devices; bounds = bounds_set plan.devices d.script.bounds device lo hi ordered is h.bounds })
     (λ _. tt)
 
 said_fits : (plan : PlanData) (line : ℕ) (o : Option Statement) (d : Draft) → IsOrderedIf o → Fits plan d → FitsIf plan (if_said plan line o d)
@@ -127,7 +128,7 @@ own_inside (d ∷ ds) all =
     ((omega arith, omega arith, lies), own_inside ds both.1)
 
 begun_fits : (plan : PlanData) → IsPlan plan → Fits plan (begun plan)
-begun_fits plan ok = record { sources = All-nil (λ turn. (turn.irq ≡ 0) ⊎ Contains plan.irqs turn.irq); bounds = own_inside plan.devices ok.ranges.devices }
+begun_fits plan ok = record { sources = All-nil (λ turn. (turn.irq ≡ 0) ⊎ Contains plan.irqs turn.irq); devices = length-map plan.devices own_bounds; bounds = own_inside plan.devices ok.ranges.devices }
 
 -- the script that is read fits the plan
 pub script_fits : (plan : PlanData) (lines : List (List ℕ)) (d : Draft) → IsPlan plan → lines_read plan 1 lines (begun plan) ≡ Ok d → FitsPlan plan d.script

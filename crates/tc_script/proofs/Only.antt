@@ -1,5 +1,5 @@
 -- A script that answers for the devices has one list of events.
-use Rattle.std.proofs.Common.{◌≡◌, ℕ, ◌+◌, ◌⊎◌, inl, inr, Bool, true, false, cond, List, [], ◌∷◌, length, Option, Some, None, refl, sym, ap, subst, ◌∙◌}
+use Rattle.std.proofs.Common.{◌≡◌, ℕ, ◌+◌, ◌⊎◌, inl, inr, Bool, List, [], ◌∷◌, length, Option, Some, None, refl, sym, ap, subst, ◌∙◌}
 use Rattle.std.specs.List.{list_any}
 use Rattle.std.proofs.lemmas.Bool.{cond-true, cond-false, cases_Bool}
 use Rattle.tcd_plan.specs.declared.plans.Device.{Device}
@@ -17,7 +17,7 @@ use Rattle.tc_script.specs.ScriptData.{ScriptData}
 use Rattle.tc_script.specs.Ports.{is_within}
 use Rattle.tc_script.specs.Runs.{Answers, IsInput, IsEventOf, IsDead, ScriptedRun, peak_of, IsDriven}
 use Rattle.tc_script.specs.ScriptRuns.{answer_at, input_of, event_of, while_running, events_of, IsScriptRun}
-use Rattle.tc_script.proofs.Events.{inside, outside, in_one-true}
+use Rattle.tc_script.proofs.Events.{inside, in_one-true}
 
 -- the answers are those of the script
 abbrev pub AnswersBy : List Device → List Bounds → Answers → Type 0

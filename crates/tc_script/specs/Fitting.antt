@@ -1,5 +1,5 @@
 -- Scripts that fit a plan.
-use Rattle.std.specs.Prelude.{◌≡◌, ℕ, ◌≤◌, ◌⊎◌, List, [], ◌∷◌, All, Contains}
+use Rattle.std.specs.Prelude.{◌≡◌, ◌≤◌, ◌⊎◌, List, [], ◌∷◌, length, All, Contains}
 use Rattle.tcd_plan.specs.declared.plans.Device.{Device}
 use Rattle.tcd_plan.specs.PlanData.{PlanData}
 use Rattle.tc_script.specs.declared.scripts.Turn.{Turn}
@@ -18,4 +18,5 @@ AreInside _ _ = ⊥
 
 pub record FitsPlan (plan : PlanData) (script : ScriptData) : Type 0 where
   pub sources : HasSources plan script.turns
+  pub devices : length script.bounds ≡ length plan.devices
   pub bounds : AreInside plan.devices script.bounds

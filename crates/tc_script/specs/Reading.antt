@@ -1,12 +1,11 @@
 -- What the lines of a script say, one after another.
-use Rattle.std.specs.Prelude.{◌≡◌, ℕ, ◌+◌, ◌≤◌, ◌==◌, ◌&&◌, ◌⊎◌, nat_le, Bool, false, if◌then◌else◌, List, [], ◌∷◌, ◌++◌, length, map, replicate, slice_set, slice_get, Option, Some, None, Result, Ok, Err, All, Contains}
+use Rattle.std.specs.Prelude.{◌≡◌, ℕ, ◌+◌, ◌==◌, ◌&&◌, nat_le, Bool, false, if◌then◌else◌, List, [], ◌∷◌, ◌++◌, length, map, replicate, slice_set, slice_get, Option, Some, None, Result, Ok, Err}
 use Rattle.std.specs.List.{list_any, slice_split}
 use Rattle.tcd_plan.specs.declared.plans.Device.{Device}
 use Rattle.tcd_plan.specs.PlanData.{PlanData}
 use Rattle.tc_script.specs.declared.errors.ScriptErr.{ScriptErr}
 use Rattle.tc_script.specs.declared.errors.ScriptErr.TheVariants.{BadLine, NoSource, OutOfRange, TooMany, NoMemory}
 use Rattle.tc_script.specs.declared.reading.Draft.{Draft}
-use Rattle.tc_script.specs.declared.scripts.Turn.{Turn}
 use Rattle.tc_script.specs.declared.scripts.Bounds.{Bounds}
 use Rattle.tc_script.specs.declared.statements.Statement.{Statement}
 use Rattle.tc_script.specs.declared.statements.Statement.TheVariants.{Blank, Step, Irq, Aln, In}

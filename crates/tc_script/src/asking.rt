@@ -1,7 +1,6 @@
 // What answers for the devices.
-ghost use Rattle.std.specs.Prelude.{◌≡◌, ◌<◌, ◌^◌};
+ghost use Rattle.std.specs.Prelude.{◌≡◌, ◌<◌};
 ghost use Rattle.std.specs.List.{list_any};
-ghost use Rattle.tc_machine.specs.Ranges.{IsInDevice};
 ghost use Rattle.tc_script.specs.Ports.{is_within, IsAskable, IsBounded};
 
 use arrayvec::ArrayVec;

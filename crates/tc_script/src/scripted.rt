@@ -1,6 +1,6 @@
 // The machine, driven by a script that answers for the devices, too.
-ghost use Rattle.std.specs.Prelude.{◌≡◌, ◌≤◌, length};
-ghost use Rattle.tc_script.specs.Fitting.{AreInside, FitsPlan};
+ghost use Rattle.std.specs.Prelude.{◌≡◌, length};
+ghost use Rattle.tc_script.specs.Fitting.{FitsPlan};
 ghost use Rattle.tc_script.specs.ScriptRuns.{answer_at, IsScriptRun};
 
 use crate::asking::is_within;

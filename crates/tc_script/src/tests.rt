@@ -1,4 +1,7 @@
 // Worked scripts, and the machine driven by them.
+ghost use Rattle.std.specs.Prelude.{◌≡◌};
+ghost use Rattle.tc_script.specs.Fitting.{FitsPlan};
+
 use crate::{Peak, Ports, Script, ScriptErr, Turn, drive, drive_by_script};
 use elf_image::Image;
 use std::test::Fail;
@@ -107,7 +110,9 @@ fn interrupt_on_both_cores(rt: HostRuntime) -> Result<(), Fail> {
 fn polled_device(rt: HostRuntime) -> Result<(), Fail> {
     let plan = plan(&rt, DEVICE)?;
     let mut m = machine(&rt, &POLLED, &plan)?;
-    let script = Script::read(rt.alloc(), b"in 0 4 5\nstep 3", &plan).map_err(|_| "no script")?;
+    let script = Script::read(rt.alloc(), b"in 0 3 3\nin 0 4 5\nstep 3", &plan).map_err(
+        |_| "no script",
+    )?;
     assert_eq!(rt;
         drive_by_script(&mut m, &plan, &script),
         Peak { events: 3, peak: 0 }
@@ -117,18 +122,33 @@ fn polled_device(rt: HostRuntime) -> Result<(), Fail> {
     Ok(())
 }
 
-// A caller whose closure always answers the upper bound.
+// A caller with a closure of its own, which always answers the upper bound of the one device.
+fn drive_with_highest(m: &mut Machine, plan: &Plan, script: &Script) -> Option<Peak>
+    requires { FitsPlan plan.now script.now }
+{
+    let [device] = plan.devices.as_slice() else {
+        return None;
+    };
+    let highest = device.hi;
+    if highest < device.lo {
+        return None;
+    }
+    let ports = Ports::new(
+        plan,
+        |_addr: u32, _t: u32| -> u32
+            ensures { result ≡ highest }
+        { highest },
+    );
+    Some(drive(m, plan, script, &ports))
+}
+
 #[test]
-fn polled_device_with_a_closure(rt: HostRuntime) -> Result<(), Fail> {
+fn polled_device_that_answers_its_highest(rt: HostRuntime) -> Result<(), Fail> {
     let plan = plan(&rt, DEVICE)?;
     let mut m = machine(&rt, &POLLED, &plan)?;
     let script = Script::read(rt.alloc(), b"step 3", &plan).map_err(|_| "no script")?;
-    let devices = plan.devices.as_slice();
-    let ports = Ports::new(&plan, |addr: u32, _t: u32| highest(devices, addr));
-    assert_eq!(rt;
-        drive(&mut m, &plan, &script, &ports),
-        Peak { events: 3, peak: 0 }
-    );
+    let done = drive_with_highest(&mut m, &plan, &script);
+    assert_eq!(rt; done, Some(Peak { events: 3, peak: 0 }));
     assert_eq!(rt; m.d[15], 5);
     Ok(())
 }
@@ -258,16 +278,13 @@ fn refused_lines(rt: HostRuntime) -> Result<(), Fail> {
 }
 
 #[test]
-fn turns_and_answers(rt: HostRuntime) -> Result<(), Fail> {
+fn turns_with_and_without_traps(rt: HostRuntime) -> Result<(), Fail> {
     let plan = plan(&rt, DEVICE)?;
-    let text = b"step 1\naln 1\nin 0 3 4\nstep 1\n\nin 0 4 5\naln 0\nstep 1";
+    let text = b"step 1\naln 1\nstep 1\n\naln 0\nstep 1";
     let script = Script::read(rt.alloc(), text, &plan).map_err(|_| "no script")?;
     assert_eq!(rt; script.len(), 3);
     assert_eq!(rt; script.turn(0), Turn { irq: 0, aln: false });
     assert_eq!(rt; script.turn(1), Turn { irq: 0, aln: true });
     assert_eq!(rt; script.turn(2), Turn { irq: 0, aln: false });
-    for (at, answer) in [(0, 4), (1, 5), (2, 4)] {
-        assert_eq!(rt; script.answer(0, at), answer);
-    }
     Ok(())
 }

@@ -4,13 +4,13 @@ use Rattle.tcd_plan.specs.declared.plans.Device.{Device}
 use Rattle.tcd_plan.specs.PlanData.{PlanData, IsPlan}
 use Rattle.tc_script.specs.ScriptData.{ScriptData}
 use Rattle.tc_script.specs.ScriptRuns.{answer_at}
-use Rattle.tc_script.proofs.Bounded.{bounded_by, even}
+use Rattle.tc_script.proofs.Bounded.{bounded_by}
 use Rattle.tc_script.proofs.Only.{script_run}
 use Rattle.tc_script.proofs.scripted.drive_by_script.Goals as goal
 
 pub new-ports-requires-clause-askable : goal.new-ports-requires-clause-askable
 new-ports-requires-clause-askable c = λ k d lt addr t has early.
-    even c.args.plan.now.devices c.args.script.now.bounds c.requires.bounds ∙ ap length (sym (c.as_slice-devices.ensures.value ∙ ap (λ (p : PlanData). p.devices) c.plan.view_is))
+    c.requires.devices ∙ ap length (sym (c.as_slice-devices.ensures.value ∙ ap (λ (p : PlanData). p.devices) c.plan.view_is))
 
 pub new-ports-requires-clause-bounded : goal.new-ports-requires-clause-bounded
 new-ports-requires-clause-bounded c =
