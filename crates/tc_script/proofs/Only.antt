@@ -16,7 +16,7 @@ use Rattle.tc_script.specs.declared.scripts.Bounds.{Bounds}
 use Rattle.tc_script.specs.ScriptData.{ScriptData}
 use Rattle.tc_script.specs.Ports.{is_within}
 use Rattle.tc_script.specs.Runs.{Answers, IsInput, IsEventOf, IsDead, ScriptedRun, peak_of, IsDriven}
-use Rattle.tc_script.specs.ScriptRuns.{answer_at, input_of, event_of, while_running, events_of, IsScriptRun}
+use Rattle.tc_script.specs.ScriptRuns.{answer_at, input_of, event_of, while_running, events_of, answers_by, IsOfScript, HasOneRun, IsScriptRun}
 use Rattle.tc_script.proofs.Events.{inside, in_one-true}
 
 -- the answers are those of the script
@@ -66,11 +66,32 @@ only plan bounds answers by t (turn ∷ turns) m (e ∷ es) h =
     ∙ ap (λ x. event_of plan.devices bounds t turn m ∷ events_of plan.devices bounds (t + 1) turns (step m x)) same
     ∙ sym (running_end m.end _ h.0)
 
+-- ---- answers that are among others
+input_by : (devices : List Device) (some all : Answers) → ((x t w : ℕ) → some x t w → all x t w) → (t : ℕ) (load : Option (ℕ × ℕ)) (w : ℕ) → IsInput devices some t load w → IsInput devices all t load w
+input_by devices some all among t None w is = is
+input_by devices some all among t (Some load) w (inl is) = inl (is.0, among load.0 t w is.1)
+input_by devices some all among t (Some load) w (inr is) = inr is
+
+scripted_by : (plan : PlanData) (some all : Answers) → ((x t w : ℕ) → some x t w → all x t w) → (t : ℕ) (turns : List Turn) (m : Machine) (es : List Event) → ScriptedRun plan some t turns m es → ScriptedRun plan all t turns m es
+scripted_by plan some all among t turns m [] end = end
+scripted_by plan some all among t [] m (e ∷ es) h = absurd h
+scripted_by plan some all among t (turn ∷ turns) m (e ∷ es) h =
+    let e1 = h.1 in (
+      h.0,
+      record { irq = e1.irq; aln = e1.aln; status = e1.status; input = input_by plan.devices some all among t (next_load_of m) e.input e1.input },
+      scripted_by plan some all among (t + 1) turns (step m e) es h.2,
+    )
+
+-- the events of a script are the only ones
+pub has_one_run : HasOneRun
+has_one_run plan script m es h = only plan script.bounds (answers_by plan script) (λ x t w is. is) 0 script.turns m es h
+
 -- a machine that is driven by answers of the script
 pub script_run : {plan : PlanData} {answers : Answers} {old new : Machine} {done : Peak} (script : ScriptData) → IsDriven plan answers script.turns old new done → AnswersBy plan.devices script.bounds answers → IsScriptRun plan script old new done
 script_run {plan} {answers} {old} {new} {done} script d by =
     let same = only plan script.bounds answers by 0 script.turns old d.events d.scripted in
     record {
+      scripted = subst (IsOfScript plan script old) same (scripted_by plan answers (answers_by plan script) by 0 script.turns old d.events d.scripted);
       fits = subst (AllFit plan old) same d.fits;
       after = d.after ∙ ap (run old) same;
       count = d.count ∙ ap length same;

@@ -14,7 +14,7 @@ use Rattle.tc_script.specs.declared.scripts.Turn.{Turn}
 use Rattle.tc_script.specs.declared.scripts.Bounds.{Bounds}
 use Rattle.tc_script.specs.ScriptData.{ScriptData, answer_of}
 use Rattle.tc_script.specs.Ports.{is_within}
-use Rattle.tc_script.specs.Runs.{peak_of}
+use Rattle.tc_script.specs.Runs.{Answers, ScriptedRun, peak_of}
 
 -- what the device that has the address answers at an event, 0 where none has it
 abbrev pub answer_at : List Device → List Bounds → ℕ → ℕ → ℕ
@@ -46,8 +46,21 @@ events_of devices bounds t (turn ∷ turns) m =
 abbrev pub script_events : PlanData → ScriptData → Machine → List Event
 script_events plan script m = events_of plan.devices script.bounds 0 script.turns m
 
+-- what the devices answer by a script
+abbrev pub answers_by : PlanData → ScriptData → Answers
+answers_by plan script = λ x t w. w ≡ answer_at plan.devices script.bounds x t
+
+-- the events are one for each turn of the script, until the machine is dead or the turns end, with the script's answers
+abbrev pub IsOfScript : PlanData → ScriptData → Machine → List Event → Type 0
+IsOfScript plan script m es = ScriptedRun plan (answers_by plan script) 0 script.turns m es
+
+-- these are the only such list
+abbrev pub HasOneRun : Type 0
+HasOneRun = (plan : PlanData) (script : ScriptData) (m : Machine) (es : List Event) → IsOfScript plan script m es → es ≡ script_events plan script m
+
 -- the machine is driven by a script
 pub record IsScriptRun (plan : PlanData) (script : ScriptData) (old new : Machine) (done : Peak) : Type 0 where
+  pub scripted : IsOfScript plan script old (script_events plan script old)
   pub fits : AllFit plan old (script_events plan script old)
   pub after : new ≡ run old (script_events plan script old)
   pub count : done.events ≡ length (script_events plan script old)

@@ -4,6 +4,7 @@
 mod asking;
 mod driving;
 mod errors;
+mod laws;
 mod numbers;
 mod parts;
 mod reading;
@@ -16,5 +17,6 @@ mod tests;
 pub use asking::Ports;
 pub use driving::{Peak, drive};
 pub use errors::ScriptErr;
+pub use laws::script_laws;
 pub use scripted::drive_by_script;
 pub use scripts::{Bounds, Script, Turn};
