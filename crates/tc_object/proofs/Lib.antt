@@ -1,0 +1,7 @@
+pub mod ManyLaws
+pub mod PassedLaws
+pub mod NameLaws
+pub mod TurnLaws
+pub mod UsedLaws
+pub mod BackLaws
+pub mod FromLaws

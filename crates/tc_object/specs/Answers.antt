@@ -1,0 +1,10 @@
+-- What an error says of a reading.
+use Rattle.std.specs.Prelude.{◌≡◌, Result, Err}
+use Rattle.tcd_base.specs.declared.parts.FormErr.{FormErr}
+use Rattle.tc_object.specs.declared.errors.ObjErr.{ObjErr}
+use Rattle.tc_object.specs.declared.errors.ObjErr.TheVariants.{Bad, NoMemory}
+
+-- the fault is that of the reading; want of memory says nothing of it
+abbrev pub IsFaultOf : {A : Type 0} → Result A FormErr → ObjErr → Type 0
+IsFaultOf read (Bad e) = read ≡ Err e
+IsFaultOf read NoMemory = Unit {0}

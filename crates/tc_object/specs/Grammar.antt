@@ -1,0 +1,102 @@
+-- The grammar of object files: fields read from left to right, and the first fault. Its kinds are 1 Short (of every
+-- field), 2 Magic, 3 Order, 4 BadValue, 5 Limit, 6 Trailing.
+use Rattle.std.specs.Prelude.{◌+◌, ◌==◌, ◌&&◌, not, nat_lt, nat_le, if◌then◌else◌, ℕ, zero, suc, Bool, List, [], ◌∷◌, ◌++◌, length, Result, Ok}
+use Rattle.tcd_base.specs.declared.parts.FormErr.{FormErr}
+use Rattle.tcd_base.specs.Place.{Place}
+use Rattle.tcd_base.specs.Reading.{◌>>=◌, fault_at, u8_at, u16_at, u32_at, bytes_at}
+use Rattle.tc_object.specs.declared.relocs.Reloc.{Reloc}
+use Rattle.tc_object.specs.Names.{is_length, is_name}
+use Rattle.tc_object.specs.Objects.{SectionData, SymbolData, ObjectData, is_section_name, is_symbol_name, size_at, is_section_of, is_offset_of, last_of, is_not_below, is_behind}
+
+-- ---- fields
+-- n items more after those before, each read in the light of those before it
+unfoldable pub many_at : {A : Type 0} → (List A → Place → Result (A × Place) FormErr) → ℕ → List A → Place → Result (List A × Place) FormErr
+many_at item zero before p = Ok (before, p)
+many_at item (suc n) before p = item before p >>= λ x. many_at item n (before ++ x.0 ∷ []) x.1
+
+-- a value that a field may have, or a fault of this kind at the place
+abbrev pub checked : {A : Type 0} → ℕ → Bool → Place → A × Place → Result (A × Place) FormErr
+checked kind good p x = if good then Ok x else fault_at kind p
+
+-- ---- names: a field with the length, and a field with the bytes
+unfoldable pub name_length_at : Place → Result (ℕ × Place) FormErr
+name_length_at p = u8_at p >>= λ n. checked 4 (is_length n.0) p n
+
+unfoldable pub name_bytes_at : ℕ → Place → Result (List ℕ × Place) FormErr
+name_bytes_at n p = bytes_at n p >>= λ name. checked 4 (is_name name.0) p name
+
+-- a name that isn't used yet
+unfoldable pub name_after : (List ℕ → Bool) → Place → Result (List ℕ × Place) FormErr
+name_after is_used p = name_length_at p >>= λ n. name_bytes_at n.0 n.1 >>= λ name. checked 4 (not (is_used name.0)) n.1 name
+
+-- ---- sections
+-- a section with a name that isn't used yet
+unfoldable pub section_with : (List ℕ → Bool) → Place → Result (SectionData × Place) FormErr
+section_with is_used p =
+    name_after is_used p >>= λ name. u32_at name.1 >>= λ len. bytes_at len.0 len.1 >>= λ bytes. Ok (record { name = name.0; bytes = bytes.0 }, bytes.1)
+
+unfoldable pub section_after : List SectionData → Place → Result (SectionData × Place) FormErr
+section_after before p = section_with (is_section_name before) p
+
+-- ---- symbols
+-- a kind from low to high
+unfoldable pub kind_at : ℕ → ℕ → Place → Result (ℕ × Place) FormErr
+kind_at low high p = u8_at p >>= λ k. checked 4 (nat_le low k.0 && nat_le k.0 high) p k
+
+unfoldable pub symbol_section_at : List SectionData → ℕ → Place → Result (ℕ × Place) FormErr
+symbol_section_at sections kind p = u16_at p >>= λ s. checked 4 (is_section_of sections kind s.0) p s
+
+unfoldable pub symbol_offset_at : List SectionData → ℕ → ℕ → Place → Result (ℕ × Place) FormErr
+symbol_offset_at sections kind section p = u32_at p >>= λ o. checked 4 (is_offset_of sections kind section o.0) p o
+
+-- a symbol with a name that isn't used yet
+unfoldable pub symbol_with : List SectionData → (List ℕ → Bool) → Place → Result (SymbolData × Place) FormErr
+symbol_with sections is_used p =
+    name_after is_used p >>= λ name. kind_at 0 2 name.1 >>= λ kind. symbol_section_at sections kind.0 kind.1 >>= λ section.
+    symbol_offset_at sections kind.0 section.0 section.1 >>= λ offset.
+    Ok (record { name = name.0; kind = kind.0; section = section.0; offset = offset.0 }, offset.1)
+
+unfoldable pub symbol_after : List SectionData → List SymbolData → Place → Result (SymbolData × Place) FormErr
+symbol_after sections before p = symbol_with sections (is_symbol_name before) p
+
+-- ---- relocations
+-- a section below that of the relocation before is out of order, whatever the offset
+unfoldable pub reloc_section_at : List SectionData → List Reloc → Place → Result (ℕ × Place) FormErr
+reloc_section_at sections before p =
+    u16_at p >>= λ s. checked 3 (is_not_below (last_of before) s.0) p s >>= λ s. checked 4 (nat_lt s.0 (length sections)) p s
+
+-- an offset in the section whose field is at start, where an offset out of order is told
+unfoldable pub reloc_offset_at : List SectionData → List Reloc → ℕ → Place → Place → Result (ℕ × Place) FormErr
+reloc_offset_at sections before section start p =
+    u32_at p >>= λ o. checked 3 (is_behind (last_of before) section o.0) start o >>= λ o. checked 4 (nat_le (o.0 + 4) (size_at sections section)) p o
+
+unfoldable pub reloc_symbol_at : ℕ → Place → Result (ℕ × Place) FormErr
+reloc_symbol_at symbols p = u16_at p >>= λ s. checked 4 (nat_lt s.0 symbols) p s
+
+unfoldable pub reloc_after : List SectionData → ℕ → List Reloc → Place → Result (Reloc × Place) FormErr
+reloc_after sections symbols before p =
+    reloc_section_at sections before p >>= λ section. reloc_offset_at sections before section.0 p section.1 >>= λ offset. kind_at 1 7 offset.1 >>= λ kind.
+    reloc_symbol_at symbols kind.1 >>= λ symbol. u32_at symbol.1 >>= λ addend.
+    Ok (record { section = section.0; offset = offset.0; kind = kind.0; symbol = symbol.0; addend = addend.0 }, addend.1)
+
+-- ---- objects
+-- the bytes 54 43 4F 31
+unfoldable pub magic_at : Place → Result (ℕ × Place) FormErr
+magic_at p = u32_at p >>= λ magic. checked 2 (magic.0 == 0x314F4354) p magic
+
+unfoldable pub section_count_at : Place → Result (ℕ × Place) FormErr
+section_count_at p = u16_at p >>= λ n. checked 5 (nat_le n.0 64) p n
+
+-- n sections, m symbols and k relocations
+unfoldable pub parts_at : ℕ → ℕ → ℕ → Place → Result (ObjectData × Place) FormErr
+parts_at n m k p =
+    many_at section_after n [] p >>= λ sections. many_at (symbol_after sections.0) m [] sections.1 >>= λ symbols. many_at (reloc_after sections.0 m) k [] symbols.1 >>= λ relocs.
+    Ok (record { sections = sections.0; symbols = symbols.0; relocs = relocs.0 }, relocs.1)
+
+unfoldable pub object_at : Place → Result (ObjectData × Place) FormErr
+object_at p =
+    magic_at p >>= λ magic. section_count_at magic.1 >>= λ n. u16_at n.1 >>= λ m. u16_at m.1 >>= λ k. parts_at n.0 m.0 k.0 k.1
+
+-- the object that the bytes spell, or their first fault
+unfoldable pub object_of : List ℕ → Result ObjectData FormErr
+object_of bytes = object_at (record { bytes = bytes; place = 0 }) >>= λ o. if o.1.place == length bytes then Ok o.0 else fault_at 6 o.1

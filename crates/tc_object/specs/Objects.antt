@@ -1,0 +1,100 @@
+-- Objects as plain data, and what they keep.
+use Rattle.std.specs.Prelude.{◌≡◌, ◌≤◌, ◌<◌, ◌+◌, ◌-◌, ◌^◌, ◌==◌, ◌&&◌, ◌||◌, nat_lt, nat_le, if◌then◌else◌, ℕ, Bool, true, List, [], ◌∷◌, ◌++◌, length, slice_get, Option, Some, None}
+use Rattle.tc_object.specs.declared.relocs.Reloc.{Reloc}
+use Rattle.std.specs.List.{list_any}
+use Rattle.std.specs.Str.{bytes_eq}
+use Rattle.tc_object.specs.Names.{IsName}
+
+pub record SectionData : Type 0 where
+  pub name : List ℕ
+  pub bytes : List ℕ
+
+-- kind 0 is undefined, 1 local, 2 global; a section's number and an offset in it
+pub record SymbolData : Type 0 where
+  pub name : List ℕ
+  pub kind : ℕ
+  pub section : ℕ
+  pub offset : ℕ
+
+pub record ObjectData : Type 0 where
+  pub sections : List SectionData
+  pub symbols : List SymbolData
+  pub relocs : List Reloc
+
+-- one of the sections has the name
+abbrev pub is_section_name : List SectionData → List ℕ → Bool
+is_section_name ss name = list_any (λ s. bytes_eq name s.name) ss
+
+-- one of the symbols has the name
+abbrev pub is_symbol_name : List SymbolData → List ℕ → Bool
+is_symbol_name ss name = list_any (λ s. bytes_eq name s.name) ss
+
+-- each item is good in the light of those before it
+abbrev pub InTurn : {A : Type 0} → (List A → A → Type 0) → List A → List A → Type 0
+InTurn good before [] = Unit {0}
+InTurn good before (x ∷ xs) = good before x × InTurn good (before ++ x ∷ []) xs
+
+-- ---- sections
+pub record IsSection (before : List SectionData) (s : SectionData) : Type 0 where
+  pub name : IsName (is_section_name before) s.name
+  pub small : length s.bytes < 2 ^ 32
+
+abbrev pub size_of : Option SectionData → ℕ
+size_of None = 0
+size_of (Some s) = length s.bytes
+
+-- the length of a section
+abbrev pub size_at : List SectionData → ℕ → ℕ
+size_at ss n = size_of (slice_get ss n)
+
+-- ---- symbols
+-- the section of an undefined symbol is 0, that of a defined one is there
+abbrev pub is_section_of : List SectionData → ℕ → ℕ → Bool
+is_section_of ss kind section = if kind == 0 then section == 0 else nat_lt section (length ss)
+
+-- the offset of an undefined symbol is 0, that of a defined one is within its section or at its end
+abbrev pub is_offset_of : List SectionData → ℕ → ℕ → ℕ → Bool
+is_offset_of ss kind section offset = if kind == 0 then offset == 0 else nat_le offset (size_at ss section)
+
+pub record IsSymbol (sections : List SectionData) (before : List SymbolData) (s : SymbolData) : Type 0 where
+  pub name : IsName (is_symbol_name before) s.name
+  pub kind : s.kind ≤ 2
+  pub section : is_section_of sections s.kind s.section ≡ true
+  pub offset : is_offset_of sections s.kind s.section s.offset ≡ true
+  pub half : s.section < 2 ^ 16
+  pub word : s.offset < 2 ^ 32
+
+-- ---- relocations
+abbrev pub last_of : List Reloc → Option Reloc
+last_of rs = slice_get rs (length rs - 1)
+
+-- a section's number isn't below that of the relocation before, if there is one
+abbrev pub is_not_below : Option Reloc → ℕ → Bool
+is_not_below None section = true
+is_not_below (Some r) section = nat_le r.section section
+
+-- a place is behind that of the relocation before: in a later section, or further on in the same
+abbrev pub is_behind : Option Reloc → ℕ → ℕ → Bool
+is_behind None section offset = true
+is_behind (Some r) section offset = nat_lt r.section section || (r.section == section && nat_lt r.offset offset)
+
+pub record IsReloc (sections : List SectionData) (symbols : ℕ) (before : List Reloc) (r : Reloc) : Type 0 where
+  pub section : r.section < length sections
+  pub behind : is_behind (last_of before) r.section r.offset ≡ true
+  pub room : r.offset + 4 ≤ size_at sections r.section
+  pub some : 1 ≤ r.kind
+  pub kind : r.kind ≤ 7
+  pub symbol : r.symbol < symbols
+  pub half : r.section < 2 ^ 16
+  pub word : r.offset < 2 ^ 32
+  pub addend : r.addend < 2 ^ 32
+
+-- ---- objects
+-- at most 64 sections, and 65,535 symbols and relocations, each good in the light of those before it
+pub record IsObject (o : ObjectData) : Type 0 where
+  pub few_sections : length o.sections ≤ 64
+  pub few_symbols : length o.symbols < 2 ^ 16
+  pub few_relocs : length o.relocs < 2 ^ 16
+  pub sections : InTurn IsSection [] o.sections
+  pub symbols : InTurn (IsSymbol o.sections) [] o.symbols
+  pub relocs : InTurn (IsReloc o.sections (length o.symbols)) [] o.relocs

@@ -1,0 +1,25 @@
+//! Object files: sections with their bytes, symbols, and relocations.
+#![tactic(auto)]
+
+mod errors;
+mod fields;
+mod names;
+mod objects;
+mod reading;
+mod reloc_fields;
+mod relocs;
+mod section_fields;
+mod sections;
+mod symbol_fields;
+mod symbols;
+#[cfg(test)]
+mod tests;
+mod used_names;
+mod writing;
+
+pub use errors::ObjErr;
+pub use names::name_of;
+pub use objects::Object;
+pub use relocs::Reloc;
+pub use sections::Section;
+pub use symbols::Symbol;

@@ -1,0 +1,87 @@
+// Names of sections and symbols.
+ghost use Rattle.std.specs.Prelude.{◌≡◌, ◌≤◌, ◌^◌, length, true, Err, IfOk, IfErr, MatchResult};
+ghost use Rattle.std.specs.List.{list_all};
+ghost use Rattle.tcd_base.specs.Reading.{Reads};
+ghost use Rattle.std.specs.Option.{option_copied};
+ghost use Rattle.tc_object.specs.Names.{is_first, is_further, is_name, name_of};
+ghost use Rattle.tc_object.specs.Grammar.{name_length_at, name_bytes_at};
+
+use crate::fields::fault;
+use tcd_base::{Cursor, FormErr, read_bytes, read_u8};
+
+#[tactic(auto, unfolding(crate::specs::Names::is_first))]
+fn is_first(c: u8) -> bool
+    ensures { result ≡ is_first c }
+{
+    (b'A' <= c && c <= b'Z') || (b'a' <= c && c <= b'z') || c == b'_' || c == b'.' || c == b'$'
+}
+
+#[tactic(auto, unfolding(crate::specs::Names::is_further))]
+fn is_further(c: u8) -> bool
+    ensures { result ≡ is_further c }
+{
+    is_first(c) || (b'0' <= c && c <= b'9')
+}
+
+fn are_further(bytes: &[u8]) -> bool
+    ensures { result ≡ list_all is_further bytes.now }
+{
+    bytes.iter().all(|c| is_further(*c))
+}
+
+/// Whether these bytes make a name, apart from how many they are.
+fn is_name(bytes: &[u8]) -> bool
+    ensures { result ≡ is_name bytes.now }
+{
+    !bytes.is_empty() && is_first(bytes[0]) && are_further(bytes)
+}
+
+/// The name that these bytes are: 1 to 64 letters, digits, `_`, `.` and `$`, the first of them no digit.
+pub fn name_of(bytes: &[u8]) -> Option<&str>
+    ensures { option_copied result ≡ name_of bytes.now }
+{
+    if 1 <= bytes.len() && bytes.len() <= 64 && is_name(bytes) {
+        Some(text_of(bytes))
+    } else {
+        None
+    }
+}
+
+/// The length of a name, in bytes: from 1 to 64.
+#[tactic(auto, unfolding(crate::specs::Grammar::name_length_at))]
+pub(crate) fn read_name_length(c: &mut Cursor<'_>) -> Result<u8, FormErr>
+    requires { length c.old.bytes ≤ 2 ^ 30 }
+    ensures read { Reads result c.new (name_length_at c.old) }
+    ensures bytes { c.new.bytes ≡ c.old.bytes }
+{
+    let start = c.place();
+    let count = read_u8(c)?;
+    if 1 <= count && count <= 64 {
+        Ok(count)
+    } else {
+        Err(fault(4, start))
+    }
+}
+
+/// The bytes of a name.
+#[tactic(auto, unfolding(crate::specs::Grammar::name_bytes_at))]
+pub(crate) fn read_name_bytes<'a>(c: &mut Cursor<'a>, count: u8) -> Result<&'a str, FormErr>
+    requires { length c.old.bytes ≤ 2 ^ 30 }
+    ensures read { MatchResult result (λ name. name_bytes_at count c.old ≡ Ok (name.now, c.new)) (λ e. name_bytes_at count c.old ≡ Err e) }
+    ensures bytes { c.new.bytes ≡ c.old.bytes }
+{
+    let start = c.place();
+    let bytes = read_bytes(c, count as usize)?;
+    if !is_name(bytes) {
+        return Err(fault(4, start));
+    }
+    Ok(text_of(bytes))
+}
+
+// A name as text.
+fn text_of(bytes: &[u8]) -> &str
+    requires { is_name bytes.now ≡ true }
+    ensures { result.now ≡ bytes.now }
+{
+    std::str::from_utf8(bytes).unwrap()
+}

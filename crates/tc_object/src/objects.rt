@@ -1,0 +1,69 @@
+// Objects, with the facts that they always keep.
+use crate::reading::read_parts;
+use crate::writing::{put_u16, write_relocs, write_sections, write_symbols};
+use crate::{ObjErr, Reloc, Section, Symbol};
+use std::alloc::Global;
+use std::marker::Model;
+use tcd_base::put_u32;
+
+/// Sections, symbols for places in them, and relocations by ascending section and offset. At most 64 sections, and
+/// 65,535 symbols and relocations. Names of sections, and of symbols, are distinct and have 1 to 64 bytes.
+#[derive(Drop)]
+pub struct Object {
+    pub sections: Vec<Section>,
+    pub symbols: Vec<Symbol>,
+    pub relocs: Vec<Reloc>,
+}
+
+impl Model for Object {
+    ghost use Rattle.tc_object.specs.Objects.{ObjectData, IsObject};
+
+    ghost Value = { ObjectData };
+
+    ghost view = { λ o. record { sections = o.sections.items; symbols = o.symbols.items; relocs = o.relocs.items } };
+
+    ghost invariant = { λ o. IsObject (record { sections = o.sections.items; symbols = o.symbols.items; relocs = o.relocs.items }) };
+}
+
+impl Object {
+    ghost use Rattle.std.specs.Prelude.{◌≡◌, ◌≤◌, ◌^◌, length, Ok, IfOk, IfErr};
+    ghost use Rattle.tc_object.specs.declared.errors.ObjErr.TheVariants.{NoMemory};
+    ghost use Rattle.tc_object.specs.Answers.{IsFaultOf};
+    ghost use Rattle.tc_object.specs.Grammar.{object_of};
+    ghost use Rattle.tc_object.specs.Spelling.{bytes_of};
+
+    /// The object that the bytes spell, or their first fault.
+    pub fn read(alloc: Global, bytes: &[u8]) -> Result<Object, ObjErr>
+        requires { length bytes.now ≤ 2 ^ 30 }
+        ensures ok { IfOk result (λ o. object_of bytes.now ≡ Ok o) }
+        ensures err { IfErr result (IsFaultOf (object_of bytes.now)) }
+
+        // An object has one spelling.
+        ensures one { IfOk result (λ o. bytes_of o ≡ bytes.now) }
+    {
+        let parts = read_parts(alloc, bytes)?;
+        Ok(Object {
+            sections: parts.sections,
+            symbols: parts.symbols,
+            relocs: parts.relocs,
+        })
+    }
+
+    /// The bytes that spell the object. `read` gives the object again.
+    #[tactic(auto, unfolding(crate::specs::Spelling::bytes_of, crate::specs::Spelling::bytes_of_header))]
+    pub fn write(&self, alloc: Global) -> Result<Vec<u8>, ObjErr>
+        ensures bytes { IfOk result (λ out. out.items ≡ bytes_of self.now) }
+        ensures again { IfOk result (λ out. object_of out.items ≡ Ok self.now) }
+        ensures err { IfErr result (λ e. e ≡ NoMemory) }
+    {
+        let mut out = Vec::new(alloc);
+        put_u32(&mut out, 0x314f_4354)?;
+        put_u16(&mut out, self.sections.len() as u16)?;
+        put_u16(&mut out, self.symbols.len() as u16)?;
+        put_u16(&mut out, self.relocs.len() as u16)?;
+        write_sections(&mut out, &self.sections)?;
+        write_symbols(&mut out, &self.symbols)?;
+        write_relocs(&mut out, &self.relocs)?;
+        Ok(out)
+    }
+}

@@ -1,0 +1,46 @@
+// The parts of an object, read.
+ghost use Rattle.std.specs.Prelude.{◌≡◌, ◌≤◌, ◌^◌, length, Ok, IfOk, IfErr};
+ghost use Rattle.tc_object.specs.Answers.{IsFaultOf};
+ghost use Rattle.tc_object.specs.Grammar.{object_of};
+
+use crate::fields::{fault, read_magic, read_section_count};
+use crate::reloc_fields::read_relocs;
+use crate::section_fields::read_sections;
+use crate::symbol_fields::read_symbols;
+use crate::{ObjErr, Reloc, Section, Symbol};
+use std::alloc::Global;
+use tcd_base::{Cursor, read_u16};
+
+/// The parts of an object.
+#[derive(Drop)]
+pub(crate) struct Parts {
+    pub(crate) sections: Vec<Section>,
+    pub(crate) symbols: Vec<Symbol>,
+    pub(crate) relocs: Vec<Reloc>,
+}
+
+/// The parts of the object that the bytes spell, or their first fault.
+#[tactic(auto, unfolding(crate::specs::Grammar::object_of, crate::specs::Grammar::object_at, crate::specs::Grammar::parts_at))]
+pub(crate) fn read_parts(alloc: Global, bytes: &[u8]) -> Result<Parts, ObjErr>
+    requires { length bytes.now ≤ 2 ^ 30 }
+    ensures ok { IfOk result (λ o. object_of bytes.now ≡ Ok (record { sections = o.sections.items; symbols = o.symbols.items; relocs = o.relocs.items })) }
+    ensures err { IfErr result (IsFaultOf (object_of bytes.now)) }
+{
+    let mut c = Cursor::new(bytes);
+    let _magic = read_magic(&mut c)?;
+    let section_count = read_section_count(&mut c)?;
+    let symbol_count = read_u16(&mut c)?;
+    let reloc_count = read_u16(&mut c)?;
+    let sections = read_sections(alloc, &mut c, section_count)?;
+    let symbols = read_symbols(alloc, &mut c, &sections, symbol_count)?;
+    let relocs = read_relocs(alloc, &mut c, &sections, symbol_count, reloc_count)?;
+    let end = c.place();
+    if end != bytes.len() {
+        return Err(ObjErr::Bad(fault(6, end)));
+    }
+    Ok(Parts {
+        sections,
+        symbols,
+        relocs,
+    })
+}

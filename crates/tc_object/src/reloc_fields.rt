@@ -1,0 +1,142 @@
+// Relocations, read.
+ghost use Rattle.std.specs.Prelude.{◌≡◌, ◌≤◌, ◌+◌, ◌^◌, ◌-◌, [], length, Ok, Err, IfOk, IfErr};
+ghost use Rattle.tcd_base.specs.Reading.{Reads};
+ghost use Rattle.tc_object.specs.Answers.{IsFaultOf};
+ghost use Rattle.tc_object.specs.Objects.{size_at, last_of, is_not_below, is_behind};
+ghost use Rattle.tc_object.specs.Grammar.{reloc_section_at, reloc_offset_at, reloc_symbol_at, reloc_after, many_at};
+
+use crate::fields::{fault, read_kind};
+use crate::symbol_fields::size_at;
+use crate::{ObjErr, Reloc, Section};
+use std::alloc::Global;
+use tcd_base::{Cursor, FormErr, read_u16, read_u32};
+
+// Whether a section isn't below that of the last relocation.
+fn is_not_below(before: &[Reloc], section: u16) -> bool
+    ensures { result ≡ is_not_below (last_of before.now) section }
+{
+    match before.last() {
+        None => true,
+        Some(last) => last.section <= section,
+    }
+}
+
+// Whether a place is behind that of the last relocation.
+fn is_behind(before: &[Reloc], section: u16, offset: u32) -> bool
+    ensures { result ≡ is_behind (last_of before.now) section offset }
+{
+    match before.last() {
+        None => true,
+        Some(last) => last.section < section || (last.section == section && last.offset < offset),
+    }
+}
+
+/// The section of a relocation behind these.
+#[tactic(auto, unfolding(crate::specs::Grammar::reloc_section_at))]
+fn read_section_number(
+    c: &mut Cursor<'_>,
+    sections: &[Section],
+    before: &[Reloc],
+) -> Result<u16, FormErr>
+    requires { length c.old.bytes ≤ 2 ^ 30 }
+    ensures read { Reads result c.new (reloc_section_at sections.now before.now c.old) }
+    ensures bytes { c.new.bytes ≡ c.old.bytes }
+{
+    let start = c.place();
+    let section = read_u16(c)?;
+    if !is_not_below(before, section) {
+        return Err(fault(3, start));
+    }
+    if section as usize >= sections.len() {
+        return Err(fault(4, start));
+    }
+    Ok(section)
+}
+
+/// The offset of a relocation behind these, in the section whose field is at `section_at`.
+#[tactic(auto, unfolding(crate::specs::Grammar::reloc_offset_at))]
+fn read_offset(
+    c: &mut Cursor<'_>,
+    sections: &[Section],
+    before: &[Reloc],
+    section: u16,
+    section_at: usize,
+) -> Result<u32, FormErr>
+    requires short { length c.old.bytes ≤ 2 ^ 30 }
+    requires start { section_at ≤ length c.old.bytes }
+    ensures read { Reads result c.new (reloc_offset_at sections.now before.now section (record { bytes = c.old.bytes; place = section_at }) c.old) }
+    ensures bytes { c.new.bytes ≡ c.old.bytes }
+{
+    let start = c.place();
+    let offset = read_u32(c)?;
+    if !is_behind(before, section, offset) {
+        return Err(fault(3, section_at));
+    }
+    if offset as usize + 4 > size_at(sections, section) {
+        return Err(fault(4, start));
+    }
+    Ok(offset)
+}
+
+/// The number of one of so many symbols.
+#[tactic(auto, unfolding(crate::specs::Grammar::reloc_symbol_at))]
+fn read_symbol_number(c: &mut Cursor<'_>, symbols: u16) -> Result<u16, FormErr>
+    requires { length c.old.bytes ≤ 2 ^ 30 }
+    ensures read { Reads result c.new (reloc_symbol_at symbols c.old) }
+    ensures bytes { c.new.bytes ≡ c.old.bytes }
+{
+    let start = c.place();
+    let symbol = read_u16(c)?;
+    if symbol >= symbols {
+        return Err(fault(4, start));
+    }
+    Ok(symbol)
+}
+
+/// A relocation behind these.
+#[tactic(auto, unfolding(crate::specs::Grammar::reloc_after))]
+fn read_reloc(
+    c: &mut Cursor<'_>,
+    sections: &[Section],
+    symbols: u16,
+    before: &[Reloc],
+) -> Result<Reloc, FormErr>
+    requires { length c.old.bytes ≤ 2 ^ 30 }
+    ensures read { Reads result c.new (reloc_after sections.now symbols before.now c.old) }
+    ensures bytes { c.new.bytes ≡ c.old.bytes }
+{
+    let start = c.place();
+    let section = read_section_number(c, sections, before)?;
+    let offset = read_offset(c, sections, before, section, start)?;
+    let kind = read_kind(c, 1, 7)?;
+    let symbol = read_symbol_number(c, symbols)?;
+    let addend = read_u32(c)?;
+    Ok(Reloc {
+        section,
+        offset,
+        kind,
+        symbol,
+        addend,
+    })
+}
+
+/// So many relocations.
+pub(crate) fn read_relocs(
+    alloc: Global,
+    c: &mut Cursor<'_>,
+    sections: &[Section],
+    symbols: u16,
+    count: u16,
+) -> Result<Vec<Reloc>, ObjErr>
+    requires { length c.old.bytes ≤ 2 ^ 30 }
+    ensures ok { IfOk result (λ rs. many_at (reloc_after sections.now symbols) count [] c.old ≡ Ok (rs.items, c.new)) }
+    ensures err { IfErr result (IsFaultOf (many_at (reloc_after sections.now symbols) count [] c.old)) }
+    ensures bytes { c.new.bytes ≡ c.old.bytes }
+{
+    let mut relocs = Vec::new(alloc);
+    for _i in 0..count {
+        let reloc = read_reloc(c, sections, symbols, &relocs)?;
+        relocs.push(reloc)?;
+    }
+    Ok(relocs)
+}

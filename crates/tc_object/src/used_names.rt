@@ -1,0 +1,55 @@
+// Names that aren't used yet, read. The names that are used stand in a map, so that each is looked up in few steps.
+ghost use Rattle.std.specs.Prelude.{◌≡◌, ◌≤◌, ◌^◌, ◌||◌, not, false, true, ℕ, List, length, string_bytes, Ok, Err, OnOk, IfOk, IfErr};
+ghost use Rattle.std.specs.Str.{bytes_eq};
+ghost use Rattle.tc_object.specs.Answers.{IsFaultOf};
+ghost use Rattle.tc_object.specs.Grammar.{name_after};
+ghost use Rattle.tc_object.specs.Used.{is_among};
+
+use crate::ObjErr;
+use crate::fields::fault;
+use crate::names::{read_name_bytes, read_name_length};
+use std::alloc::{AllocFailed, Global};
+use std::collections::BTreeMap;
+use tcd_base::Cursor;
+
+/// No names.
+pub(crate) fn no_names<'a>(alloc: Global) -> BTreeMap<&'a str, ()>
+    ensures { (q : List ℕ) → is_among result q ≡ false }
+{
+    BTreeMap::new(alloc)
+}
+
+/// Adds a name; false where it is there already.
+fn add_name<'a>(
+    names: &mut BTreeMap<&'a str, ()>,
+    name: &'a str,
+) -> Result<bool, AllocFailed<(&'a str, ())>>
+    ensures added { IfOk result (λ added. added ≡ not (is_among names.old name.now)) }
+    ensures names { OnOk result ((q : List ℕ) → is_among names.new q ≡ (bytes_eq name.now q || is_among names.old q)) }
+{
+    let old = names.insert(name, ())?;
+    Ok(old.is_none())
+}
+
+/// A name that isn't among those used, and then is.
+#[tactic(auto, unfolding(crate::specs::Grammar::name_after))]
+pub(crate) fn read_new_name<'a>(
+    alloc: Global,
+    c: &mut Cursor<'a>,
+    names: &mut BTreeMap<&'a str, ()>,
+) -> Result<String, ObjErr>
+    requires { length c.old.bytes ≤ 2 ^ 30 }
+    ensures ok { IfOk result (λ name. name_after (is_among names.old) c.old ≡ Ok (string_bytes name, c.new)) }
+    ensures err { IfErr result (IsFaultOf (name_after (is_among names.old) c.old)) }
+    ensures bytes { c.new.bytes ≡ c.old.bytes }
+    ensures names { IfOk result (λ name. (q : List ℕ) → is_among names.new q ≡ (bytes_eq (string_bytes name) q || is_among names.old q)) }
+{
+    let count = read_name_length(c)?;
+    let start = c.place();
+    let name = read_name_bytes(c, count)?;
+    let is_new = add_name(names, name)?;
+    if !is_new {
+        return Err(ObjErr::Bad(fault(4, start)));
+    }
+    Ok(String::from_str(alloc, name)?)
+}
