@@ -1,11 +1,11 @@
 -- The lines that were read so far.
-use Rattle.std.proofs.Common.{◌≡◌, ◌<◌, ◌≤◌, ◌+◌, ◌∷◌, ◌++◌, [], ℕ, zero, suc, List, length, take, drop, get_or, Option, Some, None, Result, Ok, Err, refl, ap, sym, subst, ◌∙◌, arith, length-drop}
+use Rattle.std.proofs.Common.{◌≡◌, ◌≤◌, ◌+◌, ◌∷◌, ◌++◌, [], ℕ, zero, suc, List, length, take, drop, Option, Some, None, Err, refl, ap, sym, ◌∙◌, arith, length-drop}
 use Rattle.std.specs.Option.{option_or, option_and_then, option_to_list}
-use Rattle.std.proofs.lemmas.List.{length-take-le, take_more, take_all}
+use Rattle.std.proofs.lemmas.List.{length-take-le, take_all}
 use Rattle.std.proofs.lemmas.List.Elements.{filter_map-append}
 use Rattle.tc_link.specs.declared.faults.LayoutErr.{LayoutErr}
 use Rattle.tc_link.specs.declared.faults.LayoutErr.TheVariants.{BadLine, Twice, TooMany, Overlap, NoMemory}
-use Rattle.tc_link.specs.Layouts.{PlaceData, LayoutData}
+use Rattle.tc_link.specs.Layouts.{PlaceData}
 use Rattle.tc_link.specs.Lines.{LineData, lines_of, line_of}
 use Rattle.std.specs.List.{filter_map, cons_option}
 use Rattle.tc_link.specs.Faults.{entry_in, region_in, entries_of, places_of, fault_of, first_fault, layout_in, with_entry, unless, IsFault, IsFaultOf}

@@ -1,5 +1,5 @@
 -- Layouts as plain data, and what they keep.
-use Rattle.std.specs.Prelude.{◌≡◌, ◌≤◌, ◌<◌, ◌+◌, ◌%◌, ◌^◌, nat_lt, ℕ, Bool, true, false, min, max, List, [], length, Some}
+use Rattle.std.specs.Prelude.{◌≡◌, ◌≤◌, ◌<◌, ◌+◌, ◌%◌, ◌^◌, nat_lt, ℕ, Bool, false, min, max, List, [], length, Some}
 use Rattle.std.specs.List.{list_any}
 use Rattle.std.specs.Str.{bytes_eq}
 use Rattle.tc_object.specs.Names.{name_of}

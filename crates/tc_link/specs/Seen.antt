@@ -1,7 +1,6 @@
 -- What contracts see of a reading that isn't at its end.
-use Rattle.std.specs.Prelude.{◌≡◌, ◌≤◌, ◌++◌, ℕ, List, [], length, All, Option, Some, None, String, string_bytes}
-use Rattle.std.specs.Option.{option_map, option_and_then, option_to_list}
-use Rattle.std.specs.declared.alloc.Global.{Global}
+use Rattle.std.specs.Prelude.{◌≡◌, ◌≤◌, ◌++◌, ℕ, List, [], length, All, Option, Some}
+use Rattle.std.specs.Option.{option_and_then, option_to_list}
 use Rattle.tc_object.specs.Names.{name_of}
 use Rattle.tc_object.specs.Objects.{InTurn}
 use Rattle.tc_link.specs.Layouts.{PlaceData, IsPlace, IsPlaceAfter}

@@ -1,4 +1,4 @@
-use Rattle.std.proofs.Common.{◌≡◌, ◌∙◌, sym}
+use Rattle.std.proofs.Common.{◌∙◌, sym}
 use Rattle.tc_link.proofs.LineLaws.{found_end, no_end}
 use Rattle.tc_link.proofs.lines.line_end.Goals as goal
 

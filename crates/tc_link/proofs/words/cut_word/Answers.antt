@@ -1,4 +1,4 @@
-use Rattle.std.proofs.Common.{◌≡◌, ◌∙◌, sym}
+use Rattle.std.proofs.Common.{◌∙◌, sym}
 use Rattle.tc_link.proofs.LineLaws.{split_at, split_whole}
 use Rattle.tc_link.proofs.words.cut_word.Goals as goal
 

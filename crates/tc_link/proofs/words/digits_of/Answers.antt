@@ -1,4 +1,4 @@
-use Rattle.std.proofs.Common.{◌≡◌, ◌<◌, true, ℕ, get_or, refl, arith, sym, ltb}
+use Rattle.std.proofs.Common.{◌<◌, ℕ, get_or, refl, arith, sym, ltb}
 use Rattle.std.specs.Char.{digit_value}
 use Rattle.std.proofs.lemmas.Int.Digits.{digits_value_more, digits_more}
 use Rattle.std.proofs.lemmas.List.Folds.{list_all_more}

@@ -1,4 +1,4 @@
-use Rattle.std.proofs.Common.{◌≡◌, ◌+◌, [], ◌∷◌, ◌++◌, ℕ, List, length, sym, subst, ap, arith, length-append}
+use Rattle.std.proofs.Common.{◌≡◌, [], ◌∷◌, ℕ, List, length, sym, subst, ap, arith, length-append}
 use Rattle.std.specs.Prelude.{string_bytes}
 use Rattle.tc_link.specs.Layouts.{PlaceData, IsPlaceAfter}
 use Rattle.tc_link.specs.Seen.{DraftData}
