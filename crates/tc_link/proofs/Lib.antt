@@ -1,0 +1,5 @@
+pub mod HexLaws
+pub mod LineLaws
+pub mod NameLaws
+pub mod ReadLaws
+pub mod TurnLaws

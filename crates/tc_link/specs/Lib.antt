@@ -1,0 +1,4 @@
+pub mod Layouts
+pub mod Lines
+pub mod Faults
+pub mod Seen

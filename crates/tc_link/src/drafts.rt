@@ -1,0 +1,173 @@
+// The entry and the places of the lines so far.
+ghost use Rattle.std.specs.Prelude.{◌≡◌};
+ghost use Rattle.tc_link.specs.Layouts.{shares_at};
+
+use crate::lines::{Line, line_of};
+use crate::{Layout, LayoutErr, Place};
+use std::alloc::Global;
+use std::marker::Model;
+
+#[derive(Drop)]
+pub(crate) struct Draft {
+    entry: Option<String>,
+    places: Vec<Place>,
+}
+
+impl Model for Draft {
+    ghost use Rattle.std.specs.Prelude.{string_bytes};
+    ghost use Rattle.std.specs.Option.{option_map, option_to_list};
+    ghost use Rattle.tc_link.specs.Seen.{DraftData, IsDraft};
+
+    ghost Value = { DraftData };
+
+    ghost view = { λ d. record { entries = option_to_list (option_map string_bytes d.entry); places = d.places.items } };
+
+    ghost invariant = { λ d. IsDraft (record { entries = option_to_list (option_map string_bytes d.entry); places = d.places.items }) };
+}
+
+impl Draft {
+    ghost use Rattle.std.specs.Prelude.{◌≡◌, ◌≤◌, ◌<◌, ◌+◌, ◌++◌, ◌^◌, [], ◌∷◌, length, nat_lt, Some, None, Ok, OnOk, OnErr, IfOk, IfErr, IfNone, if◌then◌else◌, nat_le};
+    ghost use Rattle.std.specs.Bool.{then_some};
+    ghost use Rattle.std.specs.List.{list_any};
+    ghost use Rattle.tc_object.specs.Names.{name_of};
+    ghost use Rattle.tc_link.specs.Layouts.{IsPlace, IsPlaceAfter, is_placed, shares_at};
+    ghost use Rattle.tc_link.specs.Lines.{line_of, place};
+    ghost use Rattle.tc_link.specs.Faults.{fault_of, with_entry, IsFaultOf, IsFault};
+    ghost use Rattle.tc_link.specs.Seen.{with_line, line_data, IsGood};
+    ghost use Rattle.tc_link.specs.declared.faults.LayoutErr.TheVariants.{Twice, TooMany, Overlap, NoMemory};
+
+    /// No line.
+    pub(crate) fn new(alloc: Global) -> Draft
+        ensures { result ≡ record { entries = []; places = [] } }
+    {
+        Draft {
+            entry: None,
+            places: Vec::new(alloc),
+        }
+    }
+
+    // Whether there is a place for sections of this name.
+    fn is_placed(&self, section: &str) -> bool
+        ensures { result ≡ is_placed self.now.places section.now }
+    {
+        self.places
+            .iter()
+            .any(|place| section == place.section.as_str())
+    }
+
+    // Whether there is a place that shares a byte with this one.
+    fn shares(&self, at: u32, most: u32) -> bool
+        ensures { result ≡ list_any (λ q. shares_at at most q) self.now.places }
+    {
+        self.places.iter().any(|other| share(at, most, other))
+    }
+
+    // The fault of a place behind these lines, at line `number`.
+    fn fault_at(&self, number: u32, section: &str, at: u32, most: u32) -> Option<LayoutErr>
+        requires { IsPlace (record { section = section.now; at = at; most = most }) }
+        ensures fault { result ≡ fault_of number self.now.entries self.now.places (Some (place (record { section = section.now; at = at; most = most }))) }
+        ensures after { IfNone result (IsPlaceAfter self.now.places (record { section = section.now; at = at; most = most })) }
+        ensures few { IfNone result (length self.now.places < 64) }
+    {
+        if self.is_placed(section) {
+            return Some(LayoutErr::Twice(number));
+        }
+        if self.places.len() >= 64 {
+            return Some(LayoutErr::TooMany(number));
+        }
+        if self.shares(at, most) {
+            return Some(LayoutErr::Overlap(number));
+        }
+        None
+    }
+
+    fn add_entry(&mut self, alloc: Global, name: &str) -> Result<(), LayoutErr>
+        requires name { name_of name.now ≡ Some name.now }
+        requires none { self.old.entries ≡ [] }
+        ensures ok { OnOk result (self.new ≡ record { entries = name.now ∷ []; places = self.old.places }) }
+        ensures err { IfErr result (λ e. e ≡ NoMemory) }
+    {
+        self.entry = Some(String::from_str(alloc, name)?);
+        Ok(())
+    }
+
+    fn add_place(
+        &mut self,
+        alloc: Global,
+        section: &str,
+        at: u32,
+        most: u32,
+    ) -> Result<(), LayoutErr>
+        requires place { IsPlaceAfter self.old.places (record { section = section.now; at = at; most = most }) }
+        requires few { length self.old.places < 64 }
+        ensures ok { OnOk result (self.new ≡ record { entries = self.old.entries; places = self.old.places ++ record { section = section.now; at = at; most = most } ∷ [] }) }
+        ensures err { IfErr result (λ e. e ≡ NoMemory) }
+    {
+        let section = String::from_str(alloc, section)?;
+        self.places.push(Place { section, at, most })?;
+        Ok(())
+    }
+
+    // Adds what line `number` says, or tells its fault.
+    fn add_good(&mut self, alloc: Global, number: u32, line: Line<'_>) -> Result<(), LayoutErr>
+        requires { IsGood (line_data line) }
+        ensures good { OnOk result (fault_of number self.old.entries self.old.places (Some (line_data line.entry)) ≡ None) }
+        ensures ok { OnOk result (self.new ≡ with_line self.old (Some (line_data line.entry))) }
+        ensures err { IfErr result (IsFault (fault_of number self.old.entries self.old.places (Some (line_data line.entry)))) }
+    {
+        match line {
+            Line::Blank => Ok(()),
+            Line::Entry(name) => {
+                if self.entry.is_some() {
+                    return Err(LayoutErr::Twice(number));
+                }
+                self.add_entry(alloc, name)
+            }
+            Line::Region { section, at, most } => {
+                if let Some(fault) = self.fault_at(number, section, at, most) {
+                    return Err(fault);
+                }
+                self.add_place(alloc, section, at, most)
+            }
+        }
+    }
+
+    /// Adds what line `number` says, or tells its fault.
+    pub(crate) fn add_line(
+        &mut self,
+        alloc: Global,
+        number: u32,
+        line: &[u8],
+    ) -> Result<(), LayoutErr>
+        ensures good { OnOk result (fault_of number self.old.entries self.old.places (line_of line.now) ≡ None) }
+        ensures ok { OnOk result (self.new ≡ with_line self.old (line_of line.now)) }
+        ensures err { IfErr result (IsFault (fault_of number self.old.entries self.old.places (line_of line.now))) }
+    {
+        match line_of(line) {
+            None => Err(LayoutErr::BadLine(number)),
+            Some(line) => self.add_good(alloc, number, line),
+        }
+    }
+
+    /// The layout of so many lines.
+    pub(crate) fn finish(self, count: u32) -> Result<Layout, LayoutErr>
+        requires { count < 2 ^ 31 }
+        ensures ok { IfOk result (λ l. with_entry count self.entries self.places ≡ Ok l) }
+        ensures err { IfErr result (IsFaultOf (with_entry count self.entries self.places)) }
+    {
+        let Draft { entry, places } = self;
+        match entry {
+            Some(entry) => Ok(Layout { entry, places }),
+            None => Err(LayoutErr::BadLine(count + 1)),
+        }
+    }
+}
+
+// Whether a place of these bytes shares one with another.
+fn share(at: u32, most: u32, other: &Place) -> bool
+    ensures { result ≡ shares_at at most other.now }
+{
+    let end = u64::from(at) + u64::from(most);
+    let other_end = u64::from(other.at) + u64::from(other.most);
+    u64::from(at.max(other.at)) < end.min(other_end)
+}

@@ -1,0 +1,139 @@
+// The lines of a layout.
+ghost use Rattle.std.specs.Prelude.{◌≡◌, ◌≤◌, ◌<◌, ◌+◌, ◌^◌, ◌==◌, [], ◌∷◌, length, take, drop, codes, if◌then◌else◌, IfSome, position, Some, None, Option};
+ghost use Rattle.std.specs.Option.{option_map, option_copied};
+ghost use Rattle.std.specs.List.{position_or_len};
+ghost use Rattle.std.specs.Str.{bytes_eq};
+ghost use Rattle.tc_object.specs.Names.{name_of};
+ghost use Rattle.tc_link.specs.Lines.{LineData, entry, lines_of, line_of, place_of_words, word_of};
+ghost use Rattle.tc_link.specs.Seen.{line_data, IsGood};
+
+use crate::words::{cut_word, is_text, word_of};
+use tc_object::name_of;
+
+/// What a line says.
+#[derive(Clone, Copy)]
+pub(crate) enum Line<'a> {
+    Blank,
+    Entry(&'a str),
+    Region {
+        section: &'a str,
+        at: u32,
+        most: u32,
+    },
+}
+
+// The name that a word is.
+fn name_in(word: &[u8]) -> Option<&str>
+    ensures value { option_copied result ≡ name_of word.now }
+    ensures good { IfSome result (λ name. name_of name.now ≡ Some name.now) }
+{
+    name_of(word)
+}
+
+fn entry_line<'a>(word: &[u8], name: &'a [u8]) -> Option<Line<'a>>
+    ensures line { option_map line_data result ≡ (if bytes_eq word.now (codes "entry") then option_map entry (name_of name.now) else None) }
+    ensures good { IfSome result (λ line. IsGood (line_data line)) }
+{
+    if !is_text(word, "entry") {
+        return None;
+    }
+    match name_in(name) {
+        Some(name) => Some(Line::Entry(name)),
+        None => None,
+    }
+}
+
+// A place for sections of this name.
+fn region<'a>(section: &'a str, at: u32, most: u32) -> Option<Line<'a>>
+    requires { name_of section.now ≡ Some section.now }
+    ensures line { option_map line_data result ≡ place_of_words (Some section.now) (Some at) (Some most) }
+    ensures good { IfSome result (λ line. IsGood (line_data line)) }
+{
+    if at % 4 == 0 && u64::from(at) + u64::from(most) <= 4_294_967_296 {
+        Some(Line::Region { section, at, most })
+    } else {
+        None
+    }
+}
+
+fn region_line<'a>(word: &[u8], section: &'a [u8], at: &[u8], most: &[u8]) -> Option<Line<'a>>
+    ensures line { option_map line_data result ≡ (if bytes_eq word.now (codes "place") then place_of_words (name_of section.now) (word_of at.now) (word_of most.now) else None) }
+    ensures good { IfSome result (λ line. IsGood (line_data line)) }
+{
+    if !is_text(word, "place") {
+        return None;
+    }
+    let Some(section) = name_in(section) else {
+        return None;
+    };
+    let Some(at) = word_of(at) else {
+        return None;
+    };
+    let Some(most) = word_of(most) else {
+        return None;
+    };
+    region(section, at, most)
+}
+
+/// What a line says; nothing where it has none of the forms.
+#[tactic(auto, using(crate::proofs::LineLaws::five_words), unfolding(crate::specs::Lines::line_of))]
+pub(crate) fn line_of(line: &[u8]) -> Option<Line<'_>>
+    ensures line { option_map line_data result ≡ line_of line.now }
+    ensures good { IfSome result (λ line. IsGood (line_data line)) }
+{
+    let Some((word, rest)) = cut_word(line) else {
+        return if line.is_empty() {
+            Some(Line::Blank)
+        } else {
+            None
+        };
+    };
+    let Some((second, rest)) = cut_word(rest) else {
+        return entry_line(word, rest);
+    };
+    let Some((third, rest)) = cut_word(rest) else {
+        return None;
+    };
+    match cut_word(rest) {
+        Some((_fourth, _more)) => None,
+        None => region_line(word, second, third, rest),
+    }
+}
+
+fn find_feed(text: &[u8]) -> Option<usize>
+    ensures value { result ≡ position (λ c. c == 10) text.now }
+    ensures within { IfSome result (λ i. i < length text.now) }
+{
+    text.iter().position(|c| *c == b'\n')
+}
+
+// Where the first line ends.
+fn line_end(text: &[u8]) -> usize
+    ensures end { result ≡ position_or_len (λ c. c == 10) text.now }
+    ensures within { result ≤ length text.now }
+{
+    match find_feed(text) {
+        Some(end) => end,
+        None => text.len(),
+    }
+}
+
+/// The first line of a text.
+pub(crate) fn first_line(text: &[u8]) -> &[u8]
+    ensures { result.now ≡ take (position_or_len (λ c. c == 10) text.now) text.now }
+{
+    &text[..line_end(text)]
+}
+
+/// What stands behind the first line of a text.
+pub(crate) fn after_line(text: &[u8]) -> &[u8]
+    requires { 0 < length text.now }
+    ensures rest { result.now ≡ drop (position_or_len (λ c. c == 10) text.now + 1) text.now }
+    ensures shorter { length result.now < length text.now }
+{
+    let end = line_end(text);
+    if end == text.len() {
+        return &text[end..];
+    }
+    &text[end + 1..]
+}
