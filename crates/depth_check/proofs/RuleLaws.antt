@@ -1,6 +1,7 @@
 -- The least rule that fails at a point, from its values, its own fault, its duties and its need.
-use Rattle.std.proofs.Common.{◌≡◌, ℕ, Bool, List, get_or, Option, arith, subst, sym, ap, ◌∙◌}
+use Rattle.std.proofs.Common.{◌≡◌, ℕ, ◌≤◌, Bool, List, get_or, Option, Some, inl, inr, arith, subst, sym, ap, ◌∙◌}
 use Rattle.std.specs.Prelude.{IsTrue, ◌↔◌, All, Contains}
+use Rattle.std.proofs.lemmas.Bool.{cases_lt}
 use Rattle.std.proofs.lemmas.List.Elements.{All-contains, All-weaker, Contains-get_or}
 use Rattle.elf_image.specs.Images.{ImageData}
 use Rattle.tcd_plan.specs.PlanData.{PlanData}
@@ -13,6 +14,7 @@ use Rattle.depth_cert.specs.Nodes.{NodeData}
 use Rattle.depth_cert.specs.Certs.{CertData}
 use Rattle.cfg_recover.specs.declared.flows.Flow.{Flow}
 use Rattle.cfg_recover.specs.Code.{IsCode}
+use Rattle.cfg_recover.specs.Own.{IsOwnFault}
 use Rattle.cfg_recover.specs.Duties.{Owed, duties_of}
 use Rattle.cfg_recover.specs.Flows.{Tells, told_by}
 use Rattle.cfg_recover.specs.Accepting.{limits_in, RuleHolds, IsNeedAbove}
@@ -30,6 +32,37 @@ values_well b vs values r lt = (values r lt).well
 
 -- ---- rules
 module _ (image : ImageData) (plan : PlanData) (cert : CertData) (node : NodeData) (point : Point) where
+  -- a rule's own part
+  own_known : (b : Limits) (r : ℕ) → IsOwnFault b image plan node.key point.addr point.state r → r ≤ 14
+  own_known b r fault =
+      elim (cases_lt 14 r) [
+        | inr small ↦ small
+        | inl great ↦
+            absurd (fault.fails (record {
+              code = λ e. absurd (omega arith);
+              own = λ shape n code. record {
+                targets = λ e. absurd (omega arith);
+                returns = λ e. absurd (omega arith);
+                exceptions = λ e. absurd (omega arith);
+                room = λ e. absurd (omega arith);
+                stores = λ e. absurd (omega arith);
+                accesses = λ e. absurd (omega arith);
+                system = λ e. absurd (omega arith);
+                writes = λ e. absurd (omega arith);
+              };
+            }))
+      ]
+
+  pub own_broken : (b : Limits) (r : ℕ) → b ≡ limits_in plan cert → AreValues b (point.state).regs → IsOwnFault b image plan node.key point.addr point.state r → Finds (RuleHolds image plan cert node point) (Some r)
+  own_broken b r limits values fault =
+      let v : AreValues (limits_in plan cert) (point.state).regs = subst (λ (c : Limits). AreValues c (point.state).regs) limits values in
+      let f : IsOwnFault (limits_in plan cert) image plan node.key point.addr point.state r = subst (λ (c : Limits). IsOwnFault c image plan node.key point.addr point.state r) limits fault in
+      record {
+        broken = λ h. f.fails (h.own v);
+        least = λ q lt. record { values = λ e. v; own = λ w. f.least q lt; covered = λ shape n d w faultless. absurd (f.fails (faultless r)); needs = λ shape n e w faultless. absurd (f.fails (faultless r)) };
+        known = own_known b r fault;
+      }
+
   -- duties and the need
   module _ (flow : Flow) (values : AreValues (limits_in plan cert) (point.state).regs) (tells : Tells (limits_in plan cert) image plan node.key point.addr point.state flow) where
     told : List Owed
