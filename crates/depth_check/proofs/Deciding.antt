@@ -20,10 +20,6 @@ refuted b P e d p = let t = d.1 p in cc
 pub same_test : (b : Bool) (P Q : Type 0) → (P → Q) → (Q → P) → (IsTrue b ↔ P) → IsTrue b ↔ Q
 same_test b P Q f g d = (λ t. f (d.0 t), λ q. d.1 (g q))
 
--- an element that fails refutes that all hold
-pub not_all : {X : Type 0} (P : X → Type 0) (xs : List X) (i : ℕ) (x : X) → i < length xs → x ≡ get_or xs i x → (P x → ⊥) → All P xs → ⊥
-not_all P xs i x lt is f all = f (subst P (sym is) (all i x lt))
-
 -- what holds of each element so far holds of all, once these are all
 pub all_done : {X : Type 0} (P : X → Type 0) (xs : List X) (i : ℕ) → length xs ≤ i → All P (take i xs) → All P xs
 all_done P xs i le h = All-same P xs (take i xs) (sym (take_all i xs le)) h

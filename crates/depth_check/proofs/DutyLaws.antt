@@ -30,9 +30,6 @@ All-left P xs ys h k d lt = subst P (get_or_append_left xs ys d k lt) (h k d (om
 pub All-right : {X : Type 0} (P : X → Type 0) (xs ys : List X) → All P (xs ++ ys) → All P ys
 All-right P xs ys h k d lt = subst P (get_or-append-add xs ys k d) (h (length xs + k) d (omega (arith, length-append xs ys)))
 
-pub duties_none : (cert : CertData) (node : NodeData) (s : State) → Finds (DutiesHold cert node s []) None
-duties_none cert node s q = All-nil (DutyHolds cert node s q)
-
 pub duties_append : (cert : CertData) (node : NodeData) (s : State) (xs ys : List Owed) (a b : Option ℕ) → Finds (DutiesHold cert node s xs) a → Finds (DutiesHold cert node s ys) b
     → Finds (DutiesHold cert node s (xs ++ ys)) (least_of a b)
 duties_append cert node s xs ys a b f g =
@@ -40,15 +37,6 @@ duties_append cert node s xs ys a b f g =
     (λ q h. All-append (DutyHolds cert node s q) xs ys h.0 h.1)
     (λ q h. (All-left (DutyHolds cert node s q) xs ys h, All-right (DutyHolds cert node s q) xs ys h))
     (found_both (DutiesHold cert node s xs) (DutiesHold cert node s ys) a b f g)
-
--- a duty that stands alone, by what rules ask of it
-pub duty_alone : (cert : CertData) (node : NodeData) (s : State) (d : Owed) (P : ℕ → Type 0) (o : Option ℕ) → ((q : ℕ) → P q → DutyHolds cert node s q d) → ((q : ℕ) → DutyHolds cert node s q d → P q)
-    → Finds P o → Finds (DutiesHold cert node s (d ∷ [])) o
-duty_alone cert node s d P o to from f =
-    found_same P (DutiesHold cert node s (d ∷ [])) o
-    (λ q h. All-cons (DutyHolds cert node s q) d [] (to q h) (All-nil (DutyHolds cert node s q)))
-    (λ q h. from q (All-head (DutyHolds cert node s q) d [] h))
-    f
 
 -- ---- jumps
 -- duties that one rule asks for, all of them jumps

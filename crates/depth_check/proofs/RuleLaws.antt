@@ -1,5 +1,5 @@
 -- The least rule that fails at a point, from its values, its own fault, its duties and its need.
-use Rattle.std.proofs.Common.{◌≡◌, ℕ, ◌≤◌, Bool, List, get_or, Option, Some, None, arith, inl, inr, refl, subst, sym, ap, ◌∙◌}
+use Rattle.std.proofs.Common.{◌≡◌, ℕ, ◌≤◌, Bool, List, get_or, Option, Some, inl, inr, arith, subst, sym, ap, ◌∙◌}
 use Rattle.std.specs.Prelude.{IsTrue, ◌↔◌, All, Contains}
 use Rattle.std.proofs.lemmas.Bool.{cases_lt}
 use Rattle.std.proofs.lemmas.List.Elements.{All-contains, All-weaker, Contains-get_or}
@@ -12,17 +12,14 @@ use Rattle.value_domain.specs.State.{AreValues, AreWell}
 use Rattle.depth_cert.specs.declared.points.Point.{Point}
 use Rattle.depth_cert.specs.Nodes.{NodeData}
 use Rattle.depth_cert.specs.Certs.{CertData}
-use Rattle.cfg_recover.specs.declared.flows.Jump.{Jump}
-use Rattle.cfg_recover.specs.declared.flows.Enter.{Enter}
 use Rattle.cfg_recover.specs.declared.flows.Flow.{Flow}
 use Rattle.cfg_recover.specs.Code.{IsCode}
 use Rattle.cfg_recover.specs.Own.{IsOwnFault}
 use Rattle.cfg_recover.specs.Duties.{Owed, duties_of}
 use Rattle.cfg_recover.specs.Flows.{Tells, told_by}
-use Rattle.cfg_recover.specs.FlowValues.{HasValues, JumpsWithValues, EntersWithValues}
 use Rattle.cfg_recover.specs.Accepting.{limits_in, RuleHolds, IsNeedAbove}
 use Rattle.cfg_recover.proofs.CodeLaws.{IsCode-one}
-use Rattle.depth_check.specs.Finding.{IsWellFlow, IsWellJump, IsWellEnter, Finds, least_of, unless, DutyHolds, DutiesHold, HasOwnNeed}
+use Rattle.depth_check.specs.Finding.{Finds, least_of, unless, DutyHolds, DutiesHold, HasOwnNeed}
 use Rattle.depth_check.proofs.LeastLaws.{found_by, found_both, found_same}
 
 -- what holds of each contained element
@@ -33,32 +30,8 @@ All-from_contains P xs each k d lt = each (get_or xs k d) (Contains-get_or xs k 
 pub values_well : (b : Limits) (vs : List Val) → AreValues b vs → AreWell vs
 values_well b vs values r lt = (values r lt).well
 
-well_jumps : (b : Limits) (o : Option Jump) → JumpsWithValues b o → IsWellJump o
-well_jumps b None h = tt
-well_jumps b (Some j) h = values_well b (j.state).regs h
-
-well_enters : (b : Limits) (o : Option Enter) → EntersWithValues b o → IsWellEnter o
-well_enters b None h = tt
-well_enters b (Some e) h = values_well b (e.state).regs h
-
-pub well_flow : (b : Limits) (f : Flow) → HasValues b f → IsWellFlow f
-well_flow b f h = record {
-  jumps = All-weaker (JumpsWithValues b) IsWellJump (λ j v. well_jumps b j v) f.jumps h.jumps;
-  enter = well_enters b f.enter h.enter;
-  aln = well_enters b f.aln h.misaligned;
-  interrupts = values_well b (f.irq_entry).regs h.interrupts;
-}
-
 -- ---- rules
 module _ (image : ImageData) (plan : PlanData) (cert : CertData) (node : NodeData) (point : Point) where
-  -- rule 2
-  pub values_broken : (AreValues (limits_in plan cert) (point.state).regs → ⊥) → Finds (RuleHolds image plan cert node point) (Some 2)
-  values_broken wrong = record {
-    broken = λ h. wrong (h.values refl);
-    least = λ q lt. record { values = λ e. absurd (omega arith); own = λ v. absurd (wrong v); covered = λ shape n d v. absurd (wrong v); needs = λ shape n e v. absurd (wrong v) };
-    known = omega arith;
-  }
-
   -- a rule's own part
   own_known : (b : Limits) (r : ℕ) → IsOwnFault b image plan node.key point.addr point.state r → r ≤ 14
   own_known b r fault =
