@@ -7,6 +7,8 @@ mod finishing;
 mod inputs;
 mod lines;
 mod printing;
+#[cfg(test)]
+mod row_tests;
 mod runs;
 mod saying;
 mod status;
