@@ -112,5 +112,6 @@ abbrev pub need_of : Option NodeData → ℕ
 need_of None = 0
 need_of (Some n) = n.need
 
+-- the need that a certificate states for the start
 abbrev pub certified_need : ImageData → PlanData → CertData → ℕ
 certified_need image plan cert = need_of (find_node (start_key image plan) cert.nodes)

@@ -33,6 +33,7 @@ pub record Owed : Type 0 where
   pub rule : ℕ
   pub duty : Duty
 
+-- a duty that this rule asks for
 abbrev pub owed : ℕ → Duty → Owed
 owed rule duty = record { rule = rule; duty = duty }
 
@@ -81,6 +82,7 @@ entries_of plan key p s _ n = []
 abbrev pub misaligned_at : PlanData → Key → State → Val → ℕ → List Owed
 misaligned_at plan key s at size = if are_aligned at size then [] else owed 10 (enter (aln_key plan key) (aln_entry plan key s)) ∷ []
 
+-- the same for an instruction: only loads and stores have an address
 abbrev pub misaligned_of : Limits → PlanData → Key → State → Shape → List Owed
 misaligned_of b plan key s (Load dst base offset size signed after) =
     misaligned_at plan key s (address_of b plan (Load dst base offset size signed after) s) size

@@ -29,6 +29,7 @@ irq_key plan p = record { kind = 2; entry = bit_or plan.biv (p * 2 ^ 5); prio = 
 abbrev pub sys_key : PlanData → Key → Key
 sys_key plan key = record { kind = 3; entry = bit_or plan.btv (6 * 2 ^ 5); prio = key.prio; is = true }
 
+-- the handler of misaligned accesses
 abbrev pub aln_key : PlanData → Key → Key
 aln_key plan key = record { kind = 4; entry = bit_or plan.btv (2 * 2 ^ 5); prio = key.prio; is = true }
 

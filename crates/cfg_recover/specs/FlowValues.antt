@@ -6,9 +6,11 @@ use Rattle.cfg_recover.specs.declared.flows.Jump.{Jump}
 use Rattle.cfg_recover.specs.declared.flows.Enter.{Enter}
 use Rattle.cfg_recover.specs.declared.flows.Flow.{Flow}
 
+-- the state that a jump goes on with has values of the plan
 abbrev pub JumpsWithValues : Limits → Option Jump → Type 0
 JumpsWithValues b jump = IfSome jump (λ j. AreValues b (j.state).regs)
 
+-- the state that an entry begins with has values of the plan
 abbrev pub EntersWithValues : Limits → Option Enter → Type 0
 EntersWithValues b entry = IfSome entry (λ e. AreValues b (e.state).regs)
 

@@ -18,10 +18,12 @@ use Rattle.cfg_recover.specs.Entries.{irq_key, irq_entry, exit_of}
 use Rattle.cfg_recover.specs.Own.{IsFaultless}
 use Rattle.cfg_recover.specs.Duties.{Owed, owed, enter, resume, leave, jumps_to, duties_of}
 
+-- the duties of one told jump
 abbrev pub told_jump : Option Jump → List Owed
 told_jump None = []
 told_jump (Some j) = jumps_to j.state j.targets.items
 
+-- the duties of the told jumps
 abbrev pub told_jumps : List (Option Jump) → List Owed
 told_jumps jumps = flat_map told_jump jumps
 
@@ -29,10 +31,12 @@ told_jumps jumps = flat_map told_jump jumps
 abbrev pub entered_key : Key → ℕ → ℕ → Key
 entered_key key kind target = record { kind = kind; entry = target; prio = key.prio; is = if kind == 1 then key.is else true }
 
+-- where an entered frame comes back, if it does
 abbrev pub told_back : Key → Option ℕ → List Owed
 told_back key None = []
 told_back key (Some q) = owed 4 (resume key q) ∷ []
 
+-- an entry at each of its targets, and its coming back, asked for by a rule
 abbrev pub told_entry : ℕ → Key → Option Enter → List Owed
 told_entry rule key None = []
 told_entry rule key (Some e) =
@@ -47,6 +51,7 @@ rule_of_entry (Some e) = if e.kind == 1 then 5 else 12
 abbrev pub told_irqs : PlanData → State → List ℕ → List Owed
 told_irqs plan entry irqs = map (λ p. owed 11 (enter (irq_key plan p) (record entry { ccpn = p }))) irqs
 
+-- the exit that a return leaves by: RET of a function (rule 6), RFE of a system call (rule 7)
 abbrev pub told_leaving : Key → State → Leave → List Owed
 told_leaving key s Stays = []
 told_leaving key s Ret = owed 6 (leave (exit_of s)) ∷ []

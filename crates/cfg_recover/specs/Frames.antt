@@ -48,13 +48,16 @@ way_of_shape Rfe q = rfe
 way_of_shape (Syscall tin) q = sys q
 way_of_shape _ q = to q
 
+-- by the instruction, or the misaligned trap where it meets one
 abbrev pub way_by : Machine → Event → Shape → ℕ → Way
 way_by m e shape q = if traps m e shape then aln q else way_of_shape shape q
 
+-- by what was fetched; where nothing is, the machine stays
 abbrev pub way_in : Machine → Event → Result (Shape × ℕ) Cause → ℕ → Way
 way_in m e (Ok found) q = way_by m e found.0 q
 way_in m e (Err cause) q = to q
 
+-- by an interrupt where one is taken, else by what was fetched
 abbrev pub way_of_step : Machine → Event → Way
 way_of_step m e = if is_taken m e then irq (step m e).pc else way_in m e (fetched m) (step m e).pc
 
@@ -98,13 +101,16 @@ frames_by p next prio (aln q) fs = frames_entered (λ k. handler_key 4 q k.prio)
 frames_by p next prio ret fs = frames_left fs
 frames_by p next prio rfe fs = frames_left fs
 
+-- the bytes of what was fetched
 abbrev pub size_in : Result (Shape × ℕ) Cause → ℕ
 size_in (Ok found) = found.1
 size_in (Err cause) = 0
 
+-- the frames after one step of the machine
 abbrev pub frames_after : Machine → Event → List Standing → List Standing
 frames_after m e fs = frames_by m.pc (moved m.pc (size_in (fetched m))) e.irq (way_of_step m e) fs
 
+-- the frames after the steps of a run, from those before it
 abbrev pub frames_from : Machine → List Event → List Standing → List Standing
 frames_from m [] fs = fs
 frames_from m (e ∷ es) fs = frames_from (step m e) es (frames_after m e fs)
@@ -126,6 +132,7 @@ pub record AreHeld (plan : PlanData) (cert : CertData) (m : Machine) (f : Standi
   pub point : LiesAt plan cert m f
   pub is : is_of m.psw ≡ (f.key).is
 
+-- there is a newest frame, and the frames are held
 abbrev pub HoldFrames : PlanData → CertData → Machine → List Standing → Type 0
 HoldFrames plan cert m [] = ⊥
 HoldFrames plan cert m (f ∷ fs) = AreHeld plan cert m f fs
@@ -144,6 +151,7 @@ IsReturn q (f ∷ g ∷ fs) = g.at ≡ q
 abbrev pub OwesJump : List Owed → ℕ → Type 0
 OwesJump ds q = (t : State) × Contains ds (owed 4 (jump q t))
 
+-- with some state an entry of this key is owed, asked for by this rule
 abbrev pub OwesEntry : List Owed → ℕ → Key → Type 0
 OwesEntry ds rule key = (t : State) × Contains ds (owed rule (enter key t))
 
@@ -168,6 +176,7 @@ pub record IsEdgeOwed (image : ImageData) (plan : PlanData) (cert : CertData) (m
   pub code : IsCode image plan m.pc shape size
   pub owed : IsOwed (duties_of (limits_in plan cert) image plan f.key m.pc point.state shape size) f.key e.irq (f ∷ fs) (step m e).pc (way_of_step m e)
 
+-- there is a newest frame, and the step's edge is among its duties or the return
 abbrev pub EdgeOwed : ImageData → PlanData → CertData → Machine → Event → List Standing → Type 0
 EdgeOwed image plan cert m e [] = ⊥
 EdgeOwed image plan cert m e (f ∷ fs) = IsEdgeOwed image plan cert m e f fs

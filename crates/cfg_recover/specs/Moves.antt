@@ -89,6 +89,7 @@ pub record Moved (b : Limits) (image : ImageData) (plan : PlanData) (key : Key) 
   pub owes : Contains (duties_of b image plan key m.pc s shape n) (owed 4 (jump (does m e shape n).pc state))
   pub moves : MovesTo image plan m (does m e shape n) s state
 
+-- at every point: a step that stays in its frame, without interrupt or trap
 abbrev pub MovesInFrame : Type 0
 MovesInFrame =
     (b : Limits) (image : ImageData) (plan : PlanData) (key : Key) (m : Machine) (e : Event) (s : State) (shape : Shape) (n : ℕ)
@@ -107,6 +108,7 @@ pub record CallOwed (b : Limits) (image : ImageData) (plan : PlanData) (key : Ke
   pub entered : Contains (duties_of b image plan key m.pc s (Call to) n) (owed 5 (enter (call_key key (target_of m to)) (call_entry s)))
   pub back : Contains (duties_of b image plan key m.pc s (Call to) n) (owed 4 (resume (call_key key (target_of m to)) (moved m.pc n)))
 
+-- at every point with a call
 abbrev pub CallsOwed : Type 0
 CallsOwed =
     (b : Limits) (image : ImageData) (plan : PlanData) (key : Key) (m : Machine) (s : State) (to : Target) (n : ℕ)

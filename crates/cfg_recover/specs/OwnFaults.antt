@@ -29,6 +29,7 @@ abbrev pub StoresInRangeAt : PlanData → Val → Shape → Type 0
 StoresInRangeAt plan at (Store src base offset size after) = AreStoresInRange plan at size
 StoresInRangeAt plan at _ = Unit {0}
 
+-- rule 10: the address is a multiple of the size, or the plan states the misaligned trap
 abbrev pub MayAccessAt : PlanData → Val → Shape → Type 0
 MayAccessAt plan at (Load dst base offset size signed after) = (are_aligned at size ≡ true) ⊎ (plan.aln ≡ true)
 MayAccessAt plan at (Store src base offset size after) = (are_aligned at size ≡ true) ⊎ (plan.aln ≡ true)

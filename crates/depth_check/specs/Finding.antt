@@ -25,9 +25,11 @@ pub record IsWellNode (node : NodeData) : Type 0 where
 abbrev pub IsWellJump : Option Jump → Type 0
 IsWellJump jump = IfSome jump (λ j. AreWell (j.state).regs)
 
+-- the same for an entry
 abbrev pub IsWellEnter : Option Enter → Type 0
 IsWellEnter entered = IfSome entered (λ e. AreWell (e.state).regs)
 
+-- the same for all that a flow tells
 pub record IsWellFlow (f : Flow) : Type 0 where
   pub jumps : All IsWellJump f.jumps
   pub enter : IsWellEnter f.enter
@@ -62,6 +64,7 @@ pub record DutyHolds (cert : CertData) (node : NodeData) (s : State) (q : ℕ) (
   pub met : d.rule ≡ q → IsMet cert node s d.duty
   pub need : q ≡ 14 → IsNeedAbove cert node s d.duty
 
+-- what rule q asks of each of these duties
 abbrev pub DutiesHold : CertData → NodeData → State → List Owed → ℕ → Type 0
 DutiesHold cert node s duties q = All (DutyHolds cert node s q) duties
 
@@ -69,6 +72,7 @@ DutiesHold cert node s duties q = All (DutyHolds cert node s q) duties
 abbrev pub HasPoints : NodeData → State → List ℕ → Type 0
 HasPoints node s targets = All (λ t. HasPoint node t s) targets
 
+-- the node has points for a told jump, if there is one
 abbrev pub IsJumpMet : NodeData → Option Jump → Type 0
 IsJumpMet node jump = IfSome jump (λ j. HasPoints node j.state j.targets.items)
 

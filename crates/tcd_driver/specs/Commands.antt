@@ -14,6 +14,7 @@ pub record RunNames : Type 0 where
   pub plan : List ℕ
   pub script : List ℕ
 
+-- a command and the files that it names
 pub data Command : Type 0 where
   check : CheckNames → Command
   run : RunNames → Command

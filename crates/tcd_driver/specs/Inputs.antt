@@ -51,15 +51,19 @@ StopsWith IsText MayFail outcome.NoMemory = Unit {0}
 abbrev pub IsLong : Option Map → List ℕ → ℕ → List ℕ → List ℕ → Type 0
 IsLong held name limit line text = IsTooLong held name limit × (text ≡ line)
 
+-- bytes that are no image, and the line that says why
 abbrev pub IsBadImage : List ℕ → List ℕ → Type 0
 IsBadImage bytes text = (e : ImageErr) × (image_of bytes ≡ Err e) × (text ≡ elf_line e)
 
+-- bytes that are no plan, and the line that says why
 abbrev pub IsBadPlan : List ℕ → List ℕ → Type 0
 IsBadPlan bytes text = (e : PlanErr) × Answers bytes (Err e) × (e ≢ plan.NoMemory) × (text ≡ plan_line e)
 
+-- bytes that are no certificate, and the line that says why
 abbrev pub IsBadCert : List ℕ → List ℕ → Type 0
 IsBadCert bytes text = (e : FormErr) × (certificate_of bytes ≡ Err e) × (text ≡ cert_line e)
 
+-- bytes that are no script for this plan, and the line that says why
 abbrev pub IsBadScript : PlanData → List ℕ → List ℕ → Type 0
 IsBadScript plan bytes text = (e : ScriptErr) × (script_of plan bytes ≡ Err e) × (text ≡ script_line e)
 
@@ -82,6 +86,7 @@ pub data Judged (image : ImageData) (plan : PlanData) (cert : CertData) : Status
       Accepts image plan cert → Safe image plan (certified_need image plan cert)
       → Judged image plan cert status.Done (certified_line (certified_need image plan cert) (plan.areas - plan.reserve))
 
+-- what is said is the verdict, and nothing is written, unless memory ran out
 abbrev pub IsVerdict : ImageData → PlanData → CertData → Outcome → Type 0
 IsVerdict image plan cert (outcome.Says s text writes) = Judged image plan cert s text.items × (writes.items ≡ [])
 IsVerdict image plan cert outcome.Unread = ⊥
@@ -91,6 +96,7 @@ IsVerdict image plan cert outcome.NoMemory = Unit {0}
 pub data Driven (image : ImageData) (plan : PlanData) (script : ScriptData) : Status → List ℕ → Type 0 where
   driven : (m : Machine) → StartsInZeros image plan m → Driven image plan script status.Done (told_run plan script m)
 
+-- what is said is of a run from the start, and nothing is written, unless memory ran out
 abbrev pub IsRun : ImageData → PlanData → ScriptData → Outcome → Type 0
 IsRun image plan script (outcome.Says s text writes) = Driven image plan script s text.items × (writes.items ≡ [])
 IsRun image plan script outcome.Unread = ⊥

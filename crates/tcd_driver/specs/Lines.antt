@@ -48,6 +48,7 @@ bad_words_line = codes "bad words" ++ 10 ∷ []
 unfoldable pub at_one : ℕ → List ℕ
 at_one i = codes " at " ++ (decimal i ++ 10 ∷ [])
 
+-- two numbers
 unfoldable pub at_two : ℕ → ℕ → List ℕ
 at_two i j = codes " at " ++ (decimal i ++ (codes " " ++ (decimal j ++ 10 ∷ [])))
 
@@ -59,6 +60,7 @@ at_key key = codes " key " ++ (unwrap_or (slice_get key_texts key.0) [] ++ 10 �
 unfoldable pub long_elf_line : List ℕ
 long_elf_line = codes "bad elf 0" ++ 10 ∷ []
 
+-- by the fault, 1 to 7
 unfoldable pub elf_line : ImageErr → List ℕ
 elf_line elf.Short = codes "bad elf 1" ++ 10 ∷ []
 elf_line elf.NotElf32Le = codes "bad elf 2" ++ 10 ∷ []
@@ -73,6 +75,7 @@ elf_line elf.NoMemory = []
 unfoldable pub long_plan_line : List ℕ
 long_plan_line = codes "bad plan 0" ++ 10 ∷ []
 
+-- by the fault, 1 to 8
 unfoldable pub plan_line : PlanErr → List ℕ
 plan_line plan.NotJson = codes "bad plan 1" ++ 10 ∷ []
 plan_line (plan.Missing key) = codes "bad plan 2" ++ at_key key
@@ -88,6 +91,7 @@ plan_line plan.NoMemory = []
 unfoldable pub long_cert_line : List ℕ
 long_cert_line = codes "bad cert 0" ++ 10 ∷ []
 
+-- by the fault and its place in the file, in bytes
 unfoldable pub cert_line : FormErr → List ℕ
 cert_line e = codes "bad cert " ++ (decimal e.kind ++ at_one e.at)
 
@@ -103,6 +107,7 @@ certified_line need areas = codes "certified " ++ (decimal need ++ (codes " of "
 unfoldable pub long_script_line : List ℕ
 long_script_line = codes "bad script 0" ++ 10 ∷ []
 
+-- by the fault and its line
 unfoldable pub script_line : ScriptErr → List ℕ
 script_line (script.BadLine n) = codes "bad script 1" ++ at_one n
 script_line (script.NoSource n) = codes "bad script 2" ++ at_one n
