@@ -123,9 +123,9 @@ def executable(segments):
     return ident + struct.pack("<HHIIIIIHHHHHH", 2, 44, 1, ROM, 52, 0, 0, 52, 32, len(segments), 0, 0, 0) + heads + data
 
 
-def plan(stack, irqs):
+def plan(stack, irqs, rom=0x100000):
     return json.dumps({
-        "rom": [{"at": ROM, "len": 0x100000}], "ram": [{"at": RAM, "len": 0x8000}], "devices": [],
+        "rom": [{"at": ROM, "len": rom}], "ram": [{"at": RAM, "len": 0x8000}], "devices": [],
         "csa": {"at": AREAS, "areas": 64, "reserve": 2}, "sp": stack, "isp": ISP, "biv": VECTORS, "btv": VECTORS + 0x8000,
         "irqs": list(irqs), "traps": [], "start": {"ie": int(len(irqs) > 0), "ccpn": 0, "is": 0},
         "globals": {"a0": 0, "a1": 0, "a8": 0, "a9": 0}})

@@ -1,11 +1,11 @@
 #!/usr/bin/env python3
 """Makes an executable, a plan and two scripts for `run`.
 
-    run.py DIRECTORY DEPTH
+    run.py DIRECTORY DEPTH [ROM]
 
-writes image.elf, plan.json, and the scripts 50000 and 100000 of so many turns into the directory. The program calls DEPTH
-functions, each from the one before, and then goes round without an end: a call, a load of a word, a sum, a store of a word, a
-return and a jump. So DEPTH or DEPTH + 1 areas are in use.
+writes image.elf, plan.json, and the scripts 50000 and 100000 of so many turns into the directory; the plan's rom has ROM bytes
+(1,048,576). The program calls DEPTH functions, each from the one before, and then goes round without an end: a call, a load of
+a word, a sum, a store of a word, a return and a jump. So DEPTH or DEPTH + 1 areas are in use.
 """
 import sys
 
@@ -22,10 +22,10 @@ def program(depth):
     return [(ROM, code), (leaf, body)]
 
 
-def main(directory, depth):
+def main(directory, depth, rom=0x100000):
     files = {
         "image.elf": executable(program(int(depth))),
-        "plan.json": plan(0xD0018000, []).encode(),
+        "plan.json": plan(0xD0018000, [], int(rom)).encode(),
         "50000": b"step 50000\n",
         "100000": b"step 100000\n",
     }

@@ -17,21 +17,18 @@ import run
 from counting import instructions
 
 program, work = sys.argv[1:]
-for depth in (0, 8, 32):
-    where = f"{work}/{depth}"
+for depth, rom in ((0, 0x8000), (0, 0x100000), (8, 0x100000), (32, 0x100000)):
+    where = f"{work}/{depth}-{rom}"
     os.mkdir(where)
-    run.main(where, depth)
-    for short_copies in (False, True):
-        counts = []
-        for events in ("50000", "100000"):
-            total, printed, tops = instructions(
-                [program, "run", f"{where}/image.elf", f"{where}/plan.json", f"{where}/{events}"],
-                short_copies=short_copies, top=14)
-            assert printed == f"events {events} peak {depth + 1} running", printed
-            counts.append(total)
-        print(f"depth {depth}, copies by {'vectors' if short_copies else 'bytes'}: {counts[0]}, {counts[1]},",
-              f"growth {counts[1] / counts[0]:.3f}, an event {(counts[1] - counts[0]) / 50000:.1f}", flush=True)
-    print("    most instructions (copies by vectors):")
+    run.main(where, depth, rom)
+    counts = []
+    for events in (50000, 100000):
+        command = [program, "run", f"{where}/image.elf", f"{where}/plan.json", f"{where}/{events}"]
+        total, printed, tops = instructions(command, top=10)
+        assert printed == f"events {events} peak {depth + 1} running", printed
+        counts.append(total)
+    print(f"depth {depth}, {rom} bytes of rom: {counts[0]}, {counts[1]}, growth {counts[1] / counts[0]:.3f},",
+          f"an event {(counts[1] - counts[0]) / 50000:.1f}; most instructions:", flush=True)
     for row in tops:
         print("   ", row)
 MEASURE
