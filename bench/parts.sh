@@ -17,8 +17,8 @@ echo "parts_bench: depth_cert value_domain tcd_plan tcd_base arrayvec serde_json
 cp "$top/HANDLES" "$work/"
 cat >"$work/crates/parts_bench/src/main.rt" <<'PROGRAM'
 // Does what the first byte of standard input says with the bytes after it: r reads a certificate, w reads and writes it;
-// j joins two Sets of so many words (a byte) so many thousand times (a byte) under the plan that follows, b only makes
-// the Sets.
+// j joins two Sets of so many words (a byte), of which each word lies between two of the other Set, so many thousand
+// times (a byte), under the plan that follows.
 #![tactic(auto)]
 
 use depth_cert::Cert;
@@ -69,7 +69,11 @@ fn join_words(alloc: Global, input: &[u8]) -> io::Result<usize> {
     }
     let even = words_from(alloc, 0, input[0])?;
     let odd = words_from(alloc, 1, input[0])?;
-    match Plan::read(alloc, &input[2..]) {
+    let text = &input[2..];
+    if text.len() > 1073741824 {
+        return Ok(0);
+    }
+    match Plan::read(alloc, text) {
         Ok(plan) => Ok(joined(&plan, even.as_slice(), odd.as_slice(), times(input[1]))),
         Err(_) => Ok(0),
     }
@@ -107,3 +111,5 @@ fn main(rt: HostRuntime) -> io::Result<()> {
     println!(rt; "{answer}")
 }
 PROGRAM
+(cd "$work/crates/parts_bench" && rt run </dev/null >"$work/log" 2>&1) || { cat "$work/log"; exit 1; }
+PYTHONDONTWRITEBYTECODE=1 PYTHONPATH=$top/bench python3 "$top/bench/parts.py" "$work/crates/parts_bench/out/parts_bench" "$work"
