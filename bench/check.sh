@@ -61,7 +61,7 @@ for shape in ("functions", "line", "interrupts"):
     print("    most instructions with", POINTS[1], "points:")
     for row in tops:
         print("   ", row)
-growths("check, copies by bytes,", "functions", command, POINTS[:2])
+growths("check, copies by bytes,", "functions", command, (500, 1000))
 for shape in ("line", "functions"):
     accepted, refused = (heap(command(shape, POINTS[0], accepted)) for accepted in (True, False))
     print(f"{shape} {POINTS[0]}: heap {accepted}, refused at rule 1 {refused}", flush=True)
