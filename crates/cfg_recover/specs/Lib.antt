@@ -1,4 +1,5 @@
 pub mod Accepting
+pub mod Assignments
 pub mod Code
 pub mod Duties
 pub mod Entries
@@ -9,3 +10,4 @@ pub mod Frames
 pub mod Moves
 pub mod Own
 pub mod OwnFaults
+pub mod Refusals

@@ -1,0 +1,149 @@
+-- Assignments: what is known at the points and exits of frames, without needs. The least closed one is what the certificate
+-- maker looks for; a certificate that is accepted is a closed one.
+use Rattle.std.specs.Prelude.{◌≡◌, ℕ, Bool, false, ◌==◌, ◌&&◌, ◌||◌, if◌then◌else◌, min, List, find, Option, Some, None, option_map, option_and_then, Contains}
+use Rattle.elf_image.specs.Images.{ImageData}
+use Rattle.tcd_plan.specs.PlanData.{PlanData}
+use Rattle.tc_isa.specs.declared.shapes.Shape.{Shape}
+use Rattle.value_domain.specs.declared.states.State.{State}
+use Rattle.value_domain.specs.Limits.{Limits}
+use Rattle.value_domain.specs.State.{Covers, joined, joined_regs}
+use Rattle.depth_cert.specs.declared.keys.Key.{Key}
+use Rattle.depth_cert.specs.declared.points.Exit.{Exit}
+use Rattle.depth_cert.specs.Keys.{byte_of}
+use Rattle.depth_cert.specs.Points.{find_point}
+use Rattle.depth_cert.specs.Nodes.{NodeData}
+use Rattle.depth_cert.specs.Certs.{CertData}
+use Rattle.cfg_recover.specs.Code.{IsCode}
+use Rattle.cfg_recover.specs.Entries.{start_key, start_state, after_of}
+use Rattle.cfg_recover.specs.Own.{IsFaultless}
+use Rattle.cfg_recover.specs.Duties.{Duty, jump, enter, resume, leave, Owed, duties_of}
+use Rattle.cfg_recover.specs.Accepting.{ExitCovers}
+
+-- a place of a frame: the point at an address, or its exit
+pub data Place : Type 0 where
+  point : Key → ℕ → Place
+  exit : Key → Place
+
+-- what is known at a place
+pub data Known : Type 0 where
+  state : State → Known
+  leaving : Exit → Known
+
+-- what is known at each place where anything is
+abbrev pub Assignment : Type 0
+Assignment = Place → Option Known
+
+-- one key
+abbrev pub same_key : Key → Key → Bool
+same_key k j = k.kind == j.kind && k.entry == j.entry && k.prio == j.prio && byte_of k.is == byte_of j.is
+
+-- one place
+abbrev pub same_place : Place → Place → Bool
+same_place (point k p) (point j q) = same_key k j && p == q
+same_place (exit k) (exit j) = same_key k j
+same_place (point k p) (exit j) = false
+same_place (exit k) (point j q) = false
+
+-- what a node says of a place of its own frame
+abbrev pub known_at : Place → NodeData → Option Known
+known_at (point k p) n = option_map (λ q. state q.state) (find_point p n.points)
+known_at (exit k) n = option_map leaving n.exit
+
+-- the frame of a place
+abbrev pub frame_of : Place → Key
+frame_of (point k p) = k
+frame_of (exit k) = k
+
+-- what a certificate says, but for its needs
+abbrev pub known_in : CertData → Assignment
+known_in cert y = option_and_then (known_at y) (find (λ n. same_key n.key (frame_of y)) cert.nodes)
+
+-- what is known covers something of its kind
+abbrev pub CoversKnown : Known → Known → Type 0
+CoversKnown (state u) (state s) = Covers u s
+CoversKnown (leaving y) (leaving x) = ExitCovers y x
+CoversKnown (state u) (leaving x) = ⊥
+CoversKnown (leaving y) (state s) = ⊥
+
+-- an assignment has something at a place that covers this
+pub record CoversAt (a : Assignment) (y : Place) (v : Known) : Type 0 where
+  pub known : Known
+  pub at : a y ≡ Some known
+  pub covers : CoversKnown known v
+
+-- an assignment is below another, which has all its places and covers them
+abbrev pub IsBelowAt : Assignment → Assignment → Type 0
+IsBelowAt a upper = (y : Place) (v : Known) → a y ≡ Some v → CoversAt upper y v
+
+-- the least exit that covers both
+abbrev pub joined_exit : Limits → Exit → Exit → Exit
+joined_exit b x y = record { ie = x.ie || y.ie; ccpn = min x.ccpn y.ccpn; lower = joined_regs b x.lower y.lower }
+
+-- the least that covers both; none for states with unequal numbers of locals
+abbrev pub joined_known : Limits → Known → Known → Option Known
+joined_known b (state s) (state t) = option_map state (joined b s t)
+joined_known b (leaving x) (leaving y) = Some (leaving (joined_exit b x y))
+joined_known b (state s) (leaving y) = None
+joined_known b (leaving x) (state t) = None
+
+-- the same, where nothing may be known yet
+abbrev pub raised : Limits → Option Known → Known → Option Known
+raised b None v = Some v
+raised b (Some w) v = joined_known b w v
+
+-- where a frame goes on after one that it entered, with the state after that one's exit; nowhere while no exit is known
+abbrev pub resumed : Key → State → Key → ℕ → Option Known → Option (Place × Known)
+resumed key s k q (Some (leaving x)) = Some (point key q, state (after_of s x k.kind))
+resumed key s k q (Some (state t)) = None
+resumed key s k q None = None
+
+-- what a duty of a frame's point asks for, and where
+abbrev pub asked : Assignment → Key → State → Duty → Option (Place × Known)
+asked a key s (jump q t) = Some (point key q, state t)
+asked a key s (enter k t) = Some (point k k.entry, state t)
+asked a key s (resume k q) = resumed key s k q (a (exit k))
+asked a key s (leave x) = Some (exit key, leaving x)
+
+-- one duty of a point without a fault of its own
+pub record HasDuty (b : Limits) (image : ImageData) (plan : PlanData) (a : Assignment) (key : Key) (p : ℕ) (s : State) (d : Duty) : Type 0 where
+  pub at : a (point key p) ≡ Some (state s)
+  pub faultless : IsFaultless b image plan key p s
+  pub shape : Shape
+  pub size : ℕ
+  pub code : IsCode image plan p shape size
+  pub owed : Owed
+  pub listed : Contains (duties_of b image plan key p s shape size) owed
+  pub is : owed.duty ≡ d
+
+-- some point of the assignment asks for this at the place y
+pub record Asks (b : Limits) (image : ImageData) (plan : PlanData) (a : Assignment) (y : Place) (v : Known) : Type 0 where
+  pub key : Key
+  pub addr : ℕ
+  pub before : State
+  pub duty : Duty
+  pub has : HasDuty b image plan a key addr before duty
+  pub asks : asked a key before duty ≡ Some (y, v)
+
+-- one joining: what a duty asks for is joined into its place
+pub record Joins (b : Limits) (image : ImageData) (plan : PlanData) (a after : Assignment) (y : Place) : Type 0 where
+  pub value : Known
+  pub asks : Asks b image plan a y value
+  pub known : Known
+  pub raises : raised b (a y) value ≡ Some known
+  pub is : (x : Place) → after x ≡ (if same_place x y then Some known else a x)
+
+-- the place where a run starts
+abbrev pub first_place : ImageData → PlanData → Place
+first_place image plan = point (start_key image plan) image.entry
+
+-- reached from the start point alone by joinings
+pub data Derived (b : Limits) (image : ImageData) (plan : PlanData) : Assignment → Type 0 where
+  begins :
+      (a : Assignment) → ((x : Place) → a x ≡ (if same_place x (first_place image plan) then Some (state (start_state plan)) else None))
+      → Derived b image plan a
+  joins : (a after : Assignment) (y : Place) → Derived b image plan a → Joins b image plan a after y → Derived b image plan after
+
+-- the start state and all that duties ask for is covered
+pub record Closed (b : Limits) (image : ImageData) (plan : PlanData) (a : Assignment) : Type 0 where
+  pub start : CoversAt a (first_place image plan) (state (start_state plan))
+  pub duties : (y : Place) (v : Known) → Asks b image plan a y v → CoversAt a y v
