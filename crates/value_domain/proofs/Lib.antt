@@ -4,6 +4,7 @@ pub mod CoverLaws
 pub mod ExtentLaws
 pub mod Loops
 pub mod PutLaws
+pub mod MergeLaws
 pub mod RangeLaws
 pub mod RegLaws
 pub mod JoinLaws

@@ -18,10 +18,13 @@ pub among_place : (xs : List ℕ) (x : ℕ) → Among x xs → (k : ℕ) × (k <
 among_place [] x i = absurd i
 among_place (y ∷ ys) x i = elim i [ inl e ↦ (0, omega arith, sym e) | inr j ↦ let r = among_place ys x j in (suc r.0, omega arith, r.2) ]
 
-pub words_from : (xs : List ℕ) → 1 ≤ length xs → length xs ≤ 128 → IsStrictlyIncreasing xs → ((k : ℕ) → get_or xs k 0 < 2 ^ 32) → AreWords xs
-words_from xs some few ascend below = record {
+pub words_rising : (xs : List ℕ) → 1 ≤ length xs → length xs ≤ 128 → Rising xs → ((k : ℕ) → get_or xs k 0 < 2 ^ 32) → AreWords xs
+words_rising xs some few rises below = record {
   some = some;
   few = few;
-  rising = rising_from xs ascend;
+  rising = rises;
   below = λ x i. let r = among_place xs x i in subst (λ (n : ℕ). n < 2 ^ 32) r.2 (below r.0);
 }
+
+pub words_from : (xs : List ℕ) → 1 ≤ length xs → length xs ≤ 128 → IsStrictlyIncreasing xs → ((k : ℕ) → get_or xs k 0 < 2 ^ 32) → AreWords xs
+words_from xs some few ascend below = words_rising xs some few (rising_from xs ascend) below

@@ -2,6 +2,7 @@ pub mod Ends
 pub mod Floors
 pub mod Laws
 pub mod Limits
+pub mod Merging
 pub mod Sets
 pub mod State
 pub mod StateLaws

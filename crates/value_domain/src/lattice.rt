@@ -1,6 +1,7 @@
 // The least value that holds a set.
 ghost use Rattle.std.specs.Prelude.{◌≡◌, ◌==◌, ◌≤◌, ◌<◌, ◌+◌, ◌-◌, ◌*◌, ◌/◌, ◌^◌, IsTrue, length, min, max, [], ◌∷◌, ◌++◌, List, ℕ, ◌↔◌};
-ghost use Rattle.value_domain.specs.Sets.{AreWords, Among, Within, least, greatest, step_of};
+ghost use Rattle.value_domain.specs.Values as values;
+ghost use Rattle.value_domain.specs.Sets.{AreWords, Among, Within, Rising, least, greatest, step_of};
 ghost use Rattle.value_domain.specs.Sets as sets;
 ghost use Rattle.std.specs.List.{list_any};
 ghost use Rattle.value_domain.specs.Floors.{floor, above};
@@ -8,6 +9,7 @@ ghost use Rattle.value_domain.specs.Limits.{AreLimits};
 ghost use Rattle.value_domain.specs.Values.{IsMember, IsWell, IsValue, IsBelow, IsExtent, cover, members, range, count_in, first_in};
 ghost use Rattle.value_domain.specs.declared.values.Val.TheVariants.{Set, Span};
 
+use crate::merging::merged;
 use crate::{Bounds, Val, Words};
 
 /// The least and the greatest member of a value, and its step.
@@ -172,9 +174,32 @@ pub fn join(b: &Bounds, v: &Val, w: &Val) -> Val
 {
     let _width = b.width();
     match w {
-        Val::Set(words) => with_words(b, v.copy(), words.as_slice()),
+        Val::Set(words) => join_set(b, v, words),
         Val::Span { lo, last, step } => join_span(b, v, *lo, *last, *step),
     }
+}
+
+fn join_set(b: &Bounds, v: &Val, words: &Words) -> Val
+    requires left { IsValue b.now v.now }
+    requires right { IsValue b.now (Set words.now) }
+    ensures { result ≡ cover b.now (members v.now ++ words.now) }
+{
+    match v {
+        Val::Set(own) => value_of(b, merged(own.as_slice(), words.as_slice()).as_slice()),
+        Val::Span { .. } => with_words(b, v.copy(), words.as_slice()),
+    }
+}
+
+/// The least value that holds an ascending list of words.
+fn value_of(b: &Bounds, words: &[u32]) -> Val
+    requires some { 1 ≤ length words.now }
+    requires rising { Rising words.now }
+    ensures { result ≡ values.value_of b.now words.now }
+{
+    if words.len() <= b.width() {
+        return Val::Set(Words::held(words));
+    }
+    span(b, words[0], words[words.len() - 1], least_step(words))
 }
 
 fn join_span(b: &Bounds, v: &Val, lo: u32, last: u32, step: u8) -> Val

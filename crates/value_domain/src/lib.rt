@@ -4,6 +4,7 @@
 mod lattice;
 mod laws;
 mod limits;
+mod merging;
 mod states;
 mod values;
 

@@ -45,6 +45,16 @@ impl Words {
         Some(Words { words: copy })
     }
 
+    /// The words, which are a set written out.
+    pub(crate) fn held(words: &[u32]) -> Words
+        requires { AreWords words.now }
+        ensures { result ≡ words.now }
+    {
+        Words {
+            words: vec_of(words),
+        }
+    }
+
     pub fn as_slice(&self) -> &[u32]
         ensures items { result.now ≡ self.now }
         ensures words { AreWords self.now }
