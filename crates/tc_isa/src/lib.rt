@@ -15,9 +15,10 @@ mod used;
 mod writing;
 
 pub use arithmetic::{alu, taken};
+pub use bounds::bounds_of;
 pub use fields::{Fields, Uses};
 pub use instruction::Inst;
-pub use making::inst;
+pub use making::{inst, parts_differ};
 pub use shapes::{Arg, Cond, Op, Shape, Target};
 pub use shaping::{shape, shape_laws};
 pub use table::{Form, Row, rows};

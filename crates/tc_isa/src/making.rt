@@ -57,7 +57,7 @@ fn is_zero_elsewhere(uses: &Uses, f: &Fields) -> bool
 }
 
 /// Whether the row may have these registers: a post-increment of an address register isn't of the base itself.
-fn parts_differ(row: &Row, f: &Fields) -> bool
+pub fn parts_differ(row: &Row, f: &Fields) -> bool
     ensures { result ≡ is_apart (row_of row.now) f.now }
 {
     !((row.op1 == 9 || row.op1 == 137) && row.op2 == 6) || f.s1 != f.s2

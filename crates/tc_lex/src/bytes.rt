@@ -9,8 +9,9 @@ pub(crate) fn is_digit(c: u8) -> bool
     b'0' <= c && c <= b'9'
 }
 
+/// A digit, A to F, a to f.
 #[tactic(auto, unfolding(crate::specs::Bytes::is_hex))]
-pub(crate) fn is_hex(c: u8) -> bool
+pub fn is_hex(c: u8) -> bool
     ensures { result ≡ is_hex c }
 {
     is_digit(c) || (b'A' <= c && c <= b'F') || (b'a' <= c && c <= b'f')

@@ -8,5 +8,6 @@ mod kinds;
 #[cfg(test)]
 mod tests;
 
+pub use bytes::is_hex;
 pub use cutting::tokens;
 pub use kinds::{Front, Token, TokenKind};
