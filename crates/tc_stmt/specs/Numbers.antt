@@ -1,0 +1,24 @@
+-- The numbers that tokens spell.
+use Rattle.std.specs.Prelude.{ℕ, ◌+◌, ◌-◌, ◌*◌, ◌^◌, nat_lt, nat_le, Bool, if◌then◌else◌, List, drop, Option, Some, None, fold, option_and_then}
+use Rattle.tc_lex.specs.Bytes.{is_digit}
+use Rattle.tc_lex.specs.Cut.{has_hex_front}
+
+-- the number that a digit of either base stands for
+unfoldable pub digit_of : ℕ → ℕ
+digit_of c = if is_digit c then c - 48 else (c - 55) - (if nat_le 97 c then 32 else 0)
+
+-- a number below 2^128; no field is as wide
+abbrev pub bounded : ℕ → Option ℕ
+bounded n = if nat_lt n (2 ^ 128) then Some n else None
+
+-- one digit more
+unfoldable pub add_digit : ℕ → Option ℕ → ℕ → Option ℕ
+add_digit base o c = option_and_then (λ n. bounded (n * base + digit_of c)) o
+
+-- the number that these digits spell, where it is below 2^128
+abbrev pub digits_of : ℕ → List ℕ → Option ℕ
+digits_of base text = fold (add_digit base) (Some 0) text
+
+-- the number of a token: hexadecimal behind `0x`, else decimal
+unfoldable pub number_of : List ℕ → Option ℕ
+number_of text = if has_hex_front text then digits_of 16 (drop 2 text) else digits_of 10 text

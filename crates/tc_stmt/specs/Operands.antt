@@ -1,0 +1,103 @@
+-- The forms of operands.
+use Rattle.std.specs.Prelude.{◌≡◌, ℕ, ◌+◌, ◌-◌, ◌^◌, ◌==◌, ◌&&◌, not, Bool, true, false, if◌then◌else◌, List, [], ◌∷◌, length, codes, Option, Some, None, map, unwrap_or}
+use Rattle.std.specs.Option.{option_map_or}
+use Rattle.std.specs.List.{slice_split}
+use Rattle.std.specs.Str.{bytes_eq}
+use Rattle.tc_lex.specs.declared.kinds.TokenKind.TheVariants as kind
+use Rattle.tc_stmt.specs.declared.values.Shape.{Shape}
+use Rattle.tc_stmt.specs.declared.values.Shape.TheVariants as shape
+use Rattle.tc_stmt.specs.declared.values.Value.{Value}
+use Rattle.tc_stmt.specs.declared.values.Operand.{Operand}
+use Rattle.tc_stmt.specs.Pieces.{PieceData, is_kind, text_at, kind_index}
+use Rattle.tc_stmt.specs.Numbers.{number_of}
+
+-- a value without where its name lies
+pub record ValueData : Type 0 where
+  pub shape : Shape
+  pub name : List ℕ
+  pub minus : Bool
+  pub size : ℕ
+
+abbrev pub value_of : Value → ValueData
+value_of v = record { shape = v.shape; name = v.name.now; minus = v.minus; size = v.size }
+
+pub record OperandData : Type 0 where
+  pub is_memory : Bool
+  pub plus : Bool
+  pub base : List ℕ
+  pub value : ValueData
+
+abbrev pub operand_of : Operand → OperandData
+operand_of o = record { is_memory = o.is_memory; plus = o.plus; base = o.base.now; value = value_of o.value }
+
+abbrev pub value : Shape → List ℕ → Bool → ℕ → ValueData
+value s name minus size = record { shape = s; name = name; minus = minus; size = size }
+
+abbrev pub bad : ValueData
+bad = value shape.Bad [] false 0
+
+-- a number with an optional `-` from this place to the end: whether there is the `-`, and the number where it is below 2^128
+unfoldable pub number_at : List PieceData → ℕ → Option (Bool × Option ℕ)
+number_at ps at =
+    if is_kind ps at kind.Number && length ps == at + 1 then Some (false, number_of (text_at ps at))
+    else (if is_kind ps at kind.Minus && is_kind ps (at + 1) kind.Number && length ps == at + 2 then Some (true, number_of (text_at ps (at + 1)))
+    else None)
+
+-- a number by itself
+abbrev pub plain_number : Bool → Option ℕ → ValueData
+plain_number minus (Some n) = value shape.Number [] minus n
+plain_number minus None = value shape.Huge [] minus 0
+
+-- a name with a number added; one of 2^128 or more counts as 2^128 - 1, which is as much too large
+abbrev pub added : Shape → List ℕ → Bool → Option ℕ → ValueData
+added s name minus n = value s name minus (unwrap_or n (2 ^ 128 - 1))
+
+-- a name at this place, with or without a number added
+unfoldable pub sum_at : List PieceData → ℕ → Shape → Shape → ValueData
+sum_at ps at plain summed =
+    if is_kind ps at kind.Word
+    then (if length ps == at + 1 then value plain (text_at ps at) false 0
+    else (if is_kind ps (at + 1) kind.Plus then option_map_or (λ n. added summed (text_at ps at) n.0 n.1) (number_at ps (at + 2)) bad
+    else (if is_kind ps (at + 1) kind.Minus then option_map_or (λ n. added summed (text_at ps at) (not n.0) n.1) (number_at ps (at + 2)) bad
+    else bad)))
+    else bad
+
+-- a half of a symbol, or a symbol
+unfoldable pub named_at : List PieceData → ℕ → ValueData
+named_at ps at =
+    if is_kind ps (at + 1) kind.Colon
+    then (if bytes_eq (text_at ps at) (codes "hi") then sum_at ps (at + 2) shape.High shape.High
+    else (if bytes_eq (text_at ps at) (codes "lo") then sum_at ps (at + 2) shape.Low shape.Low
+    else bad))
+    else sum_at ps at shape.Word shape.Sum
+
+-- a value from this place to the end
+unfoldable pub value_at : List PieceData → ℕ → ValueData
+value_at ps at =
+    if length ps == at then value shape.Absent [] false 0
+    else option_map_or (λ n. plain_number n.0 n.1) (number_at ps at) (named_at ps at)
+
+abbrev pub plain : ValueData → OperandData
+plain v = record { is_memory = false; plus = false; base = []; value = v }
+
+abbrev pub memory : Bool → List ℕ → ValueData → OperandData
+memory plus base v = record { is_memory = true; plus = plus; base = base; value = v }
+
+-- an operand: `[BASE]` or `[BASE+]` and a value, or a value alone
+unfoldable pub operand : List PieceData → OperandData
+operand ps =
+    if is_kind ps 0 kind.Open
+    then (if is_kind ps 1 kind.Word
+    then (if is_kind ps 2 kind.Close then memory false (text_at ps 1) (value_at ps 3)
+    else (if is_kind ps 2 kind.Plus && is_kind ps 3 kind.Close then memory true (text_at ps 1) (value_at ps 4)
+    else plain bad))
+    else plain bad)
+    else plain (value_at ps 0)
+
+abbrev pub is_comma : PieceData → Bool
+is_comma p = kind_index p.kind == 2
+
+-- the operands, parted by commas
+unfoldable pub operands : List PieceData → List OperandData
+operands [] = []
+operands (p ∷ ps) = map operand (slice_split is_comma (p ∷ ps))

@@ -1,0 +1,42 @@
+-- What the operand texts of the rows mean.
+use Rattle.std.specs.Prelude.{◌≡◌, ℕ, ◌==◌, Bool, true, false, if◌then◌else◌, List, [], ◌∷◌, map, codes, drop}
+use Rattle.std.specs.Borrow.{Bor}
+use Rattle.std.specs.List.{slice_split}
+use Rattle.std.specs.Str.{bytes_eq}
+use Rattle.tc_isa.specs.Rows.{RowData, listed}
+use Rattle.tc_stmt.specs.declared.wanting.Field.{Field}
+use Rattle.tc_stmt.specs.declared.wanting.Field.TheVariants.{C, S1, S2, N, K}
+use Rattle.tc_stmt.specs.declared.wanting.Want.{Want}
+use Rattle.tc_stmt.specs.declared.wanting.Want.TheVariants.{Reg, A10, Number, Target, Absolute, Memory}
+
+-- the words of the operand texts
+unfoldable pub want_of : List ℕ → Want
+want_of text =
+    if bytes_eq text (codes "Dc") then Reg false C
+    else (if bytes_eq text (codes "Ac") then Reg true C
+    else (if bytes_eq text (codes "Ds1") then Reg false S1
+    else (if bytes_eq text (codes "As1") then Reg true S1
+    else (if bytes_eq text (codes "Ds2") then Reg false S2
+    else (if bytes_eq text (codes "As2") then Reg true S2
+    else (if bytes_eq text (codes "a10") then A10
+    else (if bytes_eq text (codes "sk") then Number true K
+    else (if bytes_eq text (codes "uk") then Number false K
+    else (if bytes_eq text (codes "sk4") then Number true S2
+    else (if bytes_eq text (codes "uk4") then Number false S2
+    else (if bytes_eq text (codes "n") then Number false N
+    else (if bytes_eq text (codes "T") then Target
+    else (if bytes_eq text (codes "U") then Absolute
+    else (if bytes_eq text (codes "[As2]") then Memory false false
+    else (if bytes_eq text (codes "[As2]sk") then Memory false true
+    else Memory true true)))))))))))))))
+
+abbrev pub without_blank : List ℕ → List ℕ
+without_blank (c ∷ cs) = if c == 32 then cs else (c ∷ cs)
+without_blank [] = []
+
+-- what a row wants: its operand text, parted by commas
+unfoldable pub wants_of : RowData → List Want
+wants_of r = if bytes_eq r.operands [] then [] else map (λ t. want_of (without_blank t)) (slice_split (λ c. c == 44) r.operands)
+
+abbrev pub now_of : Bor (List Want) → List Want
+now_of w = w.now

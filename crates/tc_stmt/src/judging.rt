@@ -1,0 +1,174 @@
+// Which row a statement is.
+ghost use Rattle.std.specs.Prelude.{◌≡◌, ◌<◌, map, option_map, length, slice_index_or as get_or, drop, ◌≤◌, ◌+◌};
+ghost use Rattle.tc_isa.specs.Rows.{row_of, listed};
+ghost use Rattle.tc_stmt.specs.Wants.{wants_of, now_of};
+ghost use Rattle.tc_stmt.specs.Operands.{operand_of};
+ghost use Rattle.tc_stmt.specs.Filling.{found_of, fill_all, nothing, apart, judged};
+ghost use Rattle.tc_stmt.specs.Judging.{start, stepped, outcome, Steps, Judges, statement, rule_of};
+
+use crate::filling::fill;
+use crate::finding::Found;
+use crate::symbols::broken;
+use crate::table::wants;
+use crate::tallying::Tally;
+use crate::values::Operand;
+use crate::wanting::Want;
+use tc_isa::{Fields, Row, parts_differ, rows};
+
+fn make_nothing<'a>() -> Found<'a>
+    ensures { found_of result ≡ nothing }
+{
+    Found {
+        fields: Fields {
+            c: 0,
+            s1: 0,
+            s2: 0,
+            n: 0,
+            k: 0,
+        },
+        rule: 15,
+        reference: None,
+    }
+}
+
+// What the operands from this place on add.
+fn fill_from<'a>(
+    row: &Row,
+    wants: &[Want],
+    os: &[Operand<'a>],
+    i: usize,
+    acc: Found<'a>,
+) -> Option<Found<'a>>
+    requires even { length wants.now ≡ length os.now }
+    requires place { i ≤ length os.now }
+    ensures { option_map found_of result ≡ fill_all (row_of row.now) (drop i wants.now) (drop i (map operand_of os.now)) (found_of acc.entry) }
+{
+    if i == wants.len() {
+        return Some(acc);
+    }
+    match fill(row, wants[i], os[i], acc) {
+        None => None,
+        Some(next) => fill_from(row, wants, os, i + 1, next),
+    }
+}
+
+fn fill_all<'a>(row: &Row, wants: &[Want], os: &[Operand<'a>]) -> Option<Found<'a>>
+    ensures { option_map found_of result ≡ fill_all (row_of row.now) wants.now (map operand_of os.now) nothing }
+{
+    if wants.len() != os.len() {
+        return None;
+    }
+    fill_from(row, wants, os, 0, make_nothing())
+}
+
+fn make_apart<'a>(row: &Row, f: Found<'a>) -> Found<'a>
+    ensures { found_of result ≡ apart (row_of row.now) (found_of f.entry) }
+{
+    if parts_differ(row, &f.fields) {
+        f
+    } else {
+        broken(12, f)
+    }
+}
+
+#[tactic(auto, unfolding(crate::specs::Filling::judged))]
+fn judged<'a>(row: &Row, wants: &[Want], os: &[Operand<'a>]) -> Option<Found<'a>>
+    ensures { option_map found_of result ≡ judged (row_of row.now) wants.now (map operand_of os.now) }
+{
+    match fill_all(row, wants, os) {
+        None => None,
+        Some(f) => Some(make_apart(row, f)),
+    }
+}
+
+#[tactic(auto, unfolding(crate::specs::Judging::stepped))]
+fn step<'a>(
+    row: &Row,
+    wants: &[Want],
+    name: &[u8],
+    os: &[Operand<'a>],
+    so_far: Tally,
+) -> Result<Found<'a>, Tally>
+    requires { wants.now ≡ wants_of (row_of row.now) }
+    ensures { Steps result (stepped name.now (map operand_of os.now) (row_of row.now) so_far) }
+{
+    if row.name.as_bytes() == name {
+        match judged(row, wants, os) {
+            None => Err(Tally {
+                named: true,
+                ..so_far
+            }),
+            Some(f) => {
+                if f.rule == 15 {
+                    Ok(f)
+                } else {
+                    Err(Tally {
+                        named: true,
+                        fits: true,
+                        least: so_far.least.min(f.rule),
+                    })
+                }
+            }
+        }
+    } else {
+        Err(so_far)
+    }
+}
+
+// The row at this place, where it is the one, or what is known after it.
+fn step_at<'a>(
+    rows: &[Row],
+    wants: &[&[Want]],
+    i: usize,
+    name: &[u8],
+    os: &[Operand<'a>],
+    so_far: Tally,
+) -> Result<Found<'a>, Tally>
+    requires wants { map now_of wants.now ≡ map wants_of (map row_of rows.now) }
+    requires place { i < length rows.now }
+    ensures { (d : _) → Steps result (stepped name.now (map operand_of os.now) (get_or (map row_of rows.now) i d) so_far) }
+{
+    step(&rows[i], wants[i], name, os, so_far)
+}
+
+/// The row that a statement is, and what its operands give; or the least rule that it breaks.
+fn judge<'a>(
+    rows: &[Row],
+    wants: &[&[Want]],
+    name: &[u8],
+    os: &[Operand<'a>],
+) -> Result<(u8, Found<'a>), u8>
+    requires wants { map now_of wants.now ≡ map wants_of (map row_of rows.now) }
+    requires few { length rows.now < 256 }
+    ensures { Judges result (outcome name.now (map operand_of os.now) (map row_of rows.now) 0 start) }
+{
+    let mut so_far = Tally {
+        named: false,
+        fits: false,
+        least: 15,
+    };
+    for i in 0..rows.len() {
+        match step_at(rows, wants, i, name, os, so_far) {
+            Ok(f) => return Ok((i as u8, f)),
+            Err(next) => so_far = next,
+        }
+    }
+    Err(rule_of(so_far))
+}
+
+fn rule_of(t: Tally) -> u8
+    ensures { result ≡ rule_of t }
+{
+    if t.named {
+        if t.fits { t.least } else { 3 }
+    } else {
+        2
+    }
+}
+
+/// The same, of the table.
+pub fn statement<'a>(name: &[u8], os: &[Operand<'a>]) -> Result<(u8, Found<'a>), u8>
+    ensures { Judges result (statement name.now (map operand_of os.now)) }
+{
+    judge(rows(), wants(), name, os)
+}

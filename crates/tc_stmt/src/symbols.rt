@@ -1,0 +1,70 @@
+// Names, and symbols in places that take one.
+ghost use Rattle.std.specs.Prelude.{◌≡◌, ◌<◌, ◌^◌, true};
+ghost use Rattle.tc_stmt.specs.Names.{is_name};
+ghost use Rattle.tc_stmt.specs.Operands.{value_of};
+ghost use Rattle.tc_stmt.specs.Filling.{found_of, symbol_rule, broken, with_symbol, misplaced};
+
+use crate::finding::{Found, Reference};
+use crate::pieces::is_text;
+use crate::values::Value;
+use tc_object::name_of;
+
+/// Whether bytes are a name that a source may use: a Word of at most 64 bytes, and no lone `.`.
+#[tactic(auto, unfolding(crate::specs::Names::is_name))]
+pub fn is_name(bytes: &[u8]) -> bool
+    ensures { result ≡ is_name bytes.now }
+{
+    name_of(bytes).is_some() && !is_text(bytes, ".")
+}
+
+/// The least rule that a symbol breaks anywhere; 15 is none.
+#[tactic(auto, unfolding(crate::specs::Filling::symbol_rule))]
+pub fn symbol_rule(v: Value<'_>) -> u8
+    ensures value { result ≡ symbol_rule (value_of v.entry) }
+    ensures small { result ≡ 15 → v.entry.size < 2 ^ 32 }
+{
+    if 0x1_0000_0000 <= v.size {
+        5
+    } else if is_name(v.name) {
+        15
+    } else {
+        9
+    }
+}
+
+pub(crate) fn broken(rule: u8, acc: Found<'_>) -> Found<'_>
+    ensures { found_of result ≡ broken rule (found_of acc.entry) }
+{
+    Found {
+        rule: acc.rule.min(rule),
+        ..acc
+    }
+}
+
+/// A symbol in a place that takes one.
+#[tactic(auto, unfolding(crate::specs::Filling::with_symbol))]
+pub(crate) fn with_symbol<'a>(kind: u8, v: Value<'a>, acc: Found<'a>) -> Found<'a>
+    ensures { found_of result ≡ with_symbol kind (value_of v.entry) (found_of acc.entry) }
+{
+    let rule = symbol_rule(v);
+    if rule != 15 {
+        return broken(rule, acc);
+    }
+    let reference = Reference {
+        kind,
+        name: v.name,
+        minus: v.minus,
+        size: v.size as u32,
+    };
+    Found {
+        reference: Some(reference),
+        ..acc
+    }
+}
+
+/// A symbol where none may stand.
+pub(crate) fn misplaced<'a>(v: Value<'_>, acc: Found<'a>) -> Found<'a>
+    ensures { found_of result ≡ misplaced (value_of v.entry) (found_of acc.entry) }
+{
+    broken(10u8.min(symbol_rule(v)), acc)
+}

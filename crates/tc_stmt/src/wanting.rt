@@ -1,0 +1,23 @@
+// What the operands of a row are.
+
+/// A field of an instruction.
+#[derive(Clone, Copy, Debug, PartialEq, Eq)]
+pub enum Field {
+    C,
+    S1,
+    S2,
+    N,
+    K,
+}
+
+/// What stands at an operand's place: a register of a bank (true: address registers) in a field, the register a10,
+/// a number in a field (true: signed), a target, an absolute address, or `[As2]`, with a `+` and with an offset.
+#[derive(Clone, Copy, Debug, PartialEq, Eq)]
+pub enum Want {
+    Reg(bool, Field),
+    A10,
+    Number(bool, Field),
+    Target,
+    Absolute,
+    Memory(bool, bool),
+}
