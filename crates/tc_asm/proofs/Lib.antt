@@ -1,0 +1,11 @@
+pub mod Passes
+pub mod SymbolLaws
+pub mod PartLaws
+pub mod CodeLaws
+pub mod RelocLaws
+pub mod ListLaws
+pub mod KeptLaws
+pub mod ObjectLaws
+pub mod FinishLaws
+pub mod LoopLaws
+pub mod LaidLaws

@@ -1,0 +1,22 @@
+-- The relocations of sections, one section behind the other.
+use Rattle.std.proofs.Common.{◌≡◌, ◌<◌, ◌≤◌, ◌+◌, ◌++◌, ℕ, List, ◌∷◌, map, length, get_or, drop, ap, sym, ◌∙◌, append_assoc, append-nil}
+use Rattle.std.proofs.lemmas.List.{drop_more, drop_all, length-map, get_or-map}
+use Rattle.tc_object.specs.declared.relocs.Reloc.{Reloc}
+use Rattle.tc_asm.specs.declared.sections.Part.{Part}
+use Rattle.tc_asm.specs.Symbols.{SymbolData}
+use Rattle.tc_asm.specs.Drafts.{PartData}
+use Rattle.tc_asm.specs.Views.{part_of, use_of}
+use Rattle.tc_asm.specs.Objects.{reloc_of, relocs_from}
+
+module _ (ss : List SymbolData) (parts : List Part) (i : ℕ) where
+  pub relocs_more : (d : Part) (out more : List Reloc) → i < length parts → more ≡ out ++ map (reloc_of ss i) (map use_of (get_or parts i d).uses.items)
+      → more ++ relocs_from ss (i + 1) (drop (i + 1) (map part_of parts)) ≡ out ++ relocs_from ss i (drop i (map part_of parts))
+  relocs_more d out more within e =
+      let here : drop i (map part_of parts) ≡ part_of (get_or parts i d) ∷ drop (i + 1) (map part_of parts)
+      = drop_more (map part_of parts) i (part_of d) (rw (length-map parts part_of) within) ∙ ap (λ (p : PartData). p ∷ drop (i + 1) (map part_of parts)) (get_or-map part_of parts i d (part_of d) within) in
+      ap (λ rs. rs ++ relocs_from ss (i + 1) (drop (i + 1) (map part_of parts))) e
+      ∙ append_assoc out (map (reloc_of ss i) (map use_of (get_or parts i d).uses.items)) (relocs_from ss (i + 1) (drop (i + 1) (map part_of parts)))
+      ∙ ap (λ ps. out ++ relocs_from ss i ps) (sym here)
+
+  pub relocs_end : (out : List Reloc) → length parts ≤ i → out ++ relocs_from ss i (drop i (map part_of parts)) ≡ out
+  relocs_end out past = ap (λ ps. out ++ relocs_from ss i ps) (drop_all i (map part_of parts) (rw (length-map parts part_of) past)) ∙ append-nil out

@@ -1,0 +1,46 @@
+-- Symbols in a map, as a list.
+use Rattle.std.proofs.Common.{◌≡◌, ℕ, Bool, true, false, cond, List, [], ◌∷◌, map, Option, Some, refl, ap, sym, ◌∙◌}
+use Rattle.std.specs.Prelude.{find, option_map, slice_get, position}
+use Rattle.std.specs.Borrow.{Bor}
+use Rattle.std.specs.Str.{bytes_eq}
+use Rattle.std.specs.Map.{lookup, keys_of}
+use Rattle.std.proofs.lemmas.Option.{slice_get-map}
+use Rattle.indexmap.specs.IndexMap.{insert_entry}
+use Rattle.tc_stmt.proofs.Mapped.{position-map}
+use Rattle.tc_asm.specs.declared.entries.Entry.{Entry}
+use Rattle.tc_asm.specs.Symbols.{SymbolData, symbol, entry_in, put_entry}
+
+abbrev pub Key : Type 0
+Key = Bor (List ℕ)
+
+abbrev pub same_key : Key → Key → Bool
+same_key x y = bytes_eq x.now y.now
+
+abbrev pub known_of : Key × Entry → SymbolData
+known_of p = record { name = p.0.now; entry = p.1 }
+
+chosen : (b : Bool) (x : SymbolData) (o : Option Entry) (q : Option SymbolData) → o ≡ option_map (λ (s : SymbolData). s.entry) q
+    → cond b (Some x.entry) o ≡ option_map (λ (s : SymbolData). s.entry) (cond b (Some x) q)
+chosen true x o q e = refl
+chosen false x o q e = e
+
+pub lookup-known : (es : List (Key × Entry)) (k : Key) → lookup (same_key k) es ≡ entry_in (map known_of es) k.now
+lookup-known [] k = refl
+lookup-known (e ∷ es) k = chosen (bytes_eq k.now e.0.now) (known_of e) (lookup (same_key k) es) (find (λ s. bytes_eq k.now s.name) (map known_of es)) (lookup-known es k)
+
+put : (b : Bool) (k : Key) (v : Entry) (e : Key × Entry) (es fs : List (Key × Entry)) (ss : List SymbolData) → map known_of fs ≡ ss
+    → map known_of (cond b ((e.0, v) ∷ es) (e ∷ fs)) ≡ cond b (symbol e.0.now v ∷ map known_of es) (known_of e ∷ ss)
+put true k v e es fs ss h = refl
+put false k v e es fs ss h = ap (λ (us : List SymbolData). known_of e ∷ us) h
+
+pub insert-known : (es : List (Key × Entry)) (k : Key) (v : Entry) → map known_of (insert_entry same_key es k v) ≡ put_entry (map known_of es) k.now v
+insert-known [] k v = refl
+insert-known (e ∷ es) k v = put (bytes_eq k.now e.0.now) k v e es (insert_entry same_key es k v) (put_entry (map known_of es) k.now v) (insert-known es k v)
+
+pub position-known : (es : List (Key × Entry)) (k : Key) → position (same_key k) (keys_of es) ≡ position (λ (s : SymbolData). bytes_eq k.now s.name) (map known_of es)
+position-known es k =
+    sym (position-map (same_key k) (λ (e : Key × Entry). e.0) es)
+    ∙ position-map (λ (s : SymbolData). bytes_eq k.now s.name) known_of es
+
+pub at-known : (es : List (Key × Entry)) (i : ℕ) (e : Key × Entry) → slice_get es i ≡ Some e → slice_get (map known_of es) i ≡ Some (known_of e)
+at-known es i e h = slice_get-map known_of es i ∙ ap (option_map known_of) h

@@ -1,0 +1,150 @@
+-- What the lines of a source have put together.
+use Rattle.std.specs.Prelude.{ℕ, ◌+◌, ◌-◌, ◌^◌, ◌==◌, ◌&&◌, not, nat_lt, nat_le, Bool, true, false, if◌then◌else◌, List, [], ◌∷◌, ◌++◌, length, replicate, slice_get, slice_set, Option, Some, None, position, unwrap_or}
+use Rattle.std.specs.Option.{option_map_or}
+use Rattle.std.specs.Str.{bytes_eq}
+use Rattle.tc_isa.specs.declared.fields.Fields.{Fields}
+use Rattle.tc_isa.specs.Rows.{RowData, listed}
+use Rattle.tc_isa.specs.Words.{bounds}
+use Rattle.tc_isa.specs.Codec.{is_below_test, rest_is_zero, uses_of, is_apart, spelling}
+use Rattle.tc_stmt.specs.Names.{is_name}
+use Rattle.tc_stmt.specs.Filling.{ReferenceData, FoundData, displaced, broken}
+use Rattle.tc_asm.specs.declared.entries.Place.{Place}
+use Rattle.tc_asm.specs.Items.{ItemData, label, section, global, code, bytes, zeros}
+use Rattle.tc_asm.specs.Symbols.{SymbolData, place_in, seen, labelled, made_global}
+
+-- four bytes at an offset that a symbol's value goes to
+pub record UseData : Type 0 where
+  pub offset : ℕ
+  pub reference : ReferenceData
+
+pub record PartData : Type 0 where
+  pub name : List ℕ
+  pub bytes : List ℕ
+  pub uses : List UseData
+
+-- The sections so far, and which one goes on (none where it isn't the number of one); the symbols; how many bytes all
+-- sections have, and how many relocations.
+pub record DraftData : Type 0 where
+  pub section : ℕ
+  pub parts : List PartData
+  pub symbols : List SymbolData
+  pub total : ℕ
+  pub count : ℕ
+
+abbrev pub start : DraftData
+start = record { section = 64; parts = []; symbols = []; total = 0; count = 0 }
+
+abbrev pub part : List ℕ → List ℕ → List UseData → PartData
+part name bs uses = record { name = name; bytes = bs; uses = uses }
+
+-- how far the current section is
+unfoldable pub place_of : DraftData → ℕ
+place_of d = option_map_or (λ p. length p.bytes) (slice_get d.parts d.section) 0
+
+abbrev pub has_section : DraftData → Bool
+has_section d = nat_lt d.section (length d.parts)
+
+-- so many bytes more: at most 16,777,216 in all sections
+abbrev pub has_room : DraftData → ℕ → Bool
+has_room d n = nat_le (d.total + n) (2 ^ 24)
+
+-- ---- labels and sections
+abbrev pub here : DraftData → Place
+here d = record { section = d.section; offset = place_of d }
+
+unfoldable pub with_label : DraftData → List ℕ → DraftData
+with_label d name = if is_name name && has_section d then record d { symbols = labelled d.symbols name (here d) } else d
+
+abbrev pub number_of_part : List PartData → List ℕ → ℕ
+number_of_part parts name = unwrap_or (position (λ p. bytes_eq name p.name) parts) (length parts)
+
+-- the section of this name goes on, or begins; there are at most 64
+unfoldable pub entered : DraftData → List ℕ → DraftData
+entered d name =
+    if not (is_name name) then d
+    else (if nat_lt (number_of_part d.parts name) (length d.parts) then record d { section = number_of_part d.parts name }
+    else (if nat_lt (length d.parts) 64 then record d { section = length d.parts; parts = d.parts ++ part name [] [] ∷ [] }
+    else d))
+
+unfoldable pub with_global : DraftData → List ℕ → DraftData
+with_global d name = if is_name name then record d { symbols = made_global d.symbols name } else d
+
+-- ---- bytes
+unfoldable pub extended : List PartData → ℕ → List ℕ → List PartData
+extended parts i bs = option_map_or (λ p. slice_set parts i (record p { bytes = p.bytes ++ bs })) (slice_get parts i) parts
+
+-- bytes at the end of the current section, where there is room
+unfoldable pub with_bytes : DraftData → List ℕ → DraftData
+with_bytes d bs =
+    if has_section d && has_room d (length bs) then record d { parts = extended d.parts d.section bs; total = d.total + length bs } else d
+
+unfoldable pub used : List PartData → ℕ → UseData → List PartData
+used parts i u = option_map_or (λ p. slice_set parts i (record p { uses = p.uses ++ u ∷ [] })) (slice_get parts i) parts
+
+abbrev pub is_reloc : ℕ → Bool
+is_reloc kind = nat_le 1 kind && nat_le kind 7
+
+-- a relocation for four bytes that stand here, where there is room: at most 65,535
+unfoldable pub with_use : DraftData → ℕ → ReferenceData → DraftData
+with_use d size r =
+    if has_section d && has_room d size && size == 4 && is_reloc r.kind && nat_lt d.count 65535
+    then record d { parts = used d.parts d.section (record { offset = place_of d; reference = r }); count = d.count + 1 }
+    else d
+
+-- the symbol of so many bytes that stand here
+unfoldable pub with_reference : DraftData → ℕ → Option ReferenceData → DraftData
+with_reference d size None = d
+with_reference d size (Some r) = if is_name r.name then with_use (record d { symbols = seen d.symbols r.name }) size r else d
+
+abbrev pub with_content : DraftData → List ℕ → Option ReferenceData → DraftData
+with_content d bs r = with_bytes (with_reference d (length bs) r) bs
+
+-- ---- instructions
+-- how far a symbol lies from here, and whether before it; None where it isn't a label of this section
+unfoldable pub distance : List SymbolData → DraftData → ReferenceData → Option (Bool × ℕ)
+distance labels d r =
+    option_map_or
+    (λ (a : Place). if a.section == d.section
+    then (if nat_le (place_of d + (if r.minus then r.size else 0)) (a.offset + (if r.minus then 0 else r.size))
+    then Some (false, (a.offset + (if r.minus then 0 else r.size)) - (place_of d + (if r.minus then r.size else 0)))
+    else Some (true, (place_of d + (if r.minus then r.size else 0)) - (a.offset + (if r.minus then 0 else r.size))))
+    else None)
+    (place_in labels r.name) None
+
+abbrev pub found : Fields → FoundData
+found f = record { fields = f; rule = 15; reference = None }
+
+-- an instruction with a target that is resolved at once: its fields, and the least rule that the target breaks
+unfoldable pub jumped : List SymbolData → DraftData → RowData → Fields → ReferenceData → FoundData
+jumped labels d row f r = option_map_or (λ n. displaced row n.0 n.1 (found f)) (distance labels d r) (broken 10 (found f))
+
+abbrev pub targeted : List SymbolData → DraftData → RowData → Fields → Option ReferenceData → FoundData
+targeted labels d row f None = found f
+targeted labels d row f (Some r) = if r.kind == 0 then jumped labels d row f r else found f
+
+-- the fields fit the row
+abbrev pub is_fit : RowData → Fields → Bool
+is_fit row f = is_below_test f (bounds row.form) && rest_is_zero (uses_of row) f && is_apart row f
+
+-- the spelling of an instruction of the row, where the fields fit it
+unfoldable pub spelled_code : RowData → Fields → List ℕ
+spelled_code row f = if is_fit row f then spelling row f else []
+
+-- what the row with this number makes of the fields and the symbol
+abbrev pub resolved : List SymbolData → DraftData → ℕ → Fields → Option ReferenceData → FoundData
+resolved labels d k f r = option_map_or (λ row. targeted labels d row f r) (slice_get listed k) (found f)
+
+abbrev pub bytes_of : ℕ → Fields → List ℕ
+bytes_of k f = option_map_or (λ row. spelled_code row f) (slice_get listed k) []
+
+unfoldable pub code_bytes : List SymbolData → DraftData → ℕ → Fields → Option ReferenceData → List ℕ
+code_bytes labels d k f r = bytes_of k (resolved labels d k f r).fields
+
+-- ---- one thing more, where the whole source has these symbols
+unfoldable pub stepped : List SymbolData → DraftData → ItemData → DraftData
+stepped labels d (label name) = with_label d name
+stepped labels d (section name) = entered d name
+stepped labels d (global name) = with_global d name
+stepped labels d (code k f r) = with_content d (code_bytes labels d k f r) r
+stepped labels d (bytes bs r) = with_content d bs r
+stepped labels d (zeros n) = with_bytes d (replicate n 0)

@@ -1,0 +1,8 @@
+-- Refusals.
+use Rattle.std.specs.Prelude.{ℕ}
+use Rattle.tc_asm.specs.declared.errors.AsmErr.{AsmErr}
+use Rattle.tc_asm.specs.declared.errors.AsmErr.TheVariants.{Bad, NoMemory}
+
+abbrev pub IfBad : (ℕ → ℕ → Type 0) → AsmErr → Type 0
+IfBad P (Bad line rule) = P line rule
+IfBad P NoMemory = Unit {0}

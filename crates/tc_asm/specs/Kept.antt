@@ -1,0 +1,77 @@
+-- What the lines of a source that break no rule keep.
+use Rattle.std.specs.Prelude.{◌≡◌, ◌≤◌, ◌<◌, ◌+◌, ◌^◌, ℕ, zero, suc, Bool, true, List, [], ◌∷◌, length, map, sum_by, Option, Some, None, IfSome}
+use Rattle.std.specs.List.{list_any}
+use Rattle.std.specs.Str.{bytes_eq}
+use Rattle.tc_object.specs.Names.{IsName}
+use Rattle.tc_object.specs.Objects.{InTurn}
+use Rattle.tc_asm.specs.declared.entries.Place.{Place}
+use Rattle.tc_asm.specs.Symbols.{SymbolData}
+use Rattle.tc_asm.specs.Drafts.{UseData, PartData, DraftData, is_reloc}
+
+abbrev pub Each : {A : Type 0} → (A → Type 0) → List A → Type 0
+Each P [] = Unit {0}
+Each P (x ∷ xs) = P x × Each P xs
+
+abbrev pub is_among : List (List ℕ) → List ℕ → Bool
+is_among names name = list_any (λ n. bytes_eq name n) names
+
+-- a name that isn't among those before
+abbrev pub IsNew : List (List ℕ) → List ℕ → Type 0
+IsNew before name = IsName (is_among before) name
+
+-- names, each of them once
+abbrev pub AreNames : List (List ℕ) → Type 0
+AreNames names = InTurn IsNew [] names
+
+abbrev pub part_names : List PartData → List (List ℕ)
+part_names parts = map (λ (p : PartData). p.name) parts
+
+abbrev pub symbol_names : List SymbolData → List (List ℕ)
+symbol_names ss = map (λ (s : SymbolData). s.name) ss
+
+-- the length of the section of this number
+abbrev pub size_at : List PartData → ℕ → ℕ
+size_at [] n = 0
+size_at (p ∷ ps) zero = length p.bytes
+size_at (p ∷ ps) (suc n) = size_at ps n
+
+-- a label stands in a section that there is, within it or at its end
+pub record IsPlace (parts : List PartData) (p : Place) : Type 0 where
+  pub section : p.section < length parts
+  pub offset : p.offset ≤ size_at parts p.section
+
+abbrev pub IsPlaced : List PartData → Option Place → Type 0
+IsPlaced parts None = Unit {0}
+IsPlaced parts (Some p) = IsPlace parts p
+
+-- numbers that fit the fields of an object
+abbrev pub IsSmall : Option Place → Type 0
+IsSmall o = IfSome o (λ p. (p.section < 2 ^ 16) × (p.offset < 2 ^ 32))
+
+-- each use begins behind the four bytes of the one before, and its own four bytes end by `size`
+abbrev pub Spaced : ℕ → List UseData → ℕ → Type 0
+Spaced low [] size = low ≤ size
+Spaced low (u ∷ us) size = (low ≤ u.offset) × Spaced (u.offset + 4) us size
+
+pub record IsUse (names : List (List ℕ)) (u : UseData) : Type 0 where
+  pub kind : is_reloc u.reference.kind ≡ true
+  pub known : is_among names u.reference.name ≡ true
+
+pub record IsPart (names : List (List ℕ)) (total : ℕ) (p : PartData) : Type 0 where
+  pub small : length p.bytes ≤ total
+  pub spaced : Spaced 0 p.uses (length p.bytes)
+  pub uses : Each (IsUse names) p.uses
+
+abbrev pub count_of : List PartData → ℕ
+count_of parts = sum_by (λ (p : PartData). length p.uses) parts
+
+pub record IsDraft (d : DraftData) : Type 0 where
+  pub few_parts : length d.parts ≤ 64
+  pub few_symbols : length d.symbols < 2 ^ 16
+  pub few_relocs : d.count < 2 ^ 16
+  pub count : count_of d.parts ≡ d.count
+  pub total : d.total ≤ 2 ^ 24
+  pub parts_named : AreNames (part_names d.parts)
+  pub symbols_named : AreNames (symbol_names d.symbols)
+  pub places : Each (λ (s : SymbolData). IsPlaced d.parts s.entry.place) d.symbols
+  pub parts : Each (IsPart (symbol_names d.symbols) d.total) d.parts

@@ -1,0 +1,12 @@
+pub mod Items
+pub mod Values
+pub mod Lines
+pub mod Symbols
+pub mod Drafts
+pub mod Views
+pub mod Rules
+pub mod Sources
+pub mod Objects
+pub mod Kept
+pub mod Errors
+pub mod Statements

@@ -1,0 +1,40 @@
+-- The object of what a source puts together.
+use Rattle.std.specs.Prelude.{ℕ, Bool, ◌+◌, ◌-◌, ◌%◌, ◌^◌, if◌then◌else◌, List, [], ◌∷◌, ◌++◌, map, Option, Some, None, position, unwrap_or}
+use Rattle.std.specs.Str.{bytes_eq}
+use Rattle.tc_object.specs.Objects.{SectionData, ObjectData}
+use Rattle.tc_object.specs.Objects as object
+use Rattle.tc_object.specs.declared.relocs.Reloc.{Reloc}
+use Rattle.tc_stmt.specs.Filling.{ReferenceData}
+use Rattle.tc_asm.specs.declared.entries.Place.{Place}
+use Rattle.tc_asm.specs.Symbols.{SymbolData}
+use Rattle.tc_asm.specs.Drafts.{UseData, PartData, DraftData}
+
+abbrev pub section_of : PartData → SectionData
+section_of p = record { name = p.name; bytes = p.bytes }
+
+-- kind 0 where no label stands, 1 for a label, 2 for a global one
+abbrev pub symbol_at : List ℕ → Bool → Option Place → object.SymbolData
+symbol_at name is_global None = record { name = name; kind = 0; section = 0; offset = 0 }
+symbol_at name is_global (Some p) = record { name = name; kind = if is_global then 2 else 1; section = p.section; offset = p.offset }
+
+abbrev pub symbol_of : SymbolData → object.SymbolData
+symbol_of s = symbol_at s.name s.entry.is_global s.entry.place
+
+-- the number of a symbol
+abbrev pub number_of : List SymbolData → List ℕ → ℕ
+number_of ss name = unwrap_or (position (λ s. bytes_eq name s.name) ss) 0
+
+-- the number added to a symbol, modulo 2^32
+abbrev pub addend_of : ReferenceData → ℕ
+addend_of r = if r.minus then (2 ^ 32 - r.size % 2 ^ 32) % 2 ^ 32 else r.size % 2 ^ 32
+
+abbrev pub reloc_of : List SymbolData → ℕ → UseData → Reloc
+reloc_of ss section u = record { section = section; offset = u.offset; kind = u.reference.kind; symbol = number_of ss u.reference.name; addend = addend_of u.reference }
+
+-- the relocations of these sections, the first of which has this number
+abbrev pub relocs_from : List SymbolData → ℕ → List PartData → List Reloc
+relocs_from ss section [] = []
+relocs_from ss section (p ∷ ps) = map (reloc_of ss section) p.uses ++ relocs_from ss (section + 1) ps
+
+abbrev pub object_of : DraftData → ObjectData
+object_of d = record { sections = map section_of d.parts; symbols = map symbol_of d.symbols; relocs = relocs_from d.symbols 0 d.parts }

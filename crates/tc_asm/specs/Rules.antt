@@ -1,0 +1,53 @@
+-- The rules that the lines before and the whole source decide; 15 is none.
+use Rattle.std.specs.Prelude.{ℕ, ◌&&◌, ◌||◌, not, nat_lt, min, if◌then◌else◌, List, length, Option, Some, None, is_some}
+use Rattle.tc_stmt.specs.Names.{is_name}
+use Rattle.tc_stmt.specs.Filling.{ReferenceData}
+use Rattle.tc_asm.specs.Items.{ItemData, label, section, global, code, bytes, zeros}
+use Rattle.tc_asm.specs.Symbols.{SymbolData, entry_in, place_in}
+use Rattle.tc_asm.specs.Drafts.{DraftData, has_section, has_room, number_of_part, is_reloc, resolved, code_bytes}
+
+-- 7: a label twice
+abbrev pub label_rule : DraftData → List ℕ → ℕ
+label_rule d name = if is_some (place_in d.symbols name) then 7 else 15
+
+-- 8: a label, an instruction or data before any section
+abbrev pub section_rule : DraftData → ℕ
+section_rule d = if has_section d then 15 else 8
+
+-- 9: a bad name
+abbrev pub name_rule : List ℕ → ℕ
+name_rule name = if is_name name then 15 else 9
+
+-- 13: a 65th section; a 65,536th symbol or relocation; more than 16,777,216 bytes
+abbrev pub section_room : DraftData → List ℕ → ℕ
+section_room d name = if nat_lt (number_of_part d.parts name) (length d.parts) || nat_lt (length d.parts) 64 then 15 else 13
+
+abbrev pub symbol_room : DraftData → List ℕ → ℕ
+symbol_room d name = if is_some (entry_in d.symbols name) || nat_lt (length d.symbols) 65535 then 15 else 13
+
+abbrev pub reloc_room : DraftData → ReferenceData → ℕ
+reloc_room d r = if is_reloc r.kind && not (nat_lt d.count 65535) then 13 else 15
+
+abbrev pub bytes_room : DraftData → ℕ → ℕ
+bytes_room d n = if has_room d n then 15 else 13
+
+-- 14: a global name that is never defined
+abbrev pub defined_rule : List SymbolData → List ℕ → ℕ
+defined_rule labels name = if is_some (place_in labels name) then 15 else 14
+
+abbrev pub reference_rule : DraftData → Option ReferenceData → ℕ
+reference_rule d None = 15
+reference_rule d (Some r) = min (symbol_room d r.name) (reloc_room d r)
+
+abbrev pub content_rule : DraftData → ℕ → Option ReferenceData → ℕ
+content_rule d size r = min (section_rule d) (min (bytes_room d size) (reference_rule d r))
+
+-- the least rule that a thing breaks behind this draft, where the whole source has these symbols; 6, 10 and 11 are of
+-- targets that are resolved at once
+unfoldable pub item_rule : List SymbolData → DraftData → ItemData → ℕ
+item_rule labels d (label name) = min (min (label_rule d name) (section_rule d)) (min (name_rule name) (symbol_room d name))
+item_rule labels d (section name) = min (name_rule name) (section_room d name)
+item_rule labels d (global name) = min (name_rule name) (min (symbol_room d name) (defined_rule labels name))
+item_rule labels d (code k f r) = min (resolved labels d k f r).rule (content_rule d (length (code_bytes labels d k f r)) r)
+item_rule labels d (bytes bs r) = content_rule d (length bs) r
+item_rule labels d (zeros n) = min (section_rule d) (bytes_room d n)

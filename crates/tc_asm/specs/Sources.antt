@@ -1,0 +1,45 @@
+-- What a source is.
+use Rattle.std.specs.Prelude.{◌≡◌, ◌≢◌, ℕ, ◌+◌, ◌<◌, min, List, [], ◌∷◌, length, take, slice_index_or, fold}
+use Rattle.tc_asm.specs.Items.{ItemData}
+use Rattle.tc_asm.specs.Lines.{LineData}
+use Rattle.tc_asm.specs.Symbols.{SymbolData}
+use Rattle.tc_asm.specs.Drafts.{DraftData, start, stepped}
+use Rattle.tc_asm.specs.Rules.{item_rule}
+
+-- the least rule that these break, one behind the other
+abbrev pub items_rule : List SymbolData → DraftData → List ItemData → ℕ
+items_rule labels d [] = 15
+items_rule labels d (i ∷ is) = min (item_rule labels d i) (items_rule labels (stepped labels d i) is)
+
+-- one line more
+unfoldable pub with_line : List SymbolData → DraftData → LineData → DraftData
+with_line labels d l = fold (stepped labels) d l.items
+
+-- the least rule that a line breaks behind these
+unfoldable pub line_rule : List SymbolData → DraftData → LineData → ℕ
+line_rule labels d l = min l.rule (items_rule labels d l.items)
+
+-- what lines put together, where the whole source has these symbols
+abbrev pub drafted : List SymbolData → List LineData → DraftData
+drafted labels lines = fold (with_line labels) start lines
+
+-- the symbols of a source don't depend on where its jumps go
+abbrev pub symbols_of : List LineData → List SymbolData
+symbols_of lines = (drafted [] lines).symbols
+
+-- the least rule that the line at this place breaks
+abbrev pub rule_in : List LineData → ℕ → LineData → ℕ
+rule_in lines k l = line_rule (symbols_of lines) (drafted (symbols_of lines) (take k lines)) l
+
+-- no line before this place breaks a rule
+abbrev pub KeepsRules : List LineData → ℕ → Type 0
+KeepsRules lines n = (k : ℕ) (d : LineData) → k < n → rule_in lines k (slice_index_or lines k d) ≡ 15
+
+-- the least line that breaks a rule, and the least rule there
+pub record IsLeast (lines : List LineData) (line rule : ℕ) : Type 0 where
+  pub place : ℕ
+  pub within : place < length lines
+  pub is : line ≡ place + 1
+  pub broken : (d : LineData) → rule_in lines place (slice_index_or lines place d) ≡ rule
+  pub some : rule ≢ 15
+  pub before : KeepsRules lines place

@@ -1,0 +1,66 @@
+-- Each statement that has bytes, and where it stands.
+use Rattle.std.specs.Prelude.{◌≡◌, ℕ, ◌==◌, ◌&&◌, if◌then◌else◌, zero, suc, List, [], ◌∷◌, ◌++◌, length, take, drop, replicate, slice_get, Option, Some, None}
+use Rattle.std.specs.List.{flat_map}
+use Rattle.tc_stmt.specs.Filling.{ReferenceData}
+use Rattle.tc_asm.specs.Items.{ItemData, label, section, global, code, bytes, zeros}
+use Rattle.tc_asm.specs.Lines.{LineData}
+use Rattle.tc_asm.specs.Symbols.{SymbolData}
+use Rattle.tc_asm.specs.Drafts.{PartData, DraftData, start, has_section, has_room, code_bytes, stepped}
+use Rattle.tc_asm.specs.Sources.{drafted}
+
+-- a statement: its section, its bytes with the field of a symbol zero, and the symbol
+pub record StatementData : Type 0 where
+  pub section : ℕ
+  pub bytes : List ℕ
+  pub reference : Option ReferenceData
+
+abbrev pub statement : ℕ → List ℕ → Option ReferenceData → StatementData
+statement s bs r = record { section = s; bytes = bs; reference = r }
+
+-- an instruction's spelling, data, or zeros; None for labels and directives
+abbrev pub content_of : List SymbolData → DraftData → ItemData → Option StatementData
+content_of labels d (label name) = None
+content_of labels d (section name) = None
+content_of labels d (global name) = None
+content_of labels d (code k f r) = Some (statement d.section (code_bytes labels d k f r) r)
+content_of labels d (bytes bs r) = Some (statement d.section bs r)
+content_of labels d (zeros n) = Some (statement d.section (replicate n 0) None)
+
+-- where there is a section, and room in it
+abbrev pub standing : DraftData → Option StatementData → List StatementData
+standing d None = []
+standing d (Some t) = if has_section d && has_room d (length t.bytes) then t ∷ [] else []
+
+abbrev pub statements_from : List SymbolData → DraftData → List ItemData → List StatementData
+statements_from labels d [] = []
+statements_from labels d (i ∷ is) = standing d (content_of labels d i) ++ statements_from labels (stepped labels d i) is
+
+-- all that the lines add, in order
+abbrev pub items_in : List LineData → List ItemData
+items_in lines = flat_map (λ (l : LineData). l.items) lines
+
+abbrev pub statements : List SymbolData → List LineData → List StatementData
+statements labels lines = statements_from labels start (items_in lines)
+
+-- the bytes of a section: those of its statements, one behind the other
+abbrev pub section_bytes : ℕ → List StatementData → List ℕ
+section_bytes s ts = flat_map (λ (t : StatementData). if t.section == s then t.bytes else []) ts
+
+-- the offset of a statement: the sizes of the earlier statements of its section, together
+abbrev pub offset_of : List StatementData → ℕ → ℕ → ℕ
+offset_of ts place s = length (section_bytes s (take place ts))
+
+-- the bytes of the section of this number
+abbrev pub bytes_at : List PartData → ℕ → List ℕ
+bytes_at [] s = []
+bytes_at (p ∷ ps) zero = p.bytes
+bytes_at (p ∷ ps) (suc s) = bytes_at ps s
+
+-- a section is the bytes of its statements, one behind the other, whatever the lines are
+abbrev pub SectionLaw : Type 0
+SectionLaw = (labels : List SymbolData) (lines : List LineData) (s : ℕ) → bytes_at (drafted labels lines).parts s ≡ section_bytes s (statements labels lines)
+
+-- the bytes of a statement stand in its section at its offset
+abbrev pub OffsetLaw : Type 0
+OffsetLaw = (ts : List StatementData) (place : ℕ) (t : StatementData) → slice_get ts place ≡ Some t
+    → take (length t.bytes) (drop (offset_of ts place t.section) (section_bytes t.section ts)) ≡ t.bytes

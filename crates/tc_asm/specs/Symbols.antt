@@ -1,0 +1,43 @@
+-- Symbols, in the order of first sight.
+use Rattle.std.specs.Prelude.{ℕ, true, false, if◌then◌else◌, List, [], ◌∷◌, Option, Some, None, find, option_map, is_some, unwrap_or}
+use Rattle.std.specs.Str.{bytes_eq}
+use Rattle.tc_asm.specs.declared.entries.Place.{Place}
+use Rattle.tc_asm.specs.declared.entries.Entry.{Entry}
+
+-- a symbol: its name, where its label stands, and whether it's global
+pub record SymbolData : Type 0 where
+  pub name : List ℕ
+  pub entry : Entry
+
+abbrev pub symbol : List ℕ → Entry → SymbolData
+symbol name e = record { name = name; entry = e }
+
+-- seen, and no more
+abbrev pub unseen : Entry
+unseen = record { place = None; is_global = false }
+
+-- what is known of a name
+abbrev pub entry_in : List SymbolData → List ℕ → Option Entry
+entry_in ss name = option_map (λ (s : SymbolData). s.entry) (find (λ s. bytes_eq name s.name) ss)
+
+abbrev pub entry_of : List SymbolData → List ℕ → Entry
+entry_of ss name = unwrap_or (entry_in ss name) unseen
+
+-- a symbol keeps its place in the list, and a new one goes last
+abbrev pub put_entry : List SymbolData → List ℕ → Entry → List SymbolData
+put_entry [] name e = symbol name e ∷ []
+put_entry (s ∷ ss) name e = if bytes_eq name s.name then symbol s.name e ∷ ss else s ∷ put_entry ss name e
+
+-- where a name's label stands
+abbrev pub place_in : List SymbolData → List ℕ → Option Place
+place_in ss name = (entry_of ss name).place
+
+unfoldable pub seen : List SymbolData → List ℕ → List SymbolData
+seen ss name = put_entry ss name (entry_of ss name)
+
+-- a label stands here; one that stood somewhere before stays there
+unfoldable pub labelled : List SymbolData → List ℕ → Place → List SymbolData
+labelled ss name place = put_entry ss name (if is_some (place_in ss name) then entry_of ss name else record (entry_of ss name) { place = Some place })
+
+unfoldable pub made_global : List SymbolData → List ℕ → List SymbolData
+made_global ss name = put_entry ss name (record (entry_of ss name) { is_global = true })

@@ -1,0 +1,67 @@
+// Sections so far.
+ghost use Rattle.std.specs.Prelude.{◌≡◌, ◌<◌, ◌≤◌, map, OnOk, length, position};
+ghost use Rattle.std.specs.Str.{bytes_eq};
+ghost use Rattle.tc_stmt.specs.Filling.{reference_of};
+ghost use Rattle.tc_asm.specs.Views.{part_of};
+ghost use Rattle.tc_asm.specs.Drafts.{extended, used, number_of_part};
+
+use std::alloc::AllocError;
+use tc_stmt::Reference;
+
+/// Four bytes of a section that a symbol's value goes to.
+#[derive(Clone, Copy)]
+pub struct Use<'a> {
+    pub offset: usize,
+    pub reference: Reference<'a>,
+}
+
+/// A section so far.
+#[derive(Drop)]
+pub struct Part<'a> {
+    pub name: &'a [u8],
+    pub bytes: Vec<u8>,
+    pub uses: Vec<Use<'a>>,
+}
+
+fn find_part(parts: &[Part], name: &[u8]) -> Option<usize>
+    ensures { result ≡ position (λ p. bytes_eq name.now p.name.now) parts.now }
+{
+    parts.iter().position(|p| name == p.name)
+}
+
+/// The number of the section of this name, or how many sections there are.
+pub(crate) fn number_of_part(parts: &[Part], name: &[u8]) -> usize
+    ensures value { result ≡ number_of_part (map part_of parts.now) name.now }
+    ensures within { result ≤ length parts.now }
+{
+    match find_part(parts, name) {
+        Some(i) => i,
+        None => parts.len(),
+    }
+}
+
+/// Puts bytes at the end of a section.
+pub(crate) fn extend_part(parts: &mut Vec<Part>, i: usize, bytes: &[u8]) -> Result<(), AllocError>
+    requires { i < length parts.old.items }
+    ensures { OnOk result (map part_of parts.new.items ≡ extended (map part_of parts.old.items) i bytes.now) }
+{
+    let part = &mut parts[i];
+    part.bytes.extend_from_slice(bytes)?;
+    Ok(())
+}
+
+/// Notes a relocation.
+pub(crate) fn use_part<'a>(
+    parts: &mut Vec<Part<'a>>,
+    i: usize,
+    offset: usize,
+    reference: Reference<'a>,
+) -> Result<(), AllocError>
+    requires { i < length parts.old.items }
+    ensures { OnOk result (map part_of parts.new.items
+        ≡ used (map part_of parts.old.items) i (record { offset = offset; reference = reference_of reference.entry })) }
+{
+    let part = &mut parts[i];
+    part.uses.push(Use { offset, reference })?;
+    Ok(())
+}
