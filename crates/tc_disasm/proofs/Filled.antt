@@ -1,0 +1,130 @@
+-- Printed operands fill their fields again.
+use Rattle.std.proofs.Common.{◌≡◌, ◌<◌, ◌+◌, ◌*◌, ◌-◌, ◌/◌, ◌%◌, ◌^◌, ◌==◌, ℕ, Bool, true, false, cond, List, [], ◌∷◌, Some, refl, ap, ◌∙◌, arith}
+use Rattle.std.specs.Prelude.{codes, min, not, nat_lt, nat_le, ◌&&◌}
+use Rattle.std.proofs.lemmas.Bool.Decides.{nat_tests}
+use Rattle.tc_lex.specs.declared.kinds.TokenKind.TheVariants as kind
+use Rattle.tc_isa.specs.Words.{form_index}
+use Rattle.tc_isa.specs.Codec.{is_long}
+use Rattle.tc_isa.specs.Shapes.{place, code_place}
+use Rattle.tc_isa.specs.declared.fields.Fields.{Fields}
+use Rattle.tc_stmt.specs.declared.wanting.Field.TheVariants.{K}
+use Rattle.std.specs.Fmt.{decimal}
+use Rattle.tc_isa.specs.Rows.{RowData}
+use Rattle.tc_isa.specs.Words.{bounds}
+use Rattle.tc_stmt.specs.declared.values.Shape.TheVariants as shape
+use Rattle.tc_stmt.specs.declared.wanting.Field.{Field}
+use Rattle.tc_stmt.specs.declared.wanting.Want.TheVariants.{Reg, Number, Target}
+use Rattle.tc_stmt.specs.Operands.{operand, value_at, number_at, named_at, sum_at, value, plain, plain_number, added}
+use Rattle.tc_stmt.specs.Pieces.{is_kind, text_at, kind_index}
+use Rattle.tc_stmt.specs.Numbers.{number_of}
+use Rattle.tc_stmt.specs.Filling.{FoundData, fill, fill_plain, fill_register, fill_value, fill_target, displaced, displacement_rule, is_odd, shape_index, put, put_register, put_number, broken, field_of, wrapped}
+use Rattle.tc_disasm.specs.Texts.{register_text, is_minus, size_of}
+use Rattle.tc_disasm.specs.Tokens.{field_number}
+use Rattle.tc_disasm.proofs.Registers.{register_of-text}
+use Rattle.tc_disasm.proofs.Signs.{fits-printed, wrapped-printed}
+use Rattle.tc_disasm.proofs.Decimals.{number_of-decimal}
+use Rattle.tc_disasm.specs.Texts.{is_two_way}
+use Rattle.tc_disasm.specs.Tokens.{piece, target}
+use Rattle.tc_disasm.proofs.Targets.{near_signed, near_unsigned, half}
+use Rattle.tc_disasm.proofs.OperandLaws.{operand-number, operand-target}
+
+bank_is : (bank : Bool) (n : ℕ) → n < 16 → ((cond bank 16 0 + n) / 16 ≡ cond bank 1 0) × ((cond bank 16 0 + n) % 16 ≡ n)
+bank_is true n h = (omega arith, omega arith)
+bank_is false n h = (omega arith, omega arith)
+
+same_test : (bank : Bool) → (cond bank 1 0 == cond bank 1 0) ≡ true
+same_test true = refl
+same_test false = refl
+
+pub put_register-text : (bank : Bool) (field : Field) (n : ℕ) (acc : FoundData) → n < 16 → put_register bank field (register_text bank n) acc ≡ put field n acc
+unfolding put_register
+put_register-text bank field n acc h =
+    let is = bank_is bank n h in
+    ap (λ r. cond (r / 16 == cond bank 1 0) (put field (r % 16) acc) (broken 4 acc)) (register_of-text bank n h)
+    ∙ ap (λ q. cond (q == cond bank 1 0) (put field ((cond bank 16 0 + n) % 16) acc) (broken 4 acc)) is.0
+    ∙ ap (λ b. cond b (put field ((cond bank 16 0 + n) % 16) acc) (broken 4 acc)) (same_test bank)
+    ∙ ap (λ m. put field m acc) is.1
+
+pub fill-register : (r : RowData) (bank : Bool) (field : Field) (n : ℕ) (acc : FoundData) → n < 16 → fill r (Reg bank field) (plain (value shape.Word (register_text bank n) false 0)) acc ≡ Some (put field n acc)
+unfolding fill fill_plain fill_register shape_index
+fill-register r bank field n acc h = ap (λ f. Some f) (put_register-text bank field n acc h)
+
+pub put_number-printed : (r : RowData) (signed : Bool) (field : Field) (v : ℕ) (acc : FoundData) → v < field_of field (bounds r.form) → field_of field (bounds r.form) % 2 ≡ 0
+    → put_number r.form signed field (is_minus signed (field_of field (bounds r.form)) v) (size_of signed (field_of field (bounds r.form)) v) acc ≡ put field v acc
+unfolding put_number
+put_number-printed r signed field v acc h even =
+    let bound = field_of field (bounds r.form) in
+    ap (λ b. cond b (put field (wrapped bound (is_minus signed bound v) (size_of signed bound v)) acc) (broken 5 acc)) (fits-printed signed bound v h even)
+    ∙ ap (λ w. put field w acc) (wrapped-printed signed bound v h even)
+
+-- a printed constant, read and filled in
+pub fill-number : (r : RowData) (signed : Bool) (field : Field) (v : ℕ) (acc : FoundData) → v < field_of field (bounds r.form) → field_of field (bounds r.form) % 2 ≡ 0 → size_of signed (field_of field (bounds r.form)) v < 2 ^ 64
+    → fill r (Number signed field) (operand (field_number signed (field_of field (bounds r.form)) v)) acc ≡ Some (put field v acc)
+unfolding fill fill_plain fill_value shape_index
+fill-number r signed field v acc h even small =
+    let bound = field_of field (bounds r.form) in
+    ap (λ o. fill r (Number signed field) o acc) (operand-number (is_minus signed bound v) (size_of signed bound v))
+    ∙ ap (λ n. fill r (Number signed field) (plain (plain_number (is_minus signed bound v) n)) acc) (number_of-decimal (size_of signed bound v) small)
+    ∙ ap (λ f. Some f) (put_number-printed r signed field v acc h even)
+
+-- ---- targets
+-- what is printed of a displacement isn't too far
+near : (one_way : Bool) (bound v : ℕ) → v < bound → bound % 2 ≡ 0
+    → cond one_way (cond (is_minus (not one_way) bound v) (not (2 * size_of (not one_way) bound v == 0)) (nat_lt (2 * (bound - 1)) (2 * size_of (not one_way) bound v)))
+    (cond (is_minus (not one_way) bound v) (nat_lt bound (2 * size_of (not one_way) bound v)) (nat_lt (bound - 2) (2 * size_of (not one_way) bound v))) ≡ false
+near true bound v h even = near_unsigned bound v h
+near false bound v h even = near_signed bound v h even
+
+even_twice : (n : ℕ) → is_odd (2 * n) ≡ false
+even_twice n = grind (arith, nat_tests)
+
+rule-printed : (r : RowData) (v : ℕ) → v < (bounds r.form).k → (bounds r.form).k % 2 ≡ 0
+    → displacement_rule r (is_minus (is_two_way r.form) (bounds r.form).k v) (2 * size_of (is_two_way r.form) (bounds r.form).k v) ≡ 15
+unfolding displacement_rule is_two_way
+rule-printed r v h even =
+    let minus = is_minus (not (form_index r.form == 13)) (bounds r.form).k v in
+    let size = size_of (not (form_index r.form == 13)) (bounds r.form).k v in
+    ap (λ b. min (cond b (cond (is_long r) 5 11) 15) (cond (is_odd (2 * size)) 6 15)) (near (form_index r.form == 13) (bounds r.form).k v h even)
+    ∙ ap (λ b. min 15 (cond b 6 15)) (even_twice size)
+
+displaced-printed : (r : RowData) (v : ℕ) (acc : FoundData) → v < (bounds r.form).k → (bounds r.form).k % 2 ≡ 0
+    → displaced r (is_minus (is_two_way r.form) (bounds r.form).k v) (2 * size_of (is_two_way r.form) (bounds r.form).k v) acc ≡ put K v acc
+unfolding displaced
+displaced-printed r v acc h even =
+    let bound = (bounds r.form).k in
+    let minus = is_minus (is_two_way r.form) bound v in
+    let size = size_of (is_two_way r.form) bound v in
+    ap (λ n. cond (n == 15) (put K (wrapped bound minus (2 * size / 2)) acc) (broken n acc)) (rule-printed r v h even)
+    ∙ ap (λ n. put K (wrapped bound minus n) acc) (half size)
+    ∙ ap (λ n. put K n acc) (wrapped-printed (is_two_way r.form) bound v h even)
+
+pub fill-target : (r : RowData) (v : ℕ) (acc : FoundData) → v < (bounds r.form).k → (bounds r.form).k % 2 ≡ 0 → 2 * size_of (is_two_way r.form) (bounds r.form).k v < 2 ^ 64
+    → fill r Target (operand (target (is_two_way r.form) (bounds r.form).k v)) acc ≡ Some (put K v acc)
+unfolding fill fill_plain fill_target shape_index
+fill-target r v acc h even small =
+    let minus = is_minus (is_two_way r.form) (bounds r.form).k v in
+    let size = size_of (is_two_way r.form) (bounds r.form).k v in
+    ap (λ o. fill r Target o acc) (operand-target minus (codes ".") (decimal (2 * size)))
+    ∙ ap (λ n. fill r Target (plain (added shape.Sum (codes ".") minus n)) acc) (number_of-decimal (2 * size) small)
+    ∙ ap (λ f. Some f) (displaced-printed r v acc h even)
+
+-- ---- absolute addresses
+pub operand-one : (text : List ℕ) → operand (piece kind.Number text ∷ []) ≡ plain (plain_number false (number_of text))
+unfolding operand value_at number_at named_at sum_at is_kind text_at kind_index
+operand-one text = refl
+
+-- the address of an ABS row, and of a B row
+pub place-put : (f : Fields) (acc : FoundData) → f.k < 2 ^ 18 → cond (nat_le (2 ^ 32) (place f)) (broken 5 acc) (cond (place f / 2 ^ 14 % 2 ^ 14 == 0) (put K (place f / 2 ^ 28 * 2 ^ 14 + place f % 2 ^ 14) acc) (broken 5 acc)) ≡ put K f.k acc
+place-put f acc h =
+    let low : nat_le (2 ^ 32) (place f) ≡ false = grind (arith, nat_tests) in
+    let gap : (place f / 2 ^ 14 % 2 ^ 14 == 0) ≡ true = grind (arith, nat_tests) in
+    let back : place f / 2 ^ 28 * 2 ^ 14 + place f % 2 ^ 14 ≡ f.k = omega arith in
+    rw (low, gap, back) refl
+
+pub code_place-put : (f : Fields) (acc : FoundData) → f.k < 2 ^ 24 → cond (nat_le (2 ^ 32) (code_place f)) (broken 5 acc) (cond (code_place f / 2 ^ 21 % 2 ^ 7 == 0 && code_place f % 2 == 0) (put K (code_place f / 2 ^ 28 * 2 ^ 20 + code_place f % 2 ^ 21 / 2) acc) (broken 5 acc)) ≡ put K f.k acc
+code_place-put f acc h =
+    let low : nat_le (2 ^ 32) (code_place f) ≡ false = grind (arith, nat_tests) in
+    let gap : (code_place f / 2 ^ 21 % 2 ^ 7 == 0) ≡ true = grind (arith, nat_tests) in
+    let even : (code_place f % 2 == 0) ≡ true = grind (arith, nat_tests) in
+    let back : code_place f / 2 ^ 28 * 2 ^ 20 + code_place f % 2 ^ 21 / 2 ≡ f.k = omega arith in
+    rw (low, gap, even, back) refl

@@ -1,0 +1,116 @@
+-- A printed instruction is judged as the same row, with the same fields.
+use Rattle.std.proofs.Common.{◌≡◌, ◌*◌, ◌==◌, ◌||◌, ℕ, zero, suc, Bool, true, false, cond, List, [], ◌∷◌, Option, Some, Ok, refl, ap, sym, ◌∙◌, arith, map, append-nil}
+use Rattle.std.specs.Prelude.{slice_get, fold, option_and_then, codes}
+use Rattle.std.specs.List.{list_all, list_any}
+use Rattle.std.specs.Fmt.{decimal}
+use Rattle.std.proofs.lemmas.Bool.Decides.{nat_tests}
+use Rattle.tc_isa.specs.Rows.{RowData, listed}
+use Rattle.tc_isa.specs.declared.fields.Fields.{Fields}
+use Rattle.tc_isa.specs.Words.{IsBelow, bounds, fields}
+use Rattle.tc_isa.specs.Codec.{uses_of, rest_is_zero, Fits}
+use Rattle.tc_isa.specs.Insts.{InstData, IsInst, fields_in}
+use Rattle.tc_isa.specs.Meanings.{AreSmall}
+use Rattle.tc_isa.proofs.Shaped.{small}
+use Rattle.tc_stmt.specs.declared.values.Shape.TheVariants as shape
+use Rattle.tc_stmt.specs.declared.wanting.Field.TheVariants.{C, S1, S2, N, K}
+use Rattle.tc_stmt.specs.declared.wanting.Want.{Want}
+use Rattle.tc_stmt.specs.declared.wanting.Want.TheVariants.{Reg, A10, Number, Target, Absolute, Memory}
+use Rattle.tc_stmt.specs.Wants.{wants_of}
+use Rattle.tc_stmt.specs.Operands.{operand, plain, plain_number, added}
+use Rattle.tc_stmt.specs.Judging.{statement}
+use Rattle.tc_stmt.specs.Filling.{judged, nothing, apart, broken, field_of}
+use Rattle.tc_disasm.specs.Texts.{register_text, is_minus, size_of, is_two_way, absolute_text, address_in}
+use Rattle.tc_disasm.specs.Tokens.{operand_tokens, printed_operands, base}
+use Rattle.tc_disasm.specs.Apart.{uses_by, names}
+use Rattle.tc_disasm.specs.Puts.{given}
+use Rattle.tc_disasm.specs.Refused.{Prints, AllPrint}
+use Rattle.tc_disasm.proofs.Decimals.{both, number_of-decimal}
+use Rattle.tc_disasm.proofs.Bounds.{field_of-below}
+use Rattle.tc_disasm.proofs.Given.{field_of-fold}
+use Rattle.tc_disasm.proofs.Hexes.{number_of-hex}
+use Rattle.tc_disasm.proofs.OperandLaws.{operand-word, operand-number, operand-target, operand-base, operand-offset}
+use Rattle.tc_disasm.proofs.Filled.{operand-one}
+use Rattle.tc_disasm.proofs.OwnFields.{fill_all-printed, small_of, at_most, size_of-small, halved, address-small}
+use Rattle.tc_disasm.proofs.OwnRow.{statement_is}
+use Rattle.tc_disasm.proofs.Suits.{suits, wants_suit}
+use Rattle.tc_disasm.proofs.Tables.{uses_are}
+
+-- ---- the fields come back
+some_is : {X : Type 0} (a b : X) → ◌≡◌ {A = Option X} (Some a) (Some b) → a ≡ b
+some_is a b e = cc
+
+uses_at : (rows : List RowData) (k : ℕ) (r : RowData) → map uses_of rows ≡ map (λ s. uses_by (wants_of s)) rows → slice_get rows k ≡ Some r → uses_of r ≡ uses_by (wants_of r)
+uses_at [] k r e at = cc
+uses_at (x ∷ xs) zero r e at =
+    let here : uses_of x ≡ uses_by (wants_of x) = cc in
+    ap uses_of (sym (some_is x r at)) ∙ here ∙ ap (λ s. uses_by (wants_of s)) (some_is x r at)
+uses_at (x ∷ xs) (suc k) r e at = let more : map uses_of xs ≡ map (λ s. uses_by (wants_of s)) xs = cc in uses_at xs k r more at
+
+zero_of : (b : Bool) (n : ℕ) → (b || n == 0) ≡ true → cond b n 0 ≡ n
+zero_of true n e = refl
+zero_of false n e = grind (arith, nat_tests)
+
+pub fields_back : (f : Fields) (ws : List Want) → AreSmall f → rest_is_zero (uses_by ws) f ≡ true → fold (given f) (fields 0 0 0 0 0) ws ≡ f
+unfolding uses_by field_of
+fields_back f ws small rest =
+    let four = both _ (list_any (names K) ws || f.k == 0) rest in
+    let three = both _ (list_any (names N) ws || f.n == 0) four.0 in
+    let two = both _ (list_any (names S2) ws || f.s2 == 0) three.0 in
+    let one = both (list_any (names C) ws || f.c == 0) (list_any (names S1) ws || f.s1 == 0) two.0 in
+    let g = fold (given f) (fields 0 0 0 0 0) ws in
+    let c : g.c ≡ f.c = field_of-fold C f (fields 0 0 0 0 0) ws small ∙ zero_of (list_any (names C) ws) f.c one.0 in
+    let s1 : g.s1 ≡ f.s1 = field_of-fold S1 f (fields 0 0 0 0 0) ws small ∙ zero_of (list_any (names S1) ws) f.s1 one.1 in
+    let s2 : g.s2 ≡ f.s2 = field_of-fold S2 f (fields 0 0 0 0 0) ws small ∙ zero_of (list_any (names S2) ws) f.s2 two.1 in
+    let n : g.n ≡ f.n = field_of-fold N f (fields 0 0 0 0 0) ws small ∙ zero_of (list_any (names N) ws) f.n three.1 in
+    let k : g.k ≡ f.k = field_of-fold K f (fields 0 0 0 0 0) ws small ∙ zero_of (list_any (names K) ws) f.k four.1 in
+    ap (λ x. fields x g.s1 g.s2 g.n g.k) c ∙ ap (λ x. fields f.c x g.s2 g.n g.k) s1 ∙ ap (λ x. fields f.c f.s1 x g.n g.k) s2 ∙ ap (λ x. fields f.c f.s1 f.s2 x g.k) n ∙ ap (λ x. fields f.c f.s1 f.s2 f.n x) k
+
+-- ---- what is printed for each want
+printed_one : (r : RowData) (f : Fields) (w : Want) → suits r.form w ≡ true → IsBelow f (bounds r.form) → Prints w (operand (operand_tokens r.form f w))
+unfolding suits operand_tokens
+printed_one r f (Reg bank field) s h =
+    let below = field_of-below field f (bounds r.form) h in
+    let most = at_most (field_of field (bounds r.form)) 16 s in
+    (field_of field f, omega arith, operand-word (register_text bank (field_of field f)))
+printed_one r f A10 s h = operand-word (codes "a10")
+printed_one r f (Number signed field) s h =
+    let bound = field_of field (bounds r.form) in
+    let v = field_of field f in
+    let below = field_of-below field f (bounds r.form) h in
+    let small = number_of-decimal (size_of signed bound v) (halved (size_of signed bound v) (size_of-small signed bound v below (small_of bound s))) in
+    (is_minus signed bound v, size_of signed bound v, operand-number (is_minus signed bound v) (size_of signed bound v) ∙ ap (λ n. plain (plain_number (is_minus signed bound v) n)) small)
+printed_one r f Target s h =
+    let bound = (bounds r.form).k in
+    let both_ways = is_two_way r.form in
+    let small = number_of-decimal (2 * size_of both_ways bound f.k) (size_of-small both_ways bound f.k h.k (small_of bound s)) in (
+      is_minus both_ways bound f.k,
+      2 * size_of both_ways bound f.k,
+      operand-target (is_minus both_ways bound f.k) (codes ".") (decimal (2 * size_of both_ways bound f.k)) ∙ ap (λ n. plain (added shape.Sum (codes ".") (is_minus both_ways bound f.k) n)) small,
+    )
+printed_one r f Absolute s h = unfold absolute_text in (address_in r.form f, operand-one (absolute_text r.form f) ∙ ap (λ n. plain (plain_number false n)) (number_of-hex (address_in r.form f) (address-small r f)))
+printed_one r f (Memory plus true) s h =
+    (f.s2, _, operand-offset plus (is_minus true (bounds r.form).k f.k) f.s2 (size_of true (bounds r.form).k f.k))
+printed_one r f (Memory plus false) s h = (f.s2, _, ap operand (append-nil (base plus f.s2)) ∙ operand-base plus f.s2)
+
+printed_all : (r : RowData) (f : Fields) (ws : List Want) → list_all (suits r.form) ws ≡ true → IsBelow f (bounds r.form) → AllPrint ws (map (λ w. operand (operand_tokens r.form f w)) ws)
+printed_all r f [] s h = tt
+printed_all r f (w ∷ ws) s h =
+    let two = both (suits r.form w) (list_all (suits r.form) ws) s in
+    (printed_one r f w two.0 h, printed_all r f ws two.1 h)
+
+-- ---- the row itself
+judged-printed : (k : ℕ) (r : RowData) (f : Fields) → slice_get listed k ≡ Some r → Fits r f → AreSmall f → judged r (wants_of r) (printed_operands r f) ≡ Some (record nothing { fields = f })
+unfolding judged
+judged-printed k r f at fits small =
+    let rest : rest_is_zero (uses_by (wants_of r)) f ≡ true = ap (λ u. rest_is_zero u f) (sym (uses_at listed k r uses_are at)) ∙ fits.zero in
+    ap (option_and_then (λ g. Some (apart r g))) (fill_all-printed r f (wants_of r) nothing (wants_suit k r at) fits.below)
+    ∙ ap (λ g. Some (apart r (record nothing { fields = g }))) (fields_back f (wants_of r) small rest)
+    ∙ ap (λ b. Some (cond b (record nothing { fields = f }) (broken 12 (record nothing { fields = f })))) fits.apart
+
+-- the statement of an instruction's name and printed operands is the instruction
+pub statement-printed : (i : InstData) (is : IsInst i) → statement is.row.name (printed_operands is.row (fields_in i)) ≡ Ok (i.row, record nothing { fields = fields_in i })
+statement-printed i is =
+    statement_is i.row is.row (printed_operands is.row (fields_in i)) (record nothing { fields = fields_in i }) is.at
+    (printed_all is.row (fields_in i) (wants_of is.row) (wants_suit i.row is.row is.at) is.fits.below)
+    (judged-printed i.row is.row (fields_in i) is.at is.fits (small i is))
+    refl

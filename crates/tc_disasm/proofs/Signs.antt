@@ -1,0 +1,27 @@
+-- A printed number fits its field and gives its value back.
+use Rattle.std.proofs.Common.{◌≡◌, ◌<◌, ◌*◌, ◌-◌, ◌/◌, ◌%◌, ◌==◌, ◌&&◌, ℕ, Bool, true, false, cond, refl, arith}
+use Rattle.std.specs.Prelude.{nat_lt, nat_le, not}
+use Rattle.std.proofs.lemmas.Bool.Decides.{nat_tests}
+use Rattle.tc_stmt.specs.Filling.{fits, wrapped, is_odd}
+use Rattle.tc_disasm.specs.Texts.{is_minus, size_of}
+
+pub fits-printed : (signed : Bool) (bound v : ℕ) → v < bound → bound % 2 ≡ 0 → fits signed bound (is_minus signed bound v) (size_of signed bound v) ≡ true
+unfolding fits
+fits-printed true bound v h even = by_sign (nat_le (bound / 2) v) refl
+  where
+    by_sign : (b : Bool) → nat_le (bound / 2) v ≡ b → cond b (nat_le (cond b (bound - v) v) (bound / 2)) (nat_lt (cond b (bound - v) v) (bound / 2)) ≡ true
+    by_sign true e = grind (arith, nat_tests)
+    by_sign false e = grind (arith, nat_tests)
+fits-printed false bound v h even = grind (arith, nat_tests)
+
+pub wrapped-printed : (signed : Bool) (bound v : ℕ) → v < bound → bound % 2 ≡ 0 → wrapped bound (is_minus signed bound v) (size_of signed bound v) ≡ v
+wrapped-printed true bound v h even = by_sign (nat_le (bound / 2) v)
+  where
+    by_sign : (b : Bool) → cond (b && not (cond b (bound - v) v == 0)) (bound - cond b (bound - v) v) (cond b (bound - v) v) ≡ v
+    by_sign true = grind (arith, nat_tests)
+    by_sign false = refl
+wrapped-printed false bound v h even = refl
+
+-- twice a displacement is even, and not far
+pub is_odd-twice : (n : ℕ) → is_odd (2 * n) ≡ false
+is_odd-twice n = grind (arith, nat_tests)

@@ -1,0 +1,165 @@
+-- A listing is assembled, and its object has the segments.
+use Rattle.std.proofs.Common.{◌≡◌, ◌<◌, ◌≤◌, ◌+◌, ◌^◌, zero, suc, ℕ, Bool, true, List, [], ◌∷◌, ◌++◌, length, map, get_or, refl, ap, sym, subst, ◌∙◌, arith, append-nil, inl, inr, Result, Ok, Err}
+use Rattle.std.specs.Prelude.{All, IfOk, IfErr}
+use Rattle.std.specs.List.{list_all}
+use Rattle.std.proofs.lemmas.Bool.{lt-ltb, cases_lt}
+use Rattle.std.proofs.lemmas.List.{get_or-map}
+use Rattle.std.proofs.lemmas.List.Sorted.{All-permutation, length_permutation, sum_by-IsPermutation}
+use Rattle.elf_image.specs.declared.images.Segment.{Segment}
+use Rattle.elf_image.specs.Images.{SegmentData, ImageData, IsImage, segment_data}
+use Rattle.tc_object.specs.Objects.{SectionData, ObjectData}
+use Rattle.tc_stmt.specs.Pieces.{is_kind}
+use Rattle.tc_asm.specs.Lines.{LineData, line_data, line_in, lines_in, pieces_line, line_from}
+use Rattle.tc_asm.specs.Symbols.{SymbolData}
+use Rattle.tc_asm.specs.Drafts.{DraftData, start}
+use Rattle.tc_asm.specs.declared.errors.AsmErr.{AsmErr}
+use Rattle.tc_asm.specs.declared.errors.AsmErr.TheVariants.{Bad, NoMemory}
+use Rattle.tc_asm.specs.Errors.{IfBad}
+use Rattle.tc_asm.specs.Objects.{section_of, relocs_from, object_of}
+use Rattle.tc_asm.specs.Sources.{with_line, line_rule, drafted, symbols_of, KeepsRules, IsLeast}
+use Rattle.tc_disasm.specs.Listing.{by_address, sections_from, listing_of}
+use Rattle.tc_disasm.specs.Assembled.{section_name, HoldsSegments, AreBytes, ReadsBack}
+use Rattle.tc_disasm.proofs.LineTokens.{reads-tokens, lexes-end}
+use Rattle.tc_disasm.proofs.LineAt.{is_byte}
+use Rattle.tc_disasm.proofs.Runs.{Runs, runs-append, keeps-at}
+use Rattle.tc_disasm.proofs.Growing.{draft}
+use Rattle.tc_disasm.proofs.Contents.{Sections, sections, parts_from, total_of, are_bytes}
+use Rattle.tc_disasm.proofs.Ordered.{by_address-permutes, by_address-ascends}
+use Rattle.tc_disasm.proofs.ShortTexts.{short-sections}
+
+-- ---- the object of the sections
+sections-bytes : (n : ℕ) (ss : List SegmentData) → map (λ (s : SectionData). s.bytes) (map section_of (parts_from n ss)) ≡ map (λ (s : SegmentData). s.bytes) ss
+sections-bytes n [] = refl
+sections-bytes n (s ∷ ss) = ap (λ xs. s.bytes ∷ xs) (sections-bytes (n + 1) ss)
+
+sections-names : (n : ℕ) (ss : List SegmentData) (k : ℕ) (d : SectionData) → k < length (map section_of (parts_from n ss)) → (get_or (map section_of (parts_from n ss)) k d).name ≡ section_name (n + k)
+sections-names n [] k d less = absurd (omega arith)
+sections-names n (s ∷ ss) zero d less = ap section_name (omega arith)
+sections-names n (s ∷ ss) (suc k) d less = sections-names (n + 1) ss k d (omega arith) ∙ ap section_name (omega arith)
+
+no_relocs : (number n : ℕ) (ss : List SegmentData) → relocs_from [] number (parts_from n ss) ≡ []
+no_relocs number n [] = refl
+no_relocs number n (s ∷ ss) = no_relocs (number + 1) (n + 1) ss
+
+holds-sections : (ss : List SegmentData) (last total : ℕ) → HoldsSegments ss (object_of (draft last (parts_from 0 (by_address ss)) total))
+holds-sections ss last total = record {
+  ordered = by_address ss;
+  same = by_address-permutes ss;
+  ascending = by_address-ascends ss;
+  bytes = sections-bytes 0 (by_address ss);
+  names = λ k d less. sections-names 0 (by_address ss) k d less ∙ ap section_name (omega arith);
+  symbols = refl;
+  relocs = no_relocs 0 0 (by_address ss);
+}
+
+-- ---- the whole text
+empty_line : line_in [] ≡ line_data 15 []
+unfolding pieces_line line_from is_kind
+empty_line = (reads-tokens [] [] (line_data 15 []) lexes-end (omega arith) refl).is
+
+runs-empty : (labels : List SymbolData) (d : DraftData) → Runs labels d (line_data 15 [] ∷ []) d
+unfolding with_line line_rule
+runs-empty labels d = record { keeps = (refl, tt); makes = refl }
+
+list_all-from : {X : Type 0} (P : X → Type 0) (p : X → Bool) → ((x : X) → P x → p x ≡ true) → (xs : List X) → All P xs → list_all p xs ≡ true
+list_all-from P p h [] all = refl
+list_all-from P p h (x ∷ xs) all = rw (h x (all 0 x (omega arith))) (list_all-from P p h xs (λ k d less. all (suc k) d (omega arith)))
+
+bytes-pass : (bs : List ℕ) → All (λ b. b < 256) bs → list_all is_byte bs ≡ true
+bytes-pass bs all = list_all-from (λ b. b < 256) is_byte (λ b h. lt-ltb b 256 h) bs all
+
+module _ (i : ImageData) (is : IsImage i) (bytes : AreBytes i.segments) where
+  ss : List SegmentData
+  ss = by_address i.segments
+
+  few : 0 + length (by_address i.segments) ≤ 64
+  few = let few = is.few in omega (arith, length_permutation i.segments (by_address i.segments) (by_address-permutes i.segments))
+
+  all_bytes : list_all are_bytes (by_address i.segments) ≡ true
+  all_bytes =
+      list_all-from (λ (s : SegmentData). All (λ b. b < 256) s.bytes) are_bytes (λ s h. bytes-pass s.bytes h) (by_address i.segments)
+      (All-permutation (λ (s : SegmentData). All (λ b. b < 256) s.bytes) i.segments (by_address i.segments) (by_address-permutes i.segments) bytes)
+
+  total : total_of (by_address i.segments) ≤ 2 ^ 24
+  total = let small = is.small in let same = sum_by-IsPermutation (λ (s : SegmentData). length s.bytes) i.segments (by_address i.segments) (by_address-permutes i.segments) in omega arith
+
+  text : Sections 0 (by_address i.segments)
+  text = sections 0 (by_address i.segments) few all_bytes
+
+  lines-are : lines_in (listing_of i) ≡ text.ls ++ (line_data 15 [] ∷ [])
+  unfolding listing_of
+  lines-are =
+      ap lines_in (sym (append-nil (sections_from 0 (by_address i.segments))))
+      ∙ text.lines.are []
+      ∙ ap (λ l. text.ls ++ (l ∷ [])) empty_line
+
+  runs : (labels : List SymbolData) → (last : ℕ) × Runs labels start (text.ls ++ (line_data 15 [] ∷ [])) (draft last (parts_from 0 (by_address i.segments)) (0 + total_of (by_address i.segments)))
+  runs labels =
+      let r = text.runs labels 64 0 [] refl few tt (let t = total in omega arith) in
+      let d : DraftData = draft r.0 (parts_from 0 (by_address i.segments)) (0 + total_of (by_address i.segments)) in
+      (r.0, runs-append labels start d d text.ls (line_data 15 [] ∷ []) r.1 (runs-empty labels d))
+
+  -- of these lines, whatever list they are
+  module _ (ls : List LineData) (same : ls ≡ text.ls ++ (line_data 15 [] ∷ [])) where
+    keeps-lines : KeepsRules ls (length ls)
+    keeps-lines =
+        subst (λ (xs : List LineData). KeepsRules xs (length xs)) (sym same)
+        (λ k d less. keeps-at (symbols_of (text.ls ++ (line_data 15 [] ∷ []))) start (text.ls ++ (line_data 15 [] ∷ [])) (runs (symbols_of (text.ls ++ (line_data 15 [] ∷ [])))).1.keeps k d less)
+
+    never-breaks : (line rule : ℕ) → IsLeast ls line rule → ⊥
+    never-breaks line rule least = least.some (sym (least.broken (line_data 15 [])) ∙ keeps-lines least.place (line_data 15 []) least.within)
+
+    holds-lines : HoldsSegments i.segments (object_of (drafted (symbols_of ls) ls))
+    holds-lines =
+        let r = runs (symbols_of ls) in
+        subst (λ (d : DraftData). HoldsSegments i.segments (object_of d)) (sym (ap (drafted (symbols_of ls)) same ∙ r.1.makes)) (holds-sections i.segments r.0 (0 + total_of (by_address i.segments)))
+
+  short : length (listing_of i) ≤ 2 ^ 30
+  unfolding listing_of
+  short =
+      let few_here = few in
+      let total_here = total in
+      let whole = short-sections 0 (by_address i.segments) few all_bytes in
+      omega arith
+
+  pub reads_back : ReadsBack i
+  reads_back = record {
+    short = short;
+    keeps = keeps-lines (lines_in (listing_of i)) lines-are;
+    never = never-breaks (lines_in (listing_of i)) lines-are;
+    holds = holds-lines (lines_in (listing_of i)) lines-are;
+  }
+
+-- ---- calls
+-- one segment more has bytes
+pub bytes_more : (segments : List Segment) (i : ℕ) (x : Segment) (bs : List ℕ) → i < length segments → x ≡ get_or segments i x → bs ≡ x.bytes.items → All (λ b. b < 256) bs
+    → ((k : ℕ) (d : SegmentData) → k < i → All (λ b. b < 256) (get_or (map segment_data segments) k d).bytes)
+    → (k : ℕ) (d : SegmentData) → k < i + 1 → All (λ b. b < 256) (get_or (map segment_data segments) k d).bytes
+bytes_more segments i x bs within is bytes here before k d h =
+    elim (cases_lt k i) [
+      | inl less ↦ before k d less
+      | inr last ↦
+          let same : k ≡ i = omega arith in
+          let there : bs ≡ (get_or (map segment_data segments) k d).bytes =
+          bytes ∙ ap (λ (s : Segment). s.bytes.items) is ∙ ap (λ (s : SegmentData). s.bytes) (sym (get_or-map segment_data segments i x d within)) ∙ ap (λ j. (get_or (map segment_data segments) j d).bytes) (sym same) in
+          subst (λ (xs : List ℕ). All (λ b. b < 256) xs) there here
+    ]
+
+-- the image of a call
+pub reads_back-of : (image now : ImageData) (lent segments : List Segment) → image.segments ≡ map segment_data segments → image ≡ now → IsImage image → lent ≡ segments → AreBytes (map segment_data lent) → ReadsBack now
+reads_back-of image now lent segments seen same is value bytes =
+    subst ReadsBack same (reads_back image is (subst AreBytes (sym seen) (subst (λ (xs : List Segment). AreBytes (map segment_data xs)) value bytes)))
+
+module _ (i : ImageData) (back : ReadsBack i) (source : List ℕ) (is : source ≡ listing_of i) where
+  pub short_source : length source ≤ 2 ^ 30
+  short_source = subst (λ (xs : List ℕ). length xs ≤ 2 ^ 30) (sym is) back.short
+
+  pub holds_of : (r : Result ObjectData AsmErr) → IfOk r (λ o. o ≡ object_of (drafted (symbols_of (lines_in source)) (lines_in source))) → IfOk r (λ o. HoldsSegments i.segments o)
+  holds_of (Ok o) e =
+      subst (HoldsSegments i.segments) (sym (e ∙ ap (λ xs. object_of (drafted (symbols_of (lines_in xs)) (lines_in xs))) is)) back.holds
+  holds_of (Err x) e = e
+
+  pub never_of : (r : Result ObjectData AsmErr) → IfErr r (IfBad (IsLeast (lines_in source))) → IfErr r (λ e. e ≡ NoMemory)
+  never_of (Ok o) h = h
+  never_of (Err (Bad line rule)) h = absurd (back.never line rule (subst (λ (xs : List ℕ). IsLeast (lines_in xs) line rule) is h))
+  never_of (Err NoMemory) h = refl

@@ -1,0 +1,5 @@
+use Rattle.tc_disasm.proofs.Whole.{reads_back}
+use Rattle.tc_disasm.proofs.laws.listing_law.Goals as goal
+
+pub returns : goal.returns
+returns c = reads_back

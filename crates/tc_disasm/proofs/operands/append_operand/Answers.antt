@@ -1,0 +1,9 @@
+use Rattle.std.proofs.Common.{◌≡◌, ap, arith}
+use Rattle.tc_isa.specs.Words.{bounds}
+use Rattle.tc_disasm.proofs.Bounds.{bounds-k}
+use Rattle.tc_disasm.proofs.operands.append_operand.Goals as goal
+
+pub append_target-requires-clause-small : goal.append_target-requires-clause-small
+append_target-requires-clause-small c =
+    let bound : c.bounds_of.result.k ≡ (bounds c.args.form).k = ap (λ b. b.k) c.bounds_of.ensures in
+    omega (arith, bound, bounds-k c.args.form)

@@ -1,0 +1,40 @@
+-- What the listing of an image is assembled to.
+use Rattle.std.specs.Prelude.{◌≡◌, ◌≤◌, ◌<◌, ◌^◌, ◌++◌, ℕ, List, [], codes, length, map, slice_index_or, All}
+use Rattle.std.specs.Fmt.{decimal}
+use Rattle.std.specs.List.Sorted.{IsPermutation, IsNonDecreasing}
+use Rattle.elf_image.specs.Images.{SegmentData, ImageData, IsImage}
+use Rattle.tc_object.specs.Objects.{SectionData, ObjectData}
+use Rattle.tc_asm.specs.Lines.{lines_in}
+use Rattle.tc_asm.specs.Objects.{object_of}
+use Rattle.tc_asm.specs.Sources.{drafted, symbols_of, KeepsRules, IsLeast}
+use Rattle.tc_disasm.specs.Listing.{listing_of}
+
+-- the name of a section by its number: `s0`, `s1` and so on
+abbrev pub section_name : ℕ → List ℕ
+section_name n = codes "s" ++ decimal n
+
+-- the segments in ascending order of their addresses are the object's sections, byte by byte; it has nothing else
+pub record HoldsSegments (segments : List SegmentData) (o : ObjectData) : Type 0 where
+  pub ordered : List SegmentData
+  pub same : IsPermutation segments ordered
+  pub ascending : IsNonDecreasing (map (λ (s : SegmentData). s.at) ordered)
+  pub bytes : map (λ (s : SectionData). s.bytes) o.sections ≡ map (λ (s : SegmentData). s.bytes) ordered
+  pub names : (k : ℕ) (d : SectionData) → k < length o.sections → (slice_index_or o.sections k d).name ≡ section_name k
+  pub symbols : o.symbols ≡ []
+  pub relocs : o.relocs ≡ []
+
+-- the bytes of the segments are bytes
+abbrev pub AreBytes : List SegmentData → Type 0
+AreBytes segments = All (λ (s : SegmentData). All (λ b. b < 256) s.bytes) segments
+
+-- The listing of the image is a source that isn't too long, none of its lines breaks a rule, so there's no least one
+-- that does, and the object that the lines put together has the segments as its sections.
+pub record ReadsBack (i : ImageData) : Type 0 where
+  pub short : length (listing_of i) ≤ 2 ^ 30
+  pub keeps : KeepsRules (lines_in (listing_of i)) (length (lines_in (listing_of i)))
+  pub never : (line rule : ℕ) → IsLeast (lines_in (listing_of i)) line rule → ⊥
+  pub holds : HoldsSegments i.segments (object_of (drafted (symbols_of (lines_in (listing_of i))) (lines_in (listing_of i))))
+
+-- of every image
+abbrev pub ListingLaw : Type 0
+ListingLaw = (i : ImageData) → IsImage i → AreBytes i.segments → ReadsBack i

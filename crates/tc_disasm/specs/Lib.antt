@@ -1,0 +1,9 @@
+pub mod Texts
+pub mod Listing
+pub mod Views
+pub mod Tokens
+pub mod Lexed
+pub mod Apart
+pub mod Puts
+pub mod Refused
+pub mod Assembled

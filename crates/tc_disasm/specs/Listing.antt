@@ -1,0 +1,70 @@
+-- The listing of an image.
+use Rattle.std.specs.Prelude.{ℕ, zero, suc, ◌+◌, ◌-◌, nat_lt, min, if◌then◌else◌, List, [], ◌∷◌, ◌++◌, length, take, codes, fold, Result, Ok, Err}
+use Rattle.std.specs.Fmt.{decimal}
+use Rattle.std.specs.List.{flat_map}
+use Rattle.elf_image.specs.Images.{ImageData, SegmentData}
+use Rattle.tc_isa.specs.Insts.{InstData}
+use Rattle.tc_encode.specs.declared.errors.DecodeErr.{DecodeErr}
+use Rattle.tc_encode.specs.Decoding.{decoded_of}
+use Rattle.tc_disasm.specs.Texts.{hex_byte, hex_word, text_of}
+
+-- two bytes as a number, the first one lowest, or a last byte
+abbrev pub data_text : List ℕ → List ℕ
+data_text [] = []
+data_text (a ∷ []) = codes ".byte 0x" ++ hex_byte a
+data_text (a ∷ b ∷ bs) = codes ".half 0x" ++ (hex_byte b ++ hex_byte a)
+
+-- the instruction that the bytes begin with, else data
+abbrev pub piece_text : Result (InstData × ℕ) DecodeErr → List ℕ → List ℕ
+piece_text (Ok found) bytes = text_of found.0
+piece_text (Err e) bytes = data_text bytes
+
+-- and how many bytes it has
+abbrev pub piece_size : Result (InstData × ℕ) DecodeErr → List ℕ → ℕ
+piece_size (Ok found) bytes = found.1
+piece_size (Err e) bytes = min 2 (length bytes)
+
+unfoldable pub text_at : List ℕ → List ℕ
+text_at bytes = piece_text (decoded_of bytes) bytes
+
+unfoldable pub size_at : List ℕ → ℕ
+size_at bytes = piece_size (decoded_of bytes) bytes
+
+-- behind a text: an address, the bytes there, and the line's end
+unfoldable pub remark : ℕ → List ℕ → List ℕ
+remark address bytes = codes " # " ++ (hex_word address ++ (32 ∷ (flat_map hex_byte bytes ++ 10 ∷ [])))
+
+-- the line of what the bytes from an address on begin with
+unfoldable pub line_at : ℕ → List ℕ → List ℕ
+line_at address bytes = text_at bytes ++ remark address (take (size_at bytes) bytes)
+
+-- the lines of the bytes from an address on, once `skip` bytes are passed over
+unfoldable pub lines_from : ℕ → List ℕ → ℕ → List ℕ
+lines_from address [] skip = []
+lines_from address (b ∷ bs) zero = line_at address (b ∷ bs) ++ lines_from (address + 1) bs (size_at (b ∷ bs) - 1)
+lines_from address (b ∷ bs) (suc skip) = lines_from (address + 1) bs skip
+
+-- the line that begins the section of a number
+unfoldable pub section_line : ℕ → ℕ → List ℕ
+section_line number address = codes ".section s" ++ (decimal number ++ (codes " # " ++ (hex_word address ++ 10 ∷ [])))
+
+unfoldable pub section_text : ℕ → SegmentData → List ℕ
+section_text number s = section_line number s.at ++ lines_from s.at s.bytes 0
+
+-- the sections, numbered from here on
+unfoldable pub sections_from : ℕ → List SegmentData → List ℕ
+sections_from number [] = []
+sections_from number (s ∷ ss) = section_text number s ++ sections_from (number + 1) ss
+
+-- a segment among those in ascending order of their addresses
+unfoldable pub with_segment : SegmentData → List SegmentData → List SegmentData
+with_segment s [] = s ∷ []
+with_segment s (t ∷ ts) = if nat_lt s.at t.at then s ∷ t ∷ ts else t ∷ with_segment s ts
+
+-- the segments in ascending order of their addresses
+abbrev pub by_address : List SegmentData → List SegmentData
+by_address ss = fold (λ sorted s. with_segment s sorted) [] ss
+
+-- the listing: the segments in ascending order of their addresses, numbered so from 0
+unfoldable pub listing_of : ImageData → List ℕ
+listing_of i = sections_from 0 (by_address i.segments)

@@ -1,0 +1,36 @@
+-- What is printed for a want, as an operand; and what no row takes.
+use Rattle.std.specs.Prelude.{◌≡◌, ℕ, ◌<◌, ◌≤◌, Bool, true, false, List, [], ◌∷◌, codes, Option, Some, None}
+use Rattle.tc_stmt.specs.declared.values.Shape.TheVariants as shape
+use Rattle.tc_stmt.specs.declared.wanting.Want.{Want}
+use Rattle.tc_stmt.specs.declared.wanting.Want.TheVariants.{Reg, A10, Number, Target, Absolute, Memory}
+use Rattle.tc_stmt.specs.Operands.{OperandData, ValueData, value, plain, memory}
+use Rattle.tc_stmt.specs.Filling.{FoundData}
+use Rattle.tc_disasm.specs.Texts.{register_text}
+
+-- the operand that is printed for a want
+abbrev pub Prints : Want → OperandData → Type 0
+Prints (Reg p x) o = (n : ℕ) × (n < 16) × (o ≡ plain (value shape.Word (register_text p n) false 0))
+Prints A10 o = o ≡ plain (value shape.Word (codes "a10") false 0)
+Prints (Number s x) o = (minus : Bool) × (size : ℕ) × (o ≡ plain (value shape.Number [] minus size))
+Prints Target o = (minus : Bool) × (size : ℕ) × (o ≡ plain (value shape.Sum (codes ".") minus size))
+Prints Absolute o = (size : ℕ) × (o ≡ plain (value shape.Number [] false size))
+Prints (Memory p u) o = (n : ℕ) × (v : ValueData) × (o ≡ memory p (register_text true n) v)
+
+abbrev pub AllPrint : List Want → List OperandData → Type 0
+AllPrint [] [] = Unit {0}
+AllPrint [] (o ∷ os) = ⊥
+AllPrint (w ∷ ws) [] = ⊥
+AllPrint (w ∷ ws) (o ∷ os) = Prints w o × AllPrint ws os
+
+-- nothing, or a rule is broken
+abbrev pub IsRefused : Option FoundData → Type 0
+IsRefused None = Unit {0}
+IsRefused (Some f) = f.rule < 15
+
+-- a rule that was broken stays broken
+abbrev pub falls_by : FoundData → Option FoundData → Type 0
+falls_by acc None = Unit {0}
+falls_by acc (Some f) = f.rule ≤ acc.rule
+
+pub record Falls (acc : FoundData) (o : Option FoundData) : Type 0 where
+  pub is : falls_by acc o

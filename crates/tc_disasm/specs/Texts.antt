@@ -1,0 +1,83 @@
+-- The text of an instruction.
+use Rattle.std.specs.Prelude.{ℕ, ◌+◌, ◌-◌, ◌*◌, ◌/◌, ◌%◌, ◌^◌, ◌==◌, ◌&&◌, not, nat_lt, nat_le, Bool, true, if◌then◌else◌, List, [], ◌∷◌, ◌++◌, codes, slice_get}
+use Rattle.std.specs.Fmt.{decimal}
+use Rattle.std.specs.List.{flat_map}
+use Rattle.std.specs.Option.{option_map_or}
+use Rattle.tc_isa.specs.declared.table.Form.{Form}
+use Rattle.tc_isa.specs.declared.fields.Fields.{Fields}
+use Rattle.tc_isa.specs.Words.{bounds, form_index}
+use Rattle.tc_isa.specs.Rows.{RowData, listed}
+use Rattle.tc_isa.specs.Insts.{InstData, fields_in}
+use Rattle.tc_isa.specs.Shapes.{place, code_place}
+use Rattle.tc_stmt.specs.declared.wanting.Want.{Want}
+use Rattle.tc_stmt.specs.declared.wanting.Want.TheVariants.{Reg, A10, Number, Target, Absolute, Memory}
+use Rattle.tc_stmt.specs.Wants.{wants_of}
+use Rattle.tc_stmt.specs.Filling.{field_of}
+
+-- a hex digit, in upper case
+unfoldable pub hex_digit : ℕ → ℕ
+hex_digit n = if nat_lt n 10 then 48 + n else 55 + n
+
+-- a byte as two of them, and a word as eight
+unfoldable pub hex_byte : ℕ → List ℕ
+hex_byte b = hex_digit (b / 16) ∷ hex_digit (b % 16) ∷ []
+
+unfoldable pub hex_word : ℕ → List ℕ
+hex_word x = hex_byte (x / 2 ^ 24) ++ (hex_byte (x / 2 ^ 16 % 256) ++ (hex_byte (x / 2 ^ 8 % 256) ++ hex_byte (x % 256)))
+
+-- a register of a bank, true for address registers: `d0` to `d15`, `a0` to `a15`
+unfoldable pub register_text : Bool → ℕ → List ℕ
+register_text bank n = (if bank then 97 else 100) ∷ decimal n
+
+-- whether the raw value of a field below a bound is a number below 0, and how far from 0 the number is
+abbrev pub is_minus : Bool → ℕ → ℕ → Bool
+is_minus signed bound v = signed && nat_le (bound / 2) v
+
+abbrev pub size_of : Bool → ℕ → ℕ → ℕ
+size_of signed bound v = if is_minus signed bound v then bound - v else v
+
+-- a constant, in decimal
+unfoldable pub number_text : Bool → ℕ → ℕ → List ℕ
+number_text signed bound v = if is_minus signed bound v then 45 ∷ decimal (bound - v) else decimal v
+
+-- a displacement reaches both ways, but in SBR rows
+unfoldable pub is_two_way : Form → Bool
+is_two_way form = not (form_index form == 13)
+
+-- a target: `.+` or `.-` and a number of bytes, twice the displacement
+unfoldable pub target_text : Bool → ℕ → ℕ → List ℕ
+target_text both bound k = 46 ∷ (if is_minus both bound k then 45 ∷ decimal (2 * (bound - k)) else 43 ∷ decimal (2 * k))
+
+-- the address that the fields of an ABS row, or of a B row, name
+unfoldable pub address_in : Form → Fields → ℕ
+address_in form f = if form_index form == 8 then place f else code_place f
+
+-- `0x` and the address
+unfoldable pub absolute_text : Form → Fields → List ℕ
+absolute_text form f = 48 ∷ 120 ∷ hex_word (address_in form f)
+
+-- `[aN]` or `[aN+]`
+unfoldable pub base_text : Bool → ℕ → List ℕ
+base_text plus n = 91 ∷ (register_text true n ++ (if plus then codes "+]" else codes "]"))
+
+-- what stands at an operand's place, with these fields
+unfoldable pub operand_text : Form → Fields → Want → List ℕ
+operand_text form f (Reg bank field) = register_text bank (field_of field f)
+operand_text form f A10 = codes "a10"
+operand_text form f (Number signed field) = number_text signed (field_of field (bounds form)) (field_of field f)
+operand_text form f Target = target_text (is_two_way form) (bounds form).k f.k
+operand_text form f Absolute = absolute_text form f
+operand_text form f (Memory plus offset) = base_text plus f.s2 ++ (if offset then number_text true (bounds form).k f.k else [])
+
+-- the operands behind a blank, parted by a comma and a blank
+unfoldable pub operands_text : Form → Fields → List Want → List ℕ
+operands_text form f [] = []
+operands_text form f (w ∷ ws) = 32 ∷ (operand_text form f w ++ flat_map (λ v. codes ", " ++ operand_text form f v) ws)
+
+-- a row's name, and its operands
+unfoldable pub row_text : RowData → Fields → List ℕ
+row_text r f = r.name ++ operands_text r.form f (wants_of r)
+
+-- the text of an instruction
+unfoldable pub text_of : InstData → List ℕ
+text_of i = option_map_or (λ r. row_text r (fields_in i)) (slice_get listed i.row) []

@@ -1,0 +1,60 @@
+// The listing of an image.
+ghost use Rattle.std.specs.Prelude.{◌≡◌, ◌++◌, ◌≤◌, ◌+◌, ◌^◌, length, IfOk, OnOk, string_bytes, IsTrue, map};
+ghost use Rattle.std.specs.List.{list_all};
+ghost use Rattle.elf_image.specs.Images.{segment_data, is_segment};
+ghost use Rattle.tc_disasm.specs.Listing.{section_line, section_text, sections_from, listing_of};
+ghost use Rattle.tc_disasm.specs.Views.{lent_data};
+
+use crate::hex::{append, append_word};
+use crate::operands::append_decimal;
+use crate::ordering::by_address;
+use crate::pieces::append_lines;
+use elf_image::{Image, Segment};
+use std::alloc::Global;
+use tcd_base::NoMemory;
+
+// The line that begins a section.
+#[tactic(auto, unfolding(crate::specs::Listing::section_line))]
+fn append_section_line(text: &mut String, number: u32, address: u32) -> Result<(), NoMemory>
+    ensures { OnOk result (string_bytes text.new ≡ string_bytes text.old ++ section_line number address) }
+{
+    append(text, ".section s")?;
+    append_decimal(text, number)?;
+    append(text, " # ")?;
+    append_word(text, address)?;
+    append(text, "\n")
+}
+
+#[tactic(auto, unfolding(crate::specs::Listing::section_text))]
+fn append_section(text: &mut String, number: u32, segment: &Segment) -> Result<(), NoMemory>
+    requires { segment.now.at + length segment.now.bytes.items ≤ 2 ^ 32 }
+    ensures { OnOk result (string_bytes text.new ≡ string_bytes text.old ++ section_text number (segment_data segment.now)) }
+{
+    append_section_line(text, number, segment.at)?;
+    append_lines(text, segment.at, &segment.bytes)
+}
+
+// The sections, one behind the other.
+fn append_sections(text: &mut String, segments: &[&Segment]) -> Result<(), NoMemory>
+    requires few { length segments.now ≤ 64 }
+    requires segments { IsTrue (list_all is_segment (map lent_data segments.now)) }
+    ensures { OnOk result (string_bytes text.new ≡ string_bytes text.old ++ sections_from 0 (map lent_data segments.now)) }
+{
+    for i in 0..segments.len() {
+        append_section(text, i as u32, segments[i])?;
+    }
+    Ok(())
+}
+
+/// The listing of an image: for each segment, in ascending order of the addresses, a line `.section` with its number
+/// and address, and then a line for each instruction, with its address and bytes. Bytes that are no instruction are
+/// `.half`, or `.byte` for a last one. Each line ends with a line feed. Takes time linear in the image's size.
+#[tactic(auto, unfolding(crate::specs::Listing::listing_of))]
+pub fn listing(alloc: Global, image: &Image) -> Result<String, NoMemory>
+    ensures { IfOk result (λ text. string_bytes text ≡ listing_of image.now) }
+{
+    let mut text = String::new(alloc);
+    let sorted = by_address(alloc, &image.segments)?;
+    append_sections(&mut text, &sorted)?;
+    Ok(text)
+}

@@ -1,0 +1,177 @@
+// The text of an operand.
+ghost use Rattle.std.specs.Prelude.{◌≡◌, ◌≤◌, ◌*◌, ◌++◌, OnOk, string_bytes, ◌<◌, ◌^◌};
+ghost use Rattle.std.specs.Fmt.{decimal};
+ghost use Rattle.tc_isa.specs.Words.{IsBelow, bounds};
+ghost use Rattle.tc_isa.specs.Shapes.{code_place};
+ghost use Rattle.tc_stmt.specs.declared.wanting.Want.TheVariants.{Memory};
+ghost use Rattle.tc_stmt.specs.Filling.{field_of};
+ghost use Rattle.tc_disasm.specs.Texts.{register_text, number_text, is_two_way, target_text, address_in, absolute_text, base_text, operand_text};
+
+use crate::hex::{append, append_word};
+use tc_isa::{Fields, Form, bounds_of};
+use tc_stmt::{Field, Want};
+use tcd_base::NoMemory;
+
+/// Puts a number there, in decimal.
+pub(crate) fn append_decimal(text: &mut String, n: u32) -> Result<(), NoMemory>
+    ensures { OnOk result (string_bytes text.new ≡ string_bytes text.old ++ decimal n) }
+{
+    write!(text, "{n}")?;
+    Ok(())
+}
+
+#[tactic(auto, unfolding(tc_stmt::specs::Filling::field_of))]
+fn field_of(field: Field, f: &Fields) -> u32
+    ensures { result ≡ field_of field f.now }
+{
+    match field {
+        Field::C => u32::from(f.c),
+        Field::S1 => u32::from(f.s1),
+        Field::S2 => u32::from(f.s2),
+        Field::N => u32::from(f.n),
+        Field::K => f.k,
+    }
+}
+
+#[tactic(auto, unfolding(crate::specs::Texts::register_text))]
+fn append_register(text: &mut String, is_address: bool, n: u32) -> Result<(), NoMemory>
+    ensures { OnOk result (string_bytes text.new ≡ string_bytes text.old ++ register_text is_address n) }
+{
+    append(text, if is_address { "a" } else { "d" })?;
+    append_decimal(text, n)
+}
+
+#[tactic(auto, unfolding(crate::specs::Texts::number_text))]
+fn append_number(text: &mut String, signed: bool, bound: u32, value: u32) -> Result<(), NoMemory>
+    requires { value ≤ bound }
+    ensures { OnOk result (string_bytes text.new ≡ string_bytes text.old ++ number_text signed bound value) }
+{
+    if signed && value >= bound / 2 {
+        append(text, "-")?;
+        append_decimal(text, bound - value)
+    } else {
+        append_decimal(text, value)
+    }
+}
+
+#[tactic(auto, unfolding(crate::specs::Texts::is_two_way, tc_isa::specs::Words::form_index))]
+fn is_two_way(form: Form) -> bool
+    ensures { result ≡ is_two_way form }
+{
+    match form {
+        Form::Sbr => false,
+        Form::Rlc | Form::Rr | Form::Rc | Form::Bol | Form::Bo | Form::Brr | Form::Brc | Form::B =>
+            true,
+        Form::Abs | Form::Sys | Form::Sr | Form::Sc | Form::Sb | Form::Src | Form::Srr => true,
+        Form::Slr | Form::Ssr => true,
+    }
+}
+
+#[tactic(auto, unfolding(crate::specs::Texts::target_text))]
+fn append_target(text: &mut String, both: bool, bound: u32, k: u32) -> Result<(), NoMemory>
+    requires within { k ≤ bound }
+    requires small { bound ≤ 2 ^ 24 }
+    ensures { OnOk result (string_bytes text.new ≡ string_bytes text.old ++ target_text both bound k) }
+{
+    if both && k >= bound / 2 {
+        append(text, ".-")?;
+        append_decimal(text, 2 * (bound - k))
+    } else {
+        append(text, ".+")?;
+        append_decimal(text, 2 * k)
+    }
+}
+
+#[tactic(auto, unfolding(crate::specs::Texts::address_in, tc_isa::specs::Words::form_index))]
+fn address_in(form: Form, f: &Fields) -> u32
+    ensures { result ≡ address_in form f.now }
+{
+    match form {
+        Form::Abs => f.k / 16384 % 16 * 268_435_456 + f.k % 16384,
+        Form::Rlc | Form::Rr | Form::Rc | Form::Bol | Form::Bo | Form::Brr | Form::Brc | Form::B =>
+            code_address(f),
+        Form::Sys | Form::Sr | Form::Sc | Form::Sb | Form::Sbr | Form::Src | Form::Srr =>
+            code_address(f),
+        Form::Slr | Form::Ssr => code_address(f),
+    }
+}
+
+fn code_address(f: &Fields) -> u32
+    ensures { result ≡ code_place f.now }
+{
+    f.k / 1_048_576 % 16 * 268_435_456 + f.k % 1_048_576 * 2
+}
+
+#[tactic(auto, unfolding(crate::specs::Texts::absolute_text))]
+fn append_absolute(text: &mut String, form: Form, f: &Fields) -> Result<(), NoMemory>
+    ensures { OnOk result (string_bytes text.new ≡ string_bytes text.old ++ absolute_text form f.now) }
+{
+    append(text, "0x")?;
+    append_word(text, address_in(form, f))
+}
+
+#[tactic(auto, unfolding(crate::specs::Texts::base_text))]
+fn append_base(text: &mut String, plus: bool, n: u32) -> Result<(), NoMemory>
+    ensures { OnOk result (string_bytes text.new ≡ string_bytes text.old ++ base_text plus n) }
+{
+    append(text, "[")?;
+    append_register(text, true, n)?;
+    append(text, if plus { "+]" } else { "]" })
+}
+
+#[tactic(auto, unfolding(crate::specs::Texts::operand_text))]
+fn append_memory(
+    text: &mut String,
+    form: Form,
+    f: &Fields,
+    plus: bool,
+    offset: bool,
+) -> Result<(), NoMemory>
+    requires { IsBelow f.now (bounds form) }
+    ensures { OnOk result (string_bytes text.new ≡ string_bytes text.old ++ operand_text form f.now (Memory plus offset)) }
+{
+    append_base(text, plus, u32::from(f.s2))?;
+    if offset {
+        append_number(text, true, bounds_of(form).k, f.k)?;
+    }
+    Ok(())
+}
+
+/// Puts what stands at an operand's place there.
+#[tactic(auto, unfolding(crate::specs::Texts::operand_text))]
+pub(crate) fn append_operand(
+    text: &mut String,
+    form: Form,
+    f: &Fields,
+    want: Want,
+) -> Result<(), NoMemory>
+    requires { IsBelow f.now (bounds form) }
+    ensures { OnOk result (string_bytes text.new ≡ string_bytes text.old ++ operand_text form f.now want) }
+{
+    match want {
+        Want::Reg(bank, field) => append_register(text, bank, field_of(field, f)),
+        Want::A10 => append(text, "a10"),
+        Want::Number(signed, field) => append_field(text, signed, field, form, f),
+        Want::Target => append_target(text, is_two_way(form), bounds_of(form).k, f.k),
+        Want::Absolute => append_absolute(text, form, f),
+        Want::Memory(plus, offset) => append_memory(text, form, f, plus, offset),
+    }
+}
+
+fn append_field(
+    text: &mut String,
+    signed: bool,
+    field: Field,
+    form: Form,
+    f: &Fields,
+) -> Result<(), NoMemory>
+    requires { IsBelow f.now (bounds form) }
+    ensures { OnOk result (string_bytes text.new ≡ string_bytes text.old ++ number_text signed (field_of field (bounds form)) (field_of field f.now)) }
+{
+    append_number(
+        text,
+        signed,
+        field_of(field, &bounds_of(form)),
+        field_of(field, f),
+    )
+}
