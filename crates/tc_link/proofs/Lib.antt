@@ -3,3 +3,12 @@ pub mod LineLaws
 pub mod NameLaws
 pub mod ReadLaws
 pub mod TurnLaws
+pub mod FirstLaws
+pub mod CountLaws
+pub mod RoomLaws
+pub mod ShapeLaws
+pub mod ImageLaws
+pub mod GlobalLaws
+pub mod RelocLaws
+pub mod LinkLaws
+pub mod ItemLaws

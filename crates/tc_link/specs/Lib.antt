@@ -2,3 +2,10 @@ pub mod Layouts
 pub mod Lines
 pub mod Faults
 pub mod Seen
+pub mod Placing
+pub mod Relocated
+pub mod Linked
+pub mod Errors
+pub mod Names
+pub mod Rooms
+pub mod Shapes

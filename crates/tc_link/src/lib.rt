@@ -1,13 +1,27 @@
 //! Layouts of the sections of programs, and the linker, which puts objects together as an image.
 #![tactic(auto)]
 
+mod addresses;
 mod drafts;
+mod errors;
 mod faults;
+mod joining;
 mod layouts;
 mod lines;
+#[cfg(test)]
+mod link_tests;
+mod linking;
+mod names;
+mod placed;
+mod relocating;
+mod rooms;
+mod section_checks;
+mod symbol_checks;
 #[cfg(test)]
 mod tests;
 mod words;
 
+pub use errors::LinkErr;
 pub use faults::LayoutErr;
 pub use layouts::{Layout, Place};
+pub use linking::link;

@@ -1,0 +1,69 @@
+-- Names in a map, counted.
+use Rattle.std.proofs.Common.{◌≡◌, ◌+◌, ◌<◌, ◌∷◌, [], ℕ, zero, suc, Bool, true, false, cond, ◌&&◌, List, length, take, get_or, Option, Some, None, refl, sym, ap, ◌∙◌, arith, add-zero}
+use Rattle.std.specs.Prelude.{is_some}
+use Rattle.std.specs.List.{flat_map, sum_by, count_by}
+use Rattle.std.specs.Str.{bytes_eq}
+use Rattle.std.proofs.lemmas.Bool.Decides.{same_from_decides, Decides-like, nat_tests}
+use Rattle.std.proofs.lemmas.Slice.Eq.{bytes_eq-Decides}
+use Rattle.std.proofs.lemmas.List.{take_more, append-nil}
+use Rattle.std.proofs.lemmas.List.Concat.{flat_map-append}
+use Rattle.std.proofs.lemmas.List.Sums.{sum_by-append, sum_by_more}
+use Rattle.tc_object.specs.Objects.{SymbolData, ObjectData}
+use Rattle.tc_link.specs.Names.{kept}
+use Rattle.tc_link.specs.Linked.{named, globals_named}
+
+pub bytes_eq-sym : (xs ys : List ℕ) → bytes_eq xs ys ≡ bytes_eq ys xs
+bytes_eq-sym xs ys = same_from_decides (bytes_eq xs ys) (bytes_eq ys xs) (bytes_eq-Decides xs ys) (Decides-like (bytes_eq ys xs) sym sym (bytes_eq-Decides ys xs))
+
+-- a name that so many have is kept, and one more
+kept_more : (n : ℕ) → Some (is_some (kept n)) ≡ kept (n + 1)
+kept_more zero = refl
+kept_more (suc n) = grind (arith, nat_tests)
+
+pub add_one : (old : List ℕ → Option Bool) (name q : List ℕ) (n : ℕ) (seen : Bool) (new : Option Bool)
+    → seen ≡ is_some (old name) → new ≡ cond (bytes_eq name q) (Some seen) (old q) → old q ≡ kept n → new ≡ kept (n + cond (bytes_eq q name) 1 0)
+add_one old name q n seen new s u e = by_test (bytes_eq name q) refl
+  where
+    by_test : (b : Bool) → bytes_eq name q ≡ b → new ≡ kept (n + cond (bytes_eq q name) 1 0)
+    by_test true t =
+        let same : name ≡ q = (bytes_eq-Decides name q).0 t in
+        let back : bytes_eq q name ≡ true = bytes_eq-sym q name ∙ t in
+        u ∙ ap (λ b. cond b (Some seen) (old q)) t
+        ∙ ap (λ (b : Bool). Some b) (s ∙ ap (λ (x : List ℕ). is_some (old x)) same ∙ ap is_some e)
+        ∙ kept_more n
+        ∙ ap (λ b. kept (n + cond b 1 0)) (sym back)
+    by_test false t =
+        let back : bytes_eq q name ≡ false = bytes_eq-sym q name ∙ t in
+        u ∙ ap (λ b. cond b (Some seen) (old q)) t ∙ e
+        ∙ ap kept (sym (add-zero n))
+        ∙ ap (λ b. kept (n + cond b 1 0)) (sym back)
+
+-- a symbol that isn't global, and one that is
+pub named_off : (b c : Bool) (n : ℕ) (new : Option Bool) → b ≡ false → new ≡ kept n → new ≡ kept (n + cond (b && c) 1 0)
+named_off b c n new t e = e ∙ ap kept (sym (add-zero n)) ∙ ap (λ (x : Bool). kept (n + cond (x && c) 1 0)) (sym t)
+
+pub named_on : (b c : Bool) (n : ℕ) (new : Option Bool) → b ≡ true → new ≡ kept (n + cond c 1 0) → new ≡ kept (n + cond (b && c) 1 0)
+named_on b c n new t e = e ∙ ap (λ (x : Bool). kept (n + cond (x && c) 1 0)) (sym t)
+
+-- one symbol more
+pub symbols_more : (symbols : List SymbolData) (i : ℕ) (x : SymbolData) (q : List ℕ) (n : ℕ) → i < length symbols → x ≡ get_or symbols i x
+    → n + count_by (named q) (take i symbols) + cond (named q x) 1 0 ≡ n + count_by (named q) (take (i + 1) symbols)
+symbols_more symbols i x q n h is =
+    let more : count_by (named q) (take (i + 1) symbols) ≡ count_by (named q) (take i symbols) + cond (named q (get_or symbols i x)) 1 0 = sum_by_more (λ s. cond (named q s) 1 0) symbols i x h in
+    let same : cond {A = ℕ} (named q x) 1 0 ≡ cond (named q (get_or symbols i x)) 1 0 = ap (λ (s : SymbolData). cond {A = ℕ} (named q s) 1 0) is in
+    omega (arith, more, same)
+
+globals_next : (objects : List ObjectData) (i : ℕ) (d : ObjectData) (q : List ℕ) → i < length objects
+    → globals_named (take i objects) q + count_by (named q) (get_or objects i d).symbols ≡ globals_named (take (i + 1) objects) q
+unfolding globals_named
+globals_next objects i d q h =
+    let f : ObjectData → List SymbolData = λ o. o.symbols in
+    sym (ap (λ (os : List ObjectData). count_by (named q) (flat_map f os)) (take_more objects i d h)
+    ∙ ap (count_by (named q)) (flat_map-append f (take i objects) (get_or objects i d ∷ []))
+    ∙ sum_by-append (λ s. cond (named q s) 1 0) (flat_map f (take i objects)) (flat_map f (get_or objects i d ∷ []))
+    ∙ ap (λ (ss : List SymbolData). count_by (named q) (flat_map f (take i objects)) + count_by (named q) ss) (append-nil (get_or objects i d).symbols))
+
+-- the symbols of one object more
+pub globals_more : (objects : List ObjectData) (i : ℕ) (x : ObjectData) (q : List ℕ) → i < length objects → x ≡ get_or objects i x
+    → globals_named (take i objects) q + count_by (named q) x.symbols ≡ globals_named (take (i + 1) objects) q
+globals_more objects i x q h is = ap (λ (o : ObjectData). globals_named (take i objects) q + count_by (named q) o.symbols) is ∙ globals_next objects i x q h

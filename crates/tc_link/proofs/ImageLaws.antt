@@ -1,0 +1,151 @@
+-- The segments of places keep the limits of an image.
+use Rattle.std.proofs.Common.{◌≡◌, ◌+◌, ◌<◌, ◌≤◌, ◌^◌, ◌∷◌, ◌++◌, [], ℕ, Bool, true, false, cond, ◌&&◌, ◌||◌, max, min, List, length, map, refl, sym, ap, ◌∙◌, subst, arith, leb, ltb}
+use Rattle.std.specs.Prelude.{filter, IsTrue}
+use Rattle.std.specs.List.{sum_by, list_any, list_all}
+use Rattle.std.proofs.lemmas.Bool.{le-leb, lt-ltb, leb-false, ltb-false, ltb-true}
+use Rattle.std.proofs.lemmas.List.Folds.{list_any-append}
+use Rattle.std.proofs.lemmas.List.Sums.{sum_by-cons}
+use Rattle.elf_image.specs.Images.{SegmentData, ImageData, IsImage, is_segment, are_apart, all_apart}
+use Rattle.tc_object.specs.Objects.{SectionData, InTurn}
+use Rattle.tc_link.specs.Layouts.{PlaceData, LayoutData, IsPlace, IsPlaceAfter, IsLayout, shares}
+use Rattle.tc_link.specs.Placing.{taken}
+use Rattle.tc_link.specs.Relocated.{joined, segment_of, segments_of}
+use Rattle.tc_link.specs.Linked.{is_over, total}
+use Rattle.tc_link.specs.Shapes.{shape_of}
+use Rattle.tc_link.proofs.ShapeLaws.{length-joined, taken-shapes}
+
+or_false : (a b : Bool) → (a || b) ≡ false → (a ≡ false) × (b ≡ false)
+or_false true b e = cc
+or_false false b e = (refl, e)
+
+-- ---- places that hold their sections
+abbrev Fits : List SectionData → List PlaceData → Type 0
+Fits contents [] = Unit {0}
+Fits contents (p ∷ ps) = (IsPlace p × (length (joined p.section contents) ≤ p.most)) × Fits contents ps
+
+fits_from : (contents sections : List SectionData) (before places : List PlaceData) → map shape_of contents ≡ map shape_of sections → InTurn IsPlaceAfter before places
+    → list_any (λ p. ltb p.most (taken p.section sections)) places ≡ false → Fits contents places
+fits_from contents sections before [] same turn e = tt
+fits_from contents sections before (p ∷ ps) same turn e =
+    let parts = or_false (ltb p.most (taken p.section sections)) (list_any (λ q. ltb q.most (taken q.section sections)) ps) e in
+    let most : taken p.section sections ≤ p.most = ltb-false _ _ parts.0 in
+    let len : length (joined p.section contents) ≡ taken p.section sections = length-joined p.section contents ∙ taken-shapes p.section contents sections same in
+    ((turn.0.place, omega arith), fits_from contents sections (before ++ p ∷ []) ps same turn.1 parts.1)
+
+abbrev has_bytes : SegmentData → Bool
+has_bytes s = ltb 0 (length s.bytes)
+
+abbrev segments : List SectionData → List PlaceData → List SegmentData
+segments contents ps = filter has_bytes (map (segment_of contents) ps)
+
+and_true : (a b : Bool) → a ≡ true → b ≡ true → (a && b) ≡ true
+and_true a b e f = rw (e, f) refl
+
+-- ---- each segment
+all_segments : (contents : List SectionData) (ps : List PlaceData) → Fits contents ps → list_all is_segment (segments contents ps) ≡ true
+all_segments contents [] h = refl
+all_segments contents (p ∷ ps) h = by_bytes (all_segments contents ps h.1) (has_bytes (segment_of contents p)) refl
+  where
+    by_bytes : list_all is_segment (segments contents ps) ≡ true → (b : Bool) → has_bytes (segment_of contents p) ≡ b → list_all is_segment (cond b (segment_of contents p ∷ segments contents ps) (segments contents ps)) ≡ true
+    by_bytes rest true e =
+        let place : IsPlace p = h.0.0 in
+        let fits : p.at + length (joined p.section contents) ≤ 2 ^ 32 = omega (arith, place.within, h.0.1) in
+        and_true _ _ (and_true _ _ e (le-leb _ _ fits)) rest
+    by_bytes rest false e = rest
+
+-- ---- no two share an address
+abbrev ApartFrom : PlaceData → List PlaceData → Type 0
+ApartFrom p [] = Unit {0}
+ApartFrom p (q ∷ qs) = (shares q p ≡ false) × ApartFrom p qs
+
+-- what holds of no place of a list doesn't hold of p
+abbrev IsOf : List PlaceData → PlaceData → Type 0
+IsOf before p = (f : PlaceData → Bool) → list_any f before ≡ false → f p ≡ false
+
+of_more : (before : List PlaceData) (p q : PlaceData) → IsOf before p → IsOf (before ++ q ∷ []) p
+of_more before p q h f e = h f (or_false (list_any f before) (list_any f (q ∷ [])) (sym (list_any-append f before (q ∷ [])) ∙ e)).0
+
+of_last : (before : List PlaceData) (p : PlaceData) → IsOf (before ++ p ∷ []) p
+of_last before p f e =
+    let last = or_false (list_any f before) (list_any f (p ∷ [])) (sym (list_any-append f before (p ∷ [])) ∙ e) in
+    (or_false (f p) false last.1).0
+
+apart_from : (p : PlaceData) (before qs : List PlaceData) → IsOf before p → InTurn IsPlaceAfter before qs → ApartFrom p qs
+apart_from p before [] h turn = tt
+apart_from p before (q ∷ qs) h turn = (h (shares q) turn.0.apart, apart_from p (before ++ q ∷ []) qs (of_more before p q h) turn.1)
+
+two_apart : (p q : PlaceData) (m n : ℕ) → m ≤ p.most → n ≤ q.most → 0 < m → 0 < n → shares q p ≡ false → (leb (p.at + m) q.at || leb (q.at + n) p.at) ≡ true
+two_apart p q m n fm fn sm sn e = by_first (leb (p.at + m) q.at) refl
+  where
+    met : min (q.at + q.most) (p.at + p.most) ≤ max q.at p.at
+    met = ltb-false _ _ e
+
+    by_first : (b : Bool) → leb (p.at + m) q.at ≡ b → (b || leb (q.at + n) p.at) ≡ true
+    by_first true f = refl
+    by_first false f =
+        let past : q.at < p.at + m = leb-false _ _ f in
+        let low : min (q.at + q.most) (p.at + p.most) ≤ max q.at p.at = met in
+        let under : q.at + n ≤ p.at = omega arith in
+        le-leb _ _ under
+
+apart_one : (contents : List SectionData) (p : PlaceData) (qs : List PlaceData) → length (joined p.section contents) ≤ p.most → 0 < length (joined p.section contents) → Fits contents qs → ApartFrom p qs
+    → list_all (are_apart (segment_of contents p)) (segments contents qs) ≡ true
+apart_one contents p [] few some h apart = refl
+apart_one contents p (q ∷ qs) few some h apart = by_bytes (apart_one contents p qs few some h.1 apart.1) (has_bytes (segment_of contents q)) refl
+  where
+    by_bytes : list_all (are_apart (segment_of contents p)) (segments contents qs) ≡ true → (b : Bool) → has_bytes (segment_of contents q) ≡ b → list_all (are_apart (segment_of contents p)) (cond b (segment_of contents q ∷ segments contents qs) (segments contents qs)) ≡ true
+    by_bytes rest true e = and_true _ _ (two_apart p q (length (joined p.section contents)) (length (joined q.section contents)) few h.0.1 some (ltb-true _ _ e) apart.0) rest
+    by_bytes rest false e = rest
+
+apart_all : (contents : List SectionData) (before ps : List PlaceData) → InTurn IsPlaceAfter before ps → Fits contents ps → all_apart (segments contents ps) ≡ true
+apart_all contents before [] turn h = refl
+apart_all contents before (p ∷ ps) turn h = by_bytes (apart_all contents (before ++ p ∷ []) ps turn.1 h.1) (has_bytes (segment_of contents p)) refl
+  where
+    by_bytes : all_apart (segments contents ps) ≡ true → (b : Bool) → has_bytes (segment_of contents p) ≡ b → all_apart (cond b (segment_of contents p ∷ segments contents ps) (segments contents ps)) ≡ true
+    by_bytes rest true e = and_true _ _ (apart_one contents p ps h.0.1 (ltb-true _ _ e) h.1 (apart_from p (before ++ p ∷ []) ps (of_last before p) turn.1)) rest
+    by_bytes rest false e = rest
+
+-- ---- how many, and how long
+few_segments : (contents : List SectionData) (ps : List PlaceData) → length (segments contents ps) ≤ length ps
+few_segments contents [] = omega arith
+few_segments contents (p ∷ ps) = by_bytes (few_segments contents ps) (has_bytes (segment_of contents p))
+  where
+    by_bytes : length (segments contents ps) ≤ length ps → (b : Bool) → length (cond b (segment_of contents p ∷ segments contents ps) (segments contents ps)) ≤ length (p ∷ ps)
+    by_bytes rest true = omega arith
+    by_bytes rest false = omega arith
+
+small_segments : (contents sections : List SectionData) (ps : List PlaceData) → map shape_of contents ≡ map shape_of sections
+    → sum_by (λ s. length s.bytes) (segments contents ps) ≤ sum_by (λ p. taken p.section sections) ps
+small_segments contents sections [] same = omega arith
+small_segments contents sections (p ∷ ps) same =
+    subst (λ n. sum_by (λ (s : SegmentData). length s.bytes) (segments contents (p ∷ ps)) ≤ n) (sym (sum_by-cons (λ (q : PlaceData). taken q.section sections) p ps)) (by_bytes (small_segments contents sections ps same) (has_bytes (segment_of contents p)))
+  where
+    len : length (joined p.section contents) ≡ taken p.section sections
+    len = length-joined p.section contents ∙ taken-shapes p.section contents sections same
+
+    by_bytes : sum_by (λ s. length s.bytes) (segments contents ps) ≤ sum_by (λ q. taken q.section sections) ps → (b : Bool) → sum_by (λ s. length s.bytes) (cond b (segment_of contents p ∷ segments contents ps) (segments contents ps)) ≤ taken p.section sections + sum_by (λ q. taken q.section sections) ps
+    by_bytes rest true =
+        let l : length (joined p.section contents) ≡ taken p.section sections = len in
+        let f : SegmentData → ℕ = λ s. length s.bytes in
+        let more : sum_by f (segment_of contents p ∷ segments contents ps) ≡ length (joined p.section contents) + sum_by f (segments contents ps) = sum_by-cons f (segment_of contents p) (segments contents ps) in
+        let most : sum_by f (segment_of contents p ∷ segments contents ps) ≤ taken p.section sections + sum_by (λ q. taken q.section sections) ps = omega (arith, more, rest, l) in
+        most
+    by_bytes rest false = omega arith
+
+-- ---- the image
+pub image_is : (layout : LayoutData) (contents sections : List SectionData) (entry : ℕ) → IsLayout layout → map shape_of contents ≡ map shape_of sections → is_over layout.places sections ≡ false → entry < 2 ^ 32
+    → IsImage (record { entry = entry; segments = segments_of layout.places contents })
+unfolding is_over total segments_of
+image_is layout contents sections entry good same room small =
+    let parts = or_false (list_any (λ p. ltb p.most (taken p.section sections)) layout.places) (ltb (2 ^ 24) (sum_by (λ p. taken p.section sections) layout.places)) room in
+    let fits = fits_from contents sections [] layout.places same good.places parts.0 in
+    let few : length (segments contents layout.places) ≤ length layout.places = few_segments contents layout.places in
+    let most : sum_by (λ p. taken p.section sections) layout.places ≤ 2 ^ 24 = ltb-false _ _ parts.1 in
+    let size : sum_by (λ s. length s.bytes) (segments contents layout.places) ≤ sum_by (λ p. taken p.section sections) layout.places = small_segments contents sections layout.places same in
+    record {
+      entry = small;
+      few = omega (arith, few, good.few);
+      segments = all_segments contents layout.places fits;
+      apart = apart_all contents [] layout.places good.places fits;
+      small = omega (arith, size, most);
+    }

@@ -1,0 +1,44 @@
+-- Items of lists, whatever is read past the end.
+use Rattle.std.specs.Prelude.{OnOk}
+use Rattle.std.proofs.Common.{◌≡◌, ◌<◌, ◌≤◌, ◌+◌, ℕ, Bool, true, false, ltb, List, length, get_or, replicate, Option, Some, Result, Ok, Err, refl, sym, ap, ◌∙◌, subst, arith}
+use Rattle.std.proofs.lemmas.Bool.{ltb-true, ltb-false}
+use Rattle.std.proofs.lemmas.List.{get_or-replicate, length-replicate}
+use Rattle.std.proofs.lemmas.Option.{slice_get-get_or}
+use Rattle.std.proofs.Math.ListN.{get_or-eq_default}
+
+some_same : {A : Type 0} (x y : A) → Some x ≡ Some y → x ≡ y
+some_same x y e = cc
+
+pub same_item : {A : Type 0} (xs : List A) (i : ℕ) (d e : A) → i < length xs → get_or xs i d ≡ get_or xs i e
+same_item xs i d e h = some_same _ _ (sym (slice_get-get_or xs i d h) ∙ slice_get-get_or xs i e h)
+
+-- what holds of the items so far and the next
+pub good_more : {A : Type 0} (P : A → Type 0) (xs : List A) (i : ℕ) (x : A) → i < length xs → x ≡ get_or xs i x → P x → ((k : ℕ) (d : A) → k < i → P (get_or xs k d)) → (k : ℕ) (d : A) → k < i + 1 → P (get_or xs k d)
+good_more {A} P xs i x h is p below k d l = by_test (ltb k i) refl
+  where
+    by_test : (b : Bool) → ltb k i ≡ b → P (get_or xs k d)
+    by_test true t = below k d (ltb-true _ _ t)
+    by_test false t =
+        let past : i ≤ k = ltb-false _ _ t in
+        let same : i ≡ k = omega (arith, past, l) in
+        subst (λ (j : ℕ). P (get_or xs j d)) same (subst P (is ∙ same_item xs i x d h) p)
+
+pub zero_at : (n k : ℕ) → get_or {A = ℕ} (replicate n 0) k 0 ≡ 0
+zero_at n k = by_test (ltb k n) refl
+  where
+    by_test : (b : Bool) → ltb k n ≡ b → get_or {A = ℕ} (replicate n 0) k 0 ≡ 0
+    by_test true t = get_or-replicate {A = ℕ} n k 0 0 (ltb-true _ _ t)
+    by_test false t =
+        let past : n ≤ k = ltb-false _ _ t in
+        let len : length (replicate {A = ℕ} n 0) ≡ n = length-replicate {A = ℕ} n 0 in
+        let short : length (replicate {A = ℕ} n 0) ≤ k = omega (arith, past, len) in
+        get_or-eq_default (replicate {A = ℕ} n 0) 0 short
+
+-- the same item of an equal list
+pub item_of : {A : Type 0} (ds rs : List A) (i : ℕ) (d : A) → ds ≡ rs → i < length ds → get_or ds i d ≡ get_or rs i (get_or ds i d)
+item_of {A} ds rs i d e h = ap (λ (l : List A). get_or l i d) e ∙ same_item rs i d (get_or ds i d) (subst (λ (l : List A). i < length l) e h)
+
+-- a clause on what a call returned
+pub on_ok : {T E : Type 0} (r : Result T E) (P Q : Type 0) → (P → Q) → OnOk r P → OnOk r Q
+on_ok (Ok x) P Q f h = f h
+on_ok (Err e) P Q f h = tt

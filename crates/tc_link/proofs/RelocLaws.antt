@@ -1,0 +1,169 @@
+-- Relocations, written one after another.
+use Rattle.std.proofs.Common.{◌≡◌, ◌+◌, ◌<◌, ◌≤◌, ◌∷◌, ◌++◌, [], ℕ, zero, suc, List, length, take, drop, get_or, set, map, Option, Some, None, refl, sym, ap, ◌∙◌, subst, arith, drop-cons, append_assoc}
+use Rattle.std.specs.Prelude.{slice_get, slice_set}
+use Rattle.std.specs.Option.{option_map, option_map_or}
+use Rattle.std.specs.List.{fold, flat_map}
+use Rattle.std.proofs.lemmas.Option.{slice_get-map, slice_get-get_or}
+use Rattle.std.proofs.lemmas.List.{map-append, append-nil, length-map, take_more}
+use Rattle.std.proofs.lemmas.List.Concat.{flat_map-append}
+use Rattle.std.proofs.lemmas.List.Sums.{fold_more}
+use Rattle.tc_object.specs.declared.relocs.Reloc.{Reloc}
+use Rattle.tc_object.specs.Objects.{SectionData, ObjectData, InTurn, IsReloc, IsObject, size_of, size_at}
+use Rattle.tc_link.specs.Layouts.{PlaceData}
+use Rattle.tc_link.specs.Placing.{GlobalData, PlacedData, sections_of, bases_after, placed_after}
+use Rattle.tc_link.specs.Relocated.{field_at, filled, written, changed, with_reloc, field_place, value_of, reloc_refusal, relocated}
+use Rattle.tc_reloc.specs.declared.refusals.RelocErr.{RelocErr}
+use Rattle.tc_reloc.specs.Refusals.{refusal_of}
+use Rattle.tc_link.specs.Linked.{reloc, refusal_at}
+use Rattle.tc_link.specs.Shapes.{Shape, shape_of}
+use Rattle.tc_link.proofs.ShapeLaws.{filled_shape}
+use Rattle.tc_link.proofs.ItemLaws.{same_item}
+
+-- four bytes, one by one
+pub four_bytes : (bs : List ℕ) (i : ℕ) → i + 4 ≤ length bs → get_or bs i 0 ∷ get_or bs (i + 1) 0 ∷ get_or bs (i + 2) 0 ∷ get_or bs (i + 3) 0 ∷ [] ≡ field_at bs i
+four_bytes bs i h =
+    let a : suc i ≡ i + 1 = omega arith in
+    let b : suc (suc i) ≡ i + 2 = omega arith in
+    let c : suc (suc (suc i)) ≡ i + 3 = omega arith in
+    let d0 = drop-cons bs i 0 (omega arith) in
+    let d1 = drop-cons bs (suc i) 0 (omega arith) in
+    let d2 = drop-cons bs (suc (suc i)) 0 (omega arith) in
+    let d3 = drop-cons bs (suc (suc (suc i))) 0 (omega arith) in
+    let all : drop i bs ≡ get_or bs i 0 ∷ get_or bs (suc i) 0 ∷ get_or bs (suc (suc i)) 0 ∷ get_or bs (suc (suc (suc i))) 0 ∷ drop (suc (suc (suc (suc i)))) bs =
+    d0 ∙ ap (λ (t : List ℕ). get_or bs i 0 ∷ t) (d1 ∙ ap (λ (t : List ℕ). get_or bs (suc i) 0 ∷ t) (d2 ∙ ap (λ (t : List ℕ). get_or bs (suc (suc i)) 0 ∷ t) d3)) in
+    sym (ap (take 4) all
+    ∙ ap (λ k. get_or bs i 0 ∷ get_or bs k 0 ∷ get_or bs (suc (suc i)) 0 ∷ get_or bs (suc (suc (suc i))) 0 ∷ []) a
+    ∙ ap (λ k. get_or bs i 0 ∷ get_or bs (i + 1) 0 ∷ get_or bs k 0 ∷ get_or bs (suc (suc (suc i))) 0 ∷ []) b
+    ∙ ap (λ k. get_or bs i 0 ∷ get_or bs (i + 1) 0 ∷ get_or bs (i + 2) 0 ∷ get_or bs k 0 ∷ []) c)
+
+-- an item that is changed
+pub changed_at : {A : Type 0} (f : A → A) (n : ℕ) (xs : List A) (x : A) → n < length xs → x ≡ get_or xs n x → changed f n xs ≡ set xs n (f x)
+changed_at {A} f n xs x h is =
+    ap (λ (o : Option A). option_map_or (λ y. set xs n (f y)) o xs) (slice_get-get_or xs n x h ∙ ap (λ (y : A). Some y) (sym is))
+
+set_shape : (xs : List SectionData) (n : ℕ) (x y : SectionData) → slice_get xs n ≡ Some x → shape_of y ≡ shape_of x → map shape_of (set xs n y) ≡ map shape_of xs
+set_shape [] n x y at e = cc
+set_shape (z ∷ zs) zero x y at e = ap (λ (s : Shape). s ∷ map shape_of zs) (e ∙ ap shape_of cc)
+set_shape (z ∷ zs) (suc n) x y at e = ap (λ (ss : List Shape). shape_of z ∷ ss) (set_shape zs n x y at e)
+
+abbrev size_in : Option Shape → ℕ
+size_in None = 0
+size_in (Some s) = s.size
+
+sizes_are : (o : Option SectionData) → size_of o ≡ size_in (option_map shape_of o)
+sizes_are None = refl
+sizes_are (Some s) = refl
+
+-- sections of the same shapes have the same sizes
+pub size_at-shapes : (ss ts : List SectionData) (n : ℕ) → map shape_of ss ≡ map shape_of ts → size_at ss n ≡ size_at ts n
+size_at-shapes ss ts n e =
+    sizes_are (slice_get ss n) ∙ ap size_in (sym (slice_get-map shape_of ss n) ∙ ap (λ (l : List Shape). slice_get l n) e ∙ slice_get-map shape_of ts n) ∙ sym (sizes_are (slice_get ts n))
+
+-- one relocation keeps the shapes
+pub with_reloc_shapes : (g : List GlobalData) (p : PlacedData) (ss : List SectionData) (r : Reloc) → r.offset + 4 ≤ size_at ss r.section → map shape_of (with_reloc g p ss r) ≡ map shape_of ss
+with_reloc_shapes g p ss r h = by_section (slice_get ss r.section) refl
+  where
+    by_section : (o : Option SectionData) → slice_get ss r.section ≡ o → map shape_of (option_map_or (λ x. set ss r.section (written g p r x)) o ss) ≡ map shape_of ss
+    by_section None at = refl
+    by_section (Some x) at =
+        let room : r.offset + 4 ≤ length x.bytes = omega (arith, h, ap size_of at) in
+        set_shape ss r.section x (written g p r x) at (filled_shape r (field_place p r) (value_of g p r) x room)
+
+relocs_shapes : (g : List GlobalData) (p : PlacedData) (sections ss : List SectionData) (symbols : ℕ) (before rs : List Reloc) → map shape_of ss ≡ map shape_of sections → InTurn (IsReloc sections symbols) before rs
+    → map shape_of (fold (with_reloc g p) ss rs) ≡ map shape_of sections
+relocs_shapes g p sections ss symbols before [] same turn = same
+relocs_shapes g p sections ss symbols before (r ∷ rs) same turn =
+    let room : r.offset + 4 ≤ size_at ss r.section = omega (arith, turn.0.room, size_at-shapes ss sections r.section same) in
+    relocs_shapes g p sections (with_reloc g p ss r) symbols (before ++ r ∷ []) rs (with_reloc_shapes g p ss r room ∙ same) turn.1
+
+pub relocated_shapes : (g : List GlobalData) (p : PlacedData) → IsObject p.object → map shape_of (relocated g p) ≡ map shape_of p.object.sections
+unfolding relocated
+relocated_shapes g p good = relocs_shapes g p p.object.sections p.object.sections (length p.object.symbols) [] p.object.relocs refl good.relocs
+
+-- all sections keep their shapes
+pub contents_shapes : (g : List GlobalData) (places : List PlaceData) (before : List SectionData) (objects : List ObjectData) → ((k : ℕ) (d : ObjectData) → k < length objects → IsObject (get_or objects k d))
+    → map shape_of (flat_map (relocated g) (placed_after places before objects)) ≡ map shape_of (sections_of objects)
+unfolding placed_after
+contents_shapes g places before [] good = refl
+contents_shapes g places before (o ∷ os) good =
+    let p : PlacedData = record { object = o; bases = bases_after places before o.sections } in
+    map-append shape_of (relocated g p) (flat_map (relocated g) (placed_after places (before ++ o.sections) os))
+    ∙ ap (λ (l : List Shape). l ++ map shape_of (flat_map (relocated g) (placed_after places (before ++ o.sections) os))) (relocated_shapes g p (good 0 o (omega arith)))
+    ∙ ap (λ (l : List Shape). map shape_of o.sections ++ l) (contents_shapes g places (before ++ o.sections) os (λ k d h. good (suc k) d (omega arith)))
+    ∙ sym (map-append shape_of o.sections (sections_of os))
+
+-- ---- the relocation at hand
+turn_at : {A : Type 0} (good : List A → A → Type 0) (before xs : List A) (i : ℕ) (d : A) → InTurn good before xs → i < length xs → good (before ++ take i xs) (get_or xs i d)
+turn_at good before [] i d h l = absurd (omega arith)
+turn_at good before (x ∷ xs) zero d h l = subst (λ (ys : List _). good ys x) (sym (append-nil before)) h.0
+turn_at good before (x ∷ xs) (suc i) d h l = subst (λ (ys : List _). good ys (get_or xs i d)) (append_assoc before (x ∷ []) (take i xs)) (turn_at good (before ++ x ∷ []) xs i d h.1 (omega arith))
+
+pub reloc_at : (o : ObjectData) (i : ℕ) (d : Reloc) → IsObject o → i < length o.relocs → IsReloc o.sections (length o.symbols) (take i o.relocs) (get_or o.relocs i d)
+reloc_at o i d good h = turn_at (IsReloc o.sections (length o.symbols)) [] o.relocs i d good.relocs h
+
+pub section_in : (ss sections : List SectionData) (n : ℕ) → map shape_of ss ≡ map shape_of sections → n < length sections → n < length ss
+section_in ss sections n same h =
+    let e : length ss ≡ length sections = sym (length-map ss shape_of) ∙ ap (λ (l : List Shape). length l) same ∙ length-map sections shape_of in
+    omega arith
+
+pub room_in : (ss sections : List SectionData) (n k : ℕ) → map shape_of ss ≡ map shape_of sections → k ≤ size_at sections n → k ≤ size_at ss n
+room_in ss sections n k same h = omega (arith, h, size_at-shapes ss sections n same)
+
+pub size_here : (ss : List SectionData) (n : ℕ) (x : SectionData) → n < length ss → x ≡ get_or ss n x → size_at ss n ≡ length x.bytes
+size_here ss n x h is = ap size_of (slice_get-get_or ss n x h) ∙ ap (λ (s : SectionData). length s.bytes) (sym is)
+
+-- one relocation written
+pub written_in : (g : List GlobalData) (p : PlacedData) (r : Reloc) (ss new : List SectionData) (x : SectionData) (place value : ℕ) → r.section < length ss → x ≡ get_or ss r.section x
+    → new ≡ set ss r.section (filled r place value x) → place ≡ field_place p r → value ≡ value_of g p r → new ≡ with_reloc g p ss r
+written_in g p r ss new x place value h is e pl va =
+    e
+    ∙ ap (λ k. set ss r.section (filled r k value x)) pl
+    ∙ ap (λ v. set ss r.section (filled r (field_place p r) v x)) va
+    ∙ sym (changed_at (written g p r) r.section ss x h is)
+
+pub shapes_in : (r : Reloc) (ss new : List SectionData) (x : SectionData) (place value : ℕ) → r.section < length ss → x ≡ get_or ss r.section x → r.offset + 4 ≤ length x.bytes
+    → new ≡ set ss r.section (filled r place value x) → map shape_of new ≡ map shape_of ss
+shapes_in r ss new x place value h is room e =
+    ap (map shape_of) e ∙ set_shape ss r.section x (filled r place value x) (slice_get-get_or ss r.section x h ∙ ap (λ (s : SectionData). Some s) (sym is)) (filled_shape r place value x room)
+
+pub refusal_in : (g : List GlobalData) (p : PlacedData) (r : Reloc) (place value : ℕ) → place ≡ field_place p r → value ≡ value_of g p r → reloc_refusal g p r ≡ refusal_of r.kind place value
+refusal_in g p r place value pl va = ap (λ v. refusal_of r.kind (field_place p r) v) (sym va) ∙ ap (λ k. refusal_of r.kind k value) (sym pl)
+
+-- one relocation more
+pub relocs_next : (g : List GlobalData) (p : PlacedData) (sections ss new : List SectionData) (rs : List Reloc) (i : ℕ) (r : Reloc) → i < length rs → r ≡ get_or rs i r
+    → ss ≡ fold (with_reloc g p) sections (take i rs) → new ≡ with_reloc g p ss r → new ≡ fold (with_reloc g p) sections (take (i + 1) rs)
+relocs_next g p sections ss new rs i r h is s e =
+    e
+    ∙ ap (λ (l : List SectionData). with_reloc g p l r) s
+    ∙ ap (λ (q : Reloc). with_reloc g p (fold (with_reloc g p) sections (take i rs)) q) is
+    ∙ sym (fold_more (with_reloc g p) sections rs i r h)
+
+-- whether it is refused
+pub refusal_none : (g : List GlobalData) (object : ℕ) (p : PlacedData) (i : ℕ) (r : Reloc) → reloc_refusal g p r ≡ None → refusal_at g object p i r ≡ None
+refusal_none g object p i r e = ap (option_map (λ (err : RelocErr). reloc object r.section r.offset err)) e
+
+pub refusal_some : (g : List GlobalData) (object : ℕ) (p : PlacedData) (i : ℕ) (r : Reloc) (err : RelocErr) → reloc_refusal g p r ≡ Some err → refusal_at g object p i r ≡ Some (reloc object r.section r.offset err)
+refusal_some g object p i r err e = ap (option_map (λ (x : RelocErr). reloc object r.section r.offset x)) e
+
+-- the sections of one object more
+pub contents_next : (g : List GlobalData) (placed : List PlacedData) (i : ℕ) (p : PlacedData) (old more : List SectionData) → i < length placed → p ≡ get_or placed i p
+    → old ≡ flat_map (relocated g) (take i placed) → more ≡ relocated g p → old ++ more ≡ flat_map (relocated g) (take (i + 1) placed)
+contents_next g placed i p old more h is e m =
+    ap (λ (l : List SectionData). old ++ l) m
+    ∙ ap (λ (l : List SectionData). l ++ relocated g p) e
+    ∙ ap (λ (x : PlacedData). flat_map (relocated g) (take i placed) ++ relocated g x) is
+    ∙ ap (λ (l : List SectionData). flat_map (relocated g) (take i placed) ++ l) (sym (append-nil (relocated g (get_or placed i p))))
+    ∙ sym (ap (flat_map (relocated g)) (take_more placed i p h) ∙ flat_map-append (relocated g) (take i placed) (get_or placed i p ∷ []))
+
+pub reloc_here : (o : ObjectData) (ds : List Reloc) (i : ℕ) (d : Reloc) → IsObject o → ds ≡ o.relocs → i < length ds → IsReloc o.sections (length o.symbols) (take i o.relocs) (get_or ds i d)
+reloc_here o ds i d good e h =
+    subst (λ (r : Reloc). IsReloc o.sections (length o.symbols) (take i o.relocs) r) (ap (λ (l : List Reloc). get_or l i d) (sym e)) (reloc_at o i d good (subst (λ (l : List Reloc). i < length l) e h))
+
+-- the same of the section that stands there, whatever is read past the end
+pub shapes_at : (r : Reloc) (ss : List SectionData) (y d : SectionData) (place value : ℕ) → r.section < length ss → r.offset + 4 ≤ size_at ss r.section → y ≡ filled r place value (get_or ss r.section d)
+    → map shape_of (set ss r.section y) ≡ map shape_of ss
+shapes_at r ss y d place value h room e =
+    let x : SectionData = get_or ss r.section d in
+    let is : x ≡ get_or ss r.section x = same_item ss r.section d x h in
+    let fits : r.offset + 4 ≤ length x.bytes = omega (arith, room, size_here ss r.section x h is) in
+    shapes_in r ss (set ss r.section y) x place value h is fits (ap (set ss r.section) e)

@@ -1,0 +1,6 @@
+use Rattle.std.proofs.Common.{◌≡◌, None, take}
+use Rattle.tc_link.specs.Linked.{first_at, no_place_of}
+use Rattle.tc_link.proofs.section_checks.check_places.Given as goal
+
+abbrev pub invariant-loop-object : goal.invariant-loop-object
+invariant-loop-object l = first_at (λ _ o. first_at (no_place_of l.places o.symbols) 0 o.sections) 0 (take l.object-index l.objects) ≡ None

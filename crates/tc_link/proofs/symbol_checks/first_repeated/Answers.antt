@@ -1,0 +1,22 @@
+use Rattle.std.proofs.Common.{◌∙◌, Some, refl, sym, ap, ℕ, List}
+use Rattle.tc_object.specs.Objects.{SymbolData}
+use Rattle.tc_link.specs.Linked.{first_at, twice, twice_of}
+use Rattle.tc_link.proofs.FirstLaws.{more_item, found_item, first_end, then_yes, then_no}
+use Rattle.tc_link.proofs.symbol_checks.first_repeated.Goals as goal
+
+pub loop-symbol-init : goal.loop-symbol-init
+unfolding first_at
+loop-symbol-init c = λ objects h. refl
+
+pub returns-then-is_repeated : goal.returns-then-is_repeated
+returns-then-is_repeated c = λ objects h.
+    let x : SymbolData = c.symbol-item.result in
+    found_item (twice_of objects) c.args.symbols.now c.loop-symbol.symbol-index x (twice x.name) c.loop-symbol-test.true c.symbol-item.is (c.loop-symbol.invariant objects h)
+    (then_yes _ c.is_repeated.result (twice x.name) (c.is_repeated.ensures objects h) c.if-is_repeated.true)
+    ∙ ap (λ (n : List ℕ). Some (twice n)) (sym (c.as_str.ensures.value ∙ ap (λ (s : SymbolData). s.name) c.symbol.view_is))
+
+pub loop-symbol-preserved : goal.loop-symbol-preserved
+loop-symbol-preserved c = λ objects h.
+    let x : SymbolData = c.symbol-item.result in
+    more_item (twice_of objects) c.args.symbols.now c.loop-symbol.symbol-index x c.loop-symbol-test.true c.symbol-item.is (c.loop-symbol.invariant objects h)
+    (then_no _ c.is_repeated.result (twice x.name) (c.is_repeated.ensures objects h) c.if-is_repeated.false)

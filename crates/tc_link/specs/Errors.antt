@@ -1,0 +1,19 @@
+-- What an error of linking says.
+use Rattle.std.specs.Prelude.{◌≡◌, List, ℕ, Option, Some, None, string_bytes, IfSome}
+use Rattle.tc_link.specs.declared.errors.LinkErr.{LinkErr}
+use Rattle.tc_link.specs.declared.errors.LinkErr.TheVariants.{Twice, Missing, NoPlace, NoRoom, Reloc, NoEntry, NoMemory}
+use Rattle.tc_link.specs.Linked.{Refusal, twice, missing, no_place, no_room, reloc, no_entry}
+
+-- the refusal that an error is; None for want of memory
+abbrev pub refusal_of : LinkErr → Option Refusal
+refusal_of (Twice name) = Some (twice (string_bytes name))
+refusal_of (Missing name) = Some (missing (string_bytes name))
+refusal_of (NoPlace name) = Some (no_place (string_bytes name))
+refusal_of (NoRoom name) = Some (no_room (string_bytes name))
+refusal_of (Reloc object section offset err) = Some (reloc object section offset err)
+refusal_of NoEntry = Some no_entry
+refusal_of NoMemory = None
+
+-- the error is this refusal; want of memory says nothing
+abbrev pub IsRefusal : Option Refusal → LinkErr → Type 0
+IsRefusal r e = IfSome (refusal_of e) (λ x. r ≡ Some x)

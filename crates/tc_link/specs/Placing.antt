@@ -1,0 +1,74 @@
+-- Where the sections and symbols of objects lie.
+use Rattle.std.specs.Prelude.{◌+◌, ◌*◌, ◌/◌, ◌%◌, ◌^◌, ◌==◌, ◌&&◌, if◌then◌else◌, ℕ, Bool, List, [], ◌∷◌, ◌++◌, length, map, filter, fold, find, sum_by, slice_get, slice_index, Option, Some, None}
+use Rattle.std.specs.Option.{option_map, option_map_or}
+use Rattle.std.specs.List.{flat_map}
+use Rattle.std.specs.Str.{bytes_eq}
+use Rattle.tc_object.specs.Objects.{SectionData, SymbolData, ObjectData}
+use Rattle.tc_link.specs.Layouts.{PlaceData, LayoutData}
+
+-- ---- sections
+-- the sections of objects, one object after another
+abbrev pub sections_of : List ObjectData → List SectionData
+sections_of objects = flat_map (λ o. o.sections) objects
+
+-- the least multiple of 4 that isn't below
+abbrev pub rounded : ℕ → ℕ
+rounded n = (n + 3) / 4 * 4
+
+abbrev pub with_size : List ℕ → ℕ → SectionData → ℕ
+with_size name n s = if bytes_eq name s.name then rounded n + length s.bytes else n
+
+-- how many bytes of their place the sections of this name take, each beginning at a multiple of 4
+unfoldable pub taken : List ℕ → List SectionData → ℕ
+taken name sections = fold (with_size name) 0 sections
+
+-- the place for the sections of this name
+abbrev pub place_of : List PlaceData → List ℕ → Option PlaceData
+place_of places name = find (λ p. bytes_eq name p.section) places
+
+-- where a section behind others begins; 0 where it has no place
+abbrev pub base_of : List PlaceData → List SectionData → SectionData → ℕ
+base_of places before s = option_map_or (λ p. p.at + rounded (taken s.name before)) (place_of places s.name) 0
+
+-- where sections behind others begin, each behind those before it
+unfoldable pub bases_after : List PlaceData → List SectionData → List SectionData → List ℕ
+bases_after places before [] = []
+bases_after places before (s ∷ ss) = base_of places before s ∷ bases_after places (before ++ s ∷ []) ss
+
+-- an object, and where each of its sections begins
+pub record PlacedData : Type 0 where
+  pub object : ObjectData
+  pub bases : List ℕ
+
+-- objects behind sections of others, one object after another
+unfoldable pub placed_after : List PlaceData → List SectionData → List ObjectData → List PlacedData
+placed_after places before [] = []
+placed_after places before (o ∷ os) = record { object = o; bases = bases_after places before o.sections } ∷ placed_after places (before ++ o.sections) os
+
+-- ---- symbols
+abbrev pub is_global : SymbolData → Bool
+is_global s = s.kind == 2
+
+-- the address of an offset in a section of this number
+abbrev pub address_in : List ℕ → ℕ → ℕ → ℕ
+address_in bases section offset = (slice_index bases section + offset) % 2 ^ 32
+
+-- a name and its address
+pub record GlobalData : Type 0 where
+  pub name : List ℕ
+  pub address : ℕ
+
+abbrev pub global_data : List ℕ → SymbolData → GlobalData
+global_data bases s = record { name = s.name; address = address_in bases s.section s.offset }
+
+-- the global symbols of placed objects
+unfoldable pub globals_of : List PlacedData → List GlobalData
+globals_of placed = flat_map (λ p. map (global_data p.bases) (filter is_global p.object.symbols)) placed
+
+-- the address of a global symbol, if one has the name
+abbrev pub global_address : List GlobalData → List ℕ → Option ℕ
+global_address globals name = option_map (λ g. g.address) (find (λ g. bytes_eq name g.name) globals)
+
+-- the address of a symbol of a placed object: its own, or of the global one for which it stands; 0 where there is none
+abbrev pub symbol_address : List GlobalData → List ℕ → SymbolData → ℕ
+symbol_address globals bases s = if s.kind == 0 then option_map_or (λ a. a) (global_address globals s.name) 0 else address_in bases s.section s.offset

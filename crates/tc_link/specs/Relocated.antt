@@ -1,0 +1,74 @@
+-- The bytes of sections with their relocations, and of places.
+use Rattle.std.specs.Prelude.{◌+◌, ◌-◌, ◌%◌, ◌^◌, nat_lt, if◌then◌else◌, ℕ, List, [], ◌∷◌, ◌++◌, length, map, filter, fold, take, drop, slice_get, slice_set, replicate, Option, Some, None}
+use Rattle.std.specs.Option.{option_map, option_map_or}
+use Rattle.std.specs.List.{flat_map}
+use Rattle.std.specs.Str.{bytes_eq}
+use Rattle.elf_image.specs.Images.{SegmentData}
+use Rattle.tc_object.specs.declared.relocs.Reloc.{Reloc}
+use Rattle.tc_object.specs.Objects.{SectionData, SymbolData, ObjectData}
+use Rattle.tc_reloc.specs.declared.refusals.RelocErr.{RelocErr}
+use Rattle.tc_reloc.specs.Refusals.{refusal_of}
+use Rattle.tc_reloc.specs.Fields.{content_of}
+use Rattle.tc_reloc.specs.Applied.{with_field}
+use Rattle.tc_link.specs.Layouts.{PlaceData}
+use Rattle.tc_link.specs.Placing.{GlobalData, PlacedData, rounded, address_in, symbol_address}
+
+-- ---- relocations
+-- where the field of a relocation stands
+abbrev pub field_place : PlacedData → Reloc → ℕ
+field_place p r = address_in p.bases r.section r.offset
+
+-- what it takes: the address of its symbol and the addend
+abbrev pub value_of : List GlobalData → PlacedData → Reloc → ℕ
+value_of globals p r = (option_map_or (symbol_address globals p.bases) (slice_get p.object.symbols r.symbol) 0 + r.addend) % 2 ^ 32
+
+-- why it can't be written, if so
+abbrev pub reloc_refusal : List GlobalData → PlacedData → Reloc → Option RelocErr
+reloc_refusal globals p r = refusal_of r.kind (field_place p r) (value_of globals p r)
+
+-- four bytes at an offset, and the bytes with others there
+abbrev pub field_at : List ℕ → ℕ → List ℕ
+field_at bytes at = take 4 (drop at bytes)
+
+abbrev pub with_field_at : List ℕ → ℕ → List ℕ → List ℕ
+with_field_at bytes at field = take at bytes ++ (field ++ drop (at + 4) bytes)
+
+-- a section with the field of a relocation at this place filled with this value
+abbrev pub filled : Reloc → ℕ → ℕ → SectionData → SectionData
+filled r place value s = record {
+  name = s.name;
+  bytes = with_field_at s.bytes r.offset (with_field r.kind (field_at s.bytes r.offset) (content_of r.kind place value));
+}
+
+-- the section with the field of one relocation written
+abbrev pub written : List GlobalData → PlacedData → Reloc → SectionData → SectionData
+written globals p r s = filled r (field_place p r) (value_of globals p r) s
+
+abbrev pub changed : {A : Type 0} → (A → A) → ℕ → List A → List A
+changed f n xs = option_map_or (λ x. slice_set xs n (f x)) (slice_get xs n) xs
+
+abbrev pub with_reloc : List GlobalData → PlacedData → List SectionData → Reloc → List SectionData
+with_reloc globals p sections r = changed (written globals p r) r.section sections
+
+-- the sections of a placed object with its relocations written, one after another
+unfoldable pub relocated : List GlobalData → PlacedData → List SectionData
+relocated globals p = fold (with_reloc globals p) p.object.sections p.object.relocs
+
+-- ---- places
+-- zeros up to a multiple of 4
+abbrev pub padded : List ℕ → List ℕ
+padded bytes = bytes ++ replicate (rounded (length bytes) - length bytes) 0
+
+abbrev pub with_section : List ℕ → List ℕ → SectionData → List ℕ
+with_section name bytes s = if bytes_eq name s.name then padded bytes ++ s.bytes else bytes
+
+-- the sections of one name, each at a multiple of 4, the gaps zero
+unfoldable pub joined : List ℕ → List SectionData → List ℕ
+joined name sections = fold (with_section name) [] sections
+
+abbrev pub segment_of : List SectionData → PlaceData → SegmentData
+segment_of sections p = record { at = p.at; bytes = joined p.section sections }
+
+-- the places with bytes
+unfoldable pub segments_of : List PlaceData → List SectionData → List SegmentData
+segments_of places sections = filter (λ s. nat_lt 0 (length s.bytes)) (map (segment_of sections) places)

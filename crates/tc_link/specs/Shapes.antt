@@ -1,0 +1,11 @@
+-- What relocations keep of sections.
+use Rattle.std.specs.Prelude.{ℕ, List, length}
+use Rattle.tc_object.specs.Objects.{SectionData}
+
+-- the name of a section and how many bytes it has
+pub record Shape : Type 0 where
+  pub name : List ℕ
+  pub size : ℕ
+
+abbrev pub shape_of : SectionData → Shape
+shape_of s = record { name = s.name; size = length s.bytes }

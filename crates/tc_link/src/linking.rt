@@ -1,0 +1,66 @@
+// Linking.
+ghost use Rattle.std.specs.Prelude.{◌≡◌, ◌≤◌, ◌<◌, ◌^◌, ℕ, length, slice_index_or, None, Ok, Err, OnOk, IfOk, IfErr, IfSome};
+ghost use Rattle.elf_image.specs.Images.{ImageData, IsImage};
+ghost use Rattle.tc_object.specs.Objects.{ObjectData, IsObject};
+ghost use Rattle.tc_link.specs.Layouts.{IsLayout};
+ghost use Rattle.tc_link.specs.Relocated.{segments_of};
+ghost use Rattle.tc_link.specs.Linked.{no_room_after, placed_of, contents_of, refused_early, made_of, linked};
+ghost use Rattle.tc_link.specs.Errors.{IsRefusal, refusal_of};
+
+use crate::addresses::{address_named, globals_of};
+use crate::joining::segments_of;
+use crate::names::names_of;
+use crate::placed::{Placed, placed_of};
+use crate::relocating::contents_of;
+use crate::section_checks::check_places;
+use crate::symbol_checks::{check_missing, check_repeated};
+use crate::{Layout, LinkErr};
+use elf_image::Image;
+use std::alloc::Global;
+use tc_object::Object;
+
+// The objects with the addresses of their sections, or what is refused before anything is relocated.
+fn place_all<'a>(
+    alloc: Global,
+    objects: &'a [Object],
+    layout: &Layout,
+) -> Result<Vec<Placed<'a>>, LinkErr>
+    ensures placed { IfOk result (λ placed. placed.items ≡ placed_of layout.now objects.now) }
+    ensures good { IfOk result (λ _. (k : ℕ) (d : ObjectData) → k < length objects.now → IsObject (slice_index_or objects.now k d)) }
+    ensures none { OnOk result (refused_early layout.now objects.now ≡ None) }
+    ensures err { IfErr result (IsRefusal (refused_early layout.now objects.now)) }
+{
+    let names = names_of(alloc, objects)?;
+    check_repeated(alloc, &names, objects)?;
+    check_missing(alloc, &names, objects)?;
+    check_places(alloc, &layout.places, objects)?;
+    placed_of(alloc, &layout.places, objects)
+}
+
+// The image of placed objects, or the first relocation that is refused.
+fn make<'a>(alloc: Global, placed: &'a [Placed<'a>], layout: &Layout) -> Result<Image, LinkErr>
+    requires few { length placed.now ≤ 65535 }
+    requires good { IsLayout layout.now → (entry : ℕ) → entry < 2 ^ 32 → IsImage (record { entry = entry; segments = segments_of layout.now.places (contents_of placed.now) }) }
+    ensures ok { IfOk result (λ image. made_of layout.now placed.now ≡ Ok image) }
+    ensures err { IfErr result (λ e. IfSome (refusal_of e) (λ r. made_of layout.now placed.now ≡ Err r)) }
+{
+    let globals = globals_of(alloc, placed)?;
+    let contents = contents_of(alloc, &globals, placed)?;
+    let Some(entry) = address_named(&globals, layout.entry.as_str()) else {
+        return Err(LinkErr::NoEntry);
+    };
+    let segments = segments_of(alloc, &layout.places, &contents)?;
+    Ok(Image { entry, segments })
+}
+
+/// The image of objects that are laid out this way, or the first refusal. The sections of one name stand in their place
+/// one after another, in the order of the objects, each at a multiple of 4, the gaps zero; each place with bytes gives
+/// one segment, in the order of the layout.
+pub fn link(alloc: Global, objects: &[Object], layout: &Layout) -> Result<Image, LinkErr>
+    requires { length objects.now ≤ 65535 }
+    ensures ok { IfOk result (λ image. linked objects.now layout.now ≡ Ok image) }
+    ensures err { IfErr result (λ e. IfSome (refusal_of e) (λ r. linked objects.now layout.now ≡ Err r)) }
+{
+    let placed = place_all(alloc, objects, layout)?;
+    make(alloc, &placed, layout)
+}

@@ -1,0 +1,79 @@
+// Objects whose sections have their addresses.
+ghost use Rattle.std.specs.Prelude.{◌≡◌, ◌≤◌, ◌<◌, [], ℕ, IfOk, IfErr, length, slice_index, slice_index_or, None};
+ghost use Rattle.tc_object.specs.Objects.{ObjectData, IsObject};
+ghost use Rattle.tc_link.specs.Placing.{placed_after, sections_of};
+ghost use Rattle.tc_link.specs.Linked.{no_room_after};
+ghost use Rattle.tc_link.specs.Rooms.{AreTaken, AreSmall};
+ghost use Rattle.tc_link.specs.Errors.{IsRefusal};
+ghost use Rattle.tc_link.specs.declared.errors.LinkErr.TheVariants.{NoMemory};
+
+use crate::rooms::bases_of;
+use crate::{LinkErr, Place};
+use std::alloc::Global;
+use std::marker::Model;
+use tc_object::Object;
+
+/// An object, and where each of its sections begins.
+#[derive(Drop)]
+pub(crate) struct Placed<'a> {
+    pub(crate) object: &'a Object,
+    pub(crate) bases: Vec<u64>,
+}
+
+impl<'a> Model for Placed<'a> {
+    ghost use Rattle.tc_link.specs.Placing.{PlacedData};
+
+    ghost Value = { PlacedData };
+
+    ghost view = { λ p. record { object = p.object.now; bases = p.bases.items } };
+}
+
+// No byte of a place is taken.
+fn none_taken(alloc: Global, places: &[Place]) -> Result<Vec<u64>, LinkErr>
+    ensures count { IfOk result (λ sizes. length sizes.items ≡ length places.now) }
+    ensures none { IfOk result (λ sizes. (k : ℕ) → slice_index sizes.items k ≡ 0) }
+    ensures err { IfErr result (λ e. e ≡ NoMemory) }
+{
+    let sizes = vec![in alloc; 0u64; places.len()]?;
+    Ok(sizes)
+}
+
+// The same for places of which so many bytes are taken by no section.
+fn place_objects<'a>(
+    alloc: Global,
+    places: &[Place],
+    sizes: &mut [u64],
+    objects: &'a [Object],
+) -> Result<Vec<Placed<'a>>, LinkErr>
+    requires few { length places.now ≤ 64 }
+    requires count { length sizes.old ≡ length places.now }
+    requires none { AreTaken places.now [] sizes.old }
+    requires small { AreSmall sizes.old }
+    ensures placed { IfOk result (λ placed. placed.items ≡ placed_after places.now [] objects.now) }
+    ensures good { IfOk result (λ _. (k : ℕ) (d : ObjectData) → k < length objects.now → IsObject (slice_index_or objects.now k d)) }
+    ensures room { IfOk result (λ _. no_room_after places.now [] (sections_of objects.now) ≡ None) }
+    ensures err { IfErr result (IsRefusal (no_room_after places.now [] (sections_of objects.now))) }
+{
+    let mut placed = Vec::new(alloc);
+    for object in objects {
+        let bases = bases_of(alloc, places, sizes, &object.sections)?;
+        placed.push(Placed { object, bases })?;
+    }
+    Ok(placed)
+}
+
+/// The objects with the addresses of their sections, or the first section with which there is no room.
+pub(crate) fn placed_of<'a>(
+    alloc: Global,
+    places: &[Place],
+    objects: &'a [Object],
+) -> Result<Vec<Placed<'a>>, LinkErr>
+    requires { length places.now ≤ 64 }
+    ensures placed { IfOk result (λ placed. placed.items ≡ placed_after places.now [] objects.now) }
+    ensures good { IfOk result (λ _. (k : ℕ) (d : ObjectData) → k < length objects.now → IsObject (slice_index_or objects.now k d)) }
+    ensures room { IfOk result (λ _. no_room_after places.now [] (sections_of objects.now) ≡ None) }
+    ensures err { IfErr result (IsRefusal (no_room_after places.now [] (sections_of objects.now))) }
+{
+    let mut sizes = none_taken(alloc, places)?;
+    place_objects(alloc, places, &mut sizes, objects)
+}

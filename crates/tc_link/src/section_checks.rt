@@ -1,0 +1,74 @@
+// Sections without a place.
+ghost use Rattle.std.specs.Prelude.{◌≡◌, ◌<◌, ◌==◌, ◌&&◌, ◌||◌, nat_lt, not, ℕ, Bool, List, length, slice_index_or, None, OnOk, IfOk, IfErr};
+ghost use Rattle.std.specs.Option.{option_map};
+ghost use Rattle.tc_object.specs.Objects.{SymbolData};
+ghost use Rattle.tc_link.specs.Layouts.{is_placed};
+ghost use Rattle.tc_link.specs.Linked.{no_place, no_place_of, no_place_in, first_some, has_symbol};
+ghost use Rattle.tc_link.specs.Errors.{IsRefusal};
+ghost use Rattle.tc_link.specs.declared.errors.LinkErr.TheVariants.{NoMemory};
+
+use crate::symbol_checks::mark;
+use crate::{LinkErr, Place};
+use std::alloc::Global;
+use tc_object::{Object, Section};
+
+/// Whether there is a place for sections of this name.
+pub(crate) fn is_placed(places: &[Place], name: &str) -> bool
+    ensures { result ≡ is_placed places.now name.now }
+{
+    places.iter().any(|place| name == place.section.as_str())
+}
+
+// In which sections of an object a symbol is defined.
+fn sections_with_symbols(alloc: Global, object: &Object) -> Result<Vec<bool>, LinkErr>
+    ensures held { IfOk result (λ held. (k : ℕ) (d : Bool) → k < length object.now.sections → slice_index_or held.items k d ≡ has_symbol object.now.symbols k) }
+    ensures count { IfOk result (λ held. length held.items ≡ length object.now.sections) }
+    ensures err { IfErr result (λ e. e ≡ NoMemory) }
+{
+    let mut held = vec![in alloc; false; object.sections.len()]?;
+    for symbol in &object.symbols {
+        if symbol.kind != 0 {
+            mark(&mut held, symbol.section as usize);
+        }
+    }
+    Ok(held)
+}
+
+// Whether a section in which a symbol is defined or not needs a place and has none.
+fn is_unplaced(places: &[Place], held: bool, section: &Section) -> bool
+    ensures { result ≡ ((nat_lt 0 (length section.now.bytes) || held) && not (is_placed places.now section.now.name)) }
+{
+    (!section.bytes.is_empty() || held) && !is_placed(places, section.name.as_str())
+}
+
+// The name of the first of these sections that needs a place and has none.
+fn first_unplaced<'a>(places: &[Place], held: &[bool], sections: &'a [Section]) -> Option<&'a str>
+    requires { length held.now ≡ length sections.now }
+    ensures { (symbols : List SymbolData) → ((k : ℕ) (d : Bool) → k < length sections.now → slice_index_or held.now k d ≡ has_symbol symbols k)
+        → first_some (no_place_of places.now symbols) sections.now ≡ option_map (λ name. no_place name.now) result }
+{
+    for (number, section) in sections.iter().enumerate() {
+        if is_unplaced(places, held[number], section) {
+            return Some(section.name.as_str());
+        }
+    }
+    None
+}
+
+/// That each section that has bytes or in which a symbol is defined has a place.
+pub(crate) fn check_places(
+    alloc: Global,
+    places: &[Place],
+    objects: &[Object],
+) -> Result<(), LinkErr>
+    ensures ok { OnOk result (no_place_in places.now objects.now ≡ None) }
+    ensures err { IfErr result (IsRefusal (no_place_in places.now objects.now)) }
+{
+    for object in objects {
+        let held = sections_with_symbols(alloc, object)?;
+        if let Some(name) = first_unplaced(places, &held, &object.sections) {
+            return Err(LinkErr::NoPlace(String::from_str(alloc, name)?));
+        }
+    }
+    Ok(())
+}

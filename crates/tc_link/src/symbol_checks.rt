@@ -1,0 +1,120 @@
+// Symbols that are defined twice, or missing.
+ghost use Rattle.std.specs.Prelude.{◌≡◌, ◌<◌, ◌==◌, ◌&&◌, nat_lt, ℕ, Bool, List, length, slice_index_or, slice_set, true, Option, None, OnOk, IfOk, IfErr};
+ghost use Rattle.std.specs.Option.{option_map};
+ghost use Rattle.tc_object.specs.declared.relocs.Reloc.{Reloc};
+ghost use Rattle.tc_object.specs.Objects.{ObjectData};
+ghost use Rattle.tc_link.specs.Placing.{is_global};
+ghost use Rattle.tc_link.specs.Linked.{twice, missing, twice_of, twice_in, missing_of, missing_in, first_some, is_used, globals_named};
+ghost use Rattle.tc_link.specs.Names.{at_name, kept};
+ghost use Rattle.tc_link.specs.Errors.{IsRefusal};
+ghost use Rattle.tc_link.specs.declared.errors.LinkErr.TheVariants.{NoMemory};
+
+use crate::LinkErr;
+use crate::names::{is_missing, is_twice};
+use std::alloc::Global;
+use std::collections::BTreeMap;
+use tc_object::{Object, Symbol};
+
+// Whether a symbol is global, and another one too under its name.
+fn is_repeated(names: &BTreeMap<&str, bool>, symbol: &Symbol) -> bool
+    ensures { (objects : List ObjectData) → ((q : List ℕ) → at_name names.now q ≡ kept (globals_named objects q)) → result ≡ (is_global symbol.now && nat_lt 1 (globals_named objects symbol.now.name)) }
+{
+    symbol.kind == 2 && is_twice(names, symbol.name.as_str())
+}
+
+// The name of the first of these symbols that is defined in two objects.
+fn first_repeated<'a>(names: &BTreeMap<&str, bool>, symbols: &'a [Symbol]) -> Option<&'a str>
+    ensures { (objects : List ObjectData) → ((q : List ℕ) → at_name names.now q ≡ kept (globals_named objects q)) → first_some (twice_of objects) symbols.now ≡ option_map (λ name. twice name.now) result }
+{
+    for symbol in symbols {
+        if is_repeated(names, symbol) {
+            return Some(symbol.name.as_str());
+        }
+    }
+    None
+}
+
+/// That no global symbol is defined in two objects.
+pub(crate) fn check_repeated(
+    alloc: Global,
+    names: &BTreeMap<&str, bool>,
+    objects: &[Object],
+) -> Result<(), LinkErr>
+    requires { (q : List ℕ) → at_name names.now q ≡ kept (globals_named objects.now q) }
+    ensures ok { OnOk result (twice_in objects.now ≡ None) }
+    ensures err { IfErr result (IsRefusal (twice_in objects.now)) }
+{
+    for object in objects {
+        if let Some(name) = first_repeated(names, &object.symbols) {
+            return Err(LinkErr::Twice(String::from_str(alloc, name)?));
+        }
+    }
+    Ok(())
+}
+
+/// Marks the place of this number, where there is one.
+pub(crate) fn mark(marks: &mut Vec<bool>, number: usize)
+    ensures { marks.new.items ≡ slice_set marks.old.items number true }
+{
+    if number < marks.len() {
+        marks[number] = true;
+    }
+}
+
+// Which symbols of an object its relocations use.
+fn used_symbols(alloc: Global, object: &Object) -> Result<Vec<bool>, LinkErr>
+    ensures used { IfOk result (λ used. (k : ℕ) (d : Bool) → k < length object.now.symbols → slice_index_or used.items k d ≡ is_used object.now.relocs k) }
+    ensures count { IfOk result (λ used. length used.items ≡ length object.now.symbols) }
+    ensures err { IfErr result (λ e. e ≡ NoMemory) }
+{
+    let mut used = vec![in alloc; false; object.symbols.len()]?;
+    for reloc in &object.relocs {
+        mark(&mut used, reloc.symbol as usize);
+    }
+    Ok(used)
+}
+
+// Whether a symbol that is used or not is undefined here and in all objects.
+fn is_lost(names: &BTreeMap<&str, bool>, used: bool, symbol: &Symbol) -> bool
+    ensures { (objects : List ObjectData) → ((q : List ℕ) → at_name names.now q ≡ kept (globals_named objects q)) → result ≡ (symbol.now.kind == 0 && used && globals_named objects symbol.now.name == 0) }
+{
+    symbol.kind == 0 && used && is_missing(names, symbol.name.as_str())
+}
+
+// The name of the first of these symbols that is used, and undefined here and in all objects.
+fn first_missing<'a>(
+    names: &BTreeMap<&str, bool>,
+    used: &[bool],
+    symbols: &'a [Symbol],
+) -> Option<&'a str>
+    requires { length used.now ≡ length symbols.now }
+    ensures { (objects : List ObjectData) → ((q : List ℕ) → at_name names.now q ≡ kept (globals_named objects q))
+        → (relocs : List Reloc) → ((k : ℕ) (d : Bool) → k < length symbols.now → slice_index_or used.now k d ≡ is_used relocs k)
+        → first_some (missing_of objects relocs) symbols.now ≡ option_map (λ name. missing name.now) result }
+{
+    for (number, symbol) in symbols.iter().enumerate() {
+        if is_lost(names, used[number], symbol) {
+            return Some(symbol.name.as_str());
+        }
+    }
+    None
+}
+
+/// That each symbol that a relocation uses is defined.
+pub(crate) fn check_missing(
+    alloc: Global,
+    names: &BTreeMap<&str, bool>,
+    objects: &[Object],
+) -> Result<(), LinkErr>
+    requires { (q : List ℕ) → at_name names.now q ≡ kept (globals_named objects.now q) }
+    ensures ok { OnOk result (missing_in objects.now ≡ None) }
+    ensures err { IfErr result (IsRefusal (missing_in objects.now)) }
+{
+    for object in objects {
+        let used = used_symbols(alloc, object)?;
+        if let Some(name) = first_missing(names, &used, &object.symbols) {
+            return Err(LinkErr::Missing(String::from_str(alloc, name)?));
+        }
+    }
+    Ok(())
+}
