@@ -14,7 +14,7 @@ use Rattle.tc_mem.proofs.Search.{no_page}
 use Rattle.tc_mem.proofs.Mapped.{byte_of_same, get-memory_of, byte_in_none}
 use Rattle.tc_mem.proofs.Stored.{IsAt, get_found, mapped_found}
 
-clash : true ≡ false → ⊥
+pub clash : true ≡ false → ⊥
 clash e = cc
 
 pub not_true : (b : Bool) → (b ≡ true → ⊥) → b ≡ false

@@ -1,5 +1,6 @@
 pub mod Accesses
 pub mod AreaLaws
+pub mod Blocks
 pub mod Made
 pub mod Mapped
 pub mod Marks

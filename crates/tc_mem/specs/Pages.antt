@@ -1,5 +1,5 @@
 -- Pages of 4,096 bytes, and the memory that a list of them is.
-use Rattle.std.specs.Prelude.{◌≡◌, ◌<◌, ◌+◌, ◌*◌, ◌/◌, ◌%◌, ◌^◌, ℕ, Bool, ◌==◌, ◌&&◌, nat_le, nat_lt, if◌then◌else◌, List, [], ◌∷◌, ◌++◌, map, length, slice_index, slice_set, Option, Some, None, All}
+use Rattle.std.specs.Prelude.{◌≡◌, ◌<◌, ◌+◌, ◌-◌, ◌*◌, ◌/◌, ◌%◌, ◌^◌, ℕ, Bool, ◌==◌, ◌&&◌, nat_le, nat_lt, if◌then◌else◌, List, [], ◌∷◌, ◌++◌, map, length, slice_index, slice_set, Option, Some, None, All}
 use Rattle.std.specs.List.{list_any}
 use Rattle.std.specs.List.Sorted.{IsStrictlyIncreasing}
 use Rattle.std.specs.Int.{bit_at}
@@ -11,6 +11,10 @@ use Rattle.tc_mem.specs.declared.page.Page.{Page}
 -- whether the byte at an offset of a page is mapped: a bit for each, 64 to a word
 abbrev pub is_set : List ℕ → ℕ → Bool
 is_set mapped offset = bit_at (slice_index mapped (offset / 64)) (offset % 64) == 1
+
+-- whether the bits of the n bytes from an offset on are all set, where one word has them
+abbrev pub are_set : ℕ → List ℕ → ℕ → Bool
+are_set n mapped offset = slice_index mapped (offset / 64) / 2 ^ (offset % 64) % 2 ^ n == 2 ^ n - 1
 
 -- the byte at an address, where it lies in the page and is mapped
 abbrev pub byte_of : ℕ → Page → Option ℕ

@@ -2,12 +2,15 @@
 #![tactic(auto)]
 
 mod bits;
+mod finding;
 mod making;
 mod mem;
 mod memory;
+mod memory_words;
 mod page;
 mod pages;
 #[cfg(test)]
 mod tests;
+mod words;
 
 pub use mem::Mem;

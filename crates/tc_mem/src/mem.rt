@@ -5,10 +5,12 @@ ghost use Rattle.std.specs.FinMap as finite;
 ghost use Rattle.csa_chain.specs.Memory.{is_mapped, are_mapped, with_byte};
 ghost use Rattle.csa_chain.specs.MemoryChanges.{HasBytes};
 ghost use Rattle.tc_mem.specs.Areas.{area_of, with_area};
+ghost use Rattle.tc_mem.specs.Blocks.{are_in_block, word_of, half_of, with_word_in, with_half_in, first_word_of};
 ghost use Rattle.tc_mem.specs.Pages.{IsZeros};
 
 use crate::making::pages_of;
 use crate::memory::{read, read_area, write, write_area};
+use crate::memory_words::{read_first, read_half, read_word, write_half, write_word};
 use crate::page::Page;
 use std::alloc::Global;
 use std::marker::Model;
@@ -86,5 +88,53 @@ impl Mem {
         ensures bytes { HasBytes self.new }
     {
         write_area(&mut self.pages, addr, words)
+    }
+
+    /// The word of the four bytes from an address on, its lowest byte first, or nothing where one of them isn't mapped
+    /// or they cross a multiple of 64.
+    pub fn word(&self, addr: u32) -> Option<u32>
+        ensures word { result ≡ word_of self.now addr }
+        ensures bytes { HasBytes self.now }
+    {
+        read_word(&self.pages, addr)
+    }
+
+    /// The halfword of the two bytes from an address on, its lower byte first, or nothing where one of them isn't
+    /// mapped or they cross a multiple of 64.
+    pub fn half(&self, addr: u32) -> Option<u16>
+        ensures half { result ≡ half_of self.now addr }
+        ensures bytes { HasBytes self.now }
+    {
+        read_half(&self.pages, addr)
+    }
+
+    /// Writes a word into the four bytes from an address on, its lowest byte first. Where one of them isn't mapped, or
+    /// they cross a multiple of 64, the answer is false, and nothing changes.
+    pub fn set_word(&mut self, addr: u32, word: u32) -> bool
+        ensures mapped { result ≡ are_in_block self.old addr 4 }
+        ensures written { self.new ≡ with_word_in self.old addr word }
+        ensures bytes { HasBytes self.new }
+    {
+        write_word(&mut self.pages, addr, word)
+    }
+
+    /// Writes a halfword into the two bytes from an address on, its lower byte first. Where one of them isn't mapped,
+    /// or they cross a multiple of 64, the answer is false, and nothing changes.
+    pub fn set_half(&mut self, addr: u32, half: u16) -> bool
+        ensures mapped { result ≡ are_in_block self.old addr 2 }
+        ensures written { self.new ≡ with_half_in self.old addr half }
+        ensures bytes { HasBytes self.new }
+    {
+        write_half(&mut self.pages, addr, half)
+    }
+
+    /// The first word of the 64 bytes from an address on, or nothing where one of the 64 isn't mapped. `near` keeps the
+    /// place where the last such call found its page, and any number may be given.
+    pub fn first_word(&self, addr: u32, near: &mut usize) -> Option<u32>
+        requires { addr % 64 ≡ 0 }
+        ensures word { result ≡ first_word_of self.now addr }
+        ensures bytes { HasBytes self.now }
+    {
+        read_first(&self.pages, addr, near)
     }
 }

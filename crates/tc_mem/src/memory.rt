@@ -7,8 +7,9 @@ ghost use Rattle.csa_chain.specs.MemoryChanges.{HasBytes};
 ghost use Rattle.tc_mem.specs.Areas.{area_of, with_area};
 ghost use Rattle.tc_mem.specs.Pages.{memory_of, IsMem};
 
+use crate::finding::find_page;
 use crate::page::Page;
-use crate::pages::{area_in, byte, find_page, put_area, put_byte};
+use crate::pages::{area_in, byte, put_area, put_byte};
 
 // The byte at an address.
 pub(crate) fn read(pages: &[Page], addr: u32) -> Option<u8>

@@ -1,8 +1,7 @@
-// What is done inside one page, and the search for a page.
+// What is done inside one page.
 ghost use Rattle.std.specs.Prelude.{◌≡◌, ◌≢◌, ◌<◌, ◌≤◌, ◌+◌, ◌-◌, ◌==◌, [], ◌∷◌, ℕ, ◌*◌, ◌/◌, ◌%◌, ◌^◌, All, IfSome, IfNone, is_some, map, length, slice_index, slice_set, if◌then◌else◌};
-ghost use Rattle.std.specs.List.Sorted.{IsStrictlyIncreasing};
 ghost use Rattle.tcd_base.specs.Bytes.{word_at};
-ghost use Rattle.tc_mem.specs.Pages.{is_set, byte_of, bytes_with, number_of};
+ghost use Rattle.tc_mem.specs.Pages.{is_set, byte_of, bytes_with};
 
 use crate::page::Page;
 
@@ -40,32 +39,8 @@ pub(crate) fn put_byte(page: &mut Page, offset: usize, byte: u8) -> bool
     mapped
 }
 
-// The place of the page with this number.
-pub(crate) fn find_page(pages: &[Page], number: u32) -> Option<usize>
-    requires { IsStrictlyIncreasing (map number_of pages.now) }
-    ensures within { IfSome result (λ i. i < length pages.now) }
-    ensures found { IfSome result (λ i. slice_index (map number_of pages.now) i ≡ number) }
-    ensures none { IfNone result (All (λ p. number_of p ≢ number) pages.now) }
-{
-    let mut from = 0;
-    let mut to = pages.len();
-    while from < to {
-        let middle = from + (to - from) / 2;
-        let at = pages[middle].number;
-        if at == number {
-            return Some(middle);
-        }
-        if at < number {
-            from = middle + 1;
-        } else {
-            to = middle;
-        }
-    }
-    None
-}
-
 // The word of the four bytes from an offset on, the lowest byte first.
-fn word_in(bytes: &[u8; 4096], offset: usize) -> u32
+pub(crate) fn word_in(bytes: &[u8; 4096], offset: usize) -> u32
     requires { offset + 4 ≤ 4096 }
     ensures { result ≡ word_at bytes.now offset }
 {
@@ -79,7 +54,7 @@ fn word_in(bytes: &[u8; 4096], offset: usize) -> u32
 
 // Puts a word into the four bytes from an offset on, the lowest byte first.
 #[tactic(auto, unfolding(crate::specs::Pages::bytes_with))]
-fn put_word(bytes: &mut [u8; 4096], offset: usize, word: u32)
+pub(crate) fn put_word(bytes: &mut [u8; 4096], offset: usize, word: u32)
     requires { offset + 4 ≤ 4096 }
     ensures { bytes.new ≡ bytes_with bytes.old offset (word ∷ []) }
 {
@@ -143,4 +118,20 @@ pub(crate) fn put_area(page: &mut Page, offset: usize, words: &[u32; 16]) -> boo
         put_words(&mut page.bytes, offset, words);
     }
     mapped
+}
+
+// The first word of the 64 bytes from an offset on, where the one word of their bits says that all are mapped.
+pub(crate) fn first_in(page: &Page, offset: usize) -> Option<u32>
+    requires aligned { offset % 64 ≡ 0 }
+    requires within { offset < 4096 }
+    ensures fits { slice_index page.now.mapped (offset / 64) < 2 ^ 64 }
+    ensures mapped { is_some result ≡ (slice_index page.now.mapped (offset / 64) == 2 ^ 64 - 1) }
+    ensures word { IfSome result (λ w. w ≡ word_at page.now.bytes offset) }
+{
+    let mapped = page.mapped[offset / 64] == u64::MAX;
+    if mapped {
+        Some(word_in(&page.bytes, offset))
+    } else {
+        None
+    }
 }

@@ -54,3 +54,25 @@ fn areas_hold_words(rt: HostRuntime) -> Result<(), Fail> {
     assert_eq!(rt; mem.get(0x8000_0001), Some(0));
     Ok(())
 }
+
+#[test]
+fn whole_accesses(rt: HostRuntime) -> Result<(), Fail> {
+    let ranges = [Range {
+        at: 0x1000,
+        len: 66,
+    }];
+    let mut mem = Mem::of(rt.alloc(), &ranges)?;
+    assert_eq!(rt; mem.set_word(0x103c, 0x0403_0201), true);
+    assert_eq!(rt; mem.word(0x103c), Some(0x0403_0201));
+    assert_eq!(rt; mem.get(0x103d), Some(2));
+    assert_eq!(rt; mem.half(0x103e), Some(0x0403));
+    assert_eq!(rt; mem.set_half(0x1040, 0x0605), true);
+    assert_eq!(rt; mem.get(0x1041), Some(6));
+    assert_eq!(rt; mem.word(0x103e), None);
+    assert_eq!(rt; mem.set_word(0x1040, 1), false);
+    assert_eq!(rt; mem.half(0x1041), None);
+    let mut near = 7;
+    assert_eq!(rt; mem.first_word(0x1000, &mut near), Some(0));
+    assert_eq!(rt; mem.first_word(0x1040, &mut near), None);
+    Ok(())
+}

@@ -1,6 +1,6 @@
 use Rattle.std.proofs.Common.{arith}
 use Rattle.tc_mem.proofs.Search.{narrowed_up, narrowed_down, narrowed_out}
-use Rattle.tc_mem.proofs.pages.find_page.Goals as goal
+use Rattle.tc_mem.proofs.finding.search_page.Goals as goal
 
 pub loop-from-preserved-then-at-number-2 : goal.loop-from-preserved-then-at-number-2
 loop-from-preserved-then-at-number-2 c = narrowed_up _ _ _ _ _ c.requires c.loop-from.invariant (omega arith) c.if-at-number-2.true

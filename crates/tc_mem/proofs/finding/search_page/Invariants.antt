@@ -1,6 +1,6 @@
 use Rattle.std.proofs.Common.{◌-◌}
 use Rattle.tc_mem.proofs.Search.{Narrowed}
-use Rattle.tc_mem.proofs.pages.find_page.Given as goal
+use Rattle.tc_mem.proofs.finding.search_page.Given as goal
 
 abbrev pub invariant-loop-from : goal.invariant-loop-from
 invariant-loop-from l = Narrowed l.pages l.number l.from l.to
