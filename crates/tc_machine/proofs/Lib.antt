@@ -5,6 +5,8 @@ pub mod Areas
 pub mod Steps
 pub mod ShapeWords
 pub mod Words
+pub mod WholeAccesses
+pub mod Kept
 pub mod Stays
 pub mod ContextWords
 pub mod Decoded

@@ -2,6 +2,7 @@ pub mod Machine
 pub mod Contexts
 pub mod Fetching
 pub mod Instructions
+pub mod Kinds
 pub mod Stepping
 pub mod Ranges
 pub mod Safe

@@ -1,5 +1,6 @@
 // Loads and stores.
 ghost use Rattle.std.specs.Prelude.{◌≡◌, ◌<◌, ◌%◌, ◌^◌, unwrap_or};
+ghost use Rattle.std.specs.Bool.{MatchBool};
 ghost use Rattle.std.specs.FinMap as map;
 ghost use Rattle.tc_isa.specs.Bounded.{IsSize};
 ghost use Rattle.tc_machine.specs.Fetching.{loaded, extended, with_bytes};
@@ -15,9 +16,9 @@ fn byte(mem: &Mem, input: u32, addr: u32) -> u8
     mem.get(addr).unwrap_or((input % 256) as u8)
 }
 
-/// The two bytes from an address on.
+/// The two bytes from an address on, each looked up on its own.
 #[tactic(auto, unfolding(crate::specs::Fetching::loaded))]
-fn half(mem: &Mem, input: u32, addr: u32) -> u16
+fn half_by_bytes(mem: &Mem, input: u32, addr: u32) -> u16
     ensures { result ≡ loaded mem.now input addr 2 }
 {
     let low = byte(mem, input, addr);
@@ -25,15 +26,35 @@ fn half(mem: &Mem, input: u32, addr: u32) -> u16
     u16::from(low) + 256 * u16::from(high)
 }
 
-/// The four bytes from an address on.
+/// The two bytes from an address on.
+fn half(mem: &Mem, input: u32, addr: u32) -> u16
+    ensures { result ≡ loaded mem.now input addr 2 }
+{
+    match mem.half(addr) {
+        Some(half) => half,
+        None => half_by_bytes(mem, input, addr),
+    }
+}
+
+/// The four bytes from an address on, each looked up on its own.
 #[tactic(auto, unfolding(crate::specs::Fetching::loaded))]
-fn word(mem: &Mem, input: u32, addr: u32) -> u32
+fn word_by_bytes(mem: &Mem, input: u32, addr: u32) -> u32
     ensures { result ≡ loaded mem.now input addr 4 }
 {
     let low = byte(mem, input, addr);
     let second = byte(mem, input / 256, ahead(addr, 1));
-    let high = half(mem, input / 256 / 256, ahead(ahead(addr, 1), 1));
+    let high = half_by_bytes(mem, input / 256 / 256, ahead(ahead(addr, 1), 1));
     u32::from(low) + 256 * (u32::from(second) + 256 * u32::from(high))
+}
+
+/// The four bytes from an address on.
+fn word(mem: &Mem, input: u32, addr: u32) -> u32
+    ensures { result ≡ loaded mem.now input addr 4 }
+{
+    match mem.word(addr) {
+        Some(word) => word,
+        None => word_by_bytes(mem, input, addr),
+    }
 }
 
 /// The one byte from an address on, as a number.
@@ -64,13 +85,34 @@ pub(crate) fn load(mem: &Mem, input: u32, addr: u32, size: u8, signed: bool) -> 
     }
 }
 
-/// Stores the low n bytes of a word from an address on.
+/// Stores the low n bytes of a word from an address on, each on its own.
 #[tactic(auto, unfolding(crate::specs::Fetching::with_bytes))]
-pub(crate) fn store(mem: &mut Mem, addr: u32, word: u32, n: u8)
+fn store_bytes(mem: &mut Mem, addr: u32, word: u32, n: u8)
     ensures { mem.new ≡ with_bytes mem.old addr word n }
 {
     if n > 0 {
         mem.set(addr, (word % 256) as u8);
-        store(mem, ahead(addr, 1), word / 256, n - 1);
+        store_bytes(mem, ahead(addr, 1), word / 256, n - 1);
     }
+}
+
+/// Stores a word, or the low half of one, at once, where its bytes are in a block of the memory, and says whether it did.
+fn store_whole(mem: &mut Mem, addr: u32, word: u32, n: u8) -> bool
+    ensures { MatchBool result (mem.new ≡ with_bytes mem.old addr word n) (mem.new ≡ mem.old) }
+{
+    match n {
+        4 => mem.set_word(addr, word),
+        2 => mem.set_half(addr, (word % 0x1_0000) as u16),
+        _ => false,
+    }
+}
+
+/// Stores the low n bytes of a word from an address on.
+pub(crate) fn store(mem: &mut Mem, addr: u32, word: u32, n: u8)
+    ensures { mem.new ≡ with_bytes mem.old addr word n }
+{
+    if store_whole(mem, addr, word, n) {
+        return;
+    }
+    store_bytes(mem, addr, word, n);
 }

@@ -1,12 +1,29 @@
 // What a machine says of itself: the load that comes next, and how many areas are in use.
-ghost use Rattle.std.specs.Prelude.{◌≡◌, Ok, Some, None, if◌then◌else◌};
+ghost use Rattle.std.specs.Prelude.{◌≡◌, Ok, Some, None, IfOk, if◌then◌else◌};
+ghost use Rattle.std.specs.Bool.{OnTrue};
 ghost use Rattle.csa_chain.specs.Chain.{link_in, is_area, area_word};
 ghost use Rattle.tc_isa.specs.Bounded.{IsShape};
-ghost use Rattle.tc_machine.specs.Stepping.{load_in, next_load_of, used_of};
+ghost use Rattle.tc_encode.specs.Decoding.{decoded_of};
+ghost use Rattle.tc_machine.specs.Fetching.{mapped_bytes, shaped};
+ghost use Rattle.tc_machine.specs.Stepping.{load_in, next_load_of, used_of, step, keeps_of};
 
 use crate::contexts::link;
-use crate::{End, Machine};
+use crate::{Cause, End, Event, Machine};
+use csa_chain::address_of;
 use tc_isa::Shape;
+
+/// Whether an instruction leaves the memory and PCXI as they are, whatever the state.
+fn keeps(event: &Event, shape: Shape) -> bool
+    ensures { result ≡ keeps_of event.now shape }
+{
+    match shape {
+        Shape::Load { .. } => !event.aln,
+        Shape::Compute { .. } | Shape::Scaled { .. } | Shape::Branch { .. } => true,
+        Shape::Jump { .. } | Shape::Mfcr { .. } => true,
+        Shape::Enable | Shape::Disable | Shape::Nothing => true,
+        _ => false,
+    }
+}
 
 impl Machine {
     /// The address and the size in bytes of the load that an instruction is.
@@ -26,27 +43,49 @@ impl Machine {
         }
     }
 
-    /// The address and the size in bytes of the load that the instruction at pc would do. None where the machine is
-    /// dead, the bytes there don't decode, or the instruction isn't a load.
-    pub fn next_load(&self) -> Option<(u32, u8)>
+    /// The load that comes next, as `next_load` tells it, where this is what the bytes at pc do.
+    pub fn load_by(&self, found: &Result<(Shape, u32), Cause>) -> Option<(u32, u8)>
+        requires found { found.now ≡ shaped (decoded_of (mapped_bytes 4 self.now.mem self.now.pc)) }
+        requires bounded { IfOk found.now (λ it. IsShape it.0) }
         ensures { result ≡ next_load_of self.now }
     {
         match self.end {
-            End::Running => match self.shape_at_pc() {
-                Ok((shape, _)) => self.load_of(shape),
+            End::Running => match found {
+                Ok((shape, _)) => self.load_of(*shape),
                 Err(_) => None,
             },
             End::Dead(_) => None,
         }
     }
 
-    /// Word 0 of the area that a word of a chain names.
-    fn word_after(&self, word: u32) -> Option<u32>
+    /// The address and the size in bytes of the load that the instruction at pc would do. None where the machine is
+    /// dead, the bytes there don't decode, or the instruction isn't a load.
+    pub fn next_load(&self) -> Option<(u32, u8)>
+        ensures { result ≡ next_load_of self.now }
+    {
+        self.load_by(&self.shape_at_pc())
+    }
+
+    /// Word 0 of the area that a word of a chain names. Its place in memory is looked for near the one before.
+    #[tactic(auto, using(crate::proofs::WholeAccesses::first_of_area))]
+    fn word_after(&self, word: u32, near: &mut usize) -> Option<u32>
         ensures { result ≡ (if is_area self.now.mem (link_in word) then Some (area_word self.now.mem (link_in word) 0) else None) }
     {
-        match self.words_of(link(word)) {
-            Some(words) => Some(words[0]),
-            None => None,
+        self.mem.first_word(address_of(link(word)), near)
+    }
+
+    /// Whether an event surely leaves the memory and PCXI, and so the areas in use, as they are: no interrupt is taken,
+    /// and the instruction is neither a store nor one that may change a context. This is what the bytes at pc do.
+    pub fn keeps_areas(&self, event: &Event, found: &Result<(Shape, u32), Cause>) -> bool
+        requires { found.now ≡ shaped (decoded_of (mapped_bytes 4 self.now.mem self.now.pc)) }
+        ensures { OnTrue result (used_of (step self.now event.now) ≡ used_of self.now) }
+    {
+        if self.ie && self.ccpn < event.irq {
+            return false;
+        }
+        match found {
+            Ok((shape, _)) => keeps(event, *shape),
+            Err(_) => false,
         }
     }
 
@@ -57,11 +96,12 @@ impl Machine {
     {
         let mut word = self.pcxi;
         let mut count = 0;
+        let mut near = 0;
         while link(word) != 0 {
             if count == 4096 {
                 return None;
             }
-            word = self.word_after(word)?;
+            word = self.word_after(word, &mut near)?;
             count += 1;
         }
         Some(count)

@@ -19,9 +19,9 @@ pub(crate) fn link(word: u32) -> u32
     word % 0x10_0000
 }
 
-/// Puts a word into the four bytes from an address on.
+/// Puts a word into the four bytes from an address on, one after another.
 #[tactic(auto, unfolding(csa_chain::specs::Memory::with_word))]
-pub(crate) fn put_word(mem: &mut Mem, addr: u32, word: u32)
+fn put_bytes(mem: &mut Mem, addr: u32, word: u32)
     requires { addr + 3 < 2 ^ 32 }
     ensures { mem.new ≡ with_word mem.old addr word }
 {
@@ -29,6 +29,17 @@ pub(crate) fn put_word(mem: &mut Mem, addr: u32, word: u32)
     mem.set(addr + 1, (word / 256 % 256) as u8);
     mem.set(addr + 2, (word / 65536 % 256) as u8);
     mem.set(addr + 3, (word / 16777216 % 256) as u8);
+}
+
+/// Puts a word into the four bytes from an address on.
+pub(crate) fn put_word(mem: &mut Mem, addr: u32, word: u32)
+    requires { addr + 3 < 2 ^ 32 }
+    ensures { mem.new ≡ with_word mem.old addr word }
+{
+    if mem.set_word(addr, word) {
+        return;
+    }
+    put_bytes(mem, addr, word);
 }
 
 impl Machine {

@@ -1,5 +1,6 @@
 // The instruction at pc.
 ghost use Rattle.std.specs.Prelude.{◌≡◌, ◌<◌, ◌≤◌, IfOk};
+ghost use Rattle.tcd_base.specs.Bytes.{bytes_of_word};
 ghost use Rattle.tc_isa.specs.Bounded.{IsShape};
 ghost use Rattle.tc_encode.specs.Decoding.{decoded_of};
 ghost use Rattle.tc_machine.specs.Fetching.{mapped_bytes, cause_of, fetched, shaped};
@@ -18,9 +19,17 @@ fn decode_front(bytes: &[u8]) -> Result<(Inst, usize), DecodeErr>
     decode(bytes)
 }
 
-/// The instruction that at most four mapped bytes from an address on begin with, and how many bytes it has.
+/// The bytes of a word, the lowest first.
+fn word_bytes(word: u32) -> [u8; 4]
+    ensures { result ≡ bytes_of_word word }
+{
+    word.to_le_bytes()
+}
+
+/// The instruction that at most four mapped bytes from an address on begin with, each looked up on its own, and how
+/// many bytes it has.
 #[tactic(auto, unfolding(crate::specs::Fetching::mapped_bytes))]
-fn decode_at(mem: &Mem, addr: u32) -> Result<(Inst, usize), DecodeErr>
+fn decode_by_bytes(mem: &Mem, addr: u32) -> Result<(Inst, usize), DecodeErr>
     ensures decoded { result ≡ decoded_of (mapped_bytes 4 mem.now addr) }
     ensures small { IfOk result (λ found. found.1 ≤ 4) }
 {
@@ -41,6 +50,17 @@ fn decode_at(mem: &Mem, addr: u32) -> Result<(Inst, usize), DecodeErr>
     decode_front(&[a, b, c, d])
 }
 
+/// The instruction that at most four mapped bytes from an address on begin with, and how many bytes it has.
+fn decode_at(mem: &Mem, addr: u32) -> Result<(Inst, usize), DecodeErr>
+    ensures decoded { result ≡ decoded_of (mapped_bytes 4 mem.now addr) }
+    ensures small { IfOk result (λ found. found.1 ≤ 4) }
+{
+    match mem.word(addr) {
+        Some(word) => decode_front(&word_bytes(word)),
+        None => decode_by_bytes(mem, addr),
+    }
+}
+
 /// Why a machine dies where the bytes are no instruction.
 fn cause(e: DecodeErr) -> Cause
     ensures { result ≡ cause_of e }
@@ -53,7 +73,7 @@ fn cause(e: DecodeErr) -> Cause
 
 impl Machine {
     /// What the bytes at pc do, be it odd or even, and how many bytes that instruction has.
-    pub(crate) fn shape_at_pc(&self) -> Result<(Shape, u32), Cause>
+    pub fn shape_at_pc(&self) -> Result<(Shape, u32), Cause>
         ensures shape { result ≡ shaped (decoded_of (mapped_bytes 4 self.now.mem self.now.pc)) }
         ensures bounded { IfOk result (λ found. IsShape found.0) }
     {
@@ -63,14 +83,16 @@ impl Machine {
         }
     }
 
-    /// The instruction at pc; there is none at an odd address.
+    /// The instruction at pc, where this is what the bytes there do; there is none at an odd address.
     #[tactic(auto, unfolding(crate::specs::Fetching::fetched))]
-    pub(crate) fn fetch(&self) -> Result<(Shape, u32), Cause>
+    pub(crate) fn fetch(&self, found: Result<(Shape, u32), Cause>) -> Result<(Shape, u32), Cause>
+        requires found { found ≡ shaped (decoded_of (mapped_bytes 4 self.now.mem self.now.pc)) }
+        requires bounded { IfOk found (λ it. IsShape it.0) }
         ensures shape { result ≡ fetched self.now }
-        ensures bounded { IfOk result (λ found. IsShape found.0) }
+        ensures bounded { IfOk result (λ it. IsShape it.0) }
     {
         if self.pc % 2 == 0 {
-            self.shape_at_pc()
+            found
         } else {
             Err(Cause::NoCode)
         }

@@ -3,6 +3,7 @@ ghost use Rattle.std.specs.Prelude.{◌≡◌, ◌<◌};
 ghost use Rattle.tc_isa.specs.Bounded.{IsShape, IsArg, IsTarget, IsSize};
 ghost use Rattle.tc_machine.specs.declared.events.Event.{Event};
 ghost use Rattle.tc_machine.specs.Instructions.{does};
+ghost use Rattle.tc_machine.specs.Kinds.{OnAccess, OnContext, OnSystem};
 
 use crate::accesses::{load, store};
 use crate::operands::traps;
@@ -180,20 +181,13 @@ impl Machine {
 }
 
 impl Machine {
-    /// What an instruction of n bytes does (TriCore 1 architecture manual, volume 2, instruction set).
+    /// What a load or a store does.
     #[tactic(auto, unfolding(crate::specs::Instructions::does))]
-    pub(crate) fn execute(&mut self, event: &Event, shape: Shape, n: u32)
+    fn execute_access(&mut self, event: &Event, shape: Shape, n: u32)
         requires { IsShape shape }
-        ensures { self.new ≡ does self.old event.now shape n }
+        ensures { OnAccess shape (self.new ≡ does self.old event.now shape n) }
     {
         match shape {
-            Shape::Compute { op, dst, x, y } => self.compute(op, dst, x, y, n),
-            Shape::Scaled {
-                dst,
-                base,
-                index,
-                n: k,
-            } => self.scaled(dst, base, index, k, n),
             Shape::Load {
                 dst,
                 base,
@@ -225,20 +219,35 @@ impl Machine {
                 };
                 self.store(event, src, at, n)
             }
-            Shape::Branch {
-                cond,
-                x,
-                y,
-                by,
-                lowers,
-            } => self.branch(cond, x, y, by, lowers, n),
-            Shape::Jump { to } => self.pc = self.target(to),
+            _ => {}
+        }
+    }
+
+    /// What an instruction does that saves or restores a context.
+    #[tactic(auto, unfolding(crate::specs::Instructions::does))]
+    fn execute_context(&mut self, event: &Event, shape: Shape, n: u32)
+        requires { IsShape shape }
+        ensures { OnContext shape (self.new ≡ does self.old event.now shape n) }
+    {
+        match shape {
             Shape::Call { to } => self.call(to, n),
             Shape::Ret => self.go_back(n),
             Shape::Rfe => self.leave_handler(n),
             Shape::Svlcx => self.save_lower(n),
             Shape::Rslcx => self.take_lower(n),
             Shape::Bisr { c } => self.begin_interruptible(c, n),
+            Shape::Syscall { tin } => self.trap(6, tin, ahead(self.pc, n)),
+            _ => {}
+        }
+    }
+
+    /// What an instruction on core registers or the interrupt system does.
+    #[tactic(auto, unfolding(crate::specs::Instructions::does))]
+    fn execute_system(&mut self, event: &Event, shape: Shape, n: u32)
+        requires { IsShape shape }
+        ensures { OnSystem shape (self.new ≡ does self.old event.now shape n) }
+    {
+        match shape {
             Shape::Enable => {
                 self.advance(n);
                 self.ie = true;
@@ -247,7 +256,6 @@ impl Machine {
                 self.advance(n);
                 self.ie = false;
             }
-            Shape::Syscall { tin } => self.trap(6, tin, ahead(self.pc, n)),
             Shape::Mfcr { dst, number } => {
                 let word = self.core_register(event, number);
                 self.set_reg(dst, word);
@@ -256,6 +264,40 @@ impl Machine {
             Shape::Mtcr { src, number } => {
                 self.set_core_register(number, self.reg(src));
                 self.advance(n);
+            }
+            _ => {}
+        }
+    }
+
+    /// What an instruction of n bytes does (TriCore 1 architecture manual, volume 2, instruction set).
+    #[tactic(auto, unfolding(crate::specs::Instructions::does))]
+    pub(crate) fn execute(&mut self, event: &Event, shape: Shape, n: u32)
+        requires { IsShape shape }
+        ensures { self.new ≡ does self.old event.now shape n }
+    {
+        match shape {
+            Shape::Compute { op, dst, x, y } => self.compute(op, dst, x, y, n),
+            Shape::Scaled {
+                dst,
+                base,
+                index,
+                n: k,
+            } => self.scaled(dst, base, index, k, n),
+            Shape::Load { .. } | Shape::Store { .. } => self.execute_access(event, shape, n),
+            Shape::Branch {
+                cond,
+                x,
+                y,
+                by,
+                lowers,
+            } => self.branch(cond, x, y, by, lowers, n),
+            Shape::Jump { to } => self.pc = self.target(to),
+            Shape::Call { .. } | Shape::Ret | Shape::Rfe | Shape::Svlcx | Shape::Rslcx => {
+                self.execute_context(event, shape, n)
+            }
+            Shape::Bisr { .. } | Shape::Syscall { .. } => self.execute_context(event, shape, n),
+            Shape::Enable | Shape::Disable | Shape::Mfcr { .. } | Shape::Mtcr { .. } => {
+                self.execute_system(event, shape, n)
             }
             Shape::Nothing => self.advance(n),
         }

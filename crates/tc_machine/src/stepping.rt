@@ -1,33 +1,40 @@
 // One event, and runs.
-ghost use Rattle.std.specs.Prelude.{◌≡◌};
+ghost use Rattle.std.specs.Prelude.{◌≡◌, IfOk};
+ghost use Rattle.tc_isa.specs.Bounded.{IsShape};
+ghost use Rattle.tc_encode.specs.Decoding.{decoded_of};
+ghost use Rattle.tc_machine.specs.Fetching.{mapped_bytes, shaped};
 ghost use Rattle.tc_machine.specs.Stepping.{done, step, run};
 
-use crate::{End, Event, Machine};
+use crate::{Cause, End, Event, Machine};
+use tc_isa::Shape;
 
 impl Machine {
     /// An event of a machine that runs: its interrupt, where interrupts are on and its priority is above the current
     /// one, else the instruction at pc.
-    fn perform(&mut self, event: &Event)
+    fn perform(&mut self, event: &Event, found: Result<(Shape, u32), Cause>)
+        requires found { found ≡ shaped (decoded_of (mapped_bytes 4 self.old.mem self.old.pc)) }
+        requires bounded { IfOk found (λ it. IsShape it.0) }
         ensures { self.new ≡ done self.old event.now }
     {
         if self.ie && self.ccpn < event.irq {
             self.interrupt(event.irq);
             return;
         }
-        match self.fetch() {
+        match self.fetch(found) {
             Ok((shape, n)) => self.execute(event, shape, n),
             Err(cause) => self.die(cause),
         }
     }
 
-    /// Does one event: takes its interrupt, or does the instruction at pc; a machine that still runs then has the
-    /// event's status byte in PSW. A dead machine doesn't change (TriCore 1 architecture manual, volumes 1 and 2).
+    /// Does one event as `step` does, where what the bytes at pc do was found before.
     #[tactic(auto, unfolding(crate::specs::Stepping::step))]
-    pub fn step(&mut self, event: &Event)
+    pub fn step_by(&mut self, event: &Event, found: Result<(Shape, u32), Cause>)
+        requires found { found ≡ shaped (decoded_of (mapped_bytes 4 self.old.mem self.old.pc)) }
+        requires bounded { IfOk found (λ it. IsShape it.0) }
         ensures { self.new ≡ step self.old event.now }
     {
         match self.end {
-            End::Running => self.perform(event),
+            End::Running => self.perform(event, found),
             End::Dead(_) => return,
         }
         match self.end {
@@ -36,6 +43,14 @@ impl Machine {
             }
             End::Dead(_) => {}
         }
+    }
+
+    /// Does one event: takes its interrupt, or does the instruction at pc; a machine that still runs then has the
+    /// event's status byte in PSW. A dead machine doesn't change (TriCore 1 architecture manual, volumes 1 and 2).
+    pub fn step(&mut self, event: &Event)
+        ensures { self.new ≡ step self.old event.now }
+    {
+        self.step_by(event, self.shape_at_pc());
     }
 
     /// Does all events, one after another.
