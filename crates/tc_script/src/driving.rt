@@ -1,6 +1,9 @@
 // The machine, driven by the turns of a script.
-ghost use Rattle.std.specs.Prelude.{◌≡◌, ◌≤◌, ◌<◌, ◌^◌, Some, IfSome, unwrap_or};
-ghost use Rattle.std.specs.Bool.{MatchBool};
+ghost use Rattle.std.specs.Prelude.{◌≡◌, ◌≤◌, ◌<◌, ◌^◌, Some, IfSome, IfOk, unwrap_or};
+ghost use Rattle.std.specs.Bool.{MatchBool, OnTrue};
+ghost use Rattle.tc_isa.specs.Bounded.{IsShape};
+ghost use Rattle.tc_encode.specs.Decoding.{decoded_of};
+ghost use Rattle.tc_machine.specs.Fetching.{mapped_bytes, shaped};
 ghost use Rattle.tc_machine.specs.Stepping.{used_of};
 ghost use Rattle.tc_script.specs.Fitting.{HasSources};
 ghost use Rattle.tc_script.specs.Ports.{IsAskable, IsBounded};
@@ -8,7 +11,8 @@ ghost use Rattle.tc_script.specs.Runs.{IsInput, IsEventOf, IsDead, IsDriven};
 
 use crate::asking::Ports;
 use crate::{Script, Turn};
-use tc_machine::{End, Event, Machine};
+use tc_isa::Shape;
+use tc_machine::{Cause, End, Event, Machine};
 use tcd_plan::Plan;
 
 /// How many events were done, and the greatest number of save areas that were in use.
@@ -61,19 +65,35 @@ fn input<F: Fn(u32, u32) -> u32>(ports: &Ports<F>, load: Option<(u32, u8)>, t: u
     }
 }
 
-/// The event of a turn.
-fn event<F: Fn(u32, u32) -> u32>(ports: &Ports<F>, m: &Machine, turn: Turn, t: u32) -> Event
-    requires { IsAskable (F.pre ports.now.answer) ports.now.devices }
+/// The event of a turn, where this is what the bytes at pc do.
+fn event<F: Fn(u32, u32) -> u32>(
+    ports: &Ports<F>,
+    m: &Machine,
+    found: &Result<(Shape, u32), Cause>,
+    turn: Turn,
+    t: u32,
+) -> Event
+    requires askable { IsAskable (F.pre ports.now.answer) ports.now.devices }
+    requires found { found.now ≡ shaped (decoded_of (mapped_bytes 4 m.now.mem m.now.pc)) }
+    requires bounded { IfOk found.now (λ it. IsShape it.0) }
     ensures event { IsEventOf ports.now.devices (F.post ports.now.answer) t turn m.now result }
     ensures word { result.input < 2 ^ 32 }
 {
-    let input = input(ports, m.next_load(), t);
+    let input = input(ports, m.load_by(found), t);
     Event {
         irq: turn.irq,
         input,
         status: 0,
         aln: turn.aln,
     }
+}
+
+/// How many areas are in use: as many as before the event where it left them as they were.
+fn used_after(m: &Machine, kept: bool, before: u32) -> u32
+    requires { OnTrue kept (before ≡ unwrap_or (used_of m.now) 0) }
+    ensures { result ≡ unwrap_or (used_of m.now) 0 }
+{
+    if kept { before } else { used(m) }
 }
 
 /// Does one event for each turn of the script, until the machine is dead or the turns end. An event has the turn's
@@ -91,19 +111,24 @@ pub fn drive<F: Fn(u32, u32) -> u32>(
     requires bounded { IsBounded (F.post ports.now.answer) plan.now.devices }
     ensures { IsDriven plan.now (F.post ports.now.answer) script.now.turns m.old m.new result }
 {
+    let mut areas = used(m);
     let mut done = Peak {
         events: 0,
-        peak: used(m),
+        peak: areas,
     };
     for t in 0..script.len() {
         if !is_running(m) {
             return done;
         }
-        let event = event(ports, m, script.turn(t), t);
-        m.step(&event);
+        let found = m.shape_at_pc();
+        let event = event(ports, m, &found, script.turn(t), t);
+        let kept = m.keeps_areas(&event, &found);
+        m.step_by(&event, found);
+        let count = used_after(m, kept, areas);
+        areas = count;
         done = Peak {
             events: t + 1,
-            peak: done.peak.max(used(m)),
+            peak: done.peak.max(count),
         };
     }
     done

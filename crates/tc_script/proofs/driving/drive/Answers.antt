@@ -2,13 +2,18 @@ use Rattle.std.proofs.Common.{◌≡◌, ◌<◌, ◌^◌, ◌⊎◌, max, inl, 
 use Rattle.std.specs.Prelude.{Contains}
 use Rattle.std.proofs.lemmas.List.{drop_all}
 use Rattle.tc_machine.specs.declared.events.End.TheVariants.{Running}
+use Rattle.tc_machine.specs.Stepping.{step, used_of}
 use Rattle.tc_script.specs.Runs.{IsEventOf}
 use Rattle.tc_script.proofs.Events.{fits_event, all_at, drop_at}
-use Rattle.tc_script.proofs.Runs.{one_more, ended}
+use Rattle.tc_script.proofs.Runs.{one_more, ended, kept_count}
 use Rattle.tc_script.proofs.driving.drive.Goals as goal
 
 pub returns-then-not-is_running : goal.returns-then-not-is_running
-returns-then-not-is_running g c = ended c.loop-t.t c.loop-t.m c.loop-t.done c.loop-t.invariant (inr c.if-not-is_running.ensures)
+returns-then-not-is_running g c = ended c.loop-t.t c.loop-t.m c.loop-t.done c.loop-t.invariant.so_far (inr c.if-not-is_running.ensures)
+
+pub used_after-count-requires : goal.used_after-count-requires
+used_after-count-requires g c =
+    kept_count c.keeps_areas-kept.result (used_of c.loop-t.m) (used_of c.step_by.new.self) (used_of (step c.loop-t.m c.event-event.result)) c.loop-t.areas c.loop-t.invariant.areas (ap used_of c.step_by.ensures) c.keeps_areas-kept.ensures
 
 pub loop-t-preserved : goal.loop-t-preserved
 loop-t-preserved g c =
@@ -21,9 +26,13 @@ loop-t-preserved g c =
     let event : IsEventOf plan.devices answers c.loop-t.t turn m e = subst (λ ds. IsEventOf ds answers c.loop-t.t turn m e) c.requires.devices c.event-event.ensures.event in
     let source = all_at (λ turn. (turn.irq ≡ 0) ⊎ Contains plan.irqs turn.irq) c.args.script.now.turns c.loop-t.t turn c.requires.sources c.turn.ensures in
     let early : c.loop-t.t < 2 ^ 32 = omega arith in
-    one_more c.loop-t.t m c.loop-t.done turn e c.step.new.self _ c.loop-t.invariant running (drop_at c.args.script.now.turns c.loop-t.t turn c.turn.ensures) event
-    (fits_event plan answers c.loop-t.t turn m e running event c.requires.bounded source early c.event-event.ensures.word) c.step.ensures refl
-    (c.max.ensures ∙ ap (λ n. max c.loop-t.done.peak n) c.used-in-loop-t.ensures)
+    record {
+      so_far =
+          one_more c.loop-t.t m c.loop-t.done turn e c.step_by.new.self _ c.loop-t.invariant.so_far running (drop_at c.args.script.now.turns c.loop-t.t turn c.turn.ensures) event
+          (fits_event plan answers c.loop-t.t turn m e running event c.requires.bounded source early c.event-event.ensures.word) c.step_by.ensures refl
+          (c.max.ensures ∙ ap (λ n. max c.loop-t.done.peak n) c.used_after-count.ensures);
+      areas = c.used_after-count.ensures;
+    }
 
 pub returns : goal.returns
-returns g c = ended c.loop-t.t c.loop-t.m c.loop-t.done c.loop-t.invariant (inl (drop_all c.loop-t.t c.args.script.now.turns (omega arith)))
+returns g c = ended c.loop-t.t c.loop-t.m c.loop-t.done c.loop-t.invariant.so_far (inl (drop_all c.loop-t.t c.args.script.now.turns (omega arith)))
