@@ -19,13 +19,13 @@ use Rattle.tc_script.specs.Reading.{script_of}
 use Rattle.tcd_driver.specs.Held.{HoldsImage, HoldsPlan, HoldsCert, HoldsScript, ImageText, long_image, refused_image, PlanText, long_plan, refused_plan, CertText, long_cert, refused_cert, ScriptText, long_script, refused_script}
 
 -- ---- one file has one form
-same_bytes : (o : Option (List ℕ)) (a b : List ℕ) → o ≡ Some a → o ≡ Some b → a ≡ b
+pub same_bytes : (o : Option (List ℕ)) (a b : List ℕ) → o ≡ Some a → o ≡ Some b → a ≡ b
 same_bytes o a b e f = cc
 
 long_by : (n : ℕ) (o : Option (List ℕ)) (bytes : List ℕ) → o ≡ Some bytes → IsSomeAnd o (λ b. n < length b) → n < length bytes
 long_by n o bytes e h = let P : Option (List ℕ) → Type 0 = λ x. IsSomeAnd x (λ b. n < length b) in subst P e h
 
-not_long : (n : ℕ) (o : Option (List ℕ)) (bytes : List ℕ) → o ≡ Some bytes → length bytes ≤ n → IsSomeAnd o (λ b. n < length b) → ⊥
+pub not_long : (n : ℕ) (o : Option (List ℕ)) (bytes : List ℕ) → o ≡ Some bytes → length bytes ≤ n → IsSomeAnd o (λ b. n < length b) → ⊥
 not_long n o bytes e within h = let l = long_by n o bytes e h in omega arith
 
 ok_same : {T E : Type 0} (r : Result T E) (x y : T) → r ≡ Ok x → r ≡ Ok y → x ≡ y

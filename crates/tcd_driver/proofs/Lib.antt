@@ -1,8 +1,10 @@
+pub mod AsmReads
 pub mod CheckReads
 pub mod CheckSaid
 pub mod Endings
 pub mod Finished
 pub mod HeldLaws
+pub mod ListingReads
 pub mod RunReads
 pub mod RunSaid
 pub mod Said

@@ -1,5 +1,5 @@
 -- What reading an input comes to.
-use Rattle.std.specs.Prelude.{◌≡◌, ◌≢◌, ◌≤◌, ◌-◌, ℕ, List, [], Bool, IsTrue, Option, Ok, Err}
+use Rattle.std.specs.Prelude.{◌≡◌, ◌≢◌, ◌≤◌, ◌-◌, ℕ, List, [], ◌∷◌, length, Bool, IsTrue, Option, Ok, Err}
 use Rattle.elf_image.specs.Images.{ImageData}
 use Rattle.elf_image.specs.Elf.{image_of}
 use Rattle.elf_image.specs.declared.errors.ImageErr.{ImageErr}
@@ -19,8 +19,14 @@ use Rattle.tc_machine.specs.Starting.{StartsInZeros}
 use Rattle.tc_script.specs.ScriptData.{ScriptData}
 use Rattle.tc_script.specs.Reading.{script_of}
 use Rattle.tc_script.specs.declared.errors.ScriptErr.{ScriptErr}
+use Rattle.tc_object.specs.Objects.{ObjectData}
+use Rattle.tc_object.specs.Spelling.{bytes_of}
+use Rattle.tc_asm.specs.Lines.{lines_in}
+use Rattle.tc_asm.specs.Sources.{IsLeast}
+use Rattle.tcd_driver.specs.Writing.{Written}
 use Rattle.tcd_driver.specs.Commands.{Command}
-use Rattle.tcd_driver.specs.Lines.{elf_line, plan_line, cert_line, script_line, refused_line, certified_line}
+use Rattle.tcd_driver.specs.Lines.{elf_line, plan_line, cert_line, script_line, source_line, object_line, refused_line, certified_line}
+use Rattle.tc_disasm.specs.Listing.{listing_of}
 use Rattle.tcd_driver.specs.Running.{told_run}
 use Rattle.tcd_driver.specs.Tool.{Says, HoldsAll}
 use Rattle.tcd_driver.specs.declared.status.Status.{Status}
@@ -67,6 +73,9 @@ IsBadCert bytes text = (e : FormErr) × (certificate_of bytes ≡ Err e) × (tex
 abbrev pub IsBadScript : PlanData → List ℕ → List ℕ → Type 0
 IsBadScript plan bytes text = (e : ScriptErr) × (script_of plan bytes ≡ Err e) × (text ≡ script_line e)
 
+abbrev pub IsBadSource : List ℕ → List ℕ → Type 0
+IsBadSource bytes text = (line : ℕ) × (rule : ℕ) × IsLeast (lines_in bytes) line rule × (text ≡ source_line rule line)
+
 -- ---- what a whole command comes to
 abbrev pub ComesTo : Option Map → Command → Type 0 → Outcome → Type 0
 ComesTo held command MayFail (outcome.Says s text writes) = Says held command s text.items writes.items
@@ -101,3 +110,20 @@ abbrev pub IsRun : ImageData → PlanData → ScriptData → Outcome → Type 0
 IsRun image plan script (outcome.Says s text writes) = Driven image plan script s text.items × (writes.items ≡ [])
 IsRun image plan script outcome.Unread = ⊥
 IsRun image plan script outcome.NoMemory = Unit {0}
+
+-- the listing of an image, as `dis` says it
+abbrev pub IsListing : ImageData → Outcome → Type 0
+IsListing image (outcome.Says s text writes) = (s ≡ status.Done) × (text.items ≡ listing_of image) × (writes.items ≡ [])
+IsListing image outcome.Unread = ⊥
+IsListing image outcome.NoMemory = Unit {0}
+
+-- bytes of an object to write under a name, as `asm` says it
+abbrev pub WritesObject : List ℕ → List ℕ → Outcome → Type 0
+WritesObject name bytes (outcome.Says s text writes) =
+    (s ≡ status.Done) × (text.items ≡ object_line (length bytes)) × (writes.items ≡ record { name = name; bytes = bytes } ∷ [])
+WritesObject name bytes outcome.Unread = ⊥
+WritesObject name bytes outcome.NoMemory = Unit {0}
+
+-- those of this object
+abbrev pub IsObject : List ℕ → ObjectData → Outcome → Type 0
+IsObject name object o = WritesObject name (bytes_of object) o

@@ -133,3 +133,14 @@ end_text (Dead cause) pc = codes "dead " ++ (cause_text cause ++ (codes " at " +
 -- so many events, at most so many areas in use, and the machine after the last event
 unfoldable pub run_line : ℕ → ℕ → Machine → List ℕ
 run_line events peak m = codes "events " ++ (decimal events ++ (codes " peak " ++ (decimal peak ++ (codes " " ++ end_text m.end m.pc))))
+
+-- why a file is no source: 0 where it is above its limit, else the rule; the file's place, 0, and the line
+unfoldable pub long_source_line : List ℕ
+long_source_line = codes "bad source 0 at 0" ++ 10 ∷ []
+
+unfoldable pub source_line : ℕ → ℕ → List ℕ
+source_line rule line = codes "bad source " ++ (decimal rule ++ at_two 0 line)
+
+-- so many bytes of an object were written
+unfoldable pub object_line : ℕ → List ℕ
+object_line bytes = codes "object " ++ (decimal bytes ++ (codes " bytes" ++ 10 ∷ []))

@@ -2,9 +2,11 @@
 use Rattle.std.specs.Prelude.{◌≡◌, ◌≤◌, ◌⊎◌, ℕ, List, [], ◌∷◌, length, Option, Bool, IsTrue, IsSomeAnd}
 use Rattle.tcd_base.specs.Files.{Map, Rose, Holds}
 use Rattle.tcd_base.specs.Sink.{appended, AppendsFront}
-use Rattle.tcd_driver.specs.Commands.{Command, check, run, inputs_of}
+use Rattle.tcd_driver.specs.Commands.{Command, check, run, dis, asm, inputs_of}
 use Rattle.tcd_driver.specs.Checking.{CheckSays}
 use Rattle.tcd_driver.specs.Running.{RunSays}
+use Rattle.tcd_driver.specs.Listing.{DisSays}
+use Rattle.tcd_driver.specs.Assembling.{AsmSays}
 use Rattle.tcd_driver.specs.Writing.{Written, with_written, Stopped}
 use Rattle.tcd_driver.specs.Lines.{bad_words_line}
 use Rattle.tcd_driver.specs.declared.status.Status.{Status}
@@ -15,6 +17,8 @@ use Rattle.tcd_driver.specs.declared.status.Status.TheVariants.{Fault, NoMemory,
 abbrev pub Says : Option Map → Command → Status → List ℕ → List Written → Type 0
 Says held (check names) status text writes = CheckSays held names status text × (writes ≡ [])
 Says held (run names) status text writes = RunSays held names status text × (writes ≡ [])
+Says held (dis elf) status text writes = DisSays held elf status text × (writes ≡ [])
+Says held (asm names) status text writes = AsmSays held names status text writes
 
 -- ---- when nothing fails
 -- each of the names is held

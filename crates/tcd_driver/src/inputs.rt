@@ -6,20 +6,23 @@ ghost use Rattle.tcd_plan.specs.Plans.{Gives};
 ghost use Rattle.depth_cert.specs.Grammar.{certificate_of};
 ghost use Rattle.tc_script.specs.Reading.{script_of};
 ghost use Rattle.tc_script.specs.Fitting.{FitsPlan};
-ghost use Rattle.tcd_driver.specs.Lines.{long_elf_line, long_plan_line, long_cert_line, long_script_line};
+ghost use Rattle.tcd_driver.specs.Lines.{long_elf_line, long_plan_line, long_cert_line, long_script_line, long_source_line};
+ghost use Rattle.tcd_driver.specs.Assembling.{IsSource, HoldsSource, SourceText};
 ghost use Rattle.tcd_driver.specs.Held.{HoldsImage, HoldsPlan, HoldsCert, HoldsScript, ImageText, PlanText, CertText, ScriptText};
-ghost use Rattle.tcd_driver.specs.Inputs.{KeepsFiles, HasFailed, SaidWith, StopsWith, IsLong, IsBadImage, IsBadPlan, IsBadCert, IsBadScript};
+ghost use Rattle.tcd_driver.specs.Inputs.{KeepsFiles, HasFailed, SaidWith, StopsWith, IsLong, IsBadImage, IsBadPlan, IsBadCert, IsBadScript, IsBadSource};
 
 use crate::ending::Outcome;
 use crate::lines::{
     cert_line, elf_line, line_of, long_cert_line, long_elf_line, long_plan_line, long_script_line,
-    plan_line, script_line,
+    long_source_line, plan_line, script_line, source_line,
 };
 use crate::saying::says;
 use crate::status::Status;
 use depth_cert::{Cert, CertErr};
 use elf_image::Image;
 use std::alloc::Global;
+use tc_asm::{AsmErr, assemble};
+use tc_object::Object;
 use tc_script::{Script, ScriptErr};
 use tcd_base::{FileErr, Files, NoMemory};
 use tcd_plan::Plan;
@@ -114,6 +117,19 @@ fn script_from(alloc: Global, bytes: &[u8], plan: &Plan) -> Result<Script, Outco
     }
 }
 
+// The object of the source that the bytes are.
+fn object_from(alloc: Global, bytes: &[u8]) -> Result<Object, Outcome>
+    requires { length bytes.now ≤ 2 ^ 24 }
+    ensures found { IfOk result (IsSource bytes.now) }
+    ensures stops { IfErr result (StopsWith (IsBadSource bytes.now) ⊥) }
+{
+    match assemble(alloc, bytes) {
+        Ok(object) => Ok(object),
+        Err(AsmErr::Bad { line, rule }) => Err(bad_input(alloc, source_line(alloc, rule, line))),
+        Err(AsmErr::NoMemory) => Err(Outcome::NoMemory),
+    }
+}
+
 /// The executable.
 pub(crate) fn read_image<F: Files>(
     alloc: Global,
@@ -168,6 +184,22 @@ pub(crate) fn read_script<F: Files>(
 {
     match bytes_of(alloc, name, LIMIT, long_script_line(), files) {
         Ok(bytes) => script_from(alloc, &bytes, plan),
+        Err(outcome) => Err(outcome),
+    }
+}
+
+/// The object of a source.
+pub(crate) fn read_source<F: Files>(
+    alloc: Global,
+    name: &str,
+    files: &mut F,
+) -> Result<Object, Outcome>
+    ensures kept { KeepsFiles (name.now ∷ []) (F.steady files.old) (F.steady files.new) (F.held files.old) (F.held files.new) (F.faults files.old) (F.faults files.new) }
+    ensures found { IfOk result (HoldsSource (F.held files.old) name.now) }
+    ensures stops { IfErr result (StopsWith (SourceText (F.held files.old) name.now) (HasFailed (name.now ∷ []) (F.steady files.old) (F.held files.old) (F.faults files.old) (F.faults files.new))) }
+{
+    match bytes_of(alloc, name, LIMIT, long_source_line(), files) {
+        Ok(bytes) => object_from(alloc, &bytes),
         Err(outcome) => Err(outcome),
     }
 }

@@ -1,11 +1,13 @@
 //! The tool: all that the program does.
 #![tactic(auto)]
 
+mod assembling;
 mod checks;
 mod ending;
 mod finishing;
 mod inputs;
 mod lines;
+mod listings;
 mod printing;
 #[cfg(test)]
 mod row_tests;

@@ -1,7 +1,7 @@
 // The printed lines.
 ghost use Rattle.std.specs.Prelude.{◌≡◌, ◌≢◌, ◌<◌, ◌++◌, ◌∷◌, [], if◌then◌else◌, length, codes, IsErr, IfOk, OnOk};
 ghost use Rattle.std.specs.Fmt.{decimal};
-ghost use Rattle.tcd_driver.specs.Lines.{bad_words_line, long_elf_line, long_plan_line, long_cert_line, long_script_line, hex_digit, hex_word, kind_text, key_line, at_key, elf_line, plan_line, cert_line, script_line, cause_text, end_text, run_line, refused_line, certified_line};
+ghost use Rattle.tcd_driver.specs.Lines.{bad_words_line, long_elf_line, long_plan_line, long_cert_line, long_script_line, long_source_line, hex_digit, hex_word, kind_text, key_line, at_key, elf_line, plan_line, cert_line, script_line, source_line, object_line, cause_text, end_text, run_line, refused_line, certified_line};
 ghost use Rattle.tcd_plan.specs.Plans.{HasText};
 ghost use Rattle.tcd_plan.specs.Keys.{key_texts};
 
@@ -101,6 +101,13 @@ pub(crate) fn long_script_line() -> &'static [u8]
     ensures { result.now ≡ long_script_line }
 {
     b"bad script 0\n"
+}
+
+#[tactic(auto, unfolding(crate::specs::Lines::long_source_line))]
+pub(crate) fn long_source_line() -> &'static [u8]
+    ensures { result.now ≡ long_source_line }
+{
+    b"bad source 0 at 0\n"
 }
 
 // The words of no form.
@@ -292,4 +299,21 @@ pub(crate) fn run_line(
     let mut line = run_front(alloc, events, peak)?;
     append_end(&mut line, m.end, m.pc)?;
     Ok(line)
+}
+
+// The least line of a source that breaks a rule, and the least rule there.
+#[tactic(auto, unfolding(crate::specs::Lines::source_line, crate::specs::Lines::at_two))]
+pub(crate) fn source_line(alloc: Global, rule: u8, line: u32) -> Result<Vec<u8>, NoMemory>
+    ensures { IfOk result (λ text. text.items ≡ source_line rule line) }
+{
+    let place: u32 = 0;
+    Ok(format!(in alloc; "bad source {rule} at {place} {line}\n")?.into_bytes())
+}
+
+// How many bytes of an object were written.
+#[tactic(auto, unfolding(crate::specs::Lines::object_line))]
+pub(crate) fn object_line(alloc: Global, bytes: usize) -> Result<Vec<u8>, NoMemory>
+    ensures { IfOk result (λ text. text.items ≡ object_line bytes) }
+{
+    Ok(format!(in alloc; "object {bytes} bytes\n")?.into_bytes())
 }

@@ -385,3 +385,47 @@ fn scripts_drive_the_machine(rt: HostRuntime) -> Result<(), Fail> {
     assert_eq!(rt; out.text(), b"bad script 3 at 1\n".as_slice());
     Ok(())
 }
+
+// A main that calls a function and then jumps to itself.
+const SOURCE: &str = ".section text\n.global main\nmain: call f\nj .+0\nf: ret16\n";
+
+// Its object: one section, two symbols, one relocation.
+static OBJECT: [u8; 63] = [
+    0x54, 0x43, 0x4f, 0x31, 0x01, 0x00, 0x02, 0x00, 0x01, 0x00, 0x04, 0x74, 0x65, 0x78, 0x74, 0x0a,
+    0x00, 0x00, 0x00, 0x6d, 0x00, 0x00, 0x00, 0x1d, 0x00, 0x00, 0x00, 0x00, 0x90, 0x04, 0x6d, 0x61,
+    0x69, 0x6e, 0x02, 0x00, 0x00, 0x00, 0x00, 0x00, 0x00, 0x01, 0x66, 0x01, 0x00, 0x00, 0x08, 0x00,
+    0x00, 0x00, 0x00, 0x00, 0x00, 0x00, 0x00, 0x00, 0x01, 0x01, 0x00, 0x00, 0x00, 0x00, 0x00,
+];
+
+#[test]
+fn a_source_is_assembled(rt: HostRuntime) -> Result<(), Fail> {
+    let alloc = rt.alloc();
+    let mut files = MemFiles::sure(alloc);
+    files.put("s", SOURCE.as_bytes())?;
+    let words = words_of(alloc, &["asm", "s", "o"])?;
+    let mut out = MemSink::sure(alloc, 100)?;
+    assert_eq!(rt; tool(alloc, &words, &mut files, &mut out), Status::Done);
+    assert_eq!(rt; out.text(), b"object 63 bytes\n".as_slice());
+    assert_eq!(rt; files.get("o").ok_or("no object")?, OBJECT.as_slice());
+    files.put("s", b"nop\n")?;
+    let mut out = MemSink::sure(alloc, 100)?;
+    assert_eq!(rt; tool(alloc, &words, &mut files, &mut out), Status::BadInput);
+    assert_eq!(rt; out.text(), b"bad source 8 at 0 1\n".as_slice());
+    assert_eq!(rt; files.get("o").ok_or("no object")?, OBJECT.as_slice());
+    Ok(())
+}
+
+#[test]
+fn an_image_is_listed(rt: HostRuntime) -> Result<(), Fail> {
+    let alloc = rt.alloc();
+    let mut files = MemFiles::sure(alloc);
+    files.put("e", &IMAGE)?;
+    let words = words_of(alloc, &["dis", "e"])?;
+    let mut out = MemSink::sure(alloc, 200)?;
+    assert_eq!(rt; tool(alloc, &words, &mut files, &mut out), Status::Done);
+    assert_eq!(rt;
+        out.text(),
+        b".section s0 # 80000000\ncall .+8 # 80000000 6D000400\nj .+0 # 80000004 1D000000\nret16 # 80000008 0090\n".as_slice()
+    );
+    Ok(())
+}

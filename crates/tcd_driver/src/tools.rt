@@ -3,8 +3,10 @@ ghost use Rattle.std.specs.Prelude.{map, string_bytes, IsNone, IfSome, IfNone, â
 ghost use Rattle.tcd_driver.specs.Commands.{command};
 ghost use Rattle.tcd_driver.specs.Tool.{Ends, EndsBadly};
 
+use crate::assembling::assemble_file;
 use crate::checks::check_files;
 use crate::lines::bad_words_line;
+use crate::listings::list_file;
 use crate::printing::print;
 use crate::runs::run_files;
 use crate::status::Status;
@@ -13,7 +15,8 @@ use tcd_base::{Files, Sink};
 
 /// All that the program does, on the words after its name. `check ELF PLAN CERT` reads an executable, a plan and a
 /// certificate, and prints whether the certificate shows that every run of the executable is safe. `run ELF PLAN SCRIPT` reads
-/// an executable, a plan and a script, drives the machine by the script, and prints what it came to.
+/// an executable, a plan and a script, drives the machine by the script, and prints what it came to. `dis ELF` prints the
+/// listing of an executable. `asm SRC OBJ` assembles a source, and writes its object.
 pub fn tool<F: Files, S: Sink>(
     alloc: Global,
     words: &[String],
@@ -41,6 +44,10 @@ pub fn tool<F: Files, S: Sink>(
             files,
             out,
         ),
+        [verb, elf] if verb.as_str() == "dis" => list_file(alloc, elf.as_str(), files, out),
+        [verb, source, object] if verb.as_str() == "asm" => {
+            assemble_file(alloc, source.as_str(), object.as_str(), files, out)
+        }
         _ => print(out, bad_words_line(), Status::BadWords),
     }
 }
