@@ -8,6 +8,7 @@ pub record Limits : Type 0 where
   pub width : ℕ
   pub most : ℕ
 
+-- the limits that the code holds, as plain data
 abbrev pub limits_of : Inside → Limits
 limits_of b = record { thresholds = b.thresholds.items; width = b.width; most = b.most }
 

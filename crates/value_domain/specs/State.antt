@@ -9,9 +9,11 @@ use Rattle.value_domain.specs.Values.{IsWell, IsValue, IsBelow, cover, members, 
 abbrev pub AreWell : List Val → Type 0
 AreWell vs = (r : ℕ) → r < length vs → IsWell (slice_index_or vs r any_val)
 
+-- each register of a list has a value of the plan and the version
 abbrev pub AreValues : Limits → List Val → Type 0
 AreValues b vs = (r : ℕ) → r < length vs → IsValue b (slice_index_or vs r any_val)
 
+-- each register's value is below that of the same register in another list
 abbrev pub AreBelow : List Val → List Val → Type 0
 AreBelow vs ws = (r : ℕ) → r < length vs → IsBelow (slice_index_or vs r any_val) (slice_index_or ws r any_val)
 
@@ -32,14 +34,17 @@ pub record Covers (upper s : State) : Type 0 where
   pub context : CoversContext upper s
   pub locals : ImpliedBy upper.locals.items s.locals.items
 
+-- the least value that holds the members of both
 abbrev pub join_of : Limits → Val → Val → Val
 join_of b v w = cover b (members v ++ members w)
 
+-- the registers of two states, each with the least value that holds both
 unfoldable pub joined_regs : Limits → List Val → List Val → List Val
 joined_regs b [] ws = []
 joined_regs b (v ∷ vs) [] = []
 joined_regs b (v ∷ vs) (w ∷ ws) = join_of b v w ∷ joined_regs b vs ws
 
+-- the flags of two states' locals, each set where both have it
 abbrev pub joined_locals : List Bool → List Bool → List Bool
 joined_locals [] ys = []
 joined_locals (x ∷ xs) [] = []

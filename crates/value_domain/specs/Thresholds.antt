@@ -14,5 +14,6 @@ powers_of_two (suc n) = powers_of_two n ++ 2 ^ n ∷ []
 abbrev pub thresholds_of : PlanData → List ℕ
 thresholds_of p = (0 ∷ powers_of_two 33) ++ ends (all_ranges p)
 
+-- the plan's thresholds, and the most words of a Set and the most locals in a certificate of the version
 abbrev pub limits_for : PlanData → ℕ → Limits
 limits_for p version = record { thresholds = thresholds_of p; width = width_of version; most = most_of version }

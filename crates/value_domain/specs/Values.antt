@@ -15,6 +15,7 @@ IsMember x (Span lo last step) = (lo ≤ x) × (x ≤ last) × (step ≤ twos x)
 abbrev pub first_in : ℕ → ℕ → ℕ
 first_in lo step = (lo + (2 ^ step - 1)) / 2 ^ step
 
+-- how many multiples of 2 ^ step lie in lo..=last
 abbrev pub count_in : ℕ → ℕ → ℕ → ℕ
 count_in lo last step = (last / 2 ^ step + 1) - first_in lo step
 
@@ -22,6 +23,7 @@ count_in lo last step = (last / 2 ^ step + 1) - first_in lo step
 abbrev pub range : ℕ → ℕ → ℕ → List ℕ
 range lo last step = multiples (count_in lo last step) (first_in lo step) (2 ^ step)
 
+-- the words that a value stands for; of a Span in ascending order
 abbrev pub members : Val → List ℕ
 members (Set ws) = ws
 members (Span lo last step) = range lo last step
@@ -65,6 +67,7 @@ pub record IsExtent (xs : List ℕ) (lo hi s : ℕ) : Type 0 where
 abbrev pub any_val : Val
 any_val = Span 0 4294967295 0
 
+-- the words of a Set; a Span doesn't list any
 abbrev pub words_of : Val → Option (List ℕ)
 words_of (Set ws) = Some ws
 words_of (Span lo last step) = None

@@ -224,15 +224,32 @@ pub fn leq(v: &Val, w: &Val) -> bool
     ensures { IsTrue result ↔ IsBelow v.now w.now }
 {
     match w {
-        Val::Span { lo, last, step } => {
-            let e = extent_of(v);
-            is_inside(&e, *lo, *last, *step)
-        }
+        Val::Span { lo, last, step } => is_below_span(v, *lo, *last, *step),
         Val::Set(words) => match v {
             Val::Set(own) => are_among(own.as_slice(), words.as_slice()),
             Val::Span { lo, last, step } => is_range_among(*lo, *last, *step, words.as_slice()),
         },
     }
+}
+
+/// Whether each member of `v` is a multiple of `2 ^ step` in `lo..=last`.
+fn is_below_span(v: &Val, lo: u32, last: u32, step: u8) -> bool
+    requires left { IsWell v.now }
+    requires step { step ≤ 2 }
+    ensures { IsTrue result ↔ IsBelow v.now (Span lo last step) }
+{
+    if is_all(lo, last, step) {
+        return true;
+    }
+    let e = extent_of(v);
+    is_inside(&e, lo, last, step)
+}
+
+/// Whether a Span has all words.
+fn is_all(lo: u32, last: u32, step: u8) -> bool
+    ensures { IsTrue result ↔ ((lo ≡ 0) × (last ≡ 4294967295) × (step ≡ 0)) }
+{
+    lo == 0 && last == u32::MAX && step == 0
 }
 
 fn is_inside(e: &Extent, lo: u32, last: u32, step: u8) -> bool
@@ -280,10 +297,14 @@ pub fn is_value(b: &Bounds, v: &Val) -> bool
 fn is_span(b: &Bounds, lo: u32, last: u32, step: u8) -> bool
     ensures { IsTrue result ↔ IsValue b.now (Span lo last step) }
 {
+    let width = b.width();
+    if is_all(lo, last, step) {
+        return true;
+    }
     if step > 2 {
         return false;
     }
-    if count_of(lo, last, step) <= b.width() as u64 {
+    if count_of(lo, last, step) <= width as u64 {
         return false;
     }
     let e = span_extent(lo, last, step);

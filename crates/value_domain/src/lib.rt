@@ -13,7 +13,7 @@ pub use lattice::{
 };
 pub use laws::{state_laws, value_laws};
 pub use limits::Bounds;
-pub use states::{State, covers, join_states};
+pub use states::{State, are_implied, covers, covers_context, join_states};
 pub use values::{Val, Words};
 
 #[cfg(test)]

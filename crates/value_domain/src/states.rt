@@ -1,7 +1,7 @@
 // States of 27 registers.
 ghost use Rattle.std.specs.Prelude.{◌≡◌, ◌≤◌, ◌<◌, ◌↔◌, IsTrue, length, ℕ, slice_index_or, ◌&&◌};
 ghost use Rattle.value_domain.specs.Values.{IsWell, IsValue, IsBelow, any_val};
-ghost use Rattle.value_domain.specs.State.{Covers, AreWell, AreValues, joined, joined_regs, joined_locals, AreBelow, ImpliedBy, CoversContext};
+ghost use Rattle.value_domain.specs.State.{Covers, AreWell, AreValues, joined, joined_regs, joined_locals, AreBelow, ImpliedBy};
 
 use crate::values::copy_of;
 use crate::{Bounds, Val, join, leq};
@@ -47,7 +47,7 @@ pub fn covers(upper: &State, s: &State) -> bool
     requires state { AreWell s.now.regs }
     ensures { IsTrue result ↔ Covers upper.now s.now }
 {
-    if !is_context_covered(upper, s) {
+    if !covers_context(upper, s.ie, s.ccpn, s.lower) {
         return false;
     }
     if !are_implied(upper.locals.as_slice(), s.locals.as_slice()) {
@@ -56,10 +56,11 @@ pub fn covers(upper: &State, s: &State) -> bool
     are_below(&s.regs, &upper.regs)
 }
 
-fn is_context_covered(upper: &State, s: &State) -> bool
-    ensures { IsTrue result ↔ CoversContext upper.now s.now }
+/// Whether the context of a state covers this one.
+pub fn covers_context(upper: &State, ie: bool, ccpn: u8, lower: bool) -> bool
+    ensures { IsTrue result ↔ ((IsTrue ie → IsTrue upper.now.ie) × (upper.now.ccpn ≤ ccpn) × (IsTrue upper.now.lower → IsTrue lower)) }
 {
-    implies(s.ie, upper.ie) && upper.ccpn <= s.ccpn && implies(upper.lower, s.lower)
+    implies(ie, upper.ie) && upper.ccpn <= ccpn && implies(upper.lower, lower)
 }
 
 fn implies(a: bool, b: bool) -> bool
@@ -82,7 +83,7 @@ fn are_below(low: &[Val; 27], high: &[Val; 27]) -> bool
 }
 
 /// Whether there are as many flags, and each implies the other's.
-fn are_implied(flags: &[bool], others: &[bool]) -> bool
+pub fn are_implied(flags: &[bool], others: &[bool]) -> bool
     ensures { IsTrue result ↔ ImpliedBy flags.now others.now }
 {
     if flags.len() != others.len() {

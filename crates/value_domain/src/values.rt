@@ -55,6 +55,17 @@ impl Words {
         }
     }
 
+    /// The words of a vector, which ascend.
+    pub fn from_ascending(words: ArrayVec<u32, 128>) -> Words
+        requires some { 1 ≤ length words.items }
+        requires few { length words.items ≤ 128 }
+        requires rising { IsStrictlyIncreasing words.items }
+        ensures { result ≡ words.items }
+    {
+        are_words(words.as_slice());
+        Words { words }
+    }
+
     pub fn as_slice(&self) -> &[u32]
         ensures items { result.now ≡ self.now }
         ensures words { AreWords self.now }
@@ -80,6 +91,14 @@ impl Words {
         self.words.insert(at, x);
     }
 }
+
+/// Words that ascend are a set written out.
+fn are_words(words: &[u32])
+    requires some { 1 ≤ length words.now }
+    requires few { length words.now ≤ 128 }
+    requires rising { IsStrictlyIncreasing words.now }
+    ensures { AreWords words.now }
+{}
 
 fn are_ascending(words: &[u32]) -> bool
     ensures { IsTrue result ↔ IsStrictlyIncreasing words.now }

@@ -1,14 +1,12 @@
-use Rattle.value_domain.proofs.RangeLaws.{below_span}
 use Rattle.value_domain.proofs.CoverLaws.{member_among, among_member}
 use Rattle.value_domain.specs.declared.values.Val.TheVariants.{Span}
 use Rattle.value_domain.proofs.lattice.leq.Goals as goal
 
+pub is_below_span-requires-clause-step : goal.is_below_span-requires-clause-step
+is_below_span-requires-clause-step c = let well = rw c.in-Span.is at c.requires.right in well.0
+
 pub returns-in-Span : goal.returns-in-Span
-returns-in-Span c =
-    let well = rw c.in-Span.is at c.requires.right in
-    let both = below_span c.args.v.now c.in-Span.lo c.in-Span.last c.in-Span.step c.requires.left well.0 c.extent_of-e.ensures in
-    rw c.in-Span.is
-    ((λ t. let i = c.is_inside.ensures.0 t in both.0 i.0 i.1 i.2), (λ below. c.is_inside.ensures.1 (both.1 below)))
+returns-in-Span c = rw c.in-Span.is c.is_below_span.ensures
 
 pub returns-in-Set-v : goal.returns-in-Set-v
 returns-in-Set-v c =
