@@ -4,5 +4,6 @@ pub mod FindLaws
 pub mod GrammarLaws
 pub mod ManyLaws
 pub mod PassedLaws
+pub mod PointReads
 pub mod WholeLaws
 pub mod WrittenLaws

@@ -6,6 +6,7 @@ use Rattle.depth_cert.specs.declared.keys.Key.{Key}
 use Rattle.depth_cert.specs.Keys.{number_of_key}
 use Rattle.depth_cert.specs.Nodes.{NodeData, IsNode}
 
+-- a certificate: its version, and its nodes in their order
 pub record CertData : Type 0 where
   pub version : ℕ
   pub nodes : List NodeData

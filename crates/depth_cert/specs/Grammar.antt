@@ -42,9 +42,11 @@ flag_at p = u8_at p >>= λ b. if nat_lt 1 b.0 then fault_at 4 p else Ok (b.0 == 
 unfoldable pub word_after : List ℕ → Place → Result (ℕ × Place) FormErr
 word_after before p = u32_at p >>= λ w. checked 4 (is_above before w.0) p w
 
+-- a Set of n words, each above the one before
 unfoldable pub set_at : ℕ → Place → Result (Val × Place) FormErr
 set_at n p = many_at word_after n [] p >>= λ ws. Ok (Set ws.0, ws.1)
 
+-- the Span of all words
 abbrev pub is_any : ℕ → ℕ → ℕ → Bool
 is_any lo last step = lo == 0 && last == 4294967295 && step == 0
 
@@ -57,6 +59,7 @@ unfoldable pub span_at : ℕ → ℕ → Place → Place → Result (Val × Plac
 span_at version step start p =
     u32_at p >>= λ lo. u32_at lo.1 >>= λ last. if is_span version lo.0 last.0 step then Ok (Span lo.0 last.0 step, last.1) else fault_at 4 start
 
+-- a value: any word, a Set within the version's width, or a Span
 unfoldable pub value_at : ℕ → Place → Result (Val × Place) FormErr
 value_at version p =
     u8_at p >>= λ b.
@@ -70,10 +73,12 @@ unfoldable pub values_at : ℕ → ℕ → Place → Result (List Val × Place) 
 values_at version n p = many_at (λ before. value_at version) n [] p
 
 -- ---- points
+-- a state's locals: how many, at most the version's limit, and a flag for each
 unfoldable pub locals_at : ℕ → Place → Result (List Bool × Place) FormErr
 locals_at version p =
     u8_at p >>= λ n. checked 5 (nat_le n.0 (most_of version)) p n >>= λ n. many_at (λ before. flag_at) n.0 [] n.1
 
+-- a state: ie, ccpn, lower, the locals, and the values of its 27 registers
 unfoldable pub state_at : ℕ → Place → Result (State × Place) FormErr
 state_at version p =
     flag_at p >>= λ ie. u8_at ie.1 >>= λ ccpn. flag_at ccpn.1 >>= λ lower. locals_at version lower.1 >>= λ locals. values_at version 27 locals.1 >>= λ regs.
@@ -83,6 +88,7 @@ state_at version p =
 unfoldable pub address_after : List ℕ → Place → Result (ℕ × Place) FormErr
 address_after before p = u32_at p >>= λ addr. checked 3 (is_above before addr.0) p addr
 
+-- a point whose address is above those before: the address and the state
 unfoldable pub point_after : ℕ → List Point → Place → Result (Point × Place) FormErr
 point_after version before p =
     address_after (addresses before) p >>= λ addr. state_at version addr.1 >>= λ s. Ok (record { addr = addr.0; state = s.0 }, s.1)
@@ -95,6 +101,7 @@ key_after before p =
     checked 3 (is_above before (key_number kind.0 entry.0 prio.0 is.0)) p is >>= λ is. checked 4 (nat_le is.0 1) prio.1 is >>= λ is.
     Ok (record { kind = kind.0; entry = entry.0; prio = prio.0; is = is.0 == 1 }, is.1)
 
+-- a node's need, at most 4,096 areas
 unfoldable pub need_at : Place → Result (ℕ × Place) FormErr
 need_at p = u16_at p >>= λ need. checked 5 (nat_le need.0 4096) p need
 
@@ -102,10 +109,12 @@ need_at p = u16_at p >>= λ need. checked 5 (nat_le need.0 4096) p need
 unfoldable pub has_exit_at : ℕ → Place → Result (Bool × Place) FormErr
 has_exit_at kind p = flag_at p >>= λ exit. if exit.0 && not (kind == 1 || kind == 3) then fault_at 4 p else Ok exit
 
+-- an exit: ie, ccpn, and the values of the 14 lower registers
 unfoldable pub exit_at : ℕ → Place → Result (Exit × Place) FormErr
 exit_at version p =
     flag_at p >>= λ ie. u8_at ie.1 >>= λ ccpn. values_at version 14 ccpn.1 >>= λ lower. Ok (record { ie = ie.0; ccpn = ccpn.0; lower = lower.0 }, lower.1)
 
+-- a node's exit, if it has one
 unfoldable pub exits_at : ℕ → ℕ → Place → Result (Option Exit × Place) FormErr
 exits_at version kind p =
     has_exit_at kind p >>= λ has. if has.0 then (exit_at version has.1 >>= λ exit. Ok (Some exit.0, exit.1)) else Ok (None, has.1)
@@ -114,9 +123,11 @@ exits_at version kind p =
 unfoldable pub point_count_at : ℕ → Place → Result (ℕ × Place) FormErr
 point_count_at used p = u32_at p >>= λ n. checked 5 (nat_le (used + n.0) (2 ^ 16)) p n
 
+-- a node's points: how many, and each one behind those before
 unfoldable pub points_at : ℕ → ℕ → Place → Result (List Point × Place) FormErr
 points_at version used p = point_count_at used p >>= λ n. many_at (point_after version) n.0 [] n.1
 
+-- a node whose key is above those before: the key, the need, the exit, and the points
 unfoldable pub node_after : ℕ → List NodeData → Place → Result (NodeData × Place) FormErr
 node_after version before p =
     key_after (key_numbers before) p >>= λ key. need_at key.1 >>= λ need. exits_at version key.0.kind need.1 >>= λ exit. points_at version (count_points before) exit.1 >>= λ points.
@@ -127,12 +138,15 @@ node_after version before p =
 unfoldable pub magic_at : Place → Result (ℕ × Place) FormErr
 magic_at p = u32_at p >>= λ magic. checked 2 (magic.0 == 0x43444354) p magic
 
+-- the version, 1 or 2
 unfoldable pub version_at : Place → Result (ℕ × Place) FormErr
 version_at p = u16_at p >>= λ version. checked 2 (version.0 == 1 || version.0 == 2) p version
 
+-- the number of nodes, at most 2,048
 unfoldable pub node_count_at : Place → Result (ℕ × Place) FormErr
 node_count_at p = u16_at p >>= λ n. checked 5 (nat_le n.0 2048) p n
 
+-- a certificate: the magic bytes, the version, and the nodes
 unfoldable pub cert_at : Place → Result (CertData × Place) FormErr
 cert_at p =
     magic_at p >>= λ magic. version_at magic.1 >>= λ version. node_count_at version.1 >>= λ n. many_at (node_after version.0) n.0 [] n.1 >>= λ nodes.

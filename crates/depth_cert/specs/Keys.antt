@@ -11,6 +11,7 @@ byte_of false = 0
 abbrev pub key_number : ℕ → ℕ → ℕ → ℕ → ℕ
 key_number kind entry prio is = ((kind * 2 ^ 32 + entry) * 2 ^ 8 + prio) * 2 ^ 8 + is
 
+-- the number of a key, by which keys are ordered
 abbrev pub number_of_key : Key → ℕ
 number_of_key k = key_number k.kind k.entry k.prio (byte_of k.is)
 

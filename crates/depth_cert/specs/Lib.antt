@@ -1,3 +1,4 @@
+-- Certificates: keys, nodes and points, the grammar, and the one spelling.
 pub mod Answers
 pub mod Certs
 pub mod Grammar

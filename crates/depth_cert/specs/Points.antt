@@ -23,15 +23,18 @@ pub record IsState (version : ℕ) (s : State) : Type 0 where
   pub ccpn : s.ccpn < 2 ^ 8
   pub locals : length s.locals.items ≤ most_of version
 
+-- a point that a certificate of the version may have
 pub record IsPoint (version : ℕ) (p : Point) : Type 0 where
   pub addr : p.addr < 2 ^ 32
   pub state : IsState version p.state
 
+-- an exit that a certificate of the version may have: values of the 14 lower registers, and a CCPN
 pub record IsExit (version : ℕ) (e : Exit) : Type 0 where
   pub lower : length e.lower ≡ 14
   pub values : All (IsWellOf version) e.lower
   pub ccpn : e.ccpn < 2 ^ 8
 
+-- the addresses of points
 abbrev pub addresses : List Point → List ℕ
 addresses ps = map (λ p. p.addr) ps
 

@@ -13,24 +13,30 @@ use Rattle.depth_cert.specs.Nodes.{NodeData}
 use Rattle.depth_cert.specs.Certs.{CertData}
 use Rattle.depth_cert.specs.Grammar.{is_any}
 
+-- a Set as its number of words and these; any word as 0; a Span as its step plus 240, and its ends
 unfoldable pub bytes_of_value : Val → List ℕ
 bytes_of_value (Set ws) = length ws ∷ flat_map bytes_of_word ws
 bytes_of_value (Span lo last step) = if is_any lo last step then 0 ∷ [] else (240 + step) ∷ bytes_of_word lo ++ bytes_of_word last
 
+-- ie, ccpn, lower, the locals behind their number, and the registers' values
 unfoldable pub bytes_of_state : State → List ℕ
 bytes_of_state s =
     byte_of s.ie ∷ s.ccpn ∷ byte_of s.lower ∷ length s.locals.items ∷ map byte_of s.locals.items ++ flat_map bytes_of_value s.regs
 
+-- the address and the state
 unfoldable pub bytes_of_point : Point → List ℕ
 bytes_of_point p = bytes_of_word p.addr ++ bytes_of_state p.state
 
+-- the kind, the entry, the priority, and PSW.IS
 unfoldable pub bytes_of_key : Key → List ℕ
 bytes_of_key k = k.kind ∷ bytes_of_word k.entry ++ (k.prio ∷ byte_of k.is ∷ [])
 
+-- 0 for no exit; else 1, ie, ccpn, and the values of the lower registers
 unfoldable pub bytes_of_exit : Option Exit → List ℕ
 bytes_of_exit None = 0 ∷ []
 bytes_of_exit (Some e) = 1 ∷ byte_of e.ie ∷ e.ccpn ∷ flat_map bytes_of_value e.lower
 
+-- the key, the need, the exit, and the points behind their number
 unfoldable pub bytes_of_node : NodeData → List ℕ
 bytes_of_node n =
     bytes_of_key n.key ++ (bytes_of_half n.need ++ (bytes_of_exit n.exit ++ (bytes_of_word (length n.points) ++ flat_map bytes_of_point n.points)))

@@ -1,7 +1,7 @@
 // The fields of points, read.
-ghost use Rattle.std.specs.Prelude.{◌≡◌, ◌≤◌, ◌+◌, ◌^◌, ◌-◌, [], length, vec_len, true, Ok, Err, IfOk, IfErr};
+ghost use Rattle.std.specs.Prelude.{◌≡◌, ◌≤◌, ◌+◌, ◌^◌, ◌-◌, [], length, vec_len, true, Ok, Err, OnOk, IfOk, IfErr};
 ghost use Rattle.tcd_base.specs.Reading.{Reads};
-ghost use Rattle.depth_cert.specs.Grammar.{flag_at, values_at, locals_at, state_at, address_after, point_after, point_count_at, points_at, is_above, many_at};
+ghost use Rattle.depth_cert.specs.Grammar.{flag_at, locals_at, state_at, address_after, point_count_at, points_at, is_above, many_at};
 ghost use Rattle.depth_cert.specs.Answers.{IsFaultOf};
 ghost use Rattle.depth_cert.specs.Points.{addresses, ArePoints};
 
@@ -45,34 +45,35 @@ fn read_flags(c: &mut Cursor<'_>, count: u8) -> Result<ArrayVec<bool, 8>, FormEr
     Ok(flags)
 }
 
-fn read_regs(c: &mut Cursor<'_>, version: u8) -> Result<[Val; 27], FormErr>
+/// Reads a state into a place.
+#[tactic(auto, unfolding(crate::specs::Grammar::state_at))]
+fn read_state(c: &mut Cursor<'_>, version: u8, out: &mut State) -> Result<(), FormErr>
     requires { length c.old.bytes ≤ 2 ^ 30 }
-    ensures read { Reads result c.new (values_at version 27 c.old) }
+    ensures ok { OnOk result (state_at version c.old ≡ Ok (out.new, c.new)) }
+    ensures err { IfErr result (λ e. state_at version c.old ≡ Err e) }
     ensures bytes { c.new.bytes ≡ c.old.bytes }
 {
-    let mut regs: [Val; 27] = std::array::from_fn(|_| Val::any());
-    read_values(c, version, &mut regs)?;
-    Ok(regs)
+    out.ie = read_flag(c)?;
+    out.ccpn = read_u8(c)?;
+    out.lower = read_flag(c)?;
+    out.locals = read_locals(c, version)?;
+    read_values(c, version, &mut out.regs)
 }
 
-#[tactic(auto, unfolding(crate::specs::Grammar::state_at))]
-fn read_state(c: &mut Cursor<'_>, version: u8) -> Result<State, FormErr>
-    requires { length c.old.bytes ≤ 2 ^ 30 }
-    ensures read { Reads result c.new (state_at version c.old) }
-    ensures bytes { c.new.bytes ≡ c.old.bytes }
+/// A point at an address of which nothing is known.
+fn blank(addr: u32) -> Point
+    ensures { result.addr ≡ addr }
 {
-    let ie = read_flag(c)?;
-    let ccpn = read_u8(c)?;
-    let lower = read_flag(c)?;
-    let locals = read_locals(c, version)?;
-    let regs = read_regs(c, version)?;
-    Ok(State {
-        regs,
-        ie,
-        ccpn,
-        lower,
-        locals,
-    })
+    Point {
+        addr,
+        state: State {
+            regs: std::array::from_fn(|_| Val::any()),
+            ie: false,
+            ccpn: 0,
+            lower: false,
+            locals: ArrayVec::new(),
+        },
+    }
 }
 
 /// Whether an address is above that of the last point.
@@ -95,18 +96,6 @@ fn read_address(c: &mut Cursor<'_>, before: &[Point]) -> Result<u32, FormErr>
         return Err(fault(3, start));
     }
     Ok(addr)
-}
-
-#[tactic(auto, unfolding(crate::specs::Grammar::point_after))]
-fn read_point(c: &mut Cursor<'_>, version: u8, before: &[Point]) -> Result<Point, FormErr>
-    requires { length c.old.bytes ≤ 2 ^ 30 }
-    ensures read { Reads result c.new (point_after version before.now c.old) }
-    ensures next { IfOk result (λ p. is_above (addresses before.now) p.addr ≡ true) }
-    ensures bytes { c.new.bytes ≡ c.old.bytes }
-{
-    let addr = read_address(c, before)?;
-    let state = read_state(c, version)?;
-    Ok(Point { addr, state })
 }
 
 #[tactic(auto, unfolding(crate::specs::Grammar::point_count_at))]
@@ -144,8 +133,10 @@ pub(crate) fn read_points(
     let count = read_point_count(c, used)?;
     let mut points = Vec::new(alloc);
     for _i in 0..count {
-        let point = read_point(c, version, &points)?;
-        points.push(point)?;
+        let addr = read_address(c, &points)?;
+        points.push(blank(addr))?;
+        let last = points.len() - 1;
+        read_state(c, version, &mut points[last].state)?;
     }
     Ok(points)
 }

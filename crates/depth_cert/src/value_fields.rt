@@ -1,6 +1,7 @@
 // The fields of values, read.
 ghost use Rattle.std.specs.Prelude.{◌≡◌, ◌≤◌, ◌<◌, ◌^◌, ◌-◌, ◌∷◌, [], IsTrue, ℕ, length, Ok, Err, OnOk, IfOk, IfErr, true};
 ghost use Rattle.tcd_base.specs.Reading.{Reads};
+ghost use Rattle.value_domain.specs.Values.{any_val};
 ghost use Rattle.value_domain.specs.declared.values.Val.TheVariants.{Set, Span};
 ghost use Rattle.std.specs.List.Sorted.{IsStrictlyIncreasing};
 ghost use Rattle.depth_cert.specs.Grammar.{flag_at, word_after, many_at, set_at, span_at, value_at, values_at, is_above, is_span};
@@ -71,17 +72,7 @@ fn read_set(c: &mut Cursor<'_>, n: usize) -> Result<Val, FormErr>
         let word = read_word(c, words.as_slice())?;
         words.push(word);
     }
-    Ok(Val::Set(words_of(words.as_slice())))
-}
-
-/// Words that ascend.
-fn words_of(words: &[u32]) -> Words
-    requires some { 1 ≤ length words.now }
-    requires few { length words.now ≤ 128 }
-    requires rising { IsStrictlyIncreasing words.now }
-    ensures { result ≡ words.now }
-{
-    Words::of(words).unwrap()
+    Ok(Val::Set(Words::from_ascending(words)))
 }
 
 /// A Span whose first byte was read from `start`.
@@ -109,26 +100,45 @@ fn is_span(version: u8, lo: u32, last: u32, step: u8) -> bool
     width < count_of(lo, last, step) && !(lo == 0 && last == u32::MAX && step == 0)
 }
 
-/// A value.
+/// Makes a value any word; one that is so already isn't written again.
+fn forget(out: &mut Val)
+    ensures { out.new ≡ any_val }
+{
+    if let Val::Span {
+        lo: 0,
+        last: u32::MAX,
+        step: 0,
+    } = out
+    {
+        return;
+    }
+    *out = Val::any();
+}
+
+/// Reads a value into a place.
 #[tactic(auto, unfolding(crate::specs::Grammar::value_at))]
-fn read_value(c: &mut Cursor<'_>, version: u8) -> Result<Val, FormErr>
+fn read_value(c: &mut Cursor<'_>, version: u8, out: &mut Val) -> Result<(), FormErr>
     requires { length c.old.bytes ≤ 2 ^ 30 }
-    ensures read { Reads result c.new (value_at version c.old) }
+    ensures ok { OnOk result (value_at version c.old ≡ Ok (out.new, c.new)) }
+    ensures err { IfErr result (λ e. value_at version c.old ≡ Err e) }
     ensures bytes { c.new.bytes ≡ c.old.bytes }
 {
     let start = c.place();
     let byte = read_u8(c)?;
     if byte == 0 {
-        return Ok(Val::any());
+        forget(out);
+        return Ok(());
     }
     let width = if version == 1 { 64 } else { 128 };
     if byte <= width {
-        return read_set(c, byte as usize);
+        *out = read_set(c, byte as usize)?;
+        return Ok(());
     }
     if byte < 240 || byte > 242 {
         return Err(fault(4, start));
     }
-    read_span(c, version, byte - 240, start)
+    *out = read_span(c, version, byte - 240, start)?;
+    Ok(())
 }
 
 /// Reads a value into each place.
@@ -140,8 +150,7 @@ pub(crate) fn read_values(c: &mut Cursor<'_>, version: u8, out: &mut [Val]) -> R
     ensures bytes { c.new.bytes ≡ c.old.bytes }
 {
     for i in 0..out.len() {
-        let v = read_value(c, version)?;
-        out[i] = v;
+        read_value(c, version, &mut out[i])?;
     }
     Ok(())
 }

@@ -23,4 +23,4 @@ pub returns-clause-read : goal.returns-clause-read
 unfolding set_at
 returns-clause-read c =
     let all = many_end word_after c.args.n c.loop-i._i c.loop-i.words.items c.args.c.now c.loop-i.c c.loop-i-test.false c.loop-i.invariant.read in
-    rw (all, c.words_of.ensures, c.as_slice-2.ensures.value) refl
+    rw (all, c.from_ascending.ensures) refl
