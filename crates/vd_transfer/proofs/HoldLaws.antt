@@ -279,7 +279,7 @@ unfolding kept_both
 both_has b cond side v x limits vv mx e =
     kept_has b _ x limits (filter_has (λ z. holds cond side z z) x (members v) (among_member v x (has_step v vv.well) mx) (goes cond side x x e)) (λ z i. members_below v vv.well z (among_filter _ z (members v) i).0)
 
-set_values_at : (b : Limits) (s : State) (v : Val) (o : Option ℕ) → AreValues b s.regs → IsValue b v → AreValues b (set_at s v o).regs
+pub set_values_at : (b : Limits) (s : State) (v : Val) (o : Option ℕ) → AreValues b s.regs → IsValue b v → AreValues b (set_at s v o).regs
 set_values_at b s v None values value r h = values r h
 set_values_at b s v (Some i) values value r h =
     let len : length (set s.regs i v) ≡ length s.regs = length-set s.regs i v in

@@ -20,6 +20,7 @@ abbrev pub is_reg : ℕ → Arg → Bool
 is_reg x (Reg y) = x == y
 is_reg x (Word w) = false
 
+-- the state with an operand's value, where the operand is a register
 abbrev pub set_arg : State → Arg → Val → State
 set_arg s (Reg r) v = set_reg s r v
 set_arg s (Word w) v = s

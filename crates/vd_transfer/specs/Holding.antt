@@ -22,6 +22,7 @@ pub record Holds (p : PlanData) (word : ℕ → ℕ) (ie : Bool) (ccpn : ℕ) (s
 abbrev pub set_word : (ℕ → ℕ) → ℕ → ℕ → ℕ → ℕ
 set_word word r w q = if q == r then w else word q
 
+-- the word of an operand: a register's, or the constant
 abbrev pub word_of : (ℕ → ℕ) → Arg → ℕ
 word_of word (Reg r) = word r
 word_of word (Word w) = w
@@ -52,6 +53,8 @@ ie_after Enable ie = true
 ie_after Disable ie = false
 ie_after _ ie = ie
 
+-- CCPN after it: BISR sets it, and contexts are restored elsewhere (TriCore 1 architecture manual, volume 2,
+-- instruction set)
 unfoldable pub ccpn_after : Shape → ℕ → ℕ
 ccpn_after (Bisr c) ccpn = c
 ccpn_after _ ccpn = ccpn
@@ -60,6 +63,7 @@ ccpn_after _ ccpn = ccpn
 abbrev pub HasValue : ℕ → Type 0
 HasValue r = IsSome (slot r)
 
+-- a base register that the access increases has a value in a state
 abbrev pub HasBaseValue : Arg → Bool → Type 0
 HasBaseValue (Reg r) after = IsTrue after → HasValue r
 HasBaseValue (Word w) after = Unit {0}

@@ -5,6 +5,7 @@ use Rattle.vd_transfer.specs.declared.refinement.Rel.{Rel}
 use Rattle.vd_transfer.specs.declared.refinement.Rel.TheVariants.{Same, Other, Less, AtLeast, More, AtMost}
 use Rattle.vd_transfer.specs.declared.refinement.Interval.{Interval}
 
+-- a word stands in a relation to another
 unfoldable pub related : Rel → ℕ → ℕ → Bool
 related Same x y = x == y
 related Other x y = not (x == y)
@@ -17,6 +18,7 @@ related AtMost x y = nat_le x y
 unfoldable pub kept_by : Rel → List ℕ → List ℕ → List ℕ
 kept_by rel vs ws = filter (λ x. list_any (λ y. related rel x y) ws) vs
 
+-- a word lies in an interval
 abbrev pub IsIn : Interval → ℕ → Type 0
 IsIn i x = (i.lo ≤ x) × (x ≤ i.last)
 

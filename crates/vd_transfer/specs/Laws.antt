@@ -27,5 +27,6 @@ pub record RefinesWell (rel : Rel) : Type 0 where
   pub sound : (vs ws : List ℕ) (x y : ℕ) → Among x vs → Among y ws → related rel x y ≡ true → Among x (kept_by rel vs ws)
   pub monotone : (vs ws vs2 ws2 : List ℕ) → Within vs vs2 → Within ws ws2 → Within (kept_by rel vs ws) (kept_by rel vs2 ws2)
 
+-- refinement by each relation does so
 abbrev pub AreRefined : Type 0
 AreRefined = (rel : Rel) → RefinesWell rel

@@ -1,4 +1,6 @@
+-- What instructions and branches do to states, and that the registers of the machine stay in them.
 pub mod Branches
+pub mod Changes
 pub mod Effects
 pub mod Holding
 pub mod Intervals

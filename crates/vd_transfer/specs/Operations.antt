@@ -16,9 +16,11 @@ use Rattle.vd_transfer.specs.declared.runs.Run.{Run}
 abbrev pub low : Val → ℕ
 low v = least (members v)
 
+-- a value's greatest member
 abbrev pub high : Val → ℕ
 high v = greatest (members v)
 
+-- a value's step: the greatest up to 2 such that 2 ^ step divides each of its members
 abbrev pub step : Val → ℕ
 step v = step_of (members v)
 
@@ -26,6 +28,7 @@ step v = step_of (members v)
 abbrev pub range_of : Run → List ℕ
 range_of r = range r.first r.last r.step
 
+-- the multiples of 2 ^ step from the first word to the last
 abbrev pub run : ℕ → ℕ → ℕ → Run
 run first last step = record { first = first; last = last; step = step }
 
@@ -33,6 +36,7 @@ run first last step = record { first = first; last = last; step = step }
 abbrev pub whole : ℕ → Run
 whole s = run 0 (2 ^ 32 - 1) s
 
+-- the words that are multiples of 2 ^ s
 abbrev pub all_of : ℕ → List ℕ
 all_of s = range_of (whole s)
 
@@ -61,6 +65,7 @@ shifts a b p n =
 unfoldable pub signed_shifts : ℕ → ℕ → ℕ → ℕ → Run
 signed_shifts a b p n = if nat_lt n 32 || nat_lt b (2 ^ 31) then shifts a b p n else whole 0
 
+-- a shift of words: the run of the results, by the words' ends and step and by the six bits of the count
 abbrev pub Shifts : Type 0
 Shifts = ℕ → ℕ → ℕ → ℕ → Run
 
@@ -124,6 +129,7 @@ abbrev pub row_of : Bool → Op → Val → Val → List ℕ
 row_of true op v w = 0 ∷ 1 ∷ []
 row_of false op v w = range_of (runs op (bounds v) (bounds w) w)
 
+-- the set that an operation's row gives, where an operand is a Span
 unfoldable pub row : Op → Val → Val → List ℕ
 row Second v w = members w
 row op v w = row_of (gives_truth op) op v w
@@ -139,5 +145,6 @@ results op (Set xs) (Set ys) = pairs op xs ys
 results op (Set xs) (Span lo last s) = row op (Set xs) (Span lo last s)
 results op (Span lo last s) w = row op (Span lo last s) w
 
+-- the value of an operation: the least one that holds its results
 abbrev pub value_of : Limits → Op → Val → Val → Val
 value_of b op v w = cover b (results op v w)

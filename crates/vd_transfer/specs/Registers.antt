@@ -30,6 +30,7 @@ global_of p r = slice_index p.globals (if r == 16 then 0 else if r == 17 then 1 
 abbrev pub fixed_of : PlanData → ℕ → Val
 fixed_of p r = if r == 27 then any_val else word_val (global_of p r)
 
+-- the value of a register by its place in a state, or what it always is where it has none
 abbrev pub value_at : PlanData → State → ℕ → Option ℕ → Val
 value_at p s r (Some i) = slice_index_or s.regs i any_val
 value_at p s r None = fixed_of p r
@@ -43,6 +44,7 @@ abbrev pub arg_of : PlanData → State → Arg → Val
 arg_of p s (Reg r) = reg_of p s r
 arg_of p s (Word w) = word_val w
 
+-- the state with a value at a register's place, if it has one
 abbrev pub set_at : State → Val → Option ℕ → State
 set_at s v (Some i) = record s { regs = slice_set s.regs i v }
 set_at s v None = s

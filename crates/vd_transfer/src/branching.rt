@@ -56,7 +56,7 @@ fn converse(rel: Rel) -> Rel
 }
 
 /// The cover of the members of `v` for which some member of `w` makes the condition go to the side.
-fn left(b: &Bounds, cond: Cond, side: bool, v: &Val, w: &Val) -> Option<Val>
+pub(crate) fn left(b: &Bounds, cond: Cond, side: bool, v: &Val, w: &Val) -> Option<Val>
     requires left { IsValue b.now v.now }
     requires right { IsValue b.now w.now }
     ensures kept { result ≡ cover_some b.now (kept_left cond side (members v.now) (members w.now)) }
@@ -71,7 +71,7 @@ fn left(b: &Bounds, cond: Cond, side: bool, v: &Val, w: &Val) -> Option<Val>
 }
 
 /// The cover of the members of `w` for which some member of `v` does so.
-fn right(b: &Bounds, cond: Cond, side: bool, v: &Val, w: &Val) -> Option<Val>
+pub(crate) fn right(b: &Bounds, cond: Cond, side: bool, v: &Val, w: &Val) -> Option<Val>
     requires left { IsValue b.now v.now }
     requires right { IsValue b.now w.now }
     ensures kept { result ≡ cover_some b.now (kept_right cond side (members v.now) (members w.now)) }
@@ -97,7 +97,7 @@ fn holds_itself(cond: Cond, side: bool) -> bool
 }
 
 /// The cover of the members that make the condition go to the side against themselves: all or none.
-fn both(b: &Bounds, cond: Cond, side: bool, v: &Val) -> Option<Val>
+pub(crate) fn both(b: &Bounds, cond: Cond, side: bool, v: &Val) -> Option<Val>
     requires { IsValue b.now v.now }
     ensures kept { result ≡ cover_some b.now (kept_both cond side (members v.now)) }
     ensures value { IfSome result (IsValue b.now) }
@@ -109,7 +109,7 @@ fn both(b: &Bounds, cond: Cond, side: bool, v: &Val) -> Option<Val>
     }
 }
 
-fn is_same(x: u8, y: Arg) -> bool
+pub(crate) fn is_same(x: u8, y: Arg) -> bool
     ensures { result ≡ is_reg x y }
 {
     match y {

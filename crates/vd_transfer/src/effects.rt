@@ -53,7 +53,7 @@ fn save_lower(s: &mut State)
     s.locals.push(lower);
 }
 
-fn is_lower_slot(i: usize) -> bool
+pub(crate) fn is_lower_slot(i: usize) -> bool
     ensures { result ≡ is_lower_slot i }
 {
     i < 8 || 16 <= i && i < 22

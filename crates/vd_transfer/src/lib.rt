@@ -2,8 +2,12 @@
 #![tactic(auto)]
 
 mod branching;
+mod changes;
+mod changing;
+mod comparing;
 mod effects;
 mod laws;
+mod narrowing;
 mod operations;
 mod refinement;
 mod registers;
@@ -14,6 +18,10 @@ mod tests;
 mod transferring;
 
 pub use branching::refine;
+pub use changes::{Base, Change, Put, put_register, unchanged};
+pub use changing::change_of;
+pub use comparing::covers_changed;
 pub use laws::{effect_laws, operation_laws, refinement_laws};
+pub use narrowing::change_on;
 pub use registers::reg;
 pub use transferring::{address, transfer};

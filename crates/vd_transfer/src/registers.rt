@@ -11,7 +11,7 @@ use value_domain::{Bounds, State, Val};
 
 /// Where a state has the value of a register.
 #[tactic(auto, unfolding(crate::specs::Registers::slot))]
-fn slot_of(r: u8) -> Option<usize>
+pub(crate) fn slot_of(r: u8) -> Option<usize>
     ensures slot { result ≡ slot r }
     ensures within { IfSome result (λ i. i < 27) }
 {
@@ -39,7 +39,7 @@ pub fn reg(plan: &Plan, s: &State, r: u8) -> Val
     }
 }
 
-fn fixed(plan: &Plan, r: u8) -> Val
+pub(crate) fn fixed(plan: &Plan, r: u8) -> Val
     ensures { result ≡ fixed_of plan.now r }
 {
     if r == 27 {
@@ -103,7 +103,7 @@ pub(crate) fn set(b: &Bounds, s: &mut State, r: u8, v: Val)
     }
 }
 
-fn is_lower(r: u8) -> bool
+pub(crate) fn is_lower(r: u8) -> bool
     ensures { result ≡ is_lower r }
 {
     r < 8 || 18 <= r && r <= 23

@@ -1,0 +1,63 @@
+-- What an instruction changes of a state, and the state that it makes of it.
+use Rattle.std.specs.Prelude.{ℕ, List, replicate, Option, Some, None, slice_set}
+use Rattle.tc_isa.specs.declared.shapes.Arg.{Arg}
+use Rattle.tc_isa.specs.declared.shapes.Arg.TheVariants.{Reg, Word}
+use Rattle.value_domain.specs.declared.values.Val.{Val}
+use Rattle.value_domain.specs.declared.states.State.{State}
+use Rattle.value_domain.specs.Values.{any_val}
+use Rattle.vd_transfer.specs.declared.changes.Base.{Base}
+use Rattle.vd_transfer.specs.declared.changes.Base.TheVariants.{Same, Forgotten, Any}
+use Rattle.vd_transfer.specs.declared.changes.Put.{Put}
+use Rattle.vd_transfer.specs.declared.changes.Change.{Change}
+use Rattle.vd_transfer.specs.Registers.{slot}
+use Rattle.vd_transfer.specs.Effects.{forgotten_from}
+
+-- the values that a change starts from: the state's own, those with the lower registers any, or any at each place
+abbrev pub base_of : Base → List Val → List Val
+base_of Same regs = regs
+base_of Forgotten regs = forgotten_from 0 regs
+base_of Any regs = replicate 27 any_val
+
+-- the values with one at a place, if there is a place
+abbrev pub value_put : List Val → Val → Option ℕ → List Val
+value_put vs v None = vs
+value_put vs v (Some i) = slice_set vs i v
+
+abbrev pub put_in : List Val → Put → List Val
+put_in vs put = value_put vs put.value put.at
+
+-- the state after a change
+abbrev pub changed : State → Change → State
+changed s c = record {
+  regs = put_in (put_in (put_in (base_of c.base s.regs) c.first) c.second) c.third;
+  ie = c.ie;
+  ccpn = c.ccpn;
+  lower = c.lower;
+  locals = c.locals;
+}
+
+-- nothing is put
+abbrev pub no_put : Put
+no_put = record { at = None; value = any_val }
+
+-- a register takes a value, where a state has one for it
+abbrev pub reg_put : ℕ → Val → Put
+reg_put r v = record { at = slot r; value = v }
+
+-- an operand takes one, if it is a register
+abbrev pub arg_put : Arg → Val → Put
+arg_put (Reg r) v = reg_put r v
+arg_put (Word w) v = no_put
+
+-- the change that keeps all of a state
+abbrev pub kept_of : State → Change
+kept_of s = record {
+  base = Same;
+  first = no_put;
+  second = no_put;
+  third = no_put;
+  ie = s.ie;
+  ccpn = s.ccpn;
+  lower = s.lower;
+  locals = s.locals;
+}
