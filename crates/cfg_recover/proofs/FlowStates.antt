@@ -54,6 +54,12 @@ lower_more lower vs out i v h k e inv =
 pub with_lower_length : (lower vs : List Val) → length (with_lower_from 0 lower vs) ≡ length vs
 with_lower_length lower vs = length-with_lower 0 lower vs
 
+-- the value at a place
+pub after-at : (lower vs : List Val) (i : ℕ) → i < length vs → get_or (with_lower_from 0 lower vs) i any_val ≡ restored_at i lower (get_or vs i any_val)
+after-at lower vs i h =
+    let at : 0 + i ≡ i = omega arith in
+    get_or-with_lower 0 lower vs i any_val h ∙ ap (λ n. restored_at n lower (get_or vs i any_val)) at
+
 -- ---- lists of values of the plan
 pub set_values : (b : Limits) (vs : List Val) (i : ℕ) (v : Val) → AreValues b vs → IsValue b v → AreValues b (set vs i v)
 set_values b vs i v values value r h =

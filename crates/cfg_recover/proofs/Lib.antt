@@ -11,3 +11,4 @@ pub mod FlowStates
 pub mod FlowTargets
 pub mod OwnLaws
 pub mod RomTests
+pub mod EntryChanges

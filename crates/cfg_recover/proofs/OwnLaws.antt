@@ -102,7 +102,7 @@ IsOwnFault-no_code b image plan key p s none = record {
 }
 
 -- what holds for the shape found there holds
-OwnHolds-found : (b : Limits) (image : ImageData) (plan : PlanData) (key : Key) (p : ℕ) (s : State) (shape : Shape) (n r : ℕ) → IsCode image plan p shape n → OwnRule b plan key p s shape r → OwnHolds b image plan key p s r
+pub OwnHolds-found : (b : Limits) (image : ImageData) (plan : PlanData) (key : Key) (p : ℕ) (s : State) (shape : Shape) (n r : ℕ) → IsCode image plan p shape n → OwnRule b plan key p s shape r → OwnHolds b image plan key p s r
 OwnHolds-found b image plan key p s shape n r code holds = record {
   code = λ e. record { shape = shape; size = n; code = code };
   own = λ t m other. subst (λ (x : Shape). OwnRule b plan key p s x r) (IsCode-one image plan p shape t n m code other).0 holds;

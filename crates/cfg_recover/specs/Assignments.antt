@@ -1,6 +1,6 @@
 -- Assignments: what is known at the points and exits of frames, without needs. The least closed one is what the certificate
 -- maker looks for; a certificate that is accepted is a closed one.
-use Rattle.std.specs.Prelude.{◌≡◌, ℕ, Bool, false, ◌==◌, ◌&&◌, ◌||◌, if◌then◌else◌, min, List, find, Option, Some, None, option_map, option_and_then, Contains}
+use Rattle.std.specs.Prelude.{◌≡◌, ℕ, Bool, false, ◌==◌, ◌&&◌, ◌||◌, if◌then◌else◌, min, find, Option, Some, None, option_map, option_and_then, Contains}
 use Rattle.elf_image.specs.Images.{ImageData}
 use Rattle.tcd_plan.specs.PlanData.{PlanData}
 use Rattle.tc_isa.specs.declared.shapes.Shape.{Shape}

@@ -1,5 +1,6 @@
 pub mod Accepting
 pub mod Assignments
+pub mod Changes
 pub mod Code
 pub mod Duties
 pub mod Entries

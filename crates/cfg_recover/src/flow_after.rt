@@ -1,12 +1,13 @@
 // The state in which a frame goes on after one that it entered came back.
-ghost use Rattle.std.specs.Prelude.{◌≡◌, ◌-◌, ◌<◌, ℕ, nat_lt, if◌then◌else◌, slice_index_or};
+ghost use Rattle.std.specs.Prelude.{◌≡◌, ◌==◌, ◌-◌, ◌<◌, ◌↔◌, ℕ, nat_lt, if◌then◌else◌, slice_index_or, IsTrue};
 ghost use Rattle.value_domain.specs.Values.{any_val};
+ghost use Rattle.value_domain.specs.State.{AreWell, AreBelow, Covers};
 ghost use Rattle.vd_transfer.specs.Effects as effects;
 ghost use Rattle.cfg_recover.specs.Entries.{after_of, with_lower_from};
 
 use arrayvec::ArrayVec;
 use depth_cert::Exit;
-use value_domain::{State, Val};
+use value_domain::{State, Val, are_implied, covers_context, leq};
 
 /// The state after a call (`kind` 1) or a system call (`kind` 3) that came back by `exit`: the lower registers are the
 /// exit's, and all else but the context is as it was.
@@ -15,11 +16,24 @@ pub fn after(s: &State, exit: &Exit, kind: u8) -> State
 {
     State {
         regs: with_lower(&s.regs, &exit.lower),
-        ie: if kind == 1 { exit.ie } else { s.ie },
-        ccpn: if kind == 1 { exit.ccpn } else { s.ccpn },
+        ie: ie_after(s, exit, kind),
+        ccpn: ccpn_after(s, exit, kind),
         lower: false,
         locals: copy_of(&s.locals),
     }
+}
+
+/// A call comes back with its exit's IE, a system call with its caller's.
+fn ie_after(s: &State, exit: &Exit, kind: u8) -> bool
+    ensures { result ≡ (if kind == 1 then exit.now.ie else s.now.ie) }
+{
+    if kind == 1 { exit.ie } else { s.ie }
+}
+
+fn ccpn_after(s: &State, exit: &Exit, kind: u8) -> u8
+    ensures { result ≡ (if kind == 1 then exit.now.ccpn else s.now.ccpn) }
+{
+    if kind == 1 { exit.ccpn } else { s.ccpn }
 }
 
 fn copy_of(locals: &ArrayVec<bool, 8>) -> ArrayVec<bool, 8>
@@ -36,20 +50,53 @@ fn with_lower(regs: &[Val; 27], lower: &[Val; 14]) -> [Val; 27]
 {
     let mut out = std::array::from_fn(|_| Val::any());
     for (i, v) in regs.iter().enumerate() {
-        out[i] = restored(i, lower, v);
+        out[i] = restored(i, lower, v).copy();
     }
     out
 }
 
 /// The value of a place: the exit's for a lower register, else the one that it had.
-fn restored(i: usize, lower: &[Val; 14], v: &Val) -> Val
-    ensures { result ≡ (if effects.is_lower_slot i then slice_index_or lower.now (if nat_lt i 8 then i else i - 8) any_val else v.now) }
+fn restored<'a>(i: usize, lower: &'a [Val; 14], v: &'a Val) -> &'a Val
+    ensures { result.now ≡ (if effects.is_lower_slot i then slice_index_or lower.now (if nat_lt i 8 then i else i - 8) any_val else v.now) }
 {
     if i < 8 {
-        lower[i].copy()
+        &lower[i]
     } else if 16 <= i && i < 22 {
-        lower[i - 8].copy()
+        &lower[i - 8]
     } else {
-        v.copy()
+        v
     }
+}
+
+fn are_below(regs: &[Val; 27], lower: &[Val; 14], high: &[Val; 27]) -> bool
+    requires low { AreWell (with_lower_from 0 lower.now regs.now) }
+    requires high { AreWell high.now }
+    ensures { IsTrue result ↔ AreBelow (with_lower_from 0 lower.now regs.now) high.now }
+{
+    for i in 0..27 {
+        if !leq(restored(i, lower, &regs[i]), &high[i]) {
+            return false;
+        }
+    }
+    true
+}
+
+/// Whether a state covers the one after a call or a system call, which is never built.
+pub fn covers_after(upper: &State, s: &State, exit: &Exit, kind: u8) -> bool
+    requires upper { AreWell upper.now.regs }
+    requires state { AreWell (after_of s.now exit.now kind).regs }
+    ensures { IsTrue result ↔ Covers upper.now (after_of s.now exit.now kind) }
+{
+    if !covers_context(
+        upper,
+        ie_after(s, exit, kind),
+        ccpn_after(s, exit, kind),
+        false,
+    ) {
+        return false;
+    }
+    if !are_implied(upper.locals.as_slice(), s.locals.as_slice()) {
+        return false;
+    }
+    are_below(&s.regs, &exit.lower, &upper.regs)
 }

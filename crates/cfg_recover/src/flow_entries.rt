@@ -100,7 +100,7 @@ fn unless_aligned(
 }
 
 /// Whether each address is a multiple of the size.
-fn is_aligned(b: &Bounds, at: &Val, size: u8) -> bool
+pub fn is_aligned(b: &Bounds, at: &Val, size: u8) -> bool
     requires at { IsValue b.now at.now }
     requires size { IsSize size }
     ensures { result ≡ are_aligned at.now size }

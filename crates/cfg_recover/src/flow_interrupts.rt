@@ -7,7 +7,7 @@ use tcd_plan::Plan;
 use value_domain::State;
 
 /// The stated interrupts that may be taken in a state.
-pub(crate) fn interrupts(plan: &Plan, s: &State) -> ArrayVec<u8, 32>
+pub fn interrupts(plan: &Plan, s: &State) -> ArrayVec<u8, 32>
     ensures { result.items ≡ irqs_of plan.now s.now }
 {
     if s.ie {

@@ -47,7 +47,7 @@ fn any_regs() -> [Val; 27]
 }
 
 /// The stack pointer of a handler.
-fn stack(b: &Bounds, plan: &Plan, key: &Key, s: &State) -> Val
+pub(crate) fn stack(b: &Bounds, plan: &Plan, key: &Key, s: &State) -> Val
     requires { AreValues b.now s.now.regs }
     ensures stack { result ≡ stack_of plan.now key.now s.now }
     ensures value { IsValue b.now result }

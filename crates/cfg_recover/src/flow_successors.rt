@@ -1,9 +1,11 @@
 // The successors of a point in its frame.
 ghost use Rattle.std.specs.Prelude.{◌≡◌, All, Some};
+ghost use Rattle.tc_isa.specs.Bounded.{IsShape};
 ghost use Rattle.tc_isa.specs.Shapes.{shape_of};
+ghost use Rattle.value_domain.specs.declared.states.State.{State};
 ghost use Rattle.value_domain.specs.Values.{IsValue, any_val};
 ghost use Rattle.value_domain.specs.State.{AreValues};
-ghost use Rattle.vd_transfer.specs.Effects.{HasRoom};
+ghost use Rattle.vd_transfer.specs.Effects.{HasRoom, address_of};
 ghost use Rattle.vd_transfer.specs.Branches.{refine_of};
 ghost use Rattle.cfg_recover.specs.Duties.{jump_on, loaded_at, next_of, successors_of};
 ghost use Rattle.cfg_recover.specs.FlowValues.{JumpsWithValues};
@@ -97,6 +99,19 @@ fn loaded(b: &Bounds, image: &Image, plan: &Plan, s: &State, inst: &Inst) -> Val
         Shape::Load { size, signed, .. } => {
             load_of(b, image, plan, &address(b, plan, inst, s), size, signed)
         }
+        _ => any(b),
+    }
+}
+
+/// What an instruction of this shape loads from these addresses.
+pub fn loaded_from(b: &Bounds, image: &Image, plan: &Plan, shape: Shape, at: &Val) -> Val
+    requires shape { IsShape shape }
+    requires value { IsValue b.now at.now }
+    ensures loaded { (s : State) → at.now ≡ address_of b.now plan.now shape s → result ≡ loaded_at b.now image.now plan.now s shape }
+    ensures value { IsValue b.now result }
+{
+    match shape {
+        Shape::Load { size, signed, .. } => load_of(b, image, plan, at, size, signed),
         _ => any(b),
     }
 }

@@ -11,7 +11,7 @@ use value_domain::{State, Val};
 use vd_transfer::reg;
 
 /// The addresses to which a jump or a call at `addr` may go, as far as they are known.
-pub(crate) fn targets(plan: &Plan, s: &State, addr: u32, to: Target) -> ArrayVec<u32, 128>
+pub fn targets(plan: &Plan, s: &State, addr: u32, to: Target) -> ArrayVec<u32, 128>
     requires { IsTarget to }
     ensures { result.items ≡ unwrap_or (targets_of plan.now s.now addr to) [] }
 {

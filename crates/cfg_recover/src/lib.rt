@@ -2,6 +2,7 @@
 #![tactic(auto)]
 
 mod code;
+mod entry_changes;
 mod flow_after;
 mod flow_entries;
 mod flow_interrupts;
@@ -14,11 +15,17 @@ mod laws;
 mod own;
 mod own_rules;
 
-pub use flow_after::after;
+pub use entry_changes::{call_change, handler_change, misaligned_change, system_change};
+pub use flow_after::{after, covers_after};
+pub use flow_entries::is_aligned;
+pub use flow_interrupts::interrupts;
 pub use flow_point::flow;
 pub use flow_states::start_state;
+pub use flow_successors::loaded_from;
+pub use flow_targets::targets;
 pub use flows::{Enter, Flow, Jump, Leave};
 pub use laws::move_laws;
+pub use own::{Found, faultless};
 
 #[cfg(test)]
 mod flow_tests;

@@ -1,11 +1,12 @@
 // The first rule whose own part fails at a point.
-ghost use Rattle.std.specs.Prelude.{◌≡◌, ℕ, MatchResult};
+ghost use Rattle.std.specs.Prelude.{◌≡◌, ℕ, IfErr, IfOk, MatchResult};
 ghost use Rattle.tc_isa.specs.Bounded.{IsShape};
 ghost use Rattle.tc_isa.specs.Shapes.{shape_of};
 ghost use Rattle.value_domain.specs.Values.{IsWell};
 ghost use Rattle.value_domain.specs.State.{AreValues};
 ghost use Rattle.vd_transfer.specs.Effects.{address_of};
 ghost use Rattle.cfg_recover.specs.Own.{IsOwnFault};
+ghost use Rattle.cfg_recover.specs.Changes.{StandsFaultless};
 ghost use Rattle.cfg_recover.specs.OwnFaults.{IsLeastBroken, FindsFaultless};
 
 use crate::code::code_at;
@@ -19,6 +20,42 @@ use tc_isa::{Inst, Shape, shape};
 use tcd_plan::Plan;
 use value_domain::{Bounds, State, Val};
 use vd_transfer::address;
+
+/// What stands at a point: the shape of its instruction, that one's size in bytes, and the addresses of its access.
+#[derive(Drop)]
+pub struct Found {
+    pub shape: Shape,
+    pub size: u32,
+    pub at: Val,
+}
+
+/// What stands at a point, where no rule's own part fails there; else the least that fails.
+pub fn faultless(
+    b: &Bounds,
+    image: &Image,
+    plan: &Plan,
+    key: &Key,
+    addr: u32,
+    s: &State,
+) -> Result<Found, u8>
+    requires { AreValues b.now s.now.regs }
+    ensures found { IfOk result (StandsFaultless b.now image.now plan.now key.now addr s.now) }
+    ensures fault { IfErr result (IsOwnFault b.now image.now plan.now key.now addr s.now) }
+{
+    let Some(found) = code_at(image, plan, addr) else {
+        return Err(3);
+    };
+    let at = address(b, plan, &found.0, s);
+    let shape = shape(&found.0);
+    match first_fault(b, plan, key, s, shape, &at) {
+        Some(rule) => Err(rule),
+        None => Ok(Found {
+            shape,
+            size: found.1,
+            at,
+        }),
+    }
+}
 
 /// The instruction at an address, and its length, where no rule's own part fails there; else the least that fails.
 pub(crate) fn own_or_code(

@@ -1,0 +1,51 @@
+-- What the entries of frames change of the state of the point that enters them, and what stands at a point without a fault.
+use Rattle.std.specs.Prelude.{◌≡◌, ℕ, false, true, []}
+use Rattle.elf_image.specs.Images.{ImageData}
+use Rattle.tcd_plan.specs.PlanData.{PlanData}
+use Rattle.tc_isa.specs.Bounded.{IsShape}
+use Rattle.value_domain.specs.declared.values.Val.{Val}
+use Rattle.value_domain.specs.declared.states.State.{State}
+use Rattle.value_domain.specs.Limits.{Limits}
+use Rattle.value_domain.specs.Values.{IsValue}
+use Rattle.vd_transfer.specs.declared.changes.Base.TheVariants.{Any}
+use Rattle.vd_transfer.specs.declared.changes.Change.{Change}
+use Rattle.vd_transfer.specs.Registers.{word_val}
+use Rattle.vd_transfer.specs.Effects.{address_of}
+use Rattle.vd_transfer.specs.Changes.{kept_of, no_put, reg_put}
+use Rattle.depth_cert.specs.declared.keys.Key.{Key}
+use Rattle.cfg_recover.specs.declared.own.Found.{Found}
+use Rattle.cfg_recover.specs.Code.{IsCode}
+use Rattle.cfg_recover.specs.Own.{IsFaultless}
+
+-- a called function begins with its caller's values and without locals
+abbrev pub call_change : State → Change
+call_change s = record (kept_of s) { lower = false; locals = record { items = [] } }
+
+-- a system call's handler begins with its caller's, but for A10 (register 26) and the number of the call in D15
+abbrev pub system_change : Val → ℕ → State → Change
+system_change sp tin s = record (call_change s) { first = reg_put 26 sp; second = reg_put 15 (word_val tin); ie = false }
+
+-- another handler begins with any values but A10
+abbrev pub handler_change : Val → ℕ → Change
+handler_change sp ccpn = record {
+  base = Any;
+  first = reg_put 26 sp;
+  second = no_put;
+  third = no_put;
+  ie = false;
+  ccpn = ccpn;
+  lower = true;
+  locals = record { items = [] };
+}
+
+-- that of misaligned accesses with the trap's number 4 in D15, too
+abbrev pub misaligned_change : Val → ℕ → Change
+misaligned_change sp ccpn = record (handler_change sp ccpn) { second = reg_put 15 (word_val 4) }
+
+-- an instruction of this shape, size and address of its access is at p, and no rule's own part fails there
+pub record StandsFaultless (b : Limits) (image : ImageData) (plan : PlanData) (key : Key) (p : ℕ) (s : State) (found : Found) : Type 0 where
+  pub faultless : IsFaultless b image plan key p s
+  pub code : IsCode image plan p found.shape found.size
+  pub shape : IsShape found.shape
+  pub access : found.at ≡ address_of b plan found.shape s
+  pub value : IsValue b found.at

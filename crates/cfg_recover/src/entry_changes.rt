@@ -1,0 +1,75 @@
+// What the entries of frames change of a state.
+ghost use Rattle.std.specs.Prelude.{◌≡◌, false, true};
+ghost use Rattle.value_domain.specs.State.{AreValues};
+ghost use Rattle.vd_transfer.specs.Changes.{changed};
+ghost use Rattle.cfg_recover.specs.Changes as changes;
+ghost use Rattle.cfg_recover.specs.Entries as entries;
+ghost use Rattle.cfg_recover.specs.Entries.{stack_of, entry_with, aln_entry, sys_entry};
+
+use crate::flow_states::{constant, stack};
+use arrayvec::ArrayVec;
+use depth_cert::Key;
+use tcd_plan::Plan;
+use value_domain::{Bounds, State, Val};
+use vd_transfer::{Base, Change, put_register, unchanged};
+
+/// The entry of a called function.
+pub fn call_change(b: &Bounds, s: &State) -> Change
+    requires { AreValues b.now s.now.regs }
+    ensures change { result ≡ changes.call_change s.now }
+    ensures entry { changed s.now result ≡ entries.call_entry s.now }
+    ensures values { AreValues b.now (changed s.now result).regs }
+{
+    let mut c = unchanged(s);
+    c.lower = false;
+    c.locals = ArrayVec::new();
+    c
+}
+
+/// The entry of the handler of the system call `tin`.
+pub fn system_change(b: &Bounds, plan: &Plan, key: &Key, s: &State, tin: u8) -> Change
+    requires { AreValues b.now s.now.regs }
+    ensures entry { changed s.now result ≡ sys_entry plan.now key.now s.now tin }
+    ensures values { AreValues b.now (changed s.now result).regs }
+{
+    let mut c = call_change(b, s);
+    c.first = put_register(26, stack(b, plan, key, s));
+    c.second = put_register(15, constant(b, u32::from(tin)));
+    c.ie = false;
+    c
+}
+
+fn handler_with(s: &State, sp: Val, ccpn: u8) -> Change
+    ensures { result ≡ changes.handler_change sp ccpn }
+{
+    let mut c = unchanged(s);
+    c.base = Base::Any;
+    c.first = put_register(26, sp);
+    c.ie = false;
+    c.ccpn = ccpn;
+    c.lower = true;
+    c.locals = ArrayVec::new();
+    c
+}
+
+/// The entry of a handler at this CCPN.
+pub fn handler_change(b: &Bounds, plan: &Plan, key: &Key, s: &State, ccpn: u8) -> Change
+    requires { AreValues b.now s.now.regs }
+    ensures entry { changed s.now result ≡ entry_with (stack_of plan.now key.now s.now) false ccpn true }
+    ensures values { AreValues b.now (changed s.now result).regs }
+{
+    let _width = b.width();
+    handler_with(s, stack(b, plan, key, s), ccpn)
+}
+
+/// The entry of the handler of misaligned accesses.
+pub fn misaligned_change(b: &Bounds, plan: &Plan, key: &Key, s: &State) -> Change
+    requires { AreValues b.now s.now.regs }
+    ensures entry { changed s.now result ≡ aln_entry plan.now key.now s.now }
+    ensures values { AreValues b.now (changed s.now result).regs }
+{
+    let _width = b.width();
+    let mut c = handler_with(s, stack(b, plan, key, s), s.ccpn);
+    c.second = put_register(15, constant(b, 4));
+    c
+}
