@@ -1,5 +1,5 @@
 -- The least rule that duties break, from those of parts of their list.
-use Rattle.std.proofs.Common.{◌≡◌, ℕ, ◌≤◌, ◌<◌, ◌+◌, Bool, List, [], ◌∷◌, ◌++◌, length, take, get_or, Option, Some, None, inl, inr, arith, refl, subst, sym, ◌∙◌, ap, eq-eqb, ◌==◌}
+use Rattle.std.proofs.Common.{◌≡◌, ℕ, ◌≤◌, ◌<◌, ◌+◌, Bool, true, false, List, [], ◌∷◌, ◌++◌, length, take, get_or, map, Option, Some, None, inl, inr, arith, refl, subst, sym, ◌∙◌, ap, eq-eqb, ◌==◌}
 use Rattle.std.specs.Prelude.{IsTrue, ◌↔◌, All}
 use Rattle.std.specs.List.{flat_map}
 use Rattle.std.proofs.lemmas.Bool.{cases_Bool, eqb-true}
@@ -7,20 +7,28 @@ use Rattle.std.proofs.lemmas.List.{append-nil, get_or_append_left, get_or-append
 use Rattle.std.proofs.lemmas.List.Concat.{flat_map-append}
 use Rattle.std.proofs.lemmas.List.Elements.{All-nil, All-cons, All-head, All-tail, All-append}
 use Rattle.tcd_plan.specs.PlanData.{PlanData}
+use Rattle.elf_image.specs.Images.{ImageData}
+use Rattle.tc_isa.specs.declared.shapes.Shape.{Shape}
+use Rattle.tc_isa.specs.declared.shapes.Shape.TheVariants as form
+use Rattle.tc_isa.specs.declared.shapes.Shape.TheVariants.{Compute, Scaled, Load, Store, Branch, Call, Svlcx, Rslcx, Bisr, Enable, Disable, Syscall, Mfcr, Mtcr, Nothing}
+use Rattle.value_domain.specs.declared.values.Val.{Val}
 use Rattle.value_domain.specs.declared.states.State.{State}
+use Rattle.value_domain.specs.Limits.{Limits}
 use Rattle.depth_cert.specs.declared.keys.Key.{Key}
 use Rattle.depth_cert.specs.Nodes.{NodeData}
 use Rattle.depth_cert.specs.Certs.{CertData, find_node}
-use Rattle.cfg_recover.specs.declared.flows.Jump.{Jump}
 use Rattle.cfg_recover.specs.declared.flows.Enter.{Enter}
-use Rattle.cfg_recover.specs.declared.flows.Flow.{Flow}
 use Rattle.cfg_recover.specs.declared.flows.Leave.{Leave}
 use Rattle.cfg_recover.specs.declared.flows.Leave.TheVariants.{Stays, Ret, Rfe}
-use Rattle.cfg_recover.specs.Entries.{exit_of, irq_key}
-use Rattle.cfg_recover.specs.Duties.{Owed, owed, jump, enter, resume, leave, jumps_to}
-use Rattle.cfg_recover.specs.Flows.{entered_key, told_back, told_entry, told_irqs, told_jump, told_jumps, told_leaving, rule_of_entry, told_by}
+use Rattle.vd_transfer.specs.Effects.{HasRoom}
+use Rattle.cfg_recover.specs.declared.own.Found.{Found}
+use Rattle.cfg_recover.specs.Changes.{StandsFaultless}
+use Rattle.cfg_recover.specs.Entries.{exit_of, irq_key, irq_entry, aln_key, aln_entry}
+use Rattle.cfg_recover.specs.Own.{are_aligned}
+use Rattle.cfg_recover.specs.Duties.{Owed, owed, jump, enter, resume, leave, jumps_to, successors_of, entries_of, misaligned_at, misaligned_of, irqs_of, interrupts_of, leavings_of, duties_of}
+use Rattle.cfg_recover.specs.Flows.{entered_key, told_back, told_irqs, told_leaving, leave_of}
 use Rattle.cfg_recover.specs.Accepting.{HasPoint}
-use Rattle.depth_check.specs.Finding.{Finds, least_of, unless, DutyHolds, DutiesHold, HasPoints, IsJumpMet, GoesOn, HasExit, LeavingHolds}
+use Rattle.depth_check.specs.Finding.{Finds, least_of, unless, DutyHolds, DutiesHold, HasPoints, GoesOn, HasExit, LeavingHolds}
 use Rattle.depth_check.proofs.LeastLaws.{found_by, found_both, found_same}
 
 -- what holds of an appended list holds of its parts
@@ -54,31 +62,21 @@ jump_from cert node s t q (x ∷ xs) e h =
     All-cons (λ y. HasPoint node y t) x xs ((All-head (DutyHolds cert node s q) (owed 4 (jump x t)) (jumps_to t xs) h).met e)
     (jump_from cert node s t q xs e (All-tail (DutyHolds cert node s q) (owed 4 (jump x t)) (jumps_to t xs) h))
 
-jumps_to_one : (cert : CertData) (node : NodeData) (s : State) (q : ℕ) (j : Option Jump) → (4 ≡ q → IsJumpMet node j) → DutiesHold cert node s (told_jump j) q
-jumps_to_one cert node s q None h = All-nil (DutyHolds cert node s q)
-jumps_to_one cert node s q (Some j) h = jump_to cert node s j.state q j.targets.items h
+-- jumps with one state, by the test of all of them
+pub points_found : (cert : CertData) (node : NodeData) (s t : State) (xs : List ℕ) (b : Bool) → (IsTrue b ↔ HasPoints node t xs) → Finds (DutiesHold cert node s (jumps_to t xs)) (unless b 4)
+points_found cert node s t xs b d =
+    found_same (λ q. 4 ≡ q → HasPoints node t xs) (DutiesHold cert node s (jumps_to t xs)) (unless b 4) (λ q h. jump_to cert node s t q xs h) (λ q h e. jump_from cert node s t q xs e h)
+    (found_by b 4 (HasPoints node t xs) (omega arith) d)
 
-jumps_from_one : (cert : CertData) (node : NodeData) (s : State) (q : ℕ) (j : Option Jump) → 4 ≡ q → DutiesHold cert node s (told_jump j) q → IsJumpMet node j
-jumps_from_one cert node s q None e h = tt
-jumps_from_one cert node s q (Some j) e h = jump_from cert node s j.state q j.targets.items e h
+-- one jump
+pub point_found : (cert : CertData) (node : NodeData) (s t : State) (x : ℕ) (b : Bool) → (IsTrue b ↔ HasPoint node x t) → Finds (DutiesHold cert node s (owed 4 (jump x t) ∷ [])) (unless b 4)
+point_found cert node s t x b d =
+    points_found cert node s t (x ∷ []) b
+    ((λ y. All-cons (λ y. HasPoint node y t) x [] (d.0 y) (All-nil (λ y. HasPoint node y t))), (λ h. d.1 (All-head (λ y. HasPoint node y t) x [] h)))
 
-jumps_hold : (cert : CertData) (node : NodeData) (s : State) (q : ℕ) (js : List (Option Jump)) → (4 ≡ q → All (IsJumpMet node) js) → DutiesHold cert node s (told_jumps js) q
-jumps_hold cert node s q [] h = All-nil (DutyHolds cert node s q)
-jumps_hold cert node s q (j ∷ js) h =
-    All-append (DutyHolds cert node s q) (told_jump j) (told_jumps js) (jumps_to_one cert node s q j (λ e. All-head (IsJumpMet node) j js (h e)))
-    (jumps_hold cert node s q js (λ e. All-tail (IsJumpMet node) j js (h e)))
-
-jumps_met : (cert : CertData) (node : NodeData) (s : State) (q : ℕ) (js : List (Option Jump)) → DutiesHold cert node s (told_jumps js) q → 4 ≡ q → All (IsJumpMet node) js
-jumps_met cert node s q [] h e = All-nil (IsJumpMet node)
-jumps_met cert node s q (j ∷ js) h e =
-    All-cons (IsJumpMet node) j js (jumps_from_one cert node s q j e (All-left (DutyHolds cert node s q) (told_jump j) (told_jumps js) h))
-    (jumps_met cert node s q js (All-right (DutyHolds cert node s q) (told_jump j) (told_jumps js) h) e)
-
--- jumps, by the test of all of them
-pub jumps_found : (cert : CertData) (node : NodeData) (s : State) (js : List (Option Jump)) (b : Bool) → (IsTrue b ↔ All (IsJumpMet node) js) → Finds (DutiesHold cert node s (told_jumps js)) (unless b 4)
-jumps_found cert node s js b d =
-    found_same (λ q. 4 ≡ q → All (IsJumpMet node) js) (DutiesHold cert node s (told_jumps js)) (unless b 4) (λ q h. jumps_hold cert node s q js h) (λ q h. jumps_met cert node s q js h)
-    (found_by b 4 (All (IsJumpMet node) js) (omega arith) d)
+-- no duty
+pub nothing_found : (cert : CertData) (node : NodeData) (s : State) → Finds (DutiesHold cert node s []) None
+nothing_found cert node s = λ q. All-nil (DutyHolds cert node s q)
 
 -- ---- entries
 -- what rules ask of an entry of the node n that stands, and of its coming back
@@ -134,6 +132,10 @@ entry_missing cert node s rule key entry back missing small = record {
   known = small;
 }
 
+-- calls that begin with a state
+abbrev pub called : State → List ℕ → ℕ → Enter
+called t targets back = record { kind = 1; targets = record { items = targets }; state = t; resume = Some back }
+
 -- the entries at a list of targets
 abbrev pub told_to : ℕ → Key → Enter → List ℕ → List Owed
 told_to rule key e targets = flat_map (λ t. owed rule (enter (entered_key key e.kind t) e.state) ∷ told_back (entered_key key e.kind t) e.resume) targets
@@ -166,11 +168,9 @@ entries_more cert node s rule key entered e targets i found one o lt k is f g =
     duties_more cert node s (told_to rule key e (take i targets)) (told_at rule key e (get_or targets i 0)) (told_to rule key e (take (i + 1) targets)) found one o (told_to_more rule key e targets i lt) is f
     (subst (λ (j : Key). Finds (DutiesHold cert node s (owed rule (enter j e.state) ∷ told_back j e.resume)) one) k g)
 
-pub entries_done : (cert : CertData) (node : NodeData) (s : State) (rule : ℕ) (key : Key) (entries : Option Enter) (e : Enter) (targets : List ℕ) (i : ℕ) (found : Option ℕ) → entries ≡ Some e
-    → targets ≡ e.targets.items → length targets ≤ i → Finds (DutiesHold cert node s (told_to rule key e (take i targets))) found → Finds (DutiesHold cert node s (told_entry rule key entries)) found
-entries_done cert node s rule key entries e targets i found some same le f =
-    subst (λ (o : Option Enter). Finds (DutiesHold cert node s (told_entry rule key o)) found) (sym some)
-    (subst (λ (l : List ℕ). Finds (DutiesHold cert node s (told_to rule key e l)) found) (take_all i targets le ∙ same) f)
+pub entries_done : (cert : CertData) (node : NodeData) (s : State) (rule : ℕ) (key : Key) (e : Enter) (targets : List ℕ) (i : ℕ) (found : Option ℕ) → length targets ≤ i
+    → Finds (DutiesHold cert node s (told_to rule key e (take i targets))) found → Finds (DutiesHold cert node s (told_to rule key e targets)) found
+entries_done cert node s rule key e targets i found le f = subst (λ (l : List ℕ). Finds (DutiesHold cert node s (told_to rule key e l)) found) (take_all i targets le) f
 
 pub interrupts_more : (cert : CertData) (node : NodeData) (s : State) (plan : PlanData) (entry now : State) (key : Key) (irqs : List ℕ) (i : ℕ) (found one o : Option ℕ) → i < length irqs
     → key ≡ irq_key plan (get_or irqs i 0) → record now { ccpn = 0 } ≡ record entry { ccpn = 0 } → o ≡ least_of found one → Finds (DutiesHold cert node s (told_irqs plan entry (take i irqs))) found
@@ -210,15 +210,59 @@ pub leaving_found : (cert : CertData) (node : NodeData) (s : State) (l : Leave) 
 leaving_found cert node s l o f =
     found_same (LeavingHolds node s l) (DutiesHold cert node s (told_leaving node.key s l)) o (λ q h. leaving_to cert node s l q h) (λ q h. leaving_from cert node s l q h) f
 
+-- as an instruction's shape says
+leavings-is : (key : Key) (s : State) (shape : Shape) → told_leaving key s (leave_of shape) ≡ leavings_of key s shape
+unfolding leave_of
+leavings-is key s (Compute op dst x y) = refl
+leavings-is key s (Scaled dst base index n) = refl
+leavings-is key s (Load dst base offset size signed after) = refl
+leavings-is key s (Store src base offset size after) = refl
+leavings-is key s (Branch cond x y by lowers) = refl
+leavings-is key s (form.Jump to) = refl
+leavings-is key s (Call to) = refl
+leavings-is key s form.Ret = refl
+leavings-is key s form.Rfe = refl
+leavings-is key s Svlcx = refl
+leavings-is key s Rslcx = refl
+leavings-is key s (Bisr c) = refl
+leavings-is key s Enable = refl
+leavings-is key s Disable = refl
+leavings-is key s (Syscall tin) = refl
+leavings-is key s (Mfcr dst number) = refl
+leavings-is key s (Mtcr src number) = refl
+leavings-is key s Nothing = refl
+
+pub shape_found : (cert : CertData) (node : NodeData) (s : State) (shape : Shape) (o : Option ℕ) → Finds (LeavingHolds node s (leave_of shape)) o → Finds (DutiesHold cert node s (leavings_of node.key s shape)) o
+shape_found cert node s shape o f =
+    subst (λ (l : List Owed). Finds (DutiesHold cert node s l) o) (leavings-is node.key s shape) (leaving_found cert node s (leave_of shape) o f)
+
 -- ---- all parts
-pub told_found : (cert : CertData) (node : NodeData) (s : State) (plan : PlanData) (f : Flow) (jumps entered misaligned interrupts leaving : Option ℕ) → Finds (DutiesHold cert node s (told_jumps f.jumps)) jumps
-    → Finds (DutiesHold cert node s (told_entry (rule_of_entry f.enter) node.key f.enter)) entered → Finds (DutiesHold cert node s (told_entry 10 node.key f.aln)) misaligned
-    → Finds (DutiesHold cert node s (told_irqs plan f.irq_entry f.irqs.items)) interrupts → Finds (DutiesHold cert node s (told_leaving node.key s f.leave)) leaving
-    → Finds (DutiesHold cert node s (told_by plan node.key s f)) (least_of (least_of (least_of (least_of jumps entered) misaligned) interrupts) leaving)
-told_found cert node s plan f jumps entered misaligned interrupts leaving j e m i l =
-    let js = told_jumps f.jumps in
-    let es = told_entry (rule_of_entry f.enter) node.key f.enter in
-    let ms = told_entry 10 node.key f.aln in
-    let is = told_irqs plan f.irq_entry f.irqs.items in
-    duties_append cert node s (js ++ es ++ ms ++ is) (told_leaving node.key s f.leave) _ leaving
+pub parts_found : (b : Limits) (image : ImageData) (plan : PlanData) (cert : CertData) (node : NodeData) (p : ℕ) (s : State) (shape : Shape) (n : ℕ) (jumps entered misaligned interrupts leaving : Option ℕ)
+    → Finds (DutiesHold cert node s (successors_of b image plan p s shape n)) jumps → Finds (DutiesHold cert node s (entries_of plan node.key p s shape n)) entered
+    → Finds (DutiesHold cert node s (misaligned_of b plan node.key s shape)) misaligned → Finds (DutiesHold cert node s (interrupts_of plan node.key s)) interrupts
+    → Finds (DutiesHold cert node s (leavings_of node.key s shape)) leaving
+    → Finds (DutiesHold cert node s (duties_of b image plan node.key p s shape n)) (least_of (least_of (least_of (least_of jumps entered) misaligned) interrupts) leaving)
+unfolding duties_of
+parts_found b image plan cert node p s shape n jumps entered misaligned interrupts leaving j e m i l =
+    let js = successors_of b image plan p s shape n in
+    let es = entries_of plan node.key p s shape n in
+    let ms = misaligned_of b plan node.key s shape in
+    let is = interrupts_of plan node.key s in
+    duties_append cert node s (js ++ es ++ ms ++ is) (leavings_of node.key s shape) _ leaving
     (duties_append cert node s (js ++ es ++ ms) is _ interrupts (duties_append cert node s (js ++ es) ms _ misaligned (duties_append cert node s js es jumps entered j e) m) i) l
+
+-- where no rule's own part fails there is room
+pub room_at : (b : Limits) (image : ImageData) (plan : PlanData) (key : Key) (p : ℕ) (s : State) (found : Found) → StandsFaultless b image plan key p s found → HasRoom b found.shape s
+room_at b image plan key p s found f = ((f.faultless 8).own found.shape found.size f.code).room refl
+
+-- no interrupt, no duty
+pub interrupts_none : (plan : PlanData) (key : Key) (s : State) (irqs : List ℕ) → irqs ≡ irqs_of plan s → length irqs ≡ 0 → [] ≡ interrupts_of plan key s
+interrupts_none plan key s [] e len = ap (λ (l : List ℕ). map (λ p. owed 11 (enter (irq_key plan p) (irq_entry plan key s p))) l) e
+interrupts_none plan key s (p ∷ ps) e len = absurd (omega arith)
+
+-- addresses that are all multiples of the size, and others
+pub aligned_none : (plan : PlanData) (key : Key) (s : State) (at : Val) (size : ℕ) → are_aligned at size ≡ true → [] ≡ misaligned_at plan key s at size
+aligned_none plan key s at size e = rw e refl
+
+pub misaligned_one : (plan : PlanData) (key : Key) (s : State) (at : Val) (size : ℕ) → are_aligned at size ≡ false → owed 10 (enter (aln_key plan key) (aln_entry plan key s)) ∷ [] ≡ misaligned_at plan key s at size
+misaligned_one plan key s at size e = rw e refl

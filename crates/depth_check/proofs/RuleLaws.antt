@@ -12,11 +12,9 @@ use Rattle.value_domain.specs.State.{AreValues, AreWell}
 use Rattle.depth_cert.specs.declared.points.Point.{Point}
 use Rattle.depth_cert.specs.Nodes.{NodeData}
 use Rattle.depth_cert.specs.Certs.{CertData}
-use Rattle.cfg_recover.specs.declared.flows.Flow.{Flow}
 use Rattle.cfg_recover.specs.Code.{IsCode}
-use Rattle.cfg_recover.specs.Own.{IsOwnFault}
+use Rattle.cfg_recover.specs.Own.{IsOwnFault, IsFaultless}
 use Rattle.cfg_recover.specs.Duties.{Owed, duties_of}
-use Rattle.cfg_recover.specs.Flows.{Tells, told_by}
 use Rattle.cfg_recover.specs.Accepting.{limits_in, RuleHolds, IsNeedAbove}
 use Rattle.cfg_recover.proofs.CodeLaws.{IsCode-one}
 use Rattle.depth_check.specs.Finding.{Finds, least_of, unless, DutyHolds, DutiesHold, HasOwnNeed}
@@ -64,51 +62,47 @@ module _ (image : ImageData) (plan : PlanData) (cert : CertData) (node : NodeDat
       }
 
   -- duties and the need
-  module _ (flow : Flow) (values : AreValues (limits_in plan cert) (point.state).regs) (tells : Tells (limits_in plan cert) image plan node.key point.addr point.state flow) where
-    told : List Owed
-    told = told_by plan node.key point.state flow
-
+  module _ (shape : Shape) (size : ℕ) (values : AreValues (limits_in plan cert) (point.state).regs) (faultless : IsFaultless (limits_in plan cert) image plan node.key point.addr point.state) (code : IsCode image plan point.addr shape size) where
     -- at any shape and size of the code there
-    told_is : (shape : Shape) (n : ℕ) → IsCode image plan point.addr shape n → told_by plan node.key point.state flow ≡ duties_of (limits_in plan cert) image plan node.key point.addr point.state shape n
-    told_is shape n code =
-        let one = IsCode-one image plan point.addr tells.shape shape tells.size n tells.code code in
-        tells.told ∙ ap (λ (x : Shape). duties_of (limits_in plan cert) image plan node.key point.addr point.state x tells.size) one.0
-        ∙ ap (λ m. duties_of (limits_in plan cert) image plan node.key point.addr point.state shape m) one.1
+    told_is : (other : Shape) (n : ℕ) → IsCode image plan point.addr other n
+        → duties_of (limits_in plan cert) image plan node.key point.addr point.state shape size ≡ duties_of (limits_in plan cert) image plan node.key point.addr point.state other n
+    told_is other n found =
+        let one = IsCode-one image plan point.addr shape other size n code found in
+        ap (λ (x : Shape). duties_of (limits_in plan cert) image plan node.key point.addr point.state x size) one.0
+        ∙ ap (λ m. duties_of (limits_in plan cert) image plan node.key point.addr point.state other m) one.1
 
-    holds_to : (q : ℕ) → DutiesHold cert node point.state (told_by plan node.key point.state flow) q × (14 ≡ q → HasOwnNeed image plan node point) → RuleHolds image plan cert node point q
+    holds_to : (q : ℕ) → DutiesHold cert node point.state (duties_of (limits_in plan cert) image plan node.key point.addr point.state shape size) q × (14 ≡ q → HasOwnNeed image plan node point) → RuleHolds image plan cert node point q
     holds_to q h = record {
       values = λ e. values;
-      own = λ v. tells.faultless q;
-      covered = λ shape n d v f code c e.
-          (All-contains (DutyHolds cert node point.state q) (told_by plan node.key point.state flow) d h.0 (subst (λ (l : List Owed). Contains l d) (sym (told_is shape n code)) c)).met e;
-      needs = λ shape n e v f code.
+      own = λ v. faultless q;
+      covered = λ other n d v f found c e.
+          (All-contains (DutyHolds cert node point.state q) (duties_of (limits_in plan cert) image plan node.key point.addr point.state shape size) d h.0 (subst (λ (l : List Owed). Contains l d) (sym (told_is other n found)) c)).met e;
+      needs = λ other n e v f found.
           let own = h.1 (sym e) in
           record {
             locals = own.locals;
             entered =
-                subst (λ (l : List Owed). All (λ d. IsNeedAbove cert node point.state d.duty) l) (told_is shape n code)
-                (All-weaker (DutyHolds cert node point.state q) (λ d. IsNeedAbove cert node point.state d.duty) (λ d w. w.need e) (told_by plan node.key point.state flow) h.0);
+                subst (λ (l : List Owed). All (λ d. IsNeedAbove cert node point.state d.duty) l) (told_is other n found)
+                (All-weaker (DutyHolds cert node point.state q) (λ d. IsNeedAbove cert node point.state d.duty) (λ d w. w.need e) (duties_of (limits_in plan cert) image plan node.key point.addr point.state shape size) h.0);
             start = own.start;
           };
     }
 
-    holds_from : (q : ℕ) → RuleHolds image plan cert node point q → DutiesHold cert node point.state (told_by plan node.key point.state flow) q × (14 ≡ q → HasOwnNeed image plan node point)
+    holds_from : (q : ℕ) → RuleHolds image plan cert node point q → DutiesHold cert node point.state (duties_of (limits_in plan cert) image plan node.key point.addr point.state shape size) q × (14 ≡ q → HasOwnNeed image plan node point)
     holds_from q h = (
-      All-from_contains (DutyHolds cert node point.state q) (told_by plan node.key point.state flow)
-          (λ d c.
-          let at = subst (λ (l : List Owed). Contains l d) tells.told c in
-          record {
-            met = λ e. h.covered tells.shape tells.size d values tells.faultless tells.code at e;
+      All-from_contains (DutyHolds cert node point.state q) (duties_of (limits_in plan cert) image plan node.key point.addr point.state shape size)
+          (λ d c. record {
+            met = λ e. h.covered shape size d values faultless code c e;
             need = λ e.
-                All-contains (λ d. IsNeedAbove cert node point.state d.duty) (duties_of (limits_in plan cert) image plan node.key point.addr point.state tells.shape tells.size) d
-                (h.needs tells.shape tells.size e values tells.faultless tells.code).entered at;
+                All-contains (λ d. IsNeedAbove cert node point.state d.duty) (duties_of (limits_in plan cert) image plan node.key point.addr point.state shape size) d
+                (h.needs shape size e values faultless code).entered c;
           }),
-      (λ e. let need = h.needs tells.shape tells.size (sym e) values tells.faultless tells.code in record { locals = need.locals; start = need.start }),
+      (λ e. let need = h.needs shape size (sym e) values faultless code in record { locals = need.locals; start = need.start }),
     )
 
-    pub duties_found : (duties : Option ℕ) (own : Bool) → Finds (DutiesHold cert node point.state (told_by plan node.key point.state flow)) duties → (IsTrue own ↔ HasOwnNeed image plan node point)
+    pub duties_found : (duties : Option ℕ) (own : Bool) → Finds (DutiesHold cert node point.state (duties_of (limits_in plan cert) image plan node.key point.addr point.state shape size)) duties → (IsTrue own ↔ HasOwnNeed image plan node point)
         → Finds (RuleHolds image plan cert node point) (least_of duties (unless own 14))
     duties_found duties own f d =
-        found_same (λ q. DutiesHold cert node point.state (told_by plan node.key point.state flow) q × (14 ≡ q → HasOwnNeed image plan node point)) (RuleHolds image plan cert node point) (least_of duties (unless own 14)) holds_to holds_from
-        (found_both (DutiesHold cert node point.state (told_by plan node.key point.state flow)) (λ q. 14 ≡ q → HasOwnNeed image plan node point) duties (unless own 14) f
+        found_same (λ q. DutiesHold cert node point.state (duties_of (limits_in plan cert) image plan node.key point.addr point.state shape size) q × (14 ≡ q → HasOwnNeed image plan node point)) (RuleHolds image plan cert node point) (least_of duties (unless own 14)) holds_to holds_from
+        (found_both (DutiesHold cert node point.state (duties_of (limits_in plan cert) image plan node.key point.addr point.state shape size)) (λ q. 14 ≡ q → HasOwnNeed image plan node point) duties (unless own 14) f
         (found_by own 14 (HasOwnNeed image plan node point) (omega arith) d))

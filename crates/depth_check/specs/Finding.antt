@@ -7,9 +7,6 @@ use Rattle.value_domain.specs.State.{AreWell}
 use Rattle.depth_cert.specs.declared.points.Point.{Point}
 use Rattle.depth_cert.specs.Nodes.{NodeData}
 use Rattle.depth_cert.specs.Certs.{CertData}
-use Rattle.cfg_recover.specs.declared.flows.Jump.{Jump}
-use Rattle.cfg_recover.specs.declared.flows.Enter.{Enter}
-use Rattle.cfg_recover.specs.declared.flows.Flow.{Flow}
 use Rattle.cfg_recover.specs.declared.flows.Leave.{Leave}
 use Rattle.cfg_recover.specs.declared.flows.Leave.TheVariants.{Stays, Ret, Rfe}
 use Rattle.cfg_recover.specs.Entries.{start_key, exit_of, after_of}
@@ -20,21 +17,6 @@ use Rattle.cfg_recover.specs.Accepting.{HasPoint, IsMet, IsNeedAbove, ExitCovers
 pub record IsWellNode (node : NodeData) : Type 0 where
   pub points : All (λ p. AreWell (p.state).regs) node.points
   pub exit : IfSome node.exit (λ x. AreWell x.lower)
-
--- the values of a flow's states are
-abbrev pub IsWellJump : Option Jump → Type 0
-IsWellJump jump = IfSome jump (λ j. AreWell (j.state).regs)
-
--- the same for an entry
-abbrev pub IsWellEnter : Option Enter → Type 0
-IsWellEnter entered = IfSome entered (λ e. AreWell (e.state).regs)
-
--- the same for all that a flow tells
-pub record IsWellFlow (f : Flow) : Type 0 where
-  pub jumps : All IsWellJump f.jumps
-  pub enter : IsWellEnter f.enter
-  pub aln : IsWellEnter f.aln
-  pub interrupts : AreWell (f.irq_entry).regs
 
 -- ---- rules
 -- r is the least rule that doesn't hold
@@ -71,10 +53,6 @@ DutiesHold cert node s duties q = All (DutyHolds cert node s q) duties
 -- the node has points at all these addresses that cover the state
 abbrev pub HasPoints : NodeData → State → List ℕ → Type 0
 HasPoints node s targets = All (λ t. HasPoint node t s) targets
-
--- the node has points for a told jump, if there is one
-abbrev pub IsJumpMet : NodeData → Option Jump → Type 0
-IsJumpMet node jump = IfSome jump (λ j. HasPoints node j.state j.targets.items)
 
 -- the node goes on where the entered one comes back
 abbrev pub GoesOn : NodeData → State → NodeData → ℕ → Option ℕ → Type 0

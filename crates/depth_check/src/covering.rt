@@ -1,13 +1,15 @@
 // Whether points and exits cover.
 ghost use Rattle.std.specs.Prelude.{◌≡◌, ◌≤◌, ◌↔◌, IsTrue, length, All};
 ghost use Rattle.value_domain.specs.State.{AreWell, AreBelow, AreValues};
-ghost use Rattle.cfg_recover.specs.Entries.{exit_of, lower_values};
+ghost use Rattle.vd_transfer.specs.Changes.{changed};
+ghost use Rattle.cfg_recover.specs.Entries.{after_of, exit_of, lower_values};
 ghost use Rattle.cfg_recover.specs.Accepting.{HasPoint, ExitCovers};
-ghost use Rattle.depth_check.specs.Finding.{IsWellNode, IsWellJump, HasPoints, IsJumpMet, HasExit};
+ghost use Rattle.depth_check.specs.Finding.{IsWellNode, HasPoints, HasExit};
 
-use cfg_recover::Jump;
+use cfg_recover::covers_after;
 use depth_cert::{Exit, Node};
 use value_domain::{Bounds, State, Val, covers, is_value, leq};
+use vd_transfer::{Change, covers_changed};
 
 /// Whether the node has a point at this address that covers the state.
 pub(crate) fn has_point(node: &Node, addr: u32, s: &State) -> bool
@@ -21,39 +23,38 @@ pub(crate) fn has_point(node: &Node, addr: u32, s: &State) -> bool
     }
 }
 
-/// Whether it has such points at all these addresses.
-fn has_points(node: &Node, targets: &[u32], s: &State) -> bool
+/// Whether the node has a point at this address that covers the changed state.
+pub(crate) fn has_changed(node: &Node, addr: u32, s: &State, c: &Change) -> bool
+    requires node { IsWellNode node.now }
+    requires state { AreWell (changed s.now c.now).regs }
+    ensures { IsTrue result ↔ HasPoint node.now addr (changed s.now c.now) }
+{
+    match node.point(addr) {
+        Some(point) => covers_changed(&point.state, s, c),
+        None => false,
+    }
+}
+
+/// Whether it has one that covers the state after an entered frame came back by this exit.
+pub(crate) fn has_after(node: &Node, addr: u32, s: &State, exit: &Exit, kind: u8) -> bool
+    requires node { IsWellNode node.now }
+    requires state { AreWell (after_of s.now exit.now kind).regs }
+    ensures { IsTrue result ↔ HasPoint node.now addr (after_of s.now exit.now kind) }
+{
+    match node.point(addr) {
+        Some(point) => covers_after(&point.state, s, exit, kind),
+        None => false,
+    }
+}
+
+/// Whether it has points that cover the state at all these addresses.
+pub(crate) fn has_points(node: &Node, targets: &[u32], s: &State) -> bool
     requires node { IsWellNode node.now }
     requires state { AreWell s.now.regs }
     ensures { IsTrue result ↔ HasPoints node.now s.now targets.now }
 {
     for t in targets {
         if !has_point(node, *t, s) {
-            return false;
-        }
-    }
-    true
-}
-
-fn is_jump_met(node: &Node, jump: &Option<Jump>) -> bool
-    requires node { IsWellNode node.now }
-    requires state { IsWellJump jump.now }
-    ensures { IsTrue result ↔ IsJumpMet node.now jump.now }
-{
-    match jump {
-        Some(jump) => has_points(node, jump.targets.as_slice(), &jump.state),
-        None => true,
-    }
-}
-
-/// Whether it has such points wherever its instruction jumps.
-pub(crate) fn are_jumps_met(node: &Node, jumps: &[Option<Jump>]) -> bool
-    requires node { IsWellNode node.now }
-    requires states { All IsWellJump jumps.now }
-    ensures { IsTrue result ↔ All (IsJumpMet node.now) jumps.now }
-{
-    for jump in jumps {
-        if !is_jump_met(node, jump) {
             return false;
         }
     }

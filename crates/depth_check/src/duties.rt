@@ -1,18 +1,34 @@
 // The least rule that the duties of a point break.
-ghost use Rattle.std.specs.Prelude.{◌≡◌, ◌≤◌, ◌+◌, ◌↔◌, ◌∷◌, IsTrue, length, All, IfSome};
+ghost use Rattle.std.specs.Prelude.{◌≡◌, ◌≤◌, ◌+◌, ◌↔◌, [], ◌∷◌, IsTrue, length, unwrap_or, All, IfSome};
 ghost use Rattle.value_domain.specs.State.{AreWell};
 ghost use Rattle.cfg_recover.specs.Entries as entries;
-ghost use Rattle.cfg_recover.specs.Duties.{owed, enter};
+ghost use Rattle.std.specs.List.{flat_map};
+ghost use Rattle.value_domain.specs.Values.{IsValue};
+ghost use Rattle.value_domain.specs.State.{AreValues};
+ghost use Rattle.tc_isa.specs.Bounded.{IsShape, IsSize, IsTarget};
+ghost use Rattle.vd_transfer.specs.Effects.{address_of};
+ghost use Rattle.vd_transfer.specs.Changes.{changed};
+ghost use Rattle.cfg_recover.specs.Changes.{StandsFaultless};
+ghost use Rattle.cfg_recover.specs.Entries.{call_key};
+ghost use Rattle.cfg_recover.specs.Own.{targets_of};
+ghost use Rattle.cfg_recover.specs.Duties.{owed, enter, entered_and_back, entries_of, misaligned_at, misaligned_of, interrupts_of, duties_of};
 ghost use Rattle.cfg_recover.specs.Flows as flows;
-ghost use Rattle.cfg_recover.specs.Flows.{told_back, told_entry, told_irqs, told_by};
-ghost use Rattle.depth_check.specs.Finding.{IsWellNode, IsWellFlow, IsWellEnter, Finds, DutiesHold, GoesOn, LeavingHolds};
+ghost use Rattle.cfg_recover.specs.Flows.{told_back, told_irqs};
+ghost use Rattle.depth_check.specs.Finding.{IsWellNode, Finds, DutiesHold, GoesOn, LeavingHolds};
 ghost use Rattle.depth_check.specs.Finding as finding;
 
-use crate::covering::{are_jumps_met, has_exit, has_point};
-use cfg_recover::{Enter, Flow, Leave, after};
+use crate::covering::{has_after, has_changed, has_exit};
+use crate::successors::successors_rule;
+use cfg_recover::{
+    Found, Leave, call_change, handler_change, interrupts, is_aligned, misaligned_change,
+    system_change, targets,
+};
 use depth_cert::{Cert, Key, Node};
+use elf_image::Image;
+use tc_isa::{Shape, Target};
 use tcd_plan::Plan;
-use value_domain::State;
+use value_domain::{Bounds, State, Val};
+use vd_transfer::Change;
 
 /// The lesser of two rules that were found.
 pub(crate) fn least(a: Option<u8>, b: Option<u8>) -> Option<u8>
@@ -50,32 +66,32 @@ fn goes_on(node: &Node, s: &State, entered: &Node, kind: u8, back: Option<u32>) 
         return true;
     };
     match &entered.exit {
-        Some(exit) => has_point(node, at, &after(s, exit, kind)),
+        Some(exit) => has_after(node, at, s, exit, kind),
         None => true,
     }
 }
 
-/// The least rule broken where a node of the key is entered with a state, as `rule` asks, and comes back to `back`.
+/// The least rule broken where a node of the key is entered with a changed state, as `rule` asks, and comes back to `back`.
 fn entry_rule(
     cert: &Cert,
     node: &Node,
     s: &State,
     rule: u8,
     key: &Key,
-    entry: &State,
+    entry: &Change,
     back: Option<u32>,
 ) -> Option<u8>
     requires rule { rule ≤ 14 }
     requires nodes { All IsWellNode cert.now.nodes }
     requires node { IsWellNode node.now }
     requires state { AreWell s.now.regs }
-    requires entry { AreWell entry.now.regs }
-    ensures { Finds (DutiesHold cert.now node.now s.now (owed rule (enter key.now entry.now) ∷ told_back key.now back)) result }
+    requires entry { AreWell (changed s.now entry.now).regs }
+    ensures { Finds (DutiesHold cert.now node.now s.now (owed rule (enter key.now (changed s.now entry.now)) ∷ told_back key.now back)) result }
 {
     let Some(entered) = cert.node(key) else {
         return Some(rule);
     };
-    let into = unless(has_point(entered, key.entry, entry), rule);
+    let into = unless(has_changed(entered, key.entry, s, entry), rule);
     let need = unless(is_need_above(node, s, entered), 14);
     let on = unless(goes_on(node, s, entered, key.kind, back), 4);
     least(least(into, need), on)
@@ -92,41 +108,144 @@ fn entered_key(key: &Key, kind: u8, entry: u32) -> Key
     }
 }
 
-/// The least rule broken by the entries of an instruction.
-fn entries_rule(
+/// The least rule broken by calls of these targets, which come back to `back`.
+fn calls_rule(
     cert: &Cert,
     node: &Node,
     s: &State,
-    rule: u8,
-    entries: &Option<Enter>,
+    entry: &Change,
+    targets: &[u32],
+    back: u32,
 ) -> Option<u8>
-    requires rule { rule ≤ 14 }
     requires nodes { All IsWellNode cert.now.nodes }
     requires node { IsWellNode node.now }
     requires state { AreWell s.now.regs }
-    requires entry { IsWellEnter entries.now }
-    ensures { Finds (DutiesHold cert.now node.now s.now (told_entry rule node.now.key entries.now)) result }
+    requires entry { AreWell (changed s.now entry.now).regs }
+    ensures { Finds (DutiesHold cert.now node.now s.now (flat_map (λ t. entered_and_back 5 (call_key node.now.key t) (changed s.now entry.now) back) targets.now)) result }
 {
-    let Some(e) = entries else {
-        return None;
-    };
     let mut found = None;
-    for t in e.targets.as_slice() {
-        let key = entered_key(&node.key, e.kind, *t);
-        let one = entry_rule(cert, node, s, rule, &key, &e.state, e.resume);
+    for t in targets {
+        let key = entered_key(&node.key, 1, *t);
+        let one = entry_rule(cert, node, s, 5, &key, entry, Some(back));
         found = least(found, one);
     }
     found
 }
 
-/// Rule 5 asks for the entries of calls, rule 12 for that of a system call.
-fn rule_of_entry(entries: &Option<Enter>) -> u8
-    ensures rule { result ≡ flows.rule_of_entry entries.now }
-    ensures small { result ≤ 14 }
+/// The least rule broken by a call.
+fn call_rule(
+    b: &Bounds,
+    plan: &Plan,
+    cert: &Cert,
+    node: &Node,
+    addr: u32,
+    s: &State,
+    to: Target,
+    back: u32,
+) -> Option<u8>
+    requires nodes { All IsWellNode cert.now.nodes }
+    requires node { IsWellNode node.now }
+    requires values { AreValues b.now s.now.regs }
+    requires target { IsTarget to }
+    ensures { Finds (DutiesHold cert.now node.now s.now (flat_map (λ t. entered_and_back 5 (call_key node.now.key t) (entries.call_entry s.now) back) (unwrap_or (targets_of plan.now s.now addr to) []))) result }
 {
-    match entries {
-        Some(e) => { if e.kind == 1 { 5 } else { 12 } }
-        None => 5,
+    let entry = call_change(b, s);
+    let targets = targets(plan, s, addr, to);
+    calls_rule(cert, node, s, &entry, targets.as_slice(), back)
+}
+
+/// The least rule broken by the system call `tin`.
+fn system_rule(
+    b: &Bounds,
+    plan: &Plan,
+    cert: &Cert,
+    node: &Node,
+    s: &State,
+    tin: u8,
+    back: u32,
+) -> Option<u8>
+    requires nodes { All IsWellNode cert.now.nodes }
+    requires node { IsWellNode node.now }
+    requires values { AreValues b.now s.now.regs }
+    ensures { Finds (DutiesHold cert.now node.now s.now (entered_and_back 12 (entries.sys_key plan.now node.now.key) (entries.sys_entry plan.now node.now.key s.now tin) back)) result }
+{
+    let entry = system_change(b, plan, &node.key, s, tin);
+    let key = entered_key(&node.key, 3, plan.btv | 6 * 32);
+    entry_rule(cert, node, s, 12, &key, &entry, Some(back))
+}
+
+/// The least rule broken by the entries of a call or a system call.
+fn entries_rule(
+    b: &Bounds,
+    plan: &Plan,
+    cert: &Cert,
+    node: &Node,
+    addr: u32,
+    s: &State,
+    shape: Shape,
+    size: u32,
+) -> Option<u8>
+    requires nodes { All IsWellNode cert.now.nodes }
+    requires node { IsWellNode node.now }
+    requires values { AreValues b.now s.now.regs }
+    requires shape { IsShape shape }
+    ensures { Finds (DutiesHold cert.now node.now s.now (entries_of plan.now node.now.key addr s.now shape size)) result }
+{
+    let back = addr.wrapping_add(size);
+    match shape {
+        Shape::Call { to } => call_rule(b, plan, cert, node, addr, s, to, back),
+        Shape::Syscall { tin } => system_rule(b, plan, cert, node, s, tin, back),
+        _ => None,
+    }
+}
+
+/// The least rule broken by the entry of the handler of misaligned accesses, where one of these addresses may be so.
+fn misaligned_rule(
+    b: &Bounds,
+    plan: &Plan,
+    cert: &Cert,
+    node: &Node,
+    s: &State,
+    at: &Val,
+    size: u8,
+) -> Option<u8>
+    requires nodes { All IsWellNode cert.now.nodes }
+    requires node { IsWellNode node.now }
+    requires values { AreValues b.now s.now.regs }
+    requires at { IsValue b.now at.now }
+    requires size { IsSize size }
+    ensures { Finds (DutiesHold cert.now node.now s.now (misaligned_at plan.now node.now.key s.now at.now size)) result }
+{
+    if is_aligned(b, at, size) {
+        return None;
+    }
+    let entry = misaligned_change(b, plan, &node.key, s);
+    let key = entered_key(&node.key, 4, plan.btv | 2 * 32);
+    entry_rule(cert, node, s, 10, &key, &entry, None)
+}
+
+/// The same for the access of an instruction.
+fn access_rule(
+    b: &Bounds,
+    plan: &Plan,
+    cert: &Cert,
+    node: &Node,
+    s: &State,
+    shape: Shape,
+    at: &Val,
+) -> Option<u8>
+    requires nodes { All IsWellNode cert.now.nodes }
+    requires node { IsWellNode node.now }
+    requires values { AreValues b.now s.now.regs }
+    requires shape { IsShape shape }
+    requires at { IsValue b.now at.now }
+    requires access { at.now ≡ address_of b.now plan.now shape s.now }
+    ensures { Finds (DutiesHold cert.now node.now s.now (misaligned_of b.now plan.now node.now.key s.now shape)) result }
+{
+    match shape {
+        Shape::Load { size, .. } => misaligned_rule(b, plan, cert, node, s, at, size),
+        Shape::Store { size, .. } => misaligned_rule(b, plan, cert, node, s, at, size),
+        _ => None,
     }
 }
 
@@ -141,20 +260,20 @@ fn irq_key(plan: &Plan, prio: u8) -> Key
     }
 }
 
-/// The least rule broken by the entries of interrupts; `entry` is the state there but for its CCPN.
-fn interrupts_rule(
+/// The least rule broken by the entries of these interrupts; `entry` is the change there but for its CCPN.
+fn irqs_rule(
     cert: &Cert,
     plan: &Plan,
     node: &Node,
     s: &State,
     irqs: &[u8],
-    entry: State,
+    entry: Change,
 ) -> Option<u8>
     requires nodes { All IsWellNode cert.now.nodes }
     requires node { IsWellNode node.now }
     requires state { AreWell s.now.regs }
-    requires entry { AreWell entry.regs }
-    ensures { Finds (DutiesHold cert.now node.now s.now (told_irqs plan.now entry irqs.now)) result }
+    requires entry { AreWell (changed s.now entry).regs }
+    ensures { Finds (DutiesHold cert.now node.now s.now (told_irqs plan.now (changed s.now entry) irqs.now)) result }
 {
     let mut entry = entry;
     let mut found = None;
@@ -164,6 +283,33 @@ fn interrupts_rule(
         found = least(found, one);
     }
     found
+}
+
+/// The least rule broken by the entries of the interrupts that may be taken.
+fn interrupts_rule(b: &Bounds, plan: &Plan, cert: &Cert, node: &Node, s: &State) -> Option<u8>
+    requires nodes { All IsWellNode cert.now.nodes }
+    requires node { IsWellNode node.now }
+    requires values { AreValues b.now s.now.regs }
+    ensures { Finds (DutiesHold cert.now node.now s.now (interrupts_of plan.now node.now.key s.now)) result }
+{
+    let irqs = interrupts(plan, s);
+    if irqs.is_empty() {
+        return None;
+    }
+    let entry = handler_change(b, plan, &node.key, s, 0);
+    irqs_rule(cert, plan, node, s, irqs.as_slice(), entry)
+}
+
+/// How an instruction of this shape leaves its frame.
+#[tactic(auto, unfolding(cfg_recover::specs::Flows::leave_of))]
+fn leave_by(shape: Shape) -> Leave
+    ensures { result ≡ flows.leave_of shape }
+{
+    match shape {
+        Shape::Ret => Leave::Ret,
+        Shape::Rfe => Leave::Rfe,
+        _ => Leave::Stays,
+    }
 }
 
 /// The least rule broken where the node is left.
@@ -185,32 +331,27 @@ fn leaving_rule(node: &Node, s: &State, leave: Leave) -> Option<u8>
     }
 }
 
-/// The least rule that the duties of a point of the node break, as a flow tells them.
+/// The least rule that the duties of a point of the node break, where no rule's own part fails.
 pub(crate) fn duties_rule(
-    cert: &Cert,
+    b: &Bounds,
+    image: &Image,
     plan: &Plan,
+    cert: &Cert,
     node: &Node,
+    addr: u32,
     s: &State,
-    flow: Flow,
+    found: &Found,
 ) -> Option<u8>
     requires nodes { All IsWellNode cert.now.nodes }
     requires node { IsWellNode node.now }
-    requires state { AreWell s.now.regs }
-    requires flow { IsWellFlow flow }
-    ensures { Finds (DutiesHold cert.now node.now s.now (told_by plan.now node.now.key s.now flow)) result }
+    requires values { AreValues b.now s.now.regs }
+    requires found { StandsFaultless b.now image.now plan.now node.now.key addr s.now found.now }
+    ensures { Finds (DutiesHold cert.now node.now s.now (duties_of b.now image.now plan.now node.now.key addr s.now found.now.shape found.now.size)) result }
 {
-    let Flow {
-        jumps,
-        enter,
-        aln,
-        irqs,
-        irq_entry,
-        leave,
-    } = flow;
-    let jumps = unless(are_jumps_met(node, &jumps), 4);
-    let entered = entries_rule(cert, node, s, rule_of_entry(&enter), &enter);
-    let misaligned = entries_rule(cert, node, s, 10, &aln);
-    let irqs = interrupts_rule(cert, plan, node, s, irqs.as_slice(), irq_entry);
-    let leave = leaving_rule(node, s, leave);
+    let jumps = successors_rule(b, image, plan, node, addr, s, found);
+    let entered = entries_rule(b, plan, cert, node, addr, s, found.shape, found.size);
+    let misaligned = access_rule(b, plan, cert, node, s, found.shape, &found.at);
+    let irqs = interrupts_rule(b, plan, cert, node, s);
+    let leave = leaving_rule(node, s, leave_by(found.shape));
     least(least(least(least(jumps, entered), misaligned), irqs), leave)
 }

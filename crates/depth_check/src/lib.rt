@@ -9,6 +9,7 @@ mod judging;
 mod laws;
 mod nodes;
 mod rules;
+mod successors;
 mod verdicts;
 
 pub use first_faults::first_fault_laws;

@@ -3,14 +3,13 @@ ghost use Rattle.std.specs.Prelude.{◌≡◌, ◌≤◌, ◌↔◌, IsTrue, All
 ghost use Rattle.value_domain.specs.State.{AreValues};
 ghost use Rattle.cfg_recover.specs.Accepting.{limits_in, RuleHolds};
 ghost use Rattle.cfg_recover.specs.Entries as entries;
-ghost use Rattle.cfg_recover.specs.Flows.{Tells};
-ghost use Rattle.cfg_recover.specs.FlowValues.{HasValues};
+ghost use Rattle.cfg_recover.specs.Changes.{StandsFaultless};
 ghost use Rattle.cfg_recover.specs.Own.{IsOwnFault};
 ghost use Rattle.depth_check.specs.Finding.{IsWellNode, Finds, HasOwnNeed};
 
 use crate::covering::are_values;
 use crate::duties::{duties_rule, least, unless};
-use cfg_recover::{Flow, flow};
+use cfg_recover::{Found, faultless};
 use depth_cert::{Cert, Key, Node, Point};
 use elf_image::Image;
 use tcd_plan::Plan;
@@ -41,7 +40,7 @@ fn has_own_need(image: &Image, plan: &Plan, node: &Node, point: &Point) -> bool
     true
 }
 
-/// The least rule that fails at a point whose values are the plan's, by its flow.
+/// The least rule that fails at a point whose values are the plan's, by what stands there.
 fn found_rule(
     b: &Bounds,
     image: &Image,
@@ -49,21 +48,20 @@ fn found_rule(
     cert: &Cert,
     node: &Node,
     point: &Point,
-    found: Result<Flow, u8>,
+    found: Result<Found, u8>,
 ) -> Option<u8>
     requires limits { b.now ≡ limits_in plan.now cert.now }
     requires nodes { All IsWellNode cert.now.nodes }
     requires node { IsWellNode node.now }
     requires values { AreValues b.now point.now.state.regs }
     requires fault { IfErr found (IsOwnFault b.now image.now plan.now node.now.key point.now.addr point.now.state) }
-    requires duties { IfOk found (Tells b.now image.now plan.now node.now.key point.now.addr point.now.state) }
-    requires states { IfOk found (HasValues b.now) }
+    requires duties { IfOk found (StandsFaultless b.now image.now plan.now node.now.key point.now.addr point.now.state) }
     ensures { Finds (RuleHolds image.now plan.now cert.now node.now point.now) result }
 {
     match found {
         Err(rule) => Some(rule),
-        Ok(flow) => {
-            let duties = duties_rule(cert, plan, node, &point.state, flow);
+        Ok(found) => {
+            let duties = duties_rule(b, image, plan, cert, node, point.addr, &point.state, &found);
             let need = unless(has_own_need(image, plan, node, point), 14);
             least(duties, need)
         }
@@ -87,6 +85,6 @@ pub(crate) fn point_rule(
     if !are_values(b, &point.state.regs) {
         return Some(2);
     }
-    let found = flow(b, image, plan, &node.key, point.addr, &point.state);
+    let found = faultless(b, image, plan, &node.key, point.addr, &point.state);
     found_rule(b, image, plan, cert, node, point, found)
 }

@@ -1,17 +1,7 @@
-use Rattle.std.proofs.Common.{ap, ◌∙◌, get_or}
-use Rattle.depth_cert.specs.Nodes.{NodeData}
-use Rattle.cfg_recover.specs.Flows.{entered_key}
-use Rattle.depth_check.proofs.DutyLaws.{entries_more, entries_done}
 use Rattle.depth_check.proofs.duties.entries_rule.Goals as goal
 
-pub loop-t-preserved : goal.loop-t-preserved
-loop-t-preserved c =
-    entries_more c.args.cert.now c.args.node.now c.args.s.now c.args.rule (c.args.node.now).key c.entered_key-key.result c.in-Some.e c.as_slice-t-items.result.now c.loop-t.t-index
-    c.loop-t.found c.entry_rule-one.result c.least-found.result c.loop-t-test.true
-    (c.entered_key-key.ensures ∙ ap (λ (n : NodeData). entered_key n.key c.in-Some.e.kind (get_or c.as_slice-t-items.result.now c.loop-t.t-index 0)) c.node.view_is)
-    c.least-found.ensures c.loop-t.invariant c.entry_rule-one.ensures
+pub returns-in-Call : goal.returns-in-Call
+returns-in-Call c = rw c.in-Call.is c.call_rule.ensures
 
-pub returns : goal.returns
-returns c =
-    entries_done c.args.cert.now c.args.node.now c.args.s.now c.args.rule (c.args.node.now).key c.args.entries.now c.in-Some.e c.as_slice-t-items.result.now c.loop-t.t-index c.loop-t.found
-    c.in-Some.is c.as_slice-t-items.ensures.value c.loop-t-test.false c.loop-t.invariant
+pub returns-in-Syscall : goal.returns-in-Syscall
+returns-in-Syscall c = rw c.in-Syscall.is c.system_rule.ensures

@@ -1,20 +1,27 @@
-use Rattle.std.proofs.Common.{sym, subst}
-use Rattle.value_domain.specs.declared.states.State.{State}
-use Rattle.value_domain.specs.State.{AreWell}
-use Rattle.depth_check.proofs.DutyLaws.{interrupts_more, interrupts_done}
+use Rattle.std.proofs.Common.{List, ℕ, None, subst, sym, ap, ◌∙◌}
+use Rattle.std.proofs.lemmas.Bool.{eqb-true}
+use Rattle.depth_cert.specs.Nodes.{NodeData}
+use Rattle.cfg_recover.specs.Entries.{irq_entry}
+use Rattle.cfg_recover.specs.Duties.{Owed}
+use Rattle.cfg_recover.proofs.FlowDuties.{told_irqs-is}
+use Rattle.depth_check.specs.Finding.{Finds, DutiesHold}
+use Rattle.depth_check.proofs.DutyLaws.{nothing_found, interrupts_none}
+use Rattle.depth_check.proofs.RuleLaws.{values_well}
 use Rattle.depth_check.proofs.duties.interrupts_rule.Goals as goal
 
-pub entry_rule-one-requires-clause-entry : goal.entry_rule-one-requires-clause-entry
-entry_rule-one-requires-clause-entry c =
-    subst (λ (t : State). AreWell t.regs) (sym c.loop-p.invariant.same) c.requires.entry
+pub irqs_rule-requires-clause-state : goal.irqs_rule-requires-clause-state
+irqs_rule-requires-clause-state c = values_well c.args.b.now _ c.requires.values
 
-pub loop-p-preserved : goal.loop-p-preserved
-loop-p-preserved c = record {
-  found =
-      interrupts_more c.args.cert.now c.args.node.now c.args.s.now c.args.plan.now c.args.entry c.loop-p.entry c.irq_key.result c.args.irqs.now c.loop-p.p-index c.loop-p.found c.entry_rule-one.result c.least-found.result
-      c.loop-p-test.true c.irq_key.ensures c.loop-p.invariant.same c.least-found.ensures c.loop-p.invariant.found c.entry_rule-one.ensures;
-  same = c.loop-p.invariant.same;
-}
+pub irqs_rule-requires-clause-entry : goal.irqs_rule-requires-clause-entry
+irqs_rule-requires-clause-entry c = values_well c.args.b.now _ c.handler_change-entry.ensures.values
+
+pub returns-then-is_empty : goal.returns-then-is_empty
+returns-then-is_empty c =
+    subst (λ (l : List Owed). Finds (DutiesHold c.args.cert.now c.args.node.now c.args.s.now l) None) (interrupts_none c.args.plan.now (c.args.node.now).key c.args.s.now c.interrupts-irqs.result.items c.interrupts-irqs.ensures (eqb-true _ _ (sym c.is_empty.ensures ∙ c.if-is_empty.true)))
+    (nothing_found c.args.cert.now c.args.node.now c.args.s.now)
 
 pub returns : goal.returns
-returns c = interrupts_done c.args.cert.now c.args.node.now c.args.s.now c.args.plan.now c.args.entry c.args.irqs.now c.loop-p.p-index c.loop-p.found c.loop-p-test.false c.loop-p.invariant.found
+returns c =
+    subst (λ (l : List Owed). Finds (DutiesHold c.args.cert.now c.args.node.now c.args.s.now l) c.irqs_rule.result)
+    (told_irqs-is c.args.plan.now (c.args.node.now).key c.args.s.now _ _ (c.handler_change-entry.ensures.entry ∙ ap (λ (n : NodeData). irq_entry c.args.plan.now n.key c.args.s.now 0) c.node.view_is) (c.as_slice.ensures.value ∙ c.interrupts-irqs.ensures))
+    c.irqs_rule.ensures

@@ -1,0 +1,131 @@
+// The least rule that the jumps of a point in its frame break: rule 4, or none.
+ghost use Rattle.std.specs.Prelude.{◌≡◌, [], ◌∷◌, ◌++◌, unwrap_or, false, true};
+ghost use Rattle.value_domain.specs.State.{AreValues, AreWell};
+ghost use Rattle.tc_isa.specs.Bounded.{IsShape, IsTarget};
+ghost use Rattle.vd_transfer.specs.Branches.{refine_of};
+ghost use Rattle.depth_cert.specs.Certs.{CertData};
+ghost use Rattle.cfg_recover.specs.Changes.{StandsFaultless};
+ghost use Rattle.cfg_recover.specs.Own.{targets_of};
+ghost use Rattle.cfg_recover.specs.Duties.{owed, jump, jumps_to, jump_on, next_of, successors_of};
+ghost use Rattle.depth_check.specs.Finding.{IsWellNode, Finds, DutiesHold};
+
+use crate::covering::{has_changed, has_point, has_points};
+use crate::duties::{least, unless};
+use cfg_recover::{Found, loaded_from, targets};
+use depth_cert::Node;
+use elf_image::Image;
+use tc_isa::{Shape, Target};
+use tcd_plan::Plan;
+use value_domain::{Bounds, State};
+use vd_transfer::{change_of, change_on};
+
+/// A jump on a side of a branch, if that side is possible.
+fn side_rule(
+    b: &Bounds,
+    plan: &Plan,
+    node: &Node,
+    s: &State,
+    shape: Shape,
+    taken: bool,
+    to: u32,
+) -> Option<u8>
+    requires node { IsWellNode node.now }
+    requires values { AreValues b.now s.now.regs }
+    requires shape { IsShape shape }
+    ensures { (cert : CertData) → Finds (DutiesHold cert node.now s.now (jump_on to (refine_of b.now plan.now shape s.now taken))) result }
+{
+    match change_on(b, plan, shape, s, taken) {
+        Some(c) => unless(has_changed(node, to, s, &c), 4),
+        None => None,
+    }
+}
+
+/// Both sides of a branch.
+fn sides_rule(
+    b: &Bounds,
+    plan: &Plan,
+    node: &Node,
+    s: &State,
+    shape: Shape,
+    next: u32,
+    to: u32,
+) -> Option<u8>
+    requires node { IsWellNode node.now }
+    requires values { AreValues b.now s.now.regs }
+    requires shape { IsShape shape }
+    ensures { (cert : CertData) → Finds (DutiesHold cert node.now s.now (jump_on next (refine_of b.now plan.now shape s.now false) ++ jump_on to (refine_of b.now plan.now shape s.now true))) result }
+{
+    let on = side_rule(b, plan, node, s, shape, false, next);
+    let off = side_rule(b, plan, node, s, shape, true, to);
+    least(on, off)
+}
+
+/// A jump with the state as it is.
+fn jump_rule(plan: &Plan, node: &Node, addr: u32, s: &State, to: Target) -> Option<u8>
+    requires node { IsWellNode node.now }
+    requires state { AreWell s.now.regs }
+    requires target { IsTarget to }
+    ensures { (cert : CertData) → Finds (DutiesHold cert node.now s.now (jumps_to s.now (unwrap_or (targets_of plan.now s.now addr to) []))) result }
+{
+    let targets = targets(plan, s, addr, to);
+    unless(has_points(node, targets.as_slice(), s), 4)
+}
+
+/// The step over an instruction that changes nothing.
+fn pass_rule(node: &Node, s: &State, next: u32) -> Option<u8>
+    requires node { IsWellNode node.now }
+    requires state { AreWell s.now.regs }
+    ensures { (cert : CertData) → Finds (DutiesHold cert node.now s.now (owed 4 (jump next s.now) ∷ [])) result }
+{
+    unless(has_point(node, next, s), 4)
+}
+
+/// The step to the next instruction.
+fn step_rule(
+    b: &Bounds,
+    image: &Image,
+    plan: &Plan,
+    node: &Node,
+    addr: u32,
+    s: &State,
+    found: &Found,
+) -> Option<u8>
+    requires node { IsWellNode node.now }
+    requires values { AreValues b.now s.now.regs }
+    requires found { StandsFaultless b.now image.now plan.now node.now.key addr s.now found.now }
+    ensures { (cert : CertData) → Finds (DutiesHold cert node.now s.now (next_of b.now image.now plan.now addr s.now found.now.shape found.now.size)) result }
+{
+    let value = loaded_from(b, image, plan, found.shape, &found.at);
+    let c = change_of(b, plan, found.shape, s, value);
+    unless(has_changed(node, addr.wrapping_add(found.size), s, &c), 4)
+}
+
+/// The least rule broken by the successors in the same frame, without those after a call or a system call.
+#[tactic(auto, unfolding(vd_transfer::specs::Effects::transfer_of))]
+pub(crate) fn successors_rule(
+    b: &Bounds,
+    image: &Image,
+    plan: &Plan,
+    node: &Node,
+    addr: u32,
+    s: &State,
+    found: &Found,
+) -> Option<u8>
+    requires node { IsWellNode node.now }
+    requires values { AreValues b.now s.now.regs }
+    requires found { StandsFaultless b.now image.now plan.now node.now.key addr s.now found.now }
+    ensures { (cert : CertData) → Finds (DutiesHold cert node.now s.now (successors_of b.now image.now plan.now addr s.now found.now.shape found.now.size)) result }
+{
+    let next = addr.wrapping_add(found.size);
+    let shape = found.shape;
+    match shape {
+        Shape::Branch { by, .. } => {
+            sides_rule(b, plan, node, s, shape, next, addr.wrapping_add(by))
+        }
+        Shape::Jump { to } => jump_rule(plan, node, addr, s, to),
+        Shape::Call { .. } | Shape::Ret | Shape::Rfe | Shape::Syscall { .. } | Shape::Mtcr { .. } =>
+            None,
+        Shape::Nothing => pass_rule(node, s, next),
+        _ => step_rule(b, image, plan, node, addr, s, found),
+    }
+}
