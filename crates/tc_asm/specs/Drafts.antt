@@ -17,6 +17,7 @@ pub record UseData : Type 0 where
   pub offset : ℕ
   pub reference : ReferenceData
 
+-- a section so far: its name, its bytes, and where values of symbols go
 pub record PartData : Type 0 where
   pub name : List ℕ
   pub bytes : List ℕ
@@ -31,9 +32,11 @@ pub record DraftData : Type 0 where
   pub total : ℕ
   pub count : ℕ
 
+-- before the first line: no section, no symbol
 abbrev pub start : DraftData
 start = record { section = 64; parts = []; symbols = []; total = 0; count = 0 }
 
+-- the section with this name, these bytes, and these uses of symbols
 abbrev pub part : List ℕ → List ℕ → List UseData → PartData
 part name bs uses = record { name = name; bytes = bs; uses = uses }
 
@@ -41,6 +44,7 @@ part name bs uses = record { name = name; bytes = bs; uses = uses }
 unfoldable pub place_of : DraftData → ℕ
 place_of d = option_map_or (λ p. length p.bytes) (slice_get d.parts d.section) 0
 
+-- some section goes on
 abbrev pub has_section : DraftData → Bool
 has_section d = nat_lt d.section (length d.parts)
 
@@ -49,12 +53,15 @@ abbrev pub has_room : DraftData → ℕ → Bool
 has_room d n = nat_le (d.total + n) (2 ^ 24)
 
 -- ---- labels and sections
+-- where the next byte will stand
 abbrev pub here : DraftData → Place
 here d = record { section = d.section; offset = place_of d }
 
+-- a label that stands here; none where its name is bad or there is no section
 unfoldable pub with_label : DraftData → List ℕ → DraftData
 with_label d name = if is_name name && has_section d then record d { symbols = labelled d.symbols name (here d) } else d
 
+-- the number of the section of this name, and of the next section where none has it
 abbrev pub number_of_part : List PartData → List ℕ → ℕ
 number_of_part parts name = unwrap_or (position (λ p. bytes_eq name p.name) parts) (length parts)
 
@@ -66,10 +73,12 @@ entered d name =
     else (if nat_lt (length d.parts) 64 then record d { section = length d.parts; parts = d.parts ++ part name [] [] ∷ [] }
     else d))
 
+-- a name made global, if it is a name
 unfoldable pub with_global : DraftData → List ℕ → DraftData
 with_global d name = if is_name name then record d { symbols = made_global d.symbols name } else d
 
 -- ---- bytes
+-- bytes at the end of the section of this number
 unfoldable pub extended : List PartData → ℕ → List ℕ → List PartData
 extended parts i bs = option_map_or (λ p. slice_set parts i (record p { bytes = p.bytes ++ bs })) (slice_get parts i) parts
 
@@ -78,9 +87,11 @@ unfoldable pub with_bytes : DraftData → List ℕ → DraftData
 with_bytes d bs =
     if has_section d && has_room d (length bs) then record d { parts = extended d.parts d.section bs; total = d.total + length bs } else d
 
+-- one more use of a symbol in the section of this number
 unfoldable pub used : List PartData → ℕ → UseData → List PartData
 used parts i u = option_map_or (λ p. slice_set parts i (record p { uses = p.uses ++ u ∷ [] })) (slice_get parts i) parts
 
+-- the kinds of relocations, from 1 to 7
 abbrev pub is_reloc : ℕ → Bool
 is_reloc kind = nat_le 1 kind && nat_le kind 7
 
@@ -96,6 +107,7 @@ unfoldable pub with_reference : DraftData → ℕ → Option ReferenceData → D
 with_reference d size None = d
 with_reference d size (Some r) = if is_name r.name then with_use (record d { symbols = seen d.symbols r.name }) size r else d
 
+-- bytes at the end of the current section, with the symbol that goes to them, if there is one
 abbrev pub with_content : DraftData → List ℕ → Option ReferenceData → DraftData
 with_content d bs r = with_bytes (with_reference d (length bs) r) bs
 
@@ -111,6 +123,7 @@ distance labels d r =
     else None)
     (place_in labels r.name) None
 
+-- fields that break no rule and wait for no symbol
 abbrev pub found : Fields → FoundData
 found f = record { fields = f; rule = 15; reference = None }
 
@@ -118,6 +131,7 @@ found f = record { fields = f; rule = 15; reference = None }
 unfoldable pub jumped : List SymbolData → DraftData → RowData → Fields → ReferenceData → FoundData
 jumped labels d row f r = option_map_or (λ n. displaced row n.0 n.1 (found f)) (distance labels d r) (broken 10 (found f))
 
+-- an instruction's fields, where a symbol that takes no relocation is resolved at once
 abbrev pub targeted : List SymbolData → DraftData → RowData → Fields → Option ReferenceData → FoundData
 targeted labels d row f None = found f
 targeted labels d row f (Some r) = if r.kind == 0 then jumped labels d row f r else found f
@@ -134,13 +148,16 @@ spelled_code row f = if is_fit row f then spelling row f else []
 abbrev pub resolved : List SymbolData → DraftData → ℕ → Fields → Option ReferenceData → FoundData
 resolved labels d k f r = option_map_or (λ row. targeted labels d row f r) (slice_get listed k) (found f)
 
+-- the spelling of an instruction of the row with this number
 abbrev pub bytes_of : ℕ → Fields → List ℕ
 bytes_of k f = option_map_or (λ row. spelled_code row f) (slice_get listed k) []
 
+-- the bytes of an instruction here: its spelling, once its target is resolved
 unfoldable pub code_bytes : List SymbolData → DraftData → ℕ → Fields → Option ReferenceData → List ℕ
 code_bytes labels d k f r = bytes_of k (resolved labels d k f r).fields
 
 -- ---- one thing more, where the whole source has these symbols
+-- a draft with one thing more
 unfoldable pub stepped : List SymbolData → DraftData → ItemData → DraftData
 stepped labels d (label name) = with_label d name
 stepped labels d (section name) = entered d name

@@ -15,6 +15,7 @@ pub data ItemData : Type 0 where
   bytes : List ℕ → Option ReferenceData → ItemData
   zeros : ℕ → ItemData
 
+-- a thing of the code without where its bytes lie
 abbrev pub item_of : Item → ItemData
 item_of (item.Label name) = label name.now
 item_of (item.Section name) = section name.now

@@ -8,10 +8,12 @@ use Rattle.tc_asm.specs.declared.entries.Place.{Place}
 use Rattle.tc_asm.specs.Symbols.{SymbolData}
 use Rattle.tc_asm.specs.Drafts.{UseData, PartData, DraftData, is_reloc}
 
+-- each of these is so
 abbrev pub Each : {A : Type 0} → (A → Type 0) → List A → Type 0
 Each P [] = Unit {0}
 Each P (x ∷ xs) = P x × Each P xs
 
+-- one of these names is this
 abbrev pub is_among : List (List ℕ) → List ℕ → Bool
 is_among names name = list_any (λ n. bytes_eq name n) names
 
@@ -23,9 +25,11 @@ IsNew before name = IsName (is_among before) name
 abbrev pub AreNames : List (List ℕ) → Type 0
 AreNames names = InTurn IsNew [] names
 
+-- the names of sections
 abbrev pub part_names : List PartData → List (List ℕ)
 part_names parts = map (λ (p : PartData). p.name) parts
 
+-- the names of symbols
 abbrev pub symbol_names : List SymbolData → List (List ℕ)
 symbol_names ss = map (λ (s : SymbolData). s.name) ss
 
@@ -40,6 +44,7 @@ pub record IsPlace (parts : List PartData) (p : Place) : Type 0 where
   pub section : p.section < length parts
   pub offset : p.offset ≤ size_at parts p.section
 
+-- a symbol has no label, or one that stands in a section
 abbrev pub IsPlaced : List PartData → Option Place → Type 0
 IsPlaced parts None = Unit {0}
 IsPlaced parts (Some p) = IsPlace parts p
@@ -53,18 +58,22 @@ abbrev pub Spaced : ℕ → List UseData → ℕ → Type 0
 Spaced low [] size = low ≤ size
 Spaced low (u ∷ us) size = (low ≤ u.offset) × Spaced (u.offset + 4) us size
 
+-- a use of a known symbol, by a relocation
 pub record IsUse (names : List (List ℕ)) (u : UseData) : Type 0 where
   pub kind : is_reloc u.reference.kind ≡ true
   pub known : is_among names u.reference.name ≡ true
 
+-- a section that is no longer than all together, with uses of known symbols that lie apart in its bytes
 pub record IsPart (names : List (List ℕ)) (total : ℕ) (p : PartData) : Type 0 where
   pub small : length p.bytes ≤ total
   pub spaced : Spaced 0 p.uses (length p.bytes)
   pub uses : Each (IsUse names) p.uses
 
+-- how many uses of symbols the sections have
 abbrev pub count_of : List PartData → ℕ
 count_of parts = sum_by (λ (p : PartData). length p.uses) parts
 
+-- what lines without a broken rule put together: names that differ, true counts, all within the limits of an object
 pub record IsDraft (d : DraftData) : Type 0 where
   pub few_parts : length d.parts ≤ 64
   pub few_symbols : length d.symbols < 2 ^ 16

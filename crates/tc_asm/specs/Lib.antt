@@ -1,3 +1,4 @@
+-- Sources: what a line is by itself, what lines put together, the rules that they break, and the object.
 pub mod Items
 pub mod Values
 pub mod Lines

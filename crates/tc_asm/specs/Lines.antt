@@ -22,9 +22,11 @@ pub record LineData : Type 0 where
   pub rule : ℕ
   pub items : List ItemData
 
+-- a line that breaks this rule by itself and adds these things
 abbrev pub line_data : ℕ → List ItemData → LineData
 line_data rule items = record { rule = rule; items = items }
 
+-- a line of the code without where its bytes lie
 abbrev pub line_of : Line → LineData
 line_of l = line_data l.rule (map item_of l.items.items)
 
@@ -33,14 +35,17 @@ line_of l = line_data l.rule (map item_of l.items.items)
 unfoldable pub is_word_operand : OperandData → Bool
 is_word_operand o = if o.is_memory then false else shape_index o.value.shape == 2
 
+-- the name that is the one operand, if it is so
 unfoldable pub word_of : List OperandData → Option (List ℕ)
 word_of [] = None
 word_of (o ∷ []) = if is_word_operand o then Some o.value.name else None
 word_of (o ∷ p ∷ os) = None
 
+-- `.section NAME` or `.global NAME`; else rule 3
 unfoldable pub named_line : (List ℕ → ItemData) → List OperandData → LineData
 named_line make os = option_map_or (λ name. line_data 15 (make name ∷ [])) (word_of os) (line_data 3 [])
 
+-- `.space N`; without its one operand rule 3
 unfoldable pub space_line : List OperandData → LineData
 space_line [] = line_data 3 (zeros 0 ∷ [])
 space_line (o ∷ []) = line_data (space_rule o) (space_item o ∷ [])
@@ -50,6 +55,7 @@ space_line (o ∷ p ∷ os) = line_data 3 (zeros 0 ∷ [])
 unfoldable pub values_rule : ℕ → List OperandData → ℕ
 values_rule width os = fold (λ rule o. min rule (value_rule width o)) (if length os == 0 then 3 else 15) os
 
+-- `.byte`, `.half` or `.word` with values of so many bytes
 unfoldable pub values_line : ℕ → List OperandData → LineData
 values_line width os = line_data (values_rule width os) (map (value_item width) os)
 
@@ -57,6 +63,7 @@ values_line width os = line_data (values_rule width os) (map (value_item width) 
 unfoldable pub size_of_name : List ℕ → ℕ
 size_of_name name = option_map_or (λ r. if is_long r then 4 else 2) (find (λ r. bytes_eq r.name name) listed) 0
 
+-- an instruction; where it breaks a rule, as many zeros as instructions of its name have bytes
 abbrev pub code_line : List ℕ → Result (ℕ × FoundData) ℕ → LineData
 code_line name (Ok found) = line_data 15 (code found.0 found.1.fields found.1.reference ∷ [])
 code_line name (Err rule) = line_data rule (zeros (size_of_name name) ∷ [])
@@ -94,6 +101,7 @@ text_in line from to = if nat_le from to && nat_le to (length line) then slice_r
 abbrev pub piece_in : List ℕ → Token → PieceData
 piece_in line t = record { kind = t.kind; text = text_in line t.from t.to }
 
+-- a line that is cut into these tokens; rule 1 where it can't be cut
 abbrev pub cut_line : List ℕ → Result (List Token) ℕ → LineData
 cut_line line (Ok ts) = pieces_line (map (piece_in line) ts)
 cut_line line (Err at) = line_data 1 []

@@ -9,6 +9,7 @@ use Rattle.tc_asm.specs.declared.entries.Place.{Place}
 use Rattle.tc_asm.specs.Symbols.{SymbolData}
 use Rattle.tc_asm.specs.Drafts.{UseData, PartData, DraftData}
 
+-- a section of the source as one of the object
 abbrev pub section_of : PartData → SectionData
 section_of p = record { name = p.name; bytes = p.bytes }
 
@@ -17,6 +18,7 @@ abbrev pub symbol_at : List ℕ → Bool → Option Place → object.SymbolData
 symbol_at name is_global None = record { name = name; kind = 0; section = 0; offset = 0 }
 symbol_at name is_global (Some p) = record { name = name; kind = if is_global then 2 else 1; section = p.section; offset = p.offset }
 
+-- a symbol of the source as one of the object
 abbrev pub symbol_of : SymbolData → object.SymbolData
 symbol_of s = symbol_at s.name s.entry.is_global s.entry.place
 
@@ -28,6 +30,7 @@ number_of ss name = unwrap_or (position (λ s. bytes_eq name s.name) ss) 0
 abbrev pub addend_of : ReferenceData → ℕ
 addend_of r = if r.minus then (2 ^ 32 - r.size % 2 ^ 32) % 2 ^ 32 else r.size % 2 ^ 32
 
+-- the relocation for a use of a symbol in the section of this number
 abbrev pub reloc_of : List SymbolData → ℕ → UseData → Reloc
 reloc_of ss section u = record { section = section; offset = u.offset; kind = u.reference.kind; symbol = number_of ss u.reference.name; addend = addend_of u.reference }
 
@@ -36,5 +39,6 @@ abbrev pub relocs_from : List SymbolData → ℕ → List PartData → List Relo
 relocs_from ss section [] = []
 relocs_from ss section (p ∷ ps) = map (reloc_of ss section) p.uses ++ relocs_from ss (section + 1) ps
 
+-- the object: sections and symbols in the order of the source, relocations in that of their places
 abbrev pub object_of : DraftData → ObjectData
 object_of d = record { sections = map section_of d.parts; symbols = map symbol_of d.symbols; relocs = relocs_from d.symbols 0 d.parts }

@@ -22,12 +22,15 @@ name_rule name = if is_name name then 15 else 9
 abbrev pub section_room : DraftData → List ℕ → ℕ
 section_room d name = if nat_lt (number_of_part d.parts name) (length d.parts) || nat_lt (length d.parts) 64 then 15 else 13
 
+-- 13: a 65,536th symbol
 abbrev pub symbol_room : DraftData → List ℕ → ℕ
 symbol_room d name = if is_some (entry_in d.symbols name) || nat_lt (length d.symbols) 65535 then 15 else 13
 
+-- 13: a 65,536th relocation
 abbrev pub reloc_room : DraftData → ReferenceData → ℕ
 reloc_room d r = if is_reloc r.kind && not (nat_lt d.count 65535) then 13 else 15
 
+-- 13: more than 16,777,216 bytes
 abbrev pub bytes_room : DraftData → ℕ → ℕ
 bytes_room d n = if has_room d n then 15 else 13
 
@@ -35,10 +38,12 @@ bytes_room d n = if has_room d n then 15 else 13
 abbrev pub defined_rule : List SymbolData → List ℕ → ℕ
 defined_rule labels name = if is_some (place_in labels name) then 15 else 14
 
+-- 13: no room for a symbol or its relocation
 abbrev pub reference_rule : DraftData → Option ReferenceData → ℕ
 reference_rule d None = 15
 reference_rule d (Some r) = min (symbol_room d r.name) (reloc_room d r)
 
+-- the least rule that so many bytes break here, with the symbol that goes to them
 abbrev pub content_rule : DraftData → ℕ → Option ReferenceData → ℕ
 content_rule d size r = min (section_rule d) (min (bytes_room d size) (reference_rule d r))
 

@@ -14,6 +14,7 @@ pub record StatementData : Type 0 where
   pub bytes : List ℕ
   pub reference : Option ReferenceData
 
+-- the statement with these bytes and this symbol, in the section of this number
 abbrev pub statement : ℕ → List ℕ → Option ReferenceData → StatementData
 statement s bs r = record { section = s; bytes = bs; reference = r }
 
@@ -31,6 +32,7 @@ abbrev pub standing : DraftData → Option StatementData → List StatementData
 standing d None = []
 standing d (Some t) = if has_section d && has_room d (length t.bytes) then t ∷ [] else []
 
+-- the statements that these things are behind a draft, in order
 abbrev pub statements_from : List SymbolData → DraftData → List ItemData → List StatementData
 statements_from labels d [] = []
 statements_from labels d (i ∷ is) = standing d (content_of labels d i) ++ statements_from labels (stepped labels d i) is
@@ -39,6 +41,7 @@ statements_from labels d (i ∷ is) = standing d (content_of labels d i) ++ stat
 abbrev pub items_in : List LineData → List ItemData
 items_in lines = flat_map (λ (l : LineData). l.items) lines
 
+-- the statements of a source, in order, where it has these symbols
 abbrev pub statements : List SymbolData → List LineData → List StatementData
 statements labels lines = statements_from labels start (items_in lines)
 

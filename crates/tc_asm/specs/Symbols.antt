@@ -9,6 +9,7 @@ pub record SymbolData : Type 0 where
   pub name : List ℕ
   pub entry : Entry
 
+-- a name with what is known of it
 abbrev pub symbol : List ℕ → Entry → SymbolData
 symbol name e = record { name = name; entry = e }
 
@@ -20,6 +21,7 @@ unseen = record { place = None; is_global = false }
 abbrev pub entry_in : List SymbolData → List ℕ → Option Entry
 entry_in ss name = option_map (λ (s : SymbolData). s.entry) (find (λ s. bytes_eq name s.name) ss)
 
+-- what is known of a name; nothing of one that wasn't seen
 abbrev pub entry_of : List SymbolData → List ℕ → Entry
 entry_of ss name = unwrap_or (entry_in ss name) unseen
 
@@ -32,6 +34,7 @@ put_entry (s ∷ ss) name e = if bytes_eq name s.name then symbol s.name e ∷ s
 abbrev pub place_in : List SymbolData → List ℕ → Option Place
 place_in ss name = (entry_of ss name).place
 
+-- the symbols once a name is used
 unfoldable pub seen : List SymbolData → List ℕ → List SymbolData
 seen ss name = put_entry ss name (entry_of ss name)
 
@@ -39,5 +42,6 @@ seen ss name = put_entry ss name (entry_of ss name)
 unfoldable pub labelled : List SymbolData → List ℕ → Place → List SymbolData
 labelled ss name place = put_entry ss name (if is_some (place_in ss name) then entry_of ss name else record (entry_of ss name) { place = Some place })
 
+-- the symbols once a name is made global
 unfoldable pub made_global : List SymbolData → List ℕ → List SymbolData
 made_global ss name = put_entry ss name (record (entry_of ss name) { is_global = true })

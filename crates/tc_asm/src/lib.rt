@@ -14,6 +14,8 @@ mod lines;
 mod looks;
 mod pieces;
 mod reading;
+#[cfg(test)]
+mod row_tests;
 mod sections;
 mod symbols;
 #[cfg(test)]
