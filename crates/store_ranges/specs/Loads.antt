@@ -42,6 +42,7 @@ abbrev pub answers : ℕ → Bool → Option Device → List ℕ
 answers size signed None = all_extended size signed
 answers size signed (Some d) = range d.lo d.hi 0
 
+-- the loaded word of a number that is known, else what the device may answer
 abbrev pub number_or : ℕ → Bool → Option Device → Option ℕ → List ℕ
 number_or size signed device None = answers size signed device
 number_or size signed device (Some w) = extended signed size w ∷ []

@@ -10,6 +10,7 @@ use Rattle.tc_stmt.specs.declared.wanting.Want.{Want}
 use Rattle.tc_stmt.specs.declared.wanting.Want.TheVariants.{Reg, A10, Number, Target, Absolute, Memory}
 use Rattle.tc_stmt.specs.Wants.{wants_of}
 
+-- both hold, or neither
 abbrev pub same_bool : Bool → Bool → Bool
 same_bool true b = b
 same_bool false b = not b
@@ -39,26 +40,32 @@ excludes (Memory p o) Target = true
 excludes (Memory p o) Absolute = true
 excludes a b = false
 
+-- what is printed for the first wants isn't taken for the second: another number of operands, or one that is excluded
 unfoldable pub differ : List Want → List Want → Bool
 differ [] [] = false
 differ [] (v ∷ vs) = true
 differ (w ∷ ws) [] = true
 differ (w ∷ ws) (v ∷ vs) = excludes w v || differ ws vs
 
+-- a row's name, and what stands at its operands' places
 pub record Entry : Type 0 where
   pub name : List ℕ
   pub wants : List Want
 
+-- the name and the wants of a row
 abbrev pub entry : RowData → Entry
 entry r = record { name = r.name; wants = wants_of r }
 
+-- two rows have other names, or neither takes what is printed for the other
 abbrev pub apart_from : Entry → Entry → Bool
 apart_from a b = not (bytes_eq a.name b.name) || (differ a.wants b.wants && differ b.wants a.wants)
 
+-- each of the rows is told apart from each other one
 abbrev pub all_apart : List Entry → Bool
 all_apart [] = true
 all_apart (a ∷ es) = list_all (apart_from a) es && all_apart es
 
+-- an operand of this kind names the field
 unfoldable pub names : Field → Want → Bool
 names C (Reg p C) = true
 names C (Number s C) = true
@@ -76,5 +83,6 @@ names K Target = true
 names K Absolute = true
 names f w = false
 
+-- the fields that a row's operands name
 unfoldable pub uses_by : List Want → Uses
 uses_by ws = record { c = list_any (names C) ws; s1 = list_any (names S1) ws; s2 = list_any (names S2) ws; n = list_any (names N) ws; k = list_any (names K) ws }

@@ -1,3 +1,4 @@
+-- Listings: the text of an instruction, the listing of an image, and what that is read as.
 pub mod Texts
 pub mod Listing
 pub mod Views

@@ -24,9 +24,11 @@ abbrev pub piece_size : Result (InstData × ℕ) DecodeErr → List ℕ → ℕ
 piece_size (Ok found) bytes = found.1
 piece_size (Err e) bytes = min 2 (length bytes)
 
+-- the text of what the bytes begin with, an instruction or data
 unfoldable pub text_at : List ℕ → List ℕ
 text_at bytes = piece_text (decoded_of bytes) bytes
 
+-- how many bytes that is
 unfoldable pub size_at : List ℕ → ℕ
 size_at bytes = piece_size (decoded_of bytes) bytes
 
@@ -48,6 +50,7 @@ lines_from address (b ∷ bs) (suc skip) = lines_from (address + 1) bs skip
 unfoldable pub section_line : ℕ → ℕ → List ℕ
 section_line number address = codes ".section s" ++ (decimal number ++ (codes " # " ++ (hex_word address ++ 10 ∷ [])))
 
+-- the lines of a segment: that of its section, and those of its bytes
 unfoldable pub section_text : ℕ → SegmentData → List ℕ
 section_text number s = section_line number s.at ++ lines_from s.at s.bytes 0
 

@@ -17,5 +17,6 @@ given f g Absolute = set_field K f.k g
 given f g (Memory p true) = set_field K f.k (set_field S2 f.s2 g)
 given f g (Memory p false) = set_field S2 f.s2 g
 
+-- the fields of f that wants give back, and zeros
 abbrev pub all_given : Fields → List Want → Fields
 all_given f ws = fold (given f) (fields 0 0 0 0 0) ws

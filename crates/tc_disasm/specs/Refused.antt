@@ -16,6 +16,7 @@ Prints Target o = (minus : Bool) × (size : ℕ) × (o ≡ plain (value shape.Su
 Prints Absolute o = (size : ℕ) × (o ≡ plain (value shape.Number [] false size))
 Prints (Memory p u) o = (n : ℕ) × (v : ValueData) × (o ≡ memory p (register_text true n) v)
 
+-- the operands are what is printed for the wants, one for each
 abbrev pub AllPrint : List Want → List OperandData → Type 0
 AllPrint [] [] = Unit {0}
 AllPrint [] (o ∷ os) = ⊥
@@ -32,5 +33,6 @@ abbrev pub falls_by : FoundData → Option FoundData → Type 0
 falls_by acc None = Unit {0}
 falls_by acc (Some f) = f.rule ≤ acc.rule
 
+-- the same as a record, which stays folded
 pub record Falls (acc : FoundData) (o : Option FoundData) : Type 0 where
   pub is : falls_by acc o

@@ -22,6 +22,7 @@ hex_digit n = if nat_lt n 10 then 48 + n else 55 + n
 unfoldable pub hex_byte : ℕ → List ℕ
 hex_byte b = hex_digit (b / 16) ∷ hex_digit (b % 16) ∷ []
 
+-- a word as eight hex digits
 unfoldable pub hex_word : ℕ → List ℕ
 hex_word x = hex_byte (x / 2 ^ 24) ++ (hex_byte (x / 2 ^ 16 % 256) ++ (hex_byte (x / 2 ^ 8 % 256) ++ hex_byte (x % 256)))
 
@@ -33,6 +34,7 @@ register_text bank n = (if bank then 97 else 100) ∷ decimal n
 abbrev pub is_minus : Bool → ℕ → ℕ → Bool
 is_minus signed bound v = signed && nat_le (bound / 2) v
 
+-- how far from 0 the number in a field is
 abbrev pub size_of : Bool → ℕ → ℕ → ℕ
 size_of signed bound v = if is_minus signed bound v then bound - v else v
 

@@ -15,6 +15,7 @@ use Rattle.tc_stmt.specs.Pieces.{PieceData}
 use Rattle.tc_stmt.specs.Filling.{field_of}
 use Rattle.tc_disasm.specs.Texts.{register_text, is_minus, size_of, is_two_way, absolute_text}
 
+-- a token of this kind with its text
 abbrev pub piece : TokenKind → List ℕ → PieceData
 piece k text = record { kind = k; text = text }
 
@@ -22,9 +23,11 @@ piece k text = record { kind = k; text = text }
 abbrev pub number : Bool → ℕ → List PieceData
 number minus size = if minus then piece kind.Minus (45 ∷ []) ∷ piece kind.Number (decimal size) ∷ [] else piece kind.Number (decimal size) ∷ []
 
+-- the tokens of the number in a field
 abbrev pub field_number : Bool → ℕ → ℕ → List PieceData
 field_number signed bound v = number (is_minus signed bound v) (size_of signed bound v)
 
+-- the tokens of a target: `.`, a sign, and a number of bytes
 abbrev pub target : Bool → ℕ → ℕ → List PieceData
 target both bound k = piece kind.Word (codes ".") ∷ (if is_minus both bound k then piece kind.Minus (45 ∷ []) else piece kind.Plus (43 ∷ [])) ∷ piece kind.Number (decimal (2 * size_of both bound k)) ∷ []
 

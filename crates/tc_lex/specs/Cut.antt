@@ -45,9 +45,11 @@ IsWithin front.Blank n = 0 < n
 IsWithin front.Bad n = 0 < n
 IsWithin (front.Token kind len) n = (0 < len) × (len ≤ n)
 
+-- a token of so many bytes at a place of its line
 abbrev pub token : TokenKind → ℕ → ℕ → Token
 token kind at len = record { kind = kind; from = at; to = at + len }
 
+-- these tokens, and behind them those of the rest; a fault of the rest stays
 abbrev pub with_front : List Token → Result (List Token) ℕ → Result (List Token) ℕ
 with_front ts (Ok us) = Ok (ts ++ us)
 with_front ts (Err e) = Err e
@@ -65,9 +67,11 @@ cut [] room at skip = Ok []
 cut (c ∷ cs) room at zero = follow (front_of (c ∷ cs)) room at (cut cs)
 cut (c ∷ cs) room at (suc skip) = cut cs room (at + 1) skip
 
+-- the tokens of a line, at most 64, or the place of the first byte that can't be taken
 abbrev pub tokens_of : List ℕ → Result (List Token) ℕ
 tokens_of line = cut line 64 0 0
 
+-- what the code answers of a line is this: the tokens, or that place
 abbrev pub Cuts : Result (ArrayVec Token) ℕ → Result (List Token) ℕ → Type 0
 Cuts (Ok ts) r = r ≡ Ok ts.items
 Cuts (Err e) r = r ≡ Err e

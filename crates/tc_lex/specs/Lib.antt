@@ -1,3 +1,4 @@
+-- The tokens of a line of a source.
 pub mod Bytes
 pub mod Cut
 pub mod Texts

@@ -57,6 +57,7 @@ pub record IsFault (line : List ℕ) (low most at : ℕ) : Type 0 where
   pub tokens : AreTokens line low at before
   pub fault : IsStray line at ⊎ IsPast line at (length before) most
 
+-- an answer tells the line's tokens, at most 64, or the place of the first byte that can't be taken
 abbrev pub Reads : List ℕ → Result (ArrayVec Token) ℕ → Type 0
 Reads line (Ok ts) = IsCut line 0 64 ts.items
 Reads line (Err at) = IsFault line 0 64 at

@@ -8,11 +8,13 @@ use Rattle.tc_link.specs.Lines.{LineData, blank, entry, place, lines_of, line_of
 use Rattle.tc_link.specs.declared.faults.LayoutErr.{LayoutErr}
 use Rattle.tc_link.specs.declared.faults.LayoutErr.TheVariants.{BadLine, Twice, TooMany, Overlap, NoMemory}
 
+-- the name in an entry's line
 abbrev pub entry_in : LineData → Option (List ℕ)
 entry_in blank = None
 entry_in (entry name) = Some name
 entry_in (place p) = None
 
+-- the place in a place's line
 abbrev pub region_in : LineData → Option PlaceData
 region_in blank = None
 region_in (entry name) = None
@@ -50,10 +52,12 @@ abbrev pub with_entry : ℕ → List (List ℕ) → List PlaceData → Result La
 with_entry n [] places = Err (BadLine (n + 1))
 with_entry n (name ∷ names) places = Ok (record { entry = name; places = places })
 
+-- the first fault, if there is one, else this answer
 abbrev pub unless : Option LayoutErr → Result LayoutData LayoutErr → Result LayoutData LayoutErr
 unless (Some e) r = Err e
 unless None r = r
 
+-- the layout of these lines, or their first fault
 abbrev pub layout_in : List (List ℕ) → Result LayoutData LayoutErr
 layout_in lines = unless (first_fault [] lines) (with_entry (length lines) (entries_of lines) (places_of lines))
 

@@ -41,6 +41,7 @@ pub record IsPlaceAfter (before : List PlaceData) (p : PlaceData) : Type 0 where
   pub new : is_placed before p.section ≡ false
   pub apart : list_any (shares p) before ≡ false
 
+-- a layout: an entry's name, and at most 64 places, for different sections and without a common byte
 pub record IsLayout (l : LayoutData) : Type 0 where
   pub entry : name_of l.entry ≡ Some l.entry
   pub few : length l.places ≤ 64

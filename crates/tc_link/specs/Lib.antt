@@ -1,3 +1,4 @@
+-- Layouts, and what objects are linked to by one.
 pub mod Layouts
 pub mod Lines
 pub mod Faults

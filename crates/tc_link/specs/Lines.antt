@@ -14,6 +14,7 @@ unfoldable pub lines_of : List ℕ → List (List ℕ)
 lines_of [] = []
 lines_of (c ∷ cs) = if c == 10 then [] ∷ lines_of cs else onto_first c (lines_of cs)
 
+-- the space that parts words
 abbrev pub is_blank : ℕ → Bool
 is_blank c = c == 32
 

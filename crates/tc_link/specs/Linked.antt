@@ -26,17 +26,21 @@ unfoldable pub first_at : {A B : Type 0} → (ℕ → A → Option B) → ℕ �
 first_at f n [] = None
 first_at f n (x ∷ xs) = option_or (f n x) (first_at f (n + 1) xs)
 
+-- the first answer that there is, over the items of a list with their numbers, counted from 0 on
 abbrev pub first_some : {A B : Type 0} → (ℕ → A → Option B) → List A → Option B
 first_some f xs = first_at f 0 xs
 
 -- ---- symbols
 -- how many global symbols have the name; those of one object have distinct names
+-- a symbol counts for a name: it's global and has the name
 abbrev pub named : List ℕ → SymbolData → Bool
 named name s = is_global s && bytes_eq name s.name
 
+-- the symbols of objects, one object after another
 abbrev pub symbols_of : List ObjectData → List SymbolData
 symbols_of objects = flat_map (λ o. o.symbols) objects
 
+-- how many global symbols of these objects have the name
 unfoldable pub globals_named : List ObjectData → List ℕ → ℕ
 globals_named objects name = count_by (named name) (symbols_of objects)
 
@@ -44,6 +48,7 @@ globals_named objects name = count_by (named name) (symbols_of objects)
 abbrev pub twice_of : List ObjectData → ℕ → SymbolData → Option Refusal
 twice_of objects number s = then_some (is_global s && nat_lt 1 (globals_named objects s.name)) (twice s.name)
 
+-- the first global symbol that is defined in two objects, if there is one
 unfoldable pub twice_in : List ObjectData → Option Refusal
 twice_in objects = first_some (λ _ o. first_some (twice_of objects) o.symbols) objects
 
@@ -55,6 +60,7 @@ is_used relocs number = list_any (λ r. r.symbol == number) relocs
 abbrev pub missing_of : List ObjectData → List Reloc → ℕ → SymbolData → Option Refusal
 missing_of objects relocs number s = then_some (s.kind == 0 && is_used relocs number && globals_named objects s.name == 0) (missing s.name)
 
+-- the first symbol that is used, undefined in its object and global in none, if there is one
 unfoldable pub missing_in : List ObjectData → Option Refusal
 missing_in objects = first_some (λ _ o. first_some (missing_of objects o.relocs) o.symbols) objects
 
@@ -67,6 +73,7 @@ has_symbol symbols number = list_any (λ s. not (s.kind == 0) && s.section == nu
 abbrev pub no_place_of : List PlaceData → List SymbolData → ℕ → SectionData → Option Refusal
 no_place_of places symbols number s = then_some ((nat_lt 0 (length s.bytes) || has_symbol symbols number) && not (is_placed places s.name)) (no_place s.name)
 
+-- the first section that needs a place and has none, if there is one
 unfoldable pub no_place_in : List PlaceData → List ObjectData → Option Refusal
 no_place_in places objects = first_some (λ _ o. first_some (no_place_of places o.symbols) o.sections) objects
 
@@ -78,6 +85,7 @@ total places sections = sum_by (λ p. taken p.section sections) places
 unfoldable pub is_over : List PlaceData → List SectionData → Bool
 is_over places sections = list_any (λ p. nat_lt p.most (taken p.section sections)) places || nat_lt (2 ^ 24) (total places sections)
 
+-- a section with which, behind those before it, there is no room
 abbrev pub no_room_of : List PlaceData → List SectionData → SectionData → Option Refusal
 no_room_of places before s = then_some (is_over places (before ++ s ∷ [])) (no_room s.name)
 
@@ -87,13 +95,16 @@ no_room_after places before [] = None
 no_room_after places before (s ∷ ss) = option_or (no_room_of places before s) (no_room_after places (before ++ s ∷ []) ss)
 
 -- ---- relocations
+-- a relocation of the object with this number that can't be written
 abbrev pub refusal_at : List GlobalData → ℕ → PlacedData → ℕ → Reloc → Option Refusal
 refusal_at globals object p number r = option_map (λ err. reloc object r.section r.offset err) (reloc_refusal globals p r)
 
+-- the first relocation that can't be written, one object after another, if there is one
 unfoldable pub reloc_in : List GlobalData → List PlacedData → Option Refusal
 reloc_in globals placed = first_some (λ object p. first_some (refusal_at globals object p) p.object.relocs) placed
 
 -- ---- objects
+-- the objects with the addresses that the layout gives their sections
 abbrev pub placed_of : LayoutData → List ObjectData → List PlacedData
 placed_of layout objects = placed_after layout.places [] objects
 
@@ -101,6 +112,7 @@ placed_of layout objects = placed_after layout.places [] objects
 unfoldable pub contents_of : List PlacedData → List SectionData
 contents_of placed = flat_map (relocated (globals_of placed)) placed
 
+-- the image that begins at this address; a refusal where the entry is no global symbol
 abbrev pub entry_of : Option ℕ → List PlaceData → List PlacedData → Result ImageData Refusal
 entry_of None places placed = Err no_entry
 entry_of (Some address) places placed = Ok (record { entry = address; segments = segments_of places (contents_of placed) })
@@ -116,6 +128,7 @@ refused_early layout objects =
     (option_or (missing_in objects)
     (option_or (no_place_in layout.places objects) (no_room_after layout.places [] (sections_of objects))))
 
+-- the refusal, if there is one, else this answer
 abbrev pub unless : {A : Type 0} → Option Refusal → Result A Refusal → Result A Refusal
 unless (Some e) r = Err e
 unless None r = r

@@ -15,6 +15,7 @@ sections_of objects = flat_map (λ o. o.sections) objects
 abbrev pub rounded : ℕ → ℕ
 rounded n = (n + 3) / 4 * 4
 
+-- how many bytes of the place for this name are taken, where n were, with one section more
 abbrev pub with_size : List ℕ → ℕ → SectionData → ℕ
 with_size name n s = if bytes_eq name s.name then rounded n + length s.bytes else n
 
@@ -46,6 +47,7 @@ placed_after places before [] = []
 placed_after places before (o ∷ os) = record { object = o; bases = bases_after places before o.sections } ∷ placed_after places (before ++ o.sections) os
 
 -- ---- symbols
+-- the symbol is defined, and other objects may use it
 abbrev pub is_global : SymbolData → Bool
 is_global s = s.kind == 2
 
@@ -58,6 +60,7 @@ pub record GlobalData : Type 0 where
   pub name : List ℕ
   pub address : ℕ
 
+-- a global symbol's name, and its address where its sections begin at these
 abbrev pub global_data : List ℕ → SymbolData → GlobalData
 global_data bases s = record { name = s.name; address = address_in bases s.section s.offset }
 

@@ -30,6 +30,7 @@ reloc_refusal globals p r = refusal_of r.kind (field_place p r) (value_of global
 abbrev pub field_at : List ℕ → ℕ → List ℕ
 field_at bytes at = take 4 (drop at bytes)
 
+-- the bytes with these four at an offset
 abbrev pub with_field_at : List ℕ → ℕ → List ℕ → List ℕ
 with_field_at bytes at field = take at bytes ++ (field ++ drop (at + 4) bytes)
 
@@ -44,9 +45,11 @@ filled r place value s = record {
 abbrev pub written : List GlobalData → PlacedData → Reloc → SectionData → SectionData
 written globals p r s = filled r (field_place p r) (value_of globals p r) s
 
+-- a list with the item of this number changed, if it's there
 abbrev pub changed : {A : Type 0} → (A → A) → ℕ → List A → List A
 changed f n xs = option_map_or (λ x. slice_set xs n (f x)) (slice_get xs n) xs
 
+-- the sections of a placed object with one of its relocations written
 abbrev pub with_reloc : List GlobalData → PlacedData → List SectionData → Reloc → List SectionData
 with_reloc globals p sections r = changed (written globals p r) r.section sections
 
@@ -59,6 +62,7 @@ relocated globals p = fold (with_reloc globals p) p.object.sections p.object.rel
 abbrev pub padded : List ℕ → List ℕ
 padded bytes = bytes ++ replicate (rounded (length bytes) - length bytes) 0
 
+-- the bytes of a place with one section more, if it has the place's name
 abbrev pub with_section : List ℕ → List ℕ → SectionData → List ℕ
 with_section name bytes s = if bytes_eq name s.name then padded bytes ++ s.bytes else bytes
 
@@ -66,6 +70,7 @@ with_section name bytes s = if bytes_eq name s.name then padded bytes ++ s.bytes
 unfoldable pub joined : List ℕ → List SectionData → List ℕ
 joined name sections = fold (with_section name) [] sections
 
+-- the bytes of a place: the sections that go there
 abbrev pub segment_of : List SectionData → PlaceData → SegmentData
 segment_of sections p = record { at = p.at; bytes = joined p.section sections }
 

@@ -9,6 +9,7 @@ use Rattle.tc_link.specs.Faults.{entry_in, region_in}
 use Rattle.tc_link.specs.declared.lines.Line.{Line}
 use Rattle.tc_link.specs.declared.lines.Line.TheVariants.{Blank, Entry, Region}
 
+-- a line of the code without where its names lie
 abbrev pub line_data : Line → LineData
 line_data Blank = blank
 line_data (Entry name) = entry name.now
@@ -25,11 +26,13 @@ pub record DraftData : Type 0 where
   pub entries : List (List ℕ)
   pub places : List PlaceData
 
+-- names of entries, and at most 64 places, each of which may stand behind those before it
 pub record IsDraft (d : DraftData) : Type 0 where
   pub entries : All (λ n. name_of n ≡ Some n) d.entries
   pub few : length d.places ≤ 64
   pub places : InTurn IsPlaceAfter [] d.places
 
+-- the entries and places with one line more
 abbrev pub with_line : DraftData → Option LineData → DraftData
 with_line d line = record {
   entries = d.entries ++ option_to_list (option_and_then entry_in line);

@@ -7,5 +7,6 @@ pub record Shape : Type 0 where
   pub name : List ℕ
   pub size : ℕ
 
+-- the name and the length of a section
 abbrev pub shape_of : SectionData → Shape
 shape_of s = record { name = s.name; size = length s.bytes }

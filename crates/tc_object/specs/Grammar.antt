@@ -19,9 +19,11 @@ abbrev pub checked : {A : Type 0} → ℕ → Bool → Place → A × Place → 
 checked kind good p x = if good then Ok x else fault_at kind p
 
 -- ---- names: a field with the length, and a field with the bytes
+-- a name's length, from 1 to 64
 unfoldable pub name_length_at : Place → Result (ℕ × Place) FormErr
 name_length_at p = u8_at p >>= λ n. checked 4 (is_length n.0) p n
 
+-- the bytes of a name of this length
 unfoldable pub name_bytes_at : ℕ → Place → Result (List ℕ × Place) FormErr
 name_bytes_at n p = bytes_at n p >>= λ name. checked 4 (is_name name.0) p name
 
@@ -35,6 +37,7 @@ unfoldable pub section_with : (List ℕ → Bool) → Place → Result (SectionD
 section_with is_used p =
     name_after is_used p >>= λ name. u32_at name.1 >>= λ len. bytes_at len.0 len.1 >>= λ bytes. Ok (record { name = name.0; bytes = bytes.0 }, bytes.1)
 
+-- a section behind those before, of which none has its name
 unfoldable pub section_after : List SectionData → Place → Result (SectionData × Place) FormErr
 section_after before p = section_with (is_section_name before) p
 
@@ -43,9 +46,11 @@ section_after before p = section_with (is_section_name before) p
 unfoldable pub kind_at : ℕ → ℕ → Place → Result (ℕ × Place) FormErr
 kind_at low high p = u8_at p >>= λ k. checked 4 (nat_le low k.0 && nat_le k.0 high) p k
 
+-- a symbol's section: 0 where it's undefined, else the number of one that is there
 unfoldable pub symbol_section_at : List SectionData → ℕ → Place → Result (ℕ × Place) FormErr
 symbol_section_at sections kind p = u16_at p >>= λ s. checked 4 (is_section_of sections kind s.0) p s
 
+-- a symbol's offset: 0 where it's undefined, else within its section or at its end
 unfoldable pub symbol_offset_at : List SectionData → ℕ → ℕ → Place → Result (ℕ × Place) FormErr
 symbol_offset_at sections kind section p = u32_at p >>= λ o. checked 4 (is_offset_of sections kind section o.0) p o
 
@@ -56,6 +61,7 @@ symbol_with sections is_used p =
     symbol_offset_at sections kind.0 section.0 section.1 >>= λ offset.
     Ok (record { name = name.0; kind = kind.0; section = section.0; offset = offset.0 }, offset.1)
 
+-- a symbol behind those before, of which none has its name
 unfoldable pub symbol_after : List SectionData → List SymbolData → Place → Result (SymbolData × Place) FormErr
 symbol_after sections before p = symbol_with sections (is_symbol_name before) p
 
@@ -70,9 +76,11 @@ unfoldable pub reloc_offset_at : List SectionData → List Reloc → ℕ → Pla
 reloc_offset_at sections before section start p =
     u32_at p >>= λ o. checked 3 (is_behind (last_of before) section o.0) start o >>= λ o. checked 4 (nat_le (o.0 + 4) (size_at sections section)) p o
 
+-- the number of a relocation's symbol, of so many symbols
 unfoldable pub reloc_symbol_at : ℕ → Place → Result (ℕ × Place) FormErr
 reloc_symbol_at symbols p = u16_at p >>= λ s. checked 4 (nat_lt s.0 symbols) p s
 
+-- a relocation behind those before: section, offset, kind, symbol and addend
 unfoldable pub reloc_after : List SectionData → ℕ → List Reloc → Place → Result (Reloc × Place) FormErr
 reloc_after sections symbols before p =
     reloc_section_at sections before p >>= λ section. reloc_offset_at sections before section.0 p section.1 >>= λ offset. kind_at 1 7 offset.1 >>= λ kind.
@@ -84,6 +92,7 @@ reloc_after sections symbols before p =
 unfoldable pub magic_at : Place → Result (ℕ × Place) FormErr
 magic_at p = u32_at p >>= λ magic. checked 2 (magic.0 == 0x314F4354) p magic
 
+-- the number of sections, at most 64
 unfoldable pub section_count_at : Place → Result (ℕ × Place) FormErr
 section_count_at p = u16_at p >>= λ n. checked 5 (nat_le n.0 64) p n
 
@@ -93,6 +102,7 @@ parts_at n m k p =
     many_at section_after n [] p >>= λ sections. many_at (symbol_after sections.0) m [] sections.1 >>= λ symbols. many_at (reloc_after sections.0 m) k [] symbols.1 >>= λ relocs.
     Ok (record { sections = sections.0; symbols = symbols.0; relocs = relocs.0 }, relocs.1)
 
+-- an object: the magic bytes, the numbers of sections, symbols and relocations, and these
 unfoldable pub object_at : Place → Result (ObjectData × Place) FormErr
 object_at p =
     magic_at p >>= λ magic. section_count_at magic.1 >>= λ n. u16_at n.1 >>= λ m. u16_at m.1 >>= λ k. parts_at n.0 m.0 k.0 k.1

@@ -5,6 +5,7 @@ use Rattle.std.specs.List.{list_any}
 use Rattle.std.specs.Str.{bytes_eq}
 use Rattle.tc_object.specs.Names.{IsName}
 
+-- a section: its name and its bytes
 pub record SectionData : Type 0 where
   pub name : List ℕ
   pub bytes : List ℕ
@@ -16,6 +17,7 @@ pub record SymbolData : Type 0 where
   pub section : ℕ
   pub offset : ℕ
 
+-- an object: its sections, symbols and relocations, each in their order
 pub record ObjectData : Type 0 where
   pub sections : List SectionData
   pub symbols : List SymbolData
@@ -35,10 +37,12 @@ InTurn good before [] = Unit {0}
 InTurn good before (x ∷ xs) = good before x × InTurn good (before ++ x ∷ []) xs
 
 -- ---- sections
+-- a section with a name that none before it has, and a length that is a word
 pub record IsSection (before : List SectionData) (s : SectionData) : Type 0 where
   pub name : IsName (is_section_name before) s.name
   pub small : length s.bytes < 2 ^ 32
 
+-- the length of a section, and 0 where there is none
 abbrev pub size_of : Option SectionData → ℕ
 size_of None = 0
 size_of (Some s) = length s.bytes
@@ -56,6 +60,7 @@ is_section_of ss kind section = if kind == 0 then section == 0 else nat_lt secti
 abbrev pub is_offset_of : List SectionData → ℕ → ℕ → ℕ → Bool
 is_offset_of ss kind section offset = if kind == 0 then offset == 0 else nat_le offset (size_at ss section)
 
+-- a symbol with a name that none before it has, of a known kind, that stands in a section, or nowhere if undefined
 pub record IsSymbol (sections : List SectionData) (before : List SymbolData) (s : SymbolData) : Type 0 where
   pub name : IsName (is_symbol_name before) s.name
   pub kind : s.kind ≤ 2
@@ -65,6 +70,7 @@ pub record IsSymbol (sections : List SectionData) (before : List SymbolData) (s 
   pub word : s.offset < 2 ^ 32
 
 -- ---- relocations
+-- the last of these relocations, if there is one
 abbrev pub last_of : List Reloc → Option Reloc
 last_of rs = slice_get rs (length rs - 1)
 
@@ -78,6 +84,7 @@ abbrev pub is_behind : Option Reloc → ℕ → ℕ → Bool
 is_behind None section offset = true
 is_behind (Some r) section offset = nat_lt r.section section || (r.section == section && nat_lt r.offset offset)
 
+-- a relocation of a known kind, behind those before it: four bytes of a section, and the number of a symbol
 pub record IsReloc (sections : List SectionData) (symbols : ℕ) (before : List Reloc) (r : Reloc) : Type 0 where
   pub section : r.section < length sections
   pub behind : is_behind (last_of before) r.section r.offset ≡ true

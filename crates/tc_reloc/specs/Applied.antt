@@ -9,6 +9,7 @@ use Rattle.tc_reloc.specs.Fields.{content_of, spread_of, rest_of}
 abbrev pub with_field : ℕ → List ℕ → ℕ → List ℕ
 with_field kind field k = bytes_of_word (rest_of kind (word_at field 0) + spread_of kind k)
 
+-- the refusal, if there is one, else these bytes
 abbrev pub unless : Option RelocErr → List ℕ → Result (List ℕ) RelocErr
 unless (Some e) bytes = Err e
 unless None bytes = Ok bytes

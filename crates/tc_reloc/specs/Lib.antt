@@ -1,3 +1,4 @@
+-- Relocations: what is refused, what is written into which bits, and what that reaches.
 pub mod Refusals
 pub mod Fields
 pub mod Applied

@@ -16,6 +16,7 @@ AreInside [] [] = Unit {0}
 AreInside (d ∷ ds) (b ∷ bs) = ((d.lo ≤ b.lo) × (b.lo ≤ b.hi) × (b.hi ≤ d.hi)) × AreInside ds bs
 AreInside _ _ = ⊥
 
+-- a script of the plan's interrupts, with bounds for each of the plan's devices inside its own
 pub record FitsPlan (plan : PlanData) (script : ScriptData) : Type 0 where
   pub sources : HasSources plan script.turns
   pub devices : length script.bounds ≡ length plan.devices

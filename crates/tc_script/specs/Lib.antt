@@ -1,3 +1,4 @@
+-- Scripts: the statements of their lines, what these say together, and runs of the machine by them.
 pub mod Parts
 pub mod Numbers
 pub mod Statements

@@ -48,6 +48,7 @@ stated plan line (Irq irq) d = if is_source plan irq then with_turns line 1 irq 
 stated plan line (Aln aln) d = Ok (record d { aln = aln })
 stated plan line (In device lo hi) d = if holds_bounds (slice_get plan.devices device) lo hi then Ok (with_bounds device lo hi d) else Err (OutOfRange line)
 
+-- what a line does by its statement; a line that is none is bad
 abbrev pub if_said : PlanData → ℕ → Option Statement → Draft → Result Draft ScriptErr
 if_said plan line None d = Err (BadLine line)
 if_said plan line (Some said) d = stated plan line said d
@@ -56,6 +57,7 @@ if_said plan line (Some said) d = stated plan line said d
 abbrev pub line_read : PlanData → ℕ → List ℕ → Draft → Result Draft ScriptErr
 line_read plan number line d = if_said plan number (statement_of (words_of line)) d
 
+-- what is read next, unless a line was refused
 abbrev pub then_read : Result Draft ScriptErr → (Draft → Result Draft ScriptErr) → Result Draft ScriptErr
 then_read (Ok d) next = next d
 then_read (Err e) next = Err e
@@ -69,6 +71,7 @@ lines_read plan number (line ∷ lines) d = then_read (line_read plan number lin
 abbrev pub lines_of : List ℕ → List (List ℕ)
 lines_of text = slice_split (λ b. b == 10) text
 
+-- the script that the lines have put together, or their refusal
 abbrev pub script_in : Result Draft ScriptErr → Result ScriptData ScriptErr
 script_in (Ok d) = Ok d.script
 script_in (Err e) = Err e

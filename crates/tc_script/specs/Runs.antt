@@ -29,6 +29,7 @@ pub record IsEventOf (devices : List Device) (answers : Answers) (t : ℕ) (turn
   pub status : e.status ≡ 0
   pub input : IsInput devices answers t (next_load_of m) e.input
 
+-- the machine has died, of any cause
 abbrev pub IsDead : End → Type 0
 IsDead Running = ⊥
 IsDead (Dead cause) = Unit {0}

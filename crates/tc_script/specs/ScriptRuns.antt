@@ -31,6 +31,7 @@ input_of devices bounds t (Some load) = if list_any (λ d. is_within load.0 load
 abbrev pub event_of : List Device → List Bounds → ℕ → Turn → Machine → Event
 event_of devices bounds t turn m = record { irq = turn.irq; input = input_of devices bounds t (next_load_of m); status = 0; aln = turn.aln }
 
+-- these events where the machine runs, and none where it's dead
 abbrev pub while_running : End → List Event → List Event
 while_running Running events = events
 while_running (Dead cause) events = []

@@ -11,10 +11,12 @@ use Rattle.tc_script.specs.Numbers.{number_of}
 abbrev pub words_of : List ℕ → List (List ℕ)
 words_of line = slice_split (λ b. b == 32) line
 
+-- the statement of a line of one word: an empty line says nothing, and no other word is one
 abbrev pub is_blank : List ℕ → Option Statement
 is_blank [] = Some Blank
 is_blank word = None
 
+-- this statement, where its numbers are in their bounds
 abbrev pub some_if : Bool → Statement → Option Statement
 some_if test s = if test then Some s else None
 

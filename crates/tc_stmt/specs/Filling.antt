@@ -25,6 +25,7 @@ pub record ReferenceData : Type 0 where
   pub minus : Bool
   pub size : ℕ
 
+-- a symbol's reference without where its name lies
 abbrev pub reference_of : Reference → ReferenceData
 reference_of r = record { kind = r.kind; name = r.name.now; minus = r.minus; size = r.size }
 
@@ -34,16 +35,20 @@ pub record FoundData : Type 0 where
   pub rule : ℕ
   pub reference : Option ReferenceData
 
+-- what a row has so far, without where a symbol's name lies
 abbrev pub found_of : Found → FoundData
 found_of f = record { fields = f.fields; rule = f.rule; reference = option_map reference_of f.reference }
 
+-- what a row has before its first operand: fields that are all zero, no rule broken, no symbol
 abbrev pub nothing : FoundData
 nothing = record { fields = fields 0 0 0 0 0; rule = 15; reference = None }
 
+-- what a row has once a rule is broken: the least rule counts
 abbrev pub broken : ℕ → FoundData → FoundData
 broken rule acc = record acc { rule = min acc.rule rule }
 
 -- ---- fields
+-- the fields with this value in one of them; all but k are bytes
 unfoldable pub set_field : Field → ℕ → Fields → Fields
 set_field C v f = record f { c = v % 256 }
 set_field S1 v f = record f { s1 = v % 256 }
@@ -51,6 +56,7 @@ set_field S2 v f = record f { s2 = v % 256 }
 set_field N v f = record f { n = v % 256 }
 set_field K v f = record f { k = v }
 
+-- the value in a field
 unfoldable pub field_of : Field → Fields → ℕ
 field_of C f = f.c
 field_of S1 f = f.s1
@@ -58,9 +64,11 @@ field_of S2 f = f.s2
 field_of N f = f.n
 field_of K f = f.k
 
+-- what a row has once a field got its value
 abbrev pub put : Field → ℕ → FoundData → FoundData
 put field v acc = record acc { fields = set_field field v acc.fields }
 
+-- the forms of a value by their numbers, so that they can be compared
 unfoldable pub shape_index : Shape → ℕ
 shape_index shape.Absent = 0
 shape_index shape.Number = 1
@@ -97,6 +105,7 @@ fits signed bound minus size =
 abbrev pub wrapped : ℕ → Bool → ℕ → ℕ
 wrapped bound minus size = if minus && not (size == 0) then bound - size else size
 
+-- a number that fits its field in an instruction of this form, else rule 5
 unfoldable pub put_number : Form → Bool → Field → Bool → ℕ → FoundData → FoundData
 put_number form signed field minus size acc =
     if fits signed (field_of field (bounds form)) minus size then put field (wrapped (field_of field (bounds form)) minus size) acc else broken 5 acc
@@ -106,6 +115,7 @@ put_number form signed field minus size acc =
 unfoldable pub symbol_rule : ValueData → ℕ
 symbol_rule v = if nat_le (2 ^ 32) v.size then 5 else (if is_name v.name then 15 else 9)
 
+-- a symbol's reference by a relocation of this kind, with the number that the value adds
 abbrev pub reference : ℕ → ValueData → ReferenceData
 reference kind v = record { kind = kind; name = v.name; minus = v.minus; size = v.size }
 
@@ -117,6 +127,7 @@ with_symbol kind v acc = if symbol_rule v == 15 then record acc { reference = So
 abbrev pub misplaced : ValueData → FoundData → FoundData
 misplaced v acc = broken (min 10 (symbol_rule v)) acc
 
+-- the row has this name
 abbrev pub is_named : RowData → List ℕ → Bool
 is_named r name = bytes_eq r.name name
 
@@ -127,9 +138,11 @@ half_kind r s =
     then (if is_named r (codes "movh") || is_named r (codes "movh.a") || is_named r (codes "addih") || is_named r (codes "addih.a") then 4 else 0)
     else (if is_named r (codes "addi") then 5 else (if form_index r.form == 3 then 6 else 0))
 
+-- the form of this number is a name, or a name with a number added
 abbrev pub is_symbol : ℕ → Bool
 is_symbol i = i == 2 || i == 3
 
+-- the form of this number is the upper or the lower half of a symbol
 abbrev pub is_half : ℕ → Bool
 is_half i = i == 4 || i == 5
 
@@ -143,6 +156,8 @@ fill_value r signed field v acc =
     else (if is_half (shape_index v.shape) then (if half_kind r v.shape == 0 then Some (misplaced v acc) else Some (with_symbol (half_kind r v.shape) v acc))
     else None)))
 
+-- `[BASE]` or `[BASE+]` at its place, with an offset where the row has one: base plus offset and post-increment
+-- (TriCore 1 architecture manual, volume 1, addressing modes)
 unfoldable pub fill_memory : RowData → Bool → Bool → OperandData → FoundData → Option FoundData
 fill_memory r plus offset o acc =
     if o.is_memory && (if o.plus then plus else not plus)
@@ -157,6 +172,7 @@ is_far form bound minus size =
     then (if minus then not (size == 0) else nat_lt (2 * (bound - 1)) size)
     else (if minus then nat_lt bound size else nat_lt (bound - 2) size)
 
+-- an odd number of bytes
 abbrev pub is_odd : ℕ → Bool
 is_odd size = size % 2 == 1
 
@@ -174,6 +190,7 @@ displaced r minus size acc =
 unfoldable pub target_kind : RowData → ℕ
 target_kind r = if is_long r then (if form_index r.form == 7 then 1 else 3) else 0
 
+-- a value at the place of a jump's or call's target: a displacement from the instruction, or a symbol
 unfoldable pub fill_target : RowData → ValueData → FoundData → Option FoundData
 fill_target r v acc =
     if shape_index v.shape == 3 && bytes_eq v.name (codes ".") then Some (displaced r v.minus v.size acc)
@@ -189,6 +206,7 @@ put_absolute form minus size acc =
     then (if size / 2 ^ 14 % 2 ^ 14 == 0 then put K (size / 2 ^ 28 * 2 ^ 14 + size % 2 ^ 14) acc else broken 5 acc)
     else (if size / 2 ^ 21 % 2 ^ 7 == 0 && size % 2 == 0 then put K (size / 2 ^ 28 * 2 ^ 20 + size % 2 ^ 21 / 2) acc else broken 5 acc))
 
+-- a value at the place of an absolute address: a number, or a symbol in the rows of jumps and calls
 unfoldable pub fill_absolute : RowData → ValueData → FoundData → Option FoundData
 fill_absolute r v acc =
     if shape_index v.shape == 1 then Some (put_absolute r.form v.minus v.size acc)
@@ -197,12 +215,16 @@ fill_absolute r v acc =
     else (if is_half (shape_index v.shape) then Some (misplaced v acc)
     else None)))
 
+-- a value at the place of a register: a name
 unfoldable pub fill_register : Bool → Field → ValueData → FoundData → Option FoundData
 fill_register bank field v acc = if shape_index v.shape == 2 then Some (put_register bank field v.name acc) else None
 
+-- a value at the place of a10, the stack pointer, which stands in no field (TriCore 1 architecture manual, volume 1,
+-- general purpose and system registers)
 unfoldable pub fill_a10 : ValueData → FoundData → Option FoundData
 fill_a10 v acc = if shape_index v.shape == 2 then (if bytes_eq v.name (codes "a10") then Some acc else Some (broken 4 acc)) else None
 
+-- an operand without brackets at its place
 unfoldable pub fill_plain : RowData → Want → ValueData → FoundData → Option FoundData
 fill_plain r (Reg bank field) v acc = fill_register bank field v acc
 fill_plain r A10 v acc = fill_a10 v acc
@@ -211,6 +233,7 @@ fill_plain r Target v acc = fill_target r v acc
 fill_plain r Absolute v acc = fill_absolute r v acc
 fill_plain r (Memory plus offset) v acc = None
 
+-- an operand at the place where the row wants this
 unfoldable pub fill : RowData → Want → OperandData → FoundData → Option FoundData
 fill r (Memory plus offset) o acc = fill_memory r plus offset o acc
 fill r w o acc = if o.is_memory then None else fill_plain r w o.value acc

@@ -9,6 +9,7 @@ use Rattle.tc_stmt.specs.Wants.{wants_of}
 use Rattle.tc_stmt.specs.Operands.{OperandData}
 use Rattle.tc_stmt.specs.Filling.{FoundData, found_of, judged}
 
+-- before the first row: none had the name, none fit, no rule was broken
 abbrev pub start : Tally
 start = record { named = false; fits = false; least = 15 }
 
@@ -23,10 +24,12 @@ stepped name os r t =
 abbrev pub rule_of : Tally → ℕ
 rule_of t = if t.named then (if t.fits then t.least else 3) else 2
 
+-- the row of this number, where it is the statement, else what the next rows give
 abbrev pub followed : Result FoundData Tally → ℕ → (Tally → Result (ℕ × FoundData) ℕ) → Result (ℕ × FoundData) ℕ
 followed (Ok f) place next = Ok (place, f)
 followed (Err t) place next = next t
 
+-- the first of these rows, numbered from a place on, that the statement is, or the least rule that it breaks
 unfoldable pub outcome : List ℕ → List OperandData → List RowData → ℕ → Tally → Result (ℕ × FoundData) ℕ
 outcome name os [] place t = Err (rule_of t)
 outcome name os (r ∷ rs) place t = followed (stepped name os r t) place (outcome name os rs (place + 1))
@@ -35,10 +38,12 @@ outcome name os (r ∷ rs) place t = followed (stepped name os r t) place (outco
 abbrev pub statement : List ℕ → List OperandData → Result (ℕ × FoundData) ℕ
 statement name os = outcome name os listed 0 start
 
+-- what the code makes of a row is this
 abbrev pub Steps : Result Found Tally → Result FoundData Tally → Type 0
 Steps (Ok f) r = r ≡ Ok (found_of f)
 Steps (Err t) r = r ≡ Err t
 
+-- what the code makes of a statement is this
 abbrev pub Judges : Result (ℕ × Found) ℕ → Result (ℕ × FoundData) ℕ → Type 0
 Judges (Ok p) r = r ≡ Ok (p.0, found_of p.1)
 Judges (Err e) r = r ≡ Err e

@@ -1,3 +1,4 @@
+-- Statements: tokens, operands, what a row wants of them, and the row that a statement is.
 pub mod Names
 pub mod Pieces
 pub mod Numbers

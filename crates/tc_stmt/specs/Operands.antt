@@ -18,21 +18,26 @@ pub record ValueData : Type 0 where
   pub minus : Bool
   pub size : ℕ
 
+-- a value of the code as such a record
 abbrev pub value_of : Value → ValueData
 value_of v = record { shape = v.shape; name = v.name.now; minus = v.minus; size = v.size }
 
+-- an operand: a value, or `[BASE]` or `[BASE+]` with a value behind it
 pub record OperandData : Type 0 where
   pub is_memory : Bool
   pub plus : Bool
   pub base : List ℕ
   pub value : ValueData
 
+-- an operand without where its names lie
 abbrev pub operand_of : Operand → OperandData
 operand_of o = record { is_memory = o.is_memory; plus = o.plus; base = o.base.now; value = value_of o.value }
 
+-- a value of this form, with a name, a sign and a number
 abbrev pub value : Shape → List ℕ → Bool → ℕ → ValueData
 value s name minus size = record { shape = s; name = name; minus = minus; size = size }
 
+-- tokens that are no value
 abbrev pub bad : ValueData
 bad = value shape.Bad [] false 0
 
@@ -77,9 +82,11 @@ value_at ps at =
     if length ps == at then value shape.Absent [] false 0
     else option_map_or (λ n. plain_number n.0 n.1) (number_at ps at) (named_at ps at)
 
+-- an operand that is a value alone
 abbrev pub plain : ValueData → OperandData
 plain v = record { is_memory = false; plus = false; base = []; value = v }
 
+-- the operand `[BASE]`, or `[BASE+]`, with a value behind it
 abbrev pub memory : Bool → List ℕ → ValueData → OperandData
 memory plus base v = record { is_memory = true; plus = plus; base = base; value = v }
 
@@ -94,6 +101,7 @@ operand ps =
     else plain bad)
     else plain (value_at ps 0)
 
+-- the token that parts operands
 abbrev pub is_comma : PieceData → Bool
 is_comma p = kind_index p.kind == 2
 

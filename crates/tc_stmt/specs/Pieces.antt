@@ -10,9 +10,11 @@ pub record PieceData : Type 0 where
   pub kind : TokenKind
   pub text : List ℕ
 
+-- a token of the code as such a record
 abbrev pub piece_of : Piece → PieceData
 piece_of p = record { kind = p.kind; text = p.text.now }
 
+-- the kinds of tokens by their numbers, so that they can be compared
 unfoldable pub kind_index : TokenKind → ℕ
 kind_index Word = 0
 kind_index Number = 1

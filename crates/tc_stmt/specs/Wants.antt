@@ -30,6 +30,7 @@ want_of text =
     else (if bytes_eq text (codes "[As2]sk") then Memory false true
     else Memory true true)))))))))))))))
 
+-- a text without the blank that it begins with
 abbrev pub without_blank : List ℕ → List ℕ
 without_blank (c ∷ cs) = if c == 32 then cs else (c ∷ cs)
 without_blank [] = []
@@ -38,5 +39,6 @@ without_blank [] = []
 unfoldable pub wants_of : RowData → List Want
 wants_of r = if bytes_eq r.operands [] then [] else map (λ t. want_of (without_blank t)) (slice_split (λ c. c == 44) r.operands)
 
+-- a row's wants that are lent
 abbrev pub now_of : Bor (List Want) → List Want
 now_of w = w.now
