@@ -1,5 +1,5 @@
 -- What the reading of the input of `asm` comes to, and what it says.
-use Rattle.std.proofs.Common.{◌≡◌, ◌≤◌, ◌^◌, ℕ, Bool, List, [], ◌∷◌, length, Option, Some, None, refl, sym, ap, subst, ◌∙◌}
+use Rattle.std.proofs.Common.{◌≡◌, ◌≢◌, ◌≤◌, ◌^◌, ℕ, Bool, List, [], ◌∷◌, length, Option, Some, None, refl, sym, ap, subst, ◌∙◌}
 use Rattle.std.specs.FinMap.{get}
 use Rattle.tcd_base.specs.Files.{Map, Reads}
 use Rattle.tc_object.specs.Objects.{ObjectData}
@@ -8,10 +8,10 @@ use Rattle.tc_asm.specs.Lines.{LineData, lines_in}
 use Rattle.tc_asm.specs.Sources.{KeepsRules, IsLeast}
 use Rattle.tcd_driver.specs.Commands.{AsmNames, asm}
 use Rattle.tcd_driver.specs.Writing.{Written}
-use Rattle.tcd_driver.specs.Lines.{object_line}
+use Rattle.tcd_driver.specs.Lines.{assembled_line}
 use Rattle.tcd_driver.specs.Assembling.{HoldsSource, SourceText, long_source, refused_source, AsmSays, bad_source, assembled}
 use Rattle.tcd_driver.specs.Tool.{HoldsAll}
-use Rattle.tcd_driver.specs.Inputs.{StopsWith, HasFailed, ComesTo, IsBadSource, WritesObject, IsObject}
+use Rattle.tcd_driver.specs.Inputs.{StopsWith, HasFailed, ComesTo, IsBadSource, IsObject}
 use Rattle.tcd_driver.specs.declared.status.Status.{Status}
 use Rattle.tcd_driver.specs.declared.status.Status.TheVariants.{Done, Fault}
 use Rattle.tcd_driver.specs.declared.ending.Outcome.{Outcome}
@@ -30,12 +30,12 @@ pub comes_source : (names : AsmNames) (held : Option Map) (steady : Bool) (a b :
     ComesTo held (asm names) (HasFailed (names.source ∷ []) steady held a b) o
 comes_source names held steady a b o h = comes_first held (asm names) names.source [] (SourceText held names.source) steady a b o h (λ t p. bad_source t p)
 
-done_by : (held : Option Map) (names : AsmNames) (object : ObjectData) (s : Status) (text : List ℕ) (writes : List Written) → HoldsSource held names.source object → s ≡ Done → text ≡ object_line (length (bytes_of object)) →
+done_by : (held : Option Map) (names : AsmNames) (object : ObjectData) (s : Status) (text : List ℕ) (writes : List Written) → HoldsSource held names.source object → s ≡ Done → text ≡ assembled_line (length (bytes_of object)) →
     writes ≡ record { name = names.object; bytes = bytes_of object } ∷ [] → AsmSays held names s text writes
 done_by held names object s text writes is e f g =
     let P : Status → Type 0 = λ x. AsmSays held names x text writes in
     let Q : List ℕ → Type 0 = λ x. AsmSays held names Done x writes in
-    let R : List Written → Type 0 = λ x. AsmSays held names Done (object_line (length (bytes_of object))) x in
+    let R : List Written → Type 0 = λ x. AsmSays held names Done (assembled_line (length (bytes_of object))) x in
     subst P (sym e) (subst Q (sym f) (subst R (sym g) (assembled object is)))
 
 pub comes_object : (names : AsmNames) (held : Option Map) (object : ObjectData) (F : Type 0) (o : Outcome) → HoldsSource held names.source object → IsObject names.object object o → ComesTo held (asm names) F o
@@ -43,13 +43,13 @@ comes_object names held object F (outcome.Says s text writes) is made = done_by 
 comes_object names held object F outcome.Unread is made = absurd made
 comes_object names held object F outcome.NoMemory is made = tt
 
--- bytes by another name
-pub object_by : (name bytes : List ℕ) (object : ObjectData) (o : Outcome) → bytes ≡ bytes_of object → WritesObject name bytes o → IsObject name object o
-object_by name bytes object o e h = let P : List ℕ → Type 0 = λ x. WritesObject name x o in subst P e h
-
 never_fault : (held : Option Map) (names : AsmNames) (s : Status) (text : List ℕ) (writes : List Written) → AsmSays held names s text writes → s ≡ Fault → ⊥
 never_fault held names s text writes (bad_source t bad) e = cc
 never_fault held names s text writes (assembled object is) e = cc
+
+only_done : (held : Option Map) (names : AsmNames) (s : Status) (text : List ℕ) (writes : List Written) → AsmSays held names s text writes → s ≢ Done → writes ≡ []
+only_done held names s text writes (bad_source t bad) undone = refl
+only_done held names s text writes (assembled object is) undone = absurd (undone refl)
 
 -- no source keeps the rules and breaks one
 no_least : (lines : List LineData) (line rule : ℕ) (d : LineData) → KeepsRules lines (length lines) → IsLeast lines line rule → ⊥
@@ -77,5 +77,6 @@ told_one (Some m) names s t x y v w holds a b = one_status m names s t x y v w a
 pub asm_decided : (held : Option Map) (names : AsmNames) → IsDecided held (asm names)
 asm_decided held names = record {
   never_fault = λ s text writes says. never_fault held names s text writes says;
+  only_done = λ s text writes says undone. only_done held names s text writes says undone;
   one = λ s t x y v w holds a b. told_one held names s t x y v w holds a b;
 }

@@ -1,22 +1,22 @@
 -- How a command ends, from what its parts do.
-use Rattle.std.proofs.Common.{◌≡◌, ◌<◌, ◌≤◌, ◌^◌, ◌⊎◌, inl, inr, ℕ, Bool, List, [], ◌∷◌, length, Option, Some, None, Result, Ok, Err, refl, sym, ap, subst, ◌∙◌, arith}
+use Rattle.std.proofs.Common.{◌≡◌, ◌≢◌, ◌<◌, ◌≤◌, ◌^◌, ◌⊎◌, inl, inr, ℕ, Bool, List, [], ◌∷◌, length, Option, Some, None, Result, Ok, Err, refl, sym, ap, subst, ◌∙◌, arith}
 use Rattle.std.specs.Prelude.{IsTrue, IfSome, IsSome, IsSomeAnd}
 use Rattle.std.specs.FinMap.{get}
 use Rattle.tcd_base.specs.Files.{Map, Rose, Holds}
 use Rattle.tcd_base.specs.Sink.{appended}
 use Rattle.tcd_driver.specs.Commands.{Command, inputs_of}
 use Rattle.tcd_driver.specs.Tool.{Says, HasEnded, printed, cut, unwritten, no_memory_in, unread, no_memory, HoldsAll, AreSure, HasRoom, Ends}
-use Rattle.tcd_driver.specs.Writing.{Written}
+use Rattle.tcd_driver.specs.Writing.{Written, with_written}
 use Rattle.tcd_driver.specs.Inputs.{StopsWith, HasFailed, KeepsFiles, ComesTo}
 use Rattle.tcd_driver.specs.Finishing as finishing
 use Rattle.tcd_driver.specs.Finishing.{EndsWith, Finished, Quiet, Finishes}
 use Rattle.tcd_driver.specs.declared.status.Status.{Status}
-use Rattle.tcd_driver.specs.declared.status.Status.TheVariants.{BadInput, Fault, NoMemory}
+use Rattle.tcd_driver.specs.declared.status.Status.TheVariants.{Done, Refused, BadInput, Fault, NoMemory}
 use Rattle.tcd_driver.specs.declared.ending.Outcome.{Outcome}
 use Rattle.tcd_driver.specs.declared.ending.Outcome.TheVariants as outcome
 
 -- ---- files that are read one after another
-later_rose : (a b c : ℕ) → a ≤ b → Rose b c → Rose a c
+pub later_rose : (a b c : ℕ) → a ≤ b → Rose b c → Rose a c
 later_rose a b c le (inl h) = inl (omega arith)
 later_rose a b c le (inr h) = inr h
 
@@ -78,9 +78,10 @@ comes_third held held' held'' command x y z P steady steady' steady'' a b c d o 
     (λ f. failed_more x (y ∷ z ∷ []) steady steady' held held' a b d kept (failed_more y (z ∷ []) steady' steady'' held' held'' b c d kept' f))
 
 -- ---- the end
--- A command whose texts all have one status on the files that are held.
+-- A command whose texts all have one status on the files that are held, and that writes none where it isn't done.
 pub record IsDecided (held : Option Map) (command : Command) : Type 0 where
   pub never_fault : (s : Status) (text : List ℕ) (writes : List Written) → Says held command s text writes → s ≡ Fault → ⊥
+  pub only_done : (s : Status) (text : List ℕ) (writes : List Written) → Says held command s text writes → s ≢ Done → writes ≡ []
   pub one : (s t : Status) (x y : List ℕ) (v w : List Written) → HoldsAll held (inputs_of command) → Says held command s x v → Says held command t y w → s ≡ t
 
 with_room : (room : Option ℕ) (may : Status → List ℕ → List Written → Type 0) (s : Status) (text : List ℕ) (writes : List Written) (X : Type 0) →
@@ -101,6 +102,19 @@ module _ (command : Command) (steady : Bool) (held held' : Option Map) (old new 
   ended_by a b c d e s text writes result decided le says (finishing.unwritten stopped quiet rose never) = unwritten s text writes says stopped quiet (later_rose a b c le rose) never
   ended_by a b c d e s text writes result decided le says (finishing.no_memory stopped quiet) = no_memory_in s text writes says stopped quiet
 
+  stays_by : (a c d e : ℕ) (result : Status) → IsDecided held command → HasEnded command steady held held' old new room a c d e result → result ≢ Done → result ≢ Fault → result ≢ NoMemory → held' ≡ held
+  stays_by a c d e result decided (printed s text writes says is wrote) done fault memory = is ∙ ap (λ (w : List Written). with_written held w) (decided.only_done s text writes says done)
+  stays_by a c d e result decided (cut s text writes says is front rose never) done fault memory = absurd (fault refl)
+  stays_by a c d e result decided (unwritten s text writes says stopped quiet rose never) done fault memory = absurd (fault refl)
+  stays_by a c d e result decided (no_memory_in s text writes says stopped quiet) done fault memory = absurd (memory refl)
+  stays_by a c d e result decided (unread rose unsure is quiet) done fault memory = absurd (fault refl)
+  stays_by a c d e result decided (no_memory is quiet) done fault memory = absurd (memory refl)
+
+  -- what is refused leaves what is held
+  stays_here : (a c d e : ℕ) (result : Status) → IsDecided held command → HasEnded command steady held held' old new room a c d e result → (result ≡ Refused) ⊎ (result ≡ BadInput) → held' ≡ held
+  stays_here a c d e result decided ended (inl r) = stays_by a c d e result decided ended (λ f. cc) (λ f. cc) (λ f. cc)
+  stays_here a c d e result decided ended (inr r) = stays_by a c d e result decided ended (λ f. cc) (λ f. cc) (λ f. cc)
+
 same_status : (s t result : Status) → s ≡ t → (result ≡ s) ⊎ (result ≡ NoMemory) → (result ≡ t) ⊎ (result ≡ NoMemory)
 same_status s t result e (inl h) = inl (h ∙ e)
 same_status s t result e (inr h) = inr h
@@ -109,22 +123,28 @@ said_ends : (command : Command) (steady : Bool) (held held' : Option Map) (old n
     IsDecided held command → a ≤ b → (IsTrue steady → HoldsAll held (inputs_of command) → b ≡ a) → Says held command s text writes → Finished s text writes steady held held' old new room b c d e result → Ends command steady held held' old new room a c d e result
 said_ends command steady held held' old new room a b c d e s text writes result decided le sure says f = record {
   ended = ended_by command steady held held' old new room a b c d e s text writes result decided le says f.ended;
+  only_done = decided.only_done;
+  stays = stays_here command steady held held' old new room a c d e result decided (ended_by command steady held held' old new room a b c d e s text writes result decided le says f.ended);
   files_sure = λ files. f.files_sure files.are_steady ∙ sure files.are_steady files.hold;
   sink_sure = λ has. with_room room (Says held command) s text writes (e ≡ d) has says f.sink_sure;
   complete = λ files has t x w other.
       same_status s t result (decided.one s t text x writes w files.hold says other) (with_room room (Says held command) s text writes ((result ≡ s) ⊎ (result ≡ NoMemory)) has says (f.sure files.are_steady));
 }
 
-unread_ends : (command : Command) (steady : Bool) (held held' : Option Map) (old new : Option (List ℕ)) (room : Option ℕ) (a b c d e : ℕ) → HasFailed (inputs_of command) steady held a b → Quiet held held' old new b c d e → Ends command steady held held' old new room a c d e Fault
-unread_ends command steady held held' old new room a b c d e failed quiet = record {
+unread_ends : (command : Command) (steady : Bool) (held held' : Option Map) (old new : Option (List ℕ)) (room : Option ℕ) (a b c d e : ℕ) → IsDecided held command → HasFailed (inputs_of command) steady held a b → Quiet held held' old new b c d e → Ends command steady held held' old new room a c d e Fault
+unread_ends command steady held held' old new room a b c d e decided failed quiet = record {
+  only_done = decided.only_done;
+  stays = λ r. quiet.held_stays;
   ended = unread (subst (λ x. Rose a x) (sym quiet.files_stay) failed.rose) (λ files. failed.unsure files.are_steady files.hold) quiet.held_stays quiet.written_stays;
   files_sure = λ files. absurd (failed.unsure files.are_steady files.hold);
   sink_sure = λ has. quiet.sink_stays;
   complete = λ files. absurd (failed.unsure files.are_steady files.hold);
 }
 
-memory_ends : (command : Command) (steady : Bool) (held held' : Option Map) (old new : Option (List ℕ)) (room : Option ℕ) (a b c d e : ℕ) → (IsTrue steady → HoldsAll held (inputs_of command) → b ≡ a) → Quiet held held' old new b c d e → Ends command steady held held' old new room a c d e NoMemory
-memory_ends command steady held held' old new room a b c d e sure quiet = record {
+memory_ends : (command : Command) (steady : Bool) (held held' : Option Map) (old new : Option (List ℕ)) (room : Option ℕ) (a b c d e : ℕ) → IsDecided held command → (IsTrue steady → HoldsAll held (inputs_of command) → b ≡ a) → Quiet held held' old new b c d e → Ends command steady held held' old new room a c d e NoMemory
+memory_ends command steady held held' old new room a b c d e decided sure quiet = record {
+  only_done = decided.only_done;
+  stays = λ r. quiet.held_stays;
   ended = no_memory quiet.held_stays quiet.written_stays;
   files_sure = λ files. quiet.files_stay ∙ sure files.are_steady files.hold;
   sink_sure = λ has. quiet.sink_stays;
@@ -138,9 +158,9 @@ ends_here : (command : Command) (steady : Bool) (held held' : Option Map) (old n
 ends_here command steady held held' old new room a b c d e (outcome.Says s text writes) result decided le sure says f =
     said_ends command steady held held' old new room a b c d e s text.items writes.items result decided le sure says f
 ends_here command steady held held' old new room a b c d e outcome.Unread result decided le sure failed f =
-    subst (λ x. Ends command steady held held' old new room a c d e x) (sym f.1) (unread_ends command steady held held' old new room a b c d e failed f.0)
+    subst (λ x. Ends command steady held held' old new room a c d e x) (sym f.1) (unread_ends command steady held held' old new room a b c d e decided failed f.0)
 ends_here command steady held held' old new room a b c d e outcome.NoMemory result decided le sure said f =
-    subst (λ x. Ends command steady held held' old new room a c d e x) (sym f.1) (memory_ends command steady held held' old new room a b c d e sure f.0)
+    subst (λ x. Ends command steady held held' old new room a c d e x) (sym f.1) (memory_ends command steady held held' old new room a b c d e decided sure f.0)
 
 -- the files between the reading and the writing are as before
 pub ends : (command : Command) (steady steady' : Bool) (held held' held'' : Option Map) (old new : Option (List ℕ)) (room : Option ℕ) (a b c d e : ℕ) (o : Outcome) (result : Status) →

@@ -28,10 +28,10 @@ long_by n o bytes e h = let P : Option (List ℕ) → Type 0 = λ x. IsSomeAnd x
 pub not_long : (n : ℕ) (o : Option (List ℕ)) (bytes : List ℕ) → o ≡ Some bytes → length bytes ≤ n → IsSomeAnd o (λ b. n < length b) → ⊥
 not_long n o bytes e within h = let l = long_by n o bytes e h in omega arith
 
-ok_same : {T E : Type 0} (r : Result T E) (x y : T) → r ≡ Ok x → r ≡ Ok y → x ≡ y
+pub ok_same : {T E : Type 0} (r : Result T E) (x y : T) → r ≡ Ok x → r ≡ Ok y → x ≡ y
 ok_same r x y e f = cc
 
-ok_err : {T E : Type 0} (r : Result T E) (x : T) (y : E) → r ≡ Ok x → r ≡ Err y → ⊥
+pub ok_err : {T E : Type 0} (r : Result T E) (x : T) (y : E) → r ≡ Ok x → r ≡ Err y → ⊥
 ok_err r x y e f = cc
 
 pub one_image : (m : Map) (name : List ℕ) (a b : ImageData) → HoldsImage (Some m) name a → HoldsImage (Some m) name b → a ≡ b

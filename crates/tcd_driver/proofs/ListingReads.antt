@@ -46,5 +46,6 @@ told_one (Some m) name s t x y holds a b = one_status m name s t x y a b
 pub dis_decided : (held : Option Map) (name : List ℕ) → IsDecided held (dis name)
 dis_decided held name = record {
   never_fault = λ s text writes says. never_fault held name s text says.0;
+  only_done = λ s text writes says undone. says.1;
   one = λ s t x y v w holds a b. told_one held name s t x y holds a.0 b.0;
 }

@@ -47,5 +47,6 @@ told_one (Some m) names s t x y holds a b = one_status m names s t x y a b
 pub run_decided : (held : Option Map) (names : RunNames) → IsDecided held (run names)
 run_decided held names = record {
   never_fault = λ s text writes says. never_fault held names s text says.0;
+  only_done = λ s text writes says undone. says.1;
   one = λ s t x y v w holds a b. told_one held names s t x y holds a.0 b.0;
 }

@@ -23,7 +23,7 @@ use Rattle.tc_script.specs.Reading.{script_of, Refuses}
 use Rattle.tc_script.specs.declared.errors.ScriptErr.{ScriptErr}
 use Rattle.tc_script.specs.declared.errors.ScriptErr.TheVariants as reading
 use Rattle.tcd_driver.specs.Held.{ImageText, refused_image, PlanText, refused_plan, CertText, refused_cert, ScriptText, refused_script}
-use Rattle.tcd_driver.specs.Inputs.{SaidWith, StopsWith, IsBadImage, IsBadPlan, IsBadCert, IsBadScript, Judged, certified, IsVerdict, Driven, IsRun}
+use Rattle.tcd_driver.specs.Inputs.{SaidWith, StopsWith, WritesFile, IsBadImage, IsBadPlan, IsBadCert, IsBadScript, Judged, certified, IsVerdict, Driven, IsRun}
 use Rattle.tcd_driver.specs.declared.status.Status.{Status}
 use Rattle.tcd_driver.specs.declared.status.Status.TheVariants.{Done, BadInput}
 use Rattle.tcd_driver.specs.declared.ending.Outcome.{Outcome}
@@ -127,3 +127,15 @@ pub told_is : (plan : PlanData) (script : ScriptData) (old new : Machine) (done 
 told_is plan script old new done h =
     ap (λ (n : ℕ). run_line n done.peak new) h.count ∙ ap (λ (n : ℕ). run_line (length (script_events plan script old)) n new) h.peak
     ∙ ap (λ (m : Machine). run_line (length (script_events plan script old)) (peak_of old (script_events plan script old)) m) h.after
+
+-- a file to write and what is said of it, by other names
+pub writes_by : (name bytes bytes' : List ℕ) (P Q : List ℕ → Type 0) (o : Outcome) → bytes ≡ bytes' → WritesFile name bytes P o → ((t : List ℕ) → P t → Q t) → WritesFile name bytes' Q o
+writes_by name bytes bytes' P Q (Says s text writes) e h f =
+    let R : List ℕ → Type 0 = λ b. writes.items ≡ record { name = name; bytes = b } ∷ [] in
+    (h.0, f text.items h.1, subst R e h.2)
+writes_by name bytes bytes' P Q Unread e h f = absurd h
+writes_by name bytes bytes' P Q NoMemory e h f = tt
+
+-- the text on a file of so many bytes
+pub size_text : {V E : Type 0} (items : V → List ℕ) (r : Result V E) (line : ℕ → List ℕ) (t bytes bytes' : List ℕ) → bytes ≡ bytes' → IfOk r (λ l. items l ≡ line (length bytes)) → IsOkAnd r (λ l. t ≡ items l) → t ≡ line (length bytes')
+size_text items r line t bytes bytes' e made said = line_is items r t (line (length bytes)) made said ∙ ap (λ (b : List ℕ). line (length b)) e

@@ -9,7 +9,7 @@ use Rattle.tc_asm.specs.Sources.{drafted, symbols_of, KeepsRules, IsLeast}
 use Rattle.tcd_base.specs.Files.{Map, Reads, IsTooLong}
 use Rattle.tcd_driver.specs.Commands.{AsmNames}
 use Rattle.tcd_driver.specs.Writing.{Written}
-use Rattle.tcd_driver.specs.Lines.{long_source_line, source_line, object_line}
+use Rattle.tcd_driver.specs.Lines.{long_source_line, source_line, assembled_line}
 use Rattle.tcd_driver.specs.declared.status.Status.{Status}
 use Rattle.tcd_driver.specs.declared.status.Status.TheVariants.{Done, BadInput}
 
@@ -27,11 +27,11 @@ pub data SourceText (held : Option Map) (name : List ℕ) : List ℕ → Type 0 
   long_source : IsTooLong held name (2 ^ 24) → SourceText held name long_source_line
   refused_source :
       (bytes : List ℕ) (line rule : ℕ) → Reads held name bytes → length bytes ≤ 2 ^ 24 → IsLeast (lines_in bytes) line rule
-      → SourceText held name (source_line rule line)
+      → SourceText held name (source_line 0 rule line)
 
 -- the status and the text of `asm`, and the files that it writes: the object of the source
 pub data AsmSays (held : Option Map) (names : AsmNames) : Status → List ℕ → List Written → Type 0 where
   bad_source : (text : List ℕ) → SourceText held names.source text → AsmSays held names BadInput text []
   assembled :
       (object : ObjectData) → HoldsSource held names.source object
-      → AsmSays held names Done (object_line (length (bytes_of object))) (record { name = names.object; bytes = bytes_of object } ∷ [])
+      → AsmSays held names Done (assembled_line (length (bytes_of object))) (record { name = names.object; bytes = bytes_of object } ∷ [])

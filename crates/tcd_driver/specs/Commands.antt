@@ -1,5 +1,6 @@
 -- The commands, and the files that they read.
-use Rattle.std.specs.Prelude.{◌≡◌, ℕ, List, [], ◌∷◌, codes, Option, Some, None, if◌then◌else◌}
+use Rattle.std.specs.Prelude.{◌&&◌, nat_le, ℕ, Bool, List, [], ◌∷◌, length, codes, Option, Some, None, if◌then◌else◌}
+use Rattle.std.specs.Option.{option_or}
 use Rattle.std.specs.Str.{bytes_eq}
 
 -- the names of the files that `check` reads
@@ -19,22 +20,42 @@ pub record AsmNames : Type 0 where
   pub source : List ℕ
   pub object : List ℕ
 
+-- the names of the layout and the objects that `link` reads, and of the image that it writes
+pub record LinkNames : Type 0 where
+  pub layout : List ℕ
+  pub image : List ℕ
+  pub objects : List (List ℕ)
+
 -- a command with its files: `dis` reads an executable
 pub data Command : Type 0 where
   check : CheckNames → Command
   run : RunNames → Command
   dis : List ℕ → Command
   asm : AsmNames → Command
+  link : LinkNames → Command
 
--- what the words ask for
-abbrev pub command : List (List ℕ) → Option Command
-command (verb ∷ elf ∷ plan ∷ third ∷ []) =
+-- `link` has one object at least; no more than 65,535 words are a command
+abbrev pub is_link : List ℕ → List (List ℕ) → Bool
+is_link verb objects = bytes_eq verb (codes "link") && nat_le 1 (length objects) && nat_le (length objects) 65532
+
+-- a layout, the image, and objects
+abbrev pub link_form : List (List ℕ) → Option Command
+link_form (verb ∷ layout ∷ image ∷ objects) = if is_link verb objects then Some (link (record { layout = layout; image = image; objects = objects })) else None
+link_form words = None
+
+-- the commands with so many words
+abbrev pub fixed_form : List (List ℕ) → Option Command
+fixed_form (verb ∷ elf ∷ plan ∷ third ∷ []) =
     if bytes_eq verb (codes "check") then Some (check (record { elf = elf; plan = plan; cert = third }))
     else if bytes_eq verb (codes "run") then Some (run (record { elf = elf; plan = plan; script = third }))
     else None
-command (verb ∷ elf ∷ []) = if bytes_eq verb (codes "dis") then Some (dis elf) else None
-command (verb ∷ source ∷ object ∷ []) = if bytes_eq verb (codes "asm") then Some (asm (record { source = source; object = object })) else None
-command words = None
+fixed_form (verb ∷ elf ∷ []) = if bytes_eq verb (codes "dis") then Some (dis elf) else None
+fixed_form (verb ∷ source ∷ object ∷ []) = if bytes_eq verb (codes "asm") then Some (asm (record { source = source; object = object })) else None
+fixed_form words = None
+
+-- what the words ask for
+abbrev pub command : List (List ℕ) → Option Command
+command words = option_or (link_form words) (fixed_form words)
 
 -- the names of a command's inputs, in the order in which they are read
 abbrev pub inputs_of : Command → List (List ℕ)
@@ -42,3 +63,4 @@ inputs_of (check names) = names.elf ∷ names.plan ∷ names.cert ∷ []
 inputs_of (run names) = names.elf ∷ names.plan ∷ names.script ∷ []
 inputs_of (dis elf) = elf ∷ []
 inputs_of (asm names) = names.source ∷ []
+inputs_of (link names) = names.layout ∷ names.objects

@@ -21,11 +21,17 @@ use Rattle.tc_script.specs.Reading.{script_of}
 use Rattle.tc_script.specs.declared.errors.ScriptErr.{ScriptErr}
 use Rattle.tc_object.specs.Objects.{ObjectData}
 use Rattle.tc_object.specs.Spelling.{bytes_of}
+use Rattle.tc_object.specs.Grammar.{object_of}
+use Rattle.elf_image.specs.Written.{file_of}
+use Rattle.tc_link.specs.Layouts.{LayoutData}
+use Rattle.tc_link.specs.Faults.{layout_of}
+use Rattle.tc_link.specs.declared.faults.LayoutErr.{LayoutErr}
+use Rattle.tcd_driver.specs.Linking.{LinkTold}
 use Rattle.tc_asm.specs.Lines.{lines_in}
 use Rattle.tc_asm.specs.Sources.{IsLeast}
 use Rattle.tcd_driver.specs.Writing.{Written}
 use Rattle.tcd_driver.specs.Commands.{Command}
-use Rattle.tcd_driver.specs.Lines.{elf_line, plan_line, cert_line, script_line, source_line, object_line, refused_line, certified_line}
+use Rattle.tcd_driver.specs.Lines.{elf_line, plan_line, cert_line, script_line, source_line, assembled_line, layout_line, object_line, linked_line, refused_line, certified_line}
 use Rattle.tc_disasm.specs.Listing.{listing_of}
 use Rattle.tcd_driver.specs.Running.{told_run}
 use Rattle.tcd_driver.specs.Tool.{Says, HoldsAll}
@@ -73,8 +79,17 @@ IsBadCert bytes text = (e : FormErr) × (certificate_of bytes ≡ Err e) × (tex
 abbrev pub IsBadScript : PlanData → List ℕ → List ℕ → Type 0
 IsBadScript plan bytes text = (e : ScriptErr) × (script_of plan bytes ≡ Err e) × (text ≡ script_line e)
 
+-- bytes that are no source, and the line that says why
 abbrev pub IsBadSource : List ℕ → List ℕ → Type 0
-IsBadSource bytes text = (line : ℕ) × (rule : ℕ) × IsLeast (lines_in bytes) line rule × (text ≡ source_line rule line)
+IsBadSource bytes text = (line : ℕ) × (rule : ℕ) × IsLeast (lines_in bytes) line rule × (text ≡ source_line 0 rule line)
+
+-- bytes that are no layout, and the line that says why
+abbrev pub IsBadLayout : List ℕ → List ℕ → Type 0
+IsBadLayout bytes text = (e : LayoutErr) × (layout_of bytes ≡ Err e) × (text ≡ layout_line e)
+
+-- bytes at this place among the objects that are none, and the line that says why
+abbrev pub IsBadObject : ℕ → List ℕ → List ℕ → Type 0
+IsBadObject place bytes text = (e : FormErr) × (object_of bytes ≡ Err e) × (text ≡ object_line place e)
 
 -- ---- what a whole command comes to
 abbrev pub ComesTo : Option Map → Command → Type 0 → Outcome → Type 0
@@ -117,13 +132,22 @@ IsListing image (outcome.Says s text writes) = (s ≡ status.Done) × (text.item
 IsListing image outcome.Unread = ⊥
 IsListing image outcome.NoMemory = Unit {0}
 
--- bytes of an object to write under a name, as `asm` says it
-abbrev pub WritesObject : List ℕ → List ℕ → Outcome → Type 0
-WritesObject name bytes (outcome.Says s text writes) =
-    (s ≡ status.Done) × (text.items ≡ object_line (length bytes)) × (writes.items ≡ record { name = name; bytes = bytes } ∷ [])
-WritesObject name bytes outcome.Unread = ⊥
-WritesObject name bytes outcome.NoMemory = Unit {0}
+-- bytes are to be written under a name, and one of these texts is said with Done, unless memory ran out
+abbrev pub WritesFile : List ℕ → List ℕ → (List ℕ → Type 0) → Outcome → Type 0
+WritesFile name bytes IsText (outcome.Says s text writes) = (s ≡ status.Done) × IsText text.items × (writes.items ≡ record { name = name; bytes = bytes } ∷ [])
+WritesFile name bytes IsText outcome.Unread = ⊥
+WritesFile name bytes IsText outcome.NoMemory = Unit {0}
 
--- those of this object
+-- an object, as `asm` says it
 abbrev pub IsObject : List ℕ → ObjectData → Outcome → Type 0
-IsObject name object o = WritesObject name (bytes_of object) o
+IsObject name object o = WritesFile name (bytes_of object) (λ t. t ≡ assembled_line (length (bytes_of object))) o
+
+-- an image, as `link` says it
+abbrev pub IsImageFile : List ℕ → ImageData → Outcome → Type 0
+IsImageFile name image o = WritesFile name (file_of image) (λ t. t ≡ linked_line (length (file_of image))) o
+
+-- what linking comes to, as `link` says it
+abbrev pub IsLink : List ℕ → LayoutData → List ObjectData → Outcome → Type 0
+IsLink name layout objects (outcome.Says s text writes) = LinkTold name layout objects s text.items writes.items
+IsLink name layout objects outcome.Unread = ⊥
+IsLink name layout objects outcome.NoMemory = Unit {0}

@@ -12,6 +12,11 @@ use Rattle.tc_machine.specs.declared.events.End.TheVariants.{Running, Dead}
 use Rattle.tc_machine.specs.declared.state.Machine.{Machine}
 use Rattle.tc_script.specs.declared.errors.ScriptErr.{ScriptErr}
 use Rattle.tc_script.specs.declared.errors.ScriptErr.TheVariants as script
+use Rattle.tc_reloc.specs.declared.refusals.RelocErr.{RelocErr}
+use Rattle.tc_reloc.specs.declared.refusals.RelocErr.TheVariants.{Odd, FarOff, Segment}
+use Rattle.tc_link.specs.Linked.{Refusal, twice, missing, no_place, no_room, reloc, no_entry}
+use Rattle.tc_link.specs.declared.faults.LayoutErr.{LayoutErr}
+use Rattle.tc_link.specs.declared.faults.LayoutErr.TheVariants as layout
 use Rattle.tcd_plan.specs.Keys.{key_texts}
 use Rattle.tcd_plan.specs.declared.plans.PlanKey.{PlanKey}
 use Rattle.tcd_plan.specs.declared.plans.PlanErr.{PlanErr}
@@ -51,6 +56,10 @@ at_one i = codes " at " ++ (decimal i ++ 10 ∷ [])
 -- two numbers
 unfoldable pub at_two : ℕ → ℕ → List ℕ
 at_two i j = codes " at " ++ (decimal i ++ (codes " " ++ (decimal j ++ 10 ∷ [])))
+
+-- a name
+unfoldable pub at_name : List ℕ → List ℕ
+at_name name = codes " name " ++ (name ++ 10 ∷ [])
 
 -- a plan's key
 unfoldable pub at_key : PlanKey → List ℕ
@@ -134,13 +143,54 @@ end_text (Dead cause) pc = codes "dead " ++ (cause_text cause ++ (codes " at " +
 unfoldable pub run_line : ℕ → ℕ → Machine → List ℕ
 run_line events peak m = codes "events " ++ (decimal events ++ (codes " peak " ++ (decimal peak ++ (codes " " ++ end_text m.end m.pc))))
 
--- why a file is no source: 0 where it is above its limit, else the rule; the file's place, 0, and the line
+-- why the file at a place among the sources is none: 0 where it is above its limit, else the rule; `asm` has one, at place 0
 unfoldable pub long_source_line : List ℕ
 long_source_line = codes "bad source 0 at 0" ++ 10 ∷ []
 
-unfoldable pub source_line : ℕ → ℕ → List ℕ
-source_line rule line = codes "bad source " ++ (decimal rule ++ at_two 0 line)
+-- by the rule and its line
+unfoldable pub source_line : ℕ → ℕ → ℕ → List ℕ
+source_line place rule line = codes "bad source " ++ (decimal rule ++ at_two place line)
 
 -- so many bytes of an object were written
-unfoldable pub object_line : ℕ → List ℕ
-object_line bytes = codes "object " ++ (decimal bytes ++ (codes " bytes" ++ 10 ∷ []))
+unfoldable pub assembled_line : ℕ → List ℕ
+assembled_line bytes = codes "object " ++ (decimal bytes ++ (codes " bytes" ++ 10 ∷ []))
+
+-- why a file is no layout: 0 where it is above its limit
+unfoldable pub long_layout_line : List ℕ
+long_layout_line = codes "bad layout 0" ++ 10 ∷ []
+
+-- by the fault and its line
+unfoldable pub layout_line : LayoutErr → List ℕ
+layout_line (layout.BadLine n) = codes "bad layout 1" ++ at_one n
+layout_line (layout.Twice n) = codes "bad layout 2" ++ at_one n
+layout_line (layout.TooMany n) = codes "bad layout 3" ++ at_one n
+layout_line (layout.Overlap n) = codes "bad layout 4" ++ at_one n
+layout_line layout.NoMemory = []
+
+-- why the file at this place among the objects is none: 0 where it is above its limit
+unfoldable pub long_object_line : ℕ → List ℕ
+long_object_line place = codes "bad object 0" ++ at_one place
+
+-- by the fault and its place in the file, in bytes
+unfoldable pub object_line : ℕ → FormErr → List ℕ
+object_line place e = codes "bad object " ++ (decimal e.kind ++ at_two place e.at)
+
+-- the number of a refusal to fill a field
+unfoldable pub field_fault : RelocErr → ℕ
+field_fault Odd = 1
+field_fault FarOff = 2
+field_fault Segment = 3
+
+-- why objects can't be linked; a relocation by its object, section and offset
+unfoldable pub link_line : Refusal → List ℕ
+link_line (twice name) = codes "bad link 1" ++ at_name name
+link_line (missing name) = codes "bad link 2" ++ at_name name
+link_line (no_place name) = codes "bad link 3" ++ at_name name
+link_line (no_room name) = codes "bad link 4" ++ at_name name
+link_line (reloc object section offset err) =
+    codes "bad link 5 at " ++ (decimal object ++ (codes " " ++ (decimal section ++ (codes " " ++ (decimal offset ++ (codes " " ++ (decimal (field_fault err) ++ 10 ∷ [])))))))
+link_line no_entry = codes "bad link 6" ++ 10 ∷ []
+
+-- so many bytes of an image were written
+unfoldable pub linked_line : ℕ → List ℕ
+linked_line bytes = codes "image " ++ (decimal bytes ++ (codes " bytes" ++ 10 ∷ []))

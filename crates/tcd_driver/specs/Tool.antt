@@ -1,16 +1,17 @@
 -- What the tool does with its words, its files and its sink.
-use Rattle.std.specs.Prelude.{◌≡◌, ◌≤◌, ◌⊎◌, ℕ, List, [], ◌∷◌, length, Option, Bool, IsTrue, IsSomeAnd}
+use Rattle.std.specs.Prelude.{◌≡◌, ◌≢◌, ◌≤◌, ◌⊎◌, ℕ, List, [], ◌∷◌, length, Option, Bool, IsTrue, IsSomeAnd}
 use Rattle.tcd_base.specs.Files.{Map, Rose, Holds}
 use Rattle.tcd_base.specs.Sink.{appended, AppendsFront}
-use Rattle.tcd_driver.specs.Commands.{Command, check, run, dis, asm, inputs_of}
+use Rattle.tcd_driver.specs.Commands.{Command, check, run, dis, asm, link, inputs_of}
 use Rattle.tcd_driver.specs.Checking.{CheckSays}
 use Rattle.tcd_driver.specs.Running.{RunSays}
 use Rattle.tcd_driver.specs.Listing.{DisSays}
 use Rattle.tcd_driver.specs.Assembling.{AsmSays}
+use Rattle.tcd_driver.specs.Linking.{LinkSays}
 use Rattle.tcd_driver.specs.Writing.{Written, with_written, Stopped}
 use Rattle.tcd_driver.specs.Lines.{bad_words_line}
 use Rattle.tcd_driver.specs.declared.status.Status.{Status}
-use Rattle.tcd_driver.specs.declared.status.Status.TheVariants.{Fault, NoMemory, BadWords}
+use Rattle.tcd_driver.specs.declared.status.Status.TheVariants.{Done, Refused, BadInput, Fault, NoMemory, BadWords}
 
 -- ---- what is said
 -- the status and the text of a command on these files, and the files that it writes before it prints the text
@@ -19,6 +20,7 @@ Says held (check names) status text writes = CheckSays held names status text ×
 Says held (run names) status text writes = RunSays held names status text × (writes ≡ [])
 Says held (dis elf) status text writes = DisSays held elf status text × (writes ≡ [])
 Says held (asm names) status text writes = AsmSays held names status text writes
+Says held (link names) status text writes = LinkSays held names status text writes
 
 -- ---- when nothing fails
 -- each of the names is held
@@ -59,9 +61,11 @@ pub data HasEnded (command : Command) (steady : Bool) (held held' : Option Map) 
 
 -- How a command ends, with the counts of faults of the files and of the sink before and after. Over steady files that hold
 -- the inputs their count stays, over a sink with room its count; over both the status is the one that is said, unless memory
--- ran out.
+-- ran out. Only a command that is done has files to write, so one that is refused leaves what is held.
 pub record Ends (command : Command) (steady : Bool) (held held' : Option Map) (old new : Option (List ℕ)) (room : Option ℕ) (files files' sink sink' : ℕ) (result : Status) : Type 0 where
   pub ended : HasEnded command steady held held' old new room files files' sink sink' result
+  pub only_done : (status : Status) (text : List ℕ) (writes : List Written) → Says held command status text writes → status ≢ Done → writes ≡ []
+  pub stays : (result ≡ Refused) ⊎ (result ≡ BadInput) → held' ≡ held
   pub files_sure : AreSure steady held (inputs_of command) → files' ≡ files
   pub sink_sure : HasRoom held command room → sink' ≡ sink
   pub complete :

@@ -1,18 +1,18 @@
 // The command `asm`.
-ghost use Rattle.std.specs.Prelude.{◌≡◌, ◌∷◌, [], length, IfOk};
+ghost use Rattle.std.specs.Prelude.{◌≡◌, ◌∷◌, []};
 ghost use Rattle.tcd_driver.specs.Commands.{asm};
 ghost use Rattle.tcd_driver.specs.Tool.{Ends};
-ghost use Rattle.tcd_driver.specs.Inputs.{ComesTo, IsObject, WritesObject, KeepsFiles, HasFailed};
-ghost use Rattle.tcd_driver.specs.Lines.{object_line};
+ghost use Rattle.tcd_driver.specs.Inputs.{ComesTo, IsObject, KeepsFiles, HasFailed};
 
-use crate::ending::{Outcome, Write};
+use crate::ending::Outcome;
 use crate::finishing::finish;
 use crate::inputs::read_source;
-use crate::lines::object_line;
+use crate::lines::assembled_line;
+use crate::saying::writes_file;
 use crate::status::Status;
 use std::alloc::Global;
 use tc_object::Object;
-use tcd_base::{Files, NoMemory, Sink};
+use tcd_base::{Files, Sink};
 
 /// Reads a source, and writes its object.
 pub(crate) fn assemble_file<F: Files, S: Sink>(
@@ -44,28 +44,10 @@ fn written(alloc: Global, name: &str, object: &Object) -> Outcome
     ensures { IsObject name.now object.now result }
 {
     match object.write(alloc) {
-        Ok(bytes) => saying(alloc, name, bytes),
+        Ok(bytes) => {
+            let line = assembled_line(alloc, &bytes);
+            writes_file(alloc, name, bytes, line)
+        }
         Err(_) => Outcome::NoMemory,
     }
-}
-
-// Some bytes of an object to write under a name, and the line on them.
-fn saying(alloc: Global, name: &str, bytes: Vec<u8>) -> Outcome
-    ensures { WritesObject name.now bytes.items result }
-{
-    match said(alloc, name, bytes) {
-        Ok((text, writes)) => Outcome::Says(Status::Done, text, writes),
-        Err(_) => Outcome::NoMemory,
-    }
-}
-
-fn said(alloc: Global, name: &str, bytes: Vec<u8>) -> Result<(Vec<u8>, Vec<Write>), NoMemory>
-    ensures text { IfOk result (λ r. r.0.items ≡ object_line (length bytes.items)) }
-    ensures writes { IfOk result (λ r. r.1.items ≡ record { name = name.now; bytes = bytes.items } ∷ []) }
-{
-    let text = object_line(alloc, bytes.len())?;
-    let name = String::from_str(alloc, name)?;
-    let mut writes = Vec::new(alloc);
-    writes.push(Write { name, bytes })?;
-    Ok((text, writes))
 }

@@ -27,12 +27,12 @@ use tc_script::{Script, ScriptErr};
 use tcd_base::{FileErr, Files, NoMemory};
 use tcd_plan::Plan;
 
-const LIMIT: u32 = 16_777_216;
+pub(crate) const LIMIT: u32 = 16_777_216;
 
 const CERT_LIMIT: u32 = 1_073_741_824;
 
-// An input that isn't in its form, and what is printed of it.
-fn bad_input(alloc: Global, line: Result<Vec<u8>, NoMemory>) -> Outcome
+/// An input that isn't in its form, and what is printed of it.
+pub(crate) fn bad_input(alloc: Global, line: Result<Vec<u8>, NoMemory>) -> Outcome
     ensures { SaidWith Status.BadInput (λ t. IsOkAnd line (λ l. t ≡ l.items)) result }
 {
     says(alloc, Status::BadInput, line)
@@ -49,8 +49,8 @@ fn unread(alloc: Global, e: FileErr, line: &[u8]) -> Outcome
     }
 }
 
-// The bytes of a file; `line` is printed where it is too long.
-fn bytes_of<F: Files>(
+/// The bytes of a file; `line` is printed where it is too long.
+pub(crate) fn bytes_of<F: Files>(
     alloc: Global,
     name: &str,
     limit: u32,
@@ -125,7 +125,7 @@ fn object_from(alloc: Global, bytes: &[u8]) -> Result<Object, Outcome>
 {
     match assemble(alloc, bytes) {
         Ok(object) => Ok(object),
-        Err(AsmErr::Bad { line, rule }) => Err(bad_input(alloc, source_line(alloc, rule, line))),
+        Err(AsmErr::Bad { line, rule }) => Err(bad_input(alloc, source_line(alloc, 0, rule, line))),
         Err(AsmErr::NoMemory) => Err(Outcome::NoMemory),
     }
 }

@@ -7,7 +7,10 @@ mod ending;
 mod finishing;
 mod inputs;
 mod lines;
+mod link_inputs;
+mod linking;
 mod listings;
+mod placing;
 mod printing;
 #[cfg(test)]
 mod row_tests;
@@ -19,5 +22,6 @@ mod tests;
 mod tools;
 mod writing;
 
+pub use placing::placing_laws;
 pub use status::Status;
 pub use tools::tool;

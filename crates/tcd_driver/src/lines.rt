@@ -1,14 +1,17 @@
 // The printed lines.
-ghost use Rattle.std.specs.Prelude.{◌≡◌, ◌≢◌, ◌<◌, ◌++◌, ◌∷◌, [], if◌then◌else◌, length, codes, IsErr, IfOk, OnOk};
+ghost use Rattle.std.specs.Prelude.{◌≡◌, ◌≢◌, ◌<◌, ◌++◌, ◌∷◌, [], if◌then◌else◌, length, codes, IsErr, IfOk, IfSome, OnOk};
 ghost use Rattle.std.specs.Fmt.{decimal};
-ghost use Rattle.tcd_driver.specs.Lines.{bad_words_line, long_elf_line, long_plan_line, long_cert_line, long_script_line, long_source_line, hex_digit, hex_word, kind_text, key_line, at_key, elf_line, plan_line, cert_line, script_line, source_line, object_line, cause_text, end_text, run_line, refused_line, certified_line};
+ghost use Rattle.tcd_driver.specs.Lines.{bad_words_line, long_elf_line, long_plan_line, long_cert_line, long_script_line, long_source_line, hex_digit, hex_word, kind_text, key_line, at_key, elf_line, plan_line, cert_line, script_line, source_line, assembled_line, long_layout_line, layout_line, long_object_line, object_line, at_name, field_fault, link_line, linked_line, cause_text, end_text, run_line, refused_line, certified_line};
 ghost use Rattle.tcd_plan.specs.Plans.{HasText};
+ghost use Rattle.tc_link.specs.Errors.{refusal_of};
 ghost use Rattle.tcd_plan.specs.Keys.{key_texts};
 
 use depth_cert::Key;
 use elf_image::ImageErr;
 use std::alloc::Global;
+use tc_link::{LayoutErr, LinkErr};
 use tc_machine::{Cause, End, Machine};
+use tc_reloc::RelocErr;
 use tc_script::ScriptErr;
 use tcd_base::{FormErr, NoMemory};
 use tcd_plan::{PlanErr, PlanKey, key_text};
@@ -108,6 +111,13 @@ pub(crate) fn long_source_line() -> &'static [u8]
     ensures { result.now ≡ long_source_line }
 {
     b"bad source 0 at 0\n"
+}
+
+#[tactic(auto, unfolding(crate::specs::Lines::long_layout_line))]
+pub(crate) fn long_layout_line() -> &'static [u8]
+    ensures { result.now ≡ long_layout_line }
+{
+    b"bad layout 0\n"
 }
 
 // The words of no form.
@@ -301,19 +311,113 @@ pub(crate) fn run_line(
     Ok(line)
 }
 
-// The least line of a source that breaks a rule, and the least rule there.
+// The least line of the source at this place that breaks a rule, and the least rule there.
 #[tactic(auto, unfolding(crate::specs::Lines::source_line, crate::specs::Lines::at_two))]
-pub(crate) fn source_line(alloc: Global, rule: u8, line: u32) -> Result<Vec<u8>, NoMemory>
-    ensures { IfOk result (λ text. text.items ≡ source_line rule line) }
+pub(crate) fn source_line(
+    alloc: Global,
+    place: u32,
+    rule: u8,
+    line: u32,
+) -> Result<Vec<u8>, NoMemory>
+    ensures { IfOk result (λ text. text.items ≡ source_line place rule line) }
 {
-    let place: u32 = 0;
     Ok(format!(in alloc; "bad source {rule} at {place} {line}\n")?.into_bytes())
 }
 
 // How many bytes of an object were written.
-#[tactic(auto, unfolding(crate::specs::Lines::object_line))]
-pub(crate) fn object_line(alloc: Global, bytes: usize) -> Result<Vec<u8>, NoMemory>
-    ensures { IfOk result (λ text. text.items ≡ object_line bytes) }
+#[tactic(auto, unfolding(crate::specs::Lines::assembled_line))]
+pub(crate) fn assembled_line(alloc: Global, bytes: &[u8]) -> Result<Vec<u8>, NoMemory>
+    ensures { IfOk result (λ text. text.items ≡ assembled_line (length bytes.now)) }
 {
-    Ok(format!(in alloc; "object {bytes} bytes\n")?.into_bytes())
+    let size = bytes.len();
+    Ok(format!(in alloc; "object {size} bytes\n")?.into_bytes())
+}
+
+// Why a file is no layout.
+#[tactic(auto, unfolding(crate::specs::Lines::layout_line, crate::specs::Lines::at_one))]
+pub(crate) fn layout_line(alloc: Global, e: LayoutErr) -> Result<Vec<u8>, NoMemory>
+    ensures line { IfOk result (λ line. line.items ≡ layout_line e) }
+    ensures memory { e ≡ LayoutErr.NoMemory → IsErr result }
+{
+    match e {
+        LayoutErr::BadLine(n) => Ok(format!(in alloc; "bad layout 1 at {n}\n")?.into_bytes()),
+        LayoutErr::Twice(n) => Ok(format!(in alloc; "bad layout 2 at {n}\n")?.into_bytes()),
+        LayoutErr::TooMany(n) => Ok(format!(in alloc; "bad layout 3 at {n}\n")?.into_bytes()),
+        LayoutErr::Overlap(n) => Ok(format!(in alloc; "bad layout 4 at {n}\n")?.into_bytes()),
+        LayoutErr::NoMemory => Err(NoMemory),
+    }
+}
+
+// An object above its limit.
+#[tactic(auto, unfolding(crate::specs::Lines::long_object_line, crate::specs::Lines::at_one))]
+pub(crate) fn long_object_line(alloc: Global, place: u32) -> Result<Vec<u8>, NoMemory>
+    ensures { IfOk result (λ line. line.items ≡ long_object_line place) }
+{
+    Ok(format!(in alloc; "bad object 0 at {place}\n")?.into_bytes())
+}
+
+// Why the file at this place among the objects is none.
+#[tactic(auto, unfolding(crate::specs::Lines::object_line, crate::specs::Lines::at_two))]
+pub(crate) fn object_line(alloc: Global, place: u32, e: FormErr) -> Result<Vec<u8>, NoMemory>
+    ensures { IfOk result (λ line. line.items ≡ object_line place e) }
+{
+    let kind = e.kind;
+    let offset = e.at;
+    Ok(format!(in alloc; "bad object {kind} at {place} {offset}\n")?.into_bytes())
+}
+
+// A refusal to link that has a name.
+#[tactic(auto, unfolding(crate::specs::Lines::at_name))]
+fn name_line(alloc: Global, front: &str, name: &str) -> Result<Vec<u8>, NoMemory>
+    ensures { IfOk result (λ line. line.items ≡ front.now ++ at_name name.now) }
+{
+    Ok(format!(in alloc; "{front} name {name}\n")?.into_bytes())
+}
+
+// The number of a refusal to fill a field.
+#[tactic(auto, unfolding(crate::specs::Lines::field_fault))]
+fn field_fault(err: RelocErr) -> u8
+    ensures { result ≡ field_fault err }
+{
+    match err {
+        RelocErr::Odd => 1,
+        RelocErr::FarOff => 2,
+        RelocErr::Segment => 3,
+    }
+}
+
+// Why objects can't be linked.
+#[tactic(auto, unfolding(crate::specs::Lines::link_line))]
+pub(crate) fn link_line(alloc: Global, e: LinkErr) -> Result<Vec<u8>, NoMemory>
+    ensures line { IfOk result (λ line. IfSome (refusal_of e) (λ r. line.items ≡ link_line r)) }
+    ensures memory { e ≡ LinkErr.NoMemory → IsErr result }
+{
+    match e {
+        LinkErr::Twice(name) => name_line(alloc, "bad link 1", name.as_str()),
+        LinkErr::Missing(name) => name_line(alloc, "bad link 2", name.as_str()),
+        LinkErr::NoPlace(name) => name_line(alloc, "bad link 3", name.as_str()),
+        LinkErr::NoRoom(name) => name_line(alloc, "bad link 4", name.as_str()),
+        LinkErr::Reloc {
+            object,
+            section,
+            offset,
+            err,
+        } => {
+            let fault = field_fault(err);
+            Ok(format!(in alloc;
+                "bad link 5 at {object} {section} {offset} {fault}\n"
+            )?.into_bytes())
+        }
+        LinkErr::NoEntry => line_of(alloc, b"bad link 6\n"),
+        LinkErr::NoMemory => Err(NoMemory),
+    }
+}
+
+// How many bytes of an image were written.
+#[tactic(auto, unfolding(crate::specs::Lines::linked_line))]
+pub(crate) fn linked_line(alloc: Global, bytes: &[u8]) -> Result<Vec<u8>, NoMemory>
+    ensures { IfOk result (λ text. text.items ≡ linked_line (length bytes.now)) }
+{
+    let size = bytes.len();
+    Ok(format!(in alloc; "image {size} bytes\n")?.into_bytes())
 }

@@ -429,3 +429,63 @@ fn an_image_is_listed(rt: HostRuntime) -> Result<(), Fail> {
     );
     Ok(())
 }
+
+const LAYOUT: &str = "entry main\nplace text 80000000 00010000\n";
+
+// The status and the text of `link` on a layout and two names of objects; where one object is given, it is linked alone.
+fn linked(
+    alloc: Global,
+    layout: &str,
+    objects: &[&[u8]],
+    files: &mut MemFiles,
+) -> Result<(Status, Vec<u8>), Fail> {
+    files.put("l", layout.as_bytes())?;
+    let mut words = words_of(alloc, &["link", "l", "e"])?;
+    for (object, name) in objects.iter().zip(["o", "q"]) {
+        files.put(name, object)?;
+        words.push(String::from_str(alloc, name)?)?;
+    }
+    let mut out = MemSink::sure(alloc, 100)?;
+    let status = tool(alloc, &words, files, &mut out);
+    Ok((status, Vec::from_slice(alloc, out.text())?))
+}
+
+#[test]
+fn objects_are_linked(rt: HostRuntime) -> Result<(), Fail> {
+    let alloc = rt.alloc();
+    let mut files = MemFiles::sure(alloc);
+    let program: [&[u8]; 1] = [&OBJECT];
+    let (status, text) = linked(alloc, LAYOUT, &program, &mut files)?;
+    assert_eq!(rt; status, Status::Done);
+    assert_eq!(rt; text.as_slice(), b"image 94 bytes\n".as_slice());
+    assert_eq!(rt; files.get("e").ok_or("no image")?, IMAGE.as_slice());
+    Ok(())
+}
+
+#[test]
+fn what_is_not_linked_is_named(rt: HostRuntime) -> Result<(), Fail> {
+    let alloc = rt.alloc();
+    let mut files = MemFiles::sure(alloc);
+    let program: [&[u8]; 1] = [&OBJECT];
+    let repeated = "entry main\nplace text 80000000 00010000\nplace text 80000000 00010000\n";
+    let (status, text) = linked(alloc, repeated, &program, &mut files)?;
+    assert_eq!(rt; status, Status::BadInput);
+    assert_eq!(rt; text.as_slice(), b"bad layout 2 at 3\n".as_slice());
+    let second: [&[u8]; 2] = [&OBJECT, &OBJECT[..62]];
+    let (status, text) = linked(alloc, LAYOUT, &second, &mut files)?;
+    assert_eq!(rt; status, Status::BadInput);
+    assert_eq!(rt; text.as_slice(), b"bad object 1 at 1 59\n".as_slice());
+    let twice: [&[u8]; 2] = [&OBJECT, &OBJECT];
+    let (status, text) = linked(alloc, LAYOUT, &twice, &mut files)?;
+    assert_eq!(rt; status, Status::BadInput);
+    assert_eq!(rt; text.as_slice(), b"bad link 1 name main\n".as_slice());
+    let other = "entry other\nplace text 80000000 00010000\n";
+    let (status, text) = linked(alloc, other, &program, &mut files)?;
+    assert_eq!(rt; status, Status::BadInput);
+    assert_eq!(rt; text.as_slice(), b"bad link 6\n".as_slice());
+    assert!(rt; files.get("e").is_none());
+    let (status, text) = linked(alloc, LAYOUT, &[], &mut files)?;
+    assert_eq!(rt; status, Status::BadWords);
+    assert_eq!(rt; text.as_slice(), b"bad words\n".as_slice());
+    Ok(())
+}

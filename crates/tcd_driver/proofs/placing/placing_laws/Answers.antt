@@ -1,0 +1,8 @@
+use Rattle.tcd_driver.proofs.PlacedLaws.{segments_law, entry_law}
+use Rattle.tcd_driver.proofs.placing.placing_laws.Goals as goal
+
+pub returns-clause-segments : goal.returns-clause-segments
+returns-clause-segments c = segments_law
+
+pub returns-clause-entry : goal.returns-clause-entry
+returns-clause-entry c = entry_law
