@@ -1,0 +1,4 @@
+entry boot
+place text 80000000 00001000
+place boot 80001000 00001000
+place data D0000000 00001000
