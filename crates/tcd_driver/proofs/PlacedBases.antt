@@ -1,20 +1,16 @@
 -- Where the sections of sources begin.
-use Rattle.std.proofs.Common.{◌≡◌, ◌<◌, ◌≤◌, ◌+◌, ◌%◌, ◌^◌, ◌&&◌, ◌||◌, ◌==◌, ◌⊎◌, inl, inr, ℕ, zero, suc, Bool, true, false, cond, List, [], ◌∷◌, ◌++◌, length, take, map, Option, Some, None, refl, sym, ap, subst, ◌∙◌, arith, append_assoc, append-nil}
-use Rattle.std.specs.Prelude.{slice_get, slice_index, find, nat_lt, not}
+use Rattle.std.proofs.Common.{◌≡◌, ◌+◌, ◌&&◌, ◌||◌, ℕ, zero, suc, Bool, true, false, cond, List, [], ◌∷◌, ◌++◌, length, take, Option, Some, None, refl, sym, ap, ◌∙◌, arith, append_assoc, append-nil}
+use Rattle.std.specs.Prelude.{slice_get, slice_index, nat_lt, not}
 use Rattle.std.specs.Option.{option_map_or, option_or}
 use Rattle.std.specs.Bool.{then_some}
-use Rattle.std.specs.List.{list_any, flat_map}
 use Rattle.std.specs.Str.{bytes_eq}
-use Rattle.std.proofs.lemmas.Bool.{lt-ltb}
-use Rattle.std.proofs.lemmas.Bool.Decides.{Decides-eqb}
-use Rattle.tc_object.specs.Objects.{SectionData, SymbolData, ObjectData}
+use Rattle.tc_object.specs.Objects.{SectionData, ObjectData}
 use Rattle.tc_link.specs.Layouts.{PlaceData, is_placed}
 use Rattle.tc_link.specs.Placing.{PlacedData, rounded, taken, place_of, base_of, bases_after, placed_after}
 use Rattle.tc_link.specs.Placing as placing
 use Rattle.tc_link.specs.Linked.{Refusal, no_place, first_at, has_symbol, no_place_of, no_place_in}
-use Rattle.tc_asm.specs.Objects.{section_of, object_of}
+use Rattle.tc_asm.specs.Objects.{object_of}
 use Rattle.tcd_driver.specs.Placed.{draft_in, sections_in, sections_of, Begins}
-use Rattle.tcd_driver.proofs.PlacedLists.{map_get, one_of}
 use Rattle.tcd_driver.proofs.PlacedSections.{sections_are, AreObjects, all_sections, objects_take}
 
 -- ---- none of the items is refused

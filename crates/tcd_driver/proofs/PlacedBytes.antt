@@ -1,5 +1,5 @@
 -- The bytes of a source's sections, once linked.
-use Rattle.std.proofs.Common.{◌≡◌, ◌<◌, ◌≤◌, ◌+◌, ◌==◌, ℕ, zero, suc, Bool, true, false, cond, List, [], ◌∷◌, ◌++◌, length, take, drop, map, Option, Some, None, refl, sym, ap, subst, ◌∙◌, arith}
+use Rattle.std.proofs.Common.{◌≡◌, ◌≤◌, ◌+◌, ℕ, zero, suc, Bool, true, false, cond, List, [], ◌∷◌, ◌++◌, take, drop, Some, refl, sym, ap, ◌∙◌, arith}
 use Rattle.std.specs.Prelude.{slice_get, fold}
 use Rattle.std.proofs.lemmas.Bool.Decides.{Decides-eqb}
 use Rattle.std.proofs.lemmas.List.Sums.{fold-append}
@@ -7,8 +7,8 @@ use Rattle.tc_object.specs.Objects.{SectionData, ObjectData}
 use Rattle.tc_asm.specs.Items.{ItemData, label, section, global, code, bytes, zeros}
 use Rattle.tc_asm.specs.Lines.{LineData, lines_in}
 use Rattle.tc_asm.specs.Symbols.{SymbolData}
-use Rattle.tc_asm.specs.Drafts.{UseData, PartData, DraftData, start, stepped, has_section, has_room}
-use Rattle.tc_asm.specs.Sources.{with_line, drafted, symbols_of, items_rule}
+use Rattle.tc_asm.specs.Drafts.{UseData, PartData, DraftData, start, stepped}
+use Rattle.tc_asm.specs.Sources.{with_line, symbols_of, items_rule}
 use Rattle.tc_asm.specs.Objects.{section_of, object_of}
 use Rattle.tc_asm.specs.Statements.{StatementData, content_of, standing, statements_from, items_in, section_bytes, offset_of, bytes_at}
 use Rattle.tc_asm.proofs.LaidLaws.{drafted-bytes, stands}
@@ -20,7 +20,7 @@ use Rattle.tcd_driver.proofs.PlacedFields as fields
 use Rattle.tcd_driver.proofs.PlacedUses.{uses_in, GoodItems, GoodItem, all_uses}
 
 -- ---- one part
-part_bytes : (ps : List PartData) (s : ℕ) (q : PartData) → slice_get ps s ≡ Some q → bytes_at ps s ≡ q.bytes
+pub part_bytes : (ps : List PartData) (s : ℕ) (q : PartData) → slice_get ps s ≡ Some q → bytes_at ps s ≡ q.bytes
 part_bytes [] s q e = cc
 part_bytes (p ∷ ps) zero q e = let same : p ≡ q = cc in ap (λ (x : PartData). x.bytes) same
 part_bytes (p ∷ ps) (suc s) q e = part_bytes ps s q e
@@ -31,7 +31,7 @@ part_uses (p ∷ ps) zero q e = let same : p ≡ q = cc in ap (λ (x : PartData)
 part_uses (p ∷ ps) (suc s) q e = part_uses ps s q e
 
 -- the lines of a source, thing by thing
-lines_items : (labels : List SymbolData) (lines : List LineData) (d : DraftData) → fold (with_line labels) d lines ≡ fold (stepped labels) d (items_in lines)
+pub lines_items : (labels : List SymbolData) (lines : List LineData) (d : DraftData) → fold (with_line labels) d lines ≡ fold (stepped labels) d (items_in lines)
 unfolding with_line
 lines_items labels [] d = refl
 lines_items labels (l ∷ ls) d = lines_items labels ls (fold (stepped labels) d l.items) ∙ sym (fold-append (stepped labels) d l.items (items_in ls))
@@ -59,14 +59,14 @@ good_fields labels (i ∷ is) d good =
     fields_behind (standing d (content_of labels d i)) (statements_from labels (stepped labels d i) is) (good_field labels d i good.0) (good_fields labels is (stepped labels d i) good.1)
 
 -- ---- bytes of a list
-take_get : (n : ℕ) (xs : List ℕ) (k b : ℕ) → slice_get (take n xs) k ≡ Some b → slice_get xs k ≡ Some b
+pub take_get : (n : ℕ) (xs : List ℕ) (k b : ℕ) → slice_get (take n xs) k ≡ Some b → slice_get xs k ≡ Some b
 take_get zero [] k b e = cc
 take_get zero (x ∷ xs) k b e = cc
 take_get (suc n) [] k b e = cc
 take_get (suc n) (x ∷ xs) zero b e = e
 take_get (suc n) (x ∷ xs) (suc k) b e = take_get n xs k b e
 
-drop_get : (m : ℕ) (xs : List ℕ) (k n b : ℕ) → n ≡ m + k → slice_get (drop m xs) k ≡ Some b → slice_get xs n ≡ Some b
+pub drop_get : (m : ℕ) (xs : List ℕ) (k n b : ℕ) → n ≡ m + k → slice_get (drop m xs) k ≡ Some b → slice_get xs n ≡ Some b
 drop_get zero xs k n b e h = let same : k ≡ n = omega arith in ap (slice_get xs) (sym same) ∙ h
 drop_get (suc m) [] k n b e h = cc
 drop_get (suc m) (x ∷ xs) k zero b e h = absurd (omega arith)
@@ -77,7 +77,7 @@ module _ (source : List ℕ) (good : GoodItems (symbols_of (lines_in source)) st
   pub have : HaveFields (statements_in source)
   have = good_fields (symbols_of (lines_in source)) (items_in (lines_in source)) start good
 
-  part_is : (s : ℕ) (q : PartData) → slice_get (draft_in source).parts s ≡ Some q → (q.bytes ≡ section_bytes s (statements_in source)) × (q.uses ≡ uses_from s 0 (statements_in source))
+  pub part_is : (s : ℕ) (q : PartData) → slice_get (draft_in source).parts s ≡ Some q → (q.bytes ≡ section_bytes s (statements_in source)) × (q.uses ≡ uses_from s 0 (statements_in source))
   part_is s q e = (
     sym (part_bytes (draft_in source).parts s q e) ∙ drafted-bytes (symbols_of (lines_in source)) (lines_in source) s,
     sym (part_uses (draft_in source).parts s q e)

@@ -1,9 +1,8 @@
 -- The bytes of sections whose relocations are written: those of their statements, with the fields of symbols filled.
-use Rattle.std.proofs.Common.{◌≡◌, ◌<◌, ◌≤◌, ◌+◌, ◌-◌, ◌%◌, ◌^◌, ℕ, zero, suc, Bool, true, false, cond, List, [], ◌∷◌, ◌++◌, length, take, drop, map, Option, Some, None, refl, sym, ap, subst, ◌∙◌, arith, append_assoc, ◌==◌}
+use Rattle.std.proofs.Common.{◌≡◌, ◌+◌, ℕ, zero, suc, Bool, true, false, cond, List, [], ◌∷◌, ◌++◌, length, take, drop, map, Option, Some, None, refl, sym, ap, ◌∙◌, arith, append_assoc, ◌==◌}
 use Rattle.std.specs.Prelude.{slice_get, slice_set, fold, if◌then◌else◌}
 use Rattle.std.specs.Option.{option_map_or}
 use Rattle.std.proofs.lemmas.List.{length-append, append-nil}
-use Rattle.std.proofs.lemmas.List.Sums.{fold-append}
 use Rattle.tc_stmt.specs.Filling.{ReferenceData}
 use Rattle.tc_object.specs.declared.relocs.Reloc.{Reloc}
 use Rattle.tc_object.specs.Objects.{SectionData}
@@ -14,9 +13,9 @@ use Rattle.tc_asm.specs.Statements.{StatementData, section_bytes, offset_of}
 use Rattle.tc_reloc.specs.Fields.{content_of}
 use Rattle.tc_reloc.specs.Applied.{with_field}
 use Rattle.tc_link.specs.Placing.{GlobalData, PlacedData}
-use Rattle.tc_link.specs.Relocated.{field_place, value_of, with_field_at, field_at, filled, written, changed, with_reloc}
+use Rattle.tc_link.specs.Relocated.{field_place, value_of, field_at, written, with_reloc}
 use Rattle.tcd_driver.specs.Placed.{is_open}
-use Rattle.tcd_driver.proofs.PlacedLists.{seam_get, seam_set, take_behind, drop_behind, take_front}
+use Rattle.tcd_driver.proofs.PlacedLists.{seam_get, seam_set, take_behind, drop_behind}
 
 -- ---- statements and their uses
 -- the use of a statement with these bytes behind so many

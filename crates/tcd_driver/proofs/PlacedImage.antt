@@ -1,21 +1,21 @@
 -- Where the bytes of sections stand in the segments of an image.
-use Rattle.std.proofs.Common.{◌≡◌, ◌<◌, ◌≤◌, ◌+◌, ◌-◌, ◌^◌, ◌⊎◌, ◌&&◌, ◌||◌, inl, inr, ℕ, zero, suc, Bool, true, false, cond, List, [], ◌∷◌, ◌++◌, length, take, drop, map, replicate, Option, Some, None, refl, sym, ap, subst, ◌∙◌, arith, append_assoc}
-use Rattle.std.specs.Prelude.{slice_get, fold, filter, find, nat_lt, nat_le, IsTrue}
-use Rattle.std.specs.List.{list_all, list_any}
+use Rattle.std.proofs.Common.{◌≡◌, ◌<◌, ◌≤◌, ◌+◌, ◌-◌, ◌⊎◌, ◌&&◌, ◌||◌, inl, inr, ℕ, zero, suc, Bool, true, false, cond, List, [], ◌∷◌, ◌++◌, length, take, map, replicate, Some, None, refl, sym, ap, ◌∙◌, arith, append_assoc}
+use Rattle.std.specs.Prelude.{slice_get, fold, find, nat_lt, nat_le}
+use Rattle.std.specs.List.{list_all}
 use Rattle.std.specs.Str.{bytes_eq}
-use Rattle.std.proofs.lemmas.Bool.{ltb-true, leb-true, lt-ltb, le-leb, and_parts, ltb-false, leb-false}
+use Rattle.std.proofs.lemmas.Bool.{ltb-true, leb-true, lt-ltb, le-leb, and_parts}
 use Rattle.std.proofs.lemmas.List.{length-append, append-nil, length-replicate}
 use Rattle.std.proofs.lemmas.List.Sums.{fold-append}
 use Rattle.std.proofs.lemmas.Option.{slice_get_within}
 use Rattle.std.proofs.lemmas.Slice.Eq.{bytes_eq-Decides}
-use Rattle.elf_image.specs.Images.{SegmentData, ImageData, holds, byte_in, are_apart, all_apart}
+use Rattle.elf_image.specs.Images.{SegmentData, holds, byte_in, are_apart, all_apart}
 use Rattle.tc_object.specs.Objects.{SectionData, InTurn}
 use Rattle.tc_link.specs.Layouts.{PlaceData, IsPlaceAfter, is_placed}
-use Rattle.tc_link.specs.Placing.{rounded, taken, with_size, place_of}
-use Rattle.tc_link.specs.Relocated.{padded, with_section, joined, segment_of, segments_of}
+use Rattle.tc_link.specs.Placing.{rounded, taken, place_of}
+use Rattle.tc_link.specs.Relocated.{padded, with_section, joined}
 use Rattle.tc_link.specs.Shapes.{Shape, shape_of}
 use Rattle.tc_link.proofs.ShapeLaws.{length-joined, taken-shapes}
-use Rattle.tcd_driver.proofs.PlacedLists.{get_front, get_behind, get_short, in_front_or_rest, InRest, map_get, map_at, map_take}
+use Rattle.tcd_driver.proofs.PlacedLists.{get_short, in_front_or_rest, InRest, map_get, map_at, map_take}
 
 -- ---- the bytes of a place
 -- what was put together stays in front

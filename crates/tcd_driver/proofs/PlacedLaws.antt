@@ -1,41 +1,37 @@
 -- The image of objects that were assembled from sources.
-use Rattle.std.proofs.Common.{◌≡◌, ◌<◌, ◌≤◌, ℕ, zero, suc, List, [], ◌∷◌, length, get_or, map, Option, Some, None, Result, Ok, Err, refl, sym, ap, subst, ◌∙◌, arith}
-use Rattle.std.specs.Prelude.{slice_get, filter, nat_lt}
+use Rattle.std.proofs.Common.{◌≡◌, ◌<◌, ℕ, zero, suc, List, [], ◌∷◌, length, get_or, map, Option, Some, None, Ok, refl, sym, ap, subst, ◌∙◌, arith}
+use Rattle.std.specs.Prelude.{slice_get}
 use Rattle.std.specs.List.{flat_map}
 use Rattle.std.specs.Option.{option_or}
-use Rattle.elf_image.specs.Images.{ImageData, SegmentData}
-use Rattle.tc_object.specs.Objects.{ObjectData, SectionData, IsObject}
-use Rattle.tc_asm.specs.Lines.{lines_in}
-use Rattle.tc_asm.specs.Sources.{KeepsRules}
+use Rattle.elf_image.specs.Images.{ImageData}
+use Rattle.tc_object.specs.Objects.{ObjectData, IsObject}
 use Rattle.tc_asm.specs.Kept.{IsDraft}
-use Rattle.tc_asm.specs.Objects.{object_of}
 use Rattle.tc_link.specs.Layouts.{LayoutData}
-use Rattle.tc_link.specs.Placing.{PlacedData, globals_of, global_address, placed_after}
-use Rattle.tc_link.specs.Placing as placing
+use Rattle.tc_link.specs.Placing.{globals_of, global_address}
 use Rattle.tc_link.specs.Relocated.{relocated, segments_of}
-use Rattle.tc_link.specs.Linked.{Refusal, unless, twice_in, missing_in, no_place_in, no_room_after, reloc_in, placed_of, contents_of, entry_of, made_of, refused_early, linked}
-use Rattle.tc_link.specs.Shapes.{Shape, shape_of}
+use Rattle.tc_link.specs.Linked.{Refusal, unless, no_place_in, reloc_in, placed_of, contents_of, entry_of, made_of, refused_early, linked}
+use Rattle.tc_link.specs.Shapes.{shape_of}
 use Rattle.tc_link.proofs.RelocLaws.{contents_shapes}
-use Rattle.tcd_driver.specs.Placed.{draft_in, sections_of, SpanData, span_of, place_span, HasGlobal, AreAssembled, SegmentsLaw, EntryLaw}
+use Rattle.tcd_driver.specs.Placed.{draft_in, sections_of, span_of, AreAssembled, SegmentsLaw, EntryLaw}
 use Rattle.tcd_driver.proofs.PlacedSections.{AreObjects, all_sections}
 use Rattle.tcd_driver.proofs.PlacedDrafts.{source_draft, source_object}
 use Rattle.tcd_driver.proofs.PlacedNames.{global_at}
 use Rattle.tcd_driver.proofs.PlacedSpans.{spans}
 
 -- ---- sources and their objects
-are_objects : (sources : List (List ℕ)) (objects : List ObjectData) → AreAssembled sources objects → AreObjects sources objects
+pub are_objects : (sources : List (List ℕ)) (objects : List ObjectData) → AreAssembled sources objects → AreObjects sources objects
 are_objects [] [] h = tt
 are_objects [] (o ∷ os) h = absurd h
 are_objects (x ∷ xs) [] h = absurd h
 are_objects (x ∷ xs) (o ∷ os) h = (h.0.1, are_objects xs os h.1)
 
-drafts_good : (sources : List (List ℕ)) (objects : List ObjectData) → AreAssembled sources objects → (i : ℕ) (source : List ℕ) → slice_get sources i ≡ Some source → IsDraft (draft_in source)
+pub drafts_good : (sources : List (List ℕ)) (objects : List ObjectData) → AreAssembled sources objects → (i : ℕ) (source : List ℕ) → slice_get sources i ≡ Some source → IsDraft (draft_in source)
 drafts_good [] objects h i source e = cc
 drafts_good (x ∷ xs) [] h i source e = absurd h
 drafts_good (x ∷ xs) (o ∷ os) h zero source e = let same : x ≡ source = cc in subst (λ (y : List ℕ). IsDraft (draft_in y)) same (source_draft x h.0.0)
 drafts_good (x ∷ xs) (o ∷ os) h (suc i) source e = drafts_good xs os h.1 i source e
 
-objects_good : (sources : List (List ℕ)) (objects : List ObjectData) → AreAssembled sources objects → (k : ℕ) (d : ObjectData) → k < length objects → IsObject (get_or objects k d)
+pub objects_good : (sources : List (List ℕ)) (objects : List ObjectData) → AreAssembled sources objects → (k : ℕ) (d : ObjectData) → k < length objects → IsObject (get_or objects k d)
 objects_good [] [] h k d less = absurd (omega arith)
 objects_good [] (o ∷ os) h k d less = absurd h
 objects_good (x ∷ xs) [] h k d less = absurd h

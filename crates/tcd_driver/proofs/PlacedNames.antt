@@ -1,28 +1,27 @@
 -- The symbols of objects are those of their sources.
-use Rattle.std.proofs.Common.{◌≡◌, ◌<◌, ◌≤◌, ◌+◌, ◌%◌, ◌^◌, ◌&&◌, ◌||◌, ◌==◌, ◌⊎◌, inl, inr, ℕ, zero, suc, Bool, true, false, cond, List, [], ◌∷◌, ◌++◌, length, take, map, Option, Some, None, refl, sym, ap, subst, ◌∙◌, arith}
-use Rattle.std.specs.Prelude.{slice_get, slice_index, find, filter, position, unwrap_or, is_some, nat_lt, not}
-use Rattle.std.specs.Option.{option_map, option_map_or, option_or}
+use Rattle.std.proofs.Common.{◌≡◌, ◌<◌, ◌&&◌, ◌||◌, ◌==◌, ℕ, zero, suc, Bool, true, false, cond, List, [], ◌∷◌, ◌++◌, length, take, map, Option, Some, None, refl, sym, ap, subst, ◌∙◌, arith}
+use Rattle.std.specs.Prelude.{slice_get, slice_index, find, filter, unwrap_or, nat_lt, not}
+use Rattle.std.specs.Option.{option_map}
 use Rattle.std.specs.List.{list_any, flat_map}
 use Rattle.std.specs.Str.{bytes_eq}
 use Rattle.std.proofs.lemmas.Slice.Eq.{bytes_eq-Decides}
-use Rattle.std.proofs.lemmas.Bool.{lt-ltb}
 use Rattle.std.proofs.lemmas.Bool.Decides.{Decides-eqb}
 use Rattle.tc_object.specs.Objects.{SectionData, ObjectData, InTurn}
 use Rattle.tc_object.specs.Objects as object
 use Rattle.tc_asm.specs.declared.entries.Place.{Place}
 use Rattle.tc_asm.specs.declared.entries.Entry.{Entry}
-use Rattle.tc_asm.specs.Symbols.{SymbolData, entry_in, entry_of, place_in}
-use Rattle.tc_asm.specs.Drafts.{PartData, DraftData}
+use Rattle.tc_asm.specs.Symbols.{SymbolData, entry_of, place_in}
+use Rattle.tc_asm.specs.Drafts.{PartData}
 use Rattle.tc_asm.specs.Kept.{Each, is_among, IsNew, AreNames, symbol_names, IsPlace, IsPlaced, IsDraft}
-use Rattle.tc_asm.specs.Objects.{section_of, symbol_at, symbol_of, number_of, object_of}
+use Rattle.tc_asm.specs.Objects.{section_of, symbol_at, symbol_of, object_of}
 use Rattle.tc_link.specs.Layouts.{PlaceData}
 use Rattle.tc_link.specs.Linked.{has_symbol, no_place_in}
 use Rattle.tc_link.specs.Placing.{PlacedData, GlobalData, bases_after, placed_after, is_global, global_data, globals_of, global_address, address_in, symbol_address, place_of}
 use Rattle.tc_link.specs.Placing as placing
 use Rattle.tcd_driver.specs.Placed.{draft_in, symbols_in, sections_in, Begins, HasLabel, HasGlobal}
-use Rattle.tcd_driver.proofs.PlacedLists.{IsIn, FlatAt, flat_at, MapAt, map_at, map_get, FilterAt, filter_at, FindAt, find_at, one_of}
+use Rattle.tcd_driver.proofs.PlacedLists.{flat_at, map_at, map_get, filter_at, find_at}
 use Rattle.tcd_driver.proofs.PlacedSections.{sections_are, AreObjects, object_at, source_at}
-use Rattle.tcd_driver.proofs.PlacedBases.{placed_at, placed_from, place_for, begins_at}
+use Rattle.tcd_driver.proofs.PlacedBases.{placed_from, place_for, begins_at}
 
 -- ---- one entry for a name
 pub same_name : (bs : List ℕ) → bytes_eq bs bs ≡ true
@@ -80,12 +79,12 @@ name_of_symbol s = by s.name s.entry.is_global s.entry.place
     by name g None = refl
     by name g (Some p) = refl
 
-each_at : {A : Type 0} (P : A → Type 0) (xs : List A) (i : ℕ) (x : A) → Each P xs → slice_get xs i ≡ Some x → P x
+pub each_at : {A : Type 0} (P : A → Type 0) (xs : List A) (i : ℕ) (x : A) → Each P xs → slice_get xs i ≡ Some x → P x
 each_at P [] i x h e = cc
 each_at {A} P (y ∷ ys) zero x h e = let same : y ≡ x = cc in subst P same h.0
 each_at P (y ∷ ys) (suc i) x h e = each_at P ys i x h.1 e
 
-any_at : {A : Type 0} (p : A → Bool) (xs : List A) (i : ℕ) (x : A) → slice_get xs i ≡ Some x → p x ≡ true → list_any p xs ≡ true
+pub any_at : {A : Type 0} (p : A → Bool) (xs : List A) (i : ℕ) (x : A) → slice_get xs i ≡ Some x → p x ≡ true → list_any p xs ≡ true
 any_at p [] i x e h = cc
 any_at {A} p (y ∷ ys) zero x e h = let same : y ≡ x = cc in ap (λ b. b || list_any p ys) (ap p same ∙ h)
 any_at p (y ∷ ys) (suc i) x e h = by (p y) (any_at p ys i x e h)
@@ -94,7 +93,7 @@ any_at p (y ∷ ys) (suc i) x e h = by (p y) (any_at p ys i x e h)
     by true f = refl
     by false f = f
 
-part_there : (parts : List PartData) (n : ℕ) → n < length parts → (q : PartData) × (slice_get parts n ≡ Some q)
+pub part_there : (parts : List PartData) (n : ℕ) → n < length parts → (q : PartData) × (slice_get parts n ≡ Some q)
 part_there [] n h = absurd (omega arith)
 part_there (p ∷ ps) zero h = (p, refl)
 part_there (p ∷ ps) (suc n) h = part_there ps n (omega arith)

@@ -1,17 +1,16 @@
 -- The sections of sources and of their objects are the same.
-use Rattle.std.proofs.Common.{◌≡◌, ◌<◌, ◌≤◌, ◌+◌, ℕ, zero, suc, List, [], ◌∷◌, ◌++◌, length, take, drop, map, Option, Some, None, refl, sym, ap, subst, ◌∙◌, arith}
-use Rattle.std.specs.Prelude.{slice_get, filter, nat_lt, cond}
-use Rattle.std.specs.List.{flat_map}
+use Rattle.std.proofs.Common.{◌≡◌, ◌+◌, ℕ, zero, suc, List, [], ◌∷◌, ◌++◌, take, map, Some, refl, sym, ap, ◌∙◌, arith}
+use Rattle.std.specs.Prelude.{slice_get}
 use Rattle.tc_object.specs.Objects.{SectionData, ObjectData}
 use Rattle.tc_asm.specs.Lines.{lines_in}
-use Rattle.tc_asm.specs.Drafts.{PartData, DraftData}
-use Rattle.tc_asm.specs.Sources.{drafted, symbols_of}
+use Rattle.tc_asm.specs.Drafts.{PartData}
+use Rattle.tc_asm.specs.Sources.{symbols_of}
 use Rattle.tc_asm.specs.Kept.{part_names}
 use Rattle.tc_asm.specs.Objects.{section_of, object_of}
-use Rattle.tc_asm.specs.Statements.{StatementData, statements, section_bytes, bytes_at}
+use Rattle.tc_asm.specs.Statements.{StatementData, section_bytes, bytes_at}
 use Rattle.tc_asm.proofs.LaidLaws.{drafted-bytes}
 use Rattle.tc_link.specs.Placing as placing
-use Rattle.tcd_driver.specs.Placed.{draft_in, statements_in, names_in, sections_from, sections_in, sections_of}
+use Rattle.tcd_driver.specs.Placed.{draft_in, statements_in, sections_from, sections_in, sections_of}
 
 from_parts : (ts : List StatementData) (number : ℕ) (parts : List PartData) → ((s : ℕ) → bytes_at parts s ≡ section_bytes (number + s) ts) → sections_from ts number (part_names parts) ≡ map section_of parts
 from_parts ts number [] same = refl

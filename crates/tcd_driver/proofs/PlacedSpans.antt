@@ -1,12 +1,11 @@
 -- The segments of an image are the places with bytes.
-use Rattle.std.proofs.Common.{◌≡◌, ◌<◌, ℕ, Bool, true, false, cond, List, [], ◌∷◌, length, map, refl, sym, ap, ◌∙◌, ltb}
+use Rattle.std.proofs.Common.{◌≡◌, Bool, true, false, cond, List, [], ◌∷◌, length, map, refl, ap, ◌∙◌}
 use Rattle.std.specs.Prelude.{filter, nat_lt}
-use Rattle.elf_image.specs.Images.{SegmentData}
 use Rattle.tc_object.specs.Objects.{SectionData}
 use Rattle.tc_link.specs.Layouts.{PlaceData}
 use Rattle.tc_link.specs.Placing.{taken}
 use Rattle.tc_link.specs.Relocated.{joined, segment_of, segments_of}
-use Rattle.tc_link.specs.Shapes.{Shape, shape_of}
+use Rattle.tc_link.specs.Shapes.{shape_of}
 use Rattle.tc_link.proofs.ShapeLaws.{length-joined, taken-shapes}
 use Rattle.tcd_driver.specs.Placed.{SpanData, span_of, place_span}
 

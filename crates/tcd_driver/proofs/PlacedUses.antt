@@ -1,23 +1,21 @@
 -- The uses of a section are those of its statements that wait for addresses, in their order.
-use Rattle.std.proofs.Common.{◌≡◌, ◌<◌, ◌≤◌, ◌+◌, ◌^◌, ◌&&◌, ◌==◌, min, ℕ, zero, suc, Bool, true, false, cond, List, [], ◌∷◌, ◌++◌, length, take, replicate, Option, Some, None, refl, sym, ap, subst, ◌∙◌, arith, append_assoc, append-nil}
-use Rattle.std.specs.Prelude.{fold, nat_lt, nat_le, not, slice_get, slice_index_or}
+use Rattle.std.proofs.Common.{◌≡◌, ◌<◌, ◌≤◌, ◌+◌, ◌&&◌, ◌==◌, min, ℕ, zero, suc, Bool, true, false, cond, List, [], ◌∷◌, ◌++◌, length, replicate, Option, Some, None, refl, sym, ap, subst, ◌∙◌, arith, append_assoc, append-nil}
+use Rattle.std.specs.Prelude.{fold, nat_lt, not}
 use Rattle.std.proofs.Math.Dec.{eqb-zero-suc, eqb-suc-zero, eqb-suc-suc}
 use Rattle.std.proofs.lemmas.Bool.{ltb-true, and_parts}
 use Rattle.std.proofs.lemmas.Bool.Decides.{Decides-eqb}
 use Rattle.std.proofs.lemmas.List.{length-append}
-use Rattle.std.proofs.lemmas.List.Concat.{flat_map-append}
 use Rattle.std.proofs.lemmas.List.Sums.{fold-append}
 use Rattle.tc_stmt.specs.Names.{is_name}
 use Rattle.tc_stmt.specs.Filling.{ReferenceData}
 use Rattle.tc_asm.specs.Items.{ItemData, label, section, global, code, bytes, zeros}
-use Rattle.tc_asm.specs.Lines.{LineData}
 use Rattle.tc_asm.specs.Symbols.{SymbolData, seen}
 use Rattle.tc_asm.specs.Drafts.{UseData, PartData, DraftData, part, start, place_of, has_section, has_room, with_label, number_of_part, entered, with_global, extended, with_bytes, used, is_reloc, with_use, with_reference, with_content, code_bytes, stepped}
 use Rattle.tc_asm.specs.Rules.{section_rule, bytes_room, symbol_room, reloc_room, reference_rule, content_rule, item_rule}
-use Rattle.tc_asm.specs.Sources.{items_rule, with_line, line_rule, drafted}
+use Rattle.tc_asm.specs.Sources.{items_rule, with_line}
 use Rattle.tc_asm.specs.Kept.{size_at}
-use Rattle.tc_asm.specs.Statements.{StatementData, statement, content_of, standing, statements_from, items_in, statements, section_bytes, bytes_at}
-use Rattle.tc_asm.proofs.ListLaws.{by_test, changed, changed-set, length-changed, size_at-get}
+use Rattle.tc_asm.specs.Statements.{StatementData, statement, content_of, standing, statements_from, section_bytes, bytes_at}
+use Rattle.tc_asm.proofs.ListLaws.{by_test, changed, changed-set, size_at-get}
 use Rattle.tc_asm.proofs.LaidLaws.{drafted-bytes}
 use Rattle.tcd_driver.specs.Placed.{is_open}
 use Rattle.tcd_driver.proofs.PlacedFields.{use_at, uses_from}

@@ -1,25 +1,23 @@
 -- What relocations write: the addresses that names mean.
-use Rattle.std.proofs.Common.{◌≡◌, ◌≢◌, ◌<◌, ◌≤◌, ◌+◌, ◌%◌, ◌^◌, ◌&&◌, ◌||◌, ◌==◌, ℕ, zero, suc, Bool, true, false, cond, List, [], ◌∷◌, ◌++◌, length, take, map, Option, Some, None, refl, sym, ap, subst, ◌∙◌, arith}
-use Rattle.std.specs.Prelude.{slice_get, slice_index, find, filter, position, unwrap_or, nat_lt, not, count_by}
+use Rattle.std.proofs.Common.{◌≡◌, ◌+◌, ◌&&◌, ◌==◌, ℕ, Bool, true, false, cond, List, [], ◌∷◌, ◌++◌, map, Option, Some, None, refl, sym, ap, subst, ◌∙◌, arith}
+use Rattle.std.specs.Prelude.{slice_get, find, filter, count_by}
 use Rattle.std.specs.Option.{option_map, option_map_or, option_or}
 use Rattle.std.specs.Bool.{then_some}
-use Rattle.std.specs.List.{list_any, flat_map, sum_by}
 use Rattle.std.specs.Str.{bytes_eq}
 use Rattle.std.proofs.lemmas.Bool.Decides.{Decides-eqb}
 use Rattle.std.proofs.lemmas.List.Folds.{find-append}
 use Rattle.std.proofs.lemmas.List.Sums.{sum_by-cons, sum_by-append}
-use Rattle.tc_object.specs.declared.relocs.Reloc.{Reloc}
 use Rattle.tc_object.specs.Objects.{SectionData, ObjectData}
 use Rattle.tc_object.specs.Objects as object
 use Rattle.tc_asm.specs.declared.entries.Place.{Place}
 use Rattle.tc_asm.specs.declared.entries.Entry.{Entry}
-use Rattle.tc_asm.specs.Symbols.{SymbolData, entry_of, place_in}
+use Rattle.tc_asm.specs.Symbols.{SymbolData, place_in}
 use Rattle.tc_asm.specs.Kept.{IsDraft}
 use Rattle.tc_asm.specs.Objects.{symbol_at, symbol_of, object_of}
 use Rattle.tc_link.specs.Layouts.{PlaceData}
 use Rattle.tc_link.specs.Linked.{Refusal, missing, first_at, named, globals_named, is_used, missing_of, missing_in, no_place_in, symbols_of}
-use Rattle.tc_link.specs.Placing.{PlacedData, GlobalData, placed_after, bases_after, is_global, global_data, globals_of, global_address, address_in, symbol_address}
-use Rattle.tcd_driver.specs.Placed.{draft_in, symbols_in, HasGlobal, Means, own, other}
+use Rattle.tc_link.specs.Placing.{GlobalData, placed_after, bases_after, is_global, global_data, globals_of, global_address, address_in, symbol_address}
+use Rattle.tcd_driver.specs.Placed.{draft_in, symbols_in, Means, own, other}
 use Rattle.tcd_driver.proofs.PlacedLists.{map_get}
 use Rattle.tcd_driver.proofs.PlacedBases.{none_at}
 use Rattle.tcd_driver.proofs.PlacedSections.{AreObjects, object_at}

@@ -15,7 +15,7 @@ use Rattle.tc_asm.specs.Statements.{StatementData, statements, section_bytes, of
 use Rattle.tc_reloc.specs.Refusals.{refusal_of}
 use Rattle.tc_reloc.specs.Fields.{content_of}
 use Rattle.tc_reloc.specs.Applied.{with_field}
-use Rattle.tc_link.specs.Layouts.{PlaceData, LayoutData}
+use Rattle.tc_link.specs.Layouts.{PlaceData, LayoutData, IsLayout}
 use Rattle.tc_link.specs.Placing.{rounded, taken, place_of}
 use Rattle.tc_link.specs.Linked.{linked}
 
@@ -167,3 +167,12 @@ SegmentsLaw = (sources : List (List ℕ)) (objects : List ObjectData) (layout : 
 abbrev pub EntryLaw : Type 0
 EntryLaw = (sources : List (List ℕ)) (objects : List ObjectData) (layout : LayoutData) (image : ImageData) → AreAssembled sources objects → linked objects layout ≡ Ok image
     → HasGlobal layout.places sources layout.entry image.entry
+
+-- where they are linked by a layout, the image is the sources'
+abbrev pub PlacedLaw : Type 0
+PlacedLaw = (sources : List (List ℕ)) (objects : List ObjectData) (layout : LayoutData) (image : ImageData) → IsLayout layout → AreAssembled sources objects → linked objects layout ≡ Ok image
+    → Placed sources layout image
+
+-- the symbols by which a source's jumps of 16 bits are resolved are those that all its lines put together
+abbrev pub SymbolsLaw : Type 0
+SymbolsLaw = (source : List ℕ) → symbols_of (lines_in source) ≡ symbols_in source
