@@ -23,6 +23,7 @@ pub mod PlacedNames
 pub mod PlacedPasses
 pub mod PlacedSections
 pub mod PlacedSpans
+pub mod PlacedSpelled
 pub mod PlacedStands
 pub mod PlacedUses
 pub mod PlacedValues

@@ -9,6 +9,8 @@ use Rattle.std.proofs.lemmas.Bool.{ltb-true, leb-true, ltb-false, leb-false, and
 use Rattle.std.proofs.lemmas.Bool.Decides.{Decides-eqb}
 use Rattle.tc_isa.specs.declared.fields.Fields.{Fields}
 use Rattle.tc_isa.specs.declared.fields.Uses.{Uses}
+use Rattle.tc_isa.specs.declared.table.Form.{Form}
+use Rattle.tc_isa.specs.declared.table.Form.TheVariants.{Rlc, Bol, Brr, Brc, B}
 use Rattle.tc_isa.specs.Rows.{RowData, listed}
 use Rattle.tc_isa.specs.Words.{IsBelow, bounds, form_index}
 use Rattle.tc_isa.specs.Codec.{Fits, IsRow, uses_of, rest_is_zero, is_apart, is_long}
@@ -30,6 +32,16 @@ use Rattle.tc_asm.specs.Drafts.{is_reloc}
 use Rattle.tc_asm.proofs.ListLaws.{by_test}
 
 -- ---- rows and what they want
+-- a relocation of this kind fills the constant of an instruction of this form (TriCore 1 architecture manual, volume 2,
+-- instruction formats)
+unfoldable pub fills : Form → ℕ → Bool
+fills B kind = kind == 1 || kind == 2
+fills Brr kind = kind == 3
+fills Brc kind = kind == 3
+fills Rlc kind = kind == 4 || kind == 5
+fills Bol kind = kind == 6
+fills form kind = false
+
 -- the row's text names the field
 abbrev is_used : Field → Uses → Bool
 is_used C u = u.c
@@ -43,19 +55,19 @@ abbrev suits : RowData → Want → Bool
 suits r (Reg bank field) = is_used field (uses_of r) && nat_le 16 (field_of field (bounds r.form))
 suits r A10 = true
 suits r (Number signed field) = is_used field (uses_of r)
-suits r Target = (uses_of r).k
-suits r Absolute = (uses_of r).k && nat_le (cond (form_index r.form == 8) (2 ^ 18) (2 ^ 24)) (bounds r.form).k && (form_index r.form == 8 || is_long r)
+suits r Target = (uses_of r).k && (not (is_long r) || fills r.form (target_kind r))
+suits r Absolute = (uses_of r).k && nat_le (cond (form_index r.form == 8) (2 ^ 18) (2 ^ 24)) (bounds r.form).k && (form_index r.form == 8 || (is_long r && fills r.form 2))
 suits r (Memory plus offset) = (uses_of r).s2 && nat_le 16 (bounds r.form).s2 && (not offset || (uses_of r).k)
 
 -- only rows of four bytes take a half of a symbol
 abbrev halves_long : RowData → Bool
-halves_long r = is_long r || ((half_kind r shape.High == 0) && (half_kind r shape.Low == 0))
+halves_long r = (half_kind r shape.High == 0 || (is_long r && fills r.form (half_kind r shape.High))) && (half_kind r shape.Low == 0 || (is_long r && fills r.form (half_kind r shape.Low)))
 
 abbrev row_suits : RowData → Bool
 row_suits r = list_all (suits r) (wants_of r) && halves_long r
 
 all_suit : list_all row_suits listed ≡ true
-unfolding wants_of want_of bounds form_index field_of half_kind shape_index
+unfolding wants_of want_of bounds form_index field_of half_kind shape_index target_kind fills
 all_suit = refl
 
 pub one_passes : {A : Type 0} (p : A → Bool) (xs : List A) (k : ℕ) (x : A) → list_all p xs ≡ true → slice_get xs k ≡ Some x → p x ≡ true
@@ -70,7 +82,7 @@ row_suit k r at = and_parts (list_all (suits r) (wants_of r)) (halves_long r) (o
 -- a symbol that the row has a field for
 pub record TakesSymbol (r : RowData) (s : ReferenceData) : Type 0 where
   pub named : is_name s.name ≡ true
-  pub long : is_reloc s.kind ≡ true → is_long r ≡ true
+  pub long : is_reloc s.kind ≡ true → (is_long r ≡ true) × (fills r.form s.kind ≡ true)
   pub target : s.kind ≡ 0 → (uses_of r).k ≡ true
 
 pub record Symbols (r : RowData) (o : Option ReferenceData) : Type 0 where
@@ -97,7 +109,7 @@ sound_broken r n f s = record { below = s.below; zero = s.zero; symbols = s.symb
 abbrev all_five : Bool → Bool → Bool → Bool → Bool → Bool
 all_five a b c d e = a && b && c && d && e
 
-zero_put : (field : Field) (u : Uses) (f : Fields) (v : ℕ) → is_used field u ≡ true → rest_is_zero u f ≡ true → rest_is_zero u (set_field field v f) ≡ true
+pub zero_put : (field : Field) (u : Uses) (f : Fields) (v : ℕ) → is_used field u ≡ true → rest_is_zero u f ≡ true → rest_is_zero u (set_field field v f) ≡ true
 unfolding set_field
 zero_put C u f v h z = by u.c (f.c == 0) (v % 256 == 0) (u.s1 || f.s1 == 0) (u.s2 || f.s2 == 0) (u.n || f.n == 0) (u.k || f.k == 0) h z
   where
@@ -193,7 +205,7 @@ symbol_named v e = by (nat_le (2 ^ 32) v.size) (is_name v.name) e
     by false true e = refl
     by false false e = cc
 
-sound_symbol : (r : RowData) (kind : ℕ) (v : ValueData) (f : FoundData) → (is_reloc kind ≡ true → is_long r ≡ true) → (kind ≡ 0 → (uses_of r).k ≡ true) → Sound r f → Sound r (with_symbol kind v f)
+sound_symbol : (r : RowData) (kind : ℕ) (v : ValueData) (f : FoundData) → (is_reloc kind ≡ true → (is_long r ≡ true) × (fills r.form kind ≡ true)) → (kind ≡ 0 → (uses_of r).k ≡ true) → Sound r f → Sound r (with_symbol kind v f)
 unfolding with_symbol
 sound_symbol r kind v f long target s =
     by_test (Sound r) (symbol_rule v == 15) _ _
@@ -206,25 +218,18 @@ sound_symbol r kind v f long target s =
 never : (n : ℕ) → n ≡ 0 → (n == 0) ≡ false → ⊥
 never n z f = let t = (Decides-eqb n 0).1 z in cc
 
-half_long : (r : RowData) (s : Shape) → halves_long r ≡ true → is_half (shape_index s) ≡ true → (half_kind r s == 0) ≡ false → is_long r ≡ true
+taken_half : (a b c : Bool) → (a || (b && c)) ≡ true → a ≡ false → (b ≡ true) × (c ≡ true)
+taken_half true b c e f = cc
+taken_half false b c e f = and_parts b c e
+
+half_long : (r : RowData) (s : Shape) → halves_long r ≡ true → is_half (shape_index s) ≡ true → (half_kind r s == 0) ≡ false → (is_long r ≡ true) × (fills r.form (half_kind r s) ≡ true)
 unfolding shape_index
 half_long r shape.Absent all half some = cc
 half_long r shape.Number all half some = cc
 half_long r shape.Word all half some = cc
 half_long r shape.Sum all half some = cc
-half_long r shape.High all half some = by (is_long r) (half_kind r shape.High == 0) (half_kind r shape.Low == 0) all some
-  where
-    by : (l a b : Bool) → (l || (a && b)) ≡ true → a ≡ false → l ≡ true
-    by true a b e f = refl
-    by false true b e f = cc
-    by false false b e f = cc
-half_long r shape.Low all half some = by (is_long r) (half_kind r shape.High == 0) (half_kind r shape.Low == 0) all some
-  where
-    by : (l a b : Bool) → (l || (a && b)) ≡ true → b ≡ false → l ≡ true
-    by true a b e f = refl
-    by false true true e f = cc
-    by false true false e f = cc
-    by false false b e f = cc
+half_long r shape.High all half some = taken_half (half_kind r shape.High == 0) (is_long r) (fills r.form (half_kind r shape.High)) (and_parts _ (half_kind r shape.Low == 0 || (is_long r && fills r.form (half_kind r shape.Low))) all).0 some
+half_long r shape.Low all half some = taken_half (half_kind r shape.Low == 0) (is_long r) (fills r.form (half_kind r shape.Low)) (and_parts (half_kind r shape.High == 0 || (is_long r && fills r.form (half_kind r shape.High))) _ all).1 some
 half_long r shape.Bad all half some = cc
 half_long r shape.Huge all half some = cc
 
@@ -279,19 +284,28 @@ sound_displaced r minus size f used s =
     (λ b. sound_put r K (wrapped (bounds r.form).k minus (size / 2)) f used (wrapped_below (bounds r.form).k minus (size / 2) some (λ e. near r size (ap (λ m. displacement_rule r m size == 15) (sym e) ∙ b) some)) s)
     (λ b. sound_broken r (displacement_rule r minus size) f s)
 
-target_long : (r : RowData) → is_reloc (target_kind r) ≡ true → is_long r ≡ true
+is_target : (r : RowData) → is_reloc (target_kind r) ≡ true → is_long r ≡ true
 unfolding target_kind
-target_long r e = by (is_long r) (cond (form_index r.form == 7) 1 3) e
+is_target r e = by_long (is_long r) (cond (form_index r.form == 7) 1 3) e
   where
-    by : (b : Bool) (n : ℕ) → is_reloc (cond b n 0) ≡ true → b ≡ true
-    by true n e = refl
-    by false n e = cc
+    by_long : (b : Bool) (n : ℕ) → is_reloc (cond b n 0) ≡ true → b ≡ true
+    by_long true n e = refl
+    by_long false n e = cc
 
-sound_target : (r : RowData) (v : ValueData) (f : FoundData) → (uses_of r).k ≡ true → Sound r f → IfSound r (fill_target r v f)
+target_long : (r : RowData) → (not (is_long r) || fills r.form (target_kind r)) ≡ true → is_reloc (target_kind r) ≡ true → (is_long r ≡ true) × (fills r.form (target_kind r) ≡ true)
+target_long r fit e = let long = is_target r e in (long, by (is_long r) (fills r.form (target_kind r)) long fit)
+  where
+    by : (a b : Bool) → a ≡ true → (not a || b) ≡ true → b ≡ true
+    by true b e h = h
+    by false b e h = cc
+
+sound_target : (r : RowData) (v : ValueData) (f : FoundData) → suits r Target ≡ true → Sound r f → IfSound r (fill_target r v f)
 unfolding fill_target
-sound_target r v f used s =
+sound_target r v f suit s =
+    let used = (and_parts (uses_of r).k (not (is_long r) || fills r.form (target_kind r)) suit).0 in
+    let fit = (and_parts (uses_of r).k (not (is_long r) || fills r.form (target_kind r)) suit).1 in
     by_test (IfSound r) (shape_index v.shape == 3 && bytes_eq v.name (codes ".")) _ _ (λ e. sound_some r _ (sound_displaced r v.minus v.size f used s))
-    (λ e. by_test (IfSound r) (is_symbol (shape_index v.shape)) _ _ (λ e. sound_some r _ (sound_symbol r (target_kind r) v f (target_long r) (λ z. used) s))
+    (λ e. by_test (IfSound r) (is_symbol (shape_index v.shape)) _ _ (λ e. sound_some r _ (sound_symbol r (target_kind r) v f (target_long r fit) (λ z. used) s))
     (λ e. by_test (IfSound r) (is_half (shape_index v.shape)) _ _ (λ e. sound_some r _ (sound_broken r _ f s)) (λ e. sound_none r)))
 
 -- ---- absolute addresses
@@ -327,12 +341,8 @@ sound_absolute r v f suit s =
     (λ e. by_test (IfSound r) (shape_index v.shape == 7) _ _ (λ e. sound_some r _ (sound_broken r 5 f s))
     (λ e. by_test (IfSound r) (is_symbol (shape_index v.shape)) _ _
     (λ e. by_test (IfSound r) (form_index r.form == 8) _ _ (λ e. sound_some r _ (sound_broken r _ f s))
-    (λ form. sound_some r _ (sound_symbol r 2 v f (λ k. other (form_index r.form == 8) (is_long r) form p.1) (λ z. absurd (omega arith)) s)))
+    (λ form. sound_some r _ (sound_symbol r 2 v f (λ k. taken_half (form_index r.form == 8) (is_long r) (fills r.form 2) p.1 form) (λ z. absurd (omega arith)) s)))
     (λ e. by_test (IfSound r) (is_half (shape_index v.shape)) _ _ (λ e. sound_some r _ (sound_broken r _ f s)) (λ e. sound_none r))))
-  where
-    other : (a b : Bool) → a ≡ false → (a || b) ≡ true → b ≡ true
-    other true b e h = cc
-    other false b e h = h
 
 -- ---- operands
 sound_fill : (r : RowData) (w : Want) (o : OperandData) (f : FoundData) → halves_long r ≡ true → suits r w ≡ true → Sound r f → IfSound r (fill r w o f)

@@ -48,7 +48,7 @@ targeted_fits labels d row f (Some r) s h =
     by_test (λ (g : FoundData). Fits row g.fields) (r.kind == 0) _ _
     (λ b. jumped_fits labels d row f r ((s.some r refl).target ((Decides-eqb r.kind 0).0 b)) h) (λ b. h)
 
-resolved_fits : (labels : List SymbolData) (d : DraftData) (k : ℕ) (f : Fields) (o : Option ReferenceData) (row : RowData) → slice_get listed k ≡ Some row → Symbols row o → Fits row f → Fits row (resolved labels d k f o).fields
+pub resolved_fits : (labels : List SymbolData) (d : DraftData) (k : ℕ) (f : Fields) (o : Option ReferenceData) (row : RowData) → slice_get listed k ≡ Some row → Symbols row o → Fits row f → Fits row (resolved labels d k f o).fields
 resolved_fits labels d k f o row at s h =
     subst (λ (q : Option RowData). Fits row (option_map_or (λ x. targeted labels d x f o) q (found f)).fields) (sym at) (targeted_fits labels d row f o s h)
 
@@ -58,7 +58,7 @@ below_true f b h =
     let c = h.c in let s1 = h.s1 in let s2 = h.s2 in let n = h.n in let k = h.k in
     grind (arith, nat_tests)
 
-fit_true : (row : RowData) (f : Fields) → Fits row f → is_fit row f ≡ true
+pub fit_true : (row : RowData) (f : Fields) → Fits row f → is_fit row f ≡ true
 fit_true row f h = all_true _ _ _ (below_true f (bounds row.form) h.below) h.zero h.apart
   where
     all_true : (a b c : Bool) → a ≡ true → b ≡ true → c ≡ true → (a && b && c) ≡ true
@@ -81,7 +81,7 @@ code_length labels d k f o c =
 -- ---- good items
 open_long : (row : RowData) (o : Option ReferenceData) → Symbols row o → is_open o ≡ true → is_long row ≡ true
 open_long row None s e = cc
-open_long row (Some r) s e = (s.some r refl).long e
+open_long row (Some r) s e = ((s.some r refl).long e).0
 
 item_good : (labels : List SymbolData) (d : DraftData) (i : ItemData) → IsItem i → GoodItem labels d i
 item_good labels d (label name) h = tt
@@ -91,7 +91,7 @@ item_good labels d (code k f o) h = record {
   named = λ r e reloc. (h.symbols.some r e).named;
   four = λ e. code_length labels d k f o h ∙ ap (λ b. cond b 4 2) (open_long h.row o h.symbols e);
 }
-item_good labels d (bytes bs o) h = h
+item_good labels d (bytes bs o) h = h.good
 item_good labels d (zeros n) h = tt
 
 items_good : (labels : List SymbolData) (d : DraftData) (is : List ItemData) → Each IsItem is → GoodItems labels d is

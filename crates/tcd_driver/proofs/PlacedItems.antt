@@ -33,12 +33,16 @@ pub record IsCode (k : ℕ) (f : Fields) (o : Option ReferenceData) : Type 0 whe
   pub fits : Fits row f
   pub symbols : Symbols row o
 
+pub record IsData (bs : List ℕ) (o : Option ReferenceData) : Type 0 where
+  pub good : IsGood bs o
+  pub kind : (r : ReferenceData) → o ≡ Some r → r.kind ≡ 7
+
 abbrev pub IsItem : ItemData → Type 0
 IsItem (label name) = Unit {0}
 IsItem (section name) = Unit {0}
 IsItem (global name) = Unit {0}
 IsItem (code k f o) = IsCode k f o
-IsItem (bytes bs o) = IsGood bs o
+IsItem (bytes bs o) = IsData bs o
 IsItem (zeros n) = Unit {0}
 
 record Are (l : LineData) : Type 0 where
@@ -68,8 +72,8 @@ symbol_value width o e other =
     by false false false false true four false false fits w n f e = cc
     by false false false false false four big name fits w n f e = cc
 
-plain_good : (bs : List ℕ) → IsGood bs None
-plain_good bs = record { named = λ r e. cc; four = λ e. cc }
+plain_good : (bs : List ℕ) → IsData bs None
+plain_good bs = record { good = record { named = λ r e. cc; four = λ e. cc }; kind = λ r e. cc }
 
 value_is : (width : ℕ) (o : OperandData) → IsItem (value_item width o)
 unfolding value_item
@@ -87,7 +91,10 @@ value_is width o = by (value_rule width o == 15) (shape_index o.value.shape == 1
     by true true e n = plain_good (take width (four_bytes (wrapped (2 ^ 32) o.value.minus o.value.size)))
     by true false e n =
         let p = symbol_value width o e n in
-        record { named = λ r g k. ap (λ (x : ReferenceData). is_name x.name) (sym (given r g)) ∙ p.1; four = λ w. four_zeros width p.0 }
+        record {
+          good = record { named = λ r g k. ap (λ (x : ReferenceData). is_name x.name) (sym (given r g)) ∙ p.1; four = λ w. four_zeros width p.0 };
+          kind = λ r g. ap (λ (x : ReferenceData). x.kind) (sym (given r g));
+        }
 
 values_are : (width : ℕ) (os : List OperandData) → Each IsItem (map (value_item width) os)
 values_are width [] = tt

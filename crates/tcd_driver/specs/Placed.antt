@@ -13,7 +13,10 @@ use Rattle.tc_asm.specs.Kept.{part_names}
 use Rattle.tc_asm.specs.Objects.{addend_of, object_of}
 use Rattle.tc_asm.specs.Statements.{StatementData, statements, section_bytes, offset_of}
 use Rattle.tc_reloc.specs.Refusals.{refusal_of}
-use Rattle.tc_reloc.specs.Fields.{content_of}
+use Rattle.tc_isa.specs.declared.fields.Fields.{Fields}
+use Rattle.tc_isa.specs.Rows.{RowData, listed}
+use Rattle.tc_isa.specs.Codec.{Fits, spelling}
+use Rattle.tc_reloc.specs.Fields.{content_of, room_of}
 use Rattle.tc_reloc.specs.Applied.{with_field}
 use Rattle.tc_link.specs.Layouts.{PlaceData, LayoutData, IsLayout}
 use Rattle.tc_link.specs.Placing.{rounded, taken, place_of}
@@ -176,3 +179,19 @@ PlacedLaw = (sources : List (List ℕ)) (objects : List ObjectData) (layout : La
 -- the symbols by which a source's jumps of 16 bits are resolved are those that all its lines put together
 abbrev pub SymbolsLaw : Type 0
 SymbolsLaw = (source : List ℕ) → symbols_of (lines_in source) ≡ symbols_in source
+
+-- ---- filled fields
+-- The bytes spell an instruction of a listed row; with any number that the field of this kind can hold they spell it with that
+-- number as its constant.
+pub record FillsRow (kind : ℕ) (bytes : List ℕ) : Type 0 where
+  pub place : ℕ
+  pub row : RowData
+  pub is_row : slice_get listed place ≡ Some row
+  pub fields : Fields
+  pub fits : Fits row fields
+  pub spelled : bytes ≡ spelling row fields
+  pub filled : (n : ℕ) → n < room_of kind → Fits row (record fields { k = n }) × (with_field kind bytes n ≡ spelling row (record fields { k = n }))
+
+-- the bytes of a statement that waits for an address are a word of data, or an instruction with the constant to be filled
+abbrev pub FieldsLaw : Type 0
+FieldsLaw = (source : List ℕ) (index : ℕ) (t : StatementData) (r : ReferenceData) → slice_get (statements_in source) index ≡ Some t → t.reference ≡ Some r → is_reloc r.kind ≡ true → (r.kind ≡ 7) ⊎ FillsRow r.kind t.bytes

@@ -1,5 +1,6 @@
 use Rattle.tcd_driver.proofs.PlacedLaws.{segments_law, entry_law}
 use Rattle.tcd_driver.proofs.PlacedWhole.{placed_law, symbols_law}
+use Rattle.tcd_driver.proofs.PlacedSpelled.{fields_law}
 use Rattle.tcd_driver.proofs.placing.placing_laws.Goals as goal
 
 pub returns-clause-segments : goal.returns-clause-segments
@@ -13,3 +14,6 @@ returns-clause-symbols c = symbols_law
 
 pub returns-clause-placed : goal.returns-clause-placed
 returns-clause-placed c = placed_law
+
+pub returns-clause-fields : goal.returns-clause-fields
+returns-clause-fields c = fields_law
