@@ -3,14 +3,7 @@
 # takes; beside it those of plain.c. Run it at the top of the repository: bench/check.sh [PROGRAM]. Without a program it
 # builds crates/tcd. Needs rt (without a program), valgrind, python3, and cc for plain.c.
 set -eu
-top=$(cd "$(dirname "$0")/.." && pwd)
-program=${1:-}
-if [ -z "$program" ]; then
-    (cd "$top/crates/tcd" && rt run -- check data/i1.elf data/p0.json data/c0.cert)
-    program=$top/crates/tcd/out/tcd
-fi
-work=$(mktemp -d)
-trap 'rm -rf "$work"' EXIT
+. "$(dirname "$0")/program.sh"
 if command -v cc >/dev/null; then cc -O2 -o "$work/plain" "$top/bench/plain.c"; fi
 PYTHONDONTWRITEBYTECODE=1 PYTHONPATH=$top/bench python3 - "$program" "$work/plain" "$work" <<'MEASURE'
 import math, os, sys

@@ -3,14 +3,7 @@
 # QEMU's TriCore board, and compares all registers at its end. Run it at the top of the repository: bench/emulator.sh [PROGRAM].
 # Without a program it builds crates/tcd. Needs rt, readelf, python3 and qemu-system-tricore.
 set -eu
-top=$(cd "$(dirname "$0")/.." && pwd)
-program=${1:-}
-if [ -z "$program" ]; then
-    (cd "$top/crates/tcd" && rt run -- check data/i1.elf data/p0.json data/c0.cert)
-    program=$top/crates/tcd/out/tcd
-fi
-work=$(mktemp -d)
-trap 'rm -rf "$work"' EXIT
+. "$(dirname "$0")/program.sh"
 mkdir -p "$work/crates/registers/src"
 for crate in tcd_base elf_image tc_isa tc_encode csa_chain tc_mem tcd_plan tc_machine; do
     mkdir "$work/crates/$crate"

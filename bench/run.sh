@@ -3,14 +3,7 @@
 # bench/run.sh [PROGRAM]. Without a program it builds crates/tcd.
 # Needs rt (without a program), valgrind and python3.
 set -eu
-top=$(cd "$(dirname "$0")/.." && pwd)
-program=${1:-}
-if [ -z "$program" ]; then
-    (cd "$top/crates/tcd" && rt run -- check data/i1.elf data/p0.json data/c0.cert)
-    program=$top/crates/tcd/out/tcd
-fi
-work=$(mktemp -d)
-trap 'rm -rf "$work"' EXIT
+. "$(dirname "$0")/program.sh"
 PYTHONDONTWRITEBYTECODE=1 PYTHONPATH=$top/bench python3 - "$program" "$work" <<'MEASURE'
 import os, sys
 import run
