@@ -24,21 +24,27 @@ word_at bytes at =
 abbrev pub ident : List ℕ
 ident = 127 ∷ 69 ∷ 76 ∷ 70 ∷ 1 ∷ 1 ∷ []
 
+-- the kind of file
 abbrev pub e_type : List ℕ → ℕ
 e_type bytes = half_at bytes 16
 
+-- the machine that it is for
 abbrev pub e_machine : List ℕ → ℕ
 e_machine bytes = half_at bytes 18
 
+-- the address at which the program begins
 abbrev pub e_entry : List ℕ → ℕ
 e_entry bytes = word_at bytes 24
 
+-- where the program headers begin
 abbrev pub e_phoff : List ℕ → ℕ
 e_phoff bytes = word_at bytes 28
 
+-- how many bytes a program header has
 abbrev pub e_phentsize : List ℕ → ℕ
 e_phentsize bytes = half_at bytes 42
 
+-- how many program headers there are
 abbrev pub e_phnum : List ℕ → ℕ
 e_phnum bytes = half_at bytes 44
 
@@ -78,6 +84,7 @@ passes_bounds len h =
     || nat_lt (2 ^ 32) (h.address + h.file_size)
     || nat_lt h.memory_size h.file_size
 
+-- it isn't wholly in the file, or loads bytes that pass the bounds
 unfoldable pub is_bad : List ℕ → Header → Bool
 is_bad bytes h = is_cut bytes h.number || (is_load h && passes_bounds (length bytes) h)
 
@@ -134,9 +141,11 @@ refusal_of bytes =
 abbrev pub segment_of : List ℕ → Header → SegmentData
 segment_of bytes h = record { at = h.address; bytes = take h.file_size (drop h.offset bytes) }
 
+-- the entry, and a segment for each program header that loads bytes
 unfoldable pub loaded : List ℕ → ImageData
 loaded bytes = record { entry = e_entry bytes; segments = map (segment_of bytes) (loads_of bytes) }
 
+-- the refusal, if there is one, else this image
 abbrev pub unless : Option ImageErr → ImageData → Result ImageData ImageErr
 unless None i = Ok i
 unless (Some e) i = Err e

@@ -14,9 +14,11 @@ pub record ImageData : Type 0 where
   pub entry : ℕ
   pub segments : List SegmentData
 
+-- a segment of the code as plain data
 abbrev pub segment_data : Segment → SegmentData
 segment_data s = record { at = s.at; bytes = s.bytes.items }
 
+-- an image of the code as plain data
 abbrev pub image_data : Inside → ImageData
 image_data i = record { entry = i.entry; segments = map segment_data i.segments.items }
 

@@ -8,6 +8,7 @@ use Rattle.elf_image.specs.Images.{ImageData, SegmentData}
 abbrev pub half : ℕ → List ℕ
 half n = to_le_bytes w16 n
 
+-- the four bytes of a number
 abbrev pub word : ℕ → List ℕ
 word n = to_le_bytes w32 n
 
@@ -41,6 +42,7 @@ contents_place ss = 52 + 32 * length ss
 unfoldable pub contents : List SegmentData → List ℕ
 contents ss = flat_map (λ s. s.bytes) ss
 
+-- the file: the ELF header, the program headers, and the segments' bytes
 unfoldable pub file_of : ImageData → List ℕ
 file_of i =
     elf_header i.entry (length i.segments)

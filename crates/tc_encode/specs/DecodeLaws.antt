@@ -13,6 +13,7 @@ NoneSpellsTwo = (bytes : List ℕ) (i j : InstData) → Spells bytes i → Spell
 abbrev pub NoneIsPrefix : Type 0
 NoneIsPrefix = (bytes more : List ℕ) (i j : InstData) → Spells bytes i → Spells (bytes ++ more) j → more ≡ []
 
+-- the laws of spellings
 pub record SpellingLaws : Type 0 where
   pub one : NoneSpellsTwo
   pub apart : NoneIsPrefix
@@ -45,6 +46,7 @@ ShortIsFront = (xs : List ℕ) → (decoded_of xs ≡ Err Short) ↔ (IsFront xs
 abbrev pub NotListedIsRest : Type 0
 NotListedIsRest = (xs : List ℕ) → (decoded_of xs ≡ Err NotListed) ↔ ((IsFront xs → ⊥) × ((i : InstData) (n : ℕ) → Begins xs i n → ⊥))
 
+-- the laws of decoding
 pub record DecodeLaws : Type 0 where
   pub more : MoreChangesNothing
   pub lengths : LengthsAreRight

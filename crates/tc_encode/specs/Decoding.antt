@@ -39,6 +39,7 @@ begins_with bytes r = do_fit r (fields_at bytes r) && bytes_eq (take (size_of r)
 abbrev pub goes_on_as : List ℕ → RowData → Bool
 goes_on_as bytes r = nat_lt (length bytes) (size_of r) && begins_with (bytes ++ drop (length bytes) (spelling r (least r))) r
 
+-- an instruction of the row at this place, with these fields
 abbrev pub instruction : ℕ → Fields → InstData
 instruction place f = record { row = place; c = f.c; s1 = f.s1; s2 = f.s2; n = f.n; k = f.k }
 
@@ -48,6 +49,7 @@ abbrev pub first_of : List ℕ → ℕ → List RowData → Option (InstData × 
 first_of bytes place [] = None
 first_of bytes place (r ∷ rs) = if begins_with bytes r then Some (instruction place (fields_at bytes r), size_of r) else first_of bytes (suc place) rs
 
+-- the instruction that was found; else the bytes are the front of one, or none is listed
 abbrev pub answer_of : List ℕ → Option (InstData × ℕ) → Result (InstData × ℕ) DecodeErr
 answer_of bytes (Some found) = Ok found
 answer_of bytes None = if list_any (goes_on_as bytes) listed then Err Short else Err NotListed

@@ -19,9 +19,11 @@ pub record Makes (w : ℕ) (i : InstData) : Type 0 where
 abbrev pub mix1 : ℕ → ℕ → ℕ
 mix1 a b = a % 2 ^ 8 + b / 2 ^ 8 * 2 ^ 8
 
+-- the low two bytes of a, and the rest of b
 abbrev pub mix2 : ℕ → ℕ → ℕ
 mix2 a b = a % 2 ^ 16 + b / 2 ^ 16 * 2 ^ 16
 
+-- the low three bytes of a, and the rest of b
 abbrev pub mix3 : ℕ → ℕ → ℕ
 mix3 a b = a % 2 ^ 24 + b / 2 ^ 24 * 2 ^ 24
 
@@ -42,6 +44,7 @@ pub record GoesOn (n part : ℕ) (i : InstData) : Type 0 where
   pub longer : n < size_of inst.row
   pub is : word_of inst.row (fields_in i) % span n ≡ part
 
+-- there is a row, and it has the form of this one
 abbrev pub has_form : RowData → Option RowData → Bool
 has_form r None = false
 has_form r (Some s) = form_index s.form == form_index r.form
@@ -57,6 +60,7 @@ abbrev pub hold_all : List ℕ → List ℕ → ℕ → List RowData → Bool
 hold_all starts ends place [] = true
 hold_all starts ends place (r ∷ rs) = is_between place r (slice_get starts r.op1) (slice_get ends r.op1) && hold_all starts ends (suc place) rs
 
+-- there is a place, and it is this one
 abbrev pub is_place : ℕ → Option ℕ → Bool
 is_place place None = false
 is_place place (Some p) = p == place

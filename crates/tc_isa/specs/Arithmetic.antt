@@ -27,6 +27,7 @@ taken_of cond.LtU x y = nat_lt x y
 taken_of cond.Ge x y = nat_le (signed_place y) (signed_place x)
 taken_of cond.GeU x y = nat_le y x
 
+-- 1 for what holds, else 0
 abbrev pub one_if : Bool → ℕ
 one_if b = if b then 1 else 0
 

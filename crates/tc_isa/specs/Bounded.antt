@@ -11,13 +11,16 @@ use Rattle.tc_isa.specs.declared.shapes.Shape.TheVariants.{Compute, Scaled, Load
 abbrev pub IsRegister : ℕ → Type 0
 IsRegister r = r < 32
 
+-- a word of 32 bits
 abbrev pub IsWord : ℕ → Type 0
 IsWord w = w < 2 ^ 32
 
+-- an operand: one of the registers, or a word
 abbrev pub IsArg : Arg → Type 0
 IsArg (Reg r) = IsRegister r
 IsArg (Word w) = IsWord w
 
+-- a target: a distance, an address, or one of the registers
 abbrev pub IsTarget : Target → Type 0
 IsTarget (target.Rel w) = IsWord w
 IsTarget (target.Abs w) = IsWord w
@@ -27,6 +30,7 @@ IsTarget (target.Reg r) = IsRegister r
 abbrev pub IsSize : ℕ → Type 0
 IsSize n = (n ≡ 1) ⊎ ((n ≡ 2) ⊎ (n ≡ 4))
 
+-- the registers, words, sizes and numbers of a shape are such
 abbrev pub IsShape : Shape → Type 0
 IsShape (Compute op dst x y) = IsRegister dst × IsArg x × IsArg y
 IsShape (Scaled dst base index n) = IsRegister dst × IsRegister base × IsRegister index × (n < 4)

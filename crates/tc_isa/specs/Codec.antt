@@ -12,6 +12,7 @@ has_pair a b [] = false
 has_pair a b (x ∷ []) = false
 has_pair a b (x ∷ y ∷ rest) = x == a && y == b || has_pair a b (y ∷ rest)
 
+-- a byte stands among these
 abbrev pub has_byte : ℕ → List ℕ → Bool
 has_byte a xs = list_any (λ x. x == a) xs
 
@@ -39,6 +40,7 @@ pub record Fits (r : RowData) (f : Fields) : Type 0 where
   pub zero : rest_is_zero (uses_of r) f ≡ true
   pub apart : is_apart r f ≡ true
 
+-- the number that an instruction of the row is, with these fields
 abbrev pub word_of : RowData → Fields → ℕ
 word_of r f = word r.form r.op1 r.op2 f
 
@@ -46,6 +48,7 @@ word_of r f = word r.form r.op1 r.op2 f
 abbrev pub is_long : RowData → Bool
 is_long r = r.op1 % 2 == 1
 
+-- both hold, or neither
 abbrev pub same_test : Bool → Bool → Bool
 same_test true b = b
 same_test false b = not b
@@ -61,6 +64,7 @@ pub record IsRow (r : RowData) : Type 0 where
   pub has_least : Fits r (least r)
   pub size : is_long r ≡ is_long_form r.form
 
+-- each field is below its bound
 abbrev pub is_below_test : Fields → Fields → Bool
 is_below_test f b = nat_lt f.c b.c && nat_lt f.s1 b.s1 && nat_lt f.s2 b.s2 && nat_lt f.n b.n && nat_lt f.k b.k
 
@@ -72,9 +76,11 @@ is_row r = nat_lt r.op1 256 && nat_lt r.op2 (second_bound r.form) && is_below_te
 abbrev pub two_bytes : ℕ → List ℕ
 two_bytes w = w % 256 ∷ w / 256 ∷ []
 
+-- a word as four bytes, the lowest first
 abbrev pub four_bytes : ℕ → List ℕ
 four_bytes w = w % 256 ∷ w / 2 ^ 8 % 256 ∷ w / 2 ^ 16 % 256 ∷ w / 2 ^ 24 ∷ []
 
+-- a number as the bytes of an instruction of 32 bits or of 16
 abbrev pub spelled : Bool → ℕ → List ℕ
 spelled true w = four_bytes w
 spelled false w = two_bytes w
@@ -87,6 +93,7 @@ spelling r f = spelled (is_long r) (word_of r f)
 abbrev pub clash : RowData → RowData → Bool
 clash r s = r.op1 == s.op1 && (not (form_index r.form == form_index s.form) || r.op2 == s.op2)
 
+-- no two rows clash
 abbrev pub none_clash : List RowData → Bool
 none_clash [] = true
 none_clash (r ∷ rs) = not (list_any (clash r) rs) && none_clash rs

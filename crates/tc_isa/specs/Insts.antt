@@ -14,6 +14,7 @@ pub record InstData : Type 0 where
   pub n : ℕ
   pub k : ℕ
 
+-- the fields of an instruction
 abbrev pub fields_in : InstData → Fields
 fields_in i = fields i.c i.s1 i.s2 i.n i.k
 

@@ -1,3 +1,4 @@
+-- The instruction table: rows, forms and fields, what spells an instruction, and what it does.
 pub mod Rows
 pub mod Words
 pub mod Codec

@@ -30,6 +30,7 @@ pub record AreSmall (f : Fields) : Type 0 where
   pub n : f.n < 4
   pub k : f.k < 2 ^ 24
 
+-- the register at a place
 abbrev pub register_of : Place → Fields → ℕ
 register_of Dc f = d f.c
 register_of Ds1 f = d f.s1
@@ -40,6 +41,7 @@ register_of As1 f = a f.s1
 register_of As2 f = a f.s2
 register_of A10 f = a 10
 
+-- the word that a constant is
 abbrev pub word_at : Constant → Fields → ℕ
 word_at Zero f = 0
 word_at Signed4 f = sk 4 f
@@ -52,21 +54,25 @@ word_at Address f = place f
 word_at SignedS2 f = sign_extended 4 (f.s2 % 2 ^ 4)
 word_at UnsignedS2 f = f.s2
 
+-- the operand: the register at its place, or the word of its constant
 abbrev pub operand_of : Operand → Fields → Arg
 operand_of (At p) f = Reg (register_of p f)
 operand_of (Of c) f = Word (word_at c f)
 
+-- how many bytes ahead a target is
 abbrev pub distance_of : Distance → Fields → ℕ
 distance_of Ahead8 f = ahead 8 f
 distance_of Ahead15 f = ahead 15 f
 distance_of Ahead24 f = ahead 24 f
 distance_of AheadOnly f = ahead_only f
 
+-- the target
 abbrev pub goal_of : Goal → Fields → Target
 goal_of (By b) f = target.Rel (distance_of b f)
 goal_of Code f = target.Abs (code_place f)
 goal_of (In p) f = target.Reg (register_of p f)
 
+-- what the instruction does, with these fields
 abbrev pub meant : Meaning → Fields → Shape
 meant (Computes op dst x y) f = Compute op (register_of dst f) (operand_of x f) (operand_of y f)
 meant (Scales dst base index) f = Scaled (register_of dst f) (register_of base f) (register_of index f) f.n

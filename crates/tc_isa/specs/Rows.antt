@@ -12,12 +12,15 @@ pub record RowData : Type 0 where
   pub op1 : ℕ
   pub op2 : ℕ
 
+-- a row of the code without where its texts lie
 abbrev pub row_of : Row → RowData
 row_of r = record { name = r.name.now; operands = r.operands.now; form = r.form; op1 = r.op1; op2 = r.op2 }
 
+-- the row of a name, its operands' text, its form, and its codes
 abbrev pub row : List ℕ → List ℕ → Form → ℕ → ℕ → RowData
 row name operands form op1 op2 = record { name = name; operands = operands; form = form; op1 = op1; op2 = op2 }
 
+-- the rows: instructions and codes of the TriCore 1 architecture manual, volume 2, instruction set
 abbrev pub listed : List RowData
 listed =
     row (codes "addi") (codes "Dc, Ds1, sk") Rlc 0x1b 0x00 ∷

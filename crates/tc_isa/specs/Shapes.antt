@@ -16,6 +16,7 @@ use Rattle.tc_isa.specs.Insts.{InstData, fields_in}
 abbrev pub d : ℕ → ℕ
 d n = n
 
+-- the register An
 abbrev pub a : ℕ → ℕ
 a n = 16 + n
 
@@ -23,9 +24,11 @@ a n = 16 + n
 abbrev pub sk : ℕ → Fields → ℕ
 sk n f = sign_extended n (f.k % 2 ^ n)
 
+-- the constant k as it is
 abbrev pub uk : Fields → ℕ
 uk f = f.k
 
+-- the constant k times 2 ^ 16
 abbrev pub high : Fields → ℕ
 high f = f.k * 2 ^ 16 % 2 ^ 32
 
@@ -41,6 +44,7 @@ code_place f = f.k / 2 ^ 20 % 2 ^ 4 * 2 ^ 28 + f.k % 2 ^ 20 * 2
 abbrev pub ahead : ℕ → Fields → ℕ
 ahead n f = 2 * sk n f % 2 ^ 32
 
+-- twice the displacement k, zero-extended
 abbrev pub ahead_only : Fields → ℕ
 ahead_only f = 2 * f.k % 2 ^ 32
 
@@ -52,9 +56,11 @@ Meaning = Fields → Shape
 abbrev pub registers : Op → Meaning
 registers op f = Compute op (d f.c) (Reg (d f.s1)) (Reg (d f.s2))
 
+-- Dc becomes the operation on Ds1 and the signed constant
 abbrev pub signed : Op → Meaning
 signed op f = Compute op (d f.c) (Reg (d f.s1)) (Word (sk 9 f))
 
+-- Dc becomes the operation on Ds1 and the unsigned constant
 abbrev pub unsigned : Op → Meaning
 unsigned op f = Compute op (d f.c) (Reg (d f.s1)) (Word (uk f))
 
@@ -66,12 +72,15 @@ own op f = Compute op (d f.s1) (Reg (d f.s1)) (Reg (d f.s2))
 abbrev pub load : ℕ → Bool → Bool → Meaning
 load size sign after f = Load (d f.s1) (Reg (a f.s2)) (sk 10 f) size sign after
 
+-- an address register is loaded from the base
 abbrev pub load_address : Bool → Meaning
 load_address after f = Load (a f.s1) (Reg (a f.s2)) (sk 10 f) 4 false after
 
+-- a data register is stored to the base, so many bytes of it
 abbrev pub store : ℕ → Bool → Meaning
 store size after f = Store (d f.s1) (Reg (a f.s2)) (sk 10 f) size after
 
+-- an address register is stored to the base
 abbrev pub store_address : Bool → Meaning
 store_address after f = Store (a f.s1) (Reg (a f.s2)) (sk 10 f) 4 after
 
@@ -79,9 +88,11 @@ store_address after f = Store (a f.s1) (Reg (a f.s2)) (sk 10 f) 4 after
 abbrev pub branch : Cond → Meaning
 branch c f = Branch c (d f.s1) (Reg (d f.s2)) (ahead 15 f) false
 
+-- a branch on a data register and a signed constant of four bits
 abbrev pub branch_signed : Cond → Meaning
 branch_signed c f = Branch c (d f.s1) (Word (sign_extended 4 (f.s2 % 2 ^ 4))) (ahead 15 f) false
 
+-- a branch on a data register and an unsigned constant of four bits
 abbrev pub branch_unsigned : Cond → Meaning
 branch_unsigned c f = Branch c (d f.s1) (Word f.s2) (ahead 15 f) false
 
@@ -90,6 +101,7 @@ pub record Line : Type 0 where
   pub name : List ℕ
   pub shape : Meaning
 
+-- the line of a name and a meaning
 abbrev pub line : List ℕ → Meaning → Line
 line name shape = record { name = name; shape = shape }
 
@@ -240,6 +252,7 @@ meanings =
     line (codes "st16.a") (λ f. Store (a f.s1) (Reg (a f.s2)) 0 4 false) ∷
     []
 
+-- the meaning of a line with these fields; nothing where there is no line
 abbrev pub by_line : Option Line → Fields → Shape
 by_line None f = Nothing
 by_line (Some l) f = l.shape f

@@ -4,6 +4,7 @@ use Rattle.tc_isa.specs.declared.fields.Fields.{Fields}
 use Rattle.tc_isa.specs.declared.table.Form.{Form}
 use Rattle.tc_isa.specs.declared.table.Form.TheVariants.{Rlc, Rr, Rc, Bol, Bo, Brr, Brc, B, Abs, Sys, Sr, Sc, Sb, Sbr, Src, Srr, Slr, Ssr}
 
+-- the fields c, s1, s2, n and k
 abbrev pub fields : ℕ → ℕ → ℕ → ℕ → ℕ → Fields
 fields c s1 s2 n k = record { c = c; s1 = s1; s2 = s2; n = n; k = k }
 
@@ -141,6 +142,7 @@ is_long_form Srr = false
 is_long_form Slr = false
 is_long_form Ssr = false
 
+-- the forms by their numbers, so that they can be compared
 unfoldable pub form_index : Form → ℕ
 form_index Rlc = 0
 form_index Rr = 1

@@ -66,6 +66,7 @@ restored_lower m = record (released m) {
   a = a_after_lower (last_context m) m.a;
 }
 
+-- the machine once the upper or the lower context has come back from that area
 abbrev pub restored : Machine → Bool → Machine
 restored m upper = if upper then restored_upper m else restored_lower m
 

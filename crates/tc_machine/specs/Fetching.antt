@@ -13,6 +13,7 @@ use Rattle.tc_machine.specs.declared.events.Cause.{Cause}
 use Rattle.tc_machine.specs.declared.events.Cause.TheVariants.{NotListed, NoCode}
 use Rattle.tc_machine.specs.declared.state.Machine.{Machine}
 
+-- a byte in front of others; none of them where it isn't mapped
 abbrev pub in_front : Option ℕ → List ℕ → List ℕ
 in_front None bytes = []
 in_front (Some b) bytes = b ∷ bytes

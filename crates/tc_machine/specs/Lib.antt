@@ -1,3 +1,4 @@
+-- The machine: its state, what instructions and events do to it, where it starts, and when it's safe.
 pub mod Machine
 pub mod Contexts
 pub mod Fetching

@@ -24,6 +24,7 @@ arg m (Word w) = w
 abbrev pub a10 : Machine → ℕ
 a10 m = slice_index m.a 10
 
+-- the return address
 abbrev pub a11 : Machine → ℕ
 a11 m = slice_index m.a 11
 
@@ -51,6 +52,7 @@ advanced n m = record m { pc = moved m.pc n }
 abbrev pub died : Cause → Machine → Machine
 died cause m = record m { end = Dead cause }
 
+-- what comes next while the machine runs, and this machine once it's dead
 abbrev pub goes_on : End → Machine → (Machine → Machine) → Machine
 goes_on Running m next = next m
 goes_on (Dead cause) m next = m

@@ -12,6 +12,7 @@ use Rattle.tc_machine.specs.Ranges.{IsInOne, first_link}
 use Rattle.tc_machine.specs.Safe.{HasBytes, Starts}
 
 -- ---- the memory is filled
+-- the memory with a byte at x, if there is one
 abbrev pub with_some : Memory → ℕ → Option ℕ → Memory
 with_some m x (Some b) = with_byte m x b
 with_some m x None = m

@@ -36,6 +36,7 @@ abbrev pub run : Machine → List Event → Machine
 run m [] = m
 run m (e ∷ es) = run (step m e) es
 
+-- what was found, where the machine runs
 abbrev pub where_running : End → Option (ℕ × ℕ) → Option (ℕ × ℕ)
 where_running Running found = found
 where_running (Dead cause) found = None

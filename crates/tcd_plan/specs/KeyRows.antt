@@ -15,9 +15,11 @@ pub record KeyRow : Type 0 where
   pub name : List ℕ
   pub form : Form
 
+-- a row of the code without where its name lies
 abbrev pub row_of : Row → KeyRow
 row_of r = record { key = r.key; holder = r.holder; name = r.name.now; form = r.form }
 
+-- the row of a key: its number, its object, its name there, and what stands at it
 abbrev pub row : ℕ → Holder → List ℕ → Form → KeyRow
 row key holder name form = record { key = key; holder = holder; name = name; form = form }
 
@@ -71,6 +73,7 @@ holder_key Csa = 12
 holder_key Start = 22
 holder_key Globals = 26
 
+-- how a key is printed
 abbrev pub text_of : ℕ → List ℕ
 text_of key = unwrap_or (slice_get key_texts key) []
 

@@ -1,3 +1,4 @@
+-- Plans: what every plan meets, and which plan a document is.
 pub mod PlanData
 pub mod Keys
 pub mod KeyRows

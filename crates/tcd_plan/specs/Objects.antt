@@ -20,6 +20,7 @@ passes test o = option_map_or test o false
 abbrev pub objects_at : List ℕ → Data → List Data
 objects_at name d = if passes (list_all is_object) (places_at name d) then unwrap_or (places_at name d) [] else []
 
+-- the object that stands at a key, if it is one
 abbrev pub object_at : List ℕ → Data → List Data
 object_at name d = if passes is_object (get name d) then option_to_list (get name d) else []
 
@@ -38,6 +39,7 @@ abbrev pub ascend_above : ℕ → List Data → Bool
 ascend_above low [] = true
 ascend_above low (d ∷ ds) = passes (λ q. nat_lt low q && nat_lt q 256 && ascend_above q ds) (number_of d)
 
+-- the text of a trap that a plan may state
 abbrev pub is_trap : Data → Bool
 is_trap d = is_text (codes "sys") d || is_text (codes "aln") d
 
@@ -68,6 +70,7 @@ has_form Irqs name o = passes (ascend_above 0) (places_at name o)
 has_form Traps name o = passes are_traps (places_at name o)
 has_form CoreText name o = is_core (get name o)
 
+-- only `core` may be left out
 abbrev pub may_be_absent : Form → Bool
 may_be_absent CoreText = true
 may_be_absent _ = false
@@ -80,6 +83,7 @@ lacks r o = not (may_be_absent r.form) && is_none (get r.name o)
 abbrev pub is_bad : KeyRow → Data → Bool
 is_bad r o = not (has_form r.form r.name o)
 
+-- a row is of this key of the object
 abbrev pub is_named : Holder → List ℕ → KeyRow → Bool
 is_named h name r = (holder_key r.holder == holder_key h) && bytes_eq r.name name
 

@@ -7,6 +7,7 @@ use Rattle.tcd_base.specs.declared.parts.Core.{Core}
 use Rattle.tcd_plan.specs.declared.plans.Device.{Device}
 use Rattle.tcd_plan.specs.declared.plans.Plan.TheInside.{Inside}
 
+-- a plan: the board's memory and devices, the save areas, the start state, the interrupts, and the traps
 pub record PlanData : Type 0 where
   pub rom : List Range
   pub ram : List Range
@@ -27,6 +28,7 @@ pub record PlanData : Type 0 where
   pub globals : List ℕ
   pub core : Core
 
+-- a plan of the code as plain data
 abbrev pub plan_data : Inside → PlanData
 plan_data p = record {
   rom = p.rom.items;
@@ -53,6 +55,7 @@ plan_data p = record {
 abbrev pub is_range : Range → Bool
 is_range r = (r.at % 4 == 0) && (r.len % 4 == 0) && nat_lt 0 r.len && nat_le (r.at + r.len) (2 ^ 32)
 
+-- a range with bounds in order, for the words that it answers
 abbrev pub is_device : Device → Bool
 is_device d = is_range d.range && nat_le d.lo d.hi && nat_lt d.hi (2 ^ 32)
 

@@ -19,6 +19,7 @@ use Rattle.tcd_plan.specs.declared.plans.PlanErr.{PlanErr}
 use Rattle.tcd_plan.specs.declared.plans.PlanErr.TheVariants.{NotJson, Missing, Unknown, BadValue, TooMany, BadCsa, BadVector, Overlap, NoMemory}
 use Rattle.tcd_plan.specs.declared.rows.Holder.TheVariants.{Rom, Ram, Devices}
 
+-- the key of this number
 abbrev pub numbered : ℕ → PlanKey
 numbered key = record { 0 = key }
 
@@ -38,9 +39,11 @@ unknown_of d = option_map (λ h. numbered (holder_key h)) (find (λ h. list_any 
 unfoldable pub bad_value_of : Data → Option PlanKey
 bad_value_of d = first_key is_bad d
 
+-- the range that an object tells
 abbrev pub range_of : Data → Range
 range_of o = record { at = word_at (codes "at") o; len = word_at (codes "len") o }
 
+-- the device that an object tells
 abbrev pub device_of : Data → Device
 device_of o = record { range = range_of o; lo = word_at (codes "lo") o; hi = word_at (codes "hi") o }
 
@@ -48,6 +51,7 @@ device_of o = record { range = range_of o; lo = word_at (codes "lo") o; hi = wor
 abbrev pub places_of : List ℕ → Data → List Data
 places_of name d = unwrap_or (places_at name d) []
 
+-- the interrupt that a place of an array tells
 abbrev pub irq_of : Data → ℕ
 irq_of q = unwrap_or (number_of q) 0
 
@@ -95,9 +99,11 @@ too_many_of p = if not (are_few p.rom) then Some (numbered 1) else if not (are_f
 abbrev pub are_areas : ℕ → ℕ → ℕ → Bool
 are_areas at areas reserve = nat_le 1 areas && nat_le areas 4096 && nat_le 1 reserve && nat_le reserve areas && (at % 64 == 0) && (at / 2 ^ 22 % 2 ^ 6 == 0) && nat_lt 0 at && nat_le (at % 2 ^ 22 + 64 * areas) (2 ^ 22)
 
+-- the plan's save areas meet this
 unfoldable pub has_areas : PlanData → Bool
 has_areas p = are_areas p.csa_at p.areas p.reserve
 
+-- BIV and BTV are even (TriCore 1 architecture manual, volume 1, interrupts and traps)
 unfoldable pub has_vectors : PlanData → Bool
 has_vectors p = (p.biv % 2 == 0) && (p.btv % 2 == 0)
 
@@ -114,12 +120,15 @@ abbrev pub overlap_from : ℕ → List Range → Option PlanErr
 overlap_from i [] = None
 overlap_from i (r ∷ rs) = option_map_or (λ k. Some (Overlap i (i + 1 + k))) (position (λ s. not (ranges_apart r s)) rs) (overlap_from (i + 1) rs)
 
+-- the first pair of the plan's ranges that share a byte, if there is one
 unfoldable pub overlap_of : PlanData → Option PlanErr
 overlap_of p = overlap_from 0 (all_ranges p)
 
+-- this refusal, where it stands
 abbrev pub where_it : Bool → PlanErr → Option PlanErr
 where_it b e = if b then Some e else None
 
+-- the first of these that there is
 abbrev pub first_some : {T : Type 0} → List (Option T) → Option T
 first_some [] = None
 first_some (o ∷ os) = option_or o (first_some os)
@@ -137,6 +146,7 @@ refusals d =
     overlap_of (told_by d) ∷
     []
 
+-- the first refusal, if there is one
 unfoldable pub refusal_of : Data → Option PlanErr
 refusal_of d = first_some (refusals d)
 

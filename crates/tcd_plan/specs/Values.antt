@@ -8,14 +8,17 @@ use Rattle.std.specs.Str.Parse.{digits_value}
 use Rattle.serde_json.specs.Data.{Data, null, boolean, number, string, array, object, Items, no_items, item, Members, no_members, member}
 use Rattle.serde_json.specs.Find.{get, as_array, as_object, as_str, as_u64}
 
+-- the places of an array
 abbrev pub list_of : Items → List Data
 list_of no_items = []
 list_of (item d ds) = d ∷ list_of ds
 
+-- the keys of an object's members, in order
 abbrev pub names_of : Members → List (List ℕ)
 names_of no_members = []
 names_of (member name d ms) = name ∷ names_of ms
 
+-- it is an object
 abbrev pub is_object : Data → Bool
 is_object d = is_some (as_object d)
 
@@ -27,12 +30,15 @@ names_in d = option_map_or names_of (as_object d) []
 abbrev pub places_at : List ℕ → Data → Option (List Data)
 places_at name d = option_map list_of (option_and_then as_array (get name d))
 
+-- it is this text
 abbrev pub is_text : List ℕ → Data → Bool
 is_text text d = option_map_or (λ s. bytes_eq s text) (as_str d) false
 
+-- a number below 2 ^ 32
 abbrev pub word : ℕ → Option ℕ
 word n = if nat_lt n (2 ^ 32) then Some n else None
 
+-- a hex digit of either case
 abbrev pub is_hex : ℕ → Bool
 is_hex c = nat_lt (digit_value c) 16
 
@@ -58,6 +64,7 @@ number_of (object ms) = None
 abbrev pub number_at : List ℕ → Data → Option ℕ
 number_at name d = option_and_then number_of (get name d)
 
+-- the number that stands at a key, and 0 where none does
 abbrev pub word_at : List ℕ → Data → ℕ
 word_at name d = unwrap_or (number_at name d) 0
 
