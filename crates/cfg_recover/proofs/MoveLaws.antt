@@ -4,7 +4,7 @@ use Rattle.std.specs.Prelude.{IfSome, IsSome, IsSomeAnd, Contains}
 use Rattle.std.specs.FinMap as memory_map
 use Rattle.std.proofs.lemmas.Bool.{cases_Bool, and_parts, both_ways, not-true, ltb-true, lt-ltb, eq-eqb, false≢true, cond_both}
 use Rattle.std.proofs.lemmas.List.Elements.{Contains-append_left, Contains-append_right}
-use Rattle.csa_chain.specs.Memory.{Memory}
+use Rattle.csa_chain.specs.Memory.{Memory, loaded, with_bytes}
 use Rattle.elf_image.specs.Images.{ImageData}
 use Rattle.tcd_plan.specs.PlanData.{PlanData, IsPlan}
 use Rattle.tc_isa.specs.declared.shapes.Arg.{Arg}
@@ -20,7 +20,7 @@ use Rattle.tc_machine.specs.declared.events.Event.{Event}
 use Rattle.tc_machine.specs.declared.events.End.TheVariants.{Running}
 use Rattle.tc_machine.specs.declared.state.Machine.{Machine}
 use Rattle.tc_machine.specs.Machine.{reg, a11, moved}
-use Rattle.tc_machine.specs.Fetching.{fetched, loaded, extended, with_bytes}
+use Rattle.tc_machine.specs.Fetching.{fetched, extended}
 use Rattle.tc_machine.specs.Instructions.{does, access_address, traps_at, target_of, core_register}
 use Rattle.tc_machine.specs.Stepping.{is_taken, load_in, store_in, where_running, stored, step}
 use Rattle.tc_machine.specs.Ranges.{IsInAreas}

@@ -2,36 +2,16 @@
 use Rattle.std.proofs.Common.{◌≡◌, ℕ, zero, suc, ◌+◌, ◌-◌, ◌/◌, ◌%◌, ◌^◌, ◌<◌, ◌≤◌, ◌⊎◌, inl, inr, true, List, [], ◌∷◌, ◌++◌, map, refl, sym, ap, ◌∙◌, subst, arith, append_assoc}
 use Rattle.std.proofs.lemmas.Bool.{cases_lt}
 use Rattle.std.specs.FinMap as memory_map
-use Rattle.csa_chain.specs.Memory.{Memory, is_mapped, with_byte}
-use Rattle.csa_chain.proofs.MemoryLaws.{get-with_byte_other, is_mapped-with_byte}
+use Rattle.csa_chain.specs.Memory.{Memory, is_mapped, with_byte, with_bytes}
+use Rattle.csa_chain.proofs.MemoryLaws.{get-with_bytes_other, is_mapped-with_bytes}
 use Rattle.elf_image.specs.Images.{ImageData}
 use Rattle.tcd_base.specs.declared.parts.Range.{Range}
 use Rattle.tcd_plan.specs.declared.plans.Device.{Device}
 use Rattle.tcd_plan.specs.PlanData.{PlanData, IsPlan, all_apart, areas_range}
 use Rattle.tc_machine.specs.Ranges.{IsWithin, IsInOne, IsInAreas}
-use Rattle.tc_machine.specs.Fetching.{with_bytes}
 use Rattle.tc_machine.specs.Safe.{HoldsRom, IsPlanMemory, IsStoreInRange}
 use Rattle.tc_machine.proofs.PlanLaws.{in_one, IsInOne-front, IsInOne-behind, all_apart-before}
 use Rattle.store_ranges.proofs.Sound.{in_ranges}
-
--- ---- memory
--- a byte outside of what is written stays
-pub get-with_bytes_other : (m : Memory) (x w n y : ℕ) → x + n ≤ 2 ^ 32 → (y < x) ⊎ (x + n ≤ y) → memory_map.get (with_bytes m x w n) y ≡ memory_map.get m y
-unfolding with_bytes
-get-with_bytes_other m x w zero y fits out = refl
-get-with_bytes_other m x w (suc zero) y fits out = get-with_byte_other m x (w % 2 ^ 8) y (λ e. elim out [ inl low ↦ omega arith | inr high ↦ omega arith ])
-get-with_bytes_other m x w (suc (suc n)) y fits out =
-    let next : (x + 1) % 2 ^ 32 ≡ x + 1 = omega arith in
-    let out2 : (y < x + 1) ⊎ (x + 1 + suc n ≤ y) = elim out [ inl low ↦ inl (omega arith) | inr high ↦ inr (omega arith) ] in
-    ap (λ z. memory_map.get (with_bytes (with_byte m x (w % 2 ^ 8)) z (w / 2 ^ 8) (suc n)) y) next
-    ∙ get-with_bytes_other (with_byte m x (w % 2 ^ 8)) (x + 1) (w / 2 ^ 8) (suc n) y (omega arith) out2
-    ∙ get-with_byte_other m x (w % 2 ^ 8) y (λ e. elim out [ inl low ↦ omega arith | inr high ↦ omega arith ])
-
--- a store maps nothing new
-pub is_mapped-with_bytes : (m : Memory) (x w n y : ℕ) → is_mapped (with_bytes m x w n) y ≡ is_mapped m y
-unfolding with_bytes
-is_mapped-with_bytes m x w zero y = refl
-is_mapped-with_bytes m x w (suc n) y = is_mapped-with_bytes (with_byte m x (w % 2 ^ 8)) ((x + 1) % 2 ^ 32) (w / 2 ^ 8) n y ∙ is_mapped-with_byte m x (w % 2 ^ 8) y
 
 -- ---- ranges
 module _ (plan : PlanData) (ok : IsPlan plan) where

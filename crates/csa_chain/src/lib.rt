@@ -7,7 +7,8 @@ mod links;
 
 ghost use Rattle.std.specs.Prelude.{ℕ, List};
 ghost use Rattle.csa_chain.specs.Memory.{Memory};
-ghost use Rattle.csa_chain.specs.ChainChanges.{SaveMoves, RestoreMoves, StoreLeaves};
+ghost use Rattle.csa_chain.specs.ChainChanges.{SaveMoves, RestoreMoves, StoreMisses, StoreLeaves};
+ghost use Rattle.csa_chain.specs.SeveralChains.{OwnerSaves, OwnerRestores};
 ghost use Rattle.csa_chain.specs.MemoryChanges.{WordsComeBack, BytesStay, WordsStay};
 ghost use Rattle.csa_chain.specs.ContextChanges.{FieldsComeBack, UpperComesBack, LowerComesBack};
 
@@ -18,7 +19,14 @@ pub use links::{PcxiParts, address_of, link_of, pcxi_parts, pcxi_word};
 pub fn laws_of_chains()
     ensures save { (mem : Memory) (pcxi fcx f : ℕ) (free used : List ℕ) → SaveMoves mem pcxi fcx f free used }
     ensures restore { (mem : Memory) (pcxi fcx l : ℕ) (used free : List ℕ) → RestoreMoves mem pcxi fcx l used free }
+    ensures misses { StoreMisses }
     ensures store { (old new : Memory) (word : ℕ) (links : List ℕ) → StoreLeaves old new word links }
+{}
+
+/// What a save and a restore by the owner of one of several chains do to all of them.
+pub fn laws_of_several_chains()
+    ensures saves { OwnerSaves }
+    ensures restores { OwnerRestores }
 {}
 
 /// What fields and registers are once they have gone into words and come back.

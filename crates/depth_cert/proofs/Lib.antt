@@ -5,5 +5,6 @@ pub mod GrammarLaws
 pub mod ManyLaws
 pub mod PassedLaws
 pub mod PointReads
+pub mod SizeLaws
 pub mod WholeLaws
 pub mod WrittenLaws

@@ -48,9 +48,10 @@ impl Cert {
         Ok(Cert { version, nodes })
     }
 
-    /// The bytes that spell the certificate.
+    /// The bytes that spell the certificate: at most 1,073,741,824.
     pub fn write(&self, alloc: Global) -> Result<Vec<u8>, CertErr>
         ensures ok { IfOk result (λ out. out.items ≡ bytes_of self.now) }
+        ensures small { IfOk result (λ out. length out.items ≤ 2 ^ 30) }
         ensures err { IfErr result (λ e. e ≡ NoMemory) }
 
         // Reading them gives the certificate back.

@@ -1,15 +1,15 @@
 -- What a file without a refusal loads keeps the limits of an image.
-use Rattle.std.proofs.Common.{◌≡◌, ℕ, ◌^◌, ◌<◌, ◌≤◌, Bool, true, false, ◌&&◌, List, [], ◌∷◌, length, map, find, drop, sum_by, Option, Some, None, refl, arith}
+use Rattle.std.proofs.Common.{◌≡◌, ℕ, zero, suc, ◌^◌, ◌<◌, ◌≤◌, Bool, true, false, ◌&&◌, List, [], ◌∷◌, length, map, find, drop, sum_by, Option, Some, None, refl, arith, All, get_or}
 use Rattle.std.specs.List.{list_all, AllByRecursion}
 use Rattle.std.specs.Option.{option_map, option_or}
 use Rattle.std.proofs.lemmas.List.{length-take, length-drop, length-map}
-use Rattle.std.proofs.lemmas.List.Elements.{recursion_from_All}
+use Rattle.std.proofs.lemmas.List.Elements.{recursion_from_All, All-map, All-take, All-drop}
 use Rattle.std.proofs.lemmas.List.Sums.{sum_by-cons}
 use Rattle.std.proofs.lemmas.Bool.Decides.{nat_tests}
 use Rattle.elf_image.specs.declared.headers.Header.{Header}
 use Rattle.elf_image.specs.declared.errors.ImageErr.{ImageErr}
 use Rattle.elf_image.specs.declared.errors.ImageErr.TheVariants.{Overlap}
-use Rattle.elf_image.specs.Images.{SegmentData, IsImage, is_segment, are_apart, all_apart}
+use Rattle.elf_image.specs.Images.{SegmentData, AreBytes, IsImage, is_segment, are_apart, all_apart}
 use Rattle.elf_image.specs.Elf.{meets, loads_of, segment_refusal, is_large, overlap_refusal, segment_of}
 use Rattle.elf_image.proofs.Good.{Good, loads_good, unfound_head, unfound_tail}
 
@@ -25,6 +25,16 @@ a_segment bytes h good = let len = length-segment_of bytes h good in grind (arit
 segments : (bytes : List ℕ) (hs : List Header) → AllByRecursion (Good bytes) hs → list_all is_segment (map (segment_of bytes) hs) ≡ true
 segments bytes [] good = refl
 segments bytes (h ∷ hs) good = both (a_segment bytes h good.0) (segments bytes hs good.1)
+
+all_below : (xs : List ℕ) → ((k : ℕ) → get_or xs k 0 < 2 ^ 8) → All (λ b. b < 2 ^ 8) xs
+all_below [] h k d lt = absurd (omega arith)
+all_below (x ∷ xs) h zero d lt = h 0
+all_below (x ∷ xs) h (suc k) d lt = all_below xs (λ j. h (suc j)) k d (omega arith)
+
+are_bytes : (bytes : List ℕ) (hs : List Header) → All (λ b. b < 2 ^ 8) bytes → AreBytes (map (segment_of bytes) hs)
+are_bytes bytes hs small =
+    All-map (λ (s : SegmentData). All (λ b. b < 2 ^ 8) s.bytes) (segment_of bytes) hs
+    (λ k h lt. All-take (λ b. b < 2 ^ 8) (get_or hs k h).file_size (drop (get_or hs k h).offset bytes) (All-drop (λ b. b < 2 ^ 8) (get_or hs k h).offset bytes small))
 
 apart : (bytes : List ℕ) (h k : Header) → Good bytes h → Good bytes k → meets h k ≡ false → are_apart (segment_of bytes h) (segment_of bytes k) ≡ true
 unfolding meets
@@ -57,8 +67,8 @@ not_large : (hs : List Header) → is_large hs ≡ false → (length hs ≤ 64) 
 unfolding is_large
 not_large hs e = (grind (arith, nat_tests), grind (arith, nat_tests))
 
-pub loaded_is_image : (bytes : List ℕ) (entry : ℕ) (ss : List SegmentData) → entry < 2 ^ 32 → segment_refusal bytes ≡ None → is_large (loads_of bytes) ≡ false → overlap_refusal (loads_of bytes) ≡ None → ss ≡ map (segment_of bytes) (loads_of bytes) → IsImage (record { entry = entry; segments = ss })
-loaded_is_image bytes entry ss below fine small alone e =
+pub loaded_is_image : (bytes : List ℕ) (entry : ℕ) (ss : List SegmentData) → entry < 2 ^ 32 → ((k : ℕ) → get_or bytes k 0 < 2 ^ 8) → segment_refusal bytes ≡ None → is_large (loads_of bytes) ≡ false → overlap_refusal (loads_of bytes) ≡ None → ss ≡ map (segment_of bytes) (loads_of bytes) → IsImage (record { entry = entry; segments = ss })
+loaded_is_image bytes entry ss below small_bytes fine small alone e =
     let hs = loads_of bytes in
     let good = recursion_from_All (Good bytes) hs (loads_good bytes fine) in
     let limits = not_large hs small in
@@ -66,6 +76,7 @@ loaded_is_image bytes entry ss below fine small alone e =
       entry = below;
       few = omega (arith, limits.0, length-map hs (segment_of bytes));
       segments = segments bytes hs good;
+      bytes = are_bytes bytes hs (all_below bytes small_bytes);
       apart = all_are_apart bytes hs good alone;
       small = omega (arith, limits.1, sizes bytes hs good);
     })

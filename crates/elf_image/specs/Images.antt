@@ -1,5 +1,5 @@
 -- Images as plain data.
-use Rattle.std.specs.Prelude.{◌≤◌, ◌<◌, ◌+◌, ◌-◌, ◌^◌, ℕ, List, [], ◌∷◌, length, map, sum_by, Option, None, Bool, true, IsTrue, nat_le, nat_lt, ◌&&◌, ◌||◌, if◌then◌else◌, slice_get}
+use Rattle.std.specs.Prelude.{◌≤◌, ◌<◌, ◌+◌, ◌-◌, ◌^◌, ℕ, List, [], ◌∷◌, length, map, sum_by, All, Option, None, Bool, true, IsTrue, nat_le, nat_lt, ◌&&◌, ◌||◌, if◌then◌else◌, slice_get}
 use Rattle.std.specs.List.{list_all}
 use Rattle.elf_image.specs.declared.images.Image.TheInside.{Inside}
 use Rattle.elf_image.specs.declared.images.Segment.{Segment}
@@ -35,11 +35,16 @@ abbrev pub all_apart : List SegmentData → Bool
 all_apart [] = true
 all_apart (s ∷ ss) = list_all (are_apart s) ss && all_apart ss
 
+-- the bytes of the segments are bytes
+abbrev pub AreBytes : List SegmentData → Type 0
+AreBytes segments = All (λ (s : SegmentData). All (λ b. b < 2 ^ 8) s.bytes) segments
+
 -- the limits of an image
 pub record IsImage (i : ImageData) : Type 0 where
   pub entry : i.entry < 2 ^ 32
   pub few : length i.segments ≤ 64
   pub segments : IsTrue (list_all is_segment i.segments)
+  pub bytes : AreBytes i.segments
   pub apart : IsTrue (all_apart i.segments)
   pub small : sum_by (λ s. length s.bytes) i.segments ≤ 2 ^ 24
 

@@ -1,6 +1,6 @@
 // The addresses and the bytes of one segment.
-ghost use Rattle.std.specs.Prelude.{◌≡◌, ◌≤◌, ◌-◌, slice_get};
-ghost use Rattle.elf_image.specs.Images.{segment_data, holds};
+ghost use Rattle.std.specs.Prelude.{◌≡◌, ◌≤◌, ◌<◌, ◌-◌, ◌^◌, All, map, slice_get};
+ghost use Rattle.elf_image.specs.Images.{segment_data, holds, AreBytes};
 
 use crate::Segment;
 
@@ -15,4 +15,22 @@ pub(crate) fn byte_of(segment: &Segment, addr: u32) -> Option<u8>
     ensures { result ≡ slice_get segment.now.bytes.items (addr - segment.now.at) }
 {
     segment.bytes.get((addr - segment.at) as usize).copied()
+}
+
+// Each byte that is read is a number below 256.
+fn read_bytes(bytes: &[u8])
+    ensures { All (λ b. b < 2 ^ 8) bytes.now }
+{
+    for byte in bytes {
+        let _value = *byte;
+    }
+}
+
+/// That the bytes of segments are numbers below 256, as an image asks of them. It looks at each of them, and does nothing.
+pub fn read_segments(segments: &[Segment])
+    ensures { AreBytes (map segment_data segments.now) }
+{
+    for segment in segments {
+        read_bytes(&segment.bytes);
+    }
 }

@@ -11,4 +11,5 @@ mod tests;
 mod writing;
 
 pub use errors::ImageErr;
+pub use holding::read_segments;
 pub use images::{Image, Segment};

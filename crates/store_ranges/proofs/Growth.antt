@@ -4,6 +4,7 @@ use Rattle.std.specs.List.{find, list_all, list_any, flat_map}
 use Rattle.std.proofs.lemmas.Bool.{cases_Bool, and_parts, eqb-true, ltb-true}
 use Rattle.std.proofs.lemmas.Nat.{pow-add}
 use Rattle.elf_image.specs.Images.{ImageData, image_byte}
+use Rattle.elf_image.proofs.ReadBytes.{byte_lt}
 use Rattle.tcd_base.specs.declared.parts.Range.{Range}
 use Rattle.tcd_plan.specs.declared.plans.Device.{Device}
 use Rattle.tcd_plan.specs.PlanData.{PlanData, IsPlan, all_apart, areas_range, is_device}
@@ -21,12 +22,16 @@ use Rattle.value_domain.proofs.RangeLaws.{set_value, some_members}
 use Rattle.value_domain.proofs.Loops.{among_get}
 use Rattle.store_ranges.specs.Accesses.{is_inside}
 use Rattle.store_ranges.specs.Loads.{all_extended, answers, device_of, given, held_number, loaded_of, number_or, rom_number}
-use Rattle.store_ranges.specs.Laws.{HasImageBytes, LoadsGrow}
+use Rattle.store_ranges.specs.Laws.{LoadsGrow}
 use Rattle.store_ranges.proofs.Covers.{anything_has}
 use Rattle.store_ranges.proofs.Finds.{found_true, found_all, found_device, within_true}
 use Rattle.store_ranges.proofs.LoadLaws.{all_at, all_from, answers_some, among_flat, device_bounds}
 use Rattle.store_ranges.proofs.RomLaws.{any_one}
 use Rattle.store_ranges.proofs.Sound.{device_apart, extended-word, held_parts, in_ranges, one_more_byte}
+
+-- the bytes of the image are bytes
+abbrev HasImageBytes : ImageData → Type 0
+HasImageBytes image = (x b : ℕ) → image_byte image x ≡ Some b → b < 2 ^ 8
 
 -- ---- no word is new
 flat_among : (f : ℕ → List ℕ) (z : ℕ) (ws : List ℕ) → Among z (flat_map f ws) → (x : ℕ) × Among x ws × Among z (f x)
@@ -191,4 +196,4 @@ module _ (plan : PlanData) (ok : IsPlan plan) where
         (λ z i. among_member (Span lo2 last2 step2) z vw.well.0 (below z (member_among (Span lo last step) z vv.well.0 i))) refl)
 
 pub loads_grow : LoadsGrow
-loads_grow b image plan v w size signed ok bytes is vv vw below = grow plan ok image bytes size signed b v w vv vw below
+loads_grow b image plan v w size signed ok whole is vv vw below = grow plan ok image (λ x y. byte_lt image.segments x y whole.bytes) size signed b v w vv vw below

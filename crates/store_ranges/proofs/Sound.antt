@@ -6,12 +6,12 @@ use Rattle.std.specs.List.{find, list_all, list_any, flat_map}
 use Rattle.std.specs.FinMap as map
 use Rattle.std.proofs.lemmas.Bool.{cases_Bool, eqb-true, lt-ltb, le-ltb, cases_lt}
 use Rattle.std.proofs.lemmas.Nat.{pow-add}
-use Rattle.csa_chain.specs.Memory.{Memory}
+use Rattle.csa_chain.specs.Memory.{Memory, loaded}
 use Rattle.elf_image.specs.Images.{ImageData, image_byte}
 use Rattle.tcd_plan.specs.declared.plans.Device.{Device}
 use Rattle.tcd_plan.specs.PlanData.{PlanData, IsPlan, all_apart, areas_range, is_device}
 use Rattle.tc_machine.specs.Ranges.{IsWithin, IsInOne, IsInDevice, IsMappedBy}
-use Rattle.tc_machine.specs.Fetching.{loaded, extended}
+use Rattle.tc_machine.specs.Fetching.{extended}
 use Rattle.tc_machine.specs.Safe.{HasBytes, IsPlanMemory, HoldsRom, AnswersAt}
 use Rattle.tc_machine.proofs.PlanLaws.{in_one, IsInOne-front, IsInOne-behind, all_apart-before}
 use Rattle.value_domain.specs.declared.values.Val.{Val}

@@ -2,11 +2,11 @@
 use Rattle.std.specs.Prelude.{◌<◌, ◌+◌, ◌-◌, ◌*◌, ◌^◌, ◌==◌, ℕ, zero, suc, Bool, List, [], ◌∷◌, map, find, if◌then◌else◌, Option, Some, None, IsSome, option_and_then}
 use Rattle.std.specs.List.{list_all, list_any, flat_map}
 use Rattle.std.specs.Option.{option_map}
-use Rattle.csa_chain.specs.Memory.{Memory}
+use Rattle.csa_chain.specs.Memory.{Memory, loaded}
 use Rattle.elf_image.specs.Images.{ImageData, image_byte}
 use Rattle.tcd_plan.specs.declared.plans.Device.{Device}
 use Rattle.tcd_plan.specs.PlanData.{PlanData}
-use Rattle.tc_machine.specs.Fetching.{loaded, extended}
+use Rattle.tc_machine.specs.Fetching.{extended}
 use Rattle.tc_machine.specs.Ranges.{IsInOne}
 use Rattle.tc_machine.specs.Safe.{HasBytes, IsPlanMemory, HoldsRom, AnswersLoad}
 use Rattle.value_domain.specs.declared.values.Val.{Val}

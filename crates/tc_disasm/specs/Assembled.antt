@@ -37,4 +37,4 @@ pub record ReadsBack (i : ImageData) : Type 0 where
 
 -- of every image
 abbrev pub ListingLaw : Type 0
-ListingLaw = (i : ImageData) → IsImage i → AreBytes i.segments → ReadsBack i
+ListingLaw = (i : ImageData) → IsImage i → ReadsBack i

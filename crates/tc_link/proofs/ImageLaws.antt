@@ -5,7 +5,7 @@ use Rattle.std.specs.List.{sum_by, list_any, list_all}
 use Rattle.std.proofs.lemmas.Bool.{le-leb, lt-ltb, leb-false, ltb-false, ltb-true}
 use Rattle.std.proofs.lemmas.List.Folds.{list_any-append}
 use Rattle.std.proofs.lemmas.List.Sums.{sum_by-cons}
-use Rattle.elf_image.specs.Images.{SegmentData, ImageData, IsImage, is_segment, are_apart, all_apart}
+use Rattle.elf_image.specs.Images.{SegmentData, ImageData, AreBytes, IsImage, is_segment, are_apart, all_apart}
 use Rattle.tc_object.specs.Objects.{SectionData, InTurn}
 use Rattle.tc_link.specs.Layouts.{PlaceData, LayoutData, IsPlace, IsPlaceAfter, IsLayout, shares}
 use Rattle.tc_link.specs.Placing.{taken}
@@ -133,8 +133,19 @@ small_segments contents sections (p ∷ ps) same =
     by_bytes rest false = omega arith
 
 -- ---- the image
+-- the limits of an image, but for what its bytes are
+pub record KeepsLimits (i : ImageData) : Type 0 where
+  pub entry : i.entry < 2 ^ 32
+  pub few : length i.segments ≤ 64
+  pub segments : IsTrue (list_all is_segment i.segments)
+  pub apart : IsTrue (all_apart i.segments)
+  pub small : sum_by (λ s. length s.bytes) i.segments ≤ 2 ^ 24
+
+pub image_of_bytes : (i : ImageData) → KeepsLimits i → AreBytes i.segments → IsImage i
+image_of_bytes i l bytes = record { entry = l.entry; few = l.few; segments = l.segments; bytes = bytes; apart = l.apart; small = l.small }
+
 pub image_is : (layout : LayoutData) (contents sections : List SectionData) (entry : ℕ) → IsLayout layout → map shape_of contents ≡ map shape_of sections → is_over layout.places sections ≡ false → entry < 2 ^ 32
-    → IsImage (record { entry = entry; segments = segments_of layout.places contents })
+    → KeepsLimits (record { entry = entry; segments = segments_of layout.places contents })
 unfolding is_over total segments_of
 image_is layout contents sections entry good same room small =
     let parts = or_false (list_any (λ p. ltb p.most (taken p.section sections)) layout.places) (ltb (2 ^ 24) (sum_by (λ p. taken p.section sections) layout.places)) room in

@@ -2,7 +2,7 @@
 use Rattle.std.proofs.Common.{◌≡◌, ◌<◌, ◌^◌, [], ◌∷◌, ◌++◌, ℕ, zero, suc, List, length, get_or, map, Option, Some, None, Result, Ok, Err, refl, sym, ap, ◌∙◌, arith}
 use Rattle.std.specs.Prelude.{IfSome, IfOk, IfErr, OnOk}
 use Rattle.std.specs.Option.{option_or}
-use Rattle.elf_image.specs.Images.{ImageData, IsImage}
+use Rattle.elf_image.specs.Images.{ImageData}
 use Rattle.tc_object.specs.Objects.{SectionData, ObjectData, IsObject}
 use Rattle.tc_link.specs.Layouts.{PlaceData, LayoutData, IsLayout}
 use Rattle.tc_link.specs.Placing.{PlacedData, sections_of, globals_of, global_address, placed_after}
@@ -13,7 +13,7 @@ use Rattle.tc_link.specs.Shapes.{shape_of}
 use Rattle.tc_link.specs.declared.errors.LinkErr.{LinkErr}
 use Rattle.tc_link.proofs.RoomLaws.{room_end, room_start}
 use Rattle.tc_link.proofs.RelocLaws.{contents_shapes}
-use Rattle.tc_link.proofs.ImageLaws.{image_is}
+use Rattle.tc_link.proofs.ImageLaws.{KeepsLimits, image_is}
 
 -- ---- before anything is relocated
 or_next : {A : Type 0} (a b c : Option A) → a ≡ None → b ≡ c → option_or a b ≡ c
@@ -103,7 +103,7 @@ none_room objects layout e = last_none (twice_in objects) (missing_in objects) (
 
 -- the image keeps its limits
 pub linked_image : (objects : List ObjectData) (layout : LayoutData) (placed : List PlacedData) → IsLayout layout → ((k : ℕ) (d : ObjectData) → k < length objects → IsObject (get_or objects k d))
-    → refused_early layout objects ≡ None → placed ≡ placed_of layout objects → (entry : ℕ) → entry < 2 ^ 32 → IsImage (record { entry = entry; segments = segments_of layout.places (contents_of placed) })
+    → refused_early layout objects ≡ None → placed ≡ placed_of layout objects → (entry : ℕ) → entry < 2 ^ 32 → KeepsLimits (record { entry = entry; segments = segments_of layout.places (contents_of placed) })
 unfolding contents_of
 linked_image objects layout placed good all none p entry small =
     image_is layout (contents_of placed) (sections_of objects) entry good

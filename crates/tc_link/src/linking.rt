@@ -1,6 +1,6 @@
 // Linking.
 ghost use Rattle.std.specs.Prelude.{◌≡◌, ◌≤◌, ◌<◌, ◌^◌, ℕ, length, slice_index_or, None, Ok, Err, OnOk, IfOk, IfErr, IfSome};
-ghost use Rattle.elf_image.specs.Images.{ImageData, IsImage};
+ghost use Rattle.elf_image.specs.Images.{ImageData, AreBytes, IsImage};
 ghost use Rattle.tc_object.specs.Objects.{ObjectData, IsObject};
 ghost use Rattle.tc_link.specs.Layouts.{IsLayout};
 ghost use Rattle.tc_link.specs.Relocated.{segments_of};
@@ -15,7 +15,7 @@ use crate::relocating::contents_of;
 use crate::section_checks::check_places;
 use crate::symbol_checks::{check_missing, check_repeated};
 use crate::{Layout, LinkErr};
-use elf_image::Image;
+use elf_image::{Image, read_segments};
 use std::alloc::Global;
 use tc_object::Object;
 
@@ -40,7 +40,9 @@ fn place_all<'a>(
 // The image of placed objects, or the first relocation that is refused.
 fn make<'a>(alloc: Global, placed: &'a [Placed<'a>], layout: &Layout) -> Result<Image, LinkErr>
     requires few { length placed.now ≤ 65535 }
-    requires good { IsLayout layout.now → (entry : ℕ) → entry < 2 ^ 32 → IsImage (record { entry = entry; segments = segments_of layout.now.places (contents_of placed.now) }) }
+    requires good { let segments = segments_of layout.now.places (contents_of placed.now) in
+        IsLayout layout.now → AreBytes segments → (entry : ℕ) → entry < 2 ^ 32
+        → IsImage (record { entry = entry; segments = segments }) }
     ensures ok { IfOk result (λ image. made_of layout.now placed.now ≡ Ok image) }
     ensures err { IfErr result (λ e. IfSome (refusal_of e) (λ r. made_of layout.now placed.now ≡ Err r)) }
 {
@@ -50,6 +52,7 @@ fn make<'a>(alloc: Global, placed: &'a [Placed<'a>], layout: &Layout) -> Result<
         return Err(LinkErr::NoEntry);
     };
     let segments = segments_of(alloc, &layout.places, &contents)?;
+    read_segments(&segments);
     Ok(Image { entry, segments })
 }
 

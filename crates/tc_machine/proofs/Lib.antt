@@ -9,6 +9,7 @@ pub mod WholeAccesses
 pub mod Kept
 pub mod Stays
 pub mod ContextWords
+pub mod Deaths
 pub mod Decoded
 pub mod Counted
 pub mod Filled

@@ -5,13 +5,13 @@ use Rattle.std.specs.Bool.{MatchBool}
 use Rattle.std.proofs.lemmas.Bool.{and_parts, leb-true}
 use Rattle.std.proofs.lemmas.Option.{cond_some}
 use Rattle.std.specs.FinMap as map
-use Rattle.csa_chain.specs.Memory.{Memory, is_mapped, byte_at, are_mapped, word_at, with_word}
+use Rattle.csa_chain.specs.Memory.{Memory, is_mapped, byte_at, are_mapped, word_at, with_word, loaded, with_bytes}
 use Rattle.csa_chain.specs.MemoryChanges.{HasBytes}
 use Rattle.csa_chain.specs.Chain.{link_address, is_area, area_word}
 use Rattle.csa_chain.proofs.ChainLaws.{are_mapped_each}
 use Rattle.tcd_base.specs.Bytes.{bytes_of_word}
 use Rattle.tc_mem.specs.Blocks.{are_in_block, word_of, half_at, half_of, with_half, with_word_in, with_half_in, first_word_of}
-use Rattle.tc_machine.specs.Fetching.{mapped_bytes, loaded, with_bytes}
+use Rattle.tc_machine.specs.Fetching.{mapped_bytes}
 
 -- ---- the bytes of a block
 some_byte : (o : Option ℕ) (d : ℕ) → is_some o ≡ true → unwrap_or o d ≡ unwrap_or o 0

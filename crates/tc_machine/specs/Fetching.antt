@@ -37,17 +37,6 @@ shaped (Err e) = Err (cause_of e)
 unfoldable pub fetched : Machine → Result (Shape × ℕ) Cause
 fetched m = if m.pc % 2 == 0 then shaped (decoded_of (mapped_bytes 4 m.mem m.pc)) else Err NoCode
 
--- A load of n bytes from x: each mapped byte from memory, byte i of the access that isn't mapped from byte i of the
--- input, the lowest first
-unfoldable pub loaded : Memory → ℕ → ℕ → ℕ → ℕ
-loaded m input x zero = 0
-loaded m input x (suc n) = unwrap_or (map.get m x) (input % 2 ^ 8) + 2 ^ 8 * loaded m (input / 2 ^ 8) ((x + 1) % 2 ^ 32) n
-
 -- a loaded number of so many bytes as a word
 abbrev pub extended : Bool → ℕ → ℕ → ℕ
 extended signed size w = if signed then sign_extended (8 * size) w else w
-
--- The memory after a store of the low n bytes of w from x on. A byte that isn't mapped is dropped.
-unfoldable pub with_bytes : Memory → ℕ → ℕ → ℕ → Memory
-with_bytes m x w zero = m
-with_bytes m x w (suc n) = with_bytes (with_byte m x (w % 2 ^ 8)) ((x + 1) % 2 ^ 32) (w / 2 ^ 8) n

@@ -6,8 +6,10 @@ use Rattle.tcd_plan.specs.PlanData.{PlanData, IsPlan}
 use Rattle.tc_isa.specs.Insts.{InstData}
 use Rattle.tc_isa.specs.Shapes.{shape_of}
 use Rattle.tc_isa.specs.declared.shapes.Shape.{Shape}
+use Rattle.tc_machine.specs.declared.events.Cause.{Cause}
+use Rattle.tc_machine.specs.declared.events.Cause.TheVariants.{Fcd}
 use Rattle.tc_machine.specs.declared.events.Event.{Event}
-use Rattle.tc_machine.specs.declared.events.End.TheVariants.{Running}
+use Rattle.tc_machine.specs.declared.events.End.TheVariants.{Running, Dead}
 use Rattle.tc_machine.specs.declared.state.Machine.{Machine}
 use Rattle.tc_machine.specs.Machine.{with_status}
 use Rattle.tc_machine.specs.Contexts.{saved, save, has_kind, restored, restore}
@@ -41,6 +43,10 @@ abbrev pub StepDoes : Type 0
 StepDoes =
     (m : Machine) (e : Event) (shape : Shape) (n : ℕ) → m.end ≡ Running → is_taken m e ≡ false → fetched m ≡ Ok (shape, n) → (does m e shape n).end ≡ Running →
     step m e ≡ record (does m e shape n) { psw = with_status (does m e shape n).psw e.status }
+
+-- A machine that is dead after an event, and not of Fcd, is the machine before it with that end: nothing else changed.
+abbrev pub DeathChanges : Type 0
+DeathChanges = (m : Machine) (e : Event) (cause : Cause) → (step m e).end ≡ Dead cause → cause ≢ Fcd → step m e ≡ record m { end = Dead cause }
 
 -- a step leaves words in the registers and bytes in the memory
 abbrev pub StepStays : Type 0

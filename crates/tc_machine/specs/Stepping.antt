@@ -74,6 +74,15 @@ keeps_of e Disable = true
 keeps_of e Nothing = true
 keeps_of e _ = false
 
+-- what was found is an instruction that leaves them
+abbrev pub keeps_found : Event → Result (Shape × ℕ) Cause → Bool
+keeps_found e (Ok found) = keeps_of e found.0
+keeps_found e (Err cause) = false
+
+-- no interrupt is taken, and what was found at pc leaves the memory and PCXI as they are
+abbrev pub keeps_at : Machine → Event → Result (Shape × ℕ) Cause → Bool
+keeps_at m e found = not (is_taken m e) && keeps_found e found
+
 -- the address and the size that this instruction stores at, unless the access traps
 abbrev pub store_in : Machine → Event → Result (Shape × ℕ) Cause → Option (ℕ × ℕ)
 store_in m e (Ok (Store src base offset size after, n)) =

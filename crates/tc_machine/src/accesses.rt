@@ -3,7 +3,8 @@ ghost use Rattle.std.specs.Prelude.{◌≡◌, ◌<◌, ◌%◌, ◌^◌, unwrap
 ghost use Rattle.std.specs.Bool.{MatchBool};
 ghost use Rattle.std.specs.FinMap as map;
 ghost use Rattle.tc_isa.specs.Bounded.{IsSize};
-ghost use Rattle.tc_machine.specs.Fetching.{loaded, extended, with_bytes};
+ghost use Rattle.csa_chain.specs.Memory.{loaded, with_bytes};
+ghost use Rattle.tc_machine.specs.Fetching.{extended};
 
 use crate::registers::ahead;
 use tc_mem::Mem;
@@ -17,7 +18,7 @@ fn byte(mem: &Mem, input: u32, addr: u32) -> u8
 }
 
 /// The two bytes from an address on, each looked up on its own.
-#[tactic(auto, unfolding(crate::specs::Fetching::loaded))]
+#[tactic(auto, unfolding(csa_chain::specs::Memory::loaded))]
 fn half_by_bytes(mem: &Mem, input: u32, addr: u32) -> u16
     ensures { result ≡ loaded mem.now input addr 2 }
 {
@@ -37,7 +38,7 @@ fn half(mem: &Mem, input: u32, addr: u32) -> u16
 }
 
 /// The four bytes from an address on, each looked up on its own.
-#[tactic(auto, unfolding(crate::specs::Fetching::loaded))]
+#[tactic(auto, unfolding(csa_chain::specs::Memory::loaded))]
 fn word_by_bytes(mem: &Mem, input: u32, addr: u32) -> u32
     ensures { result ≡ loaded mem.now input addr 4 }
 {
@@ -58,7 +59,7 @@ fn word(mem: &Mem, input: u32, addr: u32) -> u32
 }
 
 /// The one byte from an address on, as a number.
-#[tactic(auto, unfolding(crate::specs::Fetching::loaded))]
+#[tactic(auto, unfolding(csa_chain::specs::Memory::loaded))]
 fn single(mem: &Mem, input: u32, addr: u32) -> u8
     ensures { result ≡ loaded mem.now input addr 1 }
 {
@@ -86,7 +87,7 @@ pub(crate) fn load(mem: &Mem, input: u32, addr: u32, size: u8, signed: bool) -> 
 }
 
 /// Stores the low n bytes of a word from an address on, each on its own.
-#[tactic(auto, unfolding(crate::specs::Fetching::with_bytes))]
+#[tactic(auto, unfolding(csa_chain::specs::Memory::with_bytes))]
 fn store_bytes(mem: &mut Mem, addr: u32, word: u32, n: u8)
     ensures { mem.new ≡ with_bytes mem.old addr word n }
 {

@@ -5,7 +5,7 @@ ghost use Rattle.csa_chain.specs.Chain.{link_in, is_area, area_word};
 ghost use Rattle.tc_isa.specs.Bounded.{IsShape};
 ghost use Rattle.tc_encode.specs.Decoding.{decoded_of};
 ghost use Rattle.tc_machine.specs.Fetching.{mapped_bytes, shaped};
-ghost use Rattle.tc_machine.specs.Stepping.{load_in, next_load_of, used_of, step, keeps_of};
+ghost use Rattle.tc_machine.specs.Stepping.{load_in, next_load_of, used_of, step, keeps_of, keeps_at};
 
 use crate::contexts::link;
 use crate::{Cause, End, Event, Machine};
@@ -74,11 +74,13 @@ impl Machine {
         self.mem.first_word(address_of(link(word)), near)
     }
 
-    /// Whether an event surely leaves the memory and PCXI, and so the areas in use, as they are: no interrupt is taken,
-    /// and the instruction is neither a store nor one that may change a context. This is what the bytes at pc do.
+    /// Whether an event leaves the memory and PCXI, and so the areas in use, as they are whatever the registers hold: no
+    /// interrupt is taken, and the instruction found at pc is no store, saves and restores no context, writes no core
+    /// register and can't trap. `found` is what the bytes at pc do.
     pub fn keeps_areas(&self, event: &Event, found: &Result<(Shape, u32), Cause>) -> bool
         requires { found.now ≡ shaped (decoded_of (mapped_bytes 4 self.now.mem self.now.pc)) }
-        ensures { OnTrue result (used_of (step self.now event.now) ≡ used_of self.now) }
+        ensures is { result ≡ keeps_at self.now event.now found.now }
+        ensures kept { OnTrue result (used_of (step self.now event.now) ≡ used_of self.now) }
     {
         if self.ie && self.ccpn < event.irq {
             return false;

@@ -9,7 +9,7 @@ use Rattle.std.proofs.lemmas.Bool.Decides.{Decides-eqb}
 use Rattle.std.proofs.lemmas.List.{length-append, map-append}
 use Rattle.std.proofs.lemmas.Option.{slice_get_within, slice_get-get_or}
 use Rattle.std.proofs.lemmas.Slice.Eq.{bytes_eq-Decides}
-use Rattle.elf_image.specs.Images.{SegmentData, ImageData, IsImage, is_segment, byte_in, image_byte}
+use Rattle.elf_image.specs.Images.{SegmentData, ImageData, is_segment, byte_in, image_byte}
 use Rattle.tc_object.specs.declared.relocs.Reloc.{Reloc}
 use Rattle.tc_object.specs.Objects.{SectionData, ObjectData, IsObject}
 use Rattle.tc_object.specs.Objects as obj
@@ -35,6 +35,7 @@ use Rattle.tc_link.specs.Linked.{Refusal, reloc, missing_in, is_used, has_symbol
 use Rattle.tc_link.specs.Shapes.{Shape, shape_of}
 use Rattle.tc_link.proofs.ShapeLaws.{taken-shapes}
 use Rattle.tc_link.proofs.RelocLaws.{relocated_shapes, contents_shapes}
+use Rattle.tc_link.proofs.ImageLaws.{KeepsLimits}
 use Rattle.tc_link.proofs.LinkLaws.{linked_image}
 use Rattle.tcd_driver.specs.Placed.{draft_in, statements_in, Begins, Means, is_open, value_at, plain, filled, HoldsFrom, StandsAt, AreAssembled}
 use Rattle.tcd_driver.proofs.PlacedLists.{IsIn, get_front, get_behind, map_get, map_take, filter_in, find_at, flat_parted}
@@ -187,7 +188,7 @@ module _ (sources : List (List ℕ)) (objects : List ObjectData) (layout : Layou
   own_there : slice_get (placed_of layout objects) number ≡ Some own
   own_there = placed_at layout.places [] objects number object object_there
 
-  limits : IsImage (record { entry = 0; segments = segments_of layout.places contents })
+  limits : KeepsLimits (record { entry = 0; segments = segments_of layout.places contents })
   limits = linked_image objects layout (placed_of layout objects) good (objects_good sources objects are) parts.early refl 0 (omega arith)
 
   -- ---- one section

@@ -5,6 +5,7 @@ use Rattle.elf_image.specs.Images.{ImageData}
 use Rattle.tc_link.specs.Placing.{PlacedData}
 use Rattle.tc_link.specs.Linked.{Refusal, placed_of, made_of, linked}
 use Rattle.tc_link.specs.Errors.{refusal_of}
+use Rattle.tc_link.proofs.ImageLaws.{image_of_bytes}
 use Rattle.tc_link.proofs.LinkLaws.{linked_told, linked_made, linked_image, placed_length}
 use Rattle.tc_link.proofs.linking.link.Goals as goal
 
@@ -18,7 +19,7 @@ make-requires c =
     let e : c.deref.result.now ≡ placed_of c.args.layout.now c.args.objects.now = c.deref.ensures.value ∙ c.in_ok-placed.ensures.placed in
     record {
       few = omega (arith, ap (λ (ps : List PlacedData). length ps) e, placed_length c.args.layout.now.places [] c.args.objects.now, c.requires);
-      good = λ layout. linked_image c.args.objects.now c.args.layout.now c.deref.result.now layout c.in_ok-placed.ensures.good c.in_ok-placed.ensures.none e;
+      good = λ layout bytes entry small. image_of_bytes _ (linked_image c.args.objects.now c.args.layout.now c.deref.result.now layout c.in_ok-placed.ensures.good c.in_ok-placed.ensures.none e entry small) bytes;
     }
 
 pub returns-clause-ok : goal.returns-clause-ok

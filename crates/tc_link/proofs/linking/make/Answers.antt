@@ -1,6 +1,6 @@
 use Rattle.std.proofs.Common.{◌≡◌, ◌∙◌, List, Option, Some, None, Result, Ok, map, sym, ap, subst, arith}
 use Rattle.std.proofs.lemmas.Result.{err_from_is_err_and}
-use Rattle.elf_image.specs.Images.{SegmentData, IsImage, segment_data}
+use Rattle.elf_image.specs.Images.{SegmentData, AreBytes, IsImage, segment_data}
 use Rattle.tc_link.specs.Layouts.{PlaceData, LayoutData, IsLayout}
 use Rattle.tc_link.specs.Placing.{globals_of, global_address}
 use Rattle.tc_link.specs.Relocated.{segments_of}
@@ -26,7 +26,8 @@ invariant_of-result c =
     let contents : c.deref-2.result.now ≡ contents_of c.args.placed.now = c.deref-2.ensures.value ∙ c.in_ok-contents.ensures.sections in
     let segments : map segment_data c.in_ok-segments.segments.items ≡ segments_of c.args.layout.now.places (contents_of c.args.placed.now) =
     c.in_ok-segments.ensures.ok ∙ ap (λ (ps : List PlaceData). segments_of ps c.deref-2.result.now) places ∙ ap (segments_of c.args.layout.now.places) contents in
-    subst (λ (ss : List SegmentData). IsImage (record { entry = c.in-Some.entry; segments = ss })) (sym segments) (c.requires.good (subst IsLayout c.layout.view_is c.layout.invariant) c.in-Some.entry (omega arith))
+    let bytes : AreBytes (segments_of c.args.layout.now.places (contents_of c.args.placed.now)) = subst AreBytes (ap (map segment_data) c.deref-3.ensures.value ∙ segments) c.read_segments.ensures in
+    subst (λ (ss : List SegmentData). IsImage (record { entry = c.in-Some.entry; segments = ss })) (sym segments) (c.requires.good (subst IsLayout c.layout.view_is c.layout.invariant) bytes c.in-Some.entry (omega arith))
 
 pub returns-clause-ok : goal.returns-clause-ok
 returns-clause-ok c =

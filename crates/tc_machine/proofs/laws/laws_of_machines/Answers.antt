@@ -2,6 +2,7 @@ use Rattle.tc_machine.proofs.Saves.{save-is, restore-is}
 use Rattle.tc_machine.proofs.Fetched.{fetched-is}
 use Rattle.tc_machine.proofs.Areas.{whole_at_start}
 use Rattle.tc_machine.proofs.Steps.{step_does}
+use Rattle.tc_machine.proofs.Deaths.{death_changes}
 use Rattle.tc_machine.proofs.Stays.{stays_step, stays_run}
 use Rattle.tc_machine.proofs.laws.laws_of_machines.Goals as goal
 
@@ -19,6 +20,9 @@ returns-clause-restore c = restore-is
 
 pub returns-clause-does : goal.returns-clause-does
 returns-clause-does c = step_does
+
+pub returns-clause-death : goal.returns-clause-death
+returns-clause-death c = death_changes
 
 pub returns-clause-stays : goal.returns-clause-stays
 returns-clause-stays c = stays_step

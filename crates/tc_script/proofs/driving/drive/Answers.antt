@@ -13,7 +13,7 @@ returns-then-not-is_running g c = ended c.loop-t.t c.loop-t.m c.loop-t.done c.lo
 
 pub used_after-count-requires : goal.used_after-count-requires
 used_after-count-requires g c =
-    kept_count c.keeps_areas-kept.result (used_of c.loop-t.m) (used_of c.step_by.new.self) (used_of (step c.loop-t.m c.event-event.result)) c.loop-t.areas c.loop-t.invariant.areas (ap used_of c.step_by.ensures) c.keeps_areas-kept.ensures
+    kept_count c.keeps_areas-kept.result (used_of c.loop-t.m) (used_of c.step_by.new.self) (used_of (step c.loop-t.m c.event-event.result)) c.loop-t.areas c.loop-t.invariant.areas (ap used_of c.step_by.ensures) c.keeps_areas-kept.ensures.kept
 
 pub loop-t-preserved : goal.loop-t-preserved
 loop-t-preserved g c =

@@ -4,8 +4,8 @@ use Rattle.tc_machine.proofs.Kept.{none_when_off, none_when_low, kept_where}
 use Rattle.tc_machine.proofs.state.Machine.keeps_areas.Goals.{else-self-via-then-self+else-self-event, else-self-via-else-self}
 use Rattle.tc_machine.proofs.state.Machine.keeps_areas.Goals as goal
 
-pub returns-in-Ok : goal.returns-in-Ok
-returns-in-Ok c =
+pub returns-in-Ok-clause-kept : goal.returns-in-Ok-clause-kept
+returns-in-Ok-clause-kept c =
     let free : is_taken c.args.self.now c.args.event.now ≡ false =
     elim c.else-self.branch [
       | else-self-via-then-self+else-self-event w ↦ none_when_low c.args.self.now c.args.event.now w.if-self-event.false
