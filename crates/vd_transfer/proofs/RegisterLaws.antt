@@ -1,6 +1,5 @@
 -- The registers of a state.
-use Rattle.std.proofs.Common.{◌≡◌, ℕ, zero, suc, ◌+◌, ◌^◌, ◌<◌, inl, inr, true, cond, IsTrue, List, [], ◌∷◌, length, refl, sym, ap, ◌∙◌, arith, get_or, Option, Some, None, ltb, eqb, ◌++◌, take, set}
-use Rattle.std.proofs.lemmas.List.{take_more, take_more_set}
+use Rattle.std.proofs.Common.{◌≡◌, ℕ, zero, suc, ◌+◌, ◌^◌, ◌<◌, inl, inr, true, cond, IsTrue, List, [], ◌∷◌, length, refl, ap, ◌∙◌, arith, get_or, Option, Some, None, ltb, eqb}
 use Rattle.std.specs.List.{list_all}
 use Rattle.std.proofs.lemmas.Bool.{cases_lt, cases_Bool, and_parts, ltb-true}
 use Rattle.std.proofs.Math.ListN.{get_or-eq_default}
@@ -58,16 +57,6 @@ unfolding forgotten_from
 get_or-forgotten k [] i d h = absurd (omega arith)
 get_or-forgotten k (v ∷ vs) zero d h = let e : k ≡ k + zero = omega arith in ap (λ n. cond (is_lower_slot n) any_val v) e
 get_or-forgotten k (v ∷ vs) (suc i) d h = let e : k + 1 + i ≡ k + suc i = omega arith in get_or-forgotten (k + 1) vs i d (omega arith) ∙ ap (λ n. cond (is_lower_slot n) any_val (get_or vs i d)) e
-
--- one value more
-pub forgotten_more : (vs out : List Val) (i : ℕ) (v : Val) → i < length vs → i < length out → v ≡ cond (is_lower_slot i) any_val (get_or vs i any_val) → take i out ≡ take i (forgotten_from 0 vs)
-    → take (i + 1) (set out i v) ≡ take (i + 1) (forgotten_from 0 vs)
-forgotten_more vs out i v h k e inv =
-    let at : i ≡ 0 + i = omega arith in
-    take_more_set out i v k
-    ∙ ap (λ (l : List Val). l ++ v ∷ []) inv
-    ∙ ap (λ (u : Val). take i (forgotten_from 0 vs) ++ u ∷ []) (e ∙ ap (λ n. cond (is_lower_slot n) any_val (get_or vs i any_val)) at ∙ sym (get_or-forgotten 0 vs i any_val h))
-    ∙ sym (take_more (forgotten_from 0 vs) i any_val (omega (arith, length-forgotten 0 vs)))
 
 pub forgotten_values : (b : Limits) (vs : List Val) → AreLimits b → AreValues b vs → AreValues b (forgotten_from 0 vs)
 forgotten_values b vs limits values r h =

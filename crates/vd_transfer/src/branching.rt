@@ -2,17 +2,16 @@
 ghost use Rattle.std.specs.Prelude.{◌≡◌, ◌<◌, IfSome, Some};
 ghost use Rattle.value_domain.specs.Values.{IsValue, members};
 ghost use Rattle.value_domain.specs.State.{AreValues};
-ghost use Rattle.tc_isa.specs.Bounded.{IsArg, IsShape};
 ghost use Rattle.tc_isa.specs.Shapes.{shape_of};
 ghost use Rattle.vd_transfer.specs.Refinement.{cover_some, kept_left, kept_right, kept_both};
 ghost use Rattle.vd_transfer.specs.Relations.{relation_of, is_signed, converse, self_holds};
-ghost use Rattle.vd_transfer.specs.Branches.{is_reg, set_arg, with_one, with_two, refined, lowered, refine_of};
+ghost use Rattle.vd_transfer.specs.Branches.{is_reg, refine_of};
 
-use crate::operations::operation;
+use crate::comparing::changed_state;
+use crate::narrowing::change_on;
 use crate::refinement::{Rel, kept};
-use crate::registers::{arg, constant, reg_value, set, write};
 use crate::signs::kept_signed;
-use tc_isa::{Arg, Cond, Inst, Op, Shape, shape};
+use tc_isa::{Arg, Cond, Inst, shape};
 use tcd_plan::Plan;
 use value_domain::{Bounds, State, Val};
 
@@ -118,122 +117,14 @@ pub(crate) fn is_same(x: u8, y: Arg) -> bool
     }
 }
 
-fn set_operand(b: &Bounds, s: &mut State, y: Arg, v: Val)
-    requires values { AreValues b.now s.old.regs }
-    requires value { IsValue b.now v }
-    ensures set { s.new ≡ set_arg s.old y v }
-    ensures values { AreValues b.now s.new.regs }
-{
-    if let Arg::Reg(r) = y {
-        set(b, s, r, v);
-    }
-}
-
-fn with_value(b: &Bounds, s: &State, x: u8, v: Option<Val>) -> Option<State>
-    requires values { AreValues b.now s.now.regs }
-    requires value { IfSome v (IsValue b.now) }
-    ensures one { result ≡ with_one s.now x v }
-    ensures values { IfSome result (λ t. AreValues b.now t.regs) }
-{
-    let v = v?;
-    let mut out = s.copy();
-    set(b, &mut out, x, v);
-    Some(out)
-}
-
-fn with_values(
-    b: &Bounds,
-    s: &State,
-    x: u8,
-    y: Arg,
-    v: Option<Val>,
-    w: Option<Val>,
-) -> Option<State>
-    requires values { AreValues b.now s.now.regs }
-    requires left { IfSome v (IsValue b.now) }
-    requires right { IfSome w (IsValue b.now) }
-    ensures two { result ≡ with_two s.now x y v w }
-    ensures values { IfSome result (λ t. AreValues b.now t.regs) }
-{
-    let v = v?;
-    let w = w?;
-    let mut out = s.copy();
-    set(b, &mut out, x, v);
-    set_operand(b, &mut out, y, w);
-    Some(out)
-}
-
-/// The state on a side of a condition, if the side is possible.
-fn narrowed(
-    b: &Bounds,
-    plan: &Plan,
-    cond: Cond,
-    x: u8,
-    y: Arg,
-    s: &State,
-    side: bool,
-) -> Option<State>
-    requires operands { (x < 32) × IsArg y }
-    requires values { AreValues b.now s.now.regs }
-    ensures refined { result ≡ refined b.now plan.now cond x y s.now side }
-    ensures values { IfSome result (λ t. AreValues b.now t.regs) }
-{
-    let v = reg_value(b, plan, s, x);
-    if is_same(x, y) {
-        return with_value(b, s, x, both(b, cond, side, &v));
-    }
-    let w = arg(b, plan, s, y);
-    with_values(
-        b,
-        s,
-        x,
-        y,
-        left(b, cond, side, &v, &w),
-        right(b, cond, side, &v, &w),
-    )
-}
-
-fn lower(b: &Bounds, plan: &Plan, x: u8, lowers: bool, s: State) -> State
-    requires register { x < 32 }
-    requires values { AreValues b.now s.regs }
-    ensures lowered { Some result ≡ lowered b.now plan.now x lowers (Some s) }
-    ensures values { AreValues b.now result.regs }
-{
-    let mut out = s;
-    if lowers {
-        let v = operation(b, Op::Sub, &reg_value(b, plan, &out, x), &constant(b, 1));
-        write(b, &mut out, x, v);
-    }
-    out
-}
-
 /// The state on a side of a branch, or nothing where the side isn't possible.
 pub fn refine(b: &Bounds, plan: &Plan, inst: &Inst, s: &State, side: bool) -> Option<State>
     requires { AreValues b.now s.now.regs }
     ensures refine { result ≡ refine_of b.now plan.now (shape_of inst.now) s.now side }
     ensures values { IfSome result (λ t. AreValues b.now t.regs) }
 {
-    refine_by(b, plan, shape(inst), s, side)
-}
-
-#[tactic(auto, unfolding(crate::specs::Branches::refine_of))]
-fn refine_by(b: &Bounds, plan: &Plan, shape: Shape, s: &State, side: bool) -> Option<State>
-    requires shape { IsShape shape }
-    requires values { AreValues b.now s.now.regs }
-    ensures refine { result ≡ refine_of b.now plan.now shape s.now side }
-    ensures values { IfSome result (λ t. AreValues b.now t.regs) }
-{
-    match shape {
-        Shape::Branch {
-            cond,
-            x,
-            y,
-            lowers,
-            ..
-        } => {
-            let t = narrowed(b, plan, cond, x, y, s, side)?;
-            Some(lower(b, plan, x, lowers, t))
-        }
-        _ => None,
+    match change_on(b, plan, shape(inst), s, side) {
+        Some(c) => Some(changed_state(s, &c)),
+        None => None,
     }
 }

@@ -68,7 +68,7 @@ pub(crate) fn put_operand(y: Arg, v: Val) -> Put
     }
 }
 
-fn copy_of(locals: &ArrayVec<bool, 8>) -> ArrayVec<bool, 8>
+pub(crate) fn copy_of(locals: &ArrayVec<bool, 8>) -> ArrayVec<bool, 8>
     ensures { result ≡ locals.now }
 {
     let mut copy = ArrayVec::new();

@@ -3,7 +3,7 @@ ghost use Rattle.std.specs.Prelude.{◌≡◌, ◌<◌, ◌≤◌, IfSome};
 ghost use Rattle.value_domain.specs.Values.{IsValue};
 ghost use Rattle.value_domain.specs.State.{AreValues};
 ghost use Rattle.tc_isa.specs.Bounded.{IsArg};
-ghost use Rattle.vd_transfer.specs.Registers.{slot, reg_of, arg_of, fixed_of, set_reg, write_reg, is_lower, word_val};
+ghost use Rattle.vd_transfer.specs.Registers.{slot, reg_of, arg_of, fixed_of, is_lower, word_val};
 
 use tc_isa::Arg;
 use tcd_plan::Plan;
@@ -91,32 +91,8 @@ pub(crate) fn arg(b: &Bounds, plan: &Plan, s: &State, a: Arg) -> Val
     }
 }
 
-/// Gives a register a value, where the state has one for it.
-pub(crate) fn set(b: &Bounds, s: &mut State, r: u8, v: Val)
-    requires values { AreValues b.now s.old.regs }
-    requires value { IsValue b.now v }
-    ensures set { s.new ≡ set_reg s.old r v }
-    ensures values { AreValues b.now s.new.regs }
-{
-    if let Some(i) = slot_of(r) {
-        s.regs[i] = v;
-    }
-}
-
 pub(crate) fn is_lower(r: u8) -> bool
     ensures { result ≡ is_lower r }
 {
     r < 8 || 18 <= r && r <= 23
-}
-
-/// Writes a register: after a lower one the lower registers aren't those of the frame's entry.
-pub(crate) fn write(b: &Bounds, s: &mut State, r: u8, v: Val)
-    requires values { AreValues b.now s.old.regs }
-    requires value { IsValue b.now v }
-    ensures write { s.new ≡ write_reg s.old r v }
-    ensures values { AreValues b.now s.new.regs }
-{
-    set(b, s, r, v);
-    let kept = !is_lower(r);
-    s.lower = s.lower && kept;
 }

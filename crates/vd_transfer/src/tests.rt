@@ -6,7 +6,7 @@ ghost use Rattle.value_domain.specs.State.{AreValues};
 ghost use Rattle.value_domain.specs.Values.{IsValue, any_val};
 
 use crate::effects::any;
-use crate::registers::{constant, set};
+use crate::registers::{constant, slot_of};
 use crate::{address, refine, reg, transfer};
 use arrayvec::ArrayVec;
 use std::alloc::AllocGlobal;
@@ -53,7 +53,9 @@ fn with(b: &Bounds, s: &State, r: u8, v: Val) -> State
     ensures { AreValues b.now result.regs }
 {
     let mut out = s.copy();
-    set(b, &mut out, r, v);
+    if let Some(i) = slot_of(r) {
+        out.regs[i] = v;
+    }
     out
 }
 

@@ -2,7 +2,7 @@ use Rattle.std.proofs.Common.{◌≡◌, ◌<◌, ℕ, List, length, replicate, 
 use Rattle.std.proofs.lemmas.List.{get_or-replicate}
 use Rattle.std.proofs.Math.ListN.{length-replicate}
 use Rattle.value_domain.specs.declared.values.Val.{Val}
-use Rattle.value_domain.specs.Values.{IsValue, any_val}
+use Rattle.value_domain.specs.Values.{any_val}
 use Rattle.value_domain.proofs.RangeLaws.{any_value}
 use Rattle.vd_transfer.proofs.tests.open.Goals as goal
 
