@@ -1,6 +1,6 @@
 use Rattle.value_domain.specs.Values.{any_val}
 use Rattle.cfg_recover.proofs.FlowStates.{replicate-all}
-use Rattle.cfg_recover.proofs.flow_states.any_regs.Goals as goal
+use Rattle.cfg_recover.proofs.start.any_regs.Goals as goal
 
 pub returns : goal.returns
 returns c =

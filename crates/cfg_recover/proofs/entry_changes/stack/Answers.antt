@@ -1,7 +1,7 @@
 use Rattle.tcd_plan.specs.PlanData.{plan_data}
 use Rattle.value_domain.proofs.RangeLaws.{one_value}
 use Rattle.vd_transfer.proofs.RegisterLaws.{reg_is_value}
-use Rattle.cfg_recover.proofs.flow_states.stack.Goals as goal
+use Rattle.cfg_recover.proofs.entry_changes.stack.Goals as goal
 
 pub returns-then-key-clause-value : goal.returns-then-key-clause-value
 returns-then-key-clause-value c =
