@@ -24,7 +24,7 @@ pub use flow_point::flow;
 pub use flow_successors::loaded_from;
 pub use flow_targets::targets;
 pub use flows::{Enter, Flow, Jump, Leave};
-pub use laws::move_laws;
+pub use laws::{fault_laws, frame_laws, move_laws};
 pub use own::{Found, faultless};
 pub use start::start_state;
 
