@@ -69,9 +69,9 @@ set_values b vs i v values value r h =
       | inr n ↦ rw (get_or-set_other vs i r v any_val n) (values r within)
     ]
 
+pub any_values : (b : Limits) → AreLimits b → AreValues b (replicate 27 any_val)
+any_values b limits r h = let within : r < 27 = omega (arith, length-replicate 27 any_val) in rw (get_or-replicate 27 r any_val any_val within) (any_value b limits)
+
 pub entry_values : (b : Limits) (sp : Val) (ie : Bool) (ccpn : ℕ) (lower : Bool) → AreLimits b → IsValue b sp → AreValues b (entry_with sp ie ccpn lower).regs
 unfolding slot
-entry_values b sp ie ccpn lower limits value =
-    set_values b (replicate 27 any_val) 22 sp
-    (λ r h. let within : r < 27 = omega (arith, length-replicate 27 any_val) in rw (get_or-replicate 27 r any_val any_val within) (any_value b limits))
-    value
+entry_values b sp ie ccpn lower limits value = set_values b (replicate 27 any_val) 22 sp (any_values b limits) value

@@ -4,10 +4,14 @@ pub mod Went
 pub mod Keeps
 pub mod Writes
 pub mod Points
+pub mod PointLaws
 pub mod MoveLaws
 pub mod CodeLaws
+pub mod DutyRules
+pub mod FaultLaws
 pub mod FlowDuties
 pub mod FlowStates
+pub mod FrameLaws
 pub mod FlowTargets
 pub mod OwnLaws
 pub mod RomTests

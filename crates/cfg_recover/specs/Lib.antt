@@ -4,9 +4,11 @@ pub mod Changes
 pub mod Code
 pub mod Duties
 pub mod Entries
+pub mod FaultLaws
 pub mod FlowValues
 pub mod Finding
 pub mod Flows
+pub mod FrameLaws
 pub mod Frames
 pub mod Moves
 pub mod Own

@@ -1,17 +1,41 @@
 // What the entries of frames change of a state.
 ghost use Rattle.std.specs.Prelude.{◌≡◌, false, true};
+ghost use Rattle.value_domain.specs.Values.{IsValue};
 ghost use Rattle.value_domain.specs.State.{AreValues};
+ghost use Rattle.vd_transfer.specs.Registers.{word_val};
 ghost use Rattle.vd_transfer.specs.Changes.{changed};
 ghost use Rattle.cfg_recover.specs.Changes as changes;
 ghost use Rattle.cfg_recover.specs.Entries as entries;
 ghost use Rattle.cfg_recover.specs.Entries.{stack_of, entry_with, aln_entry, sys_entry};
 
-use crate::flow_states::{constant, stack};
 use arrayvec::ArrayVec;
 use depth_cert::Key;
 use tcd_plan::Plan;
 use value_domain::{Bounds, State, Val};
-use vd_transfer::{Base, Change, put_register, unchanged};
+use vd_transfer::{Base, Change, put_register, reg, unchanged};
+
+/// The stack pointer of a handler: that of the interrupt stack, or A10 where that stack is in use already.
+fn stack(b: &Bounds, plan: &Plan, key: &Key, s: &State) -> Val
+    requires { AreValues b.now s.now.regs }
+    ensures stack { result ≡ stack_of plan.now key.now s.now }
+    ensures value { IsValue b.now result }
+{
+    let _width = b.width();
+    let _globals = &plan.globals;
+    if key.is {
+        reg(plan, s, 26)
+    } else {
+        Val::one(plan.isp)
+    }
+}
+
+pub(crate) fn constant(b: &Bounds, x: u32) -> Val
+    ensures word { result ≡ word_val x }
+    ensures value { IsValue b.now result }
+{
+    let _width = b.width();
+    Val::one(x)
+}
 
 /// The entry of a called function.
 pub fn call_change(b: &Bounds, s: &State) -> Change

@@ -9,7 +9,7 @@ ghost use Rattle.cfg_recover.specs.Duties.{entries_of, misaligned_at, misaligned
 ghost use Rattle.cfg_recover.specs.FlowValues.{EntersWithValues};
 ghost use Rattle.cfg_recover.specs.Flows.{told_entry, rule_of_entry, told_leaving, leave_of};
 
-use crate::flow_states::{call_entry, misaligned_entry, system_entry};
+use crate::entry_changes::{call_change, misaligned_change, system_change};
 use crate::flow_targets::{one, targets};
 use crate::{Enter, Leave};
 use depth_cert::Key;
@@ -17,7 +17,7 @@ use store_ranges::aligned;
 use tc_isa::{Inst, Shape, shape};
 use tcd_plan::Plan;
 use value_domain::{Bounds, State, Val};
-use vd_transfer::address;
+use vd_transfer::{address, changed_state};
 
 /// The entries by a call or a system call.
 pub(crate) fn entry(
@@ -38,13 +38,13 @@ pub(crate) fn entry(
         Shape::Call { to } => Some(Enter {
             kind: 1,
             targets: targets(plan, s, addr, to),
-            state: call_entry(s),
+            state: changed_state(s, &call_change(b, s)),
             resume,
         }),
         Shape::Syscall { tin } => Some(Enter {
             kind: 3,
             targets: one(plan.btv | 6 * 32),
-            state: system_entry(b, plan, key, s, tin),
+            state: changed_state(s, &system_change(b, plan, key, s, tin)),
             resume,
         }),
         _ => None,
@@ -94,7 +94,7 @@ fn unless_aligned(
     Some(Enter {
         kind: 4,
         targets: one(plan.btv | 2 * 32),
-        state: misaligned_entry(b, plan, key, s),
+        state: changed_state(s, &misaligned_change(b, plan, key, s)),
         resume: None,
     })
 }

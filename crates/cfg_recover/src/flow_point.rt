@@ -10,9 +10,9 @@ ghost use Rattle.cfg_recover.specs.Flows.{told_by, leave_of, Tells};
 ghost use Rattle.cfg_recover.specs.Own.{IsOwnFault};
 
 use crate::Flow;
+use crate::entry_changes::handler_change;
 use crate::flow_entries::{entry, leaving, misaligned};
 use crate::flow_interrupts::interrupts;
-use crate::flow_states::interrupt_entry;
 use crate::flow_successors::successors;
 use crate::own::own_or_code;
 use depth_cert::Key;
@@ -20,6 +20,7 @@ use elf_image::Image;
 use tc_isa::Inst;
 use tcd_plan::Plan;
 use value_domain::{Bounds, State};
+use vd_transfer::changed_state;
 
 /// What may follow a point with this state, where no rule's own part fails there: all that a certificate must have because
 /// of it. Else the least rule whose own part fails.
@@ -65,7 +66,7 @@ fn flow_of(
         enter: entry(b, plan, key, addr, s, inst, size),
         aln: misaligned(b, plan, key, s, inst),
         irqs: interrupts(plan, s),
-        irq_entry: interrupt_entry(b, plan, key, s),
+        irq_entry: changed_state(s, &handler_change(b, plan, key, s, 0)),
         leave: leaving(key, s, inst),
     }
 }

@@ -4,7 +4,8 @@ ghost use Rattle.std.specs.Prelude.{◌≡◌, ◌<◌, [], ◌∷◌};
 ghost use Rattle.value_domain.specs.Values.{IsValue};
 ghost use Rattle.value_domain.specs.State.{AreValues};
 
-use crate::flow_states::{constant, handler_entry};
+use crate::entry_changes::constant;
+use crate::start::any_regs;
 use crate::{Enter, Flow, Jump, Leave, after, flow, start_state};
 use arrayvec::ArrayVec;
 use depth_cert::{Exit, Key};
@@ -85,11 +86,25 @@ fn put(b: &Bounds, s: &mut State, i: usize, v: Val)
     s.regs[i] = v;
 }
 
-// A4 is D0008002 or D0008004, A15 is 80000000, 80000001 or 80000010; interrupts are on at CCPN 10.
+// Nothing is known of the registers; interrupts are on at CCPN 10.
+fn any_state(b: &Bounds) -> State
+    ensures { AreValues b.now result.regs }
+{
+    let _width = b.width();
+    State {
+        regs: any_regs(),
+        ie: true,
+        ccpn: 10,
+        lower: true,
+        locals: ArrayVec::new(),
+    }
+}
+
+// A4 is D0008002 or D0008004, A15 is 80000000, 80000001 or 80000010.
 fn state(b: &Bounds) -> State
     ensures { AreValues b.now result.regs }
 {
-    let mut s = handler_entry(b, constant(b, 0xD000_9000), 10);
+    let mut s = any_state(b);
     put(b, &mut s, 18, cover_words(b, &[0xD000_8002, 0xD000_8004]));
     put(
         b,
@@ -97,7 +112,6 @@ fn state(b: &Bounds) -> State
         26,
         cover_words(b, &[0x8000_0000, 0x8000_0001, 0x8000_0010]),
     );
-    s.ie = true;
     s
 }
 

@@ -1,4 +1,6 @@
 // What a machine at a point does next, against what the point owes.
+ghost use Rattle.cfg_recover.specs.FaultLaws.{FirstFaultsSay, NeedSays};
+ghost use Rattle.cfg_recover.specs.FrameLaws.{EdgesAre, FramesAre, HeldFramesSay, OwedEdgesSay};
 ghost use Rattle.cfg_recover.specs.Moves.{CallsOwed, InterruptsOwed, MovesInFrame, StoresHeld, TrapsOwed};
 
 /// A machine at a point without a fault of its own, whose registers lie in the point's state, goes where the point owes a jump
@@ -9,4 +11,20 @@ pub fn move_laws()
     ensures calls { CallsOwed }
     ensures interrupts { InterruptsOwed }
     ensures stores { StoresHeld }
+{}
+
+/// What edges and frames are at each step of a machine, and what the promises on them give: the newest frame stands at a
+/// point that holds the machine; a step is owed there, and a return goes back to a frame that is there.
+pub fn frame_laws()
+    ensures edges { EdgesAre }
+    ensures frames { FramesAre }
+    ensures held { HeldFramesSay }
+    ensures owed { OwedEdgesSay }
+{}
+
+/// What the printed numbers are: those of the first fault name a rule that fails and where, before all others, and the need
+/// is that of the start's node.
+pub fn fault_laws()
+    ensures first { FirstFaultsSay }
+    ensures need { NeedSays }
 {}

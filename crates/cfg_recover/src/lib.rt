@@ -7,25 +7,26 @@ mod flow_after;
 mod flow_entries;
 mod flow_interrupts;
 mod flow_point;
-mod flow_states;
 mod flow_successors;
 mod flow_targets;
 mod flows;
 mod laws;
 mod own;
 mod own_rules;
+mod start;
 
+pub use code::code_at;
 pub use entry_changes::{call_change, handler_change, misaligned_change, system_change};
 pub use flow_after::{after, covers_after};
 pub use flow_entries::is_aligned;
 pub use flow_interrupts::interrupts;
 pub use flow_point::flow;
-pub use flow_states::start_state;
 pub use flow_successors::loaded_from;
 pub use flow_targets::targets;
 pub use flows::{Enter, Flow, Jump, Leave};
-pub use laws::move_laws;
+pub use laws::{fault_laws, frame_laws, move_laws};
 pub use own::{Found, faultless};
+pub use start::start_state;
 
 #[cfg(test)]
 mod flow_tests;

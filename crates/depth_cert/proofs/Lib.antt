@@ -2,6 +2,7 @@ pub mod BackLaws
 pub mod CertLaws
 pub mod FindLaws
 pub mod GrammarLaws
+pub mod KeyLaws
 pub mod ManyLaws
 pub mod PassedLaws
 pub mod PointReads

@@ -1,9 +1,9 @@
 -- Tests that decide a fact, and what is found in a list.
-use Rattle.std.proofs.Common.{◌≡◌, ℕ, suc, Bool, true, false, ◌≤◌, ◌<◌, ◌+◌, List, [], ◌∷◌, length, get_or, take, subst, sym, refl, arith, Some, None, inl, inr}
-use Rattle.std.specs.Prelude.{IsTrue, ◌↔◌, Contains, All}
+use Rattle.std.proofs.Common.{◌≡◌, ℕ, Bool, true, false, ◌≤◌, ◌<◌, ◌+◌, List, length, get_or, take, subst, sym, refl, Some}
+use Rattle.std.specs.Prelude.{IsTrue, ◌↔◌, All}
 use Rattle.std.specs.List.{find}
-use Rattle.std.proofs.lemmas.Bool.{cases_Bool}
 use Rattle.std.proofs.lemmas.List.{take_all}
+use Rattle.depth_cert.proofs.KeyLaws.{found_in}
 use Rattle.std.proofs.lemmas.List.Elements.{All-same, All-more, All-contains}
 
 pub yes : (P : Type 0) → P → IsTrue true ↔ P
@@ -27,15 +27,6 @@ all_done P xs i le h = All-same P xs (take i xs) (sym (take_all i xs le)) h
 -- one more element
 pub all_more : {X : Type 0} (P : X → Type 0) (xs : List X) (i : ℕ) (x : X) → i < length xs → x ≡ get_or xs i x → All P (take i xs) → P x → All P (take (i + 1) xs)
 all_more P xs i x lt is h p = All-more P xs i x lt h (subst P is p)
-
--- what is found is contained, and passes the test
-pub found_in : {X : Type 0} (test : X → Bool) (xs : List X) (x : X) → find test xs ≡ Some x → Contains xs x × (test x ≡ true)
-found_in test [] x e = absurd (let f : None ≡ Some x = e in cc)
-found_in test (y ∷ ys) x e =
-    elim (cases_Bool (test y)) [
-      | inl t ↦ let s : Some y ≡ Some x = rw t at e in let same : y ≡ x = cc in subst (λ z. Contains (y ∷ ys) z × (test z ≡ true)) same ((0, omega arith, refl), t)
-      | inr f ↦ let rest = found_in test ys x (rw f at e) in ((suc (rest.0).0, (let lt = (rest.0).1 in omega arith), (rest.0).2), rest.1)
-    ]
 
 -- what holds of all holds of what is found
 pub found_holds : {X : Type 0} (P : X → Type 0) (test : X → Bool) (xs : List X) (x : X) → find test xs ≡ Some x → All P xs → P x

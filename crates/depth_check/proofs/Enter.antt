@@ -28,7 +28,8 @@ use Rattle.depth_cert.specs.Points.{find_point}
 use Rattle.depth_cert.specs.Nodes.{NodeData}
 use Rattle.depth_cert.specs.Certs.{CertData}
 use Rattle.depth_check.proofs.Registers.{reg_of_lt}
-use Rattle.depth_check.proofs.Frames.{Frame, Stands, oldest_first, LowerSame, UpperSame, Leaves, Resumed, used_by, Kept, Frames-same, need-Frames, own_locals, length-Locals, length-ImpliedBy, length-oldest_first}
+use Rattle.cfg_recover.proofs.PointLaws.{Stands}
+use Rattle.depth_check.proofs.Frames.{Frame, oldest_first, LowerSame, UpperSame, Leaves, Resumed, used_by, Kept, Frames-same, need-Frames, own_locals, length-Locals, length-ImpliedBy, length-oldest_first}
 
 -- the machine once its upper context is saved, with these registers, address and status
 abbrev pub begun : Machine → List ℕ → List ℕ → ℕ → ℕ → Bool → ℕ → Machine

@@ -26,7 +26,7 @@ use Rattle.cfg_recover.proofs.EntryLaws.{holds_covered, holds_same, holds_call, 
 use Rattle.depth_check.proofs.Frames.{Frame, LowerSame, UpperSame, Leaves, by_return, from_system, from_handler, Resumed, Kept, length-ImpliedBy, ImpliedBy-trans}
 use Rattle.depth_check.proofs.Registers.{set_a11}
 use Rattle.depth_check.proofs.Enter.{Begins}
-use Rattle.depth_check.proofs.PointLaws.{even_at, Found}
+use Rattle.cfg_recover.proofs.PointLaws.{even_at, Found}
 
 -- ---- registers
 pub lower_not : (r q : ℕ) → is_lower q ≡ false → is_lower r ≡ true → r ≢ q

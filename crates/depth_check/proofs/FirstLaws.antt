@@ -1,5 +1,5 @@
 -- The first fault of a certificate, from those of its nodes one after another.
-use Rattle.std.proofs.Common.{◌≡◌, ℕ, ◌≤◌, ◌<◌, ◌+◌, ◌*◌, ◌^◌, ◌-◌, List, length, get_or, take, map, Bool, true, false, Option, Some, None, arith, inl, inr, refl, subst, sym, ap, ◌∙◌, ◌==◌}
+use Rattle.std.proofs.Common.{◌≡◌, ℕ, ◌≤◌, ◌<◌, ◌+◌, ◌*◌, ◌^◌, ◌-◌, List, length, get_or, take, map, Option, Some, None, arith, inl, inr, refl, subst, sym, ◌==◌}
 use Rattle.std.specs.Prelude.{All, Contains, IsSomeAnd}
 use Rattle.std.proofs.lemmas.Bool.{eqb-true}
 use Rattle.std.specs.List.Sorted.{IsStrictlyIncreasing}
@@ -8,25 +8,22 @@ use Rattle.elf_image.specs.Images.{ImageData}
 use Rattle.tcd_plan.specs.PlanData.{PlanData}
 use Rattle.depth_cert.specs.declared.keys.Key.{Key}
 use Rattle.depth_cert.specs.declared.points.Point.{Point}
-use Rattle.depth_cert.specs.Keys.{IsKey, byte_of, number_of_key}
+use Rattle.depth_cert.specs.Keys.{number_of_key}
 use Rattle.depth_cert.specs.Points.{find_point}
 use Rattle.depth_cert.specs.Nodes.{NodeData, IsNode}
+use Rattle.depth_cert.proofs.KeyLaws.{found_in, one_number}
 use Rattle.depth_cert.specs.Certs.{CertData, IsCert, find_node}
 use Rattle.value_domain.specs.State.{Covers}
 use Rattle.cfg_recover.specs.Own.{IsFaultless}
 use Rattle.cfg_recover.specs.Entries.{start_key, start_state}
 use Rattle.cfg_recover.specs.Accepting.{limits_in, RuleHolds, HasPoint, HoldsAtStart, HoldsAtEntry, HoldsAtNode, Accepts, Fails, at_start, at_entry, at_point, fault_number, IsFirstFault}
+use Rattle.cfg_recover.proofs.FaultLaws as faults
 use Rattle.depth_check.specs.NodeFaults.{IsNodeFault}
-use Rattle.depth_check.proofs.Deciding.{found_in}
 use Rattle.depth_check.proofs.NodeLaws.{place_of}
 
 -- ---- a fault refutes an accepted certificate
 pub fails_refutes : (image : ImageData) (plan : PlanData) (cert : CertData) (r : ℕ) (k : Key) (p : ℕ) → Fails image plan cert r k p → Accepts image plan cert → ⊥
-fails_refutes image plan cert _ _ _ (at_start wrong) accepts = wrong accepts.start
-fails_refutes image plan cert _ _ _ (at_entry node member wrong) accepts = wrong (All-contains (HoldsAtNode image plan cert) cert.nodes node accepts.nodes member).entry
-fails_refutes image plan cert _ _ _ (at_point node point r member at wrong) accepts =
-    let holds = All-contains (HoldsAtNode image plan cert) cert.nodes node accepts.nodes member in
-    wrong (All-contains (λ (p : Point). (r : ℕ) → RuleHolds image plan cert node p r) node.points point holds.points at r)
+fails_refutes = faults.fails_refutes
 
 -- ---- the first fault
 pub start_first : (image : ImageData) (plan : PlanData) (cert : CertData) → (HoldsAtStart image plan cert → ⊥) → IsFirstFault image plan cert 1 (start_key image plan) image.entry
@@ -73,31 +70,6 @@ module _ (image : ImageData) (plan : PlanData) (cert : CertData) (is_cert : IsCe
   node_first i node r p lt at before f = record { fails = f.fails; start = inr start; least = λ q j x fails. inr (least_of_all i node r p q j x lt at before f fails) }
 
 -- ---- an accepted certificate
-byte_same : (a b : Bool) → byte_of a ≡ byte_of b → a ≡ b
-byte_same true true e = refl
-byte_same true false e = absurd (omega arith)
-byte_same false true e = absurd (omega arith)
-byte_same false false e = refl
-
-byte_small : (a : Bool) → byte_of a ≤ 1
-byte_small true = omega arith
-byte_small false = omega arith
-
--- a number names one key
-key_same : (k j : Key) → IsKey k → IsKey j → number_of_key k ≡ number_of_key j → k ≡ j
-key_same k j hk hj e =
-    let small = byte_small k.is in
-    let less = byte_small j.is in
-    let kind : k.kind ≡ j.kind = omega (arith, hk.entry, hk.prio, hj.entry, hj.prio) in
-    let entry : k.entry ≡ j.entry = omega (arith, hk.entry, hk.prio, hj.entry, hj.prio) in
-    let prio : k.prio ≡ j.prio = omega (arith, hk.entry, hk.prio, hj.entry, hj.prio) in
-    let is : k.is ≡ j.is = byte_same k.is j.is (omega (arith, hk.entry, hk.prio, hj.entry, hj.prio)) in
-    let a : k ≡ record k { kind = j.kind } = ap (λ n. record k { kind = n }) kind in
-    let b : record k { kind = j.kind } ≡ record k { kind = j.kind; entry = j.entry } = ap (λ n. record k { kind = j.kind; entry = n }) entry in
-    let c : record k { kind = j.kind; entry = j.entry } ≡ record k { kind = j.kind; entry = j.entry; prio = j.prio } = ap (λ n. record k { kind = j.kind; entry = j.entry; prio = n }) prio in
-    let d : record k { kind = j.kind; entry = j.entry; prio = j.prio } ≡ j = ap (λ (t : Bool). record k { kind = j.kind; entry = j.entry; prio = j.prio; is = t }) is in
-    a ∙ b ∙ c ∙ d
-
 -- its start's need leaves the reserve free, as rule 14 asks at the point at the entry
 need_at : (image : ImageData) (plan : PlanData) (cert : CertData) (node : NodeData) (point : Point) → ((r : ℕ) → RuleHolds image plan cert node point r) → node.key ≡ start_key image plan → point.addr ≡ image.entry
     → node.need ≤ plan.areas - plan.reserve
@@ -119,6 +91,6 @@ pub need_small : (image : ImageData) (plan : PlanData) (cert : CertData) (node :
 need_small image plan cert node entry is_cert accepts found =
     let at = found_in (λ (n : NodeData). number_of_key n.key == number_of_key (start_key image plan)) cert.nodes node found in
     let of_node = All-contains (IsNode cert.version) cert.nodes node is_cert.nodes at.0 in
-    let key = key_same node.key (start_key image plan) of_node.key (record { kind = omega arith; entry = entry; prio = omega arith }) (eqb-true _ _ at.1) in
+    let key = one_number node.key (start_key image plan) of_node.key (record { kind = omega arith; entry = entry; prio = omega arith }) (eqb-true _ _ at.1) in
     let start : HasPoint node image.entry (start_state plan) = rw found at accepts.start in
     point_holds image plan cert node (find_point image.entry node.points) refl start (All-contains (HoldsAtNode image plan cert) cert.nodes node accepts.nodes at.0) key

@@ -21,10 +21,11 @@ use Rattle.depth_cert.specs.declared.points.Exit.{Exit}
 use Rattle.depth_cert.specs.declared.points.Point.{Point}
 use Rattle.depth_cert.specs.Points.{find_point}
 use Rattle.depth_cert.specs.Nodes.{NodeData}
-use Rattle.depth_cert.specs.Certs.{CertData, find_node}
+use Rattle.depth_cert.specs.Certs.{CertData}
 use Rattle.cfg_recover.specs.Frames.{Standing}
 use Rattle.cfg_recover.specs.Moves.{InState}
 use Rattle.cfg_recover.proofs.EntryLaws.{HoldsExit}
+use Rattle.cfg_recover.proofs.PointLaws.{Stands}
 
 -- What stays of a frame while it runs: its node, the area that was saved at its entry and the word that A11 got there (0 for
 -- the start), the registers at its entry, and the areas of its lower contexts with their flags, the newest first.
@@ -35,10 +36,6 @@ pub record Frame : Type 0 where
   pub word0 : ℕ → ℕ
   pub locals : List ℕ
   pub flags : List Bool
-
--- the node stands in the certificate
-abbrev pub Stands : CertData → NodeData → Type 0
-Stands cert node = find_node (node.key) cert.nodes ≡ Some node
 
 -- flags as a state has them
 abbrev pub oldest_first : List Bool → List Bool

@@ -24,7 +24,7 @@ use Rattle.cfg_recover.proofs.EntryLaws.{holds_covered, holds_irq, holds_aln, ho
 use Rattle.depth_check.proofs.Frames.{Frame, LowerSame, UpperSame, Leaves, by_return, from_system, from_handler, Resumed, Kept, length-ImpliedBy}
 use Rattle.depth_check.proofs.Registers.{reg_of_lt, set_a11, set_a10, set_d15}
 use Rattle.depth_check.proofs.Enter.{Begins}
-use Rattle.depth_check.proofs.PointLaws.{Found}
+use Rattle.cfg_recover.proofs.PointLaws.{Found}
 use Rattle.depth_check.proofs.Entries.{lower_not, if_some, PointFor, after, again, upper_in}
 
 handler_is : (psw : ℕ) → is_of (handler_psw psw) ≡ true

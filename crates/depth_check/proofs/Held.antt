@@ -18,7 +18,8 @@ use Rattle.cfg_recover.specs.Accepting.{Accepts, certified_need}
 use Rattle.cfg_recover.specs.Frames.{Standing, LiesAt, HoldFrames, EdgeOwed}
 use Rattle.cfg_recover.specs.Moves.{InState}
 use Rattle.depth_check.specs.Headline.{AcceptedHoldsFrames, AcceptedOwesEdges}
-use Rattle.depth_check.proofs.Frames.{Frame, Stands, standing, Frames, Kept}
+use Rattle.cfg_recover.proofs.PointLaws.{Stands}
+use Rattle.depth_check.proofs.Frames.{Frame, standing, Frames, Kept}
 use Rattle.depth_check.proofs.Step.{step-done}
 use Rattle.depth_check.proofs.Sound.{few, held}
 

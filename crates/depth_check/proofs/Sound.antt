@@ -26,7 +26,7 @@ use Rattle.cfg_recover.proofs.EntryLaws.{holds_covered, holds_start, entry_lengt
 use Rattle.depth_check.specs.Headline.{AcceptedIsSafe}
 use Rattle.depth_check.proofs.Frames.{Frame, used_by, Kept, Links-Frames, need-Frames, length-ImpliedBy}
 use Rattle.depth_check.proofs.Enter.{implied_none, counted}
-use Rattle.depth_check.proofs.PointLaws.{rules_at, Found, node_found}
+use Rattle.cfg_recover.proofs.PointLaws.{rules_at, Found, node_found}
 use Rattle.depth_check.proofs.Entries.{PointFor, point_for}
 use Rattle.depth_check.proofs.Handlers.{entry_none}
 use Rattle.depth_check.proofs.Step.{Goes, at_point, step-kept}

@@ -46,7 +46,7 @@ use Rattle.depth_check.proofs.Frames.{Frame, standing, Leaves, by_return, from_s
 use Rattle.depth_check.proofs.Enter.{Begins, begun, entered, room, begins, saves, reg_lt}
 use Rattle.depth_check.proofs.Leave.{globals_held, comes_back, restores, none_held}
 use Rattle.depth_check.proofs.Plain.{Kept-moved}
-use Rattle.depth_check.proofs.PointLaws.{limits_are, PointHolds, duties_at, node_is, rules_at, Found, node_found}
+use Rattle.cfg_recover.proofs.PointLaws.{limits_are, PointHolds, duties_at, node_is, rules_at, Found, node_found}
 use Rattle.depth_check.proofs.Entries.{PointFor, point_for, if_some, call_begins}
 use Rattle.depth_check.proofs.Handlers.{handler_a, irq_begins, aln_begins, sys_begins}
 use Rattle.depth_check.proofs.Locals.{with_locals, lower_pushed, lower_popped}

@@ -1,3 +1,4 @@
+pub mod AnswerLaws
 pub mod Finding
 pub mod FirstFaults
 pub mod Headline

@@ -14,7 +14,7 @@ mod verdicts;
 
 pub use first_faults::first_fault_laws;
 pub use judging::check;
-pub use laws::{accepted_holds_frames, accepted_is_safe};
+pub use laws::{accepted_holds_frames, accepted_is_safe, answer_laws};
 pub use verdicts::Verdict;
 
 #[cfg(test)]

@@ -1,4 +1,4 @@
-use Rattle.std.proofs.Common.{take, Some}
+use Rattle.std.proofs.Common.{take}
 use Rattle.vd_transfer.specs.Changes.{changed}
 use Rattle.depth_check.specs.Finding.{Finds, DutiesHold}
 use Rattle.depth_check.proofs.DutyLaws.{told_to, called}

@@ -1,4 +1,4 @@
-use Rattle.std.proofs.Common.{List, ℕ, None, subst, sym, ap, ◌∙◌}
+use Rattle.std.proofs.Common.{List, None, subst, sym, ap, ◌∙◌}
 use Rattle.std.proofs.lemmas.Bool.{eqb-true}
 use Rattle.depth_cert.specs.Nodes.{NodeData}
 use Rattle.cfg_recover.specs.Entries.{irq_entry}

@@ -1,4 +1,4 @@
-use Rattle.std.proofs.Common.{ap, ◌∙◌, ◌≡◌, Option, Some, None, sym, subst}
+use Rattle.std.proofs.Common.{Option, None, subst}
 use Rattle.value_domain.specs.declared.states.State.{State}
 use Rattle.vd_transfer.specs.Changes.{changed}
 use Rattle.cfg_recover.specs.Duties.{jump_on}

@@ -1,4 +1,4 @@
-use Rattle.std.proofs.Common.{ap, ◌∙◌, ◌≡◌, sym, subst, [], ◌∷◌}
+use Rattle.std.proofs.Common.{ap, ◌∙◌, ◌≡◌, subst, [], ◌∷◌}
 use Rattle.value_domain.specs.declared.values.Val.{Val}
 use Rattle.value_domain.specs.declared.states.State.{State}
 use Rattle.tc_machine.specs.Machine.{moved}

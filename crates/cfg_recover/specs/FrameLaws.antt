@@ -1,0 +1,172 @@
+-- What edges, frames and the promises on them say, in the machine's own words: the statements of the laws that guard
+-- these definitions.
+use Rattle.std.specs.Prelude.{◌≡◌, ◌<◌, ◌≤◌, ℕ, Bool, true, false, List, [], ◌∷◌, ◌++◌, IsSome, All, Contains, Some, Ok}
+use Rattle.elf_image.specs.Images.{ImageData}
+use Rattle.tcd_plan.specs.PlanData.{PlanData}
+use Rattle.tc_isa.specs.declared.shapes.Target.{Target}
+use Rattle.tc_isa.specs.declared.shapes.Shape.{Shape}
+use Rattle.tc_isa.specs.declared.shapes.Shape.TheVariants.{Call, Ret, Rfe, Syscall}
+use Rattle.tc_machine.specs.declared.events.Event.{Event}
+use Rattle.tc_machine.specs.declared.state.Machine.{Machine}
+use Rattle.tc_machine.specs.Machine.{reg, is_of, moved}
+use Rattle.tc_machine.specs.Fetching.{fetched}
+use Rattle.tc_machine.specs.Stepping.{is_taken, step, run}
+use Rattle.tc_machine.specs.Safe.{Starts, Fits, AllFit}
+use Rattle.value_domain.specs.declared.states.State.{State}
+use Rattle.value_domain.specs.Values.{IsMember}
+use Rattle.vd_transfer.specs.Registers.{reg_of}
+use Rattle.depth_cert.specs.declared.points.Point.{Point}
+use Rattle.depth_cert.specs.Nodes.{NodeData}
+use Rattle.depth_cert.specs.Certs.{CertData, find_node}
+use Rattle.cfg_recover.specs.Code.{IsCode}
+use Rattle.cfg_recover.specs.Duties.{Owed, jump, enter, duties_of}
+use Rattle.cfg_recover.specs.Accepting.{limits_in}
+use Rattle.cfg_recover.specs.Moves.{traps}
+use Rattle.cfg_recover.specs.Frames.{Standing, to, call, irq, sys, aln, ret, rfe, way_of_step, edge_of_step, frames, FramesHeld, EdgesOwed}
+
+-- ---- steps
+-- the machine takes no interrupt, and the instruction at its pc has this shape and so many bytes
+pub record Meets (m : Machine) (e : Event) (shape : Shape) (n : ℕ) : Type 0 where
+  pub free : is_taken m e ≡ false
+  pub there : fetched m ≡ Ok (shape, n)
+
+-- it doesn't trap there, and the instruction neither enters nor leaves a frame
+abbrev pub KeepsFrame : Shape → Type 0
+KeepsFrame (Call x) = ⊥
+KeepsFrame Ret = ⊥
+KeepsFrame Rfe = ⊥
+KeepsFrame (Syscall tin) = ⊥
+KeepsFrame _ = Unit {0}
+
+-- The edge of a step begins at pc. It goes to the new pc: of an interrupt that is taken, of the handler of an access that
+-- traps, of a call, of a system call, or in the frame; RET and RFE stand alone.
+pub record EdgeIs (m : Machine) (e : Event) : Type 0 where
+  pub at : (edge_of_step m e).at ≡ m.pc
+  pub same : (edge_of_step m e).way ≡ way_of_step m e
+  pub interrupted : is_taken m e ≡ true → way_of_step m e ≡ irq (step m e).pc
+  pub misaligned : (shape : Shape) (n : ℕ) → Meets m e shape n → traps m e shape ≡ true → way_of_step m e ≡ aln (step m e).pc
+  pub called : (x : Target) (n : ℕ) → Meets m e (Call x) n → way_of_step m e ≡ call (step m e).pc
+  pub system : (tin n : ℕ) → Meets m e (Syscall tin) n → way_of_step m e ≡ sys (step m e).pc
+  pub returned : (n : ℕ) → Meets m e Ret n → way_of_step m e ≡ ret
+  pub resumed : (n : ℕ) → Meets m e Rfe n → way_of_step m e ≡ rfe
+  pub stayed : (shape : Shape) (n : ℕ) → Meets m e shape n → traps m e shape ≡ false → KeepsFrame shape → way_of_step m e ≡ to (step m e).pc
+
+-- at every step
+abbrev pub EdgesAre : Type 0
+EdgesAre = (m : Machine) (e : Event) → EdgeIs m e
+
+-- ---- frames
+-- the frame that is entered at an address: 1 by a call, 2 by an interrupt, 3 by a system call, 4 by a misaligned access
+abbrev pub entered : ℕ → ℕ → ℕ → Bool → Standing
+entered kind at prio is = record { key = record { kind = kind; entry = at; prio = prio; is = is }; at = at }
+
+-- a frame that goes on at an address
+abbrev pub going_on : Standing → ℕ → Standing
+going_on f at = record { key = f.key; at = at }
+
+-- The frames after a step from newest and older ones. A call and a system call come back to the next instruction, an
+-- interrupt and a misaligned access to the one at pc. Handlers run on the interrupt stack; an interrupt brings its
+-- priority, and all others keep that of the frame that enters.
+pub record FramesNext (m : Machine) (e : Event) (f : Standing) (older next : List Standing) : Type 0 where
+  pub interrupted : is_taken m e ≡ true → next ≡ entered 2 (step m e).pc e.irq true ∷ going_on f m.pc ∷ older
+  pub misaligned :
+      (shape : Shape) (n : ℕ) → Meets m e shape n → traps m e shape ≡ true
+      → next ≡ entered 4 (step m e).pc (f.key).prio true ∷ going_on f m.pc ∷ older
+  pub called :
+      (x : Target) (n : ℕ) → Meets m e (Call x) n
+      → next ≡ entered 1 (step m e).pc (f.key).prio (f.key).is ∷ going_on f (moved m.pc n) ∷ older
+  pub system :
+      (tin n : ℕ) → Meets m e (Syscall tin) n
+      → next ≡ entered 3 (step m e).pc (f.key).prio true ∷ going_on f (moved m.pc n) ∷ older
+  pub returned : (n : ℕ) → Meets m e Ret n → next ≡ older
+  pub resumed : (n : ℕ) → Meets m e Rfe n → next ≡ older
+  pub stayed :
+      (shape : Shape) (n : ℕ) → Meets m e shape n → traps m e shape ≡ false → KeepsFrame shape
+      → next ≡ going_on f (step m e).pc ∷ older
+
+-- at the start there is one frame, of the start's key, and each event of a run makes the next ones
+pub record FramesFollow (image : ImageData) (plan : PlanData) (m : Machine) : Type 0 where
+  pub start : frames image plan m [] ≡ record { key = record { kind = 0; entry = image.entry; prio = 0; is = plan.start_is }; at = m.pc } ∷ []
+  pub step :
+      (es : List Event) (e : Event) (f : Standing) (older : List Standing) → frames image plan m es ≡ f ∷ older
+      → FramesNext (run m es) e f older (frames image plan m (es ++ e ∷ []))
+
+-- in every run
+abbrev pub FramesAre : Type 0
+FramesAre = (image : ImageData) (plan : PlanData) (m : Machine) → FramesFollow image plan m
+
+-- ---- what frames that are held say
+-- The newest frame is at pc and has PSW.IS in its key. Its node stands and has a point at pc whose state the machine lies
+-- in: each register is a member of its value, and so A0, A1, A8 and A9 are the plan's; interrupts are on only where they
+-- may be, and CCPN isn't below the state's. The nodes of all older frames stand.
+pub record FramesSay (plan : PlanData) (cert : CertData) (m : Machine) (all : List Standing) : Type 0 where
+  pub newest : Standing
+  pub older : List Standing
+  pub are : all ≡ newest ∷ older
+  pub at : newest.at ≡ m.pc
+  pub stack : is_of m.psw ≡ (newest.key).is
+  pub node : NodeData
+  pub stands : find_node newest.key cert.nodes ≡ Some node
+  pub point : Point
+  pub there : Contains node.points point
+  pub addr : point.addr ≡ m.pc
+  pub regs : (r : ℕ) → r < 32 → IsMember (reg m r) (reg_of plan point.state r)
+  pub enabled : m.ie ≡ true → (point.state).ie ≡ true
+  pub priority : (point.state).ccpn ≤ m.ccpn
+  pub callers : All (λ g. IsSome (find_node g.key cert.nodes)) older
+
+-- at each boundary of every run from every start state
+abbrev pub HeldFramesSay : Type 0
+HeldFramesSay =
+    (image : ImageData) (plan : PlanData) (cert : CertData) → FramesHeld image plan cert
+    → (m : Machine) (es : List Event) → Starts image plan m → AllFit plan m es
+    → FramesSay plan cert (run m es) (frames image plan m es)
+
+-- ---- what edges that are owed say
+-- with some state, this rule asks for the entry of a key
+abbrev pub Enters : List Owed → ℕ → ℕ → ℕ → ℕ → Bool → Type 0
+Enters ds rule kind entry prio is =
+    (t : State) × Contains ds (record { rule = rule; duty = enter (record { kind = kind; entry = entry; prio = prio; is = is }) t })
+
+-- there is a frame before, and it goes on at this address
+pub record GoesBack (older : List Standing) (q : ℕ) : Type 0 where
+  pub caller : Standing
+  pub rest : List Standing
+  pub are : older ≡ caller ∷ rest
+  pub at : caller.at ≡ q
+
+-- Where a step goes is among the duties of the point that the newest frame stands at: an entry of the handler of an
+-- interrupt or of a misaligned access, or of a call or a system call, or a jump in the frame. RET and RFE go back to the
+-- frame before.
+pub record StepOwed (ds : List Owed) (newest : Standing) (older : List Standing) (m : Machine) (e : Event) : Type 0 where
+  pub interrupted : is_taken m e ≡ true → Enters ds 11 2 (step m e).pc e.irq true
+  pub misaligned : (shape : Shape) (n : ℕ) → Meets m e shape n → traps m e shape ≡ true → Enters ds 10 4 (step m e).pc (newest.key).prio true
+  pub called : (x : Target) (n : ℕ) → Meets m e (Call x) n → Enters ds 5 1 (step m e).pc (newest.key).prio (newest.key).is
+  pub system : (tin n : ℕ) → Meets m e (Syscall tin) n → Enters ds 12 3 (step m e).pc (newest.key).prio true
+  pub returned : (n : ℕ) → Meets m e Ret n → GoesBack older (step m e).pc
+  pub resumed : (n : ℕ) → Meets m e Rfe n → GoesBack older (step m e).pc
+  pub stayed :
+      (shape : Shape) (n : ℕ) → Meets m e shape n → traps m e shape ≡ false → KeepsFrame shape
+      → (t : State) × Contains ds (record { rule = 4; duty = jump (step m e).pc t })
+
+-- the newest frame stands at a point at pc, with the image's instruction there, and the step is owed by it
+pub record EdgeSays (image : ImageData) (plan : PlanData) (cert : CertData) (m : Machine) (e : Event) (all : List Standing) : Type 0 where
+  pub newest : Standing
+  pub older : List Standing
+  pub are : all ≡ newest ∷ older
+  pub node : NodeData
+  pub stands : find_node newest.key cert.nodes ≡ Some node
+  pub point : Point
+  pub there : Contains node.points point
+  pub addr : point.addr ≡ m.pc
+  pub shape : Shape
+  pub size : ℕ
+  pub code : IsCode image plan m.pc shape size
+  pub owed : StepOwed (duties_of (limits_in plan cert) image plan newest.key m.pc point.state shape size) newest older m e
+
+-- at each step of every run from every start state
+abbrev pub OwedEdgesSay : Type 0
+OwedEdgesSay =
+    (image : ImageData) (plan : PlanData) (cert : CertData) → EdgesOwed image plan cert
+    → (m : Machine) (es : List Event) (e : Event) → Starts image plan m → AllFit plan m es → Fits plan (run m es) e
+    → EdgeSays image plan cert (run m es) e (frames image plan m es)

@@ -1,0 +1,31 @@
+-- What an answer says, in the words of the line that is printed: the statement of the law that guards its definition.
+use Rattle.std.specs.Prelude.{◌≡◌, ◌+◌, ◌^◌, ◌<◌, ◌≤◌, ℕ, Some}
+use Rattle.elf_image.specs.Images.{ImageData}
+use Rattle.tcd_plan.specs.PlanData.{PlanData, IsPlan}
+use Rattle.tc_machine.specs.Safe.{Safe}
+use Rattle.depth_cert.specs.declared.keys.Key.{Key}
+use Rattle.depth_cert.specs.Nodes.{NodeData}
+use Rattle.depth_cert.specs.Certs.{CertData, IsCert, find_node}
+use Rattle.cfg_recover.specs.Accepting.{Fails}
+use Rattle.cfg_recover.specs.FaultLaws.{FirstFaultSays}
+use Rattle.depth_check.specs.declared.verdicts.Verdict.TheVariants.{Yes, No}
+use Rattle.depth_check.specs.Judging.{Judges, IfYes}
+
+-- the number is the need of the start's node, beside which the reserve has room in the areas, and no rule fails
+pub record YesSays (image : ImageData) (plan : PlanData) (cert : CertData) (n : ℕ) : Type 0 where
+  pub node : NodeData
+  pub stands : find_node (record { kind = 0; entry = image.entry; prio = 0; is = plan.start_is }) cert.nodes ≡ Some node
+  pub need : n ≡ node.need
+  pub room : n + plan.reserve ≤ plan.areas
+  pub holds : (r : ℕ) (k : Key) (p : ℕ) → Fails image plan cert r k p → ⊥
+
+-- a yes says so, and what is promised where the answer is yes holds of its number; a no names the first fault
+pub record AnswerSays (image : ImageData) (plan : PlanData) (cert : CertData) : Type 0 where
+  pub yes : (n : ℕ) → Judges image plan cert (Yes n) → YesSays image plan cert n
+  pub safe : (n : ℕ) → IfYes (Yes n) (Safe image plan) → Safe image plan n
+  pub no : (r : ℕ) (k : Key) (p : ℕ) → Judges image plan cert (No r k p) → FirstFaultSays image plan cert r k p
+
+-- of every image, plan and certificate
+abbrev pub AnswersSay : Type 0
+AnswersSay =
+    (image : ImageData) (plan : PlanData) (cert : CertData) → image.entry < 2 ^ 32 → IsPlan plan → IsCert cert → AnswerSays image plan cert
