@@ -1,13 +1,19 @@
 -- The thresholds next to a word are the greatest not above it and the least above it.
-use Rattle.std.proofs.Common.{◌≡◌, ℕ, ◌^◌, ◌<◌, ◌≤◌, ◌⊎◌, inl, inr, List, [], ◌∷◌, ◌++◌, refl, subst, sym, ◌∙◌, arith, min, max}
+use Rattle.std.proofs.Common.{◌≡◌, ℕ, ◌^◌, ◌<◌, ◌≤◌, ◌⊎◌, inl, inr, List, [], ◌∷◌, ◌++◌, refl, subst, sym, ◌∙◌, arith, min, max, length, get_or, ◌-◌, drop}
 use Rattle.std.proofs.lemmas.Bool.{cases_lt, lt-ltb, le-ltb, le-leb, lt-leb}
 use Rattle.tcd_plan.specs.PlanData.{PlanData}
-use Rattle.value_domain.specs.Sets.{Among}
-use Rattle.value_domain.specs.Floors.{floor, above}
+use Rattle.std.specs.List.{Contains, refill}
+use Rattle.std.specs.List.Sorted.{IsNonDecreasing, IsPermutation}
+use Rattle.std.proofs.lemmas.List.Sorted.{Contains-permutation, IsPermutation-sym}
+use Rattle.std.proofs.lemmas.List.{get_or_default, take-append-le, take_all}
+use Rattle.value_domain.proofs.Loops.{among_get}
+use Rattle.value_domain.proofs.WordLaws.{among_place}
+use Rattle.value_domain.specs.Sets.{Among, Within}
+use Rattle.value_domain.specs.Floors.{floor, above, InOrder}
 use Rattle.value_domain.specs.Ends.{ends}
 use Rattle.value_domain.specs.Laws.{HasThresholds}
 use Rattle.value_domain.specs.Thresholds.{powers_of_two, thresholds_of}
-use Rattle.value_domain.proofs.LimitLaws.{floor_le, above_lt}
+use Rattle.value_domain.proofs.LimitLaws.{floor_le, above_lt, above_le}
 use Rattle.tcd_plan.specs.PlanData.{all_ranges}
 
 -- the greater of two is one of them
@@ -108,6 +114,107 @@ above_least (t ∷ ts) x s among more =
       | inr at_x ↦
           rw (le-ltb x t at_x) (elim among [ inl same ↦ absurd (omega arith) | inr later ↦ above_least ts x s later more ])
     ]
+
+-- ---- the thresholds in order
+-- the thresholds that lie before a place are those not above x
+pub record AreParted (ws : List ℕ) (x at : ℕ) : Type 0 where
+  pub within : at ≤ length ws
+  pub before : (k : ℕ) → k < at → get_or ws k 0 ≤ x
+  pub after : (k : ℕ) → at ≤ k → k < length ws → x < get_or ws k 0
+
+unfind : {P : Type 0} (ts : List ℕ) (other n : ℕ) → IsFound ts other n → (n ≡ other → P) → (Among n ts → P) → P
+unfolding IsFound
+unfind ts other n found last there = elim found [ inl e ↦ last e | inr i ↦ there i ]
+
+pub floor-none : (ws : List ℕ) (x at : ℕ) → AreParted ws x at → at ≡ 0 → floor ws x ≡ 0
+floor-none ws x at parted none =
+    unfind ws 0 (floor ws x) (floor_found ws x) (λ e. e)
+    (λ i.
+    let p = among_place ws (floor ws x) i in
+    let low : floor ws x ≤ x = floor_le ws x in
+    let high : x < get_or ws p.0 0 = parted.after p.0 (omega arith) p.1 in
+    absurd (omega (arith, p.2)))
+
+pub floor-last : (ws : List ℕ) (x at : ℕ) → IsNonDecreasing ws → AreParted ws x at → 0 < at → floor ws x ≡ get_or ws (at - 1) 0
+floor-last ws x at ordered parted some =
+    let below : get_or ws (at - 1) 0 ≤ x = parted.before (at - 1) (omega arith) in
+    let within : at ≤ length ws = parted.within in
+    let least : get_or ws (at - 1) 0 ≤ floor ws x = floor_greatest ws x (get_or ws (at - 1) 0) (among_get ws (at - 1) (omega arith)) below in
+    unfind ws 0 (floor ws x) (floor_found ws x) (λ e. omega arith)
+    (λ i.
+    let p = among_place ws (floor ws x) i in
+    let low : floor ws x ≤ x = floor_le ws x in
+    elim (cases_lt p.0 at) [
+      | inl lt ↦ let o : get_or ws p.0 0 ≤ get_or ws (at - 1) 0 = ordered p.0 (at - 1) 0 (omega arith) (omega arith) in omega (arith, p.2)
+      | inr ge ↦ let high : x < get_or ws p.0 0 = parted.after p.0 ge p.1 in absurd (omega (arith, p.2))
+    ])
+
+pub above-none : (ws : List ℕ) (x at : ℕ) → x < 2 ^ 32 → AreParted ws x at → at ≡ length ws → above ws x ≡ 2 ^ 32
+above-none ws x at small parted all =
+    unfind ws (2 ^ 32) (above ws x) (above_found ws x small) (λ e. e)
+    (λ i.
+    let p = among_place ws (above ws x) i in
+    let high : x < above ws x = above_lt ws x in
+    let low : get_or ws p.0 0 ≤ x = parted.before p.0 (omega (arith, p.1)) in
+    absurd (omega (arith, p.2)))
+
+pub above-first : (ws : List ℕ) (x at : ℕ) → x < 2 ^ 32 → IsNonDecreasing ws → AreParted ws x at → at < length ws → above ws x ≡ min (get_or ws at 0) (2 ^ 32)
+above-first ws x at small ordered parted some =
+    let over : x < get_or ws at 0 = parted.after at (omega arith) some in
+    let least : above ws x ≤ get_or ws at 0 = above_least ws x (get_or ws at 0) (among_get ws at some) over in
+    let most : above ws x ≤ 2 ^ 32 = above_le ws x small in
+    unfind ws (2 ^ 32) (above ws x) (above_found ws x small) (λ e. omega arith)
+    (λ i.
+    let p = among_place ws (above ws x) i in
+    let high : x < above ws x = above_lt ws x in
+    elim (cases_lt p.0 at) [
+      | inl lt ↦ let low : get_or ws p.0 0 ≤ x = parted.before p.0 lt in absurd (omega (arith, p.2))
+      | inr ge ↦ let o : get_or ws at 0 ≤ get_or ws p.0 0 = ordered at p.0 0 ge p.1 in omega (arith, p.2)
+    ])
+
+-- lists with the same numbers have the same thresholds next to a word
+pub floor-same : (ws ts : List ℕ) (x : ℕ) → Within ws ts → Within ts ws → floor ws x ≡ floor ts x
+floor-same ws ts x there back =
+    let low : floor ws x ≤ floor ts x = half ws ts x there in
+    let high : floor ts x ≤ floor ws x = half ts ws x back in
+    omega arith
+  where
+    half : (ws ts : List ℕ) (x : ℕ) → Within ws ts → floor ws x ≤ floor ts x
+    half ws ts x there = unfind ws 0 (floor ws x) (floor_found ws x) (λ e. omega arith) (λ i. floor_greatest ts x (floor ws x) (there (floor ws x) i) (floor_le ws x))
+
+pub above-same : (ws ts : List ℕ) (x : ℕ) → x < 2 ^ 32 → Within ws ts → Within ts ws → above ws x ≡ above ts x
+above-same ws ts x small there back =
+    let low : above ws x ≤ above ts x = half ts ws x small back in
+    let high : above ts x ≤ above ws x = half ws ts x small there in
+    omega arith
+  where
+    half : (ws ts : List ℕ) (x : ℕ) → x < 2 ^ 32 → Within ws ts → above ts x ≤ above ws x
+    half ws ts x small there =
+        unfind ws (2 ^ 32) (above ws x) (above_found ws x small) (λ e. let most : above ts x ≤ 2 ^ 32 = above_le ts x small in omega arith)
+        (λ i. above_least ts x (above ws x) (there (above ws x) i) (above_lt ws x))
+
+-- ---- sorting
+contained : (xs : List ℕ) (x : ℕ) → Among x xs → Contains xs x
+contained xs x i =
+    let p = among_place xs x i in
+    let e : get_or xs p.0 x ≡ get_or xs p.0 0 = get_or_default xs p.0 x 0 p.1 in
+    (p.0, p.1, e ∙ p.2)
+
+among_contained : (xs : List ℕ) (x : ℕ) → Contains xs x → Among x xs
+among_contained xs x c =
+    let e : get_or xs c.0 0 ≡ get_or xs c.0 x = get_or_default xs c.0 0 x c.1 in
+    subst (λ (y : ℕ). Among y xs) (e ∙ c.2) (among_get xs c.0 c.1)
+
+-- a vector's elements after all of them were written
+pub refill-all : (xs ys : List ℕ) → length ys ≡ length xs → refill (length xs) xs ys ≡ ys
+refill-all xs ys e = take-append-le (length xs) ys (drop (length ys) xs) (omega arith) ∙ take_all (length xs) ys (omega arith)
+
+pub sorted_in_order : (xs ys : List ℕ) → IsPermutation xs ys → IsNonDecreasing ys → InOrder ys xs
+sorted_in_order xs ys moved ordered = record {
+  ordered = ordered;
+  within = λ z i. among_contained xs z (Contains-permutation ys xs z (IsPermutation-sym xs ys moved) (contained ys z i));
+  back = λ z i. among_contained ys z (Contains-permutation xs ys z moved (contained xs z i));
+}
 
 -- what is among a list is among a longer one
 among_front : (z : ℕ) (xs ys : List ℕ) → Among z xs → Among z (xs ++ ys)

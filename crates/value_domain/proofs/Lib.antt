@@ -11,3 +11,5 @@ pub mod JoinLaws
 pub mod WordLaws
 pub mod EndLaws
 pub mod FloorLaws
+pub mod Places
+pub mod BitLaws

@@ -2,14 +2,13 @@
 use Rattle.std.proofs.Common.{◌≡◌, ℕ, zero, suc, ◌+◌, ◌-◌, ◌*◌, ◌^◌, ◌<◌, ◌≤◌, inl, inr, true, false, List, [], ◌∷◌, length, refl, sym, ap, ◌∙◌, arith, min, max, drop, subst, get_or, add-one, ◌/◌, ◌%◌, eqb}
 use Rattle.std.proofs.Math.Seq.{drop-cons}
 use Rattle.std.proofs.lemmas.List.{drop_all}
-use Rattle.std.proofs.lemmas.Bool.{cases_lt, lt-ltb, le-ltb, le-leb, lt-leb, eqb-true, eq-eqb, or_cases, or_right}
+use Rattle.std.proofs.lemmas.Bool.{cases_lt, eqb-true, eq-eqb, or_cases, or_right}
 use Rattle.std.specs.List.{list_any, insert}
 use Rattle.value_domain.proofs.ExtentLaws.{some_length, extent_rising, extent_range}
 use Rattle.value_domain.proofs.CoverLaws.{step_cases}
 use Rattle.value_domain.specs.Values.{IsExtent, IsWell, range}
 use Rattle.value_domain.specs.declared.values.Val.TheVariants.{Span}
 use Rattle.value_domain.specs.Sets.{Among, Rising, twos, step_of, least, greatest, put, AreWords}
-use Rattle.value_domain.specs.Floors.{floor, above}
 use Rattle.value_domain.proofs.SetLaws.{put-lt, put-gt, rising_put, among_put, length_put, put_has, greatest_greatest}
 
 pub drop_at : (xs : List ℕ) (i : ℕ) → i < length xs → drop i xs ≡ get_or xs i 0 ∷ drop (i + 1) xs
@@ -25,48 +24,6 @@ step_more xs i step t h inv e =
 pub step_all : (xs : List ℕ) (i step : ℕ) → length xs ≤ i → step ≤ 2 → step_of xs ≡ min step (step_of (drop i xs)) → step ≡ step_of xs
 unfolding step_of
 step_all xs i step h small inv = let d : step_of (drop i xs) ≡ 2 = ap step_of (drop_all i xs h) in omega arith
-
-pub floor_more : (ts : List ℕ) (x i best : ℕ) → i < length ts → floor ts x ≡ max best (floor (drop i ts) x) →
-    (get_or ts i 0 ≤ x → floor ts x ≡ max (max best (get_or ts i 0)) (floor (drop (i + 1) ts) x))
-    × (x < get_or ts i 0 → floor ts x ≡ max best (floor (drop (i + 1) ts) x))
-unfolding floor
-floor_more ts x i best h inv =
-    let d = ap (λ (l : List ℕ). floor l x) (drop_at ts i h) in (
-      (λ low. let e : floor (drop i ts) x ≡ max (get_or ts i 0) (floor (drop (i + 1) ts) x) = rw (le-leb (get_or ts i 0) x low) at d in omega arith),
-      (λ high. let e : floor (drop i ts) x ≡ floor (drop (i + 1) ts) x = rw (lt-leb (get_or ts i 0) x high) at d in omega arith),
-    )
-
-pub floor_all : (ts : List ℕ) (x i best : ℕ) → length ts ≤ i → floor ts x ≡ max best (floor (drop i ts) x) → best ≡ floor ts x
-unfolding floor
-floor_all ts x i best h inv = let d : floor (drop i ts) x ≡ 0 = ap (λ (l : List ℕ). floor l x) (drop_all i ts h) in omega arith
-
-pub above_more : (ts : List ℕ) (x i best : ℕ) → i < length ts → above ts x ≡ min best (above (drop i ts) x) →
-    (x < get_or ts i 0 → above ts x ≡ min (min best (get_or ts i 0)) (above (drop (i + 1) ts) x))
-    × (get_or ts i 0 ≤ x → above ts x ≡ min best (above (drop (i + 1) ts) x))
-unfolding above
-above_more ts x i best h inv =
-    let d = ap (λ (l : List ℕ). above l x) (drop_at ts i h) in (
-      (λ low. let e : above (drop i ts) x ≡ min (get_or ts i 0) (above (drop (i + 1) ts) x) = rw (lt-ltb x (get_or ts i 0) low) at d in omega arith),
-      (λ high. let e : above (drop i ts) x ≡ above (drop (i + 1) ts) x = rw (le-ltb x (get_or ts i 0) high) at d in omega arith),
-    )
-
-pub above_all : (ts : List ℕ) (x i best : ℕ) → x < 2 ^ 32 → best ≤ 2 ^ 32 → length ts ≤ i → above ts x ≡ min best (above (drop i ts) x) → best ≡ above ts x
-unfolding above
-above_all ts x i best small low h inv = let d : above (drop i ts) x ≡ max (x + 1) (2 ^ 32) = ap (λ (l : List ℕ). above l x) (drop_all i ts h) in omega arith
-
-pub among_any : (x : ℕ) (xs : List ℕ) → (list_any (λ y. eqb x y) xs ≡ true → Among x xs) × (Among x xs → list_any (λ y. eqb x y) xs ≡ true)
-among_any x [] = ((λ h. absurd (let f : false ≡ true = h in cc)), (λ i. absurd i))
-among_any x (y ∷ ys) =
-    let rest = among_any x ys in (
-      (λ h. elim (or_cases (eqb x y) (list_any (λ y. eqb x y) ys) h) [ inl e ↦ inl (eqb-true x y e) | inr r ↦ inr (rest.0 r) ]),
-      (λ i. elim i [ inl e ↦ or_from_left x y ys e | inr j ↦ or_from_right x y ys (rest.1 j) ]),
-    )
-  where
-    or_from_left : (x y : ℕ) (ys : List ℕ) → x ≡ y → list_any (λ y. eqb x y) (y ∷ ys) ≡ true
-    or_from_left x y ys e = rw (eq-eqb x y e) refl
-
-    or_from_right : (x y : ℕ) (ys : List ℕ) → list_any (λ y. eqb x y) ys ≡ true → list_any (λ y. eqb x y) (y ∷ ys) ≡ true
-    or_from_right x y ys h = or_right (eqb x y) (list_any (λ y. eqb x y) ys) h
 
 -- the elements of a list by their places
 pub among_get : (ws : List ℕ) (i : ℕ) → i < length ws → Among (get_or ws i 0) ws

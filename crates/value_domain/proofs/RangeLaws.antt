@@ -4,10 +4,10 @@ use Rattle.std.proofs.lemmas.Bool.{cases_lt}
 use Rattle.std.proofs.lemmas.List.{take_more}
 use Rattle.value_domain.specs.declared.values.Val.{Val}
 use Rattle.value_domain.specs.declared.values.Val.TheVariants.{Set, Span}
-use Rattle.value_domain.specs.Sets.{Among, Within, AreWords, distinct, multiples, twos}
+use Rattle.value_domain.specs.Sets.{Among, Within, Rising, AreWords, distinct, multiples, twos}
 use Rattle.value_domain.specs.Limits.{Limits, AreLimits}
 use Rattle.value_domain.specs.Floors.{floor, above}
-use Rattle.value_domain.specs.Values.{IsWell, IsValue, IsBelow, IsExtent, cover, members, range, first_in, count_in, any_val}
+use Rattle.value_domain.specs.Values.{IsWell, IsValue, IsBelow, IsExtent, cover, value_of, members, range, first_in, count_in, any_val}
 use Rattle.value_domain.proofs.SetLaws.{distinct-rising, length-distinct}
 use Rattle.value_domain.proofs.CoverLaws.{cover-few, cover-many, span_of, cover-same, cover_least, among_member, member_among, has_step, multiples_among, among_multiples, rising_multiples, length-multiples, unit_some, step_cases, among_range}
 use Rattle.value_domain.proofs.LimitLaws.{floor_le, above_lt, above_le}
@@ -129,15 +129,6 @@ below_span {lo} {hi} {s} v lo2 last2 s2 well small e = (
   )),
 )
 
--- ---- tests
-pub among_more : (own words : List ℕ) (i : ℕ) → i < length own → ((z : ℕ) → Among z (take i own) → Among z words) → Among (get_or own i 0) words
-    → (z : ℕ) → Among z (take (i + 1) own) → Among z words
-among_more own words i h before here z j =
-    elim (among_append z (take i own) (get_or own i 0 ∷ []) (rw (take_more own i 0 h) at j)) [
-      | inl k ↦ before z k
-      | inr k ↦ elim k [ inl e ↦ subst (λ (y : ℕ). Among y words) (sym e) here | inr n ↦ absurd n ]
-    ]
-
 pub unit_shift : (s : ℕ) → s ≤ 2 → 1 * 2 ^ s % 2 ^ 64 ≡ 2 ^ s
 unit_shift = step_cases (λ s. 1 * 2 ^ s % 2 ^ 64 ≡ 2 ^ s) refl refl refl
 
@@ -186,38 +177,10 @@ words_first b words some =
     (λ z i. elim i [ inl e ↦ subst (λ (y : ℕ). Among y words) (sym e) (among_get words 0 some) | inr j ↦ j ])
     (λ z i. inr i)
 
--- ---- the multiples of a range, one after another
-pub range_none : (b : Limits) (one : Val) (start unit : ℕ) → AreLimits b → start * unit < 2 ^ 32 → one ≡ Set (start * unit ∷ [])
-    → (one ≡ cover b (multiples (start + 1 - start) start unit)) × IsValue b one
-unfolding multiples
-range_none b one start unit limits below e =
-    let f : start + 1 - start ≡ 1 = omega arith in (
-      e ∙ cover-one b (start * unit) limits below ∙ ap (λ n. cover b (multiples n start unit)) (sym f),
-      subst (λ (v : Val). IsValue b v) (sym e) (one_value b (start * unit) limits below),
-    )
-
-pub first_below : (s : ℕ) → s ≤ 2 → (lo last : ℕ) → 1 ≤ count_in lo last s → first_in lo s * 2 ^ s ≤ last
-first_below =
-    step_cases (λ s. (lo last : ℕ) → 1 ≤ count_in lo last s → first_in lo s * 2 ^ s ≤ last)
-    (λ lo last h. omega arith)
-    (λ lo last h. omega arith)
-    (λ lo last h. omega arith)
-
 pub range_all : (b : Limits) (out : Val) (k lo lo2 last last2 s unit : ℕ) → lo2 ≡ lo → last2 ≡ last → unit ≡ 2 ^ s → k ≡ last2 / unit + 1
     → out ≡ cover b (multiples (k - (lo2 + (unit - 1)) / unit) ((lo2 + (unit - 1)) / unit) unit) → out ≡ cover b (range lo last s)
 range_all b out k lo lo2 last last2 s unit e f u g inv =
     inv ∙ rw (g, u, e, f) refl
-
-pub range_more : (b : Limits) (out : Val) (k start unit : ℕ) → start + 1 ≤ k → out ≡ cover b (multiples (k - start) start unit)
-    → cover b (k * unit ∷ members out) ≡ cover b (multiples (k + 1 - start) start unit)
-range_more b out k start unit low e =
-    let f : k + 1 - start ≡ k - start + 1 = omega arith in
-    let g : start + (k - start) ≡ k = omega arith in
-    ap (λ (o : Val). cover b (k * unit ∷ members o)) e
-    ∙ cover-more b (multiples (k - start) start unit) (k * unit) (omega (arith, length-multiples (k - start) start unit))
-    ∙ ap (λ n. cover b (multiples (k - start) start unit ++ n * unit ∷ [])) (sym g)
-    ∙ ap (cover b) (sym (multiples-more (k - start) start unit))
-    ∙ ap (λ n. cover b (multiples n start unit)) (sym f)
 
 pub range_step : (words : List ℕ) (start unit k j : ℕ) → ((j : ℕ) → start ≤ j → j < k → Among (j * unit) words) → Among (k * unit) words
     → start ≤ j → j < k + 1 → Among (j * unit) words
@@ -247,3 +210,24 @@ any_value b limits = subst (λ (v : Val). IsValue b v) (any_cover b limits) (ran
 -- each value lies in that of all words
 pub below_any : (v : Val) → IsWell v → IsBelow v any_val
 below_any v well z m = (omega arith, omega (arith, members_below v well z (among_member v z (has_step v well) m)), omega arith)
+
+-- multiples that are put into a list one after another
+pub fill_none : (xs : List ℕ) (start unit : ℕ) → xs ≡ [] → (xs ≡ multiples (start - start) start unit) × (length xs ≡ start - start)
+unfolding multiples
+fill_none xs start unit e = let none : start - start ≡ 0 = omega arith in rw (e, none) (refl, refl)
+
+pub fill_more : (xs : List ℕ) (k start unit : ℕ) → start ≤ k → xs ≡ multiples (k - start) start unit → length xs ≡ k - start
+    → (xs ++ k * unit ∷ [] ≡ multiples (k + 1 - start) start unit) × (length (xs ++ k * unit ∷ []) ≡ k + 1 - start)
+fill_more xs k start unit low e len =
+    let next : k - start + 1 ≡ k + 1 - start = omega arith in
+    let here : start + (k - start) ≡ k = omega arith in (
+      ap (λ (l : List ℕ). l ++ k * unit ∷ []) e
+          ∙ ap (λ (n : ℕ). multiples (k - start) start unit ++ n * unit ∷ []) (sym here)
+          ∙ sym (multiples-more (k - start) start unit)
+          ∙ ap (λ (n : ℕ). multiples n start unit) next,
+      omega (arith, length-append xs (k * unit ∷ [])),
+    )
+
+pub value-rising : (b : Limits) (ws : List ℕ) → Rising ws → value_of b ws ≡ cover b ws
+unfolding cover
+value-rising b ws r = ap (value_of b) (sym (distinct-rising ws r))

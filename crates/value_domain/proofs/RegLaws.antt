@@ -1,11 +1,13 @@
 -- Lists of values and of flags.
-use Rattle.std.proofs.Common.{◌≡◌, ℕ, zero, suc, ◌+◌, ◌<◌, inl, inr, Bool, false, ◌&&◌, List, [], ◌∷◌, ◌++◌, length, refl, sym, ap, ◌∙◌, subst, arith, take, drop, get_or, set, add-one, IsTrue}
+use Rattle.std.proofs.Common.{◌≡◌, ℕ, zero, suc, ◌+◌, ◌<◌, ◌≤◌, inl, inr, Bool, false, ◌&&◌, List, [], ◌∷◌, ◌++◌, length, refl, sym, ap, ◌∙◌, subst, arith, take, drop, get_or, set, add-one, IsTrue}
 use Rattle.std.proofs.lemmas.Bool.{cases_lt}
-use Rattle.std.proofs.lemmas.List.{take_more, take_more_set}
+use Rattle.std.proofs.lemmas.List.{take_more, take_more_set, get_or-set_other}
 use Rattle.std.proofs.Math.Seq.{drop-cons}
 use Rattle.value_domain.specs.declared.values.Val.{Val}
 use Rattle.value_domain.specs.Limits.{Limits}
-use Rattle.value_domain.specs.Values.{IsBelow, any_val}
+use Rattle.value_domain.specs.Values.{IsValue, IsBelow, members, any_val}
+use Rattle.value_domain.proofs.CoverLaws.{cover-same}
+use Rattle.value_domain.proofs.ExtentLaws.{among_append, append_left}
 use Rattle.value_domain.specs.State.{ImpliedBy, joined_regs, joined_locals, join_of}
 
 -- an element that is read at a place
@@ -42,6 +44,27 @@ regs_more b vs ws out i v w h same len e f inv =
     take_more_set out i (join_of b v w) (omega arith)
     ∙ ap (λ (l : List Val). l ++ join_of b v w ∷ []) inv
     ∙ ap (λ (u : Val). take i (joined_regs b vs ws) ++ u ∷ []) (sym (get_or-joined b vs ws i v w any_val h (omega arith) e f))
+    ∙ sym (take_more (joined_regs b vs ws) i any_val (omega (arith, length-joined b vs ws same)))
+
+-- what is left to join stays
+pub regs_left : (vs out : List Val) (i : ℕ) (v : Val) → ((k : ℕ) → i ≤ k → get_or out k any_val ≡ get_or vs k any_val)
+    → (k : ℕ) → i + 1 ≤ k → get_or (set out i v) k any_val ≡ get_or vs k any_val
+regs_left vs out i v left k h = get_or-set_other out i k v any_val (λ e. omega arith) ∙ left k (omega arith)
+
+-- two equal values are joined already
+pub regs_same : (b : Limits) (vs ws out : List Val) (i : ℕ) (v w : Val) → i < length vs → length vs ≡ length ws → length out ≡ length vs → v ≡ get_or vs i v → w ≡ get_or ws i w
+    → v ≡ w → IsValue b v → take i out ≡ take i (joined_regs b vs ws) → get_or out i any_val ≡ get_or vs i any_val → take (i + 1) out ≡ take (i + 1) (joined_regs b vs ws)
+regs_same b vs ws out i v w h same len e f eq value inv left =
+    let here : get_or out i any_val ≡ v = left ∙ read_at vs i v any_val h e in
+    let joined : join_of b v w ≡ v =
+    ap (λ (u : Val). join_of b v u) (sym eq)
+    ∙ cover-same b (members v ++ members v) (members v) (λ z i. elim (among_append z (members v) (members v) i) [ inl j ↦ j | inr j ↦ j ])
+    (λ z i. append_left z (members v) (members v) i)
+    ∙ value.own
+    in
+    take_more out i any_val (omega arith)
+    ∙ ap (λ (l : List Val). l ++ get_or out i any_val ∷ []) inv
+    ∙ ap (λ (u : Val). take i (joined_regs b vs ws) ++ u ∷ []) (here ∙ sym joined ∙ sym (get_or-joined b vs ws i v w any_val h (omega arith) e f))
     ∙ sym (take_more (joined_regs b vs ws) i any_val (omega (arith, length-joined b vs ws same)))
 
 -- flags

@@ -1,16 +1,17 @@
 // The least value that holds a set.
-ghost use Rattle.std.specs.Prelude.{◌≡◌, ◌==◌, ◌≤◌, ◌<◌, ◌+◌, ◌-◌, ◌*◌, ◌/◌, ◌^◌, IsTrue, length, min, max, [], ◌∷◌, ◌++◌, List, ℕ, ◌↔◌};
+ghost use Rattle.std.specs.Prelude.{◌≡◌, ◌==◌, ◌≤◌, ◌<◌, ◌+◌, ◌-◌, ◌*◌, ◌/◌, ◌^◌, IsTrue, length, min, max, [], ◌∷◌, ◌++◌, List, ℕ, ◌↔◌, IsSome, IsNone, slice_index};
 ghost use Rattle.value_domain.specs.Values as values;
 ghost use Rattle.value_domain.specs.Sets.{AreWords, Among, Within, Rising, least, greatest, step_of};
 ghost use Rattle.value_domain.specs.Sets as sets;
-ghost use Rattle.std.specs.List.{list_any};
 ghost use Rattle.value_domain.specs.Floors.{floor, above};
 ghost use Rattle.value_domain.specs.Limits.{AreLimits};
-ghost use Rattle.value_domain.specs.Values.{IsMember, IsWell, IsValue, IsBelow, IsExtent, cover, members, range, count_in, first_in};
+ghost use Rattle.value_domain.specs.Values.{IsMember, IsWell, IsValue, IsBelow, IsExtent, cover, members, range, count_in, first_in, words_of};
 ghost use Rattle.value_domain.specs.declared.values.Val.TheVariants.{Set, Span};
 
 use crate::merging::merged;
+use crate::values::has;
 use crate::{Bounds, Val, Words};
+use arrayvec::ArrayVec;
 
 /// The least and the greatest member of a value, and its step.
 #[derive(Clone, Copy)]
@@ -44,12 +45,6 @@ pub fn member(x: u32, v: &Val) -> bool
     }
 }
 
-fn has(words: &[u32], x: u32) -> bool
-    ensures { result ≡ list_any (λ y. x == y) words.now }
-{
-    words.iter().any(|w| x == *w)
-}
-
 fn set_extent(words: &[u32]) -> Extent
     requires { AreWords words.now }
     ensures { IsExtent words.now result.least result.greatest result.step }
@@ -61,14 +56,22 @@ fn set_extent(words: &[u32]) -> Extent
     }
 }
 
+/// The greatest step that fits all words.
 fn least_step(words: &[u32]) -> u8
     ensures { result ≡ step_of words.now }
 {
-    let mut step = 2;
+    twos(bits_of(words))
+}
+
+/// The bits that are set in any of the words.
+fn bits_of(words: &[u32]) -> u32
+    ensures { sets.twos result ≡ step_of words.now }
+{
+    let mut bits = 0;
     for x in words {
-        step = twos(*x).min(step);
+        bits |= *x;
     }
-    step
+    bits
 }
 
 fn span_extent(lo: u32, last: u32, step: u8) -> Extent
@@ -109,32 +112,37 @@ pub fn with_word(b: &Bounds, v: Val, x: u32) -> Val
     ensures cover { result ≡ cover b.now (x ∷ members v) }
     ensures value { IsValue b.now result }
 {
-    let _width = b.width();
-    put_word(b, v, x)
+    let mut out = v;
+    add_word(b, &mut out, x);
+    out
 }
 
-fn put_word(b: &Bounds, v: Val, x: u32) -> Val
-    requires { IsValue b.now v }
-    ensures { result ≡ cover b.now (x ∷ members v) }
+/// Adds a word to a value, which becomes the least one that holds it too.
+pub fn add_word(b: &Bounds, v: &mut Val, x: u32)
+    requires { IsValue b.now v.old }
+    ensures cover { v.new ≡ cover b.now (x ∷ members v.old) }
+    ensures value { IsValue b.now v.new }
+{
+    let _width = b.width();
+    put_word(b, v, x);
+}
+
+fn put_word(b: &Bounds, v: &mut Val, x: u32)
+    requires { IsValue b.now v.old }
+    ensures { v.new ≡ cover b.now (x ∷ members v.old) }
 {
     let width = b.width();
-    if member(x, &v) {
-        return v;
+    if member(x, v) {
+        return;
     }
-    match v {
-        Val::Set(mut words) => {
-            if words.as_slice().len() < width {
-                words.put(x);
-                return Val::Set(words);
-            }
-            let e = set_extent(words.as_slice());
-            wider(b, &e, x)
-        }
-        Val::Span { lo, last, step } => {
-            let e = span_extent(lo, last, step);
-            wider(b, &e, x)
+    if let Val::Set(words) = v {
+        if words.as_slice().len() < width {
+            words.put(x);
+            return;
         }
     }
+    let e = extent_of(v);
+    *v = wider(b, &e, x);
 }
 
 fn wider(b: &Bounds, e: &Extent, x: u32) -> Val
@@ -143,16 +151,56 @@ fn wider(b: &Bounds, e: &Extent, x: u32) -> Val
     span(b, x.min(e.least), x.max(e.greatest), twos(x).min(e.step))
 }
 
-fn with_words(b: &Bounds, v: Val, words: &[u32]) -> Val
-    requires { IsValue b.now v }
-    ensures cover { result ≡ cover b.now (members v ++ words.now) }
-    ensures value { IsValue b.now result }
+/// Adds words to a value, which becomes the least one that holds them too.
+pub fn add_words(b: &Bounds, v: &mut Val, words: &[u32])
+    requires { IsValue b.now v.old }
+    ensures cover { v.new ≡ cover b.now (members v.old ++ words.now) }
+    ensures value { IsValue b.now v.new }
 {
-    let mut out = v;
-    for x in words {
-        out = with_word(b, out, *x);
+    let _width = b.width();
+    let mut i = 0;
+    while i < words.len() && is_set(v) {
+        add_word(b, v, words[i]);
+        i += 1;
     }
-    out
+    if i < words.len() {
+        widen(b, v, &words[i..]);
+    }
+}
+
+fn is_set(v: &Val) -> bool
+    ensures { IsTrue result ↔ IsSome (words_of v.now) }
+{
+    v.words().is_some()
+}
+
+/// Adds words to a Span.
+fn widen(b: &Bounds, v: &mut Val, words: &[u32])
+    requires span { IsNone (words_of v.old) }
+    requires value { IsValue b.now v.old }
+    ensures { v.new ≡ cover b.now (members v.old ++ words.now) }
+{
+    let e = extent_with(&extent_of(v), words);
+    *v = span(b, e.least, e.greatest, e.step);
+}
+
+/// The extent of words that have this one, and of more.
+fn extent_with(e: &Extent, words: &[u32]) -> Extent
+    ensures { (xs : List ℕ) → IsExtent xs e.now.least e.now.greatest e.now.step → IsExtent (xs ++ words.now) result.least result.greatest result.step }
+{
+    let mut least = e.least;
+    let mut greatest = e.greatest;
+    let mut bits = 0;
+    for x in words {
+        least = least.min(*x);
+        greatest = greatest.max(*x);
+        bits |= *x;
+    }
+    Extent {
+        least,
+        greatest,
+        step: twos(bits).min(e.step),
+    }
 }
 
 /// The least value that holds the words.
@@ -162,7 +210,35 @@ pub fn cover_words(b: &Bounds, words: &[u32]) -> Val
     ensures value { IsValue b.now result }
 {
     let _width = b.width();
-    with_words(b, Val::one(words[0]), words)
+    let mut out = Val::one(words[0]);
+    add_words(b, &mut out, words);
+    out
+}
+
+/// Whether two values are the same.
+pub(crate) fn are_same(v: &Val, w: &Val) -> bool
+    ensures { IsTrue result ↔ (v.now ≡ w.now) }
+{
+    match v {
+        Val::Set(own) => match w {
+            Val::Set(words) => own.as_slice() == words.as_slice(),
+            Val::Span { .. } => false,
+        },
+        Val::Span { lo, last, step } => is_the_span(w, *lo, *last, *step),
+    }
+}
+
+fn is_the_span(v: &Val, lo: u32, last: u32, step: u8) -> bool
+    ensures { IsTrue result ↔ (v.now ≡ Span lo last step) }
+{
+    match v {
+        Val::Set(_) => false,
+        Val::Span {
+            lo: own_lo,
+            last: own_last,
+            step: own_step,
+        } => *own_lo == lo && *own_last == last && *own_step == step,
+    }
 }
 
 /// The least value that holds both.
@@ -186,7 +262,11 @@ fn join_set(b: &Bounds, v: &Val, words: &Words) -> Val
 {
     match v {
         Val::Set(own) => value_of(b, merged(own.as_slice(), words.as_slice()).as_slice()),
-        Val::Span { .. } => with_words(b, v.copy(), words.as_slice()),
+        Val::Span { .. } => {
+            let mut out = v.copy();
+            widen(b, &mut out, words.as_slice());
+            out
+        }
     }
 }
 
@@ -258,19 +338,40 @@ fn is_inside(e: &Extent, lo: u32, last: u32, step: u8) -> bool
     lo <= e.least && e.greatest <= last && step <= e.step
 }
 
+/// Whether each of the words is one of the others: both ascend and are walked once.
 fn are_among(own: &[u32], words: &[u32]) -> bool
+    requires own { Rising own.now }
+    requires words { Rising words.now }
     ensures { IsTrue result ↔ Within own.now words.now }
 {
+    let mut k = 0;
     for x in own {
-        if !has(words, *x) {
+        k = first_from(words, k, *x);
+        if k == words.len() || words[k] != *x {
             return false;
         }
     }
     true
 }
 
+/// The first place from `k` on whose word isn't below `x`, or the number of words where all are.
+fn first_from(words: &[u32], k: usize, x: u32) -> usize
+    requires start { k ≤ length words.now }
+    ensures start { k ≤ result }
+    ensures end { result ≤ length words.now }
+    ensures below { (j : ℕ) → k ≤ j → j < result → slice_index words.now j < x }
+    ensures reached { result < length words.now → x ≤ slice_index words.now result }
+{
+    let mut at = k;
+    while at < words.len() && words[at] < x {
+        at += 1;
+    }
+    at
+}
+
 fn is_range_among(lo: u32, last: u32, step: u8, words: &[u32]) -> bool
-    requires { step ≤ 2 }
+    requires step { step ≤ 2 }
+    requires words { Rising words.now }
     ensures { IsTrue result ↔ Within (range lo last step) words.now }
 {
     let unit = 1u64 << step;
@@ -348,15 +449,15 @@ fn many(b: &Bounds, first: u32, last: u32, step: u8) -> Val
 fn few(b: &Bounds, first: u32, last: u32, step: u8) -> Val
     requires step { step ≤ 2 }
     requires some { 1 ≤ count_in first last step }
+    requires few { count_in first last step ≤ 128 }
     ensures { result ≡ cover b.now (range first last step) }
 {
-    let _width = b.width();
     let unit = 1u64 << step;
     let start = (u64::from(first) + (unit - 1)) / unit;
     let end = u64::from(last) / unit + 1;
-    let mut out = Val::one((start * unit) as u32);
-    for k in start + 1..end {
-        out = with_word(b, out, (k * unit) as u32);
+    let mut words = ArrayVec::<u32, 128>::new();
+    for k in start..end {
+        words.push((k * unit) as u32);
     }
-    out
+    value_of(b, words.as_slice())
 }

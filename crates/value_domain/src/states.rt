@@ -3,6 +3,7 @@ ghost use Rattle.std.specs.Prelude.{◌≡◌, ◌≤◌, ◌<◌, ◌↔◌, Is
 ghost use Rattle.value_domain.specs.Values.{IsWell, IsValue, IsBelow, any_val};
 ghost use Rattle.value_domain.specs.State.{Covers, AreWell, AreValues, joined, joined_regs, joined_locals, AreBelow, ImpliedBy};
 
+use crate::lattice::are_same;
 use crate::values::copy_of;
 use crate::{Bounds, Val, join, leq};
 use arrayvec::ArrayVec;
@@ -120,9 +121,11 @@ fn join_regs(b: &Bounds, s: &[Val; 27], t: &[Val; 27]) -> [Val; 27]
     requires right { AreValues b.now t.now }
     ensures { result ≡ joined_regs b.now s.now t.now }
 {
-    let mut out = std::array::from_fn(|_| Val::any());
+    let mut out = copy_regs(s);
     for i in 0..27 {
-        out[i] = join(b, &s[i], &t[i]);
+        if !are_same(&s[i], &t[i]) {
+            out[i] = join(b, &s[i], &t[i]);
+        }
     }
     out
 }

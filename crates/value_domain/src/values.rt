@@ -111,17 +111,23 @@ fn are_ascending(words: &[u32]) -> bool
     true
 }
 
-/// The first place from the end whose word is below `x`, and the place after it.
+/// How many of the words, which ascend, are below `x`.
 fn place(words: &[u32], x: u32) -> usize
+    requires { Rising words.now }
     ensures within { result ≤ length words.now }
-    ensures before { 0 < result → slice_index words.now (result - 1) < x }
+    ensures before { (k : ℕ) → k < result → slice_index words.now k < x }
     ensures after { (k : ℕ) → result ≤ k → k < length words.now → x ≤ slice_index words.now k }
 {
-    let mut at = words.len();
-    while at > 0 && words[at - 1] >= x {
-        at -= 1;
-    }
-    at
+    words.partition_point(|w| *w < x)
+}
+
+/// Whether `x` is one of the words, which ascend.
+pub(crate) fn has(words: &[u32], x: u32) -> bool
+    requires { Rising words.now }
+    ensures { IsTrue result ↔ Among x words.now }
+{
+    let at = place(words, x);
+    at < words.len() && words[at] == x
 }
 
 fn vec_of(words: &[u32]) -> ArrayVec<u32, 128>

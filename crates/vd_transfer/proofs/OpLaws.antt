@@ -1,7 +1,8 @@
 -- Operations are sound and monotone.
-use Rattle.std.proofs.Common.{◌≡◌, ℕ, zero, suc, ◌+◌, ◌-◌, ◌*◌, ◌%◌, ◌^◌, ◌<◌, ◌≤◌, inl, inr, List, [], ◌∷◌, ◌++◌, length, refl, sym, ap, ◌∙◌, subst, arith, min, map, ltb, leb, take, get_or, append_assoc, append-nil, Bool, true, false, not, ◌||◌, eqb, bit_and, bit_or, bit_xor, ◌⊎◌}
+use Rattle.std.proofs.Common.{◌≡◌, ℕ, zero, suc, ◌+◌, ◌-◌, ◌*◌, ◌%◌, ◌^◌, ◌<◌, ◌≤◌, inl, inr, List, [], ◌∷◌, ◌++◌, length, refl, sym, ap, ◌∙◌, subst, arith, min, map, ltb, leb, take, set, get_or, append_assoc, append-nil, Bool, true, false, not, ◌||◌, eqb, bit_and, bit_or, bit_xor, ◌⊎◌}
 use Rattle.std.proofs.lemmas.Bool.{cases_lt, lt-ltb, le-ltb, cases_Bool}
-use Rattle.std.proofs.lemmas.List.{take_more}
+use Rattle.std.proofs.lemmas.List.{take_more, take_more_set, take_all}
+use Rattle.std.proofs.Math.ListN.{length-set}
 use Rattle.std.proofs.Math.Nat.{mul-le-mul_right}
 use Rattle.std.proofs.Math.Pow.{pow_mono}
 use Rattle.std.proofs.lemmas.Nat.{shl_below, shr_le, or_of_32, xor_of_32, and_le_l}
@@ -16,7 +17,7 @@ use Rattle.value_domain.specs.declared.lattice.Extent.{Extent}
 use Rattle.vd_transfer.specs.declared.runs.Run.{Run}
 use Rattle.value_domain.proofs.Loops.{among_get}
 use Rattle.value_domain.proofs.ExtentLaws.{cover-part, extent_only, extent_rising, append_left, append_right, among_append, some_length}
-use Rattle.value_domain.proofs.RangeLaws.{words_more, members_below, some_members, span_count, set_value}
+use Rattle.value_domain.proofs.RangeLaws.{members_below, some_members, span_count, set_value}
 use Rattle.tc_isa.specs.declared.shapes.Op.{Op}
 use Rattle.tc_isa.specs.declared.shapes.Op.TheVariants.{Second, Add, Sub, And, Nand, Or, Nor, Xor, Xnor, Andn, Orn, Eq, Ne, Lt, LtU, Ge, GeU, Sh, Sha}
 use Rattle.tc_isa.specs.Arithmetic.{alu_of, shifted, shifted_signed, complement, one_if, signed_place}
@@ -510,13 +511,20 @@ map_length : (op : Op) (x : ℕ) (ys : List ℕ) → length (map (alu_of op x) y
 map_length op x [] = refl
 map_length op x (y ∷ ys) = ap suc (map_length op x ys)
 
--- the results of one word with many
-pub results_more : (b : Limits) (v out : Val) (op : Op) (x i : ℕ) (ys : List ℕ) → IsWell v → i < length ys
-    → out ≡ cover b (members v ++ take i (map (alu_of op x) ys)) → cover b (alu_of op x (get_or ys i 0) ∷ members out) ≡ cover b (members v ++ take (i + 1) (map (alu_of op x) ys))
-results_more b v out op x i ys well h e =
-    let at : get_or (map (alu_of op x) ys) i 0 ≡ alu_of op x (get_or ys i 0) = map_at op x i ys h in
-    let more = words_more b v out (map (alu_of op x) ys) i well (omega (arith, map_length op x ys)) e in
-    rw (at) at more
+-- a row that is filled word by word
+pub row_next : (op : Op) (x i : ℕ) (ys row : List ℕ) → i < length ys → take i row ≡ take i (map (alu_of op x) ys) → length row ≡ length ys
+    → (take (i + 1) (set row i (alu_of op x (get_or ys i 0))) ≡ take (i + 1) (map (alu_of op x) ys)) × (length (set row i (alu_of op x (get_or ys i 0))) ≡ length ys)
+row_next op x i ys row h e len = (
+  take_more_set row i (alu_of op x (get_or ys i 0)) (omega arith)
+      ∙ ap (λ (l : List ℕ). l ++ alu_of op x (get_or ys i 0) ∷ []) e
+      ∙ ap (λ (n : ℕ). take i (map (alu_of op x) ys) ++ n ∷ []) (sym (map_at op x i ys h))
+      ∙ sym (take_more (map (alu_of op x) ys) i 0 (omega (arith, map_length op x ys))),
+  simp length-set len,
+)
+
+pub row_whole : (op : Op) (x i : ℕ) (ys row : List ℕ) → length ys ≤ i → take i row ≡ take i (map (alu_of op x) ys) → length row ≡ length ys → row ≡ map (alu_of op x) ys
+row_whole op x i ys row h e len =
+    sym (take_all i row (omega arith)) ∙ e ∙ take_all i (map (alu_of op x) ys) (omega (arith, map_length op x ys))
 
 -- the results of many words with many
 pairs-push : (op : Op) (x : ℕ) (xs ys : List ℕ) → pairs op (xs ++ x ∷ []) ys ≡ pairs op xs ys ++ map (alu_of op x) ys

@@ -7,7 +7,7 @@ ghost use Rattle.vd_transfer.specs.Operations.{results, row, pairs};
 
 use crate::runs::{gives_truth, run_of};
 use tc_isa::{Op, alu};
-use value_domain::{Bounds, Val, cover, cover_words, extent_of, with_word};
+use value_domain::{Bounds, Val, add_words, cover, cover_words, extent_of};
 
 /// The value of an operation.
 pub fn operation(b: &Bounds, op: Op, v: &Val, w: &Val) -> Val
@@ -25,31 +25,43 @@ pub fn operation(b: &Bounds, op: Op, v: &Val, w: &Val) -> Val
     }
 }
 
-/// The results of all pairs.
+/// The results of all pairs, collected row by row.
 fn all_pairs(b: &Bounds, op: Op, xs: &[u32], ys: &[u32]) -> Val
     requires left { 1 ≤ length xs.now }
     requires right { 1 ≤ length ys.now }
+    requires few { length ys.now ≤ 128 }
     ensures cover { result ≡ cover b.now (pairs op xs.now ys.now) }
     ensures value { IsValue b.now result }
 {
     let _width = b.width();
+    let mut row = [0u32; 128];
     let mut out = Val::one(alu(op, xs[0], ys[0]));
     for x in xs {
-        out = with_results(b, out, op, *x, ys);
+        add_row(b, &mut out, op, *x, ys, &mut row);
     }
     out
 }
 
-fn with_results(b: &Bounds, v: Val, op: Op, x: u32, ys: &[u32]) -> Val
-    requires { IsValue b.now v }
-    ensures cover { result ≡ cover b.now (members v ++ map (alu_of op x) ys.now) }
-    ensures value { IsValue b.now result }
+/// Adds the results of a word and each of the others to a value; they are made in `row`.
+fn add_row(b: &Bounds, v: &mut Val, op: Op, x: u32, ys: &[u32], row: &mut [u32; 128])
+    requires value { IsValue b.now v.old }
+    requires few { length ys.now ≤ 128 }
+    ensures cover { v.new ≡ cover b.now (members v.old ++ map (alu_of op x) ys.now) }
+    ensures value { IsValue b.now v.new }
 {
-    let mut out = v;
-    for y in ys {
-        out = with_word(b, out, alu(op, x, *y));
+    let part = &mut row[..ys.len()];
+    fill(op, x, ys, part);
+    add_words(b, v, part);
+}
+
+/// The results of a word and each of the others, in turn.
+fn fill(op: Op, x: u32, ys: &[u32], row: &mut [u32])
+    requires { length row.old ≡ length ys.now }
+    ensures { row.new ≡ map (alu_of op x) ys.now }
+{
+    for (i, y) in ys.iter().enumerate() {
+        row[i] = alu(op, x, *y);
     }
-    out
 }
 
 /// The row of an operation.

@@ -1,7 +1,6 @@
-use Rattle.std.proofs.Common.{◌≡◌, ◌-◌}
+use Rattle.std.proofs.Common.{◌≡◌, ◌-◌, length}
 use Rattle.value_domain.specs.Sets.{multiples}
-use Rattle.value_domain.specs.Values.{cover, IsValue}
 use Rattle.value_domain.proofs.lattice.few.Given as goal
 
 abbrev pub invariant-loop-k : goal.invariant-loop-k
-invariant-loop-k l = (l.out ≡ cover l.b (multiples (l.k - l.start) l.start l.unit)) × IsValue l.b l.out
+invariant-loop-k l = (l.words.items ≡ multiples (l.k - l.start) l.start l.unit) × (length l.words.items ≡ l.k - l.start)

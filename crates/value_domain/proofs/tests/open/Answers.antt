@@ -1,8 +1,8 @@
-use Rattle.std.proofs.Common.{◌≡◌, ◌<◌, ℕ, List, length, replicate, sym, ap, arith, slice_index_or}
+use Rattle.std.proofs.Common.{◌≡◌, ◌<◌, ℕ, List, length, replicate, ap, arith, slice_index_or}
 use Rattle.std.proofs.lemmas.List.{get_or-replicate}
 use Rattle.std.proofs.Math.ListN.{length-replicate}
 use Rattle.value_domain.specs.declared.values.Val.{Val}
-use Rattle.value_domain.specs.Values.{IsWell, IsValue, any_val}
+use Rattle.value_domain.specs.Values.{any_val}
 use Rattle.value_domain.proofs.RangeLaws.{any_value}
 use Rattle.value_domain.proofs.tests.open.Goals as goal
 

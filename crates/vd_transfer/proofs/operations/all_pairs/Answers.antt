@@ -16,8 +16,8 @@ loop-x-init c =
 
 pub loop-x-preserved : goal.loop-x-preserved
 loop-x-preserved c = (
-  c.with_results-out.ensures.cover ∙ pairs_more c.args.b.now c.loop-x.out c.args.op _ c.loop-x.x-index c.args.xs.now c.args.ys.now c.loop-x-test.true c.loop-x.invariant.0,
-  c.with_results-out.ensures.value,
+  c.add_row.ensures.cover ∙ pairs_more c.args.b.now c.loop-x.out c.args.op _ c.loop-x.x-index c.args.xs.now c.args.ys.now c.loop-x-test.true c.loop-x.invariant.0,
+  c.add_row.ensures.value,
 )
 
 pub returns-clause-cover : goal.returns-clause-cover

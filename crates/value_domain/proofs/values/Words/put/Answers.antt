@@ -1,4 +1,4 @@
-use Rattle.std.proofs.Common.{◌≡◌, ◌∙◌, sym, arith, ap}
+use Rattle.std.proofs.Common.{◌≡◌, ◌∙◌, ◌-◌, sym, arith, ap}
 use Rattle.value_domain.specs.Sets.{put}
 use Rattle.value_domain.proofs.Loops.{put-insert, words_put, above_absent}
 use Rattle.value_domain.proofs.values.Words.put.Goals as goal
@@ -9,7 +9,7 @@ placed c =
     c.insert.ensures.items
     ∙ sym (put-insert c.args.x c.self.inside.words.items c.place-at.result c.self.invariant.rising
     (rw c.as_slice.ensures.value at c.place-at.ensures.within)
-    (rw c.as_slice.ensures.value at c.place-at.ensures.before)
+    (λ h. let before = rw c.as_slice.ensures.value at c.place-at.ensures.before in before (c.place-at.result - 1) (omega arith))
     (above_absent c.args.x c.self.inside.words.items c.place-at.result (rw (← c.self.view_is) at c.requires.absent) (after c.place-at.result (omega arith))))
     ∙ ap (put c.args.x) c.self.view_is
 

@@ -1,8 +1,0 @@
-use Rattle.std.proofs.Common.{◌≤◌, ◌<◌, ℕ, length, get_or}
-use Rattle.value_domain.proofs.values.place.Given as goal
-
-abbrev pub invariant-loop-at : goal.invariant-loop-at
-invariant-loop-at l = (l.at ≤ length l.words) × ((k : ℕ) → l.at ≤ k → k < length l.words → l.x ≤ get_or l.words k 0)
-
-abbrev pub decreases-loop-at : goal.decreases-loop-at
-decreases-loop-at l = l.at
