@@ -60,7 +60,7 @@ fn inst_in(bytes: &[u8]) -> Option<(Inst, u32)>
 }
 
 /// The instruction at an address, with its length: at an even one, in one rom range, and held by segments.
-pub(crate) fn code_at(image: &Image, plan: &Plan, addr: u32) -> Option<(Inst, u32)>
+pub fn code_at(image: &Image, plan: &Plan, addr: u32) -> Option<(Inst, u32)>
     ensures { FindsCode image.now plan.now addr result }
 {
     if addr % 2 == 1 {

@@ -15,6 +15,7 @@ mod laws;
 mod own;
 mod own_rules;
 
+pub use code::code_at;
 pub use entry_changes::{call_change, handler_change, misaligned_change, system_change};
 pub use flow_after::{after, covers_after};
 pub use flow_entries::is_aligned;
