@@ -1,0 +1,23 @@
+-- What the definitions of this crate let in, told by plain equations.
+use Rattle.std.specs.Prelude.{◌≡◌, ◌+◌, ◌*◌, ◌<◌, ℕ, false, List, length, take}
+use Rattle.elf_image.specs.Images.{ImageData}
+use Rattle.tcd_plan.specs.PlanData.{PlanData}
+use Rattle.tc_machine.specs.declared.events.Event.{Event}
+use Rattle.tc_machine.specs.declared.events.End.TheVariants.{Running}
+use Rattle.tc_machine.specs.declared.state.Machine.{Machine}
+use Rattle.tc_machine.specs.Stepping.{run}
+use Rattle.tc_machine.specs.Safe.{IsMachine, IsPlanMemory, HoldsRom}
+use Rattle.tc_boot.specs.Reset.{Reset, BootsFrom}
+
+-- The project's own reading of a reset: every machine that runs at the address with interrupts off, with the plan's core and
+-- memory and the image's bytes in rom, is at reset, whatever its registers, ram and save areas hold.
+abbrev pub AllAreAtReset : Type 0
+AllAreAtReset =
+    (image : ImageData) (plan : PlanData) (at : ℕ) (m : Machine) → IsMachine m → m.end ≡ Running → m.pc ≡ at → m.ie ≡ false → m.core ≡ plan.core
+    → IsPlanMemory plan m.mem → HoldsRom image plan m.mem → Reset image plan at m
+
+-- Before the last event of a boot the machine runs with interrupts off at one of 56 places, four bytes apart.
+abbrev pub BootsInside : Type 0
+BootsInside =
+    (image : ImageData) (plan : PlanData) (at : ℕ) (m : Machine) (es : List Event) (n : ℕ) → BootsFrom image plan at m es → n < length es
+    → ((run m (take n es)).end ≡ Running) × ((run m (take n es)).ie ≡ false) × ((place : ℕ) × (place < 56) × ((run m (take n es)).pc ≡ at + 4 * place))

@@ -1,0 +1,4 @@
+pub mod Sequence
+pub mod Reset
+pub mod Judging
+pub mod Laws

@@ -1,0 +1,144 @@
+-- The boot sequence of a plan and an entry: 56 instructions of four bytes each.
+use Rattle.std.specs.Prelude.{◌+◌, ◌-◌, ◌*◌, ◌/◌, ◌%◌, ◌^◌, ℕ, if◌then◌else◌, List, [], ◌∷◌, ◌++◌, slice_index, Option, Some, None, slice_get}
+use Rattle.std.specs.List.{flat_map}
+use Rattle.elf_image.specs.Images.{ImageData}
+use Rattle.tcd_plan.specs.PlanData.{PlanData}
+use Rattle.tc_isa.specs.Insts.{InstData, fields_in}
+use Rattle.tc_isa.specs.Rows.{RowData, listed}
+use Rattle.tc_isa.specs.Codec.{spelling}
+use Rattle.tc_machine.specs.Ranges.{first_link}
+
+-- ---- the instructions that are used, by their place in the table of rows and their fields; the names are the architecture's
+-- an instruction without a bit number
+abbrev pub inst : ℕ → ℕ → ℕ → ℕ → ℕ → InstData
+inst row c s1 s2 k = record { row = row; c = c; s1 = s1; s2 = s2; n = 0; k = k }
+
+-- movh Dc, k: the constant in the upper half
+abbrev pub movh : ℕ → ℕ → InstData
+movh c k = inst 5 c 0 0 k
+
+-- addi Dc, Ds1, k: the sum with a signed constant of 16 bits
+abbrev pub addi : ℕ → ℕ → ℕ → InstData
+addi c s1 k = inst 0 c s1 0 k
+
+-- mov Dc, k: a signed constant of 16 bits
+abbrev pub mov : ℕ → ℕ → InstData
+mov c k = inst 3 c 0 0 k
+
+-- movh.a Ac, k: the constant in the upper half of an address register
+abbrev pub movh_a : ℕ → ℕ → InstData
+movh_a c k = inst 6 c 0 0 k
+
+-- mtcr number, Ds1: a data register to the core register of that number
+abbrev pub mtcr : ℕ → ℕ → InstData
+mtcr number s1 = inst 8 0 s1 0 number
+
+-- mov.a Ac, Ds2: a data register to an address register
+abbrev pub mov_a : ℕ → ℕ → InstData
+mov_a c s2 = inst 48 c 0 s2 0
+
+-- ji As1: a jump to the address in a register
+abbrev pub ji : ℕ → InstData
+ji s1 = inst 50 0 s1 0 0
+
+-- isync: what was written to core registers holds from here on
+abbrev pub isync : InstData
+isync = inst 59 0 0 0 0
+
+-- st.w [As2+]k, Ds1: a word is stored, and the constant added to its address register
+abbrev pub st_w_after : ℕ → ℕ → ℕ → InstData
+st_w_after s2 k s1 = inst 74 0 s1 s2 k
+
+-- st.w [As2]k, Ds1 with an offset of 16 bits
+abbrev pub st_w_l : ℕ → ℕ → ℕ → InstData
+st_w_l s2 k s1 = inst 83 0 s1 s2 k
+
+-- lea As1, [As2]k with an offset of 16 bits
+abbrev pub lea_l : ℕ → ℕ → ℕ → InstData
+lea_l s1 s2 k = inst 84 0 s1 s2 k
+
+-- loop As2: one less in a register, and a jump by twice the signed field k unless it was 0
+abbrev pub loop_at : ℕ → ℕ → InstData
+loop_at s2 k = inst 100 0 0 s2 k
+
+-- ---- words in halves
+-- the lower half of a word
+abbrev pub lower_half : ℕ → ℕ
+lower_half x = x % 2 ^ 16
+
+-- the upper half of a word, one more where the lower half is negative as a signed number, so that their sum is the word
+abbrev pub upper_half : ℕ → ℕ
+upper_half x = (x + 0x8000) / 2 ^ 16 % 2 ^ 16
+
+-- a core register becomes x, by D0, and holds it from the next instruction on
+abbrev pub set_core : ℕ → ℕ → List InstData
+set_core number x = movh 0 (upper_half x) ∷ addi 0 0 (lower_half x) ∷ mtcr number 0 ∷ isync ∷ []
+
+-- an address register becomes x
+abbrev pub set_address : ℕ → ℕ → List InstData
+set_address r x = movh_a r (upper_half x) ∷ lea_l r r (lower_half x) ∷ []
+
+-- ---- the sequence, the project's own; the numbers of core registers are the architecture's
+-- the link that LCX gets: that of the first area of the reserve
+abbrev pub limit_link : PlanData → ℕ
+limit_link plan = first_link plan + (plan.areas - plan.reserve)
+
+-- the word that PSW gets: IO 2, IS as the plan says, GW 1 so that A0, A1, A8 and A9 can be written, and no call depth counted
+abbrev pub boot_psw : PlanData → ℕ
+boot_psw plan = if plan.start_is then 0xb7f else 0x97f
+
+-- CCPN (in ICR, with interrupts off), PCXI, FCX, LCX, BIV, BTV, ISP and PSW
+abbrev pub core_part : PlanData → List InstData
+core_part plan =
+    set_core 0xfe2c plan.start_ccpn ++ set_core 0xfe00 0 ++ set_core 0xfe38 (first_link plan) ++ set_core 0xfe3c (limit_link plan)
+    ++ set_core 0xfe20 plan.biv ++ set_core 0xfe24 plan.btv ++ set_core 0xfe28 plan.isp ++ set_core 0xfe04 (boot_psw plan)
+
+-- D0 becomes the first link, A2 the first area, A3 the number of areas less one
+abbrev pub first_part : PlanData → List InstData
+first_part plan =
+    movh 0 (upper_half (first_link plan)) ∷ addi 0 0 (lower_half (first_link plan)) ∷ set_address 2 plan.csa_at
+    ++ mov 1 (plan.areas - 1) ∷ mov_a 3 1 ∷ []
+
+-- each area gets the link of the next one; loop goes back by two instructions
+abbrev pub link_part : List InstData
+link_part = addi 0 0 1 ∷ st_w_after 2 64 0 ∷ loop_at 3 (2 ^ 15 - 4) ∷ []
+
+-- the last area gets 0 in its place
+abbrev pub last_part : List InstData
+last_part = mov 1 0 ∷ st_w_l 2 (2 ^ 16 - 64) 1 ∷ []
+
+-- the globals and the stack pointer
+abbrev pub address_part : PlanData → List InstData
+address_part plan =
+    set_address 0 (slice_index plan.globals 0) ++ set_address 1 (slice_index plan.globals 1) ++ set_address 8 (slice_index plan.globals 2)
+    ++ set_address 9 (slice_index plan.globals 3) ++ set_address 10 plan.sp
+
+-- the jump to the entry
+abbrev pub jump_part : ℕ → List InstData
+jump_part entry = set_address 15 entry ++ ji 15 ∷ []
+
+-- the whole sequence: 32, 6, 3, 2, 10 and 3 instructions
+abbrev pub boot_sequence : PlanData → ℕ → List InstData
+boot_sequence plan entry = core_part plan ++ first_part plan ++ link_part ++ last_part ++ address_part plan ++ jump_part entry
+
+-- ---- its bytes
+-- the bytes that a row of the table gives an instruction
+abbrev pub spelling_by : Option RowData → InstData → List ℕ
+spelling_by None i = []
+spelling_by (Some r) i = spelling r (fields_in i)
+
+-- the bytes of an instruction
+abbrev pub spelling_of : InstData → List ℕ
+spelling_of i = spelling_by (slice_get listed i.row) i
+
+-- the bytes of all, one after another
+abbrev pub boot_bytes_of : PlanData → ℕ → List ℕ
+boot_bytes_of plan entry = flat_map spelling_of (boot_sequence plan entry)
+
+-- how many events the sequence takes: three for each area in the loop, and one for each of the other 53 instructions
+abbrev pub boot_events : PlanData → ℕ
+boot_events plan = 53 + 3 * plan.areas
+
+-- the image whose one segment is the sequence at an address
+abbrev pub boot_image_of : PlanData → ℕ → ℕ → ImageData
+boot_image_of plan entry at = record { entry = at; segments = record { at = at; bytes = boot_bytes_of plan entry } ∷ [] }

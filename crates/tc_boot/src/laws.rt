@@ -1,0 +1,16 @@
+// What the boot sequence does.
+ghost use Rattle.tc_boot.specs.Laws.{AllAreAtReset, BootsInside};
+ghost use Rattle.tc_boot.specs.Reset.{BootReachesStart, SafeBoots};
+
+/// From every state at reset the boot sequence reaches a start state, after three events for each area and 53 more. Where an
+/// image is safe from its start states, it is so from reset on.
+pub fn boot_reaches_the_start()
+    ensures starts { BootReachesStart }
+    ensures safe { SafeBoots }
+{}
+
+/// Which machines are at reset, and where a machine is while it boots, by plain equations.
+pub fn states_of_boots()
+    ensures reset { AllAreAtReset }
+    ensures inside { BootsInside }
+{}

@@ -1,0 +1,13 @@
+//! The boot sequence: code that builds the list of areas and sets the registers that a plan gives.
+#![tactic(auto)]
+
+mod bytes;
+mod instructions;
+mod judging;
+mod laws;
+mod sources;
+
+pub use bytes::boot_bytes;
+pub use judging::{BootErr, boot_ok};
+pub use laws::{boot_reaches_the_start, states_of_boots};
+pub use sources::boot_source;

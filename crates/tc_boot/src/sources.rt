@@ -1,0 +1,34 @@
+// The boot sequence as a source.
+ghost use Rattle.std.specs.Prelude.{◌≡◌, ◌≤◌, ◌+◌, ◌^◌, IfOk, string_bytes};
+ghost use Rattle.tc_disasm.specs.Listing.{listing_of};
+ghost use Rattle.tc_boot.specs.Sequence.{boot_image_of};
+
+use crate::bytes::boot_bytes;
+use elf_image::{Image, Segment};
+use std::alloc::Global;
+use tc_disasm::listing;
+use tcd_base::NoMemory;
+use tcd_plan::Plan;
+
+/// The image whose one segment is the boot sequence of a plan and an entry, at an address.
+fn boot_image(alloc: Global, plan: &Plan, entry: u32, at: u32) -> Result<Image, NoMemory>
+    requires { at + 224 ≤ 2 ^ 32 }
+    ensures { IfOk result (λ i. i ≡ boot_image_of plan.now entry at) }
+{
+    let bytes = Vec::from_slice(alloc, &boot_bytes(plan, entry))?;
+    let mut segments = Vec::new(alloc);
+    segments.push(Segment { at, bytes })?;
+    Ok(Image {
+        entry: at,
+        segments,
+    })
+}
+
+/// The boot sequence of a plan and an entry at an address, as a source: the listing of the image whose one segment it is.
+pub fn boot_source(alloc: Global, plan: &Plan, entry: u32, at: u32) -> Result<String, NoMemory>
+    requires { at + 224 ≤ 2 ^ 32 }
+    ensures { IfOk result (λ text. string_bytes text ≡ listing_of (boot_image_of plan.now entry at)) }
+{
+    let image = boot_image(alloc, plan, entry, at)?;
+    listing(alloc, &image)
+}

@@ -1,0 +1,14 @@
+-- Numbers of eight upper-case hex digits.
+use Rattle.std.specs.Prelude.{◌==◌, ◌&&◌, nat_lt, ℕ, Bool, List, length, Option}
+use Rattle.std.specs.Bool.{then_some}
+use Rattle.std.specs.Char.{digit_value}
+use Rattle.std.specs.List.{list_all}
+use Rattle.std.specs.Str.Parse.{digits_value}
+
+-- 0 to 9, A to F, in ASCII
+abbrev pub is_upper_hex : ℕ → Bool
+is_upper_hex c = nat_lt (digit_value c) 16 && nat_lt c 97
+
+-- the project's own rule for addresses and words in texts: the number that eight upper-case hex digits write, the highest first
+abbrev pub hex_number_of : List ℕ → Option ℕ
+hex_number_of ds = then_some (length ds == 8 && list_all is_upper_hex ds) (digits_value 16 ds)

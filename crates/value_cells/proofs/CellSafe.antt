@@ -1,0 +1,325 @@
+-- An accepted certificate that keeps the cells is safe for the plan itself.
+use Rattle.std.proofs.Common.{◌≡◌, ℕ, suc, ◌+◌, ◌%◌, ◌≤◌, inl, inr, Bool, true, false, cond, List, [], ◌∷◌, ◌++◌, length, Option, Some, None, Ok, Err, refl, sym, ap, ◌∙◌, subst, arith, ◌==◌, All, Contains}
+use Rattle.std.proofs.lemmas.Bool.{cond_both, eq-eqb, eqb-true}
+use Rattle.std.specs.List.{find}
+use Rattle.std.specs.Prelude.{IfSome, IsSomeAnd}
+use Rattle.csa_chain.specs.Memory.{Memory}
+use Rattle.elf_image.specs.Images.{ImageData}
+use Rattle.tcd_plan.specs.PlanData.{PlanData, IsPlan}
+use Rattle.tc_isa.specs.Shapes.{shape_of}
+use Rattle.tc_isa.specs.Bounded.{IsShape}
+use Rattle.tc_isa.specs.declared.shapes.Shape.{Shape}
+use Rattle.tc_isa.specs.declared.shapes.Shape.TheVariants.{Compute, Scaled, Load, Store, Branch, Jump, Call, Ret, Rfe, Svlcx, Rslcx, Bisr, Enable, Disable, Syscall, Mfcr, Mtcr, Nothing}
+use Rattle.tc_isa.proofs.ShapeBounds.{shape_is}
+use Rattle.tc_encode.specs.Decoding.{decoded_of}
+use Rattle.tc_encode.proofs.DecodeProofs.{decode_laws}
+use Rattle.tc_machine.specs.declared.events.Cause.TheVariants.{NoCode}
+use Rattle.tc_machine.specs.declared.events.Event.{Event}
+use Rattle.tc_machine.specs.declared.state.Machine.{Machine}
+use Rattle.tc_machine.specs.Machine.{reg}
+use Rattle.tc_machine.specs.Fetching.{mapped_bytes, shaped, fetched}
+use Rattle.tc_machine.specs.Instructions.{access_address, traps_at}
+use Rattle.tc_machine.specs.Stepping.{is_taken, step, run, load_in, load_at_pc, store_in, where_running, stored}
+use Rattle.tc_machine.specs.Safe.{IsMachine, IsPlanMemory, Fits, AllFit, IsAtCode, IsStoreInRange, IsSafeAt}
+use Rattle.tc_machine.proofs.PlanLaws.{rom_fits}
+use Rattle.tc_machine.proofs.Fetched.{mapped_bytes-front}
+use Rattle.tc_machine.proofs.Stays.{irq_lt, stays_step}
+use Rattle.tc_machine.proofs.Steps.{stored-is}
+use Rattle.value_domain.specs.declared.values.Val.{Val}
+use Rattle.value_domain.specs.Limits.{AreLimits}
+use Rattle.value_domain.specs.Values.{IsMember}
+use Rattle.value_domain.specs.State.{AreValues}
+use Rattle.value_domain.specs.Thresholds.{limits_for}
+use Rattle.vd_transfer.specs.Registers.{reg_of}
+use Rattle.vd_transfer.specs.Effects.{address_of}
+use Rattle.vd_transfer.specs.Soundness.{IsSetting}
+use Rattle.vd_transfer.proofs.HoldLaws.{address_holds}
+use Rattle.depth_cert.specs.declared.points.Point.{Point}
+use Rattle.depth_cert.specs.Keys.{number_of_key}
+use Rattle.depth_cert.specs.Points.{IsPoint, find_point}
+use Rattle.depth_cert.specs.Nodes.{NodeData, IsNode}
+use Rattle.depth_cert.specs.Certs.{CertData, IsCert, find_node}
+use Rattle.cfg_recover.specs.Code.{IsCode, HasCode}
+use Rattle.cfg_recover.specs.Entries.{start_key}
+use Rattle.cfg_recover.specs.Accepting.{limits_in, RuleHolds, HoldsAtNode, Accepts}
+use Rattle.cfg_recover.specs.Frames.{Standing, frames_after, frames_from, HoldFrames}
+use Rattle.cfg_recover.specs.Moves.{InState}
+use Rattle.cfg_recover.proofs.EntryLaws.{reg_lt}
+use Rattle.cfg_recover.proofs.Went.{address-is}
+use Rattle.value_cells.specs.declared.cells.Cell.{Cell}
+use Rattle.value_cells.specs.Cells.{with_cells, IsCell}
+use Rattle.value_cells.specs.Keeping.{KeepsAll, KeepsCells}
+use Rattle.value_cells.specs.Safe.{IsSafeWithCellsAt, CellsKeepTheirBounds}
+use Rattle.value_cells.specs.Beside.{hidden, heard_in, heard_event, NamesAreas}
+use Rattle.value_cells.proofs.WithoutCells.{get-without}
+use Rattle.value_cells.proofs.CellSteps.{address-hidden, status_of_taken, hidden-step}
+use Rattle.value_cells.proofs.CellCode.{fetched-more, chain_there, names_areas}
+use Rattle.value_cells.proofs.CellRanges.{store_there, cell_in_ram}
+use Rattle.value_cells.proofs.CellStarts.{hidden_starts}
+use Rattle.value_cells.proofs.CellEvents.{AreMapped, hidden_fits}
+use Rattle.value_cells.proofs.CellPlan.{IsPlan-with_cells}
+use Rattle.value_cells.proofs.CellKeeps.{AreKept, KeepsWritten, StoreKeeps, kept_step}
+
+-- ---- lists
+all_at : {X : Type 0} (P : X → Type 0) (xs : List X) (x : X) → All P xs → Contains xs x → P x
+all_at P xs x all c = subst P c.2 (all c.0 x c.1)
+
+found_in : {X : Type 0} (p : X → Bool) (xs : List X) (x : X) → find p xs ≡ Some x → Contains xs x × (p x ≡ true)
+found_in p [] x h = absurd (let f : None ≡ Some x = h in cc)
+found_in p (y ∷ ys) x h =
+    elim (p y) as (λ t. p y ≡ t → cond t (Some y) (find p ys) ≡ Some x → Contains (y ∷ ys) x × (p x ≡ true)) [
+      | true ↦ λ e g. let same : y ≡ x = cc in subst (λ z. Contains (y ∷ ys) z × (p z ≡ true)) same ((0, omega arith, refl), e)
+      | false ↦ λ e g. let rest = found_in p ys x g in ((suc (rest.0).0, (let lt = (rest.0).1 in omega arith), (rest.0).2), rest.1)
+    ] refl h
+
+if_some : {X : Type 0} (o : Option X) (P Q : X → Type 0) → IfSome o P → ((x : X) → P x → Q x) → IfSome o Q
+if_some None P Q h f = tt
+if_some (Some x) P Q h f = f x h
+
+some_byte : (t : Bool) (o : Option ℕ) (b : ℕ) → cond t None o ≡ Some b → o ≡ Some b
+some_byte true o b e = absurd (let f : None ≡ Some b = e in cc)
+some_byte false o b e = e
+
+-- ---- code
+-- the code at pc is what is fetched
+fetched_there : (image : ImageData) {plan : PlanData} → IsPlan plan → (m : Machine) → m.pc % 2 ≡ 0 → (c : IsAtCode image plan m) → fetched m ≡ Ok (shape_of c.inst, length c.bytes)
+unfolding fetched
+fetched_there image ok m even c =
+    let s = c.spells in
+    let short = (decode_laws.lengths (c.bytes ++ []) c.inst (length c.bytes) (decode_laws.spelled c.bytes [] c.inst s.spelled)).1 in
+    let front = mapped_bytes-front 4 m.mem m.pc c.bytes short (rom_fits ok m.pc (length c.bytes) s.in_rom) c.there in
+    ap (λ t. cond t (shaped (decoded_of (mapped_bytes 4 m.mem m.pc))) (Err NoCode)) (eq-eqb _ _ even)
+    ∙ ap (λ bs. shaped (decoded_of bs)) front.1
+    ∙ ap shaped (decode_laws.spelled c.bytes front.0 c.inst s.spelled)
+
+-- ---- what a step stores
+store_hidden : (cells : List Cell) (m : Machine) (e : Event) (shape : Shape) (n : ℕ) → store_in (hidden cells m) (heard_in cells m e (load_in m (Ok (shape, n)))) (Ok (shape, n)) ≡ store_in m e (Ok (shape, n))
+store_hidden cells m e (Store src base offset size after) n = ap (λ x. cond (traps_at e x size) None (Some (x, size))) (address-hidden cells m base offset after)
+store_hidden cells m e (Load dst base offset size signed after) n = refl
+store_hidden cells m e (Compute op dst x y) n = refl
+store_hidden cells m e (Scaled dst base index k) n = refl
+store_hidden cells m e (Branch c x y by lowers) n = refl
+store_hidden cells m e (Jump to) n = refl
+store_hidden cells m e (Call to) n = refl
+store_hidden cells m e Ret n = refl
+store_hidden cells m e Rfe n = refl
+store_hidden cells m e Svlcx n = refl
+store_hidden cells m e Rslcx n = refl
+store_hidden cells m e (Bisr c) n = refl
+store_hidden cells m e Enable n = refl
+store_hidden cells m e Disable n = refl
+store_hidden cells m e (Syscall tin) n = refl
+store_hidden cells m e (Mfcr dst number) n = refl
+store_hidden cells m e (Mtcr src number) n = refl
+store_hidden cells m e Nothing n = refl
+
+stored_same : (cells : List Cell) (m : Machine) (e : Event) (shape : Shape) (n : ℕ) → fetched m ≡ Ok (shape, n) → fetched (hidden cells m) ≡ Ok (shape, n) → stored (hidden cells m) (heard_event cells m e) ≡ stored m e
+unfolding stored
+stored_same cells m e shape n here there =
+    ap (λ t. where_running m.end (cond t None (store_in (hidden cells m) (heard_event cells m e) (fetched (hidden cells m))))) (status_of_taken cells m e (load_at_pc m))
+    ∙ ap (λ f. where_running m.end (cond (is_taken m e) None (store_in (hidden cells m) (heard_event cells m e) f))) there
+    ∙ ap (λ f. where_running m.end (cond (is_taken m e) None (store_in (hidden cells m) (heard_in cells m e (load_in m f)) (Ok (shape, n))))) here
+    ∙ ap (λ o. where_running m.end (cond (is_taken m e) None o)) (store_hidden cells m e shape n)
+    ∙ ap (λ f. where_running m.end (cond (is_taken m e) None (store_in m e f))) (sym here)
+
+module _ (image : ImageData) {plan : PlanData} (ok : IsPlan plan) (cells : List Cell) (each : All (IsCell plan) cells) (ok2 : IsPlan (with_cells plan cells)) (cert : CertData) (is_cert : IsCert cert)
+    (accepted : Accepts image (with_cells plan cells) cert) (keeps : KeepsCells image (with_cells plan cells) cells cert) (most : ℕ) where
+  abbrev other : PlanData
+  other = with_cells plan cells
+
+  -- ---- what holds of all that comes after a state without the cells' bytes
+  abbrev SafeFrom : Machine → Type 0
+  SafeFrom h = (es : List Event) (e : Event) → AllFit other h es → Fits other (run h es) e → IsSafeAt image other most (run h es) e
+
+  abbrev HeldFrom : Machine → List Standing → Type 0
+  HeldFrom h fs = (es : List Event) → AllFit other h es → HoldFrames other cert (run h es) (frames_from h es fs)
+
+  -- the machine with the cells goes beside the machine without them
+  pub record GoesBeside (m : Machine) (fs : List Standing) : Type 0 where
+    pub words : IsMachine m
+    pub kept : AreKept cells m.mem
+    pub safe : SafeFrom (hidden cells m)
+    pub held : HeldFrom (hidden cells m) fs
+
+  -- ---- the point of a state
+  pub record AtPoint (m : Machine) : Type 0 where
+    pub node : NodeData
+    pub point : Point
+    pub in_cert : Contains cert.nodes node
+    pub in_node : Contains node.points point
+    pub addr : point.addr ≡ m.pc
+    pub inside : InState other m point.state
+    pub even : m.pc % 2 ≡ 0
+    pub setting : IsSetting (limits_in other cert) other point.state
+
+  limits_are : (version : ℕ) → AreLimits (limits_for other version)
+  limits_are version =
+      record {
+        wide = cond_both (version == 1) 64 128 (λ w. 64 ≤ w) (λ _. omega arith) (λ _. omega arith);
+        narrow = cond_both (version == 1) 64 128 (λ w. w ≤ 128) (λ _. omega arith) (λ _. omega arith);
+        few_locals = cond_both (version == 1) 4 8 (λ w. w ≤ 8) (λ _. omega arith) (λ _. omega arith);
+      }
+
+  at_found : (m : Machine) (f : Standing) → f.at ≡ m.pc → (o : Option NodeData) → find_node f.key cert.nodes ≡ o → IsSomeAnd o (λ n. IsSomeAnd (find_point f.at n.points) (λ p. InState other m p.state)) → AtPoint m
+  at_found m f at None e h = absurd h
+  at_found m f at (Some node) e h = at_point (find_point f.at node.points) refl h
+    where
+      in_cert : Contains cert.nodes node
+      in_cert = (found_in (λ n. number_of_key n.key == number_of_key f.key) cert.nodes node e).0
+
+      rules : HoldsAtNode image other cert node
+      rules = all_at (HoldsAtNode image other cert) cert.nodes node accepted.nodes in_cert
+
+      is_node : IsNode cert.version node
+      is_node = all_at (IsNode cert.version) cert.nodes node is_cert.nodes in_cert
+
+      at_point : (o : Option Point) → find_point f.at node.points ≡ o → IsSomeAnd o (λ p. InState other m p.state) → AtPoint m
+      at_point None g k = absurd k
+      at_point (Some point) g k =
+          let there = found_in (λ p. p.addr == f.at) node.points point g in
+          let all : (r : ℕ) → RuleHolds image other cert node point r = all_at (λ p. (r : ℕ) → RuleHolds image other cert node p r) node.points point rules.points there.0 in
+          let values : AreValues (limits_in other cert) (point.state).regs = (all 2).values refl in
+          let code : HasCode image other point.addr = ((all 3).own values).code refl in
+          let is : IsPoint cert.version point = all_at (IsPoint cert.version) node.points point is_node.points there.0 in
+          let addr : point.addr ≡ m.pc = eqb-true _ _ there.1 ∙ at in
+          record {
+            node = node;
+            point = point;
+            in_cert = in_cert;
+            in_node = there.0;
+            addr = addr;
+            inside = k;
+            even = ap (λ p. p % 2) (sym addr) ∙ (code.code).even;
+            setting = record { limits = limits_are cert.version; plan = ok2; regs = (is.state).regs; values = values };
+          }
+
+  at_held : (m : Machine) (fs : List Standing) → HoldFrames other cert m fs → AtPoint m
+  at_held m [] h = absurd h
+  at_held m (f ∷ fs) h = at_found m f h.at (find_node f.key cert.nodes) refl h.point
+
+  -- ---- one event
+  -- what is written keeps the cells, where each possible access does
+  written_keeps : (v : Val) (size x w : ℕ) (cs : List Cell) → IsMember w v → KeepsAll v size x cs → KeepsWritten x size w cs
+  written_keeps v size x w [] member k = tt
+  written_keeps v size x w (c ∷ cs) member k = (
+    λ touches. let kept = k 0 c (omega arith) touches in let b = kept.bounds w member in (kept.word, kept.at, b.0, b.1),
+    written_keeps v size x w cs member (λ i d lt. k (suc i) d (omega arith)),
+  )
+
+  module _ (m : Machine) (fs : List Standing) (e : Event) (b : GoesBeside m fs) (f : Fits plan m e) where
+    fits2 : Fits other (hidden cells m) (heard_event cells m e)
+    fits2 = hidden_fits ok cells each m e b.words (b.kept).mapped (b.kept).bounds f
+
+    safe2 : IsSafeAt image other most (hidden cells m) (heard_event cells m e)
+    safe2 = b.safe [] (heard_event cells m e) tt fits2
+
+    names : NamesAreas cells m
+    names = let c = (safe2).chains in names_areas cells m c.used c.free c.used_chain c.free_chain
+
+    point : AtPoint (hidden cells m)
+    point = at_held (hidden cells m) fs (b.held [] tt)
+
+    there : fetched (hidden cells m) ≡ Ok (shape_of (safe2).code_in_rom.inst, length (safe2).code_in_rom.bytes)
+    there = fetched_there image ok2 (hidden cells m) (point).even (safe2).code_in_rom
+
+    here : fetched m ≡ Ok (shape_of (safe2).code_in_rom.inst, length (safe2).code_in_rom.bytes)
+    here = fetched-more cells m (shape_of (safe2).code_in_rom.inst) (length (safe2).code_in_rom.bytes) there
+
+    code : IsCode image other (point).point.addr (shape_of (safe2).code_in_rom.inst) (length (safe2).code_in_rom.bytes)
+    code = subst (λ p. IsCode image other p (shape_of (safe2).code_in_rom.inst) (length (safe2).code_in_rom.bytes)) (sym (point).addr)
+        (record { even = (point).even; bytes = (safe2).code_in_rom.bytes; inst = (safe2).code_in_rom.inst; spells = (safe2).code_in_rom.spells; shaped = refl; sized = refl })
+
+    -- the store of an instruction keeps the cells
+    store_keeps : (shape : Shape) (n : ℕ) → is_taken m e ≡ false → fetched m ≡ Ok (shape, n) → fetched (hidden cells m) ≡ Ok (shape, n) → IsShape shape → IsCode image other (point).point.addr shape n → StoreKeeps cells m e shape
+    store_keeps (Store src base offset size after) n none h t is c = λ quiet.
+        let x = access_address m base offset after in
+        let s = ((point).point).state in
+        let in_it : IsMember x (address_of (limits_in other cert) other (Store src base offset size after) s) =
+        rw (address-is m base offset after) (address_holds.store (limits_in other cert) other src base offset size after s (reg m) m.ie m.ccpn (point).setting is.1 is.2 (point).inside) in
+        let there_is : stored m e ≡ Some (x, size) =
+        stored-is m e (Ok (Store src base offset size after, n)) (safe2).running none h ∙ ap (λ z. cond z None (Some (x, size))) quiet in
+        let range : IfSome (stored m e) (IsStoreInRange other) = subst (λ o. IfSome o (IsStoreInRange other)) (stored_same cells m e (Store src base offset size after) n h t) (safe2).stores_in_range in
+        let range2 : IsStoreInRange other (x, size) = subst (λ o. IfSome o (IsStoreInRange other)) there_is range in
+        (range2.0, reg_lt m b.words src, written_keeps (reg_of other s src) size x (reg m src) cells (((point).inside).regs src is.0) (keeps (point).node (point).point (point).in_cert (point).in_node (Store src base offset size after) n c x in_it))
+    store_keeps (Load dst base offset size signed after) n none h t is c = tt
+    store_keeps (Compute op dst x y) n none h t is c = tt
+    store_keeps (Scaled dst base index k) n none h t is c = tt
+    store_keeps (Branch q x y by lowers) n none h t is c = tt
+    store_keeps (Jump to) n none h t is c = tt
+    store_keeps (Call to) n none h t is c = tt
+    store_keeps Ret n none h t is c = tt
+    store_keeps Rfe n none h t is c = tt
+    store_keeps Svlcx n none h t is c = tt
+    store_keeps Rslcx n none h t is c = tt
+    store_keeps (Bisr q) n none h t is c = tt
+    store_keeps Enable n none h t is c = tt
+    store_keeps Disable n none h t is c = tt
+    store_keeps (Syscall tin) n none h t is c = tt
+    store_keeps (Mfcr dst number) n none h t is c = tt
+    store_keeps (Mtcr src number) n none h t is c = tt
+    store_keeps Nothing n none h t is c = tt
+
+    -- the machines go on beside each other
+    pub beside_next : GoesBeside (step m e) (frames_after (hidden cells m) (heard_event cells m e) fs)
+    beside_next =
+        let shape = shape_of (safe2).code_in_rom.inst in
+        let n = length (safe2).code_in_rom.bytes in
+        let is : step (hidden cells m) (heard_event cells m e) ≡ hidden cells (step m e) = hidden-step cells m e (b.words).bytes names shape n here there in
+        record {
+          words = stays_step m e b.words (irq_lt ok m e f) f.input f.status;
+          kept = kept_step cells m e names b.kept shape n here (λ none. store_keeps shape n none here there (shape_is (safe2).code_in_rom.inst (((safe2).code_in_rom.spells).spelled).inst) code);
+          safe = subst SafeFrom is (λ es e2 fit g. b.safe (heard_event cells m e ∷ es) e2 (fits2, fit) g);
+          held = subst (λ h. HeldFrom h (frames_after (hidden cells m) (heard_event cells m e) fs)) is (λ es fit. b.held (heard_event cells m e ∷ es) (fits2, fit));
+        }
+
+    -- and the state is safe
+    pub beside_safe : IsSafeWithCellsAt image plan cells most m e
+    beside_safe =
+        let s = safe2 in
+        let c = s.chains in
+        let k = s.code_in_rom in
+        let p = k.spells in
+        record {
+          safe = record {
+            running = s.running;
+            chains = record {
+              used = c.used;
+              free = c.free;
+              used_chain = chain_there cells m.mem m.pcxi c.used c.used_chain;
+              free_chain = chain_there cells m.mem m.fcx c.free c.free_chain;
+              areas_partition = c.areas_partition;
+              within_need = c.within_need;
+            };
+            code_in_rom = record {
+              bytes = k.bytes;
+              inst = k.inst;
+              spells = record { spelled = p.spelled; in_rom = p.in_rom; held = p.held };
+              there = λ i lt. some_byte _ _ _ (sym (get-without cells m.mem (m.pc + i)) ∙ k.there i lt);
+            };
+            stores_in_range = if_some (stored m e) (IsStoreInRange other) (IsStoreInRange plan)
+                (subst (λ o. IfSome o (IsStoreInRange other)) (stored_same cells m e (shape_of k.inst) (length k.bytes) here there) s.stores_in_range)
+                (λ at h. store_there plan cells at each h);
+          };
+          bounds = (b.kept).bounds;
+        }
+
+  -- ---- runs
+  pub run_beside : (m : Machine) (fs : List Standing) (es : List Event) (e : Event) → GoesBeside m fs → AllFit plan m es → Fits plan (run m es) e → IsSafeWithCellsAt image plan cells most (run m es) e
+  run_beside m fs [] e b fits f = beside_safe m fs e b f
+  run_beside m fs (d ∷ es) e b fits f = run_beside (step m d) (frames_after (hidden cells m) (heard_event cells m d) fs) es e (beside_next m fs d b fits.0) fits.1 f
+
+-- ---- the theorem
+mapped_cells : {plan : PlanData} → (cells : List Cell) → All (IsCell plan) cells → (mem : Memory) → IsPlanMemory plan mem → AreMapped mem cells
+mapped_cells {plan = plan} cells each mem memory x h = (memory x).1 (inr (inl (cell_in_ram plan cells x each h)))
+
+pub cells_keep : CellsKeepTheirBounds
+cells_keep image plan cells cert most ok are is_cert accepted safe held keeps m es e start bounds fits f =
+    let ok2 = IsPlan-with_cells ok cells are in
+    let start2 = hidden_starts ok cells are.each image m start in
+    run_beside image ok cells are.each ok2 cert is_cert accepted keeps most m (record { key = start_key image (with_cells plan cells); at = m.pc } ∷ []) es e
+    (record {
+      words = start.machine;
+      kept = record { mapped = mapped_cells cells are.each m.mem start.memory; bounds = bounds };
+      safe = λ ds d fit g. safe (hidden cells m) ds d start2 fit g;
+      held = λ ds fit. held (hidden cells m) ds start2 fit;
+    }) fits f

@@ -1,0 +1,15 @@
+pub mod WithoutCells
+pub mod CellReads
+pub mod CellSteps
+pub mod CellCode
+pub mod CellRanges
+pub mod CellStarts
+pub mod CellEvents
+pub mod CellKeeps
+pub mod CellSafe
+pub mod CellPlan
+pub mod KeepingLaws
+pub mod LineForms
+pub mod ReadLaws
+pub mod FaultLaws
+pub mod PlainWords

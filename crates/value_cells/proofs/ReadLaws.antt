@@ -1,0 +1,189 @@
+-- Cells read one line after another.
+use Rattle.std.proofs.Common.{◌≡◌, ◌≢◌, ℕ, zero, suc, ◌+◌, ◌<◌, ◌≤◌, inl, inr, Bool, true, false, List, [], ◌∷◌, ◌++◌, length, take, map, Some, None, IsTrue, refl, sym, ap, ◌∙◌, subst, arith, nat_lt, nat_le}
+use Rattle.std.specs.Prelude.{All, Any, filter_map, IsSome, IsSomeAnd}
+use Rattle.std.proofs.lemmas.Bool.{cases_lt, ltb-true, lt-ltb, leb-true}
+use Rattle.std.proofs.lemmas.List.{length-append, length-map, take_all, take-append-le}
+use Rattle.std.proofs.lemmas.List.Elements.{All-push, filter_map-append}
+use Rattle.std.proofs.lemmas.List.Quantifiers.{all_pairs_push}
+use Rattle.std.specs.List.{list_any}
+use Rattle.tcd_base.specs.declared.parts.Range.{Range}
+use Rattle.store_ranges.specs.Accesses.{is_inside}
+use Rattle.store_ranges.proofs.RomLaws.{any_one, one_any}
+use Rattle.tcd_plan.specs.PlanData.{PlanData, IsPlan}
+use Rattle.tc_machine.specs.Ranges.{IsInOne}
+use Rattle.tcd_text.specs.Lines.{lines_of}
+use Rattle.value_cells.specs.declared.cells.Cell.{Cell}
+use Rattle.value_cells.specs.declared.errors.CellsErr.{CellsErr}
+use Rattle.value_cells.specs.declared.errors.CellsErr.TheVariants.{BadLine, NotRam, Twice, TooMany}
+use Rattle.value_cells.specs.Cells.{cell_device, ranges_without, ram_without, with_cells, IsCell, AreCells}
+use Rattle.value_cells.specs.Reading.{cell_of, cell_of_words, IsLine, AreRead, HasRoom, IsRefused, IsBadLine, IsFirstBad, TakesLine}
+use Rattle.value_cells.proofs.CellPlan.{ram_behind, take_whole}
+
+abbrev no_cell : List Cell
+no_cell = []
+
+none_of : (n : ℕ) → take n no_cell ≡ no_cell
+none_of zero = refl
+none_of (suc n) = refl
+
+-- ---- cells of a plan
+pub no_cells : (plan : PlanData) → IsPlan plan → AreCells plan []
+no_cells plan ok = record {
+  each = λ k d lt. absurd (omega arith);
+  once = λ i j d lt within. absurd (omega arith);
+  few_ram = λ n le. rw (none_of n) (ok.ranges).few_ram;
+  few_devices = λ n le. rw (none_of n) (omega (arith, length-append plan.devices [], (ok.ranges).few_devices));
+}
+
+pub one_cell : (plan : PlanData) (cells : List Cell) (c : Cell) → AreCells plan cells → IsCell plan c → All (λ (d : Cell). d.at ≢ c.at) cells → HasRoom plan cells c → AreCells plan (cells ++ c ∷ [])
+one_cell plan cells c are is once room = record {
+  each = All-push (IsCell plan) cells c are.each is;
+  once = all_pairs_push (λ (a b : Cell). b.at ≢ a.at) cells c are.once (λ k d lt same. once k d lt (sym same));
+  few_ram =
+      λ n le.
+      elim (cases_lt (length cells) n) [
+        | inl past ↦ rw (take_all n (cells ++ c ∷ []) (omega (arith, length-append cells (c ∷ [])))) room.ram
+        | inr within ↦ rw (take-append-le n cells (c ∷ []) within) (are.few_ram n within)
+      ];
+  few_devices =
+      λ n le.
+      elim (cases_lt (length cells) n) [
+        | inl past ↦ rw (take_all n (cells ++ c ∷ []) (omega (arith, length-append cells (c ∷ [])))) room.devices
+        | inr within ↦ rw (take-append-le n cells (c ∷ []) within) (are.few_devices n within)
+      ];
+}
+
+-- ---- room for one more
+pub room_ram : (plan : PlanData) (cells : List Cell) (c : Cell) → (with_cells plan (cells ++ c ∷ [])).ram ≡ ranges_without c.at (ram_without cells plan.ram)
+room_ram plan cells c = ram_behind cells (c ∷ []) plan.ram
+
+pub room_devices : (plan : PlanData) (cells : List Cell) (c : Cell) → length (with_cells plan (cells ++ c ∷ [])).devices ≡ length plan.devices + length cells + 1
+room_devices plan cells c =
+    omega (arith, length-append plan.devices (map cell_device (cells ++ c ∷ [])), length-map (cells ++ c ∷ []) cell_device, length-append cells (c ∷ []))
+
+pub has_room : (plan : PlanData) (cells : List Cell) (c : Cell) → length (ranges_without c.at (ram_without cells plan.ram)) ≤ 16 → length plan.devices + length cells < 16 → HasRoom plan cells c
+has_room plan cells c few lt = record {
+  ram = subst (λ (rs : List Range). length rs ≤ 16) (sym (room_ram plan cells c)) few;
+  devices = omega (arith, room_devices plan cells c);
+}
+
+pub room_few : (plan : PlanData) (cells : List Cell) (c : Cell) → HasRoom plan cells c → length (ranges_without c.at (ram_without cells plan.ram)) ≤ 16
+room_few plan cells c room = subst (λ (rs : List Range). length rs ≤ 16) (room_ram plan cells c) room.ram
+
+pub room_lt : (plan : PlanData) (cells : List Cell) (c : Cell) → HasRoom plan cells c → length plan.devices + length cells < 16
+room_lt plan cells c room = omega (arith, room_devices plan cells c, room.devices)
+
+-- with few enough ranges the number of devices decides
+pub room_then : (plan fields : PlanData) (cells : List Cell) (c : Cell) (n d m : ℕ) → fields ≡ plan → d ≡ length fields.devices → m ≡ length cells → n ≡ length (ranges_without c.at (ram_without cells plan.ram)) → n ≤ 16
+    → (IsTrue (nat_lt (d + m) 16) → HasRoom plan cells c) × (HasRoom plan cells c → IsTrue (nat_lt (d + m) 16))
+room_then plan fields cells c n d m same devices count parts few =
+    let all : d ≡ length plan.devices = devices ∙ ap (λ (p : PlanData). length p.devices) same in (
+      λ t. has_room plan cells c (omega arith) (let lt = ltb-true (d + m) 16 t in omega arith),
+      λ room. lt-ltb (d + m) 16 (omega (arith, room_lt plan cells c room)),
+    )
+
+pub room_else : (plan : PlanData) (cells : List Cell) (c : Cell) (n : ℕ) → n ≡ length (ranges_without c.at (ram_without cells plan.ram)) → 16 < n → (IsTrue (nat_le n 16) → HasRoom plan cells c) × (HasRoom plan cells c → IsTrue (nat_le n 16))
+room_else plan cells c n parts many = (
+  λ t. absurd (let le = leb-true n 16 t in omega arith),
+  λ room. absurd (let few = room_few plan cells c room in omega arith),
+)
+
+-- cells with one more are fewer than 16
+pub room_push : (plan : PlanData) (cells : List Cell) (c : Cell) → AreCells plan (cells ++ c ∷ []) → length cells < 16
+room_push plan cells c are =
+    let all = are.few_devices (length (cells ++ c ∷ [])) (omega arith) in
+    let few : length (with_cells plan (cells ++ c ∷ [])).devices ≤ 16 = subst (λ (l : List Cell). length (with_cells plan l).devices ≤ 16) (take_whole (cells ++ c ∷ [])) all in
+    omega (arith, room_devices plan cells c)
+
+-- ---- one line more
+pub all_other : (cells : List Cell) (at : ℕ) → (Any (λ (d : Cell). d.at ≡ at) cells → ⊥) → All (λ (d : Cell). d.at ≢ at) cells
+all_other [] at none k d lt = absurd (omega arith)
+all_other (c ∷ cs) at none zero d lt = λ same. none (0, c, omega arith, refl, same)
+all_other (c ∷ cs) at none (suc k) d lt = all_other cs at (λ any. none (suc any.0, any.1, omega (arith, any.2), any.3, any.4)) k d (omega arith)
+
+pub bad_cell : (plan : PlanData) (cells : List Cell) (line : List ℕ) (n : ℕ) (c : Cell) (e : CellsErr) → cell_of line ≡ Some c → IsRefused plan cells c n e → IsBadLine plan cells line n e
+bad_cell plan cells line n c (BadLine k) is bad = absurd bad
+bad_cell plan cells line n c (NotRam k) is bad = subst (λ o. IsSomeAnd o (λ d. IsRefused plan cells d n (NotRam k))) (sym is) bad
+bad_cell plan cells line n c (Twice k) is bad = subst (λ o. IsSomeAnd o (λ d. IsRefused plan cells d n (Twice k))) (sym is) bad
+bad_cell plan cells line n c (TooMany k) is bad = subst (λ o. IsSomeAnd o (λ d. IsRefused plan cells d n (TooMany k))) (sym is) bad
+
+no_line : (line : List ℕ) (lt : 0 < length line) → cell_of line ≡ None → IsLine line → ⊥
+no_line line lt none (inl e) = absurd (let z : length line ≡ 0 = ap length e in omega arith)
+no_line line lt none (inr some) = absurd (let f : false ≡ true = subst IsSome none some in cc)
+
+pub bad_form : (plan : PlanData) (cells : List Cell) (line : List ℕ) (n : ℕ) → 0 < length line → cell_of line ≡ None → IsBadLine plan cells line n (BadLine n)
+bad_form plan cells line n lt none = (refl, no_line line lt none)
+
+append_none : (cells : List Cell) → cells ++ [] ≡ cells
+append_none [] = refl
+append_none (c ∷ cs) = ap (λ l. c ∷ l) (append_none cs)
+
+pub takes_none : (plan : PlanData) (cells : List Cell) (line : List ℕ) → length line ≡ 0 → AreCells plan cells → TakesLine plan cells line cells
+unfolding cell_of_words
+takes_none plan cells [] none are = record { form = inl refl; named = sym (append_none cells); are = are }
+takes_none plan cells (x ∷ xs) none are = absurd (omega arith)
+
+pub takes_one : (plan : PlanData) (cells : List Cell) (line : List ℕ) (c : Cell) → cell_of line ≡ Some c → AreCells plan (cells ++ c ∷ []) → TakesLine plan cells line (cells ++ c ∷ [])
+takes_one plan cells line c is are = record {
+  form = inr (subst IsSome (sym is) refl);
+  named = ap (λ l. cells ++ l) (sym (named_one line c is));
+  are = are;
+}
+  where
+    named_one : (line : List ℕ) (c : Cell) → cell_of line ≡ Some c → filter_map cell_of (line ∷ []) ≡ c ∷ []
+    named_one line c is = rw is refl
+
+-- ---- a text
+-- the lines before what is left name the cells
+pub record IsReadSoFar (plan : PlanData) (bytes rest : List ℕ) (number : ℕ) (cells : List Cell) : Type 0 where
+  pub before : List (List ℕ)
+  pub split : lines_of bytes ≡ before ++ lines_of rest
+  pub count : number ≡ length before
+  pub read : AreRead plan before cells
+
+pub read_none : (plan : PlanData) (bytes : List ℕ) → AreCells plan [] → IsReadSoFar plan bytes bytes 0 []
+read_none plan bytes are = record { before = []; split = refl; count = refl; read = record { forms = λ k d lt. absurd (omega arith); named = refl; are = are } }
+
+behind_one : (xs ys : List (List ℕ)) (x : List ℕ) → xs ++ x ∷ ys ≡ (xs ++ x ∷ []) ++ ys
+behind_one [] ys x = refl
+behind_one (z ∷ zs) ys x = ap (λ l. z ∷ l) (behind_one zs ys x)
+
+pub read_more : (plan : PlanData) (bytes rest line behind : List ℕ) (number : ℕ) (cells more : List Cell) → IsReadSoFar plan bytes rest number cells → lines_of rest ≡ line ∷ lines_of behind → TakesLine plan cells line more
+    → IsReadSoFar plan bytes behind (number + 1) more
+read_more plan bytes rest line behind number cells more so cut takes = record {
+  before = so.before ++ line ∷ [];
+  split = so.split ∙ ap (λ l. so.before ++ l) cut ∙ behind_one so.before (lines_of behind) line;
+  count = omega (arith, so.count, length-append so.before (line ∷ []));
+  read = record {
+    forms = All-push IsLine so.before line (so.read).forms takes.form;
+    named = takes.named ∙ ap (λ l. l ++ filter_map cell_of (line ∷ [])) (so.read).named ∙ sym (filter_map-append cell_of so.before (line ∷ []));
+    are = takes.are;
+  };
+}
+
+pub read_bad : (plan : PlanData) (bytes rest line behind : List ℕ) (number : ℕ) (cells : List Cell) (e : CellsErr) → IsReadSoFar plan bytes rest number cells → lines_of rest ≡ line ∷ lines_of behind
+    → IsBadLine plan cells line (number + 1) e → IsFirstBad plan (lines_of bytes) e
+read_bad plan bytes rest line behind number cells e so cut bad = record {
+  before = so.before;
+  line = line;
+  behind = lines_of behind;
+  split = so.split ∙ ap (λ l. so.before ++ l) cut;
+  cells = cells;
+  read = so.read;
+  bad = subst (λ n. IsBadLine plan cells line (n + 1) e) so.count bad;
+}
+
+append_no_lines : (xs : List (List ℕ)) → xs ++ [] ≡ xs
+append_no_lines [] = refl
+append_no_lines (x ∷ xs) = ap (λ l. x ∷ l) (append_no_lines xs)
+
+pub read_all : (plan : PlanData) (bytes rest : List ℕ) (number : ℕ) (cells : List Cell) → length rest ≡ 0 → IsReadSoFar plan bytes rest number cells → AreRead plan (lines_of bytes) cells
+unfolding lines_of
+read_all plan bytes [] number cells none so = subst (λ ls. AreRead plan ls cells) (sym (so.split ∙ append_no_lines so.before)) so.read
+read_all plan bytes (x ∷ xs) number cells none so = absurd (omega arith)
+
+-- ---- a word in one range
+pub in_one : (b : Bool) (at : ℕ) (rs ss : List Range) → rs ≡ ss → b ≡ list_any (is_inside at 4) rs → (IsTrue b → IsInOne at 4 ss) × (IsInOne at 4 ss → IsTrue b)
+in_one b at rs ss same t =
+    let P : List Range → Type 0 = λ l. (IsTrue b → IsInOne at 4 l) × (IsInOne at 4 l → IsTrue b) in
+    subst P same (λ h. any_one at 4 rs (sym t ∙ h), λ h. t ∙ one_any at 4 rs h)

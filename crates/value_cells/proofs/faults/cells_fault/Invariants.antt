@@ -1,0 +1,10 @@
+use Rattle.std.proofs.Common.{take}
+use Rattle.std.specs.Prelude.{All}
+use Rattle.depth_cert.specs.Nodes.{NodeData}
+use Rattle.cfg_recover.specs.Accepting.{limits_in}
+use Rattle.value_cells.specs.Keeping.{KeepsCellsAtPoint}
+use Rattle.value_cells.proofs.faults.cells_fault.Given as goal
+
+-- each point of the nodes so far keeps the cells
+abbrev pub invariant-loop-node : goal.invariant-loop-node
+invariant-loop-node l = All (λ (n : NodeData). All (KeepsCellsAtPoint (limits_in l.other l.cert) l.image l.other l.cells) n.points) (take l.node-index l.node-items)

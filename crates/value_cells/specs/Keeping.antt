@@ -1,0 +1,88 @@
+-- What is asked of a certificate so that stores keep the cells' bounds: rule 16, the project's own.
+use Rattle.std.specs.Prelude.{◌≡◌, ◌<◌, ◌≤◌, ◌+◌, ◌*◌, ◌^◌, ℕ, Bool, IsTrue, List, All, Contains}
+use Rattle.elf_image.specs.Images.{ImageData}
+use Rattle.tcd_plan.specs.PlanData.{PlanData}
+use Rattle.tc_isa.specs.declared.shapes.Shape.{Shape}
+use Rattle.tc_isa.specs.declared.shapes.Shape.TheVariants.{Store}
+use Rattle.value_domain.specs.declared.states.State.{State}
+use Rattle.value_domain.specs.declared.values.Val.{Val}
+use Rattle.value_domain.specs.Limits.{Limits}
+use Rattle.value_domain.specs.Values.{IsMember}
+use Rattle.vd_transfer.specs.Registers.{reg_of}
+use Rattle.vd_transfer.specs.Effects.{address_of}
+use Rattle.depth_cert.specs.declared.keys.Key.{Key}
+use Rattle.depth_cert.specs.declared.points.Point.{Point}
+use Rattle.depth_cert.specs.Keys.{number_of_key}
+use Rattle.depth_cert.specs.Nodes.{NodeData}
+use Rattle.depth_cert.specs.Certs.{CertData}
+use Rattle.cfg_recover.specs.Code.{IsCode}
+use Rattle.cfg_recover.specs.Accepting.{limits_in}
+use Rattle.value_cells.specs.declared.cells.Cell.{Cell}
+
+-- the access from x shares a byte with the cell
+abbrev pub Touches : ℕ → ℕ → Cell → Type 0
+Touches x size c = (x < c.at + 4) × (c.at < x + size)
+
+-- a store that touches a cell is one of its whole word, and of a value whose words all lie in its bounds
+pub record KeepsCell (v : Val) (size x : ℕ) (c : Cell) : Type 0 where
+  pub word : size ≡ 4
+  pub at : x ≡ c.at
+  pub bounds : (w : ℕ) → IsMember w v → (c.lo ≤ w) × (w ≤ c.hi)
+
+-- the access from x keeps each cell that it touches
+abbrev pub KeepsAll : Val → ℕ → ℕ → List Cell → Type 0
+KeepsAll v size x cells = All (λ c. Touches x size c → KeepsCell v size x c) cells
+
+-- each possible access of a store keeps the cells; other instructions have nothing to keep
+abbrev pub KeepsCellsAt : Limits → PlanData → List Cell → State → Shape → Type 0
+KeepsCellsAt b plan cells s (Store src base offset size after) =
+    (x : ℕ) → IsMember x (address_of b plan (Store src base offset size after) s) → KeepsAll (reg_of plan s src) size x cells
+KeepsCellsAt b plan cells s _ = Unit {0}
+
+-- rule 16 at a point of a certificate: the instruction there keeps the cells
+abbrev pub KeepsCellsAtPoint : Limits → ImageData → PlanData → List Cell → Point → Type 0
+KeepsCellsAtPoint b image plan cells point = (shape : Shape) (n : ℕ) → IsCode image plan point.addr shape n → KeepsCellsAt b plan cells point.state shape
+
+-- Rule 16, at each point of a certificate under the plan in which the cells are devices.
+abbrev pub KeepsCells : ImageData → PlanData → List Cell → CertData → Type 0
+KeepsCells image plan cells cert =
+    (node : NodeData) (point : Point) → Contains cert.nodes node → Contains node.points point → KeepsCellsAtPoint (limits_in plan cert) image plan cells point
+
+-- rule 16 fails at a key and an address
+pub data BreaksCells (image : ImageData) (plan : PlanData) (cells : List Cell) (cert : CertData) : Key → ℕ → Type 0 where
+  breaks_at :
+      (node : NodeData) (point : Point) → Contains cert.nodes node → Contains node.points point → (KeepsCellsAtPoint (limits_in plan cert) image plan cells point → ⊥)
+      → BreaksCells image plan cells cert node.key point.addr
+
+-- places of a certificate are ordered by key, then by address
+abbrev pub place_number : Key → ℕ → ℕ
+place_number k p = number_of_key k * 2 ^ 32 + p
+
+-- it fails there, and at no lesser key or address
+pub record IsFirstBreak (image : ImageData) (plan : PlanData) (cells : List Cell) (cert : CertData) (k : Key) (p : ℕ) : Type 0 where
+  pub breaks : BreaksCells image plan cells cert k p
+  pub least : (j : Key) (x : ℕ) → BreaksCells image plan cells cert j x → place_number k p ≤ place_number j x
+
+-- it fails at an address of a node's points, and at no lesser one
+pub record IsNodeBreak (b : Limits) (image : ImageData) (plan : PlanData) (cells : List Cell) (node : NodeData) (p : ℕ) : Type 0 where
+  pub point : Point
+  pub stands : Contains node.points point
+  pub addr : point.addr ≡ p
+  pub breaks : KeepsCellsAtPoint b image plan cells point → ⊥
+  pub least : (other : Point) → Contains node.points other → (KeepsCellsAtPoint b image plan cells other → ⊥) → p ≤ other.addr
+
+-- each access from a member of a value keeps one cell
+abbrev pub KeepsFrom : Val → ℕ → Val → Cell → Type 0
+KeepsFrom at size v c = (x : ℕ) → IsMember x at → Touches x size c → KeepsCell v size x c
+
+-- all words of a value lie in lo..=hi
+abbrev pub AreWithin : Val → ℕ → ℕ → Type 0
+AreWithin v lo hi = (w : ℕ) → IsMember w v → (lo ≤ w) × (w ≤ hi)
+
+-- a store of the cell's whole word, of words in its bounds alone
+abbrev pub FitsCell : Val → ℕ → Cell → Type 0
+FitsCell v size c = (size ≡ 4) × AreWithin v c.lo c.hi
+
+-- where x is one of the addresses, it is the cell's, and the store fits
+abbrev pub IsKept : Val → Bool → ℕ → ℕ → Type 0
+IsKept at fits cell x = IsMember x at → IsTrue fits × (x ≡ cell)

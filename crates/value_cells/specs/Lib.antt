@@ -1,0 +1,6 @@
+pub mod Beside
+pub mod Cells
+pub mod Keeping
+pub mod Laws
+pub mod Reading
+pub mod Safe

@@ -1,0 +1,86 @@
+-- The text of cells: which cells its lines name for a plan, or what is against the first bad one.
+use Rattle.std.specs.Prelude.{◌≡◌, ◌≢◌, ◌<◌, ◌≤◌, ◌+◌, ◌%◌, ◌^◌, ◌==◌, ◌&&◌, ◌⊎◌, ℕ, nat_le, if◌then◌else◌, List, [], ◌∷◌, ◌++◌, length, codes, filter_map, All, Any, Option, None, IsSome, IsSomeAnd, Result, Ok, Err}
+use Rattle.std.specs.Bool.{then_some}
+use Rattle.std.specs.Option.{option_and_then}
+use Rattle.std.specs.Str.{bytes_eq}
+use Rattle.tcd_plan.specs.PlanData.{PlanData}
+use Rattle.tc_machine.specs.Ranges.{IsInOne}
+use Rattle.tcd_text.specs.Lines.{lines_of, words_of}
+use Rattle.tcd_text.specs.HexNumbers.{hex_number_of}
+use Rattle.value_cells.specs.declared.cells.Cell.{Cell}
+use Rattle.value_cells.specs.declared.errors.CellsErr.{CellsErr}
+use Rattle.value_cells.specs.declared.errors.CellsErr.TheVariants.{BadLine, NotRam, Twice, TooMany}
+use Rattle.value_cells.specs.Cells.{with_cells, AreCells}
+
+-- ---- lines; the grammar is the project's own
+-- a cell of these numbers: at a multiple of 4, its bounds in order
+abbrev pub cell_of_numbers : ℕ → ℕ → ℕ → Option Cell
+cell_of_numbers at lo hi = then_some (at % 4 == 0 && nat_le lo hi) (record { at = at; lo = lo; hi = hi })
+
+-- the cell of the words `cell AT LO HI`, each number of eight upper-case hex digits
+unfoldable pub cell_of_words : List (List ℕ) → Option Cell
+cell_of_words (word ∷ at ∷ lo ∷ hi ∷ []) =
+    if bytes_eq word (codes "cell")
+    then option_and_then (λ x. option_and_then (λ y. option_and_then (cell_of_numbers x y) (hex_number_of hi)) (hex_number_of lo)) (hex_number_of at)
+    else None
+cell_of_words words = None
+
+-- the cell that a line names
+abbrev pub cell_of : List ℕ → Option Cell
+cell_of line = cell_of_words (words_of line)
+
+-- a line is empty or names a cell
+abbrev pub IsLine : List ℕ → Type 0
+IsLine line = (line ≡ []) ⊎ IsSome (cell_of line)
+
+-- what the cell of a line keeps by its form: aligned, its bounds in order, all of them words
+pub record IsSaid (c : Cell) : Type 0 where
+  pub aligned : c.at % 4 ≡ 0
+  pub ordered : c.lo ≤ c.hi
+  pub word : c.hi < 2 ^ 32
+
+-- ---- texts
+-- these lines name these cells, and they are cells of the plan
+pub record AreRead (plan : PlanData) (lines : List (List ℕ)) (cells : List Cell) : Type 0 where
+  pub forms : All IsLine lines
+  pub named : cells ≡ filter_map cell_of lines
+  pub are : AreCells plan cells
+
+-- with one cell more at most 16 ranges of ram are left, and there are at most 16 devices: as many as a plan may have
+pub record HasRoom (plan : PlanData) (cells : List Cell) (c : Cell) : Type 0 where
+  pub ram : length (with_cells plan (cells ++ c ∷ [])).ram ≤ 16
+  pub devices : length (with_cells plan (cells ++ c ∷ [])).devices ≤ 16
+
+-- What is against one more cell by line n, the least that is: its word isn't in one range of ram, an earlier line names
+-- the same word, or there is no room.
+abbrev pub IsRefused : PlanData → List Cell → Cell → ℕ → CellsErr → Type 0
+IsRefused plan cells c n (BadLine k) = ⊥
+IsRefused plan cells c n (NotRam k) = (k ≡ n) × (IsInOne c.at 4 plan.ram → ⊥)
+IsRefused plan cells c n (Twice k) = (k ≡ n) × IsInOne c.at 4 plan.ram × Any (λ d. d.at ≡ c.at) cells
+IsRefused plan cells c n (TooMany k) = (k ≡ n) × IsInOne c.at 4 plan.ram × All (λ d. d.at ≢ c.at) cells × (HasRoom plan cells c → ⊥)
+
+-- what is against line n behind lines that name these cells: its form, else its cell
+abbrev pub IsBadLine : PlanData → List Cell → List ℕ → ℕ → CellsErr → Type 0
+IsBadLine plan cells line n (BadLine k) = (k ≡ n) × (IsLine line → ⊥)
+IsBadLine plan cells line n e = IsSomeAnd (cell_of line) (λ c. IsRefused plan cells c n e)
+
+-- some line is bad for this reason, counted from 1, and those before it are read
+pub record IsFirstBad (plan : PlanData) (lines : List (List ℕ)) (e : CellsErr) : Type 0 where
+  pub before : List (List ℕ)
+  pub line : List ℕ
+  pub behind : List (List ℕ)
+  pub split : lines ≡ before ++ line ∷ behind
+  pub cells : List Cell
+  pub read : AreRead plan before cells
+  pub bad : IsBadLine plan cells line (length before + 1) e
+
+-- what reading a text answers: the cells that its lines name, or what is against the first bad line
+abbrev pub Reads : PlanData → List ℕ → Result (List Cell) CellsErr → Type 0
+Reads plan bytes (Ok cells) = AreRead plan (lines_of bytes) cells
+Reads plan bytes (Err e) = IsFirstBad plan (lines_of bytes) e
+
+-- one line more behind lines that name cells: it is empty or names one, and all are cells of the plan
+pub record TakesLine (plan : PlanData) (cells : List Cell) (line : List ℕ) (more : List Cell) : Type 0 where
+  pub form : IsLine line
+  pub named : more ≡ cells ++ filter_map cell_of (line ∷ [])
+  pub are : AreCells plan more

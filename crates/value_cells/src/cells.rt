@@ -1,0 +1,130 @@
+// Cells.
+use crate::CellsErr;
+use crate::cutting::count_without;
+use crate::lines::cell_in;
+use crate::plans::{is_in_ram, ram_without};
+use arrayvec::ArrayVec;
+use std::marker::Model;
+use tcd_plan::Plan;
+use tcd_text::cut_line;
+
+/// A word of ram, at a multiple of 4, with the bounds that it keeps: a number in `lo..=hi`.
+#[derive(Clone, Copy, Debug, Default, PartialEq, Eq)]
+pub struct Cell {
+    pub at: u32,
+    pub lo: u32,
+    pub hi: u32,
+}
+
+/// At most 16 cells, in the order of their lines.
+#[derive(Drop)]
+pub struct Cells {
+    list: ArrayVec<Cell, 16>,
+}
+
+impl Model for Cells {
+    ghost use Rattle.std.specs.Prelude.{List};
+    ghost use Rattle.value_cells.specs.declared.cells.Cell.{Cell};
+
+    ghost Value = { List Cell };
+
+    ghost view = { λ c. c.list.items };
+}
+
+impl Cells {
+    ghost use Rattle.std.specs.Prelude.{◌≡◌, ◌≤◌, ◌^◌, ◌↔◌, [], ◌∷◌, ◌++◌, length, IsTrue, Any, OnOk, IfOk, IfErr, IfSome, IfNone};
+    ghost use Rattle.value_cells.specs.Cells.{IsCell, AreCells};
+    ghost use Rattle.value_cells.specs.Reading.{HasRoom, IsSaid, IsRefused, TakesLine, IsBadLine, Reads};
+
+    /// The cells that a text names for a plan: lines `cell AT LO HI` of numbers with eight upper-case hex digits, or
+    /// empty ones. The first bad line decides, and there the least refusal.
+    pub fn read(bytes: &[u8], plan: &Plan) -> Result<Cells, CellsErr>
+        requires { length bytes.now ≤ 2 ^ 30 }
+        ensures read { Reads plan.now bytes.now result }
+        ensures cells { IfOk result (AreCells plan.now) }
+    {
+        let mut cells = Cells::new(plan);
+        let mut number = 0u32;
+        let mut rest = bytes;
+        'lines: while !rest.is_empty() {
+            let (line, behind) = cut_line(rest);
+            number += 1;
+            cells.add_line(plan, number, line)?;
+            rest = behind;
+        }
+        Ok(cells)
+    }
+
+    /// The cells, in the order of their lines.
+    pub fn list(&self) -> &[Cell]
+        ensures { result.now ≡ self.now }
+    {
+        self.list.as_slice()
+    }
+
+    // No cell.
+    fn new(plan: &Plan) -> Cells
+        ensures none { result ≡ [] }
+        ensures cells { AreCells plan.now result }
+    {
+        let _areas = plan.areas;
+        Cells {
+            list: ArrayVec::new(),
+        }
+    }
+
+    // Whether there is a cell at this address.
+    fn has_at(&self, at: u32) -> bool
+        ensures { IsTrue result ↔ Any (λ d. d.at ≡ at) self.now }
+    {
+        self.list.iter().any(|cell| cell.at == at)
+    }
+
+    // Whether with one cell more at most 16 ranges of ram are left, and there are at most 16 devices.
+    fn has_room(&self, plan: &Plan, cell: &Cell) -> bool
+        requires cells { AreCells plan.now self.now }
+        requires cell { IsCell plan.now cell.now }
+        ensures { IsTrue result ↔ HasRoom plan.now self.now cell.now }
+    {
+        let ram = ram_without(plan, self.list());
+        count_without(ram.as_slice(), cell.at) <= 16 && plan.devices.len() + self.list.len() < 16
+    }
+
+    // What is against one more cell, by line `number`.
+    fn fault_of(&self, plan: &Plan, number: u32, cell: &Cell) -> Option<CellsErr>
+        requires cells { AreCells plan.now self.now }
+        requires said { IsSaid cell.now }
+        ensures good { IfNone result (AreCells plan.now (self.now ++ cell.now ∷ [])) }
+        ensures bad { IfSome result (IsRefused plan.now self.now cell.now number) }
+    {
+        if !is_in_ram(plan, cell.at) {
+            return Some(CellsErr::NotRam(number));
+        }
+        if self.has_at(cell.at) {
+            return Some(CellsErr::Twice(number));
+        }
+        if !self.has_room(plan, cell) {
+            return Some(CellsErr::TooMany(number));
+        }
+        None
+    }
+
+    // Adds what line `number` says, or tells what is against it.
+    fn add_line(&mut self, plan: &Plan, number: u32, line: &[u8]) -> Result<(), CellsErr>
+        requires { AreCells plan.now self.old }
+        ensures ok { OnOk result (TakesLine plan.now self.old line.now self.new) }
+        ensures err { IfErr result (IsBadLine plan.now self.old line.now number) }
+    {
+        if line.is_empty() {
+            return Ok(());
+        }
+        let Some(cell) = cell_in(line) else {
+            return Err(CellsErr::BadLine(number));
+        };
+        if let Some(fault) = self.fault_of(plan, number, &cell) {
+            return Err(fault);
+        }
+        self.list.push(cell);
+        Ok(())
+    }
+}

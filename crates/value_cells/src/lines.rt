@@ -1,0 +1,54 @@
+// The lines of cells.
+ghost use Rattle.std.specs.Prelude.{◌≡◌, [], ◌∷◌, IfSome};
+ghost use Rattle.value_cells.specs.Reading.{cell_of, cell_of_words, cell_of_numbers, IsSaid};
+
+use crate::Cell;
+use tcd_text::{cut_word, hex_number};
+
+// A cell at a multiple of 4, with its bounds in order.
+fn cell_of_numbers(at: u32, lo: u32, hi: u32) -> Option<Cell>
+    ensures cell { result ≡ cell_of_numbers at lo hi }
+    ensures said { IfSome result IsSaid }
+{
+    if at % 4 == 0 && lo <= hi {
+        Some(Cell { at, lo, hi })
+    } else {
+        None
+    }
+}
+
+// The cell of four words.
+#[tactic(auto, unfolding(crate::specs::Reading::cell_of_words))]
+fn cell_of_words(word: &[u8], at: &[u8], lo: &[u8], hi: &[u8]) -> Option<Cell>
+    ensures cell { result ≡ cell_of_words (word.now ∷ at.now ∷ lo.now ∷ hi.now ∷ []) }
+    ensures said { IfSome result IsSaid }
+{
+    if word != b"cell".as_slice() {
+        return None;
+    }
+    let at = hex_number(at)?;
+    let lo = hex_number(lo)?;
+    let hi = hex_number(hi)?;
+    cell_of_numbers(at, lo, hi)
+}
+
+/// The cell that a line names; nothing where it names none.
+#[tactic(auto, using(crate::proofs::LineForms::five_words), unfolding(crate::specs::Reading::cell_of_words))]
+pub(crate) fn cell_in(line: &[u8]) -> Option<Cell>
+    ensures cell { result ≡ cell_of line.now }
+    ensures said { IfSome result IsSaid }
+{
+    let Some((word, rest)) = cut_word(line) else {
+        return None;
+    };
+    let Some((at, rest)) = cut_word(rest) else {
+        return None;
+    };
+    let Some((lo, rest)) = cut_word(rest) else {
+        return None;
+    };
+    match cut_word(rest) {
+        Some((_hi, _more)) => None,
+        None => cell_of_words(word, at, lo, rest),
+    }
+}

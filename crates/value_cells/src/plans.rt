@@ -1,0 +1,107 @@
+// The plan in which the cells are devices.
+ghost use Rattle.std.specs.Prelude.{◌≡◌, ◌≤◌, ◌++◌, ◌↔◌, IsTrue, map, length};
+ghost use Rattle.std.specs.List.{list_any};
+ghost use Rattle.tc_machine.specs.Ranges.{IsInOne};
+ghost use Rattle.store_ranges.specs.Accesses.{is_inside};
+ghost use Rattle.value_cells.specs.Cells as spec;
+ghost use Rattle.value_cells.specs.Cells.{AreCells, cell_device};
+
+use crate::cells::{Cell, Cells};
+use crate::cutting::ranges_without;
+use arrayvec::ArrayVec;
+use tcd_base::Range;
+use tcd_plan::{Device, Plan};
+
+fn copied(ranges: &[Range]) -> ArrayVec<Range, 16>
+    requires { length ranges.now ≤ 16 }
+    ensures { result.items ≡ ranges.now }
+{
+    let mut copy = ArrayVec::new();
+    copy.try_extend_from_slice(ranges).unwrap();
+    copy
+}
+
+fn copied_bytes(bytes: &[u8]) -> ArrayVec<u8, 32>
+    requires { length bytes.now ≤ 32 }
+    ensures { result.items ≡ bytes.now }
+{
+    let mut copy = ArrayVec::new();
+    copy.try_extend_from_slice(bytes).unwrap();
+    copy
+}
+
+/// Whether the word at an address lies in one range of ram.
+pub(crate) fn is_in_ram(plan: &Plan, at: u32) -> bool
+    ensures { IsTrue result ↔ IsInOne at 4 plan.now.ram }
+{
+    is_in_one(plan.ram.as_slice(), at)
+}
+
+/// Whether the word at an address lies in one of the ranges.
+fn is_in_one(ranges: &[Range], at: u32) -> bool
+    ensures { result ≡ list_any (is_inside at 4) ranges.now }
+{
+    let end = u64::from(at) + 4;
+    ranges.iter().any(|range| range.at <= at && end <= u64::from(range.at) + u64::from(range.len))
+}
+
+/// The ranges of ram without the words of all cells.
+pub(crate) fn ram_without(plan: &Plan, cells: &[Cell]) -> ArrayVec<Range, 16>
+    requires { AreCells plan.now cells.now }
+    ensures { result.items ≡ spec.ram_without cells.now plan.now.ram }
+{
+    let mut ram = copied(plan.ram.as_slice());
+    for cell in cells {
+        ram = ranges_without(ram.as_slice(), cell.at);
+    }
+    ram
+}
+
+/// The plan's devices, and behind them one for each cell, that answers inside the cell's bounds.
+fn devices_with(plan: &Plan, cells: &[Cell]) -> ArrayVec<Device, 16>
+    requires { AreCells plan.now cells.now }
+    ensures { result.items ≡ plan.now.devices ++ map cell_device cells.now }
+{
+    let mut devices = ArrayVec::new();
+    devices
+        .try_extend_from_slice(plan.devices.as_slice())
+        .unwrap();
+    for cell in cells {
+        devices.push(Device {
+            range: Range {
+                at: cell.at,
+                len: 4,
+            },
+            lo: cell.lo,
+            hi: cell.hi,
+        });
+    }
+    devices
+}
+
+/// The plan in which the cells are devices: their words are taken out of ram, and the devices come last, in their order.
+pub fn with_cells(plan: &Plan, cells: &Cells) -> Plan
+    requires { AreCells plan.now cells.now }
+    ensures { result ≡ spec.with_cells plan.now cells.now }
+{
+    Plan {
+        rom: copied(plan.rom.as_slice()),
+        ram: ram_without(plan, cells.list()),
+        devices: devices_with(plan, cells.list()),
+        csa_at: plan.csa_at,
+        areas: plan.areas,
+        reserve: plan.reserve,
+        sp: plan.sp,
+        isp: plan.isp,
+        biv: plan.biv,
+        btv: plan.btv,
+        irqs: copied_bytes(plan.irqs.as_slice()),
+        sys: plan.sys,
+        aln: plan.aln,
+        start_ie: plan.start_ie,
+        start_ccpn: plan.start_ccpn,
+        start_is: plan.start_is,
+        globals: plan.globals,
+        core: plan.core,
+    }
+}
