@@ -4,7 +4,7 @@ ghost use Rattle.value_domain.specs.Values.{IsWell, IsValue, IsBelow, any_val};
 ghost use Rattle.value_domain.specs.State.{Covers, AreWell, AreValues, joined, joined_regs, joined_locals, AreBelow, ImpliedBy};
 
 use crate::lattice::are_same;
-use crate::values::copy_of;
+use crate::values::{copy_of, copy_to};
 use crate::{Bounds, Val, join, leq};
 use arrayvec::ArrayVec;
 
@@ -37,7 +37,7 @@ fn copy_regs(regs: &[Val; 27]) -> [Val; 27]
 {
     let mut copy = std::array::from_fn(|_| Val::any());
     for (i, v) in regs.iter().enumerate() {
-        copy[i] = v.copy();
+        copy_to(v, &mut copy[i]);
     }
     copy
 }

@@ -3,6 +3,7 @@ ghost use Rattle.std.specs.Prelude.{◌≡◌, ◌≤◌, ◌<◌, ◌+◌, ◌-
 ghost use Rattle.std.specs.Prelude.{IsSome};
 ghost use Rattle.std.specs.List.Sorted.{IsStrictlyIncreasing};
 ghost use Rattle.value_domain.specs.Sets.{AreWords, Among, put, Rising};
+ghost use Rattle.value_domain.specs.declared.values.Val.TheVariants.{Set, Span};
 
 use arrayvec::ArrayVec;
 use std::marker::Model;
@@ -197,4 +198,47 @@ impl Val {
             },
         }
     }
+}
+
+/// Makes a value the same as another, in its place.
+pub(crate) fn copy_to(v: &Val, out: &mut Val)
+    ensures { out.new ≡ v.now }
+{
+    match v {
+        Val::Set(words) => set_words(out, words),
+        Val::Span { lo, last, step } => set_span(out, *lo, *last, *step),
+    }
+}
+
+// A function of its own, so that the others have no room of a value to fill.
+#[inline(never)]
+fn set_words(out: &mut Val, words: &Words)
+    ensures { out.new ≡ Set words.now }
+{
+    *out = Val::Set(words.copy());
+}
+
+/// Makes a value a Span; where it is one only its ends and step are written.
+fn set_span(out: &mut Val, lo: u32, last: u32, step: u8)
+    ensures { out.new ≡ Span lo last step }
+{
+    match out {
+        Val::Set(_) => set_from_set(out, lo, last, step),
+        Val::Span {
+            lo: own_lo,
+            last: own_last,
+            step: own_step,
+        } => {
+            *own_lo = lo;
+            *own_last = last;
+            *own_step = step;
+        }
+    }
+}
+
+#[inline(never)]
+fn set_from_set(out: &mut Val, lo: u32, last: u32, step: u8)
+    ensures { out.new ≡ Span lo last step }
+{
+    *out = Val::Span { lo, last, step };
 }

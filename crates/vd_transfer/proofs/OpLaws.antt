@@ -1,7 +1,7 @@
 -- Operations are sound and monotone.
-use Rattle.std.proofs.Common.{◌≡◌, ℕ, zero, suc, ◌+◌, ◌-◌, ◌*◌, ◌%◌, ◌^◌, ◌<◌, ◌≤◌, inl, inr, List, [], ◌∷◌, ◌++◌, length, refl, sym, ap, ◌∙◌, subst, arith, min, map, ltb, leb, take, set, get_or, append_assoc, append-nil, Bool, true, false, not, ◌||◌, eqb, bit_and, bit_or, bit_xor, ◌⊎◌}
-use Rattle.std.proofs.lemmas.Bool.{cases_lt, lt-ltb, le-ltb, cases_Bool}
-use Rattle.std.proofs.lemmas.List.{take_more, take_more_set, take_all}
+use Rattle.std.proofs.Common.{◌≡◌, ℕ, zero, suc, ◌+◌, ◌-◌, ◌*◌, ◌%◌, ◌^◌, ◌<◌, ◌≤◌, inl, inr, List, [], ◌∷◌, ◌++◌, length, refl, sym, ap, ◌∙◌, subst, arith, min, map, ltb, leb, take, set, replicate, get_or, append_assoc, append-nil, Bool, true, false, not, ◌||◌, eqb, bit_and, bit_or, bit_xor, ◌⊎◌}
+use Rattle.std.proofs.lemmas.Bool.{cases_lt, cases_eq, lt-ltb, le-ltb, cases_Bool}
+use Rattle.std.proofs.lemmas.List.{take_more, take_more_set, take_all, get_or-set_same, get_or-set_other, get_or-replicate, length-replicate}
 use Rattle.std.proofs.Math.ListN.{length-set}
 use Rattle.std.proofs.Math.Nat.{mul-le-mul_right}
 use Rattle.std.proofs.Math.Pow.{pow_mono}
@@ -17,11 +17,11 @@ use Rattle.value_domain.specs.declared.lattice.Extent.{Extent}
 use Rattle.vd_transfer.specs.declared.runs.Run.{Run}
 use Rattle.value_domain.proofs.Loops.{among_get}
 use Rattle.value_domain.proofs.ExtentLaws.{cover-part, extent_only, extent_rising, append_left, append_right, among_append, some_length}
-use Rattle.value_domain.proofs.RangeLaws.{members_below, some_members, span_count, set_value}
+use Rattle.value_domain.proofs.RangeLaws.{words_more, members_below, some_members, span_count, set_value}
 use Rattle.tc_isa.specs.declared.shapes.Op.{Op}
 use Rattle.tc_isa.specs.declared.shapes.Op.TheVariants.{Second, Add, Sub, And, Nand, Or, Nor, Xor, Xnor, Andn, Orn, Eq, Ne, Lt, LtU, Ge, GeU, Sh, Sha}
 use Rattle.tc_isa.specs.Arithmetic.{alu_of, shifted, shifted_signed, complement, one_if, signed_place}
-use Rattle.vd_transfer.specs.Operations.{low, high, step, results, row, pairs, whole, all_of, runs, bounds, gives_truth, by_count, Shifts, differences, sums, shifts, signed_shifts, value_of, range_of}
+use Rattle.vd_transfer.specs.Operations.{low, high, step, results, row, pairs, whole, all_of, runs, bounds, gives_truth, by_count, Shifts, differences, sums, shifts, signed_shifts, value_of, range_of, HasMet}
 use Rattle.vd_transfer.specs.Laws.{AreSound, AreMonotone}
 use Rattle.vd_transfer.proofs.Rows.{Lies, sums_have, sums_grow, differences_have, differences_grow, ands_have, ands_grow, shifts_have, shifts_grow, shifts_below}
 
@@ -525,6 +525,36 @@ row_next op x i ys row h e len = (
 pub row_whole : (op : Op) (x i : ℕ) (ys row : List ℕ) → length ys ≤ i → take i row ≡ take i (map (alu_of op x) ys) → length row ≡ length ys → row ≡ map (alu_of op x) ys
 row_whole op x i ys row h e len =
     sym (take_all i row (omega arith)) ∙ e ∙ take_all i (map (alu_of op x) ys) (omega (arith, map_length op x ys))
+
+-- the results of one word with many
+pub results_more : (b : Limits) (v out : Val) (op : Op) (x i : ℕ) (ys : List ℕ) → IsWell v → i < length ys
+    → out ≡ cover b (members v ++ take i (map (alu_of op x) ys)) → cover b (alu_of op x (get_or ys i 0) ∷ members out) ≡ cover b (members v ++ take (i + 1) (map (alu_of op x) ys))
+results_more b v out op x i ys well h e =
+    let at : get_or (map (alu_of op x) ys) i 0 ≡ alu_of op x (get_or ys i 0) = map_at op x i ys h in
+    let more = words_more b v out (map (alu_of op x) ys) i well (omega (arith, map_length op x ys)) e in
+    rw (at) at more
+
+-- ---- words that were met lately
+-- what a value has stays when words are added to it
+stays : (b : Limits) (v : Val) (xs : List ℕ) (y : ℕ) → IsWell v → Within (members v) xs → IsMember y v → IsMember y (cover b xs)
+stays b v xs y well there m = cover_holds b xs y (there y (among_member v y (has_step v well) m))
+
+pub met_more : (b : Limits) (v : Val) (ms : List ℕ) (k z : ℕ) → IsWell v → k < length ms → HasMet v ms → HasMet (cover b (z ∷ members v)) (set ms k z)
+met_more b v ms k z well h met i lt =
+    elim (cases_eq i k) [
+      | inl same ↦
+          let here : get_or (set ms k z) i 0 ≡ z = rw same (get_or-set_same ms k z 0 h) in
+          rw here (cover_holds b (z ∷ members v) z (inl refl))
+      | inr other ↦
+          let there : get_or (set ms k z) i 0 ≡ get_or ms i 0 = get_or-set_other ms k i z 0 other in
+          rw there (stays b v (z ∷ members v) (get_or ms i 0) well (λ y j. inr j) (met i (simp length-set at lt)))
+    ]
+
+pub met_kept : (b : Limits) (v : Val) (ms xs : List ℕ) → IsWell v → HasMet v ms → HasMet (cover b (members v ++ xs)) ms
+met_kept b v ms xs well met i lt = stays b v (members v ++ xs) (get_or ms i 0) well (λ y j. append_left y (members v) xs j) (met i lt)
+
+pub met_one : (n x : ℕ) → HasMet (Set (x ∷ [])) (replicate n x)
+met_one n x i lt = inl (get_or-replicate n i x 0 (omega (arith, length-replicate n x)))
 
 -- the results of many words with many
 pairs-push : (op : Op) (x : ℕ) (xs ys : List ℕ) → pairs op (xs ++ x ∷ []) ys ≡ pairs op xs ys ++ map (alu_of op x) ys

@@ -1,6 +1,6 @@
 -- Operations on values. Where both operands are Sets the result covers all results; else it covers the set that the
 -- row of the operation gives, by the bounds and the steps of its operands.
-use Rattle.std.specs.Prelude.{◌+◌, ◌-◌, ◌*◌, ◌/◌, ◌%◌, ◌^◌, ℕ, Bool, true, false, ◌||◌, nat_lt, nat_le, if◌then◌else◌, min, max, List, [], ◌∷◌, ◌++◌, map}
+use Rattle.std.specs.Prelude.{◌+◌, ◌-◌, ◌*◌, ◌/◌, ◌%◌, ◌^◌, ℕ, Bool, true, false, ◌||◌, nat_lt, nat_le, ◌<◌, if◌then◌else◌, min, max, List, [], ◌∷◌, ◌++◌, map, length, slice_index}
 use Rattle.tc_isa.specs.declared.shapes.Op.{Op}
 use Rattle.tc_isa.specs.declared.shapes.Op.TheVariants.{Second, Add, Sub, And, Nand, Or, Nor, Xor, Xnor, Andn, Orn, Eq, Ne, Lt, LtU, Ge, GeU, Sh, Sha}
 use Rattle.tc_isa.specs.Arithmetic.{alu_of}
@@ -9,7 +9,7 @@ use Rattle.value_domain.specs.declared.values.Val.TheVariants.{Set, Span}
 use Rattle.value_domain.specs.declared.lattice.Extent.{Extent}
 use Rattle.value_domain.specs.Sets.{least, greatest, step_of}
 use Rattle.value_domain.specs.Limits.{Limits}
-use Rattle.value_domain.specs.Values.{cover, members, range}
+use Rattle.value_domain.specs.Values.{IsMember, cover, members, range}
 use Rattle.vd_transfer.specs.declared.runs.Run.{Run}
 
 -- a value's least and greatest member, and its step
@@ -148,3 +148,7 @@ results op (Span lo last s) w = row op (Span lo last s) w
 -- the value of an operation: the least one that holds its results
 abbrev pub value_of : Limits → Op → Val → Val → Val
 value_of b op v w = cover b (results op v w)
+
+-- the words of a list are members of a value
+abbrev pub HasMet : Val → List ℕ → Type 0
+HasMet v ms = (k : ℕ) → k < length ms → IsMember (slice_index ms k) v

@@ -1,13 +1,13 @@
 // The value of an operation on two values.
-ghost use Rattle.std.specs.Prelude.{◌≡◌, ◌≢◌, ◌≤◌, length, ◌++◌, map};
+ghost use Rattle.std.specs.Prelude.{◌≡◌, ◌≢◌, ◌≤◌, ◌<◌, length, ◌++◌, ◌∷◌, map};
 ghost use Rattle.value_domain.specs.Values.{IsValue, cover, members};
 ghost use Rattle.tc_isa.specs.Arithmetic.{alu_of};
 ghost use Rattle.tc_isa.specs.declared.shapes.Op.TheVariants.{Second};
-ghost use Rattle.vd_transfer.specs.Operations.{results, row, pairs};
+ghost use Rattle.vd_transfer.specs.Operations.{results, row, pairs, HasMet};
 
 use crate::runs::{gives_truth, run_of};
 use tc_isa::{Op, alu};
-use value_domain::{Bounds, Val, add_words, cover, cover_words, extent_of};
+use value_domain::{Bounds, Val, add_word, add_words, cover, cover_words, extent_of};
 
 /// The value of an operation.
 pub fn operation(b: &Bounds, op: Op, v: &Val, w: &Val) -> Val
@@ -34,24 +34,68 @@ fn all_pairs(b: &Bounds, op: Op, xs: &[u32], ys: &[u32]) -> Val
     ensures value { IsValue b.now result }
 {
     let _width = b.width();
-    let mut row = [0u32; 128];
-    let mut out = Val::one(alu(op, xs[0], ys[0]));
+    let first = alu(op, xs[0], ys[0]);
+    let mut met = [first; 256];
+    let mut out = Val::one(first);
     for x in xs {
-        add_row(b, &mut out, op, *x, ys, &mut row);
+        add_row(b, &mut out, &mut met, op, *x, ys);
     }
     out
 }
 
-/// Adds the results of a word and each of the others to a value; they are made in `row`.
-fn add_row(b: &Bounds, v: &mut Val, op: Op, x: u32, ys: &[u32], row: &mut [u32; 128])
+/// Adds the results of a word and each of the others to a value: one by one while it is a Set, else at once. Of the
+/// words that the value has, `met` holds those that were met lately.
+fn add_row(b: &Bounds, v: &mut Val, met: &mut [u32; 256], op: Op, x: u32, ys: &[u32])
     requires value { IsValue b.now v.old }
+    requires met { HasMet v.old met.old }
     requires few { length ys.now ≤ 128 }
     ensures cover { v.new ≡ cover b.now (members v.old ++ map (alu_of op x) ys.now) }
     ensures value { IsValue b.now v.new }
+    ensures met { HasMet v.new met.new }
 {
+    if v.words().is_some() {
+        add_each(b, v, met, op, x, ys);
+        return;
+    }
+    let mut row = [0u32; 128];
     let part = &mut row[..ys.len()];
     fill(op, x, ys, part);
     add_words(b, v, part);
+}
+
+fn add_each(b: &Bounds, v: &mut Val, met: &mut [u32; 256], op: Op, x: u32, ys: &[u32])
+    requires value { IsValue b.now v.old }
+    requires met { HasMet v.old met.old }
+    ensures cover { v.new ≡ cover b.now (members v.old ++ map (alu_of op x) ys.now) }
+    ensures value { IsValue b.now v.new }
+    ensures met { HasMet v.new met.new }
+{
+    for y in ys {
+        add_result(b, v, met, alu(op, x, *y));
+    }
+}
+
+/// Adds a word, unless it was met lately.
+fn add_result(b: &Bounds, v: &mut Val, met: &mut [u32; 256], z: u32)
+    requires value { IsValue b.now v.old }
+    requires met { HasMet v.old met.old }
+    ensures cover { v.new ≡ cover b.now (z ∷ members v.old) }
+    ensures value { IsValue b.now v.new }
+    ensures met { HasMet v.new met.new }
+{
+    let k = slot_of(z);
+    if met[k] == z {
+        return;
+    }
+    add_word(b, v, z);
+    met[k] = z;
+}
+
+/// Where a word that was met is kept: the highest bits of its product with 2^32 by the golden ratio.
+fn slot_of(z: u32) -> usize
+    ensures { result < 256 }
+{
+    (z.wrapping_mul(0x9E37_79B1) >> 24) as usize
 }
 
 /// The results of a word and each of the others, in turn.

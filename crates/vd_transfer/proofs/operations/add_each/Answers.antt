@@ -1,0 +1,11 @@
+use Rattle.std.proofs.Common.{◌∙◌}
+use Rattle.vd_transfer.proofs.OpLaws.{results_more}
+use Rattle.vd_transfer.proofs.operations.add_each.Goals as goal
+
+pub loop-y-preserved : goal.loop-y-preserved
+loop-y-preserved c = record {
+  cover = c.add_result.ensures.cover
+      ∙ rw c.alu.ensures (results_more c.args.b.now c.args.v.now c.loop-y.v c.args.op c.args.x c.loop-y.y-index c.args.ys.now c.requires.value.well c.loop-y-test.true c.loop-y.invariant.cover);
+  value = c.add_result.ensures.value;
+  met = c.add_result.ensures.met;
+}
