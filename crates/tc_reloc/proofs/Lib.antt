@@ -1,2 +1,3 @@
 pub mod EachKind
 pub mod FieldLaws
+pub mod FilledRows

@@ -3,3 +3,4 @@ pub mod Refusals
 pub mod Fields
 pub mod Applied
 pub mod Held
+pub mod Forms

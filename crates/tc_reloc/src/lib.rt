@@ -3,9 +3,11 @@
 
 mod applying;
 mod fields;
+mod laws;
 mod refusals;
 #[cfg(test)]
 mod tests;
 
 pub use applying::apply;
+pub use laws::filling_laws;
 pub use refusals::RelocErr;

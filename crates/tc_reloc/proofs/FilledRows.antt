@@ -1,0 +1,251 @@
+-- The words of instructions with the field of a relocation filled.
+use Rattle.std.proofs.Common.{◌≡◌, ◌<◌, ◌+◌, ◌/◌, ◌%◌, ◌^◌, ◌&&◌, ◌||◌, ◌==◌, ◌⊎◌, inl, inr, ℕ, zero, suc, Bool, true, false, List, [], ◌∷◌, Some, refl, sym, ap, subst, ◌∙◌, arith}
+use Rattle.std.specs.Prelude.{slice_get, not}
+use Rattle.std.specs.List.{list_all}
+use Rattle.std.proofs.lemmas.Bool.{and_parts}
+use Rattle.std.proofs.lemmas.Bool.Decides.{Decides-eqb}
+use Rattle.tcd_base.specs.Bytes.{word_at, bytes_of_word}
+use Rattle.tc_isa.specs.declared.fields.Fields.{Fields}
+use Rattle.tc_isa.specs.declared.table.Form.{Form}
+use Rattle.tc_isa.specs.declared.table.Form.TheVariants.{Rlc, Rr, Rc, Bol, Bo, Brr, Brc, B, Abs, Sys, Sr, Sc, Sb, Sbr, Src, Srr, Slr, Ssr}
+use Rattle.tc_isa.specs.Rows.{RowData, listed}
+use Rattle.tc_isa.specs.Words.{IsBelow, bounds, second_bound, word}
+use Rattle.tc_isa.specs.declared.fields.Uses.{Uses}
+use Rattle.tc_isa.specs.Codec.{uses_of, rest_is_zero, Fits, IsRow, is_long, four_bytes, spelled, spelling, word_of}
+use Rattle.tc_isa.proofs.TableFacts.{row_at}
+use Rattle.tc_reloc.specs.Fields.{room_of, spread_of, rest_of}
+use Rattle.tc_reloc.specs.Applied.{with_field}
+use Rattle.tc_reloc.specs.Forms.{fills, FitsLaw, WrittenLaw}
+use Rattle.tc_reloc.specs.Forms.{fills}
+
+-- ---- words
+or_cases : (a b : Bool) → (a || b) ≡ true → (a ≡ true) ⊎ (b ≡ true)
+or_cases true b e = inl refl
+or_cases false b e = inr e
+
+jump_word : (kind op1 op2 n : ℕ) (f : Fields) → op1 < 2 ^ 8 → (kind ≡ 1) ⊎ (kind ≡ 2) → rest_of kind (word B op1 op2 f) + spread_of kind n ≡ word B op1 op2 (record f { k = n })
+unfolding rest_of spread_of word
+jump_word kind op1 op2 n f less (inl e) = let P : ℕ → Type 0 = λ k. rest_of k (word B op1 op2 f) + spread_of k n ≡ word B op1 op2 (record f { k = n }) in subst P (sym e) (omega arith)
+jump_word kind op1 op2 n f less (inr e) = let P : ℕ → Type 0 = λ k. rest_of k (word B op1 op2 f) + spread_of k n ≡ word B op1 op2 (record f { k = n }) in subst P (sym e) (omega arith)
+
+filled_word : (form : Form) (kind op1 op2 n : ℕ) (f : Fields) → fills form kind ≡ true → op1 < 2 ^ 8 → op2 < second_bound form → IsBelow f (bounds form) →
+    rest_of kind (word form op1 op2 f) + spread_of kind n ≡ word form op1 op2 (record f { k = n })
+unfolding rest_of spread_of word bounds second_bound fills
+filled_word B kind op1 op2 n f e less small below = by (or_cases (kind == 1) (kind == 2) e)
+  where
+    by : (kind == 1 ≡ true) ⊎ (kind == 2 ≡ true) → rest_of kind (word B op1 op2 f) + spread_of kind n ≡ word B op1 op2 (record f { k = n })
+    by (inl h) = jump_word kind op1 op2 n f less (inl ((Decides-eqb kind 1).0 h))
+    by (inr h) = jump_word kind op1 op2 n f less (inr ((Decides-eqb kind 2).0 h))
+filled_word Brr kind op1 op2 n f e less small below =
+    let s1 = below.s1 in
+    let s2 = below.s2 in
+    let k = below.k in
+    let P : ℕ → Type 0 = λ i. rest_of i (word Brr op1 op2 f) + spread_of i n ≡ word Brr op1 op2 (record f { k = n }) in
+    subst P (sym ((Decides-eqb kind 3).0 e)) (omega arith)
+filled_word Brc kind op1 op2 n f e less small below =
+    let s1 = below.s1 in
+    let s2 = below.s2 in
+    let k = below.k in
+    let P : ℕ → Type 0 = λ i. rest_of i (word Brc op1 op2 f) + spread_of i n ≡ word Brc op1 op2 (record f { k = n }) in
+    subst P (sym ((Decides-eqb kind 3).0 e)) (omega arith)
+filled_word Rlc kind op1 op2 n f e less small below = by (or_cases (kind == 4) (kind == 5) e)
+  where
+    P : ℕ → Type 0
+    P i = rest_of i (word Rlc op1 op2 f) + spread_of i n ≡ word Rlc op1 op2 (record f { k = n })
+
+    by : (kind == 4 ≡ true) ⊎ (kind == 5 ≡ true) → P kind
+    by (inl h) = let s1 = below.s1 in let k = below.k in subst P (sym ((Decides-eqb kind 4).0 h)) (omega arith)
+    by (inr h) = let s1 = below.s1 in let k = below.k in subst P (sym ((Decides-eqb kind 5).0 h)) (omega arith)
+filled_word Bol kind op1 op2 n f e less small below =
+    let s1 = below.s1 in
+    let s2 = below.s2 in
+    let P : ℕ → Type 0 = λ i. rest_of i (word Bol op1 op2 f) + spread_of i n ≡ word Bol op1 op2 (record f { k = n }) in
+    subst P (sym ((Decides-eqb kind 6).0 e)) (omega arith)
+filled_word Rr kind op1 op2 n f e less small below = cc
+filled_word Rc kind op1 op2 n f e less small below = cc
+filled_word Bo kind op1 op2 n f e less small below = cc
+filled_word Abs kind op1 op2 n f e less small below = cc
+filled_word Sys kind op1 op2 n f e less small below = cc
+filled_word Sr kind op1 op2 n f e less small below = cc
+filled_word Sc kind op1 op2 n f e less small below = cc
+filled_word Sb kind op1 op2 n f e less small below = cc
+filled_word Sbr kind op1 op2 n f e less small below = cc
+filled_word Src kind op1 op2 n f e less small below = cc
+filled_word Srr kind op1 op2 n f e less small below = cc
+filled_word Slr kind op1 op2 n f e less small below = cc
+filled_word Ssr kind op1 op2 n f e less small below = cc
+
+-- four bytes are their word
+word_back : (w : ℕ) → word_at (four_bytes w) 0 ≡ w
+word_back w = omega arith
+
+word_bytes : (w : ℕ) → w < 2 ^ 32 → bytes_of_word w ≡ four_bytes w
+word_bytes w small =
+    let last : w / 16777216 % 256 ≡ w / 2 ^ 24 = omega arith in
+    ap (λ n. w % 256 ∷ w / 2 ^ 8 % 256 ∷ w / 2 ^ 16 % 256 ∷ n ∷ []) last
+
+-- a word with a number that the field holds is a word
+room_below : (form : Form) (kind op1 op2 n : ℕ) (f : Fields) → fills form kind ≡ true → op1 < 2 ^ 8 → op2 < second_bound form → IsBelow f (bounds form) → n < room_of kind → word form op1 op2 (record f { k = n }) < 2 ^ 32
+unfolding word bounds second_bound fills room_of
+room_below B kind op1 op2 n f e less small below room = by (or_cases (kind == 1) (kind == 2) e)
+  where
+    P : ℕ → Type 0
+    P i = n < room_of i → word B op1 op2 (record f { k = n }) < 2 ^ 32
+
+    by : (kind == 1 ≡ true) ⊎ (kind == 2 ≡ true) → word B op1 op2 (record f { k = n }) < 2 ^ 32
+    by (inl h) = subst P (sym ((Decides-eqb kind 1).0 h)) (λ r. omega arith) room
+    by (inr h) = subst P (sym ((Decides-eqb kind 2).0 h)) (λ r. omega arith) room
+room_below Brr kind op1 op2 n f e less small below room =
+    let s1 = below.s1 in
+    let s2 = below.s2 in
+    let P : ℕ → Type 0 = λ i. n < room_of i → word Brr op1 op2 (record f { k = n }) < 2 ^ 32 in
+    subst P (sym ((Decides-eqb kind 3).0 e)) (λ r. omega arith) room
+room_below Brc kind op1 op2 n f e less small below room =
+    let s1 = below.s1 in
+    let s2 = below.s2 in
+    let P : ℕ → Type 0 = λ i. n < room_of i → word Brc op1 op2 (record f { k = n }) < 2 ^ 32 in
+    subst P (sym ((Decides-eqb kind 3).0 e)) (λ r. omega arith) room
+room_below Rlc kind op1 op2 n f e less small below room = by (or_cases (kind == 4) (kind == 5) e)
+  where
+    P : ℕ → Type 0
+    P i = n < room_of i → word Rlc op1 op2 (record f { k = n }) < 2 ^ 32
+
+    by : (kind == 4 ≡ true) ⊎ (kind == 5 ≡ true) → word Rlc op1 op2 (record f { k = n }) < 2 ^ 32
+    by (inl h) = let s1 = below.s1 in let c = below.c in subst P (sym ((Decides-eqb kind 4).0 h)) (λ r. omega arith) room
+    by (inr h) = let s1 = below.s1 in let c = below.c in subst P (sym ((Decides-eqb kind 5).0 h)) (λ r. omega arith) room
+room_below Bol kind op1 op2 n f e less small below room =
+    let s1 = below.s1 in
+    let s2 = below.s2 in
+    let P : ℕ → Type 0 = λ i. n < room_of i → word Bol op1 op2 (record f { k = n }) < 2 ^ 32 in
+    subst P (sym ((Decides-eqb kind 6).0 e)) (λ r. omega arith) room
+room_below Rr kind op1 op2 n f e less small below room = cc
+room_below Rc kind op1 op2 n f e less small below room = cc
+room_below Bo kind op1 op2 n f e less small below room = cc
+room_below Abs kind op1 op2 n f e less small below room = cc
+room_below Sys kind op1 op2 n f e less small below room = cc
+room_below Sr kind op1 op2 n f e less small below room = cc
+room_below Sc kind op1 op2 n f e less small below room = cc
+room_below Sb kind op1 op2 n f e less small below room = cc
+room_below Sbr kind op1 op2 n f e less small below room = cc
+room_below Src kind op1 op2 n f e less small below room = cc
+room_below Srr kind op1 op2 n f e less small below room = cc
+room_below Slr kind op1 op2 n f e less small below room = cc
+room_below Ssr kind op1 op2 n f e less small below room = cc
+
+-- ---- rows
+filled_bytes : (kind w v n : ℕ) → rest_of kind w + spread_of kind n ≡ v → v < 2 ^ 32 → with_field kind (four_bytes w) n ≡ four_bytes v
+filled_bytes kind w v n same small =
+    ap (λ x. bytes_of_word (rest_of kind x + spread_of kind n)) (word_back w)
+    ∙ ap bytes_of_word same
+    ∙ word_bytes v small
+
+pub filled_row : (row : RowData) (f : Fields) (kind n : ℕ) → IsRow row → Fits row f → is_long row ≡ true → fills row.form kind ≡ true → n < room_of kind → with_field kind (spelling row f) n ≡ spelling row (record f { k = n })
+filled_row row f kind n is fit long suited room =
+    let first = is.first in
+    let less : row.op1 < 2 ^ 8 = omega arith in
+    ap (λ b. with_field kind (spelled b (word_of row f)) n) long
+    ∙ filled_bytes kind (word_of row f) (word_of row (record f { k = n })) n (filled_word row.form kind row.op1 row.op2 n f suited less is.second fit.below)
+    (room_below row.form kind row.op1 row.op2 n f suited less is.second fit.below room)
+    ∙ ap (λ b. spelled b (word_of row (record f { k = n }))) (sym long)
+
+-- every row of these forms has a constant
+abbrev takes_field : Form → Bool
+takes_field form = fills form 1 || fills form 3 || fills form 4 || fills form 6
+
+abbrev has_constant : RowData → Bool
+has_constant r = not (takes_field r.form) || (uses_of r).k
+
+all_have : list_all has_constant listed ≡ true
+unfolding fills
+all_have = refl
+
+field_taken : (form : Form) (kind : ℕ) → fills form kind ≡ true → takes_field form ≡ true
+unfolding fills
+field_taken B kind e = refl
+field_taken Brr kind e = refl
+field_taken Brc kind e = refl
+field_taken Rlc kind e = refl
+field_taken Bol kind e = refl
+field_taken Rr kind e = cc
+field_taken Rc kind e = cc
+field_taken Bo kind e = cc
+field_taken Abs kind e = cc
+field_taken Sys kind e = cc
+field_taken Sr kind e = cc
+field_taken Sc kind e = cc
+field_taken Sb kind e = cc
+field_taken Sbr kind e = cc
+field_taken Src kind e = cc
+field_taken Srr kind e = cc
+field_taken Slr kind e = cc
+field_taken Ssr kind e = cc
+
+passes_at : {A : Type 0} (p : A → Bool) (xs : List A) (k : ℕ) (x : A) → list_all p xs ≡ true → slice_get xs k ≡ Some x → p x ≡ true
+passes_at p [] k x all e = cc
+passes_at {A} p (y ∷ ys) zero x all e = let same : y ≡ x = cc in ap p (sym same) ∙ (and_parts (p y) (list_all p ys) all).0
+passes_at p (y ∷ ys) (suc k) x all e = passes_at p ys k x (and_parts (p y) (list_all p ys) all).1 e
+
+constant_used : (place : ℕ) (row : RowData) (kind : ℕ) → slice_get listed place ≡ Some row → fills row.form kind ≡ true → (uses_of row).k ≡ true
+constant_used place row kind at e = by (takes_field row.form) (uses_of row).k (field_taken row.form kind e) (passes_at has_constant listed place row all_have at)
+  where
+    by : (a b : Bool) → a ≡ true → (not a || b) ≡ true → b ≡ true
+    by true b h g = g
+    by false b h g = cc
+
+-- and as wide a field as the relocation fills
+constant_fits : (form : Form) (kind n : ℕ) → fills form kind ≡ true → n < room_of kind → n < (bounds form).k
+unfolding fills room_of bounds
+constant_fits B kind n e room = by (or_cases (kind == 1) (kind == 2) e)
+  where
+    P : ℕ → Type 0
+    P i = n < room_of i → n < (bounds B).k
+
+    by : (kind == 1 ≡ true) ⊎ (kind == 2 ≡ true) → n < (bounds B).k
+    by (inl h) = subst P (sym ((Decides-eqb kind 1).0 h)) (λ r. r) room
+    by (inr h) = subst P (sym ((Decides-eqb kind 2).0 h)) (λ r. r) room
+constant_fits Brr kind n e room = let P : ℕ → Type 0 = λ i. n < room_of i → n < (bounds Brr).k in subst P (sym ((Decides-eqb kind 3).0 e)) (λ r. omega arith) room
+constant_fits Brc kind n e room = let P : ℕ → Type 0 = λ i. n < room_of i → n < (bounds Brc).k in subst P (sym ((Decides-eqb kind 3).0 e)) (λ r. omega arith) room
+constant_fits Rlc kind n e room = by (or_cases (kind == 4) (kind == 5) e)
+  where
+    P : ℕ → Type 0
+    P i = n < room_of i → n < (bounds Rlc).k
+
+    by : (kind == 4 ≡ true) ⊎ (kind == 5 ≡ true) → n < (bounds Rlc).k
+    by (inl h) = subst P (sym ((Decides-eqb kind 4).0 h)) (λ r. omega arith) room
+    by (inr h) = subst P (sym ((Decides-eqb kind 5).0 h)) (λ r. omega arith) room
+constant_fits Bol kind n e room = let P : ℕ → Type 0 = λ i. n < room_of i → n < (bounds Bol).k in subst P (sym ((Decides-eqb kind 6).0 e)) (λ r. omega arith) room
+constant_fits Rr kind n e room = cc
+constant_fits Rc kind n e room = cc
+constant_fits Bo kind n e room = cc
+constant_fits Abs kind n e room = cc
+constant_fits Sys kind n e room = cc
+constant_fits Sr kind n e room = cc
+constant_fits Sc kind n e room = cc
+constant_fits Sb kind n e room = cc
+constant_fits Sbr kind n e room = cc
+constant_fits Src kind n e room = cc
+constant_fits Srr kind n e room = cc
+constant_fits Slr kind n e room = cc
+constant_fits Ssr kind n e room = cc
+
+-- a constant that the row has may be any number
+zero_with : (u : Uses) (f : Fields) (n : ℕ) → u.k ≡ true → rest_is_zero u f ≡ true → rest_is_zero u (record f { k = n }) ≡ true
+zero_with u f n h z = by u.k (f.k == 0) (n == 0) (u.c || f.c == 0) (u.s1 || f.s1 == 0) (u.s2 || f.s2 == 0) (u.n || f.n == 0) h z
+  where
+    by : (t a b p q r s : Bool) → t ≡ true → (p && q && r && s && (t || a)) ≡ true → (p && q && r && s && (t || b)) ≡ true
+    by true a b p q r s h z = z
+    by false a b p q r s h z = cc
+
+pub filled_fits : (place : ℕ) (row : RowData) (f : Fields) (kind n : ℕ) → slice_get listed place ≡ Some row → Fits row f → fills row.form kind ≡ true → n < room_of kind → Fits row (record f { k = n })
+filled_fits place row f kind n at fit suited room = record {
+  below = record { c = fit.below.c; s1 = fit.below.s1; s2 = fit.below.s2; n = fit.below.n; k = constant_fits row.form kind n suited room };
+  zero = zero_with (uses_of row) f n (constant_used place row kind at suited) fit.zero;
+  apart = fit.apart;
+}
+
+-- ---- the laws
+pub fits_law : FitsLaw
+fits_law place row f kind n at fit suited room = filled_fits place row f kind n at fit suited room
+
+pub written_law : WrittenLaw
+written_law place row f kind n at fit long suited room = filled_row row f kind n (row_at place row at) fit long suited room

@@ -1,0 +1,37 @@
+-- The kinds of relocations, and the instructions whose constant they fill.
+use Rattle.std.specs.Prelude.{◌≡◌, ◌<◌, ◌==◌, ◌&&◌, ◌||◌, nat_le, ℕ, Bool, true, false, slice_get, Some}
+use Rattle.tc_isa.specs.declared.fields.Fields.{Fields}
+use Rattle.tc_isa.specs.declared.table.Form.{Form}
+use Rattle.tc_isa.specs.declared.table.Form.TheVariants.{Rlc, Bol, Brr, Brc, B}
+use Rattle.tc_isa.specs.Rows.{RowData, listed}
+use Rattle.tc_isa.specs.Codec.{Fits, is_long, spelling}
+use Rattle.tc_reloc.specs.Fields.{room_of}
+use Rattle.tc_reloc.specs.Applied.{with_field}
+
+-- the kinds of relocations, from 1 to 7
+abbrev pub is_reloc : ℕ → Bool
+is_reloc kind = nat_le 1 kind && nat_le kind 7
+
+-- a relocation of this kind fills the constant of an instruction of this form (TriCore 1 architecture manual, volume 2,
+-- instruction formats)
+unfoldable pub fills : Form → ℕ → Bool
+fills B kind = kind == 1 || kind == 2
+fills Brr kind = kind == 3
+fills Brc kind = kind == 3
+fills Rlc kind = kind == 4 || kind == 5
+fills Bol kind = kind == 6
+fills form kind = false
+
+-- the instruction of a listed row with another constant
+abbrev pub with_constant : Fields → ℕ → Fields
+with_constant f n = record f { k = n }
+
+-- a number that the field of a relocation can hold, written there, is the constant of the instruction, and nothing else of
+-- it changes
+abbrev pub WrittenLaw : Type 0
+WrittenLaw = (place : ℕ) (row : RowData) (f : Fields) (kind n : ℕ) → slice_get listed place ≡ Some row → Fits row f → is_long row ≡ true → fills row.form kind ≡ true → n < room_of kind
+    → with_field kind (spelling row f) n ≡ spelling row (with_constant f n)
+
+-- and fits the instruction
+abbrev pub FitsLaw : Type 0
+FitsLaw = (place : ℕ) (row : RowData) (f : Fields) (kind n : ℕ) → slice_get listed place ≡ Some row → Fits row f → fills row.form kind ≡ true → n < room_of kind → Fits row (with_constant f n)
