@@ -14,11 +14,11 @@ fn main(rt: HostRuntime) -> ExitCode {
             let mut files = RealFiles { rt: &rt, failed: 0 };
             let mut out = Stdout { rt: &rt, failed: 0 };
             let status = tool(rt.alloc(), &words, &mut files, &mut out);
-            ExitCode::from(code(status))
+            ExitCode::from(u8::from(status))
         }
         Err(e) => match e.kind() {
-            io::ErrorKind::OutOfMemory => ExitCode::from(code(Status::NoMemory)),
-            _ => ExitCode::from(code(Status::Fault)),
+            io::ErrorKind::OutOfMemory => ExitCode::from(u8::from(Status::NoMemory)),
+            _ => ExitCode::from(u8::from(Status::Fault)),
         },
     }
 }
@@ -32,15 +32,4 @@ fn words<R: env::Env + AllocGlobal>(rt: &R) -> io::Result<Vec<String>> {
         }
     }
     Ok(words)
-}
-
-fn code(status: Status) -> u8 {
-    match status {
-        Status::Done => 0,
-        Status::Refused => 1,
-        Status::BadInput => 2,
-        Status::Fault => 3,
-        Status::NoMemory => 4,
-        Status::BadWords => 5,
-    }
 }

@@ -6,12 +6,14 @@ use std::io::{Read, Write};
 use std::{fs, io, rt};
 use tcd_base::{FileErr, Files, Sink, SinkErr};
 
+/// The files of the system.
 #[derive(Drop)]
 pub struct RealFiles<'a, R> {
     pub rt: &'a R,
     pub failed: u64,
 }
 
+/// Standard output.
 #[derive(Drop)]
 pub struct Stdout<'a, R> {
     pub rt: &'a R,
@@ -21,11 +23,7 @@ pub struct Stdout<'a, R> {
 impl<'a, R: rt::Files> Files for RealFiles<'a, R> {
     ghost use Rattle.std.specs.Prelude.{None, false};
 
-    ghost held = { λ f. None };
-
-    ghost faults = { λ f. f.failed };
-
-    ghost steady = { λ f. false };
+    ghost seen = { λ f. record { held = None; steady = false; faults = f.failed } };
 
     ghost tells = { λ f h. Prim.cc };
 
@@ -71,11 +69,7 @@ impl<'a, R: rt::Files> Files for RealFiles<'a, R> {
 impl<'a, R: Print> Sink for Stdout<'a, R> {
     ghost use Rattle.std.specs.Prelude.{None};
 
-    ghost written = { λ s. None };
-
-    ghost faults = { λ s. s.failed };
-
-    ghost room = { λ s. None };
+    ghost seen = { λ s. record { written = None; room = None; faults = s.failed } };
 
     fn write(&mut self, bytes: &[u8]) -> Result<(), SinkErr> {
         let mut out = io::writer(self.rt);
@@ -107,20 +101,37 @@ mod tests {
 
     #[test]
     fn a_written_file_is_read_back(rt: HostRuntime) -> Result<(), Fail> {
+        let name = "tcd_adapter_test";
         let mut files = RealFiles { rt: &rt, failed: 0 };
-        files.write(rt.alloc(), "tcd_adapter_test", b"areas")?;
-        let bytes = files.read(rt.alloc(), "tcd_adapter_test", 5)?;
-        assert_eq!(rt; bytes.as_slice(), b"areas".as_slice());
-        assert_eq!(rt;
-            files.read(rt.alloc(), "tcd_adapter_test", 4).err(),
-            Some(FileErr::TooLong)
-        );
+        files.write(rt.alloc(), name, b"areas")?;
+        let whole = files.read(rt.alloc(), name, 5);
+        let cut = files.read(rt.alloc(), name, 4);
+        fs::remove_file(&rt, name)?;
+        assert_eq!(rt; whole?.as_slice(), b"areas".as_slice());
+        assert_eq!(rt; cut.err(), Some(FileErr::TooLong));
         assert_eq!(rt; files.failed, 0);
         assert_eq!(rt;
-            files.read(rt.alloc(), "tcd_missing_test", 5).err(),
+            files.read(rt.alloc(), name, 5).err(),
             Some(FileErr::Failed)
         );
         assert_eq!(rt; files.failed, 1);
+        Ok(())
+    }
+
+    // A device that is full, and a folder that isn't there.
+    #[test]
+    fn a_write_that_fails_is_a_fault(rt: HostRuntime) -> Result<(), Fail> {
+        let mut files = RealFiles { rt: &rt, failed: 0 };
+        assert_eq!(rt;
+            files.write(rt.alloc(), "/dev/full", b"areas"),
+            Err(FileErr::Failed)
+        );
+        assert_eq!(rt; files.failed, 1);
+        assert_eq!(rt;
+            files.write(rt.alloc(), "tcd_missing_folder/areas", b"areas"),
+            Err(FileErr::Failed)
+        );
+        assert_eq!(rt; files.failed, 2);
         Ok(())
     }
 

@@ -1,15 +1,14 @@
 -- Files written one after another.
-use Rattle.std.proofs.Common.{◌≡◌, ◌<◌, ◌≤◌, ◌+◌, ℕ, zero, suc, Bool, List, [], ◌∷◌, ◌++◌, length, get_or, take, drop, Option, refl, sym, ap, subst, ◌∙◌, arith}
+use Rattle.std.proofs.Common.{◌≡◌, ◌<◌, ◌≤◌, ◌+◌, ℕ, zero, suc, List, [], ◌∷◌, ◌++◌, length, get_or, take, drop, Option, refl, sym, ap, subst, ◌∙◌, arith}
 use Rattle.std.specs.Prelude.{IsTrue}
-use Rattle.tcd_base.specs.Files.{Map, Rose, OthersStay, with_file}
-use Rattle.tcd_driver.specs.Writing.{Written, with_written, Stopped}
+use Rattle.tcd_base.specs.Files.{Map, FilesSeen, FaultCounted, LeavesFaults, OthersStay, with_file}
+use Rattle.tcd_driver.specs.Reports.{Written, with_written, Stopped}
 
 -- so many were written
-pub record HasWritten (writes : List Written) (i : ℕ) (steady steady' : Bool) (held held' : Option Map) (files files' : ℕ) : Type 0 where
-  pub held_is : held' ≡ with_written held (take i writes)
-  pub steady_stays : steady' ≡ steady
-  pub later : files ≤ files'
-  pub sure : IsTrue steady → files' ≡ files
+pub record HasWritten (writes : List Written) (i : ℕ) (old new : FilesSeen) : Type 0 where
+  pub held : new.held ≡ with_written old.held (take i writes)
+  pub leaves : LeavesFaults old new
+  pub later : old.faults ≤ new.faults
 
 with_more : (held : Option Map) (ws : List Written) (i : ℕ) (w : Written) → i < length ws → with_written held (take (suc i) ws) ≡ with_file (with_written held (take i ws)) (get_or ws i w).name (get_or ws i w).bytes
 with_more held [] i w lt = absurd (omega arith)
@@ -17,16 +16,15 @@ with_more held (x ∷ xs) zero w lt = refl
 with_more held (x ∷ xs) (suc i) w lt = with_more (with_file held x.name x.bytes) xs i w (omega arith)
 
 -- one more
-pub wrote_more : (writes : List Written) (i : ℕ) (w : Written) (steady steady' steady'' : Bool) (held held' held'' : Option Map) (a b c : ℕ) → i < length writes → HasWritten writes i steady steady' held held' a b →
-    held'' ≡ with_file held' (get_or writes i w).name (get_or writes i w).bytes → steady'' ≡ steady' → b ≤ c → (IsTrue steady' → c ≡ b) → HasWritten writes (i + 1) steady steady'' held held'' a c
-wrote_more writes i w steady steady' steady'' held held' held'' a b c lt h set stays later sure =
+pub wrote_more : (writes : List Written) (i : ℕ) (w : Written) (old mid new : FilesSeen) → i < length writes → HasWritten writes i old mid → new.held ≡ with_file mid.held (get_or writes i w).name (get_or writes i w).bytes →
+    LeavesFaults mid new → mid.faults ≤ new.faults → HasWritten writes (i + 1) old new
+wrote_more writes i w old mid new lt h set leaves later =
     let e : suc i ≡ i + 1 = omega arith in
-    let P : ℕ → Type 0 = λ n. HasWritten writes n steady steady'' held held'' a c in
+    let P : ℕ → Type 0 = λ n. HasWritten writes n old new in
     subst P e (record {
-      held_is = set ∙ ap (λ (m : Option Map). with_file m (get_or writes i w).name (get_or writes i w).bytes) h.held_is ∙ sym (with_more held writes i w lt);
-      steady_stays = stays ∙ h.steady_stays;
+      held = set ∙ ap (λ (m : Option Map). with_file m (get_or writes i w).name (get_or writes i w).bytes) h.held ∙ sym (with_more old.held writes i w lt);
+      leaves = record { steady = leaves.steady ∙ h.leaves.steady; sure = λ s. leaves.sure (subst IsTrue (sym h.leaves.steady) s) ∙ h.leaves.sure s };
       later = let x = h.later in omega arith;
-      sure = λ s. sure (subst IsTrue (sym h.steady_stays) s) ∙ h.sure s;
     })
 
 parted : (ws : List Written) (i : ℕ) (w : Written) → i < length ws → ws ≡ take i ws ++ get_or ws i w ∷ drop (suc i) ws
@@ -35,14 +33,13 @@ parted (x ∷ xs) zero w lt = refl
 parted (x ∷ xs) (suc i) w lt = ap (λ (l : List Written). x ∷ l) (parted xs i w (omega arith))
 
 -- the next one failed
-pub stopped_at : (writes : List Written) (i : ℕ) (w : Written) (steady steady' : Bool) (held held' held'' : Option Map) (a b : ℕ) → i < length writes → HasWritten writes i steady steady' held held' a b →
-    OthersStay (get_or writes i w).name held' held'' → Stopped held held'' writes
-stopped_at writes i w steady steady' held held' held'' a b lt h others = record {
+pub stopped_at : (writes : List Written) (i : ℕ) (w : Written) (old mid : FilesSeen) (held : Option Map) → i < length writes → HasWritten writes i old mid → OthersStay (get_or writes i w).name mid.held held → Stopped old.held held writes
+stopped_at writes i w old mid held lt h others = record {
   front = take i writes;
   at = get_or writes i w;
   rest = drop (suc i) writes;
   are = parted writes i w lt;
-  others = let P : Option Map → Type 0 = λ m. OthersStay (get_or writes i w).name m held'' in subst P h.held_is others;
+  others = let P : Option Map → Type 0 = λ m. OthersStay (get_or writes i w).name m held in subst P h.held others;
 }
 
 -- an item of the list, by the name and the bytes that are passed

@@ -1,30 +1,15 @@
--- The commands, and the files that they read.
-use Rattle.std.specs.Prelude.{◌&&◌, nat_le, ℕ, Bool, List, [], ◌∷◌, length, codes, Option, Some, None, if◌then◌else◌}
+-- The commands: what words ask for, and what each command reads and reports.
+use Rattle.std.specs.Prelude.{◌≤◌, ◌&&◌, nat_le, ℕ, Bool, List, [], ◌∷◌, length, map, string_bytes, codes, Option, Some, None, if◌then◌else◌}
 use Rattle.std.specs.Option.{option_or}
 use Rattle.std.specs.Str.{bytes_eq}
-
--- the names of the files that `check` reads
-pub record CheckNames : Type 0 where
-  pub elf : List ℕ
-  pub plan : List ℕ
-  pub cert : List ℕ
-
--- the names of the files that `run` reads
-pub record RunNames : Type 0 where
-  pub elf : List ℕ
-  pub plan : List ℕ
-  pub script : List ℕ
-
--- the names of the file that `asm` reads and of the one that it writes
-pub record AsmNames : Type 0 where
-  pub source : List ℕ
-  pub object : List ℕ
-
--- the names of the layout and the objects that `link` reads, and of the image that it writes
-pub record LinkNames : Type 0 where
-  pub layout : List ℕ
-  pub image : List ℕ
-  pub objects : List (List ℕ)
+use Rattle.tcd_driver.specs.Inputs.{Reading}
+use Rattle.tcd_driver.specs.Check.{CheckNames, check_reading}
+use Rattle.tcd_driver.specs.Run.{RunNames, run_reading}
+use Rattle.tcd_driver.specs.Dis.{dis_reading}
+use Rattle.tcd_driver.specs.Asm.{AsmNames, asm_reading}
+use Rattle.tcd_driver.specs.Link.{LinkNames, link_reading}
+use Rattle.tcd_driver.specs.declared.command.Command.{Command as Words}
+use Rattle.tcd_driver.specs.declared.command.Command.TheVariants as words
 
 -- a command with its files: `dis` reads an executable
 pub data Command : Type 0 where
@@ -57,10 +42,27 @@ fixed_form words = None
 abbrev pub command : List (List ℕ) → Option Command
 command words = option_or (link_form words) (fixed_form words)
 
--- the names of a command's inputs, in the order in which they are read
-abbrev pub inputs_of : Command → List (List ℕ)
-inputs_of (check names) = names.elf ∷ names.plan ∷ names.cert ∷ []
-inputs_of (run names) = names.elf ∷ names.plan ∷ names.script ∷ []
-inputs_of (dis elf) = elf ∷ []
-inputs_of (asm names) = names.source ∷ []
-inputs_of (link names) = names.layout ∷ names.objects
+-- what a command reads, in the order of its words, and what it reports then
+abbrev pub reading_of : Command → Reading
+reading_of (check names) = check_reading names
+reading_of (run names) = run_reading names
+reading_of (dis elf) = dis_reading elf
+reading_of (asm names) = asm_reading names
+reading_of (link names) = link_reading names
+
+-- ---- the command as the program holds it
+-- the command that it is
+abbrev pub asked : Words → Command
+asked (words.Check elf plan cert) = check (record { elf = elf.now; plan = plan.now; cert = cert.now })
+asked (words.Run elf plan script) = run (record { elf = elf.now; plan = plan.now; script = script.now })
+asked (words.Dis elf) = dis elf.now
+asked (words.Asm source object) = asm (record { source = source.now; object = object.now })
+asked (words.Link layout image objects) = link (record { layout = layout.now; image = image.now; objects = map string_bytes objects.now })
+
+-- its objects are few enough to be counted
+abbrev pub HasFewObjects : Words → Type 0
+HasFewObjects (words.Check elf plan cert) = Unit {0}
+HasFewObjects (words.Run elf plan script) = Unit {0}
+HasFewObjects (words.Dis elf) = Unit {0}
+HasFewObjects (words.Asm source object) = Unit {0}
+HasFewObjects (words.Link layout image objects) = length objects.now ≤ 65535

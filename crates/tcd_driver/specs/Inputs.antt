@@ -1,153 +1,56 @@
--- What reading an input comes to.
-use Rattle.std.specs.Prelude.{◌≡◌, ◌≢◌, ◌≤◌, ◌-◌, ℕ, List, [], ◌∷◌, length, Bool, IsTrue, Option, Ok, Err}
-use Rattle.elf_image.specs.Images.{ImageData}
-use Rattle.elf_image.specs.Elf.{image_of}
-use Rattle.elf_image.specs.declared.errors.ImageErr.{ImageErr}
-use Rattle.tcd_plan.specs.PlanData.{PlanData}
-use Rattle.tcd_plan.specs.Plans.{Gives, Answers}
-use Rattle.tcd_plan.specs.declared.plans.PlanErr.{PlanErr}
-use Rattle.tcd_plan.specs.declared.plans.PlanErr.TheVariants as plan
-use Rattle.tc_machine.specs.Safe.{Safe}
-use Rattle.tcd_base.specs.declared.parts.FormErr.{FormErr}
-use Rattle.tcd_base.specs.Files.{Map, Rose, IsTooLong}
-use Rattle.depth_cert.specs.Certs.{CertData}
-use Rattle.depth_cert.specs.Grammar.{certificate_of}
-use Rattle.depth_cert.specs.declared.keys.Key.{Key}
-use Rattle.cfg_recover.specs.Accepting.{Accepts, IsFirstFault, certified_need}
-use Rattle.tc_machine.specs.declared.state.Machine.{Machine}
-use Rattle.tc_machine.specs.Starting.{StartsInZeros}
-use Rattle.tc_script.specs.ScriptData.{ScriptData}
-use Rattle.tc_script.specs.Reading.{script_of}
-use Rattle.tc_script.specs.declared.errors.ScriptErr.{ScriptErr}
-use Rattle.tc_object.specs.Objects.{ObjectData}
-use Rattle.tc_object.specs.Spelling.{bytes_of}
-use Rattle.tc_object.specs.Grammar.{object_of}
-use Rattle.elf_image.specs.Written.{file_of}
-use Rattle.tc_link.specs.Layouts.{LayoutData}
-use Rattle.tc_link.specs.Faults.{layout_of}
-use Rattle.tc_link.specs.declared.faults.LayoutErr.{LayoutErr}
-use Rattle.tcd_driver.specs.Linking.{LinkTold}
-use Rattle.tc_asm.specs.Lines.{lines_in}
-use Rattle.tc_asm.specs.Sources.{IsLeast}
-use Rattle.tcd_driver.specs.Writing.{Written}
-use Rattle.tcd_driver.specs.Commands.{Command}
-use Rattle.tcd_driver.specs.Lines.{elf_line, plan_line, cert_line, script_line, source_line, assembled_line, layout_line, object_line, linked_line, refused_line, certified_line}
-use Rattle.tc_disasm.specs.Listing.{listing_of}
-use Rattle.tcd_driver.specs.Running.{told_run}
-use Rattle.tcd_driver.specs.Tool.{Says, HoldsAll}
-use Rattle.tcd_driver.specs.declared.status.Status.{Status}
-use Rattle.tcd_driver.specs.declared.status.Status.TheVariants as status
-use Rattle.tcd_driver.specs.declared.ending.Outcome.{Outcome}
-use Rattle.tcd_driver.specs.declared.ending.Outcome.TheVariants as outcome
+-- Inputs, which are read one after another in the order of the words.
+use Rattle.std.specs.Prelude.{◌≡◌, ◌≤◌, ◌+◌, ◌⊎◌, ℕ, List, [], ◌∷◌, length, Option, IsTrue}
+use Rattle.tcd_base.specs.Files.{Map, FilesSeen, Reads, IsTooLong, Holds}
+use Rattle.tcd_driver.specs.Reports.{Report}
+use Rattle.tcd_driver.specs.declared.status.Status.TheVariants.{BadInput}
 
--- what calls that read the named files leave: what is held and whether it is steady, and the count of faults where it is
--- sure
-pub record KeepsFiles (names : List (List ℕ)) (steady steady' : Bool) (held held' : Option Map) (files files' : ℕ) : Type 0 where
-  pub held_stays : held' ≡ held
-  pub steady_stays : steady' ≡ steady
-  pub later : files ≤ files'
-  pub sure : IsTrue steady → HoldsAll held names → files' ≡ files
+-- ---- one input
+-- a form of input: the most bytes of a file, the line of a file above them, which bytes are which value, and which lines are
+-- printed of bytes that are none
+pub record FormSeen (A : Type 0) : Type 1 where
+  pub limit : ℕ
+  pub long_line : List ℕ
+  pub Is : List ℕ → A → Type 0
+  pub IsBad : List ℕ → List ℕ → Type 0
 
--- the count of faults rose, and the files aren't steady or don't hold one of the named files
-pub record HasFailed (names : List (List ℕ)) (steady : Bool) (held : Option Map) (files files' : ℕ) : Type 0 where
-  pub rose : Rose files files'
-  pub unsure : IsTrue steady → HoldsAll held names → ⊥
+-- the file of this name is this value
+abbrev pub HoldsInput : {A : Type 0} → FormSeen A → Option Map → List ℕ → A → Type 0
+HoldsInput form held name x = (bytes : List ℕ) × Reads held name bytes × (length bytes ≤ form.limit) × form.Is bytes x
 
--- an input that isn't there: one of these texts is printed; or it couldn't be read, where that may be; or memory ran out
-abbrev pub StopsWith : (List ℕ → Type 0) → Type 0 → Outcome → Type 0
-StopsWith IsText MayFail (outcome.Says s text writes) = (s ≡ status.BadInput) × IsText text.items × (writes.items ≡ [])
-StopsWith IsText MayFail outcome.Unread = MayFail
-StopsWith IsText MayFail outcome.NoMemory = Unit {0}
+-- the line of a file that is above its limit, or isn't in its form
+pub data IsRefusal {A : Type 0} (form : FormSeen A) (held : Option Map) (name text : List ℕ) : Type 0 where
+  long : IsTooLong held name form.limit → text ≡ form.long_line → IsRefusal form held name text
+  bad : (bytes : List ℕ) → Reads held name bytes → length bytes ≤ form.limit → form.IsBad bytes text → IsRefusal form held name text
 
--- ---- the texts on one input
-abbrev pub IsLong : Option Map → List ℕ → ℕ → List ℕ → List ℕ → Type 0
-IsLong held name limit line text = IsTooLong held name limit × (text ≡ line)
+-- a report of an input that isn't in its form: one of these lines with BadInput, and nothing to write
+pub record Refuses (IsLine : List ℕ → Type 0) (report : Report) : Type 0 where
+  pub status : report.status ≡ BadInput
+  pub line : IsLine report.text
+  pub nothing : report.writes ≡ []
 
--- bytes that are no image, and the line that says why
-abbrev pub IsBadImage : List ℕ → List ℕ → Type 0
-IsBadImage bytes text = (e : ImageErr) × (image_of bytes ≡ Err e) × (text ≡ elf_line e)
+-- ---- the inputs of a command
+-- what a command reads, each input in its form, and what it reports once all are read
+pub data Reading : Type 1 where
+  answer : (Report → Type 0) → Reading
+  input : (A : Type 0) → FormSeen A → List ℕ → (A → Reading) → Reading
 
--- bytes that are no plan, and the line that says why
-abbrev pub IsBadPlan : List ℕ → List ℕ → Type 0
-IsBadPlan bytes text = (e : PlanErr) × Answers bytes (Err e) × (e ≢ plan.NoMemory) × (text ≡ plan_line e)
+-- the files of these names, each in the form of its place in the list, and then what comes behind them
+abbrev pub each : (A : Type 0) → (ℕ → FormSeen A) → ℕ → List (List ℕ) → (List A → Reading) → Reading
+each A form place [] next = next []
+each A form place (name ∷ names) next = input A (form place) name (λ x. each A form (place + 1) names (λ xs. next (x ∷ xs)))
 
--- bytes that are no certificate, and the line that says why
-abbrev pub IsBadCert : List ℕ → List ℕ → Type 0
-IsBadCert bytes text = (e : FormErr) × (certificate_of bytes ≡ Err e) × (text ≡ cert_line e)
+-- what is said of the files: the first input that isn't in its form decides; then what is reported of them all
+abbrev pub Says : Reading → Option Map → Report → Type 0
+Says (answer IsReport) held report = IsReport report
+Says (input A form name next) held report =
+    Refuses (IsRefusal form held name) report ⊎ ((x : A) × HoldsInput form held name x × Says (next x) held report)
 
--- bytes that are no script for this plan, and the line that says why
-abbrev pub IsBadScript : PlanData → List ℕ → List ℕ → Type 0
-IsBadScript plan bytes text = (e : ScriptErr) × (script_of plan bytes ≡ Err e) × (text ≡ script_line e)
+-- the files hold each input that is asked for: the first, and the next one where all before it are in their forms
+abbrev pub HoldsAsked : Reading → Option Map → Type 0
+HoldsAsked (answer IsReport) held = Unit {0}
+HoldsAsked (input A form name next) held = Holds held name × ((x : A) → HoldsInput form held name x → HoldsAsked (next x) held)
 
--- bytes that are no source, and the line that says why
-abbrev pub IsBadSource : List ℕ → List ℕ → Type 0
-IsBadSource bytes text = (line : ℕ) × (rule : ℕ) × IsLeast (lines_in bytes) line rule × (text ≡ source_line 0 rule line)
-
--- bytes that are no layout, and the line that says why
-abbrev pub IsBadLayout : List ℕ → List ℕ → Type 0
-IsBadLayout bytes text = (e : LayoutErr) × (layout_of bytes ≡ Err e) × (text ≡ layout_line e)
-
--- bytes at this place among the objects that are none, and the line that says why
-abbrev pub IsBadObject : ℕ → List ℕ → List ℕ → Type 0
-IsBadObject place bytes text = (e : FormErr) × (object_of bytes ≡ Err e) × (text ≡ object_line place e)
-
--- ---- what a whole command comes to
-abbrev pub ComesTo : Option Map → Command → Type 0 → Outcome → Type 0
-ComesTo held command MayFail (outcome.Says s text writes) = Says held command s text.items writes.items
-ComesTo held command MayFail outcome.Unread = MayFail
-ComesTo held command MayFail outcome.NoMemory = Unit {0}
-
--- one of these texts is said with the status, and nothing is written, unless memory ran out
-abbrev pub SaidWith : Status → (List ℕ → Type 0) → Outcome → Type 0
-SaidWith status IsText (outcome.Says s text writes) = (s ≡ status) × IsText text.items × (writes.items ≡ [])
-SaidWith status IsText outcome.Unread = ⊥
-SaidWith status IsText outcome.NoMemory = Unit {0}
-
--- the verdict on an image, a plan and a certificate, as `check` says it
-pub data Judged (image : ImageData) (plan : PlanData) (cert : CertData) : Status → List ℕ → Type 0 where
-  refused : (rule : ℕ) (key : Key) (addr : ℕ) → IsFirstFault image plan cert rule key addr → Judged image plan cert status.Refused (refused_line rule key addr)
-  certified :
-      Accepts image plan cert → Safe image plan (certified_need image plan cert)
-      → Judged image plan cert status.Done (certified_line (certified_need image plan cert) (plan.areas - plan.reserve))
-
--- what is said is the verdict, and nothing is written, unless memory ran out
-abbrev pub IsVerdict : ImageData → PlanData → CertData → Outcome → Type 0
-IsVerdict image plan cert (outcome.Says s text writes) = Judged image plan cert s text.items × (writes.items ≡ [])
-IsVerdict image plan cert outcome.Unread = ⊥
-IsVerdict image plan cert outcome.NoMemory = Unit {0}
-
--- a run by a script from the start of a machine, as `run` says it
-pub data Driven (image : ImageData) (plan : PlanData) (script : ScriptData) : Status → List ℕ → Type 0 where
-  driven : (m : Machine) → StartsInZeros image plan m → Driven image plan script status.Done (told_run plan script m)
-
--- what is said is of a run from the start, and nothing is written, unless memory ran out
-abbrev pub IsRun : ImageData → PlanData → ScriptData → Outcome → Type 0
-IsRun image plan script (outcome.Says s text writes) = Driven image plan script s text.items × (writes.items ≡ [])
-IsRun image plan script outcome.Unread = ⊥
-IsRun image plan script outcome.NoMemory = Unit {0}
-
--- the listing of an image, as `dis` says it
-abbrev pub IsListing : ImageData → Outcome → Type 0
-IsListing image (outcome.Says s text writes) = (s ≡ status.Done) × (text.items ≡ listing_of image) × (writes.items ≡ [])
-IsListing image outcome.Unread = ⊥
-IsListing image outcome.NoMemory = Unit {0}
-
--- bytes are to be written under a name, and one of these texts is said with Done, unless memory ran out
-abbrev pub WritesFile : List ℕ → List ℕ → (List ℕ → Type 0) → Outcome → Type 0
-WritesFile name bytes IsText (outcome.Says s text writes) = (s ≡ status.Done) × IsText text.items × (writes.items ≡ record { name = name; bytes = bytes } ∷ [])
-WritesFile name bytes IsText outcome.Unread = ⊥
-WritesFile name bytes IsText outcome.NoMemory = Unit {0}
-
--- an object, as `asm` says it
-abbrev pub IsObject : List ℕ → ObjectData → Outcome → Type 0
-IsObject name object o = WritesFile name (bytes_of object) (λ t. t ≡ assembled_line (length (bytes_of object))) o
-
--- an image, as `link` says it
-abbrev pub IsImageFile : List ℕ → ImageData → Outcome → Type 0
-IsImageFile name image o = WritesFile name (file_of image) (λ t. t ≡ linked_line (length (file_of image))) o
-
--- what linking comes to, as `link` says it
-abbrev pub IsLink : List ℕ → LayoutData → List ObjectData → Outcome → Type 0
-IsLink name layout objects (outcome.Says s text writes) = LinkTold name layout objects s text.items writes.items
-IsLink name layout objects outcome.Unread = ⊥
-IsLink name layout objects outcome.NoMemory = Unit {0}
+-- the files are steady and hold each input that is asked for: reading never fails
+pub record AreSureOf (reading : Reading) (files : FilesSeen) : Type 0 where
+  pub steady : IsTrue files.steady
+  pub hold : HoldsAsked reading files.held

@@ -1,26 +1,19 @@
 //! The tool: all that the program does.
 #![tactic(auto)]
 
-mod assembling;
-mod checks;
-mod ending;
-mod finishing;
+mod command;
+mod commands;
+mod forms;
 mod inputs;
 mod lines;
-mod link_inputs;
-mod linking;
-mod listings;
+mod outcome;
 mod placing;
-mod printing;
 #[cfg(test)]
 mod row_tests;
-mod runs;
-mod saying;
 mod status;
 #[cfg(test)]
 mod tests;
 mod tools;
-mod writing;
 
 pub use placing::placing_laws;
 pub use status::Status;

@@ -8,3 +8,22 @@ pub enum Status {
     NoMemory,
     BadWords,
 }
+
+impl From<Status> for u8 {
+    ghost use Rattle.std.specs.Prelude.{◌≡◌};
+    ghost use Rattle.tcd_driver.specs.Statuses.{code_of};
+
+    ghost from_gives = { λ status code. code ≡ code_of status };
+
+    /// The exit status of the program.
+    fn from(status: Status) -> u8 {
+        match status {
+            Status::Done => 0,
+            Status::Refused => 1,
+            Status::BadInput => 2,
+            Status::Fault => 3,
+            Status::NoMemory => 4,
+            Status::BadWords => 5,
+        }
+    }
+}

@@ -2,7 +2,7 @@ use Rattle.std.proofs.Common.{◌≡◌, List, ℕ, ap, ◌∙◌, ◌++◌}
 use Rattle.std.specs.Prelude.{codes}
 use Rattle.std.specs.Fmt.{decimal}
 use Rattle.tcd_driver.specs.Lines.{refused_line}
-use Rattle.tcd_driver.proofs.Said.{four_pieces}
+use Rattle.tcd_driver.proofs.LineLaws.{four_pieces}
 use Rattle.tcd_driver.proofs.lines.refused_line.Goals as goal
 
 pub returns : goal.returns

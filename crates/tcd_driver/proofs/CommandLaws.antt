@@ -1,0 +1,152 @@
+-- What each command reports, once its inputs are read.
+use Rattle.std.proofs.Common.{◌≡◌, ◌≢◌, ◌≤◌, ◌-◌, ℕ, List, [], ◌∷◌, ◌++◌, length, Option, Some, None, Result, Ok, Err, refl, sym, ap, subst, ◌∙◌}
+use Rattle.std.specs.Prelude.{IfOk, IfSome, IsOkAnd}
+use Rattle.elf_image.specs.Images.{ImageData}
+use Rattle.elf_image.specs.Written.{file_of}
+use Rattle.tcd_plan.specs.PlanData.{PlanData}
+use Rattle.tc_machine.specs.Safe.{Safe}
+use Rattle.tc_machine.specs.declared.state.Machine.{Machine}
+use Rattle.depth_cert.specs.Certs.{CertData}
+use Rattle.depth_cert.specs.declared.keys.Key.{Key}
+use Rattle.cfg_recover.specs.Accepting.{Accepts, IsFirstFault, certified_need}
+use Rattle.depth_check.proofs.FirstLaws.{fails_refutes}
+use Rattle.tc_script.specs.declared.driving.Peak.{Peak}
+use Rattle.tc_script.specs.Runs.{peak_of}
+use Rattle.tc_script.specs.ScriptRuns.{script_events, IsScriptRun}
+use Rattle.tc_script.specs.ScriptData.{ScriptData}
+use Rattle.tc_object.specs.Objects.{ObjectData}
+use Rattle.tc_link.specs.Layouts.{LayoutData}
+use Rattle.tc_link.specs.Linked.{Refusal, linked}
+use Rattle.tc_link.specs.Errors.{refusal_of}
+use Rattle.tc_link.specs.declared.errors.LinkErr.{LinkErr}
+use Rattle.tc_link.specs.declared.errors.LinkErr.TheVariants as error
+use Rattle.tcd_driver.specs.Reports.{Written, Report, says, writes_file}
+use Rattle.tcd_driver.specs.Inputs.{Reading, each, answer}
+use Rattle.tcd_driver.specs.Lines.{refused_line, certified_line, run_line, link_line}
+use Rattle.tcd_driver.specs.Forms.{object_form, script_form}
+use Rattle.tcd_driver.specs.Check as verdict
+use Rattle.tcd_driver.specs.Check.{IsVerdict}
+use Rattle.tcd_driver.specs.Run.{IsRun, ran, told_run}
+use Rattle.tcd_driver.specs.Link.{IsLinked, WritesImage, refused, image}
+use Rattle.tcd_driver.specs.Commands.{Command, check, run, dis, asm, link, reading_of}
+use Rattle.tcd_driver.specs.declared.status.Status.{Status}
+use Rattle.tcd_driver.specs.declared.status.Status.TheVariants.{Done, Refused, BadInput, BadWords}
+use Rattle.tcd_driver.proofs.FormLaws.{elf_lawful, plan_lawful, cert_lawful, script_lawful, source_lawful, layout_lawful, object_lawful, ok_err}
+use Rattle.tcd_driver.proofs.Decided.{AreAlike, IsDecided, decided_input, decided_answer, decided_each}
+
+status_is : (r q : Report) → r ≡ q → r.status ≡ q.status
+status_is r q e = ap (λ (x : Report). x.status) e
+
+writes_are : (r q : Report) → r ≡ q → r.writes ≡ q.writes
+writes_are r q e = ap (λ (x : Report). x.writes) e
+
+-- one report that is done
+only_one : (q : Report) → q.status ≡ Done → AreAlike (λ r. r ≡ q)
+only_one q done = record {
+  words = λ r e b. let f : Done ≡ BadWords = sym done ∙ sym (status_is r q e) ∙ b in cc;
+  done = λ r e undone. absurd (undone (status_is r q e ∙ done));
+  one = λ r p e f. status_is r q e ∙ sym (status_is p q f);
+}
+
+-- ---- check
+module _ (i : ImageData) (p : PlanData) (c : CertData) where
+  verdict_words : (r : Report) → IsVerdict i p c r → r.status ≡ BadWords → ⊥
+  verdict_words r (verdict.refused rule key addr first e) b = let f : Refused ≡ BadWords = sym (status_is r _ e) ∙ b in cc
+  verdict_words r (verdict.certified accepted safe e) b = let f : Done ≡ BadWords = sym (status_is r _ e) ∙ b in cc
+
+  verdict_done : (r : Report) → IsVerdict i p c r → r.status ≢ Done → r.writes ≡ []
+  verdict_done r (verdict.refused rule key addr first e) undone = writes_are r _ e
+  verdict_done r (verdict.certified accepted safe e) undone = writes_are r _ e
+
+  verdict_one : (r q : Report) → IsVerdict i p c r → IsVerdict i p c q → r.status ≡ q.status
+  verdict_one r q (verdict.refused rule key addr first e) (verdict.refused rule2 key2 addr2 first2 f) = status_is r _ e ∙ sym (status_is q _ f)
+  verdict_one r q (verdict.refused rule key addr first e) (verdict.certified accepted safe f) = absurd (fails_refutes i p c rule key addr first.fails accepted)
+  verdict_one r q (verdict.certified accepted safe e) (verdict.refused rule key addr first f) = absurd (fails_refutes i p c rule key addr first.fails accepted)
+  verdict_one r q (verdict.certified accepted safe e) (verdict.certified accepted2 safe2 f) = status_is r _ e ∙ sym (status_is q _ f)
+
+  verdict_alike : AreAlike (IsVerdict i p c)
+  verdict_alike = record { words = verdict_words; done = verdict_done; one = verdict_one }
+
+pub certified_report : (i : ImageData) (fields p : PlanData) (c : CertData) (need : ℕ) (r : Report) → fields ≡ p → Accepts i p c → need ≡ certified_need i p c → Safe i p need → r ≡ says Done (certified_line need (fields.areas - fields.reserve)) → IsVerdict i p c r
+certified_report i fields p c need r same accepted is safe e =
+    verdict.certified accepted (subst (λ (n : ℕ). Safe i p n) is safe)
+    (e ∙ ap (λ (n : ℕ). says Done (certified_line n (fields.areas - fields.reserve))) is ∙ ap (λ (q : PlanData). says Done (certified_line (certified_need i p c) (q.areas - q.reserve))) same)
+
+-- ---- run
+run_status : (i : ImageData) (p : PlanData) (s : ScriptData) (r : Report) → IsRun i p s r → r.status ≡ Done
+run_status i p s r (ran m starts e) = status_is r _ e
+
+run_writes : (i : ImageData) (p : PlanData) (s : ScriptData) (r : Report) → IsRun i p s r → r.writes ≡ []
+run_writes i p s r (ran m starts e) = writes_are r _ e
+
+run_alike : (i : ImageData) (p : PlanData) (s : ScriptData) → AreAlike (IsRun i p s)
+run_alike i p s = record {
+  words = λ r h b. let f : Done ≡ BadWords = sym (run_status i p s r h) ∙ b in cc;
+  done = λ r h undone. run_writes i p s r h;
+  one = λ r q h k. run_status i p s r h ∙ sym (run_status i p s q k);
+}
+
+-- the line of a run, by what the run came to
+pub told_is : (plan : PlanData) (script : ScriptData) (old new : Machine) (done : Peak) → IsScriptRun plan script old new done → run_line done.events done.peak new ≡ told_run plan script old
+told_is plan script old new done h =
+    ap (λ (n : ℕ). run_line n done.peak new) h.count ∙ ap (λ (n : ℕ). run_line (length (script_events plan script old)) n new) h.peak
+    ∙ ap (λ (m : Machine). run_line (length (script_events plan script old)) (peak_of old (script_events plan script old)) m) h.after
+
+-- ---- link
+module _ (name : List ℕ) (l : LayoutData) (objects : List ObjectData) where
+  linked_words : (r : Report) → IsLinked name l objects r → r.status ≡ BadWords → ⊥
+  linked_words r (refused q is e) b = let f : BadInput ≡ BadWords = sym (status_is r _ e) ∙ b in cc
+  linked_words r (image i is e) b = let f : Done ≡ BadWords = sym (status_is r _ e) ∙ b in cc
+
+  linked_done : (r : Report) → IsLinked name l objects r → r.status ≢ Done → r.writes ≡ []
+  linked_done r (refused q is e) undone = writes_are r _ e
+  linked_done r (image i is e) undone = absurd (undone (status_is r _ e))
+
+  linked_one : (r q : Report) → IsLinked name l objects r → IsLinked name l objects q → r.status ≡ q.status
+  linked_one r q (refused a is e) (refused b is2 f) = status_is r _ e ∙ sym (status_is q _ f)
+  linked_one r q (refused a is e) (image i is2 f) = absurd (ok_err (linked objects l) i a is2 is)
+  linked_one r q (image i is e) (refused a is2 f) = absurd (ok_err (linked objects l) i a is is2)
+  linked_one r q (image i is e) (image j is2 f) = status_is r _ e ∙ sym (status_is q _ f)
+
+  linked_alike : AreAlike (IsLinked name l objects)
+  linked_alike = record { words = linked_words; done = linked_done; one = linked_one }
+
+pub linked_image : (name : List ℕ) (l : LayoutData) (objects : List ObjectData) (i : ImageData) (r : Report) → linked objects l ≡ Ok i → WritesImage name i r → IsLinked name l objects r
+linked_image name l objects i r is writes = image i is writes
+
+none_memory : (e : LinkErr) → refusal_of e ≡ None → e ≡ error.NoMemory
+none_memory (error.Twice name) h = cc
+none_memory (error.Missing name) h = cc
+none_memory (error.NoPlace name) h = cc
+none_memory (error.NoRoom name) h = cc
+none_memory (error.Reloc object section offset err) h = cc
+none_memory error.NoEntry h = cc
+none_memory error.NoMemory h = refl
+
+line_told : {V E : Type 0} (items : V → List ℕ) (line : Result V E) (r : Report) (o : Option Refusal) → IfOk line (λ l. IfSome o (λ q. items l ≡ link_line q)) → IsOkAnd line (λ l. r ≡ says BadInput (items l)) → IfSome o (λ q. r ≡ says BadInput (link_line q))
+line_told items (Ok l) r None made said = tt
+line_told items (Ok l) r (Some q) made said = said ∙ ap (λ (t : List ℕ). says BadInput t) made
+line_told items (Err e) r o made said = absurd said
+
+refused_by : (name : List ℕ) (l : LayoutData) (objects : List ObjectData) (o : Option Refusal) (r : Report) → (o ≡ None → ⊥) → IfSome o (λ q. linked objects l ≡ Err q) → IfSome o (λ q. r ≡ says BadInput (link_line q)) → IsLinked name l objects r
+refused_by name l objects None r some is text = absurd (some refl)
+refused_by name l objects (Some q) r some is text = refused q is text
+
+pub refused_report : {V E : Type 0} (items : V → List ℕ) (name : List ℕ) (l : LayoutData) (objects : List ObjectData) (e : LinkErr) (line : Result V E) (r : Report) → IfSome (refusal_of e) (λ q. linked objects l ≡ Err q) →
+    IfOk line (λ x. IfSome (refusal_of e) (λ q. items x ≡ link_line q)) → (e ≡ error.NoMemory → ⊥) → IsOkAnd line (λ x. r ≡ says BadInput (items x)) → IsLinked name l objects r
+refused_report items name l objects e line r is made some said = refused_by name l objects (refusal_of e) r (λ n. some (none_memory e n)) is (line_told items line r (refusal_of e) made said)
+
+-- a file of so many bytes, by other names
+pub file_report : {V E : Type 0} (items : V → List ℕ) (line : Result V E) (text : ℕ → List ℕ) (name : List ℕ) (bytes lent is : List ℕ) (r : Report) → lent ≡ bytes → bytes ≡ is → IfOk line (λ l. items l ≡ text (length lent)) →
+    IsOkAnd line (λ l. r ≡ writes_file name bytes (items l)) → r ≡ writes_file name is (text (length is))
+file_report items (Ok l) text name bytes lent is r e f made said =
+    said ∙ ap (λ (t : List ℕ). writes_file name bytes t) (made ∙ ap (λ (b : List ℕ). text (length b)) e) ∙ ap (λ (b : List ℕ). writes_file name b (text (length b))) f
+file_report items (Err x) text name bytes lent is r e f made said = absurd said
+
+-- ---- all commands
+pub command_decided : (c : Command) → IsDecided (reading_of c)
+command_decided (check names) = decided_input _ _ _ _ elf_lawful (λ i. decided_input _ _ _ _ plan_lawful (λ p. decided_input _ _ _ _ cert_lawful (λ c. decided_answer _ (verdict_alike i p c))))
+command_decided (run names) = decided_input _ _ _ _ elf_lawful (λ i. decided_input _ _ _ _ plan_lawful (λ p. decided_input _ _ _ _ (script_lawful p) (λ s. decided_answer _ (run_alike i p s))))
+command_decided (dis elf) = decided_input _ _ _ _ elf_lawful (λ i. decided_answer _ (only_one _ refl))
+command_decided (asm names) = decided_input _ _ _ _ source_lawful (λ o. decided_answer _ (only_one _ refl))
+command_decided (link names) = decided_input _ _ _ _ layout_lawful (λ l. decided_each _ object_form 0 _ _ object_lawful (λ os. decided_answer _ (linked_alike names.image l os)))

@@ -1,5 +1,0 @@
-use Rattle.tcd_driver.proofs.Said.{said_stops, line_is, image_refused, made}
-use Rattle.tcd_driver.proofs.inputs.image_from.Goals as goal
-
-pub returns-in-Err-clause-stops : goal.returns-in-Err-clause-stops
-returns-in-Err-clause-stops c = said_stops _ _ _ _ c.bad_input.ensures (λ t p. (c.in-Err.e, image_refused c.in-Err.e _ (λ e. made _ c.elf_line.result t p (c.elf_line.ensures.memory e)) c.in-Err.ensures, line_is _ c.elf_line.result t _ c.elf_line.ensures.line p))

@@ -1,0 +1,21 @@
+-- What `asm` reads, says and writes.
+use Rattle.std.specs.Prelude.{◌≡◌, ℕ, List, length}
+use Rattle.tc_object.specs.Objects.{ObjectData}
+use Rattle.tc_object.specs.Spelling.{bytes_of}
+use Rattle.tcd_driver.specs.Reports.{Report, writes_file}
+use Rattle.tcd_driver.specs.Inputs.{Reading, input, answer}
+use Rattle.tcd_driver.specs.Forms.{source_form}
+use Rattle.tcd_driver.specs.Lines.{assembled_line}
+
+-- the names of the file that `asm` reads and of the one that it writes
+pub record AsmNames : Type 0 where
+  pub source : List ℕ
+  pub object : List ℕ
+
+-- an object is written under this name
+abbrev pub WritesObject : List ℕ → ObjectData → Report → Type 0
+WritesObject name object report = report ≡ writes_file name (bytes_of object) (assembled_line (length (bytes_of object)))
+
+-- a source is read; then its object is written
+abbrev pub asm_reading : AsmNames → Reading
+asm_reading names = input ObjectData source_form names.source (λ object. answer (WritesObject names.object object))

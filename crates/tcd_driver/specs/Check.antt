@@ -1,0 +1,35 @@
+-- What `check` reads and says.
+use Rattle.std.specs.Prelude.{◌≡◌, ◌-◌, ℕ, List}
+use Rattle.elf_image.specs.Images.{ImageData}
+use Rattle.tcd_plan.specs.PlanData.{PlanData}
+use Rattle.tc_machine.specs.Safe.{Safe}
+use Rattle.depth_cert.specs.Certs.{CertData}
+use Rattle.depth_cert.specs.declared.keys.Key.{Key}
+use Rattle.cfg_recover.specs.Accepting.{Accepts, IsFirstFault, certified_need}
+use Rattle.tcd_driver.specs.Reports.{Report, says}
+use Rattle.tcd_driver.specs.Inputs.{Reading, input, answer}
+use Rattle.tcd_driver.specs.Forms.{elf_form, plan_form, cert_form}
+use Rattle.tcd_driver.specs.Lines.{refused_line, certified_line}
+use Rattle.tcd_driver.specs.declared.status.Status.TheVariants.{Done, Refused}
+
+-- the names of the files that `check` reads
+pub record CheckNames : Type 0 where
+  pub elf : List ℕ
+  pub plan : List ℕ
+  pub cert : List ℕ
+
+-- the verdict on an image, a plan and a certificate: it is accepted, and then the headline holds; or it isn't, and the first
+-- fault is told
+pub data IsVerdict (image : ImageData) (plan : PlanData) (cert : CertData) (report : Report) : Type 0 where
+  refused :
+      (rule : ℕ) (key : Key) (addr : ℕ) → IsFirstFault image plan cert rule key addr → report ≡ says Refused (refused_line rule key addr)
+      → IsVerdict image plan cert report
+  certified :
+      Accepts image plan cert → Safe image plan (certified_need image plan cert)
+      → report ≡ says Done (certified_line (certified_need image plan cert) (plan.areas - plan.reserve)) → IsVerdict image plan cert report
+
+-- an executable, a plan and a certificate are read; then the verdict is told
+abbrev pub check_reading : CheckNames → Reading
+check_reading names =
+    input ImageData elf_form names.elf
+    (λ image. input PlanData plan_form names.plan (λ plan. input CertData cert_form names.cert (λ cert. answer (IsVerdict image plan cert))))

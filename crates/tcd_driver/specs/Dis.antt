@@ -1,0 +1,16 @@
+-- What `dis` reads and says.
+use Rattle.std.specs.Prelude.{◌≡◌, ℕ, List}
+use Rattle.elf_image.specs.Images.{ImageData}
+use Rattle.tc_disasm.specs.Listing.{listing_of}
+use Rattle.tcd_driver.specs.Reports.{Report, says}
+use Rattle.tcd_driver.specs.Inputs.{Reading, input, answer}
+use Rattle.tcd_driver.specs.Forms.{elf_form}
+use Rattle.tcd_driver.specs.declared.status.Status.TheVariants.{Done}
+
+-- the listing of an image
+abbrev pub IsListing : ImageData → Report → Type 0
+IsListing image report = report ≡ says Done (listing_of image)
+
+-- an executable is read; then its listing is told
+abbrev pub dis_reading : List ℕ → Reading
+dis_reading elf = input ImageData elf_form elf (λ image. answer (IsListing image))

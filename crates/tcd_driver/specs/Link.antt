@@ -1,0 +1,33 @@
+-- What `link` reads, says and writes.
+use Rattle.std.specs.Prelude.{◌≡◌, ℕ, List, length, Ok, Err}
+use Rattle.elf_image.specs.Images.{ImageData}
+use Rattle.elf_image.specs.Written.{file_of}
+use Rattle.tc_object.specs.Objects.{ObjectData}
+use Rattle.tc_link.specs.Layouts.{LayoutData}
+use Rattle.tc_link.specs.Linked.{Refusal, linked}
+use Rattle.tcd_driver.specs.Reports.{Report, says, writes_file}
+use Rattle.tcd_driver.specs.Inputs.{Reading, input, each, answer}
+use Rattle.tcd_driver.specs.Forms.{layout_form, object_form}
+use Rattle.tcd_driver.specs.Lines.{link_line, linked_line}
+use Rattle.tcd_driver.specs.declared.status.Status.TheVariants.{BadInput}
+
+-- the names of the layout and the objects that `link` reads, and of the image that it writes
+pub record LinkNames : Type 0 where
+  pub layout : List ℕ
+  pub image : List ℕ
+  pub objects : List (List ℕ)
+
+-- an image is written under this name
+abbrev pub WritesImage : List ℕ → ImageData → Report → Type 0
+WritesImage name image report = report ≡ writes_file name (file_of image) (linked_line (length (file_of image)))
+
+-- what linking the objects by the layout comes to: the image, or the first refusal
+pub data IsLinked (name : List ℕ) (layout : LayoutData) (objects : List ObjectData) (report : Report) : Type 0 where
+  refused : (r : Refusal) → linked objects layout ≡ Err r → report ≡ says BadInput (link_line r) → IsLinked name layout objects report
+  image : (i : ImageData) → linked objects layout ≡ Ok i → WritesImage name i report → IsLinked name layout objects report
+
+-- a layout and the objects are read; then they are linked
+abbrev pub link_reading : LinkNames → Reading
+link_reading names =
+    input LayoutData layout_form names.layout
+    (λ layout. each ObjectData object_form 0 names.objects (λ objects. answer (IsLinked names.image layout objects)))

@@ -1,0 +1,36 @@
+-- What `run` reads and says.
+use Rattle.std.specs.Prelude.{◌≡◌, ℕ, List, length}
+use Rattle.elf_image.specs.Images.{ImageData}
+use Rattle.tcd_plan.specs.PlanData.{PlanData}
+use Rattle.tc_machine.specs.declared.state.Machine.{Machine}
+use Rattle.tc_machine.specs.Starting.{StartsInZeros}
+use Rattle.tc_machine.specs.Stepping as stepping
+use Rattle.tc_script.specs.ScriptData.{ScriptData}
+use Rattle.tc_script.specs.Runs.{peak_of}
+use Rattle.tc_script.specs.ScriptRuns.{script_events}
+use Rattle.tcd_driver.specs.Reports.{Report, says}
+use Rattle.tcd_driver.specs.Inputs.{Reading, input, answer}
+use Rattle.tcd_driver.specs.Forms.{elf_form, plan_form, script_form}
+use Rattle.tcd_driver.specs.Lines.{run_line}
+use Rattle.tcd_driver.specs.declared.status.Status.TheVariants.{Done}
+
+-- the names of the files that `run` reads
+pub record RunNames : Type 0 where
+  pub elf : List ℕ
+  pub plan : List ℕ
+  pub script : List ℕ
+
+-- what the script's only list of events comes to from a machine
+abbrev pub told_run : PlanData → ScriptData → Machine → List ℕ
+told_run plan script m =
+    run_line (length (script_events plan script m)) (peak_of m (script_events plan script m)) (stepping.run m (script_events plan script m))
+
+-- the machine is started, with all that the plan leaves open 0, and driven by the script
+pub data IsRun (image : ImageData) (plan : PlanData) (script : ScriptData) (report : Report) : Type 0 where
+  ran : (m : Machine) → StartsInZeros image plan m → report ≡ says Done (told_run plan script m) → IsRun image plan script report
+
+-- an executable, a plan and a script for it are read; then the run is told
+abbrev pub run_reading : RunNames → Reading
+run_reading names =
+    input ImageData elf_form names.elf
+    (λ image. input PlanData plan_form names.plan (λ plan. input ScriptData (script_form plan) names.script (λ script. answer (IsRun image plan script))))

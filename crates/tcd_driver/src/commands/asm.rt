@@ -1,0 +1,40 @@
+// The command `asm`.
+ghost use Rattle.tcd_driver.specs.Asm.{WritesObject, asm_reading};
+ghost use Rattle.tcd_driver.specs.Outcomes.{Comes, IsTold};
+
+use crate::forms::SourceFile;
+use crate::inputs::read_input;
+use crate::lines::assembled_line;
+use crate::outcome::{Outcome, report_file};
+use std::alloc::Global;
+use tc_object::Object;
+use tcd_base::Files;
+
+/// Reads a source, and makes its object.
+pub(crate) fn assemble_file<F: Files>(
+    alloc: Global,
+    source: &str,
+    object: &str,
+    files: &mut F,
+) -> Outcome
+    ensures { Comes (asm_reading (record { source = source.now; object = object.now }))
+        (F.seen files.old) (F.seen files.new) result }
+{
+    match read_input(&SourceFile, alloc, source, files) {
+        Ok(made) => written(alloc, object, &made),
+        Err(outcome) => outcome,
+    }
+}
+
+// An object to write under a name, and the line on it.
+fn written(alloc: Global, name: &str, object: &Object) -> Outcome
+    ensures { IsTold (WritesObject name.now object.now) ⊥ result }
+{
+    match object.write(alloc) {
+        Ok(bytes) => {
+            let line = assembled_line(alloc, &bytes);
+            report_file(alloc, name, bytes, line)
+        }
+        Err(_) => Outcome::NoMemory,
+    }
+}

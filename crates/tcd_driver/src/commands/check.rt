@@ -1,0 +1,59 @@
+// The command `check`.
+ghost use Rattle.tcd_driver.specs.Check.{IsVerdict, check_reading};
+ghost use Rattle.tcd_driver.specs.Outcomes.{Comes, IsTold};
+
+use crate::forms::{CertFile, ElfFile, PlanFile};
+use crate::inputs::read_input;
+use crate::lines::{certified_line, refused_line};
+use crate::outcome::{Outcome, report};
+use crate::status::Status;
+use depth_cert::Cert;
+use depth_check::{Verdict, check};
+use elf_image::Image;
+use std::alloc::Global;
+use tcd_base::Files;
+use tcd_plan::Plan;
+
+/// Reads the three files, and tells whether the certificate is accepted.
+pub(crate) fn check_files<F: Files>(
+    alloc: Global,
+    elf: &str,
+    plan: &str,
+    cert: &str,
+    files: &mut F,
+) -> Outcome
+    ensures { Comes (check_reading (record { elf = elf.now; plan = plan.now; cert = cert.now }))
+        (F.seen files.old) (F.seen files.new) result }
+{
+    let image = match read_input(&ElfFile, alloc, elf, files) {
+        Ok(image) => image,
+        Err(outcome) => return outcome,
+    };
+    let board = match read_input(&PlanFile, alloc, plan, files) {
+        Ok(board) => board,
+        Err(outcome) => return outcome,
+    };
+    let proof = match read_input(&CertFile, alloc, cert, files) {
+        Ok(proof) => proof,
+        Err(outcome) => return outcome,
+    };
+    verdict(alloc, &image, &board, &proof)
+}
+
+// Checks a certificate, and makes the line of the verdict.
+fn verdict(alloc: Global, image: &Image, plan: &Plan, cert: &Cert) -> Outcome
+    ensures { IsTold (IsVerdict image.now plan.now cert.now) ⊥ result }
+{
+    match check(image, plan, cert) {
+        Verdict::Yes(need) => {
+            report(
+                alloc,
+                Status::Done,
+                certified_line(alloc, need, plan.areas - plan.reserve),
+            )
+        }
+        Verdict::No { rule, key, addr } => {
+            report(alloc, Status::Refused, refused_line(alloc, rule, key, addr))
+        }
+    }
+}

@@ -1,0 +1,36 @@
+// The command `dis`.
+ghost use Rattle.tcd_driver.specs.Dis.{IsListing, dis_reading};
+ghost use Rattle.tcd_driver.specs.Outcomes.{Comes, IsTold};
+
+use crate::forms::ElfFile;
+use crate::inputs::read_input;
+use crate::outcome::Outcome;
+use crate::status::Status;
+use elf_image::Image;
+use std::alloc::Global;
+use tc_disasm::listing;
+use tcd_base::Files;
+
+/// Reads an executable, and tells its listing.
+pub(crate) fn list_file<F: Files>(alloc: Global, elf: &str, files: &mut F) -> Outcome
+    ensures { Comes (dis_reading elf.now) (F.seen files.old) (F.seen files.new) result }
+{
+    match read_input(&ElfFile, alloc, elf, files) {
+        Ok(image) => listed(alloc, &image),
+        Err(outcome) => outcome,
+    }
+}
+
+// Makes the listing of an image.
+fn listed(alloc: Global, image: &Image) -> Outcome
+    ensures { IsTold (IsListing image.now) ⊥ result }
+{
+    match listing(alloc, image) {
+        Ok(text) => Outcome::Report {
+            status: Status::Done,
+            text: text.into_bytes(),
+            writes: Vec::new(alloc),
+        },
+        Err(_) => Outcome::NoMemory,
+    }
+}

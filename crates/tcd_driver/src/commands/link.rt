@@ -1,0 +1,94 @@
+// The command `link`.
+ghost use Rattle.std.specs.Prelude.{◌≤◌, length, map, string_bytes};
+ghost use Rattle.tc_object.specs.Objects.{ObjectData};
+ghost use Rattle.tcd_driver.specs.Forms.{object_form};
+ghost use Rattle.tcd_driver.specs.Inputs.{each, answer};
+ghost use Rattle.tcd_driver.specs.Link.{IsLinked, WritesImage, link_reading};
+ghost use Rattle.tcd_driver.specs.Outcomes.{Comes, IsTold};
+
+use crate::forms::{LayoutFile, ObjectFile};
+use crate::inputs::read_input;
+use crate::lines::{link_line, linked_line};
+use crate::outcome::{Outcome, report, report_file};
+use crate::status::Status;
+use elf_image::Image;
+use std::alloc::Global;
+use tc_link::{Layout, link};
+use tc_object::Object;
+use tcd_base::Files;
+
+/// Reads a layout and objects, and makes the image of the objects that are laid out this way.
+pub(crate) fn link_files<F: Files>(
+    alloc: Global,
+    layout: &str,
+    image: &str,
+    objects: &[String],
+    files: &mut F,
+) -> Outcome
+    requires { length objects.now ≤ 65535 }
+    ensures { Comes
+        (link_reading (record {
+          layout = layout.now;
+          image = image.now;
+          objects = map string_bytes objects.now;
+        }))
+        (F.seen files.old) (F.seen files.new) result }
+{
+    match read_input(&LayoutFile, alloc, layout, files) {
+        Ok(places) => link_by(alloc, image, &places, objects, files),
+        Err(outcome) => outcome,
+    }
+}
+
+// Reads the objects, and makes the image of them that is laid out this way.
+fn link_by<F: Files>(
+    alloc: Global,
+    name: &str,
+    layout: &Layout,
+    objects: &[String],
+    files: &mut F,
+) -> Outcome
+    requires { length objects.now ≤ 65535 }
+    ensures { Comes
+        (each ObjectData object_form 0 (map string_bytes objects.now)
+        (λ os. answer (IsLinked name.now layout.now os)))
+        (F.seen files.old) (F.seen files.new) result }
+{
+    let mut parts = Vec::new(alloc);
+    for i in 0..objects.len() {
+        let form = ObjectFile { place: i as u32 };
+        let part = match read_input(&form, alloc, objects[i].as_str(), files) {
+            Ok(part) => part,
+            Err(outcome) => return outcome,
+        };
+        match parts.push(part) {
+            Ok(()) => {}
+            Err(_) => return Outcome::NoMemory,
+        }
+    }
+    linked(alloc, name, layout, &parts)
+}
+
+// Links objects, and makes the line.
+fn linked(alloc: Global, name: &str, layout: &Layout, objects: &[Object]) -> Outcome
+    requires { length objects.now ≤ 65535 }
+    ensures { IsTold (IsLinked name.now layout.now objects.now) ⊥ result }
+{
+    match link(alloc, objects, layout) {
+        Ok(image) => written(alloc, name, &image),
+        Err(e) => report(alloc, Status::BadInput, link_line(alloc, e)),
+    }
+}
+
+// An image to write under a name, and the line on it.
+fn written(alloc: Global, name: &str, image: &Image) -> Outcome
+    ensures { IsTold (WritesImage name.now image.now) ⊥ result }
+{
+    match image.write(alloc) {
+        Ok(bytes) => {
+            let line = linked_line(alloc, &bytes);
+            report_file(alloc, name, bytes, line)
+        }
+        Err(_) => Outcome::NoMemory,
+    }
+}

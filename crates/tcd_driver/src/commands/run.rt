@@ -1,0 +1,62 @@
+// The command `run`.
+ghost use Rattle.tc_script.specs.Fitting.{FitsPlan};
+ghost use Rattle.tcd_driver.specs.Run.{IsRun, run_reading};
+ghost use Rattle.tcd_driver.specs.Outcomes.{Comes, IsTold};
+
+use crate::forms::{ElfFile, PlanFile, ScriptFile};
+use crate::inputs::read_input;
+use crate::lines::run_line;
+use crate::outcome::{Outcome, report};
+use crate::status::Status;
+use elf_image::Image;
+use std::alloc::Global;
+use tc_machine::Machine;
+use tc_script::{Script, drive_by_script};
+use tcd_base::Files;
+use tcd_plan::Plan;
+
+/// Reads the three files, drives the machine by the script, and tells what it came to.
+pub(crate) fn run_files<F: Files>(
+    alloc: Global,
+    elf: &str,
+    plan: &str,
+    script: &str,
+    files: &mut F,
+) -> Outcome
+    ensures { Comes (run_reading (record { elf = elf.now; plan = plan.now; script = script.now }))
+        (F.seen files.old) (F.seen files.new) result }
+{
+    let image = match read_input(&ElfFile, alloc, elf, files) {
+        Ok(image) => image,
+        Err(outcome) => return outcome,
+    };
+    let board = match read_input(&PlanFile, alloc, plan, files) {
+        Ok(board) => board,
+        Err(outcome) => return outcome,
+    };
+    let form = ScriptFile { plan: &board };
+    let turns = match read_input(&form, alloc, script, files) {
+        Ok(turns) => turns,
+        Err(outcome) => return outcome,
+    };
+    driven(alloc, &image, &board, &turns)
+}
+
+// Starts the machine, drives it, and makes the line.
+fn driven(alloc: Global, image: &Image, plan: &Plan, script: &Script) -> Outcome
+    requires { FitsPlan plan.now script.now }
+    ensures { IsTold (IsRun image.now plan.now script.now) ⊥ result }
+{
+    match Machine::start(alloc, image, plan) {
+        Ok(machine) => {
+            let mut machine = machine;
+            let done = drive_by_script(&mut machine, plan, script);
+            report(
+                alloc,
+                Status::Done,
+                run_line(alloc, done.events, done.peak, &machine),
+            )
+        }
+        Err(_) => Outcome::NoMemory,
+    }
+}
