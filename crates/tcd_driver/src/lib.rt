@@ -10,7 +10,6 @@ mod lines;
 mod link_inputs;
 mod linking;
 mod listings;
-mod placing;
 mod printing;
 #[cfg(test)]
 mod row_tests;
@@ -22,6 +21,5 @@ mod tests;
 mod tools;
 mod writing;
 
-pub use placing::placing_laws;
 pub use status::Status;
 pub use tools::tool;
