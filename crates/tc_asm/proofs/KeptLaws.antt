@@ -17,11 +17,13 @@ use Rattle.tc_asm.specs.declared.entries.Entry.{Entry}
 use Rattle.tc_asm.specs.Items.{ItemData, label, section, global, code, bytes, zeros}
 use Rattle.tc_asm.specs.Lines.{LineData}
 use Rattle.tc_asm.specs.Symbols.{SymbolData, unseen, entry_in, entry_of, put_entry, place_in, seen, labelled, made_global}
-use Rattle.tc_asm.specs.Drafts.{UseData, PartData, DraftData, part, start, place_of, has_section, has_room, here, with_label, number_of_part, entered, with_global, extended, with_bytes, used, is_reloc, with_use, with_reference, with_content, resolved, code_bytes, stepped}
+use Rattle.tc_reloc.specs.Forms.{is_reloc}
+use Rattle.tc_asm.specs.Drafts.{UseData, PartData, DraftData, part, start, place_of, has_section, has_room, here, with_label, number_of_part, entered, with_global, extended, with_bytes, used, with_use, with_reference, with_content, resolved, code_bytes, stepped}
 use Rattle.tc_asm.specs.Rules.{label_rule, section_rule, name_rule, symbol_room, reloc_room, bytes_room, defined_rule, reference_rule, content_rule, item_rule}
 use Rattle.tc_asm.specs.Sources.{items_rule, with_line, line_rule}
 use Rattle.tc_asm.specs.Kept.{is_among, IsNew, AreNames, part_names, symbol_names, size_at, IsPlace, IsPlaced, IsUse, IsPart, IsDraft}
-use Rattle.tc_asm.proofs.ListLaws.{by_test, each_weaker, each_push, in_turn_push, among_push, among_last, names_put, each_put, entry_has, known_among, among_known, changed, changed-set, changed-changed, length-changed, names-changed, size-changed, each_changed, count-changed, size-push, size_at-get, spaced_longer, spaced_push, any_first}
+use Rattle.tc_stmt.proofs.Cases.{by_test}
+use Rattle.tc_asm.proofs.ListLaws.{each_weaker, each_push, in_turn_push, among_push, among_last, names_put, each_put, entry_has, known_among, among_known, changed, changed-set, changed-changed, length-changed, names-changed, size-changed, each_changed, count-changed, size-push, size_at-get, spaced_longer, spaced_push, any_first}
 
 -- ---- names
 name_is : (bs : List ℕ) → is_name bs ≡ true → (is_length (length bs) && object.is_name bs) ≡ true
@@ -107,6 +109,10 @@ room_from : (b : Bool) → 15 ≤ cond b 15 13 → b ≡ true
 room_from true h = refl
 room_from false h = absurd (omega arith)
 
+section_from : (b : Bool) → 15 ≤ cond b 15 8 → b ≡ true
+section_from true h = refl
+section_from false h = absurd (omega arith)
+
 min_left : (a b : ℕ) → 15 ≤ min a b → 15 ≤ a
 min_left a b h = omega arith
 
@@ -118,14 +124,13 @@ place_is : (d : DraftData) → place_of d ≡ size_at d.parts d.section
 unfolding place_of
 place_is d = size_at-get d.parts d.section
 
-IsDraft-label : (d : DraftData) (name : List ℕ) → IsDraft d → 15 ≤ symbol_room d name → IsDraft (with_label d name)
+IsDraft-label : (d : DraftData) (name : List ℕ) → IsDraft d → has_section d ≡ true → 15 ≤ symbol_room d name → IsDraft (with_label d name)
 unfolding with_label labelled
-IsDraft-label d name h room =
-    by_test IsDraft (is_name name && has_section d) _ d
+IsDraft-label d name h there room =
+    by_test IsDraft (is_name name) _ d
     (λ b.
-    let p = and_parts _ _ b in
-    let stands : IsPlace d.parts (here d) = record { section = ltb-true d.section (length d.parts) p.1; offset = let e = place_is d in omega arith } in
-    IsDraft-put d name (if is_some (place_in d.symbols name) then entry_of d.symbols name else record (entry_of d.symbols name) { place = Some (here d) }) h p.0 (room_from _ room)
+    let stands : IsPlace d.parts (here d) = record { section = ltb-true d.section (length d.parts) there; offset = let e = place_is d in omega arith } in
+    IsDraft-put d name (if is_some (place_in d.symbols name) then entry_of d.symbols name else record (entry_of d.symbols name) { place = Some (here d) }) h b (room_from _ room)
     (by_test (λ (x : Entry). IsPlaced d.parts x.place) (is_some (place_in d.symbols name)) (entry_of d.symbols name) (record (entry_of d.symbols name) { place = Some (here d) })
     (λ _. old_placed d name h) (λ _. stands)))
     (λ b. h)
@@ -320,7 +325,7 @@ content_room d n o h = min_right (bytes_room d n) (reference_rule d o) (min_righ
 pub IsDraft-stepped : (labels : List SymbolData) (d : DraftData) (i : ItemData) → IsDraft d → 15 ≤ item_rule labels d i → IsDraft (stepped labels d i)
 unfolding stepped item_rule
 IsDraft-stepped labels d (label name) h rule =
-    IsDraft-label d name h (min_right (name_rule name) (symbol_room d name) (min_right (min (label_rule d name) (section_rule d)) (min (name_rule name) (symbol_room d name)) rule))
+    IsDraft-label d name h (section_from (has_section d) (min_right (label_rule d name) (section_rule d) (min_left (min (label_rule d name) (section_rule d)) (min (name_rule name) (symbol_room d name)) rule))) (min_right (name_rule name) (symbol_room d name) (min_right (min (label_rule d name) (section_rule d)) (min (name_rule name) (symbol_room d name)) rule))
 IsDraft-stepped labels d (section name) h rule = IsDraft-section d name h
 IsDraft-stepped labels d (global name) h rule =
     IsDraft-global d name h (min_left (symbol_room d name) (defined_rule labels name) (min_right (name_rule name) (min (symbol_room d name) (defined_rule labels name)) rule))

@@ -13,7 +13,8 @@ use Rattle.tc_asm.specs.Symbols.{SymbolData, seen}
 use Rattle.tc_asm.specs.Drafts.{PartData, DraftData, part, start, place_of, has_section, has_room, with_label, number_of_part, entered, with_global, extended, with_bytes, used, with_use, with_reference, code_bytes, stepped}
 use Rattle.tc_asm.specs.Sources.{with_line, drafted}
 use Rattle.tc_asm.specs.Statements.{StatementData, statement, content_of, standing, statements_from, items_in, statements, section_bytes, offset_of, bytes_at}
-use Rattle.tc_asm.proofs.ListLaws.{by_test, changed, changed-set, length-changed}
+use Rattle.tc_stmt.proofs.Cases.{by_test}
+use Rattle.tc_asm.proofs.ListLaws.{changed, changed-set, length-changed}
 
 bytes_at-push : (ps : List PartData) (p : PartData) (s : ℕ) → p.bytes ≡ [] → bytes_at (ps ++ p ∷ []) s ≡ bytes_at ps s
 bytes_at-push [] p zero e = e

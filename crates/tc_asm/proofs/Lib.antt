@@ -9,3 +9,15 @@ pub mod ObjectLaws
 pub mod FinishLaws
 pub mod LoopLaws
 pub mod LaidLaws
+pub mod ListItems
+pub mod Uses
+pub mod SourceItems
+pub mod CodeSizes
+pub mod SourceParts
+pub mod SourceDrafts
+pub mod AlikeDrafts
+pub mod SourceRelocs
+pub mod StatementItems
+pub mod Unfilled
+pub mod Instructions
+pub mod ShortJumps

@@ -8,6 +8,7 @@ use Rattle.std.proofs.lemmas.List.Elements.{All-nil, All-cons}
 use Rattle.std.proofs.lemmas.Bool.{lt-ltb}
 use Rattle.std.specs.Str.{bytes_eq}
 use Rattle.tc_object.specs.Objects.{InTurn}
+use Rattle.tc_stmt.proofs.Cases.{by_test}
 use Rattle.tc_asm.specs.declared.entries.Entry.{Entry}
 use Rattle.tc_asm.specs.Symbols.{SymbolData, symbol, put_entry}
 use Rattle.tc_asm.specs.Drafts.{UseData, PartData}
@@ -28,13 +29,6 @@ in_turn_push {A} good before (x ∷ xs) y h g =
     (h.0, in_turn_push good (before ++ x ∷ []) xs y h.1 (subst (λ (bs : List A). good bs y) moved g))
 
 -- ---- names
-by_both : {A : Type 0} (P : A → Type 0) (b : Bool) (x y : A) → (b ≡ true → P x) → (b ≡ false → P y) → P (cond b x y)
-by_both P true x y p q = p refl
-by_both P false x y p q = q refl
-
-pub by_test : {A : Type 0} (P : A → Type 0) (b : Bool) (x y : A) → (b ≡ true → P x) → (b ≡ false → P y) → P (cond b x y)
-by_test P b x y p q = by_both P b x y p q
-
 pub among_push : (names : List (List ℕ)) (m n : List ℕ) → is_among names n ≡ true → is_among (names ++ m ∷ []) n ≡ true
 among_push [] m n h = cc
 among_push (x ∷ xs) m n h = by (bytes_eq n x) h (among_push xs m n)
@@ -67,7 +61,7 @@ pub each_put : (P : Entry → Type 0) (ss : List SymbolData) (name : List ℕ) (
     → Each (λ (s : SymbolData). P s.entry) (put_entry ss name e)
 each_put P [] name e h p = (p, tt)
 each_put P (s ∷ ss) name e h p =
-    by_both (λ (us : List SymbolData). Each (λ (t : SymbolData). P t.entry) us) (bytes_eq name s.name) (symbol s.name e ∷ ss) (s ∷ put_entry ss name e)
+    by_test (λ (us : List SymbolData). Each (λ (t : SymbolData). P t.entry) us) (bytes_eq name s.name) (symbol s.name e ∷ ss) (s ∷ put_entry ss name e)
     (λ b. (p, h.1)) (λ b. (h.0, each_put P ss name e h.1 p))
 
 -- what is known of a name has what each entry has

@@ -6,6 +6,7 @@ use Rattle.tc_isa.specs.declared.fields.Fields.{Fields}
 use Rattle.tc_isa.specs.Rows.{RowData, listed}
 use Rattle.tc_isa.specs.Words.{bounds}
 use Rattle.tc_isa.specs.Codec.{is_below_test, rest_is_zero, uses_of, is_apart, spelling}
+use Rattle.tc_reloc.specs.Forms.{is_reloc}
 use Rattle.tc_stmt.specs.Names.{is_name}
 use Rattle.tc_stmt.specs.Filling.{ReferenceData, FoundData, displaced, broken}
 use Rattle.tc_asm.specs.declared.entries.Place.{Place}
@@ -57,9 +58,9 @@ has_room d n = nat_le (d.total + n) (2 ^ 24)
 abbrev pub here : DraftData → Place
 here d = record { section = d.section; offset = place_of d }
 
--- a label that stands here; none where its name is bad or there is no section
+-- a label that stands here, if it is a name; outside of all sections it defines its name too, though its line breaks a rule
 unfoldable pub with_label : DraftData → List ℕ → DraftData
-with_label d name = if is_name name && has_section d then record d { symbols = labelled d.symbols name (here d) } else d
+with_label d name = if is_name name then record d { symbols = labelled d.symbols name (here d) } else d
 
 -- the number of the section of this name, and of the next section where none has it
 abbrev pub number_of_part : List PartData → List ℕ → ℕ
@@ -91,10 +92,6 @@ with_bytes d bs =
 unfoldable pub used : List PartData → ℕ → UseData → List PartData
 used parts i u = option_map_or (λ p. slice_set parts i (record p { uses = p.uses ++ u ∷ [] })) (slice_get parts i) parts
 
--- the kinds of relocations, from 1 to 7
-abbrev pub is_reloc : ℕ → Bool
-is_reloc kind = nat_le 1 kind && nat_le kind 7
-
 -- a relocation for four bytes that stand here, where there is room: at most 65,535
 unfoldable pub with_use : DraftData → ℕ → ReferenceData → DraftData
 with_use d size r =
@@ -116,7 +113,7 @@ with_content d bs r = with_bytes (with_reference d (length bs) r) bs
 unfoldable pub distance : List SymbolData → DraftData → ReferenceData → Option (Bool × ℕ)
 distance labels d r =
     option_map_or
-    (λ (a : Place). if a.section == d.section
+    (λ (a : Place). if has_section d && a.section == d.section
     then (if nat_le (place_of d + (if r.minus then r.size else 0)) (a.offset + (if r.minus then 0 else r.size))
     then Some (false, (a.offset + (if r.minus then 0 else r.size)) - (place_of d + (if r.minus then r.size else 0)))
     else Some (true, (place_of d + (if r.minus then r.size else 0)) - (a.offset + (if r.minus then 0 else r.size))))

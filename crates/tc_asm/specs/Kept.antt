@@ -6,7 +6,8 @@ use Rattle.tc_object.specs.Names.{IsName}
 use Rattle.tc_object.specs.Objects.{InTurn}
 use Rattle.tc_asm.specs.declared.entries.Place.{Place}
 use Rattle.tc_asm.specs.Symbols.{SymbolData}
-use Rattle.tc_asm.specs.Drafts.{UseData, PartData, DraftData, is_reloc}
+use Rattle.tc_reloc.specs.Forms.{is_reloc}
+use Rattle.tc_asm.specs.Drafts.{UseData, PartData, DraftData}
 
 -- each of these is so
 abbrev pub Each : {A : Type 0} → (A → Type 0) → List A → Type 0

@@ -11,3 +11,6 @@ pub mod Objects
 pub mod Kept
 pub mod Errors
 pub mod Statements
+pub mod Contents
+pub mod Relocations
+pub mod Spelled

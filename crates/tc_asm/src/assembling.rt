@@ -10,10 +10,10 @@ ghost use Rattle.tc_asm.specs.Errors.{IfBad};
 ghost use Rattle.tc_asm.specs.Kept.{IsDraft};
 
 use crate::AsmErr;
-use crate::drafting::Draft;
-use crate::finishing::finish;
+use crate::draft::Draft;
+use crate::emit::finish;
 use crate::items::Item;
-use crate::reading::read_line;
+use crate::parse::read_line;
 use crate::symbols::Symbols;
 use std::alloc::{AllocError, Global};
 use tc_object::Object;

@@ -2,20 +2,20 @@
 #![tactic(auto)]
 
 mod assembling;
-mod codes;
 mod data;
-mod drafting;
+mod draft;
+mod emit;
+mod encode;
 mod entries;
 mod errors;
-mod finishing;
 mod items;
 mod laws;
 mod lines;
-mod looks;
+mod parse;
 mod pieces;
-mod reading;
 #[cfg(test)]
 mod row_tests;
+mod rules;
 mod sections;
 mod symbols;
 #[cfg(test)]
@@ -25,6 +25,6 @@ pub use assembling::assemble;
 pub use entries::{Entry, Place};
 pub use errors::AsmErr;
 pub use items::Item;
-pub use laws::section_laws;
+pub use laws::{instruction_laws, relocation_laws, section_laws};
 pub use lines::Line;
 pub use symbols::Symbols;

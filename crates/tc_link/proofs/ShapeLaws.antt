@@ -1,17 +1,13 @@
 -- Sections keep their names and lengths when relocations are written, and so their rooms.
-use Rattle.std.proofs.Common.{◌≡◌, ◌+◌, ◌-◌, ◌<◌, ◌≤◌, ◌∷◌, ◌++◌, [], ℕ, zero, suc, Bool, true, false, cond, List, length, take, drop, get_or, replicate, map, Option, Some, None, refl, sym, ap, ◌∙◌, arith, append_assoc, length-append, length-drop, drop-cons, subst}
-use Rattle.std.specs.Prelude.{slice_get, slice_set}
-use Rattle.std.specs.Option.{option_map_or}
-use Rattle.std.specs.List.{fold, flat_map}
+use Rattle.std.proofs.Common.{◌≡◌, ◌+◌, ◌-◌, ◌≤◌, ◌∷◌, ◌++◌, [], ℕ, Bool, true, false, cond, List, length, take, drop, replicate, map, refl, sym, ap, ◌∙◌, arith, length-append, length-drop}
+use Rattle.std.specs.List.{fold}
 use Rattle.std.specs.Str.{bytes_eq}
 use Rattle.std.proofs.lemmas.List.{length-take-le, length-replicate}
 use Rattle.tc_object.specs.declared.relocs.Reloc.{Reloc}
-use Rattle.tc_object.specs.Objects.{SectionData, ObjectData}
-use Rattle.tc_reloc.specs.Applied.{with_field}
-use Rattle.tc_reloc.specs.Fields.{content_of}
-use Rattle.tc_link.specs.Placing.{GlobalData, PlacedData, rounded, with_size, taken}
+use Rattle.tc_object.specs.Objects.{SectionData}
+use Rattle.tc_link.specs.Placing.{rounded, with_size, taken}
 use Rattle.tc_link.specs.Shapes.{Shape, shape_of}
-use Rattle.tc_link.specs.Relocated.{field_at, with_field_at, filled, padded, with_section, joined}
+use Rattle.tc_link.specs.Relocated.{with_field_at, filled, padded, with_section, joined}
 
 -- ---- lengths of joined sections
 padded_length : (bytes : List ℕ) → length (padded bytes) ≡ rounded (length bytes)

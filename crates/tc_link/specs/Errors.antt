@@ -1,5 +1,5 @@
 -- What an error of linking says.
-use Rattle.std.specs.Prelude.{◌≡◌, List, ℕ, Option, Some, None, string_bytes, IfSome}
+use Rattle.std.specs.Prelude.{◌≡◌, Option, Some, None, string_bytes, IfSome}
 use Rattle.tc_link.specs.declared.errors.LinkErr.{LinkErr}
 use Rattle.tc_link.specs.declared.errors.LinkErr.TheVariants.{Twice, Missing, NoPlace, NoRoom, Reloc, NoEntry, NoMemory}
 use Rattle.tc_link.specs.Linked.{Refusal, twice, missing, no_place, no_room, reloc, no_entry}

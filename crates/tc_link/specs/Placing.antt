@@ -1,10 +1,10 @@
 -- Where the sections and symbols of objects lie.
-use Rattle.std.specs.Prelude.{◌+◌, ◌*◌, ◌/◌, ◌%◌, ◌^◌, ◌==◌, ◌&&◌, if◌then◌else◌, ℕ, Bool, List, [], ◌∷◌, ◌++◌, length, map, filter, fold, find, sum_by, slice_get, slice_index, Option, Some, None}
+use Rattle.std.specs.Prelude.{◌+◌, ◌*◌, ◌/◌, ◌%◌, ◌^◌, ◌==◌, if◌then◌else◌, ℕ, Bool, List, [], ◌∷◌, ◌++◌, length, map, filter, fold, find, slice_index, Option}
 use Rattle.std.specs.Option.{option_map, option_map_or}
 use Rattle.std.specs.List.{flat_map}
 use Rattle.std.specs.Str.{bytes_eq}
 use Rattle.tc_object.specs.Objects.{SectionData, SymbolData, ObjectData}
-use Rattle.tc_link.specs.Layouts.{PlaceData, LayoutData}
+use Rattle.tc_link.specs.Layouts.{PlaceData}
 
 -- ---- sections
 -- the sections of objects, one object after another

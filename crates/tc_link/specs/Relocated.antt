@@ -1,11 +1,10 @@
 -- The bytes of sections with their relocations, and of places.
-use Rattle.std.specs.Prelude.{◌+◌, ◌-◌, ◌%◌, ◌^◌, nat_lt, if◌then◌else◌, ℕ, List, [], ◌∷◌, ◌++◌, length, map, filter, fold, take, drop, slice_get, slice_set, replicate, Option, Some, None}
-use Rattle.std.specs.Option.{option_map, option_map_or}
-use Rattle.std.specs.List.{flat_map}
+use Rattle.std.specs.Prelude.{◌+◌, ◌-◌, ◌%◌, ◌^◌, nat_lt, if◌then◌else◌, ℕ, List, [], ◌++◌, length, map, filter, fold, take, drop, slice_get, slice_set, replicate, Option}
+use Rattle.std.specs.Option.{option_map_or}
 use Rattle.std.specs.Str.{bytes_eq}
 use Rattle.elf_image.specs.Images.{SegmentData}
 use Rattle.tc_object.specs.declared.relocs.Reloc.{Reloc}
-use Rattle.tc_object.specs.Objects.{SectionData, SymbolData, ObjectData}
+use Rattle.tc_object.specs.Objects.{SectionData}
 use Rattle.tc_reloc.specs.declared.refusals.RelocErr.{RelocErr}
 use Rattle.tc_reloc.specs.Refusals.{refusal_of}
 use Rattle.tc_reloc.specs.Fields.{content_of}

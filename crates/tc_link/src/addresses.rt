@@ -3,7 +3,7 @@ ghost use Rattle.std.specs.Prelude.{◌≡◌, ◌+◌, ◌%◌, ◌^◌, ◌++�
 ghost use Rattle.std.specs.Option.{option_copied, option_map_or};
 ghost use Rattle.tc_link.specs.Placing.{GlobalData, is_global, address_in, global_data, globals_of, global_address, symbol_address};
 ghost use Rattle.tc_link.specs.Relocated.{value_of};
-ghost use Rattle.tc_link.specs.Names.{at_name};
+ghost use Rattle.tc_link.specs.Names.{at_name, AreGlobals};
 ghost use Rattle.tc_link.specs.declared.errors.LinkErr.TheVariants.{NoMemory};
 
 use crate::LinkErr;
@@ -29,7 +29,8 @@ fn add_global<'a>(
     name: &'a str,
     address: u32,
 ) -> Result<(), LinkErr>
-    ensures ok { OnOk result ((before : List GlobalData) → ((q : List ℕ) → at_name globals.old q ≡ global_address before q) → (q : List ℕ) → at_name globals.new q ≡ global_address (before ++ record { name = name.now; address = address } ∷ []) q) }
+    ensures ok { OnOk result ((before : List GlobalData) → AreGlobals globals.old before
+        → AreGlobals globals.new (before ++ record { name = name.now; address = address } ∷ [])) }
     ensures err { IfErr result (λ e. e ≡ NoMemory) }
 {
     if globals.contains_key(name) {
@@ -45,7 +46,8 @@ fn add_symbol<'a>(
     bases: &[u64],
     symbol: &'a Symbol,
 ) -> Result<(), LinkErr>
-    ensures ok { OnOk result ((before : List GlobalData) → ((q : List ℕ) → at_name globals.old q ≡ global_address before q) → (q : List ℕ) → at_name globals.new q ≡ global_address (before ++ map (global_data bases.now) (filter is_global (symbol.now ∷ []))) q) }
+    ensures ok { OnOk result ((before : List GlobalData) → AreGlobals globals.old before
+        → AreGlobals globals.new (before ++ map (global_data bases.now) (filter is_global (symbol.now ∷ [])))) }
     ensures err { IfErr result (λ e. e ≡ NoMemory) }
 {
     let is_global = symbol.kind == 2;
@@ -62,7 +64,8 @@ fn add_globals<'a>(
     bases: &[u64],
     symbols: &'a [Symbol],
 ) -> Result<(), LinkErr>
-    ensures ok { OnOk result ((before : List GlobalData) → ((q : List ℕ) → at_name globals.old q ≡ global_address before q) → (q : List ℕ) → at_name globals.new q ≡ global_address (before ++ map (global_data bases.now) (filter is_global symbols.now)) q) }
+    ensures ok { OnOk result ((before : List GlobalData) → AreGlobals globals.old before
+        → AreGlobals globals.new (before ++ map (global_data bases.now) (filter is_global symbols.now))) }
     ensures err { IfErr result (λ e. e ≡ NoMemory) }
 {
     for symbol in symbols {
@@ -83,7 +86,7 @@ pub(crate) fn globals_of<'a>(
     alloc: Global,
     placed: &'a [Placed<'a>],
 ) -> Result<BTreeMap<&'a str, u32>, LinkErr>
-    ensures ok { IfOk result (λ globals. (q : List ℕ) → at_name globals q ≡ global_address (globals_of placed.now) q) }
+    ensures ok { IfOk result (λ globals. AreGlobals globals (globals_of placed.now)) }
     ensures err { IfErr result (λ e. e ≡ NoMemory) }
 {
     let mut globals = no_globals(alloc);
@@ -103,7 +106,8 @@ pub(crate) fn address_named(globals: &BTreeMap<&str, u32>, name: &str) -> Option
 
 // The address of a symbol of an object whose sections begin there; 0 where it has none.
 fn symbol_address(globals: &BTreeMap<&str, u32>, bases: &[u64], symbol: &Symbol) -> u32
-    ensures { (all : List GlobalData) → ((q : List ℕ) → at_name globals.now q ≡ global_address all q) → result ≡ symbol_address all bases.now symbol.now }
+    ensures { (all : List GlobalData) → AreGlobals globals.now all
+        → result ≡ symbol_address all bases.now symbol.now }
 {
     if symbol.kind != 0 {
         return address_in(bases, symbol.section, symbol.offset);
@@ -116,7 +120,8 @@ fn symbol_address(globals: &BTreeMap<&str, u32>, bases: &[u64], symbol: &Symbol)
 
 /// What a relocation takes: the address of its symbol and the addend.
 pub(crate) fn value_of(globals: &BTreeMap<&str, u32>, placed: &Placed<'_>, reloc: &Reloc) -> u32
-    ensures { (all : List GlobalData) → ((q : List ℕ) → at_name globals.now q ≡ global_address all q) → result ≡ value_of all placed.now reloc.now }
+    ensures { (all : List GlobalData) → AreGlobals globals.now all
+        → result ≡ value_of all placed.now reloc.now }
 {
     let object = placed.object;
     let address = match object.symbols.get(reloc.symbol as usize) {

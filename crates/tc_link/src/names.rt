@@ -2,7 +2,7 @@
 ghost use Rattle.std.specs.Prelude.{◌≡◌, ◌+◌, nat_lt, not, ◌==◌, ℕ, List, [], count_by, Option, OnOk, IfOk, IfErr, if◌then◌else◌, None};
 ghost use Rattle.std.specs.Str.{bytes_eq};
 ghost use Rattle.tc_link.specs.Linked.{named, globals_named};
-ghost use Rattle.tc_link.specs.Names.{at_name, kept};
+ghost use Rattle.tc_link.specs.Names.{at_name, kept, CountsGlobals};
 ghost use Rattle.tc_link.specs.declared.errors.LinkErr.TheVariants.{NoMemory};
 
 use crate::LinkErr;
@@ -55,7 +55,7 @@ fn no_names<'a>(alloc: Global) -> BTreeMap<&'a str, bool>
 
 /// The names of the global symbols of objects.
 pub(crate) fn names_of(alloc: Global, objects: &[Object]) -> Result<BTreeMap<&str, bool>, LinkErr>
-    ensures ok { IfOk result (λ names. (q : List ℕ) → at_name names q ≡ kept (globals_named objects.now q)) }
+    ensures ok { IfOk result (λ names. CountsGlobals names objects.now) }
     ensures err { IfErr result (λ e. e ≡ NoMemory) }
 {
     let mut names = no_names(alloc);

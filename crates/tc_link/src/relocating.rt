@@ -6,7 +6,7 @@ ghost use Rattle.tc_link.specs.Placing.{GlobalData, global_address, globals_of};
 ghost use Rattle.tc_link.specs.Relocated.{field_at, with_field_at, filled, reloc_refusal, with_reloc, relocated};
 ghost use Rattle.tc_link.specs.Shapes.{shape_of};
 ghost use Rattle.tc_link.specs.Linked.{first_some, refusal_at, reloc_in, contents_of};
-ghost use Rattle.tc_link.specs.Names.{at_name};
+ghost use Rattle.tc_link.specs.Names.{AreGlobals};
 ghost use Rattle.tc_link.specs.Errors.{IsRefusal};
 ghost use Rattle.tc_link.specs.declared.errors.LinkErr.TheVariants.{NoMemory};
 
@@ -81,8 +81,11 @@ fn write_in(
     requires most { reloc.now.kind ≤ 7 }
     requires within { reloc.now.section < length sections.old }
     requires room { reloc.now.offset + 4 ≤ size_at sections.old reloc.now.section }
-    ensures refusal { (all : List GlobalData) → ((q : List ℕ) → at_name globals.now q ≡ global_address all q) → MatchResult result (λ _. reloc_refusal all placed.now reloc.now ≡ None) (λ err. reloc_refusal all placed.now reloc.now ≡ Some err) }
-    ensures written { OnOk result ((all : List GlobalData) → ((q : List ℕ) → at_name globals.now q ≡ global_address all q) → sections.new ≡ with_reloc all placed.now sections.old reloc.now) }
+    ensures refusal { (all : List GlobalData) → AreGlobals globals.now all
+        → MatchResult result (λ _. reloc_refusal all placed.now reloc.now
+        ≡ None) (λ err. reloc_refusal all placed.now reloc.now ≡ Some err) }
+    ensures written { OnOk result ((all : List GlobalData) → AreGlobals globals.now all
+        → sections.new ≡ with_reloc all placed.now sections.old reloc.now) }
     ensures shapes { OnOk result (map shape_of sections.new ≡ map shape_of sections.old) }
 {
     let place = address_in(&placed.bases, reloc.section, reloc.offset);
@@ -98,9 +101,12 @@ fn write_all(
     sections: &mut [Section],
 ) -> Result<(), LinkErr>
     requires { sections.old ≡ placed.now.object.sections }
-    ensures sections { OnOk result ((all : List GlobalData) → ((q : List ℕ) → at_name globals.now q ≡ global_address all q) → sections.new ≡ relocated all placed.now) }
-    ensures none { OnOk result ((all : List GlobalData) → ((q : List ℕ) → at_name globals.now q ≡ global_address all q) → first_some (refusal_at all number placed.now) placed.now.object.relocs ≡ None) }
-    ensures err { IfErr result (λ e. (all : List GlobalData) → ((q : List ℕ) → at_name globals.now q ≡ global_address all q) → IsRefusal (first_some (refusal_at all number placed.now) placed.now.object.relocs) e) }
+    ensures sections { OnOk result ((all : List GlobalData) → AreGlobals globals.now all
+        → sections.new ≡ relocated all placed.now) }
+    ensures none { OnOk result ((all : List GlobalData) → AreGlobals globals.now all
+        → first_some (refusal_at all number placed.now) placed.now.object.relocs ≡ None) }
+    ensures err { IfErr result (λ e. (all : List GlobalData) → AreGlobals globals.now all
+        → IsRefusal (first_some (refusal_at all number placed.now) placed.now.object.relocs) e) }
 {
     let object = placed.object;
     for reloc in &object.relocs {
@@ -123,9 +129,12 @@ fn relocated(
     number: u32,
     placed: &Placed<'_>,
 ) -> Result<Vec<Section>, LinkErr>
-    ensures sections { IfOk result (λ ss. (all : List GlobalData) → ((q : List ℕ) → at_name globals.now q ≡ global_address all q) → ss.items ≡ relocated all placed.now) }
-    ensures none { OnOk result ((all : List GlobalData) → ((q : List ℕ) → at_name globals.now q ≡ global_address all q) → first_some (refusal_at all number placed.now) placed.now.object.relocs ≡ None) }
-    ensures err { IfErr result (λ e. (all : List GlobalData) → ((q : List ℕ) → at_name globals.now q ≡ global_address all q) → IsRefusal (first_some (refusal_at all number placed.now) placed.now.object.relocs) e) }
+    ensures sections { IfOk result (λ ss. (all : List GlobalData) → AreGlobals globals.now all
+        → ss.items ≡ relocated all placed.now) }
+    ensures none { OnOk result ((all : List GlobalData) → AreGlobals globals.now all
+        → first_some (refusal_at all number placed.now) placed.now.object.relocs ≡ None) }
+    ensures err { IfErr result (λ e. (all : List GlobalData) → AreGlobals globals.now all
+        → IsRefusal (first_some (refusal_at all number placed.now) placed.now.object.relocs) e) }
 {
     let object = placed.object;
     let mut sections = copies_of(alloc, &object.sections)?;
@@ -152,7 +161,7 @@ pub(crate) fn contents_of(
     placed: &[Placed<'_>],
 ) -> Result<Vec<Section>, LinkErr>
     requires few { length placed.now ≤ 65535 }
-    requires globals { (q : List ℕ) → at_name globals.now q ≡ global_address (globals_of placed.now) q }
+    requires globals { AreGlobals globals.now (globals_of placed.now) }
     ensures sections { IfOk result (λ ss. ss.items ≡ contents_of placed.now) }
     ensures none { OnOk result (reloc_in (globals_of placed.now) placed.now ≡ None) }
     ensures err { IfErr result (IsRefusal (reloc_in (globals_of placed.now) placed.now)) }

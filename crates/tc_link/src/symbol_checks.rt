@@ -5,7 +5,7 @@ ghost use Rattle.tc_object.specs.declared.relocs.Reloc.{Reloc};
 ghost use Rattle.tc_object.specs.Objects.{ObjectData};
 ghost use Rattle.tc_link.specs.Placing.{is_global};
 ghost use Rattle.tc_link.specs.Linked.{twice, missing, twice_of, twice_in, missing_of, missing_in, first_some, is_used, globals_named};
-ghost use Rattle.tc_link.specs.Names.{at_name, kept};
+ghost use Rattle.tc_link.specs.Names.{CountsGlobals};
 ghost use Rattle.tc_link.specs.Errors.{IsRefusal};
 ghost use Rattle.tc_link.specs.declared.errors.LinkErr.TheVariants.{NoMemory};
 
@@ -17,14 +17,16 @@ use tc_object::{Object, Symbol};
 
 // Whether a symbol is global, and another one too under its name.
 fn is_repeated(names: &BTreeMap<&str, bool>, symbol: &Symbol) -> bool
-    ensures { (objects : List ObjectData) → ((q : List ℕ) → at_name names.now q ≡ kept (globals_named objects q)) → result ≡ (is_global symbol.now && nat_lt 1 (globals_named objects symbol.now.name)) }
+    ensures { (objects : List ObjectData) → CountsGlobals names.now objects
+        → result ≡ (is_global symbol.now && nat_lt 1 (globals_named objects symbol.now.name)) }
 {
     symbol.kind == 2 && is_twice(names, symbol.name.as_str())
 }
 
 // The name of the first of these symbols that is defined in two objects.
 fn first_repeated<'a>(names: &BTreeMap<&str, bool>, symbols: &'a [Symbol]) -> Option<&'a str>
-    ensures { (objects : List ObjectData) → ((q : List ℕ) → at_name names.now q ≡ kept (globals_named objects q)) → first_some (twice_of objects) symbols.now ≡ option_map (λ name. twice name.now) result }
+    ensures { (objects : List ObjectData) → CountsGlobals names.now objects
+        → first_some (twice_of objects) symbols.now ≡ option_map (λ name. twice name.now) result }
 {
     for symbol in symbols {
         if is_repeated(names, symbol) {
@@ -40,7 +42,7 @@ pub(crate) fn check_repeated(
     names: &BTreeMap<&str, bool>,
     objects: &[Object],
 ) -> Result<(), LinkErr>
-    requires { (q : List ℕ) → at_name names.now q ≡ kept (globals_named objects.now q) }
+    requires { CountsGlobals names.now objects.now }
     ensures ok { OnOk result (twice_in objects.now ≡ None) }
     ensures err { IfErr result (IsRefusal (twice_in objects.now)) }
 {
@@ -76,7 +78,8 @@ fn used_symbols(alloc: Global, object: &Object) -> Result<Vec<bool>, LinkErr>
 
 // Whether a symbol that is used or not is undefined here and in all objects.
 fn is_lost(names: &BTreeMap<&str, bool>, used: bool, symbol: &Symbol) -> bool
-    ensures { (objects : List ObjectData) → ((q : List ℕ) → at_name names.now q ≡ kept (globals_named objects q)) → result ≡ (symbol.now.kind == 0 && used && globals_named objects symbol.now.name == 0) }
+    ensures { (objects : List ObjectData) → CountsGlobals names.now objects
+        → result ≡ (symbol.now.kind == 0 && used && globals_named objects symbol.now.name == 0) }
 {
     symbol.kind == 0 && used && is_missing(names, symbol.name.as_str())
 }
@@ -88,7 +91,7 @@ fn first_missing<'a>(
     symbols: &'a [Symbol],
 ) -> Option<&'a str>
     requires { length used.now ≡ length symbols.now }
-    ensures { (objects : List ObjectData) → ((q : List ℕ) → at_name names.now q ≡ kept (globals_named objects q))
+    ensures { (objects : List ObjectData) → CountsGlobals names.now objects
         → (relocs : List Reloc) → ((k : ℕ) (d : Bool) → k < length symbols.now → slice_index_or used.now k d ≡ is_used relocs k)
         → first_some (missing_of objects relocs) symbols.now ≡ option_map (λ name. missing name.now) result }
 {
@@ -106,7 +109,7 @@ pub(crate) fn check_missing(
     names: &BTreeMap<&str, bool>,
     objects: &[Object],
 ) -> Result<(), LinkErr>
-    requires { (q : List ℕ) → at_name names.now q ≡ kept (globals_named objects.now q) }
+    requires { CountsGlobals names.now objects.now }
     ensures ok { OnOk result (missing_in objects.now ≡ None) }
     ensures err { IfErr result (IsRefusal (missing_in objects.now)) }
 {

@@ -1,6 +1,5 @@
 -- One row after another.
-use Rattle.std.proofs.Common.{◌≡◌, ◌<◌, ◌≤◌, ◌+◌, ℕ, List, [], ◌∷◌, length, get_or, drop, map, Option, Result, Ok, Err, refl, ap, sym, subst, ◌∙◌, arith}
-use Rattle.std.specs.Prelude.{codes}
+use Rattle.std.proofs.Common.{◌≡◌, ◌<◌, ◌≤◌, ◌+◌, ℕ, List, [], length, get_or, drop, map, Result, Ok, Err, ap, subst, ◌∙◌}
 use Rattle.std.proofs.lemmas.List.{drop_more, drop_all, length-map}
 use Rattle.tc_isa.specs.declared.table.Row.{Row}
 use Rattle.tc_isa.specs.declared.table.Form.TheVariants.{Rlc}
@@ -8,7 +7,7 @@ use Rattle.tc_isa.specs.Rows.{RowData, row, row_of}
 use Rattle.tc_stmt.specs.declared.finding.Found.{Found}
 use Rattle.tc_stmt.specs.declared.tallying.Tally.{Tally}
 use Rattle.tc_stmt.specs.Operands.{OperandData}
-use Rattle.tc_stmt.specs.Filling.{FoundData, found_of}
+use Rattle.tc_stmt.specs.Filling.{found_of}
 use Rattle.tc_stmt.specs.Judging.{stepped, outcome, followed, rule_of, Steps}
 
 abbrev pub any_row : RowData

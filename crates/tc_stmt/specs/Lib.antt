@@ -6,3 +6,4 @@ pub mod Operands
 pub mod Wants
 pub mod Filling
 pub mod Judging
+pub mod Stated

@@ -1,10 +1,9 @@
 -- What the operand texts of the rows mean.
-use Rattle.std.specs.Prelude.{◌≡◌, ℕ, ◌==◌, Bool, true, false, if◌then◌else◌, List, [], ◌∷◌, map, codes, drop}
+use Rattle.std.specs.Prelude.{ℕ, ◌==◌, true, false, if◌then◌else◌, List, [], ◌∷◌, map, codes}
 use Rattle.std.specs.Borrow.{Bor}
 use Rattle.std.specs.List.{slice_split}
 use Rattle.std.specs.Str.{bytes_eq}
-use Rattle.tc_isa.specs.Rows.{RowData, listed}
-use Rattle.tc_stmt.specs.declared.wanting.Field.{Field}
+use Rattle.tc_isa.specs.Rows.{RowData}
 use Rattle.tc_stmt.specs.declared.wanting.Field.TheVariants.{C, S1, S2, N, K}
 use Rattle.tc_stmt.specs.declared.wanting.Want.{Want}
 use Rattle.tc_stmt.specs.declared.wanting.Want.TheVariants.{Reg, A10, Number, Target, Absolute, Memory}

@@ -3,7 +3,7 @@ ghost use Rattle.std.specs.Prelude.{◌≡◌, ◌<◌, ◌≤◌, ◌+◌, ◌^
 ghost use Rattle.tc_stmt.specs.Pieces.{piece_of};
 ghost use Rattle.tc_stmt.specs.Operands.{value_of, operand_of, number_at, sum_at, named_at, value_at, operand, value as data_of, plain as plain_of, memory as memory_of, plain_number as number_value, added as sum_value};
 
-use crate::numbers::number_of;
+use crate::numbers::{number_of, spells_odd};
 use crate::pieces::{Piece, is_kind, is_text, text_at};
 use crate::values::{Operand, Shape, Value};
 use tc_lex::TokenKind;
@@ -29,25 +29,28 @@ fn plain_number<'a>(minus: bool, n: Option<u128>) -> Value<'a>
     }
 }
 
-// A name with a number added.
-fn added(shape: Shape, name: &[u8], minus: bool, n: Option<u128>) -> Value<'_>
-    ensures { value_of result ≡ sum_value shape name.now minus n }
+// A name with a number added; one of 2^128 or more stays as odd or even as it is.
+fn added(shape: Shape, name: &[u8], minus: bool, n: Option<u128>, odd: bool) -> Value<'_>
+    ensures { value_of result ≡ sum_value shape name.now minus n odd }
 {
-    make_value(shape, name, minus, n.unwrap_or(u128::MAX))
+    let most = if odd { u128::MAX } else { u128::MAX - 1 };
+    make_value(shape, name, minus, n.unwrap_or(most))
 }
 
 #[tactic(auto, unfolding(crate::specs::Operands::number_at))]
-fn number_at(ps: &[Piece], at: usize) -> Option<(bool, Option<u128>)>
+fn number_at(ps: &[Piece], at: usize) -> Option<(bool, Option<u128>, bool)>
     requires { at ≤ length ps.now }
     ensures { result ≡ number_at (map piece_of ps.now) at }
 {
     if is_kind(ps, at, TokenKind::Number) && ps.len() - at == 1 {
-        Some((false, number_of(text_at(ps, at))))
+        let text = text_at(ps, at);
+        Some((false, number_of(text), spells_odd(text)))
     } else if is_kind(ps, at, TokenKind::Minus)
         && ps.len() - at == 2
         && is_kind(ps, at + 1, TokenKind::Number)
     {
-        Some((true, number_of(text_at(ps, at + 1))))
+        let text = text_at(ps, at + 1);
+        Some((true, number_of(text), spells_odd(text)))
     } else {
         None
     }
@@ -63,12 +66,12 @@ fn sum_at<'a>(ps: &[Piece<'a>], at: usize, plain: Shape, summed: Shape) -> Value
             make_value(plain, text_at(ps, at), false, 0)
         } else if is_kind(ps, at + 1, TokenKind::Plus) {
             match number_at(ps, at + 2) {
-                Some((minus, n)) => added(summed, text_at(ps, at), minus, n),
+                Some((minus, n, odd)) => added(summed, text_at(ps, at), minus, n, odd),
                 None => make_value(Shape::Bad, &[], false, 0),
             }
         } else if is_kind(ps, at + 1, TokenKind::Minus) {
             match number_at(ps, at + 2) {
-                Some((minus, n)) => added(summed, text_at(ps, at), !minus, n),
+                Some((minus, n, odd)) => added(summed, text_at(ps, at), !minus, n, odd),
                 None => make_value(Shape::Bad, &[], false, 0),
             }
         } else {
@@ -107,7 +110,7 @@ fn value_at<'a>(ps: &[Piece<'a>], at: usize) -> Value<'a>
         make_value(Shape::Absent, &[], false, 0)
     } else {
         match number_at(ps, at) {
-            Some((minus, n)) => plain_number(minus, n),
+            Some((minus, n, _)) => plain_number(minus, n),
             None => named_at(ps, at),
         }
     }

@@ -7,7 +7,6 @@ mod forms;
 mod inputs;
 mod lines;
 mod outcome;
-mod placing;
 #[cfg(test)]
 mod row_tests;
 mod status;
@@ -15,6 +14,5 @@ mod status;
 mod tests;
 mod tools;
 
-pub use placing::placing_laws;
 pub use status::Status;
 pub use tools::tool;

@@ -1,4 +1,4 @@
-use Rattle.std.proofs.Common.{◌≡◌, ◌∙◌, ℕ, List, cond, Option, Some, None, sym, ap}
+use Rattle.std.proofs.Common.{◌∙◌, ℕ, cond, Option, Some, None, sym, ap}
 use Rattle.std.specs.Option.{option_or}
 use Rattle.std.specs.Str.{bytes_eq}
 use Rattle.std.proofs.lemmas.Map.Text.{btree_map_updates_str}

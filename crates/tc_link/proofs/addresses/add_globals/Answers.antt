@@ -1,6 +1,5 @@
-use Rattle.std.proofs.Common.{◌≡◌, ◌+◌, ◌++◌, ◌∷◌, [], ◌∙◌, ℕ, List, map, take, ap, sym}
+use Rattle.std.proofs.Common.{◌++◌, ◌∙◌, ℕ, List, map, take, ap}
 use Rattle.std.specs.Prelude.{filter}
-use Rattle.tc_object.specs.Objects.{SymbolData}
 use Rattle.tc_link.specs.Placing.{GlobalData, is_global, global_data, global_address}
 use Rattle.tc_link.proofs.GlobalLaws.{symbols_next}
 use Rattle.tc_link.proofs.addresses.add_globals.Goals as goal

@@ -1,9 +1,9 @@
-use Rattle.std.proofs.Common.{◌≡◌, ◌≤◌, ◌∙◌, [], List, length, Result, Ok, Err, Option, Some, sym, ap, subst, arith}
+use Rattle.std.proofs.Common.{◌≡◌, ◌∙◌, [], List, length, Result, Ok, Err, ap, subst, arith}
 use Rattle.std.specs.Prelude.{IfSome, IfOk, IfErr}
 use Rattle.std.proofs.lemmas.Result.{err_from_is_err_and}
 use Rattle.elf_image.specs.Images.{ImageData}
 use Rattle.tc_link.specs.Placing.{PlacedData}
-use Rattle.tc_link.specs.Linked.{Refusal, placed_of, made_of, linked}
+use Rattle.tc_link.specs.Linked.{Refusal, placed_of}
 use Rattle.tc_link.specs.Errors.{refusal_of}
 use Rattle.tc_link.proofs.ImageLaws.{image_of_bytes}
 use Rattle.tc_link.proofs.LinkLaws.{linked_told, linked_made, linked_image, placed_length}

@@ -1,4 +1,4 @@
-use Rattle.std.proofs.Common.{◌≡◌, ◌∙◌, ℕ, List, get_or, ap}
+use Rattle.std.proofs.Common.{◌∙◌, ℕ, List, get_or, ap}
 use Rattle.tc_link.proofs.ItemLaws.{zero_at}
 use Rattle.tc_link.proofs.placed.none_taken.Goals as goal
 

@@ -1,8 +1,8 @@
-use Rattle.std.proofs.Common.{◌≡◌, ◌++◌, ◌∷◌, ◌∙◌, [], ℕ, List, None, Option, Some, take, refl, sym, ap, subst, arith}
+use Rattle.std.proofs.Common.{◌≡◌, ◌++◌, ◌∙◌, ℕ, List, None, Option, Some, take, refl, sym, ap, subst, arith}
 use Rattle.std.specs.Prelude.{IfSome}
 use Rattle.std.proofs.lemmas.Result.{err_from_is_err_and}
 use Rattle.tc_object.specs.Objects.{SectionData, ObjectData, IsObject}
-use Rattle.tc_link.specs.Placing.{PlacedData, sections_of, placed_after, bases_after}
+use Rattle.tc_link.specs.Placing.{sections_of, placed_after, bases_after}
 use Rattle.tc_link.specs.Linked.{Refusal, no_room_after}
 use Rattle.tc_link.specs.Rooms.{AreTaken}
 use Rattle.tc_link.specs.Errors.{refusal_of}

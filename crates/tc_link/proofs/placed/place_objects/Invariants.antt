@@ -1,4 +1,4 @@
-use Rattle.std.proofs.Common.{◌≡◌, ◌<◌, [], ℕ, None, take, length, get_or}
+use Rattle.std.proofs.Common.{◌≡◌, ◌<◌, [], ℕ, None, take, get_or}
 use Rattle.tc_object.specs.Objects.{ObjectData, IsObject}
 use Rattle.tc_link.specs.Placing.{sections_of, placed_after}
 use Rattle.tc_link.specs.Linked.{no_room_after}

@@ -1,4 +1,4 @@
-use Rattle.std.proofs.Common.{◌≡◌, ◌∙◌, ◌≤◌, ℕ, List, get_or, length, ap, arith}
+use Rattle.std.proofs.Common.{◌≡◌, ◌∙◌, ℕ, List, get_or, ap, arith}
 use Rattle.tc_link.proofs.RoomLaws.{are_taken_none}
 use Rattle.tc_link.proofs.placed.placed_of.Goals as goal
 

@@ -1,7 +1,7 @@
-use Rattle.std.proofs.Common.{◌≡◌, ◌<◌, ◌∙◌, ℕ, List, Option, Some, None, refl, sym, ap}
+use Rattle.std.proofs.Common.{◌∙◌, ℕ, List, refl}
 use Rattle.std.proofs.lemmas.Result.{err_from_is_err_and}
 use Rattle.tc_link.specs.Placing.{PlacedData, GlobalData, globals_of}
-use Rattle.tc_link.specs.Linked.{Refusal, first_at, refusal_at, reloc_in}
+use Rattle.tc_link.specs.Linked.{first_at, refusal_at, reloc_in}
 use Rattle.tc_link.specs.Errors.{refusal_of}
 use Rattle.tc_link.proofs.FirstLaws.{more_item, told_item}
 use Rattle.tc_link.proofs.RelocLaws.{contents_next}

@@ -1,8 +1,8 @@
-use Rattle.std.proofs.Common.{◌≡◌, ◌<◌, ◌≤◌, ◌∙◌, ℕ, List, Option, Some, None, length, get_or, take, map, refl, sym, ap, subst}
+use Rattle.std.proofs.Common.{◌≡◌, ◌<◌, ◌≤◌, ◌∙◌, ℕ, List, Some, length, get_or, map, refl, sym, ap, subst}
 use Rattle.std.specs.List.{fold}
 use Rattle.std.proofs.lemmas.List.{take_all}
 use Rattle.tc_object.specs.declared.relocs.Reloc.{Reloc}
-use Rattle.tc_object.specs.Objects.{SectionData, ObjectData, IsObject}
+use Rattle.tc_object.specs.Objects.{ObjectData, IsObject}
 use Rattle.tc_link.specs.Placing.{PlacedData}
 use Rattle.tc_link.specs.Relocated.{with_reloc, relocated}
 use Rattle.tc_link.specs.Shapes.{shape_of}

@@ -1,4 +1,4 @@
-use Rattle.std.proofs.Common.{◌<◌, ◌≤◌, length, arith}
+use Rattle.std.proofs.Common.{arith}
 use Rattle.tc_link.proofs.RoomLaws.{are_taken_more}
 use Rattle.tc_link.proofs.rooms.add_size.Goals as goal
 

@@ -1,4 +1,4 @@
-use Rattle.std.proofs.Common.{◌≡◌, ◌++◌, List, None, take, length}
+use Rattle.std.proofs.Common.{◌≡◌, ◌++◌, List, None, take}
 use Rattle.tc_object.specs.Objects.{SectionData}
 use Rattle.tc_link.specs.Placing.{bases_after}
 use Rattle.tc_link.specs.Linked.{no_room_after}

@@ -1,4 +1,4 @@
-use Rattle.std.proofs.Common.{◌≡◌, ◌&&◌, ◌||◌, ◌∙◌, not, Bool, Some, refl, sym, ap, ℕ, List, length, ltb}
+use Rattle.std.proofs.Common.{◌&&◌, ◌||◌, ◌∙◌, not, Bool, Some, refl, sym, ap, ℕ, List, length, ltb}
 use Rattle.tc_object.specs.Objects.{SectionData}
 use Rattle.tc_link.specs.Layouts.{is_placed}
 use Rattle.tc_link.specs.Linked.{first_at, no_place, no_place_of, has_symbol}

@@ -1,10 +1,10 @@
-use Rattle.std.proofs.Common.{◌≡◌, ◌+◌, length, drop, map, Option, Some, None, ap, sym, ◌∙◌, arith}
+use Rattle.std.proofs.Common.{◌+◌, drop, map, Option, ap, sym, ◌∙◌, arith}
 use Rattle.std.specs.Prelude.{option_map, option_and_then}
 use Rattle.std.proofs.lemmas.List.{length-map}
 use Rattle.tc_isa.specs.Rows.{row_of}
 use Rattle.tc_stmt.specs.declared.finding.Found.{Found}
 use Rattle.tc_stmt.specs.Operands.{operand_of}
-use Rattle.tc_stmt.specs.Filling.{FoundData, found_of, fill_all}
+use Rattle.tc_stmt.specs.Filling.{found_of, fill_all}
 use Rattle.tc_stmt.proofs.Filled.{fill_all-end, fill_step}
 use Rattle.tc_stmt.proofs.judging.+fill_from.Goals as goal
 

@@ -1,4 +1,4 @@
-use Rattle.std.proofs.Common.{◌≡◌, ◌<◌, length, map, ap, sym, ◌∙◌, Err, arith}
+use Rattle.std.proofs.Common.{map, ap, sym, ◌∙◌, Err, arith}
 use Rattle.tc_stmt.specs.Operands.{operand_of}
 use Rattle.tc_stmt.proofs.Outcomes.{any_row, outcome-ok, outcome-err, outcome-end}
 use Rattle.tc_stmt.proofs.judging.judge.Goals as goal

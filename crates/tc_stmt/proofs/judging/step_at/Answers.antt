@@ -1,5 +1,5 @@
-use Rattle.std.proofs.Common.{◌≡◌, ◌<◌, length, arith}
-use Rattle.tc_stmt.proofs.Places.{wants_here, long_wants, row_here}
+use Rattle.std.proofs.Common.{arith}
+use Rattle.tc_stmt.proofs.Places.{wants_here, long_wants}
 use Rattle.tc_stmt.proofs.judging.step_at.Goals as goal
 
 pub step-requires : goal.step-requires

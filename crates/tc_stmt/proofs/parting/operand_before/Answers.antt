@@ -1,4 +1,4 @@
-use Rattle.std.proofs.Common.{◌≡◌, ◌-◌, take, map, sym, ap, ◌∙◌, arith}
+use Rattle.std.proofs.Common.{take, map, sym, ap, ◌∙◌, arith}
 use Rattle.std.proofs.lemmas.List.{take-map}
 use Rattle.tc_stmt.specs.Pieces.{piece_of}
 use Rattle.tc_stmt.specs.Operands.{operand}

@@ -4,7 +4,7 @@ use Rattle.std.specs.List.{slice_split}
 use Rattle.std.proofs.lemmas.List.{map_push, length_push}
 use Rattle.std.proofs.lemmas.Bool.Decides.{nat_tests}
 use Rattle.tc_stmt.specs.Pieces.{piece_of}
-use Rattle.tc_stmt.specs.Operands.{OperandData, operand_of, operand, is_comma}
+use Rattle.tc_stmt.specs.Operands.{operand_of, operand, is_comma}
 use Rattle.tc_stmt.specs.declared.pieces.Piece.{Piece}
 use Rattle.tc_stmt.proofs.Parted.{parted_more, parted_end, operands-some, operands-none}
 use Rattle.tc_stmt.proofs.parting.operands.Goals as goal

@@ -1,0 +1,210 @@
+-- Both passes over a source give the same symbols.
+use Rattle.std.proofs.Common.{◌≡◌, ◌+◌, ◌^◌, ◌&&◌, ℕ, zero, suc, Bool, true, false, cond, List, [], ◌∷◌, ◌++◌, length, map, replicate, Option, Some, None, refl, sym, ap, ◌∙◌, arith, length-append}
+use Rattle.std.specs.Prelude.{fold, nat_lt, nat_le, not, position, unwrap_or}
+use Rattle.std.specs.Str.{bytes_eq}
+use Rattle.std.proofs.lemmas.List.{length-map, map-append}
+use Rattle.tc_stmt.specs.Names.{is_name}
+use Rattle.tc_stmt.specs.Filling.{ReferenceData}
+use Rattle.tc_stmt.proofs.Mapped.{position-map}
+use Rattle.tc_asm.specs.declared.entries.Place.{Place}
+use Rattle.tc_asm.specs.Items.{ItemData, label, section, global, code, bytes, zeros}
+use Rattle.tc_asm.specs.Lines.{lines_in}
+use Rattle.tc_asm.specs.Symbols.{SymbolData, seen, labelled, made_global}
+use Rattle.tc_asm.specs.Drafts.{PartData, DraftData, part, start, place_of, has_section, has_room, here, with_label, number_of_part, entered, with_global, extended, with_bytes, used, with_use, with_reference, with_content, code_bytes, stepped}
+use Rattle.tc_asm.specs.Sources.{symbols_of}
+use Rattle.tc_asm.specs.Kept.{Each, size_at}
+use Rattle.tc_asm.specs.Statements.{items_in}
+use Rattle.tc_stmt.proofs.Cases.{by_test}
+use Rattle.tc_asm.proofs.ListLaws.{changed, changed-set, size_at-get}
+use Rattle.tc_asm.specs.Contents.{symbols_in}
+use Rattle.tc_asm.proofs.SourceItems.{IsItem, source_are}
+use Rattle.tc_asm.proofs.CodeSizes.{code_length}
+use Rattle.tc_asm.proofs.SourceParts.{lines_items}
+
+-- a section's name and how many bytes it has
+record SizeData : Type 0 where
+  name : List ℕ
+  size : ℕ
+
+abbrev size_of : PartData → SizeData
+size_of p = record { name = p.name; size = length p.bytes }
+
+-- two drafts that differ only in what the bytes are, and in uses of symbols
+record Alike (d e : DraftData) : Type 0 where
+  section : d.section ≡ e.section
+  sizes : map size_of d.parts ≡ map size_of e.parts
+  symbols : d.symbols ≡ e.symbols
+  total : d.total ≡ e.total
+
+alike_same : (d : DraftData) → Alike d d
+alike_same d = record { section = refl; sizes = refl; symbols = refl; total = refl }
+
+alike_then : (d e f : DraftData) → Alike d e → Alike e f → Alike d f
+alike_then d e f h k = record { section = h.section ∙ k.section; sizes = h.sizes ∙ k.sizes; symbols = h.symbols ∙ k.symbols; total = h.total ∙ k.total }
+
+alike_back : (d e : DraftData) → Alike d e → Alike e d
+alike_back d e h = record { section = sym h.section; sizes = sym h.sizes; symbols = sym h.symbols; total = sym h.total }
+
+alike_cond : (a b : Bool) (d e x y : DraftData) → a ≡ b → Alike x y → Alike d e → Alike (cond a x d) (cond b y e)
+alike_cond true true d e x y same h k = h
+alike_cond true false d e x y same h k = cc
+alike_cond false true d e x y same h k = cc
+alike_cond false false d e x y same h k = k
+
+-- ---- sections
+heads : {A : Type 0} (x y : A) (xs ys : List A) → (x ∷ xs) ≡ (y ∷ ys) → x ≡ y
+heads x y xs ys e = cc
+
+tails : {A : Type 0} (x y : A) (xs ys : List A) → (x ∷ xs) ≡ (y ∷ ys) → xs ≡ ys
+tails x y xs ys e = cc
+
+same_size : (ps qs : List PartData) (n : ℕ) → map size_of ps ≡ map size_of qs → size_at ps n ≡ size_at qs n
+same_size [] [] n e = refl
+same_size [] (q ∷ qs) n e = cc
+same_size (p ∷ ps) [] n e = cc
+same_size (p ∷ ps) (q ∷ qs) zero e = ap (λ (s : SizeData). s.size) (heads (size_of p) (size_of q) (map size_of ps) (map size_of qs) e)
+same_size (p ∷ ps) (q ∷ qs) (suc n) e = same_size ps qs n (tails (size_of p) (size_of q) (map size_of ps) (map size_of qs) e)
+
+same_grown : (f g : PartData → PartData) → ((p q : PartData) → size_of p ≡ size_of q → size_of (f p) ≡ size_of (g q)) → (ps qs : List PartData) (n : ℕ) → map size_of ps ≡ map size_of qs →
+    map size_of (changed f ps n) ≡ map size_of (changed g qs n)
+same_grown f g h [] [] n e = refl
+same_grown f g h [] (q ∷ qs) n e = cc
+same_grown f g h (p ∷ ps) [] n e = cc
+same_grown f g h (p ∷ ps) (q ∷ qs) zero e =
+    ap (λ (s : SizeData). s ∷ map size_of ps) (h p q (heads (size_of p) (size_of q) (map size_of ps) (map size_of qs) e))
+    ∙ ap (λ (ss : List SizeData). size_of (g q) ∷ ss) (tails (size_of p) (size_of q) (map size_of ps) (map size_of qs) e)
+same_grown f g h (p ∷ ps) (q ∷ qs) (suc n) e =
+    ap (λ (s : SizeData). s ∷ map size_of (changed f ps n)) (heads (size_of p) (size_of q) (map size_of ps) (map size_of qs) e)
+    ∙ ap (λ (ss : List SizeData). size_of q ∷ ss) (same_grown f g h ps qs n (tails (size_of p) (size_of q) (map size_of ps) (map size_of qs) e))
+
+same_kept : (f : PartData → PartData) → ((p : PartData) → size_of (f p) ≡ size_of p) → (ps : List PartData) (n : ℕ) → map size_of (changed f ps n) ≡ map size_of ps
+same_kept f h [] n = refl
+same_kept f h (p ∷ ps) zero = ap (λ (s : SizeData). s ∷ map size_of ps) (h p)
+same_kept f h (p ∷ ps) (suc n) = ap (λ (ss : List SizeData). size_of p ∷ ss) (same_kept f h ps n)
+
+module _ (d e : DraftData) (h : Alike d e) where
+  long : length d.parts ≡ length e.parts
+  long = sym (length-map d.parts size_of) ∙ ap length h.sizes ∙ length-map e.parts size_of
+
+  there : has_section d ≡ has_section e
+  there = ap (λ n. nat_lt n (length d.parts)) h.section ∙ ap (nat_lt e.section) long
+
+  room : (m n : ℕ) → m ≡ n → has_room d m ≡ has_room e n
+  room m n same = ap (λ k. nat_le (k + m) (2 ^ 24)) h.total ∙ ap (λ k. nat_le (e.total + k) (2 ^ 24)) same
+
+  place : place_of d ≡ place_of e
+  unfolding place_of
+  place = size_at-get d.parts d.section ∙ ap (size_at d.parts) h.section ∙ same_size d.parts e.parts e.section h.sizes ∙ sym (size_at-get e.parts e.section)
+
+  same_here : here d ≡ here e
+  same_here = ap (λ n. at n (place_of d)) h.section ∙ ap (at e.section) place
+    where
+      at : ℕ → ℕ → Place
+      at s n = record { section = s; offset = n }
+
+  number : (name : List ℕ) → number_of_part d.parts name ≡ number_of_part e.parts name
+  number name =
+      ap (λ o. unwrap_or o (length d.parts)) (position-map (λ (s : SizeData). bytes_eq name s.name) size_of d.parts ∙ ap (position (λ (s : SizeData). bytes_eq name s.name)) h.sizes ∙ sym (position-map (λ (s : SizeData). bytes_eq name s.name) size_of e.parts))
+      ∙ ap (unwrap_or (position (λ (p : PartData). bytes_eq name p.name) e.parts)) long
+
+  -- ---- one step
+  label_alike : (name : List ℕ) → Alike (with_label d name) (with_label e name)
+  unfolding with_label
+  label_alike name =
+      alike_cond _ _ d e _ _ refl
+      (record {
+        section = h.section;
+        sizes = h.sizes;
+        symbols = ap (λ (ss : List SymbolData). labelled ss name (here d)) h.symbols ∙ ap (labelled e.symbols name) same_here;
+        total = h.total;
+      }) h
+
+  entered_alike : (name : List ℕ) → Alike (entered d name) (entered e name)
+  unfolding entered
+  entered_alike name =
+      alike_cond (not (is_name name)) (not (is_name name)) _ _ d e refl h
+      (alike_cond _ _ _ _ _ _ (ap (λ n. nat_lt n (length d.parts)) (number name) ∙ ap (nat_lt (number_of_part e.parts name)) long)
+      (record { section = number name; sizes = h.sizes; symbols = h.symbols; total = h.total })
+      (alike_cond _ _ d e _ _ (ap (λ n. nat_lt n 64) long)
+      (record {
+        section = long;
+        sizes = map-append size_of d.parts (part name [] [] ∷ []) ∙ ap (λ (ss : List SizeData). ss ++ size_of (part name [] []) ∷ []) h.sizes ∙ sym (map-append size_of e.parts (part name [] [] ∷ []));
+        symbols = h.symbols;
+        total = h.total;
+      }) h))
+
+  global_alike : (name : List ℕ) → Alike (with_global d name) (with_global e name)
+  unfolding with_global
+  global_alike name = alike_cond _ _ d e _ _ refl (record { section = h.section; sizes = h.sizes; symbols = ap (λ (ss : List SymbolData). made_global ss name) h.symbols; total = h.total }) h
+
+  bytes_alike : (bs cs : List ℕ) → length bs ≡ length cs → Alike (with_bytes d bs) (with_bytes e cs)
+  unfolding with_bytes extended
+  bytes_alike bs cs same =
+      alike_cond _ _ d e _ _ (ap (λ b. b && has_room d (length bs)) there ∙ ap (λ b. has_section e && b) (room (length bs) (length cs) same))
+      (record {
+        section = h.section;
+        sizes = ap (map size_of) (changed-set (λ (p : PartData). record p { bytes = p.bytes ++ bs }) d.parts d.section)
+            ∙ ap (λ n. map size_of (changed (λ (p : PartData). record p { bytes = p.bytes ++ bs }) d.parts n)) h.section
+            ∙ same_grown (λ (p : PartData). record p { bytes = p.bytes ++ bs }) (λ (p : PartData). record p { bytes = p.bytes ++ cs }) longer d.parts e.parts e.section h.sizes
+            ∙ sym (ap (map size_of) (changed-set (λ (p : PartData). record p { bytes = p.bytes ++ cs }) e.parts e.section));
+        symbols = h.symbols;
+        total = ap (λ n. n + length bs) h.total ∙ ap (λ n. e.total + n) same;
+      }) h
+    where
+      sized : List ℕ → ℕ → SizeData
+      sized name n = record { name = name; size = n }
+
+      longer : (p q : PartData) → size_of p ≡ size_of q → size_of (record p { bytes = p.bytes ++ bs }) ≡ size_of (record q { bytes = q.bytes ++ cs })
+      longer p q e =
+          let size : length (p.bytes ++ bs) ≡ length (q.bytes ++ cs) = omega (arith, length-append p.bytes bs, length-append q.bytes cs, ap (λ (s : SizeData). s.size) e) in
+          ap (λ (name : List ℕ). sized name (length (p.bytes ++ bs))) (ap (λ (s : SizeData). s.name) e) ∙ ap (sized q.name) size
+
+-- uses of symbols change nothing of it
+use_alike : (d : DraftData) (n : ℕ) (r : ReferenceData) → Alike (with_use d n r) d
+unfolding with_use used
+use_alike d n r =
+    by_test (λ (x : DraftData). Alike x d) _ _ _
+    (λ b. record {
+      section = refl;
+      sizes = ap (map size_of) (changed-set (λ (p : PartData). record p { uses = p.uses ++ record { offset = place_of d; reference = r } ∷ [] }) d.parts d.section) ∙ same_kept (λ (p : PartData). record p { uses = p.uses ++ record { offset = place_of d; reference = r } ∷ [] }) (λ p. refl) d.parts d.section;
+      symbols = refl;
+      total = refl;
+    })
+    (λ b. alike_same d)
+
+seen_alike : (d e : DraftData) (name : List ℕ) → Alike d e → Alike (record d { symbols = seen d.symbols name }) (record e { symbols = seen e.symbols name })
+seen_alike d e name h = record { section = h.section; sizes = h.sizes; symbols = ap (λ (ss : List SymbolData). seen ss name) h.symbols; total = h.total }
+
+reference_alike : (d e : DraftData) (m n : ℕ) (o : Option ReferenceData) → Alike d e → Alike (with_reference d m o) (with_reference e n o)
+unfolding with_reference
+reference_alike d e m n None h = h
+reference_alike d e m n (Some r) h =
+    let x : DraftData = record d { symbols = seen d.symbols r.name } in
+    let y : DraftData = record e { symbols = seen e.symbols r.name } in
+    alike_cond (is_name r.name) (is_name r.name) d e _ _ refl
+    (alike_then (with_use x m r) x (with_use y n r) (use_alike x m r) (alike_then x y (with_use y n r) (seen_alike d e r.name h) (alike_back (with_use y n r) y (use_alike y n r)))) h
+
+content_alike : (d e : DraftData) (bs cs : List ℕ) (o : Option ReferenceData) → length bs ≡ length cs → Alike d e → Alike (with_content d bs o) (with_content e cs o)
+content_alike d e bs cs o same h = bytes_alike (with_reference d (length bs) o) (with_reference e (length cs) o) (reference_alike d e (length bs) (length cs) o h) bs cs same
+
+step_alike : (labels others : List SymbolData) (d e : DraftData) (i : ItemData) → IsItem i → Alike d e → Alike (stepped labels d i) (stepped others e i)
+unfolding stepped
+step_alike labels others d e (label name) good h = label_alike d e h name
+step_alike labels others d e (section name) good h = entered_alike d e h name
+step_alike labels others d e (global name) good h = global_alike d e h name
+step_alike labels others d e (code k f o) good h =
+    content_alike d e (code_bytes labels d k f o) (code_bytes others e k f o) o (code_length labels d k f o good ∙ sym (code_length others e k f o good)) h
+step_alike labels others d e (bytes bs o) good h = content_alike d e bs bs o refl h
+step_alike labels others d e (zeros n) good h = bytes_alike d e h (replicate n 0) (replicate n 0) refl
+
+items_alike : (labels others : List SymbolData) (is : List ItemData) (d e : DraftData) → Each IsItem is → Alike d e → Alike (fold (stepped labels) d is) (fold (stepped others) e is)
+items_alike labels others [] d e good h = h
+items_alike labels others (i ∷ is) d e good h = items_alike labels others is (stepped labels d i) (stepped others e i) good.1 (step_alike labels others d e i good.0 h)
+
+-- the symbols that jumps of 16 bits were resolved by are those of the source
+pub passes_agree : (source : List ℕ) → symbols_in source ≡ symbols_of (lines_in source)
+passes_agree source =
+    let labels : List SymbolData = symbols_of (lines_in source) in
+    ap (λ (d : DraftData). d.symbols) (lines_items labels (lines_in source) start)
+    ∙ (items_alike labels [] (items_in (lines_in source)) start start (source_are source) (alike_same start)).symbols
+    ∙ sym (ap (λ (d : DraftData). d.symbols) (lines_items [] (lines_in source) start))

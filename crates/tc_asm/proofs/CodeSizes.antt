@@ -1,0 +1,104 @@
+-- The bytes of instructions are as many whatever their targets are, and symbols that wait have four bytes.
+use Rattle.std.proofs.Common.{◌≡◌, ◌&&◌, ◌==◌, ℕ, Bool, true, false, cond, List, [], ◌∷◌, length, Option, Some, None, refl, sym, ap, subst, ◌∙◌, arith}
+use Rattle.std.specs.Prelude.{slice_get}
+use Rattle.std.specs.Option.{option_map_or}
+use Rattle.std.proofs.lemmas.Bool.Decides.{nat_tests, Decides-eqb}
+use Rattle.tc_isa.specs.declared.fields.Fields.{Fields}
+use Rattle.tc_isa.specs.Rows.{RowData, listed}
+use Rattle.tc_isa.specs.Words.{IsBelow, bounds}
+use Rattle.tc_isa.specs.Codec.{Fits, is_below_test, uses_of, is_apart, is_long, spelled, spelling, word_of}
+use Rattle.tc_stmt.specs.Filling.{ReferenceData, FoundData, set_field, broken, displacement_rule, displaced}
+use Rattle.tc_asm.specs.Items.{ItemData, label, section, global, code, bytes, zeros}
+use Rattle.tc_asm.specs.Symbols.{SymbolData}
+use Rattle.tc_asm.specs.Drafts.{DraftData, start, distance, found, jumped, targeted, is_fit, spelled_code, resolved, code_bytes, stepped}
+use Rattle.tc_asm.specs.Kept.{Each}
+use Rattle.tc_asm.specs.Lines.{lines_in}
+use Rattle.tc_asm.specs.Sources.{symbols_of}
+use Rattle.tc_asm.specs.Statements.{items_in}
+use Rattle.tc_stmt.proofs.Cases.{by_test}
+use Rattle.tc_asm.specs.Contents.{is_open}
+use Rattle.tc_stmt.specs.Stated.{Symbols}
+use Rattle.tc_stmt.proofs.StatedRows.{Sound, sound_displaced}
+use Rattle.tc_asm.proofs.SourceItems.{IsCode, IsItem, source_are}
+use Rattle.tc_asm.proofs.Uses.{GoodItem, GoodItems}
+
+-- ---- a target resolved
+fit_sound : (row : RowData) (f : Fields) → Fits row f → Sound row (found f)
+fit_sound row f h = record { below = h.below; zero = h.zero; symbols = record { some = λ s e. cc } }
+
+displaced_apart : (row : RowData) (minus : Bool) (size : ℕ) (f : FoundData) → is_apart row (displaced row minus size f).fields ≡ is_apart row f.fields
+unfolding displaced set_field
+displaced_apart row minus size f = by_test (λ (g : FoundData). is_apart row g.fields ≡ is_apart row f.fields) (displacement_rule row minus size == 15) _ _ (λ b. refl) (λ b. refl)
+
+displaced_fits : (row : RowData) (minus : Bool) (size : ℕ) (f : Fields) → (uses_of row).k ≡ true → Fits row f → Fits row (displaced row minus size (found f)).fields
+displaced_fits row minus size f used h =
+    let s = sound_displaced row minus size (found f) used (fit_sound row f h) in
+    record { below = s.below; zero = s.zero; apart = displaced_apart row minus size (found f) ∙ h.apart }
+
+jumped_fits : (labels : List SymbolData) (d : DraftData) (row : RowData) (f : Fields) (r : ReferenceData) → (uses_of row).k ≡ true → Fits row f → Fits row (jumped labels d row f r).fields
+unfolding jumped
+jumped_fits labels d row f r used h = by (distance labels d r)
+  where
+    by : (o : Option (Bool × ℕ)) → Fits row (option_map_or (λ n. displaced row n.0 n.1 (found f)) o (broken 10 (found f))).fields
+    by None = h
+    by (Some n) = displaced_fits row n.0 n.1 f used h
+
+targeted_fits : (labels : List SymbolData) (d : DraftData) (row : RowData) (f : Fields) (o : Option ReferenceData) → Symbols row o → Fits row f → Fits row (targeted labels d row f o).fields
+targeted_fits labels d row f None s h = h
+targeted_fits labels d row f (Some r) s h =
+    by_test (λ (g : FoundData). Fits row g.fields) (r.kind == 0) _ _
+    (λ b. jumped_fits labels d row f r ((s.some r refl).target ((Decides-eqb r.kind 0).0 b)).0 h) (λ b. h)
+
+pub resolved_fits : (labels : List SymbolData) (d : DraftData) (k : ℕ) (f : Fields) (o : Option ReferenceData) (row : RowData) → slice_get listed k ≡ Some row → Symbols row o → Fits row f → Fits row (resolved labels d k f o).fields
+resolved_fits labels d k f o row at s h =
+    subst (λ (q : Option RowData). Fits row (option_map_or (λ x. targeted labels d x f o) q (found f)).fields) (sym at) (targeted_fits labels d row f o s h)
+
+-- ---- the bytes of an instruction
+below_true : (f b : Fields) → IsBelow f b → is_below_test f b ≡ true
+below_true f b h =
+    let c = h.c in let s1 = h.s1 in let s2 = h.s2 in let n = h.n in let k = h.k in
+    grind (arith, nat_tests)
+
+pub fit_true : (row : RowData) (f : Fields) → Fits row f → is_fit row f ≡ true
+fit_true row f h = all_true _ _ _ (below_true f (bounds row.form) h.below) h.zero h.apart
+  where
+    all_true : (a b c : Bool) → a ≡ true → b ≡ true → c ≡ true → (a && b && c) ≡ true
+    all_true a b c p q r = rw (p, q, r) refl
+
+spelled_length : (row : RowData) (f : Fields) → Fits row f → length (spelled_code row f) ≡ cond (is_long row) 4 2
+unfolding spelled_code
+spelled_length row f h = ap (λ b. length (cond b (spelling row f) [])) (fit_true row f h) ∙ by (is_long row) (word_of row f)
+  where
+    by : (b : Bool) (w : ℕ) → length (spelled b w) ≡ cond b 4 2
+    by true w = refl
+    by false w = refl
+
+pub code_length : (labels : List SymbolData) (d : DraftData) (k : ℕ) (f : Fields) (o : Option ReferenceData) (c : IsCode k f o) → length (code_bytes labels d k f o) ≡ cond (is_long c.row) 4 2
+unfolding code_bytes
+code_length labels d k f o c =
+    ap (λ (q : Option RowData). length (option_map_or (λ row. spelled_code row (resolved labels d k f o).fields) q [])) c.at
+    ∙ spelled_length c.row (resolved labels d k f o).fields (resolved_fits labels d k f o c.row c.at c.symbols c.fits)
+
+-- ---- good items
+open_long : (row : RowData) (o : Option ReferenceData) → Symbols row o → is_open o ≡ true → is_long row ≡ true
+open_long row None s e = cc
+open_long row (Some r) s e = ((s.some r refl).long e).0
+
+item_good : (labels : List SymbolData) (d : DraftData) (i : ItemData) → IsItem i → GoodItem labels d i
+item_good labels d (label name) h = tt
+item_good labels d (section name) h = tt
+item_good labels d (global name) h = tt
+item_good labels d (code k f o) h = record {
+  named = λ r e reloc. (h.symbols.some r e).named;
+  four = λ e. code_length labels d k f o h ∙ ap (λ b. cond b 4 2) (open_long h.row o h.symbols e);
+}
+item_good labels d (bytes bs o) h = h.good
+item_good labels d (zeros n) h = tt
+
+items_good : (labels : List SymbolData) (d : DraftData) (is : List ItemData) → Each IsItem is → GoodItems labels d is
+items_good labels d [] h = tt
+items_good labels d (i ∷ is) h = (item_good labels d i h.0, items_good labels (stepped labels d i) is h.1)
+
+-- a symbol of a source's statement that waits has a name and four bytes
+pub source_good : (source : List ℕ) → GoodItems (symbols_of (lines_in source)) start (items_in (lines_in source))
+source_good source = items_good (symbols_of (lines_in source)) start (items_in (lines_in source)) (source_are source)

@@ -1,0 +1,74 @@
+-- Instructions of a source that breaks no rule: they stand, and spell their rows.
+use Rattle.std.proofs.Common.{◌≡◌, ◌≤◌, ◌+◌, ◌&&◌, ◌++◌, min, ℕ, Bool, true, cond, List, [], ◌∷◌, length, Option, Some, refl, ap, subst, ◌∙◌, arith}
+use Rattle.std.specs.Prelude.{slice_get, fold}
+use Rattle.tc_isa.specs.declared.fields.Fields.{Fields}
+use Rattle.tc_stmt.specs.Filling.{ReferenceData}
+use Rattle.tc_asm.specs.Items.{ItemData, code}
+use Rattle.tc_asm.specs.Lines.{lines_in}
+use Rattle.tc_asm.specs.Symbols.{SymbolData}
+use Rattle.tc_asm.specs.Drafts.{DraftData, start, has_section, has_room, resolved, code_bytes, stepped}
+use Rattle.tc_asm.specs.Rules.{section_rule, bytes_room, reference_rule, content_rule, item_rule}
+use Rattle.tc_asm.specs.Sources.{items_rule, symbols_of}
+use Rattle.tc_asm.specs.Kept.{Each}
+use Rattle.tc_asm.specs.Statements.{StatementData, statement, standing, statements_from}
+use Rattle.tc_asm.specs.Spelled.{Spells, InstructionsLaw}
+use Rattle.tc_asm.proofs.ListItems.{get_behind}
+use Rattle.tc_asm.proofs.Uses.{statements-append, fits, fits_too, then_fifteen}
+use Rattle.tc_asm.proofs.SourceItems.{IsCode, IsItem, source_are}
+use Rattle.tc_asm.proofs.SourceDrafts.{source_items}
+use Rattle.tc_asm.proofs.CodeSizes.{resolved_fits}
+use Rattle.tc_asm.proofs.StatementItems.{each_there, rule_there}
+use Rattle.tc_asm.proofs.Unfilled.{code_spelled, given_fields}
+
+unfoldable pub code_spells : (labels : List SymbolData) (d : DraftData) (k : ℕ) (f : Fields) (o : Option ReferenceData) → IsCode k f o → Spells k (code_bytes labels d k f o)
+code_spells labels d k f o c = record {
+  row = c.row;
+  is_row = c.at;
+  fields = (resolved labels d k f o).fields;
+  fits = resolved_fits labels d k f o c.row c.at c.symbols c.fits;
+  spelled = code_spelled labels d k f o c;
+}
+
+-- there are a section and room where no rule is broken
+pub code_stands : (labels : List SymbolData) (d : DraftData) (k : ℕ) (f : Fields) (o : Option ReferenceData) → 15 ≤ item_rule labels d (code k f o) → (has_section d && has_room d (length (code_bytes labels d k f o))) ≡ true
+unfolding item_rule
+code_stands labels d k f o rule =
+    let size : ℕ = length (code_bytes labels d k f o) in
+    let content = fits_too (resolved labels d k f o).rule (content_rule d (length (code_bytes labels d k f o)) o) rule in
+    let there : has_section d ≡ true = then_fifteen (has_section d) 8 (omega arith) (fits (section_rule d) (min (bytes_room d (length (code_bytes labels d k f o))) (reference_rule d o)) content) in
+    let room : has_room d (length (code_bytes labels d k f o)) ≡ true
+    = then_fifteen (has_room d (length (code_bytes labels d k f o))) 13 (omega arith)
+    (fits (bytes_room d (length (code_bytes labels d k f o))) (reference_rule d o) (fits_too (section_rule d) (min (bytes_room d (length (code_bytes labels d k f o))) (reference_rule d o)) content)) in
+    both (has_section d) (has_room d (length (code_bytes labels d k f o))) there room
+  where
+    both : (a b : Bool) → a ≡ true → b ≡ true → (a && b) ≡ true
+    both a b p q = rw (p, q) refl
+
+stands_at : (labels : List SymbolData) (before after : List ItemData) (k : ℕ) (f : Fields) (o : Option ReferenceData) → 15 ≤ item_rule labels (fold (stepped labels) start before) (code k f o) →
+    slice_get (statements_from labels start (before ++ code k f o ∷ after)) (length (statements_from labels start before))
+    ≡ Some (statement (fold (stepped labels) start before).section (code_bytes labels (fold (stepped labels) start before) k f o) o)
+stands_at labels before after k f o rule =
+    let d : DraftData = fold (stepped labels) start before in
+    let t : StatementData = statement d.section (code_bytes labels d k f o) o in
+    let rest : List StatementData = statements_from labels (stepped labels d (code k f o)) after in
+    let none : length (statements_from labels start before) ≡ length (statements_from labels start before) + 0 = omega arith in
+    ap (λ (ts : List StatementData). slice_get ts (length (statements_from labels start before))) (statements-append 0 labels start before (code k f o ∷ after))
+    ∙ get_behind (statements_from labels start before) (standing d (Some t) ++ rest) (length (statements_from labels start before)) 0 none
+    ∙ ap (λ b. slice_get (cond b (t ∷ []) [] ++ rest) 0) (code_stands labels d k f o rule)
+
+pub instructions_law : InstructionsLaw
+unfolding code_spells
+instructions_law source before after k f o keeps e =
+    let labels : List SymbolData = symbols_of (lines_in source) in
+    let d : DraftData = fold (stepped labels) start before in
+    let E : List ItemData → Type 0 = λ xs. Each IsItem xs in
+    let R : List ItemData → Type 0 = λ xs. 15 ≤ items_rule labels start xs in
+    let is : IsCode k f o = each_there IsItem before after (code k f o) (subst E e (source_are source)) in
+    let rule = rule_there labels before after (code k f o) start (subst R e (source_items source keeps)) in
+    record {
+      bytes = code_bytes labels d k f o;
+      spells = code_spells labels d k f o is;
+      given = λ g. given_fields labels d k f o is.row is.at g;
+      section = d.section;
+      stands = ap (λ (xs : List ItemData). slice_get (statements_from labels start xs) (length (statements_from labels start before))) e ∙ stands_at labels before after k f o rule;
+    }

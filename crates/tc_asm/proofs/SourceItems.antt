@@ -1,0 +1,167 @@
+-- What the lines of a source add: instructions whose fields fit their row, and symbols that their bytes have room for.
+use Rattle.std.proofs.Common.{◌≡◌, ◌+◌, ◌*◌, ◌^◌, ◌&&◌, ◌==◌, min, ℕ, Bool, true, false, cond, List, [], ◌∷◌, ◌++◌, length, take, drop, map, Option, Some, None, Result, Ok, Err, refl, sym, ap, ◌∙◌}
+use Rattle.std.specs.Prelude.{slice_get, nat_le, not, codes}
+use Rattle.std.specs.List.{slice_split}
+use Rattle.std.specs.Option.{option_map_or}
+use Rattle.std.specs.Str.{bytes_eq}
+use Rattle.std.proofs.lemmas.Bool.Decides.{Decides-eqb}
+use Rattle.tc_lex.specs.declared.kinds.Token.{Token}
+use Rattle.tc_lex.specs.declared.kinds.TokenKind.TheVariants as kind
+use Rattle.tc_lex.specs.Cut.{tokens_of}
+use Rattle.tc_isa.specs.declared.fields.Fields.{Fields}
+use Rattle.tc_isa.specs.Rows.{RowData, listed}
+use Rattle.tc_isa.specs.Codec.{Fits, four_bytes}
+use Rattle.tc_stmt.specs.Names.{is_name}
+use Rattle.tc_stmt.specs.Pieces.{PieceData, is_kind, text_at}
+use Rattle.tc_stmt.specs.Operands.{OperandData, operands}
+use Rattle.tc_stmt.specs.Filling.{ReferenceData, FoundData, shape_index, is_symbol, is_half, symbol_rule, wrapped, reference}
+use Rattle.tc_stmt.specs.Judging.{statement}
+use Rattle.tc_asm.specs.Items.{ItemData, label, section, global, code, bytes, zeros}
+use Rattle.tc_asm.specs.Values.{fits_width, value_rule, value_item, space_item}
+use Rattle.tc_asm.specs.Lines.{LineData, line_data, word_of, named_line, space_line, values_line, code_line, stated_line, line_from, pieces_line, piece_in, cut_line, line_in, lines_in}
+use Rattle.tc_asm.specs.Kept.{Each}
+use Rattle.tc_asm.specs.Statements.{items_in}
+use Rattle.tc_stmt.proofs.Cases.{by_test}
+use Rattle.tc_stmt.specs.Stated.{Symbols, IsStated}
+use Rattle.tc_stmt.proofs.StatedRows.{stated}
+use Rattle.tc_asm.proofs.Uses.{IsGood}
+
+-- ---- one thing
+-- an instruction of a listed row, or bytes with room for their symbol
+pub record IsCode (k : ℕ) (f : Fields) (o : Option ReferenceData) : Type 0 where
+  pub row : RowData
+  pub at : slice_get listed k ≡ Some row
+  pub fits : Fits row f
+  pub symbols : Symbols row o
+  pub zero : (r : ReferenceData) → o ≡ Some r → f.k ≡ 0
+
+pub record IsData (bs : List ℕ) (o : Option ReferenceData) : Type 0 where
+  pub good : IsGood bs o
+  pub kind : (r : ReferenceData) → o ≡ Some r → r.kind ≡ 7
+  pub zero : (r : ReferenceData) → o ≡ Some r → bs ≡ 0 ∷ 0 ∷ 0 ∷ 0 ∷ []
+
+abbrev pub IsItem : ItemData → Type 0
+IsItem (label name) = Unit {0}
+IsItem (section name) = Unit {0}
+IsItem (global name) = Unit {0}
+IsItem (code k f o) = IsCode k f o
+IsItem (bytes bs o) = IsData bs o
+IsItem (zeros n) = Unit {0}
+
+record Are (l : LineData) : Type 0 where
+  items : Each IsItem l.items
+
+-- ---- values
+symbol_value : (width : ℕ) (o : OperandData) → (value_rule width o == 15) ≡ true → (shape_index o.value.shape == 1) ≡ false → (width ≡ 4) × (is_name o.value.name ≡ true)
+unfolding value_rule symbol_rule
+symbol_value width o e other =
+    by o.is_memory (shape_index o.value.shape == 1) (shape_index o.value.shape == 7) (is_symbol (shape_index o.value.shape)) (is_half (shape_index o.value.shape)) (width == 4) (nat_le (2 ^ 32) o.value.size) (is_name o.value.name)
+    (fits_width (8 * width) o.value.minus o.value.size) refl refl other e
+  where
+    by : (memory number huge symbol half four big name fits : Bool) → (width == 4) ≡ four → is_name o.value.name ≡ name → number ≡ false
+        → (cond memory 3 (cond number (cond fits 15 5) (cond huge 5 (cond symbol (cond four (cond big 5 (cond name 15 9)) (min 10 (cond big 5 (cond name 15 9)))) (cond half (min 10 (cond big 5 (cond name 15 9))) 3)))) == 15) ≡ true
+        → (width ≡ 4) × (is_name o.value.name ≡ true)
+    by true number huge symbol half four big name fits w n f e = cc
+    by false true huge symbol half four big name fits w n f e = cc
+    by false false true symbol half four big name fits w n f e = cc
+    by false false false true half true false true fits w n f e = ((Decides-eqb width 4).0 w, n)
+    by false false false true half true false false fits w n f e = cc
+    by false false false true half true true name fits w n f e = cc
+    by false false false true half false true name fits w n f e = cc
+    by false false false true half false false true fits w n f e = cc
+    by false false false true half false false false fits w n f e = cc
+    by false false false false true four true name fits w n f e = cc
+    by false false false false true four false true fits w n f e = cc
+    by false false false false true four false false fits w n f e = cc
+    by false false false false false four big name fits w n f e = cc
+
+plain_good : (bs : List ℕ) → IsData bs None
+plain_good bs = record { good = record { named = λ r e. cc; four = λ e. cc }; kind = λ r e. cc; zero = λ r e. cc }
+
+value_is : (width : ℕ) (o : OperandData) → IsItem (value_item width o)
+unfolding value_item
+value_is width o = by (value_rule width o == 15) (shape_index o.value.shape == 1) refl refl
+  where
+    four_zeros : (n : ℕ) → n ≡ 4 → length {A = ℕ} (take n (0 ∷ 0 ∷ 0 ∷ 0 ∷ [])) ≡ 4
+    four_zeros n e = ap (λ k. length {A = ℕ} (take k (0 ∷ 0 ∷ 0 ∷ 0 ∷ []))) e
+
+    given : (r : ReferenceData) → ◌≡◌ {A = Option ReferenceData} (Some (reference 7 o.value)) (Some r) → reference 7 o.value ≡ r
+    given r e = cc
+
+    by : (fits number : Bool) → (value_rule width o == 15) ≡ fits → (shape_index o.value.shape == 1) ≡ number
+        → IsItem (cond (not fits) (zeros width) (cond number (bytes (take width (four_bytes (wrapped (2 ^ 32) o.value.minus o.value.size))) None) (bytes (take width (0 ∷ 0 ∷ 0 ∷ 0 ∷ [])) (Some (reference 7 o.value)))))
+    by false number e n = tt
+    by true true e n = plain_good (take width (four_bytes (wrapped (2 ^ 32) o.value.minus o.value.size)))
+    by true false e n =
+        let p = symbol_value width o e n in
+        record {
+          good = record { named = λ r g k. ap (λ (x : ReferenceData). is_name x.name) (sym (given r g)) ∙ p.1; four = λ w. four_zeros width p.0 };
+          kind = λ r g. ap (λ (x : ReferenceData). x.kind) (sym (given r g));
+          zero = λ r g. ap (λ n. take n (0 ∷ 0 ∷ 0 ∷ 0 ∷ [])) p.0;
+        }
+
+values_are : (width : ℕ) (os : List OperandData) → Each IsItem (map (value_item width) os)
+values_are width [] = tt
+values_are width (o ∷ os) = (value_is width o, values_are width os)
+
+-- ---- lines
+word_are : (make : List ℕ → ItemData) → ((name : List ℕ) → IsItem (make name)) → (o : Option (List ℕ)) → Are (option_map_or (λ name. line_data 15 (make name ∷ [])) o (line_data 3 []))
+word_are make h None = record { items = tt }
+word_are make h (Some name) = record { items = (h name, tt) }
+
+named_are : (make : List ℕ → ItemData) → ((name : List ℕ) → IsItem (make name)) → (os : List OperandData) → Are (named_line make os)
+unfolding named_line
+named_are make h os = word_are make h (word_of os)
+
+space_are : (os : List OperandData) → Are (space_line os)
+unfolding space_line space_item
+space_are [] = record { items = (tt, tt) }
+space_are (o ∷ []) = record { items = (tt, tt) }
+space_are (o ∷ p ∷ os) = record { items = (tt, tt) }
+
+code_are : (name : List ℕ) (q : Result (ℕ × FoundData) ℕ) → ((k : ℕ) (f : FoundData) → q ≡ Ok (k, f) → IsStated k f) → Are (code_line name q)
+code_are name (Ok found) h =
+    let s = h found.0 found.1 refl in
+    record { items = (record { row = s.row; at = s.at; fits = s.stated.fits; symbols = s.stated.symbols; zero = s.zero }, tt) }
+code_are name (Err rule) h = record { items = (tt, tt) }
+
+values_line_are : (width : ℕ) (os : List OperandData) → Are (values_line width os)
+unfolding values_line
+values_line_are width os = record { items = values_are width os }
+
+stated_are : (name : List ℕ) (os : List OperandData) → Are (stated_line name os)
+unfolding stated_line
+stated_are name os =
+    by_test Are (bytes_eq name (codes ".section")) _ _ (λ e. named_are section (λ n. tt) os)
+    (λ e. by_test Are (bytes_eq name (codes ".global")) _ _ (λ e. named_are global (λ n. tt) os)
+    (λ e. by_test Are (bytes_eq name (codes ".byte")) _ _ (λ e. values_line_are 1 os)
+    (λ e. by_test Are (bytes_eq name (codes ".half")) _ _ (λ e. values_line_are 2 os)
+    (λ e. by_test Are (bytes_eq name (codes ".word")) _ _ (λ e. values_line_are 4 os)
+    (λ e. by_test Are (bytes_eq name (codes ".space")) _ _ (λ e. space_are os)
+    (λ e. code_are name (statement name os) (λ k f g. stated name os k f g)))))))
+
+from_are : (ps : List PieceData) (at : ℕ) → Are (line_from ps at)
+unfolding line_from
+from_are ps at =
+    by_test Are (length ps == at) _ _ (λ e. record { items = tt })
+    (λ e. by_test Are (is_kind ps at kind.Word) _ _ (λ e. stated_are (text_at ps at) (operands (drop (at + 1) ps))) (λ e. record { items = tt }))
+
+pieces_are : (ps : List PieceData) → Are (pieces_line ps)
+unfolding pieces_line
+pieces_are ps = by_test Are (is_kind ps 0 kind.Word && is_kind ps 1 kind.Colon) _ _ (λ e. let h = from_are ps 2 in record { items = (tt, h.items) }) (λ e. from_are ps 0)
+
+cut_are : (line : List ℕ) (q : Result (List Token) ℕ) → Are (cut_line line q)
+cut_are line (Ok ts) = pieces_are (map (piece_in line) ts)
+cut_are line (Err at) = record { items = tt }
+
+-- ---- a source
+each_behind : (xs ys : List ItemData) → Each IsItem xs → Each IsItem ys → Each IsItem (xs ++ ys)
+each_behind [] ys h k = k
+each_behind (x ∷ xs) ys h k = (h.0, each_behind xs ys h.1 k)
+
+lines_are : (texts : List (List ℕ)) → Each IsItem (items_in (map line_in texts))
+lines_are [] = tt
+lines_are (t ∷ ts) = let h = cut_are t (tokens_of t) in each_behind (line_in t).items (items_in (map line_in ts)) h.items (lines_are ts)
+
+pub source_are : (source : List ℕ) → Each IsItem (items_in (lines_in source))
+source_are source = lines_are (slice_split (λ c. c == 10) source)

@@ -1,0 +1,90 @@
+-- The sections of a source: the bytes of their statements, and the uses of those that wait for addresses.
+use Rattle.std.proofs.Common.{◌≡◌, ◌≤◌, ◌+◌, ℕ, zero, suc, Bool, true, false, cond, List, [], ◌∷◌, ◌++◌, Some, refl, sym, ap, ◌∙◌, arith, map}
+use Rattle.std.specs.Prelude.{slice_get, fold}
+use Rattle.std.proofs.lemmas.List.Sums.{fold-append}
+use Rattle.tc_object.specs.Objects.{SectionData}
+use Rattle.tc_asm.specs.Items.{ItemData, label, section, global, code, bytes, zeros}
+use Rattle.tc_asm.specs.Lines.{LineData, lines_in}
+use Rattle.tc_asm.specs.Symbols.{SymbolData}
+use Rattle.tc_asm.specs.Drafts.{PartData, DraftData, start, stepped}
+use Rattle.tc_asm.specs.Sources.{with_line, symbols_of, items_rule}
+use Rattle.tc_asm.specs.Objects.{section_of}
+use Rattle.tc_asm.specs.Statements.{StatementData, content_of, standing, statements_from, items_in, section_bytes, bytes_at}
+use Rattle.tc_asm.proofs.LaidLaws.{drafted-bytes}
+use Rattle.tc_asm.specs.Contents.{draft_in, statements_in, sections_from, sections_in}
+use Rattle.tc_asm.proofs.Uses.{HasField, HaveFields, uses_from, uses_in, GoodItems, GoodItem, all_uses}
+use Rattle.tc_asm.specs.Kept.{part_names}
+
+-- ---- one part
+pub part_bytes : (ps : List PartData) (s : ℕ) (q : PartData) → slice_get ps s ≡ Some q → bytes_at ps s ≡ q.bytes
+part_bytes [] s q e = cc
+part_bytes (p ∷ ps) zero q e = let same : p ≡ q = cc in ap (λ (x : PartData). x.bytes) same
+part_bytes (p ∷ ps) (suc s) q e = part_bytes ps s q e
+
+part_uses : (ps : List PartData) (s : ℕ) (q : PartData) → slice_get ps s ≡ Some q → uses_in ps s ≡ q.uses
+part_uses [] s q e = cc
+part_uses (p ∷ ps) zero q e = let same : p ≡ q = cc in ap (λ (x : PartData). x.uses) same
+part_uses (p ∷ ps) (suc s) q e = part_uses ps s q e
+
+-- the lines of a source, thing by thing
+pub lines_items : (labels : List SymbolData) (lines : List LineData) (d : DraftData) → fold (with_line labels) d lines ≡ fold (stepped labels) d (items_in lines)
+unfolding with_line
+lines_items labels [] d = refl
+lines_items labels (l ∷ ls) d = lines_items labels ls (fold (stepped labels) d l.items) ∙ sym (fold-append (stepped labels) d l.items (items_in ls))
+
+-- ---- the fields of good items
+fields_behind : (xs ys : List StatementData) → HaveFields xs → HaveFields ys → HaveFields (xs ++ ys)
+fields_behind [] ys h k = k
+fields_behind (x ∷ xs) ys h k = (h.0, fields_behind xs ys h.1 k)
+
+standing_field : (b : Bool) (t : StatementData) → HasField t → HaveFields (cond b (t ∷ []) [])
+standing_field true t h = (h, tt)
+standing_field false t h = tt
+
+good_field : (labels : List SymbolData) (d : DraftData) (i : ItemData) → GoodItem labels d i → HaveFields (standing d (content_of labels d i))
+good_field labels d (label name) g = tt
+good_field labels d (section name) g = tt
+good_field labels d (global name) g = tt
+good_field labels d (code k f r) g = standing_field _ _ (record { four = g.four })
+good_field labels d (bytes bs r) g = standing_field _ _ (record { four = g.four })
+good_field labels d (zeros n) g = standing_field _ _ (record { four = λ e. cc })
+
+good_fields : (labels : List SymbolData) (is : List ItemData) (d : DraftData) → GoodItems labels d is → HaveFields (statements_from labels d is)
+good_fields labels [] d good = tt
+good_fields labels (i ∷ is) d good =
+    fields_behind (standing d (content_of labels d i)) (statements_from labels (stepped labels d i) is) (good_field labels d i good.0) (good_fields labels is (stepped labels d i) good.1)
+
+-- ---- a source
+module _ (source : List ℕ) (good : GoodItems (symbols_of (lines_in source)) start (items_in (lines_in source))) (rules : 15 ≤ items_rule (symbols_of (lines_in source)) start (items_in (lines_in source))) where
+  pub have : HaveFields (statements_in source)
+  have = good_fields (symbols_of (lines_in source)) (items_in (lines_in source)) start good
+
+  pub part_is : (s : ℕ) (q : PartData) → slice_get (draft_in source).parts s ≡ Some q → (q.bytes ≡ section_bytes s (statements_in source)) × (q.uses ≡ uses_from s 0 (statements_in source))
+  part_is s q e = (
+    sym (part_bytes (draft_in source).parts s q e) ∙ drafted-bytes (symbols_of (lines_in source)) (lines_in source) s,
+    sym (part_uses (draft_in source).parts s q e)
+        ∙ ap (λ (d : DraftData). uses_in d.parts s) (lines_items (symbols_of (lines_in source)) (lines_in source) start)
+        ∙ all_uses s (symbols_of (lines_in source)) (items_in (lines_in source)) good rules,
+  )
+
+-- ---- all sections
+from_parts : (ts : List StatementData) (number : ℕ) (parts : List PartData) → ((s : ℕ) → bytes_at parts s ≡ section_bytes (number + s) ts) → sections_from ts number (part_names parts) ≡ map section_of parts
+from_parts ts number [] same = refl
+from_parts ts number (p ∷ ps) same =
+    let here : section_bytes number ts ≡ p.bytes = ap (λ n. section_bytes n ts) (add_none number) ∙ sym (same 0) in
+    ap (λ (bs : List ℕ). record { name = p.name; bytes = bs } ∷ sections_from ts (number + 1) (part_names ps)) here
+    ∙ ap (λ (ss : List SectionData). section_of p ∷ ss) (from_parts ts (number + 1) ps (λ s. same (suc s) ∙ ap (λ n. section_bytes n ts) (moved number s)))
+  where
+    add_none : (n : ℕ) → n ≡ n + 0
+    add_none n = omega arith
+
+    moved : (n s : ℕ) → n + suc s ≡ n + 1 + s
+    moved n s = omega arith
+
+-- those of one source
+pub sections_are : (source : List ℕ) → sections_in source ≡ map section_of (draft_in source).parts
+unfolding sections_in
+sections_are source = from_parts (statements_in source) 0 (draft_in source).parts (λ s. drafted-bytes (symbols_of (lines_in source)) (lines_in source) s ∙ ap (λ n. section_bytes n (statements_in source)) (none_add s))
+  where
+    none_add : (s : ℕ) → s ≡ 0 + s
+    none_add s = omega arith

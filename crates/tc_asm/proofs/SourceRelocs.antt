@@ -1,0 +1,64 @@
+-- The sections and relocations of a source's object are those of its statements.
+use Rattle.std.proofs.Common.{◌≡◌, ◌+◌, ◌==◌, ◌++◌, ℕ, suc, Bool, true, false, cond, List, [], ◌∷◌, length, map, Option, Some, None, refl, sym, ap, ◌∙◌, arith}
+use Rattle.std.specs.Prelude.{slice_get}
+use Rattle.std.proofs.lemmas.List.{map-append}
+use Rattle.tc_stmt.specs.Filling.{ReferenceData}
+use Rattle.tc_object.specs.declared.relocs.Reloc.{Reloc}
+use Rattle.tc_asm.specs.Symbols.{SymbolData}
+use Rattle.tc_asm.specs.Drafts.{UseData, PartData}
+use Rattle.tc_asm.specs.Kept.{part_names}
+use Rattle.tc_asm.specs.Objects.{number_of, addend_of, reloc_of, relocs_from}
+use Rattle.tc_asm.specs.Statements.{StatementData}
+use Rattle.tc_asm.specs.Contents.{draft_in, symbols_in, statements_in, is_open}
+use Rattle.tc_asm.specs.Relocations.{reloc_at, relocs_behind, relocs_of, ObjectSectionsLaw, RelocationsLaw}
+use Rattle.tc_asm.proofs.Uses.{use_at, uses_from}
+use Rattle.tc_asm.proofs.CodeSizes.{source_good}
+use Rattle.tc_asm.proofs.SourceParts.{part_is, sections_are}
+use Rattle.tc_asm.proofs.SourceDrafts.{source_items}
+
+-- the relocations of a section's uses are those of its statements
+relocs_match : (ss : List SymbolData) (s n : ℕ) (ts : List StatementData) → map (reloc_of ss s) (uses_from s n ts) ≡ relocs_behind ss s n ts
+relocs_match ss s n [] = refl
+relocs_match ss s n (t ∷ ts) = by (t.section == s) (λ m. relocs_match ss s m ts)
+  where
+    one : (m : ℕ) (o : Option ReferenceData) → map (reloc_of ss s) (use_at m o) ≡ reloc_at ss s m o
+    one m None = refl
+    one m (Some r) = by_open (is_open (Some r))
+      where
+        by_open : (b : Bool) → map (reloc_of ss s) (cond {A = List UseData} b (record { offset = m; reference = r } ∷ []) [])
+            ≡ cond {A = List Reloc} b (record { section = s; offset = m; kind = r.kind; symbol = number_of ss r.name; addend = addend_of r } ∷ []) []
+        by_open true = refl
+        by_open false = refl
+
+    by : (b : Bool) → ((m : ℕ) → map (reloc_of ss s) (uses_from s m ts) ≡ relocs_behind ss s m ts)
+        → map (reloc_of ss s) (cond b (use_at n t.reference ++ uses_from s (n + length t.bytes) ts) (uses_from s n ts))
+        ≡ cond b (reloc_at ss s n t.reference ++ relocs_behind ss s (n + length t.bytes) ts) (relocs_behind ss s n ts)
+    by true rec =
+        map-append (reloc_of ss s) (use_at n t.reference) (uses_from s (n + length t.bytes) ts)
+        ∙ ap (λ (rs : List Reloc). rs ++ map (reloc_of ss s) (uses_from s (n + length t.bytes) ts)) (one n t.reference)
+        ∙ ap (λ (rs : List Reloc). reloc_at ss s n t.reference ++ rs) (rec (n + length t.bytes))
+    by false rec = rec n
+
+-- section after section
+relocs_all : (ss : List SymbolData) (ts : List StatementData) (section : ℕ) (parts : List PartData) → ((s : ℕ) (q : PartData) → slice_get parts s ≡ Some q → q.uses ≡ uses_from (section + s) 0 ts) →
+    relocs_from ss section parts ≡ relocs_of ss ts section (part_names parts)
+relocs_all ss ts section [] h = refl
+relocs_all ss ts section (p ∷ ps) h =
+    let none : section + 0 ≡ section = omega arith in
+    ap (λ (us : List UseData). map (reloc_of ss section) us ++ relocs_from ss (section + 1) ps) (h 0 p refl ∙ ap (λ n. uses_from n 0 ts) none)
+    ∙ ap (λ (rs : List Reloc). rs ++ relocs_from ss (section + 1) ps) (relocs_match ss section 0 ts)
+    ∙ ap (λ (rs : List Reloc). relocs_behind ss section 0 ts ++ rs) (relocs_all ss ts (section + 1) ps (λ s q e. h (suc s) q e ∙ ap (λ n. uses_from n 0 ts) (moved s)))
+  where
+    moved : (s : ℕ) → section + suc s ≡ section + 1 + s
+    moved s = omega arith
+
+pub object_sections_law : ObjectSectionsLaw
+object_sections_law source = sym (sections_are source)
+
+pub relocations_law : RelocationsLaw
+relocations_law source keeps =
+    relocs_all (symbols_in source) (statements_in source) 0 (draft_in source).parts
+    (λ s q e. (part_is source (source_good source) (source_items source keeps) s q e).1 ∙ ap (λ n. uses_from n 0 (statements_in source)) (front s))
+  where
+    front : (s : ℕ) → s ≡ 0 + s
+    front s = omega arith

@@ -1,0 +1,83 @@
+-- The things that add statements, each behind those before it.
+use Rattle.std.proofs.Common.{◌≡◌, ◌≤◌, ◌⊎◌, ◌&&◌, ◌++◌, ℕ, zero, suc, Bool, true, false, cond, List, [], ◌∷◌, length, take, Option, Some, None, refl, sym, ap, ◌∙◌, inl, inr}
+use Rattle.std.specs.Prelude.{slice_get, fold}
+use Rattle.tc_asm.specs.Items.{ItemData}
+use Rattle.tc_asm.specs.Symbols.{SymbolData}
+use Rattle.tc_asm.specs.Drafts.{DraftData, has_section, has_room, start, stepped, place_of}
+use Rattle.tc_asm.specs.Rules.{item_rule}
+use Rattle.tc_asm.specs.Sources.{items_rule}
+use Rattle.tc_asm.specs.Kept.{Each}
+use Rattle.tc_asm.specs.Statements.{StatementData, content_of, standing, statements_from, section_bytes, bytes_at, offset_of}
+use Rattle.tc_asm.proofs.ListItems.{InRest, in_front_or_rest, take_behind}
+use Rattle.tc_asm.proofs.Uses.{place_bytes, items_bytes, fits, fits_too}
+
+-- the thing that adds this statement, with those before and behind it
+pub record ItemAt (labels : List SymbolData) (d : DraftData) (items : List ItemData) (j : ℕ) (t : StatementData) : Type 0 where
+  pub before : List ItemData
+  pub item : ItemData
+  pub after : List ItemData
+  pub are : items ≡ before ++ item ∷ after
+  pub front : take j (statements_from labels d items) ≡ statements_from labels d before
+  pub content : content_of labels (fold (stepped labels) d before) item ≡ Some t
+
+standing_is : (d : DraftData) (c : Option StatementData) (j : ℕ) (t : StatementData) → slice_get (standing d c) j ≡ Some t → (j ≡ 0) × (c ≡ Some t)
+standing_is d None j t e = cc
+standing_is d (Some x) j t e = by (has_section d && has_room d (length x.bytes)) j e
+  where
+    by : (b : Bool) (i : ℕ) → slice_get (cond b (x ∷ []) []) i ≡ Some t → (i ≡ 0) × (Some x ≡ Some t)
+    by true zero e = (refl, e)
+    by true (suc i) e = cc
+    by false i e = cc
+
+pub item_at : (labels : List SymbolData) (items : List ItemData) (d : DraftData) (j : ℕ) (t : StatementData) → slice_get (statements_from labels d items) j ≡ Some t → ItemAt labels d items j t
+item_at labels [] d j t e = cc
+item_at labels (i ∷ is) d j t e =
+    by (in_front_or_rest (standing d (content_of labels d i)) (statements_from labels (stepped labels d i) is) j t e) (λ k g. item_at labels is (stepped labels d i) k t g)
+  where
+    here : List StatementData
+    here = standing d (content_of labels d i)
+
+    rest : List StatementData
+    rest = statements_from labels (stepped labels d i) is
+
+    by : (slice_get (standing d (content_of labels d i)) j ≡ Some t) ⊎ InRest StatementData (standing d (content_of labels d i)) (statements_from labels (stepped labels d i) is) j t
+        → ((k : ℕ) → slice_get (statements_from labels (stepped labels d i) is) k ≡ Some t → ItemAt labels (stepped labels d i) is k t) → ItemAt labels d (i ∷ is) j t
+    by (inl g) rec =
+        let s = standing_is d (content_of labels d i) j t g in
+        record {
+          before = [];
+          item = i;
+          after = is;
+          are = refl;
+          front = ap (λ n. take n (standing d (content_of labels d i) ++ statements_from labels (stepped labels d i) is)) s.0;
+          content = s.1;
+        }
+    by (inr r) rec =
+        let a = rec r.at r.is in
+        record {
+          before = i ∷ a.before;
+          item = a.item;
+          after = a.after;
+          are = ap (λ (xs : List ItemData). i ∷ xs) a.are;
+          front = take_behind (standing d (content_of labels d i)) (statements_from labels (stepped labels d i) is) j r.at r.place ∙ ap (λ (ts : List StatementData). standing d (content_of labels d i) ++ ts) a.front;
+          content = a.content;
+        }
+
+-- what is so of each thing is so of this one
+pub each_there : (P : ItemData → Type 0) (before after : List ItemData) (i : ItemData) → Each P (before ++ i ∷ after) → P i
+each_there P [] after i h = h.0
+each_there P (x ∷ xs) after i h = each_there P xs after i h.1
+
+-- and it breaks no rule where none does
+pub rule_there : (labels : List SymbolData) (before after : List ItemData) (i : ItemData) (d : DraftData) → 15 ≤ items_rule labels d (before ++ i ∷ after) → 15 ≤ item_rule labels (fold (stepped labels) d before) i
+rule_there labels [] after i d h = fits (item_rule labels d i) (items_rule labels (stepped labels d i) after) h
+rule_there labels (x ∷ xs) after i d h = rule_there labels xs after i (stepped labels d x) (fits_too (item_rule labels d x) (items_rule labels (stepped labels d x) (xs ++ i ∷ after)) h)
+
+-- a statement stands where the next byte of its section would
+pub offset_there : (labels : List SymbolData) (items : List ItemData) (j : ℕ) (t : StatementData) (a : ItemAt labels start items j t) → (fold (stepped labels) start a.before).section ≡ t.section →
+    offset_of (statements_from labels start items) j t.section ≡ place_of (fold (stepped labels) start a.before)
+offset_there labels items j t a same =
+    ap (λ (ts : List StatementData). length (section_bytes t.section ts)) a.front
+    ∙ ap length (sym (items_bytes t.section labels a.before))
+    ∙ ap (λ s. length (bytes_at (fold (stepped labels) start a.before).parts s)) (sym same)
+    ∙ sym (place_bytes (fold (stepped labels) start a.before))

@@ -1,0 +1,22 @@
+use Rattle.std.proofs.Common.{sym, ap, ◌∙◌, arith}
+use Rattle.std.specs.Prelude.{option_map, slice_get}
+use Rattle.std.specs.Option.{option_map_or}
+use Rattle.tc_isa.specs.Rows.{listed}
+use Rattle.tc_stmt.specs.Filling.{reference_of}
+use Rattle.tc_asm.specs.Drafts.{targeted, found}
+use Rattle.tc_asm.proofs.CodeLaws.{row_listed, row_unlisted}
+use Rattle.tc_asm.proofs.draft.Draft.resolved.Goals as goal
+
+pub returns-then-place-rows : goal.returns-then-place-rows
+returns-then-place-rows c =
+    c.targeted.ensures
+    ∙ ap (λ o. option_map_or (λ row. targeted c.args.labels.now c.args.self.now row c.args.fields (option_map reference_of c.args.r)) o (found c.args.fields))
+    (sym (row_listed c.rows-rows.result.now c.from-place.result _ c.rows-rows.ensures.rows (omega arith)))
+    ∙ ap (λ n. option_map_or (λ row. targeted c.args.labels.now c.args.self.now row c.args.fields (option_map reference_of c.args.r)) (slice_get listed n) (found c.args.fields))
+    c.from-place.ensures
+
+pub returns-else-place-rows : goal.returns-else-place-rows
+returns-else-place-rows c =
+    c.found.ensures
+    ∙ ap (λ o. option_map_or (λ row. targeted c.args.labels.now c.args.self.now row c.args.fields (option_map reference_of c.args.r)) o (found c.args.fields))
+    (sym (row_unlisted c.rows-rows.result.now c.args.row c.rows-rows.ensures.rows (omega arith)))

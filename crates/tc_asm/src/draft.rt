@@ -1,0 +1,205 @@
+// What the lines so far have put together.
+use crate::encode::first_bytes;
+use crate::entries::Place;
+use crate::items::Item;
+use crate::rules::is_reloc;
+use crate::sections::{Part, extend_part, number_of_part, use_part};
+use crate::symbols::Symbols;
+use std::alloc::{AllocError, Global};
+use std::marker::Model;
+use tc_stmt::{Reference, is_name};
+
+/// The sections so far, which one goes on, the symbols, and how many bytes and relocations there are.
+#[derive(Drop)]
+pub struct Draft<'a> {
+    pub section: usize,
+    pub parts: Vec<Part<'a>>,
+    pub symbols: Symbols<'a>,
+    pub total: usize,
+    pub count: usize,
+}
+
+impl<'a> Model for Draft<'a> {
+    ghost use Rattle.std.specs.Prelude.{map};
+    ghost use Rattle.tc_asm.specs.Drafts.{DraftData};
+    ghost use Rattle.tc_asm.specs.Views.{part_of};
+
+    ghost Value = { DraftData };
+
+    ghost view = { λ d. record { section = d.section; parts = map part_of d.parts.items; symbols = d.symbols; total = d.total; count = d.count } };
+}
+
+// The most bytes that all sections have.
+const MOST_BYTES: usize = 0x100_0000;
+
+impl<'a> Draft<'a> {
+    ghost use Rattle.std.specs.Prelude.{◌≡◌, OnOk, option_map, replicate};
+    ghost use Rattle.tc_stmt.specs.Filling.{reference_of};
+    ghost use Rattle.tc_asm.specs.Items.{item_of};
+    ghost use Rattle.tc_asm.specs.Drafts.{start, place_of, has_section, has_room, with_label, entered, with_global, with_bytes, with_use, with_reference, with_content, stepped};
+
+    pub fn new(alloc: Global) -> Draft<'a>
+        ensures { result ≡ start }
+    {
+        Draft {
+            section: 64,
+            parts: Vec::new(alloc),
+            symbols: Symbols::new(alloc),
+            total: 0,
+            count: 0,
+        }
+    }
+
+    #[tactic(auto, unfolding(crate::specs::Drafts::place_of))]
+    pub fn place(&self) -> usize
+        ensures { result ≡ place_of self.now }
+    {
+        if self.section < self.parts.len() {
+            self.parts[self.section].bytes.len()
+        } else {
+            0
+        }
+    }
+
+    pub fn has_section(&self) -> bool
+        ensures { result ≡ has_section self.now }
+    {
+        self.section < self.parts.len()
+    }
+
+    pub fn has_room(&self, n: usize) -> bool
+        ensures { result ≡ has_room self.now n }
+    {
+        n <= MOST_BYTES && self.total <= MOST_BYTES - n
+    }
+
+    #[tactic(auto, unfolding(crate::specs::Drafts::with_label))]
+    fn add_label(&mut self, name: &'a [u8]) -> Result<(), AllocError>
+        ensures { OnOk result (self.new ≡ with_label self.old name.entry.now) }
+    {
+        if is_name(name) {
+            let place = Place {
+                section: self.section,
+                offset: self.place(),
+            };
+            self.symbols.label(name, place)?;
+        }
+        Ok(())
+    }
+
+    #[tactic(auto, unfolding(crate::specs::Drafts::entered))]
+    fn enter(&mut self, alloc: Global, name: &'a [u8]) -> Result<(), AllocError>
+        ensures { OnOk result (self.new ≡ entered self.old name.entry.now) }
+    {
+        if !is_name(name) {
+            return Ok(());
+        }
+        let number = number_of_part(&self.parts, name);
+        if number < self.parts.len() {
+            self.section = number;
+            return Ok(());
+        }
+        if self.parts.len() < 64 {
+            let bytes = Vec::new(alloc);
+            let uses = Vec::new(alloc);
+            self.section = self.parts.len();
+            self.parts.push(Part { name, bytes, uses })?;
+        }
+        Ok(())
+    }
+
+    #[tactic(auto, unfolding(crate::specs::Drafts::with_global))]
+    fn make_global(&mut self, name: &'a [u8]) -> Result<(), AllocError>
+        ensures { OnOk result (self.new ≡ with_global self.old name.entry.now) }
+    {
+        if is_name(name) {
+            self.symbols.make_global(name)?;
+        }
+        Ok(())
+    }
+
+    #[tactic(auto, unfolding(crate::specs::Drafts::with_bytes))]
+    fn add_bytes(&mut self, bytes: &[u8]) -> Result<(), AllocError>
+        ensures { OnOk result (self.new ≡ with_bytes self.old bytes.now) }
+    {
+        if self.has_section() && self.has_room(bytes.len()) {
+            extend_part(&mut self.parts, self.section, bytes)?;
+            self.total += bytes.len();
+        }
+        Ok(())
+    }
+
+    #[tactic(auto, unfolding(crate::specs::Drafts::with_use))]
+    fn add_use(&mut self, size: usize, r: Reference<'a>) -> Result<(), AllocError>
+        ensures { OnOk result (self.new ≡ with_use self.old size (reference_of r.entry)) }
+    {
+        if self.has_section()
+            && self.has_room(size)
+            && size == 4
+            && is_reloc(r.kind)
+            && self.count < 65535
+        {
+            let offset = self.place();
+            use_part(&mut self.parts, self.section, offset, r)?;
+            self.count += 1;
+        }
+        Ok(())
+    }
+
+    #[tactic(auto, unfolding(crate::specs::Drafts::with_reference))]
+    fn add_reference(&mut self, size: usize, r: Option<Reference<'a>>) -> Result<(), AllocError>
+        ensures { OnOk result (self.new ≡ with_reference self.old size (option_map reference_of r.entry)) }
+    {
+        match r {
+            None => Ok(()),
+            Some(r) => {
+                if is_name(r.name) {
+                    self.symbols.see(r.name)?;
+                    self.add_use(size, r)?;
+                }
+                Ok(())
+            }
+        }
+    }
+
+    fn add_content(&mut self, bytes: &[u8], r: Option<Reference<'a>>) -> Result<(), AllocError>
+        ensures { OnOk result (self.new ≡ with_content self.old bytes.now (option_map reference_of r.entry)) }
+    {
+        self.add_reference(bytes.len(), r)?;
+        self.add_bytes(bytes)
+    }
+
+    #[tactic(auto, unfolding(crate::specs::Drafts::with_bytes))]
+    fn add_zeros(&mut self, alloc: Global, n: usize) -> Result<(), AllocError>
+        ensures { OnOk result (self.new ≡ with_bytes self.old (replicate n 0)) }
+    {
+        if self.has_section() && self.has_room(n) {
+            let zeros = vec![in alloc; 0u8; n]?;
+            self.add_bytes(&zeros)?;
+        }
+        Ok(())
+    }
+
+    /// Puts one thing more, where the whole source has these symbols.
+    #[tactic(auto, unfolding(crate::specs::Drafts::stepped))]
+    pub fn step(
+        &mut self,
+        alloc: Global,
+        labels: &Symbols<'a>,
+        item: Item<'a>,
+    ) -> Result<(), AllocError>
+        ensures { OnOk result (self.new ≡ stepped labels.now self.old (item_of item.entry)) }
+    {
+        match item {
+            Item::Label(name) => self.add_label(name),
+            Item::Section(name) => self.enter(alloc, name),
+            Item::Global(name) => self.make_global(name),
+            Item::Code(row, fields, r) => {
+                let code = self.code(labels, row, fields, r);
+                self.add_content(first_bytes(&code.bytes, code.len), r)
+            }
+            Item::Data(len, bytes, r) => self.add_content(first_bytes(&bytes, len), r),
+            Item::Zeros(n) => self.add_zeros(alloc, n as usize),
+        }
+    }
+}

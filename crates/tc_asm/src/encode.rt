@@ -1,0 +1,142 @@
+// The bytes of an instruction, once a target that takes no relocation is resolved.
+ghost use Rattle.std.specs.Prelude.{◌≡◌, take};
+ghost use Rattle.tc_stmt.specs.Filling.{found_of};
+ghost use Rattle.tc_asm.specs.Drafts.{bytes_of, found as found_in};
+
+use crate::draft::Draft;
+use crate::symbols::Symbols;
+use tc_encode::{Code, encode};
+use tc_isa::{Fields, Row, inst, rows};
+use tc_stmt::{Found, Reference, displaced};
+
+// The bytes of the row with this number and these fields; none where they are no listed instruction.
+fn code_of(row: u8, f: &Fields) -> Code
+    ensures { take result.len result.bytes ≡ bytes_of row f.now }
+{
+    match inst(row, f.c, f.s1, f.s2, f.n, f.k) {
+        Some(inst) => encode(&inst),
+        None => Code {
+            len: 0,
+            bytes: [0; 4],
+        },
+    }
+}
+
+/// The first so many of four bytes.
+pub(crate) fn first_bytes(bytes: &[u8; 4], len: u8) -> &[u8]
+    ensures { result.now ≡ take len bytes.now }
+{
+    let len = usize::from(len).min(4);
+    &bytes[..len]
+}
+
+// Fields, with no symbol and no rule broken.
+fn found<'a>(fields: Fields) -> Found<'a>
+    ensures { found_of result ≡ found_in fields }
+{
+    Found {
+        fields,
+        rule: 15,
+        reference: None,
+    }
+}
+
+impl<'a> Draft<'a> {
+    ghost use Rattle.std.specs.Prelude.{option_map};
+    ghost use Rattle.tc_isa.specs.Rows.{row_of};
+    ghost use Rattle.tc_stmt.specs.Filling.{reference_of};
+    ghost use Rattle.tc_asm.specs.Drafts.{distance, jumped, targeted, resolved, code_bytes};
+
+    // How far a symbol lies from here, and whether before it; None where it isn't a label of this section.
+    #[tactic(auto, unfolding(crate::specs::Drafts::distance))]
+    fn distance(&self, labels: &Symbols<'a>, r: Reference<'a>) -> Option<(bool, u128)>
+        ensures { result ≡ distance labels.now self.now (reference_of r.entry) }
+    {
+        match labels.place(r.name) {
+            None => None,
+            Some(label) => {
+                if self.has_section() && label.section == self.section {
+                    let size = u128::from(r.size);
+                    let here = self.place() as u128 + if r.minus { size } else { 0 };
+                    let there = label.offset as u128 + if r.minus { 0 } else { size };
+                    if here <= there {
+                        Some((false, there - here))
+                    } else {
+                        Some((true, here - there))
+                    }
+                } else {
+                    None
+                }
+            }
+        }
+    }
+
+    #[tactic(auto, unfolding(crate::specs::Drafts::jumped))]
+    fn jumped(&self, labels: &Symbols<'a>, row: &Row, fields: Fields, r: Reference<'a>) -> Found<'a>
+        ensures { found_of result ≡ jumped labels.now self.now (row_of row.now) fields (reference_of r.entry) }
+    {
+        match self.distance(labels, r) {
+            None => Found {
+                fields,
+                rule: 10,
+                reference: None,
+            },
+            Some((minus, size)) => displaced(row, minus, size, found(fields)),
+        }
+    }
+
+    fn targeted(
+        &self,
+        labels: &Symbols<'a>,
+        row: &Row,
+        fields: Fields,
+        r: Option<Reference<'a>>,
+    ) -> Found<'a>
+        ensures { found_of result ≡ targeted labels.now self.now (row_of row.now) fields (option_map reference_of r.entry) }
+    {
+        match r {
+            None => found(fields),
+            Some(r) => {
+                if r.kind == 0 {
+                    self.jumped(labels, row, fields, r)
+                } else {
+                    found(fields)
+                }
+            }
+        }
+    }
+
+    /// What the row with this number makes of the fields and the symbol.
+    pub(crate) fn resolved(
+        &self,
+        labels: &Symbols<'a>,
+        row: u8,
+        fields: Fields,
+        r: Option<Reference<'a>>,
+    ) -> Found<'a>
+        ensures { found_of result ≡ resolved labels.now self.now row fields (option_map reference_of r.entry) }
+    {
+        let rows = rows();
+        let place = usize::from(row);
+        if place < rows.len() {
+            self.targeted(labels, &rows[place], fields, r)
+        } else {
+            found(fields)
+        }
+    }
+
+    /// The bytes of an instruction.
+    #[tactic(auto, unfolding(crate::specs::Drafts::code_bytes))]
+    pub(crate) fn code(
+        &self,
+        labels: &Symbols<'a>,
+        row: u8,
+        fields: Fields,
+        r: Option<Reference<'a>>,
+    ) -> Code
+        ensures { take result.len result.bytes ≡ code_bytes labels.now self.now row fields (option_map reference_of r.entry) }
+    {
+        let found = self.resolved(labels, row, fields, r);
+        code_of(row, &found.fields)
+    }
+}

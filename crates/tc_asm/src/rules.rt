@@ -1,0 +1,131 @@
+// The rules that the lines before and the whole source decide.
+ghost use Rattle.std.specs.Prelude.{◌≡◌};
+ghost use Rattle.tc_reloc.specs.Forms.{is_reloc as needs_reloc};
+
+use crate::draft::Draft;
+use crate::encode::first_bytes;
+use crate::items::Item;
+use crate::sections::number_of_part;
+use crate::symbols::Symbols;
+use tc_stmt::{Reference, is_name};
+
+/// Whether a symbol of this kind has a relocation.
+pub(crate) fn is_reloc(kind: u8) -> bool
+    ensures { result ≡ needs_reloc kind }
+{
+    1 <= kind && kind <= 7
+}
+
+impl<'a> Draft<'a> {
+    ghost use Rattle.std.specs.Prelude.{option_map, length};
+    ghost use Rattle.tc_stmt.specs.Filling.{reference_of};
+    ghost use Rattle.tc_asm.specs.Items.{item_of};
+    ghost use Rattle.tc_asm.specs.Rules.{label_rule, section_rule, name_rule, section_room, symbol_room, reloc_room, bytes_room, defined_rule, reference_rule, content_rule, item_rule};
+
+    fn label_rule(&self, name: &[u8]) -> u8
+        ensures { result ≡ label_rule self.now name.now }
+    {
+        if self.symbols.place(name).is_some() {
+            7
+        } else {
+            15
+        }
+    }
+
+    fn section_rule(&self) -> u8
+        ensures { result ≡ section_rule self.now }
+    {
+        if self.has_section() { 15 } else { 8 }
+    }
+
+    fn section_room(&self, name: &[u8]) -> u8
+        ensures { result ≡ section_room self.now name.now }
+    {
+        let known = number_of_part(&self.parts, name) < self.parts.len();
+        if known || self.parts.len() < 64 {
+            15
+        } else {
+            13
+        }
+    }
+
+    fn symbol_room(&self, name: &[u8]) -> u8
+        ensures { result ≡ symbol_room self.now name.now }
+    {
+        if self.symbols.get(name).is_some() || self.symbols.len() < 65535 {
+            15
+        } else {
+            13
+        }
+    }
+
+    fn reloc_room(&self, r: Reference<'a>) -> u8
+        ensures { result ≡ reloc_room self.now (reference_of r.entry) }
+    {
+        if is_reloc(r.kind) && self.count >= 65535 {
+            13
+        } else {
+            15
+        }
+    }
+
+    fn bytes_room(&self, n: usize) -> u8
+        ensures { result ≡ bytes_room self.now n }
+    {
+        if self.has_room(n) { 15 } else { 13 }
+    }
+
+    fn reference_rule(&self, r: Option<Reference<'a>>) -> u8
+        ensures { result ≡ reference_rule self.now (option_map reference_of r.entry) }
+    {
+        match r {
+            None => 15,
+            Some(r) => self.symbol_room(r.name).min(self.reloc_room(r)),
+        }
+    }
+
+    fn content_rule(&self, size: usize, r: Option<Reference<'a>>) -> u8
+        ensures { result ≡ content_rule self.now size (option_map reference_of r.entry) }
+    {
+        let room = self.bytes_room(size).min(self.reference_rule(r));
+        self.section_rule().min(room)
+    }
+
+    fn name_rule(name: &[u8]) -> u8
+        ensures { result ≡ name_rule name.now }
+    {
+        if is_name(name) { 15 } else { 9 }
+    }
+
+    fn defined_rule(labels: &Symbols<'a>, name: &[u8]) -> u8
+        ensures { result ≡ defined_rule labels.now name.now }
+    {
+        if labels.place(name).is_some() { 15 } else { 14 }
+    }
+
+    /// The least rule that a thing breaks behind these lines, where the whole source has these symbols; 15 is none.
+    #[tactic(auto, unfolding(crate::specs::Rules::item_rule))]
+    pub(crate) fn item_rule(&self, labels: &Symbols<'a>, item: Item<'a>) -> u8
+        ensures { result ≡ item_rule labels.now self.now (item_of item.entry) }
+    {
+        match item {
+            Item::Label(name) => {
+                let stands = self.label_rule(name).min(self.section_rule());
+                stands.min(Self::name_rule(name).min(self.symbol_room(name)))
+            }
+            Item::Section(name) => Self::name_rule(name).min(self.section_room(name)),
+            Item::Global(name) => {
+                let room = self.symbol_room(name).min(Self::defined_rule(labels, name));
+                Self::name_rule(name).min(room)
+            }
+            Item::Code(row, fields, r) => {
+                let target = self.resolved(labels, row, fields, r).rule;
+                let code = self.code(labels, row, fields, r);
+                let len = first_bytes(&code.bytes, code.len).len();
+                target.min(self.content_rule(len, r))
+            }
+            Item::Data(len, bytes, r) => self.content_rule(first_bytes(&bytes, len).len(), r),
+            Item::Zeros(n) => self.section_rule().min(self.bytes_room(n as usize)),
+        }
+    }
+}

@@ -1,0 +1,96 @@
+-- The image of objects that were assembled from sources.
+use Rattle.std.proofs.Common.{◌≡◌, ◌<◌, ℕ, zero, suc, List, [], ◌∷◌, length, get_or, map, Option, Some, None, Ok, refl, sym, ap, subst, ◌∙◌, arith}
+use Rattle.std.specs.Prelude.{slice_get}
+use Rattle.std.specs.List.{flat_map}
+use Rattle.std.specs.Option.{option_or}
+use Rattle.elf_image.specs.Images.{ImageData}
+use Rattle.tc_object.specs.Objects.{ObjectData, IsObject}
+use Rattle.tc_asm.specs.Kept.{IsDraft}
+use Rattle.tc_link.specs.Layouts.{LayoutData}
+use Rattle.tc_link.specs.Placing.{globals_of, global_address}
+use Rattle.tc_link.specs.Relocated.{relocated, segments_of}
+use Rattle.tc_link.specs.Linked.{Refusal, unless, no_place_in, reloc_in, placed_of, contents_of, entry_of, made_of, refused_early, linked}
+use Rattle.tc_link.specs.Shapes.{shape_of}
+use Rattle.tc_link.proofs.RelocLaws.{contents_shapes}
+use Rattle.tc_asm.specs.Contents.{draft_in}
+use Rattle.tc_program.specs.Addresses.{sections_of}
+use Rattle.tc_program.specs.Placed.{span_of}
+use Rattle.tc_program.specs.Laws.{AreAssembled, SegmentsLaw, EntryLaw}
+use Rattle.tc_program.proofs.Sections.{AreObjects, all_sections}
+use Rattle.tc_asm.proofs.SourceDrafts.{source_draft, source_object}
+use Rattle.tc_program.proofs.Names.{global_at}
+use Rattle.tc_program.proofs.Spans.{spans}
+
+-- ---- sources and their objects
+pub are_objects : (sources : List (List ℕ)) (objects : List ObjectData) → AreAssembled sources objects → AreObjects sources objects
+are_objects [] [] h = tt
+are_objects [] (o ∷ os) h = absurd h
+are_objects (x ∷ xs) [] h = absurd h
+are_objects (x ∷ xs) (o ∷ os) h = (h.0.1, are_objects xs os h.1)
+
+pub drafts_good : (sources : List (List ℕ)) (objects : List ObjectData) → AreAssembled sources objects → (i : ℕ) (source : List ℕ) → slice_get sources i ≡ Some source → IsDraft (draft_in source)
+drafts_good [] objects h i source e = cc
+drafts_good (x ∷ xs) [] h i source e = absurd h
+drafts_good (x ∷ xs) (o ∷ os) h zero source e = let same : x ≡ source = cc in subst (λ (y : List ℕ). IsDraft (draft_in y)) same (source_draft x h.0.0)
+drafts_good (x ∷ xs) (o ∷ os) h (suc i) source e = drafts_good xs os h.1 i source e
+
+pub objects_good : (sources : List (List ℕ)) (objects : List ObjectData) → AreAssembled sources objects → (k : ℕ) (d : ObjectData) → k < length objects → IsObject (get_or objects k d)
+objects_good [] [] h k d less = absurd (omega arith)
+objects_good [] (o ∷ os) h k d less = absurd h
+objects_good (x ∷ xs) [] h k d less = absurd h
+objects_good (x ∷ xs) (o ∷ os) h zero d less = subst IsObject (sym h.0.1) (source_object x h.0.0)
+objects_good (x ∷ xs) (o ∷ os) h (suc k) d less = objects_good xs os h.1 k d (omega arith)
+
+-- ---- what linking found
+pub record Parts (objects : List ObjectData) (layout : LayoutData) (image : ImageData) : Type 0 where
+  pub early : refused_early layout objects ≡ None
+  pub relocs : reloc_in (globals_of (placed_of layout objects)) (placed_of layout objects) ≡ None
+  pub entry : global_address (globals_of (placed_of layout objects)) layout.entry ≡ Some image.entry
+  pub segments : image.segments ≡ segments_of layout.places (contents_of (placed_of layout objects))
+
+pub parts_of : (objects : List ObjectData) (layout : LayoutData) (image : ImageData) → linked objects layout ≡ Ok image → Parts objects layout image
+unfolding linked
+parts_of objects layout image e = by_early (refused_early layout objects) refl e
+  where
+    by_entry : (a : Option ℕ) → global_address (globals_of (placed_of layout objects)) layout.entry ≡ a → refused_early layout objects ≡ None
+        → reloc_in (globals_of (placed_of layout objects)) (placed_of layout objects) ≡ None → entry_of a layout.places (placed_of layout objects) ≡ Ok image → Parts objects layout image
+    by_entry None at early relocs f = cc
+    by_entry (Some a) at early relocs f =
+        let same : record { entry = a; segments = segments_of layout.places (contents_of (placed_of layout objects)) } ≡ image = cc in
+        record {
+          early = early;
+          relocs = relocs;
+          entry = at ∙ ap (λ (i : ImageData). Some i.entry) same;
+          segments = sym (ap (λ (i : ImageData). i.segments) same);
+        }
+
+    by_reloc : (r : Option Refusal) → reloc_in (globals_of (placed_of layout objects)) (placed_of layout objects) ≡ r → refused_early layout objects ≡ None
+        → unless r (entry_of (global_address (globals_of (placed_of layout objects)) layout.entry) layout.places (placed_of layout objects)) ≡ Ok image → Parts objects layout image
+    by_reloc (Some x) is early f = cc
+    by_reloc None is early f = by_entry (global_address (globals_of (placed_of layout objects)) layout.entry) refl early is f
+
+    by_early : (r : Option Refusal) → refused_early layout objects ≡ r → unless r (made_of layout (placed_of layout objects)) ≡ Ok image → Parts objects layout image
+    by_early (Some x) is f = cc
+    by_early None is f = by_reloc (reloc_in (globals_of (placed_of layout objects)) (placed_of layout objects)) refl is f
+
+none_parts : {B : Type 0} (a b : Option B) → option_or a b ≡ None → (a ≡ None) × (b ≡ None)
+none_parts None b e = (refl, e)
+none_parts (Some x) b e = cc
+
+pub placeable : (objects : List ObjectData) (layout : LayoutData) → refused_early layout objects ≡ None → no_place_in layout.places objects ≡ None
+placeable objects layout e = (none_parts _ _ (none_parts _ _ (none_parts _ _ e).1).1).0
+
+-- ---- the laws
+pub segments_law : SegmentsLaw
+unfolding contents_of
+segments_law sources objects layout image are e =
+    let parts = parts_of objects layout image e in
+    let g = globals_of (placed_of layout objects) in
+    let shapes : map shape_of (flat_map (relocated g) (placed_of layout objects)) ≡ map shape_of (sections_of sources)
+    = contents_shapes g layout.places [] objects (objects_good sources objects are) ∙ ap (map shape_of) (sym (all_sections sources objects (are_objects sources objects are))) in
+    ap (map span_of) parts.segments ∙ spans (flat_map (relocated g) (placed_of layout objects)) (sections_of sources) layout.places shapes
+
+pub entry_law : EntryLaw
+entry_law sources objects layout image are e =
+    let parts = parts_of objects layout image e in
+    global_at layout.places sources objects (are_objects sources objects are) (placeable objects layout parts.early) (drafts_good sources objects are) layout.entry image.entry parts.entry

@@ -1,0 +1,14 @@
+pub mod Bases
+pub mod Bytes
+pub mod Fields
+pub mod Image
+pub mod Laws
+pub mod Names
+pub mod Sections
+pub mod Spans
+pub mod Spelled
+pub mod Stands
+pub mod Values
+pub mod Whole
+pub mod Zeros
+pub mod Jumps

@@ -1,0 +1,439 @@
+-- Each statement with bytes stands at its address in the image.
+use Rattle.std.proofs.Common.{◌≡◌, ◌<◌, ◌≤◌, ◌+◌, ◌%◌, ◌^◌, ◌||◌, ◌==◌, ℕ, zero, suc, Bool, true, false, cond, List, [], ◌∷◌, ◌++◌, length, take, drop, map, get_or, Option, Some, None, refl, sym, ap, subst, ◌∙◌, arith}
+use Rattle.std.specs.Prelude.{slice_get, slice_index, unwrap_or, nat_lt, not}
+use Rattle.std.specs.Option.{option_map, option_map_or, option_or}
+use Rattle.std.specs.List.{list_any, flat_map, position_or_len}
+use Rattle.std.specs.Str.{bytes_eq}
+use Rattle.std.proofs.lemmas.Bool.{lt-ltb, leb-true, and_parts}
+use Rattle.std.proofs.lemmas.Bool.Decides.{Decides-eqb}
+use Rattle.std.proofs.lemmas.List.{length-append, map-append}
+use Rattle.std.proofs.lemmas.Option.{slice_get_within, slice_get-get_or}
+use Rattle.std.proofs.lemmas.Slice.Eq.{bytes_eq-Decides}
+use Rattle.elf_image.specs.Images.{SegmentData, ImageData, is_segment, byte_in, image_byte}
+use Rattle.tc_object.specs.declared.relocs.Reloc.{Reloc}
+use Rattle.tc_object.specs.Objects.{SectionData, ObjectData, IsObject}
+use Rattle.tc_object.specs.Objects as obj
+use Rattle.tc_stmt.specs.Filling.{ReferenceData}
+use Rattle.tc_reloc.specs.declared.refusals.RelocErr.{RelocErr}
+use Rattle.tc_reloc.specs.Refusals.{refusal_of}
+use Rattle.tc_reloc.specs.Fields.{content_of}
+use Rattle.tc_reloc.specs.Applied.{with_field}
+use Rattle.tc_asm.specs.Lines.{lines_in}
+use Rattle.tc_asm.specs.Symbols.{SymbolData}
+use Rattle.tc_asm.specs.Drafts.{UseData, PartData, start}
+use Rattle.tc_reloc.specs.Forms.{is_reloc}
+use Rattle.tc_asm.specs.Sources.{KeepsRules, symbols_of, items_rule}
+use Rattle.tc_asm.specs.Kept.{is_among, symbol_names, IsUse, IsPart}
+use Rattle.tc_asm.specs.Objects.{section_of, symbol_of, number_of, addend_of, reloc_of, relocs_from, object_of}
+use Rattle.tc_asm.specs.Statements.{StatementData, section_bytes, offset_of, bytes_at, items_in}
+use Rattle.tc_asm.proofs.LaidLaws.{drafted-bytes, stands}
+use Rattle.tc_asm.proofs.ListLaws.{position_first}
+use Rattle.tc_link.specs.Layouts.{PlaceData, LayoutData, IsLayout}
+use Rattle.tc_link.specs.Placing.{PlacedData, GlobalData, rounded, taken, place_of, base_of, bases_after, placed_after, globals_of, address_in, symbol_address}
+use Rattle.tc_link.specs.Placing as placing
+use Rattle.tc_link.specs.Relocated.{relocated, field_place, value_of, reloc_refusal, joined, segment_of, segments_of}
+use Rattle.tc_link.specs.Linked.{Refusal, reloc, missing_in, is_used, has_symbol, refusal_at, reloc_in, first_at, placed_of, contents_of, refused_early}
+use Rattle.tc_link.specs.Shapes.{Shape, shape_of}
+use Rattle.tc_link.proofs.ShapeLaws.{taken-shapes}
+use Rattle.tc_link.proofs.RelocLaws.{relocated_shapes, contents_shapes}
+use Rattle.tc_link.proofs.ImageLaws.{KeepsLimits}
+use Rattle.tc_link.proofs.LinkLaws.{linked_image}
+use Rattle.tc_asm.specs.Contents.{draft_in, statements_in, is_open}
+use Rattle.tc_program.specs.Addresses.{Begins, Means}
+use Rattle.tc_program.specs.Placed.{value_at, plain, filled, HoldsFrom, StandsAt}
+use Rattle.tc_program.specs.Laws.{AreAssembled}
+use Rattle.tc_asm.proofs.ListItems.{IsIn, get_front, get_behind, map_get, map_take, filter_in, find_at, flat_parted}
+use Rattle.tc_asm.proofs.SourceParts.{sections_are, part_bytes, part_is, have}
+use Rattle.tc_program.proofs.Sections.{object_at}
+use Rattle.tc_asm.proofs.Uses.{HasField, HaveFields, use_at, uses_from}
+use Rattle.tc_program.proofs.Fields.{filled_bytes, filled_from}
+use Rattle.tc_program.proofs.Bytes.{take_get, drop_get, final, statement_there}
+use Rattle.tc_program.proofs.Image.{Stands, byte_here}
+use Rattle.tc_program.proofs.Image as image_laws
+use Rattle.tc_program.proofs.Bases.{none_at, placed_at, placed_take, base_at, place_for, begins_at}
+use Rattle.tc_program.proofs.Names.{same_name, each_at, any_at}
+use Rattle.tc_program.proofs.Values.{means_at}
+use Rattle.tc_asm.proofs.SourceDrafts.{source_items}
+use Rattle.tc_program.proofs.Laws.{Parts, are_objects, drafts_good, objects_good, placeable}
+use Rattle.tc_stmt.proofs.Cases.{one_passes}
+use Rattle.tc_asm.proofs.CodeSizes.{source_good}
+
+-- ---- the use of a statement, and its relocation
+abbrev a_use : ℕ → ReferenceData → UseData
+a_use n r = record { offset = n; reference = r }
+
+behind : {A : Type 0} (xs ys : List A) (y : A) → IsIn A ys y → IsIn A (xs ++ ys) y
+behind xs ys y h = record { at = length xs + h.at; is = get_behind xs ys (length xs + h.at) h.at refl ∙ h.is }
+
+use_there : (s n j : ℕ) (ts : List StatementData) (t : StatementData) (r : ReferenceData) → slice_get ts j ≡ Some t → (t.section == s) ≡ true → t.reference ≡ Some r → is_reloc r.kind ≡ true →
+    IsIn UseData (uses_from s n ts) (a_use (n + offset_of ts j s) r)
+use_there s n j [] t r e here is waits = cc
+use_there s n zero (x ∷ xs) t r e here is waits =
+    let same : x ≡ t = cc in
+    let none : n ≡ n + 0 = omega arith in
+    let whole : uses_from s n (x ∷ xs) ≡ a_use n r ∷ uses_from s (n + length t.bytes) xs
+    = ap (λ (y : StatementData). cond (y.section == s) (use_at n y.reference ++ uses_from s (n + length y.bytes) xs) (uses_from s n xs)) same
+    ∙ ap (λ b. cond b (use_at n t.reference ++ uses_from s (n + length t.bytes) xs) (uses_from s n xs)) here
+    ∙ ap (λ (o : Option ReferenceData). use_at n o ++ uses_from s (n + length t.bytes) xs) is
+    ∙ ap (λ b. cond {A = List UseData} b (a_use n r ∷ []) [] ++ uses_from s (n + length t.bytes) xs) waits in
+    record { at = 0; is = ap (λ (us : List UseData). slice_get us 0) whole ∙ ap (λ k. Some (a_use k r)) none }
+use_there s n (suc j) (x ∷ xs) t r e here is waits = by (x.section == s) (λ m. use_there s m j xs t r e here is waits)
+  where
+    by : (b : Bool) → ((m : ℕ) → IsIn UseData (uses_from s m xs) (a_use (m + offset_of xs j s) r))
+        → IsIn UseData (cond b (use_at n x.reference ++ uses_from s (n + length x.bytes) xs) (uses_from s n xs)) (a_use (n + length (cond b x.bytes [] ++ section_bytes s (take j xs))) r)
+    by true rec =
+        let far : n + length x.bytes + length (section_bytes s (take j xs)) ≡ n + length (x.bytes ++ section_bytes s (take j xs)) = omega (arith, length-append x.bytes (section_bytes s (take j xs))) in
+        let P : ℕ → Type 0 = λ k. IsIn UseData (use_at n x.reference ++ uses_from s (n + length x.bytes) xs) (a_use k r) in
+        subst P far (behind (use_at n x.reference) (uses_from s (n + length x.bytes) xs) (a_use (n + length x.bytes + offset_of xs j s) r) (rec (n + length x.bytes)))
+    by false rec = rec n
+
+reloc_there : (ss : List SymbolData) (n s : ℕ) (parts : List PartData) (q : PartData) (u : UseData) → slice_get parts s ≡ Some q → IsIn UseData q.uses u → IsIn Reloc (relocs_from ss n parts) (reloc_of ss (n + s) u)
+reloc_there ss n s [] q u e h = cc
+reloc_there ss n zero (x ∷ xs) q u e h =
+    let same : x ≡ q = cc in
+    let none : n ≡ n + 0 = omega arith in
+    let own : slice_get x.uses h.at ≡ Some u = ap (λ (y : PartData). slice_get y.uses h.at) same ∙ h.is in
+    record {
+      at = h.at;
+      is = get_front (map (reloc_of ss n) x.uses) (relocs_from ss (n + 1) xs) h.at (reloc_of ss n u) (map_get (reloc_of ss n) x.uses h.at u own) ∙ ap (λ k. Some (reloc_of ss k u)) none;
+    }
+reloc_there ss n (suc s) (x ∷ xs) q u e h =
+    let moved : n + 1 + s ≡ n + suc s = omega arith in
+    let P : ℕ → Type 0 = λ k. IsIn Reloc (relocs_from ss n (x ∷ xs)) (reloc_of ss k u) in
+    subst P moved (behind (map (reloc_of ss n) x.uses) (relocs_from ss (n + 1) xs) (reloc_of ss (n + 1 + s) u) (reloc_there ss (n + 1) s xs q u e h))
+
+-- ---- the symbol of a known name
+first_is : {A : Type 0} (p : A → Bool) (xs : List A) → list_any p xs ≡ true → (x : A) × (slice_get xs (position_or_len p xs) ≡ Some x) × (p x ≡ true)
+first_is p [] h = cc
+first_is {A} p (x ∷ xs) h = by (p x) refl h (first_is p xs)
+  where
+    by : (b : Bool) → p x ≡ b → (b || list_any p xs) ≡ true → (list_any p xs ≡ true → (y : A) × (slice_get xs (position_or_len p xs) ≡ Some y) × (p y ≡ true))
+        → (y : A) × (slice_get (x ∷ xs) (cond (not b) (1 + position_or_len p xs) 0) ≡ Some y) × (p y ≡ true)
+    by true e f rec = (x, refl, e)
+    by false e f rec =
+        let r = rec f in
+        let next : 1 + position_or_len p xs ≡ suc (position_or_len p xs) = omega arith in
+        (r.0, ap (slice_get (x ∷ xs)) next ∙ r.1, r.2)
+
+among_any : (ss : List SymbolData) (name : List ℕ) → is_among (symbol_names ss) name ≡ list_any (λ (s : SymbolData). bytes_eq name s.name) ss
+among_any [] name = refl
+among_any (s ∷ ss) name = ap (λ b. bytes_eq name s.name || b) (among_any ss name)
+
+number_known : (ss : List SymbolData) (name : List ℕ) → is_among (symbol_names ss) name ≡ true → (s : SymbolData) × (slice_get ss (number_of ss name) ≡ Some s) × (s.name ≡ name)
+number_known ss name e =
+    let p : SymbolData → Bool = λ s. bytes_eq name s.name in
+    let some : list_any (λ (s : SymbolData). bytes_eq name s.name) ss ≡ true = sym (among_any ss name) ∙ e in
+    let f = first_is (λ (s : SymbolData). bytes_eq name s.name) ss some in
+    (f.0, ap (λ o. slice_get ss (unwrap_or o 0)) (position_first (λ (s : SymbolData). bytes_eq name s.name) ss some) ∙ f.1, sym ((bytes_eq-Decides name f.0.name).0 f.2))
+
+-- ---- sources
+pub rules_at : (sources : List (List ℕ)) (objects : List ObjectData) → AreAssembled sources objects → (i : ℕ) (source : List ℕ) → slice_get sources i ≡ Some source → KeepsRules (lines_in source) (length (lines_in source))
+rules_at [] objects h i source e = cc
+rules_at (x ∷ xs) [] h i source e = absurd h
+rules_at (x ∷ xs) (o ∷ os) h zero source e = let same : x ≡ source = cc in subst (λ (y : List ℕ). KeepsRules (lines_in y) (length (lines_in y))) same h.0.0
+rules_at (x ∷ xs) (o ∷ os) h (suc i) source e = rules_at xs os h.1 i source e
+
+assembled_take : (sources : List (List ℕ)) (objects : List ObjectData) (i : ℕ) → AreAssembled sources objects → AreAssembled (take i sources) (take i objects)
+assembled_take [] [] zero h = tt
+assembled_take [] [] (suc i) h = tt
+assembled_take [] (o ∷ os) i h = absurd h
+assembled_take (x ∷ xs) [] i h = absurd h
+assembled_take (x ∷ xs) (o ∷ os) zero h = tt
+assembled_take (x ∷ xs) (o ∷ os) (suc i) h = (h.0, assembled_take xs os i h.1)
+
+object_good : (sources : List (List ℕ)) (objects : List ObjectData) → AreAssembled sources objects → (i : ℕ) (o : ObjectData) → slice_get objects i ≡ Some o → IsObject o
+object_good sources objects are i o e =
+    let within = slice_get_within objects i o e in
+    let same : o ≡ get_or objects i o = got (slice_get-get_or objects i o within) in
+    subst IsObject (sym same) (objects_good sources objects are i o within)
+  where
+    got : slice_get objects i ≡ Some (get_or objects i o) → o ≡ get_or objects i o
+    got f = cc
+
+pub none_missing : (objects : List ObjectData) (layout : LayoutData) → refused_early layout objects ≡ None → missing_in objects ≡ None
+none_missing objects layout e = (none_parts _ _ (none_parts _ _ e).1).0
+  where
+    none_parts : (a b : Option Refusal) → option_or a b ≡ None → (a ≡ None) × (b ≡ None)
+    none_parts None b f = (refl, f)
+    none_parts (Some x) b f = cc
+
+has_at : (ts : List StatementData) (j : ℕ) (t : StatementData) → HaveFields ts → slice_get ts j ≡ Some t → HasField t
+has_at [] j t h e = cc
+has_at (x ∷ xs) zero t h e = let same : x ≡ t = cc in subst HasField same h.0
+has_at (x ∷ xs) (suc j) t h e = has_at xs j t h.1 e
+
+part_some : (ps : List PartData) (s : ℕ) → 0 < length (bytes_at ps s) → (q : PartData) × (slice_get ps s ≡ Some q)
+part_some [] s h = absurd (omega arith)
+part_some (p ∷ ps) zero h = (p, refl)
+part_some (p ∷ ps) (suc s) h = part_some ps s h
+
+-- ---- one source of an image
+module _ (sources : List (List ℕ)) (objects : List ObjectData) (layout : LayoutData) (image : ImageData) (good : IsLayout layout) (are : AreAssembled sources objects) (parts : Parts objects layout image)
+    (number : ℕ) (source : List ℕ) (is_source : slice_get sources number ≡ Some source) where
+  abbrev globals : List GlobalData
+  globals = globals_of (placed_of layout objects)
+
+  abbrev object : ObjectData
+  object = object_of (draft_in source)
+
+  abbrev bases : List ℕ
+  bases = bases_after layout.places (placing.sections_of (take number objects)) (object_of (draft_in source)).sections
+
+  abbrev own : PlacedData
+  own = record { object = object; bases = bases }
+
+  abbrev contents : List SectionData
+  contents = contents_of (placed_of layout objects)
+
+  rules : 15 ≤ items_rule (symbols_of (lines_in source)) start (items_in (lines_in source))
+  rules = source_items source (rules_at sources objects are number source is_source)
+
+  object_there : slice_get objects number ≡ Some object
+  object_there = object_at sources objects number source (are_objects sources objects are) is_source
+
+  own_there : slice_get (placed_of layout objects) number ≡ Some own
+  own_there = placed_at layout.places [] objects number object object_there
+
+  limits : KeepsLimits (record { entry = 0; segments = segments_of layout.places contents })
+  limits = linked_image objects layout (placed_of layout objects) good (objects_good sources objects are) parts.early refl 0 (omega arith)
+
+  -- ---- one section
+  module _ (s : ℕ) (q : PartData) (is_part : slice_get (draft_in source).parts s ≡ Some q) (some : 0 < length q.bytes) where
+    abbrev done : SectionData
+    done = record { name = q.name; bytes = section_bytes s (filled_from globals own (draft_in source).symbols s 0 (statements_in source)) }
+
+    abbrev before : List SectionData
+    before = flat_map (relocated globals) (take number (placed_of layout objects)) ++ take s (relocated globals own)
+
+    abbrev after : List SectionData
+    after = drop (suc s) (relocated globals own) ++ flat_map (relocated globals) (drop (suc number) (placed_of layout objects))
+
+    parted : contents ≡ before ++ done ∷ after
+    unfolding contents_of
+    parted = flat_parted (relocated globals) (placed_of layout objects) number own s done own_there (final source (source_good source) rules globals own refl s q is_part)
+
+    section_there : slice_get (map section_of (draft_in source).parts) s ≡ Some (section_of q)
+    section_there = map_get section_of (draft_in source).parts s q is_part
+
+    placed : (p : PlaceData) × (place_of layout.places q.name ≡ Some p)
+    placed =
+        place_for layout.places objects number object s (section_of q) (placeable objects layout parts.early) object_there section_there
+        (ap (λ b. b || has_symbol (object_of (draft_in source)).symbols s) (lt-ltb 0 (length q.bytes) some))
+
+    begins : Begins layout.places sources number s (slice_index bases s)
+    begins =
+        begins_at layout.places sources objects number source s (section_of q) placed.0 (are_objects sources objects are) is_source
+        (ap (λ (l : List SectionData). slice_get l s) (sections_are source) ∙ section_there) placed.1
+
+    stood : Stands q.name before done after
+    stood = image_laws.stands q.name before done after (same_name q.name)
+
+    earlier : map shape_of before ≡ map shape_of (placing.sections_of (take number objects) ++ take s object.sections)
+    earlier =
+        map-append shape_of (flat_map (relocated globals) (take number (placed_of layout objects))) (take s (relocated globals own))
+        ∙ ap (λ (l : List PlacedData). map shape_of (flat_map (relocated globals) l) ++ map shape_of (take s (relocated globals own))) (placed_take layout.places [] objects number)
+        ∙ ap (λ (l : List Shape). l ++ map shape_of (take s (relocated globals own)))
+        (contents_shapes globals layout.places [] (take number objects) (objects_good (take number sources) (take number objects) (assembled_take sources objects number are)))
+        ∙ ap (λ (l : List Shape). map shape_of (placing.sections_of (take number objects)) ++ l)
+        (map_take shape_of (relocated globals own) s ∙ ap (take s) (relocated_shapes globals own (object_good sources objects are number object object_there)) ∙ sym (map_take shape_of object.sections s))
+        ∙ sym (map-append shape_of (placing.sections_of (take number objects)) (take s object.sections))
+
+    base_is : slice_index bases s ≡ placed.0.at + length stood.front
+    base_is =
+        base_at layout.places (placing.sections_of (take number objects)) object.sections s (section_of q) section_there
+        ∙ ap (λ (o : Option PlaceData). option_map_or (λ p. p.at + rounded (taken q.name (placing.sections_of (take number objects) ++ take s object.sections))) o 0) placed.1
+        ∙ ap (λ n. placed.0.at + rounded n) (sym (taken-shapes q.name before (placing.sections_of (take number objects) ++ take s object.sections) earlier))
+        ∙ ap (λ n. placed.0.at + n) (sym stood.place)
+
+    -- the segment of the section's place has its bytes
+    in_segment : (m b : ℕ) → slice_get done.bytes m ≡ Some b → slice_get (joined placed.0.section contents) (length stood.front + m) ≡ Some b
+    in_segment m b h =
+        let f = find_at (λ (p : PlaceData). bytes_eq q.name p.section) layout.places placed.0 placed.1 in
+        ap (λ (n : List ℕ). slice_get (joined n contents) (length stood.front + m)) (sym ((bytes_eq-Decides q.name placed.0.section).0 f.holds))
+        ∙ ap (λ (cs : List SectionData). slice_get (joined q.name cs) (length stood.front + m)) parted
+        ∙ ap (λ (bs : List ℕ). slice_get bs (length stood.front + m)) stood.is
+        ∙ get_behind stood.front (done.bytes ++ stood.rest) (length stood.front + m) m refl
+        ∙ get_front done.bytes stood.rest m b h
+
+    segment_there : (m b : ℕ) → slice_get done.bytes m ≡ Some b → IsIn SegmentData (segments_of layout.places contents) (segment_of contents placed.0)
+    unfolding segments_of
+    segment_there m b h =
+        let f = find_at (λ (p : PlaceData). bytes_eq q.name p.section) layout.places placed.0 placed.1 in
+        let within = slice_get_within (joined placed.0.section contents) (length stood.front + m) b (in_segment m b h) in
+        filter_in (λ (x : SegmentData). nat_lt 0 (length x.bytes)) (map (segment_of contents) layout.places) f.at (segment_of contents placed.0)
+        (map_get (segment_of contents) layout.places f.at placed.0 f.is_item) (lt-ltb 0 (length (joined placed.0.section contents)) (omega arith))
+
+    byte_there : (m b : ℕ) → slice_get done.bytes m ≡ Some b → image_byte image (slice_index bases s + m) ≡ Some b
+    byte_there m b h =
+        let i = segment_there m b h in
+        let base = base_is in
+        let far : slice_index bases s + m ≡ placed.0.at + (length stood.front + m) = omega arith in
+        ap (λ (ss : List SegmentData). byte_in ss (slice_index bases s + m)) parts.segments
+        ∙ ap (byte_in (segments_of layout.places contents)) far
+        ∙ byte_here (segments_of layout.places contents) i.at (segment_of contents placed.0) (length stood.front + m) b limits.apart i.is (in_segment m b h)
+
+    small_there : (m b : ℕ) → slice_get done.bytes m ≡ Some b → slice_index bases s + m < 2 ^ 32
+    small_there m b h =
+        let i = segment_there m b h in
+        let base = base_is in
+        let within = slice_get_within (joined placed.0.section contents) (length stood.front + m) b (in_segment m b h) in
+        let small = leb-true (placed.0.at + length (joined placed.0.section contents)) (2 ^ 32)
+        (and_parts _ _ (one_passes is_segment (segments_of layout.places contents) i.at (segment_of contents placed.0) limits.segments i.is)).1 in
+        omega arith
+
+  -- ---- one statement
+  module _ (j : ℕ) (t : StatementData) (at : slice_get (statements_in source) j ≡ Some t) (long : 0 < length t.bytes) where
+    section_long : 0 < length (section_bytes t.section (statements_in source))
+    section_long =
+        let first = slice_get-get_or t.bytes 0 0 long in
+        let flat : offset_of (statements_in source) j t.section ≡ offset_of (statements_in source) j t.section + 0 = omega arith in
+        let there = drop_get (offset_of (statements_in source) j t.section) (section_bytes t.section (statements_in source)) 0 (offset_of (statements_in source) j t.section) (get_or t.bytes 0 0) flat
+        (take_get (length t.bytes) (drop (offset_of (statements_in source) j t.section) (section_bytes t.section (statements_in source))) 0 (get_or t.bytes 0 0)
+        (ap (λ (bs : List ℕ). slice_get bs 0) (stands (statements_in source) j t at) ∙ first)) in
+        let within = slice_get_within (section_bytes t.section (statements_in source)) (offset_of (statements_in source) j t.section) (get_or t.bytes 0 0) there in
+        omega arith
+
+    part : (q : PartData) × (slice_get (draft_in source).parts t.section ≡ Some q)
+    part = part_some (draft_in source).parts t.section (subst (λ (bs : List ℕ). 0 < length bs) (sym (drafted-bytes (symbols_of (lines_in source)) (lines_in source) t.section)) section_long)
+
+    part_long : 0 < length part.0.bytes
+    part_long =
+        subst (λ (bs : List ℕ). 0 < length bs)
+        (sym (drafted-bytes (symbols_of (lines_in source)) (lines_in source) t.section) ∙ part_bytes (draft_in source).parts t.section part.0 part.1) section_long
+
+    abbrev off : ℕ
+    off = offset_of (statements_in source) j t.section
+
+    abbrev base : ℕ
+    base = slice_index bases t.section
+
+    abbrev held : List ℕ
+    held = filled_bytes globals own (draft_in source).symbols t.section (0 + off) t.reference t.bytes
+
+    byte_at : (k b : ℕ) → slice_get held k ≡ Some b → slice_get (section_bytes t.section (filled_from globals own (draft_in source).symbols t.section 0 (statements_in source))) (off + k) ≡ Some b
+    byte_at k b h = statement_there source (source_good source) rules globals own refl j t at k b h
+
+    there : HoldsFrom image (base + off) held
+    there = λ k b h.
+        let far : base + off + k ≡ base + (off + k) = omega arith in
+        ap (image_byte image) far ∙ byte_there t.section part.0 part.1 part_long (off + k) b (byte_at k b h)
+
+    -- without a symbol that waits
+    held_plain : (o : Option ReferenceData) → is_open o ≡ false → filled_bytes globals own (draft_in source).symbols t.section (0 + off) o t.bytes ≡ t.bytes
+    held_plain None e = refl
+    held_plain (Some r) e =
+        ap (λ b. cond b (with_field r.kind t.bytes (content_of r.kind (field_place own (reloc_of (draft_in source).symbols t.section (a_use (0 + off) r))) (value_of globals own (reloc_of (draft_in source).symbols t.section (a_use (0 + off) r))))) t.bytes) e
+
+    plain_stands : is_open t.reference ≡ false → StandsAt layout.places sources image number j (statements_in source) t
+    plain_stands e = record {
+      base = base;
+      begins = begins t.section part.0 part.1 part_long;
+      bytes = t.bytes;
+      are = plain e;
+      there = subst (λ (bs : List ℕ). HoldsFrom image (base + off) bs) (held_plain t.reference e) there;
+    }
+
+    -- with one
+    module _ (r : ReferenceData) (is : t.reference ≡ Some r) (waits : is_reloc r.kind ≡ true) where
+      abbrev field : Reloc
+      field = reloc_of (draft_in source).symbols t.section (a_use (0 + off) r)
+
+      used : IsIn UseData part.0.uses (a_use (0 + off) r)
+      used =
+          subst (λ (us : List UseData). IsIn UseData us (a_use (0 + off) r)) (sym (part_is source (source_good source) rules t.section part.0 part.1).1)
+          (use_there t.section 0 j (statements_in source) t r at ((Decides-eqb t.section t.section).1 refl) is waits)
+
+      field_there : IsIn Reloc object.relocs field
+      field_there =
+          let same : 0 + t.section ≡ t.section = omega arith in
+          let P : ℕ → Type 0 = λ n. IsIn Reloc (relocs_from (draft_in source).symbols 0 (draft_in source).parts) (reloc_of (draft_in source).symbols n (a_use (0 + off) r)) in
+          subst P same (reloc_there (draft_in source).symbols 0 t.section (draft_in source).parts part.0 (a_use (0 + off) r) part.1 used)
+
+      known : is_among (symbol_names (draft_in source).symbols) r.name ≡ true
+      known =
+          let draft = drafts_good sources objects are number source is_source in
+          let p = each_at (IsPart (symbol_names (draft_in source).symbols) (draft_in source).total) (draft_in source).parts t.section part.0 draft.parts part.1 in
+          (each_at (IsUse (symbol_names (draft_in source).symbols)) part.0.uses used.at (a_use (0 + off) r) p.uses used.is).known
+
+      symbol : (s : SymbolData) × (slice_get (draft_in source).symbols (number_of (draft_in source).symbols r.name) ≡ Some s) × (s.name ≡ r.name)
+      symbol = number_known (draft_in source).symbols r.name known
+
+      abbrev address : ℕ
+      address = symbol_address globals bases (symbol_of symbol.0)
+
+      means : Means layout.places sources number r.name address
+      means =
+          let n : ℕ = number_of (draft_in source).symbols r.name in
+          let is_there : is_used object.relocs (number_of (draft_in source).symbols r.name) ≡ true
+          = any_at (λ (x : Reloc). x.symbol == number_of (draft_in source).symbols r.name) object.relocs field_there.at field field_there.is
+          ((Decides-eqb (number_of (draft_in source).symbols r.name) (number_of (draft_in source).symbols r.name)).1 refl) in
+          subst (λ (name : List ℕ). Means layout.places sources number name address) symbol.2
+          (means_at layout.places sources objects (are_objects sources objects are) (placeable objects layout parts.early) (drafts_good sources objects are) (none_missing objects layout parts.early) number source
+          (number_of (draft_in source).symbols r.name) symbol.0 is_source symbol.1 is_there)
+
+      four : length t.bytes ≡ 4
+      four = (has_at (statements_in source) j t (have source (source_good source) rules) at).four (ap is_open is ∙ waits)
+
+      abbrev whole : ℕ → ℕ → List ℕ
+      whole place value = with_field r.kind t.bytes (content_of r.kind place value)
+
+      held_filled : held ≡ whole (field_place own field) (value_of globals own field)
+      held_filled =
+          ap (λ (o : Option ReferenceData). filled_bytes globals own (draft_in source).symbols t.section (0 + off) o t.bytes) is
+          ∙ ap (λ b. cond b (whole (field_place own field) (value_of globals own field)) t.bytes) waits
+
+      small : base + off < 2 ^ 32
+      small =
+          let bs : List ℕ = whole (field_place own field) (value_of globals own field) in
+          let first = slice_get-get_or (whole (field_place own field) (value_of globals own field)) 0 0 (omega arith) in
+          let less = small_there t.section part.0 part.1 part_long (off + 0) (get_or (whole (field_place own field) (value_of globals own field)) 0 0)
+          (byte_at 0 (get_or (whole (field_place own field) (value_of globals own field)) 0 0) (ap (λ (bs : List ℕ). slice_get bs 0) held_filled ∙ first)) in
+          omega arith
+
+      place_is : field_place own field ≡ base + off
+      place_is = let less = small in omega arith
+
+      value_is : value_of globals own field ≡ value_at address r
+      value_is =
+          ap (λ (o : Option obj.SymbolData). (option_map_or (symbol_address globals bases) o 0 + addend_of r) % 2 ^ 32)
+          (map_get symbol_of (draft_in source).symbols (number_of (draft_in source).symbols r.name) symbol.0 symbol.1)
+
+      unrefused : reloc_refusal globals own field ≡ None
+      unfolding reloc_in
+      unrefused =
+          let here : first_at (refusal_at globals (0 + number) own) 0 object.relocs ≡ None
+          = none_at (λ n (x : PlacedData). first_at (refusal_at globals n x) 0 x.object.relocs) 0 (placed_of layout objects) number own parts.relocs own_there in
+          none_of (reloc_refusal globals own field) (none_at (refusal_at globals (0 + number) own) 0 object.relocs field_there.at field here field_there.is)
+        where
+          none_of : (o : Option RelocErr) → option_map (λ e. reloc (0 + number) field.section field.offset e) o ≡ None → o ≡ None
+          none_of None e = refl
+          none_of (Some x) e = cc
+
+      fits : refusal_of r.kind (base + off) (value_at address r) ≡ None
+      fits =
+          ap (λ n. refusal_of r.kind n (value_at address r)) (sym place_is)
+          ∙ ap (refusal_of r.kind (field_place own field)) (sym value_is)
+          ∙ unrefused
+
+      filled_stands : StandsAt layout.places sources image number j (statements_in source) t
+      filled_stands =
+          let held_is : held ≡ whole (base + off) (value_at address r)
+          = held_filled ∙ ap (λ n. whole n (value_of globals own field)) place_is ∙ ap (whole (base + off)) value_is in
+          record {
+            base = base;
+            begins = begins t.section part.0 part.1 part_long;
+            bytes = whole (base + off) (value_at address r);
+            are = filled r address is waits four means fits;
+            there = subst (λ (bs : List ℕ). HoldsFrom image (base + off) bs) held_is there;
+          }
+
+    pub statement_stands : StandsAt layout.places sources image number j (statements_in source) t
+    statement_stands = by t.reference refl
+      where
+        by_open : (r : ReferenceData) (b : Bool) → t.reference ≡ Some r → is_reloc r.kind ≡ b → StandsAt layout.places sources image number j (statements_in source) t
+        by_open r true e f = filled_stands r e f
+        by_open r false e f = plain_stands (ap is_open e ∙ f)
+
+        by : (o : Option ReferenceData) → t.reference ≡ o → StandsAt layout.places sources image number j (statements_in source) t
+        by None e = plain_stands (ap is_open e)
+        by (Some r) e = by_open r (is_reloc r.kind) e refl

@@ -1,0 +1,156 @@
+-- All bytes of the image that stand in no statement are 0.
+use Rattle.std.proofs.Common.{◌≡◌, ◌<◌, ◌≤◌, ◌+◌, ◌-◌, ◌⊎◌, ◌==◌, inl, inr, ℕ, suc, Bool, true, false, cond, List, [], ◌∷◌, ◌++◌, length, take, map, Some, refl, sym, ap, subst, ◌∙◌, arith}
+use Rattle.std.specs.Prelude.{slice_get, nat_lt}
+use Rattle.std.proofs.lemmas.Bool.{ltb-false, ltb-true}
+use Rattle.std.proofs.lemmas.Bool.Decides.{Decides-eqb}
+use Rattle.std.proofs.lemmas.List.{length-append}
+use Rattle.std.proofs.lemmas.Slice.Eq.{bytes_eq-Decides}
+use Rattle.elf_image.specs.Images.{SegmentData, ImageData, byte_in, image_byte}
+use Rattle.tc_object.specs.Objects.{SectionData, ObjectData}
+use Rattle.tc_asm.specs.Lines.{lines_in}
+use Rattle.tc_asm.specs.Sources.{symbols_of}
+use Rattle.tc_asm.specs.Objects.{section_of}
+use Rattle.tc_asm.specs.Statements.{StatementData, section_bytes, offset_of}
+use Rattle.tc_asm.proofs.LaidLaws.{drafted-bytes}
+use Rattle.tc_link.specs.Layouts.{PlaceData, LayoutData, IsLayout}
+use Rattle.tc_link.specs.Placing.{rounded, taken, place_of, globals_of}
+use Rattle.tc_link.specs.Relocated.{segment_of, segments_of}
+use Rattle.tc_link.specs.Linked.{placed_of, contents_of}
+use Rattle.tc_link.specs.Shapes.{shape_of}
+use Rattle.tc_link.proofs.RelocLaws.{contents_shapes}
+use Rattle.tc_asm.specs.Contents.{draft_in, statements_in, sections_in}
+use Rattle.tc_program.specs.Addresses.{sections_of, Begins}
+use Rattle.tc_program.specs.Placed.{IsCovered}
+use Rattle.tc_program.specs.Laws.{AreAssembled}
+use Rattle.tc_asm.proofs.ListItems.{FlatAt, flat_at, map_at, filter_at}
+use Rattle.tc_asm.proofs.SourceParts.{sections_are, part_bytes}
+use Rattle.tc_program.proofs.Sections.{all_sections}
+use Rattle.tc_program.proofs.Image.{InSection, joined_byte, in_shaped, byte_from, place_alone}
+use Rattle.tc_program.proofs.Laws.{Parts, are_objects, objects_good}
+
+-- ---- the statement of a byte of a section
+record Covering (s : ℕ) (ts : List StatementData) (m : ℕ) : Type 0 where
+  index : ℕ
+  statement : StatementData
+  is : slice_get ts index ≡ Some statement
+  section : statement.section ≡ s
+  low : offset_of ts index s ≤ m
+  high : m < offset_of ts index s + length statement.bytes
+
+-- behind a statement of this section, or of another
+later : (s : ℕ) (x : StatementData) (xs : List StatementData) (m n : ℕ) (b : Bool) → (x.section == s) ≡ b → n ≡ length {A = ℕ} (cond b x.bytes []) + m → Covering s xs m → Covering s (x ∷ xs) n
+later s x xs m n b e far c =
+    let low = c.low in
+    let high = c.high in
+    let size : offset_of (x ∷ xs) (suc c.index) s ≡ length {A = ℕ} (cond b x.bytes []) + offset_of xs c.index s
+    = ap (λ t. length (cond t x.bytes [] ++ section_bytes s (take c.index xs))) e ∙ length-append (cond b x.bytes []) (section_bytes s (take c.index xs)) in
+    record { index = suc c.index; statement = c.statement; is = c.is; section = c.section; low = omega arith; high = omega arith }
+
+covering : (s : ℕ) (ts : List StatementData) (m : ℕ) → m < length (section_bytes s ts) → Covering s ts m
+covering s [] m h = absurd (omega arith)
+covering s (x ∷ xs) m h = by (x.section == s) refl h (λ n k. covering s xs n k)
+  where
+    by_front : (b : Bool) → nat_lt m (length x.bytes) ≡ b → (x.section == s) ≡ true → m < length (x.bytes ++ section_bytes s xs) → ((n : ℕ) → n < length (section_bytes s xs) → Covering s xs n) → Covering s (x ∷ xs) m
+    by_front true f e less rec =
+        let inside = ltb-true m (length x.bytes) f in
+        record { index = 0; statement = x; is = refl; section = (Decides-eqb x.section s).0 e; low = omega arith; high = omega arith }
+    by_front false f e less rec =
+        let past = ltb-false m (length x.bytes) f in
+        let both = length-append x.bytes (section_bytes s xs) in
+        later s x xs (m - length x.bytes) m true e (omega arith) (rec (m - length x.bytes) (omega arith))
+
+    by : (b : Bool) → (x.section == s) ≡ b → m < length (cond b x.bytes [] ++ section_bytes s xs) → ((n : ℕ) → n < length (section_bytes s xs) → Covering s xs n) → Covering s (x ∷ xs) m
+    by true e less rec = by_front (nat_lt m (length x.bytes)) refl e less rec
+    by false e less rec = later s x xs m m false e (omega arith) (rec m less)
+
+-- a section of a source is its statements' bytes
+section_is : (source : List ℕ) (s : ℕ) (x : SectionData) → slice_get (sections_in source) s ≡ Some x → x.bytes ≡ section_bytes s (statements_in source)
+section_is source s x e =
+    let p = map_at section_of (draft_in source).parts s x (ap (λ (l : List SectionData). slice_get l s) (sym (sections_are source)) ∙ e) in
+    ap (λ (y : SectionData). y.bytes) (sym p.is)
+    ∙ sym (part_bytes (draft_in source).parts s p.item p.is_item)
+    ∙ drafted-bytes (symbols_of (lines_in source)) (lines_in source) s
+
+-- ---- the bytes of places
+module _ (sources : List (List ℕ)) (layout : LayoutData) (good : IsLayout layout) where
+  -- an address in a section that goes to a place is in a statement
+  in_statement : (place : PlaceData) (i q : ℕ) → slice_get layout.places i ≡ Some place → place.at ≤ q → InSection place.section (sections_of sources) (λ before. rounded (taken place.section before)) (q - place.at) → IsCovered layout.places sources q
+  in_statement place i q is_place above h = by (flat_at sections_in sources h.at h.section h.is_section)
+    where
+      name : place.section ≡ h.section.name
+      name = (bytes_eq-Decides place.section h.section.name).0 h.named
+
+      by : FlatAt (List ℕ) SectionData sections_in sources h.at h.section → IsCovered layout.places sources q
+      by f =
+          let behind : List SectionData = sections_of (take f.outer sources) ++ take f.inner (sections_in f.item) in
+          let start : ℕ = place.at + rounded (taken h.section.name (sections_of (take f.outer sources) ++ take f.inner (sections_in f.item))) in
+          let same : rounded (taken place.section (take h.at (sections_of sources))) ≡ rounded (taken h.section.name (sections_of (take f.outer sources) ++ take f.inner (sections_in f.item)))
+          = ap (λ (l : List SectionData). rounded (taken place.section l)) f.front ∙ ap (λ (n : List ℕ). rounded (taken n (sections_of (take f.outer sources) ++ take f.inner (sections_in f.item)))) name in
+          inside f start refl same (covering f.inner (statements_in f.item) (q - start) (within f start refl same))
+        where
+          within : (f : FlatAt (List ℕ) SectionData sections_in sources h.at h.section) (start : ℕ)
+              → start ≡ place.at + rounded (taken h.section.name (sections_of (take f.outer sources) ++ take f.inner (sections_in f.item)))
+              → rounded (taken place.section (take h.at (sections_of sources))) ≡ rounded (taken h.section.name (sections_of (take f.outer sources) ++ take f.inner (sections_in f.item)))
+              → q - start < length (section_bytes f.inner (statements_in f.item))
+          within f start is same =
+              let low = h.low in
+              let high = h.high in
+              let size : length h.section.bytes ≡ length (section_bytes f.inner (statements_in f.item)) = ap length (section_is f.item f.inner h.section f.is_inner) in
+              omega arith
+
+          inside : (f : FlatAt (List ℕ) SectionData sections_in sources h.at h.section) (start : ℕ)
+              → start ≡ place.at + rounded (taken h.section.name (sections_of (take f.outer sources) ++ take f.inner (sections_in f.item)))
+              → rounded (taken place.section (take h.at (sections_of sources))) ≡ rounded (taken h.section.name (sections_of (take f.outer sources) ++ take f.inner (sections_in f.item)))
+              → Covering f.inner (statements_in f.item) (q - start) → IsCovered layout.places sources q
+          inside f start is same c =
+              let first = h.low in
+              let begins : Begins layout.places sources f.outer f.inner start = record {
+                source = f.item;
+                is_source = f.is_item;
+                data_of = h.section;
+                is_section = f.is_inner;
+                place = place;
+                is_place = ap (place_of layout.places) (sym name) ∙ place_alone layout.places i place good.places is_place;
+                is = is;
+              } in
+              let size : offset_of (statements_in f.item) c.index c.statement.section ≡ offset_of (statements_in f.item) c.index f.inner = ap (offset_of (statements_in f.item) c.index) c.section in
+              let low = c.low in
+              let high = c.high in
+              record {
+                number = f.outer;
+                source = f.item;
+                is_source = f.is_item;
+                index = c.index;
+                statement = c.statement;
+                is_statement = c.is;
+                base = start;
+                begins = subst (λ n. Begins layout.places sources f.outer n start) (sym c.section) begins;
+                low = omega arith;
+                high = omega arith;
+              }
+
+  module _ (objects : List ObjectData) (image : ImageData) (are : AreAssembled sources objects) (parts : Parts objects layout image) where
+    abbrev contents : List SectionData
+    contents = contents_of (placed_of layout objects)
+
+    shapes : map shape_of contents ≡ map shape_of (sections_of sources)
+    unfolding contents_of
+    shapes =
+        contents_shapes (globals_of (placed_of layout objects)) layout.places [] objects (objects_good sources objects are)
+        ∙ ap (map shape_of) (sym (all_sections sources objects (are_objects sources objects are)))
+
+    pub zero_else : (q b : ℕ) → image_byte image q ≡ Some b → IsCovered layout.places sources q ⊎ (b ≡ 0)
+    unfolding segments_of
+    zero_else q b e =
+        let i = byte_from (segments_of layout.places contents) q b (ap (λ (ss : List SegmentData). byte_in ss q) (sym parts.segments) ∙ e) in
+        let f = filter_at (λ (x : SegmentData). nat_lt 0 (length x.bytes)) (map (segment_of contents) layout.places) i.at i.segment i.is_segment in
+        let m = map_at (segment_of contents) layout.places f.at i.segment f.is_item in
+        let same : m.item.at ≡ i.segment.at = ap (λ (s : SegmentData). s.at) m.is in
+        let low = i.low in
+        let above : m.item.at ≤ q = omega arith in
+        by m.item f.at m.is_item above
+        (joined_byte m.item.section contents (q - m.item.at) b (ap (λ (s : SegmentData). slice_get s.bytes (q - s.at)) m.is ∙ i.byte))
+      where
+        by : (place : PlaceData) (k : ℕ) → slice_get layout.places k ≡ Some place → place.at ≤ q → (b ≡ 0) ⊎ InSection place.section contents (λ before. rounded (taken place.section before)) (q - place.at) → IsCovered layout.places sources q ⊎ (b ≡ 0)
+        by place k is above (inl z) = inr z
+        by place k is above (inr h) = inl (in_statement place k q is above (in_shaped place.section contents (sections_of sources) (q - place.at) shapes h))

@@ -1,0 +1,47 @@
+-- Where the sections and labels of sources stand once they are linked, and what names mean. No object is spoken of.
+use Rattle.std.specs.Prelude.{◌≡◌, ◌+◌, ◌%◌, ◌^◌, ℕ, true, List, ◌++◌, take, slice_get, Some, None}
+use Rattle.std.specs.List.{flat_map}
+use Rattle.tc_object.specs.Objects.{SectionData}
+use Rattle.tc_asm.specs.declared.entries.Place.{Place}
+use Rattle.tc_asm.specs.Symbols.{entry_of, place_in}
+use Rattle.tc_asm.specs.Contents.{symbols_in, sections_in}
+use Rattle.tc_link.specs.Layouts.{PlaceData}
+use Rattle.tc_link.specs.Placing.{rounded, taken, place_of}
+
+-- the sections of sources, one source after another
+abbrev pub sections_of : List (List ℕ) → List SectionData
+sections_of sources = flat_map sections_in sources
+
+-- where a section of a source begins: in the place of its name, behind the sections of this name in earlier sources, at a
+-- multiple of 4
+pub record Begins (places : List PlaceData) (sources : List (List ℕ)) (number section base : ℕ) : Type 0 where
+  pub source : List ℕ
+  pub is_source : slice_get sources number ≡ Some source
+  pub data_of : SectionData
+  pub is_section : slice_get (sections_in source) section ≡ Some data_of
+  pub place : PlaceData
+  pub is_place : place_of places data_of.name ≡ Some place
+  pub is : base ≡ place.at + rounded (taken data_of.name (sections_of (take number sources) ++ take section (sections_in source)))
+
+-- a label of a source stands at an address
+pub record HasLabel (places : List PlaceData) (sources : List (List ℕ)) (number : ℕ) (name : List ℕ) (address : ℕ) : Type 0 where
+  pub source : List ℕ
+  pub is_source : slice_get sources number ≡ Some source
+  pub label : Place
+  pub is_label : place_in (symbols_in source) name ≡ Some label
+  pub base : ℕ
+  pub begins : Begins places sources number label.section base
+  pub is : address ≡ (base + label.offset) % 2 ^ 32
+
+-- a global label of one of the sources
+pub record HasGlobal (places : List PlaceData) (sources : List (List ℕ)) (name : List ℕ) (address : ℕ) : Type 0 where
+  pub number : ℕ
+  pub stands : HasLabel places sources number name address
+  pub is_global : (entry_of (symbols_in stands.source) name).is_global ≡ true
+
+-- the address that a name means in a source: that of its own label, or else of a global one
+pub data Means (places : List PlaceData) (sources : List (List ℕ)) (number : ℕ) (name : List ℕ) : ℕ → Type 0 where
+  own : (address : ℕ) → HasLabel places sources number name address → Means places sources number name address
+  other :
+      (source : List ℕ) (address : ℕ) → slice_get sources number ≡ Some source → place_in (symbols_in source) name ≡ None
+      → HasGlobal places sources name address → Means places sources number name address

@@ -1,0 +1,76 @@
+-- Where the statements of sources stand in an image that was assembled and linked from them.
+use Rattle.std.specs.Prelude.{◌≡◌, ◌≤◌, ◌<◌, ◌+◌, ◌%◌, ◌^◌, ◌⊎◌, nat_lt, ℕ, true, false, List, length, map, filter, slice_get, Some, None}
+use Rattle.elf_image.specs.Images.{SegmentData, ImageData, image_byte}
+use Rattle.tc_reloc.specs.Forms.{is_reloc}
+use Rattle.tc_reloc.specs.Refusals.{refusal_of}
+use Rattle.tc_reloc.specs.Fields.{content_of}
+use Rattle.tc_reloc.specs.Applied.{with_field}
+use Rattle.tc_stmt.specs.Filling.{ReferenceData}
+use Rattle.tc_object.specs.Objects.{SectionData}
+use Rattle.tc_asm.specs.Objects.{addend_of}
+use Rattle.tc_asm.specs.Statements.{StatementData, offset_of}
+use Rattle.tc_asm.specs.Contents.{statements_in, is_open}
+use Rattle.tc_link.specs.Layouts.{PlaceData, LayoutData}
+use Rattle.tc_link.specs.Placing.{taken}
+use Rattle.tc_program.specs.Addresses.{sections_of, Begins, HasGlobal, Means}
+
+-- ---- bytes
+-- the number that the field of a symbol takes
+abbrev pub value_at : ℕ → ReferenceData → ℕ
+value_at address r = (address + addend_of r) % 2 ^ 32
+
+-- The bytes of a statement that stands at this address: its data, or its instruction's spelling; with the field of its
+-- symbol, if it has one, filled so that it reaches the symbol's address with the number added, which the field can hold.
+pub data BytesAt (places : List PlaceData) (sources : List (List ℕ)) (number : ℕ) (t : StatementData) (at : ℕ) : List ℕ → Type 0 where
+  plain : is_open t.reference ≡ false → BytesAt places sources number t at t.bytes
+  filled :
+      (r : ReferenceData) (address : ℕ) → t.reference ≡ Some r → is_reloc r.kind ≡ true → length t.bytes ≡ 4 → Means places sources number r.name address
+      → refusal_of r.kind at (value_at address r) ≡ None
+      → BytesAt places sources number t at (with_field r.kind t.bytes (content_of r.kind at (value_at address r)))
+
+-- the image has these bytes from an address on
+abbrev pub HoldsFrom : ImageData → ℕ → List ℕ → Type 0
+HoldsFrom image at bytes = (k b : ℕ) → slice_get bytes k ≡ Some b → image_byte image (at + k) ≡ Some b
+
+-- The statement with this index stands behind the earlier ones of its section.
+pub record StandsAt (places : List PlaceData) (sources : List (List ℕ)) (image : ImageData) (number index : ℕ) (ts : List StatementData) (t : StatementData) : Type 0 where
+  pub base : ℕ
+  pub begins : Begins places sources number t.section base
+  pub bytes : List ℕ
+  pub are : BytesAt places sources number t (base + offset_of ts index t.section) bytes
+  pub there : HoldsFrom image (base + offset_of ts index t.section) bytes
+
+-- an address in a statement
+pub record IsCovered (places : List PlaceData) (sources : List (List ℕ)) (q : ℕ) : Type 0 where
+  pub number : ℕ
+  pub source : List ℕ
+  pub is_source : slice_get sources number ≡ Some source
+  pub index : ℕ
+  pub statement : StatementData
+  pub is_statement : slice_get (statements_in source) index ≡ Some statement
+  pub base : ℕ
+  pub begins : Begins places sources number statement.section base
+  pub low : base + offset_of (statements_in source) index statement.section ≤ q
+  pub high : q < base + offset_of (statements_in source) index statement.section + length statement.bytes
+
+-- ---- images
+-- an address and how many bytes stand there
+pub record SpanData : Type 0 where
+  pub at : ℕ
+  pub size : ℕ
+
+abbrev pub span_of : SegmentData → SpanData
+span_of s = record { at = s.at; size = length s.bytes }
+
+abbrev pub place_span : List SectionData → PlaceData → SpanData
+place_span sections p = record { at = p.at; size = taken p.section sections }
+
+-- The image is the sources' by the layout: each place with bytes is one segment at its address, in the layout's order; each
+-- statement with bytes stands there, its symbols replaced by their addresses; all other bytes are 0; and the entry is the
+-- address of the layout's entry symbol.
+pub record Placed (sources : List (List ℕ)) (layout : LayoutData) (image : ImageData) : Type 0 where
+  pub segments : map span_of image.segments ≡ filter (λ s. nat_lt 0 s.size) (map (place_span (sections_of sources)) layout.places)
+  pub statements : (number index : ℕ) (source : List ℕ) (t : StatementData) → slice_get sources number ≡ Some source → slice_get (statements_in source) index ≡ Some t → 0 < length t.bytes
+      → StandsAt layout.places sources image number index (statements_in source) t
+  pub zero : (q b : ℕ) → image_byte image q ≡ Some b → IsCovered layout.places sources q ⊎ (b ≡ 0)
+  pub entry : HasGlobal layout.places sources layout.entry image.entry

@@ -1,0 +1,451 @@
+-- The fields that operands give fit the row, and so do symbols.
+use Rattle.std.proofs.Common.{◌≡◌, ◌<◌, ◌≤◌, ◌+◌, ◌-◌, ◌*◌, ◌/◌, ◌%◌, ◌^◌, ◌&&◌, ◌||◌, ◌==◌, min, ℕ, zero, suc, Bool, true, false, cond, List, [], ◌∷◌, Option, Some, None, Result, Ok, Err, refl, sym, ap, subst, ◌∙◌, arith}
+use Rattle.std.specs.Prelude.{slice_get, nat_lt, nat_le, not, codes, option_and_then}
+use Rattle.std.specs.List.{list_all}
+use Rattle.std.specs.Option.{option_map_or}
+use Rattle.std.specs.Str.{bytes_eq}
+use Rattle.std.proofs.Math.Dec.{eqb-suc-zero}
+use Rattle.std.proofs.lemmas.Bool.{ltb-true, leb-true, ltb-false, leb-false, and_parts}
+use Rattle.std.proofs.lemmas.Bool.Decides.{Decides-eqb}
+use Rattle.tc_isa.specs.declared.fields.Fields.{Fields}
+use Rattle.tc_isa.specs.declared.fields.Uses.{Uses}
+use Rattle.tc_isa.specs.Rows.{RowData, listed}
+use Rattle.tc_isa.specs.Words.{IsBelow, bounds, form_index}
+use Rattle.tc_isa.specs.Codec.{IsRow, uses_of, rest_is_zero, is_apart, is_long}
+use Rattle.tc_isa.proofs.TableFacts.{row_at}
+use Rattle.tc_stmt.specs.declared.values.Shape.{Shape}
+use Rattle.tc_stmt.specs.declared.values.Shape.TheVariants as shape
+use Rattle.tc_stmt.specs.declared.wanting.Field.{Field}
+use Rattle.tc_stmt.specs.declared.wanting.Field.TheVariants.{C, S1, S2, N, K}
+use Rattle.tc_stmt.specs.declared.wanting.Want.{Want}
+use Rattle.tc_stmt.specs.declared.wanting.Want.TheVariants.{Reg, A10, Number, Target, Absolute, Memory}
+use Rattle.tc_stmt.specs.declared.tallying.Tally.{Tally}
+use Rattle.tc_stmt.specs.Names.{is_name}
+use Rattle.tc_stmt.specs.Operands.{ValueData, OperandData}
+use Rattle.tc_stmt.specs.Wants.{want_of, wants_of}
+use Rattle.tc_stmt.specs.Filling.{ReferenceData, FoundData, nothing, broken, set_field, field_of, put, shape_index, register_of, put_register, fits, wrapped, put_number, symbol_rule, reference, with_symbol, half_kind, is_symbol, is_half, fill_value, fill_memory, is_far, is_odd, displacement_rule, displaced, target_kind, fill_target, put_absolute, fill_absolute, fill_register, fill_a10, fill_plain, fill, fill_all, apart, judged}
+use Rattle.tc_stmt.specs.Judging.{stepped, outcome, followed, rule_of, statement}
+use Rattle.tc_stmt.specs.Judging as judging
+use Rattle.tc_reloc.specs.Forms.{is_reloc, fills}
+use Rattle.tc_stmt.specs.Stated.{is_short_jump, TakesSymbol, Symbols, Stated, IsStated, StatedLaw}
+use Rattle.tc_stmt.proofs.Cases.{by_test, one_passes}
+use Rattle.tc_stmt.proofs.ZeroConstants.{zero_judged}
+
+-- ---- rows and what they want
+-- the row's text names the field
+abbrev is_used : Field → Uses → Bool
+is_used C u = u.c
+is_used S1 u = u.s1
+is_used S2 u = u.s2
+is_used N u = u.n
+is_used K u = u.k
+
+-- the row has a field for what it wants, wide enough
+abbrev suits : RowData → Want → Bool
+suits r (Reg bank field) = is_used field (uses_of r) && nat_le 16 (field_of field (bounds r.form))
+suits r A10 = true
+suits r (Number signed field) = is_used field (uses_of r)
+suits r Target = (uses_of r).k && cond (is_long r) (fills r.form (target_kind r)) (is_short_jump r.form)
+suits r Absolute = (uses_of r).k && nat_le (cond (form_index r.form == 8) (2 ^ 18) (2 ^ 24)) (bounds r.form).k && (form_index r.form == 8 || (is_long r && fills r.form 2))
+suits r (Memory plus offset) = (uses_of r).s2 && nat_le 16 (bounds r.form).s2 && (not offset || (uses_of r).k)
+
+-- only rows of four bytes take a half of a symbol
+abbrev halves_long : RowData → Bool
+halves_long r = (half_kind r shape.High == 0 || (is_long r && fills r.form (half_kind r shape.High))) && (half_kind r shape.Low == 0 || (is_long r && fills r.form (half_kind r shape.Low)))
+
+abbrev row_suits : RowData → Bool
+row_suits r = list_all (suits r) (wants_of r) && halves_long r
+
+all_suit : list_all row_suits listed ≡ true
+unfolding wants_of want_of bounds form_index field_of half_kind shape_index target_kind fills
+all_suit = refl
+
+row_suit : (k : ℕ) (r : RowData) → slice_get listed k ≡ Some r → (list_all (suits r) (wants_of r) ≡ true) × (halves_long r ≡ true)
+row_suit k r at = and_parts (list_all (suits r) (wants_of r)) (halves_long r) (one_passes row_suits listed k r all_suit at)
+
+-- ---- what a row has so far
+pub record Sound (r : RowData) (f : FoundData) : Type 0 where
+  pub below : IsBelow f.fields (bounds r.form)
+  pub zero : rest_is_zero (uses_of r) f.fields ≡ true
+  pub symbols : Symbols r f.reference
+
+record IfSound (r : RowData) (o : Option FoundData) : Type 0 where
+  some : (f : FoundData) → o ≡ Some f → Sound r f
+
+sound_some : (r : RowData) (f : FoundData) → Sound r f → IfSound r (Some f)
+sound_some r f s = record { some = λ g e. let same : f ≡ g = cc in subst (Sound r) same s }
+
+sound_none : (r : RowData) → IfSound r None
+sound_none r = record { some = λ g e. cc }
+
+sound_broken : (r : RowData) (n : ℕ) (f : FoundData) → Sound r f → Sound r (broken n f)
+sound_broken r n f s = record { below = s.below; zero = s.zero; symbols = s.symbols }
+
+-- ---- one field
+abbrev all_five : Bool → Bool → Bool → Bool → Bool → Bool
+all_five a b c d e = a && b && c && d && e
+
+pub zero_put : (field : Field) (u : Uses) (f : Fields) (v : ℕ) → is_used field u ≡ true → rest_is_zero u f ≡ true → rest_is_zero u (set_field field v f) ≡ true
+unfolding set_field
+zero_put C u f v h z = by u.c (f.c == 0) (v % 256 == 0) (u.s1 || f.s1 == 0) (u.s2 || f.s2 == 0) (u.n || f.n == 0) (u.k || f.k == 0) h z
+  where
+    by : (t a b p q r s : Bool) → t ≡ true → all_five (t || a) p q r s ≡ true → all_five (t || b) p q r s ≡ true
+    by true a b p q r s h z = z
+    by false a b p q r s h z = cc
+zero_put S1 u f v h z = by u.s1 (f.s1 == 0) (v % 256 == 0) (u.c || f.c == 0) (u.s2 || f.s2 == 0) (u.n || f.n == 0) (u.k || f.k == 0) h z
+  where
+    by : (t a b p q r s : Bool) → t ≡ true → all_five p (t || a) q r s ≡ true → all_five p (t || b) q r s ≡ true
+    by true a b p q r s h z = z
+    by false a b p q r s h z = cc
+zero_put S2 u f v h z = by u.s2 (f.s2 == 0) (v % 256 == 0) (u.c || f.c == 0) (u.s1 || f.s1 == 0) (u.n || f.n == 0) (u.k || f.k == 0) h z
+  where
+    by : (t a b p q r s : Bool) → t ≡ true → all_five p q (t || a) r s ≡ true → all_five p q (t || b) r s ≡ true
+    by true a b p q r s h z = z
+    by false a b p q r s h z = cc
+zero_put N u f v h z = by u.n (f.n == 0) (v % 256 == 0) (u.c || f.c == 0) (u.s1 || f.s1 == 0) (u.s2 || f.s2 == 0) (u.k || f.k == 0) h z
+  where
+    by : (t a b p q r s : Bool) → t ≡ true → all_five p q r (t || a) s ≡ true → all_five p q r (t || b) s ≡ true
+    by true a b p q r s h z = z
+    by false a b p q r s h z = cc
+zero_put K u f v h z = by u.k (f.k == 0) (v == 0) (u.c || f.c == 0) (u.s1 || f.s1 == 0) (u.s2 || f.s2 == 0) (u.n || f.n == 0) h z
+  where
+    by : (t a b p q r s : Bool) → t ≡ true → all_five p q r s (t || a) ≡ true → all_five p q r s (t || b) ≡ true
+    by true a b p q r s h z = z
+    by false a b p q r s h z = cc
+
+byte_below : (v b : ℕ) → v < b → v % 256 < b
+byte_below v b h = omega arith
+
+below_put : (field : Field) (b f : Fields) (v : ℕ) → v < field_of field b → IsBelow f b → IsBelow (set_field field v f) b
+unfolding set_field field_of
+below_put C b f v h s = record { c = byte_below v b.c h; s1 = s.s1; s2 = s.s2; n = s.n; k = s.k }
+below_put S1 b f v h s = record { c = s.c; s1 = byte_below v b.s1 h; s2 = s.s2; n = s.n; k = s.k }
+below_put S2 b f v h s = record { c = s.c; s1 = s.s1; s2 = byte_below v b.s2 h; n = s.n; k = s.k }
+below_put N b f v h s = record { c = s.c; s1 = s.s1; s2 = s.s2; n = byte_below v b.n h; k = s.k }
+below_put K b f v h s = record { c = s.c; s1 = s.s1; s2 = s.s2; n = s.n; k = h }
+
+sound_put : (r : RowData) (field : Field) (v : ℕ) (f : FoundData) → is_used field (uses_of r) ≡ true → v < field_of field (bounds r.form) → Sound r f → Sound r (put field v f)
+sound_put r field v f used less s = record {
+  below = below_put field (bounds r.form) f.fields v less s.below;
+  zero = zero_put field (uses_of r) f.fields v used s.zero;
+  symbols = s.symbols;
+}
+
+more_than_none : (field : Field) (b f : Fields) → IsBelow f b → 0 < field_of field b
+unfolding field_of
+more_than_none C b f s = let h = s.c in omega arith
+more_than_none S1 b f s = let h = s.s1 in omega arith
+more_than_none S2 b f s = let h = s.s2 in omega arith
+more_than_none N b f s = let h = s.n in omega arith
+more_than_none K b f s = let h = s.k in omega arith
+
+wrapped_below : (bound : ℕ) (minus : Bool) (size : ℕ) → 0 < bound → (minus ≡ false → size < bound) → wrapped bound minus size < bound
+wrapped_below bound false size p h = h refl
+wrapped_below bound true zero p h = p
+wrapped_below bound true (suc n) p h = rw (eqb-suc-zero n) (omega arith)
+
+-- ---- numbers and registers
+fits_plus : (signed : Bool) (bound size : ℕ) → fits signed bound false size ≡ true → size < bound
+unfolding fits
+fits_plus true bound size e = let h = ltb-true size (bound / 2) e in omega arith
+fits_plus false bound size e = ltb-true size bound e
+
+sound_number : (r : RowData) (signed : Bool) (field : Field) (minus : Bool) (size : ℕ) (f : FoundData) → is_used field (uses_of r) ≡ true → Sound r f → Sound r (put_number r.form signed field minus size f)
+unfolding put_number
+sound_number r signed field minus size f used s =
+    let bound : ℕ = field_of field (bounds r.form) in
+    by_test (Sound r) (fits signed (field_of field (bounds r.form)) minus size) _ _
+    (λ b. sound_put r field (wrapped (field_of field (bounds r.form)) minus size) f used
+    (wrapped_below (field_of field (bounds r.form)) minus size (more_than_none field (bounds r.form) f.fields s.below)
+    (λ e. fits_plus signed (field_of field (bounds r.form)) size (ap (λ m. fits signed (field_of field (bounds r.form)) m size) (sym e) ∙ b))) s)
+    (λ b. sound_broken r 5 f s)
+
+sound_register : (r : RowData) (bank : Bool) (field : Field) (name : List ℕ) (f : FoundData) → is_used field (uses_of r) ≡ true → nat_le 16 (field_of field (bounds r.form)) ≡ true → Sound r f → Sound r (put_register bank field name f)
+unfolding put_register
+sound_register r bank field name f used wide s =
+    let bound = leb-true 16 (field_of field (bounds r.form)) wide in
+    by_test (Sound r) _ _ _
+    (λ b. sound_put r field (register_of name % 16) f used (small (register_of name) (field_of field (bounds r.form)) bound) s)
+    (λ b. sound_broken r 4 f s)
+  where
+    small : (n b : ℕ) → 16 ≤ b → n % 16 < b
+    small n b h = omega arith
+
+-- ---- symbols
+symbol_named : (v : ValueData) → (symbol_rule v == 15) ≡ true → is_name v.name ≡ true
+unfolding symbol_rule
+symbol_named v e = by (nat_le (2 ^ 32) v.size) (is_name v.name) e
+  where
+    by : (a b : Bool) → (cond a 5 (cond b 15 9) == 15) ≡ true → b ≡ true
+    by true b e = cc
+    by false true e = refl
+    by false false e = cc
+
+sound_symbol : (r : RowData) (kind : ℕ) (v : ValueData) (f : FoundData) → (is_reloc kind ≡ true → (is_long r ≡ true) × (fills r.form kind ≡ true)) → (kind ≡ 0 → ((uses_of r).k ≡ true) × (is_short_jump r.form ≡ true)) → Sound r f → Sound r (with_symbol kind v f)
+unfolding with_symbol
+sound_symbol r kind v f long target s =
+    by_test (Sound r) (symbol_rule v == 15) _ _
+    (λ b. record { below = s.below; zero = s.zero; symbols = record { some = λ t e. subst (TakesSymbol r) (given t e) (record { named = symbol_named v b; long = long; target = target }) } })
+    (λ b. sound_broken r (symbol_rule v) f s)
+  where
+    given : (t : ReferenceData) → ◌≡◌ {A = Option ReferenceData} (Some (reference kind v)) (Some t) → reference kind v ≡ t
+    given t e = cc
+
+never : (n : ℕ) → n ≡ 0 → (n == 0) ≡ false → ⊥
+never n z f = let t = (Decides-eqb n 0).1 z in cc
+
+taken_half : (a b c : Bool) → (a || (b && c)) ≡ true → a ≡ false → (b ≡ true) × (c ≡ true)
+taken_half true b c e f = cc
+taken_half false b c e f = and_parts b c e
+
+half_long : (r : RowData) (s : Shape) → halves_long r ≡ true → is_half (shape_index s) ≡ true → (half_kind r s == 0) ≡ false → (is_long r ≡ true) × (fills r.form (half_kind r s) ≡ true)
+unfolding shape_index
+half_long r shape.Absent all half some = cc
+half_long r shape.Number all half some = cc
+half_long r shape.Word all half some = cc
+half_long r shape.Sum all half some = cc
+half_long r shape.High all half some = taken_half (half_kind r shape.High == 0) (is_long r) (fills r.form (half_kind r shape.High)) (and_parts _ (half_kind r shape.Low == 0 || (is_long r && fills r.form (half_kind r shape.Low))) all).0 some
+half_long r shape.Low all half some = taken_half (half_kind r shape.Low == 0) (is_long r) (fills r.form (half_kind r shape.Low)) (and_parts (half_kind r shape.High == 0 || (is_long r && fills r.form (half_kind r shape.High))) _ all).1 some
+half_long r shape.Bad all half some = cc
+half_long r shape.Huge all half some = cc
+
+-- ---- values at their places
+sound_value : (r : RowData) (signed : Bool) (field : Field) (v : ValueData) (f : FoundData) → halves_long r ≡ true → is_used field (uses_of r) ≡ true → Sound r f → IfSound r (fill_value r signed field v f)
+unfolding fill_value
+sound_value r signed field v f halves used s =
+    by_test (IfSound r) (shape_index v.shape == 1) _ _ (λ e. sound_some r _ (sound_number r signed field v.minus v.size f used s))
+    (λ e. by_test (IfSound r) (shape_index v.shape == 7) _ _ (λ e. sound_some r _ (sound_broken r 5 f s))
+    (λ e. by_test (IfSound r) (is_symbol (shape_index v.shape)) _ _ (λ e. sound_some r _ (sound_broken r _ f s))
+    (λ e. by_test (IfSound r) (is_half (shape_index v.shape)) _ _
+    (λ half. by_test (IfSound r) (half_kind r v.shape == 0) _ _ (λ e. sound_some r _ (sound_broken r _ f s))
+    (λ some. sound_some r _ (sound_symbol r (half_kind r v.shape) v f (λ k. half_long r v.shape halves half some) (λ z. absurd (never (half_kind r v.shape) z some)) s)))
+    (λ e. sound_none r))))
+
+sound_memory : (r : RowData) (plus offset : Bool) (o : OperandData) (f : FoundData) → halves_long r ≡ true → suits r (Memory plus offset) ≡ true → Sound r f → IfSound r (fill_memory r plus offset o f)
+unfolding fill_memory field_of
+sound_memory r plus offset o f halves suit s =
+    let p = and_parts ((uses_of r).s2 && nat_le 16 (bounds r.form).s2) (not offset || (uses_of r).k) suit in
+    let q = and_parts ((uses_of r).s2) (nat_le 16 (bounds r.form).s2) p.0 in
+    let base : Sound r (put_register true S2 o.base f) = sound_register r true S2 o.base f q.0 q.1 s in
+    by_test (IfSound r) _ _ _
+    (λ e. by_test (IfSound r) (shape_index o.value.shape == 0) _ _ (λ e. sound_some r _ base)
+    (λ e. by_test (IfSound r) offset _ _ (λ is. sound_value r true K o.value (put_register true S2 o.base f) halves (named offset (uses_of r).k is p.1) base) (λ e. sound_none r)))
+    (λ e. sound_none r)
+  where
+    named : (a b : Bool) → a ≡ true → (not a || b) ≡ true → b ≡ true
+    named true b e h = h
+    named false b e h = cc
+
+-- ---- targets
+near : (r : RowData) (size : ℕ) → (displacement_rule r false size == 15) ≡ true → 0 < (bounds r.form).k → size / 2 < (bounds r.form).k
+unfolding displacement_rule
+near r size e some = by_form (form_index r.form == 13) (bounds r.form).k some (by_far (is_far r.form (bounds r.form).k false size) (is_long r) (is_odd size) e)
+  where
+    by_far : (far long odd : Bool) → (min (cond far (cond long 5 11) 15) (cond odd 6 15) == 15) ≡ true → far ≡ false
+    by_far true true true e = cc
+    by_far true true false e = cc
+    by_far true false true e = cc
+    by_far true false false e = cc
+    by_far false long odd e = refl
+
+    by_form : (b : Bool) (bound : ℕ) → 0 < bound → cond b (nat_lt (2 * (bound - 1)) size) (nat_lt (bound - 2) size) ≡ false → size / 2 < bound
+    by_form true bound some e = let h = ltb-false (2 * (bound - 1)) size e in omega arith
+    by_form false bound some e = let h = ltb-false (bound - 2) size e in omega arith
+
+pub sound_displaced : (r : RowData) (minus : Bool) (size : ℕ) (f : FoundData) → (uses_of r).k ≡ true → Sound r f → Sound r (displaced r minus size f)
+unfolding displaced field_of
+sound_displaced r minus size f used s =
+    let some : 0 < (bounds r.form).k = more_than_none K (bounds r.form) f.fields s.below in
+    by_test (Sound r) (displacement_rule r minus size == 15) _ _
+    (λ b. sound_put r K (wrapped (bounds r.form).k minus (size / 2)) f used (wrapped_below (bounds r.form).k minus (size / 2) some (λ e. near r size (ap (λ m. displacement_rule r m size == 15) (sym e) ∙ b) some)) s)
+    (λ b. sound_broken r (displacement_rule r minus size) f s)
+
+is_target : (r : RowData) → is_reloc (target_kind r) ≡ true → is_long r ≡ true
+unfolding target_kind
+is_target r e = by_long (is_long r) (cond (form_index r.form == 7) 1 3) e
+  where
+    by_long : (b : Bool) (n : ℕ) → is_reloc (cond b n 0) ≡ true → b ≡ true
+    by_long true n e = refl
+    by_long false n e = cc
+
+target_long : (r : RowData) → cond (is_long r) (fills r.form (target_kind r)) (is_short_jump r.form) ≡ true → is_reloc (target_kind r) ≡ true → (is_long r ≡ true) × (fills r.form (target_kind r) ≡ true)
+target_long r fit e = let long = is_target r e in (long, by (is_long r) (fills r.form (target_kind r)) (is_short_jump r.form) long fit)
+  where
+    by : (a b c : Bool) → a ≡ true → cond a b c ≡ true → b ≡ true
+    by true b c e h = h
+    by false b c e h = cc
+
+-- a target that takes no relocation is that of a jump of 16 bits
+target_short : (r : RowData) → cond (is_long r) (fills r.form (target_kind r)) (is_short_jump r.form) ≡ true → target_kind r ≡ 0 → is_short_jump r.form ≡ true
+unfolding target_kind
+target_short r fit e = by (is_long r) (form_index r.form == 7) (fills r.form (target_kind r)) e fit
+  where
+    by : (a b c : Bool) → ◌≡◌ {A = ℕ} (cond a (cond b 1 3) 0) 0 → cond a c (is_short_jump r.form) ≡ true → is_short_jump r.form ≡ true
+    by true true c z h = absurd (omega arith)
+    by true false c z h = absurd (omega arith)
+    by false b c z h = h
+
+sound_target : (r : RowData) (v : ValueData) (f : FoundData) → suits r Target ≡ true → Sound r f → IfSound r (fill_target r v f)
+unfolding fill_target
+sound_target r v f suit s =
+    let used = (and_parts (uses_of r).k (cond (is_long r) (fills r.form (target_kind r)) (is_short_jump r.form)) suit).0 in
+    let fit = (and_parts (uses_of r).k (cond (is_long r) (fills r.form (target_kind r)) (is_short_jump r.form)) suit).1 in
+    by_test (IfSound r) (shape_index v.shape == 3 && bytes_eq v.name (codes ".")) _ _ (λ e. sound_some r _ (sound_displaced r v.minus v.size f used s))
+    (λ e. by_test (IfSound r) (is_symbol (shape_index v.shape)) _ _ (λ e. sound_some r _ (sound_symbol r (target_kind r) v f (target_long r fit) (λ z. (used, target_short r fit z)) s))
+    (λ e. by_test (IfSound r) (is_half (shape_index v.shape)) _ _ (λ e. sound_some r _ (sound_broken r _ f s)) (λ e. sound_none r)))
+
+-- ---- absolute addresses
+none_of : (a b : Bool) → (a || b) ≡ false → b ≡ false
+none_of true b e = cc
+none_of false b e = e
+
+high_segment : (size bound : ℕ) → size < 2 ^ 32 → 2 ^ 18 ≤ bound → size / 2 ^ 28 * 2 ^ 14 + size % 2 ^ 14 < bound
+high_segment size bound h room = omega arith
+
+jump_segment : (size bound : ℕ) → size < 2 ^ 32 → 2 ^ 24 ≤ bound → size / 2 ^ 28 * 2 ^ 20 + size % 2 ^ 21 / 2 < bound
+jump_segment size bound h room = omega arith
+
+sound_address : (r : RowData) (minus : Bool) (size : ℕ) (f : FoundData) → (uses_of r).k ≡ true → nat_le (cond (form_index r.form == 8) (2 ^ 18) (2 ^ 24)) (bounds r.form).k ≡ true → Sound r f → Sound r (put_absolute r.form minus size f)
+unfolding put_absolute field_of
+sound_address r minus size f used room s =
+    by_test (Sound r) ((minus && not (size == 0)) || nat_le (2 ^ 32) size) _ _ (λ e. sound_broken r 5 f s)
+    (λ e. let small = leb-false (2 ^ 32) size (none_of (minus && not (size == 0)) (nat_le (2 ^ 32) size) e) in
+    by_test (Sound r) (form_index r.form == 8) _ _
+    (λ form. by_test (Sound r) _ _ _
+    (λ e. sound_put r K (size / 2 ^ 28 * 2 ^ 14 + size % 2 ^ 14) f used (high_segment size (bounds r.form).k small (leb-true (2 ^ 18) (bounds r.form).k (ap (λ b. nat_le (cond b (2 ^ 18) (2 ^ 24)) (bounds r.form).k) (sym form) ∙ room))) s)
+    (λ e. sound_broken r 5 f s))
+    (λ form. by_test (Sound r) _ _ _
+    (λ e. sound_put r K (size / 2 ^ 28 * 2 ^ 20 + size % 2 ^ 21 / 2) f used (jump_segment size (bounds r.form).k small (leb-true (2 ^ 24) (bounds r.form).k (ap (λ b. nat_le (cond b (2 ^ 18) (2 ^ 24)) (bounds r.form).k) (sym form) ∙ room))) s)
+    (λ e. sound_broken r 5 f s)))
+
+sound_absolute : (r : RowData) (v : ValueData) (f : FoundData) → suits r Absolute ≡ true → Sound r f → IfSound r (fill_absolute r v f)
+unfolding fill_absolute
+sound_absolute r v f suit s =
+    let p = and_parts _ _ suit in
+    let q = and_parts _ _ p.0 in
+    by_test (IfSound r) (shape_index v.shape == 1) _ _ (λ e. sound_some r _ (sound_address r v.minus v.size f q.0 q.1 s))
+    (λ e. by_test (IfSound r) (shape_index v.shape == 7) _ _ (λ e. sound_some r _ (sound_broken r 5 f s))
+    (λ e. by_test (IfSound r) (is_symbol (shape_index v.shape)) _ _
+    (λ e. by_test (IfSound r) (form_index r.form == 8) _ _ (λ e. sound_some r _ (sound_broken r _ f s))
+    (λ form. sound_some r _ (sound_symbol r 2 v f (λ k. taken_half (form_index r.form == 8) (is_long r) (fills r.form 2) p.1 form) (λ z. absurd (omega arith)) s)))
+    (λ e. by_test (IfSound r) (is_half (shape_index v.shape)) _ _ (λ e. sound_some r _ (sound_broken r _ f s)) (λ e. sound_none r))))
+
+-- ---- operands
+sound_fill : (r : RowData) (w : Want) (o : OperandData) (f : FoundData) → halves_long r ≡ true → suits r w ≡ true → Sound r f → IfSound r (fill r w o f)
+unfolding fill fill_plain fill_register fill_a10
+sound_fill r (Reg bank field) o f halves suit s =
+    let p = and_parts (is_used field (uses_of r)) (nat_le 16 (field_of field (bounds r.form))) suit in
+    by_test (IfSound r) o.is_memory _ _ (λ e. sound_none r)
+    (λ e. by_test (IfSound r) (shape_index o.value.shape == 2) _ _ (λ e. sound_some r _ (sound_register r bank field o.value.name f p.0 p.1 s)) (λ e. sound_none r))
+sound_fill r A10 o f halves suit s =
+    by_test (IfSound r) o.is_memory _ _ (λ e. sound_none r)
+    (λ e. by_test (IfSound r) (shape_index o.value.shape == 2) _ _ (λ e. by_test (IfSound r) _ _ _ (λ e. sound_some r _ s) (λ e. sound_some r _ (sound_broken r 4 f s))) (λ e. sound_none r))
+sound_fill r (Number signed field) o f halves suit s = by_test (IfSound r) o.is_memory _ _ (λ e. sound_none r) (λ e. sound_value r signed field o.value f halves suit s)
+sound_fill r Target o f halves suit s = by_test (IfSound r) o.is_memory _ _ (λ e. sound_none r) (λ e. sound_target r o.value f suit s)
+sound_fill r Absolute o f halves suit s = by_test (IfSound r) o.is_memory _ _ (λ e. sound_none r) (λ e. sound_absolute r o.value f suit s)
+sound_fill r (Memory plus offset) o f halves suit s = sound_memory r plus offset o f halves suit s
+
+sound_then : (r : RowData) (next : FoundData → Option FoundData) (o : Option FoundData) → IfSound r o → ((f : FoundData) → Sound r f → IfSound r (next f)) → IfSound r (option_and_then next o)
+sound_then r next None h more = sound_none r
+sound_then r next (Some f) h more = more f (h.some f refl)
+
+sound_all : (r : RowData) (ws : List Want) (os : List OperandData) (f : FoundData) → halves_long r ≡ true → list_all (suits r) ws ≡ true → Sound r f → IfSound r (fill_all r ws os f)
+unfolding fill_all
+sound_all r [] [] f halves all s = sound_some r f s
+sound_all r [] (o ∷ os) f halves all s = sound_none r
+sound_all r (w ∷ ws) [] f halves all s = sound_none r
+sound_all r (w ∷ ws) (o ∷ os) f halves all s =
+    let p = and_parts (suits r w) (list_all (suits r) ws) all in
+    sound_then r (fill_all r ws os) (fill r w o f) (sound_fill r w o f halves p.0 s) (λ g t. sound_all r ws os g halves p.1 t)
+
+sound_nothing : (r : RowData) → IsRow r → Sound r nothing
+sound_nothing r row = record {
+  below = let b = row.has_least.below in
+      let c = b.c in
+      let s1 = b.s1 in
+      let s2 = b.s2 in
+      let n = b.n in
+      let k = b.k in
+      record { c = omega arith; s1 = omega arith; s2 = omega arith; n = omega arith; k = omega arith };
+  zero = zeros (uses_of r).c (uses_of r).s1 (uses_of r).s2 (uses_of r).n (uses_of r).k;
+  symbols = record { some = λ s e. cc };
+}
+  where
+    or_true : (b : Bool) → (b || true) ≡ true
+    or_true true = refl
+    or_true false = refl
+
+    zeros : (a b c d e : Bool) → all_five (a || true) (b || true) (c || true) (d || true) (e || true) ≡ true
+    zeros a b c d e = rw (or_true a, or_true b, or_true c, or_true d, or_true e) refl
+
+-- ---- a statement
+sound_apart : (r : RowData) (g f : FoundData) → Sound r g → apart r g ≡ f → f.rule ≡ 15 → Stated r f
+sound_apart r g f s e rule = by (is_apart r g.fields) refl e
+  where
+    by : (b : Bool) → is_apart r g.fields ≡ b → cond b g (broken 12 g) ≡ f → Stated r f
+    by true is e = subst (Stated r) e (record { fits = record { below = s.below; zero = s.zero; apart = is }; symbols = s.symbols })
+    by false is e = let least : min g.rule 12 ≡ 15 = ap (λ (x : FoundData). x.rule) e ∙ rule in absurd (omega arith)
+
+sound_judged : (k : ℕ) (r : RowData) (os : List OperandData) (f : FoundData) → slice_get listed k ≡ Some r → judged r (wants_of r) os ≡ Some f → f.rule ≡ 15 → Stated r f
+unfolding judged
+sound_judged k r os f at e rule =
+    let suit = row_suit k r at in
+    by (fill_all r (wants_of r) os nothing) (sound_all r (wants_of r) os nothing suit.1 suit.0 (sound_nothing r (row_at k r at))) e
+  where
+    by : (o : Option FoundData) → IfSound r o → option_and_then (λ g. Some (apart r g)) o ≡ Some f → Stated r f
+    by None h e = cc
+    by (Some g) h e = let same : apart r g ≡ f = cc in sound_apart r g f (h.some g refl) same rule
+
+-- the row that a statement is
+record Chosen (os : List OperandData) (rows : List RowData) (place k : ℕ) (f : FoundData) : Type 0 where
+  at : ℕ
+  row : RowData
+  is_row : slice_get rows at ≡ Some row
+  number : k ≡ place + at
+  is : judged row (wants_of row) os ≡ Some f
+  rule : f.rule ≡ 15
+
+stepped_ok : (name : List ℕ) (os : List OperandData) (r : RowData) (t : Tally) (f : FoundData) → stepped name os r t ≡ Ok f → (judged r (wants_of r) os ≡ Some f) × (f.rule ≡ 15)
+unfolding stepped
+stepped_ok name os r t f e = by (bytes_eq r.name name) (judged r (wants_of r) os) refl e
+  where
+    by_rule : (g : FoundData) (b : Bool) → (g.rule == 15) ≡ b → judged r (wants_of r) os ≡ Some g → cond {A = Result FoundData Tally} b (Ok g) (Err (record { named = true; fits = true; least = min t.least g.rule })) ≡ Ok f → (judged r (wants_of r) os ≡ Some f) × (f.rule ≡ 15)
+    by_rule g true rule is e =
+        let same : g ≡ f = cc in
+        (is ∙ ap (λ (x : FoundData). Some x) same, ap (λ (x : FoundData). x.rule) (sym same) ∙ (Decides-eqb g.rule 15).0 rule)
+    by_rule g false rule is e = cc
+
+    by : (b : Bool) (o : Option FoundData) → judged r (wants_of r) os ≡ o
+        → cond {A = Result FoundData Tally} b (option_map_or (λ (g : FoundData). cond {A = Result FoundData Tally} (g.rule == 15) (Ok g) (Err (record { named = true; fits = true; least = min t.least g.rule }))) o (Err (record t { named = true }))) (Err t) ≡ Ok f
+        → (judged r (wants_of r) os ≡ Some f) × (f.rule ≡ 15)
+    by false o is e = cc
+    by true None is e = cc
+    by true (Some g) is e = by_rule g (g.rule == 15) refl is e
+
+chosen : (name : List ℕ) (os : List OperandData) (rows : List RowData) (place : ℕ) (t : Tally) (k : ℕ) (f : FoundData) → outcome name os rows place t ≡ Ok (k, f) → Chosen os rows place k f
+unfolding outcome
+chosen name os [] place t k f e = cc
+chosen name os (r ∷ rs) place t k f e = by (stepped name os r t) refl e (λ u g. chosen name os rs (place + 1) u k f g)
+  where
+    further : Chosen os rs (place + 1) k f → Chosen os (r ∷ rs) place k f
+    further c = record { at = suc c.at; row = c.row; is_row = c.is_row; number = let n = c.number in omega arith; is = c.is; rule = c.rule }
+
+    by : (q : Result FoundData Tally) → stepped name os r t ≡ q → followed q place (outcome name os rs (place + 1)) ≡ Ok (k, f)
+        → ((u : Tally) → outcome name os rs (place + 1) u ≡ Ok (k, f) → Chosen os rs (place + 1) k f) → Chosen os (r ∷ rs) place k f
+    by (Ok g) is e rec =
+        let both : (place, g) ≡ (k, f) = cc in
+        let same : g ≡ f = ap (λ (p : ℕ × FoundData). p.1) both in
+        let number : place ≡ k = ap (λ (p : ℕ × FoundData). p.0) both in
+        let ok = stepped_ok name os r t f (is ∙ ap (λ (x : FoundData). Ok x) same) in
+        record { at = 0; row = r; is_row = refl; number = omega arith; is = ok.0; rule = ok.1 }
+    by (Err u) is e rec = further (rec u e)
+
+pub stated : (name : List ℕ) (os : List OperandData) (k : ℕ) (f : FoundData) → statement name os ≡ Ok (k, f) → IsStated k f
+stated name os k f e =
+    let c = chosen name os listed 0 judging.start k f e in
+    let same : c.at ≡ k = let n = c.number in omega arith in
+    let at : slice_get listed k ≡ Some c.row = ap (slice_get listed) (sym same) ∙ c.is_row in
+    record { row = c.row; at = at; stated = sound_judged k c.row os f at c.is c.rule; zero = (zero_judged k c.row os f at c.is).some }
+
+pub stated_law : StatedLaw
+stated_law name os k f e = stated name os k f e

@@ -1,0 +1,42 @@
+-- What a statement's row has: fields that fit it, and a symbol that it takes.
+use Rattle.std.specs.Prelude.{◌≡◌, ◌==◌, ◌||◌, ℕ, Bool, true, List, slice_get, Option, Some, Ok}
+use Rattle.tc_isa.specs.Rows.{RowData, listed}
+use Rattle.tc_isa.specs.declared.table.Form.{Form}
+use Rattle.tc_isa.specs.Words.{form_index}
+use Rattle.tc_isa.specs.Codec.{Fits, uses_of, is_long}
+use Rattle.tc_reloc.specs.Forms.{is_reloc, fills}
+use Rattle.tc_stmt.specs.Names.{is_name}
+use Rattle.tc_stmt.specs.Operands.{OperandData}
+use Rattle.tc_stmt.specs.Filling.{ReferenceData, FoundData}
+use Rattle.tc_stmt.specs.Judging.{statement}
+
+-- the forms of jumps and calls of 16 bits: SB (12) and SBR (13)
+abbrev pub is_short_jump : Form → Bool
+is_short_jump form = form_index form == 12 || form_index form == 13
+
+-- A symbol that the row has a field for: its relocation, if it waits for one, fills the constant of this row of 32 bits; a
+-- jump of 16 bits, which takes none, has a constant of its form.
+pub record TakesSymbol (r : RowData) (s : ReferenceData) : Type 0 where
+  pub named : is_name s.name ≡ true
+  pub long : is_reloc s.kind ≡ true → (is_long r ≡ true) × (fills r.form s.kind ≡ true)
+  pub target : s.kind ≡ 0 → ((uses_of r).k ≡ true) × (is_short_jump r.form ≡ true)
+
+-- a symbol, if there is one, that the row has a field for
+pub record Symbols (r : RowData) (o : Option ReferenceData) : Type 0 where
+  pub some : (s : ReferenceData) → o ≡ Some s → TakesSymbol r s
+
+-- the fields fit the row, and the row takes the symbol
+pub record Stated (r : RowData) (f : FoundData) : Type 0 where
+  pub fits : Fits r f.fields
+  pub symbols : Symbols r f.reference
+
+-- the row of this number is listed, the fields fit it, and it takes the symbol; where there is one, the constant is 0
+pub record IsStated (k : ℕ) (f : FoundData) : Type 0 where
+  pub row : RowData
+  pub at : slice_get listed k ≡ Some row
+  pub stated : Stated row f
+  pub zero : (s : ReferenceData) → f.reference ≡ Some s → f.fields.k ≡ 0
+
+-- what a statement that breaks no rule is, fits its row
+abbrev pub StatedLaw : Type 0
+StatedLaw = (name : List ℕ) (os : List OperandData) (k : ℕ) (f : FoundData) → statement name os ≡ Ok (k, f) → IsStated k f
