@@ -1,0 +1,117 @@
+#!/usr/bin/env python3
+"""Processor seconds of the gate, by crate: its own proof, the proof of its tests, and its edits that must fail.
+
+    tools/gate_times.py                        runs `rt ci --anew` at the top of the repository (an hour or more), and prints the table
+    tools/gate_times.py -- rt must-fail tc_lex      the same of another command
+    tools/gate_times.py --from gate.times      prints the table of an earlier run again
+
+A run writes what the command says to gate.log and the seconds to gate.times, in the folder that --to names (/tmp where
+it isn't given). rt's log has no times, so the processes below the command are looked at
+twice a second: one that ends is counted to its last look, so up to half a second of each is missed. What is no proof
+(compilers, the tests and programs as they run, rt itself) is in the line "rest", from what the system counted.
+"""
+import argparse
+import json
+import os
+import re
+import resource
+import subprocess
+import sys
+import time
+
+TICK = os.sysconf("SC_CLK_TCK")
+KINDS = ("proof", "tests", "edits")
+
+
+def kind_of(words):
+    """The crate and the kind of a prover's process, by its words; none for another process."""
+    if "--crate-name" not in words[:-1] or not any(w in ("build", "check") for w in words[:3]):
+        return None
+    crate = words[words.index("--crate-name") + 1]
+    text = " ".join(words)
+    if "--test" in words or re.search(r"_tests(\.o)?\b", text):
+        return re.sub(r"_tests$", "", crate) if not os.path.isdir(f"crates/{crate}") else crate, "tests"
+    if "rt-proved-" in text or "build" in words[:3]:
+        return crate, "proof"
+    return crate, "edits"
+
+
+def processes():
+    """Each process: its number and start, its parent, its processor seconds, and its words."""
+    for number in filter(str.isdigit, os.listdir("/proc")):
+        try:
+            with open(f"/proc/{number}/stat", encoding="utf-8", errors="replace") as f:
+                fields = f.read().rpartition(")")[2].split()
+            with open(f"/proc/{number}/cmdline", "rb") as f:
+                words = f.read().decode(errors="replace").split("\0")
+        except OSError:
+            continue
+        yield int(number), int(fields[1]), fields[19], (int(fields[11]) + int(fields[12])) / TICK, words
+
+
+def look(top, seen):
+    """Notes the seconds of each process below the command, at the crate and kind of the nearest prover above it."""
+    found = {p[0]: p for p in processes()}
+    for number, parent, start, seconds, words in found.values():
+        at, what = number, None
+        while at in found and at != top:
+            what = what or kind_of(found[at][4])
+            at = found[at][1]
+        if at == top and what:
+            seen[f"{number}.{start}"] = (*what, seconds)
+
+
+def run(command, folder):
+    seen = {}
+    began = time.time()
+    with open(f"{folder}/gate.log", "w", encoding="utf-8") as log:
+        child = subprocess.Popen(command, stdout=log, stderr=subprocess.STDOUT)
+        while child.poll() is None:
+            look(child.pid, seen)
+            time.sleep(0.5)
+    used = resource.getrusage(resource.RUSAGE_CHILDREN)
+    with open(f"{folder}/gate.log", encoding="utf-8", errors="replace") as log:
+        text = log.read()
+    times = {
+        "command": " ".join(command),
+        "wall": time.time() - began,
+        "processor": used.ru_utime + used.ru_stime,
+        "edits": dict(re.findall(r"^rt: (\w+): trying its must-fail edits \((\d+)\)", text, flags=re.M)),
+        "last": text.rstrip().rpartition("\n")[2],
+        "seen": list(seen.values()),
+    }
+    with open(f"{folder}/gate.times", "w", encoding="utf-8") as f:
+        json.dump(times, f)
+    return times
+
+
+def table(times):
+    sums = {}
+    for crate, kind, seconds in times["seen"]:
+        row = sums.setdefault(crate, dict.fromkeys(KINDS, 0))
+        row[kind] += seconds
+    print("| Crate | Proof, s | Tests, s | Edits, s | Number of edits | All, s |\n|---|---|---|---|---|---|")
+    for crate, row in sorted(sums.items(), key=lambda it: -sum(it[1].values())):
+        cells = [f"{row[k]:.0f}" for k in KINDS]
+        print(f"| {crate} | {' | '.join(cells)} | {times['edits'].get(crate, '')} | {sum(row.values()):.0f} |")
+    all_of = [sum(row[k] for row in sums.values()) for k in KINDS]
+    count = sum(int(n) for n in times["edits"].values())
+    print(f"| all crates | {' | '.join(f'{x:.0f}' for x in all_of)} | {count} | {sum(all_of):.0f} |")
+    print(f"| rest | | | | | {max(0, times['processor'] - sum(all_of)):.0f} |")
+    print(f"\n{times['command']}: {times['processor'] / 60:.0f} processor minutes in {times['wall'] / 60:.0f} minutes. {times['last']}")
+
+
+def main():
+    options = argparse.ArgumentParser(description=__doc__, formatter_class=argparse.RawDescriptionHelpFormatter)
+    options.add_argument("--to", default="/tmp")
+    options.add_argument("--from", dest="earlier")
+    options.add_argument("command", nargs="*", default=["rt", "ci", "--anew"])
+    given = options.parse_args()
+    if given.earlier:
+        with open(given.earlier, encoding="utf-8") as f:
+            return table(json.load(f))
+    os.chdir(os.path.join(os.path.dirname(os.path.abspath(__file__)), ".."))
+    return table(run(given.command, given.to))
+
+
+sys.exit(main())

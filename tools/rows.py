@@ -1,0 +1,141 @@
+#!/usr/bin/env python3
+"""What follows from the rows of the instruction table, written into the files that hold it.
+
+    tools/rows.py            writes each table below anew from ROWS of crates/tc_isa/src/table.rt
+    tools/rows.py --check    says which of them differ, and changes nothing
+
+The tables: the rows as a definition (tc_isa/specs/Rows.antt), the fields that each row names (tc_isa/src/used.rt), the
+index by codes (tc_encode/src/index.rt), and the operands of each row (tc_stmt/src/table.rt). What a row does is written
+by hand, in tc_isa/specs/Shapes.antt and tc_isa/src/meanings.rt. The count of rows is changed where it stands as a number.
+Nothing here is trusted: the checks of tc_isa, tc_encode and tc_stmt prove that each table is that of the rows.
+"""
+import os
+import re
+import subprocess
+import sys
+
+CRATES = os.path.join(os.path.dirname(os.path.abspath(__file__)), "..", "crates")
+
+# the fields that a form has (tc_isa/specs/Words.antt, `bounds`)
+FORMS = {
+    "Rlc": "c s1 k", "Rr": "c s1 s2 n", "Rc": "c s1 k", "Bol": "s1 s2 k", "Bo": "s1 s2 k", "Brr": "s1 s2 k", "Brc": "s1 s2 k",
+    "B": "k", "Abs": "s1 k", "Sys": "", "Sr": "s1", "Sc": "k", "Sb": "k", "Sbr": "s2 k", "Src": "s1 k", "Srr": "s1 s2",
+    "Slr": "s1 s2", "Ssr": "s1 s2",
+}  # fmt: skip
+
+# what an operand's text names, and what the assembler wants at its place
+OPERANDS = {
+    "Dc": ("c", "Reg(false, Field::C)"), "Ac": ("c", "Reg(true, Field::C)"),
+    "Ds1": ("s1", "Reg(false, Field::S1)"), "As1": ("s1", "Reg(true, Field::S1)"),
+    "Ds2": ("s2", "Reg(false, Field::S2)"), "As2": ("s2", "Reg(true, Field::S2)"),
+    "a10": ("", "A10"), "sk": ("k", "Number(true, Field::K)"), "uk": ("k", "Number(false, Field::K)"),
+    "sk4": ("s2", "Number(true, Field::S2)"), "uk4": ("s2", "Number(false, Field::S2)"), "n": ("n", "Number(false, Field::N)"),
+    "T": ("k", "Target"), "U": ("k", "Absolute"), "[As2]": ("s2", "Memory(false, false)"),
+    "[As2]sk": ("s2 k", "Memory(false, true)"), "[As2+]sk": ("s2 k", "Memory(true, true)"),
+}  # fmt: skip
+
+
+def read(path):
+    with open(f"{CRATES}/{path}", encoding="utf-8") as f:
+        return f.read()
+
+
+def rows():
+    found = re.findall(r'row!\("([^"]*)", "([^"]*)", (\w+), (0x\w+), (0x\w+)\)', read("tc_isa/src/table.rt"))
+    return [(name, operands, form, int(op1, 16), int(op2, 16)) for name, operands, form, op1, op2 in found]
+
+
+def operands(row):
+    return [t.strip() for t in row[1].split(",")] if row[1] else []
+
+
+def named(row):
+    fields = {f for t in operands(row) for f in OPERANDS[t][0].split()}
+    return [f for f in ("c", "s1", "s2", "n", "k") if f in fields]
+
+
+def listed(all_rows):
+    text = lambda t: f'(codes "{t}")' if t else "[]"
+    lines = [f"    row {text(n)} {text(o)} {f} 0x{a:02x} 0x{b:02x} ∷" for n, o, f, a, b in all_rows]
+    return "listed =\n" + "\n".join(lines) + "\n    []\n"
+
+
+def items(name, kind, values):
+    return f"{name}: [{kind}; {len(values)}] = [\n    {', '.join(map(str, values))},\n];\n"
+
+
+def index(all_rows):
+    starts, ends, bases, places = [0] * 256, [0] * 256, [0] * 256, []
+    for op1 in range(256):
+        at = [i for i, r in enumerate(all_rows) if r[3] == op1]
+        if not at:
+            continue
+        starts[op1], ends[op1], bases[op1] = at[0], at[-1] + 1, len(places)
+        group = [0] * (max(all_rows[i][4] for i in at) + 1)
+        for i in at:
+            group[all_rows[i][4]] = i
+        places += group
+    plain = ["true" if named(r) == FORMS[r[2]].split() else "false" for r in all_rows]
+    return {
+        "static STARTS": items("static STARTS", "u8", starts),
+        "static ENDS": items("static ENDS", "u8", ends),
+        "static BASES": items("static BASES", "u16", bases),
+        "static PLACES": items("static PLACES", "u8", places),
+        "static PLAIN": items("static PLAIN", "bool", plain),
+    }
+
+
+def replaced(text, name, new):
+    """The text with the item of this name written anew."""
+    end = r"\n    \[\]\n" if name == "listed =" else r"\n\];\n"
+    found = re.search(rf"^{re.escape(name)}.*?{end}", text, flags=re.M | re.S)
+    if not found:
+        sys.exit(f"no {name}")
+    return text[: found.start()] + new + text[found.end() :]
+
+
+def main():
+    all_rows = rows()
+    count, uses = len(all_rows), ["_".join(f.upper() for f in named(r)) or "NONE" for r in all_rows]
+    wants = ["&[" + ", ".join(f"Want::{OPERANDS[t][1]}" for t in operands(r)) + "]" for r in all_rows]
+    tables = {
+        "tc_isa/specs/Rows.antt": {"listed =": listed(all_rows)},
+        "tc_isa/src/used.rt": {"static USES": items("static USES", "Uses", uses)},
+        "tc_encode/src/index.rt": index(all_rows),
+        "tc_stmt/src/table.rt": {"pub static WANTS": items("pub static WANTS", "&[Want]", wants)},
+    }
+    before = int(re.search(r"MEANINGS: \[Meaning; (\d+)\]", read("tc_isa/src/meanings.rt")).group(1))
+    places = int(re.search(r"PLACES: \[u8; (\d+)\]", read("tc_encode/src/index.rt")).group(1))
+    now_places = int(re.search(r"PLACES: \[u8; (\d+)\]", tables["tc_encode/src/index.rt"]["static PLACES"]).group(1))
+    old, touched = {}, set()
+    for crate in ("tc_isa", "tc_encode", "tc_stmt"):
+        for base, folders, files in os.walk(f"{CRATES}/{crate}"):
+            folders[:] = [f for f in folders if f != "out"]
+            for f in files:
+                if f.endswith((".rt", ".antt", ".edit")):
+                    path = os.path.relpath(os.path.join(base, f), CRATES)
+                    old[path] = text = read(path)
+                    for name, new in tables.get(path, {}).items():
+                        text = replaced(text, name, new)
+                    if before != count:
+                        for was, now in ((before, count), (before - 1, count - 1)):
+                            where = r"\b" if "/proofs/" in path else r"(?:≡|<|≤|;|nat_le n) ?"
+                            text = re.sub(rf"({where}){was}(?=\b(?!,))", rf"\g<1>{now}", text)
+                    if places != now_places:
+                        text = re.sub(rf"((?:≡|; ) ?){places}\b", rf"\g<1>{now_places}", text)
+                    if text != old[path]:
+                        with open(f"{CRATES}/{path}", "w", encoding="utf-8") as out:
+                            out.write(text)
+                        touched.add(path)
+    for crate in {p.split("/")[0] for p in touched}:
+        subprocess.run(["rt", "fmt"], cwd=f"{CRATES}/{crate}", stdout=subprocess.DEVNULL, check=False)
+    differ = sorted(p for p in touched if read(p) != old[p])
+    if "--check" in sys.argv:
+        for path in touched:
+            with open(f"{CRATES}/{path}", "w", encoding="utf-8") as out:
+                out.write(old[path])
+    print("\n".join(differ) or f"{count} rows: each table is theirs")
+    return 1 if differ and "--check" in sys.argv else 0
+
+
+sys.exit(main())
