@@ -1,14 +1,12 @@
 -- What each command reports, once its inputs are read.
-use Rattle.std.proofs.Common.{◌≡◌, ◌≢◌, ◌≤◌, ◌-◌, ℕ, List, [], ◌∷◌, ◌++◌, length, Option, Some, None, Result, Ok, Err, refl, sym, ap, subst, ◌∙◌}
+use Rattle.std.proofs.Common.{◌≡◌, ◌≢◌, ◌-◌, ℕ, List, [], length, Option, Some, None, Result, Ok, Err, refl, sym, ap, subst, ◌∙◌}
 use Rattle.std.specs.Prelude.{IfOk, IfSome, IsOkAnd}
 use Rattle.elf_image.specs.Images.{ImageData}
-use Rattle.elf_image.specs.Written.{file_of}
 use Rattle.tcd_plan.specs.PlanData.{PlanData}
 use Rattle.tc_machine.specs.Safe.{Safe}
 use Rattle.tc_machine.specs.declared.state.Machine.{Machine}
 use Rattle.depth_cert.specs.Certs.{CertData}
-use Rattle.depth_cert.specs.declared.keys.Key.{Key}
-use Rattle.cfg_recover.specs.Accepting.{Accepts, IsFirstFault, certified_need}
+use Rattle.cfg_recover.specs.Accepting.{Accepts, certified_need}
 use Rattle.depth_check.proofs.FirstLaws.{fails_refutes}
 use Rattle.tc_script.specs.declared.driving.Peak.{Peak}
 use Rattle.tc_script.specs.Runs.{peak_of}
@@ -20,16 +18,14 @@ use Rattle.tc_link.specs.Linked.{Refusal, linked}
 use Rattle.tc_link.specs.Errors.{refusal_of}
 use Rattle.tc_link.specs.declared.errors.LinkErr.{LinkErr}
 use Rattle.tc_link.specs.declared.errors.LinkErr.TheVariants as error
-use Rattle.tcd_driver.specs.Reports.{Written, Report, says, writes_file}
-use Rattle.tcd_driver.specs.Inputs.{Reading, each, answer}
-use Rattle.tcd_driver.specs.Lines.{refused_line, certified_line, run_line, link_line}
-use Rattle.tcd_driver.specs.Forms.{object_form, script_form}
+use Rattle.tcd_driver.specs.Reports.{Report, says, writes_file}
+use Rattle.tcd_driver.specs.Lines.{certified_line, run_line, link_line}
+use Rattle.tcd_driver.specs.Forms.{object_form}
 use Rattle.tcd_driver.specs.Check as verdict
 use Rattle.tcd_driver.specs.Check.{IsVerdict}
 use Rattle.tcd_driver.specs.Run.{IsRun, ran, told_run}
 use Rattle.tcd_driver.specs.Link.{IsLinked, WritesImage, refused, image}
 use Rattle.tcd_driver.specs.Commands.{Command, check, run, dis, asm, link, reading_of}
-use Rattle.tcd_driver.specs.declared.status.Status.{Status}
 use Rattle.tcd_driver.specs.declared.status.Status.TheVariants.{Done, Refused, BadInput, BadWords}
 use Rattle.tcd_driver.proofs.FormLaws.{elf_lawful, plan_lawful, cert_lawful, script_lawful, source_lawful, layout_lawful, object_lawful, ok_err}
 use Rattle.tcd_driver.proofs.Decided.{AreAlike, IsDecided, decided_input, decided_answer, decided_each}

@@ -1,12 +1,11 @@
 -- What a command says of files is decided by them.
-use Rattle.std.proofs.Common.{◌≡◌, ◌≢◌, ◌<◌, ◌≤◌, ◌+◌, ◌⊎◌, inl, inr, ℕ, List, [], ◌∷◌, length, Option, Some, None, refl, sym, subst, ◌∙◌, arith}
+use Rattle.std.proofs.Common.{◌≡◌, ◌≢◌, ◌<◌, ◌≤◌, ◌+◌, inl, inr, ℕ, List, [], ◌∷◌, length, Option, Some, None, sym, subst, ◌∙◌, arith}
 use Rattle.std.specs.Prelude.{IsSomeAnd}
 use Rattle.std.specs.FinMap.{get}
 use Rattle.tcd_base.specs.Files.{Map}
-use Rattle.tcd_driver.specs.Reports.{Written, Report}
-use Rattle.tcd_driver.specs.Inputs.{FormSeen, HoldsInput, IsRefusal, long, bad, Refuses, Reading, answer, input, each, Says, HoldsAsked}
-use Rattle.tcd_driver.specs.declared.status.Status.{Status}
-use Rattle.tcd_driver.specs.declared.status.Status.TheVariants.{Done, BadInput, BadWords}
+use Rattle.tcd_driver.specs.Reports.{Report}
+use Rattle.tcd_driver.specs.Inputs.{FormSeen, HoldsInput, IsRefusal, long, bad, Reading, answer, input, each, Says, HoldsAsked}
+use Rattle.tcd_driver.specs.declared.status.Status.TheVariants.{Done, BadWords}
 
 -- ---- one file has one form
 same_bytes : (o : Option (List ℕ)) (a b : List ℕ) → o ≡ Some a → o ≡ Some b → a ≡ b

@@ -1,11 +1,11 @@
 -- How a command ends, from what it comes to.
-use Rattle.std.proofs.Common.{◌≡◌, ◌≢◌, ◌≤◌, ◌⊎◌, inl, inr, List, Option, refl, sym, ap, subst, ◌∙◌}
+use Rattle.std.proofs.Common.{◌≡◌, ◌≢◌, ◌⊎◌, inl, inr, List, Option, sym, ap, subst, ◌∙◌}
 use Rattle.std.specs.Prelude.{IsTrue}
 use Rattle.tcd_base.specs.Files.{Map, FilesSeen, LeavesFaults}
 use Rattle.tcd_base.specs.Sink.{SinkSeen}
 use Rattle.tcd_driver.specs.Reports.{Written, Report, with_written, Stopped}
 use Rattle.tcd_driver.specs.Inputs.{Reading, Says, AreSureOf}
-use Rattle.tcd_driver.specs.Outcomes.{Comes, HasNotRead, IsQuiet, Prints, whole, cut, IsReported, printed, unwritten, no_memory, Finishes}
+use Rattle.tcd_driver.specs.Outcomes.{Comes, HasNotRead, IsQuiet, whole, cut, IsReported, printed, unwritten, no_memory, Finishes}
 use Rattle.tcd_driver.specs.Tool as tool
 use Rattle.tcd_driver.specs.Tool.{HasRoom, HasEnded, Ends}
 use Rattle.tcd_driver.specs.declared.status.Status.{Status}

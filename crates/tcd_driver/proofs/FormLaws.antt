@@ -1,30 +1,19 @@
 -- The forms of inputs are lawful: bytes are one value, or none.
-use Rattle.std.proofs.Common.{◌≡◌, ◌≢◌, ℕ, List, [], length, Option, Some, Result, Ok, Err, refl, sym, ap, ◌∙◌}
+use Rattle.std.proofs.Common.{◌≡◌, ℕ, List, [], length, Option, Some, Result, Ok, Err, refl, sym, ap, ◌∙◌}
 use Rattle.serde_json.specs.Data.{Data}
 use Rattle.serde_json.specs.Read.{read}
-use Rattle.elf_image.specs.Images.{ImageData}
-use Rattle.elf_image.specs.Elf as image
 use Rattle.elf_image.specs.Elf.{image_of}
-use Rattle.elf_image.specs.declared.errors.ImageErr.{ImageErr}
-use Rattle.elf_image.specs.declared.errors.ImageErr.TheVariants as elf
 use Rattle.tcd_plan.specs.PlanData.{PlanData}
 use Rattle.tcd_plan.specs.Plans.{Gives, Answers, plan_of}
 use Rattle.tcd_plan.specs.declared.plans.PlanErr.{PlanErr}
 use Rattle.tcd_plan.specs.declared.plans.PlanErr.TheVariants as plan
 use Rattle.depth_cert.specs.Grammar.{certificate_of}
-use Rattle.tc_script.specs.ScriptData.{ScriptData}
-use Rattle.tc_script.specs.Reading.{script_of, Refuses}
-use Rattle.tc_script.specs.declared.errors.ScriptErr.{ScriptErr}
-use Rattle.tc_script.specs.declared.errors.ScriptErr.TheVariants as reading
-use Rattle.tc_object.specs.Objects.{ObjectData}
+use Rattle.tc_script.specs.Reading.{script_of}
 use Rattle.tc_object.specs.Grammar as grammar
 use Rattle.tc_asm.specs.Lines.{LineData, lines_in}
 use Rattle.tc_asm.specs.Sources.{KeepsRules, IsLeast}
-use Rattle.tc_link.specs.Layouts.{LayoutData}
-use Rattle.tc_link.specs.Faults.{layout_of, IsFaultOf}
-use Rattle.tc_link.specs.declared.faults.LayoutErr.{LayoutErr}
-use Rattle.tc_link.specs.declared.faults.LayoutErr.TheVariants as layout
-use Rattle.tcd_driver.specs.Forms.{elf_form, plan_form, cert_form, script_form, IsSource, source_form, layout_form, object_form}
+use Rattle.tc_link.specs.Faults.{layout_of}
+use Rattle.tcd_driver.specs.Forms.{elf_form, plan_form, cert_form, script_form, source_form, layout_form, object_form}
 use Rattle.tcd_driver.proofs.Decided.{IsLawful}
 
 ok_same : {T E : Type 0} (r : Result T E) (x y : T) → r ≡ Ok x → r ≡ Ok y → x ≡ y

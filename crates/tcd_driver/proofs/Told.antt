@@ -1,12 +1,10 @@
 -- From what the parts of a command do to what it comes to.
-use Rattle.std.proofs.Common.{◌≡◌, ◌≤◌, inl, inr, ℕ, List, length, Option, Result, Ok, Err, refl, sym, ap, subst, ◌∙◌, arith}
+use Rattle.std.proofs.Common.{◌≡◌, ◌≤◌, inl, inr, ℕ, List, length, Option, Result, Ok, Err, refl, sym, subst, ◌∙◌, arith}
 use Rattle.std.specs.Prelude.{IfErr, IsTrue}
-use Rattle.tcd_base.specs.Files.{Map, FilesSeen, FaultCounted, AreSure, LeavesFiles, IsTooLong, Reads}
-use Rattle.tcd_driver.specs.Reports.{Written, Report}
+use Rattle.tcd_base.specs.Files.{Map, FilesSeen, FaultCounted, LeavesFiles, IsTooLong, Reads}
+use Rattle.tcd_driver.specs.Reports.{Report}
 use Rattle.tcd_driver.specs.Inputs.{FormSeen, HoldsInput, IsRefusal, long, bad, Refuses, Reading, answer, input, Says, HoldsAsked, AreSureOf}
 use Rattle.tcd_driver.specs.Outcomes.{IsTold, Stops, HasFailed, HasNotRead, Comes}
-use Rattle.tcd_driver.specs.declared.status.Status.{Status}
-use Rattle.tcd_driver.specs.declared.status.Status.TheVariants.{BadInput}
 use Rattle.tcd_driver.specs.declared.outcome.Outcome.{Outcome}
 use Rattle.tcd_driver.specs.declared.outcome.Outcome.TheVariants as outcome
 

@@ -1,7 +1,7 @@
 -- Files written one after another.
 use Rattle.std.proofs.Common.{◌≡◌, ◌<◌, ◌≤◌, ◌+◌, ℕ, zero, suc, List, [], ◌∷◌, ◌++◌, length, get_or, take, drop, Option, refl, sym, ap, subst, ◌∙◌, arith}
 use Rattle.std.specs.Prelude.{IsTrue}
-use Rattle.tcd_base.specs.Files.{Map, FilesSeen, FaultCounted, LeavesFaults, OthersStay, with_file}
+use Rattle.tcd_base.specs.Files.{Map, FilesSeen, LeavesFaults, OthersStay, with_file}
 use Rattle.tcd_driver.specs.Reports.{Written, with_written, Stopped}
 
 -- so many were written

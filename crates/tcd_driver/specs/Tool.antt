@@ -1,5 +1,5 @@
 -- What the tool does with its words, its files and its sink.
-use Rattle.std.specs.Prelude.{◌≡◌, ◌≢◌, ◌≤◌, ◌⊎◌, ℕ, List, [], Option}
+use Rattle.std.specs.Prelude.{◌≡◌, ◌≢◌, ◌⊎◌, [], Option}
 use Rattle.tcd_base.specs.Files.{Map, FilesSeen, FaultCounted}
 use Rattle.tcd_base.specs.Sink.{SinkSeen, HasRoomFor}
 use Rattle.tcd_driver.specs.Reports.{Report}

@@ -1,4 +1,4 @@
-use Rattle.std.proofs.Common.{◌≡◌, List, ℕ, ap, ◌∙◌, ◌++◌}
+use Rattle.std.proofs.Common.{List, ℕ, ap, ◌∙◌, ◌++◌}
 use Rattle.std.specs.Prelude.{codes}
 use Rattle.std.specs.Fmt.{decimal}
 use Rattle.tcd_driver.specs.Lines.{refused_line}
