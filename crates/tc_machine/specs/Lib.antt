@@ -5,7 +5,7 @@ pub mod Fetching
 pub mod Instructions
 pub mod Kinds
 pub mod Stepping
-pub mod Ranges
+pub mod PlanAreas
 pub mod Safe
 pub mod Starting
 pub mod MachineLaws
