@@ -26,7 +26,7 @@ pub Distinct-links_up : (l n : ℕ) → Distinct (links_up l n)
 Distinct-links_up l zero = tt
 Distinct-links_up l (suc n) = (Avoids-links_up l (l + 1) n (omega arith), Distinct-links_up (l + 1) n)
 
-get_or-links_up : (l n i : ℕ) → i < n → get_or (links_up l n) i 0 ≡ l + i
+pub get_or-links_up : (l n i : ℕ) → i < n → get_or (links_up l n) i 0 ≡ l + i
 get_or-links_up l zero i lt = absurd (omega arith)
 get_or-links_up l (suc n) zero lt = omega arith
 get_or-links_up l (suc n) (suc i) lt = let e = get_or-links_up (l + 1) n i (omega arith) in omega arith
