@@ -4,7 +4,7 @@ use Rattle.std.specs.Prelude.{IfSome, IsSome, IsSomeAnd, Contains}
 use Rattle.std.specs.FinMap as memory_map
 use Rattle.std.proofs.lemmas.Bool.{cases_Bool, and_parts, both_ways, not-true, ltb-true, lt-ltb, eq-eqb, false≢true, cond_both}
 use Rattle.std.proofs.lemmas.List.Elements.{Contains-append_left, Contains-append_right}
-use Rattle.csa_chain.specs.Memory.{Memory, loaded, with_bytes}
+use Rattle.csa_chain.specs.Memory.{Memory, loaded, with_bytes, extended}
 use Rattle.elf_image.specs.Images.{ImageData}
 use Rattle.tcd_plan.specs.PlanData.{PlanData, IsPlan}
 use Rattle.tc_isa.specs.declared.shapes.Arg.{Arg}
@@ -20,11 +20,11 @@ use Rattle.tc_machine.specs.declared.events.Event.{Event}
 use Rattle.tc_machine.specs.declared.events.End.TheVariants.{Running}
 use Rattle.tc_machine.specs.declared.state.Machine.{Machine}
 use Rattle.tc_machine.specs.Machine.{reg, a11, moved}
-use Rattle.tc_machine.specs.Fetching.{fetched, extended}
+use Rattle.tc_machine.specs.Fetching.{fetched}
 use Rattle.tc_machine.specs.Instructions.{does, access_address, traps_at, target_of, core_register}
 use Rattle.tc_machine.specs.Stepping.{is_taken, load_in, store_in, where_running, stored, step}
-use Rattle.tc_machine.specs.Ranges.{IsInAreas}
-use Rattle.tc_machine.specs.Safe.{IsMachine, HoldsRom, IsPlanMemory, Fits, AnswersLoad, IsStoreInRange}
+use Rattle.tcd_plan.specs.Regions.{IsInAreas, AnswersLoad, IsStoreInRange}
+use Rattle.tc_machine.specs.Safe.{IsMachine, Fits}
 use Rattle.tc_machine.proofs.Steps.{with_event, step_does, stored-is}
 use Rattle.tc_machine.proofs.Stays.{stays_step, irq_lt}
 use Rattle.tc_machine.proofs.Words.{load_lt}
@@ -57,6 +57,7 @@ use Rattle.cfg_recover.proofs.Members.{contains_first, contains_among, contains_
 use Rattle.cfg_recover.proofs.Went.{reg_in, address-is, Went, does-compute, does-scaled, does-mfcr, does-enable, does-disable, does-nop, does-goto, does-load, does-store, does-branch}
 use Rattle.cfg_recover.proofs.Keeps.{KeepsLower, GoesOn, IsKept, keeps_lower, keeps_valueless, keeps_locals, keeps_branch}
 use Rattle.cfg_recover.proofs.Writes.{store_keeps_areas, store_keeps_rom, store_keeps_mapped}
+use Rattle.tc_mem.specs.PlanMemory.{HoldsRom, IsPlanMemory}
 
 -- ---- one step
 -- a memory in which rom, the save areas and what is mapped are as before

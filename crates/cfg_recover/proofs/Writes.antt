@@ -8,10 +8,12 @@ use Rattle.elf_image.specs.Images.{ImageData}
 use Rattle.tcd_base.specs.declared.parts.Range.{Range}
 use Rattle.tcd_plan.specs.declared.plans.Device.{Device}
 use Rattle.tcd_plan.specs.PlanData.{PlanData, IsPlan, all_apart, areas_range}
-use Rattle.tc_machine.specs.Ranges.{IsWithin, IsInOne, IsInAreas}
-use Rattle.tc_machine.specs.Safe.{HoldsRom, IsPlanMemory, IsStoreInRange}
-use Rattle.tc_machine.proofs.PlanLaws.{in_one, IsInOne-front, IsInOne-behind, all_apart-before}
+use Rattle.tcd_base.specs.Ranges.{IsWithin, IsInOne}
+use Rattle.tcd_plan.specs.Regions.{IsInAreas, IsStoreInRange}
+use Rattle.tc_mem.specs.PlanMemory.{HoldsRom, IsPlanMemory}
 use Rattle.store_ranges.proofs.Sound.{in_ranges}
+use Rattle.tcd_base.proofs.RangeLaws.{in_one, IsInOne-front, IsInOne-behind}
+use Rattle.tcd_plan.proofs.ApartLaws.{all_apart-before}
 
 -- ---- ranges
 module _ (plan : PlanData) (ok : IsPlan plan) where

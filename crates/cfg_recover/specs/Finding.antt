@@ -6,7 +6,7 @@ use Rattle.tcd_plan.specs.PlanData.{PlanData}
 use Rattle.tc_isa.specs.Insts.{InstData}
 use Rattle.tc_isa.specs.Shapes.{shape_of}
 use Rattle.tc_encode.specs.Decoding.{decoded_of}
-use Rattle.tc_machine.specs.Ranges.{IsInOne}
+use Rattle.tcd_base.specs.Ranges.{IsInOne}
 use Rattle.cfg_recover.specs.Code.{IsCode, HasCode}
 
 -- the n bytes from x on, where segments hold them all

@@ -13,8 +13,8 @@ use Rattle.tc_machine.specs.declared.state.Machine.{Machine}
 use Rattle.tc_machine.specs.Machine.{reg, a11, moved}
 use Rattle.tc_machine.specs.Instructions.{does, access_address, traps_at, target_of}
 use Rattle.tc_machine.specs.Stepping.{is_taken, stored}
-use Rattle.tc_machine.specs.Ranges.{IsInAreas}
-use Rattle.tc_machine.specs.Safe.{IsMachine, HoldsRom, IsPlanMemory, Fits, IsStoreInRange}
+use Rattle.tcd_plan.specs.Regions.{IsInAreas, IsStoreInRange}
+use Rattle.tc_machine.specs.Safe.{IsMachine, Fits}
 use Rattle.value_domain.specs.declared.states.State.{State}
 use Rattle.value_domain.specs.Limits.{Limits, AreLimits}
 use Rattle.value_domain.specs.State.{AreValues}
@@ -25,6 +25,7 @@ use Rattle.cfg_recover.specs.Code.{IsCode}
 use Rattle.cfg_recover.specs.Entries.{call_key, irq_key, aln_key, call_entry, irq_entry, aln_entry}
 use Rattle.cfg_recover.specs.Own.{OwnRule}
 use Rattle.cfg_recover.specs.Duties.{owed, jump, enter, resume, duties_of}
+use Rattle.tc_mem.specs.PlanMemory.{HoldsRom, IsPlanMemory}
 
 -- the machine's registers, IE and CCPN lie in the state
 abbrev pub InState : PlanData → Machine → State → Type 0

@@ -1,30 +1,20 @@
 // The instruction at an address of an image.
 ghost use Rattle.std.specs.Prelude.{◌≡◌, ◌≤◌, ◌+◌, ◌^◌, ◌↔◌, IsTrue};
-ghost use Rattle.std.specs.List.{list_any};
-ghost use Rattle.tc_machine.specs.Ranges.{IsInOne};
-ghost use Rattle.store_ranges.specs.Accesses.{is_inside};
+ghost use Rattle.tcd_base.specs.Ranges.{IsInOne};
 ghost use Rattle.cfg_recover.specs.Finding.{held_bytes, FindsInRom, FindsBytes, FindsCode};
 
 use elf_image::Image;
 use tc_encode::decode;
 use tc_isa::Inst;
-use tcd_base::Range;
+use tcd_base::any_holds;
 use tcd_plan::Plan;
-
-/// Whether `count` bytes from the address on lie in one of the ranges.
-fn is_in_one(ranges: &[Range], addr: u32, count: u32) -> bool
-    ensures { result ≡ list_any (is_inside addr count) ranges.now }
-{
-    let end = u64::from(addr) + u64::from(count);
-    ranges.iter().any(|range| range.at <= addr && end <= u64::from(range.at) + u64::from(range.len))
-}
 
 /// Whether `count` bytes from the address on lie in one rom range.
 fn is_in_rom(plan: &Plan, addr: u32, count: u32) -> bool
     ensures decides { IsTrue result ↔ IsInOne addr count plan.now.rom }
     ensures fits { IsTrue result → addr + count ≤ 2 ^ 32 }
 {
-    is_in_one(plan.rom.as_slice(), addr, count)
+    any_holds(plan.rom.as_slice(), addr, count)
 }
 
 /// Two bytes of the image, where segments hold them.

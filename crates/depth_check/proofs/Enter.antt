@@ -12,8 +12,8 @@ use Rattle.tc_machine.specs.declared.events.End.TheVariants.{Running}
 use Rattle.tc_machine.specs.declared.state.Machine.{Machine}
 use Rattle.tc_machine.specs.Machine.{reg, a11, is_of}
 use Rattle.tc_machine.specs.Contexts.{context_of, saved, save}
-use Rattle.tc_machine.specs.Ranges.{IsMappedBy}
-use Rattle.tc_machine.specs.Safe.{IsMachine, IsPlanMemory}
+use Rattle.tcd_plan.specs.Regions.{IsMappedBy}
+use Rattle.tc_machine.specs.Safe.{IsMachine}
 use Rattle.tc_machine.proofs.Words.{register_lt}
 use Rattle.tc_machine.proofs.PlanLaws.{HoldsRom-written}
 use Rattle.tc_machine.proofs.Saves.{save-is}
@@ -30,6 +30,7 @@ use Rattle.depth_cert.specs.Certs.{CertData}
 use Rattle.depth_check.proofs.Registers.{reg_of_lt}
 use Rattle.cfg_recover.proofs.PointLaws.{Stands}
 use Rattle.depth_check.proofs.Frames.{Frame, oldest_first, LowerSame, UpperSame, Leaves, Resumed, used_by, Kept, Frames-same, need-Frames, own_locals, length-Locals, length-ImpliedBy, length-oldest_first}
+use Rattle.tc_mem.specs.PlanMemory.{IsPlanMemory}
 
 -- the machine once its upper context is saved, with these registers, address and status
 abbrev pub begun : Machine → List ℕ → List ℕ → ℕ → ℕ → Bool → ℕ → Machine

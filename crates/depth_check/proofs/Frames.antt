@@ -12,7 +12,7 @@ use Rattle.tcd_plan.specs.PlanData.{PlanData}
 use Rattle.tc_machine.specs.declared.events.End.TheVariants.{Running}
 use Rattle.tc_machine.specs.declared.state.Machine.{Machine}
 use Rattle.tc_machine.specs.Machine.{reg, a11, is_of}
-use Rattle.tc_machine.specs.Safe.{HoldsRom, IsPlanMemory}
+use Rattle.tc_mem.specs.PlanMemory.{HoldsRom, IsPlanMemory}
 use Rattle.tc_machine.proofs.Areas.{Areas}
 use Rattle.value_domain.specs.State.{ImpliedBy}
 use Rattle.vd_transfer.specs.Registers.{is_lower, global_of}

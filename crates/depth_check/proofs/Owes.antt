@@ -14,8 +14,7 @@ use Rattle.tc_machine.specs.declared.events.End.TheVariants.{Running}
 use Rattle.tc_machine.specs.declared.state.Machine.{Machine}
 use Rattle.tc_machine.specs.Machine.{reg, a11, moved, advanced, then_, with_reg, handler_psw}
 use Rattle.tc_machine.specs.Contexts.{saved, save, restored, restore}
-use Rattle.csa_chain.specs.Memory.{loaded, with_bytes}
-use Rattle.tc_machine.specs.Fetching.{extended}
+use Rattle.csa_chain.specs.Memory.{loaded, with_bytes, extended}
 use Rattle.tc_machine.specs.Instructions.{interrupt, trap, misaligned, does, access_address, with_base, target_of}
 use Rattle.tc_machine.proofs.Saves.{then_-running}
 use Rattle.value_domain.specs.declared.states.State.{State}

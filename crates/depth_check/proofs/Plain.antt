@@ -8,7 +8,7 @@ use Rattle.elf_image.specs.Images.{ImageData}
 use Rattle.tcd_plan.specs.PlanData.{PlanData, IsPlan}
 use Rattle.tc_machine.specs.declared.state.Machine.{Machine}
 use Rattle.tc_machine.specs.Machine.{reg, a11, is_of}
-use Rattle.tc_machine.specs.Ranges.{IsInAreas, links_up, first_link, plan_areas}
+use Rattle.tcd_plan.specs.Regions.{IsInAreas}
 use Rattle.tc_machine.proofs.PlanLaws.{link_address-area}
 use Rattle.tc_machine.proofs.Areas.{Areas}
 use Rattle.value_domain.specs.declared.states.State.{State}
@@ -19,6 +19,7 @@ use Rattle.depth_cert.specs.Certs.{CertData}
 use Rattle.cfg_recover.specs.Moves.{MovesTo}
 use Rattle.cfg_recover.proofs.EntryLaws.{holds_covered}
 use Rattle.depth_check.proofs.Frames.{Frame, Frames, used_by, Kept, Frames-same, ImpliedBy-trans}
+use Rattle.tc_machine.specs.PlanAreas.{links_up, first_link, plan_areas}
 
 -- areas of two lists, one behind the other
 SameAreas-onto : (m n : Memory) (xs ys : List ℕ) → SameAreas m n (reverse_onto xs ys) → SameAreas m n xs × SameAreas m n ys

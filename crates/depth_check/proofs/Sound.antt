@@ -8,7 +8,7 @@ use Rattle.tc_machine.specs.declared.events.Event.{Event}
 use Rattle.tc_machine.specs.declared.state.Machine.{Machine}
 use Rattle.tc_machine.specs.Machine.{reg, a11}
 use Rattle.tc_machine.specs.Stepping.{step, run}
-use Rattle.tc_machine.specs.Ranges.{plan_areas}
+use Rattle.tc_machine.specs.PlanAreas.{plan_areas}
 use Rattle.tc_machine.specs.Safe.{IsMachine, Starts, AllFit, IsSafeAt}
 use Rattle.tc_machine.proofs.Fetched.{IsAtCode-from}
 use Rattle.tc_machine.proofs.Stays.{irq_lt, stays_step, stays_run}

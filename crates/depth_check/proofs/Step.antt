@@ -20,7 +20,7 @@ use Rattle.tc_machine.specs.Contexts.{saved, save, restored, restore}
 use Rattle.tc_machine.specs.Instructions.{interrupt, target_of, does}
 use Rattle.tc_machine.specs.Stepping.{is_taken, executed, done, step}
 use Rattle.tc_machine.specs.Fetching.{fetched}
-use Rattle.tc_machine.specs.Safe.{IsMachine, Fits, HoldsRom}
+use Rattle.tc_machine.specs.Safe.{IsMachine, Fits}
 use Rattle.tc_machine.proofs.Saves.{moved-lt}
 use Rattle.tc_machine.proofs.Fetched.{fetched-is}
 use Rattle.tc_machine.proofs.ShapeWords.{IsShape, IsTarget, shape_of-suits}
@@ -52,6 +52,7 @@ use Rattle.depth_check.proofs.Handlers.{handler_a, irq_begins, aln_begins, sys_b
 use Rattle.depth_check.proofs.Locals.{with_locals, lower_pushed, lower_popped}
 use Rattle.depth_check.proofs.Lengths.{jump_long}
 use Rattle.depth_check.proofs.Owes.{owes-svlcx, owes-bisr, owes-rslcx, owes-syscall, owes-syscall_back, owes-ret, owes-rfe, interrupt-is, trap-is, call-is, syscall-is, ret-is, rfe-is, svlcx-is, bisr-is, rslcx-is, traps-is}
+use Rattle.tc_mem.specs.PlanMemory.{HoldsRom}
 
 -- the invariant, with some frames
 pub record Goes (image : ImageData) (plan : PlanData) (cert : CertData) (most : ℕ) (m : Machine) (now : List Standing) : Type 0 where

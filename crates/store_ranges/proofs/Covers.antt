@@ -3,7 +3,7 @@ use Rattle.std.proofs.Common.{◌≡◌, ℕ, ◌-◌, ◌*◌, ◌^◌, ◌<◌
 use Rattle.std.proofs.lemmas.Bool.{lt-ltb}
 use Rattle.std.proofs.lemmas.Bool.Decides.{nat_tests}
 use Rattle.tcd_base.specs.Numbers.{sext_of}
-use Rattle.tc_machine.specs.Fetching.{extended}
+use Rattle.csa_chain.specs.Memory.{extended}
 use Rattle.value_domain.specs.Sets.{Among, Within, distinct, twos}
 use Rattle.value_domain.specs.Limits.{Limits, AreLimits}
 use Rattle.value_domain.specs.Floors.{floor, above}

@@ -4,8 +4,9 @@ use Rattle.std.specs.List.{find, list_all}
 use Rattle.std.proofs.lemmas.Bool.{and_parts, and_from, leb-true, le-leb, false≢true}
 use Rattle.tcd_base.specs.declared.parts.Range.{Range}
 use Rattle.tcd_plan.specs.declared.plans.Device.{Device}
-use Rattle.tc_machine.specs.Ranges.{IsWithin, IsInOne, IsInDevice}
-use Rattle.store_ranges.specs.Accesses.{is_inside}
+use Rattle.tcd_base.specs.Ranges.{IsWithin, IsInOne, is_within}
+use Rattle.tcd_base.proofs.RangeLaws.{true_within}
+use Rattle.tcd_plan.specs.Regions.{IsInDevice}
 
 -- ---- what is found
 -- passes the test
@@ -44,18 +45,10 @@ found_device p (c ∷ ds) d y n e w =
     ] e
 
 -- ---- accesses
-pub within_true : (x n : ℕ) (r : Range) → is_inside x n r ≡ true → IsWithin x n r
-within_true x n r t =
-    let both = and_parts _ _ t in
-    (leb-true r.at x both.0, leb-true (x + n) (r.at + r.len) both.1)
-
-pub true_within : (x n : ℕ) (r : Range) → IsWithin x n r → is_inside x n r ≡ true
-true_within x n r w = and_from _ _ (le-leb r.at x w.0) (le-leb (x + n) (r.at + r.len) w.1)
-
-pub unfound_one : (x n : ℕ) (rs : List Range) → find (is_inside x n) rs ≡ None → IsInOne x n rs → ⊥
+pub unfound_one : (x n : ℕ) (rs : List Range) → find (is_within x n) rs ≡ None → IsInOne x n rs → ⊥
 unfound_one x n [] e i = i
 unfound_one x n (r ∷ rs) e i =
-    elim (is_inside x n r) as (λ b. is_inside x n r ≡ b → cond b (Some r) (find (is_inside x n) rs) ≡ None → ⊥) [
+    elim (is_within x n r) as (λ b. is_within x n r ≡ b → cond b (Some r) (find (is_within x n) rs) ≡ None → ⊥) [
       | true ↦ λ t h. let f : Some r ≡ None = h in cc
       | false ↦ λ t h. elim i [
         | inl w ↦ false≢true (sym t ∙ true_within x n r w)

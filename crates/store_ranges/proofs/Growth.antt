@@ -8,8 +8,8 @@ use Rattle.elf_image.proofs.ReadBytes.{byte_lt}
 use Rattle.tcd_base.specs.declared.parts.Range.{Range}
 use Rattle.tcd_plan.specs.declared.plans.Device.{Device}
 use Rattle.tcd_plan.specs.PlanData.{PlanData, IsPlan, all_apart, areas_range, is_device}
-use Rattle.tc_machine.specs.Ranges.{IsWithin, IsInOne, IsInDevice}
-use Rattle.tc_machine.proofs.PlanLaws.{in_one, IsInOne-front, all_apart-before, all_apart-behind}
+use Rattle.tcd_base.specs.Ranges.{IsWithin, IsInOne, is_within}
+use Rattle.tcd_plan.specs.Regions.{IsInDevice}
 use Rattle.value_domain.specs.declared.values.Val.{Val}
 use Rattle.value_domain.specs.declared.values.Val.TheVariants.{Set, Span}
 use Rattle.value_domain.specs.Sets.{Among, Within}
@@ -20,14 +20,15 @@ use Rattle.value_domain.proofs.CoverLaws.{cover_mono, range_among, among_member,
 use Rattle.value_domain.proofs.ExtentLaws.{among_append, many_span}
 use Rattle.value_domain.proofs.RangeLaws.{set_value, some_members}
 use Rattle.value_domain.proofs.Loops.{among_get}
-use Rattle.store_ranges.specs.Accesses.{is_inside}
+use Rattle.tcd_base.proofs.RangeLaws.{in_one, IsInOne-front, within_true}
 use Rattle.store_ranges.specs.Loads.{all_extended, answers, device_of, given, held_number, loaded_of, number_or, rom_number}
 use Rattle.store_ranges.specs.Laws.{LoadsGrow}
 use Rattle.store_ranges.proofs.Covers.{anything_has}
-use Rattle.store_ranges.proofs.Finds.{found_true, found_all, found_device, within_true}
+use Rattle.store_ranges.proofs.Finds.{found_true, found_all, found_device}
 use Rattle.store_ranges.proofs.LoadLaws.{all_at, all_from, answers_some, among_flat, device_bounds}
 use Rattle.store_ranges.proofs.RomLaws.{any_one}
 use Rattle.store_ranges.proofs.Sound.{device_apart, extended-word, held_parts, in_ranges, one_more_byte}
+use Rattle.tcd_plan.proofs.ApartLaws.{all_apart-before, all_apart-behind}
 
 -- the bytes of the image are bytes
 abbrev HasImageBytes : ImageData → Type 0
@@ -56,13 +57,13 @@ held_lt image bytes x (suc n) w e =
 
 rom_lt : (image : ImageData) (plan : PlanData) → HasImageBytes image → (x n w : ℕ) → rom_number image plan x n ≡ Some w → w < 2 ^ (8 * n)
 rom_lt image plan bytes x n w e =
-    elim (cases_Bool (list_any (is_inside x n) plan.rom)) [
+    elim (cases_Bool (list_any (is_within x n) plan.rom)) [
       | inl t ↦ held_lt image bytes x n w (rw t at e)
       | inr f ↦ absurd (let g : None ≡ Some w = rw f at e in cc)
     ]
 
 module _ (plan : PlanData) (ok : IsPlan plan) where
-  only_words : (size : ℕ) (xs : List ℕ) (d : Device) → device_of plan size xs ≡ Some d → (size ≡ 4) × (find (λ d. list_all (λ x. is_inside x 4 d.range) xs) plan.devices ≡ Some d)
+  only_words : (size : ℕ) (xs : List ℕ) (d : Device) → device_of plan size xs ≡ Some d → (size ≡ 4) × (find (λ d. list_all (λ x. is_within x 4 d.range) xs) plan.devices ≡ Some d)
   only_words size xs d e =
       elim (cases_Bool (eqb size 4)) [
         | inl four ↦ (eqb-true size 4 four, rw four at e)
@@ -131,19 +132,19 @@ module _ (plan : PlanData) (ok : IsPlan plan) where
       let apart : all_apart (devices ++ areas_range plan ∷ []) ≡ true =
       all_apart-behind (plan.rom ++ plan.ram) (devices ++ areas_range plan ∷ []) (sym (ap all_apart (append_assoc (plan.rom ++ plan.ram) devices (areas_range plan ∷ []))) ∙ ok.apart)
       in
-      let fewer : find (λ d. list_all (λ x. is_inside x 4 d.range) xs) plan.devices ≡ Some d =
-      found_fewer (λ d. list_all (λ x. is_inside x 4 d.range) xs) (λ d. list_all (λ x. is_inside x 4 d.range) ys) x (areas_range plan ∷ []) plan.devices d apart
+      let fewer : find (λ d. list_all (λ x. is_within x 4 d.range) xs) plan.devices ≡ Some d =
+      found_fewer (λ d. list_all (λ x. is_within x 4 d.range) xs) (λ d. list_all (λ x. is_within x 4 d.range) ys) x (areas_range plan ∷ []) plan.devices d apart
       (λ c t. all_from 4 c.range xs (λ z j. all_at 4 c.range ys z t (there z j)))
       (λ c t. let w = within_true x 4 c.range (all_at 4 c.range xs x t i) in (w.0, omega (arith, w.1)))
       found.1
       in
-      ap (λ n. cond (eqb n 4) (find (λ d. list_all (λ x. is_inside x 4 d.range) xs) plan.devices) None) found.0 ∙ fewer
+      ap (λ n. cond (eqb n 4) (find (λ d. list_all (λ x. is_within x 4 d.range) xs) plan.devices) None) found.0 ∙ fewer
 
   -- rom has no access of a device
   no_rom : (image : ImageData) (size : ℕ) (x : ℕ) (ys : List ℕ) (d : Device) → Among x ys → device_of plan size ys ≡ Some d → rom_number image plan x size ≡ None
   no_rom image size x ys d i e =
       let found = only_words plan ok size ys d e in
-      elim (cases_Bool (list_any (is_inside x size) plan.rom)) [
+      elim (cases_Bool (list_any (is_within x size) plan.rom)) [
         | inl t ↦
             let w = within_true x 4 d.range (all_at 4 d.range ys x (found_true _ plan.devices d found.1) i) in
             let device : IsInDevice x 1 plan.devices = found_device _ plan.devices d x 1 found.1 (w.0, omega (arith, w.1)) in

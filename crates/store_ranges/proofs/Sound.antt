@@ -6,27 +6,28 @@ use Rattle.std.specs.List.{find, list_all, list_any, flat_map}
 use Rattle.std.specs.FinMap as map
 use Rattle.std.proofs.lemmas.Bool.{cases_Bool, eqb-true, lt-ltb, le-ltb, cases_lt}
 use Rattle.std.proofs.lemmas.Nat.{pow-add}
-use Rattle.csa_chain.specs.Memory.{Memory, loaded}
+use Rattle.csa_chain.specs.Memory.{Memory, loaded, extended}
 use Rattle.elf_image.specs.Images.{ImageData, image_byte}
 use Rattle.tcd_plan.specs.declared.plans.Device.{Device}
 use Rattle.tcd_plan.specs.PlanData.{PlanData, IsPlan, all_apart, areas_range, is_device}
-use Rattle.tc_machine.specs.Ranges.{IsWithin, IsInOne, IsInDevice, IsMappedBy}
-use Rattle.tc_machine.specs.Fetching.{extended}
-use Rattle.tc_machine.specs.Safe.{HasBytes, IsPlanMemory, HoldsRom, AnswersAt}
-use Rattle.tc_machine.proofs.PlanLaws.{in_one, IsInOne-front, IsInOne-behind, all_apart-before}
+use Rattle.tcd_base.specs.Ranges.{IsWithin, IsInOne, is_within}
+use Rattle.tcd_plan.specs.Regions.{IsInDevice, IsMappedBy, AnswersAt}
+use Rattle.csa_chain.specs.MemoryChanges.{HasBytes}
+use Rattle.tc_mem.specs.PlanMemory.{IsPlanMemory, HoldsRom}
 use Rattle.value_domain.specs.declared.values.Val.{Val}
 use Rattle.value_domain.specs.declared.values.Val.TheVariants.{Set}
 use Rattle.value_domain.specs.Sets.{Among}
 use Rattle.value_domain.specs.Limits.{Limits}
 use Rattle.value_domain.specs.Values.{IsWell, cover, members, range}
 use Rattle.value_domain.proofs.CoverLaws.{cover_holds, among_range, among_member, has_step}
-use Rattle.store_ranges.specs.Accesses.{is_inside}
+use Rattle.tcd_base.proofs.RangeLaws.{in_one, IsInOne-front, IsInOne-behind, within_true}
 use Rattle.store_ranges.specs.Loads.{HoldsLoads, answers, device_of, given, held_number, number_or, rom_number}
 use Rattle.store_ranges.proofs.Covers.{anything_has}
-use Rattle.store_ranges.proofs.Finds.{found_all, found_true, found_device, within_true}
+use Rattle.store_ranges.proofs.Finds.{found_all, found_true, found_device}
 use Rattle.store_ranges.proofs.LoadLaws.{all_at, among_flat}
 use Rattle.store_ranges.proofs.RomLaws.{any_one, any_fits}
 use Rattle.store_ranges.proofs.StoreLaws.{device_fits}
+use Rattle.tcd_plan.proofs.ApartLaws.{all_apart-before}
 
 -- ---- loads of n bytes
 mod_small : (x : ℕ) → x < 2 ^ 32 → x % 2 ^ 32 ≡ x
@@ -158,7 +159,7 @@ module _ (image : ImageData) (plan : PlanData) (ok : IsPlan plan) (mem : Memory)
       elim (cases_Bool (eqb size 4)) [
         | inl four ↦
             let is : size ≡ 4 = eqb-true size 4 four in
-            let found : find (λ d. list_all (λ x. is_inside x 4 d.range) xs) plan.devices ≡ Some d = rw four at e in
+            let found : find (λ d. list_all (λ x. is_within x 4 d.range) xs) plan.devices ≡ Some d = rw four at e in
             let w = within_true x 4 d.range (all_at 4 d.range xs x (found_true _ plan.devices d found) i) in
             subst (λ n. Among (extended signed n (loaded mem input x n)) (range d.lo d.hi 0)) (sym is) (device_has input x signed _ d small (answer is) found w)
         | inr other ↦ absurd (let f : None ≡ Some d = rw other at e in cc)
@@ -169,7 +170,7 @@ module _ (image : ImageData) (plan : PlanData) (ok : IsPlan plan) (mem : Memory)
       → Among (extended signed size (loaded mem input x size)) (number_or size signed (device_of plan size (x ∷ [])) o)
   given_has input x size signed None small answer e = answers_has input x size signed (x ∷ []) (device_of plan size (x ∷ [])) small answer (inl refl) refl
   given_has input x size signed (Some w) small answer e =
-      elim (cases_Bool (list_any (is_inside x size) plan.rom)) [
+      elim (cases_Bool (list_any (is_within x size) plan.rom)) [
         | inl t ↦
             let held : held_number image x size ≡ Some w = rw t at e in
             let there : (y b : ℕ) → x ≤ y → y < x + size → image_byte image y ≡ Some b → map.get mem y ≡ Some b =

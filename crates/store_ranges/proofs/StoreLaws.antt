@@ -7,7 +7,7 @@ use Rattle.std.proofs.lemmas.List.Elements.{All-from_get_or}
 use Rattle.tcd_base.specs.declared.parts.Range.{Range}
 use Rattle.tcd_plan.specs.declared.plans.Device.{Device}
 use Rattle.tcd_plan.specs.PlanData.{PlanData, IsPlan, is_range, is_device}
-use Rattle.tc_machine.specs.Safe.{IsStoreInRange}
+use Rattle.tcd_plan.specs.Regions.{IsStoreInRange}
 use Rattle.value_domain.specs.declared.values.Val.{Val}
 use Rattle.value_domain.specs.declared.values.Val.TheVariants.{Set, Span}
 use Rattle.value_domain.specs.Sets.{Among, twos}
@@ -15,9 +15,11 @@ use Rattle.value_domain.specs.Values.{IsExtent, IsMember, IsWell, members, range
 use Rattle.value_domain.proofs.CoverLaws.{step_cases, in_units, from_units, among_range, range_among, among_member, member_among, has_step}
 use Rattle.value_domain.proofs.SetLaws.{twos_le}
 use Rattle.value_domain.proofs.Loops.{among_get}
-use Rattle.store_ranges.specs.Accesses.{IsSize, is_inside}
+use Rattle.store_ranges.specs.Accesses.{IsSize}
 use Rattle.store_ranges.specs.Stores.{AreAligned, AreStoresInRange, IsNextMultiple, StaysInRange}
-use Rattle.store_ranges.proofs.Finds.{found_true, found_all, found_one, found_device, within_true, true_within, unfound_one, unfound_device}
+use Rattle.store_ranges.proofs.Finds.{found_true, found_all, found_one, found_device, unfound_one, unfound_device}
+use Rattle.tcd_base.specs.Ranges.{is_within}
+use Rattle.tcd_base.proofs.RangeLaws.{within_true, true_within}
 
 pub range_fits : (r : Range) → is_range r ≡ true → r.at + r.len ≤ 2 ^ 32
 range_fits r t = leb-true (r.at + r.len) (2 ^ 32) (and_parts _ _ t).1
@@ -25,17 +27,17 @@ range_fits r t = leb-true (r.at + r.len) (2 ^ 32) (and_parts _ _ t).1
 pub device_fits : (d : Device) → is_device d ≡ true → d.range.at + d.range.len ≤ 2 ^ 32
 device_fits d t = range_fits d.range (and_parts _ _ (and_parts _ _ t).0).0
 
-pub ram_stays : (plan : PlanData) (x size : ℕ) (r : Range) → IsPlan plan → find (is_inside x size) plan.ram ≡ Some r → StaysInRange plan size x (r.at + r.len)
+pub ram_stays : (plan : PlanData) (x size : ℕ) (r : Range) → IsPlan plan → find (is_within x size) plan.ram ≡ Some r → StaysInRange plan size x (r.at + r.len)
 ram_stays plan x size r ok e =
-    let fits = range_fits r (found_all (is_inside x size) is_range plan.ram r ok.ranges.ram e) in
-    let here = within_true x size r (found_true (is_inside x size) plan.ram r e) in
+    let fits = range_fits r (found_all (is_within x size) is_range plan.ram r ok.ranges.ram e) in
+    let here = within_true x size r (found_true (is_within x size) plan.ram r e) in
     record {
       here = here.1;
       within = fits;
-      each = λ y low high. (omega arith, inl (found_one (is_inside x size) plan.ram r y size e (omega arith, high)));
+      each = λ y low high. (omega arith, inl (found_one (is_within x size) plan.ram r y size e (omega arith, high)));
     }
 
-pub device_stays : (plan : PlanData) (x size : ℕ) (d : Device) → IsPlan plan → find (λ d. is_inside x size d.range && is_inside x size d.range) plan.devices ≡ Some d
+pub device_stays : (plan : PlanData) (x size : ℕ) (d : Device) → IsPlan plan → find (λ d. is_within x size d.range && is_within x size d.range) plan.devices ≡ Some d
     → StaysInRange plan size x (d.range.at + d.range.len)
 device_stays plan x size d ok e =
     let fits = device_fits d (found_all _ is_device plan.devices d ok.ranges.devices e) in
@@ -46,7 +48,7 @@ device_stays plan x size d ok e =
       each = λ y low high. (omega arith, inr (found_device _ plan.devices d y size e (omega arith, high)));
     }
 
-pub none_stays : (plan : PlanData) (x size : ℕ) → find (is_inside x size) plan.ram ≡ None → find (λ d. is_inside x size d.range && is_inside x size d.range) plan.devices ≡ None
+pub none_stays : (plan : PlanData) (x size : ℕ) → find (is_within x size) plan.ram ≡ None → find (λ d. is_within x size d.range && is_within x size d.range) plan.devices ≡ None
     → IsStoreInRange plan (x, size) → ⊥
 none_stays plan x size no_ram no_device s =
     elim s.1 [

@@ -2,18 +2,18 @@
 use Rattle.std.specs.Prelude.{◌<◌, ◌+◌, ◌-◌, ◌*◌, ◌^◌, ◌==◌, ℕ, zero, suc, Bool, List, [], ◌∷◌, map, find, if◌then◌else◌, Option, Some, None, IsSome, option_and_then}
 use Rattle.std.specs.List.{list_all, list_any, flat_map}
 use Rattle.std.specs.Option.{option_map}
-use Rattle.csa_chain.specs.Memory.{Memory, loaded}
+use Rattle.csa_chain.specs.Memory.{Memory, loaded, extended}
 use Rattle.elf_image.specs.Images.{ImageData, image_byte}
 use Rattle.tcd_plan.specs.declared.plans.Device.{Device}
 use Rattle.tcd_plan.specs.PlanData.{PlanData}
-use Rattle.tc_machine.specs.Fetching.{extended}
-use Rattle.tc_machine.specs.Ranges.{IsInOne}
-use Rattle.tc_machine.specs.Safe.{HasBytes, IsPlanMemory, HoldsRom, AnswersLoad}
+use Rattle.tcd_base.specs.Ranges.{IsInOne, is_within}
+use Rattle.csa_chain.specs.MemoryChanges.{HasBytes}
+use Rattle.tc_mem.specs.PlanMemory.{IsPlanMemory, HoldsRom}
 use Rattle.value_domain.specs.declared.values.Val.{Val}
 use Rattle.value_domain.specs.declared.values.Val.TheVariants.{Set, Span}
 use Rattle.value_domain.specs.Limits.{Limits}
 use Rattle.value_domain.specs.Values.{IsMember, cover, range}
-use Rattle.store_ranges.specs.Accesses.{is_inside}
+use Rattle.tcd_plan.specs.Regions.{AnswersLoad}
 
 -- the n bytes from x on lie in one rom range and are held by segments of the image
 pub record IsLoadedRom (image : ImageData) (plan : PlanData) (x n : ℕ) : Type 0 where
@@ -27,11 +27,11 @@ held_number image x (suc n) = option_and_then (λ b. option_map (λ w. b + 2 ^ 8
 
 -- the number in the n bytes from x on, where they lie in one rom range and are held
 abbrev pub rom_number : ImageData → PlanData → ℕ → ℕ → Option ℕ
-rom_number image plan x n = if list_any (is_inside x n) plan.rom then held_number image x n else None
+rom_number image plan x n = if list_any (is_within x n) plan.rom then held_number image x n else None
 
 -- the device in whose range each access lies; only words are loaded from devices
 abbrev pub device_of : PlanData → ℕ → List ℕ → Option Device
-device_of plan size xs = if size == 4 then find (λ d. list_all (λ x. is_inside x 4 d.range) xs) plan.devices else None
+device_of plan size xs = if size == 4 then find (λ d. list_all (λ x. is_within x 4 d.range) xs) plan.devices else None
 
 -- all words that a load of that size and sign gives
 abbrev pub all_extended : ℕ → Bool → List ℕ

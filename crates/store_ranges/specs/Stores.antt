@@ -1,7 +1,7 @@
 -- Where the accesses from the members of a value lie.
 use Rattle.std.specs.Prelude.{◌≡◌, ◌<◌, ◌≤◌, ◌+◌, ◌%◌, ◌^◌, ℕ}
 use Rattle.tcd_plan.specs.PlanData.{PlanData}
-use Rattle.tc_machine.specs.Safe.{IsStoreInRange}
+use Rattle.tcd_plan.specs.Regions.{IsStoreInRange}
 use Rattle.value_domain.specs.declared.values.Val.{Val}
 use Rattle.value_domain.specs.Sets.{twos}
 use Rattle.value_domain.specs.Values.{IsMember}

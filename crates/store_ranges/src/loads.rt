@@ -1,10 +1,10 @@
 // What a load from the members of a value may give.
 ghost use Rattle.std.specs.Prelude.{◌≡◌, ◌≤◌, ◌<◌, ◌+◌, ◌-◌, ◌*◌, ◌^◌, ◌&&◌, ◌==◌, if◌then◌else◌, find, length, List, ℕ, IfSome};
 ghost use Rattle.std.specs.List.{flat_map};
-ghost use Rattle.tc_machine.specs.Fetching as fetching;
+ghost use Rattle.csa_chain.specs.Memory as memory;
+ghost use Rattle.tcd_base.specs.Ranges.{is_within};
 ghost use Rattle.value_domain.specs.Values.{IsValue, cover, members};
 ghost use Rattle.value_domain.specs.declared.values.Val.TheVariants.{Set, Span};
-ghost use Rattle.store_ranges.specs.Accesses as accesses;
 ghost use Rattle.store_ranges.specs.Accesses.{IsSize};
 ghost use Rattle.store_ranges.specs.Loads as loads;
 ghost use Rattle.store_ranges.specs.Loads.{HoldsLoads, all_extended, given, loaded_of};
@@ -74,7 +74,7 @@ fn load_span(b: &Bounds, plan: &Plan, at: &Val, size: u8, signed: bool) -> Val
 
 /// The device in whose range an access of a word lies both at `low` and at `high`; none for smaller accesses.
 fn device_for(plan: &Plan, low: u32, high: u32, size: u8) -> Option<Device>
-    ensures device { result ≡ (if size == 4 then find (λ d. accesses.is_inside low 4 d.range && accesses.is_inside high 4 d.range) plan.now.devices else None) }
+    ensures device { result ≡ (if size == 4 then find (λ d. is_within low 4 d.range && is_within high 4 d.range) plan.now.devices else None) }
     ensures bounds { IfSome result (λ d. d.lo ≤ d.hi) }
 {
     if size != 4 {
@@ -87,7 +87,7 @@ fn device_for(plan: &Plan, low: u32, high: u32, size: u8) -> Option<Device>
 fn extended(number: u32, size: u8, signed: bool) -> u32
     requires size { IsSize size }
     requires below { number < 2 ^ (8 * size) }
-    ensures { result ≡ fetching.extended signed size number }
+    ensures { result ≡ memory.extended signed size number }
 {
     if signed {
         sext(number, 8 * size)

@@ -3,12 +3,12 @@ ghost use Rattle.std.specs.Prelude.{◌≡◌, ◌≤◌, ◌<◌, ◌+◌, ◌*
 ghost use Rattle.std.specs.Bool.{OnTrue};
 ghost use Rattle.std.specs.List.{list_any};
 ghost use Rattle.elf_image.specs.Images.{image_byte};
-ghost use Rattle.store_ranges.specs.Accesses as accesses;
+ghost use Rattle.tcd_base.specs.Ranges.{is_within};
 ghost use Rattle.store_ranges.specs.Loads as loads;
 ghost use Rattle.store_ranges.specs.Loads.{IsLoadedRom};
 
-use crate::ranges::is_in_one;
 use elf_image::Image;
+use tcd_base::any_holds;
 use tcd_plan::Plan;
 
 /// Whether the `len` bytes from `addr` on lie, without passing 2^32, in one rom range and are held by segments of the
@@ -23,10 +23,10 @@ pub fn loaded_rom(image: &Image, plan: &Plan, addr: u32, len: u8) -> bool
 }
 
 fn is_in_rom(plan: &Plan, x: u32, n: u8) -> bool
-    ensures value { result ≡ list_any (accesses.is_inside x n) plan.now.rom }
+    ensures value { result ≡ list_any (is_within x n) plan.now.rom }
     ensures fits { OnTrue result (x + n ≤ 2 ^ 32) }
 {
-    is_in_one(plan.rom.as_slice(), x, n)
+    any_holds(plan.rom.as_slice(), x, u32::from(n))
 }
 
 fn are_held(image: &Image, x: u32, n: u8) -> bool

@@ -1,13 +1,13 @@
 // Whether stores stay in range, and whether accesses are aligned.
 ghost use Rattle.std.specs.Prelude.{◌≡◌, ◌≤◌, ◌<◌, ◌+◌, ◌-◌, ◌*◌, ◌/◌, ◌^◌, ◌↔◌, ℕ, All, IsTrue, MatchOption};
-ghost use Rattle.tc_machine.specs.Safe.{IsStoreInRange};
+ghost use Rattle.tcd_plan.specs.Regions.{IsStoreInRange};
 ghost use Rattle.value_domain.specs.Sets as sets;
 ghost use Rattle.value_domain.specs.Values.{IsWell, IsMember};
 ghost use Rattle.value_domain.specs.declared.values.Val.TheVariants.{Set, Span};
 ghost use Rattle.store_ranges.specs.Accesses.{IsSize};
 ghost use Rattle.store_ranges.specs.Stores.{AreStoresInRange, AreAligned, StaysInRange, IsNextMultiple};
 
-use crate::ranges::{device_at, end_of, range_at};
+use crate::ranges::{device_at, range_at};
 use tcd_plan::Plan;
 use value_domain::{Val, extent_of, twos};
 
@@ -61,10 +61,10 @@ fn range_end(plan: &Plan, x: u32, size: u8) -> Option<u64>
     ensures { MatchOption result (¬ IsStoreInRange plan.now (x, size)) (λ end. StaysInRange plan.now size x end) }
 {
     match range_at(plan.ram.as_slice(), x, size) {
-        Some(range) => Some(end_of(&range)),
+        Some(range) => Some(range.end()),
         None => {
             let device = device_at(plan.devices.as_slice(), x, x, size)?;
-            Some(end_of(&device.range))
+            Some(device.range.end())
         }
     }
 }

@@ -10,7 +10,7 @@ use Rattle.csa_chain.proofs.ContextLaws.{link_in-with_link, with_link-lt, link_i
 use Rattle.elf_image.specs.Images.{ImageData}
 use Rattle.tcd_plan.specs.PlanData.{PlanData, IsPlan}
 use Rattle.tc_machine.specs.declared.state.Machine.{Machine}
-use Rattle.tc_machine.specs.Ranges.{links_up, first_link, plan_areas}
+use Rattle.tc_machine.specs.PlanAreas.{links_up, first_link, plan_areas}
 use Rattle.tc_machine.specs.Safe.{Starts, ChainsAreWhole}
 use Rattle.tc_machine.proofs.PlanLaws.{length-links_up, Distinct-links_up, length-reverse_onto, place_of, link_address-area, some_link, link_lt}
 

@@ -12,8 +12,10 @@ use Rattle.tc_encode.proofs.DecodeProofs.{decode_laws}
 use Rattle.tc_machine.specs.declared.events.Cause.TheVariants.{NoCode}
 use Rattle.tc_machine.specs.declared.state.Machine.{Machine}
 use Rattle.tc_machine.specs.Fetching.{in_front, mapped_bytes, shaped, fetched}
-use Rattle.tc_machine.specs.Safe.{HoldsRom, SpellsAt, IsAtCode}
-use Rattle.tc_machine.proofs.PlanLaws.{in_one, rom_fits}
+use Rattle.tc_machine.specs.Safe.{SpellsAt, IsAtCode}
+use Rattle.tc_mem.specs.PlanMemory.{HoldsRom}
+use Rattle.tcd_base.proofs.RangeLaws.{in_one}
+use Rattle.tcd_plan.proofs.ApartLaws.{rom_fits}
 
 small_mod : (x : ℕ) → x < 2 ^ 32 → x % 2 ^ 32 ≡ x
 small_mod x h = omega arith

@@ -8,8 +8,8 @@ use Rattle.csa_chain.proofs.MemoryLaws.{get-with_byte_same, get-with_byte_other,
 use Rattle.csa_chain.proofs.WordLaws.{HasBytes-with_words}
 use Rattle.elf_image.specs.Images.{ImageData, image_byte}
 use Rattle.tcd_base.specs.declared.parts.Range.{Range}
-use Rattle.tc_machine.specs.Ranges.{IsWithin, IsInOne}
-use Rattle.tc_machine.specs.Safe.{HasBytes}
+use Rattle.tcd_base.specs.Ranges.{IsWithin, IsInOne}
+use Rattle.csa_chain.specs.MemoryChanges.{HasBytes}
 use Rattle.tc_machine.specs.Starting.{with_some, with_image, with_images, next_link, with_links}
 
 -- ---- the image's bytes

@@ -6,6 +6,7 @@ pub mod Steps
 pub mod ShapeWords
 pub mod Words
 pub mod WholeAccesses
+pub mod Guards
 pub mod Kept
 pub mod Stays
 pub mod ContextWords

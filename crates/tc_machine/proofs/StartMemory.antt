@@ -9,12 +9,18 @@ use Rattle.csa_chain.proofs.ChainLaws.{area_word-written, SameArea-written, area
 use Rattle.elf_image.specs.Images.{ImageData, image_byte}
 use Rattle.tcd_plan.specs.PlanData.{PlanData, IsPlan, areas_range, all_apart}
 use Rattle.tc_mem.specs.Pages.{is_in, IsZeros}
-use Rattle.tc_machine.specs.Ranges.{IsInOne, IsInAreas, IsMappedBy, first_link}
-use Rattle.tc_machine.specs.Safe.{HasBytes, IsLinkedUp, HoldsRom, IsPlanMemory}
+use Rattle.tcd_base.specs.Ranges.{IsInOne}
+use Rattle.tc_machine.specs.Safe.{IsLinkedUp}
 use Rattle.tc_machine.specs.Starting.{with_images, next_link, with_links, mapped_ranges_of, IsFilled}
 use Rattle.tc_machine.proofs.Filled.{images_put, images_mapped, images_none, images_outside, links_mapped, links_bytes, links_outside}
-use Rattle.tc_machine.proofs.PlanLaws.{IsInOne-front, IsInOne-behind, all_apart-before, link_address-area, link_lt, rom_apart}
+use Rattle.tc_machine.proofs.PlanLaws.{link_address-area, link_lt}
 use Rattle.tc_machine.proofs.Zeros.{is_in-one, IsInOne-parts, zero_at}
+use Rattle.tcd_plan.specs.Regions.{IsInAreas, IsMappedBy}
+use Rattle.tc_machine.specs.PlanAreas.{first_link}
+use Rattle.csa_chain.specs.MemoryChanges.{HasBytes}
+use Rattle.tc_mem.specs.PlanMemory.{HoldsRom, IsPlanMemory}
+use Rattle.tcd_base.proofs.RangeLaws.{IsInOne-front, IsInOne-behind}
+use Rattle.tcd_plan.proofs.ApartLaws.{all_apart-before, rom_apart}
 
 word_of_zeros : (m : Memory) (y : ℕ) → ((t : ℕ) → t < 4 → finite.get m (y + t) ≡ Some 0) → word_at m y ≡ 0
 unfolding word_at

@@ -11,7 +11,7 @@ use Rattle.tcd_plan.specs.PlanData.{PlanData, IsPlan, is_range, areas_range}
 use Rattle.tc_machine.specs.declared.events.End.TheVariants.{Running}
 use Rattle.tc_machine.specs.declared.state.Machine.{Machine}
 use Rattle.tc_machine.specs.Machine.{is_of}
-use Rattle.tc_machine.specs.Ranges.{first_link}
+use Rattle.tc_machine.specs.PlanAreas.{first_link}
 use Rattle.tc_machine.specs.Safe.{AreRegisters, IsMachine, Starts}
 use Rattle.tc_machine.specs.Starting.{a_at_start, psw_at_start, mapped_ranges_of, StartsInZeros}
 use Rattle.tc_machine.proofs.PlanLaws.{link_lt}

@@ -28,8 +28,8 @@ use Rattle.tc_machine.specs.declared.events.Event.{Event}
 use Rattle.tc_machine.specs.declared.state.Machine.{Machine}
 use Rattle.tc_machine.specs.Machine.{reg, with_reg, arg, a10, a11, is_of, handler_psw, with_status, moved, advanced, died, goes_on, then_}
 use Rattle.tc_machine.specs.Contexts.{context_of, saved, save, has_kind, last_context, released, restored, restore}
-use Rattle.csa_chain.specs.Memory.{loaded, with_bytes}
-use Rattle.tc_machine.specs.Fetching.{mapped_bytes, shaped, fetched, extended}
+use Rattle.csa_chain.specs.Memory.{loaded, with_bytes, extended}
+use Rattle.tc_machine.specs.Fetching.{mapped_bytes, shaped, fetched}
 use Rattle.tc_machine.specs.Instructions.{handler_stack, at_handler, interrupt, trap, access_address, with_base, traps_at, misaligned, core_register, with_core_register, target_of, lowered, does}
 use Rattle.tc_machine.specs.Stepping.{is_taken, executed, done, step, run}
 use Rattle.tc_machine.specs.Safe.{AreRegisters, IsMachine, Fits, AllFit}

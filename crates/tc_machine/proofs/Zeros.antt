@@ -5,8 +5,8 @@ use Rattle.std.specs.FinMap as map
 use Rattle.csa_chain.specs.Memory.{Memory}
 use Rattle.tcd_base.specs.declared.parts.Range.{Range}
 use Rattle.tc_mem.specs.Pages.{is_in, IsZeros}
-use Rattle.tc_machine.specs.Ranges.{IsInOne}
-use Rattle.tc_machine.specs.Safe.{HasBytes}
+use Rattle.tcd_base.specs.Ranges.{IsInOne}
+use Rattle.csa_chain.specs.MemoryChanges.{HasBytes}
 
 or_left : (a b : Bool) → a ≡ true → (a || b) ≡ true
 or_left a b e = ap (λ t. t || b) e

@@ -36,7 +36,3 @@ shaped (Err e) = Err (cause_of e)
 -- the instruction at pc, decoded from at most four mapped bytes; there is none at an odd address
 unfoldable pub fetched : Machine → Result (Shape × ℕ) Cause
 fetched m = if m.pc % 2 == 0 then shaped (decoded_of (mapped_bytes 4 m.mem m.pc)) else Err NoCode
-
--- a loaded number of so many bytes as a word
-abbrev pub extended : Bool → ℕ → ℕ → ℕ
-extended signed size w = if signed then sign_extended (8 * size) w else w

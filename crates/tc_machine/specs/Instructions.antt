@@ -12,8 +12,7 @@ use Rattle.tc_machine.specs.declared.events.Event.{Event}
 use Rattle.tc_machine.specs.declared.state.Machine.{Machine}
 use Rattle.tc_machine.specs.Machine.{reg, with_reg, arg, a10, a11, is_of, handler_psw, moved, advanced, then_}
 use Rattle.tc_machine.specs.Contexts.{save, restore}
-use Rattle.csa_chain.specs.Memory.{loaded, with_bytes}
-use Rattle.tc_machine.specs.Fetching.{extended}
+use Rattle.csa_chain.specs.Memory.{loaded, with_bytes, extended}
 
 -- ---- entries of handlers
 -- the stack pointer of a handler: the interrupt stack's, or A10 where that is in use already

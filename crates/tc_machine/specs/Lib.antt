@@ -2,10 +2,11 @@
 pub mod Machine
 pub mod Contexts
 pub mod Fetching
+pub mod Guards
 pub mod Instructions
 pub mod Kinds
 pub mod Stepping
-pub mod Ranges
+pub mod PlanAreas
 pub mod Safe
 pub mod Starting
 pub mod MachineLaws

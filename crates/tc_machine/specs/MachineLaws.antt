@@ -16,7 +16,8 @@ use Rattle.tc_machine.specs.Contexts.{saved, save, has_kind, restored, restore}
 use Rattle.tc_machine.specs.Fetching.{fetched}
 use Rattle.tc_machine.specs.Instructions.{does}
 use Rattle.tc_machine.specs.Stepping.{is_taken, step, run}
-use Rattle.tc_machine.specs.Safe.{IsMachine, Starts, AllFit, HoldsRom, SpellsAt, ChainsAreWhole}
+use Rattle.tc_machine.specs.Safe.{IsMachine, Starts, AllFit, SpellsAt, ChainsAreWhole}
+use Rattle.tc_mem.specs.PlanMemory.{HoldsRom}
 
 -- in a start state all areas are free
 abbrev pub StartsWhole : Type 0

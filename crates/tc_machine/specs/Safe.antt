@@ -3,6 +3,7 @@ use Rattle.std.specs.Prelude.{◌≡◌, ℕ, ◌+◌, ◌-◌, ◌/◌, ◌%◌
 use Rattle.std.specs.FinMap as map
 use Rattle.csa_chain.specs.Memory.{Memory, is_mapped}
 use Rattle.csa_chain.specs.Chain.{chain, area_word}
+use Rattle.csa_chain.specs.MemoryChanges.{HasBytes}
 use Rattle.elf_image.specs.Images.{ImageData, image_byte}
 use Rattle.tcd_plan.specs.declared.plans.Device.{Device}
 use Rattle.tcd_plan.specs.PlanData.{PlanData}
@@ -13,11 +14,10 @@ use Rattle.tc_machine.specs.declared.events.End.TheVariants.{Running}
 use Rattle.tc_machine.specs.declared.state.Machine.{Machine}
 use Rattle.tc_machine.specs.Machine.{is_of}
 use Rattle.tc_machine.specs.Stepping.{step, run, stored, is_taken, load_at_pc}
-use Rattle.tc_machine.specs.Ranges.{IsWithin, IsInOne, IsInDevice, IsMappedBy, first_link, plan_areas}
-
--- the bytes of a memory are bytes
-abbrev pub HasBytes : Memory → Type 0
-HasBytes m = (x b : ℕ) → map.get m x ≡ Some b → b < 2 ^ 8
+use Rattle.tcd_base.specs.Ranges.{IsWithin, IsInOne}
+use Rattle.tcd_plan.specs.Regions.{AnswersLoad, IsStoreInRange}
+use Rattle.tc_mem.specs.PlanMemory.{HoldsRom, IsPlanMemory}
+use Rattle.tc_machine.specs.PlanAreas.{first_link, plan_areas}
 
 -- 16 words
 pub record AreRegisters (ws : List ℕ) : Type 0 where
@@ -44,14 +44,6 @@ abbrev pub IsLinkedUp : PlanData → Memory → Type 0
 IsLinkedUp plan mem =
     (i : ℕ) → i < plan.areas → area_word mem (first_link plan + i) 0 ≡ (if nat_lt (i + 1) plan.areas then first_link plan + (i + 1) else 0)
 
--- the rom bytes that a segment holds are the image's
-abbrev pub HoldsRom : ImageData → PlanData → Memory → Type 0
-HoldsRom image plan mem = (x b : ℕ) → IsInOne x 1 plan.rom → image_byte image x ≡ Some b → map.get mem x ≡ Some b
-
--- the mapped memory is the plan's
-abbrev pub IsPlanMemory : PlanData → Memory → Type 0
-IsPlanMemory plan mem = (x : ℕ) → (is_mapped mem x ≡ true) ↔ IsMappedBy plan x
-
 -- A0, A1, A8 and A9 are the plan's globals
 abbrev pub HasGlobals : PlanData → List ℕ → Type 0
 HasGlobals plan a = slice_index a 0 ∷ slice_index a 1 ∷ slice_index a 8 ∷ slice_index a 9 ∷ [] ≡ plan.globals
@@ -77,14 +69,6 @@ pub record Starts (image : ImageData) (plan : PlanData) (m : Machine) : Type 0 w
   pub io : m.psw / 2 ^ 10 % 4 ≡ 2
   pub end : m.end ≡ Running
   pub core : m.core ≡ plan.core
-
--- the input lies in the bounds of each device that has the four bytes at x
-abbrev pub AnswersAt : ℕ → ℕ → List Device → Type 0
-AnswersAt x input ds = All (λ d. IsWithin x 4 d.range → (d.lo ≤ input) × (input ≤ d.hi)) ds
-
--- a word that is loaded from a device lies in the device's bounds
-abbrev pub AnswersLoad : PlanData → ℕ → Option (ℕ × ℕ) → Type 0
-AnswersLoad plan input load = IfSome load (λ l. l.1 ≡ 4 → AnswersAt l.0 input plan.devices)
 
 -- An event that fits the plan and the state: its interrupt is none or a stated one, and, where no interrupt is taken, a
 -- word that the instruction loads from a device lies in that device's bounds.
@@ -120,10 +104,6 @@ pub record IsAtCode (image : ImageData) (plan : PlanData) (m : Machine) : Type 0
   pub inst : InstData
   pub spells : SpellsAt image plan m.pc bytes inst
   pub there : (i : ℕ) → i < length bytes → map.get m.mem (m.pc + i) ≡ Some (slice_index bytes i)
-
--- a store doesn't pass 2^32, and lies wholly in one ram range or one device range
-abbrev pub IsStoreInRange : PlanData → ℕ × ℕ → Type 0
-IsStoreInRange plan at = (at.0 + at.1 ≤ 2 ^ 32) × (IsInOne at.0 at.1 plan.ram ⊎ IsInDevice at.0 at.1 plan.devices)
 
 -- a state of a run, and what its next event may do
 pub record IsSafeAt (image : ImageData) (plan : PlanData) (most : ℕ) (m : Machine) (e : Event) : Type 0 where

@@ -8,8 +8,10 @@ use Rattle.tcd_base.specs.declared.parts.Range.{Range}
 use Rattle.tcd_plan.specs.PlanData.{PlanData}
 use Rattle.tc_mem.specs.Pages.{IsZeros}
 use Rattle.tc_machine.specs.declared.state.Machine.{Machine}
-use Rattle.tc_machine.specs.Ranges.{IsInOne, first_link}
-use Rattle.tc_machine.specs.Safe.{HasBytes, Starts}
+use Rattle.tcd_base.specs.Ranges.{IsInOne}
+use Rattle.tc_machine.specs.Safe.{Starts}
+use Rattle.tc_machine.specs.PlanAreas.{first_link}
+use Rattle.csa_chain.specs.MemoryChanges.{HasBytes}
 
 -- ---- the memory is filled
 -- the memory with a byte at x, if there is one

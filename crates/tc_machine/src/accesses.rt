@@ -3,8 +3,7 @@ ghost use Rattle.std.specs.Prelude.{◌≡◌, ◌<◌, ◌%◌, ◌^◌, unwrap
 ghost use Rattle.std.specs.Bool.{MatchBool};
 ghost use Rattle.std.specs.FinMap as map;
 ghost use Rattle.tc_isa.specs.Bounded.{IsSize};
-ghost use Rattle.csa_chain.specs.Memory.{loaded, with_bytes};
-ghost use Rattle.tc_machine.specs.Fetching.{extended};
+ghost use Rattle.csa_chain.specs.Memory.{loaded, with_bytes, extended};
 
 use crate::registers::ahead;
 use tc_mem::Mem;

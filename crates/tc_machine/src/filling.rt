@@ -2,7 +2,7 @@
 ghost use Rattle.std.specs.Prelude.{◌≡◌, ◌<◌, ◌≤◌, ◌+◌, ◌*◌, ◌^◌, [], ◌∷◌, ◌++◌, All, IfOk};
 ghost use Rattle.csa_chain.specs.Memory.{with_byte};
 ghost use Rattle.elf_image.specs.Images.{image_byte};
-ghost use Rattle.tc_machine.specs.Safe.{HasBytes};
+ghost use Rattle.csa_chain.specs.MemoryChanges.{HasBytes};
 ghost use Rattle.tc_machine.specs.Starting.{with_some, with_image, with_images, next_link, with_links, link_at, mapped_ranges_of, IsFilled};
 
 use crate::contexts::put_word;

@@ -1,3 +1,4 @@
 pub mod Areas
 pub mod Blocks
 pub mod Pages
+pub mod PlanMemory

@@ -4,7 +4,7 @@ use Rattle.std.specs.Option.{option_map}
 use Rattle.std.proofs.lemmas.Bool.{cond-true, cond-false}
 use Rattle.tcd_plan.specs.declared.plans.Device.{Device}
 use Rattle.tc_script.specs.declared.scripts.Bounds.{Bounds}
-use Rattle.tc_script.specs.Ports.{is_within}
+use Rattle.tcd_base.specs.Ranges.{is_within}
 use Rattle.tc_script.specs.ScriptData.{answer_of}
 use Rattle.tc_script.specs.ScriptRuns.{answer_at}
 

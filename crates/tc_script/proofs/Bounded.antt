@@ -8,15 +8,15 @@ use Rattle.std.proofs.lemmas.Option.{slice_get-get_or}
 use Rattle.tcd_base.specs.declared.parts.Range.{Range}
 use Rattle.tcd_plan.specs.declared.plans.Device.{Device}
 use Rattle.tcd_plan.specs.PlanData.{PlanData, IsPlan, ranges_apart, all_apart, areas_range}
-use Rattle.tc_machine.specs.Ranges.{IsWithin}
-use Rattle.tc_machine.proofs.PlanLaws.{all_apart-behind}
+use Rattle.tcd_base.specs.Ranges.{IsWithin, is_within}
+use Rattle.tcd_plan.proofs.ApartLaws.{all_apart-behind}
 use Rattle.tc_script.specs.declared.scripts.Bounds.{Bounds}
 use Rattle.tc_script.specs.Fitting.{AreInside}
-use Rattle.tc_script.specs.Ports.{is_within, IsBounded}
+use Rattle.tc_script.specs.Ports.{IsBounded}
 use Rattle.tc_script.specs.Runs.{Answers}
 use Rattle.tc_script.specs.ScriptData.{answer_of}
 use Rattle.tc_script.specs.ScriptRuns.{answer_at}
-use Rattle.tc_script.proofs.Events.{IsWithin-from, is_within-true}
+use Rattle.tcd_base.proofs.RangeLaws.{within_true, true_within}
 use Rattle.tc_script.proofs.Only.{AnswersBy}
 
 abbrev Lies : ℕ → Device → Type 0
@@ -44,14 +44,14 @@ lies_at x t [] bs k d inside apart here has = cc
 lies_at x t (e ∷ ds) [] k d inside apart here has = absurd inside
 lies_at x t (e ∷ ds) (b ∷ bs) zero d inside apart here has =
     let same : e ≡ d = cc in
-    let holds = is_within-true x 1 e.range (subst (λ f. IsWithin x 1 f.range) (sym same) has) in
+    let holds = true_within x 1 e.range (subst (λ f. IsWithin x 1 f.range) (sym same) has) in
     let is = cond-true (is_within x 1 e.range) (answer_of b t) (answer_at ds bs x t) holds in
     let lies = answer_lies b t inside.0.1 in
     subst (λ f. Lies (answer_at (e ∷ ds) (b ∷ bs) x t) f) same (subst (λ w. Lies w e) (sym is) (omega (arith, lies.0, inside.0.0), omega (arith, lies.1, inside.0.2)))
 lies_at x t (e ∷ ds) (b ∷ bs) (suc k) d inside apart here has =
     let parts = and_parts (list_all (ranges_apart e.range) (ranges_of ds)) (all_apart (ranges_of ds)) apart in
     elim (cases_Bool (is_within x 1 e.range)) [
-      | inl first ↦ absurd (no_both x e.range d.range (apart_at e.range ds k d parts.0 here) (IsWithin-from x 1 e.range first) has)
+      | inl first ↦ absurd (no_both x e.range d.range (apart_at e.range ds k d parts.0 here) (within_true x 1 e.range first) has)
       | inr other ↦ subst (λ w. Lies w d) (sym (cond-false (is_within x 1 e.range) (answer_of b t) (answer_at ds bs x t) other)) (lies_at x t ds bs k d inside.1 parts.1 here has)
     ]
 

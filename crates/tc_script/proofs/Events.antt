@@ -19,31 +19,27 @@ use Rattle.tc_machine.specs.declared.events.End.{End}
 use Rattle.tc_machine.specs.declared.events.End.TheVariants.{Running, Dead}
 use Rattle.tc_machine.specs.declared.state.Machine.{Machine}
 use Rattle.tc_machine.specs.Fetching.{mapped_bytes, shaped, fetched}
-use Rattle.tc_machine.specs.Ranges.{IsWithin, IsInDevice}
-use Rattle.tc_machine.specs.Safe.{AnswersAt, AnswersLoad, Fits}
+use Rattle.tcd_base.specs.Ranges.{IsWithin, is_within}
+use Rattle.tcd_base.proofs.RangeLaws.{within_true, true_within}
+use Rattle.tc_machine.specs.Safe.{Fits}
 use Rattle.tc_machine.specs.Stepping.{where_running, load_in, load_at_pc, next_load_of}
 use Rattle.tc_machine.proofs.ShapeWords.{IsSize, IsShape, shape_of-suits}
 use Rattle.tc_script.specs.declared.scripts.Turn.{Turn}
-use Rattle.tc_script.specs.Ports.{is_within, IsAskable, IsBounded}
+use Rattle.tc_script.specs.Ports.{IsAskable, IsBounded}
 use Rattle.tc_script.specs.Runs.{Answers, IsInput, IsEventOf}
+use Rattle.tcd_plan.specs.Regions.{IsInDevice, AnswersAt, AnswersLoad}
 
 -- ---- ranges
-pub IsWithin-from : (x n : ℕ) (r : Range) → is_within x n r ≡ true → IsWithin x n r
-IsWithin-from x n r is = let both = and_parts _ _ is in (leb-true _ _ both.0, leb-true _ _ both.1)
-
-pub is_within-true : (x n : ℕ) (r : Range) → IsWithin x n r → is_within x n r ≡ true
-is_within-true x n r w = and_from _ _ (le-leb _ _ w.0) (le-leb _ _ w.1)
-
 abbrev pub in_one : ℕ → ℕ → List Device → Bool
 in_one x n ds = list_any (λ d. is_within x n d.range) ds
 
 pub inside : (x n : ℕ) (ds : List Device) → in_one x n ds ≡ true → IsInDevice x n ds
 inside x n [] is = absurd (false≢true is)
-inside x n (d ∷ ds) is = elim (or_cases (is_within x n d.range) (in_one x n ds) is) [ inl here ↦ inl (IsWithin-from x n d.range here) | inr there ↦ inr (inside x n ds there) ]
+inside x n (d ∷ ds) is = elim (or_cases (is_within x n d.range) (in_one x n ds) is) [ inl here ↦ inl (within_true x n d.range here) | inr there ↦ inr (inside x n ds there) ]
 
 pub in_one-true : (x n : ℕ) (ds : List Device) → IsInDevice x n ds → in_one x n ds ≡ true
 in_one-true x n [] is = absurd is
-in_one-true x n (d ∷ ds) (inl here) = or_left (is_within x n d.range) (in_one x n ds) (is_within-true x n d.range here)
+in_one-true x n (d ∷ ds) (inl here) = or_left (is_within x n d.range) (in_one x n ds) (true_within x n d.range here)
 in_one-true x n (d ∷ ds) (inr there) = or_right (is_within x n d.range) (in_one x n ds) (in_one-true x n ds there)
 
 pub outside : (x n : ℕ) (ds : List Device) → in_one x n ds ≡ false → IsInDevice x n ds → ⊥

@@ -14,7 +14,7 @@ use Rattle.tc_script.specs.declared.driving.Peak.{Peak}
 use Rattle.tc_script.specs.declared.scripts.Turn.{Turn}
 use Rattle.tc_script.specs.declared.scripts.Bounds.{Bounds}
 use Rattle.tc_script.specs.ScriptData.{ScriptData}
-use Rattle.tc_script.specs.Ports.{is_within}
+use Rattle.tcd_base.specs.Ranges.{is_within}
 use Rattle.tc_script.specs.Runs.{Answers, IsInput, IsEventOf, IsDead, ScriptedRun, peak_of, IsDriven}
 use Rattle.tc_script.specs.ScriptRuns.{answer_at, input_of, event_of, while_running, events_of, answers_by, IsOfScript, HasOneRun, IsScriptRun}
 use Rattle.tc_script.proofs.Events.{inside, in_one-true}

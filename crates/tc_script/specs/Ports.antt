@@ -2,7 +2,7 @@
 use Rattle.std.specs.Prelude.{ℕ, ◌+◌, ◌^◌, ◌<◌, ◌≤◌, ◌&&◌, nat_le, Bool, List, All}
 use Rattle.tcd_base.specs.declared.parts.Range.{Range}
 use Rattle.tcd_plan.specs.declared.plans.Device.{Device}
-use Rattle.tc_machine.specs.Ranges.{IsWithin}
+use Rattle.tcd_base.specs.Ranges.{IsWithin}
 
 -- the devices, and the closure
 pub record PortsData (F : Type 0) : Type 0 where
@@ -17,7 +17,3 @@ IsAskable can devices = All (λ d. (addr t : ℕ) → IsWithin addr 1 d.range �
 abbrev pub IsBounded : (ℕ → ℕ → ℕ → Type 0) → List Device → Type 0
 IsBounded gives devices =
     All (λ d. (addr t w : ℕ) → IsWithin addr 1 d.range → t < 2 ^ 32 → w < 2 ^ 32 → gives addr t w → (d.lo ≤ w) × (w ≤ d.hi)) devices
-
--- the n bytes from x on lie in the range
-abbrev pub is_within : ℕ → ℕ → Range → Bool
-is_within x n r = nat_le r.at x && nat_le (x + n) (r.at + r.len)

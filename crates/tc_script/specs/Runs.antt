@@ -6,7 +6,7 @@ use Rattle.tc_machine.specs.declared.events.Event.{Event}
 use Rattle.tc_machine.specs.declared.events.End.{End}
 use Rattle.tc_machine.specs.declared.events.End.TheVariants.{Running, Dead}
 use Rattle.tc_machine.specs.declared.state.Machine.{Machine}
-use Rattle.tc_machine.specs.Ranges.{IsInDevice}
+use Rattle.tcd_plan.specs.Regions.{IsInDevice}
 use Rattle.tc_machine.specs.Stepping.{step, run, next_load_of, used_of}
 use Rattle.tc_machine.specs.Safe.{AllFit}
 use Rattle.tc_script.specs.declared.driving.Peak.{Peak}

@@ -13,7 +13,7 @@ use Rattle.tc_script.specs.declared.driving.Peak.{Peak}
 use Rattle.tc_script.specs.declared.scripts.Turn.{Turn}
 use Rattle.tc_script.specs.declared.scripts.Bounds.{Bounds}
 use Rattle.tc_script.specs.ScriptData.{ScriptData, answer_of}
-use Rattle.tc_script.specs.Ports.{is_within}
+use Rattle.tcd_base.specs.Ranges.{is_within}
 use Rattle.tc_script.specs.Runs.{Answers, ScriptedRun, peak_of}
 
 -- what the device that has the address answers at an event, 0 where none has it

@@ -1,21 +1,12 @@
 // What answers for the devices.
 ghost use Rattle.std.specs.Prelude.{◌≡◌, ◌<◌};
+ghost use Rattle.tcd_base.specs.Ranges.{is_within};
 ghost use Rattle.std.specs.List.{list_any};
-ghost use Rattle.tc_script.specs.Ports.{is_within, IsAskable, IsBounded};
+ghost use Rattle.tc_script.specs.Ports.{IsAskable, IsBounded};
 
 use arrayvec::ArrayVec;
 use std::marker::Model;
-use tcd_base::Range;
 use tcd_plan::{Device, Plan};
-
-/// Whether the bytes from an address on lie wholly in a range, without wrapping.
-pub(crate) fn is_within(range: &Range, addr: u32, size: u8) -> bool
-    ensures { result ≡ is_within addr size range.now }
-{
-    let from = u64::from(addr);
-    let to = from + u64::from(size);
-    u64::from(range.at) <= from && to <= u64::from(range.at) + u64::from(range.len)
-}
 
 /// The devices of a plan, and a closure that answers for them: for an address of a device and the number of an event a
 /// word within that device's bounds. A struct can't keep a fact about a closure, so `new` ensures this and each call
@@ -57,7 +48,7 @@ impl<F: Fn(u32, u32) -> u32> Ports<F> {
     {
         self.devices
             .iter()
-            .any(|device| is_within(&device.range, addr, size))
+            .any(|device| device.range.holds(addr, u32::from(size)))
     }
 
     /// The closure's answer.

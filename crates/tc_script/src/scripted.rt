@@ -3,7 +3,6 @@ ghost use Rattle.std.specs.Prelude.{◌≡◌, length};
 ghost use Rattle.tc_script.specs.Fitting.{FitsPlan};
 ghost use Rattle.tc_script.specs.ScriptRuns.{answer_at, IsScriptRun};
 
-use crate::asking::is_within;
 use crate::{Peak, Ports, Script, drive};
 use tc_machine::Machine;
 use tcd_plan::{Device, Plan};
@@ -14,7 +13,7 @@ fn answer_at(devices: &[Device], script: &Script, addr: u32, t: u32) -> u32
     ensures { result ≡ answer_at devices.now script.now.bounds addr t }
 {
     for (i, device) in devices.iter().enumerate() {
-        if is_within(&device.range, addr, 1) {
+        if device.range.holds(addr, 1) {
             return script.answer(i, t);
         }
     }

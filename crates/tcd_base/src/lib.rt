@@ -8,6 +8,7 @@ mod mem_files;
 mod mem_sink;
 mod numbers;
 mod parts;
+mod ranges;
 mod reading;
 mod sink;
 #[cfg(test)]
@@ -19,5 +20,6 @@ pub use mem_files::MemFiles;
 pub use mem_sink::MemSink;
 pub use numbers::{bits, put_u32, sext};
 pub use parts::{Core, FormErr, NoMemory, Range};
+pub use ranges::any_holds;
 pub use reading::{read_bytes, read_u8, read_u16, read_u32};
 pub use sink::{Sink, SinkErr};

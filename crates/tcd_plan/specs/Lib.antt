@@ -5,3 +5,4 @@ pub mod KeyRows
 pub mod Values
 pub mod Objects
 pub mod Plans
+pub mod Regions

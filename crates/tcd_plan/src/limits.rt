@@ -131,11 +131,5 @@ fn first_sharing(range: Range, others: &[Range]) -> Option<usize>
 fn are_apart(range: &Range, other: &Range) -> bool
     ensures { result ≡ ranges_apart range.now other.now }
 {
-    end_of(range) <= u64::from(other.at) || end_of(other) <= u64::from(range.at)
-}
-
-fn end_of(range: &Range) -> u64
-    ensures { result ≡ range.now.at + range.now.len }
-{
-    u64::from(range.at) + u64::from(range.len)
+    range.end() <= u64::from(other.at) || other.end() <= u64::from(range.at)
 }

@@ -1,10 +1,10 @@
 use Rattle.std.proofs.Common.{◌∙◌, rules, tests}
 use Rattle.std.proofs.lemmas.Iterator.{YieldsList-from_slice}
 use Rattle.std.proofs.lemmas.Iterator.Search.{find_from_yields_List}
-use Rattle.store_ranges.specs.Accesses.{is_inside}
+use Rattle.tcd_base.specs.Ranges.{is_within}
 use Rattle.store_ranges.proofs.ranges.range_at.Goals as goal
 
 pub returns : goal.returns
 returns c =
     c.copied.ensures
-    ∙ find_from_yields_List (is_inside c.args.x c.args.n) _ _ c.find.result c.find.ensures.ran (YieldsList-from_slice c.args.ranges.now cc) (λ x b q k. search (rules, tests))
+    ∙ find_from_yields_List (is_within c.args.x c.args.n) _ _ c.find.result c.find.ensures.ran (YieldsList-from_slice c.args.ranges.now cc) (λ x b q k. search (rules, tests))

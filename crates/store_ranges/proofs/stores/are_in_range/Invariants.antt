@@ -1,5 +1,5 @@
 use Rattle.std.proofs.Common.{ℕ, ◌<◌, get_or}
-use Rattle.tc_machine.specs.Safe.{IsStoreInRange}
+use Rattle.tcd_plan.specs.Regions.{IsStoreInRange}
 use Rattle.store_ranges.proofs.stores.are_in_range.Given as goal
 
 abbrev pub invariant-loop-x : goal.invariant-loop-x

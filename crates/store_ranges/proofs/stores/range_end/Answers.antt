@@ -6,7 +6,7 @@ use Rattle.store_ranges.proofs.stores.range_end.Goals as goal
 pub returns-in-Some : goal.returns-in-Some
 returns-in-Some c =
     let found = rw c.as_slice.ensures.value at (sym c.in-Some.ensures) in
-    rw (← c.plan.view_is, c.end_of.ensures) (ram_stays (plan_data c.plan.inside) c.args.x c.args.size c.in-Some.range c.plan.invariant found)
+    rw (← c.plan.view_is, c.end.ensures) (ram_stays (plan_data c.plan.inside) c.args.x c.args.size c.in-Some.range c.plan.invariant found)
 
 pub returns-in_err-device-in-None : goal.returns-in_err-device-in-None
 returns-in_err-device-in-None c =
@@ -17,4 +17,4 @@ returns-in_err-device-in-None c =
 pub returns-in_ok-device-in-None : goal.returns-in_ok-device-in-None
 returns-in_ok-device-in-None c =
     let found = rw c.as_slice-in-None.ensures.value at (sym c.device_at.ensures ∙ c.in_ok-device-in-None.was) in
-    rw (← c.plan.view_is, c.end_of-in-None.ensures) (device_stays (plan_data c.plan.inside) c.args.x c.args.size c.in_ok-device-in-None.device c.plan.invariant found)
+    rw (← c.plan.view_is, c.end-in-None.ensures) (device_stays (plan_data c.plan.inside) c.args.x c.args.size c.in_ok-device-in-None.device c.plan.invariant found)

@@ -1,5 +1,5 @@
 use Rattle.std.proofs.Common.{◌≡◌}
-use Rattle.tc_machine.specs.Safe.{HasBytes}
+use Rattle.csa_chain.specs.MemoryChanges.{HasBytes}
 use Rattle.tc_machine.specs.Starting.{with_image}
 use Rattle.tc_machine.proofs.filling.copy_range.Given as goal
 

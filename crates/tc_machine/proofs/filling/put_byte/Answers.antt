@@ -1,6 +1,6 @@
 use Rattle.std.proofs.Common.{subst, sym}
 use Rattle.csa_chain.proofs.WordLaws.{HasBytes-with_byte}
-use Rattle.tc_machine.specs.Safe.{HasBytes}
+use Rattle.csa_chain.specs.MemoryChanges.{HasBytes}
 use Rattle.tc_machine.proofs.filling.put_byte.Goals as goal
 
 pub returns-clause-bytes : goal.returns-clause-bytes

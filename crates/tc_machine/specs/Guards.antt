@@ -1,0 +1,132 @@
+-- What the definitions under the headline say, concluded from plain equations or told in them: the statements of the
+-- guard laws. A definition that asked for more would break one of them.
+use Rattle.std.specs.Prelude.{◌≡◌, ◌≢◌, ◌↔◌, ℕ, zero, suc, ◌+◌, ◌-◌, ◌*◌, ◌/◌, ◌%◌, ◌^◌, ◌<◌, ◌≤◌, ◌⊎◌, ◌==◌, Bool, true, false, List, [], ◌∷◌, ◌++◌, length, reverse, map, slice_get, slice_index, All, Contains, Some, Ok}
+use Rattle.std.specs.FinMap as bytes
+use Rattle.csa_chain.specs.Memory.{Memory, is_mapped}
+use Rattle.csa_chain.specs.Chain.{link_address, area_word}
+use Rattle.elf_image.specs.Images.{ImageData, IsImage, image_byte}
+use Rattle.tcd_base.specs.declared.parts.Range.{Range}
+use Rattle.tcd_base.specs.Ranges.{IsInOne}
+use Rattle.tcd_plan.specs.declared.plans.Device.{Device}
+use Rattle.tcd_plan.specs.PlanData.{PlanData, IsPlan}
+use Rattle.tc_isa.specs.Insts.{InstData}
+use Rattle.tc_isa.specs.Spelling.{Spells}
+use Rattle.tc_isa.specs.declared.shapes.Arg.{Arg}
+use Rattle.tc_isa.specs.declared.shapes.Shape.TheVariants.{Store}
+use Rattle.tc_machine.specs.declared.events.Event.{Event}
+use Rattle.tc_machine.specs.declared.events.End.TheVariants.{Running}
+use Rattle.tc_machine.specs.declared.state.Machine.{Machine}
+use Rattle.tc_machine.specs.PlanAreas.{first_link}
+use Rattle.tc_machine.specs.Fetching.{fetched}
+use Rattle.tc_machine.specs.Instructions.{access_address}
+use Rattle.tc_machine.specs.Stepping.{is_taken, load_at_pc, step, run, stored}
+use Rattle.tc_machine.specs.Safe.{Starts, Fits, AllFit, Safe}
+
+-- ---- events
+-- Every event fits whose interrupt is none or one of the plan's and whose input, where no interrupt is taken and a word
+-- is loaded that lies in the range of a device, lies in that device's bounds. Its status is any byte, and a misaligned
+-- access may trap or not.
+abbrev pub EveryEventFits : Type 0
+EveryEventFits =
+    (plan : PlanData) (m : Machine) (irq input status : ℕ) (aln : Bool) → (irq ≡ 0) ⊎ Contains plan.irqs irq → input < 2 ^ 32 → status < 2 ^ 8
+    → ((m.ie ≡ true → irq ≤ m.ccpn) → (x k : ℕ) (d : Device) → load_at_pc m ≡ Some (x, 4) → slice_get plan.devices k ≡ Some d
+    → d.range.at ≤ x → x + 4 ≤ d.range.at + d.range.len → (d.lo ≤ input) × (input ≤ d.hi))
+    → Fits plan m (record { irq = irq; input = input; status = status; aln = aln })
+
+-- the states of a run written out: each is the step of the one before
+abbrev pub IsRun : (ℕ → Machine) → (ℕ → Event) → Type 0
+IsRun states events = (k : ℕ) → states (suc k) ≡ step (states k) (events k)
+
+-- the first n events
+abbrev pub first_events : ℕ → (ℕ → Event) → List Event
+first_events zero events = []
+first_events (suc n) events = events 0 ∷ first_events n (λ k. events (suc k))
+
+-- Where each of the first n events fits the state that it meets, they all fit, and the run of them ends in the state n.
+abbrev pub EveryRunFits : Type 0
+EveryRunFits =
+    (plan : PlanData) (states : ℕ → Machine) (events : ℕ → Event) (n : ℕ) → IsRun states events → ((k : ℕ) → k < n → Fits plan (states k) (events k))
+    → AllFit plan (states 0) (first_events n events) × (run (states 0) (first_events n events) ≡ states n)
+
+-- ---- start states
+-- Every machine starts the image under the plan whose fields are the stated ones: with any other registers, any other
+-- bits of PSW and any other bytes.
+abbrev pub EveryStartStarts : Type 0
+EveryStartStarts =
+    (image : ImageData) (plan : PlanData) (d a : List ℕ) (psw : ℕ) (mem : Memory) → IsImage image → IsPlan plan
+    → length d ≡ 16 → All (λ w. w < 2 ^ 32) d → length a ≡ 16 → All (λ w. w < 2 ^ 32) a → psw < 2 ^ 32
+    → ((x b : ℕ) → bytes.get mem x ≡ Some b → b < 2 ^ 8)
+    → ((x : ℕ) → (is_mapped mem x ≡ true) ↔ (IsInOne x 1 plan.rom ⊎ IsInOne x 1 plan.ram ⊎ ((plan.csa_at ≤ x) × (x < plan.csa_at + 64 * plan.areas))))
+    → ((x b : ℕ) → IsInOne x 1 plan.rom → image_byte image x ≡ Some b → bytes.get mem x ≡ Some b)
+    → ((i : ℕ) → i + 1 < plan.areas → area_word mem (first_link plan + i) 0 ≡ first_link plan + (i + 1))
+    → ((i : ℕ) → i + 1 ≡ plan.areas → area_word mem (first_link plan + i) 0 ≡ 0)
+    → slice_index a 10 ≡ plan.sp → slice_index a 0 ∷ slice_index a 1 ∷ slice_index a 8 ∷ slice_index a 9 ∷ [] ≡ plan.globals
+    → (psw / 2 ^ 9 % 2 == 1) ≡ plan.start_is → psw / 2 ^ 10 % 4 ≡ 2
+    → Starts image plan (record {
+      pc = image.entry;
+      d = d;
+      a = a;
+      psw = psw;
+      pcxi = 0;
+      fcx = first_link plan;
+      lcx = first_link plan + (plan.areas - plan.reserve);
+      ccpn = plan.start_ccpn;
+      ie = plan.start_ie;
+      biv = plan.biv;
+      btv = plan.btv;
+      isp = plan.isp;
+      mem = mem;
+      end = Running;
+      core = plan.core;
+    })
+
+-- ---- what is safe
+-- The links that a word leads to: its low 20 bits name a mapped area of 64 bytes, whose word 0 leads to the next one; those
+-- of the last are 0.
+abbrev pub IsWalk : Memory → ℕ → List ℕ → Type 0
+IsWalk mem word [] = word % 2 ^ 20 ≡ 0
+IsWalk mem word (l ∷ ls) =
+    (l ≢ 0) × (word % 2 ^ 20 ≡ l) × ((i : ℕ) → i < 64 → is_mapped mem (link_address l + i) ≡ true) × IsWalk mem (area_word mem l 0) ls
+
+-- one of the ranges has the n addresses from x on
+pub record LiesInRange (ranges : List Range) (x n : ℕ) : Type 0 where
+  pub place : ℕ
+  pub range : Range
+  pub there : slice_get ranges place ≡ Some range
+  pub from : range.at ≤ x
+  pub to : x + n ≤ range.at + range.len
+
+-- The five parts of what is safe, by the memory, PCXI and FCX: the machine runs; the words PCXI and FCX lead to two lists
+-- of areas, in which each area of the plan has its one place, the used ones from the last to the first and then the free
+-- ones; at most so many are used; the bytes at pc, in the memory and in the image, spell an instruction in one rom range;
+-- and what the next event stores at lies in one range of ram or of a device.
+pub record HasFiveParts (image : ImageData) (plan : PlanData) (most : ℕ) (m : Machine) (e : Event) : Type 0 where
+  pub running : m.end ≡ Running
+  pub used : List ℕ
+  pub free : List ℕ
+  pub used_walk : IsWalk m.mem m.pcxi used
+  pub free_walk : IsWalk m.mem m.fcx free
+  pub count : length used + length free ≡ plan.areas
+  pub places : (k : ℕ) → k < plan.areas → slice_index (reverse used ++ free) k ≡ first_link plan + k
+  pub within_need : length used ≤ most
+  pub code : List ℕ
+  pub inst : InstData
+  pub spelled : Spells code inst
+  pub in_rom : LiesInRange plan.rom m.pc (length code)
+  pub held : (i : ℕ) → i < length code → image_byte image (m.pc + i) ≡ Some (slice_index code i)
+  pub there : (i : ℕ) → i < length code → bytes.get m.mem (m.pc + i) ≡ Some (slice_index code i)
+  pub store : (x n : ℕ) → stored m e ≡ Some (x, n) → (x + n ≤ 2 ^ 32) × (LiesInRange plan.ram x n ⊎ LiesInRange (map (λ d. d.range) plan.devices) x n)
+
+-- what is safe has these parts at each state of each run that is written out, whatever event that fits comes next
+abbrev pub SafeSays : Type 0
+SafeSays =
+    (image : ImageData) (plan : PlanData) (most : ℕ) (states : ℕ → Machine) (events : ℕ → Event) (n : ℕ) (e : Event) → Safe image plan most
+    → IsRun states events → Starts image plan (states 0) → ((k : ℕ) → k < n → Fits plan (states k) (events k)) → Fits plan (states n) e
+    → HasFiveParts image plan most (states n) e
+
+-- where no interrupt is taken, and the access is aligned or may be misaligned, a store instruction stores at its address
+abbrev pub StoresTold : Type 0
+StoresTold =
+    (m : Machine) (e : Event) (src : ℕ) (base : Arg) (offset size : ℕ) (after : Bool) (n : ℕ) → m.end ≡ Running → is_taken m e ≡ false
+    → fetched m ≡ Ok (Store src base offset size after, n) → (e.aln ≡ true → access_address m base offset after % size ≡ 0)
+    → stored m e ≡ Some (access_address m base offset after, size)

@@ -1,0 +1,16 @@
+-- The save areas of a plan, by their links.
+use Rattle.std.specs.Prelude.{ℕ, zero, suc, ◌+◌, ◌*◌, ◌/◌, ◌%◌, ◌^◌, List, [], ◌∷◌}
+use Rattle.tcd_plan.specs.PlanData.{PlanData}
+
+-- n links, one after another
+abbrev pub links_up : ℕ → ℕ → List ℕ
+links_up link zero = []
+links_up link (suc n) = link ∷ links_up (link + 1) n
+
+-- the link of the first area: its segment and its place there in areas
+abbrev pub first_link : PlanData → ℕ
+first_link p = p.csa_at / 2 ^ 28 * 2 ^ 16 + p.csa_at % 2 ^ 28 / 64
+
+-- the links of the plan's areas, upward
+abbrev pub plan_areas : PlanData → List ℕ
+plan_areas p = links_up (first_link p) p.areas

@@ -1,0 +1,16 @@
+-- The memory of a machine under a plan.
+use Rattle.std.specs.Prelude.{◌≡◌, ◌↔◌, ℕ, true, Some}
+use Rattle.std.specs.FinMap as map
+use Rattle.csa_chain.specs.Memory.{Memory, is_mapped}
+use Rattle.elf_image.specs.Images.{ImageData, image_byte}
+use Rattle.tcd_base.specs.Ranges.{IsInOne}
+use Rattle.tcd_plan.specs.PlanData.{PlanData}
+use Rattle.tcd_plan.specs.Regions.{IsMappedBy}
+
+-- the rom bytes that a segment holds are the image's
+abbrev pub HoldsRom : ImageData → PlanData → Memory → Type 0
+HoldsRom image plan mem = (x b : ℕ) → IsInOne x 1 plan.rom → image_byte image x ≡ Some b → map.get mem x ≡ Some b
+
+-- the mapped memory is the plan's
+abbrev pub IsPlanMemory : PlanData → Memory → Type 0
+IsPlanMemory plan mem = (x : ℕ) → (is_mapped mem x ≡ true) ↔ IsMappedBy plan x
