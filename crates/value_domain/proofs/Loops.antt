@@ -1,9 +1,9 @@
 -- The steps of loops.
-use Rattle.std.proofs.Common.{◌≡◌, ℕ, zero, suc, ◌+◌, ◌-◌, ◌*◌, ◌^◌, ◌<◌, ◌≤◌, inl, inr, true, false, List, [], ◌∷◌, length, refl, sym, ap, ◌∙◌, arith, min, max, drop, subst, get_or, add-one, ◌/◌, ◌%◌, eqb}
+use Rattle.std.proofs.Common.{◌≡◌, ℕ, zero, suc, ◌+◌, ◌-◌, ◌*◌, ◌^◌, ◌<◌, ◌≤◌, inl, inr, List, [], ◌∷◌, length, refl, sym, ap, ◌∙◌, arith, min, max, drop, subst, get_or, add-one, ◌/◌, ◌%◌}
 use Rattle.std.proofs.Math.Seq.{drop-cons}
 use Rattle.std.proofs.lemmas.List.{drop_all}
-use Rattle.std.proofs.lemmas.Bool.{cases_lt, eqb-true, eq-eqb, or_cases, or_right}
-use Rattle.std.specs.List.{list_any, insert}
+use Rattle.std.proofs.lemmas.Bool.{cases_lt}
+use Rattle.std.specs.List.{insert}
 use Rattle.value_domain.proofs.ExtentLaws.{some_length, extent_rising, extent_range}
 use Rattle.value_domain.proofs.CoverLaws.{step_cases}
 use Rattle.value_domain.specs.Values.{IsExtent, IsWell, range}
