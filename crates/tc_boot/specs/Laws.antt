@@ -6,7 +6,8 @@ use Rattle.tc_machine.specs.declared.events.Event.{Event}
 use Rattle.tc_machine.specs.declared.events.End.TheVariants.{Running}
 use Rattle.tc_machine.specs.declared.state.Machine.{Machine}
 use Rattle.tc_machine.specs.Stepping.{run}
-use Rattle.tc_machine.specs.Safe.{IsMachine, IsPlanMemory, HoldsRom}
+use Rattle.tc_machine.specs.Safe.{IsMachine}
+use Rattle.tc_mem.specs.PlanMemory.{IsPlanMemory, HoldsRom}
 use Rattle.tc_boot.specs.Reset.{Reset, BootsFrom}
 
 -- The project's own reading of a reset: every machine that runs at the address with interrupts off, with the plan's core and

@@ -6,8 +6,9 @@ use Rattle.tc_machine.specs.declared.events.Event.{Event}
 use Rattle.tc_machine.specs.declared.events.End.TheVariants.{Running}
 use Rattle.tc_machine.specs.declared.state.Machine.{Machine}
 use Rattle.tc_machine.specs.Stepping.{run}
-use Rattle.tc_machine.specs.Ranges.{IsInOne}
-use Rattle.tc_machine.specs.Safe.{IsMachine, IsPlanMemory, HoldsRom, Starts, Fits, AllFit, IsSafeAt, Safe}
+use Rattle.tcd_base.specs.Ranges.{IsInOne}
+use Rattle.tc_machine.specs.Safe.{IsMachine, Starts, Fits, AllFit, IsSafeAt, Safe}
+use Rattle.tc_mem.specs.PlanMemory.{IsPlanMemory, HoldsRom}
 use Rattle.tc_boot.specs.Sequence.{boot_bytes_of, boot_events}
 
 -- A state at reset: the machine runs at this address with interrupts off, and its memory is the plan's with the image's bytes

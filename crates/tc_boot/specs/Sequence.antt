@@ -6,7 +6,7 @@ use Rattle.tcd_plan.specs.PlanData.{PlanData}
 use Rattle.tc_isa.specs.Insts.{InstData, fields_in}
 use Rattle.tc_isa.specs.Rows.{RowData, listed}
 use Rattle.tc_isa.specs.Codec.{spelling}
-use Rattle.tc_machine.specs.Ranges.{first_link}
+use Rattle.tc_machine.specs.PlanAreas.{first_link}
 
 -- ---- the instructions that are used, by their place in the table of rows and their fields; the names are the architecture's
 -- an instruction without a bit number

@@ -4,7 +4,7 @@ ghost use Rattle.tc_disasm.specs.Listing.{listing_of};
 ghost use Rattle.tc_boot.specs.Sequence.{boot_image_of};
 
 use crate::bytes::boot_bytes;
-use elf_image::{Image, Segment};
+use elf_image::{Image, Segment, read_segments};
 use std::alloc::Global;
 use tc_disasm::listing;
 use tcd_base::NoMemory;
@@ -18,6 +18,7 @@ fn boot_image(alloc: Global, plan: &Plan, entry: u32, at: u32) -> Result<Image, 
     let bytes = Vec::from_slice(alloc, &boot_bytes(plan, entry))?;
     let mut segments = Vec::new(alloc);
     segments.push(Segment { at, bytes })?;
+    read_segments(&segments);
     Ok(Image {
         entry: at,
         segments,

@@ -9,8 +9,9 @@ use Rattle.std.specs.Prelude.{sum_by, AllPairs}
 use Rattle.tcd_base.specs.declared.parts.Range.{Range}
 use Rattle.tcd_plan.specs.declared.plans.Device.{Device}
 use Rattle.tcd_plan.specs.PlanData.{PlanData, IsPlan, is_range, is_device, ranges_apart, all_apart, areas_range}
-use Rattle.tc_machine.specs.Ranges.{IsWithin, IsInOne}
-use Rattle.tc_machine.proofs.PlanLaws.{IsInOne-fits, IsInOne-front, IsInOne-behind, all_apart-before, all_apart-behind}
+use Rattle.tcd_base.specs.Ranges.{IsWithin, IsInOne}
+use Rattle.tcd_plan.proofs.ApartLaws.{IsInOne-fits, all_apart-before, all_apart-behind}
+use Rattle.tcd_base.proofs.RangeLaws.{IsInOne-front, IsInOne-behind}
 use Rattle.value_cells.specs.declared.cells.Cell.{Cell}
 use Rattle.value_cells.specs.Cells.{part_below, part_above, ranges_without, ram_without, cell_device, with_cells, IsCell, AreCells, is_in_cell}
 use Rattle.value_cells.proofs.CellRanges.{split, below_in, above_in, without_in, ram_in, ram_out, first_cell, later_cells, cell_in_ram, ram_not_rom, ram_not_device}

@@ -20,8 +20,10 @@ use Rattle.tc_machine.specs.Machine.{reg}
 use Rattle.tc_machine.specs.Fetching.{mapped_bytes, shaped, fetched}
 use Rattle.tc_machine.specs.Instructions.{access_address, traps_at}
 use Rattle.tc_machine.specs.Stepping.{is_taken, step, run, load_in, load_at_pc, store_in, where_running, stored}
-use Rattle.tc_machine.specs.Safe.{IsMachine, IsPlanMemory, Fits, AllFit, IsAtCode, IsStoreInRange, IsSafeAt}
-use Rattle.tc_machine.proofs.PlanLaws.{rom_fits}
+use Rattle.tc_machine.specs.Safe.{IsMachine, Fits, AllFit, IsAtCode, IsSafeAt}
+use Rattle.tc_mem.specs.PlanMemory.{IsPlanMemory}
+use Rattle.tcd_plan.specs.Regions.{IsStoreInRange}
+use Rattle.tcd_plan.proofs.ApartLaws.{rom_fits}
 use Rattle.tc_machine.proofs.Fetched.{mapped_bytes-front}
 use Rattle.tc_machine.proofs.Stays.{irq_lt, stays_step}
 use Rattle.tc_machine.proofs.Steps.{stored-is}

@@ -18,7 +18,7 @@ use Rattle.depth_cert.specs.Keys.{number_of_key}
 use Rattle.depth_cert.specs.Points.{ArePoints, IsPoint}
 use Rattle.depth_cert.specs.Nodes.{NodeData, IsNode}
 use Rattle.depth_cert.specs.Certs.{CertData, IsCert}
-use Rattle.tc_machine.proofs.PlanLaws.{IsInOne-fits}
+use Rattle.tcd_plan.proofs.ApartLaws.{IsInOne-fits}
 use Rattle.cfg_recover.specs.Code.{IsCode, HasCode}
 use Rattle.cfg_recover.specs.Accepting.{limits_in, Accepts, HoldsAtNode}
 use Rattle.cfg_recover.proofs.CodeLaws.{IsCode-one}

@@ -7,10 +7,9 @@ use Rattle.std.proofs.lemmas.List.Elements.{All-push, filter_map-append}
 use Rattle.std.proofs.lemmas.List.Quantifiers.{all_pairs_push}
 use Rattle.std.specs.List.{list_any}
 use Rattle.tcd_base.specs.declared.parts.Range.{Range}
-use Rattle.store_ranges.specs.Accesses.{is_inside}
+use Rattle.tcd_base.specs.Ranges.{is_within, IsInOne}
 use Rattle.store_ranges.proofs.RomLaws.{any_one, one_any}
 use Rattle.tcd_plan.specs.PlanData.{PlanData, IsPlan}
-use Rattle.tc_machine.specs.Ranges.{IsInOne}
 use Rattle.tcd_text.specs.Lines.{lines_of}
 use Rattle.value_cells.specs.declared.cells.Cell.{Cell}
 use Rattle.value_cells.specs.declared.errors.CellsErr.{CellsErr}
@@ -183,7 +182,7 @@ read_all plan bytes [] number cells none so = subst (λ ls. AreRead plan ls cell
 read_all plan bytes (x ∷ xs) number cells none so = absurd (omega arith)
 
 -- ---- a word in one range
-pub in_one : (b : Bool) (at : ℕ) (rs ss : List Range) → rs ≡ ss → b ≡ list_any (is_inside at 4) rs → (IsTrue b → IsInOne at 4 ss) × (IsInOne at 4 ss → IsTrue b)
+pub in_one : (b : Bool) (at : ℕ) (rs ss : List Range) → rs ≡ ss → b ≡ list_any (is_within at 4) rs → (IsTrue b → IsInOne at 4 ss) × (IsInOne at 4 ss → IsTrue b)
 in_one b at rs ss same t =
     let P : List Range → Type 0 = λ l. (IsTrue b → IsInOne at 4 l) × (IsInOne at 4 l → IsTrue b) in
     subst P same (λ h. any_one at 4 rs (sym t ∙ h), λ h. t ∙ one_any at 4 rs h)

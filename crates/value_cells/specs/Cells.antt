@@ -5,7 +5,7 @@ use Rattle.csa_chain.specs.Memory.{Memory, word_at}
 use Rattle.tcd_base.specs.declared.parts.Range.{Range}
 use Rattle.tcd_plan.specs.declared.plans.Device.{Device}
 use Rattle.tcd_plan.specs.PlanData.{PlanData, IsPlan}
-use Rattle.tc_machine.specs.Ranges.{IsInOne}
+use Rattle.tcd_base.specs.Ranges.{IsInOne}
 use Rattle.value_cells.specs.declared.cells.Cell.{Cell}
 
 -- ---- the plan

@@ -4,7 +4,7 @@ use Rattle.std.specs.Bool.{then_some}
 use Rattle.std.specs.Option.{option_and_then}
 use Rattle.std.specs.Str.{bytes_eq}
 use Rattle.tcd_plan.specs.PlanData.{PlanData}
-use Rattle.tc_machine.specs.Ranges.{IsInOne}
+use Rattle.tcd_base.specs.Ranges.{IsInOne}
 use Rattle.tcd_text.specs.Lines.{lines_of, words_of}
 use Rattle.tcd_text.specs.HexNumbers.{hex_number_of}
 use Rattle.value_cells.specs.declared.cells.Cell.{Cell}

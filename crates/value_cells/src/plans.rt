@@ -1,15 +1,13 @@
 // The plan in which the cells are devices.
 ghost use Rattle.std.specs.Prelude.{◌≡◌, ◌≤◌, ◌++◌, ◌↔◌, IsTrue, map, length};
-ghost use Rattle.std.specs.List.{list_any};
-ghost use Rattle.tc_machine.specs.Ranges.{IsInOne};
-ghost use Rattle.store_ranges.specs.Accesses.{is_inside};
+ghost use Rattle.tcd_base.specs.Ranges.{IsInOne};
 ghost use Rattle.value_cells.specs.Cells as spec;
 ghost use Rattle.value_cells.specs.Cells.{AreCells, cell_device};
 
 use crate::cells::{Cell, Cells};
 use crate::cutting::ranges_without;
 use arrayvec::ArrayVec;
-use tcd_base::Range;
+use tcd_base::{Range, any_holds};
 use tcd_plan::{Device, Plan};
 
 fn copied(ranges: &[Range]) -> ArrayVec<Range, 16>
@@ -34,15 +32,7 @@ fn copied_bytes(bytes: &[u8]) -> ArrayVec<u8, 32>
 pub(crate) fn is_in_ram(plan: &Plan, at: u32) -> bool
     ensures { IsTrue result ↔ IsInOne at 4 plan.now.ram }
 {
-    is_in_one(plan.ram.as_slice(), at)
-}
-
-/// Whether the word at an address lies in one of the ranges.
-fn is_in_one(ranges: &[Range], at: u32) -> bool
-    ensures { result ≡ list_any (is_inside at 4) ranges.now }
-{
-    let end = u64::from(at) + 4;
-    ranges.iter().any(|range| range.at <= at && end <= u64::from(range.at) + u64::from(range.len))
+    any_holds(plan.ram.as_slice(), at, 4)
 }
 
 /// The ranges of ram without the words of all cells.

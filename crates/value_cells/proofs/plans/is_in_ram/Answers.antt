@@ -4,4 +4,4 @@ use Rattle.value_cells.proofs.ReadLaws.{in_one}
 use Rattle.value_cells.proofs.plans.is_in_ram.Goals as goal
 
 pub returns : goal.returns
-returns c = in_one c.is_in_one.result c.args.at c.as_slice.result.now (c.args.plan.now).ram (c.as_slice.ensures.value ∙ ap (λ (p : PlanData). p.ram) c.plan.view_is) c.is_in_one.ensures
+returns c = in_one c.any_holds.result c.args.at c.as_slice.result.now (c.args.plan.now).ram (c.as_slice.ensures.value ∙ ap (λ (p : PlanData). p.ram) c.plan.view_is) c.any_holds.ensures
