@@ -6,7 +6,7 @@ use Rattle.tc_isa.specs.Insts.{InstData}
 use Rattle.tc_isa.specs.Shapes.{shape_of}
 use Rattle.value_domain.specs.Limits.{Limits}
 use Rattle.vd_transfer.specs.Effects.{HasRoom}
-use Rattle.cfg_recover.specs.OwnFaults.{FindsFaultless}
+use Rattle.cfg_recover.specs.LocalFaults.{FindsFaultless}
 use Rattle.value_domain.specs.declared.states.State.{State}
 use Rattle.vd_transfer.specs.Registers.{slot}
 use Rattle.depth_cert.specs.declared.keys.Key.{Key}

@@ -17,7 +17,7 @@ use Rattle.vd_transfer.specs.Operations.{value_of}
 use Rattle.vd_transfer.specs.Registers.{slot, reg_of, set_at, set_reg, write_reg, word_val, is_lower}
 use Rattle.vd_transfer.specs.Effects.{with_base, transfer_of}
 use Rattle.vd_transfer.specs.Branches.{is_reg, set_arg, with_one, with_two, refined, lowered, refine_of}
-use Rattle.vd_transfer.specs.Holding.{set_word, with_base_word, words_after, HasValue, HasBaseValue, WritesValues, StaysPlain}
+use Rattle.vd_transfer.specs.Holding.{set_word, with_base_word, words_after, HasValue, HasBaseValue, WritesNoFixedRegister, StaysPlain}
 use Rattle.cfg_recover.specs.Moves.{StaysInFrame}
 use Rattle.cfg_recover.proofs.Went.{set_word-other}
 
@@ -95,7 +95,7 @@ keeps_lower b plan (Mfcr dst number) s loaded word input goes = keeps_write word
 keeps_lower b plan (Mtcr src number) s loaded word input goes = absurd goes.0
 keeps_lower b plan Nothing s loaded word input goes = same_keeps word s
 
-pub keeps_valueless : (shape : Shape) (word : ℕ → ℕ) (input r : ℕ) → WritesValues shape → slot r ≡ None → words_after shape input word r ≡ word r
+pub keeps_valueless : (shape : Shape) (word : ℕ → ℕ) (input r : ℕ) → WritesNoFixedRegister shape → slot r ≡ None → words_after shape input word r ≡ word r
 unfolding words_after
 keeps_valueless (Compute op dst x y) word input r writes none = valueless_set word dst _ r writes none
 keeps_valueless (Scaled dst base index n) word input r writes none = valueless_set word dst _ r writes none

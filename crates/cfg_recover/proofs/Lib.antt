@@ -13,6 +13,6 @@ pub mod FlowDuties
 pub mod FlowStates
 pub mod FrameLaws
 pub mod FlowTargets
-pub mod OwnLaws
+pub mod LocalLaws
 pub mod RomTests
 pub mod EntryChanges

@@ -48,7 +48,7 @@ use Rattle.store_ranges.proofs.Covers.{map_has}
 use Rattle.store_ranges.proofs.Sound.{set_sound, span_sound}
 use Rattle.depth_cert.specs.declared.keys.Key.{Key}
 use Rattle.cfg_recover.specs.Entries.{aln_key, aln_entry, irq_key, irq_entry, call_key, call_entry}
-use Rattle.cfg_recover.specs.Own.{named_by, targets_of, are_aligned}
+use Rattle.cfg_recover.specs.Local.{named_by, targets_of, are_aligned}
 use Rattle.cfg_recover.specs.Duties.{owed, jump, enter, entered_and_back, loaded_at, successors_of, jump_on, misaligned_at, irqs_of, duties_of}
 use Rattle.cfg_recover.specs.Moves.{InState, IsAtPoint, MovesTo, traps, Moved, MovesInFrame, TrapsOwed, CallsOwed, InterruptsOwed, StoresHeld}
 use Rattle.cfg_recover.proofs.EntryLaws.{reg_lt}

@@ -18,7 +18,7 @@ use Rattle.depth_cert.specs.Certs.{CertData, IsCert, find_node}
 use Rattle.depth_cert.proofs.KeyLaws.{found_in, one_number}
 use Rattle.cfg_recover.specs.Code.{IsCode, HasCode}
 use Rattle.cfg_recover.specs.Entries.{start_key}
-use Rattle.cfg_recover.specs.Own.{OwnRule, IsFaultless}
+use Rattle.cfg_recover.specs.Local.{LocalRule, IsFaultless}
 use Rattle.cfg_recover.specs.Duties.{Owed, duties_of}
 use Rattle.cfg_recover.specs.Accepting.{limits_in, IsMet, IsNeedAbove, RuleHolds, HasNeed, HoldsAtNode, Accepts}
 
@@ -41,7 +41,7 @@ pub record PointHolds (image : ImageData) (plan : PlanData) (cert : CertData) (n
   pub code : IsCode image plan p shape size
   pub regs : length s.regs ≡ 27
   pub values : AreValues (limits_in plan cert) s.regs
-  pub own : (r : ℕ) → OwnRule (limits_in plan cert) plan node.key p s shape r
+  pub own : (r : ℕ) → LocalRule (limits_in plan cert) plan node.key p s shape r
   pub met : (d : Owed) → Contains (duties_at image plan cert node p s shape size) d → IsMet cert node s d.duty
   pub locals : length s.locals.items ≤ node.need
   pub entered : (d : Owed) → Contains (duties_at image plan cert node p s shape size) d → IsNeedAbove cert node s d.duty

@@ -17,7 +17,7 @@ use Rattle.tc_machine.specs.Instructions.{does, trap, misaligned}
 use Rattle.tc_machine.proofs.Fetched.{fetched-is}
 use Rattle.value_domain.specs.declared.states.State.{State}
 use Rattle.value_domain.specs.Limits.{Limits}
-use Rattle.vd_transfer.specs.Holding.{WritesValues}
+use Rattle.vd_transfer.specs.Holding.{WritesNoFixedRegister}
 use Rattle.vd_transfer.specs.Soundness.{IsSetting}
 use Rattle.depth_cert.specs.declared.keys.Key.{Key}
 use Rattle.cfg_recover.specs.Moves.{IsAtPoint, traps}
@@ -30,7 +30,7 @@ module _ {b : Limits} {image : ImageData} {plan : PlanData} {key : Key} {m : Mac
   pub bounded : IsShape shape
   bounded = subst IsShape at.code.shaped (shape_is at.code.inst at.code.spells.spelled.inst)
 
-  pub writes : WritesValues shape
+  pub writes : WritesNoFixedRegister shape
   writes = (at.own 13).writes refl
 
   -- the instruction of the point is what the machine fetches

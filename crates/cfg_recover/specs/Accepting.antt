@@ -16,7 +16,7 @@ use Rattle.depth_cert.specs.Nodes.{NodeData}
 use Rattle.depth_cert.specs.Certs.{CertData, find_node}
 use Rattle.cfg_recover.specs.Code.{IsCode}
 use Rattle.cfg_recover.specs.Entries.{start_key, start_state, after_of}
-use Rattle.cfg_recover.specs.Own.{OwnHolds, IsFaultless}
+use Rattle.cfg_recover.specs.Local.{LocalHolds, IsFaultless}
 use Rattle.cfg_recover.specs.Duties.{Duty, jump, enter, resume, leave, Owed, duties_of}
 
 -- the limits of values in a certificate
@@ -59,7 +59,7 @@ pub record HasNeed (image : ImageData) (plan : PlanData) (cert : CertData) (node
 -- own part of a rule fails, nothing is asked of other points and of needs.
 pub record RuleHolds (image : ImageData) (plan : PlanData) (cert : CertData) (node : NodeData) (point : Point) (r : ℕ) : Type 0 where
   pub values : r ≡ 2 → AreValues (limits_in plan cert) (point.state).regs
-  pub own : AreValues (limits_in plan cert) (point.state).regs → OwnHolds (limits_in plan cert) image plan node.key point.addr point.state r
+  pub own : AreValues (limits_in plan cert) (point.state).regs → LocalHolds (limits_in plan cert) image plan node.key point.addr point.state r
   pub covered :
       (shape : Shape) (n : ℕ) (d : Owed) → AreValues (limits_in plan cert) (point.state).regs
       → IsFaultless (limits_in plan cert) image plan node.key point.addr point.state → IsCode image plan point.addr shape n

@@ -13,9 +13,9 @@ use Rattle.vd_transfer.specs.Registers.{word_val}
 use Rattle.vd_transfer.specs.Effects.{address_of}
 use Rattle.vd_transfer.specs.Changes.{kept_of, no_put, reg_put}
 use Rattle.depth_cert.specs.declared.keys.Key.{Key}
-use Rattle.cfg_recover.specs.declared.own.Found.{Found}
+use Rattle.cfg_recover.specs.declared.local.Located.{Located}
 use Rattle.cfg_recover.specs.Code.{IsCode}
-use Rattle.cfg_recover.specs.Own.{IsFaultless}
+use Rattle.cfg_recover.specs.Local.{IsFaultless}
 
 -- a called function begins with its caller's values and without locals
 abbrev pub call_change : State → Change
@@ -43,7 +43,7 @@ abbrev pub misaligned_change : Val → ℕ → Change
 misaligned_change sp ccpn = record (handler_change sp ccpn) { second = reg_put 15 (word_val 4) }
 
 -- an instruction of this shape, size and address of its access is at p, and no rule's own part fails there
-pub record StandsFaultless (b : Limits) (image : ImageData) (plan : PlanData) (key : Key) (p : ℕ) (s : State) (found : Found) : Type 0 where
+pub record StandsFaultless (b : Limits) (image : ImageData) (plan : PlanData) (key : Key) (p : ℕ) (s : State) (found : Located) : Type 0 where
   pub faultless : IsFaultless b image plan key p s
   pub code : IsCode image plan p found.shape found.size
   pub shape : IsShape found.shape

@@ -17,7 +17,7 @@ use Rattle.store_ranges.specs.Loads.{loaded_of}
 use Rattle.depth_cert.specs.declared.keys.Key.{Key}
 use Rattle.depth_cert.specs.declared.points.Exit.{Exit}
 use Rattle.cfg_recover.specs.Entries.{call_key, irq_key, sys_key, aln_key, call_entry, irq_entry, sys_entry, aln_entry, exit_of}
-use Rattle.cfg_recover.specs.Own.{targets_of, are_aligned}
+use Rattle.cfg_recover.specs.Local.{targets_of, are_aligned}
 
 -- One duty. A jump: the same node has a point at this address that covers the state. An entry: the node of this key stands,
 -- and its point at its entry covers the state. A resuming: where the node of this key has an exit, the same node has a point

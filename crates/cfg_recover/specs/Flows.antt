@@ -15,7 +15,7 @@ use Rattle.cfg_recover.specs.declared.flows.Leave.TheVariants.{Stays, Ret, Rfe}
 use Rattle.cfg_recover.specs.declared.flows.Flow.{Flow}
 use Rattle.cfg_recover.specs.Code.{IsCode}
 use Rattle.cfg_recover.specs.Entries.{irq_key, irq_entry, exit_of}
-use Rattle.cfg_recover.specs.Own.{IsFaultless}
+use Rattle.cfg_recover.specs.Local.{IsFaultless}
 use Rattle.cfg_recover.specs.Duties.{Owed, owed, enter, resume, leave, jumps_to, duties_of}
 
 -- the duties of one told jump

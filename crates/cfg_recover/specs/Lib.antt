@@ -11,6 +11,6 @@ pub mod Flows
 pub mod FrameLaws
 pub mod Frames
 pub mod Moves
-pub mod Own
-pub mod OwnFaults
+pub mod Local
+pub mod LocalFaults
 pub mod Refusals

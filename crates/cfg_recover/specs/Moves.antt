@@ -23,7 +23,7 @@ use Rattle.vd_transfer.specs.Holding.{Holds}
 use Rattle.depth_cert.specs.declared.keys.Key.{Key}
 use Rattle.cfg_recover.specs.Code.{IsCode}
 use Rattle.cfg_recover.specs.Entries.{call_key, irq_key, aln_key, call_entry, irq_entry, aln_entry}
-use Rattle.cfg_recover.specs.Own.{OwnRule}
+use Rattle.cfg_recover.specs.Local.{LocalRule}
 use Rattle.cfg_recover.specs.Duties.{owed, jump, enter, resume, duties_of}
 use Rattle.tc_mem.specs.PlanMemory.{HoldsRom, IsPlanMemory}
 
@@ -41,7 +41,7 @@ pub record IsAtPoint (b : Limits) (image : ImageData) (plan : PlanData) (key : K
   pub memory : IsPlanMemory plan m.mem
   pub rom : HoldsRom image plan m.mem
   pub code : IsCode image plan m.pc shape n
-  pub own : (r : ℕ) → OwnRule b plan key m.pc s shape r
+  pub own : (r : ℕ) → LocalRule b plan key m.pc s shape r
   pub regs : length s.regs ≡ 27
   pub values : AreValues b s.regs
   pub inside : InState plan m s

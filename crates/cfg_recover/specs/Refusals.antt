@@ -10,7 +10,7 @@ use Rattle.value_domain.specs.Thresholds.{limits_for}
 use Rattle.depth_cert.specs.declared.keys.Key.{Key}
 use Rattle.depth_cert.specs.Keys.{number_of_key}
 use Rattle.cfg_recover.specs.Entries.{start_key}
-use Rattle.cfg_recover.specs.Own.{IsOwnFault}
+use Rattle.cfg_recover.specs.Local.{IsLocalFault}
 use Rattle.cfg_recover.specs.Duties.{enter}
 use Rattle.cfg_recover.specs.Assignments.{Place, point, exit, state, Assignment, same_key, same_place, Asks, HasDuty, Joins, Derived, Closed}
 
@@ -46,7 +46,7 @@ pub record Passes (b : Limits) (image : ImageData) (plan : PlanData) (k : Key) (
 -- ---- faults
 -- the rule's own part fails at a point; or states with unequal numbers of locals meet there
 pub data HasFault (b : Limits) (image : ImageData) (plan : PlanData) (a : Assignment) : ℕ → Key → ℕ → Type 0 where
-  own : (r : ℕ) (k : Key) (p : ℕ) (s : State) → a (point k p) ≡ Some (state s) → IsOwnFault b image plan k p s r → HasFault b image plan a r k p
+  own : (r : ℕ) (k : Key) (p : ℕ) (s : State) → a (point k p) ≡ Some (state s) → IsLocalFault b image plan k p s r → HasFault b image plan a r k p
   locals :
       (k : Key) (p : ℕ) (s t : State) → a (point k p) ≡ Some (state s) → Asks b image plan a (point k p) (state t) → joined b s t ≡ None
       → HasFault b image plan a 8 k p

@@ -20,7 +20,7 @@ fn stack(b: &Bounds, plan: &Plan, key: &Key, s: &State) -> Val
     ensures stack { result ≡ stack_of plan.now key.now s.now }
     ensures value { IsValue b.now result }
 {
-    let _width = b.width();
+    let _most_words = b.most_words();
     let _globals = &plan.globals;
     if key.is {
         reg(plan, s, 26)
@@ -33,7 +33,7 @@ pub(crate) fn constant(b: &Bounds, x: u32) -> Val
     ensures word { result ≡ word_val x }
     ensures value { IsValue b.now result }
 {
-    let _width = b.width();
+    let _most_words = b.most_words();
     Val::one(x)
 }
 
@@ -82,7 +82,7 @@ pub fn handler_change(b: &Bounds, plan: &Plan, key: &Key, s: &State, ccpn: u8) -
     ensures entry { changed s.now result ≡ entry_with (stack_of plan.now key.now s.now) false ccpn true }
     ensures values { AreValues b.now (changed s.now result).regs }
 {
-    let _width = b.width();
+    let _most_words = b.most_words();
     handler_with(s, stack(b, plan, key, s), ccpn)
 }
 
@@ -92,7 +92,7 @@ pub fn misaligned_change(b: &Bounds, plan: &Plan, key: &Key, s: &State) -> Chang
     ensures entry { changed s.now result ≡ aln_entry plan.now key.now s.now }
     ensures values { AreValues b.now (changed s.now result).regs }
 {
-    let _width = b.width();
+    let _most_words = b.most_words();
     let mut c = handler_with(s, stack(b, plan, key, s), s.ccpn);
     c.second = put_register(15, constant(b, 4));
     c

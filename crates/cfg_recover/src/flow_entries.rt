@@ -4,7 +4,7 @@ ghost use Rattle.tc_isa.specs.Shapes.{shape_of};
 ghost use Rattle.value_domain.specs.Values.{IsValue};
 ghost use Rattle.value_domain.specs.State.{AreValues};
 ghost use Rattle.store_ranges.specs.Accesses.{IsSize};
-ghost use Rattle.cfg_recover.specs.Own.{are_aligned};
+ghost use Rattle.cfg_recover.specs.Local.{are_aligned};
 ghost use Rattle.cfg_recover.specs.Duties.{entries_of, misaligned_at, misaligned_of, leavings_of};
 ghost use Rattle.cfg_recover.specs.FlowValues.{EntersWithValues};
 ghost use Rattle.cfg_recover.specs.Flows.{told_entry, rule_of_entry, told_leaving, leave_of};
@@ -105,7 +105,7 @@ pub fn is_aligned(b: &Bounds, at: &Val, size: u8) -> bool
     requires size { IsSize size }
     ensures { result ≡ are_aligned at.now size }
 {
-    let _width = b.width();
+    let _most_words = b.most_words();
     aligned(at, size)
 }
 

@@ -7,14 +7,14 @@ ghost use Rattle.cfg_recover.specs.Duties.{duties_of};
 ghost use Rattle.cfg_recover.specs.Entries.{irq_entry};
 ghost use Rattle.cfg_recover.specs.FlowValues.{HasValues};
 ghost use Rattle.cfg_recover.specs.Flows.{told_by, leave_of, Tells};
-ghost use Rattle.cfg_recover.specs.Own.{IsOwnFault};
+ghost use Rattle.cfg_recover.specs.Local.{IsLocalFault};
 
 use crate::Flow;
 use crate::entry_changes::handler_change;
 use crate::flow_entries::{entry, leaving, misaligned};
 use crate::flow_interrupts::interrupts;
 use crate::flow_successors::successors;
-use crate::own::own_or_code;
+use crate::local::local_or_code;
 use depth_cert::Key;
 use elf_image::Image;
 use tc_isa::Inst;
@@ -33,11 +33,11 @@ pub fn flow(
     s: &State,
 ) -> Result<Flow, u8>
     requires { AreValues b.now s.now.regs }
-    ensures fault { IfErr result (IsOwnFault b.now image.now plan.now key.now addr s.now) }
+    ensures fault { IfErr result (IsLocalFault b.now image.now plan.now key.now addr s.now) }
     ensures duties { IfOk result (Tells b.now image.now plan.now key.now addr s.now) }
     ensures values { IfOk result (HasValues b.now) }
 {
-    match own_or_code(b, image, plan, key, addr, s) {
+    match local_or_code(b, image, plan, key, addr, s) {
         Ok((inst, size)) => Ok(flow_of(b, image, plan, key, addr, s, &inst, size)),
         Err(rule) => Err(rule),
     }

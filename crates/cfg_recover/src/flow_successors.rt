@@ -120,6 +120,6 @@ fn any(b: &Bounds) -> Val
     ensures any { result ≡ any_val }
     ensures value { IsValue b.now result }
 {
-    let _width = b.width();
+    let _most_words = b.most_words();
     Val::any()
 }

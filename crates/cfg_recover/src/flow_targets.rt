@@ -2,7 +2,7 @@
 ghost use Rattle.std.specs.Prelude.{◌≡◌, ◌<◌, ◌≤◌, ◌-◌, ◌*◌, ◌/◌, ◌↔◌, [], ◌∷◌, ℕ, IsTrue, Some, length, map, slice_get, unwrap_or};
 ghost use Rattle.tc_isa.specs.Bounded.{IsTarget};
 ghost use Rattle.value_domain.specs.Sets.{Among, AreWords, Rising, distinct, put};
-ghost use Rattle.cfg_recover.specs.Own.{named_by, targets_of};
+ghost use Rattle.cfg_recover.specs.Local.{named_by, targets_of};
 
 use arrayvec::ArrayVec;
 use tc_isa::Target;

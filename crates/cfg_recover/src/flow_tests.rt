@@ -90,7 +90,7 @@ fn put(b: &Bounds, s: &mut State, i: usize, v: Val)
 fn any_state(b: &Bounds) -> State
     ensures { AreValues b.now result.regs }
 {
-    let _width = b.width();
+    let _most_words = b.most_words();
     State {
         regs: any_regs(),
         ie: true,

@@ -1,4 +1,4 @@
-//! The duties of a certificate's points.
+//! The rules of certificates: what a point owes, and when a certificate is accepted.
 #![tactic(auto)]
 
 mod code;
@@ -11,8 +11,8 @@ mod flow_successors;
 mod flow_targets;
 mod flows;
 mod laws;
-mod own;
-mod own_rules;
+mod local;
+mod local_rules;
 mod start;
 
 pub use code::code_at;
@@ -25,7 +25,7 @@ pub use flow_successors::loaded_from;
 pub use flow_targets::targets;
 pub use flows::{Enter, Flow, Jump, Leave};
 pub use laws::{fault_laws, frame_laws, move_laws};
-pub use own::{Found, faultless};
+pub use local::{Located, local_check};
 pub use start::start_state;
 
 #[cfg(test)]

@@ -16,7 +16,7 @@ pub use contexts::{load_lower, load_upper, lower_words, upper_words};
 pub use links::{PcxiParts, address_of, link_of, pcxi_parts, pcxi_word};
 
 /// What a save, a restore and a store do to the chains.
-pub fn laws_of_chains()
+pub fn chain_laws()
     ensures save { (mem : Memory) (pcxi fcx f : ℕ) (free used : List ℕ) → SaveMoves mem pcxi fcx f free used }
     ensures restore { (mem : Memory) (pcxi fcx l : ℕ) (used free : List ℕ) → RestoreMoves mem pcxi fcx l used free }
     ensures misses { StoreMisses }
@@ -24,20 +24,20 @@ pub fn laws_of_chains()
 {}
 
 /// What a save and a restore by the owner of one of several chains do to all of them.
-pub fn laws_of_several_chains()
+pub fn several_chains_laws()
     ensures saves { OwnerSaves }
     ensures restores { OwnerRestores }
 {}
 
 /// What fields and registers are once they have gone into words and come back.
-pub fn laws_of_contexts()
+pub fn context_laws()
     ensures fields { FieldsComeBack }
     ensures upper { UpperComesBack }
     ensures lower { LowerComesBack }
 {}
 
 /// What is read after words are written, and that bytes stay bytes and words stay words.
-pub fn laws_of_memories()
+pub fn memory_laws()
     ensures written { WordsComeBack }
     ensures bytes { BytesStay }
     ensures words { WordsStay }

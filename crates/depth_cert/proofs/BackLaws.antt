@@ -6,12 +6,12 @@ use Rattle.std.proofs.lemmas.List.{append-nil}
 use Rattle.std.proofs.lemmas.List.Sums.{sum_by-append, sum_by-cons}
 use Rattle.std.specs.List.{All, flat_map}
 use Rattle.std.specs.List.Sorted.{IsStrictlyIncreasing}
-use Rattle.tcd_base.specs.declared.parts.FormErr.{FormErr}
+use Rattle.tcd_base.specs.declared.types.FormErr.{FormErr}
 use Rattle.tcd_base.specs.Bytes.{bytes_of_half, bytes_of_word}
 use Rattle.tcd_base.specs.Place.{Place, between}
 use Rattle.tcd_base.specs.Reading.{u8_at, u16_at, u32_at}
 use Rattle.value_domain.specs.declared.states.State.{State}
-use Rattle.value_domain.specs.Versions.{most_of}
+use Rattle.value_domain.specs.Versions.{most_locals_of}
 use Rattle.depth_cert.specs.declared.keys.Key.{Key}
 use Rattle.depth_cert.specs.declared.points.Exit.{Exit}
 use Rattle.depth_cert.specs.declared.points.Point.{Point}
@@ -38,11 +38,11 @@ flags_read all = subst (λ (l : List ℕ). IsRead (many_at (λ before. flag_at) 
     singles [] = refl
     singles (x ∷ xs) = ap (λ (l : List ℕ). byte_of x ∷ l) (singles xs)
 
-locals_read : (version : ℕ) (ls : List Bool) → length ls ≤ most_of version → IsRead (locals_at version) (length ls ∷ map byte_of ls) ls
+locals_read : (version : ℕ) (ls : List Bool) → length ls ≤ most_locals_of version → IsRead (locals_at version) (length ls ∷ map byte_of ls) ls
 unfolding locals_at
 locals_read version ls few =
     seq u8_at _ (length ls ∷ []) (map byte_of ls) (length ls) ls (byte (length ls))
-    (λ start. seq (λ p. checked 5 (leb (length ls) (most_of version)) start (length ls, p)) _ [] (map byte_of ls) (length ls) ls (test 5 (leb (length ls) (most_of version)) start (length ls) (le-leb _ _ few)) (λ p0. flags_read ls))
+    (λ start. seq (λ p. checked 5 (leb (length ls) (most_locals_of version)) start (length ls, p)) _ [] (map byte_of ls) (length ls) ls (test 5 (leb (length ls) (most_locals_of version)) start (length ls) (le-leb _ _ few)) (λ p0. flags_read ls))
 
 state_read : (version : ℕ) (s : State) → IsState version s → IsRead (state_at version) (bytes_of_state s) s
 unfolding state_at bytes_of_state

@@ -8,7 +8,7 @@ use Rattle.tcd_base.specs.Place.{Place, between}
 use Rattle.tcd_base.specs.Reading.{u8_at, u32_at}
 use Rattle.tcd_base.proofs.FieldReads.{bind_ok}
 use Rattle.value_domain.specs.declared.states.State.{State}
-use Rattle.value_domain.specs.Versions.{most_of}
+use Rattle.value_domain.specs.Versions.{most_locals_of}
 use Rattle.depth_cert.specs.declared.keys.Key.{Key}
 use Rattle.depth_cert.specs.declared.points.Point.{Point}
 use Rattle.depth_cert.specs.Keys.{byte_of, key_number, number_of_key, IsKey}
@@ -25,19 +25,19 @@ flat_map-flags [] = refl
 flat_map-flags (x ∷ xs) = ap (λ (l : List ℕ). byte_of x ∷ l) (flat_map-flags xs)
 
 locals_passed : (version : ℕ) (front rest : List ℕ) (ls : List Bool) (q : Place) → AreBytes rest → locals_at version (between front rest) ≡ Ok (ls, q)
-    → Passed (length ls ∷ map byte_of ls) front rest q × (length ls ≤ most_of version)
+    → Passed (length ls ∷ map byte_of ls) front rest q × (length ls ≤ most_locals_of version)
 unfolding locals_at
 locals_passed version front rest ls q bytes e =
     let b = bind_ok (u8_at (between front rest)) _ _ e in
     let n : ℕ = b.0.0 in
     let h = byte_passed front rest n b.0.1 bytes b.1 in
-    let c = bind_ok (checked 5 (leb n (most_of version)) (between front rest) b.0) _ _ b.2 in
-    let t = checked_passed 5 (leb n (most_of version)) (between front rest) b.0 c.0 c.1 in
+    let c = bind_ok (checked 5 (leb n (most_locals_of version)) (between front rest) b.0) _ _ b.2 in
+    let t = checked_passed 5 (leb n (most_locals_of version)) (between front rest) b.0 c.0 c.1 in
     let left : many_at (λ before. flag_at) n [] b.0.1 ≡ Ok (ls, q) = rw t.1 c.2 in
     let m = many_passed (λ before. flag_at) (λ x. byte_of x ∷ []) (λ ls. Unit {0}) (λ before front rest x q bytes good e. (flag_passed front rest x q bytes e, tt)) n [] ls (front ++ n ∷ []) h.0.after q (passed_bytes h.0 bytes) tt (next (many_at (λ before. flag_at) n []) _ h.0 left) in
     let count : length ls ≡ n = ap length m.is ∙ m.count in
     let part : flat_map (λ x. byte_of x ∷ []) m.items ≡ map byte_of ls = flat_map-flags m.items ∙ ap (map byte_of) (sym m.is) in
-    let most : n ≤ most_of version = leb-true _ _ t.0 in
+    let most : n ≤ most_locals_of version = leb-true _ _ t.0 in
     (subst (λ k. Passed (k ∷ map byte_of ls) front rest q) (sym count) (passed_both h.0 (subst (λ (l : List ℕ). Passed l (front ++ n ∷ []) h.0.after q) part m.passed)), omega arith)
 
 state_bytes : (s : State) → byte_of s.ie ∷ s.ccpn ∷ byte_of s.lower ∷ length s.locals.items ∷ map byte_of s.locals.items ++ flat_map bytes_of_value s.regs ≡ bytes_of_state s

@@ -5,7 +5,7 @@ use Rattle.std.proofs.lemmas.Bool.Decides.{nat_tests}
 use Rattle.std.proofs.lemmas.List.Elements.{All-nil, All-push}
 use Rattle.std.specs.List.{All, flat_map}
 use Rattle.std.specs.List.Sorted.{IsStrictlyIncreasing}
-use Rattle.tcd_base.specs.declared.parts.FormErr.{FormErr}
+use Rattle.tcd_base.specs.declared.types.FormErr.{FormErr}
 use Rattle.tcd_base.specs.Bytes.{bytes_of_word}
 use Rattle.tcd_base.specs.Place.{Place, between}
 use Rattle.tcd_base.specs.Reading.{fault_at, u8_at, u32_at}
@@ -13,7 +13,7 @@ use Rattle.tcd_base.proofs.FieldReads.{bind_ok}
 use Rattle.value_domain.specs.declared.values.Val.{Val}
 use Rattle.value_domain.specs.declared.values.Val.TheVariants.{Set, Span}
 use Rattle.value_domain.specs.Values.{any_val, count_in}
-use Rattle.value_domain.specs.Versions.{width_of, most_of}
+use Rattle.value_domain.specs.Versions.{most_words_of, most_locals_of}
 use Rattle.value_domain.proofs.WordLaws.{rising_from, among_place}
 use Rattle.depth_cert.specs.Keys.{byte_of}
 use Rattle.depth_cert.specs.Points.{IsWellOf}
@@ -45,10 +45,10 @@ flag_passed front rest x q bytes e =
     subst (λ (r : Place). Passed (byte_of x ∷ []) front rest r) f.1 (subst (λ n. Passed (n ∷ []) front rest b.0.1) f.0 h.0)
 
 -- ---- values
-pub width_le : (version : ℕ) → (64 ≤ width_of version) × (width_of version ≤ 128)
+pub width_le : (version : ℕ) → (64 ≤ most_words_of version) × (most_words_of version ≤ 128)
 width_le version = grind (arith, nat_tests)
 
-pub most_le : (version : ℕ) → most_of version ≤ 8
+pub most_le : (version : ℕ) → most_locals_of version ≤ 8
 most_le version = grind (arith, nat_tests)
 
 -- words that ascend
@@ -66,7 +66,7 @@ word_after_passed before front rest x q bytes good e =
     let h = word_passed front rest x q bytes (b.1 ∙ ap (λ (v : ℕ × Place). Ok v) t.1) in
     (h.0, record { rising = rising_push before x good.rising (rw same at t.0); below = All-push (λ w. w < 2 ^ 32) before x good.below h.1 })
 
-words_are : (version n : ℕ) (ws : List ℕ) → length ws ≡ n → 1 ≤ n → n ≤ width_of version → AreAscending ws → IsWellOf version (Set ws)
+words_are : (version n : ℕ) (ws : List ℕ) → length ws ≡ n → 1 ≤ n → n ≤ most_words_of version → AreAscending ws → IsWellOf version (Set ws)
 words_are version n ws len some few h = (
   record {
     some = omega arith;
@@ -77,7 +77,7 @@ words_are version n ws len some few h = (
   omega arith,
 )
 
-pub set_passed : (version n : ℕ) (front rest : List ℕ) (v : Val) (q : Place) → AreBytes rest → 1 ≤ n → n ≤ width_of version → set_at n (between front rest) ≡ Ok (v, q)
+pub set_passed : (version n : ℕ) (front rest : List ℕ) (v : Val) (q : Place) → AreBytes rest → 1 ≤ n → n ≤ most_words_of version → set_at n (between front rest) ≡ Ok (v, q)
     → (ws : List ℕ) × (v ≡ Set ws) × (length ws ≡ n) × Passed (flat_map bytes_of_word ws) front rest q × IsWellOf version (Set ws)
 unfolding set_at
 set_passed version n front rest v q bytes some few e =
@@ -101,7 +101,7 @@ span_passed version step start front rest v q bytes small e =
     let t = passed_test (is_span version lo.0.0 last.0.0 step) (Span lo.0.0 last.0.0 step, last.0.1) (v, q) _ last.2 in
     let value : Span lo.0.0 last.0.0 step ≡ v = ap (λ (x : Val × Place). x.0) t.1 in
     let at : last.0.1 ≡ q = ap (λ (x : Val × Place). x.1) t.1 in
-    let good = and_parts (ltb (width_of version) (count_in lo.0.0 last.0.0 step)) (not (is_any lo.0.0 last.0.0 step)) t.0 in (
+    let good = and_parts (ltb (most_words_of version) (count_in lo.0.0 last.0.0 step)) (not (is_any lo.0.0 last.0.0 step)) t.0 in (
       bytes_of_word lo.0.0 ++ bytes_of_word last.0.0,
       ap bytes_of_value (sym value) ∙ any_is lo.0.0 last.0.0 step (not_true _ good.1),
       subst (λ (r : Place). Passed (bytes_of_word lo.0.0 ++ bytes_of_word last.0.0) front rest r) at (passed_both h.0 k.0),
@@ -144,7 +144,7 @@ value_passed version front rest v q bytes e =
     let b = bind_ok (u8_at (between front rest)) _ _ e in
     let n : ℕ = b.0.0 in
     let h = byte_passed front rest n b.0.1 bytes b.1 in
-    elim (chosen (eqb n 0) (leb n (width_of version)) (leb 240 n && leb n 242) _ _ _ _ _ b.2) [
+    elim (chosen (eqb n 0) (leb n (most_words_of version)) (leb 240 n && leb n 242) _ _ _ _ _ b.2) [
       | inl c ↦
           let f = ok_pair any_val v b.0.1 q c.1 in
           let zeroth : n ≡ 0 = eqb-true _ _ c.0 in

@@ -8,7 +8,7 @@ use Rattle.std.proofs.lemmas.List.Sums.{sum_by-le, sum_by-cons}
 use Rattle.value_domain.specs.declared.values.Val.{Val}
 use Rattle.value_domain.specs.declared.values.Val.TheVariants.{Set, Span}
 use Rattle.value_domain.specs.declared.states.State.{State}
-use Rattle.value_domain.specs.Versions.{width_of, most_of}
+use Rattle.value_domain.specs.Versions.{most_words_of, most_locals_of}
 use Rattle.tcd_base.specs.Bytes.{bytes_of_word}
 use Rattle.depth_cert.specs.declared.points.Exit.{Exit}
 use Rattle.depth_cert.specs.declared.points.Point.{Point}

@@ -7,7 +7,7 @@ use Rattle.std.proofs.lemmas.List.Elements.{All-nil, All-push}
 use Rattle.std.proofs.lemmas.List.Sums.{sum_by-append}
 use Rattle.std.specs.List.{All, flat_map}
 use Rattle.std.specs.List.Sorted.{IsStrictlyIncreasing}
-use Rattle.tcd_base.specs.declared.parts.FormErr.{FormErr}
+use Rattle.tcd_base.specs.declared.types.FormErr.{FormErr}
 use Rattle.tcd_base.specs.Bytes.{bytes_of_half, bytes_of_word}
 use Rattle.tcd_base.specs.Place.{Place, between}
 use Rattle.tcd_base.specs.Reading.{◌>>=◌, u8_at, u16_at, u32_at}

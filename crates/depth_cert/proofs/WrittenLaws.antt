@@ -8,7 +8,7 @@ use Rattle.value_domain.proofs.CoverLaws.{step_cases}
 use Rattle.value_domain.proofs.Loops.{among_get}
 use Rattle.std.specs.List.{All, flat_map}
 use Rattle.std.specs.List.Sorted.{IsStrictlyIncreasing}
-use Rattle.tcd_base.specs.declared.parts.FormErr.{FormErr}
+use Rattle.tcd_base.specs.declared.types.FormErr.{FormErr}
 use Rattle.tcd_base.specs.Bytes.{bytes_of_half, bytes_of_word}
 use Rattle.tcd_base.specs.Place.{Place, between}
 use Rattle.tcd_base.specs.Reading.{◌>>=◌, u8_at, u16_at, u32_at}
@@ -17,7 +17,7 @@ use Rattle.value_domain.specs.declared.values.Val.{Val}
 use Rattle.value_domain.specs.declared.values.Val.TheVariants.{Set, Span}
 use Rattle.value_domain.specs.Sets.{AreWords, Rising}
 use Rattle.value_domain.specs.Values.{any_val, count_in}
-use Rattle.value_domain.specs.Versions.{width_of}
+use Rattle.value_domain.specs.Versions.{most_words_of}
 use Rattle.depth_cert.specs.Keys.{byte_of}
 use Rattle.depth_cert.specs.Points.{IsWellOf}
 use Rattle.depth_cert.specs.Grammar.{many_at, checked, is_above, is_any, is_span, flag_at, word_after, set_at, span_at, value_at, values_at}
@@ -145,7 +145,7 @@ pub value_cases : (version : ℕ) (v : Val) → IsWellOf version v → IsRead (v
 unfolding value_at bytes_of_value
 value_cases version (Set ws) h =
     let not_zero : eqb (length ws) 0 ≡ false = ne_eqb _ _ (λ same. let s : length ws ≡ 0 = same in omega (arith, h.0.some)) in
-    let in_width : leb (length ws) (width_of version) ≡ true = le-leb _ _ h.1 in
+    let in_width : leb (length ws) (most_words_of version) ≡ true = le-leb _ _ h.1 in
     seq u8_at _ (length ws ∷ []) (flat_map bytes_of_word ws) (length ws) (Set ws) (byte (length ws))
     (λ start. record { at = λ front rest. rw (not_zero, in_width) ((set_read version ws (rising_words ws h.0) (below_words ws h.0)).at front rest) })
 value_cases version (Span lo last step) h = by_any (is_any lo last step) version lo last step h refl
@@ -162,11 +162,11 @@ value_cases version (Span lo last step) h = by_any (is_any lo last step) version
         subst (λ (v : Val). IsRead (value_at version) (0 ∷ []) v) whole (seq u8_at _ (0 ∷ []) [] 0 any_val (byte 0) (λ start. done any_val))
     by_any false version lo last step h e =
         let not_zero : eqb (240 + step) 0 ≡ false = ne_eqb _ _ (λ same. let s : 240 + step ≡ 0 = same in omega arith) in
-        let past : leb (240 + step) (width_of version) ≡ false = lt-leb _ _ (omega (arith, (width_le version).1)) in
+        let past : leb (240 + step) (most_words_of version) ≡ false = lt-leb _ _ (omega (arith, (width_le version).1)) in
         let low : leb 240 (240 + step) ≡ true = le-leb _ _ (omega arith) in
         let high : leb (240 + step) 242 ≡ true = le-leb _ _ (omega (arith, h.0)) in
         let step_is : 240 + step - 240 ≡ step = omega arith in
-        let many : ltb (width_of version) (count_in lo last step) ≡ true = lt-ltb _ _ h.1 in
+        let many : ltb (most_words_of version) (count_in lo last step) ≡ true = lt-ltb _ _ h.1 in
         let good : is_span version lo last step ≡ true = rw (many, e) refl in
         seq u8_at _ ((240 + step) ∷ []) (bytes_of_word lo ++ bytes_of_word last) (240 + step) (Span lo last step) (byte (240 + step))
         (λ start. record { at = λ front rest. rw (not_zero, past, low, high, step_is) ((span_read version step start lo last (lo_small step h.0 lo last (omega (arith, h.1)) h.2) h.2 good).at front rest) })

@@ -1,14 +1,14 @@
 -- The grammar of certificates: fields read from left to right, and the first fault. Its kinds are 1 Short (of every
 -- field), 2 Magic, 3 Order, 4 BadValue, 5 Limit, 6 Trailing.
 use Rattle.std.specs.Prelude.{◌+◌, ◌-◌, ◌^◌, ◌==◌, ◌&&◌, ◌||◌, not, nat_lt, nat_le, if◌then◌else◌, ℕ, zero, suc, Bool, true, List, [], ◌∷◌, ◌++◌, length, Option, Some, None, Result, Ok}
-use Rattle.tcd_base.specs.declared.parts.FormErr.{FormErr}
+use Rattle.tcd_base.specs.declared.types.FormErr.{FormErr}
 use Rattle.tcd_base.specs.Place.{Place}
 use Rattle.tcd_base.specs.Reading.{◌>>=◌, fault_at, u8_at, u16_at, u32_at}
 use Rattle.value_domain.specs.declared.values.Val.{Val}
 use Rattle.value_domain.specs.declared.values.Val.TheVariants.{Set, Span}
 use Rattle.value_domain.specs.declared.states.State.{State}
 use Rattle.value_domain.specs.Values.{any_val, count_in}
-use Rattle.value_domain.specs.Versions.{width_of, most_of}
+use Rattle.value_domain.specs.Versions.{most_words_of, most_locals_of}
 use Rattle.depth_cert.specs.declared.keys.Key.{Key}
 use Rattle.depth_cert.specs.declared.points.Exit.{Exit}
 use Rattle.depth_cert.specs.declared.points.Point.{Point}
@@ -52,7 +52,7 @@ is_any lo last step = lo == 0 && last == 4294967295 && step == 0
 
 -- more members than a Set may have (so lo isn't above last), and not all words, which have their own spelling
 abbrev pub is_span : ℕ → ℕ → ℕ → ℕ → Bool
-is_span version lo last step = nat_lt (width_of version) (count_in lo last step) && not (is_any lo last step)
+is_span version lo last step = nat_lt (most_words_of version) (count_in lo last step) && not (is_any lo last step)
 
 -- a Span whose first byte is at start
 unfoldable pub span_at : ℕ → ℕ → Place → Place → Result (Val × Place) FormErr
@@ -64,7 +64,7 @@ unfoldable pub value_at : ℕ → Place → Result (Val × Place) FormErr
 value_at version p =
     u8_at p >>= λ b.
     if b.0 == 0 then Ok (any_val, b.1)
-    else if nat_le b.0 (width_of version) then set_at b.0 b.1
+    else if nat_le b.0 (most_words_of version) then set_at b.0 b.1
     else if nat_le 240 b.0 && nat_le b.0 242 then span_at version (b.0 - 240) p b.1
     else fault_at 4 p
 
@@ -76,7 +76,7 @@ values_at version n p = many_at (λ before. value_at version) n [] p
 -- a state's locals: how many, at most the version's limit, and a flag for each
 unfoldable pub locals_at : ℕ → Place → Result (List Bool × Place) FormErr
 locals_at version p =
-    u8_at p >>= λ n. checked 5 (nat_le n.0 (most_of version)) p n >>= λ n. many_at (λ before. flag_at) n.0 [] n.1
+    u8_at p >>= λ n. checked 5 (nat_le n.0 (most_locals_of version)) p n >>= λ n. many_at (λ before. flag_at) n.0 [] n.1
 
 -- a state: ie, ccpn, lower, the locals, and the values of its 27 registers
 unfoldable pub state_at : ℕ → Place → Result (State × Place) FormErr

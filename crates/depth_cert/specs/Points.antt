@@ -7,21 +7,21 @@ use Rattle.value_domain.specs.declared.values.Val.TheVariants.{Set, Span}
 use Rattle.value_domain.specs.declared.states.State.{State}
 use Rattle.value_domain.specs.Sets.{AreWords}
 use Rattle.value_domain.specs.Values.{count_in}
-use Rattle.value_domain.specs.Versions.{width_of, most_of}
+use Rattle.value_domain.specs.Versions.{most_words_of, most_locals_of}
 use Rattle.depth_cert.specs.declared.points.Exit.{Exit}
 use Rattle.depth_cert.specs.declared.points.Point.{Point}
 
 -- a well-formed value of the version: a Set within its width, or a Span of more members than that
 abbrev pub IsWellOf : ℕ → Val → Type 0
-IsWellOf version (Set ws) = AreWords ws × (length ws ≤ width_of version)
-IsWellOf version (Span lo last step) = (step ≤ 2) × (width_of version < count_in lo last step) × (last < 2 ^ 32)
+IsWellOf version (Set ws) = AreWords ws × (length ws ≤ most_words_of version)
+IsWellOf version (Span lo last step) = (step ≤ 2) × (most_words_of version < count_in lo last step) × (last < 2 ^ 32)
 
 -- a state that a certificate of the version may have
 pub record IsState (version : ℕ) (s : State) : Type 0 where
   pub regs : length s.regs ≡ 27
   pub values : All (IsWellOf version) s.regs
   pub ccpn : s.ccpn < 2 ^ 8
-  pub locals : length s.locals.items ≤ most_of version
+  pub locals : length s.locals.items ≤ most_locals_of version
 
 -- a point that a certificate of the version may have
 pub record IsPoint (version : ℕ) (p : Point) : Type 0 where

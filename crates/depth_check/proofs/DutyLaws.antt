@@ -21,10 +21,10 @@ use Rattle.cfg_recover.specs.declared.flows.Enter.{Enter}
 use Rattle.cfg_recover.specs.declared.flows.Leave.{Leave}
 use Rattle.cfg_recover.specs.declared.flows.Leave.TheVariants.{Stays, Ret, Rfe}
 use Rattle.vd_transfer.specs.Effects.{HasRoom}
-use Rattle.cfg_recover.specs.declared.own.Found.{Found}
+use Rattle.cfg_recover.specs.declared.local.Located.{Located}
 use Rattle.cfg_recover.specs.Changes.{StandsFaultless}
 use Rattle.cfg_recover.specs.Entries.{exit_of, irq_key, irq_entry, aln_key, aln_entry}
-use Rattle.cfg_recover.specs.Own.{are_aligned}
+use Rattle.cfg_recover.specs.Local.{are_aligned}
 use Rattle.cfg_recover.specs.Duties.{Owed, owed, jump, enter, resume, leave, jumps_to, successors_of, entries_of, misaligned_at, misaligned_of, irqs_of, interrupts_of, leavings_of, duties_of}
 use Rattle.cfg_recover.specs.Flows.{entered_key, told_back, told_irqs, told_leaving, leave_of}
 use Rattle.cfg_recover.specs.Accepting.{HasPoint}
@@ -252,7 +252,7 @@ parts_found b image plan cert node p s shape n jumps entered misaligned interrup
     (duties_append cert node s (js ++ es ++ ms) is _ interrupts (duties_append cert node s (js ++ es) ms _ misaligned (duties_append cert node s js es jumps entered j e) m) i) l
 
 -- where no rule's own part fails there is room
-pub room_at : (b : Limits) (image : ImageData) (plan : PlanData) (key : Key) (p : ℕ) (s : State) (found : Found) → StandsFaultless b image plan key p s found → HasRoom b found.shape s
+pub room_at : (b : Limits) (image : ImageData) (plan : PlanData) (key : Key) (p : ℕ) (s : State) (found : Located) → StandsFaultless b image plan key p s found → HasRoom b found.shape s
 room_at b image plan key p s found f = ((f.faultless 8).own found.shape found.size f.code).room refl
 
 -- no interrupt, no duty

@@ -13,7 +13,7 @@ use Rattle.depth_cert.specs.declared.points.Point.{Point}
 use Rattle.depth_cert.specs.Nodes.{NodeData}
 use Rattle.depth_cert.specs.Certs.{CertData}
 use Rattle.cfg_recover.specs.Code.{IsCode}
-use Rattle.cfg_recover.specs.Own.{IsOwnFault, IsFaultless}
+use Rattle.cfg_recover.specs.Local.{IsLocalFault, IsFaultless}
 use Rattle.cfg_recover.specs.Duties.{Owed, duties_of}
 use Rattle.cfg_recover.specs.Accepting.{limits_in, RuleHolds, IsNeedAbove}
 use Rattle.cfg_recover.proofs.CodeLaws.{IsCode-one}
@@ -31,7 +31,7 @@ values_well b vs values r lt = (values r lt).well
 -- ---- rules
 module _ (image : ImageData) (plan : PlanData) (cert : CertData) (node : NodeData) (point : Point) where
   -- a rule's own part
-  own_known : (b : Limits) (r : ℕ) → IsOwnFault b image plan node.key point.addr point.state r → r ≤ 14
+  own_known : (b : Limits) (r : ℕ) → IsLocalFault b image plan node.key point.addr point.state r → r ≤ 14
   own_known b r fault =
       elim (cases_lt 14 r) [
         | inr small ↦ small
@@ -51,10 +51,10 @@ module _ (image : ImageData) (plan : PlanData) (cert : CertData) (node : NodeDat
             }))
       ]
 
-  pub own_broken : (b : Limits) (r : ℕ) → b ≡ limits_in plan cert → AreValues b (point.state).regs → IsOwnFault b image plan node.key point.addr point.state r → Finds (RuleHolds image plan cert node point) (Some r)
+  pub own_broken : (b : Limits) (r : ℕ) → b ≡ limits_in plan cert → AreValues b (point.state).regs → IsLocalFault b image plan node.key point.addr point.state r → Finds (RuleHolds image plan cert node point) (Some r)
   own_broken b r limits values fault =
       let v : AreValues (limits_in plan cert) (point.state).regs = subst (λ (c : Limits). AreValues c (point.state).regs) limits values in
-      let f : IsOwnFault (limits_in plan cert) image plan node.key point.addr point.state r = subst (λ (c : Limits). IsOwnFault c image plan node.key point.addr point.state r) limits fault in
+      let f : IsLocalFault (limits_in plan cert) image plan node.key point.addr point.state r = subst (λ (c : Limits). IsLocalFault c image plan node.key point.addr point.state r) limits fault in
       record {
         broken = λ h. f.fails (h.own v);
         least = λ q lt. record { values = λ e. v; own = λ w. f.least q lt; covered = λ shape n d w faultless. absurd (f.fails (faultless r)); needs = λ shape n e w faultless. absurd (f.fails (faultless r)) };

@@ -10,7 +10,7 @@ ghost use Rattle.vd_transfer.specs.Effects.{address_of};
 ghost use Rattle.vd_transfer.specs.Changes.{changed};
 ghost use Rattle.cfg_recover.specs.Changes.{StandsFaultless};
 ghost use Rattle.cfg_recover.specs.Entries.{call_key};
-ghost use Rattle.cfg_recover.specs.Own.{targets_of};
+ghost use Rattle.cfg_recover.specs.Local.{targets_of};
 ghost use Rattle.cfg_recover.specs.Duties.{owed, enter, entered_and_back, entries_of, misaligned_at, misaligned_of, interrupts_of, duties_of};
 ghost use Rattle.cfg_recover.specs.Flows as flows;
 ghost use Rattle.cfg_recover.specs.Flows.{told_back, told_irqs};
@@ -18,9 +18,9 @@ ghost use Rattle.depth_check.specs.Finding.{IsWellNode, Finds, DutiesHold, GoesO
 ghost use Rattle.depth_check.specs.Finding as finding;
 
 use crate::covering::{has_after, has_changed, has_exit};
-use crate::successors::successors_rule;
+use crate::successors::broken_by_successors;
 use cfg_recover::{
-    Found, Leave, call_change, handler_change, interrupts, is_aligned, misaligned_change,
+    Leave, Located, call_change, handler_change, interrupts, is_aligned, misaligned_change,
     system_change, targets,
 };
 use depth_cert::{Cert, Key, Node};
@@ -72,7 +72,7 @@ fn goes_on(node: &Node, s: &State, entered: &Node, kind: u8, back: Option<u32>) 
 }
 
 /// The least rule broken where a node of the key is entered with a changed state, as `rule` asks, and comes back to `back`.
-fn entry_rule(
+fn broken_by_entry(
     cert: &Cert,
     node: &Node,
     s: &State,
@@ -109,7 +109,7 @@ fn entered_key(key: &Key, kind: u8, entry: u32) -> Key
 }
 
 /// The least rule broken by calls of these targets, which come back to `back`.
-fn calls_rule(
+fn broken_by_calls(
     cert: &Cert,
     node: &Node,
     s: &State,
@@ -126,14 +126,14 @@ fn calls_rule(
     let mut found = None;
     for t in targets {
         let key = entered_key(&node.key, 1, *t);
-        let one = entry_rule(cert, node, s, 5, &key, entry, Some(back));
+        let one = broken_by_entry(cert, node, s, 5, &key, entry, Some(back));
         found = least(found, one);
     }
     found
 }
 
 /// The least rule broken by a call.
-fn call_rule(
+fn broken_by_call(
     b: &Bounds,
     plan: &Plan,
     cert: &Cert,
@@ -151,11 +151,11 @@ fn call_rule(
 {
     let entry = call_change(b, s);
     let targets = targets(plan, s, addr, to);
-    calls_rule(cert, node, s, &entry, targets.as_slice(), back)
+    broken_by_calls(cert, node, s, &entry, targets.as_slice(), back)
 }
 
 /// The least rule broken by the system call `tin`.
-fn system_rule(
+fn broken_by_system(
     b: &Bounds,
     plan: &Plan,
     cert: &Cert,
@@ -171,11 +171,11 @@ fn system_rule(
 {
     let entry = system_change(b, plan, &node.key, s, tin);
     let key = entered_key(&node.key, 3, plan.btv | 6 * 32);
-    entry_rule(cert, node, s, 12, &key, &entry, Some(back))
+    broken_by_entry(cert, node, s, 12, &key, &entry, Some(back))
 }
 
 /// The least rule broken by the entries of a call or a system call.
-fn entries_rule(
+fn broken_by_entries(
     b: &Bounds,
     plan: &Plan,
     cert: &Cert,
@@ -193,14 +193,14 @@ fn entries_rule(
 {
     let back = addr.wrapping_add(size);
     match shape {
-        Shape::Call { to } => call_rule(b, plan, cert, node, addr, s, to, back),
-        Shape::Syscall { tin } => system_rule(b, plan, cert, node, s, tin, back),
+        Shape::Call { to } => broken_by_call(b, plan, cert, node, addr, s, to, back),
+        Shape::Syscall { tin } => broken_by_system(b, plan, cert, node, s, tin, back),
         _ => None,
     }
 }
 
 /// The least rule broken by the entry of the handler of misaligned accesses, where one of these addresses may be so.
-fn misaligned_rule(
+fn broken_by_misaligned(
     b: &Bounds,
     plan: &Plan,
     cert: &Cert,
@@ -221,11 +221,11 @@ fn misaligned_rule(
     }
     let entry = misaligned_change(b, plan, &node.key, s);
     let key = entered_key(&node.key, 4, plan.btv | 2 * 32);
-    entry_rule(cert, node, s, 10, &key, &entry, None)
+    broken_by_entry(cert, node, s, 10, &key, &entry, None)
 }
 
 /// The same for the access of an instruction.
-fn access_rule(
+fn broken_by_access(
     b: &Bounds,
     plan: &Plan,
     cert: &Cert,
@@ -243,8 +243,8 @@ fn access_rule(
     ensures { Finds (DutiesHold cert.now node.now s.now (misaligned_of b.now plan.now node.now.key s.now shape)) result }
 {
     match shape {
-        Shape::Load { size, .. } => misaligned_rule(b, plan, cert, node, s, at, size),
-        Shape::Store { size, .. } => misaligned_rule(b, plan, cert, node, s, at, size),
+        Shape::Load { size, .. } => broken_by_misaligned(b, plan, cert, node, s, at, size),
+        Shape::Store { size, .. } => broken_by_misaligned(b, plan, cert, node, s, at, size),
         _ => None,
     }
 }
@@ -261,7 +261,7 @@ fn irq_key(plan: &Plan, prio: u8) -> Key
 }
 
 /// The least rule broken by the entries of these interrupts; `entry` is the change there but for its CCPN.
-fn irqs_rule(
+fn broken_by_irqs(
     cert: &Cert,
     plan: &Plan,
     node: &Node,
@@ -279,14 +279,14 @@ fn irqs_rule(
     let mut found = None;
     for p in irqs {
         entry.ccpn = *p;
-        let one = entry_rule(cert, node, s, 11, &irq_key(plan, *p), &entry, None);
+        let one = broken_by_entry(cert, node, s, 11, &irq_key(plan, *p), &entry, None);
         found = least(found, one);
     }
     found
 }
 
 /// The least rule broken by the entries of the interrupts that may be taken.
-fn interrupts_rule(b: &Bounds, plan: &Plan, cert: &Cert, node: &Node, s: &State) -> Option<u8>
+fn broken_by_interrupts(b: &Bounds, plan: &Plan, cert: &Cert, node: &Node, s: &State) -> Option<u8>
     requires nodes { All IsWellNode cert.now.nodes }
     requires node { IsWellNode node.now }
     requires values { AreValues b.now s.now.regs }
@@ -297,7 +297,7 @@ fn interrupts_rule(b: &Bounds, plan: &Plan, cert: &Cert, node: &Node, s: &State)
         return None;
     }
     let entry = handler_change(b, plan, &node.key, s, 0);
-    irqs_rule(cert, plan, node, s, irqs.as_slice(), entry)
+    broken_by_irqs(cert, plan, node, s, irqs.as_slice(), entry)
 }
 
 /// How an instruction of this shape leaves its frame.
@@ -313,7 +313,7 @@ fn leave_by(shape: Shape) -> Leave
 }
 
 /// The least rule broken where the node is left.
-fn leaving_rule(node: &Node, s: &State, leave: Leave) -> Option<u8>
+fn broken_by_leaving(node: &Node, s: &State, leave: Leave) -> Option<u8>
     requires node { IsWellNode node.now }
     requires state { AreWell s.now.regs }
     ensures { Finds (LeavingHolds node.now s.now leave) result }
@@ -332,7 +332,7 @@ fn leaving_rule(node: &Node, s: &State, leave: Leave) -> Option<u8>
 }
 
 /// The least rule that the duties of a point of the node break, where no rule's own part fails.
-pub(crate) fn duties_rule(
+pub(crate) fn broken_by_duties(
     b: &Bounds,
     image: &Image,
     plan: &Plan,
@@ -340,7 +340,7 @@ pub(crate) fn duties_rule(
     node: &Node,
     addr: u32,
     s: &State,
-    found: &Found,
+    found: &Located,
 ) -> Option<u8>
     requires nodes { All IsWellNode cert.now.nodes }
     requires node { IsWellNode node.now }
@@ -348,10 +348,10 @@ pub(crate) fn duties_rule(
     requires found { StandsFaultless b.now image.now plan.now node.now.key addr s.now found.now }
     ensures { Finds (DutiesHold cert.now node.now s.now (duties_of b.now image.now plan.now node.now.key addr s.now found.now.shape found.now.size)) result }
 {
-    let jumps = successors_rule(b, image, plan, node, addr, s, found);
-    let entered = entries_rule(b, plan, cert, node, addr, s, found.shape, found.size);
-    let misaligned = access_rule(b, plan, cert, node, s, found.shape, &found.at);
-    let irqs = interrupts_rule(b, plan, cert, node, s);
-    let leave = leaving_rule(node, s, leave_by(found.shape));
+    let jumps = broken_by_successors(b, image, plan, node, addr, s, found);
+    let entered = broken_by_entries(b, plan, cert, node, addr, s, found.shape, found.size);
+    let misaligned = broken_by_access(b, plan, cert, node, s, found.shape, &found.at);
+    let irqs = broken_by_interrupts(b, plan, cert, node, s);
+    let leave = broken_by_leaving(node, s, leave_by(found.shape));
     least(least(least(least(jumps, entered), misaligned), irqs), leave)
 }

@@ -6,7 +6,7 @@ ghost use Rattle.depth_check.specs.NodeFaults as nodes;
 ghost use Rattle.depth_check.specs.NodeFaults.{IsNodeFault};
 
 use crate::covering::are_values;
-use crate::rules::point_rule;
+use crate::rules::broken_by_point;
 use depth_cert::{Cert, Node};
 use elf_image::Image;
 use tcd_plan::Plan;
@@ -75,7 +75,7 @@ pub(crate) fn node_fault(
     let entry = node.key.entry;
     let good = holds_at_entry(b, node);
     for point in &node.points {
-        let found = point_rule(b, image, plan, cert, node, point);
+        let found = broken_by_point(b, image, plan, cert, node, point);
         if let Some(fault) = first_of(good, entry, point.addr, found) {
             return Some(fault);
         }

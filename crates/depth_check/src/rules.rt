@@ -4,12 +4,12 @@ ghost use Rattle.value_domain.specs.State.{AreValues};
 ghost use Rattle.cfg_recover.specs.Accepting.{limits_in, RuleHolds};
 ghost use Rattle.cfg_recover.specs.Entries as entries;
 ghost use Rattle.cfg_recover.specs.Changes.{StandsFaultless};
-ghost use Rattle.cfg_recover.specs.Own.{IsOwnFault};
+ghost use Rattle.cfg_recover.specs.Local.{IsLocalFault};
 ghost use Rattle.depth_check.specs.Finding.{IsWellNode, Finds, HasOwnNeed};
 
 use crate::covering::are_values;
-use crate::duties::{duties_rule, least, unless};
-use cfg_recover::{Found, faultless};
+use crate::duties::{broken_by_duties, least, unless};
+use cfg_recover::{Located, local_check};
 use depth_cert::{Cert, Key, Node, Point};
 use elf_image::Image;
 use tcd_plan::Plan;
@@ -41,27 +41,36 @@ fn has_own_need(image: &Image, plan: &Plan, node: &Node, point: &Point) -> bool
 }
 
 /// The least rule that fails at a point whose values are the plan's, by what stands there.
-fn found_rule(
+fn broken_by_located(
     b: &Bounds,
     image: &Image,
     plan: &Plan,
     cert: &Cert,
     node: &Node,
     point: &Point,
-    found: Result<Found, u8>,
+    found: Result<Located, u8>,
 ) -> Option<u8>
     requires limits { b.now ≡ limits_in plan.now cert.now }
     requires nodes { All IsWellNode cert.now.nodes }
     requires node { IsWellNode node.now }
     requires values { AreValues b.now point.now.state.regs }
-    requires fault { IfErr found (IsOwnFault b.now image.now plan.now node.now.key point.now.addr point.now.state) }
+    requires fault { IfErr found (IsLocalFault b.now image.now plan.now node.now.key point.now.addr point.now.state) }
     requires duties { IfOk found (StandsFaultless b.now image.now plan.now node.now.key point.now.addr point.now.state) }
     ensures { Finds (RuleHolds image.now plan.now cert.now node.now point.now) result }
 {
     match found {
         Err(rule) => Some(rule),
         Ok(found) => {
-            let duties = duties_rule(b, image, plan, cert, node, point.addr, &point.state, &found);
+            let duties = broken_by_duties(
+                b,
+                image,
+                plan,
+                cert,
+                node,
+                point.addr,
+                &point.state,
+                &found,
+            );
             let need = unless(has_own_need(image, plan, node, point), 14);
             least(duties, need)
         }
@@ -69,7 +78,7 @@ fn found_rule(
 }
 
 /// The least rule that fails at a point of a node.
-pub(crate) fn point_rule(
+pub(crate) fn broken_by_point(
     b: &Bounds,
     image: &Image,
     plan: &Plan,
@@ -85,6 +94,6 @@ pub(crate) fn point_rule(
     if !are_values(b, &point.state.regs) {
         return Some(2);
     }
-    let found = faultless(b, image, plan, &node.key, point.addr, &point.state);
-    found_rule(b, image, plan, cert, node, point, found)
+    let found = local_check(b, image, plan, &node.key, point.addr, &point.state);
+    broken_by_located(b, image, plan, cert, node, point, found)
 }

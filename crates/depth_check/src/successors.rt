@@ -5,13 +5,13 @@ ghost use Rattle.tc_isa.specs.Bounded.{IsShape, IsTarget};
 ghost use Rattle.vd_transfer.specs.Branches.{refine_of};
 ghost use Rattle.depth_cert.specs.Certs.{CertData};
 ghost use Rattle.cfg_recover.specs.Changes.{StandsFaultless};
-ghost use Rattle.cfg_recover.specs.Own.{targets_of};
+ghost use Rattle.cfg_recover.specs.Local.{targets_of};
 ghost use Rattle.cfg_recover.specs.Duties.{owed, jump, jumps_to, jump_on, next_of, successors_of};
 ghost use Rattle.depth_check.specs.Finding.{IsWellNode, Finds, DutiesHold};
 
 use crate::covering::{has_changed, has_point, has_points};
 use crate::duties::{least, unless};
-use cfg_recover::{Found, loaded_from, targets};
+use cfg_recover::{Located, loaded_from, targets};
 use depth_cert::Node;
 use elf_image::Image;
 use tc_isa::{Shape, Target};
@@ -20,7 +20,7 @@ use value_domain::{Bounds, State};
 use vd_transfer::{change_of, change_on};
 
 /// A jump on a side of a branch, if that side is possible.
-fn side_rule(
+fn broken_by_side(
     b: &Bounds,
     plan: &Plan,
     node: &Node,
@@ -41,7 +41,7 @@ fn side_rule(
 }
 
 /// Both sides of a branch.
-fn sides_rule(
+fn broken_by_sides(
     b: &Bounds,
     plan: &Plan,
     node: &Node,
@@ -55,13 +55,13 @@ fn sides_rule(
     requires shape { IsShape shape }
     ensures { (cert : CertData) → Finds (DutiesHold cert node.now s.now (jump_on next (refine_of b.now plan.now shape s.now false) ++ jump_on to (refine_of b.now plan.now shape s.now true))) result }
 {
-    let on = side_rule(b, plan, node, s, shape, false, next);
-    let off = side_rule(b, plan, node, s, shape, true, to);
+    let on = broken_by_side(b, plan, node, s, shape, false, next);
+    let off = broken_by_side(b, plan, node, s, shape, true, to);
     least(on, off)
 }
 
 /// A jump with the state as it is.
-fn jump_rule(plan: &Plan, node: &Node, addr: u32, s: &State, to: Target) -> Option<u8>
+fn broken_by_jump(plan: &Plan, node: &Node, addr: u32, s: &State, to: Target) -> Option<u8>
     requires node { IsWellNode node.now }
     requires state { AreWell s.now.regs }
     requires target { IsTarget to }
@@ -72,7 +72,7 @@ fn jump_rule(plan: &Plan, node: &Node, addr: u32, s: &State, to: Target) -> Opti
 }
 
 /// The step over an instruction that changes nothing.
-fn pass_rule(node: &Node, s: &State, next: u32) -> Option<u8>
+fn broken_by_pass(node: &Node, s: &State, next: u32) -> Option<u8>
     requires node { IsWellNode node.now }
     requires state { AreWell s.now.regs }
     ensures { (cert : CertData) → Finds (DutiesHold cert node.now s.now (owed 4 (jump next s.now) ∷ [])) result }
@@ -81,14 +81,14 @@ fn pass_rule(node: &Node, s: &State, next: u32) -> Option<u8>
 }
 
 /// The step to the next instruction.
-fn step_rule(
+fn broken_by_step(
     b: &Bounds,
     image: &Image,
     plan: &Plan,
     node: &Node,
     addr: u32,
     s: &State,
-    found: &Found,
+    found: &Located,
 ) -> Option<u8>
     requires node { IsWellNode node.now }
     requires values { AreValues b.now s.now.regs }
@@ -102,14 +102,14 @@ fn step_rule(
 
 /// The least rule broken by the successors in the same frame, without those after a call or a system call.
 #[tactic(auto, unfolding(vd_transfer::specs::Effects::transfer_of))]
-pub(crate) fn successors_rule(
+pub(crate) fn broken_by_successors(
     b: &Bounds,
     image: &Image,
     plan: &Plan,
     node: &Node,
     addr: u32,
     s: &State,
-    found: &Found,
+    found: &Located,
 ) -> Option<u8>
     requires node { IsWellNode node.now }
     requires values { AreValues b.now s.now.regs }
@@ -120,12 +120,12 @@ pub(crate) fn successors_rule(
     let shape = found.shape;
     match shape {
         Shape::Branch { by, .. } => {
-            sides_rule(b, plan, node, s, shape, next, addr.wrapping_add(by))
+            broken_by_sides(b, plan, node, s, shape, next, addr.wrapping_add(by))
         }
-        Shape::Jump { to } => jump_rule(plan, node, addr, s, to),
+        Shape::Jump { to } => broken_by_jump(plan, node, addr, s, to),
         Shape::Call { .. } | Shape::Ret | Shape::Rfe | Shape::Syscall { .. } | Shape::Mtcr { .. } =>
             None,
-        Shape::Nothing => pass_rule(node, s, next),
-        _ => step_rule(b, image, plan, node, addr, s, found),
+        Shape::Nothing => broken_by_pass(node, s, next),
+        _ => broken_by_step(b, image, plan, node, addr, s, found),
     }
 }

@@ -2,9 +2,9 @@
 use Rattle.std.proofs.Common.{◌≡◌, ℕ, ◌-◌, ◌*◌, ◌^◌, ◌<◌, ◌≤◌, inl, inr, Bool, true, false, List, [], ◌∷◌, ◌++◌, map, length, refl, sym, ap, ◌∙◌, subst, arith}
 use Rattle.std.proofs.lemmas.Bool.{lt-ltb}
 use Rattle.std.proofs.lemmas.Bool.Decides.{nat_tests}
-use Rattle.tcd_base.specs.Numbers.{sext_of}
+use Rattle.tcd_base.specs.Fields.{sext_of}
 use Rattle.csa_chain.specs.Memory.{extended}
-use Rattle.value_domain.specs.Sets.{Among, Within, distinct, twos}
+use Rattle.value_domain.specs.Sets.{Among, Within, distinct, alignment_log2}
 use Rattle.value_domain.specs.Limits.{Limits, AreLimits}
 use Rattle.value_domain.specs.Floors.{floor, above}
 use Rattle.value_domain.specs.Values.{IsExtent, cover, members, range, any_val, count_in, first_in}
@@ -107,7 +107,7 @@ module _ (size : ℕ) (is : IsSize size) where
       subst (λ (y : ℕ). y ≤ 2 ^ 32 - 1) (sym x.2) (extended_le size x.0 is m.1)
 
   signed_extent : IsExtent (all_extended size true) 0 (2 ^ 32 - 1) 0
-  unfolding twos
+  unfolding alignment_log2
   signed_extent =
       let zeroth = small_stays size 0 is (omega arith) in
       let last : Among (2 ^ 32 - 1) (all_extended size true) = some_signed (2 ^ 32 - 1) (inl refl) in

@@ -5,7 +5,7 @@ use Rattle.std.proofs.lemmas.Bool.{cases_Bool, and_parts, eqb-true, ltb-true}
 use Rattle.std.proofs.lemmas.Nat.{pow-add}
 use Rattle.elf_image.specs.Images.{ImageData, image_byte}
 use Rattle.elf_image.proofs.ReadBytes.{byte_lt}
-use Rattle.tcd_base.specs.declared.parts.Range.{Range}
+use Rattle.tcd_base.specs.declared.types.Range.{Range}
 use Rattle.tcd_plan.specs.declared.plans.Device.{Device}
 use Rattle.tcd_plan.specs.PlanData.{PlanData, IsPlan, all_apart, areas_range, is_device}
 use Rattle.tcd_base.specs.Ranges.{IsWithin, IsInOne, is_within}

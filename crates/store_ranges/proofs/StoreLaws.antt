@@ -4,13 +4,13 @@ use Rattle.std.specs.List.{find}
 use Rattle.std.proofs.lemmas.Bool.{cases_lt, and_parts, and_from, leb-true}
 use Rattle.std.proofs.lemmas.Bool.Decides.{nat_tests}
 use Rattle.std.proofs.lemmas.List.Elements.{All-from_get_or}
-use Rattle.tcd_base.specs.declared.parts.Range.{Range}
+use Rattle.tcd_base.specs.declared.types.Range.{Range}
 use Rattle.tcd_plan.specs.declared.plans.Device.{Device}
 use Rattle.tcd_plan.specs.PlanData.{PlanData, IsPlan, is_range, is_device}
 use Rattle.tcd_plan.specs.Regions.{IsStoreInRange}
 use Rattle.value_domain.specs.declared.values.Val.{Val}
 use Rattle.value_domain.specs.declared.values.Val.TheVariants.{Set, Span}
-use Rattle.value_domain.specs.Sets.{Among, twos}
+use Rattle.value_domain.specs.Sets.{Among, alignment_log2}
 use Rattle.value_domain.specs.Values.{IsExtent, IsMember, IsWell, members, range}
 use Rattle.value_domain.proofs.CoverLaws.{step_cases, in_units, from_units, among_range, range_among, among_member, member_among, has_step}
 use Rattle.value_domain.proofs.SetLaws.{twos_le}
@@ -78,10 +78,10 @@ next_is s x small = record {
 -- all members below x are in range, and x is a multiple not below the first
 pub record Walked (plan : PlanData) (least last step size x : ℕ) : Type 0 where
   pub from : least ≤ x
-  pub fits : step ≤ twos x
+  pub fits : step ≤ alignment_log2 x
   pub before : (y : ℕ) → IsMember y (Span least last step) → y < x → IsStoreInRange plan (y, size)
 
-pub walk_start : (plan : PlanData) (least last step size : ℕ) → step ≤ twos least → Walked plan least last step size least
+pub walk_start : (plan : PlanData) (least last step size : ℕ) → step ≤ alignment_log2 least → Walked plan least last step size least
 walk_start plan least last step size fits = record { from = omega arith; fits = fits; before = λ y m h. absurd (let low : least ≤ y = m.0 in omega arith) }
 
 -- from a range to the first member that leaves it
@@ -134,18 +134,18 @@ stores_span {least} plan lo last step size well e each x m =
     let first = range_among least lo last step well.0 e.low_in in
     each x ((let a : lo ≤ least = first.0 in let b : least ≤ x = m.0 in omega arith), m.1, m.2)
 
-pub first_fits : {least greatest s : ℕ} (lo last step : ℕ) → IsWell (Span lo last step) → IsExtent (range lo last step) least greatest s → step ≤ twos least
+pub first_fits : {least greatest s : ℕ} (lo last step : ℕ) → IsWell (Span lo last step) → IsExtent (range lo last step) least greatest s → step ≤ alignment_log2 least
 first_fits {least} lo last step well e = (range_among least lo last step well.0 e.low_in).2
 
 -- ---- multiples of a size
-size_twos : (n x : ℕ) → IsSize n → (twos n ≤ twos x) ↔ (x % n ≡ 0)
-unfolding twos
+size_twos : (n x : ℕ) → IsSize n → (alignment_log2 n ≤ alignment_log2 x) ↔ (x % n ≡ 0)
+unfolding alignment_log2
 size_twos n x (inl e) = grind (arith, nat_tests)
 size_twos n x (inr (inl e)) = grind (arith, nat_tests)
 size_twos n x (inr (inr e)) = grind (arith, nat_tests)
 
-pub aligned_is : {least greatest s : ℕ} (v : Val) (n : ℕ) → IsWell v → IsSize n → IsExtent (members v) least greatest s → (twos n ≤ s) ↔ AreAligned v n
+pub aligned_is : {least greatest s : ℕ} (v : Val) (n : ℕ) → IsWell v → IsSize n → IsExtent (members v) least greatest s → (alignment_log2 n ≤ s) ↔ AreAligned v n
 aligned_is {s = s} v n well size e = (
-  (λ h x m. (size_twos n x size).0 (let f : s ≤ twos x = e.fits x (among_member v x (has_step v well) m) in omega arith)),
-  (λ each. e.full (twos n) (twos_le n) (λ z i. (size_twos n z size).1 (each z (member_among v z (has_step v well) i)))),
+  (λ h x m. (size_twos n x size).0 (let f : s ≤ alignment_log2 x = e.fits x (among_member v x (has_step v well) m) in omega arith)),
+  (λ each. e.full (alignment_log2 n) (twos_le n) (λ z i. (size_twos n z size).1 (each z (member_among v z (has_step v well) i)))),
 )

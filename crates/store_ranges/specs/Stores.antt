@@ -3,7 +3,7 @@ use Rattle.std.specs.Prelude.{◌≡◌, ◌<◌, ◌≤◌, ◌+◌, ◌%◌, �
 use Rattle.tcd_plan.specs.PlanData.{PlanData}
 use Rattle.tcd_plan.specs.Regions.{IsStoreInRange}
 use Rattle.value_domain.specs.declared.values.Val.{Val}
-use Rattle.value_domain.specs.Sets.{twos}
+use Rattle.value_domain.specs.Sets.{alignment_log2}
 use Rattle.value_domain.specs.Values.{IsMember}
 
 -- every access from a member doesn't pass 2^32 and lies wholly in one ram range or one device range
@@ -23,5 +23,5 @@ pub record StaysInRange (plan : PlanData) (size x end : ℕ) : Type 0 where
 -- the least multiple of 2 ^ step above x
 pub record IsNextMultiple (step x next : ℕ) : Type 0 where
   pub above : x < next
-  pub fits : step ≤ twos next
-  pub least : (y : ℕ) → x < y → step ≤ twos y → next ≤ y
+  pub fits : step ≤ alignment_log2 next
+  pub least : (y : ℕ) → x < y → step ≤ alignment_log2 y → next ≤ y

@@ -116,7 +116,7 @@ fn anything(b: &Bounds, size: u8, signed: bool) -> Val
     ensures cover { result ≡ cover b.now (all_extended size signed) }
     ensures value { IsValue b.now result }
 {
-    let _width = b.width();
+    let _most_words = b.most_words();
     if signed {
         Val::any()
     } else {

@@ -9,7 +9,7 @@ ghost use Rattle.store_ranges.specs.Stores.{AreStoresInRange, AreAligned, StaysI
 
 use crate::ranges::{device_at, range_at};
 use tcd_plan::Plan;
-use value_domain::{Val, extent_of, twos};
+use value_domain::{Val, alignment_log2, extent_of};
 
 /// Whether every store of 1, 2 or 4 bytes (`size`) at a member of the value lies, without passing 2^32, wholly in one ram
 /// range or in one device range.
@@ -36,7 +36,7 @@ pub fn aligned(at: &Val, size: u8) -> bool
     requires size { IsSize size }
     ensures { IsTrue result ↔ AreAligned at.now size }
 {
-    twos(u32::from(size)) <= extent_of(at).step
+    alignment_log2(u32::from(size)) <= extent_of(at).step
 }
 
 fn are_in_range(plan: &Plan, words: &[u32], size: u8) -> bool
@@ -72,7 +72,7 @@ fn range_end(plan: &Plan, x: u32, size: u8) -> Option<u64>
 /// Goes from range to range: the first member whose access leaves one range is looked for in the others.
 fn is_span_in_range(plan: &Plan, least: u32, last: u32, step: u8, size: u8) -> bool
     requires step { step ≤ 2 }
-    requires least { step ≤ sets.twos least }
+    requires least { step ≤ sets.alignment_log2 least }
     ensures { IsTrue result ↔ AreStoresInRange plan.now (Span least last step) size }
 {
     let mut x = u64::from(least);

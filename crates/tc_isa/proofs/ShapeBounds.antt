@@ -4,7 +4,7 @@ use Rattle.std.specs.Prelude.{◌||◌}
 use Rattle.std.specs.List.{list_all}
 use Rattle.std.proofs.lemmas.Bool.{cases_lt, lt-ltb, le-ltb, or_cases, eqb-true}
 use Rattle.std.proofs.lemmas.List.Sums.{AllPass-from_list_all}
-use Rattle.tcd_base.specs.Numbers.{sext_of}
+use Rattle.tcd_base.specs.Fields.{sext_of}
 use Rattle.tc_isa.specs.declared.fields.Fields.{Fields}
 use Rattle.tc_isa.specs.declared.meaning.Place.{Place}
 use Rattle.tc_isa.specs.declared.meaning.Place.TheVariants.{Dc, Ds1, Ds2, D15, Ac, As1, As2, A10}

@@ -4,7 +4,7 @@ ghost use Rattle.tc_machine.specs.Guards.{EveryEventFits, EveryRunFits, EverySta
 ghost use Rattle.tc_machine.specs.MachineLaws.{StartsWhole, FetchesSpelled, SaveStands, RestoreStands, StepDoes, DeathChanges, StepStays, RunStays};
 
 /// What holds of the machine's areas at the start, of what it fetches, and of saves, restores, steps and deaths.
-pub fn laws_of_machines()
+pub fn machine_laws()
     ensures start { StartsWhole }
     ensures fetch { FetchesSpelled }
     ensures save { SaveStands }

@@ -20,5 +20,5 @@ mod stepping;
 mod tests;
 
 pub use events::{Cause, End, Event};
-pub use laws::{guard_laws, laws_of_machines};
+pub use laws::{guard_laws, machine_laws};
 pub use state::Machine;

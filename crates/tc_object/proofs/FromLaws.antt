@@ -4,7 +4,7 @@ use Rattle.std.proofs.lemmas.Bool.{leb-true, ltb-true, eqb-true, and_parts}
 use Rattle.std.proofs.lemmas.List.{append-nil, length-take-le}
 use Rattle.std.proofs.Math.Seq.{drop-append_seam}
 use Rattle.std.specs.List.{flat_map}
-use Rattle.tcd_base.specs.declared.parts.FormErr.{FormErr}
+use Rattle.tcd_base.specs.declared.types.FormErr.{FormErr}
 use Rattle.tcd_base.specs.Bytes.{bytes_of_half, bytes_of_word}
 use Rattle.tcd_base.specs.Place.{Place, between}
 use Rattle.tcd_base.specs.Reading.{◌>>=◌, u8_at, u16_at, u32_at, bytes_at}

@@ -1,6 +1,6 @@
 -- What a written field means: the instruction that holds it reaches the value.
 use Rattle.std.specs.Prelude.{◌+◌, ◌*◌, ◌/◌, ◌%◌, ◌^◌, ◌==◌, ◌||◌, if◌then◌else◌, ℕ}
-use Rattle.tcd_base.specs.Numbers.{sext_of}
+use Rattle.tcd_base.specs.Fields.{sext_of}
 use Rattle.tc_reloc.specs.Fields.{content_of}
 
 -- the number in the field of a word

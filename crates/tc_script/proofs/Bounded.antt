@@ -5,12 +5,12 @@ use Rattle.std.specs.List.{list_all}
 use Rattle.std.proofs.lemmas.Bool.{and_parts, and_from, or_cases, leb-true, cases_Bool, cond-true, cond-false}
 use Rattle.std.proofs.lemmas.List.Folds.{list_all-append}
 use Rattle.std.proofs.lemmas.Option.{slice_get-get_or}
-use Rattle.tcd_base.specs.declared.parts.Range.{Range}
+use Rattle.tcd_base.specs.declared.types.Range.{Range}
 use Rattle.tcd_plan.specs.declared.plans.Device.{Device}
 use Rattle.tcd_plan.specs.PlanData.{PlanData, IsPlan, ranges_apart, all_apart, areas_range}
 use Rattle.tcd_base.specs.Ranges.{IsWithin, is_within}
 use Rattle.tcd_plan.proofs.ApartLaws.{all_apart-behind}
-use Rattle.tc_script.specs.declared.scripts.Bounds.{Bounds}
+use Rattle.tc_script.specs.declared.scripts.AnswerRange.{AnswerRange}
 use Rattle.tc_script.specs.Fitting.{AreInside}
 use Rattle.tc_script.specs.Ports.{IsBounded}
 use Rattle.tc_script.specs.Runs.{Answers}
@@ -22,7 +22,7 @@ use Rattle.tc_script.proofs.Only.{AnswersBy}
 abbrev Lies : ℕ → Device → Type 0
 Lies w d = (d.lo ≤ w) × (w ≤ d.hi)
 
-answer_lies : (b : Bounds) (t : ℕ) → b.lo ≤ b.hi → (b.lo ≤ answer_of b t) × (answer_of b t ≤ b.hi)
+answer_lies : (b : AnswerRange) (t : ℕ) → b.lo ≤ b.hi → (b.lo ≤ answer_of b t) × (answer_of b t ≤ b.hi)
 answer_lies b t ordered = (omega arith, omega arith)
 
 abbrev ranges_of : List Device → List Range
@@ -39,7 +39,7 @@ no_both x r s apart in_r in_s = elim (or_cases (nat_le (r.at + r.len) s.at) (nat
   | inr above ↦ let le = leb-true (s.at + s.len) r.at above in omega (arith, le, in_r.0, in_r.1, in_s.0, in_s.1)
 ]
 
-lies_at : (x t : ℕ) (ds : List Device) (bs : List Bounds) (k : ℕ) (d : Device) → AreInside ds bs → all_apart (ranges_of ds) ≡ true → slice_get ds k ≡ Some d → IsWithin x 1 d.range → Lies (answer_at ds bs x t) d
+lies_at : (x t : ℕ) (ds : List Device) (bs : List AnswerRange) (k : ℕ) (d : Device) → AreInside ds bs → all_apart (ranges_of ds) ≡ true → slice_get ds k ≡ Some d → IsWithin x 1 d.range → Lies (answer_at ds bs x t) d
 lies_at x t [] bs k d inside apart here has = cc
 lies_at x t (e ∷ ds) [] k d inside apart here has = absurd inside
 lies_at x t (e ∷ ds) (b ∷ bs) zero d inside apart here has =
@@ -67,7 +67,7 @@ devices_apart plan ok =
     all_apart-behind (plan.rom ++ plan.ram) (ranges_of plan.devices) (all_apart-front (plan.rom ++ plan.ram ++ ranges_of plan.devices) (areas_range plan ∷ []) ok.apart)
 
 -- answers of a script that fits the plan
-pub bounded_by : (plan : PlanData) (bounds : List Bounds) (answers : Answers) → IsPlan plan → AreInside plan.devices bounds → AnswersBy plan.devices bounds answers → IsBounded answers plan.devices
+pub bounded_by : (plan : PlanData) (bounds : List AnswerRange) (answers : Answers) → IsPlan plan → AreInside plan.devices bounds → AnswersBy plan.devices bounds answers → IsBounded answers plan.devices
 bounded_by plan bounds answers ok inside by = λ k d lt addr t w has early small gives.
     subst (λ v. Lies v (slice_index_or plan.devices k d)) (sym (by addr t w gives))
     (lies_at addr t plan.devices bounds k (slice_index_or plan.devices k d) inside (devices_apart plan ok) (slice_get-get_or plan.devices k d lt) has)

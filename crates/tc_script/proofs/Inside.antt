@@ -12,7 +12,7 @@ use Rattle.tcd_plan.specs.PlanData.{PlanData, IsPlan, is_device, is_range}
 use Rattle.tc_script.specs.declared.errors.ScriptErr.{ScriptErr}
 use Rattle.tc_script.specs.declared.errors.ScriptErr.TheVariants.{OutOfRange}
 use Rattle.tc_script.specs.declared.reading.Draft.{Draft}
-use Rattle.tc_script.specs.declared.scripts.Bounds.{Bounds}
+use Rattle.tc_script.specs.declared.scripts.AnswerRange.{AnswerRange}
 use Rattle.tc_script.specs.declared.statements.Statement.{Statement}
 use Rattle.tc_script.specs.declared.statements.Statement.TheVariants.{Blank, Step, Irq, Aln, In}
 use Rattle.tc_script.specs.Numbers.{number_of}
@@ -85,7 +85,7 @@ holds_parts : (o : Option Device) (d : Device) (lo hi : ℕ) → o ≡ Some d �
 holds_parts None d lo hi is holds = absurd (false≢true holds)
 holds_parts (Some e) d lo hi is holds = let same : e ≡ d = cc in let both = and_parts _ _ holds in subst (λ f. (f.lo ≤ lo) × (hi ≤ f.hi)) same (leb-true _ _ both.0, leb-true _ _ both.1)
 
-bounds_set : (ds : List Device) (bs : List Bounds) (i lo hi : ℕ) → lo ≤ hi → holds_bounds (slice_get ds i) lo hi ≡ true → AreInside ds bs → AreInside ds (set bs i (record { lo = lo; hi = hi }))
+bounds_set : (ds : List Device) (bs : List AnswerRange) (i lo hi : ℕ) → lo ≤ hi → holds_bounds (slice_get ds i) lo hi ≡ true → AreInside ds bs → AreInside ds (set bs i (record { lo = lo; hi = hi }))
 bounds_set [] [] i lo hi ordered holds h = h
 bounds_set [] (b ∷ bs) i lo hi ordered holds h = absurd h
 bounds_set (d ∷ ds) [] i lo hi ordered holds h = absurd h

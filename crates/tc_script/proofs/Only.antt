@@ -12,7 +12,7 @@ use Rattle.tc_machine.specs.Stepping.{step, run, next_load_of}
 use Rattle.tc_machine.specs.Safe.{AllFit}
 use Rattle.tc_script.specs.declared.driving.Peak.{Peak}
 use Rattle.tc_script.specs.declared.scripts.Turn.{Turn}
-use Rattle.tc_script.specs.declared.scripts.Bounds.{Bounds}
+use Rattle.tc_script.specs.declared.scripts.AnswerRange.{AnswerRange}
 use Rattle.tc_script.specs.ScriptData.{ScriptData}
 use Rattle.tcd_base.specs.Ranges.{is_within}
 use Rattle.tc_script.specs.Runs.{Answers, IsInput, IsEventOf, IsDead, ScriptedRun, peak_of, IsDriven}
@@ -20,10 +20,10 @@ use Rattle.tc_script.specs.ScriptRuns.{answer_at, input_of, event_of, while_runn
 use Rattle.tc_script.proofs.Events.{inside, in_one-true}
 
 -- the answers are those of the script
-abbrev pub AnswersBy : List Device → List Bounds → Answers → Type 0
+abbrev pub AnswersBy : List Device → List AnswerRange → Answers → Type 0
 AnswersBy devices bounds answers = (x t w : ℕ) → answers x t w → w ≡ answer_at devices bounds x t
 
-input_is : (devices : List Device) (bounds : List Bounds) (answers : Answers) → AnswersBy devices bounds answers → (t : ℕ) (load : Option (ℕ × ℕ)) (w : ℕ) → IsInput devices answers t load w → w ≡ input_of devices bounds t load
+input_is : (devices : List Device) (bounds : List AnswerRange) (answers : Answers) → AnswersBy devices bounds answers → (t : ℕ) (load : Option (ℕ × ℕ)) (w : ℕ) → IsInput devices answers t load w → w ≡ input_of devices bounds t load
 input_is devices bounds answers by t None w is = is
 input_is devices bounds answers by t (Some load) w (inl is) = by load.0 t w is.1 ∙ sym (cond-true _ _ 0 (in_one-true load.0 load.1 devices is.0))
 input_is devices bounds answers by t (Some load) w (inr is) =
@@ -35,7 +35,7 @@ input_is devices bounds answers by t (Some load) w (inr is) =
 abbrev made : ℕ → ℕ → ℕ → Bool → Event
 made irq input status aln = record { irq = irq; input = input; status = status; aln = aln }
 
-event_is : (devices : List Device) (bounds : List Bounds) (answers : Answers) → AnswersBy devices bounds answers → (t : ℕ) (turn : Turn) (m : Machine) (e : Event) → IsEventOf devices answers t turn m e → e ≡ event_of devices bounds t turn m
+event_is : (devices : List Device) (bounds : List AnswerRange) (answers : Answers) → AnswersBy devices bounds answers → (t : ℕ) (turn : Turn) (m : Machine) (e : Event) → IsEventOf devices answers t turn m e → e ≡ event_of devices bounds t turn m
 event_is devices bounds answers by t turn m e is =
     let input = input_is devices bounds answers by t (next_load_of m) e.input is.input in
     ap (λ n. made n e.input e.status e.aln) is.irq
@@ -50,13 +50,13 @@ dead_end (Dead cause) es is = refl
 running_end : (end : End) (es : List Event) → end ≡ Running → while_running end es ≡ es
 running_end end es is = ap (λ x. while_running x es) is
 
-nothing : (plan : PlanData) (bounds : List Bounds) (t : ℕ) (turns : List Turn) (m : Machine) → (turns ≡ []) ⊎ IsDead m.end → [] ≡ events_of plan.devices bounds t turns m
+nothing : (plan : PlanData) (bounds : List AnswerRange) (t : ℕ) (turns : List Turn) (m : Machine) → (turns ≡ []) ⊎ IsDead m.end → [] ≡ events_of plan.devices bounds t turns m
 nothing plan bounds t [] m end = refl
 nothing plan bounds t (turn ∷ turns) m (inl none) = cc
 nothing plan bounds t (turn ∷ turns) m (inr dead) = sym (dead_end m.end _ dead)
 
 -- the list of events of a scripted run
-pub only : (plan : PlanData) (bounds : List Bounds) (answers : Answers) → AnswersBy plan.devices bounds answers → (t : ℕ) (turns : List Turn) (m : Machine) (es : List Event) → ScriptedRun plan answers t turns m es → es ≡ events_of plan.devices bounds t turns m
+pub only : (plan : PlanData) (bounds : List AnswerRange) (answers : Answers) → AnswersBy plan.devices bounds answers → (t : ℕ) (turns : List Turn) (m : Machine) (es : List Event) → ScriptedRun plan answers t turns m es → es ≡ events_of plan.devices bounds t turns m
 only plan bounds answers by t turns m [] end = nothing plan bounds t turns m end
 only plan bounds answers by t [] m (e ∷ es) h = absurd h
 only plan bounds answers by t (turn ∷ turns) m (e ∷ es) h =

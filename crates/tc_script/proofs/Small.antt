@@ -11,12 +11,12 @@ use Rattle.std.proofs.lemmas.Int.Digits.{digits_value_more}
 use Rattle.std.proofs.lemmas.List.Elements.{All-map}
 use Rattle.tcd_plan.specs.declared.plans.Device.{Device}
 use Rattle.tc_script.specs.declared.scripts.Turn.{Turn}
-use Rattle.tc_script.specs.declared.scripts.Bounds.{Bounds}
+use Rattle.tc_script.specs.declared.scripts.AnswerRange.{AnswerRange}
 use Rattle.tc_script.specs.ScriptData.{IsScript}
 use Rattle.tc_script.specs.Reading.{own_bounds}
 
 -- a script before its first line
-pub IsScript-begun : (ts : List Turn) (ds : List Device) (bs : List Bounds) → ts ≡ [] → bs ≡ map own_bounds ds → length ds ≤ 16 → IsScript ts bs
+pub IsScript-begun : (ts : List Turn) (ds : List Device) (bs : List AnswerRange) → ts ≡ [] → bs ≡ map own_bounds ds → length ds ≤ 16 → IsScript ts bs
 IsScript-begun ts ds bs none is few = record {
   few = omega (arith, ap length none);
   few_devices = omega (arith, ap length is, length-map ds own_bounds);

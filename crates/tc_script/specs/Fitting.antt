@@ -3,7 +3,7 @@ use Rattle.std.specs.Prelude.{◌≡◌, ◌≤◌, ◌⊎◌, List, [], ◌∷�
 use Rattle.tcd_plan.specs.declared.plans.Device.{Device}
 use Rattle.tcd_plan.specs.PlanData.{PlanData}
 use Rattle.tc_script.specs.declared.scripts.Turn.{Turn}
-use Rattle.tc_script.specs.declared.scripts.Bounds.{Bounds}
+use Rattle.tc_script.specs.declared.scripts.AnswerRange.{AnswerRange}
 use Rattle.tc_script.specs.ScriptData.{ScriptData}
 
 -- the interrupt of each turn is none or one of the plan's
@@ -11,7 +11,7 @@ abbrev pub HasSources : PlanData → List Turn → Type 0
 HasSources plan turns = All (λ turn. (turn.irq ≡ 0) ⊎ Contains plan.irqs turn.irq) turns
 
 -- for each device, bounds inside its own
-abbrev pub AreInside : List Device → List Bounds → Type 0
+abbrev pub AreInside : List Device → List AnswerRange → Type 0
 AreInside [] [] = Unit {0}
 AreInside (d ∷ ds) (b ∷ bs) = ((d.lo ≤ b.lo) × (b.lo ≤ b.hi) × (b.hi ≤ d.hi)) × AreInside ds bs
 AreInside _ _ = ⊥

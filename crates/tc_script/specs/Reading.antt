@@ -6,14 +6,14 @@ use Rattle.tcd_plan.specs.PlanData.{PlanData}
 use Rattle.tc_script.specs.declared.errors.ScriptErr.{ScriptErr}
 use Rattle.tc_script.specs.declared.errors.ScriptErr.TheVariants.{BadLine, NoSource, OutOfRange, TooMany, NoMemory}
 use Rattle.tc_script.specs.declared.reading.Draft.{Draft}
-use Rattle.tc_script.specs.declared.scripts.Bounds.{Bounds}
+use Rattle.tc_script.specs.declared.scripts.AnswerRange.{AnswerRange}
 use Rattle.tc_script.specs.declared.statements.Statement.{Statement}
 use Rattle.tc_script.specs.declared.statements.Statement.TheVariants.{Blank, Step, Irq, Aln, In}
 use Rattle.tc_script.specs.ScriptData.{ScriptData}
 use Rattle.tc_script.specs.Statements.{words_of, statement_of}
 
 -- A device without a line of its own answers its `lo`.
-abbrev pub own_bounds : Device → Bounds
+abbrev pub own_bounds : Device → AnswerRange
 own_bounds d = record { lo = d.lo; hi = d.lo }
 
 -- in front of the first line: no turns, and misaligned accesses don't trap

@@ -1,19 +1,19 @@
 -- A script as plain data.
 use Rattle.std.specs.Prelude.{ℕ, ◌+◌, ◌-◌, ◌%◌, ◌≤◌, List, length, All}
 use Rattle.tc_script.specs.declared.scripts.Turn.{Turn}
-use Rattle.tc_script.specs.declared.scripts.Bounds.{Bounds}
+use Rattle.tc_script.specs.declared.scripts.AnswerRange.{AnswerRange}
 
 -- its turns, and for each device the bounds of its answers
 pub record ScriptData : Type 0 where
   pub turns : List Turn
-  pub bounds : List Bounds
+  pub bounds : List AnswerRange
 
 -- what every script keeps
-pub record IsScript (turns : List Turn) (bounds : List Bounds) : Type 0 where
+pub record IsScript (turns : List Turn) (bounds : List AnswerRange) : Type 0 where
   pub few : length turns ≤ 100000
   pub few_devices : length bounds ≤ 16
   pub ordered : All (λ b. b.lo ≤ b.hi) bounds
 
 -- what stands at an event, counted from 0: the words from lo up to hi, over and over
-abbrev pub answer_of : Bounds → ℕ → ℕ
+abbrev pub answer_of : AnswerRange → ℕ → ℕ
 answer_of b t = b.lo + t % (b.hi - b.lo + 1)

@@ -11,24 +11,24 @@ use Rattle.tc_machine.specs.Stepping.{step, run, next_load_of}
 use Rattle.tc_machine.specs.Safe.{AllFit}
 use Rattle.tc_script.specs.declared.driving.Peak.{Peak}
 use Rattle.tc_script.specs.declared.scripts.Turn.{Turn}
-use Rattle.tc_script.specs.declared.scripts.Bounds.{Bounds}
+use Rattle.tc_script.specs.declared.scripts.AnswerRange.{AnswerRange}
 use Rattle.tc_script.specs.ScriptData.{ScriptData, answer_of}
 use Rattle.tcd_base.specs.Ranges.{is_within}
 use Rattle.tc_script.specs.Runs.{Answers, ScriptedRun, peak_of}
 
 -- what the device that has the address answers at an event, 0 where none has it
-abbrev pub answer_at : List Device → List Bounds → ℕ → ℕ → ℕ
+abbrev pub answer_at : List Device → List AnswerRange → ℕ → ℕ → ℕ
 answer_at [] bounds x t = 0
 answer_at (d ∷ ds) [] x t = 0
 answer_at (d ∷ ds) (b ∷ bs) x t = if is_within x 1 d.range then answer_of b t else answer_at ds bs x t
 
 -- the input at an event: the answer at the load's address, where the load lies wholly in one device range, else 0
-abbrev pub input_of : List Device → List Bounds → ℕ → Option (ℕ × ℕ) → ℕ
+abbrev pub input_of : List Device → List AnswerRange → ℕ → Option (ℕ × ℕ) → ℕ
 input_of devices bounds t None = 0
 input_of devices bounds t (Some load) = if list_any (λ d. is_within load.0 load.1 d.range) devices then answer_at devices bounds load.0 t else 0
 
 -- the event of a turn
-abbrev pub event_of : List Device → List Bounds → ℕ → Turn → Machine → Event
+abbrev pub event_of : List Device → List AnswerRange → ℕ → Turn → Machine → Event
 event_of devices bounds t turn m = record { irq = turn.irq; input = input_of devices bounds t (next_load_of m); status = 0; aln = turn.aln }
 
 -- these events where the machine runs, and none where it's dead
@@ -37,7 +37,7 @@ while_running Running events = events
 while_running (Dead cause) events = []
 
 -- the events of these turns until the machine is dead or the turns end; the first one has this number
-abbrev pub events_of : List Device → List Bounds → ℕ → List Turn → Machine → List Event
+abbrev pub events_of : List Device → List AnswerRange → ℕ → List Turn → Machine → List Event
 events_of devices bounds t [] m = []
 events_of devices bounds t (turn ∷ turns) m =
     let e = event_of devices bounds t turn m in

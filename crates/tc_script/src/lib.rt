@@ -19,4 +19,4 @@ pub use driving::{Peak, drive};
 pub use errors::ScriptErr;
 pub use laws::script_laws;
 pub use scripted::drive_by_script;
-pub use scripts::{Bounds, Script, Turn};
+pub use scripts::{AnswerRange, Script, Turn};

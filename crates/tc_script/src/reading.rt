@@ -7,7 +7,7 @@ ghost use Rattle.tc_script.specs.Reading.{own_bounds, begun, with_turns, is_sour
 
 use crate::parts::cut;
 use crate::statements::{Statement, statement_in};
-use crate::{Bounds, Script, ScriptErr, Turn};
+use crate::{AnswerRange, Script, ScriptErr, Turn};
 use arrayvec::ArrayVec;
 use std::alloc::Global;
 use tcd_plan::{Device, Plan};
@@ -19,13 +19,13 @@ pub(crate) struct Draft {
     pub(crate) aln: bool,
 }
 
-fn bounds_of(devices: &[Device]) -> ArrayVec<Bounds, 16>
+fn bounds_of(devices: &[Device]) -> ArrayVec<AnswerRange, 16>
     requires { length devices.now ≤ 16 }
     ensures { result.items ≡ map own_bounds devices.now }
 {
     let mut bounds = ArrayVec::new();
     for device in devices {
-        bounds.push(Bounds {
+        bounds.push(AnswerRange {
             lo: device.lo,
             hi: device.lo,
         });
@@ -88,7 +88,7 @@ impl Draft {
         requires ordered { lo ≤ hi }
         ensures { self.new ≡ with_bounds device lo hi self.old }
     {
-        self.script.bounds[device] = Bounds { lo, hi };
+        self.script.bounds[device] = AnswerRange { lo, hi };
     }
 
     /// What a statement does.

@@ -6,7 +6,7 @@ use arrayvec::ArrayVec;
 use std::marker::Model;
 
 /// What stands at an event, counted from 0: the words from `lo` up to `hi`, one after another and over again.
-fn answer(bounds: Bounds, at: u32) -> u32
+fn answer(bounds: AnswerRange, at: u32) -> u32
     requires { bounds.lo ≤ bounds.hi }
     ensures { result ≡ answer_of bounds at }
 {
@@ -23,7 +23,7 @@ pub struct Turn {
 
 /// What a device answers: words from `lo` up to `hi`.
 #[derive(Clone, Copy, Debug, Default, PartialEq, Eq)]
-pub struct Bounds {
+pub struct AnswerRange {
     pub lo: u32,
     pub hi: u32,
 }
@@ -32,7 +32,7 @@ pub struct Bounds {
 #[derive(Drop)]
 pub struct Script {
     pub(crate) turns: Vec<Turn>,
-    pub(crate) bounds: ArrayVec<Bounds, 16>,
+    pub(crate) bounds: ArrayVec<AnswerRange, 16>,
 }
 
 impl Model for Script {

@@ -1,6 +1,6 @@
 -- The forms of inputs.
 use Rattle.std.specs.Prelude.{◌≡◌, ◌≢◌, ◌^◌, ℕ, List, length, Ok, Err}
-use Rattle.tcd_base.specs.declared.parts.FormErr.{FormErr}
+use Rattle.tcd_base.specs.declared.types.FormErr.{FormErr}
 use Rattle.elf_image.specs.Images.{ImageData}
 use Rattle.elf_image.specs.Elf.{image_of}
 use Rattle.elf_image.specs.declared.errors.ImageErr.{ImageErr}

@@ -5,7 +5,7 @@ use Rattle.std.proofs.lemmas.Bool.{cases_eq, cases_lt, le-leb, lt-leb}
 use Rattle.std.proofs.lemmas.Bool.Decides.{nat_tests}
 use Rattle.value_domain.specs.declared.values.Val.{Val}
 use Rattle.value_domain.specs.declared.values.Val.TheVariants.{Set, Span}
-use Rattle.value_domain.specs.Sets.{Among, Within, Rising, distinct, twos, least, greatest, step_of, multiples}
+use Rattle.value_domain.specs.Sets.{Among, Within, Rising, distinct, alignment_log2, least, greatest, step_of, multiples}
 use Rattle.value_domain.specs.Limits.{Limits, AreLimits}
 use Rattle.value_domain.specs.Floors.{floor, above}
 use Rattle.value_domain.specs.Values.{IsMember, IsWell, IsValue, IsBelow, cover, value_of, members, range, first_in, count_in}
@@ -56,33 +56,33 @@ step_cases P zeroth first second (suc zero) h = first
 step_cases P zeroth first second (suc (suc zero)) h = second
 step_cases P zeroth first second (suc (suc (suc s))) h = absurd (omega arith)
 
-twos_1 : (x : ℕ) → 1 ≤ twos x → x % 2 ≡ 0
-unfolding twos
+twos_1 : (x : ℕ) → 1 ≤ alignment_log2 x → x % 2 ≡ 0
+unfolding alignment_log2
 twos_1 x h = grind (arith, nat_tests)
 
-twos_2 : (x : ℕ) → 2 ≤ twos x → x % 4 ≡ 0
-unfolding twos
+twos_2 : (x : ℕ) → 2 ≤ alignment_log2 x → x % 4 ≡ 0
+unfolding alignment_log2
 twos_2 x h = grind (arith, nat_tests)
 
-from_twos_1 : (x : ℕ) → x % 2 ≡ 0 → 1 ≤ twos x
-unfolding twos
+from_twos_1 : (x : ℕ) → x % 2 ≡ 0 → 1 ≤ alignment_log2 x
+unfolding alignment_log2
 from_twos_1 x h = grind (arith, nat_tests)
 
-from_twos_2 : (x : ℕ) → x % 4 ≡ 0 → 2 ≤ twos x
-unfolding twos
+from_twos_2 : (x : ℕ) → x % 4 ≡ 0 → 2 ≤ alignment_log2 x
+unfolding alignment_log2
 from_twos_2 x h = grind (arith, nat_tests)
 
 -- x is a multiple of 2 ^ s
-pub in_units : (s : ℕ) → s ≤ 2 → (x : ℕ) → s ≤ twos x → x ≡ x / 2 ^ s * 2 ^ s
+pub in_units : (s : ℕ) → s ≤ 2 → (x : ℕ) → s ≤ alignment_log2 x → x ≡ x / 2 ^ s * 2 ^ s
 in_units =
-    step_cases (λ s. (x : ℕ) → s ≤ twos x → x ≡ x / 2 ^ s * 2 ^ s)
+    step_cases (λ s. (x : ℕ) → s ≤ alignment_log2 x → x ≡ x / 2 ^ s * 2 ^ s)
     (λ x h. omega arith)
     (λ x h. let m : x % 2 ≡ 0 = twos_1 x h in omega arith)
     (λ x h. let m : x % 4 ≡ 0 = twos_2 x h in omega arith)
 
-pub from_units : (s : ℕ) → s ≤ 2 → (k x : ℕ) → x ≡ k * 2 ^ s → s ≤ twos x
+pub from_units : (s : ℕ) → s ≤ 2 → (k x : ℕ) → x ≡ k * 2 ^ s → s ≤ alignment_log2 x
 from_units =
-    step_cases (λ s. (k x : ℕ) → x ≡ k * 2 ^ s → s ≤ twos x)
+    step_cases (λ s. (k x : ℕ) → x ≡ k * 2 ^ s → s ≤ alignment_log2 x)
     (λ k x h. omega arith)
     (λ k x h. from_twos_1 x (omega arith))
     (λ k x h. from_twos_2 x (omega arith))
@@ -136,17 +136,17 @@ pub member_same : AreMembers
 member_same v x well = (among_member v x (has_step v well), member_among v x (has_step v well))
 
 -- ---- the two forms of a cover
-pub cover-few : (b : Limits) (xs : List ℕ) → length (distinct xs) ≤ b.width → cover b xs ≡ Set (distinct xs)
+pub cover-few : (b : Limits) (xs : List ℕ) → length (distinct xs) ≤ b.most_words → cover b xs ≡ Set (distinct xs)
 unfolding cover
-cover-few b xs few = rw (le-leb (length (distinct xs)) b.width few) refl
+cover-few b xs few = rw (le-leb (length (distinct xs)) b.most_words few) refl
 
 -- the span of an ascending list
 abbrev pub span_of : Limits → List ℕ → Val
 span_of b ws = Span (floor b.thresholds (least ws)) (above b.thresholds (greatest ws) - 1) (step_of ws)
 
-pub cover-many : (b : Limits) (xs : List ℕ) → b.width < length (distinct xs) → cover b xs ≡ span_of b (distinct xs)
+pub cover-many : (b : Limits) (xs : List ℕ) → b.most_words < length (distinct xs) → cover b xs ≡ span_of b (distinct xs)
 unfolding cover
-cover-many b xs many = rw (lt-leb (length (distinct xs)) b.width many) refl
+cover-many b xs many = rw (lt-leb (length (distinct xs)) b.most_words many) refl
 
 pub some_distinct : (xs : List ℕ) → 1 ≤ length xs → 1 ≤ length (distinct xs)
 some_distinct xs some = some_length (distinct xs) (least xs) (distinct_has (least xs) xs (least_among xs some))
@@ -165,14 +165,14 @@ span_holds b ws r z i =
 
 pub cover_holds : (b : Limits) (xs : List ℕ) (z : ℕ) → Among z xs → IsMember z (cover b xs)
 cover_holds b xs z i =
-    elim (cases_lt b.width (length (distinct xs))) [
+    elim (cases_lt b.most_words (length (distinct xs))) [
       | inl many ↦ rw (cover-many b xs many) (span_holds b (distinct xs) (rising_distinct xs) z (distinct_has z xs i))
       | inr few ↦ rw (cover-few b xs few) (distinct_has z xs i)
     ]
 
 pub cover_step : (b : Limits) (xs : List ℕ) → HasStep (cover b xs)
 cover_step b xs =
-    elim (cases_lt b.width (length (distinct xs))) [
+    elim (cases_lt b.most_words (length (distinct xs))) [
       | inl many ↦ rw (cover-many b xs many) (step_le (distinct xs))
       | inr few ↦ rw (cover-few b xs few) tt
     ]
@@ -191,7 +191,7 @@ within_distinct xs ys there z i = distinct_has z ys (there z (among_distinct z x
 
 pub cover_mono : (b : Limits) (xs ys : List ℕ) → 1 ≤ length xs → Within xs ys → IsBelow (cover b xs) (cover b ys)
 cover_mono b xs ys some there z m =
-    elim (cases_lt b.width (length (distinct xs))) [
+    elim (cases_lt b.most_words (length (distinct xs))) [
       | inl many ↦
           let longer : length (distinct xs) ≤ length (distinct ys) = length-distinct xs ys there in
           let m2 : IsMember z (span_of b (distinct xs)) = rw (cover-many b xs many) at m in
@@ -227,7 +227,7 @@ span_own b ws ms rw_ rm some there held =
 pub cover_own : (b : Limits) (xs : List ℕ) → 1 ≤ length xs → cover b (members (cover b xs)) ≡ cover b xs
 cover_own b xs some =
     let there : Within xs (members (cover b xs)) = λ z i. among_member (cover b xs) z (cover_step b xs) (cover_holds b xs z i) in
-    elim (cases_lt b.width (length (distinct xs))) [
+    elim (cases_lt b.most_words (length (distinct xs))) [
       | inl many ↦
           let longer : length (distinct xs) ≤ length (distinct (members (cover b xs))) = length-distinct xs (members (cover b xs)) there in
           cover-many b (members (cover b xs)) (omega arith)
@@ -243,7 +243,7 @@ cover_own b xs some =
 
 pub cover_well : (b : Limits) (xs : List ℕ) → AreLimits b → AreCoverable xs → IsWell (cover b xs)
 cover_well b xs limits good =
-    elim (cases_lt b.width (length (distinct xs))) [
+    elim (cases_lt b.most_words (length (distinct xs))) [
       | inl many ↦
           let some : 1 ≤ length (distinct xs) = some_distinct xs good.some in
           let ts : List ℕ = b.thresholds in

@@ -3,7 +3,7 @@ use Rattle.std.proofs.Common.{◌≡◌, ℕ, ◌+◌, ◌-◌, ◌*◌, ◌/◌
 use Rattle.std.proofs.Math.Nat.{mul-le-mul_right, mul-one}
 use Rattle.std.proofs.lemmas.Bool.{cases_lt}
 use Rattle.value_domain.specs.declared.values.Val.TheVariants.{Set, Span}
-use Rattle.value_domain.specs.Sets.{Among, Within, Rising, distinct, twos, least, greatest, step_of}
+use Rattle.value_domain.specs.Sets.{Among, Within, Rising, distinct, alignment_log2, least, greatest, step_of}
 use Rattle.value_domain.specs.Limits.{Limits}
 use Rattle.value_domain.specs.Floors.{floor, above}
 use Rattle.value_domain.specs.Values.{IsMember, IsValue, IsBelow, IsExtent, cover, members, range, first_in, count_in}
@@ -111,7 +111,7 @@ pub extent_distinct : {lo hi s : ℕ} (xs : List ℕ) → IsExtent xs lo hi s �
 extent_distinct xs e = extent_same xs (distinct xs) (λ z i. distinct_has z xs i) (λ z i. among_distinct z xs i) e
 
 -- the cover of a large set
-pub cover_span : {lo hi s : ℕ} (b : Limits) (xs : List ℕ) → b.width < length (distinct xs) → IsExtent xs lo hi s
+pub cover_span : {lo hi s : ℕ} (b : Limits) (xs : List ℕ) → b.most_words < length (distinct xs) → IsExtent xs lo hi s
     → cover b xs ≡ Span (floor b.thresholds lo) (above b.thresholds hi - 1) s
 cover_span {lo} {hi} {s} b xs many e =
     let own = extent_only (distinct xs) (extent_rising (distinct xs) (rising_distinct xs) (omega arith)) (extent_distinct xs e) in
@@ -130,7 +130,7 @@ extent_append {lo} {hi} {s} {lo2} {hi2} {s2} xs ys e f = record {
   ];
   low = λ z i. elim (among_append z xs ys i) [ inl j ↦ let o : lo ≤ z = e.low z j in omega arith | inr j ↦ let o : lo2 ≤ z = f.low z j in omega arith ];
   high = λ z i. elim (among_append z xs ys i) [ inl j ↦ let o : z ≤ hi = e.high z j in omega arith | inr j ↦ let o : z ≤ hi2 = f.high z j in omega arith ];
-  fits = λ z i. elim (among_append z xs ys i) [ inl j ↦ let o : s ≤ twos z = e.fits z j in omega arith | inr j ↦ let o : s2 ≤ twos z = f.fits z j in omega arith ];
+  fits = λ z i. elim (among_append z xs ys i) [ inl j ↦ let o : s ≤ alignment_log2 z = e.fits z j in omega arith | inr j ↦ let o : s2 ≤ alignment_log2 z = f.fits z j in omega arith ];
   small = let o : s ≤ 2 = e.small in omega arith;
   full = λ t le each.
       let a : t ≤ s = e.full t le (λ z i. each z (append_left z xs ys i)) in
@@ -138,26 +138,26 @@ extent_append {lo} {hi} {s} {lo2} {hi2} {s2} xs ys e f = record {
       omega arith;
 }
 
-pub extent_one : (x : ℕ) → IsExtent (x ∷ []) x x (twos x)
+pub extent_one : (x : ℕ) → IsExtent (x ∷ []) x x (alignment_log2 x)
 extent_one x = record {
   low_in = inl refl;
   high_in = inl refl;
   low = λ z i. elim i [ inl e ↦ let e2 : z ≡ x = e in omega arith | inr n ↦ absurd n ];
   high = λ z i. elim i [ inl e ↦ let e2 : z ≡ x = e in omega arith | inr n ↦ absurd n ];
-  fits = λ z i. elim i [ inl e ↦ let e2 : z ≡ x = e in let e3 : twos z ≡ twos x = ap twos e2 in omega arith | inr n ↦ absurd n ];
+  fits = λ z i. elim i [ inl e ↦ let e2 : z ≡ x = e in let e3 : alignment_log2 z ≡ alignment_log2 x = ap alignment_log2 e2 in omega arith | inr n ↦ absurd n ];
   small = twos_le x;
   full = λ t le each. each x (inl refl);
 }
 
 -- a range of two or more has these bounds, and its own step
-next_unit : (s : ℕ) → s ≤ 2 → (t k : ℕ) → t ≤ 2 → t ≤ twos (k * 2 ^ s) → t ≤ twos ((k + 1) * 2 ^ s) → t ≤ s
+next_unit : (s : ℕ) → s ≤ 2 → (t k : ℕ) → t ≤ 2 → t ≤ alignment_log2 (k * 2 ^ s) → t ≤ alignment_log2 ((k + 1) * 2 ^ s) → t ≤ s
 next_unit =
-    step_cases (λ s. (t k : ℕ) → t ≤ 2 → t ≤ twos (k * 2 ^ s) → t ≤ twos ((k + 1) * 2 ^ s) → t ≤ s)
+    step_cases (λ s. (t k : ℕ) → t ≤ 2 → t ≤ alignment_log2 (k * 2 ^ s) → t ≤ alignment_log2 ((k + 1) * 2 ^ s) → t ≤ s)
     (λ t k le a b. odd_even t k (k + 1) le (rw mul-one at a) (rw mul-one at b) refl)
     (λ t k le a b. odd_even_2 t (k * 2) ((k + 1) * 2) le a b (omega arith))
     (λ t k le a b. le)
   where
-    odd_even : (t x y : ℕ) → t ≤ 2 → t ≤ twos x → t ≤ twos y → y ≡ x + 1 → t ≤ 0
+    odd_even : (t x y : ℕ) → t ≤ 2 → t ≤ alignment_log2 x → t ≤ alignment_log2 y → y ≡ x + 1 → t ≤ 0
     odd_even t x y le a b e =
         elim (cases_lt 0 t) [
           | inl h ↦
@@ -167,7 +167,7 @@ next_unit =
           | inr h ↦ h
         ]
 
-    odd_even_2 : (t x y : ℕ) → t ≤ 2 → t ≤ twos x → t ≤ twos y → y ≡ x + 2 → t ≤ 1
+    odd_even_2 : (t x y : ℕ) → t ≤ 2 → t ≤ alignment_log2 x → t ≤ alignment_log2 y → y ≡ x + 2 → t ≤ 1
     odd_even_2 t x y le a b e =
         elim (cases_lt 1 t) [
           | inl h ↦
@@ -201,9 +201,9 @@ extent_range lo last s small two = record {
 }
 
 -- a Span that is a value has more members than a Set may have
-pub many_span : (b : Limits) (lo last s : ℕ) → IsValue b (Span lo last s) → b.width < length (distinct (range lo last s))
+pub many_span : (b : Limits) (lo last s : ℕ) → IsValue b (Span lo last s) → b.most_words < length (distinct (range lo last s))
 many_span b lo last s value =
-    elim (cases_lt b.width (length (distinct (range lo last s)))) [
+    elim (cases_lt b.most_words (length (distinct (range lo last s)))) [
       | inl many ↦ many
       | inr few ↦
           let e : Set (distinct (range lo last s)) ≡ Span lo last s = sym (cover-few b (range lo last s) few) ∙ value.own in

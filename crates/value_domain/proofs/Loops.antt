@@ -8,17 +8,17 @@ use Rattle.value_domain.proofs.ExtentLaws.{some_length, extent_rising, extent_ra
 use Rattle.value_domain.proofs.CoverLaws.{step_cases}
 use Rattle.value_domain.specs.Values.{IsExtent, IsWell, range}
 use Rattle.value_domain.specs.declared.values.Val.TheVariants.{Span}
-use Rattle.value_domain.specs.Sets.{Among, Rising, twos, step_of, least, greatest, put, AreWords}
+use Rattle.value_domain.specs.Sets.{Among, Rising, alignment_log2, step_of, least, greatest, put, AreWords}
 use Rattle.value_domain.proofs.SetLaws.{put-lt, put-gt, rising_put, among_put, length_put, put_has, greatest_greatest}
 
 pub drop_at : (xs : List ℕ) (i : ℕ) → i < length xs → drop i xs ≡ get_or xs i 0 ∷ drop (i + 1) xs
 drop_at xs i h = rw (add-one) (drop-cons xs i 0 h)
 
-pub step_more : (xs : List ℕ) (i step t : ℕ) → i < length xs → step_of xs ≡ min step (step_of (drop i xs)) → t ≡ twos (get_or xs i 0)
+pub step_more : (xs : List ℕ) (i step t : ℕ) → i < length xs → step_of xs ≡ min step (step_of (drop i xs)) → t ≡ alignment_log2 (get_or xs i 0)
     → step_of xs ≡ min (min t step) (step_of (drop (i + 1) xs))
 unfolding step_of
 step_more xs i step t h inv e =
-    let d : step_of (drop i xs) ≡ min (twos (get_or xs i 0)) (step_of (drop (i + 1) xs)) = ap step_of (drop_at xs i h) in
+    let d : step_of (drop i xs) ≡ min (alignment_log2 (get_or xs i 0)) (step_of (drop (i + 1) xs)) = ap step_of (drop_at xs i h) in
     omega arith
 
 pub step_all : (xs : List ℕ) (i step : ℕ) → length xs ≤ i → step ≤ 2 → step_of xs ≡ min step (step_of (drop i xs)) → step ≡ step_of xs

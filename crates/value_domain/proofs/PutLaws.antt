@@ -3,7 +3,7 @@ use Rattle.std.proofs.Common.{◌≡◌, ℕ, ◌-◌, ◌<◌, ◌≤◌, inl, 
 use Rattle.std.proofs.lemmas.List.{take_more, take_all, take-append-drop}
 use Rattle.value_domain.specs.declared.values.Val.{Val}
 use Rattle.value_domain.specs.declared.values.Val.TheVariants.{Set, Span}
-use Rattle.value_domain.specs.Sets.{Among, Rising, AreWords, put, distinct, twos}
+use Rattle.value_domain.specs.Sets.{Among, Rising, AreWords, put, distinct, alignment_log2}
 use Rattle.value_domain.specs.Limits.{Limits, AreLimits}
 use Rattle.value_domain.specs.Floors.{floor, above}
 use Rattle.value_domain.specs.Values.{IsMember, IsWell, IsValue, IsExtent, cover, members, range, words_of}
@@ -12,7 +12,7 @@ use Rattle.value_domain.proofs.CoverLaws.{cover-few, cover-same, among_member, h
 use Rattle.value_domain.proofs.ExtentLaws.{cover_span, cover-part, extent_append, extent_one, many_span, append_left, among_append}
 use Rattle.value_domain.proofs.RangeLaws.{cover_value, members_below, some_members}
 use Rattle.value_domain.proofs.WordLaws.{among_place}
-use Rattle.value_domain.proofs.BitLaws.{twos-or}
+use Rattle.value_domain.proofs.BitLaws.{alignment_log2-or}
 use Rattle.value_domain.proofs.SetLaws.{least_among}
 use Rattle.value_domain.specs.Sets.{least}
 
@@ -26,26 +26,26 @@ distinct-more : (x : ℕ) (ws : List ℕ) → Rising ws → distinct (x ∷ ws) 
 unfolding distinct
 distinct-more x ws r = ap (put x) (distinct-rising ws r)
 
-pub with_room : (b : Limits) (ws : List ℕ) (x : ℕ) → AreWords ws → length ws < b.width → Set (put x ws) ≡ cover b (x ∷ ws)
+pub with_room : (b : Limits) (ws : List ℕ) (x : ℕ) → AreWords ws → length ws < b.most_words → Set (put x ws) ≡ cover b (x ∷ ws)
 with_room b ws x a room =
     let e = distinct-more x ws a.rising in
     ap (λ (l : List ℕ). Set l) (sym e) ∙ sym (cover-few b (x ∷ ws) (rw e (omega (arith, length_put x ws))))
 
-pub with_full : {lo hi s : ℕ} (b : Limits) (ws : List ℕ) (x : ℕ) → AreWords ws → (Among x ws → ⊥) → b.width ≤ length ws → IsExtent ws lo hi s
-    → Span (floor b.thresholds (min x lo)) (above b.thresholds (max x hi) - 1) (min (twos x) s) ≡ cover b (x ∷ ws)
+pub with_full : {lo hi s : ℕ} (b : Limits) (ws : List ℕ) (x : ℕ) → AreWords ws → (Among x ws → ⊥) → b.most_words ≤ length ws → IsExtent ws lo hi s
+    → Span (floor b.thresholds (min x lo)) (above b.thresholds (max x hi) - 1) (min (alignment_log2 x) s) ≡ cover b (x ∷ ws)
 with_full b ws x a absent full e =
     let d = distinct-more x ws a.rising in
     sym (cover_span b (x ∷ ws) (rw d (omega (arith, length-put_new x ws absent))) (extent_append (x ∷ []) ws (extent_one x) e))
 
 pub with_span : {least greatest s : ℕ} (b : Limits) (lo last step : ℕ) (x : ℕ) → IsValue b (Span lo last step) → IsExtent (range lo last step) least greatest s
-    → Span (floor b.thresholds (min x least)) (above b.thresholds (max x greatest) - 1) (min (twos x) s) ≡ cover b (x ∷ range lo last step)
+    → Span (floor b.thresholds (min x least)) (above b.thresholds (max x greatest) - 1) (min (alignment_log2 x) s) ≡ cover b (x ∷ range lo last step)
 with_span b lo last step x value e =
     sym (cover_span b (x ∷ range lo last step)
     (omega (arith, many_span b lo last step value, length-distinct (range lo last step) (x ∷ range lo last step) (λ z i. inr i)))
     (extent_append (x ∷ []) (range lo last step) (extent_one x) e))
 
-pub with_wider : {lo hi s : ℕ} (b : Limits) (v : Val) (x : ℕ) → IsValue b v → (IsMember x v → ⊥) → ((ws : List ℕ) → v ≡ Set ws → b.width ≤ length ws) → IsExtent (members v) lo hi s
-    → Span (floor b.thresholds (min x lo)) (above b.thresholds (max x hi) - 1) (min (twos x) s) ≡ cover b (x ∷ members v)
+pub with_wider : {lo hi s : ℕ} (b : Limits) (v : Val) (x : ℕ) → IsValue b v → (IsMember x v → ⊥) → ((ws : List ℕ) → v ≡ Set ws → b.most_words ≤ length ws) → IsExtent (members v) lo hi s
+    → Span (floor b.thresholds (min x lo)) (above b.thresholds (max x hi) - 1) (min (alignment_log2 x) s) ≡ cover b (x ∷ members v)
 with_wider b (Set ws) x value absent full e = with_full b ws x value.well absent (full ws refl) e
 with_wider b (Span lo last step) x value absent full e = with_span b lo last step x value e
 
@@ -53,21 +53,21 @@ pub same_words : (ws us : List ℕ) → Set ws ≡ Set us → ws ≡ us
 same_words ws us e = cc
 
 -- ---- more words at once
-pub extent_none : {lo hi s : ℕ} (xs : List ℕ) → IsExtent xs lo hi s → IsExtent (xs ++ []) lo hi (min (twos 0) s)
-unfolding twos
+pub extent_none : {lo hi s : ℕ} (xs : List ℕ) → IsExtent xs lo hi s → IsExtent (xs ++ []) lo hi (min (alignment_log2 0) s)
+unfolding alignment_log2
 extent_none {lo} {hi} {s} xs e =
     let small : s ≤ 2 = e.small in
     let same : min 2 s ≡ s = omega arith in
     rw (append-nil xs, same) e
 
-pub extent_next : (lo hi s : ℕ) (xs ws : List ℕ) (i bits : ℕ) → i < length ws → IsExtent (xs ++ take i ws) lo hi (min (twos bits) s)
-    → IsExtent (xs ++ take (i + 1) ws) (min lo (get_or ws i 0)) (max hi (get_or ws i 0)) (min (twos (bit_or bits (get_or ws i 0))) s)
+pub extent_next : (lo hi s : ℕ) (xs ws : List ℕ) (i bits : ℕ) → i < length ws → IsExtent (xs ++ take i ws) lo hi (min (alignment_log2 bits) s)
+    → IsExtent (xs ++ take (i + 1) ws) (min lo (get_or ws i 0)) (max hi (get_or ws i 0)) (min (alignment_log2 (bit_or bits (get_or ws i 0))) s)
 extent_next lo hi s xs ws i bits h e =
     let x = get_or ws i 0 in
     let more = extent_append (xs ++ take i ws) (x ∷ []) e (extent_one x) in
-    let step : min (min (twos bits) s) (twos x) ≡ min (twos (bit_or bits x)) s = omega (arith, twos-or bits x) in
+    let step : min (min (alignment_log2 bits) s) (alignment_log2 x) ≡ min (alignment_log2 (bit_or bits x)) s = omega (arith, alignment_log2-or bits x) in
     let list : (xs ++ take i ws) ++ (x ∷ []) ≡ xs ++ take (i + 1) ws = append_assoc xs (take i ws) (x ∷ []) ∙ ap (λ (l : List ℕ). xs ++ l) (sym (take_more ws i 0 h)) in
-    subst (λ (l : List ℕ). IsExtent l (min lo x) (max hi x) (min (twos (bit_or bits x)) s)) list
+    subst (λ (l : List ℕ). IsExtent l (min lo x) (max hi x) (min (alignment_log2 (bit_or bits x)) s)) list
     (subst (λ (t : ℕ). IsExtent ((xs ++ take i ws) ++ (x ∷ [])) (min lo x) (max hi x) t) step more)
 
 pub widened : {lo hi s : ℕ} (b : Limits) (v : Val) (ws : List ℕ) → IsValue b v → IsNone (words_of v) → IsExtent (members v ++ ws) lo hi s

@@ -4,7 +4,7 @@ use Rattle.std.proofs.lemmas.Bool.{cases_lt}
 use Rattle.std.proofs.lemmas.List.{take_more}
 use Rattle.value_domain.specs.declared.values.Val.{Val}
 use Rattle.value_domain.specs.declared.values.Val.TheVariants.{Set, Span}
-use Rattle.value_domain.specs.Sets.{Among, Within, Rising, AreWords, distinct, multiples, twos}
+use Rattle.value_domain.specs.Sets.{Among, Within, Rising, AreWords, distinct, multiples, alignment_log2}
 use Rattle.value_domain.specs.Limits.{Limits, AreLimits}
 use Rattle.value_domain.specs.Floors.{floor, above}
 use Rattle.value_domain.specs.Values.{IsWell, IsValue, IsBelow, IsExtent, cover, value_of, members, range, first_in, count_in, any_val}
@@ -76,12 +76,12 @@ words_more b v out words i well h e =
     ∙ ap (cover b) (append_assoc (members v) (take i words) (get_or words i 0 ∷ []) ∙ ap (λ (l : List ℕ). members v ++ l) (sym (take_more words i 0 h)))
 
 -- ---- Spans
-pub many_range : (b : Limits) (lo last s : ℕ) → b.width < count_in lo last s → b.width < length (distinct (range lo last s))
+pub many_range : (b : Limits) (lo last s : ℕ) → b.most_words < count_in lo last s → b.most_words < length (distinct (range lo last s))
 many_range b lo last s many =
     let r = distinct-rising (range lo last s) (rising_multiples (count_in lo last s) (first_in lo s) (2 ^ s) (unit_some s)) in
     rw r (omega (arith, length-multiples (count_in lo last s) (first_in lo s) (2 ^ s)))
 
-pub span_value : {least greatest s2 : ℕ} (b : Limits) (lo last s : ℕ) → AreLimits b → s ≤ 2 → last < 2 ^ 32 → b.width < count_in lo last s → IsExtent (range lo last s) least greatest s2
+pub span_value : {least greatest s2 : ℕ} (b : Limits) (lo last s : ℕ) → AreLimits b → s ≤ 2 → last < 2 ^ 32 → b.most_words < count_in lo last s → IsExtent (range lo last s) least greatest s2
     → lo ≡ floor b.thresholds least → last ≡ above b.thresholds greatest - 1 → IsValue b (Span lo last s)
 span_value {least} {greatest} {s2} b lo last s limits small below many e low high =
     let step : s2 ≡ s = (extent_only (range lo last s) e (extent_range lo last s small (omega (arith, limits.wide)))).2 in
@@ -102,10 +102,10 @@ value_span {least} {greatest} {s2} b lo last s value e =
     in
     (cc, cc)
 
-pub span_count : (b : Limits) (lo last s : ℕ) → IsValue b (Span lo last s) → b.width < count_in lo last s
+pub span_count : (b : Limits) (lo last s : ℕ) → IsValue b (Span lo last s) → b.most_words < count_in lo last s
 span_count b lo last s value =
     let r = distinct-rising (range lo last s) (rising_multiples (count_in lo last s) (first_in lo s) (2 ^ s) (unit_some s)) in
-    let m : b.width < length (range lo last s) = rw r at (many_span b lo last s value) in
+    let m : b.most_words < length (range lo last s) = rw r at (many_span b lo last s value) in
     omega (arith, length-multiples (count_in lo last s) (first_in lo s) (2 ^ s))
 
 pub cover_join_span : {lo1 hi1 s1 lo2 hi2 s2 : ℕ} (b : Limits) (xs : List ℕ) (lo last s : ℕ) → IsValue b (Span lo last s) → IsExtent xs lo1 hi1 s1 → IsExtent (range lo last s) lo2 hi2 s2
@@ -143,12 +143,12 @@ range_value b lo last s limits small some below =
     })).value
 
 -- a Set is a value of its width
-pub set_value : (b : Limits) (ws : List ℕ) → AreWords ws → (length ws ≤ b.width → IsValue b (Set ws)) × (IsValue b (Set ws) → length ws ≤ b.width)
+pub set_value : (b : Limits) (ws : List ℕ) → AreWords ws → (length ws ≤ b.most_words → IsValue b (Set ws)) × (IsValue b (Set ws) → length ws ≤ b.most_words)
 set_value b ws a =
     let d = distinct-rising ws a.rising in (
       (λ few. record { well = a; own = cover-few b ws (rw d few) ∙ ap (λ (l : List ℕ). Set l) d }),
       (λ value.
-          elim (cases_lt b.width (length ws)) [
+          elim (cases_lt b.most_words (length ws)) [
             | inl many ↦
                 let e = sym (cover-many b ws (rw d many)) ∙ value.own in
                 absurd (set_span ws (distinct ws) b e)
@@ -191,7 +191,7 @@ range_step words start unit k j before here low high =
     ]
 
 -- a range that begins with a multiple isn't empty
-pub count_some : (lo last s : ℕ) → s ≤ 2 → lo ≤ last → s ≤ twos lo → 1 ≤ count_in lo last s
+pub count_some : (lo last s : ℕ) → s ≤ 2 → lo ≤ last → s ≤ alignment_log2 lo → 1 ≤ count_in lo last s
 count_some lo last s small low fits =
     let i = among_range lo lo last s small (omega arith, low, fits) in
     omega (arith, some_length (range lo last s) lo i, length-multiples (count_in lo last s) (first_in lo s) (2 ^ s))

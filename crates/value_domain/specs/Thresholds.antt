@@ -3,7 +3,7 @@ use Rattle.std.specs.Prelude.{◌^◌, ℕ, zero, suc, List, [], ◌∷◌, ◌+
 use Rattle.tcd_plan.specs.PlanData.{PlanData, all_ranges}
 use Rattle.value_domain.specs.Ends.{ends}
 use Rattle.value_domain.specs.Limits.{Limits}
-use Rattle.value_domain.specs.Versions.{width_of, most_of}
+use Rattle.value_domain.specs.Versions.{most_words_of, most_locals_of}
 
 -- the first n powers of two, from 1 on
 unfoldable pub powers_of_two : ℕ → List ℕ
@@ -16,4 +16,4 @@ thresholds_of p = (0 ∷ powers_of_two 33) ++ ends (all_ranges p)
 
 -- the plan's thresholds, and the most words of a Set and the most locals in a certificate of the version
 abbrev pub limits_for : PlanData → ℕ → Limits
-limits_for p version = record { thresholds = thresholds_of p; width = width_of version; most = most_of version }
+limits_for p version = record { thresholds = thresholds_of p; most_words = most_words_of version; most_locals = most_locals_of version }

@@ -2,14 +2,14 @@
 use Rattle.std.specs.Prelude.{Option, Some, None, ◌≡◌, ◌<◌, ◌≤◌, ◌+◌, ◌-◌, ◌/◌, ◌^◌, ℕ, nat_le, if◌then◌else◌, List, length}
 use Rattle.value_domain.specs.declared.values.Val.{Val}
 use Rattle.value_domain.specs.declared.values.Val.TheVariants.{Set, Span}
-use Rattle.value_domain.specs.Sets.{Among, AreWords, distinct, twos, least, greatest, step_of, multiples}
+use Rattle.value_domain.specs.Sets.{Among, AreWords, distinct, alignment_log2, least, greatest, step_of, multiples}
 use Rattle.value_domain.specs.Limits.{Limits}
 use Rattle.value_domain.specs.Floors.{floor, above}
 
 -- a word is one of a value's members
 abbrev pub IsMember : ℕ → Val → Type 0
 IsMember x (Set ws) = Among x ws
-IsMember x (Span lo last step) = (lo ≤ x) × (x ≤ last) × (step ≤ twos x)
+IsMember x (Span lo last step) = (lo ≤ x) × (x ≤ last) × (step ≤ alignment_log2 x)
 
 -- a range's first multiple of 2 ^ step, in units, and how many it has
 abbrev pub first_in : ℕ → ℕ → ℕ
@@ -36,7 +36,7 @@ IsWell (Span lo last step) = (step ≤ 2) × (64 < count_in lo last step) × (la
 -- the least value that holds an ascending list
 abbrev pub value_of : Limits → List ℕ → Val
 value_of b ws =
-    if nat_le (length ws) b.width
+    if nat_le (length ws) b.most_words
     then Set ws
     else Span (floor b.thresholds (least ws)) (above b.thresholds (greatest ws) - 1) (step_of ws)
 
@@ -59,9 +59,9 @@ pub record IsExtent (xs : List ℕ) (lo hi s : ℕ) : Type 0 where
   pub high_in : Among hi xs
   pub low : (z : ℕ) → Among z xs → lo ≤ z
   pub high : (z : ℕ) → Among z xs → z ≤ hi
-  pub fits : (z : ℕ) → Among z xs → s ≤ twos z
+  pub fits : (z : ℕ) → Among z xs → s ≤ alignment_log2 z
   pub small : s ≤ 2
-  pub full : (t : ℕ) → t ≤ 2 → ((z : ℕ) → Among z xs → t ≤ twos z) → t ≤ s
+  pub full : (t : ℕ) → t ≤ 2 → ((z : ℕ) → Among z xs → t ≤ alignment_log2 z) → t ≤ s
 
 -- all words
 abbrev pub any_val : Val

@@ -2,9 +2,9 @@
 use Rattle.std.specs.Prelude.{ℕ, ◌==◌, if◌then◌else◌}
 
 -- the most words of a Set
-abbrev pub width_of : ℕ → ℕ
-width_of version = if version == 1 then 64 else 128
+abbrev pub most_words_of : ℕ → ℕ
+most_words_of version = if version == 1 then 64 else 128
 
 -- the most locals of a state
-abbrev pub most_of : ℕ → ℕ
-most_of version = if version == 1 then 4 else 8
+abbrev pub most_locals_of : ℕ → ℕ
+most_locals_of version = if version == 1 then 4 else 8

@@ -22,9 +22,9 @@ pub struct Extent {
 }
 
 /// How often two divides a word, counted up to 2.
-#[tactic(auto, unfolding(crate::specs::Sets::twos))]
-pub fn twos(x: u32) -> u8
-    ensures { result ≡ sets.twos x }
+#[tactic(auto, unfolding(crate::specs::Sets::alignment_log2))]
+pub fn alignment_log2(x: u32) -> u8
+    ensures { result ≡ sets.alignment_log2 x }
 {
     if x % 4 == 0 {
         2
@@ -41,7 +41,7 @@ pub fn member(x: u32, v: &Val) -> bool
 {
     match v {
         Val::Set(words) => has(words.as_slice(), x),
-        Val::Span { lo, last, step } => *lo <= x && x <= *last && *step <= twos(x),
+        Val::Span { lo, last, step } => *lo <= x && x <= *last && *step <= alignment_log2(x),
     }
 }
 
@@ -60,12 +60,12 @@ fn set_extent(words: &[u32]) -> Extent
 fn least_step(words: &[u32]) -> u8
     ensures { result ≡ step_of words.now }
 {
-    twos(bits_of(words))
+    alignment_log2(bits_of(words))
 }
 
 /// The bits that are set in any of the words.
 fn bits_of(words: &[u32]) -> u32
-    ensures { sets.twos result ≡ step_of words.now }
+    ensures { sets.alignment_log2 result ≡ step_of words.now }
 {
     let mut bits = 0;
     for x in words {
@@ -123,7 +123,7 @@ pub fn add_word(b: &Bounds, v: &mut Val, x: u32)
     ensures cover { v.new ≡ cover b.now (x ∷ members v.old) }
     ensures value { IsValue b.now v.new }
 {
-    let _width = b.width();
+    let _most_words = b.most_words();
     put_word(b, v, x);
 }
 
@@ -131,12 +131,12 @@ fn put_word(b: &Bounds, v: &mut Val, x: u32)
     requires { IsValue b.now v.old }
     ensures { v.new ≡ cover b.now (x ∷ members v.old) }
 {
-    let width = b.width();
+    let most_words = b.most_words();
     if member(x, v) {
         return;
     }
     if let Val::Set(words) = v {
-        if words.as_slice().len() < width {
+        if words.as_slice().len() < most_words {
             words.put(x);
             return;
         }
@@ -146,9 +146,14 @@ fn put_word(b: &Bounds, v: &mut Val, x: u32)
 }
 
 fn wider(b: &Bounds, e: &Extent, x: u32) -> Val
-    ensures { result ≡ Span (floor b.now.thresholds (min x e.now.least)) (above b.now.thresholds (max x e.now.greatest) - 1) (min (sets.twos x) e.now.step) }
+    ensures { result ≡ Span (floor b.now.thresholds (min x e.now.least)) (above b.now.thresholds (max x e.now.greatest) - 1) (min (sets.alignment_log2 x) e.now.step) }
 {
-    span(b, x.min(e.least), x.max(e.greatest), twos(x).min(e.step))
+    span(
+        b,
+        x.min(e.least),
+        x.max(e.greatest),
+        alignment_log2(x).min(e.step),
+    )
 }
 
 /// Adds words to a value, which becomes the least one that holds them too.
@@ -157,7 +162,7 @@ pub fn add_words(b: &Bounds, v: &mut Val, words: &[u32])
     ensures cover { v.new ≡ cover b.now (members v.old ++ words.now) }
     ensures value { IsValue b.now v.new }
 {
-    let _width = b.width();
+    let _most_words = b.most_words();
     let mut i = 0;
     while i < words.len() && is_set(v) {
         add_word(b, v, words[i]);
@@ -199,7 +204,7 @@ fn extent_with(e: &Extent, words: &[u32]) -> Extent
     Extent {
         least,
         greatest,
-        step: twos(bits).min(e.step),
+        step: alignment_log2(bits).min(e.step),
     }
 }
 
@@ -209,7 +214,7 @@ pub fn cover_words(b: &Bounds, words: &[u32]) -> Val
     ensures cover { result ≡ cover b.now words.now }
     ensures value { IsValue b.now result }
 {
-    let _width = b.width();
+    let _most_words = b.most_words();
     let mut out = Val::one(words[0]);
     add_words(b, &mut out, words);
     out
@@ -248,7 +253,7 @@ pub fn join(b: &Bounds, v: &Val, w: &Val) -> Val
     ensures cover { result ≡ cover b.now (members v.now ++ members w.now) }
     ensures value { IsValue b.now result }
 {
-    let _width = b.width();
+    let _most_words = b.most_words();
     match w {
         Val::Set(words) => join_set(b, v, words),
         Val::Span { lo, last, step } => join_span(b, v, *lo, *last, *step),
@@ -276,7 +281,7 @@ fn value_of(b: &Bounds, words: &[u32]) -> Val
     requires rising { Rising words.now }
     ensures { result ≡ values.value_of b.now words.now }
 {
-    if words.len() <= b.width() {
+    if words.len() <= b.most_words() {
         return Val::Set(Words::held(words));
     }
     span(b, words[0], words[words.len() - 1], least_step(words))
@@ -390,7 +395,7 @@ pub fn is_value(b: &Bounds, v: &Val) -> bool
     ensures { IsTrue result ↔ IsValue b.now v.now }
 {
     match v {
-        Val::Set(words) => words.as_slice().len() <= b.width(),
+        Val::Set(words) => words.as_slice().len() <= b.most_words(),
         Val::Span { lo, last, step } => is_span(b, *lo, *last, *step),
     }
 }
@@ -398,14 +403,14 @@ pub fn is_value(b: &Bounds, v: &Val) -> bool
 fn is_span(b: &Bounds, lo: u32, last: u32, step: u8) -> bool
     ensures { IsTrue result ↔ IsValue b.now (Span lo last step) }
 {
-    let width = b.width();
+    let most_words = b.most_words();
     if is_all(lo, last, step) {
         return true;
     }
     if step > 2 {
         return false;
     }
-    if count_of(lo, last, step) <= width as u64 {
+    if count_of(lo, last, step) <= most_words as u64 {
         return false;
     }
     let e = span_extent(lo, last, step);
@@ -428,8 +433,8 @@ pub fn cover(b: &Bounds, first: u32, last: u32, step: u8) -> Val
     ensures cover { result ≡ cover b.now (range first last step) }
     ensures value { IsValue b.now result }
 {
-    let width = b.width();
-    if count_of(first, last, step) > width as u64 {
+    let most_words = b.most_words();
+    if count_of(first, last, step) > most_words as u64 {
         many(b, first, last, step)
     } else {
         few(b, first, last, step)
@@ -438,7 +443,7 @@ pub fn cover(b: &Bounds, first: u32, last: u32, step: u8) -> Val
 
 fn many(b: &Bounds, first: u32, last: u32, step: u8) -> Val
     requires step { step ≤ 2 }
-    requires many { b.now.width < count_in first last step }
+    requires many { b.now.most_words < count_in first last step }
     requires limits { AreLimits b.now }
     ensures { result ≡ cover b.now (range first last step) }
 {

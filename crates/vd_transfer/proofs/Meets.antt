@@ -4,7 +4,7 @@ use Rattle.std.specs.List.{filter, list_any}
 use Rattle.std.proofs.lemmas.Bool.{cases_Bool, and_parts, and_from, leb-true, le-leb, or_cases, or_left, or_right, cases_order, eqb-true, eqb-false, eq-eqb, ne_eqb, lt-ltb, ltb-true, not-true, not_from_false}
 use Rattle.value_domain.specs.declared.values.Val.{Val}
 use Rattle.value_domain.specs.declared.values.Val.TheVariants.{Set, Span}
-use Rattle.value_domain.specs.Sets.{Among, Within, twos, multiples}
+use Rattle.value_domain.specs.Sets.{Among, Within, alignment_log2, multiples}
 use Rattle.value_domain.specs.Limits.{Limits, AreLimits}
 use Rattle.value_domain.specs.Values.{IsWell, IsExtent, cover, members, range, count_in, first_in}
 use Rattle.value_domain.proofs.CoverLaws.{cover-same, range_among, among_range, length-multiples}
@@ -82,15 +82,15 @@ filter_has p z (x ∷ xs) i e =
           ])
     ]
 
-pub in_span_parts : (lo last step x : ℕ) → in_span lo last step x ≡ true → (lo ≤ x) × (x ≤ last) × (step ≤ twos x)
+pub in_span_parts : (lo last step x : ℕ) → in_span lo last step x ≡ true → (lo ≤ x) × (x ≤ last) × (step ≤ alignment_log2 x)
 in_span_parts lo last step x e =
-    let a = and_parts (leb lo x && leb x last) (leb step (twos x)) e in
+    let a = and_parts (leb lo x && leb x last) (leb step (alignment_log2 x)) e in
     let c = and_parts (leb lo x) (leb x last) a.0 in
-    (leb-true lo x c.0, leb-true x last c.1, leb-true step (twos x) a.1)
+    (leb-true lo x c.0, leb-true x last c.1, leb-true step (alignment_log2 x) a.1)
 
-pub in_span_from : (lo last step x : ℕ) → lo ≤ x → x ≤ last → step ≤ twos x → in_span lo last step x ≡ true
+pub in_span_from : (lo last step x : ℕ) → lo ≤ x → x ≤ last → step ≤ alignment_log2 x → in_span lo last step x ≡ true
 in_span_from lo last step x a b c =
-    and_from (leb lo x && leb x last) (leb step (twos x)) (and_from (leb lo x) (leb x last) (le-leb lo x a) (le-leb x last b)) (le-leb step (twos x) c)
+    and_from (leb lo x && leb x last) (leb step (alignment_log2 x)) (and_from (leb lo x) (leb x last) (le-leb lo x a) (le-leb x last b)) (le-leb step (alignment_log2 x) c)
 
 -- a range met with a range
 pub meet_range : (b : Limits) (lo last step lo2 last2 step2 : ℕ) → step ≤ 2 → step2 ≤ 2

@@ -277,7 +277,7 @@ span_not_below b lo last s ws vs vw below =
     let shorter : length (range lo last s) ≤ length ws =
     length_within (range lo last s) ws (rising_members (Span lo last s) vs.well) vw.well.rising (λ z i. below z (range_among z lo last s vs.well.0 i))
     in
-    let few : length ws ≤ b.width = (set_value b ws vw.well).1 vw in
+    let few : length ws ≤ b.most_words = (set_value b ws vw.well).1 vw in
     absurd (omega (arith, span_count b lo last s vs, length-multiples (count_in lo last s) (first_in lo s) (2 ^ s)))
 
 into_all : (xs : List ℕ) → ((z : ℕ) → Among z xs → z < 2 ^ 32) → Within xs (all_of 0)

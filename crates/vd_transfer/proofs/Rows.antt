@@ -4,7 +4,7 @@ use Rattle.std.proofs.lemmas.Bool.{cases_lt, lt-ltb, le-ltb, le-leb, lt-leb}
 use Rattle.std.proofs.lemmas.Nat.{and_le_l, and_le_r, shr_le}
 use Rattle.std.proofs.Math.Pow.{shr_mono}
 use Rattle.std.proofs.Math.Nat.{mul-le-mul_right}
-use Rattle.value_domain.specs.Sets.{Among, Within, twos}
+use Rattle.value_domain.specs.Sets.{Among, Within, alignment_log2}
 use Rattle.value_domain.specs.Values.{range}
 use Rattle.value_domain.proofs.CoverLaws.{range_among, among_range, from_units}
 use Rattle.tc_isa.specs.Arithmetic.{shifted}
@@ -21,7 +21,7 @@ range_inside lo last s lo2 last2 s2 small a b c z i =
 pub record Lies (x a b p : ℕ) : Type 0 where
   pub from : a ≤ x
   pub to : x ≤ b
-  pub fits : p ≤ twos x
+  pub fits : p ≤ alignment_log2 x
 
 -- the bounds of a smaller value
 pub record Inside (a b p a2 b2 p2 : ℕ) : Type 0 where
@@ -33,7 +33,7 @@ pub record Inside (a b p a2 b2 p2 : ℕ) : Type 0 where
 pub sums_have : (x y a b c d m : ℕ) → m ≤ 2 → Lies x a b m → Lies y c d m → b < 2 ^ 32 → d < 2 ^ 32 → Among ((x + y) % 2 ^ 32) (range_of (sums a b c d m))
 unfolding sums
 sums_have x y a b c d m small lx ly bb dd =
-    let f : m ≤ twos ((x + y) % 2 ^ 32) = twos_mod m small (x + y) (twos_add m small x y lx.fits ly.fits) in
+    let f : m ≤ alignment_log2 ((x + y) % 2 ^ 32) = twos_mod m small (x + y) (twos_add m small x y lx.fits ly.fits) in
     let r : (x + y) % 2 ^ 32 < 2 ^ 32 = omega arith in
     elim (cases_lt (b + d) (2 ^ 32)) [
       | inl fit ↦ rw (lt-ltb (b + d) (2 ^ 32) fit) (among_range ((x + y) % 2 ^ 32) (a + c) (b + d) m small (omega (arith, lx.from, ly.from, lx.to, ly.to), omega (arith, lx.to, ly.to), f))
@@ -76,7 +76,7 @@ sums_grow a b c d m a2 b2 c2 d2 m2 small step ab cd la hb lc hd bb dd =
     ]
 
 -- ---- And
-pub ands_have : (x y b d p q : ℕ) → p ≤ 2 → q ≤ 2 → x ≤ b → y ≤ d → p ≤ twos x → q ≤ twos y → Among (bit_and x y) (range 0 (min b d) (max p q))
+pub ands_have : (x y b d p q : ℕ) → p ≤ 2 → q ≤ 2 → x ≤ b → y ≤ d → p ≤ alignment_log2 x → q ≤ alignment_log2 y → Among (bit_and x y) (range 0 (min b d) (max p q))
 ands_have x y b d p q sp sq hx hy fx fy =
     among_range (bit_and x y) 0 (min b d) (max p q) (omega arith)
     (omega arith, omega (arith, and_le_l x y, and_le_r x y), twos_and_both x y p q sp sq fx fy)
@@ -157,8 +157,8 @@ shifts_below a b p n z small bb i =
 pub differences_have : (x y a b c d m : ℕ) → m ≤ 2 → Lies x a b m → Lies y c d m → b < 2 ^ 32 → d < 2 ^ 32 → Among ((x + 2 ^ 32 - y) % 2 ^ 32) (range_of (differences a b c d m))
 unfolding differences
 differences_have x y a b c d m small lx ly bb dd =
-    let lift : m ≤ twos (x + 2 ^ 32) = twos_add m small x (2 ^ 32) lx.fits (le_trans_2 m small) in
-    let f : m ≤ twos ((x + 2 ^ 32 - y) % 2 ^ 32) = twos_mod m small (x + 2 ^ 32 - y) (twos_sub m small (x + 2 ^ 32) y lift ly.fits) in
+    let lift : m ≤ alignment_log2 (x + 2 ^ 32) = twos_add m small x (2 ^ 32) lx.fits (le_trans_2 m small) in
+    let f : m ≤ alignment_log2 ((x + 2 ^ 32 - y) % 2 ^ 32) = twos_mod m small (x + 2 ^ 32 - y) (twos_sub m small (x + 2 ^ 32) y lift ly.fits) in
     elim (cases_lt a d) [
       | inr fit ↦ rw (le-leb d a fit) (among_range ((x + 2 ^ 32 - y) % 2 ^ 32) (a - d) (b - c) m small (omega (arith, lx.from, ly.from, lx.to, ly.to), omega (arith, lx.from, ly.from, lx.to, ly.to), f))
       | inl past ↦
@@ -171,8 +171,8 @@ differences_have x y a b c d m small lx ly bb dd =
           ])
     ]
   where
-    le_trans_2 : (m : ℕ) → m ≤ 2 → m ≤ twos (2 ^ 32)
-    le_trans_2 m small = let t : 2 ≤ twos (2 ^ 32) = from_units 2 (omega arith) (2 ^ 30) (2 ^ 32) refl in omega arith
+    le_trans_2 : (m : ℕ) → m ≤ 2 → m ≤ alignment_log2 (2 ^ 32)
+    le_trans_2 m small = let t : 2 ≤ alignment_log2 (2 ^ 32) = from_units 2 (omega arith) (2 ^ 30) (2 ^ 32) refl in omega arith
 
 pub differences_grow : (a b c d m a2 b2 c2 d2 m2 : ℕ) → m ≤ 2 → m2 ≤ m → a ≤ b → c ≤ d → a2 ≤ a → b ≤ b2 → c2 ≤ c → d ≤ d2 → b2 < 2 ^ 32 → d2 < 2 ^ 32
     → Within (range_of (differences a b c d m)) (range_of (differences a2 b2 c2 d2 m2))

@@ -4,7 +4,7 @@ use Rattle.std.specs.List.{filter, list_any}
 use Rattle.std.proofs.lemmas.Bool.{cases_lt, cases_order, leb-true, le-leb, ltb-true, lt-ltb, eqb-false, ne_eqb, not-true, not_from_false}
 use Rattle.std.proofs.lemmas.List.{take_more}
 use Rattle.value_domain.specs.declared.values.Val.TheVariants.{Span}
-use Rattle.value_domain.specs.Sets.{Among, twos}
+use Rattle.value_domain.specs.Sets.{Among, alignment_log2}
 use Rattle.value_domain.specs.Limits.{Limits}
 use Rattle.value_domain.specs.Values.{IsExtent, IsWell, range}
 use Rattle.value_domain.proofs.CoverLaws.{range_among, among_range, step_cases, from_units, in_units}
@@ -38,16 +38,16 @@ ends_more ws i x low high low2 high2 h e here in_low in_high inv either_low la l
 )
 
 -- ---- the ends of a Span
-half_fits : (s : ℕ) → s ≤ 2 → s ≤ twos (2 ^ 31)
-half_fits = step_cases (λ s. s ≤ twos (2 ^ 31)) (omega arith) (from_units 1 (omega arith) (2 ^ 30) (2 ^ 31) refl) (from_units 2 (omega arith) (2 ^ 29) (2 ^ 31) refl)
+half_fits : (s : ℕ) → s ≤ 2 → s ≤ alignment_log2 (2 ^ 31)
+half_fits = step_cases (λ s. s ≤ alignment_log2 (2 ^ 31)) (omega arith) (from_units 1 (omega arith) (2 ^ 30) (2 ^ 31) refl) (from_units 2 (omega arith) (2 ^ 29) (2 ^ 31) refl)
 
-unit_fits : (s : ℕ) → s ≤ 2 → s ≤ twos (2 ^ s)
-unit_fits = step_cases (λ s. s ≤ twos (2 ^ s)) (omega arith) (from_units 1 (omega arith) 1 2 refl) (from_units 2 (omega arith) 1 4 refl)
+unit_fits : (s : ℕ) → s ≤ 2 → s ≤ alignment_log2 (2 ^ s)
+unit_fits = step_cases (λ s. s ≤ alignment_log2 (2 ^ s)) (omega arith) (from_units 1 (omega arith) 1 2 refl) (from_units 2 (omega arith) 1 4 refl)
 
 -- the last multiple below the half
-before_half : (s : ℕ) → s ≤ 2 → (z : ℕ) → s ≤ twos z → z < 2 ^ 31 → z ≤ 2 ^ 31 - 2 ^ s
+before_half : (s : ℕ) → s ≤ 2 → (z : ℕ) → s ≤ alignment_log2 z → z < 2 ^ 31 → z ≤ 2 ^ 31 - 2 ^ s
 before_half =
-    step_cases (λ s. (z : ℕ) → s ≤ twos z → z < 2 ^ 31 → z ≤ 2 ^ 31 - 2 ^ s)
+    step_cases (λ s. (z : ℕ) → s ≤ alignment_log2 z → z < 2 ^ 31 → z ≤ 2 ^ 31 - 2 ^ s)
     (λ z f h. omega arith)
     (λ z f h. let a = in_units 1 (omega arith) z f in omega arith)
     (λ z f h. let a = in_units 2 (omega arith) z f in omega arith)

@@ -72,7 +72,7 @@ address_of b p _ s = any_val
 
 -- lower contexts are saved only where a local has room, and restored only where there is one
 abbrev pub HasRoom : Limits → Shape → State → Type 0
-HasRoom b Svlcx s = length s.locals.items < b.most
-HasRoom b (Bisr c) s = length s.locals.items < b.most
+HasRoom b Svlcx s = length s.locals.items < b.most_locals
+HasRoom b (Bisr c) s = length s.locals.items < b.most_locals
 HasRoom b Rslcx s = 1 ≤ length s.locals.items
 HasRoom b _ s = Unit {0}

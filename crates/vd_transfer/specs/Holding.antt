@@ -69,15 +69,15 @@ HasBaseValue (Reg r) after = IsTrue after → HasValue r
 HasBaseValue (Word w) after = Unit {0}
 
 -- the instruction writes only such registers, and isn't MTCR
-abbrev pub WritesValues : Shape → Type 0
-WritesValues (Compute op dst x y) = HasValue dst
-WritesValues (Scaled dst base index n) = HasValue dst
-WritesValues (Load dst base offset size signed after) = HasValue dst × HasBaseValue base after
-WritesValues (Store src base offset size after) = HasBaseValue base after
-WritesValues (Branch cond x y by lowers) = IsTrue lowers → HasValue x
-WritesValues (Mfcr dst number) = HasValue dst
-WritesValues (Mtcr src number) = ⊥
-WritesValues _ = Unit {0}
+abbrev pub WritesNoFixedRegister : Shape → Type 0
+WritesNoFixedRegister (Compute op dst x y) = HasValue dst
+WritesNoFixedRegister (Scaled dst base index n) = HasValue dst
+WritesNoFixedRegister (Load dst base offset size signed after) = HasValue dst × HasBaseValue base after
+WritesNoFixedRegister (Store src base offset size after) = HasBaseValue base after
+WritesNoFixedRegister (Branch cond x y by lowers) = IsTrue lowers → HasValue x
+WritesNoFixedRegister (Mfcr dst number) = HasValue dst
+WritesNoFixedRegister (Mtcr src number) = ⊥
+WritesNoFixedRegister _ = Unit {0}
 
 -- the instruction stays in its frame, goes on with the next one, and restores nothing
 abbrev pub StaysPlain : Shape → Type 0

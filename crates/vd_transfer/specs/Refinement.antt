@@ -5,7 +5,7 @@ use Rattle.tc_isa.specs.declared.shapes.Cond.{Cond}
 use Rattle.tc_isa.specs.Arithmetic.{taken_of}
 use Rattle.value_domain.specs.declared.values.Val.{Val}
 use Rattle.value_domain.specs.declared.values.Val.TheVariants.{Set, Span}
-use Rattle.value_domain.specs.Sets.{twos}
+use Rattle.value_domain.specs.Sets.{alignment_log2}
 use Rattle.value_domain.specs.Limits.{Limits}
 use Rattle.value_domain.specs.Values.{cover}
 
@@ -32,7 +32,7 @@ cover_some b (x ∷ xs) = Some (cover b (x ∷ xs))
 
 -- a word lies in a range
 abbrev pub in_span : ℕ → ℕ → ℕ → ℕ → Bool
-in_span lo last step x = nat_le lo x && nat_le x last && nat_le step (twos x)
+in_span lo last step x = nat_le lo x && nat_le x last && nat_le step (alignment_log2 x)
 
 -- the test of a member
 abbrev pub is_member : ℕ → Val → Bool

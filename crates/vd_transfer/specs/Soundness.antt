@@ -15,7 +15,7 @@ use Rattle.value_domain.specs.State.{AreValues}
 use Rattle.vd_transfer.specs.Registers.{is_lower}
 use Rattle.vd_transfer.specs.Effects.{transfer_of, address_of, restored_lower}
 use Rattle.vd_transfer.specs.Branches.{refine_of}
-use Rattle.vd_transfer.specs.Holding.{Holds, word_of, access_word, words_after, ie_after, ccpn_after, WritesValues, StaysPlain, ReadsMember}
+use Rattle.vd_transfer.specs.Holding.{Holds, word_of, access_word, words_after, ie_after, ccpn_after, WritesNoFixedRegister, StaysPlain, ReadsMember}
 
 -- limits, a plan, and a state whose 27 registers have values
 pub record IsSetting (b : Limits) (p : PlanData) (s : State) : Type 0 where
@@ -28,7 +28,7 @@ pub record IsSetting (b : Limits) (p : PlanData) (s : State) : Type 0 where
 abbrev pub TransferHolds : Type 0
 TransferHolds =
     (b : Limits) (p : PlanData) (shape : Shape) (s : State) (loaded : Val) (word : ℕ → ℕ) (ie : Bool) (ccpn input : ℕ) → IsSetting b p s
-    → IsShape shape → WritesValues shape → StaysPlain shape → input < 2 ^ 32 → ReadsMember shape input loaded → Holds p word ie ccpn s
+    → IsShape shape → WritesNoFixedRegister shape → StaysPlain shape → input < 2 ^ 32 → ReadsMember shape input loaded → Holds p word ie ccpn s
     → Holds p (words_after shape input word) (ie_after shape ie) (ccpn_after shape ccpn) (transfer_of b p shape s loaded)
 
 -- after a lower context was restored, whatever words it had
@@ -41,7 +41,7 @@ RestoreHolds =
 abbrev pub BranchHolds : Type 0
 BranchHolds =
     (b : Limits) (p : PlanData) (cond : Cond) (x : ℕ) (y : Arg) (by : ℕ) (lowers : Bool) (s : State) (side : Bool) (word : ℕ → ℕ) (ie : Bool) (ccpn : ℕ)
-    → IsSetting b p s → IsShape (Branch cond x y by lowers) → WritesValues (Branch cond x y by lowers) → Holds p word ie ccpn s
+    → IsSetting b p s → IsShape (Branch cond x y by lowers) → WritesNoFixedRegister (Branch cond x y by lowers) → Holds p word ie ccpn s
     → taken_of cond (word x) (word_of word y) ≡ side
     → IsSomeAnd (refine_of b p (Branch cond x y by lowers) s side) (Holds p (words_after (Branch cond x y by lowers) 0 word) ie ccpn)
 

@@ -120,7 +120,7 @@ fn restored(b: &Bounds, s: &State) -> Change
     ensures restored { changed s.now result ≡ restored_lower s.now }
     ensures values { AreValues b.now (changed s.now result).regs }
 {
-    let _width = b.width();
+    let _most_words = b.most_words();
     let mut c = unchanged(s);
     let last = c.locals.len() - 1;
     c.lower = c.locals.as_slice()[last];
@@ -148,7 +148,7 @@ pub fn change_of(b: &Bounds, plan: &Plan, shape: Shape, s: &State, loaded: Val) 
     ensures change { changed s.now result ≡ transfer_of b.now plan.now shape s.now loaded }
     ensures values { AreValues b.now (changed s.now result).regs }
 {
-    let _most = b.most();
+    let _most_locals = b.most_locals();
     match shape {
         Shape::Compute { op, dst, x, y } => computed(b, plan, s, op, dst, x, y),
         Shape::Scaled {

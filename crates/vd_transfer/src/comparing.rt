@@ -60,7 +60,7 @@ pub(crate) fn changed_reg(b: &Bounds, plan: &Plan, s: &State, c: &Change, r: u8)
     ensures reg { result ≡ reg_of plan.now (changed s.now c.now) r }
     ensures value { IsValue b.now result }
 {
-    let _width = b.width();
+    let _most_words = b.most_words();
     let _globals = &plan.globals;
     match slot_of(r) {
         Some(i) => value_in(s, c, &Val::any(), i).copy(),

@@ -33,7 +33,7 @@ fn all_pairs(b: &Bounds, op: Op, xs: &[u32], ys: &[u32]) -> Val
     ensures cover { result ≡ cover b.now (pairs op xs.now ys.now) }
     ensures value { IsValue b.now result }
 {
-    let _width = b.width();
+    let _most_words = b.most_words();
     let first = alu(op, xs[0], ys[0]);
     let mut met = [first; 256];
     let mut out = Val::one(first);
@@ -115,7 +115,7 @@ fn from_row(b: &Bounds, op: Op, v: &Val, w: &Val) -> Val
     ensures cover { result ≡ cover b.now (row op v.now w.now) }
     ensures value { IsValue b.now result }
 {
-    let _width = b.width();
+    let _most_words = b.most_words();
     match op {
         Op::Second => w.copy(),
         _ => other_row(b, op, v, w),

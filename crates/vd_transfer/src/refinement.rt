@@ -36,7 +36,7 @@ pub(crate) fn add(b: &Bounds, v: Option<Val>, x: u32) -> Option<Val>
     ensures more { (xs : List ℕ) → v ≡ cover_some b.now xs → result ≡ cover_some b.now (xs ++ x ∷ []) }
     ensures value { IfSome result (IsValue b.now) }
 {
-    let _width = b.width();
+    let _most_words = b.most_words();
     match v {
         None => Some(Val::one(x)),
         Some(v) => Some(with_word(b, v, x)),
@@ -103,7 +103,7 @@ fn words_in(b: &Bounds, words: &[u32], lo: u32, last: u32, step: u8) -> Option<V
 fn is_in(lo: u32, last: u32, step: u8, x: u32) -> bool
     ensures { result ≡ in_span lo last step x }
 {
-    lo <= x && x <= last && step <= value_domain::twos(x)
+    lo <= x && x <= last && step <= value_domain::alignment_log2(x)
 }
 
 /// An interval of words; one whose `last` is below its `lo` is empty.

@@ -64,7 +64,7 @@ pub(crate) fn reg_value(b: &Bounds, plan: &Plan, s: &State, r: u8) -> Val
     ensures reg { result ≡ reg_of plan.now s.now r }
     ensures value { IsValue b.now result }
 {
-    let _width = b.width();
+    let _most_words = b.most_words();
     let _globals = &plan.globals;
     reg(plan, s, r)
 }
@@ -74,7 +74,7 @@ pub(crate) fn constant(b: &Bounds, w: u32) -> Val
     ensures word { result ≡ word_val w }
     ensures value { IsValue b.now result }
 {
-    let _width = b.width();
+    let _most_words = b.most_words();
     Val::one(w)
 }
 

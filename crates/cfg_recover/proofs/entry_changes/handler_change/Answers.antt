@@ -6,4 +6,4 @@ pub returns-clause-entry : goal.returns-clause-entry
 returns-clause-entry c = rw (c.handler_with.ensures, c.stack.ensures.stack) (handler-is c.args.s.now (stack_of c.args.plan.now c.args.key.now c.args.s.now) c.args.ccpn)
 
 pub returns-clause-values : goal.returns-clause-values
-returns-clause-values c = rw c.handler_with.ensures (handler_values c.args.b.now c.args.s.now c.stack.result c.args.ccpn c.width-width.ensures.limits c.stack.ensures.value)
+returns-clause-values c = rw c.handler_with.ensures (handler_values c.args.b.now c.args.s.now c.stack.result c.args.ccpn c.most_words-most_words.ensures.limits c.stack.ensures.value)

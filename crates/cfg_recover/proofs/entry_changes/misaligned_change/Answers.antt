@@ -8,4 +8,4 @@ returns-clause-entry c =
 pub returns-clause-values : goal.returns-clause-values
 returns-clause-values c =
     rw (c.handler_with-c.ensures, c.put_register-c.ensures, c.constant.ensures.word)
-    (misaligned_values c.args.b.now c.args.s.now c.stack.result c.args.s.now.ccpn c.width-width.ensures.limits c.stack.ensures.value (rw c.constant.ensures.word at c.constant.ensures.value))
+    (misaligned_values c.args.b.now c.args.s.now c.stack.result c.args.s.now.ccpn c.most_words-most_words.ensures.limits c.stack.ensures.value (rw c.constant.ensures.word at c.constant.ensures.value))

@@ -16,11 +16,11 @@ returns-in-Some c =
     fault_at c.args.image.now c.args.plan.now c.args.cert.now c.args.node.now c.requires.member c.deref-point-items.result.now
     (c.deref-point-items.ensures.value ∙ ap (λ (n : NodeData). n.points) c.node.view_is)
     (subst (λ (n : NodeData). ArePoints n.points) c.node.view_is c.node.invariant)
-    c.loop-point.point-index c.point-item.result c.holds_at_entry-good.result c.point_rule-found.result c.in-Some.fault c.loop-point-test.true c.point-item.is c.loop-point.invariant c.point_rule-found.ensures
+    c.loop-point.point-index c.point-item.result c.holds_at_entry-good.result c.broken_by_point-found.result c.in-Some.fault c.loop-point-test.true c.point-item.is c.loop-point.invariant c.broken_by_point-found.ensures
     (omega arith)
     (subst (λ (n : NodeData). (n.key).entry < 2 ^ 32) c.node.view_is (omega arith))
     (subst (λ (b : Limits). IsTrue c.holds_at_entry-good.result ↔ HoldsAtEntry b c.args.node.now) c.requires.limits c.holds_at_entry-good.ensures)
-    (ap (λ (n : NodeData). first_of c.holds_at_entry-good.result (n.key).entry c.point-item.result.addr c.point_rule-found.result) (sym c.node.view_is) ∙ sym c.first_of.ensures ∙ c.in-Some.is)
+    (ap (λ (n : NodeData). first_of c.holds_at_entry-good.result (n.key).entry c.point-item.result.addr c.broken_by_point-found.result) (sym c.node.view_is) ∙ sym c.first_of.ensures ∙ c.in-Some.is)
 
 pub loop-point-preserved : goal.loop-point-preserved
 loop-point-preserved c =
@@ -29,9 +29,9 @@ loop-point-preserved c =
     (none_at c.args.image.now c.args.plan.now c.args.cert.now c.args.node.now c.requires.member c.deref-point-items.result.now
     (c.deref-point-items.ensures.value ∙ ap (λ (n : NodeData). n.points) c.node.view_is)
     (subst (λ (n : NodeData). ArePoints n.points) c.node.view_is c.node.invariant)
-    c.point-item.result c.holds_at_entry-good.result c.point_rule-found.result
-    (ap (λ (n : NodeData). first_of c.holds_at_entry-good.result (n.key).entry c.point-item.result.addr c.point_rule-found.result) (sym c.node.view_is) ∙ sym c.first_of.ensures ∙ c.in_default.is)
-    c.point_rule-found.ensures)
+    c.point-item.result c.holds_at_entry-good.result c.broken_by_point-found.result
+    (ap (λ (n : NodeData). first_of c.holds_at_entry-good.result (n.key).entry c.point-item.result.addr c.broken_by_point-found.result) (sym c.node.view_is) ∙ sym c.first_of.ensures ∙ c.in_default.is)
+    c.broken_by_point-found.ensures)
 
 pub returns-then-good : goal.returns-then-good
 returns-then-good c = record {

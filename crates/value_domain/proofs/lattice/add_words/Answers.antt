@@ -19,4 +19,4 @@ returns-then-i-words-clause-cover c = c.widen.ensures ∙ words_rest c.args.b.no
 pub returns-then-i-words-clause-value : goal.returns-then-i-words-clause-value
 returns-then-i-words-clause-value c =
     let e = c.widen.ensures ∙ words_rest c.args.b.now c.args.v.now c.loop-i.v c.args.words.now c.loop-i.i c.requires.well c.loop-i.invariant.1 in
-    rw e (words_value c.args.b.now c.args.v.now c.args.words.now c.width-width.ensures.limits c.requires (λ k. (c.type_inv.words k).fits))
+    rw e (words_value c.args.b.now c.args.v.now c.args.words.now c.most_words-most_words.ensures.limits c.requires (λ k. (c.type_inv.words k).fits))

@@ -5,9 +5,9 @@ use Rattle.value_domain.proofs.lattice.join.Goals as goal
 pub returns-in-Span-clause-value : goal.returns-in-Span-clause-value
 returns-in-Span-clause-value c =
     rw c.join_span.ensures
-    (join_value c.args.b.now c.args.v.now (Span c.in-Span.lo c.in-Span.last c.in-Span.step) c.width-width.ensures.limits c.requires.left (rw c.in-Span.is at c.requires.right))
+    (join_value c.args.b.now c.args.v.now (Span c.in-Span.lo c.in-Span.last c.in-Span.step) c.most_words-most_words.ensures.limits c.requires.left (rw c.in-Span.is at c.requires.right))
 
 pub returns-in-Set-clause-value : goal.returns-in-Set-clause-value
 returns-in-Set-clause-value c =
     rw c.join_set.ensures
-    (join_value c.args.b.now c.args.v.now _ c.width-width.ensures.limits c.requires.left (rw c.in-Set.is at c.requires.right))
+    (join_value c.args.b.now c.args.v.now _ c.most_words-most_words.ensures.limits c.requires.left (rw c.in-Set.is at c.requires.right))

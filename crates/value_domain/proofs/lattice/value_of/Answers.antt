@@ -6,15 +6,15 @@ use Rattle.value_domain.proofs.lattice.value_of.Goals as goal
 
 pub held-requires : goal.held-requires
 held-requires c =
-    words_rising c.args.words.now c.requires.some (omega (arith, c.if-words-width.true, c.width.ensures.width, c.width.ensures.limits.wide)) c.requires.rising
+    words_rising c.args.words.now c.requires.some (omega (arith, c.if-words-most_words.true, c.most_words.ensures.most_words, c.most_words.ensures.limits.wide)) c.requires.rising
     (λ k. (c.type_inv.words k).fits)
 
-pub returns-then-words-width : goal.returns-then-words-width
-returns-then-words-width c =
-    rw (c.held.ensures, le-leb (length c.args.words.now) c.args.b.now.width (omega (arith, c.if-words-width.true, c.width.ensures.width))) refl
+pub returns-then-words-most_words : goal.returns-then-words-most_words
+returns-then-words-most_words c =
+    rw (c.held.ensures, le-leb (length c.args.words.now) c.args.b.now.most_words (omega (arith, c.if-words-most_words.true, c.most_words.ensures.most_words))) refl
 
 pub returns : goal.returns
 returns c =
     c.span.ensures
     ∙ rw c.least_step.ensures
-    (span_words c.args.b.now c.args.words.now c.requires.rising c.requires.some (omega (arith, c.if-words-width.false, c.width.ensures.width)))
+    (span_words c.args.b.now c.args.words.now c.requires.rising c.requires.some (omega (arith, c.if-words-most_words.false, c.most_words.ensures.most_words)))

@@ -10,8 +10,8 @@ loop-x-init c =
     let small : c.alu-first.result < 2 ^ 32 = c.alu-first.type_inv in
     rw (c.one-out.ensures, ← c.alu-first.ensures)
     (record {
-      cover = cover-one c.args.b.now c.alu-first.result c.width-width.ensures.limits small ∙ ap (cover c.args.b.now) (pairs-none c.args.op c.alu-first.result c.args.ys.now);
-      value = one_value c.args.b.now c.alu-first.result c.width-width.ensures.limits small;
+      cover = cover-one c.args.b.now c.alu-first.result c.most_words-most_words.ensures.limits small ∙ ap (cover c.args.b.now) (pairs-none c.args.op c.alu-first.result c.args.ys.now);
+      value = one_value c.args.b.now c.alu-first.result c.most_words-most_words.ensures.limits small;
       met = met_one 256 c.alu-first.result;
     })
 

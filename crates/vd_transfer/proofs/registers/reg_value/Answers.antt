@@ -4,4 +4,4 @@ use Rattle.vd_transfer.proofs.registers.reg_value.Goals as goal
 
 pub returns-clause-value : goal.returns-clause-value
 returns-clause-value c =
-    rw (c.reg.ensures, ← c.plan.view_is) (reg_is_value c.args.b.now (plan_data c.plan.inside) c.args.s.now c.args.r c.width-width.ensures.limits c.plan.invariant.words.globals c.requires.values)
+    rw (c.reg.ensures, ← c.plan.view_is) (reg_is_value c.args.b.now (plan_data c.plan.inside) c.args.s.now c.args.r c.most_words-most_words.ensures.limits c.plan.invariant.words.globals c.requires.values)

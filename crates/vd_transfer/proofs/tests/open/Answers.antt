@@ -11,4 +11,4 @@ each_any : (vs : List Val) → vs ≡ replicate 27 any_val → (r : ℕ) → r <
 each_any vs e r lt = rw e (get_or-replicate 27 r any_val any_val (omega (arith, lt, ap (λ (l : List Val). length l) e, length-replicate 27 any_val)))
 
 pub returns : goal.returns
-returns c = λ r lt. rw (each_any c.any_regs.result c.any_regs.ensures r lt) (any_value c.args.b.now c.width-width.ensures.limits)
+returns c = λ r lt. rw (each_any c.any_regs.result c.any_regs.ensures r lt) (any_value c.args.b.now c.most_words-most_words.ensures.limits)

@@ -1,0 +1,121 @@
+-- The first rule whose own part fails.
+use Rattle.std.proofs.Common.{◌≡◌, ℕ, ◌%◌, ◌<◌, ◌⊎◌, inl, inr, Bool, true, false, List, [], ◌∷◌, Some, None, refl, sym, ap, ◌∙◌, subst, arith}
+use Rattle.std.specs.Prelude.{IsTrue, ◌↔◌, ◌==◌}
+use Rattle.std.specs.List.{list_all}
+use Rattle.std.proofs.lemmas.Bool.{eqb-true, eq-eqb, and_parts, and_from}
+use Rattle.elf_image.specs.Images.{ImageData}
+use Rattle.tcd_plan.specs.PlanData.{PlanData}
+use Rattle.tc_isa.specs.Insts.{InstData}
+use Rattle.tc_isa.specs.Shapes.{shape_of}
+use Rattle.tc_isa.specs.declared.shapes.Shape.{Shape}
+use Rattle.tc_isa.specs.declared.shapes.Shape.TheVariants.{Load, Store}
+use Rattle.value_domain.specs.declared.values.Val.{Val}
+use Rattle.value_domain.specs.declared.states.State.{State}
+use Rattle.value_domain.specs.Limits.{Limits}
+use Rattle.value_domain.specs.Sets.{Among}
+use Rattle.value_domain.specs.Values.{members, IsWell}
+use Rattle.value_domain.proofs.CoverLaws.{member_same}
+use Rattle.vd_transfer.specs.Effects.{address_of, HasRoom}
+use Rattle.vd_transfer.specs.Holding.{WritesNoFixedRegister}
+use Rattle.store_ranges.specs.Stores.{AreAligned}
+use Rattle.depth_cert.specs.declared.keys.Key.{Key}
+use Rattle.cfg_recover.specs.Code.{IsCode, HasCode}
+use Rattle.cfg_recover.specs.Local.{are_aligned, KnowsTargets, MayReturn, MayReturnFromException, StoresInRange, MayAccess, MayCallSystem, LocalRule, LocalHolds, IsLocalFault}
+use Rattle.cfg_recover.specs.LocalFaults.{IsLeastBroken, FindsFaultless, StoresInRangeAt, MayAccessAt}
+use Rattle.cfg_recover.proofs.CodeLaws.{IsCode-one}
+
+-- ---- alignment
+all_at : (n : ℕ) (xs : List ℕ) (z : ℕ) → list_all (λ x. x % n == 0) xs ≡ true → Among z xs → z % n ≡ 0
+all_at n [] z t i = absurd i
+all_at n (x ∷ xs) z t i =
+    let both = and_parts (x % n == 0) (list_all (λ x. x % n == 0) xs) t in
+    elim i [ inl e ↦ ap (λ (y : ℕ). y % n) e ∙ eqb-true (x % n) 0 both.0 | inr j ↦ all_at n xs z both.1 j ]
+
+all_from : (n : ℕ) (xs : List ℕ) → ((z : ℕ) → Among z xs → z % n ≡ 0) → list_all (λ x. x % n == 0) xs ≡ true
+all_from n [] each = refl
+all_from n (x ∷ xs) each = and_from _ _ (eq-eqb (x % n) 0 (each x (inl refl))) (all_from n xs (λ z i. each z (inr i)))
+
+-- the listed members of a value are multiples where all its members are
+pub are_aligned-is : (v : Val) (size : ℕ) → IsWell v → AreAligned v size ↔ (are_aligned v size ≡ true)
+are_aligned-is v size well =
+    (λ each. all_from size (members v) (λ z i. each z ((member_same v z well).1 i)), λ t x i. all_at size (members v) x t ((member_same v x well).0 i))
+
+-- where the trap isn't stated, an access is allowed where all its addresses are aligned
+pub allowed_untrapped : (fields plan : PlanData) (t : Bool) (v : Val) (size : ℕ) → IsWell v → fields ≡ plan → fields.aln ≡ false → IsTrue t ↔ AreAligned v size → IsTrue t ↔ ((are_aligned v size ≡ true) ⊎ (plan.aln ≡ true))
+allowed_untrapped fields plan t v size well e off is =
+    let same = are_aligned-is v size well in
+    (λ h. inl (same.0 (is.0 h)), λ h. elim h [ inl a ↦ is.1 (same.1 a) | inr on ↦ let none : plan.aln ≡ false = ap (λ (p : PlanData). p.aln) (sym e) ∙ off in cc ])
+
+-- ---- accesses at the address
+stores_same : (b : Limits) (plan : PlanData) (s : State) (shape : Shape) → StoresInRangeAt plan (address_of b plan shape s) shape ↔ StoresInRange b plan s shape
+stores_same b plan s (Store src base offset size after) = (λ h. h, λ h. h)
+stores_same b plan s _ = (λ h. h, λ h. h)
+
+access_same : (b : Limits) (plan : PlanData) (s : State) (shape : Shape) → MayAccessAt plan (address_of b plan shape s) shape ↔ MayAccess b plan s shape
+access_same b plan s (Load dst base offset size signed after) = (λ h. h, λ h. h)
+access_same b plan s (Store src base offset size after) = (λ h. h, λ h. h)
+access_same b plan s _ = (λ h. h, λ h. h)
+
+pub StoresInRange-at : (b : Limits) (plan : PlanData) (s : State) (shape : Shape) (at : Val) (t : Bool) → at ≡ address_of b plan shape s → IsTrue t ↔ StoresInRangeAt plan at shape → IsTrue t ↔ StoresInRange b plan s shape
+StoresInRange-at b plan s shape at t e is =
+    let there : IsTrue t ↔ StoresInRangeAt plan (address_of b plan shape s) shape = subst (λ (v : Val). IsTrue t ↔ StoresInRangeAt plan v shape) e is in
+    let same = stores_same b plan s shape in
+    (λ h. same.0 (there.0 h), λ h. there.1 (same.1 h))
+
+pub MayAccess-at : (b : Limits) (plan : PlanData) (s : State) (shape : Shape) (at : Val) (t : Bool) → at ≡ address_of b plan shape s → IsTrue t ↔ MayAccessAt plan at shape → IsTrue t ↔ MayAccess b plan s shape
+MayAccess-at b plan s shape at t e is =
+    let there : IsTrue t ↔ MayAccessAt plan (address_of b plan shape s) shape = subst (λ (v : Val). IsTrue t ↔ MayAccessAt plan v shape) e is in
+    let same = access_same b plan s shape in
+    (λ h. same.0 (there.0 h), λ h. there.1 (same.1 h))
+
+-- ---- the least rule that fails
+-- what a test that fails rules out
+pub ruled_out : {P : Type 0} (t : Bool) → IsTrue t ↔ P → t ≡ false → P → ⊥
+ruled_out t is off h = let on : t ≡ true = is.1 h in cc
+
+-- a rule fails, and each part of a lower rule holds
+pub broken : (b : Limits) (plan : PlanData) (key : Key) (p : ℕ) (s : State) (shape : Shape) (r : ℕ) → (LocalRule b plan key p s shape r → ⊥) →
+    (5 < r → KnowsTargets plan s p shape) → (6 < r → MayReturn key s shape) → (7 < r → MayReturnFromException key s shape) → (8 < r → HasRoom b shape s) →
+    (9 < r → StoresInRange b plan s shape) → (10 < r → MayAccess b plan s shape) → (12 < r → MayCallSystem plan shape) → (13 < r → WritesNoFixedRegister shape) → IsLeastBroken b plan key p s shape (Some r)
+broken b plan key p s shape r fails targets returns exceptions room stores accesses system writes = (
+  fails,
+  λ q lt. record {
+    targets = λ e. targets (omega arith);
+    returns = λ e. returns (omega arith);
+    exceptions = λ e. exceptions (omega arith);
+    room = λ e. room (omega arith);
+    stores = λ e. stores (omega arith);
+    accesses = λ e. accesses (omega arith);
+    system = λ e. system (omega arith);
+    writes = λ e. writes (omega arith);
+  },
+)
+
+-- ---- at an address
+pub IsLocalFault-no_code : (b : Limits) (image : ImageData) (plan : PlanData) (key : Key) (p : ℕ) (s : State) → (HasCode image plan p → ⊥) → IsLocalFault b image plan key p s 3
+IsLocalFault-no_code b image plan key p s none = record {
+  fails = λ holds. none (holds.code refl);
+  least = λ q lt. record {
+    code = λ e. absurd (omega arith);
+    own = λ shape n code. absurd (none (record { shape = shape; size = n; code = code }));
+  };
+}
+
+-- what holds for the shape found there holds
+pub LocalHolds-found : (b : Limits) (image : ImageData) (plan : PlanData) (key : Key) (p : ℕ) (s : State) (shape : Shape) (n r : ℕ) → IsCode image plan p shape n → LocalRule b plan key p s shape r → LocalHolds b image plan key p s r
+LocalHolds-found b image plan key p s shape n r code holds = record {
+  code = λ e. record { shape = shape; size = n; code = code };
+  own = λ t m other. subst (λ (x : Shape). LocalRule b plan key p s x r) (IsCode-one image plan p shape t n m code other).0 holds;
+}
+
+pub IsLocalFault-broken : (b : Limits) (image : ImageData) (plan : PlanData) (key : Key) (p : ℕ) (s : State) (shape : Shape) (n r : ℕ) → IsCode image plan p shape n → IsLeastBroken b plan key p s shape (Some r) → IsLocalFault b image plan key p s r
+IsLocalFault-broken b image plan key p s shape n r code least = record {
+  fails = λ holds. least.0 (holds.own shape n code);
+  least = λ q lt. LocalHolds-found b image plan key p s shape n q code (least.1 q lt);
+}
+
+pub FindsFaultless-whole : (b : Limits) (image : ImageData) (plan : PlanData) (key : Key) (p : ℕ) (s : State) (inst : InstData) (n : ℕ) → IsCode image plan p (shape_of inst) n → IsLeastBroken b plan key p s (shape_of inst) None → FindsFaultless b image plan key p s (inst, n)
+FindsFaultless-whole b image plan key p s inst n code whole = record {
+  faultless = λ r. LocalHolds-found b image plan key p s (shape_of inst) n r code (whole r);
+  code = code;
+}

@@ -1,0 +1,102 @@
+-- What the rules ask of the instruction at a point itself, whatever other points the certificate has.
+use Rattle.std.specs.Prelude.{◌≡◌, ◌<◌, ◌*◌, ◌/◌, ◌%◌, ◌==◌, ◌⊎◌, ℕ, Bool, true, List, [], ◌∷◌, length, map, Option, Some, None, IsSome}
+use Rattle.std.specs.List.{list_all}
+use Rattle.elf_image.specs.Images.{ImageData}
+use Rattle.tcd_plan.specs.PlanData.{PlanData}
+use Rattle.tc_isa.specs.declared.shapes.Target.{Target}
+use Rattle.tc_isa.specs.declared.shapes.Target.TheVariants as target
+use Rattle.tc_isa.specs.declared.shapes.Shape.{Shape}
+use Rattle.tc_isa.specs.declared.shapes.Shape.TheVariants.{Load, Store, Jump, Call, Ret, Rfe, Syscall}
+use Rattle.tc_machine.specs.Machine.{moved}
+use Rattle.value_domain.specs.declared.values.Val.{Val}
+use Rattle.value_domain.specs.declared.values.Val.TheVariants.{Set, Span}
+use Rattle.value_domain.specs.declared.states.State.{State}
+use Rattle.value_domain.specs.Limits.{Limits}
+use Rattle.value_domain.specs.Sets.{distinct}
+use Rattle.value_domain.specs.Values.{members}
+use Rattle.vd_transfer.specs.Registers.{reg_of}
+use Rattle.vd_transfer.specs.Effects.{address_of, HasRoom}
+use Rattle.vd_transfer.specs.Holding.{WritesNoFixedRegister}
+use Rattle.store_ranges.specs.Stores.{AreStoresInRange}
+use Rattle.depth_cert.specs.declared.keys.Key.{Key}
+use Rattle.cfg_recover.specs.Code.{IsCode, HasCode}
+
+-- ---- targets
+-- the addresses that a register's words name, ascending, each once: bit 0 is dropped. A Span is no list of targets.
+abbrev pub named_by : Val → Option (List ℕ)
+named_by (Set ws) = Some (distinct (map (λ w. w / 2 * 2) ws))
+named_by (Span lo last step) = None
+
+-- where a jump or a call at p may go, if that is known
+abbrev pub targets_of : PlanData → State → ℕ → Target → Option (List ℕ)
+targets_of plan s p (target.Rel by) = Some (moved p by ∷ [])
+targets_of plan s p (target.Abs x) = Some (x ∷ [])
+targets_of plan s p (target.Reg r) = named_by (reg_of plan s r)
+
+-- ---- accesses
+-- each address is a multiple of the size
+abbrev pub are_aligned : Val → ℕ → Bool
+are_aligned v size = list_all (λ x. x % size == 0) (members v)
+
+-- ---- the rules' own parts, by shape; all other shapes have nothing to meet
+-- rule 5: where a jump or a call goes is a known list of addresses
+abbrev pub KnowsTargets : PlanData → State → ℕ → Shape → Type 0
+KnowsTargets plan s p (Jump to) = IsSome (targets_of plan s p to)
+KnowsTargets plan s p (Call to) = IsSome (targets_of plan s p to)
+KnowsTargets plan s p _ = Unit {0}
+
+-- rule 6: only a called function returns, and has restored all lower contexts
+abbrev pub MayReturn : Key → State → Shape → Type 0
+MayReturn key s Ret = (key.kind ≡ 1) × (length s.locals.items ≡ 0)
+MayReturn key s _ = Unit {0}
+
+-- rule 7: only a handler returns from an exception, and has restored all lower contexts; where the interrupted code may
+-- stand anywhere, with the lower registers that it was entered with
+abbrev pub MayReturnFromException : Key → State → Shape → Type 0
+MayReturnFromException key s Rfe =
+    (length s.locals.items ≡ 0) × ((((key.kind ≡ 2) ⊎ (key.kind ≡ 4)) × (s.lower ≡ true)) ⊎ (key.kind ≡ 3))
+MayReturnFromException key s _ = Unit {0}
+
+-- rule 9: each possible store lies wholly in one ram range or one device range, without passing 2^32
+abbrev pub StoresInRange : Limits → PlanData → State → Shape → Type 0
+StoresInRange b plan s (Store src base offset size after) = AreStoresInRange plan (address_of b plan (Store src base offset size after) s) size
+StoresInRange b plan s _ = Unit {0}
+
+-- rule 10: each possible address is a multiple of the size, or the trap of misaligned accesses is stated
+abbrev pub MayAccess : Limits → PlanData → State → Shape → Type 0
+MayAccess b plan s (Load dst base offset size signed after) =
+    (are_aligned (address_of b plan (Load dst base offset size signed after) s) size ≡ true) ⊎ (plan.aln ≡ true)
+MayAccess b plan s (Store src base offset size after) =
+    (are_aligned (address_of b plan (Store src base offset size after) s) size ≡ true) ⊎ (plan.aln ≡ true)
+MayAccess b plan s _ = Unit {0}
+
+-- rule 12: the trap of system calls is stated
+abbrev pub MayCallSystem : PlanData → Shape → Type 0
+MayCallSystem plan (Syscall tin) = plan.sys ≡ true
+MayCallSystem plan _ = Unit {0}
+
+-- The own part of rule r at an instruction of this shape. Rule 8: lower contexts are saved only where there is room for a
+-- local, and restored only where there is one. Rule 13: the instruction isn't MTCR and writes none of A0, A1, A8, A9, A11.
+pub record LocalRule (b : Limits) (plan : PlanData) (key : Key) (p : ℕ) (s : State) (shape : Shape) (r : ℕ) : Type 0 where
+  pub targets : r ≡ 5 → KnowsTargets plan s p shape
+  pub returns : r ≡ 6 → MayReturn key s shape
+  pub exceptions : r ≡ 7 → MayReturnFromException key s shape
+  pub room : r ≡ 8 → HasRoom b shape s
+  pub stores : r ≡ 9 → StoresInRange b plan s shape
+  pub accesses : r ≡ 10 → MayAccess b plan s shape
+  pub system : r ≡ 12 → MayCallSystem plan shape
+  pub writes : r ≡ 13 → WritesNoFixedRegister shape
+
+-- The own part of rule r holds at the point p of a node with this key and state. Rule 3: there is code.
+pub record LocalHolds (b : Limits) (image : ImageData) (plan : PlanData) (key : Key) (p : ℕ) (s : State) (r : ℕ) : Type 0 where
+  pub code : r ≡ 3 → HasCode image plan p
+  pub own : (shape : Shape) (n : ℕ) → IsCode image plan p shape n → LocalRule b plan key p s shape r
+
+-- r is the least rule whose own part fails there
+pub record IsLocalFault (b : Limits) (image : ImageData) (plan : PlanData) (key : Key) (p : ℕ) (s : State) (r : ℕ) : Type 0 where
+  pub fails : LocalHolds b image plan key p s r → ⊥
+  pub least : (q : ℕ) → q < r → LocalHolds b image plan key p s q
+
+-- no rule's own part fails there
+abbrev pub IsFaultless : Limits → ImageData → PlanData → Key → ℕ → State → Type 0
+IsFaultless b image plan key p s = (r : ℕ) → LocalHolds b image plan key p s r

@@ -1,0 +1,36 @@
+-- Which rule's own part is the first to fail.
+use Rattle.std.specs.Prelude.{◌≡◌, ◌<◌, ◌⊎◌, ℕ, true, Option, Some, None}
+use Rattle.elf_image.specs.Images.{ImageData}
+use Rattle.tcd_plan.specs.PlanData.{PlanData}
+use Rattle.tc_isa.specs.Insts.{InstData}
+use Rattle.tc_isa.specs.Shapes.{shape_of}
+use Rattle.tc_isa.specs.declared.shapes.Shape.{Shape}
+use Rattle.tc_isa.specs.declared.shapes.Shape.TheVariants.{Load, Store}
+use Rattle.value_domain.specs.declared.values.Val.{Val}
+use Rattle.value_domain.specs.declared.states.State.{State}
+use Rattle.value_domain.specs.Limits.{Limits}
+use Rattle.store_ranges.specs.Stores.{AreStoresInRange}
+use Rattle.depth_cert.specs.declared.keys.Key.{Key}
+use Rattle.cfg_recover.specs.Code.{IsCode}
+use Rattle.cfg_recover.specs.Local.{are_aligned, LocalRule, IsFaultless}
+
+-- the own part of this rule fails for the shape, and that of each lower one holds; all hold where there is none
+abbrev pub IsLeastBroken : Limits → PlanData → Key → ℕ → State → Shape → Option ℕ → Type 0
+IsLeastBroken b plan key p s shape (Some r) = (LocalRule b plan key p s shape r → ⊥) × ((q : ℕ) → q < r → LocalRule b plan key p s shape q)
+IsLeastBroken b plan key p s shape None = (r : ℕ) → LocalRule b plan key p s shape r
+
+-- this instruction of so many bytes is at p, and no rule's own part fails there
+pub record FindsFaultless (b : Limits) (image : ImageData) (plan : PlanData) (key : Key) (p : ℕ) (s : State) (found : InstData × ℕ) : Type 0 where
+  pub faultless : IsFaultless b image plan key p s
+  pub code : IsCode image plan p (shape_of found.0) found.1
+
+-- ---- rules 9 and 10, where the address of the access is one of these
+abbrev pub StoresInRangeAt : PlanData → Val → Shape → Type 0
+StoresInRangeAt plan at (Store src base offset size after) = AreStoresInRange plan at size
+StoresInRangeAt plan at _ = Unit {0}
+
+-- rule 10: the address is a multiple of the size, or the plan states the misaligned trap
+abbrev pub MayAccessAt : PlanData → Val → Shape → Type 0
+MayAccessAt plan at (Load dst base offset size signed after) = (are_aligned at size ≡ true) ⊎ (plan.aln ≡ true)
+MayAccessAt plan at (Store src base offset size after) = (are_aligned at size ≡ true) ⊎ (plan.aln ≡ true)
+MayAccessAt plan at _ = Unit {0}

@@ -1,5 +1,0 @@
-use Rattle.depth_check.proofs.DutyLaws.{point_found}
-use Rattle.depth_check.proofs.successors.pass_rule.Goals as goal
-
-pub returns : goal.returns
-returns c cert = rw c.unless.ensures (point_found cert c.args.node.now c.args.s.now c.args.s.now c.args.next c.has_point.result c.has_point.ensures)
