@@ -26,6 +26,3 @@ pub use flow_targets::targets;
 pub use flows::{Enter, Flow, Jump, Leave};
 pub use laws::move_laws;
 pub use own::{Found, faultless};
-
-#[cfg(test)]
-mod flow_tests;

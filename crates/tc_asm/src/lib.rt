@@ -14,12 +14,8 @@ mod lines;
 mod looks;
 mod pieces;
 mod reading;
-#[cfg(test)]
-mod row_tests;
 mod sections;
 mod symbols;
-#[cfg(test)]
-mod tests;
 
 pub use assembling::assemble;
 pub use entries::{Entry, Place};

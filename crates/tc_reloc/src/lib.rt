@@ -4,8 +4,6 @@
 mod applying;
 mod fields;
 mod refusals;
-#[cfg(test)]
-mod tests;
 
 pub use applying::apply;
 pub use refusals::RelocErr;
