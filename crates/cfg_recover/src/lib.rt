@@ -27,6 +27,3 @@ pub use flows::{Enter, Flow, Jump, Leave};
 pub use laws::{fault_laws, frame_laws, move_laws};
 pub use local::{Located, local_check};
 pub use start::start_state;
-
-#[cfg(test)]
-mod flow_tests;

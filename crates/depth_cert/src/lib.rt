@@ -10,8 +10,6 @@ mod node_fields;
 mod nodes;
 mod point_fields;
 mod points;
-#[cfg(test)]
-mod tests;
 mod value_fields;
 mod writing;
 

@@ -16,6 +16,3 @@ pub use first_faults::first_fault_laws;
 pub use judging::check;
 pub use laws::{accepted_holds_frames, accepted_is_safe, answer_laws};
 pub use verdicts::Verdict;
-
-#[cfg(test)]
-mod tests;

@@ -6,8 +6,6 @@ mod headers;
 mod holding;
 mod images;
 mod reading;
-#[cfg(test)]
-mod tests;
 mod writing;
 
 pub use errors::ImageErr;

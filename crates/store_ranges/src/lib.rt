@@ -6,8 +6,6 @@ mod loads;
 mod ranges;
 mod rom;
 mod stores;
-#[cfg(test)]
-mod tests;
 
 pub use laws::load_laws;
 pub use loads::load_of;

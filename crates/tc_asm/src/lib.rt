@@ -13,13 +13,9 @@ mod laws;
 mod lines;
 mod parse;
 mod pieces;
-#[cfg(test)]
-mod row_tests;
 mod rules;
 mod sections;
 mod symbols;
-#[cfg(test)]
-mod tests;
 
 pub use assembling::assemble;
 pub use entries::{Entry, Place};

@@ -13,6 +13,3 @@ mod reassembling;
 pub use images::listing;
 pub use laws::{listing_law, number_laws, statement_law, token_laws};
 pub use reassembling::reassembled;
-
-#[cfg(test)]
-mod tests;

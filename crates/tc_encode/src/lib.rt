@@ -16,6 +16,3 @@ pub use decoding::decode;
 pub use encoding::encode;
 pub use errors::DecodeErr;
 pub use laws::{decoding_laws, spelling_laws};
-
-#[cfg(test)]
-mod tests;

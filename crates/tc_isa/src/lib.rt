@@ -24,6 +24,3 @@ pub use shaping::{shape, shape_laws};
 pub use table::{Form, Row, rows};
 pub use used::uses;
 pub use writing::writes;
-
-#[cfg(test)]
-mod tests;

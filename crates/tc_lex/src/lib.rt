@@ -5,8 +5,6 @@ mod bytes;
 mod cutting;
 mod fronts;
 mod kinds;
-#[cfg(test)]
-mod tests;
 
 pub use bytes::is_hex;
 pub use cutting::tokens;

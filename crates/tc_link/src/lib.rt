@@ -8,8 +8,6 @@ mod faults;
 mod joining;
 mod layouts;
 mod lines;
-#[cfg(test)]
-mod link_tests;
 mod linking;
 mod names;
 mod placed;
@@ -17,8 +15,6 @@ mod relocating;
 mod rooms;
 mod section_checks;
 mod symbol_checks;
-#[cfg(test)]
-mod tests;
 mod words;
 
 pub use errors::LinkErr;

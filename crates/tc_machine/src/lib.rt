@@ -16,8 +16,6 @@ mod registers;
 mod starting;
 mod state;
 mod stepping;
-#[cfg(test)]
-mod tests;
 
 pub use events::{Cause, End, Event};
 pub use laws::{guard_laws, machine_laws};

@@ -9,8 +9,6 @@ mod memory;
 mod memory_words;
 mod page;
 mod pages;
-#[cfg(test)]
-mod tests;
 mod words;
 
 pub use mem::Mem;

@@ -12,8 +12,6 @@ mod section_fields;
 mod sections;
 mod symbol_fields;
 mod symbols;
-#[cfg(test)]
-mod tests;
 mod used_names;
 mod writing;
 

@@ -5,8 +5,6 @@ mod applying;
 mod fields;
 mod laws;
 mod refusals;
-#[cfg(test)]
-mod tests;
 
 pub use applying::apply;
 pub use laws::filling_laws;

@@ -11,8 +11,6 @@ mod reading;
 mod scripted;
 mod scripts;
 mod statements;
-#[cfg(test)]
-mod tests;
 
 pub use asking::Ports;
 pub use driving::{Peak, drive};

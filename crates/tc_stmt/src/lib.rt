@@ -13,8 +13,6 @@ mod pieces;
 mod symbols;
 mod table;
 mod tallying;
-#[cfg(test)]
-mod tests;
 mod values;
 mod wanting;
 

@@ -8,8 +8,6 @@ mod reader;
 mod readings;
 mod refusals;
 mod rows;
-#[cfg(test)]
-mod tests;
 mod texts;
 mod values;
 

@@ -16,6 +16,3 @@ pub use laws::{state_laws, value_laws};
 pub use limits::Bounds;
 pub use states::{State, are_implied, covers, covers_context, join_states};
 pub use values::{Val, Words};
-
-#[cfg(test)]
-mod tests;

@@ -13,8 +13,6 @@ mod refinement;
 mod registers;
 mod runs;
 mod signs;
-#[cfg(test)]
-mod tests;
 mod transferring;
 
 pub use branching::refine;

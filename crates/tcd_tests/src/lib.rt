@@ -1,0 +1,49 @@
+//! Tests of the libraries, by their public calls alone.
+#![tactic(auto)]
+
+#[cfg(test)]
+mod addresses;
+#[cfg(test)]
+mod boards;
+#[cfg(test)]
+mod certificates;
+#[cfg(test)]
+mod checking;
+#[cfg(test)]
+mod contexts;
+#[cfg(test)]
+mod effects;
+#[cfg(test)]
+mod executables;
+#[cfg(test)]
+mod instructions;
+#[cfg(test)]
+mod linking;
+#[cfg(test)]
+mod listings;
+#[cfg(test)]
+mod memory;
+#[cfg(test)]
+mod objects;
+#[cfg(test)]
+mod plans;
+#[cfg(test)]
+mod points;
+#[cfg(test)]
+mod programs;
+#[cfg(test)]
+mod rows;
+#[cfg(test)]
+mod runs;
+#[cfg(test)]
+mod scripts;
+#[cfg(test)]
+mod sources;
+#[cfg(test)]
+mod statements;
+#[cfg(test)]
+mod states;
+#[cfg(test)]
+mod values;
+#[cfg(test)]
+mod words;

@@ -1,0 +1,123 @@
+//! The machine on worked programs.
+use crate::boards::{BOTH_TRAPS, CORE_16, ENABLED, Edit, board};
+use crate::programs::{CALLER, LOADS, image};
+use std::alloc::AllocGlobal;
+use std::process::Abort;
+use std::test::Fail;
+use tc_machine::{End, Event, Machine};
+
+const QUIET: Event = Event {
+    irq: 0,
+    input: 0,
+    status: 0,
+    aln: false,
+};
+
+#[test]
+fn a_call_goes_and_comes_back(rt: HostRuntime) -> Result<(), Fail> {
+    let image = image(&rt, &CALLER)?;
+    for (plan, pcxi) in [
+        (board(&rt, &[])?, 0x004d_0000),
+        (board(&rt, &[CORE_16])?, 0x001d_0000),
+    ] {
+        let mut machine = Machine::start(rt.alloc(), &image, &plan)?;
+        assert_eq!(rt; machine.used(), Some(0));
+        assert_eq!(rt; machine.next_load(), None);
+        machine.step(&QUIET);
+        assert_eq!(rt; machine.pcxi, pcxi);
+        assert_eq!(rt; machine.fcx, 0x000d_0001);
+        assert_eq!(rt; machine.pc, 0x8000_0008);
+        assert_eq!(rt; machine.a[11], 0x8000_0004);
+        assert_eq!(rt; machine.used(), Some(1));
+        machine.run(&[QUIET, QUIET]);
+        assert_eq!(rt; machine.pc, 0x8000_0004);
+        assert_eq!(rt; machine.used(), Some(0));
+        assert_eq!(rt; machine.end, End::Running);
+    }
+    Ok(())
+}
+
+const ANSWERED: Event = Event {
+    irq: 0,
+    input: 0xffff_8001,
+    status: 0,
+    aln: true,
+};
+
+const BUSY: [Edit; 4] = [
+    BOTH_TRAPS,
+    ENABLED,
+    (r#""irqs":[]"#, r#""irqs":[5,10]"#),
+    (r#""ccpn":0"#, r#""ccpn":5"#),
+];
+
+fn busy_machine<R: Abort + AllocGlobal>(rt: &R) -> Result<Machine, Fail> {
+    let image = image(rt, &LOADS)?;
+    let plan = board(rt, &BUSY)?;
+    Ok(Machine::start(rt.alloc(), &image, &plan)?)
+}
+
+#[test]
+fn halfwords_with_and_without_sign(rt: HostRuntime) -> Result<(), Fail> {
+    let mut machine = busy_machine(&rt)?;
+    assert_eq!(rt; machine.next_load(), None);
+    machine.step(&ANSWERED);
+    assert_eq!(rt; machine.next_load(), Some((0xf000_0000, 2)));
+    machine.run(&[ANSWERED, ANSWERED]);
+    assert_eq!(rt; machine.d[1], 0x8001);
+    assert_eq!(rt; machine.d[2], 0xffff_8001);
+    assert_eq!(rt; machine.next_load(), Some((0xf000_0001, 2)));
+    Ok(())
+}
+
+#[test]
+fn misaligned_access_traps(rt: HostRuntime) -> Result<(), Fail> {
+    let mut machine = busy_machine(&rt)?;
+    machine.run(&[ANSWERED, ANSWERED, ANSWERED, ANSWERED]);
+    assert_eq!(rt; machine.pc, 0x8000_0140);
+    assert_eq!(rt;
+        (machine.d[15], machine.a[11], machine.a[10]),
+        (4, 0x8000_000c, 0xd000_8800)
+    );
+    assert_eq!(rt;
+        (machine.ccpn, machine.ie, machine.used()),
+        (5, false, Some(1))
+    );
+    Ok(())
+}
+
+#[test]
+fn system_call_traps(rt: HostRuntime) -> Result<(), Fail> {
+    let mut machine = busy_machine(&rt)?;
+    machine.run(&[QUIET, QUIET, QUIET, QUIET, QUIET]);
+    assert_eq!(rt; machine.pc, 0x8000_01c0);
+    assert_eq!(rt;
+        (machine.d[15], machine.a[11], machine.a[10]),
+        (3, 0x8000_0014, 0xd000_8800)
+    );
+    Ok(())
+}
+
+#[test]
+fn interrupt_and_back(rt: HostRuntime) -> Result<(), Fail> {
+    let mut machine = busy_machine(&rt)?;
+    machine.step(&Event { irq: 5, ..QUIET });
+    assert_eq!(rt; machine.pc, 0x8000_0004);
+    machine.step(&Event { irq: 10, ..QUIET });
+    assert_eq!(rt; machine.pc, 0x8000_0540);
+    assert_eq!(rt;
+        (machine.pcxi, machine.psw, machine.a[11]),
+        (0x05cd_0000, 0xa00, 0x8000_0004)
+    );
+    assert_eq!(rt;
+        (machine.a[10], machine.ccpn, machine.ie),
+        (0xd000_8800, 10, false)
+    );
+    machine.step(&QUIET);
+    assert_eq!(rt; (machine.pc, machine.a[10]), (0x8000_0004, 0xd000_9000));
+    assert_eq!(rt;
+        (machine.ccpn, machine.ie, machine.used()),
+        (5, true, Some(0))
+    );
+    Ok(())
+}

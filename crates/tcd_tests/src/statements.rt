@@ -1,0 +1,144 @@
+//! The tokens of worked lines, and the rows that worked statements are.
+use tc_isa::rows;
+use tc_lex::{Token, TokenKind, tokens};
+use tc_stmt::{
+    Piece, Shape, Value, is_kind, is_name, operands, shape_index, statement, symbol_rule, text_at,
+    wants,
+};
+
+static TOKENS: [Token; 13] = [
+    Token {
+        kind: TokenKind::Word,
+        from: 0,
+        to: 4,
+    },
+    Token {
+        kind: TokenKind::Colon,
+        from: 4,
+        to: 5,
+    },
+    Token {
+        kind: TokenKind::Word,
+        from: 6,
+        to: 10,
+    },
+    Token {
+        kind: TokenKind::Word,
+        from: 11,
+        to: 13,
+    },
+    Token {
+        kind: TokenKind::Comma,
+        from: 13,
+        to: 14,
+    },
+    Token {
+        kind: TokenKind::Open,
+        from: 15,
+        to: 16,
+    },
+    Token {
+        kind: TokenKind::Word,
+        from: 16,
+        to: 18,
+    },
+    Token {
+        kind: TokenKind::Plus,
+        from: 18,
+        to: 19,
+    },
+    Token {
+        kind: TokenKind::Close,
+        from: 19,
+        to: 20,
+    },
+    Token {
+        kind: TokenKind::Number,
+        from: 20,
+        to: 24,
+    },
+    Token {
+        kind: TokenKind::Word,
+        from: 24,
+        to: 25,
+    },
+    Token {
+        kind: TokenKind::Minus,
+        from: 26,
+        to: 27,
+    },
+    Token {
+        kind: TokenKind::Number,
+        from: 27,
+        to: 28,
+    },
+];
+
+#[test]
+fn tokens_of_a_line(rt: HostRuntime) {
+    let line = b"loop: ld.w\td1, [a2+]0x1Fg -4 # 'end";
+    let found = tokens(line).expect(&rt, "a line");
+    assert_eq!(rt; found.len(), TOKENS.len());
+    for (token, want) in found.iter().zip(&TOKENS) {
+        assert!(rt; token.kind == want.kind && token.from == want.from && token.to == want.to);
+    }
+}
+
+#[test]
+fn places_of_faults(rt: HostRuntime) {
+    assert_eq!(rt; tokens(b"  ?").map(|_| ()), Err(2));
+    assert_eq!(rt; tokens(b"0xg").map(|found| found.len()), Ok(2));
+    assert_eq!(rt; tokens(&[b','; 64]).map(|found| found.len()), Ok(64));
+    assert_eq!(rt; tokens(&[b','; 65]).map(|_| ()), Err(64));
+}
+
+fn word(text: &str) -> Piece<'_> {
+    Piece {
+        kind: TokenKind::Word,
+        text: text.as_bytes(),
+    }
+}
+
+fn comma() -> Piece<'static> {
+    Piece {
+        kind: TokenKind::Comma,
+        text: b",",
+    }
+}
+
+#[test]
+fn a_move_between_registers(rt: HostRuntime) {
+    let pieces = [word("d1"), comma(), word("d2")];
+    let found = operands(&pieces);
+    assert_eq!(rt; found.len(), 2);
+    match statement(b"mov", &found) {
+        Ok((row, filled)) => {
+            assert_eq!(rt; row, 17);
+            assert_eq!(rt; filled.fields.c, 1);
+            assert_eq!(rt; filled.fields.s2, 2);
+        }
+        Err(rule) => assert_eq!(rt; rule, 15),
+    }
+    match statement(b"mow", &found) {
+        Ok((row, _)) => assert_eq!(rt; row, 255),
+        Err(rule) => assert_eq!(rt; rule, 2),
+    }
+}
+
+#[test]
+fn pieces_and_names(rt: HostRuntime) {
+    let pieces = [word("d1"), comma()];
+    assert!(rt; is_kind(&pieces, 1, TokenKind::Comma));
+    assert_eq!(rt; text_at(&pieces, 0).len(), 2);
+    assert!(rt; is_name(b".text"));
+    assert!(rt; !is_name(b"."));
+    assert_eq!(rt; wants().len(), rows().len());
+    let lone = Value {
+        shape: Shape::Word,
+        name: b".",
+        minus: false,
+        size: 0,
+    };
+    assert_eq!(rt; symbol_rule(lone), 9);
+    assert_eq!(rt; shape_index(lone.shape), 2);
+}
