@@ -20,7 +20,7 @@ fn any_regs() -> [Val; 27]
 pub fn open(b: &Bounds) -> State
     ensures { AreValues b.now result.regs }
 {
-    let _width = b.width();
+    let _most_words = b.most_words();
     State {
         regs: any_regs(),
         ie: false,
