@@ -35,7 +35,7 @@ fn all_pairs(b: &Bounds, op: Op, xs: &[u32], ys: &[u32]) -> Val
 {
     let _most_words = b.most_words();
     let first = alu(op, xs[0], ys[0]);
-    let mut met = [first; 256];
+    let mut met = [first; 1024];
     let mut out = Val::one(first);
     for x in xs {
         add_row(b, &mut out, &mut met, op, *x, ys);
@@ -45,7 +45,7 @@ fn all_pairs(b: &Bounds, op: Op, xs: &[u32], ys: &[u32]) -> Val
 
 /// Adds the results of a word and each of the others to a value: one by one while it is a Set, else at once. Of the
 /// words that the value has, `met` holds those that were met lately.
-fn add_row(b: &Bounds, v: &mut Val, met: &mut [u32; 256], op: Op, x: u32, ys: &[u32])
+fn add_row(b: &Bounds, v: &mut Val, met: &mut [u32; 1024], op: Op, x: u32, ys: &[u32])
     requires value { IsValue b.now v.old }
     requires met { HasMet v.old met.old }
     requires few { length ys.now ≤ 128 }
@@ -63,7 +63,7 @@ fn add_row(b: &Bounds, v: &mut Val, met: &mut [u32; 256], op: Op, x: u32, ys: &[
     add_words(b, v, part);
 }
 
-fn add_each(b: &Bounds, v: &mut Val, met: &mut [u32; 256], op: Op, x: u32, ys: &[u32])
+fn add_each(b: &Bounds, v: &mut Val, met: &mut [u32; 1024], op: Op, x: u32, ys: &[u32])
     requires value { IsValue b.now v.old }
     requires met { HasMet v.old met.old }
     ensures cover { v.new ≡ cover b.now (members v.old ++ map (alu_of op x) ys.now) }
@@ -76,7 +76,7 @@ fn add_each(b: &Bounds, v: &mut Val, met: &mut [u32; 256], op: Op, x: u32, ys: &
 }
 
 /// Adds a word, unless it was met lately.
-fn add_result(b: &Bounds, v: &mut Val, met: &mut [u32; 256], z: u32)
+fn add_result(b: &Bounds, v: &mut Val, met: &mut [u32; 1024], z: u32)
     requires value { IsValue b.now v.old }
     requires met { HasMet v.old met.old }
     ensures cover { v.new ≡ cover b.now (z ∷ members v.old) }
@@ -93,9 +93,9 @@ fn add_result(b: &Bounds, v: &mut Val, met: &mut [u32; 256], z: u32)
 
 /// Where a word that was met is kept: the highest bits of its product with 2^32 by the golden ratio.
 fn slot_of(z: u32) -> usize
-    ensures { result < 256 }
+    ensures { result < 1024 }
 {
-    (z.wrapping_mul(0x9E37_79B1) >> 24) as usize
+    (z.wrapping_mul(0x9E37_79B1) >> 22) as usize
 }
 
 /// The results of a word and each of the others, in turn.

@@ -12,7 +12,7 @@ loop-x-init c =
     (record {
       cover = cover-one c.args.b.now c.alu-first.result c.most_words-most_words.ensures.limits small ∙ ap (cover c.args.b.now) (pairs-none c.args.op c.alu-first.result c.args.ys.now);
       value = one_value c.args.b.now c.alu-first.result c.most_words-most_words.ensures.limits small;
-      met = met_one 256 c.alu-first.result;
+      met = met_one 1024 c.alu-first.result;
     })
 
 pub loop-x-preserved : goal.loop-x-preserved
