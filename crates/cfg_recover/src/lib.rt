@@ -1,4 +1,4 @@
-//! The duties of a certificate's points.
+//! The rules of certificates: what a point owes, and when a certificate is accepted.
 #![tactic(auto)]
 
 mod code;
