@@ -63,6 +63,8 @@ module _ (m : Machine) (e : Event) where
 
   pub edge_is : EdgeIs m e
   edge_is = record {
+    load = λ dst base offset size signed after. refl;
+    store = λ src base offset size after. refl;
     at = refl;
     same = refl;
     interrupted = interrupted;

@@ -1,15 +1,17 @@
 -- What edges, frames and the promises on them say, in the machine's own words: the statements of the laws that guard
 -- these definitions.
-use Rattle.std.specs.Prelude.{◌≡◌, ◌<◌, ◌≤◌, ℕ, Bool, true, false, List, [], ◌∷◌, ◌++◌, IsSome, All, Contains, Some, Ok}
+use Rattle.std.specs.Prelude.{◌≡◌, ◌%◌, ◌<◌, ◌≤◌, ℕ, Bool, true, false, not, ◌&&◌, ◌==◌, List, [], ◌∷◌, ◌++◌, IsSome, All, Contains, Some, Ok}
 use Rattle.elf_image.specs.Images.{ImageData}
 use Rattle.tcd_plan.specs.PlanData.{PlanData}
+use Rattle.tc_isa.specs.declared.shapes.Arg.{Arg}
 use Rattle.tc_isa.specs.declared.shapes.Target.{Target}
 use Rattle.tc_isa.specs.declared.shapes.Shape.{Shape}
-use Rattle.tc_isa.specs.declared.shapes.Shape.TheVariants.{Call, Ret, Rfe, Syscall}
+use Rattle.tc_isa.specs.declared.shapes.Shape.TheVariants.{Load, Store, Call, Ret, Rfe, Syscall}
 use Rattle.tc_machine.specs.declared.events.Event.{Event}
 use Rattle.tc_machine.specs.declared.state.Machine.{Machine}
 use Rattle.tc_machine.specs.Machine.{reg, is_of, moved}
 use Rattle.tc_machine.specs.Fetching.{fetched}
+use Rattle.tc_machine.specs.Instructions.{access_address}
 use Rattle.tc_machine.specs.Stepping.{is_taken, step, run}
 use Rattle.tc_machine.specs.Safe.{Starts, Fits, AllFit}
 use Rattle.value_domain.specs.declared.states.State.{State}
@@ -30,7 +32,7 @@ pub record Meets (m : Machine) (e : Event) (shape : Shape) (n : ℕ) : Type 0 wh
   pub free : is_taken m e ≡ false
   pub there : fetched m ≡ Ok (shape, n)
 
--- it doesn't trap there, and the instruction neither enters nor leaves a frame
+-- the instruction neither enters nor leaves a frame
 abbrev pub KeepsFrame : Shape → Type 0
 KeepsFrame (Call x) = ⊥
 KeepsFrame Ret = ⊥
@@ -38,9 +40,16 @@ KeepsFrame Rfe = ⊥
 KeepsFrame (Syscall tin) = ⊥
 KeepsFrame _ = Unit {0}
 
--- The edge of a step begins at pc. It goes to the new pc: of an interrupt that is taken, of the handler of an access that
--- traps, of a call, of a system call, or in the frame; RET and RFE stand alone.
+-- A load or a store traps where its address is no multiple of its size and the event says so. The edge of a step begins at
+-- pc. It goes to the new pc: of an interrupt that is taken, of the handler of an access that traps, of a call, of a system
+-- call, or in the frame; RET and RFE stand alone.
 pub record EdgeIs (m : Machine) (e : Event) : Type 0 where
+  pub load :
+      (dst : ℕ) (base : Arg) (offset size : ℕ) (signed after : Bool)
+      → traps m e (Load dst base offset size signed after) ≡ (e.aln && not (access_address m base offset after % size == 0))
+  pub store :
+      (src : ℕ) (base : Arg) (offset size : ℕ) (after : Bool)
+      → traps m e (Store src base offset size after) ≡ (e.aln && not (access_address m base offset after % size == 0))
   pub at : (edge_of_step m e).at ≡ m.pc
   pub same : (edge_of_step m e).way ≡ way_of_step m e
   pub interrupted : is_taken m e ≡ true → way_of_step m e ≡ irq (step m e).pc

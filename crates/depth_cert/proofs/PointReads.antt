@@ -1,5 +1,5 @@
 -- How a point is read behind others: its address, and then its state into its place.
-use Rattle.std.specs.Prelude.{◌≡◌, ℕ, ◌-◌, List, [], ◌∷◌, ◌++◌, length, slice_set, slice_index_or, Result, Ok, Err}
+use Rattle.std.specs.Prelude.{◌≡◌, ℕ, List, [], ◌∷◌, ◌++◌, length, slice_set, slice_index_or, Ok, Err}
 use Rattle.std.proofs.Common.{◌∙◌, refl}
 use Rattle.std.proofs.Math.Seq.{set-append_seam, get_or-append_seam}
 use Rattle.tcd_base.specs.declared.types.FormErr.{FormErr}
