@@ -6,3 +6,4 @@ pub mod BootWhole
 pub mod BootRows
 pub mod PutLaws
 pub mod SourceLaws
+pub mod JudgeOne

@@ -1,5 +1,5 @@
 -- What the definitions of this crate let in, told by plain equations.
-use Rattle.std.specs.Prelude.{◌≡◌, ◌+◌, ◌*◌, ◌<◌, ℕ, false, List, length, take}
+use Rattle.std.specs.Prelude.{◌≡◌, ◌+◌, ◌*◌, ◌<◌, ℕ, false, List, length, take, Result}
 use Rattle.elf_image.specs.Images.{ImageData}
 use Rattle.tcd_plan.specs.PlanData.{PlanData}
 use Rattle.tc_machine.specs.declared.events.Event.{Event}
@@ -8,7 +8,9 @@ use Rattle.tc_machine.specs.declared.state.Machine.{Machine}
 use Rattle.tc_machine.specs.Stepping.{run}
 use Rattle.tc_machine.specs.Safe.{IsMachine}
 use Rattle.tc_mem.specs.PlanMemory.{IsPlanMemory, HoldsRom}
+use Rattle.tc_boot.specs.declared.judging.BootErr.{BootErr}
 use Rattle.tc_boot.specs.Reset.{Reset, BootsFrom}
+use Rattle.tc_boot.specs.Judging.{Judges}
 
 -- The project's own reading of a reset: every machine that runs at the address with interrupts off, with the plan's core and
 -- memory and the image's bytes in rom, is at reset, whatever its registers, ram and save areas hold.
@@ -22,3 +24,7 @@ abbrev pub BootsInside : Type 0
 BootsInside =
     (image : ImageData) (plan : PlanData) (at : ℕ) (m : Machine) (es : List Event) (n : ℕ) → BootsFrom image plan at m es → n < length es
     → ((run m (take n es)).end ≡ Running) × ((run m (take n es)).ie ≡ false) × ((place : ℕ) × (place < 56) × ((run m (take n es)).pc ≡ at + 4 * place))
+
+-- The test of a boot sequence has one answer.
+abbrev pub JudgesOne : Type 0
+JudgesOne = (image : ImageData) (plan : PlanData) (at : ℕ) (r s : Result ℕ BootErr) → Judges image plan at r → Judges image plan at s → r ≡ s

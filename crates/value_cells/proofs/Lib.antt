@@ -13,3 +13,4 @@ pub mod LineForms
 pub mod ReadLaws
 pub mod FaultLaws
 pub mod PlainWords
+pub mod ReadOne

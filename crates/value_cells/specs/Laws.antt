@@ -1,5 +1,5 @@
 -- What the definitions of this crate say, told in plain words.
-use Rattle.std.specs.Prelude.{◌≡◌, ◌≤◌, ◌↔◌, ℕ, false, List, All, Contains}
+use Rattle.std.specs.Prelude.{◌≡◌, ◌≤◌, ◌↔◌, ℕ, false, List, All, Contains, Result}
 use Rattle.csa_chain.specs.Memory.{word_at}
 use Rattle.elf_image.specs.Images.{ImageData}
 use Rattle.tcd_plan.specs.PlanData.{PlanData}
@@ -9,7 +9,9 @@ use Rattle.tc_machine.specs.Stepping.{run}
 use Rattle.tcd_base.specs.Ranges.{IsInOne}
 use Rattle.tc_machine.specs.Safe.{Starts, Fits, AllFit, IsSafeAt}
 use Rattle.value_cells.specs.declared.cells.Cell.{Cell}
+use Rattle.value_cells.specs.declared.errors.CellsErr.{CellsErr}
 use Rattle.value_cells.specs.Cells.{with_cells, is_in_cell}
+use Rattle.value_cells.specs.Reading.{Reads}
 use Rattle.value_cells.specs.Safe.{SafeWithCells}
 
 -- The ram of the plan in which the cells are devices is all ram but the cells' bytes.
@@ -24,3 +26,7 @@ EachCellStays =
     (image : ImageData) (plan : PlanData) (cells : List Cell) (most : ℕ) (m : Machine) (es : List Event) (e : Event) (c : Cell) → SafeWithCells image plan cells most
     → Starts image plan m → All (λ d. (d.lo ≤ word_at m.mem d.at) × (word_at m.mem d.at ≤ d.hi)) cells → AllFit plan m es → Fits plan (run m es) e → Contains cells c
     → IsSafeAt image plan most (run m es) e × (c.lo ≤ word_at (run m es).mem c.at) × (word_at (run m es).mem c.at ≤ c.hi)
+
+-- A text has one answer for a plan.
+abbrev pub ReadsOne : Type 0
+ReadsOne = (plan : PlanData) (bytes : List ℕ) (r s : Result (List Cell) CellsErr) → Reads plan bytes r → Reads plan bytes s → r ≡ s

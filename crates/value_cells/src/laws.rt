@@ -1,7 +1,7 @@
 // What holds of plans with cells.
 ghost use Rattle.value_cells.specs.Beside.{StepsBeside};
 ghost use Rattle.value_cells.specs.Cells.{CellsMakeAPlan};
-ghost use Rattle.value_cells.specs.Laws.{RamIsWithoutCells, EachCellStays};
+ghost use Rattle.value_cells.specs.Laws.{RamIsWithoutCells, EachCellStays, ReadsOne};
 ghost use Rattle.value_cells.specs.Safe.{CellsKeepTheirBounds};
 
 /// The plan in which the cells are devices is a plan; each step of the machine without the cells' bytes, whose inputs are
@@ -13,8 +13,10 @@ pub fn cells_keep_their_bounds()
     ensures bounds { CellsKeepTheirBounds }
 {}
 
-/// What is left of ram beside cells, and what it is to be safe with them, in plain words.
+/// What is left of ram beside cells, and what it is to be safe with them, in plain words; and that a text names one list of
+/// cells, or has one thing against it.
 pub fn cells_in_words()
     ensures ram { RamIsWithoutCells }
     ensures stays { EachCellStays }
+    ensures one { ReadsOne }
 {}

@@ -1,4 +1,5 @@
 use Rattle.value_cells.proofs.CellRanges.{ram_in, ram_out, ram_has}
+use Rattle.value_cells.proofs.ReadOne.{reads_one}
 use Rattle.value_cells.proofs.PlainWords.{all_in_bounds, one_in_bounds}
 use Rattle.value_cells.proofs.laws.cells_in_words.Goals as goal
 
@@ -10,3 +11,6 @@ returns-clause-stays c = λ image plan cells most m es e d safe starts bounds fi
     let at = safe m es e starts (all_in_bounds m.mem cells bounds) fit fits in
     let one = one_in_bounds _ cells d at.bounds member in
     (at.safe, one.0, one.1)
+
+pub returns-clause-one : goal.returns-clause-one
+returns-clause-one c = reads_one
