@@ -17,7 +17,7 @@ use Rattle.tc_asm.specs.declared.entries.Entry.{Entry}
 use Rattle.tc_asm.specs.Items.{ItemData, label, section, global, code, bytes, zeros}
 use Rattle.tc_asm.specs.Lines.{LineData}
 use Rattle.tc_asm.specs.Symbols.{SymbolData, unseen, entry_in, entry_of, put_entry, place_in, seen, labelled, made_global}
-use Rattle.tc_reloc.specs.Forms.{is_reloc}
+use Rattle.tc_isa.specs.Relocations.{is_reloc}
 use Rattle.tc_asm.specs.Drafts.{UseData, PartData, DraftData, part, start, place_of, has_section, has_room, here, with_label, number_of_part, entered, with_global, extended, with_bytes, used, with_use, with_reference, with_content, resolved, code_bytes, stepped}
 use Rattle.tc_asm.specs.Rules.{label_rule, section_rule, name_rule, symbol_room, reloc_room, bytes_room, defined_rule, reference_rule, content_rule, item_rule}
 use Rattle.tc_asm.specs.Sources.{items_rule, with_line, line_rule}

@@ -6,7 +6,7 @@ use Rattle.std.proofs.lemmas.Bool.Decides.{nat_tests}
 use Rattle.tc_isa.specs.declared.fields.Fields.{Fields}
 use Rattle.tc_isa.specs.Rows.{RowData, listed}
 use Rattle.tc_isa.specs.Codec.{spelling}
-use Rattle.tc_reloc.specs.Forms.{is_reloc}
+use Rattle.tc_isa.specs.Relocations.{is_reloc}
 use Rattle.tc_reloc.specs.Fields.{room_of, rest_of, spread_of}
 use Rattle.tc_reloc.specs.Applied.{with_field}
 use Rattle.tc_reloc.proofs.FilledRows.{written_law}

@@ -11,7 +11,7 @@ use Rattle.tc_stmt.specs.Filling.{ReferenceData}
 use Rattle.tc_asm.specs.Items.{ItemData, label, section, global, code, bytes, zeros}
 use Rattle.tc_asm.specs.Symbols.{SymbolData, seen}
 use Rattle.tc_asm.specs.Drafts.{UseData, PartData, DraftData, part, start, place_of, has_section, has_room, with_label, number_of_part, entered, with_global, extended, with_bytes, used, with_use, with_reference, with_content, code_bytes, stepped}
-use Rattle.tc_reloc.specs.Forms.{is_reloc}
+use Rattle.tc_isa.specs.Relocations.{is_reloc}
 use Rattle.tc_asm.specs.Rules.{section_rule, bytes_room, symbol_room, reloc_room, reference_rule, content_rule, item_rule}
 use Rattle.tc_asm.specs.Sources.{items_rule, with_line}
 use Rattle.tc_asm.specs.Kept.{size_at}

@@ -6,7 +6,7 @@ use Rattle.tc_isa.specs.declared.fields.Fields.{Fields}
 use Rattle.tc_isa.specs.Rows.{RowData, listed}
 use Rattle.tc_isa.specs.Words.{bounds}
 use Rattle.tc_isa.specs.Codec.{is_below_test, rest_is_zero, uses_of, is_apart, spelling}
-use Rattle.tc_reloc.specs.Forms.{is_reloc}
+use Rattle.tc_isa.specs.Relocations.{is_reloc}
 use Rattle.tc_stmt.specs.Names.{is_name}
 use Rattle.tc_stmt.specs.Filling.{ReferenceData, FoundData, displaced, broken}
 use Rattle.tc_asm.specs.declared.entries.Place.{Place}

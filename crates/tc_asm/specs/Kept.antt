@@ -6,7 +6,7 @@ use Rattle.tc_object.specs.Names.{IsName}
 use Rattle.tc_object.specs.Objects.{InTurn}
 use Rattle.tc_asm.specs.declared.entries.Place.{Place}
 use Rattle.tc_asm.specs.Symbols.{SymbolData}
-use Rattle.tc_reloc.specs.Forms.{is_reloc}
+use Rattle.tc_isa.specs.Relocations.{is_reloc}
 use Rattle.tc_asm.specs.Drafts.{UseData, PartData, DraftData}
 
 -- each of these is so

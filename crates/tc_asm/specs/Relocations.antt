@@ -1,6 +1,6 @@
 -- The relocations of a source's object, and the fields that they are to fill.
 use Rattle.std.specs.Prelude.{◌≡◌, ◌+◌, ◌==◌, ◌++◌, ℕ, true, if◌then◌else◌, List, [], ◌∷◌, length, slice_get, Option, Some, None}
-use Rattle.tc_reloc.specs.Forms.{is_reloc}
+use Rattle.tc_isa.specs.Relocations.{is_reloc}
 use Rattle.tc_reloc.specs.Applied.{with_field}
 use Rattle.tc_stmt.specs.Filling.{ReferenceData}
 use Rattle.tc_object.specs.declared.relocs.Reloc.{Reloc}

@@ -4,7 +4,7 @@ use Rattle.tc_stmt.specs.Names.{is_name}
 use Rattle.tc_stmt.specs.Filling.{ReferenceData}
 use Rattle.tc_asm.specs.Items.{ItemData, label, section, global, code, bytes, zeros}
 use Rattle.tc_asm.specs.Symbols.{SymbolData, entry_in, place_in}
-use Rattle.tc_reloc.specs.Forms.{is_reloc}
+use Rattle.tc_isa.specs.Relocations.{is_reloc}
 use Rattle.tc_asm.specs.Drafts.{DraftData, has_section, has_room, number_of_part, resolved, code_bytes}
 
 -- 7: a label twice

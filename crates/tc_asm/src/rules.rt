@@ -1,6 +1,6 @@
 // The rules that the lines before and the whole source decide.
 ghost use Rattle.std.specs.Prelude.{◌≡◌};
-ghost use Rattle.tc_reloc.specs.Forms.{is_reloc as needs_reloc};
+ghost use Rattle.tc_isa.specs.Relocations.{is_reloc as needs_reloc};
 
 use crate::draft::Draft;
 use crate::encode::first_bytes;

@@ -9,3 +9,4 @@ pub mod Shapes
 pub mod Writes
 pub mod Meanings
 pub mod Bounded
+pub mod Relocations

@@ -12,7 +12,7 @@ use Rattle.tc_asm.specs.Items.{ItemData, label, section, global, code, bytes, ze
 use Rattle.tc_asm.specs.Lines.{lines_in}
 use Rattle.tc_asm.specs.Symbols.{SymbolData}
 use Rattle.tc_asm.specs.Drafts.{DraftData, start, spelled_code, resolved, code_bytes, stepped}
-use Rattle.tc_reloc.specs.Forms.{is_reloc}
+use Rattle.tc_isa.specs.Relocations.{is_reloc}
 use Rattle.tc_asm.specs.Sources.{symbols_of}
 use Rattle.tc_asm.specs.Kept.{Each}
 use Rattle.tc_asm.specs.Statements.{StatementData, content_of, standing, statements_from, items_in}

@@ -21,7 +21,7 @@ use Rattle.tc_reloc.specs.Applied.{with_field}
 use Rattle.tc_asm.specs.Lines.{lines_in}
 use Rattle.tc_asm.specs.Symbols.{SymbolData}
 use Rattle.tc_asm.specs.Drafts.{UseData, PartData, start}
-use Rattle.tc_reloc.specs.Forms.{is_reloc}
+use Rattle.tc_isa.specs.Relocations.{is_reloc}
 use Rattle.tc_asm.specs.Sources.{KeepsRules, symbols_of, items_rule}
 use Rattle.tc_asm.specs.Kept.{is_among, symbol_names, IsUse, IsPart}
 use Rattle.tc_asm.specs.Objects.{section_of, symbol_of, number_of, addend_of, reloc_of, relocs_from, object_of}

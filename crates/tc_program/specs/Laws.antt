@@ -4,7 +4,7 @@ use Rattle.elf_image.specs.Images.{ImageData}
 use Rattle.tc_isa.specs.declared.fields.Fields.{Fields}
 use Rattle.tc_isa.specs.Rows.{RowData, listed}
 use Rattle.tc_isa.specs.Codec.{Fits, spelling}
-use Rattle.tc_reloc.specs.Forms.{is_reloc}
+use Rattle.tc_isa.specs.Relocations.{is_reloc}
 use Rattle.tc_reloc.specs.Fields.{room_of}
 use Rattle.tc_reloc.specs.Applied.{with_field}
 use Rattle.tc_stmt.specs.Filling.{ReferenceData}

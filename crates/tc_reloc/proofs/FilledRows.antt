@@ -15,8 +15,9 @@ use Rattle.tc_isa.specs.Codec.{uses_of, rest_is_zero, Fits, IsRow, is_long, four
 use Rattle.tc_isa.proofs.TableFacts.{row_at}
 use Rattle.tc_reloc.specs.Fields.{room_of, spread_of, rest_of}
 use Rattle.tc_reloc.specs.Applied.{with_field}
-use Rattle.tc_reloc.specs.Forms.{fills, FitsLaw, WrittenLaw}
-use Rattle.tc_reloc.specs.Forms.{fills}
+use Rattle.tc_isa.specs.Relocations.{fills}
+use Rattle.tc_reloc.specs.Forms.{FitsLaw, WrittenLaw}
+use Rattle.tc_isa.specs.Relocations.{fills}
 
 -- ---- words
 or_cases : (a b : Bool) → (a || b) ≡ true → (a ≡ true) ⊎ (b ≡ true)

@@ -26,7 +26,7 @@ use Rattle.tc_stmt.specs.Wants.{want_of, wants_of}
 use Rattle.tc_stmt.specs.Filling.{ReferenceData, FoundData, nothing, broken, set_field, field_of, put, shape_index, register_of, put_register, fits, wrapped, put_number, symbol_rule, reference, with_symbol, half_kind, is_symbol, is_half, fill_value, fill_memory, is_far, is_odd, displacement_rule, displaced, target_kind, fill_target, put_absolute, fill_absolute, fill_register, fill_a10, fill_plain, fill, fill_all, apart, judged}
 use Rattle.tc_stmt.specs.Judging.{stepped, outcome, followed, rule_of, statement}
 use Rattle.tc_stmt.specs.Judging as judging
-use Rattle.tc_reloc.specs.Forms.{is_reloc, fills}
+use Rattle.tc_isa.specs.Relocations.{is_reloc, fills}
 use Rattle.tc_stmt.specs.Stated.{is_short_jump, TakesSymbol, Symbols, Stated, IsStated, StatedLaw}
 use Rattle.tc_stmt.proofs.Cases.{by_test, one_passes}
 use Rattle.tc_stmt.proofs.ZeroConstants.{zero_judged}

@@ -4,7 +4,7 @@ use Rattle.tc_isa.specs.Rows.{RowData, listed}
 use Rattle.tc_isa.specs.declared.table.Form.{Form}
 use Rattle.tc_isa.specs.Words.{form_index}
 use Rattle.tc_isa.specs.Codec.{Fits, uses_of, is_long}
-use Rattle.tc_reloc.specs.Forms.{is_reloc, fills}
+use Rattle.tc_isa.specs.Relocations.{is_reloc, fills}
 use Rattle.tc_stmt.specs.Names.{is_name}
 use Rattle.tc_stmt.specs.Operands.{OperandData}
 use Rattle.tc_stmt.specs.Filling.{ReferenceData, FoundData}
