@@ -101,7 +101,7 @@ first_faults_say image plan cert r k p small is_cert f =
     let own = numbers image plan cert small is_cert r k p place in
     record {
       some = own.some;
-      most = own.most_locals;
+      most = own.most;
       addr = own.addr;
       one = own.one;
       place = place;
@@ -110,7 +110,7 @@ first_faults_say image plan cert r k p small is_cert f =
           let its = numbers image plan cert small is_cert q j x other in
           elim (f.least q j x (fault_at image plan cert q j x other)) [
             | inl one ↦ inl one
-            | inr le ↦ inr (before r (number_of_key k) p q (number_of_key j) x own.addr its.addr own.most_locals its.most_locals le)
+            | inr le ↦ inr (before r (number_of_key k) p q (number_of_key j) x own.addr its.addr own.most its.most le)
           ];
       refuted = λ accepts. fails_refutes image plan cert r k p f.fails accepts;
     }
