@@ -39,7 +39,7 @@ module _ (image : ImageData) (plan : PlanData) (at : ℕ) where
   one_difference i j a b =
       elim (cases_lt i j) [
         | inl less ↦ absurd (a.differs (b.before i less))
-        | inr from ↦ elim (cases_lt j i) [ | inl less ↦ absurd (b.differs (a.before j less)) | inr same ↦ omega arith ]
+        | inr from ↦ elim (cases_lt j i) [ inl less ↦ absurd (b.differs (a.before j less)) | inr same ↦ omega arith ]
       ]
 
   one_error : (e f : BootErr) → Judges image plan at (Err e) → Judges image plan at (Err f) → e ≡ f
