@@ -1,0 +1,18 @@
+-- A derived closed assignment without faults that isn't too large is the least one.
+use Rattle.std.proofs.Common.{◌≡◌, ℕ}
+use Rattle.elf_image.specs.Images.{ImageData}
+use Rattle.tcd_plan.specs.PlanData.{PlanData}
+use Rattle.value_domain.specs.Limits.{Limits}
+use Rattle.cfg_recover.specs.Assignments.{Assignment, Derived, Closed}
+use Rattle.cfg_recover.specs.Refusals.{IsTooLarge, IsLeast}
+use Rattle.depth_maker.specs.Proper.{AllFaultless, AreLawful}
+use Rattle.depth_maker.proofs.Below.{fault_refuted}
+use Rattle.depth_maker.proofs.TableLaws.{derived_proper}
+
+pub least_stands : (b : Limits) (image : ImageData) (plan : PlanData) → AreLawful b image plan → (a : Assignment) → Derived b image plan a → Closed b image plan a → AllFaultless b image plan a → (IsTooLarge a → ⊥)
+    → IsLeast b image plan a
+least_stands b image plan laws a derived closed faultless within = record {
+  derived = derived;
+  closed = closed;
+  faultless = fault_refuted b image plan laws a closed faultless (derived_proper b image plan laws a derived) within;
+}

@@ -1,0 +1,224 @@
+-- The own parts of the rules fall with the state.
+use Rattle.std.proofs.Common.{◌≡◌, ℕ, zero, suc, ◌+◌, ◌-◌, ◌*◌, ◌/◌, ◌%◌, ◌^◌, ◌<◌, ◌≤◌, ◌⊎◌, inl, inr, Bool, true, false, IsTrue, List, [], ◌∷◌, length, map, get_or, refl, sym, ap, ◌∙◌, subst, arith, Option, Some, None, IsSome, Contains}
+use Rattle.std.specs.Prelude.{unwrap_or}
+use Rattle.elf_image.specs.Images.{ImageData}
+use Rattle.tcd_plan.specs.PlanData.{PlanData}
+use Rattle.tc_isa.specs.declared.shapes.Target.{Target}
+use Rattle.tc_isa.specs.declared.shapes.Target.TheVariants as target
+use Rattle.tc_isa.specs.declared.shapes.Shape.{Shape}
+use Rattle.tc_isa.specs.declared.shapes.Shape.TheVariants.{Compute, Scaled, Load, Store, Branch, Jump, Call, Ret, Rfe, Svlcx, Rslcx, Bisr, Enable, Disable, Syscall, Mfcr, Mtcr, Nothing}
+use Rattle.tc_isa.specs.Bounded.{IsShape}
+use Rattle.tc_machine.specs.Machine.{moved}
+use Rattle.value_domain.specs.declared.values.Val.{Val}
+use Rattle.value_domain.specs.declared.values.Val.TheVariants.{Set, Span}
+use Rattle.value_domain.specs.declared.states.State.{State}
+use Rattle.value_domain.specs.Limits.{Limits}
+use Rattle.value_domain.specs.Sets.{Among, Within, distinct}
+use Rattle.value_domain.specs.Values.{IsValue, IsBelow}
+use Rattle.value_domain.specs.State.{Covers}
+use Rattle.value_domain.proofs.SetLaws.{among_distinct, distinct_has}
+use Rattle.value_domain.proofs.Loops.{among_get}
+use Rattle.vd_transfer.specs.Effects.{address_of, HasRoom}
+use Rattle.vd_transfer.specs.Registers.{reg_of}
+use Rattle.vd_transfer.specs.Soundness.{IsSetting}
+use Rattle.vd_transfer.proofs.HoldLaws.{reg_value}
+use Rattle.vd_transfer.proofs.OpLaws.{span_not_below}
+use Rattle.store_ranges.specs.Stores.{AreAligned}
+use Rattle.store_ranges.proofs.Covers.{map_has, among_map}
+use Rattle.depth_cert.specs.declared.keys.Key.{Key}
+use Rattle.cfg_recover.specs.Code.{IsCode}
+use Rattle.cfg_recover.specs.Local.{named_by, targets_of, are_aligned, KnowsTargets, MayReturn, MayReturnFromException, StoresInRange, MayAccess, LocalRule, LocalHolds, IsFaultless}
+use Rattle.cfg_recover.proofs.CodeLaws.{IsCode-bounded}
+use Rattle.cfg_recover.proofs.Members.{contains_among}
+use Rattle.cfg_recover.proofs.LocalLaws.{are_aligned-is}
+use Rattle.depth_maker.specs.Growth.{IsProper, IsGround, FaultsFall}
+use Rattle.depth_maker.proofs.StateGrowth.{same_locals, reg_grows}
+use Rattle.depth_maker.proofs.EffectGrowth.{address_grows, address_value}
+
+-- ---- targets
+pub among_contained : (xs : List ℕ) (x : ℕ) → Contains xs x → Among x xs
+among_contained xs x c = at xs c.0 c.1 c.2 where
+  at : (xs : List ℕ) (k : ℕ) → k < length xs → get_or xs k x ≡ x → Among x xs
+  at [] k lt e = absurd (omega arith)
+  at (y ∷ ys) zero lt e = inl (sym e)
+  at (y ∷ ys) (suc k) lt e = inr (at ys k (omega arith) e)
+
+evens_within : (vs ws : List ℕ) → Within vs ws → Within (distinct (map (λ w. w / 2 * 2) vs)) (distinct (map (λ w. w / 2 * 2) ws))
+evens_within vs ws there z i =
+    let m = among_map (λ w. w / 2 * 2) z vs (among_distinct z (map (λ w. w / 2 * 2) vs) i) in
+    distinct_has z (map (λ w. w / 2 * 2) ws) (subst (λ (n : ℕ). Among n (map (λ w. w / 2 * 2) ws)) (sym m.2) (map_has (λ w. w / 2 * 2) m.0 ws (there m.0 m.1)))
+
+-- a smaller value names fewer addresses, and names them where the larger does
+named_falls : (b : Limits) (v w : Val) → IsValue b v → IsValue b w → IsBelow v w → IsSome (named_by w) → IsSome (named_by v)
+named_falls b (Set vs) w vv vw below h = refl
+named_falls b (Span lo last step) (Set ws) vv vw below h = absurd (span_not_below b lo last step ws vv vw below)
+named_falls b (Span lo last step) (Span lo2 last2 step2) vv vw below h = h
+
+named_within : (b : Limits) (v w : Val) → IsValue b v → IsValue b w → IsBelow v w → IsSome (named_by w) → Within (unwrap_or (named_by v) []) (unwrap_or (named_by w) [])
+named_within b (Set vs) (Set ws) vv vw below h = evens_within vs ws below
+named_within b (Set vs) (Span lo last step) vv vw below h = absurd (let f : false ≡ true = h in cc)
+named_within b (Span lo last step) w vv vw below h = λ z i. absurd i
+
+module _ (b : Limits) (plan : PlanData) (s t : State) (low : IsSetting b plan s) (high : IsSetting b plan t) (c : Covers t s) where
+  pub targets_fall : (p : ℕ) (to : Target) → IsSome (targets_of plan t p to) → IsSome (targets_of plan s p to)
+  targets_fall p (target.Rel by) h = refl
+  targets_fall p (target.Abs x) h = refl
+  targets_fall p (target.Reg r) h = named_falls b (reg_of plan s r) (reg_of plan t r) (reg_value b plan s r low) (reg_value b plan t r high) (reg_grows plan s t low.regs high.regs c.regs r) h
+
+  -- each target of the smaller state is one of the larger
+  pub targets_within : (p : ℕ) (to : Target) → IsSome (targets_of plan t p to) → (x : ℕ) → Contains (unwrap_or (targets_of plan s p to) []) x → Contains (unwrap_or (targets_of plan t p to) []) x
+  targets_within p (target.Rel by) h x i = i
+  targets_within p (target.Abs y) h x i = i
+  targets_within p (target.Reg r) h x i =
+      contains_among _ x
+      (named_within b (reg_of plan s r) (reg_of plan t r) (reg_value b plan s r low) (reg_value b plan t r high) (reg_grows plan s t low.regs high.regs c.regs r) h x (among_contained _ x i))
+
+  -- ---- accesses
+  pub aligned_falls : (v w : Val) (size : ℕ) → IsValue b v → IsValue b w → IsBelow v w → are_aligned w size ≡ true → are_aligned v size ≡ true
+  aligned_falls v w size vv vw below e = (are_aligned-is v size vv.well).0 (λ x m. (are_aligned-is w size vw.well).1 e x (below x m))
+
+  may_access : (v w : Val) (size : ℕ) (stated : Bool) → IsValue b v → IsValue b w → IsBelow v w → (are_aligned w size ≡ true) ⊎ (stated ≡ true) → (are_aligned v size ≡ true) ⊎ (stated ≡ true)
+  may_access v w size stated vv vw below h = elim h [ inl e ↦ inl (aligned_falls v w size vv vw below e) | inr e ↦ inr e ]
+
+  -- ---- the rules
+  targets_known : (p : ℕ) (shape : Shape) → KnowsTargets plan t p shape → KnowsTargets plan s p shape
+  targets_known p (Compute op dst x y) h = h
+  targets_known p (Scaled dst base index k) h = h
+  targets_known p (Load dst base offset size signed after) h = h
+  targets_known p (Store src base offset size after) h = h
+  targets_known p (Branch test x y by lowers) h = h
+  targets_known p (Jump to) h = targets_fall p to h
+  targets_known p (Call to) h = targets_fall p to h
+  targets_known p Ret h = h
+  targets_known p Rfe h = h
+  targets_known p Svlcx h = h
+  targets_known p Rslcx h = h
+  targets_known p (Bisr mask) h = h
+  targets_known p Enable h = h
+  targets_known p Disable h = h
+  targets_known p (Syscall tin) h = h
+  targets_known p (Mfcr dst number) h = h
+  targets_known p (Mtcr src number) h = h
+  targets_known p Nothing h = h
+
+  returns : (key : Key) (shape : Shape) → MayReturn key t shape → MayReturn key s shape
+  returns key (Compute op dst x y) h = h
+  returns key (Scaled dst base index k) h = h
+  returns key (Load dst base offset size signed after) h = h
+  returns key (Store src base offset size after) h = h
+  returns key (Branch test x y by lowers) h = h
+  returns key (Jump to) h = h
+  returns key (Call to) h = h
+  returns key Ret h = (h.0, sym (same_locals t s c) ∙ h.1)
+  returns key Rfe h = h
+  returns key Svlcx h = h
+  returns key Rslcx h = h
+  returns key (Bisr mask) h = h
+  returns key Enable h = h
+  returns key Disable h = h
+  returns key (Syscall tin) h = h
+  returns key (Mfcr dst number) h = h
+  returns key (Mtcr src number) h = h
+  returns key Nothing h = h
+
+  returns_from_exception : (key : Key) (shape : Shape) → MayReturnFromException key t shape → MayReturnFromException key s shape
+  returns_from_exception key (Compute op dst x y) h = h
+  returns_from_exception key (Scaled dst base index k) h = h
+  returns_from_exception key (Load dst base offset size signed after) h = h
+  returns_from_exception key (Store src base offset size after) h = h
+  returns_from_exception key (Branch test x y by lowers) h = h
+  returns_from_exception key (Jump to) h = h
+  returns_from_exception key (Call to) h = h
+  returns_from_exception key Ret h = h
+  returns_from_exception key Rfe h = (sym (same_locals t s c) ∙ h.0, elim h.1 [ inl e ↦ inl (e.0, c.context.2 e.1) | inr e ↦ inr e ])
+  returns_from_exception key Svlcx h = h
+  returns_from_exception key Rslcx h = h
+  returns_from_exception key (Bisr mask) h = h
+  returns_from_exception key Enable h = h
+  returns_from_exception key Disable h = h
+  returns_from_exception key (Syscall tin) h = h
+  returns_from_exception key (Mfcr dst number) h = h
+  returns_from_exception key (Mtcr src number) h = h
+  returns_from_exception key Nothing h = h
+
+  has_room : (shape : Shape) → HasRoom b shape t → HasRoom b shape s
+  has_room (Compute op dst x y) h = h
+  has_room (Scaled dst base index k) h = h
+  has_room (Load dst base offset size signed after) h = h
+  has_room (Store src base offset size after) h = h
+  has_room (Branch test x y by lowers) h = h
+  has_room (Jump to) h = h
+  has_room (Call to) h = h
+  has_room Ret h = h
+  has_room Rfe h = h
+  has_room Svlcx h = omega (arith, same_locals t s c, h)
+  has_room Rslcx h = omega (arith, same_locals t s c, h)
+  has_room (Bisr mask) h = omega (arith, same_locals t s c, h)
+  has_room Enable h = h
+  has_room Disable h = h
+  has_room (Syscall tin) h = h
+  has_room (Mfcr dst number) h = h
+  has_room (Mtcr src number) h = h
+  has_room Nothing h = h
+
+  stores : (shape : Shape) → IsShape shape → StoresInRange b plan t shape → StoresInRange b plan s shape
+  stores (Compute op dst x y) is h = h
+  stores (Scaled dst base index k) is h = h
+  stores (Load dst base offset size signed after) is h = h
+  stores (Store src base offset size after) is h = λ x m. h x (address_grows b plan s t low high c (Store src base offset size after) is x m)
+  stores (Branch test x y by lowers) is h = h
+  stores (Jump to) is h = h
+  stores (Call to) is h = h
+  stores Ret is h = h
+  stores Rfe is h = h
+  stores Svlcx is h = h
+  stores Rslcx is h = h
+  stores (Bisr mask) is h = h
+  stores Enable is h = h
+  stores Disable is h = h
+  stores (Syscall tin) is h = h
+  stores (Mfcr dst number) is h = h
+  stores (Mtcr src number) is h = h
+  stores Nothing is h = h
+
+  accesses : (shape : Shape) → IsShape shape → MayAccess b plan t shape → MayAccess b plan s shape
+  accesses (Compute op dst x y) is h = h
+  accesses (Scaled dst base index k) is h = h
+  accesses (Load dst base offset size signed after) is h = may_access (address_of b plan (Load dst base offset size signed after) s) (address_of b plan (Load dst base offset size signed after) t) size plan.aln (address_value b plan (Load dst base offset size signed after) s low is) (address_value b plan (Load dst base offset size signed after) t high is) (address_grows b plan s t low high c (Load dst base offset size signed after) is) h
+  accesses (Store src base offset size after) is h = may_access (address_of b plan (Store src base offset size after) s) (address_of b plan (Store src base offset size after) t) size plan.aln (address_value b plan (Store src base offset size after) s low is) (address_value b plan (Store src base offset size after) t high is) (address_grows b plan s t low high c (Store src base offset size after) is) h
+  accesses (Branch test x y by lowers) is h = h
+  accesses (Jump to) is h = h
+  accesses (Call to) is h = h
+  accesses Ret is h = h
+  accesses Rfe is h = h
+  accesses Svlcx is h = h
+  accesses Rslcx is h = h
+  accesses (Bisr mask) is h = h
+  accesses Enable is h = h
+  accesses Disable is h = h
+  accesses (Syscall tin) is h = h
+  accesses (Mfcr dst number) is h = h
+  accesses (Mtcr src number) is h = h
+  accesses Nothing is h = h
+
+  pub own_falls : (key : Key) (p : ℕ) (shape : Shape) (r : ℕ) → IsShape shape → LocalRule b plan key p t shape r → LocalRule b plan key p s shape r
+  own_falls key p shape r is h = record {
+    targets = λ e. targets_known p shape (h.targets e);
+    returns = λ e. returns key shape (h.returns e);
+    exceptions = λ e. returns_from_exception key shape (h.exceptions e);
+    room = λ e. has_room shape (h.room e);
+    stores = λ e. stores shape is (h.stores e);
+    accesses = λ e. accesses shape is (h.accesses e);
+    system = h.system;
+    writes = h.writes;
+  }
+
+pub setting_of : (b : Limits) (image : ImageData) (plan : PlanData) (s : State) → IsGround b image plan → IsProper b s → IsSetting b plan s
+setting_of b image plan s ground proper = record { limits = ground.limits; plan = ground.is_plan; regs = proper.regs; values = proper.values }
+
+pub faults_fall : FaultsFall
+faults_fall b image plan key p s t ground ps pt c h r = record {
+  code = (h r).code;
+  own = λ shape n code.
+      own_falls b plan s t (setting_of b image plan s ground ps) (setting_of b image plan t ground pt) c key p shape r (IsCode-bounded image plan p shape n code) ((h r).own shape n code);
+}

@@ -1,0 +1,347 @@
+-- What a point owes is of the plan and the version.
+use Rattle.std.proofs.Common.{◌≡◌, ℕ, zero, suc, ◌+◌, ◌-◌, ◌*◌, ◌^◌, ◌<◌, ◌≤◌, ◌⊎◌, inl, inr, Bool, true, false, cond, IsTrue, List, [], ◌∷◌, ◌++◌, length, map, get_or, take, drop, replicate, refl, sym, ap, ◌∙◌, subst, arith, Option, Some, None, IsSome, Contains, eqb, length-append, length-take-le}
+use Rattle.std.specs.Prelude.{filter, unwrap_or, IfSome, bit_or}
+use Rattle.std.specs.List.{flat_map, list_all}
+use Rattle.std.proofs.lemmas.Bool.{cases_Bool, cases_lt, cond_both, ltb-true, and_parts}
+use Rattle.std.proofs.lemmas.List.{length-replicate, get_or-replicate}
+use Rattle.std.proofs.lemmas.List.Elements.{Contains-append_cases}
+use Rattle.elf_image.specs.Images.{ImageData}
+use Rattle.tcd_plan.specs.PlanData.{PlanData}
+use Rattle.tc_isa.specs.declared.shapes.Arg.{Arg}
+use Rattle.tc_isa.specs.declared.shapes.Arg.TheVariants.{Reg, Word}
+use Rattle.tc_isa.specs.declared.shapes.Cond.{Cond}
+use Rattle.tc_isa.specs.declared.shapes.Op.TheVariants.{Add, Sub, Sh}
+use Rattle.tc_isa.specs.declared.shapes.Target.{Target}
+use Rattle.tc_isa.specs.declared.shapes.Shape.{Shape}
+use Rattle.tc_isa.specs.declared.shapes.Shape.TheVariants.{Compute, Scaled, Load, Store, Branch, Jump, Call, Ret, Rfe, Svlcx, Rslcx, Bisr, Enable, Disable, Syscall, Mfcr, Mtcr, Nothing}
+use Rattle.tc_isa.specs.Bounded.{IsShape}
+use Rattle.tc_machine.specs.Machine.{moved}
+use Rattle.value_domain.specs.declared.values.Val.{Val}
+use Rattle.value_domain.specs.declared.states.State.{State}
+use Rattle.value_domain.specs.Limits.{Limits, AreLimits}
+use Rattle.value_domain.specs.Values.{IsValue, any_val}
+use Rattle.value_domain.specs.State.{AreValues, Covers}
+use Rattle.value_domain.proofs.RangeLaws.{one_value, any_value}
+use Rattle.vd_transfer.specs.Operations.{value_of}
+use Rattle.vd_transfer.specs.Effects.{address_of, transfer_of, with_base, HasRoom, is_lower_slot}
+use Rattle.vd_transfer.specs.Branches.{set_arg, with_one, with_two, refined, lowered, refine_of, is_reg}
+use Rattle.vd_transfer.specs.Registers.{reg_of, arg_of, set_reg, word_val, slot}
+use Rattle.vd_transfer.specs.Soundness.{IsSetting}
+use Rattle.vd_transfer.proofs.HoldLaws.{reg_value, arg_value, same_length, set_values_at}
+use Rattle.vd_transfer.proofs.RegisterLaws.{length-forgotten, forgotten_values, at_is_value}
+use Rattle.vd_transfer.proofs.ValueLaws.{value_of_value}
+use Rattle.elf_image.proofs.ReadBytes.{byte_lt}
+use Rattle.depth_cert.specs.declared.keys.Key.{Key}
+use Rattle.depth_cert.specs.declared.points.Exit.{Exit}
+use Rattle.cfg_recover.specs.Code.{IsCode}
+use Rattle.cfg_recover.specs.Entries.{call_key, irq_key, sys_key, aln_key, stack_of, entry_with, call_entry, irq_entry, aln_entry, sys_entry, lower_values, exit_of, with_lower_from, after_of}
+use Rattle.cfg_recover.specs.Local.{targets_of, are_aligned, IsFaultless}
+use Rattle.cfg_recover.specs.Duties.{Duty, jump, enter, resume, leave, Owed, owed, loaded_at, jumps_to, jump_on, next_of, successors_of, entered_and_back, entries_of, misaligned_at, misaligned_of, irqs_of, interrupts_of, leavings_of, duties_of}
+use Rattle.cfg_recover.proofs.CodeLaws.{IsCode-bounded}
+use Rattle.cfg_recover.proofs.EntryLaws.{lower_length, entry_length, aln_length, sys_length, transfer_length}
+use Rattle.cfg_recover.proofs.FlowStates.{after-at, with_lower_length, set_values, entry_values}
+use Rattle.depth_maker.specs.Growth.{IsProper, IsProperExit, IsGround, IsProperDuty, DutiesAreProper, AfterIsProper}
+use Rattle.depth_maker.proofs.StateGrowth.{covers_same, setting_set, setting_write, set_locals}
+use Rattle.depth_maker.proofs.EffectGrowth.{base_setting, address_value, branch_grows, word_value}
+use Rattle.depth_maker.proofs.LoadedValues.{loaded_value}
+use Rattle.depth_maker.proofs.OwnGrowth.{setting_of}
+use Rattle.depth_maker.proofs.DutyGrowth.{contained_map, contained_flat, lower-at, lower_place}
+
+-- ---- transfers
+module _ (b : Limits) (p : PlanData) (s : State) (h : IsSetting b p s) where
+  same_setting : (t : State) → t.regs ≡ s.regs → IsSetting b p t
+  same_setting t e = record { limits = h.limits; plan = h.plan; regs = ap length e ∙ h.regs; values = subst (λ (vs : List Val). AreValues b vs) (sym e) h.values }
+
+  pub transfer_setting : (shape : Shape) (v : Val) → IsShape shape → IsValue b v → IsSetting b p (transfer_of b p shape s v)
+  unfolding transfer_of
+  transfer_setting (Compute op dst x y) v is vv = setting_write b p s dst _ h (value_of_value b op (arg_of p s x) (arg_of p s y) h.limits (arg_value b p s x h is.1) (arg_value b p s y h is.2))
+  transfer_setting (Scaled dst base index k) v is vv = setting_write b p s dst _ h (value_of_value b Add (reg_of p s base) (value_of b Sh (reg_of p s index) (word_val k)) h.limits (reg_value b p s base h) (value_of_value b Sh (reg_of p s index) (word_val k) h.limits (reg_value b p s index h) (word_value b k h.limits (omega (arith, is.3)))))
+  transfer_setting (Load dst base offset size signed after) v is vv = setting_write b p (with_base b p s base offset after) dst v (base_setting b p s base offset after h is.1 is.2) vv
+  transfer_setting (Store src base offset size after) v is vv = base_setting b p s base offset after h is.1 is.2
+  transfer_setting (Branch test x y by lowers) v is vv = same_setting _ refl
+  transfer_setting (Jump to) v is vv = same_setting _ refl
+  transfer_setting (Call to) v is vv = same_setting _ refl
+  transfer_setting Ret v is vv = same_setting _ refl
+  transfer_setting Rfe v is vv = same_setting _ refl
+  transfer_setting Svlcx v is vv = same_setting _ refl
+  transfer_setting Rslcx v is vv = record { limits = h.limits; plan = h.plan; regs = length-forgotten 0 s.regs ∙ h.regs; values = forgotten_values b s.regs h.limits h.values }
+  transfer_setting (Bisr mask) v is vv = same_setting _ refl
+  transfer_setting Enable v is vv = same_setting _ refl
+  transfer_setting Disable v is vv = same_setting _ refl
+  transfer_setting (Syscall tin) v is vv = same_setting _ refl
+  transfer_setting (Mfcr dst number) v is vv = setting_write b p s dst any_val h (any_value b h.limits)
+  transfer_setting (Mtcr src number) v is vv = same_setting _ refl
+  transfer_setting Nothing v is vv = same_setting _ refl
+
+  base_locals : (base : Arg) (offset : ℕ) (after : Bool) → (with_base b p s base offset after).locals.items ≡ s.locals.items
+  base_locals (Word w) offset after = refl
+  base_locals (Reg r) offset false = refl
+  base_locals (Reg r) offset true = set_locals s r _
+
+  pub transfer_locals : (shape : Shape) (v : Val) → HasRoom b shape s → length s.locals.items ≤ b.most_locals → length (transfer_of b p shape s v).locals.items ≤ b.most_locals
+  unfolding transfer_of
+  transfer_locals (Compute op dst x y) v room few = omega (arith, ap length (set_locals s dst (value_of b op (arg_of p s x) (arg_of p s y))), few)
+  transfer_locals (Scaled dst base index k) v room few = omega (arith, ap length (set_locals s dst (value_of b Add (reg_of p s base) (value_of b Sh (reg_of p s index) (word_val k)))), few)
+  transfer_locals (Load dst base offset size signed after) v room few = omega (arith, ap length (set_locals (with_base b p s base offset after) dst v), ap length (base_locals base offset after), few)
+  transfer_locals (Store src base offset size after) v room few = omega (arith, ap length (base_locals base offset after), few)
+  transfer_locals (Branch test x y by lowers) v room few = few
+  transfer_locals (Jump to) v room few = few
+  transfer_locals (Call to) v room few = few
+  transfer_locals Ret v room few = few
+  transfer_locals Rfe v room few = few
+  transfer_locals Svlcx v room few = omega (arith, length-append s.locals.items (s.lower ∷ []), room)
+  transfer_locals Rslcx v room few = omega (arith, length-take-le (length s.locals.items - 1) s.locals.items (omega arith), few)
+  transfer_locals (Bisr mask) v room few = omega (arith, length-append s.locals.items (s.lower ∷ []), room)
+  transfer_locals Enable v room few = few
+  transfer_locals Disable v room few = few
+  transfer_locals (Syscall tin) v room few = few
+  transfer_locals (Mfcr dst number) v room few = omega (arith, ap length (set_locals s dst any_val), few)
+  transfer_locals (Mtcr src number) v room few = few
+  transfer_locals Nothing v room few = few
+
+-- ---- branches
+-- the state has the locals of another
+abbrev pub KeepsLocals : State → Option State → Type 0
+KeepsLocals s o = IfSome o (λ u. u.locals.items ≡ s.locals.items)
+
+arg_locals : (s : State) (y : Arg) (v : Val) → (set_arg s y v).locals.items ≡ s.locals.items
+arg_locals s (Reg r) v = set_locals s r v
+arg_locals s (Word w) v = refl
+
+one_locals : (s : State) (x : ℕ) (z : Option Val) → KeepsLocals s (with_one s x z)
+one_locals s x None = tt
+one_locals s x (Some z) = set_locals s x z
+
+two_locals : (s : State) (x : ℕ) (y : Arg) (v w : Option Val) → KeepsLocals s (with_two s x y v w)
+two_locals s x y None w = tt
+two_locals s x y (Some v) None = tt
+two_locals s x y (Some v) (Some w) = arg_locals (set_reg s x v) y w ∙ set_locals s x v
+
+lowered_locals : (b : Limits) (p : PlanData) (s : State) (x : ℕ) (lowers : Bool) (o : Option State) → KeepsLocals s o → KeepsLocals s (lowered b p x lowers o)
+lowered_locals b p s x lowers None h = tt
+lowered_locals b p s x false (Some t) h = h
+lowered_locals b p s x true (Some t) h = set_locals t x _ ∙ h
+
+refined_locals : (b : Limits) (p : PlanData) (s : State) (test : Cond) (x : ℕ) (y : Arg) (side : Bool) → KeepsLocals s (refined b p test x y s side)
+refined_locals b p s test x y side = cond_both (is_reg x y) _ _ (KeepsLocals s) (λ _. one_locals s x _) (λ _. two_locals s x y _ _)
+
+branch_locals : (b : Limits) (p : PlanData) (s : State) (test : Cond) (x : ℕ) (y : Arg) (by : ℕ) (lowers side : Bool) → KeepsLocals s (refine_of b p (Branch test x y by lowers) s side)
+unfolding refine_of
+branch_locals b p s test x y by lowers side = lowered_locals b p s x lowers (refined b p test x y s side) (refined_locals b p s test x y side)
+
+kept_locals : (s t : State) (o : Option State) → KeepsLocals s o → o ≡ Some t → t.locals.items ≡ s.locals.items
+kept_locals s t None h e = absurd (let f : None ≡ Some t = e in cc)
+kept_locals s t (Some u) h e = let f : u ≡ t = (let g : Some u ≡ Some t = e in cc) in subst (λ (k : State). k.locals.items ≡ s.locals.items) f h
+
+-- ---- lists of duties
+abbrev pub AreProperIn : Limits → List Owed → Type 0
+AreProperIn b ds = (d : Owed) → Contains ds d → IsProperDuty b d.duty
+
+none_proper : (b : Limits) → AreProperIn b []
+none_proper b d c = absurd (omega (arith, c.1))
+
+one_proper : (b : Limits) (e : Owed) → IsProperDuty b e.duty → AreProperIn b (e ∷ [])
+one_proper b e h d c = at c.0 c.1 c.2 where
+  at : (k : ℕ) → k < 1 → get_or (e ∷ []) k d ≡ d → IsProperDuty b d.duty
+  at zero lt same = subst (λ (u : Owed). IsProperDuty b u.duty) same h
+  at (suc k) lt same = absurd (omega arith)
+
+both_proper : (b : Limits) (ds es : List Owed) → AreProperIn b ds → AreProperIn b es → AreProperIn b (ds ++ es)
+both_proper b ds es h k d c = elim (Contains-append_cases ds es d c) [ inl i ↦ h d i | inr i ↦ k d i ]
+
+map_proper : {X : Type 0} (b : Limits) (f : X → Owed) (xs : List X) → ((x : X) → Contains xs x → IsProperDuty b (f x).duty) → AreProperIn b (map f xs)
+map_proper b f xs each d c = let r = contained_map f xs d c in subst (λ (u : Owed). IsProperDuty b u.duty) r.2 (each r.0 r.1)
+
+flat_proper : {X : Type 0} (b : Limits) (f : X → List Owed) (xs : List X) → ((x : X) → AreProperIn b (f x)) → AreProperIn b (flat_map f xs)
+flat_proper b f xs each d c = let r = contained_flat f xs d c in each r.0 d r.2
+
+-- ---- exits and what comes after them
+lower_values_are : (b : Limits) (vs : List Val) → length vs ≡ 27 → AreValues b vs → AreValues b (lower_values vs)
+lower_values_are b vs len values r lt =
+    let within : r < 14 = omega (arith, lower_length vs len) in
+    let at = lower-at vs r len within in
+    subst (λ (v : Val). IsValue b v) (sym at.2) (values at.0 (omega (arith, at.1)))
+
+pub exit_proper : (b : Limits) (s : State) → IsProper b s → IsProperExit b (exit_of s)
+exit_proper b s h = record { regs = lower_length s.regs h.regs; values = lower_values_are b s.regs h.regs h.values }
+
+pub after_proper : AfterIsProper
+after_proper b s x kind ps px = record {
+  regs = with_lower_length x.lower s.regs ∙ ps.regs;
+  values = λ r lt.
+      let within : r < length s.regs = omega (arith, with_lower_length x.lower s.regs) in
+      rw (after-at x.lower s.regs r within)
+      (elim (cases_Bool (is_lower_slot r)) [
+        | inl t ↦ rw t (px.values _ (omega (arith, lower_place r t, px.regs)))
+        | inr f ↦ rw f (ps.values r within)
+      ]);
+  few = ps.few;
+}
+
+module _ (b : Limits) (image : ImageData) (plan : PlanData) (key : Key) (p : ℕ) (s : State) (ground : IsGround b image plan) (proper : IsProper b s) where
+  set : IsSetting b plan s
+  set = setting_of b image plan s ground proper
+
+  stack_value : IsValue b (stack_of plan key s)
+  stack_value = elim (cases_Bool key.is) [ inl e ↦ rw e (reg_value b plan s 26 set) | inr e ↦ rw e (word_value b plan.isp (ground.limits) ((ground.is_plan).words.isp)) ]
+
+  handler_proper : (n : ℕ) → IsProper b (entry_with (stack_of plan key s) false n true)
+  handler_proper n = record {
+    regs = entry_length (stack_of plan key s) false n true;
+    values = entry_values b (stack_of plan key s) false n true ground.limits stack_value;
+    few = omega (arith, ap length (set_locals (record { regs = replicate 27 any_val; ie = false; ccpn = n; lower = true; locals = record { items = [] } }) 26 (stack_of plan key s)));
+  }
+
+  aln_proper : IsProper b (aln_entry plan key s)
+  aln_proper =
+      let h = handler_proper s.ccpn in
+      let u = entry_with (stack_of plan key s) false s.ccpn true in
+      record {
+        regs = same_length u (word_val 4) (slot 15) ∙ h.regs;
+        values = set_values_at b u (word_val 4) (slot 15) h.values (word_value b 4 (ground.limits) (omega arith));
+        few = omega (arith, ap length (set_locals u 15 (word_val 4)), h.few);
+      }
+
+  sys_proper : (tin : ℕ) → tin < 256 → IsProper b (sys_entry plan key s tin)
+  sys_proper tin small =
+      let u = set_reg s 26 (stack_of plan key s) in
+      record {
+        regs = sys_length plan key s tin ∙ proper.regs;
+        values = set_values_at b u (word_val tin) (slot 15) (set_values_at b s (stack_of plan key s) (slot 26) proper.values stack_value) (word_value b tin (ground.limits) (omega arith));
+        few = omega arith;
+      }
+
+  call_proper : IsProper b (call_entry s)
+  call_proper = record { regs = proper.regs; values = proper.values; few = omega arith }
+
+  loaded_is : (shape : Shape) → IsShape shape → IsValue b (loaded_at b image plan s shape)
+  loaded_is (Compute op dst x y) is = any_value b (ground.limits)
+  loaded_is (Scaled dst base index k) is = any_value b (ground.limits)
+  loaded_is (Load dst base offset size signed after) is = loaded_value image plan size signed ground.is_plan (λ x y. byte_lt image.segments x y ground.is_image.bytes) is.3 b (address_of b plan (Load dst base offset size signed after) s) ground.limits (address_value b plan (Load dst base offset size signed after) s set is)
+  loaded_is (Store src base offset size after) is = any_value b (ground.limits)
+  loaded_is (Branch test x y by lowers) is = any_value b (ground.limits)
+  loaded_is (Jump to) is = any_value b (ground.limits)
+  loaded_is (Call to) is = any_value b (ground.limits)
+  loaded_is Ret is = any_value b (ground.limits)
+  loaded_is Rfe is = any_value b (ground.limits)
+  loaded_is Svlcx is = any_value b (ground.limits)
+  loaded_is Rslcx is = any_value b (ground.limits)
+  loaded_is (Bisr mask) is = any_value b (ground.limits)
+  loaded_is Enable is = any_value b (ground.limits)
+  loaded_is Disable is = any_value b (ground.limits)
+  loaded_is (Syscall tin) is = any_value b (ground.limits)
+  loaded_is (Mfcr dst number) is = any_value b (ground.limits)
+  loaded_is (Mtcr src number) is = any_value b (ground.limits)
+  loaded_is Nothing is = any_value b (ground.limits)
+
+  next_proper : (shape : Shape) (n : ℕ) → IsShape shape → HasRoom b shape s → AreProperIn b (next_of b image plan p s shape n)
+  next_proper shape n is room =
+      let h = transfer_setting b plan s set shape (loaded_at b image plan s shape) is (loaded_is shape is) in
+      one_proper b _ (record { regs = h.regs; values = h.values; few = transfer_locals b plan s set shape (loaded_at b image plan s shape) room proper.few })
+
+  side_proper : (q : ℕ) (o : Option State) → ((t : State) → o ≡ Some t → IsProper b t) → AreProperIn b (jump_on q o)
+  side_proper q None h = none_proper b
+  side_proper q (Some t) h = one_proper b (owed 4 (jump q t)) (h t refl)
+
+  branch_proper : (test : Cond) (x : ℕ) (y : Arg) (by : ℕ) (lowers side : Bool) → IsShape (Branch test x y by lowers) → (t : State) → refine_of b plan (Branch test x y by lowers) s side ≡ Some t → IsProper b t
+  branch_proper test x y by lowers side is t e =
+      let h = (branch_grows b plan s s test x y by lowers side set set (covers_same s) is t e).0 in
+      record { regs = h.regs; values = h.values; few = omega (arith, ap length (kept_locals s t _ (branch_locals b plan s test x y by lowers side) e), proper.few) }
+
+  back_proper : (rule : ℕ) (k : Key) (u : State) (q : ℕ) → IsProper b u → AreProperIn b (entered_and_back rule k u q)
+  back_proper rule k u q h = both_proper b (owed rule (enter k u) ∷ []) (owed 4 (resume k q) ∷ []) (one_proper b _ h) (one_proper b _ tt)
+
+  successors_proper : (shape : Shape) (n : ℕ) → IsShape shape → HasRoom b shape s → AreProperIn b (successors_of b image plan p s shape n)
+  successors_proper (Compute op dst x y) n is room = next_proper (Compute op dst x y) n is room
+  successors_proper (Scaled dst base index k) n is room = next_proper (Scaled dst base index k) n is room
+  successors_proper (Load dst base offset size signed after) n is room = next_proper (Load dst base offset size signed after) n is room
+  successors_proper (Store src base offset size after) n is room = next_proper (Store src base offset size after) n is room
+  successors_proper (Branch test x y by lowers) n is room = both_proper b _ _ (side_proper (moved p n) _ (branch_proper test x y by lowers false is)) (side_proper (moved p by) _ (branch_proper test x y by lowers true is))
+  successors_proper (Jump to) n is room = map_proper b _ _ (λ q i. proper)
+  successors_proper (Call to) n is room = none_proper b
+  successors_proper Ret n is room = none_proper b
+  successors_proper Rfe n is room = none_proper b
+  successors_proper Svlcx n is room = next_proper Svlcx n is room
+  successors_proper Rslcx n is room = next_proper Rslcx n is room
+  successors_proper (Bisr mask) n is room = next_proper (Bisr mask) n is room
+  successors_proper Enable n is room = next_proper Enable n is room
+  successors_proper Disable n is room = next_proper Disable n is room
+  successors_proper (Syscall tin) n is room = none_proper b
+  successors_proper (Mfcr dst number) n is room = next_proper (Mfcr dst number) n is room
+  successors_proper (Mtcr src number) n is room = none_proper b
+  successors_proper Nothing n is room = next_proper Nothing n is room
+
+  entries_proper : (shape : Shape) (n : ℕ) → IsShape shape → AreProperIn b (entries_of plan key p s shape n)
+  entries_proper (Compute op dst x y) n is = none_proper b
+  entries_proper (Scaled dst base index k) n is = none_proper b
+  entries_proper (Load dst base offset size signed after) n is = none_proper b
+  entries_proper (Store src base offset size after) n is = none_proper b
+  entries_proper (Branch test x y by lowers) n is = none_proper b
+  entries_proper (Jump to) n is = none_proper b
+  entries_proper (Call to) n is = flat_proper b (λ q. entered_and_back 5 (call_key key q) (call_entry s) (moved p n)) (unwrap_or (targets_of plan s p to) []) (λ q. back_proper 5 (call_key key q) (call_entry s) (moved p n) call_proper)
+  entries_proper Ret n is = none_proper b
+  entries_proper Rfe n is = none_proper b
+  entries_proper Svlcx n is = none_proper b
+  entries_proper Rslcx n is = none_proper b
+  entries_proper (Bisr mask) n is = none_proper b
+  entries_proper Enable n is = none_proper b
+  entries_proper Disable n is = none_proper b
+  entries_proper (Syscall tin) n is = back_proper 12 (sys_key plan key) (sys_entry plan key s tin) (moved p n) (sys_proper tin is)
+  entries_proper (Mfcr dst number) n is = none_proper b
+  entries_proper (Mtcr src number) n is = none_proper b
+  entries_proper Nothing n is = none_proper b
+
+  access_proper : (v : Val) (size : ℕ) → AreProperIn b (misaligned_at plan key s v size)
+  access_proper v size = elim (cases_Bool (are_aligned v size)) [ inl e ↦ rw e (none_proper b) | inr e ↦ rw e (one_proper b _ aln_proper) ]
+
+  misaligned_proper : (shape : Shape) → AreProperIn b (misaligned_of b plan key s shape)
+  misaligned_proper (Compute op dst x y) = none_proper b
+  misaligned_proper (Scaled dst base index k) = none_proper b
+  misaligned_proper (Load dst base offset size signed after) = access_proper (address_of b plan (Load dst base offset size signed after) s) size
+  misaligned_proper (Store src base offset size after) = access_proper (address_of b plan (Store src base offset size after) s) size
+  misaligned_proper (Branch test x y by lowers) = none_proper b
+  misaligned_proper (Jump to) = none_proper b
+  misaligned_proper (Call to) = none_proper b
+  misaligned_proper Ret = none_proper b
+  misaligned_proper Rfe = none_proper b
+  misaligned_proper Svlcx = none_proper b
+  misaligned_proper Rslcx = none_proper b
+  misaligned_proper (Bisr mask) = none_proper b
+  misaligned_proper Enable = none_proper b
+  misaligned_proper Disable = none_proper b
+  misaligned_proper (Syscall tin) = none_proper b
+  misaligned_proper (Mfcr dst number) = none_proper b
+  misaligned_proper (Mtcr src number) = none_proper b
+  misaligned_proper Nothing = none_proper b
+
+  leavings_proper : (shape : Shape) → AreProperIn b (leavings_of key s shape)
+  leavings_proper (Compute op dst x y) = none_proper b
+  leavings_proper (Scaled dst base index k) = none_proper b
+  leavings_proper (Load dst base offset size signed after) = none_proper b
+  leavings_proper (Store src base offset size after) = none_proper b
+  leavings_proper (Branch test x y by lowers) = none_proper b
+  leavings_proper (Jump to) = none_proper b
+  leavings_proper (Call to) = none_proper b
+  leavings_proper Ret = one_proper b _ (exit_proper b s proper)
+  leavings_proper Rfe = elim (cases_Bool (eqb key.kind 3)) [ inl e ↦ rw e (one_proper b _ (exit_proper b s proper)) | inr e ↦ rw e (none_proper b) ]
+  leavings_proper Svlcx = none_proper b
+  leavings_proper Rslcx = none_proper b
+  leavings_proper (Bisr mask) = none_proper b
+  leavings_proper Enable = none_proper b
+  leavings_proper Disable = none_proper b
+  leavings_proper (Syscall tin) = none_proper b
+  leavings_proper (Mfcr dst number) = none_proper b
+  leavings_proper (Mtcr src number) = none_proper b
+  leavings_proper Nothing = none_proper b
+
+  pub duties_proper_of : (shape : Shape) (n : ℕ) → IsShape shape → HasRoom b shape s → AreProperIn b (duties_of b image plan key p s shape n)
+  unfolding duties_of
+  duties_proper_of shape n is room =
+      both_proper b _ _
+      (both_proper b _ _ (both_proper b _ _ (both_proper b _ _ (successors_proper shape n is room) (entries_proper shape n is)) (misaligned_proper shape))
+      (map_proper b _ _ (λ q i. handler_proper q)))
+      (leavings_proper shape)
+
+pub duties_proper : DutiesAreProper
+duties_proper b image plan key p s shape n d ground proper faultless code c =
+    duties_proper_of b image plan key p s ground proper shape n (IsCode-bounded image plan p shape n code) (((faultless 8).own shape n code).room refl) d c

@@ -1,0 +1,103 @@
+-- In a derived assignment each frame has its entry point, and each is entered from the start.
+use Rattle.std.proofs.Common.{◌≡◌, ◌⊎◌, inl, inr, ℕ, ◌+◌, ◌≤◌, Bool, true, false, Option, Some, None, IsSome, refl, sym, ap, ◌∙◌, subst, arith}
+use Rattle.std.specs.Prelude.{if◌then◌else◌}
+use Rattle.elf_image.specs.Images.{ImageData}
+use Rattle.tcd_plan.specs.PlanData.{PlanData}
+use Rattle.value_domain.specs.declared.states.State.{State}
+use Rattle.value_domain.specs.Limits.{Limits}
+use Rattle.depth_cert.specs.declared.keys.Key.{Key}
+use Rattle.cfg_recover.specs.Entries.{start_key, start_state, after_of}
+use Rattle.cfg_recover.specs.Duties.{Duty, jump, enter, resume, leave}
+use Rattle.cfg_recover.specs.Assignments.{Place, point, exit, Known, state, leaving, Assignment, same_place, frame_of, asked, HasDuty, Asks, Joins, Derived, begins, joins, Closed, first_place}
+use Rattle.cfg_recover.specs.Refusals.{Enters, MeetsNeeds, Reaches, here, by_entry}
+use Rattle.depth_maker.specs.Proper.{AllProper, AllFaultless, AreLawful}
+use Rattle.depth_maker.proofs.PlaceLaws.{place_tells, place_same, from_if, resumed_some}
+use Rattle.depth_maker.proofs.Below.{derived_below}
+use Rattle.depth_maker.proofs.NeedLaws.{entered_above, reached_less}
+
+-- the entry point of a frame
+abbrev pub entry_of : Key → Place
+entry_of k = point k k.entry
+
+-- ---- where a duty asks
+-- in its own frame, or at the entry of one that it enters
+pub asked_where : (a : Assignment) (key : Key) (s : State) (d : Duty) (y : Place) (v : Known) → asked a key s d ≡ Some (y, v)
+    → (frame_of y ≡ key) ⊎ ((k : Key) × (u : State) × (d ≡ enter k u) × (y ≡ entry_of k))
+asked_where a key s (jump q t) y v e = let f : (point key q, state t) ≡ (y, v) = cc in inl (sym (ap (λ (w : Place × Known). frame_of w.0) f))
+asked_where a key s (enter k t) y v e = let f : (point k k.entry, state t) ≡ (y, v) = cc in inr (k, t, refl, sym (ap (λ (w : Place × Known). w.0) f))
+asked_where a key s (resume k q) y v e = let r = resumed_some key s k q (a (exit k)) y v e in inl (sym (ap frame_of r.2))
+asked_where a key s (leave x) y v e = let f : (exit key, leaving x) ≡ (y, v) = cc in inl (sym (ap (λ (w : Place × Known). frame_of w.0) f))
+
+some_is : (o : Option Known) (v : Known) → o ≡ Some v → IsSome o
+some_is o v e = subst (λ (o : Option Known). IsSome o) (sym e) refl
+
+module _ (b : Limits) (image : ImageData) (plan : PlanData) where
+  module _ (a after : Assignment) (y : Place) (j : Joins b image plan a after y) where
+    some_stays : (x : Place) → IsSome (a x) → IsSome (after x)
+    some_stays x h = at (same_place x y) (j.is x) where
+      at : (t : Bool) → after x ≡ (if t then Some j.known else a x) → IsSome (after x)
+      at true e = some_is (after x) j.known e
+      at false e = subst (λ (o : Option Known). IsSome o) (sym e) h
+
+    some_joined : IsSome (after y)
+    some_joined = some_is (after y) j.known (j.is y ∙ ap (λ t. if t then Some j.known else a y) (place_same y))
+
+    entry_joined : ((x : Place) (v : Known) → a x ≡ Some v → IsSome (a (entry_of (frame_of x)))) → IsSome (after (entry_of (frame_of y)))
+    entry_joined old =
+        let k = j.asks in
+        elim (asked_where a k.key k.before k.duty y j.value k.asks) [
+          | inl same ↦ subst (λ (z : Key). IsSome (after (entry_of z))) (sym same) (some_stays (entry_of k.key) (old (point k.key k.addr) (state k.before) (k.has).at))
+          | inr e ↦ subst (λ (z : Place). IsSome (after (entry_of (frame_of z)))) (sym e.3) (subst (λ (z : Place). IsSome (after z)) e.3 some_joined)
+        ]
+
+  -- a frame that stands has its entry point
+  pub entry_stands : (a : Assignment) → Derived b image plan a → (y : Place) (v : Known) → a y ≡ Some v → IsSome (a (entry_of (frame_of y)))
+  entry_stands _ (begins a is) y v at =
+      elim (from_if (same_place y (first_place image plan)) (state (start_state plan)) None (a y) v (is y) at) [
+        | inl h ↦ subst (λ (z : Place). IsSome (a (entry_of (frame_of z)))) (sym (place_tells y (first_place image plan) h.0))
+            (subst (λ (z : Place). IsSome (a z)) (place_tells y (first_place image plan) h.0) (some_is (a y) v at))
+        | inr h ↦ (let q : None ≡ Some v = h.1 in cc)
+      ]
+  entry_stands _ (joins a after z d j) y v at =
+      elim (from_if (same_place y z) j.known (a y) (after y) v (j.is y) at) [
+        | inl h ↦ subst (λ (x : Place). IsSome (after (entry_of (frame_of x)))) (sym (place_tells y z h.0)) (entry_joined a after z j (entry_stands a d))
+        | inr h ↦ some_stays a after z j (entry_of (frame_of y)) (entry_stands a d y v h.1)
+      ]
+
+  -- ---- from the start
+  -- what is entered from what is reached is reached
+  pub reaches_then : (c : Assignment) (j t : Key) (p : ℕ) (s : State) → Enters b image plan c j p s t → (k : Key) → Reaches b image plan c j k → Reaches b image plan c t k
+  reaches_then c j t p s e _ here = by_entry j p s t e here
+  reaches_then c j t p s e _ (by_entry k q u l f r) = by_entry k q u l f (reaches_then c j t p s e l r)
+
+  module _ (laws : AreLawful b image plan) (c : Assignment) (closed : Closed b image plan c) (faultless : AllFaultless b image plan c) (pc : AllProper b c) where
+    joined_reached : (a after : Assignment) (y : Place) → Derived b image plan a → Joins b image plan a after y
+        → ((x : Place) (v : Known) → a x ≡ Some v → Reaches b image plan c (frame_of x) (start_key image plan)) → Reaches b image plan c (frame_of y) (start_key image plan)
+    joined_reached a after y d j old =
+        let k = j.asks in
+        let from = old (point k.key k.addr) (state k.before) (k.has).at in
+        let h = derived_below b image plan laws c closed faultless pc a d in
+        elim (asked_where a k.key k.before k.duty y j.value k.asks) [
+          | inl same ↦ subst (λ (z : Key). Reaches b image plan c z (start_key image plan)) (sym same) from
+          | inr e ↦
+              (let has : Enters b image plan a k.key k.addr k.before e.0 = record { entered = e.1; has = subst (HasDuty b image plan a k.key k.addr k.before) e.2 k.has } in
+              let up = entered_above b image plan laws c closed faultless pc a h.0 h.1 k.key k.addr k.before e.0 has in
+              subst (λ (z : Place). Reaches b image plan c (frame_of z) (start_key image plan)) (sym e.3) (reaches_then c k.key e.0 k.addr up.0 up.1 (start_key image plan) from))
+        ]
+
+    -- each frame of a derived assignment is entered from the start in the closed one
+    pub derived_reached : (a : Assignment) → Derived b image plan a → (y : Place) (v : Known) → a y ≡ Some v → Reaches b image plan c (frame_of y) (start_key image plan)
+    derived_reached _ (begins a is) y v at =
+        elim (from_if (same_place y (first_place image plan)) (state (start_state plan)) None (a y) v (is y) at) [
+          | inl h ↦ subst (λ (z : Place). Reaches b image plan c (frame_of z) (start_key image plan)) (sym (place_tells y (first_place image plan) h.0)) here
+          | inr h ↦ (let q : None ≡ Some v = h.1 in cc)
+        ]
+    derived_reached _ (joins a after z d j) y v at =
+        elim (from_if (same_place y z) j.known (a y) (after y) v (j.is y) at) [
+          | inl h ↦ subst (λ (x : Place). Reaches b image plan c (frame_of x) (start_key image plan)) (sym (place_tells y z h.0)) (joined_reached a after z d j (derived_reached a d))
+          | inr h ↦ derived_reached a d y v h.1
+        ]
+
+    -- so no frame needs more than the start
+    pub needs_at_most : (a : Assignment) → Derived b image plan a → (needs : Key → ℕ) → MeetsNeeds b image plan c needs → (y : Place) (v : Known) → a y ≡ Some v → needs (frame_of y) ≤ needs (start_key image plan)
+    needs_at_most a d needs m y v at = reached_less b image plan c needs m (frame_of y) (start_key image plan) (derived_reached a d y v at)

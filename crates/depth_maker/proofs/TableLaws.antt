@@ -1,0 +1,222 @@
+-- A table stays one under a rise, a registration and the end of a visit; one without work is closed.
+use Rattle.std.proofs.Common.{◌≡◌, ◌⊎◌, inl, inr, ℕ, Bool, true, false, Option, Some, None, refl, sym, ap, ◌∙◌, subst, Contains}
+use Rattle.std.specs.Prelude.{if◌then◌else◌}
+use Rattle.elf_image.specs.Images.{ImageData}
+use Rattle.tcd_plan.specs.PlanData.{PlanData}
+use Rattle.tc_isa.specs.declared.shapes.Shape.{Shape}
+use Rattle.value_domain.specs.declared.states.State.{State}
+use Rattle.value_domain.specs.Limits.{Limits}
+use Rattle.depth_cert.specs.declared.keys.Key.{Key}
+use Rattle.depth_cert.specs.declared.points.Exit.{Exit}
+use Rattle.cfg_recover.specs.Code.{IsCode}
+use Rattle.cfg_recover.specs.Entries.{start_state, after_of}
+use Rattle.cfg_recover.specs.Local.{IsFaultless}
+use Rattle.cfg_recover.specs.Duties.{Duty, jump, enter, resume, leave, Owed, duties_of}
+use Rattle.cfg_recover.specs.Assignments.{Place, point, exit, Known, state, leaving, Assignment, same_place, CoversKnown, CoversAt, joined_known, raised, asked, resumed, HasDuty, Asks, Joins, Derived, begins, joins, Closed, first_place}
+use Rattle.depth_maker.specs.Growth.{IsProper, IsProperDuty}
+use Rattle.depth_maker.specs.Proper.{IsProperKnown, AllProper, AllFaultless, AreLawful}
+use Rattle.depth_maker.specs.Tables.{Table, Settled, IsResumed, IsTable, Marks}
+use Rattle.depth_maker.proofs.PlaceLaws.{place_tells, place_same, from_if, one_state, resumed_some}
+use Rattle.depth_maker.proofs.Below.{asks_proper}
+
+same_or_not : (v : Bool) → (v ≡ true) ⊎ (v ≡ false)
+same_or_not true = inl refl
+same_or_not false = inr refl
+
+module _ (b : Limits) (image : ImageData) (plan : PlanData) (laws : AreLawful b image plan) where
+  -- ---- what derived assignments know
+  raised_proper : (o : Option Known) (v u : Known) → ((w : Known) → o ≡ Some w → IsProperKnown b w) → IsProperKnown b v → raised b o v ≡ Some u → IsProperKnown b u
+  raised_proper None v u old pv is = let e : v ≡ u = cc in subst (IsProperKnown b) e pv
+  raised_proper (Some w) v u old pv is = laws.joined_proper w v u (old w refl) pv is
+
+  pub joined_proper : (a after : Assignment) (y : Place) → AllProper b a → Joins b image plan a after y → AllProper b after
+  joined_proper a after y proper j x s at =
+      elim (from_if (same_place x y) j.known (a x) (after x) s (j.is x) at) [
+        | inl h ↦ subst (IsProperKnown b) h.1 (raised_proper (a y) j.value j.known (proper y) (asks_proper b image plan laws a y j.value proper j.asks) j.raises)
+        | inr h ↦ proper x s h.1
+      ]
+
+  begun_proper : (a : Assignment) → ((x : Place) → a x ≡ (if same_place x (first_place image plan) then Some (state (start_state plan)) else None)) → AllProper b a
+  begun_proper a is x s at =
+      elim (from_if (same_place x (first_place image plan)) (state (start_state plan)) None (a x) s (is x) at) [
+        | inl h ↦ subst (IsProperKnown b) h.1 laws.start_proper
+        | inr h ↦ (let q : None ≡ Some s = h.1 in cc)
+      ]
+
+  pub derived_proper : (a : Assignment) → Derived b image plan a → AllProper b a
+  derived_proper _ (begins a is) = begun_proper a is
+  derived_proper _ (joins a after y d j) = joined_proper a after y (derived_proper a d) j
+
+  raised_above : (o : Option Known) (v u w : Known) → ((w : Known) → o ≡ Some w → IsProperKnown b w) → IsProperKnown b v → raised b o v ≡ Some u → o ≡ Some w → CoversKnown u w
+  raised_above None v u w old pv is at = absurd (let q : None ≡ Some w = at in cc)
+  raised_above (Some x) v u w old pv is at = let e : x ≡ w = (let f : Some x ≡ Some w = at in cc) in subst (CoversKnown u) e (laws.joined_above x v u (old x refl) pv is).0
+
+  raised_covers : (o : Option Known) (v u : Known) → ((w : Known) → o ≡ Some w → IsProperKnown b w) → IsProperKnown b v → raised b o v ≡ Some u → CoversKnown u v
+  raised_covers None v u old pv is = let e : v ≡ u = (let f : Some v ≡ Some u = is in cc) in subst (λ (k : Known). CoversKnown k v) e (laws.covers_same v)
+  raised_covers (Some w) v u old pv is = (laws.joined_above w v u (old w refl) pv is).1
+
+  -- ---- one joining
+  module _ (a after : Assignment) (y : Place) (proper : AllProper b a) (j : Joins b image plan a after y) where
+    value_proper : IsProperKnown b j.value
+    value_proper = asks_proper b image plan laws a y j.value proper j.asks
+
+    pub joined_at : after y ≡ Some j.known
+    joined_at = j.is y ∙ ap (λ t. if t then Some j.known else a y) (place_same y)
+
+    pub joined_other : (x : Place) → same_place x y ≡ false → after x ≡ a x
+    joined_other x apart = j.is x ∙ ap (λ t. if t then Some j.known else a x) apart
+
+    pub joined_covers : CoversAt after y j.value
+    joined_covers = record { known = j.known; at = joined_at; covers = raised_covers (a y) j.value j.known (proper y) value_proper j.raises }
+
+    covers_case : (t : Bool) (z : Place) (v : Known) → same_place z y ≡ t → IsProperKnown b v → CoversAt a z v → CoversAt after z v
+    covers_case false z v apart pv h = record { known = h.known; at = joined_other z apart ∙ h.at; covers = h.covers }
+    covers_case true z v eq pv h =
+        let e = place_tells z y eq in
+        let at : a y ≡ Some h.known = subst (λ (k : Place). a k ≡ Some h.known) e h.at in
+        record {
+          known = j.known;
+          at = ap after e ∙ joined_at;
+          covers = laws.covers_through v h.known j.known pv (proper z h.known h.at) (raised_above (a y) j.value j.known h.known (proper y) value_proper j.raises at) h.covers;
+        }
+
+    -- what was covered stays covered
+    pub covers_stays : (z : Place) (v : Known) → IsProperKnown b v → CoversAt a z v → CoversAt after z v
+    covers_stays z v pv h = covers_case (same_place z y) z v refl pv h
+
+  -- a derived assignment covers the start
+  pub derived_start : (a : Assignment) → Derived b image plan a → CoversAt a (first_place image plan) (state (start_state plan))
+  derived_start _ (begins a is) = record {
+    known = state (start_state plan);
+    at = is (first_place image plan) ∙ ap (λ t. if t then Some (state (start_state plan)) else None) (place_same (first_place image plan));
+    covers = laws.covers_same (state (start_state plan));
+  }
+  derived_start _ (joins a after y d j) = covers_stays a after y (derived_proper a d) j (first_place image plan) (state (start_state plan)) laws.start_proper (derived_start a d)
+
+  -- ---- tables
+  module _ (t u : Table) (y : Place) (is : IsTable b image plan t) (j : Joins b image plan t.cells u.cells y) (m : Marks t u y) where
+    proper : AllProper b t.cells
+    proper = derived_proper t.cells is.derived
+
+    -- where a point has no new work, its duties stay settled
+    pub settled_stays : (k : Key) (p : ℕ) (s : State) (d : Duty) → u.queued (point k p) ≡ false → IsProper b s → IsProperDuty b d → Settled t k p s d → Settled u k p s d
+    settled_stays k p s (jump q v) free ps pd h = covers_stays t.cells u.cells y proper j (point k q) (state v) pd h
+    settled_stays k p s (enter l v) free ps pd h = covers_stays t.cells u.cells y proper j (point l l.entry) (state v) pd h
+    settled_stays k p s (leave x) free ps pd h = covers_stays t.cells u.cells y proper j (exit k) (leaving x) pd h
+    settled_stays k p s (resume l q) free ps pd h =
+        let told : (same_place (exit l) y ≡ true) → ⊥ =
+        λ eq. elim (m.each (point k p)) [
+          | inl n ↦ (let r : true ≡ false = sym n.0 ∙ free in cc)
+          | inr n ↦ n.3 (subst (λ (z : Place). t.reads z (point k p)) (place_tells (exit l) y eq) h.1)
+        ] in
+        let apart : same_place (exit l) y ≡ false = elim (same_or_not (same_place (exit l) y)) [ inl n ↦ absurd (told n) | inr n ↦ n ] in
+        ((λ x at. let old : t.cells (exit l) ≡ Some x = sym (joined_other t.cells u.cells y proper j (exit l) apart) ∙ at in back x old (h.0 x old)), m.reads (exit l) (point k p) h.1)
+      where
+        back : (x : Known) → t.cells (exit l) ≡ Some x → IsResumed t k s l q x → IsResumed u k s l q x
+        back (state v) at h = tt
+        back (leaving x) at h = covers_stays t.cells u.cells y proper j (point k q) (state (after_of s x l.kind)) (laws.after_proper s x l.kind ps (proper (exit l) (leaving x) at)) h
+
+    -- where a point has no new work, its state is the old one
+    pub idle_before : (x : Place) → u.idle x ≡ true → (t.idle x ≡ true) × (u.cells x ≡ t.cells x)
+    idle_before x is =
+        elim (m.each x) [
+          | inl n ↦ (let r : true ≡ false = sym is ∙ n.1 in cc)
+          | inr n ↦ (sym n.0 ∙ is, joined_other t.cells u.cells y proper j x n.2)
+        ]
+
+  -- a rise leaves a table
+  pub table_rises : (t u : Table) (y : Place) → IsTable b image plan t → Joins b image plan t.cells u.cells y → Marks t u y → ((x : Place) → u.idle x ≡ true → u.queued x ≡ false) → IsTable b image plan u
+  table_rises t u y is j m apart = record {
+    derived = joins t.cells u.cells y is.derived j;
+    own = λ k p s at idle. let o = idle_before t u y is j m (point k p) idle in is.own k p s (sym o.1 ∙ at) o.0;
+    settled = λ k p s shape n d at idle code c.
+        let o = idle_before t u y is j m (point k p) idle in
+        let before : t.cells (point k p) ≡ Some (state s) = sym o.1 ∙ at in
+        let ps = derived_proper t.cells is.derived (point k p) (state s) before in
+        let fine = is.own k p s before o.0 in
+        settled_stays t u y is j m k p s d.duty (apart (point k p) idle) ps (laws.duties_proper k p s shape n d ps fine code c) (is.settled k p s shape n d before o.0 code c);
+  }
+
+  -- ---- the same cells
+  module _ (t u : Table) (cells : (x : Place) → u.cells x ≡ t.cells x) (reads : (z x : Place) → t.reads z x → u.reads z x) where
+    covers_again : (z : Place) (v : Known) → CoversAt t.cells z v → CoversAt u.cells z v
+    covers_again z v h = record { known = h.known; at = cells z ∙ h.at; covers = h.covers }
+
+    pub settled_again : (k : Key) (p : ℕ) (s : State) (d : Duty) → Settled t k p s d → Settled u k p s d
+    settled_again k p s (jump q v) h = covers_again (point k q) (state v) h
+    settled_again k p s (enter l v) h = covers_again (point l l.entry) (state v) h
+    settled_again k p s (leave x) h = covers_again (exit k) (leaving x) h
+    settled_again k p s (resume l q) h = ((λ x at. back x (h.0 x (sym (cells (exit l)) ∙ at))), reads (exit l) (point k p) h.1) where
+      back : (x : Known) → IsResumed t k s l q x → IsResumed u k s l q x
+      back (state v) h = tt
+      back (leaving x) h = covers_again (point k q) (state (after_of s x l.kind)) h
+
+    -- marks alone: what has more work, and tells more, is a table still
+    pub table_marked : IsTable b image plan t → ((x : Place) → u.idle x ≡ true → t.idle x ≡ true) → Derived b image plan u.cells → IsTable b image plan u
+    table_marked is idle derived = record {
+      derived = derived;
+      own = λ k p s at now. is.own k p s (sym (cells (point k p)) ∙ at) (idle (point k p) now);
+      settled = λ k p s shape n d at now code c. settled_again k p s d.duty (is.settled k p s shape n d (sym (cells (point k p)) ∙ at) (idle (point k p) now) code c);
+    }
+
+    -- the end of a visit: all duties of the point are settled
+    pub table_settles : (k : Key) (p : ℕ) (s : State) → IsTable b image plan t → Derived b image plan u.cells → t.cells (point k p) ≡ Some (state s) → IsFaultless b image plan k p s
+        → ((shape : Shape) (n : ℕ) (d : Owed) → IsCode image plan p shape n → Contains (duties_of b image plan k p s shape n) d → Settled u k p s d.duty)
+        → ((q : Place) → u.idle q ≡ true → (t.idle q ≡ true) ⊎ (q ≡ point k p)) → IsTable b image plan u
+    table_settles k p s is derived at fine all idle = record {
+      derived = derived;
+      own = λ l q r here now.
+          elim (idle (point l q) now) [
+            | inl before ↦ is.own l q r (sym (cells (point l q)) ∙ here) before
+            | inr e ↦ (now_own l q r e here)
+          ];
+      settled = λ l q r shape n d here now code c.
+          elim (idle (point l q) now) [
+            | inl before ↦ settled_again l q r d.duty (is.settled l q r shape n d (sym (cells (point l q)) ∙ here) before code c)
+            | inr e ↦ now_settled l q r e here shape n d code c
+          ];
+    } where
+      parts : (l : Key) (q : ℕ) (r : State) → point l q ≡ point k p → u.cells (point l q) ≡ Some (state r) → (l ≡ k) × (q ≡ p) × (r ≡ s)
+      parts l q r e here =
+          let f : Some (state s) ≡ Some (state r) = sym at ∙ ap t.cells (sym e) ∙ sym (cells (point l q)) ∙ here in
+          (key_of e, addr_of e, sym (one_state s r (let g : Some (state s) ≡ Some (state r) = f in cc))) where
+            key_of : point l q ≡ point k p → l ≡ k
+            key_of e = cc
+
+            addr_of : point l q ≡ point k p → q ≡ p
+            addr_of e = cc
+
+      moved : (P : Key → ℕ → State → Type 0) (l : Key) (q : ℕ) (r : State) → (l ≡ k) × (q ≡ p) × (r ≡ s) → P k p s → P l q r
+      moved P l q r e h = subst (λ (z : Key). P z q r) (sym e.0) (subst (λ (z : ℕ). P k z r) (sym e.1) (subst (λ (z : State). P k p z) (sym e.2) h))
+
+      now_own : (l : Key) (q : ℕ) (r : State) → point l q ≡ point k p → u.cells (point l q) ≡ Some (state r) → IsFaultless b image plan l q r
+      now_own l q r e here = moved (λ l q r. IsFaultless b image plan l q r) l q r (parts l q r e here) fine
+
+      now_settled : (l : Key) (q : ℕ) (r : State) → point l q ≡ point k p → u.cells (point l q) ≡ Some (state r) → (shape : Shape) (n : ℕ) (d : Owed) → IsCode image plan q shape n
+          → Contains (duties_of b image plan l q r shape n) d → Settled u l q r d.duty
+      now_settled l q r e here =
+          moved (λ l q r. (shape : Shape) (n : ℕ) (d : Owed) → IsCode image plan q shape n → Contains (duties_of b image plan l q r shape n) d → Settled u l q r d.duty) l q r (parts l q r e here) all
+
+  -- one duty that is settled is covered
+  pub settled_covers : (t : Table) (k : Key) (p : ℕ) (s : State) (d : Duty) (y : Place) (v : Known) → Settled t k p s d → asked t.cells k s d ≡ Some (y, v) → CoversAt t.cells y v
+  settled_covers t k p s (jump q u) y v h is = let f : (point k q, state u) ≡ (y, v) = cc in subst (λ (w : Place × Known). CoversAt t.cells w.0 w.1) f h
+  settled_covers t k p s (enter l u) y v h is = let f : (point l l.entry, state u) ≡ (y, v) = cc in subst (λ (w : Place × Known). CoversAt t.cells w.0 w.1) f h
+  settled_covers t k p s (leave x) y v h is = let f : (exit k, leaving x) ≡ (y, v) = cc in subst (λ (w : Place × Known). CoversAt t.cells w.0 w.1) f h
+  settled_covers t k p s (resume l q) y v h is =
+      let r = resumed_some k s l q (t.cells (exit l)) y v is in
+      let f : (point k q, state (after_of s r.0 l.kind)) ≡ (y, v) = λ i. (r.2 i, r.3 i) in
+      subst (λ (w : Place × Known). CoversAt t.cells w.0 w.1) f (h.0 (leaving r.0) r.1)
+
+  -- with no work left
+  pub table_closed : (t : Table) → IsTable b image plan t → ((k : Key) (p : ℕ) (s : State) → t.cells (point k p) ≡ Some (state s) → t.idle (point k p) ≡ true)
+      → Closed b image plan t.cells × AllFaultless b image plan t.cells
+  table_closed t is idle = (
+    record {
+      start = derived_start t.cells is.derived;
+      duties = λ y v k.
+          let h = k.has in
+          let done = is.settled k.key k.addr k.before h.shape h.size h.owed h.at (idle k.key k.addr k.before h.at) h.code h.listed in
+          settled_covers t k.key k.addr k.before k.duty y v (subst (λ (d : Duty). Settled t k.key k.addr k.before d) h.is done) k.asks;
+    },
+    (λ k p s at. is.own k p s at (idle k p s at)),
+  )

@@ -1,0 +1,14 @@
+use Rattle.depth_maker.proofs.Below.{derived_below, fault_refuted}
+use Rattle.depth_maker.proofs.Lawful.{lawful}
+use Rattle.depth_maker.proofs.PlaceKinds.{unjoined_fault}
+use Rattle.depth_maker.proofs.Reached.{entry_stands, needs_at_most}
+use Rattle.depth_maker.proofs.CountLaws.{counted_within, passed_points, passed_frames, counted_point}
+use Rattle.depth_maker.proofs.Least.{least_stands}
+use Rattle.depth_maker.proofs.TableLaws.{table_closed, table_settles, table_marked, table_rises}
+use Rattle.depth_maker.proofs.laws.derived_laws.Goals as goal
+
+pub returns-clause-below : goal.returns-clause-below
+returns-clause-below g b image plan c a ground closed faultless proper d = (derived_below b image plan (lawful b image plan ground) c closed faultless proper a d).0
+
+pub returns-clause-faults : goal.returns-clause-faults
+returns-clause-faults g b image plan c r k p ground closed faultless proper within f = fault_refuted b image plan (lawful b image plan ground) c closed faultless proper within r k p f

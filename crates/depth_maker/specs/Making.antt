@@ -1,0 +1,59 @@
+-- What the maker answers: the certificate of the least assignment with the least needs, or why there is none.
+use Rattle.std.specs.Prelude.{◌≡◌, ◌≤◌, ◌<◌, ◌-◌, ◌^◌, ℕ, IsSome, Contains}
+use Rattle.elf_image.specs.Images.{ImageData}
+use Rattle.tcd_plan.specs.PlanData.{PlanData}
+use Rattle.value_domain.specs.Thresholds.{limits_for}
+use Rattle.depth_cert.specs.declared.keys.Key.{Key}
+use Rattle.depth_cert.specs.Points.{find_point}
+use Rattle.depth_cert.specs.Nodes.{NodeData}
+use Rattle.depth_cert.specs.Certs.{CertData, IsCert, find_node}
+use Rattle.cfg_recover.specs.Entries.{start_key}
+use Rattle.cfg_recover.specs.Accepting.{Accepts, need_of}
+use Rattle.cfg_recover.specs.Assignments.{Derived, Closed, IsBelowAt, known_in}
+use Rattle.cfg_recover.specs.Refusals.{AreLeastNeeds, IsLeast, IsRefusal, IsTooLarge}
+use Rattle.depth_maker.specs.Growth.{IsGround}
+use Rattle.depth_maker.specs.Proper.{AllFaultless}
+
+-- the needs that a certificate states
+abbrev pub needs_in : CertData → Key → ℕ
+needs_in cert k = need_of (find_node k cert.nodes)
+
+-- a certificate of this version that is accepted; another one is not below it
+pub record IsNoWorse (image : ImageData) (plan : PlanData) (cert other : CertData) : Type 0 where
+  pub below : IsBelowAt (known_in cert) (known_in other)
+  pub needs : (k : Key) → needs_in cert k ≤ needs_in other k
+
+-- the certificate that is made
+pub record IsMade (image : ImageData) (plan : PlanData) (version : ℕ) (cert : CertData) : Type 0 where
+  pub of_version : cert.version ≡ version
+  pub accepted : Accepts image plan cert
+  pub least : IsLeast (limits_for plan version) image plan (known_in cert)
+  pub needs : AreLeastNeeds (limits_for plan version) image plan (known_in cert) (needs_in cert)
+  pub best : (other : CertData) → IsCert other → other.version ≡ version → Accepts image plan other → IsNoWorse image plan cert other
+
+-- no certificate of this version is accepted
+abbrev pub NoneAccepted : ImageData → PlanData → ℕ → Type 0
+NoneAccepted image plan version = (cert : CertData) → IsCert cert → cert.version ≡ version → Accepts image plan cert → ⊥
+
+-- what the maker has to show of the certificate that it writes out
+pub record IsWritten (image : ImageData) (plan : PlanData) (version : ℕ) (cert : CertData) : Type 0 where
+  pub is_cert : IsCert cert
+  pub of_version : cert.version ≡ version
+  pub entries : (n : NodeData) → Contains cert.nodes n → IsSome (find_point (n.key).entry n.points)
+  pub derived : Derived (limits_for plan version) image plan (known_in cert)
+  pub closed : Closed (limits_for plan version) image plan (known_in cert)
+  pub faultless : AllFaultless (limits_for plan version) image plan (known_in cert)
+  pub needs : AreLeastNeeds (limits_for plan version) image plan (known_in cert) (needs_in cert)
+  pub start : needs_in cert (start_key image plan) ≤ plan.areas - plan.reserve
+
+-- such a certificate is the one that is to be made
+abbrev pub WrittenIsMade : Type 0
+WrittenIsMade =
+    (image : ImageData) (plan : PlanData) (version : ℕ) (cert : CertData) → IsGround (limits_for plan version) image plan → image.entry < 2 ^ 32
+    → IsWritten image plan version cert → IsMade image plan version cert
+
+-- and where a refusal stands none is accepted
+abbrev pub RefusedIsNone : Type 0
+RefusedIsNone =
+    (image : ImageData) (plan : PlanData) (version r : ℕ) (k : Key) (p : ℕ) → IsGround (limits_for plan version) image plan → image.entry < 2 ^ 32
+    → IsRefusal image plan version r k p → NoneAccepted image plan version
