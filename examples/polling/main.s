@@ -10,28 +10,29 @@ main:
     j      main
 
 read_knob:                          # D2 = the knob, smoothed: the mean of four samples
-    movh.a a4, 0xF060
+    movh.a a4, hi:knob
     mov    d2, 0
     mov16.a a5, 3                   # four turns
 sample:
-    ld.w   d0, [a4]0                # 0 to 1023
+    ld.w.l d0, [a4]lo:knob          # 0 to 1023
     add    d2, d2, d0
     loop   a5, sample
     sh     d2, d2, -2
     ret16
 
 read_selector:                      # D2 = the selector, once it gave one number twice
-    movh.a a4, 0xF060
+    movh.a a4, hi:selector
 again:
-    ld.w   d2, [a4]4
-    ld.w   d0, [a4]4
+    ld.w.l d2, [a4]lo:selector
+    ld.w.l d0, [a4]lo:selector
     jne    d2, d0, again
     ret16
 
 set_valve:                          # valve D2 to D8
     and    d0, d2, 3                # four valves: with it all possible stores lie in the device
-    movh.a a4, 0xF070
-    addsc.a a4, a4, d0, 2           # the registers of the valves, F0700000 to F070000C
+    movh.a a4, hi:valves
+    lea.l  a4, [a4]lo:valves
+    addsc.a a4, a4, d0, 2           # one of four registers
     call   limit
     st.w   [a4]0, d2
     ret16
