@@ -44,7 +44,8 @@ def told(text):
 def reassembled(program, elf, listing, folder):
     """The executable that the listing gives, each of its sections at its address, in place of `elf`."""
     sections = re.findall(r"^\.section (\S+) # ([0-9A-F]{8})$", listing, re.M)
-    sizes = [sum(len(code) // 2 for code in re.findall(r"# [0-9A-F]{8} ([0-9A-F]+)$", part, re.M)) for part in re.split(r"^\.section .*$", listing, flags=re.M)[1:]]
+    parts = re.split(r"^\.section .*$", listing, flags=re.M)[1:]
+    sizes = [sum(len(code) // 2 for code in re.findall(r"# [0-9A-F]{8} ([0-9A-F]+)$", part, re.M)) for part in parts]
     entry = int.from_bytes((folder / elf).read_bytes()[24:28], "little")
     # the entry is a label without bytes at its own place, which shares no byte with the others
     places = [f"place {name} {at} {size:08X}\n" for (name, at), size in zip(sections, sizes)]
