@@ -265,7 +265,6 @@ RICH_LAYOUT = b"place text 80000000 00001000\n\nplace data 80010000 00000100\nen
 RICH_SOURCE = b"""# all kinds of statements
 .section text
 .global main
-.global far
 main:   movh.a a15, hi:table    # the upper half
         lea.l a15, [a15]lo:table
         addi d1, d2, lo:table+4
