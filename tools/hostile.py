@@ -1,8 +1,8 @@
 #!/usr/bin/env python3
 """Hostile use: tries the program on broken, contradictory and failing inputs, and compares each answer with a second reading.
 
-    python3 tools/hostile.py PROGRAM            about five minutes on one processor
-    python3 tools/hostile.py --quick PROGRAM    under a minute
+    python3 tools/hostile.py PROGRAM            some 30,000 cases, some ten minutes on one processor that is free
+    python3 tools/hostile.py --quick PROGRAM    some 2,400 cases, under a minute
 
 PROGRAM is the built tcd (crates/tcd/out/tcd). The inputs are made here; nothing is random but by fixed seeds. What each case has
 to print is worked out by tools/hostile_readers.py, which was written from docs/formats.md. Of each case are compared: the status,
@@ -873,9 +873,9 @@ def little_memory(bench):
     for words, _, files in FORMS.values():
         bench.only(files)
         if words[0] == "dis":
-            bench.only({"e": readers.elf_bytes(0x80000000, [(0x80000000, I1[84:] * 20000)])})
+            bench.only({"e": readers.elf_bytes(0x80000000, [(0x80000000, I1[84:] * 2000)])})
         if words[0] == "asm":
-            bench.only({"s": S1 + b".byte 1, 2, 3, 4\n" * 20000})
+            bench.only({"s": S1 + b".byte 1, 2, 3, 4\n" * 2000})
         wanted = answer(words, bench.held)
         for size in range(1 << 18, 24 << 20, (4 << 20) if bench.quick else (1 << 18)):
             how = {"preexec_fn": lambda size=size: resource.setrlimit(resource.RLIMIT_AS, (size, size))}
