@@ -1,8 +1,8 @@
 #!/usr/bin/env python3
 """Hostile use: tries the program on broken, contradictory and failing inputs, and compares each answer with a second reading.
 
-    python3 tools/hostile.py PROGRAM            some 30,000 cases, some ten minutes on one processor that is free
-    python3 tools/hostile.py --quick PROGRAM    some 2,400 cases, under a minute
+    python3 tools/hostile.py PROGRAM            some 30,000 cases, meant for ten minutes on a free processor
+    python3 tools/hostile.py --quick PROGRAM    some 2,400 cases, meant for under a minute
 
 PROGRAM is the built tcd (crates/tcd/out/tcd). The inputs are made here; nothing is random but by fixed seeds. What each case has
 to print is worked out by tools/hostile_readers.py, which was written from docs/formats.md. Of each case are compared: the status,
