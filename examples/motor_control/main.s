@@ -58,7 +58,7 @@ faulted:                            # state 3: until the fault is cleared by ser
     j      again
 
 # Sets the drive's 16 words to 0. The address is made anew from the index, which the branch bounds: of a pointer that the loop
-# itself raised nothing but its alignment would be known in the end, and the store would be refused (broken_clear has that).
+# raises beside a counter nothing but its alignment is known in the end, and the store is refused (broken_clear has that).
 clear:
     movh.a a4, hi:drive
     lea.l  a4, [a4]lo:drive
