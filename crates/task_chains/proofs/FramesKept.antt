@@ -1,0 +1,120 @@
+-- The frames of a view: their keys have numbers that fit, and where one of the switch routine waits it stands at the first instruction.
+use Rattle.std.proofs.Common.{◌≡◌, ℕ, ◌+◌, ◌*◌, ◌/◌, ◌^◌, ◌<◌, ◌≤◌, Bool, true, false, cond, List, [], ◌∷◌, Result, Ok, Err, refl, sym, ap, ◌∙◌, subst, arith}
+use Rattle.std.proofs.lemmas.Bool.{cond_both}
+use Rattle.tc_isa.specs.declared.shapes.Shape.{Shape}
+use Rattle.tc_isa.specs.declared.shapes.Shape.TheVariants.{Compute, Scaled, Load, Store, Branch, Jump, Call, Ret, Rfe, Svlcx, Rslcx, Bisr, Enable, Disable, Syscall, Mfcr, Mtcr, Nothing}
+use Rattle.tc_machine.specs.declared.events.Cause.{Cause}
+use Rattle.tc_machine.specs.declared.events.Event.{Event}
+use Rattle.tc_machine.specs.declared.state.Machine.{Machine}
+use Rattle.tc_machine.specs.Machine.{moved}
+use Rattle.tc_machine.specs.Fetching.{fetched}
+use Rattle.tc_machine.specs.Stepping.{is_taken, step}
+use Rattle.depth_cert.specs.declared.keys.Key.{Key}
+use Rattle.depth_cert.specs.Keys.{byte_of, key_number, number_of_key, IsKey}
+use Rattle.cfg_recover.specs.Frames.{Standing, Way, to, call, irq, sys, aln, ret, rfe, way_of_shape, way_in, frames_left, frames_by, frames_after, size_in}
+use Rattle.cfg_recover.specs.Moves.{traps}
+use Rattle.task_chains.specs.Tasks.{TasksData}
+use Rattle.task_chains.specs.Apart.{switch_key}
+
+-- ---- keys of the same number are the same
+byte_lt : (b : Bool) → byte_of b < 2
+byte_lt true = omega arith
+byte_lt false = omega arith
+
+byte_same : (a b : Bool) → byte_of a ≡ byte_of b → a ≡ b
+byte_same true true e = refl
+byte_same false false e = refl
+byte_same true false e = absurd (let f : 1 ≡ 0 = e in omega arith)
+byte_same false true e = absurd (let f : 0 ≡ 1 = e in omega arith)
+
+number_parts : (a b c d e f g h : ℕ) → b < 2 ^ 32 → c < 2 ^ 8 → d < 2 → f < 2 ^ 32 → g < 2 ^ 8 → h < 2 → key_number a b c d ≡ key_number e f g h → (a ≡ e) × (b ≡ f) × (c ≡ g) × (d ≡ h)
+number_parts a b c d e f g h b_lt c_lt d_lt f_lt g_lt h_lt same =
+    let last : d ≡ h = omega arith in
+    let rest : (a * 2 ^ 32 + b) * 2 ^ 8 + c ≡ (e * 2 ^ 32 + f) * 2 ^ 8 + g = omega arith in
+    let prio : c ≡ g = omega arith in
+    let more : a * 2 ^ 32 + b ≡ e * 2 ^ 32 + f = omega arith in
+    let entry : b ≡ f = omega arith in
+    (omega arith, entry, prio, last)
+
+made : ℕ → ℕ → ℕ → Bool → Key
+made kind entry prio is = record { kind = kind; entry = entry; prio = prio; is = is }
+
+pub key_same : (j k : Key) → IsKey j → IsKey k → number_of_key j ≡ number_of_key k → j ≡ k
+unfolding made
+key_same j k hj hk e =
+    let p = number_parts j.kind j.entry j.prio (byte_of j.is) k.kind k.entry k.prio (byte_of k.is) hj.entry hj.prio (byte_lt j.is) hk.entry hk.prio (byte_lt k.is) e in
+    ap (λ x. made x j.entry j.prio j.is) p.0 ∙ ap (λ x. made k.kind x j.prio j.is) p.1 ∙ ap (λ x. made k.kind k.entry x j.is) p.2 ∙ ap (λ x. made k.kind k.entry k.prio x) (byte_same j.is k.is p.3)
+
+-- ---- frames
+-- each key has numbers that fit
+abbrev pub AreKeys : List Standing → Type 0
+AreKeys [] = Unit {0}
+AreKeys (f ∷ fs) = IsKey f.key × AreKeys fs
+
+-- each frame of the routine is at its first instruction
+abbrev pub AreFirst : TasksData → List Standing → Type 0
+AreFirst tasks [] = Unit {0}
+AreFirst tasks (f ∷ fs) = (f.key ≡ switch_key tasks → f.at ≡ tasks.switch) × AreFirst tasks fs
+
+pub AreFirst-left : (tasks : TasksData) (fs : List Standing) → AreFirst tasks fs → AreFirst tasks (frames_left fs)
+AreFirst-left tasks [] h = tt
+AreFirst-left tasks (f ∷ fs) h = h.1
+
+-- what holds of all ways that a step may go holds of the step's
+pub by_way : (v : Machine) (e : Event) (q : ℕ) (P : Way → Type 0) → P (to q) → P (call q) → P (irq q) → P (sys q) → P (aln q) → P ret → P rfe → P (cond (is_taken v e) (irq q) (way_in v e (fetched v) q))
+by_way v e q P goes calls interrupts systems misaligns returns leaves = cond_both (is_taken v e) (irq q) (way_in v e (fetched v) q) P (λ _. interrupts) (λ _. by_found (fetched v))
+  where
+    by_shape : (shape : Shape) → P (way_of_shape shape q)
+    by_shape (Call x) = calls
+    by_shape Ret = returns
+    by_shape Rfe = leaves
+    by_shape (Syscall tin) = systems
+    by_shape (Compute op dst x y) = goes
+    by_shape (Scaled dst base index j) = goes
+    by_shape (Load dst base offset size signed after) = goes
+    by_shape (Store src base offset size after) = goes
+    by_shape (Branch test x y by lowers) = goes
+    by_shape (Jump target) = goes
+    by_shape Svlcx = goes
+    by_shape Rslcx = goes
+    by_shape (Bisr c) = goes
+    by_shape Enable = goes
+    by_shape Disable = goes
+    by_shape (Mfcr dst number) = goes
+    by_shape (Mtcr src number) = goes
+    by_shape Nothing = goes
+
+    by_found : (r : Result (Shape × ℕ) Cause) → P (way_in v e r q)
+    by_found (Ok found) = cond_both (traps v e found.0) (aln q) (way_of_shape found.0 q) P (λ _. misaligns) (λ _. by_shape found.0)
+    by_found (Err cause) = goes
+
+-- keys fit after a step
+pub keys_next : (v : Machine) (e : Event) (f : Standing) (fs : List Standing) → AreKeys (f ∷ fs) → e.irq < 2 ^ 8 → (step v e).pc < 2 ^ 32 → AreKeys (frames_after v e (f ∷ fs))
+keys_next v e f fs keys irq_lt pc_lt =
+    let same : IsKey f.key = keys.0 in
+    by_way v e (step v e).pc (λ w. AreKeys (frames_by v.pc (moved v.pc (size_in (fetched v))) e.irq w (f ∷ fs)))
+    keys
+    (record { kind = omega arith; entry = pc_lt; prio = same.prio }, keys)
+    (record { kind = omega arith; entry = pc_lt; prio = irq_lt }, keys)
+    (record { kind = omega arith; entry = pc_lt; prio = same.prio }, keys)
+    (record { kind = omega arith; entry = pc_lt; prio = same.prio }, keys)
+    keys.1
+    keys.1
+
+-- a step outside of the routine goes into it at the first instruction alone
+pub first_next : (tasks : TasksData) (v : Machine) (e : Event) (f : Standing) (fs : List Standing) → (f.key ≡ switch_key tasks → ⊥) → AreFirst tasks fs → AreFirst tasks (frames_after v e (f ∷ fs))
+first_next tasks v e f fs apart first =
+    by_way v e (step v e).pc (λ w. AreFirst tasks (frames_by v.pc (moved v.pc (size_in (fetched v))) e.irq w (f ∷ fs)))
+    (λ is. absurd (apart is), first)
+    (λ is. ap (λ (k : Key). k.entry) is, (λ is. absurd (apart is), first))
+    (λ is. absurd (let k : 2 ≡ 1 = ap (λ (k : Key). k.kind) is in omega arith), (λ is. absurd (apart is), first))
+    (λ is. absurd (let k : 3 ≡ 1 = ap (λ (k : Key). k.kind) is in omega arith), (λ is. absurd (apart is), first))
+    (λ is. absurd (let k : 4 ≡ 1 = ap (λ (k : Key). k.kind) is in omega arith), (λ is. absurd (apart is), first))
+    first
+    first
+
+-- an interrupt enters a handler, and the frame below comes back to where it was
+pub first_interrupt : (tasks : TasksData) (v : Machine) (e : Event) (f : Standing) (fs : List Standing) → is_taken v e ≡ true → (f.key ≡ switch_key tasks → v.pc ≡ tasks.switch) → AreFirst tasks fs → AreFirst tasks (frames_after v e (f ∷ fs))
+first_interrupt tasks v e f fs taken at first =
+    subst (λ t. AreFirst tasks (frames_by v.pc (moved v.pc (size_in (fetched v))) e.irq (cond t (irq (step v e).pc) (way_in v e (fetched v) (step v e).pc)) (f ∷ fs))) (sym taken)
+    (λ is. absurd (let k : 2 ≡ 1 = ap (λ (k : Key). k.kind) is in omega arith), (at, first))

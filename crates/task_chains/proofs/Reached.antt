@@ -1,0 +1,214 @@
+-- States that a view's run has reached, and what the certificate says of them.
+use Rattle.std.proofs.Common.{◌≡◌, ℕ, suc, ◌≤◌, Bool, true, false, cond, List, [], ◌∷◌, ◌++◌, length, Option, Some, None, refl, sym, ap, ◌∙◌, subst, arith, All, Contains, ◌==◌}
+use Rattle.std.proofs.lemmas.Bool.{cond_both, eqb-true}
+use Rattle.std.specs.List.{find}
+use Rattle.std.specs.Prelude.{IsSomeAnd}
+use Rattle.elf_image.specs.Images.{ImageData}
+use Rattle.tcd_plan.specs.PlanData.{PlanData, IsPlan}
+use Rattle.tc_isa.specs.declared.shapes.Shape.{Shape}
+use Rattle.tc_isa.specs.declared.shapes.Shape.TheVariants.{Compute, Scaled, Load, Store, Branch, Jump, Call, Ret, Rfe, Svlcx, Rslcx, Bisr, Enable, Disable, Syscall, Mfcr, Mtcr, Nothing}
+use Rattle.tc_machine.specs.declared.events.Event.{Event}
+use Rattle.tc_machine.specs.declared.state.Machine.{Machine}
+use Rattle.tc_machine.specs.Machine.{reg, is_of}
+use Rattle.tc_machine.specs.Instructions.{access_address, traps_at}
+use Rattle.tc_machine.specs.Stepping.{step, run}
+use Rattle.tc_machine.specs.Safe.{IsMachine, Starts, Fits, AllFit, IsSafeAt, Safe}
+use Rattle.tcd_plan.specs.Regions.{IsStoreInRange}
+use Rattle.tc_machine.proofs.Stays.{stays_run}
+use Rattle.value_domain.specs.declared.states.State.{State}
+use Rattle.value_domain.specs.Limits.{Limits, AreLimits}
+use Rattle.value_domain.specs.State.{AreValues}
+use Rattle.value_domain.specs.Values.{IsMember}
+use Rattle.value_domain.specs.Thresholds.{limits_for}
+use Rattle.vd_transfer.specs.Effects.{address_of}
+use Rattle.vd_transfer.specs.Soundness.{IsSetting}
+use Rattle.vd_transfer.proofs.HoldLaws.{address_holds}
+use Rattle.depth_cert.specs.declared.keys.Key.{Key}
+use Rattle.depth_cert.specs.declared.points.Point.{Point}
+use Rattle.depth_cert.specs.Keys.{number_of_key, IsKey}
+use Rattle.depth_cert.specs.Points.{find_point, IsPoint}
+use Rattle.depth_cert.specs.Nodes.{NodeData, IsNode}
+use Rattle.depth_cert.specs.Certs.{CertData, IsCert, find_node}
+use Rattle.cfg_recover.specs.Code.{IsCode, HasCode}
+use Rattle.cfg_recover.specs.Entries.{start_key}
+use Rattle.cfg_recover.specs.Local.{LocalRule, IsFaultless}
+use Rattle.cfg_recover.specs.Accepting.{limits_in, RuleHolds, HoldsAtNode, Accepts}
+use Rattle.cfg_recover.specs.Moves.{InState}
+use Rattle.cfg_recover.specs.Frames.{Standing, frames_after, frames_from, frames, HoldFrames, FramesHeld}
+use Rattle.cfg_recover.proofs.CodeLaws.{IsCode-bounded}
+use Rattle.cfg_recover.proofs.Went.{address-is}
+use Rattle.task_chains.specs.Tasks.{TasksData}
+use Rattle.task_chains.specs.Apart.{StaysApart, HoldsApart, KeepsApart}
+
+-- ---- runs, one event longer
+run-snoc : (m : Machine) (es : List Event) (e : Event) → run m (es ++ e ∷ []) ≡ step (run m es) e
+run-snoc m [] e = refl
+run-snoc m (d ∷ es) e = run-snoc (step m d) es e
+
+AllFit-snoc : (plan : PlanData) (m : Machine) (es : List Event) (e : Event) → AllFit plan m es → Fits plan (run m es) e → AllFit plan m (es ++ e ∷ [])
+AllFit-snoc plan m [] e all fit = (fit, tt)
+AllFit-snoc plan m (d ∷ es) e all fit = (all.0, AllFit-snoc plan (step m d) es e all.1 fit)
+
+frames-snoc : (m : Machine) (es : List Event) (e : Event) (fs : List Standing) → frames_from m (es ++ e ∷ []) fs ≡ frames_after (run m es) e (frames_from m es fs)
+frames-snoc m [] e fs = refl
+frames-snoc m (d ∷ es) e fs = frames-snoc (step m d) es e (frames_after m d fs)
+
+-- a run has reached this state, in these frames
+pub record Reached (image : ImageData) (plan : PlanData) (v : Machine) (fs : List Standing) : Type 0 where
+  pub from : Machine
+  pub events : List Event
+  pub starts : Starts image plan from
+  pub fit : AllFit plan from events
+  pub is : v ≡ run from events
+  pub frames_are : fs ≡ frames image plan from events
+
+pub Reached-start : (image : ImageData) (plan : PlanData) (v : Machine) → Starts image plan v → Reached image plan v (record { key = start_key image plan; at = v.pc } ∷ [])
+Reached-start image plan v starts = record { from = v; events = []; starts = starts; fit = tt; is = refl; frames_are = refl }
+
+pub Reached-step : (image : ImageData) (plan : PlanData) (v : Machine) (fs : List Standing) (e : Event) → Reached image plan v fs → Fits plan v e → Reached image plan (step v e) (frames_after v e fs)
+Reached-step image plan v fs e r fits = record {
+  from = r.from;
+  events = r.events ++ e ∷ [];
+  starts = r.starts;
+  fit = AllFit-snoc plan r.from r.events e r.fit (subst (λ (x : Machine). Fits plan x e) r.is fits);
+  is = ap (λ (x : Machine). step x e) r.is ∙ sym (run-snoc r.from r.events e);
+  frames_are = (λ i. frames_after (r.is i) e (r.frames_are i)) ∙ sym (frames-snoc r.from r.events e (record { key = start_key image plan; at = (r.from).pc } ∷ []));
+}
+
+-- ---- what is found in lists
+All-at : {X : Type 0} (P : X → Type 0) (xs : List X) (x : X) → All P xs → Contains xs x → P x
+All-at P xs x all c = subst P c.2 (all c.0 x c.1)
+
+found_in : {X : Type 0} (p : X → Bool) (xs : List X) (x : X) → find p xs ≡ Some x → Contains xs x × (p x ≡ true)
+found_in p [] x h = absurd (let f : None ≡ Some x = h in cc)
+found_in p (y ∷ ys) x h =
+    elim (p y) as (λ t. p y ≡ t → cond t (Some y) (find p ys) ≡ Some x → Contains (y ∷ ys) x × (p x ≡ true)) [
+      | true ↦ λ e g. let same : y ≡ x = cc in subst (λ z. Contains (y ∷ ys) z × (p z ≡ true)) same ((0, omega arith, refl), e)
+      | false ↦ λ e g. let rest = found_in p ys x g in ((suc (rest.0).0, (let lt = (rest.0).1 in omega arith), (rest.0).2), rest.1)
+    ] refl h
+
+limits_are : (plan : PlanData) (version : ℕ) → AreLimits (limits_for plan version)
+limits_are plan version =
+    record {
+      wide = cond_both (version == 1) 64 128 (λ w. 64 ≤ w) (λ _. omega arith) (λ _. omega arith);
+      narrow = cond_both (version == 1) 64 128 (λ w. w ≤ 128) (λ _. omega arith) (λ _. omega arith);
+      few_locals = cond_both (version == 1) 4 8 (λ w. w ≤ 8) (λ _. omega arith) (λ _. omega arith);
+    }
+
+-- the address of a load is one of its value's
+abbrev pub LoadsAt : Limits → PlanData → State → Machine → Shape → Type 0
+LoadsAt b plan s m (Load dst base offset size signed after) = IsMember (access_address m base offset after) (address_of b plan (Load dst base offset size signed after) s)
+LoadsAt b plan s m _ = Unit {0}
+
+-- a store that doesn't trap lies in range
+abbrev pub StoresAt : PlanData → Machine → Event → Shape → Type 0
+StoresAt plan m e (Store src base offset size after) = traps_at e (access_address m base offset after) size ≡ false → IsStoreInRange plan (access_address m base offset after, size)
+StoresAt plan m e _ = Unit {0}
+
+-- The point of a reached state: the instruction and what the rules ask of it.
+pub record PointOf (plan : PlanData) (image : ImageData) (cert : CertData) (tasks : TasksData) (v : Machine) (key : Key) : Type 0 where
+  pub node : NodeData
+  pub found : find_node key cert.nodes ≡ Some node
+  pub state : State
+  pub shape : Shape
+  pub size : ℕ
+  pub code : IsCode image plan v.pc shape size
+  pub own : (r : ℕ) → LocalRule (limits_in plan cert) plan node.key v.pc state shape r
+  pub apart : StaysApart (limits_in plan cert) plan tasks node.key v.pc state shape
+  pub inside : InState plan v state
+  pub load_at : LoadsAt (limits_in plan cert) plan state v shape
+  pub same_key : number_of_key node.key ≡ number_of_key key
+  pub is_key : IsKey node.key
+
+module _ (image : ImageData) (plan : PlanData) (ok : IsPlan plan) (cert : CertData) (is_cert : IsCert cert) (accepted : Accepts image plan cert) (tasks : TasksData) (apart : KeepsApart image plan tasks cert) where
+  load_at : (v : Machine) (s : State) (shape : Shape) (size : ℕ) → IsCode image plan v.pc shape size → length s.regs ≡ 27 → AreValues (limits_in plan cert) s.regs → InState plan v s → LoadsAt (limits_in plan cert) plan s v shape
+  load_at v s (Load dst base offset size signed after) n code regs values inside =
+      let bounded = IsCode-bounded image plan v.pc (Load dst base offset size signed after) n code in
+      let setting : IsSetting (limits_in plan cert) plan s = record { limits = limits_are plan cert.version; plan = ok; regs = regs; values = values } in
+      rw (address-is v base offset after) (address_holds.load (limits_in plan cert) plan dst base offset size signed after s (reg v) v.ie v.ccpn setting bounded.1 bounded.2 inside)
+  load_at v s (Compute op dst x y) n code regs values inside = tt
+  load_at v s (Scaled dst base index j) n code regs values inside = tt
+  load_at v s (Store src base offset size after) n code regs values inside = tt
+  load_at v s (Branch test x y by lowers) n code regs values inside = tt
+  load_at v s (Jump target) n code regs values inside = tt
+  load_at v s (Call target) n code regs values inside = tt
+  load_at v s Ret n code regs values inside = tt
+  load_at v s Rfe n code regs values inside = tt
+  load_at v s Svlcx n code regs values inside = tt
+  load_at v s Rslcx n code regs values inside = tt
+  load_at v s (Bisr c) n code regs values inside = tt
+  load_at v s Enable n code regs values inside = tt
+  load_at v s Disable n code regs values inside = tt
+  load_at v s (Syscall tin) n code regs values inside = tt
+  load_at v s (Mfcr dst number) n code regs values inside = tt
+  load_at v s (Mtcr src number) n code regs values inside = tt
+  load_at v s Nothing n code regs values inside = tt
+
+  by_point : (v : Machine) (key : Key) (node : NodeData) (point : Point) → find_node key cert.nodes ≡ Some node → find_point v.pc node.points ≡ Some point → InState plan v point.state → PointOf plan image cert tasks v key
+  by_point v key node point found at inside =
+      let there = found_in (λ n. number_of_key n.key == number_of_key key) cert.nodes node found in
+      let holds = All-at (HoldsAtNode image plan cert) cert.nodes node accepted.nodes there.0 in
+      let here = found_in (λ p. p.addr == v.pc) node.points point at in
+      let addr : point.addr ≡ v.pc = eqb-true _ _ here.1 in
+      let all : (r : ℕ) → RuleHolds image plan cert node point r = All-at (λ p. (r : ℕ) → RuleHolds image plan cert node p r) node.points point holds.points here.0 in
+      let values : AreValues (limits_in plan cert) (point.state).regs = (all 2).values refl in
+      let faultless : IsFaultless (limits_in plan cert) image plan node.key point.addr point.state = λ r. (all r).own values in
+      let has : HasCode image plan point.addr = (faultless 3).code refl in
+      let is_node = All-at (IsNode cert.version) cert.nodes node is_cert.nodes there.0 in
+      let is_point : IsPoint cert.version point = All-at (IsPoint cert.version) node.points point is_node.points here.0 in
+      let keeps : HoldsApart image plan tasks cert node point = All-at (HoldsApart image plan tasks cert node) node.points point (All-at (λ n. All (HoldsApart image plan tasks cert n) n.points) cert.nodes node apart there.0) here.0 in
+      let code : IsCode image plan v.pc has.shape has.size = subst (λ x. IsCode image plan x has.shape has.size) addr has.code in
+      record {
+        node = node;
+        found = found;
+        state = point.state;
+        shape = has.shape;
+        size = has.size;
+        code = code;
+        own = λ r. subst (λ x. LocalRule (limits_in plan cert) plan node.key x point.state has.shape r) addr ((faultless r).own has.shape has.size has.code);
+        apart = subst (λ x. StaysApart (limits_in plan cert) plan tasks node.key x point.state has.shape) addr (keeps has.shape has.size has.code);
+        inside = inside;
+        load_at = load_at v point.state has.shape has.size code (is_point.state).regs values inside;
+        same_key = eqb-true _ _ there.1;
+        is_key = is_node.key;
+      }
+
+  some_and : {A : Type 0} (o : Option A) (P : A → Type 0) → IsSomeAnd o P → (x : A) × (o ≡ Some x) × P x
+  some_and None P h = absurd h
+  some_and (Some x) P h = (x, refl, h)
+
+  -- a reached state has a point
+  pub point_of : (v : Machine) (f : Standing) (fs : List Standing) → FramesHeld image plan cert → Reached image plan v (f ∷ fs) → PointOf plan image cert tasks v f.key
+  point_of v f fs held r =
+      let h0 = held r.from r.events r.starts r.fit in
+      let h : HoldFrames plan cert v (f ∷ fs) = subst (λ (x : Machine). HoldFrames plan cert x (f ∷ fs)) (sym r.is) (subst (HoldFrames plan cert (run r.from r.events)) (sym r.frames_are) h0) in
+      let node = some_and (find_node f.key cert.nodes) (λ n. IsSomeAnd (find_point f.at n.points) (λ p. InState plan v p.state)) h.point in
+      let point = some_and (find_point f.at (node.0).points) (λ p. InState plan v p.state) node.2 in
+      by_point v f.key node.0 point.0 node.1 (ap (λ x. find_point x (node.0).points) (sym h.at) ∙ point.1) point.2
+
+  -- the newest frame is where the machine is
+  pub frame_at : (v : Machine) (f : Standing) (fs : List Standing) → FramesHeld image plan cert → Reached image plan v (f ∷ fs) → f.at ≡ v.pc
+  frame_at v f fs held r =
+      let h0 = held r.from r.events r.starts r.fit in
+      let h : HoldFrames plan cert v (f ∷ fs) = subst (λ (x : Machine). HoldFrames plan cert x (f ∷ fs)) (sym r.is) (subst (HoldFrames plan cert (run r.from r.events)) (sym r.frames_are) h0) in
+      h.at
+
+  -- and there is one
+  pub some_frame : (v : Machine) (fs : List Standing) → FramesHeld image plan cert → Reached image plan v fs → (f : Standing) × (gs : List Standing) × (fs ≡ f ∷ gs)
+  some_frame v [] held r =
+      let h0 = held r.from r.events r.starts r.fit in
+      let h : HoldFrames plan cert v [] = subst (λ (x : Machine). HoldFrames plan cert x []) (sym r.is) (subst (HoldFrames plan cert (run r.from r.events)) (sym r.frames_are) h0) in
+      absurd h
+  some_frame v (f ∷ fs) held r = (f, fs, refl)
+
+  pub is_of_frame : (v : Machine) (f : Standing) (fs : List Standing) → FramesHeld image plan cert → Reached image plan v (f ∷ fs) → is_of v.psw ≡ (f.key).is
+  is_of_frame v f fs held r =
+      let h0 = held r.from r.events r.starts r.fit in
+      let h : HoldFrames plan cert v (f ∷ fs) = subst (λ (x : Machine). HoldFrames plan cert x (f ∷ fs)) (sym r.is) (subst (HoldFrames plan cert (run r.from r.events)) (sym r.frames_are) h0) in
+      h.is
+
+  pub safe_at : (most : ℕ) (v : Machine) (fs : List Standing) (e : Event) → Safe image plan most → Reached image plan v fs → Fits plan v e → IsSafeAt image plan most v e
+  safe_at most v fs e safe r fits = subst (λ (x : Machine). IsSafeAt image plan most x e) (sym r.is) (safe r.from r.events e r.starts r.fit (subst (λ (x : Machine). Fits plan x e) r.is fits))
+
+  pub words_of : (v : Machine) (fs : List Standing) → Reached image plan v fs → IsMachine v
+  words_of v fs r = subst IsMachine (sym r.is) (stays_run ok r.from r.events (r.starts).machine r.fit)

@@ -1,0 +1,23 @@
+-- What holds of the views of tasks: the statements of the laws.
+use Rattle.std.specs.Prelude.{◌≡◌, ◌<◌, ◌≤◌, ◌+◌, ◌⊎◌, ℕ}
+use Rattle.elf_image.specs.Images.{ImageData, image_byte}
+use Rattle.tcd_plan.specs.PlanData.{PlanData, IsPlan}
+use Rattle.tcd_plan.specs.Regions.{IsStoreInRange}
+use Rattle.task_chains.specs.Tasks.{TasksData, AreTasks, count, routine_size}
+use Rattle.task_chains.specs.Views.{view_image_of, view_plan_of, FitPlan}
+use Rattle.task_chains.specs.Safe.{MissesBlock}
+
+-- the plan of a view is one
+abbrev pub ViewsArePlans : Type 0
+ViewsArePlans = (plan : PlanData) (tasks : TasksData) (u : ℕ) → IsPlan plan → AreTasks tasks → FitPlan plan tasks → u < count tasks → IsPlan (view_plan_of plan tasks u)
+
+-- a store in a view's range is in one of the plan, and misses the block
+abbrev pub ViewStoresMiss : Type 0
+ViewStoresMiss =
+    (plan : PlanData) (tasks : TasksData) (u x n : ℕ) → IsPlan plan → AreTasks tasks → FitPlan plan tasks → 0 < n → IsStoreInRange (view_plan_of plan tasks u) (x, n)
+    → IsStoreInRange plan (x, n) × MissesBlock tasks (x, n)
+
+-- the image of a view is the image outside of the routine
+abbrev pub ViewsKeepBytes : Type 0
+ViewsKeepBytes =
+    (image : ImageData) (tasks : TasksData) (u x : ℕ) → (x < tasks.switch) ⊎ (tasks.switch + routine_size ≤ x) → image_byte (view_image_of image tasks u) x ≡ image_byte image x

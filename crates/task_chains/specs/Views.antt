@@ -1,0 +1,59 @@
+-- The view of a task: the image and the plan under which its certificate is judged.
+use Rattle.std.specs.Prelude.{◌≡◌, ◌+◌, ◌-◌, ◌^◌, ◌≤◌, ◌==◌, ◌&&◌, ℕ, Bool, false, nat_le, nat_lt, min, max, if◌then◌else◌, List, [], ◌∷◌, ◌++◌, length, map, flat_map, slice_index_or}
+use Rattle.elf_image.specs.Images.{ImageData, SegmentData}
+use Rattle.tcd_base.specs.declared.types.Range.{Range}
+use Rattle.tcd_plan.specs.declared.plans.Device.{Device}
+use Rattle.tcd_plan.specs.PlanData.{PlanData}
+use Rattle.tcd_base.specs.Ranges.{IsInOne}
+use Rattle.task_chains.specs.Tasks.{TasksData, task_at, block_size, routine_size}
+use Rattle.task_chains.specs.Routine.{view_routine_bytes}
+
+-- ---- the image
+-- the address lies in the routine
+abbrev pub is_in_routine : TasksData → ℕ → Bool
+is_in_routine tasks x = nat_le tasks.switch x && nat_lt x (tasks.switch + routine_size)
+
+-- bytes from x on, those in the routine replaced by the view's
+unfoldable pub with_routine_from : TasksData → ℕ → List ℕ → List ℕ
+with_routine_from tasks x [] = []
+with_routine_from tasks x (b ∷ bs) =
+    (if is_in_routine tasks x then slice_index_or (view_routine_bytes tasks) (x - tasks.switch) 0 else b) ∷ with_routine_from tasks (x + 1) bs
+
+abbrev pub view_segment : TasksData → SegmentData → SegmentData
+view_segment tasks s = record { at = s.at; bytes = with_routine_from tasks s.at s.bytes }
+
+-- the image with the task's entry and the view's routine
+abbrev pub view_image_of : ImageData → TasksData → ℕ → ImageData
+view_image_of image tasks u = record { entry = (task_at tasks u).entry; segments = map (view_segment tasks) image.segments }
+
+-- ---- the plan
+-- the range from one address up to another; none where there is no byte
+abbrev pub between : ℕ → ℕ → List Range
+between from to_ = if nat_lt from to_ then record { at = from; len = to_ - from } ∷ [] else []
+
+-- what is left of a range without the n bytes from x on, ascending
+abbrev pub without : ℕ → ℕ → Range → List Range
+without x n r = between r.at (min x (r.at + r.len)) ++ between (max (x + n) r.at) (r.at + r.len)
+
+-- a range that answers with any word
+abbrev pub any_device : Range → Device
+any_device r = record { range = r; lo = 0; hi = 2 ^ 32 - 1 }
+
+-- the plan's devices, and then what is left of each ram range without the block
+abbrev pub view_devices : PlanData → TasksData → List Device
+view_devices plan tasks = plan.devices ++ map any_device (flat_map (without tasks.block (block_size tasks)) plan.ram)
+
+-- the plan with the task's stack pointer, without ram, and with interrupts off at the start of all tasks but the first
+abbrev pub view_plan_of : PlanData → TasksData → ℕ → PlanData
+view_plan_of plan tasks u = record plan {
+  ram = [];
+  devices = view_devices plan tasks;
+  sp = (task_at tasks u).sp;
+  start_ie = if u == 0 then plan.start_ie else false;
+}
+
+-- the tasks fit the plan: the block lies in one ram range, the views have at most 16 devices, and the start is on no interrupt stack
+pub record FitPlan (plan : PlanData) (tasks : TasksData) : Type 0 where
+  pub in_ram : IsInOne tasks.block (block_size tasks) plan.ram
+  pub room : length (view_devices plan tasks) ≤ 16
+  pub own_stack : plan.start_is ≡ false

@@ -1,0 +1,18 @@
+// What holds of the views of tasks, and of all tasks together.
+ghost use Rattle.task_chains.specs.Safe.{TasksAreSafe};
+ghost use Rattle.task_chains.specs.ViewLaws.{ViewStoresMiss, ViewsArePlans, ViewsKeepBytes};
+
+/// What holds of the views of tasks: their plans are plans, their stores are the plan's and miss the block, and outside of the
+/// switch routine their images are the image.
+pub fn laws_of_views()
+    ensures plans { ViewsArePlans }
+    ensures stores { ViewStoresMiss }
+    ensures bytes { ViewsKeepBytes }
+{}
+
+/// All runs of tasks are safe whose certificates are judged well and whose needs, together, there are areas for: none stands on two
+/// chains, each task holds at most its need, FCX is at the limit exactly where all but the reserve are in use, and stores are in
+/// range and miss the switch routine's block.
+pub fn law_of_tasks()
+    ensures safe { TasksAreSafe }
+{}
