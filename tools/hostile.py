@@ -1,8 +1,8 @@
 #!/usr/bin/env python3
 """Hostile use: tries the program on broken, contradictory and failing inputs, and compares each answer with a second reading.
 
-    python3 tools/hostile.py PROGRAM            some 30,000 cases, meant for ten minutes on a free processor
-    python3 tools/hostile.py --quick PROGRAM    some 2,400 cases, meant for under a minute
+    python3 tools/hostile.py PROGRAM            some 55,000 cases, three minutes on a free processor
+    python3 tools/hostile.py --quick PROGRAM    some 2,400 cases, ten seconds
 
 PROGRAM is the built tcd (crates/tcd/out/tcd). The inputs are made here; nothing is random but by fixed seeds. What each case has
 to print is worked out by tools/hostile_readers.py, which was written from docs/formats.md. Of each case are compared: the status,
@@ -211,7 +211,7 @@ class Bench:
             found.add(entry.name)
             if not entry.is_file(follow_symlinks=False):
                 continue
-            if entry.stat().st_size > 1 << 24:
+            if entry.stat().st_size >= readers.FILE_LIMIT:
                 continue
             data = pathlib.Path(entry.path).read_bytes()
             want = written.get(entry.name, self.held.get(entry.name))
