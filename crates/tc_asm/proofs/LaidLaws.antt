@@ -129,7 +129,8 @@ fold-append : (labels : List SymbolData) (xs ys : List ItemData) (d : DraftData)
 fold-append labels [] ys d = refl
 fold-append labels (x ∷ xs) ys d = fold-append labels xs ys (stepped labels d x)
 
-lines-items : (labels : List SymbolData) (lines : List LineData) (d : DraftData) → fold (with_line labels) d lines ≡ fold (stepped labels) d (items_in lines)
+-- all that lines add, one thing after another
+pub lines-items : (labels : List SymbolData) (lines : List LineData) (d : DraftData) → fold (with_line labels) d lines ≡ fold (stepped labels) d (items_in lines)
 unfolding with_line
 lines-items labels [] d = refl
 lines-items labels (l ∷ ls) d = lines-items labels ls (fold (stepped labels) d l.items) ∙ sym (fold-append labels l.items (items_in ls) d)

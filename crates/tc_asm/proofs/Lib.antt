@@ -1,3 +1,5 @@
+pub mod FewItems
+pub mod ReadLines
 pub mod Passes
 pub mod SymbolLaws
 pub mod PartLaws

@@ -1,12 +1,11 @@
 -- Steps of loops over lists that are seen as other lists.
 use Rattle.std.proofs.Common.{◌≡◌, ◌≢◌, ◌<◌, ◌≤◌, ◌+◌, ◌++◌, min, ℕ, zero, suc, Bool, true, false, cond, List, [], ◌∷◌, length, get_or, take, drop, map, None, Some, refl, ap, sym, ◌∙◌, append_assoc, arith}
-use Rattle.std.specs.Borrow.{Bor}
 use Rattle.std.specs.Prelude.{fold, count_by, position, nat_lt, slice_get, ◌==◌}
 use Rattle.std.specs.List.{slice_split, position_or_len}
-use Rattle.std.proofs.lemmas.List.Splits.{slice_split_first, slice_split_none, length-slice_split}
+use Rattle.std.proofs.lemmas.List.Splits.{slice_split_first, slice_split_none}
 use Rattle.std.proofs.lemmas.Bool.{ltb-true, ltb-false}
 use Rattle.std.proofs.lemmas.List.{take_more, map_push, length-map, get_or-map}
-use Rattle.std.proofs.lemmas.List.Sums.{fold_more, fails_before_first, count_by-le-length}
+use Rattle.std.proofs.lemmas.List.Sums.{fold_more, fails_before_first}
 use Rattle.tc_stmt.specs.declared.values.Operand.{Operand}
 use Rattle.tc_stmt.specs.Operands.{operand_of}
 use Rattle.tc_asm.specs.Values.{value_rule, space_rule, space_item}
@@ -125,30 +124,3 @@ word_of-yes os d b one e h = sym (word_of-one os d one ∙ ap (λ x. cond x (Som
 
 pub word_of-no : (os : List Operand) (d : Operand) (b : Bool) → length os ≡ 1 → b ≡ is_word_operand (operand_of (get_or os 0 d)) → b ≡ false → None ≡ word_of (map operand_of os)
 word_of-no os d b one e h = sym (word_of-one os d one ∙ ap (λ x. cond x (Some (operand_of (get_or os 0 d)).value.name) None) (sym e ∙ h))
-
-pub lines_step : (out new : List (Bor (List ℕ))) (b : Bor (List ℕ)) (rest : List ℕ) (i : ℕ) (next : List ℕ) (all : List (List ℕ))
-    → new ≡ out ++ b ∷ [] → b.now ≡ take i rest → next ≡ drop (i + 1) rest → position is_feed rest ≡ Some i
-    → map (λ (x : Bor (List ℕ)). x.now) out ++ slice_split is_feed rest ≡ all → map (λ (x : Bor (List ℕ)). x.now) new ++ slice_split is_feed next ≡ all
-lines_step out new b rest i next all e at f found so_far =
-    ap (λ (os : List (Bor (List ℕ))). map (λ (x : Bor (List ℕ)). x.now) os ++ slice_split is_feed next) e
-    ∙ ap (λ os. os ++ slice_split is_feed next) (map_push (λ (x : Bor (List ℕ)). x.now) out b)
-    ∙ ap (λ l. (map (λ (x : Bor (List ℕ)). x.now) out ++ l ∷ []) ++ slice_split is_feed next) at
-    ∙ ap (λ r. (map (λ (x : Bor (List ℕ)). x.now) out ++ take i rest ∷ []) ++ slice_split is_feed r) f
-    ∙ lines_more (map (λ (x : Bor (List ℕ)). x.now) out) rest i found
-    ∙ so_far
-
-pub lines_stop : (out new : List (Bor (List ℕ))) (b : Bor (List ℕ)) (rest : List ℕ) (all : List (List ℕ))
-    → new ≡ out ++ b ∷ [] → b.now ≡ rest → position is_feed rest ≡ None
-    → map (λ (x : Bor (List ℕ)). x.now) out ++ slice_split is_feed rest ≡ all → map (λ (x : Bor (List ℕ)). x.now) new ≡ all
-lines_stop out new b rest all e at none so_far =
-    ap (map (λ (x : Bor (List ℕ)). x.now)) e
-    ∙ map_push (λ (x : Bor (List ℕ)). x.now) out b
-    ∙ ap (λ l. map (λ (x : Bor (List ℕ)). x.now) out ++ l ∷ []) at
-    ∙ lines_end (map (λ (x : Bor (List ℕ)). x.now) out) rest none
-    ∙ so_far
-
-pub few_lines : (lines : List (Bor (List ℕ))) (source : List ℕ) → map (λ (l : Bor (List ℕ)). l.now) lines ≡ slice_split is_feed source → length lines ≤ length source + 1
-few_lines lines source e =
-    let long : length lines ≡ count_by is_feed source + 1 = sym (length-map lines (λ (l : Bor (List ℕ)). l.now)) ∙ ap length e ∙ length-slice_split is_feed source in
-    let few : count_by is_feed source ≤ length source = count_by-le-length is_feed source in
-    omega arith

@@ -1,61 +1,77 @@
 -- One line more.
-use Rattle.std.proofs.Common.{◌≡◌, ◌≢◌, ◌<◌, ◌≤◌, ◌+◌, ℕ, List, [], ◌∷◌, map, length, get_or, take, drop, min, refl, ap, sym, subst, ◌∙◌, inl, inr, arith}
+use Rattle.std.proofs.Common.{◌≡◌, ◌≢◌, ◌<◌, ◌≤◌, ◌+◌, ℕ, List, [], ◌∷◌, map, length, get_or, take, drop, min, refl, ap, sym, subst, ◌∙◌, inl, inr, arith, length-drop, get_or-drop}
 use Rattle.std.specs.Prelude.{fold, ◌==◌}
-use Rattle.std.specs.List.{slice_split}
-use Rattle.std.specs.Borrow.{Bor}
-use Rattle.std.proofs.lemmas.List.{length-map, get_or-map, drop_more, drop_all, take_all}
+use Rattle.std.proofs.lemmas.List.{length-map, get_or-map, drop_more, drop_all, drop-drop, take_all, take-map}
+use Rattle.std.specs.List.{drop-map}
 use Rattle.std.proofs.lemmas.List.Sums.{fold_more}
 use Rattle.std.proofs.lemmas.Bool.{cases_lt}
 use Rattle.tc_asm.specs.declared.items.Item.{Item}
+use Rattle.tc_asm.specs.declared.lines.Line.{Line}
 use Rattle.tc_asm.specs.Items.{ItemData, item_of}
-use Rattle.tc_asm.specs.Lines.{LineData, line_in, lines_in, lines_at}
+use Rattle.tc_asm.specs.Lines.{LineData, line_data, lines_in}
+use Rattle.tc_asm.specs.Readings.{lines_read, lines_of}
+use Rattle.tc_asm.specs.declared.lines.Source.{Source}
 use Rattle.tc_object.specs.Objects.{ObjectData}
 use Rattle.tc_asm.specs.declared.errors.AsmErr.{AsmErr}
 use Rattle.tc_asm.specs.Errors.{IfBad}
 use Rattle.tc_asm.specs.Objects.{object_of}
+use Rattle.tc_asm.specs.Statements.{items_in}
+use Rattle.tc_asm.proofs.LaidLaws.{lines-items}
 use Rattle.tc_asm.specs.Symbols.{SymbolData}
 use Rattle.tc_asm.specs.Drafts.{DraftData, start, stepped}
 use Rattle.tc_asm.specs.Rules.{item_rule}
 use Rattle.tc_asm.specs.Sources.{items_rule, with_line, line_rule, drafted, rule_in, symbols_of, KeepsRules, IsLeast}
+use Rattle.tc_asm.proofs.ReadLines.{length-lines_read}
 
-length-lines_at : (lines : List (Bor (List ℕ))) → length (lines_at lines) ≡ length lines
-length-lines_at lines = length-map (map (λ (l : Bor (List ℕ)). l.now) lines) line_in ∙ length-map lines (λ (l : Bor (List ℕ)). l.now)
+-- the line at a place, with those behind it
+module _ (ls : List LineData) (i : ℕ) (x : LineData) (zs : List LineData) (here : drop i ls ≡ x ∷ zs) where
+  within : i < length ls
+  within = omega (arith, length-drop i ls, ap length here)
 
-get_or-lines_at : (lines : List (Bor (List ℕ))) (i : ℕ) (b : Bor (List ℕ)) (d : LineData) → i < length lines → get_or (lines_at lines) i d ≡ line_in (get_or lines i b).now
-get_or-lines_at lines i b d within =
-    get_or-map line_in (map (λ (l : Bor (List ℕ)). l.now) lines) i b.now d (rw (length-map lines (λ (l : Bor (List ℕ)). l.now)) within)
-    ∙ ap line_in (get_or-map (λ (l : Bor (List ℕ)). l.now) lines i b b.now within)
+  get_here : (d : LineData) → get_or ls i d ≡ x
+  get_here d =
+      let first : get_or (drop i ls) 0 d ≡ get_or ls i d = get_or-drop i ls 0 d ∙ ap (λ k. get_or ls k d) (omega arith) in
+      sym first ∙ ap (λ (ks : List LineData). get_or ks 0 d) here
 
-module _ (lines : List (Bor (List ℕ))) (i : ℕ) (b : Bor (List ℕ)) (within : i < length lines) where
+  pub behind_here : drop (i + 1) ls ≡ zs
+  behind_here = sym (drop-drop 1 i ls) ∙ ap (λ (ks : List LineData). drop 1 ks) here
+
   pub drafted_more : (labels : List SymbolData) (draft next : DraftData)
-      → draft ≡ drafted labels (take i (lines_at lines)) → next ≡ with_line labels draft (line_in (get_or lines i b).now)
-      → next ≡ drafted labels (take (i + 1) (lines_at lines))
+      → draft ≡ drafted labels (take i ls) → next ≡ with_line labels draft x → next ≡ drafted labels (take (i + 1) ls)
   drafted_more labels draft next so_far step =
-      let more = fold_more (with_line labels) start (lines_at lines) i (line_in b.now) (rw (length-lines_at lines) within) in
       step
-      ∙ ap (λ p. with_line labels p (line_in (get_or lines i b).now)) so_far
-      ∙ ap (with_line labels (drafted labels (take i (lines_at lines)))) (sym (get_or-lines_at lines i b (line_in b.now) within))
-      ∙ sym more
+      ∙ ap (λ p. with_line labels p x) so_far
+      ∙ ap (with_line labels (drafted labels (take i ls))) (sym (get_here x))
+      ∙ sym (fold_more (with_line labels) start ls i x within)
 
   pub rule_here : (labels : List SymbolData) (draft : DraftData) (rule : ℕ) (d : LineData)
-      → labels ≡ symbols_of (lines_at lines) → draft ≡ drafted labels (take i (lines_at lines))
-      → rule ≡ line_rule labels draft (line_in (get_or lines i b).now) → rule_in (lines_at lines) i (get_or (lines_at lines) i d) ≡ rule
+      → labels ≡ symbols_of ls → draft ≡ drafted labels (take i ls) → rule ≡ line_rule labels draft x → rule_in ls i (get_or ls i d) ≡ rule
   rule_here labels draft rule d same so_far is =
       sym (is
-      ∙ ap (λ p. line_rule labels p (line_in (get_or lines i b).now)) so_far
-      ∙ ap (line_rule labels (drafted labels (take i (lines_at lines)))) (sym (get_or-lines_at lines i b d within))
-      ∙ ap (λ ls. line_rule ls (drafted ls (take i (lines_at lines))) (get_or (lines_at lines) i d)) same)
+      ∙ ap (λ p. line_rule labels p x) so_far
+      ∙ ap (line_rule labels (drafted labels (take i ls))) (sym (get_here d))
+      ∙ ap (λ ss. line_rule ss (drafted ss (take i ls)) (get_or ls i d)) same)
 
   pub kept_more : (labels : List SymbolData) (draft : DraftData) (rule : ℕ)
-      → labels ≡ symbols_of (lines_at lines) → draft ≡ drafted labels (take i (lines_at lines))
-      → rule ≡ line_rule labels draft (line_in (get_or lines i b).now) → rule ≡ 15 → KeepsRules (lines_at lines) i → KeepsRules (lines_at lines) (i + 1)
+      → labels ≡ symbols_of ls → draft ≡ drafted labels (take i ls) → rule ≡ line_rule labels draft x → rule ≡ 15 → KeepsRules ls i → KeepsRules ls (i + 1)
   kept_more labels draft rule same so_far is none before = λ k e h.
       elim (cases_lt k i) [
         | inl less ↦ before k e less
         | inr same_place ↦
-            let here : k ≡ i = omega arith in
-            ap (λ j. rule_in (lines_at lines) j (get_or (lines_at lines) j e)) here ∙ rule_here labels draft rule e same so_far is ∙ none
+            let at : k ≡ i = omega arith in
+            ap (λ j. rule_in ls j (get_or ls j e)) at ∙ rule_here labels draft rule e same so_far is ∙ none
       ]
+
+  pub least_here : (labels : List SymbolData) (draft : DraftData) (rule : ℕ)
+      → labels ≡ symbols_of ls → draft ≡ drafted labels (take i ls) → rule ≡ line_rule labels draft x → rule ≢ 15 → KeepsRules ls i → IsLeast ls (i + 1) rule
+  least_here labels draft rule same so_far is some before = record {
+    place = i;
+    within = within;
+    is = refl;
+    broken = λ d. rule_here labels draft rule d same so_far is;
+    some = some;
+    before = before;
+  }
 
 -- one thing more of a line
 module _ (labels : List SymbolData) (items : List Item) (i : ℕ) (d : Item) (within : i < length items) where
@@ -112,43 +128,42 @@ rules_end labels items i draft rule all past small e =
     whole ∙ sym (ap (λ is. min rule (items_rule labels draft is)) (drop_all i (map item_of items) (rw (length-map items item_of) past))) ∙ e
 
 -- ---- the end of a source
-pub drafted_end : (lines : List (Bor (List ℕ))) (i : ℕ) (labels : List SymbolData) (draft : DraftData) → length lines ≤ i
-    → draft ≡ drafted labels (take i (lines_at lines)) → draft ≡ drafted labels (lines_at lines)
-drafted_end lines i labels draft past e = e ∙ ap (drafted labels) (take_all i (lines_at lines) (rw (length-lines_at lines) past))
+pub drafted_end : (ls : List LineData) (i : ℕ) (labels : List SymbolData) (draft : DraftData) → length ls ≤ i → draft ≡ drafted labels (take i ls) → draft ≡ drafted labels ls
+drafted_end ls i labels draft past e = e ∙ ap (drafted labels) (take_all i ls past)
 
-pub symbols_end : (lines : List (Bor (List ℕ))) (i : ℕ) (labels : List SymbolData) (draft : DraftData) → length lines ≤ i
-    → draft ≡ drafted labels (take i (lines_at lines)) → labels ≡ [] → draft.symbols ≡ symbols_of (lines_at lines)
-symbols_end lines i labels draft past e none = ap (λ (d : DraftData). d.symbols) (drafted_end lines i labels draft past e) ∙ ap (λ ls. (drafted ls (lines_at lines)).symbols) none
+-- ---- lines that are read
+pub first_things : (items first : List Item) (n : ℕ) → first ≡ take n items → map item_of first ≡ take n (map item_of items)
+first_things items front n e = ap (map item_of) e ∙ sym (take-map item_of n items)
 
-pub kept_end : (lines : List (Bor (List ℕ))) (i : ℕ) → length lines ≤ i → KeepsRules (lines_at lines) i → KeepsRules (lines_at lines) (length lines)
-kept_end lines i past h = λ k d less. h k d (omega arith)
+module _ (lines : List Line) (i : ℕ) (d : Line) (items : List Item) (within : i < length lines) where
+  -- the next line is that of the next things
+  pub read_here : (ls : List LineData) → drop i ls ≡ lines_read (drop i lines) (map item_of items)
+      → drop i ls ≡ line_data (get_or lines i d).rule (take (get_or lines i d).count (map item_of items)) ∷ lines_read (drop (i + 1) lines) (drop (get_or lines i d).count (map item_of items))
+  read_here ls e = e ∙ ap (λ (ks : List Line). lines_read ks (map item_of items)) (drop_more lines i d within)
 
-pub least_here : (lines : List (Bor (List ℕ))) (i : ℕ) (b : Bor (List ℕ)) (within : i < length lines) (labels : List SymbolData) (draft : DraftData) (rule : ℕ)
-    → labels ≡ symbols_of (lines_at lines) → draft ≡ drafted labels (take i (lines_at lines)) → rule ≡ line_rule labels draft (line_in (get_or lines i b).now) → rule ≢ 15
-    → KeepsRules (lines_at lines) i → IsLeast (lines_at lines) (i + 1) rule
-least_here lines i b within labels draft rule same so_far is some before = record {
-  place = i;
-  within = rw (length-lines_at lines) within;
-  is = refl;
-  broken = λ d. rule_here lines i b within labels draft rule d same so_far is;
-  some = some;
-  before = before;
-}
+  pub read_behind : (later : List Item) → later ≡ drop (get_or lines i d).count items → lines_read (drop (i + 1) lines) (drop (get_or lines i d).count (map item_of items)) ≡ lines_read (drop (i + 1) lines) (map item_of later)
+  read_behind later e =
+      ap (lines_read (drop (i + 1) lines)) (drop-map item_of (get_or lines i d).count items ∙ ap (map item_of) (sym e))
 
 -- ---- a source and its lines
-module _ (source : List ℕ) (lines : List (Bor (List ℕ))) (parted : map (λ (l : Bor (List ℕ)). l.now) lines ≡ slice_split (λ c. c == 10) source) where
-  lines_are : lines_at lines ≡ lines_in source
-  lines_are = ap (map line_in) parted
+module _ (source : List ℕ) (read : Source) (same : lines_of read ≡ lines_in source) where
+  pub kept_source : KeepsRules (lines_of read) (length (lines_of read)) → KeepsRules (lines_in source) (length (lines_in source))
+  kept_source h = subst (λ (ls : List LineData). KeepsRules ls (length ls)) same h
 
-  pub kept_source : KeepsRules (lines_at lines) (length lines) → KeepsRules (lines_in source) (length (lines_in source))
-  kept_source h =
-      let long : length lines ≡ length (lines_in source) = sym (length-lines_at lines) ∙ ap length lines_are in
-      subst (λ (n : ℕ). KeepsRules (lines_in source) n) long (subst (λ (ls : List LineData). KeepsRules ls (length lines)) lines_are h)
-
-  pub object_source : (o : ObjectData) (d : DraftData) (labels : List SymbolData) → o ≡ object_of d → d ≡ drafted labels (lines_at lines) → labels ≡ symbols_of (lines_at lines)
+  pub object_source : (o : ObjectData) (d : DraftData) (labels : List SymbolData) → o ≡ object_of d → d ≡ drafted labels (lines_of read) → labels ≡ symbols_of (lines_of read)
       → o ≡ object_of (drafted (symbols_of (lines_in source)) (lines_in source))
   object_source o d labels e f g =
-      e ∙ ap object_of (f ∙ ap (λ ls. drafted ls (lines_at lines)) g) ∙ ap (λ ls. object_of (drafted (symbols_of ls) ls)) lines_are
+      e ∙ ap object_of (f ∙ ap (λ ls. drafted ls (lines_of read)) g) ∙ ap (λ ls. object_of (drafted (symbols_of ls) ls)) same
 
-  pub bad_source : (e : AsmErr) → IfBad (IsLeast (lines_at lines)) e → IfBad (IsLeast (lines_in source)) e
-  bad_source e h = subst (λ (ls : List LineData). IfBad (IsLeast ls) e) lines_are h
+  pub bad_source : (e : AsmErr) → IfBad (IsLeast (lines_of read)) e → IfBad (IsLeast (lines_in source)) e
+  bad_source e h = subst (λ (ls : List LineData). IfBad (IsLeast ls) e) same h
+
+-- the symbols of all that the lines add are those of the lines
+pub labels_source : (source : List ℕ) (read : Source) (items : List Item) (labels : List SymbolData) → labels ≡ (fold (stepped []) start (map item_of items)).symbols
+    → items ≡ read.items.items → map item_of read.items.items ≡ items_in (lines_in source) → lines_of read ≡ lines_in source → labels ≡ symbols_of (lines_of read)
+labels_source source read items labels e f g same =
+    e
+    ∙ ap (λ (is : List Item). (fold (stepped []) start (map item_of is)).symbols) f
+    ∙ ap (λ (is : List ItemData). (fold (stepped []) start is).symbols) g
+    ∙ sym (ap (λ (d : DraftData). d.symbols) (lines-items [] (lines_in source) start))
+    ∙ ap symbols_of (sym same)

@@ -1,5 +1,5 @@
 -- What the lines of a source add: instructions whose fields fit their row, and symbols that their bytes have room for.
-use Rattle.std.proofs.Common.{◌≡◌, ◌+◌, ◌*◌, ◌^◌, ◌&&◌, ◌==◌, min, ℕ, Bool, true, false, cond, List, [], ◌∷◌, ◌++◌, length, take, drop, map, Option, Some, None, Result, Ok, Err, refl, sym, ap, ◌∙◌}
+use Rattle.std.proofs.Common.{◌≡◌, ◌+◌, ◌*◌, ◌^◌, ◌&&◌, ◌||◌, ◌==◌, min, ℕ, Bool, true, false, cond, List, [], ◌∷◌, ◌++◌, length, take, drop, map, Option, Some, None, Result, Ok, Err, refl, sym, ap, ◌∙◌}
 use Rattle.std.specs.Prelude.{slice_get, nat_le, not, codes}
 use Rattle.std.specs.List.{slice_split}
 use Rattle.std.specs.Option.{option_map_or}
@@ -18,7 +18,7 @@ use Rattle.tc_stmt.specs.Filling.{ReferenceData, FoundData, shape_index, is_symb
 use Rattle.tc_stmt.specs.Judging.{statement}
 use Rattle.tc_asm.specs.Items.{ItemData, label, section, global, code, bytes, zeros}
 use Rattle.tc_asm.specs.Values.{fits_width, value_rule, value_item, space_item}
-use Rattle.tc_asm.specs.Lines.{LineData, line_data, word_of, named_line, space_line, values_line, code_line, stated_line, line_from, pieces_line, piece_in, cut_line, line_in, lines_in}
+use Rattle.tc_asm.specs.Lines.{LineData, line_data, word_of, named_line, space_line, values_line, code_line, stated_line, line_from, pieces_line, piece_in, label_of, label_before, cut_line, line_in, lines_in}
 use Rattle.tc_asm.specs.Kept.{Each}
 use Rattle.tc_asm.specs.Statements.{items_in}
 use Rattle.tc_stmt.proofs.Cases.{by_test}
@@ -55,7 +55,7 @@ record Are (l : LineData) : Type 0 where
 symbol_value : (width : ℕ) (o : OperandData) → (value_rule width o == 15) ≡ true → (shape_index o.value.shape == 1) ≡ false → (width ≡ 4) × (is_name o.value.name ≡ true)
 unfolding value_rule symbol_rule
 symbol_value width o e other =
-    by o.is_memory (shape_index o.value.shape == 1) (shape_index o.value.shape == 7) (is_symbol (shape_index o.value.shape)) (is_half (shape_index o.value.shape)) (width == 4) (nat_le (2 ^ 32) o.value.size) (is_name o.value.name)
+    by o.is_memory (shape_index o.value.shape == 1) (shape_index o.value.shape == 7) (is_symbol (shape_index o.value.shape)) (is_half (shape_index o.value.shape)) (width == 4) (o.value.wide || nat_le (2 ^ 32) o.value.size) (is_name o.value.name)
     (fits_width (8 * width) o.value.minus o.value.size) refl refl other e
   where
     by : (memory number huge symbol half four big name fits : Bool) → (width == 4) ≡ four → is_name o.value.name ≡ name → number ≡ false
@@ -150,9 +150,17 @@ pieces_are : (ps : List PieceData) → Are (pieces_line ps)
 unfolding pieces_line
 pieces_are ps = by_test Are (is_kind ps 0 kind.Word && is_kind ps 1 kind.Colon) _ _ (λ e. let h = from_are ps 2 in record { items = (tt, h.items) }) (λ e. from_are ps 0)
 
+label_are : (ps : List PieceData) → Are (line_data 1 (label_of ps))
+unfolding label_of
+label_are ps = by_test (λ (is : List ItemData). Are (line_data 1 is)) (is_kind ps 0 kind.Word && is_kind ps 1 kind.Colon) _ _ (λ e. record { items = (tt, tt) }) (λ e. record { items = tt })
+
+before_are : (text : List ℕ) (q : Result (List Token) ℕ) → Are (line_data 1 (label_before text q))
+before_are text (Ok ts) = label_are (map (piece_in text) ts)
+before_are text (Err at) = record { items = tt }
+
 cut_are : (line : List ℕ) (q : Result (List Token) ℕ) → Are (cut_line line q)
 cut_are line (Ok ts) = pieces_are (map (piece_in line) ts)
-cut_are line (Err at) = record { items = tt }
+cut_are line (Err at) = before_are (take at line) (tokens_of (take at line))
 
 -- ---- a source
 each_behind : (xs ys : List ItemData) → Each IsItem xs → Each IsItem ys → Each IsItem (xs ++ ys)

@@ -1,6 +1,6 @@
 -- Symbols in a map, as a list.
-use Rattle.std.proofs.Common.{◌≡◌, ℕ, Bool, true, false, cond, List, [], ◌∷◌, map, Option, Some, refl, ap, sym, ◌∙◌}
-use Rattle.std.specs.Prelude.{find, option_map, slice_get, position}
+use Rattle.std.proofs.Common.{◌≡◌, ℕ, Bool, true, false, cond, List, [], ◌∷◌, map, Option, Some, None, refl, ap, sym, ◌∙◌}
+use Rattle.std.specs.Prelude.{find, option_map, slice_get, position, is_some, unwrap_or}
 use Rattle.std.specs.Borrow.{Bor}
 use Rattle.std.specs.Str.{bytes_eq}
 use Rattle.std.specs.Map.{lookup, keys_of}
@@ -8,7 +8,7 @@ use Rattle.std.proofs.lemmas.Option.{slice_get-map}
 use Rattle.indexmap.specs.IndexMap.{insert_entry}
 use Rattle.tc_stmt.proofs.Mapped.{position-map}
 use Rattle.tc_asm.specs.declared.entries.Entry.{Entry}
-use Rattle.tc_asm.specs.Symbols.{SymbolData, symbol, entry_in, put_entry}
+use Rattle.tc_asm.specs.Symbols.{SymbolData, symbol, unseen, entry_in, entry_of, put_entry, seen}
 
 abbrev pub Key : Type 0
 Key = Bor (List ℕ)
@@ -44,3 +44,27 @@ position-known es k =
 
 pub at-known : (es : List (Key × Entry)) (i : ℕ) (e : Key × Entry) → slice_get es i ≡ Some e → slice_get (map known_of es) i ≡ Some (known_of e)
 at-known es i e h = slice_get-map known_of es i ∙ ap (option_map known_of) h
+
+-- ---- a name that is seen
+put_same : (ss : List SymbolData) (name : List ℕ) (e : Entry) → entry_in ss name ≡ Some e → put_entry ss name e ≡ ss
+put_same [] name e h = cc
+put_same (s ∷ ss) name e h = by (bytes_eq name s.name) (λ k. put_same ss name e k) h
+  where
+    by : (b : Bool) → (entry_in ss name ≡ Some e → put_entry ss name e ≡ ss) → option_map (λ (x : SymbolData). x.entry) (cond b (Some s) (find (λ (x : SymbolData). bytes_eq name x.name) ss)) ≡ Some e
+        → cond b (symbol s.name e ∷ ss) (s ∷ put_entry ss name e) ≡ s ∷ ss
+    by true rec h = let same : e ≡ s.entry = cc in ap (λ (x : Entry). symbol s.name x ∷ ss) same
+    by false rec h = ap (λ (xs : List SymbolData). s ∷ xs) (rec h)
+
+-- stays as it is
+pub seen_known : (ss : List SymbolData) (name : List ℕ) (o : Option Entry) → o ≡ entry_in ss name → is_some o ≡ true → ss ≡ seen ss name
+unfolding seen
+seen_known ss name None is h = cc
+seen_known ss name (Some e) is h =
+    let known : entry_of ss name ≡ e = ap (λ (o : Option Entry). unwrap_or o unseen) (sym is) in
+    sym (ap (put_entry ss name) known ∙ put_same ss name e (sym is))
+
+-- and a new one is put with nothing known
+pub seen_new : (ss next : List SymbolData) (name : List ℕ) (o : Option Entry) → o ≡ entry_in ss name → is_some o ≡ false → next ≡ put_entry ss name unseen → next ≡ seen ss name
+unfolding seen
+seen_new ss next name None is h e = e ∙ ap (put_entry ss name) (sym (ap (λ (o : Option Entry). unwrap_or o unseen) (sym is)))
+seen_new ss next name (Some x) is h e = cc

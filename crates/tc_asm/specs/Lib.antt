@@ -11,6 +11,7 @@ pub mod Objects
 pub mod Kept
 pub mod Errors
 pub mod Statements
+pub mod Readings
 pub mod Contents
 pub mod Relocations
 pub mod Spelled

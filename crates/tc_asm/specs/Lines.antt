@@ -1,6 +1,5 @@
 -- What a line is by itself.
-use Rattle.std.specs.Prelude.{ℕ, ◌+◌, ◌==◌, ◌&&◌, nat_le, min, Bool, false, if◌then◌else◌, List, [], ◌∷◌, codes, drop, length, map, fold, find, slice_range, Option, Some, None, Result, Ok, Err}
-use Rattle.std.specs.Borrow.{Bor}
+use Rattle.std.specs.Prelude.{◌≡◌, ℕ, ◌+◌, ◌++◌, IfOk, ◌==◌, ◌&&◌, nat_le, min, Bool, false, if◌then◌else◌, List, [], ◌∷◌, codes, take, drop, length, map, fold, find, slice_range, Option, Some, None, Result, Ok, Err}
 use Rattle.std.specs.Option.{option_map_or}
 use Rattle.std.specs.List.{slice_split}
 use Rattle.std.specs.Str.{bytes_eq}
@@ -13,7 +12,7 @@ use Rattle.tc_stmt.specs.Pieces.{PieceData, is_kind, text_at}
 use Rattle.tc_stmt.specs.Operands.{OperandData, operands}
 use Rattle.tc_stmt.specs.Filling.{FoundData, shape_index}
 use Rattle.tc_stmt.specs.Judging.{statement}
-use Rattle.tc_asm.specs.declared.lines.Line.{Line}
+use Rattle.tc_asm.specs.declared.items.Item.{Item}
 use Rattle.tc_asm.specs.Items.{ItemData, item_of, label, section, global, code, zeros}
 use Rattle.tc_asm.specs.Values.{value_rule, value_item, space_rule, space_item}
 
@@ -26,9 +25,13 @@ pub record LineData : Type 0 where
 abbrev pub line_data : ℕ → List ItemData → LineData
 line_data rule items = record { rule = rule; items = items }
 
--- a line of the code without where its bytes lie
-abbrev pub line_of : Line → LineData
-line_of l = line_data l.rule (map item_of l.items.items)
+-- a line whose things stand behind these
+abbrev pub behind : List ItemData → LineData → LineData
+behind is l = line_data l.rule (is ++ l.items)
+
+-- a line was read: its rule is told, and its things stand behind those before
+abbrev pub Adds : {E : Type 0} → LineData → Result ℕ E → List Item → List Item → Type 0
+Adds l result old new = IfOk result (λ rule. line_data rule (map item_of new) ≡ behind (map item_of old) l)
 
 -- ---- statements
 -- the one operand of `.section` and `.global`: a Word
@@ -86,12 +89,17 @@ line_from ps at =
     if length ps == at then line_data 15 []
     else (if is_kind ps at kind.Word then stated_line (text_at ps at) (operands (drop (at + 1) ps)) else line_data 1 [])
 
--- a label, where the line begins with a Word and a `:`, and what follows it
+-- a label in front: a Word and a `:`
+abbrev pub has_label : List PieceData → Bool
+has_label ps = is_kind ps 0 kind.Word && is_kind ps 1 kind.Colon
+
+-- a line with this label in front
+abbrev pub line_with_label : List ℕ → LineData → LineData
+line_with_label name l = line_data l.rule (label name ∷ l.items)
+
+-- a label, where the line begins with one, and what follows it
 unfoldable pub pieces_line : List PieceData → LineData
-pieces_line ps =
-    if is_kind ps 0 kind.Word && is_kind ps 1 kind.Colon
-    then line_data (line_from ps 2).rule (label (text_at ps 0) ∷ (line_from ps 2).items)
-    else line_from ps 0
+pieces_line ps = if has_label ps then line_with_label (text_at ps 0) (line_from ps 2) else line_from ps 0
 
 -- the bytes from one place to another; tokens always lie within their line
 abbrev pub text_in : List ℕ → ℕ → ℕ → List ℕ
@@ -101,10 +109,19 @@ text_in line from to = if nat_le from to && nat_le to (length line) then slice_r
 abbrev pub piece_in : List ℕ → Token → PieceData
 piece_in line t = record { kind = t.kind; text = text_in line t.from t.to }
 
--- a line that is cut into these tokens; rule 1 where it can't be cut
+-- the label alone that tokens begin with
+unfoldable pub label_of : List PieceData → List ItemData
+label_of ps = if has_label ps then label (text_at ps 0) ∷ [] else []
+
+-- the label that a text begins with, which is cut into these tokens
+abbrev pub label_before : List ℕ → Result (List Token) ℕ → List ItemData
+label_before text (Ok ts) = label_of (map (piece_in text) ts)
+label_before text (Err at) = []
+
+-- a line that is cut into these tokens; rule 1 where it can't be cut, and the label before that place defines its name even so
 abbrev pub cut_line : List ℕ → Result (List Token) ℕ → LineData
 cut_line line (Ok ts) = pieces_line (map (piece_in line) ts)
-cut_line line (Err at) = line_data 1 []
+cut_line line (Err at) = line_data 1 (label_before (take at line) (tokens_of (take at line)))
 
 -- a line of a source: a byte outside the grammar or a 65th token breaks rule 1
 abbrev pub line_in : List ℕ → LineData
@@ -113,7 +130,3 @@ line_in line = cut_line line (tokens_of line)
 -- the lines of a source, parted by line feeds
 abbrev pub lines_in : List ℕ → List LineData
 lines_in source = map line_in (slice_split (λ c. c == 10) source)
-
--- lines that are parted already
-abbrev pub lines_at : List (Bor (List ℕ)) → List LineData
-lines_at lines = map line_in (map (λ (l : Bor (List ℕ)). l.now) lines)

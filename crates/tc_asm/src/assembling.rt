@@ -1,58 +1,47 @@
-// A source, line after line, twice.
-ghost use Rattle.std.specs.Prelude.{◌≡◌, ◌≤◌, ◌<◌, ◌^◌, map, length, IfOk, OnOk, IfErr, IfSome, fold, position, take, drop, ◌==◌, ◌+◌};
-ghost use Rattle.std.specs.List.{slice_split};
+// A source, put together.
+ghost use Rattle.std.specs.Prelude.{◌≡◌, ◌≤◌, ◌<◌, ◌^◌, map, length, IfOk, OnOk, IfErr, fold, take, drop, []};
 ghost use Rattle.tc_asm.specs.Items.{item_of};
-ghost use Rattle.tc_asm.specs.Lines.{line_in, lines_in, lines_at};
-ghost use Rattle.tc_asm.specs.Drafts.{stepped};
+ghost use Rattle.tc_asm.specs.Lines.{line_data, lines_in};
+ghost use Rattle.tc_asm.specs.Drafts.{start, stepped};
 ghost use Rattle.tc_asm.specs.Sources.{items_rule, with_line, line_rule, drafted, symbols_of as symbols_in, KeepsRules, IsLeast};
 ghost use Rattle.tc_asm.specs.Objects.{object_of};
 ghost use Rattle.tc_asm.specs.Errors.{IfBad};
 ghost use Rattle.tc_asm.specs.Kept.{IsDraft};
+ghost use Rattle.tc_asm.specs.Readings.{lines_of};
 
 use crate::AsmErr;
 use crate::draft::Draft;
 use crate::emit::finish;
 use crate::items::Item;
-use crate::parse::read_line;
+use crate::lines::{Line, Source};
+use crate::reading::read_source;
 use crate::symbols::Symbols;
 use std::alloc::{AllocError, Global};
 use tc_object::Object;
 
-fn find_feed(rest: &[u8]) -> Option<usize>
-    ensures value { result ≡ position (λ c. c == 10) rest.now }
-    ensures within { IfSome result (λ i. i < length rest.now) }
+// Puts things one behind the other.
+fn put_items<'a>(
+    alloc: Global,
+    draft: &mut Draft<'a>,
+    labels: &Symbols<'a>,
+    items: &[Item<'a>],
+) -> Result<(), AllocError>
+    ensures { OnOk result (draft.new ≡ fold (stepped labels.now) draft.old (map item_of items.now)) }
 {
-    rest.iter().position(|c| *c == b'\n')
-}
-
-// The bytes before this place.
-fn front(rest: &[u8], i: usize) -> &[u8]
-    requires { i ≤ length rest.now }
-    ensures { result.now ≡ take i rest.now }
-{
-    &rest[..i]
-}
-
-// The bytes behind the one at this place.
-fn back(rest: &[u8], i: usize) -> &[u8]
-    requires { i < length rest.now }
-    ensures { result.now ≡ drop (i + 1) rest.now }
-{
-    &rest[i + 1..]
-}
-
-// The lines, parted by line feeds.
-fn lines<'a>(alloc: Global, source: &'a [u8]) -> Result<Vec<&'a [u8]>, AllocError>
-    ensures { IfOk result (λ v. map (λ l. l.now) v.items ≡ slice_split (λ c. c == 10) source.now) }
-{
-    let mut out = Vec::new(alloc);
-    let mut rest = source;
-    'lines: while let Some(i) = find_feed(rest) {
-        out.push(front(rest, i))?;
-        rest = back(rest, i);
+    for item in items {
+        draft.step(alloc, labels, *item)?;
     }
-    out.push(rest)?;
-    Ok(out)
+    Ok(())
+}
+
+// The symbols of all that lines add, which don't depend on where jumps go.
+fn symbols_of<'a>(alloc: Global, items: &[Item<'a>]) -> Result<Symbols<'a>, AllocError>
+    ensures { IfOk result (λ s. s ≡ (fold (stepped []) start (map item_of items.now)).symbols) }
+{
+    let none = Symbols::new(alloc);
+    let mut draft = Draft::new(alloc);
+    put_items(alloc, &mut draft, &none, items)?;
+    Ok(draft.symbols)
 }
 
 // Puts things one behind the other, and tells the least rule that they break.
@@ -67,70 +56,67 @@ fn add_items<'a>(
 {
     let mut rule = 15;
     for item in items {
-        rule = draft.item_rule(labels, *item).min(rule);
-        draft.step(alloc, labels, *item)?;
+        rule = draft.put(alloc, labels, *item)?.min(rule);
     }
     Ok(rule)
 }
 
-// Puts a line more, and tells the least rule that it breaks.
+// The first so many things.
+fn first_items<'p, 'a>(items: &'p [Item<'a>], count: u8) -> &'p [Item<'a>]
+    ensures { result.now ≡ take count items.now }
+{
+    &items[..usize::from(count).min(items.len())]
+}
+
+// The things behind the first so many.
+fn later_items<'p, 'a>(items: &'p [Item<'a>], count: u8) -> &'p [Item<'a>]
+    ensures { result.now ≡ drop count items.now }
+{
+    &items[usize::from(count).min(items.len())..]
+}
+
+// Puts a line more, whose things come first, and tells the least rule that it breaks.
 #[tactic(auto, unfolding(crate::specs::Sources::with_line, crate::specs::Sources::line_rule))]
 fn add_line<'a>(
     alloc: Global,
     draft: &mut Draft<'a>,
     labels: &Symbols<'a>,
-    line: &'a [u8],
+    line: Line,
+    items: &[Item<'a>],
 ) -> Result<u8, AllocError>
-    ensures draft { OnOk result (draft.new ≡ with_line labels.now draft.old (line_in line.now)) }
-    ensures rule { IfOk result (λ rule. rule ≡ line_rule labels.now draft.old (line_in line.now)) }
+    ensures draft { OnOk result (draft.new ≡ with_line labels.now draft.old (line_data line.rule (take line.count (map item_of items.now)))) }
+    ensures rule { IfOk result (λ rule. rule ≡ line_rule labels.now draft.old (line_data line.rule (take line.count (map item_of items.now)))) }
 {
-    let read = read_line(line);
-    let rule = add_items(alloc, draft, labels, &read.items)?;
-    Ok(read.rule.min(rule))
-}
-
-// All lines, where the source has these symbols.
-fn pass<'a>(
-    alloc: Global,
-    labels: &Symbols<'a>,
-    lines: &[&'a [u8]],
-) -> Result<Draft<'a>, AllocError>
-    ensures { IfOk result (λ d. d ≡ drafted labels.now (lines_at lines.now)) }
-{
-    let mut draft = Draft::new(alloc);
-    for i in 0..lines.len() {
-        add_line(alloc, &mut draft, labels, lines[i])?;
-    }
-    Ok(draft)
-}
-
-// The symbols of all lines.
-fn symbols_of<'a>(alloc: Global, lines: &[&'a [u8]]) -> Result<Symbols<'a>, AllocError>
-    ensures { IfOk result (λ s. s ≡ symbols_in (lines_at lines.now)) }
-{
-    let none = Symbols::new(alloc);
-    let draft = pass(alloc, &none, lines)?;
-    Ok(draft.symbols)
+    let rule = add_items(alloc, draft, labels, first_items(items, line.count))?;
+    Ok(line.rule.min(rule))
 }
 
 // All lines, up to one that breaks a rule.
-fn checked<'a>(alloc: Global, labels: &Symbols<'a>, lines: &[&'a [u8]]) -> Result<Draft<'a>, AsmErr>
-    requires few { length lines.now < 2 ^ 32 }
-    requires labels { labels.now ≡ symbols_in (lines_at lines.now) }
-    ensures ok { IfOk result (λ d. d ≡ drafted labels.now (lines_at lines.now)) }
-    ensures kept { OnOk result (KeepsRules (lines_at lines.now) (length lines.now)) }
+fn checked<'a>(
+    alloc: Global,
+    labels: &Symbols<'a>,
+    source: &Source<'a>,
+) -> Result<Draft<'a>, AsmErr>
+    requires few { length source.now.lines.items < 2 ^ 32 }
+    requires labels { labels.now ≡ symbols_in (lines_of source.now) }
+    ensures ok { IfOk result (λ d. d ≡ drafted labels.now (lines_of source.now)) }
+    ensures kept { OnOk result (KeepsRules (lines_of source.now) (length (lines_of source.now))) }
     ensures whole { IfOk result (λ d. IsDraft d) }
-    ensures bad { IfErr result (IfBad (IsLeast (lines_at lines.now))) }
+    ensures bad { IfErr result (IfBad (IsLeast (lines_of source.now))) }
 {
     let mut draft = Draft::new(alloc);
+    let lines = source.lines.as_slice();
+    let mut rest = source.items.as_slice();
     for i in 0..lines.len() {
-        let rule = add_line(alloc, &mut draft, labels, lines[i])?;
+        let line = lines[i];
+        let rule = add_line(alloc, &mut draft, labels, line, rest)?;
         if rule != 15 {
             return Err(AsmErr::Bad {
                 line: (i + 1) as u32,
                 rule,
             });
         }
+        rest = later_items(rest, line.count);
     }
     Ok(draft)
 }
@@ -142,8 +128,8 @@ pub fn assemble(alloc: Global, source: &[u8]) -> Result<Object, AsmErr>
     ensures kept { OnOk result (KeepsRules (lines_in source.now) (length (lines_in source.now))) }
     ensures bad { IfErr result (IfBad (IsLeast (lines_in source.now))) }
 {
-    let lines = lines(alloc, source)?;
-    let labels = symbols_of(alloc, &lines)?;
-    let draft = checked(alloc, &labels, &lines)?;
+    let read = read_source(alloc, source)?;
+    let labels = symbols_of(alloc, &read.items)?;
+    let draft = checked(alloc, &labels, &read)?;
     Ok(finish(alloc, draft)?)
 }

@@ -162,7 +162,11 @@ impl<'a> Draft<'a> {
         }
     }
 
-    fn add_content(&mut self, bytes: &[u8], r: Option<Reference<'a>>) -> Result<(), AllocError>
+    pub(crate) fn add_content(
+        &mut self,
+        bytes: &[u8],
+        r: Option<Reference<'a>>,
+    ) -> Result<(), AllocError>
         ensures { OnOk result (self.new ≡ with_content self.old bytes.now (option_map reference_of r.entry)) }
     {
         self.add_reference(bytes.len(), r)?;

@@ -9,8 +9,8 @@ use tc_encode::{Code, encode};
 use tc_isa::{Fields, Row, inst, rows};
 use tc_stmt::{Found, Reference, displaced};
 
-// The bytes of the row with this number and these fields; none where they are no listed instruction.
-fn code_of(row: u8, f: &Fields) -> Code
+/// The bytes of the row with this number and these fields; none where they are no listed instruction.
+pub(crate) fn code_of(row: u8, f: &Fields) -> Code
     ensures { take result.len result.bytes ≡ bytes_of row f.now }
 {
     match inst(row, f.c, f.s1, f.s2, f.n, f.k) {

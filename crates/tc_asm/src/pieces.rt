@@ -28,14 +28,13 @@ fn piece_in<'a>(line: &'a [u8], token: Token) -> Piece<'a>
     }
 }
 
-/// The tokens with their texts.
-pub(crate) fn pieces_in<'a>(line: &'a [u8], tokens: &[Token]) -> ArrayVec<Piece<'a>, 64>
+/// Puts the tokens with their texts in the place of what `out` holds.
+pub(crate) fn pieces_in<'a>(line: &'a [u8], tokens: &[Token], out: &mut ArrayVec<Piece<'a>, 64>)
     requires { length tokens.now ≤ 64 }
-    ensures { map piece_of result.items ≡ map (piece_in line.now) tokens.now }
+    ensures { map piece_of out.new.items ≡ map (piece_in line.now) tokens.now }
 {
-    let mut out = ArrayVec::new();
+    out.clear();
     for token in tokens {
         out.push(piece_in(line, *token));
     }
-    out
 }

@@ -3,10 +3,12 @@ ghost use Rattle.std.specs.Prelude.{◌≡◌};
 ghost use Rattle.tc_isa.specs.Relocations.{is_reloc as needs_reloc};
 
 use crate::draft::Draft;
-use crate::encode::first_bytes;
+use crate::encode::{code_of, first_bytes};
 use crate::items::Item;
 use crate::sections::number_of_part;
 use crate::symbols::Symbols;
+use std::alloc::{AllocError, Global};
+use tc_isa::Fields;
 use tc_stmt::{Reference, is_name};
 
 /// Whether a symbol of this kind has a relocation.
@@ -17,9 +19,10 @@ pub(crate) fn is_reloc(kind: u8) -> bool
 }
 
 impl<'a> Draft<'a> {
-    ghost use Rattle.std.specs.Prelude.{option_map, length};
+    ghost use Rattle.std.specs.Prelude.{option_map, length, OnOk, IfOk};
     ghost use Rattle.tc_stmt.specs.Filling.{reference_of};
-    ghost use Rattle.tc_asm.specs.Items.{item_of};
+    ghost use Rattle.tc_asm.specs.Items.{item_of, code};
+    ghost use Rattle.tc_asm.specs.Drafts.{stepped};
     ghost use Rattle.tc_asm.specs.Rules.{label_rule, section_rule, name_rule, section_room, symbol_room, reloc_room, bytes_room, defined_rule, reference_rule, content_rule, item_rule};
 
     fn label_rule(&self, name: &[u8]) -> u8
@@ -52,7 +55,7 @@ impl<'a> Draft<'a> {
     fn symbol_room(&self, name: &[u8]) -> u8
         ensures { result ≡ symbol_room self.now name.now }
     {
-        if self.symbols.get(name).is_some() || self.symbols.len() < 65535 {
+        if self.symbols.len() < 65535 || self.symbols.get(name).is_some() {
             15
         } else {
             13
@@ -126,6 +129,46 @@ impl<'a> Draft<'a> {
             }
             Item::Data(len, bytes, r) => self.content_rule(first_bytes(&bytes, len).len(), r),
             Item::Zeros(n) => self.section_rule().min(self.bytes_room(n as usize)),
+        }
+    }
+
+    // Puts an instruction, whose bytes are worked out once, and tells the least rule that it breaks.
+    #[tactic(auto, unfolding(crate::specs::Rules::item_rule, crate::specs::Drafts::stepped, crate::specs::Drafts::code_bytes))]
+    fn put_code(
+        &mut self,
+        labels: &Symbols<'a>,
+        row: u8,
+        fields: Fields,
+        r: Option<Reference<'a>>,
+    ) -> Result<u8, AllocError>
+        ensures draft { OnOk result (self.new ≡ stepped labels.now self.old (code row fields (option_map reference_of r.entry))) }
+        ensures rule { IfOk result (λ rule. rule ≡ item_rule labels.now self.old (code row fields (option_map reference_of r.entry))) }
+    {
+        let found = self.resolved(labels, row, fields, r);
+        let code = code_of(row, &found.fields);
+        let bytes = first_bytes(&code.bytes, code.len);
+        let rule = found.rule.min(self.content_rule(bytes.len(), r));
+        self.add_content(bytes, r)?;
+        Ok(rule)
+    }
+
+    /// Puts one thing more, and tells the least rule that it breaks, where the whole source has these symbols; 15 is none.
+    pub(crate) fn put(
+        &mut self,
+        alloc: Global,
+        labels: &Symbols<'a>,
+        item: Item<'a>,
+    ) -> Result<u8, AllocError>
+        ensures draft { OnOk result (self.new ≡ stepped labels.now self.old (item_of item.entry)) }
+        ensures rule { IfOk result (λ rule. rule ≡ item_rule labels.now self.old (item_of item.entry)) }
+    {
+        match item {
+            Item::Code(row, fields, r) => self.put_code(labels, row, fields, r),
+            _ => {
+                let rule = self.item_rule(labels, item);
+                self.step(alloc, labels, item)?;
+                Ok(rule)
+            }
         }
     }
 }

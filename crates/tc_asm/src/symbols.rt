@@ -4,6 +4,12 @@ use indexmap::IndexMap;
 use std::alloc::{AllocError, Global};
 use std::marker::Model;
 
+// Of a name that wasn't seen.
+const UNSEEN: Entry = Entry {
+    place: None,
+    is_global: false,
+};
+
 /// What is known of each symbol, in the order of first sight.
 #[derive(Drop)]
 pub struct Symbols<'a> {
@@ -66,10 +72,7 @@ impl<'a> Symbols<'a> {
     fn entry_of(&self, name: &[u8]) -> Entry
         ensures { result ≡ entry_of self.now name.now }
     {
-        self.get(name).unwrap_or(Entry {
-            place: None,
-            is_global: false,
-        })
+        self.get(name).unwrap_or(UNSEEN)
     }
 
     /// Where a name's label stands.
@@ -87,12 +90,14 @@ impl<'a> Symbols<'a> {
     }
 
     /// Adds a name that isn't known.
-    #[tactic(auto, unfolding(crate::specs::Symbols::seen))]
+    #[tactic(auto, using(crate::proofs::SymbolLaws::seen_known, crate::proofs::SymbolLaws::seen_new))]
     pub fn see(&mut self, name: &'a [u8]) -> Result<(), AllocError>
         ensures { OnOk result (self.new ≡ seen self.old name.entry.now) }
     {
-        let entry = self.entry_of(name);
-        self.put(name, entry)
+        if self.get(name).is_some() {
+            return Ok(());
+        }
+        self.put(name, UNSEEN)
     }
 
     /// Notes where a name's label stands, if none stood anywhere before.

@@ -69,7 +69,7 @@ module _ (acc : FoundData) where
   pub falls-target : (r : RowData) (v : ValueData) → Falls acc (fill_target r v acc)
   unfolding fill_target
   falls-target r v =
-      or_else (shape_index v.shape == 3 && bytes_eq v.name (codes ".")) _ _ (fell (displaced r v.minus v.size acc) (falls-displaced r v.minus v.size))
+      or_else (shape_index v.shape == 3 && bytes_eq v.name (codes ".")) _ _ (fell (cond v.wide (broken 5 acc) (displaced r v.minus v.size acc)) (chosen v.wide (broken 5 acc) (displaced r v.minus v.size acc) (lower acc.rule 5) (falls-displaced r v.minus v.size)))
       (or_else (is_symbol (shape_index v.shape)) _ _ (fell (with_symbol (target_kind r) v acc) (falls-with_symbol (target_kind r) v))
       (or_else (is_half (shape_index v.shape)) _ _ (fell (misplaced v acc) (lower acc.rule (min 10 (symbol_rule v)))) none))
 

@@ -16,7 +16,7 @@ use Rattle.tc_stmt.specs.declared.wanting.Field.{Field}
 use Rattle.tc_stmt.specs.declared.wanting.Want.TheVariants.{Reg, Number, Target}
 use Rattle.tc_stmt.specs.Operands.{operand, value_at, number_at, named_at, sum_at, value, plain, plain_number, added}
 use Rattle.tc_stmt.specs.Pieces.{is_kind, text_at, kind_index}
-use Rattle.tc_stmt.specs.Numbers.{number_of, spells_odd}
+use Rattle.tc_stmt.specs.Numbers.{number_of}
 use Rattle.tc_stmt.specs.Filling.{FoundData, fill, fill_plain, fill_register, fill_value, fill_target, displaced, displacement_rule, is_odd, shape_index, put, put_register, put_number, broken, field_of, wrapped}
 use Rattle.tc_disasm.specs.Texts.{register_text, is_minus, size_of}
 use Rattle.tc_disasm.specs.Tokens.{field_number}
@@ -105,7 +105,7 @@ fill-target r v acc h even small =
     let minus = is_minus (is_two_way r.form) (bounds r.form).k v in
     let size = size_of (is_two_way r.form) (bounds r.form).k v in
     ap (λ o. fill r Target o acc) (operand-target minus (codes ".") (decimal (2 * size)))
-    ∙ ap (λ n. fill r Target (plain (added shape.Sum (codes ".") minus n (spells_odd (decimal (2 * size))))) acc) (number_of-decimal (2 * size) small)
+    ∙ ap (λ n. fill r Target (plain (added shape.Sum (codes ".") minus n)) acc) (number_of-decimal (2 * size) small)
     ∙ ap (λ f. Some f) (displaced-printed r v acc h even)
 
 -- ---- absolute addresses

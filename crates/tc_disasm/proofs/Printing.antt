@@ -16,7 +16,6 @@ use Rattle.tc_stmt.specs.declared.wanting.Field.TheVariants.{C, S1, S2, N, K}
 use Rattle.tc_stmt.specs.declared.wanting.Want.{Want}
 use Rattle.tc_stmt.specs.declared.wanting.Want.TheVariants.{Reg, A10, Number, Target, Absolute, Memory}
 use Rattle.tc_stmt.specs.Wants.{wants_of}
-use Rattle.tc_stmt.specs.Numbers.{spells_odd}
 use Rattle.tc_stmt.specs.Operands.{operand, plain, plain_number, added}
 use Rattle.tc_stmt.specs.Judging.{statement}
 use Rattle.tc_stmt.specs.Filling.{judged, nothing, apart, broken, field_of}
@@ -86,7 +85,7 @@ printed_one r f Target s h =
     let small = number_of-decimal (2 * size_of both_ways bound f.k) (size_of-small both_ways bound f.k h.k (small_of bound s)) in (
       is_minus both_ways bound f.k,
       2 * size_of both_ways bound f.k,
-      operand-target (is_minus both_ways bound f.k) (codes ".") (decimal (2 * size_of both_ways bound f.k)) ∙ ap (λ n. plain (added shape.Sum (codes ".") (is_minus both_ways bound f.k) n (spells_odd (decimal (2 * size_of both_ways bound f.k))))) small,
+      operand-target (is_minus both_ways bound f.k) (codes ".") (decimal (2 * size_of both_ways bound f.k)) ∙ ap (λ n. plain (added shape.Sum (codes ".") (is_minus both_ways bound f.k) n)) small,
     )
 printed_one r f Absolute s h = unfold absolute_text in (address_in r.form f, operand-one (absolute_text r.form f) ∙ ap (λ n. plain (plain_number false n)) (number_of-hex (address_in r.form f) (address-small r f)))
 printed_one r f (Memory plus true) s h =

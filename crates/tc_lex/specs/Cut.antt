@@ -75,3 +75,8 @@ tokens_of line = cut line 64 0 0
 abbrev pub Cuts : Result (ArrayVec Token) ℕ → Result (List Token) ℕ → Type 0
 Cuts (Ok ts) r = r ≡ Ok ts.items
 Cuts (Err e) r = r ≡ Err e
+
+-- the same, where the tokens are put into a list
+abbrev pub CutsInto : {U : Type 0} → Result U ℕ → List Token → Result (List Token) ℕ → Type 0
+CutsInto (Ok u) ts r = r ≡ Ok ts
+CutsInto (Err e) ts r = r ≡ Err e

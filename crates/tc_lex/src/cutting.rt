@@ -1,25 +1,22 @@
 // A line, cut.
 ghost use Rattle.std.specs.Prelude.{◌≡◌, ◌<◌, ◌≤◌, length};
-ghost use Rattle.tc_lex.specs.Cut.{tokens_of, Cuts};
+ghost use Rattle.tc_lex.specs.Cut.{tokens_of, Cuts, CutsInto};
 ghost use Rattle.tc_lex.specs.Lines.{Reads};
 
 use crate::fronts::front;
 use crate::kinds::{Front, Token};
 use arrayvec::ArrayVec;
 
-/// The tokens of a line, or the place of the first byte that begins no token or is the first of a 65th one. Blanks, tabs
-/// and a comment, from `#` on, are passed over.
-pub fn tokens(line: &[u8]) -> Result<ArrayVec<Token, 64>, usize>
-    ensures cut { Cuts result (tokens_of line.now) }
-
-    // The tokens are slices of the line in order, each the longest at its place, with blanks alone around them.
-    ensures read { Reads line.now result }
+/// Puts the tokens of a line in the place of what `out` holds; or tells the place of the first byte that begins no token or is
+/// the first of a 65th one. Blanks, tabs and a comment, from `#` on, are passed over.
+pub fn cut_into(line: &[u8], out: &mut ArrayVec<Token, 64>) -> Result<(), usize>
+    ensures { CutsInto result out.new.items (tokens_of line.now) }
 {
-    let mut out = ArrayVec::new();
+    out.clear();
     let mut at = 0;
     'cut: while at < line.len() {
         match front(line, at) {
-            Front::End => return Ok(out),
+            Front::End => return Ok(()),
             Front::Blank => at += 1,
             Front::Bad => return Err(at),
             Front::Token(kind, len) => {
@@ -35,5 +32,20 @@ pub fn tokens(line: &[u8]) -> Result<ArrayVec<Token, 64>, usize>
             }
         }
     }
-    Ok(out)
+    Ok(())
+}
+
+/// The tokens of a line, or the place of the first byte that begins no token or is the first of a 65th one. Blanks, tabs
+/// and a comment, from `#` on, are passed over.
+pub fn tokens(line: &[u8]) -> Result<ArrayVec<Token, 64>, usize>
+    ensures cut { Cuts result (tokens_of line.now) }
+
+    // The tokens are slices of the line in order, each the longest at its place, with blanks alone around them.
+    ensures read { Reads line.now result }
+{
+    let mut out = ArrayVec::new();
+    match cut_into(line, &mut out) {
+        Ok(()) => Ok(out),
+        Err(at) => Err(at),
+    }
 }

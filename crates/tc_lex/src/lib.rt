@@ -7,5 +7,5 @@ mod fronts;
 mod kinds;
 
 pub use bytes::is_hex;
-pub use cutting::tokens;
+pub use cutting::{cut_into, tokens};
 pub use kinds::{Front, Token, TokenKind};

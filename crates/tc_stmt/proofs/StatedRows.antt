@@ -174,7 +174,7 @@ sound_register r bank field name f used wide s =
 -- ---- symbols
 symbol_named : (v : ValueData) → (symbol_rule v == 15) ≡ true → is_name v.name ≡ true
 unfolding symbol_rule
-symbol_named v e = by (nat_le (2 ^ 32) v.size) (is_name v.name) e
+symbol_named v e = by (v.wide || nat_le (2 ^ 32) v.size) (is_name v.name) e
   where
     by : (a b : Bool) → (cond a 5 (cond b 15 9) == 15) ≡ true → b ≡ true
     by true b e = cc
@@ -290,7 +290,7 @@ unfolding fill_target
 sound_target r v f suit s =
     let used = (and_parts (uses_of r).k (cond (is_long r) (fills r.form (target_kind r)) (is_short_jump r.form)) suit).0 in
     let fit = (and_parts (uses_of r).k (cond (is_long r) (fills r.form (target_kind r)) (is_short_jump r.form)) suit).1 in
-    by_test (IfSound r) (shape_index v.shape == 3 && bytes_eq v.name (codes ".")) _ _ (λ e. sound_some r _ (sound_displaced r v.minus v.size f used s))
+    by_test (IfSound r) (shape_index v.shape == 3 && bytes_eq v.name (codes ".")) _ _ (λ e. sound_some r _ (by_test (Sound r) v.wide _ _ (λ e. sound_broken r 5 f s) (λ e. sound_displaced r v.minus v.size f used s)))
     (λ e. by_test (IfSound r) (is_symbol (shape_index v.shape)) _ _ (λ e. sound_some r _ (sound_symbol r (target_kind r) v f (target_long r fit) (λ z. (used, target_short r fit z)) s))
     (λ e. by_test (IfSound r) (is_half (shape_index v.shape)) _ _ (λ e. sound_some r _ (sound_broken r _ f s)) (λ e. sound_none r)))
 

@@ -209,7 +209,7 @@ zero_displaced r minus size f h = by_test IsZero (displacement_rule r minus size
 zero_target : (r : RowData) (v : ValueData) (f : FoundData) → IsFree f → IfSo IsZero (fill_target r v f)
 unfolding fill_target
 zero_target r v f h =
-    by_test (IfSo IsZero) (shape_index v.shape == 3 && bytes_eq v.name (codes ".")) _ _ (λ e. if_some IsZero _ (zero_displaced r v.minus v.size f h))
+    by_test (IfSo IsZero) (shape_index v.shape == 3 && bytes_eq v.name (codes ".")) _ _ (λ e. if_some IsZero _ (by_test IsZero v.wide _ _ (λ e. none_broken 5 f h) (λ e. zero_displaced r v.minus v.size f h)))
     (λ e. by_test (IfSo IsZero) (is_symbol (shape_index v.shape)) _ _ (λ e. if_some IsZero _ (zero_symbol _ v f h))
     (λ e. by_test (IfSo IsZero) (is_half (shape_index v.shape)) _ _ (λ e. if_some IsZero _ (none_broken _ f h)) (λ e. if_none IsZero)))
 

@@ -113,7 +113,7 @@ put_number form signed field minus size acc =
 -- ---- symbols
 -- the least rule that a symbol breaks anywhere
 unfoldable pub symbol_rule : ValueData → ℕ
-symbol_rule v = if nat_le (2 ^ 32) v.size then 5 else (if is_name v.name then 15 else 9)
+symbol_rule v = if v.wide || nat_le (2 ^ 32) v.size then 5 else (if is_name v.name then 15 else 9)
 
 -- a symbol's reference by a relocation of this kind, with the number that the value adds
 abbrev pub reference : ℕ → ValueData → ReferenceData
@@ -190,10 +190,12 @@ displaced r minus size acc =
 unfoldable pub target_kind : RowData → ℕ
 target_kind r = if is_long r then (if form_index r.form == 7 then 1 else 3) else 0
 
--- a value at the place of a jump's or call's target: a displacement from the instruction, or a symbol
+-- a value at the place of a jump's or call's target: a displacement from the instruction, or a symbol; a displacement of 2^128
+-- bytes or more is a number that doesn't fit, in every row
 unfoldable pub fill_target : RowData → ValueData → FoundData → Option FoundData
 fill_target r v acc =
-    if shape_index v.shape == 3 && bytes_eq v.name (codes ".") then Some (displaced r v.minus v.size acc)
+    if shape_index v.shape == 3 && bytes_eq v.name (codes ".")
+    then Some (if v.wide then broken 5 acc else displaced r v.minus v.size acc)
     else (if is_symbol (shape_index v.shape) then Some (with_symbol (target_kind r) v acc)
     else (if is_half (shape_index v.shape) then Some (misplaced v acc)
     else None))

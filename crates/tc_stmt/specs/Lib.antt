@@ -7,3 +7,4 @@ pub mod Wants
 pub mod Filling
 pub mod Judging
 pub mod Stated
+pub mod Skipping

@@ -1,5 +1,5 @@
 -- The numbers that tokens spell.
-use Rattle.std.specs.Prelude.{◌≡◌, ℕ, ◌+◌, ◌-◌, ◌*◌, ◌%◌, ◌^◌, ◌==◌, nat_lt, nat_le, Bool, if◌then◌else◌, List, drop, Option, Some, None, fold, option_and_then}
+use Rattle.std.specs.Prelude.{◌≡◌, ℕ, ◌+◌, ◌-◌, ◌*◌, ◌^◌, nat_lt, nat_le, if◌then◌else◌, List, drop, Option, Some, None, fold, option_and_then}
 use Rattle.tc_lex.specs.Bytes.{is_digit}
 use Rattle.tc_lex.specs.Cut.{has_hex_front}
 
@@ -30,10 +30,6 @@ exact base text = fold (λ n c. n * base + digit_of c) 0 text
 -- the number of a token, however large
 unfoldable pub exact_of : List ℕ → ℕ
 exact_of text = if has_hex_front text then exact 16 (drop 2 text) else exact 10 text
-
--- the number of a token is odd
-abbrev pub spells_odd : List ℕ → Bool
-spells_odd text = exact_of text % 2 == 1
 
 -- a token's number is what its digits spell, where that is below 2^128
 abbrev pub NumberLaw : Type 0

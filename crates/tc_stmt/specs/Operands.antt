@@ -1,5 +1,5 @@
 -- The forms of operands.
-use Rattle.std.specs.Prelude.{ℕ, ◌+◌, ◌-◌, ◌^◌, ◌==◌, ◌&&◌, not, Bool, true, false, if◌then◌else◌, List, [], ◌∷◌, length, codes, Option, Some, None, map, unwrap_or}
+use Rattle.std.specs.Prelude.{ℕ, ◌+◌, ◌==◌, ◌&&◌, not, Bool, true, false, if◌then◌else◌, List, [], ◌∷◌, length, codes, Option, Some, None, map}
 use Rattle.std.specs.Option.{option_map_or}
 use Rattle.std.specs.List.{slice_split}
 use Rattle.std.specs.Str.{bytes_eq}
@@ -9,18 +9,19 @@ use Rattle.tc_stmt.specs.declared.values.Shape.TheVariants as shape
 use Rattle.tc_stmt.specs.declared.values.Value.{Value}
 use Rattle.tc_stmt.specs.declared.values.Operand.{Operand}
 use Rattle.tc_stmt.specs.Pieces.{PieceData, is_kind, text_at, kind_index}
-use Rattle.tc_stmt.specs.Numbers.{number_of, spells_odd}
+use Rattle.tc_stmt.specs.Numbers.{number_of}
 
--- a value without where its name lies
+-- a value without where its name lies; a wide one adds a number of 2^128 or more to its name, which no field holds
 pub record ValueData : Type 0 where
   pub shape : Shape
   pub name : List ℕ
   pub minus : Bool
   pub size : ℕ
+  pub wide : Bool
 
 -- a value of the code as such a record
 abbrev pub value_of : Value → ValueData
-value_of v = record { shape = v.shape; name = v.name.now; minus = v.minus; size = v.size }
+value_of v = record { shape = v.shape; name = v.name.now; minus = v.minus; size = v.size; wide = v.wide }
 
 -- an operand: a value, or `[BASE]` or `[BASE+]` with a value behind it
 pub record OperandData : Type 0 where
@@ -35,18 +36,17 @@ operand_of o = record { is_memory = o.is_memory; plus = o.plus; base = o.base.no
 
 -- a value of this form, with a name, a sign and a number
 abbrev pub value : Shape → List ℕ → Bool → ℕ → ValueData
-value s name minus size = record { shape = s; name = name; minus = minus; size = size }
+value s name minus size = record { shape = s; name = name; minus = minus; size = size; wide = false }
 
 -- tokens that are no value
 abbrev pub bad : ValueData
 bad = value shape.Bad [] false 0
 
--- a number with an optional `-` from this place to the end: whether there is the `-`, the number where it is below 2^128, and
--- whether it is odd
-unfoldable pub number_at : List PieceData → ℕ → Option (Bool × Option ℕ × Bool)
+-- a number with an optional `-` from this place to the end: whether there is the `-`, and the number where it is below 2^128
+unfoldable pub number_at : List PieceData → ℕ → Option (Bool × Option ℕ)
 number_at ps at =
-    if is_kind ps at kind.Number && length ps == at + 1 then Some (false, number_of (text_at ps at), spells_odd (text_at ps at))
-    else (if is_kind ps at kind.Minus && is_kind ps (at + 1) kind.Number && length ps == at + 2 then Some (true, number_of (text_at ps (at + 1)), spells_odd (text_at ps (at + 1)))
+    if is_kind ps at kind.Number && length ps == at + 1 then Some (false, number_of (text_at ps at))
+    else (if is_kind ps at kind.Minus && is_kind ps (at + 1) kind.Number && length ps == at + 2 then Some (true, number_of (text_at ps (at + 1)))
     else None)
 
 -- a number by itself
@@ -54,18 +54,18 @@ abbrev pub plain_number : Bool → Option ℕ → ValueData
 plain_number minus (Some n) = value shape.Number [] minus n
 plain_number minus None = value shape.Huge [] minus 0
 
--- a name with a number added; an odd one of 2^128 or more counts as 2^128 - 1, an even one as 2^128 - 2, which is as much too
--- large
-abbrev pub added : Shape → List ℕ → Bool → Option ℕ → Bool → ValueData
-added s name minus n odd = value s name minus (unwrap_or n (if odd then 2 ^ 128 - 1 else 2 ^ 128 - 2))
+-- a name with a number added, or with one of 2^128 or more
+abbrev pub added : Shape → List ℕ → Bool → Option ℕ → ValueData
+added s name minus (Some n) = value s name minus n
+added s name minus None = record (value s name minus 0) { wide = true }
 
 -- a name at this place, with or without a number added
 unfoldable pub sum_at : List PieceData → ℕ → Shape → Shape → ValueData
 sum_at ps at plain summed =
     if is_kind ps at kind.Word
     then (if length ps == at + 1 then value plain (text_at ps at) false 0
-    else (if is_kind ps (at + 1) kind.Plus then option_map_or (λ n. added summed (text_at ps at) n.0 n.1 n.2) (number_at ps (at + 2)) bad
-    else (if is_kind ps (at + 1) kind.Minus then option_map_or (λ n. added summed (text_at ps at) (not n.0) n.1 n.2) (number_at ps (at + 2)) bad
+    else (if is_kind ps (at + 1) kind.Plus then option_map_or (λ n. added summed (text_at ps at) n.0 n.1) (number_at ps (at + 2)) bad
+    else (if is_kind ps (at + 1) kind.Minus then option_map_or (λ n. added summed (text_at ps at) (not n.0) n.1) (number_at ps (at + 2)) bad
     else bad)))
     else bad
 

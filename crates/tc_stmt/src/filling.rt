@@ -356,7 +356,11 @@ fn fill_target<'a>(row: &Row, v: Value<'a>, acc: Found<'a>) -> Option<Found<'a>>
 {
     let shape = shape_index(v.shape);
     if shape == 3 && is_text(v.name, ".") {
-        Some(displaced(row, v.minus, v.size, acc))
+        Some(if v.wide {
+            broken(5, acc)
+        } else {
+            displaced(row, v.minus, v.size, acc)
+        })
     } else if shape == 2 || shape == 3 {
         Some(with_symbol(target_kind(row), v, acc))
     } else if shape == 4 || shape == 5 {

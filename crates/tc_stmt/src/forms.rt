@@ -1,9 +1,9 @@
 // The forms of operands.
-ghost use Rattle.std.specs.Prelude.{◌≡◌, ◌<◌, ◌≤◌, ◌+◌, ◌^◌, map, length, not};
+ghost use Rattle.std.specs.Prelude.{◌≡◌, ◌<◌, ◌≤◌, ◌+◌, map, length, not};
 ghost use Rattle.tc_stmt.specs.Pieces.{piece_of};
 ghost use Rattle.tc_stmt.specs.Operands.{value_of, operand_of, number_at, sum_at, named_at, value_at, operand, value as data_of, plain as plain_of, memory as memory_of, plain_number as number_value, added as sum_value};
 
-use crate::numbers::{number_of, spells_odd};
+use crate::numbers::number_of;
 use crate::pieces::{Piece, is_kind, is_text, text_at};
 use crate::values::{Operand, Shape, Value};
 use tc_lex::TokenKind;
@@ -16,6 +16,7 @@ fn make_value(shape: Shape, name: &[u8], minus: bool, size: u128) -> Value<'_>
         name,
         minus,
         size,
+        wide: false,
     }
 }
 
@@ -29,28 +30,31 @@ fn plain_number<'a>(minus: bool, n: Option<u128>) -> Value<'a>
     }
 }
 
-// A name with a number added; one of 2^128 or more stays as odd or even as it is.
-fn added(shape: Shape, name: &[u8], minus: bool, n: Option<u128>, odd: bool) -> Value<'_>
-    ensures { value_of result ≡ sum_value shape name.now minus n odd }
+// A name with a number added, or with one of 2^128 or more.
+fn added(shape: Shape, name: &[u8], minus: bool, n: Option<u128>) -> Value<'_>
+    ensures { value_of result ≡ sum_value shape name.now minus n }
 {
-    let most = if odd { u128::MAX } else { u128::MAX - 1 };
-    make_value(shape, name, minus, n.unwrap_or(most))
+    match n {
+        Some(size) => make_value(shape, name, minus, size),
+        None => Value {
+            wide: true,
+            ..make_value(shape, name, minus, 0)
+        },
+    }
 }
 
 #[tactic(auto, unfolding(crate::specs::Operands::number_at))]
-fn number_at(ps: &[Piece], at: usize) -> Option<(bool, Option<u128>, bool)>
+fn number_at(ps: &[Piece], at: usize) -> Option<(bool, Option<u128>)>
     requires { at ≤ length ps.now }
     ensures { result ≡ number_at (map piece_of ps.now) at }
 {
     if is_kind(ps, at, TokenKind::Number) && ps.len() - at == 1 {
-        let text = text_at(ps, at);
-        Some((false, number_of(text), spells_odd(text)))
+        Some((false, number_of(text_at(ps, at))))
     } else if is_kind(ps, at, TokenKind::Minus)
         && ps.len() - at == 2
         && is_kind(ps, at + 1, TokenKind::Number)
     {
-        let text = text_at(ps, at + 1);
-        Some((true, number_of(text), spells_odd(text)))
+        Some((true, number_of(text_at(ps, at + 1))))
     } else {
         None
     }
@@ -66,12 +70,12 @@ fn sum_at<'a>(ps: &[Piece<'a>], at: usize, plain: Shape, summed: Shape) -> Value
             make_value(plain, text_at(ps, at), false, 0)
         } else if is_kind(ps, at + 1, TokenKind::Plus) {
             match number_at(ps, at + 2) {
-                Some((minus, n, odd)) => added(summed, text_at(ps, at), minus, n, odd),
+                Some((minus, n)) => added(summed, text_at(ps, at), minus, n),
                 None => make_value(Shape::Bad, &[], false, 0),
             }
         } else if is_kind(ps, at + 1, TokenKind::Minus) {
             match number_at(ps, at + 2) {
-                Some((minus, n, odd)) => added(summed, text_at(ps, at), !minus, n, odd),
+                Some((minus, n)) => added(summed, text_at(ps, at), !minus, n),
                 None => make_value(Shape::Bad, &[], false, 0),
             }
         } else {
@@ -110,7 +114,7 @@ fn value_at<'a>(ps: &[Piece<'a>], at: usize) -> Value<'a>
         make_value(Shape::Absent, &[], false, 0)
     } else {
         match number_at(ps, at) {
-            Some((minus, n, _)) => plain_number(minus, n),
+            Some((minus, n)) => plain_number(minus, n),
             None => named_at(ps, at),
         }
     }

@@ -1,13 +1,15 @@
 // Which row a statement is.
-ghost use Rattle.std.specs.Prelude.{◌≡◌, ◌<◌, map, option_map, length, slice_index_or as get_or, drop, ◌≤◌, ◌+◌};
+ghost use Rattle.std.specs.Prelude.{◌≡◌, ◌<◌, map, option_map, length, slice_index_or as get_or, drop, ◌≤◌, ◌+◌, true};
 ghost use Rattle.tc_isa.specs.Rows.{row_of, listed};
 ghost use Rattle.tc_stmt.specs.Wants.{wants_of, now_of};
 ghost use Rattle.tc_stmt.specs.Operands.{operand_of};
 ghost use Rattle.tc_stmt.specs.Filling.{found_of, fill_all, nothing, apart, judged};
 ghost use Rattle.tc_stmt.specs.Judging.{start, stepped, outcome, Steps, Judges, statement, rule_of};
+ghost use Rattle.tc_stmt.specs.Skipping.{are_first, are_next};
 
 use crate::filling::fill;
 use crate::finding::Found;
+use crate::skipping::{first_row, first_rows, next_row, next_rows};
 use crate::symbols::broken;
 use crate::table::wants;
 use crate::tallying::Tally;
@@ -131,15 +133,20 @@ fn step_at<'a>(
     step(&rows[i], wants[i], name, os, so_far)
 }
 
-/// The row that a statement is, and what its operands give; or the least rule that it breaks.
+/// The row that a statement is, and what its operands give; or the least rule that it breaks. Only rows that begin as the name
+/// does are looked at.
 fn judge<'a>(
     rows: &[Row],
     wants: &[&[Want]],
+    first: &[u8],
+    next: &[u8],
     name: &[u8],
     os: &[Operand<'a>],
 ) -> Result<(u8, Found<'a>), u8>
     requires wants { map now_of wants.now ≡ map wants_of (map row_of rows.now) }
     requires few { length rows.now < 256 }
+    requires first { are_first 97 (map row_of rows.now) first.now ≡ true }
+    requires next { are_next 0 (map row_of rows.now) next.now ≡ true }
     ensures { Judges result (outcome name.now (map operand_of os.now) (map row_of rows.now) 0 start) }
 {
     let mut so_far = Tally {
@@ -147,11 +154,13 @@ fn judge<'a>(
         fits: false,
         least: 15,
     };
-    for i in 0..rows.len() {
+    let mut i = first_row(first, name);
+    'rows: while i < rows.len() {
         match step_at(rows, wants, i, name, os, so_far) {
             Ok(f) => return Ok((i as u8, f)),
-            Err(next) => so_far = next,
+            Err(after) => so_far = after,
         }
+        i = next_row(rows, next, i, name);
     }
     Err(rule_of(so_far))
 }
@@ -170,5 +179,5 @@ fn rule_of(t: Tally) -> u8
 pub fn statement<'a>(name: &[u8], os: &[Operand<'a>]) -> Result<(u8, Found<'a>), u8>
     ensures { Judges result (statement name.now (map operand_of os.now)) }
 {
-    judge(rows(), wants(), name, os)
+    judge(rows(), wants(), first_rows(), next_rows(), name, os)
 }

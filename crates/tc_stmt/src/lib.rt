@@ -10,6 +10,7 @@ mod laws;
 mod numbers;
 mod parting;
 mod pieces;
+mod skipping;
 mod symbols;
 mod table;
 mod tallying;

@@ -1,7 +1,7 @@
 // The numbers that tokens spell.
-ghost use Rattle.std.specs.Prelude.{◌≡◌, ◌<◌, ◌≤◌, ◌^◌, ◌%◌, ◌==◌, length, fold, true};
+ghost use Rattle.std.specs.Prelude.{◌≡◌, ◌<◌, ◌≤◌, ◌^◌, length, fold, true};
 ghost use Rattle.tc_lex.specs.Cut.{has_hex_front};
-ghost use Rattle.tc_stmt.specs.Numbers.{digit_of, add_digit, digits_of, number_of, exact, exact_of, spells_odd};
+ghost use Rattle.tc_stmt.specs.Numbers.{digit_of, add_digit, digits_of, number_of};
 
 use tc_lex::is_hex;
 
@@ -59,29 +59,5 @@ pub(crate) fn number_of(text: &[u8]) -> Option<u128>
         digits(16, &text[2..])
     } else {
         digits(10, text)
-    }
-}
-
-// Whether the number that these digits of an even base spell is odd, as its last digit is.
-fn is_odd(base: u128, text: &[u8]) -> bool
-    requires { base % 2 ≡ 0 }
-    ensures { result ≡ (exact base text.now % 2 == 1) }
-{
-    let mut odd = false;
-    for c in text {
-        odd = digit_of(*c) % 2 == 1;
-    }
-    odd
-}
-
-/// Whether the number that a token spells is odd, however large it is.
-#[tactic(auto, unfolding(crate::specs::Numbers::exact_of))]
-pub(crate) fn spells_odd(text: &[u8]) -> bool
-    ensures { result ≡ spells_odd text.now }
-{
-    if has_hex_front(text) {
-        is_odd(16, &text[2..])
-    } else {
-        is_odd(10, text)
     }
 }

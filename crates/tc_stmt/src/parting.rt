@@ -31,14 +31,14 @@ fn after<'b, 'a>(ps: &'b [Piece<'a>], i: usize) -> &'b [Piece<'a>]
     &ps[i + 1..]
 }
 
-/// The operands that these tokens are.
-pub fn operands<'a>(ps: &[Piece<'a>]) -> ArrayVec<Operand<'a>, 65>
+/// Puts the operands that these tokens are in the place of what `out` holds.
+pub fn operands<'a>(ps: &[Piece<'a>], out: &mut ArrayVec<Operand<'a>, 65>)
     requires { length ps.now ≤ 64 }
-    ensures { map operand_of result.items ≡ operands (map piece_of ps.now) }
+    ensures { map operand_of out.new.items ≡ operands (map piece_of ps.now) }
 {
-    let mut out = ArrayVec::new();
+    out.clear();
     if ps.is_empty() {
-        return out;
+        return;
     }
     let mut rest = ps;
     'parts: while let Some(i) = find_comma(rest) {
@@ -46,5 +46,4 @@ pub fn operands<'a>(ps: &[Piece<'a>]) -> ArrayVec<Operand<'a>, 65>
         rest = after(rest, i);
     }
     out.push(operand(rest));
-    out
 }

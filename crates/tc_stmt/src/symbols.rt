@@ -23,7 +23,7 @@ pub fn symbol_rule(v: Value<'_>) -> u8
     ensures value { result ≡ symbol_rule (value_of v.entry) }
     ensures small { result ≡ 15 → v.entry.size < 2 ^ 32 }
 {
-    if 0x1_0000_0000 <= v.size {
+    if v.wide || 0x1_0000_0000 <= v.size {
         5
     } else if is_name(v.name) {
         15

@@ -15,13 +15,15 @@ pub enum Shape {
     Huge,
 }
 
-/// A value: a name, and a number with an optional `-`.
+/// A value: a name, and a number with an optional `-`; where it is `wide`, the number that is added to its name is 2^128 or
+/// more, and `size` is 0.
 #[derive(Clone, Copy, Default)]
 pub struct Value<'a> {
     pub shape: Shape,
     pub name: &'a [u8],
     pub minus: bool,
     pub size: u128,
+    pub wide: bool,
 }
 
 /// A value, or `[BASE]` or `[BASE+]` with a value after it.

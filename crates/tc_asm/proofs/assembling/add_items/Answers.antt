@@ -8,7 +8,7 @@ loop-item-init c = record { draft = refl; rule = rules_none c.args.labels.now c.
 
 pub loop-item-preserved : goal.loop-item-preserved
 loop-item-preserved c = record {
-  draft = items_step c.args.labels.now c.args.items.now c.loop-item.item-index _ (omega arith) c.loop-item.draft _ _ c.in_ok-step.ensures c.loop-item.invariant.draft;
-  rule = rules_step c.args.labels.now c.args.items.now c.loop-item.item-index _ (omega arith) c.loop-item.draft _ _ _ _ _ c.in_ok-step.ensures c.item_rule.ensures c.min-rule.ensures c.loop-item.invariant.rule;
+  draft = items_step c.args.labels.now c.args.items.now c.loop-item.item-index _ (omega arith) c.loop-item.draft _ _ c.in_ok-put.ensures.draft c.loop-item.invariant.draft;
+  rule = rules_step c.args.labels.now c.args.items.now c.loop-item.item-index _ (omega arith) c.loop-item.draft _ _ _ _ _ c.in_ok-put.ensures.draft c.in_ok-put.ensures.rule c.min-rule.ensures c.loop-item.invariant.rule;
   small = omega arith;
 }

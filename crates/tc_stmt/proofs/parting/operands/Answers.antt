@@ -12,7 +12,7 @@ use Rattle.tc_stmt.proofs.parting.operands.Goals as goal
 pub returns-then-is_empty : goal.returns-then-is_empty
 returns-then-is_empty c =
     let empty : length c.args.ps.now ≡ 0 = grind (arith, nat_tests) in
-    ap (map operand_of) c.new-out.ensures ∙ operands-none c.args.ps.now empty
+    ap (map operand_of) c.clear.ensures ∙ operands-none c.args.ps.now empty
 
 pub returns : goal.returns
 returns c =

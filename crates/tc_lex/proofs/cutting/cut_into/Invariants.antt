@@ -1,6 +1,6 @@
 use Rattle.std.proofs.Common.{◌≡◌, ◌-◌, ◌≤◌, length, drop}
 use Rattle.tc_lex.specs.Cut.{cut, with_front, tokens_of}
-use Rattle.tc_lex.proofs.cutting.tokens.Given as goal
+use Rattle.tc_lex.proofs.cutting.cut_into.Given as goal
 
 abbrev pub invariant-cut : goal.invariant-cut
 invariant-cut l = record {
