@@ -13,7 +13,7 @@ use tcd_base::{Cursor, FormErr, read_u16, read_u32};
 
 /// The bytes 54 43 44 43.
 #[tactic(auto, unfolding(crate::specs::Grammar::magic_at))]
-fn read_magic(c: &mut Cursor<'_>) -> Result<u32, FormErr>
+pub fn read_magic(c: &mut Cursor<'_>) -> Result<u32, FormErr>
     requires { length c.old.bytes ≤ 2 ^ 30 }
     ensures read { Reads result c.new (magic_at c.old) }
     ensures bytes { c.new.bytes ≡ c.old.bytes }
@@ -28,7 +28,7 @@ fn read_magic(c: &mut Cursor<'_>) -> Result<u32, FormErr>
 
 /// Version 1 or 2.
 #[tactic(auto, unfolding(crate::specs::Grammar::version_at))]
-fn read_version(c: &mut Cursor<'_>) -> Result<u8, FormErr>
+pub fn read_version(c: &mut Cursor<'_>) -> Result<u8, FormErr>
     requires { length c.old.bytes ≤ 2 ^ 30 }
     ensures read { Reads result c.new (version_at c.old) }
     ensures known { IfOk result (λ v. (v ≡ 1) ⊎ (v ≡ 2)) }
@@ -43,9 +43,9 @@ fn read_version(c: &mut Cursor<'_>) -> Result<u8, FormErr>
     }
 }
 
-/// How many nodes.
+/// How many nodes: at most 2,048.
 #[tactic(auto, unfolding(crate::specs::Grammar::node_count_at))]
-fn read_node_count(c: &mut Cursor<'_>) -> Result<u16, FormErr>
+pub fn read_node_count(c: &mut Cursor<'_>) -> Result<u16, FormErr>
     requires { length c.old.bytes ≤ 2 ^ 30 }
     ensures read { Reads result c.new (node_count_at c.old) }
     ensures bytes { c.new.bytes ≡ c.old.bytes }

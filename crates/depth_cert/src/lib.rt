@@ -13,8 +13,13 @@ mod points;
 mod value_fields;
 mod writing;
 
+pub use cert_fields::{read_magic, read_node_count, read_version};
 pub use certs::Cert;
 pub use errors::CertErr;
 pub use keys::Key;
+pub use node_fields::{number_of, read_exit, read_has_exit, read_need};
 pub use nodes::Node;
+pub use point_fields::{read_locals, read_point_count, read_state};
 pub use points::{Exit, Point};
+pub use value_fields::{fault, read_flag, read_value, read_values};
+pub use writing::{put_u16, write_exit, write_key, write_state, write_value, write_values};

@@ -21,7 +21,8 @@ fn number(kind: u8, entry: u32, prio: u8, is: u8) -> u64
         + u64::from(is)
 }
 
-pub(crate) fn number_of(key: &Key) -> u64
+/// A key's fields as one number, which orders keys.
+pub fn number_of(key: &Key) -> u64
     ensures { result ≡ number_of_key key.now }
 {
     number(key.kind, key.entry, key.prio, if key.is { 1 } else { 0 })
@@ -67,8 +68,9 @@ fn read_key(c: &mut Cursor<'_>, before: &[Node]) -> Result<Key, FormErr>
     })
 }
 
+/// The need of a node: at most 4,096.
 #[tactic(auto, unfolding(crate::specs::Grammar::need_at))]
-fn read_need(c: &mut Cursor<'_>) -> Result<u16, FormErr>
+pub fn read_need(c: &mut Cursor<'_>) -> Result<u16, FormErr>
     requires { length c.old.bytes ≤ 2 ^ 30 }
     ensures read { Reads result c.new (need_at c.old) }
     ensures bytes { c.new.bytes ≡ c.old.bytes }
@@ -81,8 +83,9 @@ fn read_need(c: &mut Cursor<'_>) -> Result<u16, FormErr>
     Ok(need)
 }
 
+/// Whether a node of a kind has an exit; only calls and system calls have one.
 #[tactic(auto, unfolding(crate::specs::Grammar::has_exit_at))]
-fn read_has_exit(c: &mut Cursor<'_>, kind: u8) -> Result<bool, FormErr>
+pub fn read_has_exit(c: &mut Cursor<'_>, kind: u8) -> Result<bool, FormErr>
     requires { length c.old.bytes ≤ 2 ^ 30 }
     ensures read { Reads result c.new (has_exit_at kind c.old) }
     ensures bytes { c.new.bytes ≡ c.old.bytes }
@@ -105,8 +108,9 @@ fn read_lower(c: &mut Cursor<'_>, version: u8) -> Result<[Val; 14], FormErr>
     Ok(lower)
 }
 
+/// What an exit says: IE, CCPN, and the values of the lower context.
 #[tactic(auto, unfolding(crate::specs::Grammar::exit_at))]
-fn read_exit(c: &mut Cursor<'_>, version: u8) -> Result<Exit, FormErr>
+pub fn read_exit(c: &mut Cursor<'_>, version: u8) -> Result<Exit, FormErr>
     requires { length c.old.bytes ≤ 2 ^ 30 }
     ensures read { Reads result c.new (exit_at version c.old) }
     ensures bytes { c.new.bytes ≡ c.old.bytes }

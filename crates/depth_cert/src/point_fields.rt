@@ -12,9 +12,9 @@ use std::alloc::Global;
 use tcd_base::{Cursor, FormErr, read_u8, read_u32};
 use value_domain::{State, Val};
 
-/// A list of truth values: how many, and each.
+/// A list of truth values: how many, at most 4 in version 1 and 8 in version 2, and each.
 #[tactic(auto, unfolding(crate::specs::Grammar::locals_at))]
-fn read_locals(c: &mut Cursor<'_>, version: u8) -> Result<ArrayVec<bool, 8>, FormErr>
+pub fn read_locals(c: &mut Cursor<'_>, version: u8) -> Result<ArrayVec<bool, 8>, FormErr>
     requires { length c.old.bytes ≤ 2 ^ 30 }
     ensures ok { IfOk result (λ l. locals_at version c.old ≡ Ok (l.items, c.new)) }
     ensures err { IfErr result (λ e. locals_at version c.old ≡ Err e) }
@@ -45,9 +45,9 @@ fn read_flags(c: &mut Cursor<'_>, count: u8) -> Result<ArrayVec<bool, 8>, FormEr
     Ok(flags)
 }
 
-/// Reads a state into a place.
+/// Reads a state into a place, or tells the first fault.
 #[tactic(auto, unfolding(crate::specs::Grammar::state_at))]
-fn read_state(c: &mut Cursor<'_>, version: u8, out: &mut State) -> Result<(), FormErr>
+pub fn read_state(c: &mut Cursor<'_>, version: u8, out: &mut State) -> Result<(), FormErr>
     requires { length c.old.bytes ≤ 2 ^ 30 }
     ensures ok { OnOk result (state_at version c.old ≡ Ok (out.new, c.new)) }
     ensures err { IfErr result (λ e. state_at version c.old ≡ Err e) }
@@ -98,8 +98,9 @@ fn read_address(c: &mut Cursor<'_>, before: &[Point]) -> Result<u32, FormErr>
     Ok(addr)
 }
 
+/// How many points a node has, where those before it have `used`; all together at most 65,536.
 #[tactic(auto, unfolding(crate::specs::Grammar::point_count_at))]
-fn read_point_count(c: &mut Cursor<'_>, used: usize) -> Result<u32, FormErr>
+pub fn read_point_count(c: &mut Cursor<'_>, used: usize) -> Result<u32, FormErr>
     requires short { length c.old.bytes ≤ 2 ^ 30 }
     requires used { used ≤ 2 ^ 16 }
     ensures read { Reads result c.new (point_count_at used c.old) }

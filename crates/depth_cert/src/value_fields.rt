@@ -11,7 +11,7 @@ use tcd_base::{Cursor, FormErr, read_u8, read_u32};
 use value_domain::{Val, Words, count_of};
 
 /// A fault of a kind at a place.
-pub(crate) fn fault(kind: u8, at: usize) -> FormErr
+pub fn fault(kind: u8, at: usize) -> FormErr
     requires { at ≤ 2 ^ 30 }
     ensures { result ≡ record { kind = kind; at = at } }
 {
@@ -21,9 +21,9 @@ pub(crate) fn fault(kind: u8, at: usize) -> FormErr
     }
 }
 
-/// A truth value.
+/// A truth value: a byte 0 or 1. Another one is a BadValue at its place.
 #[tactic(auto, unfolding(crate::specs::Grammar::flag_at))]
-pub(crate) fn read_flag(c: &mut Cursor<'_>) -> Result<bool, FormErr>
+pub fn read_flag(c: &mut Cursor<'_>) -> Result<bool, FormErr>
     requires { length c.old.bytes ≤ 2 ^ 30 }
     ensures read { Reads result c.new (flag_at c.old) }
     ensures bytes { c.new.bytes ≡ c.old.bytes }
@@ -115,9 +115,9 @@ fn forget(out: &mut Val)
     *out = Val::any();
 }
 
-/// Reads a value into a place.
+/// Reads a value of a version into a place, or tells its first fault.
 #[tactic(auto, unfolding(crate::specs::Grammar::value_at))]
-fn read_value(c: &mut Cursor<'_>, version: u8, out: &mut Val) -> Result<(), FormErr>
+pub fn read_value(c: &mut Cursor<'_>, version: u8, out: &mut Val) -> Result<(), FormErr>
     requires { length c.old.bytes ≤ 2 ^ 30 }
     ensures ok { OnOk result (value_at version c.old ≡ Ok (out.new, c.new)) }
     ensures err { IfErr result (λ e. value_at version c.old ≡ Err e) }
@@ -141,9 +141,9 @@ fn read_value(c: &mut Cursor<'_>, version: u8, out: &mut Val) -> Result<(), Form
     Ok(())
 }
 
-/// Reads a value into each place.
+/// Reads a value into each place of `out`, or tells the first fault.
 #[tactic(auto, unfolding(crate::specs::Grammar::values_at))]
-pub(crate) fn read_values(c: &mut Cursor<'_>, version: u8, out: &mut [Val]) -> Result<(), FormErr>
+pub fn read_values(c: &mut Cursor<'_>, version: u8, out: &mut [Val]) -> Result<(), FormErr>
     requires { length c.old.bytes ≤ 2 ^ 30 }
     ensures ok { OnOk result (values_at version (length out.old) c.old ≡ Ok (out.new, c.new)) }
     ensures err { IfErr result (λ e. values_at version (length out.old) c.old ≡ Err e) }

@@ -20,7 +20,8 @@ fn put_u8(out: &mut Vec<u8>, x: u8) -> Result<(), NoMemory>
     Ok(())
 }
 
-pub(crate) fn put_u16(out: &mut Vec<u8>, x: u16) -> Result<(), NoMemory>
+/// Adds the two bytes of a number, the low one first, to `out`.
+pub fn put_u16(out: &mut Vec<u8>, x: u16) -> Result<(), NoMemory>
     ensures { OnOk result (out.new.items ≡ out.old.items ++ bytes_of_half x) }
 {
     out.extend_from_slice(&x.to_le_bytes())?;
@@ -64,7 +65,8 @@ fn write_span(out: &mut Vec<u8>, lo: u32, last: u32, step: u8) -> Result<(), NoM
     put_u32(out, last)
 }
 
-fn write_value(out: &mut Vec<u8>, v: &Val) -> Result<(), NoMemory>
+/// Adds the one spelling of a value to `out`.
+pub fn write_value(out: &mut Vec<u8>, v: &Val) -> Result<(), NoMemory>
     requires { IsWell v.now }
     ensures { OnOk result (out.new.items ≡ out.old.items ++ bytes_of_value v.now) }
 {
@@ -74,7 +76,8 @@ fn write_value(out: &mut Vec<u8>, v: &Val) -> Result<(), NoMemory>
     }
 }
 
-fn write_values(out: &mut Vec<u8>, values: &[Val]) -> Result<(), NoMemory>
+/// Adds the bytes that spell the values, one after another, to `out`.
+pub fn write_values(out: &mut Vec<u8>, values: &[Val]) -> Result<(), NoMemory>
     requires { All IsWell values.now }
     ensures { OnOk result (out.new.items ≡ out.old.items ++ flat_map bytes_of_value values.now) }
 {
@@ -93,8 +96,9 @@ fn write_flags(out: &mut Vec<u8>, flags: &[bool]) -> Result<(), NoMemory>
     Ok(())
 }
 
+/// Adds the bytes that spell a state to `out`.
 #[tactic(auto, unfolding(crate::specs::Spelling::bytes_of_state))]
-fn write_state(out: &mut Vec<u8>, s: &State) -> Result<(), NoMemory>
+pub fn write_state(out: &mut Vec<u8>, s: &State) -> Result<(), NoMemory>
     requires { All IsWell s.now.regs }
     ensures { OnOk result (out.new.items ≡ out.old.items ++ bytes_of_state s.now) }
 {
@@ -116,8 +120,9 @@ fn write_point(out: &mut Vec<u8>, p: &Point) -> Result<(), NoMemory>
     write_state(out, &p.state)
 }
 
+/// Adds the bytes that spell a key to `out`.
 #[tactic(auto, unfolding(crate::specs::Spelling::bytes_of_key))]
-fn write_key(out: &mut Vec<u8>, key: &Key) -> Result<(), NoMemory>
+pub fn write_key(out: &mut Vec<u8>, key: &Key) -> Result<(), NoMemory>
     ensures { OnOk result (out.new.items ≡ out.old.items ++ bytes_of_key key.now) }
 {
     put_u8(out, key.kind)?;
@@ -126,8 +131,9 @@ fn write_key(out: &mut Vec<u8>, key: &Key) -> Result<(), NoMemory>
     put_flag(out, key.is)
 }
 
+/// Adds the bytes that spell an exit, or that there is none, to `out`.
 #[tactic(auto, unfolding(crate::specs::Spelling::bytes_of_exit))]
-fn write_exit(out: &mut Vec<u8>, exit: &Option<Exit>) -> Result<(), NoMemory>
+pub fn write_exit(out: &mut Vec<u8>, exit: &Option<Exit>) -> Result<(), NoMemory>
     requires { IfSome exit.now (λ e. All IsWell e.lower) }
     ensures { OnOk result (out.new.items ≡ out.old.items ++ bytes_of_exit exit.now) }
 {
