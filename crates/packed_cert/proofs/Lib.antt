@@ -1,0 +1,9 @@
+pub mod BelowLaws
+pub mod CertFinds
+pub mod NodeFinds
+pub mod NodeReads
+pub mod PointPlaces
+pub mod SameBytes
+pub mod StateShapes
+pub mod ValueShapes
+pub mod WalkSteps

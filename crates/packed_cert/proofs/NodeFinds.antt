@@ -1,0 +1,61 @@
+-- Points found by address.
+use Rattle.std.proofs.Common.{◌≡◌, ℕ, ◌+◌, ◌<◌, ◌≤◌, List, [], ◌∷◌, length, map, get_or, true, false, Option, Some, None, refl, sym, ap, ◌∙◌, arith, ltb, eqb, inl, inr}
+use Rattle.std.specs.Option.{option_map}
+use Rattle.std.specs.List.{find}
+use Rattle.std.specs.List.Sorted.{IsStrictlyIncreasing, IsPartitionPoint}
+use Rattle.std.proofs.Common.{eq-eqb}
+use Rattle.value_domain.specs.declared.states.State.{State}
+use Rattle.std.proofs.lemmas.Bool.{cases_Bool, lt-ltb, le-ltb, ne_eqb}
+use Rattle.std.proofs.lemmas.List.{length-map, get_or-map, get_or_default}
+use Rattle.depth_cert.specs.declared.points.Point.{Point}
+use Rattle.depth_cert.specs.Points.{find_point}
+use Rattle.depth_cert.proofs.FindLaws.{non_decreasing, found, missing, missing_end}
+use Rattle.packed_cert.specs.declared.packed_points.PackedPoint.{PackedPoint}
+use Rattle.packed_cert.specs.Points.{point_in, points_in, state_in}
+
+-- finding in the points is finding in what is kept of them
+pub find_in : (version : ℕ) (bytes : List ℕ) (addr : ℕ) (ps : List PackedPoint) → find_point addr (points_in version bytes ps) ≡ option_map (point_in version bytes) (find (λ p. eqb p.addr addr) ps)
+find_in version bytes addr [] = refl
+find_in version bytes addr (p ∷ ps) = elim (cases_Bool (eqb p.addr addr)) [ inl t ↦ rw t refl | inr f ↦ rw f (find_in version bytes addr ps) ]
+
+-- the place of an address parts the points
+pub parts_at : {A : Type 0} (f : A → ℕ) (xs : List A) (x i : ℕ) (d : A) → IsStrictlyIncreasing (map f xs) → i < length xs → f (get_or xs i d) ≡ x
+    → IsPartitionPoint (λ y. ltb (f y) x ≡ true) (λ y. ltb (f y) x ≡ false) xs i
+parts_at f xs x i d rising h e = (
+  (λ k d2 z lt.
+      let step = rising k (omega (arith, length-map xs f)) in
+      let low = get_or-map f xs k d2 0 (omega arith) in
+      let next = get_or-map f xs (k + 1) d2 0 (omega arith) in
+      let up = non_decreasing f xs rising (k + 1) i d2 (omega arith) h in
+      let same = ap f (get_or_default xs i d d2 h) in
+      lt-ltb _ _ (omega arith)),
+  (λ k d2 le l.
+      let up = non_decreasing f xs rising i k d2 le l in
+      let same = ap f (get_or_default xs i d d2 h) in
+      le-ltb _ _ (omega arith)),
+)
+
+-- the state at an address, by the place that parts the points
+abbrev pub state_of : ℕ → List Point → Option State
+state_of addr ps = option_map (λ p. p.state) (find_point addr ps)
+
+pub state_found : (version : ℕ) (bytes : List ℕ) (addr i : ℕ) (d : PackedPoint) (ps qs : List PackedPoint) → ps ≡ qs → i < length ps → IsPartitionPoint (λ p. ltb p.addr addr ≡ true) (λ p. ltb p.addr addr ≡ false) ps i
+    → (get_or ps i d).addr ≡ addr → state_of addr (points_in version bytes qs) ≡ Some (state_in version bytes (get_or ps i d).place)
+state_found version bytes addr i d ps qs same h place e =
+    let number : PackedPoint → ℕ = λ p. p.addr in
+    ap (λ (l : List PackedPoint). state_of addr (points_in version bytes l)) (sym same)
+    ∙ ap (option_map (λ (p : Point). p.state)) (find_in version bytes addr ps ∙ ap (option_map (point_in version bytes)) (found number ps addr i d h place (eq-eqb _ _ e)))
+
+pub state_missing : (version : ℕ) (bytes : List ℕ) (addr i : ℕ) (d : PackedPoint) (ps qs : List PackedPoint) → ps ≡ qs → IsStrictlyIncreasing (map (λ p. p.addr) ps)
+    → IsPartitionPoint (λ p. ltb p.addr addr ≡ true) (λ p. ltb p.addr addr ≡ false) ps i → ((get_or ps i d).addr ≡ addr → ⊥) → state_of addr (points_in version bytes qs) ≡ None
+state_missing version bytes addr i d ps qs same rising place other =
+    let number : PackedPoint → ℕ = λ p. p.addr in
+    ap (λ (l : List PackedPoint). state_of addr (points_in version bytes l)) (sym same)
+    ∙ ap (option_map (λ (p : Point). p.state)) (find_in version bytes addr ps ∙ ap (option_map (point_in version bytes)) (missing number ps addr i d rising place (ne_eqb _ _ other)))
+
+pub state_past : (version : ℕ) (bytes : List ℕ) (addr i : ℕ) (ps qs : List PackedPoint) → ps ≡ qs → IsPartitionPoint (λ p. ltb p.addr addr ≡ true) (λ p. ltb p.addr addr ≡ false) ps i → length ps ≤ i
+    → state_of addr (points_in version bytes qs) ≡ None
+state_past version bytes addr i ps qs same place end =
+    let number : PackedPoint → ℕ = λ p. p.addr in
+    ap (λ (l : List PackedPoint). state_of addr (points_in version bytes l)) (sym same)
+    ∙ ap (option_map (λ (p : Point). p.state)) (find_in version bytes addr ps ∙ ap (option_map (point_in version bytes)) (missing_end number ps addr i place end))

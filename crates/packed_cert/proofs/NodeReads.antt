@@ -1,0 +1,84 @@
+-- Nodes whose parts are left where they stand.
+use Rattle.std.proofs.Common.{◌≡◌, ℕ, ◌+◌, List, [], ◌∷◌, ◌++◌, length, map, true, Result, Ok, Err, Option, Some, refl, sym, ap, ◌∙◌, arith}
+use Rattle.std.proofs.lemmas.List.{map-append, length-map}
+use Rattle.std.proofs.lemmas.List.Sums.{sum_by-append}
+use Rattle.tcd_base.specs.declared.types.FormErr.{FormErr}
+use Rattle.tcd_base.specs.Place.{Place}
+use Rattle.depth_cert.specs.declared.errors.CertErr.{CertErr}
+use Rattle.depth_cert.specs.declared.errors.CertErr.TheVariants.{Bad, NoMemory}
+use Rattle.depth_cert.specs.declared.keys.Key.{Key}
+use Rattle.depth_cert.specs.declared.points.Exit.{Exit}
+use Rattle.depth_cert.specs.declared.points.Point.{Point}
+use Rattle.depth_cert.specs.Keys.{number_of_key}
+use Rattle.depth_cert.specs.Answers.{IsFaultOf}
+use Rattle.depth_cert.specs.Nodes.{NodeData}
+use Rattle.depth_cert.specs.Certs.{key_numbers, count_points}
+use Rattle.depth_cert.specs.Grammar.{has_exit_at, exit_at, exits_at, key_after, need_at, points_at, node_after}
+use Rattle.packed_cert.specs.declared.node_places.NodePlaces.{NodePlaces}
+use Rattle.packed_cert.specs.Standing.{at}
+use Rattle.packed_cert.specs.Points.{read_or, point_in}
+use Rattle.packed_cert.specs.Nodes.{no_exit, exit_in, HasExit, node_of, nodes_of}
+
+-- the exit that was read stands where it was read
+pub exit_read : (version : ℕ) (bytes : List ℕ) (c : Place) (x : ℕ) (e : Exit) (q : Place) → c.bytes ≡ bytes → x ≡ c.place → exit_at version c ≡ Ok (e, q) → (exit_in version bytes x ≡ e) × HasExit version bytes x
+exit_read version bytes c x e q b p h =
+    let there : at bytes x ≡ c = ap (λ (k : ℕ). at bytes k) p ∙ ap (λ (l : List ℕ). at l c.place) (sym b) in
+    let read : exit_at version (at bytes x) ≡ Ok (e, q) = ap (exit_at version) there ∙ h in
+    (ap (read_or no_exit) read, ((e, q), read))
+
+-- the exit that is read at a place is the one that stands there
+pub exit_whole : (version : ℕ) (bytes : List ℕ) (x : ℕ) (e : Exit) (q c : Place) → c ≡ at bytes x → exit_at version c ≡ Ok (e, q) → e ≡ exit_in version bytes x
+exit_whole version bytes x e q c there read = sym (ap (read_or no_exit) (ap (exit_at version) (sym there) ∙ read))
+
+pub exit_never : (version : ℕ) (bytes : List ℕ) (x : ℕ) (f : FormErr) (c : Place) → c ≡ at bytes x → HasExit version bytes x → exit_at version c ≡ Err f → ⊥
+exit_never version bytes x f c there h read = never f h.0 (sym (ap (exit_at version) (sym there) ∙ read) ∙ h.1)
+  where
+    never : (f : FormErr) (y : Exit × Place) → ◌≡◌ {A = Result (Exit × Place) FormErr} (Err f) (Ok y) → ⊥
+    never f y g = cc
+
+-- a node's exit, left where it stands
+pub exits_some : (version kind : ℕ) (bytes : List ℕ) (p q r : Place) (x : ℕ) (e : Exit) → q.bytes ≡ bytes → x ≡ q.place → has_exit_at kind p ≡ Ok (true, q) → exit_at version q ≡ Ok (e, r)
+    → exits_at version kind p ≡ Ok (Some (exit_in version bytes x), r)
+unfolding exits_at
+exits_some version kind bytes p q r x e b at has h =
+    rw (has, h) (ap (λ (t : Exit). let y : Result (Option Exit × Place) FormErr = Ok (Some t, r) in y) (sym (exit_read version bytes q x e r b at h).0))
+
+pub keys_in : (version : ℕ) (bytes : List ℕ) (ns : List NodePlaces) → key_numbers (nodes_of version bytes ns) ≡ map (λ n. number_of_key n.key) ns
+keys_in version bytes [] = refl
+keys_in version bytes (n ∷ ns) = ap (λ (l : List ℕ). number_of_key n.key ∷ l) (keys_in version bytes ns)
+
+pub nodes_push : (version : ℕ) (bytes : List ℕ) (ns : List NodePlaces) (n : NodePlaces) → nodes_of version bytes (ns ++ n ∷ []) ≡ nodes_of version bytes ns ++ node_of version bytes n ∷ []
+nodes_push version bytes ns n = map-append (node_of version bytes) ns (n ∷ [])
+
+pub count_push : (version : ℕ) (bytes : List ℕ) (ns : List NodePlaces) (n : NodePlaces) → count_points (nodes_of version bytes (ns ++ n ∷ [])) ≡ count_points (nodes_of version bytes ns) + length n.points.items
+count_push version bytes ns n =
+    let more = ap count_points (nodes_push version bytes ns n) ∙ sum_by-append (λ (n : NodeData). length n.points) (nodes_of version bytes ns) (node_of version bytes n ∷ []) in
+    let one = length-map n.points.items (point_in version bytes) in
+    omega (arith, more, one)
+
+-- ---- a node behind others: the key, the need, the exit, and the points
+pub node_reads : (version : ℕ) (before : List NodeData) (p q r s t : Place) (key : Key) (need : ℕ) (exit : Option Exit) (points : List Point)
+    → key_after (key_numbers before) p ≡ Ok (key, q) → need_at q ≡ Ok (need, r) → exits_at version key.kind r ≡ Ok (exit, s) → points_at version (count_points before) s ≡ Ok (points, t)
+    → node_after version before p ≡ Ok (record { key = key; need = need; exit = exit; points = points }, t)
+unfolding node_after
+node_reads version before p q r s t key need exit points a b c d = rw (a, b, c, d) refl
+
+pub key_fails : (version : ℕ) (before : List NodeData) (p : Place) (e : FormErr) → key_after (key_numbers before) p ≡ Err e → node_after version before p ≡ Err e
+unfolding node_after
+key_fails version before p e a = rw a refl
+
+pub need_fails : (version : ℕ) (before : List NodeData) (p q : Place) (key : Key) (e : FormErr) → key_after (key_numbers before) p ≡ Ok (key, q) → need_at q ≡ Err e → node_after version before p ≡ Err e
+unfolding node_after
+need_fails version before p q key e a b = rw (a, b) refl
+
+pub exit_fails : (version : ℕ) (before : List NodeData) (p q r : Place) (key : Key) (need : ℕ) (e : FormErr)
+    → key_after (key_numbers before) p ≡ Ok (key, q) → need_at q ≡ Ok (need, r) → exits_at version key.kind r ≡ Err e → node_after version before p ≡ Err e
+unfolding node_after
+exit_fails version before p q r key need e a b c = rw (a, b, c) refl
+
+pub points_fail : (version : ℕ) (before : List NodeData) (p q r s : Place) (key : Key) (need : ℕ) (exit : Option Exit) (e : CertErr)
+    → key_after (key_numbers before) p ≡ Ok (key, q) → need_at q ≡ Ok (need, r) → exits_at version key.kind r ≡ Ok (exit, s) → IsFaultOf (points_at version (count_points before) s) e
+    → IsFaultOf (node_after version before p) e
+unfolding node_after
+points_fail version before p q r s key need exit (Bad e) a b c d = rw (a, b, c, d) refl
+points_fail version before p q r s key need exit NoMemory a b c d = tt

@@ -1,0 +1,74 @@
+-- Points whose states are left where they stand.
+use Rattle.std.proofs.Common.{◌≡◌, ℕ, ◌+◌, ◌≤◌, List, [], ◌∷◌, ◌++◌, length, map, true, false, Result, Ok, Err, refl, sym, ap, ◌∙◌, subst, arith}
+use Rattle.std.specs.Prelude.{Option, Some, None, IsSome, OnSome, OnOk, IfErr, ◌↔◌}
+use Rattle.std.proofs.lemmas.List.{map-append}
+use Rattle.tcd_base.specs.declared.types.FormErr.{FormErr}
+use Rattle.tcd_base.specs.Place.{Place}
+use Rattle.value_domain.specs.declared.values.Val.{Val}
+use Rattle.value_domain.specs.declared.states.State.{State}
+use Rattle.depth_cert.specs.declared.points.Point.{Point}
+use Rattle.depth_cert.specs.Points.{addresses}
+use Rattle.depth_cert.specs.Grammar.{flag_at, values_at, state_at, address_after, point_after}
+use Rattle.tcd_base.specs.Reading.{u8_at}
+use Rattle.tcd_base.proofs.FieldReads.{bind_ok, u8_at_ok}
+use Rattle.depth_cert.proofs.PointReads.{point_reads}
+use Rattle.packed_cert.specs.declared.packed_points.PackedPoint.{PackedPoint}
+use Rattle.packed_cert.specs.Standing.{at, Stand}
+use Rattle.packed_cert.specs.Points.{read_or, no_state, state_in, HasState, point_in, points_in}
+use Rattle.packed_cert.proofs.SameBytes.{Small, values_stand}
+
+-- the values that were read stand where they were read
+pub read_stand : (version n : ℕ) (bytes : List ℕ) (c : Place) (vs : List Val) (q : Place) (x : ℕ) → Small bytes → c.bytes ≡ bytes → x ≡ c.place → x ≤ length bytes → values_at version n c ≡ Ok (vs, q)
+    → (x ≤ length bytes) × Stand version bytes x vs
+unfolding values_at
+read_stand version n bytes c vs q x small b p h e =
+    let there : at bytes x ≡ c = ap (λ (k : ℕ). at bytes k) p ∙ ap (λ (l : List ℕ). at l c.place) (sym b) in
+    let s = values_stand version bytes n x [] vs q small h (ap (values_at version n) there ∙ e) in
+    (h, subst (Stand version bytes x) (sym s.is) s.stand)
+
+-- so does the state
+pub state_read : (version : ℕ) (bytes : List ℕ) (c : Place) (x : ℕ) (s : State) (q : Place) → c.bytes ≡ bytes → x ≡ c.place → state_at version c ≡ Ok (s, q) → (state_in version bytes x ≡ s) × HasState version bytes x
+state_read version bytes c x s q b p e =
+    let there : at bytes x ≡ c = ap (λ (k : ℕ). at bytes k) p ∙ ap (λ (l : List ℕ). at l c.place) (sym b) in
+    let read : state_at version (at bytes x) ≡ Ok (s, q) = ap (state_at version) there ∙ e in
+    (ap (read_or no_state) read, ((s, q), read))
+
+pub addresses_in : (version : ℕ) (bytes : List ℕ) (ps : List PackedPoint) → addresses (points_in version bytes ps) ≡ map (λ p. p.addr) ps
+addresses_in version bytes [] = refl
+addresses_in version bytes (p ∷ ps) = ap (λ (l : List ℕ). p.addr ∷ l) (addresses_in version bytes ps)
+
+-- one point more
+pub point_more : (version : ℕ) (bytes : List ℕ) (ps : List PackedPoint) (addr place : ℕ) (c q r : Place) (s : State) → q.bytes ≡ bytes → place ≡ q.place
+    → address_after (map (λ p. p.addr) ps) c ≡ Ok (addr, q) → state_at version q ≡ Ok (s, r)
+    → point_after version (points_in version bytes ps) c ≡ Ok (point_in version bytes (record { addr = addr; place = place }), r)
+point_more version bytes ps addr place c q r s b p a e =
+    let h = state_read version bytes q place s r b p e in
+    point_reads version (points_in version bytes ps) c q r addr s (ap (λ (l : List ℕ). address_after l c) (addresses_in version bytes ps) ∙ a) e
+    ∙ ap (λ (t : State). let x : Result (Point × Place) FormErr = Ok (record { addr = addr; state = t }, r) in x) (sym h.0)
+
+pub points_push : (version : ℕ) (bytes : List ℕ) (ps : List PackedPoint) (p : PackedPoint) → points_in version bytes (ps ++ p ∷ []) ≡ points_in version bytes ps ++ point_in version bytes p ∷ []
+points_push version bytes ps p = map-append (point_in version bytes) ps (p ∷ [])
+
+-- where a state stands, bytes are
+pub state_inside : (version : ℕ) (bytes : List ℕ) (x : ℕ) → HasState version bytes x → x ≤ length bytes
+unfolding state_at flag_at
+state_inside version bytes x h =
+    let f = bind_ok (flag_at (at bytes x)) _ _ h.1 in
+    let b = bind_ok (u8_at (at bytes x)) _ _ f.1 in
+    let k = u8_at_ok (at bytes x) b.0.0 b.0.1 b.1 in
+    omega (arith, k.0.within)
+
+-- the state that is read at a place is the one that stands there
+pub whole_read : (version : ℕ) (bytes : List ℕ) (x : ℕ) (r : Result ℕ FormErr) (s : State) (c d : Place) → c ≡ at bytes x → HasState version bytes x
+    → OnOk r (state_at version c ≡ Ok (s, d)) → IfErr r (λ e. state_at version c ≡ Err e) → s ≡ state_in version bytes x
+whole_read version bytes x (Ok n) s c d e h ok err = sym (ap (read_or no_state) (ap (state_at version) (sym e) ∙ ok))
+whole_read version bytes x (Err f) s c d e h ok err =
+    let a : state_at version (at bytes x) ≡ Err f = ap (state_at version) (sym e) ∙ err in
+    absurd (never _ _ (sym a ∙ h.1))
+  where
+    never : (f : FormErr) (y : State × Place) → ◌≡◌ {A = Result (State × Place) FormErr} (Err f) (Ok y) → ⊥
+    never f y g = cc
+
+pub took : {A : Type 0} (r : Option A) (P : Type 0) (n len : ℕ) → (IsSome r ↔ (0 + n ≤ len)) → OnSome r P → n ≤ len → P
+took (Some x) P n len there moved h = moved
+took None P n len there moved h = absurd (let g : false ≡ true = there.1 (omega arith) in cc)

@@ -1,0 +1,147 @@
+-- Bytes that stand at two places are read alike.
+use Rattle.std.proofs.Common.{◌≡◌, ℕ, zero, suc, ◌+◌, ◌*◌, ◌<◌, ◌≤◌, ◌^◌, List, [], ◌∷◌, ◌++◌, length, get_or, take, drop, true, false, Ok, Result, cond, refl, sym, ap, ◌∙◌, subst, arith, append_assoc, length-append, eqb, leb}
+use Rattle.std.proofs.lemmas.Bool.{le-leb, lt-leb, ne_eqb}
+use Rattle.std.proofs.lemmas.List.{append-nil, take-append-drop, length-take, get_or-drop, drop_more}
+use Rattle.std.proofs.Math.Seq.{take-append_seam}
+use Rattle.std.specs.List.{flat_map}
+use Rattle.tcd_base.specs.declared.types.FormErr.{FormErr}
+use Rattle.tcd_base.specs.Bytes.{bytes_of_word}
+use Rattle.tcd_base.specs.Place.{Place, between}
+use Rattle.tcd_base.proofs.FieldReads.{bind_ok}
+use Rattle.value_domain.specs.declared.values.Val.{Val}
+use Rattle.value_domain.specs.declared.values.Val.TheVariants.{Set, Span}
+use Rattle.value_domain.specs.Values.{any_val}
+use Rattle.depth_cert.specs.Points.{IsWellOf}
+use Rattle.depth_cert.specs.Grammar.{many_at, value_at, is_any}
+use Rattle.depth_cert.specs.Spelling.{bytes_of_value}
+use Rattle.depth_cert.proofs.PassedLaws.{AreBytes, bytes_from, Passed, ok_pair}
+use Rattle.depth_cert.proofs.GrammarLaws.{value_passed}
+use Rattle.depth_cert.proofs.WrittenLaws.{IsRead, value_cases}
+use Rattle.packed_cert.specs.Standing.{at, length_by, behind, Stand}
+
+-- all bytes are below 256
+abbrev pub Small : List ℕ → Type 0
+Small bytes = (k : ℕ) → get_or bytes k 0 < 2 ^ 8
+
+pub split : (bytes : List ℕ) (x : ℕ) → x ≤ length bytes → at bytes x ≡ between (take x bytes) (drop x bytes)
+split bytes x h =
+    let len : x ≡ length (take x bytes) = omega (arith, length-take x bytes) in
+    ap (λ (l : List ℕ). at l x) (sym (take-append-drop x bytes)) ∙ ap (λ (n : ℕ). at (take x bytes ++ drop x bytes) n) len
+
+small_rest : (bytes : List ℕ) (x : ℕ) → Small bytes → AreBytes (drop x bytes)
+small_rest bytes x h = bytes_from (drop x bytes) (λ k. rw (get_or-drop x bytes k 0) (h (x + k)))
+
+-- what was passed over at one place is read at another where the same bytes stand
+pub moved : {A : Type 0} (read : Place → Result (A × Place) FormErr) (part : List ℕ) (v : A) (bytes : List ℕ) (x y : ℕ) (q : Place)
+    → IsRead read part v → Passed part (take x bytes) (drop x bytes) q → y + length part ≤ length bytes
+    → take (length part) (drop x bytes) ≡ take (length part) (drop y bytes) → read (at bytes y) ≡ Ok (v, at bytes (y + length part))
+moved {A} read part v bytes x y q good h room same =
+    let there : take (length part) (drop y bytes) ≡ part = sym same ∙ ap (take (length part)) h.is ∙ take-append_seam part h.after in
+    let rest : List ℕ = drop (length part) (drop y bytes) in
+    let is : part ++ rest ≡ drop y bytes = ap (λ (l : List ℕ). l ++ rest) (sym there) ∙ take-append-drop (length part) (drop y bytes) in
+    let front : List ℕ = take y bytes in
+    let whole : (front ++ part) ++ rest ≡ bytes = append_assoc front part rest ∙ ap (λ (l : List ℕ). front ++ l) is ∙ take-append-drop y bytes in
+    let len : length (front ++ part) ≡ y + length part = omega (arith, length-append front part, length-take y bytes) in
+    ap read (split bytes y (omega arith) ∙ ap (λ (l : List ℕ). between front l) (sym is))
+    ∙ good.at front rest
+    ∙ ap (λ (l : List ℕ). let r : Result (A × Place) FormErr = Ok (v, at l (length (front ++ part))) in r) whole
+    ∙ ap (λ (n : ℕ). let r : Result (A × Place) FormErr = Ok (v, at bytes n) in r) len
+
+-- ---- how long a value is
+length_words : (ws : List ℕ) → length (flat_map bytes_of_word ws) ≡ 4 * length ws
+length_words [] = refl
+length_words (w ∷ ws) = let e = length_words ws in omega arith
+
+value_length : (version : ℕ) (v : Val) → IsWellOf version v → length (bytes_of_value v) ≡ length_by (get_or (bytes_of_value v) 0 0)
+unfolding bytes_of_value
+value_length version (Set ws) h =
+    let not_zero : eqb (length ws) 0 ≡ false = ne_eqb _ _ (λ same. let s : length ws ≡ 0 = same in omega (arith, h.0.some)) in
+    let few : leb (length ws) 128 ≡ true = le-leb _ _ h.0.few in
+    let e = length_words ws in
+    rw (not_zero, few) (omega arith)
+value_length version (Span lo last step) h = by_any (is_any lo last step) step
+  where
+    by_any : (b : _) (step : ℕ) → length (cond b (0 ∷ []) ((240 + step) ∷ bytes_of_word lo ++ bytes_of_word last)) ≡ length_by (get_or (cond b (0 ∷ []) ((240 + step) ∷ bytes_of_word lo ++ bytes_of_word last)) 0 0)
+    by_any true step = refl
+    by_any false step =
+        let not_zero : eqb (240 + step) 0 ≡ false = ne_eqb _ _ (λ same. let s : 240 + step ≡ 0 = same in omega arith) in
+        let past : leb (240 + step) 128 ≡ false = lt-leb _ _ (omega arith) in
+        rw (not_zero, past) refl
+
+-- a value that stands at a place: how far it goes, and that it is read wherever its bytes stand
+pub record IsValueAt (version : ℕ) (bytes : List ℕ) (x : ℕ) (v : Val) (q : Place) : Type 0 where
+  pub end : q ≡ at bytes (behind bytes x)
+  pub within : behind bytes x ≤ length bytes
+  pub inside : x < length bytes
+  pub well : IsWellOf version v
+  pub same : (y : ℕ) → y + length_by (get_or bytes x 0) ≤ length bytes → take (length_by (get_or bytes x 0)) (drop x bytes) ≡ take (length_by (get_or bytes x 0)) (drop y bytes)
+      → value_at version (at bytes y) ≡ Ok (v, at bytes (y + length_by (get_or bytes x 0)))
+
+length_by_some : (tag : ℕ) → 1 ≤ length_by tag
+length_by_some tag = grind (arith)
+
+pub value_stands : (version : ℕ) (bytes : List ℕ) (x : ℕ) (v : Val) (q : Place) → Small bytes → x ≤ length bytes → value_at version (at bytes x) ≡ Ok (v, q) → IsValueAt version bytes x v q
+value_stands version bytes x v q small h e =
+    let front : List ℕ = take x bytes in
+    let p = value_passed version front (drop x bytes) v q (small_rest bytes x small) (ap (value_at version) (sym (split bytes x h)) ∙ e) in
+    let part : List ℕ = bytes_of_value v in
+    let some : 1 ≤ length_by (get_or part 0 0) = length_by_some (get_or part 0 0) in
+    let long = value_length version v p.1 in
+    let head : get_or bytes x 0 ≡ get_or part 0 0 =
+    let i : x + 0 ≡ x = omega arith in
+    ap (λ (n : ℕ). get_or bytes n 0) (sym i) ∙ sym (get_or-drop x bytes 0 0) ∙ ap (λ (l : List ℕ). get_or l 0 0) p.0.is ∙ first part p.0.after (omega arith)
+    in
+    let len : length part ≡ length_by (get_or bytes x 0) = long ∙ ap length_by (sym head) in
+    let whole : (front ++ part) ++ p.0.after ≡ bytes = append_assoc front part p.0.after ∙ ap (λ (l : List ℕ). front ++ l) (sym p.0.is) ∙ take-append-drop x bytes in
+    let place : length (front ++ part) ≡ behind bytes x = omega (arith, length-append front part, length-take x bytes) in
+    record {
+      end = p.0.at ∙ ap (λ (l : List ℕ). at l (length (front ++ part))) whole ∙ ap (λ (n : ℕ). at bytes n) place;
+      within = omega (arith, ap length whole, length-append (front ++ part) p.0.after);
+      inside = omega (arith, ap length whole, length-append (front ++ part) p.0.after);
+      well = p.1;
+      same = λ y room same. rw (← len) (moved (value_at version) part v bytes x y q (value_cases version v p.1) p.0 (omega arith) (rw len same));
+    }
+  where
+    first : (xs ys : List ℕ) → 1 ≤ length xs → get_or (xs ++ ys) 0 0 ≡ get_or xs 0 0
+    first [] ys h = absurd (omega arith)
+    first (x ∷ xs) ys h = refl
+
+-- ---- many values
+pub record AreValuesAt (version : ℕ) (bytes : List ℕ) (x n : ℕ) (before vs : List Val) : Type 0 where
+  pub values : List Val
+  pub is : vs ≡ before ++ values
+  pub count : length values ≡ n
+  pub stand : Stand version bytes x values
+
+pub values_stand : (version : ℕ) (bytes : List ℕ) (n x : ℕ) (before vs : List Val) (q : Place) → Small bytes → x ≤ length bytes
+    → many_at (λ before. value_at version) n before (at bytes x) ≡ Ok (vs, q) → AreValuesAt version bytes x n before vs
+unfolding many_at
+values_stand version bytes zero x before vs q small h e =
+    let same = ok_pair before vs (at bytes x) q e in
+    record { values = []; is = sym same.0 ∙ sym (append-nil before); count = refl; stand = tt }
+values_stand version bytes (suc n) x before vs q small h e =
+    let b = bind_ok (value_at version (at bytes x)) _ _ e in
+    let one = value_stands version bytes x b.0.0 b.0.1 small h b.1 in
+    let rest : many_at (λ before. value_at version) n (before ++ b.0.0 ∷ []) (at bytes (behind bytes x)) ≡ Ok (vs, q) = ap (many_at (λ before. value_at version) n (before ++ b.0.0 ∷ [])) (sym one.end) ∙ b.2 in
+    let more = values_stand version bytes n (behind bytes x) (before ++ b.0.0 ∷ []) vs q small one.within rest in
+    record {
+      values = b.0.0 ∷ more.values;
+      is = more.is ∙ append_assoc before (b.0.0 ∷ []) more.values;
+      count = ap suc more.count;
+      stand = (b.1 ∙ ap (λ (p : Place). let r : Result (Val × Place) FormErr = Ok (b.0.0, p) in r) one.end, more.stand);
+    }
+
+pub stand_next : (version : ℕ) (bytes : List ℕ) (b i : ℕ) (out : List Val) → i < length out → Stand version bytes b (drop i out)
+    → (value_at version (at bytes b) ≡ Ok (get_or out i any_val, at bytes (behind bytes b))) × Stand version bytes (behind bytes b) (drop (i + 1) out)
+stand_next version bytes b i out h s = subst (Stand version bytes b) (drop_more out i any_val h) s
+
+-- where the same bytes come again, the same value is read
+pub same_read : (version : ℕ) (bytes : List ℕ) (x n : ℕ) (v : Val) (q c d : Place) → Small bytes → x ≤ length bytes → value_at version (at bytes x) ≡ Ok (v, q) → c.bytes ≡ bytes
+    → n ≡ length_by (get_or bytes x 0) → (d ≡ record c { place = c.place + n }) × (c.place + n ≤ length bytes) × (take n (drop x bytes) ≡ take n (drop c.place bytes)) → value_at version c ≡ Ok (v, d)
+same_read version bytes x n v q c d small h e b len m =
+    let s = value_stands version bytes x v q small h e in
+    let there : c ≡ at bytes c.place = ap (λ (l : List ℕ). at l c.place) b in
+    let after : at bytes (c.place + length_by (get_or bytes x 0)) ≡ d = ap (λ (k : ℕ). at bytes (c.place + k)) (sym len) ∙ ap (λ (l : List ℕ). at l (c.place + n)) (sym b) ∙ sym m.0 in
+    ap (value_at version) there
+    ∙ s.same c.place (rw (← len) m.1) (rw (← len) m.2)
+    ∙ ap (λ (p : Place). let r : Result (Val × Place) FormErr = Ok (v, p) in r) after

@@ -1,0 +1,15 @@
+use Rattle.std.proofs.Common.{◌≡◌, ◌≤◌, ◌-◌, ◌^◌, []}
+use Rattle.std.specs.List.{All}
+use Rattle.depth_cert.specs.Grammar.{many_at, node_after}
+use Rattle.depth_cert.specs.Certs.{count_points}
+use Rattle.packed_cert.specs.Nodes.{nodes_of, HasPlaces}
+use Rattle.packed_cert.proofs.cert_fields.read_nodes.Given as goal
+
+abbrev pub invariant-loop-i : goal.invariant-loop-i
+invariant-loop-i l = record {
+  read : many_at (node_after l.version) l.count [] l.initial.c ≡ many_at (node_after l.version) (l.count - l._i) (nodes_of l.version l.bytes l.nodes.items) l.c;
+  bytes : l.c.bytes ≡ l.initial.c.bytes;
+  places : All (HasPlaces l.version l.bytes) l.nodes.items;
+  used : l.room.used ≡ count_points (nodes_of l.version l.bytes l.nodes.items);
+  few : l.room.used ≤ 2 ^ 16;
+}

@@ -1,0 +1,18 @@
+use Rattle.std.proofs.Common.{◌∙◌, sym, ap, arith}
+use Rattle.depth_cert.specs.declared.points.Exit.{Exit}
+use Rattle.packed_cert.specs.Points.{read_or}
+use Rattle.packed_cert.specs.Nodes.{no_exit}
+use Rattle.packed_cert.proofs.StateShapes.{exit_context}
+use Rattle.packed_cert.proofs.exits.ExitAt.ie.Goals as goal
+
+pub bounds-self-inside-self-inside : goal.bounds-self-inside-self-inside
+bounds-self-inside-self-inside c =
+    let h = c.self.invariant.exit in
+    omega (arith, (exit_context c.self.inside.version c.self.inside.bytes.now c.self.inside.place h.0.0 h.0.1 h.1).inside)
+
+pub returns : goal.returns
+returns c =
+    let h = c.self.invariant.exit in
+    sym (exit_context c.self.inside.version c.self.inside.bytes.now c.self.inside.place h.0.0 h.0.1 h.1).ie
+    ∙ sym (ap (λ (e : Exit). e.ie) (ap (read_or no_exit) h.1))
+    ∙ ap (λ (e : Exit). e.ie) c.self.view_is

@@ -1,0 +1,62 @@
+use Rattle.std.proofs.Common.{◌≡◌, ◌∙◌, ◌++◌, ◌∷◌, [], ℕ, ap, arith}
+use Rattle.std.proofs.lemmas.Result.{err_from_is_err_and}
+use Rattle.std.proofs.lemmas.List.Elements.{All-push}
+use Rattle.depth_cert.specs.Grammar.{points_at, point_after, address_after}
+use Rattle.depth_cert.proofs.ManyLaws.{many_more, many_fail, many_end, rising_map_push}
+use Rattle.depth_cert.proofs.PointReads.{address_fails, state_fails}
+use Rattle.packed_cert.specs.declared.packed_points.PackedPoint.{PackedPoint}
+use Rattle.packed_cert.specs.Points.{points_in, HasState}
+use Rattle.packed_cert.proofs.PointPlaces.{addresses_in, point_more, points_push, state_read}
+use Rattle.packed_cert.proofs.point_fields.read_points.Goals as goal
+
+pub returns-in_err-addr-clause-err : goal.returns-in_err-addr-clause-err
+unfolding points_at
+returns-in_err-addr-clause-err c =
+    let p = err_from_is_err_and c.from_residual-in_err-addr.result c.from_residual-in_err-addr.ensures.1 in
+    let before = points_in c.args.version c.args.bytes.now c.loop-i.points.items in
+    let e = rw c.deref.ensures.value at c.in_err-addr.ensures.read in
+    let fault = many_fail (point_after c.args.version) c.in_ok-count.count c.loop-i._i before c.read_point_count.new.c c.loop-i.c _ c.loop-i-test.true c.loop-i.invariant.read
+    (address_fails c.args.version before c.loop-i.c _ (ap (λ (l : _). address_after l c.loop-i.c) (addresses_in c.args.version c.args.bytes.now c.loop-i.points.items) ∙ e)) in
+    rw (p.1, p.2, c.in_ok-count.ensures.read) fault
+
+pub returns-in_err-read_state_after-clause-err : goal.returns-in_err-read_state_after-clause-err
+unfolding points_at
+returns-in_err-read_state_after-clause-err c =
+    let p = err_from_is_err_and c.from_residual-in_err-read_state_after.result c.from_residual-in_err-read_state_after.ensures.1 in
+    let before = points_in c.args.version c.args.bytes.now c.loop-i.points.items in
+    let e = rw c.deref.ensures.value at c.in_ok-addr.ensures.read in
+    let fault = many_fail (point_after c.args.version) c.in_ok-count.count c.loop-i._i before c.read_point_count.new.c c.loop-i.c _ c.loop-i-test.true c.loop-i.invariant.read
+    (state_fails c.args.version before c.loop-i.c _ _ _ (ap (λ (l : _). address_after l c.loop-i.c) (addresses_in c.args.version c.args.bytes.now c.loop-i.points.items) ∙ e) c.in_err-read_state_after.ensures.err) in
+    rw (p.1, p.2, c.in_ok-count.ensures.read) fault
+
+pub loop-i-preserved : goal.loop-i-preserved
+loop-i-preserved c =
+    let version = c.args.version in
+    let bytes = c.args.bytes.now in
+    let ps = c.loop-i.points.items in
+    let e = rw c.deref.ensures.value at c.in_ok-addr.ensures.read in
+    let next = rw c.deref.ensures.value at c.in_ok-addr.ensures.next in
+    let same = c.read_address.ensures.bytes ∙ c.loop-i.invariant.bytes ∙ c.read_point_count.ensures.bytes ∙ c.requires.same in
+    let q = c.read_address.new.c in
+    let item : PackedPoint = record { addr = c.in_ok-addr.addr; place = q.place } in
+    let h = state_read version bytes q q.place _ _ same (omega arith) c.in_ok-read_state_after.ensures.ok in
+    let more = point_more version bytes ps c.in_ok-addr.addr q.place c.loop-i.c q _ _ same (omega arith) e c.in_ok-read_state_after.ensures.ok in
+    let place : c.place-place.result ≡ q.place = c.place-place.ensures.place in
+    let pushed : c.push.new.self.items ≡ ps ++ item ∷ [] = c.in_ok-push.ensures.items ∙ ap (λ (k : ℕ). ps ++ record { addr = c.in_ok-addr.addr; place = k } ∷ []) place in
+    record {
+      read =
+          rw (pushed, points_push version bytes ps item)
+          (many_more (point_after version) c.in_ok-count.count c.loop-i._i (points_in version bytes ps) c.read_point_count.new.c c.loop-i.c _ _ c.loop-i-test.true c.loop-i.invariant.read more);
+      bytes = c.read_state_after.ensures.bytes ∙ c.read_address.ensures.bytes ∙ c.loop-i.invariant.bytes;
+      count = omega (arith, c.in_ok-push.ensures.len, c.loop-i.invariant.count);
+      states = rw pushed (All-push (λ (p : PackedPoint). HasState version bytes p.place) ps item c.loop-i.invariant.states h.1);
+      rising = rw pushed (rising_map_push (λ (p : PackedPoint). p.addr) ps item c.loop-i.invariant.rising next);
+      used = c.loop-i.invariant.used;
+      held = c.in_ok-read_state_after.ensures.held;
+    }
+
+pub returns-clause-ok : goal.returns-clause-ok
+unfolding points_at
+returns-clause-ok c =
+    rw c.in_ok-count.ensures.read
+    (many_end (point_after c.args.version) c.in_ok-count.count c.loop-i._i (points_in c.args.version c.args.bytes.now c.loop-i.points.items) c.read_point_count.new.c c.loop-i.c c.loop-i-test.false c.loop-i.invariant.read)

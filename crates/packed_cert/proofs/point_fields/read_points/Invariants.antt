@@ -1,0 +1,19 @@
+use Rattle.std.proofs.Common.{◌≡◌, ◌≤◌, ◌-◌, length, map, []}
+use Rattle.std.specs.Prelude.{IfSome}
+use Rattle.std.specs.List.{All}
+use Rattle.std.specs.List.Sorted.{IsStrictlyIncreasing}
+use Rattle.depth_cert.specs.Grammar.{many_at, point_after}
+use Rattle.packed_cert.specs.Standing.{Stand}
+use Rattle.packed_cert.specs.Points.{points_in, HasState}
+use Rattle.packed_cert.proofs.point_fields.read_points.Given as goal
+
+abbrev pub invariant-loop-i : goal.invariant-loop-i
+invariant-loop-i l = record {
+  read : many_at (point_after l.version) l.count [] l.initial.c ≡ many_at (point_after l.version) (l.count - l._i) (points_in l.version l.bytes l.points.items) l.c;
+  bytes : l.c.bytes ≡ l.initial.c.bytes;
+  count : length l.points.items ≡ l._i;
+  states : All (λ p. HasState l.version l.bytes p.place) l.points.items;
+  rising : IsStrictlyIncreasing (map (λ p. p.addr) l.points.items);
+  used : l.room.used ≡ l.initial.room.used;
+  held : IfSome l.from (λ x. (x ≤ length l.bytes) × Stand l.version l.bytes x l.room.state.regs);
+}

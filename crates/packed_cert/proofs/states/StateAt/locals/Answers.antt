@@ -1,0 +1,24 @@
+use Rattle.std.proofs.Common.{◌∙◌, sym, ap, arith}
+use Rattle.value_domain.specs.declared.states.State.{State}
+use Rattle.packed_cert.specs.Points.{read_or, no_state}
+use Rattle.packed_cert.proofs.StateShapes.{state_context}
+use Rattle.packed_cert.proofs.states.StateAt.locals.Goals as goal
+
+pub bounds-self-inside-self-inside : goal.bounds-self-inside-self-inside
+bounds-self-inside-self-inside c =
+    let h = c.self.invariant.state in
+    omega (arith, (state_context c.self.inside.version c.self.inside.bytes.now c.self.inside.place h.0.0 h.0.1 h.1).inside)
+
+pub flags_at-requires-clause-within : goal.flags_at-requires-clause-within
+flags_at-requires-clause-within c = let h = c.self.invariant.state in (state_context c.self.inside.version c.self.inside.bytes.now c.self.inside.place h.0.0 h.0.1 h.1).within
+
+pub flags_at-requires-clause-few : goal.flags_at-requires-clause-few
+flags_at-requires-clause-few c = let h = c.self.invariant.state in (state_context c.self.inside.version c.self.inside.bytes.now c.self.inside.place h.0.0 h.0.1 h.1).few
+
+pub returns : goal.returns
+returns c =
+    let h = c.self.invariant.state in
+    c.flags_at.ensures
+    ∙ sym (state_context c.self.inside.version c.self.inside.bytes.now c.self.inside.place h.0.0 h.0.1 h.1).locals
+    ∙ sym (ap (λ (s : State). s.locals.items) (ap (read_or no_state) h.1))
+    ∙ ap (λ (s : State). s.locals.items) c.self.view_is

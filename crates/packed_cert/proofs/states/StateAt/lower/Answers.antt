@@ -1,0 +1,22 @@
+use Rattle.std.proofs.Common.{◌∙◌, sym, ap, arith}
+use Rattle.value_domain.specs.declared.states.State.{State}
+use Rattle.packed_cert.specs.Points.{read_or, no_state}
+use Rattle.packed_cert.proofs.StateShapes.{state_context}
+use Rattle.packed_cert.proofs.states.StateAt.lower.Goals as goal
+
+pub overflow_add-result : goal.overflow_add-result
+overflow_add-result c =
+    let h = c.self.invariant.state in
+    omega (arith, (state_context c.self.inside.version c.self.inside.bytes.now c.self.inside.place h.0.0 h.0.1 h.1).inside, c.self.invariant.short)
+
+pub bounds-self-inside-self-inside : goal.bounds-self-inside-self-inside
+bounds-self-inside-self-inside c =
+    let h = c.self.invariant.state in
+    omega (arith, (state_context c.self.inside.version c.self.inside.bytes.now c.self.inside.place h.0.0 h.0.1 h.1).inside)
+
+pub returns : goal.returns
+returns c =
+    let h = c.self.invariant.state in
+    sym (state_context c.self.inside.version c.self.inside.bytes.now c.self.inside.place h.0.0 h.0.1 h.1).lower
+    ∙ sym (ap (λ (s : State). s.lower) (ap (read_or no_state) h.1))
+    ∙ ap (λ (s : State). s.lower) c.self.view_is

@@ -1,0 +1,6 @@
+-- Certificates on the bytes of their file.
+pub mod Below
+pub mod Nodes
+pub mod Points
+pub mod Standing
+pub mod Walks

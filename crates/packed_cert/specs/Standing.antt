@@ -1,0 +1,36 @@
+-- Values where they stand in bytes.
+use Rattle.std.specs.Prelude.{◌≡◌, ◌≤◌, ◌+◌, ◌*◌, ◌==◌, nat_le, if◌then◌else◌, ℕ, zero, suc, Bool, List, [], ◌∷◌, length, take, drop, slice_index, Ok}
+use Rattle.tcd_base.specs.Place.{Place}
+use Rattle.value_domain.specs.declared.values.Val.{Val}
+use Rattle.depth_cert.specs.Grammar.{value_at}
+
+-- a place in bytes
+abbrev pub at : List ℕ → ℕ → Place
+at bytes place = record { bytes = bytes; place = place }
+
+-- how many bytes a value has that begins with this one
+abbrev pub length_by : ℕ → ℕ
+length_by tag = if tag == 0 then 1 else if nat_le tag 128 then 1 + 4 * tag else 9
+
+-- the place behind a value
+abbrev pub behind : List ℕ → ℕ → ℕ
+behind bytes place = place + length_by (slice_index bytes place)
+
+-- n truth values from a place on, a byte each
+abbrev pub flags_in : List ℕ → ℕ → ℕ → List Bool
+flags_in bytes place zero = []
+flags_in bytes place (suc n) = (slice_index bytes place == 1) ∷ flags_in bytes (place + 1) n
+
+-- these values stand one after another from a place on
+abbrev pub Stand : ℕ → List ℕ → ℕ → List Val → Type 0
+Stand version bytes place [] = Unit {0}
+Stand version bytes place (v ∷ vs) = (value_at version (at bytes place) ≡ Ok (v, at bytes (behind bytes place))) × Stand version bytes (behind bytes place) vs
+
+-- they stand from a place in the bytes on
+abbrev pub StandFrom : ℕ → List ℕ → List Val → ℕ → Type 0
+StandFrom version bytes vs x = (x ≤ length bytes) × Stand version bytes x vs
+
+-- a cursor moved over n bytes, and the same stand from x on
+abbrev pub MovedOver : List ℕ → ℕ → ℕ → Place → Place → Type 0
+MovedOver bytes x n before after =
+    (after ≡ record before { place = before.place + n }) × (before.place + n ≤ length bytes) × (take n (drop x bytes) ≡ take n (drop before.place bytes))

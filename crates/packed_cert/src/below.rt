@@ -1,0 +1,118 @@
+// Whether values are below those that stand in bytes.
+ghost use Rattle.std.specs.Prelude.{◌≡◌, ◌≤◌, ◌<◌, ◌+◌, ◌*◌, ◌^◌, ◌↔◌, ℕ, IsTrue, length, slice_index, Ok};
+ghost use Rattle.tcd_base.specs.Bytes.{word_at};
+ghost use Rattle.tcd_base.specs.Place.{Place};
+ghost use Rattle.value_domain.specs.declared.values.Val.{Val};
+ghost use Rattle.value_domain.specs.Sets.{Rising, Within, AreWords};
+ghost use Rattle.value_domain.specs.Values.{IsWell, IsBelow};
+ghost use Rattle.packed_cert.specs.Below.{words_at, value_in, HasValue, values_in, HaveValues};
+ghost use Rattle.value_domain.specs.State.{AreWell, AreBelow};
+ghost use Rattle.packed_cert.specs.Standing.{at};
+ghost use Rattle.depth_cert.specs.Grammar.{value_at};
+
+use crate::values_after::length_by;
+use depth_cert::read_value;
+use tcd_base::Cursor;
+use value_domain::{Val, leq};
+
+/// The word at a place.
+fn word(bytes: &[u8], place: usize) -> u32
+    requires { place + 4 ≤ length bytes.now }
+    ensures { result ≡ word_at bytes.now place }
+{
+    u32::from_le_bytes([
+        bytes[place],
+        bytes[place + 1],
+        bytes[place + 2],
+        bytes[place + 3],
+    ])
+}
+
+/// The first of the words from number `k` on that isn't below `x`, or `n` where all are.
+fn first_from(bytes: &[u8], place: usize, n: usize, k: usize, x: u32) -> usize
+    requires within { place + 4 * n ≤ length bytes.now }
+    requires start { k ≤ n }
+    ensures start { k ≤ result }
+    ensures end { result ≤ n }
+    ensures below { (j : ℕ) → k ≤ j → j < result → word_at bytes.now (place + 4 * j) < x }
+    ensures reached { result < n → x ≤ word_at bytes.now (place + 4 * result) }
+{
+    let mut at = k;
+    while at < n && word(bytes, place + 4 * at) < x {
+        at += 1;
+    }
+    at
+}
+
+/// Whether each of the ascending words is one of the `n` ascending ones that stand at a place: both
+/// are walked once.
+fn are_among(own: &[u32], bytes: &[u8], place: usize, n: usize) -> bool
+    requires within { place + 4 * n ≤ length bytes.now }
+    requires own { Rising own.now }
+    requires words { Rising (words_at bytes.now place n) }
+    ensures { IsTrue result ↔ Within own.now (words_at bytes.now place n) }
+{
+    let mut k = 0;
+    for x in own {
+        k = first_from(bytes, place, n, k, *x);
+        if k == n || word(bytes, place + 4 * k) != *x {
+            return false;
+        }
+    }
+    true
+}
+
+/// A value of which the words are listed in bytes, read.
+fn value(bytes: &[u8], version: u8, place: usize) -> Val
+    requires short { length bytes.now ≤ 2 ^ 30 }
+    requires stands { HasValue version bytes.now place }
+    ensures { result ≡ value_in version bytes.now place }
+{
+    let mut c = Cursor::new(bytes);
+    let _front = c.take(place);
+    let mut out = Val::any();
+    let _read = read_value(&mut c, version, &mut out);
+    out
+}
+
+/// Whether each member of a value is one of the value that stands at a place.
+pub(crate) fn is_below_at(v: &Val, bytes: &[u8], version: u8, place: usize) -> bool
+    requires short { length bytes.now ≤ 2 ^ 30 }
+    requires well { IsWell v.now }
+    requires stands { HasValue version bytes.now place }
+    ensures { IsTrue result ↔ IsBelow v.now (value_in version bytes.now place) }
+{
+    let tag = bytes[place];
+    if tag == 0 {
+        return true;
+    }
+    if tag > 128 {
+        let upper = Val::Span {
+            lo: word(bytes, place + 1),
+            last: word(bytes, place + 5),
+            step: tag - 240,
+        };
+        return leq(v, &upper);
+    }
+    match v {
+        Val::Set(words) => are_among(words.as_slice(), bytes, place + 1, tag as usize),
+        Val::Span { .. } => leq(v, &value(bytes, version, place)),
+    }
+}
+
+/// Whether each value is below the one that stands in its turn from a place on.
+pub(crate) fn are_below_at(low: &[Val], bytes: &[u8], version: u8, place: usize) -> bool
+    requires short { length bytes.now ≤ 2 ^ 30 }
+    requires well { AreWell low.now }
+    requires stand { HaveValues version bytes.now place (length low.now) }
+    ensures { IsTrue result ↔ AreBelow low.now (values_in version bytes.now place (length low.now)) }
+{
+    let mut at = place;
+    for i in 0..low.len() {
+        if !is_below_at(&low[i], bytes, version, at) {
+            return false;
+        }
+        at += length_by(bytes[at]);
+    }
+    true
+}

@@ -1,0 +1,124 @@
+// Certificates on the bytes of their file.
+ghost use Rattle.std.specs.Prelude.{◌≡◌, ◌≤◌, ◌<◌, ◌^◌, ℕ, nat_lt, true, false, map, length, slice_index, Ok, IfOk, IfErr};
+ghost use Rattle.std.specs.List.{All, slice_get};
+ghost use Rattle.std.specs.List.Sorted.{IsStrictlyIncreasing, IsPartitionPoint};
+ghost use Rattle.depth_cert.specs.Answers.{IsFaultOf};
+ghost use Rattle.depth_cert.specs.Keys.{number_of_key};
+
+use crate::cert_fields::read_parts;
+use crate::node_places::NodePlaces;
+use crate::packed_nodes::PackedNode;
+use depth_cert::{CertErr, Key, number_of};
+use std::alloc::Global;
+use std::marker::Model;
+
+/// A certificate that stays on the bytes of its file.
+#[derive(Drop)]
+pub struct PackedCert {
+    bytes: Vec<u8>,
+    version: u8,
+    nodes: Vec<NodePlaces>,
+}
+
+impl Model for PackedCert {
+    ghost use Rattle.depth_cert.specs.Certs.{CertData};
+
+    ghost Value = { CertData };
+
+    ghost use Rattle.packed_cert.specs.Nodes.{cert_of, IsPackedCert};
+
+    ghost view = { λ c. cert_of c.version c.bytes.items c.nodes.items };
+
+    ghost invariant = { λ c. IsPackedCert c.version c.bytes.items c.nodes.items };
+}
+
+impl PackedCert {
+    ghost use Rattle.depth_cert.specs.Certs.{IsCert, find_node};
+    ghost use Rattle.depth_cert.specs.Grammar.{certificate_of};
+    ghost use Rattle.depth_cert.specs.Spelling.{bytes_of};
+
+    /// The certificate that the bytes spell, or their first fault.
+    pub fn read(alloc: Global, bytes: Vec<u8>) -> Result<PackedCert, CertErr>
+        requires { length bytes.items ≤ 2 ^ 30 }
+        ensures ok { IfOk result (λ c. certificate_of bytes.items ≡ Ok c) }
+        ensures err { IfErr result (IsFaultOf (certificate_of bytes.items)) }
+
+        // No other bytes spell it.
+        ensures one { IfOk result (λ c. bytes_of c ≡ bytes.items) }
+    {
+        let (version, nodes) = read_parts(alloc, &bytes)?;
+        are_bytes(&bytes);
+        Ok(PackedCert {
+            bytes,
+            version,
+            nodes,
+        })
+    }
+
+    /// The bytes that spell the certificate.
+    pub fn bytes(&self) -> &[u8]
+        ensures spelled { result.now ≡ bytes_of self.now }
+        ensures back { certificate_of result.now ≡ Ok self.now }
+        ensures short { length result.now ≤ 2 ^ 30 }
+    {
+        self.bytes.as_slice()
+    }
+
+    /// The version, 1 or 2; a certificate keeps the order and the limits.
+    pub fn version(&self) -> u8
+        ensures version { result ≡ self.now.version }
+        ensures limits { IsCert self.now }
+    {
+        self.version
+    }
+
+    /// How many nodes there are.
+    pub fn len(&self) -> usize
+        ensures { result ≡ length self.now.nodes }
+    {
+        self.nodes.len()
+    }
+
+    /// The node at an index, or nothing past the last.
+    pub fn get(&self, index: usize) -> Option<PackedNode<'_>>
+        ensures { result ≡ slice_get self.now.nodes index }
+    {
+        if index < self.nodes.len() {
+            return Some(PackedNode::at(self.bytes.as_slice(), self.version, &self.nodes[index]));
+        }
+        None
+    }
+
+    /// The node of a key, or nothing where there is none.
+    pub fn node(&self, key: &Key) -> Option<PackedNode<'_>>
+        ensures { result ≡ find_node key.now self.now.nodes }
+    {
+        let nodes = self.nodes.as_slice();
+        let number = number_of(key);
+        let at = node_place(nodes, number);
+        if at < nodes.len() && number_of(&nodes[at].key) == number {
+            return Some(PackedNode::at(self.bytes.as_slice(), self.version, &nodes[at]));
+        }
+        None
+    }
+}
+
+/// Bytes are below 256, as their type says.
+fn are_bytes(bytes: &[u8])
+    ensures { (k : ℕ) → slice_index bytes.now k < 2 ^ 8 }
+{}
+
+fn is_below(node: &NodePlaces, number: u64) -> bool
+    ensures { result ≡ nat_lt (number_of_key node.now.key) number }
+{
+    number_of(&node.key) < number
+}
+
+/// The place before which all keys are below.
+fn node_place(nodes: &[NodePlaces], number: u64) -> usize
+    requires { IsStrictlyIncreasing (map (λ n. number_of_key n.key) nodes.now) }
+    ensures { IsPartitionPoint (λ n. nat_lt (number_of_key n.key) number ≡ true)
+        (λ n. nat_lt (number_of_key n.key) number ≡ false) nodes.now result }
+{
+    nodes.partition_point(|n| is_below(n, number))
+}

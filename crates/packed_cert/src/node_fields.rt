@@ -1,0 +1,123 @@
+// The fields of nodes, read.
+ghost use Rattle.std.specs.Prelude.{◌≡◌, ◌≤◌, ◌+◌, ◌^◌, length, map, Ok, Err, OnOk, IfOk, IfErr, IfSome};
+ghost use Rattle.std.specs.Option.{option_map};
+ghost use Rattle.tcd_base.specs.Reading.{Reads};
+ghost use Rattle.depth_cert.specs.Answers.{IsFaultOf};
+ghost use Rattle.depth_cert.specs.Grammar.{key_after, exits_at, node_after, is_above};
+ghost use Rattle.depth_cert.specs.Keys.{key_number, number_of_key};
+ghost use Rattle.depth_cert.specs.Certs.{count_points};
+ghost use Rattle.packed_cert.specs.Nodes.{exit_in, HasExit, node_of, nodes_of, HasPlaces};
+
+use crate::node_places::NodePlaces;
+use crate::point_fields::{Room, read_points};
+use depth_cert::{CertErr, Key, fault, number_of, read_exit, read_has_exit, read_need};
+use std::alloc::Global;
+use tcd_base::{Cursor, FormErr, read_u8, read_u32};
+
+/// The fields of a key as one number, which orders keys.
+fn number(kind: u8, entry: u32, prio: u8, is: u8) -> u64
+    ensures { result ≡ key_number kind entry prio is }
+{
+    ((u64::from(kind) * 4_294_967_296 + u64::from(entry)) * 256 + u64::from(prio)) * 256
+        + u64::from(is)
+}
+
+/// Whether a key's number is above that of the last node.
+fn is_next(before: &[NodePlaces], key: u64) -> bool
+    ensures { result ≡ is_above (map (λ n. number_of_key n.key) before.now) key }
+{
+    if before.is_empty() {
+        return true;
+    }
+    let last = &before[before.len() - 1];
+    number_of(&last.key) < key
+}
+
+#[tactic(auto, unfolding(depth_cert::specs::Grammar::key_after))]
+fn read_key(c: &mut Cursor<'_>, before: &[NodePlaces]) -> Result<Key, FormErr>
+    requires { length c.old.bytes ≤ 2 ^ 30 }
+    ensures read { Reads result c.new (key_after (map (λ n. number_of_key n.key) before.now) c.old) }
+    ensures bytes { c.new.bytes ≡ c.old.bytes }
+{
+    let start = c.place();
+    let kind = read_u8(c)?;
+    if kind > 4 {
+        return Err(fault(4, start));
+    }
+    let entry = read_u32(c)?;
+    let prio = read_u8(c)?;
+    let at = c.place();
+    let is = read_u8(c)?;
+    if !is_next(before, number(kind, entry, prio, is)) {
+        return Err(fault(3, start));
+    }
+    if is > 1 {
+        return Err(fault(4, at));
+    }
+    Ok(Key {
+        kind,
+        entry,
+        prio,
+        is: is == 1,
+    })
+}
+
+/// The place of a node's exit, if it has one.
+#[tactic(auto, unfolding(depth_cert::specs::Grammar::exits_at))]
+fn read_exits(
+    c: &mut Cursor<'_>,
+    bytes: &[u8],
+    version: u8,
+    kind: u8,
+) -> Result<Option<u32>, FormErr>
+    requires short { length c.old.bytes ≤ 2 ^ 30 }
+    requires same { c.old.bytes ≡ bytes.now }
+    ensures ok { IfOk result (λ e.
+        exits_at version kind c.old ≡ Ok (option_map (exit_in version bytes.now) e, c.new)) }
+    ensures err { IfErr result (λ e. exits_at version kind c.old ≡ Err e) }
+    ensures exit { IfOk result (λ e. IfSome e (HasExit version bytes.now)) }
+    ensures bytes { c.new.bytes ≡ c.old.bytes }
+{
+    if !read_has_exit(c, kind)? {
+        return Ok(None);
+    }
+    let place = c.place() as u32;
+    let _exit = read_exit(c, version)?;
+    Ok(Some(place))
+}
+
+/// A node after those before.
+#[tactic(auto, unfolding(depth_cert::specs::Grammar::node_after))]
+pub(crate) fn read_node(
+    alloc: Global,
+    c: &mut Cursor<'_>,
+    bytes: &[u8],
+    version: u8,
+    before: &[NodePlaces],
+    room: &mut Room,
+) -> Result<NodePlaces, CertErr>
+    requires short { length c.old.bytes ≤ 2 ^ 30 }
+    requires same { c.old.bytes ≡ bytes.now }
+    requires used { room.old.used ≡ count_points (nodes_of version bytes.now before.now) }
+    requires few { room.old.used ≤ 2 ^ 16 }
+    ensures ok { IfOk result (λ n.
+        node_after version (nodes_of version bytes.now before.now) c.old
+        ≡ Ok (node_of version bytes.now n, c.new)) }
+    ensures err { IfErr result (IsFaultOf
+        (node_after version (nodes_of version bytes.now before.now) c.old)) }
+    ensures places { IfOk result (HasPlaces version bytes.now) }
+    ensures used { IfOk result (λ n. room.new.used ≡ room.old.used + length n.points.items) }
+    ensures few { OnOk result (room.new.used ≤ 2 ^ 16) }
+    ensures bytes { c.new.bytes ≡ c.old.bytes }
+{
+    let key = read_key(c, before)?;
+    let need = read_need(c)?;
+    let exit = read_exits(c, bytes, version, key.kind)?;
+    let points = read_points(alloc, c, bytes, version, room)?;
+    Ok(NodePlaces {
+        key,
+        need,
+        exit,
+        points,
+    })
+}

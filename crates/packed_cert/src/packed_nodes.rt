@@ -1,0 +1,104 @@
+// Nodes of which the points stand in bytes.
+ghost use Rattle.std.specs.Prelude.{◌≡◌, ◌<◌, nat_lt, ◌==◌, true, false, map, find};
+ghost use Rattle.std.specs.Option.{option_map};
+ghost use Rattle.std.specs.List.Sorted.{IsStrictlyIncreasing, IsPartitionPoint};
+ghost use Rattle.packed_cert.specs.Nodes.{node_of, HasPlaces};
+
+use crate::exits::ExitAt;
+use crate::node_places::NodePlaces;
+use crate::packed_points::PackedPoint;
+use crate::states::StateAt;
+use crate::walks::PointWalk;
+use depth_cert::Key;
+use std::marker::Model;
+
+/// A node where it stands in bytes.
+#[derive(Drop)]
+pub struct PackedNode<'a> {
+    bytes: &'a [u8],
+    version: u8,
+    pub key: Key,
+    pub need: u16,
+    exit: Option<u32>,
+    points: &'a [PackedPoint],
+}
+
+impl<'a> Model for PackedNode<'a> {
+    ghost use Rattle.depth_cert.specs.Nodes.{NodeData};
+    ghost use Rattle.packed_cert.specs.Nodes.{node_in, IsPackedNode};
+
+    ghost Value = { NodeData };
+
+    ghost view = { λ n. node_in n.version n.bytes.now n.key n.need n.exit n.points.now };
+
+    ghost invariant = { λ n. IsPackedNode n.version n.bytes.now n.exit n.points.now };
+}
+
+impl<'a> PackedNode<'a> {
+    ghost use Rattle.depth_cert.specs.Points.{ArePoints, find_point};
+
+    /// The node of which the places are kept.
+    pub(crate) fn at(bytes: &'a [u8], version: u8, places: &'a NodePlaces) -> PackedNode<'a>
+        requires { HasPlaces version bytes.now places.now }
+        ensures { result ≡ node_of version bytes.now places.now }
+    {
+        PackedNode {
+            bytes,
+            version,
+            key: places.key,
+            need: places.need,
+            exit: places.exit,
+            points: places.points.as_slice(),
+        }
+    }
+
+    /// The exit, if the node has one.
+    pub fn exit(&self) -> Option<ExitAt<'a>>
+        ensures { result ≡ self.now.exit }
+    {
+        match self.exit {
+            Some(place) => Some(ExitAt::at(self.bytes, self.version, place as usize)),
+            None => None,
+        }
+    }
+
+    /// A walk over the points, which stand by ascending address.
+    pub fn points(&self) -> PointWalk<'a>
+        ensures all { result.left ≡ self.now.points }
+        ensures rising { ArePoints self.now.points }
+    {
+        PointWalk::over(self.bytes, self.version, self.points)
+    }
+
+    /// The state at the address of a point, or nothing where there is none; point number `near` is
+    /// tried first.
+    pub fn state(&self, addr: u32, near: usize) -> Option<StateAt<'a>>
+        ensures { result ≡ option_map (λ p. p.state) (find_point addr self.now.points) }
+    {
+        let points = self.points;
+        let at = place_of(points, addr, near);
+        if at < points.len() && points[at].addr == addr {
+            let place = points[at].place as usize;
+            return Some(StateAt::at(self.bytes, self.version, place));
+        }
+        None
+    }
+}
+
+fn is_below(point: &PackedPoint, addr: u32) -> bool
+    ensures { result ≡ nat_lt point.now.addr addr }
+{
+    point.addr < addr
+}
+
+/// The place before which all addresses are below: `near`, where that is the address, else by halves.
+fn place_of(points: &[PackedPoint], addr: u32, near: usize) -> usize
+    requires { IsStrictlyIncreasing (map (λ p. p.addr) points.now) }
+    ensures { IsPartitionPoint (λ p. nat_lt p.addr addr ≡ true) (λ p. nat_lt p.addr addr ≡ false)
+        points.now result }
+{
+    if near < points.len() && points[near].addr == addr {
+        return near;
+    }
+    points.partition_point(|p| is_below(p, addr))
+}

@@ -1,0 +1,140 @@
+// The fields of points, read; what stands again is passed over.
+ghost use Rattle.std.specs.Prelude.{◌≡◌, ◌≤◌, ◌+◌, ◌^◌, length, map, vec_len, true, Ok, Err, OnOk, IfOk, IfErr, IfSome};
+ghost use Rattle.std.specs.List.{All};
+ghost use Rattle.tcd_base.specs.Reading.{Reads};
+ghost use Rattle.depth_cert.specs.Grammar.{values_at, state_at, address_after, points_at, is_above};
+ghost use Rattle.depth_cert.specs.Answers.{IsFaultOf};
+ghost use Rattle.std.specs.List.Sorted.{IsStrictlyIncreasing};
+ghost use Rattle.packed_cert.specs.Standing.{StandFrom};
+ghost use Rattle.packed_cert.specs.Points.{HasState, points_in};
+
+use crate::packed_points::PackedPoint;
+use crate::values_after::read_values_after;
+use arrayvec::ArrayVec;
+use depth_cert::{CertErr, fault, read_flag, read_locals, read_point_count, read_values};
+use std::alloc::Global;
+use tcd_base::{Cursor, FormErr, read_u8, read_u32};
+use value_domain::{State, Val};
+
+/// Reads values; where some stand from a place on, they lie in `out` already.
+fn read_values_like(
+    c: &mut Cursor<'_>,
+    bytes: &[u8],
+    version: u8,
+    from: Option<usize>,
+    out: &mut [Val],
+) -> Result<(), FormErr>
+    requires short { length c.old.bytes ≤ 2 ^ 30 }
+    requires same { c.old.bytes ≡ bytes.now }
+    requires held { IfSome from (StandFrom version bytes.now out.old) }
+    ensures ok { OnOk result (values_at version (length out.old) c.old ≡ Ok (out.new, c.new)) }
+    ensures err { IfErr result (λ e. values_at version (length out.old) c.old ≡ Err e) }
+    ensures bytes { c.new.bytes ≡ c.old.bytes }
+{
+    match from {
+        Some(x) => read_values_after(c, bytes, version, x, out),
+        None => read_values(c, version, out),
+    }
+}
+
+/// Reads a state into a place, which may hold one whose values stand elsewhere; gives the place of
+/// its own values.
+#[tactic(auto, unfolding(depth_cert::specs::Grammar::state_at))]
+pub(crate) fn read_state_after(
+    c: &mut Cursor<'_>,
+    bytes: &[u8],
+    version: u8,
+    from: Option<usize>,
+    out: &mut State,
+) -> Result<usize, FormErr>
+    requires short { length c.old.bytes ≤ 2 ^ 30 }
+    requires same { c.old.bytes ≡ bytes.now }
+    requires held { IfSome from (StandFrom version bytes.now out.old.regs) }
+    ensures ok { OnOk result (state_at version c.old ≡ Ok (out.new, c.new)) }
+    ensures err { IfErr result (λ e. state_at version c.old ≡ Err e) }
+    ensures held { IfOk result (StandFrom version bytes.now out.new.regs) }
+    ensures bytes { c.new.bytes ≡ c.old.bytes }
+{
+    out.ie = read_flag(c)?;
+    out.ccpn = read_u8(c)?;
+    out.lower = read_flag(c)?;
+    out.locals = read_locals(c, version)?;
+    let at = c.place();
+    read_values_like(c, bytes, version, from, &mut out.regs)?;
+    Ok(at)
+}
+
+/// A state of which nothing is known.
+pub(crate) fn blank() -> State {
+    State {
+        regs: std::array::from_fn(|_| Val::any()),
+        ie: false,
+        ccpn: 0,
+        lower: false,
+        locals: ArrayVec::new(),
+    }
+}
+
+/// Whether an address is above that of the last point.
+fn is_next(before: &[PackedPoint], addr: u32) -> bool
+    ensures { result ≡ is_above (map (λ p. p.addr) before.now) addr }
+{
+    before.is_empty() || before[before.len() - 1].addr < addr
+}
+
+#[tactic(auto, unfolding(depth_cert::specs::Grammar::address_after))]
+fn read_address(c: &mut Cursor<'_>, before: &[PackedPoint]) -> Result<u32, FormErr>
+    requires { length c.old.bytes ≤ 2 ^ 30 }
+    ensures read { Reads result c.new (address_after (map (λ p. p.addr) before.now) c.old) }
+    ensures next { IfOk result (λ addr. is_above (map (λ p. p.addr) before.now) addr ≡ true) }
+    ensures bytes { c.new.bytes ≡ c.old.bytes }
+{
+    let start = c.place();
+    let addr = read_u32(c)?;
+    if !is_next(before, addr) {
+        return Err(fault(3, start));
+    }
+    Ok(addr)
+}
+
+/// What the reading of a certificate carries from node to node: room for a state, and how many
+/// points were read.
+#[derive(Drop)]
+pub(crate) struct Room {
+    pub(crate) state: State,
+    pub(crate) used: usize,
+}
+
+/// How many points, and each. One state is room for all.
+#[tactic(auto, unfolding(depth_cert::specs::Grammar::points_at))]
+pub(crate) fn read_points(
+    alloc: Global,
+    c: &mut Cursor<'_>,
+    bytes: &[u8],
+    version: u8,
+    room: &mut Room,
+) -> Result<Vec<PackedPoint>, CertErr>
+    requires short { length c.old.bytes ≤ 2 ^ 30 }
+    requires same { c.old.bytes ≡ bytes.now }
+    requires used { room.old.used ≤ 2 ^ 16 }
+    ensures ok { IfOk result (λ ps.
+        points_at version room.old.used c.old ≡ Ok (points_in version bytes.now ps.items, c.new)) }
+    ensures err { IfErr result (IsFaultOf (points_at version room.old.used c.old)) }
+    ensures states { IfOk result (λ ps. All (λ p. HasState version bytes.now p.place) ps.items) }
+    ensures rising { IfOk result (λ ps. IsStrictlyIncreasing (map (λ p. p.addr) ps.items)) }
+    ensures used { IfOk result (λ ps. room.new.used ≡ room.old.used + vec_len ps) }
+    ensures few { OnOk result (room.new.used ≤ 2 ^ 16) }
+    ensures bytes { c.new.bytes ≡ c.old.bytes }
+{
+    let count = read_point_count(c, room.used)?;
+    let mut points = Vec::new(alloc);
+    let mut from = None;
+    for _i in 0..count {
+        let addr = read_address(c, &points)?;
+        let place = c.place() as u32;
+        from = Some(read_state_after(c, bytes, version, from, &mut room.state)?);
+        points.push(PackedPoint { addr, place })?;
+    }
+    room.used += points.len();
+    Ok(points)
+}

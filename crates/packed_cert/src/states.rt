@@ -1,0 +1,173 @@
+// States where they stand in bytes.
+ghost use Rattle.std.specs.Prelude.{◌≡◌, ◌≤◌, ◌+◌, ◌^◌, ◌↔◌, IsTrue, length};
+ghost use Rattle.packed_cert.specs.Standing.{flags_in};
+ghost use Rattle.packed_cert.specs.Points.{state_in, HasState};
+ghost use Rattle.packed_cert.specs.Below.{values_in, HaveValues};
+
+use crate::below::are_below_at;
+use crate::changed::is_changed_below_at;
+use crate::point_fields::{blank, read_state_after};
+use arrayvec::ArrayVec;
+use std::marker::Model;
+use tcd_base::Cursor;
+use value_domain::{State, Val, are_implied};
+use vd_transfer::Change;
+
+/// A state where it stands in bytes.
+#[derive(Drop)]
+pub struct StateAt<'a> {
+    bytes: &'a [u8],
+    version: u8,
+    place: usize,
+}
+
+impl<'a> Model for StateAt<'a> {
+    ghost use Rattle.value_domain.specs.declared.states.State.{State};
+    ghost use Rattle.packed_cert.specs.Points.{state_in, IsStateAt};
+
+    ghost Value = { State };
+
+    ghost view = { λ s. state_in s.version s.bytes.now s.place };
+
+    ghost invariant = { λ s. IsStateAt s.version s.bytes.now s.place };
+}
+
+impl<'a> StateAt<'a> {
+    /// The state that stands at a place.
+    pub(crate) fn at(bytes: &'a [u8], version: u8, place: usize) -> StateAt<'a>
+        requires short { length bytes.now ≤ 2 ^ 30 }
+        requires state { HasState version bytes.now place }
+        ensures { result ≡ state_in version bytes.now place }
+    {
+        StateAt {
+            bytes,
+            version,
+            place,
+        }
+    }
+
+    /// The state, read.
+    pub fn read(&self) -> State
+        ensures { result ≡ self.now }
+    {
+        let mut c = Cursor::new(self.bytes);
+        let _front = c.take(self.place);
+        let mut out = blank();
+        let _read = read_state_after(&mut c, self.bytes, self.version, None, &mut out);
+        out
+    }
+}
+
+impl<'a> StateAt<'a> {
+    /// Whether interrupts may be enabled.
+    pub fn ie(&self) -> bool
+        ensures { result ≡ self.now.ie }
+    {
+        self.bytes[self.place] == 1
+    }
+
+    /// A number that CCPN isn't below.
+    pub fn ccpn(&self) -> u8
+        ensures { result ≡ self.now.ccpn }
+    {
+        self.bytes[self.place + 1]
+    }
+
+    /// Whether the lower context was saved.
+    pub fn lower(&self) -> bool
+        ensures { result ≡ self.now.lower }
+    {
+        self.bytes[self.place + 2] == 1
+    }
+
+    /// What is known of the local areas.
+    pub fn locals(&self) -> ArrayVec<bool, 8>
+        ensures { result.items ≡ self.now.locals.items }
+    {
+        let count = self.bytes[self.place + 3];
+        flags_at(self.bytes, self.place + 4, count)
+    }
+}
+
+impl<'a> StateAt<'a> {
+    ghost use Rattle.value_domain.specs.State.{AreWell, AreBelow, Covers};
+    ghost use Rattle.vd_transfer.specs.Changes.{changed};
+
+    /// Whether each value is below that of the same register, compared where these stand.
+    pub fn is_above(&self, low: &[Val; 27]) -> bool
+        requires { AreWell low.now }
+        ensures { IsTrue result ↔ AreBelow low.now self.now.regs }
+    {
+        let place = place_of_values(self.bytes, self.version, self.place);
+        are_below_at(low, self.bytes, self.version, place)
+    }
+
+    /// Whether this context covers another.
+    pub fn covers_context(&self, ie: bool, ccpn: u8, lower: bool) -> bool
+        ensures { IsTrue result
+            ↔ ((IsTrue ie → IsTrue self.now.ie) × (self.now.ccpn ≤ ccpn)
+            × (IsTrue self.now.lower → IsTrue lower)) }
+    {
+        implies(ie, self.ie()) && self.ccpn() <= ccpn && implies(self.lower(), lower)
+    }
+
+    /// Whether each run that a state allows is allowed by this one.
+    pub fn covers(&self, s: &State) -> bool
+        requires { AreWell s.now.regs }
+        ensures { IsTrue result ↔ Covers self.now s.now }
+    {
+        if !self.covers_context(s.ie, s.ccpn, s.lower) {
+            return false;
+        }
+        if !are_implied(self.locals().as_slice(), s.locals.as_slice()) {
+            return false;
+        }
+        self.is_above(&s.regs)
+    }
+
+    /// Whether this state covers a changed one, which is never built.
+    pub fn covers_changed(&self, s: &State, c: &Change) -> bool
+        requires { AreWell (changed s.now c.now).regs }
+        ensures { IsTrue result ↔ Covers self.now (changed s.now c.now) }
+    {
+        if !self.covers_context(c.ie, c.ccpn, c.lower) {
+            return false;
+        }
+        if !are_implied(self.locals().as_slice(), c.locals.as_slice()) {
+            return false;
+        }
+        let place = place_of_values(self.bytes, self.version, self.place);
+        is_changed_below_at(s, c, self.bytes, self.version, place)
+    }
+}
+
+fn implies(a: bool, b: bool) -> bool
+    ensures { IsTrue result ↔ (IsTrue a → IsTrue b) }
+{
+    if a { b } else { true }
+}
+
+/// The truth values that stand from a place on.
+fn flags_at(bytes: &[u8], place: usize, count: u8) -> ArrayVec<bool, 8>
+    requires short { length bytes.now ≤ 2 ^ 30 }
+    requires within { place + count ≤ length bytes.now }
+    requires few { count ≤ 8 }
+    ensures { result.items ≡ flags_in bytes.now place count }
+{
+    let mut flags = ArrayVec::new();
+    for i in 0..count {
+        flags.push(bytes[place + i as usize] == 1);
+    }
+    flags
+}
+
+/// Where the values of a state stand.
+fn place_of_values(bytes: &[u8], version: u8, place: usize) -> usize
+    requires short { length bytes.now ≤ 2 ^ 30 }
+    requires inside { place ≤ length bytes.now }
+    requires state { HasState version bytes.now place }
+    ensures have { HaveValues version bytes.now result 27 }
+    ensures values { (state_in version bytes.now place).regs ≡ values_in version bytes.now result 27 }
+{
+    place + 4 + bytes[place + 3] as usize
+}
