@@ -1,6 +1,7 @@
 pub mod AnswerLaws
 pub mod Finding
 pub mod FirstFaults
+pub mod Forms
 pub mod Headline
 pub mod Judging
 pub mod NodeFaults

@@ -7,25 +7,25 @@ ghost use Rattle.depth_check.specs.Finding.{IsWellNode};
 ghost use Rattle.depth_check.specs.Judging.{Judges};
 
 use crate::Verdict;
+use crate::any_certs::AnyCert;
 use crate::covering::has_point;
+use crate::forms::Frame;
 use crate::nodes::node_fault;
-use crate::rules::start_key;
-use cfg_recover::start_state;
-use depth_cert::{Cert, Node};
+use cfg_recover::{start_key, start_state};
 use elf_image::Image;
 use tcd_plan::Plan;
 use value_domain::Bounds;
 
 /// The node of the start, where its point at the entry covers the start state.
-fn start_node<'a>(image: &Image, plan: &Plan, cert: &'a Cert) -> Option<&'a Node>
+fn start_node<'a>(image: &Image, plan: &Plan, cert: &AnyCert<'a>) -> Option<Frame<'a>>
     requires { All IsWellNode cert.now.nodes }
     ensures none { IsNone result → HoldsAtStart image.now plan.now cert.now → ⊥ }
     ensures holds { IfSome result (λ n. HoldsAtStart image.now plan.now cert.now) }
-    ensures node { IfSome result (λ n. find_node (entries.start_key image.now plan.now) cert.now.nodes ≡ Some n.now) }
+    ensures node { IfSome result (λ n. find_node (entries.start_key image.now plan.now) cert.now.nodes ≡ Some n) }
 {
     let _sp = plan.sp;
     let node = cert.node(&start_key(image, plan))?;
-    if has_point(node, image.entry, &start_state(plan)) {
+    if has_point(&node, image.entry, &start_state(plan)) {
         Some(node)
     } else {
         None
@@ -33,7 +33,7 @@ fn start_node<'a>(image: &Image, plan: &Plan, cert: &'a Cert) -> Option<&'a Node
 }
 
 // Whether the rules accept a certificate: the need of the start, or the first rule that fails.
-pub(crate) fn judged(image: &Image, plan: &Plan, cert: &Cert) -> Verdict
+pub(crate) fn judged(image: &Image, plan: &Plan, cert: &AnyCert<'_>) -> Verdict
     ensures { Judges image.now plan.now cert.now result }
 {
     let b = Bounds::of(plan, cert.version);
@@ -44,13 +44,15 @@ pub(crate) fn judged(image: &Image, plan: &Plan, cert: &Cert) -> Verdict
             addr: image.entry,
         };
     };
-    for node in &cert.nodes {
-        if let Some(fault) = node_fault(&b, image, plan, cert, node) {
-            return Verdict::No {
-                rule: fault.rule,
-                key: node.key,
-                addr: fault.addr,
-            };
+    for i in 0..cert.len() {
+        if let Some(node) = cert.get(i) {
+            if let Some(fault) = node_fault(&b, image, plan, cert, &node) {
+                return Verdict::No {
+                    rule: fault.rule,
+                    key: node.key,
+                    addr: fault.addr,
+                };
+            }
         }
     }
     Verdict::Yes(u32::from(start.need))

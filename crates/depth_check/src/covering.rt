@@ -1,18 +1,19 @@
 // Whether points and exits cover.
-ghost use Rattle.std.specs.Prelude.{◌≡◌, ◌≤◌, ◌↔◌, IsTrue, length, All};
+ghost use Rattle.std.specs.Prelude.{◌≡◌, ◌≤◌, ◌↔◌, IsTrue, IfSome, length, All};
 ghost use Rattle.value_domain.specs.State.{AreWell, AreBelow, AreValues};
 ghost use Rattle.vd_transfer.specs.Changes.{changed};
 ghost use Rattle.cfg_recover.specs.Entries.{after_of, exit_of, lower_values};
 ghost use Rattle.cfg_recover.specs.Accepting.{HasPoint, ExitCovers};
 ghost use Rattle.depth_check.specs.Finding.{IsWellNode, HasPoints, HasExit};
 
+use crate::forms::{Frame, NodeForm};
 use cfg_recover::covers_after;
 use depth_cert::{Exit, Node};
+use packed_cert::PackedNode;
 use value_domain::{Bounds, State, Val, covers, is_value, leq};
 use vd_transfer::{Change, covers_changed};
 
-/// Whether the node has a point at this address that covers the state.
-pub(crate) fn has_point(node: &Node, addr: u32, s: &State) -> bool
+fn plain_has_point(node: &Node, addr: u32, s: &State) -> bool
     requires node { IsWellNode node.now }
     requires state { AreWell s.now.regs }
     ensures { IsTrue result ↔ HasPoint node.now addr s.now }
@@ -23,8 +24,7 @@ pub(crate) fn has_point(node: &Node, addr: u32, s: &State) -> bool
     }
 }
 
-/// Whether the node has a point at this address that covers the changed state.
-pub(crate) fn has_changed(node: &Node, addr: u32, s: &State, c: &Change) -> bool
+fn plain_has_changed(node: &Node, addr: u32, s: &State, c: &Change) -> bool
     requires node { IsWellNode node.now }
     requires state { AreWell (changed s.now c.now).regs }
     ensures { IsTrue result ↔ HasPoint node.now addr (changed s.now c.now) }
@@ -35,8 +35,7 @@ pub(crate) fn has_changed(node: &Node, addr: u32, s: &State, c: &Change) -> bool
     }
 }
 
-/// Whether it has one that covers the state after an entered frame came back by this exit.
-pub(crate) fn has_after(node: &Node, addr: u32, s: &State, exit: &Exit, kind: u8) -> bool
+fn plain_has_after(node: &Node, addr: u32, s: &State, exit: &Exit, kind: u8) -> bool
     requires node { IsWellNode node.now }
     requires state { AreWell (after_of s.now exit.now kind).regs }
     ensures { IsTrue result ↔ HasPoint node.now addr (after_of s.now exit.now kind) }
@@ -47,8 +46,124 @@ pub(crate) fn has_after(node: &Node, addr: u32, s: &State, exit: &Exit, kind: u8
     }
 }
 
+fn packed_has_point(node: &PackedNode<'_>, addr: u32, s: &State) -> bool
+    requires state { AreWell s.now.regs }
+    ensures { IsTrue result ↔ HasPoint node.now addr s.now }
+{
+    match node.state(addr, 0) {
+        Some(upper) => upper.covers(s),
+        None => false,
+    }
+}
+
+fn packed_has_changed(node: &PackedNode<'_>, addr: u32, s: &State, c: &Change) -> bool
+    requires state { AreWell (changed s.now c.now).regs }
+    ensures { IsTrue result ↔ HasPoint node.now addr (changed s.now c.now) }
+{
+    match node.state(addr, 0) {
+        Some(upper) => upper.covers_changed(s, c),
+        None => false,
+    }
+}
+
+fn packed_has_after(node: &PackedNode<'_>, addr: u32, s: &State, exit: &Exit, kind: u8) -> bool
+    requires node { IsWellNode node.now }
+    requires state { AreWell (after_of s.now exit.now kind).regs }
+    ensures { IsTrue result ↔ HasPoint node.now addr (after_of s.now exit.now kind) }
+{
+    match node.state(addr, 0) {
+        Some(upper) => covers_after(&upper.read(), s, exit, kind),
+        None => false,
+    }
+}
+
+/// Whether the node has a point at this address that covers the state.
+pub(crate) fn has_point(node: &Frame<'_>, addr: u32, s: &State) -> bool
+    requires node { IsWellNode node.now }
+    requires state { AreWell s.now.regs }
+    ensures { IsTrue result ↔ HasPoint node.now addr s.now }
+{
+    match &node.form {
+        NodeForm::Plain(node) => plain_has_point(node, addr, s),
+        NodeForm::Packed(node) => packed_has_point(node, addr, s),
+    }
+}
+
+/// Whether the node has a point at this address that covers the changed state.
+pub(crate) fn has_changed(node: &Frame<'_>, addr: u32, s: &State, c: &Change) -> bool
+    requires node { IsWellNode node.now }
+    requires state { AreWell (changed s.now c.now).regs }
+    ensures { IsTrue result ↔ HasPoint node.now addr (changed s.now c.now) }
+{
+    match &node.form {
+        NodeForm::Plain(node) => plain_has_changed(node, addr, s, c),
+        NodeForm::Packed(node) => packed_has_changed(node, addr, s, c),
+    }
+}
+
+/// Whether it has one that covers the state after an entered frame came back by this exit.
+pub(crate) fn has_after(node: &Frame<'_>, addr: u32, s: &State, exit: &Exit, kind: u8) -> bool
+    requires node { IsWellNode node.now }
+    requires state { AreWell (after_of s.now exit.now kind).regs }
+    ensures { IsTrue result ↔ HasPoint node.now addr (after_of s.now exit.now kind) }
+{
+    match &node.form {
+        NodeForm::Plain(node) => plain_has_after(node, addr, s, exit, kind),
+        NodeForm::Packed(node) => packed_has_after(node, addr, s, exit, kind),
+    }
+}
+
+fn plain_comes_back(node: &Frame<'_>, at: u32, s: &State, entered: &Node, kind: u8) -> bool
+    requires node { IsWellNode node.now }
+    requires entered { IsWellNode entered.now }
+    requires state { AreWell s.now.regs }
+    ensures { IsTrue result ↔ IfSome entered.now.exit (λ x. HasPoint node.now at (after_of s.now x kind)) }
+{
+    match &entered.exit {
+        Some(exit) => has_after(node, at, s, exit, kind),
+        None => true,
+    }
+}
+
+fn packed_comes_back(
+    node: &Frame<'_>,
+    at: u32,
+    s: &State,
+    entered: &PackedNode<'_>,
+    kind: u8,
+) -> bool
+    requires node { IsWellNode node.now }
+    requires entered { IsWellNode entered.now }
+    requires state { AreWell s.now.regs }
+    ensures { IsTrue result ↔ IfSome entered.now.exit (λ x. HasPoint node.now at (after_of s.now x kind)) }
+{
+    match entered.exit() {
+        Some(exit) => has_after(node, at, s, &exit.read(), kind),
+        None => true,
+    }
+}
+
+/// Whether the node goes on at `at` where a frame of the entered node comes back, if that has an exit.
+pub(crate) fn comes_back(
+    node: &Frame<'_>,
+    at: u32,
+    s: &State,
+    entered: &Frame<'_>,
+    kind: u8,
+) -> bool
+    requires node { IsWellNode node.now }
+    requires entered { IsWellNode entered.now }
+    requires state { AreWell s.now.regs }
+    ensures { IsTrue result ↔ IfSome entered.now.exit (λ x. HasPoint node.now at (after_of s.now x kind)) }
+{
+    match &entered.form {
+        NodeForm::Plain(entered) => plain_comes_back(node, at, s, entered, kind),
+        NodeForm::Packed(entered) => packed_comes_back(node, at, s, entered, kind),
+    }
+}
+
 /// Whether it has points that cover the state at all these addresses.
-pub(crate) fn has_points(node: &Node, targets: &[u32], s: &State) -> bool
+pub(crate) fn has_points(node: &Frame<'_>, targets: &[u32], s: &State) -> bool
     requires node { IsWellNode node.now }
     requires state { AreWell s.now.regs }
     ensures { IsTrue result ↔ HasPoints node.now s.now targets.now }
@@ -111,8 +226,7 @@ fn is_exit_covered(exit: &Exit, s: &State) -> bool
     is_status_covered(exit, s) && are_lower_below(s, exit)
 }
 
-/// Whether the node has an exit that covers that of the state.
-pub(crate) fn has_exit(node: &Node, s: &State) -> bool
+fn plain_has_exit(node: &Node, s: &State) -> bool
     requires node { IsWellNode node.now }
     requires state { AreWell s.now.regs }
     ensures { IsTrue result ↔ HasExit node.now s.now }
@@ -120,5 +234,28 @@ pub(crate) fn has_exit(node: &Node, s: &State) -> bool
     match &node.exit {
         Some(exit) => is_exit_covered(exit, s),
         None => false,
+    }
+}
+
+fn packed_has_exit(node: &PackedNode<'_>, s: &State) -> bool
+    requires node { IsWellNode node.now }
+    requires state { AreWell s.now.regs }
+    ensures { IsTrue result ↔ HasExit node.now s.now }
+{
+    match node.exit() {
+        Some(exit) => is_exit_covered(&exit.read(), s),
+        None => false,
+    }
+}
+
+/// Whether the node has an exit that covers that of the state.
+pub(crate) fn has_exit(node: &Frame<'_>, s: &State) -> bool
+    requires node { IsWellNode node.now }
+    requires state { AreWell s.now.regs }
+    ensures { IsTrue result ↔ HasExit node.now s.now }
+{
+    match &node.form {
+        NodeForm::Plain(node) => plain_has_exit(node, s),
+        NodeForm::Packed(node) => packed_has_exit(node, s),
     }
 }

@@ -17,13 +17,15 @@ ghost use Rattle.cfg_recover.specs.Flows.{told_back, told_irqs};
 ghost use Rattle.depth_check.specs.Finding.{IsWellNode, Finds, DutiesHold, GoesOn, LeavingHolds};
 ghost use Rattle.depth_check.specs.Finding as finding;
 
-use crate::covering::{has_after, has_changed, has_exit};
+use crate::any_certs::AnyCert;
+use crate::covering::{comes_back, has_changed, has_exit};
+use crate::forms::Frame;
 use crate::successors::broken_by_successors;
 use cfg_recover::{
-    Leave, Located, call_change, handler_change, interrupts, is_aligned, misaligned_change,
-    system_change, targets,
+    Leave, Located, call_change, entered_key, handler_change, interrupts, irq_key, is_aligned,
+    misaligned_change, system_change, targets,
 };
-use depth_cert::{Cert, Key, Node};
+use depth_cert::Key;
 use elf_image::Image;
 use tc_isa::{Shape, Target};
 use tcd_plan::Plan;
@@ -49,32 +51,29 @@ pub(crate) fn unless(holds: bool, rule: u8) -> Option<u8>
 }
 
 /// Whether the need of a node is above that of an entered one, by the areas of its locals and the one of the entry.
-fn is_need_above(node: &Node, s: &State, entered: &Node) -> bool
+fn is_need_above(node: &Frame<'_>, s: &State, entered: &Frame<'_>) -> bool
     ensures { IsTrue result ↔ (length s.now.locals.items + 1 + entered.now.need ≤ node.now.need) }
 {
     s.locals.len() + 1 + usize::from(entered.need) <= usize::from(node.need)
 }
 
 /// Whether the node goes on at `back` where a frame of the entered node comes back.
-fn goes_on(node: &Node, s: &State, entered: &Node, kind: u8, back: Option<u32>) -> bool
+fn goes_on(node: &Frame<'_>, s: &State, entered: &Frame<'_>, kind: u8, back: Option<u32>) -> bool
     requires node { IsWellNode node.now }
     requires entered { IsWellNode entered.now }
     requires state { AreWell s.now.regs }
     ensures { IsTrue result ↔ GoesOn node.now s.now entered.now kind back }
 {
-    let Some(at) = back else {
-        return true;
-    };
-    match &entered.exit {
-        Some(exit) => has_after(node, at, s, exit, kind),
+    match back {
+        Some(at) => comes_back(node, at, s, entered, kind),
         None => true,
     }
 }
 
 /// The least rule broken where a node of the key is entered with a changed state, as `rule` asks, and comes back to `back`.
 fn broken_by_entry(
-    cert: &Cert,
-    node: &Node,
+    cert: &AnyCert<'_>,
+    node: &Frame<'_>,
     s: &State,
     rule: u8,
     key: &Key,
@@ -91,27 +90,16 @@ fn broken_by_entry(
     let Some(entered) = cert.node(key) else {
         return Some(rule);
     };
-    let into = unless(has_changed(entered, key.entry, s, entry), rule);
-    let need = unless(is_need_above(node, s, entered), 14);
-    let on = unless(goes_on(node, s, entered, key.kind, back), 4);
+    let into = unless(has_changed(&entered, key.entry, s, entry), rule);
+    let need = unless(is_need_above(node, s, &entered), 14);
+    let on = unless(goes_on(node, s, &entered, key.kind, back), 4);
     least(least(into, need), on)
-}
-
-fn entered_key(key: &Key, kind: u8, entry: u32) -> Key
-    ensures { result ≡ flows.entered_key key.now kind entry }
-{
-    Key {
-        kind,
-        entry,
-        prio: key.prio,
-        is: if kind == 1 { key.is } else { true },
-    }
 }
 
 /// The least rule broken by calls of these targets, which come back to `back`.
 fn broken_by_calls(
-    cert: &Cert,
-    node: &Node,
+    cert: &AnyCert<'_>,
+    node: &Frame<'_>,
     s: &State,
     entry: &Change,
     targets: &[u32],
@@ -136,8 +124,8 @@ fn broken_by_calls(
 fn broken_by_call(
     b: &Bounds,
     plan: &Plan,
-    cert: &Cert,
-    node: &Node,
+    cert: &AnyCert<'_>,
+    node: &Frame<'_>,
     addr: u32,
     s: &State,
     to: Target,
@@ -158,8 +146,8 @@ fn broken_by_call(
 fn broken_by_system(
     b: &Bounds,
     plan: &Plan,
-    cert: &Cert,
-    node: &Node,
+    cert: &AnyCert<'_>,
+    node: &Frame<'_>,
     s: &State,
     tin: u8,
     back: u32,
@@ -178,8 +166,8 @@ fn broken_by_system(
 fn broken_by_entries(
     b: &Bounds,
     plan: &Plan,
-    cert: &Cert,
-    node: &Node,
+    cert: &AnyCert<'_>,
+    node: &Frame<'_>,
     addr: u32,
     s: &State,
     shape: Shape,
@@ -203,8 +191,8 @@ fn broken_by_entries(
 fn broken_by_misaligned(
     b: &Bounds,
     plan: &Plan,
-    cert: &Cert,
-    node: &Node,
+    cert: &AnyCert<'_>,
+    node: &Frame<'_>,
     s: &State,
     at: &Val,
     size: u8,
@@ -228,8 +216,8 @@ fn broken_by_misaligned(
 fn broken_by_access(
     b: &Bounds,
     plan: &Plan,
-    cert: &Cert,
-    node: &Node,
+    cert: &AnyCert<'_>,
+    node: &Frame<'_>,
     s: &State,
     shape: Shape,
     at: &Val,
@@ -249,22 +237,11 @@ fn broken_by_access(
     }
 }
 
-fn irq_key(plan: &Plan, prio: u8) -> Key
-    ensures { result ≡ entries.irq_key plan.now prio }
-{
-    Key {
-        kind: 2,
-        entry: plan.biv | u32::from(prio) * 32,
-        prio,
-        is: true,
-    }
-}
-
 /// The least rule broken by the entries of these interrupts; `entry` is the change there but for its CCPN.
 fn broken_by_irqs(
-    cert: &Cert,
+    cert: &AnyCert<'_>,
     plan: &Plan,
-    node: &Node,
+    node: &Frame<'_>,
     s: &State,
     irqs: &[u8],
     entry: Change,
@@ -286,7 +263,13 @@ fn broken_by_irqs(
 }
 
 /// The least rule broken by the entries of the interrupts that may be taken.
-fn broken_by_interrupts(b: &Bounds, plan: &Plan, cert: &Cert, node: &Node, s: &State) -> Option<u8>
+fn broken_by_interrupts(
+    b: &Bounds,
+    plan: &Plan,
+    cert: &AnyCert<'_>,
+    node: &Frame<'_>,
+    s: &State,
+) -> Option<u8>
     requires nodes { All IsWellNode cert.now.nodes }
     requires node { IsWellNode node.now }
     requires values { AreValues b.now s.now.regs }
@@ -313,7 +296,7 @@ fn leave_by(shape: Shape) -> Leave
 }
 
 /// The least rule broken where the node is left.
-fn broken_by_leaving(node: &Node, s: &State, leave: Leave) -> Option<u8>
+fn broken_by_leaving(node: &Frame<'_>, s: &State, leave: Leave) -> Option<u8>
     requires node { IsWellNode node.now }
     requires state { AreWell s.now.regs }
     ensures { Finds (LeavingHolds node.now s.now leave) result }
@@ -336,8 +319,8 @@ pub(crate) fn broken_by_duties(
     b: &Bounds,
     image: &Image,
     plan: &Plan,
-    cert: &Cert,
-    node: &Node,
+    cert: &AnyCert<'_>,
+    node: &Frame<'_>,
     addr: u32,
     s: &State,
     found: &Located,

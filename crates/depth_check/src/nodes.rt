@@ -1,14 +1,17 @@
 // The first fault of a node.
-ghost use Rattle.std.specs.Prelude.{◌≡◌, ◌↔◌, IsTrue, All, Contains, MatchOption};
+ghost use Rattle.std.specs.Prelude.{◌≡◌, ◌<◌, ◌^◌, ◌↔◌, IsTrue, All, Contains, MatchOption};
 ghost use Rattle.cfg_recover.specs.Accepting.{limits_in, HoldsAtEntry, HoldsAtNode};
 ghost use Rattle.depth_check.specs.Finding.{IsWellNode};
 ghost use Rattle.depth_check.specs.NodeFaults as nodes;
 ghost use Rattle.depth_check.specs.NodeFaults.{IsNodeFault};
 
+use crate::any_certs::AnyCert;
 use crate::covering::are_values;
+use crate::forms::{Frame, Here, NodeForm};
 use crate::rules::broken_by_point;
-use depth_cert::{Cert, Node};
+use depth_cert::Node;
 use elf_image::Image;
+use packed_cert::PackedNode;
 use tcd_plan::Plan;
 use value_domain::Bounds;
 
@@ -20,7 +23,7 @@ pub(crate) struct Fault {
 }
 
 /// Whether a node has a point at its entry, and an exit with values of the plan if it has one.
-fn holds_at_entry(b: &Bounds, node: &Node) -> bool
+fn plain_holds_at_entry(b: &Bounds, node: &Node) -> bool
     ensures { IsTrue result ↔ HoldsAtEntry b.now node.now }
 {
     if node.point(node.key.entry).is_none() {
@@ -28,6 +31,18 @@ fn holds_at_entry(b: &Bounds, node: &Node) -> bool
     }
     match &node.exit {
         Some(exit) => are_values(b, &exit.lower),
+        None => true,
+    }
+}
+
+fn packed_holds_at_entry(b: &Bounds, node: &PackedNode<'_>) -> bool
+    ensures { IsTrue result ↔ HoldsAtEntry b.now node.now }
+{
+    if node.state(node.key.entry, 0).is_none() {
+        return false;
+    }
+    match node.exit() {
+        Some(exit) => are_values(b, &exit.read().lower),
         None => true,
     }
 }
@@ -59,26 +74,88 @@ fn entry_fault(entry: u32) -> Fault
     }
 }
 
-/// The first fault of a node, by address and then by rule.
-pub(crate) fn node_fault(
+/// The first fault of a node in memory, which `frame` is, by address and then by rule.
+fn plain_fault(
     b: &Bounds,
     image: &Image,
     plan: &Plan,
-    cert: &Cert,
+    cert: &AnyCert<'_>,
+    frame: &Frame<'_>,
     node: &Node,
 ) -> Option<Fault>
     requires limits { b.now ≡ limits_in plan.now cert.now }
     requires nodes { All IsWellNode cert.now.nodes }
     requires member { Contains cert.now.nodes node.now }
+    requires same { frame.now ≡ node.now }
     ensures { MatchOption result (HoldsAtNode image.now plan.now cert.now node.now) (λ f. IsNodeFault image.now plan.now cert.now node.now f.rule f.addr) }
 {
     let entry = node.key.entry;
-    let good = holds_at_entry(b, node);
+    let good = plain_holds_at_entry(b, node);
     for point in &node.points {
-        let found = broken_by_point(b, image, plan, cert, node, point);
+        let here = Here {
+            addr: point.addr,
+            state: &point.state,
+        };
+        let found = broken_by_point(b, image, plan, cert, frame, here);
         if let Some(fault) = first_of(good, entry, point.addr, found) {
             return Some(fault);
         }
     }
     if good { None } else { Some(entry_fault(entry)) }
+}
+
+/// An address is a word, as its type says.
+fn is_word(addr: u32)
+    ensures { addr < 2 ^ 32 }
+{}
+
+/// The same of a node on bytes.
+fn packed_fault(
+    b: &Bounds,
+    image: &Image,
+    plan: &Plan,
+    cert: &AnyCert<'_>,
+    frame: &Frame<'_>,
+    node: &PackedNode<'_>,
+) -> Option<Fault>
+    requires limits { b.now ≡ limits_in plan.now cert.now }
+    requires nodes { All IsWellNode cert.now.nodes }
+    requires member { Contains cert.now.nodes node.now }
+    requires same { frame.now ≡ node.now }
+    ensures { MatchOption result (HoldsAtNode image.now plan.now cert.now node.now) (λ f. IsNodeFault image.now plan.now cert.now node.now f.rule f.addr) }
+{
+    let entry = node.key.entry;
+    let good = packed_holds_at_entry(b, node);
+    let mut walk = node.points();
+    while let Some(addr) = walk.step() {
+        is_word(addr);
+        let here = Here {
+            addr,
+            state: walk.state(),
+        };
+        let found = broken_by_point(b, image, plan, cert, frame, here);
+        if let Some(fault) = first_of(good, entry, addr, found) {
+            return Some(fault);
+        }
+    }
+    if good { None } else { Some(entry_fault(entry)) }
+}
+
+/// The first fault of a node, by address and then by rule.
+pub(crate) fn node_fault(
+    b: &Bounds,
+    image: &Image,
+    plan: &Plan,
+    cert: &AnyCert<'_>,
+    frame: &Frame<'_>,
+) -> Option<Fault>
+    requires limits { b.now ≡ limits_in plan.now cert.now }
+    requires nodes { All IsWellNode cert.now.nodes }
+    requires member { Contains cert.now.nodes frame.now }
+    ensures { MatchOption result (HoldsAtNode image.now plan.now cert.now frame.now) (λ f. IsNodeFault image.now plan.now cert.now frame.now f.rule f.addr) }
+{
+    match &frame.form {
+        NodeForm::Plain(node) => plain_fault(b, image, plan, cert, frame, node),
+        NodeForm::Packed(node) => packed_fault(b, image, plan, cert, frame, node),
+    }
 }

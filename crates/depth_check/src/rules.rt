@@ -2,34 +2,23 @@
 ghost use Rattle.std.specs.Prelude.{◌≡◌, ◌≤◌, ◌↔◌, IsTrue, All, IfOk, IfErr};
 ghost use Rattle.value_domain.specs.State.{AreValues};
 ghost use Rattle.cfg_recover.specs.Accepting.{limits_in, RuleHolds};
-ghost use Rattle.cfg_recover.specs.Entries as entries;
 ghost use Rattle.cfg_recover.specs.Changes.{StandsFaultless};
 ghost use Rattle.cfg_recover.specs.Local.{IsLocalFault};
 ghost use Rattle.depth_check.specs.Finding.{IsWellNode, Finds, HasOwnNeed};
+ghost use Rattle.depth_check.specs.Forms.{point_here};
 
+use crate::any_certs::AnyCert;
 use crate::covering::are_values;
 use crate::duties::{broken_by_duties, least, unless};
-use cfg_recover::{Located, local_check};
-use depth_cert::{Cert, Key, Node, Point};
+use crate::forms::{Frame, Here};
+use cfg_recover::{Located, local_check, start_key};
 use elf_image::Image;
 use tcd_plan::Plan;
 use value_domain::Bounds;
 
-/// The key of the start.
-pub(crate) fn start_key(image: &Image, plan: &Plan) -> Key
-    ensures { result ≡ entries.start_key image.now plan.now }
-{
-    Key {
-        kind: 0,
-        entry: image.entry,
-        prio: 0,
-        is: plan.start_is,
-    }
-}
-
 /// Whether the need of the node has room for the locals of a point, and at the start's entry leaves the reserve free.
-fn has_own_need(image: &Image, plan: &Plan, node: &Node, point: &Point) -> bool
-    ensures { IsTrue result ↔ HasOwnNeed image.now plan.now node.now point.now }
+fn has_own_need(image: &Image, plan: &Plan, node: &Frame<'_>, point: Here<'_>) -> bool
+    ensures { IsTrue result ↔ HasOwnNeed image.now plan.now node.now (point_here point.entry) }
 {
     if usize::from(node.need) < point.state.locals.len() {
         return false;
@@ -45,18 +34,18 @@ fn broken_by_located(
     b: &Bounds,
     image: &Image,
     plan: &Plan,
-    cert: &Cert,
-    node: &Node,
-    point: &Point,
+    cert: &AnyCert<'_>,
+    node: &Frame<'_>,
+    point: Here<'_>,
     found: Result<Located, u8>,
 ) -> Option<u8>
     requires limits { b.now ≡ limits_in plan.now cert.now }
     requires nodes { All IsWellNode cert.now.nodes }
     requires node { IsWellNode node.now }
-    requires values { AreValues b.now point.now.state.regs }
-    requires fault { IfErr found (IsLocalFault b.now image.now plan.now node.now.key point.now.addr point.now.state) }
-    requires duties { IfOk found (StandsFaultless b.now image.now plan.now node.now.key point.now.addr point.now.state) }
-    ensures { Finds (RuleHolds image.now plan.now cert.now node.now point.now) result }
+    requires values { AreValues b.now point.state.now.regs }
+    requires fault { IfErr found (IsLocalFault b.now image.now plan.now node.now.key point.addr point.state.now) }
+    requires duties { IfOk found (StandsFaultless b.now image.now plan.now node.now.key point.addr point.state.now) }
+    ensures { Finds (RuleHolds image.now plan.now cert.now node.now (point_here point.entry)) result }
 {
     match found {
         Err(rule) => Some(rule),
@@ -68,7 +57,7 @@ fn broken_by_located(
                 cert,
                 node,
                 point.addr,
-                &point.state,
+                point.state,
                 &found,
             );
             let need = unless(has_own_need(image, plan, node, point), 14);
@@ -82,18 +71,18 @@ pub(crate) fn broken_by_point(
     b: &Bounds,
     image: &Image,
     plan: &Plan,
-    cert: &Cert,
-    node: &Node,
-    point: &Point,
+    cert: &AnyCert<'_>,
+    node: &Frame<'_>,
+    point: Here<'_>,
 ) -> Option<u8>
     requires limits { b.now ≡ limits_in plan.now cert.now }
     requires nodes { All IsWellNode cert.now.nodes }
     requires node { IsWellNode node.now }
-    ensures { Finds (RuleHolds image.now plan.now cert.now node.now point.now) result }
+    ensures { Finds (RuleHolds image.now plan.now cert.now node.now (point_here point.entry)) result }
 {
     if !are_values(b, &point.state.regs) {
         return Some(2);
     }
-    let found = local_check(b, image, plan, &node.key, point.addr, &point.state);
+    let found = local_check(b, image, plan, &node.key, point.addr, point.state);
     broken_by_located(b, image, plan, cert, node, point, found)
 }

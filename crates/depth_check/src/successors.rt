@@ -11,8 +11,8 @@ ghost use Rattle.depth_check.specs.Finding.{IsWellNode, Finds, DutiesHold};
 
 use crate::covering::{has_changed, has_point, has_points};
 use crate::duties::{least, unless};
+use crate::forms::Frame;
 use cfg_recover::{Located, loaded_from, targets};
-use depth_cert::Node;
 use elf_image::Image;
 use tc_isa::{Shape, Target};
 use tcd_plan::Plan;
@@ -23,7 +23,7 @@ use vd_transfer::{change_of, change_on};
 fn broken_by_side(
     b: &Bounds,
     plan: &Plan,
-    node: &Node,
+    node: &Frame<'_>,
     s: &State,
     shape: Shape,
     taken: bool,
@@ -44,7 +44,7 @@ fn broken_by_side(
 fn broken_by_sides(
     b: &Bounds,
     plan: &Plan,
-    node: &Node,
+    node: &Frame<'_>,
     s: &State,
     shape: Shape,
     next: u32,
@@ -61,7 +61,7 @@ fn broken_by_sides(
 }
 
 /// A jump with the state as it is.
-fn broken_by_jump(plan: &Plan, node: &Node, addr: u32, s: &State, to: Target) -> Option<u8>
+fn broken_by_jump(plan: &Plan, node: &Frame<'_>, addr: u32, s: &State, to: Target) -> Option<u8>
     requires node { IsWellNode node.now }
     requires state { AreWell s.now.regs }
     requires target { IsTarget to }
@@ -72,7 +72,7 @@ fn broken_by_jump(plan: &Plan, node: &Node, addr: u32, s: &State, to: Target) ->
 }
 
 /// The step over an instruction that changes nothing.
-fn broken_by_pass(node: &Node, s: &State, next: u32) -> Option<u8>
+fn broken_by_pass(node: &Frame<'_>, s: &State, next: u32) -> Option<u8>
     requires node { IsWellNode node.now }
     requires state { AreWell s.now.regs }
     ensures { (cert : CertData) → Finds (DutiesHold cert node.now s.now (owed 4 (jump next s.now) ∷ [])) result }
@@ -85,7 +85,7 @@ fn broken_by_step(
     b: &Bounds,
     image: &Image,
     plan: &Plan,
-    node: &Node,
+    node: &Frame<'_>,
     addr: u32,
     s: &State,
     found: &Located,
@@ -106,7 +106,7 @@ pub(crate) fn broken_by_successors(
     b: &Bounds,
     image: &Image,
     plan: &Plan,
-    node: &Node,
+    node: &Frame<'_>,
     addr: u32,
     s: &State,
     found: &Located,

@@ -1,5 +1,5 @@
-use Rattle.std.proofs.Common.{◌≡◌, ◌^◌, ◌<◌, Some, sym, ap, ◌∙◌, subst, refl, List}
-use Rattle.std.specs.Prelude.{All}
+use Rattle.std.proofs.Common.{◌≡◌, ◌^◌, ◌<◌, length, get_or, Some, None, sym, ap, ◌∙◌, subst, refl, arith}
+use Rattle.std.proofs.lemmas.Option.{slice_get_within, get_or_from_slice_get, slice_get-get_or, none-some}
 use Rattle.elf_image.specs.Images.{ImageData}
 use Rattle.depth_cert.specs.declared.keys.Key.{Key}
 use Rattle.depth_cert.specs.Nodes.{NodeData}
@@ -9,6 +9,7 @@ use Rattle.cfg_recover.specs.Accepting.{HoldsAtNode, IsFirstFault, Accepts, need
 use Rattle.depth_check.proofs.Deciding.{all_more, all_done}
 use Rattle.depth_check.proofs.FirstLaws.{start_first, node_first, need_small}
 use Rattle.depth_check.proofs.checking.judged.Goals as goal
+use Rattle.depth_check.proofs.checking.judged.Goals.{in-Some-get+in_default-node_fault, in_default-get}
 
 pub returns-in_default : goal.returns-in_default
 returns-in_default c =
@@ -18,24 +19,37 @@ returns-in_default c =
 
 pub returns-in-Some-node_fault : goal.returns-in-Some-node_fault
 returns-in-Some-node_fault c =
-    subst (λ (n : NodeData). IsFirstFault c.args.image.now c.args.plan.now c.args.cert.now c.in-Some-node_fault.fault.rule n.key c.in-Some-node_fault.fault.addr) (sym c.node.view_is)
-    (node_first c.args.image.now c.args.plan.now c.args.cert.now (subst IsCert c.cert.view_is c.cert.invariant) c.in-Some.ensures.holds c.deref-node-items.result.now
-    (c.deref-node-items.ensures.value ∙ ap (λ (t : CertData). t.nodes) c.cert.view_is)
-    c.loop-node.node-index c.node-item.result c.in-Some-node_fault.fault.rule c.in-Some-node_fault.fault.addr c.loop-node-test.true c.node-item.is c.loop-node.invariant c.in-Some-node_fault.ensures)
+    let nodes = (c.args.cert.now).nodes in
+    let node = c.in-Some-get.node in
+    let found = sym c.in-Some-get.ensures in
+    subst (λ (k : Key). IsFirstFault c.args.image.now c.args.plan.now c.args.cert.now c.in-Some-node_fault.fault.rule k c.in-Some-node_fault.fault.addr)
+    (sym (c.node.invariant.same_key ∙ ap (λ (n : NodeData). n.key) c.node.view_is))
+    (node_first c.args.image.now c.args.plan.now c.args.cert.now (subst IsCert c.cert.view_is c.cert.invariant.limits) c.in-Some.ensures.holds nodes refl c.loop-i.i node c.in-Some-node_fault.fault.rule
+    c.in-Some-node_fault.fault.addr (slice_get_within nodes c.loop-i.i node found) (sym (get_or_from_slice_get nodes c.loop-i.i node node found)) c.loop-i.invariant c.in-Some-node_fault.ensures)
 
-pub loop-node-preserved : goal.loop-node-preserved
-loop-node-preserved c =
-    all_more (HoldsAtNode c.args.image.now c.args.plan.now c.args.cert.now) c.deref-node-items.result.now c.loop-node.node-index c.node-item.result c.loop-node-test.true c.node-item.is c.loop-node.invariant c.in_default-node_fault.ensures
+pub loop-i-preserved : goal.loop-i-preserved
+loop-i-preserved c =
+    let nodes = (c.args.cert.now).nodes in
+    elim c.match-get.branch [
+      | in-Some-get+in_default-node_fault w ↦
+          let found = sym w.in-Some-get.ensures in
+          all_more (HoldsAtNode c.args.image.now c.args.plan.now c.args.cert.now) nodes c.loop-i.i w.in-Some-get.node (slice_get_within nodes c.loop-i.i w.in-Some-get.node found)
+          (sym (get_or_from_slice_get nodes c.loop-i.i w.in-Some-get.node w.in-Some-get.node found)) c.loop-i.invariant w.in_default-node_fault.ensures
+      | in_default-get w ↦
+          (λ k d h.
+          let within : c.loop-i.i < length nodes = omega (arith, c.loop-i-test.true, c.len-i-end.ensures) in
+          let e : None ≡ Some (get_or nodes c.loop-i.i d) = w.in_default-get.ensures ∙ slice_get-get_or nodes c.loop-i.i d within in
+          absurd (none-some _ e))
+    ]
 
 pub returns : goal.returns
 returns c =
     let accepts : Accepts c.args.image.now c.args.plan.now c.args.cert.now = record {
       start = c.in-Some.ensures.holds;
       nodes =
-          subst (λ (l : List NodeData). All (HoldsAtNode c.args.image.now c.args.plan.now c.args.cert.now) l) (c.deref-node-items.ensures.value ∙ ap (λ (t : CertData). t.nodes) c.cert.view_is)
-          (all_done (HoldsAtNode c.args.image.now c.args.plan.now c.args.cert.now) c.deref-node-items.result.now c.loop-node.node-index c.loop-node-test.false c.loop-node.invariant);
+          all_done (HoldsAtNode c.args.image.now c.args.plan.now c.args.cert.now) (c.args.cert.now).nodes c.loop-i.i (omega (arith, c.len-i-end.ensures, c.loop-i-test.false)) c.loop-i.invariant;
     } in
-    let found : find_node (start_key c.args.image.now c.args.plan.now) (c.args.cert.now).nodes ≡ Some c.in-Some.start.now = c.in-Some.ensures.node in
-    let need : c.from.result ≡ (c.in-Some.start.now).need = c.from.ensures ∙ ap (λ (n : NodeData). n.need) c.start.view_is in
+    let found : find_node (start_key c.args.image.now c.args.plan.now) (c.args.cert.now).nodes ≡ Some c.in-Some.start = c.in-Some.ensures.node in
+    let need : c.from.result ≡ (c.in-Some.start).need = c.from.ensures ∙ c.start.invariant.same_need ∙ ap (λ (n : NodeData). n.need) c.start.view_is in
     let entry : (c.args.image.now).entry < 2 ^ 32 = subst (λ (i : ImageData). i.entry < 2 ^ 32) c.image.view_is c.image.invariant.entry in
-    (accepts, need ∙ ap need_of (sym found), rw need (need_small c.args.image.now c.args.plan.now c.args.cert.now c.in-Some.start.now entry (subst IsCert c.cert.view_is c.cert.invariant) accepts found))
+    (accepts, need ∙ ap need_of (sym found), rw need (need_small c.args.image.now c.args.plan.now c.args.cert.now c.in-Some.start entry (subst IsCert c.cert.view_is c.cert.invariant.limits) accepts found))

@@ -3,5 +3,5 @@ use Rattle.std.specs.Prelude.{All}
 use Rattle.cfg_recover.specs.Accepting.{HoldsAtNode}
 use Rattle.depth_check.proofs.checking.judged.Given as goal
 
-abbrev pub invariant-loop-node : goal.invariant-loop-node
-invariant-loop-node l = All (HoldsAtNode l.image l.plan l.cert) (take l.node-index l.node-items)
+abbrev pub invariant-loop-i : goal.invariant-loop-i
+invariant-loop-i l = All (HoldsAtNode l.image l.plan l.cert) (take l.i (l.cert).nodes)

@@ -1,5 +1,6 @@
 use Rattle.std.proofs.Common.{List, None, subst, sym, ap, ◌∙◌}
 use Rattle.std.proofs.lemmas.Bool.{eqb-true}
+use Rattle.depth_cert.specs.declared.keys.Key.{Key}
 use Rattle.depth_cert.specs.Nodes.{NodeData}
 use Rattle.cfg_recover.specs.Entries.{irq_entry}
 use Rattle.cfg_recover.specs.Duties.{Owed}
@@ -23,5 +24,5 @@ returns-then-is_empty c =
 pub returns : goal.returns
 returns c =
     subst (λ (l : List Owed). Finds (DutiesHold c.args.cert.now c.args.node.now c.args.s.now l) c.broken_by_irqs.result)
-    (told_irqs-is c.args.plan.now (c.args.node.now).key c.args.s.now _ _ (c.handler_change-entry.ensures.entry ∙ ap (λ (n : NodeData). irq_entry c.args.plan.now n.key c.args.s.now 0) c.node.view_is) (c.as_slice.ensures.value ∙ c.interrupts-irqs.ensures))
+    (told_irqs-is c.args.plan.now (c.args.node.now).key c.args.s.now _ _ (c.handler_change-entry.ensures.entry ∙ ap (λ (k : Key). irq_entry c.args.plan.now k c.args.s.now 0) (c.node.invariant.same_key ∙ ap (λ (n : NodeData). n.key) c.node.view_is)) (c.as_slice.ensures.value ∙ c.interrupts-irqs.ensures))
     c.broken_by_irqs.ensures

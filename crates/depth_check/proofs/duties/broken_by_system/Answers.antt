@@ -20,8 +20,8 @@ pub returns : goal.returns
 returns c =
     let key : c.entered_key-key.result ≡ sys_key c.args.plan.now (c.args.node.now).key =
     c.entered_key-key.ensures
-    ∙ ap (λ (n : NodeData). entered_key n.key 3 (bit_or c.plan.inside.btv (6 * 32))) c.node.view_is
+    ∙ ap (λ (k : Key). entered_key k 3 (bit_or c.plan.inside.btv (6 * 32))) (c.node.invariant.same_key ∙ ap (λ (n : NodeData). n.key) c.node.view_is)
     ∙ ap (λ (p : PlanData). entered_key (c.args.node.now).key 3 (bit_or p.btv (6 * 32))) c.plan.view_is in
     subst (λ (k : Key). Finds (DutiesHold c.args.cert.now c.args.node.now c.args.s.now (entered_and_back 12 k (sys_entry c.args.plan.now (c.args.node.now).key c.args.s.now c.args.tin) c.args.back)) c.broken_by_entry.result) key
-    (subst (λ (u : State). Finds (DutiesHold c.args.cert.now c.args.node.now c.args.s.now (entered_and_back 12 c.entered_key-key.result u c.args.back)) c.broken_by_entry.result) (c.system_change-entry.ensures.entry ∙ ap (λ (n : NodeData). sys_entry c.args.plan.now n.key c.args.s.now c.args.tin) c.node.view_is)
+    (subst (λ (u : State). Finds (DutiesHold c.args.cert.now c.args.node.now c.args.s.now (entered_and_back 12 c.entered_key-key.result u c.args.back)) c.broken_by_entry.result) (c.system_change-entry.ensures.entry ∙ ap (λ (k : Key). sys_entry c.args.plan.now k c.args.s.now c.args.tin) (c.node.invariant.same_key ∙ ap (λ (n : NodeData). n.key) c.node.view_is))
     c.broken_by_entry.ensures)

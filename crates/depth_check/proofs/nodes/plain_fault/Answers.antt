@@ -9,18 +9,18 @@ use Rattle.depth_check.specs.declared.nodes.Fault.{Fault}
 use Rattle.depth_check.specs.NodeFaults.{IsNodeFault, first_of}
 use Rattle.depth_check.proofs.Deciding.{all_more, all_done, refuted}
 use Rattle.depth_check.proofs.NodeLaws.{fault_at, none_at, entry_alone}
-use Rattle.depth_check.proofs.nodes.node_fault.Goals as goal
+use Rattle.depth_check.proofs.nodes.plain_fault.Goals as goal
 
 pub returns-in-Some : goal.returns-in-Some
 returns-in-Some c =
     fault_at c.args.image.now c.args.plan.now c.args.cert.now c.args.node.now c.requires.member c.deref-point-items.result.now
     (c.deref-point-items.ensures.value ∙ ap (λ (n : NodeData). n.points) c.node.view_is)
     (subst (λ (n : NodeData). ArePoints n.points) c.node.view_is c.node.invariant)
-    c.loop-point.point-index c.point-item.result c.holds_at_entry-good.result c.broken_by_point-found.result c.in-Some.fault c.loop-point-test.true c.point-item.is c.loop-point.invariant c.broken_by_point-found.ensures
+    c.loop-point.point-index c.point-item.result c.plain_holds_at_entry-good.result c.broken_by_point-found.result c.in-Some.fault c.loop-point-test.true c.point-item.is c.loop-point.invariant (rw c.requires.same at c.broken_by_point-found.ensures)
     (omega arith)
     (subst (λ (n : NodeData). (n.key).entry < 2 ^ 32) c.node.view_is (omega arith))
-    (subst (λ (b : Limits). IsTrue c.holds_at_entry-good.result ↔ HoldsAtEntry b c.args.node.now) c.requires.limits c.holds_at_entry-good.ensures)
-    (ap (λ (n : NodeData). first_of c.holds_at_entry-good.result (n.key).entry c.point-item.result.addr c.broken_by_point-found.result) (sym c.node.view_is) ∙ sym c.first_of.ensures ∙ c.in-Some.is)
+    (subst (λ (b : Limits). IsTrue c.plain_holds_at_entry-good.result ↔ HoldsAtEntry b c.args.node.now) c.requires.limits c.plain_holds_at_entry-good.ensures)
+    (ap (λ (n : NodeData). first_of c.plain_holds_at_entry-good.result (n.key).entry c.point-item.result.addr c.broken_by_point-found.result) (sym c.node.view_is) ∙ sym c.first_of.ensures ∙ c.in-Some.is)
 
 pub loop-point-preserved : goal.loop-point-preserved
 loop-point-preserved c =
@@ -29,13 +29,13 @@ loop-point-preserved c =
     (none_at c.args.image.now c.args.plan.now c.args.cert.now c.args.node.now c.requires.member c.deref-point-items.result.now
     (c.deref-point-items.ensures.value ∙ ap (λ (n : NodeData). n.points) c.node.view_is)
     (subst (λ (n : NodeData). ArePoints n.points) c.node.view_is c.node.invariant)
-    c.point-item.result c.holds_at_entry-good.result c.broken_by_point-found.result
-    (ap (λ (n : NodeData). first_of c.holds_at_entry-good.result (n.key).entry c.point-item.result.addr c.broken_by_point-found.result) (sym c.node.view_is) ∙ sym c.first_of.ensures ∙ c.in_default.is)
-    c.broken_by_point-found.ensures)
+    c.point-item.result c.plain_holds_at_entry-good.result c.broken_by_point-found.result
+    (ap (λ (n : NodeData). first_of c.plain_holds_at_entry-good.result (n.key).entry c.point-item.result.addr c.broken_by_point-found.result) (sym c.node.view_is) ∙ sym c.first_of.ensures ∙ c.in_default.is)
+    (rw c.requires.same at c.broken_by_point-found.ensures))
 
 pub returns-then-good : goal.returns-then-good
 returns-then-good c = record {
-  entry = (subst (λ (b : Limits). IsTrue c.holds_at_entry-good.result ↔ HoldsAtEntry b c.args.node.now) c.requires.limits c.holds_at_entry-good.ensures).0 c.if-good.true;
+  entry = (subst (λ (b : Limits). IsTrue c.plain_holds_at_entry-good.result ↔ HoldsAtEntry b c.args.node.now) c.requires.limits c.plain_holds_at_entry-good.ensures).0 c.if-good.true;
   points =
       subst (λ (l : List Point). All (λ (p : Point). (r : ℕ) → RuleHolds c.args.image.now c.args.plan.now c.args.cert.now c.args.node.now p r) l)
       (c.deref-point-items.ensures.value ∙ ap (λ (n : NodeData). n.points) c.node.view_is)
@@ -52,5 +52,5 @@ returns-else-good c =
     (subst (λ (l : List Point). All (λ (p : Point). (r : ℕ) → RuleHolds c.args.image.now c.args.plan.now c.args.cert.now c.args.node.now p r) l)
     (c.deref-point-items.ensures.value ∙ ap (λ (n : NodeData). n.points) c.node.view_is)
     (all_done (λ (p : Point). (r : ℕ) → RuleHolds c.args.image.now c.args.plan.now c.args.cert.now c.args.node.now p r) c.deref-point-items.result.now c.loop-point.point-index c.loop-point-test.false c.loop-point.invariant))
-    (refuted _ _ c.if-good.false (subst (λ (b : Limits). IsTrue c.holds_at_entry-good.result ↔ HoldsAtEntry b c.args.node.now) c.requires.limits c.holds_at_entry-good.ensures))
+    (refuted _ _ c.if-good.false (subst (λ (b : Limits). IsTrue c.plain_holds_at_entry-good.result ↔ HoldsAtEntry b c.args.node.now) c.requires.limits c.plain_holds_at_entry-good.ensures))
     (subst (λ (n : NodeData). (n.key).entry < 2 ^ 32) c.node.view_is (omega arith))))

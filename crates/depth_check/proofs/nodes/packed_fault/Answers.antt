@@ -1,0 +1,64 @@
+use Rattle.std.proofs.Common.{◌^◌, ◌<◌, ◌≡◌, ◌++◌, ◌∷◌, [], ◌∙◌, length, take, sym, ap, subst, refl, arith, List, ℕ}
+use Rattle.std.specs.Prelude.{IsTrue, ◌↔◌, All}
+use Rattle.std.proofs.lemmas.List.Elements.{All-push}
+use Rattle.std.proofs.lemmas.List.{append-nil}
+use Rattle.value_domain.specs.declared.states.State.{State}
+use Rattle.value_domain.specs.Limits.{Limits}
+use Rattle.depth_cert.specs.declared.points.Point.{Point}
+use Rattle.depth_cert.specs.Points.{ArePoints}
+use Rattle.depth_cert.specs.Nodes.{NodeData}
+use Rattle.cfg_recover.specs.Accepting.{HoldsAtEntry, RuleHolds}
+use Rattle.depth_check.specs.declared.nodes.Fault.{Fault}
+use Rattle.depth_check.specs.Finding.{Finds}
+use Rattle.depth_check.specs.NodeFaults.{IsNodeFault, first_of}
+use Rattle.depth_check.proofs.Deciding.{refuted}
+use Rattle.depth_check.proofs.NodeLaws.{fault_at, none_at, entry_alone}
+use Rattle.depth_check.proofs.WalkLaws.{stands_behind, split_more}
+use Rattle.depth_check.proofs.nodes.packed_fault.Goals as goal
+
+pub returns-in-Some-first_of : goal.returns-in-Some-first_of
+returns-in-Some-first_of c =
+    let inv = c.loop-addr.invariant in
+    let points = c.args.node.now.points in
+    let p : Point = record { addr = c.in-Some.addr; state = c.step.new.self.current } in
+    let split : points ≡ inv.done ++ (p ∷ c.step.new.self.left) = inv.split ∙ ap (λ (l : List Point). inv.done ++ l) c.in-Some.ensures in
+    let b = stands_behind points inv.done c.step.new.self.left p split in
+    let finds =
+    subst (λ (s : State). let q : Point = record { addr = c.in-Some.addr; state = s } in Finds (RuleHolds c.args.image.now c.args.plan.now c.args.cert.now c.args.node.now q) c.broken_by_point-found.result) c.state.ensures
+    (rw c.requires.same at c.broken_by_point-found.ensures)
+    in
+    fault_at c.args.image.now c.args.plan.now c.args.cert.now c.args.node.now c.requires.member points refl c.points-walk.ensures.rising (length inv.done) p c.packed_holds_at_entry-good.result c.broken_by_point-found.result c.in-Some-first_of.fault b.within b.here
+    (subst (λ (l : List Point). All (λ (q : Point). (r : ℕ) → RuleHolds c.args.image.now c.args.plan.now c.args.cert.now c.args.node.now q r) l) (sym b.before) inv.all)
+    finds c.is_word.ensures
+    (subst (λ (n : NodeData). (n.key).entry < 2 ^ 32) c.node.view_is (omega arith))
+    (subst (λ (l : Limits). IsTrue c.packed_holds_at_entry-good.result ↔ HoldsAtEntry l c.args.node.now) c.requires.limits c.packed_holds_at_entry-good.ensures)
+    (ap (λ (n : NodeData). first_of c.packed_holds_at_entry-good.result (n.key).entry c.in-Some.addr c.broken_by_point-found.result) (sym c.node.view_is) ∙ sym c.first_of.ensures ∙ c.in-Some-first_of.is)
+
+pub loop-addr-preserved : goal.loop-addr-preserved
+loop-addr-preserved c =
+    let inv = c.loop-addr.invariant in
+    let points = c.args.node.now.points in
+    let p : Point = record { addr = c.in-Some.addr; state = c.step.new.self.current } in
+    let finds =
+    subst (λ (s : State). let q : Point = record { addr = c.in-Some.addr; state = s } in Finds (RuleHolds c.args.image.now c.args.plan.now c.args.cert.now c.args.node.now q) c.broken_by_point-found.result) c.state.ensures
+    (rw c.requires.same at c.broken_by_point-found.ensures)
+    in
+    let told = ap (λ (n : NodeData). first_of c.packed_holds_at_entry-good.result (n.key).entry c.in-Some.addr c.broken_by_point-found.result) (sym c.node.view_is) ∙ sym c.first_of.ensures ∙ c.in_default-first_of.is in
+    let holds = none_at c.args.image.now c.args.plan.now c.args.cert.now c.args.node.now c.requires.member points refl c.points-walk.ensures.rising p c.packed_holds_at_entry-good.result c.broken_by_point-found.result told finds in
+    record {
+      done = inv.done ++ p ∷ [];
+      split = split_more points inv.done c.loop-addr.walk.left c.step.new.self.left p inv.split c.in-Some.ensures;
+      all = All-push (λ (q : Point). (r : ℕ) → RuleHolds c.args.image.now c.args.plan.now c.args.cert.now c.args.node.now q r) inv.done p inv.all holds;
+    }
+
+pub returns-else-good : goal.returns-else-good
+returns-else-good c =
+    let inv = c.loop-addr.invariant in
+    let points = c.args.node.now.points in
+    let whole : points ≡ inv.done = inv.split ∙ ap (λ (l : List Point). inv.done ++ l) c.in_default.ensures.0 ∙ append-nil inv.done in
+    subst (λ (f : Fault). IsNodeFault c.args.image.now c.args.plan.now c.args.cert.now c.args.node.now f.rule f.addr) (sym c.entry_fault.ensures)
+    (subst (λ (n : NodeData). IsNodeFault c.args.image.now c.args.plan.now c.args.cert.now c.args.node.now 2 (n.key).entry) (sym c.node.view_is)
+    (entry_alone c.args.image.now c.args.plan.now c.args.cert.now c.args.node.now c.requires.member points refl c.points-walk.ensures.rising
+    (subst (λ (l : List Point). All (λ (q : Point). (r : ℕ) → RuleHolds c.args.image.now c.args.plan.now c.args.cert.now c.args.node.now q r) l) (sym whole) inv.all)
+    (refuted _ _ c.if-good.false (subst (λ (l : Limits). IsTrue c.packed_holds_at_entry-good.result ↔ HoldsAtEntry l c.args.node.now) c.requires.limits c.packed_holds_at_entry-good.ensures))
+    (subst (λ (n : NodeData). (n.key).entry < 2 ^ 32) c.node.view_is (omega arith))))

@@ -1,0 +1,15 @@
+use Rattle.std.proofs.Common.{◌≡◌, ◌++◌, ℕ, List, length}
+use Rattle.std.specs.Prelude.{All}
+use Rattle.cfg_recover.specs.Accepting.{RuleHolds}
+use Rattle.depth_cert.specs.declared.points.Point.{Point}
+use Rattle.depth_check.proofs.nodes.packed_fault.Given as goal
+
+abbrev pub invariant-loop-addr : goal.invariant-loop-addr
+invariant-loop-addr l = record {
+  done : List Point;
+  split : (l.node).points ≡ done ++ (l.walk).left;
+  all : All (λ (p : Point). (r : ℕ) → RuleHolds l.image l.plan l.cert l.node p r) done;
+}
+
+abbrev pub decreases-loop-addr : goal.decreases-loop-addr
+decreases-loop-addr l = length (l.walk).left

@@ -1,0 +1,123 @@
+// A certificate, in memory or on the bytes of its file.
+ghost use Rattle.std.specs.Prelude.{◌≡◌, length};
+ghost use Rattle.std.specs.List.{slice_get};
+ghost use Rattle.depth_cert.specs.Certs.{find_node};
+
+use crate::forms::Frame;
+use depth_cert::{Cert, Key};
+use packed_cert::PackedCert;
+use std::marker::Model;
+
+/// Where the certificate lies.
+#[derive(Drop)]
+enum CertForm<'a> {
+    InMemory(&'a Cert),
+    OnBytes(&'a PackedCert),
+}
+
+/// A certificate in either form.
+#[derive(Drop)]
+pub(crate) struct AnyCert<'a> {
+    pub(crate) version: u8,
+    form: CertForm<'a>,
+}
+
+impl<'a> Model for AnyCert<'a> {
+    ghost use Rattle.depth_cert.specs.Certs.{CertData};
+
+    ghost Value = { CertData };
+
+    ghost use Rattle.depth_check.specs.Forms.{cert_data, IsAnyCert};
+
+    ghost view = { λ c. cert_data c.form };
+
+    ghost invariant = { λ c. IsAnyCert c.version c.form };
+}
+
+impl<'a> AnyCert<'a> {
+    /// A certificate in memory.
+    pub(crate) fn in_memory(cert: &'a Cert) -> AnyCert<'a>
+        ensures { result ≡ cert.now }
+    {
+        AnyCert {
+            version: cert.version,
+            form: CertForm::InMemory(cert),
+        }
+    }
+
+    /// A certificate on bytes.
+    pub(crate) fn on_bytes(cert: &'a PackedCert) -> AnyCert<'a>
+        ensures { result ≡ cert.now }
+    {
+        AnyCert {
+            version: cert.version(),
+            form: CertForm::OnBytes(cert),
+        }
+    }
+
+    /// How many nodes there are.
+    pub(crate) fn len(&self) -> usize
+        ensures { result ≡ length self.now.nodes }
+    {
+        match &self.form {
+            CertForm::InMemory(cert) => cert.nodes.len(),
+            CertForm::OnBytes(cert) => cert.len(),
+        }
+    }
+
+    /// The node at an index, or nothing past the last.
+    pub(crate) fn get(&self, index: usize) -> Option<Frame<'a>>
+        ensures { result ≡ slice_get self.now.nodes index }
+    {
+        match &self.form {
+            CertForm::InMemory(cert) => plain_at(cert, index),
+            CertForm::OnBytes(cert) => packed_at(cert, index),
+        }
+    }
+
+    /// The node of a key, or nothing where there is none.
+    pub(crate) fn node(&self, key: &Key) -> Option<Frame<'a>>
+        ensures { result ≡ find_node key.now self.now.nodes }
+    {
+        match &self.form {
+            CertForm::InMemory(cert) => plain_node(cert, key),
+            CertForm::OnBytes(cert) => packed_node(cert, key),
+        }
+    }
+}
+
+fn plain_at<'a>(cert: &'a Cert, index: usize) -> Option<Frame<'a>>
+    ensures { result ≡ slice_get cert.now.nodes index }
+{
+    if index < cert.nodes.len() {
+        return Some(Frame::plain(&cert.nodes[index]));
+    }
+    None
+}
+
+fn packed_at<'a>(cert: &'a PackedCert, index: usize) -> Option<Frame<'a>>
+    ensures { result ≡ slice_get cert.now.nodes index }
+{
+    match cert.get(index) {
+        Some(node) => Some(Frame::packed(node)),
+        None => None,
+    }
+}
+
+fn plain_node<'a>(cert: &'a Cert, key: &Key) -> Option<Frame<'a>>
+    ensures { result ≡ find_node key.now cert.now.nodes }
+{
+    match cert.node(key) {
+        Some(node) => Some(Frame::plain(node)),
+        None => None,
+    }
+}
+
+fn packed_node<'a>(cert: &'a PackedCert, key: &Key) -> Option<Frame<'a>>
+    ensures { result ≡ find_node key.now cert.now.nodes }
+{
+    match cert.node(key) {
+        Some(node) => Some(Frame::packed(node)),
+        None => None,
+    }
+}

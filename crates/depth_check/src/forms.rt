@@ -1,0 +1,65 @@
+// A node of a certificate, in memory or on the bytes of its file.
+ghost use Rattle.std.specs.Prelude.{◌≡◌};
+
+use depth_cert::{Key, Node};
+use packed_cert::PackedNode;
+use std::marker::Model;
+use value_domain::State;
+
+/// The point at hand: its address, and the state before its instruction.
+#[derive(Clone, Copy)]
+pub(crate) struct Here<'a> {
+    pub(crate) addr: u32,
+    pub(crate) state: &'a State,
+}
+
+/// Where the node lies.
+#[derive(Drop)]
+pub(crate) enum NodeForm<'a> {
+    Plain(&'a Node),
+    Packed(PackedNode<'a>),
+}
+
+/// A node of a certificate in either form.
+#[derive(Drop)]
+pub(crate) struct Frame<'a> {
+    pub(crate) key: Key,
+    pub(crate) need: u16,
+    pub(crate) form: NodeForm<'a>,
+}
+
+impl<'a> Model for Frame<'a> {
+    ghost use Rattle.depth_cert.specs.Nodes.{NodeData};
+
+    ghost Value = { NodeData };
+
+    ghost use Rattle.depth_check.specs.Forms.{node_data, IsFrame};
+
+    ghost view = { λ f. node_data f.form };
+
+    ghost invariant = { λ f. IsFrame f.key f.need f.form };
+}
+
+impl<'a> Frame<'a> {
+    /// A node in memory.
+    pub(crate) fn plain(node: &'a Node) -> Frame<'a>
+        ensures { result ≡ node.now }
+    {
+        Frame {
+            key: node.key,
+            need: node.need,
+            form: NodeForm::Plain(node),
+        }
+    }
+
+    /// A node on bytes.
+    pub(crate) fn packed(node: PackedNode<'a>) -> Frame<'a>
+        ensures { result ≡ node.entry }
+    {
+        Frame {
+            key: node.key,
+            need: node.need,
+            form: NodeForm::Packed(node),
+        }
+    }
+}
