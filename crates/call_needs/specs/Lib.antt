@@ -1,0 +1,3 @@
+-- Rows of needs, and the graph of their entries.
+pub mod Reaching
+pub mod Rows

@@ -1,0 +1,3 @@
+-- What is in little room, as what it stands for.
+pub mod Forms
+pub mod Wholes

@@ -1,0 +1,166 @@
+// A value in little room.
+ghost use Rattle.std.specs.Prelude.{◌≡◌, ◌↔◌, IsTrue, IfOk, ◌∷◌, []};
+ghost use Rattle.value_domain.specs.declared.values.Val.TheVariants.{Set, Span};
+ghost use Rattle.value_domain.specs.Values.{IsWell, IsValue, IsBelow};
+ghost use Rattle.value_domain.specs.State.{join_of};
+ghost use Rattle.small_states.specs.Forms.{val_of};
+
+use std::alloc::{AllocError, Global};
+use std::marker::Model;
+use value_domain::{Bounds, Val, Words, join, leq};
+
+/// One word, more words, or a range.
+#[derive(Drop)]
+pub(crate) enum Form {
+    One(u32),
+    Many(Box<Words>),
+    Range { lo: u32, last: u32, step: u8 },
+}
+
+/// A value that takes no more room than its words need.
+#[derive(Drop)]
+pub struct Small {
+    form: Form,
+}
+
+impl Model for Small {
+    ghost use Rattle.value_domain.specs.declared.values.Val.{Val};
+    ghost use Rattle.small_states.specs.Forms.{val_of};
+
+    ghost Value = { Val };
+
+    ghost view = { λ s. val_of s.form };
+}
+
+fn is_one(words: &Words, x: u32) -> bool
+    ensures { IsTrue result → words.now ≡ x ∷ [] }
+{
+    let all = words.as_slice();
+    if all.len() != 1 {
+        return false;
+    }
+    all[0] == x
+}
+
+fn is_the_range(v: &Val, lo: u32, last: u32, step: u8) -> bool
+    ensures { IsTrue result → v.now ≡ Span lo last step }
+{
+    match v {
+        Val::Set(_) => false,
+        Val::Span {
+            lo: own_lo,
+            last: own_last,
+            step: own_step,
+        } => *own_lo == lo && *own_last == last && *own_step == step,
+    }
+}
+
+fn are_the_words(v: &Val, words: &Words) -> bool
+    ensures { IsTrue result → v.now ≡ Set words.now }
+{
+    match v {
+        Val::Set(own) => own.as_slice() == words.as_slice(),
+        Val::Span { .. } => false,
+    }
+}
+
+fn is_the_word(v: &Val, x: u32) -> bool
+    ensures { IsTrue result → v.now ≡ Set (x ∷ []) }
+{
+    match v {
+        Val::Set(words) => is_one(words, x),
+        Val::Span { .. } => false,
+    }
+}
+
+impl Small {
+    /// The words of a set.
+    fn of_words(alloc: Global, words: &Words) -> Result<Small, AllocError>
+        ensures { IfOk result (λ s. s ≡ Set words.now) }
+    {
+        let first = words.as_slice()[0];
+        if is_one(words, first) {
+            let form = Form::One(first);
+            return Ok(Small { form });
+        }
+        let form = Form::Many(Box::new(alloc, words.copy())?);
+        Ok(Small { form })
+    }
+
+    /// A value.
+    pub fn of(alloc: Global, v: &Val) -> Result<Small, AllocError>
+        ensures { IfOk result (λ s. s ≡ v.now) }
+    {
+        match v {
+            Val::Set(words) => Small::of_words(alloc, words),
+            Val::Span { lo, last, step } => {
+                let form = Form::Range {
+                    lo: *lo,
+                    last: *last,
+                    step: *step,
+                };
+                Ok(Small { form })
+            }
+        }
+    }
+
+    /// The value.
+    #[inline(never)]
+    pub fn value(&self) -> Val
+        ensures { result ≡ self.now }
+    {
+        match &self.form {
+            Form::One(x) => Val::one(*x),
+            Form::Many(words) => Val::Set(words.copy()),
+            Form::Range { lo, last, step } => Val::Span {
+                lo: *lo,
+                last: *last,
+                step: *step,
+            },
+        }
+    }
+
+    /// Whether it is seen at once to be this value.
+    fn is_same(&self, v: &Val) -> bool
+        ensures { IsTrue result → v.now ≡ self.now }
+    {
+        match &self.form {
+            Form::One(x) => is_the_word(v, *x),
+            Form::Many(words) => are_the_words(v, words),
+            Form::Range { lo, last, step } => is_the_range(v, *lo, *last, *step),
+        }
+    }
+
+    /// Writes the value over another, unless it stands there already.
+    pub fn write(&self, out: &mut Val)
+        ensures { out.new ≡ self.now }
+    {
+        if !self.is_same(out) {
+            *out = self.value();
+        }
+    }
+
+    /// Whether each member of a value is one of its own.
+    pub fn covers(&self, v: &Val) -> bool
+        requires own { IsWell self.now }
+        requires value { IsWell v.now }
+        ensures { IsTrue result ↔ IsBelow v.now self.now }
+    {
+        if self.is_same(v) {
+            return true;
+        }
+        leq(v, &self.value())
+    }
+
+    /// The least value that holds both.
+    pub fn join(&self, alloc: Global, b: &Bounds, v: &Val) -> Result<Small, AllocError>
+        requires own { IsValue b.now self.now }
+        requires value { IsValue b.now v.now }
+        ensures { IfOk result (λ s. s ≡ join_of b.now self.now v.now) }
+    {
+        if self.is_same(v) {
+            return Small::of(alloc, v);
+        }
+        Small::of(alloc, &join(b, &self.value(), v))
+    }
+}

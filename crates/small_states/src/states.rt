@@ -1,0 +1,106 @@
+// States and exits whose values are in little room.
+ghost use Rattle.std.specs.Prelude.{◌≡◌, ◌≤◌, ◌&&◌, ◌↔◌, IsTrue, length};
+ghost use Rattle.value_domain.specs.State.{joined_locals};
+ghost use Rattle.small_states.specs.Wholes.{exit_in, state_in};
+
+use crate::small::Small;
+use arrayvec::ArrayVec;
+use depth_cert::Exit;
+use value_domain::{State, Val};
+
+/// A state.
+#[derive(Drop)]
+pub struct SmallState {
+    pub regs: Vec<Small>,
+    pub ie: bool,
+    pub ccpn: u8,
+    pub lower: bool,
+    pub locals: ArrayVec<bool, 8>,
+}
+
+/// An exit.
+#[derive(Drop)]
+pub struct SmallExit {
+    pub ie: bool,
+    pub ccpn: u8,
+    pub lower: Vec<Small>,
+}
+
+/// A copy of flags.
+pub fn copy_of(locals: &ArrayVec<bool, 8>) -> ArrayVec<bool, 8>
+    ensures { result ≡ locals.now }
+{
+    let mut copy = ArrayVec::new();
+    copy.try_extend_from_slice(locals.as_slice()).unwrap();
+    copy
+}
+
+fn and(a: bool, b: bool) -> bool
+    ensures { result ≡ (a && b) }
+{
+    a && b
+}
+
+/// The flags that are set in both lists.
+pub fn join_locals(s: &[bool], t: &[bool]) -> ArrayVec<bool, 8>
+    requires same { length s.now ≡ length t.now }
+    requires few { length s.now ≤ 8 }
+    ensures { result.items ≡ joined_locals s.now t.now }
+{
+    let mut out = ArrayVec::new();
+    for (i, flag) in s.iter().enumerate() {
+        let both = and(*flag, t[i]);
+        out.push(both);
+    }
+    out
+}
+
+/// Writes values over others.
+fn write_values<const N: usize>(values: &[Small], out: &mut [Val; N])
+    requires { length values.now ≡ N }
+    ensures { out.new ≡ values.now }
+{
+    for (i, value) in values.iter().enumerate() {
+        value.write(&mut out[i]);
+    }
+}
+
+impl SmallState {
+    /// Writes the state over another.
+    pub fn write(&self, into: &mut State)
+        requires { length self.now.regs.items ≡ 27 }
+        ensures { into.new ≡ state_in self.now }
+    {
+        write_values(self.regs.as_slice(), &mut into.regs);
+        into.ie = self.ie;
+        into.ccpn = self.ccpn;
+        into.lower = self.lower;
+        into.locals = copy_of(&self.locals);
+    }
+
+    /// Whether its context covers this one.
+    pub fn covers_context(&self, ie: bool, ccpn: u8, lower: bool) -> bool
+        ensures { IsTrue result ↔ ((IsTrue ie → IsTrue self.now.ie) × (self.now.ccpn ≤ ccpn) × (IsTrue self.now.lower → IsTrue lower)) }
+    {
+        (self.ie || !ie) && self.ccpn <= ccpn && (!self.lower || lower)
+    }
+}
+
+impl SmallExit {
+    /// Writes the exit over another.
+    pub fn write(&self, into: &mut Exit)
+        requires { length self.now.lower.items ≡ 14 }
+        ensures { into.new ≡ exit_in self.now }
+    {
+        write_values(self.lower.as_slice(), &mut into.lower);
+        into.ie = self.ie;
+        into.ccpn = self.ccpn;
+    }
+
+    /// Whether its IE and CCPN cover these.
+    pub fn covers_context(&self, ie: bool, ccpn: u8) -> bool
+        ensures { IsTrue result ↔ ((IsTrue ie → IsTrue self.now.ie) × (self.now.ccpn ≤ ccpn)) }
+    {
+        (self.ie || !ie) && self.ccpn <= ccpn
+    }
+}
