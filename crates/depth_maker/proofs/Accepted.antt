@@ -40,7 +40,7 @@ some_and : {A : Type 0} (P : A → Type 0) (o : Option A) → IsSomeAnd o P → 
 some_and P None h = absurd h
 some_and P (Some x) h = (x, refl, h)
 
-All-at : {X : Type 0} (P : X → Type 0) (xs : List X) (x : X) → All P xs → Contains xs x → P x
+pub All-at : {X : Type 0} (P : X → Type 0) (xs : List X) (x : X) → All P xs → Contains xs x → P x
 All-at P xs x all c = subst P c.2 (all c.0 x c.1)
 
 pub found_in : {X : Type 0} (p : X → Bool) (xs : List X) (x : X) → find p xs ≡ Some x → Contains xs x × (p x ≡ true)

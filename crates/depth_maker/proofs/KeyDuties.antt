@@ -83,7 +83,7 @@ irqs_among plan s false q c = absurd (omega (arith, c.1))
 irqs_among plan s true q c = (contained_filter (λ p. ltb s.ccpn p) plan.irqs q c).0
 
 module _ (b : Limits) (image : ImageData) (plan : PlanData) (key : Key) (p : ℕ) (s : State) (set : IsSetting b plan s) (is_key : IsKey key) where
-  target_small : (to : Target) → IsTarget to → (x : ℕ) → Contains (unwrap_or (targets_of plan s p to) []) x → x < 2 ^ 32
+  pub target_small : (to : Target) → IsTarget to → (x : ℕ) → Contains (unwrap_or (targets_of plan s p to) []) x → x < 2 ^ 32
   target_small (target.Rel by) is x c = elim (among_contained (moved p by ∷ []) x c) [ inl e ↦ (let f : x ≡ (p + by) % 2 ^ 32 = e in omega arith) | inr n ↦ absurd n ]
   target_small (target.Abs y) is x c = elim (among_contained (y ∷ []) x c) [ inl e ↦ (let f : x ≡ y = e in omega (arith, is)) | inr n ↦ absurd n ]
   target_small (target.Reg r) is x c = named_small (reg_of plan s r) (reg_value b plan s r set).well x (among_contained (unwrap_or (named_by (reg_of plan s r)) []) x c)

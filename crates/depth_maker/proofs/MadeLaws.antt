@@ -1,13 +1,18 @@
 -- The certificate that is written out is the one to be made.
-use Rattle.std.proofs.Common.{◌≡◌, ℕ, ◌≤◌, ◌<◌, ◌-◌, ◌^◌, refl, sym, subst, Contains, IsSome}
+use Rattle.std.proofs.Common.{◌≡◌, ℕ, ◌≤◌, ◌<◌, ◌-◌, ◌^◌, refl, sym, ap, subst, arith, Contains, Some, IsSome}
 use Rattle.elf_image.specs.Images.{ImageData}
 use Rattle.tcd_plan.specs.PlanData.{PlanData}
 use Rattle.value_domain.specs.Thresholds.{limits_for}
 use Rattle.depth_cert.specs.declared.keys.Key.{Key}
+use Rattle.value_domain.specs.Limits.{Limits}
+use Rattle.depth_cert.specs.Keys.{IsKey}
+use Rattle.depth_cert.specs.Nodes.{IsNode}
 use Rattle.depth_cert.specs.Certs.{CertData, IsCert, find_node}
-use Rattle.cfg_recover.specs.Accepting.{Accepts, limits_in}
-use Rattle.cfg_recover.specs.Assignments.{Derived, Closed, IsBelowAt, known_in}
-use Rattle.cfg_recover.specs.Refusals.{AreLeastNeeds, IsTooLarge, IsRefusal, IsRefusalWith}
+use Rattle.cfg_recover.specs.Duties.{enter}
+use Rattle.cfg_recover.specs.Entries.{start_key}
+use Rattle.cfg_recover.specs.Accepting.{Accepts, limits_in, need_of}
+use Rattle.cfg_recover.specs.Assignments.{Place, point, exit, Known, state, Assignment, frame_of, Derived, Closed, IsBelowAt, known_in}
+use Rattle.cfg_recover.specs.Refusals.{MeetsNeeds, IsTooLarge, IsRefusal, IsRefusalWith}
 use Rattle.depth_maker.specs.Growth.{IsGround}
 use Rattle.depth_maker.specs.Proper.{AllFaultless}
 use Rattle.depth_maker.specs.Laws.{IsSolution}
@@ -15,30 +20,65 @@ use Rattle.depth_maker.specs.Making.{needs_in, IsNoWorse, IsMade, NoneAccepted, 
 use Rattle.depth_maker.proofs.Lawful.{lawful}
 use Rattle.depth_maker.proofs.Below.{derived_below}
 use Rattle.depth_maker.proofs.TableLaws.{derived_proper}
-use Rattle.depth_maker.proofs.Accepted.{accepted_closed, accepted_faultless, accepted_proper}
+use Rattle.depth_maker.proofs.Accepted.{accepted_closed, accepted_faultless, accepted_proper, at_point, at_exit, All-at, find_agrees}
 use Rattle.depth_maker.proofs.Sizes.{cert_within}
 use Rattle.depth_maker.proofs.NeedLaws.{derived_needs, refusal_refuted}
 use Rattle.depth_maker.proofs.Solved.{solution_accepted}
-use Rattle.depth_maker.proofs.Least.{least_stands}
+use Rattle.depth_maker.proofs.LeastStands.{least_stands}
+
+-- a place that a certificate tells of has a key
+known_key : (cert : CertData) → IsCert cert → (y : Place) (v : Known) → known_in cert y ≡ Some v → IsKey (frame_of y)
+known_key cert is_cert (point k p) v e = let a = (at_point cert k p v e).2 in subst IsKey a.key (All-at (IsNode cert.version) cert.nodes a.node is_cert.nodes a.member).key
+known_key cert is_cert (exit k) v e = let a = (at_exit cert k v e).2 in subst IsKey a.key (All-at (IsNode cert.version) cert.nodes a.node is_cert.nodes a.member).key
+
+-- numbers that agree at the frames that are known meet the needs alike
+pub meets_alike : (b : Limits) (image : ImageData) (plan : PlanData) (a : Assignment) (f g : Key → ℕ) → Closed b image plan a → ((y : Place) (v : Known) → a y ≡ Some v → f (frame_of y) ≡ g (frame_of y))
+    → MeetsNeeds b image plan a f → MeetsNeeds b image plan a g
+meets_alike b image plan a f g closed same m = record {
+  locals = λ k p s at. let le = m.locals k p s at in omega (arith, le, same (point k p) (state s) at);
+  entered = λ k p s t e.
+      let le = m.entered k p s t e in
+      let c = closed.duties (point t t.entry) (state e.entered) (record { key = k; addr = p; before = s; duty = enter t e.entered; has = e.has; asks = refl }) in
+      omega (arith, le, same (point k p) (state s) (e.has).at, same (point t t.entry) c.known c.at);
+}
+
+-- a node is found by its key's number as by its key
+numbers_agree : (cert : CertData) → IsCert cert → (k : Key) → IsKey k → need_of (find_node k cert.nodes) ≡ needs_in cert k
+numbers_agree cert is_cert k key = ap need_of (sym (find_agrees cert.version k cert.nodes key is_cert.nodes))
 
 module _ (image : ImageData) (plan : PlanData) (cert : CertData) (ground : IsGround (limits_in plan cert) image plan) (entry : image.entry < 2 ^ 32) (w : IsWritten image plan cert.version cert) where
-  solution : IsSolution (limits_in plan cert) image plan (known_in cert) (needs_in cert)
+  -- needs of any certificate, by numbers and by keys
+  by_keys : (other : CertData) → IsCert other → MeetsNeeds (limits_in plan cert) image plan (known_in cert) (λ k. need_of (find_node k other.nodes)) → MeetsNeeds (limits_in plan cert) image plan (known_in cert) (needs_in other)
+  by_keys other is_other m =
+      meets_alike (limits_in plan cert) image plan (known_in cert) (λ k. need_of (find_node k other.nodes)) (needs_in other) w.closed (λ y v at. numbers_agree other is_other (frame_of y) (known_key cert w.is_cert y v at)) m
+
+  start_is : IsKey (start_key image plan)
+  start_is = record { kind = omega arith; entry = entry; prio = omega arith }
+
+  solution : IsSolution (limits_in plan cert) image plan (known_in cert) (λ k. need_of (find_node k cert.nodes))
   solution = record {
     closed = w.closed;
     faultless = w.faultless;
     proper = derived_proper (limits_in plan cert) image plan (lawful (limits_in plan cert) image plan ground) (known_in cert) w.derived;
     within = cert_within cert w.is_cert;
-    needs = (w.needs).meets;
-    start = w.start;
+    needs =
+        meets_alike (limits_in plan cert) image plan (known_in cert) (needs_in cert) (λ k. need_of (find_node k cert.nodes)) w.closed
+        (λ y v at. sym (numbers_agree cert w.is_cert (frame_of y) (known_key cert w.is_cert y v at))) (w.needs).meets;
+    start = let le = w.start in omega (arith, le, numbers_agree cert w.is_cert (start_key image plan) start_is);
   }
 
-  no_worse : (other : CertData) → IsGround (limits_in plan other) image plan → Derived (limits_in plan other) image plan (known_in cert) → AreLeastNeeds (limits_in plan other) image plan (known_in cert) (needs_in cert) → IsCert other → Accepts image plan other
+  no_worse : (other : CertData) → other.version ≡ cert.version → IsGround (limits_in plan other) image plan → Derived (limits_in plan other) image plan (known_in cert) → IsCert other → Accepts image plan other
       → IsNoWorse image plan cert other
-  no_worse other above d least is_cert accepted = record {
+  no_worse other same above d is_cert accepted = record {
     below =
         (derived_below (limits_in plan other) image plan (lawful (limits_in plan other) image plan above) (known_in other) (accepted_closed image plan other above entry is_cert accepted)
         (accepted_faultless image plan other above entry is_cert accepted) (accepted_proper image plan other above entry is_cert accepted) (known_in cert) d).0;
-    needs = λ k. least.least (needs_in other) (derived_needs image plan other above entry is_cert accepted (known_in cert) d) k;
+    needs = λ k.
+        (w.needs).least (needs_in other)
+        (by_keys other is_cert
+        (subst (λ n. MeetsNeeds (limits_for plan n) image plan (known_in cert) (λ k. need_of (find_node k other.nodes))) same
+        (derived_needs image plan other above entry is_cert accepted (known_in cert) d)))
+        k;
   }
 
   written_made : IsMade image plan cert.version cert
@@ -48,10 +88,9 @@ module _ (image : ImageData) (plan : PlanData) (cert : CertData) (ground : IsGro
     least = least_stands (limits_in plan cert) image plan (lawful (limits_in plan cert) image plan ground) (known_in cert) w.derived w.closed w.faultless (cert_within cert w.is_cert);
     needs = w.needs;
     best = λ other is_cert same accepted.
-        no_worse other
+        no_worse other same
         (subst (λ n. IsGround (limits_for plan n) image plan) (sym same) ground)
         (subst (λ n. Derived (limits_for plan n) image plan (known_in cert)) (sym same) w.derived)
-        (subst (λ n. AreLeastNeeds (limits_for plan n) image plan (known_in cert) (needs_in cert)) (sym same) w.needs)
         is_cert accepted;
   }
 

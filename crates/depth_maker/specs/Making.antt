@@ -1,22 +1,22 @@
 -- What the maker answers: the certificate of the least assignment with the least needs, or why there is none.
-use Rattle.std.specs.Prelude.{◌≡◌, ◌≤◌, ◌<◌, ◌-◌, ◌^◌, ℕ, IsSome, Contains}
+use Rattle.std.specs.Prelude.{◌≡◌, ◌≤◌, ◌<◌, ◌-◌, ◌^◌, ℕ, IsSome, Contains, find}
 use Rattle.elf_image.specs.Images.{ImageData}
 use Rattle.tcd_plan.specs.PlanData.{PlanData}
 use Rattle.value_domain.specs.Thresholds.{limits_for}
 use Rattle.depth_cert.specs.declared.keys.Key.{Key}
 use Rattle.depth_cert.specs.Points.{find_point}
 use Rattle.depth_cert.specs.Nodes.{NodeData}
-use Rattle.depth_cert.specs.Certs.{CertData, IsCert, find_node}
+use Rattle.depth_cert.specs.Certs.{CertData, IsCert}
 use Rattle.cfg_recover.specs.Entries.{start_key}
 use Rattle.cfg_recover.specs.Accepting.{Accepts, need_of}
-use Rattle.cfg_recover.specs.Assignments.{Derived, Closed, IsBelowAt, known_in}
+use Rattle.cfg_recover.specs.Assignments.{Derived, Closed, IsBelowAt, known_in, same_key}
 use Rattle.cfg_recover.specs.Refusals.{AreLeastNeeds, IsLeast, IsRefusal, IsTooLarge}
 use Rattle.depth_maker.specs.Growth.{IsGround}
 use Rattle.depth_maker.specs.Proper.{AllFaultless}
 
--- the needs that a certificate states
+-- the needs that a certificate states; a frame without a node needs nothing
 abbrev pub needs_in : CertData → Key → ℕ
-needs_in cert k = need_of (find_node k cert.nodes)
+needs_in cert k = need_of (find (λ n. same_key n.key k) cert.nodes)
 
 -- a certificate of this version that is accepted; another one is not below it
 pub record IsNoWorse (image : ImageData) (plan : PlanData) (cert other : CertData) : Type 0 where

@@ -1,8 +1,33 @@
 //! The certificate maker: the least certificate that the rules accept, or why there is none.
 #![tactic(auto)]
 
+mod answering;
+mod asked;
+mod asking;
+mod cells;
+mod close;
+mod counting;
+mod entered;
+mod entries;
+mod ground;
 mod laws;
+mod marks;
+mod needs;
+mod numbers;
+mod ordering;
+mod paying;
+mod places;
+mod readers;
+mod recursion;
+mod refusals;
+mod rise;
+mod rows;
+mod spelling;
+mod successors;
+mod table;
+mod values;
 
+pub use answering::{MakeErr, make, make_bytes};
 pub use laws::{
     accepted_laws, after_laws, derived_laws, effect_growth_laws, growth_laws, making_laws,
 };

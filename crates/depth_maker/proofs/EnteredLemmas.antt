@@ -1,0 +1,176 @@
+-- The frames that parts of a point's duties enter.
+use Rattle.std.proofs.Common.{◌≡◌, ℕ, ◌+◌, ◌<◌, Bool, true, false, inl, inr, not, List, [], ◌∷◌, ◌++◌, length, get_or, take, refl, sym, ap, ◌∙◌, subst, arith}
+use Rattle.std.specs.Prelude.{map, if◌then◌else◌, Option, Some, None, unwrap_or, Contains}
+use Rattle.std.specs.List.{flat_map}
+use Rattle.std.proofs.lemmas.List.{append-nil, map-append, take_more, append_assoc}
+use Rattle.std.proofs.lemmas.Grind.{flat_map-append}
+use Rattle.std.proofs.lemmas.List.Elements.{Contains-append_cases, Contains-append_left, Contains-append_right, Contains-push_cases}
+use Rattle.elf_image.specs.Images.{ImageData}
+use Rattle.tcd_plan.specs.PlanData.{PlanData}
+use Rattle.tc_isa.specs.declared.shapes.Arg.{Arg}
+use Rattle.tc_isa.specs.declared.shapes.Cond.{Cond}
+use Rattle.tc_isa.specs.declared.shapes.Target.{Target}
+use Rattle.tc_isa.specs.declared.shapes.Shape.{Shape}
+use Rattle.tc_isa.specs.declared.shapes.Shape.TheVariants.{Compute, Scaled, Load, Store, Branch, Jump, Call, Ret, Rfe, Svlcx, Rslcx, Bisr, Enable, Disable, Syscall, Mfcr, Mtcr, Nothing}
+use Rattle.tc_machine.specs.Machine.{moved}
+use Rattle.value_domain.specs.declared.values.Val.{Val}
+use Rattle.value_domain.specs.declared.states.State.{State}
+use Rattle.value_domain.specs.Limits.{Limits}
+use Rattle.vd_transfer.specs.Branches.{refine_of}
+use Rattle.depth_cert.specs.declared.keys.Key.{Key}
+use Rattle.cfg_recover.specs.Entries.{call_key, irq_key, aln_key, irq_entry, aln_entry, call_entry}
+use Rattle.cfg_recover.specs.Local.{are_aligned, targets_of}
+use Rattle.cfg_recover.specs.Duties.{Duty, jump, enter, resume, leave, Owed, owed, entered_and_back, entries_of, jump_on, jumps_to, leavings_of, misaligned_at, misaligned_of, interrupts_of, irqs_of, successors_of, duties_of}
+use Rattle.cfg_recover.proofs.Members.{contains_flat}
+use Rattle.depth_maker.specs.Entered.{entered_by, entered_in}
+
+pub entered_calls : (key : Key) (s : State) (back : ℕ) (ts : List ℕ) → entered_in (flat_map (λ t. entered_and_back 5 (call_key key t) s back) ts) ≡ map (call_key key) ts
+entered_calls key s back [] = refl
+entered_calls key s back (t ∷ ts) = ap (λ (l : List Key). call_key key t ∷ l) (entered_calls key s back ts)
+
+pub entered_irqs : (plan : PlanData) (key : Key) (s : State) (ps : List ℕ) → entered_in (map (λ p. owed 11 (enter (irq_key plan p) (irq_entry plan key s p))) ps) ≡ map (irq_key plan) ps
+entered_irqs plan key s [] = refl
+entered_irqs plan key s (p ∷ ps) = ap (λ (l : List Key). irq_key plan p ∷ l) (entered_irqs plan key s ps)
+
+entered_jumps : (s : State) (ts : List ℕ) → entered_in (jumps_to s ts) ≡ []
+entered_jumps s [] = refl
+entered_jumps s (t ∷ ts) = entered_jumps s ts
+
+entered_jump_on : (q : ℕ) (o : Option State) → entered_in (jump_on q o) ≡ []
+entered_jump_on q None = refl
+entered_jump_on q (Some s) = refl
+
+-- jumps in the frame enter none
+pub entered_successors : (b : Limits) (image : ImageData) (plan : PlanData) (p : ℕ) (s : State) (shape : Shape) (n : ℕ) → entered_in (successors_of b image plan p s shape n) ≡ []
+entered_successors b image plan p s (Compute op dst x y) n = refl
+entered_successors b image plan p s (Scaled dst base index k) n = refl
+entered_successors b image plan p s (Load dst base offset size signed after) n = refl
+entered_successors b image plan p s (Store src base offset size after) n = refl
+entered_successors b image plan p s (Branch cond x y by lowers) n =
+    flat_map-append (λ d. entered_by d.duty) (jump_on (moved p n) (refine_of b plan (Branch cond x y by lowers) s false)) (jump_on (moved p by) (refine_of b plan (Branch cond x y by lowers) s true))
+    ∙ ap (λ (l : List Key). l ++ entered_in (jump_on (moved p by) (refine_of b plan (Branch cond x y by lowers) s true))) (entered_jump_on (moved p n) (refine_of b plan (Branch cond x y by lowers) s false))
+    ∙ entered_jump_on (moved p by) (refine_of b plan (Branch cond x y by lowers) s true)
+entered_successors b image plan p s (Jump to) n = entered_jumps s (unwrap_or (targets_of plan s p to) [])
+entered_successors b image plan p s (Call to) n = refl
+entered_successors b image plan p s Ret n = refl
+entered_successors b image plan p s Rfe n = refl
+entered_successors b image plan p s Svlcx n = refl
+entered_successors b image plan p s Rslcx n = refl
+entered_successors b image plan p s (Bisr c) n = refl
+entered_successors b image plan p s Enable n = refl
+entered_successors b image plan p s Disable n = refl
+entered_successors b image plan p s (Syscall tin) n = refl
+entered_successors b image plan p s (Mfcr dst number) n = refl
+entered_successors b image plan p s (Mtcr src number) n = refl
+entered_successors b image plan p s Nothing n = refl
+
+-- nor do leavings
+entered_left : (t : Bool) (d : Owed) → entered_by d.duty ≡ [] → entered_in (if t then d ∷ [] else []) ≡ []
+entered_left true d e = ap (λ (l : List Key). l ++ []) e
+entered_left false d e = refl
+
+pub entered_leavings : (key : Key) (s : State) (shape : Shape) → entered_in (leavings_of key s shape) ≡ []
+entered_leavings key s (Compute op dst x y) = refl
+entered_leavings key s (Scaled dst base index k) = refl
+entered_leavings key s (Load dst base offset size signed after) = refl
+entered_leavings key s (Store src base offset size after) = refl
+entered_leavings key s (Branch cond x y by lowers) = refl
+entered_leavings key s (Jump to) = refl
+entered_leavings key s (Call to) = refl
+entered_leavings key s Ret = refl
+entered_leavings key s Rfe = entered_left _ _ refl
+entered_leavings key s Svlcx = refl
+entered_leavings key s Rslcx = refl
+entered_leavings key s (Bisr c) = refl
+entered_leavings key s Enable = refl
+entered_leavings key s Disable = refl
+entered_leavings key s (Syscall tin) = refl
+entered_leavings key s (Mfcr dst number) = refl
+entered_leavings key s (Mtcr src number) = refl
+entered_leavings key s Nothing = refl
+
+-- an access that may be misaligned enters one frame
+pub entered_misaligned : (plan : PlanData) (key : Key) (s : State) (at : Val) (size : ℕ) (t : Bool) → are_aligned at size ≡ t → entered_in (misaligned_at plan key s at size) ≡ (if t then [] else aln_key plan key ∷ [])
+entered_misaligned plan key s at size true e = rw e refl
+entered_misaligned plan key s at size false e = rw e refl
+
+-- all parts
+pub entered_parts : (js bs ds es ls : List Owed) → entered_in js ≡ [] → entered_in ls ≡ [] → entered_in (js ++ bs ++ ds ++ es ++ ls) ≡ (entered_in bs ++ entered_in ds) ++ entered_in es
+entered_parts js bs ds es ls none last =
+    let f : Owed → List Key = λ d. entered_by d.duty in
+    flat_map-append f (js ++ bs ++ ds ++ es) ls
+    ∙ ap (λ (l : List Key). entered_in (js ++ bs ++ ds ++ es) ++ l) last
+    ∙ append-nil (entered_in (js ++ bs ++ ds ++ es))
+    ∙ flat_map-append f (js ++ bs ++ ds) es
+    ∙ ap (λ (l : List Key). l ++ entered_in es) (flat_map-append f (js ++ bs) ds ∙ ap (λ (l : List Key). l ++ entered_in ds) (flat_map-append f js bs ∙ ap (λ (l : List Key). l ++ entered_in bs) none))
+
+-- ---- what is entered is owed
+pub entered_owed : (ds : List Owed) (k : Key) → Contains (entered_in ds) k → (t : State) × ((d : Owed) × Contains ds d × (d.duty ≡ enter k t))
+entered_owed [] k c = absurd (omega (arith, c.1))
+entered_owed (d ∷ ds) k c =
+    elim (Contains-append_cases (entered_by d.duty) (entered_in ds) k c) [
+      | inl here ↦ let e = one d.duty here in (e.0, (d, (0, omega arith, refl), e.1))
+      | inr there ↦ let r = entered_owed ds k there in (r.0, (r.1.0, Contains-append_right (d ∷ []) ds r.1.0 r.1.1, r.1.2))
+    ] where
+      one : (e : Duty) → Contains (entered_by e) k → (t : State) × (e ≡ enter k t)
+      one (jump q t) h = absurd (omega (arith, h.1))
+      one (resume l q) h = absurd (omega (arith, h.1))
+      one (leave x) h = absurd (omega (arith, h.1))
+      one (enter l t) h = elim (Contains-push_cases [] l k h) [ inl n ↦ absurd (omega (arith, n.1)) | inr e ↦ (t, ap (λ (z : Key). enter z t) e) ]
+
+pub owed_entered : (ds : List Owed) (d : Owed) (k : Key) (t : State) → Contains ds d → d.duty ≡ enter k t → Contains (entered_in ds) k
+owed_entered ds d k t c e = contains_flat (λ (o : Owed). entered_by o.duty) k d ds c (subst (λ (y : Duty). Contains (entered_by y) k) (sym e) (0, omega arith, refl))
+
+-- other instructions than calls and system calls enter no frame themselves
+pub entries_none : (plan : PlanData) (key : Key) (p : ℕ) (s : State) (shape : Shape) (n : ℕ) → ((to : Target) → shape ≡ Call to → ⊥) → ((tin : ℕ) → shape ≡ Syscall tin → ⊥) → entered_in (entries_of plan key p s shape n) ≡ []
+entries_none plan key p s (Compute op dst x y) n call sys = refl
+entries_none plan key p s (Scaled dst base index k) n call sys = refl
+entries_none plan key p s (Load dst base offset size signed after) n call sys = refl
+entries_none plan key p s (Store src base offset size after) n call sys = refl
+entries_none plan key p s (Branch cond x y by lowers) n call sys = refl
+entries_none plan key p s (Jump to) n call sys = refl
+entries_none plan key p s (Call to) n call sys = absurd (call to refl)
+entries_none plan key p s Ret n call sys = refl
+entries_none plan key p s Rfe n call sys = refl
+entries_none plan key p s Svlcx n call sys = refl
+entries_none plan key p s Rslcx n call sys = refl
+entries_none plan key p s (Bisr c) n call sys = refl
+entries_none plan key p s Enable n call sys = refl
+entries_none plan key p s Disable n call sys = refl
+entries_none plan key p s (Syscall tin) n call sys = absurd (sys tin refl)
+entries_none plan key p s (Mfcr dst number) n call sys = refl
+entries_none plan key p s (Mtcr src number) n call sys = refl
+entries_none plan key p s Nothing n call sys = refl
+
+-- other instructions than loads and stores have no access
+pub access_none : (b : Limits) (plan : PlanData) (key : Key) (s : State) (shape : Shape) → ((dst : ℕ) (base : Arg) (offset size : ℕ) (signed after : Bool) → shape ≡ Load dst base offset size signed after → ⊥)
+    → ((src : ℕ) (base : Arg) (offset size : ℕ) (after : Bool) → shape ≡ Store src base offset size after → ⊥) → entered_in (misaligned_of b plan key s shape) ≡ []
+access_none b plan key s (Compute op dst x y) load store = refl
+access_none b plan key s (Scaled dst base index k) load store = refl
+access_none b plan key s (Load dst base offset size signed after) load store = absurd (load dst base offset size signed after refl)
+access_none b plan key s (Store src base offset size after) load store = absurd (store src base offset size after refl)
+access_none b plan key s (Branch cond x y by lowers) load store = refl
+access_none b plan key s (Jump to) load store = refl
+access_none b plan key s (Call to) load store = refl
+access_none b plan key s Ret load store = refl
+access_none b plan key s Rfe load store = refl
+access_none b plan key s Svlcx load store = refl
+access_none b plan key s Rslcx load store = refl
+access_none b plan key s (Bisr c) load store = refl
+access_none b plan key s Enable load store = refl
+access_none b plan key s Disable load store = refl
+access_none b plan key s (Syscall tin) load store = refl
+access_none b plan key s (Mfcr dst number) load store = refl
+access_none b plan key s (Mtcr src number) load store = refl
+access_none b plan key s Nothing load store = refl
+
+-- the same with the test turned
+pub entered_turned : (plan : PlanData) (key : Key) (s : State) (at : Val) (size : ℕ) (t r : Bool) → t ≡ are_aligned at size → r ≡ not t → entered_in (misaligned_at plan key s at size) ≡ (if r then aln_key plan key ∷ [] else [])
+entered_turned plan key s at size true r e f = entered_misaligned plan key s at size true (sym e) ∙ sym (ap (λ (t : Bool). if t then aln_key plan key ∷ [] else []) f)
+entered_turned plan key s at size false r e f = entered_misaligned plan key s at size false (sym e) ∙ sym (ap (λ (t : Bool). if t then aln_key plan key ∷ [] else []) f)
+
+-- ---- a list that grows by one more
+pub map_step : (g : ℕ → Key) (from ks new : List Key) (ts : List ℕ) (i : ℕ) (x : Key) → i < length ts → ks ≡ from ++ map g (take i ts) → new ≡ ks ++ x ∷ [] → x ≡ g (get_or ts i 0) → new ≡ from ++ map g (take (i + 1) ts)
+map_step g from ks new ts i x lt so one is =
+    one ∙ ap (λ (l : List Key). l ++ x ∷ []) so ∙ append_assoc from (map g (take i ts)) (x ∷ []) ∙ ap (λ (l : List Key). from ++ l)
+    (ap (λ (y : Key). map g (take i ts) ++ y ∷ []) is ∙ sym (ap (map g) (take_more ts i 0 lt) ∙ map-append g (take i ts) (get_or ts i 0 ∷ [])))

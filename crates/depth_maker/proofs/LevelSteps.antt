@@ -1,0 +1,150 @@
+-- A joining that changes a table takes its level higher, and the level has a bound.
+use Rattle.std.proofs.Common.{◌≡◌, ◌⊎◌, inl, inr, ℕ, ◌+◌, ◌-◌, ◌^◌, ◌<◌, ◌≤◌, Bool, true, false, not, List, [], ◌∷◌, ◌++◌, length, Option, Some, IsSome, refl, sym, ap, ◌∙◌, subst, arith, Contains}
+use Rattle.std.specs.Prelude.{if◌then◌else◌, ◌==◌}
+use Rattle.std.specs.List.{sum_by}
+use Rattle.std.proofs.lemmas.Bool.{eq-eqb, eqb-true}
+use Rattle.std.proofs.lemmas.List.Sums.{sum_by-cons, sum_by-le, sum_by-le-sum_by, sum_by_push}
+use Rattle.indexmap.specs.IndexMap.{IndexMap, get}
+use Rattle.value_domain.specs.Limits.{Limits, AreLimits}
+use Rattle.depth_cert.specs.declared.keys.Key.{Key}
+use Rattle.cfg_recover.specs.Assignments.{exit, Known}
+use Rattle.depth_maker.specs.declared.places.Spot.{Spot}
+use Rattle.depth_maker.specs.declared.places.Spot.TheVariants.{Point, Exit}
+use Rattle.depth_maker.specs.declared.places.Mark.{Mark}
+use Rattle.depth_maker.specs.declared.places.Mark.TheVariants.{Queued}
+use Rattle.depth_maker.specs.declared.table.Table as made
+use Rattle.depth_maker.specs.Marks.{AllListed}
+use Rattle.depth_maker.specs.Levels.{level, rank_at, Rises}
+use Rattle.depth_maker.specs.Spots.{spot_eq}
+use Rattle.depth_maker.specs.View.{CellsProper, IsCountedIn, frames_after, points_after}
+use Rattle.depth_maker.proofs.CountedLemmas.{few_spots}
+use Rattle.depth_maker.proofs.LevelLaws.{at_most, most_rank}
+use Rattle.depth_maker.proofs.MarkLemmas.{sides}
+use Rattle.depth_maker.proofs.RowSteps.{placed}
+use Rattle.depth_maker.proofs.SpotLemmas.{front_cases, spot_refl, spot_tells}
+
+-- ---- sums
+-- where no term is lower, and one is higher
+sum_higher : {X : Type 0} (f g : X → ℕ) (xs : List X) (y : X) → ((x : X) → f x ≤ g x) → Contains xs y → f y < g y → sum_by f xs < sum_by g xs
+sum_higher f g [] y le c lt = absurd (omega (arith, c.1))
+sum_higher {X} f g (x ∷ xs) y le c lt =
+    elim (front_cases x xs y c) [
+      | inl e ↦ (let h : f x < g x = subst (λ (z : X). f z < g z) (sym e) lt in omega (arith, h, sum_by-cons f x xs, sum_by-cons g x xs, sum_by-le-sum_by f g xs le))
+      | inr i ↦ omega (arith, le x, sum_by-cons f x xs, sum_by-cons g x xs, sum_higher f g xs y le i lt)
+    ]
+
+points_more : (f : Spot → ℕ) (known : Bool) (ps : List Spot) (y : Spot) → sum_by f ps ≤ sum_by f (points_after known ps y)
+points_more f true ps y = omega arith
+points_more f false ps (Point k p) = omega (arith, sum_by_push f ps (Point k p))
+points_more f false ps (Exit k) = omega arith
+
+frames_more : (f : Key → ℕ) (known : Bool) (ks : List Key) (y : Spot) → sum_by f ks ≤ sum_by f (frames_after known ks y)
+frames_more f true ks y = omega arith
+frames_more f false ks (Exit k) = omega arith
+frames_more f false ks (Point k p) = at (p == k.entry) where
+  at : (t : Bool) → sum_by f ks ≤ sum_by f (if t then ks ++ k ∷ [] else ks)
+  at true = omega (arith, sum_by_push f ks k)
+  at false = omega arith
+
+-- ---- a joining
+module _ (s t : made.Table) (y : Spot) (u : Known) (known : Bool) (after : (q : Spot) → get spot_eq t.cells q ≡ (if spot_eq y q then Some u else get spot_eq s.cells q))
+    (points : t.points.items ≡ points_after known s.points.items y) (frames : t.frames.items ≡ frames_after known s.frames.items y) (counted : IsCountedIn t.cells t.points.items t.frames.items)
+    (higher : rank_at (get spot_eq s.cells y) < rank_at (Some u)) where
+  abbrev old : Spot → ℕ
+  old q = rank_at (get spot_eq s.cells q)
+
+  abbrev new : Spot → ℕ
+  new q = rank_at (get spot_eq t.cells q)
+
+  there : get spot_eq t.cells y ≡ Some u
+  there = after y ∙ ap (λ e. if e then Some u else get spot_eq s.cells y) (spot_refl y)
+
+  at_y : old y < new y
+  at_y = subst (λ (o : Option Known). old y < rank_at o) (sym there) higher
+
+  each : (q : Spot) → old q ≤ new q
+  each q =
+      elim (sides (spot_eq y q) (Some u) (get spot_eq s.cells q) (get spot_eq t.cells q) (after q)) [
+        | inl l ↦ subst (λ (z : Spot). old z ≤ new z) (spot_tells y q l.0) (omega (arith, at_y))
+        | inr r ↦ subst (λ (o : Option Known). old q ≤ rank_at o) (sym r.1) (omega arith)
+      ]
+
+  no_point_lost : sum_by old s.points.items ≤ sum_by old t.points.items
+  no_point_lost = subst (λ (l : List Spot). sum_by old s.points.items ≤ sum_by old l) (sym points) (points_more old known s.points.items y)
+
+  abbrev old_exit : Key → ℕ
+  old_exit k = old (Exit k)
+
+  abbrev new_exit : Key → ℕ
+  new_exit k = new (Exit k)
+
+  no_frame_lost : sum_by old_exit s.frames.items ≤ sum_by old_exit t.frames.items
+  no_frame_lost = subst (λ (l : List Key). sum_by old_exit s.frames.items ≤ sum_by old_exit l) (sym frames) (frames_more old_exit known s.frames.items y)
+
+  is_some : (q : Spot) → y ≡ q → IsSome (get spot_eq t.cells q)
+  is_some q e = subst (λ (z : Spot). IsSome (get spot_eq t.cells z)) e (subst (λ (o : Option Known). IsSome o) (sym there) refl)
+
+  higher_at : (q : Spot) → y ≡ q → sum_by old t.points.items + sum_by old_exit t.frames.items < sum_by new t.points.items + sum_by new_exit t.frames.items
+  higher_at (Point k p) e =
+      let i = placed t.points.items k p (counted.each.points k p (is_some (Point k p) e)) in
+      let h = sum_higher old new t.points.items (Point k p) each i (subst (λ (z : Spot). old z < new z) e at_y) in
+      omega (arith, h, sum_by-le-sum_by old_exit new_exit t.frames.items (λ j. each (Exit j)))
+  higher_at (Exit k) e =
+      let i = counted.each.frames (exit k) (is_some (Exit k) e) in
+      let h = sum_higher old_exit new_exit t.frames.items k (λ j. each (Exit j)) i (subst (λ (z : Spot). old z < new z) e at_y) in
+      omega (arith, h, sum_by-le-sum_by old new t.points.items each)
+
+  pub level_rises : level s < level t
+  unfolding level
+  level_rises = omega (arith, no_point_lost, no_frame_lost, higher_at y refl)
+
+-- the same cells
+pub same_level : (s t : made.Table) → t.cells ≡ s.cells → t.points.items ≡ s.points.items → t.frames.items ≡ s.frames.items → level t ≡ level s
+unfolding level
+same_level s t cells points frames =
+    λ i. sum_by (λ q. rank_at (get spot_eq (cells i) q)) (points i) + sum_by (λ k. rank_at (get spot_eq (cells i) (Exit k))) (frames i)
+
+pub rises_then : (s m t : made.Table) → Rises s m → Rises m t → Rises s t
+rises_then s m t (inl a) (inl b) = inl (omega (arith, a, b))
+rises_then s m t (inl a) (inr b) = inl (omega (arith, a, b.0))
+rises_then s m t (inr a) (inl b) = inl (omega (arith, a.0, b))
+rises_then s m t (inr a) (inr b) = inr (b.0 ∙ a.0, b.1 ∙ a.1)
+
+-- ---- the bound
+abbrev pub most_level : ℕ
+most_level = 2 ^ 55
+
+pub level_most : (b : Limits) (t : made.Table) → AreLimits b → CellsProper b t.cells → IsCountedIn t.cells t.points.items t.frames.items → level t ≤ most_level
+unfolding level
+level_most b t limits proper counted =
+    let few = few_spots t.points.items t.frames.items counted.few in
+    let ps = sum_by-le (λ (q : Spot). rank_at (get spot_eq t.cells q)) (1 + most_rank) t.points.items (λ k d lt. at_most b (get spot_eq t.cells _) limits (proper _)) in
+    let ks = sum_by-le (λ (k : Key). rank_at (get spot_eq t.cells (Exit k))) (1 + most_rank) t.frames.items (λ k d lt. at_most b (get spot_eq t.cells (Exit _)) limits (proper (Exit _))) in
+    omega (arith, few.0, few.1, ps, ks)
+
+-- ---- turns
+-- a visit of one place that was taken off the list
+pub turns_more : (s m o t : made.Table) (i : ℕ) (n : ℕ) → (level s < level m) ⊎ ((level m ≡ level s) × (length m.work.items + i ≡ n)) → level o ≡ level m → length m.work.items ≡ length o.work.items + 1 → Rises o t
+    → (level s < level t) ⊎ ((level t ≡ level s) × (length t.work.items + (i + 1) ≡ n))
+turns_more s m o t i n (inl a) e len (inl b) = inl (omega (arith, a, e, b))
+turns_more s m o t i n (inl a) e len (inr b) = inl (omega (arith, a, e, b.0))
+turns_more s m o t i n (inr a) e len (inl b) = inl (omega (arith, a.0, e, b))
+turns_more s m o t i n (inr a) e len (inr b) = inr (b.0 ∙ e ∙ a.0, (let l = ap (λ (w : List Spot). length w) b.1 in omega (arith, a.1, len, l)))
+
+pub empty_list : {X : Type 0} (xs : List X) → length xs ≡ 0 → xs ≡ []
+empty_list [] e = refl
+empty_list (x ∷ xs) e = absurd (omega arith)
+
+pub left_over : (s t : made.Table) (i n : ℕ) (empty : Bool) → n ≤ i → (level s < level t) ⊎ ((level t ≡ level s) × (length t.work.items + i ≡ n)) → empty ≡ (length t.work.items == 0)
+    → (not empty ≡ true → level s < level t) × (not empty ≡ false → t.work.items ≡ [])
+left_over s t i n true le so is = ((λ e. absurd (let no : false ≡ true = e in cc)), (λ e. empty_list t.work.items (eqb-true (length t.work.items) 0 (sym is))))
+left_over s t i n false le (inl lt) is = ((λ e. lt), (λ e. absurd (let no : true ≡ false = e in cc)))
+left_over s t i n false le (inr a) is = absurd (let no : false ≡ true = is ∙ eq-eqb (length t.work.items) 0 (omega (arith, a.1)) in cc)
+
+-- what is left of the bound falls
+pub level_falls : (l m : ℕ) → l < m → m ≤ most_level → most_level - m < most_level - l
+level_falls l m lt most = omega (arith, lt, most)
+
+-- no work is on an empty list
+pub none_queued : {S : Type 0} (marks : IndexMap Spot Mark S) (work : List Spot) → AllListed marks work → work ≡ [] → (q : Spot) → get spot_eq marks q ≡ Some Queued → ⊥
+none_queued marks work listed e q at = let i = listed.listed q at in let z = ap (λ (w : List Spot). length w) e in omega (arith, i.1, z)

@@ -1,0 +1,105 @@
+-- From the bytes that are written and the faults that are met to what the maker answers.
+use Rattle.std.proofs.Common.{◌≡◌, ◌⊎◌, ℕ, ◌<◌, ◌≤◌, ◌^◌, List, length, Option, Some, None, refl, sym, ap, ◌∙◌, subst, arith}
+use Rattle.std.specs.Prelude.{map, Result, Ok, Err}
+use Rattle.std.specs.declared.alloc.Global.{Global}
+use Rattle.std.specs.declared.vec.Vec.{Vec}
+use Rattle.tcd_base.specs.declared.types.FormErr.{FormErr}
+use Rattle.elf_image.specs.Images.{ImageData}
+use Rattle.tcd_plan.specs.PlanData.{PlanData}
+use Rattle.value_domain.specs.Limits.{Limits}
+use Rattle.value_domain.specs.Thresholds.{limits_for}
+use Rattle.depth_cert.specs.declared.keys.Key.{Key}
+use Rattle.depth_cert.specs.Certs.{CertData, IsCert}
+use Rattle.depth_cert.specs.Spelling.{bytes_of}
+use Rattle.depth_cert.specs.Grammar.{certificate_of}
+use Rattle.depth_cert.proofs.BackLaws.{written_is_read}
+use Rattle.depth_cert.proofs.SizeLaws.{cert_most}
+use Rattle.cfg_recover.specs.Entries.{start_key}
+use Rattle.cfg_recover.specs.Assignments.{Place, point, exit}
+use Rattle.cfg_recover.specs.Refusals.{IsFault, IsLeast, IsRefusal, IsRefusalWith, fault, recursion, need}
+use Rattle.depth_maker.specs.Growth.{IsGround}
+use Rattle.depth_maker.specs.Made.{AreMade, AreWritten, IsGroundOf, IsRefused, Refuses}
+use Rattle.depth_maker.specs.Making.{IsMade}
+use Rattle.depth_maker.specs.NeedsBy.{NeedsOn}
+use Rattle.depth_maker.specs.Recursing.{IsRecursion}
+use Rattle.depth_maker.specs.RowsBy.{IsSource}
+use Rattle.depth_maker.specs.Spelled.{NeedsAre}
+use Rattle.depth_maker.specs.Spots.{place_of}
+use Rattle.depth_maker.specs.View.{Answered, AnsweredOn, seen}
+use Rattle.depth_maker.specs.declared.ground.Ground.{Ground}
+use Rattle.depth_maker.specs.declared.answering.MakeErr.{MakeErr}
+use Rattle.depth_maker.specs.declared.answering.MakeErr.TheVariants.{Refused, NoMemory}
+use Rattle.depth_maker.specs.declared.places.Spot.{Spot}
+use Rattle.depth_maker.specs.declared.places.Spot.TheVariants.{Point, Exit}
+use Rattle.depth_maker.specs.declared.refusals.Refusal.{Refusal}
+use Rattle.depth_maker.specs.declared.refusals.Refusal.TheVariants.{Fault}
+use Rattle.depth_maker.specs.declared.rows.Source.{Source}
+use Rattle.depth_maker.proofs.CountLaws.{counted_within}
+use Rattle.depth_maker.proofs.Lawful.{lawful}
+use Rattle.depth_maker.proofs.LeastStands.{least_stands}
+use Rattle.depth_maker.proofs.MadeLaws.{made, refused}
+
+-- ---- refusals
+pub fault_refuses : (g : Ground) (rule : ℕ) (k : Key) (p : ℕ) → AnsweredOn g (Fault rule (Point k p)) → Refuses g (Refused rule k p)
+fault_refuses g rule k p a =
+    let e : point k p ≡ point a.0 a.1 = a.2 in
+    let key : a.0 ≡ k = cc in
+    let addr : a.1 ≡ p = cc in
+    fault rule k p (subst (λ (n : ℕ). IsFault g.bounds.now g.image.now g.plan.now rule k n) addr (subst (λ (z : Key). IsFault g.bounds.now g.image.now g.plan.now rule z a.1) key a.3))
+
+pub no_exit_refuses : (g : Ground) (rule : ℕ) (k : Key) → AnsweredOn g (Fault rule (Exit k)) → ⊥
+no_exit_refuses g rule k a = absurd (let e : exit k ≡ point a.0 a.1 = a.2 in cc)
+
+-- the table's assignment is the least
+pub least_of : (s : Source) → IsSource s → IsLeast (s.ground.now).bounds.now (s.ground.now).image.now (s.ground.now).plan.now (seen s.table.now).cells
+unfolding seen
+least_of s source =
+    let done = source.done in
+    least_stands _ _ _ (lawful _ _ _ (s.ground.now).sound) (seen s.table.now).cells done.derived done.closed done.faultless
+    (counted_within (seen s.table.now).cells (map place_of (s.table.now).points.items) (s.table.now).frames.items (done.counted).each (done.counted).few)
+
+pub recursion_refuses : (s : Source) (k : Key) (p : ℕ) → IsSource s → IsRecursion s (Some (k, p)) → Refuses s.ground.now (Refused 14 k p)
+recursion_refuses s k p source first = recursion (seen s.table.now).cells k p (least_of s source) first
+
+pub need_refuses : (s : Source) (k : Key) → k ≡ start_key (s.ground.now).image.now (s.ground.now).plan.now → IsSource s → IsRecursion s None → NeedsOn s (Ok None) → Refuses s.ground.now (Refused 14 k k.entry)
+need_refuses s k is source ends above =
+    subst (λ (z : Key). Refuses s.ground.now (Refused 14 z z.entry)) (sym is) (need (seen s.table.now).cells (least_of s source) (record { ends = ends; above = above }))
+
+-- ---- what is made
+pub are_made : (g : Ground) (version : ℕ) (bytes : List ℕ) → IsGroundOf g version → AreWritten g version bytes → AreMade g.image.now g.plan.now version bytes
+are_made g version bytes limits w = record {
+  cert = w.0;
+  spell = w.1;
+  is_cert = w.2.is_cert;
+  made = made g.image.now g.plan.now version w.0 (subst (λ (b : Limits). IsGround b g.image.now g.plan.now) limits g.sound) ((g.sound).is_image).entry w.2;
+}
+
+pub is_refused : (g : Ground) (version : ℕ) (e : MakeErr) → IsGroundOf g version → Refuses g e → IsRefused g.image.now g.plan.now version e
+is_refused g version (Refused rule key addr) limits r =
+    let is : IsRefusal g.image.now g.plan.now version rule key addr = subst (λ (b : Limits). IsRefusalWith b g.image.now g.plan.now rule key addr) limits r in
+    (is, refused g.image.now g.plan.now version rule key addr (subst (λ (b : Limits). IsGround b g.image.now g.plan.now) limits g.sound) ((g.sound).is_image).entry is)
+is_refused g version NoMemory limits r = tt
+
+-- ---- the certificate that the bytes spell
+pub made_small : (image : ImageData) (plan : PlanData) (version : ℕ) (bytes : List ℕ) → AreMade image plan version bytes → length bytes ≤ 2 ^ 30
+made_small image plan version bytes m = subst (λ (l : List ℕ). length l ≤ 2 ^ 30) (sym m.spell) (cert_most m.cert m.is_cert)
+
+-- what was read
+abbrev value_or : CertData → Result CertData FormErr → CertData
+value_or c (Ok x) = x
+value_or c (Err e) = c
+
+pub made_read : (image : ImageData) (plan : PlanData) (version : ℕ) (bytes : List ℕ) (c : CertData) → AreMade image plan version bytes → certificate_of bytes ≡ Ok c → IsMade image plan version c
+made_read image plan version bytes c m read =
+    let same : m.cert ≡ c = ap (value_or m.cert) (sym (written_is_read m.cert m.is_cert) ∙ ap certificate_of (sym m.spell) ∙ read) in
+    subst (IsMade image plan version) same m.made
+
+-- ---- parts of the code
+pub needs_are : (s : Source) (v : Vec ℕ Global) → NeedsOn s (Ok (Some v)) → NeedsAre s v.items
+needs_are s v h = record { least = h.0; few = h.1 }
+
+pub none_refuses : (g : Ground) (e : MakeErr) → e ≡ NoMemory → Refuses g e
+none_refuses g e is = subst (Refuses g) (sym is) tt
+
+pub none_refused : (image : ImageData) (plan : PlanData) (version : ℕ) (e : MakeErr) → e ≡ NoMemory → IsRefused image plan version e
+none_refused image plan version e is = subst (IsRefused image plan version) (sym is) tt

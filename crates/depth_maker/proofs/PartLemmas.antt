@@ -1,0 +1,337 @@
+-- A visit, part by part: what a point owes is joined in the order in which it is listed, and never built as a list.
+use Rattle.std.proofs.Common.{◌+◌, take, drop, get_or, map, ◌≡◌, ℕ, ◌<◌, Bool, true, false, cond, ◌⊎◌, inl, inr, List, [], ◌∷◌, ◌++◌, Option, Some, None, IsSome, refl, sym, ap, subst, ◌∙◌, arith, length, Contains}
+use Rattle.std.specs.Prelude.{Result, Ok, Err, OnOk}
+use Rattle.depth_maker.specs.declared.refusals.Refusal.{Refusal}
+use Rattle.indexmap.specs.IndexMap.{IndexMap, get}
+use Rattle.std.specs.List.{flat_map}
+use Rattle.std.proofs.lemmas.List.{take_more, take-append-drop, map-append, append-nil}
+use Rattle.std.proofs.lemmas.Grind.{flat_map-append}
+use Rattle.std.proofs.lemmas.List.Elements.{Contains-get_or, Contains-append_cases, Contains-append_left, Contains-append_right, Contains-push, Contains-push_cases}
+use Rattle.elf_image.specs.Images.{ImageData}
+use Rattle.tcd_plan.specs.PlanData.{PlanData}
+use Rattle.tc_isa.specs.declared.shapes.Shape.{Shape}
+use Rattle.value_domain.specs.declared.states.State.{State}
+use Rattle.value_domain.specs.Limits.{Limits}
+use Rattle.depth_cert.specs.declared.keys.Key.{Key}
+use Rattle.depth_cert.specs.declared.points.Exit.{Exit}
+use Rattle.cfg_recover.specs.Code.{IsCode}
+use Rattle.cfg_recover.specs.Entries.{after_of}
+use Rattle.cfg_recover.specs.Local.{IsFaultless}
+use Rattle.cfg_recover.specs.Duties.{Duty, jump, enter, resume, leave, Owed, owed, entered_and_back, duties_of}
+use Rattle.cfg_recover.specs.declared.local.Located.{Located}
+use Rattle.cfg_recover.specs.Changes.{StandsFaultless}
+use Rattle.cfg_recover.proofs.Members.{contains_map, contains_flat}
+use Rattle.cfg_recover.specs.Assignments.{Place, point, exit, Known, state, leaving, CoversAt, HasDuty, Asks, Derived, asked, resumed}
+use Rattle.cfg_recover.proofs.CodeLaws.{IsCode-one}
+use Rattle.depth_maker.specs.Growth.{IsProper, IsProperDuty}
+use Rattle.depth_maker.specs.Proper.{AreLawful}
+use Rattle.depth_maker.specs.Tables.{Table, IsTable, Settled, IsResumed}
+use Rattle.depth_maker.proofs.PlaceLaws.{one_state}
+use Rattle.depth_maker.proofs.TableLaws.{derived_proper, table_marked, settled_again}
+use Rattle.depth_maker.specs.declared.places.Spot.{Spot}
+use Rattle.depth_maker.specs.declared.places.Mark.{Mark}
+use Rattle.depth_maker.specs.declared.table.Table as made
+use Rattle.depth_maker.specs.Spots.{spot_eq, spot_of, place_of}
+use Rattle.depth_maker.proofs.SpotLemmas.{back, forth}
+use Rattle.depth_maker.proofs.CountedLemmas.{counted_again}
+use Rattle.depth_maker.proofs.LevelSteps.{rises_then, same_level}
+use Rattle.depth_maker.specs.View.{seen, is_idle, is_queued, Reads, IsFine, Keeps, Joined, Paid, PaidFor, AllSettled, Owes, IsVisited}
+
+pub keeps_all : (b : Limits) (image : ImageData) (plan : PlanData) (s : made.Table) → Keeps b image plan s s
+keeps_all b image plan s = record { each = λ x free. (refl, refl); readers = λ z x h. h; read = λ z x h free. refl; settled = λ k p u d free pu pd h. h; rises = inr (refl, refl) }
+
+pub Keeps-trans : (b : Limits) (image : ImageData) (plan : PlanData) (s m t : made.Table) → Keeps b image plan s m → Keeps b image plan m t → Keeps b image plan s t
+Keeps-trans b image plan s m t k l =
+    let free : (x : Spot) → is_queued (get spot_eq t.marks x) ≡ false → is_queued (get spot_eq m.marks x) ≡ false = λ x f. sym (ap is_queued (l.each x f).0) ∙ f in
+    record {
+      each = λ x f. ((l.each x f).0 ∙ (k.each x (free x f)).0, (l.each x f).1 ∙ (k.each x (free x f)).1);
+      readers = λ z x h. l.readers z x (k.readers z x h);
+      read = λ z x h f. l.read z x (k.readers z x h) f ∙ k.read z x h (free x f);
+      settled = λ j p u d f pu pd h. l.settled j p u d f pu pd (k.settled j p u d (free (spot_of (point j p)) f) pu pd h);
+      rises = rises_then s m t k.rises l.rises;
+    }
+
+module _ (b : Limits) (image : ImageData) (plan : PlanData) (k : Key) (p : ℕ) (u : State) where
+  -- ---- parts
+  pub paid_none : (s : made.Table) → IsFine b image plan s → PaidFor b image plan s s k p u []
+  paid_none s fine = record { fine = fine; keeps = keeps_all b image plan s; settled = λ free d c. absurd (omega (arith, c.1)) }
+
+  pub paid_then : (s m t : made.Table) (ds es : List Owed) → IsProper b u → ((d : Owed) → Contains ds d → IsProperDuty b d.duty) → PaidFor b image plan s m k p u ds → PaidFor b image plan m t k p u es
+      → PaidFor b image plan s t k p u (ds ++ es)
+  paid_then s m t ds es pu pd first then_ = record {
+    fine = then_.fine;
+    keeps = Keeps-trans b image plan s m t first.keeps then_.keeps;
+    settled = λ free d c.
+        elim (Contains-append_cases ds es d c) [
+          | inl i ↦
+              (let before : is_queued (get spot_eq m.marks (spot_of (point k p))) ≡ false = sym (ap is_queued ((then_.keeps).each (spot_of (point k p)) free).0) ∙ free in
+              (then_.keeps).settled k p u d.duty free pu (pd d i) (first.settled before d i))
+          | inr i ↦ then_.settled free d i
+        ];
+  }
+
+  -- the point has work again: nothing more is owed now
+  pub paid_again : (s t : made.Table) (ds es : List Owed) → PaidFor b image plan s t k p u ds → is_queued (get spot_eq t.marks (spot_of (point k p))) ≡ true → PaidFor b image plan s t k p u (ds ++ es)
+  paid_again s t ds es first queued = record {
+    fine = first.fine;
+    keeps = first.keeps;
+    settled = λ free d c. absurd (let no : true ≡ false = sym queued ∙ free in cc);
+  }
+
+  -- ---- one duty
+  only_one : (d e : Owed) → Contains (d ∷ []) e → d ≡ e
+  only_one d e c = elim (Contains-push_cases [] d e c) [ inl n ↦ absurd (omega (arith, n.1)) | inr same ↦ same ]
+
+  -- a jump, an entry or a leaving is joined at its place
+  pub paid_jump : (s t : made.Table) (rule q : ℕ) (v : State) → Joined b image plan s t (spot_of (point k q)) (state v) → PaidFor b image plan s t k p u (owed rule (jump q v) ∷ [])
+  paid_jump s t rule q v j = record {
+    fine = j.fine;
+    keeps = j.keeps;
+    settled = λ free d c. subst (λ (e : Owed). Settled (seen t) k p u e.duty) (only_one (owed rule (jump q v)) d c) j.covers;
+  }
+
+  pub paid_enter : (s t : made.Table) (rule : ℕ) (l : Key) (v : State) → Joined b image plan s t (spot_of (point l l.entry)) (state v) → PaidFor b image plan s t k p u (owed rule (enter l v) ∷ [])
+  paid_enter s t rule l v j = record {
+    fine = j.fine;
+    keeps = j.keeps;
+    settled = λ free d c. subst (λ (e : Owed). Settled (seen t) k p u e.duty) (only_one (owed rule (enter l v)) d c) j.covers;
+  }
+
+  pub paid_leave : (s t : made.Table) (rule : ℕ) (x : Exit) → Joined b image plan s t (spot_of (exit k)) (leaving x) → PaidFor b image plan s t k p u (owed rule (leave x) ∷ [])
+  paid_leave s t rule x j = record {
+    fine = j.fine;
+    keeps = j.keeps;
+    settled = λ free d c. subst (λ (e : Owed). Settled (seen t) k p u e.duty) (only_one (owed rule (leave x)) d c) j.covers;
+  }
+
+  -- a coming back: the point is told of the exit, and where there is one, what comes after it is joined
+  pub paid_resume_none : (s : made.Table) (rule : ℕ) (l : Key) (q : ℕ) → IsFine b image plan s → get spot_eq s.cells (spot_of (exit l)) ≡ None → Reads (get spot_eq s.readers (spot_of (exit l))) (spot_of (point k p))
+      → PaidFor b image plan s s k p u (owed rule (resume l q) ∷ [])
+  unfolding seen
+  paid_resume_none s rule l q fine none told = record {
+    fine = fine;
+    keeps = keeps_all b image plan s;
+    settled = λ free d c.
+        subst (λ (e : Owed). Settled (seen s) k p u e.duty) (only_one (owed rule (resume l q)) d c)
+        ((λ x at. absurd (let no : None ≡ Some x = sym none ∙ at in cc)), told);
+  }
+
+  pub paid_resume : (s t : made.Table) (rule : ℕ) (l : Key) (q : ℕ) (x : Exit) → get spot_eq s.cells (spot_of (exit l)) ≡ Some (leaving x) → Reads (get spot_eq s.readers (spot_of (exit l))) (spot_of (point k p))
+      → Joined b image plan s t (spot_of (point k q)) (state (after_of u x l.kind)) → PaidFor b image plan s t k p u (owed rule (resume l q) ∷ [])
+  unfolding seen
+  paid_resume s t rule l q x there told j = record {
+    fine = j.fine;
+    keeps = j.keeps;
+    settled = λ free d c.
+        subst (λ (e : Owed). Settled (seen t) k p u e.duty) (only_one (owed rule (resume l q)) d c) (
+          (λ y at.
+              let old : leaving x ≡ y = (let f : Some (leaving x) ≡ Some y = sym there ∙ sym ((j.keeps).read (spot_of (exit l)) (spot_of (point k p)) told free) ∙ at in cc) in
+              subst (IsResumed (seen t) k u l q) old j.covers),
+          (j.keeps).readers (spot_of (exit l)) (spot_of (point k p)) told,
+        );
+  }
+
+  -- ---- what is asked
+  pub jump_asks : (t : made.Table) (q : ℕ) (v : State) → HasDuty b image plan (seen t).cells k p u (jump q v) → Asks b image plan (seen t).cells (place_of (spot_of (point k q))) (state v)
+  jump_asks t q v h = record { key = k; addr = p; before = u; duty = jump q v; has = h; asks = refl }
+
+  pub enter_asks : (t : made.Table) (l : Key) (v : State) → HasDuty b image plan (seen t).cells k p u (enter l v) → Asks b image plan (seen t).cells (place_of (spot_of (point l l.entry))) (state v)
+  enter_asks t l v h = record { key = k; addr = p; before = u; duty = enter l v; has = h; asks = refl }
+
+  pub leave_asks : (t : made.Table) (x : Exit) → HasDuty b image plan (seen t).cells k p u (leave x) → Asks b image plan (seen t).cells (place_of (spot_of (exit k))) (leaving x)
+  leave_asks t x h = record { key = k; addr = p; before = u; duty = leave x; has = h; asks = refl }
+
+  pub resume_asks : (t : made.Table) (l : Key) (q : ℕ) (x : Exit) → get spot_eq t.cells (spot_of (exit l)) ≡ Some (leaving x) → HasDuty b image plan (seen t).cells k p u (resume l q)
+      → Asks b image plan (seen t).cells (place_of (spot_of (point k q))) (state (after_of u x l.kind))
+  unfolding seen
+  resume_asks t l q x at h = record { key = k; addr = p; before = u; duty = resume l q; has = h; asks = ap (resumed k u l q) at }
+
+  -- a duty of the point is one still, while the point has no new work
+  pub duty_stays : (s t : made.Table) (d : Duty) → Keeps b image plan s t → is_queued (get spot_eq t.marks (spot_of (point k p))) ≡ false → HasDuty b image plan (seen s).cells k p u d → HasDuty b image plan (seen t).cells k p u d
+  unfolding seen
+  duty_stays s t d keeps free h = record {
+    at = (keeps.each (spot_of (point k p)) free).1 ∙ h.at;
+    faultless = h.faultless;
+    shape = h.shape;
+    size = h.size;
+    code = h.code;
+    owed = h.owed;
+    listed = h.listed;
+    is = h.is;
+  }
+
+  -- ---- between joinings
+  pub has_duty : (t : made.Table) (d : Duty) → IsVisited b image plan t k p u → is_queued (get spot_eq t.marks (spot_of (point k p))) ≡ false → Owes b image plan k p u d → HasDuty b image plan (seen t).cells k p u d
+  has_duty t d v free o = record { at = v.at free; faultless = o.faultless; shape = o.shape; size = o.size; code = o.code; owed = o.owed; listed = o.listed; is = o.is }
+
+  -- the point has work already
+  pub paid_queued : (s : made.Table) (ds : List Owed) → IsVisited b image plan s k p u → is_queued (get spot_eq s.marks (spot_of (point k p))) ≡ true → PaidFor b image plan s s k p u ds
+  paid_queued s ds v queued = record {
+    fine = v.fine;
+    keeps = keeps_all b image plan s;
+    settled = λ free d c. absurd (let no : true ≡ false = sym queued ∙ free in cc);
+  }
+
+  pub visited_kept : (s t : made.Table) → IsVisited b image plan s k p u → IsFine b image plan t → Keeps b image plan s t → IsVisited b image plan t k p u
+  unfolding seen
+  visited_kept s t v fine keeps = record {
+    fine = fine;
+    proper = v.proper;
+    at = λ free. (keeps.each (spot_of (point k p)) free).1 ∙ v.at (sym (ap is_queued (keeps.each (spot_of (point k p)) free).0) ∙ free);
+  }
+
+  pub visited_after : (s t : made.Table) (ds : List Owed) → IsVisited b image plan s k p u → PaidFor b image plan s t k p u ds → IsVisited b image plan t k p u
+  visited_after s t ds v paid = visited_kept s t v paid.fine paid.keeps
+
+  -- what is owed is of the plan and the version
+  pub owed_proper : (laws : AreLawful b image plan) (d : Duty) → IsProper b u → Owes b image plan k p u d → IsProperDuty b d
+  owed_proper laws d proper o = subst (IsProperDuty b) o.is (laws.duties_proper k p u o.shape o.size o.owed proper o.faultless o.code o.listed)
+
+  pub paid_both : (laws : AreLawful b image plan) (s m t : made.Table) (ds es : List Owed) → IsVisited b image plan s k p u → ((d : Owed) → Contains ds d → Owes b image plan k p u d.duty)
+      → PaidFor b image plan s m k p u ds → PaidFor b image plan m t k p u es → PaidFor b image plan s t k p u (ds ++ es)
+  paid_both laws s m t ds es v owes first then_ = paid_then s m t ds es v.proper (λ d c. owed_proper laws d.duty v.proper (owes d c)) first then_
+
+  pub paid_from : (s m t : made.Table) (ds : List Owed) → Keeps b image plan s m → PaidFor b image plan m t k p u ds → PaidFor b image plan s t k p u ds
+  paid_from s m t ds keeps paid = record { fine = paid.fine; keeps = Keeps-trans b image plan s m t keeps paid.keeps; settled = paid.settled }
+
+  pub owes_front : (ds es : List Owed) → ((d : Owed) → Contains (ds ++ es) d → Owes b image plan k p u d.duty) → (d : Owed) → Contains ds d → Owes b image plan k p u d.duty
+  owes_front ds es h d c = h d (Contains-append_left ds es d c)
+
+  pub owes_back : (ds es : List Owed) → ((d : Owed) → Contains (ds ++ es) d → Owes b image plan k p u d.duty) → (d : Owed) → Contains es d → Owes b image plan k p u d.duty
+  owes_back ds es h d c = h d (Contains-append_right ds es d c)
+
+  pub owes_one : (o : Owed) → ((d : Owed) → Contains (o ∷ []) d → Owes b image plan k p u d.duty) → Owes b image plan k p u o.duty
+  owes_one o h = h o (Contains-push [] o)
+
+  pub owes_alone : (o : Owed) → Owes b image plan k p u o.duty → (d : Owed) → Contains (o ∷ []) d → Owes b image plan k p u d.duty
+  owes_alone o h d c = subst (λ (e : Owed). Owes b image plan k p u e.duty) (only_one o d c) h
+
+  -- ---- one duty, and its coming back, for each of a list
+  pub owes_both : (rule back : ℕ) (l : Key) (v : State) → ((d : Owed) → Contains (entered_and_back rule l v back) d → Owes b image plan k p u d.duty) → Owes b image plan k p u (enter l v) × Owes b image plan k p u (resume l back)
+  owes_both rule back l v h = (
+    owes_one (owed rule (enter l v)) (owes_front (owed rule (enter l v) ∷ []) (owed 4 (resume l back) ∷ []) h),
+    owes_one (owed 4 (resume l back)) (owes_back (owed rule (enter l v) ∷ []) (owed 4 (resume l back) ∷ []) h),
+  )
+
+  pub owes_at_map : (g : ℕ → Owed) (ts : List ℕ) (i : ℕ) → i < length ts → ((d : Owed) → Contains (map g ts) d → Owes b image plan k p u d.duty) → Owes b image plan k p u (g (get_or ts i 0)).duty
+  owes_at_map g ts i lt h = h (g (get_or ts i 0)) (contains_map g ts (get_or ts i 0) (Contains-get_or ts i 0 lt))
+
+  pub owes_at_flat : (f : ℕ → List Owed) (ts : List ℕ) (i : ℕ) → i < length ts → ((d : Owed) → Contains (flat_map f ts) d → Owes b image plan k p u d.duty) → (d : Owed) → Contains (f (get_or ts i 0)) d → Owes b image plan k p u d.duty
+  owes_at_flat f ts i lt h d c = h d (contains_flat f d (get_or ts i 0) ts (Contains-get_or ts i 0 lt) c)
+
+  pub paid_more_map : (laws : AreLawful b image plan) (s m t : made.Table) (g : ℕ → Owed) (ts : List ℕ) (i : ℕ) → i < length ts → IsVisited b image plan s k p u
+      → ((d : Owed) → Contains (map g ts) d → Owes b image plan k p u d.duty) → PaidFor b image plan s m k p u (map g (take i ts)) → PaidFor b image plan m t k p u (g (get_or ts i 0) ∷ [])
+      → PaidFor b image plan s t k p u (map g (take (i + 1) ts))
+  paid_more_map laws s m t g ts i lt v owes first then_ =
+      subst (PaidFor b image plan s t k p u) (sym (ap (map g) (take_more ts i 0 lt) ∙ map-append g (take i ts) (get_or ts i 0 ∷ [])))
+      (paid_both laws s m t (map g (take i ts)) (g (get_or ts i 0) ∷ []) v
+      (λ d c. owes d (subst (λ (l : List ℕ). Contains (map g l) d) (take-append-drop i ts) (subst (λ (l : List Owed). Contains l d) (sym (map-append g (take i ts) (drop i ts))) (Contains-append_left (map g (take i ts)) (map g (drop i ts)) d c))))
+      first then_)
+
+  pub paid_more_flat : (laws : AreLawful b image plan) (s m t : made.Table) (f : ℕ → List Owed) (ts : List ℕ) (i : ℕ) → i < length ts → IsVisited b image plan s k p u
+      → ((d : Owed) → Contains (flat_map f ts) d → Owes b image plan k p u d.duty) → PaidFor b image plan s m k p u (flat_map f (take i ts)) → PaidFor b image plan m t k p u (f (get_or ts i 0))
+      → PaidFor b image plan s t k p u (flat_map f (take (i + 1) ts))
+  paid_more_flat laws s m t f ts i lt v owes first then_ =
+      subst (PaidFor b image plan s t k p u)
+      (sym (ap (flat_map f) (take_more ts i 0 lt) ∙ flat_map-append f (take i ts) (get_or ts i 0 ∷ []) ∙ ap (λ (l : List Owed). flat_map f (take i ts) ++ l) (append-nil (f (get_or ts i 0)))))
+      (paid_both laws s m t (flat_map f (take i ts)) (f (get_or ts i 0)) v
+      (λ d c. owes d (subst (λ (l : List ℕ). Contains (flat_map f l) d) (take-append-drop i ts) (subst (λ (l : List Owed). Contains l d) (sym (flat_map-append f (take i ts) (drop i ts))) (Contains-append_left (flat_map f (take i ts)) (flat_map f (drop i ts)) d c))))
+      first then_)
+
+  -- all that is owed, by what stands at the point
+  pub owes_duties : (found : Located) → StandsFaultless b image plan k p u found → (d : Owed) → Contains (duties_of b image plan k p u found.shape found.size) d → Owes b image plan k p u d.duty
+  owes_duties found f d c = record { faultless = f.faultless; shape = found.shape; size = found.size; code = f.code; owed = d; listed = c; is = refl }
+
+  -- ---- the whole
+  pub paid_all : (s t : made.Table) (shape : Shape) (n : ℕ) → (seen s).cells (point k p) ≡ Some (state u) → IsFaultless b image plan k p u → IsCode image plan p shape n
+      → PaidFor b image plan s t k p u (duties_of b image plan k p u shape n) → Paid b image plan s t (spot_of (point k p))
+  paid_all s t shape n at fine code paid = record {
+    fine = paid.fine;
+    keeps = paid.keeps;
+    faultless = λ l q w e here. carried l q w e here (λ l q w. IsFaultless b image plan l q w) fine;
+    settled = λ l q w e here free.
+        carried l q w e here (λ l q w. AllSettled b image plan t l q w)
+        (record {
+          each = λ shape2 m d code2 c.
+              let one = IsCode-one image plan p shape2 shape m n code2 code in
+              paid.settled free d
+              (subst (λ (z : Shape). Contains (duties_of b image plan k p u z n) d) one.0 (subst (λ (z : ℕ). Contains (duties_of b image plan k p u shape2 z) d) one.1 c));
+        });
+  } where
+    carried : (l : Key) (q : ℕ) (w : State) → place_of (spot_of (point k p)) ≡ point l q → (seen s).cells (point l q) ≡ Some (state w) → (P : Key → ℕ → State → Type 0) → P k p u → P l q w
+    carried l q w e here P h =
+        let key : k ≡ l = cc in
+        let addr : p ≡ q = cc in
+        let same : u ≡ w =
+        one_state u w (let f : Some (state u) ≡ Some (state w) = sym at ∙ ap (seen s).cells e ∙ here in cc) in
+        subst (λ (z : State). P l q z) same (subst (λ (z : ℕ). P l z u) addr (subst (λ (z : Key). P z p u) key h))
+
+  -- ---- as calls answer
+  pub on_jump : (s t : made.Table) (rule q : ℕ) (v : State) (r : Result (Unit {0}) Refusal) → OnOk r (Joined b image plan s t (spot_of (point k q)) (state v)) → OnOk r (PaidFor b image plan s t k p u (owed rule (jump q v) ∷ []))
+  on_jump s t rule q v (Ok x) h = paid_jump s t rule q v h
+  on_jump s t rule q v (Err e) h = tt
+
+  pub on_enter : (s t : made.Table) (rule : ℕ) (l : Key) (v : State) (r : Result (Unit {0}) Refusal) → OnOk r (Joined b image plan s t (spot_of (point l l.entry)) (state v))
+      → OnOk r (PaidFor b image plan s t k p u (owed rule (enter l v) ∷ []))
+  on_enter s t rule l v (Ok x) h = paid_enter s t rule l v h
+  on_enter s t rule l v (Err e) h = tt
+
+  pub on_leave : (s t : made.Table) (rule : ℕ) (x : Exit) (r : Result (Unit {0}) Refusal) → OnOk r (Joined b image plan s t (spot_of (exit k)) (leaving x)) → OnOk r (PaidFor b image plan s t k p u (owed rule (leave x) ∷ []))
+  on_leave s t rule x (Ok _) h = paid_leave s t rule x h
+  on_leave s t rule x (Err e) h = tt
+
+  pub on_resume : (s t : made.Table) (rule : ℕ) (l : Key) (q : ℕ) (x : Exit) (r : Result (Unit {0}) Refusal) → get spot_eq s.cells (spot_of (exit l)) ≡ Some (leaving x)
+      → Reads (get spot_eq s.readers (spot_of (exit l))) (spot_of (point k p)) → OnOk r (Joined b image plan s t (spot_of (point k q)) (state (after_of u x l.kind))) → OnOk r (PaidFor b image plan s t k p u (owed rule (resume l q) ∷ []))
+  on_resume s t rule l q x (Ok _) there told h = paid_resume s t rule l q x there told h
+  on_resume s t rule l q x (Err e) there told h = tt
+
+  pub on_both : (laws : AreLawful b image plan) (s m t : made.Table) (ds es : List Owed) (r : Result (Unit {0}) Refusal) → IsVisited b image plan s k p u → ((d : Owed) → Contains ds d → Owes b image plan k p u d.duty)
+      → PaidFor b image plan s m k p u ds → OnOk r (PaidFor b image plan m t k p u es) → OnOk r (PaidFor b image plan s t k p u (ds ++ es))
+  on_both laws s m t ds es (Ok _) v owes first h = paid_both laws s m t ds es v owes first h
+  on_both laws s m t ds es (Err e) v owes first h = tt
+
+  -- five parts
+  pub on_five : (laws : AreLawful b image plan) (s m n o q t : made.Table) (ds es fs gs hs : List Owed) (r : Result (Unit {0}) Refusal) → IsVisited b image plan s k p u
+      → ((d : Owed) → Contains (ds ++ es ++ fs ++ gs ++ hs) d → Owes b image plan k p u d.duty) → PaidFor b image plan s m k p u ds → PaidFor b image plan m n k p u es → PaidFor b image plan n o k p u fs
+      → PaidFor b image plan o q k p u gs → OnOk r (PaidFor b image plan q t k p u hs) → OnOk r (PaidFor b image plan s t k p u (ds ++ es ++ fs ++ gs ++ hs))
+  on_five laws s m n o q t ds es fs gs hs r v owes one two three four five =
+      let four_owe = owes_front (ds ++ es ++ fs ++ gs) hs owes in
+      let three_owe = owes_front (ds ++ es ++ fs) gs four_owe in
+      let two_owe = owes_front (ds ++ es) fs three_owe in
+      let first = paid_both laws s m n ds es v (owes_front ds es two_owe) one two in
+      let second = paid_both laws s n o (ds ++ es) fs v two_owe first three in
+      let third = paid_both laws s o q (ds ++ es ++ fs) gs v three_owe second four in
+      on_both laws s q t (ds ++ es ++ fs ++ gs) hs r v four_owe third five
+
+  pub on_from : (s m t : made.Table) (ds : List Owed) (r : Result (Unit {0}) Refusal) → Keeps b image plan s m → OnOk r (PaidFor b image plan m t k p u ds) → OnOk r (PaidFor b image plan s t k p u ds)
+  on_from s m t ds (Ok _) keeps h = paid_from s m t ds keeps h
+  on_from s m t ds (Err e) keeps h = tt
+
+  pub on_all : (s t : made.Table) (shape : Shape) (n : ℕ) (r : Result (Unit {0}) Refusal) → (seen s).cells (point k p) ≡ Some (state u) → IsFaultless b image plan k p u → IsCode image plan p shape n
+      → OnOk r (PaidFor b image plan s t k p u (duties_of b image plan k p u shape n)) → OnOk r (Paid b image plan s t (spot_of (point k p)))
+  on_all s t shape n (Ok _) at fine code h = paid_all s t shape n at fine code h
+  on_all s t shape n (Err e) at fine code h = tt
+
+-- ---- a registration
+-- the point was written down among the readers of an exit
+pub registered_fine : (b : Limits) (image : ImageData) (plan : PlanData) (laws : AreLawful b image plan) (s t : made.Table) → t.cells ≡ s.cells → t.marks ≡ s.marks → t.work.items ≡ s.work.items
+    → t.points.items ≡ s.points.items → t.frames.items ≡ s.frames.items → ((z q : Spot) → Reads (get spot_eq s.readers z) q → Reads (get spot_eq t.readers z) q) → IsFine b image plan s → IsFine b image plan t × Keeps b image plan s t
+unfolding seen
+registered_fine b image plan laws s t cells marks work points frames readers fine =
+    let same : (q : Spot) → get spot_eq t.cells q ≡ get spot_eq s.cells q = λ q. ap (λ m. get spot_eq m q) cells in
+    let marked : (q : Spot) → get spot_eq t.marks q ≡ get spot_eq s.marks q = λ q. ap (λ m. get spot_eq m q) marks in (
+      record {
+        table = table_marked b image plan laws (seen s) (seen t) (λ q. same (spot_of q)) (λ z q h. readers (spot_of z) (spot_of q) h) fine.table
+            (λ q h. sym (ap is_idle (marked (spot_of q))) ∙ h) (subst (λ m. Derived b image plan (λ q. get spot_eq m (spot_of q))) (sym cells) (fine.table).derived);
+        listed = record { listed = λ q at. subst (λ (w : List Spot). Contains w q) (sym work) (fine.listed.listed q (sym (marked q) ∙ at)) };
+        marked = λ q w at. subst (λ (o : Option Mark). IsSome o) (sym (marked q)) (fine.marked q w (sym (same q) ∙ at));
+        counted = counted_again s.cells t.cells s.points.items t.points.items s.frames.items t.frames.items (λ q. same (spot_of q)) points frames fine.counted;
+      },
+      record {
+        each = λ x free. (marked x, same x);
+        readers = readers;
+        read = λ z x h free. same z;
+        settled = λ k p u d free pu pd h. settled_again b image plan laws (seen s) (seen t) (λ q. same (spot_of q)) (λ z q i. readers (spot_of z) (spot_of q) i) k p u d h;
+        rises = inr (same_level s t cells points frames, work);
+      },
+    )

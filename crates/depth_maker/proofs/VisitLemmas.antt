@@ -1,0 +1,274 @@
+-- A visit, over plain tables.
+use Rattle.std.proofs.Common.{◌≡◌, ℕ, ◌<◌, Bool, true, false, cond, ◌⊎◌, inl, inr, List, [], ◌∷◌, ◌++◌, Option, Some, None, IsSome, refl, sym, ap, subst, ◌∙◌, arith, length, Contains}
+use Rattle.std.specs.Prelude.{if◌then◌else◌}
+use Rattle.std.specs.Map.{lookup}
+use Rattle.indexmap.specs.IndexMap.{IndexMap, get}
+use Rattle.std.proofs.lemmas.List.Elements.{Contains-append_cases, Contains-push, Contains-push_cases}
+use Rattle.elf_image.specs.Images.{ImageData}
+use Rattle.tcd_plan.specs.PlanData.{PlanData}
+use Rattle.tc_isa.specs.declared.shapes.Shape.{Shape}
+use Rattle.value_domain.specs.declared.states.State.{State}
+use Rattle.value_domain.specs.Limits.{Limits}
+use Rattle.depth_cert.specs.declared.keys.Key.{Key}
+use Rattle.cfg_recover.specs.Code.{IsCode}
+use Rattle.cfg_recover.specs.Entries.{start_key, start_state}
+use Rattle.cfg_recover.specs.Local.{IsFaultless}
+use Rattle.cfg_recover.specs.Duties.{Owed, duties_of}
+use Rattle.cfg_recover.specs.Assignments.{Place, point, exit, Known, state, leaving, same_place, Derived, begins, Closed, first_place}
+use Rattle.depth_maker.specs.Proper.{AllFaultless, AreLawful}
+use Rattle.depth_maker.specs.Tables.{Table, IsTable, Settled}
+use Rattle.depth_maker.proofs.TableLaws.{derived_proper, table_closed, table_marked, table_settles, settled_again}
+use Rattle.depth_maker.proofs.PlaceKinds.{IsOfKind, derived_kinds}
+use Rattle.depth_maker.proofs.PartLemmas.{keeps_all}
+use Rattle.depth_maker.specs.declared.places.Spot.{Spot}
+use Rattle.depth_maker.specs.declared.places.Spot.TheVariants.{Point, Exit}
+use Rattle.depth_cert.specs.declared.points.Exit as exits
+use Rattle.depth_maker.specs.declared.places.Mark.{Mark}
+use Rattle.depth_maker.specs.declared.places.Mark.TheVariants.{Idle, Queued, Open}
+use Rattle.depth_maker.specs.declared.table.Table as made
+use Rattle.depth_maker.specs.Spots.{spot_eq, spot_of, place_of}
+use Rattle.depth_maker.proofs.SpotLemmas.{front_cases, spot_tells, spot_refl, back, forth, agrees}
+use Rattle.depth_maker.specs.Marks.{AllListed}
+use Rattle.depth_maker.specs.View.{IsCountedIn, seen, is_idle, is_queued, Reads, IsFine, IsVisited, Keeps, IsOpenAt, NoneOpen, AllSettled, Paid}
+use Rattle.depth_maker.proofs.MarkLemmas.{sides}
+use Rattle.depth_maker.proofs.CountedLemmas.{counted_again, counted_start}
+
+-- ---- one place gets a mark
+module _ (b : Limits) (image : ImageData) (plan : PlanData) (laws : AreLawful b image plan) (s t : made.Table) (x : Spot) (cells : t.cells ≡ s.cells) (readers : t.readers ≡ s.readers) (points : t.points.items ≡ s.points.items)
+    (frames : t.frames.items ≡ s.frames.items) where
+  the_cells : (q : Spot) → get spot_eq t.cells q ≡ get spot_eq s.cells q
+  the_cells q = ap (λ m. get spot_eq m q) cells
+
+  the_derived : Derived b image plan (seen s).cells → Derived b image plan (seen t).cells
+  unfolding seen
+  the_derived d = subst (λ m. Derived b image plan (λ q. get spot_eq m (spot_of q))) (sym cells) d
+
+  the_readers : (z q : Spot) → Reads (get spot_eq s.readers z) q → Reads (get spot_eq t.readers z) q
+  the_readers z q h = subst (λ m. Reads (get spot_eq m z) q) (sym readers) h
+
+  the_counts : IsCountedIn s.cells s.points.items s.frames.items → IsCountedIn t.cells t.points.items t.frames.items
+  the_counts c = counted_again s.cells t.cells s.points.items t.points.items s.frames.items t.frames.items (λ q. the_cells (spot_of q)) points frames c
+
+  -- a place taken off the list
+  pub opened : IsFine b image plan s → NoneOpen s → s.work.items ≡ x ∷ t.work.items → ((q : Spot) → get spot_eq t.marks q ≡ (if spot_eq x q then Some Open else get spot_eq s.marks q)) → IsFine b image plan t × IsOpenAt t x
+  unfolding seen
+  opened fine none work marks =
+      let side : (q : Spot) → ((spot_eq x q ≡ true) × (get spot_eq t.marks q ≡ Some Open)) ⊎ ((spot_eq x q ≡ false) × (get spot_eq t.marks q ≡ get spot_eq s.marks q)) =
+      λ q. sides (spot_eq x q) (Some Open) (get spot_eq s.marks q) (get spot_eq t.marks q) (marks q) in
+      let idle : (q : Place) → is_idle (get spot_eq t.marks (spot_of q)) ≡ true → is_idle (get spot_eq s.marks (spot_of q)) ≡ true =
+      λ q h. elim (side (spot_of q)) [
+        | inl l ↦ (let no : true ≡ false = sym h ∙ ap is_idle l.1 in cc)
+        | inr r ↦ sym (ap is_idle r.1) ∙ h
+      ] in (
+        record {
+          table = table_marked b image plan laws (seen s) (seen t) (λ q. the_cells (spot_of q)) (λ z q h. the_readers (spot_of z) (spot_of q) h) fine.table idle (the_derived (fine.table).derived);
+          listed = record {
+            listed = λ q at.
+                elim (side q) [
+                  | inl l ↦ (let no : Some Queued ≡ Some Open = sym at ∙ l.1 in cc)
+                  | inr r ↦ elim (front_cases x t.work.items q (subst (λ (w : List Spot). Contains w q) work (fine.listed.listed q (sym r.1 ∙ at)))) [
+                    | inl e ↦ (let no : true ≡ false = sym (subst (λ (k : Spot). spot_eq x k ≡ true) e (spot_refl x)) ∙ r.0 in cc)
+                    | inr has ↦ has
+                  ]
+                ];
+          };
+          marked = λ q w at.
+              elim (side q) [
+                | inl l ↦ subst (λ (o : Option Mark). IsSome o) (sym l.1) refl
+                | inr r ↦ subst (λ (o : Option Mark). IsSome o) (sym r.1) (fine.marked q w (sym (the_cells q) ∙ at))
+              ];
+          counted = the_counts fine.counted;
+        },
+        record {
+          at = marks x ∙ ap (λ e. if e then Some Open else get spot_eq s.marks x) (spot_refl x);
+          only = λ q at.
+              elim (side q) [
+                | inl l ↦ sym (spot_tells x q l.0)
+                | inr r ↦ absurd (none q (sym r.1 ∙ at))
+              ];
+        },
+      )
+
+  -- the end of a visit: the point is idle now, where all that it owes is settled
+  pub finished : IsFine b image plan s → IsOpenAt s x → t.work.items ≡ s.work.items → ((q : Spot) → get spot_eq t.marks q ≡ (if spot_eq x q then Some Idle else get spot_eq s.marks q))
+      → ((k : Key) (p : ℕ) (u : State) → place_of x ≡ point k p → (seen s).cells (point k p) ≡ Some (state u) → IsFaultless b image plan k p u × AllSettled b image plan s k p u) → IsFine b image plan t × NoneOpen t
+  unfolding seen
+  finished fine opening work marks paid =
+      let side : (q : Spot) → ((spot_eq x q ≡ true) × (get spot_eq t.marks q ≡ Some Idle)) ⊎ ((spot_eq x q ≡ false) × (get spot_eq t.marks q ≡ get spot_eq s.marks q)) =
+      λ q. sides (spot_eq x q) (Some Idle) (get spot_eq s.marks q) (get spot_eq t.marks q) (marks q) in
+      let idle : (q : Place) → is_idle (get spot_eq t.marks (spot_of q)) ≡ true → (is_idle (get spot_eq s.marks (spot_of q)) ≡ true) ⊎ (place_of x ≡ q) =
+      λ q h. elim (side (spot_of q)) [
+        | inl l ↦ inr (ap place_of (spot_tells x (spot_of q) l.0) ∙ back q)
+        | inr r ↦ inl (sym (ap is_idle r.1) ∙ h)
+      ] in (
+        record {
+          table = record {
+            derived = the_derived (fine.table).derived;
+            own = λ k p u at now.
+                elim (idle (point k p) now) [
+                  | inl before ↦ (fine.table).own k p u (sym (the_cells (spot_of (point k p))) ∙ at) before
+                  | inr e ↦ (paid k p u e (sym (the_cells (spot_of (point k p))) ∙ at)).0
+                ];
+            settled = λ k p u shape n d at now code c.
+                settled_again b image plan laws (seen s) (seen t) (λ q. the_cells (spot_of q)) (λ z q h. the_readers (spot_of z) (spot_of q) h) k p u d.duty
+                (elim (idle (point k p) now) [
+                  | inl before ↦ (fine.table).settled k p u shape n d (sym (the_cells (spot_of (point k p))) ∙ at) before code c
+                  | inr e ↦ (paid k p u e (sym (the_cells (spot_of (point k p))) ∙ at)).1.each shape n d code c
+                ]);
+          };
+          listed = record {
+            listed = λ q at.
+                elim (side q) [
+                  | inl l ↦ (let no : Some Queued ≡ Some Idle = sym at ∙ l.1 in cc)
+                  | inr r ↦ subst (λ (w : List Spot). Contains w q) (sym work) (fine.listed.listed q (sym r.1 ∙ at))
+                ];
+          };
+          marked = λ q w at.
+              elim (side q) [
+                | inl l ↦ subst (λ (o : Option Mark). IsSome o) (sym l.1) refl
+                | inr r ↦ subst (λ (o : Option Mark). IsSome o) (sym r.1) (fine.marked q w (sym (the_cells q) ∙ at))
+              ];
+          counted = the_counts fine.counted;
+        },
+        (λ q at. elim (side q) [
+          | inl l ↦ (let no : Some Open ≡ Some Idle = sym at ∙ l.1 in cc)
+          | inr r ↦ (let no : true ≡ false = sym (subst (λ (k : Spot). spot_eq x k ≡ true) (sym (opening.only q (sym r.1 ∙ at))) (spot_refl x)) ∙ r.0 in cc)
+        ]),
+      )
+
+-- ---- what was paid
+-- the point has the state that it had, and is still the open one
+pub paid_open : (b : Limits) (image : ImageData) (plan : PlanData) (s t : made.Table) (x : Spot) → IsOpenAt s x → Paid b image plan s t x → get spot_eq t.marks x ≡ Some Open → IsOpenAt t x
+paid_open b image plan s t x opening paid at = record { at = at; only = λ q here. opening.only q (sym ((paid.keeps).each q (ap is_queued here)).0 ∙ here) }
+
+pub paid_closed : (b : Limits) (image : ImageData) (plan : PlanData) (s t : made.Table) (x : Spot) → IsOpenAt s x → Paid b image plan s t x → (get spot_eq t.marks x ≡ Some Open → ⊥) → NoneOpen t
+paid_closed b image plan s t x opening paid not q at =
+    not (subst (λ (k : Spot). get spot_eq t.marks k ≡ Some Open) (opening.only q (sym ((paid.keeps).each q (ap is_queued at)).0 ∙ at)) at)
+
+pub paid_settled : (b : Limits) (image : ImageData) (plan : PlanData) (s t : made.Table) (x : Spot) → Paid b image plan s t x → get spot_eq t.marks x ≡ Some Open
+    → (k : Key) (p : ℕ) (u : State) → place_of x ≡ point k p → (seen t).cells (point k p) ≡ Some (state u) → IsFaultless b image plan k p u × AllSettled b image plan t k p u
+unfolding seen
+paid_settled b image plan s t x paid opening k p u e at =
+    let is : spot_of (point k p) ≡ x = sym (ap spot_of e) ∙ forth x in
+    let free : is_queued (get spot_eq t.marks x) ≡ false = ap is_queued opening in
+    let before : get spot_eq s.cells (spot_of (point k p)) ≡ Some (state u) =
+    ap (get spot_eq s.cells) is ∙ sym ((paid.keeps).each x free).1 ∙ sym (ap (get spot_eq t.cells) is) ∙ at in
+    (paid.faultless k p u e before, paid.settled k p u e before free)
+
+-- ---- the start, and the end
+pub begun_table : (b : Limits) (image : ImageData) (plan : PlanData) (t : made.Table) (x : Spot) (v : Known) → x ≡ spot_of (first_place image plan) → v ≡ state (start_state plan)
+    → ((q : Spot) → get spot_eq t.cells q ≡ (if spot_eq x q then Some v else None)) → ((q : Spot) → get spot_eq t.marks q ≡ (if spot_eq x q then Some Queued else None)) → t.work.items ≡ x ∷ []
+    → t.points.items ≡ x ∷ [] → t.frames.items ≡ start_key image plan ∷ [] → IsFine b image plan t × NoneOpen t
+unfolding seen
+begun_table b image plan t x v place known cells marks work points frames =
+    let side : (q : Spot) → ((spot_eq x q ≡ true) × (get spot_eq t.marks q ≡ Some Queued)) ⊎ ((spot_eq x q ≡ false) × (get spot_eq t.marks q ≡ None)) =
+    λ q. sides (spot_eq x q) (Some Queued) None (get spot_eq t.marks q) (marks q) in
+    let never : (q : Spot) → is_idle (get spot_eq t.marks q) ≡ true → ⊥ =
+    λ q h. elim (side q) [
+      | inl l ↦ (let no : true ≡ false = sym h ∙ ap is_idle l.1 in cc)
+      | inr r ↦ (let no : true ≡ false = sym h ∙ ap is_idle r.1 in cc)
+    ] in
+    let test : (q : Place) → spot_eq x (spot_of q) ≡ same_place q (first_place image plan) = λ q. ap (λ (z : Spot). spot_eq z (spot_of q)) place ∙ agrees q (first_place image plan) in (
+      record {
+        table = record {
+          derived = begins (seen t).cells
+              (λ q. cells (spot_of q) ∙ ap (λ e. if e then Some v else None) (test q) ∙ ap (λ (w : Known). if same_place q (first_place image plan) then Some w else None) known);
+          own = λ k p u at h. absurd (never (spot_of (point k p)) h);
+          settled = λ k p u shape n d at h code c. absurd (never (spot_of (point k p)) h);
+        };
+        listed = record {
+          listed = λ q at.
+              elim (side q) [
+                | inl l ↦ subst (λ (w : List Spot). Contains w q) (sym work) (subst (λ (k : Spot). Contains (x ∷ []) k) (spot_tells x q l.0) (Contains-push [] x))
+                | inr r ↦ (let no : Some Queued ≡ None = sym at ∙ r.1 in cc)
+              ];
+        };
+        marked = λ q w at.
+            elim (side q) [
+              | inl l ↦ subst (λ (o : Option Mark). IsSome o) (sym l.1) refl
+              | inr n ↦ (let no : None ≡ Some w = sym (cells q ∙ ap (λ e. if e then Some v else None) n.0) ∙ at in cc)
+            ];
+        counted = counted_start t.cells t.points.items t.frames.items (start_key image plan) v
+            (λ q. cells (spot_of q) ∙ ap (λ e. if e then Some v else None) (test q)) (points ∙ ap (λ (z : Spot). z ∷ []) place) frames;
+      },
+      (λ q at. elim (side q) [
+        | inl l ↦ (let no : Some Open ≡ Some Queued = sym at ∙ l.1 in cc)
+        | inr r ↦ (let no : Some Open ≡ None = sym at ∙ r.1 in cc)
+      ]),
+    )
+
+-- without work
+all_idle : (o : Option Mark) → IsSome o → (o ≡ Some Queued → ⊥) → (o ≡ Some Open → ⊥) → is_idle o ≡ true
+all_idle None is a b = cc
+all_idle (Some Idle) is a b = refl
+all_idle (Some Queued) is a b = absurd (a refl)
+all_idle (Some Open) is a b = absurd (b refl)
+
+pub closed_table : (b : Limits) (image : ImageData) (plan : PlanData) (laws : AreLawful b image plan) (t : made.Table) → IsFine b image plan t → NoneOpen t → ((q : Spot) → get spot_eq t.marks q ≡ Some Queued → ⊥)
+    → Derived b image plan (seen t).cells × Closed b image plan (seen t).cells × AllFaultless b image plan (seen t).cells
+unfolding seen
+closed_table b image plan laws t fine none left =
+    let h = table_closed b image plan laws (seen t) fine.table
+    (λ k p u at. all_idle (get spot_eq t.marks (spot_of (point k p))) (fine.marked (spot_of (point k p)) (state u) at) (left (spot_of (point k p))) (none (spot_of (point k p)))) in
+    ((fine.table).derived, h.0, h.1)
+
+-- ---- what is known at places
+-- at a point it is a state, at an exit an exit
+pub point_state : (b : Limits) (image : ImageData) (plan : PlanData) (t : made.Table) (k : Key) (p : ℕ) (w : Known) → IsFine b image plan t → get spot_eq t.cells (Point k p) ≡ Some w → (u : State) × (w ≡ state u)
+unfolding seen
+point_state b image plan t k p w fine at = of_kind w (derived_kinds b image plan (seen t).cells (fine.table).derived (point k p) w at) where
+  of_kind : (v : Known) → IsOfKind (point k p) v → (u : State) × (v ≡ state u)
+  of_kind (state s) h = (s, refl)
+  of_kind (leaving x) h = absurd h
+
+pub exit_known : (b : Limits) (image : ImageData) (plan : PlanData) (t : made.Table) (k : Key) (w : Known) → IsFine b image plan t → get spot_eq t.cells (Exit k) ≡ Some w → (x : exits.Exit) × (w ≡ leaving x)
+unfolding seen
+exit_known b image plan t k w fine at = of_kind w (derived_kinds b image plan (seen t).cells (fine.table).derived (exit k) w at) where
+  of_kind : (v : Known) → IsOfKind (exit k) v → (x : exits.Exit) × (v ≡ leaving x)
+  of_kind (state s) h = absurd h
+  of_kind (leaving x) h = (x, refl)
+
+-- the state at a point is visited
+pub visited_at : (b : Limits) (image : ImageData) (plan : PlanData) (laws : AreLawful b image plan) (t : made.Table) (k : Key) (p : ℕ) (u : State) → IsFine b image plan t → get spot_eq t.cells (Point k p) ≡ Some (state u)
+    → IsVisited b image plan t k p u
+unfolding seen
+visited_at b image plan laws t k p u fine at = record { fine = fine; proper = derived_proper b image plan laws (seen t).cells (fine.table).derived (point k p) (state u) at; at = λ free. at }
+
+-- nothing is owed at an exit, nor where nothing is known
+pub paid_exit : (b : Limits) (image : ImageData) (plan : PlanData) (s : made.Table) (k : Key) → IsFine b image plan s → Paid b image plan s s (Exit k)
+paid_exit b image plan s k fine = record {
+  fine = fine;
+  keeps = keeps_all b image plan s;
+  faultless = λ l p u e at. absurd (let no : exit k ≡ point l p = e in cc);
+  settled = λ l p u e at free. absurd (let no : exit k ≡ point l p = e in cc);
+}
+
+pub paid_unknown : (b : Limits) (image : ImageData) (plan : PlanData) (s : made.Table) (k : Key) (p : ℕ) → IsFine b image plan s → get spot_eq s.cells (Point k p) ≡ None → Paid b image plan s s (Point k p)
+unfolding seen
+paid_unknown b image plan s k p fine none = record {
+  fine = fine;
+  keeps = keeps_all b image plan s;
+  faultless = λ l q u e at. absurd (nothing l q u e at);
+  settled = λ l q u e at free. absurd (nothing l q u e at);
+} where
+  nothing : (l : Key) (q : ℕ) (u : State) → point k p ≡ point l q → get spot_eq s.cells (Point l q) ≡ Some (state u) → ⊥
+  nothing l q u e at = let f : None ≡ Some (state u) = sym none ∙ ap (λ (y : Place). get spot_eq s.cells (spot_of y)) e ∙ at in cc
+
+-- work that is taken off alone
+pub same_fine : (b : Limits) (image : ImageData) (plan : PlanData) (laws : AreLawful b image plan) (s t : made.Table) → t.cells ≡ s.cells → t.marks ≡ s.marks → t.readers ≡ s.readers → t.work.items ≡ s.work.items
+    → t.points.items ≡ s.points.items → t.frames.items ≡ s.frames.items → IsFine b image plan s → IsFine b image plan t
+unfolding seen
+same_fine b image plan laws s t cells marks readers work points frames fine =
+    let same : (q : Spot) → get spot_eq t.cells q ≡ get spot_eq s.cells q = λ q. ap (λ m. get spot_eq m q) cells in
+    let marked : (q : Spot) → get spot_eq t.marks q ≡ get spot_eq s.marks q = λ q. ap (λ m. get spot_eq m q) marks in
+    record {
+      table = table_marked b image plan laws (seen s) (seen t) (λ q. same (spot_of q)) (λ z q h. subst (λ m. Reads (get spot_eq m (spot_of z)) (spot_of q)) (sym readers) h) fine.table
+          (λ q h. sym (ap is_idle (marked (spot_of q))) ∙ h) (subst (λ m. Derived b image plan (λ q. get spot_eq m (spot_of q))) (sym cells) (fine.table).derived);
+      listed = record { listed = λ q at. subst (λ (w : List Spot). Contains w q) (sym work) (fine.listed.listed q (sym (marked q) ∙ at)) };
+      marked = λ q w at. subst (λ (o : Option Mark). IsSome o) (sym (marked q)) (fine.marked q w (sym (same q) ∙ at));
+      counted = counted_again s.cells t.cells s.points.items t.points.items s.frames.items t.frames.items (λ q. same (spot_of q)) points frames fine.counted;
+    }
+
+-- a map without entries
+pub get_none : {X S : Type 0} (m : IndexMap Spot X S) (q : Spot) → m.entries ≡ [] → get spot_eq m q ≡ None
+get_none m q e = ap (λ es. lookup (spot_eq q) es) e

@@ -1,0 +1,12 @@
+use Rattle.std.proofs.lemmas.Result.{IfErr-weaker, IfOk-weaker}
+use Rattle.depth_maker.proofs.MakeLemmas.{are_made, is_refused}
+use Rattle.depth_maker.proofs.answering.bytes_on.Goals as goal
+
+pub returns-in-Ok-clause-made : goal.returns-in-Ok-clause-made
+returns-in-Ok-clause-made c = IfOk-weaker c.bytes_by.result _ _ (λ out w. are_made c.args.ground.now c.args.version out.items c.requires.limits w) c.bytes_by.ensures.ok
+
+pub returns-in-Ok-clause-refused : goal.returns-in-Ok-clause-refused
+returns-in-Ok-clause-refused c = IfErr-weaker c.bytes_by.result _ _ (λ e r. is_refused c.args.ground.now c.args.version e c.requires.limits r) c.bytes_by.ensures.err
+
+pub returns-in-Err-clause-refused : goal.returns-in-Err-clause-refused
+returns-in-Err-clause-refused c = is_refused c.args.ground.now c.args.version c.refused.result c.requires.limits c.refused.ensures

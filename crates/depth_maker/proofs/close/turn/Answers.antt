@@ -1,0 +1,37 @@
+use Rattle.std.proofs.Common.{refl, sym, ◌∙◌, ◌≡◌, inr, arith, ap, length, deque_len, List, true, false}
+use Rattle.std.specs.Prelude.{◌==◌}
+use Rattle.depth_maker.specs.declared.places.Spot.{Spot}
+use Rattle.depth_maker.proofs.LevelSteps.{left_over, turns_more}
+use Rattle.depth_maker.proofs.close.turn.Goals as goal
+
+pub loop-done-init : goal.loop-done-init
+loop-done-init c = (c.requires.fine, c.requires.none, inr (refl, omega (arith, c.len-done-end.ensures)))
+
+pub loop-done-preserved : goal.loop-done-preserved
+loop-done-preserved c =
+    let h = rw c.in-Ok-Some.field-0-is at c.in-Ok-Some.ensures in
+    let v = c.in_ok-visit-in-Ok-Some.ensures.ok in (
+      v.0,
+      v.1,
+      turns_more c.args.table.now c.loop-done.table c.open_next.new.table c.visit.new.table c.loop-done._done c.len-done-end.result c.loop-done.invariant.2 h.2
+          (let e = ap (λ (l : List Spot). length l) h.3 in omega (arith, e)) v.2,
+    )
+
+pub open_next-requires-clause-fine : goal.open_next-requires-clause-fine
+open_next-requires-clause-fine c = c.loop-done.invariant.0
+
+pub open_next-requires-clause-none : goal.open_next-requires-clause-none
+open_next-requires-clause-none c = c.loop-done.invariant.1
+
+pub returns-in-Ok-None : goal.returns-in-Ok-None
+returns-in-Ok-None c =
+    let h = rw c.in-Ok-None.field-0-is at c.in-Ok-None.ensures in
+    (h.0, h.1, (λ e. absurd (let no : false ≡ true = e in cc)), (λ e. h.3))
+
+pub returns : goal.returns
+returns c =
+    let len : length c.loop-done.table.work.items ≡ deque_len c.loop-done.table.work = omega arith in
+    let h =
+    left_over c.args.table.now c.loop-done.table c.loop-done._done c.len-done-end.result c.is_empty.result c.loop-done-test.false c.loop-done.invariant.2
+    (c.is_empty.ensures ∙ ap (λ n. n == 0) (sym len)) in
+    (c.loop-done.invariant.0, c.loop-done.invariant.1, h.0, h.1)

@@ -1,0 +1,9 @@
+use Rattle.std.proofs.Common.{◌≡◌, ◌<◌, ◌+◌, ◌⊎◌, length}
+use Rattle.depth_maker.specs.Levels.{level}
+use Rattle.depth_maker.specs.View.{FineOn, NoneOpen}
+use Rattle.depth_maker.proofs.close.turn.Given as goal
+
+abbrev pub invariant-loop-done : goal.invariant-loop-done
+invariant-loop-done l =
+    FineOn l.ground l.table × NoneOpen l.table
+    × ((level l.initial.table < level l.table) ⊎ ((level l.table ≡ level l.initial.table) × (length l.table.work.items + l._done ≡ l._done-end)))

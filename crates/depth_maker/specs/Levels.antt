@@ -1,0 +1,38 @@
+-- How far a table has risen: each joining that changes it takes it higher, and there is a greatest level.
+use Rattle.std.specs.Prelude.{◌≡◌, ◌+◌, ◌-◌, ◌<◌, ◌⊎◌, ℕ, not, List, length, Option, Some, None}
+use Rattle.std.specs.List.{count_by, sum_by}
+use Rattle.indexmap.specs.IndexMap.{get}
+use Rattle.value_domain.specs.declared.values.Val.{Val}
+use Rattle.value_domain.specs.Values.{members}
+use Rattle.depth_cert.specs.Keys.{byte_of}
+use Rattle.cfg_recover.specs.Assignments.{Known, state, leaving}
+use Rattle.depth_maker.specs.declared.places.Spot.TheVariants as spots
+use Rattle.depth_maker.specs.declared.table.Table as made
+use Rattle.depth_maker.specs.Spots.{spot_eq}
+
+-- the priority of a state, of an exit
+abbrev pub priority_of : Known → ℕ
+priority_of (state s) = s.ccpn
+priority_of (leaving x) = x.ccpn
+
+-- the members of all these values
+abbrev pub size_of : List Val → ℕ
+size_of vs = sum_by (λ v. length (members v)) vs
+
+-- how much is known to be possible: what covers it has no lower rank
+abbrev pub rank_of : Known → ℕ
+rank_of (state s) = size_of s.regs + byte_of s.ie + (256 - s.ccpn) + byte_of (not s.lower) + count_by not s.locals.items
+rank_of (leaving x) = size_of x.lower + byte_of x.ie + (256 - x.ccpn)
+
+-- the same where nothing may be known
+abbrev pub rank_at : Option Known → ℕ
+rank_at None = 0
+rank_at (Some v) = 1 + rank_of v
+
+-- the ranks of all points and exits
+unfoldable pub level : made.Table → ℕ
+level t = sum_by (λ q. rank_at (get spot_eq t.cells q)) t.points.items + sum_by (λ k. rank_at (get spot_eq t.cells (spots.Exit k))) t.frames.items
+
+-- the table rose, or its list of work is as it was
+abbrev pub Rises : made.Table → made.Table → Type 0
+Rises s t = (level s < level t) ⊎ ((level t ≡ level s) × (t.work.items ≡ s.work.items))

@@ -1,0 +1,168 @@
+-- The certificate of a table: a node for each frame, by ascending key, with the frame's points by ascending address.
+use Rattle.std.specs.Prelude.{◌≡◌, ◌≤◌, ◌<◌, ◌-◌, ◌^◌, ◌++◌, ℕ, Bool, false, List, [], map, filter, Option, Some, None, All, IfSome, IsSome, Contains}
+use Rattle.std.specs.List.{flat_map}
+use Rattle.std.specs.List.Sorted.{IsPermutation, IsNonDecreasingBy}
+use Rattle.elf_image.specs.Images.{ImageData}
+use Rattle.tcd_plan.specs.PlanData.{PlanData}
+use Rattle.value_domain.specs.declared.states.State.{State}
+use Rattle.value_domain.specs.Thresholds.{limits_for}
+use Rattle.depth_cert.specs.declared.keys.Key.{Key}
+use Rattle.depth_cert.specs.declared.points.Exit as exits
+use Rattle.depth_cert.specs.declared.points.Point as points
+use Rattle.depth_cert.specs.Keys.{IsKey}
+use Rattle.depth_cert.specs.Nodes.{NodeData}
+use Rattle.depth_cert.specs.Certs.{CertData}
+use Rattle.depth_cert.specs.Spelling.{bytes_of, bytes_of_exit, bytes_of_node, bytes_of_point}
+use Rattle.cfg_recover.specs.Assignments.{Place, point, exit, Known, state, leaving, Assignment, same_key}
+use Rattle.cfg_recover.specs.Refusals.{AreLeastNeeds, point_number}
+use Rattle.depth_maker.specs.Making.{IsWritten}
+use Rattle.depth_maker.specs.RowsAt.{need_by}
+use Rattle.depth_maker.specs.RowsBy.{IsSource}
+use Rattle.depth_maker.specs.View.{seen}
+use Rattle.depth_maker.specs.declared.places.Spot.{Spot}
+use Rattle.depth_maker.specs.declared.places.Spot.TheVariants.{Point, Exit}
+use Rattle.depth_maker.specs.declared.rows.Source.{Source}
+use Rattle.depth_maker.specs.declared.spelling.Ordered.{Ordered}
+
+-- ---- places in order
+-- places are ordered by key, then address
+abbrev pub spot_number : Spot → ℕ
+spot_number (Point k p) = point_number k p
+spot_number (Exit k) = point_number k 0
+
+-- a point's address
+abbrev pub spot_address : Spot → ℕ
+spot_address (Point k p) = p
+spot_address (Exit k) = 0
+
+-- a point of frame k
+abbrev pub is_point_of : Key → Spot → Bool
+is_point_of k (Point j p) = same_key j k
+is_point_of k (Exit j) = false
+
+-- the addresses of frame k's points, in the order of the list
+abbrev pub addresses_in : List Spot → Key → List ℕ
+addresses_in ps k = map spot_address (filter (is_point_of k) ps)
+
+-- points that a certificate may have
+abbrev pub AreRanged : List Spot → Type 0
+AreRanged ps = (q : Spot) → Contains ps q → (k : Key) × (p : ℕ) × (q ≡ Point k p) × IsKey k × (p < 2 ^ 32)
+
+-- ---- nodes
+-- a state of which nothing is known
+abbrev pub no_state : State
+no_state = record { regs = []; ie = false; ccpn = 0; lower = false; locals = record { items = [] } }
+
+-- the state that is known
+abbrev pub state_at : Option Known → State
+state_at None = no_state
+state_at (Some (state s)) = s
+state_at (Some (leaving x)) = no_state
+
+-- the exit that is known, if one is
+abbrev pub exit_at : Option Known → Option exits.Exit
+exit_at None = None
+exit_at (Some (state s)) = None
+exit_at (Some (leaving x)) = Some x
+
+-- the point of frame k at an address
+abbrev pub point_at : Assignment → Key → ℕ → points.Point
+point_at a k p = record { addr = p; state = state_at (a (point k p)) }
+
+-- the node of frame k, with its points at these addresses
+abbrev pub node_at : Assignment → (Key → ℕ) → (Key → List ℕ) → Key → NodeData
+node_at a need addresses k = record { key = k; need = need k; exit = exit_at (a (exit k)); points = map (point_at a k) (addresses k) }
+
+-- the certificate with the nodes of these frames
+abbrev pub cert_with : ℕ → Assignment → (Key → ℕ) → (Key → List ℕ) → List Key → CertData
+cert_with version a need addresses ks = record { version = version; nodes = map (node_at a need addresses) ks }
+
+-- CCPN is a byte wherever the node tells it
+pub record HasBytes (n : NodeData) : Type 0 where
+  pub exit : IfSome n.exit (λ e. e.ccpn < 2 ^ 8)
+  pub points : All (λ p. (p.state).ccpn < 2 ^ 8) n.points
+
+-- ---- by what the code has
+-- the least needs of the table's frames, by their numbers; none is above the areas without the reserve
+pub record NeedsAre (s : Source) (needs : List ℕ) : Type 0 where
+  pub least : AreLeastNeeds (s.ground.now).bounds.now (s.ground.now).image.now (s.ground.now).plan.now (seen s.table.now).cells (need_by (s.table.now).frames.items needs)
+  pub few : (k : Key) → need_by (s.table.now).frames.items needs k ≤ ((s.ground.now).plan.now).areas - ((s.ground.now).plan.now).reserve
+
+-- the limits are those of the version
+abbrev pub IsOfVersion : Source → ℕ → Type 0
+IsOfVersion s version = (s.ground.now).bounds.now ≡ limits_for (s.ground.now).plan.now version
+
+-- what is known in the table: at a place, at the exit of a frame, at a point of one
+abbrev pub known_on : Source → Place → Option Known
+known_on s y = (seen s.table.now).cells y
+
+abbrev pub exit_on : Source → Key → Option exits.Exit
+exit_on s k = exit_at ((seen s.table.now).cells (exit k))
+
+abbrev pub point_on : Source → Key → ℕ → points.Point
+point_on s k p = point_at (seen s.table.now).cells k p
+
+-- the node of a frame, with the points of a list
+abbrev pub node_on : Source → List ℕ → List Spot → Key → NodeData
+node_on s needs ps k = node_at (seen s.table.now).cells (need_by (s.table.now).frames.items needs) (addresses_in ps) k
+
+-- the certificate with the nodes of these frames
+abbrev pub cert_on : Source → ℕ → List ℕ → List Key → List Spot → CertData
+cert_on s version needs ks ps = cert_with version (seen s.table.now).cells (need_by (s.table.now).frames.items needs) (addresses_in ps) ks
+
+-- a table without work, the least needs of its frames, and its points in order
+pub record IsOrdered (o : Ordered) : Type 0 where
+  pub source : IsSource o.source.now
+  pub needs : NeedsAre o.source.now o.needs.now
+  pub points : IsPermutation ((o.source.now).table.now).points.items o.points.now
+  pub rising : IsNonDecreasingBy spot_number o.points.now
+
+-- ---- what is added
+-- to the bytes old a point, and its CCPN is a byte
+pub record WritesPoint (s : Source) (k : Key) (p : ℕ) (old new : List ℕ) : Type 0 where
+  pub bytes : new ≡ old ++ bytes_of_point (point_on s k p)
+  pub ccpn : ((point_on s k p).state).ccpn < 2 ^ 8
+
+-- these points of frame k
+pub record WritesPoints (s : Source) (k : Key) (qs : List Spot) (old new : List ℕ) : Type 0 where
+  pub bytes : new ≡ old ++ flat_map (λ q. bytes_of_point (point_on s k (spot_address q))) qs
+  pub ccpn : All (λ q. ((point_on s k (spot_address q)).state).ccpn < 2 ^ 8) qs
+
+-- the exit of frame k, or that none is known
+pub record WritesExit (s : Source) (k : Key) (old new : List ℕ) : Type 0 where
+  pub bytes : new ≡ old ++ bytes_of_exit (exit_on s k)
+  pub ccpn : IfSome (exit_on s k) (λ e. e.ccpn < 2 ^ 8)
+
+-- the node of frame k
+pub record WritesNode (o : Ordered) (k : Key) (old new : List ℕ) : Type 0 where
+  pub bytes : new ≡ old ++ bytes_of_node (node_on o.source.now o.needs.now o.points.now k)
+  pub ccpn : HasBytes (node_on o.source.now o.needs.now o.points.now k)
+
+-- the nodes of these frames
+pub record WritesNodes (o : Ordered) (ks : List Key) (old new : List ℕ) : Type 0 where
+  pub bytes : new ≡ old ++ flat_map (λ k. bytes_of_node (node_on o.source.now o.needs.now o.points.now k)) ks
+  pub ccpn : All (λ k. HasBytes (node_on o.source.now o.needs.now o.points.now k)) ks
+
+-- all of the certificate
+pub record WritesCert (o : Ordered) (version : ℕ) (ks : List Key) (out : List ℕ) : Type 0 where
+  pub bytes : out ≡ bytes_of (cert_on o.source.now version o.needs.now ks o.points.now)
+  pub ccpn : All (λ k. HasBytes (node_on o.source.now o.needs.now o.points.now k)) ks
+
+-- these frames are the table's
+abbrev pub AreFrames : Ordered → List Key → Type 0
+AreFrames o ks = IsPermutation ((o.source.now).table.now).frames.items ks
+
+-- these points of frame k are known
+abbrev pub AreKnown : Source → Key → List Spot → Type 0
+AreKnown s k qs = (q : Spot) → Contains qs q → IsSome (known_on s (point k (spot_address q)))
+
+-- this one is one of them
+abbrev pub IsFrameOf : Source → Key → Type 0
+IsFrameOf s k = Contains (s.table.now).frames.items k
+
+-- the bytes spell the certificate that is to be written
+abbrev pub IsSpelled : ImageData → PlanData → ℕ → List ℕ → Type 0
+IsSpelled image plan version bytes = (cert : CertData) × (bytes ≡ bytes_of cert) × IsWritten image plan version cert
+
+abbrev pub IsSpelledOn : Source → ℕ → List ℕ → Type 0
+IsSpelledOn s version bytes = IsSpelled (s.ground.now).image.now (s.ground.now).plan.now version bytes

@@ -1,0 +1,281 @@
+-- The table as the theory sees it.
+use Rattle.std.specs.Prelude.{◌≡◌, ◌<◌, ◌==◌, ◌^◌, ℕ, Bool, true, false, ◌⊎◌, if◌then◌else◌, Option, Some, None, IsSome, List, [], ◌∷◌, ◌++◌, length, map, Contains, Result, Ok, Err}
+use Rattle.std.specs.List.{flat_map}
+use Rattle.indexmap.specs.IndexMap.{IndexMap, get}
+use Rattle.std.specs.declared.vec.Vec.{Vec}
+use Rattle.std.specs.declared.alloc.Global.{Global}
+use Rattle.elf_image.specs.Images.{ImageData}
+use Rattle.tcd_plan.specs.PlanData.{PlanData}
+use Rattle.value_domain.specs.declared.values.Val.{Val}
+use Rattle.value_domain.specs.declared.states.State.{State}
+use Rattle.value_domain.specs.Limits.{Limits}
+use Rattle.depth_cert.specs.declared.keys.Key.{Key}
+use Rattle.tc_isa.specs.declared.shapes.Shape.{Shape}
+use Rattle.vd_transfer.specs.Branches.{refine_of}
+use Rattle.cfg_recover.specs.declared.local.Located.{Located}
+use Rattle.cfg_recover.specs.Changes.{StandsFaultless}
+use Rattle.cfg_recover.specs.Code.{IsCode}
+use Rattle.cfg_recover.specs.Entries.{call_key, sys_key, sys_entry}
+use Rattle.cfg_recover.specs.Local.{IsFaultless}
+use Rattle.cfg_recover.specs.Duties.{Duty, Owed, duties_of, entered_and_back, entries_of, interrupts_of, misaligned_at, misaligned_of, next_of, successors_of}
+use Rattle.cfg_recover.specs.Assignments.{Place, point, Known, state, same_place, CoversAt, CoversKnown, Asks, Closed, Derived, joined_known, raised}
+use Rattle.cfg_recover.specs.Refusals.{IsFault}
+use Rattle.depth_maker.specs.Growth.{IsProper, IsProperDuty}
+use Rattle.depth_maker.specs.Proper.{AllFaultless, IsProperKnown}
+use Rattle.depth_maker.specs.Tables.{Table, IsTable, Settled}
+use Rattle.depth_maker.specs.declared.places.Spot.{Spot}
+use Rattle.depth_maker.specs.declared.places.Spot.TheVariants.{Point, Exit}
+use Rattle.depth_maker.specs.declared.places.Mark.{Mark}
+use Rattle.depth_maker.specs.declared.places.Mark.TheVariants.{Idle, Queued, Open}
+use Rattle.depth_maker.specs.declared.refusals.Refusal.{Refusal}
+use Rattle.depth_maker.specs.declared.refusals.Refusal.TheVariants.{Fault, NoMemory}
+use Rattle.depth_maker.specs.declared.table.Table as made
+use Rattle.depth_maker.specs.Spots.{spot_eq, spot_of, place_of}
+use Rattle.depth_maker.specs.Marks.{AllListed}
+use Rattle.depth_maker.specs.Counts.{AreCounted, AreFew}
+use Rattle.depth_maker.specs.Levels.{level, Rises}
+use Rattle.depth_maker.specs.declared.ground.Ground.{Ground}
+use Rattle.depth_maker.specs.declared.ground.Visit.{Visit}
+
+abbrev pub is_idle : Option Mark → Bool
+is_idle None = false
+is_idle (Some Idle) = true
+is_idle (Some Queued) = false
+is_idle (Some Open) = false
+
+abbrev pub is_queued : Option Mark → Bool
+is_queued None = false
+is_queued (Some Idle) = false
+is_queued (Some Queued) = true
+is_queued (Some Open) = false
+
+-- ---- counts
+-- the points with one more place, if it is one
+abbrev pub with_point : List Spot → Spot → List Spot
+with_point ps (Point k p) = ps ++ Point k p ∷ []
+with_point ps (Exit k) = ps
+
+-- the frames with that of one more place, if it is the entry point
+abbrev pub with_entered : List Key → Spot → List Key
+with_entered ks (Point k p) = if p == k.entry then ks ++ k ∷ [] else ks
+with_entered ks (Exit k) = ks
+
+-- a point passes a limit: it would be the 65,537th, or the entry of the 2,049th frame
+abbrev pub IsPassing : List Spot → List Key → Spot → Type 0
+IsPassing ps ks (Point k p) = (length ps ≡ 2 ^ 16) ⊎ ((p ≡ k.entry) × (length ks ≡ 2048))
+IsPassing ps ks (Exit k) = ⊥
+
+-- a refusal by rule 15, at a place that isn't known
+abbrev pub Passing : Bool → List Spot → List Key → Spot → Refusal → Type 0
+Passing known ps ks y (Fault rule x) = (rule ≡ 15) × (x ≡ y) × (known ≡ false) × IsPassing ps ks y
+Passing known ps ks y NoMemory = Unit {0}
+
+-- the points after a rise at y: a place that was known is counted already
+abbrev pub points_after : Bool → List Spot → Spot → List Spot
+points_after known ps y = if known then ps else with_point ps y
+
+-- so are the frames
+abbrev pub frames_after : Bool → List Key → Spot → List Key
+frames_after known ks y = if known then ks else with_entered ks y
+
+-- each point and each frame that is known is counted once, and no limit is passed
+pub record IsCountedIn {S : Type 0} (cells : IndexMap Spot Known S) (ps : List Spot) (ks : List Key) : Type 0 where
+  pub each : AreCounted (λ q. get spot_eq cells (spot_of q)) (map place_of ps) ks
+  pub few : AreFew (map place_of ps) ks
+
+-- ---- the table
+-- a place is among those that are told of a rise
+abbrev pub Reads : Option (Vec Spot Global) → Spot → Type 0
+Reads None x = ⊥
+Reads (Some ps) x = Contains ps.items x
+
+-- the table as assignment and marks
+unfoldable pub seen : made.Table → Table
+seen t = record {
+  cells = λ q. get spot_eq t.cells (spot_of q);
+  idle = λ q. is_idle (get spot_eq t.marks (spot_of q));
+  queued = λ q. is_queued (get spot_eq t.marks (spot_of q));
+  reads = λ z x. Reads (get spot_eq t.readers (spot_of z)) (spot_of x);
+}
+
+-- all that is known is of the plan and the version
+abbrev pub CellsProper : {S : Type 0} → Limits → IndexMap Spot Known S → Type 0
+CellsProper b cells = (q : Spot) (v : Known) → get spot_eq cells q ≡ Some v → IsProperKnown b v
+
+-- the table between two steps
+pub record IsFine (b : Limits) (image : ImageData) (plan : PlanData) (t : made.Table) : Type 0 where
+  pub table : IsTable b image plan (seen t)
+  pub listed : AllListed t.marks t.work.items
+  pub marked : (q : Spot) (s : Known) → get spot_eq t.cells q ≡ Some s → IsSome (get spot_eq t.marks q)
+  pub counted : IsCountedIn t.cells t.points.items t.frames.items
+
+-- a fault that is answered is one
+abbrev pub Answered : Limits → ImageData → PlanData → Refusal → Type 0
+Answered b image plan (Fault rule x) = (k : Key) × (p : ℕ) × (place_of x ≡ point k p) × IsFault b image plan rule k p
+Answered b image plan NoMemory = Unit {0}
+
+-- what joining v to what is known at y gives: nothing where v is covered, else what is known then; only what isn't covered is joined
+abbrev pub Merges : {S : Type 0} → Limits → IndexMap Spot Known S → Spot → Known → Result (Option Known) Refusal → Type 0
+Merges b cells y v (Ok None) = CoversAt (λ q. get spot_eq cells (spot_of q)) (place_of y) v
+Merges b cells y v (Ok (Some u)) = (raised b (get spot_eq cells y) v ≡ Some u) × ((w : Known) → get spot_eq cells y ≡ Some w → CoversKnown w v → ⊥)
+Merges b cells y v (Err (Fault rule x)) = (rule ≡ 8) × (x ≡ y) × ((w : Known) × (get spot_eq cells y ≡ Some w) × (joined_known b w v ≡ None))
+Merges b cells y v (Err NoMemory) = Unit {0}
+
+-- y and all that read it have work, and the other marks stay
+pub record Woken {S : Type 0} {R : Type 0} (old new : IndexMap Spot Mark S) (readers : IndexMap Spot (Vec Spot Global) R) (y : Spot) : Type 0 where
+  pub each : (q : Spot) → (get spot_eq new q ≡ Some Queued) ⊎ ((get spot_eq new q ≡ get spot_eq old q) × (spot_eq y q ≡ false) × (Reads (get spot_eq readers y) q → ⊥))
+
+-- a rise keeps what has no new work
+pub record Keeps (b : Limits) (image : ImageData) (plan : PlanData) (s t : made.Table) : Type 0 where
+  pub each :
+      (x : Spot) → is_queued (get spot_eq t.marks x) ≡ false
+      → (get spot_eq t.marks x ≡ get spot_eq s.marks x) × (get spot_eq t.cells x ≡ get spot_eq s.cells x)
+  pub readers : (z x : Spot) → Reads (get spot_eq s.readers z) x → Reads (get spot_eq t.readers z) x
+  pub read :
+      (z x : Spot) → Reads (get spot_eq s.readers z) x → is_queued (get spot_eq t.marks x) ≡ false → get spot_eq t.cells z ≡ get spot_eq s.cells z
+  pub settled :
+      (k : Key) (p : ℕ) (u : State) (d : Duty) → is_queued (get spot_eq t.marks (spot_of (point k p))) ≡ false → IsProper b u → IsProperDuty b d
+      → Settled (seen s) k p u d → Settled (seen t) k p u d
+  pub rises : Rises s t
+
+-- v was joined at y
+pub record Joined (b : Limits) (image : ImageData) (plan : PlanData) (s t : made.Table) (y : Spot) (v : Known) : Type 0 where
+  pub fine : IsFine b image plan t
+  pub covers : CoversAt (seen t).cells (place_of y) v
+  pub keeps : Keeps b image plan s t
+
+-- ---- visits
+-- x is visited now, and no other place is
+pub record IsOpenAt (t : made.Table) (x : Spot) : Type 0 where
+  pub at : get spot_eq t.marks x ≡ Some Open
+  pub only : (q : Spot) → get spot_eq t.marks q ≡ Some Open → q ≡ x
+
+-- no place is
+abbrev pub NoneOpen : made.Table → Type 0
+NoneOpen t = (q : Spot) → get spot_eq t.marks q ≡ Some Open → ⊥
+
+-- all that the point owes is covered
+pub record AllSettled (b : Limits) (image : ImageData) (plan : PlanData) (t : made.Table) (k : Key) (p : ℕ) (u : State) : Type 0 where
+  pub each : (shape : Shape) (n : ℕ) (d : Owed) → IsCode image plan p shape n → Contains (duties_of b image plan k p u shape n) d → Settled (seen t) k p u d.duty
+
+-- what the point x owes was joined, as far as it has no new work; it has no fault of its own
+pub record Paid (b : Limits) (image : ImageData) (plan : PlanData) (s t : made.Table) (x : Spot) : Type 0 where
+  pub fine : IsFine b image plan t
+  pub keeps : Keeps b image plan s t
+  pub faultless : (k : Key) (p : ℕ) (u : State) → place_of x ≡ point k p → (seen s).cells (point k p) ≡ Some (state u) → IsFaultless b image plan k p u
+  pub settled :
+      (k : Key) (p : ℕ) (u : State) → place_of x ≡ point k p → (seen s).cells (point k p) ≡ Some (state u)
+      → is_queued (get spot_eq t.marks x) ≡ false → AllSettled b image plan t k p u
+
+-- the next place is taken off the list, if there is one
+abbrev pub Opens : Limits → ImageData → PlanData → made.Table → made.Table → Result (Option Spot) Refusal → Type 0
+Opens b image plan s t (Ok None) = IsFine b image plan t × NoneOpen t × (level t ≡ level s) × (t.work.items ≡ [])
+Opens b image plan s t (Ok (Some x)) = IsFine b image plan t × IsOpenAt t x × (level t ≡ level s) × (s.work.items ≡ x ∷ t.work.items)
+Opens b image plan s t (Err e) = Answered b image plan e
+
+-- the least closed assignment: no place has work
+pub record IsDone (g : Ground) (t : made.Table) : Type 0 where
+  pub derived : Derived g.bounds.now g.image.now g.plan.now (seen t).cells
+  pub closed : Closed g.bounds.now g.image.now g.plan.now (seen t).cells
+  pub faultless : AllFaultless g.bounds.now g.image.now g.plan.now (seen t).cells
+  pub counted : IsCountedIn t.cells t.points.items t.frames.items
+
+-- ---- parts of a visit
+-- these duties of the point p of frame k, which has the state u, were joined, as far as the point has no new work
+pub record PaidFor (b : Limits) (image : ImageData) (plan : PlanData) (s t : made.Table) (k : Key) (p : ℕ) (u : State) (ds : List Owed) : Type 0 where
+  pub fine : IsFine b image plan t
+  pub keeps : Keeps b image plan s t
+  pub settled : is_queued (get spot_eq t.marks (spot_of (point k p))) ≡ false → (d : Owed) → Contains ds d → Settled (seen t) k p u d.duty
+
+-- the point owes this duty by its state u, and has no fault of its own
+pub record Owes (b : Limits) (image : ImageData) (plan : PlanData) (k : Key) (p : ℕ) (u : State) (d : Duty) : Type 0 where
+  pub faultless : IsFaultless b image plan k p u
+  pub shape : Shape
+  pub size : ℕ
+  pub code : IsCode image plan p shape size
+  pub owed : Owed
+  pub listed : Contains (duties_of b image plan k p u shape size) owed
+  pub is : owed.duty ≡ d
+
+-- between two joinings of a visit: while the point has no new work it has the state u
+pub record IsVisited (b : Limits) (image : ImageData) (plan : PlanData) (t : made.Table) (k : Key) (p : ℕ) (u : State) : Type 0 where
+  pub fine : IsFine b image plan t
+  pub proper : IsProper b u
+  pub at : is_queued (get spot_eq t.marks (spot_of (point k p))) ≡ false → (seen t).cells (point k p) ≡ Some (state u)
+
+-- ---- by what the code has
+abbrev pub FineOn : Ground → made.Table → Type 0
+FineOn g t = IsFine g.bounds.now g.image.now g.plan.now t
+
+abbrev pub AnsweredOn : Ground → Refusal → Type 0
+AnsweredOn g e = Answered g.bounds.now g.image.now g.plan.now e
+
+abbrev pub AsksOn : Ground → made.Table → Spot → Known → Type 0
+AsksOn g t y v = Asks g.bounds.now g.image.now g.plan.now (seen t).cells (place_of y) v
+
+abbrev pub JoinedOn : Ground → made.Table → made.Table → Spot → Known → Type 0
+JoinedOn g s t y v = Joined g.bounds.now g.image.now g.plan.now s t y v
+
+abbrev pub PaidOn : Ground → made.Table → made.Table → Spot → Type 0
+PaidOn g s t x = Paid g.bounds.now g.image.now g.plan.now s t x
+
+abbrev pub OpensOn : Ground → made.Table → made.Table → Result (Option Spot) Refusal → Type 0
+OpensOn g s t r = Opens g.bounds.now g.image.now g.plan.now s t r
+
+-- a visit is over: no place is open, and nothing was put on the list unless the table rose
+abbrev pub EndsOn : Ground → made.Table → made.Table → Type 0
+EndsOn g s t = FineOn g t × NoneOpen t × Rises s t
+
+-- a turn over the list of work: where some is left the table rose
+abbrev pub TurnsOn : Ground → made.Table → made.Table → Result Bool Refusal → Type 0
+TurnsOn g s t (Ok more) = FineOn g t × NoneOpen t × (more ≡ true → level s < level t) × (more ≡ false → t.work.items ≡ [])
+TurnsOn g s t (Err e) = AnsweredOn g e
+
+-- ---- of a visit
+abbrev pub VisitedBy : Visit → made.Table → Type 0
+VisitedBy v t = IsVisited (v.ground.now).bounds.now (v.ground.now).image.now (v.ground.now).plan.now t v.key v.addr v.state.now
+
+-- the point owes this, all of these
+abbrev pub OwesDuty : Visit → Duty → Type 0
+OwesDuty v d = Owes (v.ground.now).bounds.now (v.ground.now).image.now (v.ground.now).plan.now v.key v.addr v.state.now d
+
+abbrev pub OwesAll : Visit → List Owed → Type 0
+OwesAll v ds = (d : Owed) → Contains ds d → Owes (v.ground.now).bounds.now (v.ground.now).image.now (v.ground.now).plan.now v.key v.addr v.state.now d.duty
+
+abbrev pub PaidBy : Visit → made.Table → made.Table → List Owed → Type 0
+PaidBy v s t ds = PaidFor (v.ground.now).bounds.now (v.ground.now).image.now (v.ground.now).plan.now s t v.key v.addr v.state.now ds
+
+-- an instruction stands at the point, and no rule's own part fails there
+abbrev pub StandsBy : Visit → Located → Type 0
+StandsBy v found = StandsFaultless (v.ground.now).bounds.now (v.ground.now).image.now (v.ground.now).plan.now v.key v.addr v.state.now found
+
+-- what the point owes, part by part
+abbrev pub side_by : Visit → Shape → Bool → Option State
+side_by v shape taken = refine_of (v.ground.now).bounds.now (v.ground.now).plan.now shape v.state.now taken
+
+abbrev pub next_by : Visit → Located → List Owed
+next_by v found = next_of (v.ground.now).bounds.now (v.ground.now).image.now (v.ground.now).plan.now v.addr v.state.now found.shape found.size
+
+abbrev pub successors_by : Visit → Located → List Owed
+successors_by v found = successors_of (v.ground.now).bounds.now (v.ground.now).image.now (v.ground.now).plan.now v.addr v.state.now found.shape found.size
+
+abbrev pub calls_by : Visit → State → ℕ → List ℕ → List Owed
+calls_by v entry back targets = flat_map (λ t. entered_and_back 5 (call_key v.key t) entry back) targets
+
+abbrev pub system_by : Visit → ℕ → ℕ → List Owed
+system_by v tin back = entered_and_back 12 (sys_key (v.ground.now).plan.now v.key) (sys_entry (v.ground.now).plan.now v.key v.state.now tin) back
+
+abbrev pub entries_by : Visit → Shape → ℕ → List Owed
+entries_by v shape size = entries_of (v.ground.now).plan.now v.key v.addr v.state.now shape size
+
+abbrev pub misaligned_by : Visit → Val → ℕ → List Owed
+misaligned_by v at size = misaligned_at (v.ground.now).plan.now v.key v.state.now at size
+
+abbrev pub access_by : Visit → Located → List Owed
+access_by v found = misaligned_of (v.ground.now).bounds.now (v.ground.now).plan.now v.key v.state.now found.shape
+
+abbrev pub interrupts_by : Visit → List Owed
+interrupts_by v = interrupts_of (v.ground.now).plan.now v.key v.state.now
+
+abbrev pub duties_by : Visit → Located → List Owed
+duties_by v found = duties_of (v.ground.now).bounds.now (v.ground.now).image.now (v.ground.now).plan.now v.key v.addr v.state.now found.shape found.size

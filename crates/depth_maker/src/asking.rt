@@ -1,0 +1,143 @@
+// One duty of a point that is visited: what it asks for is joined at its place.
+ghost use Rattle.std.specs.Prelude.{◌≡◌, ℕ, OnOk, IfErr, [], ◌∷◌};
+ghost use Rattle.indexmap.specs.IndexMap.{get};
+ghost use Rattle.vd_transfer.specs.Changes.{changed};
+ghost use Rattle.cfg_recover.specs.Duties.{owed, jump, enter, resume, leave, entered_and_back};
+ghost use Rattle.cfg_recover.specs.Entries.{exit_of};
+ghost use Rattle.depth_maker.specs.declared.places.Spot.TheVariants.{Exit, Point};
+ghost use Rattle.depth_maker.specs.Spots.{spot_eq};
+ghost use Rattle.depth_maker.specs.View.{AnsweredOn, OwesDuty, PaidBy, Reads, VisitedBy, is_queued};
+
+use crate::asked::Asked;
+use crate::cells::any_exit;
+use crate::ground::Visit;
+use crate::places::{Mark, Spot};
+use crate::readers::register;
+use crate::refusals::Refusal;
+use crate::rise::raise;
+use crate::table::Table;
+use depth_cert::Key;
+use std::alloc::Global;
+use vd_transfer::Change;
+
+/// Whether the point is on the list again.
+fn has_work(table: &Table, key: Key, addr: u32) -> bool
+    ensures { result ≡ is_queued (get spot_eq table.now.marks (Point key addr)) }
+{
+    matches!(table.marks.get(&Spot::Point(key, addr)), Some(Mark::Queued))
+}
+
+/// A jump in the frame, with a changed state.
+pub(crate) fn pay_jump(
+    alloc: Global,
+    table: &mut Table,
+    v: &Visit,
+    to: u32,
+    c: &Change,
+) -> Result<(), Refusal>
+    requires visited { VisitedBy v.now table.old }
+    requires owes { OwesDuty v.now (jump to (changed v.now.state.now c.now)) }
+    ensures ok { OnOk result (PaidBy v.now table.old table.new (owed 4 (jump to (changed v.now.state.now c.now)) ∷ [])) }
+    ensures err { IfErr result (AnsweredOn v.now.ground.now) }
+{
+    if has_work(table, v.key, v.addr) {
+        return Ok(());
+    }
+    let asked = Asked::Changed(v.state, c);
+    raise(alloc, v.ground, table, Spot::Point(v.key, to), &asked)
+}
+
+/// An entry of a frame, with a changed state.
+pub(crate) fn pay_enter(
+    alloc: Global,
+    table: &mut Table,
+    v: &Visit,
+    key: Key,
+    c: &Change,
+) -> Result<(), Refusal>
+    requires visited { VisitedBy v.now table.old }
+    requires owes { OwesDuty v.now (enter key (changed v.now.state.now c.now)) }
+    ensures ok { (rule : ℕ) → OnOk result (PaidBy v.now table.old table.new (owed rule (enter key (changed v.now.state.now c.now)) ∷ [])) }
+    ensures err { IfErr result (AnsweredOn v.now.ground.now) }
+{
+    if has_work(table, v.key, v.addr) {
+        return Ok(());
+    }
+    let asked = Asked::Changed(v.state, c);
+    raise(alloc, v.ground, table, Spot::Point(key, key.entry), &asked)
+}
+
+/// The point's frame is left.
+pub(crate) fn pay_leave(alloc: Global, table: &mut Table, v: &Visit) -> Result<(), Refusal>
+    requires visited { VisitedBy v.now table.old }
+    requires owes { OwesDuty v.now (leave (exit_of v.now.state.now)) }
+    ensures ok { (rule : ℕ) → OnOk result (PaidBy v.now table.old table.new (owed rule (leave (exit_of v.now.state.now)) ∷ [])) }
+    ensures err { IfErr result (AnsweredOn v.now.ground.now) }
+{
+    if has_work(table, v.key, v.addr) {
+        return Ok(());
+    }
+    let asked = Asked::Leaving(v.state);
+    raise(alloc, v.ground, table, Spot::Exit(v.key), &asked)
+}
+
+/// Where a frame of this key has an exit, the point's frame goes on at `back`.
+fn pay_back(alloc: Global, table: &mut Table, v: &Visit, key: Key, back: u32) -> Result<(), Refusal>
+    requires visited { VisitedBy v.now table.old }
+    requires told { Reads (get spot_eq table.old.readers (Exit key)) (Point v.now.key v.now.addr) }
+    requires owes { OwesDuty v.now (resume key back) }
+    ensures ok { OnOk result (PaidBy v.now table.old table.new (owed 4 (resume key back) ∷ [])) }
+    ensures err { IfErr result (AnsweredOn v.now.ground.now) }
+{
+    if has_work(table, v.key, v.addr) {
+        return Ok(());
+    }
+    let mut exit = any_exit();
+    let Some(cell) = table.cells.get(&Spot::Exit(key)) else {
+        return Ok(());
+    };
+    cell.read_exit(v.ground.bounds, &mut exit);
+    let asked = Asked::After(v.state, &exit, key.kind);
+    raise(alloc, v.ground, table, Spot::Point(v.key, back), &asked)
+}
+
+/// The point is told of the exit of the frame that it enters, and goes on at `back` where there is one.
+fn pay_resume(
+    alloc: Global,
+    table: &mut Table,
+    v: &Visit,
+    key: Key,
+    back: u32,
+) -> Result<(), Refusal>
+    requires visited { VisitedBy v.now table.old }
+    requires owes { OwesDuty v.now (resume key back) }
+    ensures ok { OnOk result (PaidBy v.now table.old table.new (owed 4 (resume key back) ∷ [])) }
+    ensures err { IfErr result (AnsweredOn v.now.ground.now) }
+{
+    register(
+        alloc,
+        &mut table.readers,
+        Spot::Exit(key),
+        Spot::Point(v.key, v.addr),
+    )?;
+    pay_back(alloc, table, v, key, back)
+}
+
+/// An entry of a frame that may come back.
+pub(crate) fn pay_entry(
+    alloc: Global,
+    table: &mut Table,
+    v: &Visit,
+    key: Key,
+    c: &Change,
+    back: u32,
+) -> Result<(), Refusal>
+    requires visited { VisitedBy v.now table.old }
+    requires enters { OwesDuty v.now (enter key (changed v.now.state.now c.now)) }
+    requires resumes { OwesDuty v.now (resume key back) }
+    ensures ok { (rule : ℕ) → OnOk result (PaidBy v.now table.old table.new (entered_and_back rule key (changed v.now.state.now c.now) back)) }
+    ensures err { IfErr result (AnsweredOn v.now.ground.now) }
+{
+    pay_enter(alloc, table, v, key, c)?;
+    pay_resume(alloc, table, v, key, back)
+}

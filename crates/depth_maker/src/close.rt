@@ -1,0 +1,173 @@
+// The visits of all points that have work.
+ghost use Rattle.std.specs.Prelude.{◌≡◌, ◌↔◌, IsTrue, OnOk, IfOk, IfErr, Some};
+ghost use Rattle.indexmap.specs.IndexMap.{get};
+ghost use Rattle.cfg_recover.specs.Entries as entries;
+ghost use Rattle.depth_maker.specs.declared.places.Mark.TheVariants.{Open};
+ghost use Rattle.depth_maker.specs.declared.places.Spot.TheVariants.{Point};
+ghost use Rattle.depth_maker.specs.Spots.{spot_eq};
+ghost use Rattle.depth_maker.specs.View.{AnsweredOn, EndsOn, FineOn, IsDone, IsOpenAt, NoneOpen, OpensOn, PaidOn, TurnsOn};
+
+use crate::asked::Asked;
+use crate::cells::Cell;
+use crate::ground::{Ground, Visit};
+use crate::paying::pay;
+use crate::places::{Mark, Spot};
+use crate::refusals::Refusal;
+use crate::table::Table;
+use cfg_recover::{start_key, start_state};
+use depth_cert::Key;
+use indexmap::IndexMap;
+use std::alloc::Global;
+use std::collections::VecDeque;
+use value_domain::State;
+use vd_transfer::unchanged;
+
+/// The table of the start alone.
+fn begin(alloc: Global, ground: &Ground) -> Result<Table, Refusal>
+    ensures ok { IfOk result (λ t. FineOn ground.now t × NoneOpen t) }
+    ensures err { IfErr result (AnsweredOn ground.now) }
+{
+    let key = start_key(ground.image, ground.plan);
+    let place = Spot::Point(key, key.entry);
+    let start = start_state(ground.plan);
+    let same = unchanged(&start);
+    let asked = Asked::Changed(&start, &same);
+    let cell = Cell::new(alloc, ground.bounds, &asked)?;
+    let mut cells = IndexMap::new(alloc);
+    let mut marks = IndexMap::new(alloc);
+    let mut work = VecDeque::new(alloc);
+    let mut points = Vec::new(alloc);
+    let mut frames = Vec::new(alloc);
+    points.push(place)?;
+    frames.push(key)?;
+    work.push_back(place)?;
+    marks.insert(place, Mark::Queued)?;
+    cells.insert(place, cell)?;
+    Ok(Table {
+        cells,
+        marks,
+        readers: IndexMap::new(alloc),
+        work,
+        points,
+        frames,
+    })
+}
+
+/// Takes the next place off the list.
+fn open_next(_ground: &Ground, table: &mut Table) -> Result<Option<Spot>, Refusal>
+    requires fine { FineOn _ground.now table.old }
+    requires none { NoneOpen table.old }
+    ensures { OpensOn _ground.now table.old table.new result }
+{
+    match table.work.pop_front() {
+        None => Ok(None),
+        Some(x) => {
+            table.marks.insert(x, Mark::Open)?;
+            Ok(Some(x))
+        }
+    }
+}
+
+/// Whether x is the place that is being visited.
+fn is_open(table: &Table, x: Spot) -> bool
+    ensures { IsTrue result ↔ (get spot_eq table.now.marks x ≡ Some Open) }
+{
+    matches!(table.marks.get(&x), Some(Mark::Open))
+}
+
+/// Joins what a point owes; its state is written over `scratch`.
+fn pay_point(
+    alloc: Global,
+    ground: &Ground,
+    table: &mut Table,
+    scratch: &mut State,
+    key: Key,
+    addr: u32,
+) -> Result<(), Refusal>
+    requires fine { FineOn ground.now table.old }
+    ensures ok { OnOk result (PaidOn ground.now table.old table.new (Point key addr)) }
+    ensures err { IfErr result (AnsweredOn ground.now) }
+{
+    let Some(cell) = table.cells.get(&Spot::Point(key, addr)) else {
+        return Ok(());
+    };
+    cell.read_state(ground.bounds, scratch);
+    let v = Visit {
+        ground,
+        key,
+        addr,
+        state: &*scratch,
+    };
+    pay(alloc, table, &v)
+}
+
+/// Joins what is owed at a place; nothing is at an exit.
+fn pay_place(
+    alloc: Global,
+    ground: &Ground,
+    table: &mut Table,
+    scratch: &mut State,
+    x: Spot,
+) -> Result<(), Refusal>
+    requires fine { FineOn ground.now table.old }
+    ensures ok { OnOk result (PaidOn ground.now table.old table.new x) }
+    ensures err { IfErr result (AnsweredOn ground.now) }
+{
+    match x {
+        Spot::Exit(_) => Ok(()),
+        Spot::Point(key, addr) => pay_point(alloc, ground, table, scratch, key, addr),
+    }
+}
+
+/// Visits one place.
+fn visit(
+    alloc: Global,
+    ground: &Ground,
+    table: &mut Table,
+    scratch: &mut State,
+    x: Spot,
+) -> Result<(), Refusal>
+    requires fine { FineOn ground.now table.old }
+    requires opened { IsOpenAt table.old x }
+    ensures ok { OnOk result (EndsOn ground.now table.old table.new) }
+    ensures err { IfErr result (AnsweredOn ground.now) }
+{
+    pay_place(alloc, ground, table, scratch, x)?;
+    if !is_open(table, x) {
+        return Ok(());
+    }
+    table.marks.insert(x, Mark::Idle)?;
+    Ok(())
+}
+
+/// Visits as many places as are on the list now, and says whether work is left.
+fn turn(
+    alloc: Global,
+    ground: &Ground,
+    table: &mut Table,
+    scratch: &mut State,
+) -> Result<bool, Refusal>
+    requires fine { FineOn ground.now table.old }
+    requires none { NoneOpen table.old }
+    ensures { TurnsOn ground.now table.old table.new result }
+{
+    for _done in 0..table.work.len() {
+        match open_next(ground, table) {
+            Ok(None) => return Ok(false),
+            Ok(Some(x)) => visit(alloc, ground, table, scratch, x)?,
+            Err(refusal) => return Err(refusal),
+        }
+    }
+    Ok(!table.work.is_empty())
+}
+
+/// The least closed assignment, or a fault of a derived one.
+pub(crate) fn close(alloc: Global, ground: &Ground) -> Result<Table, Refusal>
+    ensures ok { IfOk result (IsDone ground.now) }
+    ensures err { IfErr result (AnsweredOn ground.now) }
+{
+    let mut table = begin(alloc, ground)?;
+    let mut scratch = start_state(ground.plan);
+    while turn(alloc, ground, &mut table, &mut scratch)? {}
+    Ok(table)
+}

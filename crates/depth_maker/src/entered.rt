@@ -1,0 +1,90 @@
+// The frames that a point enters.
+ghost use Rattle.std.specs.Prelude.{◌≡◌, ◌++◌, [], ◌∷◌, OnOk, IfOk, map, if◌then◌else◌};
+ghost use Rattle.tc_isa.specs.Bounded.{IsShape};
+ghost use Rattle.cfg_recover.specs.Entries as frames;
+ghost use Rattle.depth_maker.specs.Entered.{entered_in};
+ghost use Rattle.depth_maker.specs.View.{StandsBy, access_by, duties_by, entries_by, interrupts_by};
+
+use crate::entries::{aln_key, sys_key};
+use crate::ground::Visit;
+use cfg_recover::{Located, entered_key, interrupts, irq_key, is_aligned, targets};
+use depth_cert::Key;
+use std::alloc::{AllocError, Global};
+use tc_isa::Shape;
+use tcd_plan::Plan;
+
+fn add_calls(keys: &mut Vec<Key>, key: Key, targets: &[u32]) -> Result<(), AllocError>
+    ensures { OnOk result (keys.new.items ≡ keys.old.items ++ map (frames.call_key key) targets.now) }
+{
+    for t in targets {
+        keys.push(entered_key(&key, 1, *t))?;
+    }
+    Ok(())
+}
+
+fn add_irqs(keys: &mut Vec<Key>, plan: &Plan, irqs: &[u8]) -> Result<(), AllocError>
+    ensures { OnOk result (keys.new.items ≡ keys.old.items ++ map (frames.irq_key plan.now) irqs.now) }
+{
+    for p in irqs {
+        keys.push(irq_key(plan, *p))?;
+    }
+    Ok(())
+}
+
+fn add_entries(keys: &mut Vec<Key>, v: &Visit, found: &Located) -> Result<(), AllocError>
+    requires { IsShape found.now.shape }
+    ensures { OnOk result (keys.new.items ≡ keys.old.items ++ entered_in (entries_by v.now found.now.shape found.now.size)) }
+{
+    match found.shape {
+        Shape::Call { to } => {
+            let targets = targets(v.ground.plan, v.state, v.addr, to);
+            add_calls(keys, v.key, targets.as_slice())
+        }
+        Shape::Syscall { .. } => {
+            keys.push(sys_key(v.ground.plan, v.key))?;
+            Ok(())
+        }
+        _ => Ok(()),
+    }
+}
+
+/// Whether an access of the instruction may be misaligned.
+fn is_misaligned(v: &Visit, found: &Located) -> bool
+    requires { StandsBy v.now found.now }
+    ensures { entered_in (access_by v.now found.now) ≡ (if result then frames.aln_key v.now.ground.now.plan.now v.now.key ∷ [] else []) }
+{
+    match found.shape {
+        Shape::Load { size, .. } => !is_aligned(v.ground.bounds, &found.at, size),
+        Shape::Store { size, .. } => !is_aligned(v.ground.bounds, &found.at, size),
+        _ => false,
+    }
+}
+
+fn add_access(keys: &mut Vec<Key>, v: &Visit, found: &Located) -> Result<(), AllocError>
+    requires { StandsBy v.now found.now }
+    ensures { OnOk result (keys.new.items ≡ keys.old.items ++ entered_in (access_by v.now found.now)) }
+{
+    if is_misaligned(v, found) {
+        keys.push(aln_key(v.ground.plan, v.key))?;
+    }
+    Ok(())
+}
+
+fn add_interrupts(keys: &mut Vec<Key>, v: &Visit) -> Result<(), AllocError>
+    ensures { OnOk result (keys.new.items ≡ keys.old.items ++ entered_in (interrupts_by v.now)) }
+{
+    let irqs = interrupts(v.ground.plan, v.state);
+    add_irqs(keys, v.ground.plan, irqs.as_slice())
+}
+
+/// The frames that the point enters, in the order of its duties.
+pub(crate) fn entered(alloc: Global, v: &Visit, found: &Located) -> Result<Vec<Key>, AllocError>
+    requires { StandsBy v.now found.now }
+    ensures { IfOk result (λ keys. keys.items ≡ entered_in (duties_by v.now found.now)) }
+{
+    let mut keys = Vec::new(alloc);
+    add_entries(&mut keys, v, found)?;
+    add_access(&mut keys, v, found)?;
+    add_interrupts(&mut keys, v)?;
+    Ok(keys)
+}

@@ -1,0 +1,25 @@
+// What a certificate is made for.
+ghost use Rattle.depth_maker.specs.Growth.{IsGround};
+
+use depth_cert::Key;
+use elf_image::Image;
+use tcd_plan::Plan;
+use value_domain::{Bounds, State};
+
+/// An image and a plan, with the limits of values of one version.
+#[derive(Drop)]
+pub(crate) struct Ground<'a> {
+    pub(crate) bounds: &'a Bounds,
+    pub(crate) image: &'a Image,
+    pub(crate) plan: &'a Plan,
+    pub ghost sound: { IsGround bounds.now image.now plan.now },
+}
+
+/// A point that is visited, and its state.
+#[derive(Drop)]
+pub(crate) struct Visit<'a> {
+    pub(crate) ground: &'a Ground<'a>,
+    pub(crate) key: Key,
+    pub(crate) addr: u32,
+    pub(crate) state: &'a State,
+}

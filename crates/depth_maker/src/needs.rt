@@ -1,0 +1,46 @@
+// The least needs of the frames of a closed table.
+ghost use Rattle.std.specs.Prelude.{◌≡◌, ◌≤◌, ◌-◌};
+ghost use Rattle.depth_maker.specs.RowsBy.{IsSource, RowsOn};
+ghost use Rattle.depth_maker.specs.NeedsBy.{NeedsOn};
+
+use crate::refusals::Refusal;
+use crate::rows::{Source, rows};
+use call_needs::{Row, least_needs};
+use depth_cert::Key;
+use std::alloc::Global;
+use tcd_plan::Plan;
+
+/// The areas without the reserve.
+pub(crate) fn usable(plan: &Plan) -> u32
+    ensures areas { result ≡ plan.now.areas - plan.now.reserve }
+    ensures few { result ≤ 4096 }
+{
+    plan.areas - plan.reserve
+}
+
+/// The least needs that meet these rows, which are all of the table.
+fn needs_by(
+    alloc: Global,
+    source: &Source,
+    rows: &[Row],
+    frames: &[Key],
+) -> Result<Option<Vec<u32>>, Refusal>
+    requires source { IsSource source.now }
+    requires rows { RowsOn source.now.ground.now source.now.table.now rows.now }
+    requires frames { frames.now ≡ source.now.table.now.frames.items }
+    ensures { NeedsOn source.now result }
+{
+    let cap = usable(source.ground.plan);
+    let needs = least_needs(alloc, frames.len(), rows, cap)?;
+    Ok(needs)
+}
+
+/// The least needs of the frames, by their numbers; `None` where the start needs more than the areas without the reserve.
+pub(crate) fn frame_needs(alloc: Global, source: &Source) -> Result<Option<Vec<u32>>, Refusal>
+    requires { IsSource source.now }
+    ensures { NeedsOn source.now result }
+{
+    let rows = rows(alloc, source)?;
+    let frames = source.table.frames.as_slice();
+    needs_by(alloc, source, rows.as_slice(), frames)
+}

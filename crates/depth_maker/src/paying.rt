@@ -1,0 +1,64 @@
+// A visit: all that a point owes is joined, in the order in which its duties are listed.
+ghost use Rattle.std.specs.Prelude.{◌≡◌, OnOk, IfErr, Some};
+ghost use Rattle.cfg_recover.specs.Assignments.{point, state};
+ghost use Rattle.cfg_recover.specs.Duties.{leavings_of};
+ghost use Rattle.depth_maker.specs.declared.places.Spot.TheVariants.{Point};
+ghost use Rattle.depth_maker.specs.View.{seen, AnsweredOn, OwesAll, PaidBy, PaidOn, StandsBy, VisitedBy, duties_by};
+
+use crate::asking::pay_leave;
+use crate::entries::{pay_access, pay_entries, pay_interrupts};
+use crate::ground::Visit;
+use crate::places::Spot;
+use crate::refusals::Refusal;
+use crate::successors::pay_successors;
+use crate::table::Table;
+use cfg_recover::{Located, local_check};
+use std::alloc::Global;
+use tc_isa::Shape;
+
+/// The frame is left by RET, or by RFE of a system call's handler.
+fn pay_leavings(alloc: Global, table: &mut Table, v: &Visit, shape: Shape) -> Result<(), Refusal>
+    requires visited { VisitedBy v.now table.old }
+    requires owes { OwesAll v.now (leavings_of v.now.key v.now.state.now shape) }
+    ensures ok { OnOk result (PaidBy v.now table.old table.new (leavings_of v.now.key v.now.state.now shape)) }
+    ensures err { IfErr result (AnsweredOn v.now.ground.now) }
+{
+    match shape {
+        Shape::Ret => pay_leave(alloc, table, v),
+        Shape::Rfe => {
+            if v.key.kind == 3 {
+                return pay_leave(alloc, table, v);
+            }
+            Ok(())
+        }
+        _ => Ok(()),
+    }
+}
+
+/// All that the point owes, by what stands there.
+fn pay_duties(alloc: Global, table: &mut Table, v: &Visit, found: &Located) -> Result<(), Refusal>
+    requires visited { VisitedBy v.now table.old }
+    requires found { StandsBy v.now found.now }
+    ensures ok { OnOk result (PaidBy v.now table.old table.new (duties_by v.now found.now)) }
+    ensures err { IfErr result (AnsweredOn v.now.ground.now) }
+{
+    pay_successors(alloc, table, v, found)?;
+    pay_entries(alloc, table, v, found.shape, found.size)?;
+    pay_access(alloc, table, v, found)?;
+    pay_interrupts(alloc, table, v)?;
+    pay_leavings(alloc, table, v, found.shape)
+}
+
+/// Joins what the point owes, or some of it where it has work again.
+pub(crate) fn pay(alloc: Global, table: &mut Table, v: &Visit) -> Result<(), Refusal>
+    requires visited { VisitedBy v.now table.old }
+    requires at { (seen table.old).cells (point v.now.key v.now.addr) ≡ Some (state v.now.state.now) }
+    ensures ok { OnOk result (PaidOn v.now.ground.now table.old table.new (Point v.now.key v.now.addr)) }
+    ensures err { IfErr result (AnsweredOn v.now.ground.now) }
+{
+    let g = v.ground;
+    match local_check(g.bounds, g.image, g.plan, &v.key, v.addr, v.state) {
+        Ok(found) => pay_duties(alloc, table, v, &found),
+        Err(rule) => Err(Refusal::Fault(rule, Spot::Point(v.key, v.addr))),
+    }
+}

@@ -1,0 +1,166 @@
+// The first point that enters a frame from which its own is reached again.
+ghost use Rattle.std.specs.Prelude.{◌≡◌, ◌↔◌, IsTrue, IfOk, Some, map};
+ghost use Rattle.depth_cert.specs.Keys.{number_of_key};
+ghost use Rattle.call_needs.specs.Reaching.{IsFirstRecurring};
+ghost use Rattle.depth_maker.specs.Recursing.{EdgesOn, EntersMarked, IsAddressIn, IsFirstMarked, IsFirstWith, IsRecursion, orders_in};
+ghost use Rattle.depth_maker.specs.RowsBy.{IsSource};
+ghost use Rattle.depth_maker.specs.declared.places.Spot.TheVariants.{Point};
+
+use crate::places::Spot;
+use crate::rows::{Source, point_row, rows};
+use call_needs::{Edge, edges_of, first_recurring, has_marked, reaching};
+use cfg_recover::start_state;
+use depth_cert::{Key, number_of};
+use std::alloc::{AllocError, Global};
+
+/// Whether the point enters a marked frame.
+fn enters_marked(
+    alloc: Global,
+    source: &Source,
+    marks: &[bool],
+    key: Key,
+    addr: u32,
+) -> Result<bool, AllocError>
+    requires { IsSource source.now }
+    ensures { IfOk result (λ enters. IsTrue enters ↔ EntersMarked source.now marks.now key addr) }
+{
+    let mut scratch = start_state(source.ground.plan);
+    match point_row(alloc, source, &mut scratch, key, addr) {
+        Ok(Some(row)) => Ok(has_marked(marks, row.into.as_slice())),
+        Ok(None) => Ok(false),
+        Err(_) => Err(AllocError),
+    }
+}
+
+/// The address of a place in the frame.
+fn address_in(key: Key, place: Spot) -> Option<u32>
+    ensures { IsAddressIn key place result }
+{
+    let Spot::Point(other, addr) = place else {
+        return None;
+    };
+    if other == key { Some(addr) } else { None }
+}
+
+/// The first address with this one more, where `first` is that of some places.
+fn address_with(
+    alloc: Global,
+    source: &Source,
+    marks: &[bool],
+    key: Key,
+    addr: u32,
+    first: Option<u32>,
+) -> Result<Option<u32>, AllocError>
+    requires { IsSource source.now }
+    ensures { IfOk result (IsFirstWith source.now marks.now key (Point key addr) first) }
+{
+    if let Some(other) = first {
+        if other <= addr {
+            return Ok(Some(other));
+        }
+    }
+    if enters_marked(alloc, source, marks, key, addr)? {
+        Ok(Some(addr))
+    } else {
+        Ok(first)
+    }
+}
+
+/// The same with one more place, whichever it is.
+fn place_with(
+    alloc: Global,
+    source: &Source,
+    marks: &[bool],
+    key: Key,
+    place: Spot,
+    first: Option<u32>,
+) -> Result<Option<u32>, AllocError>
+    requires { IsSource source.now }
+    ensures { IfOk result (IsFirstWith source.now marks.now key place first) }
+{
+    match address_in(key, place) {
+        None => Ok(first),
+        Some(addr) => address_with(alloc, source, marks, key, addr, first),
+    }
+}
+
+/// The first address of the frame at which a marked frame is entered.
+fn first_address(
+    alloc: Global,
+    source: &Source,
+    marks: &[bool],
+    key: Key,
+    points: &[Spot],
+) -> Result<Option<u32>, AllocError>
+    requires { IsSource source.now }
+    ensures { IfOk result (IsFirstMarked source.now marks.now key points.now) }
+{
+    let mut first = None;
+    for place in points {
+        first = place_with(alloc, source, marks, key, *place, first)?;
+    }
+    Ok(first)
+}
+
+/// The first point of the first frame that recurs.
+fn recursion_in(
+    alloc: Global,
+    source: &Source,
+    edges: &[Edge],
+    frames: &[Key],
+    node: usize,
+) -> Result<Option<(Key, u32)>, AllocError>
+    requires source { IsSource source.now }
+    requires frames { frames.now ≡ source.now.table.now.frames.items }
+    requires edges { EdgesOn source.now edges.now }
+    requires first { IsFirstRecurring (orders_in source.now) edges.now (Some node) }
+    ensures { IfOk result (IsRecursion source.now) }
+{
+    let marks = reaching(alloc, frames.len(), edges, node)?;
+    let key = frames[node];
+    let points = source.table.points.as_slice();
+    match first_address(alloc, source, marks.as_slice(), key, points)? {
+        Some(addr) => Ok(Some((key, addr))),
+        None => Ok(None),
+    }
+}
+
+/// The numbers by which the frames are ordered.
+fn orders_of(alloc: Global, frames: &[Key]) -> Result<Vec<u64>, AllocError>
+    ensures { IfOk result (λ orders. orders.items ≡ map number_of_key frames.now) }
+{
+    frames.iter().map(|key| number_of(key)).collect(alloc)
+}
+
+/// The first point that recurs, by the entries of frames from each other.
+fn recursion_by(
+    alloc: Global,
+    source: &Source,
+    edges: &[Edge],
+    frames: &[Key],
+) -> Result<Option<(Key, u32)>, AllocError>
+    requires source { IsSource source.now }
+    requires frames { frames.now ≡ source.now.table.now.frames.items }
+    requires edges { EdgesOn source.now edges.now }
+    ensures { IfOk result (IsRecursion source.now) }
+{
+    let orders = orders_of(alloc, frames)?;
+    match first_recurring(alloc, orders.as_slice(), edges)? {
+        None => Ok(None),
+        Some(node) => recursion_in(alloc, source, edges, frames, node),
+    }
+}
+
+/// The first point, by key and address, that enters a frame from which its own is reached again;
+/// `None` where no point does.
+pub(crate) fn recursion(alloc: Global, source: &Source) -> Result<Option<(Key, u32)>, AllocError>
+    requires { IsSource source.now }
+    ensures { IfOk result (IsRecursion source.now) }
+{
+    let Ok(rows) = rows(alloc, source) else {
+        return Err(AllocError);
+    };
+    let edges = edges_of(alloc, rows.as_slice())?;
+    let frames = source.table.frames.as_slice();
+    recursion_by(alloc, source, edges.as_slice(), frames)
+}

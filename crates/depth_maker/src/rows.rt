@@ -1,0 +1,150 @@
+// The rows of all points: which frames each enters, by numbers, and with how many locals.
+ghost use Rattle.std.specs.Prelude.{◌≡◌, List, Contains, IfOk, OnOk, map};
+ghost use Rattle.depth_cert.specs.declared.keys.Key as keys;
+ghost use Rattle.depth_maker.specs.Growth.{IsProper};
+ghost use Rattle.depth_maker.specs.Numbers.{AreNumbers, number_in};
+ghost use Rattle.depth_maker.specs.View.{StandsBy};
+ghost use Rattle.depth_maker.specs.RowsBy.{AddsRow, AllKnownBy, FaultlessBy, IsRowBy, IsSource, PointHasRow, RowsOn};
+
+use crate::entered::entered;
+use crate::ground::{Ground, Visit};
+use crate::numbers::number_of;
+use crate::places::Spot;
+use crate::refusals::Refusal;
+use crate::table::Table;
+use call_needs::Row;
+use cfg_recover::{Located, local_check, start_state};
+use depth_cert::Key;
+use indexmap::IndexMap;
+use std::alloc::{AllocError, Global};
+use value_domain::State;
+
+/// The numbers of these frames.
+fn numbers_of(
+    alloc: Global,
+    numbers: &IndexMap<Key, usize>,
+    entered: &[Key],
+) -> Result<Vec<usize>, AllocError>
+    ensures { IfOk result (λ into. (frames : List keys.Key) → AreNumbers numbers.now frames frames
+        → ((k : keys.Key) → Contains entered.now k → Contains frames k)
+        → into.items ≡ map (number_in frames) entered.now) }
+{
+    let mut into = Vec::new(alloc);
+    for key in entered {
+        into.push(number_of(numbers, *key))?;
+    }
+    Ok(into)
+}
+
+/// The row of a point, by what stands there.
+fn row_with(
+    alloc: Global,
+    v: &Visit,
+    numbers: &IndexMap<Key, usize>,
+    found: &Located,
+) -> Result<Row, AllocError>
+    requires found { StandsBy v.now found.now }
+    requires proper { IsProper v.now.ground.now.bounds.now v.now.state.now }
+    ensures { IfOk result (λ row. (frames : List keys.Key) → AreNumbers numbers.now frames frames
+        → AllKnownBy v.now frames → IsRowBy v.now frames row) }
+{
+    let keys = entered(alloc, v, found)?;
+    let into = numbers_of(alloc, numbers, keys.as_slice())?;
+    Ok(Row {
+        node: number_of(numbers, v.key),
+        held: v.state.locals.len() as u8,
+        into,
+    })
+}
+
+/// The row of a point without a fault of its own.
+fn row_at(alloc: Global, v: &Visit, numbers: &IndexMap<Key, usize>) -> Result<Row, Refusal>
+    requires local_check { FaultlessBy v.now }
+    requires proper { IsProper v.now.ground.now.bounds.now v.now.state.now }
+    ensures { IfOk result (λ row. (frames : List keys.Key) → AreNumbers numbers.now frames frames
+        → AllKnownBy v.now frames → IsRowBy v.now frames row) }
+{
+    let g = v.ground;
+    match local_check(g.bounds, g.image, g.plan, &v.key, v.addr, v.state) {
+        Ok(found) => Ok(row_with(alloc, v, numbers, &found)?),
+        Err(_) => Err(Refusal::NoMemory),
+    }
+}
+
+/// What rows are made from: a table without work, and the numbers of its frames.
+#[derive(Drop)]
+pub(crate) struct Source<'a> {
+    pub(crate) ground: &'a Ground<'a>,
+    pub(crate) table: &'a Table,
+    pub(crate) numbers: &'a IndexMap<Key, usize>,
+}
+
+/// The row of a point, or `None` where nothing is known there; its state is written over `scratch`.
+pub(crate) fn point_row(
+    alloc: Global,
+    source: &Source,
+    scratch: &mut State,
+    key: Key,
+    addr: u32,
+) -> Result<Option<Row>, Refusal>
+    requires { IsSource source.now }
+    ensures { PointHasRow source.now key addr result }
+{
+    let Some(cell) = source.table.cells.get(&Spot::Point(key, addr)) else {
+        return Ok(None);
+    };
+    cell.read_state(source.ground.bounds, scratch);
+    let v = Visit {
+        ground: source.ground,
+        key,
+        addr,
+        state: &*scratch,
+    };
+    let row = row_at(alloc, &v, source.numbers)?;
+    Ok(Some(row))
+}
+
+/// Adds the row of a place, if it is a point that is known.
+fn add_row(
+    alloc: Global,
+    source: &Source,
+    rows: &mut Vec<Row>,
+    scratch: &mut State,
+    place: Spot,
+) -> Result<(), Refusal>
+    requires { IsSource source.now }
+    ensures { OnOk result (AddsRow source.now rows.old.items rows.new.items place) }
+{
+    let Spot::Point(key, addr) = place else {
+        return Ok(());
+    };
+    match point_row(alloc, source, scratch, key, addr)? {
+        None => Ok(()),
+        Some(row) => {
+            rows.push(row)?;
+            Ok(())
+        }
+    }
+}
+
+/// The rows of these points, which are all of the table.
+fn rows_of(alloc: Global, source: &Source, points: &[Spot]) -> Result<Vec<Row>, Refusal>
+    requires source { IsSource source.now }
+    requires points { points.now ≡ source.now.table.now.points.items }
+    ensures { IfOk result (λ rows. RowsOn source.now.ground.now source.now.table.now rows.items) }
+{
+    let mut rows = Vec::new(alloc);
+    let mut scratch = start_state(source.ground.plan);
+    for p in points {
+        add_row(alloc, source, &mut rows, &mut scratch, *p)?;
+    }
+    Ok(rows)
+}
+
+/// The rows of all points.
+pub(crate) fn rows(alloc: Global, source: &Source) -> Result<Vec<Row>, Refusal>
+    requires { IsSource source.now }
+    ensures { IfOk result (λ rows. RowsOn source.now.ground.now source.now.table.now rows.items) }
+{
+    rows_of(alloc, source, source.table.points.as_slice())
+}

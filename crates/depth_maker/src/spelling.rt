@@ -1,0 +1,177 @@
+// The certificate of a table, written point by point.
+ghost use Rattle.std.specs.Prelude.{◌≡◌, ◌<◌, ◌^◌, ◌⊎◌, OnOk, IfOk, IsSome};
+ghost use Rattle.cfg_recover.specs.Assignments.{point};
+ghost use Rattle.depth_maker.specs.RowsAt.{need_by};
+ghost use Rattle.depth_maker.specs.RowsBy.{IsSource};
+ghost use Rattle.depth_maker.specs.Spelled.{AreFrames, AreKnown, IsFrameOf, IsOfVersion, IsOrdered, IsSpelledOn, NeedsAre, WritesCert, WritesExit, WritesNode, WritesNodes, WritesPoint, WritesPoints, known_on};
+
+use crate::cells::any_exit;
+use crate::numbers::number_of;
+use crate::ordering::{address_at, frames_in_order, points_in_order, points_of};
+use crate::places::Spot;
+use crate::rows::Source;
+use cfg_recover::start_state;
+use depth_cert::{Key, put_u16, write_exit, write_key, write_state};
+use std::alloc::Global;
+use tcd_base::{NoMemory, put_u32};
+use value_domain::State;
+
+/// A byte is below 256.
+fn is_byte(_byte: u8)
+    ensures { _byte < 2 ^ 8 }
+{}
+
+/// Adds a point: its address and its state, which is written over `scratch`.
+fn write_point(
+    out: &mut Vec<u8>,
+    source: &Source,
+    scratch: &mut State,
+    key: Key,
+    addr: u32,
+) -> Result<(), NoMemory>
+    requires source { IsSource source.now }
+    requires known { IsSome (known_on source.now (point key addr)) }
+    ensures { OnOk result (WritesPoint source.now key addr out.old.items out.new.items) }
+{
+    let Some(cell) = source.table.cells.get(&Spot::Point(key, addr)) else {
+        return Ok(());
+    };
+    cell.read_state(source.ground.bounds, scratch);
+    is_byte(scratch.ccpn);
+    put_u32(out, addr)?;
+    write_state(out, scratch)?;
+    Ok(())
+}
+
+/// Adds these points of a frame.
+fn write_points(
+    out: &mut Vec<u8>,
+    source: &Source,
+    scratch: &mut State,
+    key: Key,
+    points: &[Spot],
+) -> Result<(), NoMemory>
+    requires source { IsSource source.now }
+    requires known { AreKnown source.now key points.now }
+    ensures { OnOk result (WritesPoints source.now key points.now out.old.items out.new.items) }
+{
+    for p in points {
+        write_point(out, source, scratch, key, address_at(p))?;
+    }
+    Ok(())
+}
+
+/// Adds the exit of a frame, if one is known.
+fn write_exit_of(out: &mut Vec<u8>, source: &Source, key: Key) -> Result<(), NoMemory>
+    requires source { IsSource source.now }
+    ensures { OnOk result (WritesExit source.now key out.old.items out.new.items) }
+{
+    let Some(cell) = source.table.cells.get(&Spot::Exit(key)) else {
+        write_exit(out, &None)?;
+        return Ok(());
+    };
+    let mut exit = any_exit();
+    cell.read_exit(source.ground.bounds, &mut exit);
+    is_byte(exit.ccpn);
+    write_exit(out, &Some(exit))?;
+    Ok(())
+}
+
+/// The need of a frame, by its number.
+fn need_at(source: &Source, needs: &[u32], key: Key) -> u16
+    requires source { IsSource source.now }
+    requires needs { NeedsAre source.now needs.now }
+    requires key { IsFrameOf source.now key }
+    ensures { result ≡ need_by (source.now.table.now).frames.items needs.now key }
+{
+    let number = number_of(source.numbers, key);
+    match needs.get(number) {
+        Some(need) => *need as u16,
+        None => 0,
+    }
+}
+
+/// What a certificate is written from: the table, the needs of its frames, and its points in order.
+#[derive(Drop)]
+pub(crate) struct Ordered<'a> {
+    pub(crate) source: &'a Source<'a>,
+    pub(crate) needs: &'a [u32],
+    pub(crate) points: &'a [Spot],
+}
+
+/// Adds the node of a frame.
+fn write_frame(
+    out: &mut Vec<u8>,
+    ordered: &Ordered,
+    scratch: &mut State,
+    key: Key,
+) -> Result<(), NoMemory>
+    requires ordered { IsOrdered ordered.now }
+    requires key { IsFrameOf ordered.now.source.now key }
+    ensures { OnOk result (WritesNode ordered.now key out.old.items out.new.items) }
+{
+    let source = ordered.source;
+    let points = points_of(ordered.points, key);
+    write_key(out, &key)?;
+    put_u16(out, need_at(source, ordered.needs, key))?;
+    write_exit_of(out, source, key)?;
+    put_u32(out, points.len() as u32)?;
+    write_points(out, source, scratch, key, points)?;
+    Ok(())
+}
+
+/// Adds the nodes of these frames.
+fn write_frames(
+    out: &mut Vec<u8>,
+    ordered: &Ordered,
+    scratch: &mut State,
+    frames: &[Key],
+) -> Result<(), NoMemory>
+    requires ordered { IsOrdered ordered.now }
+    requires frames { AreFrames ordered.now frames.now }
+    ensures { OnOk result (WritesNodes ordered.now frames.now out.old.items out.new.items) }
+{
+    for k in frames {
+        write_frame(out, ordered, scratch, *k)?;
+    }
+    Ok(())
+}
+
+/// The certificate of these frames, which are in order.
+fn spell(alloc: Global, ordered: &Ordered, version: u8, frames: &[Key]) -> Result<Vec<u8>, NoMemory>
+    requires ordered { IsOrdered ordered.now }
+    requires frames { AreFrames ordered.now frames.now }
+    ensures { IfOk result (λ out. WritesCert ordered.now version frames.now out.items) }
+{
+    let mut out = Vec::new(alloc);
+    let mut scratch = start_state(ordered.source.ground.plan);
+    put_u32(&mut out, 0x4344_4354)?;
+    put_u16(&mut out, u16::from(version))?;
+    put_u16(&mut out, frames.len() as u16)?;
+    write_frames(&mut out, ordered, &mut scratch, frames)?;
+    Ok(out)
+}
+
+/// The bytes of the certificate that the table, without work, and the least needs of its frames give.
+pub(crate) fn spelled(
+    alloc: Global,
+    source: &Source,
+    version: u8,
+    needs: &[u32],
+) -> Result<Vec<u8>, NoMemory>
+    requires source { IsSource source.now }
+    requires known { (version ≡ 1) ⊎ (version ≡ 2) }
+    requires limits { IsOfVersion source.now version }
+    requires needs { NeedsAre source.now needs.now }
+    ensures { IfOk result (λ out. IsSpelledOn source.now version out.items) }
+{
+    let frames = frames_in_order(alloc, source.table.frames.as_slice())?;
+    let points = points_in_order(alloc, source.table.points.as_slice())?;
+    let ordered = Ordered {
+        source,
+        needs,
+        points: points.as_slice(),
+    };
+    let out = spell(alloc, &ordered, version, frames.as_slice())?;
+    Ok(out)
+}

@@ -1,0 +1,125 @@
+// The jumps of a point in its frame.
+ghost use Rattle.std.specs.Prelude.{◌≡◌, OnOk, IfErr, [], ◌++◌, unwrap_or, false, true};
+ghost use Rattle.tc_isa.specs.Bounded.{IsShape, IsTarget};
+ghost use Rattle.cfg_recover.specs.Local.{targets_of};
+ghost use Rattle.cfg_recover.specs.Duties.{jumps_to, jump_on};
+ghost use Rattle.depth_maker.specs.View.{AnsweredOn, OwesAll, PaidBy, StandsBy, VisitedBy, next_by, side_by, successors_by};
+
+use crate::asking::pay_jump;
+use crate::ground::Visit;
+use crate::refusals::Refusal;
+use crate::table::Table;
+use cfg_recover::{Located, loaded_from, targets};
+use std::alloc::Global;
+use tc_isa::{Shape, Target};
+use vd_transfer::{change_of, change_on, unchanged};
+
+/// A jump on a side of a branch, if that side is possible.
+fn pay_side(
+    alloc: Global,
+    table: &mut Table,
+    v: &Visit,
+    shape: Shape,
+    taken: bool,
+    to: u32,
+) -> Result<(), Refusal>
+    requires visited { VisitedBy v.now table.old }
+    requires shape { IsShape shape }
+    requires owes { OwesAll v.now (jump_on to (side_by v.now shape taken)) }
+    ensures ok { OnOk result (PaidBy v.now table.old table.new (jump_on to (side_by v.now shape taken))) }
+    ensures err { IfErr result (AnsweredOn v.now.ground.now) }
+{
+    match change_on(v.ground.bounds, v.ground.plan, shape, v.state, taken) {
+        Some(c) => pay_jump(alloc, table, v, to, &c),
+        None => Ok(()),
+    }
+}
+
+/// Both sides of a branch.
+fn pay_sides(
+    alloc: Global,
+    table: &mut Table,
+    v: &Visit,
+    shape: Shape,
+    next: u32,
+    to: u32,
+) -> Result<(), Refusal>
+    requires visited { VisitedBy v.now table.old }
+    requires shape { IsShape shape }
+    requires owes { OwesAll v.now (jump_on next (side_by v.now shape false) ++ jump_on to (side_by v.now shape true)) }
+    ensures ok { OnOk result (PaidBy v.now table.old table.new (jump_on next (side_by v.now shape false) ++ jump_on to (side_by v.now shape true))) }
+    ensures err { IfErr result (AnsweredOn v.now.ground.now) }
+{
+    pay_side(alloc, table, v, shape, false, next)?;
+    pay_side(alloc, table, v, shape, true, to)
+}
+
+/// A jump to each of these addresses, with the state as it is.
+fn pay_jumps(alloc: Global, table: &mut Table, v: &Visit, targets: &[u32]) -> Result<(), Refusal>
+    requires visited { VisitedBy v.now table.old }
+    requires owes { OwesAll v.now (jumps_to v.now.state.now targets.now) }
+    ensures ok { OnOk result (PaidBy v.now table.old table.new (jumps_to v.now.state.now targets.now)) }
+    ensures err { IfErr result (AnsweredOn v.now.ground.now) }
+{
+    let same = unchanged(v.state);
+    for t in targets {
+        pay_jump(alloc, table, v, *t, &same)?;
+    }
+    Ok(())
+}
+
+/// A jump with the state as it is.
+fn pay_targets(alloc: Global, table: &mut Table, v: &Visit, to: Target) -> Result<(), Refusal>
+    requires visited { VisitedBy v.now table.old }
+    requires target { IsTarget to }
+    requires owes { OwesAll v.now
+        (jumps_to v.now.state.now
+        (unwrap_or (targets_of v.now.ground.now.plan.now v.now.state.now v.now.addr to) [])) }
+    ensures ok { OnOk result (PaidBy v.now table.old table.new
+        (jumps_to v.now.state.now
+        (unwrap_or (targets_of v.now.ground.now.plan.now v.now.state.now v.now.addr to) []))) }
+    ensures err { IfErr result (AnsweredOn v.now.ground.now) }
+{
+    let targets = targets(v.ground.plan, v.state, v.addr, to);
+    pay_jumps(alloc, table, v, targets.as_slice())
+}
+
+/// The step to the next instruction.
+fn pay_step(alloc: Global, table: &mut Table, v: &Visit, found: &Located) -> Result<(), Refusal>
+    requires visited { VisitedBy v.now table.old }
+    requires found { StandsBy v.now found.now }
+    requires owes { OwesAll v.now (next_by v.now found.now) }
+    ensures ok { OnOk result (PaidBy v.now table.old table.new (next_by v.now found.now)) }
+    ensures err { IfErr result (AnsweredOn v.now.ground.now) }
+{
+    let g = v.ground;
+    let value = loaded_from(g.bounds, g.image, g.plan, found.shape, &found.at);
+    let c = change_of(g.bounds, g.plan, found.shape, v.state, value);
+    pay_jump(alloc, table, v, v.addr.wrapping_add(found.size), &c)
+}
+
+/// The successors in the same frame, without those after a call or a system call.
+pub(crate) fn pay_successors(
+    alloc: Global,
+    table: &mut Table,
+    v: &Visit,
+    found: &Located,
+) -> Result<(), Refusal>
+    requires visited { VisitedBy v.now table.old }
+    requires found { StandsBy v.now found.now }
+    requires owes { OwesAll v.now (successors_by v.now found.now) }
+    ensures ok { OnOk result (PaidBy v.now table.old table.new (successors_by v.now found.now)) }
+    ensures err { IfErr result (AnsweredOn v.now.ground.now) }
+{
+    let next = v.addr.wrapping_add(found.size);
+    let shape = found.shape;
+    match shape {
+        Shape::Branch { by, .. } => {
+            pay_sides(alloc, table, v, shape, next, v.addr.wrapping_add(by))
+        }
+        Shape::Jump { to } => pay_targets(alloc, table, v, to),
+        Shape::Call { .. } | Shape::Ret | Shape::Rfe | Shape::Syscall { .. } | Shape::Mtcr { .. } =>
+            Ok(()),
+        _ => pay_step(alloc, table, v, found),
+    }
+}

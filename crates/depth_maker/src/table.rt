@@ -1,0 +1,18 @@
+// The table: what is known, which places have work, who reads which exit, the list of work, and what is counted.
+use crate::cells::Cell;
+use crate::places::{Mark, Spot};
+use depth_cert::Key;
+use indexmap::IndexMap;
+use std::collections::VecDeque;
+
+/// What is known at each place, with the list of the places that have work. `points` has each point that is known, and
+/// `frames` each frame that has one, in the order in which they came.
+#[derive(Drop)]
+pub(crate) struct Table {
+    pub(crate) cells: IndexMap<Spot, Cell>,
+    pub(crate) marks: IndexMap<Spot, Mark>,
+    pub(crate) readers: IndexMap<Spot, Vec<Spot>>,
+    pub(crate) work: VecDeque<Spot>,
+    pub(crate) points: Vec<Spot>,
+    pub(crate) frames: Vec<Key>,
+}

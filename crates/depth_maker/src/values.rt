@@ -1,0 +1,60 @@
+// Lists of values in little room: made from what duties ask for, compared with it, joined with it.
+ghost use Rattle.std.specs.Prelude.{◌≡◌, ◌↔◌, IsTrue, IfOk, length};
+ghost use Rattle.value_domain.specs.State.{AreBelow, AreValues, AreWell, joined_regs};
+ghost use Rattle.depth_maker.specs.Kept.{values_asked};
+
+use crate::asked::{Asked, asked_value, count_asked};
+use small_states::Small;
+use std::alloc::{AllocError, Global};
+use value_domain::{Bounds, Val};
+
+/// The values that are asked for.
+pub(crate) fn packed(alloc: Global, asked: &Asked) -> Result<Vec<Small>, AllocError>
+    ensures { IfOk result (λ values. values.items ≡ values_asked asked.now) }
+{
+    let any = Val::any();
+    let count = count_asked(asked);
+    let mut values = Vec::with_capacity(alloc, count)?;
+    for i in 0..count {
+        let value = Small::of(alloc, asked_value(&*asked, &any, i))?;
+        values.push(value)?;
+    }
+    Ok(values)
+}
+
+/// Whether each value that is asked for is below the one at its place.
+pub(crate) fn are_covered(upper: &[Small], asked: &Asked) -> bool
+    requires upper { AreWell upper.now }
+    requires asked { AreWell (values_asked asked.now) }
+    requires long { length upper.now ≡ length (values_asked asked.now) }
+    ensures { IsTrue result ↔ AreBelow (values_asked asked.now) upper.now }
+{
+    let any = Val::any();
+    for i in 0..upper.len() {
+        if !upper[i].covers(asked_value(&*asked, &any, i)) {
+            return false;
+        }
+    }
+    true
+}
+
+/// The least values that hold those at each place and those that are asked for there.
+pub(crate) fn joined(
+    alloc: Global,
+    b: &Bounds,
+    left: &[Small],
+    asked: &Asked,
+) -> Result<Vec<Small>, AllocError>
+    requires left { AreValues b.now left.now }
+    requires asked { AreValues b.now (values_asked asked.now) }
+    requires long { length left.now ≡ length (values_asked asked.now) }
+    ensures { IfOk result (λ values. values.items ≡ joined_regs b.now left.now (values_asked asked.now)) }
+{
+    let any = Val::any();
+    let mut values = Vec::with_capacity(alloc, left.len())?;
+    for i in 0..left.len() {
+        let value = left[i].join(alloc, b, asked_value(&*asked, &any, i))?;
+        values.push(value)?;
+    }
+    Ok(values)
+}
