@@ -12,5 +12,6 @@ pub mod KeepingLaws
 pub mod LineForms
 pub mod ReadLaws
 pub mod FaultLaws
+pub mod GrowthLaws
 pub mod PlainWords
 pub mod ReadOne

@@ -1,6 +1,7 @@
 // What holds of plans with cells.
 ghost use Rattle.value_cells.specs.Beside.{StepsBeside};
 ghost use Rattle.value_cells.specs.Cells.{CellsMakeAPlan};
+ghost use Rattle.value_cells.specs.Growing.{CellFaultsGrow, CellFaultsRefute, LesserKeepsCells};
 ghost use Rattle.value_cells.specs.Laws.{RamIsWithoutCells, EachCellStays, ReadsOne};
 ghost use Rattle.value_cells.specs.Safe.{CellsKeepTheirBounds};
 
@@ -19,4 +20,12 @@ pub fn cells_in_words()
     ensures ram { RamIsWithoutCells }
     ensures stays { EachCellStays }
     ensures one { ReadsOne }
+{}
+
+/// The faults of rule 16 grow with what a certificate says, so that a lesser one keeps the cells where a greater one does; and
+/// one of them is enough to break the rule.
+pub fn faults_of_cells()
+    ensures grow { CellFaultsGrow }
+    ensures lesser { LesserKeepsCells }
+    ensures refute { CellFaultsRefute }
 {}

@@ -13,5 +13,5 @@ mod plans;
 pub use cells::{Cell, Cells};
 pub use errors::CellsErr;
 pub use faults::cells_fault;
-pub use laws::{cells_in_words, cells_keep_their_bounds};
+pub use laws::{cells_in_words, cells_keep_their_bounds, faults_of_cells};
 pub use plans::with_cells;
