@@ -1,13 +1,13 @@
 -- A task's first turn: its two contexts come back, and its view starts.
-use Rattle.std.proofs.Common.{◌≡◌, ◌≢◌, ℕ, zero, suc, ◌+◌, ◌-◌, ◌*◌, ◌/◌, ◌%◌, ◌^◌, ◌<◌, ◌≤◌, ◌⊎◌, inl, inr, Bool, true, false, not, cond, List, [], ◌∷◌, ◌++◌, length, get_or, Some, Ok, refl, sym, ap, ◌∙◌, subst, arith, ◌==◌}
+use Rattle.std.proofs.Common.{◌≡◌, ◌≢◌, ℕ, zero, suc, ◌+◌, ◌-◌, ◌*◌, ◌/◌, ◌%◌, ◌^◌, ◌<◌, ◌≤◌, inl, inr, Bool, true, false, not, List, [], ◌∷◌, length, get_or, Some, Ok, refl, sym, ap, ◌∙◌, subst, arith, ◌==◌}
 use Rattle.std.proofs.lemmas.Bool.{cases_lt}
 use Rattle.std.specs.FinMap as finite
 use Rattle.csa_chain.specs.Memory.{Memory, is_mapped, with_words}
 use Rattle.csa_chain.specs.MemoryChanges.{HasBytes}
 use Rattle.csa_chain.specs.Chain.{link_in, link_address, is_area, area_word}
 use Rattle.csa_chain.specs.Contexts.{pcxi_word_of, ul_of, with_link}
-use Rattle.csa_chain.specs.SeveralChains.{times, sum_below, with_chain, with_first}
-use Rattle.csa_chain.proofs.ChainLaws.{Links, SameArea, SameAreas, area_word_same, SameArea-written, SameAreas-written}
+use Rattle.csa_chain.specs.SeveralChains.{times, with_chain, with_first}
+use Rattle.csa_chain.proofs.ChainLaws.{Links, SameAreas, area_word_same, SameArea-written, SameAreas-written}
 use Rattle.csa_chain.proofs.ContextLaws.{ul_of-pcxi_word, link_in-with_link, with_link-lt, link_in-lt}
 use Rattle.csa_chain.proofs.MemoryLaws.{is_mapped-with_words}
 use Rattle.csa_chain.proofs.SeveralLaws.{cond_same, cond_other, sum_below-at, times-first, owned_avoids, Share-restored, restored_links, restored_free}
@@ -33,7 +33,7 @@ use Rattle.tc_machine.specs.Stepping.{is_taken, step}
 use Rattle.tc_machine.specs.PlanAreas.{first_link, plan_areas}
 use Rattle.tc_machine.specs.Safe.{IsMachine, HasGlobals, Fits, Starts}
 use Rattle.tc_mem.specs.PlanMemory.{HoldsRom, IsPlanMemory}
-use Rattle.tc_machine.proofs.Areas.{Areas, Areas-start}
+use Rattle.tc_machine.proofs.Areas.{Areas-start}
 use Rattle.tc_machine.proofs.Kept.{none_when_off}
 use Rattle.tc_machine.proofs.Saves.{restore-is, then_-running}
 use Rattle.tc_machine.proofs.Stays.{stays_step, irq_lt}
@@ -42,26 +42,25 @@ use Rattle.cfg_recover.proofs.EntryLaws.{reg_lt}
 use Rattle.cfg_recover.proofs.Points.{does-rslcx}
 use Rattle.cfg_recover.specs.Code.{IsCode}
 use Rattle.depth_cert.specs.Certs.{CertData}
-use Rattle.task_chains.specs.Tasks.{TasksData, AreTasks, count, task_at, block_size, routine_size}
+use Rattle.task_chains.specs.Tasks.{TasksData, AreTasks, count, task_at}
 use Rattle.task_chains.specs.Routine.{HasRoutine}
 use Rattle.task_chains.specs.Views.{view_image_of, view_plan_of}
-use Rattle.task_chains.specs.Starting.{block_word, current, upper_area, lower_area, IsReady}
-use Rattle.task_chains.specs.Safe.{IsInRoutine}
+use Rattle.task_chains.specs.Starting.{current, upper_area, lower_area, IsReady}
 use Rattle.task_chains.proofs.Alike.{seen_as, area_at, outside_area}
 use Rattle.task_chains.proofs.Backs.{restored_end}
 use Rattle.task_chains.proofs.Coming.{areas_same}
 use Rattle.task_chains.proofs.Going.{Goes}
-use Rattle.task_chains.proofs.Invariant.{ViewOf, Turn, runs, begins, AllKept}
+use Rattle.task_chains.proofs.Invariant.{Turn, runs, begins, AllKept}
 use Rattle.task_chains.proofs.Joined.{World, block_same, kept, view_few, view_ok, all_from}
 use Rattle.task_chains.proofs.Outside.{fetched_code}
 use Rattle.task_chains.proofs.RoutineCode.{code_15, code_16, code_17, some_view_code}
-use Rattle.task_chains.proofs.Switch.{Paused, Shared}
+use Rattle.task_chains.proofs.Switch.{Shared}
 use Rattle.task_chains.proofs.Turning.{routine_fits}
 use Rattle.task_chains.proofs.Twins.{SameContexts, areas_once}
 use Rattle.task_chains.proofs.ViewBegins.{Begun, view_begins}
 use Rattle.task_chains.proofs.ViewEvents.{IsKept}
 use Rattle.task_chains.proofs.ViewImage.{view_byte_outside}
-use Rattle.task_chains.proofs.ViewRun.{HasCore, ViewRun, ViewRun-start, ViewRun-start-first, view_point, view_enters}
+use Rattle.task_chains.proofs.ViewRun.{HasCore, ViewRun-start, ViewRun-start-first, view_point, view_enters}
 use Rattle.task_chains.proofs.ViewStart.{IsViewStart, view_memory, view_starts}
 
 -- ---- a view's bytes are bytes

@@ -1,12 +1,11 @@
 -- The switch itself, and the instructions after it: the contexts of the task that comes back.
-use Rattle.std.proofs.Common.{◌≡◌, ◌≢◌, ℕ, zero, suc, ◌+◌, ◌-◌, ◌*◌, ◌/◌, ◌%◌, ◌^◌, ◌<◌, ◌≤◌, ◌⊎◌, inl, inr, Bool, true, false, cond, List, [], ◌∷◌, length, get_or, Some, Ok, Result, refl, sym, ap, ◌∙◌, subst, arith}
+use Rattle.std.proofs.Common.{◌≡◌, ◌≢◌, ℕ, suc, ◌+◌, ◌*◌, ◌/◌, ◌<◌, inl, inr, Bool, true, false, cond, List, [], ◌∷◌, length, get_or, Ok, Result, refl, sym, ap, ◌∙◌, subst, arith}
 use Rattle.std.proofs.lemmas.Bool.{cases_eq}
 use Rattle.std.specs.FinMap as finite
 use Rattle.csa_chain.specs.Memory.{Memory, is_mapped}
 use Rattle.csa_chain.specs.Chain.{link_in}
 use Rattle.csa_chain.proofs.ChainLaws.{Links, SameAreas}
 use Rattle.elf_image.specs.Images.{ImageData}
-use Rattle.tcd_base.specs.Ranges.{IsInOne}
 use Rattle.tcd_plan.specs.PlanData.{PlanData}
 use Rattle.tcd_plan.specs.Regions.{IsInAreas, AnswersLoad}
 use Rattle.tc_isa.specs.declared.shapes.Shape.{Shape}
@@ -21,7 +20,6 @@ use Rattle.tc_machine.specs.Fetching.{fetched}
 use Rattle.tc_machine.specs.Instructions.{does}
 use Rattle.tc_machine.specs.Stepping.{is_taken, load_in, step}
 use Rattle.tc_machine.specs.Safe.{IsMachine, HasGlobals, Fits}
-use Rattle.tc_mem.specs.PlanMemory.{HoldsRom, IsPlanMemory}
 use Rattle.tc_machine.proofs.Areas.{Areas}
 use Rattle.tc_machine.proofs.Kept.{none_when_off}
 use Rattle.tc_machine.proofs.Saves.{then_-running}
@@ -29,12 +27,12 @@ use Rattle.tc_machine.proofs.Stays.{stays_step, irq_lt}
 use Rattle.tc_machine.proofs.Steps.{with_event, done-is, step_does, does-nothing, does-ret}
 use Rattle.depth_cert.specs.Certs.{CertData}
 use Rattle.cfg_recover.specs.Code.{IsCode}
-use Rattle.cfg_recover.specs.Frames.{Standing, Way, to, ret, irq, way_by, way_in, frames_left, frames_by, frames_after, size_in}
+use Rattle.cfg_recover.specs.Frames.{Standing, to, ret, irq, way_by, way_in, frames_left, frames_by, frames_after, size_in}
 use Rattle.cfg_recover.proofs.EntryLaws.{reg_lt}
 use Rattle.cfg_recover.proofs.Points.{does-rslcx}
-use Rattle.task_chains.specs.Tasks.{TasksData, count, block_size, routine_size}
+use Rattle.task_chains.specs.Tasks.{TasksData, count}
 use Rattle.task_chains.specs.Views.{view_image_of, view_plan_of}
-use Rattle.task_chains.specs.Starting.{block_word, current, upper_area, lower_area}
+use Rattle.task_chains.specs.Starting.{block_word, current}
 use Rattle.task_chains.specs.Safe.{IsInRoutine}
 use Rattle.task_chains.proofs.Alike.{seen_as, Alike}
 use Rattle.task_chains.proofs.Backs.{restores_from, restored_end, Alike-restored}
@@ -43,7 +41,7 @@ use Rattle.task_chains.proofs.FramesKept.{AreFirst, AreFirst-left}
 use Rattle.task_chains.proofs.Going.{Goes, code_to, first_stays}
 use Rattle.task_chains.proofs.Invariant.{after, ViewOf, Waits, ready, paused, Turn, runs, comes_back, begins, InRoutine, AllKept}
 use Rattle.task_chains.proofs.Joined.{World, block_same, kept, view_few, view_ok, all_from}
-use Rattle.task_chains.proofs.Outside.{fetched_code, dead≢running, done_runs, back_runs}
+use Rattle.task_chains.proofs.Outside.{fetched_code, done_runs, back_runs}
 use Rattle.task_chains.proofs.RoutineCode.{code_14, code_15, code_16, code_17, view_code_14, view_code_15, view_code_16, view_code_17}
 use Rattle.task_chains.proofs.Switch.{Paused, Shared, Twins-from, Shared-from, Beside, SameLower, SameGlobals, does-mtcr_pcxi, lower_back, view_comes_back, switched_back}
 use Rattle.task_chains.proofs.Switch.{comes_back as restore_stands}

@@ -1,5 +1,5 @@
 -- A step that isn't MTCR leaves LCX, BIV, BTV, ISP and the layout of PCXI.
-use Rattle.std.proofs.Common.{◌≡◌, ℕ, ◌+◌, ◌*◌, ◌/◌, ◌^◌, Bool, true, false, cond, inl, inr, Ok, set, refl, sym, ap, ◌∙◌, subst, bit_or, ◌==◌}
+use Rattle.std.proofs.Common.{◌≡◌, ℕ, ◌*◌, ◌/◌, ◌^◌, Bool, true, false, cond, inl, inr, Ok, set, refl, sym, subst, bit_or, ◌==◌}
 use Rattle.std.proofs.lemmas.Bool.{cond_both, cases_Bool}
 use Rattle.csa_chain.specs.Chain.{link_in, is_area}
 use Rattle.csa_chain.specs.Contexts.{pie_of, pcpn_of}
@@ -11,7 +11,7 @@ use Rattle.tc_machine.specs.declared.events.End.{End}
 use Rattle.tc_machine.specs.declared.events.End.TheVariants.{Running, Dead}
 use Rattle.tc_machine.specs.declared.events.Event.{Event}
 use Rattle.tc_machine.specs.declared.state.Machine.{Machine}
-use Rattle.tc_machine.specs.Machine.{reg, a11, moved, advanced, died, goes_on, then_, with_status}
+use Rattle.tc_machine.specs.Machine.{a11, moved, advanced, died, goes_on, then_, with_status}
 use Rattle.tc_machine.specs.Contexts.{has_kind, saved, save, restored, restore}
 use Rattle.tc_machine.specs.Fetching.{fetched}
 use Rattle.tc_machine.specs.Instructions.{access_address, traps_at, at_handler, interrupt, trap, target_of, does}
@@ -19,7 +19,6 @@ use Rattle.tc_machine.specs.Stepping.{is_taken, executed, done, step}
 use Rattle.tc_machine.proofs.Steps.{done-is, does-call, does-ret}
 use Rattle.vd_transfer.specs.Holding.{WritesNoFixedRegister}
 use Rattle.cfg_recover.proofs.Points.{does-rfe, does-svlcx, does-rslcx, does-bisr, does-syscall, does-trapped}
-use Rattle.cfg_recover.proofs.Went.{changed}
 use Rattle.task_chains.proofs.Leveling.{StoresNothing}
 use Rattle.task_chains.proofs.Plain.{Plainly, plain-compute, plain-scaled, plain-mfcr, plain-enable, plain-disable, plain-nothing, plain-jump, plain-branch, plain-load, plain-store}
 

@@ -1,9 +1,9 @@
 -- An event of all tasks where the running one is outside of the routine, or about to enter it.
-use Rattle.std.proofs.Common.{◌≡◌, ◌≢◌, ℕ, zero, suc, ◌+◌, ◌-◌, ◌*◌, ◌/◌, ◌%◌, ◌^◌, ◌<◌, ◌≤◌, ◌⊎◌, inl, inr, Bool, true, false, cond, List, [], ◌∷◌, length, Some, None, Ok, Result, refl, sym, ap, ◌∙◌, subst, arith}
+use Rattle.std.proofs.Common.{◌≡◌, ◌≢◌, ℕ, ◌+◌, ◌-◌, ◌*◌, ◌%◌, ◌^◌, ◌<◌, ◌≤◌, inl, inr, true, false, cond, List, ◌∷◌, Some, None, Ok, Result, refl, sym, ap, ◌∙◌, subst, arith}
 use Rattle.std.proofs.lemmas.Bool.{cases_lt, cases_Bool}
-use Rattle.csa_chain.specs.Memory.{Memory, with_bytes}
+use Rattle.csa_chain.specs.Memory.{Memory}
 use Rattle.elf_image.specs.Images.{ImageData, image_byte}
-use Rattle.tcd_plan.specs.PlanData.{PlanData, IsPlan}
+use Rattle.tcd_plan.specs.PlanData.{PlanData}
 use Rattle.tcd_plan.specs.Regions.{IsInAreas, IsStoreInRange}
 use Rattle.tcd_plan.proofs.ApartLaws.{rom_fits}
 use Rattle.tc_isa.specs.declared.shapes.Shape.{Shape}
@@ -26,11 +26,10 @@ use Rattle.tc_machine.proofs.Steps.{with_event, done-is, step_does, stored-is}
 use Rattle.cfg_recover.proofs.Points.{does-svlcx}
 use Rattle.task_chains.proofs.CoreKept.{save_place}
 use Rattle.value_domain.specs.Limits.{Limits}
-use Rattle.value_domain.specs.declared.states.State.{State}
 use Rattle.depth_cert.specs.Certs.{CertData}
 use Rattle.cfg_recover.specs.Accepting.{limits_in}
 use Rattle.cfg_recover.specs.Code.{IsCode}
-use Rattle.cfg_recover.specs.Frames.{Standing, Way, to, irq, way_by, way_in, frames_left, frames_by, frames_after, size_in}
+use Rattle.cfg_recover.specs.Frames.{Standing, to, irq, way_by, way_in, frames_left, frames_by, frames_after, size_in}
 use Rattle.cfg_recover.proofs.CodeLaws.{IsCode-bounded, IsCode-one, IsCode-sized}
 use Rattle.task_chains.specs.Tasks.{TasksData, count, routine_size}
 use Rattle.task_chains.specs.Views.{view_image_of, view_plan_of}
@@ -38,9 +37,9 @@ use Rattle.task_chains.specs.Starting.{block_word, current}
 use Rattle.task_chains.specs.Safe.{IsInRoutine, IsTaskStore}
 use Rattle.task_chains.proofs.Alike.{seen_as, Alike}
 use Rattle.task_chains.proofs.FramesKept.{AreFirst, AreFirst-left, first_next, first_interrupt}
-use Rattle.task_chains.proofs.Invariant.{ViewOf, Turn, runs, switches, InRoutine, AllKept}
-use Rattle.task_chains.proofs.Joined.{World, in_or_out, block_same, kept, view_few, view_ok, twins, both, runs_too, own_room, room_for_all, view_after, paused_after, all_after}
-use Rattle.task_chains.proofs.Outside.{Both, AtPoint, input_for, event_for, HasCodeOf, same_code, fetched_code, StoreIs, Rooms, dead≢running, done_runs, interrupt_step, outside_step}
+use Rattle.task_chains.proofs.Invariant.{ViewOf, Turn, runs, switches, AllKept}
+use Rattle.task_chains.proofs.Joined.{World, in_or_out, block_same, kept, view_few, view_ok, both, runs_too, own_room, room_for_all, view_after, paused_after, all_after}
+use Rattle.task_chains.proofs.Outside.{Both, AtPoint, event_for, HasCodeOf, same_code, fetched_code, StoreIs, dead≢running, done_runs, interrupt_step, outside_step}
 use Rattle.task_chains.proofs.Plain.{address-same}
 use Rattle.task_chains.proofs.Reached.{PointOf}
 use Rattle.task_chains.proofs.RoutineCode.{view_code_0, view_code_1, first_bytes}
@@ -48,7 +47,7 @@ use Rattle.task_chains.proofs.Switch.{Paused}
 use Rattle.task_chains.proofs.ViewEvents.{IsKept, size_some, fits_interrupt, view_fits, view_store_gone, store_keeps}
 use Rattle.task_chains.proofs.ViewImage.{view_byte_outside}
 use Rattle.task_chains.proofs.ViewPlan.{view_store}
-use Rattle.task_chains.proofs.ViewRun.{ViewRun, NextRun, view_point, view_out_of_routine, view_enters, view_ccpn, view_fetched, view_at_point, view_run_interrupt, view_run_step}
+use Rattle.task_chains.proofs.ViewRun.{NextRun, view_point, view_out_of_routine, view_enters, view_fetched, view_at_point, view_run_interrupt, view_run_step}
 
 -- all tasks are kept, whoever owns PCXI
 pub record Goes (image : ImageData) (plan : PlanData) (tasks : TasksData) (needs : ℕ → ℕ) (m : Machine) : Type 0 where

@@ -1,36 +1,35 @@
 -- One event of the running task: what its view's run and the alike states of both say of all tasks.
-use Rattle.std.proofs.Common.{◌≡◌, ◌≢◌, ℕ, zero, suc, ◌+◌, ◌-◌, ◌*◌, ◌/◌, ◌%◌, ◌^◌, ◌<◌, ◌≤◌, ◌⊎◌, inl, inr, Bool, true, false, cond, List, [], ◌∷◌, ◌++◌, length, map, Some, Ok, Result, refl, sym, ap, ◌∙◌, subst, arith, All}
-use Rattle.std.proofs.lemmas.Bool.{cases_eq, cases_lt, cases_Bool}
+use Rattle.std.proofs.Common.{◌≡◌, ◌≢◌, ℕ, ◌+◌, ◌-◌, ◌*◌, ◌<◌, ◌≤◌, ◌⊎◌, inl, inr, Bool, List, [], ◌∷◌, ◌++◌, length, map, sym, ap, ◌∙◌, subst, arith}
+use Rattle.std.proofs.lemmas.Bool.{cases_eq, cases_lt}
 use Rattle.std.specs.FinMap as finite
-use Rattle.csa_chain.specs.Memory.{Memory, is_mapped, with_bytes}
+use Rattle.csa_chain.specs.Memory.{Memory, is_mapped}
 use Rattle.csa_chain.proofs.ChainLaws.{SameAreas}
 use Rattle.csa_chain.proofs.MemoryLaws.{word_at_agrees}
 use Rattle.csa_chain.specs.SeveralChains.{sum_below}
 use Rattle.csa_chain.proofs.SeveralLaws.{sum_below-at}
-use Rattle.elf_image.specs.Images.{ImageData, image_byte}
+use Rattle.elf_image.specs.Images.{ImageData}
 use Rattle.tcd_base.specs.Ranges.{IsInOne}
 use Rattle.tcd_base.proofs.RangeLaws.{in_one, IsInOne-front, IsInOne-behind}
 use Rattle.tcd_plan.specs.PlanData.{PlanData, IsPlan, areas_range}
-use Rattle.tcd_plan.specs.Regions.{IsInAreas, IsStoreInRange}
+use Rattle.tcd_plan.specs.Regions.{IsInAreas}
 use Rattle.tcd_plan.proofs.ApartLaws.{all_apart-before, rom_apart}
 use Rattle.tc_machine.specs.declared.events.Event.{Event}
 use Rattle.tc_machine.specs.declared.events.End.TheVariants.{Running}
 use Rattle.tc_machine.specs.declared.state.Machine.{Machine}
 use Rattle.tc_machine.specs.Contexts.{save, saved}
-use Rattle.tc_machine.specs.Stepping.{is_taken, step}
+use Rattle.tc_machine.specs.Stepping.{step}
 use Rattle.tc_machine.specs.Safe.{IsMachine, HasGlobals, Fits}
-use Rattle.tc_mem.specs.PlanMemory.{HoldsRom, IsPlanMemory}
 use Rattle.tc_machine.proofs.Stays.{stays_step, irq_lt}
 use Rattle.depth_cert.specs.Certs.{CertData}
 use Rattle.cfg_recover.specs.Accepting.{certified_need}
 use Rattle.task_chains.specs.Tasks.{TasksData, AreTasks, count, block_size, routine_size}
 use Rattle.task_chains.specs.Routine.{HasRoutine}
 use Rattle.task_chains.specs.Views.{view_image_of, view_plan_of, FitPlan}
-use Rattle.task_chains.specs.Starting.{block_word, current}
+use Rattle.task_chains.specs.Starting.{block_word}
 use Rattle.task_chains.specs.Safe.{IsInRoutine, IsJudged}
 use Rattle.task_chains.proofs.Alike.{seen_as, Alike}
 use Rattle.task_chains.proofs.Fitting.{fitting}
-use Rattle.task_chains.proofs.Invariant.{after, ViewOf, Waits, Turn, AllKept}
+use Rattle.task_chains.proofs.Invariant.{ViewOf, Waits, Turn, AllKept}
 use Rattle.task_chains.proofs.Outside.{Both}
 use Rattle.task_chains.proofs.Switch.{Paused, Shared, Twins-from, Shared-from}
 use Rattle.task_chains.proofs.Twins.{Twins, SameContexts-length}

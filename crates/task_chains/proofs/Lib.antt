@@ -34,3 +34,16 @@ pub mod Turning
 pub mod Coming
 pub mod Beginning
 pub mod Together
+pub mod LineForms
+pub mod DraftLaws
+pub mod DeviceLaws
+pub mod ReadingLaws
+pub mod RoutineBytes
+pub mod MissLaws
+pub mod ViewBytes
+pub mod FaultLaws
+pub mod ApartLaws
+pub mod GrowthLaws
+pub mod GuardLaws
+pub mod ViewParts
+pub mod ReadOne

@@ -34,8 +34,6 @@ use Rattle.tc_machine.proofs.Areas.{HasFree, has_free}
 use Rattle.tc_machine.proofs.Fetched.{fetched-is}
 use Rattle.value_domain.specs.declared.states.State.{State}
 use Rattle.value_domain.specs.Limits.{Limits}
-use Rattle.value_domain.specs.Values.{IsMember}
-use Rattle.vd_transfer.specs.Effects.{address_of}
 use Rattle.vd_transfer.specs.Holding.{WritesNoFixedRegister}
 use Rattle.cfg_recover.specs.Code.{IsCode}
 use Rattle.cfg_recover.specs.Moves.{traps}

@@ -1,11 +1,11 @@
 -- All tasks at the start, after every event, and what is safe then.
-use Rattle.std.proofs.Common.{◌≡◌, ◌≢◌, ℕ, zero, suc, ◌+◌, ◌-◌, ◌*◌, ◌/◌, ◌%◌, ◌^◌, ◌<◌, ◌≤◌, ◌⊎◌, inl, inr, Bool, true, false, ◌||◌, cond, max, List, [], ◌∷◌, length, Some, None, Ok, refl, sym, ap, ◌∙◌, subst, arith, ◌==◌}
+use Rattle.std.proofs.Common.{◌≡◌, ◌≢◌, ℕ, zero, suc, ◌+◌, ◌-◌, ◌*◌, ◌<◌, ◌≤◌, ◌⊎◌, inl, inr, Bool, true, false, ◌||◌, cond, max, List, [], ◌∷◌, length, refl, sym, ap, ◌∙◌, subst, arith, ◌==◌}
 use Rattle.std.proofs.lemmas.Bool.{cases_eq, cond_both, eq-eqb, ne_eqb}
 use Rattle.std.specs.Prelude.{IfSome}
 use Rattle.csa_chain.specs.SeveralChains.{sum_below}
 use Rattle.csa_chain.proofs.SeveralLaws.{cond_same, cond_other}
 use Rattle.elf_image.specs.Images.{ImageData}
-use Rattle.tcd_plan.specs.PlanData.{PlanData, IsPlan}
+use Rattle.tcd_plan.specs.PlanData.{PlanData}
 use Rattle.tc_machine.specs.declared.events.Event.{Event}
 use Rattle.tc_machine.specs.declared.state.Machine.{Machine}
 use Rattle.tc_machine.specs.PlanAreas.{first_link}
@@ -14,20 +14,20 @@ use Rattle.tc_machine.specs.Safe.{Starts, Fits, AllFit}
 use Rattle.tc_machine.proofs.PlanLaws.{link_lt}
 use Rattle.depth_cert.specs.Certs.{CertData}
 use Rattle.cfg_recover.specs.Accepting.{certified_need}
-use Rattle.task_chains.specs.Tasks.{TasksData, count, task_at, routine_size}
+use Rattle.task_chains.specs.Tasks.{TasksData, count}
 use Rattle.task_chains.specs.Views.{view_image_of, view_plan_of}
 use Rattle.task_chains.specs.Starting.{block_word, current, upper_area, lower_area, held_at_start, IsReady, TasksStart}
-use Rattle.task_chains.specs.Safe.{before, owner, chain_word, IsInRoutine, IsTaskStore, AreSafeAt, need_of_task, IsJudged, TasksAreSafe}
+use Rattle.task_chains.specs.Safe.{before, owner, IsTaskStore, AreSafeAt, need_of_task, TasksAreSafe}
 use Rattle.task_chains.proofs.Alike.{seen_as}
 use Rattle.task_chains.proofs.Beginning.{start_memory, start_is, start_turn, begins_on, begins_lower, begins_home}
 use Rattle.task_chains.proofs.Coming.{goes_switch, comes_on, comes_lower, comes_home}
 use Rattle.task_chains.proofs.Going.{Goes, goes_runs, goes_saves, goes_store}
-use Rattle.task_chains.proofs.Invariant.{after, Waits, ready, Turn, runs, switches, comes_back, begins, InRoutine, AllKept}
+use Rattle.task_chains.proofs.Invariant.{after, ready, Turn, runs, switches, comes_back, begins, InRoutine, AllKept}
 use Rattle.task_chains.proofs.Joined.{World, in_or_out}
 use Rattle.task_chains.proofs.RoutineCode.{code_15, code_16, code_17}
 use Rattle.task_chains.proofs.SharedSafe.{areas_shared}
 use Rattle.task_chains.proofs.StartShared.{start_word, start_chain, start_shared}
-use Rattle.task_chains.proofs.Turning.{after_below, goes_turning, no_store, turning_store}
+use Rattle.task_chains.proofs.Turning.{goes_turning, no_store, turning_store}
 
 -- ---- the owner
 place_test : (x y : ℕ) → x ≢ y + 48 → x ≢ y + 52 → x ≢ y + 56 → (x == y + 48 || x == y + 52 || x == y + 56) ≡ false

@@ -1,5 +1,5 @@
 -- The routine's instructions up to the one that gives PCXI to the next task: the view goes along.
-use Rattle.std.proofs.Common.{◌≡◌, ◌≢◌, ℕ, zero, suc, ◌+◌, ◌-◌, ◌*◌, ◌/◌, ◌%◌, ◌^◌, ◌<◌, ◌≤◌, ◌⊎◌, inl, inr, Bool, true, false, cond, List, [], ◌∷◌, ◌++◌, length, map, Some, None, Ok, Result, refl, sym, ap, ◌∙◌, subst, arith, ◌==◌}
+use Rattle.std.proofs.Common.{◌≡◌, ◌≢◌, ℕ, zero, suc, ◌+◌, ◌*◌, ◌%◌, ◌^◌, ◌<◌, ◌≤◌, inl, inr, true, false, cond, List, [], ◌∷◌, ◌++◌, length, map, Some, None, Ok, Result, refl, sym, ap, ◌∙◌, subst, arith}
 use Rattle.std.proofs.lemmas.Bool.{cases_lt, cases_eq}
 use Rattle.std.specs.FinMap as finite
 use Rattle.csa_chain.specs.Memory.{Memory, is_mapped, loaded, with_bytes}
@@ -9,7 +9,7 @@ use Rattle.elf_image.specs.Images.{ImageData}
 use Rattle.tcd_base.specs.declared.types.Range.{Range}
 use Rattle.tcd_base.specs.Ranges.{IsInOne}
 use Rattle.tcd_base.proofs.RangeLaws.{IsInOne-front}
-use Rattle.tcd_plan.specs.PlanData.{PlanData, IsPlan, areas_range}
+use Rattle.tcd_plan.specs.PlanData.{PlanData, areas_range}
 use Rattle.tcd_plan.specs.Regions.{IsInAreas, IsStoreInRange, AnswersLoad}
 use Rattle.tcd_plan.proofs.ApartLaws.{IsInOne-fits, all_apart-before, rom_fits}
 use Rattle.tc_isa.specs.Arithmetic.{sign_extended}
@@ -20,7 +20,6 @@ use Rattle.tc_isa.specs.declared.shapes.Shape.{Shape}
 use Rattle.tc_isa.specs.declared.shapes.Shape.TheVariants.{Compute, Scaled, Load, Store, Branch, Mfcr, Nothing}
 use Rattle.tc_machine.specs.declared.events.Cause.{Cause}
 use Rattle.tc_machine.specs.declared.events.Event.{Event}
-use Rattle.tc_machine.specs.declared.events.End.TheVariants.{Running}
 use Rattle.tc_machine.specs.declared.state.Machine.{Machine}
 use Rattle.tc_machine.specs.Machine.{reg, moved}
 use Rattle.tc_machine.specs.Fetching.{fetched}
@@ -29,21 +28,21 @@ use Rattle.std.specs.Prelude.{IfSome}
 use Rattle.tc_machine.specs.Stepping.{is_taken, load_in, store_in, stored, step}
 use Rattle.tc_machine.specs.Safe.{Fits}
 use Rattle.tc_machine.proofs.Kept.{none_when_off}
-use Rattle.tc_machine.proofs.Steps.{with_event, step_does, stored-is}
+use Rattle.tc_machine.proofs.Steps.{step_does, stored-is}
 use Rattle.task_chains.specs.Safe.{IsInRoutine, IsTaskStore}
 use Rattle.tc_machine.proofs.Words.{load_lt}
 use Rattle.depth_cert.specs.Certs.{CertData}
 use Rattle.cfg_recover.specs.Code.{IsCode}
 use Rattle.cfg_recover.specs.Frames.{to, way_by}
 use Rattle.cfg_recover.proofs.Writes.{store_keeps_areas}
-use Rattle.task_chains.specs.Tasks.{TasksData, count, block_size, routine_size}
+use Rattle.task_chains.specs.Tasks.{TasksData, count, block_size}
 use Rattle.task_chains.specs.Routine.{hi, lo}
 use Rattle.task_chains.specs.Views.{view_image_of, view_plan_of}
 use Rattle.task_chains.specs.Starting.{block_word}
 use Rattle.task_chains.proofs.Alike.{seen_as, Alike}
 use Rattle.task_chains.proofs.Going.{Goes, code_to, first_stays}
 use Rattle.task_chains.proofs.Invariant.{after, ViewOf, switches, InRoutine, AllKept}
-use Rattle.task_chains.proofs.Joined.{World, block_in_ram, view_few, view_ok, twins, runs_too, view_after, paused_after, all_after}
+use Rattle.task_chains.proofs.Joined.{World, block_in_ram, view_few, view_ok, twins, view_after, paused_after, all_after}
 use Rattle.task_chains.proofs.Outside.{fetched_code}
 use Rattle.task_chains.proofs.Plain.{Plainly, plain-compute, plain-scaled, plain-branch, Alike-plain}
 use Rattle.task_chains.proofs.RoutineCode.{code_1, code_14, code_2, code_3, code_4, code_5, code_6, code_7, code_8, code_9, code_10, code_11, code_12, code_13, view_code_2, view_code_3, view_code_4, view_code_5, view_code_6, view_code_7, view_code_8, view_code_9, view_code_10, view_code_11, view_code_12, view_code_13}

@@ -1,7 +1,6 @@
 -- The run of a view: the frames that it stands in, what its point says, and one event more.
-use Rattle.std.proofs.Common.{◌≡◌, ◌≢◌, ℕ, zero, suc, ◌+◌, ◌-◌, ◌*◌, ◌/◌, ◌%◌, ◌^◌, ◌<◌, ◌≤◌, ◌⊎◌, inl, inr, Bool, true, false, not, ◌&&◌, ◌==◌, cond, List, [], ◌∷◌, length, get_or, Option, Some, None, Ok, Result, refl, sym, ap, ◌∙◌, subst, arith}
+use Rattle.std.proofs.Common.{◌≡◌, ℕ, ◌+◌, ◌-◌, ◌*◌, ◌%◌, ◌^◌, ◌<◌, ◌≤◌, inl, inr, Bool, true, false, not, ◌&&◌, ◌==◌, cond, List, [], ◌∷◌, length, get_or, Some, None, Ok, refl, sym, ap, ◌∙◌, subst, arith}
 use Rattle.std.specs.Prelude.{IfSome}
-use Rattle.csa_chain.specs.Memory.{Memory, with_bytes}
 use Rattle.csa_chain.specs.Chain.{link_in}
 use Rattle.csa_chain.proofs.ChainLaws.{Links, Links-unique}
 use Rattle.csa_chain.specs.SeveralChains.{sum_below}
@@ -17,8 +16,8 @@ use Rattle.tc_machine.specs.declared.state.Machine.{Machine}
 use Rattle.tc_machine.specs.Machine.{reg}
 use Rattle.tc_machine.specs.Contexts.{saved, save}
 use Rattle.tc_machine.specs.Fetching.{fetched}
-use Rattle.tc_machine.specs.Instructions.{access_address, traps_at}
-use Rattle.tc_machine.specs.Stepping.{is_taken, store_in, stored, step}
+use Rattle.tc_machine.specs.Instructions.{access_address}
+use Rattle.tc_machine.specs.Stepping.{is_taken, store_in, step}
 use Rattle.tc_machine.specs.PlanAreas.{first_link}
 use Rattle.tc_machine.specs.Safe.{IsMachine, HasGlobals, Starts, Fits, IsSafeAt}
 use Rattle.tc_mem.specs.PlanMemory.{HoldsRom, IsPlanMemory}
@@ -26,7 +25,6 @@ use Rattle.tc_machine.proofs.Areas.{Areas}
 use Rattle.tc_machine.proofs.Kept.{none_when_low}
 use Rattle.tc_machine.proofs.Stays.{stays_step, irq_lt}
 use Rattle.tc_machine.proofs.Steps.{stored-is}
-use Rattle.value_domain.specs.declared.states.State.{State}
 use Rattle.vd_transfer.specs.Registers.{slot}
 use Rattle.vd_transfer.specs.Holding.{WritesNoFixedRegister}
 use Rattle.depth_cert.specs.declared.keys.Key.{Key}
@@ -36,17 +34,17 @@ use Rattle.cfg_recover.specs.Entries.{start_key}
 use Rattle.cfg_recover.specs.Frames.{Standing, frames_left, frames_after}
 use Rattle.cfg_recover.specs.Local.{LocalRule}
 use Rattle.cfg_recover.proofs.CodeLaws.{IsCode-bounded}
-use Rattle.task_chains.specs.Tasks.{TasksData, AreTasks, count, routine_size}
+use Rattle.task_chains.specs.Tasks.{TasksData, AreTasks, count}
 use Rattle.task_chains.specs.Views.{view_image_of, view_plan_of, FitPlan}
 use Rattle.task_chains.specs.Apart.{switch_key, StaysApart}
 use Rattle.task_chains.specs.Safe.{IsInRoutine, IsJudged}
 use Rattle.task_chains.proofs.FramesKept.{key_same, AreKeys, AreFirst, keys_next}
-use Rattle.task_chains.proofs.Fitting.{Quiet, quiet}
+use Rattle.task_chains.proofs.Fitting.{quiet}
 use Rattle.task_chains.proofs.LevelSteps.{Leveled}
 use Rattle.task_chains.proofs.Leveling.{EndsBy, StoresNothing, level_interrupt, level_step}
 use Rattle.task_chains.proofs.CoreKept.{SameCore, core_taken, core_step}
 use Rattle.task_chains.proofs.Outside.{AtPoint, fetched_code}
-use Rattle.task_chains.proofs.Reached.{Reached, Reached-start, Reached-step, LoadsAt, StoresAt, PointOf, point_of, frame_at, some_frame, safe_at, words_of}
+use Rattle.task_chains.proofs.Reached.{Reached, Reached-start, Reached-step, StoresAt, PointOf, point_of, frame_at, some_frame, safe_at, words_of}
 use Rattle.task_chains.proofs.ViewEvents.{size_some, view_store_gone}
 use Rattle.task_chains.proofs.ViewPlan.{view_is_plan}
 use Rattle.task_chains.proofs.ViewRooms.{seen_few, runs_on, own_room, all_room}

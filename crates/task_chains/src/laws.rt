@@ -1,4 +1,6 @@
 // What holds of the views of tasks, and of all tasks together.
+ghost use Rattle.task_chains.specs.Growing.{TaskFaultsGrow, TaskFaultsRefute};
+ghost use Rattle.task_chains.specs.Guards.{EveryTaskIsReady, EveryPlanFits, EveryTasksStart, ReadsOne};
 ghost use Rattle.task_chains.specs.Safe.{TasksAreSafe};
 ghost use Rattle.task_chains.specs.ViewLaws.{ViewStoresMiss, ViewsArePlans, ViewsKeepBytes};
 
@@ -15,4 +17,19 @@ pub fn laws_of_views()
 /// range and miss the switch routine's block.
 pub fn law_of_tasks()
     ensures safe { TasksAreSafe }
+{}
+
+/// Which machines start tasks, when a task is ready for its first turn, and which tasks fit a plan, each from plain equations; and
+/// that a text names one list of tasks, or has one thing against it.
+pub fn tasks_in_words()
+    ensures ready { EveryTaskIsReady }
+    ensures fits { EveryPlanFits }
+    ensures starts { EveryTasksStart }
+    ensures one { ReadsOne }
+{}
+
+/// The faults of rule 17 grow with what a certificate says, and one of them is enough to break the rule.
+pub fn faults_of_tasks()
+    ensures grow { TaskFaultsGrow }
+    ensures refute { TaskFaultsRefute }
 {}

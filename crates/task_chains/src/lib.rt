@@ -1,8 +1,20 @@
 //! Tasks that share one set of save areas: each gives way by calling a switch routine, and has a certificate of its own.
 #![tactic(auto)]
 
+mod apart;
+mod devices;
+mod drafts;
+mod faults;
+mod judging;
 mod laws;
+mod lines;
+mod reading;
+mod routine;
 mod task_lists;
+mod views;
 
-pub use laws::{law_of_tasks, laws_of_views};
+pub use faults::task_fault;
+pub use judging::routine_fault;
+pub use laws::{faults_of_tasks, law_of_tasks, laws_of_views, tasks_in_words};
 pub use task_lists::{Task, Tasks, TasksErr};
+pub use views::{view_image, view_plan};

@@ -1,0 +1,107 @@
+-- What a text says of tasks, and what is against it.
+use Rattle.std.proofs.Common.{◌≡◌, ℕ, zero, suc, ◌+◌, ◌%◌, ◌^◌, ◌<◌, ◌≤◌, inl, inr, Bool, true, false, IsTrue, List, [], ◌∷◌, length, get_or, Option, Some, None, Ok, Err, refl, sym, ap, ◌∙◌, subst, arith, ◌==◌, ◌&&◌}
+use Rattle.std.specs.Prelude.{codes}
+use Rattle.std.specs.List.{list_any}
+use Rattle.std.specs.Bool.{then_some}
+use Rattle.std.specs.Option.{option_and_then}
+use Rattle.std.proofs.lemmas.Bool.{cases_lt, and_parts, eqb-true}
+use Rattle.std.proofs.lemmas.List.{take_all}
+use Rattle.tcd_plan.specs.PlanData.{PlanData}
+use Rattle.tcd_base.specs.declared.types.Range.{Range}
+use Rattle.tcd_base.specs.Ranges.{is_within, IsInOne}
+use Rattle.store_ranges.proofs.RomLaws.{any_one, one_any}
+use Rattle.tcd_text.specs.Lines.{words_of}
+use Rattle.task_chains.specs.declared.lines.Places.{Places}
+use Rattle.task_chains.specs.declared.task_lists.Task.{Task}
+use Rattle.task_chains.specs.declared.task_lists.TasksErr.{TasksErr}
+use Rattle.task_chains.specs.declared.task_lists.TasksErr.TheVariants.{BadLine, TooMany, TooFew, NotRam, NoRoom, OnIsp, Count}
+use Rattle.task_chains.specs.Tasks.{TasksData, AreTasks, count}
+use Rattle.task_chains.specs.Views.{FitPlan}
+use Rattle.task_chains.specs.Reading.{pair_of_words, places_of_pair, AreSaid, IsBlockInRam, HaveViewsRoom, IsAgainst, Reads, tasks_with, IsKept, IsDraftBy}
+
+-- ---- the addresses are at whole words
+test_pair : (t : Bool) (q p : Places) → then_some t q ≡ Some p → (t ≡ true) × (q ≡ p)
+test_pair true q p e = (refl, cc)
+test_pair false q p e = absurd (let f : None ≡ Some p = e in cc)
+
+pair_even : (o : Option (ℕ × ℕ)) (p : Places) → option_and_then places_of_pair o ≡ Some p → (p.switch % 2 ≡ 0) × (p.block % 4 ≡ 0)
+pair_even None p e = absurd (let f : None ≡ Some p = e in cc)
+pair_even (Some q) p e =
+    let h = test_pair (q.0 % 2 == 0 && q.1 % 4 == 0) (record { switch = q.0; block = q.1 }) p e in
+    let parts = and_parts (q.0 % 2 == 0) (q.1 % 4 == 0) h.0 in
+    let Even : Places → Type 0 = λ r. (r.switch % 2 ≡ 0) × (r.block % 4 ≡ 0) in
+    subst Even h.1 (eqb-true (q.0 % 2) 0 parts.0, eqb-true (q.1 % 4) 0 parts.1)
+
+pub places_even : (lines : List (List ℕ)) (p : Places) (list : List Task) (eighth : Option ℕ) → IsKept lines p list eighth → (p.switch % 2 ≡ 0) × (p.block % 4 ≡ 0)
+places_even lines p list eighth k = pair_even (pair_of_words (codes "switch") (words_of (k.said).first)) p (k.said).places
+
+-- ---- what a draft says
+module _ (plan : PlanData) (lines : List (List ℕ)) where
+  pub nothing_said : (list : List Task) (eighth : Option ℕ) → IsDraftBy lines None list eighth → Reads plan lines (Err (BadLine 1))
+  nothing_said list eighth d = inl (d.0, refl)
+
+  pub too_many : (p : Places) (list : List Task) (n : ℕ) → IsKept lines p list (Some n) → Reads plan lines (Err (TooMany n))
+  too_many p list n k = (tasks_with p k.all, k.said, k.more)
+
+  pub all_said : (p : Places) (list : List Task) → IsKept lines p list None → AreSaid lines (tasks_with p list)
+  all_said p list k = subst (λ l. AreSaid lines (tasks_with p l)) (sym (k.seven ∙ take_all 7 k.all (let few : length k.all ≤ 7 = k.more in omega arith))) k.said
+
+  pub drafted_said : (places : Option Places) (p : Places) (list : List Task) (eighth : Option ℕ) → IsDraftBy lines places list eighth → places ≡ Some p → eighth ≡ None → AreSaid lines (tasks_with p list)
+  drafted_said places p list eighth d is none = all_said p list (subst (λ o. IsDraftBy lines (Some p) list o) none (subst (λ o. IsDraftBy lines o list eighth) is d))
+
+  pub too_few : (p : Places) (list : List Task) → length list < 2 → IsKept lines p list None → Reads plan lines (Err TooFew)
+  too_few p list few k = (tasks_with p list, all_said p list k, few)
+
+  pub against : (tasks : TasksData) (e : TasksErr) → AreSaid lines tasks → IsAgainst plan lines tasks e → Reads plan lines (Err e)
+  against tasks (BadLine n) said bad = absurd bad
+  against tasks (TooMany n) said bad = (tasks, said, bad)
+  against tasks TooFew said bad = (tasks, said, bad)
+  against tasks NotRam said bad = (tasks, said, bad)
+  against tasks NoRoom said bad = (tasks, said, bad)
+  against tasks OnIsp said bad = (tasks, said, bad)
+  against tasks Count said bad = absurd bad
+
+  pub all_read : (tasks : TasksData) → AreSaid lines tasks → AreTasks tasks → FitPlan plan tasks → Reads plan lines (Ok tasks)
+  all_read tasks said are fit = record { said = said; are = are; fit = fit }
+
+-- ---- the tests under a plan
+pub in_one : (b : Bool) (at n : ℕ) (rs ss : List Range) → rs ≡ ss → b ≡ list_any (is_within at n) rs → (IsTrue b → IsInOne at n ss) × (IsInOne at n ss → IsTrue b)
+in_one b at n rs ss same t =
+    let P : List Range → Type 0 = λ l. (IsTrue b → IsInOne at n l) × (IsInOne at n l → IsTrue b) in
+    subst P same (λ h. any_one at n rs (sym t ∙ h), λ h. t ∙ one_any at n rs h)
+
+-- what a test denies doesn't hold
+pub denied : (b : Bool) (P : Type 0) → b ≡ false → (IsTrue b → P) × (P → IsTrue b) → P → ⊥
+denied b P fails both p = absurd (let f : false ≡ true = sym fails ∙ both.1 p in cc)
+
+module _ (plan : PlanData) (tasks : TasksData) (are : AreTasks tasks) where
+  few : (2 ≤ count tasks) × (count tasks ≤ 7)
+  few = (are.some, are.few)
+
+  pub not_ram : (lines : List (List ℕ)) → (IsBlockInRam plan tasks → ⊥) → IsAgainst plan lines tasks NotRam
+  not_ram lines none = (few, none)
+
+  pub no_room : (lines : List (List ℕ)) → IsBlockInRam plan tasks → (HaveViewsRoom plan tasks → ⊥) → IsAgainst plan lines tasks NoRoom
+  no_room lines ram none = (few, ram, none)
+
+  pub on_isp : (lines : List (List ℕ)) (fields : PlanData) → fields ≡ plan → IsBlockInRam plan tasks → HaveViewsRoom plan tasks → fields.start_is ≡ true → IsAgainst plan lines tasks OnIsp
+  on_isp lines fields same ram room is = (few, ram, room, sym (ap (λ (p : PlanData). p.start_is) same) ∙ is)
+
+  pub they_fit : (fields : PlanData) → fields ≡ plan → IsBlockInRam plan tasks → HaveViewsRoom plan tasks → fields.start_is ≡ false → FitPlan plan tasks
+  they_fit fields same ram room is = record { in_ram = ram; room = room; own_stack = sym (ap (λ (p : PlanData). p.start_is) same) ∙ is }
+
+-- ---- tasks read one after another
+abbrev HasWords : Task → Type 0
+HasWords t = (t.entry < 2 ^ 32) × (t.sp < 2 ^ 32)
+
+same_task : (list : List Task) (k : ℕ) (d e : Task) → k < length list → get_or list k d ≡ get_or list k e
+same_task [] k d e lt = absurd (omega arith)
+same_task (t ∷ ts) zero d e lt = refl
+same_task (t ∷ ts) (suc k) d e lt = same_task ts k d e (omega arith)
+
+pub words_more : (list : List Task) (i : ℕ) (e : Task) → i < length list → ((k : ℕ) (d : Task) → k < i → HasWords (get_or list k d)) → HasWords (get_or list i e) → (k : ℕ) (d : Task) → k < i + 1 → HasWords (get_or list k d)
+words_more list i e lt before here k d less =
+    elim (cases_lt k i) [
+      | inl earlier ↦ before k d earlier
+      | inr from ↦ let same : k ≡ i = omega arith in subst (λ n. HasWords (get_or list n d)) (sym same) (subst HasWords (same_task list i e d lt) here)
+    ]

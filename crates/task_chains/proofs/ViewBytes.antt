@@ -1,0 +1,141 @@
+-- The view's routine, written over a segment byte by byte.
+use Rattle.std.proofs.Common.{◌≡◌, ℕ, zero, suc, ◌+◌, ◌-◌, ◌^◌, ◌<◌, inl, inr, Bool, true, false, cond, List, [], ◌∷◌, length, map, set, get_or, refl, sym, ap, ◌∙◌, subst, arith, nat_le, nat_lt, ◌&&◌, ◌||◌, ext_get_or, get_or-set_same, get_or-set_other, length-set}
+use Rattle.std.specs.Prelude.{sum_by, slice_index_or}
+use Rattle.std.specs.List.{list_all}
+use Rattle.std.proofs.lemmas.Bool.{cases_eq, cases_lt, and_from, and_parts, le-leb, lt-ltb, leb-true, lt-leb, le-ltb}
+use Rattle.std.proofs.lemmas.List.{length-map}
+use Rattle.std.proofs.lemmas.List.Sums.{sum_by-cons}
+use Rattle.elf_image.specs.Images.{ImageData, SegmentData, IsImage, AreBytes, is_segment, are_apart, all_apart}
+use Rattle.task_chains.specs.Tasks.{TasksData, AreTasks, count}
+use Rattle.task_chains.specs.Routine.{view_routine_bytes}
+use Rattle.task_chains.specs.Views.{with_routine_from, view_segment, view_image_of}
+
+-- ---- one byte after another
+-- the byte at x, which was b, once the first k bytes are written
+abbrev pub byte_after : TasksData → ℕ → ℕ → ℕ → ℕ
+byte_after tasks x k b = cond (nat_le tasks.switch x && nat_lt x (tasks.switch + k)) (slice_index_or (view_routine_bytes tasks) (x - tasks.switch) 0) b
+
+pub record IsWrittenSoFar (tasks : TasksData) (at k : ℕ) (olds now : List ℕ) : Type 0 where
+  pub size : length now ≡ length olds
+  pub each : (j : ℕ) → j < length olds → get_or now j 0 ≡ byte_after tasks (at + j) k (get_or olds j 0)
+
+none_written : (tasks : TasksData) (x b : ℕ) → byte_after tasks x 0 b ≡ b
+none_written tasks x b =
+    elim (cases_lt x tasks.switch) [
+      | inl low ↦ ap (λ t. cond (t && nat_lt x (tasks.switch + 0)) (slice_index_or (view_routine_bytes tasks) (x - tasks.switch) 0) b) (lt-leb tasks.switch x low)
+      | inr high ↦ by_first (nat_le tasks.switch x) (le-ltb x (tasks.switch + 0) (omega arith))
+    ]
+  where
+    by_first : (t : Bool) → nat_lt x (tasks.switch + 0) ≡ false → cond (t && nat_lt x (tasks.switch + 0)) (slice_index_or (view_routine_bytes tasks) (x - tasks.switch) 0) b ≡ b
+    by_first true e = ap (λ r. cond r (slice_index_or (view_routine_bytes tasks) (x - tasks.switch) 0) b) e
+    by_first false e = refl
+
+pub written_none : (tasks : TasksData) (at : ℕ) (olds : List ℕ) → IsWrittenSoFar tasks at 0 olds olds
+written_none tasks at olds = record { size = refl; each = λ j lt. sym (none_written tasks (at + j) (get_or olds j 0)) }
+
+-- what writing a byte at an address makes of bytes
+abbrev pub put_byte : ℕ → ℕ → ℕ → List ℕ → List ℕ
+put_byte at x byte bytes = cond (nat_le at x && nat_lt (x - at) (length bytes)) (set bytes (x - at) byte) bytes
+
+module _ (tasks : TasksData) (at k byte : ℕ) (olds now : List ℕ) (is : byte ≡ slice_index_or (view_routine_bytes tasks) k 0) (so : IsWrittenSoFar tasks at k olds now) where
+  abbrev x : ℕ
+  x = tasks.switch + k
+
+  length-put : length (put_byte at x byte now) ≡ length now
+  length-put = by_test (nat_le at x && nat_lt (x - at) (length now))
+    where
+      by_test : (t : Bool) → length (cond t (set now (x - at) byte) now) ≡ length now
+      by_test true = length-set now (x - at) byte
+      by_test false = refl
+
+  here : (j : ℕ) → j < length now → at + j ≡ x → get_or (put_byte at x byte now) j 0 ≡ byte_after tasks (at + j) (k + 1) (get_or olds j 0)
+  here j lt e =
+      let place : x - at ≡ j = omega arith in
+      let test : (nat_le at x && nat_lt (x - at) (length now)) ≡ true = and_from _ _ (le-leb at x (omega arith)) (lt-ltb (x - at) (length now) (omega arith)) in
+      let seen : (nat_le tasks.switch (at + j) && nat_lt (at + j) (tasks.switch + (k + 1))) ≡ true = and_from _ _ (le-leb tasks.switch (at + j) (omega arith)) (lt-ltb (at + j) (tasks.switch + (k + 1)) (omega arith)) in
+      let off : at + j - tasks.switch ≡ k = omega arith in
+      ap (λ t. get_or (cond t (set now (x - at) byte) now) j 0) test ∙ ap (λ p. get_or (set now p byte) j 0) place ∙ get_or-set_same now j byte 0 lt ∙ is
+      ∙ ap (λ p. slice_index_or (view_routine_bytes tasks) p 0) (sym off) ∙ ap (λ t. cond t (slice_index_or (view_routine_bytes tasks) (at + j - tasks.switch) 0) (get_or olds j 0)) (sym seen)
+
+  same_test : (y : ℕ) → (y ≡ x → ⊥) → nat_lt y (tasks.switch + k) ≡ nat_lt y (tasks.switch + (k + 1))
+  same_test y other =
+      elim (cases_lt y x) [
+        | inl low ↦ lt-ltb y (tasks.switch + k) low ∙ sym (lt-ltb y (tasks.switch + (k + 1)) (omega arith))
+        | inr high ↦ elim (cases_eq y x) [
+          | inl same ↦ absurd (other same)
+          | inr not ↦ le-ltb y (tasks.switch + k) high ∙ sym (le-ltb y (tasks.switch + (k + 1)) (omega arith))
+        ]
+      ]
+
+  elsewhere : (j : ℕ) → j < length olds → (at + j ≡ x → ⊥) → get_or (put_byte at x byte now) j 0 ≡ byte_after tasks (at + j) (k + 1) (get_or olds j 0)
+  elsewhere j lt other =
+      by_test (nat_le at x && nat_lt (x - at) (length now)) refl ∙ so.each j lt
+      ∙ ap (λ t. cond (nat_le tasks.switch (at + j) && t) (slice_index_or (view_routine_bytes tasks) (at + j - tasks.switch) 0) (get_or olds j 0)) (same_test (at + j) other)
+    where
+      by_test : (t : Bool) → (nat_le at x && nat_lt (x - at) (length now)) ≡ t → get_or (cond t (set now (x - at) byte) now) j 0 ≡ get_or now j 0
+      by_test true e =
+          let low = leb-true at x (and_parts (nat_le at x) (nat_lt (x - at) (length now)) e).0 in
+          get_or-set_other now (x - at) j byte 0 (λ same. other (omega arith))
+      by_test false e = refl
+
+  pub written_more : IsWrittenSoFar tasks at (k + 1) olds (put_byte at x byte now)
+  written_more = record {
+    size = length-put ∙ so.size;
+    each = λ j lt. elim (cases_eq (at + j) x) [ inl e ↦ here j (subst (λ n. j < n) (sym so.size) lt) e | inr other ↦ elsewhere j lt other ];
+  }
+
+-- ---- all bytes
+module _ (tasks : TasksData) where
+  length-with : (x : ℕ) (bytes : List ℕ) → length (with_routine_from tasks x bytes) ≡ length bytes
+  unfolding with_routine_from
+  length-with x [] = refl
+  length-with x (b ∷ bytes) = ap suc (length-with (x + 1) bytes)
+
+  with_get : (x : ℕ) (bytes : List ℕ) (j : ℕ) → j < length bytes → get_or (with_routine_from tasks x bytes) j 0 ≡ byte_after tasks (x + j) 72 (get_or bytes j 0)
+  unfolding with_routine_from
+  with_get x [] j lt = absurd (omega arith)
+  with_get x (b ∷ bytes) zero lt = ap (λ y. byte_after tasks y 72 b) (sym (let e : x + 0 ≡ x = omega arith in e))
+  with_get x (b ∷ bytes) (suc j) lt = with_get (x + 1) bytes j (omega arith) ∙ ap (λ y. byte_after tasks y 72 (get_or bytes j 0)) (let e : x + 1 + j ≡ x + suc j = omega arith in e)
+
+  pub written_all : (at : ℕ) (olds now : List ℕ) → IsWrittenSoFar tasks at 72 olds now → now ≡ with_routine_from tasks at olds
+  written_all at olds now so =
+      ext_get_or 0 now (with_routine_from tasks at olds) (so.size ∙ sym (length-with at olds))
+      (λ j lt. let within : j < length olds = subst (λ n. j < n) so.size lt in so.each j within ∙ sym (with_get at olds j within))
+
+  -- ---- the image keeps its limits
+  segment_same : (s : SegmentData) → is_segment (view_segment tasks s) ≡ is_segment s
+  segment_same s = ap (λ k. nat_lt 0 k && nat_le (s.at + k) (2 ^ 32)) (length-with s.at s.bytes)
+
+  segments_same : (ss : List SegmentData) → list_all is_segment (map (view_segment tasks) ss) ≡ list_all is_segment ss
+  segments_same [] = refl
+  segments_same (s ∷ ss) = ap (λ t. t && list_all is_segment (map (view_segment tasks) ss)) (segment_same s) ∙ ap (λ t. is_segment s && t) (segments_same ss)
+
+  apart_same : (s t : SegmentData) → are_apart (view_segment tasks s) (view_segment tasks t) ≡ are_apart s t
+  apart_same s t =
+      ap (λ k. nat_le (s.at + k) t.at || nat_le (t.at + length (with_routine_from tasks t.at t.bytes)) s.at) (length-with s.at s.bytes)
+      ∙ ap (λ k. nat_le (s.at + length s.bytes) t.at || nat_le (t.at + k) s.at) (length-with t.at t.bytes)
+
+  one_apart : (s : SegmentData) (ts : List SegmentData) → list_all (are_apart (view_segment tasks s)) (map (view_segment tasks) ts) ≡ list_all (are_apart s) ts
+  one_apart s [] = refl
+  one_apart s (t ∷ ts) = ap (λ b. b && list_all (are_apart (view_segment tasks s)) (map (view_segment tasks) ts)) (apart_same s t) ∙ ap (λ b. are_apart s t && b) (one_apart s ts)
+
+  all_same : (ss : List SegmentData) → all_apart (map (view_segment tasks) ss) ≡ all_apart ss
+  all_same [] = refl
+  all_same (s ∷ ss) = ap (λ b. b && all_apart (map (view_segment tasks) ss)) (one_apart s ss) ∙ ap (λ b. list_all (are_apart s) ss && b) (all_same ss)
+
+  sum_same : (ss : List SegmentData) → sum_by (λ (s : SegmentData). length s.bytes) (map (view_segment tasks) ss) ≡ sum_by (λ (s : SegmentData). length s.bytes) ss
+  sum_same [] = refl
+  sum_same (s ∷ ss) =
+      sum_by-cons (λ (z : SegmentData). length z.bytes) (view_segment tasks s) (map (view_segment tasks) ss)
+      ∙ ap (λ k. k + sum_by (λ (z : SegmentData). length z.bytes) (map (view_segment tasks) ss)) (length-with s.at s.bytes) ∙ ap (λ k. length s.bytes + k) (sum_same ss)
+      ∙ sym (sum_by-cons (λ (z : SegmentData). length z.bytes) s ss)
+
+  pub view_is_image : (image : ImageData) (u : ℕ) → IsImage image → AreTasks tasks → u < count tasks → AreBytes (view_image_of image tasks u).segments → IsImage (view_image_of image tasks u)
+  view_is_image image u ok are lt bytes = record {
+    entry = (are.words u (record { entry = 0; sp = 0 }) lt).0;
+    few = omega (arith, length-map image.segments (view_segment tasks), ok.few);
+    segments = segments_same image.segments ∙ ok.segments;
+    bytes = bytes;
+    apart = all_same image.segments ∙ ok.apart;
+    small = omega (arith, sum_same image.segments, ok.small);
+  }

@@ -1,0 +1,8 @@
+use Rattle.std.proofs.Common.{take}
+use Rattle.std.specs.Prelude.{All}
+use Rattle.task_chains.specs.Faults.{HoldsApartIn}
+use Rattle.task_chains.proofs.faults.node_fault.Given as goal
+
+-- the rule holds at each point so far
+abbrev pub invariant-loop-point : goal.invariant-loop-point
+invariant-loop-point l = All (HoldsApartIn l.b l.view l.plan l.tasks l.node.key) (take l.point-index l.point-items)

@@ -1,0 +1,113 @@
+// What lines say of tasks, read one after another.
+ghost use Rattle.std.specs.Prelude.{◌≡◌, ◌≤◌, ◌<◌, ◌+◌, ◌^◌, [], ◌∷◌, ◌++◌, ℕ, Some, None, IsSome, length, IfOk, OnOk, IfErr};
+ghost use Rattle.std.specs.Option.{option_or};
+ghost use Rattle.tcd_text.specs.Lines.{lines_of};
+ghost use Rattle.task_chains.specs.declared.task_lists.TasksErr.TheVariants.{BadLine};
+ghost use Rattle.task_chains.specs.Reading.{IsFirstBad, IsDraft, TakesLine, IsLineBad};
+
+use crate::lines::{Places, places_in, task_in};
+use crate::{Task, TasksErr};
+use arrayvec::ArrayVec;
+use tcd_text::cut_line;
+
+/// What the lines so far say: the addresses of the first that isn't empty, the first seven tasks, and the number of the
+/// line with an eighth.
+#[derive(Drop)]
+pub struct Draft {
+    pub places: Option<Places>,
+    pub list: ArrayVec<Task, 7>,
+    pub eighth: Option<u32>,
+}
+
+/// Before the first line.
+fn new_draft() -> Draft
+    ensures { IsDraft [] result }
+{
+    Draft {
+        places: None,
+        list: ArrayVec::new(),
+        eighth: None,
+    }
+}
+
+/// Adds the task of line `number`, or keeps the number.
+fn add_task(draft: &mut Draft, number: u32, task: Task)
+    ensures places { draft.new.places ≡ draft.old.places }
+    ensures room { length draft.old.list.items < 7
+        → (draft.new.list.items ≡ draft.old.list.items ++ task ∷ [])
+        × (draft.new.eighth ≡ draft.old.eighth) }
+    ensures full { 7 ≤ length draft.old.list.items
+        → (draft.new.list.items ≡ draft.old.list.items)
+        × (draft.new.eighth ≡ option_or draft.old.eighth (Some number)) }
+{
+    if draft.list.len() < 7 {
+        draft.list.push(task);
+    } else {
+        draft.eighth = draft.eighth.or(Some(number));
+    }
+}
+
+/// Adds what the first line that isn't empty says.
+fn add_first(draft: &mut Draft, number: u32, line: &[u8]) -> Result<(), TasksErr>
+    requires none { draft.old.places ≡ None }
+    requires some { 0 < length line.now }
+    ensures ok { OnOk result (TakesLine draft.old number line.now draft.new) }
+    ensures err { IfErr result (IsLineBad draft.old number line.now) }
+{
+    match places_in(line) {
+        Some(places) => {
+            draft.places = Some(places);
+            Ok(())
+        }
+        None => Err(TasksErr::BadLine(number)),
+    }
+}
+
+/// Adds what another line that isn't empty says.
+fn add_other(draft: &mut Draft, number: u32, line: &[u8]) -> Result<(), TasksErr>
+    requires places { IsSome draft.old.places }
+    requires some { 0 < length line.now }
+    ensures ok { OnOk result (TakesLine draft.old number line.now draft.new) }
+    ensures err { IfErr result (IsLineBad draft.old number line.now) }
+{
+    match task_in(line) {
+        Some(task) => {
+            add_task(draft, number, task);
+            Ok(())
+        }
+        None => Err(TasksErr::BadLine(number)),
+    }
+}
+
+/// Adds what line `number` says, or tells that it is of another form.
+fn add_line(draft: &mut Draft, number: u32, line: &[u8]) -> Result<(), TasksErr>
+    ensures ok { OnOk result (TakesLine draft.old number line.now draft.new) }
+    ensures err { IfErr result (IsLineBad draft.old number line.now) }
+{
+    if line.is_empty() {
+        return Ok(());
+    }
+    match draft.places {
+        Some(_) => add_other(draft, number, line),
+        None => add_first(draft, number, line),
+    }
+}
+
+/// What all lines of a text say; the first line of another form is refused.
+pub(crate) fn draft_of(bytes: &[u8]) -> Result<Draft, TasksErr>
+    requires { length bytes.now ≤ 2 ^ 30 }
+    ensures ok { IfOk result (IsDraft (lines_of bytes.now)) }
+    ensures err { let lines = lines_of bytes.now in
+        IfErr result (λ e. (n : ℕ) × (e ≡ BadLine n) × IsFirstBad lines n) }
+{
+    let mut draft = new_draft();
+    let mut number = 0u32;
+    let mut rest = bytes;
+    'lines: while !rest.is_empty() {
+        let (line, behind) = cut_line(rest);
+        number += 1;
+        add_line(&mut draft, number, line)?;
+        rest = behind;
+    }
+    Ok(draft)
+}

@@ -1,0 +1,65 @@
+// The lines of tasks.
+ghost use Rattle.std.specs.Prelude.{◌≡◌, ◌%◌, [], ◌∷◌, IfSome};
+ghost use Rattle.tcd_text.specs.Lines.{words_of};
+ghost use Rattle.task_chains.specs.Reading.{pair_of_words, places_of, task_of};
+
+use crate::Task;
+use tcd_text::{cut_word, hex_number};
+
+/// Where the switch routine lies, and the block of words.
+#[derive(Clone, Copy, Debug, PartialEq, Eq)]
+pub struct Places {
+    pub switch: u32,
+    pub block: u32,
+}
+
+// The numbers of three words of which the first is the line's name.
+#[tactic(auto, unfolding(crate::specs::Reading::pair_of_words))]
+fn pair_of_words(name: &[u8], word: &[u8], x: &[u8], y: &[u8]) -> Option<(u32, u32)>
+    ensures { result ≡ pair_of_words name.now (word.now ∷ x.now ∷ y.now ∷ []) }
+{
+    if word != name {
+        return None;
+    }
+    let first = hex_number(x)?;
+    let second = hex_number(y)?;
+    Some((first, second))
+}
+
+// The two numbers of a line that begins with this name.
+#[tactic(auto, using(crate::proofs::LineForms::four_words), unfolding(crate::specs::Reading::pair_of_words))]
+fn pair_in(name: &[u8], line: &[u8]) -> Option<(u32, u32)>
+    ensures { result ≡ pair_of_words name.now (words_of line.now) }
+{
+    let Some((word, rest)) = cut_word(line) else {
+        return None;
+    };
+    let Some((x, rest)) = cut_word(rest) else {
+        return None;
+    };
+    match cut_word(rest) {
+        Some((_y, _more)) => None,
+        None => pair_of_words(name, word, x, rest),
+    }
+}
+
+/// The addresses that a line `switch Y B` names, with an even Y and a B at a multiple of 4.
+pub(crate) fn places_in(line: &[u8]) -> Option<Places>
+    ensures { result ≡ places_of line.now }
+{
+    match pair_in(b"switch".as_slice(), line) {
+        Some((switch, block)) if switch % 2 == 0 && block % 4 == 0 => Some(Places {
+            switch,
+            block,
+        }),
+        _ => None,
+    }
+}
+
+/// The task that a line `task ENTRY SP` names.
+pub(crate) fn task_in(line: &[u8]) -> Option<Task>
+    ensures { result ≡ task_of line.now }
+{
+    let (entry, sp) = pair_in(b"task".as_slice(), line)?;
+    Some(Task { entry, sp })
+}

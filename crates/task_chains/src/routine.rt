@@ -1,0 +1,123 @@
+// The bytes of the switch routine, and of what a view has in its place.
+ghost use Rattle.std.specs.Prelude.{◌≡◌, ◌≤◌, ◌<◌, ◌+◌, ◌*◌, ◌/◌, ◌%◌, ◌^◌, length};
+ghost use Rattle.std.specs.List.{flat_map};
+ghost use Rattle.tc_isa.specs.Codec.{four_bytes};
+ghost use Rattle.task_chains.specs.Routine.{hi, lo, routine_of, view_routine_of, bytes_of, routine_bytes, view_routine_bytes};
+
+use crate::Tasks;
+use arrayvec::ArrayVec;
+
+/// The upper half of an address, one more where the lower half is negative as a signed number.
+fn upper_half(x: u32) -> u32
+    ensures is { result ≡ hi x }
+    ensures small { result < 2 ^ 16 }
+{
+    ((u64::from(x) + 0x8000) / 0x1_0000 % 0x1_0000) as u32
+}
+
+/// A number of 16 bits where the word of an instruction `lea.l`, `ld.w.l` or `st.w.l` has its offset.
+fn offset_bits(k: u32) -> u32
+    requires { k < 2 ^ 16 }
+    ensures { result ≡ k / 64 % 16 * 2 ^ 28 + k / 1024 * 2 ^ 22 + k % 64 * 2 ^ 16 }
+{
+    k / 64 % 16 * 0x1000_0000 + k / 1024 * 0x40_0000 + k % 64 * 0x1_0000
+}
+
+/// The words of the routine of `n` tasks with their words at `b`.
+fn routine_words(n: u32, b: u32) -> [u32; 18]
+    requires { n ≤ 7 }
+    ensures { flat_map four_bytes result ≡ bytes_of (routine_of n b) }
+{
+    let upper = upper_half(b);
+    let lower = offset_bits(b % 0x1_0000);
+    let count = offset_bits(4 * n);
+    [
+        0x0340_000D, // disable
+        0x0200_000D, // svlcx
+        0x2000_0091 + upper * 0x1000, // movh.a a2, hi(b)
+        0x0000_22D9 + lower, // lea.l a2, [a2]lo(b)
+        0x0000_2019 + count, // ld.w.l d0, [a2]4n
+        0x3602_2001, // addsc.a a3, a2, d0, 2
+        0x1FE0_004D, // mfcr d1, 0xFE00
+        0x0000_3159, // st.w.l [a3]0, d1
+        0x0000_101B, // addi d0, d0, 1
+        0x8004_00DF + n * 0x1000, // jne d0, n, .+8
+        0x0000_003B, // mov d0, 0
+        0x0000_2059 + count, // st.w.l [a2]4n, d0
+        0x3602_2001, // addsc.a a3, a2, d0, 2
+        0x0000_3119, // ld.w.l d1, [a3]0
+        0x0FE0_01CD, // mtcr 0xFE00, d1
+        0x04C0_000D, // isync
+        0x0240_000D, // rslcx
+        0x0180_000D, // ret
+    ]
+}
+
+/// The words that a view has in its place.
+fn view_words(n: u32, b: u32) -> [u32; 18]
+    requires { n ≤ 7 }
+    ensures { flat_map four_bytes result ≡ bytes_of (view_routine_of n b) }
+{
+    let upper = upper_half(b);
+    let lower = offset_bits(b % 0x1_0000);
+    [
+        0x0340_000D, // disable
+        0x0200_000D, // svlcx
+        0x2000_0091 + upper * 0x1000, // movh.a a2, hi(b)
+        0x0000_22D9 + lower, // lea.l a2, [a2]lo(b)
+        0x0000_004D, // mfcr d0, 0
+        0x3602_2001, // addsc.a a3, a2, d0, 2
+        0x1000_004D, // mfcr d1, 0
+        0x0000_000D, // nop
+        0x0000_101B, // addi d0, d0, 1
+        0x8004_00DF + n * 0x1000, // jne d0, n, .+8
+        0x0000_003B, // mov d0, 0
+        0x0000_000D, // nop
+        0x3602_2001, // addsc.a a3, a2, d0, 2
+        0x1000_004D, // mfcr d1, 0
+        0x0000_000D, // nop
+        0x04C0_000D, // isync
+        0x0240_000D, // rslcx
+        0x0180_000D, // ret
+    ]
+}
+
+/// The bytes of a word, the lowest first.
+fn bytes_of_word(w: u32) -> [u8; 4]
+    ensures { result ≡ four_bytes w }
+{
+    [
+        (w % 0x100) as u8,
+        (w / 0x100 % 0x100) as u8,
+        (w / 0x1_0000 % 0x100) as u8,
+        (w / 0x100_0000) as u8,
+    ]
+}
+
+/// The bytes of words, one after another.
+fn bytes_of_words(words: &[u32; 18]) -> [u8; 72]
+    ensures { result ≡ flat_map four_bytes words.now }
+{
+    let mut bytes = ArrayVec::new();
+    for w in words {
+        bytes.try_extend_from_slice(&bytes_of_word(*w)).unwrap();
+    }
+    match bytes.into_inner() {
+        Ok(all) => all,
+        Err(_) => unreachable!(),
+    }
+}
+
+/// The bytes of the routine of these tasks.
+pub(crate) fn routine(tasks: &Tasks) -> [u8; 72]
+    ensures { result ≡ routine_bytes tasks.now }
+{
+    bytes_of_words(&routine_words(tasks.list.len() as u32, tasks.block))
+}
+
+/// The bytes that their views have in its place.
+pub(crate) fn view_routine(tasks: &Tasks) -> [u8; 72]
+    ensures { result ≡ view_routine_bytes tasks.now }
+{
+    bytes_of_words(&view_words(tasks.list.len() as u32, tasks.block))
+}

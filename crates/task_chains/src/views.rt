@@ -1,0 +1,119 @@
+// The view of a task: the image and the plan under which its certificate is judged.
+ghost use Rattle.std.specs.Prelude.{◌≡◌, ◌≤◌, ◌<◌, ◌-◌, ◌==◌, ◌&&◌, false, nat_le, nat_lt, if◌then◌else◌, set, length, IfOk};
+ghost use Rattle.elf_image.specs.Images.{segment_data};
+ghost use Rattle.task_chains.specs.Tasks.{count};
+ghost use Rattle.task_chains.specs.Views.{FitPlan, with_routine_from, view_segment, view_image_of, view_plan_of};
+
+use crate::Tasks;
+use crate::devices::devices_without;
+use crate::routine::view_routine;
+use arrayvec::ArrayVec;
+use elf_image::{Image, Segment, read_segments};
+use std::alloc::Global;
+use tcd_base::{NoMemory, Range};
+use tcd_plan::Plan;
+
+/// Writes the byte at an address into bytes that begin at another, where they have it.
+fn put_at(bytes: &mut [u8], at: u32, x: u64, byte: u8)
+    ensures { bytes.new ≡ (if nat_le at x && nat_lt (x - at) (length bytes.old)
+        then set bytes.old (x - at) byte else bytes.old) }
+{
+    let at = u64::from(at);
+    if at <= x && ((x - at) as usize) < bytes.len() {
+        bytes[(x - at) as usize] = byte;
+    }
+}
+
+/// Writes the view's routine over the bytes of a segment that lie in the routine.
+fn write_routine(bytes: &mut [u8], at: u32, tasks: &Tasks)
+    ensures { bytes.new ≡ with_routine_from tasks.now at bytes.old }
+{
+    let routine = view_routine(tasks);
+    for (i, byte) in routine.iter().enumerate() {
+        put_at(bytes, at, u64::from(tasks.switch) + i as u64, *byte);
+    }
+}
+
+/// A segment as the views have it.
+fn segment_of_view(alloc: Global, segment: &Segment, tasks: &Tasks) -> Result<Segment, NoMemory>
+    ensures { IfOk result (λ s. segment_data s
+        ≡ view_segment tasks.now (segment_data segment.now)) }
+{
+    let mut bytes = Vec::from_slice(alloc, &segment.bytes)?;
+    write_routine(&mut bytes, segment.at, tasks);
+    Ok(Segment {
+        at: segment.at,
+        bytes,
+    })
+}
+
+/// The image of a task's view: it begins at the task's entry, and in the switch routine it has what reads the block and
+/// PCXI from outside and writes neither.
+pub fn view_image(alloc: Global, image: &Image, tasks: &Tasks, u: usize) -> Result<Image, NoMemory>
+    requires { u < count tasks.now }
+    ensures { IfOk result (λ i. i ≡ view_image_of image.now tasks.now u) }
+{
+    let mut segments = Vec::new(alloc);
+    for segment in &image.segments {
+        segments.push(segment_of_view(alloc, segment, tasks)?)?;
+    }
+    read_segments(&segments);
+    Ok(Image {
+        entry: tasks.list.as_slice()[u].entry,
+        segments,
+    })
+}
+
+fn copied(ranges: &[Range]) -> ArrayVec<Range, 16>
+    requires { length ranges.now ≤ 16 }
+    ensures { result.items ≡ ranges.now }
+{
+    let mut copy = ArrayVec::new();
+    copy.try_extend_from_slice(ranges).unwrap();
+    copy
+}
+
+fn copied_bytes(bytes: &[u8]) -> ArrayVec<u8, 32>
+    requires { length bytes.now ≤ 32 }
+    ensures { result.items ≡ bytes.now }
+{
+    let mut copy = ArrayVec::new();
+    copy.try_extend_from_slice(bytes).unwrap();
+    copy
+}
+
+/// Whether interrupts are on at the start of a task: as the plan says for the first, else not.
+fn starts_enabled(plan: &Plan, u: usize) -> bool
+    ensures { result ≡ (if u == 0 then plan.now.start_ie else false) }
+{
+    if u == 0 { plan.start_ie } else { false }
+}
+
+/// The plan of a task's view: the task's stack pointer, no ram, what is left of ram beside the block as devices that answer
+/// with any word, and interrupts off at the start of all tasks but the first.
+pub fn view_plan(plan: &Plan, tasks: &Tasks, u: usize) -> Plan
+    requires task { u < count tasks.now }
+    requires fit { FitPlan plan.now tasks.now }
+    ensures { result ≡ view_plan_of plan.now tasks.now u }
+{
+    Plan {
+        rom: copied(plan.rom.as_slice()),
+        ram: ArrayVec::new(),
+        devices: devices_without(plan, tasks.block, tasks.block_size()),
+        csa_at: plan.csa_at,
+        areas: plan.areas,
+        reserve: plan.reserve,
+        sp: tasks.list.as_slice()[u].sp,
+        isp: plan.isp,
+        biv: plan.biv,
+        btv: plan.btv,
+        irqs: copied_bytes(plan.irqs.as_slice()),
+        sys: plan.sys,
+        aln: plan.aln,
+        start_ie: starts_enabled(plan, u),
+        start_ccpn: plan.start_ccpn,
+        start_is: plan.start_is,
+        globals: plan.globals,
+        core: plan.core,
+    }
+}
