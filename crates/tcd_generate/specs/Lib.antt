@@ -1,0 +1,3 @@
+-- Generated images, and their plan.
+pub mod Generated
+pub mod Planned
