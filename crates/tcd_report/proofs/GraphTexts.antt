@@ -1,0 +1,102 @@
+-- The text of a point's lines, by its ways.
+use Rattle.std.proofs.Common.{◌≡◌, ℕ, List, [], ◌∷◌, ◌++◌, map, refl, sym, ap, ◌∙◌, subst, append_assoc, append-nil}
+use Rattle.std.specs.Prelude.{codes}
+use Rattle.std.specs.List.{flat_map}
+use Rattle.std.proofs.lemmas.Grind.{flat_map-append}
+use Rattle.elf_image.specs.Images.{ImageData}
+use Rattle.tcd_plan.specs.PlanData.{PlanData}
+use Rattle.tc_isa.specs.declared.shapes.Shape.{Shape}
+use Rattle.tc_isa.specs.declared.shapes.Shape.TheVariants as shape
+use Rattle.value_domain.specs.Limits.{Limits}
+use Rattle.depth_cert.specs.declared.keys.Key.{Key}
+use Rattle.depth_cert.specs.declared.points.Point.{Point}
+use Rattle.depth_cert.specs.Certs.{CertData}
+use Rattle.cfg_recover.specs.declared.flows.Flow.{Flow}
+use Rattle.cfg_recover.specs.Duties.{Owed, duties_of}
+use Rattle.cfg_recover.specs.Flows.{told_by, leave_of, Tells}
+use Rattle.cfg_recover.specs.Accepting.{limits_in}
+use Rattle.cfg_recover.specs.Frames.{to, call, irq, sys, aln, ret, rfe}
+use Rattle.tcd_report.specs.declared.ways.Ways.{Ways}
+use Rattle.tcd_report.specs.Graphs.{Arrow, goes, back, line_to, line_text, leaves_by, jumps_in, calls_in, backs_in, systems_in, misaligned_in, interrupts_in, arrows_of, ArePointLines}
+use Rattle.tcd_report.specs.Judging.{GrowsBy}
+use Rattle.tcd_report.specs.Told.{AreWays, lines_to, ways_text, leaving_text}
+
+-- lines made from a list, one behind the other
+lines_joined : {A : Type 0} (f : A → List ℕ) (xs : List A) → flat_map (λ l. l) (map f xs) ≡ flat_map f xs
+lines_joined f [] = refl
+lines_joined f (x ∷ xs) = ap (λ l. f x ++ l) (lines_joined f xs)
+
+-- lines with a word, one for each address
+lines_with : (key : Key) (p : ℕ) (word : List ℕ) (arrow : ℕ → Arrow) → ((q : ℕ) → line_text key p (arrow q) ≡ line_to key p word q) → (qs : List ℕ) → flat_map (line_text key p) (map arrow qs) ≡ lines_to key p word qs
+lines_with key p word arrow e [] = refl
+lines_with key p word arrow e (q ∷ qs) = ap (λ l. l ++ flat_map (line_text key p) (map arrow qs)) (e q) ∙ ap (λ l. line_to key p word q ++ l) (lines_with key p word arrow e qs)
+
+leaving_is : (key : Key) (p : ℕ) (s : Shape) → flat_map (line_text key p) (leaves_by s) ≡ leaving_text key p (leave_of s)
+unfolding leave_of
+leaving_is key p shape.Ret = append-nil (line_text key p (goes ret))
+leaving_is key p shape.Rfe = append-nil (line_text key p (goes rfe))
+leaving_is key p s = refl
+
+joined_six : (a b c d e f g : List ℕ) → a ++ (b ++ (c ++ (d ++ (e ++ (f ++ g))))) ≡ (a ++ (b ++ (c ++ (d ++ (e ++ f))))) ++ g
+joined_six a b c d e f g =
+    sym (
+    append_assoc a (b ++ (c ++ (d ++ (e ++ f)))) g
+    ∙ ap (λ l. a ++ l) (append_assoc b (c ++ (d ++ (e ++ f))) g ∙ ap (λ l. b ++ l) (append_assoc c (d ++ (e ++ f)) g ∙ ap (λ l. c ++ l) (append_assoc d (e ++ f) g ∙ ap (λ l. d ++ l) (append_assoc e f g))))
+    )
+
+module _ (key : Key) (p : ℕ) (cert : CertData) (ds : List Owed) (s : Shape) (w : Ways) where
+  pub point_text : AreWays cert ds w → flat_map (λ l. l) (map (line_text key p) (arrows_of cert ds s)) ≡ ways_text key p w ++ leaving_text key p (leave_of s)
+  unfolding arrows_of
+  point_text h =
+      let g : Arrow → List ℕ = line_text key p in
+      let a1 : List Arrow = map (λ q. goes (to q)) (jumps_in ds) in
+      let a2 : List Arrow = map (λ q. goes (call q)) (calls_in ds) in
+      let a3 : List Arrow = map back (backs_in cert ds) in
+      let a4 : List Arrow = map (λ q. goes (sys q)) (systems_in ds) in
+      let a5 : List Arrow = map (λ q. goes (aln q)) (misaligned_in ds) in
+      let a6 : List Arrow = map (λ q. goes (irq q)) (interrupts_in ds) in
+      let a7 : List Arrow = leaves_by s in
+      let split : flat_map g (arrows_of cert ds s) ≡ flat_map g a1 ++ (flat_map g a2 ++ (flat_map g a3 ++ (flat_map g a4 ++ (flat_map g a5 ++ (flat_map g a6 ++ flat_map g a7))))) =
+      flat_map-append g a1 (a2 ++ (a3 ++ (a4 ++ (a5 ++ (a6 ++ a7)))))
+      ∙ ap (λ l. flat_map g a1 ++ l) (flat_map-append g a2 (a3 ++ (a4 ++ (a5 ++ (a6 ++ a7))))
+      ∙ ap (λ l. flat_map g a2 ++ l) (flat_map-append g a3 (a4 ++ (a5 ++ (a6 ++ a7)))
+      ∙ ap (λ l. flat_map g a3 ++ l) (flat_map-append g a4 (a5 ++ (a6 ++ a7))
+      ∙ ap (λ l. flat_map g a4 ++ l) (flat_map-append g a5 (a6 ++ a7) ∙ ap (λ l. flat_map g a5 ++ l) (flat_map-append g a6 a7))))) in
+      let l1 : flat_map g a1 ≡ lines_to key p (codes "to ") w.to.items = lines_with key p (codes "to ") (λ q. goes (to q)) (λ q. refl) (jumps_in ds) ∙ ap (lines_to key p (codes "to ")) (sym h.to) in
+      let l2 : flat_map g a2 ≡ lines_to key p (codes "call ") w.call.items = lines_with key p (codes "call ") (λ q. goes (call q)) (λ q. refl) (calls_in ds) ∙ ap (lines_to key p (codes "call ")) (sym h.call) in
+      let l3 : flat_map g a3 ≡ lines_to key p (codes "back ") w.back.items = lines_with key p (codes "back ") back (λ q. refl) (backs_in cert ds) ∙ ap (lines_to key p (codes "back ")) (sym h.back) in
+      let l4 : flat_map g a4 ≡ lines_to key p (codes "sys ") w.sys.items = lines_with key p (codes "sys ") (λ q. goes (sys q)) (λ q. refl) (systems_in ds) ∙ ap (lines_to key p (codes "sys ")) (sym h.sys) in
+      let l5 : flat_map g a5 ≡ lines_to key p (codes "aln ") w.aln.items = lines_with key p (codes "aln ") (λ q. goes (aln q)) (λ q. refl) (misaligned_in ds) ∙ ap (lines_to key p (codes "aln ")) (sym h.aln) in
+      let l6 : flat_map g a6 ≡ lines_to key p (codes "irq ") w.irq.items = lines_with key p (codes "irq ") (λ q. goes (irq q)) (λ q. refl) (interrupts_in ds) ∙ ap (lines_to key p (codes "irq ")) (sym h.irq) in
+      let l7 : flat_map g a7 ≡ leaving_text key p (leave_of s) = leaving_is key p s in
+      lines_joined g (arrows_of cert ds s)
+      ∙ split
+      ∙ ap (λ l. l ++ (flat_map g a2 ++ (flat_map g a3 ++ (flat_map g a4 ++ (flat_map g a5 ++ (flat_map g a6 ++ flat_map g a7)))))) l1
+      ∙ ap (λ l. lines_to key p (codes "to ") w.to.items ++ (l ++ (flat_map g a3 ++ (flat_map g a4 ++ (flat_map g a5 ++ (flat_map g a6 ++ flat_map g a7)))))) l2
+      ∙ ap (λ l. lines_to key p (codes "to ") w.to.items ++ (lines_to key p (codes "call ") w.call.items ++ (l ++ (flat_map g a4 ++ (flat_map g a5 ++ (flat_map g a6 ++ flat_map g a7)))))) l3
+      ∙ ap (λ l. lines_to key p (codes "to ") w.to.items ++ (lines_to key p (codes "call ") w.call.items ++ (lines_to key p (codes "back ") w.back.items ++ (l ++ (flat_map g a5 ++ (flat_map g a6 ++ flat_map g a7)))))) l4
+      ∙ ap (λ l. lines_to key p (codes "to ") w.to.items ++ (lines_to key p (codes "call ") w.call.items ++ (lines_to key p (codes "back ") w.back.items ++ (lines_to key p (codes "sys ") w.sys.items ++ (l ++ (flat_map g a6 ++ flat_map g a7)))))) l5
+      ∙ ap (λ l. lines_to key p (codes "to ") w.to.items ++ (lines_to key p (codes "call ") w.call.items ++ (lines_to key p (codes "back ") w.back.items ++ (lines_to key p (codes "sys ") w.sys.items ++ (lines_to key p (codes "aln ") w.aln.items ++ (l ++ flat_map g a7)))))) l6
+      ∙ ap (λ l. lines_to key p (codes "to ") w.to.items ++ (lines_to key p (codes "call ") w.call.items ++ (lines_to key p (codes "back ") w.back.items ++ (lines_to key p (codes "sys ") w.sys.items ++ (lines_to key p (codes "aln ") w.aln.items ++ (lines_to key p (codes "irq ") w.irq.items ++ l)))))) l7
+      ∙ joined_six (lines_to key p (codes "to ") w.to.items) (lines_to key p (codes "call ") w.call.items) (lines_to key p (codes "back ") w.back.items) (lines_to key p (codes "sys ") w.sys.items)
+      (lines_to key p (codes "aln ") w.aln.items) (lines_to key p (codes "irq ") w.irq.items) (leaving_text key p (leave_of s))
+
+-- a text that grew by these is that of the point's lines
+pub point_lines :
+    (image : ImageData) (plan : PlanData) (cert : CertData) (key : Key) (point : Point) (b : Limits) (f : Flow) (w : Ways) (before text after : List ℕ) → b ≡ limits_in plan cert → Tells b image plan key point.addr point.state f
+    → AreWays cert (told_by plan key point.state f) w → text ≡ before ++ ways_text key point.addr w → after ≡ text ++ leaving_text key point.addr f.leave → GrowsBy (ArePointLines image plan cert key point) before after
+point_lines image plan cert key point b f w before text after same told are front whole =
+    let ds : List Owed = duties_of (limits_in plan cert) image plan key point.addr point.state told.shape told.size in
+    let owes : told_by plan key point.state f ≡ ds = told.told ∙ ap (λ x. duties_of x image plan key point.addr point.state told.shape told.size) same in
+    let ways : AreWays cert ds w = subst (λ ds. AreWays cert ds w) owes are in
+    let text_is = point_text key point.addr cert ds told.shape w ways in
+    record {
+      lines = map (line_text key point.addr) (arrows_of cert ds told.shape);
+      are = record { shape = told.shape; size = told.size; code = told.code; are = refl };
+      grown =
+          whole
+          ∙ ap (λ l. l ++ leaving_text key point.addr f.leave) front
+          ∙ append_assoc before (ways_text key point.addr w) (leaving_text key point.addr f.leave)
+          ∙ ap (λ l. before ++ (ways_text key point.addr w ++ leaving_text key point.addr l)) told.leaves
+          ∙ ap (λ l. before ++ l) (sym text_is);
+    }

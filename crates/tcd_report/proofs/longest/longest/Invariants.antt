@@ -1,0 +1,8 @@
+use Rattle.std.proofs.Common.{ℕ, take}
+use Rattle.std.specs.Prelude.{nat_eq}
+use Rattle.std.specs.HashMap.{get}
+use Rattle.tcd_report.specs.Longest.{AtPrio, IsGreatest}
+use Rattle.tcd_report.proofs.longest.longest.Given as goal
+
+abbrev pub invariant-loop-node : goal.invariant-loop-node
+invariant-loop-node l = (p : ℕ) → IsGreatest (AtPrio l.heights (take l.node-index l.nodes) p) (get nat_eq l.rows p)

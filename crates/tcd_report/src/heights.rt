@@ -1,0 +1,48 @@
+// The greatest number of calls in a row from each node on.
+ghost use Rattle.std.specs.Prelude.{◌≡◌, ℕ, Some, Contains, IfOk, map};
+ghost use Rattle.std.specs.HashMap.{get};
+ghost use Rattle.depth_cert.specs.Nodes.{NodeData};
+ghost use Rattle.tcd_report.specs.Heights.{key_eq, rank_of, TellsHeights};
+ghost use Rattle.tcd_report.specs.Judging.{IsJudged};
+
+use crate::judged::Judged;
+use crate::rows::rows_from;
+use depth_cert::{Key, Node};
+use std::alloc::Global;
+use std::collections::HashMap;
+use tcd_base::NoMemory;
+
+// The nodes' needs and keys.
+fn ranks(alloc: Global, nodes: &[Node]) -> Result<Vec<(u16, Key)>, NoMemory>
+    ensures { IfOk result (λ v. v.items ≡ map rank_of nodes.now) }
+{
+    let mut ranks = Vec::new(alloc);
+    for node in nodes {
+        ranks.push((node.need, node.key))?;
+    }
+    Ok(ranks)
+}
+
+/// For each node the greatest number of calls in a row from it on. Nodes are taken by ascending need, since a node's need is
+/// above that of each node that it calls.
+pub(crate) fn heights(alloc: Global, judged: &Judged) -> Result<HashMap<Key, u32>, NoMemory>
+    requires { IsJudged judged.now }
+    ensures tells { let j = judged.now in
+        IfOk result (λ m. TellsHeights j.image.now j.plan.now j.cert.now m) }
+    ensures all { IfOk result
+        (λ m. (n : NodeData) → Contains judged.now.cert.now.nodes n
+        → (h : ℕ) × (get key_eq m n.key ≡ Some h)) }
+{
+    let cert = judged.cert;
+    let mut order = ranks(alloc, &cert.nodes)?;
+    order.sort()?;
+    let mut heights = HashMap::new(alloc);
+    for (_, key) in &order {
+        let Some(node) = cert.node(key) else {
+            unreachable!()
+        };
+        let rows = rows_from(judged, &heights, node);
+        heights.insert(*key, rows)?;
+    }
+    Ok(heights)
+}

@@ -1,0 +1,18 @@
+//! What people look at: the graph of a certificate and its report.
+#![tactic(auto)]
+
+mod addresses;
+mod graphs;
+mod heights;
+mod judged;
+mod laws;
+mod lines;
+mod longest;
+mod reports;
+mod rows;
+mod texts;
+mod ways;
+
+pub use graphs::graph;
+pub use laws::graph_law;
+pub use reports::report;

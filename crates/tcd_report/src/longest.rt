@@ -1,0 +1,91 @@
+// The longest row of calls of each priority.
+ghost use Rattle.std.specs.Prelude.{◌≡◌, ◌++◌, ℕ, Some, Contains, OnOk, IfOk, nat_eq};
+ghost use Rattle.std.specs.HashMap.{get};
+ghost use Rattle.std.specs.Option.{option_copied};
+ghost use Rattle.depth_cert.specs.Nodes.{NodeData};
+ghost use Rattle.tcd_report.specs.Heights.{key_eq};
+ghost use Rattle.tcd_report.specs.Calls.{priorities};
+ghost use Rattle.tcd_report.specs.Longest as spec;
+ghost use Rattle.tcd_report.specs.Longest.{AtPrio, IsGreatest, greater, row_of};
+
+use depth_cert::{Key, Node};
+use std::alloc::Global;
+use std::collections::HashMap;
+use tcd_base::NoMemory;
+
+/// A priority, and the greatest number of calls in a row there.
+#[derive(Clone, Copy)]
+pub(crate) struct Row {
+    pub(crate) longest: u32,
+    pub(crate) prio: u16,
+}
+
+// The greater of a number that may be known and another one.
+fn greater_of(known: Option<&u32>, height: u32) -> u32
+    ensures { result ≡ greater (option_copied known.entry) height }
+{
+    match known {
+        None => height,
+        Some(most) => height.max(*most),
+    }
+}
+
+/// For each priority the greatest number of calls in a row from one of its nodes on, if it has nodes.
+pub(crate) fn longest(
+    alloc: Global,
+    nodes: &[Node],
+    heights: &HashMap<Key, u32>,
+) -> Result<HashMap<u16, u32>, NoMemory>
+    requires { (n : NodeData) → Contains nodes.now n
+        → (h : ℕ) × (get key_eq heights.now n.key ≡ Some h) }
+    ensures { IfOk result
+        (λ rows. (p : ℕ) → IsGreatest (AtPrio heights.now nodes.now p) (get nat_eq rows p)) }
+{
+    let mut rows = HashMap::new(alloc);
+    for node in nodes {
+        let Some(height) = heights.get(&node.key) else {
+            unreachable!()
+        };
+        let prio = u16::from(node.key.prio);
+        let most = greater_of(rows.get(&prio), *height);
+        rows.insert(prio, most)?;
+    }
+    Ok(rows)
+}
+
+/// How many priorities there are.
+#[tactic(auto, unfolding(crate::specs::Calls::priorities))]
+pub(crate) fn priority_count() -> u16
+    ensures { result ≡ priorities }
+{
+    256
+}
+
+// The row of a priority more, where it has one.
+fn push_row(rows: &mut Vec<Row>, prio: u16, row: Option<&u32>) -> Result<(), NoMemory>
+    ensures { OnOk result
+        (rows.new.items ≡ rows.old.items ++ row_of prio (option_copied row.entry)) }
+{
+    if let Some(longest) = row {
+        rows.push(Row {
+            longest: *longest,
+            prio,
+        })?;
+    }
+    Ok(())
+}
+
+/// The rows of so many priorities, ascending.
+pub(crate) fn rows_below(
+    alloc: Global,
+    known: &HashMap<u16, u32>,
+    count: u16,
+) -> Result<Vec<Row>, NoMemory>
+    ensures { IfOk result (λ v. v.items ≡ spec.rows_below (get nat_eq known.now) count) }
+{
+    let mut rows = Vec::new(alloc);
+    for prio in 0..count {
+        push_row(&mut rows, prio, known.get(&prio))?;
+    }
+    Ok(rows)
+}
