@@ -6,7 +6,8 @@ mod real;
 use real::{RealFiles, Stdout};
 use std::process::ExitCode;
 use std::{env, io};
-use tcd_driver::{Status, tool};
+use tcd_driver::tool;
+use tcd_reading::Status;
 
 fn main(rt: HostRuntime) -> ExitCode {
     match words(&rt) {

@@ -18,23 +18,27 @@ use Rattle.tc_link.specs.Linked.{Refusal, linked}
 use Rattle.tc_link.specs.Errors.{refusal_of}
 use Rattle.tc_link.specs.declared.errors.LinkErr.{LinkErr}
 use Rattle.tc_link.specs.declared.errors.LinkErr.TheVariants as error
-use Rattle.tcd_driver.specs.Reports.{Report, says, writes_file}
-use Rattle.tcd_driver.specs.Lines.{certified_line, run_line, link_line}
-use Rattle.tcd_driver.specs.Forms.{object_form}
+use Rattle.tcd_reading.specs.Reports.{Report, says, writes_file}
+use Rattle.tcd_forms.specs.Lines.{certified_line, run_line, link_line}
+use Rattle.tcd_forms.specs.Forms.{object_form, placed_source_form}
 use Rattle.tcd_driver.specs.Check as verdict
 use Rattle.tcd_driver.specs.Check.{IsVerdict}
 use Rattle.tcd_driver.specs.Run.{IsRun, ran, told_run}
 use Rattle.tcd_driver.specs.Link.{IsLinked, WritesImage, refused, image}
-use Rattle.tcd_driver.specs.Commands.{Command, check, run, dis, asm, link, reading_of}
-use Rattle.tcd_driver.specs.declared.status.Status.TheVariants.{Done, Refused, BadInput, BadWords}
-use Rattle.tcd_driver.proofs.FormLaws.{elf_lawful, plan_lawful, cert_lawful, script_lawful, source_lawful, layout_lawful, object_lawful, ok_err}
-use Rattle.tcd_driver.proofs.Decided.{AreAlike, IsDecided, decided_input, decided_answer, decided_each}
-
-status_is : (r q : Report) → r ≡ q → r.status ≡ q.status
-status_is r q e = ap (λ (x : Report). x.status) e
-
-writes_are : (r q : Report) → r ≡ q → r.writes ≡ q.writes
-writes_are r q e = ap (λ (x : Report). x.writes) e
+use Rattle.tcd_driver.specs.Commands.{Command, check, certify, cfg, report, run, dis, asm, link, ship, boot, bootgen, cells, cellcert, tasks, taskcert, generate, reading_of}
+use Rattle.tcd_reading.specs.declared.status.Status.TheVariants.{Done, Refused, BadInput, BadWords}
+use Rattle.tcd_forms.proofs.FormLaws.{elf_lawful, plan_lawful, cert_lawful, script_lawful, source_lawful, layout_lawful, object_lawful, placed_source_lawful, ok_err}
+use Rattle.tcd_driver.proofs.LinkLaws.{none_memory, line_told}
+use Rattle.tcd_driver.proofs.MakingLaws.{certifying_alike}
+use Rattle.tcd_driver.proofs.ShipReports.{shipped_alike}
+use Rattle.tcd_driver.proofs.GraphReports.{drawing_alike, reporting_alike}
+use Rattle.tcd_driver.proofs.BootReports.{boot_alike}
+use Rattle.tcd_driver.proofs.CellsReports.{cells_alike, cells_lawful}
+use Rattle.tcd_driver.proofs.CellcertReports.{cellcert_alike}
+use Rattle.tcd_driver.proofs.TasksReports.{tasks_lawful, certs_decided}
+use Rattle.tcd_driver.proofs.GenReports.{summary_alike}
+use Rattle.tcd_driver.proofs.TaskcertReports.{taskcert_decided}
+use Rattle.tcd_reading.proofs.Decided.{AreAlike, IsDecided, decided_input, decided_answer, decided_each, status_is, writes_are}
 
 -- one report that is done
 only_one : (q : Report) → q.status ≡ Done → AreAlike (λ r. r ≡ q)
@@ -110,20 +114,6 @@ module _ (name : List ℕ) (l : LayoutData) (objects : List ObjectData) where
 pub linked_image : (name : List ℕ) (l : LayoutData) (objects : List ObjectData) (i : ImageData) (r : Report) → linked objects l ≡ Ok i → WritesImage name i r → IsLinked name l objects r
 linked_image name l objects i r is writes = image i is writes
 
-none_memory : (e : LinkErr) → refusal_of e ≡ None → e ≡ error.NoMemory
-none_memory (error.Twice name) h = cc
-none_memory (error.Missing name) h = cc
-none_memory (error.NoPlace name) h = cc
-none_memory (error.NoRoom name) h = cc
-none_memory (error.Reloc object section offset err) h = cc
-none_memory error.NoEntry h = cc
-none_memory error.NoMemory h = refl
-
-line_told : {V E : Type 0} (items : V → List ℕ) (line : Result V E) (r : Report) (o : Option Refusal) → IfOk line (λ l. IfSome o (λ q. items l ≡ link_line q)) → IsOkAnd line (λ l. r ≡ says BadInput (items l)) → IfSome o (λ q. r ≡ says BadInput (link_line q))
-line_told items (Ok l) r None made said = tt
-line_told items (Ok l) r (Some q) made said = said ∙ ap (λ (t : List ℕ). says BadInput t) made
-line_told items (Err e) r o made said = absurd said
-
 refused_by : (name : List ℕ) (l : LayoutData) (objects : List ObjectData) (o : Option Refusal) (r : Report) → (o ≡ None → ⊥) → IfSome o (λ q. linked objects l ≡ Err q) → IfSome o (λ q. r ≡ says BadInput (link_line q)) → IsLinked name l objects r
 refused_by name l objects None r some is text = absurd (some refl)
 refused_by name l objects (Some q) r some is text = refused q is text
@@ -142,7 +132,28 @@ file_report items (Err x) text name bytes lent is r e f made said = absurd said
 -- ---- all commands
 pub command_decided : (c : Command) → IsDecided (reading_of c)
 command_decided (check names) = decided_input _ _ _ _ elf_lawful (λ i. decided_input _ _ _ _ plan_lawful (λ p. decided_input _ _ _ _ cert_lawful (λ c. decided_answer _ (verdict_alike i p c))))
+command_decided (certify names) = decided_input _ _ _ _ elf_lawful (λ i. decided_input _ _ _ _ plan_lawful (λ p. decided_answer _ (certifying_alike names.cert i p)))
+command_decided (cfg names) = decided_input _ _ _ _ elf_lawful (λ i. decided_input _ _ _ _ plan_lawful (λ p. decided_answer _ (drawing_alike i p)))
+command_decided (report names) =
+    decided_input _ _ _ _ elf_lawful (λ i. decided_input _ _ _ _ plan_lawful (λ p. decided_input _ _ _ _ cert_lawful (λ c. decided_answer _ (reporting_alike i p c))))
 command_decided (run names) = decided_input _ _ _ _ elf_lawful (λ i. decided_input _ _ _ _ plan_lawful (λ p. decided_input _ _ _ _ (script_lawful p) (λ s. decided_answer _ (run_alike i p s))))
 command_decided (dis elf) = decided_input _ _ _ _ elf_lawful (λ i. decided_answer _ (only_one _ refl))
 command_decided (asm names) = decided_input _ _ _ _ source_lawful (λ o. decided_answer _ (only_one _ refl))
 command_decided (link names) = decided_input _ _ _ _ layout_lawful (λ l. decided_each _ object_form 0 _ _ object_lawful (λ os. decided_answer _ (linked_alike names.image l os)))
+command_decided (ship names) =
+    decided_input _ _ _ _ plan_lawful
+    (λ p. decided_input _ _ _ _ layout_lawful (λ l. decided_each _ placed_source_form 0 _ _ placed_source_lawful (λ ss. decided_answer _ (shipped_alike names.elf names.cert p l ss))))
+command_decided (boot names) =
+    decided_input _ _ _ _ elf_lawful (λ i. decided_input _ _ _ _ plan_lawful (λ p. decided_input _ _ _ _ cert_lawful (λ c. decided_answer _ (boot_alike i p c names.at))))
+command_decided (bootgen names) = decided_input _ _ _ _ plan_lawful (λ p. decided_answer _ (only_one _ refl))
+command_decided (cells names) =
+    decided_input _ _ _ _ elf_lawful
+    (λ i. decided_input _ _ _ _ plan_lawful (λ p. decided_input _ _ _ _ (cells_lawful p) (λ cs. decided_input _ _ _ _ cert_lawful (λ c. decided_answer _ (cells_alike i p cs c)))))
+command_decided (cellcert names) =
+    decided_input _ _ _ _ elf_lawful
+    (λ i. decided_input _ _ _ _ plan_lawful (λ p. decided_input _ _ _ _ (cells_lawful p) (λ cs. decided_answer _ (cellcert_alike names.cert i p cs))))
+command_decided (tasks names) =
+    decided_input _ _ _ _ elf_lawful (λ i. decided_input _ _ _ _ plan_lawful (λ p. decided_input _ _ _ _ (tasks_lawful p) (λ t. certs_decided names.certs i p t)))
+command_decided (generate functions) = decided_answer _ (summary_alike functions _ _)
+command_decided (taskcert names) =
+    decided_input _ _ _ _ elf_lawful (λ i. decided_input _ _ _ _ plan_lawful (λ p. decided_input _ _ _ _ (tasks_lawful p) (λ t. taskcert_decided names.certs i p t)))

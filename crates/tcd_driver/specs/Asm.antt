@@ -2,10 +2,10 @@
 use Rattle.std.specs.Prelude.{◌≡◌, ℕ, List, length}
 use Rattle.tc_object.specs.Objects.{ObjectData}
 use Rattle.tc_object.specs.Spelling.{bytes_of}
-use Rattle.tcd_driver.specs.Reports.{Report, writes_file}
-use Rattle.tcd_driver.specs.Inputs.{Reading, input, answer}
-use Rattle.tcd_driver.specs.Forms.{source_form}
-use Rattle.tcd_driver.specs.Lines.{assembled_line}
+use Rattle.tcd_reading.specs.Reports.{Report, writes_file}
+use Rattle.tcd_reading.specs.Inputs.{Reading, input, answer}
+use Rattle.tcd_forms.specs.Forms.{source_form}
+use Rattle.tcd_forms.specs.Lines.{assembled_line}
 
 -- the names of the file that `asm` reads and of the one that it writes
 pub record AsmNames : Type 0 where

@@ -6,11 +6,11 @@ use Rattle.tc_machine.specs.Safe.{Safe}
 use Rattle.depth_cert.specs.Certs.{CertData}
 use Rattle.depth_cert.specs.declared.keys.Key.{Key}
 use Rattle.cfg_recover.specs.Accepting.{Accepts, IsFirstFault, certified_need}
-use Rattle.tcd_driver.specs.Reports.{Report, says}
-use Rattle.tcd_driver.specs.Inputs.{Reading, input, answer}
-use Rattle.tcd_driver.specs.Forms.{elf_form, plan_form, cert_form}
-use Rattle.tcd_driver.specs.Lines.{refused_line, certified_line}
-use Rattle.tcd_driver.specs.declared.status.Status.TheVariants.{Done, Refused}
+use Rattle.tcd_reading.specs.Reports.{Report, says}
+use Rattle.tcd_reading.specs.Inputs.{Reading, input, answer}
+use Rattle.tcd_forms.specs.Forms.{elf_form, plan_form, cert_form}
+use Rattle.tcd_forms.specs.Lines.{refused_line, certified_line}
+use Rattle.tcd_reading.specs.declared.status.Status.TheVariants.{Done, Refused}
 
 -- the names of the files that `check` reads
 pub record CheckNames : Type 0 where

@@ -2,10 +2,10 @@
 use Rattle.std.specs.Prelude.{◌≡◌, ℕ, List}
 use Rattle.elf_image.specs.Images.{ImageData}
 use Rattle.tc_disasm.specs.Listing.{listing_of}
-use Rattle.tcd_driver.specs.Reports.{Report, says}
-use Rattle.tcd_driver.specs.Inputs.{Reading, input, answer}
-use Rattle.tcd_driver.specs.Forms.{elf_form}
-use Rattle.tcd_driver.specs.declared.status.Status.TheVariants.{Done}
+use Rattle.tcd_reading.specs.Reports.{Report, says}
+use Rattle.tcd_reading.specs.Inputs.{Reading, input, answer}
+use Rattle.tcd_forms.specs.Forms.{elf_form}
+use Rattle.tcd_reading.specs.declared.status.Status.TheVariants.{Done}
 
 -- the listing of an image
 abbrev pub IsListing : ImageData → Report → Type 0

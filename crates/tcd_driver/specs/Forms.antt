@@ -1,93 +1,30 @@
--- The forms of inputs.
-use Rattle.std.specs.Prelude.{◌≡◌, ◌≢◌, ◌^◌, ℕ, List, length, Ok, Err}
-use Rattle.tcd_base.specs.declared.types.FormErr.{FormErr}
-use Rattle.elf_image.specs.Images.{ImageData}
-use Rattle.elf_image.specs.Elf.{image_of}
-use Rattle.elf_image.specs.declared.errors.ImageErr.{ImageErr}
+-- The forms of inputs that stand above the others.
+use Rattle.std.specs.Prelude.{◌≡◌, ◌^◌, List, Ok, Err}
 use Rattle.tcd_plan.specs.PlanData.{PlanData}
-use Rattle.tcd_plan.specs.Plans.{Gives, Answers}
-use Rattle.tcd_plan.specs.declared.plans.PlanErr.{PlanErr}
-use Rattle.tcd_plan.specs.declared.plans.PlanErr.TheVariants as plan
-use Rattle.depth_cert.specs.Certs.{CertData}
-use Rattle.depth_cert.specs.Grammar.{certificate_of}
-use Rattle.tc_script.specs.ScriptData.{ScriptData}
-use Rattle.tc_script.specs.Reading.{script_of}
-use Rattle.tc_script.specs.declared.errors.ScriptErr.{ScriptErr}
-use Rattle.tc_object.specs.Objects.{ObjectData}
-use Rattle.tc_object.specs.Grammar as grammar
-use Rattle.tc_asm.specs.Lines.{lines_in}
-use Rattle.tc_asm.specs.Objects.{object_of}
-use Rattle.tc_asm.specs.Sources.{drafted, symbols_of, KeepsRules, IsLeast}
-use Rattle.tc_link.specs.Layouts.{LayoutData}
-use Rattle.tc_link.specs.Faults.{layout_of}
-use Rattle.tc_link.specs.declared.faults.LayoutErr.{LayoutErr}
-use Rattle.tcd_driver.specs.Inputs.{FormSeen}
-use Rattle.tcd_driver.specs.Lines.{long_elf_line, elf_line, long_plan_line, plan_line, long_cert_line, cert_line, long_script_line, script_line, long_source_line, source_line, long_layout_line, layout_line, long_object_line, object_line}
+use Rattle.value_cells.specs.Reading.{Reads}
+use Rattle.value_cells.specs.declared.cells.Cell.{Cell}
+use Rattle.value_cells.specs.declared.errors.CellsErr.{CellsErr}
+use Rattle.tcd_reading.specs.Inputs.{FormSeen}
+use Rattle.tcd_text.specs.Lines.{lines_of}
+use Rattle.task_chains.specs.Tasks.{TasksData}
+use Rattle.task_chains.specs.Reading as tasks
+use Rattle.task_chains.specs.declared.task_lists.TasksErr.{TasksErr}
+use Rattle.tcd_driver.specs.Lines.{long_cells_line, cells_line, long_tasks_line, tasks_line}
 
--- an executable
-abbrev pub elf_form : FormSeen ImageData
-elf_form = record {
+-- the cells of a plan
+abbrev pub cells_form : PlanData → FormSeen (List Cell)
+cells_form p = record {
   limit = 2 ^ 24;
-  long_line = long_elf_line;
-  Is = λ bytes image. image_of bytes ≡ Ok image;
-  IsBad = λ bytes text. (e : ImageErr) × (image_of bytes ≡ Err e) × (text ≡ elf_line e);
+  long_line = long_cells_line;
+  Is = λ bytes cells. Reads p bytes (Ok cells);
+  IsBad = λ bytes text. (e : CellsErr) × Reads p bytes (Err e) × (text ≡ cells_line e);
 }
 
--- a plan
-abbrev pub plan_form : FormSeen PlanData
-plan_form = record {
+-- the tasks of a plan
+abbrev pub tasks_form : PlanData → FormSeen TasksData
+tasks_form p = record {
   limit = 2 ^ 24;
-  long_line = long_plan_line;
-  Is = λ bytes p. Gives bytes (Ok p);
-  IsBad = λ bytes text. (e : PlanErr) × Answers bytes (Err e) × (e ≢ plan.NoMemory) × (text ≡ plan_line e);
-}
-
--- a certificate
-abbrev pub cert_form : FormSeen CertData
-cert_form = record {
-  limit = 2 ^ 30;
-  long_line = long_cert_line;
-  Is = λ bytes cert. certificate_of bytes ≡ Ok cert;
-  IsBad = λ bytes text. (e : FormErr) × (certificate_of bytes ≡ Err e) × (text ≡ cert_line e);
-}
-
--- a script for a plan
-abbrev pub script_form : PlanData → FormSeen ScriptData
-script_form p = record {
-  limit = 2 ^ 24;
-  long_line = long_script_line;
-  Is = λ bytes script. script_of p bytes ≡ Ok script;
-  IsBad = λ bytes text. (e : ScriptErr) × (script_of p bytes ≡ Err e) × (text ≡ script_line e);
-}
-
--- the bytes are a source that breaks no rule, and this is its object
-pub record IsSource (bytes : List ℕ) (object : ObjectData) : Type 0 where
-  pub keeps : KeepsRules (lines_in bytes) (length (lines_in bytes))
-  pub is : object ≡ object_of (drafted (symbols_of (lines_in bytes)) (lines_in bytes))
-
--- a source, as the object that it is assembled to; of one that breaks a rule the least line is told, and there the least rule
-abbrev pub source_form : FormSeen ObjectData
-source_form = record {
-  limit = 2 ^ 24;
-  long_line = long_source_line;
-  Is = λ bytes object. IsSource bytes object;
-  IsBad = λ bytes text. (line : ℕ) × (rule : ℕ) × IsLeast (lines_in bytes) line rule × (text ≡ source_line 0 rule line);
-}
-
--- a layout
-abbrev pub layout_form : FormSeen LayoutData
-layout_form = record {
-  limit = 2 ^ 24;
-  long_line = long_layout_line;
-  Is = λ bytes l. layout_of bytes ≡ Ok l;
-  IsBad = λ bytes text. (e : LayoutErr) × (layout_of bytes ≡ Err e) × (text ≡ layout_line e);
-}
-
--- the object at this place among the objects
-abbrev pub object_form : ℕ → FormSeen ObjectData
-object_form place = record {
-  limit = 2 ^ 24;
-  long_line = long_object_line place;
-  Is = λ bytes object. grammar.object_of bytes ≡ Ok object;
-  IsBad = λ bytes text. (e : FormErr) × (grammar.object_of bytes ≡ Err e) × (text ≡ object_line place e);
+  long_line = long_tasks_line;
+  Is = λ bytes list. tasks.Reads p (lines_of bytes) (Ok list);
+  IsBad = λ bytes text. (e : TasksErr) × tasks.Reads p (lines_of bytes) (Err e) × (text ≡ tasks_line e);
 }

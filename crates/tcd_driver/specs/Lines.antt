@@ -1,196 +1,92 @@
--- The printed lines.
-use Rattle.std.specs.Prelude.{ℕ, ◌+◌, ◌/◌, ◌%◌, ◌^◌, ◌==◌, nat_lt, if◌then◌else◌, List, [], ◌∷◌, ◌++◌, codes, slice_get, unwrap_or}
+-- The printed lines of words that are no command, of boot sequences, of cells, of tasks and of generated images.
+use Rattle.std.specs.Prelude.{ℕ, ◌-◌, List, [], ◌∷◌, ◌++◌, codes, length, take}
 use Rattle.std.specs.Fmt.{decimal}
-use Rattle.elf_image.specs.declared.errors.ImageErr.{ImageErr}
-use Rattle.elf_image.specs.declared.errors.ImageErr.TheVariants as elf
-use Rattle.tcd_base.specs.declared.types.FormErr.{FormErr}
+use Rattle.tc_boot.specs.declared.judging.BootErr.{BootErr}
+use Rattle.tc_boot.specs.declared.judging.BootErr.TheVariants as boot
+use Rattle.value_cells.specs.declared.errors.CellsErr.{CellsErr}
+use Rattle.value_cells.specs.declared.errors.CellsErr.TheVariants as cells
 use Rattle.depth_cert.specs.declared.keys.Key.{Key}
-use Rattle.tc_machine.specs.declared.events.Cause.{Cause}
-use Rattle.tc_machine.specs.declared.events.Cause.TheVariants.{Fcd, Fcu, Csu, Ctyp, NotListed, NoCode, NoArea}
-use Rattle.tc_machine.specs.declared.events.End.{End}
-use Rattle.tc_machine.specs.declared.events.End.TheVariants.{Running, Dead}
-use Rattle.tc_machine.specs.declared.state.Machine.{Machine}
-use Rattle.tc_script.specs.declared.errors.ScriptErr.{ScriptErr}
-use Rattle.tc_script.specs.declared.errors.ScriptErr.TheVariants as script
-use Rattle.tc_reloc.specs.declared.refusals.RelocErr.{RelocErr}
-use Rattle.tc_reloc.specs.declared.refusals.RelocErr.TheVariants.{Odd, FarOff, Segment}
-use Rattle.tc_link.specs.Linked.{Refusal, twice, missing, no_place, no_room, reloc, no_entry}
-use Rattle.tc_link.specs.declared.faults.LayoutErr.{LayoutErr}
-use Rattle.tc_link.specs.declared.faults.LayoutErr.TheVariants as layout
-use Rattle.tcd_plan.specs.Keys.{key_texts}
-use Rattle.tcd_plan.specs.declared.plans.PlanKey.{PlanKey}
-use Rattle.tcd_plan.specs.declared.plans.PlanErr.{PlanErr}
-use Rattle.tcd_plan.specs.declared.plans.PlanErr.TheVariants as plan
-
--- one of the sixteen hex digits, in upper case
-abbrev pub hex_digit : ℕ → ℕ
-hex_digit n = if nat_lt n 10 then 48 + n else 55 + n
-
--- a word as eight of them
-unfoldable pub hex_word : ℕ → List ℕ
-hex_word x =
-    hex_digit (x / 2 ^ 28 % 16) ∷ hex_digit (x / 2 ^ 24 % 16) ∷ hex_digit (x / 2 ^ 20 % 16) ∷ hex_digit (x / 2 ^ 16 % 16)
-    ∷ hex_digit (x / 2 ^ 12 % 16) ∷ hex_digit (x / 2 ^ 8 % 16) ∷ hex_digit (x / 2 ^ 4 % 16) ∷ hex_digit (x % 16) ∷ []
-
--- the kind of a key: the start (0), a call, an interrupt, a system call or a misaligned access
-unfoldable pub kind_text : ℕ → List ℕ
-kind_text kind =
-    if kind == 0 then codes "start "
-    else if kind == 1 then codes "call "
-    else if kind == 2 then codes "irq "
-    else if kind == 3 then codes "sys "
-    else codes "aln "
-
--- a key: its kind, its entry, its priority, and whether the interrupt stack is in use
-unfoldable pub key_line : Key → List ℕ
-key_line key = kind_text key.kind ++ (hex_word key.entry ++ (codes " prio " ++ (decimal key.prio ++ (codes " is " ++ ((if key.is then 49 else 48) ∷ 10 ∷ [])))))
+use Rattle.task_chains.specs.declared.task_lists.TasksErr.{TasksErr}
+use Rattle.task_chains.specs.declared.task_lists.TasksErr.TheVariants as tasks
+use Rattle.tcd_forms.specs.Lines.{hex_word, at_one, refused_line}
 
 -- the words of no form
 unfoldable pub bad_words_line : List ℕ
 bad_words_line = codes "bad words" ++ 10 ∷ []
 
--- what stands between the number of a refusal and the line's end: one number, or two
-unfoldable pub at_one : ℕ → List ℕ
-at_one i = codes " at " ++ (decimal i ++ 10 ∷ [])
+-- what is against a boot sequence, by its number; the last with the address of the first byte that differs
+unfoldable pub unbooted_line : BootErr → List ℕ
+unbooted_line boot.Enabled = codes "refused boot 1" ++ 10 ∷ []
+unbooted_line boot.Odd = codes "refused boot 2" ++ 10 ∷ []
+unbooted_line boot.Outside = codes "refused boot 3" ++ 10 ∷ []
+unbooted_line (boot.Differs p) = codes "refused boot 4 at " ++ (hex_word p ++ 10 ∷ [])
 
--- two numbers
-unfoldable pub at_two : ℕ → ℕ → List ℕ
-at_two i j = codes " at " ++ (decimal i ++ (codes " " ++ (decimal j ++ 10 ∷ [])))
+-- so many events of a boot sequence, and then so many areas are needed, of so many
+unfoldable pub boots_line : ℕ → ℕ → ℕ → List ℕ
+boots_line events need areas =
+    codes "boot " ++ (decimal events ++ (codes " events certified " ++ (decimal need ++ (codes " of " ++ (decimal areas ++ (codes " areas" ++ 10 ∷ []))))))
 
--- a name
-unfoldable pub at_name : List ℕ → List ℕ
-at_name name = codes " name " ++ (name ++ 10 ∷ [])
+-- a boot sequence was written as a source
+unfoldable pub generated_boot_line : List ℕ
+generated_boot_line = codes "boot 56 instructions" ++ 10 ∷ []
 
--- a plan's key
-unfoldable pub at_key : PlanKey → List ℕ
-at_key key = codes " key " ++ (unwrap_or (slice_get key_texts key.0) [] ++ 10 ∷ [])
-
--- why a file is no image: 0 where it is above its limit
-unfoldable pub long_elf_line : List ℕ
-long_elf_line = codes "bad elf 0" ++ 10 ∷ []
-
--- by the fault, 1 to 7
-unfoldable pub elf_line : ImageErr → List ℕ
-elf_line elf.Short = codes "bad elf 1" ++ 10 ∷ []
-elf_line elf.NotElf32Le = codes "bad elf 2" ++ 10 ∷ []
-elf_line elf.NotTriCore = codes "bad elf 3" ++ 10 ∷ []
-elf_line elf.NotExec = codes "bad elf 4" ++ 10 ∷ []
-elf_line (elf.BadSegment i) = codes "bad elf 5" ++ at_one i
-elf_line elf.TooLarge = codes "bad elf 6" ++ 10 ∷ []
-elf_line (elf.Overlap i j) = codes "bad elf 7" ++ at_two i j
-elf_line elf.NoMemory = []
-
--- why a file is no plan: 0 where it is above its limit
-unfoldable pub long_plan_line : List ℕ
-long_plan_line = codes "bad plan 0" ++ 10 ∷ []
-
--- by the fault, 1 to 8
-unfoldable pub plan_line : PlanErr → List ℕ
-plan_line plan.NotJson = codes "bad plan 1" ++ 10 ∷ []
-plan_line (plan.Missing key) = codes "bad plan 2" ++ at_key key
-plan_line (plan.Unknown key) = codes "bad plan 3" ++ at_key key
-plan_line (plan.BadValue key) = codes "bad plan 4" ++ at_key key
-plan_line (plan.TooMany key) = codes "bad plan 5" ++ at_key key
-plan_line plan.BadCsa = codes "bad plan 6" ++ 10 ∷ []
-plan_line plan.BadVector = codes "bad plan 7" ++ 10 ∷ []
-plan_line (plan.Overlap i j) = codes "bad plan 8" ++ at_two i j
-plan_line plan.NoMemory = []
-
--- why a file is no certificate: 0 where it is above its limit
-unfoldable pub long_cert_line : List ℕ
-long_cert_line = codes "bad cert 0" ++ 10 ∷ []
-
--- by the fault and its place in the file, in bytes
-unfoldable pub cert_line : FormErr → List ℕ
-cert_line e = codes "bad cert " ++ (decimal e.kind ++ at_one e.at)
-
--- the rule that fails, the address, and the key
-unfoldable pub refused_line : ℕ → Key → ℕ → List ℕ
-refused_line rule key addr = codes "refused K" ++ (decimal rule ++ (codes " at " ++ (hex_word addr ++ (codes " in " ++ key_line key))))
-
--- so many areas are needed, of so many
-unfoldable pub certified_line : ℕ → ℕ → List ℕ
-certified_line need areas = codes "certified " ++ (decimal need ++ (codes " of " ++ (decimal areas ++ (codes " areas" ++ 10 ∷ []))))
-
--- why a file is no script: 0 where it is above its limit; else the line
-unfoldable pub long_script_line : List ℕ
-long_script_line = codes "bad script 0" ++ 10 ∷ []
+-- why a file is no cells: 0 where it is above its limit
+unfoldable pub long_cells_line : List ℕ
+long_cells_line = codes "bad cells 0" ++ 10 ∷ []
 
 -- by the fault and its line
-unfoldable pub script_line : ScriptErr → List ℕ
-script_line (script.BadLine n) = codes "bad script 1" ++ at_one n
-script_line (script.NoSource n) = codes "bad script 2" ++ at_one n
-script_line (script.OutOfRange n) = codes "bad script 3" ++ at_one n
-script_line (script.TooMany n) = codes "bad script 4" ++ at_one n
-script_line script.NoMemory = []
+unfoldable pub cells_line : CellsErr → List ℕ
+cells_line (cells.BadLine n) = codes "bad cells 1" ++ at_one n
+cells_line (cells.NotRam n) = codes "bad cells 2" ++ at_one n
+cells_line (cells.Twice n) = codes "bad cells 3" ++ at_one n
+cells_line (cells.TooMany n) = codes "bad cells 4" ++ at_one n
 
--- a cause of death
-unfoldable pub cause_text : Cause → List ℕ
-cause_text Fcd = codes "fcd"
-cause_text Fcu = codes "fcu"
-cause_text Csu = codes "csu"
-cause_text Ctyp = codes "ctyp"
-cause_text NotListed = codes "notlisted"
-cause_text NoCode = codes "nocode"
-cause_text NoArea = codes "noarea"
+-- so many areas are needed, of so many, where so many cells keep their bounds
+unfoldable pub certified_cells_line : ℕ → ℕ → ℕ → List ℕ
+certified_cells_line need areas count =
+    codes "certified " ++ (decimal need ++ (codes " of " ++ (decimal areas ++ (codes " areas with " ++ (decimal count ++ (codes " cells" ++ 10 ∷ []))))))
 
--- whether a machine runs, or died, of what and where
-unfoldable pub end_text : End → ℕ → List ℕ
-end_text Running pc = codes "running" ++ 10 ∷ []
-end_text (Dead cause) pc = codes "dead " ++ (cause_text cause ++ (codes " at " ++ (hex_word pc ++ 10 ∷ [])))
+-- why a file is no tasks: 0 where it is above its limit
+unfoldable pub long_tasks_line : List ℕ
+long_tasks_line = codes "bad tasks 0" ++ 10 ∷ []
 
--- so many events, at most so many areas in use, and the machine after the last event
-unfoldable pub run_line : ℕ → ℕ → Machine → List ℕ
-run_line events peak m = codes "events " ++ (decimal events ++ (codes " peak " ++ (decimal peak ++ (codes " " ++ end_text m.end m.pc))))
+-- by the fault, the first two with the line
+unfoldable pub tasks_line : TasksErr → List ℕ
+tasks_line (tasks.BadLine n) = codes "bad tasks 1" ++ at_one n
+tasks_line (tasks.TooMany n) = codes "bad tasks 2" ++ at_one n
+tasks_line tasks.TooFew = codes "bad tasks 3" ++ 10 ∷ []
+tasks_line tasks.NotRam = codes "bad tasks 4" ++ 10 ∷ []
+tasks_line tasks.NoRoom = codes "bad tasks 5" ++ 10 ∷ []
+tasks_line tasks.OnIsp = codes "bad tasks 6" ++ 10 ∷ []
+tasks_line tasks.Count = codes "bad tasks 7" ++ 10 ∷ []
 
--- why the file at a place among the sources is none: 0 where it is above its limit, else the rule; `asm` has one, at place 0
-unfoldable pub long_source_line : List ℕ
-long_source_line = codes "bad source 0 at 0" ++ 10 ∷ []
+-- the first address at which the switch routine doesn't stand
+unfoldable pub switch_line : ℕ → List ℕ
+switch_line addr = codes "refused switch at " ++ (hex_word addr ++ 10 ∷ [])
 
--- by the rule and its line
-unfoldable pub source_line : ℕ → ℕ → ℕ → List ℕ
-source_line place rule line = codes "bad source " ++ (decimal rule ++ at_two place line)
+-- a line with the number of a task before its end
+unfoldable pub of_task : List ℕ → ℕ → List ℕ
+of_task line u = take (length line - 1) line ++ (codes " of task " ++ (decimal u ++ 10 ∷ []))
 
--- so many bytes of an object were written
-unfoldable pub assembled_line : ℕ → List ℕ
-assembled_line bytes = codes "object " ++ (decimal bytes ++ (codes " bytes" ++ 10 ∷ []))
+-- the rule that fails, the address, the key, and the task
+abbrev pub refused_task_line : ℕ → Key → ℕ → ℕ → List ℕ
+refused_task_line rule key addr u = of_task (refused_line rule key addr) u
 
--- why a file is no layout: 0 where it is above its limit
-unfoldable pub long_layout_line : List ℕ
-long_layout_line = codes "bad layout 0" ++ 10 ∷ []
+-- the needs of all tasks are together above so many areas
+unfoldable pub sum_line : ℕ → ℕ → List ℕ
+sum_line sum areas = codes "refused sum " ++ (decimal sum ++ (codes " of " ++ (decimal areas ++ (codes " areas" ++ 10 ∷ []))))
 
--- by the fault and its line
-unfoldable pub layout_line : LayoutErr → List ℕ
-layout_line (layout.BadLine n) = codes "bad layout 1" ++ at_one n
-layout_line (layout.Twice n) = codes "bad layout 2" ++ at_one n
-layout_line (layout.TooMany n) = codes "bad layout 3" ++ at_one n
-layout_line (layout.Overlap n) = codes "bad layout 4" ++ at_one n
-layout_line layout.NoMemory = []
+-- so many areas are needed, of so many, by so many tasks
+unfoldable pub certified_tasks_line : ℕ → ℕ → ℕ → List ℕ
+certified_tasks_line sum areas n =
+    codes "certified " ++ (decimal sum ++ (codes " of " ++ (decimal areas ++ (codes " areas in " ++ (decimal n ++ (codes " tasks" ++ 10 ∷ []))))))
 
--- why the file at this place among the objects is none: 0 where it is above its limit
-unfoldable pub long_object_line : ℕ → List ℕ
-long_object_line place = codes "bad object 0" ++ at_one place
-
--- by the fault and its place in the file, in bytes
-unfoldable pub object_line : ℕ → FormErr → List ℕ
-object_line place e = codes "bad object " ++ (decimal e.kind ++ at_two place e.at)
-
--- the number of a refusal to fill a field
-unfoldable pub field_fault : RelocErr → ℕ
-field_fault Odd = 1
-field_fault FarOff = 2
-field_fault Segment = 3
-
--- why objects can't be linked; a relocation by its object, section and offset
-unfoldable pub link_line : Refusal → List ℕ
-link_line (twice name) = codes "bad link 1" ++ at_name name
-link_line (missing name) = codes "bad link 2" ++ at_name name
-link_line (no_place name) = codes "bad link 3" ++ at_name name
-link_line (no_room name) = codes "bad link 4" ++ at_name name
-link_line (reloc object section offset err) =
-    codes "bad link 5 at " ++ (decimal object ++ (codes " " ++ (decimal section ++ (codes " " ++ (decimal offset ++ (codes " " ++ (decimal (field_fault err) ++ 10 ∷ [])))))))
-link_line no_entry = codes "bad link 6" ++ 10 ∷ []
-
--- so many bytes of an image were written
-unfoldable pub linked_line : ℕ → List ℕ
-linked_line bytes = codes "image " ++ (decimal bytes ++ (codes " bytes" ++ 10 ∷ []))
+-- so many functions are generated, whose certificate has so many nodes and points; so many areas are needed, of so many
+unfoldable pub generated_line : ℕ → ℕ → ℕ → ℕ → ℕ → List ℕ
+generated_line functions nodes points need areas =
+    codes "functions "
+    ++ (decimal functions
+    ++ (codes " nodes "
+    ++ (decimal nodes
+    ++ (codes " points "
+    ++ (decimal points ++ (codes " certified " ++ (decimal need ++ (codes " of " ++ (decimal areas ++ (codes " areas" ++ 10 ∷ []))))))))))

@@ -5,11 +5,11 @@ use Rattle.elf_image.specs.Written.{file_of}
 use Rattle.tc_object.specs.Objects.{ObjectData}
 use Rattle.tc_link.specs.Layouts.{LayoutData}
 use Rattle.tc_link.specs.Linked.{Refusal, linked}
-use Rattle.tcd_driver.specs.Reports.{Report, says, writes_file}
-use Rattle.tcd_driver.specs.Inputs.{Reading, input, each, answer}
-use Rattle.tcd_driver.specs.Forms.{layout_form, object_form}
-use Rattle.tcd_driver.specs.Lines.{link_line, linked_line}
-use Rattle.tcd_driver.specs.declared.status.Status.TheVariants.{BadInput}
+use Rattle.tcd_reading.specs.Reports.{Report, says, writes_file}
+use Rattle.tcd_reading.specs.Inputs.{Reading, input, each, answer}
+use Rattle.tcd_forms.specs.Forms.{layout_form, object_form}
+use Rattle.tcd_forms.specs.Lines.{link_line, linked_line}
+use Rattle.tcd_reading.specs.declared.status.Status.TheVariants.{BadInput}
 
 -- the names of the layout and the objects that `link` reads, and of the image that it writes
 pub record LinkNames : Type 0 where

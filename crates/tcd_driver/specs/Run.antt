@@ -8,11 +8,11 @@ use Rattle.tc_machine.specs.Stepping as stepping
 use Rattle.tc_script.specs.ScriptData.{ScriptData}
 use Rattle.tc_script.specs.Runs.{peak_of}
 use Rattle.tc_script.specs.ScriptRuns.{script_events}
-use Rattle.tcd_driver.specs.Reports.{Report, says}
-use Rattle.tcd_driver.specs.Inputs.{Reading, input, answer}
-use Rattle.tcd_driver.specs.Forms.{elf_form, plan_form, script_form}
-use Rattle.tcd_driver.specs.Lines.{run_line}
-use Rattle.tcd_driver.specs.declared.status.Status.TheVariants.{Done}
+use Rattle.tcd_reading.specs.Reports.{Report, says}
+use Rattle.tcd_reading.specs.Inputs.{Reading, input, answer}
+use Rattle.tcd_forms.specs.Forms.{elf_form, plan_form, script_form}
+use Rattle.tcd_forms.specs.Lines.{run_line}
+use Rattle.tcd_reading.specs.declared.status.Status.TheVariants.{Done}
 
 -- the names of the files that `run` reads
 pub record RunNames : Type 0 where

@@ -1,42 +1,11 @@
--- What the tool does with its words, its files and its sink.
-use Rattle.std.specs.Prelude.{◌≡◌, ◌≢◌, ◌⊎◌, [], Option}
-use Rattle.tcd_base.specs.Files.{Map, FilesSeen, FaultCounted}
-use Rattle.tcd_base.specs.Sink.{SinkSeen, HasRoomFor}
-use Rattle.tcd_driver.specs.Reports.{Report}
-use Rattle.tcd_driver.specs.Inputs.{Reading, Says, AreSureOf}
-use Rattle.tcd_driver.specs.Outcomes.{IsReported, Prints}
+-- How words of no form end.
+use Rattle.std.specs.Prelude.{◌≡◌}
+use Rattle.tcd_base.specs.Files.{FilesSeen}
+use Rattle.tcd_base.specs.Sink.{SinkSeen}
+use Rattle.tcd_reading.specs.Outcomes.{Prints}
+use Rattle.tcd_reading.specs.declared.status.Status.{Status}
+use Rattle.tcd_reading.specs.declared.status.Status.TheVariants.{BadWords}
 use Rattle.tcd_driver.specs.Lines.{bad_words_line}
-use Rattle.tcd_driver.specs.declared.status.Status.{Status}
-use Rattle.tcd_driver.specs.declared.status.Status.TheVariants.{Done, Refused, BadInput, Fault, NoMemory, BadWords}
-
--- the sink has room for each text that may come
-abbrev pub HasRoom : Reading → Option Map → SinkSeen → Type 0
-HasRoom reading held sink = (report : Report) → Says reading held report → HasRoomFor sink report.text
-
--- A report of what is said of the files ended; or a file couldn't be read, where the files aren't sure of all that is asked
--- for; or memory ran out before anything was written or printed.
-pub data HasEnded (reading : Reading) (files files' : FilesSeen) (sink sink' : SinkSeen) (result : Status) : Type 0 where
-  reported : (report : Report) → Says reading files.held report → IsReported report files files' sink sink' result → HasEnded reading files files' sink sink' result
-  unread :
-      result ≡ Fault → files'.held ≡ files.held → sink' ≡ sink → FaultCounted files.faults files'.faults → (AreSureOf reading files → ⊥)
-      → HasEnded reading files files' sink sink' result
-  no_memory : result ≡ NoMemory → files'.held ≡ files.held → sink' ≡ sink → HasEnded reading files files' sink sink' result
-
--- How a command ends, by what is seen of the files and of the sink before and after. Whether the files are steady stays. Over
--- steady files that hold the inputs that are asked for their count of faults stays, over a sink with room its count; over
--- both the status is the one that is said, unless memory ran out. Only a command that is done has files to write, so one that
--- is refused leaves what is held.
-pub record Ends (reading : Reading) (files files' : FilesSeen) (sink sink' : SinkSeen) (result : Status) : Type 0 where
-  pub ended : HasEnded reading files files' sink sink' result
-  pub no_bad_words : result ≢ BadWords
-  pub only_done : (report : Report) → Says reading files.held report → report.status ≢ Done → report.writes ≡ []
-  pub stays : (result ≡ Refused) ⊎ (result ≡ BadInput) → files'.held ≡ files.held
-  pub steady : files'.steady ≡ files.steady
-  pub files_sure : AreSureOf reading files → files'.faults ≡ files.faults
-  pub sink_sure : HasRoom reading files.held sink → sink'.faults ≡ sink.faults
-  pub complete :
-      AreSureOf reading files → HasRoom reading files.held sink → (report : Report) → Says reading files.held report
-      → (result ≡ report.status) ⊎ (result ≡ NoMemory)
 
 -- How words of no form end: the files stay, and `bad words` is printed, or the sink failed in it; with room it doesn't.
 pub record EndsWithBadWords (files files' : FilesSeen) (sink sink' : SinkSeen) (result : Status) : Type 0 where

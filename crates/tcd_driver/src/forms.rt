@@ -1,236 +1,73 @@
-// The forms of inputs.
-use crate::inputs::{Form, bad_input};
-use crate::lines::{
-    cert_line, elf_line, layout_line, line_of, long_cert_line, long_elf_line, long_layout_line,
-    long_object_line, long_plan_line, long_script_line, long_source_line, object_line, plan_line,
-    script_line, source_line,
-};
-use crate::outcome::Outcome;
-use depth_cert::{Cert, CertErr};
-use elf_image::Image;
+// The forms of inputs that stand above the others.
+use crate::lines::{cells_line, long_cells_line, long_tasks_line, tasks_line};
 use std::alloc::Global;
-use tc_asm::{AsmErr, assemble};
-use tc_link::Layout;
-use tc_object::{ObjErr, Object};
-use tc_script::Script;
+use task_chains::Tasks;
 use tcd_base::NoMemory;
+use tcd_forms::{LIMIT, line_of};
 use tcd_plan::Plan;
+use tcd_reading::{Form, Outcome, bad_input};
+use value_cells::Cells;
 
-// The most bytes of a file that is no certificate.
-const LIMIT: u32 = 16_777_216;
-
-// The most bytes of a certificate.
-const CERT_LIMIT: u32 = 1_073_741_824;
-
-/// An executable.
+/// The cells of a plan.
 #[derive(Clone, Copy)]
-pub(crate) struct ElfFile;
-
-impl Form for ElfFile {
-    ghost use Rattle.tcd_driver.specs.Forms.{elf_form};
-
-    type Out = Image;
-
-    ghost form = { λ _. elf_form };
-
-    ghost Fits = { λ _ _. Unit {0} };
-
-    fn limit(&self) -> u32 {
-        LIMIT
-    }
-
-    fn long_line(&self, alloc: Global) -> Result<Vec<u8>, NoMemory> {
-        line_of(alloc, long_elf_line())
-    }
-
-    fn value(&self, alloc: Global, bytes: &[u8]) -> Result<Image, Outcome> {
-        match Image::read(alloc, bytes) {
-            Ok(image) => Ok(image),
-            Err(e) => Err(bad_input(alloc, elf_line(alloc, e))),
-        }
-    }
-}
-
-/// A plan.
-#[derive(Clone, Copy)]
-pub(crate) struct PlanFile;
-
-impl Form for PlanFile {
-    ghost use Rattle.tcd_driver.specs.Forms.{plan_form};
-
-    type Out = Plan;
-
-    ghost form = { λ _. plan_form };
-
-    ghost Fits = { λ _ _. Unit {0} };
-
-    fn limit(&self) -> u32 {
-        LIMIT
-    }
-
-    fn long_line(&self, alloc: Global) -> Result<Vec<u8>, NoMemory> {
-        line_of(alloc, long_plan_line())
-    }
-
-    fn value(&self, alloc: Global, bytes: &[u8]) -> Result<Plan, Outcome> {
-        match Plan::read(alloc, bytes) {
-            Ok(plan) => Ok(plan),
-            Err(e) => Err(bad_input(alloc, plan_line(alloc, e))),
-        }
-    }
-}
-
-/// A certificate.
-#[derive(Clone, Copy)]
-pub(crate) struct CertFile;
-
-impl Form for CertFile {
-    ghost use Rattle.tcd_driver.specs.Forms.{cert_form};
-
-    type Out = Cert;
-
-    ghost form = { λ _. cert_form };
-
-    ghost Fits = { λ _ _. Unit {0} };
-
-    fn limit(&self) -> u32 {
-        CERT_LIMIT
-    }
-
-    fn long_line(&self, alloc: Global) -> Result<Vec<u8>, NoMemory> {
-        line_of(alloc, long_cert_line())
-    }
-
-    fn value(&self, alloc: Global, bytes: &[u8]) -> Result<Cert, Outcome> {
-        match Cert::read(alloc, bytes) {
-            Ok(cert) => Ok(cert),
-            Err(CertErr::Bad(e)) => Err(bad_input(alloc, cert_line(alloc, e))),
-            Err(CertErr::NoMemory) => Err(Outcome::NoMemory),
-        }
-    }
-}
-
-/// A script for a plan.
-#[derive(Clone, Copy)]
-pub(crate) struct ScriptFile<'a> {
+pub(crate) struct CellsFile<'a> {
     pub plan: &'a Plan,
 }
 
-impl<'a> Form for ScriptFile<'a> {
-    ghost use Rattle.tc_script.specs.Fitting.{FitsPlan};
-    ghost use Rattle.tcd_driver.specs.Forms.{script_form};
+impl<'a> Form for CellsFile<'a> {
+    ghost use Rattle.value_cells.specs.Cells.{AreCells};
+    ghost use Rattle.tcd_driver.specs.Forms.{cells_form};
 
-    type Out = Script;
+    type Out = Cells;
 
-    ghost form = { λ f. script_form f.plan.now };
+    ghost form = { λ f. cells_form f.plan.now };
 
-    ghost Fits = { λ f script. FitsPlan f.plan.now script };
+    ghost Fits = { λ f cells. AreCells f.plan.now cells };
 
     fn limit(&self) -> u32 {
         LIMIT
     }
 
     fn long_line(&self, alloc: Global) -> Result<Vec<u8>, NoMemory> {
-        line_of(alloc, long_script_line())
+        line_of(alloc, long_cells_line())
     }
 
-    fn value(&self, alloc: Global, bytes: &[u8]) -> Result<Script, Outcome> {
-        match Script::read(alloc, bytes, self.plan) {
-            Ok(script) => Ok(script),
-            Err(e) => Err(bad_input(alloc, script_line(alloc, e))),
+    fn value(&self, alloc: Global, bytes: &[u8]) -> Result<Cells, Outcome> {
+        match Cells::read(bytes, self.plan) {
+            Ok(cells) => Ok(cells),
+            Err(e) => Err(bad_input(alloc, cells_line(alloc, e))),
         }
     }
 }
 
-/// A source, read as its object.
+/// The tasks of a plan.
 #[derive(Clone, Copy)]
-pub(crate) struct SourceFile;
+pub(crate) struct TasksFile<'a> {
+    pub plan: &'a Plan,
+}
 
-impl Form for SourceFile {
-    ghost use Rattle.tcd_driver.specs.Forms.{source_form};
+impl<'a> Form for TasksFile<'a> {
+    ghost use Rattle.task_chains.specs.Views.{FitPlan};
+    ghost use Rattle.tcd_driver.specs.Forms.{tasks_form};
 
-    type Out = Object;
+    type Out = Tasks;
 
-    ghost form = { λ _. source_form };
+    ghost form = { λ f. tasks_form f.plan.now };
 
-    ghost Fits = { λ _ _. Unit {0} };
+    ghost Fits = { λ f tasks. FitPlan f.plan.now tasks };
 
     fn limit(&self) -> u32 {
         LIMIT
     }
 
     fn long_line(&self, alloc: Global) -> Result<Vec<u8>, NoMemory> {
-        line_of(alloc, long_source_line())
+        line_of(alloc, long_tasks_line())
     }
 
-    fn value(&self, alloc: Global, bytes: &[u8]) -> Result<Object, Outcome> {
-        match assemble(alloc, bytes) {
-            Ok(object) => Ok(object),
-            Err(AsmErr::Bad { line, rule }) => {
-                Err(bad_input(alloc, source_line(alloc, 0, rule, line)))
-            }
-            Err(AsmErr::NoMemory) => Err(Outcome::NoMemory),
-        }
-    }
-}
-
-/// A layout.
-#[derive(Clone, Copy)]
-pub(crate) struct LayoutFile;
-
-impl Form for LayoutFile {
-    ghost use Rattle.tcd_driver.specs.Forms.{layout_form};
-
-    type Out = Layout;
-
-    ghost form = { λ _. layout_form };
-
-    ghost Fits = { λ _ _. Unit {0} };
-
-    fn limit(&self) -> u32 {
-        LIMIT
-    }
-
-    fn long_line(&self, alloc: Global) -> Result<Vec<u8>, NoMemory> {
-        line_of(alloc, long_layout_line())
-    }
-
-    fn value(&self, alloc: Global, bytes: &[u8]) -> Result<Layout, Outcome> {
-        match Layout::read(alloc, bytes) {
-            Ok(layout) => Ok(layout),
-            Err(e) => Err(bad_input(alloc, layout_line(alloc, e))),
-        }
-    }
-}
-
-/// The object at this place among the objects.
-#[derive(Clone, Copy)]
-pub(crate) struct ObjectFile {
-    pub place: u32,
-}
-
-impl Form for ObjectFile {
-    ghost use Rattle.tcd_driver.specs.Forms.{object_form};
-
-    type Out = Object;
-
-    ghost form = { λ f. object_form f.place };
-
-    ghost Fits = { λ _ _. Unit {0} };
-
-    fn limit(&self) -> u32 {
-        LIMIT
-    }
-
-    fn long_line(&self, alloc: Global) -> Result<Vec<u8>, NoMemory> {
-        long_object_line(alloc, self.place)
-    }
-
-    fn value(&self, alloc: Global, bytes: &[u8]) -> Result<Object, Outcome> {
-        match Object::read(alloc, bytes) {
-            Ok(object) => Ok(object),
-            Err(ObjErr::Bad(e)) => Err(bad_input(alloc, object_line(alloc, self.place, e))),
-            Err(ObjErr::NoMemory) => Err(Outcome::NoMemory),
+    fn value(&self, alloc: Global, bytes: &[u8]) -> Result<Tasks, Outcome> {
+        match Tasks::read(bytes, self.plan) {
+            Ok(tasks) => Ok(tasks),
+            Err(e) => Err(bad_input(alloc, tasks_line(alloc, e))),
         }
     }
 }

@@ -1,124 +1,17 @@
-// The printed lines.
-ghost use Rattle.std.specs.Prelude.{◌≡◌, ◌≢◌, ◌<◌, ◌++◌, ◌∷◌, [], if◌then◌else◌, length, codes, IsErr, IfOk, IfSome, OnOk};
+// The printed lines of words that are no command, of boot sequences, of cells, of tasks and of generated images.
+ghost use Rattle.std.specs.Prelude.{◌≡◌, ◌≤◌, ◌^◌, ◌++◌, ◌∷◌, [], length, codes, IfOk};
 ghost use Rattle.std.specs.Fmt.{decimal};
-ghost use Rattle.tcd_driver.specs.Lines.{bad_words_line, long_elf_line, long_plan_line, long_cert_line, long_script_line, long_source_line, hex_digit, hex_word, kind_text, key_line, at_key, elf_line, plan_line, cert_line, script_line, source_line, assembled_line, long_layout_line, layout_line, long_object_line, object_line, at_name, field_fault, link_line, linked_line, cause_text, end_text, run_line, refused_line, certified_line};
-ghost use Rattle.tcd_plan.specs.Plans.{HasText};
-ghost use Rattle.tc_link.specs.Errors.{refusal_of};
-ghost use Rattle.tcd_plan.specs.Keys.{key_texts};
+ghost use Rattle.depth_cert.specs.Certs.{count_points};
+ghost use Rattle.tcd_forms.specs.Lines.{hex_word};
+ghost use Rattle.tcd_driver.specs.Lines.{bad_words_line, unbooted_line, boots_line, generated_boot_line, long_cells_line, cells_line, certified_cells_line, long_tasks_line, tasks_line, switch_line, of_task, refused_task_line, sum_line, certified_tasks_line, generated_line};
 
-use depth_cert::Key;
-use elf_image::ImageErr;
+use depth_cert::{Cert, Key, Node};
 use std::alloc::Global;
-use tc_link::{LayoutErr, LinkErr};
-use tc_machine::{Cause, End, Machine};
-use tc_reloc::RelocErr;
-use tc_script::ScriptErr;
-use tcd_base::{FormErr, NoMemory};
-use tcd_plan::{PlanErr, PlanKey, key_text};
-
-// A hex digit, in upper case.
-fn hex_digit(n: u32) -> u8
-    requires { n < 16 }
-    ensures { result ≡ hex_digit n }
-{
-    if n < 10 { 48 + n as u8 } else { 55 + n as u8 }
-}
-
-// A word as eight of them.
-#[tactic(auto, unfolding(crate::specs::Lines::hex_word))]
-fn hex_word(x: u32) -> [u8; 8]
-    ensures { result ≡ hex_word x }
-{
-    [
-        hex_digit(x / 268_435_456 % 16),
-        hex_digit(x / 16_777_216 % 16),
-        hex_digit(x / 1_048_576 % 16),
-        hex_digit(x / 65_536 % 16),
-        hex_digit(x / 4_096 % 16),
-        hex_digit(x / 256 % 16),
-        hex_digit(x / 16 % 16),
-        hex_digit(x % 16),
-    ]
-}
-
-// The bytes, behind what stands there.
-fn append(line: &mut Vec<u8>, bytes: &[u8]) -> Result<(), NoMemory>
-    ensures { OnOk result (line.new.items ≡ line.old.items ++ bytes.now) }
-{
-    line.extend_from_slice(bytes)?;
-    Ok(())
-}
-
-// The kind of a key.
-#[tactic(auto, unfolding(crate::specs::Lines::kind_text))]
-fn append_kind(line: &mut Vec<u8>, kind: u8) -> Result<(), NoMemory>
-    ensures { OnOk result (line.new.items ≡ line.old.items ++ kind_text kind) }
-{
-    match kind {
-        0 => append(line, b"start "),
-        1 => append(line, b"call "),
-        2 => append(line, b"irq "),
-        3 => append(line, b"sys "),
-        _ => append(line, b"aln "),
-    }
-}
-
-// Whether the interrupt stack is in use, and the line's end.
-fn stack_text(is: bool) -> &'static [u8]
-    ensures { result.now ≡ (if is then 49 else 48) ∷ 10 ∷ [] }
-{
-    if is { b"1\n" } else { b"0\n" }
-}
-
-// Copies a text that never changes.
-pub(crate) fn line_of(alloc: Global, text: &[u8]) -> Result<Vec<u8>, NoMemory>
-    ensures { IfOk result (λ line. line.items ≡ text.now) }
-{
-    Ok(Vec::from_slice(alloc, text)?)
-}
-
-// A file above its limit.
-#[tactic(auto, unfolding(crate::specs::Lines::long_elf_line))]
-pub(crate) fn long_elf_line() -> &'static [u8]
-    ensures { result.now ≡ long_elf_line }
-{
-    b"bad elf 0\n"
-}
-
-#[tactic(auto, unfolding(crate::specs::Lines::long_plan_line))]
-pub(crate) fn long_plan_line() -> &'static [u8]
-    ensures { result.now ≡ long_plan_line }
-{
-    b"bad plan 0\n"
-}
-
-#[tactic(auto, unfolding(crate::specs::Lines::long_cert_line))]
-pub(crate) fn long_cert_line() -> &'static [u8]
-    ensures { result.now ≡ long_cert_line }
-{
-    b"bad cert 0\n"
-}
-
-#[tactic(auto, unfolding(crate::specs::Lines::long_script_line))]
-pub(crate) fn long_script_line() -> &'static [u8]
-    ensures { result.now ≡ long_script_line }
-{
-    b"bad script 0\n"
-}
-
-#[tactic(auto, unfolding(crate::specs::Lines::long_source_line))]
-pub(crate) fn long_source_line() -> &'static [u8]
-    ensures { result.now ≡ long_source_line }
-{
-    b"bad source 0 at 0\n"
-}
-
-#[tactic(auto, unfolding(crate::specs::Lines::long_layout_line))]
-pub(crate) fn long_layout_line() -> &'static [u8]
-    ensures { result.now ≡ long_layout_line }
-{
-    b"bad layout 0\n"
-}
+use task_chains::TasksErr;
+use tc_boot::BootErr;
+use tcd_base::NoMemory;
+use tcd_forms::{append, hex_word, line_of, refused_line};
+use value_cells::{Cell, CellsErr};
 
 // The words of no form.
 #[tactic(auto, unfolding(crate::specs::Lines::bad_words_line))]
@@ -128,296 +21,199 @@ pub(crate) fn bad_words_line() -> &'static [u8]
     b"bad words\n"
 }
 
-// Why a file is no image.
-#[tactic(auto, unfolding(crate::specs::Lines::elf_line, crate::specs::Lines::at_one, crate::specs::Lines::at_two))]
-pub(crate) fn elf_line(alloc: Global, e: ImageErr) -> Result<Vec<u8>, NoMemory>
-    ensures line { IfOk result (λ line. line.items ≡ elf_line e) }
-    ensures memory { e ≡ ImageErr.NoMemory → IsErr result }
+// The boot sequence's byte at an address differs.
+fn differing_line(alloc: Global, addr: u32) -> Result<Vec<u8>, NoMemory>
+    ensures { IfOk result
+        (λ line. line.items ≡ codes "refused boot 4 at " ++ (hex_word addr ++ 10 ∷ [])) }
+{
+    let mut line = line_of(alloc, b"refused boot 4 at ")?;
+    append(&mut line, &hex_word(addr))?;
+    append(&mut line, b"\n")?;
+    Ok(line)
+}
+
+// What is against a boot sequence.
+#[tactic(auto, unfolding(crate::specs::Lines::unbooted_line))]
+pub(crate) fn unbooted_line(alloc: Global, e: BootErr) -> Result<Vec<u8>, NoMemory>
+    ensures { IfOk result (λ line. line.items ≡ unbooted_line e) }
 {
     match e {
-        ImageErr::Short => line_of(alloc, b"bad elf 1\n"),
-        ImageErr::NotElf32Le => line_of(alloc, b"bad elf 2\n"),
-        ImageErr::NotTriCore => line_of(alloc, b"bad elf 3\n"),
-        ImageErr::NotExec => line_of(alloc, b"bad elf 4\n"),
-        ImageErr::BadSegment(i) => Ok(format!(in alloc; "bad elf 5 at {i}\n")?.into_bytes()),
-        ImageErr::TooLarge => line_of(alloc, b"bad elf 6\n"),
-        ImageErr::Overlap(i, j) => Ok(format!(in alloc; "bad elf 7 at {i} {j}\n")?.into_bytes()),
-        ImageErr::NoMemory => Err(NoMemory),
+        BootErr::Enabled => line_of(alloc, b"refused boot 1\n"),
+        BootErr::Odd => line_of(alloc, b"refused boot 2\n"),
+        BootErr::Outside => line_of(alloc, b"refused boot 3\n"),
+        BootErr::Differs(addr) => differing_line(alloc, addr),
     }
 }
 
-// A refusal of a plan that names a key.
-#[tactic(auto, unfolding(crate::specs::Lines::at_key))]
-fn plan_key_line(alloc: Global, front: &str, key: PlanKey) -> Result<Vec<u8>, NoMemory>
-    requires { key.0 < length key_texts }
-    ensures { IfOk result (λ line. line.items ≡ front.now ++ at_key key) }
+// So many events of a boot sequence, and the areas that are needed then.
+#[tactic(auto, unfolding(crate::specs::Lines::boots_line))]
+pub(crate) fn boots_line(
+    alloc: Global,
+    events: u32,
+    need: u32,
+    areas: u32,
+) -> Result<Vec<u8>, NoMemory>
+    ensures { IfOk result (λ line. line.items ≡ boots_line events need areas) }
 {
-    let text = key_text(key);
-    Ok(format!(in alloc; "{front} key {text}\n")?.into_bytes())
+    let text = format!(in alloc; "boot {events} events certified {need} of {areas} areas\n")?;
+    Ok(text.into_bytes())
 }
 
-// Why a file is no plan.
-#[tactic(auto, unfolding(crate::specs::Lines::plan_line, crate::specs::Lines::at_two))]
-pub(crate) fn plan_line(alloc: Global, e: PlanErr) -> Result<Vec<u8>, NoMemory>
-    requires { HasText e }
-    ensures line { IfOk result (λ line. line.items ≡ plan_line e) }
-    ensures memory { e ≡ PlanErr.NoMemory → IsErr result }
+// A boot sequence was written.
+#[tactic(auto, unfolding(crate::specs::Lines::generated_boot_line))]
+pub(crate) fn generated_boot_line() -> &'static [u8]
+    ensures { result.now ≡ generated_boot_line }
+{
+    b"boot 56 instructions\n"
+}
+
+#[tactic(auto, unfolding(crate::specs::Lines::long_cells_line))]
+pub(crate) fn long_cells_line() -> &'static [u8]
+    ensures { result.now ≡ long_cells_line }
+{
+    b"bad cells 0\n"
+}
+
+// Why a file is no cells.
+#[tactic(auto, unfolding(crate::specs::Lines::cells_line, tcd_forms::specs::Lines::at_one))]
+pub(crate) fn cells_line(alloc: Global, e: CellsErr) -> Result<Vec<u8>, NoMemory>
+    ensures { IfOk result (λ line. line.items ≡ cells_line e) }
 {
     match e {
-        PlanErr::NotJson => line_of(alloc, b"bad plan 1\n"),
-        PlanErr::Missing(key) => plan_key_line(alloc, "bad plan 2", key),
-        PlanErr::Unknown(key) => plan_key_line(alloc, "bad plan 3", key),
-        PlanErr::BadValue(key) => plan_key_line(alloc, "bad plan 4", key),
-        PlanErr::TooMany(key) => plan_key_line(alloc, "bad plan 5", key),
-        PlanErr::BadCsa => line_of(alloc, b"bad plan 6\n"),
-        PlanErr::BadVector => line_of(alloc, b"bad plan 7\n"),
-        PlanErr::Overlap(i, j) => Ok(format!(in alloc; "bad plan 8 at {i} {j}\n")?.into_bytes()),
-        PlanErr::NoMemory => Err(NoMemory),
+        CellsErr::BadLine(n) => Ok(format!(in alloc; "bad cells 1 at {n}\n")?.into_bytes()),
+        CellsErr::NotRam(n) => Ok(format!(in alloc; "bad cells 2 at {n}\n")?.into_bytes()),
+        CellsErr::Twice(n) => Ok(format!(in alloc; "bad cells 3 at {n}\n")?.into_bytes()),
+        CellsErr::TooMany(n) => Ok(format!(in alloc; "bad cells 4 at {n}\n")?.into_bytes()),
     }
 }
 
-// Why a file is no certificate.
-#[tactic(auto, unfolding(crate::specs::Lines::cert_line, crate::specs::Lines::at_one))]
-pub(crate) fn cert_line(alloc: Global, e: FormErr) -> Result<Vec<u8>, NoMemory>
-    ensures { IfOk result (λ line. line.items ≡ cert_line e) }
+// The areas that are needed where these cells keep their bounds.
+#[tactic(auto, unfolding(crate::specs::Lines::certified_cells_line))]
+pub(crate) fn certified_cells_line(
+    alloc: Global,
+    need: u32,
+    areas: u32,
+    cells: &[Cell],
+) -> Result<Vec<u8>, NoMemory>
+    ensures { IfOk result
+        (λ line. line.items ≡ certified_cells_line need areas (length cells.now)) }
 {
-    let kind = e.kind;
-    let at = e.at;
-    Ok(format!(in alloc; "bad cert {kind} at {at}\n")?.into_bytes())
+    let count = cells.len();
+    let text = format!(in alloc; "certified {need} of {areas} areas with {count} cells\n")?;
+    Ok(text.into_bytes())
 }
 
-// What a line on a rule that fails begins with.
-fn refused_front(alloc: Global, rule: u8) -> Result<Vec<u8>, NoMemory>
-    ensures { IfOk result (λ line. line.items ≡ codes "refused K" ++ (decimal rule ++ codes " at ")) }
+// A file of tasks above its limit.
+#[tactic(auto, unfolding(crate::specs::Lines::long_tasks_line))]
+pub(crate) fn long_tasks_line() -> &'static [u8]
+    ensures { result.now ≡ long_tasks_line }
 {
-    Ok(format!(in alloc; "refused K{rule} at ")?.into_bytes())
+    b"bad tasks 0\n"
 }
 
-// A priority, in a key.
-fn prio_text(alloc: Global, prio: u8) -> Result<Vec<u8>, NoMemory>
-    ensures { IfOk result (λ text. text.items ≡ codes " prio " ++ (decimal prio ++ codes " is ")) }
+// Why a file is no tasks.
+#[tactic(auto, unfolding(crate::specs::Lines::tasks_line, tcd_forms::specs::Lines::at_one))]
+pub(crate) fn tasks_line(alloc: Global, e: TasksErr) -> Result<Vec<u8>, NoMemory>
+    ensures { IfOk result (λ line. line.items ≡ tasks_line e) }
 {
-    Ok(format!(in alloc; " prio {prio} is ")?.into_bytes())
+    match e {
+        TasksErr::BadLine(n) => Ok(format!(in alloc; "bad tasks 1 at {n}\n")?.into_bytes()),
+        TasksErr::TooMany(n) => Ok(format!(in alloc; "bad tasks 2 at {n}\n")?.into_bytes()),
+        TasksErr::TooFew => line_of(alloc, b"bad tasks 3\n"),
+        TasksErr::NotRam => line_of(alloc, b"bad tasks 4\n"),
+        TasksErr::NoRoom => line_of(alloc, b"bad tasks 5\n"),
+        TasksErr::OnIsp => line_of(alloc, b"bad tasks 6\n"),
+        TasksErr::Count => line_of(alloc, b"bad tasks 7\n"),
+    }
 }
 
-// A key, and the line's end.
-#[tactic(auto, unfolding(crate::specs::Lines::key_line))]
-fn append_key(alloc: Global, line: &mut Vec<u8>, key: Key) -> Result<(), NoMemory>
-    ensures { OnOk result (line.new.items ≡ line.old.items ++ key_line key) }
+// The switch routine doesn't stand at an address.
+#[tactic(auto, unfolding(crate::specs::Lines::switch_line))]
+pub(crate) fn switch_line(alloc: Global, addr: u32) -> Result<Vec<u8>, NoMemory>
+    ensures { IfOk result (λ line. line.items ≡ switch_line addr) }
 {
-    append_kind(line, key.kind)?;
-    append(line, &hex_word(key.entry))?;
-    let prio = prio_text(alloc, key.prio)?;
-    append(line, &prio)?;
-    append(line, stack_text(key.is))
+    let mut line = line_of(alloc, b"refused switch at ")?;
+    append(&mut line, &hex_word(addr))?;
+    append(&mut line, b"\n")?;
+    Ok(line)
 }
 
-// The rule that fails, the address, and the key.
-#[tactic(auto, unfolding(crate::specs::Lines::refused_line))]
-pub(crate) fn refused_line(
+// The number of a task, and the line's end.
+fn task_text(alloc: Global, u: usize) -> Result<Vec<u8>, NoMemory>
+    ensures { IfOk result
+        (λ line. line.items ≡ codes " of task " ++ (decimal u ++ 10 ∷ [])) }
+{
+    Ok(format!(in alloc; " of task {u}\n")?.into_bytes())
+}
+
+// The line of a certificate's fault, of a task.
+#[tactic(auto, unfolding(crate::specs::Lines::of_task))]
+pub(crate) fn refused_task_line(
     alloc: Global,
     rule: u8,
     key: Key,
     addr: u32,
+    u: usize,
 ) -> Result<Vec<u8>, NoMemory>
-    ensures { IfOk result (λ line. line.items ≡ refused_line rule key addr) }
+    ensures { IfOk result (λ line. line.items ≡ refused_task_line rule key addr u) }
 {
-    let mut line = refused_front(alloc, rule)?;
-    append(&mut line, &hex_word(addr))?;
-    append(&mut line, b" in ")?;
-    append_key(alloc, &mut line, key)?;
+    let mut line = refused_line(alloc, rule, key, addr)?;
+    let _end = line.pop();
+    let text = task_text(alloc, u)?;
+    append(&mut line, &text)?;
     Ok(line)
 }
 
-// So many areas are needed, of so many.
-#[tactic(auto, unfolding(crate::specs::Lines::certified_line))]
-pub(crate) fn certified_line(alloc: Global, need: u32, areas: u32) -> Result<Vec<u8>, NoMemory>
-    ensures { IfOk result (λ line. line.items ≡ certified_line need areas) }
+// The needs of all tasks are together above so many areas.
+#[tactic(auto, unfolding(crate::specs::Lines::sum_line))]
+pub(crate) fn sum_line(alloc: Global, sum: u64, areas: u32) -> Result<Vec<u8>, NoMemory>
+    ensures { IfOk result (λ line. line.items ≡ sum_line sum areas) }
 {
-    Ok(format!(in alloc; "certified {need} of {areas} areas\n")?.into_bytes())
+    Ok(format!(in alloc; "refused sum {sum} of {areas} areas\n")?.into_bytes())
 }
 
-// Why a file is no script.
-#[tactic(auto, unfolding(crate::specs::Lines::script_line, crate::specs::Lines::at_one))]
-pub(crate) fn script_line(alloc: Global, e: ScriptErr) -> Result<Vec<u8>, NoMemory>
-    ensures line { IfOk result (λ line. line.items ≡ script_line e) }
-    ensures memory { e ≡ ScriptErr.NoMemory → IsErr result }
-{
-    match e {
-        ScriptErr::BadLine(n) => Ok(format!(in alloc; "bad script 1 at {n}\n")?.into_bytes()),
-        ScriptErr::NoSource(n) => Ok(format!(in alloc; "bad script 2 at {n}\n")?.into_bytes()),
-        ScriptErr::OutOfRange(n) => Ok(format!(in alloc; "bad script 3 at {n}\n")?.into_bytes()),
-        ScriptErr::TooMany(n) => Ok(format!(in alloc; "bad script 4 at {n}\n")?.into_bytes()),
-        ScriptErr::NoMemory => Err(NoMemory),
-    }
-}
-
-// A cause of death.
-#[tactic(auto, unfolding(crate::specs::Lines::cause_text))]
-fn cause_text(cause: Cause) -> &'static [u8]
-    ensures { result.now ≡ cause_text cause }
-{
-    match cause {
-        Cause::Fcd => b"fcd",
-        Cause::Fcu => b"fcu",
-        Cause::Csu => b"csu",
-        Cause::Ctyp => b"ctyp",
-        Cause::NotListed => b"notlisted",
-        Cause::NoCode => b"nocode",
-        Cause::NoArea => b"noarea",
-    }
-}
-
-// Whether a machine runs, or died, of what and where.
-#[tactic(auto, unfolding(crate::specs::Lines::end_text))]
-fn append_end(line: &mut Vec<u8>, end: End, pc: u32) -> Result<(), NoMemory>
-    ensures { OnOk result (line.new.items ≡ line.old.items ++ end_text end pc) }
-{
-    match end {
-        End::Running => append(line, b"running\n"),
-        End::Dead(cause) => append_death(line, cause, pc),
-    }
-}
-
-fn append_death(line: &mut Vec<u8>, cause: Cause, pc: u32) -> Result<(), NoMemory>
-    ensures { OnOk result (line.new.items ≡ line.old.items ++ (codes "dead " ++ (cause_text cause ++ (codes " at " ++ (hex_word pc ++ 10 ∷ []))))) }
-{
-    append(line, b"dead ")?;
-    append(line, cause_text(cause))?;
-    append(line, b" at ")?;
-    append(line, &hex_word(pc))?;
-    append(line, b"\n")
-}
-
-// What a line on a run begins with.
-fn run_front(alloc: Global, events: u32, peak: u32) -> Result<Vec<u8>, NoMemory>
-    ensures { IfOk result (λ line. line.items ≡ codes "events " ++ (decimal events ++ (codes " peak " ++ (decimal peak ++ codes " ")))) }
-{
-    Ok(format!(in alloc; "events {events} peak {peak} ")?.into_bytes())
-}
-
-// What a run came to.
-#[tactic(auto, unfolding(crate::specs::Lines::run_line))]
-pub(crate) fn run_line(
+// The areas that all tasks need together.
+#[tactic(auto, unfolding(crate::specs::Lines::certified_tasks_line))]
+pub(crate) fn certified_tasks_line(
     alloc: Global,
-    events: u32,
-    peak: u32,
-    m: &Machine,
+    sum: u64,
+    areas: u32,
+    n: usize,
 ) -> Result<Vec<u8>, NoMemory>
-    ensures { IfOk result (λ line. line.items ≡ run_line events peak m.now) }
+    ensures { IfOk result (λ line. line.items ≡ certified_tasks_line sum areas n) }
 {
-    let mut line = run_front(alloc, events, peak)?;
-    append_end(&mut line, m.end, m.pc)?;
-    Ok(line)
+    let text = format!(in alloc; "certified {sum} of {areas} areas in {n} tasks\n")?;
+    Ok(text.into_bytes())
 }
 
-// The least line of the source at this place that breaks a rule, and the least rule there.
-#[tactic(auto, unfolding(crate::specs::Lines::source_line, crate::specs::Lines::at_two))]
-pub(crate) fn source_line(
+// How many points nodes have together.
+fn count_points(nodes: &[Node]) -> usize
+    requires { count_points nodes.now ≤ 2 ^ 16 }
+    ensures { result ≡ count_points nodes.now }
+{
+    let mut total = 0;
+    for node in nodes {
+        total += node.points.len();
+    }
+    total
+}
+
+// The functions that were generated, and what their certificate holds and asks for.
+#[tactic(auto, unfolding(crate::specs::Lines::generated_line))]
+pub(crate) fn generated_line(
     alloc: Global,
-    place: u32,
-    rule: u8,
-    line: u32,
+    functions: u32,
+    cert: &Cert,
+    need: u32,
+    areas: u32,
 ) -> Result<Vec<u8>, NoMemory>
-    ensures { IfOk result (λ text. text.items ≡ source_line place rule line) }
+    ensures { IfOk result (λ line. line.items ≡
+        generated_line functions (length cert.now.nodes) (count_points cert.now.nodes) need areas) }
 {
-    Ok(format!(in alloc; "bad source {rule} at {place} {line}\n")?.into_bytes())
-}
-
-// How many bytes of an object were written.
-#[tactic(auto, unfolding(crate::specs::Lines::assembled_line))]
-pub(crate) fn assembled_line(alloc: Global, bytes: &[u8]) -> Result<Vec<u8>, NoMemory>
-    ensures { IfOk result (λ text. text.items ≡ assembled_line (length bytes.now)) }
-{
-    let size = bytes.len();
-    Ok(format!(in alloc; "object {size} bytes\n")?.into_bytes())
-}
-
-// Why a file is no layout.
-#[tactic(auto, unfolding(crate::specs::Lines::layout_line, crate::specs::Lines::at_one))]
-pub(crate) fn layout_line(alloc: Global, e: LayoutErr) -> Result<Vec<u8>, NoMemory>
-    ensures line { IfOk result (λ line. line.items ≡ layout_line e) }
-    ensures memory { e ≡ LayoutErr.NoMemory → IsErr result }
-{
-    match e {
-        LayoutErr::BadLine(n) => Ok(format!(in alloc; "bad layout 1 at {n}\n")?.into_bytes()),
-        LayoutErr::Twice(n) => Ok(format!(in alloc; "bad layout 2 at {n}\n")?.into_bytes()),
-        LayoutErr::TooMany(n) => Ok(format!(in alloc; "bad layout 3 at {n}\n")?.into_bytes()),
-        LayoutErr::Overlap(n) => Ok(format!(in alloc; "bad layout 4 at {n}\n")?.into_bytes()),
-        LayoutErr::NoMemory => Err(NoMemory),
-    }
-}
-
-// An object above its limit.
-#[tactic(auto, unfolding(crate::specs::Lines::long_object_line, crate::specs::Lines::at_one))]
-pub(crate) fn long_object_line(alloc: Global, place: u32) -> Result<Vec<u8>, NoMemory>
-    ensures { IfOk result (λ line. line.items ≡ long_object_line place) }
-{
-    Ok(format!(in alloc; "bad object 0 at {place}\n")?.into_bytes())
-}
-
-// Why the file at this place among the objects is none.
-#[tactic(auto, unfolding(crate::specs::Lines::object_line, crate::specs::Lines::at_two))]
-pub(crate) fn object_line(alloc: Global, place: u32, e: FormErr) -> Result<Vec<u8>, NoMemory>
-    ensures { IfOk result (λ line. line.items ≡ object_line place e) }
-{
-    let kind = e.kind;
-    let offset = e.at;
-    Ok(format!(in alloc; "bad object {kind} at {place} {offset}\n")?.into_bytes())
-}
-
-// A refusal to link that has a name.
-#[tactic(auto, unfolding(crate::specs::Lines::at_name))]
-fn name_line(alloc: Global, front: &str, name: &str) -> Result<Vec<u8>, NoMemory>
-    ensures { IfOk result (λ line. line.items ≡ front.now ++ at_name name.now) }
-{
-    Ok(format!(in alloc; "{front} name {name}\n")?.into_bytes())
-}
-
-// The number of a refusal to fill a field.
-#[tactic(auto, unfolding(crate::specs::Lines::field_fault))]
-fn field_fault(err: RelocErr) -> u8
-    ensures { result ≡ field_fault err }
-{
-    match err {
-        RelocErr::Odd => 1,
-        RelocErr::FarOff => 2,
-        RelocErr::Segment => 3,
-    }
-}
-
-// Why objects can't be linked.
-#[tactic(auto, unfolding(crate::specs::Lines::link_line))]
-pub(crate) fn link_line(alloc: Global, e: LinkErr) -> Result<Vec<u8>, NoMemory>
-    ensures line { IfOk result (λ line. IfSome (refusal_of e) (λ r. line.items ≡ link_line r)) }
-    ensures memory { e ≡ LinkErr.NoMemory → IsErr result }
-{
-    match e {
-        LinkErr::Twice(name) => name_line(alloc, "bad link 1", name.as_str()),
-        LinkErr::Missing(name) => name_line(alloc, "bad link 2", name.as_str()),
-        LinkErr::NoPlace(name) => name_line(alloc, "bad link 3", name.as_str()),
-        LinkErr::NoRoom(name) => name_line(alloc, "bad link 4", name.as_str()),
-        LinkErr::Reloc {
-            object,
-            section,
-            offset,
-            err,
-        } => {
-            let fault = field_fault(err);
-            Ok(format!(in alloc;
-                "bad link 5 at {object} {section} {offset} {fault}\n"
-            )?.into_bytes())
-        }
-        LinkErr::NoEntry => line_of(alloc, b"bad link 6\n"),
-        LinkErr::NoMemory => Err(NoMemory),
-    }
-}
-
-// How many bytes of an image were written.
-#[tactic(auto, unfolding(crate::specs::Lines::linked_line))]
-pub(crate) fn linked_line(alloc: Global, bytes: &[u8]) -> Result<Vec<u8>, NoMemory>
-    ensures { IfOk result (λ text. text.items ≡ linked_line (length bytes.now)) }
-{
-    let size = bytes.len();
-    Ok(format!(in alloc; "image {size} bytes\n")?.into_bytes())
+    let nodes = cert.nodes.len();
+    let points = count_points(&cert.nodes);
+    let text = format!(in alloc;
+        "functions {functions} nodes {nodes} points {points} certified {need} of {areas} areas\n"
+    )?;
+    Ok(text.into_bytes())
 }

@@ -1,14 +1,12 @@
 // The command `asm`.
 ghost use Rattle.tcd_driver.specs.Asm.{WritesObject, asm_reading};
-ghost use Rattle.tcd_driver.specs.Outcomes.{Comes, IsTold};
+ghost use Rattle.tcd_reading.specs.Outcomes.{Comes, IsTold};
 
-use crate::forms::SourceFile;
-use crate::inputs::read_input;
-use crate::lines::assembled_line;
-use crate::outcome::{Outcome, report_file};
 use std::alloc::Global;
 use tc_object::Object;
 use tcd_base::Files;
+use tcd_forms::{SourceFile, assembled_line};
+use tcd_reading::{Outcome, read_input, report_file};
 
 /// Reads a source, and makes its object.
 pub(crate) fn assemble_file<F: Files>(

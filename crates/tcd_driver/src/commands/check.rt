@@ -1,18 +1,15 @@
 // The command `check`.
 ghost use Rattle.tcd_driver.specs.Check.{IsVerdict, check_reading};
-ghost use Rattle.tcd_driver.specs.Outcomes.{Comes, IsTold};
+ghost use Rattle.tcd_reading.specs.Outcomes.{Comes, IsTold};
 
-use crate::forms::{CertFile, ElfFile, PlanFile};
-use crate::inputs::read_input;
-use crate::lines::{certified_line, refused_line};
-use crate::outcome::{Outcome, report};
-use crate::status::Status;
 use depth_cert::Cert;
 use depth_check::{Verdict, check};
 use elf_image::Image;
 use std::alloc::Global;
 use tcd_base::Files;
+use tcd_forms::{CertFile, ElfFile, PlanFile, certified_line, refused_line};
 use tcd_plan::Plan;
+use tcd_reading::{Outcome, Status, read_input, report};
 
 /// Reads the three files, and tells whether the certificate is accepted.
 pub(crate) fn check_files<F: Files>(

@@ -1,15 +1,13 @@
 // The command `dis`.
 ghost use Rattle.tcd_driver.specs.Dis.{IsListing, dis_reading};
-ghost use Rattle.tcd_driver.specs.Outcomes.{Comes, IsTold};
+ghost use Rattle.tcd_reading.specs.Outcomes.{Comes, IsTold};
 
-use crate::forms::ElfFile;
-use crate::inputs::read_input;
-use crate::outcome::Outcome;
-use crate::status::Status;
 use elf_image::Image;
 use std::alloc::Global;
 use tc_disasm::listing;
 use tcd_base::Files;
+use tcd_forms::ElfFile;
+use tcd_reading::{Outcome, Status, read_input};
 
 /// Reads an executable, and tells its listing.
 pub(crate) fn list_file<F: Files>(alloc: Global, elf: &str, files: &mut F) -> Outcome

@@ -1,21 +1,18 @@
 // The command `link`.
 ghost use Rattle.std.specs.Prelude.{◌≤◌, length, map, string_bytes};
 ghost use Rattle.tc_object.specs.Objects.{ObjectData};
-ghost use Rattle.tcd_driver.specs.Forms.{object_form};
-ghost use Rattle.tcd_driver.specs.Inputs.{each, answer};
+ghost use Rattle.tcd_forms.specs.Forms.{object_form};
+ghost use Rattle.tcd_reading.specs.Inputs.{each, answer};
 ghost use Rattle.tcd_driver.specs.Link.{IsLinked, WritesImage, link_reading};
-ghost use Rattle.tcd_driver.specs.Outcomes.{Comes, IsTold};
+ghost use Rattle.tcd_reading.specs.Outcomes.{Comes, IsTold};
 
-use crate::forms::{LayoutFile, ObjectFile};
-use crate::inputs::read_input;
-use crate::lines::{link_line, linked_line};
-use crate::outcome::{Outcome, report, report_file};
-use crate::status::Status;
 use elf_image::Image;
 use std::alloc::Global;
 use tc_link::{Layout, link};
 use tc_object::Object;
 use tcd_base::Files;
+use tcd_forms::{LayoutFile, ObjectFile, link_line, linked_line};
+use tcd_reading::{Outcome, Status, read_input, report, report_file};
 
 /// Reads a layout and objects, and makes the image of the objects that are laid out this way.
 pub(crate) fn link_files<F: Files>(

@@ -1,19 +1,16 @@
 // The command `run`.
 ghost use Rattle.tc_script.specs.Fitting.{FitsPlan};
 ghost use Rattle.tcd_driver.specs.Run.{IsRun, run_reading};
-ghost use Rattle.tcd_driver.specs.Outcomes.{Comes, IsTold};
+ghost use Rattle.tcd_reading.specs.Outcomes.{Comes, IsTold};
 
-use crate::forms::{ElfFile, PlanFile, ScriptFile};
-use crate::inputs::read_input;
-use crate::lines::run_line;
-use crate::outcome::{Outcome, report};
-use crate::status::Status;
 use elf_image::Image;
 use std::alloc::Global;
 use tc_machine::Machine;
 use tc_script::{Script, drive_by_script};
 use tcd_base::Files;
+use tcd_forms::{ElfFile, PlanFile, ScriptFile, run_line};
 use tcd_plan::Plan;
+use tcd_reading::{Outcome, Status, read_input, report};
 
 /// Reads the three files, drives the machine by the script, and tells what it came to.
 pub(crate) fn run_files<F: Files>(

@@ -1,7 +1,7 @@
 use Rattle.std.proofs.Common.{sym}
 use Rattle.tcd_driver.specs.Commands.{asked}
 use Rattle.tcd_driver.proofs.Words.{if_some_by}
-use Rattle.tcd_driver.proofs.Endings.{ends}
+use Rattle.tcd_reading.proofs.Endings.{ends}
 use Rattle.tcd_driver.proofs.CommandLaws.{command_decided}
 use Rattle.tcd_driver.proofs.tools.tool.Goals as goal
 

@@ -1,4 +1,4 @@
-use Rattle.tcd_driver.proofs.Told.{comes_stopped, leads_read, comes_told}
+use Rattle.tcd_reading.proofs.Told.{comes_stopped, leads_read, comes_told}
 use Rattle.tcd_driver.proofs.commands.check.check_files.Goals as goal
 
 pub returns-in-Err : goal.returns-in-Err

@@ -1,9 +1,9 @@
 use Rattle.tcd_plan.specs.PlanData.{plan_data}
-use Rattle.tcd_driver.specs.Reports.{says}
+use Rattle.tcd_reading.specs.Reports.{says}
 use Rattle.tcd_driver.specs.Check.{refused}
-use Rattle.tcd_driver.specs.declared.status.Status.TheVariants.{Done, Refused}
-use Rattle.tcd_driver.proofs.Told.{told_more}
-use Rattle.tcd_driver.proofs.LineLaws.{report_is}
+use Rattle.tcd_reading.specs.declared.status.Status.TheVariants.{Done, Refused}
+use Rattle.tcd_reading.proofs.Told.{told_more}
+use Rattle.tcd_reading.proofs.ReportLaws.{report_is}
 use Rattle.tcd_driver.proofs.CommandLaws.{certified_report}
 use Rattle.tcd_driver.proofs.commands.check.verdict.Goals as goal
 

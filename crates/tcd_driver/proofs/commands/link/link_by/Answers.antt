@@ -2,10 +2,10 @@ use Rattle.std.proofs.Common.{arith, subst}
 use Rattle.std.specs.Prelude.{map, string_bytes}
 use Rattle.std.proofs.lemmas.List.{length-map}
 use Rattle.tc_object.specs.Objects.{ObjectData}
-use Rattle.tcd_driver.specs.Forms.{object_form}
+use Rattle.tcd_forms.specs.Forms.{object_form}
 use Rattle.tcd_driver.specs.Link.{IsLinked}
-use Rattle.tcd_driver.specs.Outcomes.{IsTold}
-use Rattle.tcd_driver.proofs.EachReads.{none_read, next_read, next_stops, next_memory, all_read, name_here}
+use Rattle.tcd_reading.specs.Outcomes.{IsTold}
+use Rattle.tcd_reading.proofs.EachReads.{none_read, next_read, next_stops, next_memory, all_read, name_here}
 use Rattle.tcd_driver.proofs.commands.link.link_by.Goals as goal
 
 pub loop-i-init : goal.loop-i-init

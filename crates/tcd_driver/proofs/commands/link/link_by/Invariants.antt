@@ -1,9 +1,9 @@
 use Rattle.std.specs.Prelude.{map, string_bytes, length}
 use Rattle.tc_object.specs.Objects.{ObjectData}
-use Rattle.tcd_driver.specs.Forms.{object_form}
+use Rattle.tcd_forms.specs.Forms.{object_form}
 use Rattle.tcd_driver.specs.Link.{IsLinked}
-use Rattle.tcd_driver.specs.Inputs.{each, answer}
-use Rattle.tcd_driver.proofs.EachReads.{HasReadSome, rest_of}
+use Rattle.tcd_reading.specs.Inputs.{each, answer}
+use Rattle.tcd_reading.proofs.EachReads.{HasReadSome, rest_of}
 use Rattle.tcd_driver.proofs.commands.link.link_by.Given as goal
 
 abbrev pub invariant-loop-i : goal.invariant-loop-i

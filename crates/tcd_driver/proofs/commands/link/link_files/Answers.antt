@@ -1,4 +1,4 @@
-use Rattle.tcd_driver.proofs.Told.{comes_stopped, leads_read}
+use Rattle.tcd_reading.proofs.Told.{comes_stopped, leads_read}
 use Rattle.tcd_driver.proofs.commands.link.link_files.Goals as goal
 
 pub returns-in-Err : goal.returns-in-Err

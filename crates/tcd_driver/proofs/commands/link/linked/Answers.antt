@@ -1,5 +1,5 @@
-use Rattle.tcd_driver.proofs.Told.{told_more}
-use Rattle.tcd_driver.proofs.LineLaws.{was_made}
+use Rattle.tcd_reading.proofs.Told.{told_more}
+use Rattle.tcd_reading.proofs.ReportLaws.{was_made}
 use Rattle.tcd_driver.proofs.CommandLaws.{linked_image, refused_report}
 use Rattle.tcd_driver.proofs.commands.link.linked.Goals as goal
 

@@ -1,9 +1,9 @@
 use Rattle.std.proofs.Common.{◌∙◌, ap}
-use Rattle.tcd_driver.specs.Reports.{says}
+use Rattle.tcd_reading.specs.Reports.{says}
 use Rattle.tcd_driver.specs.Run.{ran}
-use Rattle.tcd_driver.specs.declared.status.Status.TheVariants.{Done}
-use Rattle.tcd_driver.proofs.Told.{told_more}
-use Rattle.tcd_driver.proofs.LineLaws.{report_is}
+use Rattle.tcd_reading.specs.declared.status.Status.TheVariants.{Done}
+use Rattle.tcd_reading.proofs.Told.{told_more}
+use Rattle.tcd_reading.proofs.ReportLaws.{report_is}
 use Rattle.tcd_driver.proofs.CommandLaws.{told_is}
 use Rattle.tcd_driver.proofs.commands.run.driven.Goals as goal
 

@@ -1,0 +1,71 @@
+-- What `cells` reports.
+use Rattle.std.proofs.Common.{◌≡◌, ◌≢◌, ◌-◌, ℕ, List, [], length, Ok, Err, sym, ap, subst, ◌∙◌}
+use Rattle.elf_image.specs.Images.{ImageData}
+use Rattle.tcd_plan.specs.PlanData.{PlanData, IsPlan}
+use Rattle.tc_machine.specs.Safe.{Safe}
+use Rattle.depth_cert.specs.Certs.{CertData, IsCert}
+use Rattle.depth_cert.specs.declared.keys.Key.{Key}
+use Rattle.cfg_recover.specs.Accepting.{Accepts, certified_need}
+use Rattle.depth_check.proofs.FirstLaws.{fails_refutes}
+use Rattle.depth_check.proofs.Held as held
+use Rattle.value_cells.specs.declared.cells.Cell.{Cell}
+use Rattle.value_cells.specs.Cells.{with_cells, AreCells}
+use Rattle.value_cells.specs.Keeping.{KeepsCells, BreaksCells, breaks_at}
+use Rattle.value_cells.proofs.CellPlan.{IsPlan-with_cells}
+use Rattle.value_cells.proofs.CellSafe.{cells_keep}
+use Rattle.value_cells.proofs.ReadOne.{reads_one}
+use Rattle.tcd_reading.specs.Reports.{Report, says}
+use Rattle.tcd_driver.specs.Forms.{cells_form}
+use Rattle.tcd_driver.specs.Lines.{certified_cells_line}
+use Rattle.tcd_driver.specs.Cells.{IsCellsVerdict, refused, broken, certified}
+use Rattle.tcd_reading.specs.declared.status.Status.{Status}
+use Rattle.tcd_reading.specs.declared.status.Status.TheVariants.{Done, Refused, BadWords}
+use Rattle.tcd_reading.proofs.Decided.{AreAlike, IsLawful, status_is, writes_are}
+
+-- a text is cells, or none
+pub cells_lawful : (p : PlanData) → IsLawful (cells_form p)
+cells_lawful p = record {
+  one = λ b x y h k. let e = reads_one p b (Ok x) (Ok y) h k in cc;
+  apart = λ b t x h k. let e = reads_one p b (Ok x) (Err k.0) h k.1 in cc;
+}
+
+breaks_refute : (i : ImageData) (p : PlanData) (cells : List Cell) (c : CertData) (k : Key) (x : ℕ) → BreaksCells i p cells c k x → KeepsCells i p cells c → ⊥
+breaks_refute i p cells c _ _ (breaks_at node point member stands wrong) keeps = wrong (keeps node point member stands)
+
+module _ (i : ImageData) (p : PlanData) (cells : List Cell) (c : CertData) where
+  words : (r : Report) → IsCellsVerdict i p cells c r → r.status ≡ BadWords → ⊥
+  words r (refused rule key addr first e) b = let f : Refused ≡ BadWords = sym (status_is r _ e) ∙ b in cc
+  words r (broken key addr accepted breaks e) b = let f : Refused ≡ BadWords = sym (status_is r _ e) ∙ b in cc
+  words r (certified accepted keeps safe e) b = let f : Done ≡ BadWords = sym (status_is r _ e) ∙ b in cc
+
+  done : (r : Report) → IsCellsVerdict i p cells c r → r.status ≢ Done → r.writes ≡ []
+  done r (refused rule key addr first e) undone = writes_are r _ e
+  done r (broken key addr accepted breaks e) undone = writes_are r _ e
+  done r (certified accepted keeps safe e) undone = writes_are r _ e
+
+  one : (r q : Report) → IsCellsVerdict i p cells c r → IsCellsVerdict i p cells c q → r.status ≡ q.status
+  one r q (refused rule key addr first e) (refused rule2 key2 addr2 first2 f) = status_is r _ e ∙ sym (status_is q _ f)
+  one r q (refused rule key addr first e) (broken key2 addr2 accepted breaks f) = status_is r _ e ∙ sym (status_is q _ f)
+  one r q (refused rule key addr first e) (certified accepted keeps safe f) = absurd (fails_refutes i (with_cells p cells) c rule key addr first.fails accepted)
+  one r q (broken key addr accepted breaks e) (refused rule key2 addr2 first f) = status_is r _ e ∙ sym (status_is q _ f)
+  one r q (broken key addr accepted breaks e) (broken key2 addr2 accepted2 breaks2 f) = status_is r _ e ∙ sym (status_is q _ f)
+  one r q (broken key addr accepted breaks e) (certified accepted2 keeps safe f) = absurd (breaks_refute i (with_cells p cells) cells c key addr breaks.breaks keeps)
+  one r q (certified accepted keeps safe e) (refused rule key addr first f) = absurd (fails_refutes i (with_cells p cells) c rule key addr first.fails accepted)
+  one r q (certified accepted keeps safe e) (broken key addr accepted2 breaks f) = absurd (breaks_refute i (with_cells p cells) cells c key addr breaks.breaks keeps)
+  one r q (certified accepted keeps safe e) (certified accepted2 keeps2 safe2 f) = status_is r _ e ∙ sym (status_is q _ f)
+
+  pub cells_alike : AreAlike (IsCellsVerdict i p cells c)
+  cells_alike = record { words = words; done = done; one = one }
+
+-- the rules accept the certificate, and it keeps the cells
+pub cells_report : (i : ImageData) (fields p : PlanData) (cells : List Cell) (parts c : CertData) (need count : ℕ) (r : Report) → fields ≡ p → IsPlan fields → AreCells p cells → parts ≡ c → IsCert parts
+    → Accepts i (with_cells p cells) c → need ≡ certified_need i (with_cells p cells) c → Safe i (with_cells p cells) need → KeepsCells i (with_cells p cells) cells c → count ≡ length cells
+    → r ≡ says Done (certified_cells_line need (fields.areas - fields.reserve) count) → IsCellsVerdict i p cells c r
+cells_report i fields p cells parts c need count r same is_plan are cert is_cert accepted is safe keeps many e =
+    let ok = subst IsPlan same is_plan in
+    let good = subst IsCert cert is_cert in
+    let frames = held.frames_are_held i (with_cells p cells) c (IsPlan-with_cells ok cells are) good accepted in
+    certified accepted keeps (cells_keep i p cells c (certified_need i (with_cells p cells) c) ok are good accepted (subst (λ (n : ℕ). Safe i (with_cells p cells) n) is safe) frames keeps)
+    (e ∙ ap (λ (n : ℕ). says Done (certified_cells_line n (fields.areas - fields.reserve) count)) is
+    ∙ ap (λ (q : PlanData). says Done (certified_cells_line (certified_need i (with_cells p cells) c) (q.areas - q.reserve) count)) same
+    ∙ ap (λ (n : ℕ). says Done (certified_cells_line (certified_need i (with_cells p cells) c) (p.areas - p.reserve) n)) many)

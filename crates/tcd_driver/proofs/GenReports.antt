@@ -1,0 +1,90 @@
+-- What `gen` reports.
+use Rattle.std.proofs.Common.{◌≡◌, ◌≢◌, ◌≤◌, ◌-◌, ◌^◌, ℕ, List, [], length, Result, Ok, sym, ap, subst, ◌∙◌, arith}
+use Rattle.elf_image.specs.Images.{ImageData}
+use Rattle.elf_image.specs.Elf.{image_of}
+use Rattle.elf_image.specs.declared.errors.ImageErr.{ImageErr}
+use Rattle.tcd_plan.specs.PlanData.{PlanData}
+use Rattle.tcd_plan.specs.Plans.{Gives}
+use Rattle.tcd_base.specs.Files.{FilesSeen}
+use Rattle.tcd_generate.specs.Generated.{generated_image}
+use Rattle.tcd_generate.specs.Planned.{generated_text, generated_plan}
+use Rattle.tcd_reading.specs.Outcomes.{IsTold, Comes}
+use Rattle.tcd_reading.specs.declared.outcome.Outcome.{Outcome}
+use Rattle.tcd_reading.proofs.Told.{comes_told}
+use Rattle.tcd_driver.specs.Commands.{asked, reading_of}
+use Rattle.tcd_driver.specs.declared.command.Command.{Command as Words}
+use Rattle.tcd_driver.specs.declared.command.Command.TheVariants as held
+use Rattle.tcd_forms.proofs.FormLaws.{plan_lawful}
+use Rattle.tc_machine.specs.Safe.{Safe}
+use Rattle.depth_cert.specs.declared.keys.Key.{Key}
+use Rattle.depth_cert.specs.Certs.{CertData, IsCert, count_points}
+use Rattle.depth_cert.specs.Grammar.{certificate_of}
+use Rattle.depth_cert.proofs.BackLaws.{written_is_read}
+use Rattle.depth_cert.proofs.SizeLaws.{cert_most}
+use Rattle.tcd_base.specs.declared.types.FormErr.{FormErr}
+use Rattle.cfg_recover.specs.Accepting.{certified_need}
+use Rattle.depth_maker.specs.Making.{IsMade}
+use Rattle.depth_maker.specs.Made.{AreMade, IsRefused}
+use Rattle.depth_maker.specs.declared.answering.MakeErr.{MakeErr}
+use Rattle.depth_maker.specs.declared.answering.MakeErr.TheVariants as make
+use Rattle.tcd_reading.specs.Reports.{Report, says}
+use Rattle.tcd_forms.specs.Lines.{refused_line}
+use Rattle.tcd_driver.specs.Lines.{generated_line}
+use Rattle.tcd_driver.specs.Gen.{IsSummary, refused, certified}
+use Rattle.tcd_reading.specs.declared.status.Status.TheVariants.{Done, Refused, BadWords}
+use Rattle.tcd_reading.proofs.Decided.{AreAlike, status_is, writes_are}
+
+module _ (n : ℕ) (i : ImageData) (p : PlanData) where
+  summary_words : (r : Report) → IsSummary n i p r → r.status ≡ BadWords → ⊥
+  summary_words r (refused rule key addr none why e) b = let f : Refused ≡ BadWords = sym (status_is r _ e) ∙ b in cc
+  summary_words r (certified c is made safe e) b = let f : Done ≡ BadWords = sym (status_is r _ e) ∙ b in cc
+
+  summary_done : (r : Report) → IsSummary n i p r → r.status ≢ Done → r.writes ≡ []
+  summary_done r (refused rule key addr none why e) undone = writes_are r _ e
+  summary_done r (certified c is made safe e) undone = writes_are r _ e
+
+  summary_one : (r q : Report) → IsSummary n i p r → IsSummary n i p q → r.status ≡ q.status
+  summary_one r q (refused rule key addr none why e) (refused rule2 key2 addr2 none2 why2 f) = status_is r _ e ∙ sym (status_is q _ f)
+  summary_one r q (refused rule key addr none why e) (certified c is made safe f) = absurd (none c is made.of_version made.accepted)
+  summary_one r q (certified c is made safe e) (refused rule key addr none why f) = absurd (none c is made.of_version made.accepted)
+  summary_one r q (certified c is made safe e) (certified c2 is2 made2 safe2 f) = status_is r _ e ∙ sym (status_is q _ f)
+
+  pub summary_alike : AreAlike (IsSummary n i p)
+  summary_alike = record { words = summary_words; done = summary_done; one = summary_one }
+
+-- no certificate is accepted, and why
+pub refused_report : (n : ℕ) (i : ImageData) (p : PlanData) (rule : ℕ) (key : Key) (addr : ℕ) (e : MakeErr) (r : Report) → e ≡ make.Refused rule key addr → IsRefused i p 1 e → r ≡ says Refused (refused_line rule key addr) → IsSummary n i p r
+refused_report n i p rule key addr e r is why said = let k = subst (IsRefused i p 1) is why in refused rule key addr k.1 k.0 said
+
+-- the bytes are few enough to be read
+pub made_most : (i : ImageData) (p : PlanData) (bytes : List ℕ) → AreMade i p 1 bytes → length bytes ≤ 2 ^ 30
+made_most i p bytes m = subst (λ (b : List ℕ). length b ≤ 2 ^ 30) (sym m.spell) (cert_most m.cert m.is_cert)
+
+same_cert : (r : Result CertData FormErr) (x y : CertData) → r ≡ Ok x → r ≡ Ok y → x ≡ y
+same_cert r x y e f = cc
+
+-- the certificate that was read is the one that was made
+pub counted_report : (n : ℕ) (i : ImageData) (fields p : PlanData) (bytes : List ℕ) (c : CertData) (need : ℕ) (r : Report) → fields ≡ p → AreMade i p 1 bytes → certificate_of bytes ≡ Ok c → need ≡ certified_need i p c → Safe i p need →
+    r ≡ says Done (generated_line n (length c.nodes) (count_points c.nodes) need (fields.areas - fields.reserve)) → IsSummary n i p r
+counted_report n i fields p bytes c need r same m read is safe e =
+    let one : m.cert ≡ c = same_cert (certificate_of bytes) m.cert c (ap certificate_of m.spell ∙ written_is_read m.cert m.is_cert) read in
+    certified c (subst IsCert one m.is_cert) (subst (IsMade i p 1) one m.made) (subst (λ (k : ℕ). Safe i p k) is safe)
+    (e ∙ ap (λ (k : ℕ). says Done (generated_line n (length c.nodes) (count_points c.nodes) k (fields.areas - fields.reserve))) is
+    ∙ ap (λ (q : PlanData). says Done (generated_line n (length c.nodes) (count_points c.nodes) (certified_need i p c) (q.areas - q.reserve))) same)
+
+-- ---- what was generated, read again
+pub read_image : (i j : ImageData) (lent bytes : List ℕ) → lent ≡ bytes → image_of bytes ≡ Ok i → image_of lent ≡ Ok j → j ≡ i
+read_image i j lent bytes same e f = same_image (image_of bytes) i j e (ap image_of (sym same) ∙ f)
+  where
+    same_image : (o : Result ImageData ImageErr) (x y : ImageData) → o ≡ Ok x → o ≡ Ok y → y ≡ x
+    same_image o x y h k = cc
+
+pub read_plan : (p q : PlanData) (lent bytes : List ℕ) → lent ≡ bytes → Gives bytes (Ok p) → Gives lent (Ok q) → q ≡ p
+read_plan p q lent bytes same e f = plan_lawful.one bytes q p (subst (λ (b : List ℕ). Gives b (Ok q)) same f) e
+
+pub text_most : (lent bytes : List ℕ) → lent ≡ bytes → bytes ≡ generated_text → length lent ≤ 2 ^ 30
+text_most lent bytes same e = subst (λ (b : List ℕ). length b ≤ 2 ^ 30) (sym (same ∙ e)) (omega arith)
+
+-- ---- the command as the program holds it
+pub comes_generated : (command words : Words) (n : ℕ) (files : FilesSeen) (o : Outcome) → words ≡ held.Gen n → command ≡ words → IsTold (IsSummary n (generated_image n) generated_plan) ⊥ o → Comes (reading_of (asked command)) files files o
+comes_generated command words n files o is same h = subst (λ (w : Words). Comes (reading_of (asked w)) files files o) (sym (same ∙ is)) (comes_told (IsSummary n (generated_image n) generated_plan) files o h)

@@ -1,0 +1,88 @@
+-- What `cfg` and `report` tell.
+use Rattle.std.proofs.Common.{◌≡◌, ◌≢◌, ◌≤◌, ◌<◌, ◌^◌, ℕ, List, [], length, Result, Ok, Err, sym, subst, ◌∙◌}
+use Rattle.std.specs.Prelude.{IfOk, IsOkAnd}
+use Rattle.elf_image.specs.Images.{ImageData}
+use Rattle.tcd_plan.specs.PlanData.{PlanData, IsPlan}
+use Rattle.tc_machine.specs.Safe.{Safe}
+use Rattle.depth_cert.specs.Certs.{CertData}
+use Rattle.depth_cert.specs.Grammar.{certificate_of}
+use Rattle.cfg_recover.specs.Accepting.{Accepts, certified_need}
+use Rattle.depth_check.proofs.FirstLaws.{fails_refutes}
+use Rattle.depth_check.proofs.Held.{edges_are_owed}
+use Rattle.tcd_report.specs.Graphs.{IsGraph}
+use Rattle.tcd_report.specs.Reports.{IsReport}
+use Rattle.tcd_report.proofs.EdgeProofs.{edges_stand}
+use Rattle.tcd_reading.specs.Reports.{Report, says}
+use Rattle.tcd_driver.specs.Made.{IsCertified, SpellBest, SpellCertified}
+use Rattle.tcd_driver.specs.Cfg as cfg
+use Rattle.tcd_driver.specs.Cfg.{IsDrawn, IsDrawing, SpellOne}
+use Rattle.tcd_driver.specs.Reporting as reporting
+use Rattle.tcd_driver.specs.Reporting.{IsReporting}
+use Rattle.tcd_reading.specs.declared.status.Status.TheVariants.{Done, Refused, BadWords}
+use Rattle.tcd_reading.proofs.Decided.{AreAlike, status_is, writes_are}
+use Rattle.tcd_driver.proofs.MakingLaws.{none_best, best_most, best_read}
+
+-- a text that was made, told as it is
+pub told_text : {V E : Type 0} (items : V → List ℕ) (Is : List ℕ → Type 0) (Q : Type 0) (text : Result V E) (r : Report) → IfOk text (λ l. Is (items l)) → IsOkAnd text (λ l. r ≡ says Done (items l))
+    → ((t : List ℕ) → Is t → r ≡ says Done t → Q) → Q
+told_text items Is Q (Ok l) r made said next = next (items l) made said
+told_text items Is Q (Err e) r made said next = absurd said
+
+-- ---- cfg
+-- bytes that spell a certified certificate spell the best one
+best_of : (i : ImageData) (p : PlanData) (bytes : List ℕ) → SpellOne i p bytes → SpellBest i p bytes
+best_of i p bytes s = record { cert = (s.1).cert; spell = (s.1).spell; is_cert = ((s.1).certified).is_cert; best = ((s.1).certified).best }
+
+pub one_most : (i : ImageData) (p : PlanData) (lent bytes : List ℕ) → lent ≡ bytes → SpellOne i p bytes → length lent ≤ 2 ^ 30
+one_most i p lent bytes e s = best_most i p lent bytes e (best_of i p bytes s)
+
+-- the certificate that was read from them is certified
+pub read_certified : (i : ImageData) (p : PlanData) (lent bytes : List ℕ) (c : CertData) → lent ≡ bytes → SpellOne i p bytes → certificate_of lent ≡ Ok c → IsCertified i p c
+unfolding best_of
+read_certified i p lent bytes c e s read = subst (IsCertified i p) (best_read i p lent bytes c e (best_of i p bytes s) read) (s.1).certified
+
+-- its graph is what is drawn
+pub graph_drawn : (i : ImageData) (p : PlanData) (c : CertData) (text : List ℕ) → i.entry < 2 ^ 32 → IsPlan p → IsCertified i p c → IsGraph i p c text → IsDrawn i p text
+graph_drawn i p c text entry plan is g = record {
+  cert = c;
+  certified = is;
+  graph = g;
+  edges = edges_stand i p c g.lines plan is.is_cert entry is.safe (edges_are_owed i p c plan is.is_cert is.accepted) g.are;
+}
+
+module _ (i : ImageData) (p : PlanData) where
+  drawing_words : (r : Report) → IsDrawing i p r → r.status ≡ BadWords → ⊥
+  drawing_words r (cfg.refused rule key addr none e) b = let f : Refused ≡ BadWords = sym (status_is r _ e) ∙ b in cc
+  drawing_words r (cfg.drawn text is e) b = let f : Done ≡ BadWords = sym (status_is r _ e) ∙ b in cc
+
+  drawing_done : (r : Report) → IsDrawing i p r → r.status ≢ Done → r.writes ≡ []
+  drawing_done r (cfg.refused rule key addr none e) undone = writes_are r _ e
+  drawing_done r (cfg.drawn text is e) undone = writes_are r _ e
+
+  drawing_one : (r q : Report) → IsDrawing i p r → IsDrawing i p q → r.status ≡ q.status
+  drawing_one r q (cfg.refused rule key addr none e) (cfg.refused rule2 key2 addr2 none2 f) = status_is r _ e ∙ sym (status_is q _ f)
+  drawing_one r q (cfg.refused rule key addr none e) (cfg.drawn text is f) = absurd (none_best i p is.cert none.first none.second (is.certified).is_cert (is.certified).best)
+  drawing_one r q (cfg.drawn text is e) (cfg.refused rule key addr none f) = absurd (none_best i p is.cert none.first none.second (is.certified).is_cert (is.certified).best)
+  drawing_one r q (cfg.drawn text is e) (cfg.drawn text2 is2 f) = status_is r _ e ∙ sym (status_is q _ f)
+
+  pub drawing_alike : AreAlike (IsDrawing i p)
+  drawing_alike = record { words = drawing_words; done = drawing_done; one = drawing_one }
+
+-- ---- report
+module _ (i : ImageData) (p : PlanData) (c : CertData) where
+  reporting_words : (r : Report) → IsReporting i p c r → r.status ≡ BadWords → ⊥
+  reporting_words r (reporting.refused rule key addr first e) b = let f : Refused ≡ BadWords = sym (status_is r _ e) ∙ b in cc
+  reporting_words r (reporting.reported text accepted safe is e) b = let f : Done ≡ BadWords = sym (status_is r _ e) ∙ b in cc
+
+  reporting_done : (r : Report) → IsReporting i p c r → r.status ≢ Done → r.writes ≡ []
+  reporting_done r (reporting.refused rule key addr first e) undone = writes_are r _ e
+  reporting_done r (reporting.reported text accepted safe is e) undone = writes_are r _ e
+
+  reporting_one : (r q : Report) → IsReporting i p c r → IsReporting i p c q → r.status ≡ q.status
+  reporting_one r q (reporting.refused rule key addr first e) (reporting.refused rule2 key2 addr2 first2 f) = status_is r _ e ∙ sym (status_is q _ f)
+  reporting_one r q (reporting.refused rule key addr first e) (reporting.reported text accepted safe is f) = absurd (fails_refutes i p c rule key addr first.fails accepted)
+  reporting_one r q (reporting.reported text accepted safe is e) (reporting.refused rule key addr first f) = absurd (fails_refutes i p c rule key addr first.fails accepted)
+  reporting_one r q (reporting.reported text accepted safe is e) (reporting.reported text2 accepted2 safe2 is2 f) = status_is r _ e ∙ sym (status_is q _ f)
+
+  pub reporting_alike : AreAlike (IsReporting i p c)
+  reporting_alike = record { words = reporting_words; done = reporting_done; one = reporting_one }

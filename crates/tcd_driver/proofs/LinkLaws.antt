@@ -1,0 +1,24 @@
+-- Refusals of the linker, as they are told.
+use Rattle.std.proofs.Common.{◌≡◌, ℕ, List, Option, Some, None, Result, Ok, Err, refl, ap, ◌∙◌}
+use Rattle.std.specs.Prelude.{IfOk, IfSome, IsOkAnd}
+use Rattle.tc_link.specs.Linked.{Refusal}
+use Rattle.tc_link.specs.Errors.{refusal_of}
+use Rattle.tc_link.specs.declared.errors.LinkErr.{LinkErr}
+use Rattle.tc_link.specs.declared.errors.LinkErr.TheVariants as error
+use Rattle.tcd_reading.specs.Reports.{Report, says}
+use Rattle.tcd_forms.specs.Lines.{link_line}
+use Rattle.tcd_reading.specs.declared.status.Status.TheVariants.{BadInput}
+
+pub none_memory : (e : LinkErr) → refusal_of e ≡ None → e ≡ error.NoMemory
+none_memory (error.Twice name) h = cc
+none_memory (error.Missing name) h = cc
+none_memory (error.NoPlace name) h = cc
+none_memory (error.NoRoom name) h = cc
+none_memory (error.Reloc object section offset err) h = cc
+none_memory error.NoEntry h = cc
+none_memory error.NoMemory h = refl
+
+pub line_told : {V E : Type 0} (items : V → List ℕ) (line : Result V E) (r : Report) (o : Option Refusal) → IfOk line (λ l. IfSome o (λ q. items l ≡ link_line q)) → IsOkAnd line (λ l. r ≡ says BadInput (items l)) → IfSome o (λ q. r ≡ says BadInput (link_line q))
+line_told items (Ok l) r None made said = tt
+line_told items (Ok l) r (Some q) made said = said ∙ ap (λ (t : List ℕ). says BadInput t) made
+line_told items (Err e) r o made said = absurd said

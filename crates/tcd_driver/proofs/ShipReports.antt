@@ -1,0 +1,151 @@
+-- What `ship` reports, and the sources that it reads.
+use Rattle.std.proofs.Common.{◌≡◌, ◌≢◌, ◌≤◌, ◌+◌, ◌-◌, ℕ, List, [], ◌∷◌, ◌++◌, length, Option, Some, None, Result, Ok, Err, refl, sym, ap, subst, ◌∙◌}
+use Rattle.std.specs.Prelude.{IfOk, IfSome, IsOkAnd, slice_get}
+use Rattle.std.proofs.lemmas.List.{length-append}
+use Rattle.elf_image.specs.Images.{ImageData}
+use Rattle.elf_image.specs.Elf.{image_of}
+use Rattle.elf_image.specs.Written.{file_of}
+use Rattle.elf_image.specs.declared.errors.ImageErr.{ImageErr}
+use Rattle.tcd_plan.specs.PlanData.{PlanData}
+use Rattle.depth_cert.specs.Spelling.{bytes_of}
+use Rattle.cfg_recover.specs.Accepting.{certified_need}
+use Rattle.tc_object.specs.Objects.{ObjectData}
+use Rattle.tc_link.specs.Layouts.{LayoutData, IsLayout}
+use Rattle.tc_link.specs.Linked.{Refusal, linked}
+use Rattle.tc_link.specs.Errors.{refusal_of}
+use Rattle.tc_link.specs.declared.errors.LinkErr.{LinkErr}
+use Rattle.tc_link.specs.declared.errors.LinkErr.TheVariants as error
+use Rattle.tc_program.specs.Laws.{AreAssembled}
+use Rattle.tc_program.proofs.Whole.{placed_law}
+use Rattle.tcd_base.specs.Files.{FilesSeen, LeavesFiles}
+use Rattle.tcd_reading.specs.Reports.{Report, Written, says, writes_two}
+use Rattle.tcd_reading.specs.Inputs.{HoldsInput, each, answer}
+use Rattle.tcd_forms.specs.Forms.{SourceData, IsSource, placed_source_form}
+use Rattle.tcd_forms.specs.Lines.{link_line, certified_line}
+use Rattle.tcd_forms.proofs.FormLaws.{ok_err}
+use Rattle.tcd_driver.specs.Made.{SpellCertified}
+use Rattle.tcd_driver.specs.Ship.{objects_of, texts_of, AreSourcesOf, IsShipping, IsShipped, SpellImage, refused, shipped, unlinked, of_image}
+use Rattle.tcd_reading.specs.declared.status.Status.TheVariants.{Done, Refused, BadInput, BadWords}
+use Rattle.tcd_reading.proofs.Decided.{AreAlike, status_is, writes_are}
+use Rattle.tcd_reading.proofs.EachReads.{HasReadSome, rest_of, none_read, next_read}
+use Rattle.tcd_driver.proofs.LinkLaws.{none_memory, line_told}
+use Rattle.tcd_driver.proofs.MakingLaws.{none_best}
+
+-- ---- reports
+module _ (elf cert : List ℕ) (p : PlanData) (i : ImageData) where
+  shipping_words : (r : Report) → IsShipping elf cert p i r → r.status ≡ BadWords → ⊥
+  shipping_words r (refused rule key addr none e) b = let f : Refused ≡ BadWords = sym (status_is r _ e) ∙ b in cc
+  shipping_words r (shipped c is reads e) b = let f : Done ≡ BadWords = sym (status_is r _ e) ∙ b in cc
+
+  shipping_done : (r : Report) → IsShipping elf cert p i r → r.status ≢ Done → r.writes ≡ []
+  shipping_done r (refused rule key addr none e) undone = writes_are r _ e
+  shipping_done r (shipped c is reads e) undone = absurd (undone (status_is r _ e))
+
+  shipping_one : (r q : Report) → IsShipping elf cert p i r → IsShipping elf cert p i q → r.status ≡ q.status
+  shipping_one r q (refused rule key addr none e) (refused rule2 key2 addr2 none2 f) = status_is r _ e ∙ sym (status_is q _ f)
+  shipping_one r q (refused rule key addr none e) (shipped c is reads f) = absurd (none_best i p c none.first none.second is.is_cert is.best)
+  shipping_one r q (shipped c is reads e) (refused rule key addr none f) = absurd (none_best i p c none.first none.second is.is_cert is.best)
+  shipping_one r q (shipped c is reads e) (shipped c2 is2 reads2 f) = status_is r _ e ∙ sym (status_is q _ f)
+
+same_image : (o : Result ImageData Refusal) (i j : ImageData) → o ≡ Ok i → o ≡ Ok j → i ≡ j
+same_image o i j e f = cc
+
+module _ (elf cert : List ℕ) (p : PlanData) (l : LayoutData) (ss : List SourceData) where
+  shipped_words : (r : Report) → IsShipped elf cert p l ss r → r.status ≡ BadWords → ⊥
+  shipped_words r (unlinked q is e) b = let f : BadInput ≡ BadWords = sym (status_is r _ e) ∙ b in cc
+  shipped_words r (of_image i of_sources h) b = shipping_words elf cert p i r h b
+
+  shipped_done : (r : Report) → IsShipped elf cert p l ss r → r.status ≢ Done → r.writes ≡ []
+  shipped_done r (unlinked q is e) undone = writes_are r _ e
+  shipped_done r (of_image i of_sources h) undone = shipping_done elf cert p i r h undone
+
+  shipped_one : (r q : Report) → IsShipped elf cert p l ss r → IsShipped elf cert p l ss q → r.status ≡ q.status
+  shipped_one r q (unlinked a is e) (unlinked b is2 f) = status_is r _ e ∙ sym (status_is q _ f)
+  shipped_one r q (unlinked a is e) (of_image i of_sources h) = absurd (ok_err (linked (objects_of ss) l) i a of_sources.linked_is is)
+  shipped_one r q (of_image i of_sources h) (unlinked a is e) = absurd (ok_err (linked (objects_of ss) l) i a of_sources.linked_is is)
+  shipped_one r q (of_image i of_sources h) (of_image j of_sources2 k) =
+      let same = same_image (linked (objects_of ss) l) j i of_sources2.linked_is of_sources.linked_is in
+      shipping_one elf cert p i r q h (subst (λ (x : ImageData). IsShipping elf cert p x q) same k)
+
+  pub shipped_alike : AreAlike (IsShipped elf cert p l ss)
+  shipped_alike = record { words = shipped_words; done = shipped_done; one = shipped_one }
+
+-- the image and its certificate are written
+pub shipping_report : (elf cert bytes made : List ℕ) (i : ImageData) (fields p : PlanData) (need : ℕ) (first second : Written) (r : Report) → fields ≡ p → bytes ≡ file_of i → image_of (file_of i) ≡ Ok i → SpellCertified i p made need →
+    first ≡ record { name = elf; bytes = bytes } → second ≡ record { name = cert; bytes = made } → r ≡ writes_two first second (certified_line need (fields.areas - fields.reserve)) → IsShipping elf cert p i r
+shipping_report elf cert bytes made i fields p need first second r same spell reads s one two e =
+    let one' : first ≡ record { name = elf; bytes = file_of i } = one ∙ ap (λ (b : List ℕ). record { name = elf; bytes = b }) spell in
+    let two' : second ≡ record { name = cert; bytes = bytes_of s.cert } = two ∙ ap (λ (b : List ℕ). record { name = cert; bytes = b }) s.spell in
+    shipped s.cert s.certified reads
+    (e ∙ ap (λ (w : Written). writes_two w second (certified_line need (fields.areas - fields.reserve))) one'
+    ∙ ap (λ (w : Written). writes_two (record { name = elf; bytes = file_of i }) w (certified_line need (fields.areas - fields.reserve))) two'
+    ∙ ap (λ (n : ℕ). writes_two (record { name = elf; bytes = file_of i }) (record { name = cert; bytes = bytes_of s.cert }) (certified_line n (fields.areas - fields.reserve))) s.need_is
+    ∙ ap (λ (q : PlanData). writes_two (record { name = elf; bytes = file_of i }) (record { name = cert; bytes = bytes_of s.cert }) (certified_line (certified_need i p s.cert) (q.areas - q.reserve))) same)
+
+same_read : (o : Result ImageData ImageErr) (i j : ImageData) → o ≡ Ok i → o ≡ Ok j → j ≡ i
+same_read o i j e f = cc
+
+-- the image that is read from the bytes is the one that they were written for
+pub read_again : (i j : ImageData) (lent bytes : List ℕ) → lent ≡ bytes → image_of bytes ≡ Ok i → image_of lent ≡ Ok j → j ≡ i
+read_again i j lent bytes same e f = same_read (image_of bytes) i j e (ap image_of (sym same) ∙ f)
+
+pub spelled_again : (i j : ImageData) (lent bytes : List ℕ) → lent ≡ bytes → bytes ≡ file_of i → image_of bytes ≡ Ok i → image_of lent ≡ Ok j → SpellImage j bytes
+spelled_again i j lent bytes same is e f =
+    subst (λ (x : ImageData). SpellImage x bytes) (sym (read_again i j lent bytes same e f)) (record { spell = is; read = ap image_of (sym is) ∙ e })
+
+-- ---- linking
+-- the image of the sources
+pub image_report : (elf cert : List ℕ) (p : PlanData) (l : LayoutData) (ss : List SourceData) (os : List ObjectData) (i : ImageData) (r : Report) → IsLayout l → AreSourcesOf ss os → linked os l ≡ Ok i → IsShipping elf cert p i r → IsShipped elf cert p l ss r
+image_report elf cert p l ss os i r keeps are is h =
+    let is' : linked (objects_of ss) l ≡ Ok i = subst (λ (x : List ObjectData). linked x l ≡ Ok i) are.objects_are is in
+    of_image i (record { linked_is = is'; placed = placed_law (texts_of ss) (objects_of ss) l i keeps are.assembled is' }) h
+
+unlinked_by : (elf cert : List ℕ) (p : PlanData) (l : LayoutData) (ss : List SourceData) (o : Option Refusal) (r : Report) → (o ≡ None → ⊥) → IfSome o (λ q. linked (objects_of ss) l ≡ Err q) → IfSome o (λ q. r ≡ says BadInput (link_line q)) → IsShipped elf cert p l ss r
+unlinked_by elf cert p l ss None r some is text = absurd (some refl)
+unlinked_by elf cert p l ss (Some q) r some is text = unlinked q is text
+
+-- the objects aren't linked
+pub unlinked_report : {V E : Type 0} (items : V → List ℕ) (elf cert : List ℕ) (p : PlanData) (l : LayoutData) (ss : List SourceData) (os : List ObjectData) (e : LinkErr) (line : Result V E) (r : Report) → AreSourcesOf ss os →
+    IfSome (refusal_of e) (λ q. linked os l ≡ Err q) → IfOk line (λ x. IfSome (refusal_of e) (λ q. items x ≡ link_line q)) → (e ≡ error.NoMemory → ⊥) → IsOkAnd line (λ x. r ≡ says BadInput (items x)) → IsShipped elf cert p l ss r
+unlinked_report items elf cert p l ss os e line r are is made some said =
+    unlinked_by elf cert p l ss (refusal_of e) r (λ n. some (none_memory e n))
+    (subst (λ (x : List ObjectData). IfSome (refusal_of e) (λ q. linked x l ≡ Err q)) are.objects_are is) (line_told items line r (refusal_of e) made said)
+
+-- ---- sources
+assembled_more : (ss : List SourceData) (s : SourceData) → AreAssembled (texts_of ss) (objects_of ss) → IsSource s.text s.object → AreAssembled (texts_of (ss ++ s ∷ [])) (objects_of (ss ++ s ∷ []))
+assembled_more [] s h is = ((is.keeps, is.is), tt)
+assembled_more (x ∷ ss) s h is = (h.0, assembled_more ss s h.1 is)
+
+objects_more : (ss : List SourceData) (s : SourceData) → objects_of (ss ++ s ∷ []) ≡ objects_of ss ++ s.object ∷ []
+objects_more [] s = refl
+objects_more (x ∷ ss) s = ap (λ (os : List ObjectData). x.object ∷ os) (objects_more ss s)
+
+-- so many sources are read, of which the objects are kept
+pub record HasReadSources (names : List (List ℕ)) (P : List SourceData → Report → Type 0) (old mid : FilesSeen) (objects : List ObjectData) (i : ℕ) : Type 0 where
+  pub sources : List SourceData
+  pub are : AreSourcesOf sources objects
+  pub read : HasReadSome (each SourceData placed_source_form 0 names (λ ss. answer (P ss))) (rest_of SourceData placed_source_form names P i sources) old mid (length sources) i
+  pub count : length objects ≡ i
+
+module _ (names : List (List ℕ)) (P : List SourceData → Report → Type 0) where
+  -- none is read
+  pub no_sources : (files : FilesSeen) (objects : List ObjectData) → objects ≡ [] → HasReadSources names P files files objects 0
+  no_sources files objects e = record {
+    sources = [];
+    are = record { objects_are = e; assembled = tt };
+    read = none_read SourceData placed_source_form names P [] files refl;
+    count = ap (λ (os : List ObjectData). length os) e;
+  }
+
+  -- one more is read
+  pub more_sources : (i : ℕ) (name : List ℕ) (s : SourceData) (old mid new : FilesSeen) (objects objects' : List ObjectData) → slice_get names i ≡ Some name → HasReadSources names P old mid objects i → LeavesFiles name mid new → mid.faults ≤ new.faults →
+      HoldsInput (placed_source_form i) mid.held name s → objects' ≡ objects ++ s.object ∷ [] → HasReadSources names P old new objects' (i + 1)
+  more_sources i name s old mid new objects objects' at so_far leaves later holds e = record {
+    sources = so_far.sources ++ s ∷ [];
+    are = record {
+      objects_are = e ∙ ap (λ (os : List ObjectData). os ++ s.object ∷ []) so_far.are.objects_are ∙ sym (objects_more so_far.sources s);
+      assembled = assembled_more so_far.sources s so_far.are.assembled (subst (λ (b : List ℕ). IsSource b s.object) (sym holds.3.0) holds.3.1);
+    };
+    read = next_read SourceData placed_source_form names P _ i name so_far.sources _ s old mid new at so_far.read leaves later holds refl;
+    count = ap (λ (os : List ObjectData). length os) e ∙ length-append objects (s.object ∷ []) ∙ ap (λ n. n + 1) so_far.count;
+  }

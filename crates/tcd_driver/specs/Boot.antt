@@ -1,0 +1,63 @@
+-- What `boot` and `bootgen` read and say.
+use Rattle.std.specs.Prelude.{◌≡◌, ◌-◌, ℕ, List, Err}
+use Rattle.elf_image.specs.Images.{ImageData}
+use Rattle.tcd_plan.specs.PlanData.{PlanData}
+use Rattle.depth_cert.specs.Certs.{CertData}
+use Rattle.depth_cert.specs.declared.keys.Key.{Key}
+use Rattle.cfg_recover.specs.Accepting.{Accepts, IsFirstFault, certified_need}
+use Rattle.tc_disasm.specs.Listing.{listing_of}
+use Rattle.tc_boot.specs.declared.judging.BootErr.{BootErr}
+use Rattle.tc_boot.specs.Sequence.{boot_events, boot_image_of}
+use Rattle.tc_boot.specs.Reset.{HasBoot, BootsSafely}
+use Rattle.tc_boot.specs.Judging.{Judges}
+use Rattle.tcd_reading.specs.Reports.{Report, says, writes_file}
+use Rattle.tcd_reading.specs.Inputs.{Reading, input, answer}
+use Rattle.tcd_forms.specs.Forms.{elf_form, plan_form, cert_form}
+use Rattle.tcd_driver.specs.Lines.{unbooted_line, boots_line, generated_boot_line}
+use Rattle.tcd_forms.specs.Lines.{refused_line}
+use Rattle.tcd_reading.specs.declared.status.Status.TheVariants.{Done, Refused}
+
+-- ---- boot
+-- the names of the files that `boot` reads, and the address of the boot sequence
+pub record BootNames : Type 0 where
+  pub elf : List ℕ
+  pub plan : List ℕ
+  pub cert : List ℕ
+  pub at : ℕ
+
+-- the verdict on an image, a plan, a certificate and a boot sequence: the certificate isn't accepted, and its first fault is
+-- told; or it is, and what is against the sequence is told; or the sequence stands and may run, and every run from reset on is
+-- safe
+pub data IsBootVerdict (image : ImageData) (plan : PlanData) (cert : CertData) (at : ℕ) (report : Report) : Type 0 where
+  refused :
+      (rule : ℕ) (key : Key) (addr : ℕ) → IsFirstFault image plan cert rule key addr → report ≡ says Refused (refused_line rule key addr)
+      → IsBootVerdict image plan cert at report
+  unbooted :
+      (e : BootErr) → Accepts image plan cert → Judges image plan at (Err e) → report ≡ says Refused (unbooted_line e)
+      → IsBootVerdict image plan cert at report
+  boots :
+      Accepts image plan cert → HasBoot image plan at → BootsSafely image plan at (certified_need image plan cert)
+      → report ≡ says Done (boots_line (boot_events plan) (certified_need image plan cert) (plan.areas - plan.reserve))
+      → IsBootVerdict image plan cert at report
+
+-- an executable, a plan and a certificate are read; then the verdict is told
+abbrev pub boot_reading : BootNames → Reading
+boot_reading names =
+    input ImageData elf_form names.elf
+    (λ image. input PlanData plan_form names.plan (λ plan. input CertData cert_form names.cert (λ cert. answer (IsBootVerdict image plan cert names.at))))
+
+-- ---- bootgen
+-- the name of the plan that `bootgen` reads, the entry and the address of the sequence, and the name of the source
+pub record BootgenNames : Type 0 where
+  pub plan : List ℕ
+  pub entry : ℕ
+  pub at : ℕ
+  pub source : List ℕ
+
+-- the boot sequence is written as a source: the listing of the image whose one segment it is
+abbrev pub WritesBoot : ℕ → ℕ → List ℕ → PlanData → Report → Type 0
+WritesBoot entry at source plan report = report ≡ writes_file source (listing_of (boot_image_of plan entry at)) generated_boot_line
+
+-- a plan is read; then the source is written
+abbrev pub bootgen_reading : BootgenNames → Reading
+bootgen_reading names = input PlanData plan_form names.plan (λ plan. answer (WritesBoot names.entry names.at names.source plan))

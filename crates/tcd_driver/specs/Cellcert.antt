@@ -1,0 +1,59 @@
+-- What `cellcert` reads, says and writes.
+use Rattle.std.specs.Prelude.{◌≡◌, ◌-◌, ℕ, List, length}
+use Rattle.elf_image.specs.Images.{ImageData}
+use Rattle.tcd_plan.specs.PlanData.{PlanData}
+use Rattle.depth_cert.specs.Certs.{CertData, IsCert}
+use Rattle.depth_cert.specs.declared.keys.Key.{Key}
+use Rattle.depth_cert.specs.Spelling.{bytes_of}
+use Rattle.cfg_recover.specs.Accepting.{Accepts, certified_need}
+use Rattle.cfg_recover.specs.Refusals.{IsRefusal}
+use Rattle.depth_maker.specs.Making.{IsMade, NoneAccepted}
+use Rattle.value_cells.specs.declared.cells.Cell.{Cell}
+use Rattle.value_cells.specs.Cells.{with_cells}
+use Rattle.value_cells.specs.Keeping.{KeepsCells, IsFirstBreak}
+use Rattle.value_cells.specs.Safe.{SafeWithCells}
+use Rattle.tcd_reading.specs.Reports.{Report, says, writes_file}
+use Rattle.tcd_reading.specs.Inputs.{Reading, input, answer}
+use Rattle.tcd_driver.specs.Forms.{cells_form}
+use Rattle.tcd_forms.specs.Forms.{elf_form, plan_form}
+use Rattle.tcd_driver.specs.Lines.{certified_cells_line}
+use Rattle.tcd_forms.specs.Lines.{refused_line}
+use Rattle.tcd_reading.specs.declared.status.Status.TheVariants.{Refused}
+
+-- the names of the files that `cellcert` reads and of the one that it writes
+pub record CellcertNames : Type 0 where
+  pub elf : List ℕ
+  pub plan : List ℕ
+  pub cells : List ℕ
+  pub cert : List ℕ
+
+-- each certificate of version 2 that is accepted under the plan in which the cells are devices breaks rule 16
+abbrev pub NoneKeepsCells : ImageData → PlanData → List Cell → Type 0
+NoneKeepsCells image plan cells =
+    (cert : CertData) → IsCert cert → cert.version ≡ 2 → Accepts image (with_cells plan cells) cert → KeepsCells image (with_cells plan cells) cells cert → ⊥
+
+-- what is said of an image, a plan and its cells, all of it under the plan in which they are devices: no certificate of version 2
+-- is accepted, and why is told; or each that is breaks rule 16, and the first place at which the least one does is told; or the
+-- least one breaks it nowhere and is written under this name, and then every run in which each cell's word starts in its bounds is
+-- safe, and keeps them there
+pub data IsCertifyingCells (name : List ℕ) (image : ImageData) (plan : PlanData) (cells : List Cell) (report : Report) : Type 0 where
+  refused :
+      (rule : ℕ) (key : Key) (addr : ℕ) → NoneAccepted image (with_cells plan cells) 2 → IsRefusal image (with_cells plan cells) 2 rule key addr
+      → report ≡ says Refused (refused_line rule key addr) → IsCertifyingCells name image plan cells report
+  broken :
+      (cert : CertData) (key : Key) (addr : ℕ) → NoneKeepsCells image plan cells → IsCert cert → IsMade image (with_cells plan cells) 2 cert
+      → IsFirstBreak image (with_cells plan cells) cells cert key addr → report ≡ says Refused (refused_line 16 key addr)
+      → IsCertifyingCells name image plan cells report
+  certified :
+      (cert : CertData) → IsCert cert → IsMade image (with_cells plan cells) 2 cert → KeepsCells image (with_cells plan cells) cells cert
+      → SafeWithCells image plan cells (certified_need image (with_cells plan cells) cert)
+      → report
+      ≡ writes_file name (bytes_of cert) (certified_cells_line (certified_need image (with_cells plan cells) cert) (plan.areas - plan.reserve) (length cells))
+      → IsCertifyingCells name image plan cells report
+
+-- an executable, a plan and its cells are read; then a certificate is made
+abbrev pub cellcert_reading : CellcertNames → Reading
+cellcert_reading names =
+    input ImageData elf_form names.elf
+    (λ image. input PlanData plan_form names.plan
+    (λ plan. input (List Cell) (cells_form plan) names.cells (λ cells. answer (IsCertifyingCells names.cert image plan cells))))

@@ -1,0 +1,48 @@
+-- What `cells` reads and says.
+use Rattle.std.specs.Prelude.{◌≡◌, ◌-◌, ℕ, List, length}
+use Rattle.elf_image.specs.Images.{ImageData}
+use Rattle.tcd_plan.specs.PlanData.{PlanData}
+use Rattle.depth_cert.specs.Certs.{CertData}
+use Rattle.depth_cert.specs.declared.keys.Key.{Key}
+use Rattle.cfg_recover.specs.Accepting.{Accepts, IsFirstFault, certified_need}
+use Rattle.value_cells.specs.declared.cells.Cell.{Cell}
+use Rattle.value_cells.specs.Cells.{with_cells}
+use Rattle.value_cells.specs.Keeping.{KeepsCells, IsFirstBreak}
+use Rattle.value_cells.specs.Safe.{SafeWithCells}
+use Rattle.tcd_reading.specs.Reports.{Report, says}
+use Rattle.tcd_reading.specs.Inputs.{Reading, input, answer}
+use Rattle.tcd_driver.specs.Forms.{cells_form}
+use Rattle.tcd_forms.specs.Forms.{elf_form, plan_form, cert_form}
+use Rattle.tcd_driver.specs.Lines.{certified_cells_line}
+use Rattle.tcd_forms.specs.Lines.{refused_line}
+use Rattle.tcd_reading.specs.declared.status.Status.TheVariants.{Done, Refused}
+
+-- the names of the files that `cells` reads
+pub record CellsNames : Type 0 where
+  pub elf : List ℕ
+  pub plan : List ℕ
+  pub cells : List ℕ
+  pub cert : List ℕ
+
+-- the verdict on an image, a plan, its cells and a certificate, which is asked for under the plan in which the cells are devices:
+-- it isn't accepted, and its first fault is told; or it is, and the first place at which rule 16 fails is told; or none does, and
+-- then every run in which each cell's word starts in its bounds is safe, and keeps them there
+pub data IsCellsVerdict (image : ImageData) (plan : PlanData) (cells : List Cell) (cert : CertData) (report : Report) : Type 0 where
+  refused :
+      (rule : ℕ) (key : Key) (addr : ℕ) → IsFirstFault image (with_cells plan cells) cert rule key addr → report ≡ says Refused (refused_line rule key addr)
+      → IsCellsVerdict image plan cells cert report
+  broken :
+      (key : Key) (addr : ℕ) → Accepts image (with_cells plan cells) cert → IsFirstBreak image (with_cells plan cells) cells cert key addr
+      → report ≡ says Refused (refused_line 16 key addr) → IsCellsVerdict image plan cells cert report
+  certified :
+      Accepts image (with_cells plan cells) cert → KeepsCells image (with_cells plan cells) cells cert
+      → SafeWithCells image plan cells (certified_need image (with_cells plan cells) cert)
+      → report ≡ says Done (certified_cells_line (certified_need image (with_cells plan cells) cert) (plan.areas - plan.reserve) (length cells))
+      → IsCellsVerdict image plan cells cert report
+
+-- an executable, a plan, its cells and a certificate are read; then the verdict is told
+abbrev pub cells_reading : CellsNames → Reading
+cells_reading names =
+    input ImageData elf_form names.elf
+    (λ image. input PlanData plan_form names.plan
+    (λ plan. input (List Cell) (cells_form plan) names.cells (λ cells. input CertData cert_form names.cert (λ cert. answer (IsCellsVerdict image plan cells cert)))))

@@ -1,0 +1,37 @@
+-- What `cert` reads, says and writes.
+use Rattle.std.specs.Prelude.{◌≡◌, ◌-◌, ℕ, List}
+use Rattle.elf_image.specs.Images.{ImageData}
+use Rattle.tcd_plan.specs.PlanData.{PlanData}
+use Rattle.depth_cert.specs.declared.keys.Key.{Key}
+use Rattle.depth_cert.specs.Certs.{CertData}
+use Rattle.depth_cert.specs.Spelling.{bytes_of}
+use Rattle.cfg_recover.specs.Accepting.{certified_need}
+use Rattle.tcd_reading.specs.Reports.{Report, says, writes_file}
+use Rattle.tcd_reading.specs.Inputs.{Reading, input, answer}
+use Rattle.tcd_forms.specs.Forms.{elf_form, plan_form}
+use Rattle.tcd_forms.specs.Lines.{refused_line, certified_line}
+use Rattle.tcd_driver.specs.Made.{IsCertified, AreNone}
+use Rattle.tcd_reading.specs.declared.status.Status.TheVariants.{Refused}
+
+-- the names of the files that `cert` reads and of the one that it writes
+pub record CertNames : Type 0 where
+  pub elf : List ℕ
+  pub plan : List ℕ
+  pub cert : List ℕ
+
+-- what is said of an image and a plan: no certificate is accepted, and why is told; or the best one is written under this name,
+-- and the headline holds with its need
+pub data IsCertifying (name : List ℕ) (image : ImageData) (plan : PlanData) (report : Report) : Type 0 where
+  refused :
+      (rule : ℕ) (key : Key) (addr : ℕ) → AreNone image plan rule key addr → report ≡ says Refused (refused_line rule key addr)
+      → IsCertifying name image plan report
+  certified :
+      (cert : CertData) → IsCertified image plan cert
+      → report ≡ writes_file name (bytes_of cert) (certified_line (certified_need image plan cert) (plan.areas - plan.reserve))
+      → IsCertifying name image plan report
+
+-- an executable and a plan are read; then a certificate is made
+abbrev pub cert_reading : CertNames → Reading
+cert_reading names =
+    input ImageData elf_form names.elf
+    (λ image. input PlanData plan_form names.plan (λ plan. answer (IsCertifying names.cert image plan)))

@@ -1,0 +1,41 @@
+-- What `cfg` reads and says.
+use Rattle.std.specs.Prelude.{◌≡◌, ℕ, List}
+use Rattle.elf_image.specs.Images.{ImageData}
+use Rattle.tcd_plan.specs.PlanData.{PlanData}
+use Rattle.depth_cert.specs.declared.keys.Key.{Key}
+use Rattle.depth_cert.specs.Certs.{CertData}
+use Rattle.tcd_report.specs.Graphs.{IsGraph}
+use Rattle.tcd_report.specs.EdgeLaws.{EdgesStand}
+use Rattle.tcd_reading.specs.Reports.{Report, says}
+use Rattle.tcd_reading.specs.Inputs.{Reading, input, answer}
+use Rattle.tcd_forms.specs.Forms.{elf_form, plan_form}
+use Rattle.tcd_forms.specs.Lines.{refused_line}
+use Rattle.tcd_driver.specs.Made.{IsCertified, AreNone, SpellCertified}
+use Rattle.tcd_reading.specs.declared.status.Status.TheVariants.{Done, Refused}
+
+-- the names of the files that `cfg` reads
+pub record CfgNames : Type 0 where
+  pub elf : List ℕ
+  pub plan : List ℕ
+
+-- the text is the graph of the best certificate, for which the headline holds, and the edge of each step of each run stands on
+-- one of its lines, with its address and the key of its frame
+pub record IsDrawn (image : ImageData) (plan : PlanData) (text : List ℕ) : Type 0 where
+  pub cert : CertData
+  pub certified : IsCertified image plan cert
+  pub graph : IsGraph image plan cert text
+  pub edges : EdgesStand image plan cert graph.lines
+
+-- what is said of an image and a plan: no certificate is accepted, and why is told; or the graph of the best one is
+pub data IsDrawing (image : ImageData) (plan : PlanData) (told : Report) : Type 0 where
+  refused : (rule : ℕ) (key : Key) (addr : ℕ) → AreNone image plan rule key addr → told ≡ says Refused (refused_line rule key addr) → IsDrawing image plan told
+  drawn : (text : List ℕ) → IsDrawn image plan text → told ≡ says Done text → IsDrawing image plan told
+
+-- an executable and a plan are read; then the graph is drawn
+abbrev pub cfg_reading : CfgNames → Reading
+cfg_reading names = input ImageData elf_form names.elf (λ image. input PlanData plan_form names.plan (λ plan. answer (IsDrawing image plan)))
+
+-- ---- by what the code has
+-- the bytes spell a certificate that is certified, with some need
+abbrev pub SpellOne : ImageData → PlanData → List ℕ → Type 0
+SpellOne image plan bytes = (need : ℕ) × SpellCertified image plan bytes need

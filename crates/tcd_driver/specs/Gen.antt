@@ -1,0 +1,41 @@
+-- What `gen` says.
+use Rattle.std.specs.Prelude.{◌≡◌, ◌-◌, ◌&&◌, nat_le, ℕ, List, length, Option}
+use Rattle.std.specs.Bool.{then_some}
+use Rattle.std.specs.Option.{option_and_then}
+use Rattle.elf_image.specs.Images.{ImageData}
+use Rattle.tcd_plan.specs.PlanData.{PlanData}
+use Rattle.tc_machine.specs.Safe.{Safe}
+use Rattle.tc_script.specs.Numbers.{number_of}
+use Rattle.depth_cert.specs.declared.keys.Key.{Key}
+use Rattle.depth_cert.specs.Certs.{CertData, IsCert, count_points}
+use Rattle.cfg_recover.specs.Accepting.{certified_need}
+use Rattle.cfg_recover.specs.Refusals.{IsRefusal}
+use Rattle.depth_maker.specs.Making.{IsMade, NoneAccepted}
+use Rattle.tcd_generate.specs.Generated.{generated_image}
+use Rattle.tcd_generate.specs.Planned.{generated_plan}
+use Rattle.tcd_reading.specs.Reports.{Report, says}
+use Rattle.tcd_reading.specs.Inputs.{Reading, answer}
+use Rattle.tcd_forms.specs.Lines.{refused_line}
+use Rattle.tcd_driver.specs.Lines.{generated_line}
+use Rattle.tcd_reading.specs.declared.status.Status.TheVariants.{Done, Refused}
+
+-- how many functions a word asks for: 1 to 500, in decimal without leading zeros
+abbrev pub functions_in : List ℕ → Option ℕ
+functions_in word = option_and_then (λ n. then_some (nat_le 1 n && nat_le n 500) n) (number_of word)
+
+-- what is said of an image of so many functions and its plan: no certificate of version 1 is accepted, and why is told; or the
+-- least one is made, the headline holds with its need, and its nodes and points are counted
+pub data IsSummary (functions : ℕ) (image : ImageData) (plan : PlanData) (report : Report) : Type 0 where
+  refused :
+      (rule : ℕ) (key : Key) (addr : ℕ) → NoneAccepted image plan 1 → IsRefusal image plan 1 rule key addr → report ≡ says Refused (refused_line rule key addr)
+      → IsSummary functions image plan report
+  certified :
+      (cert : CertData) → IsCert cert → IsMade image plan 1 cert → Safe image plan (certified_need image plan cert)
+      → report
+      ≡ says Done
+      (generated_line functions (length cert.nodes) (count_points cert.nodes) (certified_need image plan cert) (plan.areas - plan.reserve))
+      → IsSummary functions image plan report
+
+-- nothing is read: the image of so many functions and its plan are generated, and a certificate is made
+abbrev pub gen_reading : ℕ → Reading
+gen_reading functions = answer (IsSummary functions (generated_image functions) generated_plan)

@@ -1,0 +1,89 @@
+-- What `ship` reads, says and writes.
+use Rattle.std.specs.Prelude.{◌≡◌, ◌-◌, ℕ, List, map, string_bytes, Ok, Err}
+use Rattle.elf_image.specs.Images.{ImageData}
+use Rattle.elf_image.specs.Elf.{image_of}
+use Rattle.elf_image.specs.Written.{file_of}
+use Rattle.tcd_plan.specs.PlanData.{PlanData}
+use Rattle.tc_object.specs.Objects.{ObjectData}
+use Rattle.tc_link.specs.Layouts.{LayoutData}
+use Rattle.tc_link.specs.Linked.{Refusal, linked}
+use Rattle.tc_program.specs.Laws.{AreAssembled}
+use Rattle.tc_program.specs.Placed.{Placed}
+use Rattle.depth_cert.specs.declared.keys.Key.{Key}
+use Rattle.depth_cert.specs.Certs.{CertData}
+use Rattle.depth_cert.specs.Spelling.{bytes_of}
+use Rattle.cfg_recover.specs.Accepting.{certified_need}
+use Rattle.tcd_reading.specs.Reports.{Report, says, writes_two}
+use Rattle.tcd_reading.specs.Inputs.{Reading, input, each, answer}
+use Rattle.tcd_forms.specs.Forms.{SourceData, plan_form, layout_form, placed_source_form}
+use Rattle.tcd_forms.specs.Lines.{link_line, refused_line, certified_line}
+use Rattle.tcd_driver.specs.Made.{IsCertified, AreNone}
+use Rattle.tcd_driver.specs.declared.commands.ship.Shipment.{Shipment}
+use Rattle.tcd_reading.specs.declared.status.Status.TheVariants.{Refused, BadInput}
+
+-- the names of the files that `ship` reads, and of the two that it writes
+pub record ShipNames : Type 0 where
+  pub plan : List ℕ
+  pub layout : List ℕ
+  pub elf : List ℕ
+  pub cert : List ℕ
+  pub sources : List (List ℕ)
+
+-- the objects of sources, and their texts
+abbrev pub objects_of : List SourceData → List ObjectData
+objects_of sources = map (λ s. s.object) sources
+
+abbrev pub texts_of : List SourceData → List (List ℕ)
+texts_of sources = map (λ s. s.text) sources
+
+-- the image of the sources by the layout: it is linked from their objects, and their statements stand in it
+pub record IsImageOf (layout : LayoutData) (sources : List SourceData) (image : ImageData) : Type 0 where
+  pub linked_is : linked (objects_of sources) layout ≡ Ok image
+  pub placed : Placed (texts_of sources) layout image
+
+-- what is said of an image and a plan: no certificate is accepted, and why is told; or the image is written under a name, so that
+-- its bytes read as it, and then the best certificate under another, and the headline holds with its need
+pub data IsShipping (elf cert : List ℕ) (plan : PlanData) (image : ImageData) (report : Report) : Type 0 where
+  refused :
+      (rule : ℕ) (key : Key) (addr : ℕ) → AreNone image plan rule key addr → report ≡ says Refused (refused_line rule key addr)
+      → IsShipping elf cert plan image report
+  shipped :
+      (c : CertData) → IsCertified image plan c → image_of (file_of image) ≡ Ok image
+      → report
+      ≡ writes_two (record { name = elf; bytes = file_of image }) (record { name = cert; bytes = bytes_of c })
+      (certified_line (certified_need image plan c) (plan.areas - plan.reserve))
+      → IsShipping elf cert plan image report
+
+-- what is said of a plan, a layout and sources: linking refuses them; or their image is shipped, or refused
+pub data IsShipped (elf cert : List ℕ) (plan : PlanData) (layout : LayoutData) (sources : List SourceData) (report : Report) : Type 0 where
+  unlinked :
+      (r : Refusal) → linked (objects_of sources) layout ≡ Err r → report ≡ says BadInput (link_line r)
+      → IsShipped elf cert plan layout sources report
+  of_image :
+      (i : ImageData) → IsImageOf layout sources i → IsShipping elf cert plan i report → IsShipped elf cert plan layout sources report
+
+-- a plan, a layout and the sources are read; then their image is made and certified
+abbrev pub ship_reading : ShipNames → Reading
+ship_reading names =
+    input PlanData plan_form names.plan
+    (λ plan. input LayoutData layout_form names.layout
+    (λ layout. each SourceData placed_source_form 0 names.sources (λ sources. answer (IsShipped names.elf names.cert plan layout sources))))
+
+-- ---- by what the code has
+-- the names as the program holds them
+abbrev pub ship_names : Shipment → ShipNames
+ship_names s = record { plan = s.plan.now; layout = s.layout.now; elf = s.elf.now; cert = s.cert.now; sources = map string_bytes s.sources.now }
+
+-- sources that break no rule, and their objects
+pub record AreSourcesOf (sources : List SourceData) (objects : List ObjectData) : Type 0 where
+  pub objects_are : objects ≡ objects_of sources
+  pub assembled : AreAssembled (texts_of sources) (objects_of sources)
+
+-- what is said of sources, by the names of the two files
+abbrev pub shipped_by : Shipment → PlanData → LayoutData → List SourceData → Report → Type 0
+shipped_by s plan layout sources = IsShipped s.elf.now s.cert.now plan layout sources
+
+-- these bytes are written for the image, and read as it
+pub record SpellImage (image : ImageData) (bytes : List ℕ) : Type 0 where
+  pub spell : bytes ≡ file_of image
+  pub read : image_of (file_of image) ≡ Ok image

@@ -1,0 +1,143 @@
+-- What `taskcert` reads, says and writes.
+use Rattle.std.specs.Prelude.{◌≡◌, ◌-◌, ◌<◌, ◌≤◌, ℕ, List, [], ◌∷◌, length}
+use Rattle.elf_image.specs.Images.{ImageData}
+use Rattle.tcd_plan.specs.PlanData.{PlanData}
+use Rattle.depth_cert.specs.Certs.{CertData, IsCert}
+use Rattle.depth_cert.specs.Spelling.{bytes_of}
+use Rattle.depth_cert.specs.declared.keys.Key.{Key}
+use Rattle.tc_machine.specs.Safe.{Safe}
+use Rattle.cfg_recover.specs.Accepting.{Accepts, certified_need}
+use Rattle.cfg_recover.specs.Refusals.{IsRefusal}
+use Rattle.depth_maker.specs.Making.{IsMade, NoneAccepted}
+use Rattle.task_chains.specs.Tasks.{TasksData, count}
+use Rattle.task_chains.specs.Routine.{HasRoutine, IsRoutineFault}
+use Rattle.task_chains.specs.Views.{view_image_of, view_plan_of}
+use Rattle.task_chains.specs.Apart.{KeepsApart, IsTaskFault}
+use Rattle.task_chains.specs.Safe.{SafeTasks, IsJudged}
+use Rattle.tcd_reading.specs.Reports.{Report, Written, says}
+use Rattle.tcd_reading.specs.Inputs.{Reading, input, answer}
+use Rattle.tcd_driver.specs.Forms.{tasks_form}
+use Rattle.tcd_forms.specs.Forms.{elf_form, plan_form}
+use Rattle.tcd_driver.specs.Lines.{switch_line, refused_task_line, sum_line, certified_tasks_line}
+use Rattle.tcd_driver.specs.Tasks.{cert_of, needs_of, sum_of_needs, with_a_name_each}
+use Rattle.tcd_driver.specs.declared.making.Making.{Making}
+use Rattle.tcd_driver.specs.declared.making.Making.TheVariants as making
+use Rattle.tcd_driver.specs.declared.commands.taskcert.TasksMaking.{TasksMaking}
+use Rattle.tcd_driver.specs.declared.commands.taskcert.TasksMaking.TheVariants as all
+use Rattle.tcd_reading.specs.declared.status.Status.TheVariants.{Done, Refused}
+
+-- the names of the files that `taskcert` reads, and of the certificates that it writes
+pub record TaskcertNames : Type 0 where
+  pub elf : List ℕ
+  pub plan : List ℕ
+  pub tasks : List ℕ
+  pub certs : List (List ℕ)
+
+-- ---- one task
+-- the least certificate of version 2 that is accepted for the task's view, and it is judged well
+pub record IsTaskMade (image : ImageData) (plan : PlanData) (tasks : TasksData) (u : ℕ) (cert : CertData) : Type 0 where
+  pub made : IsMade (view_image_of image tasks u) (view_plan_of plan tasks u) 2 cert
+  pub judged : IsJudged image plan tasks cert u
+
+-- each certificate of version 2 that is accepted for a view fails rule 17
+abbrev pub NoneApart : ImageData → PlanData → TasksData → Type 0
+NoneApart view plan tasks =
+    (cert : CertData) → IsCert cert → cert.version ≡ 2 → Accepts view plan cert → KeepsApart view plan tasks cert → ⊥
+
+-- no certificate of version 2 is accepted for a view, and this is why; or each one that is fails rule 17, and the least one fails
+-- it here first
+pub data IsUncertified (view : ImageData) (plan : PlanData) (tasks : TasksData) : ℕ → Key → ℕ → Type 0 where
+  unaccepted : (rule : ℕ) (key : Key) (addr : ℕ) → NoneAccepted view plan 2 → IsRefusal view plan 2 rule key addr → IsUncertified view plan tasks rule key addr
+  not_apart :
+      (cert : CertData) (key : Key) (addr : ℕ) → IsCert cert → IsMade view plan 2 cert → IsTaskFault view plan tasks cert key addr → NoneApart view plan tasks
+      → IsUncertified view plan tasks 17 key addr
+
+-- ---- all tasks
+-- these are the certificates of the first tasks
+abbrev pub AreTasksMade : ImageData → PlanData → TasksData → List CertData → Type 0
+AreTasksMade image plan tasks certs = (u : ℕ) → u < length certs → IsTaskMade image plan tasks u (cert_of certs u)
+
+-- task u is the first that no certificate is judged well for
+pub record IsFirstUncertified (image : ImageData) (plan : PlanData) (tasks : TasksData) (u rule : ℕ) (key : Key) (addr : ℕ) : Type 0 where
+  pub task : u < count tasks
+  pub before : (w : ℕ) → w < u → (cert : CertData) × IsTaskMade image plan tasks w cert
+  pub uncertified : IsUncertified (view_image_of image tasks u) (view_plan_of plan tasks u) tasks rule key addr
+
+-- several files to write, one after another, and the text on them
+abbrev pub writes_files : List Written → List ℕ → Report
+writes_files writes text = record { status = Done; text = text; writes = writes }
+
+-- a file for each certificate, under its name
+unfoldable pub cert_files : List (List ℕ) → List CertData → List Written
+cert_files (name ∷ names) (cert ∷ certs) = record { name = name; bytes = bytes_of cert } ∷ cert_files names certs
+cert_files _ _ = []
+
+-- What is said of an image, a plan and its tasks: the image hasn't the switch routine; or it has, and the first task that no
+-- certificate is judged well for is told; or there is one for each, but the needs of the least ones are together above the areas
+-- without the reserve; or they aren't, and then these are written under their names, and every run of all tasks is safe.
+pub data IsTaskcerting (names : List (List ℕ)) (image : ImageData) (plan : PlanData) (tasks : TasksData) (report : Report) : Type 0 where
+  no_switch : (addr : ℕ) → IsRoutineFault image plan tasks addr → report ≡ says Refused (switch_line addr) → IsTaskcerting names image plan tasks report
+  refused :
+      (u rule : ℕ) (key : Key) (addr : ℕ) → HasRoutine image plan tasks → IsFirstUncertified image plan tasks u rule key addr
+      → report ≡ says Refused (refused_task_line rule key addr u) → IsTaskcerting names image plan tasks report
+  above :
+      (certs : List CertData) → HasRoutine image plan tasks → length certs ≡ count tasks → AreTasksMade image plan tasks certs
+      → plan.areas - plan.reserve < sum_of_needs image plan tasks certs
+      → report ≡ says Refused (sum_line (sum_of_needs image plan tasks certs) (plan.areas - plan.reserve)) → IsTaskcerting names image plan tasks report
+  certified :
+      (certs : List CertData) → HasRoutine image plan tasks → length certs ≡ count tasks → AreTasksMade image plan tasks certs
+      → sum_of_needs image plan tasks certs ≤ plan.areas - plan.reserve → SafeTasks image plan tasks (needs_of image plan tasks certs)
+      → report ≡ writes_files (cert_files names certs) (certified_tasks_line (sum_of_needs image plan tasks certs) (plan.areas - plan.reserve) (count tasks))
+      → IsTaskcerting names image plan tasks report
+
+-- an executable, a plan and its tasks are read; then a certificate for each task is made
+abbrev pub taskcert_reading : TaskcertNames → Reading
+taskcert_reading names =
+    input ImageData elf_form names.elf
+    (λ image. input PlanData plan_form names.plan
+    (λ plan. input TasksData (tasks_form plan) names.tasks
+    (λ tasks. with_a_name_each names.certs tasks (answer (IsTaskcerting names.certs image plan tasks)))))
+
+-- ---- by what the code has
+-- the bytes spell such a certificate of a view, with this need, where it keeps rule 17
+pub record SpellApart (view : ImageData) (plan : PlanData) (tasks : TasksData) (bytes : List ℕ) (need : ℕ) : Type 0 where
+  pub cert : CertData
+  pub spell : bytes ≡ bytes_of cert
+  pub is_cert : IsCert cert
+  pub made : IsMade view plan 2 cert
+  pub apart : KeepsApart view plan tasks cert
+  pub safe : Safe view plan need
+  pub need_is : need ≡ certified_need view plan cert
+
+-- what making a certificate for a view comes to
+abbrev pub MakesApart : ImageData → PlanData → TasksData → Making → Type 0
+MakesApart view plan tasks (making.Certified bytes need) = SpellApart view plan tasks bytes.items need
+MakesApart view plan tasks (making.Refused rule key addr) = IsUncertified view plan tasks rule key addr
+MakesApart view plan tasks making.NoMemory = Unit {0}
+
+-- the bytes spell the certificate of task u, with this need
+pub record SpellTask (image : ImageData) (plan : PlanData) (tasks : TasksData) (u : ℕ) (bytes : List ℕ) (need : ℕ) : Type 0 where
+  pub cert : CertData
+  pub spell : bytes ≡ bytes_of cert
+  pub made : IsTaskMade image plan tasks u cert
+  pub need_is : need ≡ certified_need (view_image_of image tasks u) (view_plan_of plan tasks u) cert
+
+-- what making one for task u comes to
+abbrev pub MakesTask : ImageData → PlanData → TasksData → ℕ → Making → Type 0
+MakesTask image plan tasks u (making.Certified bytes need) = SpellTask image plan tasks u bytes.items need
+MakesTask image plan tasks u (making.Refused rule key addr) = IsUncertified (view_image_of image tasks u) (view_plan_of plan tasks u) tasks rule key addr
+MakesTask image plan tasks u making.NoMemory = Unit {0}
+
+-- these are the files of a certificate for each task, and the needs are together this
+pub record AreFiles (names : List (List ℕ)) (image : ImageData) (plan : PlanData) (tasks : TasksData) (writes : List Written) (sum : ℕ) : Type 0 where
+  pub certs : List CertData
+  pub many : length certs ≡ count tasks
+  pub made : AreTasksMade image plan tasks certs
+  pub files : writes ≡ cert_files names certs
+  pub sum_is : sum ≡ sum_of_needs image plan tasks certs
+
+-- what making one for each task comes to
+abbrev pub MakesAll : List (List ℕ) → ImageData → PlanData → TasksData → TasksMaking → Type 0
+MakesAll names image plan tasks (all.Certified writes sum) = AreFiles names image plan tasks writes.items sum
+MakesAll names image plan tasks (all.Against u rule key addr) = IsFirstUncertified image plan tasks u rule key addr
+MakesAll names image plan tasks all.NoMemory = Unit {0}

@@ -1,0 +1,112 @@
+-- What `tasks` reads and says.
+use Rattle.std.specs.Prelude.{◌≡◌, ◌-◌, ◌<◌, ◌≤◌, ◌==◌, ℕ, Bool, true, false, List, [], length, slice_index_or}
+use Rattle.csa_chain.specs.SeveralChains.{sum_below}
+use Rattle.elf_image.specs.Images.{ImageData}
+use Rattle.tcd_plan.specs.PlanData.{PlanData}
+use Rattle.depth_cert.specs.Certs.{CertData}
+use Rattle.depth_cert.specs.declared.keys.Key.{Key}
+use Rattle.cfg_recover.specs.Accepting.{Accepts, IsFirstFault, certified_need}
+use Rattle.depth_check.specs.declared.verdicts.Verdict.{Verdict}
+use Rattle.depth_check.specs.declared.verdicts.Verdict.TheVariants.{Yes, No}
+use Rattle.task_chains.specs.declared.task_lists.TasksErr.TheVariants.{Count}
+use Rattle.task_chains.specs.Tasks.{TasksData, count}
+use Rattle.task_chains.specs.Routine.{HasRoutine, IsRoutineFault}
+use Rattle.task_chains.specs.Views.{view_image_of, view_plan_of}
+use Rattle.task_chains.specs.Apart.{IsTaskFault}
+use Rattle.task_chains.specs.Safe.{SafeTasks, IsJudged, need_of_task}
+use Rattle.tcd_reading.specs.Reports.{Report, says}
+use Rattle.tcd_reading.specs.Inputs.{Reading, input, each, answer}
+use Rattle.tcd_driver.specs.Forms.{tasks_form}
+use Rattle.tcd_forms.specs.Forms.{elf_form, plan_form, cert_form}
+use Rattle.tcd_driver.specs.Lines.{tasks_line, switch_line, refused_task_line, sum_line, certified_tasks_line}
+use Rattle.tcd_driver.specs.declared.commands.tasks.Tally.{Tally}
+use Rattle.tcd_driver.specs.declared.commands.tasks.Tally.TheVariants.{Sum, Against}
+use Rattle.tcd_reading.specs.declared.status.Status.TheVariants.{Done, Refused, BadInput}
+
+-- the names of the files that `tasks` reads
+pub record TasksNames : Type 0 where
+  pub elf : List ℕ
+  pub plan : List ℕ
+  pub tasks : List ℕ
+  pub certs : List (List ℕ)
+
+-- the certificate of task u
+abbrev pub cert_of : List CertData → ℕ → CertData
+cert_of certs u = slice_index_or certs u (record { version = 1; nodes = [] })
+
+-- ---- one task
+-- its certificate isn't accepted for its view, and its first fault is this; or it is, and rule 17 fails here first
+pub data IsTaskRefused (image : ImageData) (plan : PlanData) (tasks : TasksData) (cert : CertData) (u : ℕ) : ℕ → Key → ℕ → Type 0 where
+  unaccepted :
+      (rule : ℕ) (key : Key) (addr : ℕ) → IsFirstFault (view_image_of image tasks u) (view_plan_of plan tasks u) cert rule key addr
+      → IsTaskRefused image plan tasks cert u rule key addr
+  not_apart :
+      (key : Key) (addr : ℕ) → Accepts (view_image_of image tasks u) (view_plan_of plan tasks u) cert
+      → IsTaskFault (view_image_of image tasks u) (view_plan_of plan tasks u) tasks cert key addr → IsTaskRefused image plan tasks cert u 17 key addr
+
+-- the answer on it: it is judged well, with this need; or it is refused
+abbrev pub JudgesTask : ImageData → PlanData → TasksData → CertData → ℕ → Verdict → Type 0
+JudgesTask image plan tasks cert u (Yes n) =
+    IsJudged image plan tasks cert u × (n ≡ certified_need (view_image_of image tasks u) (view_plan_of plan tasks u) cert)
+JudgesTask image plan tasks cert u (No rule key addr) = IsTaskRefused image plan tasks cert u rule key addr
+
+-- ---- all tasks
+-- the needs that count, two at least for each task but the first
+abbrev pub needs_of : ImageData → PlanData → TasksData → List CertData → ℕ → ℕ
+needs_of image plan tasks certs = need_of_task image plan tasks (cert_of certs)
+
+abbrev pub sum_of_needs : ImageData → PlanData → TasksData → List CertData → ℕ
+sum_of_needs image plan tasks certs = sum_below (count tasks) (needs_of image plan tasks certs)
+
+-- the certificates of the tasks below n are judged well
+abbrev pub AreJudged : ImageData → PlanData → TasksData → List CertData → ℕ → Type 0
+AreJudged image plan tasks certs n = (u : ℕ) → u < n → IsJudged image plan tasks (cert_of certs u) u
+
+-- task u is the first whose certificate is refused
+pub record IsFirstRefused (image : ImageData) (plan : PlanData) (tasks : TasksData) (certs : List CertData) (u rule : ℕ) (key : Key) (addr : ℕ) : Type 0 where
+  pub task : u < count tasks
+  pub before : AreJudged image plan tasks certs u
+  pub refused : IsTaskRefused image plan tasks (cert_of certs u) u rule key addr
+
+-- the sum of the needs, or the first task that is refused
+abbrev pub Tallies : ImageData → PlanData → TasksData → List CertData → Tally → Type 0
+Tallies image plan tasks certs (Sum n) = AreJudged image plan tasks certs (count tasks) × (n ≡ sum_of_needs image plan tasks certs)
+Tallies image plan tasks certs (Against u rule key addr) = IsFirstRefused image plan tasks certs u rule key addr
+
+-- the verdict on an image, a plan, its tasks and a certificate for each: the image hasn't the switch routine; or it has, and the
+-- first task whose certificate is refused is told; or none is, and the needs are together above the areas without the reserve; or
+-- they aren't, and then every run of all tasks is safe with these needs
+pub data IsTasksVerdict (image : ImageData) (plan : PlanData) (tasks : TasksData) (certs : List CertData) (report : Report) : Type 0 where
+  no_switch : (addr : ℕ) → IsRoutineFault image plan tasks addr → report ≡ says Refused (switch_line addr) → IsTasksVerdict image plan tasks certs report
+  refused :
+      (u rule : ℕ) (key : Key) (addr : ℕ) → HasRoutine image plan tasks → IsFirstRefused image plan tasks certs u rule key addr
+      → report ≡ says Refused (refused_task_line rule key addr u) → IsTasksVerdict image plan tasks certs report
+  above :
+      HasRoutine image plan tasks → AreJudged image plan tasks certs (count tasks) → plan.areas - plan.reserve < sum_of_needs image plan tasks certs
+      → report ≡ says Refused (sum_line (sum_of_needs image plan tasks certs) (plan.areas - plan.reserve)) → IsTasksVerdict image plan tasks certs report
+  certified :
+      HasRoutine image plan tasks → AreJudged image plan tasks certs (count tasks) → sum_of_needs image plan tasks certs ≤ plan.areas - plan.reserve
+      → SafeTasks image plan tasks (needs_of image plan tasks certs)
+      → report ≡ says Done (certified_tasks_line (sum_of_needs image plan tasks certs) (plan.areas - plan.reserve) (count tasks))
+      → IsTasksVerdict image plan tasks certs report
+
+-- ---- what is read
+-- where there are as many names as tasks, this is read; else that is told, and nothing more is read
+abbrev pub if_as_many : Bool → Reading → Reading
+if_as_many true reading = reading
+if_as_many false reading = answer (λ report. report ≡ says BadInput (tasks_line Count))
+
+abbrev pub with_a_name_each : List (List ℕ) → TasksData → Reading → Reading
+with_a_name_each names tasks reading = if_as_many (length names == count tasks) reading
+
+-- a certificate for each task is read; then the verdict is told
+abbrev pub certs_reading : List (List ℕ) → ImageData → PlanData → TasksData → Reading
+certs_reading names image plan tasks =
+    with_a_name_each names tasks (each CertData (λ _. cert_form) 0 names (λ certs. answer (IsTasksVerdict image plan tasks certs)))
+
+-- an executable, a plan and its tasks are read, and then the certificates
+abbrev pub tasks_reading : TasksNames → Reading
+tasks_reading names =
+    input ImageData elf_form names.elf
+    (λ image. input PlanData plan_form names.plan
+    (λ plan. input TasksData (tasks_form plan) names.tasks (λ tasks. certs_reading names.certs image plan tasks)))

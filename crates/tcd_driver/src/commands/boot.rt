@@ -1,0 +1,63 @@
+// The command `boot`.
+ghost use Rattle.tcd_driver.specs.Boot.{IsBootVerdict, boot_reading};
+ghost use Rattle.tcd_reading.specs.Outcomes.{Comes, IsTold};
+
+use crate::lines::{boots_line, unbooted_line};
+use depth_cert::Cert;
+use depth_check::{Verdict, check};
+use elf_image::Image;
+use std::alloc::Global;
+use tc_boot::boot_ok;
+use tcd_base::Files;
+use tcd_forms::{CertFile, ElfFile, PlanFile, refused_line};
+use tcd_plan::Plan;
+use tcd_reading::{Outcome, Status, read_input, report};
+
+/// Reads the three files, and tells whether the certificate is accepted and the boot sequence stands at an address.
+pub(crate) fn boot_files<F: Files>(
+    alloc: Global,
+    elf: &str,
+    plan: &str,
+    cert: &str,
+    at: u32,
+    files: &mut F,
+) -> Outcome
+    ensures { Comes
+        (boot_reading (record { elf = elf.now; plan = plan.now; cert = cert.now; at = at }))
+        (F.seen files.old) (F.seen files.new) result }
+{
+    let image = match read_input(&ElfFile, alloc, elf, files) {
+        Ok(image) => image,
+        Err(outcome) => return outcome,
+    };
+    let board = match read_input(&PlanFile, alloc, plan, files) {
+        Ok(board) => board,
+        Err(outcome) => return outcome,
+    };
+    let proof = match read_input(&CertFile, alloc, cert, files) {
+        Ok(proof) => proof,
+        Err(outcome) => return outcome,
+    };
+    boot_verdict(alloc, &image, &board, &proof, at)
+}
+
+// Checks a certificate and the boot sequence at an address, and makes the line of the verdict.
+fn boot_verdict(alloc: Global, image: &Image, plan: &Plan, cert: &Cert, at: u32) -> Outcome
+    ensures { IsTold (IsBootVerdict image.now plan.now cert.now at) ⊥ result }
+{
+    // What every image keeps is known once it is read.
+    let _entry = image.entry;
+    match check(image, plan, cert) {
+        Verdict::Yes(need) => match boot_ok(image, plan, at) {
+            Ok(events) => report(
+                alloc,
+                Status::Done,
+                boots_line(alloc, events, need, plan.areas - plan.reserve),
+            ),
+            Err(e) => report(alloc, Status::Refused, unbooted_line(alloc, e)),
+        },
+        Verdict::No { rule, key, addr } => {
+            report(alloc, Status::Refused, refused_line(alloc, rule, key, addr))
+        }
+    }
+}

@@ -1,0 +1,51 @@
+// The command `bootgen`.
+ghost use Rattle.std.specs.Prelude.{◌≤◌, ◌+◌, ◌^◌};
+ghost use Rattle.tcd_driver.specs.Boot.{WritesBoot, bootgen_reading};
+ghost use Rattle.tcd_reading.specs.Outcomes.{Comes, IsTold};
+
+use crate::lines::generated_boot_line;
+use std::alloc::Global;
+use tc_boot::boot_source;
+use tcd_base::Files;
+use tcd_forms::{PlanFile, line_of};
+use tcd_plan::Plan;
+use tcd_reading::{Outcome, read_input, report_file};
+
+/// Reads a plan, and makes the source of the boot sequence of an entry at an address.
+pub(crate) fn generate_boot<F: Files>(
+    alloc: Global,
+    plan: &str,
+    entry: u32,
+    at: u32,
+    source: &str,
+    files: &mut F,
+) -> Outcome
+    requires { at + 224 ≤ 2 ^ 32 }
+    ensures { Comes
+        (bootgen_reading (record {
+          plan = plan.now;
+          entry = entry;
+          at = at;
+          source = source.now;
+        }))
+        (F.seen files.old) (F.seen files.new) result }
+{
+    match read_input(&PlanFile, alloc, plan, files) {
+        Ok(board) => written_boot(alloc, &board, entry, at, source),
+        Err(outcome) => outcome,
+    }
+}
+
+// The source of the boot sequence to write under a name, and the line on it.
+fn written_boot(alloc: Global, plan: &Plan, entry: u32, at: u32, source: &str) -> Outcome
+    requires { at + 224 ≤ 2 ^ 32 }
+    ensures { IsTold (WritesBoot entry at source.now plan.now) ⊥ result }
+{
+    match boot_source(alloc, plan, entry, at) {
+        Ok(text) => {
+            let line = line_of(alloc, generated_boot_line());
+            report_file(alloc, source, text.into_bytes(), line)
+        }
+        Err(_) => Outcome::NoMemory,
+    }
+}

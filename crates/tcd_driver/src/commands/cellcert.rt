@@ -1,0 +1,96 @@
+// The command `cellcert`.
+ghost use Rattle.depth_maker.specs.Made.{AreMade};
+ghost use Rattle.value_cells.specs.Cells as spec;
+ghost use Rattle.value_cells.specs.Cells.{AreCells};
+ghost use Rattle.tcd_driver.specs.Cellcert.{IsCertifyingCells, cellcert_reading};
+ghost use Rattle.tcd_reading.specs.Outcomes.{Comes, IsTold};
+
+use crate::forms::CellsFile;
+use crate::lines::certified_cells_line;
+use depth_cert::Cert;
+use depth_check::{Verdict, check};
+use depth_maker::{MakeErr, make_bytes};
+use elf_image::Image;
+use std::alloc::Global;
+use tcd_base::Files;
+use tcd_forms::{ElfFile, PlanFile, refused_line};
+use tcd_plan::Plan;
+use tcd_reading::{Outcome, Status, read_input, report, report_file};
+use value_cells::{Cells, cells_fault, with_cells};
+
+/// Reads an executable, a plan and its cells, and makes their certificate.
+pub(crate) fn certify_cells<F: Files>(
+    alloc: Global,
+    elf: &str,
+    plan: &str,
+    cells: &str,
+    cert: &str,
+    files: &mut F,
+) -> Outcome
+    ensures { Comes
+        (cellcert_reading (record {
+          elf = elf.now;
+          plan = plan.now;
+          cells = cells.now;
+          cert = cert.now;
+        }))
+        (F.seen files.old) (F.seen files.new) result }
+{
+    let image = match read_input(&ElfFile, alloc, elf, files) {
+        Ok(image) => image,
+        Err(outcome) => return outcome,
+    };
+    let board = match read_input(&PlanFile, alloc, plan, files) {
+        Ok(board) => board,
+        Err(outcome) => return outcome,
+    };
+    let words = match read_input(&CellsFile { plan: &board }, alloc, cells, files) {
+        Ok(words) => words,
+        Err(outcome) => return outcome,
+    };
+    certified_cells(alloc, cert, &image, &board, &words)
+}
+
+// Makes a certificate of version 2 under the plan in which the cells are devices, to write under a name, and the line on it.
+fn certified_cells(alloc: Global, name: &str, image: &Image, plan: &Plan, cells: &Cells) -> Outcome
+    requires { AreCells plan.now cells.now }
+    ensures { IsTold (IsCertifyingCells name.now image.now plan.now cells.now) ⊥ result }
+{
+    match make_bytes(alloc, image, &with_cells(plan, cells), 2) {
+        Ok(bytes) => kept_cells(alloc, name, image, plan, cells, bytes),
+        Err(MakeErr::Refused { rule, key, addr }) => {
+            report(alloc, Status::Refused, refused_line(alloc, rule, key, addr))
+        }
+        Err(MakeErr::NoMemory) => Outcome::NoMemory,
+    }
+}
+
+// Checks the certificate that these bytes spell, and whether it keeps the cells.
+fn kept_cells(
+    alloc: Global,
+    name: &str,
+    image: &Image,
+    plan: &Plan,
+    cells: &Cells,
+    bytes: Vec<u8>,
+) -> Outcome
+    requires cells { AreCells plan.now cells.now }
+    requires made { AreMade image.now (spec.with_cells plan.now cells.now) 2 bytes.items }
+    ensures { IsTold (IsCertifyingCells name.now image.now plan.now cells.now) ⊥ result }
+{
+    let areas = plan.areas - plan.reserve;
+    let cert = match Cert::read(alloc, &bytes) {
+        Ok(cert) => cert,
+        Err(_) => return Outcome::NoMemory,
+    };
+    match check(image, &with_cells(plan, cells), &cert) {
+        Verdict::Yes(need) => match cells_fault(image, plan, cells, &cert) {
+            Some((key, addr)) => report(alloc, Status::Refused, refused_line(alloc, 16, key, addr)),
+            None => {
+                let line = certified_cells_line(alloc, need, areas, cells.list());
+                report_file(alloc, name, bytes, line)
+            }
+        },
+        Verdict::No { .. } => Outcome::NoMemory,
+    }
+}

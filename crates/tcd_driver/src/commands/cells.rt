@@ -1,0 +1,76 @@
+// The command `cells`.
+ghost use Rattle.value_cells.specs.Cells.{AreCells};
+ghost use Rattle.tcd_driver.specs.Cells.{IsCellsVerdict, cells_reading};
+ghost use Rattle.tcd_reading.specs.Outcomes.{Comes, IsTold};
+
+use crate::forms::CellsFile;
+use crate::lines::certified_cells_line;
+use depth_cert::Cert;
+use depth_check::{Verdict, check};
+use elf_image::Image;
+use std::alloc::Global;
+use tcd_base::Files;
+use tcd_forms::{CertFile, ElfFile, PlanFile, refused_line};
+use tcd_plan::Plan;
+use tcd_reading::{Outcome, Status, read_input, report};
+use value_cells::{Cells, cells_fault, with_cells};
+
+/// Reads the four files, and tells whether the certificate is accepted under the plan in which the cells are devices, and keeps
+/// the cells.
+pub(crate) fn check_cells<F: Files>(
+    alloc: Global,
+    elf: &str,
+    plan: &str,
+    cells: &str,
+    cert: &str,
+    files: &mut F,
+) -> Outcome
+    ensures { Comes
+        (cells_reading (record {
+          elf = elf.now;
+          plan = plan.now;
+          cells = cells.now;
+          cert = cert.now;
+        }))
+        (F.seen files.old) (F.seen files.new) result }
+{
+    let image = match read_input(&ElfFile, alloc, elf, files) {
+        Ok(image) => image,
+        Err(outcome) => return outcome,
+    };
+    let board = match read_input(&PlanFile, alloc, plan, files) {
+        Ok(board) => board,
+        Err(outcome) => return outcome,
+    };
+    let words = match read_input(&CellsFile { plan: &board }, alloc, cells, files) {
+        Ok(words) => words,
+        Err(outcome) => return outcome,
+    };
+    let proof = match read_input(&CertFile, alloc, cert, files) {
+        Ok(proof) => proof,
+        Err(outcome) => return outcome,
+    };
+    cells_verdict(alloc, &image, &board, &words, &proof)
+}
+
+// Checks a certificate under the plan in which the cells are devices, and makes the line of the verdict.
+fn cells_verdict(alloc: Global, image: &Image, plan: &Plan, cells: &Cells, cert: &Cert) -> Outcome
+    requires { AreCells plan.now cells.now }
+    ensures { IsTold (IsCellsVerdict image.now plan.now cells.now cert.now) ⊥ result }
+{
+    // What every certificate keeps is known once it is read.
+    let _version = cert.version;
+    match check(image, &with_cells(plan, cells), cert) {
+        Verdict::Yes(need) => match cells_fault(image, plan, cells, cert) {
+            Some((key, addr)) => report(alloc, Status::Refused, refused_line(alloc, 16, key, addr)),
+            None => {
+                let areas = plan.areas - plan.reserve;
+                let line = certified_cells_line(alloc, need, areas, cells.list());
+                report(alloc, Status::Done, line)
+            }
+        },
+        Verdict::No { rule, key, addr } => {
+            report(alloc, Status::Refused, refused_line(alloc, rule, key, addr))
+        }
+    }
+}

@@ -1,0 +1,49 @@
+// The command `cert`.
+ghost use Rattle.tcd_driver.specs.Cert.{IsCertifying, cert_reading};
+ghost use Rattle.tcd_reading.specs.Outcomes.{Comes, IsTold};
+
+use crate::making::{Making, make_best};
+use elf_image::Image;
+use std::alloc::Global;
+use tcd_base::Files;
+use tcd_forms::{ElfFile, PlanFile, certified_line, refused_line};
+use tcd_plan::Plan;
+use tcd_reading::{Outcome, Status, read_input, report, report_file};
+
+/// Reads an executable and a plan, and makes their certificate.
+pub(crate) fn certify_files<F: Files>(
+    alloc: Global,
+    elf: &str,
+    plan: &str,
+    cert: &str,
+    files: &mut F,
+) -> Outcome
+    ensures { Comes (cert_reading (record { elf = elf.now; plan = plan.now; cert = cert.now }))
+        (F.seen files.old) (F.seen files.new) result }
+{
+    let image = match read_input(&ElfFile, alloc, elf, files) {
+        Ok(image) => image,
+        Err(outcome) => return outcome,
+    };
+    let board = match read_input(&PlanFile, alloc, plan, files) {
+        Ok(board) => board,
+        Err(outcome) => return outcome,
+    };
+    certified(alloc, cert, &image, &board)
+}
+
+// Makes a certificate to write under a name, and the line on it.
+fn certified(alloc: Global, name: &str, image: &Image, plan: &Plan) -> Outcome
+    ensures { IsTold (IsCertifying name.now image.now plan.now) ⊥ result }
+{
+    match make_best(alloc, image, plan) {
+        Making::Certified { bytes, need } => {
+            let line = certified_line(alloc, need, plan.areas - plan.reserve);
+            report_file(alloc, name, bytes, line)
+        }
+        Making::Refused { rule, key, addr } => {
+            report(alloc, Status::Refused, refused_line(alloc, rule, key, addr))
+        }
+        Making::NoMemory => Outcome::NoMemory,
+    }
+}

@@ -1,0 +1,65 @@
+// The command `cfg`.
+ghost use Rattle.std.specs.Prelude.{IfOk};
+ghost use Rattle.tcd_driver.specs.Cfg.{IsDrawing, IsDrawn, SpellOne, cfg_reading};
+ghost use Rattle.tcd_reading.specs.Outcomes.{Comes, IsTold};
+
+use crate::making::{Making, make_best};
+use depth_cert::Cert;
+use elf_image::Image;
+use std::alloc::Global;
+use tcd_base::{Files, NoMemory};
+use tcd_forms::{ElfFile, PlanFile, refused_line};
+use tcd_plan::Plan;
+use tcd_reading::{Outcome, Status, read_input, report};
+use tcd_report::graph;
+
+/// Reads an executable and a plan, and draws the graph of their certificate.
+pub(crate) fn draw_files<F: Files>(alloc: Global, elf: &str, plan: &str, files: &mut F) -> Outcome
+    ensures { Comes (cfg_reading (record { elf = elf.now; plan = plan.now }))
+        (F.seen files.old) (F.seen files.new) result }
+{
+    let image = match read_input(&ElfFile, alloc, elf, files) {
+        Ok(image) => image,
+        Err(outcome) => return outcome,
+    };
+    let board = match read_input(&PlanFile, alloc, plan, files) {
+        Ok(board) => board,
+        Err(outcome) => return outcome,
+    };
+    drawn(alloc, &image, &board)
+}
+
+// Makes a certificate, and tells its graph.
+fn drawn(alloc: Global, image: &Image, plan: &Plan) -> Outcome
+    ensures { IsTold (IsDrawing image.now plan.now) ⊥ result }
+{
+    match make_best(alloc, image, plan) {
+        Making::Certified { bytes, .. } => {
+            let text = graph_text(alloc, image, plan, bytes);
+            report(alloc, Status::Done, text)
+        }
+        Making::Refused { rule, key, addr } => {
+            report(alloc, Status::Refused, refused_line(alloc, rule, key, addr))
+        }
+        Making::NoMemory => Outcome::NoMemory,
+    }
+}
+
+// The graph of the certificate that these bytes spell.
+fn graph_text(
+    alloc: Global,
+    image: &Image,
+    plan: &Plan,
+    bytes: Vec<u8>,
+) -> Result<Vec<u8>, NoMemory>
+    requires { SpellOne image.now plan.now bytes.items }
+    ensures { IfOk result (λ text. IsDrawn image.now plan.now text.items) }
+{
+    // What every image and every plan keep is known once they are read.
+    let _entry = image.entry;
+    let _areas = plan.areas;
+    match Cert::read(alloc, &bytes) {
+        Ok(cert) => Ok(graph(alloc, image, plan, &cert)?.into_bytes()),
+        Err(_) => Err(NoMemory),
+    }
+}

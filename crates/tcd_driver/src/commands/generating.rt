@@ -1,0 +1,69 @@
+// The command `gen`.
+ghost use Rattle.std.specs.Prelude.{◌≤◌};
+ghost use Rattle.depth_maker.specs.Made.{AreMade};
+ghost use Rattle.tcd_generate.specs.Generated.{generated_image};
+ghost use Rattle.tcd_generate.specs.Planned.{generated_plan};
+ghost use Rattle.tcd_driver.specs.Gen.{IsSummary};
+ghost use Rattle.tcd_reading.specs.Outcomes.{IsTold};
+
+use crate::lines::generated_line;
+use depth_cert::Cert;
+use depth_check::{Verdict, check};
+use depth_maker::{MakeErr, make_bytes};
+use elf_image::Image;
+use std::alloc::Global;
+use tcd_forms::refused_line;
+use tcd_generate::generate;
+use tcd_plan::Plan;
+use tcd_reading::{Outcome, Status, report};
+
+/// Generates the image of so many functions and its plan, and makes their certificate.
+pub(crate) fn generate_image(alloc: Global, functions: u32) -> Outcome
+    requires { (1 ≤ functions) × (functions ≤ 500) }
+    ensures { IsTold (IsSummary functions (generated_image functions) generated_plan) ⊥ result }
+{
+    let files = match generate(alloc, functions) {
+        Ok(files) => files,
+        Err(_) => return Outcome::NoMemory,
+    };
+    let image = match Image::read(alloc, &files.elf) {
+        Ok(image) => image,
+        Err(_) => return Outcome::NoMemory,
+    };
+    match Plan::read(alloc, &files.plan) {
+        Ok(plan) => summary(alloc, functions, &image, &plan),
+        Err(_) => Outcome::NoMemory,
+    }
+}
+
+// Makes a certificate of version 1.
+fn summary(alloc: Global, functions: u32, image: &Image, plan: &Plan) -> Outcome
+    ensures { IsTold (IsSummary functions image.now plan.now) ⊥ result }
+{
+    match make_bytes(alloc, image, plan, 1) {
+        Ok(bytes) => counted(alloc, functions, image, plan, &bytes),
+        Err(MakeErr::Refused { rule, key, addr }) => {
+            report(alloc, Status::Refused, refused_line(alloc, rule, key, addr))
+        }
+        Err(MakeErr::NoMemory) => Outcome::NoMemory,
+    }
+}
+
+// Checks the certificate that was made, and makes the line on it.
+fn counted(alloc: Global, functions: u32, image: &Image, plan: &Plan, bytes: &[u8]) -> Outcome
+    requires { AreMade image.now plan.now 1 bytes.now }
+    ensures { IsTold (IsSummary functions image.now plan.now) ⊥ result }
+{
+    let cert = match Cert::read(alloc, bytes) {
+        Ok(cert) => cert,
+        Err(_) => return Outcome::NoMemory,
+    };
+    match check(image, plan, &cert) {
+        Verdict::Yes(need) => {
+            let areas = plan.areas - plan.reserve;
+            let line = generated_line(alloc, functions, &cert, need, areas);
+            report(alloc, Status::Done, line)
+        }
+        Verdict::No { .. } => Outcome::NoMemory,
+    }
+}

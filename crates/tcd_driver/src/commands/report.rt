@@ -1,0 +1,61 @@
+// The command `report`.
+ghost use Rattle.std.specs.Prelude.{IfOk};
+ghost use Rattle.cfg_recover.specs.Accepting.{Accepts};
+ghost use Rattle.tcd_report.specs.Reports.{IsReport};
+ghost use Rattle.tcd_driver.specs.Reporting.{IsReporting, report_reading};
+ghost use Rattle.tcd_reading.specs.Outcomes.{Comes, IsTold};
+
+use depth_cert::Cert;
+use depth_check::{Verdict, check};
+use elf_image::Image;
+use std::alloc::Global;
+use tcd_base::{Files, NoMemory};
+use tcd_forms::{CertFile, ElfFile, PlanFile, refused_line};
+use tcd_plan::Plan;
+use tcd_reading::{Outcome, Status, read_input, report};
+
+/// Reads the three files, and tells the certificate's report, where it is accepted.
+pub(crate) fn report_files<F: Files>(
+    alloc: Global,
+    elf: &str,
+    plan: &str,
+    cert: &str,
+    files: &mut F,
+) -> Outcome
+    ensures { Comes (report_reading (record { elf = elf.now; plan = plan.now; cert = cert.now }))
+        (F.seen files.old) (F.seen files.new) result }
+{
+    let image = match read_input(&ElfFile, alloc, elf, files) {
+        Ok(image) => image,
+        Err(outcome) => return outcome,
+    };
+    let board = match read_input(&PlanFile, alloc, plan, files) {
+        Ok(board) => board,
+        Err(outcome) => return outcome,
+    };
+    let proof = match read_input(&CertFile, alloc, cert, files) {
+        Ok(proof) => proof,
+        Err(outcome) => return outcome,
+    };
+    reported(alloc, &image, &board, &proof)
+}
+
+// Checks a certificate, and tells its report.
+fn reported(alloc: Global, image: &Image, plan: &Plan, cert: &Cert) -> Outcome
+    ensures { IsTold (IsReporting image.now plan.now cert.now) ⊥ result }
+{
+    match check(image, plan, cert) {
+        Verdict::Yes(_) => report(alloc, Status::Done, report_text(alloc, image, plan, cert)),
+        Verdict::No { rule, key, addr } => {
+            report(alloc, Status::Refused, refused_line(alloc, rule, key, addr))
+        }
+    }
+}
+
+// The report of an accepted certificate.
+fn report_text(alloc: Global, image: &Image, plan: &Plan, cert: &Cert) -> Result<Vec<u8>, NoMemory>
+    requires { Accepts image.now plan.now cert.now }
+    ensures { IfOk result (λ text. IsReport image.now plan.now cert.now text.items) }
+{
+    Ok(tcd_report::report(alloc, image, plan, cert)?.into_bytes())
+}

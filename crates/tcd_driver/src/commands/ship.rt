@@ -1,0 +1,149 @@
+// The command `ship`.
+ghost use Rattle.std.specs.Prelude.{◌≡◌, ◌≤◌, IfOk, List, length, map, string_bytes};
+ghost use Rattle.tcd_forms.specs.Forms.{SourceData, placed_source_form};
+ghost use Rattle.tcd_reading.specs.Inputs.{each, answer};
+ghost use Rattle.tcd_reading.specs.Outcomes.{Comes, IsTold};
+ghost use Rattle.tcd_driver.specs.Ship.{AreSourcesOf, IsShipping, SpellImage, shipped_by, ship_names, ship_reading};
+
+use crate::making::{Making, make_best};
+use elf_image::Image;
+use std::alloc::Global;
+use tc_link::{Layout, link};
+use tc_object::Object;
+use tcd_base::{Files, NoMemory};
+use tcd_forms::{LayoutFile, PlacedSourceFile, PlanFile, certified_line, link_line, refused_line};
+use tcd_plan::Plan;
+use tcd_reading::{Outcome, Status, Write, read_input, report, report_two};
+
+/// The names of the files that `ship` reads, and of the two that it writes.
+#[derive(Clone, Copy)]
+pub(crate) struct Shipment<'a> {
+    pub(crate) plan: &'a str,
+    pub(crate) layout: &'a str,
+    pub(crate) elf: &'a str,
+    pub(crate) cert: &'a str,
+    pub(crate) sources: &'a [String],
+}
+
+/// Reads a plan, a layout and sources, and makes their image and its certificate.
+pub(crate) fn ship_files<F: Files>(alloc: Global, names: &Shipment<'_>, files: &mut F) -> Outcome
+    requires { length names.now.sources.now ≤ 65535 }
+    ensures { Comes (ship_reading (ship_names names.now)) (F.seen files.old) (F.seen files.new)
+        result }
+{
+    let plan = match read_input(&PlanFile, alloc, names.plan, files) {
+        Ok(plan) => plan,
+        Err(outcome) => return outcome,
+    };
+    let layout = match read_input(&LayoutFile, alloc, names.layout, files) {
+        Ok(layout) => layout,
+        Err(outcome) => return outcome,
+    };
+    ship_sources(alloc, names, &plan, &layout, files)
+}
+
+// Reads the sources, of which only the objects are kept.
+fn ship_sources<F: Files>(
+    alloc: Global,
+    names: &Shipment<'_>,
+    plan: &Plan,
+    layout: &Layout,
+    files: &mut F,
+) -> Outcome
+    requires { length names.now.sources.now ≤ 65535 }
+    ensures { Comes
+        (each SourceData placed_source_form 0 (map string_bytes names.now.sources.now)
+        (λ ss. answer (shipped_by names.now plan.now layout.now ss)))
+        (F.seen files.old) (F.seen files.new) result }
+{
+    let sources = names.sources;
+    let mut objects = Vec::new(alloc);
+    for i in 0..sources.len() {
+        let form = PlacedSourceFile { place: i as u32 };
+        let source = match read_input(&form, alloc, sources[i].as_str(), files) {
+            Ok(source) => source,
+            Err(outcome) => return outcome,
+        };
+        match objects.push(source.object) {
+            Ok(()) => {}
+            Err(_) => return Outcome::NoMemory,
+        }
+    }
+    linked(alloc, names, plan, layout, &objects)
+}
+
+// Links the objects of sources.
+fn linked(
+    alloc: Global,
+    names: &Shipment<'_>,
+    plan: &Plan,
+    layout: &Layout,
+    objects: &[Object],
+) -> Outcome
+    requires { length objects.now ≤ 65535 }
+    ensures { (ss : List SourceData) → AreSourcesOf ss objects.now →
+        IsTold (shipped_by names.now plan.now layout.now ss) ⊥ result }
+{
+    let _entry = &layout.entry;
+    match link(alloc, objects, layout) {
+        Ok(image) => spelled(alloc, names, plan, &image),
+        Err(e) => report(alloc, Status::BadInput, link_line(alloc, e)),
+    }
+}
+
+// Certifies an image as it is read from the bytes that are written for it.
+fn spelled(alloc: Global, names: &Shipment<'_>, plan: &Plan, image: &Image) -> Outcome
+    ensures { IsTold (IsShipping names.now.elf.now names.now.cert.now plan.now image.now) ⊥
+        result }
+{
+    let bytes = match image.write(alloc) {
+        Ok(bytes) => bytes,
+        Err(_) => return Outcome::NoMemory,
+    };
+    match Image::read(alloc, &bytes) {
+        Ok(read) => shipped(alloc, names, plan, &read, bytes),
+        Err(_) => Outcome::NoMemory,
+    }
+}
+
+// The two files to write, one after the other.
+fn two_files(
+    alloc: Global,
+    names: &Shipment<'_>,
+    image: Vec<u8>,
+    cert: Vec<u8>,
+) -> Result<(Write, Write), NoMemory>
+    ensures { IfOk result (λ w. (w.0 ≡ record { name = names.now.elf.now; bytes = image.items })
+        × (w.1 ≡ record { name = names.now.cert.now; bytes = cert.items })) }
+{
+    let first = Write::of(alloc, names.elf, image)?;
+    let second = Write::of(alloc, names.cert, cert)?;
+    Ok((first, second))
+}
+
+// Certifies the image that these bytes spell, and makes the two files to write and the line on them.
+fn shipped(
+    alloc: Global,
+    names: &Shipment<'_>,
+    plan: &Plan,
+    image: &Image,
+    bytes: Vec<u8>,
+) -> Outcome
+    requires { SpellImage image.now bytes.items }
+    ensures { IsTold (IsShipping names.now.elf.now names.now.cert.now plan.now image.now) ⊥
+        result }
+{
+    match make_best(alloc, image, plan) {
+        Making::Certified { bytes: cert, need } => {
+            let line = certified_line(alloc, need, plan.areas - plan.reserve);
+            match two_files(alloc, names, bytes, cert) {
+                Ok((first, second)) => report_two(alloc, first, second, line),
+                Err(_) => Outcome::NoMemory,
+            }
+        }
+        Making::Refused { rule, key, addr } => {
+            report(alloc, Status::Refused, refused_line(alloc, rule, key, addr))
+        }
+        Making::NoMemory => Outcome::NoMemory,
+    }
+}

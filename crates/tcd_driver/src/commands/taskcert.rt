@@ -1,0 +1,227 @@
+// The command `taskcert`.
+ghost use Rattle.std.specs.Prelude.{◌≡◌, ◌<◌, ◌++◌, ◌∷◌, [], length, map, string_bytes, IsOkAnd, OnOk};
+ghost use Rattle.depth_maker.specs.Made.{AreMade};
+ghost use Rattle.task_chains.specs.Tasks.{count};
+ghost use Rattle.task_chains.specs.Views.{FitPlan};
+ghost use Rattle.tcd_reading.specs.Outcomes.{Comes, IsTold};
+ghost use Rattle.tcd_driver.specs.Taskcert.{IsTaskcerting, MakesApart, MakesTask, MakesAll, writes_files, taskcert_reading};
+
+use crate::commands::tasks::counted;
+use crate::forms::TasksFile;
+use crate::lines::{certified_tasks_line, refused_task_line, sum_line, switch_line, tasks_line};
+use crate::making::Making;
+use depth_cert::{Cert, Key};
+use depth_check::{Verdict, check};
+use depth_maker::{MakeErr, make_bytes};
+use elf_image::Image;
+use std::alloc::Global;
+use task_chains::{Tasks, TasksErr, routine_fault, task_fault, view_image, view_plan};
+use tcd_base::{Files, NoMemory};
+use tcd_forms::{ElfFile, PlanFile};
+use tcd_plan::Plan;
+use tcd_reading::{Outcome, Status, Write, read_input, report};
+
+/// What making a certificate for each task comes to.
+#[derive(Drop)]
+pub(crate) enum TasksMaking {
+    /// The files of the certificates, and the sum of their needs.
+    Certified {
+        writes: Vec<Write>,
+        sum: u64,
+    },
+    /// The first task without one, and the rule that fails, with its place.
+    Against {
+        task: usize,
+        rule: u8,
+        key: Key,
+        addr: u32,
+    },
+    NoMemory,
+}
+
+/// Reads an executable, a plan and its tasks, and makes a certificate for each task.
+pub(crate) fn certify_tasks<F: Files>(
+    alloc: Global,
+    elf: &str,
+    plan: &str,
+    tasks: &str,
+    certs: &[String],
+    files: &mut F,
+) -> Outcome
+    ensures { Comes
+        (taskcert_reading (record {
+          elf = elf.now;
+          plan = plan.now;
+          tasks = tasks.now;
+          certs = map string_bytes certs.now;
+        }))
+        (F.seen files.old) (F.seen files.new) result }
+{
+    let image = match read_input(&ElfFile, alloc, elf, files) {
+        Ok(image) => image,
+        Err(outcome) => return outcome,
+    };
+    let board = match read_input(&PlanFile, alloc, plan, files) {
+        Ok(board) => board,
+        Err(outcome) => return outcome,
+    };
+    let list = match read_input(&TasksFile { plan: &board }, alloc, tasks, files) {
+        Ok(list) => list,
+        Err(outcome) => return outcome,
+    };
+    if certs.len() == list.list.len() {
+        certified(alloc, &image, &board, &list, certs)
+    } else {
+        report(alloc, Status::BadInput, tasks_line(alloc, TasksErr::Count))
+    }
+}
+
+// Makes a certificate for each task to write under its name, and the line on them.
+fn certified(alloc: Global, image: &Image, plan: &Plan, tasks: &Tasks, names: &[String]) -> Outcome
+    requires fit { FitPlan plan.now tasks.now }
+    requires many { length names.now ≡ count tasks.now }
+    ensures { IsTold
+        (IsTaskcerting (map string_bytes names.now) image.now plan.now tasks.now) ⊥ result }
+{
+    let areas = plan.areas - plan.reserve;
+    let count = tasks.list.len();
+    if let Some(addr) = routine_fault(image, plan, tasks) {
+        return report(alloc, Status::Refused, switch_line(alloc, addr));
+    }
+    match make_each(alloc, image, plan, tasks, names) {
+        TasksMaking::Certified { writes, sum } => {
+            if sum <= u64::from(areas) {
+                let line = certified_tasks_line(alloc, sum, areas, count);
+                report_files(writes, line)
+            } else {
+                report(alloc, Status::Refused, sum_line(alloc, sum, areas))
+            }
+        }
+        TasksMaking::Against {
+            task,
+            rule,
+            key,
+            addr,
+        } => {
+            let line = refused_task_line(alloc, rule, key, addr, task);
+            report(alloc, Status::Refused, line)
+        }
+        TasksMaking::NoMemory => Outcome::NoMemory,
+    }
+}
+
+// Files to write, one after another, and the text on them, unless memory ran out.
+fn report_files(writes: Vec<Write>, line: Result<Vec<u8>, NoMemory>) -> Outcome
+    ensures { IsTold (λ r. IsOkAnd line (λ l. r ≡ writes_files writes.items l.items)) ⊥ result }
+{
+    match line {
+        Ok(text) => Outcome::Report {
+            status: Status::Done,
+            text,
+            writes,
+        },
+        Err(_) => Outcome::NoMemory,
+    }
+}
+
+// One file more to write.
+fn add_file(
+    alloc: Global,
+    writes: &mut Vec<Write>,
+    name: &str,
+    bytes: Vec<u8>,
+) -> Result<(), NoMemory>
+    ensures { OnOk result (writes.new.items
+        ≡ writes.old.items ++ record { name = name.now; bytes = bytes.items } ∷ []) }
+{
+    writes.push(Write::of(alloc, name, bytes)?)?;
+    Ok(())
+}
+
+// Makes a certificate for each task.
+fn make_each(
+    alloc: Global,
+    image: &Image,
+    plan: &Plan,
+    tasks: &Tasks,
+    names: &[String],
+) -> TasksMaking
+    requires fit { FitPlan plan.now tasks.now }
+    requires many { length names.now ≡ count tasks.now }
+    ensures { MakesAll (map string_bytes names.now) image.now plan.now tasks.now result }
+{
+    // What all tasks keep is known once they are read.
+    let _switch = tasks.switch;
+    let mut writes = Vec::new(alloc);
+    let mut sum = 0u64;
+    for u in 0..names.len() {
+        match make_task(alloc, image, plan, tasks, u) {
+            Making::Certified { bytes, need } => {
+                match add_file(alloc, &mut writes, names[u].as_str(), bytes) {
+                    Ok(()) => sum += u64::from(counted(u, need)),
+                    Err(_) => return TasksMaking::NoMemory,
+                }
+            }
+            Making::Refused { rule, key, addr } => {
+                return TasksMaking::Against {
+                    task: u,
+                    rule,
+                    key,
+                    addr,
+                };
+            }
+            Making::NoMemory => return TasksMaking::NoMemory,
+        }
+    }
+    TasksMaking::Certified { writes, sum }
+}
+
+// Makes the least certificate of version 2 for a task's view, which is to keep rule 17.
+fn make_task(alloc: Global, image: &Image, plan: &Plan, tasks: &Tasks, u: usize) -> Making
+    requires task { u < count tasks.now }
+    requires fit { FitPlan plan.now tasks.now }
+    ensures { MakesTask image.now plan.now tasks.now u result }
+{
+    // What plans and tasks keep is known once they are read.
+    let _areas = plan.areas;
+    let _switch = tasks.switch;
+    match view_image(alloc, image, tasks, u) {
+        Ok(view) => make_apart(alloc, &view, &view_plan(plan, tasks, u), tasks),
+        Err(_) => Making::NoMemory,
+    }
+}
+
+// Makes the least certificate of version 2 for a view, which is to keep rule 17.
+fn make_apart(alloc: Global, view: &Image, plan: &Plan, tasks: &Tasks) -> Making
+    ensures { MakesApart view.now plan.now tasks.now result }
+{
+    match make_bytes(alloc, view, plan, 2) {
+        Ok(bytes) => apart(alloc, view, plan, tasks, bytes),
+        Err(MakeErr::Refused { rule, key, addr }) => Making::Refused { rule, key, addr },
+        Err(MakeErr::NoMemory) => Making::NoMemory,
+    }
+}
+
+// Checks the least certificate, which these bytes spell, and that it keeps rule 17.
+fn apart(alloc: Global, view: &Image, plan: &Plan, tasks: &Tasks, bytes: Vec<u8>) -> Making
+    requires { AreMade view.now plan.now 2 bytes.items }
+    ensures { MakesApart view.now plan.now tasks.now result }
+{
+    // What every plan keeps is known once it is read.
+    let _areas = plan.areas;
+    let cert = match Cert::read(alloc, &bytes) {
+        Ok(cert) => cert,
+        Err(_) => return Making::NoMemory,
+    };
+    match check(view, plan, &cert) {
+        Verdict::Yes(need) => match task_fault(view, plan, tasks, &cert) {
+            Some((key, addr)) => Making::Refused {
+                rule: 17,
+                key,
+                addr,
+            },
+            None => Making::Certified { bytes, need },
+        },
+        Verdict::No { .. } => Making::NoMemory,
+    }
+}

@@ -1,0 +1,227 @@
+// The command `tasks`.
+ghost use Rattle.std.specs.Prelude.{◌≡◌, ◌<◌, ◌==◌, max, if◌then◌else◌, length, map, string_bytes, IfOk};
+ghost use Rattle.depth_cert.specs.Certs.{CertData};
+ghost use Rattle.task_chains.specs.Tasks.{count};
+ghost use Rattle.task_chains.specs.Views.{FitPlan};
+ghost use Rattle.tcd_forms.specs.Forms.{cert_form};
+ghost use Rattle.tcd_reading.specs.Inputs.{each, answer};
+ghost use Rattle.tcd_reading.specs.Outcomes.{Comes, IsTold};
+ghost use Rattle.tcd_driver.specs.Tasks.{IsTasksVerdict, JudgesTask, Tallies, certs_reading, tasks_reading};
+
+use crate::forms::TasksFile;
+use crate::lines::{certified_tasks_line, refused_task_line, sum_line, switch_line, tasks_line};
+use depth_cert::{Cert, Key};
+use depth_check::{Verdict, check};
+use elf_image::Image;
+use std::alloc::Global;
+use task_chains::{Tasks, TasksErr, routine_fault, task_fault, view_image, view_plan};
+use tcd_base::{Files, NoMemory};
+use tcd_forms::{CertFile, ElfFile, PlanFile};
+use tcd_plan::Plan;
+use tcd_reading::{Outcome, Status, read_input, report};
+
+/// What judging all certificates comes to: the sum of the needs, or the first task whose certificate is refused.
+#[derive(Clone, Copy)]
+pub(crate) enum Tally {
+    Sum(u64),
+    Against {
+        task: usize,
+        rule: u8,
+        key: Key,
+        addr: u32,
+    },
+}
+
+/// Reads an executable, a plan, its tasks and a certificate for each, and tells whether all runs of the tasks are certified.
+pub(crate) fn check_tasks<F: Files>(
+    alloc: Global,
+    elf: &str,
+    plan: &str,
+    tasks: &str,
+    certs: &[String],
+    files: &mut F,
+) -> Outcome
+    ensures { Comes
+        (tasks_reading (record {
+          elf = elf.now;
+          plan = plan.now;
+          tasks = tasks.now;
+          certs = map string_bytes certs.now;
+        }))
+        (F.seen files.old) (F.seen files.new) result }
+{
+    let image = match read_input(&ElfFile, alloc, elf, files) {
+        Ok(image) => image,
+        Err(outcome) => return outcome,
+    };
+    let board = match read_input(&PlanFile, alloc, plan, files) {
+        Ok(board) => board,
+        Err(outcome) => return outcome,
+    };
+    let list = match read_input(&TasksFile { plan: &board }, alloc, tasks, files) {
+        Ok(list) => list,
+        Err(outcome) => return outcome,
+    };
+    read_certs(alloc, &image, &board, &list, certs, files)
+}
+
+// Reads the certificates where there are as many as tasks, and tells the verdict.
+fn read_certs<F: Files>(
+    alloc: Global,
+    image: &Image,
+    plan: &Plan,
+    tasks: &Tasks,
+    names: &[String],
+    files: &mut F,
+) -> Outcome
+    requires { FitPlan plan.now tasks.now }
+    ensures { Comes (certs_reading (map string_bytes names.now) image.now plan.now tasks.now)
+        (F.seen files.old) (F.seen files.new) result }
+{
+    if names.len() == tasks.list.len() {
+        read_each(alloc, image, plan, tasks, names, files)
+    } else {
+        report(alloc, Status::BadInput, tasks_line(alloc, TasksErr::Count))
+    }
+}
+
+// Reads the certificates, and tells the verdict.
+fn read_each<F: Files>(
+    alloc: Global,
+    image: &Image,
+    plan: &Plan,
+    tasks: &Tasks,
+    names: &[String],
+    files: &mut F,
+) -> Outcome
+    requires fit { FitPlan plan.now tasks.now }
+    requires many { length names.now ≡ count tasks.now }
+    ensures { Comes
+        (each CertData (λ _. cert_form) 0 (map string_bytes names.now)
+        (λ cs. answer (IsTasksVerdict image.now plan.now tasks.now cs)))
+        (F.seen files.old) (F.seen files.new) result }
+{
+    let mut certs = Vec::new(alloc);
+    for i in 0..names.len() {
+        let cert = match read_input(&CertFile, alloc, names[i].as_str(), files) {
+            Ok(cert) => cert,
+            Err(outcome) => return outcome,
+        };
+        match certs.push(cert) {
+            Ok(()) => {}
+            Err(_) => return Outcome::NoMemory,
+        }
+    }
+    tasks_verdict(alloc, image, plan, tasks, &certs)
+}
+
+// Tells the verdict on the switch routine, on each task's certificate, and on the sum of the needs.
+fn tasks_verdict(
+    alloc: Global,
+    image: &Image,
+    plan: &Plan,
+    tasks: &Tasks,
+    certs: &[Cert],
+) -> Outcome
+    requires fit { FitPlan plan.now tasks.now }
+    requires many { length certs.now ≡ count tasks.now }
+    ensures { IsTold (IsTasksVerdict image.now plan.now tasks.now certs.now) ⊥ result }
+{
+    let areas = plan.areas - plan.reserve;
+    let count = tasks.list.len();
+    if let Some(addr) = routine_fault(image, plan, tasks) {
+        return report(alloc, Status::Refused, switch_line(alloc, addr));
+    }
+    match judge_tasks(alloc, image, plan, tasks, certs) {
+        Ok(Tally::Sum(sum)) => {
+            if sum <= u64::from(areas) {
+                let line = certified_tasks_line(alloc, sum, areas, count);
+                report(alloc, Status::Done, line)
+            } else {
+                report(alloc, Status::Refused, sum_line(alloc, sum, areas))
+            }
+        }
+        Ok(
+            Tally::Against {
+                task,
+                rule,
+                key,
+                addr,
+            },
+        ) => {
+            let line = refused_task_line(alloc, rule, key, addr, task);
+            report(alloc, Status::Refused, line)
+        }
+        Err(_) => Outcome::NoMemory,
+    }
+}
+
+// Judges the certificate of each task.
+fn judge_tasks(
+    alloc: Global,
+    image: &Image,
+    plan: &Plan,
+    tasks: &Tasks,
+    certs: &[Cert],
+) -> Result<Tally, NoMemory>
+    requires fit { FitPlan plan.now tasks.now }
+    requires many { length certs.now ≡ count tasks.now }
+    ensures { IfOk result (Tallies image.now plan.now tasks.now certs.now) }
+{
+    // What all tasks keep is known once they are read.
+    let _switch = tasks.switch;
+    let mut sum = 0u64;
+    for u in 0..certs.len() {
+        match judge_task(alloc, image, plan, tasks, u, &certs[u])? {
+            Verdict::Yes(need) => sum += u64::from(counted(u, need)),
+            Verdict::No { rule, key, addr } => {
+                return Ok(Tally::Against {
+                    task: u,
+                    rule,
+                    key,
+                    addr,
+                });
+            }
+        }
+    }
+    Ok(Tally::Sum(sum))
+}
+
+/// The need that counts for a task: all but the first start with two areas.
+pub(crate) fn counted(u: usize, need: u32) -> u32
+    ensures { result ≡ (if u == 0 then need else max need 2) }
+{
+    if u == 0 { need } else { need.max(2) }
+}
+
+// Judges the certificate of a task for its view: the rules of all certificates, and then rule 17.
+fn judge_task(
+    alloc: Global,
+    image: &Image,
+    plan: &Plan,
+    tasks: &Tasks,
+    u: usize,
+    cert: &Cert,
+) -> Result<Verdict, NoMemory>
+    requires task { u < count tasks.now }
+    requires fit { FitPlan plan.now tasks.now }
+    ensures { IfOk result (JudgesTask image.now plan.now tasks.now cert.now u) }
+{
+    // What plans, tasks and certificates keep is known once they are read.
+    let _areas = plan.areas;
+    let _switch = tasks.switch;
+    let _version = cert.version;
+    let view = view_image(alloc, image, tasks, u)?;
+    let board = view_plan(plan, tasks, u);
+    match check(&view, &board, cert) {
+        Verdict::Yes(need) => match task_fault(&view, &board, tasks, cert) {
+            Some((key, addr)) => Ok(Verdict::No {
+                rule: 17,
+                key,
+                addr,
+            }),
+            None => Ok(Verdict::Yes(need)),
+        },
+        Verdict::No { rule, key, addr } => Ok(Verdict::No { rule, key, addr }),
+    }
+}

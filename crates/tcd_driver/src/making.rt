@@ -1,0 +1,58 @@
+// The certificate that is made for an image and a plan, and checked.
+ghost use Rattle.depth_maker.specs.Making.{NoneAccepted};
+ghost use Rattle.tcd_driver.specs.Made.{Makes, SpellBest};
+
+use depth_cert::{Cert, Key};
+use depth_check::{Verdict, check};
+use depth_maker::{MakeErr, make_bytes};
+use elf_image::Image;
+use std::alloc::Global;
+use tcd_plan::Plan;
+
+/// What making a certificate comes to.
+#[derive(Drop)]
+pub(crate) enum Making {
+    /// The bytes of a certificate that was checked, and its need.
+    Certified { bytes: Vec<u8>, need: u32 },
+    /// The rule that no certificate keeps, with its place.
+    Refused { rule: u8, key: Key, addr: u32 },
+    NoMemory,
+}
+
+/// Checks the best certificate, which these bytes spell.
+fn checked(alloc: Global, image: &Image, plan: &Plan, bytes: Vec<u8>) -> Making
+    requires { SpellBest image.now plan.now bytes.items }
+    ensures { Makes image.now plan.now result }
+{
+    let cert = match Cert::read(alloc, &bytes) {
+        Ok(cert) => cert,
+        Err(_) => return Making::NoMemory,
+    };
+    match check(image, plan, &cert) {
+        Verdict::Yes(need) => Making::Certified { bytes, need },
+        Verdict::No { .. } => Making::NoMemory,
+    }
+}
+
+/// Makes and checks a certificate of version 2, where none of version 1 is accepted.
+fn second(alloc: Global, image: &Image, plan: &Plan) -> Making
+    requires { NoneAccepted image.now plan.now 1 }
+    ensures { Makes image.now plan.now result }
+{
+    match make_bytes(alloc, image, plan, 2) {
+        Ok(bytes) => checked(alloc, image, plan, bytes),
+        Err(MakeErr::Refused { rule, key, addr }) => Making::Refused { rule, key, addr },
+        Err(MakeErr::NoMemory) => Making::NoMemory,
+    }
+}
+
+/// Makes the least certificate of version 1, or of version 2 where none of version 1 is accepted, and checks it.
+pub(crate) fn make_best(alloc: Global, image: &Image, plan: &Plan) -> Making
+    ensures { Makes image.now plan.now result }
+{
+    match make_bytes(alloc, image, plan, 1) {
+        Ok(bytes) => checked(alloc, image, plan, bytes),
+        Err(MakeErr::Refused { .. }) => second(alloc, image, plan),
+        Err(MakeErr::NoMemory) => Making::NoMemory,
+    }
+}

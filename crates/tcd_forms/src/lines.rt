@@ -1,0 +1,408 @@
+// The printed lines.
+ghost use Rattle.std.specs.Prelude.{◌≡◌, ◌≢◌, ◌<◌, ◌++◌, ◌∷◌, [], if◌then◌else◌, length, codes, IsErr, IfOk, IfSome, OnOk};
+ghost use Rattle.std.specs.Fmt.{decimal};
+ghost use Rattle.tcd_forms.specs.Lines.{long_elf_line, long_plan_line, long_cert_line, long_script_line, long_source_line, hex_digit, hex_word, kind_text, key_line, at_key, elf_line, plan_line, cert_line, script_line, source_line, assembled_line, long_layout_line, layout_line, long_object_line, object_line, at_name, field_fault, link_line, linked_line, cause_text, end_text, run_line, refused_line, certified_line};
+ghost use Rattle.tcd_plan.specs.Plans.{HasText};
+ghost use Rattle.tc_link.specs.Errors.{refusal_of};
+ghost use Rattle.tcd_plan.specs.Keys.{key_texts};
+
+use depth_cert::Key;
+use elf_image::ImageErr;
+use std::alloc::Global;
+use tc_link::{LayoutErr, LinkErr};
+use tc_machine::{Cause, End, Machine};
+use tc_reloc::RelocErr;
+use tc_script::ScriptErr;
+use tcd_base::{FormErr, NoMemory};
+use tcd_plan::{PlanErr, PlanKey, key_text};
+
+// A hex digit, in upper case.
+fn hex_digit(n: u32) -> u8
+    requires { n < 16 }
+    ensures { result ≡ hex_digit n }
+{
+    if n < 10 { 48 + n as u8 } else { 55 + n as u8 }
+}
+
+/// A word as eight of them.
+#[tactic(auto, unfolding(crate::specs::Lines::hex_word))]
+pub fn hex_word(x: u32) -> [u8; 8]
+    ensures { result ≡ hex_word x }
+{
+    [
+        hex_digit(x / 268_435_456 % 16),
+        hex_digit(x / 16_777_216 % 16),
+        hex_digit(x / 1_048_576 % 16),
+        hex_digit(x / 65_536 % 16),
+        hex_digit(x / 4_096 % 16),
+        hex_digit(x / 256 % 16),
+        hex_digit(x / 16 % 16),
+        hex_digit(x % 16),
+    ]
+}
+
+/// The bytes, behind what stands there.
+pub fn append(line: &mut Vec<u8>, bytes: &[u8]) -> Result<(), NoMemory>
+    ensures { OnOk result (line.new.items ≡ line.old.items ++ bytes.now) }
+{
+    line.extend_from_slice(bytes)?;
+    Ok(())
+}
+
+// The kind of a key.
+#[tactic(auto, unfolding(crate::specs::Lines::kind_text))]
+fn append_kind(line: &mut Vec<u8>, kind: u8) -> Result<(), NoMemory>
+    ensures { OnOk result (line.new.items ≡ line.old.items ++ kind_text kind) }
+{
+    match kind {
+        0 => append(line, b"start "),
+        1 => append(line, b"call "),
+        2 => append(line, b"irq "),
+        3 => append(line, b"sys "),
+        _ => append(line, b"aln "),
+    }
+}
+
+// Whether the interrupt stack is in use, and the line's end.
+fn stack_text(is: bool) -> &'static [u8]
+    ensures { result.now ≡ (if is then 49 else 48) ∷ 10 ∷ [] }
+{
+    if is { b"1\n" } else { b"0\n" }
+}
+
+/// Copies a text that never changes.
+pub fn line_of(alloc: Global, text: &[u8]) -> Result<Vec<u8>, NoMemory>
+    ensures { IfOk result (λ line. line.items ≡ text.now) }
+{
+    Ok(Vec::from_slice(alloc, text)?)
+}
+
+/// An executable above its limit.
+#[tactic(auto, unfolding(crate::specs::Lines::long_elf_line))]
+pub fn long_elf_line() -> &'static [u8]
+    ensures { result.now ≡ long_elf_line }
+{
+    b"bad elf 0\n"
+}
+
+/// A plan above its limit.
+#[tactic(auto, unfolding(crate::specs::Lines::long_plan_line))]
+pub fn long_plan_line() -> &'static [u8]
+    ensures { result.now ≡ long_plan_line }
+{
+    b"bad plan 0\n"
+}
+
+/// A certificate above its limit.
+#[tactic(auto, unfolding(crate::specs::Lines::long_cert_line))]
+pub fn long_cert_line() -> &'static [u8]
+    ensures { result.now ≡ long_cert_line }
+{
+    b"bad cert 0\n"
+}
+
+/// A script above its limit.
+#[tactic(auto, unfolding(crate::specs::Lines::long_script_line))]
+pub fn long_script_line() -> &'static [u8]
+    ensures { result.now ≡ long_script_line }
+{
+    b"bad script 0\n"
+}
+
+/// A layout above its limit.
+#[tactic(auto, unfolding(crate::specs::Lines::long_layout_line))]
+pub fn long_layout_line() -> &'static [u8]
+    ensures { result.now ≡ long_layout_line }
+{
+    b"bad layout 0\n"
+}
+
+/// Why a file is no image.
+#[tactic(auto, unfolding(crate::specs::Lines::elf_line, crate::specs::Lines::at_one, crate::specs::Lines::at_two))]
+pub fn elf_line(alloc: Global, e: ImageErr) -> Result<Vec<u8>, NoMemory>
+    ensures line { IfOk result (λ line. line.items ≡ elf_line e) }
+    ensures memory { e ≡ ImageErr.NoMemory → IsErr result }
+{
+    match e {
+        ImageErr::Short => line_of(alloc, b"bad elf 1\n"),
+        ImageErr::NotElf32Le => line_of(alloc, b"bad elf 2\n"),
+        ImageErr::NotTriCore => line_of(alloc, b"bad elf 3\n"),
+        ImageErr::NotExec => line_of(alloc, b"bad elf 4\n"),
+        ImageErr::BadSegment(i) => Ok(format!(in alloc; "bad elf 5 at {i}\n")?.into_bytes()),
+        ImageErr::TooLarge => line_of(alloc, b"bad elf 6\n"),
+        ImageErr::Overlap(i, j) => Ok(format!(in alloc; "bad elf 7 at {i} {j}\n")?.into_bytes()),
+        ImageErr::NoMemory => Err(NoMemory),
+    }
+}
+
+// A refusal of a plan that names a key.
+#[tactic(auto, unfolding(crate::specs::Lines::at_key))]
+fn plan_key_line(alloc: Global, front: &str, key: PlanKey) -> Result<Vec<u8>, NoMemory>
+    requires { key.0 < length key_texts }
+    ensures { IfOk result (λ line. line.items ≡ front.now ++ at_key key) }
+{
+    let text = key_text(key);
+    Ok(format!(in alloc; "{front} key {text}\n")?.into_bytes())
+}
+
+/// Why a file is no plan.
+#[tactic(auto, unfolding(crate::specs::Lines::plan_line, crate::specs::Lines::at_two))]
+pub fn plan_line(alloc: Global, e: PlanErr) -> Result<Vec<u8>, NoMemory>
+    requires { HasText e }
+    ensures line { IfOk result (λ line. line.items ≡ plan_line e) }
+    ensures memory { e ≡ PlanErr.NoMemory → IsErr result }
+{
+    match e {
+        PlanErr::NotJson => line_of(alloc, b"bad plan 1\n"),
+        PlanErr::Missing(key) => plan_key_line(alloc, "bad plan 2", key),
+        PlanErr::Unknown(key) => plan_key_line(alloc, "bad plan 3", key),
+        PlanErr::BadValue(key) => plan_key_line(alloc, "bad plan 4", key),
+        PlanErr::TooMany(key) => plan_key_line(alloc, "bad plan 5", key),
+        PlanErr::BadCsa => line_of(alloc, b"bad plan 6\n"),
+        PlanErr::BadVector => line_of(alloc, b"bad plan 7\n"),
+        PlanErr::Overlap(i, j) => Ok(format!(in alloc; "bad plan 8 at {i} {j}\n")?.into_bytes()),
+        PlanErr::NoMemory => Err(NoMemory),
+    }
+}
+
+/// Why a file is no certificate.
+#[tactic(auto, unfolding(crate::specs::Lines::cert_line, crate::specs::Lines::at_one))]
+pub fn cert_line(alloc: Global, e: FormErr) -> Result<Vec<u8>, NoMemory>
+    ensures { IfOk result (λ line. line.items ≡ cert_line e) }
+{
+    let kind = e.kind;
+    let at = e.at;
+    Ok(format!(in alloc; "bad cert {kind} at {at}\n")?.into_bytes())
+}
+
+// What a line on a rule that fails begins with.
+fn refused_front(alloc: Global, rule: u8) -> Result<Vec<u8>, NoMemory>
+    ensures { IfOk result
+        (λ line. line.items ≡ codes "refused K" ++ (decimal rule ++ codes " at ")) }
+{
+    Ok(format!(in alloc; "refused K{rule} at ")?.into_bytes())
+}
+
+// A priority, in a key.
+fn prio_text(alloc: Global, prio: u8) -> Result<Vec<u8>, NoMemory>
+    ensures { IfOk result (λ text. text.items ≡ codes " prio " ++ (decimal prio ++ codes " is ")) }
+{
+    Ok(format!(in alloc; " prio {prio} is ")?.into_bytes())
+}
+
+// A key, and the line's end.
+#[tactic(auto, unfolding(crate::specs::Lines::key_line))]
+fn append_key(alloc: Global, line: &mut Vec<u8>, key: Key) -> Result<(), NoMemory>
+    ensures { OnOk result (line.new.items ≡ line.old.items ++ key_line key) }
+{
+    append_kind(line, key.kind)?;
+    append(line, &hex_word(key.entry))?;
+    let prio = prio_text(alloc, key.prio)?;
+    append(line, &prio)?;
+    append(line, stack_text(key.is))
+}
+
+/// The rule that fails, the address, and the key.
+#[tactic(auto, unfolding(crate::specs::Lines::refused_line))]
+pub fn refused_line(alloc: Global, rule: u8, key: Key, addr: u32) -> Result<Vec<u8>, NoMemory>
+    ensures { IfOk result (λ line. line.items ≡ refused_line rule key addr) }
+{
+    let mut line = refused_front(alloc, rule)?;
+    append(&mut line, &hex_word(addr))?;
+    append(&mut line, b" in ")?;
+    append_key(alloc, &mut line, key)?;
+    Ok(line)
+}
+
+/// So many areas are needed, of so many.
+#[tactic(auto, unfolding(crate::specs::Lines::certified_line))]
+pub fn certified_line(alloc: Global, need: u32, areas: u32) -> Result<Vec<u8>, NoMemory>
+    ensures { IfOk result (λ line. line.items ≡ certified_line need areas) }
+{
+    Ok(format!(in alloc; "certified {need} of {areas} areas\n")?.into_bytes())
+}
+
+/// Why a file is no script.
+#[tactic(auto, unfolding(crate::specs::Lines::script_line, crate::specs::Lines::at_one))]
+pub fn script_line(alloc: Global, e: ScriptErr) -> Result<Vec<u8>, NoMemory>
+    ensures line { IfOk result (λ line. line.items ≡ script_line e) }
+    ensures memory { e ≡ ScriptErr.NoMemory → IsErr result }
+{
+    match e {
+        ScriptErr::BadLine(n) => Ok(format!(in alloc; "bad script 1 at {n}\n")?.into_bytes()),
+        ScriptErr::NoSource(n) => Ok(format!(in alloc; "bad script 2 at {n}\n")?.into_bytes()),
+        ScriptErr::OutOfRange(n) => Ok(format!(in alloc; "bad script 3 at {n}\n")?.into_bytes()),
+        ScriptErr::TooMany(n) => Ok(format!(in alloc; "bad script 4 at {n}\n")?.into_bytes()),
+        ScriptErr::NoMemory => Err(NoMemory),
+    }
+}
+
+// A cause of death.
+#[tactic(auto, unfolding(crate::specs::Lines::cause_text))]
+fn cause_text(cause: Cause) -> &'static [u8]
+    ensures { result.now ≡ cause_text cause }
+{
+    match cause {
+        Cause::Fcd => b"fcd",
+        Cause::Fcu => b"fcu",
+        Cause::Csu => b"csu",
+        Cause::Ctyp => b"ctyp",
+        Cause::NotListed => b"notlisted",
+        Cause::NoCode => b"nocode",
+        Cause::NoArea => b"noarea",
+    }
+}
+
+// Whether a machine runs, or died, of what and where.
+#[tactic(auto, unfolding(crate::specs::Lines::end_text))]
+fn append_end(line: &mut Vec<u8>, end: End, pc: u32) -> Result<(), NoMemory>
+    ensures { OnOk result (line.new.items ≡ line.old.items ++ end_text end pc) }
+{
+    match end {
+        End::Running => append(line, b"running\n"),
+        End::Dead(cause) => append_death(line, cause, pc),
+    }
+}
+
+fn append_death(line: &mut Vec<u8>, cause: Cause, pc: u32) -> Result<(), NoMemory>
+    ensures { OnOk result (line.new.items ≡ line.old.items ++ (codes "dead "
+        ++ (cause_text cause ++ (codes " at " ++ (hex_word pc ++ 10 ∷ []))))) }
+{
+    append(line, b"dead ")?;
+    append(line, cause_text(cause))?;
+    append(line, b" at ")?;
+    append(line, &hex_word(pc))?;
+    append(line, b"\n")
+}
+
+// What a line on a run begins with.
+fn run_front(alloc: Global, events: u32, peak: u32) -> Result<Vec<u8>, NoMemory>
+    ensures { IfOk result (λ line. line.items ≡ codes "events "
+        ++ (decimal events ++ (codes " peak " ++ (decimal peak ++ codes " ")))) }
+{
+    Ok(format!(in alloc; "events {events} peak {peak} ")?.into_bytes())
+}
+
+/// What a run came to.
+#[tactic(auto, unfolding(crate::specs::Lines::run_line))]
+pub fn run_line(alloc: Global, events: u32, peak: u32, m: &Machine) -> Result<Vec<u8>, NoMemory>
+    ensures { IfOk result (λ line. line.items ≡ run_line events peak m.now) }
+{
+    let mut line = run_front(alloc, events, peak)?;
+    append_end(&mut line, m.end, m.pc)?;
+    Ok(line)
+}
+
+/// The least line of the source at this place that breaks a rule, and the least rule there.
+#[tactic(auto, unfolding(crate::specs::Lines::source_line, crate::specs::Lines::at_two))]
+pub fn source_line(alloc: Global, place: u32, rule: u8, line: u32) -> Result<Vec<u8>, NoMemory>
+    ensures { IfOk result (λ text. text.items ≡ source_line place rule line) }
+{
+    Ok(format!(in alloc; "bad source {rule} at {place} {line}\n")?.into_bytes())
+}
+
+/// How many bytes of an object were written.
+#[tactic(auto, unfolding(crate::specs::Lines::assembled_line))]
+pub fn assembled_line(alloc: Global, bytes: &[u8]) -> Result<Vec<u8>, NoMemory>
+    ensures { IfOk result (λ text. text.items ≡ assembled_line (length bytes.now)) }
+{
+    let size = bytes.len();
+    Ok(format!(in alloc; "object {size} bytes\n")?.into_bytes())
+}
+
+/// Why a file is no layout.
+#[tactic(auto, unfolding(crate::specs::Lines::layout_line, crate::specs::Lines::at_one))]
+pub fn layout_line(alloc: Global, e: LayoutErr) -> Result<Vec<u8>, NoMemory>
+    ensures line { IfOk result (λ line. line.items ≡ layout_line e) }
+    ensures memory { e ≡ LayoutErr.NoMemory → IsErr result }
+{
+    match e {
+        LayoutErr::BadLine(n) => Ok(format!(in alloc; "bad layout 1 at {n}\n")?.into_bytes()),
+        LayoutErr::Twice(n) => Ok(format!(in alloc; "bad layout 2 at {n}\n")?.into_bytes()),
+        LayoutErr::TooMany(n) => Ok(format!(in alloc; "bad layout 3 at {n}\n")?.into_bytes()),
+        LayoutErr::Overlap(n) => Ok(format!(in alloc; "bad layout 4 at {n}\n")?.into_bytes()),
+        LayoutErr::NoMemory => Err(NoMemory),
+    }
+}
+
+/// The source at this place is above its limit.
+#[tactic(auto, unfolding(crate::specs::Lines::long_source_line, crate::specs::Lines::at_one))]
+pub fn long_source_line(alloc: Global, place: u32) -> Result<Vec<u8>, NoMemory>
+    ensures { IfOk result (λ line. line.items ≡ long_source_line place) }
+{
+    Ok(format!(in alloc; "bad source 0 at {place}\n")?.into_bytes())
+}
+
+/// An object above its limit.
+#[tactic(auto, unfolding(crate::specs::Lines::long_object_line, crate::specs::Lines::at_one))]
+pub fn long_object_line(alloc: Global, place: u32) -> Result<Vec<u8>, NoMemory>
+    ensures { IfOk result (λ line. line.items ≡ long_object_line place) }
+{
+    Ok(format!(in alloc; "bad object 0 at {place}\n")?.into_bytes())
+}
+
+/// Why the file at this place among the objects is none.
+#[tactic(auto, unfolding(crate::specs::Lines::object_line, crate::specs::Lines::at_two))]
+pub fn object_line(alloc: Global, place: u32, e: FormErr) -> Result<Vec<u8>, NoMemory>
+    ensures { IfOk result (λ line. line.items ≡ object_line place e) }
+{
+    let kind = e.kind;
+    let offset = e.at;
+    Ok(format!(in alloc; "bad object {kind} at {place} {offset}\n")?.into_bytes())
+}
+
+// A refusal to link that has a name.
+#[tactic(auto, unfolding(crate::specs::Lines::at_name))]
+fn name_line(alloc: Global, front: &str, name: &str) -> Result<Vec<u8>, NoMemory>
+    ensures { IfOk result (λ line. line.items ≡ front.now ++ at_name name.now) }
+{
+    Ok(format!(in alloc; "{front} name {name}\n")?.into_bytes())
+}
+
+// The number of a refusal to fill a field.
+#[tactic(auto, unfolding(crate::specs::Lines::field_fault))]
+fn field_fault(err: RelocErr) -> u8
+    ensures { result ≡ field_fault err }
+{
+    match err {
+        RelocErr::Odd => 1,
+        RelocErr::FarOff => 2,
+        RelocErr::Segment => 3,
+    }
+}
+
+/// Why objects can't be linked.
+#[tactic(auto, unfolding(crate::specs::Lines::link_line))]
+pub fn link_line(alloc: Global, e: LinkErr) -> Result<Vec<u8>, NoMemory>
+    ensures line { IfOk result (λ line. IfSome (refusal_of e) (λ r. line.items ≡ link_line r)) }
+    ensures memory { e ≡ LinkErr.NoMemory → IsErr result }
+{
+    match e {
+        LinkErr::Twice(name) => name_line(alloc, "bad link 1", name.as_str()),
+        LinkErr::Missing(name) => name_line(alloc, "bad link 2", name.as_str()),
+        LinkErr::NoPlace(name) => name_line(alloc, "bad link 3", name.as_str()),
+        LinkErr::NoRoom(name) => name_line(alloc, "bad link 4", name.as_str()),
+        LinkErr::Reloc {
+            object,
+            section,
+            offset,
+            err,
+        } => {
+            let fault = field_fault(err);
+            Ok(format!(in alloc;
+                "bad link 5 at {object} {section} {offset} {fault}\n"
+            )?.into_bytes())
+        }
+        LinkErr::NoEntry => line_of(alloc, b"bad link 6\n"),
+        LinkErr::NoMemory => Err(NoMemory),
+    }
+}
+
+/// How many bytes of an image were written.
+#[tactic(auto, unfolding(crate::specs::Lines::linked_line))]
+pub fn linked_line(alloc: Global, bytes: &[u8]) -> Result<Vec<u8>, NoMemory>
+    ensures { IfOk result (λ text. text.items ≡ linked_line (length bytes.now)) }
+{
+    let size = bytes.len();
+    Ok(format!(in alloc; "image {size} bytes\n")?.into_bytes())
+}

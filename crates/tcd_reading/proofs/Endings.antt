@@ -1,0 +1,103 @@
+-- How a command ends, from what it comes to.
+use Rattle.std.proofs.Common.{◌≡◌, ◌≢◌, ◌⊎◌, inl, inr, List, Option, sym, ap, subst, ◌∙◌}
+use Rattle.std.specs.Prelude.{IsTrue}
+use Rattle.tcd_base.specs.Files.{Map, FilesSeen, LeavesFaults}
+use Rattle.tcd_base.specs.Sink.{SinkSeen}
+use Rattle.tcd_reading.specs.Reports.{Written, Report, with_written, Stopped}
+use Rattle.tcd_reading.specs.Inputs.{Reading, Says, AreSureOf}
+use Rattle.tcd_reading.specs.Outcomes.{Comes, HasNotRead, IsQuiet, whole, cut, IsReported, printed, unwritten, no_memory, Finishes}
+use Rattle.tcd_reading.specs.Endings as ending
+use Rattle.tcd_reading.specs.Endings.{HasRoom, HasEnded, Ends}
+use Rattle.tcd_reading.specs.declared.status.Status.{Status}
+use Rattle.tcd_reading.specs.declared.status.Status.TheVariants.{Done, Refused, BadInput, Fault, NoMemory, BadWords}
+use Rattle.tcd_reading.specs.declared.outcome.Outcome.{Outcome}
+use Rattle.tcd_reading.specs.declared.outcome.Outcome.TheVariants as outcome
+use Rattle.tcd_reading.proofs.Told.{counted_later}
+use Rattle.tcd_reading.proofs.Decided.{IsDecided, said_words, said_done, said_one}
+
+-- the files between the reading and the writing are as before
+reported_since : (r : Report) (reading : Reading) (old mid new : FilesSeen) (sink sink' : SinkSeen) (o : Outcome) (result : Status) → Comes reading old mid o → IsReported r mid new sink sink' result → IsReported r old new sink sink' result
+reported_since r reading old mid new sink sink' o result comes (printed is prints) = printed (is ∙ ap (λ (m : Option Map). with_written m r.writes) comes.held) prints
+reported_since r reading old mid new sink sink' o result comes (unwritten e quiet stopped counted unsteady) =
+    unwritten e quiet (subst (λ (m : Option Map). Stopped m new.held r.writes) comes.held stopped) (counted_later old.faults mid.faults new.faults comes.later counted) (λ s. unsteady (subst IsTrue (sym comes.steady) s))
+reported_since r reading old mid new sink sink' o result comes (no_memory e quiet stopped) = no_memory e quiet (subst (λ (m : Option Map). Stopped m new.held r.writes) comes.held stopped)
+
+-- ---- a report
+module _ (reading : Reading) (decided : IsDecided reading) (r : Report) (old new : FilesSeen) (sink sink' : SinkSeen) (result : Status) (said : Says reading old.held r) where
+  words_here : IsReported r old new sink sink' result → result ≡ BadWords → ⊥
+  words_here (printed is (whole e p)) b = said_words reading old.held r decided said (sym e ∙ b)
+  words_here (printed is (cut e front counted full)) b = let f : Fault ≡ BadWords = sym e ∙ b in cc
+  words_here (unwritten e quiet stopped counted unsteady) b = let f : Fault ≡ BadWords = sym e ∙ b in cc
+  words_here (no_memory e quiet stopped) b = let f : NoMemory ≡ BadWords = sym e ∙ b in cc
+
+  stays_by : IsReported r old new sink sink' result → result ≢ Done → result ≢ Fault → result ≢ NoMemory → new.held ≡ old.held
+  stays_by (printed is (whole e p)) done fault memory = is ∙ ap (λ (w : List Written). with_written old.held w) (said_done reading old.held r decided said (λ d. done (e ∙ d)))
+  stays_by (printed is (cut e front counted full)) done fault memory = absurd (fault e)
+  stays_by (unwritten e quiet stopped counted unsteady) done fault memory = absurd (fault e)
+  stays_by (no_memory e quiet stopped) done fault memory = absurd (memory e)
+
+  stays_here : IsReported r old new sink sink' result → (result ≡ Refused) ⊎ (result ≡ BadInput) → new.held ≡ old.held
+  stays_here h (inl e) = stays_by h (λ f. cc) (λ f. cc) (λ f. cc)
+  stays_here h (inr e) = stays_by h (λ f. cc) (λ f. cc) (λ f. cc)
+
+  sink_here : IsReported r old new sink sink' result → HasRoom reading old.held sink → sink'.faults ≡ sink.faults
+  sink_here (printed is (whole e p)) room = p.faults (room r said)
+  sink_here (printed is (cut e front counted full)) room = absurd (full (room r said))
+  sink_here (unwritten e quiet stopped counted unsteady) room = ap (λ (s : SinkSeen). s.faults) quiet
+  sink_here (no_memory e quiet stopped) room = ap (λ (s : SinkSeen). s.faults) quiet
+
+  complete_here : IsReported r old new sink sink' result → AreSureOf reading old → HasRoom reading old.held sink → (q : Report) → Says reading old.held q → (result ≡ q.status) ⊎ (result ≡ NoMemory)
+  complete_here (printed is (whole e p)) sure room q other = inl (e ∙ said_one reading old.held r q decided sure.hold said other)
+  complete_here (printed is (cut e front counted full)) sure room q other = absurd (full (room r said))
+  complete_here (unwritten e quiet stopped counted unsteady) sure room q other = absurd (unsteady sure.steady)
+  complete_here (no_memory e quiet stopped) sure room q other = inr e
+
+-- ---- by what it comes to
+reported_ends : (reading : Reading) (old mid new : FilesSeen) (sink sink' : SinkSeen) (o : Outcome) (r : Report) (result : Status) → IsDecided reading → Comes reading old mid o → Says reading old.held r →
+    IsReported r mid new sink sink' result → LeavesFaults mid new → Ends reading old new sink sink' result
+reported_ends reading old mid new sink sink' o r result decided comes said h leaves =
+    let here : IsReported r old new sink sink' result = reported_since r reading old mid new sink sink' o result comes h in
+    record {
+      ended = ending.reported r said here;
+      no_bad_words = words_here reading decided r old new sink sink' result said here;
+      only_done = λ q says. said_done reading old.held q decided says;
+      stays = stays_here reading decided r old new sink sink' result said here;
+      steady = leaves.steady ∙ comes.steady;
+      files_sure = λ s. leaves.sure (subst IsTrue (sym comes.steady) s.steady) ∙ comes.sure s;
+      sink_sure = sink_here reading decided r old new sink sink' result said here;
+      complete = complete_here reading decided r old new sink sink' result said here;
+    }
+
+unread_ends : (reading : Reading) (old mid new : FilesSeen) (sink sink' : SinkSeen) (o : Outcome) (result : Status) → IsDecided reading → Comes reading old mid o → HasNotRead reading old mid → IsQuiet mid new sink sink' → result ≡ Fault → Ends reading old new sink sink' result
+unread_ends reading old mid new sink sink' o result decided comes failed quiet e =
+    let held : new.held ≡ old.held = ap (λ (f : FilesSeen). f.held) quiet.files_stay ∙ comes.held in
+    record {
+      ended = ending.unread e held quiet.sink_stays (subst (λ (f : FilesSeen). HasNotRead reading old f) (sym quiet.files_stay) failed).counted failed.unsure;
+      no_bad_words = λ f. cc;
+      only_done = λ q says. said_done reading old.held q decided says;
+      stays = λ s. held;
+      steady = ap (λ (f : FilesSeen). f.steady) quiet.files_stay ∙ comes.steady;
+      files_sure = λ s. absurd (failed.unsure s);
+      sink_sure = λ room. ap (λ (s : SinkSeen). s.faults) quiet.sink_stays;
+      complete = λ s. absurd (failed.unsure s);
+    }
+
+memory_ends : (reading : Reading) (old mid new : FilesSeen) (sink sink' : SinkSeen) (o : Outcome) (result : Status) → IsDecided reading → Comes reading old mid o → IsQuiet mid new sink sink' → result ≡ NoMemory → Ends reading old new sink sink' result
+memory_ends reading old mid new sink sink' o result decided comes quiet e =
+    let held : new.held ≡ old.held = ap (λ (f : FilesSeen). f.held) quiet.files_stay ∙ comes.held in
+    record {
+      ended = ending.no_memory e held quiet.sink_stays;
+      no_bad_words = λ f. cc;
+      only_done = λ q says. said_done reading old.held q decided says;
+      stays = λ s. held;
+      steady = ap (λ (f : FilesSeen). f.steady) quiet.files_stay ∙ comes.steady;
+      files_sure = λ s. ap (λ (f : FilesSeen). f.faults) quiet.files_stay ∙ comes.sure s;
+      sink_sure = λ room. ap (λ (s : SinkSeen). s.faults) quiet.sink_stays;
+      complete = λ s room q other. inr e;
+    }
+
+pub ends : (reading : Reading) (old mid new : FilesSeen) (sink sink' : SinkSeen) (o : Outcome) (result : Status) → IsDecided reading → Comes reading old mid o → Finishes o mid new sink sink' result → Ends reading old new sink sink' result
+ends reading old mid new sink sink' (outcome.Report s text writes) result decided comes f =
+    reported_ends reading old mid new sink sink' (outcome.Report s text writes) (record { status = s; text = text.items; writes = writes.items }) result decided comes comes.told f.0 f.1
+ends reading old mid new sink sink' outcome.Unread result decided comes f = unread_ends reading old mid new sink sink' outcome.Unread result decided comes comes.told f.0 f.1
+ends reading old mid new sink sink' outcome.NoMemory result decided comes f = memory_ends reading old mid new sink sink' outcome.NoMemory result decided comes f.0 f.1

@@ -1,0 +1,99 @@
+-- From what the parts of a command do to what it comes to.
+use Rattle.std.proofs.Common.{◌≡◌, ◌≤◌, inl, inr, ℕ, List, length, Option, Result, Ok, Err, refl, sym, subst, ◌∙◌, arith}
+use Rattle.std.specs.Prelude.{IfErr, IsTrue}
+use Rattle.tcd_base.specs.Files.{Map, FilesSeen, FaultCounted, LeavesFiles, IsTooLong, Reads}
+use Rattle.tcd_reading.specs.Reports.{Report}
+use Rattle.tcd_reading.specs.Inputs.{FormSeen, HoldsInput, IsRefusal, long, bad, Refuses, Reading, answer, input, Says, HoldsAsked, AreSureOf}
+use Rattle.tcd_reading.specs.Outcomes.{IsTold, Stops, HasFailed, HasNotRead, Comes}
+use Rattle.tcd_reading.specs.declared.outcome.Outcome.{Outcome}
+use Rattle.tcd_reading.specs.declared.outcome.Outcome.TheVariants as outcome
+
+-- ---- outcomes
+-- what is told by one account is told by another
+pub told_as : (P Q : Report → Type 0) (F G : Type 0) (o : Outcome) → IsTold P F o → ((r : Report) → P r → Q r) → (F → G) → IsTold Q G o
+told_as P Q F G (outcome.Report s text writes) h p f = p (record { status = s; text = text.items; writes = writes.items }) h
+told_as P Q F G outcome.Unread h p f = f h
+told_as P Q F G outcome.NoMemory h p f = tt
+
+pub told_more : (P Q : Report → Type 0) (o : Outcome) → IsTold P ⊥ o → ((r : Report) → P r → Q r) → IsTold Q ⊥ o
+told_more P Q o h p = told_as P Q ⊥ ⊥ o h p (λ f. f)
+
+-- a refusal by other words
+pub refuses_as : (P Q : List ℕ → Type 0) (r : Report) → Refuses P r → ((t : List ℕ) → P t → Q t) → Refuses Q r
+refuses_as P Q r h f = record { status = h.status; line = f r.text h.line; nothing = h.nothing }
+
+pub stops_as : (P Q : List ℕ → Type 0) (F G : Type 0) (o : Outcome) → Stops P F o → ((t : List ℕ) → P t → Q t) → (F → G) → Stops Q G o
+stops_as P Q F G o h p f = told_as (λ r. Refuses P r) (λ r. Refuses Q r) F G o h (λ r x. refuses_as P Q r x p) f
+
+pub err_as : {T : Type 0} (P Q : List ℕ → Type 0) (F G : Type 0) (r : Result T Outcome) → IfErr r (Stops P F) → ((t : List ℕ) → P t → Q t) → (F → G) → IfErr r (Stops Q G)
+err_as P Q F G (Ok x) h p f = tt
+err_as P Q F G (Err o) h p f = stops_as P Q F G o h p f
+
+-- ---- one input
+-- a file above the limit, and bytes that are none
+pub long_line : {A : Type 0} (form : FormSeen A) (held : Option Map) (name : List ℕ) (limit : ℕ) (t : List ℕ) → limit ≡ form.limit → IsTooLong held name limit → t ≡ form.long_line → IsRefusal form held name t
+long_line form held name limit t e h is = long (subst (λ (n : ℕ). IsTooLong held name n) e h) is
+
+pub bad_line : {A : Type 0} (form : FormSeen A) (held : Option Map) (name bytes read : List ℕ) (limit : ℕ) (t : List ℕ) → read ≡ bytes → limit ≡ form.limit → Reads held name bytes → length bytes ≤ limit → form.IsBad read t → IsRefusal form held name t
+bad_line form held name bytes read limit t e l holds short is =
+    bad bytes holds (subst (λ (n : ℕ). length bytes ≤ n) l short) (subst (λ (xs : List ℕ). form.IsBad xs t) e is)
+
+-- ---- inputs one after another
+pub counted_later : (a b c : ℕ) → a ≤ b → FaultCounted b c → FaultCounted a c
+counted_later a b c le (inl h) = inl (omega arith)
+counted_later a b c le (inr h) = inr h
+
+-- what the rest of a reading comes to from the files as they are, the whole comes to from the files before
+pub record Leads (whole rest : Reading) (old mid : FilesSeen) : Type 0 where
+  pub comes : (new : FilesSeen) (o : Outcome) → Comes rest mid new o → Comes whole old new o
+
+-- an input that isn't there
+pub comes_stopped : (A : Type 0) (form : FormSeen A) (name : List ℕ) (next : A → Reading) (old new : FilesSeen) (o : Outcome) → LeavesFiles name old new → old.faults ≤ new.faults →
+    Stops (IsRefusal form old.held name) (HasFailed name old new) o → Comes (input A form name next) old new o
+comes_stopped A form name next old new o leaves later stops = record {
+  held = leaves.held;
+  steady = leaves.steady;
+  later = later;
+  sure = λ s. leaves.sure (record { steady = s.steady; holds = s.hold.0 });
+  told = told_as (λ r. Refuses (IsRefusal form old.held name) r) (Says (input A form name next) old.held) (HasFailed name old new) (HasNotRead (input A form name next) old new) o stops
+      (λ r h. inl h)
+      (λ f. record { counted = f.counted; unsure = λ s. f.unsure (record { steady = s.steady; holds = s.hold.0 }) });
+}
+
+-- an input that is read, and then the rest
+sure_next : (A : Type 0) (form : FormSeen A) (name : List ℕ) (next : A → Reading) (x : A) (old mid : FilesSeen) → LeavesFiles name old mid → HoldsInput form old.held name x → AreSureOf (input A form name next) old → AreSureOf (next x) mid
+sure_next A form name next x old mid leaves holds s =
+    record { steady = subst IsTrue (sym leaves.steady) s.steady; hold = subst (λ (h : Option Map). HoldsAsked (next x) h) (sym leaves.held) (s.hold.1 x holds) }
+
+pub leads_read : (A : Type 0) (form : FormSeen A) (name : List ℕ) (next : A → Reading) (x : A) (old mid : FilesSeen) → LeavesFiles name old mid → old.faults ≤ mid.faults → HoldsInput form old.held name x → Leads (input A form name next) (next x) old mid
+leads_read A form name next x old mid leaves later holds = record {
+  comes = λ new o rest. record {
+    held = rest.held ∙ leaves.held;
+    steady = rest.steady ∙ leaves.steady;
+    later = let y = rest.later in omega arith;
+    sure = λ s. rest.sure (sure_next A form name next x old mid leaves holds s) ∙ leaves.sure (record { steady = s.steady; holds = s.hold.0 });
+    told = told_as (Says (next x) mid.held) (Says (input A form name next) old.held) (HasNotRead (next x) mid new) (HasNotRead (input A form name next) old new) o rest.told
+        (λ r h. inr (x, holds, subst (λ (m : Option Map). Says (next x) m r) leaves.held h))
+        (λ f. record { counted = counted_later old.faults mid.faults new.faults later f.counted; unsure = λ s. f.unsure (sure_next A form name next x old mid leaves holds s) });
+  };
+}
+
+pub leads_then : (a b c : Reading) (x y z : FilesSeen) → Leads a b x y → Leads b c y z → Leads a c x z
+leads_then a b c x y z h k = record { comes = λ new o rest. h.comes new o (k.comes new o rest) }
+
+pub leads_here : (a : Reading) (x : FilesSeen) → Leads a a x x
+leads_here a x = record { comes = λ new o rest. rest }
+
+-- all inputs are read
+pub comes_told : (P : Report → Type 0) (files : FilesSeen) (o : Outcome) → IsTold P ⊥ o → Comes (answer P) files files o
+comes_told P files o h = record {
+  held = refl;
+  steady = refl;
+  later = omega arith;
+  sure = λ s. refl;
+  told = told_as P P ⊥ (HasNotRead (answer P) files files) o h (λ r p. p) (λ f. absurd f);
+}
+
+-- memory ran out
+pub comes_none : (reading : Reading) (files : FilesSeen) → Comes reading files files outcome.NoMemory
+comes_none reading files = record { held = refl; steady = refl; later = omega arith; sure = λ s. refl; told = tt }

@@ -1,0 +1,5 @@
+pub mod Endings
+pub mod Inputs
+pub mod Outcomes
+pub mod Reports
+pub mod Statuses

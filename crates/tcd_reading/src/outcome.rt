@@ -1,0 +1,195 @@
+// What a command comes to, and how it ends from there.
+ghost use Rattle.std.specs.Prelude.{◌≡◌, ◌≢◌, ◌≤◌, ◌∷◌, [], IsTrue, IfOk, OnOk, IfErr, IsOkAnd};
+ghost use Rattle.tcd_base.specs.Files.{FaultCounted, LeavesFaults};
+ghost use Rattle.tcd_reading.specs.Reports.{says, writes_file, writes_two, with_written, Stopped};
+ghost use Rattle.tcd_reading.specs.Outcomes.{IsTold, Prints, Finishes};
+
+use crate::status::Status;
+use std::alloc::Global;
+use std::marker::Model;
+use tcd_base::{FileErr, Files, NoMemory, Sink};
+
+/// A file to write: its name and its bytes.
+#[derive(Drop)]
+pub struct Write {
+    pub name: String,
+    pub bytes: Vec<u8>,
+}
+
+impl Model for Write {
+    ghost use Rattle.std.specs.Prelude.{string_bytes};
+    ghost use Rattle.tcd_reading.specs.Reports.{Written};
+
+    ghost Value = { Written };
+
+    ghost view = { λ w. record { name = string_bytes w.name; bytes = w.bytes.items } };
+}
+
+impl Write {
+    /// Bytes to write under a name.
+    pub fn of(alloc: Global, name: &str, bytes: Vec<u8>) -> Result<Write, NoMemory>
+        ensures { IfOk result (λ w. w ≡ record { name = name.now; bytes = bytes.items }) }
+    {
+        let name = String::from_str(alloc, name)?;
+        Ok(Write { name, bytes })
+    }
+}
+
+/// What a command comes to, before anything is written or printed.
+#[derive(Drop)]
+pub enum Outcome {
+    /// A status, the text that is printed, and the files that are written before.
+    Report {
+        status: Status,
+        text: Vec<u8>,
+        writes: Vec<Write>,
+    },
+    /// A file couldn't be read.
+    Unread,
+    NoMemory,
+}
+
+/// A text with its status, and nothing to write, unless memory ran out.
+pub fn report(alloc: Global, status: Status, line: Result<Vec<u8>, NoMemory>) -> Outcome
+    ensures { IsTold (λ r. IsOkAnd line (λ l. r ≡ says status l.items)) ⊥ result }
+{
+    match line {
+        Ok(text) => Outcome::Report {
+            status,
+            text,
+            writes: Vec::new(alloc),
+        },
+        Err(_) => Outcome::NoMemory,
+    }
+}
+
+// One file to write.
+fn one_write(alloc: Global, name: &str, bytes: Vec<u8>) -> Result<Vec<Write>, NoMemory>
+    ensures { IfOk result (λ w. w.items ≡ record { name = name.now; bytes = bytes.items } ∷ []) }
+{
+    let mut writes = Vec::new(alloc);
+    writes.push(Write::of(alloc, name, bytes)?)?;
+    Ok(writes)
+}
+
+// Two files to write, one after the other.
+fn two_writes(alloc: Global, first: Write, second: Write) -> Result<Vec<Write>, NoMemory>
+    ensures { IfOk result (λ w. w.items ≡ first ∷ second ∷ []) }
+{
+    let mut writes = Vec::new(alloc);
+    writes.push(first)?;
+    writes.push(second)?;
+    Ok(writes)
+}
+
+/// Bytes to write under a name, and the text on them, unless memory ran out.
+pub fn report_file(
+    alloc: Global,
+    name: &str,
+    bytes: Vec<u8>,
+    line: Result<Vec<u8>, NoMemory>,
+) -> Outcome
+    ensures { IsTold
+        (λ r. IsOkAnd line (λ l. r ≡ writes_file name.now bytes.items l.items)) ⊥ result }
+{
+    match line {
+        Ok(text) => match one_write(alloc, name, bytes) {
+            Ok(writes) => Outcome::Report {
+                status: Status::Done,
+                text,
+                writes,
+            },
+            Err(_) => Outcome::NoMemory,
+        },
+        Err(_) => Outcome::NoMemory,
+    }
+}
+
+/// Two files to write, one after the other, and the text on them, unless memory ran out.
+pub fn report_two(
+    alloc: Global,
+    first: Write,
+    second: Write,
+    line: Result<Vec<u8>, NoMemory>,
+) -> Outcome
+    ensures { IsTold (λ r. IsOkAnd line (λ l. r ≡ writes_two first second l.items)) ⊥ result }
+{
+    match line {
+        Ok(text) => match two_writes(alloc, first, second) {
+            Ok(writes) => Outcome::Report {
+                status: Status::Done,
+                text,
+                writes,
+            },
+            Err(_) => Outcome::NoMemory,
+        },
+        Err(_) => Outcome::NoMemory,
+    }
+}
+
+// Writes the files, one after another, up to the first that fails.
+fn write_all<F: Files>(alloc: Global, writes: &[Write], files: &mut F) -> Result<(), FileErr>
+    ensures done { OnOk result
+        ((F.seen files.new).held ≡ with_written (F.seen files.old).held writes.now) }
+    ensures stopped { IfErr result
+        (λ e. Stopped (F.seen files.old).held (F.seen files.new).held writes.now) }
+    ensures counted { IfErr result (λ e. e ≢ FileErr.NoMemory →
+        FaultCounted (F.seen files.old).faults (F.seen files.new).faults) }
+    ensures leaves { LeavesFaults (F.seen files.old) (F.seen files.new) }
+    ensures later { (F.seen files.old).faults ≤ (F.seen files.new).faults }
+    ensures never { IsTrue (F.seen files.old).steady → IfErr result (λ e. e ≡ FileErr.NoMemory) }
+{
+    for write in writes {
+        match files.write(alloc, &write.name, &write.bytes) {
+            Ok(()) => {}
+            Err(e) => return Err(e),
+        }
+    }
+    Ok(())
+}
+
+/// Prints a text, and answers its status. It takes no memory.
+pub fn print<S: Sink>(out: &mut S, text: &[u8], status: Status) -> Status
+    ensures { Prints status text.now (S.seen out.old) (S.seen out.new) result }
+{
+    match out.write(text) {
+        Ok(()) => status,
+        Err(_) => Status::Fault,
+    }
+}
+
+// The status of a write that failed.
+fn stopped(e: FileErr) -> Status
+    ensures memory { e ≡ FileErr.NoMemory → result ≡ Status.NoMemory }
+    ensures fault { e ≢ FileErr.NoMemory → result ≡ Status.Fault }
+{
+    match e {
+        FileErr::NoMemory => Status::NoMemory,
+        FileErr::Failed => Status::Fault,
+        FileErr::TooLong => Status::Fault,
+    }
+}
+
+/// Writes the files of a report, and then prints its text. Once a file is written memory is only taken to write the next one.
+pub fn finish<F: Files, S: Sink>(
+    alloc: Global,
+    outcome: Outcome,
+    files: &mut F,
+    out: &mut S,
+) -> Status
+    ensures { Finishes outcome (F.seen files.old) (F.seen files.new)
+        (S.seen out.old) (S.seen out.new) result }
+{
+    match outcome {
+        Outcome::Report {
+            status,
+            text,
+            writes,
+        } => match write_all(alloc, &writes, files) {
+            Ok(()) => print(out, &text, status),
+            Err(e) => stopped(e),
+        },
+        Outcome::Unread => Status::Fault,
+        Outcome::NoMemory => Status::NoMemory,
+    }
+}
