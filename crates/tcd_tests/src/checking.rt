@@ -2,7 +2,8 @@
 use crate::boards::{EIGHT_AREAS, ENABLED, Edit, TWO_INTERRUPTS, board};
 use crate::programs::{CALLER, NESTED, Program, SAVER, image};
 use depth_cert::{Cert, Key};
-use depth_check::{Verdict, check, first_fault_laws};
+use depth_check::{Verdict, check, check_packed, first_fault_laws};
+use packed_cert::PackedCert;
 use std::alloc::AllocGlobal;
 use std::process::Abort;
 use std::test::Fail;
@@ -10,10 +11,10 @@ use std::test::Fail;
 // With all areas in reserve; with eight areas and two interrupts.
 const RESERVED: [Edit; 1] = [(r#""reserve":2"#, r#""reserve":4"#)];
 
-const INTERRUPTS: [Edit; 3] = [EIGHT_AREAS, ENABLED, TWO_INTERRUPTS];
+pub const INTERRUPTS: [Edit; 3] = [EIGHT_AREAS, ENABLED, TWO_INTERRUPTS];
 
 // The start needs one area, the function none; the need of the start is byte 15.
-static CALLER_CERT: [u8; 169] = [
+pub static CALLER_CERT: [u8; 169] = [
     0x54, 0x43, 0x44, 0x43, 0x01, 0x00, 0x02, 0x00, 0x00, 0x00, 0x00, 0x00, 0x80, 0x00, 0x00, 0x01,
     0x00, 0x00, 0x02, 0x00, 0x00, 0x00, 0x00, 0x00, 0x00, 0x80, 0x00, 0x00, 0x00, 0x00, 0x00, 0x00,
     0x00, 0x00, 0x00, 0x00, 0x00, 0x00, 0x00, 0x00, 0x00, 0x00, 0x00, 0x00, 0x00, 0x00, 0x00, 0x00,
@@ -54,7 +55,7 @@ static SAVER_CERT_WITHOUT_LOCAL: [u8; 139] = [
 ];
 
 // Six nodes: the start, f, h, g in interrupt 10, and the handlers.
-static NESTED_CERT: [u8; 571] = [
+pub static NESTED_CERT: [u8; 571] = [
     0x54, 0x43, 0x44, 0x43, 0x01, 0x00, 0x06, 0x00, 0x00, 0x00, 0x00, 0x00, 0x80, 0x00, 0x00, 0x06,
     0x00, 0x00, 0x02, 0x00, 0x00, 0x00, 0x00, 0x00, 0x00, 0x80, 0x01, 0x00, 0x00, 0x00, 0x00, 0x00,
     0x00, 0x00, 0x00, 0x00, 0x00, 0x00, 0x00, 0x00, 0x00, 0x00, 0x00, 0x00, 0x00, 0x00, 0x00, 0x00,
@@ -107,6 +108,7 @@ const HANDLER: Key = Key {
     is: true,
 };
 
+// The verdict on a certificate in memory, which is that on its bytes.
 fn answer<R: Abort + AllocGlobal>(
     rt: &R,
     program: &Program,
@@ -116,8 +118,13 @@ fn answer<R: Abort + AllocGlobal>(
     assert!(rt; cert.len() < 1000);
     let image = image(rt, program)?;
     let plan = board(rt, edits)?;
-    let cert = Cert::read(rt.alloc(), cert)?;
-    Ok(check(&image, &plan, &cert))
+    let mut bytes = Vec::new(rt.alloc());
+    bytes.extend_from_slice(cert)?;
+    let read = Cert::read(rt.alloc(), cert)?;
+    let verdict = check(&image, &plan, &read);
+    let packed = PackedCert::read(rt.alloc(), bytes)?;
+    assert!(rt; check_packed(&image, &plan, &packed) == verdict);
+    Ok(verdict)
 }
 
 fn refused(rule: u8, key: Key, addr: u32) -> Verdict {

@@ -1,4 +1,4 @@
-//! Tests of the libraries, by their public calls alone.
+//! Tests of images, plans, values, runs and certificates, by public calls alone.
 #![tactic(auto)]
 
 #[cfg(test)]
@@ -6,25 +6,15 @@ mod addresses;
 #[cfg(test)]
 mod boards;
 #[cfg(test)]
-mod certificates;
-#[cfg(test)]
 mod checking;
 #[cfg(test)]
-mod contexts;
-#[cfg(test)]
 mod effects;
-#[cfg(test)]
-mod executables;
-#[cfg(test)]
-mod instructions;
 #[cfg(test)]
 mod linking;
 #[cfg(test)]
 mod listings;
 #[cfg(test)]
-mod memory;
-#[cfg(test)]
-mod objects;
+mod making;
 #[cfg(test)]
 mod plans;
 #[cfg(test)]
@@ -32,18 +22,16 @@ mod points;
 #[cfg(test)]
 mod programs;
 #[cfg(test)]
+mod reports;
+#[cfg(test)]
 mod rows;
 #[cfg(test)]
 mod runs;
 #[cfg(test)]
 mod scripts;
 #[cfg(test)]
-mod sources;
-#[cfg(test)]
-mod statements;
-#[cfg(test)]
 mod states;
 #[cfg(test)]
-mod values;
+mod tasks;
 #[cfg(test)]
-mod words;
+mod values;

@@ -34,6 +34,16 @@ pub static SAVER: Program<'static> = Program {
     layout: "entry main\nplace text 80000000 00000400\n",
 };
 
+/// Sets LCX to 0 and stands still.
+pub static LIMIT_TO_ZERO: Program<'static> = Program {
+    source: ".section text\n\
+        .global main\n\
+        main: mov d0, 0\n\
+        mtcr 0xFE3C, d0\n\
+        j .+0\n",
+    layout: "entry main\nplace text 80000000 00000400\n",
+};
+
 /// A main that calls functions, and handlers of interrupts 10 and 20, of which the first one calls a function, too.
 pub static NESTED: Program<'static> = Program {
     source: ".section text\n\

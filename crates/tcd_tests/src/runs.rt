@@ -1,6 +1,6 @@
 //! The machine on worked programs.
 use crate::boards::{BOTH_TRAPS, CORE_16, ENABLED, Edit, board};
-use crate::programs::{CALLER, LOADS, image};
+use crate::programs::{CALLER, LIMIT_TO_ZERO, LOADS, image};
 use std::alloc::AllocGlobal;
 use std::process::Abort;
 use std::test::Fail;
@@ -119,5 +119,20 @@ fn interrupt_and_back(rt: HostRuntime) -> Result<(), Fail> {
         (machine.ccpn, machine.ie, machine.used()),
         (5, true, Some(0))
     );
+    Ok(())
+}
+
+// Two areas are another task's, and two the reserve: FCX is at the limit. MTCR by one task moves it for all of them, so tasks are
+// safe together only if rule 13 holds for each.
+#[test]
+fn a_task_can_move_the_limit(rt: HostRuntime) -> Result<(), Fail> {
+    let image = image(&rt, &LIMIT_TO_ZERO)?;
+    let plan = board(&rt, &[])?;
+    let mut machine = Machine::start(rt.alloc(), &image, &plan)?;
+    machine.fcx = 0x000d_0002;
+    assert_eq!(rt; machine.fcx, machine.lcx);
+    machine.run(&[QUIET, QUIET]);
+    assert_eq!(rt; machine.end, End::Running);
+    assert_eq!(rt; (machine.fcx, machine.lcx), (0x000d_0002, 0));
     Ok(())
 }

@@ -1,4 +1,5 @@
 //! The tokens of worked lines, and the rows that worked statements are.
+use arrayvec::ArrayVec;
 use tc_isa::rows;
 use tc_lex::{Token, TokenKind, tokens};
 use tc_stmt::{
@@ -109,7 +110,8 @@ fn comma() -> Piece<'static> {
 #[test]
 fn a_move_between_registers(rt: HostRuntime) {
     let pieces = [word("d1"), comma(), word("d2")];
-    let found = operands(&pieces);
+    let mut found = ArrayVec::new();
+    operands(&pieces, &mut found);
     assert_eq!(rt; found.len(), 2);
     match statement(b"mov", &found) {
         Ok((row, filled)) => {
@@ -138,6 +140,7 @@ fn pieces_and_names(rt: HostRuntime) {
         name: b".",
         minus: false,
         size: 0,
+        wide: false,
     };
     assert_eq!(rt; symbol_rule(lone), 9);
     assert_eq!(rt; shape_index(lone.shape), 2);

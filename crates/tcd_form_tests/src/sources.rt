@@ -8,7 +8,7 @@ struct Broken {
     rule: u8,
 }
 
-static BROKEN: [Broken; 16] = [
+static BROKEN: [Broken; 30] = [
     Broken {
         source: ".section t\n?",
         line: 2,
@@ -88,6 +88,76 @@ static BROKEN: [Broken; 16] = [
         source: ".section t\nj16 x\n.space 254\nx: nop",
         line: 2,
         rule: 11,
+    },
+    Broken {
+        source: ".section t\njz16.d15 .+170141183460469231731687303715884105728",
+        line: 2,
+        rule: 11,
+    },
+    Broken {
+        source: ".section t\njz16.d15 .+170141183460469231731687303715884105729",
+        line: 2,
+        rule: 6,
+    },
+    Broken {
+        source: ".section t\njz16.d15 .+340282366920938463463374607431768211456",
+        line: 2,
+        rule: 5,
+    },
+    Broken {
+        source: ".section t\njz16.d15 .-340282366920938463463374607431768211457",
+        line: 2,
+        rule: 5,
+    },
+    Broken {
+        source: ".section t\njz16.d15 .+680564733841876926926749214863536422912",
+        line: 2,
+        rule: 5,
+    },
+    Broken {
+        source: ".global x\nx:",
+        line: 2,
+        rule: 8,
+    },
+    Broken {
+        source: "x: j16 x",
+        line: 1,
+        rule: 8,
+    },
+    Broken {
+        source: ".global x\nx: ?",
+        line: 2,
+        rule: 1,
+    },
+    Broken {
+        source: ".global x\n x\t: nop ?",
+        line: 2,
+        rule: 1,
+    },
+    Broken {
+        source: ".global x\nx: .byte 1,1,1,1,1,1,1,1,1,1,1,1,1,1,1,1,1,1,1,1,1,1,1,1,1,1,1,1,1,1,1,",
+        line: 2,
+        rule: 1,
+    },
+    Broken {
+        source: ".section t\nj16 x\nx: ?",
+        line: 3,
+        rule: 1,
+    },
+    Broken {
+        source: ".section t\nj16 x\n.space 254\nx: ?",
+        line: 2,
+        rule: 11,
+    },
+    Broken {
+        source: ".global x\nx ? :",
+        line: 1,
+        rule: 14,
+    },
+    Broken {
+        source: ".global x\n? x:",
+        line: 1,
+        rule: 14,
     },
 ];
 
