@@ -1,13 +1,15 @@
 #!/usr/bin/env python3
 """Hostile use: tries the program on broken, contradictory and failing inputs, and compares each answer with a second reading.
 
-    python3 tools/hostile.py PROGRAM            some 55,000 cases, three minutes on a free processor
-    python3 tools/hostile.py --quick PROGRAM    some 2,400 cases, ten seconds
+    python3 tools/hostile.py PROGRAM            some 67,000 cases; the 55,000 without `cert` took three minutes on a free processor
+    python3 tools/hostile.py --quick PROGRAM    some 3,000 cases, less than a minute
 
 PROGRAM is the built tcd (crates/tcd/out/tcd). The inputs are made here; nothing is random but by fixed seeds. What each case has
 to print is worked out by tools/hostile_readers.py, which was written from docs/formats.md. Of each case are compared: the status,
 all that is printed, that nothing goes to standard error, that it takes at most 10 seconds of the processor, and that in its folder nothing changed but
-the file that it writes, which holds the bytes that it has to. At the end: the mutated inputs that are still done, with why that may
+the file that it writes, which holds the bytes that it has to. Of `cert` the refusals of a few images are known, else their form alone;
+a certificate that it makes has to be one by its format, with the printed number, and `check` has to print the same of it. At the
+end: the mutated inputs that are still done, with why that may
 be; a table of the cases by kind and answer; the cases that were wrong. Ends with 1 where one was.
 """
 import collections
@@ -34,6 +36,8 @@ I1, P0, C0 = ((DATA / name).read_bytes() for name in ("i1.elf", "p0.json", "c0.c
 FAULT = object()  # a file that can't be read or written
 KEY = rb"(start|call|irq|sys|aln) ([0-9A-F]{8}) prio ([0-9]{1,3}) is ([01])"
 KINDS = {b"start": 0, b"call": 1, b"irq": 2, b"sys": 3, b"aln": 4}
+NEVER_MADE = (3, 5, 6, 7, 8, 9, 10, 12, 13, 14, 15)  # the rules that no certificate may be able to keep
+OUTPUTS = {"asm": 2, "link": 2, "cert": 3}  # the word that names the file that a command writes
 
 
 # What each command has to answer
@@ -76,19 +80,60 @@ def check(files, words):
     return None, functools.partial(judged, start, {n[0]: n for n in nodes}, board), {}
 
 
+def refusal(text):
+    """The rule, the address and the key of a refusal, or no rule."""
+    found = re.fullmatch(rb"refused K([0-9]+) at ([0-9A-F]{8}) in " + KEY + b"\n", text)
+    if not found:
+        return 0, 0, None
+    key = (KINDS[found.group(3)], int(found.group(4), 16), int(found.group(5)), int(found.group(6)))
+    return int(found.group(1)), int(found.group(2), 16), key
+
+
 def judged(start, nodes, board, status, text):
     """Whether a line of `check` can be right for these inputs."""
     spare = board["csa"]["areas"] - board["csa"]["reserve"]
     if status == 0:
         return start in nodes and nodes[start][1] <= spare and text == b"certified %d of %d areas\n" % (nodes[start][1], spare)
-    found = re.fullmatch(rb"refused K([0-9]+) at ([0-9A-F]{8}) in " + KEY + b"\n", text)
-    if status != 1 or not found:
+    rule, at, key = refusal(text)
+    if status != 1 or not rule:
         return False
-    rule, at = int(found.group(1)), int(found.group(2), 16)
-    key = (KINDS[found.group(3)], int(found.group(4), 16), int(found.group(5)), int(found.group(6)))
     if rule == 1:
         return key == start and at == start[1]
     return 2 <= rule <= 14 and key in nodes and (at == key[1] or at in [p[0] for p in nodes[key][3]])
+
+
+def cert(files, words):
+    image, board = image_and_plan(files, words)
+    start = (0, image[0], 0, board["start"]["is"])
+    return None, functools.partial(made, start, board), {words[3]: functools.partial(has_start, start)}
+
+
+def made(start, board, status, text):
+    """Whether a line of `cert` can be right for these inputs; what it wrote is judged by `check` (`Bench.remade`)."""
+    spare = board["csa"]["areas"] - board["csa"]["reserve"]
+    if status == 0:
+        found = re.fullmatch(rb"certified ([0-9]+) of ([0-9]+) areas\n", text)
+        return bool(found) and int(found.group(1)) <= spare == int(found.group(2))
+    rule, _, key = refusal(text)
+    return status == 1 and rule in NEVER_MADE and frame_of(start, board, key)
+
+
+def frame_of(start, board, key):
+    """Whether frames of this key can be entered under the plan."""
+    kind, entry, prio, stack = key
+    if kind < 2:
+        return key == start if kind == 0 else prio == 0 or prio in board["irqs"]
+    vector = {2: board["biv"] | prio << 5, 3: board["btv"] | 0xC0, 4: board["btv"] | 0x40}[kind]
+    allowed = prio in board["irqs"] if kind == 2 else {3: "sys", 4: "aln"}[kind] in board["traps"]
+    return entry == vector and stack == 1 and allowed and (prio == 0 or prio in board["irqs"])
+
+
+def has_start(start, data):
+    """Whether these bytes are a certificate with a node of the start."""
+    try:
+        return start in [node[0] for node in read_cert(data)[1]]
+    except Bad:
+        return False
 
 
 def run(files, words):
@@ -121,7 +166,7 @@ def dis(files, words):
     return 0, readers.listing(read_elf(given(files, words[1], "elf"))[1]), {}
 
 
-COMMANDS = {"check": (check, 4, 4), "run": (run, 4, 4), "asm": (asm, 3, 3), "link": (link, 4, 65535), "dis": (dis, 2, 2)}
+COMMANDS = {"check": (check, 4, 4), "cert": (cert, 4, 4), "run": (run, 4, 4), "asm": (asm, 3, 3), "link": (link, 4, 65535), "dis": (dis, 2, 2)}
 
 
 def answer(words, files):
@@ -198,11 +243,20 @@ class Bench:
             faults.append(f"{status} {out[:200]!r} in place of {want[0]} {text if callable(text) else text[:200]!r}")
         if err:
             faults.append(f"on standard error {err[:80]!r}")
+        if words and words[0] == "cert" and status == 0 and not cannot_be_read_again(words, self.folder):
+            faults += self.remade(["check", *words[1:]], out)
         faults += self.folder_faults(want[2] if status in (0, 3) else {}, anything)
         self.table[group, words[0] if words and words[0] in COMMANDS else "words", label(status, out)] += 1
         if faults:
             self.wrong.append((group, words, {n: d for n, d in seen.items() if n in words}, faults))
         return status, out
+
+    def remade(self, words, out):
+        """What is wrong with a certificate that was made: another number than the printed one, or `check` refuses it."""
+        _, test, _ = answer(words, {name: (self.folder / name).read_bytes() for name in words[1:]})
+        again = self.ended(words, {})
+        fits = callable(test) and test(0, out)
+        return [] if fits and again == (0, out, b"") else [f"{out!r} is printed of a certificate of which `check` says {again[:2]!r}"]
 
     def folder_faults(self, written, anything):
         """What stands in the folder and shouldn't; afterwards it is as before."""
@@ -215,7 +269,7 @@ class Bench:
                 continue
             data = pathlib.Path(entry.path).read_bytes()
             want = written.get(entry.name, self.held.get(entry.name))
-            if data != want and entry.name not in anything:
+            if not (want(data) if callable(want) else data == want) and entry.name not in anything:
                 faults.append(f"{entry.name} holds {data[:40]!r}")
             if data != self.held.get(entry.name) or entry.name in written:
                 if entry.name in written or entry.name not in self.held:
@@ -226,6 +280,11 @@ class Bench:
         faults += [f"{name} is gone" for name in self.held if name not in found]
         faults += [f"{name} isn't written" for name in written if "/" not in name and name not in found and name not in anything]
         return faults
+
+
+def cannot_be_read_again(words, folder):
+    """Whether the certificate's file is an input too, or one of the three is no plain file, so that they can't be read again."""
+    return words[3] in words[1:3] or not all((folder / word).is_file() for word in words[1:4])
 
 
 def spent():
@@ -440,6 +499,10 @@ def mutate_all(bench):
     for version in (1, 2):
         files = {"e": I1, "p": board, "c": rich_cert(version)}
         place_of(bench, f"check, c of all fields, version {version}", ["check", "e", "p", "c"], files, "c")
+    found = made_rows(*nested())
+    for title, number in (("a call", 0), ("interrupts", 3), ("a table", 8)):
+        for vary in "ep":
+            place_of(bench, f"cert, {vary} of {title}", ["cert", "e", "p", "x"], found[number][1], vary, vary == "p")
     files = {"e": I1, "p": board, "s": RICH_SCRIPT}
     for vary in "eps":
         place_of(bench, f"run, {vary}", ["run", "e", "p", "s"], files, vary, vary != "e")
@@ -633,15 +696,42 @@ def changed(data, at, *values):
     return data[:at] + bytes(values) + data[at + len(values) :]
 
 
+def nested():
+    """An image with two interrupts, and its plan."""
+    board = P0.replace(b'"areas":4', b'"areas":8').replace(b'"irqs":[]', b'"irqs":[10,20]').replace(b'"ie":0', b'"ie":1')
+    image = readers.elf_bytes(0x80000000, [
+        (0x80000000, bytes.fromhex("6D0004001D0000005C02009000900090")), (0x80000540, bytes.fromhex("E00A6DFF66FD0D0040020080")), (0x80000680, bytes.fromhex("0080")),
+    ])  # fmt: skip
+    return image, board
+
+
+def made_rows(i7, p7):
+    """Images, plans, and what `cert` prints of them, worked out by hand from docs/rules.md."""
+    code = lambda *parts: readers.elf_bytes(0x80000000, [(at, bytes.fromhex(held)) for at, held in parts])
+    one = P0.replace(b'"irqs":[]', b'"irqs":[10]').replace(b'"ie":0', b'"ie":1')
+    table = "8F3F00F1910000F801FF02F699FF20002D0F00003C00" + "00" * 10 + "300000803200008034000080"
+    main = "start 80000000 prio 0 is 0"
+    cases = [
+        (I1, P0, "certified 1 of 2 areas"), (I1, P0.replace(b'"reserve":2', b'"reserve":4'), f"refused K14 at 80000000 in {main}"),
+        (code((0x80000000, "6D0004001D0000005C000090")), P0, "refused K14 at 80000008 in call 80000008 prio 0 is 0"), (i7, p7, "certified 6 of 6 areas"),
+        (i7.replace(b"\xe0\x0a", b"\xe0\x05"), p7, "refused K14 at 8000000E in call 8000000E prio 10 is 1"),
+        (code((0x80000000, "3C00"), (0x80000540, "82100D0000020D0040020080")), one, "refused K7 at 8000054A in irq 80000540 prio 10 is 1"),
+        (code((0x80000000, "3C00"), (0x80000540, "0D00000282100D0040020080")), one, "certified 2 of 2 areas"),
+        (code((0x80000000, table + "00000000" + "009000900090")), P0, "refused K3 at 00000000 in call 00000000 prio 0 is 0"),
+        (code((0x80000000, table + "30000080" + "009000900090")), P0, "certified 1 of 2 areas"),
+        (code((0x80000000, "911000FD59F0FEF83C00")), P0, f"refused K9 at 80000004 in {main}"), (code((0x80000000, "911000FD59F0FCF83C00")), P0, "certified 0 of 2 areas"),
+        (code((0x80000000, "AD3080003C00"), (0x800001C0, "EE02FFFF0080")), P0, f"refused K12 at 80000000 in {main}"),
+        (code((0x80000000, "AD3080003C00"), (0x800001C0, "EE02FFFF0080")), P0.replace(b'"traps":[]', b'"traps":["sys"]'), "certified 1 of 2 areas"),
+    ]  # fmt: skip
+    return [("cert", {"e": elf, "p": board}, int(line.startswith("refused")), line + "\n") for elf, board, line in cases]
+
+
 def rows(bench):
     """Cases with their answers as data, apart from the readers."""
-    p7 = P0.replace(b'"areas":4', b'"areas":8').replace(b'"irqs":[]', b'"irqs":[10,20]').replace(b'"ie":0', b'"ie":1')
+    i7, p7 = nested()
     device = b'[{"at":"0xF0000000","len":4,"lo":0,"hi":5}]'
     p_device = P0.replace(b'"devices":[]', b'"devices":' + device)
-    i7 = readers.elf_bytes(0x80000000, [
-        (0x80000000, bytes.fromhex("6D0004001D0000005c12009000900090")), (0x80000540, bytes.fromhex("E00A6DFF66FD0D0040020080")), (0x80000680, bytes.fromhex("0080")),
-    ])  # fmt: skip
-    c1, nested = first_cert(), b"[" * 100000
+    c1, deep = first_cert(), b"[" * 100000
     o1, head = readers.Source(S1).read(), changed(I1[:52], 44, 255, 255)
     no_f = readers.Source(S1[: S1.rindex(b"f:")]).read()
     turns = b"step 2\nirq 10\nstep 2\nirq 20\nstep 7\n"
@@ -656,8 +746,8 @@ def rows(bench):
         ("check", {"e": head}, 2, "bad elf 5 at 0\n"), ("dis", {"e": head}, 2, "bad elf 5 at 0\n"), ("check", {"e": b""}, 2, "bad elf 1\n"),
         ("check", {"p": P0.replace(b'"sp":"0xD0009000",', b"")}, 2, "bad plan 2 key sp\n"), ("check", {"p": P0.replace(b"0xD0000000", b"0xD0008000")}, 2, "bad plan 8 at 1 2\n"),
         ("check", {"p": P0.replace(b'"reserve":2', b'"reserve":0')}, 2, "bad plan 6\n"), ("check", {"p": b"[]"}, 2, "bad plan 1\n"), ("check", {"p": b""}, 2, "bad plan 1\n"),
-        ("check", {"p": nested}, 2, "bad plan 1\n"), ("run", {"p": nested}, 2, "bad plan 1\n"), ("check", {"p": b'{"rom":' * 100000}, 2, "bad plan 1\n"),
-        ("check", {"p": nested + b"]" * 100000}, 2, "bad plan 1\n"), ("check", {"p": b"\xef\xbb\xbf" + P0}, 2, "bad plan 1\n"),
+        ("check", {"p": deep}, 2, "bad plan 1\n"), ("run", {"p": deep}, 2, "bad plan 1\n"), ("check", {"p": b'{"rom":' * 100000}, 2, "bad plan 1\n"),
+        ("check", {"p": deep + b"]" * 100000}, 2, "bad plan 1\n"), ("check", {"p": b"\xef\xbb\xbf" + P0}, 2, "bad plan 1\n"),
         ("check", {"p": P0 + b"\0"}, 2, "bad plan 1\n"), ("check", {"p": P0.replace(b'"sp"', b'"\xff"')}, 2, "bad plan 1\n"),
         ("check", {"p": P0.replace(b'"biv":"0x80000400"', b'"biv":"0x80000401"')}, 2, "bad plan 7\n"),
         ("run", {"e": i7, "p": p7, "s": turns}, 0, "events 13 peak 6 running\n"), ("run", {"e": i7, "p": p7.replace(b'"areas":8', b'"areas":7'), "s": turns}, 0, "events 6 peak 6 dead fcd at 8000000E\n"),
@@ -665,6 +755,7 @@ def rows(bench):
         ("run", {"e": i7, "p": p7, "s": b"step 100000\nirq 10"}, 2, "bad script 4 at 2\n"), ("run", {"p": p_device, "s": b"in 0 3 6"}, 2, "bad script 3 at 1\n"),
         ("run", {"p": p_device, "s": b"in 0 3 5\nstep 1"}, 0, "events 1 peak 1 running\n"), ("run", {"s": b"step 4294967297"}, 2, "bad script 1 at 1\n"),
         ("run", {"s": b""}, 0, "events 0 peak 0 running\n"), ("run", {"s": b"step 100000\n"}, 0, "events 100000 peak 1 dead"),
+        *made_rows(i7, p7),
         ("asm", {"s": S1}, 0, "object 63 bytes\n"), ("asm", {"s": b"nop"}, 2, "bad source 8 at 0 1\n"), ("asm", {"s": b""}, 0, "object 10 bytes\n"),
         ("asm", {"s": b".section t\nmov d1, \0"}, 2, "bad source 1 at 0 2\n"), ("asm", {"s": b".section \xff\xfe\n"}, 2, "bad source 1 at 0 1\n"),
         ("asm", {"s": b".section t # \0\xff\n"}, 0, "object 16 bytes\n"), ("asm", {"s": b".section t\r\n"}, 2, "bad source 1 at 0 1\n"),
@@ -682,7 +773,7 @@ def rows(bench):
     ]  # fmt: skip
     for command, files, status, text in tried:
         files = {"e": I1, "p": P0, "c": c1, "s": T1, **files}
-        words = {"check": ["check", "e", "p", "c"], "run": ["run", "e", "p", "s"], "asm": ["asm", "s", "o"], "link": ["link", "l", "x", "o"], "dis": ["dis", "e"]}[command]
+        words = {"check": ["check", "e", "p", "c"], "run": ["run", "e", "p", "s"], "asm": ["asm", "s", "o"], "link": ["link", "l", "x", "o"], "dis": ["dis", "e"], "cert": ["cert", "e", "p", "x"]}[command]
         bench.only({n: d for n, d in files.items() if n in words and n != ("o" if command == "asm" else "")})
         want = answer(words, bench.held)
         if text.endswith("dead"):
@@ -693,6 +784,7 @@ def rows(bench):
             bench.wrong.append(("a row as data", words, {}, [f"the reader says {want[:2]}, the row {status} {text!r}"]))
         bench.case("a row as data", words, want=want)
     bench.only({"e": I1, "p": P0})
+    bench.case("a row as data", ["cert", "e", "p", "x"], want=(0, "certified 1 of 2 areas\n", {"x": c1}))
     for n in range(0, 169, 13 if bench.quick else 1):
         bench.put("c", c1[:n])
         status, text = bench.case("a row as data", ["check", "e", "p", "c"])
@@ -733,6 +825,7 @@ def feed(path, data, wait=0.0):
 
 FORMS = {
     "check": (["check", "e", "p", "c"], [1, 2, 3], {"e": I1, "p": P0, "c": C0}), "run": (["run", "e", "p", "s"], [1, 2, 3], {"e": I1, "p": P0, "s": T1}),
+    "cert": (["cert", "e", "p", "x"], [1, 2], {"e": I1, "p": P0}),
     "asm": (["asm", "s", "x"], [1], {"s": S1}), "link": (["link", "l", "x", "o", "q"], [1, 3, 4], {"l": L1, "o": readers.Source(S1).read(), "q": readers.Source(b".section text\nnop").read()}),
     "dis": (["dis", "e"], [1], {"e": I1}),
 }  # fmt: skip
@@ -778,21 +871,21 @@ def pipes(bench, words, at, data):
 
 def failing_outputs(bench):
     """Outputs that can't be written, that are inputs, and a standard output that is full or closed."""
-    for command in ("asm", "link"):
+    for command, place in OUTPUTS.items():
         words, _, files = FORMS[command]
         bench.only(files)
-        for name in ("", "nowhere/x", "s/x" if command == "asm" else "l/x", "/dev/full", "n" * 300):
-            bench.case("an output that fails", swapped(words, 2, name), {name: FAULT})
-        bench.case("an output that is thrown away", swapped(words, 2, "/dev/null"))
+        for name in ("", "nowhere/x", f"{words[1]}/x", "/dev/full", "n" * 300):
+            bench.case("an output that fails", swapped(words, place, name), {name: FAULT})
+        bench.case("an output that is thrown away", swapped(words, place, "/dev/null"))
         with special(bench, os.mkdir) as name:
-            bench.case("an output that fails", swapped(words, 2, name), {name: FAULT})
+            bench.case("an output that fails", swapped(words, place, name), {name: FAULT})
         for name in files:
             bench.only(files)
-            bench.case("an output that is an input", swapped(words, 2, name))
+            bench.case("an output that is an input", swapped(words, place, name))
         bench.only(files)
         for broken in files:
             bench.put(broken, b"\0")
-            bench.case("an output that is an input", swapped(words, 2, broken))
+            bench.case("an output that is an input", swapped(words, place, broken))
             bench.put(broken, files[broken])
     for words, places, files in FORMS.values():
         for broken in (None, *places):
@@ -917,7 +1010,7 @@ def words_of_no_form(bench):
             bench.case("words that are no text", swapped(words, at, bad), want=(3, "", {}))
     for words, places, _ in FORMS.values():
         for at in range(1, len(words)):
-            if at in places or words[0] in ("asm", "link"):
+            if at in places or words[0] in OUTPUTS:
                 bench.case("empty words", swapped(words, at, ""), {"": FAULT})
         bench.case("empty words", [words[0]] + [""] * (len(words) - 1), {"": FAULT})
 
