@@ -12,6 +12,7 @@ use Rattle.depth_cert.specs.declared.keys.Key.{Key}
 use Rattle.depth_cert.specs.declared.points.Exit.{Exit}
 
 -- ---- keys: kind 0 is the start, 1 a call, 2 an interrupt, 3 a system call, 4 a misaligned access
+-- the start frame begins at the entry of the image, at priority 0, on the stack that the plan names
 abbrev pub start_key : ImageData → PlanData → Key
 start_key image plan = record { kind = 0; entry = image.entry; prio = 0; is = plan.start_is }
 

@@ -25,6 +25,7 @@ pub record FindsFaultless (b : Limits) (image : ImageData) (plan : PlanData) (ke
   pub code : IsCode image plan p (shape_of found.0) found.1
 
 -- ---- rules 9 and 10, where the address of the access is one of these
+-- rule 9: each possible store lies wholly in one ram range or one device range
 abbrev pub StoresInRangeAt : PlanData → Val → Shape → Type 0
 StoresInRangeAt plan at (Store src base offset size after) = AreStoresInRange plan at size
 StoresInRangeAt plan at _ = Unit {0}

@@ -79,7 +79,8 @@ fn handler_with(s: &State, sp: Val, ccpn: u8) -> Change
 /// The entry of a handler at this CCPN.
 pub fn handler_change(b: &Bounds, plan: &Plan, key: &Key, s: &State, ccpn: u8) -> Change
     requires { AreValues b.now s.now.regs }
-    ensures entry { changed s.now result ≡ entry_with (stack_of plan.now key.now s.now) false ccpn true }
+    ensures entry { changed s.now result
+        ≡ entry_with (stack_of plan.now key.now s.now) false ccpn true }
     ensures values { AreValues b.now (changed s.now result).regs }
 {
     let _most_words = b.most_words();

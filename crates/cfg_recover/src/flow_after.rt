@@ -57,7 +57,9 @@ fn with_lower(regs: &[Val; 27], lower: &[Val; 14]) -> [Val; 27]
 
 /// The value of a place: the exit's for a lower register, else the one that it had.
 fn restored<'a>(i: usize, lower: &'a [Val; 14], v: &'a Val) -> &'a Val
-    ensures { result.now ≡ (if effects.is_lower_slot i then slice_index_or lower.now (if nat_lt i 8 then i else i - 8) any_val else v.now) }
+    ensures { result.now
+        ≡ (if effects.is_lower_slot i
+        then slice_index_or lower.now (if nat_lt i 8 then i else i - 8) any_val else v.now) }
 {
     if i < 8 {
         &lower[i]

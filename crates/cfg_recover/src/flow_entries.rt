@@ -30,7 +30,8 @@ pub(crate) fn entry(
     size: u32,
 ) -> Option<Enter>
     requires { AreValues b.now s.now.regs }
-    ensures entry { told_entry (rule_of_entry result) key.now result ≡ entries_of plan.now key.now addr s.now (shape_of inst.now) size }
+    ensures entry { told_entry (rule_of_entry result) key.now result
+        ≡ entries_of plan.now key.now addr s.now (shape_of inst.now) size }
     ensures values { EntersWithValues b.now result }
 {
     let resume = Some(addr.wrapping_add(size));
@@ -60,7 +61,8 @@ pub(crate) fn misaligned(
     inst: &Inst,
 ) -> Option<Enter>
     requires { AreValues b.now s.now.regs }
-    ensures entry { told_entry 10 key.now result ≡ misaligned_of b.now plan.now key.now s.now (shape_of inst.now) }
+    ensures entry { told_entry 10 key.now result
+        ≡ misaligned_of b.now plan.now key.now s.now (shape_of inst.now) }
     ensures values { EntersWithValues b.now result }
 {
     match shape(inst) {
@@ -85,7 +87,8 @@ fn unless_aligned(
     requires values { AreValues b.now s.now.regs }
     requires at { IsValue b.now at.now }
     requires size { IsSize size }
-    ensures entry { told_entry 10 key.now result ≡ misaligned_at plan.now key.now s.now at.now size }
+    ensures entry { told_entry 10 key.now result
+        ≡ misaligned_at plan.now key.now s.now at.now size }
     ensures values { EntersWithValues b.now result }
 {
     if is_aligned(b, at, size) {
@@ -112,7 +115,8 @@ pub fn is_aligned(b: &Bounds, at: &Val, size: u8) -> bool
 /// Whether the instruction leaves its frame.
 #[tactic(auto, unfolding(crate::specs::Flows::leave_of))]
 pub(crate) fn leaving(key: &Key, s: &State, inst: &Inst) -> Leave
-    ensures told { told_leaving key.now s.now result ≡ leavings_of key.now s.now (shape_of inst.now) }
+    ensures told { told_leaving key.now s.now result
+        ≡ leavings_of key.now s.now (shape_of inst.now) }
     ensures leave { result ≡ leave_of (shape_of inst.now) }
 {
     match shape(inst) {

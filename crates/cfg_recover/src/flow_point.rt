@@ -57,7 +57,8 @@ fn flow_of(
     requires values { AreValues b.now s.now.regs }
     requires room { HasRoom b.now (shape_of inst.now) s.now }
     ensures values { HasValues b.now result }
-    ensures told { told_by plan.now key.now s.now result ≡ duties_of b.now image.now plan.now key.now addr s.now (shape_of inst.now) size }
+    ensures told { told_by plan.now key.now s.now result
+        ≡ duties_of b.now image.now plan.now key.now addr s.now (shape_of inst.now) size }
     ensures entry { result.irq_entry ≡ irq_entry plan.now key.now s.now 0 }
     ensures leaves { result.leave ≡ leave_of (shape_of inst.now) }
 {

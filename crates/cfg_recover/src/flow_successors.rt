@@ -33,7 +33,8 @@ pub(crate) fn successors(
     requires values { AreValues b.now s.now.regs }
     requires room { HasRoom b.now (shape_of inst.now) s.now }
     ensures values { All (JumpsWithValues b.now) result }
-    ensures jumps { told_jumps result ≡ successors_of b.now image.now plan.now addr s.now (shape_of inst.now) size }
+    ensures jumps { told_jumps result
+        ≡ successors_of b.now image.now plan.now addr s.now (shape_of inst.now) size }
 {
     let next = addr.wrapping_add(size);
     match shape(inst) {
@@ -58,7 +59,8 @@ pub(crate) fn successors(
 fn side(b: &Bounds, plan: &Plan, inst: &Inst, s: &State, taken: bool, to: u32) -> Option<Jump>
     requires { AreValues b.now s.now.regs }
     ensures values { JumpsWithValues b.now result }
-    ensures jump { told_jump result ≡ jump_on to (refine_of b.now plan.now (shape_of inst.now) s.now taken) }
+    ensures jump { told_jump result
+        ≡ jump_on to (refine_of b.now plan.now (shape_of inst.now) s.now taken) }
 {
     let state = refine(b, plan, inst, s, taken)?;
     Some(Jump {
@@ -80,7 +82,8 @@ fn step(
     requires values { AreValues b.now s.now.regs }
     requires room { HasRoom b.now (shape_of inst.now) s.now }
     ensures values { JumpsWithValues b.now (Some result) }
-    ensures jump { told_jump (Some result) ≡ next_of b.now image.now plan.now addr s.now (shape_of inst.now) size }
+    ensures jump { told_jump (Some result)
+        ≡ next_of b.now image.now plan.now addr s.now (shape_of inst.now) size }
 {
     let value = loaded(b, image, plan, s, inst);
     Jump {
@@ -107,7 +110,8 @@ fn loaded(b: &Bounds, image: &Image, plan: &Plan, s: &State, inst: &Inst) -> Val
 pub fn loaded_from(b: &Bounds, image: &Image, plan: &Plan, shape: Shape, at: &Val) -> Val
     requires shape { IsShape shape }
     requires value { IsValue b.now at.now }
-    ensures loaded { (s : State) → at.now ≡ address_of b.now plan.now shape s → result ≡ loaded_at b.now image.now plan.now s shape }
+    ensures loaded { (s : State) → at.now ≡ address_of b.now plan.now shape s
+        → result ≡ loaded_at b.now image.now plan.now s shape }
     ensures value { IsValue b.now result }
 {
     match shape {

@@ -32,6 +32,20 @@ pub fn entered_key(key: &Key, kind: u8, entry: u32) -> Key
     }
 }
 
+/// The key of the handler of system calls, entered from a frame.
+pub fn sys_key(plan: &Plan, key: &Key) -> Key
+    ensures { result ≡ entries.sys_key plan.now key.now }
+{
+    entered_key(key, 3, plan.btv | 6 * 32)
+}
+
+/// The key of the handler of misaligned accesses, entered from a frame.
+pub fn aln_key(plan: &Plan, key: &Key) -> Key
+    ensures { result ≡ entries.aln_key plan.now key.now }
+{
+    entered_key(key, 4, plan.btv | 2 * 32)
+}
+
 /// The key of the handler of interrupts of a priority.
 pub fn irq_key(plan: &Plan, prio: u8) -> Key
     ensures { result ≡ entries.irq_key plan.now prio }

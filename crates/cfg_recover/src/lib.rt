@@ -25,7 +25,7 @@ pub use flow_point::flow;
 pub use flow_successors::loaded_from;
 pub use flow_targets::targets;
 pub use flows::{Enter, Flow, Jump, Leave};
-pub use keys::{entered_key, irq_key, start_key};
+pub use keys::{aln_key, entered_key, irq_key, start_key, sys_key};
 pub use laws::{fault_laws, frame_laws, move_laws};
 pub use local::{Located, local_check};
 pub use start::start_state;

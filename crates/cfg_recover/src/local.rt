@@ -67,7 +67,9 @@ pub(crate) fn local_or_code(
     s: &State,
 ) -> Result<(Inst, u32), u8>
     requires { AreValues b.now s.now.regs }
-    ensures { MatchResult result (FindsFaultless b.now image.now plan.now key.now addr s.now) (IsLocalFault b.now image.now plan.now key.now addr s.now) }
+    ensures { MatchResult result
+        (FindsFaultless b.now image.now plan.now key.now addr s.now)
+        (IsLocalFault b.now image.now plan.now key.now addr s.now) }
 {
     let Some(found) = code_at(image, plan, addr) else {
         return Err(3);

@@ -73,7 +73,9 @@ fn has_no_locals(s: &State) -> bool
 /// Whether the handler may go back by its registers: that of a system call is awaited by its caller; that of an interrupt or
 /// of a misaligned access, which may come anywhere, has the lower registers that it was entered with.
 fn is_done(key: &Key, s: &State) -> bool
-    ensures { IsTrue result ↔ ((((key.now.kind ≡ 2) ⊎ (key.now.kind ≡ 4)) × (s.now.lower ≡ true)) ⊎ (key.now.kind ≡ 3)) }
+    ensures { IsTrue result
+        ↔ ((((key.now.kind ≡ 2) ⊎ (key.now.kind ≡ 4)) × (s.now.lower ≡ true))
+        ⊎ (key.now.kind ≡ 3)) }
 {
     match key.kind {
         2 | 4 => s.lower,

@@ -17,10 +17,13 @@ pub use links::{PcxiParts, address_of, link_of, pcxi_parts, pcxi_word};
 
 /// What a save, a restore and a store do to the chains.
 pub fn chain_laws()
-    ensures save { (mem : Memory) (pcxi fcx f : ℕ) (free used : List ℕ) → SaveMoves mem pcxi fcx f free used }
-    ensures restore { (mem : Memory) (pcxi fcx l : ℕ) (used free : List ℕ) → RestoreMoves mem pcxi fcx l used free }
+    ensures save { (mem : Memory) (pcxi fcx f : ℕ) (free used : List ℕ)
+        → SaveMoves mem pcxi fcx f free used }
+    ensures restore { (mem : Memory) (pcxi fcx l : ℕ) (used free : List ℕ)
+        → RestoreMoves mem pcxi fcx l used free }
     ensures misses { StoreMisses }
-    ensures store { (old new : Memory) (word : ℕ) (links : List ℕ) → StoreLeaves old new word links }
+    ensures store { (old new : Memory) (word : ℕ) (links : List ℕ)
+        → StoreLeaves old new word links }
 {}
 
 /// What a save and a restore by the owner of one of several chains do to all of them.

@@ -37,7 +37,9 @@ pub fn put_u32(out: &mut Vec<u8>, x: u32) -> Result<(), NoMemory>
     ensures err { OnErr result (out.new.items ≡ out.old.items) }
 
     // A reader at the word reads it, and then stands before whatever comes after it.
-    ensures back { OnOk result ((rest : List ℕ) → u32_at (between out.old.items (bytes_of_word x ++ rest)) ≡ Ok (x, between out.new.items rest)) }
+    ensures back { OnOk result ((rest : List ℕ)
+        → u32_at (between out.old.items (bytes_of_word x ++ rest))
+        ≡ Ok (x, between out.new.items rest)) }
 {
     out.extend_from_slice(&x.to_le_bytes())?;
     Ok(())

@@ -61,7 +61,8 @@ pub fn read_u32(c: &mut Cursor<'_>) -> Result<u32, FormErr>
 #[tactic(auto, unfolding(crate::specs::Reading::bytes_at))]
 pub fn read_bytes<'a>(c: &mut Cursor<'a>, n: usize) -> Result<&'a [u8], FormErr>
     requires { length c.old.bytes ≤ 2 ^ 30 }
-    ensures read { MatchResult result (λ r. bytes_at n c.old ≡ Ok (r.now, c.new)) (λ e. bytes_at n c.old ≡ Err e) }
+    ensures read { MatchResult result (λ r. bytes_at n c.old ≡ Ok (r.now, c.new))
+        (λ e. bytes_at n c.old ≡ Err e) }
     ensures bytes { c.new.bytes ≡ c.old.bytes }
 {
     let at = c.place();

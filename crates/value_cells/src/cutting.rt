@@ -8,7 +8,8 @@ use tcd_base::Range;
 
 /// Appends the parts that are left of a range below and above the word at an address.
 fn push_parts(ranges: &mut ArrayVec<Range, 16>, r: &Range, at: u32)
-    requires room { length ranges.old.items + length (part_below at r.now ++ part_above at r.now) ≤ 16 }
+    requires room { length ranges.old.items
+        + length (part_below at r.now ++ part_above at r.now) ≤ 16 }
     requires fits { r.now.at + r.now.len ≤ 2 ^ 32 }
     requires word { at + 4 ≤ 2 ^ 32 }
     ensures { ranges.new.items ≡ ranges.old.items ++ (part_below at r.now ++ part_above at r.now) }

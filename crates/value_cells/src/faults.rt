@@ -31,7 +31,8 @@ fn keeps_point(b: &Bounds, image: &Image, plan: &Plan, point: &Point, cells: &[C
 fn node_break(b: &Bounds, image: &Image, plan: &Plan, node: &Node, cells: &[Cell]) -> Option<u32>
     requires values { All (λ p. AreValues b.now p.state.regs) node.now.points }
     requires cells { All (λ c. c.at + 4 ≤ 2 ^ 32) cells.now }
-    ensures none { IfNone result (All (KeepsCellsAtPoint b.now image.now plan.now cells.now) node.now.points) }
+    ensures none { IfNone result
+        (All (KeepsCellsAtPoint b.now image.now plan.now cells.now) node.now.points) }
     ensures some { IfSome result (IsNodeBreak b.now image.now plan.now cells.now node.now) }
 {
     for point in &node.points {
@@ -48,7 +49,8 @@ fn node_break(b: &Bounds, image: &Image, plan: &Plan, node: &Node, cells: &[Cell
 pub fn cells_fault(image: &Image, plan: &Plan, cells: &Cells, cert: &Cert) -> Option<(Key, u32)>
     requires cells { AreCells plan.now cells.now }
     requires accepted { Accepts image.now (spec.with_cells plan.now cells.now) cert.now }
-    ensures none { IfNone result (KeepsCells image.now (spec.with_cells plan.now cells.now) cells.now cert.now) }
+    ensures none { IfNone result
+        (KeepsCells image.now (spec.with_cells plan.now cells.now) cells.now cert.now) }
     ensures some { let other = spec.with_cells plan.now cells.now in
         IfSome result (λ f. IsFirstBreak image.now other cells.now cert.now f.0 f.1) }
 {

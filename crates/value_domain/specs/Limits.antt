@@ -1,4 +1,4 @@
--- The thresholds of a plan, and the limits of a version.
+-- Limits of values and states: the thresholds, and how many words and locals there may be.
 use Rattle.std.specs.Prelude.{◌≤◌, ℕ, List}
 use Rattle.value_domain.specs.declared.limits.Bounds.TheInside.{Inside}
 

@@ -5,7 +5,7 @@ use Rattle.value_domain.specs.declared.states.State.{State}
 use Rattle.value_domain.specs.Limits.{Limits}
 use Rattle.value_domain.specs.Values.{IsWell, IsValue, IsBelow, cover, members, any_val}
 
--- each register of a list has a well-formed value, a value of the plan, a value below another's
+-- each register of a list has a well-formed value
 abbrev pub AreWell : List Val → Type 0
 AreWell vs = (r : ℕ) → r < length vs → IsWell (slice_index_or vs r any_val)
 

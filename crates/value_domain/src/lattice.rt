@@ -97,7 +97,8 @@ pub fn extent_of(v: &Val) -> Extent
 }
 
 fn span(b: &Bounds, least: u32, greatest: u32, step: u8) -> Val
-    ensures { result ≡ Span (floor b.now.thresholds least) (above b.now.thresholds greatest - 1) step }
+    ensures { result
+        ≡ Span (floor b.now.thresholds least) (above b.now.thresholds greatest - 1) step }
 {
     Val::Span {
         lo: b.floor(least),
@@ -146,7 +147,10 @@ fn put_word(b: &Bounds, v: &mut Val, x: u32)
 }
 
 fn wider(b: &Bounds, e: &Extent, x: u32) -> Val
-    ensures { result ≡ Span (floor b.now.thresholds (min x e.now.least)) (above b.now.thresholds (max x e.now.greatest) - 1) (min (sets.alignment_log2 x) e.now.step) }
+    ensures { result
+        ≡ Span (floor b.now.thresholds (min x e.now.least))
+        (above b.now.thresholds (max x e.now.greatest) - 1)
+        (min (sets.alignment_log2 x) e.now.step) }
 {
     span(
         b,
@@ -191,7 +195,8 @@ fn widen(b: &Bounds, v: &mut Val, words: &[u32])
 
 /// The extent of words that have this one, and of more.
 fn extent_with(e: &Extent, words: &[u32]) -> Extent
-    ensures { (xs : List ℕ) → IsExtent xs e.now.least e.now.greatest e.now.step → IsExtent (xs ++ words.now) result.least result.greatest result.step }
+    ensures { (xs : List ℕ) → IsExtent xs e.now.least e.now.greatest e.now.step
+        → IsExtent (xs ++ words.now) result.least result.greatest result.step }
 {
     let mut least = e.least;
     let mut greatest = e.greatest;

@@ -59,7 +59,9 @@ pub fn covers(upper: &State, s: &State) -> bool
 
 /// Whether the context of a state covers this one.
 pub fn covers_context(upper: &State, ie: bool, ccpn: u8, lower: bool) -> bool
-    ensures { IsTrue result ↔ ((IsTrue ie → IsTrue upper.now.ie) × (upper.now.ccpn ≤ ccpn) × (IsTrue upper.now.lower → IsTrue lower)) }
+    ensures { IsTrue result
+        ↔ ((IsTrue ie → IsTrue upper.now.ie) × (upper.now.ccpn ≤ ccpn)
+        × (IsTrue upper.now.lower → IsTrue lower)) }
 {
     implies(ie, upper.ie) && upper.ccpn <= ccpn && implies(upper.lower, lower)
 }

@@ -36,7 +36,8 @@ impl Words {
 
     /// The words, if they ascend and are neither none nor too many.
     pub fn of(words: &[u32]) -> Option<Words>
-        ensures some { IsSome result ↔ ((1 ≤ length words.now) × (length words.now ≤ 128) × IsStrictlyIncreasing words.now) }
+        ensures some { IsSome result
+            ↔ ((1 ≤ length words.now) × (length words.now ≤ 128) × IsStrictlyIncreasing words.now) }
         ensures value { IfSome result (λ w. w ≡ words.now) }
     {
         if words.is_empty() || words.len() > 128 || !are_ascending(words) {

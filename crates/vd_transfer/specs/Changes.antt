@@ -23,6 +23,7 @@ abbrev pub value_put : List Val → Val → Option ℕ → List Val
 value_put vs v None = vs
 value_put vs v (Some i) = slice_set vs i v
 
+-- the values with what is put at its place
 abbrev pub put_in : List Val → Put → List Val
 put_in vs put = value_put vs put.value put.at
 

@@ -73,7 +73,8 @@ pub(crate) fn left(b: &Bounds, cond: Cond, side: bool, v: &Val, w: &Val) -> Opti
 pub(crate) fn right(b: &Bounds, cond: Cond, side: bool, v: &Val, w: &Val) -> Option<Val>
     requires left { IsValue b.now v.now }
     requires right { IsValue b.now w.now }
-    ensures kept { result ≡ cover_some b.now (kept_right cond side (members v.now) (members w.now)) }
+    ensures kept { result
+        ≡ cover_some b.now (kept_right cond side (members v.now) (members w.now)) }
     ensures value { IfSome result (IsValue b.now) }
 {
     let rel = converse(relation(cond, side));

@@ -29,7 +29,9 @@ fn same(b: &Bounds, s: &State) -> Change
 fn computed(b: &Bounds, plan: &Plan, s: &State, op: Op, dst: u8, x: Arg, y: Arg) -> Change
     requires operands { IsArg x × IsArg y }
     requires values { AreValues b.now s.now.regs }
-    ensures write { changed s.now result ≡ write_reg s.now dst (value_of b.now op (arg_of plan.now s.now x) (arg_of plan.now s.now y)) }
+    ensures write { changed s.now result
+        ≡ write_reg s.now dst
+        (value_of b.now op (arg_of plan.now s.now x) (arg_of plan.now s.now y)) }
     ensures values { AreValues b.now (changed s.now result).regs }
 {
     let v = operation(b, op, &arg(b, plan, s, x), &arg(b, plan, s, y));
@@ -39,7 +41,10 @@ fn computed(b: &Bounds, plan: &Plan, s: &State, op: Op, dst: u8, x: Arg, y: Arg)
 fn scaled(b: &Bounds, plan: &Plan, s: &State, dst: u8, base: u8, index: u8, n: u8) -> Change
     requires registers { (base < 32) × (index < 32) }
     requires values { AreValues b.now s.now.regs }
-    ensures write { changed s.now result ≡ write_reg s.now dst (value_of b.now Add (reg_of plan.now s.now base) (value_of b.now Sh (reg_of plan.now s.now index) (word_val n))) }
+    ensures write { changed s.now result
+        ≡ write_reg s.now dst
+        (value_of b.now Add (reg_of plan.now s.now base)
+        (value_of b.now Sh (reg_of plan.now s.now index) (word_val n))) }
     ensures values { AreValues b.now (changed s.now result).regs }
 {
     let by = operation(
@@ -85,7 +90,8 @@ fn loaded_into(
     requires base { IsArg base }
     requires values { AreValues b.now s.now.regs }
     requires loaded { IsValue b.now v }
-    ensures write { changed s.now result ≡ write_reg (with_base b.now plan.now s.now base offset after) dst v }
+    ensures write { changed s.now result
+        ≡ write_reg (with_base b.now plan.now s.now base offset after) dst v }
     ensures values { AreValues b.now (changed s.now result).regs }
 {
     let mut c = increased(b, plan, s, base, offset, after);

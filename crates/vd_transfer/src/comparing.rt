@@ -35,7 +35,7 @@ fn base_value<'a>(s: &'a State, base: Base, any: &'a Val, i: usize) -> &'a Val
 }
 
 /// The value of a changed state at a place; `any` stands for each that is no more known.
-fn value_in<'a>(s: &'a State, c: &'a Change, any: &'a Val, i: usize) -> &'a Val
+pub fn changed_value<'a>(s: &'a State, c: &'a Change, any: &'a Val, i: usize) -> &'a Val
     requires place { i < 27 }
     requires any { any.now ≡ any_val }
     ensures { result.now ≡ slice_index_or (changed s.now c.now).regs i any_val }
@@ -63,7 +63,7 @@ pub(crate) fn changed_reg(b: &Bounds, plan: &Plan, s: &State, c: &Change, r: u8)
     let _most_words = b.most_words();
     let _globals = &plan.globals;
     match slot_of(r) {
-        Some(i) => value_in(s, c, &Val::any(), i).copy(),
+        Some(i) => changed_value(s, c, &Val::any(), i).copy(),
         None => fixed(plan, r),
     }
 }
@@ -76,7 +76,7 @@ fn are_below(s: &State, c: &Change, high: &[Val; 27]) -> bool
     let _regs = &s.regs[..];
     let any = Val::any();
     for i in 0..27 {
-        if !leq(value_in(s, c, &any, i), &high[i]) {
+        if !leq(changed_value(s, c, &any, i), &high[i]) {
             return false;
         }
     }
@@ -105,7 +105,7 @@ fn changed_regs(s: &State, c: &Change) -> [Val; 27]
     let any = Val::any();
     let mut out = std::array::from_fn(|_| Val::any());
     for i in 0..27 {
-        out[i] = value_in(s, c, &any, i).copy();
+        out[i] = changed_value(s, c, &any, i).copy();
     }
     out
 }

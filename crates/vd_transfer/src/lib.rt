@@ -18,7 +18,7 @@ mod transferring;
 pub use branching::refine;
 pub use changes::{Base, Change, Put, put_register, unchanged};
 pub use changing::change_of;
-pub use comparing::{changed_state, covers_changed};
+pub use comparing::{changed_state, changed_value, covers_changed};
 pub use laws::{effect_laws, operation_laws, refinement_laws};
 pub use narrowing::change_on;
 pub use registers::reg;

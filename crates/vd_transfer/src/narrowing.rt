@@ -92,7 +92,8 @@ fn narrowed(
 ) -> Option<Change>
     requires operands { (x < 32) × IsArg y }
     requires values { AreValues b.now s.now.regs }
-    ensures refined { option_map (λ c. changed s.now c) result ≡ refined b.now plan.now cond x y s.now side }
+    ensures refined { option_map (λ c. changed s.now c) result
+        ≡ refined b.now plan.now cond x y s.now side }
     ensures values { IfSome result (λ c. AreValues b.now (changed s.now c).regs) }
     ensures free { IfSome result (λ c. c.third ≡ no_put) }
 {
@@ -116,7 +117,8 @@ fn lower(b: &Bounds, plan: &Plan, x: u8, lowers: bool, s: &State, c: Change) -> 
     requires register { x < 32 }
     requires values { AreValues b.now (changed s.now c).regs }
     requires free { c.third ≡ no_put }
-    ensures lowered { Some (changed s.now result) ≡ lowered b.now plan.now x lowers (Some (changed s.now c)) }
+    ensures lowered { Some (changed s.now result)
+        ≡ lowered b.now plan.now x lowers (Some (changed s.now c)) }
     ensures values { AreValues b.now (changed s.now result).regs }
 {
     if !lowers {
@@ -133,7 +135,8 @@ fn lower(b: &Bounds, plan: &Plan, x: u8, lowers: bool, s: &State, c: Change) -> 
 pub fn change_on(b: &Bounds, plan: &Plan, shape: Shape, s: &State, side: bool) -> Option<Change>
     requires shape { IsShape shape }
     requires values { AreValues b.now s.now.regs }
-    ensures refine { option_map (λ c. changed s.now c) result ≡ refine_of b.now plan.now shape s.now side }
+    ensures refine { option_map (λ c. changed s.now c) result
+        ≡ refine_of b.now plan.now shape s.now side }
     ensures values { IfSome result (λ c. AreValues b.now (changed s.now c).regs) }
 {
     match shape {

@@ -33,7 +33,8 @@ pub(crate) fn signed(x: u32) -> u32
 /// One more word.
 pub(crate) fn add(b: &Bounds, v: Option<Val>, x: u32) -> Option<Val>
     requires { IfSome v (IsValue b.now) }
-    ensures more { (xs : List ℕ) → v ≡ cover_some b.now xs → result ≡ cover_some b.now (xs ++ x ∷ []) }
+    ensures more { (xs : List ℕ) → v ≡ cover_some b.now xs
+        → result ≡ cover_some b.now (xs ++ x ∷ []) }
     ensures value { IfSome result (IsValue b.now) }
 {
     let _most_words = b.most_words();
@@ -47,7 +48,8 @@ pub(crate) fn add(b: &Bounds, v: Option<Val>, x: u32) -> Option<Val>
 pub(crate) fn join_some(b: &Bounds, v: Option<Val>, w: Option<Val>) -> Option<Val>
     requires left { IfSome v (IsValue b.now) }
     requires right { IfSome w (IsValue b.now) }
-    ensures both { (xs : List ℕ) (ys : List ℕ) → v ≡ cover_some b.now xs → w ≡ cover_some b.now ys → result ≡ cover_some b.now (xs ++ ys) }
+    ensures both { (xs : List ℕ) (ys : List ℕ) → v ≡ cover_some b.now xs → w ≡ cover_some b.now ys
+        → result ≡ cover_some b.now (xs ++ ys) }
     ensures value { IfSome result (IsValue b.now) }
 {
     match v {

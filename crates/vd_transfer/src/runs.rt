@@ -64,7 +64,8 @@ pub(crate) fn run_of(op: Op, e: &Extent, f: &Extent, w: &Val) -> Run
 fn sum(e: &Extent, f: &Extent) -> Run
     requires left { e.now.least ≤ e.now.greatest }
     requires right { f.now.least ≤ f.now.greatest }
-    ensures { result ≡ sums e.now.least e.now.greatest f.now.least f.now.greatest (min e.now.step f.now.step) }
+    ensures { result
+        ≡ sums e.now.least e.now.greatest f.now.least f.now.greatest (min e.now.step f.now.step) }
 {
     let first = u64::from(e.least) + u64::from(f.least);
     let last = u64::from(e.greatest) + u64::from(f.greatest);
@@ -94,7 +95,9 @@ fn sum(e: &Extent, f: &Extent) -> Run
 fn difference(e: &Extent, f: &Extent) -> Run
     requires left { e.now.least ≤ e.now.greatest }
     requires right { f.now.least ≤ f.now.greatest }
-    ensures { result ≡ differences e.now.least e.now.greatest f.now.least f.now.greatest (min e.now.step f.now.step) }
+    ensures { result
+        ≡ differences e.now.least e.now.greatest f.now.least f.now.greatest
+        (min e.now.step f.now.step) }
 {
     let step = e.step.min(f.step);
     if f.greatest <= e.least {

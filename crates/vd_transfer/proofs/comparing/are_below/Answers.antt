@@ -8,7 +8,7 @@ use Rattle.vd_transfer.proofs.comparing.are_below.Goals as goal
 pub leq-requires-clause-left : goal.leq-requires-clause-left
 leq-requires-clause-left c =
     let len : length (changed c.args.s.now c.args.c.now).regs ≡ 27 = length-changed c.args.s.now c.args.c.now (omega arith) in
-    rw c.value_in.ensures (c.requires.low c.loop-i.i (omega arith))
+    rw c.changed_value.ensures (c.requires.low c.loop-i.i (omega arith))
 
 pub returns-then-not-leq : goal.returns-then-not-leq
 returns-then-not-leq c =
@@ -17,14 +17,14 @@ returns-then-not-leq c =
       (λ t. absurd (let g : false ≡ true = t in cc)),
       (λ below.
           let here = rw f at (below c.loop-i.i (omega arith)) in
-          sym c.if-not-leq.true ∙ c.leq.ensures.1 (rw (c.value_in.ensures, ← c.index-high-i.is) here)),
+          sym c.if-not-leq.true ∙ c.leq.ensures.1 (rw (c.changed_value.ensures, ← c.index-high-i.is) here)),
     )
 
 pub loop-i-preserved : goal.loop-i-preserved
 loop-i-preserved c =
     let f = read_at c.args.high.now c.loop-i.i c.index-high-i.result any_val (omega arith) c.index-high-i.is in
     below_more (changed c.args.s.now c.args.c.now).regs c.args.high.now c.loop-i.i c.loop-i.invariant
-    (rw f (rw (c.value_in.ensures, ← c.index-high-i.is) at (c.leq.ensures.0 c.if-not-leq.false)))
+    (rw f (rw (c.changed_value.ensures, ← c.index-high-i.is) at (c.leq.ensures.0 c.if-not-leq.false)))
 
 pub returns : goal.returns
 returns c =

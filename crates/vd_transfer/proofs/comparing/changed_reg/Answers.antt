@@ -5,7 +5,7 @@ use Rattle.vd_transfer.proofs.comparing.changed_reg.Goals as goal
 
 pub returns-in-Some-clause-value : goal.returns-in-Some-clause-value
 returns-in-Some-clause-value c =
-    rw (c.copy.ensures, c.value_in.ensures) (at_is_value c.args.b.now (changed c.args.s.now c.args.c.now).regs c.in-Some.i c.most_words-most_words.ensures.limits c.requires.values)
+    rw (c.copy.ensures, c.changed_value.ensures) (at_is_value c.args.b.now (changed c.args.s.now c.args.c.now).regs c.in-Some.i c.most_words-most_words.ensures.limits c.requires.values)
 
 pub returns-in-None-clause-value : goal.returns-in-None-clause-value
 returns-in-None-clause-value c =

@@ -14,7 +14,7 @@ loop-i-preserved c =
     let len : length regs ≡ 27 = length-changed c.args.s.now c.args.c.now (omega arith) in (
       take_more_set c.loop-i.out i c.copy.result (omega (arith, c.loop-i.invariant.1))
           ∙ ap (λ (l : List Val). l ++ c.copy.result ∷ []) c.loop-i.invariant.0
-          ∙ ap (λ (u : Val). take i regs ++ u ∷ []) (c.copy.ensures ∙ c.value_in.ensures)
+          ∙ ap (λ (u : Val). take i regs ++ u ∷ []) (c.copy.ensures ∙ c.changed_value.ensures)
           ∙ sym (take_more regs i any_val (omega (arith, len))),
       simp length-set c.loop-i.invariant.1,
     )

@@ -1,6 +1,6 @@
 use Rattle.std.proofs.Common.{sym, arith}
 use Rattle.vd_transfer.proofs.ChangeLaws.{apart, value-third, value-second, value-first}
-use Rattle.vd_transfer.proofs.comparing.value_in.Goals as goal
+use Rattle.vd_transfer.proofs.comparing.changed_value.Goals as goal
 
 pub returns-then-is_at : goal.returns-then-is_at
 returns-then-is_at c = sym (value-third c.args.s.now c.args.c.now c.args.i (omega arith) c.requires.place (c.is_at.ensures.0 c.if-is_at.true))
