@@ -55,22 +55,22 @@ module _ (image : ImageData) where
   image_held m x zero y b held here = here
   image_held m x (suc n) y b held here = some_stays (with_image image m x n) (x + n) y b held (image_held m x n y b held here)
 
-  image_mapped : (m : Memory) (x n y : ℕ) → is_mapped (with_image image m x n) y ≡ is_mapped m y
+  pub image_mapped : (m : Memory) (x n y : ℕ) → is_mapped (with_image image m x n) y ≡ is_mapped m y
   unfolding with_image
   image_mapped m x zero y = refl
   image_mapped m x (suc n) y = mapped_stays (with_image image m x n) (x + n) y (image_byte image (x + n)) ∙ image_mapped m x n y
 
-  image_none : (m : Memory) (x n y : ℕ) → image_byte image y ≡ None → map.get (with_image image m x n) y ≡ map.get m y
+  pub image_none : (m : Memory) (x n y : ℕ) → image_byte image y ≡ None → map.get (with_image image m x n) y ≡ map.get m y
   unfolding with_image
   image_none m x zero y none = refl
   image_none m x (suc n) y none = none_stays (with_image image m x n) (x + n) y none ∙ image_none m x n y none
 
-  image_outside : (m : Memory) (x n y : ℕ) → (y < x) ⊎ (x + n ≤ y) → map.get (with_image image m x n) y ≡ map.get m y
+  pub image_outside : (m : Memory) (x n y : ℕ) → (y < x) ⊎ (x + n ≤ y) → map.get (with_image image m x n) y ≡ map.get m y
   unfolding with_image
   image_outside m x zero y out = refl
   image_outside m x (suc n) y out = other_stays (with_image image m x n) (x + n) y (image_byte image (x + n)) (apart_from x n y out) ∙ image_outside m x n y (less_outside x n y out)
 
-  image_put : (m : Memory) (x n y b : ℕ) → x ≤ y → y < x + n → is_mapped m y ≡ true → image_byte image y ≡ Some b → map.get (with_image image m x n) y ≡ Some b
+  pub image_put : (m : Memory) (x n y b : ℕ) → x ≤ y → y < x + n → is_mapped m y ≡ true → image_byte image y ≡ Some b → map.get (with_image image m x n) y ≡ Some b
   unfolding with_image
   image_put m x zero y b low high here held = absurd (omega arith)
   image_put m x (suc n) y b low high here held =

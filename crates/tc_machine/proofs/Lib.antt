@@ -17,3 +17,4 @@ pub mod Filled
 pub mod Zeros
 pub mod StartMemory
 pub mod Started
+pub mod Copied

@@ -1,9 +1,9 @@
 -- The state that a machine is made in, and how its memory is filled.
-use Rattle.std.specs.Prelude.{◌≡◌, ℕ, zero, suc, ◌+◌, ◌*◌, ◌/◌, ◌%◌, ◌^◌, ◌<◌, Bool, nat_lt, if◌then◌else◌, List, [], ◌∷◌, ◌++◌, slice_index, Option, Some, None}
+use Rattle.std.specs.Prelude.{◌≡◌, ℕ, zero, suc, ◌+◌, ◌*◌, ◌/◌, ◌%◌, ◌^◌, ◌<◌, ◌≤◌, ◌⊎◌, Bool, true, nat_lt, if◌then◌else◌, List, [], ◌∷◌, ◌++◌, slice_index, Option, Some, None}
 use Rattle.std.specs.FinMap as map
-use Rattle.csa_chain.specs.Memory.{Memory, with_byte, with_words}
+use Rattle.csa_chain.specs.Memory.{Memory, is_mapped, with_byte, with_words}
 use Rattle.csa_chain.specs.Chain.{area_word}
-use Rattle.elf_image.specs.Images.{ImageData, image_byte}
+use Rattle.elf_image.specs.Images.{ImageData, SegmentData, byte_in, image_byte}
 use Rattle.tcd_base.specs.declared.types.Range.{Range}
 use Rattle.tcd_plan.specs.PlanData.{PlanData}
 use Rattle.tc_mem.specs.Pages.{IsZeros}
@@ -28,6 +28,14 @@ with_image image m x (suc n) = with_some (with_image image m x n) (x + n) (image
 abbrev pub with_images : ImageData → Memory → List Range → Memory
 with_images image m [] = m
 with_images image m (r ∷ rs) = with_images image (with_image image m r.at r.len) rs
+
+-- The memory after the copy of segments' bytes into a range: each mapped byte of the range that a segment holds is its
+-- byte, all else is as it was, and no byte is mapped or unmapped.
+pub record IsCopied (segments : List SegmentData) (r : Range) (m new : Memory) : Type 0 where
+  pub mapped : (q : ℕ) → is_mapped new q ≡ is_mapped m q
+  pub held : (q b : ℕ) → r.at ≤ q → q < r.at + r.len → is_mapped m q ≡ true → byte_in segments q ≡ Some b → map.get new q ≡ Some b
+  pub outside : (q : ℕ) → (q < r.at) ⊎ (r.at + r.len ≤ q) → map.get new q ≡ map.get m q
+  pub none : (q : ℕ) → byte_in segments q ≡ None → map.get new q ≡ map.get m q
 
 -- the link of the area after area i of n: 0 after the last one
 abbrev pub next_link : ℕ → ℕ → ℕ → ℕ

@@ -1,12 +1,12 @@
 // How the memory of a start state is filled.
-ghost use Rattle.std.specs.Prelude.{◌≡◌, ◌<◌, ◌≤◌, ◌+◌, ◌*◌, ◌^◌, [], ◌∷◌, ◌++◌, All, IfOk};
-ghost use Rattle.csa_chain.specs.Memory.{with_byte};
-ghost use Rattle.elf_image.specs.Images.{image_byte};
+ghost use Rattle.std.specs.Prelude.{◌≡◌, ◌<◌, ◌≤◌, ◌+◌, ◌*◌, ◌^◌, [], ◌∷◌, ◌++◌, map, length, All, IsTrue, IfOk};
+ghost use Rattle.std.specs.List.{list_all};
+ghost use Rattle.elf_image.specs.Images.{segment_data, is_segment};
 ghost use Rattle.csa_chain.specs.MemoryChanges.{HasBytes};
-ghost use Rattle.tc_machine.specs.Starting.{with_some, with_image, with_images, next_link, with_links, link_at, mapped_ranges_of, IsFilled};
+ghost use Rattle.tc_machine.specs.Starting.{with_image, with_images, next_link, with_links, link_at, mapped_ranges_of, IsFilled, IsCopied};
 
 use crate::contexts::put_word;
-use elf_image::Image;
+use elf_image::{Image, Segment};
 use std::alloc::Global;
 use tc_mem::Mem;
 use tcd_base::{NoMemory, Range};
@@ -27,34 +27,44 @@ fn mapped_ranges(
     Ok(ranges)
 }
 
-/// Puts a byte at an address, where it is mapped.
-fn put_byte(mem: &mut Mem, addr: u32, byte: u8)
-    ensures written { mem.new ≡ with_byte mem.old addr byte }
+/// Puts the bytes of a segment that lie in a range there.
+fn copy_segment(mem: &mut Mem, segment: &Segment, range: &Range)
+    requires segment { segment.now.at + length segment.now.bytes.items ≤ 2 ^ 32 }
+    requires range { range.now.at + range.now.len ≤ 2 ^ 32 }
+    ensures copied { IsCopied (segment_data segment.now ∷ []) range.now mem.old mem.new }
     ensures bytes { HasBytes mem.old → HasBytes mem.new }
 {
-    mem.set(addr, byte);
+    let from = segment.at.max(range.at);
+    let end = u64::from(segment.at) + segment.bytes.len() as u64;
+    let to = end.min(u64::from(range.at) + u64::from(range.len));
+    if u64::from(from) < to {
+        let first = (from - segment.at) as usize;
+        let last = (to - u64::from(segment.at)) as usize;
+        mem.set_bytes(from, &segment.bytes[first..last]);
+    }
 }
 
-/// Puts the image's byte at an address there, where it has one.
-fn copy_byte(mem: &mut Mem, image: &Image, addr: u32)
-    ensures copied { mem.new ≡ with_some mem.old addr (image_byte image.now addr) }
+/// Puts the bytes of segments that lie in a range there, those of the first segment last.
+fn copy_segments(mem: &mut Mem, segments: &[Segment], range: &Range)
+    requires segments { IsTrue (list_all is_segment (map segment_data segments.now)) }
+    requires range { range.now.at + range.now.len ≤ 2 ^ 32 }
+    ensures copied { IsCopied (map segment_data segments.now) range.now mem.old mem.new }
     ensures bytes { HasBytes mem.old → HasBytes mem.new }
 {
-    if let Some(byte) = image.byte(addr) {
-        put_byte(mem, addr, byte);
+    let mut rest = segments.len();
+    while rest > 0 {
+        rest -= 1;
+        copy_segment(mem, &segments[rest], range);
     }
 }
 
 /// Puts the image's bytes into a range.
-#[tactic(auto, unfolding(crate::specs::Starting::with_image))]
 fn copy_range(mem: &mut Mem, image: &Image, range: &Range)
     requires { range.now.at + range.now.len ≤ 2 ^ 32 }
     ensures copied { mem.new ≡ with_image image.now mem.old range.now.at range.now.len }
     ensures bytes { HasBytes mem.old → HasBytes mem.new }
 {
-    for i in 0..range.len {
-        copy_byte(mem, image, range.at + i);
-    }
+    copy_segments(mem, &image.segments, range);
 }
 
 /// Puts the image's bytes into the ranges.

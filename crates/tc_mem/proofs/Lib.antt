@@ -8,3 +8,4 @@ pub mod Numbers
 pub mod Search
 pub mod Stored
 pub mod Small
+pub mod Runs

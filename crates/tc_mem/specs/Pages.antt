@@ -1,5 +1,5 @@
 -- Pages of 4,096 bytes, and the memory that a list of them is.
-use Rattle.std.specs.Prelude.{◌≡◌, ◌<◌, ◌+◌, ◌-◌, ◌*◌, ◌/◌, ◌%◌, ◌^◌, ℕ, Bool, ◌==◌, ◌&&◌, nat_le, nat_lt, if◌then◌else◌, List, [], ◌∷◌, ◌++◌, map, length, slice_index, slice_set, Option, Some, None, All}
+use Rattle.std.specs.Prelude.{◌≡◌, ◌<◌, ◌+◌, ◌-◌, ◌*◌, ◌/◌, ◌%◌, ◌^◌, ℕ, Bool, ◌==◌, ◌&&◌, nat_le, nat_lt, if◌then◌else◌, List, [], ◌∷◌, ◌++◌, map, length, take, drop, slice_index, slice_set, Option, Some, None, All}
 use Rattle.std.specs.List.{list_any}
 use Rattle.std.specs.List.Sorted.{IsStrictlyIncreasing}
 use Rattle.std.specs.Int.{bit_at}
@@ -64,6 +64,10 @@ is_in ranges q = list_any (λ r. nat_le r.at q && nat_lt q (r.at + r.len)) range
 -- the ranges are mapped, to zeros, and nothing else
 abbrev pub IsZeros : List Range → Memory → Type 0
 IsZeros ranges m = (q : ℕ) → finite.get m q ≡ (if is_in ranges q then Some 0 else None)
+
+-- these bytes from an offset on, written into the bytes of a page
+abbrev pub with_bytes_at : List ℕ → ℕ → List ℕ → List ℕ
+with_bytes_at bytes offset new = take offset bytes ++ (new ++ drop (offset + length new) bytes)
 
 -- the 32-bit words from an offset on, the last ones first, written into the bytes of a page
 unfoldable pub bytes_with : List ℕ → ℕ → List ℕ → List ℕ

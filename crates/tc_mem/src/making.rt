@@ -77,7 +77,7 @@ pub(crate) fn pages_of(alloc: Global, ranges: &[Range]) -> Result<Vec<Page>, NoM
     ensures zeros { IfOk result (λ v. IsZeros ranges.now (memory_of v.items)) }
 {
     let numbers = page_numbers(alloc, ranges)?;
-    let mut pages = Vec::new(alloc);
+    let mut pages = Vec::with_capacity(alloc, numbers.len())?;
     for number in &numbers {
         pages.push(page_of(*number, ranges))?;
     }

@@ -1,5 +1,5 @@
 // A memory, and its public calls.
-ghost use Rattle.std.specs.Prelude.{◌≡◌, ◌≤◌, ◌+◌, ◌%◌, ◌^◌, All, IfOk};
+ghost use Rattle.std.specs.Prelude.{◌≡◌, ◌≤◌, ◌+◌, ◌%◌, ◌^◌, All, IfOk, length};
 ghost use Rattle.std.specs.Bool.{OnFalse};
 ghost use Rattle.std.specs.FinMap as finite;
 ghost use Rattle.csa_chain.specs.Memory.{is_mapped, are_mapped, with_byte};
@@ -7,9 +7,10 @@ ghost use Rattle.csa_chain.specs.MemoryChanges.{HasBytes};
 ghost use Rattle.tc_mem.specs.Areas.{area_of, with_area};
 ghost use Rattle.tc_mem.specs.Blocks.{are_in_block, word_of, half_of, with_word_in, with_half_in, first_word_of};
 ghost use Rattle.tc_mem.specs.Pages.{IsZeros};
+ghost use Rattle.tc_mem.specs.Runs.{IsWritten};
 
 use crate::making::pages_of;
-use crate::memory::{read, read_area, write, write_area};
+use crate::memory::{read, read_area, write, write_area, write_bytes};
 use crate::memory_words::{read_first, read_half, read_word, write_half, write_word};
 use crate::page::Page;
 use std::alloc::Global;
@@ -66,6 +67,15 @@ impl Mem {
         ensures bytes { HasBytes self.new }
     {
         write(&mut self.pages, addr, byte)
+    }
+
+    /// Writes bytes from an address on, one after another. Those whose address isn't mapped are dropped.
+    pub fn set_bytes(&mut self, addr: u32, bytes: &[u8])
+        requires { addr + length bytes.now ≤ 2 ^ 32 }
+        ensures written { IsWritten self.old addr bytes.now self.new }
+        ensures bytes { HasBytes self.new }
+    {
+        write_bytes(&mut self.pages, addr, bytes);
     }
 
     /// The 16 words of the 64 bytes from an address on, each with its lowest byte first, or nothing where one of the

@@ -1,7 +1,7 @@
 // What is done inside one page.
 ghost use Rattle.std.specs.Prelude.{◌≡◌, ◌≢◌, ◌<◌, ◌≤◌, ◌+◌, ◌-◌, ◌==◌, [], ◌∷◌, ℕ, ◌*◌, ◌/◌, ◌%◌, ◌^◌, All, IfSome, IfNone, is_some, map, length, slice_index, slice_set, if◌then◌else◌};
 ghost use Rattle.tcd_base.specs.Bytes.{word_at};
-ghost use Rattle.tc_mem.specs.Pages.{is_set, byte_of, bytes_with};
+ghost use Rattle.tc_mem.specs.Pages.{is_set, byte_of, bytes_with, with_bytes_at};
 
 use crate::page::Page;
 
@@ -37,6 +37,16 @@ pub(crate) fn put_byte(page: &mut Page, offset: usize, byte: u8) -> bool
         page.bytes[offset] = byte;
     }
     mapped
+}
+
+// Puts bytes at an offset. What an unmapped byte holds is never seen.
+pub(crate) fn put_bytes(page: &mut Page, offset: usize, bytes: &[u8])
+    requires { offset + length bytes.now ≤ 4096 }
+    ensures written { page.new
+        ≡ record page.old { bytes = with_bytes_at page.old.bytes offset bytes.now } }
+    ensures small { All (λ b. b < 2 ^ 8) bytes.now }
+{
+    page.bytes[offset..offset + bytes.len()].copy_from_slice(bytes);
 }
 
 // The word of the four bytes from an offset on, the lowest byte first.
