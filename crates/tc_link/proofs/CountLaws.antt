@@ -1,6 +1,7 @@
 -- Names in a map, counted.
-use Rattle.std.proofs.Common.{◌≡◌, ◌+◌, ◌<◌, ◌∷◌, [], ℕ, zero, suc, Bool, true, false, cond, ◌&&◌, List, length, take, get_or, Option, Some, refl, sym, ap, ◌∙◌, arith, add-zero}
-use Rattle.std.specs.Prelude.{is_some}
+use Rattle.std.proofs.Common.{◌≡◌, ◌+◌, ◌<◌, ◌∷◌, [], ℕ, zero, suc, Bool, true, false, cond, ◌&&◌, eqb, ltb, List, length, take, get_or, Option, Some, None, refl, sym, ap, ◌∙◌, subst, arith, add-zero}
+use Rattle.std.specs.Prelude.{is_some, IfSome}
+use Rattle.std.specs.Option.{option_map}
 use Rattle.std.specs.List.{flat_map, count_by}
 use Rattle.std.specs.Str.{bytes_eq}
 use Rattle.std.proofs.lemmas.Bool.Decides.{same_from_decides, Decides-like, nat_tests}
@@ -9,6 +10,7 @@ use Rattle.std.proofs.lemmas.List.{take_more, append-nil}
 use Rattle.std.proofs.lemmas.List.Concat.{flat_map-append}
 use Rattle.std.proofs.lemmas.List.Sums.{sum_by-append, sum_by_more}
 use Rattle.tc_object.specs.Objects.{SymbolData, ObjectData}
+use Rattle.tc_link.specs.declared.definitions.Definition.{Definition}
 use Rattle.tc_link.specs.Names.{kept}
 use Rattle.tc_link.specs.Linked.{named, globals_named}
 
@@ -37,6 +39,21 @@ add_one old name q n seen new s u e = by_test (bytes_eq name q) refl
         u ∙ ap (λ b. cond b (Some seen) (old q)) t ∙ e
         ∙ ap kept (sym (add-zero n))
         ∙ ap (λ b. kept (n + cond b 1 0)) (sym back)
+
+not_zero : (n : ℕ) → eqb (suc n) 0 ≡ false
+not_zero n = grind (arith, nat_tests)
+
+kept_suc : (n : ℕ) → kept (suc n) ≡ Some (ltb 1 (suc n))
+kept_suc n = ap (λ b. cond {A = Option Bool} b None (Some (ltb 1 (suc n)))) (not_zero n)
+
+-- a name of which not more than one is kept
+single_of : (n : ℕ) (o : Option Bool) → o ≡ kept n → IfSome o (λ t. t ≡ false) → ltb 1 n ≡ false
+single_of zero o e h = refl
+single_of (suc n) o e h = subst (λ (x : Option Bool). IfSome x (λ t. t ≡ false)) (e ∙ kept_suc n) h
+
+pub single_at : (n : ℕ) (o : Option Definition) → option_map (λ d. d.is_twice) o ≡ kept n → IfSome o (λ d. d.is_twice ≡ false) → ltb 1 n ≡ false
+single_at n None e h = single_of n None e tt
+single_at n (Some d) e h = single_of n (Some d.is_twice) e h
 
 -- a symbol that isn't global, and one that is
 pub named_off : (b c : Bool) (n : ℕ) (new : Option Bool) → b ≡ false → new ≡ kept n → new ≡ kept (n + cond (b && c) 1 0)

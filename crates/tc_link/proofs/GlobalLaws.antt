@@ -64,6 +64,24 @@ put_global old name address q new none u = by_test (bytes_eq q name) refl
         ∙ none_or (old q) (Some address) (ap (λ (x : List ℕ). is_some (old x)) same ∙ none)
     by_test false t = u ∙ ap (λ b. cond b (Some address) (old q)) (bytes_eq-sym name q ∙ t) ∙ or_none (old q)
 
+-- what is told of a value that is put at a name
+pub map_cond : {A B : Type 0} (f : A → B) (b : Bool) (x : A) (o : Option A) → option_map f (cond b (Some x) o) ≡ cond b (Some (f x)) (option_map f o)
+map_cond f true x o = refl
+map_cond f false x o = refl
+
+-- of two values at a name the later one counts
+pub put_twice : {A : Type 0} (b : Bool) (x y old new last : Option A) → new ≡ cond b x old → last ≡ cond b y new → last ≡ cond b y old
+put_twice true x y old new last e f = f
+put_twice false x y old new last e f = f ∙ e
+
+-- what a name has, put there again
+pub same_global : (old : List ℕ → Option ℕ) (name q : List ℕ) (a : ℕ) → old name ≡ Some a → cond (bytes_eq name q) (Some a) (old q) ≡ old q
+same_global old name q a h = by_test (bytes_eq name q) refl
+  where
+    by_test : (b : Bool) → bytes_eq name q ≡ b → cond b (Some a) (old q) ≡ old q
+    by_test true t = sym h ∙ ap old ((bytes_eq-Decides name q).0 t)
+    by_test false t = refl
+
 -- the globals of one object more
 pub globals_next : (placed : List PlacedData) (i : ℕ) (p : PlacedData) → i < length placed → p ≡ get_or placed i p
     → globals_of (take i placed) ++ map (global_data p.bases) (filter is_global p.object.symbols) ≡ globals_of (take (i + 1) placed)

@@ -1,8 +1,8 @@
 -- The segments of places keep the limits of an image.
-use Rattle.std.proofs.Common.{◌≡◌, ◌+◌, ◌<◌, ◌≤◌, ◌^◌, ◌∷◌, ◌++◌, [], ℕ, Bool, true, false, cond, ◌&&◌, ◌||◌, max, min, List, length, map, refl, sym, ap, ◌∙◌, subst, arith, leb, ltb}
+use Rattle.std.proofs.Common.{◌≡◌, ◌+◌, ◌<◌, ◌≤◌, ◌^◌, ◌∷◌, ◌++◌, [], ℕ, Bool, true, false, cond, ◌&&◌, ◌||◌, max, min, List, length, map, refl, sym, ◌∙◌, subst, arith, leb, ltb}
 use Rattle.std.specs.Prelude.{filter, IsTrue}
 use Rattle.std.specs.List.{sum_by, list_any, list_all}
-use Rattle.std.proofs.lemmas.Bool.{le-leb, lt-ltb, leb-false, ltb-false, ltb-true}
+use Rattle.std.proofs.lemmas.Bool.{le-leb, leb-false, ltb-false, ltb-true}
 use Rattle.std.proofs.lemmas.List.Folds.{list_any-append}
 use Rattle.std.proofs.lemmas.List.Sums.{sum_by-cons}
 use Rattle.elf_image.specs.Images.{SegmentData, ImageData, AreBytes, IsImage, is_segment, are_apart, all_apart}

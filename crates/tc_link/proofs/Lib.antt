@@ -1,9 +1,9 @@
-pub mod HexLaws
 pub mod LineLaws
 pub mod NameLaws
 pub mod ReadLaws
 pub mod TurnLaws
 pub mod FirstLaws
+pub mod AddressLaws
 pub mod CountLaws
 pub mod RoomLaws
 pub mod ShapeLaws
@@ -12,3 +12,5 @@ pub mod GlobalLaws
 pub mod RelocLaws
 pub mod LinkLaws
 pub mod ItemLaws
+pub mod TwiceLaws
+pub mod PlacedLaws

@@ -1,31 +1,8 @@
--- Lines and words of a text, one after another.
-use Rattle.std.proofs.Common.{◌≡◌, ◌<◌, ◌≤◌, ◌+◌, ◌∷◌, [], ℕ, suc, Bool, true, false, cond, List, length, take, drop, Some, None, refl, ap, sym, ◌∙◌, arith}
-use Rattle.std.specs.Prelude.{position, nat_lt, not, ◌==◌}
-use Rattle.std.specs.List.{slice_split, onto_first, position_or_len}
-use Rattle.std.proofs.lemmas.List.Splits.{slice_split_first, slice_split_none}
-use Rattle.std.proofs.lemmas.List.Sums.{fails_before_first, prefix_len-le-length}
-use Rattle.std.proofs.lemmas.Bool.{ltb-true, ltb-false}
-use Rattle.tc_link.specs.Lines.{lines_of, line_in, is_blank}
-
--- ---- words
-some_from : (b : Bool) (n i : ℕ) → cond b (Some n) None ≡ Some i → (b ≡ true) × (n ≡ i)
-some_from true n i e = (refl, cc)
-some_from false n i e = cc
-
-none_from : (b : Bool) (n : ℕ) → cond b (Some n) None ≡ None → b ≡ false
-none_from true n e = cc
-none_from false n e = refl
-
-pub split_at : (xs : List ℕ) (i : ℕ) → position is_blank xs ≡ Some i → slice_split is_blank xs ≡ take i xs ∷ slice_split is_blank (drop (i + 1) xs)
-split_at xs i e =
-    let w = some_from (nat_lt (position_or_len is_blank xs) (length xs)) (position_or_len is_blank xs) i e in
-    slice_split_first is_blank xs 0 (ltb-true _ _ w.0)
-    ∙ ap (λ n. take n xs ∷ slice_split is_blank (drop (n + 1) xs)) w.1
-
-pub split_whole : (xs : List ℕ) → position is_blank xs ≡ None → slice_split is_blank xs ≡ xs ∷ []
-split_whole xs e =
-    let past : length xs ≤ position_or_len is_blank xs = ltb-false _ _ (none_from (nat_lt (position_or_len is_blank xs) (length xs)) (position_or_len is_blank xs) e) in
-    slice_split_none is_blank xs (λ k d h. fails_before_first is_blank xs k d (omega (arith, past)))
+-- Lines of too many words.
+use Rattle.std.proofs.Common.{◌≡◌, ◌∷◌, [], ℕ, Bool, true, false, cond, List, None, refl}
+use Rattle.std.specs.List.{slice_split, onto_first}
+use Rattle.tcd_text.specs.Lines.{is_blank}
+use Rattle.tc_link.specs.Lines.{line_in}
 
 -- a line of more than four words has no form
 more_words : (a b c d : List ℕ) (word : List ℕ) (words : List (List ℕ)) → line_in (a ∷ b ∷ c ∷ d ∷ word ∷ words) ≡ None
@@ -39,48 +16,3 @@ five_words a b c d (x ∷ xs) = by_blank (is_blank x) (slice_split is_blank xs)
     by_blank true more = refl
     by_blank false [] = refl
     by_blank false (w ∷ ws) = refl
-
--- ---- lines
-abbrev pub end_of : List ℕ → ℕ
-end_of text = position_or_len (λ c. c == 10) text
-
--- the place that was found, or the length
-pub found_end : (text : List ℕ) (i : ℕ) → position (λ c. c == 10) text ≡ Some i → i ≡ end_of text
-found_end text i e = sym (some_from (nat_lt (end_of text) (length text)) (end_of text) i e).1
-
-pub no_end : (text : List ℕ) → position (λ c. c == 10) text ≡ None → length text ≡ end_of text
-no_end text e =
-    let past : length text ≤ end_of text = ltb-false _ _ (none_from (nat_lt (end_of text) (length text)) (end_of text) e) in
-    let most : end_of text ≤ length text = prefix_len-le-length (λ c. not (c == 10)) text in
-    omega arith
-
-push_by : (b : Bool) (c d : ℕ) (ds : List ℕ) → onto_first d (lines_of ds) ≡ (d ∷ take (end_of ds) ds) ∷ lines_of (drop (end_of ds + 1) ds)
-    → onto_first c (cond b ([] ∷ lines_of ds) (onto_first d (lines_of ds))) ≡ (c ∷ take (cond (not b) (1 + end_of ds) 0) (d ∷ ds)) ∷ lines_of (drop (cond (not b) (1 + end_of ds) 0 + 1) (d ∷ ds))
-push_by true c d ds ih = refl
-push_by false c d ds ih =
-    let a : 1 + end_of ds ≡ suc (end_of ds) = omega arith in
-    let b : 1 + end_of ds + 1 ≡ suc (end_of ds + 1) = omega arith in
-    ap (onto_first c) ih
-    ∙ ap (λ k. (c ∷ take k (d ∷ ds)) ∷ lines_of (drop (end_of ds + 1) ds)) (sym a)
-    ∙ ap (λ k. (c ∷ take (1 + end_of ds) (d ∷ ds)) ∷ lines_of (drop k (d ∷ ds))) (sym b)
-
-push : (c : ℕ) (cs : List ℕ) → onto_first c (lines_of cs) ≡ (c ∷ take (end_of cs) cs) ∷ lines_of (drop (end_of cs + 1) cs)
-unfolding lines_of
-push c [] = refl
-push c (d ∷ ds) = push_by (d == 10) c d ds (push d ds)
-
-first_by : (b : Bool) (c : ℕ) (cs : List ℕ) → onto_first c (lines_of cs) ≡ (c ∷ take (end_of cs) cs) ∷ lines_of (drop (end_of cs + 1) cs)
-    → cond b ([] ∷ lines_of cs) (onto_first c (lines_of cs)) ≡ take (cond (not b) (1 + end_of cs) 0) (c ∷ cs) ∷ lines_of (drop (cond (not b) (1 + end_of cs) 0 + 1) (c ∷ cs))
-first_by true c cs ih = refl
-first_by false c cs ih =
-    let a : 1 + end_of cs ≡ suc (end_of cs) = omega arith in
-    let b : 1 + end_of cs + 1 ≡ suc (end_of cs + 1) = omega arith in
-    ih
-    ∙ ap (λ k. take k (c ∷ cs) ∷ lines_of (drop (end_of cs + 1) cs)) (sym a)
-    ∙ ap (λ k. take (1 + end_of cs) (c ∷ cs) ∷ lines_of (drop k (c ∷ cs))) (sym b)
-
--- the first line, and those behind it
-pub lines_of-first : (text : List ℕ) → 0 < length text → lines_of text ≡ take (end_of text) text ∷ lines_of (drop (end_of text + 1) text)
-unfolding lines_of
-lines_of-first [] h = absurd (omega arith)
-lines_of-first (c ∷ cs) h = first_by (c == 10) c cs (push c cs)

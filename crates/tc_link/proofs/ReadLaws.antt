@@ -6,7 +6,8 @@ use Rattle.std.proofs.lemmas.List.Elements.{filter_map-append}
 use Rattle.tc_link.specs.declared.faults.LayoutErr.{LayoutErr}
 use Rattle.tc_link.specs.declared.faults.LayoutErr.TheVariants.{BadLine, Twice, TooMany, Overlap, NoMemory}
 use Rattle.tc_link.specs.Layouts.{PlaceData}
-use Rattle.tc_link.specs.Lines.{LineData, lines_of, line_of}
+use Rattle.tcd_text.specs.Lines.{lines_of}
+use Rattle.tc_link.specs.Lines.{LineData, line_of}
 use Rattle.std.specs.List.{filter_map, cons_option}
 use Rattle.tc_link.specs.Faults.{entry_in, region_in, entries_of, places_of, fault_of, first_fault, layout_in, with_entry, unless, IsFault, IsFaultOf}
 use Rattle.tc_link.specs.Seen.{DraftData, with_line}

@@ -4,7 +4,8 @@ use Rattle.std.specs.Bool.{then_some}
 use Rattle.std.specs.Option.{option_or, option_and_then}
 use Rattle.std.specs.List.{list_any}
 use Rattle.tc_link.specs.Layouts.{PlaceData, LayoutData, shares, is_placed}
-use Rattle.tc_link.specs.Lines.{LineData, blank, entry, place, lines_of, line_of}
+use Rattle.tcd_text.specs.Lines.{lines_of}
+use Rattle.tc_link.specs.Lines.{LineData, blank, entry, place, line_of}
 use Rattle.tc_link.specs.declared.faults.LayoutErr.{LayoutErr}
 use Rattle.tc_link.specs.declared.faults.LayoutErr.TheVariants.{BadLine, Twice, TooMany, Overlap, NoMemory}
 

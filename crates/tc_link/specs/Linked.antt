@@ -31,7 +31,6 @@ abbrev pub first_some : {A B : Type 0} → (ℕ → A → Option B) → List A �
 first_some f xs = first_at f 0 xs
 
 -- ---- symbols
--- how many global symbols have the name; those of one object have distinct names
 -- a symbol counts for a name: it's global and has the name
 abbrev pub named : List ℕ → SymbolData → Bool
 named name s = is_global s && bytes_eq name s.name
@@ -40,7 +39,7 @@ named name s = is_global s && bytes_eq name s.name
 abbrev pub symbols_of : List ObjectData → List SymbolData
 symbols_of objects = flat_map (λ o. o.symbols) objects
 
--- how many global symbols of these objects have the name
+-- how many global symbols of these objects have the name; those of one object have distinct names
 unfoldable pub globals_named : List ObjectData → List ℕ → ℕ
 globals_named objects name = count_by (named name) (symbols_of objects)
 

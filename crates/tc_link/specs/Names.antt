@@ -1,25 +1,44 @@
 -- What contracts see of the names of global symbols in a map.
-use Rattle.std.specs.Prelude.{◌≡◌, ◌==◌, nat_lt, if◌then◌else◌, ℕ, Bool, List, Option, Some, None}
+use Rattle.std.specs.Prelude.{◌≡◌, ◌==◌, nat_lt, if◌then◌else◌, ℕ, Bool, List, map, slice_get, Option, Some, None}
 use Rattle.std.specs.Borrow.{Bor}
-use Rattle.std.specs.BTreeMap.{BTreeMap, get_by}
-use Rattle.std.specs.Cmp.Lexicographic.{slice_cmp}
-use Rattle.std.specs.Ordering.{nat_cmp}
+use Rattle.std.specs.HashMap.{HashMap, get_by}
+use Rattle.std.specs.Option.{option_map, option_map_or}
+use Rattle.std.specs.Str.{bytes_eq}
 use Rattle.tc_object.specs.Objects.{ObjectData}
-use Rattle.tc_link.specs.Placing.{GlobalData, global_address}
+use Rattle.tc_link.specs.declared.definitions.Definition.{Definition}
+use Rattle.tc_link.specs.Placing.{PlacedData, GlobalData, address_in, globals_of, global_address}
 use Rattle.tc_link.specs.Linked.{globals_named}
 
 -- what the map has at a key with these bytes
-abbrev pub at_name : {X : Type 0} → BTreeMap (Bor (List ℕ)) X → List ℕ → Option X
-at_name names q = get_by (λ k. slice_cmp nat_cmp q k.now) names
+abbrev pub at_name : {X S : Type 0} → HashMap (Bor (List ℕ)) X S → List ℕ → Option X
+at_name names q = get_by (λ k. bytes_eq q k.now) names
+
+-- ---- how many symbols have a name
+-- what the map tells of a name that it has: whether several symbols have it
+abbrev pub twice_at : {S : Type 0} → HashMap (Bor (List ℕ)) Definition S → List ℕ → Option Bool
+twice_at names q = option_map (λ d. d.is_twice) (at_name names q)
 
 -- what is kept of a name that so many symbols have: whether they are more than one
 abbrev pub kept : ℕ → Option Bool
 kept n = if n == 0 then None else Some (nat_lt 1 n)
 
--- the map has the address of each global symbol
-abbrev pub AreGlobals : BTreeMap (Bor (List ℕ)) ℕ → List GlobalData → Type 0
-AreGlobals globals all = (q : List ℕ) → at_name globals q ≡ global_address all q
-
 -- the map tells of each name whether several objects define it as a global symbol
-abbrev pub CountsGlobals : BTreeMap (Bor (List ℕ)) Bool → List ObjectData → Type 0
-CountsGlobals names objects = (q : List ℕ) → at_name names q ≡ kept (globals_named objects q)
+abbrev pub CountsGlobals : {S : Type 0} → HashMap (Bor (List ℕ)) Definition S → List ObjectData → Type 0
+CountsGlobals names objects = (q : List ℕ) → twice_at names q ≡ kept (globals_named objects q)
+
+-- ---- where they lie
+-- the address of what is defined in one of these objects
+abbrev pub address_of : List PlacedData → Definition → ℕ
+address_of placed d = option_map_or (λ p. address_in p.bases d.section d.offset) (slice_get placed d.object) 0
+
+-- the address that a map gives a name, where the objects lie so
+abbrev pub address_named : {S : Type 0} → HashMap (Bor (List ℕ)) Definition S → List PlacedData → List ℕ → Option ℕ
+address_named names placed q = option_map (address_of placed) (at_name names q)
+
+-- the map gives each of these global symbols its address, and no other name
+abbrev pub AreGlobals : {S : Type 0} → HashMap (Bor (List ℕ)) Definition S → List PlacedData → List GlobalData → Type 0
+AreGlobals names placed all = (q : List ℕ) → address_named names placed q ≡ global_address all q
+
+-- wherever the objects lie, the map gives their global symbols their addresses
+abbrev pub DefinesGlobals : {S : Type 0} → HashMap (Bor (List ℕ)) Definition S → List ObjectData → Type 0
+DefinesGlobals names objects = (placed : List PlacedData) → map (λ p. p.object) placed ≡ objects → AreGlobals names placed (globals_of placed)

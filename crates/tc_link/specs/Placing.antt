@@ -75,3 +75,7 @@ global_address globals name = option_map (λ g. g.address) (find (λ g. bytes_eq
 -- the address of a symbol of a placed object: its own, or of the global one for which it stands; 0 where there is none
 abbrev pub symbol_address : List GlobalData → List ℕ → SymbolData → ℕ
 symbol_address globals bases s = if s.kind == 0 then option_map_or (λ a. a) (global_address globals s.name) 0 else address_in bases s.section s.offset
+
+-- the addresses of the symbols of a placed object, by their numbers
+unfoldable pub symbol_addresses : List GlobalData → PlacedData → List ℕ
+symbol_addresses globals p = map (symbol_address globals p.bases) p.object.symbols

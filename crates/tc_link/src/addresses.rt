@@ -1,15 +1,15 @@
 // Addresses of symbols.
-ghost use Rattle.std.specs.Prelude.{◌≡◌, ◌+◌, ◌%◌, ◌^◌, ◌++◌, ◌∷◌, ℕ, List, [], slice_get, slice_index, filter, map, Option, OnOk, IfOk, IfErr, None};
-ghost use Rattle.std.specs.Option.{option_copied, option_map_or};
-ghost use Rattle.tc_link.specs.Placing.{GlobalData, is_global, address_in, global_data, globals_of, global_address, symbol_address};
+ghost use Rattle.std.specs.Prelude.{◌≡◌, List, slice_index, map, IfOk, IfErr};
+ghost use Rattle.tc_link.specs.Placing.{GlobalData, PlacedData, address_in, symbol_address, symbol_addresses};
 ghost use Rattle.tc_link.specs.Relocated.{value_of};
-ghost use Rattle.tc_link.specs.Names.{at_name, AreGlobals};
+ghost use Rattle.tc_link.specs.Names.{address_of, address_named, AreGlobals};
 ghost use Rattle.tc_link.specs.declared.errors.LinkErr.TheVariants.{NoMemory};
 
 use crate::LinkErr;
+use crate::definitions::Definition;
 use crate::placed::Placed;
 use std::alloc::Global;
-use std::collections::BTreeMap;
+use std::collections::HashMap;
 use tc_object::{Reloc, Symbol};
 
 /// The address of an offset in a section of this number.
@@ -23,110 +23,99 @@ pub(crate) fn address_in(bases: &[u64], section: u16, offset: u32) -> u32
     (base.wrapping_add(u64::from(offset)) % 4_294_967_296) as u32
 }
 
-// One global symbol more; the first of a name counts.
-fn add_global<'a>(
-    globals: &mut BTreeMap<&'a str, u32>,
-    name: &'a str,
-    address: u32,
-) -> Result<(), LinkErr>
-    ensures ok { OnOk result ((before : List GlobalData) → AreGlobals globals.old before
-        → AreGlobals globals.new (before ++ record { name = name.now; address = address } ∷ [])) }
-    ensures err { IfErr result (λ e. e ≡ NoMemory) }
+// The address of what is defined in one of these objects.
+fn address_of(placed: &[Placed<'_>], definition: Definition) -> u32
+    ensures { result ≡ address_of placed.now definition }
 {
-    if globals.contains_key(name) {
-        return Ok(());
+    match placed.get(definition.object) {
+        Some(each) => address_in(&each.bases, definition.section, definition.offset),
+        None => 0,
     }
-    globals.insert(name, address)?;
-    Ok(())
 }
 
-// One symbol more, where it is global.
-fn add_symbol<'a>(
-    globals: &mut BTreeMap<&'a str, u32>,
-    bases: &[u64],
-    symbol: &'a Symbol,
-) -> Result<(), LinkErr>
-    ensures ok { OnOk result ((before : List GlobalData) → AreGlobals globals.old before
-        → AreGlobals globals.new (before ++ map (global_data bases.now) (filter is_global (symbol.now ∷ [])))) }
-    ensures err { IfErr result (λ e. e ≡ NoMemory) }
+/// The address of a global symbol of these objects, if one has the name.
+pub(crate) fn address_named(
+    names: &HashMap<&str, Definition>,
+    placed: &[Placed<'_>],
+    name: &str,
+) -> Option<u32>
+    ensures { result ≡ address_named names.now placed.now name.now }
 {
-    let is_global = symbol.kind == 2;
-    if !is_global {
-        return Ok(());
+    match names.get(name) {
+        Some(definition) => Some(address_of(placed, *definition)),
+        None => None,
     }
-    let address = address_in(bases, symbol.section, symbol.offset);
-    add_global(globals, symbol.name.as_str(), address)
-}
-
-// The global ones of these symbols more.
-fn add_globals<'a>(
-    globals: &mut BTreeMap<&'a str, u32>,
-    bases: &[u64],
-    symbols: &'a [Symbol],
-) -> Result<(), LinkErr>
-    ensures ok { OnOk result ((before : List GlobalData) → AreGlobals globals.old before
-        → AreGlobals globals.new (before ++ map (global_data bases.now) (filter is_global symbols.now))) }
-    ensures err { IfErr result (λ e. e ≡ NoMemory) }
-{
-    for symbol in symbols {
-        add_symbol(globals, bases, symbol)?;
-    }
-    Ok(())
-}
-
-// No addresses.
-fn no_globals<'a>(alloc: Global) -> BTreeMap<&'a str, u32>
-    ensures { (q : List ℕ) → at_name result q ≡ None }
-{
-    BTreeMap::new(alloc)
-}
-
-/// The addresses of the global symbols.
-pub(crate) fn globals_of<'a>(
-    alloc: Global,
-    placed: &'a [Placed<'a>],
-) -> Result<BTreeMap<&'a str, u32>, LinkErr>
-    ensures ok { IfOk result (λ globals. AreGlobals globals (globals_of placed.now)) }
-    ensures err { IfErr result (λ e. e ≡ NoMemory) }
-{
-    let mut globals = no_globals(alloc);
-    for each in placed {
-        let object = each.object;
-        add_globals(&mut globals, &each.bases, &object.symbols)?;
-    }
-    Ok(globals)
-}
-
-/// The address of a global symbol, if one has the name.
-pub(crate) fn address_named(globals: &BTreeMap<&str, u32>, name: &str) -> Option<u32>
-    ensures { result ≡ at_name globals.now name.now }
-{
-    globals.get(name).copied()
 }
 
 // The address of a symbol of an object whose sections begin there; 0 where it has none.
-fn symbol_address(globals: &BTreeMap<&str, u32>, bases: &[u64], symbol: &Symbol) -> u32
-    ensures { (all : List GlobalData) → AreGlobals globals.now all
+fn symbol_address(
+    names: &HashMap<&str, Definition>,
+    placed: &[Placed<'_>],
+    bases: &[u64],
+    symbol: &Symbol,
+) -> u32
+    ensures { (all : List GlobalData) → AreGlobals names.now placed.now all
         → result ≡ symbol_address all bases.now symbol.now }
 {
     if symbol.kind != 0 {
         return address_in(bases, symbol.section, symbol.offset);
     }
-    match globals.get(symbol.name.as_str()) {
+    match address_named(names, placed, symbol.name.as_str()) {
+        Some(address) => address,
+        None => 0,
+    }
+}
+
+// The addresses of symbols of an object whose sections begin there, one after another.
+fn addresses_in(
+    alloc: Global,
+    names: &HashMap<&str, Definition>,
+    placed: &[Placed<'_>],
+    bases: &[u64],
+    symbols: &[Symbol],
+) -> Result<Vec<u32>, LinkErr>
+    ensures ok { IfOk result (λ addresses. (all : List GlobalData)
+        → AreGlobals names.now placed.now all
+        → addresses.items ≡ map (symbol_address all bases.now) symbols.now) }
+    ensures err { IfErr result (λ e. e ≡ NoMemory) }
+{
+    let mut addresses = Vec::with_capacity(alloc, symbols.len())?;
+    for symbol in symbols {
+        addresses.push(symbol_address(names, placed, bases, symbol))?;
+    }
+    Ok(addresses)
+}
+
+/// The addresses of the symbols of an object, by their numbers.
+pub(crate) fn symbol_addresses(
+    alloc: Global,
+    names: &HashMap<&str, Definition>,
+    placed: &[Placed<'_>],
+    each: &Placed<'_>,
+) -> Result<Vec<u32>, LinkErr>
+    ensures ok { IfOk result (λ addresses. (all : List GlobalData)
+        → AreGlobals names.now placed.now all
+        → addresses.items ≡ symbol_addresses all each.now) }
+    ensures err { IfErr result (λ e. e ≡ NoMemory) }
+{
+    let object = each.object;
+    addresses_in(alloc, names, placed, &each.bases, &object.symbols)
+}
+
+// The address of the symbol of this number; 0 where there is none.
+fn address_at(addresses: &[u32], number: u16) -> u32
+    ensures { result ≡ slice_index addresses.now number }
+{
+    match addresses.get(number as usize) {
         Some(address) => *address,
         None => 0,
     }
 }
 
-/// What a relocation takes: the address of its symbol and the addend.
-pub(crate) fn value_of(globals: &BTreeMap<&str, u32>, placed: &Placed<'_>, reloc: &Reloc) -> u32
-    ensures { (all : List GlobalData) → AreGlobals globals.now all
-        → result ≡ value_of all placed.now reloc.now }
+/// What a relocation takes, of symbols at these addresses: that of its symbol and the addend.
+pub(crate) fn value_of(addresses: &[u32], reloc: &Reloc) -> u32
+    ensures { (all : List GlobalData) (p : PlacedData) → addresses.now ≡ symbol_addresses all p
+        → result ≡ value_of all p reloc.now }
 {
-    let object = placed.object;
-    let address = match object.symbols.get(reloc.symbol as usize) {
-        Some(symbol) => symbol_address(globals, &placed.bases, symbol),
-        None => 0,
-    };
-    address.wrapping_add(reloc.addend)
+    address_at(addresses, reloc.symbol).wrapping_add(reloc.addend)
 }

@@ -65,8 +65,10 @@ impl Draft {
     // The fault of a place behind these lines, at line `number`.
     fn fault_at(&self, number: u32, section: &str, at: u32, most: u32) -> Option<LayoutErr>
         requires { IsPlace (record { section = section.now; at = at; most = most }) }
-        ensures fault { result ≡ fault_of number self.now.entries self.now.places (Some (place (record { section = section.now; at = at; most = most }))) }
-        ensures after { IfNone result (IsPlaceAfter self.now.places (record { section = section.now; at = at; most = most })) }
+        ensures fault { result ≡ fault_of number self.now.entries self.now.places
+            (Some (place (record { section = section.now; at = at; most = most }))) }
+        ensures after { IfNone result (IsPlaceAfter self.now.places
+            (record { section = section.now; at = at; most = most })) }
         ensures few { IfNone result (length self.now.places < 64) }
     {
         if self.is_placed(section) {
@@ -84,7 +86,8 @@ impl Draft {
     fn add_entry(&mut self, alloc: Global, name: &str) -> Result<(), LayoutErr>
         requires name { name_of name.now ≡ Some name.now }
         requires none { self.old.entries ≡ [] }
-        ensures ok { OnOk result (self.new ≡ record { entries = name.now ∷ []; places = self.old.places }) }
+        ensures ok { OnOk result (self.new
+            ≡ record { entries = name.now ∷ []; places = self.old.places }) }
         ensures err { IfErr result (λ e. e ≡ NoMemory) }
     {
         self.entry = Some(String::from_str(alloc, name)?);
@@ -98,9 +101,15 @@ impl Draft {
         at: u32,
         most: u32,
     ) -> Result<(), LayoutErr>
-        requires place { IsPlaceAfter self.old.places (record { section = section.now; at = at; most = most }) }
+        requires place { IsPlaceAfter self.old.places
+            (record { section = section.now; at = at; most = most }) }
         requires few { length self.old.places < 64 }
-        ensures ok { OnOk result (self.new ≡ record { entries = self.old.entries; places = self.old.places ++ record { section = section.now; at = at; most = most } ∷ [] }) }
+        ensures ok { OnOk result (self.new
+            ≡ record {
+              entries = self.old.entries;
+              places = self.old.places
+                  ++ record { section = section.now; at = at; most = most } ∷ [];
+            }) }
         ensures err { IfErr result (λ e. e ≡ NoMemory) }
     {
         let section = String::from_str(alloc, section)?;
@@ -111,9 +120,12 @@ impl Draft {
     // Adds what line `number` says, or tells its fault.
     fn add_good(&mut self, alloc: Global, number: u32, line: Line<'_>) -> Result<(), LayoutErr>
         requires { IsGood (line_data line) }
-        ensures good { OnOk result (fault_of number self.old.entries self.old.places (Some (line_data line.entry)) ≡ None) }
+        ensures good { OnOk result
+            (fault_of number self.old.entries self.old.places (Some (line_data line.entry))
+            ≡ None) }
         ensures ok { OnOk result (self.new ≡ with_line self.old (Some (line_data line.entry))) }
-        ensures err { IfErr result (IsFault (fault_of number self.old.entries self.old.places (Some (line_data line.entry)))) }
+        ensures err { IfErr result (IsFault
+            (fault_of number self.old.entries self.old.places (Some (line_data line.entry)))) }
     {
         match line {
             Line::Blank => Ok(()),
@@ -139,9 +151,11 @@ impl Draft {
         number: u32,
         line: &[u8],
     ) -> Result<(), LayoutErr>
-        ensures good { OnOk result (fault_of number self.old.entries self.old.places (line_of line.now) ≡ None) }
+        ensures good { OnOk result
+            (fault_of number self.old.entries self.old.places (line_of line.now) ≡ None) }
         ensures ok { OnOk result (self.new ≡ with_line self.old (line_of line.now)) }
-        ensures err { IfErr result (IsFault (fault_of number self.old.entries self.old.places (line_of line.now))) }
+        ensures err { IfErr result
+            (IsFault (fault_of number self.old.entries self.old.places (line_of line.now))) }
     {
         match line_of(line) {
             None => Err(LayoutErr::BadLine(number)),

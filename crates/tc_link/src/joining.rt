@@ -57,7 +57,10 @@ fn joined(alloc: Global, name: &str, sections: &[Section]) -> Result<Vec<u8>, Li
 
 // One segment more, where it has bytes.
 fn add_segment(segments: &mut Vec<Segment>, at: u32, bytes: Vec<u8>) -> Result<(), LinkErr>
-    ensures ok { OnOk result (map segment_data segments.new.items ≡ map segment_data segments.old.items ++ filter (λ s. nat_lt 0 (length s.bytes)) (record { at = at; bytes = bytes.items } ∷ [])) }
+    ensures ok { OnOk result (map segment_data segments.new.items
+        ≡ map segment_data segments.old.items
+        ++ filter (λ s. nat_lt 0 (length s.bytes))
+        (record { at = at; bytes = bytes.items } ∷ [])) }
     ensures err { IfErr result (λ e. e ≡ NoMemory) }
 {
     if bytes.is_empty() {
@@ -74,7 +77,8 @@ pub(crate) fn segments_of(
     places: &[Place],
     sections: &[Section],
 ) -> Result<Vec<Segment>, LinkErr>
-    ensures ok { IfOk result (λ segments. map segment_data segments.items ≡ segments_of places.now sections.now) }
+    ensures ok { IfOk result (λ segments. map segment_data segments.items
+        ≡ segments_of places.now sections.now) }
     ensures err { IfErr result (λ e. e ≡ NoMemory) }
 {
     let mut segments = Vec::new(alloc);

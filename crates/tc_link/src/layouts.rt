@@ -1,9 +1,9 @@
 // Layouts, with the facts that they always keep.
 use crate::LayoutErr;
 use crate::drafts::Draft;
-use crate::lines::{after_line, first_line};
 use std::alloc::Global;
 use std::marker::Model;
+use tcd_text::cut_line;
 
 /// The bytes from `at` on, at most `most` of them, for the sections of one name. `at` is a multiple of 4, and no byte
 /// passes 2^32.
@@ -60,8 +60,9 @@ impl Layout {
         let mut rest = bytes;
         'lines: while !rest.is_empty() {
             number += 1;
-            draft.add_line(alloc, number, first_line(rest))?;
-            rest = after_line(rest);
+            let (line, more) = cut_line(rest);
+            draft.add_line(alloc, number, line)?;
+            rest = more;
         }
         draft.finish(number)
     }

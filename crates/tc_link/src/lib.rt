@@ -2,6 +2,7 @@
 #![tactic(auto)]
 
 mod addresses;
+mod definitions;
 mod drafts;
 mod errors;
 mod faults;

@@ -1,14 +1,15 @@
 // The lines of a layout.
-ghost use Rattle.std.specs.Prelude.{◌≡◌, ◌≤◌, ◌<◌, ◌+◌, ◌^◌, ◌==◌, [], ◌∷◌, length, take, drop, codes, if◌then◌else◌, IfSome, position, Some, None, Option};
+ghost use Rattle.std.specs.Prelude.{◌≡◌, codes, if◌then◌else◌, IfSome, Some, None};
 ghost use Rattle.std.specs.Option.{option_map, option_copied};
-ghost use Rattle.std.specs.List.{position_or_len};
 ghost use Rattle.std.specs.Str.{bytes_eq};
 ghost use Rattle.tc_object.specs.Names.{name_of};
-ghost use Rattle.tc_link.specs.Lines.{LineData, entry, lines_of, line_of, place_of_words, word_of};
+ghost use Rattle.tcd_text.specs.HexNumbers.{hex_number_of};
+ghost use Rattle.tc_link.specs.Lines.{entry, line_of, place_of_words};
 ghost use Rattle.tc_link.specs.Seen.{line_data, IsGood};
 
-use crate::words::{cut_word, is_text, word_of};
+use crate::words::is_text;
 use tc_object::name_of;
+use tcd_text::{cut_word, hex_number};
 
 /// What a line says.
 #[derive(Clone, Copy)]
@@ -31,7 +32,9 @@ fn name_in(word: &[u8]) -> Option<&str>
 }
 
 fn entry_line<'a>(word: &[u8], name: &'a [u8]) -> Option<Line<'a>>
-    ensures line { option_map line_data result ≡ (if bytes_eq word.now (codes "entry") then option_map entry (name_of name.now) else None) }
+    ensures line { option_map line_data result
+        ≡ (if bytes_eq word.now (codes "entry")
+        then option_map entry (name_of name.now) else None) }
     ensures good { IfSome result (λ line. IsGood (line_data line)) }
 {
     if !is_text(word, "entry") {
@@ -46,7 +49,8 @@ fn entry_line<'a>(word: &[u8], name: &'a [u8]) -> Option<Line<'a>>
 // A place for sections of this name.
 fn region<'a>(section: &'a str, at: u32, most: u32) -> Option<Line<'a>>
     requires { name_of section.now ≡ Some section.now }
-    ensures line { option_map line_data result ≡ place_of_words (Some section.now) (Some at) (Some most) }
+    ensures line { option_map line_data result
+        ≡ place_of_words (Some section.now) (Some at) (Some most) }
     ensures good { IfSome result (λ line. IsGood (line_data line)) }
 {
     if at % 4 == 0 && u64::from(at) + u64::from(most) <= 4_294_967_296 {
@@ -57,7 +61,10 @@ fn region<'a>(section: &'a str, at: u32, most: u32) -> Option<Line<'a>>
 }
 
 fn region_line<'a>(word: &[u8], section: &'a [u8], at: &[u8], most: &[u8]) -> Option<Line<'a>>
-    ensures line { option_map line_data result ≡ (if bytes_eq word.now (codes "place") then place_of_words (name_of section.now) (word_of at.now) (word_of most.now) else None) }
+    ensures line { option_map line_data result
+        ≡ (if bytes_eq word.now (codes "place")
+        then place_of_words (name_of section.now) (hex_number_of at.now) (hex_number_of most.now)
+        else None) }
     ensures good { IfSome result (λ line. IsGood (line_data line)) }
 {
     if !is_text(word, "place") {
@@ -66,10 +73,10 @@ fn region_line<'a>(word: &[u8], section: &'a [u8], at: &[u8], most: &[u8]) -> Op
     let Some(section) = name_in(section) else {
         return None;
     };
-    let Some(at) = word_of(at) else {
+    let Some(at) = hex_number(at) else {
         return None;
     };
-    let Some(most) = word_of(most) else {
+    let Some(most) = hex_number(most) else {
         return None;
     };
     region(section, at, most)
@@ -98,42 +105,4 @@ pub(crate) fn line_of(line: &[u8]) -> Option<Line<'_>>
         Some((_fourth, _more)) => None,
         None => region_line(word, second, third, rest),
     }
-}
-
-fn find_feed(text: &[u8]) -> Option<usize>
-    ensures value { result ≡ position (λ c. c == 10) text.now }
-    ensures within { IfSome result (λ i. i < length text.now) }
-{
-    text.iter().position(|c| *c == b'\n')
-}
-
-// Where the first line ends.
-fn line_end(text: &[u8]) -> usize
-    ensures end { result ≡ position_or_len (λ c. c == 10) text.now }
-    ensures within { result ≤ length text.now }
-{
-    match find_feed(text) {
-        Some(end) => end,
-        None => text.len(),
-    }
-}
-
-/// The first line of a text.
-pub(crate) fn first_line(text: &[u8]) -> &[u8]
-    ensures { result.now ≡ take (position_or_len (λ c. c == 10) text.now) text.now }
-{
-    &text[..line_end(text)]
-}
-
-/// What stands behind the first line of a text.
-pub(crate) fn after_line(text: &[u8]) -> &[u8]
-    requires { 0 < length text.now }
-    ensures rest { result.now ≡ drop (position_or_len (λ c. c == 10) text.now + 1) text.now }
-    ensures shorter { length result.now < length text.now }
-{
-    let end = line_end(text);
-    if end == text.len() {
-        return &text[end..];
-    }
-    &text[end + 1..]
 }

@@ -3,11 +3,14 @@ ghost use Rattle.std.specs.Prelude.{◌≡◌, ◌≤◌, ◌<◌, ◌^◌, ℕ,
 ghost use Rattle.elf_image.specs.Images.{ImageData, AreBytes, IsImage};
 ghost use Rattle.tc_object.specs.Objects.{ObjectData, IsObject};
 ghost use Rattle.tc_link.specs.Layouts.{IsLayout};
+ghost use Rattle.tc_link.specs.Placing.{globals_of};
 ghost use Rattle.tc_link.specs.Relocated.{segments_of};
+ghost use Rattle.tc_link.specs.Names.{AreGlobals, CountsGlobals};
 ghost use Rattle.tc_link.specs.Linked.{no_room_after, placed_of, contents_of, refused_early, made_of, linked};
 ghost use Rattle.tc_link.specs.Errors.{IsRefusal, refusal_of};
 
-use crate::addresses::{address_named, globals_of};
+use crate::addresses::address_named;
+use crate::definitions::Definition;
 use crate::joining::segments_of;
 use crate::names::names_of;
 use crate::placed::{Placed, placed_of};
@@ -17,38 +20,47 @@ use crate::symbol_checks::{check_missing, check_repeated};
 use crate::{Layout, LinkErr};
 use elf_image::{Image, read_segments};
 use std::alloc::Global;
+use std::collections::HashMap;
 use tc_object::Object;
 
 // The objects with the addresses of their sections, or what is refused before anything is relocated.
 fn place_all<'a>(
     alloc: Global,
+    names: &HashMap<&str, Definition>,
     objects: &'a [Object],
     layout: &Layout,
 ) -> Result<Vec<Placed<'a>>, LinkErr>
+    requires { CountsGlobals names.now objects.now }
     ensures placed { IfOk result (λ placed. placed.items ≡ placed_of layout.now objects.now) }
-    ensures good { IfOk result (λ _. (k : ℕ) (d : ObjectData) → k < length objects.now → IsObject (slice_index_or objects.now k d)) }
+    ensures good { IfOk result (λ _. (k : ℕ) (d : ObjectData) → k < length objects.now
+        → IsObject (slice_index_or objects.now k d)) }
     ensures none { OnOk result (refused_early layout.now objects.now ≡ None) }
     ensures err { IfErr result (IsRefusal (refused_early layout.now objects.now)) }
 {
-    let names = names_of(alloc, objects)?;
-    check_repeated(alloc, &names, objects)?;
-    check_missing(alloc, &names, objects)?;
+    check_repeated(alloc, names, objects)?;
+    check_missing(alloc, names, objects)?;
     check_places(alloc, &layout.places, objects)?;
     placed_of(alloc, &layout.places, objects)
 }
 
 // The image of placed objects, or the first relocation that is refused.
-fn make<'a>(alloc: Global, placed: &'a [Placed<'a>], layout: &Layout) -> Result<Image, LinkErr>
+fn make(
+    alloc: Global,
+    names: &HashMap<&str, Definition>,
+    placed: &[Placed<'_>],
+    layout: &Layout,
+) -> Result<Image, LinkErr>
+    requires globals { AreGlobals names.now placed.now (globals_of placed.now) }
     requires few { length placed.now ≤ 65535 }
     requires good { let segments = segments_of layout.now.places (contents_of placed.now) in
         IsLayout layout.now → AreBytes segments → (entry : ℕ) → entry < 2 ^ 32
         → IsImage (record { entry = entry; segments = segments }) }
     ensures ok { IfOk result (λ image. made_of layout.now placed.now ≡ Ok image) }
-    ensures err { IfErr result (λ e. IfSome (refusal_of e) (λ r. made_of layout.now placed.now ≡ Err r)) }
+    ensures err { IfErr result (λ e. IfSome (refusal_of e)
+        (λ r. made_of layout.now placed.now ≡ Err r)) }
 {
-    let globals = globals_of(alloc, placed)?;
-    let contents = contents_of(alloc, &globals, placed)?;
-    let Some(entry) = address_named(&globals, layout.entry.as_str()) else {
+    let contents = contents_of(alloc, names, placed)?;
+    let Some(entry) = address_named(names, placed, layout.entry.as_str()) else {
         return Err(LinkErr::NoEntry);
     };
     let segments = segments_of(alloc, &layout.places, &contents)?;
@@ -62,8 +74,10 @@ fn make<'a>(alloc: Global, placed: &'a [Placed<'a>], layout: &Layout) -> Result<
 pub fn link(alloc: Global, objects: &[Object], layout: &Layout) -> Result<Image, LinkErr>
     requires { length objects.now ≤ 65535 }
     ensures ok { IfOk result (λ image. linked objects.now layout.now ≡ Ok image) }
-    ensures err { IfErr result (λ e. IfSome (refusal_of e) (λ r. linked objects.now layout.now ≡ Err r)) }
+    ensures err { IfErr result (λ e. IfSome (refusal_of e)
+        (λ r. linked objects.now layout.now ≡ Err r)) }
 {
-    let placed = place_all(alloc, objects, layout)?;
-    make(alloc, &placed, layout)
+    let names = names_of(alloc, objects)?;
+    let placed = place_all(alloc, &names, objects, layout)?;
+    make(alloc, &names, &placed, layout)
 }

@@ -1,83 +1,137 @@
-// The names of global symbols, in a map, so that each is looked up in few steps.
-ghost use Rattle.std.specs.Prelude.{◌≡◌, ◌+◌, nat_lt, not, ◌==◌, ℕ, List, [], count_by, Option, OnOk, IfOk, IfErr, if◌then◌else◌, None};
+// The global symbols of objects by name, in a map, so that each is looked up in few steps.
+ghost use Rattle.std.specs.Prelude.{◌≡◌, ◌+◌, ◌++◌, ◌∷◌, nat_lt, ◌==◌, ℕ, List, [], true, false, count_by, map, filter, slice_get, OnOk, IfOk, IfErr, if◌then◌else◌, None, Some};
 ghost use Rattle.std.specs.Str.{bytes_eq};
+ghost use Rattle.tc_object.specs.Objects.{ObjectData};
+ghost use Rattle.tc_link.specs.Placing.{PlacedData, GlobalData, is_global, global_data};
 ghost use Rattle.tc_link.specs.Linked.{named, globals_named};
-ghost use Rattle.tc_link.specs.Names.{at_name, kept, CountsGlobals};
+ghost use Rattle.tc_link.specs.Names.{at_name, twice_at, kept, address_of, AreGlobals, CountsGlobals, DefinesGlobals};
 ghost use Rattle.tc_link.specs.declared.errors.LinkErr.TheVariants.{NoMemory};
 
 use crate::LinkErr;
+use crate::definitions::Definition;
 use std::alloc::Global;
-use std::collections::BTreeMap;
+use std::collections::HashMap;
 use tc_object::{Object, Symbol};
 
-// One more symbol of this name.
-fn add_name<'a>(names: &mut BTreeMap<&'a str, bool>, name: &'a str) -> Result<(), LinkErr>
-    ensures ok { OnOk result ((q : List ℕ) (n : ℕ) → at_name names.old q ≡ kept n → at_name names.new q ≡ kept (n + (if bytes_eq q name.now then 1 else 0))) }
+// One more symbol of this name; the first one stays.
+fn add_name<'a>(
+    names: &mut HashMap<&'a str, Definition>,
+    name: &'a str,
+    definition: Definition,
+) -> Result<(), LinkErr>
+    requires { definition.is_twice ≡ false }
+    ensures counts { OnOk result ((q : List ℕ) (n : ℕ) → twice_at names.old q ≡ kept n
+        → twice_at names.new q ≡ kept (n + (if bytes_eq q name.now then 1 else 0))) }
+    ensures globals { OnOk result ((placed : List PlacedData) (before : List GlobalData)
+        → AreGlobals names.old placed before → AreGlobals names.new placed
+        (before ++ record { name = name.now; address = address_of placed definition } ∷ [])) }
     ensures err { IfErr result (λ e. e ≡ NoMemory) }
 {
-    let seen = names.contains_key(name);
-    names.insert(name, seen)?;
+    let old = names.insert(name, definition)?;
+    let Some(first) = old else {
+        return Ok(());
+    };
+    let twice = Definition {
+        object: first.object,
+        section: first.section,
+        offset: first.offset,
+        is_twice: true,
+    };
+    names.insert(name, twice)?;
     Ok(())
 }
 
-// One more symbol, where it is global.
-fn add_symbol<'a>(names: &mut BTreeMap<&'a str, bool>, symbol: &'a Symbol) -> Result<(), LinkErr>
-    ensures ok { OnOk result ((q : List ℕ) (n : ℕ) → at_name names.old q ≡ kept n → at_name names.new q ≡ kept (n + (if named q symbol.now then 1 else 0))) }
+// One more symbol of the object of this number, where it is global.
+fn add_symbol<'a>(
+    names: &mut HashMap<&'a str, Definition>,
+    object: usize,
+    symbol: &'a Symbol,
+) -> Result<(), LinkErr>
+    ensures counts { OnOk result ((q : List ℕ) (n : ℕ) → twice_at names.old q ≡ kept n
+        → twice_at names.new q ≡ kept (n + (if named q symbol.now then 1 else 0))) }
+    ensures globals { OnOk result ((placed : List PlacedData) (p : PlacedData)
+        (before : List GlobalData) → slice_get placed object ≡ Some p
+        → AreGlobals names.old placed before → AreGlobals names.new placed
+        (before ++ map (global_data p.bases) (filter is_global (symbol.now ∷ [])))) }
     ensures err { IfErr result (λ e. e ≡ NoMemory) }
 {
     let is_global = symbol.kind == 2;
     if !is_global {
         return Ok(());
     }
-    add_name(names, symbol.name.as_str())
+    let definition = Definition {
+        object,
+        section: symbol.section,
+        offset: symbol.offset,
+        is_twice: false,
+    };
+    add_name(names, symbol.name.as_str(), definition)
 }
 
-// The global ones of these symbols more.
+// The global ones of these symbols of the object of this number more.
 fn add_symbols<'a>(
-    names: &mut BTreeMap<&'a str, bool>,
+    names: &mut HashMap<&'a str, Definition>,
+    object: usize,
     symbols: &'a [Symbol],
 ) -> Result<(), LinkErr>
-    ensures ok { OnOk result ((q : List ℕ) (n : ℕ) → at_name names.old q ≡ kept n → at_name names.new q ≡ kept (n + count_by (named q) symbols.now)) }
+    ensures counts { OnOk result ((q : List ℕ) (n : ℕ) → twice_at names.old q ≡ kept n
+        → twice_at names.new q ≡ kept (n + count_by (named q) symbols.now)) }
+    ensures globals { OnOk result ((placed : List PlacedData) (p : PlacedData)
+        (before : List GlobalData) → slice_get placed object ≡ Some p
+        → AreGlobals names.old placed before → AreGlobals names.new placed
+        (before ++ map (global_data p.bases) (filter is_global symbols.now))) }
     ensures err { IfErr result (λ e. e ≡ NoMemory) }
 {
     for symbol in symbols {
-        add_symbol(names, symbol)?;
+        add_symbol(names, object, symbol)?;
     }
     Ok(())
 }
 
 // No names.
-fn no_names<'a>(alloc: Global) -> BTreeMap<&'a str, bool>
+fn no_names<'a>(alloc: Global) -> HashMap<&'a str, Definition>
     ensures { (q : List ℕ) → at_name result q ≡ None }
 {
-    BTreeMap::new(alloc)
+    HashMap::new(alloc)
 }
 
-/// The names of the global symbols of objects.
-pub(crate) fn names_of(alloc: Global, objects: &[Object]) -> Result<BTreeMap<&str, bool>, LinkErr>
-    ensures ok { IfOk result (λ names. CountsGlobals names objects.now) }
+/// The global symbols of objects by name.
+pub(crate) fn names_of(
+    alloc: Global,
+    objects: &[Object],
+) -> Result<HashMap<&str, Definition>, LinkErr>
+    ensures counts { IfOk result (λ names. CountsGlobals names objects.now) }
+    ensures globals { IfOk result (λ names. DefinesGlobals names objects.now) }
     ensures err { IfErr result (λ e. e ≡ NoMemory) }
 {
     let mut names = no_names(alloc);
-    for object in objects {
-        add_symbols(&mut names, &object.symbols)?;
+    for (number, object) in objects.iter().enumerate() {
+        add_symbols(&mut names, number, &object.symbols)?;
     }
     Ok(names)
 }
 
+/// Whether no name is that of more than one global symbol. It goes over the names, and looks none up.
+pub(crate) fn are_single(names: &HashMap<&str, Definition>) -> bool
+    ensures { result ≡ true → (objects : List ObjectData) → CountsGlobals names.now objects
+        → (q : List ℕ) → nat_lt 1 (globals_named objects q) ≡ false }
+{
+    names.values().all(|definition| !definition.is_twice)
+}
+
 /// Whether more than one global symbol has the name.
-pub(crate) fn is_twice(names: &BTreeMap<&str, bool>, name: &str) -> bool
-    ensures { (n : ℕ) → at_name names.now name.now ≡ kept n → result ≡ nat_lt 1 n }
+pub(crate) fn is_twice(names: &HashMap<&str, Definition>, name: &str) -> bool
+    ensures { (n : ℕ) → twice_at names.now name.now ≡ kept n → result ≡ nat_lt 1 n }
 {
     match names.get(name) {
-        Some(is_twice) => *is_twice,
+        Some(definition) => definition.is_twice,
         None => false,
     }
 }
 
 /// Whether no global symbol has the name.
-pub(crate) fn is_missing(names: &BTreeMap<&str, bool>, name: &str) -> bool
-    ensures { (n : ℕ) → at_name names.now name.now ≡ kept n → result ≡ (n == 0) }
+pub(crate) fn is_missing(names: &HashMap<&str, Definition>, name: &str) -> bool
+    ensures { (n : ℕ) → twice_at names.now name.now ≡ kept n → result ≡ (n == 0) }
 {
     !names.contains_key(name)
 }

@@ -50,7 +50,8 @@ fn place_objects<'a>(
     requires none { AreTaken places.now [] sizes.old }
     requires small { AreSmall sizes.old }
     ensures placed { IfOk result (λ placed. placed.items ≡ placed_after places.now [] objects.now) }
-    ensures good { IfOk result (λ _. (k : ℕ) (d : ObjectData) → k < length objects.now → IsObject (slice_index_or objects.now k d)) }
+    ensures good { IfOk result (λ _. (k : ℕ) (d : ObjectData) → k < length objects.now
+        → IsObject (slice_index_or objects.now k d)) }
     ensures room { IfOk result (λ _. no_room_after places.now [] (sections_of objects.now) ≡ None) }
     ensures err { IfErr result (IsRefusal (no_room_after places.now [] (sections_of objects.now))) }
 {
@@ -70,7 +71,8 @@ pub(crate) fn placed_of<'a>(
 ) -> Result<Vec<Placed<'a>>, LinkErr>
     requires { length places.now ≤ 64 }
     ensures placed { IfOk result (λ placed. placed.items ≡ placed_after places.now [] objects.now) }
-    ensures good { IfOk result (λ _. (k : ℕ) (d : ObjectData) → k < length objects.now → IsObject (slice_index_or objects.now k d)) }
+    ensures good { IfOk result (λ _. (k : ℕ) (d : ObjectData) → k < length objects.now
+        → IsObject (slice_index_or objects.now k d)) }
     ensures room { IfOk result (λ _. no_room_after places.now [] (sections_of objects.now) ≡ None) }
     ensures err { IfErr result (IsRefusal (no_room_after places.now [] (sections_of objects.now))) }
 {

@@ -2,7 +2,7 @@
 ghost use Rattle.std.specs.Prelude.{◌≡◌, ◌≤◌, ◌<◌, ◌+◌, ◌++◌, ◌^◌, [], ℕ, List, length, map, fold, take, drop, slice_get, Option, Some, None, OnOk, OnErr, IfOk, IfErr, MatchResult};
 ghost use Rattle.tc_object.specs.Objects.{SectionData, size_at};
 ghost use Rattle.tc_reloc.specs.Refusals.{refusal_of};
-ghost use Rattle.tc_link.specs.Placing.{GlobalData, global_address, globals_of};
+ghost use Rattle.tc_link.specs.Placing.{GlobalData, globals_of, symbol_addresses};
 ghost use Rattle.tc_link.specs.Relocated.{field_at, with_field_at, filled, reloc_refusal, with_reloc, relocated};
 ghost use Rattle.tc_link.specs.Shapes.{shape_of};
 ghost use Rattle.tc_link.specs.Linked.{first_some, refusal_at, reloc_in, contents_of};
@@ -11,10 +11,11 @@ ghost use Rattle.tc_link.specs.Errors.{IsRefusal};
 ghost use Rattle.tc_link.specs.declared.errors.LinkErr.TheVariants.{NoMemory};
 
 use crate::LinkErr;
-use crate::addresses::{address_in, value_of};
+use crate::addresses::{address_in, symbol_addresses, value_of};
+use crate::definitions::Definition;
 use crate::placed::Placed;
 use std::alloc::Global;
-use std::collections::BTreeMap;
+use std::collections::HashMap;
 use tc_object::{Reloc, Section};
 use tc_reloc::{RelocErr, apply};
 
@@ -61,7 +62,8 @@ fn write_reloc(section: &mut Section, reloc: &Reloc, place: u32, value: u32) -> 
     requires some { 1 ≤ reloc.now.kind }
     requires most { reloc.now.kind ≤ 7 }
     requires room { reloc.now.offset + 4 ≤ length section.old.bytes }
-    ensures refusal { MatchResult result (λ _. refusal_of reloc.now.kind place value ≡ None) (λ err. refusal_of reloc.now.kind place value ≡ Some err) }
+    ensures refusal { MatchResult result (λ _. refusal_of reloc.now.kind place value ≡ None)
+        (λ err. refusal_of reloc.now.kind place value ≡ Some err) }
     ensures written { OnOk result (section.new ≡ filled reloc.now place value section.old) }
 {
     let at = reloc.offset as usize;
@@ -72,7 +74,7 @@ fn write_reloc(section: &mut Section, reloc: &Reloc, place: u32, value: u32) -> 
 
 // One relocation of the sections of an object, written.
 fn write_in(
-    globals: &BTreeMap<&str, u32>,
+    addresses: &[u32],
     placed: &Placed<'_>,
     reloc: &Reloc,
     sections: &mut [Section],
@@ -81,36 +83,40 @@ fn write_in(
     requires most { reloc.now.kind ≤ 7 }
     requires within { reloc.now.section < length sections.old }
     requires room { reloc.now.offset + 4 ≤ size_at sections.old reloc.now.section }
-    ensures refusal { (all : List GlobalData) → AreGlobals globals.now all
-        → MatchResult result (λ _. reloc_refusal all placed.now reloc.now
-        ≡ None) (λ err. reloc_refusal all placed.now reloc.now ≡ Some err) }
-    ensures written { OnOk result ((all : List GlobalData) → AreGlobals globals.now all
+    ensures refusal { (all : List GlobalData) → addresses.now ≡ symbol_addresses all placed.now
+        → MatchResult result (λ _. reloc_refusal all placed.now reloc.now ≡ None)
+        (λ err. reloc_refusal all placed.now reloc.now ≡ Some err) }
+    ensures written { OnOk result ((all : List GlobalData)
+        → addresses.now ≡ symbol_addresses all placed.now
         → sections.new ≡ with_reloc all placed.now sections.old reloc.now) }
     ensures shapes { OnOk result (map shape_of sections.new ≡ map shape_of sections.old) }
 {
     let place = address_in(&placed.bases, reloc.section, reloc.offset);
-    let value = value_of(globals, placed, reloc);
+    let value = value_of(addresses, reloc);
     write_reloc(&mut sections[reloc.section as usize], reloc, place, value)
 }
 
 // The relocations of an object, written in its sections, or the first that can't be written.
 fn write_all(
-    globals: &BTreeMap<&str, u32>,
+    addresses: &[u32],
     number: u32,
     placed: &Placed<'_>,
     sections: &mut [Section],
 ) -> Result<(), LinkErr>
     requires { sections.old ≡ placed.now.object.sections }
-    ensures sections { OnOk result ((all : List GlobalData) → AreGlobals globals.now all
+    ensures sections { OnOk result ((all : List GlobalData)
+        → addresses.now ≡ symbol_addresses all placed.now
         → sections.new ≡ relocated all placed.now) }
-    ensures none { OnOk result ((all : List GlobalData) → AreGlobals globals.now all
+    ensures none { OnOk result ((all : List GlobalData)
+        → addresses.now ≡ symbol_addresses all placed.now
         → first_some (refusal_at all number placed.now) placed.now.object.relocs ≡ None) }
-    ensures err { IfErr result (λ e. (all : List GlobalData) → AreGlobals globals.now all
+    ensures err { IfErr result (λ e. (all : List GlobalData)
+        → addresses.now ≡ symbol_addresses all placed.now
         → IsRefusal (first_some (refusal_at all number placed.now) placed.now.object.relocs) e) }
 {
     let object = placed.object;
     for reloc in &object.relocs {
-        if let Err(err) = write_in(globals, placed, reloc, sections) {
+        if let Err(err) = write_in(addresses, placed, reloc, sections) {
             return Err(LinkErr::Reloc {
                 object: number,
                 section: u32::from(reloc.section),
@@ -125,20 +131,22 @@ fn write_all(
 // The sections of an object with its relocations written, or the first that can't be written.
 fn relocated(
     alloc: Global,
-    globals: &BTreeMap<&str, u32>,
+    names: &HashMap<&str, Definition>,
+    placed: &[Placed<'_>],
     number: u32,
-    placed: &Placed<'_>,
+    each: &Placed<'_>,
 ) -> Result<Vec<Section>, LinkErr>
-    ensures sections { IfOk result (λ ss. (all : List GlobalData) → AreGlobals globals.now all
-        → ss.items ≡ relocated all placed.now) }
-    ensures none { OnOk result ((all : List GlobalData) → AreGlobals globals.now all
-        → first_some (refusal_at all number placed.now) placed.now.object.relocs ≡ None) }
-    ensures err { IfErr result (λ e. (all : List GlobalData) → AreGlobals globals.now all
-        → IsRefusal (first_some (refusal_at all number placed.now) placed.now.object.relocs) e) }
+    ensures sections { IfOk result (λ ss. (all : List GlobalData)
+        → AreGlobals names.now placed.now all → ss.items ≡ relocated all each.now) }
+    ensures none { OnOk result ((all : List GlobalData) → AreGlobals names.now placed.now all
+        → first_some (refusal_at all number each.now) each.now.object.relocs ≡ None) }
+    ensures err { IfErr result (λ e. (all : List GlobalData) → AreGlobals names.now placed.now all
+        → IsRefusal (first_some (refusal_at all number each.now) each.now.object.relocs) e) }
 {
-    let object = placed.object;
+    let object = each.object;
+    let addresses = symbol_addresses(alloc, names, placed, each)?;
     let mut sections = copies_of(alloc, &object.sections)?;
-    write_all(globals, number, placed, &mut sections)?;
+    write_all(&addresses, number, each, &mut sections)?;
     Ok(sections)
 }
 
@@ -157,18 +165,18 @@ fn append(contents: &mut Vec<Section>, more: Vec<Section>) -> Result<(), LinkErr
 #[tactic(auto, unfolding(crate::specs::Linked::contents_of, crate::specs::Linked::reloc_in))]
 pub(crate) fn contents_of(
     alloc: Global,
-    globals: &BTreeMap<&str, u32>,
+    names: &HashMap<&str, Definition>,
     placed: &[Placed<'_>],
 ) -> Result<Vec<Section>, LinkErr>
     requires few { length placed.now ≤ 65535 }
-    requires globals { AreGlobals globals.now (globals_of placed.now) }
+    requires globals { AreGlobals names.now placed.now (globals_of placed.now) }
     ensures sections { IfOk result (λ ss. ss.items ≡ contents_of placed.now) }
     ensures none { OnOk result (reloc_in (globals_of placed.now) placed.now ≡ None) }
     ensures err { IfErr result (IsRefusal (reloc_in (globals_of placed.now) placed.now)) }
 {
     let mut contents = Vec::new(alloc);
-    for (number, object) in placed.iter().enumerate() {
-        let sections = relocated(alloc, globals, number as u32, object)?;
+    for (number, each) in placed.iter().enumerate() {
+        let sections = relocated(alloc, names, placed, number as u32, each)?;
         append(&mut contents, sections)?;
     }
     Ok(contents)

@@ -35,7 +35,8 @@ fn with_size(place: &Place, size: u64, section: &Section) -> u64
 fn add_size(places: &[Place], sizes: &mut [u64], section: &Section)
     requires count { length sizes.old ≡ length places.now }
     requires small { AreSmall sizes.old }
-    ensures taken { (before : List SectionData) → AreTaken places.now before sizes.old → AreTaken places.now (before ++ section.now ∷ []) sizes.new }
+    ensures taken { (before : List SectionData) → AreTaken places.now before sizes.old
+        → AreTaken places.now (before ++ section.now ∷ []) sizes.new }
 {
     for (i, place) in places.iter().enumerate() {
         sizes[i] = with_size(place, sizes[i], section);
@@ -47,7 +48,8 @@ fn add_size(places: &[Place], sizes: &mut [u64], section: &Section)
 fn is_over(places: &[Place], sizes: &[u64]) -> bool
     requires count { length sizes.now ≡ length places.now }
     requires few { length places.now ≤ 64 }
-    ensures over { (before : List SectionData) → AreTaken places.now before sizes.now → result ≡ is_over places.now before }
+    ensures over { (before : List SectionData) → AreTaken places.now before sizes.now
+        → result ≡ is_over places.now before }
     ensures small { result ≡ false → AreSmall sizes.now }
 {
     let mut total = 0u64;
@@ -73,7 +75,8 @@ fn find_place(places: &[Place], name: &str) -> Option<usize>
 fn base_of(places: &[Place], sizes: &[u64], section: &Section) -> u64
     requires count { length sizes.now ≡ length places.now }
     requires small { AreSmall sizes.now }
-    ensures { (before : List SectionData) → AreTaken places.now before sizes.now → result ≡ base_of places.now before section.now }
+    ensures { (before : List SectionData) → AreTaken places.now before sizes.now
+        → result ≡ base_of places.now before section.now }
 {
     match find_place(places, section.name.as_str()) {
         None => 0,
@@ -94,11 +97,17 @@ pub(crate) fn bases_of(
     requires count { length sizes.old ≡ length places.now }
     requires few { length places.now ≤ 64 }
     requires small { AreSmall sizes.old }
-    ensures bases { IfOk result (λ bases. (before : List SectionData) → AreTaken places.now before sizes.old → bases.items ≡ bases_after places.now before sections.now) }
-    ensures taken { OnOk result ((before : List SectionData) → AreTaken places.now before sizes.old → AreTaken places.now (before ++ sections.now) sizes.new) }
-    ensures room { OnOk result ((before : List SectionData) → AreTaken places.now before sizes.old → no_room_after places.now before sections.now ≡ None) }
+    ensures bases { IfOk result (λ bases. (before : List SectionData)
+        → AreTaken places.now before sizes.old
+        → bases.items ≡ bases_after places.now before sections.now) }
+    ensures taken { OnOk result ((before : List SectionData) → AreTaken places.now before sizes.old
+        → AreTaken places.now (before ++ sections.now) sizes.new) }
+    ensures room { OnOk result ((before : List SectionData) → AreTaken places.now before sizes.old
+        → no_room_after places.now before sections.now ≡ None) }
     ensures small { OnOk result (AreSmall sizes.new) }
-    ensures err { IfErr result (λ e. (before : List SectionData) → AreTaken places.now before sizes.old → IsRefusal (no_room_after places.now before sections.now) e) }
+    ensures err { IfErr result (λ e. (before : List SectionData)
+        → AreTaken places.now before sizes.old
+        → IsRefusal (no_room_after places.now before sections.now) e) }
 {
     let mut bases = Vec::new(alloc);
     for section in sections {

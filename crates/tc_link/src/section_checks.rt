@@ -21,7 +21,8 @@ pub(crate) fn is_placed(places: &[Place], name: &str) -> bool
 
 // In which sections of an object a symbol is defined.
 fn sections_with_symbols(alloc: Global, object: &Object) -> Result<Vec<bool>, LinkErr>
-    ensures held { IfOk result (λ held. (k : ℕ) (d : Bool) → k < length object.now.sections → slice_index_or held.items k d ≡ has_symbol object.now.symbols k) }
+    ensures held { IfOk result (λ held. (k : ℕ) (d : Bool) → k < length object.now.sections
+        → slice_index_or held.items k d ≡ has_symbol object.now.symbols k) }
     ensures count { IfOk result (λ held. length held.items ≡ length object.now.sections) }
     ensures err { IfErr result (λ e. e ≡ NoMemory) }
 {
@@ -36,7 +37,9 @@ fn sections_with_symbols(alloc: Global, object: &Object) -> Result<Vec<bool>, Li
 
 // Whether a section in which a symbol is defined or not needs a place and has none.
 fn is_unplaced(places: &[Place], held: bool, section: &Section) -> bool
-    ensures { result ≡ ((nat_lt 0 (length section.now.bytes) || held) && not (is_placed places.now section.now.name)) }
+    ensures { result
+        ≡ ((nat_lt 0 (length section.now.bytes) || held)
+        && not (is_placed places.now section.now.name)) }
 {
     (!section.bytes.is_empty() || held) && !is_placed(places, section.name.as_str())
 }
@@ -44,8 +47,11 @@ fn is_unplaced(places: &[Place], held: bool, section: &Section) -> bool
 // The name of the first of these sections that needs a place and has none.
 fn first_unplaced<'a>(places: &[Place], held: &[bool], sections: &'a [Section]) -> Option<&'a str>
     requires { length held.now ≡ length sections.now }
-    ensures { (symbols : List SymbolData) → ((k : ℕ) (d : Bool) → k < length sections.now → slice_index_or held.now k d ≡ has_symbol symbols k)
-        → first_some (no_place_of places.now symbols) sections.now ≡ option_map (λ name. no_place name.now) result }
+    ensures { (symbols : List SymbolData)
+        → ((k : ℕ) (d : Bool) → k < length sections.now
+        → slice_index_or held.now k d ≡ has_symbol symbols k)
+        → first_some (no_place_of places.now symbols) sections.now
+        ≡ option_map (λ name. no_place name.now) result }
 {
     for (number, section) in sections.iter().enumerate() {
         if is_unplaced(places, held[number], section) {

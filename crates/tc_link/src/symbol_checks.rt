@@ -10,13 +10,14 @@ ghost use Rattle.tc_link.specs.Errors.{IsRefusal};
 ghost use Rattle.tc_link.specs.declared.errors.LinkErr.TheVariants.{NoMemory};
 
 use crate::LinkErr;
-use crate::names::{is_missing, is_twice};
+use crate::definitions::Definition;
+use crate::names::{are_single, is_missing, is_twice};
 use std::alloc::Global;
-use std::collections::BTreeMap;
+use std::collections::HashMap;
 use tc_object::{Object, Symbol};
 
 // Whether a symbol is global, and another one too under its name.
-fn is_repeated(names: &BTreeMap<&str, bool>, symbol: &Symbol) -> bool
+fn is_repeated(names: &HashMap<&str, Definition>, symbol: &Symbol) -> bool
     ensures { (objects : List ObjectData) → CountsGlobals names.now objects
         → result ≡ (is_global symbol.now && nat_lt 1 (globals_named objects symbol.now.name)) }
 {
@@ -24,7 +25,7 @@ fn is_repeated(names: &BTreeMap<&str, bool>, symbol: &Symbol) -> bool
 }
 
 // The name of the first of these symbols that is defined in two objects.
-fn first_repeated<'a>(names: &BTreeMap<&str, bool>, symbols: &'a [Symbol]) -> Option<&'a str>
+fn first_repeated<'a>(names: &HashMap<&str, Definition>, symbols: &'a [Symbol]) -> Option<&'a str>
     ensures { (objects : List ObjectData) → CountsGlobals names.now objects
         → first_some (twice_of objects) symbols.now ≡ option_map (λ name. twice name.now) result }
 {
@@ -39,13 +40,16 @@ fn first_repeated<'a>(names: &BTreeMap<&str, bool>, symbols: &'a [Symbol]) -> Op
 /// That no global symbol is defined in two objects.
 pub(crate) fn check_repeated(
     alloc: Global,
-    names: &BTreeMap<&str, bool>,
+    names: &HashMap<&str, Definition>,
     objects: &[Object],
 ) -> Result<(), LinkErr>
     requires { CountsGlobals names.now objects.now }
     ensures ok { OnOk result (twice_in objects.now ≡ None) }
     ensures err { IfErr result (IsRefusal (twice_in objects.now)) }
 {
+    if are_single(names) {
+        return Ok(());
+    }
     for object in objects {
         if let Some(name) = first_repeated(names, &object.symbols) {
             return Err(LinkErr::Twice(String::from_str(alloc, name)?));
@@ -65,7 +69,8 @@ pub(crate) fn mark(marks: &mut Vec<bool>, number: usize)
 
 // Which symbols of an object its relocations use.
 fn used_symbols(alloc: Global, object: &Object) -> Result<Vec<bool>, LinkErr>
-    ensures used { IfOk result (λ used. (k : ℕ) (d : Bool) → k < length object.now.symbols → slice_index_or used.items k d ≡ is_used object.now.relocs k) }
+    ensures used { IfOk result (λ used. (k : ℕ) (d : Bool) → k < length object.now.symbols
+        → slice_index_or used.items k d ≡ is_used object.now.relocs k) }
     ensures count { IfOk result (λ used. length used.items ≡ length object.now.symbols) }
     ensures err { IfErr result (λ e. e ≡ NoMemory) }
 {
@@ -77,7 +82,7 @@ fn used_symbols(alloc: Global, object: &Object) -> Result<Vec<bool>, LinkErr>
 }
 
 // Whether a symbol that is used or not is undefined here and in all objects.
-fn is_lost(names: &BTreeMap<&str, bool>, used: bool, symbol: &Symbol) -> bool
+fn is_lost(names: &HashMap<&str, Definition>, used: bool, symbol: &Symbol) -> bool
     ensures { (objects : List ObjectData) → CountsGlobals names.now objects
         → result ≡ (symbol.now.kind == 0 && used && globals_named objects symbol.now.name == 0) }
 {
@@ -86,14 +91,17 @@ fn is_lost(names: &BTreeMap<&str, bool>, used: bool, symbol: &Symbol) -> bool
 
 // The name of the first of these symbols that is used, and undefined here and in all objects.
 fn first_missing<'a>(
-    names: &BTreeMap<&str, bool>,
+    names: &HashMap<&str, Definition>,
     used: &[bool],
     symbols: &'a [Symbol],
 ) -> Option<&'a str>
     requires { length used.now ≡ length symbols.now }
     ensures { (objects : List ObjectData) → CountsGlobals names.now objects
-        → (relocs : List Reloc) → ((k : ℕ) (d : Bool) → k < length symbols.now → slice_index_or used.now k d ≡ is_used relocs k)
-        → first_some (missing_of objects relocs) symbols.now ≡ option_map (λ name. missing name.now) result }
+        → (relocs : List Reloc)
+        → ((k : ℕ) (d : Bool) → k < length symbols.now
+        → slice_index_or used.now k d ≡ is_used relocs k)
+        → first_some (missing_of objects relocs) symbols.now
+        ≡ option_map (λ name. missing name.now) result }
 {
     for (number, symbol) in symbols.iter().enumerate() {
         if is_lost(names, used[number], symbol) {
@@ -106,7 +114,7 @@ fn first_missing<'a>(
 /// That each symbol that a relocation uses is defined.
 pub(crate) fn check_missing(
     alloc: Global,
-    names: &BTreeMap<&str, bool>,
+    names: &HashMap<&str, Definition>,
     objects: &[Object],
 ) -> Result<(), LinkErr>
     requires { CountsGlobals names.now objects.now }

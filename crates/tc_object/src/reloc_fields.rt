@@ -133,7 +133,7 @@ pub(crate) fn read_relocs(
     ensures err { IfErr result (IsFaultOf (many_at (reloc_after sections.now symbols) count [] c.old)) }
     ensures bytes { c.new.bytes ≡ c.old.bytes }
 {
-    let mut relocs = Vec::new(alloc);
+    let mut relocs = Vec::with_capacity(alloc, count as usize)?;
     for _i in 0..count {
         let reloc = read_reloc(c, sections, symbols, &relocs)?;
         relocs.push(reloc)?;

@@ -11,7 +11,7 @@ use crate::fields::{fault, read_kind};
 use crate::used_names::{no_names, read_new_name};
 use crate::{ObjErr, Section, Symbol};
 use std::alloc::Global;
-use std::collections::BTreeMap;
+use std::collections::HashMap;
 use tcd_base::{Cursor, FormErr, read_u16, read_u32};
 
 /// The length of a section in bytes; 0 where there is none of this number.
@@ -85,13 +85,14 @@ fn read_symbol<'a>(
     alloc: Global,
     c: &mut Cursor<'a>,
     sections: &[Section],
-    names: &mut BTreeMap<&'a str, ()>,
+    names: &mut HashMap<&'a str, ()>,
 ) -> Result<Symbol, ObjErr>
     requires { length c.old.bytes ≤ 2 ^ 30 }
     ensures ok { IfOk result (λ s. symbol_with sections.now (is_among names.old) c.old ≡ Ok (s, c.new)) }
     ensures err { IfErr result (IsFaultOf (symbol_with sections.now (is_among names.old) c.old)) }
     ensures bytes { c.new.bytes ≡ c.old.bytes }
-    ensures names { IfOk result (λ s. (q : List ℕ) → is_among names.new q ≡ (bytes_eq s.name q || is_among names.old q)) }
+    ensures names { IfOk result (λ s. (q : List ℕ) → is_among names.new q
+        ≡ (bytes_eq s.name q || is_among names.old q)) }
 {
     let name = read_new_name(alloc, c, names)?;
     let kind = read_kind(c, 0, 2)?;
@@ -117,8 +118,8 @@ pub(crate) fn read_symbols<'a>(
     ensures err { IfErr result (IsFaultOf (many_at (symbol_after sections.now) count [] c.old)) }
     ensures bytes { c.new.bytes ≡ c.old.bytes }
 {
-    let mut names = no_names(alloc);
-    let mut symbols = Vec::new(alloc);
+    let mut names = no_names(alloc, count)?;
+    let mut symbols = Vec::with_capacity(alloc, count as usize)?;
     for _i in 0..count {
         let symbol = read_symbol(alloc, c, sections, &mut names)?;
         symbols.push(symbol)?;

@@ -8,24 +8,26 @@ ghost use Rattle.tc_object.specs.Used.{is_among};
 use crate::ObjErr;
 use crate::fields::fault;
 use crate::names::{read_name_bytes, read_name_length};
-use std::alloc::{AllocFailed, Global};
-use std::collections::BTreeMap;
+use std::alloc::{AllocError, AllocFailed, Global};
+use std::collections::HashMap;
 use tcd_base::Cursor;
 
-/// No names.
-pub(crate) fn no_names<'a>(alloc: Global) -> BTreeMap<&'a str, ()>
-    ensures { (q : List ℕ) → is_among result q ≡ false }
+/// No names, with room for so many.
+pub(crate) fn no_names<'a>(alloc: Global, count: u16) -> Result<HashMap<&'a str, ()>, AllocError>
+    ensures { IfOk result (λ names. (q : List ℕ) → is_among names q ≡ false) }
 {
-    BTreeMap::new(alloc)
+    let names = HashMap::with_capacity(alloc, count as usize)?;
+    Ok(names)
 }
 
 /// Adds a name; false where it is there already.
 fn add_name<'a>(
-    names: &mut BTreeMap<&'a str, ()>,
+    names: &mut HashMap<&'a str, ()>,
     name: &'a str,
 ) -> Result<bool, AllocFailed<(&'a str, ())>>
     ensures added { IfOk result (λ added. added ≡ not (is_among names.old name.now)) }
-    ensures names { OnOk result ((q : List ℕ) → is_among names.new q ≡ (bytes_eq name.now q || is_among names.old q)) }
+    ensures names { OnOk result ((q : List ℕ) → is_among names.new q
+        ≡ (bytes_eq name.now q || is_among names.old q)) }
 {
     let old = names.insert(name, ())?;
     Ok(old.is_none())
@@ -36,13 +38,15 @@ fn add_name<'a>(
 pub(crate) fn read_new_name<'a>(
     alloc: Global,
     c: &mut Cursor<'a>,
-    names: &mut BTreeMap<&'a str, ()>,
+    names: &mut HashMap<&'a str, ()>,
 ) -> Result<String, ObjErr>
     requires { length c.old.bytes ≤ 2 ^ 30 }
-    ensures ok { IfOk result (λ name. name_after (is_among names.old) c.old ≡ Ok (string_bytes name, c.new)) }
+    ensures ok { IfOk result (λ name. name_after (is_among names.old) c.old
+        ≡ Ok (string_bytes name, c.new)) }
     ensures err { IfErr result (IsFaultOf (name_after (is_among names.old) c.old)) }
     ensures bytes { c.new.bytes ≡ c.old.bytes }
-    ensures names { IfOk result (λ name. (q : List ℕ) → is_among names.new q ≡ (bytes_eq (string_bytes name) q || is_among names.old q)) }
+    ensures names { IfOk result (λ name. (q : List ℕ) → is_among names.new q
+        ≡ (bytes_eq (string_bytes name) q || is_among names.old q)) }
 {
     let count = read_name_length(c)?;
     let start = c.place();

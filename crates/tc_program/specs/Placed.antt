@@ -59,9 +59,11 @@ pub record SpanData : Type 0 where
   pub at : ℕ
   pub size : ℕ
 
+-- where a segment of an image stands, and how many bytes it has
 abbrev pub span_of : SegmentData → SpanData
 span_of s = record { at = s.at; size = length s.bytes }
 
+-- where a place of a layout begins, and how many bytes the sections of its name take there
 abbrev pub place_span : List SectionData → PlaceData → SpanData
 place_span sections p = record { at = p.at; size = taken p.section sections }
 

@@ -11,14 +11,14 @@ use Rattle.tc_link.proofs.linking.make.Goals as goal
 
 pub returns-in_err-contents-clause-err : goal.returns-in_err-contents-clause-err
 returns-in_err-contents-clause-err c =
-    let p = err_from_is_err_and c.from_residual-in_err-contents.result c.from_residual-in_err-contents.ensures.1 in
+    let p = err_from_is_err_and c.from_residual.result c.from_residual.ensures.1 in
     rw (p.1, p.2) (made_reloc c.args.layout.now c.args.placed.now (refusal_of c.in_err-contents.field-0.0) c.in_err-contents.ensures.err)
 
 pub returns-in_default-clause-err : goal.returns-in_default-clause-err
 returns-in_default-clause-err c =
     let name : c.as_str.result.now ≡ c.args.layout.now.entry = c.as_str.ensures.value ∙ ap (λ (l : LayoutData). l.entry) c.layout.view_is in
     made_no_entry c.args.layout.now c.args.placed.now c.in_ok-contents.ensures.none
-    (ap (global_address (globals_of c.args.placed.now)) (sym name) ∙ sym (c.in_ok-globals.ensures.ok c.as_str.result.now) ∙ sym c.address_named.ensures ∙ c.in_default.is)
+    (ap (global_address (globals_of c.args.placed.now)) (sym name) ∙ sym (c.requires.globals c.as_str.result.now) ∙ sym c.address_named.ensures ∙ c.in_default.is)
 
 pub invariant_of-result : goal.invariant_of-result
 invariant_of-result c =
@@ -37,5 +37,5 @@ returns-clause-ok c =
     let segments : map segment_data c.in_ok-segments.segments.items ≡ segments_of c.args.layout.now.places (contents_of c.args.placed.now) =
     c.in_ok-segments.ensures.ok ∙ ap (λ (ps : List PlaceData). segments_of ps c.deref-2.result.now) places ∙ ap (segments_of c.args.layout.now.places) contents in
     made_ok c.args.layout.now c.args.placed.now c.in-Some.entry c.in_ok-contents.ensures.none
-    (ap (global_address (globals_of c.args.placed.now)) (sym name) ∙ sym (c.in_ok-globals.ensures.ok c.as_str.result.now) ∙ sym c.address_named.ensures ∙ c.in-Some.is)
+    (ap (global_address (globals_of c.args.placed.now)) (sym name) ∙ sym (c.requires.globals c.as_str.result.now) ∙ sym c.address_named.ensures ∙ c.in-Some.is)
     ∙ ap (λ (ss : List SegmentData). Ok (record { entry = c.in-Some.entry; segments = ss })) (sym segments)

@@ -10,7 +10,7 @@ use Rattle.tc_link.proofs.linking.place_all.Goals as goal
 
 pub returns-in_err-check_repeated-clause-err : goal.returns-in_err-check_repeated-clause-err
 returns-in_err-check_repeated-clause-err c =
-    let p = err_from_is_err_and c.from_residual-in_err-check_repeated.result c.from_residual-in_err-check_repeated.ensures.1 in
+    let p = err_from_is_err_and c.from_residual.result c.from_residual.ensures.1 in
     rw (p.1, p.2) (told_twice c.args.objects.now c.args.layout.now (refusal_of c.in_err-check_repeated.field-0.0) c.in_err-check_repeated.ensures.err)
 
 pub returns-in_err-check_missing-clause-err : goal.returns-in_err-check_missing-clause-err

@@ -4,6 +4,7 @@ use Rattle.std.specs.Borrow.{Bor}
 use Rattle.tc_object.specs.Objects.{ObjectData}
 use Rattle.tc_link.specs.Linked.{first_at, twice, twice_of, twice_in}
 use Rattle.tc_link.proofs.FirstLaws.{more_item, found_item, first_end}
+use Rattle.tc_link.proofs.TwiceLaws.{none_twice}
 use Rattle.tc_link.proofs.symbol_checks.check_repeated.Goals as goal
 
 pub loop-object-init : goal.loop-object-init
@@ -31,3 +32,6 @@ loop-object-preserved c =
 pub returns-clause-ok : goal.returns-clause-ok
 unfolding twice_in
 returns-clause-ok c = first_end (λ _ (o : ObjectData). first_at (twice_of c.args.objects.now) 0 o.symbols) c.args.objects.now c.loop-object.object-index c.loop-object-test.false c.loop-object.invariant
+
+pub returns-then-are_single-clause-ok : goal.returns-then-are_single-clause-ok
+returns-then-are_single-clause-ok c = none_twice c.args.objects.now (c.are_single.ensures c.if-are_single.true c.args.objects.now c.requires)

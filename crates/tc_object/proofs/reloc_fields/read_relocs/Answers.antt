@@ -8,7 +8,7 @@ pub returns-in_err-reloc-clause-err : goal.returns-in_err-reloc-clause-err
 returns-in_err-reloc-clause-err c =
     let fault = many_fail (reloc_after c.args.sections.now c.args.symbols) c.args.count c.loop-i._i c.loop-i.relocs.items c.args.c.now c.loop-i.c _ c.loop-i-test.true c.loop-i.invariant.read
     (rw c.deref.ensures.value at c.in_err-reloc.ensures.read) in
-    let p = err_from_is_err_and c.from_residual.result c.from_residual.ensures.1 in
+    let p = err_from_is_err_and c.from_residual-in_err-reloc.result c.from_residual-in_err-reloc.ensures.1 in
     rw (p.1, p.2) fault
 
 pub loop-i-preserved : goal.loop-i-preserved

@@ -17,7 +17,7 @@ pub returns-in_err-section-clause-err : goal.returns-in_err-section-clause-err
 returns-in_err-section-clause-err c =
     let fault = many_fault section_after c.args.count c.loop-i._i c.loop-i.sections.items c.args.c.now c.loop-i.c c.in_err-section.field-0.0 c.loop-i-test.true c.loop-i.invariant.read
     (rw (by_names c.loop-i.sections.items (is_among c.loop-i.names) c.loop-i.invariant.names c.loop-i.c) c.in_err-section.ensures.err) in
-    let p = err_from_is_err_and c.from_residual.result c.from_residual.ensures.1 in
+    let p = err_from_is_err_and c.from_residual-in_err-section.result c.from_residual-in_err-section.ensures.1 in
     rw (p.1, p.2) fault
 
 pub loop-i-preserved : goal.loop-i-preserved

@@ -17,7 +17,7 @@ pub returns-in_err-symbol-clause-err : goal.returns-in_err-symbol-clause-err
 returns-in_err-symbol-clause-err c =
     let fault = many_fault (symbol_after c.args.sections.now) c.args.count c.loop-i._i c.loop-i.symbols.items c.args.c.now c.loop-i.c c.in_err-symbol.field-0.0 c.loop-i-test.true c.loop-i.invariant.read
     (rw (by_names c.args.sections.now c.loop-i.symbols.items (is_among c.loop-i.names) c.loop-i.invariant.names c.loop-i.c) c.in_err-symbol.ensures.err) in
-    let p = err_from_is_err_and c.from_residual.result c.from_residual.ensures.1 in
+    let p = err_from_is_err_and c.from_residual-in_err-symbol.result c.from_residual-in_err-symbol.ensures.1 in
     rw (p.1, p.2) fault
 
 pub loop-i-preserved : goal.loop-i-preserved

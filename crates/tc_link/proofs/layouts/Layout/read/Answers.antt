@@ -1,13 +1,12 @@
-use Rattle.std.proofs.Common.{◌≡◌, ◌<◌, ◌+◌, ◌∷◌, ℕ, List, length, drop, Result, Ok, sym, subst, ap, arith}
+use Rattle.std.proofs.Common.{◌≡◌, ℕ, List, length, Result, Ok, sym, subst, ap, arith}
 use Rattle.std.specs.Prelude.{IfOk, IfErr}
 use Rattle.std.proofs.lemmas.Bool.Decides.{nat_tests}
 use Rattle.std.proofs.lemmas.Result.{err_from_is_err_and}
 use Rattle.tc_link.specs.declared.faults.LayoutErr.{LayoutErr}
 use Rattle.tc_link.specs.Layouts.{LayoutData}
-use Rattle.tc_link.specs.Lines.{lines_of}
+use Rattle.tcd_text.specs.Lines.{lines_of}
 use Rattle.tc_link.specs.Faults.{IsFaultOf}
 use Rattle.tc_link.specs.Seen.{DraftData}
-use Rattle.tc_link.proofs.LineLaws.{end_of, lines_of-first}
 use Rattle.tc_link.proofs.ReadLaws.{reached_none, reached_more, reached_fault, reached_end}
 use Rattle.tc_link.proofs.layouts.Layout.read.Goals as goal
 
@@ -20,20 +19,16 @@ lines-init c = record {
 pub returns-in_err-add_line-clause-err : goal.returns-in_err-add_line-clause-err
 returns-in_err-add_line-clause-err c =
     let rest : List ℕ = c.lines.rest.now in
-    let some : 0 < length rest = grind (arith, nat_tests) in
-    let lines : lines_of rest ≡ c.first_line.result.now ∷ lines_of (drop (end_of rest + 1) rest) = rw c.first_line.ensures (lines_of-first rest some) in
-    let fault = reached_fault (lines_of c.args.bytes.now) c.lines.number rest c.first_line.result.now (drop (end_of rest + 1) rest) c.lines.draft c.in_err-add_line.field-0.0 c.lines.invariant.reached lines c.in_err-add_line.ensures.err in
+    let fault = reached_fault (lines_of c.args.bytes.now) c.lines.number rest c.cut_line.result.0.now c.cut_line.result.1.now c.lines.draft c.in_err-add_line.field-0.0 c.lines.invariant.reached c.cut_line.ensures.lines c.in_err-add_line.ensures.err in
     let p = err_from_is_err_and c.from_residual.result c.from_residual.ensures.1 in
     rw (p.1, p.2) fault
 
 pub lines-preserved : goal.lines-preserved
 lines-preserved c =
     let rest : List ℕ = c.lines.rest.now in
-    let some : 0 < length rest = grind (arith, nat_tests) in
-    let lines : lines_of rest ≡ c.first_line.result.now ∷ lines_of c.after_line-rest.result.now = rw (c.first_line.ensures, c.after_line-rest.ensures.rest) (lines_of-first rest some) in
     record {
-      short = omega (arith, c.after_line-rest.ensures.shorter, c.lines.invariant.short);
-      reached = reached_more (lines_of c.args.bytes.now) c.lines.number rest c.first_line.result.now c.after_line-rest.result.now c.lines.draft c.add_line.new.self c.lines.invariant.reached lines c.in_ok-add_line.ensures.good c.in_ok-add_line.ensures.ok;
+      short = omega (arith, c.cut_line.ensures.shorter, c.lines.invariant.short);
+      reached = reached_more (lines_of c.args.bytes.now) c.lines.number rest c.cut_line.result.0.now c.cut_line.result.1.now c.lines.draft c.add_line.new.self c.lines.invariant.reached c.cut_line.ensures.lines c.in_ok-add_line.ensures.good c.in_ok-add_line.ensures.ok;
     }
 
 pub returns-clause-ok : goal.returns-clause-ok

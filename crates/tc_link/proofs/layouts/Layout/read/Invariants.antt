@@ -1,5 +1,5 @@
 use Rattle.std.proofs.Common.{◌≤◌, ◌+◌, length}
-use Rattle.tc_link.specs.Lines.{lines_of}
+use Rattle.tcd_text.specs.Lines.{lines_of}
 use Rattle.tc_link.proofs.ReadLaws.{Reached}
 use Rattle.tc_link.proofs.layouts.Layout.read.Given as goal
 

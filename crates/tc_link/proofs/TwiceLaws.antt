@@ -1,0 +1,24 @@
+-- No symbol is defined twice where no name is.
+use Rattle.std.proofs.Common.{◌≡◌, ◌+◌, ◌∷◌, [], ℕ, Bool, true, false, ltb, ◌&&◌, List, Option, None, refl, ap, ◌∙◌}
+use Rattle.std.specs.Bool.{then_some}
+use Rattle.std.specs.Option.{option_or}
+use Rattle.tc_object.specs.Objects.{SymbolData, ObjectData}
+use Rattle.tc_link.specs.Placing.{is_global}
+use Rattle.tc_link.specs.Linked.{Refusal, twice, twice_of, twice_in, globals_named, first_at}
+
+-- no answer at any item
+none_at : {A B : Type 0} (f : ℕ → A → Option B) (n : ℕ) (xs : List A) → ((k : ℕ) (x : A) → f k x ≡ None) → first_at f n xs ≡ None
+unfolding first_at
+none_at f n [] h = refl
+none_at {A} {B} f n (x ∷ xs) h = ap (λ (o : Option B). option_or o (first_at f (n + 1) xs)) (h n x) ∙ none_at f (n + 1) xs h
+
+not_both : (a b : Bool) (r : Refusal) → b ≡ false → then_some (a && b) r ≡ None
+not_both true b r e = ap (λ (x : Bool). then_some {T = Refusal} x r) e
+not_both false b r e = refl
+
+pub none_twice : (objects : List ObjectData) → ((q : List ℕ) → ltb 1 (globals_named objects q) ≡ false) → twice_in objects ≡ None
+unfolding twice_in
+none_twice objects single =
+    none_at (λ _ (o : ObjectData). first_at (twice_of objects) 0 o.symbols) 0 objects
+    (λ k o. none_at (twice_of objects) 0 o.symbols
+    (λ j (s : SymbolData). not_both (is_global s) (ltb 1 (globals_named objects s.name)) (twice s.name) (single s.name)))

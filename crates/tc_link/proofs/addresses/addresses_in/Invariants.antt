@@ -1,0 +1,8 @@
+use Rattle.std.proofs.Common.{◌≡◌, List, take, map}
+use Rattle.tc_link.specs.Placing.{GlobalData, symbol_address}
+use Rattle.tc_link.specs.Names.{AreGlobals}
+use Rattle.tc_link.proofs.addresses.addresses_in.Given as goal
+
+abbrev pub invariant-loop-symbol : goal.invariant-loop-symbol
+invariant-loop-symbol l = (all : List GlobalData) → AreGlobals l.names l.placed all
+    → l.addresses.items ≡ map (symbol_address all l.bases) (take l.symbol-index l.symbols)
