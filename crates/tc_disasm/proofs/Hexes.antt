@@ -5,7 +5,7 @@ use Rattle.std.proofs.lemmas.Bool.Decides.{nat_tests}
 use Rattle.tc_lex.specs.Bytes.{is_digit, is_hex}
 use Rattle.tc_lex.specs.Cut.{has_hex_front}
 use Rattle.tc_stmt.specs.Numbers.{digit_of, add_digit, number_of, bounded}
-use Rattle.tc_disasm.specs.Texts.{hex_digit, hex_byte, hex_word}
+use Rattle.hex_text.specs.Digits.{hex_digit, hex_byte, hex_word}
 use Rattle.tc_disasm.proofs.Decimals.{bounded-small}
 
 pub is_hex-digit : (n : ℕ) → n < 16 → is_hex (hex_digit n) ≡ true

@@ -5,6 +5,8 @@ mod RowLaws
 mod Registers
 mod Decimals
 mod Hexes
+mod HexLines
+mod SmallNumbers
 mod Signs
 mod OperandLaws
 mod Targets

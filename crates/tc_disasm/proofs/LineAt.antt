@@ -12,7 +12,8 @@ use Rattle.tc_encode.proofs.DecodeProofs.{decode_laws}
 use Rattle.tc_asm.specs.Items.{bytes, section, code}
 use Rattle.tc_asm.specs.Lines.{LineData, line_data}
 use Rattle.tc_lex.specs.Bytes.{is_digit, is_name_first, is_name_byte}
-use Rattle.tc_disasm.specs.Texts.{hex_digit, hex_byte, hex_word, text_of}
+use Rattle.hex_text.specs.Digits.{hex_digit, hex_byte, hex_word}
+use Rattle.tc_disasm.specs.Texts.{text_of}
 use Rattle.tc_disasm.specs.Listing.{piece_text, piece_size, text_at, size_at, remark, line_at, section_line}
 use Rattle.tc_disasm.specs.Lexed.{IsStop}
 use Rattle.tc_disasm.proofs.Decimals.{both}

@@ -12,7 +12,8 @@ use Rattle.tc_stmt.specs.declared.wanting.Want.{Want}
 use Rattle.tc_stmt.specs.declared.wanting.Want.TheVariants.{Reg, A10, Number, Target, Absolute, Memory}
 use Rattle.tc_stmt.specs.Filling.{field_of}
 use Rattle.tc_stmt.specs.Pieces.{PieceData}
-use Rattle.tc_disasm.specs.Texts.{is_minus, size_of, number_text, target_text, register_text, base_text, absolute_text, address_in, is_two_way, operand_text, operands_text, hex_word}
+use Rattle.hex_text.specs.Digits.{hex_word}
+use Rattle.tc_disasm.specs.Texts.{is_minus, size_of, number_text, target_text, register_text, base_text, absolute_text, address_in, is_two_way, operand_text, operands_text}
 use Rattle.tc_disasm.specs.Tokens.{piece, number, field_number, target, base, operand_tokens}
 use Rattle.tc_disasm.specs.Lexed.{IsStop}
 use Rattle.tc_disasm.proofs.Decimals.{both}

@@ -13,7 +13,8 @@ use Rattle.tc_stmt.specs.declared.wanting.Want.{Want}
 use Rattle.tc_stmt.specs.declared.wanting.Want.TheVariants.{Reg, A10, Number, Target, Absolute, Memory}
 use Rattle.tc_stmt.specs.Operands.{operand, value, plain, memory, plain_number}
 use Rattle.tc_stmt.specs.Filling.{FoundData, fill, fill_all, fill_plain, fill_a10, fill_value, fill_memory, fill_absolute, put_absolute, shape_index, put, put_register, put_number, broken, field_of}
-use Rattle.tc_disasm.specs.Texts.{register_text, is_minus, size_of, is_two_way, absolute_text, address_in, hex_word}
+use Rattle.hex_text.specs.Digits.{hex_word}
+use Rattle.tc_disasm.specs.Texts.{register_text, is_minus, size_of, is_two_way, absolute_text, address_in}
 use Rattle.tc_disasm.specs.Tokens.{operand_tokens, base, number}
 use Rattle.tc_disasm.specs.Puts.{given}
 use Rattle.tc_disasm.proofs.Decimals.{both, number_of-decimal}

@@ -9,7 +9,8 @@ use Rattle.tc_lex.specs.declared.kinds.Front.TheVariants as front
 use Rattle.tc_lex.specs.Bytes.{is_digit, is_hex, is_name_first, is_name_byte}
 use Rattle.tc_lex.specs.Cut.{front_of, front_at, number_len, has_hex_front}
 use Rattle.tc_stmt.specs.Pieces.{PieceData}
-use Rattle.tc_disasm.specs.Texts.{hex_byte, hex_word, register_text}
+use Rattle.hex_text.specs.Digits.{hex_byte, hex_word}
+use Rattle.tc_disasm.specs.Texts.{register_text}
 use Rattle.tc_disasm.specs.Tokens.{piece}
 use Rattle.tc_disasm.specs.Lexed.{IsStop}
 use Rattle.tc_disasm.proofs.Decimals.{both, decimal_is}

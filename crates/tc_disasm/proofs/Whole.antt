@@ -1,12 +1,10 @@
 -- A listing is assembled, and its object has the segments.
-use Rattle.std.proofs.Common.{◌≡◌, ◌<◌, ◌≤◌, ◌+◌, ◌^◌, zero, suc, ℕ, Bool, true, List, [], ◌∷◌, ◌++◌, length, map, get_or, refl, ap, sym, subst, ◌∙◌, arith, append-nil, inl, inr, Result, Ok, Err}
+use Rattle.std.proofs.Common.{◌≡◌, ◌<◌, ◌≤◌, ◌+◌, ◌^◌, zero, suc, ℕ, Bool, true, List, [], ◌∷◌, ◌++◌, length, map, get_or, refl, ap, sym, subst, ◌∙◌, arith, append-nil, Result, Ok, Err}
 use Rattle.std.specs.Prelude.{All, IfOk, IfErr}
 use Rattle.std.specs.List.{list_all}
-use Rattle.std.proofs.lemmas.Bool.{lt-ltb, cases_lt}
-use Rattle.std.proofs.lemmas.List.{get_or-map}
+use Rattle.std.proofs.lemmas.Bool.{lt-ltb}
 use Rattle.std.proofs.lemmas.List.Sorted.{All-permutation, length_permutation, sum_by-IsPermutation}
-use Rattle.elf_image.specs.declared.images.Segment.{Segment}
-use Rattle.elf_image.specs.Images.{SegmentData, ImageData, IsImage, segment_data}
+use Rattle.elf_image.specs.Images.{SegmentData, ImageData, IsImage}
 use Rattle.tc_object.specs.Objects.{SectionData, ObjectData}
 use Rattle.tc_stmt.specs.Pieces.{is_kind}
 use Rattle.tc_asm.specs.Lines.{LineData, line_data, line_in, lines_in, pieces_line, line_from}
@@ -18,7 +16,7 @@ use Rattle.tc_asm.specs.Errors.{IfBad}
 use Rattle.tc_asm.specs.Objects.{section_of, relocs_from, object_of}
 use Rattle.tc_asm.specs.Sources.{with_line, line_rule, drafted, symbols_of, KeepsRules, IsLeast}
 use Rattle.tc_disasm.specs.Listing.{by_address, sections_from, listing_of}
-use Rattle.tc_disasm.specs.Assembled.{section_name, HoldsSegments, AreBytes, ReadsBack}
+use Rattle.tc_disasm.specs.Assembled.{section_name, HoldsSegments, ReadsBack}
 use Rattle.tc_disasm.proofs.LineTokens.{reads-tokens, lexes-end}
 use Rattle.tc_disasm.proofs.LineAt.{is_byte}
 use Rattle.tc_disasm.proofs.Runs.{Runs, runs-append, keeps-at}
@@ -68,7 +66,7 @@ list_all-from P p h (x ∷ xs) all = rw (h x (all 0 x (omega arith))) (list_all-
 bytes-pass : (bs : List ℕ) → All (λ b. b < 256) bs → list_all is_byte bs ≡ true
 bytes-pass bs all = list_all-from (λ b. b < 256) is_byte (λ b h. lt-ltb b 256 h) bs all
 
-module _ (i : ImageData) (is : IsImage i) (bytes : AreBytes i.segments) where
+module _ (i : ImageData) (is : IsImage i) where
   ss : List SegmentData
   ss = by_address i.segments
 
@@ -78,7 +76,7 @@ module _ (i : ImageData) (is : IsImage i) (bytes : AreBytes i.segments) where
   all_bytes : list_all are_bytes (by_address i.segments) ≡ true
   all_bytes =
       list_all-from (λ (s : SegmentData). All (λ b. b < 256) s.bytes) are_bytes (λ s h. bytes-pass s.bytes h) (by_address i.segments)
-      (All-permutation (λ (s : SegmentData). All (λ b. b < 256) s.bytes) i.segments (by_address i.segments) (by_address-permutes i.segments) bytes)
+      (All-permutation (λ (s : SegmentData). All (λ b. b < 256) s.bytes) i.segments (by_address i.segments) (by_address-permutes i.segments) is.bytes)
 
   total : total_of (by_address i.segments) ≤ 2 ^ 24
   total = let small = is.small in let same = sum_by-IsPermutation (λ (s : SegmentData). length s.bytes) i.segments (by_address i.segments) (by_address-permutes i.segments) in omega arith
@@ -131,24 +129,9 @@ module _ (i : ImageData) (is : IsImage i) (bytes : AreBytes i.segments) where
   }
 
 -- ---- calls
--- one segment more has bytes
-pub bytes_more : (segments : List Segment) (i : ℕ) (x : Segment) (bs : List ℕ) → i < length segments → x ≡ get_or segments i x → bs ≡ x.bytes.items → All (λ b. b < 256) bs
-    → ((k : ℕ) (d : SegmentData) → k < i → All (λ b. b < 256) (get_or (map segment_data segments) k d).bytes)
-    → (k : ℕ) (d : SegmentData) → k < i + 1 → All (λ b. b < 256) (get_or (map segment_data segments) k d).bytes
-bytes_more segments i x bs within is bytes here before k d h =
-    elim (cases_lt k i) [
-      | inl less ↦ before k d less
-      | inr last ↦
-          let same : k ≡ i = omega arith in
-          let there : bs ≡ (get_or (map segment_data segments) k d).bytes =
-          bytes ∙ ap (λ (s : Segment). s.bytes.items) is ∙ ap (λ (s : SegmentData). s.bytes) (sym (get_or-map segment_data segments i x d within)) ∙ ap (λ j. (get_or (map segment_data segments) j d).bytes) (sym same) in
-          subst (λ (xs : List ℕ). All (λ b. b < 256) xs) there here
-    ]
-
 -- the image of a call
-pub reads_back-of : (image now : ImageData) (lent segments : List Segment) → image.segments ≡ map segment_data segments → image ≡ now → IsImage image → lent ≡ segments → AreBytes (map segment_data lent) → ReadsBack now
-reads_back-of image now lent segments seen same is value bytes =
-    subst ReadsBack same (reads_back image is (subst AreBytes (sym seen) (subst (λ (xs : List Segment). AreBytes (map segment_data xs)) value bytes)))
+pub reads_back-of : (image now : ImageData) → image ≡ now → IsImage image → ReadsBack now
+reads_back-of image now same is = subst ReadsBack same (reads_back image is)
 
 module _ (i : ImageData) (back : ReadsBack i) (source : List ℕ) (is : source ≡ listing_of i) where
   pub short_source : length source ≤ 2 ^ 30

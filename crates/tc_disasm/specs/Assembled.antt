@@ -1,5 +1,5 @@
 -- What the listing of an image is assembled to.
-use Rattle.std.specs.Prelude.{◌≡◌, ◌≤◌, ◌<◌, ◌^◌, ◌++◌, ℕ, List, [], codes, length, map, slice_index_or, All}
+use Rattle.std.specs.Prelude.{◌≡◌, ◌≤◌, ◌<◌, ◌^◌, ◌++◌, ℕ, List, [], codes, length, map, slice_index_or}
 use Rattle.std.specs.Fmt.{decimal}
 use Rattle.std.specs.List.Sorted.{IsPermutation, IsNonDecreasing}
 use Rattle.elf_image.specs.Images.{SegmentData, ImageData, IsImage}
@@ -22,10 +22,6 @@ pub record HoldsSegments (segments : List SegmentData) (o : ObjectData) : Type 0
   pub names : (k : ℕ) (d : SectionData) → k < length o.sections → (slice_index_or o.sections k d).name ≡ section_name k
   pub symbols : o.symbols ≡ []
   pub relocs : o.relocs ≡ []
-
--- the bytes of the segments are bytes
-abbrev pub AreBytes : List SegmentData → Type 0
-AreBytes segments = All (λ (s : SegmentData). All (λ b. b < 256) s.bytes) segments
 
 -- The listing of the image is a source that isn't too long, none of its lines breaks a rule, so there's no least one
 -- that does, and the object that the lines put together has the segments as its sections.

@@ -1,8 +1,9 @@
 -- The text of an instruction.
-use Rattle.std.specs.Prelude.{ℕ, ◌+◌, ◌-◌, ◌*◌, ◌/◌, ◌%◌, ◌^◌, ◌==◌, ◌&&◌, not, nat_lt, nat_le, Bool, true, if◌then◌else◌, List, [], ◌∷◌, ◌++◌, codes, slice_get}
+use Rattle.std.specs.Prelude.{ℕ, ◌-◌, ◌*◌, ◌/◌, ◌==◌, ◌&&◌, not, nat_le, Bool, true, if◌then◌else◌, List, [], ◌∷◌, ◌++◌, codes, slice_get}
 use Rattle.std.specs.Fmt.{decimal}
 use Rattle.std.specs.List.{flat_map}
 use Rattle.std.specs.Option.{option_map_or}
+use Rattle.hex_text.specs.Digits.{hex_word}
 use Rattle.tc_isa.specs.declared.table.Form.{Form}
 use Rattle.tc_isa.specs.declared.fields.Fields.{Fields}
 use Rattle.tc_isa.specs.Words.{bounds, form_index}
@@ -13,18 +14,6 @@ use Rattle.tc_stmt.specs.declared.wanting.Want.{Want}
 use Rattle.tc_stmt.specs.declared.wanting.Want.TheVariants.{Reg, A10, Number, Target, Absolute, Memory}
 use Rattle.tc_stmt.specs.Wants.{wants_of}
 use Rattle.tc_stmt.specs.Filling.{field_of}
-
--- a hex digit, in upper case
-unfoldable pub hex_digit : ℕ → ℕ
-hex_digit n = if nat_lt n 10 then 48 + n else 55 + n
-
--- a byte as two of them, and a word as eight
-unfoldable pub hex_byte : ℕ → List ℕ
-hex_byte b = hex_digit (b / 16) ∷ hex_digit (b % 16) ∷ []
-
--- a word as eight hex digits
-unfoldable pub hex_word : ℕ → List ℕ
-hex_word x = hex_byte (x / 2 ^ 24) ++ (hex_byte (x / 2 ^ 16 % 256) ++ (hex_byte (x / 2 ^ 8 % 256) ++ hex_byte (x % 256)))
 
 -- a register of a bank, true for address registers: `d0` to `d15`, `a0` to `a15`
 unfoldable pub register_text : Bool → ℕ → List ℕ

@@ -5,11 +5,12 @@ ghost use Rattle.elf_image.specs.Images.{segment_data, is_segment};
 ghost use Rattle.tc_disasm.specs.Listing.{section_line, section_text, sections_from, listing_of};
 ghost use Rattle.tc_disasm.specs.Views.{lent_data};
 
-use crate::hex::{append, append_word};
 use crate::operands::append_decimal;
 use crate::ordering::by_address;
 use crate::pieces::append_lines;
+use crate::texts::append;
 use elf_image::{Image, Segment};
+use hex_text::append_hex_word;
 use std::alloc::Global;
 use tcd_base::NoMemory;
 
@@ -21,7 +22,7 @@ fn append_section_line(text: &mut String, number: u32, address: u32) -> Result<(
     append(text, ".section s")?;
     append_decimal(text, number)?;
     append(text, " # ")?;
-    append_word(text, address)?;
+    append_hex_word(text, address)?;
     append(text, "\n")
 }
 

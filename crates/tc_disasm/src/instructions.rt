@@ -7,8 +7,8 @@ ghost use Rattle.tc_isa.specs.Codec.{Fits};
 ghost use Rattle.tc_stmt.specs.Wants.{wants_of};
 ghost use Rattle.tc_disasm.specs.Texts.{operand_text, operands_text, row_text, text_of};
 
-use crate::hex::append;
 use crate::operands::append_operand;
+use crate::texts::append;
 use tc_isa::{Fields, Form, Inst, Row, rows};
 use tc_stmt::{Want, wants};
 use tcd_base::NoMemory;

@@ -1,7 +1,6 @@
 //! Images as text.
 #![tactic(auto)]
 
-mod hex;
 mod images;
 mod instructions;
 mod laws;
@@ -9,6 +8,7 @@ mod operands;
 mod ordering;
 mod pieces;
 mod reassembling;
+mod texts;
 
 pub use images::listing;
 pub use laws::{listing_law, number_laws, statement_law, token_laws};

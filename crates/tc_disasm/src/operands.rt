@@ -7,15 +7,24 @@ ghost use Rattle.tc_stmt.specs.declared.wanting.Want.TheVariants.{Memory};
 ghost use Rattle.tc_stmt.specs.Filling.{field_of};
 ghost use Rattle.tc_disasm.specs.Texts.{register_text, number_text, is_two_way, target_text, address_in, absolute_text, base_text, operand_text};
 
-use crate::hex::{append, append_word};
+use crate::texts::{append, append_digit};
+use hex_text::append_hex_word;
 use tc_isa::{Fields, Form, bounds_of};
 use tc_stmt::{Field, Want};
 use tcd_base::NoMemory;
 
 /// Puts a number there, in decimal.
+#[tactic(auto, using(crate::proofs::SmallNumbers::one_digit, crate::proofs::SmallNumbers::two_digits))]
 pub(crate) fn append_decimal(text: &mut String, n: u32) -> Result<(), NoMemory>
     ensures { OnOk result (string_bytes text.new ≡ string_bytes text.old ++ decimal n) }
 {
+    if n < 10 {
+        return append_digit(text, n);
+    }
+    if n < 100 {
+        append_digit(text, n / 10)?;
+        return append_digit(text, n % 10);
+    }
     write!(text, "{n}")?;
     Ok(())
 }
@@ -107,7 +116,7 @@ fn append_absolute(text: &mut String, form: Form, f: &Fields) -> Result<(), NoMe
     ensures { OnOk result (string_bytes text.new ≡ string_bytes text.old ++ absolute_text form f.now) }
 {
     append(text, "0x")?;
-    append_word(text, address_in(form, f))
+    append_hex_word(text, address_in(form, f))
 }
 
 #[tactic(auto, unfolding(crate::specs::Texts::base_text))]

@@ -1,11 +1,12 @@
 // The lines of the bytes from an address on.
 ghost use Rattle.std.specs.Prelude.{◌≡◌, ◌<◌, ◌≤◌, ◌+◌, ◌^◌, ◌++◌, ◌∷◌, [], OnOk, IfOk, string_bytes, length, min, drop};
 ghost use Rattle.std.specs.List.{flat_map};
-ghost use Rattle.tc_disasm.specs.Texts.{hex_byte};
+ghost use Rattle.hex_text.specs.Digits.{hex_byte};
 ghost use Rattle.tc_disasm.specs.Listing.{data_text, text_at, size_at, remark, line_at, lines_from};
 
-use crate::hex::{append, append_byte, append_word};
 use crate::instructions::append_instruction;
+use crate::texts::{append, append_address};
+use hex_text::{append_ascii, append_hex_byte, hex_byte};
 use tc_encode::decode;
 use tcd_base::NoMemory;
 
@@ -17,12 +18,12 @@ fn append_data(text: &mut String, bytes: &[u8]) -> Result<(), NoMemory>
         [] => Ok(()),
         [last] => {
             append(text, ".byte 0x")?;
-            append_byte(text, u32::from(*last))
+            append_hex_byte(text, u32::from(*last))
         }
         [low, high, ..] => {
             append(text, ".half 0x")?;
-            append_byte(text, u32::from(*high))?;
-            append_byte(text, u32::from(*low))
+            append_hex_byte(text, u32::from(*high))?;
+            append_hex_byte(text, u32::from(*low))
         }
     }
 }
@@ -48,14 +49,56 @@ fn append_text(text: &mut String, bytes: &[u8]) -> Result<usize, NoMemory>
     }
 }
 
+// Two bytes in hex digits, and a line feed.
+fn append_half(text: &mut String, a: u8, b: u8) -> Result<(), NoMemory>
+    ensures { OnOk result (string_bytes text.new
+        ≡ string_bytes text.old ++ (hex_byte a ++ (hex_byte b ++ (10 ∷ [])))) }
+{
+    let first = hex_byte(u32::from(a));
+    let second = hex_byte(u32::from(b));
+    let line = [first[0], first[1], second[0], second[1], b'\n'];
+    append_ascii(text, &line)
+}
+
+// Four bytes in hex digits, and a line feed.
+fn append_four(text: &mut String, a: u8, b: u8, c: u8, d: u8) -> Result<(), NoMemory>
+    ensures { OnOk result (string_bytes text.new ≡ string_bytes text.old
+        ++ (hex_byte a ++ (hex_byte b ++ (hex_byte c ++ (hex_byte d ++ (10 ∷ [])))))) }
+{
+    let first = hex_byte(u32::from(a));
+    let second = hex_byte(u32::from(b));
+    let third = hex_byte(u32::from(c));
+    let fourth = hex_byte(u32::from(d));
+    let line = [
+        first[0], first[1], second[0], second[1], third[0], third[1], fourth[0], fourth[1], b'\n',
+    ];
+    append_ascii(text, &line)
+}
+
 // Bytes, in hex digits.
-fn append_bytes(text: &mut String, bytes: &[u8]) -> Result<(), NoMemory>
-    ensures { OnOk result (string_bytes text.new ≡ string_bytes text.old ++ flat_map hex_byte bytes.now) }
+fn append_each(text: &mut String, bytes: &[u8]) -> Result<(), NoMemory>
+    ensures { OnOk result (string_bytes text.new
+        ≡ string_bytes text.old ++ flat_map hex_byte bytes.now) }
 {
     for byte in bytes {
-        append_byte(text, u32::from(*byte))?;
+        append_hex_byte(text, u32::from(*byte))?;
     }
     Ok(())
+}
+
+// Bytes in hex digits, and a line feed.
+fn append_bytes(text: &mut String, bytes: &[u8]) -> Result<(), NoMemory>
+    ensures { OnOk result (string_bytes text.new
+        ≡ string_bytes text.old ++ (flat_map hex_byte bytes.now ++ (10 ∷ []))) }
+{
+    match bytes {
+        [a, b] => append_half(text, *a, *b),
+        [a, b, c, d] => append_four(text, *a, *b, *c, *d),
+        _ => {
+            append_each(text, bytes)?;
+            append(text, "\n")
+        }
+    }
 }
 
 // An address, the bytes there, and the line's end.
@@ -63,11 +106,8 @@ fn append_bytes(text: &mut String, bytes: &[u8]) -> Result<(), NoMemory>
 fn append_remark(text: &mut String, address: u32, bytes: &[u8]) -> Result<(), NoMemory>
     ensures { OnOk result (string_bytes text.new ≡ string_bytes text.old ++ remark address bytes.now) }
 {
-    append(text, " # ")?;
-    append_word(text, address)?;
-    append(text, " ")?;
-    append_bytes(text, bytes)?;
-    append(text, "\n")
+    append_address(text, address)?;
+    append_bytes(text, bytes)
 }
 
 // A line, and how many bytes it lists.

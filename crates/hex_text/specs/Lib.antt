@@ -1,0 +1,2 @@
+-- Bytes and words, written as hex digits.
+pub mod Digits

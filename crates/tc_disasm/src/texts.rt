@@ -1,0 +1,35 @@
+// Texts, put behind one another.
+ghost use Rattle.std.specs.Prelude.{◌≡◌, ◌<◌, ◌+◌, ◌++◌, ◌∷◌, [], OnOk, string_bytes, codes};
+ghost use Rattle.hex_text.specs.Digits.{hex_word};
+
+use hex_text::{append_ascii, hex_word};
+use tcd_base::NoMemory;
+
+/// Puts a text behind what stands there.
+pub(crate) fn append(text: &mut String, more: &str) -> Result<(), NoMemory>
+    ensures { OnOk result (string_bytes text.new ≡ string_bytes text.old ++ more.now) }
+{
+    text.push_str(more)?;
+    Ok(())
+}
+
+/// Puts a decimal digit there.
+pub(crate) fn append_digit(text: &mut String, n: u32) -> Result<(), NoMemory>
+    requires { n < 10 }
+    ensures { OnOk result (string_bytes text.new ≡ string_bytes text.old ++ ((48 + n) ∷ [])) }
+{
+    text.push(char::from(48 + n as u8))?;
+    Ok(())
+}
+
+/// Puts the mark of a remark and an address there.
+pub(crate) fn append_address(text: &mut String, address: u32) -> Result<(), NoMemory>
+    ensures { OnOk result (string_bytes text.new
+        ≡ string_bytes text.old ++ (codes " # " ++ (hex_word address ++ (32 ∷ [])))) }
+{
+    let w = hex_word(address);
+    let line = [
+        b' ', b'#', b' ', w[0], w[1], w[2], w[3], w[4], w[5], w[6], w[7], b' ',
+    ];
+    append_ascii(text, &line)
+}
