@@ -1,8 +1,8 @@
 -- One row's need.
-use Rattle.std.proofs.Common.{◌≡◌, ℕ, ◌+◌, ◌<◌, ◌≤◌, ◌⊎◌, inl, inr, length, List, [], ◌∷◌, ◌++◌, min, max, arith, refl, sym, subst, ap, ◌∙◌, Bool, true, false, set, ◌≢◌, zero, suc, ◌*◌, ◌-◌, take}
+use Rattle.std.proofs.Common.{◌≡◌, ℕ, ◌+◌, ◌<◌, ◌≤◌, ◌⊎◌, inl, inr, length, List, [], ◌∷◌, ◌++◌, min, max, arith, refl, sym, subst, ap, ◌∙◌, Bool, true, false, set, ◌≢◌, zero, suc, ◌*◌, ◌-◌, take, drop, get_or}
 use Rattle.std.specs.Prelude.{slice_index, Contains, sum, if◌then◌else◌, replicate}
-use Rattle.std.proofs.lemmas.List.Elements.{Contains-get_or, Contains-push, Contains-push_cases, Contains-append_left}
-use Rattle.std.proofs.lemmas.List.{get_or-set_same, get_or-set_other, length-set, get_or_default}
+use Rattle.std.proofs.lemmas.List.Elements.{Contains-get_or, Contains-push, Contains-push_cases, Contains-append_cases, Contains-append_left, Contains-append_right}
+use Rattle.std.proofs.lemmas.List.{drop_more, get_or-set_same, get_or-set_other, length-set, get_or_default}
 use Rattle.std.proofs.lemmas.Bool.{cases_eq}
 use Rattle.std.proofs.Math.Seq.{take-append_seam}
 use Rattle.std.proofs.lemmas.List.Sums.{sum_by-set, sum_by-le}
@@ -58,15 +58,18 @@ rose_row needs row cap need lt below bound capped least = record {
   met = λ e. (let no : true ≡ false = e in cc);
 }
 
-pub passes_more : (cap : ℕ) (old mid new : List ℕ) (seen : List Row) (row : Row) (changed raised next : Bool) → Passes cap old mid seen changed → PassesRow cap mid new row raised → next ≡ (if raised then true else changed) → Passes cap old new (seen ++ row ∷ []) next
+pub passes_more : (cap : ℕ) (old mid new : List ℕ) (seen : List Row) (row : Row) (changed raised next : Bool) → Passes cap old mid seen changed → PassesRow cap mid new row raised → next ≡ (if raised then true else changed) → Passes cap old new (row ∷ seen) next
 passes_more cap old mid new seen row changed raised next p r is = record {
-  low = λ other m low. r.low other (m row (Contains-push seen row)) (p.low other (λ q has. m q (Contains-append_left seen (row ∷ []) q has)) low);
+  low = λ other m low. r.low other (m row (Contains-append_left (row ∷ []) seen row (Contains-push [] row))) (p.low other (λ q has. m q (Contains-append_right (row ∷ []) seen q has)) low);
   capped = r.capped;
   grows = λ e. grown changed raised next is e p.grows p.same r.grows r.same;
   same = λ e. (let b = both_false raised changed next is e in r.same b.0 ∙ p.same b.1);
-  met = λ e q has. (let b = both_false raised changed next is e in elim (Contains-push_cases seen row q has) [
-    | inl before ↦ subst (λ (l : List ℕ). MeetsCapped cap l q) (sym (r.same b.0)) (p.met b.1 q before)
-    | inr same ↦ subst (λ (k : Row). MeetsCapped cap new k) same (r.met b.0)
+  met = λ e q has. (let b = both_false raised changed next is e in elim (Contains-append_cases (row ∷ []) seen q has) [
+    | inl here ↦ elim (Contains-push_cases [] row q here) [
+      | inl none ↦ absurd (omega (arith, none.1))
+      | inr same ↦ subst (λ (k : Row). MeetsCapped cap new k) same (r.met b.0)
+    ]
+    | inr behind ↦ subst (λ (l : List ℕ). MeetsCapped cap l q) (sym (r.same b.0)) (p.met b.1 q behind)
   ]);
 } where
   both_false : (a b c : Bool) → c ≡ (if a then true else b) → c ≡ false → (a ≡ false) × (b ≡ false)
@@ -78,6 +81,14 @@ passes_more cap old mid new seen row changed raised next p r is = record {
   grown false true next e f g s h t = subst (λ (l : List ℕ). sum l < sum new) (s refl) (h refl)
   grown true false next e f g s h t = subst (λ (l : List ℕ). sum old < sum l) (sym (t refl)) (g refl)
   grown false false next e f g s h t = let no : false ≡ true = sym e ∙ f in cc
+
+-- one row in front of those that were passed
+pub passes_front : (cap : ℕ) (old mid new : List ℕ) (rows : List Row) (i : ℕ) (row : Row) (changed raised next : Bool) → 0 < i → i ≤ length rows → row ≡ get_or rows (i - 1) row → Passes cap old mid (drop i rows) changed → PassesRow cap mid new row raised
+    → next ≡ (if raised then true else changed) → Passes cap old new (drop (i - 1) rows) next
+passes_front cap old mid new rows i row changed raised next some few is p r e =
+    subst (λ (l : List Row). Passes cap old new l next)
+    (sym (drop_more rows (i - 1) row (omega arith) ∙ ap (λ (q : Row). q ∷ drop (i - 1 + 1) rows) (sym is) ∙ ap (λ (n : ℕ). row ∷ drop n rows) (omega arith)))
+    (passes_more cap old mid new (drop i rows) row changed raised next p r e)
 
 pub passes_none : (cap : ℕ) (needs : List ℕ) → ((k : ℕ) → slice_index needs k ≤ cap + 1) → Passes cap needs needs [] false
 passes_none cap needs capped = record { low = λ other m low. low; capped = capped; grows = λ e. (let no : false ≡ true = e in cc); same = λ e. refl; met = λ e row has. absurd (omega (arith, has.1)) }

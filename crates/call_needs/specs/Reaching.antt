@@ -47,6 +47,7 @@ pub record IsRecurring (edges : List Edge) (k : ℕ) : Type 0 where
   pub back : Leads edges k next
 
 -- ---- marks
+-- a node is marked
 abbrev pub IsMarked : List Bool → ℕ → Type 0
 IsMarked marks k = slice_index_or marks k false ≡ true
 

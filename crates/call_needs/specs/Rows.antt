@@ -11,6 +11,7 @@ pub record MeetsRow (need : ℕ → ℕ) (row : Row) : Type 0 where
   pub held : row.held ≤ need row.node
   pub into : (t : ℕ) → Contains row.into.items t → row.held + 1 + need t ≤ need row.node
 
+-- needs that meet each row
 abbrev pub Meets : (ℕ → ℕ) → List Row → Type 0
 Meets need rows = (row : Row) → Contains rows row → MeetsRow need row
 
@@ -29,6 +30,7 @@ pub record MeetsCapped (cap : ℕ) (needs : List ℕ) (row : Row) : Type 0 where
   pub held : min row.held (cap + 1) ≤ slice_index needs row.node
   pub into : (t : ℕ) → Contains row.into.items t → min (row.held + 1 + slice_index needs t) (cap + 1) ≤ slice_index needs row.node
 
+-- none of these needs is above the other ones
 abbrev pub AllAtMost : List ℕ → (ℕ → ℕ) → Type 0
 AllAtMost needs other = (k : ℕ) → k < length needs → slice_index needs k ≤ other k
 
@@ -48,6 +50,7 @@ pub record Passes (cap : ℕ) (old new : List ℕ) (rows : List Row) (changed : 
   pub same : changed ≡ false → new ≡ old
   pub met : changed ≡ false → (row : Row) → Contains rows row → MeetsCapped cap new row
 
+-- the least needs of the nodes that meet the rows, none above the cap; or no needs meet the rows without passing it
 abbrev pub LeastNeeds : ℕ → List Row → ℕ → Result (Option (Vec ℕ Global)) AllocError → Type 0
 LeastNeeds nodes rows cap (Ok (Some needs)) = (length needs.items ≡ nodes) × Meets (λ k. slice_index needs.items k) rows × IsLow needs.items rows × ((k : ℕ) → slice_index needs.items k ≤ cap)
 LeastNeeds nodes rows cap (Ok None) = (other : ℕ → ℕ) → Meets other rows → (k : ℕ) × (k < nodes) × (cap < other k)

@@ -47,7 +47,8 @@ fn raise_row(needs: &mut [u32], row: &Row, cap: u32) -> bool
     false
 }
 
-/// One pass over the rows: raises needs that are too low, and says whether there were any.
+/// One pass over the rows, the last one first, as rows of what is entered mostly stand behind those of what enters it: raises
+/// needs that are too low, and says whether there were any.
 fn pass(needs: &mut [u32], rows: &[Row], cap: u32) -> bool
     requires cap { cap < 2 ^ 16 }
     requires nodes { length needs.old < 2 ^ 16 }
@@ -56,8 +57,8 @@ fn pass(needs: &mut [u32], rows: &[Row], cap: u32) -> bool
     ensures pass { Passes cap needs.old needs.new rows.now result }
 {
     let mut changed = false;
-    for row in rows {
-        if raise_row(needs, row, cap) {
+    for i in (0..rows.len()).rev() {
+        if raise_row(needs, &rows[i], cap) {
             changed = true;
         }
     }

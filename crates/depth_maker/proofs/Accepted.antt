@@ -24,7 +24,8 @@ use Rattle.cfg_recover.specs.Refusals.{Enters, MeetsNeeds}
 use Rattle.cfg_recover.proofs.CodeLaws.{IsCode-bounded}
 use Rattle.depth_maker.specs.Growth.{IsProper, IsProperExit, IsGround}
 use Rattle.depth_maker.specs.Proper.{IsProperKnown, AllProper, AllFaultless}
-use Rattle.depth_maker.proofs.PlaceLaws.{key_tells, key_same, resumed_some, one_state}
+use Rattle.frame_places.proofs.KeyLaws.{key_tells, key_same}
+use Rattle.depth_maker.proofs.PlaceLaws.{resumed_some, one_state}
 use Rattle.depth_maker.proofs.KeyDuties.{HasKey, duties_keys}
 
 -- ---- options and lists

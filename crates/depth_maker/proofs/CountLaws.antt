@@ -13,7 +13,8 @@ use Rattle.depth_cert.specs.declared.keys.Key.{Key}
 use Rattle.cfg_recover.specs.Assignments.{Place, point, exit, Known, state, Assignment, same_key, same_place, frame_of, Asks, HasDuty, Joins, Derived}
 use Rattle.cfg_recover.specs.Refusals.{HasManyNodes, HasManyPoints, IsTooLarge, Passes, IsFault, limits}
 use Rattle.depth_maker.specs.Counts.{AreCounted, AreFew}
-use Rattle.depth_maker.proofs.PlaceLaws.{key_tells, key_same, place_tells, place_same}
+use Rattle.frame_places.proofs.KeyLaws.{key_tells, key_same}
+use Rattle.depth_maker.proofs.PlaceLaws.{place_tells, place_same}
 use Rattle.depth_maker.proofs.Sizes.{decides, any_contained, contained_any, no_more}
 use Rattle.depth_maker.proofs.Reached.{entry_of, asked_where}
 

@@ -15,13 +15,16 @@ use Rattle.cfg_recover.specs.Refusals.{IsFault}
 use Rattle.depth_maker.specs.Counts.{AreCounted, AreFew}
 use Rattle.depth_maker.proofs.CountLaws.{none_some, distinct_more, frame_stands, counted_rises, counted_exit, counted_point, counted_entry, passed_points, passed_frames}
 use Rattle.depth_maker.proofs.Reached.{entry_of}
-use Rattle.depth_maker.proofs.PlaceLaws.{place_tells, place_same, key_tells, key_same}
-use Rattle.depth_maker.specs.declared.places.Spot.{Spot}
-use Rattle.depth_maker.specs.declared.places.Spot.TheVariants.{Point, Exit}
-use Rattle.depth_maker.specs.declared.refusals.Refusal.{Refusal}
-use Rattle.depth_maker.specs.declared.refusals.Refusal.TheVariants.{Fault, NoMemory}
-use Rattle.depth_maker.specs.Spots.{spot_eq, spot_of, place_of}
-use Rattle.depth_maker.specs.View.{with_point, with_entered, points_after, frames_after, IsPassing, Passing, IsCountedIn, Answered}
+use Rattle.depth_maker.proofs.PlaceLaws.{place_tells, place_same}
+use Rattle.frame_places.proofs.KeyLaws.{key_tells, key_same}
+use Rattle.frame_places.specs.declared.places.Spot.{Spot}
+use Rattle.frame_places.specs.declared.places.Spot.TheVariants.{Point, Exit}
+use Rattle.frame_places.specs.declared.refusals.Refusal.{Refusal}
+use Rattle.frame_places.specs.declared.refusals.Refusal.TheVariants.{Fault, NoMemory}
+use Rattle.frame_places.specs.Spots.{spot_eq}
+use Rattle.depth_maker.specs.Spots.{spot_of, place_of}
+use Rattle.frame_places.specs.Counting.{with_point, with_entered, points_after, frames_after, IsPassing, Passing}
+use Rattle.depth_maker.specs.View.{IsCountedIn, Answered}
 
 -- few spots are few places
 places_length : (ps : List Spot) → length (map place_of ps) ≡ length ps

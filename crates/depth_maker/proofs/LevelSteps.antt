@@ -8,20 +8,22 @@ use Rattle.indexmap.specs.IndexMap.{IndexMap, get}
 use Rattle.value_domain.specs.Limits.{Limits, AreLimits}
 use Rattle.depth_cert.specs.declared.keys.Key.{Key}
 use Rattle.cfg_recover.specs.Assignments.{exit, Known}
-use Rattle.depth_maker.specs.declared.places.Spot.{Spot}
-use Rattle.depth_maker.specs.declared.places.Spot.TheVariants.{Point, Exit}
-use Rattle.depth_maker.specs.declared.places.Mark.{Mark}
-use Rattle.depth_maker.specs.declared.places.Mark.TheVariants.{Queued}
+use Rattle.frame_places.specs.declared.places.Spot.{Spot}
+use Rattle.frame_places.specs.declared.places.Spot.TheVariants.{Point, Exit}
+use Rattle.frame_places.specs.declared.places.Mark.{Mark}
+use Rattle.frame_places.specs.declared.places.Mark.TheVariants.{Queued}
 use Rattle.depth_maker.specs.declared.table.Table as made
-use Rattle.depth_maker.specs.Marks.{AllListed}
+use Rattle.frame_places.specs.Marks.{AllListed}
 use Rattle.depth_maker.specs.Levels.{level, rank_at, Rises}
-use Rattle.depth_maker.specs.Spots.{spot_eq}
-use Rattle.depth_maker.specs.View.{CellsProper, IsCountedIn, frames_after, points_after}
+use Rattle.frame_places.specs.Spots.{spot_eq}
+use Rattle.depth_maker.specs.View.{CellsProper, IsCountedIn}
+use Rattle.frame_places.specs.Counting.{frames_after, points_after}
 use Rattle.depth_maker.proofs.CountedLemmas.{few_spots}
 use Rattle.depth_maker.proofs.LevelLaws.{at_most, most_rank}
-use Rattle.depth_maker.proofs.MarkLemmas.{sides}
+use Rattle.frame_places.proofs.MarkLemmas.{sides}
 use Rattle.depth_maker.proofs.RowSteps.{placed}
-use Rattle.depth_maker.proofs.SpotLemmas.{front_cases, spot_refl, spot_tells}
+use Rattle.depth_maker.proofs.SpotLemmas.{front_cases}
+use Rattle.frame_places.proofs.SpotLemmas.{spot_refl, spot_tells}
 
 -- ---- sums
 -- where no term is lower, and one is higher

@@ -14,11 +14,9 @@ pub mod LevelLaws
 pub mod LevelSteps
 pub mod LoadedValues
 pub mod MadeLaws
-pub mod MarkLemmas
 pub mod NeedLaws
 pub mod NeedSteps
 pub mod NextLaws
-pub mod NumberLemmas
 pub mod OwnGrowth
 pub mod PartLemmas
 pub mod PlaceKinds
@@ -26,7 +24,6 @@ pub mod PlaceLaws
 pub mod PlaceRanges
 pub mod ProperDuties
 pub mod Reached
-pub mod ReaderLemmas
 pub mod RiseLemmas
 pub mod RecursLaws
 pub mod RecursSteps
@@ -38,7 +35,6 @@ pub mod SpotLemmas
 pub mod StateGrowth
 pub mod TableLaws
 pub mod VisitLemmas
-pub mod OrderLemmas
 pub mod FindLemmas
 pub mod OutLemmas
 pub mod SpelledLaws

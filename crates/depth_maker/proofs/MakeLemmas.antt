@@ -29,10 +29,10 @@ use Rattle.depth_maker.specs.View.{Answered, AnsweredOn, seen}
 use Rattle.depth_maker.specs.declared.ground.Ground.{Ground}
 use Rattle.depth_maker.specs.declared.answering.MakeErr.{MakeErr}
 use Rattle.depth_maker.specs.declared.answering.MakeErr.TheVariants.{Refused, NoMemory}
-use Rattle.depth_maker.specs.declared.places.Spot.{Spot}
-use Rattle.depth_maker.specs.declared.places.Spot.TheVariants.{Point, Exit}
-use Rattle.depth_maker.specs.declared.refusals.Refusal.{Refusal}
-use Rattle.depth_maker.specs.declared.refusals.Refusal.TheVariants.{Fault}
+use Rattle.frame_places.specs.declared.places.Spot.{Spot}
+use Rattle.frame_places.specs.declared.places.Spot.TheVariants.{Point, Exit}
+use Rattle.frame_places.specs.declared.refusals.Refusal.{Refusal}
+use Rattle.frame_places.specs.declared.refusals.Refusal.TheVariants.{Fault}
 use Rattle.depth_maker.specs.declared.rows.Source.{Source}
 use Rattle.depth_maker.proofs.CountLaws.{counted_within}
 use Rattle.depth_maker.proofs.Lawful.{lawful}

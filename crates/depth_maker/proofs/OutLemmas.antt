@@ -30,17 +30,17 @@ use Rattle.depth_maker.specs.Making.{IsWritten}
 use Rattle.depth_maker.specs.Proper.{IsProperKnown}
 use Rattle.depth_maker.specs.RowsAt.{need_by}
 use Rattle.depth_maker.specs.RowsBy.{IsSource}
-use Rattle.depth_maker.specs.Spelled.{AreFrames, AreKnown, AreRanged, IsFrameOf, WritesCert, HasBytes, IsOfVersion, IsOrdered, IsSpelledOn, NeedsAre, WritesPoint, WritesPoints, WritesExit, WritesNode, WritesNodes, addresses_in, cert_on, exit_at, exit_on, is_point_of, known_on, node_on, point_on, spot_address, spot_number, state_at}
+use Rattle.depth_maker.specs.Spelled.{AreFrames, AreKnown, IsFrameOf, WritesCert, HasBytes, IsOfVersion, IsOrdered, IsSpelledOn, NeedsAre, WritesPoint, WritesPoints, WritesExit, WritesNode, WritesNodes, addresses_in, cert_on, exit_at, exit_on, known_on, node_on, point_on, state_at}
+use Rattle.frame_places.specs.Spots.{AreRanged, is_point_of, spot_address, spot_number, spot_eq}
 use Rattle.depth_maker.specs.View.{seen, IsDone}
-use Rattle.depth_maker.specs.Spots.{spot_eq}
-use Rattle.depth_maker.specs.declared.places.Spot.{Spot}
-use Rattle.depth_maker.specs.declared.places.Spot.TheVariants.{Point, Exit}
+use Rattle.frame_places.specs.declared.places.Spot.{Spot}
+use Rattle.frame_places.specs.declared.places.Spot.TheVariants.{Point, Exit}
 use Rattle.depth_maker.specs.declared.rows.Source.{Source}
 use Rattle.depth_maker.specs.declared.spelling.Ordered.{Ordered}
 use Rattle.depth_maker.proofs.CountedLemmas.{few_spots}
 use Rattle.depth_maker.proofs.FindLemmas.{flat_twice, has_filter, length_kept}
 use Rattle.depth_maker.proofs.PlaceKinds.{IsOfKind, derived_kinds}
-use Rattle.depth_maker.proofs.PlaceLaws.{key_tells}
+use Rattle.frame_places.proofs.KeyLaws.{key_tells}
 use Rattle.depth_maker.proofs.PlaceRanges.{derived_in_range}
 use Rattle.depth_maker.proofs.RowSteps.{done_proper, done_state}
 use Rattle.depth_maker.proofs.SpelledLaws.{address_known, are_ranged, is_written, value_in}

@@ -1,7 +1,7 @@
 -- A visit, part by part: what a point owes is joined in the order in which it is listed, and never built as a list.
 use Rattle.std.proofs.Common.{◌+◌, take, drop, get_or, map, ◌≡◌, ℕ, ◌<◌, Bool, true, false, cond, ◌⊎◌, inl, inr, List, [], ◌∷◌, ◌++◌, Option, Some, None, IsSome, refl, sym, ap, subst, ◌∙◌, arith, length, Contains}
 use Rattle.std.specs.Prelude.{Result, Ok, Err, OnOk}
-use Rattle.depth_maker.specs.declared.refusals.Refusal.{Refusal}
+use Rattle.frame_places.specs.declared.refusals.Refusal.{Refusal}
 use Rattle.indexmap.specs.IndexMap.{IndexMap, get}
 use Rattle.std.specs.List.{flat_map}
 use Rattle.std.proofs.lemmas.List.{take_more, take-append-drop, map-append, append-nil}
@@ -28,14 +28,16 @@ use Rattle.depth_maker.specs.Proper.{AreLawful}
 use Rattle.depth_maker.specs.Tables.{Table, IsTable, Settled, IsResumed}
 use Rattle.depth_maker.proofs.PlaceLaws.{one_state}
 use Rattle.depth_maker.proofs.TableLaws.{derived_proper, table_marked, settled_again}
-use Rattle.depth_maker.specs.declared.places.Spot.{Spot}
-use Rattle.depth_maker.specs.declared.places.Mark.{Mark}
+use Rattle.frame_places.specs.declared.places.Spot.{Spot}
+use Rattle.frame_places.specs.declared.places.Mark.{Mark}
 use Rattle.depth_maker.specs.declared.table.Table as made
-use Rattle.depth_maker.specs.Spots.{spot_eq, spot_of, place_of}
+use Rattle.frame_places.specs.Spots.{spot_eq}
+use Rattle.depth_maker.specs.Spots.{spot_of, place_of}
 use Rattle.depth_maker.proofs.SpotLemmas.{back, forth}
 use Rattle.depth_maker.proofs.CountedLemmas.{counted_again}
 use Rattle.depth_maker.proofs.LevelSteps.{rises_then, same_level}
-use Rattle.depth_maker.specs.View.{seen, is_idle, is_queued, Reads, IsFine, Keeps, Joined, Paid, PaidFor, AllSettled, Owes, IsVisited}
+use Rattle.depth_maker.specs.View.{seen, IsFine, Keeps, Joined, Paid, PaidFor, AllSettled, Owes, IsVisited}
+use Rattle.frame_places.specs.Marks.{is_idle, is_queued, Reads}
 
 pub keeps_all : (b : Limits) (image : ImageData) (plan : PlanData) (s : made.Table) → Keeps b image plan s s
 keeps_all b image plan s = record { each = λ x free. (refl, refl); readers = λ z x h. h; read = λ z x h free. refl; settled = λ k p u d free pu pd h. h; rises = inr (refl, refl) }

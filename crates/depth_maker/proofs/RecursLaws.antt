@@ -19,7 +19,7 @@ use Rattle.cfg_recover.proofs.CodeLaws.{IsCode-one}
 use Rattle.cfg_recover.proofs.Members.{contains_map}
 use Rattle.depth_maker.specs.Counts.{AreCounted}
 use Rattle.depth_maker.specs.Entered.{entered_in}
-use Rattle.depth_maker.specs.Numbers.{number_in}
+use Rattle.frame_places.specs.Numbers.{number_in}
 use Rattle.call_needs.specs.Reaching as graph
 use Rattle.call_needs.specs.Reaching.{edge_to, AreEdges, Leads, along, IsRecurring, IsMarked, AreReaching, AreBetween}
 use Rattle.depth_maker.specs.RowsAt.{IsRowAt, AreRows}
@@ -27,7 +27,7 @@ use Rattle.call_needs.specs.declared.reach.Edge.{Edge}
 use Rattle.call_needs.specs.declared.row.Row.{Row}
 use Rattle.depth_maker.proofs.DutyGrowth.{contained_map}
 use Rattle.depth_maker.proofs.EnteredLemmas.{owed_entered}
-use Rattle.depth_maker.proofs.NumberLemmas.{numbered_at}
+use Rattle.frame_places.proofs.NumberLemmas.{numbered_at}
 use Rattle.depth_maker.proofs.PlaceLaws.{one_state}
 use Rattle.depth_maker.proofs.RowLaws.{known_frame, enters_of, entered_frame}
 

@@ -9,19 +9,20 @@ use Rattle.depth_cert.specs.Keys.{number_of_key}
 use Rattle.cfg_recover.specs.Assignments.{Place, point, Known, state, same_key}
 use Rattle.cfg_recover.specs.Refusals.{Recurs}
 use Rattle.depth_maker.specs.Counts.{AreCounted}
-use Rattle.depth_maker.specs.Numbers.{number_in}
+use Rattle.frame_places.specs.Numbers.{number_in}
 use Rattle.call_needs.specs.Reaching.{IsFirstRecurring, IsMarked, IsRecurring, AreReaching, AreBetween}
-use Rattle.depth_maker.specs.Recursing.{EdgesOn, EntersBy, EntersMarked, IsAddressIn, IsFirstMarked, IsRecursion, RecursBy, RecursFirstBy, orders_in}
+use Rattle.depth_maker.specs.Recursing.{EdgesOn, EntersBy, EntersMarked, IsFirstMarked, IsRecursion, RecursBy, RecursFirstBy, orders_in}
+use Rattle.frame_places.specs.Spots.{IsAddressIn}
 use Rattle.depth_maker.specs.RowsAt.{IsRowAt}
 use Rattle.depth_maker.specs.RowsBy.{IsSource}
 use Rattle.depth_maker.specs.Spots.{place_of}
 use Rattle.depth_maker.specs.View.{seen}
-use Rattle.depth_maker.specs.declared.places.Spot.{Spot}
-use Rattle.depth_maker.specs.declared.places.Spot.TheVariants.{Point}
+use Rattle.frame_places.specs.declared.places.Spot.{Spot}
+use Rattle.frame_places.specs.declared.places.Spot.TheVariants.{Point}
 use Rattle.call_needs.specs.declared.reach.Edge.{Edge}
 use Rattle.call_needs.specs.declared.row.Row.{Row}
 use Rattle.depth_maker.specs.declared.rows.Source.{Source}
-use Rattle.depth_maker.proofs.NumberLemmas.{number_at}
+use Rattle.frame_places.proofs.NumberLemmas.{number_at}
 use Rattle.depth_maker.proofs.PlaceRanges.{derived_in_range}
 use Rattle.depth_maker.proofs.RecursLaws.{row_enters, row_entered, owner, edges_between, recurs_ring, ring_recurs, marked_recurs, recurs_marked, point_first}
 use Rattle.depth_maker.proofs.RowSteps.{placed}

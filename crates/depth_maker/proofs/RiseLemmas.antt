@@ -14,47 +14,26 @@ use Rattle.depth_maker.specs.Proper.{IsProperKnown, AllProper, AreLawful}
 use Rattle.depth_maker.specs.Tables.{Table, IsTable, Settled, Marks}
 use Rattle.depth_maker.proofs.TableLaws.{table_rises, settled_stays, joined_covers, derived_proper}
 use Rattle.depth_maker.proofs.PlaceKinds.{unjoined_fault}
-use Rattle.depth_maker.specs.declared.places.Spot.{Spot}
-use Rattle.depth_maker.specs.declared.places.Mark.{Mark}
-use Rattle.depth_maker.specs.declared.places.Mark.TheVariants.{Idle, Queued, Open}
-use Rattle.depth_maker.specs.declared.refusals.Refusal.{Refusal}
-use Rattle.depth_maker.specs.declared.refusals.Refusal.TheVariants.{Fault, NoMemory}
+use Rattle.frame_places.specs.declared.places.Spot.{Spot}
+use Rattle.frame_places.specs.declared.places.Mark.{Mark}
+use Rattle.frame_places.specs.declared.places.Mark.TheVariants.{Idle, Queued, Open}
+use Rattle.frame_places.specs.declared.refusals.Refusal.{Refusal}
+use Rattle.frame_places.specs.declared.refusals.Refusal.TheVariants.{Fault, NoMemory}
 use Rattle.depth_maker.specs.declared.table.Table as made
-use Rattle.depth_maker.specs.Spots.{spot_eq, spot_of, place_of}
+use Rattle.frame_places.specs.Spots.{spot_eq}
+use Rattle.depth_maker.specs.Spots.{spot_of, place_of}
 use Rattle.depth_maker.proofs.Below.{asks_proper}
 use Rattle.depth_maker.proofs.CountedLemmas.{counted_after}
 use Rattle.depth_maker.proofs.LevelLaws.{rank_rises}
 use Rattle.depth_maker.proofs.LevelSteps.{level_rises}
 use Rattle.depth_maker.specs.Levels.{priority_of, rank_at}
-use Rattle.depth_maker.proofs.SpotLemmas.{spot_tells, back, forth, agrees}
-use Rattle.depth_maker.specs.Marks.{AllListed, Touched}
+use Rattle.frame_places.proofs.SpotLemmas.{spot_tells}
+use Rattle.depth_maker.proofs.SpotLemmas.{back, forth, agrees}
+use Rattle.frame_places.specs.Marks.{AllListed, Touched, is_idle, is_queued, Reads, Woken}
 use Rattle.depth_maker.specs.Counts.{AreFew}
-use Rattle.depth_maker.specs.View.{IsCountedIn, points_after, frames_after, seen, is_idle, is_queued, Reads, IsFine, Keeps, Joined, Woken, Merges, Answered, CellsProper}
-use Rattle.depth_maker.proofs.MarkLemmas.{sides}
-
--- ---- waking
-pub Woken-none : {S R : Type 0} (a b : IndexMap Spot Mark S) (readers : IndexMap Spot (Vec Spot Global) R) (y : Spot) → ((q : Spot) → get spot_eq b q ≡ (if spot_eq y q then Some Queued else get spot_eq a q))
-    → get spot_eq readers y ≡ None → Woken a b readers y
-Woken-none a b readers y is none = record {
-  each = λ q.
-      elim (sides (spot_eq y q) (Some Queued) (get spot_eq a q) (get spot_eq b q) (is q)) [
-        | inl l ↦ inl l.1
-        | inr r ↦ inr (r.1, r.0, (λ h. subst (λ (o : Option (Vec Spot Global)). Reads o q) none h))
-      ];
-}
-
-pub Woken-some : {S R : Type 0} (a b c : IndexMap Spot Mark S) (readers : IndexMap Spot (Vec Spot Global) R) (y : Spot) (ps : Vec Spot Global)
-    → ((q : Spot) → get spot_eq b q ≡ (if spot_eq y q then Some Queued else get spot_eq a q)) → get spot_eq readers y ≡ Some ps → Touched b c ps.items → Woken a c readers y
-Woken-some a b c readers y ps is at t = record {
-  each = λ q.
-      elim (t.each q) [
-        | inl u ↦ inl u
-        | inr u ↦ elim (sides (spot_eq y q) (Some Queued) (get spot_eq a q) (get spot_eq b q) (is q)) [
-          | inl l ↦ inl (u.0 ∙ l.1)
-          | inr r ↦ inr (u.0 ∙ r.1, r.0, (λ h. u.1 (subst (λ (o : Option (Vec Spot Global)). Reads o q) at h)))
-        ]
-      ];
-}
+use Rattle.depth_maker.specs.View.{IsCountedIn, seen, IsFine, Keeps, Joined, Merges, Answered, CellsProper}
+use Rattle.frame_places.specs.Counting.{points_after, frames_after}
+use Rattle.frame_places.proofs.MarkLemmas.{sides}
 
 pub idle_not_queued : (o : Option Mark) → is_idle o ≡ true → is_queued o ≡ false
 idle_not_queued None e = refl

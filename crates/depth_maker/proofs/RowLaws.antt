@@ -20,7 +20,7 @@ use Rattle.cfg_recover.proofs.CodeLaws.{IsCode-one}
 use Rattle.cfg_recover.proofs.Members.{contains_map}
 use Rattle.depth_maker.specs.Counts.{AreCounted}
 use Rattle.depth_maker.specs.Entered.{entered_in}
-use Rattle.depth_maker.specs.Numbers.{number_in}
+use Rattle.frame_places.specs.Numbers.{number_in}
 use Rattle.value_domain.specs.Limits.{AreLimits}
 use Rattle.depth_maker.specs.Proper.{AllFaultless, AllProper, AreLawful}
 use Rattle.call_needs.specs.Rows.{MeetsRow, Meets, IsLow, IsWithin}
@@ -28,7 +28,7 @@ use Rattle.depth_maker.specs.RowsAt.{IsRowAt, AreRows, need_by}
 use Rattle.call_needs.specs.declared.row.Row.{Row}
 use Rattle.depth_maker.proofs.Reached.{needs_at_most}
 use Rattle.depth_maker.proofs.EnteredLemmas.{entered_owed, owed_entered}
-use Rattle.depth_maker.proofs.NumberLemmas.{numbered_at, number_below}
+use Rattle.frame_places.proofs.NumberLemmas.{numbered_at, number_below}
 
 -- what a mapped list has
 mapped : {X : Type 0} (f : X → ℕ) (xs : List X) (y : ℕ) → Contains (map f xs) y → (x : X) × Contains xs x × (f x ≡ y)

@@ -12,7 +12,8 @@ use Rattle.depth_maker.specs.Proper.{IsProperKnown}
 use Rattle.depth_maker.specs.RowsAt.{IsRowAt}
 use Rattle.depth_maker.specs.RowsBy.{AddsRow, AllKnownBy, IsSource, RowsOn, RowsSoFar}
 use Rattle.depth_maker.specs.View.{seen, IsDone}
-use Rattle.depth_maker.specs.Spots.{spot_eq, spot_of, place_of}
+use Rattle.frame_places.specs.Spots.{spot_eq}
+use Rattle.depth_maker.specs.Spots.{spot_of, place_of}
 use Rattle.depth_maker.proofs.Lawful.{lawful}
 use Rattle.depth_maker.proofs.PlaceKinds.{IsOfKind, derived_kinds}
 use Rattle.depth_maker.proofs.PlaceLaws.{one_state}
@@ -20,8 +21,8 @@ use Rattle.depth_maker.proofs.RowLaws.{known_frame, enters_of, entered_frame}
 use Rattle.depth_maker.proofs.TableLaws.{derived_proper}
 use Rattle.depth_maker.specs.declared.ground.Ground.{Ground}
 use Rattle.depth_maker.specs.declared.ground.Visit.{Visit}
-use Rattle.depth_maker.specs.declared.places.Spot.{Spot}
-use Rattle.depth_maker.specs.declared.places.Spot.TheVariants.{Point, Exit}
+use Rattle.frame_places.specs.declared.places.Spot.{Spot}
+use Rattle.frame_places.specs.declared.places.Spot.TheVariants.{Point, Exit}
 use Rattle.call_needs.specs.declared.row.Row.{Row}
 use Rattle.depth_maker.specs.declared.rows.Source.{Source}
 use Rattle.depth_maker.specs.declared.table.Table as made

@@ -21,7 +21,8 @@ use Rattle.cfg_recover.specs.Assignments.{Place, point, exit, Known, state, leav
 use Rattle.cfg_recover.specs.Refusals.{HasManyNodes, HasManyPoints, IsTooLarge}
 use Rattle.cfg_recover.proofs.Members.{contains_map, contains_flat}
 use Rattle.depth_maker.specs.Growth.{IsGround}
-use Rattle.depth_maker.proofs.PlaceLaws.{key_tells, key_same, place_tells, place_same}
+use Rattle.frame_places.proofs.KeyLaws.{key_tells, key_same}
+use Rattle.depth_maker.proofs.PlaceLaws.{place_tells, place_same}
 use Rattle.depth_maker.proofs.Accepted.{AtPoint, at_point, AtExit, at_exit}
 
 -- ---- tests that decide

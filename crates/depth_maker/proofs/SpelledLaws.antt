@@ -34,10 +34,11 @@ use Rattle.depth_maker.specs.Counts.{AreCounted, AreFew}
 use Rattle.depth_maker.specs.Growth.{IsGround, IsProper, IsProperExit}
 use Rattle.depth_maker.specs.Proper.{AllFaultless, IsProperKnown}
 use Rattle.depth_maker.specs.Making.{IsWritten, needs_in}
-use Rattle.depth_maker.specs.Spelled.{AreRanged, HasBytes, addresses_in, cert_with, exit_at, is_point_of, node_at, point_at, spot_address, spot_number, state_at}
+use Rattle.frame_places.specs.Spots.{AreRanged, is_point_of, spot_address, spot_number}
+use Rattle.depth_maker.specs.Spelled.{HasBytes, addresses_in, cert_with, exit_at, node_at, point_at, state_at}
 use Rattle.depth_maker.specs.Spots.{place_of}
-use Rattle.depth_maker.specs.declared.places.Spot.{Spot}
-use Rattle.depth_maker.specs.declared.places.Spot.TheVariants.{Point, Exit}
+use Rattle.frame_places.specs.declared.places.Spot.{Spot}
+use Rattle.frame_places.specs.declared.places.Spot.TheVariants.{Point, Exit}
 use Rattle.depth_maker.proofs.Accepted.{one_number}
 use Rattle.depth_maker.proofs.CountLaws.{none_some}
 use Rattle.depth_maker.proofs.DutyGrowth.{contained_map}
@@ -45,7 +46,8 @@ use Rattle.depth_maker.proofs.FindLemmas.{map_twice, sum_twice, has_or_not, find
 use Rattle.depth_maker.proofs.Lawful.{lawful}
 use Rattle.depth_maker.proofs.MadeLaws.{meets_alike}
 use Rattle.depth_maker.proofs.PlaceKinds.{IsOfKind, derived_kinds}
-use Rattle.depth_maker.proofs.PlaceLaws.{key_tells, key_same, place_tells, place_same}
+use Rattle.frame_places.proofs.KeyLaws.{key_tells, key_same}
+use Rattle.depth_maker.proofs.PlaceLaws.{place_tells, place_same}
 use Rattle.depth_maker.proofs.PlaceRanges.{IsInRange, derived_in_range}
 use Rattle.depth_maker.proofs.RowSteps.{placed}
 use Rattle.depth_maker.proofs.Sizes.{decides}

@@ -20,17 +20,19 @@ use Rattle.depth_maker.specs.Tables.{Table, IsTable, Settled}
 use Rattle.depth_maker.proofs.TableLaws.{derived_proper, table_closed, table_marked, table_settles, settled_again}
 use Rattle.depth_maker.proofs.PlaceKinds.{IsOfKind, derived_kinds}
 use Rattle.depth_maker.proofs.PartLemmas.{keeps_all}
-use Rattle.depth_maker.specs.declared.places.Spot.{Spot}
-use Rattle.depth_maker.specs.declared.places.Spot.TheVariants.{Point, Exit}
+use Rattle.frame_places.specs.declared.places.Spot.{Spot}
+use Rattle.frame_places.specs.declared.places.Spot.TheVariants.{Point, Exit}
 use Rattle.depth_cert.specs.declared.points.Exit as exits
-use Rattle.depth_maker.specs.declared.places.Mark.{Mark}
-use Rattle.depth_maker.specs.declared.places.Mark.TheVariants.{Idle, Queued, Open}
+use Rattle.frame_places.specs.declared.places.Mark.{Mark}
+use Rattle.frame_places.specs.declared.places.Mark.TheVariants.{Idle, Queued, Open}
 use Rattle.depth_maker.specs.declared.table.Table as made
-use Rattle.depth_maker.specs.Spots.{spot_eq, spot_of, place_of}
-use Rattle.depth_maker.proofs.SpotLemmas.{front_cases, spot_tells, spot_refl, back, forth, agrees}
-use Rattle.depth_maker.specs.Marks.{AllListed}
-use Rattle.depth_maker.specs.View.{IsCountedIn, seen, is_idle, is_queued, Reads, IsFine, IsVisited, Keeps, IsOpenAt, NoneOpen, AllSettled, Paid}
-use Rattle.depth_maker.proofs.MarkLemmas.{sides}
+use Rattle.frame_places.specs.Spots.{spot_eq}
+use Rattle.depth_maker.specs.Spots.{spot_of, place_of}
+use Rattle.depth_maker.proofs.SpotLemmas.{front_cases, back, forth, agrees}
+use Rattle.frame_places.proofs.SpotLemmas.{spot_tells, spot_refl}
+use Rattle.frame_places.specs.Marks.{AllListed, is_idle, is_queued, Reads}
+use Rattle.depth_maker.specs.View.{IsCountedIn, seen, IsFine, IsVisited, Keeps, IsOpenAt, NoneOpen, AllSettled, Paid}
+use Rattle.frame_places.proofs.MarkLemmas.{sides}
 use Rattle.depth_maker.proofs.CountedLemmas.{counted_again, counted_start}
 
 -- ---- one place gets a mark

@@ -6,9 +6,9 @@ use Rattle.value_domain.specs.declared.values.Val.{Val}
 use Rattle.value_domain.specs.Values.{members}
 use Rattle.depth_cert.specs.Keys.{byte_of}
 use Rattle.cfg_recover.specs.Assignments.{Known, state, leaving}
-use Rattle.depth_maker.specs.declared.places.Spot.TheVariants as spots
+use Rattle.frame_places.specs.declared.places.Spot.TheVariants as spots
 use Rattle.depth_maker.specs.declared.table.Table as made
-use Rattle.depth_maker.specs.Spots.{spot_eq}
+use Rattle.frame_places.specs.Spots.{spot_eq}
 
 -- the priority of a state, of an exit
 abbrev pub priority_of : Known → ℕ

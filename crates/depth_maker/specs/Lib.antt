@@ -8,9 +8,7 @@ pub mod Making
 pub mod Counts
 pub mod Kept
 pub mod Spots
-pub mod Marks
 pub mod Entered
-pub mod Numbers
 pub mod RowsAt
 pub mod RowsBy
 pub mod NeedsBy

@@ -37,6 +37,7 @@ Refuses g NoMemory = Unit {0}
 abbrev pub AreMadeOn : Ground → ℕ → List ℕ → Type 0
 AreMadeOn g version bytes = AreMade g.image.now g.plan.now version bytes
 
+-- the same for a refusal
 abbrev pub IsRefusedOn : Ground → ℕ → MakeErr → Type 0
 IsRefusedOn g version e = IsRefused g.image.now g.plan.now version e
 

@@ -7,7 +7,7 @@ use Rattle.cfg_recover.specs.Entries.{start_key}
 use Rattle.cfg_recover.specs.Refusals.{AreLeastNeeds, MeetsNeeds}
 use Rattle.depth_maker.specs.RowsAt.{need_by}
 use Rattle.depth_maker.specs.View.{seen}
-use Rattle.depth_maker.specs.declared.refusals.Refusal.{Refusal}
+use Rattle.frame_places.specs.declared.refusals.Refusal.{Refusal}
 use Rattle.depth_maker.specs.declared.rows.Source.{Source}
 
 -- the least needs, of which the start's is within the areas without the reserve; or none are

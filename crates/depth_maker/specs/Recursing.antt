@@ -4,12 +4,12 @@ use Rattle.value_domain.specs.declared.states.State.{State}
 use Rattle.depth_cert.specs.declared.keys.Key.{Key}
 use Rattle.depth_cert.specs.Keys.{number_of_key}
 use Rattle.cfg_recover.specs.Refusals.{Enters, Recurs, RecursFirst}
-use Rattle.depth_maker.specs.Numbers.{number_in}
+use Rattle.frame_places.specs.Numbers.{number_in}
 use Rattle.call_needs.specs.Reaching.{AreEdges, IsMarked}
 use Rattle.depth_maker.specs.RowsBy.{RowsOn}
 use Rattle.depth_maker.specs.View.{seen}
-use Rattle.depth_maker.specs.declared.places.Spot.{Spot}
-use Rattle.depth_maker.specs.declared.places.Spot.TheVariants.{Point}
+use Rattle.frame_places.specs.declared.places.Spot.{Spot}
+use Rattle.frame_places.specs.declared.places.Spot.TheVariants.{Point}
 use Rattle.call_needs.specs.declared.reach.Edge.{Edge}
 use Rattle.call_needs.specs.declared.row.Row.{Row}
 use Rattle.depth_maker.specs.declared.rows.Source.{Source}
@@ -45,11 +45,6 @@ pub record EntersMarked (s : Source) (marks : List Bool) (k : Key) (p : ℕ) : T
   pub next : Key
   pub enters : EntersBy s k p before next
   pub marked : IsMarked marks (number_in (s.table.now).frames.items next)
-
--- the address of a place in the frame k
-abbrev pub IsAddressIn : Key → Spot → Option ℕ → Type 0
-IsAddressIn k y None = (p : ℕ) → y ≡ Point k p → ⊥
-IsAddressIn k y (Some p) = y ≡ Point k p
 
 -- the first address of the frame k among these places at which a marked frame is entered
 abbrev pub IsFirstMarked : Source → List Bool → Key → List Spot → Option ℕ → Type 0

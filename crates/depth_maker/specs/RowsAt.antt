@@ -10,7 +10,7 @@ use Rattle.cfg_recover.specs.Changes.{StandsFaultless}
 use Rattle.cfg_recover.specs.Duties.{duties_of}
 use Rattle.cfg_recover.specs.Assignments.{point, state, Assignment}
 use Rattle.depth_maker.specs.Entered.{entered_in}
-use Rattle.depth_maker.specs.Numbers.{number_in}
+use Rattle.frame_places.specs.Numbers.{number_in}
 use Rattle.call_needs.specs.declared.row.Row.{Row}
 
 -- the row of the point p of frame k, which has the state u; frames go by their numbers

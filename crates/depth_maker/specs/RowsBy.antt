@@ -7,13 +7,13 @@ use Rattle.cfg_recover.specs.Local.{IsFaultless}
 use Rattle.cfg_recover.specs.Assignments.{point, state}
 use Rattle.depth_maker.specs.Entered.{entered_in}
 use Rattle.depth_maker.specs.RowsAt.{IsRowAt, AreRows}
-use Rattle.depth_maker.specs.Numbers.{AreNumbers}
+use Rattle.frame_places.specs.Numbers.{AreNumbers}
 use Rattle.depth_maker.specs.View.{seen, IsDone, StandsBy, duties_by}
 use Rattle.depth_maker.specs.declared.ground.Ground.{Ground}
 use Rattle.depth_maker.specs.declared.ground.Visit.{Visit}
-use Rattle.depth_maker.specs.declared.places.Spot.{Spot}
-use Rattle.depth_maker.specs.declared.places.Spot.TheVariants.{Point}
-use Rattle.depth_maker.specs.declared.refusals.Refusal.{Refusal}
+use Rattle.frame_places.specs.declared.places.Spot.{Spot}
+use Rattle.frame_places.specs.declared.places.Spot.TheVariants.{Point}
+use Rattle.frame_places.specs.declared.refusals.Refusal.{Refusal}
 use Rattle.call_needs.specs.declared.row.Row.{Row}
 use Rattle.depth_maker.specs.declared.rows.Source.{Source}
 use Rattle.depth_maker.specs.declared.table.Table as made

@@ -19,34 +19,16 @@ use Rattle.depth_maker.specs.Making.{IsWritten}
 use Rattle.depth_maker.specs.RowsAt.{need_by}
 use Rattle.depth_maker.specs.RowsBy.{IsSource}
 use Rattle.depth_maker.specs.View.{seen}
-use Rattle.depth_maker.specs.declared.places.Spot.{Spot}
-use Rattle.depth_maker.specs.declared.places.Spot.TheVariants.{Point, Exit}
+use Rattle.frame_places.specs.Spots.{is_point_of, spot_address, spot_number}
+use Rattle.frame_places.specs.declared.places.Spot.{Spot}
+use Rattle.frame_places.specs.declared.places.Spot.TheVariants.{Point, Exit}
 use Rattle.depth_maker.specs.declared.rows.Source.{Source}
 use Rattle.depth_maker.specs.declared.spelling.Ordered.{Ordered}
 
 -- ---- places in order
--- places are ordered by key, then address
-abbrev pub spot_number : Spot → ℕ
-spot_number (Point k p) = point_number k p
-spot_number (Exit k) = point_number k 0
-
--- a point's address
-abbrev pub spot_address : Spot → ℕ
-spot_address (Point k p) = p
-spot_address (Exit k) = 0
-
--- a point of frame k
-abbrev pub is_point_of : Key → Spot → Bool
-is_point_of k (Point j p) = same_key j k
-is_point_of k (Exit j) = false
-
 -- the addresses of frame k's points, in the order of the list
 abbrev pub addresses_in : List Spot → Key → List ℕ
 addresses_in ps k = map spot_address (filter (is_point_of k) ps)
-
--- points that a certificate may have
-abbrev pub AreRanged : List Spot → Type 0
-AreRanged ps = (q : Spot) → Contains ps q → (k : Key) × (p : ℕ) × (q ≡ Point k p) × IsKey k × (p < 2 ^ 32)
 
 -- ---- nodes
 -- a state of which nothing is known
@@ -92,13 +74,15 @@ pub record NeedsAre (s : Source) (needs : List ℕ) : Type 0 where
 abbrev pub IsOfVersion : Source → ℕ → Type 0
 IsOfVersion s version = (s.ground.now).bounds.now ≡ limits_for (s.ground.now).plan.now version
 
--- what is known in the table: at a place, at the exit of a frame, at a point of one
+-- what is known in the table at a place
 abbrev pub known_on : Source → Place → Option Known
 known_on s y = (seen s.table.now).cells y
 
+-- what is known at the exit of a frame, if anything is
 abbrev pub exit_on : Source → Key → Option exits.Exit
 exit_on s k = exit_at ((seen s.table.now).cells (exit k))
 
+-- the point of a frame at an address, with the state that is known there
 abbrev pub point_on : Source → Key → ℕ → points.Point
 point_on s k p = point_at (seen s.table.now).cells k p
 
@@ -164,5 +148,6 @@ IsFrameOf s k = Contains (s.table.now).frames.items k
 abbrev pub IsSpelled : ImageData → PlanData → ℕ → List ℕ → Type 0
 IsSpelled image plan version bytes = (cert : CertData) × (bytes ≡ bytes_of cert) × IsWritten image plan version cert
 
+-- the same for what the code has
 abbrev pub IsSpelledOn : Source → ℕ → List ℕ → Type 0
 IsSpelledOn s version bytes = IsSpelled (s.ground.now).image.now (s.ground.now).plan.now version bytes

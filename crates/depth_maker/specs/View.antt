@@ -23,72 +23,28 @@ use Rattle.cfg_recover.specs.Refusals.{IsFault}
 use Rattle.depth_maker.specs.Growth.{IsProper, IsProperDuty}
 use Rattle.depth_maker.specs.Proper.{AllFaultless, IsProperKnown}
 use Rattle.depth_maker.specs.Tables.{Table, IsTable, Settled}
-use Rattle.depth_maker.specs.declared.places.Spot.{Spot}
-use Rattle.depth_maker.specs.declared.places.Spot.TheVariants.{Point, Exit}
-use Rattle.depth_maker.specs.declared.places.Mark.{Mark}
-use Rattle.depth_maker.specs.declared.places.Mark.TheVariants.{Idle, Queued, Open}
-use Rattle.depth_maker.specs.declared.refusals.Refusal.{Refusal}
-use Rattle.depth_maker.specs.declared.refusals.Refusal.TheVariants.{Fault, NoMemory}
+use Rattle.frame_places.specs.declared.places.Spot.{Spot}
+use Rattle.frame_places.specs.declared.places.Spot.TheVariants.{Point, Exit}
+use Rattle.frame_places.specs.declared.places.Mark.{Mark}
+use Rattle.frame_places.specs.declared.places.Mark.TheVariants.{Idle, Queued, Open}
+use Rattle.frame_places.specs.declared.refusals.Refusal.{Refusal}
+use Rattle.frame_places.specs.declared.refusals.Refusal.TheVariants.{Fault, NoMemory}
 use Rattle.depth_maker.specs.declared.table.Table as made
-use Rattle.depth_maker.specs.Spots.{spot_eq, spot_of, place_of}
-use Rattle.depth_maker.specs.Marks.{AllListed}
+use Rattle.frame_places.specs.Spots.{spot_eq}
+use Rattle.depth_maker.specs.Spots.{spot_of, place_of}
+use Rattle.frame_places.specs.Marks.{is_idle, is_queued, Reads, AllListed}
 use Rattle.depth_maker.specs.Counts.{AreCounted, AreFew}
 use Rattle.depth_maker.specs.Levels.{level, Rises}
 use Rattle.depth_maker.specs.declared.ground.Ground.{Ground}
 use Rattle.depth_maker.specs.declared.ground.Visit.{Visit}
 
-abbrev pub is_idle : Option Mark → Bool
-is_idle None = false
-is_idle (Some Idle) = true
-is_idle (Some Queued) = false
-is_idle (Some Open) = false
-
-abbrev pub is_queued : Option Mark → Bool
-is_queued None = false
-is_queued (Some Idle) = false
-is_queued (Some Queued) = true
-is_queued (Some Open) = false
-
 -- ---- counts
--- the points with one more place, if it is one
-abbrev pub with_point : List Spot → Spot → List Spot
-with_point ps (Point k p) = ps ++ Point k p ∷ []
-with_point ps (Exit k) = ps
-
--- the frames with that of one more place, if it is the entry point
-abbrev pub with_entered : List Key → Spot → List Key
-with_entered ks (Point k p) = if p == k.entry then ks ++ k ∷ [] else ks
-with_entered ks (Exit k) = ks
-
--- a point passes a limit: it would be the 65,537th, or the entry of the 2,049th frame
-abbrev pub IsPassing : List Spot → List Key → Spot → Type 0
-IsPassing ps ks (Point k p) = (length ps ≡ 2 ^ 16) ⊎ ((p ≡ k.entry) × (length ks ≡ 2048))
-IsPassing ps ks (Exit k) = ⊥
-
--- a refusal by rule 15, at a place that isn't known
-abbrev pub Passing : Bool → List Spot → List Key → Spot → Refusal → Type 0
-Passing known ps ks y (Fault rule x) = (rule ≡ 15) × (x ≡ y) × (known ≡ false) × IsPassing ps ks y
-Passing known ps ks y NoMemory = Unit {0}
-
--- the points after a rise at y: a place that was known is counted already
-abbrev pub points_after : Bool → List Spot → Spot → List Spot
-points_after known ps y = if known then ps else with_point ps y
-
--- so are the frames
-abbrev pub frames_after : Bool → List Key → Spot → List Key
-frames_after known ks y = if known then ks else with_entered ks y
-
 -- each point and each frame that is known is counted once, and no limit is passed
 pub record IsCountedIn {S : Type 0} (cells : IndexMap Spot Known S) (ps : List Spot) (ks : List Key) : Type 0 where
   pub each : AreCounted (λ q. get spot_eq cells (spot_of q)) (map place_of ps) ks
   pub few : AreFew (map place_of ps) ks
 
 -- ---- the table
--- a place is among those that are told of a rise
-abbrev pub Reads : Option (Vec Spot Global) → Spot → Type 0
-Reads None x = ⊥
-Reads (Some ps) x = Contains ps.items x
-
 -- the table as assignment and marks
 unfoldable pub seen : made.Table → Table
 seen t = record {
@@ -120,10 +76,6 @@ Merges b cells y v (Ok None) = CoversAt (λ q. get spot_eq cells (spot_of q)) (p
 Merges b cells y v (Ok (Some u)) = (raised b (get spot_eq cells y) v ≡ Some u) × ((w : Known) → get spot_eq cells y ≡ Some w → CoversKnown w v → ⊥)
 Merges b cells y v (Err (Fault rule x)) = (rule ≡ 8) × (x ≡ y) × ((w : Known) × (get spot_eq cells y ≡ Some w) × (joined_known b w v ≡ None))
 Merges b cells y v (Err NoMemory) = Unit {0}
-
--- y and all that read it have work, and the other marks stay
-pub record Woken {S : Type 0} {R : Type 0} (old new : IndexMap Spot Mark S) (readers : IndexMap Spot (Vec Spot Global) R) (y : Spot) : Type 0 where
-  pub each : (q : Spot) → (get spot_eq new q ≡ Some Queued) ⊎ ((get spot_eq new q ≡ get spot_eq old q) × (spot_eq y q ≡ false) × (Reads (get spot_eq readers y) q → ⊥))
 
 -- a rise keeps what has no new work
 pub record Keeps (b : Limits) (image : ImageData) (plan : PlanData) (s t : made.Table) : Type 0 where
@@ -204,21 +156,27 @@ pub record IsVisited (b : Limits) (image : ImageData) (plan : PlanData) (t : mad
   pub at : is_queued (get spot_eq t.marks (spot_of (point k p))) ≡ false → (seen t).cells (point k p) ≡ Some (state u)
 
 -- ---- by what the code has
+-- the table between two steps
 abbrev pub FineOn : Ground → made.Table → Type 0
 FineOn g t = IsFine g.bounds.now g.image.now g.plan.now t
 
+-- a fault that is answered is one
 abbrev pub AnsweredOn : Ground → Refusal → Type 0
 AnsweredOn g e = Answered g.bounds.now g.image.now g.plan.now e
 
+-- what is known at some place asks for v at y
 abbrev pub AsksOn : Ground → made.Table → Spot → Known → Type 0
 AsksOn g t y v = Asks g.bounds.now g.image.now g.plan.now (seen t).cells (place_of y) v
 
+-- v was joined at y
 abbrev pub JoinedOn : Ground → made.Table → made.Table → Spot → Known → Type 0
 JoinedOn g s t y v = Joined g.bounds.now g.image.now g.plan.now s t y v
 
+-- what the point x owes was joined
 abbrev pub PaidOn : Ground → made.Table → made.Table → Spot → Type 0
 PaidOn g s t x = Paid g.bounds.now g.image.now g.plan.now s t x
 
+-- the next place is taken off the list, if there is one
 abbrev pub OpensOn : Ground → made.Table → made.Table → Result (Option Spot) Refusal → Type 0
 OpensOn g s t r = Opens g.bounds.now g.image.now g.plan.now s t r
 
@@ -232,16 +190,19 @@ TurnsOn g s t (Ok more) = FineOn g t × NoneOpen t × (more ≡ true → level s
 TurnsOn g s t (Err e) = AnsweredOn g e
 
 -- ---- of a visit
+-- between two joinings: while the point has no new work it has the state that it is visited with
 abbrev pub VisitedBy : Visit → made.Table → Type 0
 VisitedBy v t = IsVisited (v.ground.now).bounds.now (v.ground.now).image.now (v.ground.now).plan.now t v.key v.addr v.state.now
 
--- the point owes this, all of these
+-- the point owes this duty
 abbrev pub OwesDuty : Visit → Duty → Type 0
 OwesDuty v d = Owes (v.ground.now).bounds.now (v.ground.now).image.now (v.ground.now).plan.now v.key v.addr v.state.now d
 
+-- the point owes each of these duties
 abbrev pub OwesAll : Visit → List Owed → Type 0
 OwesAll v ds = (d : Owed) → Contains ds d → Owes (v.ground.now).bounds.now (v.ground.now).image.now (v.ground.now).plan.now v.key v.addr v.state.now d.duty
 
+-- these duties of the point were joined
 abbrev pub PaidBy : Visit → made.Table → made.Table → List Owed → Type 0
 PaidBy v s t ds = PaidFor (v.ground.now).bounds.now (v.ground.now).image.now (v.ground.now).plan.now s t v.key v.addr v.state.now ds
 
@@ -249,33 +210,42 @@ PaidBy v s t ds = PaidFor (v.ground.now).bounds.now (v.ground.now).image.now (v.
 abbrev pub StandsBy : Visit → Located → Type 0
 StandsBy v found = StandsFaultless (v.ground.now).bounds.now (v.ground.now).image.now (v.ground.now).plan.now v.key v.addr v.state.now found
 
--- what the point owes, part by part
+-- the state on one side of a branch, if that side is possible
 abbrev pub side_by : Visit → Shape → Bool → Option State
 side_by v shape taken = refine_of (v.ground.now).bounds.now (v.ground.now).plan.now shape v.state.now taken
 
+-- to run on at the next instruction
 abbrev pub next_by : Visit → Located → List Owed
 next_by v found = next_of (v.ground.now).bounds.now (v.ground.now).image.now (v.ground.now).plan.now v.addr v.state.now found.shape found.size
 
+-- to run on within the frame, at each successor
 abbrev pub successors_by : Visit → Located → List Owed
 successors_by v found = successors_of (v.ground.now).bounds.now (v.ground.now).image.now (v.ground.now).plan.now v.addr v.state.now found.shape found.size
 
+-- to enter each of the functions that a call may name, and to come back behind it
 abbrev pub calls_by : Visit → State → ℕ → List ℕ → List Owed
 calls_by v entry back targets = flat_map (λ t. entered_and_back 5 (call_key v.key t) entry back) targets
 
+-- to enter the handler of system calls, and to come back behind the SYSCALL
 abbrev pub system_by : Visit → ℕ → ℕ → List Owed
 system_by v tin back = entered_and_back 12 (sys_key (v.ground.now).plan.now v.key) (sys_entry (v.ground.now).plan.now v.key v.state.now tin) back
 
+-- to enter what the instruction calls, and to come back behind it
 abbrev pub entries_by : Visit → Shape → ℕ → List Owed
 entries_by v shape size = entries_of (v.ground.now).plan.now v.key v.addr v.state.now shape size
 
+-- to enter the handler of misaligned accesses, where an access to these addresses may be one
 abbrev pub misaligned_by : Visit → Val → ℕ → List Owed
 misaligned_by v at size = misaligned_at (v.ground.now).plan.now v.key v.state.now at size
 
+-- the same for the address that the instruction accesses
 abbrev pub access_by : Visit → Located → List Owed
 access_by v found = misaligned_of (v.ground.now).bounds.now (v.ground.now).plan.now v.key v.state.now found.shape
 
+-- to enter the handler of each interrupt that may be taken
 abbrev pub interrupts_by : Visit → List Owed
 interrupts_by v = interrupts_of (v.ground.now).plan.now v.key v.state.now
 
+-- all that the point owes
 abbrev pub duties_by : Visit → Located → List Owed
 duties_by v found = duties_of (v.ground.now).bounds.now (v.ground.now).image.now (v.ground.now).plan.now v.key v.addr v.state.now found.shape found.size

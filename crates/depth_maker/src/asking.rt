@@ -4,28 +4,20 @@ ghost use Rattle.indexmap.specs.IndexMap.{get};
 ghost use Rattle.vd_transfer.specs.Changes.{changed};
 ghost use Rattle.cfg_recover.specs.Duties.{owed, jump, enter, resume, leave, entered_and_back};
 ghost use Rattle.cfg_recover.specs.Entries.{exit_of};
-ghost use Rattle.depth_maker.specs.declared.places.Spot.TheVariants.{Exit, Point};
-ghost use Rattle.depth_maker.specs.Spots.{spot_eq};
-ghost use Rattle.depth_maker.specs.View.{AnsweredOn, OwesDuty, PaidBy, Reads, VisitedBy, is_queued};
+ghost use Rattle.frame_places.specs.declared.places.Spot.TheVariants.{Exit, Point};
+ghost use Rattle.frame_places.specs.Spots.{spot_eq};
+ghost use Rattle.depth_maker.specs.View.{AnsweredOn, OwesDuty, PaidBy, VisitedBy};
+ghost use Rattle.frame_places.specs.Marks.{Reads, is_queued};
 
 use crate::asked::Asked;
 use crate::cells::any_exit;
 use crate::ground::Visit;
-use crate::places::{Mark, Spot};
-use crate::readers::register;
-use crate::refusals::Refusal;
-use crate::rise::raise;
+use crate::rise::{is_covered, raise};
 use crate::table::Table;
 use depth_cert::Key;
+use frame_places::{Refusal, Spot, has_work, register};
 use std::alloc::Global;
 use vd_transfer::Change;
-
-/// Whether the point is on the list again.
-fn has_work(table: &Table, key: Key, addr: u32) -> bool
-    ensures { result ≡ is_queued (get spot_eq table.now.marks (Point key addr)) }
-{
-    matches!(table.marks.get(&Spot::Point(key, addr)), Some(Mark::Queued))
-}
 
 /// A jump in the frame, with a changed state.
 pub(crate) fn pay_jump(
@@ -40,7 +32,7 @@ pub(crate) fn pay_jump(
     ensures ok { OnOk result (PaidBy v.now table.old table.new (owed 4 (jump to (changed v.now.state.now c.now)) ∷ [])) }
     ensures err { IfErr result (AnsweredOn v.now.ground.now) }
 {
-    if has_work(table, v.key, v.addr) {
+    if has_work(&table.marks, Spot::Point(v.key, v.addr)) {
         return Ok(());
     }
     let asked = Asked::Changed(v.state, c);
@@ -60,11 +52,15 @@ pub(crate) fn pay_enter(
     ensures ok { (rule : ℕ) → OnOk result (PaidBy v.now table.old table.new (owed rule (enter key (changed v.now.state.now c.now)) ∷ [])) }
     ensures err { IfErr result (AnsweredOn v.now.ground.now) }
 {
-    if has_work(table, v.key, v.addr) {
+    let asked = Asked::Changed(v.state, c);
+    let entry = Spot::Point(key, key.entry);
+    if is_covered(v.ground, &*table, entry, &asked) {
         return Ok(());
     }
-    let asked = Asked::Changed(v.state, c);
-    raise(alloc, v.ground, table, Spot::Point(key, key.entry), &asked)
+    if has_work(&table.marks, Spot::Point(v.key, v.addr)) {
+        return Ok(());
+    }
+    raise(alloc, v.ground, table, entry, &asked)
 }
 
 /// The point's frame is left.
@@ -74,7 +70,7 @@ pub(crate) fn pay_leave(alloc: Global, table: &mut Table, v: &Visit) -> Result<(
     ensures ok { (rule : ℕ) → OnOk result (PaidBy v.now table.old table.new (owed rule (leave (exit_of v.now.state.now)) ∷ [])) }
     ensures err { IfErr result (AnsweredOn v.now.ground.now) }
 {
-    if has_work(table, v.key, v.addr) {
+    if has_work(&table.marks, Spot::Point(v.key, v.addr)) {
         return Ok(());
     }
     let asked = Asked::Leaving(v.state);
@@ -89,7 +85,7 @@ fn pay_back(alloc: Global, table: &mut Table, v: &Visit, key: Key, back: u32) ->
     ensures ok { OnOk result (PaidBy v.now table.old table.new (owed 4 (resume key back) ∷ [])) }
     ensures err { IfErr result (AnsweredOn v.now.ground.now) }
 {
-    if has_work(table, v.key, v.addr) {
+    if has_work(&table.marks, Spot::Point(v.key, v.addr)) {
         return Ok(());
     }
     let mut exit = any_exit();

@@ -2,20 +2,19 @@
 ghost use Rattle.std.specs.Prelude.{◌≡◌, ◌↔◌, IsTrue, OnOk, IfOk, IfErr, Some};
 ghost use Rattle.indexmap.specs.IndexMap.{get};
 ghost use Rattle.cfg_recover.specs.Entries as entries;
-ghost use Rattle.depth_maker.specs.declared.places.Mark.TheVariants.{Open};
-ghost use Rattle.depth_maker.specs.declared.places.Spot.TheVariants.{Point};
-ghost use Rattle.depth_maker.specs.Spots.{spot_eq};
+ghost use Rattle.frame_places.specs.declared.places.Mark.TheVariants.{Open};
+ghost use Rattle.frame_places.specs.declared.places.Spot.TheVariants.{Point};
+ghost use Rattle.frame_places.specs.Spots.{spot_eq};
 ghost use Rattle.depth_maker.specs.View.{AnsweredOn, EndsOn, FineOn, IsDone, IsOpenAt, NoneOpen, OpensOn, PaidOn, TurnsOn};
 
 use crate::asked::Asked;
 use crate::cells::Cell;
 use crate::ground::{Ground, Visit};
 use crate::paying::pay;
-use crate::places::{Mark, Spot};
-use crate::refusals::Refusal;
 use crate::table::Table;
 use cfg_recover::{start_key, start_state};
 use depth_cert::Key;
+use frame_places::{Mark, Refusal, Spot, is_open};
 use indexmap::IndexMap;
 use std::alloc::Global;
 use std::collections::VecDeque;
@@ -66,13 +65,6 @@ fn open_next(_ground: &Ground, table: &mut Table) -> Result<Option<Spot>, Refusa
             Ok(Some(x))
         }
     }
-}
-
-/// Whether x is the place that is being visited.
-fn is_open(table: &Table, x: Spot) -> bool
-    ensures { IsTrue result ↔ (get spot_eq table.now.marks x ≡ Some Open) }
-{
-    matches!(table.marks.get(&x), Some(Mark::Open))
 }
 
 /// Joins what a point owes; its state is written over `scratch`.
@@ -133,7 +125,7 @@ fn visit(
     ensures err { IfErr result (AnsweredOn ground.now) }
 {
     pay_place(alloc, ground, table, scratch, x)?;
-    if !is_open(table, x) {
+    if !is_open(&table.marks, x) {
         return Ok(());
     }
     table.marks.insert(x, Mark::Idle)?;

@@ -5,9 +5,10 @@ ghost use Rattle.cfg_recover.specs.Entries as frames;
 ghost use Rattle.depth_maker.specs.Entered.{entered_in};
 ghost use Rattle.depth_maker.specs.View.{StandsBy, access_by, duties_by, entries_by, interrupts_by};
 
-use crate::entries::{aln_key, sys_key};
 use crate::ground::Visit;
-use cfg_recover::{Located, entered_key, interrupts, irq_key, is_aligned, targets};
+use cfg_recover::{
+    Located, aln_key, entered_key, interrupts, irq_key, is_aligned, sys_key, targets,
+};
 use depth_cert::Key;
 use std::alloc::{AllocError, Global};
 use tc_isa::Shape;
@@ -41,7 +42,7 @@ fn add_entries(keys: &mut Vec<Key>, v: &Visit, found: &Located) -> Result<(), Al
             add_calls(keys, v.key, targets.as_slice())
         }
         Shape::Syscall { .. } => {
-            keys.push(sys_key(v.ground.plan, v.key))?;
+            keys.push(sys_key(v.ground.plan, &v.key))?;
             Ok(())
         }
         _ => Ok(()),
@@ -65,7 +66,7 @@ fn add_access(keys: &mut Vec<Key>, v: &Visit, found: &Located) -> Result<(), All
     ensures { OnOk result (keys.new.items ≡ keys.old.items ++ entered_in (access_by v.now found.now)) }
 {
     if is_misaligned(v, found) {
-        keys.push(aln_key(v.ground.plan, v.key))?;
+        keys.push(aln_key(v.ground.plan, &v.key))?;
     }
     Ok(())
 }

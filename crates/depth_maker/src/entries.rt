@@ -12,30 +12,16 @@ ghost use Rattle.depth_maker.specs.View.{AnsweredOn, OwesAll, PaidBy, StandsBy, 
 
 use crate::asking::{pay_enter, pay_entry};
 use crate::ground::Visit;
-use crate::refusals::Refusal;
 use crate::table::Table;
 use cfg_recover::{
-    Located, call_change, entered_key, handler_change, interrupts, irq_key, is_aligned,
-    misaligned_change, system_change, targets,
+    Located, aln_key, call_change, entered_key, handler_change, interrupts, irq_key, is_aligned,
+    misaligned_change, sys_key, system_change, targets,
 };
-use depth_cert::Key;
+use frame_places::Refusal;
 use std::alloc::Global;
 use tc_isa::{Shape, Target};
-use tcd_plan::Plan;
 use value_domain::Val;
 use vd_transfer::Change;
-
-pub(crate) fn sys_key(plan: &Plan, key: Key) -> Key
-    ensures { result ≡ entries.sys_key plan.now key }
-{
-    entered_key(&key, 3, plan.btv | 6 * 32)
-}
-
-pub(crate) fn aln_key(plan: &Plan, key: Key) -> Key
-    ensures { result ≡ entries.aln_key plan.now key }
-{
-    entered_key(&key, 4, plan.btv | 2 * 32)
-}
 
 /// Calls of these targets, which come back to `back`.
 fn pay_calls(
@@ -96,7 +82,7 @@ fn pay_system(
 {
     let g = v.ground;
     let entry = system_change(g.bounds, g.plan, &v.key, v.state, tin);
-    pay_entry(alloc, table, v, sys_key(g.plan, v.key), &entry, back)
+    pay_entry(alloc, table, v, sys_key(g.plan, &v.key), &entry, back)
 }
 
 /// The entries by a call or a system call.
@@ -141,7 +127,7 @@ fn pay_misaligned(
         return Ok(());
     }
     let entry = misaligned_change(g.bounds, g.plan, &v.key, v.state);
-    pay_enter(alloc, table, v, aln_key(g.plan, v.key), &entry)
+    pay_enter(alloc, table, v, aln_key(g.plan, &v.key), &entry)
 }
 
 /// The same for the access of an instruction.

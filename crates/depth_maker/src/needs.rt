@@ -3,10 +3,10 @@ ghost use Rattle.std.specs.Prelude.{◌≡◌, ◌≤◌, ◌-◌};
 ghost use Rattle.depth_maker.specs.RowsBy.{IsSource, RowsOn};
 ghost use Rattle.depth_maker.specs.NeedsBy.{NeedsOn};
 
-use crate::refusals::Refusal;
 use crate::rows::{Source, rows};
 use call_needs::{Row, least_needs};
 use depth_cert::Key;
+use frame_places::Refusal;
 use std::alloc::Global;
 use tcd_plan::Plan;
 

@@ -2,17 +2,16 @@
 ghost use Rattle.std.specs.Prelude.{◌≡◌, OnOk, IfErr, Some};
 ghost use Rattle.cfg_recover.specs.Assignments.{point, state};
 ghost use Rattle.cfg_recover.specs.Duties.{leavings_of};
-ghost use Rattle.depth_maker.specs.declared.places.Spot.TheVariants.{Point};
+ghost use Rattle.frame_places.specs.declared.places.Spot.TheVariants.{Point};
 ghost use Rattle.depth_maker.specs.View.{seen, AnsweredOn, OwesAll, PaidBy, PaidOn, StandsBy, VisitedBy, duties_by};
 
 use crate::asking::pay_leave;
 use crate::entries::{pay_access, pay_entries, pay_interrupts};
 use crate::ground::Visit;
-use crate::places::Spot;
-use crate::refusals::Refusal;
 use crate::successors::pay_successors;
 use crate::table::Table;
 use cfg_recover::{Located, local_check};
+use frame_places::{Refusal, Spot};
 use std::alloc::Global;
 use tc_isa::Shape;
 

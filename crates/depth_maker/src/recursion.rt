@@ -2,15 +2,16 @@
 ghost use Rattle.std.specs.Prelude.{◌≡◌, ◌↔◌, IsTrue, IfOk, Some, map};
 ghost use Rattle.depth_cert.specs.Keys.{number_of_key};
 ghost use Rattle.call_needs.specs.Reaching.{IsFirstRecurring};
-ghost use Rattle.depth_maker.specs.Recursing.{EdgesOn, EntersMarked, IsAddressIn, IsFirstMarked, IsFirstWith, IsRecursion, orders_in};
+ghost use Rattle.depth_maker.specs.Recursing.{EdgesOn, EntersMarked, IsFirstMarked, IsFirstWith, IsRecursion, orders_in};
+ghost use Rattle.frame_places.specs.Spots.{IsAddressIn};
 ghost use Rattle.depth_maker.specs.RowsBy.{IsSource};
-ghost use Rattle.depth_maker.specs.declared.places.Spot.TheVariants.{Point};
+ghost use Rattle.frame_places.specs.declared.places.Spot.TheVariants.{Point};
 
-use crate::places::Spot;
 use crate::rows::{Source, point_row, rows};
 use call_needs::{Edge, edges_of, first_recurring, has_marked, reaching};
 use cfg_recover::start_state;
-use depth_cert::{Key, number_of};
+use depth_cert::Key;
+use frame_places::{Spot, address_in, orders_of};
 use std::alloc::{AllocError, Global};
 
 /// Whether the point enters a marked frame.
@@ -30,16 +31,6 @@ fn enters_marked(
         Ok(None) => Ok(false),
         Err(_) => Err(AllocError),
     }
-}
-
-/// The address of a place in the frame.
-fn address_in(key: Key, place: Spot) -> Option<u32>
-    ensures { IsAddressIn key place result }
-{
-    let Spot::Point(other, addr) = place else {
-        return None;
-    };
-    if other == key { Some(addr) } else { None }
 }
 
 /// The first address with this one more, where `first` is that of some places.
@@ -123,13 +114,6 @@ fn recursion_in(
         Some(addr) => Ok(Some((key, addr))),
         None => Ok(None),
     }
-}
-
-/// The numbers by which the frames are ordered.
-fn orders_of(alloc: Global, frames: &[Key]) -> Result<Vec<u64>, AllocError>
-    ensures { IfOk result (λ orders. orders.items ≡ map number_of_key frames.now) }
-{
-    frames.iter().map(|key| number_of(key)).collect(alloc)
 }
 
 /// The first point that recurs, by the entries of frames from each other.

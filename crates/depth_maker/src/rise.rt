@@ -1,21 +1,19 @@
 // One joining.
-ghost use Rattle.std.specs.Prelude.{OnOk, IfErr};
+ghost use Rattle.std.specs.Prelude.{OnOk, IfErr, IsTrue};
+ghost use Rattle.cfg_recover.specs.Assignments.{CoversAt};
 ghost use Rattle.depth_maker.specs.Proper.{IsProperKnown};
 ghost use Rattle.depth_maker.specs.Kept.{asked_for};
-ghost use Rattle.depth_maker.specs.Marks.{AllListed};
-ghost use Rattle.depth_maker.specs.View.{AnsweredOn, AsksOn, CellsProper, FineOn, JoinedOn, Merges, Woken};
+ghost use Rattle.frame_places.specs.Marks.{AllListed, Woken};
+ghost use Rattle.depth_maker.specs.Spots.{place_of};
+ghost use Rattle.depth_maker.specs.View.{seen, AnsweredOn, AsksOn, CellsProper, FineOn, JoinedOn, Merges};
 
 use crate::asked::{Asked, priority};
 use crate::cells::Cell;
-use crate::counting::count;
 use crate::ground::Ground;
-use crate::marks::{touch, touch_all};
-use crate::places::{Mark, Spot};
-use crate::refusals::Refusal;
 use crate::table::Table;
+use frame_places::{Refusal, Spot, count, wake};
 use indexmap::IndexMap;
-use std::alloc::{AllocError, Global};
-use std::collections::VecDeque;
+use std::alloc::Global;
 use value_domain::Bounds;
 
 /// What is known at y with what is asked joined, or `None` where it is covered already.
@@ -47,24 +45,15 @@ fn merged(
     }
 }
 
-/// Puts y and all that read it on the list.
-fn wake(
-    marks: &mut IndexMap<Spot, Mark>,
-    work: &mut VecDeque<Spot>,
-    readers: &IndexMap<Spot, Vec<Spot>>,
-    y: Spot,
-) -> Result<(), AllocError>
-    requires { AllListed marks.old work.old.items }
-    ensures marks { OnOk result (Woken marks.old marks.new readers.now y) }
-    ensures work { OnOk result (AllListed marks.new work.new.items) }
+/// Whether what is asked is seen to be covered by what is known at y.
+pub(crate) fn is_covered(ground: &Ground, table: &Table, y: Spot, asked: &Asked) -> bool
+    requires fine { FineOn ground.now table.now }
+    requires value { IsProperKnown (ground.now).bounds.now (asked_for asked.now) }
+    ensures { IsTrue result → CoversAt (seen table.now).cells (place_of y) (asked_for asked.now) }
 {
-    touch(marks, work, y)?;
-    match readers.get(&y) {
-        None => Ok(()),
-        Some(places) => {
-            touch_all(marks, work, places.as_slice())?;
-            Ok(())
-        }
+    match table.cells.get(&y) {
+        None => false,
+        Some(cell) => cell.covers(ground.bounds, asked),
     }
 }
 
@@ -87,7 +76,8 @@ pub(crate) fn raise(
         Ok(Some(cell)) => cell,
         Err(refusal) => return Err(refusal),
     };
-    count(&table.cells, &mut table.points, &mut table.frames, y)?;
+    let known = table.cells.contains_key(&y);
+    count(known, &mut table.points, &mut table.frames, y)?;
     wake(&mut table.marks, &mut table.work, &table.readers, y)?;
     table.cells.insert(y, new)?;
     Ok(())

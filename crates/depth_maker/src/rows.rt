@@ -2,39 +2,20 @@
 ghost use Rattle.std.specs.Prelude.{◌≡◌, List, Contains, IfOk, OnOk, map};
 ghost use Rattle.depth_cert.specs.declared.keys.Key as keys;
 ghost use Rattle.depth_maker.specs.Growth.{IsProper};
-ghost use Rattle.depth_maker.specs.Numbers.{AreNumbers, number_in};
+ghost use Rattle.frame_places.specs.Numbers.{AreNumbers, number_in};
 ghost use Rattle.depth_maker.specs.View.{StandsBy};
 ghost use Rattle.depth_maker.specs.RowsBy.{AddsRow, AllKnownBy, FaultlessBy, IsRowBy, IsSource, PointHasRow, RowsOn};
 
 use crate::entered::entered;
 use crate::ground::{Ground, Visit};
-use crate::numbers::number_of;
-use crate::places::Spot;
-use crate::refusals::Refusal;
 use crate::table::Table;
 use call_needs::Row;
 use cfg_recover::{Located, local_check, start_state};
 use depth_cert::Key;
+use frame_places::{Refusal, Spot, number_of, numbers_of};
 use indexmap::IndexMap;
 use std::alloc::{AllocError, Global};
 use value_domain::State;
-
-/// The numbers of these frames.
-fn numbers_of(
-    alloc: Global,
-    numbers: &IndexMap<Key, usize>,
-    entered: &[Key],
-) -> Result<Vec<usize>, AllocError>
-    ensures { IfOk result (λ into. (frames : List keys.Key) → AreNumbers numbers.now frames frames
-        → ((k : keys.Key) → Contains entered.now k → Contains frames k)
-        → into.items ≡ map (number_in frames) entered.now) }
-{
-    let mut into = Vec::new(alloc);
-    for key in entered {
-        into.push(number_of(numbers, *key))?;
-    }
-    Ok(into)
-}
 
 /// The row of a point, by what stands there.
 fn row_with(

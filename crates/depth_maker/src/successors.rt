@@ -7,9 +7,9 @@ ghost use Rattle.depth_maker.specs.View.{AnsweredOn, OwesAll, PaidBy, StandsBy, 
 
 use crate::asking::pay_jump;
 use crate::ground::Visit;
-use crate::refusals::Refusal;
 use crate::table::Table;
 use cfg_recover::{Located, loaded_from, targets};
+use frame_places::Refusal;
 use std::alloc::Global;
 use tc_isa::{Shape, Target};
 use vd_transfer::{change_of, change_on, unchanged};

@@ -1,7 +1,7 @@
 // The table: what is known, which places have work, who reads which exit, the list of work, and what is counted.
 use crate::cells::Cell;
-use crate::places::{Mark, Spot};
 use depth_cert::Key;
+use frame_places::{Mark, Spot};
 use indexmap::IndexMap;
 use std::collections::VecDeque;
 

@@ -1,6 +1,7 @@
 // Lists of values in little room: made from what duties ask for, compared with it, joined with it.
-ghost use Rattle.std.specs.Prelude.{◌≡◌, ◌↔◌, IsTrue, IfOk, length};
+ghost use Rattle.std.specs.Prelude.{◌≡◌, ◌<◌, ◌↔◌, IsTrue, IfOk, length, slice_index_or};
 ghost use Rattle.value_domain.specs.State.{AreBelow, AreValues, AreWell, joined_regs};
+ghost use Rattle.value_domain.specs.Values.{IsBelow, IsWell, any_val};
 ghost use Rattle.depth_maker.specs.Kept.{values_asked};
 
 use crate::asked::{Asked, asked_value, count_asked};
@@ -22,6 +23,20 @@ pub(crate) fn packed(alloc: Global, asked: &Asked) -> Result<Vec<Small>, AllocEr
     Ok(values)
 }
 
+/// Whether a value covers the one that is asked for at a place, which isn't looked up where it holds all words.
+fn covers_at(upper: &Small, asked: &Asked, any: &Val, i: usize) -> bool
+    requires upper { IsWell upper.now }
+    requires asked { AreWell (values_asked asked.now) }
+    requires place { i < length (values_asked asked.now) }
+    requires any { any.now ≡ any_val }
+    ensures { IsTrue result ↔ IsBelow (slice_index_or (values_asked asked.now) i any_val) upper.now }
+{
+    if upper.is_any() {
+        return true;
+    }
+    upper.covers(asked_value(asked, any, i))
+}
+
 /// Whether each value that is asked for is below the one at its place.
 pub(crate) fn are_covered(upper: &[Small], asked: &Asked) -> bool
     requires upper { AreWell upper.now }
@@ -31,7 +46,7 @@ pub(crate) fn are_covered(upper: &[Small], asked: &Asked) -> bool
 {
     let any = Val::any();
     for i in 0..upper.len() {
-        if !upper[i].covers(asked_value(&*asked, &any, i)) {
+        if !covers_at(&upper[i], asked, &any, i) {
             return false;
         }
     }

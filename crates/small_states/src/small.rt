@@ -1,13 +1,13 @@
 // A value in little room.
-ghost use Rattle.std.specs.Prelude.{◌≡◌, ◌↔◌, IsTrue, IfOk, ◌∷◌, []};
+ghost use Rattle.std.specs.Prelude.{◌≡◌, ◌↔◌, IsTrue, IfOk, IfSome, ◌∷◌, []};
 ghost use Rattle.value_domain.specs.declared.values.Val.TheVariants.{Set, Span};
-ghost use Rattle.value_domain.specs.Values.{IsWell, IsValue, IsBelow};
+ghost use Rattle.value_domain.specs.Values.{IsWell, IsValue, IsBelow, IsMember, any_val};
 ghost use Rattle.value_domain.specs.State.{join_of};
 ghost use Rattle.small_states.specs.Forms.{val_of};
 
 use std::alloc::{AllocError, Global};
 use std::marker::Model;
-use value_domain::{Bounds, Val, Words, join, leq};
+use value_domain::{Bounds, Val, Words, alignment_log2, join, leq};
 
 /// One word, more words, or a range.
 #[derive(Drop)]
@@ -73,7 +73,30 @@ fn is_the_word(v: &Val, x: u32) -> bool
     }
 }
 
+/// The word of a value that has no other.
+fn only_word(v: &Val) -> Option<u32>
+    ensures { IfSome result (λ x. v.now ≡ Set (x ∷ [])) }
+{
+    match v {
+        Val::Set(words) => {
+            let all = words.as_slice();
+            if all.len() == 1 { Some(all[0]) } else { None }
+        }
+        Val::Span { .. } => None,
+    }
+}
+
+// What needs room for a whole value stands in functions of its own, so that the others have no such room to fill.
 impl Small {
+    /// A copy of words.
+    #[inline(never)]
+    fn of_many(alloc: Global, words: &Words) -> Result<Small, AllocError>
+        ensures { IfOk result (λ s. s ≡ Set words.now) }
+    {
+        let form = Form::Many(Box::new(alloc, words.copy())?);
+        Ok(Small { form })
+    }
+
     /// The words of a set.
     fn of_words(alloc: Global, words: &Words) -> Result<Small, AllocError>
         ensures { IfOk result (λ s. s ≡ Set words.now) }
@@ -83,8 +106,7 @@ impl Small {
             let form = Form::One(first);
             return Ok(Small { form });
         }
-        let form = Form::Many(Box::new(alloc, words.copy())?);
-        Ok(Small { form })
+        Small::of_many(alloc, words)
     }
 
     /// A value.
@@ -120,6 +142,17 @@ impl Small {
         }
     }
 
+    /// Whether it holds all words.
+    pub fn is_any(&self) -> bool
+        ensures { IsTrue result ↔ (self.now ≡ any_val) }
+    {
+        match &self.form {
+            Form::One(_) => false,
+            Form::Many(_) => false,
+            Form::Range { lo, last, step } => *lo == 0 && *last == u32::MAX && *step == 0,
+        }
+    }
+
     /// Whether it is seen at once to be this value.
     fn is_same(&self, v: &Val) -> bool
         ensures { IsTrue result → v.now ≡ self.now }
@@ -131,13 +164,44 @@ impl Small {
         }
     }
 
+    /// Writes the value over another.
+    #[inline(never)]
+    fn replace(&self, out: &mut Val)
+        ensures { out.new ≡ self.now }
+    {
+        *out = self.value();
+    }
+
     /// Writes the value over another, unless it stands there already.
     pub fn write(&self, out: &mut Val)
         ensures { out.new ≡ self.now }
     {
         if !self.is_same(out) {
-            *out = self.value();
+            self.replace(out);
         }
+    }
+
+    /// Whether a word is one of its own.
+    fn has(&self, x: u32) -> bool
+        ensures { IsTrue result ↔ IsMember x self.now }
+    {
+        match &self.form {
+            Form::One(own) => x == *own,
+            Form::Many(words) => words.as_slice().contains(&x),
+            Form::Range { lo, last, step } => {
+                *lo <= x && x <= *last && *step <= alignment_log2(x)
+            }
+        }
+    }
+
+    /// Whether each member of a value is one of its own, by both values whole.
+    #[inline(never)]
+    fn covers_whole(&self, v: &Val) -> bool
+        requires own { IsWell self.now }
+        requires value { IsWell v.now }
+        ensures { IsTrue result ↔ IsBelow v.now self.now }
+    {
+        leq(v, &self.value())
     }
 
     /// Whether each member of a value is one of its own.
@@ -146,10 +210,26 @@ impl Small {
         requires value { IsWell v.now }
         ensures { IsTrue result ↔ IsBelow v.now self.now }
     {
+        if self.is_any() {
+            return true;
+        }
         if self.is_same(v) {
             return true;
         }
-        leq(v, &self.value())
+        if let Some(x) = only_word(v) {
+            return self.has(x);
+        }
+        self.covers_whole(v)
+    }
+
+    /// The least value that holds both, by both values whole.
+    #[inline(never)]
+    fn join_whole(&self, alloc: Global, b: &Bounds, v: &Val) -> Result<Small, AllocError>
+        requires own { IsValue b.now self.now }
+        requires value { IsValue b.now v.now }
+        ensures { IfOk result (λ s. s ≡ join_of b.now self.now v.now) }
+    {
+        Small::of(alloc, &join(b, &self.value(), v))
     }
 
     /// The least value that holds both.
@@ -161,6 +241,6 @@ impl Small {
         if self.is_same(v) {
             return Small::of(alloc, v);
         }
-        Small::of(alloc, &join(b, &self.value(), v))
+        self.join_whole(alloc, b, v)
     }
 }

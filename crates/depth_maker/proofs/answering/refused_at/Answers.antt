@@ -1,7 +1,7 @@
 use Rattle.std.proofs.Common.{subst}
 use Rattle.depth_maker.specs.View.{AnsweredOn}
-use Rattle.depth_maker.specs.declared.places.Spot.{Spot}
-use Rattle.depth_maker.specs.declared.refusals.Refusal.TheVariants.{Fault}
+use Rattle.frame_places.specs.declared.places.Spot.{Spot}
+use Rattle.frame_places.specs.declared.refusals.Refusal.TheVariants.{Fault}
 use Rattle.depth_maker.proofs.MakeLemmas.{fault_refuses, no_exit_refuses}
 use Rattle.depth_maker.proofs.answering.refused_at.Goals as goal
 

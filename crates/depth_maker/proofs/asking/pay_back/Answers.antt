@@ -4,9 +4,9 @@ use Rattle.depth_cert.specs.declared.points.Exit.{Exit}
 use Rattle.cfg_recover.specs.Entries.{after_of}
 use Rattle.cfg_recover.specs.Assignments.{Known, leaving}
 use Rattle.cfg_recover.specs.Duties.{resume}
-use Rattle.depth_maker.specs.declared.places.Spot.TheVariants as spots
+use Rattle.frame_places.specs.declared.places.Spot.TheVariants as spots
 use Rattle.depth_maker.specs.Kept.{IsExitAt}
-use Rattle.depth_maker.specs.Spots.{spot_eq}
+use Rattle.frame_places.specs.Spots.{spot_eq}
 use Rattle.depth_maker.proofs.Lawful.{lawful}
 use Rattle.depth_maker.proofs.RiseLemmas.{cells_proper}
 use Rattle.depth_maker.proofs.VisitLemmas.{exit_known}

@@ -4,11 +4,11 @@ use Rattle.value_domain.specs.declared.states.State.{State}
 use Rattle.cfg_recover.specs.Assignments.{Known, state}
 use Rattle.depth_cert.specs.declared.keys.Key.{Key}
 use Rattle.depth_maker.specs.Growth.{IsProper}
-use Rattle.depth_maker.specs.declared.places.Spot.{Spot}
-use Rattle.depth_maker.specs.declared.places.Spot.TheVariants.{Point}
-use Rattle.depth_maker.specs.declared.places.Mark.{Mark}
-use Rattle.depth_maker.specs.declared.places.Mark.TheVariants.{Queued}
-use Rattle.depth_maker.specs.Spots.{spot_eq}
+use Rattle.frame_places.specs.declared.places.Spot.{Spot}
+use Rattle.frame_places.specs.declared.places.Spot.TheVariants.{Point}
+use Rattle.frame_places.specs.declared.places.Mark.{Mark}
+use Rattle.frame_places.specs.declared.places.Mark.TheVariants.{Queued}
+use Rattle.frame_places.specs.Spots.{spot_eq}
 use Rattle.depth_maker.proofs.Lawful.{lawful}
 use Rattle.depth_maker.proofs.VisitLemmas.{begun_table, get_none}
 use Rattle.depth_maker.proofs.close.begin.Goals as goal

@@ -1,9 +1,9 @@
 use Rattle.std.proofs.Common.{sym, ◌∙◌, ◌≡◌, ap, subst, Some}
 use Rattle.indexmap.specs.IndexMap.{get}
 use Rattle.cfg_recover.specs.Assignments.{Known, state}
-use Rattle.depth_maker.specs.declared.places.Spot.TheVariants.{Point}
+use Rattle.frame_places.specs.declared.places.Spot.TheVariants.{Point}
 use Rattle.depth_maker.specs.Kept.{IsStateAt}
-use Rattle.depth_maker.specs.Spots.{spot_eq}
+use Rattle.frame_places.specs.Spots.{spot_eq}
 use Rattle.depth_maker.specs.View.{seen}
 use Rattle.depth_maker.proofs.Lawful.{lawful}
 use Rattle.depth_maker.proofs.RiseLemmas.{cells_proper}

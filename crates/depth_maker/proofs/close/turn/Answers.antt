@@ -1,6 +1,6 @@
 use Rattle.std.proofs.Common.{refl, sym, ◌∙◌, ◌≡◌, inr, arith, ap, length, deque_len, List, true, false}
 use Rattle.std.specs.Prelude.{◌==◌}
-use Rattle.depth_maker.specs.declared.places.Spot.{Spot}
+use Rattle.frame_places.specs.declared.places.Spot.{Spot}
 use Rattle.depth_maker.proofs.LevelSteps.{left_over, turns_more}
 use Rattle.depth_maker.proofs.close.turn.Goals as goal
 

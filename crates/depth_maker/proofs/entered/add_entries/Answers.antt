@@ -3,8 +3,6 @@ use Rattle.std.specs.Prelude.{OnOk, map}
 use Rattle.std.proofs.lemmas.List.{append-nil}
 use Rattle.depth_cert.specs.declared.keys.Key.{Key}
 use Rattle.cfg_recover.specs.Entries.{call_key, call_entry}
-use Rattle.depth_maker.specs.Entered.{entered_in}
-use Rattle.depth_maker.specs.View.{entries_by}
 use Rattle.depth_maker.proofs.EnteredLemmas.{entered_calls, entries_none}
 use Rattle.depth_maker.proofs.entered.add_entries.Goals as goal
 

@@ -1,4 +1,4 @@
-use Rattle.std.proofs.Common.{◌∙◌, ◌≡◌, sym, ap, ◌++◌, List}
+use Rattle.std.proofs.Common.{◌∙◌, sym, ap, ◌++◌, List}
 use Rattle.depth_cert.specs.declared.keys.Key.{Key}
 use Rattle.cfg_recover.specs.Duties.{duties_of, leavings_of}
 use Rattle.depth_maker.specs.Entered.{entered_in}

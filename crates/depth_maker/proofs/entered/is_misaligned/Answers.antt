@@ -1,4 +1,4 @@
-use Rattle.std.proofs.Common.{◌∙◌, ◌≡◌, sym, ap, subst, refl}
+use Rattle.std.proofs.Common.{refl}
 use Rattle.depth_maker.proofs.EnteredLemmas.{entered_turned, access_none}
 use Rattle.depth_maker.proofs.entered.is_misaligned.Goals as goal
 

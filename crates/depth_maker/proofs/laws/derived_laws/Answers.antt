@@ -1,10 +1,5 @@
 use Rattle.depth_maker.proofs.Below.{derived_below, fault_refuted}
 use Rattle.depth_maker.proofs.Lawful.{lawful}
-use Rattle.depth_maker.proofs.PlaceKinds.{unjoined_fault}
-use Rattle.depth_maker.proofs.Reached.{entry_stands, needs_at_most}
-use Rattle.depth_maker.proofs.CountLaws.{counted_within, passed_points, passed_frames, counted_point}
-use Rattle.depth_maker.proofs.LeastStands.{least_stands}
-use Rattle.depth_maker.proofs.TableLaws.{table_closed, table_settles, table_marked, table_rises}
 use Rattle.depth_maker.proofs.laws.derived_laws.Goals as goal
 
 pub returns-clause-below : goal.returns-clause-below

@@ -1,4 +1,4 @@
-use Rattle.std.proofs.Common.{◌≡◌, ◌∙◌, ℕ, ◌<◌, Bool, true, false, Option, Some, None, subst, sym}
+use Rattle.std.proofs.Common.{◌≡◌, ◌∙◌, ℕ, ◌<◌, true, false, Some, None, subst, sym}
 use Rattle.depth_maker.specs.Recursing.{EntersMarked, IsFirstMarked}
 use Rattle.depth_maker.proofs.RecursSteps.{first_past, first_not, first_here}
 use Rattle.depth_maker.proofs.recursion.address_with.Goals as goal

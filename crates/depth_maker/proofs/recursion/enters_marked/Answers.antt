@@ -1,4 +1,4 @@
-use Rattle.std.proofs.Common.{◌≡◌, ℕ, Bool, List, Contains, subst, sym}
+use Rattle.std.proofs.Common.{ℕ, Bool, List, Contains, subst}
 use Rattle.std.specs.Prelude.{IsTrue}
 use Rattle.call_needs.specs.Reaching.{IsMarked}
 use Rattle.depth_maker.proofs.RecursSteps.{row_marked}

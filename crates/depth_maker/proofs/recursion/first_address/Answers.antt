@@ -1,7 +1,7 @@
-use Rattle.std.proofs.Common.{◌≡◌, ℕ, ◌+◌, ◌++◌, ◌∷◌, [], List, take, get_or, subst, sym}
+use Rattle.std.proofs.Common.{List, take, subst, sym}
 use Rattle.std.proofs.lemmas.List.{take_all, take_more}
 use Rattle.depth_maker.specs.Recursing.{IsFirstMarked}
-use Rattle.depth_maker.specs.declared.places.Spot.{Spot}
+use Rattle.frame_places.specs.declared.places.Spot.{Spot}
 use Rattle.depth_maker.proofs.recursion.first_address.Goals as goal
 
 pub loop-place-preserved : goal.loop-place-preserved

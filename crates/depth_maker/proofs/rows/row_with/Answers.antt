@@ -1,7 +1,7 @@
-use Rattle.std.proofs.Common.{◌≡◌, ◌∙◌, sym, ap, subst, List, Contains, arith}
+use Rattle.std.proofs.Common.{◌∙◌, ap, subst, List, Contains}
 use Rattle.std.specs.Prelude.{map}
 use Rattle.depth_cert.specs.declared.keys.Key.{Key}
-use Rattle.depth_maker.specs.Numbers.{number_in}
+use Rattle.frame_places.specs.Numbers.{number_in}
 use Rattle.depth_maker.proofs.rows.row_with.Goals as goal
 
 pub returns : goal.returns

@@ -1,5 +1,5 @@
 use Rattle.std.proofs.Common.{subst, sym, ◌≤◌, List, length}
-use Rattle.depth_maker.specs.declared.places.Spot.{Spot}
+use Rattle.frame_places.specs.declared.places.Spot.{Spot}
 use Rattle.call_needs.specs.declared.row.Row.{Row}
 use Rattle.depth_maker.specs.RowsBy.{RowsSoFar}
 use Rattle.depth_maker.proofs.RowSteps.{rows_none, rows_more, rows_done}

@@ -2,8 +2,9 @@ use Rattle.std.proofs.Common.{subst, sym, List}
 use Rattle.std.specs.List.Sorted.{IsPermutation, IsNonDecreasingBy}
 use Rattle.depth_cert.specs.declared.keys.Key.{Key}
 use Rattle.depth_cert.specs.Keys.{number_of_key}
-use Rattle.depth_maker.specs.Spelled.{IsOrdered, spot_number}
-use Rattle.depth_maker.specs.declared.places.Spot.{Spot}
+use Rattle.depth_maker.specs.Spelled.{IsOrdered}
+use Rattle.frame_places.specs.Spots.{spot_number}
+use Rattle.frame_places.specs.declared.places.Spot.{Spot}
 use Rattle.depth_maker.specs.declared.spelling.Ordered.{Ordered}
 use Rattle.depth_maker.proofs.OutLemmas.{spelled_is}
 use Rattle.depth_maker.proofs.spelling.spelled.Goals as goal

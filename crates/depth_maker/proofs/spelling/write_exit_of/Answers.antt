@@ -1,6 +1,6 @@
 use Rattle.std.proofs.Common.{sym}
 use Rattle.depth_maker.specs.View.{seen}
-use Rattle.depth_maker.specs.declared.places.Spot.TheVariants.{Exit}
+use Rattle.frame_places.specs.declared.places.Spot.TheVariants.{Exit}
 use Rattle.depth_maker.proofs.OutLemmas.{exit_there, exit_well, writes_exit, writes_no_exit}
 use Rattle.depth_maker.proofs.RowSteps.{done_proper}
 use Rattle.depth_maker.proofs.spelling.write_exit_of.Goals as goal

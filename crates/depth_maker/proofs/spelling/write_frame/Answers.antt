@@ -1,6 +1,6 @@
 use Rattle.std.proofs.Common.{subst, sym, ap, refl, arith, List, length}
 use Rattle.depth_maker.specs.Spelled.{AreKnown}
-use Rattle.depth_maker.specs.declared.places.Spot.{Spot}
+use Rattle.frame_places.specs.declared.places.Spot.{Spot}
 use Rattle.depth_maker.proofs.OutLemmas.{points_known, points_ranged, key_is, few_of, writes_node}
 use Rattle.depth_maker.proofs.spelling.write_frame.Goals as goal
 

@@ -1,6 +1,6 @@
 use Rattle.std.proofs.Common.{sym}
 use Rattle.depth_maker.specs.View.{seen}
-use Rattle.depth_maker.specs.declared.places.Spot.TheVariants.{Point}
+use Rattle.frame_places.specs.declared.places.Spot.TheVariants.{Point}
 use Rattle.depth_maker.proofs.CountLaws.{none_some}
 use Rattle.depth_maker.proofs.OutLemmas.{state_there, state_well, writes_point}
 use Rattle.depth_maker.proofs.RowSteps.{done_proper}

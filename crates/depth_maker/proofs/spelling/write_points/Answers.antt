@@ -1,9 +1,9 @@
-use Rattle.std.proofs.Common.{sym, subst, take, List, ℕ, IsSome}
+use Rattle.std.proofs.Common.{sym, subst, List, ℕ, IsSome}
 use Rattle.std.proofs.lemmas.List.{take_all}
 use Rattle.std.proofs.lemmas.List.Elements.{Contains-get_or}
 use Rattle.cfg_recover.specs.Assignments.{point}
 use Rattle.depth_maker.specs.Spelled.{WritesPoint, WritesPoints, known_on}
-use Rattle.depth_maker.specs.declared.places.Spot.{Spot}
+use Rattle.frame_places.specs.declared.places.Spot.{Spot}
 use Rattle.depth_maker.proofs.OutLemmas.{points_none, points_more}
 use Rattle.depth_maker.proofs.spelling.write_points.Goals as goal
 

@@ -1,10 +1,19 @@
-use Rattle.std.proofs.Common.{◌↔◌, IsTrue, refl, subst}
+use Rattle.std.proofs.Common.{◌↔◌, ℕ, IsTrue, inl, inr, refl, subst, sym}
 use Rattle.value_domain.specs.declared.values.Val.{Val}
 use Rattle.value_domain.specs.Values.{IsBelow, IsMember}
+use Rattle.value_domain.proofs.RangeLaws.{below_any}
 use Rattle.small_states.proofs.small.Small.covers.Goals as goal
+
+pub returns-then-is_any : goal.returns-then-is_any
+returns-then-is_any c = ((λ t. subst (λ (u : Val). IsBelow c.args.v.now u) (sym (c.is_any.ensures.0 c.if-is_any.true)) (below_any c.args.v.now c.requires.value)), (λ below. refl))
 
 pub returns-then-is_same : goal.returns-then-is_same
 returns-then-is_same c = ((λ t x m. subst (λ (u : Val). IsMember x u) (c.is_same.ensures c.if-is_same.true) m), (λ below. refl))
 
-pub returns : goal.returns
-returns c = subst (λ (u : Val). IsTrue c.leq.result ↔ IsBelow c.args.v.now u) c.value.ensures c.leq.ensures
+pub returns-in-Some : goal.returns-in-Some
+returns-in-Some c =
+    let whole = rw c.in-Some.is at c.only_word.ensures in
+    subst (λ (u : Val). IsTrue c.has.result ↔ IsBelow u c.args.self.now) (sym whole) (
+      (λ t z m. elim m [ inl e ↦ subst (λ (y : ℕ). IsMember y c.args.self.now) (sym e) (c.has.ensures.0 t) | inr none ↦ absurd none ]),
+      (λ below. c.has.ensures.1 (below c.in-Some.x (inl refl))),
+    )

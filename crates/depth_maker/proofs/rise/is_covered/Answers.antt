@@ -1,0 +1,20 @@
+use Rattle.std.proofs.Common.{◌∙◌, ap, sym}
+use Rattle.indexmap.specs.IndexMap.{get}
+use Rattle.frame_places.specs.Spots.{spot_eq}
+use Rattle.depth_maker.specs.View.{seen}
+use Rattle.depth_maker.proofs.Lawful.{lawful}
+use Rattle.depth_maker.proofs.SpotLemmas.{forth}
+use Rattle.depth_maker.proofs.RiseLemmas.{cells_proper}
+use Rattle.depth_maker.proofs.rise.is_covered.Goals as goal
+
+pub covers-requires-clause-known : goal.covers-requires-clause-known
+covers-requires-clause-known c =
+    cells_proper _ _ _ (lawful _ _ _ c.args.ground.now.sound) c.args.table.now c.requires.fine c.args.y c.in-Some.cell.now (sym c.in-Some.ensures.value)
+
+pub returns-in-Some : goal.returns-in-Some
+unfolding seen
+returns-in-Some c t = record {
+  known = c.in-Some.cell.now;
+  at = ap (get spot_eq c.args.table.now.cells) (forth c.args.y) ∙ sym c.in-Some.ensures.value;
+  covers = c.covers.ensures.0 t;
+}

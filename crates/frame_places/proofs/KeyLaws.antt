@@ -1,0 +1,31 @@
+-- Keys that are one.
+use Rattle.std.proofs.Common.{◌≡◌, Bool, true, false, refl, ◌&&◌, eqb}
+use Rattle.std.proofs.lemmas.Bool.{and_parts, eqb-true, eq-eqb}
+use Rattle.depth_cert.specs.declared.keys.Key.{Key}
+use Rattle.depth_cert.specs.Keys.{byte_of}
+use Rattle.frame_places.specs.Spots.{one_key}
+
+same_flag : (a b : Bool) → eqb (byte_of a) (byte_of b) ≡ true → a ≡ b
+same_flag false false e = refl
+same_flag true true e = refl
+same_flag false true e = cc
+same_flag true false e = cc
+
+flag_same : (a : Bool) → eqb (byte_of a) (byte_of a) ≡ true
+flag_same false = refl
+flag_same true = refl
+
+-- keys that are told to be one are
+pub key_tells : (k j : Key) → one_key k j ≡ true → k ≡ j
+key_tells k j e =
+    let h = and_parts (eqb k.kind j.kind && eqb k.entry j.entry && eqb k.prio j.prio) (eqb (byte_of k.is) (byte_of j.is)) e in
+    let g = and_parts (eqb k.kind j.kind && eqb k.entry j.entry) (eqb k.prio j.prio) h.0 in
+    let f = and_parts (eqb k.kind j.kind) (eqb k.entry j.entry) g.0 in
+    let kind : k.kind ≡ j.kind = eqb-true k.kind j.kind f.0 in
+    let entry : k.entry ≡ j.entry = eqb-true k.entry j.entry f.1 in
+    let prio : k.prio ≡ j.prio = eqb-true k.prio j.prio g.1 in
+    let is : k.is ≡ j.is = same_flag k.is j.is h.1 in
+    λ i. record { kind = kind i; entry = entry i; prio = prio i; is = is i }
+
+pub key_same : (k : Key) → one_key k k ≡ true
+key_same k = rw (eq-eqb k.kind k.kind refl, eq-eqb k.entry k.entry refl, eq-eqb k.prio k.prio refl, flag_same k.is) refl

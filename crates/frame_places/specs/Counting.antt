@@ -1,0 +1,35 @@
+-- The points and the frames that are counted, and the limits of certificates.
+use Rattle.std.specs.Prelude.{◌≡◌, ◌⊎◌, ◌==◌, ◌^◌, Bool, false, List, [], ◌∷◌, ◌++◌, length, if◌then◌else◌}
+use Rattle.depth_cert.specs.declared.keys.Key.{Key}
+use Rattle.frame_places.specs.declared.places.Spot.{Spot}
+use Rattle.frame_places.specs.declared.places.Spot.TheVariants.{Point, Exit}
+use Rattle.frame_places.specs.declared.refusals.Refusal.{Refusal}
+use Rattle.frame_places.specs.declared.refusals.Refusal.TheVariants.{Fault, NoMemory}
+
+-- the points with one more place, if it is one
+abbrev pub with_point : List Spot → Spot → List Spot
+with_point ps (Point k p) = ps ++ Point k p ∷ []
+with_point ps (Exit k) = ps
+
+-- the frames with that of one more place, if it is the entry point
+abbrev pub with_entered : List Key → Spot → List Key
+with_entered ks (Point k p) = if p == k.entry then ks ++ k ∷ [] else ks
+with_entered ks (Exit k) = ks
+
+-- a point passes a limit: it would be the 65,537th, or the entry of the 2,049th frame
+abbrev pub IsPassing : List Spot → List Key → Spot → Type 0
+IsPassing ps ks (Point k p) = (length ps ≡ 2 ^ 16) ⊎ ((p ≡ k.entry) × (length ks ≡ 2048))
+IsPassing ps ks (Exit k) = ⊥
+
+-- a refusal by rule 15, at a place that isn't known
+abbrev pub Passing : Bool → List Spot → List Key → Spot → Refusal → Type 0
+Passing known ps ks y (Fault rule x) = (rule ≡ 15) × (x ≡ y) × (known ≡ false) × IsPassing ps ks y
+Passing known ps ks y NoMemory = Unit {0}
+
+-- the points after a rise at y: a place that was known is counted already
+abbrev pub points_after : Bool → List Spot → Spot → List Spot
+points_after known ps y = if known then ps else with_point ps y
+
+-- so are the frames
+abbrev pub frames_after : Bool → List Key → Spot → List Key
+frames_after known ks y = if known then ks else with_entered ks y

@@ -1,0 +1,5 @@
+-- Places of frames in a table.
+pub mod Spots
+pub mod Marks
+pub mod Numbers
+pub mod Counting

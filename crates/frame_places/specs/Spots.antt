@@ -1,0 +1,39 @@
+-- Places of frames: which are the same, and how they are ordered.
+use Rattle.std.specs.Prelude.{◌≡◌, ◌<◌, ◌==◌, ◌&&◌, ◌+◌, ◌*◌, ◌^◌, ℕ, Bool, false, List, Option, Some, None, Contains}
+use Rattle.depth_cert.specs.declared.keys.Key.{Key}
+use Rattle.depth_cert.specs.Keys.{IsKey, byte_of, number_of_key}
+use Rattle.frame_places.specs.contracts.places.SpotPartialEq.TheImpl as block
+use Rattle.frame_places.specs.declared.places.Spot.{Spot}
+use Rattle.frame_places.specs.declared.places.Spot.TheVariants.{Point, Exit}
+
+-- one key
+abbrev pub one_key : Key → Key → Bool
+one_key k j = k.kind == j.kind && k.entry == j.entry && k.prio == j.prio && byte_of k.is == byte_of j.is
+
+-- one place
+abbrev pub spot_eq : Spot → Spot → Bool
+spot_eq = (block.ghosts).eq
+
+-- places are ordered by key, then address
+abbrev pub spot_number : Spot → ℕ
+spot_number (Point k p) = number_of_key k * 2 ^ 32 + p
+spot_number (Exit k) = number_of_key k * 2 ^ 32 + 0
+
+-- a point's address
+abbrev pub spot_address : Spot → ℕ
+spot_address (Point k p) = p
+spot_address (Exit k) = 0
+
+-- a point of frame k
+abbrev pub is_point_of : Key → Spot → Bool
+is_point_of k (Point j p) = one_key j k
+is_point_of k (Exit j) = false
+
+-- points that a certificate may have
+abbrev pub AreRanged : List Spot → Type 0
+AreRanged ps = (q : Spot) → Contains ps q → (k : Key) × (p : ℕ) × (q ≡ Point k p) × IsKey k × (p < 2 ^ 32)
+
+-- the address of a place in the frame k
+abbrev pub IsAddressIn : Key → Spot → Option ℕ → Type 0
+IsAddressIn k y None = (p : ℕ) → y ≡ Point k p → ⊥
+IsAddressIn k y (Some p) = y ≡ Point k p

@@ -1,0 +1,65 @@
+// The points and the frames that are known, within the limits of certificates.
+ghost use Rattle.std.specs.Prelude.{◌≡◌, ◌≤◌, ◌^◌, OnOk, IfErr, false, length};
+ghost use Rattle.frame_places.specs.declared.places.Spot.TheVariants.{Point};
+ghost use Rattle.frame_places.specs.Counting.{Passing, frames_after, points_after, with_entered, with_point};
+
+use crate::places::Spot;
+use crate::refusals::Refusal;
+use depth_cert::Key;
+
+/// The most points of all frames, and the most frames, that a certificate has.
+const MOST_POINTS: usize = 65536;
+
+const MOST_FRAMES: usize = 2048;
+
+/// Counts a point of which nothing was known, and its frame where it is the entry point.
+fn count_point(
+    points: &mut Vec<Spot>,
+    frames: &mut Vec<Key>,
+    key: Key,
+    addr: u32,
+) -> Result<(), Refusal>
+    requires points { length points.old.items ≤ 2 ^ 16 }
+    requires frames { length frames.old.items ≤ 2048 }
+    ensures points { OnOk result (points.new.items ≡ with_point points.old.items (Point key addr)) }
+    ensures frames { OnOk result (frames.new.items ≡ with_entered frames.old.items (Point key addr)) }
+    ensures few_points { OnOk result (length points.new.items ≤ 2 ^ 16) }
+    ensures few_frames { OnOk result (length frames.new.items ≤ 2048) }
+    ensures err { IfErr result (Passing false points.old.items frames.old.items (Point key addr)) }
+{
+    if points.len() == MOST_POINTS {
+        return Err(Refusal::Fault(15, Spot::Point(key, addr)));
+    }
+    if addr == key.entry {
+        if frames.len() == MOST_FRAMES {
+            return Err(Refusal::Fault(15, Spot::Point(key, addr)));
+        }
+        frames.push(key)?;
+    }
+    points.push(Spot::Point(key, addr))?;
+    Ok(())
+}
+
+/// Counts a place, unless it is known.
+pub fn count(
+    known: bool,
+    points: &mut Vec<Spot>,
+    frames: &mut Vec<Key>,
+    y: Spot,
+) -> Result<(), Refusal>
+    requires points { length points.old.items ≤ 2 ^ 16 }
+    requires frames { length frames.old.items ≤ 2048 }
+    ensures points { OnOk result (points.new.items ≡ points_after known points.old.items y) }
+    ensures frames { OnOk result (frames.new.items ≡ frames_after known frames.old.items y) }
+    ensures few_points { OnOk result (length points.new.items ≤ 2 ^ 16) }
+    ensures few_frames { OnOk result (length frames.new.items ≤ 2048) }
+    ensures err { IfErr result (Passing known points.old.items frames.old.items y) }
+{
+    if known {
+        return Ok(());
+    }
+    match y {
+        Spot::Exit(_) => Ok(()),
+        Spot::Point(key, addr) => count_point(points, frames, key, addr),
+    }
+}

@@ -1,0 +1,20 @@
+//! The places of frames in a table, points and exits: which have work, who is told of which, their numbers and their order.
+#![tactic(auto)]
+
+mod counting;
+mod marks;
+mod numbers;
+mod ordering;
+mod places;
+mod readers;
+mod refusals;
+
+pub use counting::count;
+pub use marks::{has_work, is_open, touch, touch_all, wake};
+pub use numbers::{number_of, numbered, numbers_of};
+pub use ordering::{
+    address_at, address_in, frames_in_order, orders_of, points_in_order, points_of,
+};
+pub use places::{Mark, Spot};
+pub use readers::register;
+pub use refusals::Refusal;

@@ -1,0 +1,81 @@
+// Which places have work.
+ghost use Rattle.std.specs.Prelude.{◌≡◌, ◌↔◌, IsTrue, OnOk, Some, if◌then◌else◌};
+ghost use Rattle.indexmap.specs.IndexMap.{get};
+ghost use Rattle.frame_places.specs.declared.places.Spot.{Spot};
+ghost use Rattle.frame_places.specs.declared.places.Mark.TheVariants.{Open, Queued};
+ghost use Rattle.frame_places.specs.Spots.{spot_eq};
+ghost use Rattle.frame_places.specs.Marks.{AllListed, Touched, Woken, is_queued};
+
+use crate::places::{Mark, Spot};
+use indexmap::IndexMap;
+use std::alloc::AllocError;
+use std::collections::VecDeque;
+
+/// Puts x on the list, unless it is there.
+pub fn touch(
+    marks: &mut IndexMap<Spot, Mark>,
+    work: &mut VecDeque<Spot>,
+    x: Spot,
+) -> Result<(), AllocError>
+    requires { AllListed marks.old work.old.items }
+    ensures marks { OnOk result ((q : Spot) → get spot_eq marks.new q ≡ (if spot_eq x q then Some Queued else get spot_eq marks.old q)) }
+    ensures work { OnOk result (AllListed marks.new work.new.items) }
+{
+    if let Some(Mark::Queued) = marks.get(&x) {
+        return Ok(());
+    }
+    work.push_back(x)?;
+    marks.insert(x, Mark::Queued)?;
+    Ok(())
+}
+
+/// Puts each of them on the list.
+pub fn touch_all(
+    marks: &mut IndexMap<Spot, Mark>,
+    work: &mut VecDeque<Spot>,
+    places: &[Spot],
+) -> Result<(), AllocError>
+    requires { AllListed marks.old work.old.items }
+    ensures marks { OnOk result (Touched marks.old marks.new places.now) }
+    ensures work { OnOk result (AllListed marks.new work.new.items) }
+{
+    for x in places {
+        touch(marks, work, *x)?;
+    }
+    Ok(())
+}
+
+/// Puts y and all that read it on the list.
+pub fn wake(
+    marks: &mut IndexMap<Spot, Mark>,
+    work: &mut VecDeque<Spot>,
+    readers: &IndexMap<Spot, Vec<Spot>>,
+    y: Spot,
+) -> Result<(), AllocError>
+    requires { AllListed marks.old work.old.items }
+    ensures marks { OnOk result (Woken marks.old marks.new readers.now y) }
+    ensures work { OnOk result (AllListed marks.new work.new.items) }
+{
+    touch(marks, work, y)?;
+    match readers.get(&y) {
+        None => Ok(()),
+        Some(places) => {
+            touch_all(marks, work, places.as_slice())?;
+            Ok(())
+        }
+    }
+}
+
+/// Whether x is on the list.
+pub fn has_work(marks: &IndexMap<Spot, Mark>, x: Spot) -> bool
+    ensures { result ≡ is_queued (get spot_eq marks.now x) }
+{
+    matches!(marks.get(&x), Some(Mark::Queued))
+}
+
+/// Whether x is the place that is being visited.
+pub fn is_open(marks: &IndexMap<Spot, Mark>, x: Spot) -> bool
+    ensures { IsTrue result ↔ (get spot_eq marks.now x ≡ Some Open) }
+{
+    matches!(marks.get(&x), Some(Mark::Open))
+}

@@ -1,0 +1,52 @@
+// Frames by numbers: their places in the list of frames.
+ghost use Rattle.std.specs.Prelude.{◌≡◌, ℕ, List, Contains, IfOk, map, All};
+ghost use Rattle.std.specs.List.{IsDistinct};
+ghost use Rattle.frame_places.specs.Spots.{one_key};
+ghost use Rattle.depth_cert.specs.declared.keys.Key as keys;
+ghost use Rattle.frame_places.specs.Numbers.{AreNumbers, number_in};
+
+use depth_cert::Key;
+use indexmap::IndexMap;
+use std::alloc::{AllocError, AllocFailed, Global};
+
+/// The numbers of the frames.
+pub fn numbered(
+    alloc: Global,
+    frames: &[Key],
+) -> Result<IndexMap<Key, usize>, AllocFailed<(Key, usize)>>
+    requires { IsDistinct one_key frames.now }
+    ensures { IfOk result (λ numbers. AreNumbers numbers frames.now frames.now) }
+{
+    let mut numbers = IndexMap::new(alloc);
+    for (i, key) in frames.iter().enumerate() {
+        numbers.insert(*key, i)?;
+    }
+    Ok(numbers)
+}
+
+/// The number of a frame; 0 where it has none.
+pub fn number_of(numbers: &IndexMap<Key, usize>, key: Key) -> usize
+    ensures { (frames : List keys.Key) → AreNumbers numbers.now frames frames → Contains frames key → result ≡ number_in frames key }
+{
+    match numbers.get(&key) {
+        Some(number) => *number,
+        None => 0,
+    }
+}
+
+/// The numbers of these frames.
+pub fn numbers_of(
+    alloc: Global,
+    numbers: &IndexMap<Key, usize>,
+    entered: &[Key],
+) -> Result<Vec<usize>, AllocError>
+    ensures { IfOk result (λ into. (frames : List keys.Key) → AreNumbers numbers.now frames frames
+        → ((k : keys.Key) → Contains entered.now k → Contains frames k)
+        → into.items ≡ map (number_in frames) entered.now) }
+{
+    let mut into = Vec::new(alloc);
+    for key in entered {
+        into.push(number_of(numbers, *key))?;
+    }
+    Ok(into)
+}
