@@ -6,7 +6,7 @@ use Rattle.depth_cert.specs.Nodes.{NodeData}
 use Rattle.depth_cert.specs.Certs.{CertData, IsCert}
 use Rattle.depth_check.specs.declared.forms.Here.{Here}
 use Rattle.depth_check.specs.declared.forms.NodeForm.{NodeForm}
-use Rattle.depth_check.specs.declared.forms.NodeForm.TheVariants.{Plain, Packed}
+use Rattle.depth_check.specs.declared.forms.NodeForm.TheVariants.{Plain, Packed, Near}
 use Rattle.depth_check.specs.declared.any_certs.CertForm.{CertForm}
 use Rattle.depth_check.specs.declared.any_certs.CertForm.TheVariants.{InMemory, OnBytes}
 
@@ -14,6 +14,7 @@ use Rattle.depth_check.specs.declared.any_certs.CertForm.TheVariants.{InMemory, 
 abbrev pub node_data : NodeForm → NodeData
 node_data (Plain n) = n.now
 node_data (Packed n) = n
+node_data (Near n i) = n.now
 
 -- what a frame keeps beside its node
 pub record IsFrame (key : Key) (need : ℕ) (form : NodeForm) : Type 0 where

@@ -46,32 +46,39 @@ fn plain_has_after(node: &Node, addr: u32, s: &State, exit: &Exit, kind: u8) -> 
     }
 }
 
-fn packed_has_point(node: &PackedNode<'_>, addr: u32, s: &State) -> bool
+fn packed_has_point(node: &PackedNode<'_>, near: usize, addr: u32, s: &State) -> bool
     requires state { AreWell s.now.regs }
     ensures { IsTrue result ↔ HasPoint node.now addr s.now }
 {
-    match node.state(addr, 0) {
+    match node.state(addr, near) {
         Some(upper) => upper.covers(s),
         None => false,
     }
 }
 
-fn packed_has_changed(node: &PackedNode<'_>, addr: u32, s: &State, c: &Change) -> bool
+fn packed_has_changed(node: &PackedNode<'_>, near: usize, addr: u32, s: &State, c: &Change) -> bool
     requires state { AreWell (changed s.now c.now).regs }
     ensures { IsTrue result ↔ HasPoint node.now addr (changed s.now c.now) }
 {
-    match node.state(addr, 0) {
+    match node.state(addr, near) {
         Some(upper) => upper.covers_changed(s, c),
         None => false,
     }
 }
 
-fn packed_has_after(node: &PackedNode<'_>, addr: u32, s: &State, exit: &Exit, kind: u8) -> bool
+fn packed_has_after(
+    node: &PackedNode<'_>,
+    near: usize,
+    addr: u32,
+    s: &State,
+    exit: &Exit,
+    kind: u8,
+) -> bool
     requires node { IsWellNode node.now }
     requires state { AreWell (after_of s.now exit.now kind).regs }
     ensures { IsTrue result ↔ HasPoint node.now addr (after_of s.now exit.now kind) }
 {
-    match node.state(addr, 0) {
+    match node.state(addr, near) {
         Some(upper) => covers_after(&upper.read(), s, exit, kind),
         None => false,
     }
@@ -85,7 +92,8 @@ pub(crate) fn has_point(node: &Frame<'_>, addr: u32, s: &State) -> bool
 {
     match &node.form {
         NodeForm::Plain(node) => plain_has_point(node, addr, s),
-        NodeForm::Packed(node) => packed_has_point(node, addr, s),
+        NodeForm::Packed(node) => packed_has_point(node, 0, addr, s),
+        NodeForm::Near(node, near) => packed_has_point(node, *near, addr, s),
     }
 }
 
@@ -97,7 +105,8 @@ pub(crate) fn has_changed(node: &Frame<'_>, addr: u32, s: &State, c: &Change) ->
 {
     match &node.form {
         NodeForm::Plain(node) => plain_has_changed(node, addr, s, c),
-        NodeForm::Packed(node) => packed_has_changed(node, addr, s, c),
+        NodeForm::Packed(node) => packed_has_changed(node, 0, addr, s, c),
+        NodeForm::Near(node, near) => packed_has_changed(node, *near, addr, s, c),
     }
 }
 
@@ -109,7 +118,8 @@ pub(crate) fn has_after(node: &Frame<'_>, addr: u32, s: &State, exit: &Exit, kin
 {
     match &node.form {
         NodeForm::Plain(node) => plain_has_after(node, addr, s, exit, kind),
-        NodeForm::Packed(node) => packed_has_after(node, addr, s, exit, kind),
+        NodeForm::Packed(node) => packed_has_after(node, 0, addr, s, exit, kind),
+        NodeForm::Near(node, near) => packed_has_after(node, *near, addr, s, exit, kind),
     }
 }
 
@@ -159,6 +169,7 @@ pub(crate) fn comes_back(
     match &entered.form {
         NodeForm::Plain(entered) => plain_comes_back(node, at, s, entered, kind),
         NodeForm::Packed(entered) => packed_comes_back(node, at, s, entered, kind),
+        NodeForm::Near(entered, _) => packed_comes_back(node, at, s, entered, kind),
     }
 }
 
@@ -257,5 +268,6 @@ pub(crate) fn has_exit(node: &Frame<'_>, s: &State) -> bool
     match &node.form {
         NodeForm::Plain(node) => plain_has_exit(node, s),
         NodeForm::Packed(node) => packed_has_exit(node, s),
+        NodeForm::Near(node, _) => packed_has_exit(node, s),
     }
 }

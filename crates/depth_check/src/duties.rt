@@ -22,8 +22,8 @@ use crate::covering::{comes_back, has_changed, has_exit};
 use crate::forms::Frame;
 use crate::successors::broken_by_successors;
 use cfg_recover::{
-    Leave, Located, call_change, entered_key, handler_change, interrupts, irq_key, is_aligned,
-    misaligned_change, system_change, targets,
+    Leave, Located, aln_key, call_change, entered_key, handler_change, interrupts, irq_key,
+    is_aligned, misaligned_change, sys_key, system_change, targets,
 };
 use depth_cert::Key;
 use elf_image::Image;
@@ -158,7 +158,7 @@ fn broken_by_system(
     ensures { Finds (DutiesHold cert.now node.now s.now (entered_and_back 12 (entries.sys_key plan.now node.now.key) (entries.sys_entry plan.now node.now.key s.now tin) back)) result }
 {
     let entry = system_change(b, plan, &node.key, s, tin);
-    let key = entered_key(&node.key, 3, plan.btv | 6 * 32);
+    let key = sys_key(plan, &node.key);
     broken_by_entry(cert, node, s, 12, &key, &entry, Some(back))
 }
 
@@ -208,7 +208,7 @@ fn broken_by_misaligned(
         return None;
     }
     let entry = misaligned_change(b, plan, &node.key, s);
-    let key = entered_key(&node.key, 4, plan.btv | 2 * 32);
+    let key = aln_key(plan, &node.key);
     broken_by_entry(cert, node, s, 10, &key, &entry, None)
 }
 

@@ -18,6 +18,7 @@ pub(crate) struct Here<'a> {
 pub(crate) enum NodeForm<'a> {
     Plain(&'a Node),
     Packed(PackedNode<'a>),
+    Near(&'a PackedNode<'a>, usize),
 }
 
 /// A node of a certificate in either form.
@@ -60,6 +61,17 @@ impl<'a> Frame<'a> {
             key: node.key,
             need: node.need,
             form: NodeForm::Packed(node),
+        }
+    }
+
+    /// A node on bytes, of which point number `near` is tried first wherever a point is looked for.
+    pub(crate) fn near(node: &'a PackedNode<'a>, near: usize) -> Frame<'a>
+        ensures { result ≡ node.now }
+    {
+        Frame {
+            key: node.key,
+            need: node.need,
+            form: NodeForm::Near(node, near),
         }
     }
 }

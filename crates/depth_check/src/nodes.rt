@@ -109,31 +109,32 @@ fn is_word(addr: u32)
     ensures { addr < 2 ^ 32 }
 {}
 
-/// The same of a node on bytes.
+/// The same of a node on bytes: behind each point the next one is tried first.
 fn packed_fault(
     b: &Bounds,
     image: &Image,
     plan: &Plan,
     cert: &AnyCert<'_>,
-    frame: &Frame<'_>,
     node: &PackedNode<'_>,
 ) -> Option<Fault>
     requires limits { b.now ≡ limits_in plan.now cert.now }
     requires nodes { All IsWellNode cert.now.nodes }
     requires member { Contains cert.now.nodes node.now }
-    requires same { frame.now ≡ node.now }
     ensures { MatchOption result (HoldsAtNode image.now plan.now cert.now node.now) (λ f. IsNodeFault image.now plan.now cert.now node.now f.rule f.addr) }
 {
     let entry = node.key.entry;
     let good = packed_holds_at_entry(b, node);
     let mut walk = node.points();
+    let mut next = 0usize;
     while let Some(addr) = walk.step() {
         is_word(addr);
+        next = next.wrapping_add(1);
+        let frame = Frame::near(&*node, next);
         let here = Here {
             addr,
             state: walk.state(),
         };
-        let found = broken_by_point(b, image, plan, cert, frame, here);
+        let found = broken_by_point(b, image, plan, cert, &frame, here);
         if let Some(fault) = first_of(good, entry, addr, found) {
             return Some(fault);
         }
@@ -156,6 +157,7 @@ pub(crate) fn node_fault(
 {
     match &frame.form {
         NodeForm::Plain(node) => plain_fault(b, image, plan, cert, frame, node),
-        NodeForm::Packed(node) => packed_fault(b, image, plan, cert, frame, node),
+        NodeForm::Packed(node) => packed_fault(b, image, plan, cert, node),
+        NodeForm::Near(node, _) => packed_fault(b, image, plan, cert, node),
     }
 }

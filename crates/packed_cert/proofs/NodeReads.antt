@@ -1,7 +1,7 @@
 -- Nodes whose parts are left where they stand.
-use Rattle.std.proofs.Common.{◌≡◌, ℕ, ◌+◌, List, [], ◌∷◌, ◌++◌, length, map, true, Result, Ok, Err, Option, Some, refl, sym, ap, ◌∙◌, arith}
+use Rattle.std.proofs.Common.{◌≡◌, ℕ, ◌+◌, List, [], ◌∷◌, ◌++◌, length, map, sum_by, true, Result, Ok, Err, Option, Some, refl, sym, ap, ◌∙◌, arith}
 use Rattle.std.proofs.lemmas.List.{map-append, length-map}
-use Rattle.std.proofs.lemmas.List.Sums.{sum_by-append}
+use Rattle.std.proofs.lemmas.List.Sums.{sum_by-cons, sum_by-append}
 use Rattle.tcd_base.specs.declared.types.FormErr.{FormErr}
 use Rattle.tcd_base.specs.Place.{Place}
 use Rattle.depth_cert.specs.declared.errors.CertErr.{CertErr}
@@ -55,6 +55,14 @@ count_push version bytes ns n =
     let more = ap count_points (nodes_push version bytes ns n) ∙ sum_by-append (λ (n : NodeData). length n.points) (nodes_of version bytes ns) (node_of version bytes n ∷ []) in
     let one = length-map n.points.items (point_in version bytes) in
     omega (arith, more, one)
+
+pub count_in : (version : ℕ) (bytes : List ℕ) (ns : List NodePlaces) → count_points (nodes_of version bytes ns) ≡ sum_by (λ (n : NodePlaces). length n.points.items) ns
+count_in version bytes [] = refl
+count_in version bytes (n ∷ ns) =
+    sum_by-cons (λ (m : NodeData). length m.points) (node_of version bytes n) (nodes_of version bytes ns)
+    ∙ ap (λ (k : ℕ). k + count_points (nodes_of version bytes ns)) (length-map n.points.items (point_in version bytes))
+    ∙ ap (λ (k : ℕ). length n.points.items + k) (count_in version bytes ns)
+    ∙ sym (sum_by-cons (λ (m : NodePlaces). length m.points.items) n ns)
 
 -- ---- a node behind others: the key, the need, the exit, and the points
 pub node_reads : (version : ℕ) (before : List NodeData) (p q r s t : Place) (key : Key) (need : ℕ) (exit : Option Exit) (points : List Point)

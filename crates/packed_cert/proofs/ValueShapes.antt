@@ -10,7 +10,8 @@ use Rattle.tcd_base.proofs.FieldReads.{bind_ok, u8_at_ok, u32_at_ok}
 use Rattle.value_domain.specs.declared.values.Val.{Val}
 use Rattle.value_domain.specs.declared.values.Val.TheVariants.{Set, Span}
 use Rattle.value_domain.specs.Sets.{Rising}
-use Rattle.value_domain.specs.Values.{any_val, IsWell}
+use Rattle.value_domain.specs.Values.{any_val, members, IsWell, IsBelow, IsExtent}
+use Rattle.value_domain.proofs.RangeLaws.{below_span}
 use Rattle.value_domain.specs.Versions.{most_words_of}
 use Rattle.depth_cert.specs.Points.{IsWellOf}
 use Rattle.depth_cert.specs.Grammar.{many_at, checked, word_after, set_at, span_at, value_at, is_above, is_span}
@@ -152,6 +153,13 @@ set_rising version ws h = h.0.rising
 
 pub well_as : (version : ℕ) (v w : Val) → v ≡ w → IsWellOf version v → IsWell w
 well_as version v w e h = subst IsWell e (well_of version v h)
+
+-- a value is below a Span exactly where its extent lies in it
+pub span_exact : {least greatest step : ℕ} (version : ℕ) (v w : Val) (lo last s : ℕ) → w ≡ Span lo last s → IsWell v → IsWellOf version w → IsExtent (members v) least greatest step
+    → (lo ≤ least → greatest ≤ last → s ≤ step → IsBelow v w) × (IsBelow v w → (lo ≤ least) × (greatest ≤ last) × (s ≤ step))
+span_exact version v w lo last s same well ok e =
+    let both = below_span v lo last s well (well_as version w (Span lo last s) same ok).0 e in
+    rw same both
 
 -- ---- values in a row
 pub length-values_in : (version : ℕ) (bytes : List ℕ) (place n : ℕ) → length (values_in version bytes place n) ≡ n

@@ -25,10 +25,11 @@ state_in version bytes place = read_or no_state (state_at version (at bytes plac
 abbrev pub HasState : ℕ → List ℕ → ℕ → Type 0
 HasState version bytes place = (x : State × Place) × (state_at version (at bytes place) ≡ Ok x)
 
--- a point and a list of them
+-- a point, with the state that stands at its place
 abbrev pub point_in : ℕ → List ℕ → PackedPoint → Point
 point_in version bytes p = record { addr = p.addr; state = state_in version bytes p.place }
 
+-- the points of a list, each with the state that stands at its place
 abbrev pub points_in : ℕ → List ℕ → List PackedPoint → List Point
 points_in version bytes ps = map (point_in version bytes) ps
 

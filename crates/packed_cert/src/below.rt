@@ -13,7 +13,7 @@ ghost use Rattle.depth_cert.specs.Grammar.{value_at};
 use crate::values_after::length_by;
 use depth_cert::read_value;
 use tcd_base::Cursor;
-use value_domain::{Val, leq};
+use value_domain::{Val, extent_of, leq};
 
 /// The word at a place.
 fn word(bytes: &[u8], place: usize) -> u32
@@ -63,6 +63,7 @@ fn are_among(own: &[u32], bytes: &[u8], place: usize, n: usize) -> bool
 }
 
 /// A value of which the words are listed in bytes, read.
+#[inline(never)]
 fn value(bytes: &[u8], version: u8, place: usize) -> Val
     requires short { length bytes.now ≤ 2 ^ 30 }
     requires stands { HasValue version bytes.now place }
@@ -73,6 +74,36 @@ fn value(bytes: &[u8], version: u8, place: usize) -> Val
     let mut out = Val::any();
     let _read = read_value(&mut c, version, &mut out);
     out
+}
+
+/// Whether each member of a value is one of the value that stands at a place, which is read.
+// A function of its own, so that the others have no room of a value to fill.
+#[inline(never)]
+fn is_below_read(v: &Val, bytes: &[u8], version: u8, place: usize) -> bool
+    requires short { length bytes.now ≤ 2 ^ 30 }
+    requires well { IsWell v.now }
+    requires stands { HasValue version bytes.now place }
+    ensures { IsTrue result ↔ IsBelow v.now (value_in version bytes.now place) }
+{
+    leq(v, &value(bytes, version, place))
+}
+
+/// Whether each member of a value is one of the span that stands at a place.
+fn is_below_span_at(v: &Val, bytes: &[u8], version: u8, place: usize) -> bool
+    requires short { length bytes.now ≤ 2 ^ 30 }
+    requires well { IsWell v.now }
+    requires stands { HasValue version bytes.now place }
+    requires span { 128 < slice_index bytes.now place }
+    ensures { IsTrue result ↔ IsBelow v.now (value_in version bytes.now place) }
+{
+    let lo = word(bytes, place + 1);
+    let last = word(bytes, place + 5);
+    let step = bytes[place] - 240;
+    let e = extent_of(v);
+    if e.least < lo || last < e.greatest {
+        return false;
+    }
+    step <= e.step
 }
 
 /// Whether each member of a value is one of the value that stands at a place.
@@ -87,16 +118,11 @@ pub(crate) fn is_below_at(v: &Val, bytes: &[u8], version: u8, place: usize) -> b
         return true;
     }
     if tag > 128 {
-        let upper = Val::Span {
-            lo: word(bytes, place + 1),
-            last: word(bytes, place + 5),
-            step: tag - 240,
-        };
-        return leq(v, &upper);
+        return is_below_span_at(v, bytes, version, place);
     }
     match v {
         Val::Set(words) => are_among(words.as_slice(), bytes, place + 1, tag as usize),
-        Val::Span { .. } => leq(v, &value(bytes, version, place)),
+        Val::Span { .. } => is_below_read(v, bytes, version, place),
     }
 }
 

@@ -1,5 +1,5 @@
 // Certificates on the bytes of their file.
-ghost use Rattle.std.specs.Prelude.{◌≡◌, ◌≤◌, ◌<◌, ◌^◌, ℕ, nat_lt, true, false, map, length, slice_index, Ok, IfOk, IfErr};
+ghost use Rattle.std.specs.Prelude.{◌≡◌, ◌≤◌, ◌<◌, ◌^◌, ℕ, nat_lt, true, false, map, sum_by, length, slice_index, Ok, IfOk, IfErr};
 ghost use Rattle.std.specs.List.{All, slice_get};
 ghost use Rattle.std.specs.List.Sorted.{IsStrictlyIncreasing, IsPartitionPoint};
 ghost use Rattle.depth_cert.specs.Answers.{IsFaultOf};
@@ -8,9 +8,10 @@ ghost use Rattle.depth_cert.specs.Keys.{number_of_key};
 use crate::cert_fields::read_parts;
 use crate::node_places::NodePlaces;
 use crate::packed_nodes::PackedNode;
-use depth_cert::{CertErr, Key, number_of};
+use depth_cert::{Cert, CertErr, Key, number_of};
 use std::alloc::Global;
 use std::marker::Model;
+use tcd_base::NoMemory;
 
 /// A certificate that stays on the bytes of its file.
 #[derive(Drop)]
@@ -33,7 +34,7 @@ impl Model for PackedCert {
 }
 
 impl PackedCert {
-    ghost use Rattle.depth_cert.specs.Certs.{IsCert, find_node};
+    ghost use Rattle.depth_cert.specs.Certs.{IsCert, count_points, find_node};
     ghost use Rattle.depth_cert.specs.Grammar.{certificate_of};
     ghost use Rattle.depth_cert.specs.Spelling.{bytes_of};
 
@@ -64,6 +65,23 @@ impl PackedCert {
         self.bytes.as_slice()
     }
 
+    /// The bytes that spell the certificate, which it gives up.
+    pub fn into_bytes(self) -> Vec<u8>
+        ensures { result.items ≡ bytes_of self }
+    {
+        self.bytes
+    }
+
+    /// The same certificate in memory, where each point has a place of its own.
+    pub fn unpack(&self, alloc: Global) -> Result<Cert, NoMemory>
+        ensures { IfOk result (λ c. c ≡ self.now) }
+    {
+        match Cert::read(alloc, self.bytes()) {
+            Ok(cert) => Ok(cert),
+            Err(_) => Err(NoMemory),
+        }
+    }
+
     /// The version, 1 or 2; a certificate keeps the order and the limits.
     pub fn version(&self) -> u8
         ensures version { result ≡ self.now.version }
@@ -77,6 +95,13 @@ impl PackedCert {
         ensures { result ≡ length self.now.nodes }
     {
         self.nodes.len()
+    }
+
+    /// How many points the nodes have together.
+    pub fn count_points(&self) -> usize
+        ensures { result ≡ count_points self.now.nodes }
+    {
+        count_places(&self.nodes)
     }
 
     /// The node at an index, or nothing past the last.
@@ -107,6 +132,18 @@ impl PackedCert {
 fn are_bytes(bytes: &[u8])
     ensures { (k : ℕ) → slice_index bytes.now k < 2 ^ 8 }
 {}
+
+/// How many points these nodes have together.
+fn count_places(nodes: &[NodePlaces]) -> usize
+    requires { sum_by (λ n. length n.points.items) nodes.now ≤ 2 ^ 16 }
+    ensures { result ≡ sum_by (λ n. length n.points.items) nodes.now }
+{
+    let mut total = 0;
+    for node in nodes {
+        total += node.points.len();
+    }
+    total
+}
 
 fn is_below(node: &NodePlaces, number: u64) -> bool
     ensures { result ≡ nat_lt (number_of_key node.now.key) number }

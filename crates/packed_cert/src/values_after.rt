@@ -27,6 +27,9 @@ fn are_same(bytes: &[u8], x: usize, y: usize, n: usize) -> bool
     requires second { y + n ≤ length bytes.now }
     ensures { IsTrue result → take n (drop x bytes.now) ≡ take n (drop y bytes.now) }
 {
+    if n == 1 {
+        return bytes[x] == bytes[y];
+    }
     bytes[x..x + n] == bytes[y..y + n]
 }
 

@@ -1,11 +1,9 @@
-use Rattle.std.proofs.Common.{◌≡◌, ◌∙◌, ◌*◌, ◌∷◌, [], ap, sym, subst, List, bit_or, None}
-use Rattle.tcd_plan.specs.PlanData.{PlanData}
+use Rattle.std.proofs.Common.{◌≡◌, ◌∙◌, ◌∷◌, [], ap, sym, subst, List, None}
 use Rattle.value_domain.specs.declared.states.State.{State}
 use Rattle.depth_cert.specs.declared.keys.Key.{Key}
 use Rattle.depth_cert.specs.Nodes.{NodeData}
 use Rattle.cfg_recover.specs.Entries.{aln_key, aln_entry}
 use Rattle.cfg_recover.specs.Duties.{Owed, owed, enter}
-use Rattle.cfg_recover.specs.Flows.{entered_key}
 use Rattle.depth_check.specs.Finding.{Finds, DutiesHold}
 use Rattle.depth_check.proofs.DutyLaws.{nothing_found, aligned_none, misaligned_one}
 use Rattle.depth_check.proofs.RuleLaws.{values_well}
@@ -25,12 +23,11 @@ returns-then-is_aligned c =
 
 pub returns : goal.returns
 returns c =
-    let key : c.entered_key-key.result ≡ aln_key c.args.plan.now (c.args.node.now).key =
-    c.entered_key-key.ensures
-    ∙ ap (λ (k : Key). entered_key k 4 (bit_or c.plan.inside.btv (2 * 32))) (c.node.invariant.same_key ∙ ap (λ (n : NodeData). n.key) c.node.view_is)
-    ∙ ap (λ (p : PlanData). entered_key (c.args.node.now).key 4 (bit_or p.btv (2 * 32))) c.plan.view_is in
+    let key : c.aln_key-key.result ≡ aln_key c.args.plan.now (c.args.node.now).key =
+    c.aln_key-key.ensures
+    ∙ ap (λ (k : Key). aln_key c.args.plan.now k) (c.node.invariant.same_key ∙ ap (λ (n : NodeData). n.key) c.node.view_is) in
     subst (λ (l : List Owed). Finds (DutiesHold c.args.cert.now c.args.node.now c.args.s.now l) c.broken_by_entry.result)
     (misaligned_one c.args.plan.now (c.args.node.now).key c.args.s.now c.args.at.now c.args.size (sym c.is_aligned.ensures ∙ c.if-is_aligned.false))
     (subst (λ (k : Key). Finds (DutiesHold c.args.cert.now c.args.node.now c.args.s.now (owed 10 (enter k (aln_entry c.args.plan.now (c.args.node.now).key c.args.s.now)) ∷ [])) c.broken_by_entry.result) key
-    (subst (λ (u : State). Finds (DutiesHold c.args.cert.now c.args.node.now c.args.s.now (owed 10 (enter c.entered_key-key.result u) ∷ [])) c.broken_by_entry.result) (c.misaligned_change-entry.ensures.entry ∙ ap (λ (k : Key). aln_entry c.args.plan.now k c.args.s.now) (c.node.invariant.same_key ∙ ap (λ (n : NodeData). n.key) c.node.view_is))
+    (subst (λ (u : State). Finds (DutiesHold c.args.cert.now c.args.node.now c.args.s.now (owed 10 (enter c.aln_key-key.result u) ∷ [])) c.broken_by_entry.result) (c.misaligned_change-entry.ensures.entry ∙ ap (λ (k : Key). aln_entry c.args.plan.now k c.args.s.now) (c.node.invariant.same_key ∙ ap (λ (n : NodeData). n.key) c.node.view_is))
     c.broken_by_entry.ensures))

@@ -25,7 +25,7 @@ returns-in-Some-first_of c =
     let b = stands_behind points inv.done c.step.new.self.left p split in
     let finds =
     subst (λ (s : State). let q : Point = record { addr = c.in-Some.addr; state = s } in Finds (RuleHolds c.args.image.now c.args.plan.now c.args.cert.now c.args.node.now q) c.broken_by_point-found.result) c.state.ensures
-    (rw c.requires.same at c.broken_by_point-found.ensures)
+    (rw c.near-frame.ensures at c.broken_by_point-found.ensures)
     in
     fault_at c.args.image.now c.args.plan.now c.args.cert.now c.args.node.now c.requires.member points refl c.points-walk.ensures.rising (length inv.done) p c.packed_holds_at_entry-good.result c.broken_by_point-found.result c.in-Some-first_of.fault b.within b.here
     (subst (λ (l : List Point). All (λ (q : Point). (r : ℕ) → RuleHolds c.args.image.now c.args.plan.now c.args.cert.now c.args.node.now q r) l) (sym b.before) inv.all)
@@ -41,7 +41,7 @@ loop-addr-preserved c =
     let p : Point = record { addr = c.in-Some.addr; state = c.step.new.self.current } in
     let finds =
     subst (λ (s : State). let q : Point = record { addr = c.in-Some.addr; state = s } in Finds (RuleHolds c.args.image.now c.args.plan.now c.args.cert.now c.args.node.now q) c.broken_by_point-found.result) c.state.ensures
-    (rw c.requires.same at c.broken_by_point-found.ensures)
+    (rw c.near-frame.ensures at c.broken_by_point-found.ensures)
     in
     let told = ap (λ (n : NodeData). first_of c.packed_holds_at_entry-good.result (n.key).entry c.in-Some.addr c.broken_by_point-found.result) (sym c.node.view_is) ∙ sym c.first_of.ensures ∙ c.in_default-first_of.is in
     let holds = none_at c.args.image.now c.args.plan.now c.args.cert.now c.args.node.now c.requires.member points refl c.points-walk.ensures.rising p c.packed_holds_at_entry-good.result c.broken_by_point-found.result told finds in

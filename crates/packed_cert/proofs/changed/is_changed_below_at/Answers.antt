@@ -1,6 +1,7 @@
 use Rattle.std.proofs.Common.{◌≡◌, ◌≤◌, ◌∙◌, ◌+◌, ℕ, true, false, length, get_or, refl, sym, ap, subst, arith}
 use Rattle.value_domain.specs.declared.values.Val.{Val}
 use Rattle.value_domain.specs.Values.{IsBelow, any_val}
+use Rattle.value_domain.proofs.RangeLaws.{below_any}
 use Rattle.value_domain.proofs.RegLaws.{below_more}
 use Rattle.vd_transfer.specs.Changes.{changed}
 use Rattle.vd_transfer.proofs.ChangeLaws.{length-changed}
@@ -8,6 +9,7 @@ use Rattle.packed_cert.specs.Standing.{behind}
 use Rattle.packed_cert.specs.Below.{value_in, values_in}
 use Rattle.packed_cert.proofs.ValueShapes.{left_first, length-values_in, stands_at}
 use Rattle.packed_cert.proofs.changed.is_changed_below_at.Goals as goal
+use Rattle.packed_cert.proofs.changed.is_changed_below_at.Goals.{else-tag-ne0-via-then-tag-ne0+else-not-is_below_at, else-tag-ne0-via-else-tag-ne0}
 
 pub is_below_at-requires-clause-well : goal.is_below_at-requires-clause-well
 is_below_at-requires-clause-well c =
@@ -46,12 +48,20 @@ loop-i-preserved c =
     let low = (changed c.args.s.now c.args.c.now).regs in
     let l = left_first c.args.version c.args.bytes.now c.loop-i.at 27 c.loop-i.i vs (omega arith) (length-values_in c.args.version c.args.bytes.now c.args.place 27) c.loop-i.invariant.have c.loop-i.invariant.left in
     let next : c.loop-i.at + c.length_by-at.result ≡ behind c.args.bytes.now c.loop-i.at = ap (λ (k : ℕ). c.loop-i.at + k) c.length_by-at.ensures in
-    let here = c.is_below_at.ensures.0 c.if-not-is_below_at.false in
+    let len : length low ≡ 27 = length-changed c.args.s.now c.args.c.now (omega arith) in
+    let s = stands_at c.args.version c.args.bytes.now c.loop-i.at (λ k. (c.type_inv.bytes k).fits) l.0 in
+    let here : IsBelow (get_or low c.loop-i.i any_val) (value_in c.args.version c.args.bytes.now c.loop-i.at) =
+    elim c.else-tag-ne0.branch [
+      | else-tag-ne0-via-then-tag-ne0+else-not-is_below_at w ↦
+          subst (λ (v : Val). IsBelow v (value_in c.args.version c.args.bytes.now c.loop-i.at)) w.changed_value.ensures (w.is_below_at.ensures.0 w.if-not-is_below_at.false)
+      | else-tag-ne0-via-else-tag-ne0 w ↦
+          subst (λ (v : Val). IsBelow (get_or low c.loop-i.i any_val) v) (sym (s.shape.any (omega (arith, w.if-tag-ne0.false)))) (below_any (get_or low c.loop-i.i any_val) (c.requires.well c.loop-i.i (omega arith)))
+    ]
+    in
     record {
       have = rw next l.1;
       left = rw next l.3;
-      below = below_more low vs c.loop-i.i c.loop-i.invariant.below
-          (subst (λ (w : Val). IsBelow (get_or low c.loop-i.i any_val) w) (sym l.2) (subst (λ (v : Val). IsBelow v (value_in c.args.version c.args.bytes.now c.loop-i.at)) c.changed_value.ensures here));
+      below = below_more low vs c.loop-i.i c.loop-i.invariant.below (subst (λ (w : Val). IsBelow (get_or low c.loop-i.i any_val) w) (sym l.2) here);
     }
 
 pub returns : goal.returns
