@@ -47,3 +47,5 @@ pub mod GrowthLaws
 pub mod GuardLaws
 pub mod ViewParts
 pub mod ReadOne
+pub mod Places
+pub mod SafeWords

@@ -33,7 +33,7 @@ use Rattle.task_chains.proofs.Turning.{goes_turning, no_store, turning_store}
 place_test : (x y : ℕ) → x ≢ y + 48 → x ≢ y + 52 → x ≢ y + 56 → (x == y + 48 || x == y + 52 || x == y + 56) ≡ false
 place_test x y a b c = (λ i. ne_eqb x (y + 48) a i || ne_eqb x (y + 52) b i || ne_eqb x (y + 56) c i)
 
-owner_now : (tasks : TasksData) (m : Machine) → m.pc ≢ tasks.switch + 48 → m.pc ≢ tasks.switch + 52 → m.pc ≢ tasks.switch + 56 → owner tasks m ≡ current tasks m.mem
+pub owner_now : (tasks : TasksData) (m : Machine) → m.pc ≢ tasks.switch + 48 → m.pc ≢ tasks.switch + 52 → m.pc ≢ tasks.switch + 56 → owner tasks m ≡ current tasks m.mem
 owner_now tasks m a b c = ap (λ t. cond t (before (count tasks) (current tasks m.mem)) (current tasks m.mem)) (place_test m.pc tasks.switch a b c)
 
 or_true : (a b : Bool) → b ≡ true → (a || b) ≡ true
@@ -45,7 +45,7 @@ true_or true b h = refl
 true_or false b h = absurd (let f : false ≡ true = h in cc)
 
 -- one of the three places
-place_here : (x y : ℕ) → (x ≡ y + 48) ⊎ ((x ≡ y + 52) ⊎ (x ≡ y + 56)) → (x == y + 48 || x == y + 52 || x == y + 56) ≡ true
+pub place_here : (x y : ℕ) → (x ≡ y + 48) ⊎ ((x ≡ y + 52) ⊎ (x ≡ y + 56)) → (x == y + 48 || x == y + 52 || x == y + 56) ≡ true
 place_here x y (inl a) = true_or (x == y + 48 || x == y + 52) (x == y + 56) (true_or (x == y + 48) (x == y + 52) (eq-eqb x (y + 48) a))
 place_here x y (inr (inl b)) = true_or (x == y + 48 || x == y + 52) (x == y + 56) (or_true (x == y + 48) (x == y + 52) (eq-eqb x (y + 52) b))
 place_here x y (inr (inr c)) = or_true (x == y + 48 || x == y + 52) (x == y + 56) (eq-eqb x (y + 56) c)

@@ -30,6 +30,7 @@ places_of_pair p = then_some (p.0 % 2 == 0 && p.1 % 4 == 0) (record { switch = p
 abbrev pub places_of : List ℕ → Option Places
 places_of line = option_and_then places_of_pair (pair_of_words (codes "switch") (words_of line))
 
+-- a task by the two numbers of its line: its entry, and its stack pointer
 abbrev pub task_of_pair : ℕ × ℕ → Task
 task_of_pair p = record { entry = p.0; sp = p.1 }
 
@@ -90,9 +91,11 @@ pub record IsEighth (lines : List (List ℕ)) (n : ℕ) : Type 0 where
 abbrev pub AreFew : TasksData → Type 0
 AreFew tasks = (2 ≤ count tasks) × (count tasks ≤ 7)
 
+-- the block lies in one ram range of the plan
 abbrev pub IsBlockInRam : PlanData → TasksData → Type 0
 IsBlockInRam plan tasks = IsInOne tasks.block (block_size tasks) plan.ram
 
+-- the plan of a task's view has at most 16 devices, as every plan has
 abbrev pub HaveViewsRoom : PlanData → TasksData → Type 0
 HaveViewsRoom plan tasks = length (view_devices plan tasks) ≤ 16
 
@@ -106,6 +109,7 @@ IsAgainst plan lines tasks NoRoom = AreFew tasks × IsBlockInRam plan tasks × (
 IsAgainst plan lines tasks OnIsp = AreFew tasks × IsBlockInRam plan tasks × HaveViewsRoom plan tasks × (plan.start_is ≡ true)
 IsAgainst plan lines tasks Count = ⊥
 
+-- lines are refused for this: one is of another form, or this is against the tasks that all of them say
 abbrev pub IsRefused : PlanData → List (List ℕ) → TasksErr → Type 0
 IsRefused plan lines (BadLine n) = IsBadLine lines n
 IsRefused plan lines e = (tasks : TasksData) × AreSaid lines tasks × IsAgainst plan lines tasks e
@@ -143,6 +147,7 @@ abbrev pub IsDraftBy : List (List ℕ) → Option Places → List Task → Optio
 IsDraftBy lines None list eighth = (written lines ≡ []) × (list ≡ []) × (eighth ≡ None)
 IsDraftBy lines (Some places) list eighth = IsKept lines places list eighth
 
+-- a draft is what these lines say so far
 abbrev pub IsDraft : List (List ℕ) → Draft → Type 0
 IsDraft lines d = IsDraftBy lines d.places d.list.items d.eighth
 

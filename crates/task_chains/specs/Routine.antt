@@ -9,6 +9,7 @@ use Rattle.tcd_base.specs.Ranges.{IsInOne}
 use Rattle.task_chains.specs.Tasks.{TasksData, count, routine_size}
 
 -- ---- instructions, by the places of their rows in the table
+-- an instruction: the place of its row in the table, and its operands
 abbrev pub instruction : ℕ → ℕ → ℕ → ℕ → ℕ → ℕ → InstData
 instruction row c s1 s2 n k = record { row = row; c = c; s1 = s1; s2 = s2; n = n; k = k }
 
@@ -56,10 +57,11 @@ mov c k = instruction 3 c 0 0 0 k
 abbrev pub jne_over : ℕ → ℕ → InstData
 jne_over s1 k4 = instruction 102 0 s1 k4 0 4
 
--- the upper half of an address, one more where the lower half is negative as a signed number, and the lower half
+-- the upper half of an address, one more where the lower half is negative as a signed number
 abbrev pub hi : ℕ → ℕ
 hi x = (x + 0x8000) / 2 ^ 16 % 2 ^ 16
 
+-- the lower half of an address
 abbrev pub lo : ℕ → ℕ
 lo x = x % 2 ^ 16
 
@@ -110,17 +112,21 @@ view_routine_of n b =
     plain 52 ∷ []
 
 -- ---- bytes
+-- the bytes of an instruction, by its row
 abbrev pub spelled_by : Option RowData → InstData → List ℕ
 spelled_by None i = []
 spelled_by (Some row) i = spelling row (fields_in i)
 
+-- the bytes of instructions, one after another
 abbrev pub bytes_of : List InstData → List ℕ
 bytes_of [] = []
 bytes_of (i ∷ is) = spelled_by (slice_get listed i.row) i ++ bytes_of is
 
+-- the bytes of the routine that switches these tasks
 abbrev pub routine_bytes : TasksData → List ℕ
 routine_bytes tasks = bytes_of (routine_of (count tasks) tasks.block)
 
+-- the bytes that stand in the routine's place in the view of a task
 abbrev pub view_routine_bytes : TasksData → List ℕ
 view_routine_bytes tasks = bytes_of (view_routine_of (count tasks) tasks.block)
 

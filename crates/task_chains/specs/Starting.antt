@@ -24,10 +24,11 @@ abbrev pub current : TasksData → Memory → ℕ
 current tasks mem = block_word tasks mem (count tasks)
 
 -- ---- contexts of the tasks that didn't start yet
--- the links of the two areas of a task other than the first
+-- the link of the area of the upper context of a task other than the first
 abbrev pub upper_area : PlanData → ℕ → ℕ
 upper_area plan u = first_link plan + 2 * (u - 1)
 
+-- that of its lower context
 abbrev pub lower_area : PlanData → ℕ → ℕ
 lower_area plan u = first_link plan + (2 * (u - 1) + 1)
 

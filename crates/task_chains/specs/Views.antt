@@ -19,6 +19,7 @@ with_routine_from tasks x [] = []
 with_routine_from tasks x (b ∷ bs) =
     (if is_in_routine tasks x then slice_index_or (view_routine_bytes tasks) (x - tasks.switch) 0 else b) ∷ with_routine_from tasks (x + 1) bs
 
+-- a segment with the view's routine in place of the routine's bytes
 abbrev pub view_segment : TasksData → SegmentData → SegmentData
 view_segment tasks s = record { at = s.at; bytes = with_routine_from tasks s.at s.bytes }
 

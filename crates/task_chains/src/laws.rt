@@ -2,6 +2,7 @@
 ghost use Rattle.task_chains.specs.Growing.{TaskFaultsGrow, TaskFaultsRefute};
 ghost use Rattle.task_chains.specs.Guards.{EveryTaskIsReady, EveryPlanFits, EveryTasksStart, ReadsOne};
 ghost use Rattle.task_chains.specs.Safe.{TasksAreSafe};
+ghost use Rattle.task_chains.specs.SafeWords.{SafeTasksSay, PartsAreSafe};
 ghost use Rattle.task_chains.specs.ViewLaws.{ViewStoresMiss, ViewsArePlans, ViewsKeepBytes};
 
 /// What holds of the views of tasks: their plans are plans, their stores are the plan's and miss the block, and outside of the
@@ -26,6 +27,13 @@ pub fn tasks_in_words()
     ensures fits { EveryPlanFits }
     ensures starts { EveryTasksStart }
     ensures one { ReadsOne }
+{}
+
+/// What it is that all runs of tasks are safe, in plain equations: the parts of each state of a run that is written out, and that these
+/// are all.
+pub fn safe_tasks_in_words()
+    ensures says { SafeTasksSay }
+    ensures parts { PartsAreSafe }
 {}
 
 /// The faults of rule 17 grow with what a certificate says, and one of them is enough to break the rule.

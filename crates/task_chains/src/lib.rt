@@ -15,6 +15,6 @@ mod views;
 
 pub use faults::task_fault;
 pub use judging::routine_fault;
-pub use laws::{faults_of_tasks, law_of_tasks, laws_of_views, tasks_in_words};
+pub use laws::{faults_of_tasks, law_of_tasks, laws_of_views, safe_tasks_in_words, tasks_in_words};
 pub use task_lists::{Task, Tasks, TasksErr};
 pub use views::{view_image, view_plan};

@@ -7,3 +7,4 @@ pub mod BootRows
 pub mod PutLaws
 pub mod SourceLaws
 pub mod JudgeOne
+pub mod GuardLaws

@@ -1,15 +1,15 @@
 -- What the definitions of this crate let in, told by plain equations.
-use Rattle.std.specs.Prelude.{◌≡◌, ◌+◌, ◌*◌, ◌<◌, ℕ, false, List, length, take, Result}
+use Rattle.std.specs.Prelude.{◌≡◌, ◌+◌, ◌*◌, ◌<◌, ℕ, false, List, ◌++◌, length, take, Result}
 use Rattle.elf_image.specs.Images.{ImageData}
 use Rattle.tcd_plan.specs.PlanData.{PlanData}
 use Rattle.tc_machine.specs.declared.events.Event.{Event}
 use Rattle.tc_machine.specs.declared.events.End.TheVariants.{Running}
 use Rattle.tc_machine.specs.declared.state.Machine.{Machine}
 use Rattle.tc_machine.specs.Stepping.{run}
-use Rattle.tc_machine.specs.Safe.{IsMachine}
+use Rattle.tc_machine.specs.Safe.{IsMachine, Starts, Fits, AllFit, IsSafeAt}
 use Rattle.tc_mem.specs.PlanMemory.{IsPlanMemory, HoldsRom}
 use Rattle.tc_boot.specs.declared.judging.BootErr.{BootErr}
-use Rattle.tc_boot.specs.Reset.{Reset, BootsFrom}
+use Rattle.tc_boot.specs.Reset.{Reset, BootsFrom, BootsSafely}
 use Rattle.tc_boot.specs.Judging.{Judges}
 
 -- The project's own reading of a reset: every machine that runs at the address with interrupts off, with the plan's core and
@@ -24,6 +24,18 @@ abbrev pub BootsInside : Type 0
 BootsInside =
     (image : ImageData) (plan : PlanData) (at : ℕ) (m : Machine) (es : List Event) (n : ℕ) → BootsFrom image plan at m es → n < length es
     → ((run m (take n es)).end ≡ Running) × ((run m (take n es)).ie ≡ false) × ((place : ℕ) × (place < 56) × ((run m (take n es)).pc ≡ at + 4 * place))
+
+-- Where an image boots safely from an address, take any machine that runs there with interrupts off, with the plan's core and
+-- memory and the image's bytes in rom, and any events that fit, 53 and three for each area, and then any more: before each of the
+-- former it runs with interrupts off at one of 56 places, four bytes apart; they lead to a start state; and each later state is safe.
+abbrev pub EveryBootIsSafe : Type 0
+EveryBootIsSafe =
+    (image : ImageData) (plan : PlanData) (at most : ℕ) (m : Machine) (boot es : List Event) (e : Event) → BootsSafely image plan at most
+    → IsMachine m → m.end ≡ Running → m.pc ≡ at → m.ie ≡ false → m.core ≡ plan.core → IsPlanMemory plan m.mem → HoldsRom image plan m.mem
+    → length boot ≡ 53 + 3 * plan.areas → AllFit plan m (boot ++ es) → Fits plan (run m (boot ++ es)) e
+    → ((n : ℕ) → n < length boot
+    → ((run m (take n boot)).end ≡ Running) × ((run m (take n boot)).ie ≡ false) × ((place : ℕ) × (place < 56) × ((run m (take n boot)).pc ≡ at + 4 * place)))
+    × Starts image plan (run m boot) × IsSafeAt image plan most (run m (boot ++ es)) e
 
 -- The test of a boot sequence has one answer.
 abbrev pub JudgesOne : Type 0

@@ -28,7 +28,8 @@ fn boot_image(alloc: Global, plan: &Plan, entry: u32, at: u32) -> Result<Image, 
 /// The boot sequence of a plan and an entry at an address, as a source: the listing of the image whose one segment it is.
 pub fn boot_source(alloc: Global, plan: &Plan, entry: u32, at: u32) -> Result<String, NoMemory>
     requires { at + 224 ≤ 2 ^ 32 }
-    ensures { IfOk result (λ text. string_bytes text ≡ listing_of (boot_image_of plan.now entry at)) }
+    ensures { IfOk result (λ text. string_bytes text
+        ≡ listing_of (boot_image_of plan.now entry at)) }
 {
     let image = boot_image(alloc, plan, entry, at)?;
     listing(alloc, &image)
