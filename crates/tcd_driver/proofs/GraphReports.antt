@@ -34,7 +34,7 @@ best_of : (i : ImageData) (p : PlanData) (bytes : List ℕ) → SpellOne i p byt
 best_of i p bytes s = record { cert = (s.1).cert; spell = (s.1).spell; is_cert = ((s.1).certified).is_cert; best = ((s.1).certified).best }
 
 pub one_most : (i : ImageData) (p : PlanData) (lent bytes : List ℕ) → lent ≡ bytes → SpellOne i p bytes → length lent ≤ 2 ^ 30
-one_most i p lent bytes e s = best_most i p lent bytes e (best_of i p bytes s)
+one_most i p lent bytes e s = subst (λ (b : List ℕ). length b ≤ 2 ^ 30) (sym e) (best_most i p bytes (best_of i p bytes s))
 
 -- the certificate that was read from them is certified
 pub read_certified : (i : ImageData) (p : PlanData) (lent bytes : List ℕ) (c : CertData) → lent ≡ bytes → SpellOne i p bytes → certificate_of lent ≡ Ok c → IsCertified i p c

@@ -26,8 +26,8 @@ none_best i p c one two is (first m) = one c is m.of_version m.accepted
 none_best i p c one two is (second none m) = two c is m.of_version m.accepted
 
 -- the bytes of the best certificate are few enough to be read
-pub best_most : (i : ImageData) (p : PlanData) (lent bytes : List ℕ) → lent ≡ bytes → SpellBest i p bytes → length lent ≤ 2 ^ 30
-best_most i p lent bytes e s = subst (λ (b : List ℕ). length b ≤ 2 ^ 30) (sym (e ∙ s.spell)) (cert_most s.cert s.is_cert)
+pub best_most : (i : ImageData) (p : PlanData) (bytes : List ℕ) → SpellBest i p bytes → length bytes ≤ 2 ^ 30
+best_most i p bytes s = subst (λ (b : List ℕ). length b ≤ 2 ^ 30) (sym s.spell) (cert_most s.cert s.is_cert)
 
 pub same_cert : (r : Result CertData FormErr) (x y : CertData) → r ≡ Ok x → r ≡ Ok y → x ≡ y
 same_cert r x y e f = cc

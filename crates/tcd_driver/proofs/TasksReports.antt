@@ -60,6 +60,13 @@ fault_there i p t c u k x view board seen planned accepted fault =
     (subst (λ (q : PlanData). Accepts (view_image_of i t u) q c) planned (subst (λ (v : ImageData). Accepts v board c) seen accepted))
     (subst (λ (q : PlanData). IsTaskFault (view_image_of i t u) q t c k x) planned (subst (λ (v : ImageData). IsTaskFault v board t c k x) seen fault))
 
+-- what a certificate fails or keeps, the same one in memory does
+pub same_fault : {v : ImageData} {b : PlanData} {t : TasksData} {c d : CertData} {k : Key} {x : ℕ} → c ≡ d → IsTaskFault v b t c k x → IsTaskFault v b t d k x
+same_fault {v} {b} {t} {c} {d} {k} {x} same fault = subst (λ (e : CertData). IsTaskFault v b t e k x) same fault
+
+pub same_apart : {v : ImageData} {b : PlanData} {t : TasksData} {c d : CertData} → c ≡ d → KeepsApart v b t c → KeepsApart v b t d
+same_apart {v} {b} {t} same keeps = subst (KeepsApart v b t) same keeps
+
 -- it is judged well, by other names
 pub judged_well : (i : ImageData) (fields p : PlanData) (parts t : TasksData) (all c : CertData) (u need : ℕ) (view : ImageData) (board : PlanData) → fields ≡ p → IsPlan fields → parts ≡ t → AreTasks parts → all ≡ c → IsCert all → FitPlan p t → u < count t
     → view ≡ view_image_of i t u → board ≡ view_plan_of p t u → Accepts view board c → need ≡ certified_need view board c → Safe view board need → KeepsApart view board t c

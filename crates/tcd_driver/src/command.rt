@@ -1,10 +1,8 @@
 // What words ask for.
 ghost use Rattle.std.specs.Prelude.{◌≡◌, ◌≤◌, ◌==◌, ◌&&◌, ◌||◌, nat_le, map, slice_index, string_bytes, IfSome};
 ghost use Rattle.std.specs.Bool.{then_some};
-ghost use Rattle.std.specs.List.{list_any};
 ghost use Rattle.std.specs.Option.{option_map};
-ghost use Rattle.std.specs.Str.{bytes_eq};
-ghost use Rattle.tcd_driver.specs.Commands.{command, link_form, is_link, ship_form, is_ship, tasks_words, is_tasks, is_taskcert, are_different, fixed_form, one_word, two_words, three_words, four_words, boot_form, bootgen_form, asked, generate, reading_of, KeepsLimits};
+ghost use Rattle.tcd_driver.specs.Commands.{command, link_form, is_link, ship_form, is_ship, tasks_words, is_tasks, is_taskcert, fixed_form, one_word, two_words, three_words, four_words, boot_form, bootgen_form, asked, generate, reading_of, KeepsLimits};
 ghost use Rattle.tcd_driver.specs.Gen.{functions_in};
 ghost use Rattle.tcd_reading.specs.Outcomes.{Comes};
 
@@ -24,6 +22,7 @@ use crate::commands::run::run_files;
 use crate::commands::ship::{Shipment, ship_files};
 use crate::commands::taskcert::certify_tasks;
 use crate::commands::tasks::check_tasks;
+use crate::different::are_different;
 use std::alloc::Global;
 use tcd_base::Files;
 use tcd_reading::Outcome;
@@ -111,7 +110,7 @@ pub(crate) enum Command<'a> {
 }
 
 /// The command that words ask for.
-pub(crate) fn asked_command(words: &[String]) -> Option<Command<'_>>
+pub(crate) fn asked_command(alloc: Global, words: &[String]) -> Option<Command<'_>>
     ensures is { option_map asked result ≡ command (map string_bytes words.now) }
     ensures limits { IfSome result KeepsLimits }
 {
@@ -119,7 +118,7 @@ pub(crate) fn asked_command(words: &[String]) -> Option<Command<'_>>
         Some(command) => Some(command),
         None => match ship_command(words) {
             Some(command) => Some(command),
-            None => match tasks_command(words) {
+            None => match tasks_command(alloc, words) {
                 Some(command) => Some(command),
                 None => fixed_command(words),
             },
@@ -172,7 +171,7 @@ fn ship_command(words: &[String]) -> Option<Command<'_>>
 }
 
 // The commands `tasks` and `taskcert` with their certificates.
-fn tasks_command(words: &[String]) -> Option<Command<'_>>
+fn tasks_command(alloc: Global, words: &[String]) -> Option<Command<'_>>
     ensures is { option_map asked result ≡ tasks_words (map string_bytes words.now) }
     ensures limits { IfSome result KeepsLimits }
 {
@@ -185,7 +184,7 @@ fn tasks_command(words: &[String]) -> Option<Command<'_>>
                 certs,
             })
         }
-        [verb, elf, plan, tasks, certs @ ..] if is_taskcert(verb.as_str(), certs) => {
+        [verb, elf, plan, tasks, certs @ ..] if is_taskcert(alloc, verb.as_str(), certs) => {
             Some(Command::Taskcert {
                 elf: elf.as_str(),
                 plan: plan.as_str(),
@@ -212,38 +211,10 @@ fn is_tasks(verb: &str, certs: &[String]) -> bool
 }
 
 // Whether the words behind the first three ask to make these certificates of tasks.
-fn is_taskcert(verb: &str, certs: &[String]) -> bool
+fn is_taskcert(alloc: Global, verb: &str, certs: &[String]) -> bool
     ensures { result ≡ is_taskcert verb.now (map string_bytes certs.now) }
 {
-    verb == "taskcert" && !certs.is_empty() && certs.len() <= 65_531 && are_different(certs)
-}
-
-// Whether a word stands among others.
-fn stands_in(word: &str, others: &[String]) -> bool
-    ensures { result ≡ list_any (bytes_eq word.now) (map string_bytes others.now) }
-{
-    let mut rest = others;
-    while let [other, more @ ..] = rest {
-        if word == other.as_str() {
-            return true;
-        }
-        rest = more;
-    }
-    false
-}
-
-// Whether no word stands twice.
-fn are_different(words: &[String]) -> bool
-    ensures { result ≡ are_different (map string_bytes words.now) }
-{
-    let mut rest = words;
-    while let [first, others @ ..] = rest {
-        if stands_in(first.as_str(), others) {
-            return false;
-        }
-        rest = others;
-    }
-    true
+    verb == "taskcert" && !certs.is_empty() && certs.len() <= 65_531 && are_different(alloc, certs)
 }
 
 // A command with a number of words that is fixed.

@@ -32,8 +32,8 @@ impl<'a> Form for CellsFile<'a> {
         line_of(alloc, long_cells_line())
     }
 
-    fn value(&self, alloc: Global, bytes: &[u8]) -> Result<Cells, Outcome> {
-        match Cells::read(bytes, self.plan) {
+    fn value(&self, alloc: Global, bytes: Vec<u8>) -> Result<Cells, Outcome> {
+        match Cells::read(&bytes, self.plan) {
             Ok(cells) => Ok(cells),
             Err(e) => Err(bad_input(alloc, cells_line(alloc, e))),
         }
@@ -64,8 +64,8 @@ impl<'a> Form for TasksFile<'a> {
         line_of(alloc, long_tasks_line())
     }
 
-    fn value(&self, alloc: Global, bytes: &[u8]) -> Result<Tasks, Outcome> {
-        match Tasks::read(bytes, self.plan) {
+    fn value(&self, alloc: Global, bytes: Vec<u8>) -> Result<Tasks, Outcome> {
+        match Tasks::read(&bytes, self.plan) {
             Ok(tasks) => Ok(tasks),
             Err(e) => Err(bad_input(alloc, tasks_line(alloc, e))),
         }

@@ -3,6 +3,7 @@
 
 mod command;
 mod commands;
+mod different;
 mod forms;
 mod lines;
 mod making;

@@ -5,7 +5,8 @@ ghost use Rattle.depth_cert.specs.Certs.{count_points};
 ghost use Rattle.tcd_forms.specs.Lines.{hex_word};
 ghost use Rattle.tcd_driver.specs.Lines.{bad_words_line, unbooted_line, boots_line, generated_boot_line, long_cells_line, cells_line, certified_cells_line, long_tasks_line, tasks_line, switch_line, of_task, refused_task_line, sum_line, certified_tasks_line, generated_line};
 
-use depth_cert::{Cert, Key, Node};
+use depth_cert::Key;
+use packed_cert::PackedCert;
 use std::alloc::Global;
 use task_chains::TasksErr;
 use tc_boot::BootErr;
@@ -186,32 +187,20 @@ pub(crate) fn certified_tasks_line(
     Ok(text.into_bytes())
 }
 
-// How many points nodes have together.
-fn count_points(nodes: &[Node]) -> usize
-    requires { count_points nodes.now ≤ 2 ^ 16 }
-    ensures { result ≡ count_points nodes.now }
-{
-    let mut total = 0;
-    for node in nodes {
-        total += node.points.len();
-    }
-    total
-}
-
 // The functions that were generated, and what their certificate holds and asks for.
 #[tactic(auto, unfolding(crate::specs::Lines::generated_line))]
 pub(crate) fn generated_line(
     alloc: Global,
     functions: u32,
-    cert: &Cert,
+    cert: &PackedCert,
     need: u32,
     areas: u32,
 ) -> Result<Vec<u8>, NoMemory>
     ensures { IfOk result (λ line. line.items ≡
         generated_line functions (length cert.now.nodes) (count_points cert.now.nodes) need areas) }
 {
-    let nodes = cert.nodes.len();
-    let points = count_points(&cert.nodes);
+    let nodes = cert.len();
+    let points = cert.count_points();
     let text = format!(in alloc;
         "functions {functions} nodes {nodes} points {points} certified {need} of {areas} areas\n"
     )?;

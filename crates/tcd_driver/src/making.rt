@@ -2,10 +2,11 @@
 ghost use Rattle.depth_maker.specs.Making.{NoneAccepted};
 ghost use Rattle.tcd_driver.specs.Made.{Makes, SpellBest};
 
-use depth_cert::{Cert, Key};
-use depth_check::{Verdict, check};
+use depth_cert::Key;
+use depth_check::{Verdict, check_packed};
 use depth_maker::{MakeErr, make_bytes};
 use elf_image::Image;
+use packed_cert::PackedCert;
 use std::alloc::Global;
 use tcd_plan::Plan;
 
@@ -24,12 +25,15 @@ fn checked(alloc: Global, image: &Image, plan: &Plan, bytes: Vec<u8>) -> Making
     requires { SpellBest image.now plan.now bytes.items }
     ensures { Makes image.now plan.now result }
 {
-    let cert = match Cert::read(alloc, &bytes) {
+    let cert = match PackedCert::read(alloc, bytes) {
         Ok(cert) => cert,
         Err(_) => return Making::NoMemory,
     };
-    match check(image, plan, &cert) {
-        Verdict::Yes(need) => Making::Certified { bytes, need },
+    match check_packed(image, plan, &cert) {
+        Verdict::Yes(need) => Making::Certified {
+            bytes: cert.into_bytes(),
+            need,
+        },
         Verdict::No { .. } => Making::NoMemory,
     }
 }

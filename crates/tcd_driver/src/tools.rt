@@ -36,7 +36,7 @@ pub fn tool<F: Files, S: Sink>(
         (λ c. Ends (reading_of c) (F.seen files.old) (F.seen files.new) (S.seen out.old)
         (S.seen out.new) result) }
 {
-    match asked_command(words) {
+    match asked_command(alloc, words) {
         Some(command) => {
             let outcome = command.outcome(alloc, files);
             finish(alloc, outcome, files, out)

@@ -4,8 +4,9 @@ use crate::lines::{
     long_object_line, long_plan_line, long_script_line, long_source_line, object_line, plan_line,
     script_line, source_line,
 };
-use depth_cert::{Cert, CertErr};
+use depth_cert::CertErr;
 use elf_image::Image;
+use packed_cert::PackedCert;
 use std::alloc::Global;
 use std::marker::Model;
 use tc_asm::{AsmErr, assemble};
@@ -43,8 +44,8 @@ impl Form for ElfFile {
         line_of(alloc, long_elf_line())
     }
 
-    fn value(&self, alloc: Global, bytes: &[u8]) -> Result<Image, Outcome> {
-        match Image::read(alloc, bytes) {
+    fn value(&self, alloc: Global, bytes: Vec<u8>) -> Result<Image, Outcome> {
+        match Image::read(alloc, &bytes) {
             Ok(image) => Ok(image),
             Err(e) => Err(bad_input(alloc, elf_line(alloc, e))),
         }
@@ -72,22 +73,22 @@ impl Form for PlanFile {
         line_of(alloc, long_plan_line())
     }
 
-    fn value(&self, alloc: Global, bytes: &[u8]) -> Result<Plan, Outcome> {
-        match Plan::read(alloc, bytes) {
+    fn value(&self, alloc: Global, bytes: Vec<u8>) -> Result<Plan, Outcome> {
+        match Plan::read(alloc, &bytes) {
             Ok(plan) => Ok(plan),
             Err(e) => Err(bad_input(alloc, plan_line(alloc, e))),
         }
     }
 }
 
-/// A certificate.
+/// A certificate, which stays on the bytes of its file.
 #[derive(Clone, Copy)]
 pub struct CertFile;
 
 impl Form for CertFile {
     ghost use Rattle.tcd_forms.specs.Forms.{cert_form};
 
-    type Out = Cert;
+    type Out = PackedCert;
 
     ghost form = { λ _. cert_form };
 
@@ -101,8 +102,8 @@ impl Form for CertFile {
         line_of(alloc, long_cert_line())
     }
 
-    fn value(&self, alloc: Global, bytes: &[u8]) -> Result<Cert, Outcome> {
-        match Cert::read(alloc, bytes) {
+    fn value(&self, alloc: Global, bytes: Vec<u8>) -> Result<PackedCert, Outcome> {
+        match PackedCert::read(alloc, bytes) {
             Ok(cert) => Ok(cert),
             Err(CertErr::Bad(e)) => Err(bad_input(alloc, cert_line(alloc, e))),
             Err(CertErr::NoMemory) => Err(Outcome::NoMemory),
@@ -134,8 +135,8 @@ impl<'a> Form for ScriptFile<'a> {
         line_of(alloc, long_script_line())
     }
 
-    fn value(&self, alloc: Global, bytes: &[u8]) -> Result<Script, Outcome> {
-        match Script::read(alloc, bytes, self.plan) {
+    fn value(&self, alloc: Global, bytes: Vec<u8>) -> Result<Script, Outcome> {
+        match Script::read(alloc, &bytes, self.plan) {
             Ok(script) => Ok(script),
             Err(e) => Err(bad_input(alloc, script_line(alloc, e))),
         }
@@ -163,8 +164,8 @@ impl Form for SourceFile {
         long_source_line(alloc, 0)
     }
 
-    fn value(&self, alloc: Global, bytes: &[u8]) -> Result<Object, Outcome> {
-        match assemble(alloc, bytes) {
+    fn value(&self, alloc: Global, bytes: Vec<u8>) -> Result<Object, Outcome> {
+        match assemble(alloc, &bytes) {
             Ok(object) => Ok(object),
             Err(AsmErr::Bad { line, rule }) => {
                 Err(bad_input(alloc, source_line(alloc, 0, rule, line)))
@@ -214,12 +215,12 @@ impl Form for PlacedSourceFile {
         long_source_line(alloc, self.place)
     }
 
-    fn value(&self, alloc: Global, bytes: &[u8]) -> Result<Source, Outcome> {
-        match assemble(alloc, bytes) {
-            Ok(object) => match Vec::from_slice(alloc, bytes) {
-                Ok(text) => Ok(Source { text, object }),
-                Err(_) => Err(Outcome::NoMemory),
-            },
+    fn value(&self, alloc: Global, bytes: Vec<u8>) -> Result<Source, Outcome> {
+        match assemble(alloc, &bytes) {
+            Ok(object) => Ok(Source {
+                text: bytes,
+                object,
+            }),
             Err(AsmErr::Bad { line, rule }) => {
                 Err(bad_input(alloc, source_line(alloc, self.place, rule, line)))
             }
@@ -249,8 +250,8 @@ impl Form for LayoutFile {
         line_of(alloc, long_layout_line())
     }
 
-    fn value(&self, alloc: Global, bytes: &[u8]) -> Result<Layout, Outcome> {
-        match Layout::read(alloc, bytes) {
+    fn value(&self, alloc: Global, bytes: Vec<u8>) -> Result<Layout, Outcome> {
+        match Layout::read(alloc, &bytes) {
             Ok(layout) => Ok(layout),
             Err(e) => Err(bad_input(alloc, layout_line(alloc, e))),
         }
@@ -280,8 +281,8 @@ impl Form for ObjectFile {
         long_object_line(alloc, self.place)
     }
 
-    fn value(&self, alloc: Global, bytes: &[u8]) -> Result<Object, Outcome> {
-        match Object::read(alloc, bytes) {
+    fn value(&self, alloc: Global, bytes: Vec<u8>) -> Result<Object, Outcome> {
+        match Object::read(alloc, &bytes) {
             Ok(object) => Ok(object),
             Err(ObjErr::Bad(e)) => Err(bad_input(alloc, object_line(alloc, self.place, e))),
             Err(ObjErr::NoMemory) => Err(Outcome::NoMemory),

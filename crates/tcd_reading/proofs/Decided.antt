@@ -22,10 +22,10 @@ pub record IsLawful {A : Type 0} (form : FormSeen A) : Type 0 where
   pub one : (bytes : List ℕ) (x y : A) → form.Is bytes x → form.Is bytes y → x ≡ y
   pub apart : (bytes text : List ℕ) (x : A) → form.Is bytes x → form.IsBad bytes text → ⊥
 
-one_value : {A : Type 0} (form : FormSeen A) (m : Map) (name : List ℕ) (x y : A) → IsLawful form → HoldsInput form (Some m) name x → HoldsInput form (Some m) name y → x ≡ y
+pub one_value : {A : Type 0} (form : FormSeen A) (m : Map) (name : List ℕ) (x y : A) → IsLawful form → HoldsInput form (Some m) name x → HoldsInput form (Some m) name y → x ≡ y
 one_value form m name x y lawful h k = lawful.one k.0 x y (subst (λ (b : List ℕ). form.Is b x) (same_bytes (get m name) h.0 k.0 h.1 k.1) h.3) k.3
 
-never_both : {A : Type 0} (form : FormSeen A) (m : Map) (name text : List ℕ) (x : A) → IsLawful form → HoldsInput form (Some m) name x → IsRefusal form (Some m) name text → ⊥
+pub never_both : {A : Type 0} (form : FormSeen A) (m : Map) (name text : List ℕ) (x : A) → IsLawful form → HoldsInput form (Some m) name x → IsRefusal form (Some m) name text → ⊥
 never_both form m name text x lawful h (long too is) = not_long form.limit (get m name) h.0 h.1 h.2 too
 never_both form m name text x lawful h (bad bytes reads within is) = lawful.apart bytes text x (subst (λ (b : List ℕ). form.Is b x) (same_bytes (get m name) h.0 bytes h.1 reads) h.3) is
 

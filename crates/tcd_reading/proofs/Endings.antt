@@ -1,5 +1,5 @@
 -- How a command ends, from what it comes to.
-use Rattle.std.proofs.Common.{◌≡◌, ◌≢◌, ◌⊎◌, inl, inr, List, Option, sym, ap, subst, ◌∙◌}
+use Rattle.std.proofs.Common.{◌≡◌, ◌≢◌, ◌⊎◌, inl, inr, List, [], Option, sym, ap, subst, ◌∙◌}
 use Rattle.std.specs.Prelude.{IsTrue}
 use Rattle.tcd_base.specs.Files.{Map, FilesSeen, LeavesFaults}
 use Rattle.tcd_base.specs.Sink.{SinkSeen}
@@ -52,6 +52,10 @@ module _ (reading : Reading) (decided : IsDecided reading) (r : Report) (old new
   complete_here (unwritten e quiet stopped counted unsteady) sure room q other = absurd (unsteady sure.steady)
   complete_here (no_memory e quiet stopped) sure room q other = inr e
 
+-- only a report that is done has files to write
+only_done_by : (reading : Reading) (held : Option Map) → IsDecided reading → (q : Report) → Says reading held q → q.status ≢ Done → q.writes ≡ []
+only_done_by reading held decided q says apart = said_done reading held q decided says apart
+
 -- ---- by what it comes to
 reported_ends : (reading : Reading) (old mid new : FilesSeen) (sink sink' : SinkSeen) (o : Outcome) (r : Report) (result : Status) → IsDecided reading → Comes reading old mid o → Says reading old.held r →
     IsReported r mid new sink sink' result → LeavesFaults mid new → Ends reading old new sink sink' result
@@ -60,7 +64,7 @@ reported_ends reading old mid new sink sink' o r result decided comes said h lea
     record {
       ended = ending.reported r said here;
       no_bad_words = words_here reading decided r old new sink sink' result said here;
-      only_done = λ q says. said_done reading old.held q decided says;
+      only_done = only_done_by reading old.held decided;
       stays = stays_here reading decided r old new sink sink' result said here;
       steady = leaves.steady ∙ comes.steady;
       files_sure = λ s. leaves.sure (subst IsTrue (sym comes.steady) s.steady) ∙ comes.sure s;
@@ -74,7 +78,7 @@ unread_ends reading old mid new sink sink' o result decided comes failed quiet e
     record {
       ended = ending.unread e held quiet.sink_stays (subst (λ (f : FilesSeen). HasNotRead reading old f) (sym quiet.files_stay) failed).counted failed.unsure;
       no_bad_words = λ f. cc;
-      only_done = λ q says. said_done reading old.held q decided says;
+      only_done = only_done_by reading old.held decided;
       stays = λ s. held;
       steady = ap (λ (f : FilesSeen). f.steady) quiet.files_stay ∙ comes.steady;
       files_sure = λ s. absurd (failed.unsure s);
@@ -88,7 +92,7 @@ memory_ends reading old mid new sink sink' o result decided comes quiet e =
     record {
       ended = ending.no_memory e held quiet.sink_stays;
       no_bad_words = λ f. cc;
-      only_done = λ q says. said_done reading old.held q decided says;
+      only_done = only_done_by reading old.held decided;
       stays = λ s. held;
       steady = ap (λ (f : FilesSeen). f.steady) quiet.files_stay ∙ comes.steady;
       files_sure = λ s. ap (λ (f : FilesSeen). f.faults) quiet.files_stay ∙ comes.sure s;

@@ -4,3 +4,4 @@ pub mod Endings
 pub mod ReportLaws
 pub mod Told
 pub mod Writes
+pub mod EndingWords

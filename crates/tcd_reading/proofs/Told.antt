@@ -34,9 +34,8 @@ err_as P Q F G (Err o) h p f = stops_as P Q F G o h p f
 pub long_line : {A : Type 0} (form : FormSeen A) (held : Option Map) (name : List ℕ) (limit : ℕ) (t : List ℕ) → limit ≡ form.limit → IsTooLong held name limit → t ≡ form.long_line → IsRefusal form held name t
 long_line form held name limit t e h is = long (subst (λ (n : ℕ). IsTooLong held name n) e h) is
 
-pub bad_line : {A : Type 0} (form : FormSeen A) (held : Option Map) (name bytes read : List ℕ) (limit : ℕ) (t : List ℕ) → read ≡ bytes → limit ≡ form.limit → Reads held name bytes → length bytes ≤ limit → form.IsBad read t → IsRefusal form held name t
-bad_line form held name bytes read limit t e l holds short is =
-    bad bytes holds (subst (λ (n : ℕ). length bytes ≤ n) l short) (subst (λ (xs : List ℕ). form.IsBad xs t) e is)
+pub bad_line : {A : Type 0} (form : FormSeen A) (held : Option Map) (name bytes : List ℕ) (limit : ℕ) (t : List ℕ) → limit ≡ form.limit → Reads held name bytes → length bytes ≤ limit → form.IsBad bytes t → IsRefusal form held name t
+bad_line form held name bytes limit t l holds short is = bad bytes holds (subst (λ (n : ℕ). length bytes ≤ n) l short) is
 
 -- ---- inputs one after another
 pub counted_later : (a b c : ℕ) → a ≤ b → FaultCounted b c → FaultCounted a c

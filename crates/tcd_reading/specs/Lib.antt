@@ -3,3 +3,4 @@ pub mod Inputs
 pub mod Outcomes
 pub mod Reports
 pub mod Statuses
+pub mod EndingWords

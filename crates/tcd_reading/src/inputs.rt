@@ -29,11 +29,11 @@ pub trait Form {
         ensures { IfOk result (λ line. line.items ≡ (form self.now).long_line) };
 
     /// The value that bytes are, or what is printed where they are none.
-    fn value(&self, alloc: Global, bytes: &[u8]) -> Result<Self::Out, Outcome>
-        requires { length bytes.now ≤ (form self.now).limit }
-        ensures found { IfOk result ((form self.now).Is bytes.now) }
+    fn value(&self, alloc: Global, bytes: Vec<u8>) -> Result<Self::Out, Outcome>
+        requires { length bytes.items ≤ (form self.now).limit }
+        ensures found { IfOk result ((form self.now).Is bytes.items) }
         ensures fits { IfOk result (Fits self.now) }
-        ensures stops { IfErr result (Stops ((form self.now).IsBad bytes.now) ⊥) };
+        ensures stops { IfErr result (Stops ((form self.now).IsBad bytes.items) ⊥) };
 }
 
 /// An input that isn't in its form, and what is printed of it.
@@ -78,7 +78,7 @@ pub fn read_input<I: Form, F: Files>(
         (HasFailed name.now (F.seen files.old) (F.seen files.new))) }
 {
     match files.read(alloc, name, form.limit()) {
-        Ok(bytes) => form.value(alloc, &bytes),
+        Ok(bytes) => form.value(alloc, bytes),
         Err(e) => Err(unread(form, alloc, e)),
     }
 }

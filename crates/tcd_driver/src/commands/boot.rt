@@ -3,9 +3,9 @@ ghost use Rattle.tcd_driver.specs.Boot.{IsBootVerdict, boot_reading};
 ghost use Rattle.tcd_reading.specs.Outcomes.{Comes, IsTold};
 
 use crate::lines::{boots_line, unbooted_line};
-use depth_cert::Cert;
-use depth_check::{Verdict, check};
+use depth_check::{Verdict, check_packed};
 use elf_image::Image;
+use packed_cert::PackedCert;
 use std::alloc::Global;
 use tc_boot::boot_ok;
 use tcd_base::Files;
@@ -42,12 +42,12 @@ pub(crate) fn boot_files<F: Files>(
 }
 
 // Checks a certificate and the boot sequence at an address, and makes the line of the verdict.
-fn boot_verdict(alloc: Global, image: &Image, plan: &Plan, cert: &Cert, at: u32) -> Outcome
+fn boot_verdict(alloc: Global, image: &Image, plan: &Plan, cert: &PackedCert, at: u32) -> Outcome
     ensures { IsTold (IsBootVerdict image.now plan.now cert.now at) ⊥ result }
 {
     // What every image keeps is known once it is read.
     let _entry = image.entry;
-    match check(image, plan, cert) {
+    match check_packed(image, plan, cert) {
         Verdict::Yes(need) => match boot_ok(image, plan, at) {
             Ok(events) => report(
                 alloc,

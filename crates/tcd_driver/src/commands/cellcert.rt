@@ -7,10 +7,10 @@ ghost use Rattle.tcd_reading.specs.Outcomes.{Comes, IsTold};
 
 use crate::forms::CellsFile;
 use crate::lines::certified_cells_line;
-use depth_cert::Cert;
-use depth_check::{Verdict, check};
+use depth_check::{Verdict, check_packed};
 use depth_maker::{MakeErr, make_bytes};
 use elf_image::Image;
+use packed_cert::PackedCert;
 use std::alloc::Global;
 use tcd_base::Files;
 use tcd_forms::{ElfFile, PlanFile, refused_line};
@@ -79,17 +79,22 @@ fn kept_cells(
     ensures { IsTold (IsCertifyingCells name.now image.now plan.now cells.now) ⊥ result }
 {
     let areas = plan.areas - plan.reserve;
-    let cert = match Cert::read(alloc, &bytes) {
+    let cert = match PackedCert::read(alloc, bytes) {
         Ok(cert) => cert,
         Err(_) => return Outcome::NoMemory,
     };
-    match check(image, &with_cells(plan, cells), &cert) {
-        Verdict::Yes(need) => match cells_fault(image, plan, cells, &cert) {
-            Some((key, addr)) => report(alloc, Status::Refused, refused_line(alloc, 16, key, addr)),
-            None => {
-                let line = certified_cells_line(alloc, need, areas, cells.list());
-                report_file(alloc, name, bytes, line)
-            }
+    match check_packed(image, &with_cells(plan, cells), &cert) {
+        Verdict::Yes(need) => match cert.unpack(alloc) {
+            Ok(frames) => match cells_fault(image, plan, cells, &frames) {
+                Some((key, addr)) => {
+                    report(alloc, Status::Refused, refused_line(alloc, 16, key, addr))
+                }
+                None => {
+                    let line = certified_cells_line(alloc, need, areas, cells.list());
+                    report_file(alloc, name, cert.into_bytes(), line)
+                }
+            },
+            Err(_) => Outcome::NoMemory,
         },
         Verdict::No { .. } => Outcome::NoMemory,
     }

@@ -5,9 +5,9 @@ ghost use Rattle.tcd_reading.specs.Outcomes.{Comes, IsTold};
 
 use crate::forms::CellsFile;
 use crate::lines::certified_cells_line;
-use depth_cert::Cert;
-use depth_check::{Verdict, check};
+use depth_check::{Verdict, check_packed};
 use elf_image::Image;
+use packed_cert::PackedCert;
 use std::alloc::Global;
 use tcd_base::Files;
 use tcd_forms::{CertFile, ElfFile, PlanFile, refused_line};
@@ -53,21 +53,33 @@ pub(crate) fn check_cells<F: Files>(
     cells_verdict(alloc, &image, &board, &words, &proof)
 }
 
-// Checks a certificate under the plan in which the cells are devices, and makes the line of the verdict.
-fn cells_verdict(alloc: Global, image: &Image, plan: &Plan, cells: &Cells, cert: &Cert) -> Outcome
+// Checks a certificate under the plan in which the cells are devices, and makes the line of the verdict. Whether it keeps the cells
+// is asked of the certificate in memory.
+fn cells_verdict(
+    alloc: Global,
+    image: &Image,
+    plan: &Plan,
+    cells: &Cells,
+    cert: &PackedCert,
+) -> Outcome
     requires { AreCells plan.now cells.now }
     ensures { IsTold (IsCellsVerdict image.now plan.now cells.now cert.now) ⊥ result }
 {
-    // What every certificate keeps is known once it is read.
-    let _version = cert.version;
-    match check(image, &with_cells(plan, cells), cert) {
-        Verdict::Yes(need) => match cells_fault(image, plan, cells, cert) {
-            Some((key, addr)) => report(alloc, Status::Refused, refused_line(alloc, 16, key, addr)),
-            None => {
-                let areas = plan.areas - plan.reserve;
-                let line = certified_cells_line(alloc, need, areas, cells.list());
-                report(alloc, Status::Done, line)
-            }
+    // What every certificate keeps is known once its version is asked for.
+    let _version = cert.version();
+    match check_packed(image, &with_cells(plan, cells), cert) {
+        Verdict::Yes(need) => match cert.unpack(alloc) {
+            Ok(frames) => match cells_fault(image, plan, cells, &frames) {
+                Some((key, addr)) => {
+                    report(alloc, Status::Refused, refused_line(alloc, 16, key, addr))
+                }
+                None => {
+                    let areas = plan.areas - plan.reserve;
+                    let line = certified_cells_line(alloc, need, areas, cells.list());
+                    report(alloc, Status::Done, line)
+                }
+            },
+            Err(_) => Outcome::NoMemory,
         },
         Verdict::No { rule, key, addr } => {
             report(alloc, Status::Refused, refused_line(alloc, rule, key, addr))

@@ -2,9 +2,9 @@
 ghost use Rattle.tcd_driver.specs.Check.{IsVerdict, check_reading};
 ghost use Rattle.tcd_reading.specs.Outcomes.{Comes, IsTold};
 
-use depth_cert::Cert;
-use depth_check::{Verdict, check};
+use depth_check::{Verdict, check_packed};
 use elf_image::Image;
+use packed_cert::PackedCert;
 use std::alloc::Global;
 use tcd_base::Files;
 use tcd_forms::{CertFile, ElfFile, PlanFile, certified_line, refused_line};
@@ -38,10 +38,10 @@ pub(crate) fn check_files<F: Files>(
 }
 
 // Checks a certificate, and makes the line of the verdict.
-fn verdict(alloc: Global, image: &Image, plan: &Plan, cert: &Cert) -> Outcome
+fn verdict(alloc: Global, image: &Image, plan: &Plan, cert: &PackedCert) -> Outcome
     ensures { IsTold (IsVerdict image.now plan.now cert.now) ⊥ result }
 {
-    match check(image, plan, cert) {
+    match check_packed(image, plan, cert) {
         Verdict::Yes(need) => {
             report(
                 alloc,

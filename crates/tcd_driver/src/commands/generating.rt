@@ -7,10 +7,10 @@ ghost use Rattle.tcd_driver.specs.Gen.{IsSummary};
 ghost use Rattle.tcd_reading.specs.Outcomes.{IsTold};
 
 use crate::lines::generated_line;
-use depth_cert::Cert;
-use depth_check::{Verdict, check};
+use depth_check::{Verdict, check_packed};
 use depth_maker::{MakeErr, make_bytes};
 use elf_image::Image;
+use packed_cert::PackedCert;
 use std::alloc::Global;
 use tcd_forms::refused_line;
 use tcd_generate::generate;
@@ -41,7 +41,7 @@ fn summary(alloc: Global, functions: u32, image: &Image, plan: &Plan) -> Outcome
     ensures { IsTold (IsSummary functions image.now plan.now) ⊥ result }
 {
     match make_bytes(alloc, image, plan, 1) {
-        Ok(bytes) => counted(alloc, functions, image, plan, &bytes),
+        Ok(bytes) => counted(alloc, functions, image, plan, bytes),
         Err(MakeErr::Refused { rule, key, addr }) => {
             report(alloc, Status::Refused, refused_line(alloc, rule, key, addr))
         }
@@ -50,15 +50,15 @@ fn summary(alloc: Global, functions: u32, image: &Image, plan: &Plan) -> Outcome
 }
 
 // Checks the certificate that was made, and makes the line on it.
-fn counted(alloc: Global, functions: u32, image: &Image, plan: &Plan, bytes: &[u8]) -> Outcome
-    requires { AreMade image.now plan.now 1 bytes.now }
+fn counted(alloc: Global, functions: u32, image: &Image, plan: &Plan, bytes: Vec<u8>) -> Outcome
+    requires { AreMade image.now plan.now 1 bytes.items }
     ensures { IsTold (IsSummary functions image.now plan.now) ⊥ result }
 {
-    let cert = match Cert::read(alloc, bytes) {
+    let cert = match PackedCert::read(alloc, bytes) {
         Ok(cert) => cert,
         Err(_) => return Outcome::NoMemory,
     };
-    match check(image, plan, &cert) {
+    match check_packed(image, plan, &cert) {
         Verdict::Yes(need) => {
             let areas = plan.areas - plan.reserve;
             let line = generated_line(alloc, functions, &cert, need, areas);

@@ -5,9 +5,9 @@ ghost use Rattle.tcd_report.specs.Reports.{IsReport};
 ghost use Rattle.tcd_driver.specs.Reporting.{IsReporting, report_reading};
 ghost use Rattle.tcd_reading.specs.Outcomes.{Comes, IsTold};
 
-use depth_cert::Cert;
-use depth_check::{Verdict, check};
+use depth_check::{Verdict, check_packed};
 use elf_image::Image;
+use packed_cert::PackedCert;
 use std::alloc::Global;
 use tcd_base::{Files, NoMemory};
 use tcd_forms::{CertFile, ElfFile, PlanFile, refused_line};
@@ -41,10 +41,10 @@ pub(crate) fn report_files<F: Files>(
 }
 
 // Checks a certificate, and tells its report.
-fn reported(alloc: Global, image: &Image, plan: &Plan, cert: &Cert) -> Outcome
+fn reported(alloc: Global, image: &Image, plan: &Plan, cert: &PackedCert) -> Outcome
     ensures { IsTold (IsReporting image.now plan.now cert.now) ⊥ result }
 {
-    match check(image, plan, cert) {
+    match check_packed(image, plan, cert) {
         Verdict::Yes(_) => report(alloc, Status::Done, report_text(alloc, image, plan, cert)),
         Verdict::No { rule, key, addr } => {
             report(alloc, Status::Refused, refused_line(alloc, rule, key, addr))
@@ -52,10 +52,16 @@ fn reported(alloc: Global, image: &Image, plan: &Plan, cert: &Cert) -> Outcome
     }
 }
 
-// The report of an accepted certificate.
-fn report_text(alloc: Global, image: &Image, plan: &Plan, cert: &Cert) -> Result<Vec<u8>, NoMemory>
+// The report of an accepted certificate, which is made of the certificate in memory.
+fn report_text(
+    alloc: Global,
+    image: &Image,
+    plan: &Plan,
+    cert: &PackedCert,
+) -> Result<Vec<u8>, NoMemory>
     requires { Accepts image.now plan.now cert.now }
     ensures { IfOk result (λ text. IsReport image.now plan.now cert.now text.items) }
 {
-    Ok(tcd_report::report(alloc, image, plan, cert)?.into_bytes())
+    let frames = cert.unpack(alloc)?;
+    Ok(tcd_report::report(alloc, image, plan, &frames)?.into_bytes())
 }

@@ -10,10 +10,11 @@ use crate::commands::tasks::counted;
 use crate::forms::TasksFile;
 use crate::lines::{certified_tasks_line, refused_task_line, sum_line, switch_line, tasks_line};
 use crate::making::Making;
-use depth_cert::{Cert, Key};
-use depth_check::{Verdict, check};
+use depth_cert::Key;
+use depth_check::{Verdict, check_packed};
 use depth_maker::{MakeErr, make_bytes};
 use elf_image::Image;
+use packed_cert::PackedCert;
 use std::alloc::Global;
 use task_chains::{Tasks, TasksErr, routine_fault, task_fault, view_image, view_plan};
 use tcd_base::{Files, NoMemory};
@@ -209,18 +210,24 @@ fn apart(alloc: Global, view: &Image, plan: &Plan, tasks: &Tasks, bytes: Vec<u8>
 {
     // What every plan keeps is known once it is read.
     let _areas = plan.areas;
-    let cert = match Cert::read(alloc, &bytes) {
+    let cert = match PackedCert::read(alloc, bytes) {
         Ok(cert) => cert,
         Err(_) => return Making::NoMemory,
     };
-    match check(view, plan, &cert) {
-        Verdict::Yes(need) => match task_fault(view, plan, tasks, &cert) {
-            Some((key, addr)) => Making::Refused {
-                rule: 17,
-                key,
-                addr,
+    match check_packed(view, plan, &cert) {
+        Verdict::Yes(need) => match cert.unpack(alloc) {
+            Ok(frames) => match task_fault(view, plan, tasks, &frames) {
+                Some((key, addr)) => Making::Refused {
+                    rule: 17,
+                    key,
+                    addr,
+                },
+                None => Making::Certified {
+                    bytes: cert.into_bytes(),
+                    need,
+                },
             },
-            None => Making::Certified { bytes, need },
+            Err(_) => Making::NoMemory,
         },
         Verdict::No { .. } => Making::NoMemory,
     }

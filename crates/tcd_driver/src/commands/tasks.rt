@@ -10,9 +10,10 @@ ghost use Rattle.tcd_driver.specs.Tasks.{IsTasksVerdict, JudgesTask, Tallies, ce
 
 use crate::forms::TasksFile;
 use crate::lines::{certified_tasks_line, refused_task_line, sum_line, switch_line, tasks_line};
-use depth_cert::{Cert, Key};
-use depth_check::{Verdict, check};
+use depth_cert::Key;
+use depth_check::{Verdict, check_packed};
 use elf_image::Image;
+use packed_cert::PackedCert;
 use std::alloc::Global;
 use task_chains::{Tasks, TasksErr, routine_fault, task_fault, view_image, view_plan};
 use tcd_base::{Files, NoMemory};
@@ -121,7 +122,7 @@ fn tasks_verdict(
     image: &Image,
     plan: &Plan,
     tasks: &Tasks,
-    certs: &[Cert],
+    certs: &[PackedCert],
 ) -> Outcome
     requires fit { FitPlan plan.now tasks.now }
     requires many { length certs.now ≡ count tasks.now }
@@ -162,7 +163,7 @@ fn judge_tasks(
     image: &Image,
     plan: &Plan,
     tasks: &Tasks,
-    certs: &[Cert],
+    certs: &[PackedCert],
 ) -> Result<Tally, NoMemory>
     requires fit { FitPlan plan.now tasks.now }
     requires many { length certs.now ≡ count tasks.now }
@@ -194,34 +195,38 @@ pub(crate) fn counted(u: usize, need: u32) -> u32
     if u == 0 { need } else { need.max(2) }
 }
 
-// Judges the certificate of a task for its view: the rules of all certificates, and then rule 17.
+// Judges the certificate of a task for its view: the rules of all certificates, and then rule 17, which is asked of the
+// certificate in memory.
 fn judge_task(
     alloc: Global,
     image: &Image,
     plan: &Plan,
     tasks: &Tasks,
     u: usize,
-    cert: &Cert,
+    cert: &PackedCert,
 ) -> Result<Verdict, NoMemory>
     requires task { u < count tasks.now }
     requires fit { FitPlan plan.now tasks.now }
     ensures { IfOk result (JudgesTask image.now plan.now tasks.now cert.now u) }
 {
-    // What plans, tasks and certificates keep is known once they are read.
+    // What plans and tasks keep is known once they are read, what certificates keep once their version is asked for.
     let _areas = plan.areas;
     let _switch = tasks.switch;
-    let _version = cert.version;
+    let _version = cert.version();
     let view = view_image(alloc, image, tasks, u)?;
     let board = view_plan(plan, tasks, u);
-    match check(&view, &board, cert) {
-        Verdict::Yes(need) => match task_fault(&view, &board, tasks, cert) {
-            Some((key, addr)) => Ok(Verdict::No {
-                rule: 17,
-                key,
-                addr,
-            }),
-            None => Ok(Verdict::Yes(need)),
-        },
+    match check_packed(&view, &board, cert) {
+        Verdict::Yes(need) => {
+            let frames = cert.unpack(alloc)?;
+            match task_fault(&view, &board, tasks, &frames) {
+                Some((key, addr)) => Ok(Verdict::No {
+                    rule: 17,
+                    key,
+                    addr,
+                }),
+                None => Ok(Verdict::Yes(need)),
+            }
+        }
         Verdict::No { rule, key, addr } => Ok(Verdict::No { rule, key, addr }),
     }
 }

@@ -1,7 +1,7 @@
 use Rattle.std.specs.Prelude.{◌≡◌, map, string_bytes, length}
 use Rattle.std.specs.List.{list_any}
 use Rattle.std.specs.Str.{bytes_eq}
-use Rattle.tcd_driver.proofs.command.stands_in.Given as goal
+use Rattle.tcd_driver.proofs.different.stands_in.Given as goal
 
 abbrev pub invariant-loop-rest : goal.invariant-loop-rest
 invariant-loop-rest l = list_any (bytes_eq l.word) (map string_bytes l.others) ≡ list_any (bytes_eq l.word) (map string_bytes l.rest)
