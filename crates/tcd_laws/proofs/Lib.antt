@@ -1,0 +1,10 @@
+pub mod BuildSequences
+pub mod EdgeLines
+pub mod HandOver
+pub mod HeldFiles
+pub mod LayoutTexts
+pub mod LinkedImages
+pub mod ObjectBytes
+pub mod SequenceEnds
+pub mod SourceBytes
+pub mod SureCommands

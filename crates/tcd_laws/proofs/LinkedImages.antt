@@ -1,0 +1,125 @@
+-- What objects of bytes are linked to is an image.
+use Rattle.std.proofs.Common.{◌≡◌, ◌<◌, ◌+◌, ◌-◌, ◌%◌, ◌^◌, ℕ, Bool, true, false, cond, nat_lt, List, [], ◌∷◌, ◌++◌, length, get_or, map, take, drop, replicate, set, Option, Some, None, refl, sym, subst, arith, lit<}
+use Rattle.std.specs.Prelude.{All, slice_get, slice_index, filter, fold}
+use Rattle.std.specs.Option.{option_map, option_map_or}
+use Rattle.std.specs.List.{flat_map, find}
+use Rattle.std.specs.Str.{bytes_eq}
+use Rattle.std.proofs.lemmas.Option.{get_or_from_slice_get, slice_get_within}
+use Rattle.std.proofs.lemmas.List.Elements.{All-nil, All-head, All-tail, All-append, All-replicate, All-take, All-drop, All-set, All-map, All-filter}
+use Rattle.tcd_base.specs.Bytes.{word_at}
+use Rattle.elf_image.specs.Images.{SegmentData, AreBytes, IsImage}
+use Rattle.tc_object.specs.declared.relocs.Reloc.{Reloc}
+use Rattle.tc_object.specs.Objects.{SectionData, SymbolData, ObjectData}
+use Rattle.tc_link.specs.Layouts.{PlaceData}
+use Rattle.tc_link.specs.Placing.{rounded, GlobalData, PlacedData, is_global, global_data, globals_of, global_address, bases_after, placed_after}
+use Rattle.tc_reloc.specs.Fields.{content_of, spread_of, rest_of}
+use Rattle.tc_reloc.specs.Applied.{with_field}
+use Rattle.tc_link.specs.Relocated.{field_place, value_of, field_at, written, with_reloc, relocated, padded, with_section, joined, segment_of, segments_of}
+use Rattle.tc_link.specs.Linked.{placed_of, contents_of}
+use Rattle.tc_link.proofs.ImageLaws.{image_of_bytes}
+use Rattle.tc_link.proofs.LinkLaws.{linked_image}
+use Rattle.tc_program.proofs.Laws.{parts_of}
+use Rattle.tcd_laws.specs.Images.{IsByte, HoldsBytes, IsObjectOfBytes, LinksGiveImages}
+use Rattle.tcd_laws.proofs.ObjectBytes.{word_small}
+
+-- ---- relocations
+module _ (g : List GlobalData) (p : PlacedData) where
+  written_small : (r : Reloc) (s : SectionData) → HoldsBytes s → HoldsBytes (written g p r s)
+  written_small r s h =
+      let old : List ℕ = field_at s.bytes r.offset in
+      let content : ℕ = content_of r.kind (field_place p r) (value_of g p r) in
+      let new : List ℕ = with_field r.kind old content in
+      let rest : List ℕ = drop (r.offset + 4) s.bytes in
+      All-append IsByte (take r.offset s.bytes) (new ++ rest) (All-take IsByte r.offset s.bytes h)
+      (All-append IsByte new rest (word_small (rest_of r.kind (word_at old 0) + spread_of r.kind content)) (All-drop IsByte (r.offset + 4) s.bytes h))
+
+  with_small : (ss : List SectionData) (r : Reloc) → All HoldsBytes ss → All HoldsBytes (with_reloc g p ss r)
+  with_small ss r h = by_section (slice_get ss r.section) refl
+    where
+      by_section : (o : Option SectionData) → slice_get ss r.section ≡ o → All HoldsBytes (option_map_or (λ x. set ss r.section (written g p r x)) o ss)
+      by_section None e = h
+      by_section (Some x) e =
+          let here : HoldsBytes x = subst HoldsBytes (get_or_from_slice_get ss r.section x x e) (h r.section x (slice_get_within ss r.section x e)) in
+          All-set HoldsBytes ss r.section (written g p r x) (written_small r x here) h
+
+  all_with_small : (rs : List Reloc) (ss : List SectionData) → All HoldsBytes ss → All HoldsBytes (fold (with_reloc g p) ss rs)
+  all_with_small [] ss h = h
+  all_with_small (r ∷ rs) ss h = all_with_small rs (with_reloc g p ss r) (with_small ss r h)
+
+  relocated_small : All HoldsBytes (p.object).sections → All HoldsBytes (relocated g p)
+  unfolding relocated
+  relocated_small h = all_with_small (p.object).relocs (p.object).sections h
+
+contents_small : (g : List GlobalData) (places : List PlaceData) (before : List SectionData) (objects : List ObjectData) → All IsObjectOfBytes objects → All HoldsBytes (flat_map (relocated g) (placed_after places before objects))
+unfolding placed_after
+contents_small g places before [] h = All-nil HoldsBytes
+contents_small g places before (o ∷ os) h =
+    let here : PlacedData = record { object = o; bases = bases_after places before o.sections } in
+    All-append HoldsBytes (relocated g here) (flat_map (relocated g) (placed_after places (before ++ o.sections) os)) (relocated_small g here (All-head IsObjectOfBytes o os h).bytes) (contents_small g places (before ++ o.sections) os (All-tail IsObjectOfBytes o os h))
+
+-- ---- segments
+zero_small : IsByte 0
+zero_small = lit< tt
+
+padded_small : (bs : List ℕ) → All IsByte bs → All IsByte (padded bs)
+padded_small bs h =
+    let n : ℕ = rounded (length bs) - length bs in
+    All-append IsByte bs (replicate n 0) h (All-replicate IsByte n 0 zero_small)
+
+section_small : (name bs : List ℕ) (s : SectionData) → All IsByte bs → HoldsBytes s → (b : Bool) → All IsByte (cond b (padded bs ++ s.bytes) bs)
+section_small name bs s h k true = All-append IsByte (padded bs) s.bytes (padded_small bs h) k
+section_small name bs s h k false = h
+
+all_joined_small : (name : List ℕ) (sections : List SectionData) (bs : List ℕ) → All HoldsBytes sections → All IsByte bs → All IsByte (fold (with_section name) bs sections)
+all_joined_small name [] bs h k = k
+all_joined_small name (s ∷ ss) bs h k =
+    all_joined_small name ss (with_section name bs s) (All-tail HoldsBytes s ss h) (section_small name bs s k (All-head HoldsBytes s ss h) (bytes_eq name s.name))
+
+joined_small : (name : List ℕ) (sections : List SectionData) → All HoldsBytes sections → All IsByte (joined name sections)
+unfolding joined
+joined_small name sections h = all_joined_small name sections [] h (All-nil IsByte)
+
+abbrev IsSmall : SegmentData → Type 0
+IsSmall s = All (λ b. b < 2 ^ 8) s.bytes
+
+segments_small : (places : List PlaceData) (sections : List SectionData) → All HoldsBytes sections → AreBytes (segments_of places sections)
+unfolding segments_of
+segments_small places sections h =
+    All-filter (λ (s : SegmentData). nat_lt 0 (length s.bytes)) IsSmall (map (segment_of sections) places)
+    (All-map IsSmall (segment_of sections) places (λ k d less. joined_small (get_or places k d).section sections h))
+
+-- ---- the entry
+abbrev IsLow : GlobalData → Type 0
+IsLow g = g.address < 2 ^ 32
+
+low : (n : ℕ) → n % 2 ^ 32 < 2 ^ 32
+low n = omega arith
+
+symbol_low : (bases : List ℕ) (s : SymbolData) → IsLow (global_data bases s)
+symbol_low bases s = low (slice_index bases s.section + s.offset)
+
+globals_low : (placed : List PlacedData) → All IsLow (globals_of placed)
+unfolding globals_of
+globals_low [] = All-nil IsLow
+globals_low (p ∷ ps) =
+    let globals : List SymbolData = filter is_global (p.object).symbols in
+    All-append IsLow (map (global_data p.bases) globals) (globals_of ps) (All-map IsLow (global_data p.bases) globals (λ k d less. symbol_low p.bases (get_or globals k d))) (globals_low ps)
+
+global_low : (gs : List GlobalData) (name : List ℕ) (a : ℕ) → All IsLow gs → global_address gs name ≡ Some a → a < 2 ^ 32
+global_low [] name a h e = cc
+global_low (g ∷ gs) name a h e = by_name (bytes_eq name g.name) (global_low gs name a (All-tail IsLow g gs h)) e
+  where
+    by_name : (b : Bool) → (global_address gs name ≡ Some a → a < 2 ^ 32) → option_map (λ x. x.address) (cond b (Some g) (find (λ x. bytes_eq name x.name) gs)) ≡ Some a → a < 2 ^ 32
+    by_name true rest f = let same : g.address ≡ a = cc in subst (λ n. n < 2 ^ 32) same (All-head IsLow g gs h)
+    by_name false rest f = rest f
+
+-- ---- the image
+pub links_give_images : LinksGiveImages
+unfolding contents_of
+links_give_images objects layout image good is_layout e =
+    let parts = parts_of objects layout image e in
+    let placed = placed_of layout objects in
+    let entry : image.entry < 2 ^ 32 = global_low (globals_of placed) layout.entry image.entry (globals_low placed) parts.entry in
+    let limits = linked_image objects layout placed is_layout (λ k d less. (good k d less).object) parts.early refl image.entry entry in
+    let small : AreBytes (segments_of layout.places (contents_of placed)) = segments_small layout.places (contents_of placed) (contents_small (globals_of placed) layout.places [] objects good) in
+    subst (λ (ss : List SegmentData). IsImage (record { entry = image.entry; segments = ss })) (sym parts.segments) (image_of_bytes _ limits small)

@@ -1,0 +1,266 @@
+-- The sections of a source hold bytes.
+use Rattle.std.proofs.Common.{◌≡◌, ◌<◌, ◌≤◌, ◌+◌, ◌-◌, ◌*◌, ◌/◌, ◌%◌, ◌^◌, ◌==◌, ◌&&◌, not, ℕ, suc, Bool, true, false, cond, ltb, leb, min, List, [], ◌∷◌, ◌++◌, length, map, take, drop, replicate, Option, Some, None, Result, Ok, Err, refl, sym, subst, ◌∙◌, arith, lit<}
+use Rattle.std.specs.Prelude.{All, IfSome, slice_get}
+use Rattle.std.specs.Option.{option_map_or}
+use Rattle.std.specs.List.{slice_split}
+use Rattle.std.proofs.lemmas.Bool.{and_parts, eqb-true, eqb-false, ltb-true}
+use Rattle.std.proofs.lemmas.List.Elements.{All-nil, All-cons, All-append, All-replicate, All-take}
+use Rattle.tc_lex.specs.declared.kinds.Token.{Token}
+use Rattle.tc_lex.specs.Cut.{tokens_of}
+use Rattle.tc_isa.specs.declared.fields.Fields.{Fields}
+use Rattle.tc_isa.specs.Rows.{RowData, listed}
+use Rattle.tc_isa.specs.Words.{bounds}
+use Rattle.tc_isa.specs.Codec.{IsRow, word_of, is_long, spelled, spelling, four_bytes, two_bytes}
+use Rattle.tc_isa.proofs.TableFacts.{row_at}
+use Rattle.tc_encode.proofs.Bytes.{word-lt, short-lt}
+use Rattle.tc_encode.proofs.Spelled.{below_from}
+use Rattle.tc_stmt.specs.Pieces.{PieceData, text_at}
+use Rattle.tc_stmt.specs.Operands.{OperandData, operands}
+use Rattle.tc_stmt.specs.Filling.{ReferenceData, FoundData, shape_index, is_symbol, is_half, symbol_rule, wrapped, reference}
+use Rattle.tc_stmt.specs.Judging.{statement}
+use Rattle.tc_asm.specs.Items.{ItemData, label, section, global, code, bytes, zeros}
+use Rattle.tc_asm.specs.Values.{fits_width, value_rule, value_item, space_item}
+use Rattle.tc_asm.specs.Lines.{LineData, line_data, word_of as name_operand, named_line, space_line, values_line, code_line, stated_line, line_from, has_label, line_with_label, pieces_line, piece_in, label_of, label_before, cut_line, line_in, lines_in}
+use Rattle.tc_asm.specs.Symbols.{SymbolData}
+use Rattle.tc_asm.specs.Drafts.{PartData, DraftData, start, has_section, has_room, is_fit, spelled_code, resolved, code_bytes, stepped}
+use Rattle.tc_asm.specs.Sources.{symbols_of}
+use Rattle.tc_asm.specs.Objects.{section_of}
+use Rattle.tc_asm.specs.Kept.{Each}
+use Rattle.tc_asm.specs.Statements.{StatementData, content_of, standing, statements_from, items_in, section_bytes, bytes_at}
+use Rattle.tc_asm.specs.Contents.{draft_in}
+use Rattle.tc_asm.proofs.LaidLaws.{drafted-bytes}
+use Rattle.tc_asm.proofs.ListLaws.{all_from_each}
+use Rattle.tc_asm.proofs.SourceDrafts.{source_object}
+use Rattle.tcd_laws.specs.Images.{IsByte, HoldsBytes, SourcesGiveObjects}
+
+-- ---- numbers as bytes
+four_small : (w : ℕ) → w < 2 ^ 32 → All IsByte (four_bytes w)
+four_small w h =
+    let a : w % 256 < 2 ^ 8 = omega arith in
+    let b : w / 2 ^ 8 % 256 < 2 ^ 8 = omega arith in
+    let c : w / 2 ^ 16 % 256 < 2 ^ 8 = omega arith in
+    let d : w / 2 ^ 24 < 2 ^ 8 = omega arith in
+    all_from_each IsByte (four_bytes w) (a, (b, (c, (d, tt))))
+
+two_small : (w : ℕ) → w < 2 ^ 16 → All IsByte (two_bytes w)
+two_small w h =
+    let a : w % 256 < 2 ^ 8 = omega arith in
+    let b : w / 256 < 2 ^ 8 = omega arith in
+    all_from_each IsByte (two_bytes w) (a, (b, tt))
+
+zero_small : IsByte 0
+zero_small = lit< tt
+
+zeros_small : (n : ℕ) → All IsByte (replicate n 0)
+zeros_small n = All-replicate IsByte n 0 zero_small
+
+no_word : All IsByte (0 ∷ 0 ∷ 0 ∷ 0 ∷ [])
+no_word = all_from_each IsByte (0 ∷ 0 ∷ 0 ∷ 0 ∷ []) (zero_small, (zero_small, (zero_small, (zero_small, tt))))
+
+-- ---- instructions
+spelled_small : (row : RowData) (f : Fields) → IsRow row → All IsByte (spelled_code row f)
+unfolding spelled_code
+spelled_small row f is = by_fit (is_fit row f) refl
+  where
+    by_size : is_fit row f ≡ true → (b : Bool) → is_long row ≡ b → All IsByte (spelled b (word_of row f))
+    by_size fit true e = four_small (word_of row f) (word-lt row.form row.op1 row.op2 f is.first is.second (below_from f (bounds row.form) (and_parts _ _ (and_parts _ _ fit).0).0))
+    by_size fit false e =
+        two_small (word_of row f)
+        (short-lt row.form row.op1 row.op2 f is.first is.second (below_from f (bounds row.form) (and_parts _ _ (and_parts _ _ fit).0).0) (sym is.size ∙ e))
+
+    by_fit : (b : Bool) → is_fit row f ≡ b → All IsByte (cond b (spelling row f) [])
+    by_fit true fit = by_size fit (is_long row) refl
+    by_fit false fit = All-nil IsByte
+
+row_small : (o : Option RowData) (k : ℕ) (f : Fields) → slice_get listed k ≡ o → All IsByte (option_map_or (λ row. spelled_code row f) o [])
+row_small None k f e = All-nil IsByte
+row_small (Some row) k f e = spelled_small row f (row_at k row e)
+
+code_small : (labels : List SymbolData) (d : DraftData) (k : ℕ) (f : Fields) (r : Option ReferenceData) → All IsByte (code_bytes labels d k f r)
+unfolding code_bytes
+code_small labels d k f r = row_small (slice_get listed k) k (resolved labels d k f r).fields refl
+
+-- ---- what lines add
+-- a thing that adds bytes
+GoodItem : ItemData → Type 0
+GoodItem (label name) = Unit {0}
+GoodItem (section name) = Unit {0}
+GoodItem (global name) = Unit {0}
+GoodItem (code k f r) = Unit {0}
+GoodItem (bytes bs r) = All IsByte bs
+GoodItem (zeros n) = Unit {0}
+
+GoodLine : LineData → Type 0
+GoodLine l = Each GoodItem l.items
+
+choose : (b : Bool) (x y : LineData) → GoodLine x → GoodLine y → GoodLine (cond b x y)
+choose true x y h k = h
+choose false x y h k = k
+
+-- a number that fits a width is a word
+wrapped_small : (bound : ℕ) (minus : Bool) (size : ℕ) → bound ≤ 2 ^ 32 → cond minus (leb size (bound / 2)) (ltb size bound) ≡ true → wrapped (2 ^ 32) minus size < 2 ^ 32
+wrapped_small bound true size most e = by_zero (size == 0) refl
+  where
+    by_zero : (b : Bool) → (size == 0) ≡ b → cond (not b) (2 ^ 32 - size) size < 2 ^ 32
+    by_zero true z = let none : size ≡ 0 = eqb-true size 0 z in omega arith
+    by_zero false z = let some = eqb-false size 0 z in omega arith
+wrapped_small bound false size most e = let less : size < bound = ltb-true size bound e in omega arith
+
+rest_good : (width : ℕ) (r : ReferenceData) (b : Bool) → GoodItem (cond (not b) (zeros width) (bytes (take width (0 ∷ 0 ∷ 0 ∷ 0 ∷ [])) (Some r)))
+unfolding GoodItem
+rest_good width r true = All-take IsByte width (0 ∷ 0 ∷ 0 ∷ 0 ∷ []) no_word
+rest_good width r false = tt
+
+value_good : (width : ℕ) (minus : Bool) (size rest : ℕ) (r : ReferenceData) (memory one fits : Bool) → (fits ≡ true → wrapped (2 ^ 32) minus size < 2 ^ 32)
+    → GoodItem (cond (not (cond memory 3 (cond one (cond fits 15 5) rest) == 15)) (zeros width) (cond one (bytes (take width (four_bytes (wrapped (2 ^ 32) minus size))) None) (bytes (take width (0 ∷ 0 ∷ 0 ∷ 0 ∷ [])) (Some r))))
+unfolding GoodItem
+value_good width minus size rest r true one fits small = tt
+value_good width minus size rest r false true true small = All-take IsByte width (four_bytes (wrapped (2 ^ 32) minus size)) (four_small (wrapped (2 ^ 32) minus size) (small refl))
+value_good width minus size rest r false true false small = tt
+value_good width minus size rest r false false fits small = rest_good width r (rest == 15)
+
+value_item_good : (width : ℕ) → 2 ^ (8 * width) ≤ 2 ^ 32 → (o : OperandData) → GoodItem (value_item width o)
+unfolding value_item value_rule
+value_item_good width most o =
+    value_good width (o.value).minus (o.value).size
+    (cond (shape_index (o.value).shape == 7) 5
+    (cond (is_symbol (shape_index (o.value).shape)) (cond (width == 4) (symbol_rule o.value) (min 10 (symbol_rule o.value)))
+    (cond (is_half (shape_index (o.value).shape)) (min 10 (symbol_rule o.value)) 3)))
+    (reference 7 o.value) o.is_memory (shape_index (o.value).shape == 1) (fits_width (8 * width) (o.value).minus (o.value).size)
+    (wrapped_small (2 ^ (8 * width)) (o.value).minus (o.value).size most)
+
+values_good : (width : ℕ) → 2 ^ (8 * width) ≤ 2 ^ 32 → (os : List OperandData) → Each GoodItem (map (value_item width) os)
+values_good width most [] = tt
+values_good width most (o ∷ os) = (value_item_good width most o, values_good width most os)
+
+values_line_good : (width : ℕ) → 2 ^ (8 * width) ≤ 2 ^ 32 → (os : List OperandData) → GoodLine (values_line width os)
+unfolding GoodLine values_line
+values_line_good width most os = values_good width most os
+
+named_good : (make : List ℕ → ItemData) → ((name : List ℕ) → GoodItem (make name)) → (os : List OperandData) → GoodLine (named_line make os)
+unfolding GoodLine named_line
+named_good make good os = by_name (name_operand os)
+  where
+    by_name : (o : Option (List ℕ)) → GoodLine (option_map_or (λ name. line_data 15 (make name ∷ [])) o (line_data 3 []))
+    by_name None = tt
+    by_name (Some name) = (good name, tt)
+
+space_good : (os : List OperandData) → GoodLine (space_line os)
+unfolding GoodItem GoodLine space_line space_item
+space_good [] = (tt, tt)
+space_good (o ∷ []) = (tt, tt)
+space_good (o ∷ p ∷ os) = (tt, tt)
+
+code_good : (name : List ℕ) (r : Result (ℕ × FoundData) ℕ) → GoodLine (code_line name r)
+unfolding GoodItem GoodLine
+code_good name (Ok found) = (tt, tt)
+code_good name (Err rule) = (tt, tt)
+
+section_good : (name : List ℕ) → GoodItem (section name)
+unfolding GoodItem
+section_good name = tt
+
+global_good : (name : List ℕ) → GoodItem (global name)
+unfolding GoodItem
+global_good name = tt
+
+no_items : (rule : ℕ) → GoodLine (line_data rule [])
+unfolding GoodLine
+no_items rule = tt
+
+label_line_good : (name : List ℕ) (l : LineData) → GoodLine l → GoodLine (line_with_label name l)
+unfolding GoodItem GoodLine
+label_line_good name l h = (tt, h)
+
+stated_good : (name : List ℕ) (os : List OperandData) → GoodLine (stated_line name os)
+unfolding stated_line
+stated_good name os =
+    choose _ _ _ (named_good section section_good os)
+    (choose _ _ _ (named_good global global_good os)
+    (choose _ _ _ (values_line_good 1 (omega arith) os)
+    (choose _ _ _ (values_line_good 2 (omega arith) os)
+    (choose _ _ _ (values_line_good 4 (omega arith) os)
+    (choose _ _ _ (space_good os) (code_good name (statement name os)))))))
+
+from_good : (ps : List PieceData) (at : ℕ) → GoodLine (line_from ps at)
+unfolding line_from
+from_good ps at = choose _ _ _ (no_items 15) (choose _ _ _ (stated_good (text_at ps at) (operands (drop (at + 1) ps))) (no_items 1))
+
+pieces_good : (ps : List PieceData) → GoodLine (pieces_line ps)
+unfolding pieces_line
+pieces_good ps = choose _ _ _ (label_line_good (text_at ps 0) (line_from ps 2) (from_good ps 2)) (from_good ps 0)
+
+label_good : (ps : List PieceData) → Each GoodItem (label_of ps)
+unfolding GoodItem label_of
+label_good ps = by_label (has_label ps)
+  where
+    by_label : (b : Bool) → Each GoodItem (cond b (label (text_at ps 0) ∷ []) [])
+    by_label true = (tt, tt)
+    by_label false = tt
+
+before_good : (text : List ℕ) (r : Result (List Token) ℕ) → Each GoodItem (label_before text r)
+before_good text (Ok ts) = label_good (map (piece_in text) ts)
+before_good text (Err at) = tt
+
+cut_good : (line : List ℕ) (r : Result (List Token) ℕ) → GoodLine (cut_line line r)
+unfolding GoodLine
+cut_good line (Ok ts) = pieces_good (map (piece_in line) ts)
+cut_good line (Err at) = before_good (take at line) (tokens_of (take at line))
+
+each_both : {A : Type 0} (P : A → Type 0) (xs ys : List A) → Each P xs → Each P ys → Each P (xs ++ ys)
+each_both P [] ys h k = k
+each_both P (x ∷ xs) ys h k = (h.0, each_both P xs ys h.1 k)
+
+lines_good : (ls : List (List ℕ)) → Each GoodItem (items_in (map line_in ls))
+unfolding GoodLine
+lines_good [] = tt
+lines_good (l ∷ ls) = each_both GoodItem (line_in l).items (items_in (map line_in ls)) (cut_good l (tokens_of l)) (lines_good ls)
+
+-- ---- statements
+abbrev GoodStatement : StatementData → Type 0
+GoodStatement t = All IsByte t.bytes
+
+content_good : (labels : List SymbolData) (d : DraftData) (i : ItemData) → GoodItem i → IfSome (content_of labels d i) GoodStatement
+unfolding GoodItem
+content_good labels d (label name) h = tt
+content_good labels d (section name) h = tt
+content_good labels d (global name) h = tt
+content_good labels d (code k f r) h = code_small labels d k f r
+content_good labels d (bytes bs r) h = h
+content_good labels d (zeros n) h = zeros_small n
+
+standing_good : (d : DraftData) (o : Option StatementData) → IfSome o GoodStatement → Each GoodStatement (standing d o)
+standing_good d None h = tt
+standing_good d (Some t) h = by_room (has_section d && has_room d (length t.bytes))
+  where
+    by_room : (b : Bool) → Each GoodStatement (cond b (t ∷ []) [])
+    by_room true = (h, tt)
+    by_room false = tt
+
+statements_good : (labels : List SymbolData) (d : DraftData) (is : List ItemData) → Each GoodItem is → Each GoodStatement (statements_from labels d is)
+statements_good labels d [] h = tt
+statements_good labels d (i ∷ is) h =
+    each_both GoodStatement (standing d (content_of labels d i)) (statements_from labels (stepped labels d i) is) (standing_good d (content_of labels d i) (content_good labels d i h.0))
+    (statements_good labels (stepped labels d i) is h.1)
+
+section_small : (s : ℕ) (ts : List StatementData) → Each GoodStatement ts → All IsByte (section_bytes s ts)
+section_small s [] h = All-nil IsByte
+section_small s (t ∷ ts) h = All-append IsByte (cond (t.section == s) t.bytes []) (section_bytes s ts) (by_section (t.section == s)) (section_small s ts h.1)
+  where
+    by_section : (b : Bool) → All IsByte (cond b t.bytes [])
+    by_section true = h.0
+    by_section false = All-nil IsByte
+
+-- ---- sections
+parts_small : (ps : List PartData) → ((s : ℕ) → All IsByte (bytes_at ps s)) → All HoldsBytes (map section_of ps)
+parts_small [] h = All-nil HoldsBytes
+parts_small (p ∷ ps) h = All-cons HoldsBytes (section_of p) (map section_of ps) (h 0) (parts_small ps (λ s. h (suc s)))
+
+source_bytes : (source : List ℕ) (s : ℕ) → All IsByte (bytes_at (draft_in source).parts s)
+source_bytes source s =
+    let labels : List SymbolData = symbols_of (lines_in source) in
+    subst (λ (bs : List ℕ). All IsByte bs) (sym (drafted-bytes labels (lines_in source) s))
+    (section_small s (statements_from labels start (items_in (lines_in source))) (statements_good labels start (items_in (lines_in source)) (lines_good (slice_split (λ c. c == 10) source))))
+
+pub sources_give_objects : SourcesGiveObjects
+sources_give_objects source keeps = record { object = source_object source keeps; bytes = parts_small (draft_in source).parts (source_bytes source) }

@@ -1,0 +1,5 @@
+pub mod Builds
+pub mod Edges
+pub mod Handing
+pub mod Images
+pub mod Sequences
