@@ -1,6 +1,5 @@
 //! Certificates that are made, byte by byte, and what is refused where there is none.
-use crate::boards::{EIGHT_AREAS, ENABLED, Edit, TWO_INTERRUPTS, board};
-use crate::checking::{CALLER_CERT, NESTED_CERT};
+use crate::boards::{Edit, INTERRUPTS, board};
 use crate::programs::{CALLER, NESTED, Program, image};
 use depth_cert::{Cert, Key};
 use depth_check::{Verdict, check};
@@ -9,8 +8,7 @@ use elf_image::Image;
 use std::alloc::AllocGlobal;
 use std::process::Abort;
 use std::test::Fail;
-
-const INTERRUPTS: [Edit; 3] = [EIGHT_AREAS, ENABLED, TWO_INTERRUPTS];
+use tcd_samples::{CALLER_CERT, NESTED_CERT};
 
 // A main that calls through a table of four words, of which the last one, from byte 128 on, is 0.
 static TABLE: [u8; 138] = [

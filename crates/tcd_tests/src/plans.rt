@@ -1,10 +1,10 @@
 //! Plans that are read, and documents that are refused.
-use crate::boards::BOARD;
 use std::alloc::AllocGlobal;
 use std::process::Abort;
 use std::test::Fail;
 use tcd_base::{Core, Range};
 use tcd_plan::{Plan, PlanErr, PlanKey, key_text};
+use tcd_samples::BOARD;
 
 /// Why bytes are no plan, and None where they are one.
 fn refused<R: Abort + AllocGlobal>(rt: &R, bytes: &[u8]) -> Option<PlanErr> {

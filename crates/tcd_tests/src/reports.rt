@@ -1,6 +1,5 @@
 //! Graphs and reports of worked certificates, written out by hand.
-use crate::boards::{Edit, board};
-use crate::checking::{CALLER_CERT, INTERRUPTS, NESTED_CERT};
+use crate::boards::{Edit, INTERRUPTS, board};
 use crate::programs::{CALLER, NESTED, Program, image};
 use depth_cert::Cert;
 use depth_check::{Verdict, check};
@@ -8,11 +7,7 @@ use std::alloc::AllocGlobal;
 use std::process::Abort;
 use std::test::Fail;
 use tcd_report::{graph, graph_law, report};
-
-const CALLER_GRAPH: &str = "start 80000000 prio 0 is 0: 80000000 call 80000008\n\
-    start 80000000 prio 0 is 0: 80000000 back 80000004\n\
-    start 80000000 prio 0 is 0: 80000004 to 80000004\n\
-    call 80000008 prio 0 is 0: 80000008 ret\n";
+use tcd_samples::{CALLER_CERT, CALLER_GRAPH, NESTED_CERT};
 
 const CALLER_REPORT: &str =
     r#"{"areas":4,"calls":[{"longest":1,"prio":0}],"certified":1,"nodes":[{"key":"start 80000000 prio 0 is 0","need":1,"points":2},{"key":"call 80000008 prio 0 is 0","need":0,"points":1}],"reserve":2}"#;

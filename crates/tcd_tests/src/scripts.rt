@@ -2,7 +2,9 @@
 ghost use Rattle.std.specs.Prelude.{◌≡◌};
 ghost use Rattle.tc_script.specs.Fitting.{FitsPlan};
 
-use crate::boards::{CORE_16, EIGHT_AREAS, ENABLED, Edit, SEVEN_AREAS, TWO_INTERRUPTS, board};
+use crate::boards::{
+    CORE_16, EIGHT_AREAS, ENABLED, Edit, INTERRUPTS, SEVEN_AREAS, TWO_INTERRUPTS, board,
+};
 use crate::programs::{NESTED, POLLED, Program, image};
 use std::alloc::AllocGlobal;
 use std::process::Abort;
@@ -10,8 +12,6 @@ use std::test::Fail;
 use tc_machine::{Cause, End, Event, Machine};
 use tc_script::{Peak, Ports, Script, ScriptErr, Turn, drive, drive_by_script};
 use tcd_plan::Plan;
-
-const EIGHT: [Edit; 3] = [EIGHT_AREAS, ENABLED, TWO_INTERRUPTS];
 
 const EIGHT_16: [Edit; 4] = [EIGHT_AREAS, ENABLED, TWO_INTERRUPTS, CORE_16];
 
@@ -35,7 +35,7 @@ fn machine<R: Abort + AllocGlobal>(
 
 #[test]
 fn nested_interrupts(rt: HostRuntime) -> Result<(), Fail> {
-    let plan = board(&rt, &EIGHT)?;
+    let plan = board(&rt, &INTERRUPTS)?;
     let mut m = machine(&rt, &NESTED, &plan)?;
     let script = Script::read(rt.alloc(), TURNS.as_bytes(), &plan)?;
     assert_eq!(rt; script.len(), 13);
@@ -73,7 +73,7 @@ fn interrupt_on_both_cores(rt: HostRuntime) -> Result<(), Fail> {
         aln: false,
     };
     for (plan, pcxi) in [
-        (board(&rt, &EIGHT)?, 0x00cd_0000),
+        (board(&rt, &INTERRUPTS)?, 0x00cd_0000),
         (board(&rt, &EIGHT_16)?, 0x003d_0000),
     ] {
         let mut m = machine(&rt, &NESTED, &plan)?;
@@ -232,7 +232,7 @@ fn refuses<R: Abort + AllocGlobal>(rt: &R, plan: &Plan, rows: &[Refused]) {
 
 #[test]
 fn refused_lines(rt: HostRuntime) -> Result<(), Fail> {
-    refuses(&rt, &board(&rt, &EIGHT)?, &REFUSED);
+    refuses(&rt, &board(&rt, &INTERRUPTS)?, &REFUSED);
     refuses(&rt, &board(&rt, &DEVICE)?, &REFUSED_ANSWERS);
     Ok(())
 }

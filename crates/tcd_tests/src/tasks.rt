@@ -6,8 +6,7 @@ use std::process::Abort;
 use std::test::Fail;
 use task_chains::{Tasks, TasksErr, routine_fault, view_image, view_plan};
 use tcd_plan::Plan;
-
-const TWO: &str = "switch 80000020 D0008100\ntask 80000000 D0009000\ntask 80000010 D0008C00\n";
+use tcd_samples::TWO_TASKS;
 
 /// Two tasks that give way again and again, and the routine, with its block at D0008100.
 static GIVING_WAY: Program<'static> = Program {
@@ -59,7 +58,7 @@ struct Row {
 
 static ROWS: [Row; 12] = [
     Row {
-        text: TWO,
+        text: TWO_TASKS,
         want: None,
     },
     Row {
@@ -128,7 +127,7 @@ const ON_ISP: Edit = (r#""is":0"#, r#""is":1"#);
 #[test]
 fn plans_may_not_fit(rt: HostRuntime) -> Result<(), Fail> {
     let plan = board(&rt, &[ON_ISP])?;
-    assert_eq!(rt; refused(&rt, TWO, &plan), Some(TasksErr::OnIsp));
+    assert_eq!(rt; refused(&rt, TWO_TASKS, &plan), Some(TasksErr::OnIsp));
     Ok(())
 }
 
@@ -137,7 +136,7 @@ fn a_task_has_a_view(rt: HostRuntime) -> Result<(), Fail> {
     let alloc = rt.alloc();
     let image = image(&rt, &GIVING_WAY)?;
     let plan = board(&rt, &[EIGHT_AREAS])?;
-    let bytes = TWO.as_bytes();
+    let bytes = TWO_TASKS.as_bytes();
     assert!(rt; bytes.len() <= 1000);
     let tasks = Tasks::read(bytes, &plan)?;
     assert_eq!(rt; (tasks.switch, tasks.block), (0x8000_0020, 0xd000_8100));
@@ -161,7 +160,7 @@ fn a_task_has_a_view(rt: HostRuntime) -> Result<(), Fail> {
 fn another_block_is_a_fault_of_the_routine(rt: HostRuntime) -> Result<(), Fail> {
     let image = image(&rt, &GIVING_WAY)?;
     let plan = board(&rt, &[])?;
-    let text = TWO.replace(rt.alloc(), "D0008100", "D0008104")?;
+    let text = TWO_TASKS.replace(rt.alloc(), "D0008100", "D0008104")?;
     let bytes = text.as_bytes();
     assert!(rt; bytes.len() <= 1000);
     let tasks = Tasks::read(bytes, &plan)?;

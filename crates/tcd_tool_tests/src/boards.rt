@@ -1,38 +1,16 @@
-// Boards, each as its plan, and bytes with a few of them changed.
-use std::alloc::Global;
-use std::test::Fail;
+// More boards, each as its plan.
 
-// Four areas with two in reserve, neither interrupts nor traps.
-pub(crate) const BOARD: &str =
-    r#"{"rom":[{"at":"0x80000000","len":"0x1000"}],"ram":[{"at":"0xD0008000","len":"0x1000"}],"devices":[],"csa":{"at":"0xD0000000","areas":4,"reserve":2},"sp":"0xD0009000","isp":"0xD0008800","biv":"0x80000400","btv":"0x80000100","irqs":[],"traps":[],"start":{"ie":0,"ccpn":0,"is":0},"globals":{"a0":0,"a1":0,"a8":0,"a9":0}}"#;
-
-// The same with all four in reserve.
-pub(crate) const RESERVED: &str =
-    r#"{"rom":[{"at":"0x80000000","len":"0x1000"}],"ram":[{"at":"0xD0008000","len":"0x1000"}],"devices":[],"csa":{"at":"0xD0000000","areas":4,"reserve":4},"sp":"0xD0009000","isp":"0xD0008800","biv":"0x80000400","btv":"0x80000100","irqs":[],"traps":[],"start":{"ie":0,"ccpn":0,"is":0},"globals":{"a0":0,"a1":0,"a8":0,"a9":0}}"#;
-
-// The first with interrupt 10, let in from the start.
-pub(crate) const TICKING: &str =
-    r#"{"rom":[{"at":"0x80000000","len":"0x1000"}],"ram":[{"at":"0xD0008000","len":"0x1000"}],"devices":[],"csa":{"at":"0xD0000000","areas":4,"reserve":2},"sp":"0xD0009000","isp":"0xD0008800","biv":"0x80000400","btv":"0x80000100","irqs":[10],"traps":[],"start":{"ie":1,"ccpn":0,"is":0},"globals":{"a0":0,"a1":0,"a8":0,"a9":0}}"#;
-
-// The first with system calls.
-pub(crate) const CALLING: &str =
-    r#"{"rom":[{"at":"0x80000000","len":"0x1000"}],"ram":[{"at":"0xD0008000","len":"0x1000"}],"devices":[],"csa":{"at":"0xD0000000","areas":4,"reserve":2},"sp":"0xD0009000","isp":"0xD0008800","biv":"0x80000400","btv":"0x80000100","irqs":[],"traps":["sys"],"start":{"ie":0,"ccpn":0,"is":0},"globals":{"a0":0,"a1":0,"a8":0,"a9":0}}"#;
-
-// The first with interrupts on at the start.
+// `BOARD` with interrupts on at the start.
 pub(crate) const ENABLED: &str =
     r#"{"rom":[{"at":"0x80000000","len":"0x1000"}],"ram":[{"at":"0xD0008000","len":"0x1000"}],"devices":[],"csa":{"at":"0xD0000000","areas":4,"reserve":2},"sp":"0xD0009000","isp":"0xD0008800","biv":"0x80000400","btv":"0x80000100","irqs":[],"traps":[],"start":{"ie":1,"ccpn":0,"is":0},"globals":{"a0":0,"a1":0,"a8":0,"a9":0}}"#;
 
-// The first where the start runs on the interrupt stack.
+// `BOARD` where the start runs on the interrupt stack.
 pub(crate) const STACKED: &str =
     r#"{"rom":[{"at":"0x80000000","len":"0x1000"}],"ram":[{"at":"0xD0008000","len":"0x1000"}],"devices":[],"csa":{"at":"0xD0000000","areas":4,"reserve":2},"sp":"0xD0009000","isp":"0xD0008800","biv":"0x80000400","btv":"0x80000100","irqs":[],"traps":[],"start":{"ie":0,"ccpn":0,"is":1},"globals":{"a0":0,"a1":0,"a8":0,"a9":0}}"#;
 
-// The first with a device that answers 3 to 5.
+// `BOARD` with a device that answers 3 to 5.
 pub(crate) const DEVICE: &str =
     r#"{"rom":[{"at":"0x80000000","len":"0x1000"}],"ram":[{"at":"0xD0008000","len":"0x1000"}],"devices":[{"at":"0xF0000000","len":4,"lo":3,"hi":5}],"csa":{"at":"0xD0000000","areas":4,"reserve":2},"sp":"0xD0009000","isp":"0xD0008800","biv":"0x80000400","btv":"0x80000100","irqs":[],"traps":[],"start":{"ie":0,"ccpn":0,"is":0},"globals":{"a0":0,"a1":0,"a8":0,"a9":0}}"#;
-
-// Eight areas with two in reserve, and the interrupts 10 and 20, which are on from the start.
-pub(crate) const INTERRUPTS: &str =
-    r#"{"rom":[{"at":"0x80000000","len":"0x1000"}],"ram":[{"at":"0xD0008000","len":"0x1000"}],"devices":[],"csa":{"at":"0xD0000000","areas":8,"reserve":2},"sp":"0xD0009000","isp":"0xD0008800","biv":"0x80000400","btv":"0x80000100","irqs":[10,20],"traps":[],"start":{"ie":1,"ccpn":0,"is":0},"globals":{"a0":0,"a1":0,"a8":0,"a9":0}}"#;
 
 // The same on core 1.6.
 pub(crate) const NEWER: &str =
@@ -57,13 +35,3 @@ pub(crate) const HIGH: &str =
 // Areas that end at 2^32, beyond the bytes of a segment that may hold any.
 pub(crate) const BEYOND: &str =
     r#"{"rom":[{"at":"0x80000000","len":"0x1000"}],"ram":[{"at":"0xD0008000","len":"0x1000"}],"devices":[],"csa":{"at":"0xFFFFFF00","areas":4,"reserve":2},"sp":"0xD0009000","isp":"0xD0008800","biv":"0x80000400","btv":"0x80000100","irqs":[],"traps":[],"start":{"ie":0,"ccpn":0,"is":0},"globals":{"a0":0,"a1":0,"a8":0,"a9":0}}"#;
-
-// The bytes with these changes: 0x082_9b puts 9B at place 82.
-pub(crate) fn edited(alloc: Global, bytes: &[u8], edits: &[u32]) -> Result<Vec<u8>, Fail> {
-    let mut out = Vec::from_slice(alloc, bytes)?;
-    for edit in edits {
-        let byte = out.get_mut((*edit / 256) as usize).ok_or("no such byte")?;
-        *byte = (*edit % 256) as u8;
-    }
-    Ok(out)
-}

@@ -1,12 +1,12 @@
 // Worked boot sequences, from the files' bytes to what is printed.
-use crate::boards::{BEYOND, BOARD, ENABLED, HIGH, LONE, MOST_AREAS, STACKED, edited};
-use crate::commands::{CERT, words_of};
+use crate::boards::{BEYOND, ENABLED, HIGH, LONE, MOST_AREAS, STACKED};
 use std::alloc::Global;
 use std::process::Abort;
 use std::test::Fail;
 use tcd_base::{MemFiles, MemSink};
 use tcd_driver::tool;
 use tcd_reading::Status;
+use tcd_samples::{BOARD, CALLER_CERT, edited, words_of};
 
 // A main at 80000000 that calls the function at 80000008, and the boot sequence at 80000800.
 static BOOTED: [u8; 350] = [
@@ -55,7 +55,7 @@ enum Proof {
 
 fn cert_of(proof: Proof) -> &'static [u8] {
     match proof {
-        Proof::Call => &CERT,
+        Proof::Call => &CALLER_CERT,
         Proof::Loop => &LOOP_CERT,
     }
 }
@@ -238,8 +238,8 @@ fn booted(
 }
 
 fn answers(rt: &impl Abort, alloc: Global, case: &Case) -> Result<(), Fail> {
-    let elf = edited(alloc, &BOOTED, case.edits)?;
-    let cert = edited(alloc, cert_of(case.proof), case.changes)?;
+    let elf = edited(alloc, &BOOTED, case.edits)?.ok_or("no such byte")?;
+    let cert = edited(alloc, cert_of(case.proof), case.changes)?.ok_or("no such byte")?;
     let (status, text) = booted(alloc, &elf, case.plan, &cert, case.at)?;
     assert_eq!(rt; text.as_slice(), case.line.as_bytes());
     assert_eq!(rt; status, case.status);

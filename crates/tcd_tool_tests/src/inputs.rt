@@ -1,12 +1,11 @@
 // Inputs that are missing, behind others and before them.
-use crate::boards::BOARD;
-use crate::commands::{IMAGE, words_of};
 use std::alloc::Global;
 use std::process::Abort;
 use std::test::Fail;
 use tcd_base::{MemFiles, MemSink};
 use tcd_driver::tool;
 use tcd_reading::Status;
+use tcd_samples::{BOARD, CALLER, words_of};
 
 // The words of a command that reads an executable, a plan and further files.
 struct Command {
@@ -54,7 +53,7 @@ fn a_bad_executable_is_told_where_all_else_is_missing(rt: HostRuntime) -> Result
     let alloc = rt.alloc();
     for command in &COMMANDS {
         let mut files = MemFiles::sure(alloc);
-        files.put("e", &IMAGE[..51])?;
+        files.put("e", &CALLER[..51])?;
         let line = "bad elf 1\n";
         ends(&rt, alloc, &mut files, command, Status::BadInput, line)?;
     }
@@ -67,7 +66,7 @@ fn a_missing_plan_is_a_fault_before_all_behind_it(rt: HostRuntime) -> Result<(),
     let alloc = rt.alloc();
     for command in &COMMANDS {
         let mut files = MemFiles::sure(alloc);
-        files.put("e", &IMAGE)?;
+        files.put("e", &CALLER)?;
         files.put("c", b"no certificate")?;
         files.put("q", b"no cells")?;
         files.put("s", b"no script")?;
@@ -84,11 +83,11 @@ fn a_missing_executable_is_a_fault_before_a_bad_plan(rt: HostRuntime) -> Result<
         let mut files = MemFiles::sure(alloc);
         files.put("p", b"[]")?;
         ends(&rt, alloc, &mut files, command, Status::Fault, "")?;
-        files.put("e", &IMAGE)?;
+        files.put("e", &CALLER)?;
         let line = "bad plan 1\n";
         ends(&rt, alloc, &mut files, command, Status::BadInput, line)?;
         files.put("p", BOARD.as_bytes())?;
-        files.put("e", &IMAGE[..51])?;
+        files.put("e", &CALLER[..51])?;
         let line = "bad elf 1\n";
         ends(&rt, alloc, &mut files, command, Status::BadInput, line)?;
     }

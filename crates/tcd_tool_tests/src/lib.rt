@@ -1,4 +1,4 @@
-//! Tests of the program's commands, by files in memory and `tool` alone.
+//! Tests of the commands that check, run, boot, assemble, link and list, by files in memory and `tool` alone.
 #![tactic(auto)]
 
 #[cfg(test)]
@@ -6,22 +6,10 @@ mod boards;
 #[cfg(test)]
 mod boot;
 #[cfg(test)]
-mod cellcert;
-#[cfg(test)]
 mod cells;
 #[cfg(test)]
-mod cert;
-#[cfg(test)]
 mod commands;
-#[cfg(test)]
-mod generating;
-#[cfg(test)]
-mod graphs;
 #[cfg(test)]
 mod inputs;
 #[cfg(test)]
 mod rows;
-#[cfg(test)]
-mod ship;
-#[cfg(test)]
-mod tasks;

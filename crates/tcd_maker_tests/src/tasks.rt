@@ -1,12 +1,11 @@
 // Worked tasks, from the files' bytes to what is printed.
-use crate::commands::words_of;
-use crate::rows::BOARD;
 use std::alloc::Global;
 use std::process::Abort;
 use std::test::Fail;
 use tcd_base::{MemFiles, MemSink};
 use tcd_driver::tool;
 use tcd_reading::Status;
+use tcd_samples::{BOARD, TWO_TASKS, words_of};
 
 // Two tasks at 80000000 and 80000010, each of which calls the switch routine at 80000020 again and again.
 static TURNS: [u8; 228] = [
@@ -223,8 +222,6 @@ const ON_ISP: &str =
 const CROWDED: &str =
     r#"{"rom":[{"at":"0x80000000","len":"0x1000"}],"ram":[{"at":"0xD0008000","len":"0x1000"}],"devices":[{"at":"0xF0000000","len":4,"lo":0,"hi":0},{"at":"0xF0000010","len":4,"lo":0,"hi":0},{"at":"0xF0000020","len":4,"lo":0,"hi":0},{"at":"0xF0000030","len":4,"lo":0,"hi":0},{"at":"0xF0000040","len":4,"lo":0,"hi":0},{"at":"0xF0000050","len":4,"lo":0,"hi":0},{"at":"0xF0000060","len":4,"lo":0,"hi":0},{"at":"0xF0000070","len":4,"lo":0,"hi":0},{"at":"0xF0000080","len":4,"lo":0,"hi":0},{"at":"0xF0000090","len":4,"lo":0,"hi":0},{"at":"0xF00000A0","len":4,"lo":0,"hi":0},{"at":"0xF00000B0","len":4,"lo":0,"hi":0},{"at":"0xF00000C0","len":4,"lo":0,"hi":0},{"at":"0xF00000D0","len":4,"lo":0,"hi":0},{"at":"0xF00000E0","len":4,"lo":0,"hi":0}],"csa":{"at":"0xD0000000","areas":8,"reserve":2},"sp":"0xD0009000","isp":"0xD0008800","biv":"0x80000400","btv":"0x80000100","irqs":[],"traps":[],"start":{"ie":0,"ccpn":0,"is":0},"globals":{"a0":0,"a1":0,"a8":0,"a9":0}}"#;
 
-const TWO: &str = "switch 80000020 D0008100\ntask 80000000 D0009000\ntask 80000010 D0008C00\n";
-
 // The files that `tasks` reads for two tasks.
 #[derive(Clone, Copy)]
 struct Inputs<'a> {
@@ -240,7 +237,7 @@ fn worked(plan: &str) -> Inputs<'_> {
     Inputs {
         elf: &TURNS,
         plan,
-        tasks: TWO,
+        tasks: TWO_TASKS,
         first: &FIRST_CERT,
         second: &SECOND_CERT,
     }
@@ -466,12 +463,12 @@ static REFUSALS: [Refusal; 12] = [
     },
     Refusal {
         plan: CROWDED,
-        tasks: TWO,
+        tasks: TWO_TASKS,
         line: "bad tasks 5\n",
     },
     Refusal {
         plan: ON_ISP,
-        tasks: TWO,
+        tasks: TWO_TASKS,
         line: "bad tasks 6\n",
     },
     Refusal {
@@ -644,7 +641,7 @@ fn certificates_before_a_failing_write_stand(rt: HostRuntime) -> Result<(), Fail
     let mut files = MemFiles::failing(alloc, &[4])?;
     files.put("e", &TURNS)?;
     files.put("p", EIGHT.as_bytes())?;
-    files.put("t", TWO.as_bytes())?;
+    files.put("t", TWO_TASKS.as_bytes())?;
     let mut out = MemSink::sure(alloc, 100)?;
     let words = words_of(alloc, &["taskcert", "e", "p", "t", "c", "d"])?;
     assert_eq!(rt; tool(alloc, &words, &mut files, &mut out), Status::Fault);

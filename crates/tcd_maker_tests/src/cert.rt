@@ -1,16 +1,15 @@
 // Worked certificates that are made.
-use crate::boards::{BOARD, CALLING, INTERRUPTS, RESERVED, TICKING, edited};
-use crate::commands::{CERT, IMAGE, NESTED, NESTED_CERT, words_of};
-use crate::rows::{
-    BOUNDED, DISPATCH, DISPATCH_CERT, LAST_WORD, LAST_WORD_CERT, SAVED_FIRST, SAVED_FIRST_CERT,
-    SAVED_LATE, SYSTEM_CALL, SYSTEM_CALL_CERT,
-};
 use std::alloc::Global;
 use std::process::Abort;
 use std::test::Fail;
 use tcd_base::{MemFiles, MemSink};
 use tcd_driver::tool;
 use tcd_reading::Status;
+use tcd_samples::{
+    BOARD, BOUNDED, CALLER, CALLER_CERT, CALLING, DISPATCH, DISPATCH_CERT, INTERRUPTS, LAST_WORD,
+    LAST_WORD_CERT, NESTED, NESTED_CERT, RESERVED, SAVED_FIRST, SAVED_FIRST_CERT, SAVED_LATE,
+    SYSTEM_CALL, SYSTEM_CALL_CERT, TICKING, edited, words_of,
+};
 
 // A main at 80000000 that calls the function at 80000008, which calls itself by `call16`.
 pub(crate) static RECURSIVE: [u8; 96] = [
@@ -38,7 +37,7 @@ enum Program {
 
 fn image_of(program: Program) -> &'static [u8] {
     match program {
-        Program::Call => &IMAGE,
+        Program::Call => &CALLER,
         Program::Recursive => &RECURSIVE,
         Program::Nested => &NESTED,
         Program::SavedLate => &SAVED_LATE,
@@ -53,7 +52,7 @@ fn image_of(program: Program) -> &'static [u8] {
 // The least certificate of a program, where its bytes are worked out.
 fn cert_of(program: Program) -> Option<&'static [u8]> {
     match program {
-        Program::Call => Some(&CERT),
+        Program::Call => Some(&CALLER_CERT),
         Program::Nested => Some(&NESTED_CERT),
         Program::SavedFirst => Some(&SAVED_FIRST_CERT),
         Program::Dispatch => Some(&DISPATCH_CERT),
@@ -171,7 +170,7 @@ fn certified(
     case: &Case,
     status: Status,
 ) -> Result<(), Fail> {
-    let elf = edited(alloc, image_of(case.program), case.edits)?;
+    let elf = edited(alloc, image_of(case.program), case.edits)?.ok_or("no such byte")?;
     files.put("e", &elf)?;
     files.put("p", case.plan.as_bytes())?;
     let mut out = MemSink::sure(alloc, 100)?;

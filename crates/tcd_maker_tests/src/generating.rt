@@ -1,11 +1,11 @@
 // Images that are generated, and what their certificates come to.
-use crate::commands::words_of;
 use std::alloc::Global;
 use std::process::Abort;
 use std::test::Fail;
 use tcd_base::{MemFiles, MemSink};
 use tcd_driver::tool;
 use tcd_reading::Status;
+use tcd_samples::words_of;
 
 // What `gen` answers and prints of a number.
 fn answers(

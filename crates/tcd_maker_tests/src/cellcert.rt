@@ -1,13 +1,13 @@
 // Worked certificates that are made where words of ram keep their bounds.
-use crate::cells::{BYTE_STORE, COUNTER, COUNTER_CERT, CROWDED};
-use crate::commands::{CERT, IMAGE, RESERVED, words_of};
-use crate::rows::BOARD;
 use std::alloc::Global;
 use std::process::Abort;
 use std::test::Fail;
 use tcd_base::{MemFiles, MemSink};
 use tcd_driver::tool;
 use tcd_reading::Status;
+use tcd_samples::{
+    BOARD, BYTE_STORE, CALLER, CALLER_CERT, COUNTER, COUNTER_CERT, CROWDED, RESERVED, words_of,
+};
 
 // The files that `cellcert` reads.
 #[derive(Clone, Copy)]
@@ -93,16 +93,16 @@ fn a_counter_is_certified(rt: HostRuntime) -> Result<(), Fail> {
 fn calls_are_certified_without_cells(rt: HostRuntime) -> Result<(), Fail> {
     let alloc = rt.alloc();
     let inputs = Inputs {
-        elf: &IMAGE,
+        elf: &CALLER,
         plan: BOARD,
         cells: "",
     };
     let made = certified(&rt, alloc, inputs, "certified 1 of 2 areas with 0 cells\n")?;
-    let mut second = CERT;
+    let mut second = CALLER_CERT;
     second[4] = 2;
     assert_eq!(rt; made.as_slice(), second.as_slice());
     let inputs = Inputs {
-        elf: &IMAGE,
+        elf: &CALLER,
         plan: RESERVED,
         cells: "",
     };

@@ -1,13 +1,14 @@
 // Graphs and reports of worked certificates.
 use crate::cert::RECURSIVE;
-use crate::commands::{CERT, IMAGE, INTERRUPTS, NESTED, NESTED_CERT, words_of};
-use crate::rows::BOARD;
 use std::alloc::Global;
 use std::process::Abort;
 use std::test::Fail;
 use tcd_base::{MemFiles, MemSink};
 use tcd_driver::tool;
 use tcd_reading::Status;
+use tcd_samples::{
+    BOARD, CALLER, CALLER_CERT, CALLER_GRAPH, INTERRUPTS, NESTED, NESTED_CERT, words_of,
+};
 
 // The executable of a call, and of nested interrupts, under their plans.
 fn files_of(alloc: Global, elf: &[u8], plan: &str, cert: &[u8]) -> Result<MemFiles, Fail> {
@@ -34,23 +35,18 @@ fn assert_prints(
     Ok(())
 }
 
-const CALL_GRAPH: &str = "start 80000000 prio 0 is 0: 80000000 call 80000008\n\
-    start 80000000 prio 0 is 0: 80000000 back 80000004\n\
-    start 80000000 prio 0 is 0: 80000004 to 80000004\n\
-    call 80000008 prio 0 is 0: 80000008 ret\n";
-
 #[test]
 fn the_graph_of_a_made_certificate_is_drawn(rt: HostRuntime) -> Result<(), Fail> {
     let alloc = rt.alloc();
-    let mut files = files_of(alloc, &IMAGE, BOARD, &CERT)?;
+    let mut files = files_of(alloc, &CALLER, BOARD, &CALLER_CERT)?;
     let words = ["cfg", "e", "p"];
-    assert_prints(&rt, alloc, &mut files, &words, Status::Done, CALL_GRAPH)
+    assert_prints(&rt, alloc, &mut files, &words, Status::Done, CALLER_GRAPH)
 }
 
 #[test]
 fn where_none_is_made_cfg_tells_why(rt: HostRuntime) -> Result<(), Fail> {
     let alloc = rt.alloc();
-    let mut files = files_of(alloc, &RECURSIVE, BOARD, &CERT)?;
+    let mut files = files_of(alloc, &RECURSIVE, BOARD, &CALLER_CERT)?;
     let words = ["cfg", "e", "p"];
     let line = "refused K14 at 80000008 in call 80000008 prio 0 is 0\n";
     assert_prints(&rt, alloc, &mut files, &words, Status::Refused, line)?;
@@ -71,7 +67,7 @@ const CALL_REPORT: &str =
 #[test]
 fn a_certificate_is_reported(rt: HostRuntime) -> Result<(), Fail> {
     let alloc = rt.alloc();
-    let mut files = files_of(alloc, &IMAGE, BOARD, &CERT)?;
+    let mut files = files_of(alloc, &CALLER, BOARD, &CALLER_CERT)?;
     let words = ["report", "e", "p", "c"];
     assert_prints(&rt, alloc, &mut files, &words, Status::Done, CALL_REPORT)
 }
@@ -90,13 +86,13 @@ fn each_priority_has_its_longest_row_of_calls(rt: HostRuntime) -> Result<(), Fai
 #[test]
 fn an_unaccepted_certificate_is_refused_as_by_check(rt: HostRuntime) -> Result<(), Fail> {
     let alloc = rt.alloc();
-    let mut needless = CERT;
+    let mut needless = CALLER_CERT;
     needless[15] = 0;
-    let mut files = files_of(alloc, &IMAGE, BOARD, &needless)?;
+    let mut files = files_of(alloc, &CALLER, BOARD, &needless)?;
     let words = ["report", "e", "p", "c"];
     let line = "refused K14 at 80000000 in start 80000000 prio 0 is 0\n";
     assert_prints(&rt, alloc, &mut files, &words, Status::Refused, line)?;
-    files.put("c", &CERT[..100])?;
+    files.put("c", &CALLER_CERT[..100])?;
     assert_prints(
         &rt,
         alloc,
