@@ -69,4 +69,5 @@ def main():
             print(f"gen {functions}: {instructions([program, 'gen', str(functions)])}")
 
 
-main()
+if __name__ == "__main__":
+    main()

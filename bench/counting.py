@@ -71,7 +71,7 @@ def instructions(command, given=None, top=0, short_copies=False):
     return total, printed, tops(text, top) if top else []
 
 
-def heap(command):
+def heap(command, given=None):
     """The most bytes of heap at any time."""
-    _, text = run("massif", command, None, {})
+    _, text = run("massif", command, given, {})
     return max(int(n) for n in re.findall(r"^mem_heap_B=(\d+)", text, re.M))

@@ -1,8 +1,9 @@
-"""Makes sources, an image of every row of the instruction table, and their counts for `asm`, `link` and `dis`.
+"""Makes sources, objects, and an image of every row of the instruction table, and their counts for `asm`, `link` and `dis`.
 
     texts.py PROGRAM DIRECTORY
 """
 import os
+import struct
 import sys
 
 from check import executable
@@ -47,6 +48,33 @@ def image(size):
     return executable([(0x80000000, (code * (size // len(code) + 1))[:size])])
 
 
+LAYOUT = "entry global_0_0\nplace text 80000000 00F00000\nplace data D0000000 00080000\n"
+
+
+def named(text):
+    return bytes([len(text)]) + text.encode()
+
+
+def linkable(number, count, symbols, relocations, undefined):
+    """An object among so many: of its symbols so many are global ones of the next objects, the others global and local in
+    turn; its relocations write words, each of another symbol."""
+    defined = symbols - undefined
+    place = 4 * (relocations + 1)
+    known = [(f"global_{number}_{i}" if i % 2 == 0 else f"local_{i}", 2 - i % 2, 4 * i % place) for i in range(defined)]
+    used = [(f"global_{(number + 1 + i) % count}_{2 * i % max(1, defined) & ~1}", 0, 0) for i in range(undefined)]
+    names = {}
+    for symbol in known + used:
+        names.setdefault(symbol[0], symbol)
+    listed = list(names.values())
+    text = bytes(7 * i % 251 for i in range(4 * relocations + 64))
+    parts = [b"TCO1", struct.pack("<HHH", 2, len(listed), relocations)]
+    for name, content in (("text", text), ("data", bytes(64))):
+        parts.append(named(name) + struct.pack("<I", len(content)) + content)
+    parts += [named(name) + struct.pack("<BHI", kind, 0, offset) for name, kind, offset in listed]
+    parts += [struct.pack("<HIBHI", 0, 4 * i, 7, 13 * i % len(listed), i) for i in range(relocations)]
+    return b"".join(parts)
+
+
 def counted(label, sizes, given):
     """Counts a command for both sizes, and prints their growth."""
     counts = []
@@ -73,7 +101,15 @@ def main(program, work):
     def listed(size):
         return [program, "dis", path(f"{size}.elf", image(size))], ".section s0 # 80000000\n"
 
+    def linked(count, symbols, relocations, undefined):
+        layout = path("board.layout", LAYOUT.encode())
+        objects = [path(f"{n}.o", linkable(n, count, symbols, relocations, undefined)) for n in range(count)]
+        return [program, "link", layout, f"{work}/linked.elf", *objects], "image "
+
     counted("asm, lines", (25004, 50004), assembled)
+    counted("link, objects of 500 symbols", (32, 64), lambda count: linked(count, 500, 1500, 100))
+    counted("link, objects of 30 symbols", (500, 1000), lambda count: linked(count, 30, 40, 8))
+    counted("link, symbols of one object", (8000, 16000), lambda count: linked(1, count, count, 0))
     counted("dis, bytes", (524288, 1048576), listed)
 
 

@@ -1,26 +1,30 @@
 #!/usr/bin/env python3
 """Hostile use: tries the program on broken, contradictory and failing inputs, and compares each answer with a second reading.
 
-    python3 tools/hostile.py PROGRAM            some 67,000 cases; the 55,000 without `cert` took three minutes on a free processor
-    python3 tools/hostile.py --quick PROGRAM    some 3,000 cases, less than a minute
+    python3 tools/hostile.py PROGRAM            some 105,000 cases, eight minutes on a machine that did much else
+    python3 tools/hostile.py --quick PROGRAM    some 7,000, less than a minute
+    python3 tools/hostile.py --jobs N ..        so many at once (2)
+    python3 tools/hostile.py --only WORD ..     those parts alone whose title has the word
 
 PROGRAM is the built tcd (crates/tcd/out/tcd). The inputs are made here; nothing is random but by fixed seeds. What each case has
-to print is worked out by tools/hostile_readers.py, which was written from docs/formats.md. Of each case are compared: the status,
-all that is printed, that nothing goes to standard error, that it takes at most 10 seconds of the processor, and that in its folder nothing changed but
-the file that it writes, which holds the bytes that it has to. Of `cert` the refusals of a few images are known, else their form alone;
-a certificate that it makes has to be one by its format, with the printed number, and `check` has to print the same of it. At the
-end: the mutated inputs that are still done, with why that may
-be; a table of the cases by kind and answer; the cases that were wrong. Ends with 1 where one was.
+to print is worked out by tools/hostile_answers.py and tools/hostile_readers.py, which were written from docs/formats.md, and that of `run`
+by tools/machine.py. Of each case are compared: the status, all that is printed, that nothing goes to standard error, that it takes at most
+10 seconds of the processor, and that in its folder nothing changed but the files that it writes, which hold the bytes that they have to.
+What can't be worked out (whether a certificate is accepted, or can be made) is judged by its form, by rows whose answers are data, and
+beside other commands (tools/hostile_beside.py): `check` is asked of what `cert` and `ship` made, of the plan in which cells are devices, of the
+views of tasks. At the end: the mutated inputs that are still done, with why that may be; a table of the cases by kind and answer; the
+cases that were wrong. Ends with 1 where one was.
 """
 import collections
 import contextlib
 import functools
+import multiprocessing
 import os
 import pathlib
 import random
 import re
 import resource
-import stat
+import signal
 import subprocess
 import sys
 import tempfile
@@ -28,159 +32,16 @@ import threading
 import time
 
 import hostile_readers as readers
+from hostile_answers import COMMANDS, FAULT, answer, driven, read_cert, read_elf, read_plan
+from hostile_beside import beside
 from hostile_readers import Bad
 
 SECONDS, PATIENCE = 10, 120  # of the processor; by the clock, for machines that do much else
 DATA = pathlib.Path(__file__).resolve().parent.parent / "crates" / "tcd" / "data"
 I1, P0, C0 = ((DATA / name).read_bytes() for name in ("i1.elf", "p0.json", "c0.cert"))
-FAULT = object()  # a file that can't be read or written
-KEY = rb"(start|call|irq|sys|aln) ([0-9A-F]{8}) prio ([0-9]{1,3}) is ([01])"
-KINDS = {b"start": 0, b"call": 1, b"irq": 2, b"sys": 3, b"aln": 4}
-NEVER_MADE = (3, 5, 6, 7, 8, 9, 10, 12, 13, 14, 15)  # the rules that no certificate may be able to keep
-OUTPUTS = {"asm": 2, "link": 2, "cert": 3}  # the word that names the file that a command writes
-
-
-# What each command has to answer
-
-
-@functools.lru_cache(maxsize=64)
-def read_elf(data):
-    return readers.elf(data)
-
-
-@functools.lru_cache(maxsize=64)
-def read_plan(data):
-    return readers.plan(data)
-
-
-@functools.lru_cache(maxsize=64)
-def read_cert(data):
-    return readers.Certificate(data).read()
-
-
-def given(files, name, what, limit=readers.FILE_LIMIT, place=""):
-    """The bytes of an input."""
-    data = files.get(name, FAULT)
-    if data is FAULT:
-        raise OSError
-    if len(data) > limit:
-        raise Bad(f"{what} 0{place}")
-    return data
-
-
-def image_and_plan(files, words):
-    image = read_elf(given(files, words[1], "elf"))
-    return image, read_plan(given(files, words[2], "plan"))
-
-
-def check(files, words):
-    image, board = image_and_plan(files, words)
-    _, nodes = read_cert(given(files, words[3], "cert", readers.CERT_LIMIT))
-    start = (0, image[0], 0, board["start"]["is"])
-    return None, functools.partial(judged, start, {n[0]: n for n in nodes}, board), {}
-
-
-def refusal(text):
-    """The rule, the address and the key of a refusal, or no rule."""
-    found = re.fullmatch(rb"refused K([0-9]+) at ([0-9A-F]{8}) in " + KEY + b"\n", text)
-    if not found:
-        return 0, 0, None
-    key = (KINDS[found.group(3)], int(found.group(4), 16), int(found.group(5)), int(found.group(6)))
-    return int(found.group(1)), int(found.group(2), 16), key
-
-
-def judged(start, nodes, board, status, text):
-    """Whether a line of `check` can be right for these inputs."""
-    spare = board["csa"]["areas"] - board["csa"]["reserve"]
-    if status == 0:
-        return start in nodes and nodes[start][1] <= spare and text == b"certified %d of %d areas\n" % (nodes[start][1], spare)
-    rule, at, key = refusal(text)
-    if status != 1 or not rule:
-        return False
-    if rule == 1:
-        return key == start and at == start[1]
-    return 2 <= rule <= 14 and key in nodes and (at == key[1] or at in [p[0] for p in nodes[key][3]])
-
-
-def cert(files, words):
-    image, board = image_and_plan(files, words)
-    start = (0, image[0], 0, board["start"]["is"])
-    return None, functools.partial(made, start, board), {words[3]: functools.partial(has_start, start)}
-
-
-def made(start, board, status, text):
-    """Whether a line of `cert` can be right for these inputs; what it wrote is judged by `check` (`Bench.remade`)."""
-    spare = board["csa"]["areas"] - board["csa"]["reserve"]
-    if status == 0:
-        found = re.fullmatch(rb"certified ([0-9]+) of ([0-9]+) areas\n", text)
-        return bool(found) and int(found.group(1)) <= spare == int(found.group(2))
-    rule, _, key = refusal(text)
-    return status == 1 and rule in NEVER_MADE and frame_of(start, board, key)
-
-
-def frame_of(start, board, key):
-    """Whether frames of this key can be entered under the plan."""
-    kind, entry, prio, stack = key
-    if kind < 2:
-        return key == start if kind == 0 else prio == 0 or prio in board["irqs"]
-    vector = {2: board["biv"] | prio << 5, 3: board["btv"] | 0xC0, 4: board["btv"] | 0x40}[kind]
-    allowed = prio in board["irqs"] if kind == 2 else {3: "sys", 4: "aln"}[kind] in board["traps"]
-    return entry == vector and stack == 1 and allowed and (prio == 0 or prio in board["irqs"])
-
-
-def has_start(start, data):
-    """Whether these bytes are a certificate with a node of the start."""
-    try:
-        return start in [node[0] for node in read_cert(data)[1]]
-    except Bad:
-        return False
-
-
-def run(files, words):
-    _, board = image_and_plan(files, words)
-    turns = readers.script(given(files, words[3], "script"), board)
-    return None, functools.partial(driven, turns), {}
-
-
-def driven(turns, status, text):
-    """Whether a line of `run` can be right for so many turns."""
-    found = re.fullmatch(rb"events (\d+) peak (\d+) (running|dead (fcd|fcu|csu|ctyp|notlisted|nocode|noarea) at [0-9A-F]{8})\n", text)
-    if status or not found or int(found.group(2)) > 4096:
-        return False
-    return int(found.group(1)) == turns if found.group(3) == b"running" else 1 <= int(found.group(1)) <= turns
-
-
-def asm(files, words):
-    made = readers.Source(given(files, words[1], "source", place=" at 0")).read()
-    return 0, f"object {len(made)} bytes\n", {words[2]: made}
-
-
-def link(files, words):
-    places = readers.layout(given(files, words[1], "layout"))
-    objects = [readers.ObjectFile(given(files, w, "object", place=f" at {i}"), i).read() for i, w in enumerate(words[3:])]
-    made = readers.link(places, objects)
-    return 0, f"image {len(made)} bytes\n", {words[2]: made}
-
-
-def dis(files, words):
-    return 0, readers.listing(read_elf(given(files, words[1], "elf"))[1]), {}
-
-
-COMMANDS = {"check": (check, 4, 4), "cert": (cert, 4, 4), "run": (run, 4, 4), "asm": (asm, 3, 3), "link": (link, 4, 65535), "dis": (dis, 2, 2)}
-
-
-def answer(words, files):
-    """The status, the text (or a test of status and text), and the files written."""
-    command, least, most = COMMANDS.get(words[0] if words else "", (None, 0, 0))
-    if command is None or not least <= len(words) <= most:
-        return 5, "bad words\n", {}
-    try:
-        status, text, written = command(files, words)
-    except Bad as e:
-        return 2, f"bad {e.args[0]}\n", {}
-    except OSError:
-        return 3, "", {}
-    return (3, "", {}) if any(files.get(name) is FAULT for name in written) else (status, text, written)
+CERTS = ("c", "d")  # names of certificates, which have another limit
+# The words that name the files that a command writes.
+OUTPUTS = {"asm": [2], "link": [2], "cert": [3], "ship": [3, 4], "bootgen": [4], "cellcert": [4], "taskcert": [4, 5]}
 
 
 # Running
@@ -243,20 +104,13 @@ class Bench:
             faults.append(f"{status} {out[:200]!r} in place of {want[0]} {text if callable(text) else text[:200]!r}")
         if err:
             faults.append(f"on standard error {err[:80]!r}")
-        if words and words[0] == "cert" and status == 0 and not cannot_be_read_again(words, self.folder):
-            faults += self.remade(["check", *words[1:]], out)
+        if not faults and not how:
+            faults += beside(self, words, status, out)
         faults += self.folder_faults(want[2] if status in (0, 3) else {}, anything)
         self.table[group, words[0] if words and words[0] in COMMANDS else "words", label(status, out)] += 1
         if faults:
             self.wrong.append((group, words, {n: d for n, d in seen.items() if n in words}, faults))
         return status, out
-
-    def remade(self, words, out):
-        """What is wrong with a certificate that was made: another number than the printed one, or `check` refuses it."""
-        _, test, _ = answer(words, {name: (self.folder / name).read_bytes() for name in words[1:]})
-        again = self.ended(words, {})
-        fits = callable(test) and test(0, out)
-        return [] if fits and again == (0, out, b"") else [f"{out!r} is printed of a certificate of which `check` says {again[:2]!r}"]
 
     def folder_faults(self, written, anything):
         """What stands in the folder and shouldn't; afterwards it is as before."""
@@ -282,11 +136,6 @@ class Bench:
         return faults
 
 
-def cannot_be_read_again(words, folder):
-    """Whether the certificate's file is an input too, or one of the three is no plain file, so that they can't be read again."""
-    return words[3] in words[1:3] or not all((folder / word).is_file() for word in words[1:4])
-
-
 def spent():
     """Processor seconds of all programs that ended."""
     used = resource.getrusage(resource.RUSAGE_CHILDREN)
@@ -297,6 +146,8 @@ def label(status, out):
     """A kind of answer, for the table."""
     if status is None:
         return "no end"
+    if status < 0:
+        return "signal"
     words = out.split()
     if status == 2:
         return f"2 {b' '.join(words[:3]).decode(errors='replace')}"
@@ -422,6 +273,54 @@ def rich_cert(version):
     return cert_bytes(version, kinds)
 
 
+# An image that counts in a word of ram by four, the word as a cell; an image of two tasks that give way to each other, and its plan.
+COUNTS = readers.elf_bytes(0x80000000, [(0x80000000, bytes.fromhex("911000FD19FF0008C21F8F3F00F159FF00083CF9"))])
+CELLS = b"cell D0008000 00000000 00000003\n"
+RICH_CELLS = b"cell D0008000 00000000 00000003\n\ncell D0010024 00000001 FFFFFFFF\ncell D0008FFC 80000000 80000000"
+P8 = P0.replace(b'"areas":4', b'"areas":8')
+SWITCH = "0D0040030D0000029110002DD922004819200800012002364D00E01F593100001B100000DF2004803B000000592008000120023619310000CD01E00F0D00C0040D0040020D008001"
+TWO = readers.elf_bytes(0x80000000, [(0x80000000, bytes.fromhex("5C103CFF")), (0x80000010, bytes.fromhex("5C083CFF")), (0x80000020, bytes.fromhex(SWITCH))])
+TASKS = b"switch 80000020 D0008100\ntask 80000000 D0009000\ntask 80000010 D0008C00\n"
+# Seven tasks of that kind.
+FIVE_MORE = [(0x80000070 + 4 * u, readers.code([f"call16 .-{0x50 + 4 * u}", "j16 .-2"])) for u in range(5)]
+SEVEN = readers.elf_bytes(0x80000000, [
+    (0x80000000, bytes.fromhex("5C103CFF")), (0x80000010, bytes.fromhex("5C083CFF")), (0x80000020, readers.code(readers.routine_lines(7, 0xD0008100))), *FIVE_MORE,
+])  # fmt: skip
+RICH_TASKS = b"\n" + TASKS + b"\n" + b"".join(b"task %08X D0008%03X\n" % (entry, 64 * u) for u, (entry, _) in enumerate(FIVE_MORE))
+
+
+def with_boot(plan=P0, at=0x80000800):
+    """The small image with the boot sequence of a plan."""
+    return readers.elf_bytes(0x80000000, [(0x80000000, I1[84:]), (at, readers.boot_code(read_plan(plan), 0x80000000))])
+
+
+def registers(**known):
+    """The values of the 27 registers of a point."""
+    names = [*(f"d{n}" for n in range(16)), *(f"a{n}" for n in (2, 3, 4, 5, 6, 7, 10, 12, 13, 14, 15))]
+    return [known.get(name, "any") for name in names]
+
+
+def cells_cert():
+    """A certificate of the image that counts, by hand."""
+    at = {0: {}, 4: {"a15": [0xD0010000]}}
+    for place, index in ((8, [0, 1, 2, 3]), (10, [1, 2, 3, 4]), (14, [0, 1, 2, 3]), (18, [0, 1, 2, 3])):
+        at[place] = {**at[4], "d15": index}
+    points = [(0x80000000 + place, 0, 0, 0, [], registers(a10=[0xD0009000], **known)) for place, known in at.items()]
+    return cert_bytes(2, [((0, 0x80000000, 0, 0), 0, None, points)])
+
+
+def task_cert(u):
+    """A certificate of a task of the image of two tasks, by hand."""
+    entry, sp = ((0x80000000, 0xD0009000), (0x80000010, 0xD0008C00))[u]
+    point = lambda at, locals_held=(), **known: (at, 0, 0, 0, list(locals_held), registers(a10=[sp], **known))
+    half, block = {"a2": [0xD0010000]}, {"a2": [0xD0008100]}
+    other = {**block, "a3": (4, 0, 0xFFFFFFFF)}
+    known = [{}, {}, {}, half, block, block, *[other] * 11, {}]
+    points = [point(0x80000020 + 4 * n, (0,) if 2 <= n <= 16 else (), **known[n]) for n in range(18)]
+    start = ((0, entry, 0, 0), 2, None, [point(entry), point(entry + 2)])
+    return cert_bytes(2, [start, ((1, 0x80000020, 0, 0), 1, (0, 0, ["any"] * 14), points)])
+
+
 # Mutations
 
 
@@ -448,20 +347,20 @@ def mutations(data, most, seed, text):
         yield "ten bytes cut out", i, data[:i] + data[i + 10 :]
 
 
-def place_of(bench, title, words, files, vary, text=False):
-    """All mutations of one input of a command."""
+def place_of(bench, title, words, files, vary, text=False, most=700):
+    """All mutations of one input of a command, or about so many of each kind."""
     bench.only(files)
     data = files[vary]
-    most = 12 if bench.quick else 700
+    most = 12 if bench.quick else most
     for what, at, changed in mutations(data, most, title, text):
         bench.put(vary, changed)
         status, out = bench.case(what, words)
         if status == 0:
-            bench.zeros[title].append((what, at, same_value(words[0], vary, data, changed), changed, out))
+            bench.zeros[title].append((what, at, same_value(vary, data, changed), out))
     bench.put(vary, data)
 
 
-def same_value(command, vary, old, new):
+def same_value(vary, old, new):
     """How the values of both files differ, for the list of what is still done."""
     try:
         if vary == "e":
@@ -470,11 +369,11 @@ def same_value(command, vary, old, new):
         if vary == "p":
             one, two = read_plan(old), read_plan(new)
             return ", ".join(k for k in one if one[k] != two[k])
-        if vary == "c":
+        if vary in CERTS:
             return certs_differ(read_cert(old), read_cert(new))
     except Bad:
         return "?"
-    return {"run": "other turns", "asm": "another source", "link": "another object or layout"}.get(command, "?")
+    return {"s": "another source or script", "k": "other cells", "t": "other tasks"}.get(vary, "another object or layout")
 
 
 def certs_differ(one, two):
@@ -486,34 +385,49 @@ def certs_differ(one, two):
     return ", ".join(out)
 
 
-def mutate_all(bench):
-    """Fronts, bits, bytes and cuts of each input of each command."""
-    small = {"e": I1, "p": P0, "c": C0}
-    objects = {"l": L1, "o": readers.Source(S1).read()}
-    rich_objects = {"l": RICH_LAYOUT, "a": readers.Source(RICH_SOURCE).read(), "b": readers.Source(FAR_SOURCE).read()}
+def mutated():
+    """Each input that is changed: a title, words, files, the one that changes, whether it is a text, and how many of each kind."""
+    small, check = {"e": I1, "p": P0, "c": C0}, ["check", "e", "p", "c"]
     board, image = RICH_PLAN, rich_elf()
     for vary in "epc":
-        place_of(bench, f"check, {vary} of the small ones", ["check", "e", "p", "c"], small, vary, vary == "p")
-    place_of(bench, "check, e of several headers", ["check", "e", "p", "c"], {"e": image, "p": P0, "c": C0}, "e")
-    place_of(bench, "check, p of all keys", ["check", "e", "p", "c"], {"e": I1, "p": board, "c": C0}, "p", True)
+        yield f"check, {vary} of the small ones", check, small, vary, vary == "p"
+    yield "check, e of several headers", check, {"e": image, "p": P0, "c": C0}, "e"
+    yield "check, p of all keys", check, {"e": I1, "p": board, "c": C0}, "p", True
     for version in (1, 2):
-        files = {"e": I1, "p": board, "c": rich_cert(version)}
-        place_of(bench, f"check, c of all fields, version {version}", ["check", "e", "p", "c"], files, "c")
+        yield f"check, c of all fields, version {version}", check, {"e": I1, "p": board, "c": rich_cert(version)}, "c"
     found = made_rows(*nested())
     for title, number in (("a call", 0), ("interrupts", 3), ("a table", 8)):
         for vary in "ep":
-            place_of(bench, f"cert, {vary} of {title}", ["cert", "e", "p", "x"], found[number][1], vary, vary == "p")
-    files = {"e": I1, "p": board, "s": RICH_SCRIPT}
+            yield f"cert, {vary} of {title}", ["cert", "e", "p", "x"], found[number][1], vary, vary == "p"
     for vary in "eps":
-        place_of(bench, f"run, {vary}", ["run", "e", "p", "s"], files, vary, vary != "e")
-    place_of(bench, "asm, a small source", ["asm", "s", "o"], {"s": S1}, "s", True)
-    place_of(bench, "asm, a source of all statements", ["asm", "s", "o"], {"s": RICH_SOURCE}, "s", True)
+        yield f"run, {vary}", ["run", "e", "p", "s"], {"e": I1, "p": board, "s": RICH_SCRIPT}, vary, vary != "e"
+    yield "asm, a small source", ["asm", "s", "o"], {"s": S1}, "s", True
+    yield "asm, a source of all statements", ["asm", "s", "o"], {"s": RICH_SOURCE}, "s", True
     for vary in "lo":
-        place_of(bench, f"link, {vary} of the small ones", ["link", "l", "e", "o"], objects, vary, vary == "l")
+        yield f"link, {vary} of the small ones", ["link", "l", "e", "o"], {"l": L1, "o": readers.Source(S1).read()}, vary, vary == "l"
+    rich_objects = {"l": RICH_LAYOUT, "a": readers.Source(RICH_SOURCE).read(), "b": readers.Source(FAR_SOURCE).read()}
     for vary in "lab":
-        place_of(bench, f"link, {vary} of two objects", ["link", "l", "e", "a", "b"], rich_objects, vary, vary == "l")
-    place_of(bench, "dis, e of several headers", ["dis", "e"], {"e": image}, "e")
-    place_of(bench, "dis, the small e", ["dis", "e"], {"e": I1}, "e")
+        yield f"link, {vary} of two objects", ["link", "l", "e", "a", "b"], rich_objects, vary, vary == "l"
+    yield "dis, e of several headers", ["dis", "e"], {"e": image}, "e"
+    yield "dis, the small e", ["dis", "e"], {"e": I1}, "e"
+    yield from mutated_later(found)
+
+
+def mutated_later(found):
+    """Those of the commands that stand on `check` and `cert`, fewer of each."""
+    board = RICH_PLAN.replace(b'"ie": 1', b'"ie": 0')
+    for command in ("ship", "report", "boot", "cells", "cellcert", "tasks", "taskcert", "bootgen"):
+        words, places, files = forms()[command]
+        for name in (words[at] for at in places):
+            yield f"{command}, {name}", words, files, name, name in "pslztk", 110
+    for title, number in (("interrupts", 3), ("a table", 8), ("a system call", 12)):
+        for vary in "ep":
+            yield f"cfg, {vary} of {title}", ["cfg", "e", "p"], found[number][1], vary, vary == "p", 110
+    yield "bootgen, p of all keys", ["bootgen", "p", "80000000", "00000002", "x"], {"p": RICH_PLAN}, "p", True, 300
+    yield "boot, e under a plan of all keys", ["boot", "e", "p", "c", "80000800"], {"e": with_boot(board), "p": board, "c": first_cert()}, "e", False, 400
+    yield "cellcert, three cells", ["cellcert", "e", "p", "k", "x"], {"e": I1, "p": RICH_PLAN, "k": RICH_CELLS}, "k", True, 400
+    yield "taskcert, seven tasks", ["taskcert", "e", "p", "t", *[f"x{u}" for u in range(7)]], {"e": SEVEN, "p": board.replace(b'"areas": 8', b'"areas": 24'), "t": RICH_TASKS}, "t", True, 400
+    yield "ship, a source of all statements", ["ship", "p", "l", "x", "y", "s", "z"], {"p": P0, "l": RICH_LAYOUT, "s": RICH_SOURCE, "z": FAR_SOURCE}, "s", True, 200
 
 
 # Inputs made of pieces
@@ -668,25 +582,96 @@ def pieces_of_elfs(draw):
     return bytes(head) + headers + code
 
 
-def pieces(bench):
+def pieces_of_cells(draw):
+    """Lines of cells that are nearly right, for the rich plan."""
+    numbers = ["00000000", "00000003", "FFFFFFFF", "80000000", "D0008000", "D0008004", "D0008FFC", "D0009000", "D0008002", "00000024", "80010000", "8000000a", "D000800"]
+    lines = []
+    for _ in range(draw.choice([1, 2, 3, 5, 17])):
+        at = f"D0008{4 * draw.randrange(64):03X}" if draw.random() < 0.8 else draw.choice(numbers)
+        low, high = sorted([draw.choice(numbers[:4]), draw.choice(numbers[:4])]) if draw.random() < 0.95 else (draw.choice(numbers), draw.choice(numbers))
+        line = draw.choice([f"cell {at} {low} {high}"] * 40 + ["", f"cell {at} {low}", f"Cell {at} {low} {high}", f"cell  {at} {low} {high}"])
+        lines.append(line + draw.choice([""] * 40 + [" ", "\r", "\0"]))
+    return "\n".join(lines).encode() + draw.choice([b"", b"\n", b"\n\n"])
+
+
+def pieces_of_tasks(draw):
+    """Lines of tasks that are nearly right, for the image of two tasks."""
+    numbers = ["00000000", "80000000", "80000010", "80000012", "80000020", "80000022", "80000001", "D0008000", "D0008FF4", "D0008FF8", "8000000a", "D000900"]
+    lines = [draw.choice(["switch 80000020 D0008100"] * 20 + ["switch 80000021 D0008100", "switch 80000020 D0008102", "", "task 80000000 D0009000"])]
+    if draw.random() < 0.2:
+        lines[0] = f"switch {draw.choice(numbers)} {draw.choice(numbers)}"
+    for _ in range(draw.choice([2, 2, 2, 2, 2, 1, 3, 7, 8])):
+        entry = draw.choice(["80000000", "80000010"]) if draw.random() < 0.8 else draw.choice(numbers)
+        lines.append(draw.choice([f"task {entry} D0008{64 * draw.randrange(64):03X}"] * 40 + ["", f"task {entry}", f"Task {entry} D0009000", lines[0]]))
+        lines[-1] += draw.choice([""] * 60 + [" ", "\r", "\0"])
+    return "\n".join(lines).encode() + draw.choice([b"", b"\n", b"\n\n"])
+
+
+def pieces_of_cell_images(draw):
+    """An image that loads and stores near the cells D0008004 and D000800C, by addresses that are one word, sets or spans."""
+    lines = ["movh.a a15, 0xD001", "lea.l a15, [a15]-32764", "mov d2, 1"]
+    for _ in range(draw.randrange(1, 9)):
+        d, e, near = draw.randrange(4), draw.randrange(4), draw.choice([-4, -2, -1, 0, 0, 0, 1, 2, 3, 4, 8, 8, 12])
+        lines += draw.choice([
+            [f"ld.w d{d}, [a15]{draw.choice([0, 8])}"], [f"and d{d}, d{e}, {draw.choice([1, 3, 7, 63, 255])}"], [f"add d{d}, d{e}, {draw.choice([1, -1, 4])}"], [f"mov d{d}, {draw.randrange(5)}"],
+            [f"st.w [a15]{near}, d{e}"], [f"st.w [a15]{near}, d{e}"], [f"st.h [a15]{near}, d{e}"], [f"st.b [a15]{near}, d{e}"], [f"st.a [a15]{near}, a{draw.choice([10, 14, 15])}"],
+            [f"and d{d}, d{e}, {draw.choice([1, 3, 127])}", f"addsc.a a14, a15, d{d}, {draw.randrange(3)}", f"st.{draw.choice('wwhb')} [a14]{near}, d{e}"],
+            ["lea a14, [a15]0", f"st.w [a14+]{near}, d{e}", f"st.w [a14]0, d{d}"], [f"jlt.u d{d}, {draw.randrange(1, 5)}, .+8"],
+        ])  # fmt: skip
+    lines += ["nop", draw.choice(["j .+0", f"j .-{4 * len(lines) + 4}", f"j .-{4 * len(lines) - 8}"])]
+    return readers.elf_bytes(0x80000000, [(0x80000000, readers.code(lines))])
+
+
+def pieces_of_task_images(draw):
+    """An image of two tasks that read near the save areas and the routine, and read core registers, turn interrupts on, give way."""
+
+    def body():
+        lines = []
+        for _ in range(draw.randrange(1, 6)):
+            spot = draw.choice([0xD0000000, 0xD0000200, 0x80000020, 0x80000068, 0xD0008100, 0xD0008010])
+            place = [f"movh.a a15, {readers.high(spot)}", f"lea.l a15, [a15]{readers.low(spot)}"]
+            load = f"ld.{draw.choice(['b', 'bu', 'h', 'hu', 'w'])} d0, [a15]{draw.choice([-8, -4, -3, -2, -1, 0, 1, 2, 4])}"
+            index = ["ld.w d1, [a14]0", f"and d1, d1, {draw.choice([1, 7, 127, 511])}", f"addsc.a a15, a15, d1, {draw.randrange(3)}"]
+            lines += draw.choice([
+                [*place, load], [*place, load], [*place, *index, load], [f"mfcr d0, {draw.choice([0xFE00, 0xFE04, 0xFE20, 0xFE28, 0xFE2C, 0xFE38, 0xFE3C, 0])}"], ["nop", "mov d1, 1"],
+                ["bisr 0", "rslcx"], ["svlcx", "calla 0x80000020", "rslcx"], ["calla 0x80000020"], ["calla 0x80000020"], [draw.choice(["enable", "disable"])],
+            ])  # fmt: skip
+        return ["movh.a a14, 0xD001", "lea.l a14, [a14]-32704", *lines, draw.choice(["j .+0", f"j .-{4 * len(lines) + 8}"])]
+
+    routine = readers.routine_lines(2, 0xD0008100)
+    return readers.elf_bytes(0x80000000, [(at, readers.code(lines)) for at, lines in ((0x80000020, routine), (0x80000100, body()), (0x80000200, body()))])
+
+
+def put_together():
+    """What is put together at random: a title, files, those that are made, words, how they are made."""
+    board = {"e": I1, "p": RICH_PLAN, "c": C0}
+    two = {"e": TWO, "p": P8}
+    yield "asm", {}, ["s"], ["asm", "s", "o"], pieces_of_sources
+    yield "plan", board, ["p"], ["check", "e", "p", "c"], pieces_of_plans
+    yield "script", board, ["s"], ["run", "e", "p", "s"], pieces_of_scripts
+    yield "layout", {"o": readers.Source(S1).read()}, ["l"], ["link", "l", "e", "o"], pieces_of_layouts
+    yield "objects", {"l": RICH_LAYOUT}, ["a", "b"], ["link", "l", "e", "a", "b"], pieces_of_objects
+    yield "cert", board, ["c"], ["check", "e", "p", "c"], pieces_of_certs
+    yield "elf", board, ["e"], ["dis", "e"], pieces_of_elfs
+    yield "cells", board, ["k"], ["cellcert", "e", "p", "k", "x"], pieces_of_cells
+    yield "tasks", two, ["t"], ["taskcert", "e", "p", "t", "x", "y"], pieces_of_tasks
+    cells = CELLS.replace(b"8000", b"8004") + CELLS.replace(b"8000", b"800C").replace(b"3\n", b"2\n")
+    yield "images with cells", {"p": P0, "k": cells}, ["e"], ["cellcert", "e", "p", "k", "x"], pieces_of_cell_images
+    tasks = TASKS.replace(b"80000000", b"80000100").replace(b"80000010", b"80000200")
+    yield "images of tasks", {"p": P8, "t": tasks}, ["e"], ["taskcert", "e", "p", "t", "x", "y"], pieces_of_task_images
+    yield "boot plan", board, ["p"], ["bootgen", "p", "80000000", "80000800", "x"], pieces_of_plans
+    yield "shipped", {"p": P0, "l": RICH_LAYOUT, "z": FAR_SOURCE}, ["s"], ["ship", "p", "l", "x", "y", "s", "z"], pieces_of_sources
+
+
+def pieces(bench, title, files, vary, words, make):
     """Inputs that are put together at random, by fixed seeds."""
-    count = 30 if bench.quick else 1500
-    words, board = ["check", "e", "p", "c"], {"e": I1, "p": RICH_PLAN, "c": C0}
-    for title, files, vary, words, make in (
-        ("asm", {}, ["s"], ["asm", "s", "o"], pieces_of_sources),
-        ("plan", board, ["p"], words, pieces_of_plans),
-        ("script", board, ["s"], ["run", "e", "p", "s"], pieces_of_scripts),
-        ("layout", {"o": readers.Source(S1).read()}, ["l"], ["link", "l", "e", "o"], pieces_of_layouts),
-        ("objects", {"l": RICH_LAYOUT}, ["a", "b"], ["link", "l", "e", "a", "b"], pieces_of_objects),
-        ("cert", board, ["c"], words, pieces_of_certs),
-        ("elf", board, ["e"], ["dis", "e"], pieces_of_elfs),
-    ):
-        draw = random.Random(title)
-        bench.only({n: d for n, d in files.items() if n in words})
-        for _ in range(3 * count if title == "asm" else count):
-            for name in vary:
-                bench.put(name, make(draw))
-            bench.case("put together", words)
+    count = 30 if bench.quick else {"asm": 4500, "cells": 600, "tasks": 600, "boot plan": 600, "shipped": 600, "images of tasks": 3000}.get(title, 1500)
+    draw = random.Random(title)
+    bench.only({n: d for n, d in files.items() if n in words})
+    for _ in range(count):
+        for name in vary:
+            bench.put(name, make(draw))
+        bench.case("put together", words)
 
 
 # Rows whose answer stands here as data
@@ -793,6 +778,88 @@ def rows(bench):
             bench.wrong.append(("a row as data", ["check", "e", "p", "c"], {}, [f"{n} bytes of the certificate: {text!r}"]))
 
 
+def later_rows(bench):
+    """Rows of the commands that stand on `check` and `cert`, with their answers as data."""
+    i7, p7 = nested()
+    code, boot = lambda held: readers.elf_bytes(0x80000000, [(0x80000000, bytes.fromhex(held))]), with_boot()
+    on = P0.replace(b'"ie":0', b'"ie":1')
+    many = b"".join(b"cell D0008%03X 00000000 00000001\n" % (8 * n + 4) for n in range(17))
+    sixteen = b'"devices":[' + b",".join(b'{"at":%d,"len":4,"lo":0,"hi":1}' % (0xF0000000 + 16 * n) for n in range(16)) + b"]"
+    full = P8.replace(b'"devices":[]', sixteen)
+    main, start = "start 80000000 prio 0 is 0", "80000000 prio 0 is 0"
+    mask = changed(COUNTS, COUNTS.index(bytes.fromhex("8F3F00F1")) + 1, 0x7F)
+    small = [f"start {start}: 80000000 call 80000008", f"start {start}: 80000000 back 80000004", f"start {start}: 80000004 to 80000004", "call 80000008 prio 0 is 0: 80000008 ret"]
+    tried = [
+        (["boot", "e", "p", "c", "80000800"], {"e": boot, "p": P0, "c": first_cert()}, 0, "boot 65 events certified 1 of 2 areas\n"),
+        (["boot", "e", "p", "c", "80000800"], {"e": boot.replace(b"\x1b", b"\x9b", 1), "p": P0, "c": C0}, 1, "refused boot 4 at 80000804\n"),
+        (["boot", "e", "p", "c", "80000800"], {"e": boot, "p": on, "c": enabled_cert()}, 1, "refused boot 1\n"),
+        (["boot", "e", "p", "c", "80000801"], {"e": boot, "p": P0, "c": C0}, 1, "refused boot 2\n"),
+        (["boot", "e", "p", "c", "80000802"], {"e": boot, "p": P0, "c": C0}, 1, "refused boot 3\n"),
+        (["boot", "e", "p", "c", "FFFFFFFE"], {"e": boot, "p": P0, "c": C0}, 1, "refused boot 3\n"),
+        (["boot", "e", "p", "c", "80000801"], {"e": boot, "p": P0, "c": changed(C0, 15, 0)}, 1, f"refused K14 at 80000000 in {main}\n"),
+        (["boot", "e", "p", "c", "80000800"], {"e": boot, "p": P8, "c": C0}, 1, "refused boot 4 at 80000835\n"),
+        (["bootgen", "p", "80000000", "80000800", "x"], {"p": P0}, 0, "boot 56 instructions\n"),
+        (["bootgen", "p", "00000001", "FFFFFF20", "x"], {"p": on}, 0, "boot 56 instructions\n"),
+        (["bootgen", "p", "00000000", "FFFFFF21", "x"], {"p": P0}, 5, "bad words\n"),
+        (["bootgen", "p", "00000000", "00000000", "x"], {"p": b"[]"}, 2, "bad plan 1\n"),
+        (["cellcert", "e", "p", "k", "x"], {"e": COUNTS, "p": P0, "k": CELLS}, 0, "certified 0 of 2 areas with 1 cells\n"),
+        (["cells", "e", "p", "k", "c"], {"e": COUNTS, "p": P0, "k": CELLS, "c": cells_cert()}, 0, "certified 0 of 2 areas with 1 cells\n"),
+        (["cellcert", "e", "p", "k", "x"], {"e": mask, "p": P0, "k": CELLS}, 1, f"refused K16 at 8000000E in {main}\n"),
+        (["cellcert", "e", "p", "k", "x"], {"e": COUNTS, "p": P0, "k": b""}, 0, "certified 0 of 2 areas with 0 cells\n"),
+        (["cellcert", "e", "p", "k", "x"], {"e": COUNTS, "p": P0, "k": many[:-32]}, 2, "bad cells 4 at 16\n"),
+        (["cellcert", "e", "p", "k", "x"], {"e": COUNTS, "p": full, "k": CELLS}, 2, "bad cells 4 at 1\n"),
+        *((["cells", "e", "p", "k", "c"], {"e": COUNTS, "p": P0, "k": k, "c": C0}, 2, f"bad cells {line}\n") for k, line in (
+            (b"cell 80000000 00000000 00000001", "2 at 1"), (b"cell D0008FFE 00000000 00000001", "1 at 1"), (b"cell D0009000 00000000 00000001", "2 at 1"),
+            (CELLS + CELLS, "3 at 2"), (b"\n" + CELLS + b"cell D0008004 00000001 00000000", "1 at 3"), (CELLS.lower(), "1 at 1"), (b"\0", "1 at 1"),
+        )),
+        (["taskcert", "e", "p", "t", "x", "y"], {"e": TWO, "p": P8, "t": TASKS}, 0, "certified 4 of 6 areas in 2 tasks\n"),
+        (["tasks", "e", "p", "t", "c", "d"], {"e": TWO, "p": P8, "t": TASKS, "c": task_cert(0), "d": task_cert(1)}, 0, "certified 4 of 6 areas in 2 tasks\n"),
+        (["tasks", "e", "p", "t", "d", "c"], {"e": TWO, "p": P8, "t": TASKS, "c": task_cert(0), "d": task_cert(1)}, 1, f"refused K1 at 80000000 in {main} of task 0\n"),
+        (["taskcert", "e", "p", "t", "x", "y"], {"e": TWO, "p": P0, "t": TASKS}, 1, "refused sum 4 of 2 areas\n"),
+        (["taskcert", "e", "p", "t", "x", "y"], {"e": TWO.replace(bytes.fromhex("5C103CFF"), bytes.fromhex("E0003C00")), "p": P8, "t": TASKS}, 1, f"refused K17 at 80000000 in {main} of task 0\n"),
+        (["taskcert", "e", "p", "t", "x"], {"e": TWO, "p": P8, "t": TASKS}, 2, "bad tasks 7\n"),
+        (["taskcert", "e", "p", "t", "x", "y"], {"e": changed(TWO, len(TWO) - 1, 0x81), "p": P8, "t": TASKS}, 1, "refused switch at 80000067\n"),
+        (["tasks", "e", "p", "t", "c", "d"], {"e": I1, "p": P8, "t": TASKS, "c": task_cert(0), "d": task_cert(1)}, 1, "refused switch at 80000020\n"),
+        (["taskcert", "e", "p", "t", "x", "y"], {"e": TWO, "p": full, "t": TASKS}, 2, "bad tasks 5\n"),
+        (["taskcert", "e", "p", "t", "x", "y"], {"e": TWO, "p": P8.replace(b'"is":0', b'"is":1'), "t": TASKS}, 2, "bad tasks 6\n"),
+        *((["tasks", "e", "p", "t", "c", "d"], {"e": TWO, "p": P8, "t": t, "c": b"", "d": b""}, 2, f"bad {line}\n") for t, line in (
+            (b"", "tasks 1 at 1"), (b"\n\n", "tasks 1 at 1"), (TASKS.replace(b"20 ", b"21 "), "tasks 1 at 1"), (TASKS.replace(b"8100", b"8102"), "tasks 1 at 1"),
+            (TASKS[25:], "tasks 1 at 1"), (TASKS + TASKS[25:] * 3, "tasks 2 at 9"), (TASKS + TASKS[25:] * 3 + b"x", "tasks 1 at 10"), (TASKS[:48], "tasks 3"),
+            (TASKS.replace(b"D0008100", b"D0008FF8"), "tasks 4"), (TASKS + TASKS[25:], "tasks 7"), (TASKS, "cert 1 at 0"),
+        )),
+        (["cfg", "e", "p"], {"e": I1, "p": P0}, 0, "".join(f"{line}\n" for line in small)),
+        (["cfg", "e", "p"], {"e": I1, "p": P0.replace(b'"reserve":2', b'"reserve":4')}, 1, f"refused K14 at 80000000 in {main}\n"),
+        (["cfg", "e", "p"], {"e": i7, "p": p7[:-1]}, 2, "bad plan 1\n"),
+        (["report", "e", "p", "c"], {"e": I1, "p": P0, "c": first_cert()}, 0, '{"areas":4,"calls":[{"longest":1,"prio":0}],"certified":1,"nodes":[{"key":"start '
+            f'{start}","need":1,"points":2}},{{"key":"call 80000008 prio 0 is 0","need":0,"points":1}}],"reserve":2}}\n'),
+        (["report", "e", "p", "c"], {"e": I1, "p": P0, "c": changed(C0, 15, 0)}, 1, f"refused K14 at 80000000 in {main}\n"),
+        (["gen", "1"], {}, 0, "functions 1 nodes 35 points 124 certified 49 of 240 areas\n"), (["gen", "500"], {}, 0, "functions 500 nodes 534 points 2120 certified 57 of 240 areas\n"),
+        (["ship", "p", "l", "x", "y", "s"], {"p": P0, "l": L1, "s": S1}, 0, "certified 1 of 2 areas\n"),
+        (["ship", "p", "l", "x", "y", "s"], {"p": P0.replace(b'"reserve":2', b'"reserve":4'), "l": L1, "s": S1}, 1, f"refused K14 at 80000000 in {main}\n"),
+        (["ship", "p", "l", "x", "y", "s", "z"], {"p": P0, "l": L1, "s": S1, "z": b"\nmul"}, 2, "bad source 2 at 1 2\n"),
+        (["ship", "p", "l", "x", "y", "z", "s"], {"p": P0, "l": L1, "s": b"x", "z": b"nop"}, 2, "bad source 8 at 0 1\n"),
+        (["ship", "p", "l", "x", "y", "s", "s"], {"p": P0, "l": L1, "s": S1}, 2, "bad link 1 name main\n"),
+        (["ship", "p", "l", "x", "y", "s"], {"p": P0, "l": L1, "s": S1.replace(b"f: ret16", b"")}, 2, "bad link 2 name f\n"),
+        (["ship", "p", "l", "x", "y", "s"], {"p": P0, "l": b"entry main", "s": b""}, 2, "bad link 6\n"),
+        (["ship", "p", "l", "x", "y", "s"], {"p": P0 + b"x", "l": b"", "s": b"x"}, 2, "bad plan 1\n"), (["ship", "p", "l", "x", "y", "s"], {"p": P0, "l": b"", "s": b"x"}, 2, "bad layout 1 at 1\n"),
+    ]  # fmt: skip
+    for words, files, status, text in tried:
+        bench.only(files)
+        want = answer(words, files)
+        if not (want[1](status, text.encode()) if callable(want[1]) else (want[0], want[1]) == (status, text)):
+            bench.wrong.append(("a row as data", words, {}, [f"the readers say {want[:2]}, the row {status} {text!r}"]))
+        bench.case("a row as data", words, want=(status, text, want[2] if status == 0 else {}))
+    if readers.boot_code(read_plan(P0), 0x80000000)[:16] != bytes.fromhex("7B0000001B000000CDC0E20F0D00C004"):
+        bench.wrong.append(("a row as data", ["bootgen"], {}, ["the readers' sequence begins otherwise"]))
+
+
+def enabled_cert():
+    """The least certificate of the small image where interrupts are on at the start."""
+    one = lambda at: (at, 1, 0, 0, [], registers(a10=[0xD0009000]))
+    start = ((0, 0x80000000, 0, 0), 1, None, [one(0x80000000), one(0x80000004)])
+    return cert_bytes(1, [start, ((1, 0x80000008, 0, 0), 0, (1, 0, ["any"] * 14), [one(0x80000008)])])
+
+
 # Files that fail
 
 
@@ -823,12 +890,26 @@ def feed(path, data, wait=0.0):
     return thread
 
 
-FORMS = {
-    "check": (["check", "e", "p", "c"], [1, 2, 3], {"e": I1, "p": P0, "c": C0}), "run": (["run", "e", "p", "s"], [1, 2, 3], {"e": I1, "p": P0, "s": T1}),
-    "cert": (["cert", "e", "p", "x"], [1, 2], {"e": I1, "p": P0}),
-    "asm": (["asm", "s", "x"], [1], {"s": S1}), "link": (["link", "l", "x", "o", "q"], [1, 3, 4], {"l": L1, "o": readers.Source(S1).read(), "q": readers.Source(b".section text\nnop").read()}),
-    "dis": (["dis", "e"], [1], {"e": I1}),
-}  # fmt: skip
+def forms():
+    """Of each command words, the places of its inputs among them, and the inputs."""
+    objects = {"o": readers.Source(S1).read(), "q": readers.Source(b".section text\nnop").read()}
+    return {
+        "check": (["check", "e", "p", "c"], [1, 2, 3], {"e": I1, "p": P0, "c": C0}),
+        "run": (["run", "e", "p", "s"], [1, 2, 3], {"e": I1, "p": P0, "s": T1}),
+        "cert": (["cert", "e", "p", "x"], [1, 2], {"e": I1, "p": P0}),
+        "asm": (["asm", "s", "x"], [1], {"s": S1}),
+        "link": (["link", "l", "x", "o", "q"], [1, 3, 4], {"l": L1, **objects}),
+        "dis": (["dis", "e"], [1], {"e": I1}),
+        "ship": (["ship", "p", "l", "x", "y", "s", "z"], [1, 2, 5, 6], {"p": P0, "l": L1, "s": S1, "z": b".section text\nnop"}),
+        "cfg": (["cfg", "e", "p"], [1, 2], {"e": I1, "p": P0}),
+        "report": (["report", "e", "p", "c"], [1, 2, 3], {"e": I1, "p": P0, "c": C0}),
+        "boot": (["boot", "e", "p", "c", "80000800"], [1, 2, 3], {"e": with_boot(), "p": P0, "c": C0}),
+        "bootgen": (["bootgen", "p", "80000000", "80000800", "x"], [1], {"p": P0}),
+        "cells": (["cells", "e", "p", "k", "c"], [1, 2, 3, 4], {"e": COUNTS, "p": P0, "k": CELLS, "c": cells_cert()}),
+        "cellcert": (["cellcert", "e", "p", "k", "x"], [1, 2, 3], {"e": COUNTS, "p": P0, "k": CELLS}),
+        "tasks": (["tasks", "e", "p", "t", "c", "d"], [1, 2, 3, 4, 5], {"e": TWO, "p": P8, "t": TASKS, "c": task_cert(0), "d": task_cert(1)}),
+        "taskcert": (["taskcert", "e", "p", "t", "x", "y"], [1, 2, 3], {"e": TWO, "p": P8, "t": TASKS}),
+    }  # fmt: skip
 
 
 def swapped(words, at, name):
@@ -837,7 +918,7 @@ def swapped(words, at, name):
 
 def failing_files(bench):
     """Each input of each command as something that is no readable file, alone and beside a broken one."""
-    for words, places, files in FORMS.values():
+    for words, places, files in forms().values():
         bench.only(files)
         for at in places:
             for name in ("missing", "", "nowhere/file", "e/file" if "e" in files else f"{words[1]}/file", "n" * 300, "n/" * 3000, "\n", "-", "--", "/proc/self/mem"):
@@ -855,10 +936,9 @@ def failing_files(bench):
                     bench.put(words[other], b"broken")
                     bench.case("one missing, one broken", swapped(words, at, "missing"))
                     bench.put(words[other], files[words[other]])
-        if words[0] != "check" or not bench.quick:
-            for at in places:
-                if not (words[0] == "check" and at == 3):
-                    bench.case("a file without end", swapped(words, at, "/dev/zero"), {"/dev/zero": bytes(readers.FILE_LIMIT + 1)})
+        for at in places if words[0] != "check" or not bench.quick else ():
+            if words[at] not in CERTS:
+                bench.case("a file without end", swapped(words, at, "/dev/zero"), {"/dev/zero": bytes(readers.FILE_LIMIT + 1)})
 
 
 def pipes(bench, words, at, data):
@@ -871,8 +951,8 @@ def pipes(bench, words, at, data):
 
 def failing_outputs(bench):
     """Outputs that can't be written, that are inputs, and a standard output that is full or closed."""
-    for command, place in OUTPUTS.items():
-        words, _, files = FORMS[command]
+    for command, place in [(command, place) for command, places in OUTPUTS.items() for place in places]:
+        words, _, files = forms()[command]
         bench.only(files)
         for name in ("", "nowhere/x", f"{words[1]}/x", "/dev/full", "n" * 300):
             bench.case("an output that fails", swapped(words, place, name), {name: FAULT})
@@ -887,7 +967,7 @@ def failing_outputs(bench):
             bench.put(broken, b"\0")
             bench.case("an output that is an input", swapped(words, place, broken))
             bench.put(broken, files[broken])
-    for words, places, files in FORMS.values():
+    for words, places, files in forms().values():
         for broken in (None, *places):
             bench.only(files)
             if broken:
@@ -914,36 +994,43 @@ def full_outputs():
 # Limits
 
 
+def filled(words, name, data):
+    """A file of as many bytes as may be that says the same, or None."""
+    limit = readers.FILE_LIMIT
+    if name == "e":
+        return data.ljust(limit, b"\0")
+    if name in "sz" and words[0] in ("asm", "ship"):
+        return data + b"#" * (limit - len(data))
+    return data.rjust(limit, b" " if name == "p" else b"\n") if name in "pslkt" else None
+
+
 def limits(bench):
     """Files at, one above and far above their limits, many words, little memory."""
     limit = readers.FILE_LIMIT
-    fills = {"e": I1.ljust(limit, b"\0"), "p": P0.rjust(limit), "s": b"step 2\n".rjust(limit, b"\n"), "l": L1.rjust(limit, b"\n")}
-    for words, places, files in FORMS.values():
+    for words, places, files in forms().values():
         bench.only(files)
         for at in places:
             name = words[at]
-            if name == "c":
+            if name in CERTS:
                 continue
             for size in (limit + 1,) if bench.quick else (limit, limit + 1, 1 << 40):
                 sparse(bench, size)
                 bench.case("a file at or above its limit", swapped(words, at, "big"), {"big": bytes(min(size, limit + 1))})
-            if name in "eslp" and not bench.quick:
-                full = S1 + b"#" * (limit - len(S1)) if words[0] == "asm" else fills[name]
+            full = None if bench.quick else filled(words, name, files[name])
+            if full:
                 (bench.folder / "big").write_bytes(full)
-                want = answer(words, {**files, **({"s": b"step 2\n"} if words[0] == "run" else {})})
-                bench.case("a file at or above its limit", swapped(words, at, "big"), want=want)
+                bench.case("a file at or above its limit", swapped(words, at, "big"), want=answer(words, files))
                 (bench.folder / "big").write_bytes(full + b"\n")
                 bench.case("a file at or above its limit", swapped(words, at, "big"), {"big": bytes(limit + 1)})
             (bench.folder / "big").unlink(missing_ok=True)
     if not bench.quick:
-        bench.only(FORMS["check"][2])
+        bench.only(forms()["check"][2])
         for size in (readers.CERT_LIMIT + 1, 1 << 42):
             sparse(bench, size)
             want = (2, "bad cert 0\n", {})
             bench.case("a file at or above its limit", ["check", "e", "p", "big"], want=want)
         (bench.folder / "big").unlink()
     many_words(bench)
-    little_memory(bench)
 
 
 def sparse(bench, size):
@@ -952,24 +1039,31 @@ def sparse(bench, size):
 
 
 def many_words(bench):
+    """As many words as a command may have, and more."""
     empty = readers.object_bytes([], [], [])
-    bench.only({"l": L1, "o": empty})
-    for count in (4, 65536) if bench.quick else (4, 100, 65534, 65535, 65536, 70000):
-        words = ["link", "l", "x"] + ["o"] * (count - 3)
-        want = (2, "bad link 6\n", {}) if count <= 65535 else (5, "bad words\n", {})
-        bench.case("many words", words, want=want)
-        bench.case("many words", words[:-1] + ["m"], want=(3, "", {}) if count <= 65535 else (5, "bad words\n", {}))
+    bench.only({"l": L1, "o": empty, "p": P8, "e": TWO, "t": TASKS, "s": b""})
+    long = (4, 65536) if bench.quick else (4, 100, 65534, 65535, 65536, 70000)
+    for command, line in (("link", "bad link 6\n"), ("ship", "bad link 6\n"), ("tasks", "bad tasks 7\n"), ("taskcert", "bad tasks 7\n")):
+        head = {"link": ["link", "l", "x"], "ship": ["ship", "p", "l", "x", "y"]}.get(command, [command, "e", "p", "t"])
+        for count in long if command != "taskcert" else (1004, 65536) if bench.quick else (1004, 65535, 65536):
+            rest = {"link": ["o"], "ship": ["s"], "tasks": ["c"]}.get(command)
+            words = (head + (rest * count if rest else [f"c{i}" for i in range(count)]))[: max(count, len(head) + 1)]
+            good = len(words) <= 65535
+            bench.case("many words", words, want=(2, line, {}) if good else (5, "bad words\n", {}))
+            if command in ("link", "ship"):
+                bench.case("many words", words[:-1] + ["m"], want=(3, "", {}) if good else (5, "bad words\n", {}))
 
 
 def little_memory(bench):
-    """Less and less memory: want of memory without a line, or the answer."""
-    for words, _, files in FORMS.values():
+    """Less and less memory: want of memory without a line, or the answer. Within a megabyte of where the program can be started at all
+    its stack may not have the room to grow: then the system ends it by a signal."""
+    for words, _, files in forms().values():
         bench.only(files)
         if words[0] == "dis":
             bench.only({"e": readers.elf_bytes(0x80000000, [(0x80000000, I1[84:] * 2000)])})
         if words[0] == "asm":
             bench.only({"s": S1 + b".byte 1, 2, 3, 4\n" * 2000})
-        wanted = answer(words, bench.held)
+        wanted, least = answer(words, bench.held), None
         for size in range(1 << 18, 24 << 20, (4 << 20) if bench.quick else (1 << 18)):
             how = {"preexec_fn": lambda size=size: resource.setrlimit(resource.RLIMIT_AS, (size, size))}
             try:
@@ -978,9 +1072,11 @@ def little_memory(bench):
                 continue
             if first[0] != 5:
                 continue
-            test = lambda status, text: (status, text) == (4, b"") or right(wanted, status, text)
+            least = least or size
+            none = [(4, b"")] + [(-signal.SIGSEGV, b"")] * (size < least + (1 << 20))
+            test = lambda status, text, none=none: (status, text) in none or right(wanted, status, text)
             before = dict(bench.held)
-            status, _ = bench.case("little memory", words, want=(None, test, wanted[2]), how=how, anything=tuple(wanted[2]))
+            bench.case("little memory", words, want=(None, test, wanted[2]), how=how, anything=tuple(wanted[2]))
             bench.only(before)
 
 
@@ -995,20 +1091,25 @@ def right(wanted, status, text):
 
 def words_of_no_form(bench):
     """Lists of words that are no command, and words that are no text."""
-    bench.only({**FORMS["check"][2], **FORMS["link"][2], "s": S1})
+    bench.only({**forms()["check"][2], **forms()["link"][2], "s": S1})
     for words in (
         [], [""], ["--help"], ["--version"], ["-h"], ["help"], ["check"], ["check", "e"], ["check", "e", "p"], ["check", "e", "p", "c", "c"], ["run"], ["run", "e", "p"],
         ["run", "e", "p", "s", ""], ["asm"], ["asm", "s"], ["asm", "s", "x", "x"], ["link"], ["link", "l"], ["link", "l", "x"], ["dis"], ["dis", "e", "e"], ["Check", "e", "p", "c"],
         ["check ", "e", "p", "c"], [" check", "e", "p", "c"], ["check\n", "e", "p", "c"], ["", "check", "e", "p", "c"], ["chec", "e", "p", "c"], ["checks", "e", "p", "c"], ["e", "p", "c"],
-        ["check e p c"], ["--", "check", "e", "p", "c"], ["check", "--help"], ["asm", "--", "s", "x"], ["cert"], ["ship", "p", "l", "x", "x", "s"], ["cfg"], ["report"], ["gen"], ["gen", "0"],
-        ["gen", "501"], ["gen", "01"], ["\u00e9"], ["\U0001f600" * 1000], ["x" * 100000],
+        ["check e p c"], ["--", "check", "e", "p", "c"], ["check", "--help"], ["asm", "--", "s", "x"], ["cert"], ["ship", "p", "l", "x", "x", "s"], ["ship", "p", "l", "x", "y"],
+        ["cfg"], ["cfg", "e"], ["cfg", "e", "p", "c"], ["report"], ["report", "e", "p"], ["gen"], ["gen", "0"], ["gen", "501"], ["gen", "01"], ["gen", "1", "1"], ["gen", "+1"],
+        ["gen", "1 "], ["gen", "0x1"], ["gen", "\u0661"], ["gen", "4294967297"], ["gen", "18446744073709551617"], ["boot", "e", "p", "c"], ["boot", "e", "p", "c", "8000080"],
+        ["boot", "e", "p", "c", "800008000"], ["boot", "e", "p", "c", "80000a00"], ["boot", "e", "p", "c", "0x800008"], ["boot", "e", "p", "c", " 8000080"], ["boot", "e", "p", "c", "80000800", "x"],
+        ["bootgen", "p", "80000000", "80000800"], ["bootgen", "p", "80000000", "FFFFFF21", "x"], ["bootgen", "p", "80000000", "FFFFFFFF", "x"], ["bootgen", "p", "8000000g", "80000800", "x"],
+        ["bootgen", "p", "80000800", "x", "x"], ["cells", "e", "p", "k"], ["cells", "e", "p", "k", "c", "c"], ["cellcert", "e", "p", "k"], ["tasks", "e", "p", "t"], ["tasks"],
+        ["taskcert", "e", "p", "t"], ["taskcert", "e", "p", "t", "x", "x"], ["taskcert", "e", "p", "t", "x", "y", "x"], ["taskcert", "e", "p", "t", "", ""], ["\u00e9"], ["\U0001f600" * 1000], ["x" * 100000],
     ):  # fmt: skip
         bench.case("words of no form", words)
     for at in range(4):
         words = [w.encode() for w in ["check", "e", "p", "c"]]
         for bad in (b"\xff", b"\xc3", b"e\x80", b"\xed\xa0\x80", b"\xf8\x88\x80\x80\x80"):
             bench.case("words that are no text", swapped(words, at, bad), want=(3, "", {}))
-    for words, places, _ in FORMS.values():
+    for words, places, _ in forms().values():
         for at in range(1, len(words)):
             if at in places or words[0] in OUTPUTS:
                 bench.case("empty words", swapped(words, at, ""), {"": FAULT})
@@ -1029,12 +1130,23 @@ def ranges(numbers):
     return ", ".join(f"{a}" if a == b else f"{a} to {b}" for a, b in out)
 
 
+def tables(bench):
+    """How many cases ended with each status, by kind of input and by command."""
+    for title, place in (("Kind of input", 0), ("Command", 1)):
+        counts = collections.defaultdict(collections.Counter)
+        for key, count in bench.table.items():
+            counts[key[place]][key[2][0]] += count
+        print(f"\n| {title} | 0 done | 1 refused | 2 bad input | 3 fault | 4 no memory | 5 bad words | a signal | Cases |\n|{'---|' * 9}")
+        for name, by in sorted(counts.items()):
+            print("|", " | ".join([name, *(str(by[status] or "") for status in "012345s"), str(sum(by.values()))]), "|")
+
+
 def report(bench, began):
     print("Mutated inputs with which the command is still done")
     for title, found in bench.zeros.items():
         print(f"\n  {title}")
         by = collections.defaultdict(list)
-        for what, at, why, _, out in found:
+        for what, at, why, out in found:
             by[why or "the same value (a byte that nobody reads, or another spelling)", out.split(b"\n")[0][:50] if title.startswith("check") else b""].append((what, at))
         for (why, out), places in sorted(by.items()):
             print(f"    {len(places):5} {why}{': ' + out.decode() if out else ''}: bytes {ranges(p[1] for p in places)[:300]}")
@@ -1044,6 +1156,7 @@ def report(bench, began):
         groups[group, command].append(f"{count} x {answered}")
     for (group, command), answers in groups.items():
         print(f"  {group}, {command}: {'; '.join(answers)}")
+    tables(bench)
     print(f"\nslowest {bench.slowest[0]:.2f} s: {bench.slowest[1]}")
     for group, words, files, faults in bench.wrong[:200]:
         print(f"WRONG {group}: {[str(w)[:40] for w in words[:8]]}: {'; '.join(faults)}")
@@ -1053,16 +1166,44 @@ def report(bench, began):
     print(f"{bench.count} cases tried, {len(bench.wrong)} wrong, {time.monotonic() - began:.0f} s")
 
 
-def main():
-    arguments = [a for a in sys.argv[1:] if a != "--quick"]
-    program, began = str(pathlib.Path(arguments[0]).resolve()), time.monotonic()
+def jobs():
+    """All that is done, each in a folder of its own: a title, and a function of a bench."""
+    yield from [(part.__name__, part) for part in (rows, later_rows, words_of_no_form, failing_files, failing_outputs, limits, little_memory)]
+    yield from [(f"put together, {given[0]}", functools.partial(pieces, title=given[0], files=given[1], vary=given[2], words=given[3], make=given[4])) for given in put_together()]
+    for title, words, files, vary, *more in mutated():
+        text, most = (*more, False, 700)[:2] if len(more) != 1 else (more[0], 700)
+        yield title, functools.partial(place_of, title=title, words=words, files=files, vary=vary, text=text, most=most)
+
+
+def done(given):
+    """Does one of the jobs, in a process of its own."""
+    program, quick, number = given
+    title, part = list(jobs())[number]
+    began = time.monotonic()
     with tempfile.TemporaryDirectory() as folder:
-        bench = Bench(program, pathlib.Path(folder), "--quick" in sys.argv)
-        for part in (rows, words_of_no_form, failing_files, failing_outputs, limits, pieces, mutate_all):
-            part(bench)
-            print(f"{part.__name__}: {bench.count} cases, {len(bench.wrong)} wrong, {time.monotonic() - began:.0f} s", flush=True)
-        report(bench, began)
-    sys.exit(1 if bench.wrong else 0)
+        bench = Bench(program, pathlib.Path(folder), quick)
+        part(bench)
+    return title, bench.count, bench.table, bench.wrong, dict(bench.zeros), bench.slowest, time.monotonic() - began
+
+
+def main():
+    arguments, given = sys.argv[1:], {"--jobs": "2", "--only": ""}
+    quick = "--quick" in arguments
+    for name in set(arguments) & set(given):
+        given[name] = arguments.pop(arguments.index(name) + 1)
+    program = str(pathlib.Path(next(a for a in arguments if not a.startswith("--"))).resolve())
+    began, whole = time.monotonic(), Bench(program, None, quick)
+    chosen = [(program, quick, n) for n, (title, _) in enumerate(jobs()) if given["--only"] in title]
+    with multiprocessing.get_context("fork").Pool(int(given["--jobs"])) as pool:
+        for title, count, table, wrong, zeros, slowest, took in pool.imap(done, chosen):
+            whole.count += count
+            whole.table.update(table)
+            whole.wrong += wrong
+            whole.zeros.update(zeros)
+            whole.slowest = max(whole.slowest, slowest)
+            print(f"{title}: {count} cases, {len(wrong)} wrong, {took:.0f} s", flush=True)
+    report(whole, began)
+    sys.exit(1 if whole.wrong else 0)
 
 
 if __name__ == "__main__":

@@ -1074,3 +1074,167 @@ class Source:
         if abs(by) >= 1 << 128:
             rules.append(5)
         return rules + ([6] if by % 2 else []), by // 2 % (1 << row.width)
+
+
+# Cells and tasks
+
+
+def hex_numbers(line, word, count):
+    """The numbers of a line `WORD X ..`, each of eight upper-case hex digits, or None."""
+    words = line.split(b" ")
+    good = len(words) == count + 1 and words[0] == word and all(re.fullmatch(b"[0-9A-F]{8}", w) for w in words[1:])
+    return [int(w, 16) for w in words[1:]] if good else None
+
+
+def in_one(ranges, at, length):
+    """The range in which these bytes lie wholly, or None."""
+    return next((r for r in ranges if r["at"] <= at and at + length <= r["at"] + r["len"]), None)
+
+
+def ranges_without(ranges, at, length):
+    """What is left of ranges without these bytes, each one's parts ascending and none empty."""
+    out = []
+    for r in ranges:
+        end = r["at"] + r["len"]
+        out += [{"at": a, "len": b - a} for a, b in ((r["at"], min(end, at)), (max(r["at"], at + length), end)) if a < b]
+    return out
+
+
+def cells(data, board):
+    """The cells (at, lo, hi) of a text."""
+    out, ram = [], board["ram"]
+    for n, line in lines_of(data):
+        if line == b"":
+            continue
+        cell = hex_numbers(line, b"cell", 3)
+        if cell is None or cell[0] % 4 or cell[2] < cell[1]:
+            raise Bad(f"cells 1 at {n}")
+        if not in_one(board["ram"], cell[0], 4):
+            raise Bad(f"cells 2 at {n}")
+        if any(cell[0] == other[0] for other in out):
+            raise Bad(f"cells 3 at {n}")
+        out.append(tuple(cell))
+        ram = ranges_without(ram, cell[0], 4)
+        if len(ram) > 16 or len(board["devices"]) + len(out) > 16:
+            raise Bad(f"cells 4 at {n}")
+    return out
+
+
+def with_cells(board, found):
+    """The plan in which cells are devices."""
+    ram = board["ram"]
+    for at, _, _ in found:
+        ram = ranges_without(ram, at, 4)
+    return {**board, "ram": ram, "devices": board["devices"] + [{"at": at, "len": 4, "lo": lo, "hi": hi} for at, lo, hi in found]}
+
+
+def tasks(data, board):
+    """The addresses of the routine and of its block, and the tasks (entry, sp)."""
+    places, out = None, []
+    for n, line in lines_of(data):
+        if line == b"":
+            continue
+        found = hex_numbers(line, b"task" if places else b"switch", 2)
+        if found is None or places is None and (found[0] % 2 or found[1] % 4):
+            raise Bad(f"tasks 1 at {n}")
+        if places is None:
+            places = found
+        else:
+            out.append((n, *found))
+    if places is None:
+        raise Bad("tasks 1 at 1")
+    if len(out) > 7:
+        raise Bad(f"tasks 2 at {out[7][0]}")
+    if len(out) < 2:
+        raise Bad("tasks 3")
+    length = 4 * len(out) + 4
+    if not in_one(board["ram"], places[1], length):
+        raise Bad("tasks 4")
+    if len(board["devices"]) + len(ranges_without(board["ram"], places[1], length)) > 16:
+        raise Bad("tasks 5")
+    if board["start"]["is"]:
+        raise Bad("tasks 6")
+    return places[0], places[1], [task[1:] for task in out]
+
+
+# Code that tcd knows: the switch routine, the boot sequence
+
+
+def code(lines):
+    """The bytes of instructions."""
+    sections, _, _ = ObjectFile(Source("\n".join([".section s", *lines]).encode()).read(), 0).read()
+    return sections[0][1]
+
+
+def high(x):
+    return (x + 0x8000 >> 16) & 0xFFFF
+
+
+def low(x):
+    return signed(x & 0xFFFF, 16)
+
+
+def routine_lines(count, block):
+    """The routine by which one of so many tasks gives way."""
+    return [
+        "disable", "svlcx", f"movh.a a2, {high(block)}", f"lea.l a2, [a2]{low(block)}", f"ld.w.l d0, [a2]{4 * count}", "addsc.a a3, a2, d0, 2",
+        "mfcr d1, 0xFE00", "st.w.l [a3]0, d1", "addi d0, d0, 1", f"jne d0, {count}, .+8", "mov d0, 0", f"st.w.l [a2]{4 * count}, d0",
+        "addsc.a a3, a2, d0, 2", "ld.w.l d1, [a3]0", "mtcr 0xFE00, d1", "isync", "rslcx", "ret",
+    ]  # fmt: skip
+
+
+def byte_at(segments, x):
+    """The byte that a segment holds, or None."""
+    return next((held[x - at] for at, held in segments if at <= x < at + len(held)), None)
+
+
+def routine_fault(image, board, found):
+    """The first address at which the routine isn't there, or None."""
+    at, block, list_of_tasks = found
+    rom = in_one(board["rom"], at, 1)
+    for i, byte in enumerate(code(routine_lines(len(list_of_tasks), block))):
+        if rom is None or not in_one([rom], at + i, 1) or byte_at(image[1], at + i) != byte:
+            return (at + i) % WORDS
+    return None
+
+
+def view_image(image, found, u):
+    """The executable of a task's view."""
+    changes = {4: "mfcr d0, 0", 6: "mfcr d1, 0", 7: "nop", 11: "nop", 13: "mfcr d1, 0", 14: "nop"}
+    put_there = {found[0] + 4 * n + i: byte for n, line in changes.items() for i, byte in enumerate(code([line]))}
+    segments = [(at, bytes(put_there.get(at + i, byte) for i, byte in enumerate(held))) for at, held in image[1]]
+    return elf_bytes(found[2][u][0], segments)
+
+
+def view_plan(board, found, u):
+    """The plan of a task's view."""
+    left = ranges_without(board["ram"], found[1], 4 * len(found[2]) + 4)
+    devices = board["devices"] + [{**r, "lo": 0, "hi": WORDS - 1} for r in left]
+    start = {**board["start"], "ie": board["start"]["ie"] if u == 0 else 0}
+    return {**board, "ram": [], "devices": devices, "sp": found[2][u][1], "start": start}
+
+
+def boot_code(board, entry):
+    """The bytes of the boot sequence."""
+    areas, start = board["csa"], board["start"]
+    first = (areas["at"] >> 28) << 16 | (areas["at"] & 0xFFFFFFF) >> 6
+    core = lambda number, x: [f"movh d0, {high(x)}", f"addi d0, d0, {low(x)}", f"mtcr {number}, d0", "isync"]
+    addr = lambda r, x: [f"movh.a {r}, {high(x)}", f"lea.l {r}, [{r}]{low(x)}"]
+    lines = core(0xFE2C, start["ccpn"]) + core(0xFE00, 0) + core(0xFE38, first) + core(0xFE3C, first + areas["areas"] - areas["reserve"])
+    lines += core(0xFE20, board["biv"]) + core(0xFE24, board["btv"]) + core(0xFE28, board["isp"]) + core(0xFE04, 0xB7F if start["is"] else 0x97F)
+    lines += [f"movh d0, {high(first)}", f"addi d0, d0, {low(first)}", *addr("a2", areas["at"]), f"mov d1, {areas['areas'] - 1}", "mov.a a3, d1"]
+    lines += ["addi d0, d0, 1", "st.w [a2+]64, d0", "loop a3, .-8", "mov d1, 0", "st.w.l [a2]-64, d1"]
+    lines += [line for name, x in board["globals"].items() for line in addr(name, x)]
+    return code(lines + addr("a10", board["sp"]) + addr("a15", entry) + ["ji a15"])
+
+
+def boot_fault(image, board, at):
+    """What is against a boot sequence at an address, as it is printed, or None."""
+    if board["start"]["ie"]:
+        return "1"
+    if at % 2 or image[0] % 2:
+        return "2"
+    if not in_one(board["rom"], at, 224) or any(byte_at(image[1], at + i) is None for i in range(224)):
+        return "3"
+    wanted = boot_code(board, image[0])
+    return next((f"4 at {at + i:08X}" for i in range(224) if byte_at(image[1], at + i) != wanted[i]), None)

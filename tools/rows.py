@@ -7,6 +7,7 @@
 The tables: the rows as a definition (tc_isa/specs/Rows.antt), the fields that each row names (tc_isa/src/used.rt), the
 index by codes (tc_encode/src/index.rt), and the operands of each row (tc_stmt/src/table.rt). What a row does is written
 by hand, in tc_isa/specs/Shapes.antt and tc_isa/src/meanings.rt. The count of rows is changed where it stands as a number.
+Both say too which rows the table of operands in docs/formats.md lacks, or has and shouldn't: that one is written by hand.
 Nothing here is trusted: the checks of tc_isa, tc_encode and tc_stmt prove that each table is that of the rows.
 """
 import os
@@ -94,6 +95,14 @@ def replaced(text, name, new):
     return text[: found.start()] + new + text[found.end() :]
 
 
+def told():
+    """The rows of the table of operands in docs/formats.md: names and operands."""
+    text = read("../docs/formats.md")
+    lines = text[text.index("| Operands | Rows |") :].split("\n\n")[0].splitlines()[2:]
+    cells = [[cell.strip() for cell in line.split("|")[1:3]] for line in lines]
+    return [(name, "" if words == "none" else words.strip("`")) for words, names in cells for name in re.findall("`([^`]+)`", names)]
+
+
 def main():
     all_rows = rows()
     count, uses = len(all_rows), ["_".join(f.upper() for f in named(r)) or "NONE" for r in all_rows]
@@ -134,6 +143,7 @@ def main():
         for path in touched:
             with open(f"{CRATES}/{path}", "w", encoding="utf-8") as out:
                 out.write(old[path])
+    differ += [f"docs/formats.md: {name} {words}".strip() for name, words in sorted({r[:2] for r in all_rows} ^ set(told()))]
     print("\n".join(differ) or f"{count} rows: each table is theirs")
     return 1 if differ and "--check" in sys.argv else 0
 
