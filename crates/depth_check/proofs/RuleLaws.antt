@@ -88,7 +88,7 @@ module _ (image : ImageData) (plan : PlanData) (cert : CertData) (node : NodeDat
           };
     }
 
-    holds_from : (q : ℕ) → RuleHolds image plan cert node point q → DutiesHold cert node point.state (duties_of (limits_in plan cert) image plan node.key point.addr point.state shape size) q × (14 ≡ q → HasOwnNeed image plan node point)
+    pub holds_from : (q : ℕ) → RuleHolds image plan cert node point q → DutiesHold cert node point.state (duties_of (limits_in plan cert) image plan node.key point.addr point.state shape size) q × (14 ≡ q → HasOwnNeed image plan node point)
     holds_from q h = (
       All-from_contains (DutyHolds cert node point.state q) (duties_of (limits_in plan cert) image plan node.key point.addr point.state shape size)
           (λ d c. record {

@@ -1,4 +1,5 @@
 pub mod AnswerLaws
+pub mod Asking
 pub mod Finding
 pub mod FirstFaults
 pub mod Forms

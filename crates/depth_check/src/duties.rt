@@ -16,10 +16,11 @@ ghost use Rattle.cfg_recover.specs.Flows as flows;
 ghost use Rattle.cfg_recover.specs.Flows.{told_back, told_irqs};
 ghost use Rattle.depth_check.specs.Finding.{IsWellNode, Finds, DutiesHold, GoesOn, LeavingHolds};
 ghost use Rattle.depth_check.specs.Finding as finding;
+ghost use Rattle.depth_check.specs.Asking.{InterruptsHold};
 
 use crate::any_certs::AnyCert;
 use crate::covering::{comes_back, has_changed, has_exit};
-use crate::forms::Frame;
+use crate::forms::{Frame, Here};
 use crate::successors::broken_by_successors;
 use cfg_recover::{
     Leave, Located, aln_key, call_change, entered_key, handler_change, interrupts, irq_key,
@@ -262,19 +263,25 @@ fn broken_by_irqs(
     found
 }
 
-/// The least rule broken by the entries of the interrupts that may be taken.
+/// The least rule broken by the entries of the interrupts that may be taken; none, where what these depend on was asked for
+/// already.
 fn broken_by_interrupts(
     b: &Bounds,
     plan: &Plan,
     cert: &AnyCert<'_>,
     node: &Frame<'_>,
     s: &State,
+    again: bool,
 ) -> Option<u8>
     requires nodes { All IsWellNode cert.now.nodes }
     requires node { IsWellNode node.now }
     requires values { AreValues b.now s.now.regs }
+    requires again { IsTrue again → InterruptsHold plan.now cert.now node.now s.now }
     ensures { Finds (DutiesHold cert.now node.now s.now (interrupts_of plan.now node.now.key s.now)) result }
 {
+    if again {
+        return None;
+    }
     let irqs = interrupts(plan, s);
     if irqs.is_empty() {
         return None;
@@ -321,20 +328,22 @@ pub(crate) fn broken_by_duties(
     plan: &Plan,
     cert: &AnyCert<'_>,
     node: &Frame<'_>,
-    addr: u32,
-    s: &State,
+    point: Here<'_>,
     found: &Located,
 ) -> Option<u8>
     requires nodes { All IsWellNode cert.now.nodes }
     requires node { IsWellNode node.now }
-    requires values { AreValues b.now s.now.regs }
-    requires found { StandsFaultless b.now image.now plan.now node.now.key addr s.now found.now }
-    ensures { Finds (DutiesHold cert.now node.now s.now (duties_of b.now image.now plan.now node.now.key addr s.now found.now.shape found.now.size)) result }
+    requires values { AreValues b.now point.state.now.regs }
+    requires found { StandsFaultless b.now image.now plan.now node.now.key point.addr point.state.now found.now }
+    requires again { IsTrue point.again → InterruptsHold plan.now cert.now node.now point.state.now }
+    ensures { Finds (DutiesHold cert.now node.now point.entry.state.now (duties_of b.now image.now plan.now node.now.key point.entry.addr point.entry.state.now found.now.shape found.now.size)) result }
 {
+    let addr = point.addr;
+    let s = point.state;
     let jumps = broken_by_successors(b, image, plan, node, addr, s, found);
     let entered = broken_by_entries(b, plan, cert, node, addr, s, found.shape, found.size);
     let misaligned = broken_by_access(b, plan, cert, node, s, found.shape, &found.at);
-    let irqs = broken_by_interrupts(b, plan, cert, node, s);
+    let irqs = broken_by_interrupts(b, plan, cert, node, s, point.again);
     let leave = broken_by_leaving(node, s, leave_by(found.shape));
     least(least(least(least(jumps, entered), misaligned), irqs), leave)
 }

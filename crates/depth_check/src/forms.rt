@@ -6,11 +6,13 @@ use packed_cert::PackedNode;
 use std::marker::Model;
 use value_domain::State;
 
-/// The point at hand: its address, and the state before its instruction.
+/// The point at hand: its address, the state before its instruction, and whether the entries of interrupts were asked for
+/// already with what they depend on there.
 #[derive(Clone, Copy)]
 pub(crate) struct Here<'a> {
     pub(crate) addr: u32,
     pub(crate) state: &'a State,
+    pub(crate) again: bool,
 }
 
 /// Where the node lies.

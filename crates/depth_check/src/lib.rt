@@ -2,6 +2,7 @@
 #![tactic(auto)]
 
 mod any_certs;
+mod asked;
 mod checking;
 mod covering;
 mod duties;

@@ -6,6 +6,7 @@ ghost use Rattle.depth_check.specs.NodeFaults as nodes;
 ghost use Rattle.depth_check.specs.NodeFaults.{IsNodeFault};
 
 use crate::any_certs::AnyCert;
+use crate::asked::{Asked, is_asked};
 use crate::covering::are_values;
 use crate::forms::{Frame, Here, NodeForm};
 use crate::rules::broken_by_point;
@@ -95,6 +96,7 @@ fn plain_fault(
         let here = Here {
             addr: point.addr,
             state: &point.state,
+            again: false,
         };
         let found = broken_by_point(b, image, plan, cert, frame, here);
         if let Some(fault) = first_of(good, entry, point.addr, found) {
@@ -109,7 +111,8 @@ fn is_word(addr: u32)
     ensures { addr < 2 ^ 32 }
 {}
 
-/// The same of a node on bytes: behind each point the next one is tried first.
+/// The same of a node on bytes: behind each point the next one is tried first, and the entries of interrupts are asked for
+/// where they depend on something else than at the point before.
 fn packed_fault(
     b: &Bounds,
     image: &Image,
@@ -126,17 +129,24 @@ fn packed_fault(
     let good = packed_holds_at_entry(b, node);
     let mut walk = node.points();
     let mut next = 0usize;
+    let mut asked = None;
     while let Some(addr) = walk.step() {
         is_word(addr);
         next = next.wrapping_add(1);
         let frame = Frame::near(&*node, next);
+        let s = walk.state();
+        let again = is_asked(&asked, s);
         let here = Here {
             addr,
-            state: walk.state(),
+            state: s,
+            again,
         };
         let found = broken_by_point(b, image, plan, cert, &frame, here);
         if let Some(fault) = first_of(good, entry, addr, found) {
             return Some(fault);
+        }
+        if !again {
+            asked = Some(Asked::at(s));
         }
     }
     if good { None } else { Some(entry_fault(entry)) }

@@ -6,6 +6,7 @@ ghost use Rattle.cfg_recover.specs.Changes.{StandsFaultless};
 ghost use Rattle.cfg_recover.specs.Local.{IsLocalFault};
 ghost use Rattle.depth_check.specs.Finding.{IsWellNode, Finds, HasOwnNeed};
 ghost use Rattle.depth_check.specs.Forms.{point_here};
+ghost use Rattle.depth_check.specs.Asking.{InterruptsHold};
 
 use crate::any_certs::AnyCert;
 use crate::covering::are_values;
@@ -43,6 +44,7 @@ fn broken_by_located(
     requires nodes { All IsWellNode cert.now.nodes }
     requires node { IsWellNode node.now }
     requires values { AreValues b.now point.state.now.regs }
+    requires again { IsTrue point.again → InterruptsHold plan.now cert.now node.now point.state.now }
     requires fault { IfErr found (IsLocalFault b.now image.now plan.now node.now.key point.addr point.state.now) }
     requires duties { IfOk found (StandsFaultless b.now image.now plan.now node.now.key point.addr point.state.now) }
     ensures { Finds (RuleHolds image.now plan.now cert.now node.now (point_here point.entry)) result }
@@ -50,16 +52,7 @@ fn broken_by_located(
     match found {
         Err(rule) => Some(rule),
         Ok(found) => {
-            let duties = broken_by_duties(
-                b,
-                image,
-                plan,
-                cert,
-                node,
-                point.addr,
-                point.state,
-                &found,
-            );
+            let duties = broken_by_duties(b, image, plan, cert, node, point, &found);
             let need = unless(has_own_need(image, plan, node, point), 14);
             least(duties, need)
         }
@@ -78,6 +71,7 @@ pub(crate) fn broken_by_point(
     requires limits { b.now ≡ limits_in plan.now cert.now }
     requires nodes { All IsWellNode cert.now.nodes }
     requires node { IsWellNode node.now }
+    requires again { IsTrue point.again → InterruptsHold plan.now cert.now node.now point.state.now }
     ensures { Finds (RuleHolds image.now plan.now cert.now node.now (point_here point.entry)) result }
 {
     if !are_values(b, &point.state.regs) {

@@ -11,8 +11,8 @@ broken_by_leaving-leave-requires-clause-state c = values_well c.args.b.now _ c.r
 pub returns : goal.returns
 returns c =
     rw (c.least-4.ensures, c.least-3.ensures, c.least-2.ensures, c.least.ensures)
-    (parts_found c.args.b.now c.args.image.now c.args.plan.now c.args.cert.now c.args.node.now c.args.addr c.args.s.now c.args.found.now.shape c.args.found.now.size
+    (parts_found c.args.b.now c.args.image.now c.args.plan.now c.args.cert.now c.args.node.now c.args.point.addr c.args.point.state.now c.args.found.now.shape c.args.found.now.size
     c.broken_by_successors-jumps.result c.broken_by_entries-entered.result c.broken_by_access-misaligned.result c.broken_by_interrupts-irqs.result c.broken_by_leaving-leave.result
     (c.broken_by_successors-jumps.ensures c.args.cert.now) c.broken_by_entries-entered.ensures c.broken_by_access-misaligned.ensures c.broken_by_interrupts-irqs.ensures
-    (shape_found c.args.cert.now c.args.node.now c.args.s.now c.args.found.now.shape c.broken_by_leaving-leave.result
-    (subst (λ (l : Leave). Finds (LeavingHolds c.args.node.now c.args.s.now l) c.broken_by_leaving-leave.result) c.leave_by.ensures c.broken_by_leaving-leave.ensures)))
+    (shape_found c.args.cert.now c.args.node.now c.args.point.state.now c.args.found.now.shape c.broken_by_leaving-leave.result
+    (subst (λ (l : Leave). Finds (LeavingHolds c.args.node.now c.args.point.state.now l) c.broken_by_leaving-leave.result) c.leave_by.ensures c.broken_by_leaving-leave.ensures)))

@@ -1,16 +1,17 @@
-use Rattle.std.proofs.Common.{◌^◌, ◌<◌, ◌≡◌, ◌++◌, ◌∷◌, [], ◌∙◌, length, take, sym, ap, subst, refl, arith, List, ℕ}
+use Rattle.std.proofs.Common.{◌^◌, ◌<◌, ◌≡◌, ◌++◌, ◌∷◌, [], ◌∙◌, length, sym, ap, subst, refl, arith, List, ℕ}
 use Rattle.std.specs.Prelude.{IsTrue, ◌↔◌, All}
 use Rattle.std.proofs.lemmas.List.Elements.{All-push}
 use Rattle.std.proofs.lemmas.List.{append-nil}
 use Rattle.value_domain.specs.declared.states.State.{State}
 use Rattle.value_domain.specs.Limits.{Limits}
 use Rattle.depth_cert.specs.declared.points.Point.{Point}
-use Rattle.depth_cert.specs.Points.{ArePoints}
 use Rattle.depth_cert.specs.Nodes.{NodeData}
 use Rattle.cfg_recover.specs.Accepting.{HoldsAtEntry, RuleHolds}
 use Rattle.depth_check.specs.declared.nodes.Fault.{Fault}
 use Rattle.depth_check.specs.Finding.{Finds}
 use Rattle.depth_check.specs.NodeFaults.{IsNodeFault, first_of}
+use Rattle.depth_check.specs.Asking.{AsksSame}
+use Rattle.depth_check.proofs.AskedLaws.{interrupts_at, asked_same, again_holds}
 use Rattle.depth_check.proofs.Deciding.{refuted}
 use Rattle.depth_check.proofs.NodeLaws.{fault_at, none_at, entry_alone}
 use Rattle.depth_check.proofs.WalkLaws.{stands_behind, split_more}
@@ -24,7 +25,7 @@ returns-in-Some-first_of c =
     let split : points ≡ inv.done ++ (p ∷ c.step.new.self.left) = inv.split ∙ ap (λ (l : List Point). inv.done ++ l) c.in-Some.ensures in
     let b = stands_behind points inv.done c.step.new.self.left p split in
     let finds =
-    subst (λ (s : State). let q : Point = record { addr = c.in-Some.addr; state = s } in Finds (RuleHolds c.args.image.now c.args.plan.now c.args.cert.now c.args.node.now q) c.broken_by_point-found.result) c.state.ensures
+    subst (λ (s : State). let q : Point = record { addr = c.in-Some.addr; state = s } in Finds (RuleHolds c.args.image.now c.args.plan.now c.args.cert.now c.args.node.now q) c.broken_by_point-found.result) c.state-s.ensures
     (rw c.near-frame.ensures at c.broken_by_point-found.ensures)
     in
     fault_at c.args.image.now c.args.plan.now c.args.cert.now c.args.node.now c.requires.member points refl c.points-walk.ensures.rising (length inv.done) p c.packed_holds_at_entry-good.result c.broken_by_point-found.result c.in-Some-first_of.fault b.within b.here
@@ -34,13 +35,18 @@ returns-in-Some-first_of c =
     (subst (λ (l : Limits). IsTrue c.packed_holds_at_entry-good.result ↔ HoldsAtEntry l c.args.node.now) c.requires.limits c.packed_holds_at_entry-good.ensures)
     (ap (λ (n : NodeData). first_of c.packed_holds_at_entry-good.result (n.key).entry c.in-Some.addr c.broken_by_point-found.result) (sym c.node.view_is) ∙ sym c.first_of.ensures ∙ c.in-Some-first_of.is)
 
+pub broken_by_point-found-requires-clause-again : goal.broken_by_point-found-requires-clause-again
+broken_by_point-found-requires-clause-again c = λ again.
+    rw c.near-frame.ensures
+    (again_holds c.args.plan.now c.args.cert.now c.args.node.now c.loop-addr.asked c.state-s.result.now c.loop-addr.invariant.asked (c.is_asked-again.ensures again))
+
 pub loop-addr-preserved : goal.loop-addr-preserved
 loop-addr-preserved c =
     let inv = c.loop-addr.invariant in
     let points = c.args.node.now.points in
     let p : Point = record { addr = c.in-Some.addr; state = c.step.new.self.current } in
     let finds =
-    subst (λ (s : State). let q : Point = record { addr = c.in-Some.addr; state = s } in Finds (RuleHolds c.args.image.now c.args.plan.now c.args.cert.now c.args.node.now q) c.broken_by_point-found.result) c.state.ensures
+    subst (λ (s : State). let q : Point = record { addr = c.in-Some.addr; state = s } in Finds (RuleHolds c.args.image.now c.args.plan.now c.args.cert.now c.args.node.now q) c.broken_by_point-found.result) c.state-s.ensures
     (rw c.near-frame.ensures at c.broken_by_point-found.ensures)
     in
     let told = ap (λ (n : NodeData). first_of c.packed_holds_at_entry-good.result (n.key).entry c.in-Some.addr c.broken_by_point-found.result) (sym c.node.view_is) ∙ sym c.first_of.ensures ∙ c.in_default-first_of.is in
@@ -49,6 +55,28 @@ loop-addr-preserved c =
       done = inv.done ++ p ∷ [];
       split = split_more points inv.done c.loop-addr.walk.left c.step.new.self.left p inv.split c.in-Some.ensures;
       all = All-push (λ (q : Point). (r : ℕ) → RuleHolds c.args.image.now c.args.plan.now c.args.cert.now c.args.node.now q r) inv.done p inv.all holds;
+      asked = inv.asked;
+    }
+
+pub loop-addr-preserved-then-not-again : goal.loop-addr-preserved-then-not-again
+loop-addr-preserved-then-not-again c =
+    let inv = c.loop-addr.invariant in
+    let points = c.args.node.now.points in
+    let p : Point = record { addr = c.in-Some.addr; state = c.step.new.self.current } in
+    let finds =
+    subst (λ (s : State). let q : Point = record { addr = c.in-Some.addr; state = s } in Finds (RuleHolds c.args.image.now c.args.plan.now c.args.cert.now c.args.node.now q) c.broken_by_point-found.result) c.state-s.ensures
+    (rw c.near-frame.ensures at c.broken_by_point-found.ensures)
+    in
+    let told = ap (λ (n : NodeData). first_of c.packed_holds_at_entry-good.result (n.key).entry c.in-Some.addr c.broken_by_point-found.result) (sym c.node.view_is) ∙ sym c.first_of.ensures ∙ c.in_default-first_of.is in
+    let holds = none_at c.args.image.now c.args.plan.now c.args.cert.now c.args.node.now c.requires.member points refl c.points-walk.ensures.rising p c.packed_holds_at_entry-good.result c.broken_by_point-found.result told finds in
+    record {
+      done = inv.done ++ p ∷ [];
+      split = split_more points inv.done c.loop-addr.walk.left c.step.new.self.left p inv.split c.in-Some.ensures;
+      all = All-push (λ (q : Point). (r : ℕ) → RuleHolds c.args.image.now c.args.plan.now c.args.cert.now c.args.node.now q r) inv.done p inv.all holds;
+      asked = λ (t : State) same.
+          asked_same c.args.plan.now c.args.cert.now c.args.node.now c.at.result c.step.new.self.current t
+          (subst (λ (s : State). AsksSame c.at.result s) c.state-s.ensures c.at.ensures) same
+          (interrupts_at c.args.image.now c.args.plan.now c.args.cert.now c.args.node.now p holds);
     }
 
 pub returns-else-good : goal.returns-else-good
