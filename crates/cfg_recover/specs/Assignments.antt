@@ -9,7 +9,7 @@ use Rattle.value_domain.specs.Limits.{Limits}
 use Rattle.value_domain.specs.State.{Covers, joined, joined_regs}
 use Rattle.depth_cert.specs.declared.keys.Key.{Key}
 use Rattle.depth_cert.specs.declared.points.Exit.{Exit}
-use Rattle.depth_cert.specs.Keys.{byte_of}
+use Rattle.depth_cert.specs.Keys.{same_key}
 use Rattle.depth_cert.specs.Points.{find_point}
 use Rattle.depth_cert.specs.Nodes.{NodeData}
 use Rattle.depth_cert.specs.Certs.{CertData}
@@ -32,10 +32,6 @@ pub data Known : Type 0 where
 -- what is known at each place where anything is
 abbrev pub Assignment : Type 0
 Assignment = Place → Option Known
-
--- one key
-abbrev pub same_key : Key → Key → Bool
-same_key k j = k.kind == j.kind && k.entry == j.entry && k.prio == j.prio && byte_of k.is == byte_of j.is
 
 -- one place
 abbrev pub same_place : Place → Place → Bool

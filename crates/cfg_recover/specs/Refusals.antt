@@ -8,11 +8,11 @@ use Rattle.value_domain.specs.Limits.{Limits}
 use Rattle.value_domain.specs.State.{joined}
 use Rattle.value_domain.specs.Thresholds.{limits_for}
 use Rattle.depth_cert.specs.declared.keys.Key.{Key}
-use Rattle.depth_cert.specs.Keys.{number_of_key}
+use Rattle.depth_cert.specs.Keys.{number_of_key, same_key}
 use Rattle.cfg_recover.specs.Entries.{start_key}
 use Rattle.cfg_recover.specs.Local.{IsLocalFault}
 use Rattle.cfg_recover.specs.Duties.{enter}
-use Rattle.cfg_recover.specs.Assignments.{Place, point, exit, state, Assignment, same_key, same_place, Asks, HasDuty, Joins, Derived, Closed}
+use Rattle.cfg_recover.specs.Assignments.{Place, point, exit, state, Assignment, same_place, Asks, HasDuty, Joins, Derived, Closed}
 
 -- ---- limits
 -- more than 2,048 frames have places

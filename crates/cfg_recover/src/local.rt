@@ -19,7 +19,7 @@ use elf_image::Image;
 use tc_isa::{Inst, Shape, shape};
 use tcd_plan::Plan;
 use value_domain::{Bounds, State, Val};
-use vd_transfer::address;
+use vd_transfer::address_by;
 
 /// What stands at a point: the shape of its instruction, that one's size in bytes, and the addresses of its access.
 #[derive(Drop)]
@@ -45,15 +45,15 @@ pub fn local_check(
     let Some(found) = code_at(image, plan, addr) else {
         return Err(3);
     };
-    let at = address(b, plan, &found.0, s);
     let shape = shape(&found.0);
-    match first_fault(b, plan, key, s, shape, &at) {
+    let located = Located {
+        shape,
+        size: found.1,
+        at: address_by(b, plan, shape, s),
+    };
+    match first_fault(b, plan, key, s, shape, &located.at) {
         Some(rule) => Err(rule),
-        None => Ok(Located {
-            shape,
-            size: found.1,
-            at,
-        }),
+        None => Ok(located),
     }
 }
 
@@ -85,8 +85,9 @@ pub(crate) fn local_fault(b: &Bounds, plan: &Plan, key: &Key, s: &State, inst: &
     requires { AreValues b.now s.now.regs }
     ensures { (p : ℕ) → IsLeastBroken b.now plan.now key.now p s.now (shape_of inst.now) result }
 {
-    let at = address(b, plan, inst, s);
-    first_fault(b, plan, key, s, shape(inst), &at)
+    let shape = shape(inst);
+    let at = address_by(b, plan, shape, s);
+    first_fault(b, plan, key, s, shape, &at)
 }
 
 /// Tries the rules in their order, for an instruction of this shape whose access is at these addresses.

@@ -1,5 +1,5 @@
 -- Keys and their order.
-use Rattle.std.specs.Prelude.{◌≤◌, ◌<◌, ◌+◌, ◌*◌, ◌^◌, ℕ, Bool, true, false}
+use Rattle.std.specs.Prelude.{◌≤◌, ◌<◌, ◌+◌, ◌*◌, ◌^◌, ◌==◌, ◌&&◌, ℕ, Bool, true, false}
 use Rattle.depth_cert.specs.declared.keys.Key.{Key}
 
 -- a truth value as a byte
@@ -14,6 +14,10 @@ key_number kind entry prio is = ((kind * 2 ^ 32 + entry) * 2 ^ 8 + prio) * 2 ^ 8
 -- the number of a key, by which keys are ordered
 abbrev pub number_of_key : Key → ℕ
 number_of_key k = key_number k.kind k.entry k.prio (byte_of k.is)
+
+-- one key
+abbrev pub same_key : Key → Key → Bool
+same_key k j = k.kind == j.kind && k.entry == j.entry && k.prio == j.prio && byte_of k.is == byte_of j.is
 
 -- the kinds are start, call, irq, sys and aln
 pub record IsKey (k : Key) : Type 0 where

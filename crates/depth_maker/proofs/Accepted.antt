@@ -10,7 +10,7 @@ use Rattle.value_domain.specs.State.{Covers, AreValues}
 use Rattle.depth_cert.specs.declared.keys.Key.{Key}
 use Rattle.depth_cert.specs.declared.points.Exit.{Exit}
 use Rattle.depth_cert.specs.declared.points.Point.{Point}
-use Rattle.depth_cert.specs.Keys.{byte_of, key_number, number_of_key, IsKey}
+use Rattle.depth_cert.specs.Keys.{byte_of, key_number, number_of_key, IsKey, same_key}
 use Rattle.depth_cert.specs.Points.{find_point, IsPoint, IsExit}
 use Rattle.depth_cert.specs.Nodes.{NodeData, IsNode}
 use Rattle.depth_cert.specs.Certs.{CertData, IsCert, find_node}
@@ -19,7 +19,7 @@ use Rattle.cfg_recover.specs.Entries.{start_key, start_state, after_of}
 use Rattle.cfg_recover.specs.Local.{LocalHolds, IsFaultless}
 use Rattle.cfg_recover.specs.Duties.{Duty, jump, enter, resume, leave, Owed, duties_of}
 use Rattle.cfg_recover.specs.Accepting.{limits_in, HasPoint, ExitCovers, IsMet, IsNeedAbove, HasNeed, RuleHolds, HoldsAtStart, HoldsAtNode, Accepts, need_of}
-use Rattle.cfg_recover.specs.Assignments.{Place, point, exit, Known, state, leaving, Assignment, same_key, known_at, known_in, CoversAt, asked, HasDuty, Asks, Closed, first_place}
+use Rattle.cfg_recover.specs.Assignments.{Place, point, exit, Known, state, leaving, Assignment, known_at, known_in, CoversAt, asked, HasDuty, Asks, Closed, first_place}
 use Rattle.cfg_recover.specs.Refusals.{Enters, MeetsNeeds}
 use Rattle.cfg_recover.proofs.CodeLaws.{IsCode-bounded}
 use Rattle.depth_maker.specs.Growth.{IsProper, IsProperExit, IsGround}

@@ -13,7 +13,7 @@ use Rattle.value_domain.proofs.WordLaws.{rising_from}
 use Rattle.depth_cert.specs.declared.keys.Key.{Key}
 use Rattle.depth_cert.specs.declared.points.Exit.{Exit}
 use Rattle.depth_cert.specs.declared.points.Point.{Point}
-use Rattle.depth_cert.specs.Keys.{number_of_key, IsKey}
+use Rattle.depth_cert.specs.Keys.{number_of_key, IsKey, same_key}
 use Rattle.depth_cert.specs.Points.{find_point}
 use Rattle.depth_cert.specs.Nodes.{NodeData, IsNode}
 use Rattle.depth_cert.specs.Certs.{CertData, IsCert, find_node}
@@ -22,7 +22,7 @@ use Rattle.cfg_recover.specs.Entries.{start_key, start_state, after_of}
 use Rattle.cfg_recover.specs.Local.{IsFaultless}
 use Rattle.cfg_recover.specs.Duties.{Duty, jump, enter, resume, leave, Owed, duties_of}
 use Rattle.cfg_recover.specs.Accepting.{limits_in, HasPoint, ExitCovers, IsMet, IsNeedAbove, HasNeed, RuleHolds, HoldsAtStart, HoldsAtEntry, HoldsAtNode, Accepts, need_of}
-use Rattle.cfg_recover.specs.Assignments.{Place, point, exit, Known, state, leaving, same_key, known_at, known_in, CoversKnown, CoversAt, asked, resumed, HasDuty, Asks}
+use Rattle.cfg_recover.specs.Assignments.{Place, point, exit, Known, state, leaving, known_at, known_in, CoversKnown, CoversAt, asked, resumed, HasDuty, Asks}
 use Rattle.cfg_recover.proofs.CodeLaws.{IsCode-bounded}
 use Rattle.depth_maker.specs.Growth.{IsProper, IsGround}
 use Rattle.depth_maker.specs.Proper.{AllProper, AllFaultless}

@@ -21,13 +21,13 @@ use Rattle.value_domain.specs.State.{AreValues}
 use Rattle.value_domain.proofs.RangeLaws.{span_count, set_value}
 use Rattle.depth_cert.specs.declared.keys.Key.{Key}
 use Rattle.depth_cert.specs.declared.points.Point as located
-use Rattle.depth_cert.specs.Keys.{IsKey, number_of_key}
+use Rattle.depth_cert.specs.Keys.{IsKey, number_of_key, same_key}
 use Rattle.depth_cert.specs.Points.{IsWellOf, IsState, IsPoint, IsExit, ArePoints, find_point}
 use Rattle.depth_cert.specs.Nodes.{NodeData, IsNode}
 use Rattle.depth_cert.specs.Certs.{CertData, IsCert, key_numbers, count_points}
 use Rattle.cfg_recover.specs.Entries.{start_key}
 use Rattle.cfg_recover.specs.Accepting.{need_of}
-use Rattle.cfg_recover.specs.Assignments.{Place, point, exit, Known, state, leaving, Assignment, same_key, same_place, frame_of, known_at, known_in, Closed, Derived}
+use Rattle.cfg_recover.specs.Assignments.{Place, point, exit, Known, state, leaving, Assignment, same_place, frame_of, known_at, known_in, Closed, Derived}
 use Rattle.cfg_recover.specs.Refusals.{AreLeastNeeds, MeetsNeeds}
 use Rattle.cfg_recover.proofs.Members.{contains_map}
 use Rattle.depth_maker.specs.Counts.{AreCounted, AreFew}

@@ -9,7 +9,8 @@ use Rattle.depth_cert.specs.Nodes.{NodeData}
 use Rattle.depth_cert.specs.Certs.{CertData, IsCert}
 use Rattle.cfg_recover.specs.Entries.{start_key}
 use Rattle.cfg_recover.specs.Accepting.{Accepts, need_of}
-use Rattle.cfg_recover.specs.Assignments.{Derived, Closed, IsBelowAt, known_in, same_key}
+use Rattle.depth_cert.specs.Keys.{same_key}
+use Rattle.cfg_recover.specs.Assignments.{Derived, Closed, IsBelowAt, known_in}
 use Rattle.cfg_recover.specs.Refusals.{AreLeastNeeds, IsLeast, IsRefusal, IsTooLarge}
 use Rattle.depth_maker.specs.Growth.{IsGround}
 use Rattle.depth_maker.specs.Proper.{AllFaultless}

@@ -9,11 +9,11 @@ use Rattle.value_domain.specs.Thresholds.{limits_for}
 use Rattle.depth_cert.specs.declared.keys.Key.{Key}
 use Rattle.depth_cert.specs.declared.points.Exit as exits
 use Rattle.depth_cert.specs.declared.points.Point as points
-use Rattle.depth_cert.specs.Keys.{IsKey}
+use Rattle.depth_cert.specs.Keys.{IsKey, same_key}
 use Rattle.depth_cert.specs.Nodes.{NodeData}
 use Rattle.depth_cert.specs.Certs.{CertData}
 use Rattle.depth_cert.specs.Spelling.{bytes_of, bytes_of_exit, bytes_of_node, bytes_of_point}
-use Rattle.cfg_recover.specs.Assignments.{Place, point, exit, Known, state, leaving, Assignment, same_key}
+use Rattle.cfg_recover.specs.Assignments.{Place, point, exit, Known, state, leaving, Assignment}
 use Rattle.cfg_recover.specs.Refusals.{AreLeastNeeds, point_number}
 use Rattle.depth_maker.specs.Making.{IsWritten}
 use Rattle.depth_maker.specs.RowsAt.{need_by}

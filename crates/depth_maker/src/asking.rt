@@ -77,8 +77,15 @@ pub(crate) fn pay_leave(alloc: Global, table: &mut Table, v: &Visit) -> Result<(
     raise(alloc, v.ground, table, Spot::Exit(v.key), &asked)
 }
 
-/// Where a frame of this key has an exit, the point's frame goes on at `back`.
-fn pay_back(alloc: Global, table: &mut Table, v: &Visit, key: Key, back: u32) -> Result<(), Refusal>
+/// The same where there is an exit; by itself, as it has room for a whole exit.
+#[inline(never)]
+fn pay_after(
+    alloc: Global,
+    table: &mut Table,
+    v: &Visit,
+    key: Key,
+    back: u32,
+) -> Result<(), Refusal>
     requires visited { VisitedBy v.now table.old }
     requires told { Reads (get spot_eq table.old.readers (Exit key)) (Point v.now.key v.now.addr) }
     requires owes { OwesDuty v.now (resume key back) }
@@ -95,6 +102,20 @@ fn pay_back(alloc: Global, table: &mut Table, v: &Visit, key: Key, back: u32) ->
     cell.read_exit(v.ground.bounds, &mut exit);
     let asked = Asked::After(v.state, &exit, key.kind);
     raise(alloc, v.ground, table, Spot::Point(v.key, back), &asked)
+}
+
+/// Where a frame of this key has an exit, the point's frame goes on at `back`.
+fn pay_back(alloc: Global, table: &mut Table, v: &Visit, key: Key, back: u32) -> Result<(), Refusal>
+    requires visited { VisitedBy v.now table.old }
+    requires told { Reads (get spot_eq table.old.readers (Exit key)) (Point v.now.key v.now.addr) }
+    requires owes { OwesDuty v.now (resume key back) }
+    ensures ok { OnOk result (PaidBy v.now table.old table.new (owed 4 (resume key back) ∷ [])) }
+    ensures err { IfErr result (AnsweredOn v.now.ground.now) }
+{
+    if !table.cells.contains_key(&Spot::Exit(key)) {
+        return Ok(());
+    }
+    pay_after(alloc, table, v, key, back)
 }
 
 /// The point is told of the exit of the frame that it enters, and goes on at `back` where there is one.

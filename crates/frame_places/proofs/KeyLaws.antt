@@ -2,8 +2,7 @@
 use Rattle.std.proofs.Common.{◌≡◌, Bool, true, false, refl, ◌&&◌, eqb}
 use Rattle.std.proofs.lemmas.Bool.{and_parts, eqb-true, eq-eqb}
 use Rattle.depth_cert.specs.declared.keys.Key.{Key}
-use Rattle.depth_cert.specs.Keys.{byte_of}
-use Rattle.frame_places.specs.Spots.{one_key}
+use Rattle.depth_cert.specs.Keys.{byte_of, same_key}
 
 same_flag : (a b : Bool) → eqb (byte_of a) (byte_of b) ≡ true → a ≡ b
 same_flag false false e = refl
@@ -16,7 +15,7 @@ flag_same false = refl
 flag_same true = refl
 
 -- keys that are told to be one are
-pub key_tells : (k j : Key) → one_key k j ≡ true → k ≡ j
+pub key_tells : (k j : Key) → same_key k j ≡ true → k ≡ j
 key_tells k j e =
     let h = and_parts (eqb k.kind j.kind && eqb k.entry j.entry && eqb k.prio j.prio) (eqb (byte_of k.is) (byte_of j.is)) e in
     let g = and_parts (eqb k.kind j.kind && eqb k.entry j.entry) (eqb k.prio j.prio) h.0 in
@@ -27,5 +26,5 @@ key_tells k j e =
     let is : k.is ≡ j.is = same_flag k.is j.is h.1 in
     λ i. record { kind = kind i; entry = entry i; prio = prio i; is = is i }
 
-pub key_same : (k : Key) → one_key k k ≡ true
+pub key_same : (k : Key) → same_key k k ≡ true
 key_same k = rw (eq-eqb k.kind k.kind refl, eq-eqb k.entry k.entry refl, eq-eqb k.prio k.prio refl, flag_same k.is) refl

@@ -1,42 +1,12 @@
 -- Places that are one.
-use Rattle.std.specs.Prelude.{◌≡◌, ℕ, Bool, refl, true, false, ◌&&◌, nat_eq}
-use Rattle.std.proofs.Common.{ap}
+use Rattle.std.specs.Prelude.{◌≡◌, Bool, refl, true, false, ◌&&◌, nat_eq}
 use Rattle.std.proofs.Math.Bool.{beq}
-use Rattle.std.proofs.lemmas.Bool.{eqb-true, eq-eqb}
+use Rattle.std.proofs.lemmas.Bool.{eq-eqb}
 use Rattle.depth_cert.specs.declared.keys.Key.{Key}
 use Rattle.frame_places.specs.declared.places.Spot.{Spot}
 use Rattle.frame_places.specs.declared.places.Spot.TheVariants.{Point, Exit}
 use Rattle.frame_places.specs.Spots.{spot_eq}
-
-both : (a b : Bool) → (a && b) ≡ true → (a ≡ true) × (b ≡ true)
-both true b e = (refl, e)
-both false b e = cc
-
-numbers : (a b : ℕ) → nat_eq a b ≡ true → a ≡ b
-numbers a b e = eqb-true a b e
-
-flags : (a b : Bool) → beq a b ≡ true → a ≡ b
-flags true true e = refl
-flags false false e = refl
-flags true false e = cc
-flags false true e = cc
-
-pub keys_tell : (f g : Key) → (nat_eq f.kind g.kind && (nat_eq f.entry g.entry && (nat_eq f.prio g.prio && beq f.is g.is))) ≡ true → f ≡ g
-keys_tell f g e =
-    let a = both _ _ e in
-    let b = both _ _ a.1 in
-    let c = both _ _ b.1 in
-    let kind = numbers f.kind g.kind a.0 in
-    let entry = numbers f.entry g.entry b.0 in
-    let prio = numbers f.prio g.prio c.0 in
-    let is = flags f.is g.is c.1 in
-    λ i. record { kind = kind i; entry = entry i; prio = prio i; is = is i }
-
-pub spot_tells : (x y : Spot) → spot_eq x y ≡ true → x ≡ y
-spot_tells (Point f p) (Point g q) e = let h = both _ _ e in let same = keys_tell f g h.0 in let addr = numbers p q h.1 in λ i. Point (same i) (addr i)
-spot_tells (Point f p) (Exit g) e = cc
-spot_tells (Exit f) (Point g q) e = cc
-spot_tells (Exit f) (Exit g) e = ap Exit (keys_tell f g e)
+pub use Rattle.frame_places.specs.Hashed.{keys_tell, spot_tells}
 
 flag_same : (a : Bool) → beq a a ≡ true
 flag_same true = refl

@@ -1,5 +1,6 @@
 -- Places of frames in a table.
 pub mod Spots
+pub mod Hashed
 pub mod Marks
 pub mod Numbers
 pub mod Counting

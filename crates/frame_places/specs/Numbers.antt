@@ -3,7 +3,7 @@ use Rattle.std.specs.Prelude.{◌≡◌, ◌+◌, ℕ, Bool, List, [], ◌∷◌
 use Rattle.indexmap.specs.IndexMap.{IndexMap, get}
 use Rattle.depth_cert.specs.declared.keys.Key.{Key}
 use Rattle.depth_cert.specs.contracts.keys.KeyPartialEq.TheImpl as block
-use Rattle.frame_places.specs.Spots.{one_key}
+use Rattle.depth_cert.specs.Keys.{same_key}
 
 -- one key, as maps compare them
 abbrev pub key_eq : Key → Key → Bool
@@ -12,7 +12,7 @@ key_eq = (block.ghosts).eq
 -- the place of the first frame of this key; the length of the list where there is none
 abbrev pub number_in : List Key → Key → ℕ
 number_in [] k = 0
-number_in (j ∷ js) k = if one_key j k then 0 else number_in js k + 1
+number_in (j ∷ js) k = if same_key j k then 0 else number_in js k + 1
 
 -- the map has the numbers of these frames
 pub record AreNumbers {S : Type 0} (numbers : IndexMap Key ℕ S) (frames : List Key) (known : List Key) : Type 0 where

@@ -1,14 +1,10 @@
 -- Places of frames: which are the same, and how they are ordered.
-use Rattle.std.specs.Prelude.{◌≡◌, ◌<◌, ◌==◌, ◌&&◌, ◌+◌, ◌*◌, ◌^◌, ℕ, Bool, false, List, Option, Some, None, Contains}
+use Rattle.std.specs.Prelude.{◌≡◌, ◌<◌, ◌+◌, ◌*◌, ◌^◌, ℕ, Bool, false, List, Option, Some, None, Contains}
 use Rattle.depth_cert.specs.declared.keys.Key.{Key}
-use Rattle.depth_cert.specs.Keys.{IsKey, byte_of, number_of_key}
+use Rattle.depth_cert.specs.Keys.{IsKey, number_of_key, same_key}
 use Rattle.frame_places.specs.contracts.places.SpotPartialEq.TheImpl as block
 use Rattle.frame_places.specs.declared.places.Spot.{Spot}
 use Rattle.frame_places.specs.declared.places.Spot.TheVariants.{Point, Exit}
-
--- one key
-abbrev pub one_key : Key → Key → Bool
-one_key k j = k.kind == j.kind && k.entry == j.entry && k.prio == j.prio && byte_of k.is == byte_of j.is
 
 -- one place
 abbrev pub spot_eq : Spot → Spot → Bool
@@ -26,7 +22,7 @@ spot_address (Exit k) = 0
 
 -- a point of frame k
 abbrev pub is_point_of : Key → Spot → Bool
-is_point_of k (Point j p) = one_key j k
+is_point_of k (Point j p) = same_key j k
 is_point_of k (Exit j) = false
 
 -- points that a certificate may have

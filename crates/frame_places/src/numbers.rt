@@ -1,7 +1,7 @@
 // Frames by numbers: their places in the list of frames.
 ghost use Rattle.std.specs.Prelude.{◌≡◌, ℕ, List, Contains, IfOk, map, All};
 ghost use Rattle.std.specs.List.{IsDistinct};
-ghost use Rattle.frame_places.specs.Spots.{one_key};
+ghost use Rattle.depth_cert.specs.Keys.{same_key};
 ghost use Rattle.depth_cert.specs.declared.keys.Key as keys;
 ghost use Rattle.frame_places.specs.Numbers.{AreNumbers, number_in};
 
@@ -14,7 +14,7 @@ pub fn numbered(
     alloc: Global,
     frames: &[Key],
 ) -> Result<IndexMap<Key, usize>, AllocFailed<(Key, usize)>>
-    requires { IsDistinct one_key frames.now }
+    requires { IsDistinct same_key frames.now }
     ensures { IfOk result (λ numbers. AreNumbers numbers frames.now frames.now) }
 {
     let mut numbers = IndexMap::new(alloc);

@@ -9,9 +9,10 @@ use std::alloc::{AllocError, Global};
 use std::marker::Model;
 use value_domain::{Bounds, Val, Words, alignment_log2, join, leq};
 
-/// One word, more words, or a range.
+/// All words, one word, more words, or another range.
 #[derive(Drop)]
 pub(crate) enum Form {
+    Any,
     One(u32),
     Many(Box<Words>),
     Range { lo: u32, last: u32, step: u8 },
@@ -86,6 +87,16 @@ fn only_word(v: &Val) -> Option<u32>
     }
 }
 
+/// A range in the form in which it is kept: all words have one of their own, which is told at once.
+fn form_of(lo: u32, last: u32, step: u8) -> Form
+    ensures { val_of result ≡ Span lo last step }
+{
+    if lo == 0 && last == u32::MAX && step == 0 {
+        return Form::Any;
+    }
+    Form::Range { lo, last, step }
+}
+
 // What needs room for a whole value stands in functions of its own, so that the others have no such room to fill.
 impl Small {
     /// A copy of words.
@@ -116,11 +127,7 @@ impl Small {
         match v {
             Val::Set(words) => Small::of_words(alloc, words),
             Val::Span { lo, last, step } => {
-                let form = Form::Range {
-                    lo: *lo,
-                    last: *last,
-                    step: *step,
-                };
+                let form = form_of(*lo, *last, *step);
                 Ok(Small { form })
             }
         }
@@ -132,6 +139,7 @@ impl Small {
         ensures { result ≡ self.now }
     {
         match &self.form {
+            Form::Any => Val::any(),
             Form::One(x) => Val::one(*x),
             Form::Many(words) => Val::Set(words.copy()),
             Form::Range { lo, last, step } => Val::Span {
@@ -147,6 +155,7 @@ impl Small {
         ensures { IsTrue result ↔ (self.now ≡ any_val) }
     {
         match &self.form {
+            Form::Any => true,
             Form::One(_) => false,
             Form::Many(_) => false,
             Form::Range { lo, last, step } => *lo == 0 && *last == u32::MAX && *step == 0,
@@ -158,6 +167,7 @@ impl Small {
         ensures { IsTrue result → v.now ≡ self.now }
     {
         match &self.form {
+            Form::Any => is_the_range(v, 0, u32::MAX, 0),
             Form::One(x) => is_the_word(v, *x),
             Form::Many(words) => are_the_words(v, words),
             Form::Range { lo, last, step } => is_the_range(v, *lo, *last, *step),
@@ -186,6 +196,7 @@ impl Small {
         ensures { IsTrue result ↔ IsMember x self.now }
     {
         match &self.form {
+            Form::Any => true,
             Form::One(own) => x == *own,
             Form::Many(words) => words.as_slice().contains(&x),
             Form::Range { lo, last, step } => {

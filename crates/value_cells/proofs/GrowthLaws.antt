@@ -26,14 +26,14 @@ use Rattle.vd_transfer.proofs.HoldLaws.{arg_value}
 use Rattle.vd_transfer.proofs.OpLaws.{monotone}
 use Rattle.depth_cert.specs.declared.keys.Key.{Key}
 use Rattle.depth_cert.specs.declared.points.Point.{Point}
-use Rattle.depth_cert.specs.Keys.{byte_of, number_of_key}
+use Rattle.depth_cert.specs.Keys.{byte_of, number_of_key, same_key}
 use Rattle.depth_cert.specs.Points.{find_point, IsPoint}
 use Rattle.depth_cert.specs.Nodes.{NodeData, IsNode}
 use Rattle.depth_cert.specs.Certs.{CertData, IsCert}
 use Rattle.depth_cert.proofs.KeyLaws.{found_in}
 use Rattle.cfg_recover.specs.Code.{IsCode}
 use Rattle.cfg_recover.specs.Accepting.{limits_in, Accepts}
-use Rattle.cfg_recover.specs.Assignments.{Known, state, leaving, point, same_key, known_at, known_in, CoversKnown, IsBelowAt}
+use Rattle.cfg_recover.specs.Assignments.{Known, state, leaving, point, known_at, known_in, CoversKnown, IsBelowAt}
 use Rattle.cfg_recover.proofs.CodeLaws.{IsCode-bounded}
 use Rattle.cfg_recover.proofs.PointLaws.{limits_are}
 use Rattle.value_cells.specs.declared.cells.Cell.{Cell}

@@ -17,6 +17,8 @@ use tc_isa::{Arg, Op, Shape};
 use tcd_plan::Plan;
 use value_domain::{Bounds, State, Val};
 
+// What makes values stands in functions of its own, so that `change_of` has none to fill where nothing is computed.
+
 fn same(b: &Bounds, s: &State) -> Change
     requires { AreValues b.now s.now.regs }
     ensures same { changed s.now result ≡ s.now }
@@ -26,6 +28,7 @@ fn same(b: &Bounds, s: &State) -> Change
     unchanged(s)
 }
 
+#[inline(never)]
 fn computed(b: &Bounds, plan: &Plan, s: &State, op: Op, dst: u8, x: Arg, y: Arg) -> Change
     requires operands { IsArg x × IsArg y }
     requires values { AreValues b.now s.now.regs }
@@ -38,6 +41,7 @@ fn computed(b: &Bounds, plan: &Plan, s: &State, op: Op, dst: u8, x: Arg, y: Arg)
     written(b, s, dst, v)
 }
 
+#[inline(never)]
 fn scaled(b: &Bounds, plan: &Plan, s: &State, dst: u8, base: u8, index: u8, n: u8) -> Change
     requires registers { (base < 32) × (index < 32) }
     requires values { AreValues b.now s.now.regs }
@@ -58,6 +62,7 @@ fn scaled(b: &Bounds, plan: &Plan, s: &State, dst: u8, base: u8, index: u8, n: u
 }
 
 /// Increases the base register by the offset, where the access says so.
+#[inline(never)]
 fn increased(b: &Bounds, plan: &Plan, s: &State, base: Arg, offset: u32, after: bool) -> Change
     requires base { IsArg base }
     requires values { AreValues b.now s.now.regs }
@@ -77,6 +82,7 @@ fn increased(b: &Bounds, plan: &Plan, s: &State, base: Arg, offset: u32, after: 
     }
 }
 
+#[inline(never)]
 fn loaded_into(
     b: &Bounds,
     plan: &Plan,

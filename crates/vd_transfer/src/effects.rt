@@ -12,7 +12,8 @@ use tc_isa::{Arg, Op};
 use tcd_plan::Plan;
 use value_domain::{Bounds, State, Val};
 
-/// The address of an access.
+/// The address of an access; by itself, so that its caller has no values to fill where there is no access.
+#[inline(never)]
 pub(crate) fn access(b: &Bounds, plan: &Plan, s: &State, base: Arg, offset: u32, after: bool) -> Val
     requires base { IsArg base }
     requires values { AreValues b.now s.now.regs }

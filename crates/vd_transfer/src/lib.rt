@@ -22,4 +22,4 @@ pub use comparing::{changed_state, changed_value, covers_changed};
 pub use laws::{effect_laws, operation_laws, refinement_laws};
 pub use narrowing::change_on;
 pub use registers::reg;
-pub use transferring::{address, transfer};
+pub use transferring::{address, address_by, transfer};

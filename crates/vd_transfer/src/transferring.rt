@@ -34,8 +34,9 @@ pub fn address(b: &Bounds, plan: &Plan, inst: &Inst, s: &State) -> Val
     address_by(b, plan, shape(inst), s)
 }
 
+/// The addresses of an access of this shape.
 #[tactic(auto, unfolding(crate::specs::Effects::address_of))]
-fn address_by(b: &Bounds, plan: &Plan, shape: Shape, s: &State) -> Val
+pub fn address_by(b: &Bounds, plan: &Plan, shape: Shape, s: &State) -> Val
     requires shape { IsShape shape }
     requires values { AreValues b.now s.now.regs }
     ensures address { result ≡ address_of b.now plan.now shape s.now }

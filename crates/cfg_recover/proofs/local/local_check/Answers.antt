@@ -1,12 +1,8 @@
-use Rattle.std.proofs.Common.{subst, sym, ap, ◌∙◌}
+use Rattle.std.proofs.Common.{subst, sym}
 use Rattle.tc_isa.specs.declared.shapes.Shape.{Shape}
-use Rattle.vd_transfer.specs.Effects.{address_of}
 use Rattle.cfg_recover.specs.Code.{IsCode}
 use Rattle.cfg_recover.proofs.LocalLaws.{IsLocalFault-broken, LocalHolds-found}
 use Rattle.cfg_recover.proofs.local.local_check.Goals as goal
-
-pub first_fault-requires-clause-address : goal.first_fault-requires-clause-address
-first_fault-requires-clause-address c = c.address-at.ensures.address ∙ ap (λ (x : Shape). address_of c.args.b.now c.args.plan.now x c.args.s.now) (sym c.shape-shape.ensures.shape)
 
 pub returns-in-Some-first_fault-clause-fault : goal.returns-in-Some-first_fault-clause-fault
 returns-in-Some-first_fault-clause-fault c =
@@ -20,6 +16,6 @@ returns-in-None-clause-found c =
       faultless = λ r. LocalHolds-found c.args.b.now c.args.image.now c.args.plan.now c.args.key.now c.args.addr c.args.s.now _ _ r code (c.in-None.ensures c.args.addr r);
       code = code;
       shape = c.shape-shape.ensures.bounded;
-      access = c.address-at.ensures.address ∙ ap (λ (x : Shape). address_of c.args.b.now c.args.plan.now x c.args.s.now) (sym c.shape-shape.ensures.shape);
-      value = c.address-at.ensures.value;
+      access = c.address_by.ensures.address;
+      value = c.address_by.ensures.value;
     }
