@@ -4,9 +4,9 @@
     tools/rows.py            writes each table below anew from ROWS of crates/tc_isa/src/table.rt
     tools/rows.py --check    says which of them differ, and changes nothing
 
-The tables: the rows as a definition (tc_isa/specs/Rows.antt), the fields that each row names (tc_isa/src/used.rt), the
-index by codes (tc_encode/src/index.rt), and the operands of each row (tc_stmt/src/table.rt). What a row does is written
-by hand, in tc_isa/specs/Shapes.antt and tc_isa/src/meanings.rt. The count of rows is changed where it stands as a number.
+The tables: the rows as a definition (tc_isa/specs/Rows.antt), the fields that each row names (tc_isa/src/row_uses.rt), the
+index by codes (tc_encode/src/index.rt), and the operands of each row (tc_stmt/src/row_wants.rt). What a row does is written
+by hand, in tc_isa/specs/Shapes.antt and tc_isa/src/row_meanings.rt. The count of rows is changed where it stands as a number.
 Both say too which rows the table of operands in docs/formats.md lacks, or has and shouldn't: that one is written by hand.
 Nothing here is trusted: the checks of tc_isa, tc_encode and tc_stmt prove that each table is that of the rows.
 """
@@ -109,11 +109,11 @@ def main():
     wants = ["&[" + ", ".join(f"Want::{OPERANDS[t][1]}" for t in operands(r)) + "]" for r in all_rows]
     tables = {
         "tc_isa/specs/Rows.antt": {"listed =": listed(all_rows)},
-        "tc_isa/src/used.rt": {"static USES": items("static USES", "Uses", uses)},
+        "tc_isa/src/row_uses.rt": {"static USES": items("static USES", "Uses", uses)},
         "tc_encode/src/index.rt": index(all_rows),
-        "tc_stmt/src/table.rt": {"pub static WANTS": items("pub static WANTS", "&[Want]", wants)},
+        "tc_stmt/src/row_wants.rt": {"pub static WANTS": items("pub static WANTS", "&[Want]", wants)},
     }
-    before = int(re.search(r"MEANINGS: \[Meaning; (\d+)\]", read("tc_isa/src/meanings.rt")).group(1))
+    before = int(re.search(r"MEANINGS: \[Meaning; (\d+)\]", read("tc_isa/src/row_meanings.rt")).group(1))
     places = int(re.search(r"PLACES: \[u8; (\d+)\]", read("tc_encode/src/index.rt")).group(1))
     now_places = int(re.search(r"PLACES: \[u8; (\d+)\]", tables["tc_encode/src/index.rt"]["static PLACES"]).group(1))
     old, touched = {}, set()

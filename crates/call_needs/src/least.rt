@@ -15,7 +15,8 @@ fn need_of(needs: &[u32], row: &Row, cap: u32) -> u32
     requires nodes { length needs.now < 2 ^ 16 }
     requires into { (t : ℕ) → Contains row.now.into.items t → t < length needs.now }
     ensures held { min row.now.held (cap + 1) ≤ result }
-    ensures into { (t : ℕ) → Contains row.now.into.items t → min (row.now.held + 1 + slice_index needs.now t) (cap + 1) ≤ result }
+    ensures into { (t : ℕ) → Contains row.now.into.items t
+        → min (row.now.held + 1 + slice_index needs.now t) (cap + 1) ≤ result }
     ensures least { (other : ℕ → ℕ) → MeetsRow other row.now
         → ((t : ℕ) → t < length needs.now → slice_index needs.now t ≤ other t)
         → result ≤ other row.now.node }

@@ -70,7 +70,8 @@ fn sources_of(alloc: Global, edges: &[Edge]) -> Result<IndexMap<usize, Vec<usize
 /// Marks a node, and puts it on the list of work if it had no mark.
 fn mark_node(marks: &mut [bool], work: &mut Vec<usize>, node: usize) -> Result<(), AllocError>
     requires { node < length marks.old }
-    ensures { OnOk result (MarksNodes (node ∷ []) marks.old marks.new work.old.items work.new.items) }
+    ensures { OnOk result
+        (MarksNodes (node ∷ []) marks.old marks.new work.old.items work.new.items) }
 {
     if !marks[node] {
         marks[node] = true;

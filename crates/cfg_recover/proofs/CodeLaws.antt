@@ -14,7 +14,7 @@ use Rattle.tc_isa.proofs.ShapeBounds.{shape_is}
 use Rattle.tc_encode.specs.Decoding.{decoded_of}
 use Rattle.tc_encode.specs.declared.errors.DecodeErr.{DecodeErr}
 use Rattle.tc_encode.proofs.DecodeProofs.{decode_laws}
-use Rattle.tcd_base.specs.declared.types.Range.{Range}
+use Rattle.tcd_base.specs.declared.range.Range.{Range}
 use Rattle.tcd_base.specs.Ranges.{IsInOne}
 use Rattle.tc_machine.specs.Safe.{SpellsAt}
 use Rattle.tc_machine.proofs.ShapeWords as machine

@@ -20,19 +20,19 @@ use Rattle.value_domain.specs.declared.values.Val.{Val}
 use Rattle.value_domain.specs.declared.states.State.{State}
 use Rattle.value_domain.specs.Limits.{Limits}
 use Rattle.value_domain.specs.Values.{IsMember, any_val}
-use Rattle.value_domain.specs.State.{AreBelow, Covers}
+use Rattle.value_domain.specs.State.{AreBelow, Covers, is_lower_slot}
 use Rattle.vd_transfer.specs.Operations.{value_of}
 use Rattle.vd_transfer.specs.Registers.{slot, reg_of, value_at, fixed_of, set_reg, word_val, is_lower}
-use Rattle.vd_transfer.specs.Effects.{with_base, is_lower_slot, transfer_of}
-use Rattle.vd_transfer.specs.Branches.{refine_of, refined, lowered, with_one, with_two, set_arg, is_reg}
+use Rattle.vd_transfer.specs.Effects.{with_base, transfer_of}
+use Rattle.vd_transfer.specs.Branches.{refine_of, state_on_side, with_lowered_counter, with_one, with_two, set_arg, is_reg}
 use Rattle.vd_transfer.specs.Holding.{Holds, set_word}
 use Rattle.vd_transfer.proofs.RegisterLaws.{length-forgotten}
 use Rattle.vd_transfer.proofs.SlotLaws.{slot_is, not_lower}
 use Rattle.vd_transfer.proofs.HoldLaws.{same_length, holds_set, holds_narrow}
 use Rattle.depth_cert.specs.declared.keys.Key.{Key}
 use Rattle.depth_cert.specs.declared.points.Exit.{Exit}
-use Rattle.cfg_recover.specs.Entries.{stack_of, entry_with, start_state, call_entry, irq_entry, aln_entry, sys_entry, lower_values, exit_of, with_lower_from, after_of}
-use Rattle.cfg_recover.specs.Accepting.{ExitCovers}
+use Rattle.cfg_recover.specs.Entries.{stack_of, entry_with, start_state, call_entry, irq_entry, aln_entry, sys_entry}
+use Rattle.depth_cert.specs.Exits.{lower_values, exit_of, with_lower_from, after_of, ExitCovers}
 
 -- ---- states with the same values, or greater ones
 covered_at : (plan : PlanData) (u s : State) (w r : ℕ) (o : Option ℕ) → o ≡ slot r → length s.regs ≡ 27 → AreBelow s.regs u.regs → IsMember w (value_at plan s r o) → IsMember w (value_at plan u r o)
@@ -393,12 +393,12 @@ with_two_length s x y None w = tt
 with_two_length s x y (Some v) None = tt
 with_two_length s x y (Some v) (Some w) = with_arg_length (set_reg s x v) y w ∙ same_length s v (slot x)
 
-lowered_length : (b : Limits) (plan : PlanData) (s : State) (x : ℕ) (lowers : Bool) (o : Option State) → IfSome o (λ t. length t.regs ≡ length s.regs) → IfSome (lowered b plan x lowers o) (λ t. length t.regs ≡ length s.regs)
+lowered_length : (b : Limits) (plan : PlanData) (s : State) (x : ℕ) (lowers : Bool) (o : Option State) → IfSome o (λ t. length t.regs ≡ length s.regs) → IfSome (with_lowered_counter b plan x lowers o) (λ t. length t.regs ≡ length s.regs)
 lowered_length b plan s x lowers None h = tt
 lowered_length b plan s x false (Some t) h = h
 lowered_length b plan s x true (Some t) h = same_length t (value_of b Sub (reg_of plan t x) (word_val 1)) (slot x) ∙ h
 
-refined_length : (b : Limits) (plan : PlanData) (s : State) (test : Cond) (x : ℕ) (y : Arg) (side : Bool) → IfSome (refined b plan test x y s side) (λ t. length t.regs ≡ length s.regs)
+refined_length : (b : Limits) (plan : PlanData) (s : State) (test : Cond) (x : ℕ) (y : Arg) (side : Bool) → IfSome (state_on_side b plan test x y s side) (λ t. length t.regs ≡ length s.regs)
 refined_length b plan s test x y side =
     cond_both (is_reg x y) _ _ (λ (o : Option State). IfSome o (λ t. length t.regs ≡ length s.regs)) (λ _. with_one_length s x _) (λ _. with_two_length s x y _ _)
 
@@ -408,7 +408,7 @@ refine_length b plan (Compute op dst x y) s side = tt
 refine_length b plan (Scaled dst base index n) s side = tt
 refine_length b plan (Load dst base offset size signed after) s side = tt
 refine_length b plan (Store src base offset size after) s side = tt
-refine_length b plan (Branch test x y by lowers) s side = lowered_length b plan s x lowers (refined b plan test x y s side) (refined_length b plan s test x y side)
+refine_length b plan (Branch test x y by lowers) s side = lowered_length b plan s x lowers (state_on_side b plan test x y s side) (refined_length b plan s test x y side)
 refine_length b plan (Jump to) s side = tt
 refine_length b plan (Call to) s side = tt
 refine_length b plan Ret s side = tt

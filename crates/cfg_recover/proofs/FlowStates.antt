@@ -6,11 +6,11 @@ use Rattle.std.proofs.Math.ListN.{length-set}
 use Rattle.value_domain.specs.declared.values.Val.{Val}
 use Rattle.value_domain.specs.Limits.{Limits, AreLimits}
 use Rattle.value_domain.specs.Values.{IsValue, any_val}
-use Rattle.value_domain.specs.State.{AreValues}
+use Rattle.value_domain.specs.State.{AreValues, is_lower_slot}
 use Rattle.value_domain.proofs.RangeLaws.{any_value}
 use Rattle.vd_transfer.specs.Registers.{slot}
-use Rattle.vd_transfer.specs.Effects.{is_lower_slot}
-use Rattle.cfg_recover.specs.Entries.{with_lower_from, entry_with}
+use Rattle.cfg_recover.specs.Entries.{entry_with}
+use Rattle.depth_cert.specs.Exits.{with_lower_from}
 
 -- a list that has one value everywhere
 pub replicate-all : (v : Val) (n : ℕ) (vs : List Val) → length vs ≡ n → ((i : ℕ) → i < n → get_or vs i v ≡ v) → vs ≡ replicate n v

@@ -16,7 +16,7 @@ use Rattle.value_domain.specs.Values.{any_val}
 use Rattle.vd_transfer.specs.Operations.{value_of}
 use Rattle.vd_transfer.specs.Registers.{slot, reg_of, set_at, set_reg, write_reg, word_val, is_lower}
 use Rattle.vd_transfer.specs.Effects.{with_base, transfer_of}
-use Rattle.vd_transfer.specs.Branches.{is_reg, set_arg, with_one, with_two, refined, lowered, refine_of}
+use Rattle.vd_transfer.specs.Branches.{is_reg, set_arg, with_one, with_two, state_on_side, with_lowered_counter, refine_of}
 use Rattle.vd_transfer.specs.Holding.{set_word, with_base_word, words_after, HasValue, HasBaseValue, WritesNoFixedRegister, StaysPlain}
 use Rattle.cfg_recover.specs.Moves.{StaysInFrame}
 use Rattle.cfg_recover.proofs.Went.{set_word-other}
@@ -165,7 +165,7 @@ narrowed_two s x y None w = tt
 narrowed_two s x y (Some v) None = tt
 narrowed_two s x y (Some v) (Some w) = narrowed_arg s (set_reg s x v) y w (narrowed_set s s x v (record { lower = refl; locals = refl }))
 
-narrowed : (b : Limits) (plan : PlanData) (test : Cond) (x : ℕ) (y : Arg) (s : State) (side : Bool) → IfSome (refined b plan test x y s side) (IsNarrowed s)
+narrowed : (b : Limits) (plan : PlanData) (test : Cond) (x : ℕ) (y : Arg) (s : State) (side : Bool) → IfSome (state_on_side b plan test x y s side) (IsNarrowed s)
 narrowed b plan test x y s side = cond_both (is_reg x y) _ _ (λ (o : Option State). IfSome o (IsNarrowed s)) (λ _. narrowed_one s x _) (λ _. narrowed_two s x y _ _)
 
 -- what a branch's states keep
@@ -174,7 +174,7 @@ pub record IsKept (word word2 : ℕ → ℕ) (s t : State) : Type 0 where
   pub locals : t.locals.items ≡ s.locals.items
 
 lowered_kept : (b : Limits) (plan : PlanData) (s : State) (x : ℕ) (lowers : Bool) (o : Option State) (word : ℕ → ℕ) → IfSome o (IsNarrowed s)
-    → IfSome (lowered b plan x lowers o) (IsKept word (cond lowers (set_word word x ((word x + (2 ^ 32 - 1)) % 2 ^ 32)) word) s)
+    → IfSome (with_lowered_counter b plan x lowers o) (IsKept word (cond lowers (set_word word x ((word x + (2 ^ 32 - 1)) % 2 ^ 32)) word) s)
 lowered_kept b plan s x lowers None word h = tt
 lowered_kept b plan s x false (Some t) word h = record { lower = λ e. (sym h.lower ∙ e, λ r low. refl); locals = h.locals }
 lowered_kept b plan s x true (Some t) word h = record {
@@ -185,4 +185,4 @@ lowered_kept b plan s x true (Some t) word h = record {
 pub keeps_branch : (b : Limits) (plan : PlanData) (test : Cond) (x : ℕ) (y : Arg) (by : ℕ) (lowers : Bool) (s : State) (side : Bool) (word : ℕ → ℕ)
     → IfSome (refine_of b plan (Branch test x y by lowers) s side) (IsKept word (words_after (Branch test x y by lowers) 0 word) s)
 unfolding refine_of words_after
-keeps_branch b plan test x y by lowers s side word = lowered_kept b plan s x lowers (refined b plan test x y s side) word (narrowed b plan test x y s side)
+keeps_branch b plan test x y by lowers s side word = lowered_kept b plan s x lowers (state_on_side b plan test x y s side) word (narrowed b plan test x y s side)

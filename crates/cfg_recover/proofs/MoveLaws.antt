@@ -4,7 +4,7 @@ use Rattle.std.specs.Prelude.{IfSome, IsSome, IsSomeAnd, Contains}
 use Rattle.std.specs.FinMap as memory_map
 use Rattle.std.proofs.lemmas.Bool.{cases_Bool, and_parts, both_ways, not-true, ltb-true, lt-ltb, eq-eqb, false≢true, cond_both}
 use Rattle.std.proofs.lemmas.List.Elements.{Contains-append_left, Contains-append_right}
-use Rattle.csa_chain.specs.Memory.{Memory, loaded, with_bytes, extended}
+use Rattle.csa_chain.specs.Memory.{Memory, load_number, with_bytes, extend}
 use Rattle.elf_image.specs.Images.{ImageData}
 use Rattle.tcd_plan.specs.PlanData.{PlanData, IsPlan}
 use Rattle.tc_isa.specs.declared.shapes.Arg.{Arg}
@@ -238,7 +238,7 @@ moves_in_frame b image plan key m e s (Load dst base offset size signed after) n
     loads_hold b image plan address size signed at.is_plan (load_value base offset size after dst signed at).well m.mem x e.input at.machine.bytes at.memory at.rom fits.input
     (answered plan m e (Load dst base offset size signed after) n fits none (fetched_at at)) (load_member base offset size after dst signed at)
     in
-    moved_on e at (extended signed size (loaded m.mem e.input x size)) m.mem (tt, tt) small member refl (same_memory e at) (contains_first _ [])
+    moved_on e at (extend signed size (load_number m.mem e.input x size)) m.mem (tt, tt) small member refl (same_memory e at) (contains_first _ [])
     (does-load m at.machine e n base offset size after is.1 quiet dst signed is.0)
 moves_in_frame b image plan key m e s (Store src base offset size after) n at fits none stays quiet =
     let x = access_address m base offset after in

@@ -1,7 +1,7 @@
 -- What instructions that stay in their frame make of the machine: other registers, and a place, IE and a memory.
 use Rattle.std.proofs.Common.{◌≡◌, ◌≢◌, ℕ, ◌+◌, ◌-◌, ◌*◌, ◌%◌, ◌^◌, ◌<◌, inl, inr, Bool, true, false, cond, List, length, get_or, set, length-set, get_or-set_same, get_or-set_other, ltb, eqb, refl, ap, ◌∙◌, subst, arith}
 use Rattle.std.proofs.lemmas.Bool.{cases_eq, cases_lt, lt-ltb, le-ltb, eq-eqb, ne_eqb}
-use Rattle.csa_chain.specs.Memory.{Memory, loaded, with_bytes, extended}
+use Rattle.csa_chain.specs.Memory.{Memory, load_number, with_bytes, extend}
 use Rattle.tc_isa.specs.declared.shapes.Arg.{Arg}
 use Rattle.tc_isa.specs.declared.shapes.Arg.TheVariants.{Reg, Word}
 use Rattle.tc_isa.specs.declared.shapes.Cond.{Cond}
@@ -169,10 +169,10 @@ module _ (m : Machine) (k : IsMachine m) (e : Event) (n : ℕ) where
 
   module _ (base : Arg) (offset size : ℕ) (after : Bool) (is_arg : IsArg base) (quiet : traps_at e (access_address m base offset after) size ≡ false) where
     pub does-load : (dst : ℕ) (signed : Bool) → dst < 32
-        → Went m (does m e (Load dst base offset size signed after) n) (words_after (Load dst base offset size signed after) (extended signed size (loaded m.mem e.input (access_address m base offset after) size)) (reg m)) (moved m.pc n) m.ie m.mem
+        → Went m (does m e (Load dst base offset size signed after) n) (words_after (Load dst base offset size signed after) (extend signed size (load_number m.mem e.input (access_address m base offset after) size)) (reg m)) (moved m.pc n) m.ie m.mem
     unfolding does words_after
     does-load dst signed lt =
-        let w = extended signed size (loaded m.mem e.input (access_address m base offset after) size) in
+        let w = extend signed size (load_number m.mem e.input (access_address m base offset after) size) in
         rw quiet (went_set (with_base_word (reg m) base offset after) _ (with_base m base offset after) dst w lt refl (registers_base m k base offset after is_arg))
 
     pub does-store : (src input : ℕ)

@@ -5,7 +5,7 @@ use Rattle.std.specs.FinMap as memory_map
 use Rattle.csa_chain.specs.Memory.{Memory, is_mapped, with_byte, with_bytes}
 use Rattle.csa_chain.proofs.MemoryLaws.{get-with_bytes_other, is_mapped-with_bytes}
 use Rattle.elf_image.specs.Images.{ImageData}
-use Rattle.tcd_base.specs.declared.types.Range.{Range}
+use Rattle.tcd_base.specs.declared.range.Range.{Range}
 use Rattle.tcd_plan.specs.declared.plans.Device.{Device}
 use Rattle.tcd_plan.specs.PlanData.{PlanData, IsPlan, all_apart, areas_range}
 use Rattle.tcd_base.specs.Ranges.{IsWithin, IsInOne}

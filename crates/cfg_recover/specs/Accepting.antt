@@ -1,21 +1,21 @@
 -- When the rules accept a certificate, and the first rule that fails.
-use Rattle.std.specs.Prelude.{◌≡◌, ◌+◌, ◌-◌, ◌*◌, ◌^◌, ◌≤◌, ◌⊎◌, ℕ, List, length, Option, Some, None, IsSome, IsTrue, IfSome, IsSomeAnd, All, Contains}
+use Rattle.std.specs.Prelude.{◌≡◌, ◌+◌, ◌-◌, ◌*◌, ◌^◌, ◌≤◌, ◌⊎◌, ℕ, List, length, Option, Some, None, IsSome, IfSome, IsSomeAnd, All, Contains}
 use Rattle.elf_image.specs.Images.{ImageData}
 use Rattle.tcd_plan.specs.PlanData.{PlanData}
 use Rattle.tc_isa.specs.declared.shapes.Shape.{Shape}
 use Rattle.value_domain.specs.declared.states.State.{State}
 use Rattle.value_domain.specs.Limits.{Limits}
-use Rattle.value_domain.specs.State.{Covers, AreBelow, AreValues}
+use Rattle.value_domain.specs.State.{Covers, AreValues}
 use Rattle.value_domain.specs.Thresholds.{limits_for}
 use Rattle.depth_cert.specs.declared.keys.Key.{Key}
-use Rattle.depth_cert.specs.declared.points.Exit.{Exit}
 use Rattle.depth_cert.specs.declared.points.Point.{Point}
 use Rattle.depth_cert.specs.Keys.{number_of_key}
 use Rattle.depth_cert.specs.Points.{find_point}
 use Rattle.depth_cert.specs.Nodes.{NodeData}
 use Rattle.depth_cert.specs.Certs.{CertData, find_node}
 use Rattle.cfg_recover.specs.Code.{IsCode}
-use Rattle.cfg_recover.specs.Entries.{start_key, start_state, after_of}
+use Rattle.cfg_recover.specs.Entries.{start_key, start_state}
+use Rattle.depth_cert.specs.Exits.{after_of, ExitCovers}
 use Rattle.cfg_recover.specs.Local.{LocalHolds, IsFaultless}
 use Rattle.cfg_recover.specs.Duties.{Duty, jump, enter, resume, leave, Owed, duties_of}
 
@@ -27,12 +27,6 @@ limits_in plan cert = limits_for plan cert.version
 -- the node has a point at this address that covers the state
 abbrev pub HasPoint : NodeData → ℕ → State → Type 0
 HasPoint node q s = IsSomeAnd (find_point q node.points) (λ p. Covers p.state s)
-
--- an exit covers another
-pub record ExitCovers (upper x : Exit) : Type 0 where
-  pub lower : AreBelow x.lower upper.lower
-  pub enabled : IsTrue x.ie → IsTrue upper.ie
-  pub priority : upper.ccpn ≤ x.ccpn
 
 -- a duty of a node's point with this state is met
 abbrev pub IsMet : CertData → NodeData → State → Duty → Type 0

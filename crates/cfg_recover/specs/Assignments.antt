@@ -1,33 +1,27 @@
 -- Assignments: what is known at the points and exits of frames, without needs. The least closed one is what the certificate
 -- maker looks for; a certificate that is accepted is a closed one.
-use Rattle.std.specs.Prelude.{◌≡◌, ℕ, Bool, false, ◌==◌, ◌&&◌, ◌||◌, if◌then◌else◌, min, find, Option, Some, None, option_map, option_and_then, Contains}
+use Rattle.std.specs.Prelude.{◌≡◌, ℕ, Bool, false, ◌==◌, ◌&&◌, if◌then◌else◌, find, Option, Some, None, option_map, option_and_then, Contains}
 use Rattle.elf_image.specs.Images.{ImageData}
 use Rattle.tcd_plan.specs.PlanData.{PlanData}
 use Rattle.tc_isa.specs.declared.shapes.Shape.{Shape}
 use Rattle.value_domain.specs.declared.states.State.{State}
 use Rattle.value_domain.specs.Limits.{Limits}
-use Rattle.value_domain.specs.State.{Covers, joined, joined_regs}
 use Rattle.depth_cert.specs.declared.keys.Key.{Key}
-use Rattle.depth_cert.specs.declared.points.Exit.{Exit}
 use Rattle.depth_cert.specs.Keys.{same_key}
 use Rattle.depth_cert.specs.Points.{find_point}
 use Rattle.depth_cert.specs.Nodes.{NodeData}
 use Rattle.depth_cert.specs.Certs.{CertData}
 use Rattle.cfg_recover.specs.Code.{IsCode}
-use Rattle.cfg_recover.specs.Entries.{start_key, start_state, after_of}
+use Rattle.cfg_recover.specs.Entries.{start_key, start_state}
+use Rattle.depth_cert.specs.Exits.{after_of}
 use Rattle.cfg_recover.specs.Local.{IsFaultless}
 use Rattle.cfg_recover.specs.Duties.{Duty, jump, enter, resume, leave, Owed, duties_of}
-use Rattle.cfg_recover.specs.Accepting.{ExitCovers}
+use Rattle.depth_cert.specs.Known.{CoversKnown, Known, joined_known, leaving, state}
 
 -- a place of a frame: the point at an address, or its exit
 pub data Place : Type 0 where
   point : Key → ℕ → Place
   exit : Key → Place
-
--- what is known at a place
-pub data Known : Type 0 where
-  state : State → Known
-  leaving : Exit → Known
 
 -- what is known at each place where anything is
 abbrev pub Assignment : Type 0
@@ -54,13 +48,6 @@ frame_of (exit k) = k
 abbrev pub known_in : CertData → Assignment
 known_in cert y = option_and_then (known_at y) (find (λ n. same_key n.key (frame_of y)) cert.nodes)
 
--- what is known covers something of its kind
-abbrev pub CoversKnown : Known → Known → Type 0
-CoversKnown (state u) (state s) = Covers u s
-CoversKnown (leaving y) (leaving x) = ExitCovers y x
-CoversKnown (state u) (leaving x) = ⊥
-CoversKnown (leaving y) (state s) = ⊥
-
 -- an assignment has something at a place that covers this
 pub record CoversAt (a : Assignment) (y : Place) (v : Known) : Type 0 where
   pub known : Known
@@ -70,17 +57,6 @@ pub record CoversAt (a : Assignment) (y : Place) (v : Known) : Type 0 where
 -- an assignment is below another, which has all its places and covers them
 abbrev pub IsBelowAt : Assignment → Assignment → Type 0
 IsBelowAt a upper = (y : Place) (v : Known) → a y ≡ Some v → CoversAt upper y v
-
--- the least exit that covers both
-abbrev pub joined_exit : Limits → Exit → Exit → Exit
-joined_exit b x y = record { ie = x.ie || y.ie; ccpn = min x.ccpn y.ccpn; lower = joined_regs b x.lower y.lower }
-
--- the least that covers both; none for states with unequal numbers of locals
-abbrev pub joined_known : Limits → Known → Known → Option Known
-joined_known b (state s) (state t) = option_map state (joined b s t)
-joined_known b (leaving x) (leaving y) = Some (leaving (joined_exit b x y))
-joined_known b (state s) (leaving y) = None
-joined_known b (leaving x) (state t) = None
 
 -- the same, where nothing may be known yet
 abbrev pub raised : Limits → Option Known → Known → Option Known

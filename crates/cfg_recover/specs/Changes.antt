@@ -7,8 +7,8 @@ use Rattle.value_domain.specs.declared.values.Val.{Val}
 use Rattle.value_domain.specs.declared.states.State.{State}
 use Rattle.value_domain.specs.Limits.{Limits}
 use Rattle.value_domain.specs.Values.{IsValue}
-use Rattle.vd_transfer.specs.declared.changes.Base.TheVariants.{Any}
-use Rattle.vd_transfer.specs.declared.changes.Change.{Change}
+use Rattle.vd_transfer.specs.declared.change.Base.TheVariants.{Any}
+use Rattle.vd_transfer.specs.declared.change.Change.{Change}
 use Rattle.vd_transfer.specs.Registers.{word_val}
 use Rattle.vd_transfer.specs.Effects.{address_of}
 use Rattle.vd_transfer.specs.Changes.{kept_of, no_put, reg_put}

@@ -2,6 +2,7 @@
 -- this point, and the states that they must cover.
 use Rattle.std.specs.Prelude.{◌==◌, ℕ, true, false, nat_lt, if◌then◌else◌, List, [], ◌∷◌, ◌++◌, map, filter, Option, Some, None, unwrap_or}
 use Rattle.std.specs.List.{flat_map}
+use Rattle.depth_cert.specs.Keys.{sys_kind}
 use Rattle.elf_image.specs.Images.{ImageData}
 use Rattle.tcd_plan.specs.PlanData.{PlanData}
 use Rattle.tc_isa.specs.declared.shapes.Shape.{Shape}
@@ -16,7 +17,8 @@ use Rattle.vd_transfer.specs.Branches.{refine_of}
 use Rattle.store_ranges.specs.Loads.{loaded_of}
 use Rattle.depth_cert.specs.declared.keys.Key.{Key}
 use Rattle.depth_cert.specs.declared.points.Exit.{Exit}
-use Rattle.cfg_recover.specs.Entries.{call_key, irq_key, sys_key, aln_key, call_entry, irq_entry, sys_entry, aln_entry, exit_of}
+use Rattle.cfg_recover.specs.Entries.{call_key, irq_key, sys_key, aln_key, call_entry, irq_entry, sys_entry, aln_entry}
+use Rattle.depth_cert.specs.Exits.{exit_of}
 use Rattle.cfg_recover.specs.Local.{targets_of, are_aligned}
 
 -- One duty. A jump: the same node has a point at this address that covers the state. An entry: the node of this key stands,
@@ -100,7 +102,7 @@ interrupts_of plan key s = map (λ p. owed 11 (enter (irq_key plan p) (irq_entry
 -- the leavings: of a call (rule 6), and of a system call's handler (rule 7)
 abbrev pub leavings_of : Key → State → Shape → List Owed
 leavings_of key s Ret = owed 6 (leave (exit_of s)) ∷ []
-leavings_of key s Rfe = if key.kind == 3 then owed 7 (leave (exit_of s)) ∷ [] else []
+leavings_of key s Rfe = if key.kind == sys_kind then owed 7 (leave (exit_of s)) ∷ [] else []
 leavings_of key s _ = []
 
 -- all that the point p of a node with this key owes, by its state and by the shape and the size of its instruction

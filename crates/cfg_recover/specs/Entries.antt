@@ -1,38 +1,37 @@
 -- The frames that an instruction, an interrupt or a trap enters: their keys, the states at their entries, and the states
 -- in which their callers go on.
-use Rattle.std.specs.Prelude.{◌+◌, ◌-◌, ◌*◌, ◌^◌, ◌==◌, ℕ, Bool, true, false, nat_lt, if◌then◌else◌, List, [], ◌∷◌, ◌++◌, take, drop, replicate, bit_or, slice_index_or}
+use Rattle.std.specs.Prelude.{◌*◌, ◌^◌, ℕ, Bool, true, false, if◌then◌else◌, [], replicate, bit_or}
+use Rattle.depth_cert.specs.Keys.{start_kind, call_kind, irq_kind, sys_kind, aln_kind}
 use Rattle.elf_image.specs.Images.{ImageData}
 use Rattle.tcd_plan.specs.PlanData.{PlanData}
 use Rattle.value_domain.specs.declared.values.Val.{Val}
 use Rattle.value_domain.specs.declared.states.State.{State}
 use Rattle.value_domain.specs.Values.{any_val}
 use Rattle.vd_transfer.specs.Registers.{reg_of, set_reg, word_val}
-use Rattle.vd_transfer.specs.Effects.{is_lower_slot}
 use Rattle.depth_cert.specs.declared.keys.Key.{Key}
-use Rattle.depth_cert.specs.declared.points.Exit.{Exit}
 
 -- ---- keys: kind 0 is the start, 1 a call, 2 an interrupt, 3 a system call, 4 a misaligned access
 -- the start frame begins at the entry of the image, at priority 0, on the stack that the plan names
 abbrev pub start_key : ImageData → PlanData → Key
-start_key image plan = record { kind = 0; entry = image.entry; prio = 0; is = plan.start_is }
+start_key image plan = record { kind = start_kind; entry = image.entry; prio = 0; is = plan.start_is }
 
 -- a called function runs at its caller's priority and on its caller's stack
 abbrev pub call_key : Key → ℕ → Key
-call_key key target = record { kind = 1; entry = target; prio = key.prio; is = key.is }
+call_key key target = record { kind = call_kind; entry = target; prio = key.prio; is = key.is }
 
 -- the handler of an interrupt lies at BIV with the priority in bits 12:5 (TriCore 1 architecture manual, volume 1,
 -- interrupts), and runs on the interrupt stack
 abbrev pub irq_key : PlanData → ℕ → Key
-irq_key plan p = record { kind = 2; entry = bit_or plan.biv (p * 2 ^ 5); prio = p; is = true }
+irq_key plan p = record { kind = irq_kind; entry = bit_or plan.biv (p * 2 ^ 5); prio = p; is = true }
 
 -- the handlers of traps lie at BTV with the class in bits 7:5 (TriCore 1 architecture manual, volume 1, traps): class 6
 -- for system calls, class 2 for misaligned accesses
 abbrev pub sys_key : PlanData → Key → Key
-sys_key plan key = record { kind = 3; entry = bit_or plan.btv (6 * 2 ^ 5); prio = key.prio; is = true }
+sys_key plan key = record { kind = sys_kind; entry = bit_or plan.btv (6 * 2 ^ 5); prio = key.prio; is = true }
 
 -- the handler of misaligned accesses
 abbrev pub aln_key : PlanData → Key → Key
-aln_key plan key = record { kind = 4; entry = bit_or plan.btv (2 * 2 ^ 5); prio = key.prio; is = true }
+aln_key plan key = record { kind = aln_kind; entry = bit_or plan.btv (2 * 2 ^ 5); prio = key.prio; is = true }
 
 -- ---- states at entries
 -- A10 is register 26; the stack pointer of a handler is the interrupt stack's, or A10 where that stack is in use already
@@ -64,28 +63,3 @@ aln_entry plan key s = set_reg (entry_with (stack_of plan key s) false s.ccpn tr
 abbrev pub sys_entry : PlanData → Key → State → ℕ → State
 sys_entry plan key s tin =
     record (set_reg (set_reg s 26 (stack_of plan key s)) 15 (word_val tin)) { ie = false; lower = false; locals = record { items = [] } }
-
--- ---- exits
--- the values of the lower registers D0..D7 and A2..A7, which have the places 0 to 7 and 16 to 21 in a state
-abbrev pub lower_values : List Val → List Val
-lower_values regs = take 8 regs ++ take 6 (drop 16 regs)
-
--- what a state says of an exit
-abbrev pub exit_of : State → Exit
-exit_of s = record { ie = s.ie; ccpn = s.ccpn; lower = lower_values s.regs }
-
--- values from place i on, those of lower registers replaced by these
-unfoldable pub with_lower_from : ℕ → List Val → List Val → List Val
-with_lower_from i lower [] = []
-with_lower_from i lower (v ∷ vs) =
-    (if is_lower_slot i then slice_index_or lower (if nat_lt i 8 then i else i - 8) any_val else v) ∷ with_lower_from (i + 1) lower vs
-
--- the state after a call or a system call (by its kind) that came back by this exit; a system call brings back the caller's
--- IE and CCPN
-abbrev pub after_of : State → Exit → ℕ → State
-after_of s x kind = record s {
-  regs = with_lower_from 0 x.lower s.regs;
-  ie = if kind == 1 then x.ie else s.ie;
-  ccpn = if kind == 1 then x.ccpn else s.ccpn;
-  lower = false;
-}

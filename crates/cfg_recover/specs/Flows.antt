@@ -1,6 +1,7 @@
 -- The duties that a Flow tells.
 use Rattle.std.specs.Prelude.{◌≡◌, ◌==◌, ℕ, true, if◌then◌else◌, List, [], ◌∷◌, ◌++◌, map, Option, Some, None}
 use Rattle.std.specs.List.{flat_map}
+use Rattle.depth_cert.specs.Keys.{call_kind, sys_kind}
 use Rattle.elf_image.specs.Images.{ImageData}
 use Rattle.tcd_plan.specs.PlanData.{PlanData}
 use Rattle.tc_isa.specs.declared.shapes.Shape.{Shape}
@@ -14,7 +15,8 @@ use Rattle.cfg_recover.specs.declared.flows.Leave.{Leave}
 use Rattle.cfg_recover.specs.declared.flows.Leave.TheVariants.{Stays, Ret, Rfe}
 use Rattle.cfg_recover.specs.declared.flows.Flow.{Flow}
 use Rattle.cfg_recover.specs.Code.{IsCode}
-use Rattle.cfg_recover.specs.Entries.{irq_key, irq_entry, exit_of}
+use Rattle.cfg_recover.specs.Entries.{irq_key, irq_entry}
+use Rattle.depth_cert.specs.Exits.{exit_of}
 use Rattle.cfg_recover.specs.Local.{IsFaultless}
 use Rattle.cfg_recover.specs.Duties.{Owed, owed, enter, resume, leave, jumps_to, duties_of}
 
@@ -29,7 +31,7 @@ told_jumps jumps = flat_map told_jump jumps
 
 -- a frame that is entered by a call runs on the same stack, every other one on the interrupt stack
 abbrev pub entered_key : Key → ℕ → ℕ → Key
-entered_key key kind target = record { kind = kind; entry = target; prio = key.prio; is = if kind == 1 then key.is else true }
+entered_key key kind target = record { kind = kind; entry = target; prio = key.prio; is = if kind == call_kind then key.is else true }
 
 -- where an entered frame comes back, if it does
 abbrev pub told_back : Key → Option ℕ → List Owed
@@ -45,7 +47,7 @@ told_entry rule key (Some e) =
 -- rule 5 asks for the entries of calls, rule 12 for that of a system call
 abbrev pub rule_of_entry : Option Enter → ℕ
 rule_of_entry None = 5
-rule_of_entry (Some e) = if e.kind == 1 then 5 else 12
+rule_of_entry (Some e) = if e.kind == call_kind then 5 else 12
 
 -- the state at an interrupt's entry is the told one with the interrupt's priority
 abbrev pub told_irqs : PlanData → State → List ℕ → List Owed
@@ -55,7 +57,7 @@ told_irqs plan entry irqs = map (λ p. owed 11 (enter (irq_key plan p) (record e
 abbrev pub told_leaving : Key → State → Leave → List Owed
 told_leaving key s Stays = []
 told_leaving key s Ret = owed 6 (leave (exit_of s)) ∷ []
-told_leaving key s Rfe = if key.kind == 3 then owed 7 (leave (exit_of s)) ∷ [] else []
+told_leaving key s Rfe = if key.kind == sys_kind then owed 7 (leave (exit_of s)) ∷ [] else []
 
 -- the duties of a point with this key and state that a flow tells
 abbrev pub told_by : PlanData → Key → State → Flow → List Owed

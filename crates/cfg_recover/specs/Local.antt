@@ -1,6 +1,7 @@
 -- What the rules ask of the instruction at a point itself, whatever other points the certificate has.
 use Rattle.std.specs.Prelude.{◌≡◌, ◌<◌, ◌*◌, ◌/◌, ◌%◌, ◌==◌, ◌⊎◌, ℕ, Bool, true, List, [], ◌∷◌, length, map, Option, Some, None, IsSome}
 use Rattle.std.specs.List.{list_all}
+use Rattle.depth_cert.specs.Keys.{call_kind, irq_kind, aln_kind, sys_kind}
 use Rattle.elf_image.specs.Images.{ImageData}
 use Rattle.tcd_plan.specs.PlanData.{PlanData}
 use Rattle.tc_isa.specs.declared.shapes.Target.{Target}
@@ -47,14 +48,14 @@ KnowsTargets plan s p _ = Unit {0}
 
 -- rule 6: only a called function returns, and has restored all lower contexts
 abbrev pub MayReturn : Key → State → Shape → Type 0
-MayReturn key s Ret = (key.kind ≡ 1) × (length s.locals.items ≡ 0)
+MayReturn key s Ret = (key.kind ≡ call_kind) × (length s.locals.items ≡ 0)
 MayReturn key s _ = Unit {0}
 
 -- rule 7: only a handler returns from an exception, and has restored all lower contexts; where the interrupted code may
 -- stand anywhere, with the lower registers that it was entered with
 abbrev pub MayReturnFromException : Key → State → Shape → Type 0
 MayReturnFromException key s Rfe =
-    (length s.locals.items ≡ 0) × ((((key.kind ≡ 2) ⊎ (key.kind ≡ 4)) × (s.lower ≡ true)) ⊎ (key.kind ≡ 3))
+    (length s.locals.items ≡ 0) × ((((key.kind ≡ irq_kind) ⊎ (key.kind ≡ aln_kind)) × (s.lower ≡ true)) ⊎ (key.kind ≡ sys_kind))
 MayReturnFromException key s _ = Unit {0}
 
 -- rule 9: each possible store lies wholly in one ram range or one device range, without passing 2^32

@@ -5,14 +5,15 @@ use Rattle.elf_image.specs.Images.{ImageData}
 use Rattle.tcd_plan.specs.PlanData.{PlanData}
 use Rattle.value_domain.specs.declared.states.State.{State}
 use Rattle.value_domain.specs.Limits.{Limits}
-use Rattle.value_domain.specs.State.{joined}
+use Rattle.value_domain.specs.State.{joined_states}
 use Rattle.value_domain.specs.Thresholds.{limits_for}
 use Rattle.depth_cert.specs.declared.keys.Key.{Key}
 use Rattle.depth_cert.specs.Keys.{number_of_key, same_key}
 use Rattle.cfg_recover.specs.Entries.{start_key}
 use Rattle.cfg_recover.specs.Local.{IsLocalFault}
 use Rattle.cfg_recover.specs.Duties.{enter}
-use Rattle.cfg_recover.specs.Assignments.{Place, point, exit, state, Assignment, same_place, Asks, HasDuty, Joins, Derived, Closed}
+use Rattle.cfg_recover.specs.Assignments.{Place, point, exit, Assignment, same_place, Asks, HasDuty, Joins, Derived, Closed}
+use Rattle.depth_cert.specs.Known.{state}
 
 -- ---- limits
 -- more than 2,048 frames have places
@@ -48,7 +49,7 @@ pub record Passes (b : Limits) (image : ImageData) (plan : PlanData) (k : Key) (
 pub data HasFault (b : Limits) (image : ImageData) (plan : PlanData) (a : Assignment) : ℕ → Key → ℕ → Type 0 where
   own : (r : ℕ) (k : Key) (p : ℕ) (s : State) → a (point k p) ≡ Some (state s) → IsLocalFault b image plan k p s r → HasFault b image plan a r k p
   locals :
-      (k : Key) (p : ℕ) (s t : State) → a (point k p) ≡ Some (state s) → Asks b image plan a (point k p) (state t) → joined b s t ≡ None
+      (k : Key) (p : ℕ) (s t : State) → a (point k p) ≡ Some (state s) → Asks b image plan a (point k p) (state t) → joined_states b s t ≡ None
       → HasFault b image plan a 8 k p
 
 -- a fault of a derived assignment; number 15 is the limits'

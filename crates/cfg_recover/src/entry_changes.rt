@@ -3,7 +3,7 @@ ghost use Rattle.std.specs.Prelude.{◌≡◌, false, true};
 ghost use Rattle.value_domain.specs.Values.{IsValue};
 ghost use Rattle.value_domain.specs.State.{AreValues};
 ghost use Rattle.vd_transfer.specs.Registers.{word_val};
-ghost use Rattle.vd_transfer.specs.Changes.{changed};
+ghost use Rattle.vd_transfer.specs.Changes.{state_after};
 ghost use Rattle.cfg_recover.specs.Changes as changes;
 ghost use Rattle.cfg_recover.specs.Entries as entries;
 ghost use Rattle.cfg_recover.specs.Entries.{stack_of, entry_with, aln_entry, sys_entry};
@@ -41,8 +41,8 @@ pub(crate) fn constant(b: &Bounds, x: u32) -> Val
 pub fn call_change(b: &Bounds, s: &State) -> Change
     requires { AreValues b.now s.now.regs }
     ensures change { result ≡ changes.call_change s.now }
-    ensures entry { changed s.now result ≡ entries.call_entry s.now }
-    ensures values { AreValues b.now (changed s.now result).regs }
+    ensures entry { state_after s.now result ≡ entries.call_entry s.now }
+    ensures values { AreValues b.now (state_after s.now result).regs }
 {
     let mut c = unchanged(s);
     c.lower = false;
@@ -53,8 +53,8 @@ pub fn call_change(b: &Bounds, s: &State) -> Change
 /// The entry of the handler of the system call `tin`.
 pub fn system_change(b: &Bounds, plan: &Plan, key: &Key, s: &State, tin: u8) -> Change
     requires { AreValues b.now s.now.regs }
-    ensures entry { changed s.now result ≡ sys_entry plan.now key.now s.now tin }
-    ensures values { AreValues b.now (changed s.now result).regs }
+    ensures entry { state_after s.now result ≡ sys_entry plan.now key.now s.now tin }
+    ensures values { AreValues b.now (state_after s.now result).regs }
 {
     let mut c = call_change(b, s);
     c.first = put_register(26, stack(b, plan, key, s));
@@ -79,9 +79,9 @@ fn handler_with(s: &State, sp: Val, ccpn: u8) -> Change
 /// The entry of a handler at this CCPN.
 pub fn handler_change(b: &Bounds, plan: &Plan, key: &Key, s: &State, ccpn: u8) -> Change
     requires { AreValues b.now s.now.regs }
-    ensures entry { changed s.now result
+    ensures entry { state_after s.now result
         ≡ entry_with (stack_of plan.now key.now s.now) false ccpn true }
-    ensures values { AreValues b.now (changed s.now result).regs }
+    ensures values { AreValues b.now (state_after s.now result).regs }
 {
     let _most_words = b.most_words();
     handler_with(s, stack(b, plan, key, s), ccpn)
@@ -90,8 +90,8 @@ pub fn handler_change(b: &Bounds, plan: &Plan, key: &Key, s: &State, ccpn: u8) -
 /// The entry of the handler of misaligned accesses.
 pub fn misaligned_change(b: &Bounds, plan: &Plan, key: &Key, s: &State) -> Change
     requires { AreValues b.now s.now.regs }
-    ensures entry { changed s.now result ≡ aln_entry plan.now key.now s.now }
-    ensures values { AreValues b.now (changed s.now result).regs }
+    ensures entry { state_after s.now result ≡ aln_entry plan.now key.now s.now }
+    ensures values { AreValues b.now (state_after s.now result).regs }
 {
     let _most_words = b.most_words();
     let mut c = handler_with(s, stack(b, plan, key, s), s.ccpn);

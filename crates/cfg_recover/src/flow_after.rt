@@ -2,8 +2,8 @@
 ghost use Rattle.std.specs.Prelude.{◌≡◌, ◌==◌, ◌-◌, ◌<◌, ◌↔◌, ℕ, nat_lt, if◌then◌else◌, slice_index_or, IsTrue};
 ghost use Rattle.value_domain.specs.Values.{any_val};
 ghost use Rattle.value_domain.specs.State.{AreWell, AreBelow, Covers};
-ghost use Rattle.vd_transfer.specs.Effects as effects;
-ghost use Rattle.cfg_recover.specs.Entries.{after_of, with_lower_from};
+ghost use Rattle.value_domain.specs.State as states;
+ghost use Rattle.depth_cert.specs.Exits.{after_of, with_lower_from};
 
 use arrayvec::ArrayVec;
 use depth_cert::Exit;
@@ -58,7 +58,7 @@ fn with_lower(regs: &[Val; 27], lower: &[Val; 14]) -> [Val; 27]
 /// The value of a place: the exit's for a lower register, else the one that it had.
 fn restored<'a>(i: usize, lower: &'a [Val; 14], v: &'a Val) -> &'a Val
     ensures { result.now
-        ≡ (if effects.is_lower_slot i
+        ≡ (if states.is_lower_slot i
         then slice_index_or lower.now (if nat_lt i 8 then i else i - 8) any_val else v.now) }
 {
     if i < 8 {

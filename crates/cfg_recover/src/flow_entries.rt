@@ -12,7 +12,7 @@ ghost use Rattle.cfg_recover.specs.Flows.{told_entry, rule_of_entry, told_leavin
 use crate::entry_changes::{call_change, misaligned_change, system_change};
 use crate::flow_targets::{one, targets};
 use crate::{Enter, Leave};
-use depth_cert::Key;
+use depth_cert::{ALN, CALL, Key, SYS};
 use store_ranges::aligned;
 use tc_isa::{Inst, Shape, shape};
 use tcd_plan::Plan;
@@ -37,13 +37,13 @@ pub(crate) fn entry(
     let resume = Some(addr.wrapping_add(size));
     match shape(inst) {
         Shape::Call { to } => Some(Enter {
-            kind: 1,
+            kind: CALL,
             targets: targets(plan, s, addr, to),
             state: changed_state(s, &call_change(b, s)),
             resume,
         }),
         Shape::Syscall { tin } => Some(Enter {
-            kind: 3,
+            kind: SYS,
             targets: one(plan.btv | 6 * 32),
             state: changed_state(s, &system_change(b, plan, key, s, tin)),
             resume,
@@ -95,7 +95,7 @@ fn unless_aligned(
         return None;
     }
     Some(Enter {
-        kind: 4,
+        kind: ALN,
         targets: one(plan.btv | 2 * 32),
         state: changed_state(s, &misaligned_change(b, plan, key, s)),
         resume: None,

@@ -1,7 +1,7 @@
 // Where jumps and calls may go.
 ghost use Rattle.std.specs.Prelude.{◌≡◌, ◌<◌, ◌≤◌, ◌-◌, ◌*◌, ◌/◌, ◌↔◌, [], ◌∷◌, ℕ, IsTrue, Some, length, map, slice_get, unwrap_or};
 ghost use Rattle.tc_isa.specs.Bounded.{IsTarget};
-ghost use Rattle.value_domain.specs.Sets.{Among, AreWords, Rising, distinct, put};
+ghost use Rattle.value_domain.specs.Sets.{Among, AreWords, Rising, distinct, sorted_insert};
 ghost use Rattle.cfg_recover.specs.Local.{named_by, targets_of};
 
 use arrayvec::ArrayVec;
@@ -58,7 +58,7 @@ fn add_once(words: &mut ArrayVec<u32, 128>, x: u32)
     requires room { length words.old.items < 128 }
     requires rising { Rising words.old.items }
     requires greatest { (y : ℕ) → Among y words.old.items → y ≤ x }
-    ensures { words.new.items ≡ put x words.old.items }
+    ensures { words.new.items ≡ sorted_insert x words.old.items }
 {
     if !ends_with(words.as_slice(), x) {
         words.push(x);

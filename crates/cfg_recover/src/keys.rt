@@ -3,7 +3,7 @@ ghost use Rattle.std.specs.Prelude.{◌≡◌};
 ghost use Rattle.cfg_recover.specs.Entries as entries;
 ghost use Rattle.cfg_recover.specs.Flows as flows;
 
-use depth_cert::Key;
+use depth_cert::{ALN, IRQ, Key, START, SYS};
 use elf_image::Image;
 use tcd_plan::Plan;
 
@@ -12,7 +12,7 @@ pub fn start_key(image: &Image, plan: &Plan) -> Key
     ensures { result ≡ entries.start_key image.now plan.now }
 {
     Key {
-        kind: 0,
+        kind: START,
         entry: image.entry,
         prio: 0,
         is: plan.start_is,
@@ -36,14 +36,14 @@ pub fn entered_key(key: &Key, kind: u8, entry: u32) -> Key
 pub fn sys_key(plan: &Plan, key: &Key) -> Key
     ensures { result ≡ entries.sys_key plan.now key.now }
 {
-    entered_key(key, 3, plan.btv | 6 * 32)
+    entered_key(key, SYS, plan.btv | 6 * 32)
 }
 
 /// The key of the handler of misaligned accesses, entered from a frame.
 pub fn aln_key(plan: &Plan, key: &Key) -> Key
     ensures { result ≡ entries.aln_key plan.now key.now }
 {
-    entered_key(key, 4, plan.btv | 2 * 32)
+    entered_key(key, ALN, plan.btv | 2 * 32)
 }
 
 /// The key of the handler of interrupts of a priority.
@@ -51,7 +51,7 @@ pub fn irq_key(plan: &Plan, prio: u8) -> Key
     ensures { result ≡ entries.irq_key plan.now prio }
 {
     Key {
-        kind: 2,
+        kind: IRQ,
         entry: plan.biv | u32::from(prio) * 32,
         prio,
         is: true,

@@ -6,9 +6,9 @@ use Rattle.std.proofs.lemmas.List.{append-nil}
 use Rattle.std.proofs.lemmas.List.Sums.{sum_by-append, sum_by-cons}
 use Rattle.std.specs.List.{All, flat_map}
 use Rattle.std.specs.List.Sorted.{IsStrictlyIncreasing}
-use Rattle.tcd_base.specs.declared.types.FormErr.{FormErr}
+use Rattle.tcd_base.specs.declared.errors.FormErr.{FormErr}
 use Rattle.tcd_base.specs.Bytes.{bytes_of_half, bytes_of_word}
-use Rattle.tcd_base.specs.Place.{Place, between}
+use Rattle.tcd_base.specs.Place.{Place, place_between}
 use Rattle.tcd_base.specs.Reading.{u8_at, u16_at, u32_at}
 use Rattle.value_domain.specs.declared.states.State.{State}
 use Rattle.value_domain.specs.Versions.{most_locals_of}
@@ -168,7 +168,7 @@ cert_read c good =
 pub written_is_read : (c : CertData) → IsCert c → certificate_of (bytes_of c) ≡ Ok c
 unfolding certificate_of
 written_is_read c good =
-    let start : cert_at (between [] (bytes_of c)) ≡ Ok (c, between (bytes_of c) []) =
-    ap (λ (l : List ℕ). cert_at (between [] l)) (sym (append-nil (bytes_of c))) ∙ (cert_read c good).at [] [] in
+    let start : cert_at (place_between [] (bytes_of c)) ≡ Ok (c, place_between (bytes_of c) []) =
+    ap (λ (l : List ℕ). cert_at (place_between [] l)) (sym (append-nil (bytes_of c))) ∙ (cert_read c good).at [] [] in
     let end : eqb (length (bytes_of c)) (length (bytes_of c)) ≡ true = eq-eqb _ _ refl in
     rw start (rw end refl)

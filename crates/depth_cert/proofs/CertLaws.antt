@@ -4,7 +4,7 @@ use Rattle.std.proofs.lemmas.Bool.{leb-true}
 use Rattle.std.proofs.lemmas.List.Elements.{All-nil, All-push}
 use Rattle.std.specs.List.{All, flat_map}
 use Rattle.tcd_base.specs.Bytes.{bytes_of_word}
-use Rattle.tcd_base.specs.Place.{Place, between}
+use Rattle.tcd_base.specs.Place.{Place, place_between}
 use Rattle.tcd_base.specs.Reading.{u8_at, u32_at}
 use Rattle.tcd_base.proofs.FieldReads.{bind_ok}
 use Rattle.value_domain.specs.declared.states.State.{State}
@@ -24,15 +24,15 @@ flat_map-flags : (xs : List Bool) → flat_map (λ x. byte_of x ∷ []) xs ≡ m
 flat_map-flags [] = refl
 flat_map-flags (x ∷ xs) = ap (λ (l : List ℕ). byte_of x ∷ l) (flat_map-flags xs)
 
-locals_passed : (version : ℕ) (front rest : List ℕ) (ls : List Bool) (q : Place) → AreBytes rest → locals_at version (between front rest) ≡ Ok (ls, q)
+locals_passed : (version : ℕ) (front rest : List ℕ) (ls : List Bool) (q : Place) → AreBytes rest → locals_at version (place_between front rest) ≡ Ok (ls, q)
     → Passed (length ls ∷ map byte_of ls) front rest q × (length ls ≤ most_locals_of version)
 unfolding locals_at
 locals_passed version front rest ls q bytes e =
-    let b = bind_ok (u8_at (between front rest)) _ _ e in
+    let b = bind_ok (u8_at (place_between front rest)) _ _ e in
     let n : ℕ = b.0.0 in
     let h = byte_passed front rest n b.0.1 bytes b.1 in
-    let c = bind_ok (checked 5 (leb n (most_locals_of version)) (between front rest) b.0) _ _ b.2 in
-    let t = checked_passed 5 (leb n (most_locals_of version)) (between front rest) b.0 c.0 c.1 in
+    let c = bind_ok (checked 5 (leb n (most_locals_of version)) (place_between front rest) b.0) _ _ b.2 in
+    let t = checked_passed 5 (leb n (most_locals_of version)) (place_between front rest) b.0 c.0 c.1 in
     let left : many_at (λ before. flag_at) n [] b.0.1 ≡ Ok (ls, q) = rw t.1 c.2 in
     let m = many_passed (λ before. flag_at) (λ x. byte_of x ∷ []) (λ ls. Unit {0}) (λ before front rest x q bytes good e. (flag_passed front rest x q bytes e, tt)) n [] ls (front ++ n ∷ []) h.0.after q (passed_bytes h.0 bytes) tt (next (many_at (λ before. flag_at) n []) _ h.0 left) in
     let count : length ls ≡ n = ap length m.is ∙ m.count in
@@ -44,10 +44,10 @@ state_bytes : (s : State) → byte_of s.ie ∷ s.ccpn ∷ byte_of s.lower ∷ le
 unfolding bytes_of_state
 state_bytes s = refl
 
-pub state_passed : (version : ℕ) (front rest : List ℕ) (s : State) (q : Place) → AreBytes rest → state_at version (between front rest) ≡ Ok (s, q) → Passed (bytes_of_state s) front rest q × IsState version s
+pub state_passed : (version : ℕ) (front rest : List ℕ) (s : State) (q : Place) → AreBytes rest → state_at version (place_between front rest) ≡ Ok (s, q) → Passed (bytes_of_state s) front rest q × IsState version s
 unfolding state_at
 state_passed version front rest s q bytes e =
-    let ie = bind_ok (flag_at (between front rest)) _ _ e in
+    let ie = bind_ok (flag_at (place_between front rest)) _ _ e in
     let h1 = flag_passed front rest ie.0.0 ie.0.1 bytes ie.1 in
     let b1 = passed_bytes h1 bytes in
     let ccpn = bind_ok (u8_at ie.0.1) _ _ ie.2 in
@@ -77,13 +77,13 @@ pub record ArePointsOf (version : ℕ) (ps : List Point) : Type 0 where
   pub rising : ArePoints ps
   pub each : All (IsPoint version) ps
 
-point_passed : (version : ℕ) (before : List Point) (front rest : List ℕ) (p : Point) (q : Place) → AreBytes rest → ArePointsOf version before → point_after version before (between front rest) ≡ Ok (p, q)
+point_passed : (version : ℕ) (before : List Point) (front rest : List ℕ) (p : Point) (q : Place) → AreBytes rest → ArePointsOf version before → point_after version before (place_between front rest) ≡ Ok (p, q)
     → Passed (bytes_of_point p) front rest q × ArePointsOf version (before ++ p ∷ [])
 unfolding point_after address_after
 point_passed version before front rest p q bytes good e =
-    let addr = bind_ok (address_after (addresses before) (between front rest)) _ _ e in
-    let word = bind_ok (u32_at (between front rest)) _ _ addr.1 in
-    let t = checked_passed 3 (is_above (addresses before) word.0.0) (between front rest) word.0 addr.0 word.2 in
+    let addr = bind_ok (address_after (addresses before) (place_between front rest)) _ _ e in
+    let word = bind_ok (u32_at (place_between front rest)) _ _ addr.1 in
+    let t = checked_passed 3 (is_above (addresses before) word.0.0) (place_between front rest) word.0 addr.0 word.2 in
     let h1 = word_passed front rest addr.0.0 addr.0.1 bytes (word.1 ∙ ap (λ (v : ℕ × Place). Ok v) t.1) in
     let state = bind_ok (state_at version addr.0.1) _ _ addr.2 in
     let h2 = state_passed version _ h1.0.after state.0.0 state.0.1 (passed_bytes h1.0 bytes) (next (state_at version) _ h1.0 state.1) in
@@ -98,13 +98,13 @@ point_passed version before front rest p q bytes good e =
       }),
     )
 
-pub points_passed : (version used : ℕ) (front rest : List ℕ) (ps : List Point) (q : Place) → AreBytes rest → points_at version used (between front rest) ≡ Ok (ps, q)
+pub points_passed : (version used : ℕ) (front rest : List ℕ) (ps : List Point) (q : Place) → AreBytes rest → points_at version used (place_between front rest) ≡ Ok (ps, q)
     → Passed (bytes_of_word (length ps) ++ flat_map bytes_of_point ps) front rest q × ArePointsOf version ps × (used + length ps ≤ 2 ^ 16)
 unfolding points_at point_count_at
 points_passed version used front rest ps q bytes e =
-    let b = bind_ok (point_count_at used (between front rest)) _ _ e in
-    let word = bind_ok (u32_at (between front rest)) _ _ b.1 in
-    let t = checked_passed 5 (leb (used + word.0.0) (2 ^ 16)) (between front rest) word.0 b.0 word.2 in
+    let b = bind_ok (point_count_at used (place_between front rest)) _ _ e in
+    let word = bind_ok (u32_at (place_between front rest)) _ _ b.1 in
+    let t = checked_passed 5 (leb (used + word.0.0) (2 ^ 16)) (place_between front rest) word.0 b.0 word.2 in
     let n : ℕ = b.0.0 in
     let h = word_passed front rest n b.0.1 bytes (word.1 ∙ ap (λ (v : ℕ × Place). Ok v) t.1) in
     let few : used + n ≤ 2 ^ 16 = leb-true _ _ (subst (λ (v : ℕ × Place). leb (used + v.0) (2 ^ 16) ≡ true) t.1 t.0) in
@@ -124,15 +124,15 @@ is_byte zero h = refl
 is_byte (suc zero) h = refl
 is_byte (suc (suc n)) h = absurd (omega arith)
 
-pub key_passed : (before front rest : List ℕ) (k : Key) (q : Place) → AreBytes rest → key_after before (between front rest) ≡ Ok (k, q)
+pub key_passed : (before front rest : List ℕ) (k : Key) (q : Place) → AreBytes rest → key_after before (place_between front rest) ≡ Ok (k, q)
     → Passed (bytes_of_key k) front rest q × IsKey k × (is_above before (number_of_key k) ≡ true)
 unfolding key_after
 key_passed before front rest k q bytes e =
-    let kind = bind_ok (u8_at (between front rest)) _ _ e in
+    let kind = bind_ok (u8_at (place_between front rest)) _ _ e in
     let h1 = byte_passed front rest kind.0.0 kind.0.1 bytes kind.1 in
     let b1 = passed_bytes h1.0 bytes in
-    let kept = bind_ok (checked 4 (leb kind.0.0 4) (between front rest) kind.0) _ _ kind.2 in
-    let t1 = checked_passed 4 (leb kind.0.0 4) (between front rest) kind.0 kept.0 kept.1 in
+    let kept = bind_ok (checked 4 (leb kind.0.0 4) (place_between front rest) kind.0) _ _ kind.2 in
+    let t1 = checked_passed 4 (leb kind.0.0 4) (place_between front rest) kind.0 kept.0 kept.1 in
     let same : kind.0.0 ≡ kept.0.0 = ap (λ (v : ℕ × Place). v.0) t1.1 in
     let at : kind.0.1 ≡ kept.0.1 = ap (λ (v : ℕ × Place). v.1) t1.1 in
     let entry = bind_ok (u32_at kept.0.1) _ _ kept.2 in
@@ -143,8 +143,8 @@ key_passed before front rest k q bytes e =
     let b3 = passed_bytes h3.0 b2 in
     let is = bind_ok (u8_at prio.0.1) _ _ prio.2 in
     let h4 = byte_passed _ h3.0.after is.0.0 is.0.1 b3 (next u8_at _ h3.0 is.1) in
-    let above = bind_ok (checked 3 (is_above before (key_number kept.0.0 entry.0.0 prio.0.0 is.0.0)) (between front rest) is.0) _ _ is.2 in
-    let t2 = checked_passed 3 (is_above before (key_number kept.0.0 entry.0.0 prio.0.0 is.0.0)) (between front rest) is.0 above.0 above.1 in
+    let above = bind_ok (checked 3 (is_above before (key_number kept.0.0 entry.0.0 prio.0.0 is.0.0)) (place_between front rest) is.0) _ _ is.2 in
+    let t2 = checked_passed 3 (is_above before (key_number kept.0.0 entry.0.0 prio.0.0 is.0.0)) (place_between front rest) is.0 above.0 above.1 in
     let flag = bind_ok (checked 4 (leb above.0.0 1) prio.0.1 above.0) _ _ above.2 in
     let t3 = checked_passed 4 (leb above.0.0 1) prio.0.1 above.0 flag.0 flag.1 in
     let one : is.0 ≡ flag.0 = t2.1 ∙ t3.1 in

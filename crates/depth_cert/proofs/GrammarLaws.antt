@@ -5,9 +5,9 @@ use Rattle.std.proofs.lemmas.Bool.Decides.{nat_tests}
 use Rattle.std.proofs.lemmas.List.Elements.{All-nil, All-push}
 use Rattle.std.specs.List.{All, flat_map}
 use Rattle.std.specs.List.Sorted.{IsStrictlyIncreasing}
-use Rattle.tcd_base.specs.declared.types.FormErr.{FormErr}
+use Rattle.tcd_base.specs.declared.errors.FormErr.{FormErr}
 use Rattle.tcd_base.specs.Bytes.{bytes_of_word}
-use Rattle.tcd_base.specs.Place.{Place, between}
+use Rattle.tcd_base.specs.Place.{Place, place_between}
 use Rattle.tcd_base.specs.Reading.{fault_at, u8_at, u32_at}
 use Rattle.tcd_base.proofs.FieldReads.{bind_ok}
 use Rattle.value_domain.specs.declared.values.Val.{Val}
@@ -23,7 +23,7 @@ use Rattle.depth_cert.proofs.ManyLaws.{rising_push}
 use Rattle.depth_cert.proofs.PassedLaws.{AreBytes, Passed, passed_bytes, passed_both, ok_pair, passed_test, byte_passed, word_passed, many_passed}
 
 -- the reading that follows stands after the part
-pub next : {A : Type 0} {part front rest : List ℕ} {q : Place} (read : Place → Result A FormErr) (y : Result A FormErr) (h : Passed part front rest q) → read q ≡ y → read (between (front ++ part) h.after) ≡ y
+pub next : {A : Type 0} {part front rest : List ℕ} {q : Place} (read : Place → Result A FormErr) (y : Result A FormErr) (h : Passed part front rest q) → read q ≡ y → read (place_between (front ++ part) h.after) ≡ y
 next read y h e = ap read (sym h.at) ∙ e
 
 -- a field that passed its test
@@ -36,12 +36,12 @@ flag_byte zero at q x p e = let h = ok_pair false x at q e in (rw (← h.0) refl
 flag_byte (suc zero) at q x p e = let h = ok_pair true x at q e in (rw (← h.0) refl, h.1)
 flag_byte (suc (suc n)) at q x p e = let big : ltb 1 (suc (suc n)) ≡ true = lt-ltb _ _ (omega arith) in let f = rw big at e in cc
 
-pub flag_passed : (front rest : List ℕ) (x : Bool) (q : Place) → AreBytes rest → flag_at (between front rest) ≡ Ok (x, q) → Passed (byte_of x ∷ []) front rest q
+pub flag_passed : (front rest : List ℕ) (x : Bool) (q : Place) → AreBytes rest → flag_at (place_between front rest) ≡ Ok (x, q) → Passed (byte_of x ∷ []) front rest q
 unfolding flag_at
 flag_passed front rest x q bytes e =
-    let b = bind_ok (u8_at (between front rest)) _ _ e in
+    let b = bind_ok (u8_at (place_between front rest)) _ _ e in
     let h = byte_passed front rest b.0.0 b.0.1 bytes b.1 in
-    let f = flag_byte b.0.0 b.0.1 q x (between front rest) b.2 in
+    let f = flag_byte b.0.0 b.0.1 q x (place_between front rest) b.2 in
     subst (λ (r : Place). Passed (byte_of x ∷ []) front rest r) f.1 (subst (λ n. Passed (n ∷ []) front rest b.0.1) f.0 h.0)
 
 -- ---- values
@@ -56,11 +56,11 @@ record AreAscending (ws : List ℕ) : Type 0 where
   pub rising : IsStrictlyIncreasing ws
   pub below : All (λ w. w < 2 ^ 32) ws
 
-word_after_passed : (before front rest : List ℕ) (x : ℕ) (q : Place) → AreBytes rest → AreAscending before → word_after before (between front rest) ≡ Ok (x, q) → Passed (bytes_of_word x) front rest q × AreAscending (before ++ x ∷ [])
+word_after_passed : (before front rest : List ℕ) (x : ℕ) (q : Place) → AreBytes rest → AreAscending before → word_after before (place_between front rest) ≡ Ok (x, q) → Passed (bytes_of_word x) front rest q × AreAscending (before ++ x ∷ [])
 unfolding word_after
 word_after_passed before front rest x q bytes good e =
-    let b = bind_ok (u32_at (between front rest)) (λ w. checked 4 (is_above before w.0) (between front rest) w) (x, q) e in
-    let t = checked_passed 4 (is_above before b.0.0) (between front rest) b.0 (x, q) b.2 in
+    let b = bind_ok (u32_at (place_between front rest)) (λ w. checked 4 (is_above before w.0) (place_between front rest) w) (x, q) e in
+    let t = checked_passed 4 (is_above before b.0.0) (place_between front rest) b.0 (x, q) b.2 in
     let same : b.0.0 ≡ x = ap (λ (v : ℕ × Place). v.0) t.1 in
     let at : b.0.1 ≡ q = ap (λ (v : ℕ × Place). v.1) t.1 in
     let h = word_passed front rest x q bytes (b.1 ∙ ap (λ (v : ℕ × Place). Ok v) t.1) in
@@ -77,11 +77,11 @@ words_are version n ws len some few h = (
   omega arith,
 )
 
-pub set_passed : (version n : ℕ) (front rest : List ℕ) (v : Val) (q : Place) → AreBytes rest → 1 ≤ n → n ≤ most_words_of version → set_at n (between front rest) ≡ Ok (v, q)
+pub set_passed : (version n : ℕ) (front rest : List ℕ) (v : Val) (q : Place) → AreBytes rest → 1 ≤ n → n ≤ most_words_of version → set_at n (place_between front rest) ≡ Ok (v, q)
     → (ws : List ℕ) × (v ≡ Set ws) × (length ws ≡ n) × Passed (flat_map bytes_of_word ws) front rest q × IsWellOf version (Set ws)
 unfolding set_at
 set_passed version n front rest v q bytes some few e =
-    let b = bind_ok (many_at word_after n [] (between front rest)) (λ ws. Ok (Set ws.0, ws.1)) (v, q) e in
+    let b = bind_ok (many_at word_after n [] (place_between front rest)) (λ ws. Ok (Set ws.0, ws.1)) (v, q) e in
     let f = ok_pair (Set b.0.0) v b.0.1 q b.2 in
     let m = many_passed word_after bytes_of_word AreAscending word_after_passed n [] b.0.0 front rest b.0.1 bytes (record { rising = λ k h. absurd (omega arith); below = All-nil (λ w. w < 2 ^ 32) }) b.1 in
     (m.items, sym f.0 ∙ ap (λ (l : List ℕ). Set l) m.is, m.count, subst (λ (r : Place). Passed (flat_map bytes_of_word m.items) front rest r) f.1 m.passed, words_are version n m.items m.count some few (subst AreAscending m.is m.good))
@@ -90,11 +90,11 @@ any_is : (lo last step : ℕ) → is_any lo last step ≡ false → bytes_of_val
 unfolding bytes_of_value
 any_is lo last step e = rw e refl
 
-pub span_passed : (version step : ℕ) (start : Place) (front rest : List ℕ) (v : Val) (q : Place) → AreBytes rest → step ≤ 2 → span_at version step start (between front rest) ≡ Ok (v, q)
+pub span_passed : (version step : ℕ) (start : Place) (front rest : List ℕ) (v : Val) (q : Place) → AreBytes rest → step ≤ 2 → span_at version step start (place_between front rest) ≡ Ok (v, q)
     → (part : List ℕ) × (bytes_of_value v ≡ (240 + step) ∷ part) × Passed part front rest q × IsWellOf version v
 unfolding span_at
 span_passed version step start front rest v q bytes small e =
-    let lo = bind_ok (u32_at (between front rest)) _ _ e in
+    let lo = bind_ok (u32_at (place_between front rest)) _ _ e in
     let h = word_passed front rest lo.0.0 lo.0.1 bytes lo.1 in
     let last = bind_ok (u32_at lo.0.1) _ _ lo.2 in
     let k = word_passed (front ++ bytes_of_word lo.0.0) h.0.after last.0.0 last.0.1 (passed_bytes h.0 bytes) (next u32_at _ h.0 last.1) in
@@ -138,10 +138,10 @@ some_count (suc n) e = omega arith
 in_steps : (n : ℕ) → (leb 240 n && leb n 242) ≡ true → (240 ≤ n) × (n - 240 ≤ 2)
 in_steps n e = let h = and_parts (leb 240 n) (leb n 242) e in let a : 240 ≤ n = leb-true _ _ h.0 in let b : n ≤ 242 = leb-true _ _ h.1 in (a, omega arith)
 
-pub value_passed : (version : ℕ) (front rest : List ℕ) (v : Val) (q : Place) → AreBytes rest → value_at version (between front rest) ≡ Ok (v, q) → Passed (bytes_of_value v) front rest q × IsWellOf version v
+pub value_passed : (version : ℕ) (front rest : List ℕ) (v : Val) (q : Place) → AreBytes rest → value_at version (place_between front rest) ≡ Ok (v, q) → Passed (bytes_of_value v) front rest q × IsWellOf version v
 unfolding value_at
 value_passed version front rest v q bytes e =
-    let b = bind_ok (u8_at (between front rest)) _ _ e in
+    let b = bind_ok (u8_at (place_between front rest)) _ _ e in
     let n : ℕ = b.0.0 in
     let h = byte_passed front rest n b.0.1 bytes b.1 in
     elim (chosen (eqb n 0) (leb n (most_words_of version)) (leb 240 n && leb n 242) _ _ _ _ _ b.2) [
@@ -156,7 +156,7 @@ value_passed version front rest v q bytes e =
           (subst (λ (l : List ℕ). Passed l front rest q) part (passed_both h.0 s.3), subst (IsWellOf version) (sym s.1) s.4)
       | inr (inr (inl c)) ↦
           let steps = in_steps n c.0 in
-          let s = span_passed version (n - 240) (between front rest) (front ++ n ∷ []) h.0.after v q (passed_bytes h.0 bytes) steps.1 (next (span_at version (n - 240) (between front rest)) _ h.0 c.1) in
+          let s = span_passed version (n - 240) (place_between front rest) (front ++ n ∷ []) h.0.after v q (passed_bytes h.0 bytes) steps.1 (next (span_at version (n - 240) (place_between front rest)) _ h.0 c.1) in
           let byte : n ≡ 240 + (n - 240) = omega arith in
           let part : n ∷ s.0 ≡ bytes_of_value v = ap (λ k. k ∷ s.0) byte ∙ sym s.1 in
           (subst (λ (l : List ℕ). Passed l front rest q) part (passed_both h.0 s.2), s.3)
@@ -166,7 +166,7 @@ value_passed version front rest v q bytes e =
     never : {A : Type 0} (e : FormErr) (x : A) → ◌≡◌ {A = Result A FormErr} (Err e) (Ok x) → ⊥
     never e x h = cc
 
-pub values_passed : (version n : ℕ) (front rest : List ℕ) (vs : List Val) (q : Place) → AreBytes rest → values_at version n (between front rest) ≡ Ok (vs, q)
+pub values_passed : (version n : ℕ) (front rest : List ℕ) (vs : List Val) (q : Place) → AreBytes rest → values_at version n (place_between front rest) ≡ Ok (vs, q)
     → Passed (flat_map bytes_of_value vs) front rest q × (length vs ≡ n) × All (IsWellOf version) vs
 unfolding values_at
 values_passed version n front rest vs q bytes e =

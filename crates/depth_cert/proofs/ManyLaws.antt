@@ -4,7 +4,7 @@ use Rattle.std.specs.List.Sorted.{IsStrictlyIncreasing}
 use Rattle.std.proofs.lemmas.Bool.{cases_lt, ltb-true}
 use Rattle.std.proofs.lemmas.List.{get_or_append_left, length_push, length-map, get_or-map, map-append}
 use Rattle.std.proofs.Math.Seq.{get_or-append_seam}
-use Rattle.tcd_base.specs.declared.types.FormErr.{FormErr}
+use Rattle.tcd_base.specs.declared.errors.FormErr.{FormErr}
 use Rattle.tcd_base.specs.Place.{Place}
 use Rattle.tcd_base.specs.Reading.{◌>>=◌}
 use Rattle.depth_cert.specs.declared.errors.CertErr.{CertErr}

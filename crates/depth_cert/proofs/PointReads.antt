@@ -2,7 +2,7 @@
 use Rattle.std.specs.Prelude.{◌≡◌, ℕ, List, [], ◌∷◌, ◌++◌, length, slice_set, slice_index_or, Ok, Err}
 use Rattle.std.proofs.Common.{◌∙◌, refl}
 use Rattle.std.proofs.Math.Seq.{set-append_seam, get_or-append_seam}
-use Rattle.tcd_base.specs.declared.types.FormErr.{FormErr}
+use Rattle.tcd_base.specs.declared.errors.FormErr.{FormErr}
 use Rattle.tcd_base.specs.Place.{Place}
 use Rattle.value_domain.specs.declared.states.State.{State}
 use Rattle.depth_cert.specs.declared.points.Point.{Point}

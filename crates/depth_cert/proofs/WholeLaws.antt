@@ -7,9 +7,9 @@ use Rattle.std.proofs.lemmas.List.Elements.{All-nil, All-push}
 use Rattle.std.proofs.lemmas.List.Sums.{sum_by-append}
 use Rattle.std.specs.List.{All, flat_map}
 use Rattle.std.specs.List.Sorted.{IsStrictlyIncreasing}
-use Rattle.tcd_base.specs.declared.types.FormErr.{FormErr}
+use Rattle.tcd_base.specs.declared.errors.FormErr.{FormErr}
 use Rattle.tcd_base.specs.Bytes.{bytes_of_half, bytes_of_word}
-use Rattle.tcd_base.specs.Place.{Place, between}
+use Rattle.tcd_base.specs.Place.{Place, place_between}
 use Rattle.tcd_base.specs.Reading.{◌>>=◌, u8_at, u16_at, u32_at}
 use Rattle.tcd_base.proofs.FieldReads.{bind_ok}
 use Rattle.depth_cert.specs.declared.points.Exit.{Exit}
@@ -33,11 +33,11 @@ none_bytes : 0 ∷ [] ≡ bytes_of_exit None
 unfolding bytes_of_exit
 none_bytes = refl
 
-exit_passed : (version : ℕ) (front rest : List ℕ) (x : Exit) (q : Place) → AreBytes rest → exit_at version (between front rest) ≡ Ok (x, q)
+exit_passed : (version : ℕ) (front rest : List ℕ) (x : Exit) (q : Place) → AreBytes rest → exit_at version (place_between front rest) ≡ Ok (x, q)
     → Passed (byte_of x.ie ∷ x.ccpn ∷ flat_map bytes_of_value x.lower) front rest q × IsExit version x
 unfolding exit_at
 exit_passed version front rest x q bytes e =
-    let ie = bind_ok (flag_at (between front rest)) _ _ e in
+    let ie = bind_ok (flag_at (place_between front rest)) _ _ e in
     let h1 = flag_passed front rest ie.0.0 ie.0.1 bytes ie.1 in
     let b1 = passed_bytes h1 bytes in
     let ccpn = bind_ok (u8_at ie.0.1) _ _ ie.2 in
@@ -81,11 +81,11 @@ exit_or_none true version kind front rest x at q h bytes may e =
       subst (IsExitOf version kind) f.0 (may refl, k.1),
     )
 
-exits_passed : (version kind : ℕ) (front rest : List ℕ) (x : Option Exit) (q : Place) → AreBytes rest → exits_at version kind (between front rest) ≡ Ok (x, q) → Passed (bytes_of_exit x) front rest q × IsExitOf version kind x
+exits_passed : (version kind : ℕ) (front rest : List ℕ) (x : Option Exit) (q : Place) → AreBytes rest → exits_at version kind (place_between front rest) ≡ Ok (x, q) → Passed (bytes_of_exit x) front rest q × IsExitOf version kind x
 unfolding exits_at has_exit_at
 exits_passed version kind front rest x q bytes e =
-    let has = bind_ok (has_exit_at kind (between front rest)) _ _ e in
-    let flag = bind_ok (flag_at (between front rest)) _ _ has.1 in
+    let has = bind_ok (has_exit_at kind (place_between front rest)) _ _ e in
+    let flag = bind_ok (flag_at (place_between front rest)) _ _ has.1 in
     let a = allowed flag.0.0 kind (record { kind = 4; at = length front }) flag.0 has.0 flag.2 in
     let h = flag_passed front rest has.0.0 has.0.1 bytes (flag.1 ∙ ap (λ (v : Bool × Place). Ok v) a.0) in
     exit_or_none has.0.0 version kind front rest x has.0.1 q h bytes (λ t. a.1 (ap (λ (v : Bool × Place). v.0) a.0 ∙ t)) has.2
@@ -100,11 +100,11 @@ pub record AreNodesOf (version : ℕ) (ns : List NodeData) : Type 0 where
   pub each : All (IsNode version) ns
   pub points : count_points ns ≤ 2 ^ 16
 
-node_passed : (version : ℕ) (before : List NodeData) (front rest : List ℕ) (n : NodeData) (q : Place) → AreBytes rest → AreNodesOf version before → node_after version before (between front rest) ≡ Ok (n, q)
+node_passed : (version : ℕ) (before : List NodeData) (front rest : List ℕ) (n : NodeData) (q : Place) → AreBytes rest → AreNodesOf version before → node_after version before (place_between front rest) ≡ Ok (n, q)
     → Passed (bytes_of_node n) front rest q × AreNodesOf version (before ++ n ∷ [])
 unfolding node_after need_at
 node_passed version before front rest n q bytes good e =
-    let key = bind_ok (key_after (key_numbers before) (between front rest)) _ _ e in
+    let key = bind_ok (key_after (key_numbers before) (place_between front rest)) _ _ e in
     let h1 = key_passed (key_numbers before) front rest key.0.0 key.0.1 bytes key.1 in
     let b1 = passed_bytes h1.0 bytes in
     let need = bind_ok (need_at key.0.1) _ _ key.2 in
@@ -138,12 +138,12 @@ cert_bytes c = refl
 version_known : (n : ℕ) → (eqb n 1 || eqb n 2) ≡ true → (n ≡ 1) ⊎ (n ≡ 2)
 version_known n h = elim (or_cases (eqb n 1) (eqb n 2) h) [ inl i ↦ inl (eqb-true _ _ i) | inr j ↦ inr (eqb-true _ _ j) ]
 
-cert_passed : (front rest : List ℕ) (c : CertData) (q : Place) → AreBytes rest → cert_at (between front rest) ≡ Ok (c, q) → Passed (bytes_of c) front rest q × IsCert c
+cert_passed : (front rest : List ℕ) (c : CertData) (q : Place) → AreBytes rest → cert_at (place_between front rest) ≡ Ok (c, q) → Passed (bytes_of c) front rest q × IsCert c
 unfolding cert_at magic_at version_at node_count_at
 cert_passed front rest c q bytes e =
-    let magic = bind_ok (magic_at (between front rest)) _ _ e in
-    let word = bind_ok (u32_at (between front rest)) _ _ magic.1 in
-    let t1 = checked_passed 2 (eqb word.0.0 0x43444354) (between front rest) word.0 magic.0 word.2 in
+    let magic = bind_ok (magic_at (place_between front rest)) _ _ e in
+    let word = bind_ok (u32_at (place_between front rest)) _ _ magic.1 in
+    let t1 = checked_passed 2 (eqb word.0.0 0x43444354) (place_between front rest) word.0 magic.0 word.2 in
     let h1 = word_passed front rest magic.0.0 magic.0.1 bytes (word.1 ∙ ap (λ (v : ℕ × Place). Ok v) t1.1) in
     let b1 = passed_bytes h1.0 bytes in
     let is_magic : magic.0.0 ≡ 0x43444354 = eqb-true _ _ (subst (λ (v : ℕ × Place). eqb v.0 0x43444354 ≡ true) t1.1 t1.0) in
@@ -179,7 +179,7 @@ cert_passed front rest c q bytes e =
 pub read_is_cert : (bytes : List ℕ) (c : CertData) → ((k : ℕ) → get_or bytes k 0 < 2 ^ 8) → certificate_of bytes ≡ Ok c → (bytes_of c ≡ bytes) × IsCert c
 unfolding certificate_of
 read_is_cert bytes c small e =
-    let b = bind_ok (cert_at (between [] bytes)) _ _ e in
+    let b = bind_ok (cert_at (place_between [] bytes)) _ _ e in
     let h = cert_passed [] bytes b.0.0 b.0.1 (bytes_from bytes small) b.1 in
     let t = passed_test (eqb b.0.1.place (length bytes)) b.0.0 c _ b.2 in
     let end : length (bytes_of b.0.0) ≡ length bytes = sym (ap (λ (p : Place). p.place) h.0.at) ∙ eqb-true _ _ t.0 in

@@ -8,9 +8,9 @@ use Rattle.value_domain.proofs.CoverLaws.{step_cases}
 use Rattle.value_domain.proofs.Loops.{among_get}
 use Rattle.std.specs.List.{All, flat_map}
 use Rattle.std.specs.List.Sorted.{IsStrictlyIncreasing}
-use Rattle.tcd_base.specs.declared.types.FormErr.{FormErr}
+use Rattle.tcd_base.specs.declared.errors.FormErr.{FormErr}
 use Rattle.tcd_base.specs.Bytes.{bytes_of_half, bytes_of_word}
-use Rattle.tcd_base.specs.Place.{Place, between}
+use Rattle.tcd_base.specs.Place.{Place, place_between}
 use Rattle.tcd_base.specs.Reading.{◌>>=◌, u8_at, u16_at, u32_at}
 use Rattle.tcd_base.proofs.FieldReads.{u8_at-between, u16_at-between, u32_at-between}
 use Rattle.value_domain.specs.declared.values.Val.{Val}
@@ -27,22 +27,22 @@ use Rattle.depth_cert.proofs.GrammarLaws.{width_le}
 
 -- the part is read as x, whatever stands before and after it
 pub record IsRead {A : Type 0} (read : Place → Result (A × Place) FormErr) (part : List ℕ) (x : A) : Type 0 where
-  pub at : (front rest : List ℕ) → read (between front (part ++ rest)) ≡ Ok (x, between (front ++ part) rest)
+  pub at : (front rest : List ℕ) → read (place_between front (part ++ rest)) ≡ Ok (x, place_between (front ++ part) rest)
 
 -- nothing more is read
 pub done : {A : Type 0} (x : A) → IsRead (λ p. Ok (x, p)) [] x
-done {A} x = record { at = λ front rest. ap (λ (l : List ℕ). let r : Result (A × Place) FormErr = Ok (x, between l rest) in r) (sym (append-nil front)) }
+done {A} x = record { at = λ front rest. ap (λ (l : List ℕ). let r : Result (A × Place) FormErr = Ok (x, place_between l rest) in r) (sym (append-nil front)) }
 
 -- one part after another
 pub seq : {A B : Type 0} (r : Place → Result (A × Place) FormErr) (f : Place → A × Place → Result (B × Place) FormErr) (a b : List ℕ) (x : A) (y : B)
     → IsRead r a x → ((start : Place) → IsRead (λ p. f start (x, p)) b y) → IsRead (λ p. r p >>= f p) (a ++ b) y
 seq {A} {B} r f a b x y first second = record {
   at = λ front rest.
-      let whole : Place = between front ((a ++ b) ++ rest) in
-      let start : r whole ≡ Ok (x, between (front ++ a) (b ++ rest)) = ap (λ (l : List ℕ). r (between front l)) (append_assoc a b rest) ∙ first.at front (b ++ rest) in
+      let whole : Place = place_between front ((a ++ b) ++ rest) in
+      let start : r whole ≡ Ok (x, place_between (front ++ a) (b ++ rest)) = ap (λ (l : List ℕ). r (place_between front l)) (append_assoc a b rest) ∙ first.at front (b ++ rest) in
       ap (λ (s : Result (A × Place) FormErr). s >>= f whole) start
       ∙ (second whole).at (front ++ a) rest
-      ∙ ap (λ (l : List ℕ). let s : Result (B × Place) FormErr = Ok (y, between l rest) in s) (append_assoc front a b);
+      ∙ ap (λ (l : List ℕ). let s : Result (B × Place) FormErr = Ok (y, place_between l rest) in s) (append_assoc front a b);
 }
 
 -- a field that passes its test

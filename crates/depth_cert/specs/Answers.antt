@@ -1,6 +1,6 @@
 -- What an error says of a reading.
 use Rattle.std.specs.Prelude.{◌≡◌, Result, Err}
-use Rattle.tcd_base.specs.declared.types.FormErr.{FormErr}
+use Rattle.tcd_base.specs.declared.errors.FormErr.{FormErr}
 use Rattle.depth_cert.specs.declared.errors.CertErr.{CertErr}
 use Rattle.depth_cert.specs.declared.errors.CertErr.TheVariants.{Bad, NoMemory}
 

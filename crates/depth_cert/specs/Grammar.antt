@@ -1,7 +1,8 @@
 -- The grammar of certificates: fields read from left to right, and the first fault. Its kinds are 1 Short (of every
 -- field), 2 Magic, 3 Order, 4 BadValue, 5 Limit, 6 Trailing.
 use Rattle.std.specs.Prelude.{◌+◌, ◌-◌, ◌^◌, ◌==◌, ◌&&◌, ◌||◌, not, nat_lt, nat_le, if◌then◌else◌, ℕ, zero, suc, Bool, true, List, [], ◌∷◌, ◌++◌, length, Option, Some, None, Result, Ok}
-use Rattle.tcd_base.specs.declared.types.FormErr.{FormErr}
+use Rattle.depth_cert.specs.Keys.{call_kind, sys_kind, key_number}
+use Rattle.tcd_base.specs.declared.errors.FormErr.{FormErr}
 use Rattle.tcd_base.specs.Place.{Place}
 use Rattle.tcd_base.specs.Reading.{◌>>=◌, fault_at, u8_at, u16_at, u32_at}
 use Rattle.value_domain.specs.declared.values.Val.{Val}
@@ -12,7 +13,6 @@ use Rattle.value_domain.specs.Versions.{most_words_of, most_locals_of}
 use Rattle.depth_cert.specs.declared.keys.Key.{Key}
 use Rattle.depth_cert.specs.declared.points.Exit.{Exit}
 use Rattle.depth_cert.specs.declared.points.Point.{Point}
-use Rattle.depth_cert.specs.Keys.{key_number}
 use Rattle.depth_cert.specs.Points.{addresses}
 use Rattle.depth_cert.specs.Nodes.{NodeData}
 use Rattle.depth_cert.specs.Certs.{CertData, key_numbers, count_points}
@@ -107,7 +107,7 @@ need_at p = u16_at p >>= λ need. checked 5 (nat_le need.0 4096) p need
 
 -- only calls and system calls may have an exit
 unfoldable pub has_exit_at : ℕ → Place → Result (Bool × Place) FormErr
-has_exit_at kind p = flag_at p >>= λ exit. if exit.0 && not (kind == 1 || kind == 3) then fault_at 4 p else Ok exit
+has_exit_at kind p = flag_at p >>= λ exit. if exit.0 && not (kind == call_kind || kind == sys_kind) then fault_at 4 p else Ok exit
 
 -- an exit: ie, ccpn, and the values of the 14 lower registers
 unfoldable pub exit_at : ℕ → Place → Result (Exit × Place) FormErr

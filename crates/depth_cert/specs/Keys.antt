@@ -2,6 +2,26 @@
 use Rattle.std.specs.Prelude.{◌≤◌, ◌<◌, ◌+◌, ◌*◌, ◌^◌, ◌==◌, ◌&&◌, ℕ, Bool, true, false}
 use Rattle.depth_cert.specs.declared.keys.Key.{Key}
 
+-- the kind of the frame in which a run starts
+abbrev pub start_kind : ℕ
+start_kind = 0
+
+-- the kind of frames of called functions
+abbrev pub call_kind : ℕ
+call_kind = 1
+
+-- the kind of frames of handlers of interrupts
+abbrev pub irq_kind : ℕ
+irq_kind = 2
+
+-- the kind of frames of handlers of system calls
+abbrev pub sys_kind : ℕ
+sys_kind = 3
+
+-- the kind of frames of handlers of misaligned accesses
+abbrev pub aln_kind : ℕ
+aln_kind = 4
+
 -- a truth value as a byte
 abbrev pub byte_of : Bool → ℕ
 byte_of true = 1
@@ -21,6 +41,6 @@ same_key k j = k.kind == j.kind && k.entry == j.entry && k.prio == j.prio && byt
 
 -- the kinds are start, call, irq, sys and aln
 pub record IsKey (k : Key) : Type 0 where
-  pub kind : k.kind ≤ 4
+  pub kind : k.kind ≤ aln_kind
   pub entry : k.entry < 2 ^ 32
   pub prio : k.prio < 2 ^ 8

@@ -6,3 +6,5 @@ pub mod Keys
 pub mod Nodes
 pub mod Points
 pub mod Spelling
+pub mod Exits
+pub mod Known

@@ -1,10 +1,10 @@
 -- Nodes as plain data, and what they keep.
 use Rattle.std.specs.Prelude.{◌≡◌, ◌≤◌, ◌⊎◌, ℕ, List, Option, IfSome}
 use Rattle.std.specs.List.{All}
+use Rattle.depth_cert.specs.Keys.{call_kind, sys_kind, IsKey}
 use Rattle.depth_cert.specs.declared.keys.Key.{Key}
 use Rattle.depth_cert.specs.declared.points.Exit.{Exit}
 use Rattle.depth_cert.specs.declared.points.Point.{Point}
-use Rattle.depth_cert.specs.Keys.{IsKey}
 use Rattle.depth_cert.specs.Points.{ArePoints, IsExit, IsPoint}
 
 -- a node without where its points lie in memory
@@ -18,6 +18,6 @@ pub record NodeData : Type 0 where
 pub record IsNode (version : ℕ) (n : NodeData) : Type 0 where
   pub key : IsKey n.key
   pub need : n.need ≤ 4096
-  pub exit : IfSome n.exit (λ e. ((n.key.kind ≡ 1) ⊎ (n.key.kind ≡ 3)) × IsExit version e)
+  pub exit : IfSome n.exit (λ e. ((n.key.kind ≡ call_kind) ⊎ (n.key.kind ≡ sys_kind)) × IsExit version e)
   pub rising : ArePoints n.points
   pub points : All (IsPoint version) n.points

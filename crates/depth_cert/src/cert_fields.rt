@@ -65,7 +65,8 @@ fn read_nodes(
     count: u16,
 ) -> Result<Vec<Node>, CertErr>
     requires { length c.old.bytes ≤ 2 ^ 30 }
-    ensures ok { IfOk result (λ ns. many_at (node_after version) count [] c.old ≡ Ok (ns.items, c.new)) }
+    ensures ok { IfOk result
+        (λ ns. many_at (node_after version) count [] c.old ≡ Ok (ns.items, c.new)) }
     ensures err { IfErr result (IsFaultOf (many_at (node_after version) count [] c.old)) }
     ensures bytes { c.new.bytes ≡ c.old.bytes }
 {
@@ -89,7 +90,8 @@ fn count_of(node: &Node) -> usize
 #[tactic(auto, unfolding(crate::specs::Grammar::certificate_of, crate::specs::Grammar::cert_at))]
 pub(crate) fn read_parts(alloc: Global, bytes: &[u8]) -> Result<(u8, Vec<Node>), CertErr>
     requires { length bytes.now ≤ 2 ^ 30 }
-    ensures ok { IfOk result (λ r. certificate_of bytes.now ≡ Ok (record { version = r.0; nodes = r.1.items })) }
+    ensures ok { IfOk result
+        (λ r. certificate_of bytes.now ≡ Ok (record { version = r.0; nodes = r.1.items })) }
     ensures err { IfErr result (IsFaultOf (certificate_of bytes.now)) }
 {
     let mut c = Cursor::new(bytes);

@@ -16,7 +16,7 @@ mod writing;
 pub use cert_fields::{read_magic, read_node_count, read_version};
 pub use certs::Cert;
 pub use errors::CertErr;
-pub use keys::Key;
+pub use keys::{ALN, CALL, IRQ, Key, START, SYS};
 pub use node_fields::{number_of, read_exit, read_has_exit, read_need};
 pub use nodes::Node;
 pub use point_fields::{read_locals, read_point_count, read_state};

@@ -23,14 +23,16 @@ fn is_node(node: &Node, number: u64) -> bool
 /// The place before which all keys are below.
 pub(crate) fn node_place(nodes: &[Node], number: u64) -> usize
     requires { IsStrictlyIncreasing (key_numbers nodes.now) }
-    ensures { IsPartitionPoint (λ n. nat_lt (number_of_key n.key) number ≡ true) (λ n. nat_lt (number_of_key n.key) number ≡ false) nodes.now result }
+    ensures { IsPartitionPoint (λ n. nat_lt (number_of_key n.key) number ≡ true)
+        (λ n. nat_lt (number_of_key n.key) number ≡ false) nodes.now result }
 {
     nodes.partition_point(|n| is_below(n, number))
 }
 
 pub(crate) fn node_at(nodes: &[Node], number: u64, at: usize) -> Option<&Node>
     requires rising { IsStrictlyIncreasing (key_numbers nodes.now) }
-    requires place { IsPartitionPoint (λ n. nat_lt (number_of_key n.key) number ≡ true) (λ n. nat_lt (number_of_key n.key) number ≡ false) nodes.now at }
+    requires place { IsPartitionPoint (λ n. nat_lt (number_of_key n.key) number ≡ true)
+        (λ n. nat_lt (number_of_key n.key) number ≡ false) nodes.now at }
     ensures { option_map (λ n. n.now) result ≡ find (λ n. number_of_key n.key == number) nodes.now }
 {
     if at < nodes.len() && is_node(&nodes[at], number) {

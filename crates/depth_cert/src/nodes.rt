@@ -47,14 +47,16 @@ fn is_below(point: &Point, addr: u32) -> bool
 /// The place before which all addresses are below.
 fn point_place(points: &[Point], addr: u32) -> usize
     requires { ArePoints points.now }
-    ensures { IsPartitionPoint (λ p. nat_lt p.addr addr ≡ true) (λ p. nat_lt p.addr addr ≡ false) points.now result }
+    ensures { IsPartitionPoint (λ p. nat_lt p.addr addr ≡ true)
+        (λ p. nat_lt p.addr addr ≡ false) points.now result }
 {
     points.partition_point(|p| is_below(p, addr))
 }
 
 fn point_at(points: &[Point], addr: u32, at: usize) -> Option<&Point>
     requires rising { ArePoints points.now }
-    requires place { IsPartitionPoint (λ p. nat_lt p.addr addr ≡ true) (λ p. nat_lt p.addr addr ≡ false) points.now at }
+    requires place { IsPartitionPoint (λ p. nat_lt p.addr addr ≡ true)
+        (λ p. nat_lt p.addr addr ≡ false) points.now at }
     ensures { option_map (λ p. p.now) result ≡ find_point addr points.now }
 {
     if at < points.len() && points[at].addr == addr {

@@ -33,7 +33,8 @@ pub fn read_locals(c: &mut Cursor<'_>, version: u8) -> Result<ArrayVec<bool, 8>,
 fn read_flags(c: &mut Cursor<'_>, count: u8) -> Result<ArrayVec<bool, 8>, FormErr>
     requires short { length c.old.bytes ≤ 2 ^ 30 }
     requires few { count ≤ 8 }
-    ensures ok { IfOk result (λ l. many_at (λ before. flag_at) count [] c.old ≡ Ok (l.items, c.new)) }
+    ensures ok { IfOk result
+        (λ l. many_at (λ before. flag_at) count [] c.old ≡ Ok (l.items, c.new)) }
     ensures err { IfErr result (λ e. many_at (λ before. flag_at) count [] c.old ≡ Err e) }
     ensures bytes { c.new.bytes ≡ c.old.bytes }
 {

@@ -81,7 +81,8 @@ fn read_span(c: &mut Cursor<'_>, version: u8, step: u8, start: usize) -> Result<
     requires short { length c.old.bytes ≤ 2 ^ 30 }
     requires step { step ≤ 2 }
     requires start { start ≤ length c.old.bytes }
-    ensures read { Reads result c.new (span_at version step (record { bytes = c.old.bytes; place = start }) c.old) }
+    ensures read { Reads result c.new
+        (span_at version step (record { bytes = c.old.bytes; place = start }) c.old) }
     ensures bytes { c.new.bytes ≡ c.old.bytes }
 {
     let lo = read_u32(c)?;

@@ -5,10 +5,9 @@ use Rattle.std.proofs.Math.ListN.{get_or-eq_default}
 use Rattle.value_domain.specs.declared.values.Val.{Val}
 use Rattle.value_domain.specs.declared.states.State.{State}
 use Rattle.value_domain.specs.Values.{any_val, IsWell}
-use Rattle.value_domain.specs.State.{AreWell}
-use Rattle.vd_transfer.specs.Effects.{is_lower_slot}
+use Rattle.value_domain.specs.State.{AreWell, is_lower_slot}
 use Rattle.depth_cert.specs.declared.points.Exit.{Exit}
-use Rattle.cfg_recover.specs.Entries.{with_lower_from, after_of}
+use Rattle.depth_cert.specs.Exits.{with_lower_from, after_of}
 
 pub any_well : IsWell any_val
 any_well = (omega arith, omega arith, omega arith)

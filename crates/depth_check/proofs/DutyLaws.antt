@@ -23,7 +23,8 @@ use Rattle.cfg_recover.specs.declared.flows.Leave.TheVariants.{Stays, Ret, Rfe}
 use Rattle.vd_transfer.specs.Effects.{HasRoom}
 use Rattle.cfg_recover.specs.declared.local.Located.{Located}
 use Rattle.cfg_recover.specs.Changes.{StandsFaultless}
-use Rattle.cfg_recover.specs.Entries.{exit_of, irq_key, irq_entry, aln_key, aln_entry}
+use Rattle.cfg_recover.specs.Entries.{irq_key, irq_entry, aln_key, aln_entry}
+use Rattle.depth_cert.specs.Exits.{exit_of}
 use Rattle.cfg_recover.specs.Local.{are_aligned}
 use Rattle.cfg_recover.specs.Duties.{Owed, owed, jump, enter, resume, leave, jumps_to, successors_of, entries_of, misaligned_at, misaligned_of, irqs_of, interrupts_of, leavings_of, duties_of}
 use Rattle.cfg_recover.specs.Flows.{entered_key, told_back, told_irqs, told_leaving, leave_of}

@@ -5,7 +5,7 @@ use Rattle.std.proofs.lemmas.List.{get_or-take, get_or-drop, get_or_append_left,
 use Rattle.value_domain.specs.declared.values.Val.{Val}
 use Rattle.value_domain.specs.Values.{any_val, IsBelow, IsWell}
 use Rattle.value_domain.specs.State.{AreBelow, AreWell}
-use Rattle.cfg_recover.specs.Entries.{lower_values}
+use Rattle.depth_cert.specs.Exits.{lower_values}
 
 -- a part of well-formed values
 pub well_part : (vs : List Val) (i n : ℕ) → AreWell vs → AreWell (take n (drop i vs))

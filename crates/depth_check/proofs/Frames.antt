@@ -7,7 +7,7 @@ use Rattle.csa_chain.specs.Contexts.{ul_of, pie_of, pcpn_of}
 use Rattle.csa_chain.proofs.ChainLaws.{Links, SameAreas, SameArea, is_area_same, area_word_same}
 use Rattle.csa_chain.proofs.ContextLaws.{upper_regs, lower_regs, global_regs}
 use Rattle.elf_image.specs.Images.{ImageData}
-use Rattle.tcd_base.specs.declared.types.Core.{Core}
+use Rattle.tcd_base.specs.declared.core_version.Core.{Core}
 use Rattle.tcd_plan.specs.PlanData.{PlanData}
 use Rattle.tc_machine.specs.declared.events.End.TheVariants.{Running}
 use Rattle.tc_machine.specs.declared.state.Machine.{Machine}

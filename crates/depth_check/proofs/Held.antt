@@ -4,7 +4,7 @@ use Rattle.std.specs.Prelude.{IsSome, IsSomeAnd, is_some}
 use Rattle.csa_chain.specs.Memory.{Memory}
 use Rattle.csa_chain.specs.Chain.{area_word}
 use Rattle.elf_image.specs.Images.{ImageData}
-use Rattle.tcd_base.specs.declared.types.Core.{Core}
+use Rattle.tcd_base.specs.declared.core_version.Core.{Core}
 use Rattle.tcd_plan.specs.PlanData.{PlanData, IsPlan}
 use Rattle.tc_machine.specs.declared.events.Event.{Event}
 use Rattle.tc_machine.specs.declared.state.Machine.{Machine}

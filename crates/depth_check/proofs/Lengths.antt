@@ -14,7 +14,8 @@ use Rattle.value_domain.specs.Limits.{Limits}
 use Rattle.vd_transfer.specs.Effects.{address_of}
 use Rattle.vd_transfer.specs.Branches.{refine_of}
 use Rattle.depth_cert.specs.declared.keys.Key.{Key}
-use Rattle.cfg_recover.specs.Entries.{call_key, call_entry, aln_key, aln_entry, irq_key, irq_entry, exit_of}
+use Rattle.cfg_recover.specs.Entries.{call_key, call_entry, aln_key, aln_entry, irq_key, irq_entry}
+use Rattle.depth_cert.specs.Exits.{exit_of}
 use Rattle.cfg_recover.specs.Local.{targets_of, are_aligned}
 use Rattle.cfg_recover.specs.Duties.{Duty, jump, enter, leave, Owed, owed, loaded_at, jumps_to, jump_on, successors_of, entered_and_back, entries_of, misaligned_at, misaligned_of, irqs_of, interrupts_of, leavings_of, duties_of}
 use Rattle.cfg_recover.proofs.EntryLaws.{transfer_length, refine_length}

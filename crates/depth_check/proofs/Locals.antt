@@ -7,7 +7,7 @@ use Rattle.csa_chain.specs.Contexts.{pcxi_word_of, with_link, d_after_lower, a_a
 use Rattle.csa_chain.proofs.ChainLaws.{Links, SameAreas-written, area_word-written, is_area-written}
 use Rattle.csa_chain.proofs.ContextLaws.{reg_of, lower_regs, lower_word, lower_back, link_in-pcxi_word, ul_of-pcxi_word, link_in-lt}
 use Rattle.elf_image.specs.Images.{ImageData}
-use Rattle.tcd_base.specs.declared.types.Core.{Core}
+use Rattle.tcd_base.specs.declared.core_version.Core.{Core}
 use Rattle.tcd_plan.specs.PlanData.{PlanData, IsPlan}
 use Rattle.tc_machine.specs.declared.events.End.TheVariants.{Running}
 use Rattle.tc_machine.specs.declared.state.Machine.{Machine}

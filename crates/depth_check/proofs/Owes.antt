@@ -14,14 +14,15 @@ use Rattle.tc_machine.specs.declared.events.End.TheVariants.{Running}
 use Rattle.tc_machine.specs.declared.state.Machine.{Machine}
 use Rattle.tc_machine.specs.Machine.{reg, a11, moved, advanced, then_, with_reg, handler_psw}
 use Rattle.tc_machine.specs.Contexts.{saved, save, restored, restore}
-use Rattle.csa_chain.specs.Memory.{loaded, with_bytes, extended}
+use Rattle.csa_chain.specs.Memory.{load_number, with_bytes, extend}
 use Rattle.tc_machine.specs.Instructions.{interrupt, trap, misaligned, does, access_address, with_base, target_of}
 use Rattle.tc_machine.proofs.Saves.{then_-running}
 use Rattle.value_domain.specs.declared.states.State.{State}
 use Rattle.value_domain.specs.Limits.{Limits}
 use Rattle.vd_transfer.specs.Effects.{saved_lower, restored_lower, transfer_of}
 use Rattle.depth_cert.specs.declared.keys.Key.{Key}
-use Rattle.cfg_recover.specs.Entries.{sys_key, sys_entry, exit_of}
+use Rattle.cfg_recover.specs.Entries.{sys_key, sys_entry}
+use Rattle.depth_cert.specs.Exits.{exit_of}
 use Rattle.cfg_recover.specs.Duties.{jump, enter, resume, leave, owed, interrupts_of, duties_of}
 use Rattle.cfg_recover.specs.Moves.{traps}
 use Rattle.depth_check.proofs.Enter.{begun}
@@ -107,7 +108,7 @@ module _ (m : Machine) (running : m.end ≡ Running) where
 pub traps-is : (m : Machine) (e : Event) (shape : Shape) (n : ℕ) → traps m e shape ≡ true → does m e shape n ≡ misaligned m
 unfolding does
 traps-is m e (Load dst base offset size signed after) n h =
-    ap (λ t. cond t (misaligned m) (advanced n (with_reg (with_base m base offset after) dst (extended signed size (loaded m.mem e.input (access_address m base offset after) size))))) h
+    ap (λ t. cond t (misaligned m) (advanced n (with_reg (with_base m base offset after) dst (extend signed size (load_number m.mem e.input (access_address m base offset after) size))))) h
 traps-is m e (Store src base offset size after) n h =
     ap (λ t. cond t (misaligned m) (advanced n (record (with_base m base offset after) { mem = with_bytes m.mem (access_address m base offset after) (reg m src) size }))) h
 traps-is m e _ n h = absurd (let f : false ≡ true = h in cc)

@@ -35,9 +35,10 @@ use Rattle.depth_cert.specs.Points.{find_point}
 use Rattle.depth_cert.specs.Nodes.{NodeData}
 use Rattle.depth_cert.specs.Certs.{CertData, IsCert, find_node}
 use Rattle.cfg_recover.specs.Code.{IsCode}
-use Rattle.cfg_recover.specs.Entries.{call_key, irq_key, sys_key, aln_key, call_entry, irq_entry, sys_entry, aln_entry, exit_of, after_of}
+use Rattle.cfg_recover.specs.Entries.{call_key, irq_key, sys_key, aln_key, call_entry, irq_entry, sys_entry, aln_entry}
+use Rattle.depth_cert.specs.Exits.{exit_of, after_of, ExitCovers}
 use Rattle.cfg_recover.specs.Duties.{Owed, jump, enter, resume, leave, owed}
-use Rattle.cfg_recover.specs.Accepting.{limits_in, HasPoint, ExitCovers, Accepts}
+use Rattle.cfg_recover.specs.Accepting.{limits_in, HasPoint, Accepts}
 use Rattle.cfg_recover.specs.Frames.{Way, to, call, irq, sys, aln, Standing, way_of_shape, way_by, way_in, handler_key, frames_at, frames_entered, frames_left, frames_by, size_in, frames_after, IsReturn, OwesEntry, IsOwed}
 use Rattle.cfg_recover.specs.Moves.{IsAtPoint, StaysInFrame, traps}
 use Rattle.cfg_recover.proofs.MoveLaws.{moves_in_frame, traps_owed, calls_owed, interrupts_owed}

@@ -1,5 +1,6 @@
 -- The least rule that fails, and what is looked at for it: the duties of a point and its need.
 use Rattle.std.specs.Prelude.{◌≡◌, ◌-◌, ◌<◌, ◌≤◌, ℕ, Bool, if◌then◌else◌, min, List, length, Option, Some, None, IfSome, IsSomeAnd, All}
+use Rattle.depth_cert.specs.Keys.{sys_kind}
 use Rattle.elf_image.specs.Images.{ImageData}
 use Rattle.tcd_plan.specs.PlanData.{PlanData}
 use Rattle.value_domain.specs.declared.states.State.{State}
@@ -9,9 +10,10 @@ use Rattle.depth_cert.specs.Nodes.{NodeData}
 use Rattle.depth_cert.specs.Certs.{CertData}
 use Rattle.cfg_recover.specs.declared.flows.Leave.{Leave}
 use Rattle.cfg_recover.specs.declared.flows.Leave.TheVariants.{Stays, Ret, Rfe}
-use Rattle.cfg_recover.specs.Entries.{start_key, exit_of, after_of}
+use Rattle.cfg_recover.specs.Entries.{start_key}
+use Rattle.depth_cert.specs.Exits.{exit_of, after_of, ExitCovers}
 use Rattle.cfg_recover.specs.Duties.{Owed}
-use Rattle.cfg_recover.specs.Accepting.{HasPoint, IsMet, IsNeedAbove, ExitCovers}
+use Rattle.cfg_recover.specs.Accepting.{HasPoint, IsMet, IsNeedAbove}
 
 -- the values of a node are well-formed
 pub record IsWellNode (node : NodeData) : Type 0 where
@@ -66,7 +68,7 @@ HasExit node s = IsSomeAnd node.exit (λ y. ExitCovers y (exit_of s))
 abbrev pub LeavingHolds : NodeData → State → Leave → ℕ → Type 0
 LeavingHolds node s Stays q = Unit {0}
 LeavingHolds node s Ret q = 6 ≡ q → HasExit node s
-LeavingHolds node s Rfe q = (node.key).kind ≡ 3 → 7 ≡ q → HasExit node s
+LeavingHolds node s Rfe q = (node.key).kind ≡ sys_kind → 7 ≡ q → HasExit node s
 
 -- what rule 14 asks of the node itself: room for the locals; at the start's entry the reserve stays free
 pub record HasOwnNeed (image : ImageData) (plan : PlanData) (node : NodeData) (point : Point) : Type 0 where

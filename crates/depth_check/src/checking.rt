@@ -21,7 +21,8 @@ fn start_node<'a>(image: &Image, plan: &Plan, cert: &AnyCert<'a>) -> Option<Fram
     requires { All IsWellNode cert.now.nodes }
     ensures none { IsNone result → HoldsAtStart image.now plan.now cert.now → ⊥ }
     ensures holds { IfSome result (λ n. HoldsAtStart image.now plan.now cert.now) }
-    ensures node { IfSome result (λ n. find_node (entries.start_key image.now plan.now) cert.now.nodes ≡ Some n) }
+    ensures node { IfSome result
+        (λ n. find_node (entries.start_key image.now plan.now) cert.now.nodes ≡ Some n) }
 {
     let _sp = plan.sp;
     let node = cert.node(&start_key(image, plan))?;

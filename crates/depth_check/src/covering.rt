@@ -1,9 +1,9 @@
 // Whether points and exits cover.
 ghost use Rattle.std.specs.Prelude.{◌≡◌, ◌≤◌, ◌↔◌, IsTrue, IfSome, length, All};
 ghost use Rattle.value_domain.specs.State.{AreWell, AreBelow, AreValues};
-ghost use Rattle.vd_transfer.specs.Changes.{changed};
-ghost use Rattle.cfg_recover.specs.Entries.{after_of, exit_of, lower_values};
-ghost use Rattle.cfg_recover.specs.Accepting.{HasPoint, ExitCovers};
+ghost use Rattle.vd_transfer.specs.Changes.{state_after};
+ghost use Rattle.depth_cert.specs.Exits.{after_of, exit_of, lower_values, ExitCovers};
+ghost use Rattle.cfg_recover.specs.Accepting.{HasPoint};
 ghost use Rattle.depth_check.specs.Finding.{IsWellNode, HasPoints, HasExit};
 
 use crate::forms::{Frame, NodeForm};
@@ -26,8 +26,8 @@ fn plain_has_point(node: &Node, addr: u32, s: &State) -> bool
 
 fn plain_has_changed(node: &Node, addr: u32, s: &State, c: &Change) -> bool
     requires node { IsWellNode node.now }
-    requires state { AreWell (changed s.now c.now).regs }
-    ensures { IsTrue result ↔ HasPoint node.now addr (changed s.now c.now) }
+    requires state { AreWell (state_after s.now c.now).regs }
+    ensures { IsTrue result ↔ HasPoint node.now addr (state_after s.now c.now) }
 {
     match node.point(addr) {
         Some(point) => covers_changed(&point.state, s, c),
@@ -57,8 +57,8 @@ fn packed_has_point(node: &PackedNode<'_>, near: usize, addr: u32, s: &State) ->
 }
 
 fn packed_has_changed(node: &PackedNode<'_>, near: usize, addr: u32, s: &State, c: &Change) -> bool
-    requires state { AreWell (changed s.now c.now).regs }
-    ensures { IsTrue result ↔ HasPoint node.now addr (changed s.now c.now) }
+    requires state { AreWell (state_after s.now c.now).regs }
+    ensures { IsTrue result ↔ HasPoint node.now addr (state_after s.now c.now) }
 {
     match node.state(addr, near) {
         Some(upper) => upper.covers_changed(s, c),
@@ -100,8 +100,8 @@ pub(crate) fn has_point(node: &Frame<'_>, addr: u32, s: &State) -> bool
 /// Whether the node has a point at this address that covers the changed state.
 pub(crate) fn has_changed(node: &Frame<'_>, addr: u32, s: &State, c: &Change) -> bool
     requires node { IsWellNode node.now }
-    requires state { AreWell (changed s.now c.now).regs }
-    ensures { IsTrue result ↔ HasPoint node.now addr (changed s.now c.now) }
+    requires state { AreWell (state_after s.now c.now).regs }
+    ensures { IsTrue result ↔ HasPoint node.now addr (state_after s.now c.now) }
 {
     match &node.form {
         NodeForm::Plain(node) => plain_has_changed(node, addr, s, c),
@@ -127,7 +127,8 @@ fn plain_comes_back(node: &Frame<'_>, at: u32, s: &State, entered: &Node, kind: 
     requires node { IsWellNode node.now }
     requires entered { IsWellNode entered.now }
     requires state { AreWell s.now.regs }
-    ensures { IsTrue result ↔ IfSome entered.now.exit (λ x. HasPoint node.now at (after_of s.now x kind)) }
+    ensures { IsTrue result
+        ↔ IfSome entered.now.exit (λ x. HasPoint node.now at (after_of s.now x kind)) }
 {
     match &entered.exit {
         Some(exit) => has_after(node, at, s, exit, kind),
@@ -145,7 +146,8 @@ fn packed_comes_back(
     requires node { IsWellNode node.now }
     requires entered { IsWellNode entered.now }
     requires state { AreWell s.now.regs }
-    ensures { IsTrue result ↔ IfSome entered.now.exit (λ x. HasPoint node.now at (after_of s.now x kind)) }
+    ensures { IsTrue result
+        ↔ IfSome entered.now.exit (λ x. HasPoint node.now at (after_of s.now x kind)) }
 {
     match entered.exit() {
         Some(exit) => has_after(node, at, s, &exit.read(), kind),
@@ -164,7 +166,8 @@ pub(crate) fn comes_back(
     requires node { IsWellNode node.now }
     requires entered { IsWellNode entered.now }
     requires state { AreWell s.now.regs }
-    ensures { IsTrue result ↔ IfSome entered.now.exit (λ x. HasPoint node.now at (after_of s.now x kind)) }
+    ensures { IsTrue result
+        ↔ IfSome entered.now.exit (λ x. HasPoint node.now at (after_of s.now x kind)) }
 {
     match &entered.form {
         NodeForm::Plain(entered) => plain_comes_back(node, at, s, entered, kind),
@@ -224,7 +227,8 @@ fn are_lower_below(s: &State, exit: &Exit) -> bool
 }
 
 fn is_status_covered(exit: &Exit, s: &State) -> bool
-    ensures { IsTrue result ↔ ((IsTrue s.now.ie → IsTrue exit.now.ie) × (exit.now.ccpn ≤ s.now.ccpn)) }
+    ensures { IsTrue result
+        ↔ ((IsTrue s.now.ie → IsTrue exit.now.ie) × (exit.now.ccpn ≤ s.now.ccpn)) }
 {
     (exit.ie || !s.ie) && exit.ccpn <= s.ccpn
 }

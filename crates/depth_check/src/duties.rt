@@ -1,13 +1,12 @@
 // The least rule that the duties of a point break.
 ghost use Rattle.std.specs.Prelude.{◌≡◌, ◌≤◌, ◌+◌, ◌↔◌, [], ◌∷◌, IsTrue, length, unwrap_or, All, IfSome};
-ghost use Rattle.value_domain.specs.State.{AreWell};
+ghost use Rattle.value_domain.specs.State.{AreWell, AreValues};
 ghost use Rattle.cfg_recover.specs.Entries as entries;
 ghost use Rattle.std.specs.List.{flat_map};
 ghost use Rattle.value_domain.specs.Values.{IsValue};
-ghost use Rattle.value_domain.specs.State.{AreValues};
 ghost use Rattle.tc_isa.specs.Bounded.{IsShape, IsSize, IsTarget};
 ghost use Rattle.vd_transfer.specs.Effects.{address_of};
-ghost use Rattle.vd_transfer.specs.Changes.{changed};
+ghost use Rattle.vd_transfer.specs.Changes.{state_after};
 ghost use Rattle.cfg_recover.specs.Changes.{StandsFaultless};
 ghost use Rattle.cfg_recover.specs.Entries.{call_key};
 ghost use Rattle.cfg_recover.specs.Local.{targets_of};
@@ -85,8 +84,9 @@ fn broken_by_entry(
     requires nodes { All IsWellNode cert.now.nodes }
     requires node { IsWellNode node.now }
     requires state { AreWell s.now.regs }
-    requires entry { AreWell (changed s.now entry.now).regs }
-    ensures { Finds (DutiesHold cert.now node.now s.now (owed rule (enter key.now (changed s.now entry.now)) ∷ told_back key.now back)) result }
+    requires entry { AreWell (state_after s.now entry.now).regs }
+    ensures { Finds (DutiesHold cert.now node.now s.now
+        (owed rule (enter key.now (state_after s.now entry.now)) ∷ told_back key.now back)) result }
 {
     let Some(entered) = cert.node(key) else {
         return Some(rule);
@@ -109,8 +109,10 @@ fn broken_by_calls(
     requires nodes { All IsWellNode cert.now.nodes }
     requires node { IsWellNode node.now }
     requires state { AreWell s.now.regs }
-    requires entry { AreWell (changed s.now entry.now).regs }
-    ensures { Finds (DutiesHold cert.now node.now s.now (flat_map (λ t. entered_and_back 5 (call_key node.now.key t) (changed s.now entry.now) back) targets.now)) result }
+    requires entry { AreWell (state_after s.now entry.now).regs }
+    ensures { Finds (DutiesHold cert.now node.now s.now
+        (flat_map (λ t. entered_and_back 5 (call_key node.now.key t)
+        (state_after s.now entry.now) back) targets.now)) result }
 {
     let mut found = None;
     for t in targets {
@@ -136,7 +138,10 @@ fn broken_by_call(
     requires node { IsWellNode node.now }
     requires values { AreValues b.now s.now.regs }
     requires target { IsTarget to }
-    ensures { Finds (DutiesHold cert.now node.now s.now (flat_map (λ t. entered_and_back 5 (call_key node.now.key t) (entries.call_entry s.now) back) (unwrap_or (targets_of plan.now s.now addr to) []))) result }
+    ensures { Finds (DutiesHold cert.now node.now s.now
+        (flat_map (λ t. entered_and_back 5 (call_key node.now.key t)
+        (entries.call_entry s.now) back)
+        (unwrap_or (targets_of plan.now s.now addr to) []))) result }
 {
     let entry = call_change(b, s);
     let targets = targets(plan, s, addr, to);
@@ -156,7 +161,9 @@ fn broken_by_system(
     requires nodes { All IsWellNode cert.now.nodes }
     requires node { IsWellNode node.now }
     requires values { AreValues b.now s.now.regs }
-    ensures { Finds (DutiesHold cert.now node.now s.now (entered_and_back 12 (entries.sys_key plan.now node.now.key) (entries.sys_entry plan.now node.now.key s.now tin) back)) result }
+    ensures { Finds (DutiesHold cert.now node.now s.now
+        (entered_and_back 12 (entries.sys_key plan.now node.now.key)
+        (entries.sys_entry plan.now node.now.key s.now tin) back)) result }
 {
     let entry = system_change(b, plan, &node.key, s, tin);
     let key = sys_key(plan, &node.key);
@@ -178,7 +185,8 @@ fn broken_by_entries(
     requires node { IsWellNode node.now }
     requires values { AreValues b.now s.now.regs }
     requires shape { IsShape shape }
-    ensures { Finds (DutiesHold cert.now node.now s.now (entries_of plan.now node.now.key addr s.now shape size)) result }
+    ensures { Finds (DutiesHold cert.now node.now s.now
+        (entries_of plan.now node.now.key addr s.now shape size)) result }
 {
     let back = addr.wrapping_add(size);
     match shape {
@@ -203,7 +211,8 @@ fn broken_by_misaligned(
     requires values { AreValues b.now s.now.regs }
     requires at { IsValue b.now at.now }
     requires size { IsSize size }
-    ensures { Finds (DutiesHold cert.now node.now s.now (misaligned_at plan.now node.now.key s.now at.now size)) result }
+    ensures { Finds (DutiesHold cert.now node.now s.now
+        (misaligned_at plan.now node.now.key s.now at.now size)) result }
 {
     if is_aligned(b, at, size) {
         return None;
@@ -229,7 +238,8 @@ fn broken_by_access(
     requires shape { IsShape shape }
     requires at { IsValue b.now at.now }
     requires access { at.now ≡ address_of b.now plan.now shape s.now }
-    ensures { Finds (DutiesHold cert.now node.now s.now (misaligned_of b.now plan.now node.now.key s.now shape)) result }
+    ensures { Finds (DutiesHold cert.now node.now s.now
+        (misaligned_of b.now plan.now node.now.key s.now shape)) result }
 {
     match shape {
         Shape::Load { size, .. } => broken_by_misaligned(b, plan, cert, node, s, at, size),
@@ -250,8 +260,9 @@ fn broken_by_irqs(
     requires nodes { All IsWellNode cert.now.nodes }
     requires node { IsWellNode node.now }
     requires state { AreWell s.now.regs }
-    requires entry { AreWell (changed s.now entry).regs }
-    ensures { Finds (DutiesHold cert.now node.now s.now (told_irqs plan.now (changed s.now entry) irqs.now)) result }
+    requires entry { AreWell (state_after s.now entry).regs }
+    ensures { Finds (DutiesHold cert.now node.now s.now
+        (told_irqs plan.now (state_after s.now entry) irqs.now)) result }
 {
     let mut entry = entry;
     let mut found = None;
@@ -277,7 +288,8 @@ fn broken_by_interrupts(
     requires node { IsWellNode node.now }
     requires values { AreValues b.now s.now.regs }
     requires again { IsTrue again → InterruptsHold plan.now cert.now node.now s.now }
-    ensures { Finds (DutiesHold cert.now node.now s.now (interrupts_of plan.now node.now.key s.now)) result }
+    ensures { Finds (DutiesHold cert.now node.now s.now
+        (interrupts_of plan.now node.now.key s.now)) result }
 {
     if again {
         return None;
@@ -335,8 +347,10 @@ pub(crate) fn broken_by_duties(
     requires node { IsWellNode node.now }
     requires values { AreValues b.now point.state.now.regs }
     requires found { StandsFaultless b.now image.now plan.now node.now.key point.addr point.state.now found.now }
-    requires again { IsTrue point.again → InterruptsHold plan.now cert.now node.now point.state.now }
-    ensures { Finds (DutiesHold cert.now node.now point.entry.state.now (duties_of b.now image.now plan.now node.now.key point.entry.addr point.entry.state.now found.now.shape found.now.size)) result }
+    requires again { IsTrue point.again
+        → InterruptsHold plan.now cert.now node.now point.state.now }
+    ensures { Finds (DutiesHold cert.now node.now point.entry.state.now
+        (duties_of b.now image.now plan.now node.now.key point.entry.addr point.entry.state.now found.now.shape found.now.size)) result }
 {
     let addr = point.addr;
     let s = point.state;

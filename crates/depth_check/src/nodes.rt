@@ -88,7 +88,8 @@ fn plain_fault(
     requires nodes { All IsWellNode cert.now.nodes }
     requires member { Contains cert.now.nodes node.now }
     requires same { frame.now ≡ node.now }
-    ensures { MatchOption result (HoldsAtNode image.now plan.now cert.now node.now) (λ f. IsNodeFault image.now plan.now cert.now node.now f.rule f.addr) }
+    ensures { MatchOption result (HoldsAtNode image.now plan.now cert.now node.now)
+        (λ f. IsNodeFault image.now plan.now cert.now node.now f.rule f.addr) }
 {
     let entry = node.key.entry;
     let good = plain_holds_at_entry(b, node);
@@ -123,7 +124,8 @@ fn packed_fault(
     requires limits { b.now ≡ limits_in plan.now cert.now }
     requires nodes { All IsWellNode cert.now.nodes }
     requires member { Contains cert.now.nodes node.now }
-    ensures { MatchOption result (HoldsAtNode image.now plan.now cert.now node.now) (λ f. IsNodeFault image.now plan.now cert.now node.now f.rule f.addr) }
+    ensures { MatchOption result (HoldsAtNode image.now plan.now cert.now node.now)
+        (λ f. IsNodeFault image.now plan.now cert.now node.now f.rule f.addr) }
 {
     let entry = node.key.entry;
     let good = packed_holds_at_entry(b, node);
@@ -163,7 +165,8 @@ pub(crate) fn node_fault(
     requires limits { b.now ≡ limits_in plan.now cert.now }
     requires nodes { All IsWellNode cert.now.nodes }
     requires member { Contains cert.now.nodes frame.now }
-    ensures { MatchOption result (HoldsAtNode image.now plan.now cert.now frame.now) (λ f. IsNodeFault image.now plan.now cert.now frame.now f.rule f.addr) }
+    ensures { MatchOption result (HoldsAtNode image.now plan.now cert.now frame.now)
+        (λ f. IsNodeFault image.now plan.now cert.now frame.now f.rule f.addr) }
 {
     match &frame.form {
         NodeForm::Plain(node) => plain_fault(b, image, plan, cert, frame, node),

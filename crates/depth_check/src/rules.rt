@@ -44,10 +44,14 @@ fn broken_by_located(
     requires nodes { All IsWellNode cert.now.nodes }
     requires node { IsWellNode node.now }
     requires values { AreValues b.now point.state.now.regs }
-    requires again { IsTrue point.again → InterruptsHold plan.now cert.now node.now point.state.now }
-    requires fault { IfErr found (IsLocalFault b.now image.now plan.now node.now.key point.addr point.state.now) }
-    requires duties { IfOk found (StandsFaultless b.now image.now plan.now node.now.key point.addr point.state.now) }
-    ensures { Finds (RuleHolds image.now plan.now cert.now node.now (point_here point.entry)) result }
+    requires again { IsTrue point.again
+        → InterruptsHold plan.now cert.now node.now point.state.now }
+    requires fault { IfErr found
+        (IsLocalFault b.now image.now plan.now node.now.key point.addr point.state.now) }
+    requires duties { IfOk found
+        (StandsFaultless b.now image.now plan.now node.now.key point.addr point.state.now) }
+    ensures { Finds (RuleHolds image.now plan.now cert.now node.now
+        (point_here point.entry)) result }
 {
     match found {
         Err(rule) => Some(rule),
@@ -71,8 +75,10 @@ pub(crate) fn broken_by_point(
     requires limits { b.now ≡ limits_in plan.now cert.now }
     requires nodes { All IsWellNode cert.now.nodes }
     requires node { IsWellNode node.now }
-    requires again { IsTrue point.again → InterruptsHold plan.now cert.now node.now point.state.now }
-    ensures { Finds (RuleHolds image.now plan.now cert.now node.now (point_here point.entry)) result }
+    requires again { IsTrue point.again
+        → InterruptsHold plan.now cert.now node.now point.state.now }
+    ensures { Finds (RuleHolds image.now plan.now cert.now node.now
+        (point_here point.entry)) result }
 {
     if !are_values(b, &point.state.regs) {
         return Some(2);

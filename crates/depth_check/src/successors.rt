@@ -32,7 +32,9 @@ fn broken_by_side(
     requires node { IsWellNode node.now }
     requires values { AreValues b.now s.now.regs }
     requires shape { IsShape shape }
-    ensures { (cert : CertData) → Finds (DutiesHold cert node.now s.now (jump_on to (refine_of b.now plan.now shape s.now taken))) result }
+    ensures { (cert : CertData)
+        → Finds (DutiesHold cert node.now s.now
+        (jump_on to (refine_of b.now plan.now shape s.now taken))) result }
 {
     match change_on(b, plan, shape, s, taken) {
         Some(c) => unless(has_changed(node, to, s, &c), 4),
@@ -53,7 +55,10 @@ fn broken_by_sides(
     requires node { IsWellNode node.now }
     requires values { AreValues b.now s.now.regs }
     requires shape { IsShape shape }
-    ensures { (cert : CertData) → Finds (DutiesHold cert node.now s.now (jump_on next (refine_of b.now plan.now shape s.now false) ++ jump_on to (refine_of b.now plan.now shape s.now true))) result }
+    ensures { (cert : CertData)
+        → Finds (DutiesHold cert node.now s.now
+        (jump_on next (refine_of b.now plan.now shape s.now false)
+        ++ jump_on to (refine_of b.now plan.now shape s.now true))) result }
 {
     let on = broken_by_side(b, plan, node, s, shape, false, next);
     let off = broken_by_side(b, plan, node, s, shape, true, to);
@@ -65,7 +70,9 @@ fn broken_by_jump(plan: &Plan, node: &Frame<'_>, addr: u32, s: &State, to: Targe
     requires node { IsWellNode node.now }
     requires state { AreWell s.now.regs }
     requires target { IsTarget to }
-    ensures { (cert : CertData) → Finds (DutiesHold cert node.now s.now (jumps_to s.now (unwrap_or (targets_of plan.now s.now addr to) []))) result }
+    ensures { (cert : CertData)
+        → Finds (DutiesHold cert node.now s.now
+        (jumps_to s.now (unwrap_or (targets_of plan.now s.now addr to) []))) result }
 {
     let targets = targets(plan, s, addr, to);
     unless(has_points(node, targets.as_slice(), s), 4)
@@ -75,7 +82,8 @@ fn broken_by_jump(plan: &Plan, node: &Frame<'_>, addr: u32, s: &State, to: Targe
 fn broken_by_pass(node: &Frame<'_>, s: &State, next: u32) -> Option<u8>
     requires node { IsWellNode node.now }
     requires state { AreWell s.now.regs }
-    ensures { (cert : CertData) → Finds (DutiesHold cert node.now s.now (owed 4 (jump next s.now) ∷ [])) result }
+    ensures { (cert : CertData)
+        → Finds (DutiesHold cert node.now s.now (owed 4 (jump next s.now) ∷ [])) result }
 {
     unless(has_point(node, next, s), 4)
 }
@@ -93,7 +101,9 @@ fn broken_by_step(
     requires node { IsWellNode node.now }
     requires values { AreValues b.now s.now.regs }
     requires found { StandsFaultless b.now image.now plan.now node.now.key addr s.now found.now }
-    ensures { (cert : CertData) → Finds (DutiesHold cert node.now s.now (next_of b.now image.now plan.now addr s.now found.now.shape found.now.size)) result }
+    ensures { (cert : CertData)
+        → Finds (DutiesHold cert node.now s.now
+        (next_of b.now image.now plan.now addr s.now found.now.shape found.now.size)) result }
 {
     let value = loaded_from(b, image, plan, found.shape, &found.at);
     let c = change_of(b, plan, found.shape, s, value);
@@ -114,7 +124,9 @@ pub(crate) fn broken_by_successors(
     requires node { IsWellNode node.now }
     requires values { AreValues b.now s.now.regs }
     requires found { StandsFaultless b.now image.now plan.now node.now.key addr s.now found.now }
-    ensures { (cert : CertData) → Finds (DutiesHold cert node.now s.now (successors_of b.now image.now plan.now addr s.now found.now.shape found.now.size)) result }
+    ensures { (cert : CertData)
+        → Finds (DutiesHold cert node.now s.now
+        (successors_of b.now image.now plan.now addr s.now found.now.shape found.now.size)) result }
 {
     let next = addr.wrapping_add(found.size);
     let shape = found.shape;

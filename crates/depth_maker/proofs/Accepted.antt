@@ -15,15 +15,17 @@ use Rattle.depth_cert.specs.Points.{find_point, IsPoint, IsExit}
 use Rattle.depth_cert.specs.Nodes.{NodeData, IsNode}
 use Rattle.depth_cert.specs.Certs.{CertData, IsCert, find_node}
 use Rattle.cfg_recover.specs.Code.{IsCode}
-use Rattle.cfg_recover.specs.Entries.{start_key, start_state, after_of}
+use Rattle.cfg_recover.specs.Entries.{start_key, start_state}
+use Rattle.depth_cert.specs.Exits.{after_of, ExitCovers}
 use Rattle.cfg_recover.specs.Local.{LocalHolds, IsFaultless}
 use Rattle.cfg_recover.specs.Duties.{Duty, jump, enter, resume, leave, Owed, duties_of}
-use Rattle.cfg_recover.specs.Accepting.{limits_in, HasPoint, ExitCovers, IsMet, IsNeedAbove, HasNeed, RuleHolds, HoldsAtStart, HoldsAtNode, Accepts, need_of}
-use Rattle.cfg_recover.specs.Assignments.{Place, point, exit, Known, state, leaving, Assignment, known_at, known_in, CoversAt, asked, HasDuty, Asks, Closed, first_place}
+use Rattle.cfg_recover.specs.Accepting.{limits_in, HasPoint, IsMet, IsNeedAbove, HasNeed, RuleHolds, HoldsAtStart, HoldsAtNode, Accepts, need_of}
+use Rattle.cfg_recover.specs.Assignments.{Place, point, exit, Assignment, known_at, known_in, CoversAt, asked, HasDuty, Asks, Closed, first_place}
+use Rattle.depth_cert.specs.Known.{Known, state, leaving, IsProper, IsProperExit, IsProperKnown}
 use Rattle.cfg_recover.specs.Refusals.{Enters, MeetsNeeds}
 use Rattle.cfg_recover.proofs.CodeLaws.{IsCode-bounded}
-use Rattle.depth_maker.specs.Growth.{IsProper, IsProperExit, IsGround}
-use Rattle.depth_maker.specs.Proper.{IsProperKnown, AllProper, AllFaultless}
+use Rattle.depth_maker.specs.Growth.{IsGround}
+use Rattle.depth_maker.specs.Proper.{AllProper, AllFaultless}
 use Rattle.frame_places.proofs.KeyLaws.{key_tells, key_same}
 use Rattle.depth_maker.proofs.PlaceLaws.{resumed_some, one_state}
 use Rattle.depth_maker.proofs.KeyDuties.{HasKey, duties_keys}

@@ -5,16 +5,18 @@ use Rattle.elf_image.specs.Images.{ImageData}
 use Rattle.tcd_plan.specs.PlanData.{PlanData}
 use Rattle.value_domain.specs.declared.states.State.{State}
 use Rattle.value_domain.specs.Limits.{Limits}
-use Rattle.value_domain.specs.State.{Covers, joined}
+use Rattle.value_domain.specs.State.{Covers, joined_states}
 use Rattle.depth_cert.specs.declared.keys.Key.{Key}
 use Rattle.depth_cert.specs.declared.points.Exit.{Exit}
-use Rattle.cfg_recover.specs.Entries.{start_state, after_of}
+use Rattle.cfg_recover.specs.Entries.{start_state}
+use Rattle.depth_cert.specs.Exits.{after_of}
 use Rattle.cfg_recover.specs.Local.{IsFaultless}
 use Rattle.cfg_recover.specs.Duties.{Duty, jump, enter, resume, leave}
-use Rattle.cfg_recover.specs.Assignments.{Place, point, exit, Known, state, leaving, Assignment, same_place, CoversKnown, CoversAt, IsBelowAt, joined_known, raised, asked, resumed, HasDuty, Asks, Joins, Derived, begins, joins, Closed, first_place}
+use Rattle.cfg_recover.specs.Assignments.{Place, point, exit, Assignment, same_place, CoversAt, IsBelowAt, raised, asked, resumed, HasDuty, Asks, Joins, Derived, begins, joins, Closed, first_place}
+use Rattle.depth_cert.specs.Known.{Known, state, leaving, CoversKnown, joined_known, IsProper, IsProperExit, IsProperKnown}
 use Rattle.cfg_recover.specs.Refusals.{HasManyNodes, HasManyPoints, IsTooLarge, Passes, HasFault, own, locals, IsFault, derived, limits}
-use Rattle.depth_maker.specs.Growth.{IsProper, IsProperExit, IsProperDuty, IsDutyBelow}
-use Rattle.depth_maker.specs.Proper.{IsProperKnown, AllProper, AllFaultless, AreLawful}
+use Rattle.depth_maker.specs.Growth.{IsProperDuty, IsDutyBelow}
+use Rattle.depth_maker.specs.Proper.{AllProper, AllFaultless, AreLawful}
 use Rattle.depth_maker.proofs.PlaceLaws.{place_tells, over_state, over_exit, resumed_some, from_if}
 
 module _ (b : Limits) (image : ImageData) (plan : PlanData) (laws : AreLawful b image plan) where
@@ -190,7 +192,7 @@ module _ (b : Limits) (image : ImageData) (plan : PlanData) (laws : AreLawful b 
     fault_of : (a : Assignment) (r : ℕ) (k : Key) (p : ℕ) → Derived b image plan a → HasFault b image plan a r k p → ⊥
     fault_of a _ _ _ d (own r k p s at is) = is.fails (derived_faultless a d k p s at r)
     fault_of a _ _ _ d (locals k p s t at asks none) = derived_joins a d (point k p) (state t) (state s) asks at (unjoined s t none) where
-      unjoined : (s t : State) → joined b s t ≡ None → joined_known b (state s) (state t) ≡ None
+      unjoined : (s t : State) → joined_states b s t ≡ None → joined_known b (state s) (state t) ≡ None
       unjoined s t e = rw e refl
 
     pub fault_refuted : (IsTooLarge c → ⊥) → (r : ℕ) (k : Key) (p : ℕ) → IsFault b image plan r k p → ⊥

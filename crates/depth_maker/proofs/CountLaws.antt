@@ -11,7 +11,8 @@ use Rattle.value_domain.specs.declared.states.State.{State}
 use Rattle.value_domain.specs.Limits.{Limits}
 use Rattle.depth_cert.specs.declared.keys.Key.{Key}
 use Rattle.depth_cert.specs.Keys.{same_key}
-use Rattle.cfg_recover.specs.Assignments.{Place, point, exit, Known, state, Assignment, same_place, frame_of, Asks, HasDuty, Joins, Derived}
+use Rattle.cfg_recover.specs.Assignments.{Place, point, exit, Assignment, same_place, frame_of, Asks, HasDuty, Joins, Derived}
+use Rattle.depth_cert.specs.Known.{Known, state}
 use Rattle.cfg_recover.specs.Refusals.{HasManyNodes, HasManyPoints, IsTooLarge, Passes, IsFault, limits}
 use Rattle.depth_maker.specs.Counts.{AreCounted, AreFew}
 use Rattle.frame_places.proofs.KeyLaws.{key_tells, key_same}

@@ -16,8 +16,8 @@ use Rattle.value_domain.specs.declared.values.Val.{Val}
 use Rattle.value_domain.specs.declared.states.State.{State}
 use Rattle.value_domain.specs.Limits.{Limits}
 use Rattle.value_domain.specs.Values.{IsValue, IsBelow, any_val}
-use Rattle.value_domain.specs.State.{Covers, AreBelow}
-use Rattle.vd_transfer.specs.Effects.{address_of, is_lower_slot, transfer_of}
+use Rattle.value_domain.specs.State.{Covers, AreBelow, is_lower_slot}
+use Rattle.vd_transfer.specs.Effects.{address_of, transfer_of}
 use Rattle.vd_transfer.specs.Branches.{refine_of}
 use Rattle.vd_transfer.specs.Registers.{reg_of, set_reg, word_val}
 use Rattle.vd_transfer.specs.Soundness.{IsSetting}
@@ -26,15 +26,16 @@ use Rattle.store_ranges.proofs.Growth.{loads_grow}
 use Rattle.depth_cert.specs.declared.keys.Key.{Key}
 use Rattle.depth_cert.specs.declared.points.Exit.{Exit}
 use Rattle.cfg_recover.specs.Code.{IsCode}
-use Rattle.cfg_recover.specs.Entries.{call_key, irq_key, sys_key, aln_key, stack_of, entry_with, call_entry, irq_entry, aln_entry, sys_entry, lower_values, exit_of, with_lower_from, after_of}
+use Rattle.cfg_recover.specs.Entries.{call_key, irq_key, sys_key, aln_key, stack_of, entry_with, call_entry, irq_entry, aln_entry, sys_entry}
+use Rattle.depth_cert.specs.Exits.{lower_values, exit_of, with_lower_from, after_of, ExitCovers}
 use Rattle.cfg_recover.specs.Local.{targets_of, are_aligned, IsFaultless}
 use Rattle.cfg_recover.specs.Duties.{Duty, jump, enter, resume, leave, Owed, owed, loaded_at, jumps_to, jump_on, next_of, successors_of, entered_and_back, entries_of, misaligned_at, misaligned_of, irqs_of, interrupts_of, leavings_of, duties_of}
-use Rattle.cfg_recover.specs.Accepting.{ExitCovers}
 use Rattle.cfg_recover.proofs.CodeLaws.{IsCode-bounded}
 use Rattle.cfg_recover.proofs.EntryLaws.{lower_length, entry_length}
 use Rattle.cfg_recover.proofs.FlowStates.{after-at, with_lower_length, restored_at}
 use Rattle.cfg_recover.proofs.Members.{contains_first, contains_map, contains_flat, contains_filter}
-use Rattle.depth_maker.specs.Growth.{IsProper, IsProperExit, IsGround, IsDutyBelow, IsOwedBelow, DutiesGrow, AfterGrows}
+use Rattle.depth_maker.specs.Growth.{IsGround, IsDutyBelow, IsOwedBelow, DutiesGrow, AfterGrows}
+use Rattle.depth_cert.specs.Known.{IsProper, IsProperExit}
 use Rattle.depth_maker.proofs.StateGrowth.{same_locals, reg_grows, set_covers}
 use Rattle.depth_maker.proofs.EffectGrowth.{transfer_covers, address_grows, address_value, branch_grows, GrowsTo}
 use Rattle.depth_maker.proofs.OwnGrowth.{targets_within, aligned_falls, setting_of}

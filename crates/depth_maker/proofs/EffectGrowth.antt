@@ -18,14 +18,14 @@ use Rattle.value_domain.specs.declared.states.State.{State}
 use Rattle.value_domain.specs.Limits.{Limits, AreLimits}
 use Rattle.value_domain.specs.Sets.{Among, Within}
 use Rattle.value_domain.specs.Values.{IsValue, IsBelow, any_val, members, cover}
-use Rattle.value_domain.specs.State.{Covers, AreBelow, AreValues}
+use Rattle.value_domain.specs.State.{Covers, AreBelow, AreValues, is_lower_slot}
 use Rattle.value_domain.proofs.CoverLaws.{cover_mono}
 use Rattle.value_domain.proofs.RangeLaws.{one_value, cover_value, members_below, any_value}
 use Rattle.vd_transfer.specs.Operations.{value_of}
 use Rattle.vd_transfer.specs.Refinement.{cover_some, kept_left, kept_right, kept_both, holds}
 use Rattle.vd_transfer.specs.Registers.{reg_of, arg_of, set_reg, write_reg, word_val}
-use Rattle.vd_transfer.specs.Effects.{with_base, access_of, forgotten_from, is_lower_slot, transfer_of, address_of, saved_lower, restored_lower}
-use Rattle.vd_transfer.specs.Branches.{is_reg, set_arg, with_one, with_two, refined, lowered, refine_of}
+use Rattle.vd_transfer.specs.Effects.{with_base, access_of, forgotten_from, transfer_of, address_of, saved_lower, restored_lower}
+use Rattle.vd_transfer.specs.Branches.{is_reg, set_arg, with_one, with_two, state_on_side, with_lowered_counter, refine_of}
 use Rattle.vd_transfer.specs.Soundness.{IsSetting}
 use Rattle.vd_transfer.proofs.HoldLaws.{reg_value, arg_value}
 use Rattle.vd_transfer.proofs.Meets.{filter_has, among_any, among_filter, any_among}
@@ -254,7 +254,7 @@ module _ (b : Limits) (p : PlanData) (s t : State) (low : IsSetting b p s) (high
         ),
       )
 
-  refined_grows : (test : Cond) (x : ℕ) (y : Arg) (side : Bool) → x < 32 → IsArg y → GrowsTo b p (refined b p test x y s side) (refined b p test x y t side)
+  refined_grows : (test : Cond) (x : ℕ) (y : Arg) (side : Bool) → x < 32 → IsArg y → GrowsTo b p (state_on_side b p test x y s side) (state_on_side b p test x y t side)
   refined_grows test x y side small is =
       let vx = reg_value b p s x low in
       let wx = reg_value b p t x high in
@@ -281,12 +281,12 @@ module _ (b : Limits) (p : PlanData) (s t : State) (low : IsSetting b p s) (high
             )))
       ]
 
-lowered_grows : (b : Limits) (p : PlanData) (x : ℕ) (lowers : Bool) (o o2 : Option State) → x < 32 → GrowsTo b p o o2 → GrowsTo b p (lowered b p x lowers o) (lowered b p x lowers o2)
+lowered_grows : (b : Limits) (p : PlanData) (x : ℕ) (lowers : Bool) (o o2 : Option State) → x < 32 → GrowsTo b p o o2 → GrowsTo b p (with_lowered_counter b p x lowers o) (with_lowered_counter b p x lowers o2)
 lowered_grows b p x lowers None o2 small h u e = absurd (let f : None ≡ Some u = e in cc)
 lowered_grows b p x false (Some s) o2 small h u e =
     let k = h s refl in
     let f : s ≡ u = (let g : Some s ≡ Some u = e in cc) in
-    (subst (λ (u : State). IsSetting b p u) f k.0, (k.1.0, ap (lowered b p x false) k.1.1, k.1.2, subst (λ (u : State). Covers k.1.0 u) f k.1.3))
+    (subst (λ (u : State). IsSetting b p u) f k.0, (k.1.0, ap (with_lowered_counter b p x false) k.1.1, k.1.2, subst (λ (u : State). Covers k.1.0 u) f k.1.3))
 lowered_grows b p x true (Some s) o2 small h u e =
     let k = h s refl in
     let t = k.1.0 in
@@ -296,7 +296,7 @@ lowered_grows b p x true (Some s) o2 small h u e =
       subst (λ (u : State). IsSetting b p u) f (setting_write b p s x _ k.0 vs),
       (
         write_reg t x (value_of b Sub (reg_of p t x) (word_val 1)),
-        ap (lowered b p x true) k.1.1,
+        ap (with_lowered_counter b p x true) k.1.1,
         setting_write b p t x _ k.1.2 vt,
         subst (λ (u : State). Covers (write_reg t x (value_of b Sub (reg_of p t x) (word_val 1))) u) f
             (write_covers s t x _ _ (k.0).regs (k.1.2).regs k.1.3 (op_grows b p s t k.0 k.1.2 k.1.3 Sub (Reg x) (Word 1) small (omega arith))),
@@ -307,4 +307,4 @@ lowered_grows b p x true (Some s) o2 small h u e =
 pub branch_grows : (b : Limits) (p : PlanData) (s t : State) (test : Cond) (x : ℕ) (y : Arg) (by : ℕ) (lowers side : Bool) → IsSetting b p s → IsSetting b p t → Covers t s → IsShape (Branch test x y by lowers)
     → GrowsTo b p (refine_of b p (Branch test x y by lowers) s side) (refine_of b p (Branch test x y by lowers) t side)
 unfolding refine_of
-branch_grows b p s t test x y by lowers side low high c is = lowered_grows b p x lowers (refined b p test x y s side) (refined b p test x y t side) is.0 (refined_grows b p s t low high c test x y side is.0 is.1)
+branch_grows b p s t test x y by lowers side low high c is = lowered_grows b p x lowers (state_on_side b p test x y s side) (state_on_side b p test x y t side) is.0 (refined_grows b p s t low high c test x y side is.0 is.1)

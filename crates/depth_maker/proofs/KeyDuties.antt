@@ -28,7 +28,8 @@ use Rattle.vd_transfer.proofs.HoldLaws.{reg_value}
 use Rattle.store_ranges.proofs.Covers.{among_map}
 use Rattle.depth_cert.specs.declared.keys.Key.{Key}
 use Rattle.depth_cert.specs.Keys.{IsKey}
-use Rattle.cfg_recover.specs.Entries.{call_key, call_entry, irq_key, irq_entry, sys_key, sys_entry, aln_key, aln_entry, exit_of}
+use Rattle.cfg_recover.specs.Entries.{call_key, call_entry, irq_key, irq_entry, sys_key, sys_entry, aln_key, aln_entry}
+use Rattle.depth_cert.specs.Exits.{exit_of}
 use Rattle.cfg_recover.specs.Local.{named_by, targets_of, are_aligned}
 use Rattle.cfg_recover.specs.Duties.{Duty, jump, enter, resume, leave, Owed, owed, loaded_at, jumps_to, jump_on, next_of, successors_of, entered_and_back, entries_of, misaligned_at, misaligned_of, irqs_of, interrupts_of, leavings_of, duties_of}
 use Rattle.depth_maker.proofs.OwnGrowth.{among_contained}

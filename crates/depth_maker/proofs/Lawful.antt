@@ -8,23 +8,23 @@ use Rattle.value_domain.specs.declared.values.Val.{Val}
 use Rattle.value_domain.specs.declared.states.State.{State}
 use Rattle.value_domain.specs.Limits.{Limits, AreLimits}
 use Rattle.value_domain.specs.Values.{IsValue, IsBelow, any_val}
-use Rattle.value_domain.specs.State.{Covers, AreBelow, AreValues, joined, joined_of, joined_regs, join_of}
+use Rattle.value_domain.specs.State.{Covers, AreBelow, AreValues, joined_states, joined_of, joined_regs, join_of}
 use Rattle.value_domain.proofs.JoinLaws.{join_least, joined_least}
 use Rattle.value_domain.proofs.RegLaws.{get_or-joined, length-joined, length-and, implied_length}
 use Rattle.vd_transfer.specs.Registers.{word_val}
 use Rattle.depth_cert.specs.declared.points.Exit.{Exit}
 use Rattle.cfg_recover.specs.Entries.{entry_with, start_state}
-use Rattle.cfg_recover.specs.Accepting.{ExitCovers}
-use Rattle.cfg_recover.specs.Assignments.{Known, state, leaving, CoversKnown, joined_known, joined_exit}
+use Rattle.depth_cert.specs.Exits.{ExitCovers}
+use Rattle.depth_cert.specs.Known.{Known, state, leaving, CoversKnown, joined_known, joined_exit, IsProper, IsProperExit, IsProperKnown}
 use Rattle.cfg_recover.proofs.EntryLaws.{entry_length}
 use Rattle.cfg_recover.proofs.FlowStates.{entry_values}
-use Rattle.depth_maker.specs.Growth.{IsProper, IsProperExit, IsGround}
+use Rattle.depth_maker.specs.Growth.{IsGround}
 use Rattle.depth_maker.proofs.StateGrowth.{below_same, below_through, covers_same, covers_through, same_locals, set_locals}
 use Rattle.depth_maker.proofs.EffectGrowth.{word_value}
 use Rattle.depth_maker.proofs.OwnGrowth.{faults_fall}
 use Rattle.depth_maker.proofs.DutyGrowth.{after_grows, duties_grow}
 use Rattle.depth_maker.proofs.ProperDuties.{after_proper, duties_proper}
-use Rattle.depth_maker.specs.Proper.{IsProperKnown, AreLawful}
+use Rattle.depth_maker.specs.Proper.{AreLawful}
 
 -- ---- coverings
 known_same : (v : Known) → CoversKnown v v
@@ -44,7 +44,7 @@ known_through b (leaving x) (state t) u ps pt h k = absurd k
 known_through b (leaving x) (leaving y) (state u) ps pt h k = absurd h
 
 -- ---- states
-joined_parts : (b : Limits) (s t u : State) → joined b s t ≡ Some u → (length s.locals.items ≡ length t.locals.items) × (joined_of b s t ≡ u)
+joined_parts : (b : Limits) (s t u : State) → joined_states b s t ≡ Some u → (length s.locals.items ≡ length t.locals.items) × (joined_of b s t ≡ u)
 joined_parts b s t u e =
     elim (cases_Bool (eqb (length s.locals.items) (length t.locals.items))) [
       | inl same ↦ (eqb-true _ _ same, (let f : Some (joined_of b s t) ≡ Some u = rw same at e in cc))
@@ -117,8 +117,8 @@ module _ (b : Limits) (limits : AreLimits b) where
 
   -- ---- both
   known_join : (v w u : Known) → IsProperKnown b v → IsProperKnown b w → joined_known b v w ≡ Some u → IsProperKnown b u × CoversKnown u v × CoversKnown u w
-  known_join (state s) (state t) u pv pw e = at (joined b s t) refl e where
-    at : (o : Option State) → joined b s t ≡ o → option_map state o ≡ Some u → IsProperKnown b u × CoversKnown u (state s) × CoversKnown u (state t)
+  known_join (state s) (state t) u pv pw e = at (joined_states b s t) refl e where
+    at : (o : Option State) → joined_states b s t ≡ o → option_map state o ≡ Some u → IsProperKnown b u × CoversKnown u (state s) × CoversKnown u (state t)
     at None f g = absurd (let h : None ≡ Some u = g in cc)
     at (Some j) f g =
         let k = joined_parts b s t j f in

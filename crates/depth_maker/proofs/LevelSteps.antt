@@ -7,7 +7,8 @@ use Rattle.std.proofs.lemmas.List.Sums.{sum_by-cons, sum_by-le, sum_by-le-sum_by
 use Rattle.indexmap.specs.IndexMap.{IndexMap, get}
 use Rattle.value_domain.specs.Limits.{Limits, AreLimits}
 use Rattle.depth_cert.specs.declared.keys.Key.{Key}
-use Rattle.cfg_recover.specs.Assignments.{exit, Known}
+use Rattle.cfg_recover.specs.Assignments.{exit}
+use Rattle.depth_cert.specs.Known.{Known}
 use Rattle.frame_places.specs.declared.places.Spot.{Spot}
 use Rattle.frame_places.specs.declared.places.Spot.TheVariants.{Point, Exit}
 use Rattle.frame_places.specs.declared.places.Mark.{Mark}

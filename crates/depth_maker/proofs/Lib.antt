@@ -1,6 +1,5 @@
 pub mod Accepted
 pub mod Below
-pub mod AskedLemmas
 pub mod CountLaws
 pub mod CountedLemmas
 pub mod DutyGrowth

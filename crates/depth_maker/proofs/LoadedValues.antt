@@ -7,7 +7,7 @@ use Rattle.std.proofs.lemmas.Nat.{pow-add}
 use Rattle.elf_image.specs.Images.{ImageData, image_byte}
 use Rattle.tcd_plan.specs.declared.plans.Device.{Device}
 use Rattle.tcd_plan.specs.PlanData.{PlanData, IsPlan, is_device}
-use Rattle.csa_chain.specs.Memory.{extended}
+use Rattle.csa_chain.specs.Memory.{extend}
 use Rattle.tc_machine.proofs.ShapeWords.{extended_lt}
 use Rattle.value_domain.specs.declared.values.Val.{Val}
 use Rattle.value_domain.specs.declared.values.Val.TheVariants.{Set, Span}
@@ -18,29 +18,29 @@ use Rattle.value_domain.proofs.CoverLaws.{cover_least, range_among}
 use Rattle.value_domain.proofs.ExtentLaws.{among_append}
 use Rattle.store_ranges.specs.Accesses.{IsSize}
 use Rattle.tcd_base.specs.Ranges.{is_within}
-use Rattle.store_ranges.specs.Loads.{all_extended, answers, device_of, given, held_number, loaded_of, number_or, rom_number}
+use Rattle.store_ranges.specs.Loads.{all_extended, answers, device_of, words_at, held_number, loaded_of, number_or, rom_number}
 use Rattle.store_ranges.proofs.Covers.{among_map}
 use Rattle.store_ranges.proofs.Finds.{found_all}
 use Rattle.store_ranges.proofs.LoadLaws.{answers_some, device_bounds}
 use Rattle.store_ranges.proofs.Sound.{held_parts, one_more_byte}
 
-extended_small : (size : ℕ) (signed : Bool) (x : ℕ) → IsSize size → x < 2 ^ (8 * size) → extended signed size x < 2 ^ 32
-extended_small size signed x (inl e) lt = subst (λ n. extended signed n x < 2 ^ 32) (sym e) (at signed (subst (λ n. x < 2 ^ (8 * n)) e lt)) where
-  at : (signed : Bool) → x < 2 ^ 8 → extended signed 1 x < 2 ^ 32
+extended_small : (size : ℕ) (signed : Bool) (x : ℕ) → IsSize size → x < 2 ^ (8 * size) → extend signed size x < 2 ^ 32
+extended_small size signed x (inl e) lt = subst (λ n. extend signed n x < 2 ^ 32) (sym e) (at signed (subst (λ n. x < 2 ^ (8 * n)) e lt)) where
+  at : (signed : Bool) → x < 2 ^ 8 → extend signed 1 x < 2 ^ 32
   at true lt = extended_lt x (2 ^ 8) (nat_lt x (2 ^ 7)) lt (omega arith)
   at false lt = omega arith
-extended_small size signed x (inr (inl e)) lt = subst (λ n. extended signed n x < 2 ^ 32) (sym e) (at signed (subst (λ n. x < 2 ^ (8 * n)) e lt)) where
-  at : (signed : Bool) → x < 2 ^ 16 → extended signed 2 x < 2 ^ 32
+extended_small size signed x (inr (inl e)) lt = subst (λ n. extend signed n x < 2 ^ 32) (sym e) (at signed (subst (λ n. x < 2 ^ (8 * n)) e lt)) where
+  at : (signed : Bool) → x < 2 ^ 16 → extend signed 2 x < 2 ^ 32
   at true lt = extended_lt x (2 ^ 16) (nat_lt x (2 ^ 15)) lt (omega arith)
   at false lt = omega arith
-extended_small size signed x (inr (inr e)) lt = subst (λ n. extended signed n x < 2 ^ 32) (sym e) (at signed (subst (λ n. x < 2 ^ (8 * n)) e lt)) where
-  at : (signed : Bool) → x < 2 ^ 32 → extended signed 4 x < 2 ^ 32
+extended_small size signed x (inr (inr e)) lt = subst (λ n. extend signed n x < 2 ^ 32) (sym e) (at signed (subst (λ n. x < 2 ^ (8 * n)) e lt)) where
+  at : (signed : Bool) → x < 2 ^ 32 → extend signed 4 x < 2 ^ 32
   at true lt = extended_lt x (2 ^ 32) (nat_lt x (2 ^ 31)) lt (omega arith)
   at false lt = lt
 
 all_below : (size : ℕ) (signed : Bool) (z : ℕ) → IsSize size → Among z (all_extended size signed) → z < 2 ^ 32
 all_below size signed z is i =
-    let m = among_map (extended signed size) z (range 0 (2 ^ (8 * size) - 1) 0) i in
+    let m = among_map (extend signed size) z (range 0 (2 ^ (8 * size) - 1) 0) i in
     let r = range_among m.0 0 (2 ^ (8 * size) - 1) 0 (omega arith) m.1 in
     let some : 0 < 2 ^ (8 * size) = powers is in
     let lt : m.0 < 2 ^ (8 * size) = let le : m.0 ≤ 2 ^ (8 * size) - 1 = r.1 in omega arith in
@@ -109,18 +109,18 @@ module _ (image : ImageData) (plan : PlanData) (size : ℕ) (signed : Bool) (ok 
   given_more x None = answers_more (x ∷ [])
   given_more x (Some w) = omega arith
 
-  flat_words : (ws : List ℕ) (z : ℕ) → Among z (flat_map (given image plan size signed) ws) → z < 2 ^ 32
+  flat_words : (ws : List ℕ) (z : ℕ) → Among z (flat_map (words_at image plan size signed) ws) → z < 2 ^ 32
   flat_words [] z i = absurd i
   flat_words (w ∷ ws) z i =
-      elim (among_append z (given image plan size signed w) (flat_map (given image plan size signed) ws) i) [
+      elim (among_append z (words_at image plan size signed w) (flat_map (words_at image plan size signed) ws) i) [
         | inl j ↦ given_below w (rom_number image plan w size) refl z j
         | inr j ↦ flat_words ws z j
       ]
 
-  flat_more : (ws : List ℕ) → 1 ≤ length ws → 1 ≤ length (flat_map (given image plan size signed) ws)
+  flat_more : (ws : List ℕ) → 1 ≤ length ws → 1 ≤ length (flat_map (words_at image plan size signed) ws)
   flat_more [] some = absurd (omega arith)
   flat_more (w ∷ ws) some =
-      omega (arith, length-append (given image plan size signed w) (flat_map (given image plan size signed) ws), given_more w (rom_number image plan w size))
+      omega (arith, length-append (words_at image plan size signed w) (flat_map (words_at image plan size signed) ws), given_more w (rom_number image plan w size))
 
   pub loaded_value : (b : Limits) (v : Val) → AreLimits b → IsValue b v → IsValue b (loaded_of b image plan v size signed)
   loaded_value b (Set ws) limits vv = (cover_least b _ limits (record { some = flat_more ws vv.well.some; below = flat_words ws })).value

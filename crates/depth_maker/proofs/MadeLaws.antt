@@ -11,7 +11,8 @@ use Rattle.depth_cert.specs.Certs.{CertData, IsCert, find_node}
 use Rattle.cfg_recover.specs.Duties.{enter}
 use Rattle.cfg_recover.specs.Entries.{start_key}
 use Rattle.cfg_recover.specs.Accepting.{Accepts, limits_in, need_of}
-use Rattle.cfg_recover.specs.Assignments.{Place, point, exit, Known, state, Assignment, frame_of, Derived, Closed, IsBelowAt, known_in}
+use Rattle.cfg_recover.specs.Assignments.{Place, point, exit, Assignment, frame_of, Derived, Closed, IsBelowAt, known_in}
+use Rattle.depth_cert.specs.Known.{Known, state}
 use Rattle.cfg_recover.specs.Refusals.{MeetsNeeds, IsTooLarge, IsRefusal, IsRefusalWith}
 use Rattle.depth_maker.specs.Growth.{IsGround}
 use Rattle.depth_maker.specs.Proper.{AllFaultless}

@@ -11,9 +11,10 @@ use Rattle.depth_cert.specs.Certs.{CertData, IsCert}
 use Rattle.cfg_recover.specs.Entries.{start_key}
 use Rattle.cfg_recover.specs.Duties.{Duty, jump, enter, resume, leave}
 use Rattle.cfg_recover.specs.Accepting.{limits_in, Accepts}
-use Rattle.cfg_recover.specs.Assignments.{point, Known, state, Assignment, known_in, IsBelowAt, Derived, Closed, HasDuty}
+use Rattle.cfg_recover.specs.Assignments.{point, Assignment, known_in, IsBelowAt, Derived, Closed, HasDuty}
+use Rattle.depth_cert.specs.Known.{Known, state, IsProper}
 use Rattle.cfg_recover.specs.Refusals.{IsTooLarge, Enters, MeetsNeeds, Reaches, here, by_entry, Recurs, NeedsTooMany, IsRefusalWith, fault, recursion, need, IsFault, IsLeast, RecursFirst}
-use Rattle.depth_maker.specs.Growth.{IsProper, IsGround, IsDutyBelow}
+use Rattle.depth_maker.specs.Growth.{IsGround, IsDutyBelow}
 use Rattle.depth_maker.proofs.StateGrowth.{same_locals}
 use Rattle.depth_maker.specs.Proper.{AllProper, AllFaultless, AreLawful}
 use Rattle.depth_maker.proofs.PlaceLaws.{over_state}

@@ -23,11 +23,10 @@ use Rattle.depth_cert.specs.Nodes.{NodeData}
 use Rattle.depth_cert.specs.Certs.{CertData}
 use Rattle.depth_cert.specs.Spelling.{bytes_of, bytes_of_exit, bytes_of_key, bytes_of_node, bytes_of_point, bytes_of_state}
 use Rattle.cfg_recover.proofs.Members.{contains_map}
-use Rattle.cfg_recover.specs.Assignments.{Place, point, exit, Known, state, leaving}
-use Rattle.depth_maker.specs.Growth.{IsProper, IsProperExit}
-use Rattle.depth_maker.specs.Kept.{IsExitAt, IsStateAt}
+use Rattle.cfg_recover.specs.Assignments.{Place, point, exit}
+use Rattle.depth_cert.specs.Known.{Known, state, leaving, IsProper, IsProperExit, IsProperKnown}
+use Rattle.small_states.specs.Kept.{IsExitAt, IsStateAt}
 use Rattle.depth_maker.specs.Making.{IsWritten}
-use Rattle.depth_maker.specs.Proper.{IsProperKnown}
 use Rattle.depth_maker.specs.RowsAt.{need_by}
 use Rattle.depth_maker.specs.RowsBy.{IsSource}
 use Rattle.depth_maker.specs.Spelled.{AreFrames, AreKnown, IsFrameOf, WritesCert, HasBytes, IsOfVersion, IsOrdered, IsSpelledOn, NeedsAre, WritesPoint, WritesPoints, WritesExit, WritesNode, WritesNodes, addresses_in, cert_on, exit_at, exit_on, known_on, node_on, point_on, state_at}

@@ -31,7 +31,8 @@ use Rattle.cfg_recover.specs.Local.{named_by, targets_of, are_aligned, KnowsTarg
 use Rattle.cfg_recover.proofs.CodeLaws.{IsCode-bounded}
 use Rattle.cfg_recover.proofs.Members.{contains_among}
 use Rattle.cfg_recover.proofs.LocalLaws.{are_aligned-is}
-use Rattle.depth_maker.specs.Growth.{IsProper, IsGround, FaultsFall}
+use Rattle.depth_maker.specs.Growth.{IsGround, FaultsFall}
+use Rattle.depth_cert.specs.Known.{IsProper}
 use Rattle.depth_maker.proofs.StateGrowth.{same_locals, reg_grows}
 use Rattle.depth_maker.proofs.EffectGrowth.{address_grows, address_value}
 

@@ -15,15 +15,16 @@ use Rattle.value_domain.specs.Limits.{Limits}
 use Rattle.depth_cert.specs.declared.keys.Key.{Key}
 use Rattle.depth_cert.specs.declared.points.Exit.{Exit}
 use Rattle.cfg_recover.specs.Code.{IsCode}
-use Rattle.cfg_recover.specs.Entries.{after_of}
+use Rattle.depth_cert.specs.Exits.{after_of}
 use Rattle.cfg_recover.specs.Local.{IsFaultless}
 use Rattle.cfg_recover.specs.Duties.{Duty, jump, enter, resume, leave, Owed, owed, entered_and_back, duties_of}
 use Rattle.cfg_recover.specs.declared.local.Located.{Located}
 use Rattle.cfg_recover.specs.Changes.{StandsFaultless}
 use Rattle.cfg_recover.proofs.Members.{contains_map, contains_flat}
-use Rattle.cfg_recover.specs.Assignments.{Place, point, exit, Known, state, leaving, CoversAt, HasDuty, Asks, Derived, asked, resumed}
+use Rattle.cfg_recover.specs.Assignments.{Place, point, exit, CoversAt, HasDuty, Asks, Derived, asked, resumed}
+use Rattle.depth_cert.specs.Known.{Known, state, leaving, IsProper}
 use Rattle.cfg_recover.proofs.CodeLaws.{IsCode-one}
-use Rattle.depth_maker.specs.Growth.{IsProper, IsProperDuty}
+use Rattle.depth_maker.specs.Growth.{IsProperDuty}
 use Rattle.depth_maker.specs.Proper.{AreLawful}
 use Rattle.depth_maker.specs.Tables.{Table, IsTable, Settled, IsResumed}
 use Rattle.depth_maker.proofs.PlaceLaws.{one_state}

@@ -5,12 +5,14 @@ use Rattle.elf_image.specs.Images.{ImageData}
 use Rattle.tcd_plan.specs.PlanData.{PlanData}
 use Rattle.value_domain.specs.declared.states.State.{State}
 use Rattle.value_domain.specs.Limits.{Limits}
-use Rattle.value_domain.specs.State.{joined}
+use Rattle.value_domain.specs.State.{joined_states}
 use Rattle.depth_cert.specs.declared.keys.Key.{Key}
 use Rattle.depth_cert.specs.declared.points.Exit.{Exit}
-use Rattle.cfg_recover.specs.Entries.{start_key, start_state, after_of}
+use Rattle.cfg_recover.specs.Entries.{start_key, start_state}
+use Rattle.depth_cert.specs.Exits.{after_of}
 use Rattle.cfg_recover.specs.Duties.{Duty, jump, enter, resume, leave}
-use Rattle.cfg_recover.specs.Assignments.{Place, point, exit, Known, state, leaving, Assignment, same_place, joined_known, joined_exit, raised, asked, Asks, Joins, Derived, begins, joins, first_place}
+use Rattle.cfg_recover.specs.Assignments.{Place, point, exit, Assignment, same_place, raised, asked, Asks, Joins, Derived, begins, joins, first_place}
+use Rattle.depth_cert.specs.Known.{Known, state, leaving, joined_known, joined_exit}
 use Rattle.cfg_recover.specs.Refusals.{HasFault, own, locals}
 use Rattle.depth_maker.proofs.PlaceLaws.{place_tells, from_if, resumed_some}
 
@@ -31,7 +33,7 @@ asked_kind a key s (resume k q) y v e =
     subst (λ (w : Place × Known). IsOfKind w.0 w.1) f tt
 
 joined_kind : (b : Limits) (y : Place) (w v u : Known) → IsOfKind y w → IsOfKind y v → joined_known b w v ≡ Some u → IsOfKind y u
-joined_kind b (point k p) (state s) (state t) u h g e = at (joined b s t) e where
+joined_kind b (point k p) (state s) (state t) u h g e = at (joined_states b s t) e where
   at : (o : Option State) → option_map state o ≡ Some u → IsOfKind (point k p) u
   at None f = absurd (let q : None ≡ Some u = f in cc)
   at (Some j) f = let q : state j ≡ u = (let r : Some (state j) ≡ Some u = f in cc) in subst (IsOfKind (point k p)) q tt
@@ -70,10 +72,10 @@ pub record Unjoined (b : Limits) (y : Place) (w v : Known) : Type 0 where
   pub place : y ≡ point key addr
   pub is_left : w ≡ state left
   pub is_right : v ≡ state right
-  pub none : joined b left right ≡ None
+  pub none : joined_states b left right ≡ None
 
 pub unjoined : (b : Limits) (y : Place) (w v : Known) → IsOfKind y w → IsOfKind y v → joined_known b w v ≡ None → Unjoined b y w v
-unjoined b (point k p) (state s) (state t) h g e = record { key = k; addr = p; left = s; right = t; place = refl; is_left = refl; is_right = refl; none = at (joined b s t) e } where
+unjoined b (point k p) (state s) (state t) h g e = record { key = k; addr = p; left = s; right = t; place = refl; is_left = refl; is_right = refl; none = at (joined_states b s t) e } where
   at : (o : Option State) → option_map state o ≡ None → o ≡ None
   at None f = refl
   at (Some j) f = absurd (let q : Some (state j) ≡ None = f in cc)

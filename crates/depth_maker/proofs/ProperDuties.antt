@@ -20,11 +20,11 @@ use Rattle.value_domain.specs.declared.values.Val.{Val}
 use Rattle.value_domain.specs.declared.states.State.{State}
 use Rattle.value_domain.specs.Limits.{Limits, AreLimits}
 use Rattle.value_domain.specs.Values.{IsValue, any_val}
-use Rattle.value_domain.specs.State.{AreValues, Covers}
+use Rattle.value_domain.specs.State.{AreValues, Covers, is_lower_slot}
 use Rattle.value_domain.proofs.RangeLaws.{one_value, any_value}
 use Rattle.vd_transfer.specs.Operations.{value_of}
-use Rattle.vd_transfer.specs.Effects.{address_of, transfer_of, with_base, HasRoom, is_lower_slot}
-use Rattle.vd_transfer.specs.Branches.{set_arg, with_one, with_two, refined, lowered, refine_of, is_reg}
+use Rattle.vd_transfer.specs.Effects.{address_of, transfer_of, with_base, HasRoom}
+use Rattle.vd_transfer.specs.Branches.{set_arg, with_one, with_two, state_on_side, with_lowered_counter, refine_of, is_reg}
 use Rattle.vd_transfer.specs.Registers.{reg_of, arg_of, set_reg, word_val, slot}
 use Rattle.vd_transfer.specs.Soundness.{IsSetting}
 use Rattle.vd_transfer.proofs.HoldLaws.{reg_value, arg_value, same_length, set_values_at}
@@ -34,13 +34,15 @@ use Rattle.elf_image.proofs.ReadBytes.{byte_lt}
 use Rattle.depth_cert.specs.declared.keys.Key.{Key}
 use Rattle.depth_cert.specs.declared.points.Exit.{Exit}
 use Rattle.cfg_recover.specs.Code.{IsCode}
-use Rattle.cfg_recover.specs.Entries.{call_key, irq_key, sys_key, aln_key, stack_of, entry_with, call_entry, irq_entry, aln_entry, sys_entry, lower_values, exit_of, with_lower_from, after_of}
+use Rattle.cfg_recover.specs.Entries.{call_key, irq_key, sys_key, aln_key, stack_of, entry_with, call_entry, irq_entry, aln_entry, sys_entry}
+use Rattle.depth_cert.specs.Exits.{lower_values, exit_of, with_lower_from, after_of}
 use Rattle.cfg_recover.specs.Local.{targets_of, are_aligned, IsFaultless}
 use Rattle.cfg_recover.specs.Duties.{Duty, jump, enter, resume, leave, Owed, owed, loaded_at, jumps_to, jump_on, next_of, successors_of, entered_and_back, entries_of, misaligned_at, misaligned_of, irqs_of, interrupts_of, leavings_of, duties_of}
 use Rattle.cfg_recover.proofs.CodeLaws.{IsCode-bounded}
 use Rattle.cfg_recover.proofs.EntryLaws.{lower_length, entry_length, aln_length, sys_length, transfer_length}
 use Rattle.cfg_recover.proofs.FlowStates.{after-at, with_lower_length, set_values, entry_values}
-use Rattle.depth_maker.specs.Growth.{IsProper, IsProperExit, IsGround, IsProperDuty, DutiesAreProper, AfterIsProper}
+use Rattle.depth_maker.specs.Growth.{IsGround, IsProperDuty, DutiesAreProper, AfterIsProper}
+use Rattle.depth_cert.specs.Known.{IsProper, IsProperExit}
 use Rattle.depth_maker.proofs.StateGrowth.{covers_same, setting_set, setting_write, set_locals}
 use Rattle.depth_maker.proofs.EffectGrowth.{base_setting, address_value, branch_grows, word_value}
 use Rattle.depth_maker.proofs.LoadedValues.{loaded_value}
@@ -117,17 +119,17 @@ two_locals s x y None w = tt
 two_locals s x y (Some v) None = tt
 two_locals s x y (Some v) (Some w) = arg_locals (set_reg s x v) y w ∙ set_locals s x v
 
-lowered_locals : (b : Limits) (p : PlanData) (s : State) (x : ℕ) (lowers : Bool) (o : Option State) → KeepsLocals s o → KeepsLocals s (lowered b p x lowers o)
+lowered_locals : (b : Limits) (p : PlanData) (s : State) (x : ℕ) (lowers : Bool) (o : Option State) → KeepsLocals s o → KeepsLocals s (with_lowered_counter b p x lowers o)
 lowered_locals b p s x lowers None h = tt
 lowered_locals b p s x false (Some t) h = h
 lowered_locals b p s x true (Some t) h = set_locals t x _ ∙ h
 
-refined_locals : (b : Limits) (p : PlanData) (s : State) (test : Cond) (x : ℕ) (y : Arg) (side : Bool) → KeepsLocals s (refined b p test x y s side)
+refined_locals : (b : Limits) (p : PlanData) (s : State) (test : Cond) (x : ℕ) (y : Arg) (side : Bool) → KeepsLocals s (state_on_side b p test x y s side)
 refined_locals b p s test x y side = cond_both (is_reg x y) _ _ (KeepsLocals s) (λ _. one_locals s x _) (λ _. two_locals s x y _ _)
 
 branch_locals : (b : Limits) (p : PlanData) (s : State) (test : Cond) (x : ℕ) (y : Arg) (by : ℕ) (lowers side : Bool) → KeepsLocals s (refine_of b p (Branch test x y by lowers) s side)
 unfolding refine_of
-branch_locals b p s test x y by lowers side = lowered_locals b p s x lowers (refined b p test x y s side) (refined_locals b p s test x y side)
+branch_locals b p s test x y by lowers side = lowered_locals b p s x lowers (state_on_side b p test x y s side) (refined_locals b p s test x y side)
 
 kept_locals : (s t : State) (o : Option State) → KeepsLocals s o → o ≡ Some t → t.locals.items ≡ s.locals.items
 kept_locals s t None h e = absurd (let f : None ≡ Some t = e in cc)

@@ -6,9 +6,11 @@ use Rattle.tcd_plan.specs.PlanData.{PlanData}
 use Rattle.value_domain.specs.declared.states.State.{State}
 use Rattle.value_domain.specs.Limits.{Limits}
 use Rattle.depth_cert.specs.declared.keys.Key.{Key}
-use Rattle.cfg_recover.specs.Entries.{start_key, start_state, after_of}
+use Rattle.cfg_recover.specs.Entries.{start_key, start_state}
+use Rattle.depth_cert.specs.Exits.{after_of}
 use Rattle.cfg_recover.specs.Duties.{Duty, jump, enter, resume, leave}
-use Rattle.cfg_recover.specs.Assignments.{Place, point, exit, Known, state, leaving, Assignment, same_place, frame_of, asked, HasDuty, Asks, Joins, Derived, begins, joins, Closed, first_place}
+use Rattle.cfg_recover.specs.Assignments.{Place, point, exit, Assignment, same_place, frame_of, asked, HasDuty, Asks, Joins, Derived, begins, joins, Closed, first_place}
+use Rattle.depth_cert.specs.Known.{Known, state, leaving}
 use Rattle.cfg_recover.specs.Refusals.{Enters, MeetsNeeds, Reaches, here, by_entry}
 use Rattle.depth_maker.specs.Proper.{AllProper, AllFaultless, AreLawful}
 use Rattle.depth_maker.proofs.PlaceLaws.{place_tells, place_same, from_if, resumed_some}

@@ -13,7 +13,8 @@ use Rattle.depth_cert.specs.Keys.{IsKey, number_of_key}
 use Rattle.depth_cert.proofs.KeyLaws.{one_number}
 use Rattle.cfg_recover.specs.Duties.{duties_of}
 use Rattle.cfg_recover.specs.Entries.{start_key}
-use Rattle.cfg_recover.specs.Assignments.{Place, point, Known, state, Assignment, frame_of, Closed}
+use Rattle.cfg_recover.specs.Assignments.{Place, point, Assignment, frame_of, Closed}
+use Rattle.depth_cert.specs.Known.{Known, state}
 use Rattle.cfg_recover.specs.Refusals.{Enters, Reaches, here, by_entry, Recurs, point_number}
 use Rattle.cfg_recover.proofs.CodeLaws.{IsCode-one}
 use Rattle.cfg_recover.proofs.Members.{contains_map}

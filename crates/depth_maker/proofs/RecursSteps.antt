@@ -6,7 +6,8 @@ use Rattle.std.proofs.lemmas.List.Elements.{Contains-get_or, Contains-push_cases
 use Rattle.value_domain.specs.declared.states.State.{State}
 use Rattle.depth_cert.specs.declared.keys.Key.{Key}
 use Rattle.depth_cert.specs.Keys.{number_of_key, same_key}
-use Rattle.cfg_recover.specs.Assignments.{Place, point, Known, state}
+use Rattle.cfg_recover.specs.Assignments.{Place, point}
+use Rattle.depth_cert.specs.Known.{Known, state}
 use Rattle.cfg_recover.specs.Refusals.{Recurs}
 use Rattle.depth_maker.specs.Counts.{AreCounted}
 use Rattle.frame_places.specs.Numbers.{number_in}

@@ -8,9 +8,10 @@ use Rattle.elf_image.specs.Images.{ImageData}
 use Rattle.tcd_plan.specs.PlanData.{PlanData}
 use Rattle.value_domain.specs.Limits.{Limits}
 use Rattle.depth_cert.specs.declared.keys.Key.{Key}
-use Rattle.cfg_recover.specs.Assignments.{Place, point, exit, Known, state, same_place, CoversAt, CoversKnown, Asks, joined_known, raised, Joins, Derived}
+use Rattle.cfg_recover.specs.Assignments.{Place, point, exit, same_place, CoversAt, Asks, raised, Joins, Derived}
+use Rattle.depth_cert.specs.Known.{Known, state, CoversKnown, joined_known, priority_of, IsProperKnown}
 use Rattle.cfg_recover.specs.Refusals.{IsFault, HasFault, derived}
-use Rattle.depth_maker.specs.Proper.{IsProperKnown, AllProper, AreLawful}
+use Rattle.depth_maker.specs.Proper.{AllProper, AreLawful}
 use Rattle.depth_maker.specs.Tables.{Table, IsTable, Settled, Marks}
 use Rattle.depth_maker.proofs.TableLaws.{table_rises, settled_stays, joined_covers, derived_proper}
 use Rattle.depth_maker.proofs.PlaceKinds.{unjoined_fault}
@@ -26,7 +27,7 @@ use Rattle.depth_maker.proofs.Below.{asks_proper}
 use Rattle.depth_maker.proofs.CountedLemmas.{counted_after}
 use Rattle.depth_maker.proofs.LevelLaws.{rank_rises}
 use Rattle.depth_maker.proofs.LevelSteps.{level_rises}
-use Rattle.depth_maker.specs.Levels.{priority_of, rank_at}
+use Rattle.depth_maker.specs.Levels.{rank_at}
 use Rattle.frame_places.proofs.SpotLemmas.{spot_tells}
 use Rattle.depth_maker.proofs.SpotLemmas.{back, forth, agrees}
 use Rattle.frame_places.specs.Marks.{AllListed, Touched, is_idle, is_queued, Reads, Woken}

@@ -14,7 +14,8 @@ use Rattle.cfg_recover.specs.declared.local.Located.{Located}
 use Rattle.cfg_recover.specs.Changes.{StandsFaultless}
 use Rattle.cfg_recover.specs.Duties.{Owed, enter, duties_of}
 use Rattle.cfg_recover.specs.Entries.{start_key}
-use Rattle.cfg_recover.specs.Assignments.{Place, point, Known, state, Assignment, frame_of, Closed, Derived}
+use Rattle.cfg_recover.specs.Assignments.{Place, point, Assignment, frame_of, Closed, Derived}
+use Rattle.depth_cert.specs.Known.{Known, state}
 use Rattle.cfg_recover.specs.Refusals.{Enters, MeetsNeeds, AreLeastNeeds}
 use Rattle.cfg_recover.proofs.CodeLaws.{IsCode-one}
 use Rattle.cfg_recover.proofs.Members.{contains_map}

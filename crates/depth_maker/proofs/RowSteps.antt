@@ -6,9 +6,8 @@ use Rattle.std.proofs.lemmas.List.Elements.{Contains-append_left, Contains-push,
 use Rattle.indexmap.specs.IndexMap.{get}
 use Rattle.value_domain.specs.declared.states.State.{State}
 use Rattle.depth_cert.specs.declared.keys.Key.{Key}
-use Rattle.cfg_recover.specs.Assignments.{Place, point, exit, Known, state, leaving, Asks}
-use Rattle.depth_maker.specs.Growth.{IsProper}
-use Rattle.depth_maker.specs.Proper.{IsProperKnown}
+use Rattle.cfg_recover.specs.Assignments.{Place, point, exit, Asks}
+use Rattle.depth_cert.specs.Known.{Known, state, leaving, IsProper, IsProperKnown}
 use Rattle.depth_maker.specs.RowsAt.{IsRowAt}
 use Rattle.depth_maker.specs.RowsBy.{AddsRow, AllKnownBy, IsSource, RowsOn, RowsSoFar}
 use Rattle.depth_maker.specs.View.{seen, IsDone}

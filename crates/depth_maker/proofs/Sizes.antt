@@ -18,7 +18,8 @@ use Rattle.depth_cert.specs.Nodes.{NodeData}
 use Rattle.depth_cert.specs.Certs.{CertData, IsCert, count_points}
 use Rattle.cfg_recover.specs.Accepting.{limits_in, Accepts}
 use Rattle.depth_cert.specs.Keys.{same_key}
-use Rattle.cfg_recover.specs.Assignments.{Place, point, exit, Known, state, leaving, same_place, known_in}
+use Rattle.cfg_recover.specs.Assignments.{Place, point, exit, same_place, known_in}
+use Rattle.depth_cert.specs.Known.{Known, state, leaving}
 use Rattle.cfg_recover.specs.Refusals.{HasManyNodes, HasManyPoints, IsTooLarge}
 use Rattle.cfg_recover.proofs.Members.{contains_map, contains_flat}
 use Rattle.depth_maker.specs.Growth.{IsGround}

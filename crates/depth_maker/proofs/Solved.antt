@@ -18,13 +18,15 @@ use Rattle.depth_cert.specs.Points.{find_point}
 use Rattle.depth_cert.specs.Nodes.{NodeData, IsNode}
 use Rattle.depth_cert.specs.Certs.{CertData, IsCert, find_node}
 use Rattle.cfg_recover.specs.Code.{IsCode}
-use Rattle.cfg_recover.specs.Entries.{start_key, start_state, after_of}
+use Rattle.cfg_recover.specs.Entries.{start_key, start_state}
+use Rattle.depth_cert.specs.Exits.{after_of, ExitCovers}
 use Rattle.cfg_recover.specs.Local.{IsFaultless}
 use Rattle.cfg_recover.specs.Duties.{Duty, jump, enter, resume, leave, Owed, duties_of}
-use Rattle.cfg_recover.specs.Accepting.{limits_in, HasPoint, ExitCovers, IsMet, IsNeedAbove, HasNeed, RuleHolds, HoldsAtStart, HoldsAtEntry, HoldsAtNode, Accepts, need_of}
-use Rattle.cfg_recover.specs.Assignments.{Place, point, exit, Known, state, leaving, known_at, known_in, CoversKnown, CoversAt, asked, resumed, HasDuty, Asks}
+use Rattle.cfg_recover.specs.Accepting.{limits_in, HasPoint, IsMet, IsNeedAbove, HasNeed, RuleHolds, HoldsAtStart, HoldsAtEntry, HoldsAtNode, Accepts, need_of}
+use Rattle.cfg_recover.specs.Assignments.{Place, point, exit, known_at, known_in, CoversAt, asked, resumed, HasDuty, Asks}
+use Rattle.depth_cert.specs.Known.{Known, state, leaving, CoversKnown, IsProper}
 use Rattle.cfg_recover.proofs.CodeLaws.{IsCode-bounded}
-use Rattle.depth_maker.specs.Growth.{IsProper, IsGround}
+use Rattle.depth_maker.specs.Growth.{IsGround}
 use Rattle.depth_maker.specs.Proper.{AllProper, AllFaultless}
 use Rattle.depth_maker.specs.Laws.{IsSolution}
 use Rattle.depth_maker.proofs.PlaceLaws.{over_state, over_exit, one_state}

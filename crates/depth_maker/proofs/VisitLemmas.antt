@@ -14,7 +14,8 @@ use Rattle.cfg_recover.specs.Code.{IsCode}
 use Rattle.cfg_recover.specs.Entries.{start_key, start_state}
 use Rattle.cfg_recover.specs.Local.{IsFaultless}
 use Rattle.cfg_recover.specs.Duties.{Owed, duties_of}
-use Rattle.cfg_recover.specs.Assignments.{Place, point, exit, Known, state, leaving, same_place, Derived, begins, Closed, first_place}
+use Rattle.cfg_recover.specs.Assignments.{Place, point, exit, same_place, Derived, begins, Closed, first_place}
+use Rattle.depth_cert.specs.Known.{Known, state, leaving}
 use Rattle.depth_maker.specs.Proper.{AllFaultless, AreLawful}
 use Rattle.depth_maker.specs.Tables.{Table, IsTable, Settled}
 use Rattle.depth_maker.proofs.TableLaws.{derived_proper, table_closed, table_marked, table_settles, settled_again}

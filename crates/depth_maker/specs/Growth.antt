@@ -1,5 +1,5 @@
 -- What a point owes grows with its state, and its faults fall.
-use Rattle.std.specs.Prelude.{◌≡◌, ◌≤◌, ℕ, Bool, length, Contains, Option, Some, None}
+use Rattle.std.specs.Prelude.{◌≡◌, ℕ, Bool, Contains, Some}
 use Rattle.elf_image.specs.Images.{ImageData, IsImage}
 use Rattle.tcd_plan.specs.PlanData.{PlanData, IsPlan}
 use Rattle.tc_isa.specs.declared.shapes.Arg.{Arg}
@@ -14,25 +14,14 @@ use Rattle.vd_transfer.specs.Branches.{refine_of}
 use Rattle.vd_transfer.specs.Soundness.{IsSetting}
 use Rattle.value_domain.specs.declared.states.State.{State}
 use Rattle.value_domain.specs.Limits.{Limits, AreLimits}
-use Rattle.value_domain.specs.State.{Covers, AreValues}
+use Rattle.value_domain.specs.State.{Covers}
 use Rattle.depth_cert.specs.declared.keys.Key.{Key}
 use Rattle.depth_cert.specs.declared.points.Exit.{Exit}
 use Rattle.cfg_recover.specs.Code.{IsCode}
-use Rattle.cfg_recover.specs.Entries.{after_of}
+use Rattle.depth_cert.specs.Exits.{after_of, ExitCovers}
 use Rattle.cfg_recover.specs.Local.{IsFaultless}
 use Rattle.cfg_recover.specs.Duties.{Duty, jump, enter, resume, leave, Owed, duties_of}
-use Rattle.cfg_recover.specs.Accepting.{ExitCovers}
-
--- a state of the plan and the version: 27 values, and no more locals than it may have
-pub record IsProper (b : Limits) (s : State) : Type 0 where
-  pub regs : length s.regs ≡ 27
-  pub values : AreValues b s.regs
-  pub few : length s.locals.items ≤ b.most_locals
-
--- an exit of the plan and the version: 14 values
-pub record IsProperExit (b : Limits) (x : Exit) : Type 0 where
-  pub regs : length x.lower ≡ 14
-  pub values : AreValues b x.lower
+use Rattle.depth_cert.specs.Known.{IsProper, IsProperExit}
 
 -- what a duty asks is of the plan and the version
 abbrev pub IsProperDuty : Limits → Duty → Type 0

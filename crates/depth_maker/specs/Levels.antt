@@ -5,15 +5,10 @@ use Rattle.indexmap.specs.IndexMap.{get}
 use Rattle.value_domain.specs.declared.values.Val.{Val}
 use Rattle.value_domain.specs.Values.{members}
 use Rattle.depth_cert.specs.Keys.{byte_of}
-use Rattle.cfg_recover.specs.Assignments.{Known, state, leaving}
+use Rattle.depth_cert.specs.Known.{Known, state, leaving}
 use Rattle.frame_places.specs.declared.places.Spot.TheVariants as spots
 use Rattle.depth_maker.specs.declared.table.Table as made
 use Rattle.frame_places.specs.Spots.{spot_eq}
-
--- the priority of a state, of an exit
-abbrev pub priority_of : Known → ℕ
-priority_of (state s) = s.ccpn
-priority_of (leaving x) = x.ccpn
 
 -- the members of all these values
 abbrev pub size_of : List Val → ℕ

@@ -6,7 +6,6 @@ pub mod Laws
 pub mod Tables
 pub mod Making
 pub mod Counts
-pub mod Kept
 pub mod Spots
 pub mod Entered
 pub mod RowsAt

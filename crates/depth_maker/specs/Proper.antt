@@ -1,5 +1,5 @@
 -- Assignments of the plan and the version, without faults; and the laws by which the derived ones lie below them.
-use Rattle.std.specs.Prelude.{◌≡◌, ℕ, Option, Some, None, Contains}
+use Rattle.std.specs.Prelude.{◌≡◌, ℕ, Some, Contains}
 use Rattle.elf_image.specs.Images.{ImageData}
 use Rattle.tcd_plan.specs.PlanData.{PlanData}
 use Rattle.tc_isa.specs.declared.shapes.Shape.{Shape}
@@ -9,17 +9,13 @@ use Rattle.value_domain.specs.State.{Covers}
 use Rattle.depth_cert.specs.declared.keys.Key.{Key}
 use Rattle.depth_cert.specs.declared.points.Exit.{Exit}
 use Rattle.cfg_recover.specs.Code.{IsCode}
-use Rattle.cfg_recover.specs.Entries.{start_state, after_of}
+use Rattle.cfg_recover.specs.Entries.{start_state}
+use Rattle.depth_cert.specs.Exits.{after_of, ExitCovers}
 use Rattle.cfg_recover.specs.Local.{IsFaultless}
 use Rattle.cfg_recover.specs.Duties.{Owed, duties_of}
-use Rattle.cfg_recover.specs.Accepting.{ExitCovers}
-use Rattle.cfg_recover.specs.Assignments.{Place, point, Known, state, leaving, Assignment, CoversKnown, joined_known}
-use Rattle.depth_maker.specs.Growth.{IsProper, IsProperExit, IsProperDuty, IsOwedBelow}
-
--- what is known is of the plan and the version
-abbrev pub IsProperKnown : Limits → Known → Type 0
-IsProperKnown b (state s) = IsProper b s
-IsProperKnown b (leaving x) = IsProperExit b x
+use Rattle.cfg_recover.specs.Assignments.{Place, point, Assignment}
+use Rattle.depth_cert.specs.Known.{Known, state, CoversKnown, joined_known, IsProper, IsProperExit, IsProperKnown}
+use Rattle.depth_maker.specs.Growth.{IsProperDuty, IsOwedBelow}
 
 -- all that an assignment knows is
 abbrev pub AllProper : Limits → Assignment → Type 0

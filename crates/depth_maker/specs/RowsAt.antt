@@ -8,7 +8,8 @@ use Rattle.depth_cert.specs.declared.keys.Key.{Key}
 use Rattle.cfg_recover.specs.declared.local.Located.{Located}
 use Rattle.cfg_recover.specs.Changes.{StandsFaultless}
 use Rattle.cfg_recover.specs.Duties.{duties_of}
-use Rattle.cfg_recover.specs.Assignments.{point, state, Assignment}
+use Rattle.cfg_recover.specs.Assignments.{point, Assignment}
+use Rattle.depth_cert.specs.Known.{state}
 use Rattle.depth_maker.specs.Entered.{entered_in}
 use Rattle.frame_places.specs.Numbers.{number_in}
 use Rattle.call_needs.specs.declared.row.Row.{Row}

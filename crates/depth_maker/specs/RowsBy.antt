@@ -4,7 +4,8 @@ use Rattle.value_domain.specs.declared.states.State.{State}
 use Rattle.depth_cert.specs.declared.keys.Key.{Key}
 use Rattle.cfg_recover.specs.declared.local.Located.{Located}
 use Rattle.cfg_recover.specs.Local.{IsFaultless}
-use Rattle.cfg_recover.specs.Assignments.{point, state}
+use Rattle.cfg_recover.specs.Assignments.{point}
+use Rattle.depth_cert.specs.Known.{state}
 use Rattle.depth_maker.specs.Entered.{entered_in}
 use Rattle.depth_maker.specs.RowsAt.{IsRowAt, AreRows}
 use Rattle.frame_places.specs.Numbers.{AreNumbers}

@@ -13,7 +13,8 @@ use Rattle.depth_cert.specs.Keys.{IsKey, same_key}
 use Rattle.depth_cert.specs.Nodes.{NodeData}
 use Rattle.depth_cert.specs.Certs.{CertData}
 use Rattle.depth_cert.specs.Spelling.{bytes_of, bytes_of_exit, bytes_of_node, bytes_of_point}
-use Rattle.cfg_recover.specs.Assignments.{Place, point, exit, Known, state, leaving, Assignment}
+use Rattle.cfg_recover.specs.Assignments.{Place, point, exit, Assignment}
+use Rattle.depth_cert.specs.Known.{Known, state, leaving}
 use Rattle.cfg_recover.specs.Refusals.{AreLeastNeeds, point_number}
 use Rattle.depth_maker.specs.Making.{IsWritten}
 use Rattle.depth_maker.specs.RowsAt.{need_by}

@@ -18,10 +18,11 @@ use Rattle.cfg_recover.specs.Code.{IsCode}
 use Rattle.cfg_recover.specs.Entries.{call_key, sys_key, sys_entry}
 use Rattle.cfg_recover.specs.Local.{IsFaultless}
 use Rattle.cfg_recover.specs.Duties.{Duty, Owed, duties_of, entered_and_back, entries_of, interrupts_of, misaligned_at, misaligned_of, next_of, successors_of}
-use Rattle.cfg_recover.specs.Assignments.{Place, point, Known, state, same_place, CoversAt, CoversKnown, Asks, Closed, Derived, joined_known, raised}
+use Rattle.cfg_recover.specs.Assignments.{Place, point, same_place, CoversAt, Asks, Closed, Derived, raised}
+use Rattle.depth_cert.specs.Known.{Known, state, CoversKnown, joined_known, IsProper, IsProperKnown}
 use Rattle.cfg_recover.specs.Refusals.{IsFault}
-use Rattle.depth_maker.specs.Growth.{IsProper, IsProperDuty}
-use Rattle.depth_maker.specs.Proper.{AllFaultless, IsProperKnown}
+use Rattle.depth_maker.specs.Growth.{IsProperDuty}
+use Rattle.depth_maker.specs.Proper.{AllFaultless}
 use Rattle.depth_maker.specs.Tables.{Table, IsTable, Settled}
 use Rattle.frame_places.specs.declared.places.Spot.{Spot}
 use Rattle.frame_places.specs.declared.places.Spot.TheVariants.{Point, Exit}

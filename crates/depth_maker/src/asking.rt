@@ -1,21 +1,20 @@
 // One duty of a point that is visited: what it asks for is joined at its place.
 ghost use Rattle.std.specs.Prelude.{◌≡◌, ℕ, OnOk, IfErr, [], ◌∷◌};
 ghost use Rattle.indexmap.specs.IndexMap.{get};
-ghost use Rattle.vd_transfer.specs.Changes.{changed};
+ghost use Rattle.vd_transfer.specs.Changes.{state_after};
 ghost use Rattle.cfg_recover.specs.Duties.{owed, jump, enter, resume, leave, entered_and_back};
-ghost use Rattle.cfg_recover.specs.Entries.{exit_of};
+ghost use Rattle.depth_cert.specs.Exits.{exit_of};
 ghost use Rattle.frame_places.specs.declared.places.Spot.TheVariants.{Exit, Point};
 ghost use Rattle.frame_places.specs.Spots.{spot_eq};
 ghost use Rattle.depth_maker.specs.View.{AnsweredOn, OwesDuty, PaidBy, VisitedBy};
 ghost use Rattle.frame_places.specs.Marks.{Reads, is_queued};
 
-use crate::asked::Asked;
-use crate::cells::any_exit;
 use crate::ground::Visit;
 use crate::rise::{is_covered, raise};
 use crate::table::Table;
 use depth_cert::Key;
 use frame_places::{Refusal, Spot, has_work, register};
+use small_states::{Asked, any_exit};
 use std::alloc::Global;
 use vd_transfer::Change;
 
@@ -28,8 +27,10 @@ pub(crate) fn pay_jump(
     c: &Change,
 ) -> Result<(), Refusal>
     requires visited { VisitedBy v.now table.old }
-    requires owes { OwesDuty v.now (jump to (changed v.now.state.now c.now)) }
-    ensures ok { OnOk result (PaidBy v.now table.old table.new (owed 4 (jump to (changed v.now.state.now c.now)) ∷ [])) }
+    requires owes { OwesDuty v.now (jump to (state_after v.now.state.now c.now)) }
+    ensures ok { OnOk result
+        (PaidBy v.now table.old table.new
+        (owed 4 (jump to (state_after v.now.state.now c.now)) ∷ [])) }
     ensures err { IfErr result (AnsweredOn v.now.ground.now) }
 {
     if has_work(&table.marks, Spot::Point(v.key, v.addr)) {
@@ -48,8 +49,11 @@ pub(crate) fn pay_enter(
     c: &Change,
 ) -> Result<(), Refusal>
     requires visited { VisitedBy v.now table.old }
-    requires owes { OwesDuty v.now (enter key (changed v.now.state.now c.now)) }
-    ensures ok { (rule : ℕ) → OnOk result (PaidBy v.now table.old table.new (owed rule (enter key (changed v.now.state.now c.now)) ∷ [])) }
+    requires owes { OwesDuty v.now (enter key (state_after v.now.state.now c.now)) }
+    ensures ok { (rule : ℕ)
+        → OnOk result
+        (PaidBy v.now table.old table.new
+        (owed rule (enter key (state_after v.now.state.now c.now)) ∷ [])) }
     ensures err { IfErr result (AnsweredOn v.now.ground.now) }
 {
     let asked = Asked::Changed(v.state, c);
@@ -67,7 +71,9 @@ pub(crate) fn pay_enter(
 pub(crate) fn pay_leave(alloc: Global, table: &mut Table, v: &Visit) -> Result<(), Refusal>
     requires visited { VisitedBy v.now table.old }
     requires owes { OwesDuty v.now (leave (exit_of v.now.state.now)) }
-    ensures ok { (rule : ℕ) → OnOk result (PaidBy v.now table.old table.new (owed rule (leave (exit_of v.now.state.now)) ∷ [])) }
+    ensures ok { (rule : ℕ)
+        → OnOk result
+        (PaidBy v.now table.old table.new (owed rule (leave (exit_of v.now.state.now)) ∷ [])) }
     ensures err { IfErr result (AnsweredOn v.now.ground.now) }
 {
     if has_work(&table.marks, Spot::Point(v.key, v.addr)) {
@@ -150,9 +156,12 @@ pub(crate) fn pay_entry(
     back: u32,
 ) -> Result<(), Refusal>
     requires visited { VisitedBy v.now table.old }
-    requires enters { OwesDuty v.now (enter key (changed v.now.state.now c.now)) }
+    requires enters { OwesDuty v.now (enter key (state_after v.now.state.now c.now)) }
     requires resumes { OwesDuty v.now (resume key back) }
-    ensures ok { (rule : ℕ) → OnOk result (PaidBy v.now table.old table.new (entered_and_back rule key (changed v.now.state.now c.now) back)) }
+    ensures ok { (rule : ℕ)
+        → OnOk result
+        (PaidBy v.now table.old table.new
+        (entered_and_back rule key (state_after v.now.state.now c.now) back)) }
     ensures err { IfErr result (AnsweredOn v.now.ground.now) }
 {
     pay_enter(alloc, table, v, key, c)?;

@@ -7,8 +7,6 @@ ghost use Rattle.frame_places.specs.declared.places.Spot.TheVariants.{Point};
 ghost use Rattle.frame_places.specs.Spots.{spot_eq};
 ghost use Rattle.depth_maker.specs.View.{AnsweredOn, EndsOn, FineOn, IsDone, IsOpenAt, NoneOpen, OpensOn, PaidOn, TurnsOn};
 
-use crate::asked::Asked;
-use crate::cells::Cell;
 use crate::ground::{Ground, Visit};
 use crate::paying::pay;
 use crate::table::Table;
@@ -16,6 +14,7 @@ use cfg_recover::{start_key, start_state};
 use depth_cert::Key;
 use frame_places::{Mark, Refusal, Spot, is_open};
 use indexmap::IndexMap;
+use small_states::{Asked, Cell};
 use std::alloc::Global;
 use std::collections::VecDeque;
 use value_domain::State;

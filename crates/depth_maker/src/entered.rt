@@ -15,7 +15,8 @@ use tc_isa::Shape;
 use tcd_plan::Plan;
 
 fn add_calls(keys: &mut Vec<Key>, key: Key, targets: &[u32]) -> Result<(), AllocError>
-    ensures { OnOk result (keys.new.items ≡ keys.old.items ++ map (frames.call_key key) targets.now) }
+    ensures { OnOk result
+        (keys.new.items ≡ keys.old.items ++ map (frames.call_key key) targets.now) }
 {
     for t in targets {
         keys.push(entered_key(&key, 1, *t))?;
@@ -24,7 +25,8 @@ fn add_calls(keys: &mut Vec<Key>, key: Key, targets: &[u32]) -> Result<(), Alloc
 }
 
 fn add_irqs(keys: &mut Vec<Key>, plan: &Plan, irqs: &[u8]) -> Result<(), AllocError>
-    ensures { OnOk result (keys.new.items ≡ keys.old.items ++ map (frames.irq_key plan.now) irqs.now) }
+    ensures { OnOk result
+        (keys.new.items ≡ keys.old.items ++ map (frames.irq_key plan.now) irqs.now) }
 {
     for p in irqs {
         keys.push(irq_key(plan, *p))?;
@@ -34,7 +36,9 @@ fn add_irqs(keys: &mut Vec<Key>, plan: &Plan, irqs: &[u8]) -> Result<(), AllocEr
 
 fn add_entries(keys: &mut Vec<Key>, v: &Visit, found: &Located) -> Result<(), AllocError>
     requires { IsShape found.now.shape }
-    ensures { OnOk result (keys.new.items ≡ keys.old.items ++ entered_in (entries_by v.now found.now.shape found.now.size)) }
+    ensures { OnOk result
+        (keys.new.items
+        ≡ keys.old.items ++ entered_in (entries_by v.now found.now.shape found.now.size)) }
 {
     match found.shape {
         Shape::Call { to } => {
@@ -52,7 +56,8 @@ fn add_entries(keys: &mut Vec<Key>, v: &Visit, found: &Located) -> Result<(), Al
 /// Whether an access of the instruction may be misaligned.
 fn is_misaligned(v: &Visit, found: &Located) -> bool
     requires { StandsBy v.now found.now }
-    ensures { entered_in (access_by v.now found.now) ≡ (if result then frames.aln_key v.now.ground.now.plan.now v.now.key ∷ [] else []) }
+    ensures { entered_in (access_by v.now found.now)
+        ≡ (if result then frames.aln_key v.now.ground.now.plan.now v.now.key ∷ [] else []) }
 {
     match found.shape {
         Shape::Load { size, .. } => !is_aligned(v.ground.bounds, &found.at, size),
@@ -63,7 +68,8 @@ fn is_misaligned(v: &Visit, found: &Located) -> bool
 
 fn add_access(keys: &mut Vec<Key>, v: &Visit, found: &Located) -> Result<(), AllocError>
     requires { StandsBy v.now found.now }
-    ensures { OnOk result (keys.new.items ≡ keys.old.items ++ entered_in (access_by v.now found.now)) }
+    ensures { OnOk result
+        (keys.new.items ≡ keys.old.items ++ entered_in (access_by v.now found.now)) }
 {
     if is_misaligned(v, found) {
         keys.push(aln_key(v.ground.plan, &v.key))?;

@@ -2,7 +2,7 @@
 ghost use Rattle.std.specs.Prelude.{◌≡◌, OnOk, IfErr, [], unwrap_or};
 ghost use Rattle.tc_isa.specs.Bounded.{IsShape, IsSize, IsTarget};
 ghost use Rattle.value_domain.specs.Values.{IsValue};
-ghost use Rattle.vd_transfer.specs.Changes.{changed};
+ghost use Rattle.vd_transfer.specs.Changes.{state_after};
 ghost use Rattle.cfg_recover.specs.Entries as entries;
 ghost use Rattle.cfg_recover.specs.Local.{targets_of};
 ghost use Rattle.cfg_recover.specs.Duties.{entered_and_back};
@@ -33,8 +33,11 @@ fn pay_calls(
     back: u32,
 ) -> Result<(), Refusal>
     requires visited { VisitedBy v.now table.old }
-    requires owes { OwesAll v.now (calls_by v.now (changed v.now.state.now entry.now) back targets.now) }
-    ensures ok { OnOk result (PaidBy v.now table.old table.new (calls_by v.now (changed v.now.state.now entry.now) back targets.now)) }
+    requires owes { OwesAll v.now
+        (calls_by v.now (state_after v.now.state.now entry.now) back targets.now) }
+    ensures ok { OnOk result
+        (PaidBy v.now table.old table.new
+        (calls_by v.now (state_after v.now.state.now entry.now) back targets.now)) }
     ensures err { IfErr result (AnsweredOn v.now.ground.now) }
 {
     for t in targets {
@@ -159,8 +162,11 @@ fn pay_irqs(
     entry: Change,
 ) -> Result<(), Refusal>
     requires visited { VisitedBy v.now table.old }
-    requires owes { OwesAll v.now (told_irqs v.now.ground.now.plan.now (changed v.now.state.now entry) irqs.now) }
-    ensures ok { OnOk result (PaidBy v.now table.old table.new (told_irqs v.now.ground.now.plan.now (changed v.now.state.now entry) irqs.now)) }
+    requires owes { OwesAll v.now
+        (told_irqs v.now.ground.now.plan.now (state_after v.now.state.now entry) irqs.now) }
+    ensures ok { OnOk result
+        (PaidBy v.now table.old table.new
+        (told_irqs v.now.ground.now.plan.now (state_after v.now.state.now entry) irqs.now)) }
     ensures err { IfErr result (AnsweredOn v.now.ground.now) }
 {
     let mut entry = entry;

@@ -2,9 +2,7 @@
 #![tactic(auto)]
 
 mod answering;
-mod asked;
 mod asking;
-mod cells;
 mod close;
 mod entered;
 mod entries;
@@ -18,7 +16,6 @@ mod rows;
 mod spelling;
 mod successors;
 mod table;
-mod values;
 
 pub use answering::{MakeErr, make, make_bytes};
 pub use laws::{

@@ -1,6 +1,7 @@
 // A visit: all that a point owes is joined, in the order in which its duties are listed.
 ghost use Rattle.std.specs.Prelude.{◌≡◌, OnOk, IfErr, Some};
-ghost use Rattle.cfg_recover.specs.Assignments.{point, state};
+ghost use Rattle.cfg_recover.specs.Assignments.{point};
+ghost use Rattle.depth_cert.specs.Known.{state};
 ghost use Rattle.cfg_recover.specs.Duties.{leavings_of};
 ghost use Rattle.frame_places.specs.declared.places.Spot.TheVariants.{Point};
 ghost use Rattle.depth_maker.specs.View.{seen, AnsweredOn, OwesAll, PaidBy, PaidOn, StandsBy, VisitedBy, duties_by};
@@ -19,7 +20,8 @@ use tc_isa::Shape;
 fn pay_leavings(alloc: Global, table: &mut Table, v: &Visit, shape: Shape) -> Result<(), Refusal>
     requires visited { VisitedBy v.now table.old }
     requires owes { OwesAll v.now (leavings_of v.now.key v.now.state.now shape) }
-    ensures ok { OnOk result (PaidBy v.now table.old table.new (leavings_of v.now.key v.now.state.now shape)) }
+    ensures ok { OnOk result
+        (PaidBy v.now table.old table.new (leavings_of v.now.key v.now.state.now shape)) }
     ensures err { IfErr result (AnsweredOn v.now.ground.now) }
 {
     match shape {
@@ -51,8 +53,10 @@ fn pay_duties(alloc: Global, table: &mut Table, v: &Visit, found: &Located) -> R
 /// Joins what the point owes, or some of it where it has work again.
 pub(crate) fn pay(alloc: Global, table: &mut Table, v: &Visit) -> Result<(), Refusal>
     requires visited { VisitedBy v.now table.old }
-    requires at { (seen table.old).cells (point v.now.key v.now.addr) ≡ Some (state v.now.state.now) }
-    ensures ok { OnOk result (PaidOn v.now.ground.now table.old table.new (Point v.now.key v.now.addr)) }
+    requires at { (seen table.old).cells (point v.now.key v.now.addr)
+        ≡ Some (state v.now.state.now) }
+    ensures ok { OnOk result
+        (PaidOn v.now.ground.now table.old table.new (Point v.now.key v.now.addr)) }
     ensures err { IfErr result (AnsweredOn v.now.ground.now) }
 {
     let g = v.ground;

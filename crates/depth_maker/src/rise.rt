@@ -1,18 +1,17 @@
 // One joining.
 ghost use Rattle.std.specs.Prelude.{OnOk, IfErr, IsTrue};
 ghost use Rattle.cfg_recover.specs.Assignments.{CoversAt};
-ghost use Rattle.depth_maker.specs.Proper.{IsProperKnown};
-ghost use Rattle.depth_maker.specs.Kept.{asked_for};
+ghost use Rattle.depth_cert.specs.Known.{IsProperKnown};
+ghost use Rattle.small_states.specs.Kept.{asked_for};
 ghost use Rattle.frame_places.specs.Marks.{AllListed, Woken};
 ghost use Rattle.depth_maker.specs.Spots.{place_of};
 ghost use Rattle.depth_maker.specs.View.{seen, AnsweredOn, AsksOn, CellsProper, FineOn, JoinedOn, Merges};
 
-use crate::asked::{Asked, priority};
-use crate::cells::Cell;
 use crate::ground::Ground;
 use crate::table::Table;
 use frame_places::{Refusal, Spot, count, wake};
 use indexmap::IndexMap;
+use small_states::{Asked, Cell, priority};
 use std::alloc::Global;
 use value_domain::Bounds;
 

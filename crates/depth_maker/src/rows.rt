@@ -1,7 +1,7 @@
 // The rows of all points: which frames each enters, by numbers, and with how many locals.
 ghost use Rattle.std.specs.Prelude.{◌≡◌, List, Contains, IfOk, OnOk, map};
 ghost use Rattle.depth_cert.specs.declared.keys.Key as keys;
-ghost use Rattle.depth_maker.specs.Growth.{IsProper};
+ghost use Rattle.depth_cert.specs.Known.{IsProper};
 ghost use Rattle.frame_places.specs.Numbers.{AreNumbers, number_in};
 ghost use Rattle.depth_maker.specs.View.{StandsBy};
 ghost use Rattle.depth_maker.specs.RowsBy.{AddsRow, AllKnownBy, FaultlessBy, IsRowBy, IsSource, PointHasRow, RowsOn};

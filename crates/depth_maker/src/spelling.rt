@@ -5,11 +5,11 @@ ghost use Rattle.depth_maker.specs.RowsAt.{need_by};
 ghost use Rattle.depth_maker.specs.RowsBy.{IsSource};
 ghost use Rattle.depth_maker.specs.Spelled.{AreFrames, AreKnown, IsFrameOf, IsOfVersion, IsOrdered, IsSpelledOn, NeedsAre, WritesCert, WritesExit, WritesNode, WritesNodes, WritesPoint, WritesPoints, known_on};
 
-use crate::cells::any_exit;
 use crate::rows::Source;
 use cfg_recover::start_state;
 use depth_cert::{Key, put_u16, write_exit, write_key, write_state};
 use frame_places::{Spot, address_at, frames_in_order, number_of, points_in_order, points_of};
+use small_states::any_exit;
 use std::alloc::Global;
 use tcd_base::{NoMemory, put_u32};
 use value_domain::State;

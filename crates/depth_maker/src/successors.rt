@@ -26,7 +26,8 @@ fn pay_side(
     requires visited { VisitedBy v.now table.old }
     requires shape { IsShape shape }
     requires owes { OwesAll v.now (jump_on to (side_by v.now shape taken)) }
-    ensures ok { OnOk result (PaidBy v.now table.old table.new (jump_on to (side_by v.now shape taken))) }
+    ensures ok { OnOk result
+        (PaidBy v.now table.old table.new (jump_on to (side_by v.now shape taken))) }
     ensures err { IfErr result (AnsweredOn v.now.ground.now) }
 {
     match change_on(v.ground.bounds, v.ground.plan, shape, v.state, taken) {
@@ -46,8 +47,11 @@ fn pay_sides(
 ) -> Result<(), Refusal>
     requires visited { VisitedBy v.now table.old }
     requires shape { IsShape shape }
-    requires owes { OwesAll v.now (jump_on next (side_by v.now shape false) ++ jump_on to (side_by v.now shape true)) }
-    ensures ok { OnOk result (PaidBy v.now table.old table.new (jump_on next (side_by v.now shape false) ++ jump_on to (side_by v.now shape true))) }
+    requires owes { OwesAll v.now
+        (jump_on next (side_by v.now shape false) ++ jump_on to (side_by v.now shape true)) }
+    ensures ok { OnOk result
+        (PaidBy v.now table.old table.new
+        (jump_on next (side_by v.now shape false) ++ jump_on to (side_by v.now shape true))) }
     ensures err { IfErr result (AnsweredOn v.now.ground.now) }
 {
     pay_side(alloc, table, v, shape, false, next)?;
@@ -58,7 +62,8 @@ fn pay_sides(
 fn pay_jumps(alloc: Global, table: &mut Table, v: &Visit, targets: &[u32]) -> Result<(), Refusal>
     requires visited { VisitedBy v.now table.old }
     requires owes { OwesAll v.now (jumps_to v.now.state.now targets.now) }
-    ensures ok { OnOk result (PaidBy v.now table.old table.new (jumps_to v.now.state.now targets.now)) }
+    ensures ok { OnOk result
+        (PaidBy v.now table.old table.new (jumps_to v.now.state.now targets.now)) }
     ensures err { IfErr result (AnsweredOn v.now.ground.now) }
 {
     let same = unchanged(v.state);

@@ -1,8 +1,8 @@
 // The table: what is known, which places have work, who reads which exit, the list of work, and what is counted.
-use crate::cells::Cell;
 use depth_cert::Key;
 use frame_places::{Mark, Spot};
 use indexmap::IndexMap;
+use small_states::Cell;
 use std::collections::VecDeque;
 
 /// What is known at each place, with the list of the places that have work. `points` has each point that is known, and

@@ -6,18 +6,18 @@ use Rattle.elf_image.specs.declared.errors.ImageErr.{ImageErr}
 use Rattle.elf_image.specs.declared.errors.ImageErr.TheVariants.{Short, NotElf32Le, NotTriCore, NotExec, BadSegment, TooLarge, Overlap, NoMemory}
 use Rattle.elf_image.specs.declared.headers.Header.{Header}
 use Rattle.elf_image.specs.Images.{SegmentData}
-use Rattle.elf_image.specs.Elf.{e_entry, loads_of, start_refusal, segment_refusal, is_large, overlap_refusal, refusal_of, segment_of, loaded, unless, image_of, Gives}
+use Rattle.elf_image.specs.Elf.{e_entry, loads_of, start_refusal, segment_refusal, is_large, overlap_refusal, refusal_of, segment_of, image_of_loads, unless, image_of, Gives}
 
 -- the answer with a refusal
 pub refused : (bytes : List ℕ) (e : ImageErr) → refusal_of bytes ≡ Some e → Gives (Err e) (image_of bytes)
 unfolding image_of
-refused bytes Short h = ap (λ o. unless o (loaded bytes)) h
-refused bytes NotElf32Le h = ap (λ o. unless o (loaded bytes)) h
-refused bytes NotTriCore h = ap (λ o. unless o (loaded bytes)) h
-refused bytes NotExec h = ap (λ o. unless o (loaded bytes)) h
-refused bytes (BadSegment i) h = ap (λ o. unless o (loaded bytes)) h
-refused bytes TooLarge h = ap (λ o. unless o (loaded bytes)) h
-refused bytes (Overlap i j) h = ap (λ o. unless o (loaded bytes)) h
+refused bytes Short h = ap (λ o. unless o (image_of_loads bytes)) h
+refused bytes NotElf32Le h = ap (λ o. unless o (image_of_loads bytes)) h
+refused bytes NotTriCore h = ap (λ o. unless o (image_of_loads bytes)) h
+refused bytes NotExec h = ap (λ o. unless o (image_of_loads bytes)) h
+refused bytes (BadSegment i) h = ap (λ o. unless o (image_of_loads bytes)) h
+refused bytes TooLarge h = ap (λ o. unless o (image_of_loads bytes)) h
+refused bytes (Overlap i j) h = ap (λ o. unless o (image_of_loads bytes)) h
 refused bytes NoMemory h = tt
 
 first : (a b c d : Option ImageErr) (e : ImageErr) → Some e ≡ a → option_or a (option_or b (option_or c d)) ≡ Some e
@@ -54,7 +54,7 @@ refused_overlap bytes e h i j loads l k = refused bytes e (fourth (start_refusal
 
 -- the image, where there is none
 pub image_of-loaded : (bytes : List ℕ) (entry : ℕ) (ss : List SegmentData) → None ≡ start_refusal bytes → None ≡ segment_refusal bytes → is_large (loads_of bytes) ≡ false → None ≡ overlap_refusal (loads_of bytes) → entry ≡ e_entry bytes → ss ≡ map (segment_of bytes) (loads_of bytes) → image_of bytes ≡ Ok (record { entry = entry; segments = ss })
-unfolding refusal_of image_of loaded
+unfolding refusal_of image_of image_of_loads
 image_of-loaded bytes entry ss h i j k e f =
     let none = fourth (start_refusal bytes) (segment_refusal bytes) (then_some (is_large (loads_of bytes)) TooLarge) (overlap_refusal (loads_of bytes)) None h i (ap (λ b. then_some b TooLarge) (sym j)) k in
-    ap (λ o. unless o (loaded bytes)) none ∙ rw (e, f) refl
+    ap (λ o. unless o (image_of_loads bytes)) none ∙ rw (e, f) refl

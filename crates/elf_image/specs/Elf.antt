@@ -142,8 +142,8 @@ abbrev pub segment_of : List ℕ → Header → SegmentData
 segment_of bytes h = record { at = h.address; bytes = take h.file_size (drop h.offset bytes) }
 
 -- the entry, and a segment for each program header that loads bytes
-unfoldable pub loaded : List ℕ → ImageData
-loaded bytes = record { entry = e_entry bytes; segments = map (segment_of bytes) (loads_of bytes) }
+unfoldable pub image_of_loads : List ℕ → ImageData
+image_of_loads bytes = record { entry = e_entry bytes; segments = map (segment_of bytes) (loads_of bytes) }
 
 -- the refusal, if there is one, else this image
 abbrev pub unless : Option ImageErr → ImageData → Result ImageData ImageErr
@@ -152,7 +152,7 @@ unless (Some e) i = Err e
 
 -- the image that the bytes of a file load, or the first refusal
 unfoldable pub image_of : List ℕ → Result ImageData ImageErr
-image_of bytes = unless (refusal_of bytes) (loaded bytes)
+image_of bytes = unless (refusal_of bytes) (image_of_loads bytes)
 
 -- a reader's answer is this one, unless memory ran out
 abbrev pub Gives : Result ImageData ImageErr → Result ImageData ImageErr → Type 0

@@ -1,18 +1,11 @@
 // An image: the segments of an executable, with the limits that it always keeps.
 use crate::ImageErr;
+use crate::file_bytes::file_of;
+use crate::file_checks::{check_apart, check_segments, check_start, loads_of, segments_of};
 use crate::headers::word_at;
-use crate::holding::{byte_of, is_held};
-use crate::reading::{check_apart, check_segments, check_start, loads_of, segments_of};
-use crate::writing::written;
+use crate::segment::{Segment, byte_of, is_held};
 use std::alloc::Global;
 use std::marker::Model;
-
-/// The bytes from `at` on.
-#[derive(Drop)]
-pub struct Segment {
-    pub at: u32,
-    pub bytes: Vec<u8>,
-}
 
 /// The segments of an executable, and the address at which it begins. At most 64 segments, each with a byte at least
 /// and none passing 2^32; no two share an address; together at most 16,777,216 bytes.
@@ -63,7 +56,7 @@ impl Image {
         ensures again { IfOk result (λ v. image_of v.items ≡ Ok self.now) }
         ensures err { IfErr result (λ e. e ≡ ImageErr.NoMemory) }
     {
-        written(alloc, self.entry, &self.segments)
+        file_of(alloc, self.entry, &self.segments)
     }
 
     /// The byte at an address; nothing where no segment holds it. Looks at each segment once, and at one byte.

@@ -2,12 +2,12 @@
 #![tactic(auto)]
 
 mod errors;
+mod file_bytes;
+mod file_checks;
 mod headers;
-mod holding;
 mod images;
-mod reading;
-mod writing;
+mod segment;
 
 pub use errors::ImageErr;
-pub use holding::read_segments;
-pub use images::{Image, Segment};
+pub use images::Image;
+pub use segment::{Segment, read_segments};

@@ -22,7 +22,8 @@ fn count_point(
     requires points { length points.old.items ≤ 2 ^ 16 }
     requires frames { length frames.old.items ≤ 2048 }
     ensures points { OnOk result (points.new.items ≡ with_point points.old.items (Point key addr)) }
-    ensures frames { OnOk result (frames.new.items ≡ with_entered frames.old.items (Point key addr)) }
+    ensures frames { OnOk result
+        (frames.new.items ≡ with_entered frames.old.items (Point key addr)) }
     ensures few_points { OnOk result (length points.new.items ≤ 2 ^ 16) }
     ensures few_frames { OnOk result (length frames.new.items ≤ 2048) }
     ensures err { IfErr result (Passing false points.old.items frames.old.items (Point key addr)) }

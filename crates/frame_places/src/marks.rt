@@ -18,7 +18,9 @@ pub fn touch(
     x: Spot,
 ) -> Result<(), AllocError>
     requires { AllListed marks.old work.old.items }
-    ensures marks { OnOk result ((q : Spot) → get spot_eq marks.new q ≡ (if spot_eq x q then Some Queued else get spot_eq marks.old q)) }
+    ensures marks { OnOk result
+        ((q : Spot) → get spot_eq marks.new q
+        ≡ (if spot_eq x q then Some Queued else get spot_eq marks.old q)) }
     ensures work { OnOk result (AllListed marks.new work.new.items) }
 {
     if let Some(Mark::Queued) = marks.get(&x) {

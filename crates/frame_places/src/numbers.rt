@@ -26,7 +26,8 @@ pub fn numbered(
 
 /// The number of a frame; 0 where it has none.
 pub fn number_of(numbers: &IndexMap<Key, usize>, key: Key) -> usize
-    ensures { (frames : List keys.Key) → AreNumbers numbers.now frames frames → Contains frames key → result ≡ number_in frames key }
+    ensures { (frames : List keys.Key) → AreNumbers numbers.now frames frames → Contains frames key
+        → result ≡ number_in frames key }
 {
     match numbers.get(&key) {
         Some(number) => *number,

@@ -16,7 +16,8 @@ pub fn register(
     z: Spot,
     x: Spot,
 ) -> Result<(), AllocError>
-    ensures kept { OnOk result ((p q : Spot) → Reads (get spot_eq readers.old p) q → Reads (get spot_eq readers.new p) q) }
+    ensures kept { OnOk result
+        ((p q : Spot) → Reads (get spot_eq readers.old p) q → Reads (get spot_eq readers.new p) q) }
     ensures there { OnOk result (Reads (get spot_eq readers.new z) x) }
 {
     if let Some(list) = readers.get_mut(&z) {

@@ -4,9 +4,9 @@ use Rattle.std.proofs.lemmas.Bool.{le-leb, lt-leb, ne_eqb}
 use Rattle.std.proofs.lemmas.List.{append-nil, take-append-drop, length-take, get_or-drop, drop_more}
 use Rattle.std.proofs.Math.Seq.{take-append_seam}
 use Rattle.std.specs.List.{flat_map}
-use Rattle.tcd_base.specs.declared.types.FormErr.{FormErr}
+use Rattle.tcd_base.specs.declared.errors.FormErr.{FormErr}
 use Rattle.tcd_base.specs.Bytes.{bytes_of_word}
-use Rattle.tcd_base.specs.Place.{Place, between}
+use Rattle.tcd_base.specs.Place.{Place, place_between}
 use Rattle.tcd_base.proofs.FieldReads.{bind_ok}
 use Rattle.value_domain.specs.declared.values.Val.{Val}
 use Rattle.value_domain.specs.declared.values.Val.TheVariants.{Set, Span}
@@ -23,7 +23,7 @@ use Rattle.packed_cert.specs.Standing.{at, length_by, behind, Stand}
 abbrev pub Small : List ℕ → Type 0
 Small bytes = (k : ℕ) → get_or bytes k 0 < 2 ^ 8
 
-pub split : (bytes : List ℕ) (x : ℕ) → x ≤ length bytes → at bytes x ≡ between (take x bytes) (drop x bytes)
+pub split : (bytes : List ℕ) (x : ℕ) → x ≤ length bytes → at bytes x ≡ place_between (take x bytes) (drop x bytes)
 split bytes x h =
     let len : x ≡ length (take x bytes) = omega (arith, length-take x bytes) in
     ap (λ (l : List ℕ). at l x) (sym (take-append-drop x bytes)) ∙ ap (λ (n : ℕ). at (take x bytes ++ drop x bytes) n) len
@@ -42,7 +42,7 @@ moved {A} read part v bytes x y q good h room same =
     let front : List ℕ = take y bytes in
     let whole : (front ++ part) ++ rest ≡ bytes = append_assoc front part rest ∙ ap (λ (l : List ℕ). front ++ l) is ∙ take-append-drop y bytes in
     let len : length (front ++ part) ≡ y + length part = omega (arith, length-append front part, length-take y bytes) in
-    ap read (split bytes y (omega arith) ∙ ap (λ (l : List ℕ). between front l) (sym is))
+    ap read (split bytes y (omega arith) ∙ ap (λ (l : List ℕ). place_between front l) (sym is))
     ∙ good.at front rest
     ∙ ap (λ (l : List ℕ). let r : Result (A × Place) FormErr = Ok (v, at l (length (front ++ part))) in r) whole
     ∙ ap (λ (n : ℕ). let r : Result (A × Place) FormErr = Ok (v, at bytes n) in r) len

@@ -1,6 +1,6 @@
 -- Points of which only the address and the place of the state are kept; the bytes hold the state.
 use Rattle.std.specs.Prelude.{◌≡◌, ℕ, List, [], map, false, Result, Ok, Err, ◌≤◌, ◌^◌, length}
-use Rattle.tcd_base.specs.declared.types.FormErr.{FormErr}
+use Rattle.tcd_base.specs.declared.errors.FormErr.{FormErr}
 use Rattle.tcd_base.specs.Place.{Place}
 use Rattle.value_domain.specs.declared.states.State.{State}
 use Rattle.depth_cert.specs.declared.points.Point.{Point}

@@ -131,7 +131,8 @@ pub(crate) fn are_below_at(low: &[Val], bytes: &[u8], version: u8, place: usize)
     requires short { length bytes.now ≤ 2 ^ 30 }
     requires well { AreWell low.now }
     requires stand { HaveValues version bytes.now place (length low.now) }
-    ensures { IsTrue result ↔ AreBelow low.now (values_in version bytes.now place (length low.now)) }
+    ensures { IsTrue result
+        ↔ AreBelow low.now (values_in version bytes.now place (length low.now)) }
 {
     let mut at = place;
     for i in 0..low.len() {

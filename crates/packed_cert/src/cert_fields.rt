@@ -44,7 +44,8 @@ fn read_nodes(
 #[tactic(auto, unfolding(depth_cert::specs::Grammar::certificate_of, depth_cert::specs::Grammar::cert_at))]
 pub(crate) fn read_parts(alloc: Global, bytes: &[u8]) -> Result<(u8, Vec<NodePlaces>), CertErr>
     requires { length bytes.now ≤ 2 ^ 30 }
-    ensures ok { IfOk result (λ r. certificate_of bytes.now ≡ Ok (cert_of r.0 bytes.now r.1.items)) }
+    ensures ok { IfOk result
+        (λ r. certificate_of bytes.now ≡ Ok (cert_of r.0 bytes.now r.1.items)) }
     ensures err { IfErr result (IsFaultOf (certificate_of bytes.now)) }
     ensures places { IfOk result (λ r. All (HasPlaces r.0 bytes.now) r.1.items) }
 {

@@ -1,7 +1,7 @@
 // The values of a changed state, compared with those that stand in bytes.
 ghost use Rattle.std.specs.Prelude.{◌≡◌, ◌≤◌, ◌<◌, ◌^◌, ◌↔◌, IsTrue, length};
 ghost use Rattle.value_domain.specs.State.{AreBelow, AreWell};
-ghost use Rattle.vd_transfer.specs.Changes.{changed};
+ghost use Rattle.vd_transfer.specs.Changes.{state_after};
 ghost use Rattle.packed_cert.specs.Below.{values_in, HaveValues};
 
 use crate::below::is_below_at;
@@ -19,10 +19,10 @@ pub(crate) fn is_changed_below_at(
     place: usize,
 ) -> bool
     requires short { length bytes.now ≤ 2 ^ 30 }
-    requires well { AreWell (changed s.now c.now).regs }
+    requires well { AreWell (state_after s.now c.now).regs }
     requires stand { HaveValues version bytes.now place 27 }
     ensures { IsTrue result
-        ↔ AreBelow (changed s.now c.now).regs (values_in version bytes.now place 27) }
+        ↔ AreBelow (state_after s.now c.now).regs (values_in version bytes.now place 27) }
 {
     let _regs = &s.regs[..];
     let any = Val::any();

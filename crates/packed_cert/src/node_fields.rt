@@ -36,7 +36,8 @@ fn is_next(before: &[NodePlaces], key: u64) -> bool
 #[tactic(auto, unfolding(depth_cert::specs::Grammar::key_after))]
 fn read_key(c: &mut Cursor<'_>, before: &[NodePlaces]) -> Result<Key, FormErr>
     requires { length c.old.bytes ≤ 2 ^ 30 }
-    ensures read { Reads result c.new (key_after (map (λ n. number_of_key n.key) before.now) c.old) }
+    ensures read { Reads result c.new
+        (key_after (map (λ n. number_of_key n.key) before.now) c.old) }
     ensures bytes { c.new.bytes ≡ c.old.bytes }
 {
     let start = c.place();

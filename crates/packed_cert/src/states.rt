@@ -91,7 +91,7 @@ impl<'a> StateAt<'a> {
 
 impl<'a> StateAt<'a> {
     ghost use Rattle.value_domain.specs.State.{AreWell, AreBelow, Covers};
-    ghost use Rattle.vd_transfer.specs.Changes.{changed};
+    ghost use Rattle.vd_transfer.specs.Changes.{state_after};
 
     /// Whether each value is below that of the same register, compared where these stand.
     pub fn is_above(&self, low: &[Val; 27]) -> bool
@@ -127,8 +127,8 @@ impl<'a> StateAt<'a> {
 
     /// Whether this state covers a changed one, which is never built.
     pub fn covers_changed(&self, s: &State, c: &Change) -> bool
-        requires { AreWell (changed s.now c.now).regs }
-        ensures { IsTrue result ↔ Covers self.now (changed s.now c.now) }
+        requires { AreWell (state_after s.now c.now).regs }
+        ensures { IsTrue result ↔ Covers self.now (state_after s.now c.now) }
     {
         if !self.covers_context(c.ie, c.ccpn, c.lower) {
             return false;
@@ -167,7 +167,8 @@ fn place_of_values(bytes: &[u8], version: u8, place: usize) -> usize
     requires inside { place ≤ length bytes.now }
     requires state { HasState version bytes.now place }
     ensures have { HaveValues version bytes.now result 27 }
-    ensures values { (state_in version bytes.now place).regs ≡ values_in version bytes.now result 27 }
+    ensures values { (state_in version bytes.now place).regs
+        ≡ values_in version bytes.now result 27 }
 {
     place + 4 + bytes[place + 3] as usize
 }

@@ -1,3 +1,4 @@
 -- What is in little room, as what it stands for.
 pub mod Forms
 pub mod Wholes
+pub mod Kept

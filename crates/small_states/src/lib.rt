@@ -1,10 +1,13 @@
 //! States and exits in little room: of a value only its words, or the ends and the step of its range.
 #![tactic(auto)]
 
-mod changed;
+mod asked;
+mod cells;
 mod small;
 mod states;
+mod values;
 
-pub use changed::{changed_value, is_lower_slot};
+pub use asked::{Asked, priority};
+pub use cells::{Cell, any_exit};
 pub use small::Small;
 pub use states::{SmallExit, SmallState, copy_of, join_locals};

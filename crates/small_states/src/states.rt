@@ -80,7 +80,9 @@ impl SmallState {
 
     /// Whether its context covers this one.
     pub fn covers_context(&self, ie: bool, ccpn: u8, lower: bool) -> bool
-        ensures { IsTrue result ↔ ((IsTrue ie → IsTrue self.now.ie) × (self.now.ccpn ≤ ccpn) × (IsTrue self.now.lower → IsTrue lower)) }
+        ensures { IsTrue result
+            ↔ ((IsTrue ie → IsTrue self.now.ie) × (self.now.ccpn ≤ ccpn)
+            × (IsTrue self.now.lower → IsTrue lower)) }
     {
         (self.ie || !ie) && self.ccpn <= ccpn && (!self.lower || lower)
     }

@@ -3,7 +3,7 @@ use Rattle.std.proofs.Common.{◌≡◌, ℕ, ◌-◌, ◌*◌, ◌^◌, ◌<◌
 use Rattle.std.proofs.lemmas.Bool.{lt-ltb}
 use Rattle.std.proofs.lemmas.Bool.Decides.{nat_tests}
 use Rattle.tcd_base.specs.Fields.{sext_of}
-use Rattle.csa_chain.specs.Memory.{extended}
+use Rattle.csa_chain.specs.Memory.{extend}
 use Rattle.value_domain.specs.Sets.{Among, Within, distinct, alignment_log2}
 use Rattle.value_domain.specs.Limits.{Limits, AreLimits}
 use Rattle.value_domain.specs.Floors.{floor, above}
@@ -45,19 +45,19 @@ map-same f (x ∷ xs) each = let a : f x ≡ x = each x in let r : map f xs ≡ 
 in_all : (size x : ℕ) → x < 2 ^ (8 * size) → Among x (range 0 (2 ^ (8 * size) - 1) 0)
 in_all size x below = among_range x 0 (2 ^ (8 * size) - 1) 0 (omega arith) (omega arith, omega arith, omega arith)
 
-pub anything_has : (size : ℕ) (signed : Bool) (x : ℕ) → x < 2 ^ (8 * size) → Among (extended signed size x) (all_extended size signed)
-anything_has size signed x below = map_has (extended signed size) x (range 0 (2 ^ (8 * size) - 1) 0) (in_all size x below)
+pub anything_has : (size : ℕ) (signed : Bool) (x : ℕ) → x < 2 ^ (8 * size) → Among (extend signed size x) (all_extended size signed)
+anything_has size signed x below = map_has (extend signed size) x (range 0 (2 ^ (8 * size) - 1) 0) (in_all size x below)
 
 pub anything-unsigned : (b : Limits) (size : ℕ) → cover b (range 0 (2 ^ (8 * size) - 1) 0) ≡ cover b (all_extended size false)
-anything-unsigned b size = ap (cover b) (sym (map-same (extended false size) (range 0 (2 ^ (8 * size) - 1) 0) (λ x. refl)))
+anything-unsigned b size = ap (cover b) (sym (map-same (extend false size) (range 0 (2 ^ (8 * size) - 1) 0) (λ x. refl)))
 
 -- small numbers stay, and the greatest becomes the greatest word
-small_stays : (size x : ℕ) → IsSize size → x < 128 → (extended true size x ≡ x) × (x < 2 ^ (8 * size))
+small_stays : (size x : ℕ) → IsSize size → x < 128 → (extend true size x ≡ x) × (x < 2 ^ (8 * size))
 small_stays size x (inl e) below = rw e (rw (lt-ltb x 128 below) refl, omega arith)
 small_stays size x (inr (inl e)) below = rw e (rw (lt-ltb x (2 ^ 15) (omega arith)) refl, omega arith)
 small_stays size x (inr (inr e)) below = rw e (rw (lt-ltb x (2 ^ 31) (omega arith)) refl, omega arith)
 
-greatest_extended : (size : ℕ) → IsSize size → (extended true size (2 ^ (8 * size) - 1) ≡ 2 ^ 32 - 1) × (2 ^ (8 * size) - 1 < 2 ^ (8 * size))
+greatest_extended : (size : ℕ) → IsSize size → (extend true size (2 ^ (8 * size) - 1) ≡ 2 ^ 32 - 1) × (2 ^ (8 * size) - 1 < 2 ^ (8 * size))
 greatest_extended size (inl e) = rw e (refl, omega arith)
 greatest_extended size (inr (inl e)) = rw e (refl, omega arith)
 greatest_extended size (inr (inr e)) = rw e (refl, omega arith)
@@ -71,7 +71,7 @@ below_16 x le = grind (arith, nat_tests)
 below_32 : (x : ℕ) → x ≤ 2 ^ 32 - 1 → sext_of x 32 ≤ 2 ^ 32 - 1
 below_32 x le = grind (arith, nat_tests)
 
-extended_le : (size x : ℕ) → IsSize size → x ≤ 2 ^ (8 * size) - 1 → extended true size x ≤ 2 ^ 32 - 1
+extended_le : (size x : ℕ) → IsSize size → x ≤ 2 ^ (8 * size) - 1 → extend true size x ≤ 2 ^ 32 - 1
 extended_le size x (inl e) le = let l : x ≤ 2 ^ 8 - 1 = rw e at le in rw e (below_8 x l)
 extended_le size x (inr (inl e)) le = let l : x ≤ 2 ^ 16 - 1 = rw e at le in rw e (below_16 x l)
 extended_le size x (inr (inr e)) le = let l : x ≤ 2 ^ 32 - 1 = rw e at le in rw e (below_32 x l)
@@ -102,7 +102,7 @@ module _ (size : ℕ) (is : IsSize size) where
 
   signed_below : (z : ℕ) → Among z (all_extended size true) → z ≤ 2 ^ 32 - 1
   signed_below z i =
-      let x = among_map (extended true size) z (range 0 (2 ^ (8 * size) - 1) 0) i in
+      let x = among_map (extend true size) z (range 0 (2 ^ (8 * size) - 1) 0) i in
       let m = range_among x.0 0 (2 ^ (8 * size) - 1) 0 (omega arith) x.1 in
       subst (λ (y : ℕ). y ≤ 2 ^ 32 - 1) (sym x.2) (extended_le size x.0 is m.1)
 

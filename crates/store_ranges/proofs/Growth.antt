@@ -5,7 +5,7 @@ use Rattle.std.proofs.lemmas.Bool.{cases_Bool, and_parts, eqb-true, ltb-true}
 use Rattle.std.proofs.lemmas.Nat.{pow-add}
 use Rattle.elf_image.specs.Images.{ImageData, image_byte}
 use Rattle.elf_image.proofs.ReadBytes.{byte_lt}
-use Rattle.tcd_base.specs.declared.types.Range.{Range}
+use Rattle.tcd_base.specs.declared.range.Range.{Range}
 use Rattle.tcd_plan.specs.declared.plans.Device.{Device}
 use Rattle.tcd_plan.specs.PlanData.{PlanData, IsPlan, all_apart, areas_range, is_device}
 use Rattle.tcd_base.specs.Ranges.{IsWithin, IsInOne, is_within}
@@ -21,7 +21,7 @@ use Rattle.value_domain.proofs.ExtentLaws.{among_append, many_span}
 use Rattle.value_domain.proofs.RangeLaws.{set_value, some_members}
 use Rattle.value_domain.proofs.Loops.{among_get}
 use Rattle.tcd_base.proofs.RangeLaws.{in_one, IsInOne-front, within_true}
-use Rattle.store_ranges.specs.Loads.{all_extended, answers, device_of, given, held_number, loaded_of, number_or, rom_number}
+use Rattle.store_ranges.specs.Loads.{all_extended, answers, device_of, words_at, held_number, loaded_of, number_or, rom_number}
 use Rattle.store_ranges.specs.Laws.{LoadsGrow}
 use Rattle.store_ranges.proofs.Covers.{anything_has}
 use Rattle.store_ranges.proofs.Finds.{found_true, found_all, found_device}
@@ -156,7 +156,7 @@ module _ (plan : PlanData) (ok : IsPlan plan) where
 
   module _ (image : ImageData) (bytes : HasImageBytes image) (size : ℕ) (signed : Bool) where
     -- what an address gives is among what a Span that has it gives
-    given_answers : (x : ℕ) (ys : List ℕ) (o : Option Device) → Among x ys → device_of plan size ys ≡ o → Within (given image plan size signed x) (answers size signed o)
+    given_answers : (x : ℕ) (ys : List ℕ) (o : Option Device) → Among x ys → device_of plan size ys ≡ o → Within (words_at image plan size signed x) (answers size signed o)
     given_answers x ys None i e z j = given_within plan ok image bytes size signed x (rom_number image plan x size) refl z j
     given_answers x ys (Some d) i e z j =
         let rom = no_rom image size x ys d i e in
@@ -168,20 +168,20 @@ module _ (plan : PlanData) (ok : IsPlan plan) where
     answers_answers xs ys x None i there e z j = answers_within plan ok size signed xs (device_of plan size xs) refl z j
     answers_answers xs ys x (Some d) i there e z j = subst (λ (n : Option Device). Among z (answers size signed n)) (device_fewer size xs ys d x i there e) j
 
-    flat_some : (ws : List ℕ) → 1 ≤ length ws → 1 ≤ length (flat_map (given image plan size signed) ws)
+    flat_some : (ws : List ℕ) → 1 ≤ length ws → 1 ≤ length (flat_map (words_at image plan size signed) ws)
     flat_some [] some = absurd (omega arith)
     flat_some (w ∷ ws) some =
-        let f = given image plan size signed in
+        let f = words_at image plan size signed in
         omega (arith, length-append (f w) (flat_map f ws), given_more plan ok image size signed w (rom_number image plan w size))
 
     grow : (b : Limits) (v w : Val) → IsValue b v → IsValue b w → IsBelow v w → IsBelow (loaded_of b image plan v size signed) (loaded_of b image plan w size signed)
     grow b (Set vs) (Set ws) vv vw below =
-        cover_mono b (flat_map (given image plan size signed) vs) (flat_map (given image plan size signed) ws) (flat_some vs vv.well.some)
-        (λ z i. let x = flat_among (given image plan size signed) z vs i in among_flat (given image plan size signed) x.0 z ws (below x.0 x.1) x.2)
+        cover_mono b (flat_map (words_at image plan size signed) vs) (flat_map (words_at image plan size signed) ws) (flat_some vs vv.well.some)
+        (λ z i. let x = flat_among (words_at image plan size signed) z vs i in among_flat (words_at image plan size signed) x.0 z ws (below x.0 x.1) x.2)
     grow b (Set vs) (Span lo last step) vv vw below =
-        cover_mono b (flat_map (given image plan size signed) vs) (answers size signed (device_of plan size (range lo last step))) (flat_some vs vv.well.some)
+        cover_mono b (flat_map (words_at image plan size signed) vs) (answers size signed (device_of plan size (range lo last step))) (flat_some vs vv.well.some)
         (λ z i.
-        let x = flat_among (given image plan size signed) z vs i in
+        let x = flat_among (words_at image plan size signed) z vs i in
         given_answers x.0 (range lo last step) (device_of plan size (range lo last step)) (among_member (Span lo last step) x.0 vw.well.0 (below x.0 x.1)) refl z x.2)
     grow b (Span lo last step) (Set ws) vv vw below =
         absurd (let long = many_span b lo last step vv in

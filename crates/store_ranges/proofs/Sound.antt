@@ -6,7 +6,7 @@ use Rattle.std.specs.List.{find, list_all, list_any, flat_map}
 use Rattle.std.specs.FinMap as map
 use Rattle.std.proofs.lemmas.Bool.{cases_Bool, eqb-true, lt-ltb, le-ltb, cases_lt}
 use Rattle.std.proofs.lemmas.Nat.{pow-add}
-use Rattle.csa_chain.specs.Memory.{Memory, loaded, extended}
+use Rattle.csa_chain.specs.Memory.{Memory, load_number, extend}
 use Rattle.elf_image.specs.Images.{ImageData, image_byte}
 use Rattle.tcd_plan.specs.declared.plans.Device.{Device}
 use Rattle.tcd_plan.specs.PlanData.{PlanData, IsPlan, all_apart, areas_range, is_device}
@@ -21,7 +21,7 @@ use Rattle.value_domain.specs.Limits.{Limits}
 use Rattle.value_domain.specs.Values.{IsWell, cover, members, range}
 use Rattle.value_domain.proofs.CoverLaws.{cover_holds, among_range, among_member, has_step}
 use Rattle.tcd_base.proofs.RangeLaws.{in_one, IsInOne-front, IsInOne-behind, within_true}
-use Rattle.store_ranges.specs.Loads.{HoldsLoads, answers, device_of, given, held_number, number_or, rom_number}
+use Rattle.store_ranges.specs.Loads.{HoldsLoads, answers, device_of, words_at, held_number, number_or, rom_number}
 use Rattle.store_ranges.proofs.Covers.{anything_has}
 use Rattle.store_ranges.proofs.Finds.{found_all, found_true, found_device}
 use Rattle.store_ranges.proofs.LoadLaws.{all_at, among_flat}
@@ -40,15 +40,15 @@ byte_lt (Some b) d each h = each b refl
 pub one_more_byte : (n b l p : ℕ) → p ≡ 2 ^ (8 * n) → b < 2 ^ 8 → l < p → b + 2 ^ 8 * l < 2 ^ 8 * p
 one_more_byte n b l p e byte below = omega arith
 
-pub loaded_lt : (mem : Memory) → HasBytes mem → (input x n : ℕ) → loaded mem input x n < 2 ^ (8 * n)
-unfolding loaded
+pub loaded_lt : (mem : Memory) → HasBytes mem → (input x n : ℕ) → load_number mem input x n < 2 ^ (8 * n)
+unfolding load_number
 loaded_lt mem bytes input x zero = omega arith
 loaded_lt mem bytes input x (suc n) =
     let byte = byte_lt (map.get mem x) (input % 2 ^ 8) (bytes x) (omega arith) in
     let rest = loaded_lt mem bytes (input / 2 ^ 8) ((x + 1) % 2 ^ 32) n in
     let e : 8 * suc n ≡ 8 + 8 * n = omega arith in
     let p : 2 ^ (8 * suc n) ≡ 2 ^ 8 * 2 ^ (8 * n) = ap (λ k. 2 ^ k) e ∙ pow-add 2 8 (8 * n) in
-    subst (λ q. unwrap_or (map.get mem x) (input % 2 ^ 8) + 2 ^ 8 * loaded mem (input / 2 ^ 8) ((x + 1) % 2 ^ 32) n < q) (sym p)
+    subst (λ q. unwrap_or (map.get mem x) (input % 2 ^ 8) + 2 ^ 8 * load_number mem (input / 2 ^ 8) ((x + 1) % 2 ^ 32) n < q) (sym p)
     (one_more_byte n _ _ (2 ^ (8 * n)) refl byte rest)
 
 -- ---- rom
@@ -58,21 +58,21 @@ held_parts (Some b) None w e = absurd (let g : None ≡ Some w = e in cc)
 held_parts (Some b) (Some v) w e = (b, v, refl, refl, (let g : Some (b + 2 ^ 8 * v) ≡ Some w = e in cc))
 
 -- addresses below 2^32 don't wrap
-loaded-place : (mem : Memory) (input x n : ℕ) → x + n ≤ 2 ^ 32 → loaded mem input (x % 2 ^ 32) n ≡ loaded mem input x n
-unfolding loaded
+loaded-place : (mem : Memory) (input x n : ℕ) → x + n ≤ 2 ^ 32 → load_number mem input (x % 2 ^ 32) n ≡ load_number mem input x n
+unfolding load_number
 loaded-place mem input x zero fits = refl
-loaded-place mem input x (suc n) fits = ap (λ y. loaded mem input y (suc n)) (mod_small x (omega arith))
+loaded-place mem input x (suc n) fits = ap (λ y. load_number mem input y (suc n)) (mod_small x (omega arith))
 
 -- bytes that memory has from the image make the image's number
 pub loaded-held : (image : ImageData) (mem : Memory) (input x n w : ℕ) → x + n ≤ 2 ^ 32 → ((y b : ℕ) → x ≤ y → y < x + n → image_byte image y ≡ Some b → map.get mem y ≡ Some b)
-    → held_number image x n ≡ Some w → loaded mem input x n ≡ w
-unfolding loaded held_number
+    → held_number image x n ≡ Some w → load_number mem input x n ≡ w
+unfolding load_number held_number
 loaded-held image mem input x zero w fits there e = cc
 loaded-held image mem input x (suc n) w fits there e =
     let h = held_parts (image_byte image x) (held_number image (x + 1) n) w e in
     let byte : map.get mem x ≡ Some h.0 = there x h.0 (omega arith) (omega arith) h.2 in
     let rest = loaded-held image mem (input / 2 ^ 8) (x + 1) n h.1 (omega arith) (λ y b low high. there y b (omega arith) (omega arith)) h.3 in
-    ap (λ o. unwrap_or o (input % 2 ^ 8) + 2 ^ 8 * loaded mem (input / 2 ^ 8) ((x + 1) % 2 ^ 32) n) byte
+    ap (λ o. unwrap_or o (input % 2 ^ 8) + 2 ^ 8 * load_number mem (input / 2 ^ 8) ((x + 1) % 2 ^ 32) n) byte
     ∙ ap (λ l. h.0 + 2 ^ 8 * l) (loaded-place mem (input / 2 ^ 8) (x + 1) n (omega arith) ∙ rest)
     ∙ h.4
 
@@ -110,8 +110,8 @@ four_none : (o0 o1 o2 o3 : Option ℕ) (i : ℕ) → i < 2 ^ 32 → o0 ≡ None 
 four_none o0 o1 o2 o3 i h e0 e1 e2 e3 = rw (e0, e1, e2, e3) (omega arith)
 
 -- a load of four bytes that aren't mapped gives the input
-pub loaded-input : (mem : Memory) (input x : ℕ) → input < 2 ^ 32 → x + 4 ≤ 2 ^ 32 → ((y : ℕ) → x ≤ y → y < x + 4 → map.get mem y ≡ None) → loaded mem input x 4 ≡ input
-unfolding loaded
+pub loaded-input : (mem : Memory) (input x : ℕ) → input < 2 ^ 32 → x + 4 ≤ 2 ^ 32 → ((y : ℕ) → x ≤ y → y < x + 4 → map.get mem y ≡ None) → load_number mem input x 4 ≡ input
+unfolding load_number
 loaded-input mem input x small fits none =
     let p1 : (x + 1) % 2 ^ 32 ≡ x + 1 = omega arith in
     let p2 : ((x + 1) % 2 ^ 32 + 1) % 2 ^ 32 ≡ x + 2 = omega arith in
@@ -120,7 +120,7 @@ loaded-input mem input x small fits none =
     (ap (map.get mem) p2 ∙ none (x + 2) (omega arith) (omega arith)) (ap (map.get mem) p3 ∙ none (x + 3) (omega arith) (omega arith))
 
 -- a word is its own extension
-pub extended-word : (signed : Bool) (w : ℕ) → w < 2 ^ 32 → extended signed 4 w ≡ w
+pub extended-word : (signed : Bool) (w : ℕ) → w < 2 ^ 32 → extend signed 4 w ≡ w
 extended-word false w below = refl
 extended-word true w below = elim (cases_lt w (2 ^ 31)) [
   | inl low ↦ rw (lt-ltb w (2 ^ 31) low) refl
@@ -140,34 +140,34 @@ found_each P p (c ∷ ds) d all e =
 module _ (image : ImageData) (plan : PlanData) (ok : IsPlan plan) (mem : Memory) (bytes : HasBytes mem) (memory : IsPlanMemory plan mem) (rom : HoldsRom image plan mem) where
   -- from a device
   device_has : (input x : ℕ) (signed : Bool) (p : Device → Bool) (d : Device) → input < 2 ^ 32 → AnswersAt x input plan.devices → find p plan.devices ≡ Some d → IsWithin x 4 d.range
-      → Among (extended signed 4 (loaded mem input x 4)) (range d.lo d.hi 0)
+      → Among (extend signed 4 (load_number mem input x 4)) (range d.lo d.hi 0)
   device_has input x signed p d small answer found w =
       let fits = device_fits d (found_all p is_device plan.devices d ok.ranges.devices found) in
       let none : (y : ℕ) → x ≤ y → y < x + 4 → map.get mem y ≡ None =
       λ y low high. unmapped plan mem y ok memory (found_device p plan.devices d y 1 found (omega (arith, w.0), omega (arith, w.1)))
       in
-      let is : extended signed 4 (loaded mem input x 4) ≡ input =
-      ap (extended signed 4) (loaded-input mem input x small (omega (arith, w.1)) none) ∙ extended-word signed input small
+      let is : extend signed 4 (load_number mem input x 4) ≡ input =
+      ap (extend signed 4) (loaded-input mem input x small (omega (arith, w.1)) none) ∙ extended-word signed input small
       in
       let bounds = found_each (λ (e : Device). IsWithin x 4 e.range → (e.lo ≤ input) × (input ≤ e.hi)) p plan.devices d answer found w in
       subst (λ (z : ℕ). Among z (range d.lo d.hi 0)) (sym is) (among_range input d.lo d.hi 0 (omega arith) (bounds.0, bounds.1, omega arith))
 
   answers_has : (input x size : ℕ) (signed : Bool) (xs : List ℕ) (o : Option Device) → input < 2 ^ 32 → (size ≡ 4 → AnswersAt x input plan.devices) → Among x xs → device_of plan size xs ≡ o
-      → Among (extended signed size (loaded mem input x size)) (answers size signed o)
-  answers_has input x size signed xs None small answer i e = anything_has size signed (loaded mem input x size) (loaded_lt mem bytes input x size)
+      → Among (extend signed size (load_number mem input x size)) (answers size signed o)
+  answers_has input x size signed xs None small answer i e = anything_has size signed (load_number mem input x size) (loaded_lt mem bytes input x size)
   answers_has input x size signed xs (Some d) small answer i e =
       elim (cases_Bool (eqb size 4)) [
         | inl four ↦
             let is : size ≡ 4 = eqb-true size 4 four in
             let found : find (λ d. list_all (λ x. is_within x 4 d.range) xs) plan.devices ≡ Some d = rw four at e in
             let w = within_true x 4 d.range (all_at 4 d.range xs x (found_true _ plan.devices d found) i) in
-            subst (λ n. Among (extended signed n (loaded mem input x n)) (range d.lo d.hi 0)) (sym is) (device_has input x signed _ d small (answer is) found w)
+            subst (λ n. Among (extend signed n (load_number mem input x n)) (range d.lo d.hi 0)) (sym is) (device_has input x signed _ d small (answer is) found w)
         | inr other ↦ absurd (let f : None ≡ Some d = rw other at e in cc)
       ]
 
   -- from an address
   given_has : (input x size : ℕ) (signed : Bool) (o : Option ℕ) → input < 2 ^ 32 → (size ≡ 4 → AnswersAt x input plan.devices) → rom_number image plan x size ≡ o
-      → Among (extended signed size (loaded mem input x size)) (number_or size signed (device_of plan size (x ∷ [])) o)
+      → Among (extend signed size (load_number mem input x size)) (number_or size signed (device_of plan size (x ∷ [])) o)
   given_has input x size signed None small answer e = answers_has input x size signed (x ∷ []) (device_of plan size (x ∷ [])) small answer (inl refl) refl
   given_has input x size signed (Some w) small answer e =
       elim (cases_Bool (list_any (is_within x size) plan.rom)) [
@@ -178,14 +178,14 @@ module _ (image : ImageData) (plan : PlanData) (ok : IsPlan plan) (mem : Memory)
             let at : x + (y - x) ≡ y = omega arith in
             rom y b (subst (λ (z : ℕ). IsInOne z 1 plan.rom) at (in_one x size (y - x) plan.rom (omega arith) (any_one x size plan.rom t))) is
             in
-            inl (ap (extended signed size) (loaded-held image mem input x size w (any_fits plan x size ok t) there held))
+            inl (ap (extend signed size) (loaded-held image mem input x size w (any_fits plan x size ok t) there held))
         | inr f ↦ absurd (let g : None ≡ Some w = rw f at e in cc)
       ]
 
-pub set_sound : (b : Limits) (image : ImageData) (plan : PlanData) (ws : List ℕ) (size : ℕ) (signed : Bool) → IsPlan plan → HoldsLoads image plan (Set ws) size signed (cover b (flat_map (given image plan size signed) ws))
+pub set_sound : (b : Limits) (image : ImageData) (plan : PlanData) (ws : List ℕ) (size : ℕ) (signed : Bool) → IsPlan plan → HoldsLoads image plan (Set ws) size signed (cover b (flat_map (words_at image plan size signed) ws))
 set_sound b image plan ws size signed ok mem x input bytes memory rom small answer i =
-    cover_holds b (flat_map (given image plan size signed) ws) _
-    (among_flat (given image plan size signed) x _ ws i (given_has image plan ok mem bytes memory rom input x size signed (rom_number image plan x size) small answer refl))
+    cover_holds b (flat_map (words_at image plan size signed) ws) _
+    (among_flat (words_at image plan size signed) x _ ws i (given_has image plan ok mem bytes memory rom input x size signed (rom_number image plan x size) small answer refl))
 
 pub span_sound : (b : Limits) (image : ImageData) (plan : PlanData) (v : Val) (size : ℕ) (signed : Bool) → IsPlan plan → IsWell v → HoldsLoads image plan v size signed (cover b (answers size signed (device_of plan size (members v))))
 span_sound b image plan v size signed ok well mem x input bytes memory rom small answer m =

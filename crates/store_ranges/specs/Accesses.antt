@@ -1,6 +1,6 @@
 -- Accesses to memory, and the ranges that hold them.
 use Rattle.std.specs.Prelude.{◌≡◌, ◌+◌, ◌⊎◌, ◌&&◌, ℕ, Bool, nat_le}
-use Rattle.tcd_base.specs.declared.types.Range.{Range}
+use Rattle.tcd_base.specs.declared.range.Range.{Range}
 
 -- an access is to 1, 2 or 4 bytes
 abbrev pub IsSize : ℕ → Type 0

@@ -2,7 +2,7 @@
 use Rattle.std.specs.Prelude.{◌<◌, ◌+◌, ◌-◌, ◌*◌, ◌^◌, ◌==◌, ℕ, zero, suc, Bool, List, [], ◌∷◌, map, find, if◌then◌else◌, Option, Some, None, IsSome, option_and_then}
 use Rattle.std.specs.List.{list_all, list_any, flat_map}
 use Rattle.std.specs.Option.{option_map}
-use Rattle.csa_chain.specs.Memory.{Memory, loaded, extended}
+use Rattle.csa_chain.specs.Memory.{Memory, load_number, extend}
 use Rattle.elf_image.specs.Images.{ImageData, image_byte}
 use Rattle.tcd_plan.specs.declared.plans.Device.{Device}
 use Rattle.tcd_plan.specs.PlanData.{PlanData}
@@ -35,7 +35,7 @@ device_of plan size xs = if size == 4 then find (λ d. list_all (λ x. is_within
 
 -- all words that a load of that size and sign gives
 abbrev pub all_extended : ℕ → Bool → List ℕ
-all_extended size signed = map (extended signed size) (range 0 (2 ^ (8 * size) - 1) 0)
+all_extended size signed = map (extend signed size) (range 0 (2 ^ (8 * size) - 1) 0)
 
 -- what a device may answer; without a device, anything
 abbrev pub answers : ℕ → Bool → Option Device → List ℕ
@@ -45,16 +45,16 @@ answers size signed (Some d) = range d.lo d.hi 0
 -- the loaded word of a number that is known, else what the device may answer
 abbrev pub number_or : ℕ → Bool → Option Device → Option ℕ → List ℕ
 number_or size signed device None = answers size signed device
-number_or size signed device (Some w) = extended signed size w ∷ []
+number_or size signed device (Some w) = extend signed size w ∷ []
 
 -- what one address gives: the word in rom, else what the device may answer, else anything
-abbrev pub given : ImageData → PlanData → ℕ → Bool → ℕ → List ℕ
-given image plan size signed x = number_or size signed (device_of plan size (x ∷ [])) (rom_number image plan x size)
+abbrev pub words_at : ImageData → PlanData → ℕ → Bool → ℕ → List ℕ
+words_at image plan size signed x = number_or size signed (device_of plan size (x ∷ [])) (rom_number image plan x size)
 
 -- the least value that holds what the loads from all members give: from a Span, what one device answers where all
 -- accesses lie in its range, else anything
 abbrev pub loaded_of : Limits → ImageData → PlanData → Val → ℕ → Bool → Val
-loaded_of b image plan (Set ws) size signed = cover b (flat_map (given image plan size signed) ws)
+loaded_of b image plan (Set ws) size signed = cover b (flat_map (words_at image plan size signed) ws)
 loaded_of b image plan (Span lo last step) size signed = cover b (answers size signed (device_of plan size (range lo last step)))
 
 -- Each word that the machine may load from a member is one of the value: from a memory that is the plan's and has the
@@ -62,4 +62,4 @@ loaded_of b image plan (Span lo last step) size signed = cover b (answers size s
 abbrev pub HoldsLoads : ImageData → PlanData → Val → ℕ → Bool → Val → Type 0
 HoldsLoads image plan at size signed v =
     (mem : Memory) (x input : ℕ) → HasBytes mem → IsPlanMemory plan mem → HoldsRom image plan mem → input < 2 ^ 32
-    → AnswersLoad plan input (Some (x, size)) → IsMember x at → IsMember (extended signed size (loaded mem input x size)) v
+    → AnswersLoad plan input (Some (x, size)) → IsMember x at → IsMember (extend signed size (load_number mem input x size)) v

@@ -7,7 +7,7 @@ ghost use Rattle.value_domain.specs.Values.{IsValue, cover, members};
 ghost use Rattle.value_domain.specs.declared.values.Val.TheVariants.{Set, Span};
 ghost use Rattle.store_ranges.specs.Accesses.{IsSize};
 ghost use Rattle.store_ranges.specs.Loads as loads;
-ghost use Rattle.store_ranges.specs.Loads.{HoldsLoads, all_extended, given, loaded_of};
+ghost use Rattle.store_ranges.specs.Loads.{HoldsLoads, all_extended, words_at, loaded_of};
 
 use crate::ranges::device_at;
 use crate::rom::rom_number;
@@ -37,7 +37,8 @@ pub fn load_of(b: &Bounds, image: &Image, plan: &Plan, at: &Val, size: u8, signe
 fn load_each(b: &Bounds, image: &Image, plan: &Plan, words: &[u32], size: u8, signed: bool) -> Val
     requires some { 1 ≤ length words.now }
     requires size { IsSize size }
-    ensures loaded { result ≡ cover b.now (flat_map (given image.now plan.now size signed) words.now) }
+    ensures loaded { result
+        ≡ cover b.now (flat_map (words_at image.now plan.now size signed) words.now) }
     ensures value { IsValue b.now result }
 {
     let mut out = load_at(b, image, plan, words[0], size, signed);
@@ -50,9 +51,9 @@ fn load_each(b: &Bounds, image: &Image, plan: &Plan, words: &[u32], size: u8, si
 
 fn load_at(b: &Bounds, image: &Image, plan: &Plan, x: u32, size: u8, signed: bool) -> Val
     requires { IsSize size }
-    ensures loaded { result ≡ cover b.now (given image.now plan.now size signed x) }
+    ensures loaded { result ≡ cover b.now (words_at image.now plan.now size signed x) }
     ensures value { IsValue b.now result }
-    ensures some { 1 ≤ length (given image.now plan.now size signed x) }
+    ensures some { 1 ≤ length (words_at image.now plan.now size signed x) }
 {
     let device = device_for(plan, x, x, size);
     match rom_number(image, plan, x, size) {
@@ -64,7 +65,8 @@ fn load_at(b: &Bounds, image: &Image, plan: &Plan, x: u32, size: u8, signed: boo
 fn load_span(b: &Bounds, plan: &Plan, at: &Val, size: u8, signed: bool) -> Val
     requires at { IsValue b.now at.now }
     requires size { IsSize size }
-    ensures loaded { result ≡ cover b.now (loads.answers size signed (loads.device_of plan.now size (members at.now))) }
+    ensures loaded { result
+        ≡ cover b.now (loads.answers size signed (loads.device_of plan.now size (members at.now))) }
     ensures value { IsValue b.now result }
 {
     let e = extent_of(at);
@@ -74,7 +76,10 @@ fn load_span(b: &Bounds, plan: &Plan, at: &Val, size: u8, signed: bool) -> Val
 
 /// The device in whose range an access of a word lies both at `low` and at `high`; none for smaller accesses.
 fn device_for(plan: &Plan, low: u32, high: u32, size: u8) -> Option<Device>
-    ensures device { result ≡ (if size == 4 then find (λ d. is_within low 4 d.range && is_within high 4 d.range) plan.now.devices else None) }
+    ensures device { result
+        ≡ (if size == 4
+        then find (λ d. is_within low 4 d.range && is_within high 4 d.range) plan.now.devices
+        else None) }
     ensures bounds { IfSome result (λ d. d.lo ≤ d.hi) }
 {
     if size != 4 {
@@ -87,7 +92,7 @@ fn device_for(plan: &Plan, low: u32, high: u32, size: u8) -> Option<Device>
 fn extended(number: u32, size: u8, signed: bool) -> u32
     requires size { IsSize size }
     requires below { number < 2 ^ (8 * size) }
-    ensures { result ≡ memory.extended signed size number }
+    ensures { result ≡ memory.extend signed size number }
 {
     if signed {
         sext(number, 8 * size)

@@ -58,7 +58,8 @@ fn is_in_range(plan: &Plan, x: u32, size: u8) -> bool
 
 /// The end of a ram range or device range that holds the access.
 fn range_end(plan: &Plan, x: u32, size: u8) -> Option<u64>
-    ensures { MatchOption result (¬ IsStoreInRange plan.now (x, size)) (λ end. StaysInRange plan.now size x end) }
+    ensures { MatchOption result (¬ IsStoreInRange plan.now (x, size))
+        (λ end. StaysInRange plan.now size x end) }
 {
     match range_at(plan.ram.as_slice(), x, size) {
         Some(range) => Some(range.end()),

@@ -8,8 +8,8 @@ use Rattle.csa_chain.specs.Contexts.{ul_of, pie_of, pcpn_of, d_after_upper, a_af
 use Rattle.csa_chain.proofs.MemoryLaws.{is_mapped-with_words}
 use Rattle.csa_chain.proofs.ChainLaws.{SameAreas, SameAreas-written}
 use Rattle.csa_chain.proofs.ContextLaws.{below_16}
-use Rattle.tcd_base.specs.declared.types.Core.{Core}
-use Rattle.tcd_base.specs.declared.types.Core.TheVariants.{V13, V16}
+use Rattle.tcd_base.specs.declared.core_version.Core.{Core}
+use Rattle.tcd_base.specs.declared.core_version.Core.TheVariants.{V13, V16}
 use Rattle.tcd_plan.specs.PlanData.{PlanData, IsPlan}
 use Rattle.tc_isa.specs.declared.shapes.Shape.{Shape}
 use Rattle.tc_isa.specs.declared.shapes.Shape.TheVariants.{Ret, Rfe, Rslcx}

@@ -16,7 +16,7 @@ use Rattle.elf_image.specs.Images.{ImageData, image_byte}
 use Rattle.tcd_base.specs.Ranges.{IsInOne}
 use Rattle.tcd_plan.specs.PlanData.{PlanData, IsPlan}
 use Rattle.tcd_plan.specs.Regions.{IsInAreas}
-use Rattle.tc_isa.specs.Codec.{spelled, word_of, is_long}
+use Rattle.tc_isa.specs.Codec.{spelling_of, word_of, is_long}
 use Rattle.tc_isa.specs.Insts.{fields_in}
 use Rattle.tc_isa.proofs.TableFacts.{row_at}
 use Rattle.tc_encode.proofs.Bytes.{word-lt, short-lt}
@@ -68,7 +68,7 @@ abbrev AreSmall : List ℕ → Type 0
 AreSmall [] = Unit {0}
 AreSmall (b ∷ bs) = (b < 2 ^ 8) × AreSmall bs
 
-small_spelled : (long : Bool) (w : ℕ) → w < 2 ^ 32 → (long ≡ false → w < 2 ^ 16) → AreSmall (spelled long w)
+small_spelled : (long : Bool) (w : ℕ) → w < 2 ^ 32 → (long ≡ false → w < 2 ^ 16) → AreSmall (spelling_of long w)
 small_spelled true w lt short = (omega arith, (omega arith, (omega arith, (omega arith, tt))))
 small_spelled false w lt short = let h = short refl in (omega arith, (omega arith, tt))
 

@@ -33,7 +33,8 @@ use Rattle.depth_cert.specs.Certs.{CertData, IsCert}
 use Rattle.depth_cert.proofs.KeyLaws.{found_in}
 use Rattle.cfg_recover.specs.Code.{IsCode}
 use Rattle.cfg_recover.specs.Accepting.{limits_in, Accepts}
-use Rattle.cfg_recover.specs.Assignments.{Known, state, leaving, point, known_at, known_in, CoversKnown, IsBelowAt}
+use Rattle.cfg_recover.specs.Assignments.{point, known_at, known_in, IsBelowAt}
+use Rattle.depth_cert.specs.Known.{Known, state, leaving, CoversKnown}
 use Rattle.cfg_recover.proofs.CodeLaws.{IsCode-bounded}
 use Rattle.cfg_recover.proofs.PointLaws.{limits_are}
 use Rattle.task_chains.specs.Tasks.{TasksData}

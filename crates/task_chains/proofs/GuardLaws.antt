@@ -8,9 +8,9 @@ use Rattle.std.proofs.lemmas.List.Folds.{list_all-append}
 use Rattle.csa_chain.specs.Memory.{word_at}
 use Rattle.csa_chain.specs.Chain.{link_in, area_word}
 use Rattle.csa_chain.specs.Contexts.{pcxi_word_of, ul_of}
-use Rattle.tcd_base.specs.declared.types.Range.{Range}
-use Rattle.tcd_base.specs.declared.types.Core.{Core}
-use Rattle.tcd_base.specs.declared.types.Core.TheVariants.{V13, V16}
+use Rattle.tcd_base.specs.declared.range.Range.{Range}
+use Rattle.tcd_base.specs.declared.core_version.Core.{Core}
+use Rattle.tcd_base.specs.declared.core_version.Core.TheVariants.{V13, V16}
 use Rattle.tcd_base.specs.Ranges.{IsInOne}
 use Rattle.tcd_plan.specs.declared.plans.Device.{Device}
 use Rattle.tcd_plan.specs.PlanData.{ranges_apart, all_apart, areas_range}

@@ -5,7 +5,7 @@ use Rattle.csa_chain.specs.Chain.{link_in, link_address, area_word}
 use Rattle.csa_chain.specs.Contexts.{ul_of, pcpn_of}
 use Rattle.csa_chain.proofs.ChainLaws.{Links, SameAreas, Avoids, Links-same, used_after_save, used_after_restore}
 use Rattle.csa_chain.proofs.ContextLaws.{link_in-pcxi_word, link_in-lt}
-use Rattle.tcd_base.specs.declared.types.Core.{Core}
+use Rattle.tcd_base.specs.declared.core_version.Core.{Core}
 use Rattle.tcd_plan.specs.PlanData.{PlanData, IsPlan}
 use Rattle.tc_machine.specs.declared.events.Event.{Event}
 use Rattle.tc_machine.specs.declared.events.End.TheVariants.{Running}

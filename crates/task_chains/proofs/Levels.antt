@@ -6,7 +6,7 @@ use Rattle.csa_chain.specs.Chain.{link_address, is_area, area_word}
 use Rattle.csa_chain.specs.Contexts.{ul_of, pcpn_of, pcxi_word_of}
 use Rattle.csa_chain.proofs.ChainLaws.{SameAreas, Avoids, area_word_same, SameAreas-written, area_word-written}
 use Rattle.csa_chain.proofs.ContextLaws.{ul_of-pcxi_word, pcpn_of-pcxi_word}
-use Rattle.tcd_base.specs.declared.types.Core.{Core}
+use Rattle.tcd_base.specs.declared.core_version.Core.{Core}
 use Rattle.depth_cert.specs.declared.keys.Key.{Key}
 
 -- no priority, and not on the interrupt stack

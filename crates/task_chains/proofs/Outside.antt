@@ -3,7 +3,7 @@ use Rattle.std.proofs.Common.{◌≡◌, ◌≢◌, ℕ, suc, ◌+◌, ◌-◌, 
 use Rattle.std.proofs.lemmas.Bool.{cases_Bool, false≢true, ne_eqb}
 use Rattle.std.specs.Prelude.{is_some}
 use Rattle.std.specs.FinMap as finite
-use Rattle.csa_chain.specs.Memory.{Memory, is_mapped, loaded, with_bytes}
+use Rattle.csa_chain.specs.Memory.{Memory, is_mapped, load_number, with_bytes}
 use Rattle.csa_chain.specs.Chain.{link_in}
 use Rattle.csa_chain.proofs.ChainLaws.{Links}
 use Rattle.csa_chain.specs.Contexts.{pie_of, pcpn_of}
@@ -76,7 +76,7 @@ pub record AtPoint (b : Limits) (view : ImageData) (plan : PlanData) (tasks : Ta
 
 -- what the view reads from outside: what the machine loads
 abbrev pub input_for : Machine → Event → Shape → ℕ
-input_for m e (Load dst base offset size signed after) = loaded m.mem e.input (access_address m base offset after) size
+input_for m e (Load dst base offset size signed after) = load_number m.mem e.input (access_address m base offset after) size
 input_for m e _ = e.input
 
 abbrev pub event_for : Machine → Event → Shape → Event
@@ -141,7 +141,7 @@ module _ {image view : ImageData} {plan : PlanData} (ok : IsPlan plan) {tasks : 
     load_misses : Misses (access_address v base offset after) size plan.csa_at (64 * plan.areas) × Misses (access_address v base offset after) size tasks.switch routine_size
     load_misses = ((at.loads).0 (access_address v base offset after) at.load_at, (at.loads).1 (access_address v base offset after) at.load_at)
 
-    pub same_load : access_address m base offset after < 2 ^ 32 → loaded mem (loaded m.mem e.input (access_address m base offset after) size) (access_address m base offset after) size ≡ loaded m.mem e.input (access_address m base offset after) size
+    pub same_load : access_address m base offset after < 2 ^ 32 → load_number mem (load_number m.mem e.input (access_address m base offset after) size) (access_address m base offset after) size ≡ load_number m.mem e.input (access_address m base offset after) size
     same_load lt =
         let is = address-same m mem pcxi fcx e e base offset after in
         load_again mem m.mem (k.words).bytes size (access_address m base offset after) e.input

@@ -1,7 +1,7 @@
 -- A step of the machine beside the same step of its view: instructions that leave all contexts.
 use Rattle.std.proofs.Common.{◌≡◌, ℕ, ◌+◌, ◌-◌, ◌*◌, ◌^◌, ◌<◌, ◌≤◌, Bool, true, false, cond, List, [], ◌∷◌, set, Ok, refl, sym, ap, ◌∙◌, subst, arith, ltb}
 use Rattle.std.specs.FinMap as map
-use Rattle.csa_chain.specs.Memory.{Memory, is_mapped, loaded, extended, with_bytes}
+use Rattle.csa_chain.specs.Memory.{Memory, is_mapped, load_number, extend, with_bytes}
 use Rattle.csa_chain.specs.Chain.{link_address}
 use Rattle.csa_chain.proofs.ChainLaws.{SameAreas, Links-same}
 use Rattle.tcd_plan.specs.PlanData.{PlanData, IsPlan}
@@ -143,22 +143,22 @@ module _ (m : Machine) (view : Memory) (pcxi fcx : ℕ) (e e2 : Event) where
   based (Reg r) offset true = record { d = d_with m.d r (moved (reg m r) offset); a = a_with m.a r (moved (reg m r) offset); is = with_reg-is m r _; view_is = with_reg-is v r _ }
 
   pub plain-load : (dst : ℕ) (base : Arg) (offset size : ℕ) (signed after : Bool) (k : ℕ) → traps_at e (access_address m base offset after) size ≡ false → e2.aln ≡ e.aln
-      → loaded view e2.input (access_address m base offset after) size ≡ loaded m.mem e.input (access_address m base offset after) size
+      → load_number view e2.input (access_address m base offset after) size ≡ load_number m.mem e.input (access_address m base offset after) size
       → Plainly m v (does m e (Load dst base offset size signed after) k) (does v e2 (Load dst base offset size signed after) k) m.mem view
   unfolding does
   plain-load dst base offset size signed after k none same_aln same =
       let x = access_address m base offset after in
-      let w = extended signed size (loaded m.mem e.input x size) in
+      let w = extend signed size (load_number m.mem e.input x size) in
       let b = based base offset after in
       let view_none : traps_at e2 (access_address v base offset after) size ≡ false = (λ i. traps_at (record e { aln = same_aln i }) (address-same base offset after i) size) ∙ none in
-      let value : extended signed size (loaded view e2.input (access_address v base offset after) size) ≡ w = ap (λ y. extended signed size (loaded view e2.input y size)) (address-same base offset after) ∙ ap (extended signed size) same in
+      let value : extend signed size (load_number view e2.input (access_address v base offset after) size) ≡ w = ap (λ y. extend signed size (load_number view e2.input y size)) (address-same base offset after) ∙ ap (extend signed size) same in
       record {
         d = d_with b.d dst w;
         a = a_with b.a dst w;
         pc = moved m.pc k;
         ie = m.ie;
         is = ap (λ t. cond t (misaligned m) (advanced k (with_reg (with_base m base offset after) dst w))) none ∙ ap (λ (y : Machine). advanced k (with_reg y dst w)) b.is ∙ ap (advanced k) (with_reg-is (record m { d = b.d; a = b.a }) dst w);
-        view_is = ap (λ t. cond t (misaligned v) (advanced k (with_reg (with_base v base offset after) dst (extended signed size (loaded view e2.input (access_address v base offset after) size))))) view_none
+        view_is = ap (λ t. cond t (misaligned v) (advanced k (with_reg (with_base v base offset after) dst (extend signed size (load_number view e2.input (access_address v base offset after) size))))) view_none
             ∙ ap (λ (y : ℕ). advanced k (with_reg (with_base v base offset after) dst y)) value ∙ ap (λ (y : Machine). advanced k (with_reg y dst w)) b.view_is ∙ ap (advanced k) (with_reg-is (record v { d = b.d; a = b.a }) dst w);
       }
 

@@ -7,7 +7,7 @@ use Rattle.std.specs.Option.{option_and_then}
 use Rattle.std.proofs.lemmas.Bool.{cases_lt, and_parts, eqb-true}
 use Rattle.std.proofs.lemmas.List.{take_all}
 use Rattle.tcd_plan.specs.PlanData.{PlanData}
-use Rattle.tcd_base.specs.declared.types.Range.{Range}
+use Rattle.tcd_base.specs.declared.range.Range.{Range}
 use Rattle.tcd_base.specs.Ranges.{is_within, IsInOne}
 use Rattle.store_ranges.proofs.RomLaws.{any_one, one_any}
 use Rattle.tcd_text.specs.Lines.{words_of}

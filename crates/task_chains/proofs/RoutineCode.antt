@@ -5,12 +5,12 @@ use Rattle.std.specs.Prelude.{codes, slice_index}
 use Rattle.std.specs.List.{slice_index_or}
 use Rattle.std.specs.Option.{option_map}
 use Rattle.elf_image.specs.Images.{ImageData, image_byte}
-use Rattle.tcd_base.specs.declared.types.Range.{Range}
+use Rattle.tcd_base.specs.declared.range.Range.{Range}
 use Rattle.tcd_plan.specs.PlanData.{PlanData}
 use Rattle.tc_isa.specs.Rows.{RowData, row, listed}
 use Rattle.tc_isa.specs.declared.table.Form.TheVariants.{Rlc, Rr, Bol, Brc, Sys}
 use Rattle.tc_isa.specs.Words.{bounds}
-use Rattle.tc_isa.specs.Codec.{Fits, is_long, word_of, spelled, spelling}
+use Rattle.tc_isa.specs.Codec.{Fits, is_long, word_of, spelling_of, spelling}
 use Rattle.tc_isa.specs.Insts.{InstData, fields_in}
 use Rattle.tc_isa.specs.Shapes.{shape_of}
 use Rattle.tc_isa.specs.Arithmetic.{sign_extended}
@@ -30,7 +30,7 @@ use Rattle.task_chains.proofs.ViewImage.{seen_byte, view_byte}
 code_at : (image : ImageData) (plan : PlanData) (p : ℕ) (r : RowData) (inst : InstData) (shape : Shape) → p % 2 ≡ 0 → slice_get listed inst.row ≡ Some r → Fits r (fields_in inst) → is_long r ≡ true → shape_of inst ≡ shape → IsInOne p 4 plan.rom
     → ((j : ℕ) → j < 4 → image_byte image (p + j) ≡ Some (slice_index (spelling r (fields_in inst)) j)) → IsCode image plan p shape 4
 code_at image plan p r inst shape even listed_is fits long is in_rom held =
-    let four : length (spelling r (fields_in inst)) ≡ 4 = ap (λ t. length (spelled t (word_of r (fields_in inst)))) long in
+    let four : length (spelling r (fields_in inst)) ≡ 4 = ap (λ t. length (spelling_of t (word_of r (fields_in inst)))) long in
     record {
       even = even;
       bytes = spelling r (fields_in inst);

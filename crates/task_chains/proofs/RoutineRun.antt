@@ -1,7 +1,7 @@
 -- The routine's instructions 2 to 13, one after another: what registers and the block hold.
 use Rattle.std.proofs.Common.{◌≡◌, ◌≢◌, ℕ, suc, ◌+◌, ◌-◌, ◌*◌, ◌%◌, ◌^◌, ◌<◌, ◌≤◌, inl, inr, Bool, true, false, not, ◌&&◌, cond, length, set, get_or-set_same, get_or-set_other, Ok, refl, sym, ap, ◌∙◌, subst, arith, nat_lt}
 use Rattle.std.proofs.lemmas.Bool.{cases_eq, eq-eqb, ne_eqb, lt-ltb, ltb-true, ltb-false}
-use Rattle.csa_chain.specs.Memory.{Memory, is_mapped, loaded, with_bytes}
+use Rattle.csa_chain.specs.Memory.{Memory, is_mapped, load_number, with_bytes}
 use Rattle.csa_chain.proofs.SeveralLaws.{cond_same, cond_other}
 use Rattle.tc_isa.specs.Arithmetic.{sign_extended, alu_of, taken_of}
 use Rattle.tc_isa.specs.declared.shapes.Arg.TheVariants.{Reg, Word}
@@ -86,9 +86,9 @@ module _ (tasks : TasksData) (are : AreTasks tasks) (fits : tasks.block + block_
   next_4 r at =
       let base = r.block (omega arith) in
       let place : moved (reg m 18) (sign_extended 16 (4 * n % 2 ^ 16)) ≡ tasks.block + 4 * n = block_place (reg m 18) base in
-      let x : Machine = record (advanced 4 m) { d = set m.d 0 (loaded m.mem e.input (moved (reg m 18) (sign_extended 16 (4 * n % 2 ^ 16))) 4) } in
-      let done : does m e (Load 0 (Reg 18) (sign_extended 16 (4 * n % 2 ^ 16)) 4 false false) 4 ≡ x = ap (λ t. cond t (misaligned m) (record (advanced 4 m) { d = set m.d 0 (loaded m.mem e.input (moved (reg m 18) (sign_extended 16 (4 * n % 2 ^ 16))) 4) })) (no_trap (moved (reg m 18) (sign_extended 16 (4 * n % 2 ^ 16))) (ap (λ y. y % 4) place ∙ four_place n)) in
-      to_next 5 x (none_of r.off) (Load 0 (Reg 18) (sign_extended 16 (4 * n % 2 ^ 16)) 4 false false) at done running (record { pc = (let p = r.pc in let f = fits_pc in omega arith); off = r.off; high = λ a. absurd (omega arith); block = λ a. r.block (omega arith); own = λ a b. get_or-set_same m.d 0 (loaded m.mem e.input (moved (reg m 18) (sign_extended 16 (4 * n % 2 ^ 16))) 4) 0 (omega arith) ∙ ap (λ y. loaded m.mem e.input y 4) place ∙ block_read tasks m.mem fits here e.input n (omega arith) ∙ r.old_current (omega arith); own_word = λ a b. absurd (omega arith); pcxi = λ a. absurd (omega arith); stored = λ a. absurd (omega arith); one_on = λ a b. absurd (omega arith); at_end = λ a. absurd (omega arith); next = λ a. absurd (omega arith); old_current = λ a. r.old_current (omega arith); new_current = λ a. absurd (omega arith); next_word = λ a. absurd (omega arith); next_pcxi = λ a. absurd (omega arith) })
+      let x : Machine = record (advanced 4 m) { d = set m.d 0 (load_number m.mem e.input (moved (reg m 18) (sign_extended 16 (4 * n % 2 ^ 16))) 4) } in
+      let done : does m e (Load 0 (Reg 18) (sign_extended 16 (4 * n % 2 ^ 16)) 4 false false) 4 ≡ x = ap (λ t. cond t (misaligned m) (record (advanced 4 m) { d = set m.d 0 (load_number m.mem e.input (moved (reg m 18) (sign_extended 16 (4 * n % 2 ^ 16))) 4) })) (no_trap (moved (reg m 18) (sign_extended 16 (4 * n % 2 ^ 16))) (ap (λ y. y % 4) place ∙ four_place n)) in
+      to_next 5 x (none_of r.off) (Load 0 (Reg 18) (sign_extended 16 (4 * n % 2 ^ 16)) 4 false false) at done running (record { pc = (let p = r.pc in let f = fits_pc in omega arith); off = r.off; high = λ a. absurd (omega arith); block = λ a. r.block (omega arith); own = λ a b. get_or-set_same m.d 0 (load_number m.mem e.input (moved (reg m 18) (sign_extended 16 (4 * n % 2 ^ 16))) 4) 0 (omega arith) ∙ ap (λ y. load_number m.mem e.input y 4) place ∙ block_read tasks m.mem fits here e.input n (omega arith) ∙ r.old_current (omega arith); own_word = λ a b. absurd (omega arith); pcxi = λ a. absurd (omega arith); stored = λ a. absurd (omega arith); one_on = λ a b. absurd (omega arith); at_end = λ a. absurd (omega arith); next = λ a. absurd (omega arith); old_current = λ a. r.old_current (omega arith); new_current = λ a. absurd (omega arith); next_word = λ a. absurd (omega arith); next_pcxi = λ a. absurd (omega arith) })
 
   pub next_5 : InRoutine tasks m u 5 word_of → fetched m ≡ Ok (Scaled 19 18 0 2, 4) → InRoutine tasks (step m e) u 6 word_of
   unfolding does alu_of taken_of
@@ -149,9 +149,9 @@ module _ (tasks : TasksData) (are : AreTasks tasks) (fits : tasks.block + block_
   unfolding does alu_of taken_of
   next_13 more r at =
       let place : moved (reg m 19) 0 ≡ tasks.block + 4 * after n u = zero_place (reg m 19) (after n u) (r.next_word refl) after_le in
-      let x : Machine = record (advanced 4 m) { d = set m.d 1 (loaded m.mem e.input (moved (reg m 19) 0) 4) } in
-      let done : does m e (Load 1 (Reg 19) 0 4 false false) 4 ≡ x = ap (λ t. cond t (misaligned m) (record (advanced 4 m) { d = set m.d 1 (loaded m.mem e.input (moved (reg m 19) 0) 4) })) (no_trap (moved (reg m 19) 0) (ap (λ y. y % 4) place ∙ four_place (after n u))) in
-      to_next 14 x (none_of r.off) (Load 1 (Reg 19) 0 4 false false) at done running (record { pc = (let p = r.pc in let f = fits_pc in omega arith); off = r.off; high = λ a. absurd (omega arith); block = λ a. r.block (omega arith); own = λ a b. absurd (omega arith); own_word = λ a b. absurd (omega arith); pcxi = λ a. absurd (omega arith); stored = λ a. r.stored (omega arith); one_on = λ a b. absurd (omega arith); at_end = λ a. absurd (omega arith); next = λ a. get_or-set_other m.d 1 0 (loaded m.mem e.input (moved (reg m 19) 0) 4) 0 (λ e. omega arith) ∙ r.next (omega arith); old_current = λ a. absurd (omega arith); new_current = λ a. r.new_current (omega arith); next_word = λ a. absurd (omega arith); next_pcxi = λ a. get_or-set_same m.d 1 (loaded m.mem e.input (moved (reg m 19) 0) 4) 0 (omega arith) ∙ ap (λ y. loaded m.mem e.input y 4) place ∙ block_read tasks m.mem fits here e.input (after n u) after_le ∙ more })
+      let x : Machine = record (advanced 4 m) { d = set m.d 1 (load_number m.mem e.input (moved (reg m 19) 0) 4) } in
+      let done : does m e (Load 1 (Reg 19) 0 4 false false) 4 ≡ x = ap (λ t. cond t (misaligned m) (record (advanced 4 m) { d = set m.d 1 (load_number m.mem e.input (moved (reg m 19) 0) 4) })) (no_trap (moved (reg m 19) 0) (ap (λ y. y % 4) place ∙ four_place (after n u))) in
+      to_next 14 x (none_of r.off) (Load 1 (Reg 19) 0 4 false false) at done running (record { pc = (let p = r.pc in let f = fits_pc in omega arith); off = r.off; high = λ a. absurd (omega arith); block = λ a. r.block (omega arith); own = λ a b. absurd (omega arith); own_word = λ a b. absurd (omega arith); pcxi = λ a. absurd (omega arith); stored = λ a. r.stored (omega arith); one_on = λ a b. absurd (omega arith); at_end = λ a. absurd (omega arith); next = λ a. get_or-set_other m.d 1 0 (load_number m.mem e.input (moved (reg m 19) 0) 4) 0 (λ e. omega arith) ∙ r.next (omega arith); old_current = λ a. absurd (omega arith); new_current = λ a. r.new_current (omega arith); next_word = λ a. absurd (omega arith); next_pcxi = λ a. get_or-set_same m.d 1 (load_number m.mem e.input (moved (reg m 19) 0) 4) 0 (omega arith) ∙ ap (λ y. load_number m.mem e.input y 4) place ∙ block_read tasks m.mem fits here e.input (after n u) after_le ∙ more })
 
   pub next_2 : InRoutine tasks m u 2 word_of → fetched m ≡ Ok (Compute Second 18 (Word 0) (Word (hi tasks.block * 2 ^ 16 % 2 ^ 32)), 4) → InRoutine tasks (step m e) u 3 word_of
   unfolding does alu_of taken_of

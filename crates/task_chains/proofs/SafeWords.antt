@@ -8,7 +8,7 @@ use Rattle.csa_chain.specs.Memory.{Memory}
 use Rattle.csa_chain.specs.Chain.{link_address, area_word}
 use Rattle.csa_chain.proofs.ChainLaws.{Links, are_mapped_each, are_mapped_from, chain_within-Links, Links-chain_within}
 use Rattle.csa_chain.proofs.SeveralLaws.{sum_below-at, cond_same, cond_other}
-use Rattle.tcd_base.specs.declared.types.Range.{Range}
+use Rattle.tcd_base.specs.declared.range.Range.{Range}
 use Rattle.tcd_base.specs.Ranges.{IsInOne}
 use Rattle.tcd_base.proofs.RangeLaws.{IsInOne-front, IsInOne-behind}
 use Rattle.tcd_plan.specs.declared.plans.Device.{Device}

@@ -2,11 +2,11 @@
 use Rattle.std.proofs.Common.{◌≡◌, ◌≢◌, ℕ, zero, suc, ◌+◌, ◌*◌, ◌%◌, ◌^◌, ◌<◌, ◌≤◌, inl, inr, true, false, cond, List, [], ◌∷◌, ◌++◌, length, map, Some, None, Ok, Result, refl, sym, ap, ◌∙◌, subst, arith}
 use Rattle.std.proofs.lemmas.Bool.{cases_lt, cases_eq}
 use Rattle.std.specs.FinMap as finite
-use Rattle.csa_chain.specs.Memory.{Memory, is_mapped, loaded, with_bytes}
+use Rattle.csa_chain.specs.Memory.{Memory, is_mapped, load_number, with_bytes}
 use Rattle.csa_chain.proofs.MemoryLaws.{get-with_bytes_other, is_mapped-with_bytes}
 use Rattle.csa_chain.proofs.SeveralLaws.{cond_same, cond_other}
 use Rattle.elf_image.specs.Images.{ImageData}
-use Rattle.tcd_base.specs.declared.types.Range.{Range}
+use Rattle.tcd_base.specs.declared.range.Range.{Range}
 use Rattle.tcd_base.specs.Ranges.{IsInOne}
 use Rattle.tcd_base.proofs.RangeLaws.{IsInOne-front}
 use Rattle.tcd_plan.specs.PlanData.{PlanData, areas_range}
@@ -220,7 +220,7 @@ module _ {image : ImageData} {plan : PlanData} {tasks : TasksData} {certs : ℕ 
           → traps_at e (moved (reg m base) offset) 4 ≡ false → InRoutine tasks (step m e) u j word_of → Goes image plan tasks needs (step m e)
       get_turn j some most dst base offset c c2 no_trap_here next =
           let x = moved (reg m base) offset in
-          let w = loaded m.mem e.input x 4 in
+          let w = load_number m.mem e.input x 4 in
           turns r.off (Load dst (Reg base) offset 4 false false) (Mfcr dst 0) w (load_lt m.mem (k.words).bytes false e.input x 4 (inr (inr refl))) (at_here (Load dst (Reg base) offset 4 false false) c) (view_here (Mfcr dst 0) c2) j some most tt (λ q. refl) m.mem
           (plain-taken m mem pcxi fcx e (record e { input = w }) dst base offset 0 4 no_trap_here refl) (λ x at. refl) (λ x. refl) (λ x at. refl) (λ w lt apart. refl) next
 

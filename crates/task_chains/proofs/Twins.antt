@@ -9,8 +9,8 @@ use Rattle.csa_chain.specs.MemoryChanges.{HasWords, HasBytes}
 use Rattle.csa_chain.proofs.WordLaws.{area_word-lt}
 use Rattle.csa_chain.proofs.ChainLaws.{Links, SameAreas, Avoids, Distinct, area_word_same, SameAreas-written, area_word-written, used_after_save, used_after_restore}
 use Rattle.csa_chain.proofs.ContextLaws.{link_in-with_link, with_link-lt, link_in-lt, link_in-pcxi_word, pcxi_word-lt}
-use Rattle.tcd_base.specs.declared.types.Core.{Core}
-use Rattle.tcd_base.specs.declared.types.Core.TheVariants.{V13, V16}
+use Rattle.tcd_base.specs.declared.core_version.Core.{Core}
+use Rattle.tcd_base.specs.declared.core_version.Core.TheVariants.{V13, V16}
 use Rattle.tcd_plan.specs.PlanData.{PlanData, IsPlan}
 use Rattle.tc_machine.specs.PlanAreas.{links_up, first_link, plan_areas}
 use Rattle.tc_machine.proofs.PlanLaws.{length-links_up, Distinct-links_up}

@@ -4,9 +4,9 @@ use Rattle.std.proofs.lemmas.Bool.{cases_Bool, cases_lt, false≢true, both_ways
 use Rattle.std.specs.Prelude.{is_some, unwrap_or}
 use Rattle.std.specs.List.{slice_index_or}
 use Rattle.std.specs.FinMap as finite
-use Rattle.csa_chain.specs.Memory.{Memory, is_mapped, loaded, with_bytes}
+use Rattle.csa_chain.specs.Memory.{Memory, is_mapped, load_number, with_bytes}
 use Rattle.elf_image.specs.Images.{ImageData}
-use Rattle.tcd_base.specs.declared.types.Range.{Range}
+use Rattle.tcd_base.specs.declared.range.Range.{Range}
 use Rattle.tcd_plan.specs.declared.plans.Device.{Device}
 use Rattle.tcd_plan.specs.PlanData.{PlanData, IsPlan, areas_range, all_apart}
 use Rattle.tc_isa.specs.declared.shapes.Shape.{Shape}
@@ -70,8 +70,8 @@ no_byte None d h = refl
 no_byte (Some b) d h = absurd (false≢true (sym h))
 
 -- a word none of whose bytes is mapped comes from outside
-pub loaded_outside : (m : Memory) (input x : ℕ) → input < 2 ^ 32 → x + 4 ≤ 2 ^ 32 → ((i : ℕ) → i < 4 → is_mapped m (x + i) ≡ false) → loaded m input x 4 ≡ input
-unfolding loaded
+pub loaded_outside : (m : Memory) (input x : ℕ) → input < 2 ^ 32 → x + 4 ≤ 2 ^ 32 → ((i : ℕ) → i < 4 → is_mapped m (x + i) ≡ false) → load_number m input x 4 ≡ input
+unfolding load_number
 loaded_outside m input x small fits gone =
     let n1 : (x + 1) % 2 ^ 32 ≡ x + 1 = omega arith in
     let n2 : ((x + 1) % 2 ^ 32 + 1) % 2 ^ 32 ≡ x + 2 = omega arith in
@@ -167,22 +167,22 @@ module _ {plan : PlanData} (ok : IsPlan plan) (tasks : TasksData) (are : AreTask
     pub fits_interrupt : is_taken m e ≡ true → Fits (view_plan_of plan tasks u) v e
     fits_interrupt taken = record { irq = fits.irq; input = fits.input; status = fits.status; answers = λ none. absurd (both_ways (is_taken m e) none taken) }
 
-    word_lt : (x : ℕ) → loaded m.mem e.input x 4 < 2 ^ 32
+    word_lt : (x : ℕ) → load_number m.mem e.input x 4 < 2 ^ 32
     word_lt x = load_lt m.mem (k.words).bytes false e.input x 4 (inr (inr refl))
 
     -- a word that the view loads from a device is in its bounds
-    answered : (x : ℕ) → AnswersAt x e.input plan.devices → AnswersAt x (loaded m.mem e.input x 4) (view_devices plan tasks)
+    answered : (x : ℕ) → AnswersAt x e.input plan.devices → AnswersAt x (load_number m.mem e.input x 4) (view_devices plan tasks)
     answered x own =
-        All-append (λ (d : Device). IsWithin x 4 d.range → (d.lo ≤ loaded m.mem e.input x 4) × (loaded m.mem e.input x 4 ≤ d.hi)) plan.devices (map any_device (left ok tasks are fit))
+        All-append (λ (d : Device). IsWithin x 4 d.range → (d.lo ≤ load_number m.mem e.input x 4) × (load_number m.mem e.input x 4 ≤ d.hi)) plan.devices (map any_device (left ok tasks are fit))
         (λ i d less within.
         let there = own i d less within in
         let lo = there.0 in
         let hi = there.1 in
-        let same : loaded m.mem e.input x 4 ≡ e.input = from_outside (slice_index_or plan.devices i d).range within (nth_in plan.devices i d less) in
+        let same : load_number m.mem e.input x 4 ≡ e.input = from_outside (slice_index_or plan.devices i d).range within (nth_in plan.devices i d less) in
         (omega arith, omega arith))
-        (any_answer x (loaded m.mem e.input x 4) (word_lt x) (left ok tasks are fit))
+        (any_answer x (load_number m.mem e.input x 4) (word_lt x) (left ok tasks are fit))
       where
-        from_outside : (r : Range) → IsWithin x 4 r → ((y : ℕ) → IsWithin y 1 r → IsInOne y 1 devs) → loaded m.mem e.input x 4 ≡ e.input
+        from_outside : (r : Range) → IsWithin x 4 r → ((y : ℕ) → IsWithin y 1 r → IsInOne y 1 devs) → load_number m.mem e.input x 4 ≡ e.input
         from_outside r within inside =
             let low = within.0 in
             let high = within.1 in
@@ -219,8 +219,8 @@ module _ {plan : PlanData} (ok : IsPlan plan) (tasks : TasksData) (are : AreTask
 
         by_shape : (shape : Shape) → AnswersLoad plan e.input (load_in m (Ok (shape, size))) → AnswersLoad (view_plan_of plan tasks u) (input_for m e shape) (load_in v (Ok (shape, size)))
         by_shape (Load dst base offset width signed after) own =
-            λ four. subst (λ w. AnswersAt (access_address v base offset after) (loaded m.mem e.input (access_address m base offset after) w) (view_devices plan tasks)) (sym four)
-            (subst (λ x. AnswersAt x (loaded m.mem e.input (access_address m base offset after) 4) (view_devices plan tasks)) (sym (address-same m mem pcxi fcx e e base offset after)) (answered (access_address m base offset after) (own four)))
+            λ four. subst (λ w. AnswersAt (access_address v base offset after) (load_number m.mem e.input (access_address m base offset after) w) (view_devices plan tasks)) (sym four)
+            (subst (λ x. AnswersAt x (load_number m.mem e.input (access_address m base offset after) 4) (view_devices plan tasks)) (sym (address-same m mem pcxi fcx e e base offset after)) (answered (access_address m base offset after) (own four)))
         by_shape (Compute op dst x y) own = tt
         by_shape (Scaled dst base index j) own = tt
         by_shape (Store src base offset width after) own = tt

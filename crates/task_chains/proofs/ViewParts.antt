@@ -2,8 +2,8 @@
 use Rattle.std.proofs.Common.{◌≡◌, ℕ, ◌≤◌, Bool, false, cond, List, [], length, map, take, ap, ◌∙◌, ◌==◌}
 use Rattle.std.proofs.lemmas.List.{take_all}
 use Rattle.elf_image.specs.Images.{ImageData, SegmentData, segment_data}
-use Rattle.elf_image.specs.declared.images.Segment.{Segment}
-use Rattle.tcd_base.specs.declared.types.Range.{Range}
+use Rattle.elf_image.specs.declared.segment.Segment.{Segment}
+use Rattle.tcd_base.specs.declared.range.Range.{Range}
 use Rattle.tcd_plan.specs.declared.plans.Device.{Device}
 use Rattle.tcd_plan.specs.PlanData.{PlanData}
 use Rattle.task_chains.specs.Tasks.{TasksData, task_at}

@@ -6,7 +6,7 @@ use Rattle.csa_chain.specs.Chain.{link_in}
 use Rattle.csa_chain.specs.Contexts.{ul_of}
 use Rattle.csa_chain.proofs.ChainLaws.{SameArea, SameAreas, area_word_same}
 use Rattle.elf_image.specs.Images.{ImageData}
-use Rattle.tcd_base.specs.declared.types.Core.{Core}
+use Rattle.tcd_base.specs.declared.core_version.Core.{Core}
 use Rattle.tcd_plan.specs.PlanData.{PlanData}
 use Rattle.tc_machine.specs.declared.state.Machine.{Machine}
 use Rattle.tc_machine.specs.Machine.{is_of}

@@ -5,9 +5,9 @@ use Rattle.std.specs.FinMap as bytes
 use Rattle.csa_chain.specs.Memory.{Memory, is_mapped, word_at}
 use Rattle.csa_chain.specs.Chain.{area_word}
 use Rattle.elf_image.specs.Images.{ImageData, image_byte}
-use Rattle.tcd_base.specs.declared.types.Range.{Range}
-use Rattle.tcd_base.specs.declared.types.Core.{Core}
-use Rattle.tcd_base.specs.declared.types.Core.TheVariants.{V13, V16}
+use Rattle.tcd_base.specs.declared.range.Range.{Range}
+use Rattle.tcd_base.specs.declared.core_version.Core.{Core}
+use Rattle.tcd_base.specs.declared.core_version.Core.TheVariants.{V13, V16}
 use Rattle.tcd_base.specs.Ranges.{IsInOne}
 use Rattle.tcd_plan.specs.PlanData.{PlanData, IsPlan}
 use Rattle.tc_machine.specs.declared.events.End.TheVariants.{Running}

@@ -4,7 +4,7 @@ use Rattle.csa_chain.specs.Memory.{Memory, word_at}
 use Rattle.csa_chain.specs.Chain.{link_in, area_word}
 use Rattle.csa_chain.specs.Contexts.{pcxi_word_of, ul_of}
 use Rattle.elf_image.specs.Images.{ImageData}
-use Rattle.tcd_base.specs.declared.types.Core.{Core}
+use Rattle.tcd_base.specs.declared.core_version.Core.{Core}
 use Rattle.tcd_plan.specs.PlanData.{PlanData}
 use Rattle.tc_machine.specs.declared.events.End.TheVariants.{Running}
 use Rattle.tc_machine.specs.declared.state.Machine.{Machine}

@@ -9,7 +9,7 @@ ghost use Rattle.task_chains.specs.Apart.{AllMiss, LoadsElsewhere, ReadsNoLink, 
 ghost use Rattle.task_chains.specs.Faults.{HasBetween, IsPlaceApart};
 
 use crate::Tasks;
-use depth_cert::{Key, Point};
+use depth_cert::{CALL, Key, Point};
 use tc_isa::{Inst, Shape, shape};
 use tcd_plan::Plan;
 use value_domain::{Bounds, State, Val};
@@ -113,7 +113,7 @@ fn key_of_switch(tasks: &Tasks) -> Key
     ensures { result ≡ switch_key tasks.now }
 {
     Key {
-        kind: 1,
+        kind: CALL,
         entry: tasks.switch,
         prio: 0,
         is: false,
@@ -153,7 +153,8 @@ pub(crate) fn stays_apart(
 ) -> bool
     requires { AreValues b.now point.now.state.regs }
     ensures { let p = point.now in
-        IsTrue result ↔ StaysApart b.now plan.now tasks.now key.now p.addr p.state (shape_of inst.now) }
+        IsTrue result
+        ↔ StaysApart b.now plan.now tasks.now key.now p.addr p.state (shape_of inst.now) }
 {
     is_place_apart(tasks, key, point.addr)
         && loads_elsewhere(b, plan, tasks, &point.state, inst)

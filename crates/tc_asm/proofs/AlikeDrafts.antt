@@ -4,16 +4,15 @@ use Rattle.std.specs.Prelude.{fold, nat_lt, nat_le, not, position, unwrap_or}
 use Rattle.std.specs.Str.{bytes_eq}
 use Rattle.std.proofs.lemmas.List.{length-map, map-append}
 use Rattle.tc_stmt.specs.Names.{is_name}
-use Rattle.tc_stmt.specs.Filling.{ReferenceData}
-use Rattle.tc_stmt.proofs.Mapped.{position-map}
-use Rattle.tc_asm.specs.declared.entries.Place.{Place}
-use Rattle.tc_asm.specs.Items.{ItemData, label, section, global, code, bytes, zeros}
-use Rattle.tc_asm.specs.Lines.{lines_in}
+use Rattle.tc_stmt.specs.RowFields.{ReferenceData}
+use Rattle.tc_lex.proofs.Mapped.{position-map}
+use Rattle.tc_asm.specs.declared.symbols.Place.{Place}
+use Rattle.tc_stmt.specs.Items.{ItemData, label, section, global, code, bytes, zeros}
+use Rattle.tc_stmt.specs.Lines.{lines_in, items_in}
 use Rattle.tc_asm.specs.Symbols.{SymbolData, seen, labelled, made_global}
 use Rattle.tc_asm.specs.Drafts.{PartData, DraftData, part, start, place_of, has_section, has_room, here, with_label, number_of_part, entered, with_global, extended, with_bytes, used, with_use, with_reference, with_content, code_bytes, stepped}
 use Rattle.tc_asm.specs.Sources.{symbols_of}
 use Rattle.tc_asm.specs.Kept.{Each, size_at}
-use Rattle.tc_asm.specs.Statements.{items_in}
 use Rattle.tc_stmt.proofs.Cases.{by_test}
 use Rattle.tc_asm.proofs.ListLaws.{changed, changed-set, size_at-get}
 use Rattle.tc_asm.specs.Contents.{symbols_in}

@@ -6,15 +6,14 @@ use Rattle.std.proofs.lemmas.Bool.Decides.{nat_tests, Decides-eqb}
 use Rattle.tc_isa.specs.declared.fields.Fields.{Fields}
 use Rattle.tc_isa.specs.Rows.{RowData, listed}
 use Rattle.tc_isa.specs.Words.{IsBelow, bounds}
-use Rattle.tc_isa.specs.Codec.{Fits, is_below_test, uses_of, is_apart, is_long, spelled, spelling, word_of}
-use Rattle.tc_stmt.specs.Filling.{ReferenceData, FoundData, set_field, broken, displacement_rule, displaced}
-use Rattle.tc_asm.specs.Items.{ItemData, label, section, global, code, bytes, zeros}
+use Rattle.tc_isa.specs.Codec.{Fits, is_below_test, uses_of, is_apart, is_long, spelling_of, spelling, word_of}
+use Rattle.tc_stmt.specs.RowFields.{ReferenceData, RowFieldsData, set_field, with_rule, displacement_rule, with_displacement}
+use Rattle.tc_stmt.specs.Items.{ItemData, label, section, global, code, bytes, zeros}
 use Rattle.tc_asm.specs.Symbols.{SymbolData}
 use Rattle.tc_asm.specs.Drafts.{DraftData, start, distance, found, jumped, targeted, is_fit, spelled_code, resolved, code_bytes, stepped}
 use Rattle.tc_asm.specs.Kept.{Each}
-use Rattle.tc_asm.specs.Lines.{lines_in}
+use Rattle.tc_stmt.specs.Lines.{lines_in, items_in}
 use Rattle.tc_asm.specs.Sources.{symbols_of}
-use Rattle.tc_asm.specs.Statements.{items_in}
 use Rattle.tc_stmt.proofs.Cases.{by_test}
 use Rattle.tc_asm.specs.Contents.{is_open}
 use Rattle.tc_stmt.specs.Stated.{Symbols}
@@ -26,11 +25,11 @@ use Rattle.tc_asm.proofs.Uses.{GoodItem, GoodItems}
 fit_sound : (row : RowData) (f : Fields) → Fits row f → Sound row (found f)
 fit_sound row f h = record { below = h.below; zero = h.zero; symbols = record { some = λ s e. cc } }
 
-displaced_apart : (row : RowData) (minus : Bool) (size : ℕ) (f : FoundData) → is_apart row (displaced row minus size f).fields ≡ is_apart row f.fields
-unfolding displaced set_field
-displaced_apart row minus size f = by_test (λ (g : FoundData). is_apart row g.fields ≡ is_apart row f.fields) (displacement_rule row minus size == 15) _ _ (λ b. refl) (λ b. refl)
+displaced_apart : (row : RowData) (minus : Bool) (size : ℕ) (f : RowFieldsData) → is_apart row (with_displacement row minus size f).fields ≡ is_apart row f.fields
+unfolding with_displacement set_field
+displaced_apart row minus size f = by_test (λ (g : RowFieldsData). is_apart row g.fields ≡ is_apart row f.fields) (displacement_rule row minus size == 15) _ _ (λ b. refl) (λ b. refl)
 
-displaced_fits : (row : RowData) (minus : Bool) (size : ℕ) (f : Fields) → (uses_of row).k ≡ true → Fits row f → Fits row (displaced row minus size (found f)).fields
+displaced_fits : (row : RowData) (minus : Bool) (size : ℕ) (f : Fields) → (uses_of row).k ≡ true → Fits row f → Fits row (with_displacement row minus size (found f)).fields
 displaced_fits row minus size f used h =
     let s = sound_displaced row minus size (found f) used (fit_sound row f h) in
     record { below = s.below; zero = s.zero; apart = displaced_apart row minus size (found f) ∙ h.apart }
@@ -39,14 +38,14 @@ jumped_fits : (labels : List SymbolData) (d : DraftData) (row : RowData) (f : Fi
 unfolding jumped
 jumped_fits labels d row f r used h = by (distance labels d r)
   where
-    by : (o : Option (Bool × ℕ)) → Fits row (option_map_or (λ n. displaced row n.0 n.1 (found f)) o (broken 10 (found f))).fields
+    by : (o : Option (Bool × ℕ)) → Fits row (option_map_or (λ n. with_displacement row n.0 n.1 (found f)) o (with_rule 10 (found f))).fields
     by None = h
     by (Some n) = displaced_fits row n.0 n.1 f used h
 
 targeted_fits : (labels : List SymbolData) (d : DraftData) (row : RowData) (f : Fields) (o : Option ReferenceData) → Symbols row o → Fits row f → Fits row (targeted labels d row f o).fields
 targeted_fits labels d row f None s h = h
 targeted_fits labels d row f (Some r) s h =
-    by_test (λ (g : FoundData). Fits row g.fields) (r.kind == 0) _ _
+    by_test (λ (g : RowFieldsData). Fits row g.fields) (r.kind == 0) _ _
     (λ b. jumped_fits labels d row f r ((s.some r refl).target ((Decides-eqb r.kind 0).0 b)).0 h) (λ b. h)
 
 pub resolved_fits : (labels : List SymbolData) (d : DraftData) (k : ℕ) (f : Fields) (o : Option ReferenceData) (row : RowData) → slice_get listed k ≡ Some row → Symbols row o → Fits row f → Fits row (resolved labels d k f o).fields
@@ -69,7 +68,7 @@ spelled_length : (row : RowData) (f : Fields) → Fits row f → length (spelled
 unfolding spelled_code
 spelled_length row f h = ap (λ b. length (cond b (spelling row f) [])) (fit_true row f h) ∙ by (is_long row) (word_of row f)
   where
-    by : (b : Bool) (w : ℕ) → length (spelled b w) ≡ cond b 4 2
+    by : (b : Bool) (w : ℕ) → length (spelling_of b w) ≡ cond b 4 2
     by true w = refl
     by false w = refl
 

@@ -6,7 +6,7 @@ use Rattle.tc_object.specs.Names.{IsName, name_of, is_length}
 use Rattle.tc_object.specs.Names as object
 use Rattle.tc_object.specs.Objects.{InTurn}
 use Rattle.std.proofs.lemmas.Bool.{le-leb}
-use Rattle.tc_asm.specs.declared.entries.Place.{Place}
+use Rattle.tc_asm.specs.declared.symbols.Place.{Place}
 use Rattle.tc_asm.specs.declared.sections.Part.{Part}
 use Rattle.tc_asm.specs.declared.sections.Use.{Use}
 use Rattle.tc_asm.specs.Symbols.{SymbolData}

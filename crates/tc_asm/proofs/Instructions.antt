@@ -2,9 +2,9 @@
 use Rattle.std.proofs.Common.{◌≡◌, ◌≤◌, ◌+◌, ◌&&◌, ◌++◌, min, ℕ, Bool, true, cond, List, [], ◌∷◌, length, Option, Some, refl, ap, subst, ◌∙◌, arith}
 use Rattle.std.specs.Prelude.{slice_get, fold}
 use Rattle.tc_isa.specs.declared.fields.Fields.{Fields}
-use Rattle.tc_stmt.specs.Filling.{ReferenceData}
-use Rattle.tc_asm.specs.Items.{ItemData, code}
-use Rattle.tc_asm.specs.Lines.{lines_in}
+use Rattle.tc_stmt.specs.RowFields.{ReferenceData}
+use Rattle.tc_stmt.specs.Items.{ItemData, code}
+use Rattle.tc_stmt.specs.Lines.{lines_in}
 use Rattle.tc_asm.specs.Symbols.{SymbolData}
 use Rattle.tc_asm.specs.Drafts.{DraftData, start, has_section, has_room, resolved, code_bytes, stepped}
 use Rattle.tc_asm.specs.Rules.{section_rule, bytes_room, reference_rule, content_rule, item_rule}
@@ -12,7 +12,7 @@ use Rattle.tc_asm.specs.Sources.{items_rule, symbols_of}
 use Rattle.tc_asm.specs.Kept.{Each}
 use Rattle.tc_asm.specs.Statements.{StatementData, statement, standing, statements_from}
 use Rattle.tc_asm.specs.Spelled.{Spells, InstructionsLaw}
-use Rattle.tc_asm.proofs.ListItems.{get_behind}
+use Rattle.tc_stmt.proofs.ListItems.{get_behind}
 use Rattle.tc_asm.proofs.Uses.{statements-append, fits, fits_too, then_fifteen}
 use Rattle.tc_asm.proofs.SourceItems.{IsCode, IsItem, source_are}
 use Rattle.tc_asm.proofs.SourceDrafts.{source_items}

@@ -11,11 +11,11 @@ use Rattle.std.proofs.lemmas.Bool.Decides.{Decides-eqb}
 use Rattle.tc_object.specs.Names.{IsName, name_of, is_length}
 use Rattle.tc_object.specs.Names as object
 use Rattle.tc_stmt.specs.Names.{is_name}
-use Rattle.tc_stmt.specs.Filling.{ReferenceData}
-use Rattle.tc_asm.specs.declared.entries.Place.{Place}
-use Rattle.tc_asm.specs.declared.entries.Entry.{Entry}
-use Rattle.tc_asm.specs.Items.{ItemData, label, section, global, code, bytes, zeros}
-use Rattle.tc_asm.specs.Lines.{LineData}
+use Rattle.tc_stmt.specs.RowFields.{ReferenceData}
+use Rattle.tc_asm.specs.declared.symbols.Place.{Place}
+use Rattle.tc_asm.specs.declared.symbols.Entry.{Entry}
+use Rattle.tc_stmt.specs.Items.{ItemData, label, section, global, code, bytes, zeros}
+use Rattle.tc_stmt.specs.Lines.{LineData}
 use Rattle.tc_asm.specs.Symbols.{SymbolData, unseen, entry_in, entry_of, put_entry, place_in, seen, labelled, made_global}
 use Rattle.tc_isa.specs.Relocations.{is_reloc}
 use Rattle.tc_asm.specs.Drafts.{UseData, PartData, DraftData, part, start, place_of, has_section, has_room, here, with_label, number_of_part, entered, with_global, extended, with_bytes, used, with_use, with_reference, with_content, resolved, code_bytes, stepped}

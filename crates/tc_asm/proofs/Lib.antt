@@ -1,5 +1,3 @@
-pub mod FewItems
-pub mod ReadLines
 pub mod Passes
 pub mod SymbolLaws
 pub mod PartLaws
@@ -9,9 +7,7 @@ pub mod ListLaws
 pub mod KeptLaws
 pub mod ObjectLaws
 pub mod FinishLaws
-pub mod LoopLaws
 pub mod LaidLaws
-pub mod ListItems
 pub mod Uses
 pub mod SourceItems
 pub mod CodeSizes

@@ -9,7 +9,7 @@ use Rattle.std.proofs.lemmas.Bool.{lt-ltb}
 use Rattle.std.specs.Str.{bytes_eq}
 use Rattle.tc_object.specs.Objects.{InTurn}
 use Rattle.tc_stmt.proofs.Cases.{by_test}
-use Rattle.tc_asm.specs.declared.entries.Entry.{Entry}
+use Rattle.tc_asm.specs.declared.symbols.Entry.{Entry}
 use Rattle.tc_asm.specs.Symbols.{SymbolData, symbol, put_entry}
 use Rattle.tc_asm.specs.Drafts.{UseData, PartData}
 use Rattle.tc_asm.specs.Kept.{Each, is_among, part_names, symbol_names, size_at, Spaced, count_of}

@@ -11,8 +11,8 @@ use Rattle.tc_object.specs.declared.relocs.Reloc.{Reloc}
 use Rattle.tc_object.specs.Names.{IsName}
 use Rattle.tc_object.specs.Objects.{SectionData, InTurn, is_section_name, is_symbol_name, IsSection, IsSymbol, IsReloc, IsObject, is_behind, last_of}
 use Rattle.tc_object.specs.Objects as object
-use Rattle.tc_stmt.specs.Filling.{ReferenceData}
-use Rattle.tc_asm.specs.declared.entries.Place.{Place}
+use Rattle.tc_stmt.specs.RowFields.{ReferenceData}
+use Rattle.tc_asm.specs.declared.symbols.Place.{Place}
 use Rattle.tc_asm.specs.Symbols.{SymbolData}
 use Rattle.tc_asm.specs.Drafts.{UseData, PartData, DraftData}
 use Rattle.tc_asm.specs.Objects.{section_of, symbol_at, symbol_of, number_of, addend_of, reloc_of, relocs_from, object_of}

@@ -5,23 +5,22 @@ use Rattle.std.proofs.lemmas.List.{length-map, get_or-map, drop_more, drop_all, 
 use Rattle.std.specs.List.{drop-map}
 use Rattle.std.proofs.lemmas.List.Sums.{fold_more}
 use Rattle.std.proofs.lemmas.Bool.{cases_lt}
-use Rattle.tc_asm.specs.declared.items.Item.{Item}
-use Rattle.tc_asm.specs.declared.lines.Line.{Line}
-use Rattle.tc_asm.specs.Items.{ItemData, item_of}
-use Rattle.tc_asm.specs.Lines.{LineData, line_data, lines_in}
-use Rattle.tc_asm.specs.Readings.{lines_read, lines_of}
-use Rattle.tc_asm.specs.declared.lines.Source.{Source}
+use Rattle.tc_stmt.specs.declared.item.Item.{Item}
+use Rattle.tc_stmt.specs.declared.source.Line.{Line}
+use Rattle.tc_stmt.specs.Items.{ItemData, item_of}
+use Rattle.tc_stmt.specs.Lines.{LineData, line_data, lines_in, items_in}
+use Rattle.tc_stmt.specs.Readings.{lines_read, lines_of}
+use Rattle.tc_stmt.specs.declared.source.Source.{Source}
 use Rattle.tc_object.specs.Objects.{ObjectData}
 use Rattle.tc_asm.specs.declared.errors.AsmErr.{AsmErr}
 use Rattle.tc_asm.specs.Errors.{IfBad}
 use Rattle.tc_asm.specs.Objects.{object_of}
-use Rattle.tc_asm.specs.Statements.{items_in}
 use Rattle.tc_asm.proofs.LaidLaws.{lines-items}
 use Rattle.tc_asm.specs.Symbols.{SymbolData}
 use Rattle.tc_asm.specs.Drafts.{DraftData, start, stepped}
 use Rattle.tc_asm.specs.Rules.{item_rule}
 use Rattle.tc_asm.specs.Sources.{items_rule, with_line, line_rule, drafted, rule_in, symbols_of, KeepsRules, IsLeast}
-use Rattle.tc_asm.proofs.ReadLines.{length-lines_read}
+use Rattle.tc_stmt.proofs.ReadLines.{length-lines_read}
 
 -- the line at a place, with those behind it
 module _ (ls : List LineData) (i : ℕ) (x : LineData) (zs : List LineData) (here : drop i ls ≡ x ∷ zs) where

@@ -11,20 +11,20 @@ use Rattle.tc_isa.specs.Rows.{RowData, listed}
 use Rattle.tc_isa.specs.Words.{bounds, form_index}
 use Rattle.tc_isa.specs.Codec.{is_long}
 use Rattle.tc_isa.specs.Arithmetic.{sign_extended}
-use Rattle.tc_isa.specs.Shapes.{ahead, ahead_only}
-use Rattle.tc_stmt.specs.declared.wanting.Field.TheVariants.{K}
-use Rattle.tc_stmt.specs.Filling.{ReferenceData, FoundData, broken, put, set_field, wrapped, is_far, is_odd, displacement_rule, displaced}
+use Rattle.tc_isa.specs.Shapes.{doubled_displacement, ahead_only}
+use Rattle.tc_stmt.specs.declared.want.Field.TheVariants.{K}
+use Rattle.tc_stmt.specs.RowFields.{ReferenceData, RowFieldsData, with_rule, with_value, set_field, wrap, is_far, is_odd, displacement_rule, with_displacement}
 use Rattle.tc_stmt.specs.Stated.{is_short_jump}
-use Rattle.tc_asm.specs.declared.entries.Place.{Place}
-use Rattle.tc_asm.specs.Items.{ItemData, label, section, global, code, bytes, zeros}
-use Rattle.tc_asm.specs.Lines.{lines_in}
+use Rattle.tc_asm.specs.declared.symbols.Place.{Place}
+use Rattle.tc_stmt.specs.Items.{ItemData, label, section, global, code, bytes, zeros}
+use Rattle.tc_stmt.specs.Lines.{lines_in, items_in}
 use Rattle.tc_asm.specs.Symbols.{SymbolData, place_in}
 use Rattle.tc_asm.specs.Drafts.{DraftData, start, has_section, place_of, distance, found, targeted, jumped, resolved, code_bytes, stepped}
 use Rattle.tc_asm.specs.Rules.{content_rule, item_rule}
 use Rattle.tc_asm.specs.Sources.{items_rule, symbols_of}
 use Rattle.tc_asm.specs.Kept.{Each}
 use Rattle.tc_asm.specs.Objects.{addend_of}
-use Rattle.tc_asm.specs.Statements.{StatementData, statement, content_of, items_in}
+use Rattle.tc_asm.specs.Statements.{StatementData, statement, content_of}
 use Rattle.tc_asm.specs.Spelled.{Spells, displacement, ShortJumpsLaw}
 use Rattle.tc_asm.proofs.Uses.{fits}
 use Rattle.tc_asm.proofs.SourceItems.{IsCode, IsItem, source_are}
@@ -45,7 +45,7 @@ even : (s : ℕ) → is_odd s ≡ false → s % 2 ≡ 0
 even s e = grind (arith, nat_tests)
 
 -- in form SB
-both_ways : (minus : Bool) (s : ℕ) → cond minus (nat_lt 256 s) (nat_lt (256 - 2) s) ≡ false → is_odd s ≡ false → 2 * sign_extended 8 (wrapped 256 minus (s / 2) % 2 ^ 8) % 2 ^ 32 ≡ cond minus ((2 ^ 32 - s) % 2 ^ 32) s
+both_ways : (minus : Bool) (s : ℕ) → cond minus (nat_lt 256 s) (nat_lt (256 - 2) s) ≡ false → is_odd s ≡ false → 2 * sign_extended 8 (wrap 256 minus (s / 2) % 2 ^ 8) % 2 ^ 32 ≡ cond minus ((2 ^ 32 - s) % 2 ^ 32) s
 both_ways false s far odd =
     let less = ltb-false (256 - 2) s far in
     let two = even s odd in
@@ -71,7 +71,7 @@ both_ways true s far odd = by (s / 2 == 0) refl
         high_twice (256 - s / 2) big small ∙ back
 
 -- in form SBR
-forwards : (minus : Bool) (s : ℕ) → cond minus (not (s == 0)) (nat_lt (2 * (16 - 1)) s) ≡ false → is_odd s ≡ false → 2 * wrapped 16 minus (s / 2) % 2 ^ 32 ≡ cond minus ((2 ^ 32 - s) % 2 ^ 32) s
+forwards : (minus : Bool) (s : ℕ) → cond minus (not (s == 0)) (nat_lt (2 * (16 - 1)) s) ≡ false → is_odd s ≡ false → 2 * wrap 16 minus (s / 2) % 2 ^ 32 ≡ cond minus ((2 ^ 32 - s) % 2 ^ 32) s
 forwards false s far odd = let less = ltb-false (2 * (16 - 1)) s far in let two = even s odd in omega arith
 forwards true s far odd = let none : s ≡ 0 = by (s == 0) refl far in rw none refl
   where
@@ -80,7 +80,7 @@ forwards true s far odd = let none : s ≡ 0 = by (s == 0) refl far in rw none r
     by false e h = cc
 
 displacement_is : (form : Form) (f : Fields) (minus : Bool) (s : ℕ) → is_short_jump form ≡ true → is_far form (bounds form).k minus s ≡ false → is_odd s ≡ false →
-    cond (form_index form == 13) (ahead_only (record f { k = wrapped (bounds form).k minus (s / 2) })) (ahead 8 (record f { k = wrapped (bounds form).k minus (s / 2) })) ≡ cond minus ((2 ^ 32 - s) % 2 ^ 32) s
+    cond (form_index form == 13) (ahead_only (record f { k = wrap (bounds form).k minus (s / 2) })) (doubled_displacement 8 (record f { k = wrap (bounds form).k minus (s / 2) })) ≡ cond minus ((2 ^ 32 - s) % 2 ^ 32) s
 unfolding bounds form_index
 displacement_is Sb f minus s short far odd = both_ways minus s far odd
 displacement_is Sbr f minus s short far odd = forwards minus s far odd
@@ -125,13 +125,13 @@ at_most row minus s = by (is_far row.form (bounds row.form).k minus s) (is_long 
 not_both : (b : Bool) → b ≡ true → b ≡ false → ⊥
 not_both b e g = cc
 
-displaced_is : (row : RowData) (minus : Bool) (s : ℕ) (f : Fields) → 15 ≤ (displaced row minus s (found f)).rule →
-    ((displacement_rule row minus s == 15) ≡ true) × ((displaced row minus s (found f)).fields ≡ record f { k = wrapped (bounds row.form).k minus (s / 2) })
-unfolding displaced set_field
+displaced_is : (row : RowData) (minus : Bool) (s : ℕ) (f : Fields) → 15 ≤ (with_displacement row minus s (found f)).rule →
+    ((displacement_rule row minus s == 15) ≡ true) × ((with_displacement row minus s (found f)).fields ≡ record f { k = wrap (bounds row.form).k minus (s / 2) })
+unfolding with_displacement set_field
 displaced_is row minus s f h = by (displacement_rule row minus s == 15) refl h
   where
-    by : (b : Bool) → (displacement_rule row minus s == 15) ≡ b → 15 ≤ (cond b (put K (wrapped (bounds row.form).k minus (s / 2)) (found f)) (broken (displacement_rule row minus s) (found f))).rule
-        → (b ≡ true) × ((cond b (put K (wrapped (bounds row.form).k minus (s / 2)) (found f)) (broken (displacement_rule row minus s) (found f))).fields ≡ record f { k = wrapped (bounds row.form).k minus (s / 2) })
+    by : (b : Bool) → (displacement_rule row minus s == 15) ≡ b → 15 ≤ (cond b (with_value K (wrap (bounds row.form).k minus (s / 2)) (found f)) (with_rule (displacement_rule row minus s) (found f))).rule
+        → (b ≡ true) × ((cond b (with_value K (wrap (bounds row.form).k minus (s / 2)) (found f)) (with_rule (displacement_rule row minus s) (found f))).fields ≡ record f { k = wrap (bounds row.form).k minus (s / 2) })
     by true e h = (refl, refl)
     by false e h =
         let most = at_most row minus s in
@@ -143,13 +143,13 @@ record IsJumped (labels : List SymbolData) (d : DraftData) (row : RowData) (f : 
   size : ℕ
   is : distance labels d r ≡ Some (minus, size)
   rule : (displacement_rule row minus size == 15) ≡ true
-  fields : (jumped labels d row f r).fields ≡ record f { k = wrapped (bounds row.form).k minus (size / 2) }
+  fields : (jumped labels d row f r).fields ≡ record f { k = wrap (bounds row.form).k minus (size / 2) }
 
 jumped_is : (labels : List SymbolData) (d : DraftData) (row : RowData) (f : Fields) (r : ReferenceData) → 15 ≤ (jumped labels d row f r).rule → IsJumped labels d row f r
 unfolding jumped
 jumped_is labels d row f r h = by (distance labels d r) refl h
   where
-    by : (o : Option (Bool × ℕ)) → distance labels d r ≡ o → 15 ≤ (option_map_or (λ n. displaced row n.0 n.1 (found f)) o (broken 10 (found f))).rule → IsJumped labels d row f r
+    by : (o : Option (Bool × ℕ)) → distance labels d r ≡ o → 15 ≤ (option_map_or (λ n. with_displacement row n.0 n.1 (found f)) o (with_rule 10 (found f))).rule → IsJumped labels d row f r
     by None e h = absurd (omega arith)
     by (Some n) e h =
         let p = displaced_is row n.0 n.1 f h in
@@ -158,7 +158,7 @@ jumped_is labels d row f r h = by (distance labels d r) refl h
           size = n.1;
           is = e;
           rule = p.0;
-          fields = ap (λ (o : Option (Bool × ℕ)). (option_map_or (λ n. displaced row n.0 n.1 (found f)) o (broken 10 (found f))).fields) e ∙ p.1;
+          fields = ap (λ (o : Option (Bool × ℕ)). (option_map_or (λ n. with_displacement row n.0 n.1 (found f)) o (with_rule 10 (found f))).fields) e ∙ p.1;
         }
 
 -- ---- distances
@@ -274,8 +274,8 @@ resolved_jumped labels d k f r row at zero =
 jumps_code : (labels : List SymbolData) (d : DraftData) (k : ℕ) (f : Fields) (r : ReferenceData) (c : IsCode k f (Some r)) → r.kind ≡ 0 → 15 ≤ (resolved labels d k f (Some r)).rule → Jumps labels d r c.row (resolved labels d k f (Some r)).fields
 jumps_code labels d k f r c zero h =
     let same = resolved_jumped labels d k f r c.row c.at zero in
-    let R : FoundData → Type 0 = λ x. 15 ≤ x.rule in
-    let J : FoundData → Type 0 = λ x. Jumps labels d r c.row x.fields in
+    let R : RowFieldsData → Type 0 = λ x. 15 ≤ x.rule in
+    let J : RowFieldsData → Type 0 = λ x. Jumps labels d r c.row x.fields in
     subst J (sym same) (jumps_row labels d c.row f r ((c.symbols.some r refl).target zero).1 (subst R same h))
 
 -- ---- a statement

@@ -2,14 +2,13 @@
 use Rattle.std.proofs.Common.{◌≡◌, ◌<◌, ◌≤◌, min, ℕ, suc, List, [], ◌∷◌, ◌++◌, length, take, get_or, sym, ap, subst, ◌∙◌, arith, append_assoc, append-nil}
 use Rattle.std.specs.Prelude.{fold}
 use Rattle.std.proofs.lemmas.List.Sums.{fold-append}
-use Rattle.tc_asm.specs.Items.{ItemData}
-use Rattle.tc_asm.specs.Lines.{LineData, lines_in}
+use Rattle.tc_stmt.specs.Items.{ItemData}
+use Rattle.tc_stmt.specs.Lines.{LineData, lines_in, items_in}
 use Rattle.tc_asm.specs.Symbols.{SymbolData}
 use Rattle.tc_asm.specs.Drafts.{DraftData, start, stepped}
 use Rattle.tc_asm.specs.Rules.{item_rule}
 use Rattle.tc_asm.specs.Sources.{items_rule, with_line, line_rule, drafted, symbols_of, KeepsRules}
 use Rattle.tc_asm.specs.Kept.{IsDraft}
-use Rattle.tc_asm.specs.Statements.{items_in}
 use Rattle.tc_asm.proofs.KeptLaws.{IsDraft-start, IsDraft-line}
 use Rattle.tc_object.specs.Objects.{IsObject}
 use Rattle.tc_asm.specs.Objects.{object_of}

@@ -12,15 +12,14 @@ use Rattle.tc_isa.specs.declared.fields.Fields.{Fields}
 use Rattle.tc_isa.specs.Rows.{RowData, listed}
 use Rattle.tc_isa.specs.Codec.{Fits, four_bytes}
 use Rattle.tc_stmt.specs.Names.{is_name}
-use Rattle.tc_stmt.specs.Pieces.{PieceData, is_kind, text_at}
-use Rattle.tc_stmt.specs.Operands.{OperandData, operands}
-use Rattle.tc_stmt.specs.Filling.{ReferenceData, FoundData, shape_index, is_symbol, is_half, symbol_rule, wrapped, reference}
-use Rattle.tc_stmt.specs.Judging.{statement}
-use Rattle.tc_asm.specs.Items.{ItemData, label, section, global, code, bytes, zeros}
-use Rattle.tc_asm.specs.Values.{fits_width, value_rule, value_item, space_item}
-use Rattle.tc_asm.specs.Lines.{LineData, line_data, word_of, named_line, space_line, values_line, code_line, stated_line, line_from, pieces_line, piece_in, label_of, label_before, cut_line, line_in, lines_in}
+use Rattle.tc_lex.specs.Pieces.{PieceData, is_kind, text_at}
+use Rattle.tc_lex.specs.Operands.{OperandData, operands}
+use Rattle.tc_stmt.specs.RowFields.{ReferenceData, RowFieldsData, shape_index, is_symbol, is_half, symbol_rule, wrap, reference}
+use Rattle.tc_stmt.specs.StatementRow.{statement}
+use Rattle.tc_stmt.specs.Items.{ItemData, label, section, global, code, bytes, zeros}
+use Rattle.tc_stmt.specs.Values.{fits_width, value_rule, value_item, space_item}
+use Rattle.tc_stmt.specs.Lines.{LineData, line_data, word_of, named_line, space_line, values_line, code_line, stated_line, line_from, pieces_line, piece_in, label_of, label_before, cut_line, line_in, lines_in, items_in}
 use Rattle.tc_asm.specs.Kept.{Each}
-use Rattle.tc_asm.specs.Statements.{items_in}
 use Rattle.tc_stmt.proofs.Cases.{by_test}
 use Rattle.tc_stmt.specs.Stated.{Symbols, IsStated}
 use Rattle.tc_stmt.proofs.StatedRows.{stated}
@@ -89,9 +88,9 @@ value_is width o = by (value_rule width o == 15) (shape_index o.value.shape == 1
     given r e = cc
 
     by : (fits number : Bool) → (value_rule width o == 15) ≡ fits → (shape_index o.value.shape == 1) ≡ number
-        → IsItem (cond (not fits) (zeros width) (cond number (bytes (take width (four_bytes (wrapped (2 ^ 32) o.value.minus o.value.size))) None) (bytes (take width (0 ∷ 0 ∷ 0 ∷ 0 ∷ [])) (Some (reference 7 o.value)))))
+        → IsItem (cond (not fits) (zeros width) (cond number (bytes (take width (four_bytes (wrap (2 ^ 32) o.value.minus o.value.size))) None) (bytes (take width (0 ∷ 0 ∷ 0 ∷ 0 ∷ [])) (Some (reference 7 o.value)))))
     by false number e n = tt
-    by true true e n = plain_good (take width (four_bytes (wrapped (2 ^ 32) o.value.minus o.value.size)))
+    by true true e n = plain_good (take width (four_bytes (wrap (2 ^ 32) o.value.minus o.value.size)))
     by true false e n =
         let p = symbol_value width o e n in
         record {
@@ -119,7 +118,7 @@ space_are [] = record { items = (tt, tt) }
 space_are (o ∷ []) = record { items = (tt, tt) }
 space_are (o ∷ p ∷ os) = record { items = (tt, tt) }
 
-code_are : (name : List ℕ) (q : Result (ℕ × FoundData) ℕ) → ((k : ℕ) (f : FoundData) → q ≡ Ok (k, f) → IsStated k f) → Are (code_line name q)
+code_are : (name : List ℕ) (q : Result (ℕ × RowFieldsData) ℕ) → ((k : ℕ) (f : RowFieldsData) → q ≡ Ok (k, f) → IsStated k f) → Are (code_line name q)
 code_are name (Ok found) h =
     let s = h found.0 found.1 refl in
     record { items = (record { row = s.row; at = s.at; fits = s.stated.fits; symbols = s.stated.symbols; zero = s.zero }, tt) }

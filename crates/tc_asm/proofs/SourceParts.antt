@@ -3,13 +3,13 @@ use Rattle.std.proofs.Common.{◌≡◌, ◌≤◌, ◌+◌, ℕ, zero, suc, Boo
 use Rattle.std.specs.Prelude.{slice_get, fold}
 use Rattle.std.proofs.lemmas.List.Sums.{fold-append}
 use Rattle.tc_object.specs.Objects.{SectionData}
-use Rattle.tc_asm.specs.Items.{ItemData, label, section, global, code, bytes, zeros}
-use Rattle.tc_asm.specs.Lines.{LineData, lines_in}
+use Rattle.tc_stmt.specs.Items.{ItemData, label, section, global, code, bytes, zeros}
+use Rattle.tc_stmt.specs.Lines.{LineData, lines_in, items_in}
 use Rattle.tc_asm.specs.Symbols.{SymbolData}
 use Rattle.tc_asm.specs.Drafts.{PartData, DraftData, start, stepped}
 use Rattle.tc_asm.specs.Sources.{with_line, symbols_of, items_rule}
 use Rattle.tc_asm.specs.Objects.{section_of}
-use Rattle.tc_asm.specs.Statements.{StatementData, content_of, standing, statements_from, items_in, section_bytes, bytes_at}
+use Rattle.tc_asm.specs.Statements.{StatementData, content_of, standing, statements_from, section_bytes, bytes_at}
 use Rattle.tc_asm.proofs.LaidLaws.{drafted-bytes}
 use Rattle.tc_asm.specs.Contents.{draft_in, statements_in, sections_from, sections_in}
 use Rattle.tc_asm.proofs.Uses.{HasField, HaveFields, uses_from, uses_in, GoodItems, GoodItem, all_uses}

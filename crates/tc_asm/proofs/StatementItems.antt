@@ -1,14 +1,14 @@
 -- The things that add statements, each behind those before it.
 use Rattle.std.proofs.Common.{◌≡◌, ◌≤◌, ◌⊎◌, ◌&&◌, ◌++◌, ℕ, zero, suc, Bool, true, false, cond, List, [], ◌∷◌, length, take, Option, Some, None, refl, sym, ap, ◌∙◌, inl, inr}
 use Rattle.std.specs.Prelude.{slice_get, fold}
-use Rattle.tc_asm.specs.Items.{ItemData}
+use Rattle.tc_stmt.specs.Items.{ItemData}
 use Rattle.tc_asm.specs.Symbols.{SymbolData}
 use Rattle.tc_asm.specs.Drafts.{DraftData, has_section, has_room, start, stepped, place_of}
 use Rattle.tc_asm.specs.Rules.{item_rule}
 use Rattle.tc_asm.specs.Sources.{items_rule}
 use Rattle.tc_asm.specs.Kept.{Each}
 use Rattle.tc_asm.specs.Statements.{StatementData, content_of, standing, statements_from, section_bytes, bytes_at, offset_of}
-use Rattle.tc_asm.proofs.ListItems.{InRest, in_front_or_rest, take_behind}
+use Rattle.tc_stmt.proofs.ListItems.{InRest, in_front_or_rest, take_behind}
 use Rattle.tc_asm.proofs.Uses.{place_bytes, items_bytes, fits, fits_too}
 
 -- the thing that adds this statement, with those before and behind it

@@ -6,8 +6,8 @@ use Rattle.std.specs.Str.{bytes_eq}
 use Rattle.std.specs.Map.{lookup, keys_of}
 use Rattle.std.proofs.lemmas.Option.{slice_get-map}
 use Rattle.indexmap.specs.IndexMap.{insert_entry}
-use Rattle.tc_stmt.proofs.Mapped.{position-map}
-use Rattle.tc_asm.specs.declared.entries.Entry.{Entry}
+use Rattle.tc_lex.proofs.Mapped.{position-map}
+use Rattle.tc_asm.specs.declared.symbols.Entry.{Entry}
 use Rattle.tc_asm.specs.Symbols.{SymbolData, symbol, unseen, entry_in, entry_of, put_entry, seen}
 
 abbrev pub Key : Type 0

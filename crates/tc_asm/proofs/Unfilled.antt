@@ -10,15 +10,15 @@ use Rattle.tc_isa.specs.Relocations.{is_reloc}
 use Rattle.tc_reloc.specs.Fields.{room_of, rest_of, spread_of}
 use Rattle.tc_reloc.specs.Applied.{with_field}
 use Rattle.tc_reloc.proofs.FilledRows.{written_law}
-use Rattle.tc_stmt.specs.Filling.{ReferenceData}
+use Rattle.tc_stmt.specs.RowFields.{ReferenceData}
 use Rattle.tc_stmt.proofs.Cases.{by_test}
-use Rattle.tc_asm.specs.Items.{ItemData, label, section, global, code, bytes, zeros}
-use Rattle.tc_asm.specs.Lines.{lines_in}
+use Rattle.tc_stmt.specs.Items.{ItemData, label, section, global, code, bytes, zeros}
+use Rattle.tc_stmt.specs.Lines.{lines_in, items_in}
 use Rattle.tc_asm.specs.Symbols.{SymbolData}
 use Rattle.tc_asm.specs.Drafts.{DraftData, start, found, targeted, jumped, spelled_code, resolved, code_bytes, stepped}
 use Rattle.tc_asm.specs.Sources.{symbols_of}
 use Rattle.tc_asm.specs.Kept.{Each}
-use Rattle.tc_asm.specs.Statements.{StatementData, statement, content_of, items_in}
+use Rattle.tc_asm.specs.Statements.{StatementData, statement, content_of}
 use Rattle.tc_asm.specs.Relocations.{UnfilledLaw}
 use Rattle.tc_asm.specs.Spelled.{is_resolved}
 use Rattle.tc_asm.proofs.SourceItems.{IsCode, IsItem, source_are}

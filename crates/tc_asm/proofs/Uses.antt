@@ -7,8 +7,8 @@ use Rattle.std.proofs.lemmas.Bool.Decides.{Decides-eqb}
 use Rattle.std.proofs.lemmas.List.{length-append}
 use Rattle.std.proofs.lemmas.List.Sums.{fold-append}
 use Rattle.tc_stmt.specs.Names.{is_name}
-use Rattle.tc_stmt.specs.Filling.{ReferenceData}
-use Rattle.tc_asm.specs.Items.{ItemData, label, section, global, code, bytes, zeros}
+use Rattle.tc_stmt.specs.RowFields.{ReferenceData}
+use Rattle.tc_stmt.specs.Items.{ItemData, label, section, global, code, bytes, zeros}
 use Rattle.tc_asm.specs.Symbols.{SymbolData, seen}
 use Rattle.tc_asm.specs.Drafts.{UseData, PartData, DraftData, part, start, place_of, has_section, has_room, with_label, number_of_part, entered, with_global, extended, with_bytes, used, with_use, with_reference, with_content, code_bytes, stepped}
 use Rattle.tc_isa.specs.Relocations.{is_reloc}

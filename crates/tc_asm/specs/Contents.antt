@@ -1,9 +1,9 @@
 -- What a source holds: its symbols, its statements, and its sections.
 use Rattle.std.specs.Prelude.{◌+◌, ℕ, Bool, false, List, [], ◌∷◌, Option, Some, None}
 use Rattle.tc_isa.specs.Relocations.{is_reloc}
-use Rattle.tc_stmt.specs.Filling.{ReferenceData}
+use Rattle.tc_stmt.specs.RowFields.{ReferenceData}
 use Rattle.tc_object.specs.Objects.{SectionData}
-use Rattle.tc_asm.specs.Lines.{lines_in}
+use Rattle.tc_stmt.specs.Lines.{lines_in}
 use Rattle.tc_asm.specs.Symbols.{SymbolData}
 use Rattle.tc_asm.specs.Drafts.{DraftData}
 use Rattle.tc_asm.specs.Sources.{drafted, symbols_of}

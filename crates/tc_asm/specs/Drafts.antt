@@ -2,15 +2,16 @@
 use Rattle.std.specs.Prelude.{ℕ, ◌+◌, ◌-◌, ◌^◌, ◌==◌, ◌&&◌, not, nat_lt, nat_le, Bool, true, false, if◌then◌else◌, List, [], ◌∷◌, ◌++◌, length, replicate, slice_get, slice_set, Option, Some, None, position, unwrap_or}
 use Rattle.std.specs.Option.{option_map_or}
 use Rattle.std.specs.Str.{bytes_eq}
+use Rattle.tc_stmt.specs.SourceRules.{no_rule, misplaced_symbol}
 use Rattle.tc_isa.specs.declared.fields.Fields.{Fields}
 use Rattle.tc_isa.specs.Rows.{RowData, listed}
 use Rattle.tc_isa.specs.Words.{bounds}
 use Rattle.tc_isa.specs.Codec.{is_below_test, rest_is_zero, uses_of, is_apart, spelling}
 use Rattle.tc_isa.specs.Relocations.{is_reloc}
 use Rattle.tc_stmt.specs.Names.{is_name}
-use Rattle.tc_stmt.specs.Filling.{ReferenceData, FoundData, displaced, broken}
-use Rattle.tc_asm.specs.declared.entries.Place.{Place}
-use Rattle.tc_asm.specs.Items.{ItemData, label, section, global, code, bytes, zeros}
+use Rattle.tc_stmt.specs.RowFields.{ReferenceData, RowFieldsData, with_displacement, with_rule}
+use Rattle.tc_asm.specs.declared.symbols.Place.{Place}
+use Rattle.tc_stmt.specs.Items.{ItemData, label, section, global, code, bytes, zeros}
 use Rattle.tc_asm.specs.Symbols.{SymbolData, place_in, seen, labelled, made_global}
 
 -- four bytes at an offset that a symbol's value goes to
@@ -121,15 +122,15 @@ distance labels d r =
     (place_in labels r.name) None
 
 -- fields that break no rule and wait for no symbol
-abbrev pub found : Fields → FoundData
-found f = record { fields = f; rule = 15; reference = None }
+abbrev pub found : Fields → RowFieldsData
+found f = record { fields = f; rule = no_rule; reference = None }
 
 -- an instruction with a target that is resolved at once: its fields, and the least rule that the target breaks
-unfoldable pub jumped : List SymbolData → DraftData → RowData → Fields → ReferenceData → FoundData
-jumped labels d row f r = option_map_or (λ n. displaced row n.0 n.1 (found f)) (distance labels d r) (broken 10 (found f))
+unfoldable pub jumped : List SymbolData → DraftData → RowData → Fields → ReferenceData → RowFieldsData
+jumped labels d row f r = option_map_or (λ n. with_displacement row n.0 n.1 (found f)) (distance labels d r) (with_rule misplaced_symbol (found f))
 
 -- an instruction's fields, where a symbol that takes no relocation is resolved at once
-abbrev pub targeted : List SymbolData → DraftData → RowData → Fields → Option ReferenceData → FoundData
+abbrev pub targeted : List SymbolData → DraftData → RowData → Fields → Option ReferenceData → RowFieldsData
 targeted labels d row f None = found f
 targeted labels d row f (Some r) = if r.kind == 0 then jumped labels d row f r else found f
 
@@ -142,7 +143,7 @@ unfoldable pub spelled_code : RowData → Fields → List ℕ
 spelled_code row f = if is_fit row f then spelling row f else []
 
 -- what the row with this number makes of the fields and the symbol
-abbrev pub resolved : List SymbolData → DraftData → ℕ → Fields → Option ReferenceData → FoundData
+abbrev pub resolved : List SymbolData → DraftData → ℕ → Fields → Option ReferenceData → RowFieldsData
 resolved labels d k f r = option_map_or (λ row. targeted labels d row f r) (slice_get listed k) (found f)
 
 -- the spelling of an instruction of the row with this number

@@ -1,7 +1,4 @@
 -- Sources: what a line is by itself, what lines put together, the rules that they break, and the object.
-pub mod Items
-pub mod Values
-pub mod Lines
 pub mod Symbols
 pub mod Drafts
 pub mod Views
@@ -11,7 +8,6 @@ pub mod Objects
 pub mod Kept
 pub mod Errors
 pub mod Statements
-pub mod Readings
 pub mod Contents
 pub mod Relocations
 pub mod Spelled

@@ -1,11 +1,11 @@
 -- The object of what a source puts together.
 use Rattle.std.specs.Prelude.{ℕ, Bool, ◌+◌, ◌-◌, ◌%◌, ◌^◌, if◌then◌else◌, List, [], ◌∷◌, ◌++◌, map, Option, Some, None, position, unwrap_or}
 use Rattle.std.specs.Str.{bytes_eq}
-use Rattle.tc_object.specs.Objects.{SectionData, ObjectData}
+use Rattle.tc_object.specs.Objects.{undefined_symbol, SectionData, ObjectData}
 use Rattle.tc_object.specs.Objects as object
 use Rattle.tc_object.specs.declared.relocs.Reloc.{Reloc}
-use Rattle.tc_stmt.specs.Filling.{ReferenceData}
-use Rattle.tc_asm.specs.declared.entries.Place.{Place}
+use Rattle.tc_stmt.specs.RowFields.{ReferenceData}
+use Rattle.tc_asm.specs.declared.symbols.Place.{Place}
 use Rattle.tc_asm.specs.Symbols.{SymbolData}
 use Rattle.tc_asm.specs.Drafts.{UseData, PartData, DraftData}
 
@@ -15,7 +15,7 @@ section_of p = record { name = p.name; bytes = p.bytes }
 
 -- kind 0 where no label stands, 1 for a label, 2 for a global one
 abbrev pub symbol_at : List ℕ → Bool → Option Place → object.SymbolData
-symbol_at name is_global None = record { name = name; kind = 0; section = 0; offset = 0 }
+symbol_at name is_global None = record { name = name; kind = undefined_symbol; section = 0; offset = 0 }
 symbol_at name is_global (Some p) = record { name = name; kind = if is_global then 2 else 1; section = p.section; offset = p.offset }
 
 -- a symbol of the source as one of the object

@@ -1,47 +1,48 @@
 -- The rules that the lines before and the whole source decide; 15 is none.
 use Rattle.std.specs.Prelude.{ℕ, ◌&&◌, ◌||◌, not, nat_lt, min, if◌then◌else◌, List, length, Option, Some, None, is_some}
+use Rattle.tc_stmt.specs.SourceRules.{label_twice, no_rule, no_section, bad_name, past_limits, undefined_global}
 use Rattle.tc_stmt.specs.Names.{is_name}
-use Rattle.tc_stmt.specs.Filling.{ReferenceData}
-use Rattle.tc_asm.specs.Items.{ItemData, label, section, global, code, bytes, zeros}
+use Rattle.tc_stmt.specs.RowFields.{ReferenceData}
+use Rattle.tc_stmt.specs.Items.{ItemData, label, section, global, code, bytes, zeros}
 use Rattle.tc_asm.specs.Symbols.{SymbolData, entry_in, place_in}
 use Rattle.tc_isa.specs.Relocations.{is_reloc}
 use Rattle.tc_asm.specs.Drafts.{DraftData, has_section, has_room, number_of_part, resolved, code_bytes}
 
 -- 7: a label twice
 abbrev pub label_rule : DraftData → List ℕ → ℕ
-label_rule d name = if is_some (place_in d.symbols name) then 7 else 15
+label_rule d name = if is_some (place_in d.symbols name) then label_twice else no_rule
 
 -- 8: a label, an instruction or data before any section
 abbrev pub section_rule : DraftData → ℕ
-section_rule d = if has_section d then 15 else 8
+section_rule d = if has_section d then no_rule else no_section
 
 -- 9: a bad name
 abbrev pub name_rule : List ℕ → ℕ
-name_rule name = if is_name name then 15 else 9
+name_rule name = if is_name name then no_rule else bad_name
 
 -- 13: a 65th section; a 65,536th symbol or relocation; more than 16,777,216 bytes
 abbrev pub section_room : DraftData → List ℕ → ℕ
-section_room d name = if nat_lt (number_of_part d.parts name) (length d.parts) || nat_lt (length d.parts) 64 then 15 else 13
+section_room d name = if nat_lt (number_of_part d.parts name) (length d.parts) || nat_lt (length d.parts) 64 then no_rule else past_limits
 
 -- 13: a 65,536th symbol
 abbrev pub symbol_room : DraftData → List ℕ → ℕ
-symbol_room d name = if is_some (entry_in d.symbols name) || nat_lt (length d.symbols) 65535 then 15 else 13
+symbol_room d name = if is_some (entry_in d.symbols name) || nat_lt (length d.symbols) 65535 then no_rule else past_limits
 
 -- 13: a 65,536th relocation
 abbrev pub reloc_room : DraftData → ReferenceData → ℕ
-reloc_room d r = if is_reloc r.kind && not (nat_lt d.count 65535) then 13 else 15
+reloc_room d r = if is_reloc r.kind && not (nat_lt d.count 65535) then past_limits else no_rule
 
 -- 13: more than 16,777,216 bytes
 abbrev pub bytes_room : DraftData → ℕ → ℕ
-bytes_room d n = if has_room d n then 15 else 13
+bytes_room d n = if has_room d n then no_rule else past_limits
 
 -- 14: a global name that is never defined
 abbrev pub defined_rule : List SymbolData → List ℕ → ℕ
-defined_rule labels name = if is_some (place_in labels name) then 15 else 14
+defined_rule labels name = if is_some (place_in labels name) then no_rule else undefined_global
 
 -- 13: no room for a symbol or its relocation
 abbrev pub reference_rule : DraftData → Option ReferenceData → ℕ
-reference_rule d None = 15
+reference_rule d None = no_rule
 reference_rule d (Some r) = min (symbol_room d r.name) (reloc_room d r)
 
 -- the least rule that so many bytes break here, with the symbol that goes to them

@@ -1,14 +1,15 @@
 -- What a source is.
 use Rattle.std.specs.Prelude.{◌≡◌, ◌≢◌, ℕ, ◌+◌, ◌<◌, min, List, [], ◌∷◌, length, take, slice_index_or, fold}
-use Rattle.tc_asm.specs.Items.{ItemData}
-use Rattle.tc_asm.specs.Lines.{LineData}
+use Rattle.tc_stmt.specs.SourceRules.{no_rule}
+use Rattle.tc_stmt.specs.Items.{ItemData}
+use Rattle.tc_stmt.specs.Lines.{LineData}
 use Rattle.tc_asm.specs.Symbols.{SymbolData}
 use Rattle.tc_asm.specs.Drafts.{DraftData, start, stepped}
 use Rattle.tc_asm.specs.Rules.{item_rule}
 
 -- the least rule that these break, one behind the other
 abbrev pub items_rule : List SymbolData → DraftData → List ItemData → ℕ
-items_rule labels d [] = 15
+items_rule labels d [] = no_rule
 items_rule labels d (i ∷ is) = min (item_rule labels d i) (items_rule labels (stepped labels d i) is)
 
 -- one line more
@@ -33,7 +34,7 @@ rule_in lines k l = line_rule (symbols_of lines) (drafted (symbols_of lines) (ta
 
 -- no line before this place breaks a rule
 abbrev pub KeepsRules : List LineData → ℕ → Type 0
-KeepsRules lines n = (k : ℕ) (d : LineData) → k < n → rule_in lines k (slice_index_or lines k d) ≡ 15
+KeepsRules lines n = (k : ℕ) (d : LineData) → k < n → rule_in lines k (slice_index_or lines k d) ≡ no_rule
 
 -- the least line that breaks a rule, and the least rule there
 pub record IsLeast (lines : List LineData) (line rule : ℕ) : Type 0 where
@@ -41,5 +42,5 @@ pub record IsLeast (lines : List LineData) (line rule : ℕ) : Type 0 where
   pub within : place < length lines
   pub is : line ≡ place + 1
   pub broken : (d : LineData) → rule_in lines place (slice_index_or lines place d) ≡ rule
-  pub some : rule ≢ 15
+  pub some : rule ≢ no_rule
   pub before : KeepsRules lines place

@@ -2,18 +2,18 @@
 use Rattle.std.specs.Prelude.{◌≡◌, ◌+◌, ◌%◌, ◌^◌, ◌==◌, ◌++◌, ℕ, Bool, false, if◌then◌else◌, List, ◌∷◌, length, slice_get, Option, Some, None}
 use Rattle.tc_isa.specs.declared.fields.Fields.{Fields}
 use Rattle.tc_isa.specs.Rows.{RowData, listed}
-use Rattle.tc_isa.specs.Words.{form_index}
+use Rattle.tc_isa.specs.Words.{is_sbr}
 use Rattle.tc_isa.specs.Codec.{Fits, spelling}
-use Rattle.tc_isa.specs.Shapes.{ahead, ahead_only}
-use Rattle.tc_stmt.specs.Filling.{ReferenceData}
-use Rattle.tc_asm.specs.declared.entries.Place.{Place}
-use Rattle.tc_asm.specs.Items.{ItemData, code}
-use Rattle.tc_asm.specs.Lines.{lines_in}
+use Rattle.tc_isa.specs.Shapes.{doubled_displacement, ahead_only}
+use Rattle.tc_stmt.specs.RowFields.{ReferenceData}
+use Rattle.tc_asm.specs.declared.symbols.Place.{Place}
+use Rattle.tc_stmt.specs.Items.{ItemData, code}
+use Rattle.tc_stmt.specs.Lines.{lines_in, items_in}
 use Rattle.tc_asm.specs.Symbols.{place_in}
 use Rattle.tc_asm.specs.Drafts.{start}
 use Rattle.tc_asm.specs.Sources.{symbols_of, KeepsRules}
 use Rattle.tc_asm.specs.Objects.{addend_of}
-use Rattle.tc_asm.specs.Statements.{StatementData, statement, statements_from, items_in, offset_of}
+use Rattle.tc_asm.specs.Statements.{StatementData, statement, statements_from, offset_of}
 use Rattle.tc_asm.specs.Contents.{symbols_in, statements_in}
 
 -- the bytes spell an instruction of the listed row with this number, with fields that fit it
@@ -46,7 +46,7 @@ InstructionsLaw = (source : List ℕ) (before after : List ItemData) (place : �
 -- ---- jumps of 16 bits
 -- how far a jump or call of 16 bits goes, modulo 2^32: SBR (form 13) only forwards, SB both ways
 abbrev pub displacement : RowData → Fields → ℕ
-displacement row f = if form_index row.form == 13 then ahead_only f else ahead 8 f
+displacement row f = if is_sbr row.form then ahead_only f else doubled_displacement 8 f
 
 -- A statement with a symbol that takes no relocation spells a row, and its displacement goes from it to the symbol's label, in
 -- the same section, with the number added, wherever the section begins.

@@ -1,9 +1,9 @@
 -- Each statement that has bytes, and where it stands.
 use Rattle.std.specs.Prelude.{◌≡◌, ℕ, ◌==◌, ◌&&◌, if◌then◌else◌, zero, suc, List, [], ◌∷◌, ◌++◌, length, take, drop, replicate, slice_get, Option, Some, None}
 use Rattle.std.specs.List.{flat_map}
-use Rattle.tc_stmt.specs.Filling.{ReferenceData}
-use Rattle.tc_asm.specs.Items.{ItemData, label, section, global, code, bytes, zeros}
-use Rattle.tc_asm.specs.Lines.{LineData}
+use Rattle.tc_stmt.specs.RowFields.{ReferenceData}
+use Rattle.tc_stmt.specs.Items.{ItemData, label, section, global, code, bytes, zeros}
+use Rattle.tc_stmt.specs.Lines.{LineData, items_in}
 use Rattle.tc_asm.specs.Symbols.{SymbolData}
 use Rattle.tc_asm.specs.Drafts.{PartData, DraftData, start, has_section, has_room, code_bytes, stepped}
 use Rattle.tc_asm.specs.Sources.{drafted}
@@ -36,10 +36,6 @@ standing d (Some t) = if has_section d && has_room d (length t.bytes) then t ∷
 abbrev pub statements_from : List SymbolData → DraftData → List ItemData → List StatementData
 statements_from labels d [] = []
 statements_from labels d (i ∷ is) = standing d (content_of labels d i) ++ statements_from labels (stepped labels d i) is
-
--- all that the lines add, in order
-abbrev pub items_in : List LineData → List ItemData
-items_in lines = flat_map (λ (l : LineData). l.items) lines
 
 -- the statements of a source, in order, where it has these symbols
 abbrev pub statements : List SymbolData → List LineData → List StatementData

@@ -1,8 +1,8 @@
 -- Symbols, in the order of first sight.
 use Rattle.std.specs.Prelude.{ℕ, true, false, if◌then◌else◌, List, [], ◌∷◌, Option, Some, None, find, option_map, is_some, unwrap_or}
 use Rattle.std.specs.Str.{bytes_eq}
-use Rattle.tc_asm.specs.declared.entries.Place.{Place}
-use Rattle.tc_asm.specs.declared.entries.Entry.{Entry}
+use Rattle.tc_asm.specs.declared.symbols.Place.{Place}
+use Rattle.tc_asm.specs.declared.symbols.Entry.{Entry}
 
 -- a symbol: its name, where its label stands, and whether it's global
 pub record SymbolData : Type 0 where

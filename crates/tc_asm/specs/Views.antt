@@ -1,6 +1,6 @@
 -- What the types of the code are, without where their bytes lie.
 use Rattle.std.specs.Prelude.{map}
-use Rattle.tc_stmt.specs.Filling.{reference_of}
+use Rattle.tc_stmt.specs.RowFields.{reference_of}
 use Rattle.tc_asm.specs.declared.sections.Use.{Use}
 use Rattle.tc_asm.specs.declared.sections.Part.{Part}
 use Rattle.tc_asm.specs.Drafts.{UseData, PartData}

@@ -1,13 +1,11 @@
 // What the lines so far have put together.
 use crate::encode::first_bytes;
-use crate::entries::Place;
-use crate::items::Item;
 use crate::rules::is_reloc;
 use crate::sections::{Part, extend_part, number_of_part, use_part};
-use crate::symbols::Symbols;
+use crate::symbols::{Place, Symbols};
 use std::alloc::{AllocError, Global};
 use std::marker::Model;
-use tc_stmt::{Reference, is_name};
+use tc_stmt::{Item, Reference, is_name};
 
 /// The sections so far, which one goes on, the symbols, and how many bytes and relocations there are.
 #[derive(Drop)]
@@ -34,8 +32,8 @@ const MOST_BYTES: usize = 0x100_0000;
 
 impl<'a> Draft<'a> {
     ghost use Rattle.std.specs.Prelude.{◌≡◌, OnOk, option_map, replicate};
-    ghost use Rattle.tc_stmt.specs.Filling.{reference_of};
-    ghost use Rattle.tc_asm.specs.Items.{item_of};
+    ghost use Rattle.tc_stmt.specs.RowFields.{reference_of};
+    ghost use Rattle.tc_stmt.specs.Items.{item_of};
     ghost use Rattle.tc_asm.specs.Drafts.{start, place_of, has_section, has_room, with_label, entered, with_global, with_bytes, with_use, with_reference, with_content, stepped};
 
     pub fn new(alloc: Global) -> Draft<'a>
@@ -148,7 +146,8 @@ impl<'a> Draft<'a> {
 
     #[tactic(auto, unfolding(crate::specs::Drafts::with_reference))]
     fn add_reference(&mut self, size: usize, r: Option<Reference<'a>>) -> Result<(), AllocError>
-        ensures { OnOk result (self.new ≡ with_reference self.old size (option_map reference_of r.entry)) }
+        ensures { OnOk result
+            (self.new ≡ with_reference self.old size (option_map reference_of r.entry)) }
     {
         match r {
             None => Ok(()),
@@ -167,7 +166,8 @@ impl<'a> Draft<'a> {
         bytes: &[u8],
         r: Option<Reference<'a>>,
     ) -> Result<(), AllocError>
-        ensures { OnOk result (self.new ≡ with_content self.old bytes.now (option_map reference_of r.entry)) }
+        ensures { OnOk result
+            (self.new ≡ with_content self.old bytes.now (option_map reference_of r.entry)) }
     {
         self.add_reference(bytes.len(), r)?;
         self.add_bytes(bytes)

@@ -1,16 +1,15 @@
 // The object of what a source put together.
 ghost use Rattle.std.specs.Prelude.{◌≡◌, ◌<◌, ◌≤◌, ◌++◌, ◌+◌, ◌^◌, map, length, All, IfOk, OnOk, is_some, true, string_bytes};
 ghost use Rattle.tc_object.specs.Names.{name_of as name_in};
-ghost use Rattle.tc_stmt.specs.Filling.{reference_of};
+ghost use Rattle.tc_stmt.specs.RowFields.{reference_of};
 ghost use Rattle.tc_asm.specs.Views.{use_of, part_of};
 ghost use Rattle.tc_asm.specs.Objects.{section_of, symbol_of, addend_of, reloc_of, relocs_from, object_of};
 ghost use Rattle.tc_asm.specs.Symbols.{symbol as known_as};
 ghost use Rattle.tc_asm.specs.Kept.{IsDraft, IsSmall};
 
 use crate::draft::Draft;
-use crate::entries::Entry;
 use crate::sections::{Part, Use};
-use crate::symbols::Symbols;
+use crate::symbols::{Entry, Symbols};
 use std::alloc::{AllocError, Global};
 use tc_object::{Object, Reloc, Section, Symbol, name_of};
 use tc_stmt::Reference;
@@ -116,7 +115,8 @@ fn add_relocs(
     requires symbols { length known.now < 2 ^ 16 }
     requires section { section < 2 ^ 16 }
     requires offsets { All (λ u. u.offset < 2 ^ 32) uses.now }
-    ensures { OnOk result (out.new.items ≡ out.old.items ++ map (reloc_of known.now section) (map use_of uses.now)) }
+    ensures { OnOk result
+        (out.new.items ≡ out.old.items ++ map (reloc_of known.now section) (map use_of uses.now)) }
 {
     for i in 0..uses.len() {
         out.push(reloc(known, section, uses[i]))?;

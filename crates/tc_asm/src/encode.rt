@@ -1,13 +1,13 @@
 // The bytes of an instruction, once a target that takes no relocation is resolved.
 ghost use Rattle.std.specs.Prelude.{◌≡◌, take};
-ghost use Rattle.tc_stmt.specs.Filling.{found_of};
+ghost use Rattle.tc_stmt.specs.RowFields.{row_fields_of};
 ghost use Rattle.tc_asm.specs.Drafts.{bytes_of, found as found_in};
 
 use crate::draft::Draft;
 use crate::symbols::Symbols;
 use tc_encode::{Code, encode};
 use tc_isa::{Fields, Row, inst, rows};
-use tc_stmt::{Found, Reference, displaced};
+use tc_stmt::{Reference, RowFields, displaced};
 
 /// The bytes of the row with this number and these fields; none where they are no listed instruction.
 pub(crate) fn code_of(row: u8, f: &Fields) -> Code
@@ -31,10 +31,10 @@ pub(crate) fn first_bytes(bytes: &[u8; 4], len: u8) -> &[u8]
 }
 
 // Fields, with no symbol and no rule broken.
-fn found<'a>(fields: Fields) -> Found<'a>
-    ensures { found_of result ≡ found_in fields }
+fn found<'a>(fields: Fields) -> RowFields<'a>
+    ensures { row_fields_of result ≡ found_in fields }
 {
-    Found {
+    RowFields {
         fields,
         rule: 15,
         reference: None,
@@ -44,7 +44,7 @@ fn found<'a>(fields: Fields) -> Found<'a>
 impl<'a> Draft<'a> {
     ghost use Rattle.std.specs.Prelude.{option_map};
     ghost use Rattle.tc_isa.specs.Rows.{row_of};
-    ghost use Rattle.tc_stmt.specs.Filling.{reference_of};
+    ghost use Rattle.tc_stmt.specs.RowFields.{reference_of};
     ghost use Rattle.tc_asm.specs.Drafts.{distance, jumped, targeted, resolved, code_bytes};
 
     // How far a symbol lies from here, and whether before it; None where it isn't a label of this section.
@@ -72,11 +72,18 @@ impl<'a> Draft<'a> {
     }
 
     #[tactic(auto, unfolding(crate::specs::Drafts::jumped))]
-    fn jumped(&self, labels: &Symbols<'a>, row: &Row, fields: Fields, r: Reference<'a>) -> Found<'a>
-        ensures { found_of result ≡ jumped labels.now self.now (row_of row.now) fields (reference_of r.entry) }
+    fn jumped(
+        &self,
+        labels: &Symbols<'a>,
+        row: &Row,
+        fields: Fields,
+        r: Reference<'a>,
+    ) -> RowFields<'a>
+        ensures { row_fields_of result
+            ≡ jumped labels.now self.now (row_of row.now) fields (reference_of r.entry) }
     {
         match self.distance(labels, r) {
-            None => Found {
+            None => RowFields {
                 fields,
                 rule: 10,
                 reference: None,
@@ -91,8 +98,10 @@ impl<'a> Draft<'a> {
         row: &Row,
         fields: Fields,
         r: Option<Reference<'a>>,
-    ) -> Found<'a>
-        ensures { found_of result ≡ targeted labels.now self.now (row_of row.now) fields (option_map reference_of r.entry) }
+    ) -> RowFields<'a>
+        ensures { row_fields_of result
+            ≡ targeted labels.now self.now (row_of row.now) fields
+            (option_map reference_of r.entry) }
     {
         match r {
             None => found(fields),
@@ -113,8 +122,9 @@ impl<'a> Draft<'a> {
         row: u8,
         fields: Fields,
         r: Option<Reference<'a>>,
-    ) -> Found<'a>
-        ensures { found_of result ≡ resolved labels.now self.now row fields (option_map reference_of r.entry) }
+    ) -> RowFields<'a>
+        ensures { row_fields_of result
+            ≡ resolved labels.now self.now row fields (option_map reference_of r.entry) }
     {
         let rows = rows();
         let place = usize::from(row);
@@ -134,7 +144,8 @@ impl<'a> Draft<'a> {
         fields: Fields,
         r: Option<Reference<'a>>,
     ) -> Code
-        ensures { take result.len result.bytes ≡ code_bytes labels.now self.now row fields (option_map reference_of r.entry) }
+        ensures { take result.len result.bytes
+            ≡ code_bytes labels.now self.now row fields (option_map reference_of r.entry) }
     {
         let found = self.resolved(labels, row, fields, r);
         code_of(row, &found.fields)

@@ -4,12 +4,11 @@ ghost use Rattle.tc_isa.specs.Relocations.{is_reloc as needs_reloc};
 
 use crate::draft::Draft;
 use crate::encode::{code_of, first_bytes};
-use crate::items::Item;
 use crate::sections::number_of_part;
 use crate::symbols::Symbols;
 use std::alloc::{AllocError, Global};
 use tc_isa::Fields;
-use tc_stmt::{Reference, is_name};
+use tc_stmt::{Item, Reference, is_name};
 
 /// Whether a symbol of this kind has a relocation.
 pub(crate) fn is_reloc(kind: u8) -> bool
@@ -20,8 +19,8 @@ pub(crate) fn is_reloc(kind: u8) -> bool
 
 impl<'a> Draft<'a> {
     ghost use Rattle.std.specs.Prelude.{option_map, length, OnOk, IfOk};
-    ghost use Rattle.tc_stmt.specs.Filling.{reference_of};
-    ghost use Rattle.tc_asm.specs.Items.{item_of, code};
+    ghost use Rattle.tc_stmt.specs.RowFields.{reference_of};
+    ghost use Rattle.tc_stmt.specs.Items.{item_of, code};
     ghost use Rattle.tc_asm.specs.Drafts.{stepped};
     ghost use Rattle.tc_asm.specs.Rules.{label_rule, section_rule, name_rule, section_room, symbol_room, reloc_room, bytes_room, defined_rule, reference_rule, content_rule, item_rule};
 
@@ -141,8 +140,12 @@ impl<'a> Draft<'a> {
         fields: Fields,
         r: Option<Reference<'a>>,
     ) -> Result<u8, AllocError>
-        ensures draft { OnOk result (self.new ≡ stepped labels.now self.old (code row fields (option_map reference_of r.entry))) }
-        ensures rule { IfOk result (λ rule. rule ≡ item_rule labels.now self.old (code row fields (option_map reference_of r.entry))) }
+        ensures draft { OnOk result
+            (self.new ≡ stepped labels.now self.old
+            (code row fields (option_map reference_of r.entry))) }
+        ensures rule { IfOk result
+            (λ rule. rule
+            ≡ item_rule labels.now self.old (code row fields (option_map reference_of r.entry))) }
     {
         let found = self.resolved(labels, row, fields, r);
         let code = code_of(row, &found.fields);
@@ -160,7 +163,8 @@ impl<'a> Draft<'a> {
         item: Item<'a>,
     ) -> Result<u8, AllocError>
         ensures draft { OnOk result (self.new ≡ stepped labels.now self.old (item_of item.entry)) }
-        ensures rule { IfOk result (λ rule. rule ≡ item_rule labels.now self.old (item_of item.entry)) }
+        ensures rule { IfOk result
+            (λ rule. rule ≡ item_rule labels.now self.old (item_of item.entry)) }
     {
         match item {
             Item::Code(row, fields, r) => self.put_code(labels, row, fields, r),

@@ -1,7 +1,7 @@
 // Sections so far.
 ghost use Rattle.std.specs.Prelude.{◌≡◌, ◌<◌, ◌≤◌, map, OnOk, length, position};
 ghost use Rattle.std.specs.Str.{bytes_eq};
-ghost use Rattle.tc_stmt.specs.Filling.{reference_of};
+ghost use Rattle.tc_stmt.specs.RowFields.{reference_of};
 ghost use Rattle.tc_asm.specs.Views.{part_of};
 ghost use Rattle.tc_asm.specs.Drafts.{extended, used, number_of_part};
 
@@ -43,7 +43,8 @@ pub(crate) fn number_of_part(parts: &[Part], name: &[u8]) -> usize
 /// Puts bytes at the end of a section.
 pub(crate) fn extend_part(parts: &mut Vec<Part>, i: usize, bytes: &[u8]) -> Result<(), AllocError>
     requires { i < length parts.old.items }
-    ensures { OnOk result (map part_of parts.new.items ≡ extended (map part_of parts.old.items) i bytes.now) }
+    ensures { OnOk result
+        (map part_of parts.new.items ≡ extended (map part_of parts.old.items) i bytes.now) }
 {
     let part = &mut parts[i];
     part.bytes.extend_from_slice(bytes)?;
@@ -59,7 +60,8 @@ pub(crate) fn use_part<'a>(
 ) -> Result<(), AllocError>
     requires { i < length parts.old.items }
     ensures { OnOk result (map part_of parts.new.items
-        ≡ used (map part_of parts.old.items) i (record { offset = offset; reference = reference_of reference.entry })) }
+        ≡ used (map part_of parts.old.items) i
+        (record { offset = offset; reference = reference_of reference.entry })) }
 {
     let part = &mut parts[i];
     part.uses.push(Use { offset, reference })?;

@@ -1,8 +1,21 @@
-// Symbols by name, in the order of first sight.
-use crate::entries::{Entry, Place};
+// Symbols by name, in the order of first sight, with what is known of each.
 use indexmap::IndexMap;
 use std::alloc::{AllocError, Global};
 use std::marker::Model;
+
+/// A place in a section: the section's number, and an offset.
+#[derive(Clone, Copy, Debug, PartialEq, Eq)]
+pub struct Place {
+    pub section: usize,
+    pub offset: usize,
+}
+
+/// Where a symbol's label stands, if one does, and whether the symbol is global.
+#[derive(Clone, Copy, Debug, PartialEq, Eq)]
+pub struct Entry {
+    pub place: Option<Place>,
+    pub is_global: bool,
+}
 
 // Of a name that wasn't seen.
 const UNSEEN: Entry = Entry {

@@ -4,9 +4,9 @@ use Rattle.tc_isa.specs.declared.table.Form.{Form}
 use Rattle.tc_isa.specs.declared.table.Form.TheVariants.{Rlc, Rr, Rc, Bol, Bo, Brr, Brc, B, Abs, Sys, Sr, Sc, Sb, Sbr, Src, Srr, Slr, Ssr}
 use Rattle.tc_isa.specs.declared.fields.Fields.{Fields}
 use Rattle.tc_isa.specs.Words.{IsBelow, bounds}
-use Rattle.tc_stmt.specs.declared.wanting.Field.{Field}
-use Rattle.tc_stmt.specs.declared.wanting.Field.TheVariants.{C, S1, S2, N, K}
-use Rattle.tc_stmt.specs.Filling.{field_of}
+use Rattle.tc_stmt.specs.declared.want.Field.{Field}
+use Rattle.tc_stmt.specs.declared.want.Field.TheVariants.{C, S1, S2, N, K}
+use Rattle.tc_stmt.specs.RowFields.{field_of}
 
 -- a field is below its bound
 pub field_of-below : (field : Field) (f b : Fields) → IsBelow f b → field_of field f < field_of field b

@@ -8,10 +8,10 @@ use Rattle.std.proofs.lemmas.List.Sums.{sum_by-cons}
 use Rattle.std.proofs.lemmas.List.{take-append-drop}
 use Rattle.std.proofs.lemmas.Slice.Eq.{bytes_eq-Decides}
 use Rattle.elf_image.specs.Images.{SegmentData}
-use Rattle.tc_stmt.specs.Numbers.{number_of}
-use Rattle.tc_asm.specs.Lines.{LineData, line_data, line_in}
+use Rattle.tc_lex.specs.Numbers.{number_of}
+use Rattle.tc_stmt.specs.Lines.{LineData, line_data, line_in}
 use Rattle.tc_asm.specs.Symbols.{SymbolData}
-use Rattle.tc_asm.specs.Items.{section}
+use Rattle.tc_stmt.specs.Items.{section}
 use Rattle.tc_asm.specs.Drafts.{PartData, DraftData, part}
 use Rattle.tc_disasm.specs.Listing.{line_at, lines_from, size_at, section_line, section_text, sections_from}
 use Rattle.tc_disasm.proofs.Appending.{lines-front}

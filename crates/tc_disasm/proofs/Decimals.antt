@@ -9,7 +9,7 @@ use Rattle.std.proofs.lemmas.List.Folds.{list_all-append}
 use Rattle.std.proofs.lemmas.Bool.Decides.{nat_tests}
 use Rattle.tc_lex.specs.Bytes.{is_digit, is_hex}
 use Rattle.tc_lex.specs.Cut.{has_hex_front}
-use Rattle.tc_stmt.specs.Numbers.{digit_of, add_digit, number_of, bounded}
+use Rattle.tc_lex.specs.Numbers.{digit_of, add_digit, number_of, below_2_128}
 
 is_digit-of : (n : ℕ) → n < 10 → is_digit (48 + n) ≡ true
 unfolding is_digit
@@ -19,13 +19,13 @@ digit_of-of : (n : ℕ) → n < 10 → digit_of (48 + n) ≡ n
 unfolding digit_of
 digit_of-of n h = rw (is_digit-of n h) (omega arith)
 
-pub bounded-small : (n : ℕ) → n < 2 ^ 64 → bounded n ≡ Some n
+pub bounded-small : (n : ℕ) → n < 2 ^ 64 → below_2_128 n ≡ Some n
 bounded-small n h = let small : nat_lt n (2 ^ 128) ≡ true = grind (arith, nat_tests) in ap (λ b. cond b (Some n) None) small
 
 -- one digit more
 added-digit : (m d n : ℕ) → d < 10 → m * 10 + d ≡ n → n < 2 ^ 64 → add_digit 10 (Some m) (48 + d) ≡ Some n
 unfolding add_digit
-added-digit m d n digit e small = ap (λ x. bounded (m * 10 + x)) (digit_of-of d digit) ∙ ap bounded e ∙ bounded-small n small
+added-digit m d n digit e small = ap (λ x. below_2_128 (m * 10 + x)) (digit_of-of d digit) ∙ ap below_2_128 e ∙ bounded-small n small
 
 -- the digits of a number
 pub record IsDigits (n : ℕ) (ds : List ℕ) : Type 0 where

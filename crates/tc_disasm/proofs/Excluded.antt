@@ -5,12 +5,12 @@ use Rattle.std.specs.Str.{bytes_eq}
 use Rattle.std.proofs.lemmas.Bool.{false≢true}
 use Rattle.tc_isa.specs.Rows.{RowData}
 use Rattle.tc_isa.specs.Words.{form_index}
-use Rattle.tc_stmt.specs.declared.wanting.Field.{Field}
-use Rattle.tc_stmt.specs.declared.wanting.Field.TheVariants.{S2, K}
-use Rattle.tc_stmt.specs.declared.wanting.Want.{Want}
-use Rattle.tc_stmt.specs.declared.wanting.Want.TheVariants.{Reg, A10, Number, Target, Absolute, Memory}
-use Rattle.tc_stmt.specs.Operands.{OperandData, ValueData, memory}
-use Rattle.tc_stmt.specs.Filling.{target_kind, reference, FoundData, fill, fill_plain, fill_register, fill_a10, fill_value, fill_memory, fill_target, fill_absolute, put_register, put_number, put_absolute, displaced, with_symbol, misplaced, broken, put, shape_index, half_kind, register_of, symbol_rule, is_symbol, is_half}
+use Rattle.tc_stmt.specs.declared.want.Field.{Field}
+use Rattle.tc_stmt.specs.declared.want.Field.TheVariants.{S2, K}
+use Rattle.tc_stmt.specs.declared.want.Want.{Want}
+use Rattle.tc_stmt.specs.declared.want.Want.TheVariants.{Reg, A10, Number, Target, Absolute, Memory}
+use Rattle.tc_lex.specs.Operands.{OperandData, ValueData, memory}
+use Rattle.tc_stmt.specs.RowFields.{target_kind, reference, RowFieldsData, fill, fill_plain, fill_register, fill_a10, fill_value, fill_memory, fill_target, fill_absolute, put_register, put_number, put_absolute, with_displacement, with_symbol, with_misplaced, with_rule, with_value, shape_index, half_kind, register_of, symbol_rule, is_symbol, is_half}
 use Rattle.tc_disasm.specs.Texts.{register_text}
 use Rattle.tc_disasm.specs.Refused.{Prints, IsRefused, Falls}
 use Rattle.tc_disasm.specs.Apart.{excludes, same_bool}
@@ -27,18 +27,18 @@ same : (a : ℕ) → a ≤ a
 same a = omega arith
 
 -- rules only fall
-module _ (acc : FoundData) where
-  chosen : (b : Bool) (f g : FoundData) → f.rule ≤ acc.rule → g.rule ≤ acc.rule → (cond b f g).rule ≤ acc.rule
+module _ (acc : RowFieldsData) where
+  chosen : (b : Bool) (f g : RowFieldsData) → f.rule ≤ acc.rule → g.rule ≤ acc.rule → (cond b f g).rule ≤ acc.rule
   chosen true f g p q = p
   chosen false f g p q = q
 
   none : Falls acc None
   none = record { is = tt }
 
-  fell : (f : FoundData) → f.rule ≤ acc.rule → Falls acc (Some f)
+  fell : (f : RowFieldsData) → f.rule ≤ acc.rule → Falls acc (Some f)
   fell f h = record { is = h }
 
-  or_else : (b : Bool) (f g : Option FoundData) → Falls acc f → Falls acc g → Falls acc (cond b f g)
+  or_else : (b : Bool) (f g : Option RowFieldsData) → Falls acc f → Falls acc g → Falls acc (cond b f g)
   or_else true f g p q = p
   or_else false f g p q = q
 
@@ -52,65 +52,65 @@ module _ (acc : FoundData) where
 
   falls-with_symbol : (kind : ℕ) (v : ValueData) → (with_symbol kind v acc).rule ≤ acc.rule
   unfolding with_symbol
-  falls-with_symbol kind v = chosen (symbol_rule v == 15) (record acc { reference = Some (reference kind v) }) (broken (symbol_rule v) acc) (same acc.rule) (lower acc.rule (symbol_rule v))
+  falls-with_symbol kind v = chosen (symbol_rule v == 15) (record acc { reference = Some (reference kind v) }) (with_rule (symbol_rule v) acc) (same acc.rule) (lower acc.rule (symbol_rule v))
 
   falls-value : (r : RowData) (signed : Bool) (field : Field) (v : ValueData) → Falls acc (fill_value r signed field v acc)
   unfolding fill_value
   falls-value r signed field v =
       or_else (shape_index v.shape == 1) _ _ (fell (put_number r.form signed field v.minus v.size acc) (falls-put_number r signed field v))
-      (or_else (shape_index v.shape == 7) _ _ (fell (broken 5 acc) (lower acc.rule 5))
-      (or_else (is_symbol (shape_index v.shape)) _ _ (fell (misplaced v acc) (lower acc.rule (min 10 (symbol_rule v))))
-      (or_else (is_half (shape_index v.shape)) _ _ (or_else (half_kind r v.shape == 0) _ _ (fell (misplaced v acc) (lower acc.rule (min 10 (symbol_rule v)))) (fell (with_symbol (half_kind r v.shape) v acc) (falls-with_symbol (half_kind r v.shape) v))) none)))
+      (or_else (shape_index v.shape == 7) _ _ (fell (with_rule 5 acc) (lower acc.rule 5))
+      (or_else (is_symbol (shape_index v.shape)) _ _ (fell (with_misplaced v acc) (lower acc.rule (min 10 (symbol_rule v))))
+      (or_else (is_half (shape_index v.shape)) _ _ (or_else (half_kind r v.shape == 0) _ _ (fell (with_misplaced v acc) (lower acc.rule (min 10 (symbol_rule v)))) (fell (with_symbol (half_kind r v.shape) v acc) (falls-with_symbol (half_kind r v.shape) v))) none)))
 
-  falls-displaced : (r : RowData) (minus : Bool) (size : ℕ) → (displaced r minus size acc).rule ≤ acc.rule
-  unfolding displaced
+  falls-displaced : (r : RowData) (minus : Bool) (size : ℕ) → (with_displacement r minus size acc).rule ≤ acc.rule
+  unfolding with_displacement
   falls-displaced r minus size = chosen _ _ _ (same acc.rule) (lower acc.rule _)
 
   pub falls-target : (r : RowData) (v : ValueData) → Falls acc (fill_target r v acc)
   unfolding fill_target
   falls-target r v =
-      or_else (shape_index v.shape == 3 && bytes_eq v.name (codes ".")) _ _ (fell (cond v.wide (broken 5 acc) (displaced r v.minus v.size acc)) (chosen v.wide (broken 5 acc) (displaced r v.minus v.size acc) (lower acc.rule 5) (falls-displaced r v.minus v.size)))
+      or_else (shape_index v.shape == 3 && bytes_eq v.name (codes ".")) _ _ (fell (cond v.wide (with_rule 5 acc) (with_displacement r v.minus v.size acc)) (chosen v.wide (with_rule 5 acc) (with_displacement r v.minus v.size acc) (lower acc.rule 5) (falls-displaced r v.minus v.size)))
       (or_else (is_symbol (shape_index v.shape)) _ _ (fell (with_symbol (target_kind r) v acc) (falls-with_symbol (target_kind r) v))
-      (or_else (is_half (shape_index v.shape)) _ _ (fell (misplaced v acc) (lower acc.rule (min 10 (symbol_rule v)))) none))
+      (or_else (is_half (shape_index v.shape)) _ _ (fell (with_misplaced v acc) (lower acc.rule (min 10 (symbol_rule v)))) none))
 
   falls-put_absolute : (r : RowData) (minus : Bool) (size : ℕ) → (put_absolute r.form minus size acc).rule ≤ acc.rule
   unfolding put_absolute
   falls-put_absolute r minus size =
-      let abs = put K (size / 2 ^ 28 * 2 ^ 14 + size % 2 ^ 14) acc in
-      let far = put K (size / 2 ^ 28 * 2 ^ 20 + size % 2 ^ 21 / 2) acc in
-      chosen ((minus && not (size == 0)) || nat_le (2 ^ 32) size) (broken 5 acc) _ (lower acc.rule 5)
+      let abs = with_value K (size / 2 ^ 28 * 2 ^ 14 + size % 2 ^ 14) acc in
+      let far = with_value K (size / 2 ^ 28 * 2 ^ 20 + size % 2 ^ 21 / 2) acc in
+      chosen ((minus && not (size == 0)) || nat_le (2 ^ 32) size) (with_rule 5 acc) _ (lower acc.rule 5)
       (chosen (form_index r.form == 8) _ _
-      (chosen (size / 2 ^ 14 % 2 ^ 14 == 0) abs (broken 5 acc) (same acc.rule) (lower acc.rule 5))
-      (chosen (size / 2 ^ 21 % 2 ^ 7 == 0 && size % 2 == 0) far (broken 5 acc) (same acc.rule) (lower acc.rule 5)))
+      (chosen (size / 2 ^ 14 % 2 ^ 14 == 0) abs (with_rule 5 acc) (same acc.rule) (lower acc.rule 5))
+      (chosen (size / 2 ^ 21 % 2 ^ 7 == 0 && size % 2 == 0) far (with_rule 5 acc) (same acc.rule) (lower acc.rule 5)))
 
   falls-absolute : (r : RowData) (v : ValueData) → Falls acc (fill_absolute r v acc)
   unfolding fill_absolute
   falls-absolute r v =
       or_else (shape_index v.shape == 1) _ _ (fell (put_absolute r.form v.minus v.size acc) (falls-put_absolute r v.minus v.size))
-      (or_else (shape_index v.shape == 7) _ _ (fell (broken 5 acc) (lower acc.rule 5))
-      (or_else (is_symbol (shape_index v.shape)) _ _ (or_else (form_index r.form == 8) _ _ (fell (misplaced v acc) (lower acc.rule (min 10 (symbol_rule v)))) (fell (with_symbol 2 v acc) (falls-with_symbol 2 v)))
-      (or_else (is_half (shape_index v.shape)) _ _ (fell (misplaced v acc) (lower acc.rule (min 10 (symbol_rule v)))) none)))
+      (or_else (shape_index v.shape == 7) _ _ (fell (with_rule 5 acc) (lower acc.rule 5))
+      (or_else (is_symbol (shape_index v.shape)) _ _ (or_else (form_index r.form == 8) _ _ (fell (with_misplaced v acc) (lower acc.rule (min 10 (symbol_rule v)))) (fell (with_symbol 2 v acc) (falls-with_symbol 2 v)))
+      (or_else (is_half (shape_index v.shape)) _ _ (fell (with_misplaced v acc) (lower acc.rule (min 10 (symbol_rule v)))) none)))
 
   falls-a10 : (v : ValueData) → Falls acc (fill_a10 v acc)
   unfolding fill_a10
-  falls-a10 v = or_else (shape_index v.shape == 2) _ _ (or_else (bytes_eq v.name (codes "a10")) _ _ (fell acc (same acc.rule)) (fell (broken 4 acc) (lower acc.rule 4))) none
+  falls-a10 v = or_else (shape_index v.shape == 2) _ _ (or_else (bytes_eq v.name (codes "a10")) _ _ (fell acc (same acc.rule)) (fell (with_rule 4 acc) (lower acc.rule 4))) none
 
   falls-register : (bank : Bool) (field : Field) (v : ValueData) → Falls acc (fill_register bank field v acc)
   unfolding fill_register
   falls-register bank field v = or_else (shape_index v.shape == 2) _ _ (fell (put_register bank field v.name acc) (falls-put_register bank field v.name)) none
 
-under : (acc b : FoundData) (o : Option FoundData) → b.rule ≤ acc.rule → Falls b o → Falls acc o
+under : (acc b : RowFieldsData) (o : Option RowFieldsData) → b.rule ≤ acc.rule → Falls b o → Falls acc o
 under acc b None h p = record { is = tt }
 under acc b (Some f) h p = let at : f.rule ≤ b.rule = p.is in record { is = omega (arith, at) }
 
-falls-memory : (acc : FoundData) (r : RowData) (plus offset : Bool) (o : OperandData) → Falls acc (fill_memory r plus offset o acc)
+falls-memory : (acc : RowFieldsData) (r : RowData) (plus offset : Bool) (o : OperandData) → Falls acc (fill_memory r plus offset o acc)
 unfolding fill_memory
 falls-memory acc r plus offset o =
     let first = put_register true S2 o.base acc in
     let below = falls-put_register acc true S2 o.base in
     or_else acc (o.is_memory && (if o.plus then plus else not plus)) _ _ (or_else acc (shape_index o.value.shape == 0) _ _ (fell acc first below) (or_else acc offset _ _ (under acc first _ below (falls-value first r true K o.value)) (none acc))) (none acc)
 
-pub falls : (acc : FoundData) (r : RowData) (w : Want) (o : OperandData) → Falls acc (fill r w o acc)
+pub falls : (acc : RowFieldsData) (r : RowData) (w : Want) (o : OperandData) → Falls acc (fill r w o acc)
 unfolding fill fill_plain
 falls acc r (Reg p x) o = or_else acc o.is_memory _ _ (none acc) (falls-register acc p x o.value)
 falls acc r A10 o = or_else acc o.is_memory _ _ (none acc) (falls-a10 acc o.value)
@@ -122,20 +122,20 @@ falls acc r (Memory p u) o = falls-memory acc r p u o
 misplaced_there : (a n : ℕ) → min a (min 10 n) < 15
 misplaced_there a n = omega arith
 
-refused-bank : (acc : FoundData) (p q : Bool) (y : Field) (n : ℕ) → n < 16 → not (same_bool p q) ≡ true → (put_register q y (register_text p n) acc).rule < 15
+refused-bank : (acc : RowFieldsData) (p q : Bool) (y : Field) (n : ℕ) → n < 16 → not (same_bool p q) ≡ true → (put_register q y (register_text p n) acc).rule < 15
 unfolding put_register
 refused-bank acc true true y n h e = absurd (false≢true e)
 refused-bank acc false false y n h e = absurd (false≢true e)
 refused-bank acc true false y n h e =
     let bank : (16 + n) / 16 ≡ 1 = omega arith in
     let reg : register_of (register_text true n) / 16 ≡ 1 = ap (λ m. m / 16) (register_of-text true n h) ∙ bank in
-    subst (λ (m : ℕ). (cond (m == 0) (put y (register_of (register_text true n) % 16) acc) (broken 4 acc)).rule < 15) (sym reg) (omega arith)
+    subst (λ (m : ℕ). (cond (m == 0) (with_value y (register_of (register_text true n) % 16) acc) (with_rule 4 acc)).rule < 15) (sym reg) (omega arith)
 refused-bank acc false true y n h e =
     let bank : (0 + n) / 16 ≡ 0 = omega arith in
     let reg : register_of (register_text false n) / 16 ≡ 0 = ap (λ m. m / 16) (register_of-text false n h) ∙ bank in
-    subst (λ (m : ℕ). (cond (m == 1) (put y (register_of (register_text false n) % 16) acc) (broken 4 acc)).rule < 15) (sym reg) (omega arith)
+    subst (λ (m : ℕ). (cond (m == 1) (with_value y (register_of (register_text false n) % 16) acc) (with_rule 4 acc)).rule < 15) (sym reg) (omega arith)
 
-refused-plus : (r : RowData) (acc : FoundData) (p q offset : Bool) (text : List ℕ) (v : ValueData) → not (same_bool p q) ≡ true → IsRefused (fill r (Memory q offset) (memory p text v) acc)
+refused-plus : (r : RowData) (acc : RowFieldsData) (p q offset : Bool) (text : List ℕ) (v : ValueData) → not (same_bool p q) ≡ true → IsRefused (fill r (Memory q offset) (memory p text v) acc)
 unfolding fill fill_memory
 refused-plus r acc true true offset text v e = absurd (false≢true e)
 refused-plus r acc false false offset text v e = absurd (false≢true e)
@@ -143,7 +143,7 @@ refused-plus r acc true false offset text v e = tt
 refused-plus r acc false true offset text v e = tt
 
 -- what is printed for a want that excludes another is refused there
-pub refused-there : (r : RowData) (acc : FoundData) (w v : Want) (o : OperandData) → excludes w v ≡ true → Prints w o → IsRefused (fill r v o acc)
+pub refused-there : (r : RowData) (acc : RowFieldsData) (w v : Want) (o : OperandData) → excludes w v ≡ true → Prints w o → IsRefused (fill r v o acc)
 unfolding excludes fill fill_plain fill_register fill_a10 fill_value fill_memory fill_target fill_absolute shape_index
 refused-there r acc (Reg p x) (Reg q y) o e b = subst (λ (q2 : OperandData). IsRefused (fill r (Reg q y) q2 acc)) (sym b.2) (refused-bank acc p q y b.0 b.1 e)
 refused-there r acc (Reg p x) A10 o e b = absurd (false≢true e)

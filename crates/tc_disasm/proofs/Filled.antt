@@ -7,17 +7,17 @@ use Rattle.tc_isa.specs.Words.{form_index}
 use Rattle.tc_isa.specs.Codec.{is_long}
 use Rattle.tc_isa.specs.Shapes.{place, code_place}
 use Rattle.tc_isa.specs.declared.fields.Fields.{Fields}
-use Rattle.tc_stmt.specs.declared.wanting.Field.TheVariants.{K}
+use Rattle.tc_stmt.specs.declared.want.Field.TheVariants.{K}
 use Rattle.std.specs.Fmt.{decimal}
 use Rattle.tc_isa.specs.Rows.{RowData}
 use Rattle.tc_isa.specs.Words.{bounds}
-use Rattle.tc_stmt.specs.declared.values.Shape.TheVariants as shape
-use Rattle.tc_stmt.specs.declared.wanting.Field.{Field}
-use Rattle.tc_stmt.specs.declared.wanting.Want.TheVariants.{Reg, Number, Target}
-use Rattle.tc_stmt.specs.Operands.{operand, value_at, number_at, named_at, sum_at, value, plain, plain_number, added}
-use Rattle.tc_stmt.specs.Pieces.{is_kind, text_at, kind_index}
-use Rattle.tc_stmt.specs.Numbers.{number_of}
-use Rattle.tc_stmt.specs.Filling.{FoundData, fill, fill_plain, fill_register, fill_value, fill_target, displaced, displacement_rule, is_odd, shape_index, put, put_register, put_number, broken, field_of, wrapped}
+use Rattle.tc_lex.specs.declared.operand.Shape.TheVariants as shape
+use Rattle.tc_stmt.specs.declared.want.Field.{Field}
+use Rattle.tc_stmt.specs.declared.want.Want.TheVariants.{Reg, Number, Target}
+use Rattle.tc_lex.specs.Operands.{operand, value_at, number_at, named_at, sum_at, value, plain, plain_number, with_number}
+use Rattle.tc_lex.specs.Pieces.{is_kind, text_at, kind_index}
+use Rattle.tc_lex.specs.Numbers.{number_of}
+use Rattle.tc_stmt.specs.RowFields.{RowFieldsData, fill, fill_plain, fill_register, fill_value, fill_target, with_displacement, displacement_rule, is_odd, shape_index, with_value, put_register, put_number, with_rule, field_of, wrap}
 use Rattle.tc_disasm.specs.Texts.{register_text, is_minus, size_of}
 use Rattle.tc_disasm.specs.Tokens.{field_number}
 use Rattle.tc_disasm.proofs.Registers.{register_of-text}
@@ -36,30 +36,30 @@ same_test : (bank : Bool) → (cond bank 1 0 == cond bank 1 0) ≡ true
 same_test true = refl
 same_test false = refl
 
-pub put_register-text : (bank : Bool) (field : Field) (n : ℕ) (acc : FoundData) → n < 16 → put_register bank field (register_text bank n) acc ≡ put field n acc
+pub put_register-text : (bank : Bool) (field : Field) (n : ℕ) (acc : RowFieldsData) → n < 16 → put_register bank field (register_text bank n) acc ≡ with_value field n acc
 unfolding put_register
 put_register-text bank field n acc h =
     let is = bank_is bank n h in
-    ap (λ r. cond (r / 16 == cond bank 1 0) (put field (r % 16) acc) (broken 4 acc)) (register_of-text bank n h)
-    ∙ ap (λ q. cond (q == cond bank 1 0) (put field ((cond bank 16 0 + n) % 16) acc) (broken 4 acc)) is.0
-    ∙ ap (λ b. cond b (put field ((cond bank 16 0 + n) % 16) acc) (broken 4 acc)) (same_test bank)
-    ∙ ap (λ m. put field m acc) is.1
+    ap (λ r. cond (r / 16 == cond bank 1 0) (with_value field (r % 16) acc) (with_rule 4 acc)) (register_of-text bank n h)
+    ∙ ap (λ q. cond (q == cond bank 1 0) (with_value field ((cond bank 16 0 + n) % 16) acc) (with_rule 4 acc)) is.0
+    ∙ ap (λ b. cond b (with_value field ((cond bank 16 0 + n) % 16) acc) (with_rule 4 acc)) (same_test bank)
+    ∙ ap (λ m. with_value field m acc) is.1
 
-pub fill-register : (r : RowData) (bank : Bool) (field : Field) (n : ℕ) (acc : FoundData) → n < 16 → fill r (Reg bank field) (plain (value shape.Word (register_text bank n) false 0)) acc ≡ Some (put field n acc)
+pub fill-register : (r : RowData) (bank : Bool) (field : Field) (n : ℕ) (acc : RowFieldsData) → n < 16 → fill r (Reg bank field) (plain (value shape.Word (register_text bank n) false 0)) acc ≡ Some (with_value field n acc)
 unfolding fill fill_plain fill_register shape_index
 fill-register r bank field n acc h = ap (λ f. Some f) (put_register-text bank field n acc h)
 
-pub put_number-printed : (r : RowData) (signed : Bool) (field : Field) (v : ℕ) (acc : FoundData) → v < field_of field (bounds r.form) → field_of field (bounds r.form) % 2 ≡ 0
-    → put_number r.form signed field (is_minus signed (field_of field (bounds r.form)) v) (size_of signed (field_of field (bounds r.form)) v) acc ≡ put field v acc
+pub put_number-printed : (r : RowData) (signed : Bool) (field : Field) (v : ℕ) (acc : RowFieldsData) → v < field_of field (bounds r.form) → field_of field (bounds r.form) % 2 ≡ 0
+    → put_number r.form signed field (is_minus signed (field_of field (bounds r.form)) v) (size_of signed (field_of field (bounds r.form)) v) acc ≡ with_value field v acc
 unfolding put_number
 put_number-printed r signed field v acc h even =
     let bound = field_of field (bounds r.form) in
-    ap (λ b. cond b (put field (wrapped bound (is_minus signed bound v) (size_of signed bound v)) acc) (broken 5 acc)) (fits-printed signed bound v h even)
-    ∙ ap (λ w. put field w acc) (wrapped-printed signed bound v h even)
+    ap (λ b. cond b (with_value field (wrap bound (is_minus signed bound v) (size_of signed bound v)) acc) (with_rule 5 acc)) (fits-printed signed bound v h even)
+    ∙ ap (λ w. with_value field w acc) (wrapped-printed signed bound v h even)
 
 -- a printed constant, read and filled in
-pub fill-number : (r : RowData) (signed : Bool) (field : Field) (v : ℕ) (acc : FoundData) → v < field_of field (bounds r.form) → field_of field (bounds r.form) % 2 ≡ 0 → size_of signed (field_of field (bounds r.form)) v < 2 ^ 64
-    → fill r (Number signed field) (operand (field_number signed (field_of field (bounds r.form)) v)) acc ≡ Some (put field v acc)
+pub fill-number : (r : RowData) (signed : Bool) (field : Field) (v : ℕ) (acc : RowFieldsData) → v < field_of field (bounds r.form) → field_of field (bounds r.form) % 2 ≡ 0 → size_of signed (field_of field (bounds r.form)) v < 2 ^ 64
+    → fill r (Number signed field) (operand (field_number signed (field_of field (bounds r.form)) v)) acc ≡ Some (with_value field v acc)
 unfolding fill fill_plain fill_value shape_index
 fill-number r signed field v acc h even small =
     let bound = field_of field (bounds r.form) in
@@ -87,25 +87,25 @@ rule-printed r v h even =
     ap (λ b. min (cond b (cond (is_long r) 5 11) 15) (cond (is_odd (2 * size)) 6 15)) (near (form_index r.form == 13) (bounds r.form).k v h even)
     ∙ ap (λ b. min 15 (cond b 6 15)) (even_twice size)
 
-displaced-printed : (r : RowData) (v : ℕ) (acc : FoundData) → v < (bounds r.form).k → (bounds r.form).k % 2 ≡ 0
-    → displaced r (is_minus (is_two_way r.form) (bounds r.form).k v) (2 * size_of (is_two_way r.form) (bounds r.form).k v) acc ≡ put K v acc
-unfolding displaced
+displaced-printed : (r : RowData) (v : ℕ) (acc : RowFieldsData) → v < (bounds r.form).k → (bounds r.form).k % 2 ≡ 0
+    → with_displacement r (is_minus (is_two_way r.form) (bounds r.form).k v) (2 * size_of (is_two_way r.form) (bounds r.form).k v) acc ≡ with_value K v acc
+unfolding with_displacement
 displaced-printed r v acc h even =
     let bound = (bounds r.form).k in
     let minus = is_minus (is_two_way r.form) bound v in
     let size = size_of (is_two_way r.form) bound v in
-    ap (λ n. cond (n == 15) (put K (wrapped bound minus (2 * size / 2)) acc) (broken n acc)) (rule-printed r v h even)
-    ∙ ap (λ n. put K (wrapped bound minus n) acc) (half size)
-    ∙ ap (λ n. put K n acc) (wrapped-printed (is_two_way r.form) bound v h even)
+    ap (λ n. cond (n == 15) (with_value K (wrap bound minus (2 * size / 2)) acc) (with_rule n acc)) (rule-printed r v h even)
+    ∙ ap (λ n. with_value K (wrap bound minus n) acc) (half size)
+    ∙ ap (λ n. with_value K n acc) (wrapped-printed (is_two_way r.form) bound v h even)
 
-pub fill-target : (r : RowData) (v : ℕ) (acc : FoundData) → v < (bounds r.form).k → (bounds r.form).k % 2 ≡ 0 → 2 * size_of (is_two_way r.form) (bounds r.form).k v < 2 ^ 64
-    → fill r Target (operand (target (is_two_way r.form) (bounds r.form).k v)) acc ≡ Some (put K v acc)
+pub fill-target : (r : RowData) (v : ℕ) (acc : RowFieldsData) → v < (bounds r.form).k → (bounds r.form).k % 2 ≡ 0 → 2 * size_of (is_two_way r.form) (bounds r.form).k v < 2 ^ 64
+    → fill r Target (operand (target (is_two_way r.form) (bounds r.form).k v)) acc ≡ Some (with_value K v acc)
 unfolding fill fill_plain fill_target shape_index
 fill-target r v acc h even small =
     let minus = is_minus (is_two_way r.form) (bounds r.form).k v in
     let size = size_of (is_two_way r.form) (bounds r.form).k v in
     ap (λ o. fill r Target o acc) (operand-target minus (codes ".") (decimal (2 * size)))
-    ∙ ap (λ n. fill r Target (plain (added shape.Sum (codes ".") minus n)) acc) (number_of-decimal (2 * size) small)
+    ∙ ap (λ n. fill r Target (plain (with_number shape.Sum (codes ".") minus n)) acc) (number_of-decimal (2 * size) small)
     ∙ ap (λ f. Some f) (displaced-printed r v acc h even)
 
 -- ---- absolute addresses
@@ -114,14 +114,14 @@ unfolding operand value_at number_at named_at sum_at is_kind text_at kind_index
 operand-one text = refl
 
 -- the address of an ABS row, and of a B row
-pub place-put : (f : Fields) (acc : FoundData) → f.k < 2 ^ 18 → cond (nat_le (2 ^ 32) (place f)) (broken 5 acc) (cond (place f / 2 ^ 14 % 2 ^ 14 == 0) (put K (place f / 2 ^ 28 * 2 ^ 14 + place f % 2 ^ 14) acc) (broken 5 acc)) ≡ put K f.k acc
+pub place-put : (f : Fields) (acc : RowFieldsData) → f.k < 2 ^ 18 → cond (nat_le (2 ^ 32) (place f)) (with_rule 5 acc) (cond (place f / 2 ^ 14 % 2 ^ 14 == 0) (with_value K (place f / 2 ^ 28 * 2 ^ 14 + place f % 2 ^ 14) acc) (with_rule 5 acc)) ≡ with_value K f.k acc
 place-put f acc h =
     let low : nat_le (2 ^ 32) (place f) ≡ false = grind (arith, nat_tests) in
     let gap : (place f / 2 ^ 14 % 2 ^ 14 == 0) ≡ true = grind (arith, nat_tests) in
     let back : place f / 2 ^ 28 * 2 ^ 14 + place f % 2 ^ 14 ≡ f.k = omega arith in
     rw (low, gap, back) refl
 
-pub code_place-put : (f : Fields) (acc : FoundData) → f.k < 2 ^ 24 → cond (nat_le (2 ^ 32) (code_place f)) (broken 5 acc) (cond (code_place f / 2 ^ 21 % 2 ^ 7 == 0 && code_place f % 2 == 0) (put K (code_place f / 2 ^ 28 * 2 ^ 20 + code_place f % 2 ^ 21 / 2) acc) (broken 5 acc)) ≡ put K f.k acc
+pub code_place-put : (f : Fields) (acc : RowFieldsData) → f.k < 2 ^ 24 → cond (nat_le (2 ^ 32) (code_place f)) (with_rule 5 acc) (cond (code_place f / 2 ^ 21 % 2 ^ 7 == 0 && code_place f % 2 == 0) (with_value K (code_place f / 2 ^ 28 * 2 ^ 20 + code_place f % 2 ^ 21 / 2) acc) (with_rule 5 acc)) ≡ with_value K f.k acc
 code_place-put f acc h =
     let low : nat_le (2 ^ 32) (code_place f) ≡ false = grind (arith, nat_tests) in
     let gap : (code_place f / 2 ^ 21 % 2 ^ 7 == 0) ≡ true = grind (arith, nat_tests) in

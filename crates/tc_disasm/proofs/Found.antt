@@ -7,22 +7,22 @@ use Rattle.std.proofs.lemmas.Bool.{false≢true}
 use Rattle.std.proofs.lemmas.Bool.Decides.{nat_tests}
 use Rattle.tc_isa.specs.Rows.{RowData}
 use Rattle.tc_isa.specs.Codec.{is_apart}
-use Rattle.tc_stmt.specs.declared.tallying.Tally.{Tally}
-use Rattle.tc_stmt.specs.declared.wanting.Want.{Want}
+use Rattle.tc_stmt.specs.declared.tally.Tally.{Tally}
+use Rattle.tc_stmt.specs.declared.want.Want.{Want}
 use Rattle.tc_stmt.specs.Wants.{wants_of}
-use Rattle.tc_stmt.specs.Operands.{OperandData}
-use Rattle.tc_stmt.specs.Filling.{FoundData, fill, fill_all, judged, nothing, apart, broken}
-use Rattle.tc_stmt.specs.Judging.{stepped}
+use Rattle.tc_lex.specs.Operands.{OperandData}
+use Rattle.tc_stmt.specs.RowFields.{RowFieldsData, fill, fill_all, fields_of_row, no_fields, kept_apart, with_rule}
+use Rattle.tc_stmt.specs.StatementRow.{after_row}
 use Rattle.tc_disasm.specs.Refused.{AllPrint, IsRefused, falls_by}
 use Rattle.tc_disasm.specs.Apart.{excludes, differ}
 use Rattle.tc_disasm.proofs.Excluded.{falls, refused-there}
 
-then_refused : (next : FoundData → Option FoundData) (o : Option FoundData) → ((f : FoundData) → o ≡ Some f → IsRefused (next f)) → IsRefused (option_and_then next o)
+then_refused : (next : RowFieldsData → Option RowFieldsData) (o : Option RowFieldsData) → ((f : RowFieldsData) → o ≡ Some f → IsRefused (next f)) → IsRefused (option_and_then next o)
 then_refused next None k = tt
 then_refused next (Some f) k = k f refl
 
 -- a rule once broken refuses, whatever comes
-stays-refused : (r : RowData) (vs : List Want) (os : List OperandData) (acc : FoundData) → acc.rule < 15 → IsRefused (fill_all r vs os acc)
+stays-refused : (r : RowData) (vs : List Want) (os : List OperandData) (acc : RowFieldsData) → acc.rule < 15 → IsRefused (fill_all r vs os acc)
 unfolding fill_all
 stays-refused r [] [] acc h = h
 stays-refused r [] (o ∷ os) acc h = tt
@@ -31,7 +31,7 @@ stays-refused r (v ∷ vs) (o ∷ os) acc h =
     then_refused (fill_all r vs os) (fill r v o acc)
     (λ f e. let less : f.rule ≤ acc.rule = subst (falls_by acc) e (falls acc r v o).is in stays-refused r vs os f (omega (arith, less)))
 
-refused-all : (r : RowData) (ws vs : List Want) (os : List OperandData) (acc : FoundData) → differ ws vs ≡ true → AllPrint ws os → IsRefused (fill_all r vs os acc)
+refused-all : (r : RowData) (ws vs : List Want) (os : List OperandData) (acc : RowFieldsData) → differ ws vs ≡ true → AllPrint ws os → IsRefused (fill_all r vs os acc)
 unfolding fill_all differ
 refused-all r [] [] os acc e p = absurd (false≢true e)
 refused-all r [] (v ∷ vs) [] acc e p = tt
@@ -40,30 +40,30 @@ refused-all r (w ∷ ws) vs [] acc e p = absurd p
 refused-all r (w ∷ ws) [] (o ∷ os) acc e p = tt
 refused-all r (w ∷ ws) (v ∷ vs) (o ∷ os) acc e p = by_first (excludes w v) refl e (λ d f. refused-all r ws vs os f d p.1)
   where
-    by_first : (b : Bool) → excludes w v ≡ b → (b || differ ws vs) ≡ true → (differ ws vs ≡ true → (f : FoundData) → IsRefused (fill_all r vs os f)) → IsRefused (option_and_then (fill_all r vs os) (fill r v o acc))
+    by_first : (b : Bool) → excludes w v ≡ b → (b || differ ws vs) ≡ true → (differ ws vs ≡ true → (f : RowFieldsData) → IsRefused (fill_all r vs os f)) → IsRefused (option_and_then (fill_all r vs os) (fill r v o acc))
     by_first true is d rest = then_refused (fill_all r vs os) (fill r v o acc) (λ f at. stays-refused r vs os f (subst IsRefused at (refused-there r acc w v o is p.0)))
     by_first false is d rest = then_refused (fill_all r vs os) (fill r v o acc) (λ f at. rest d f)
 
-lower : (r : RowData) (f : FoundData) → f.rule < 15 → (apart r f).rule < 15
+lower : (r : RowData) (f : RowFieldsData) → f.rule < 15 → (kept_apart r f).rule < 15
 lower r f h = by_test (is_apart r f.fields)
   where
-    by_test : (b : Bool) → (cond b f (broken 12 f)).rule < 15
+    by_test : (b : Bool) → (cond b f (with_rule 12 f)).rule < 15
     by_test true = h
     by_test false = omega (arith, h)
 
-pub refused-judged : (r : RowData) (ws vs : List Want) (os : List OperandData) → differ ws vs ≡ true → AllPrint ws os → IsRefused (judged r vs os)
-unfolding judged
-refused-judged r ws vs os d p = then_refused (λ f. Some (apart r f)) (fill_all r vs os nothing) (λ f e. lower r f (subst IsRefused e (refused-all r ws vs os nothing d p)))
+pub refused-judged : (r : RowData) (ws vs : List Want) (os : List OperandData) → differ ws vs ≡ true → AllPrint ws os → IsRefused (fields_of_row r vs os)
+unfolding fields_of_row
+refused-judged r ws vs os d p = then_refused (λ f. Some (kept_apart r f)) (fill_all r vs os no_fields) (λ f e. lower r f (subst IsRefused e (refused-all r ws vs os no_fields d p)))
 
 -- a row that refuses goes on to the next
-pub goes_on : (name : List ℕ) (os : List OperandData) (r : RowData) (t : Tally) → IsRefused (judged r (wants_of r) os) → (u : Tally) × (stepped name os r t ≡ Err u)
-unfolding stepped
-goes_on name os r t refused = by_name (bytes_eq r.name name) (judged r (wants_of r) os) refused
+pub goes_on : (name : List ℕ) (os : List OperandData) (r : RowData) (t : Tally) → IsRefused (fields_of_row r (wants_of r) os) → (u : Tally) × (after_row name os r t ≡ Err u)
+unfolding after_row
+goes_on name os r t refused = by_name (bytes_eq r.name name) (fields_of_row r (wants_of r) os) refused
   where
-    small : (f : FoundData) → f.rule < 15 → (f.rule == 15) ≡ false
+    small : (f : RowFieldsData) → f.rule < 15 → (f.rule == 15) ≡ false
     small f h = grind (arith, nat_tests)
 
-    by_name : (b : Bool) (o : Option FoundData) → IsRefused o
+    by_name : (b : Bool) (o : Option RowFieldsData) → IsRefused o
         → (u : Tally) × (cond b (option_map_or (λ f. cond (f.rule == 15) (Ok f) (Err (record { named = true; fits = true; least = min t.least f.rule }))) o (Err (record t { named = true }))) (Err t) ≡ Err u)
     by_name false o h = (t, refl)
     by_name true None h = (_, refl)

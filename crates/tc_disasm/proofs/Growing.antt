@@ -12,8 +12,8 @@ use Rattle.std.proofs.lemmas.Fmt.{length-decimal-le}
 use Rattle.tc_lex.specs.Bytes.{is_digit}
 use Rattle.tc_object.specs.Names.{is_first, is_further, is_length}
 use Rattle.tc_stmt.specs.Names.{is_name}
-use Rattle.tc_asm.specs.Items.{section}
-use Rattle.tc_asm.specs.Lines.{LineData, line_data}
+use Rattle.tc_stmt.specs.Items.{section}
+use Rattle.tc_stmt.specs.Lines.{LineData, line_data}
 use Rattle.tc_asm.specs.Symbols.{SymbolData}
 use Rattle.tc_asm.specs.Drafts.{PartData, DraftData, part, has_section, has_room, number_of_part, entered, extended, with_bytes, stepped}
 use Rattle.tc_asm.specs.Rules.{content_rule, item_rule}

@@ -4,7 +4,7 @@ use Rattle.std.specs.Prelude.{fold}
 use Rattle.std.proofs.lemmas.Bool.Decides.{nat_tests}
 use Rattle.tc_lex.specs.Bytes.{is_digit, is_hex}
 use Rattle.tc_lex.specs.Cut.{has_hex_front}
-use Rattle.tc_stmt.specs.Numbers.{digit_of, add_digit, number_of, bounded}
+use Rattle.tc_lex.specs.Numbers.{digit_of, add_digit, number_of, below_2_128}
 use Rattle.hex_text.specs.Digits.{hex_digit, hex_byte, hex_word}
 use Rattle.tc_disasm.proofs.Decimals.{bounded-small}
 
@@ -19,7 +19,7 @@ digit_of-hex n h = grind (arith, nat_tests)
 -- one digit more
 added-hex : (m d : ℕ) → d < 16 → m < 2 ^ 32 → add_digit 16 (Some m) (hex_digit d) ≡ Some (m * 16 + d)
 unfolding add_digit
-added-hex m d digit h = ap (λ x. bounded (m * 16 + x)) (digit_of-hex d digit) ∙ bounded-small (m * 16 + d) (omega arith)
+added-hex m d digit h = ap (λ x. below_2_128 (m * 16 + x)) (digit_of-hex d digit) ∙ bounded-small (m * 16 + d) (omega arith)
 
 -- one byte more
 pub added-byte : (m b : ℕ) (rest : List ℕ) → b < 256 → m < 2 ^ 24 → fold (add_digit 16) (Some m) (hex_byte b ++ rest) ≡ fold (add_digit 16) (Some (m * 256 + b)) rest

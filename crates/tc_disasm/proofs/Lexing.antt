@@ -11,7 +11,7 @@ use Rattle.tc_lex.specs.declared.kinds.TokenKind.TheVariants.{Word, Number}
 use Rattle.tc_lex.specs.declared.kinds.Front.TheVariants as front
 use Rattle.tc_lex.specs.Bytes.{is_digit, is_name_first, is_name_byte, is_hex}
 use Rattle.tc_lex.specs.Cut.{front_of, front_at, number_len, has_hex_front}
-use Rattle.tc_stmt.specs.Pieces.{PieceData}
+use Rattle.tc_lex.specs.Pieces.{PieceData}
 use Rattle.tc_disasm.specs.Tokens.{piece}
 use Rattle.tc_disasm.specs.Lexed.{lexed, lex_follow, IsStop}
 use Rattle.tc_disasm.proofs.Decimals.{both, dead, not_x}

@@ -9,8 +9,8 @@ use Rattle.tc_isa.specs.Insts.{InstData, fields_in}
 use Rattle.tc_encode.specs.declared.errors.DecodeErr.{DecodeErr}
 use Rattle.tc_encode.specs.Decoding.{decoded_of}
 use Rattle.tc_encode.proofs.DecodeProofs.{decode_laws}
-use Rattle.tc_asm.specs.Items.{bytes, section, code}
-use Rattle.tc_asm.specs.Lines.{LineData, line_data}
+use Rattle.tc_stmt.specs.Items.{bytes, section, code}
+use Rattle.tc_stmt.specs.Lines.{LineData, line_data}
 use Rattle.tc_lex.specs.Bytes.{is_digit, is_name_first, is_name_byte}
 use Rattle.hex_text.specs.Digits.{hex_digit, hex_byte, hex_word}
 use Rattle.tc_disasm.specs.Texts.{text_of}

@@ -11,8 +11,8 @@ use Rattle.tc_lex.specs.declared.kinds.TokenKind.{TokenKind}
 use Rattle.tc_lex.specs.declared.kinds.Front.TheVariants as front
 use Rattle.tc_lex.specs.Cut.{cut, front_of, front_at, follow, with_front, token}
 use Rattle.tc_lex.proofs.CutLaws.{cut-skip}
-use Rattle.tc_stmt.specs.Pieces.{PieceData}
-use Rattle.tc_asm.specs.Lines.{LineData, line_in, cut_line, pieces_line, piece_in, text_in}
+use Rattle.tc_lex.specs.Pieces.{PieceData}
+use Rattle.tc_stmt.specs.Lines.{LineData, line_in, cut_line, pieces_line, piece_in, text_in}
 use Rattle.tc_disasm.specs.Tokens.{piece}
 
 -- the tokens of a text behind `pre` in its line, at most `room`

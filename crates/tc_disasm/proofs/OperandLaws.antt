@@ -2,10 +2,10 @@
 use Rattle.std.proofs.Common.{◌≡◌, ℕ, Bool, true, false, List, [], ◌∷◌, ◌++◌, refl}
 use Rattle.std.specs.Prelude.{if◌then◌else◌}
 use Rattle.tc_lex.specs.declared.kinds.TokenKind.TheVariants as kind
-use Rattle.tc_stmt.specs.declared.values.Shape.TheVariants as shape
-use Rattle.tc_stmt.specs.Pieces.{is_kind, text_at, kind_index}
-use Rattle.tc_stmt.specs.Numbers.{number_of}
-use Rattle.tc_stmt.specs.Operands.{operand, value_at, number_at, named_at, sum_at, value, plain, memory, plain_number, added}
+use Rattle.tc_lex.specs.declared.operand.Shape.TheVariants as shape
+use Rattle.tc_lex.specs.Pieces.{is_kind, text_at, kind_index}
+use Rattle.tc_lex.specs.Numbers.{number_of}
+use Rattle.tc_lex.specs.Operands.{operand, value_at, number_at, named_at, sum_at, value, plain, memory, plain_number, with_number}
 use Rattle.std.specs.Fmt.{decimal}
 use Rattle.tc_disasm.specs.Texts.{register_text}
 use Rattle.tc_disasm.specs.Tokens.{piece, number, base}
@@ -19,7 +19,7 @@ unfolding operand value_at number_at named_at sum_at is_kind text_at kind_index
 operand-number true size = refl
 operand-number false size = refl
 
-pub operand-target : (minus : Bool) (text digits : List ℕ) → operand (piece kind.Word text ∷ (if minus then piece kind.Minus (45 ∷ []) else piece kind.Plus (43 ∷ [])) ∷ piece kind.Number digits ∷ []) ≡ plain (added shape.Sum text minus (number_of digits))
+pub operand-target : (minus : Bool) (text digits : List ℕ) → operand (piece kind.Word text ∷ (if minus then piece kind.Minus (45 ∷ []) else piece kind.Plus (43 ∷ [])) ∷ piece kind.Number digits ∷ []) ≡ plain (with_number shape.Sum text minus (number_of digits))
 unfolding operand value_at number_at named_at sum_at is_kind text_at kind_index
 operand-target true text digits = refl
 operand-target false text digits = refl

@@ -8,10 +8,10 @@ use Rattle.tc_lex.specs.Bytes.{is_digit, is_name_first, is_name_byte}
 use Rattle.tc_isa.specs.Rows.{RowData}
 use Rattle.tc_isa.specs.declared.fields.Fields.{Fields}
 use Rattle.tc_isa.specs.Words.{IsBelow, bounds}
-use Rattle.tc_stmt.specs.declared.wanting.Want.{Want}
-use Rattle.tc_stmt.specs.declared.wanting.Want.TheVariants.{Reg, A10, Number, Target, Absolute, Memory}
-use Rattle.tc_stmt.specs.Filling.{field_of}
-use Rattle.tc_stmt.specs.Pieces.{PieceData}
+use Rattle.tc_stmt.specs.declared.want.Want.{Want}
+use Rattle.tc_stmt.specs.declared.want.Want.TheVariants.{Reg, A10, Number, Target, Absolute, Memory}
+use Rattle.tc_stmt.specs.RowFields.{field_of}
+use Rattle.tc_lex.specs.Pieces.{PieceData}
 use Rattle.hex_text.specs.Digits.{hex_word}
 use Rattle.tc_disasm.specs.Texts.{is_minus, size_of, number_text, target_text, register_text, base_text, absolute_text, address_in, is_two_way, operand_text, operands_text}
 use Rattle.tc_disasm.specs.Tokens.{piece, number, field_number, target, base, operand_tokens}

@@ -7,12 +7,12 @@ use Rattle.tc_isa.specs.Rows.{RowData}
 use Rattle.tc_isa.specs.declared.fields.Fields.{Fields}
 use Rattle.tc_isa.specs.Words.{IsBelow, bounds, form_index}
 use Rattle.tc_isa.specs.Shapes.{place, code_place}
-use Rattle.tc_stmt.specs.declared.values.Shape.TheVariants as shape
-use Rattle.tc_stmt.specs.declared.wanting.Field.TheVariants.{S2, K}
-use Rattle.tc_stmt.specs.declared.wanting.Want.{Want}
-use Rattle.tc_stmt.specs.declared.wanting.Want.TheVariants.{Reg, A10, Number, Target, Absolute, Memory}
-use Rattle.tc_stmt.specs.Operands.{operand, value, plain, memory, plain_number}
-use Rattle.tc_stmt.specs.Filling.{FoundData, fill, fill_all, fill_plain, fill_a10, fill_value, fill_memory, fill_absolute, put_absolute, shape_index, put, put_register, put_number, broken, field_of}
+use Rattle.tc_lex.specs.declared.operand.Shape.TheVariants as shape
+use Rattle.tc_stmt.specs.declared.want.Field.TheVariants.{S2, K}
+use Rattle.tc_stmt.specs.declared.want.Want.{Want}
+use Rattle.tc_stmt.specs.declared.want.Want.TheVariants.{Reg, A10, Number, Target, Absolute, Memory}
+use Rattle.tc_lex.specs.Operands.{operand, value, plain, memory, plain_number}
+use Rattle.tc_stmt.specs.RowFields.{RowFieldsData, fill, fill_all, fill_plain, fill_a10, fill_value, fill_memory, fill_absolute, put_absolute, shape_index, with_value, put_register, put_number, with_rule, field_of}
 use Rattle.hex_text.specs.Digits.{hex_word}
 use Rattle.tc_disasm.specs.Texts.{register_text, is_minus, size_of, is_two_way, absolute_text, address_in}
 use Rattle.tc_disasm.specs.Tokens.{operand_tokens, base, number}
@@ -56,7 +56,7 @@ address-small r f = by_form (form_index r.form == 8)
     by_form false = omega arith
 
 -- what fills in an absolute address, by the form
-put_absolute-printed : (r : RowData) (f : Fields) (acc : FoundData) → suits r.form Absolute ≡ true → IsBelow f (bounds r.form) → put_absolute r.form false (address_in r.form f) acc ≡ put K f.k acc
+put_absolute-printed : (r : RowData) (f : Fields) (acc : RowFieldsData) → suits r.form Absolute ≡ true → IsBelow f (bounds r.form) → put_absolute r.form false (address_in r.form f) acc ≡ with_value K f.k acc
 unfolding put_absolute address_in suits
 put_absolute-printed r f acc s h = by_form (form_index r.form == 8) ((bounds r.form).k == 2 ^ 18) ((bounds r.form).k == 2 ^ 24) refl refl s
   where
@@ -67,14 +67,14 @@ put_absolute-printed r f acc s h = by_form (form_index r.form == 8) ((bounds r.f
     long e = let is = same_of (bounds r.form).k (2 ^ 24) e in let k = h.k in omega arith
 
     by_form : (a b d : Bool) → ((bounds r.form).k == 2 ^ 18) ≡ b → ((bounds r.form).k == 2 ^ 24) ≡ d → cond a b d ≡ true
-        → cond ((false && not (cond a (place f) (code_place f) == 0)) || nat_le (2 ^ 32) (cond a (place f) (code_place f))) (broken 5 acc)
+        → cond ((false && not (cond a (place f) (code_place f) == 0)) || nat_le (2 ^ 32) (cond a (place f) (code_place f))) (with_rule 5 acc)
         (cond a
-        (cond (cond a (place f) (code_place f) / 2 ^ 14 % 2 ^ 14 == 0) (put K (cond a (place f) (code_place f) / 2 ^ 28 * 2 ^ 14 + cond a (place f) (code_place f) % 2 ^ 14) acc) (broken 5 acc))
-        (cond (cond a (place f) (code_place f) / 2 ^ 21 % 2 ^ 7 == 0 && cond a (place f) (code_place f) % 2 == 0) (put K (cond a (place f) (code_place f) / 2 ^ 28 * 2 ^ 20 + cond a (place f) (code_place f) % 2 ^ 21 / 2) acc) (broken 5 acc))) ≡ put K f.k acc
+        (cond (cond a (place f) (code_place f) / 2 ^ 14 % 2 ^ 14 == 0) (with_value K (cond a (place f) (code_place f) / 2 ^ 28 * 2 ^ 14 + cond a (place f) (code_place f) % 2 ^ 14) acc) (with_rule 5 acc))
+        (cond (cond a (place f) (code_place f) / 2 ^ 21 % 2 ^ 7 == 0 && cond a (place f) (code_place f) % 2 == 0) (with_value K (cond a (place f) (code_place f) / 2 ^ 28 * 2 ^ 20 + cond a (place f) (code_place f) % 2 ^ 21 / 2) acc) (with_rule 5 acc))) ≡ with_value K f.k acc
     by_form true b d eb ed e = place-put f acc (short (eb ∙ e))
     by_form false b d eb ed e = code_place-put f acc (long (ed ∙ e))
 
-fill-absolute : (r : RowData) (f : Fields) (acc : FoundData) → suits r.form Absolute ≡ true → IsBelow f (bounds r.form) → fill r Absolute (operand (operand_tokens r.form f Absolute)) acc ≡ Some (put K f.k acc)
+fill-absolute : (r : RowData) (f : Fields) (acc : RowFieldsData) → suits r.form Absolute ≡ true → IsBelow f (bounds r.form) → fill r Absolute (operand (operand_tokens r.form f Absolute)) acc ≡ Some (with_value K f.k acc)
 unfolding operand_tokens fill fill_plain fill_absolute shape_index absolute_text
 fill-absolute r f acc s h =
     ap (λ o. fill r Absolute o acc) (operand-one (48 ∷ 120 ∷ hex_word (address_in r.form f)))
@@ -82,13 +82,13 @@ fill-absolute r f acc s h =
     ∙ ap (λ x. Some x) (put_absolute-printed r f acc s h)
 
 -- ---- memory
-fill-base : (r : RowData) (plus : Bool) (n : ℕ) (acc : FoundData) → n < 16 → fill r (Memory plus false) (operand (base plus n ++ [])) acc ≡ Some (put S2 n acc)
+fill-base : (r : RowData) (plus : Bool) (n : ℕ) (acc : RowFieldsData) → n < 16 → fill r (Memory plus false) (operand (base plus n ++ [])) acc ≡ Some (with_value S2 n acc)
 unfolding fill fill_memory shape_index
 fill-base r true n acc h = ap (λ o. fill r (Memory true false) o acc) (operand-base true n) ∙ ap (λ x. Some x) (put_register-text true S2 n acc h)
 fill-base r false n acc h = ap (λ o. fill r (Memory false false) o acc) (operand-base false n) ∙ ap (λ x. Some x) (put_register-text true S2 n acc h)
 
-fill-offset : (r : RowData) (plus : Bool) (n v : ℕ) (acc : FoundData) → n < 16 → v < (bounds r.form).k → is_bound (bounds r.form).k ≡ true
-    → fill r (Memory plus true) (operand (base plus n ++ number (is_minus true (bounds r.form).k v) (size_of true (bounds r.form).k v))) acc ≡ Some (put K v (put S2 n acc))
+fill-offset : (r : RowData) (plus : Bool) (n v : ℕ) (acc : RowFieldsData) → n < 16 → v < (bounds r.form).k → is_bound (bounds r.form).k ≡ true
+    → fill r (Memory plus true) (operand (base plus n ++ number (is_minus true (bounds r.form).k v) (size_of true (bounds r.form).k v))) acc ≡ Some (with_value K v (with_value S2 n acc))
 unfolding fill fill_memory fill_value shape_index
 fill-offset r plus n v acc h below bound =
     let minus = is_minus true (bounds r.form).k v in
@@ -97,17 +97,17 @@ fill-offset r plus n v acc h below bound =
     ∙ ap (λ m. fill r (Memory plus true) (memory plus (register_text true n) (plain_number minus m)) acc) (number_of-decimal size (halved size (size_of-small true (bounds r.form).k v below (small_of (bounds r.form).k bound))))
     ∙ by_plus plus
     ∙ ap (λ x. Some (put_number r.form true K minus size x)) (put_register-text true S2 n acc h)
-    ∙ ap (λ x. Some x) (put_number-offset (put S2 n acc))
+    ∙ ap (λ x. Some x) (put_number-offset (with_value S2 n acc))
   where
     by_plus : (p : Bool) → fill r (Memory p true) (memory p (register_text true n) (value shape.Number [] (is_minus true (bounds r.form).k v) (size_of true (bounds r.form).k v))) acc ≡ Some (put_number r.form true K (is_minus true (bounds r.form).k v) (size_of true (bounds r.form).k v) (put_register true S2 (register_text true n) acc))
     by_plus true = refl
     by_plus false = refl
 
-    put_number-offset : (x : FoundData) → put_number r.form true K (is_minus true (bounds r.form).k v) (size_of true (bounds r.form).k v) x ≡ put K v x
+    put_number-offset : (x : RowFieldsData) → put_number r.form true K (is_minus true (bounds r.form).k v) (size_of true (bounds r.form).k v) x ≡ with_value K v x
     put_number-offset x = unfold field_of in put_number-printed r true K v x below (even_of (bounds r.form).k bound)
 
 -- ---- each operand
-pub fill-printed : (r : RowData) (f : Fields) (w : Want) (acc : FoundData) → suits r.form w ≡ true → IsBelow f (bounds r.form) → fill r w (operand (operand_tokens r.form f w)) acc ≡ Some (record acc { fields = given f acc.fields w })
+pub fill-printed : (r : RowData) (f : Fields) (w : Want) (acc : RowFieldsData) → suits r.form w ≡ true → IsBelow f (bounds r.form) → fill r w (operand (operand_tokens r.form f w)) acc ≡ Some (record acc { fields = given f acc.fields w })
 unfolding suits operand_tokens given fill fill_plain fill_a10 shape_index
 fill-printed r f (Reg bank field) acc s h =
     let below = field_of-below field f (bounds r.form) h in
@@ -131,10 +131,10 @@ fill-printed r f (Memory plus false) acc s h =
     fill-base r plus f.s2 acc (omega arith)
 
 -- ---- all operands
-option_chain : (next : FoundData → Option FoundData) (o : Option FoundData) (x : FoundData) → o ≡ Some x → option_and_then next o ≡ next x
+option_chain : (next : RowFieldsData → Option RowFieldsData) (o : Option RowFieldsData) (x : RowFieldsData) → o ≡ Some x → option_and_then next o ≡ next x
 option_chain next o x e = ap (option_and_then next) e
 
-pub fill_all-printed : (r : RowData) (f : Fields) (ws : List Want) (acc : FoundData) → list_all (suits r.form) ws ≡ true → IsBelow f (bounds r.form)
+pub fill_all-printed : (r : RowData) (f : Fields) (ws : List Want) (acc : RowFieldsData) → list_all (suits r.form) ws ≡ true → IsBelow f (bounds r.form)
     → fill_all r ws (map (λ w. operand (operand_tokens r.form f w)) ws) acc ≡ Some (record acc { fields = fold (given f) acc.fields ws })
 unfolding fill_all
 fill_all-printed r f [] acc s h = refl

@@ -6,11 +6,11 @@ use Rattle.std.specs.List.{list_all}
 use Rattle.std.specs.Str.{bytes_eq}
 use Rattle.std.proofs.lemmas.Slice.Eq.{bytes_eq-Decides}
 use Rattle.tc_isa.specs.Rows.{RowData, listed}
-use Rattle.tc_stmt.specs.declared.tallying.Tally.{Tally}
+use Rattle.tc_stmt.specs.declared.tally.Tally.{Tally}
 use Rattle.tc_stmt.specs.Wants.{wants_of}
-use Rattle.tc_stmt.specs.Operands.{OperandData}
-use Rattle.tc_stmt.specs.Filling.{FoundData, judged}
-use Rattle.tc_stmt.specs.Judging.{stepped, outcome, followed, start, statement}
+use Rattle.tc_lex.specs.Operands.{OperandData}
+use Rattle.tc_stmt.specs.RowFields.{RowFieldsData, fields_of_row}
+use Rattle.tc_stmt.specs.StatementRow.{after_row, outcome, or_next, start, statement}
 use Rattle.tc_disasm.specs.Refused.{AllPrint}
 use Rattle.tc_disasm.specs.Apart.{differ, entry, Entry, apart_from, all_apart}
 use Rattle.tc_disasm.proofs.Decimals.{both}
@@ -21,18 +21,18 @@ some_is : {X : Type 0} (a b : X) → ◌≡◌ {A = Option X} (Some a) (Some b) 
 some_is a b e = cc
 
 -- the row at a place, where those before it go on
-walks : (name : List ℕ) (os : List OperandData) (r : RowData) (f : FoundData) → ((t : Tally) → stepped name os r t ≡ Ok f)
+walks : (name : List ℕ) (os : List OperandData) (r : RowData) (f : RowFieldsData) → ((t : Tally) → after_row name os r t ≡ Ok f)
     → (rows : List RowData) (place k : ℕ) (t : Tally) → slice_get rows k ≡ Some r
-    → ((j : ℕ) (s : RowData) → j < k → slice_get rows j ≡ Some s → (t : Tally) → (u : Tally) × (stepped name os s t ≡ Err u))
+    → ((j : ℕ) (s : RowData) → j < k → slice_get rows j ≡ Some s → (t : Tally) → (u : Tally) × (after_row name os s t ≡ Err u))
     → outcome name os rows place t ≡ Ok (place + k, f)
 unfolding outcome
 walks name os r f is [] place k t e before = cc
 walks name os r f is (x ∷ xs) place zero t e before =
-    ap (λ q. followed q place (outcome name os xs (place + 1))) (ap (λ y. stepped name os y t) (some_is x r e) ∙ is t)
+    ap (λ q. or_next q place (outcome name os xs (place + 1))) (ap (λ y. after_row name os y t) (some_is x r e) ∙ is t)
     ∙ ap (λ n. Ok (n, f)) (sym (add-zero place))
 walks name os r f is (x ∷ xs) place (suc k) t e before =
     let next = before 0 x (omega arith) refl t in
-    ap (λ q. followed q place (outcome name os xs (place + 1))) next.1
+    ap (λ q. or_next q place (outcome name os xs (place + 1))) next.1
     ∙ walks name os r f is xs (place + 1) k next.0 e (λ j s h at. before (suc j) s (omega arith) at)
     ∙ ap (λ n. Ok (n, f)) (omega arith)
 
@@ -51,30 +51,30 @@ apart_at (x ∷ xs) (suc j) zero s r e h a b = absurd (omega arith)
 apart_at (x ∷ xs) (suc j) (suc k) s r e h a b = apart_at xs j k s r (both (list_all (apart_from (entry x)) (map entry xs)) (all_apart (map entry xs)) e).1 (omega arith) a b
 
 -- a row of another name goes on
-skips : (r s : RowData) (os : List OperandData) (t : Tally) → bytes_eq s.name r.name ≡ false → (u : Tally) × (stepped r.name os s t ≡ Err u)
-unfolding stepped
+skips : (r s : RowData) (os : List OperandData) (t : Tally) → bytes_eq s.name r.name ≡ false → (u : Tally) × (after_row r.name os s t ≡ Err u)
+unfolding after_row
 skips r s os t other =
-    (t, ap (λ b. cond b (option_map_or (λ f. cond (f.rule == 15) (Ok f) (Err (record { named = true; fits = true; least = min t.least f.rule }))) (judged s (wants_of s) os) (Err (record t { named = true }))) (Err t)) other)
+    (t, ap (λ b. cond b (option_map_or (λ f. cond (f.rule == 15) (Ok f) (Err (record { named = true; fits = true; least = min t.least f.rule }))) (fields_of_row s (wants_of s) os) (Err (record t { named = true }))) (Err t)) other)
 
 -- an earlier row of the name refuses
-earlier : (r s : RowData) (os : List OperandData) → apart_from (entry s) (entry r) ≡ true → AllPrint (wants_of r) os → (t : Tally) → (u : Tally) × (stepped r.name os s t ≡ Err u)
+earlier : (r s : RowData) (os : List OperandData) → apart_from (entry s) (entry r) ≡ true → AllPrint (wants_of r) os → (t : Tally) → (u : Tally) × (after_row r.name os s t ≡ Err u)
 earlier r s os e p t = by_name (bytes_eq s.name r.name) refl e
   where
-    by_name : (b : Bool) → bytes_eq s.name r.name ≡ b → (not b || (differ (wants_of s) (wants_of r) && differ (wants_of r) (wants_of s))) ≡ true → (u : Tally) × (stepped r.name os s t ≡ Err u)
+    by_name : (b : Bool) → bytes_eq s.name r.name ≡ b → (not b || (differ (wants_of s) (wants_of r) && differ (wants_of r) (wants_of s))) ≡ true → (u : Tally) × (after_row r.name os s t ≡ Err u)
     by_name true same d = goes_on r.name os s t (refused-judged s (wants_of r) (wants_of s) os (both (differ (wants_of s) (wants_of r)) (differ (wants_of r) (wants_of s)) d).1 p)
     by_name false other d = skips r s os t other
 
 -- the row itself
-itself : (r : RowData) (os : List OperandData) (f : FoundData) → judged r (wants_of r) os ≡ Some f → f.rule ≡ 15 → (t : Tally) → stepped r.name os r t ≡ Ok f
-unfolding stepped
+itself : (r : RowData) (os : List OperandData) (f : RowFieldsData) → fields_of_row r (wants_of r) os ≡ Some f → f.rule ≡ 15 → (t : Tally) → after_row r.name os r t ≡ Ok f
+unfolding after_row
 itself r os f is whole t =
-    let choose : Option FoundData → Result FoundData Tally = λ o. option_map_or (λ g. cond (g.rule == 15) (Ok g) (Err (record { named = true; fits = true; least = min t.least g.rule }))) o (Err (record t { named = true })) in
-    ap (λ b. cond b (choose (judged r (wants_of r) os)) (Err t)) ((bytes_eq-Decides r.name r.name).1 refl)
+    let choose : Option RowFieldsData → Result RowFieldsData Tally = λ o. option_map_or (λ g. cond (g.rule == 15) (Ok g) (Err (record { named = true; fits = true; least = min t.least g.rule }))) o (Err (record t { named = true })) in
+    ap (λ b. cond b (choose (fields_of_row r (wants_of r) os)) (Err t)) ((bytes_eq-Decides r.name r.name).1 refl)
     ∙ ap choose is
     ∙ ap (λ n. cond (n == 15) (Ok f) (Err (record { named = true; fits = true; least = min t.least f.rule }))) whole
 
 -- a statement of a row's name, with operands as that row prints them, is that row
-pub statement_is : (k : ℕ) (r : RowData) (os : List OperandData) (f : FoundData) → slice_get listed k ≡ Some r → AllPrint (wants_of r) os → judged r (wants_of r) os ≡ Some f → f.rule ≡ 15
+pub statement_is : (k : ℕ) (r : RowData) (os : List OperandData) (f : RowFieldsData) → slice_get listed k ≡ Some r → AllPrint (wants_of r) os → fields_of_row r (wants_of r) os ≡ Some f → f.rule ≡ 15
     → statement r.name os ≡ Ok (k, f)
 statement_is k r os f at p is whole =
     walks r.name os r f (itself r os f is whole) listed 0 k start at (λ j s h e. earlier r s os (apart_at listed j k s r rows_apart h e at) p)

@@ -11,14 +11,14 @@ use Rattle.tc_isa.specs.Codec.{uses_of, rest_is_zero, Fits}
 use Rattle.tc_isa.specs.Insts.{InstData, IsInst, fields_in}
 use Rattle.tc_isa.specs.Meanings.{AreSmall}
 use Rattle.tc_isa.proofs.Shaped.{small}
-use Rattle.tc_stmt.specs.declared.values.Shape.TheVariants as shape
-use Rattle.tc_stmt.specs.declared.wanting.Field.TheVariants.{C, S1, S2, N, K}
-use Rattle.tc_stmt.specs.declared.wanting.Want.{Want}
-use Rattle.tc_stmt.specs.declared.wanting.Want.TheVariants.{Reg, A10, Number, Target, Absolute, Memory}
+use Rattle.tc_lex.specs.declared.operand.Shape.TheVariants as shape
+use Rattle.tc_stmt.specs.declared.want.Field.TheVariants.{C, S1, S2, N, K}
+use Rattle.tc_stmt.specs.declared.want.Want.{Want}
+use Rattle.tc_stmt.specs.declared.want.Want.TheVariants.{Reg, A10, Number, Target, Absolute, Memory}
 use Rattle.tc_stmt.specs.Wants.{wants_of}
-use Rattle.tc_stmt.specs.Operands.{operand, plain, plain_number, added}
-use Rattle.tc_stmt.specs.Judging.{statement}
-use Rattle.tc_stmt.specs.Filling.{judged, nothing, apart, broken, field_of}
+use Rattle.tc_lex.specs.Operands.{operand, plain, plain_number, with_number}
+use Rattle.tc_stmt.specs.StatementRow.{statement}
+use Rattle.tc_stmt.specs.RowFields.{fields_of_row, no_fields, kept_apart, with_rule, field_of}
 use Rattle.tc_disasm.specs.Texts.{register_text, is_minus, size_of, is_two_way, absolute_text, address_in}
 use Rattle.tc_disasm.specs.Tokens.{operand_tokens, printed_operands, base}
 use Rattle.tc_disasm.specs.Apart.{uses_by, names}
@@ -85,7 +85,7 @@ printed_one r f Target s h =
     let small = number_of-decimal (2 * size_of both_ways bound f.k) (size_of-small both_ways bound f.k h.k (small_of bound s)) in (
       is_minus both_ways bound f.k,
       2 * size_of both_ways bound f.k,
-      operand-target (is_minus both_ways bound f.k) (codes ".") (decimal (2 * size_of both_ways bound f.k)) ∙ ap (λ n. plain (added shape.Sum (codes ".") (is_minus both_ways bound f.k) n)) small,
+      operand-target (is_minus both_ways bound f.k) (codes ".") (decimal (2 * size_of both_ways bound f.k)) ∙ ap (λ n. plain (with_number shape.Sum (codes ".") (is_minus both_ways bound f.k) n)) small,
     )
 printed_one r f Absolute s h = unfold absolute_text in (address_in r.form f, operand-one (absolute_text r.form f) ∙ ap (λ n. plain (plain_number false n)) (number_of-hex (address_in r.form f) (address-small r f)))
 printed_one r f (Memory plus true) s h =
@@ -99,18 +99,18 @@ printed_all r f (w ∷ ws) s h =
     (printed_one r f w two.0 h, printed_all r f ws two.1 h)
 
 -- ---- the row itself
-judged-printed : (k : ℕ) (r : RowData) (f : Fields) → slice_get listed k ≡ Some r → Fits r f → AreSmall f → judged r (wants_of r) (printed_operands r f) ≡ Some (record nothing { fields = f })
-unfolding judged
+judged-printed : (k : ℕ) (r : RowData) (f : Fields) → slice_get listed k ≡ Some r → Fits r f → AreSmall f → fields_of_row r (wants_of r) (printed_operands r f) ≡ Some (record no_fields { fields = f })
+unfolding fields_of_row
 judged-printed k r f at fits small =
     let rest : rest_is_zero (uses_by (wants_of r)) f ≡ true = ap (λ u. rest_is_zero u f) (sym (uses_at listed k r uses_are at)) ∙ fits.zero in
-    ap (option_and_then (λ g. Some (apart r g))) (fill_all-printed r f (wants_of r) nothing (wants_suit k r at) fits.below)
-    ∙ ap (λ g. Some (apart r (record nothing { fields = g }))) (fields_back f (wants_of r) small rest)
-    ∙ ap (λ b. Some (cond b (record nothing { fields = f }) (broken 12 (record nothing { fields = f })))) fits.apart
+    ap (option_and_then (λ g. Some (kept_apart r g))) (fill_all-printed r f (wants_of r) no_fields (wants_suit k r at) fits.below)
+    ∙ ap (λ g. Some (kept_apart r (record no_fields { fields = g }))) (fields_back f (wants_of r) small rest)
+    ∙ ap (λ b. Some (cond b (record no_fields { fields = f }) (with_rule 12 (record no_fields { fields = f })))) fits.apart
 
 -- the statement of an instruction's name and printed operands is the instruction
-pub statement-printed : (i : InstData) (is : IsInst i) → statement is.row.name (printed_operands is.row (fields_in i)) ≡ Ok (i.row, record nothing { fields = fields_in i })
+pub statement-printed : (i : InstData) (is : IsInst i) → statement is.row.name (printed_operands is.row (fields_in i)) ≡ Ok (i.row, record no_fields { fields = fields_in i })
 statement-printed i is =
-    statement_is i.row is.row (printed_operands is.row (fields_in i)) (record nothing { fields = fields_in i }) is.at
+    statement_is i.row is.row (printed_operands is.row (fields_in i)) (record no_fields { fields = fields_in i }) is.at
     (printed_all is.row (fields_in i) (wants_of is.row) (wants_suit i.row is.row is.at) is.fits.below)
     (judged-printed i.row is.row (fields_in i) is.at is.fits (small i is))
     refl

@@ -7,7 +7,7 @@ use Rattle.tc_isa.specs.declared.table.Row.{Row}
 use Rattle.tc_isa.specs.Rows.{RowData, row_of, listed}
 use Rattle.tc_isa.specs.Insts.{InstData, IsInst, fields_in}
 use Rattle.tc_isa.proofs.Made.{row_of_inst}
-use Rattle.tc_stmt.specs.declared.wanting.Want.{Want}
+use Rattle.tc_stmt.specs.declared.want.Want.{Want}
 use Rattle.tc_stmt.specs.Wants.{wants_of, now_of}
 use Rattle.tc_stmt.proofs.Places.{long_wants}
 use Rattle.tc_disasm.specs.Texts.{row_text, text_of}

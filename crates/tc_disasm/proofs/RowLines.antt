@@ -12,15 +12,15 @@ use Rattle.tc_isa.specs.declared.table.Form.{Form}
 use Rattle.tc_isa.specs.declared.fields.Fields.{Fields}
 use Rattle.tc_isa.specs.Words.{bounds}
 use Rattle.tc_isa.specs.Insts.{InstData, IsInst, fields_in}
-use Rattle.tc_stmt.specs.declared.wanting.Want.{Want}
-use Rattle.tc_stmt.specs.declared.wanting.Want.TheVariants.{Reg, A10, Number, Target, Absolute, Memory}
+use Rattle.tc_stmt.specs.declared.want.Want.{Want}
+use Rattle.tc_stmt.specs.declared.want.Want.TheVariants.{Reg, A10, Number, Target, Absolute, Memory}
 use Rattle.tc_stmt.specs.Wants.{wants_of}
-use Rattle.tc_stmt.specs.Filling.{field_of}
-use Rattle.tc_stmt.specs.Pieces.{PieceData, is_kind, text_at, kind_index}
-use Rattle.tc_stmt.specs.Operands.{OperandData, operand, operands, is_comma}
-use Rattle.tc_stmt.specs.Judging.{statement}
-use Rattle.tc_asm.specs.Items.{code, label}
-use Rattle.tc_asm.specs.Lines.{LineData, line_data, pieces_line, line_from, stated_line, code_line}
+use Rattle.tc_stmt.specs.RowFields.{field_of}
+use Rattle.tc_lex.specs.Pieces.{PieceData, is_kind, text_at, kind_index}
+use Rattle.tc_lex.specs.Operands.{OperandData, operand, operands, is_comma}
+use Rattle.tc_stmt.specs.StatementRow.{statement}
+use Rattle.tc_stmt.specs.Items.{code, label}
+use Rattle.tc_stmt.specs.Lines.{LineData, line_data, pieces_line, line_from, stated_line, code_line}
 use Rattle.tc_disasm.specs.Texts.{is_minus, is_two_way, row_text, operands_text, text_of}
 use Rattle.tc_disasm.specs.Tokens.{piece, operand_tokens, base, field_number, number}
 use Rattle.tc_disasm.specs.Lexed.{IsStop}

@@ -8,10 +8,10 @@ use Rattle.tc_lex.specs.Bytes.{is_digit, is_name_first, is_name_byte}
 use Rattle.tc_lex.specs.Texts.{is_run}
 use Rattle.tc_isa.specs.Rows.{RowData, listed}
 use Rattle.tc_stmt.specs.Wants.{wants_of, want_of}
-use Rattle.tc_stmt.specs.Operands.{OperandData}
-use Rattle.tc_stmt.specs.Judging.{statement}
-use Rattle.tc_asm.specs.Items.{section, global}
-use Rattle.tc_asm.specs.Lines.{LineData, named_line, values_line, space_line, code_line, stated_line}
+use Rattle.tc_lex.specs.Operands.{OperandData}
+use Rattle.tc_stmt.specs.StatementRow.{statement}
+use Rattle.tc_stmt.specs.Items.{section, global}
+use Rattle.tc_stmt.specs.Lines.{LineData, named_line, values_line, space_line, code_line, stated_line}
 use Rattle.tc_disasm.proofs.Decimals.{both}
 
 abbrev pub is_directive : List ℕ → Bool

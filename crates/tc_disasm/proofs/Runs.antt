@@ -6,8 +6,8 @@ use Rattle.std.proofs.lemmas.List.Sums.{fold-append}
 use Rattle.tc_isa.specs.Codec.{spelling}
 use Rattle.tc_isa.specs.Insts.{InstData, IsInst, fields_in}
 use Rattle.tc_encode.proofs.Spelled.{fits_true}
-use Rattle.tc_asm.specs.Items.{ItemData, code, bytes}
-use Rattle.tc_asm.specs.Lines.{LineData, line_data}
+use Rattle.tc_stmt.specs.Items.{ItemData, code, bytes}
+use Rattle.tc_stmt.specs.Lines.{LineData, line_data}
 use Rattle.tc_asm.specs.Symbols.{SymbolData}
 use Rattle.tc_asm.specs.Drafts.{DraftData, has_section, has_room, with_bytes, with_reference, found, targeted, spelled_code, resolved, bytes_of, code_bytes, stepped}
 use Rattle.tc_asm.specs.Rules.{content_rule, item_rule}

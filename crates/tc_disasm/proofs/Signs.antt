@@ -2,7 +2,7 @@
 use Rattle.std.proofs.Common.{◌≡◌, ◌<◌, ◌*◌, ◌-◌, ◌/◌, ◌%◌, ◌==◌, ◌&&◌, ℕ, Bool, true, false, cond, refl, arith}
 use Rattle.std.specs.Prelude.{nat_lt, nat_le, not}
 use Rattle.std.proofs.lemmas.Bool.Decides.{nat_tests}
-use Rattle.tc_stmt.specs.Filling.{fits, wrapped, is_odd}
+use Rattle.tc_stmt.specs.RowFields.{fits, wrap, is_odd}
 use Rattle.tc_disasm.specs.Texts.{is_minus, size_of}
 
 pub fits-printed : (signed : Bool) (bound v : ℕ) → v < bound → bound % 2 ≡ 0 → fits signed bound (is_minus signed bound v) (size_of signed bound v) ≡ true
@@ -14,7 +14,7 @@ fits-printed true bound v h even = by_sign (nat_le (bound / 2) v) refl
     by_sign false e = grind (arith, nat_tests)
 fits-printed false bound v h even = grind (arith, nat_tests)
 
-pub wrapped-printed : (signed : Bool) (bound v : ℕ) → v < bound → bound % 2 ≡ 0 → wrapped bound (is_minus signed bound v) (size_of signed bound v) ≡ v
+pub wrapped-printed : (signed : Bool) (bound v : ℕ) → v < bound → bound % 2 ≡ 0 → wrap bound (is_minus signed bound v) (size_of signed bound v) ≡ v
 wrapped-printed true bound v h even = by_sign (nat_le (bound / 2) v)
   where
     by_sign : (b : Bool) → cond (b && not (cond b (bound - v) v == 0)) (bound - cond b (bound - v) v) (cond b (bound - v) v) ≡ v

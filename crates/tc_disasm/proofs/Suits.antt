@@ -5,10 +5,10 @@ use Rattle.std.specs.List.{list_all}
 use Rattle.tc_isa.specs.Rows.{RowData, listed}
 use Rattle.tc_isa.specs.declared.table.Form.{Form}
 use Rattle.tc_isa.specs.Words.{bounds, form_index}
-use Rattle.tc_stmt.specs.declared.wanting.Want.{Want}
-use Rattle.tc_stmt.specs.declared.wanting.Want.TheVariants.{Reg, A10, Number, Target, Absolute, Memory}
+use Rattle.tc_stmt.specs.declared.want.Want.{Want}
+use Rattle.tc_stmt.specs.declared.want.Want.TheVariants.{Reg, A10, Number, Target, Absolute, Memory}
 use Rattle.tc_stmt.specs.Wants.{wants_of, want_of}
-use Rattle.tc_stmt.specs.Filling.{field_of}
+use Rattle.tc_stmt.specs.RowFields.{field_of}
 use Rattle.tc_disasm.proofs.Decimals.{both}
 
 -- an even bound of at most 24 bits

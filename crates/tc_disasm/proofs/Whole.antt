@@ -6,8 +6,8 @@ use Rattle.std.proofs.lemmas.Bool.{lt-ltb}
 use Rattle.std.proofs.lemmas.List.Sorted.{All-permutation, length_permutation, sum_by-IsPermutation}
 use Rattle.elf_image.specs.Images.{SegmentData, ImageData, IsImage}
 use Rattle.tc_object.specs.Objects.{SectionData, ObjectData}
-use Rattle.tc_stmt.specs.Pieces.{is_kind}
-use Rattle.tc_asm.specs.Lines.{LineData, line_data, line_in, lines_in, pieces_line, line_from}
+use Rattle.tc_lex.specs.Pieces.{is_kind}
+use Rattle.tc_stmt.specs.Lines.{LineData, line_data, line_in, lines_in, pieces_line, line_from}
 use Rattle.tc_asm.specs.Symbols.{SymbolData}
 use Rattle.tc_asm.specs.Drafts.{DraftData, start}
 use Rattle.tc_asm.specs.declared.errors.AsmErr.{AsmErr}

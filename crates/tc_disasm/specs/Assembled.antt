@@ -4,7 +4,7 @@ use Rattle.std.specs.Fmt.{decimal}
 use Rattle.std.specs.List.Sorted.{IsPermutation, IsNonDecreasing}
 use Rattle.elf_image.specs.Images.{SegmentData, ImageData, IsImage}
 use Rattle.tc_object.specs.Objects.{SectionData, ObjectData}
-use Rattle.tc_asm.specs.Lines.{lines_in}
+use Rattle.tc_stmt.specs.Lines.{lines_in}
 use Rattle.tc_asm.specs.Objects.{object_of}
 use Rattle.tc_asm.specs.Sources.{drafted, symbols_of, KeepsRules, IsLeast}
 use Rattle.tc_disasm.specs.Listing.{listing_of}

@@ -4,7 +4,7 @@ use Rattle.tc_lex.specs.declared.kinds.Front.{Front}
 use Rattle.tc_lex.specs.declared.kinds.Front.TheVariants as front
 use Rattle.tc_lex.specs.Bytes.{is_name_byte}
 use Rattle.tc_lex.specs.Cut.{front_of}
-use Rattle.tc_stmt.specs.Pieces.{PieceData}
+use Rattle.tc_lex.specs.Pieces.{PieceData}
 use Rattle.tc_disasm.specs.Tokens.{piece}
 
 -- what follows from the front of a text: `next room skip` is the rest behind its first byte

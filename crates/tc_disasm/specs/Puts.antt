@@ -2,10 +2,10 @@
 use Rattle.std.specs.Prelude.{true, false, List, fold}
 use Rattle.tc_isa.specs.declared.fields.Fields.{Fields}
 use Rattle.tc_isa.specs.Words.{fields}
-use Rattle.tc_stmt.specs.declared.wanting.Field.TheVariants.{S2, K}
-use Rattle.tc_stmt.specs.declared.wanting.Want.{Want}
-use Rattle.tc_stmt.specs.declared.wanting.Want.TheVariants.{Reg, A10, Number, Target, Absolute, Memory}
-use Rattle.tc_stmt.specs.Filling.{set_field, field_of}
+use Rattle.tc_stmt.specs.declared.want.Field.TheVariants.{S2, K}
+use Rattle.tc_stmt.specs.declared.want.Want.{Want}
+use Rattle.tc_stmt.specs.declared.want.Want.TheVariants.{Reg, A10, Number, Target, Absolute, Memory}
+use Rattle.tc_stmt.specs.RowFields.{set_field, field_of}
 
 -- a want's fields of f, in g
 unfoldable pub given : Fields → Fields → Want → Fields

@@ -1,10 +1,10 @@
 -- What is printed for a want, as an operand; and what no row takes.
 use Rattle.std.specs.Prelude.{◌≡◌, ℕ, ◌<◌, ◌≤◌, Bool, true, false, List, [], ◌∷◌, codes, Option, Some, None}
-use Rattle.tc_stmt.specs.declared.values.Shape.TheVariants as shape
-use Rattle.tc_stmt.specs.declared.wanting.Want.{Want}
-use Rattle.tc_stmt.specs.declared.wanting.Want.TheVariants.{Reg, A10, Number, Target, Absolute, Memory}
-use Rattle.tc_stmt.specs.Operands.{OperandData, ValueData, value, plain, memory}
-use Rattle.tc_stmt.specs.Filling.{FoundData}
+use Rattle.tc_lex.specs.declared.operand.Shape.TheVariants as shape
+use Rattle.tc_stmt.specs.declared.want.Want.{Want}
+use Rattle.tc_stmt.specs.declared.want.Want.TheVariants.{Reg, A10, Number, Target, Absolute, Memory}
+use Rattle.tc_lex.specs.Operands.{OperandData, ValueData, value, plain, memory}
+use Rattle.tc_stmt.specs.RowFields.{RowFieldsData}
 use Rattle.tc_disasm.specs.Texts.{register_text}
 
 -- the operand that is printed for a want
@@ -24,15 +24,15 @@ AllPrint (w ∷ ws) [] = ⊥
 AllPrint (w ∷ ws) (o ∷ os) = Prints w o × AllPrint ws os
 
 -- nothing, or a rule is broken
-abbrev pub IsRefused : Option FoundData → Type 0
+abbrev pub IsRefused : Option RowFieldsData → Type 0
 IsRefused None = Unit {0}
 IsRefused (Some f) = f.rule < 15
 
 -- a rule that was broken stays broken
-abbrev pub falls_by : FoundData → Option FoundData → Type 0
+abbrev pub falls_by : RowFieldsData → Option RowFieldsData → Type 0
 falls_by acc None = Unit {0}
 falls_by acc (Some f) = f.rule ≤ acc.rule
 
 -- the same as a record, which stays folded
-pub record Falls (acc : FoundData) (o : Option FoundData) : Type 0 where
+pub record Falls (acc : RowFieldsData) (o : Option RowFieldsData) : Type 0 where
   pub is : falls_by acc o

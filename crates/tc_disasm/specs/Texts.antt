@@ -6,14 +6,14 @@ use Rattle.std.specs.Option.{option_map_or}
 use Rattle.hex_text.specs.Digits.{hex_word}
 use Rattle.tc_isa.specs.declared.table.Form.{Form}
 use Rattle.tc_isa.specs.declared.fields.Fields.{Fields}
-use Rattle.tc_isa.specs.Words.{bounds, form_index}
+use Rattle.tc_isa.specs.Words.{bounds, is_sbr, is_abs}
 use Rattle.tc_isa.specs.Rows.{RowData, listed}
 use Rattle.tc_isa.specs.Insts.{InstData, fields_in}
 use Rattle.tc_isa.specs.Shapes.{place, code_place}
-use Rattle.tc_stmt.specs.declared.wanting.Want.{Want}
-use Rattle.tc_stmt.specs.declared.wanting.Want.TheVariants.{Reg, A10, Number, Target, Absolute, Memory}
+use Rattle.tc_stmt.specs.declared.want.Want.{Want}
+use Rattle.tc_stmt.specs.declared.want.Want.TheVariants.{Reg, A10, Number, Target, Absolute, Memory}
 use Rattle.tc_stmt.specs.Wants.{wants_of}
-use Rattle.tc_stmt.specs.Filling.{field_of}
+use Rattle.tc_stmt.specs.RowFields.{field_of}
 
 -- a register of a bank, true for address registers: `d0` to `d15`, `a0` to `a15`
 unfoldable pub register_text : Bool → ℕ → List ℕ
@@ -33,7 +33,7 @@ number_text signed bound v = if is_minus signed bound v then 45 ∷ decimal (bou
 
 -- a displacement reaches both ways, but in SBR rows
 unfoldable pub is_two_way : Form → Bool
-is_two_way form = not (form_index form == 13)
+is_two_way form = not (is_sbr form)
 
 -- a target: `.+` or `.-` and a number of bytes, twice the displacement
 unfoldable pub target_text : Bool → ℕ → ℕ → List ℕ
@@ -41,7 +41,7 @@ target_text both bound k = 46 ∷ (if is_minus both bound k then 45 ∷ decimal 
 
 -- the address that the fields of an ABS row, or of a B row, name
 unfoldable pub address_in : Form → Fields → ℕ
-address_in form f = if form_index form == 8 then place f else code_place f
+address_in form f = if is_abs form then place f else code_place f
 
 -- `0x` and the address
 unfoldable pub absolute_text : Form → Fields → List ℕ

@@ -6,13 +6,13 @@ use Rattle.tc_lex.specs.declared.kinds.TokenKind.TheVariants as kind
 use Rattle.tc_isa.specs.declared.table.Form.{Form}
 use Rattle.tc_isa.specs.declared.fields.Fields.{Fields}
 use Rattle.tc_isa.specs.Words.{bounds}
-use Rattle.tc_stmt.specs.declared.wanting.Want.{Want}
-use Rattle.tc_stmt.specs.declared.wanting.Want.TheVariants.{Reg, A10, Number, Target, Absolute, Memory}
+use Rattle.tc_stmt.specs.declared.want.Want.{Want}
+use Rattle.tc_stmt.specs.declared.want.Want.TheVariants.{Reg, A10, Number, Target, Absolute, Memory}
 use Rattle.tc_isa.specs.Rows.{RowData}
 use Rattle.tc_stmt.specs.Wants.{wants_of}
-use Rattle.tc_stmt.specs.Operands.{OperandData, operand}
-use Rattle.tc_stmt.specs.Pieces.{PieceData}
-use Rattle.tc_stmt.specs.Filling.{field_of}
+use Rattle.tc_lex.specs.Operands.{OperandData, operand}
+use Rattle.tc_lex.specs.Pieces.{PieceData}
+use Rattle.tc_stmt.specs.RowFields.{field_of}
 use Rattle.tc_disasm.specs.Texts.{register_text, is_minus, size_of, is_two_way, absolute_text}
 
 -- a token of this kind with its text

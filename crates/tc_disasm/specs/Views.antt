@@ -1,6 +1,6 @@
 -- Segments that are lent.
 use Rattle.std.specs.Borrow.{Bor}
-use Rattle.elf_image.specs.declared.images.Segment.{Segment}
+use Rattle.elf_image.specs.declared.segment.Segment.{Segment}
 use Rattle.elf_image.specs.Images.{SegmentData, segment_data}
 
 -- the segment that is lent

@@ -17,7 +17,8 @@ use tcd_base::NoMemory;
 // The line that begins a section.
 #[tactic(auto, unfolding(crate::specs::Listing::section_line))]
 fn append_section_line(text: &mut String, number: u32, address: u32) -> Result<(), NoMemory>
-    ensures { OnOk result (string_bytes text.new ≡ string_bytes text.old ++ section_line number address) }
+    ensures { OnOk result
+        (string_bytes text.new ≡ string_bytes text.old ++ section_line number address) }
 {
     append(text, ".section s")?;
     append_decimal(text, number)?;
@@ -29,7 +30,9 @@ fn append_section_line(text: &mut String, number: u32, address: u32) -> Result<(
 #[tactic(auto, unfolding(crate::specs::Listing::section_text))]
 fn append_section(text: &mut String, number: u32, segment: &Segment) -> Result<(), NoMemory>
     requires { segment.now.at + length segment.now.bytes.items ≤ 2 ^ 32 }
-    ensures { OnOk result (string_bytes text.new ≡ string_bytes text.old ++ section_text number (segment_data segment.now)) }
+    ensures { OnOk result
+        (string_bytes text.new
+        ≡ string_bytes text.old ++ section_text number (segment_data segment.now)) }
 {
     append_section_line(text, number, segment.at)?;
     append_lines(text, segment.at, &segment.bytes)
@@ -39,7 +42,9 @@ fn append_section(text: &mut String, number: u32, segment: &Segment) -> Result<(
 fn append_sections(text: &mut String, segments: &[&Segment]) -> Result<(), NoMemory>
     requires few { length segments.now ≤ 64 }
     requires segments { IsTrue (list_all is_segment (map lent_data segments.now)) }
-    ensures { OnOk result (string_bytes text.new ≡ string_bytes text.old ++ sections_from 0 (map lent_data segments.now)) }
+    ensures { OnOk result
+        (string_bytes text.new
+        ≡ string_bytes text.old ++ sections_from 0 (map lent_data segments.now)) }
 {
     for i in 0..segments.len() {
         append_section(text, i as u32, segments[i])?;

@@ -16,7 +16,9 @@ use tcd_base::NoMemory;
 // An operand behind another one.
 fn append_next(text: &mut String, form: Form, f: &Fields, want: Want) -> Result<(), NoMemory>
     requires { IsBelow f.now (bounds form) }
-    ensures { OnOk result (string_bytes text.new ≡ string_bytes text.old ++ (codes ", " ++ operand_text form f.now want)) }
+    ensures { OnOk result
+        (string_bytes text.new
+        ≡ string_bytes text.old ++ (codes ", " ++ operand_text form f.now want)) }
 {
     append(text, ", ")?;
     append_operand(text, form, f, want)
@@ -25,7 +27,10 @@ fn append_next(text: &mut String, form: Form, f: &Fields, want: Want) -> Result<
 // The operands behind the first one.
 fn append_others(text: &mut String, form: Form, f: &Fields, wants: &[Want]) -> Result<(), NoMemory>
     requires { IsBelow f.now (bounds form) }
-    ensures { OnOk result (string_bytes text.new ≡ string_bytes text.old ++ flat_map (λ v. codes ", " ++ operand_text form f.now v) wants.now) }
+    ensures { OnOk result
+        (string_bytes text.new
+        ≡ string_bytes text.old
+        ++ flat_map (λ v. codes ", " ++ operand_text form f.now v) wants.now) }
 {
     for want in wants {
         append_next(text, form, f, *want)?;
@@ -41,7 +46,8 @@ fn append_operands(
     wants: &[Want],
 ) -> Result<(), NoMemory>
     requires { IsBelow f.now (bounds form) }
-    ensures { OnOk result (string_bytes text.new ≡ string_bytes text.old ++ operands_text form f.now wants.now) }
+    ensures { OnOk result
+        (string_bytes text.new ≡ string_bytes text.old ++ operands_text form f.now wants.now) }
 {
     if let Some((first, others)) = wants.split_first() {
         append(text, " ")?;
@@ -55,7 +61,8 @@ fn append_operands(
 fn append_row(text: &mut String, row: &Row, wants: &[Want], f: &Fields) -> Result<(), NoMemory>
     requires wants { wants.now ≡ wants_of (row_of row.now) }
     requires fits { IsBelow f.now (bounds row.now.form) }
-    ensures { OnOk result (string_bytes text.new ≡ string_bytes text.old ++ row_text (row_of row.now) f.now) }
+    ensures { OnOk result
+        (string_bytes text.new ≡ string_bytes text.old ++ row_text (row_of row.now) f.now) }
 {
     append(text, row.name)?;
     append_operands(text, row.form, f, wants)

@@ -8,9 +8,9 @@ ghost use Rattle.tc_lex.specs.declared.kinds.TokenKind.{TokenKind};
 ghost use Rattle.tc_lex.specs.declared.kinds.TokenKind.TheVariants as kind;
 ghost use Rattle.tc_lex.specs.declared.kinds.Front.TheVariants.{Token};
 ghost use Rattle.tc_isa.specs.Insts.{InstData, IsInst, fields_in};
-ghost use Rattle.tc_stmt.specs.Numbers.{number_of};
-ghost use Rattle.tc_stmt.specs.Filling.{register_of, nothing};
-ghost use Rattle.tc_stmt.specs.Judging.{statement};
+ghost use Rattle.tc_lex.specs.Numbers.{number_of};
+ghost use Rattle.tc_stmt.specs.RowFields.{register_of, no_fields};
+ghost use Rattle.tc_stmt.specs.StatementRow.{statement};
 ghost use Rattle.hex_text.specs.Digits.{hex_word};
 ghost use Rattle.tc_disasm.specs.Texts.{register_text};
 ghost use Rattle.tc_disasm.specs.Tokens.{piece, printed_operands};
@@ -21,24 +21,29 @@ ghost use Rattle.tc_disasm.specs.Assembled.{ListingLaw};
 pub fn number_laws()
     ensures decimals { (n : ℕ) → n < 2 ^ 64 → number_of (decimal n) ≡ Some n }
     ensures addresses { (x : ℕ) → x < 2 ^ 32 → number_of (48 ∷ 120 ∷ hex_word x) ≡ Some x }
-    ensures registers { (bank : Bool) (n : ℕ) → n < 16 → register_of (register_text bank n) ≡ (if bank then 16 else 0) + n }
+    ensures registers { (bank : Bool) (n : ℕ) → n < 16
+        → register_of (register_text bank n) ≡ (if bank then 16 else 0) + n }
 {}
 
 /// A word or decimal number that stands at the front of a text is its first token, and the rest's tokens follow.
 pub fn token_laws()
-    ensures words { (c : ℕ) (cs rest : List ℕ) → is_name_first c ≡ true → list_all is_name_byte (c ∷ cs) ≡ true
+    ensures words { (c : ℕ) (cs rest : List ℕ) → is_name_first c ≡ true
+        → list_all is_name_byte (c ∷ cs) ≡ true
         → IsStop rest → front_of ((c ∷ cs) ++ rest) ≡ Token kind.Word (length (c ∷ cs)) }
     ensures digits { (c : ℕ) (cs rest : List ℕ) → list_all is_digit (c ∷ cs) ≡ true → IsStop rest
         → front_of ((c ∷ cs) ++ rest) ≡ Token kind.Number (length (c ∷ cs)) }
-    ensures fronts { (k : TokenKind) (c : ℕ) (cs rest : List ℕ) (room : ℕ) → front_of ((c ∷ cs) ++ rest) ≡ Token k (length (c ∷ cs))
-        → lexed ((c ∷ cs) ++ rest) (suc room) 0 ≡ option_map (λ ps. piece k (c ∷ cs) ∷ ps) (lexed rest room 0) }
+    ensures fronts { (k : TokenKind) (c : ℕ) (cs rest : List ℕ) (room : ℕ)
+        → front_of ((c ∷ cs) ++ rest) ≡ Token k (length (c ∷ cs))
+        → lexed ((c ∷ cs) ++ rest) (suc room) 0
+        ≡ option_map (λ ps. piece k (c ∷ cs) ∷ ps) (lexed rest room 0) }
 {}
 
 /// The statement of an instruction's name and of its operands as they are printed is the instruction: its row, its
 /// fields, no rule broken and no symbol.
 pub fn statement_law()
     ensures { (i : InstData) (is : IsInst i)
-        → statement is.row.name (printed_operands is.row (fields_in i)) ≡ Ok (i.row, record nothing { fields = fields_in i }) }
+        → statement is.row.name (printed_operands is.row (fields_in i))
+        ≡ Ok (i.row, record no_fields { fields = fields_in i }) }
 {}
 
 /// The listing of an image is assembled: it is a source that `assemble` takes, none of its lines breaks a rule, and the

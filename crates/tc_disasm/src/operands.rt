@@ -3,8 +3,8 @@ ghost use Rattle.std.specs.Prelude.{◌≡◌, ◌≤◌, ◌*◌, ◌++◌, OnO
 ghost use Rattle.std.specs.Fmt.{decimal};
 ghost use Rattle.tc_isa.specs.Words.{IsBelow, bounds};
 ghost use Rattle.tc_isa.specs.Shapes.{code_place};
-ghost use Rattle.tc_stmt.specs.declared.wanting.Want.TheVariants.{Memory};
-ghost use Rattle.tc_stmt.specs.Filling.{field_of};
+ghost use Rattle.tc_stmt.specs.declared.want.Want.TheVariants.{Memory};
+ghost use Rattle.tc_stmt.specs.RowFields.{field_of};
 ghost use Rattle.tc_disasm.specs.Texts.{register_text, number_text, is_two_way, target_text, address_in, absolute_text, base_text, operand_text};
 
 use crate::texts::{append, append_digit};
@@ -29,7 +29,7 @@ pub(crate) fn append_decimal(text: &mut String, n: u32) -> Result<(), NoMemory>
     Ok(())
 }
 
-#[tactic(auto, unfolding(tc_stmt::specs::Filling::field_of))]
+#[tactic(auto, unfolding(tc_stmt::specs::RowFields::field_of))]
 fn field_of(field: Field, f: &Fields) -> u32
     ensures { result ≡ field_of field f.now }
 {
@@ -44,7 +44,8 @@ fn field_of(field: Field, f: &Fields) -> u32
 
 #[tactic(auto, unfolding(crate::specs::Texts::register_text))]
 fn append_register(text: &mut String, is_address: bool, n: u32) -> Result<(), NoMemory>
-    ensures { OnOk result (string_bytes text.new ≡ string_bytes text.old ++ register_text is_address n) }
+    ensures { OnOk result
+        (string_bytes text.new ≡ string_bytes text.old ++ register_text is_address n) }
 {
     append(text, if is_address { "a" } else { "d" })?;
     append_decimal(text, n)
@@ -53,7 +54,8 @@ fn append_register(text: &mut String, is_address: bool, n: u32) -> Result<(), No
 #[tactic(auto, unfolding(crate::specs::Texts::number_text))]
 fn append_number(text: &mut String, signed: bool, bound: u32, value: u32) -> Result<(), NoMemory>
     requires { value ≤ bound }
-    ensures { OnOk result (string_bytes text.new ≡ string_bytes text.old ++ number_text signed bound value) }
+    ensures { OnOk result
+        (string_bytes text.new ≡ string_bytes text.old ++ number_text signed bound value) }
 {
     if signed && value >= bound / 2 {
         append(text, "-")?;
@@ -80,7 +82,8 @@ fn is_two_way(form: Form) -> bool
 fn append_target(text: &mut String, both: bool, bound: u32, k: u32) -> Result<(), NoMemory>
     requires within { k ≤ bound }
     requires small { bound ≤ 2 ^ 24 }
-    ensures { OnOk result (string_bytes text.new ≡ string_bytes text.old ++ target_text both bound k) }
+    ensures { OnOk result
+        (string_bytes text.new ≡ string_bytes text.old ++ target_text both bound k) }
 {
     if both && k >= bound / 2 {
         append(text, ".-")?;
@@ -113,7 +116,8 @@ fn code_address(f: &Fields) -> u32
 
 #[tactic(auto, unfolding(crate::specs::Texts::absolute_text))]
 fn append_absolute(text: &mut String, form: Form, f: &Fields) -> Result<(), NoMemory>
-    ensures { OnOk result (string_bytes text.new ≡ string_bytes text.old ++ absolute_text form f.now) }
+    ensures { OnOk result
+        (string_bytes text.new ≡ string_bytes text.old ++ absolute_text form f.now) }
 {
     append(text, "0x")?;
     append_hex_word(text, address_in(form, f))
@@ -137,7 +141,9 @@ fn append_memory(
     offset: bool,
 ) -> Result<(), NoMemory>
     requires { IsBelow f.now (bounds form) }
-    ensures { OnOk result (string_bytes text.new ≡ string_bytes text.old ++ operand_text form f.now (Memory plus offset)) }
+    ensures { OnOk result
+        (string_bytes text.new
+        ≡ string_bytes text.old ++ operand_text form f.now (Memory plus offset)) }
 {
     append_base(text, plus, u32::from(f.s2))?;
     if offset {
@@ -155,7 +161,8 @@ pub(crate) fn append_operand(
     want: Want,
 ) -> Result<(), NoMemory>
     requires { IsBelow f.now (bounds form) }
-    ensures { OnOk result (string_bytes text.new ≡ string_bytes text.old ++ operand_text form f.now want) }
+    ensures { OnOk result
+        (string_bytes text.new ≡ string_bytes text.old ++ operand_text form f.now want) }
 {
     match want {
         Want::Reg(bank, field) => append_register(text, bank, field_of(field, f)),
@@ -175,7 +182,10 @@ fn append_field(
     f: &Fields,
 ) -> Result<(), NoMemory>
     requires { IsBelow f.now (bounds form) }
-    ensures { OnOk result (string_bytes text.new ≡ string_bytes text.old ++ number_text signed (field_of field (bounds form)) (field_of field f.now)) }
+    ensures { OnOk result
+        (string_bytes text.new
+        ≡ string_bytes text.old
+        ++ number_text signed (field_of field (bounds form)) (field_of field f.now)) }
 {
     append_number(
         text,

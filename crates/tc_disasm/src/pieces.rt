@@ -32,7 +32,8 @@ fn append_data(text: &mut String, bytes: &[u8]) -> Result<(), NoMemory>
 #[tactic(auto, unfolding(crate::specs::Listing::text_at, crate::specs::Listing::size_at))]
 fn append_text(text: &mut String, bytes: &[u8]) -> Result<usize, NoMemory>
     requires { 0 < length bytes.now }
-    ensures text { OnOk result (string_bytes text.new ≡ string_bytes text.old ++ text_at bytes.now) }
+    ensures text { OnOk result
+        (string_bytes text.new ≡ string_bytes text.old ++ text_at bytes.now) }
     ensures size { IfOk result (λ n. n ≡ size_at bytes.now) }
     ensures some { IfOk result (λ n. 0 < n) }
     ensures within { IfOk result (λ n. n ≤ length bytes.now) }
@@ -104,7 +105,8 @@ fn append_bytes(text: &mut String, bytes: &[u8]) -> Result<(), NoMemory>
 // An address, the bytes there, and the line's end.
 #[tactic(auto, unfolding(crate::specs::Listing::remark))]
 fn append_remark(text: &mut String, address: u32, bytes: &[u8]) -> Result<(), NoMemory>
-    ensures { OnOk result (string_bytes text.new ≡ string_bytes text.old ++ remark address bytes.now) }
+    ensures { OnOk result
+        (string_bytes text.new ≡ string_bytes text.old ++ remark address bytes.now) }
 {
     append_address(text, address)?;
     append_bytes(text, bytes)
@@ -114,7 +116,8 @@ fn append_remark(text: &mut String, address: u32, bytes: &[u8]) -> Result<(), No
 #[tactic(auto, unfolding(crate::specs::Listing::line_at))]
 fn append_line(text: &mut String, address: u32, bytes: &[u8]) -> Result<usize, NoMemory>
     requires { 0 < length bytes.now }
-    ensures text { OnOk result (string_bytes text.new ≡ string_bytes text.old ++ line_at address bytes.now) }
+    ensures text { OnOk result
+        (string_bytes text.new ≡ string_bytes text.old ++ line_at address bytes.now) }
     ensures size { IfOk result (λ n. n ≡ size_at bytes.now) }
     ensures some { IfOk result (λ n. 0 < n) }
     ensures within { IfOk result (λ n. n ≤ length bytes.now) }
@@ -133,7 +136,9 @@ fn append_line_at(
 ) -> Result<usize, NoMemory>
     requires within { at < length bytes.now }
     requires fits { address + length bytes.now ≤ 2 ^ 32 }
-    ensures text { OnOk result (string_bytes text.new ≡ string_bytes text.old ++ line_at (address + at) (drop at bytes.now)) }
+    ensures text { OnOk result
+        (string_bytes text.new
+        ≡ string_bytes text.old ++ line_at (address + at) (drop at bytes.now)) }
     ensures size { IfOk result (λ n. n ≡ size_at (drop at bytes.now)) }
     ensures some { IfOk result (λ n. 0 < n) }
     ensures within { IfOk result (λ n. at + n ≤ length bytes.now) }
@@ -144,7 +149,8 @@ fn append_line_at(
 /// Puts the lines of the bytes from an address on there; each byte is looked at a bounded number of times.
 pub(crate) fn append_lines(text: &mut String, address: u32, bytes: &[u8]) -> Result<(), NoMemory>
     requires { address + length bytes.now ≤ 2 ^ 32 }
-    ensures { OnOk result (string_bytes text.new ≡ string_bytes text.old ++ lines_from address bytes.now 0) }
+    ensures { OnOk result
+        (string_bytes text.new ≡ string_bytes text.old ++ lines_from address bytes.now 0) }
 {
     let mut at = 0;
     'lines: while at < bytes.len() {

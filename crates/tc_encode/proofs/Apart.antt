@@ -8,7 +8,7 @@ use Rattle.tc_isa.specs.declared.table.Form.{Form}
 use Rattle.tc_isa.specs.declared.table.Form.TheVariants.{Rlc, Rr, Rc, Bol, Bo, Brr, Brc, B, Abs, Sys, Sr, Sc, Sb, Sbr, Src, Srr, Slr, Ssr}
 use Rattle.tc_isa.specs.Rows.{RowData, listed}
 use Rattle.tc_isa.specs.Words.{second_of, form_index}
-use Rattle.tc_isa.specs.Codec.{Fits, IsRow, word_of, clash, none_clash, is_long, spelled, spelling}
+use Rattle.tc_isa.specs.Codec.{Fits, IsRow, word_of, clash, none_clash, is_long, spelling_of, spelling}
 use Rattle.tc_encode.proofs.Inverse.{first-word, second-word}
 use Rattle.tc_isa.proofs.TableFacts.{row_at, rows_are_apart}
 
@@ -96,13 +96,13 @@ one_row p q r s f g at to fits gits is =
     ]
 
 -- bytes that begin with two spellings have one first byte, so the spellings are as long, and so the same
-head_of : (l m : Bool) (v w : ℕ) (x y : List ℕ) → spelled l v ++ x ≡ spelled m w ++ y → v % 256 ≡ w % 256
+head_of : (l m : Bool) (v w : ℕ) (x y : List ℕ) → spelling_of l v ++ x ≡ spelling_of m w ++ y → v % 256 ≡ w % 256
 head_of true true v w x y e = cc
 head_of true false v w x y e = cc
 head_of false true v w x y e = cc
 head_of false false v w x y e = cc
 
-same_word : (l : Bool) (v w : ℕ) (x y : List ℕ) → v < 2 ^ 32 → w < 2 ^ 32 → spelled l v ++ x ≡ spelled l w ++ y → v ≡ w
+same_word : (l : Bool) (v w : ℕ) (x y : List ℕ) → v < 2 ^ 32 → w < 2 ^ 32 → spelling_of l v ++ x ≡ spelling_of l w ++ y → v ≡ w
 same_word true v w x y hv hw e =
     let a : v % 256 ≡ w % 256 = cc in let b : v / 2 ^ 8 % 256 ≡ w / 2 ^ 8 % 256 = cc in
     let c : v / 2 ^ 16 % 256 ≡ w / 2 ^ 16 % 256 = cc in let d : v / 2 ^ 24 ≡ w / 2 ^ 24 = cc in omega arith
@@ -116,4 +116,4 @@ one_length r s f g x y row sow fits gits e =
 pub one_word : (r s : RowData) (f g : Fields) (x y : List ℕ) → IsRow r → IsRow s → Fits r f → Fits s g → word_of r f < 2 ^ 32 → word_of s g < 2 ^ 32 → spelling r f ++ x ≡ spelling s g ++ y → word_of r f ≡ word_of s g
 one_word r s f g x y row sow fits gits hr hs e =
     let long : is_long r ≡ is_long s = one_length r s f g x y row sow fits gits e in
-    same_word (is_long r) (word_of r f) (word_of s g) x y hr hs (e ∙ ap (λ l. spelled l (word_of s g) ++ y) (sym long))
+    same_word (is_long r) (word_of r f) (word_of s g) x y hr hs (e ∙ ap (λ l. spelling_of l (word_of s g) ++ y) (sym long))

@@ -4,7 +4,7 @@ use Rattle.tc_isa.specs.Rows.{RowData}
 use Rattle.tc_isa.specs.declared.fields.Fields.{Fields}
 use Rattle.tc_isa.specs.declared.fields.Uses.{Uses}
 use Rattle.tc_isa.specs.Words.{fields_of}
-use Rattle.tc_encode.specs.Finding.{mix, span}
+use Rattle.tc_encode.specs.WordSearch.{mix, span}
 use Rattle.tc_isa.specs.Codec.{Fits, IsRow, word_of, uses_of, rest_is_zero, is_apart, least}
 use Rattle.tc_encode.proofs.Mixed.{Mixed, mixed1, mixed2, mixed3}
 

@@ -2,7 +2,7 @@
 use Rattle.std.proofs.Common.{◌≡◌, ◌/◌, ◌%◌, ◌^◌, ◌<◌, ℕ, zero, suc, Bool, true, false, List, [], ◌∷◌, take, drop, get_or, refl, sym, ap, subst, ◌∙◌, arith}
 use Rattle.std.specs.Prelude.{All, if◌then◌else◌}
 use Rattle.std.specs.Int.{w32, to_le_bytes}
-use Rattle.tc_isa.specs.Codec.{word_of, is_long, spelled, four_bytes}
+use Rattle.tc_isa.specs.Codec.{word_of, is_long, spelling_of, four_bytes}
 use Rattle.tc_isa.specs.Insts.{InstData, IsInst, fields_in}
 use Rattle.tc_isa.specs.Spelling.{Spells}
 use Rattle.tc_isa.proofs.TableFacts.{row_at}
@@ -15,7 +15,7 @@ four_le w h =
     ap (λ d. w % 256 ∷ w / 2 ^ 8 % 256 ∷ w / 2 ^ 16 % 256 ∷ d ∷ []) p
 
 -- what is taken and what is left of the four bytes
-taken : (long : Bool) (w : ℕ) → (long ≡ false → w < 2 ^ 16) → take (if long then 4 else 2) (four_bytes w) ≡ spelled long w
+taken : (long : Bool) (w : ℕ) → (long ≡ false → w < 2 ^ 16) → take (if long then 4 else 2) (four_bytes w) ≡ spelling_of long w
 taken true w small = refl
 taken false w small = let h = small refl in let p : w / 2 ^ 8 % 256 ≡ w / 256 = omega arith in rw p refl
 
@@ -39,7 +39,7 @@ module _ (i : InstData) (is : IsInst i) (w len : ℕ) (bytes : List ℕ) (word_i
   four = bytes_are ∙ four_le w below
 
   pub encoded : Spells (take len bytes) i
-  encoded = record { inst = is; is = ap (λ n. take n bytes) len_is ∙ ap (take (need_of is.row.op1)) four ∙ taken (is_long is.row) w small ∙ ap (spelled (is_long is.row)) word_is }
+  encoded = record { inst = is; is = ap (λ n. take n bytes) len_is ∙ ap (take (need_of is.row.op1)) four ∙ taken (is_long is.row) w small ∙ ap (spelling_of (is_long is.row)) word_is }
 
   pub padded : All (λ b. b ≡ 0) (drop len bytes)
   padded = subst (λ n. All (λ b. b ≡ 0) (drop n bytes)) (sym len_is) (subst (λ bs. All (λ b. b ≡ 0) (drop (need_of is.row.op1) bs)) (sym four) (left (is_long is.row) w small))

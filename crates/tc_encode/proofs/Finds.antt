@@ -15,7 +15,7 @@ use Rattle.tc_isa.specs.Codec.{Fits, word_of, uses_of, rest_is_zero, is_apart}
 use Rattle.tc_isa.specs.Insts.{InstData, IsInst, fields_in}
 use Rattle.tc_isa.proofs.TableFacts.{row_at}
 use Rattle.tc_encode.specs.Decoding.{instruction}
-use Rattle.tc_encode.specs.Finding.{Makes, is_between, has_form, hold_all, is_at, is_place, hold_places, has_no_gap, names_all, names_or_lacks}
+use Rattle.tc_encode.specs.WordSearch.{Makes, is_between, has_form, hold_all, is_at, is_place, hold_places, has_no_gap, names_all, names_or_lacks}
 use Rattle.tc_encode.proofs.Gaps.{fields_below, word_back, full_word}
 use Rattle.tc_encode.proofs.Inverse.{first-word, second-word}
 use Rattle.tc_encode.proofs.Only.{only}

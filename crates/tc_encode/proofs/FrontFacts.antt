@@ -5,14 +5,14 @@ use Rattle.std.proofs.lemmas.Bool.{and_parts, and_from, ltb-true, lt-ltb}
 use Rattle.std.proofs.lemmas.List.{take_at, append-nil}
 use Rattle.tc_isa.specs.declared.fields.Fields.{Fields}
 use Rattle.tc_isa.specs.Rows.{RowData}
-use Rattle.tc_encode.specs.Finding.{mix}
-use Rattle.tc_isa.specs.Codec.{Fits, IsRow, word_of, is_long, least, spelled, spelling}
+use Rattle.tc_encode.specs.WordSearch.{mix}
+use Rattle.tc_isa.specs.Codec.{Fits, IsRow, word_of, is_long, least, spelling_of, spelling}
 use Rattle.tc_encode.specs.Decoding.{size_of, begins_with, goes_on_as}
 use Rattle.tc_encode.proofs.Complete.{completed}
 use Rattle.tc_encode.proofs.Spelled.{begins_here, size_spelling}
 
 -- the bytes of a mixed number
-mixed_bytes : (long : Bool) (n a b : ℕ) → 1 ≤ n → n < (if long then 4 else 2) → spelled long (mix n a b) ≡ take n (spelled long a) ++ drop n (spelled long b)
+mixed_bytes : (long : Bool) (n a b : ℕ) → 1 ≤ n → n < (if long then 4 else 2) → spelling_of long (mix n a b) ≡ take n (spelling_of long a) ++ drop n (spelling_of long b)
 mixed_bytes long zero a b low high = absurd (omega arith)
 mixed_bytes true (suc zero) a b low high =
     let p : (a % 2 ^ 8 + b / 2 ^ 8 * 2 ^ 8) % 256 ≡ a % 256 = omega arith in
@@ -48,7 +48,7 @@ gone_on r f zero row fits short = least_goes_on r row
 gone_on r f (suc n) row fits short =
     let x = completed r (suc n) f row fits (omega arith) (omega (arith, size_small (is_long r))) in
     let is : spelling r x.0 ≡ take (suc n) (spelling r f) ++ drop (suc n) (spelling r (least r)) =
-    ap (spelled (is_long r)) x.2 ∙ mixed_bytes (is_long r) (suc n) (word_of r f) (word_of r (least r)) (omega arith) short in
+    ap (spelling_of (is_long r)) x.2 ∙ mixed_bytes (is_long r) (suc n) (word_of r f) (word_of r (least r)) (omega arith) short in
     subst (λ bs. begins_with bs r ≡ true) (append-nil (spelling r x.0) ∙ is) (begins_here r x.0 [] row x.1)
 
 has_some : (rest : List ℕ) → rest ≢ [] → 1 ≤ length rest

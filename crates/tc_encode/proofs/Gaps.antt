@@ -5,7 +5,7 @@ use Rattle.tc_isa.specs.declared.fields.Fields.{Fields}
 use Rattle.tc_isa.specs.declared.table.Form.{Form}
 use Rattle.tc_isa.specs.declared.table.Form.TheVariants.{Rlc, Rr, Rc, Bol, Bo, Brr, Brc, B, Abs, Sys, Sr, Sc, Sb, Sbr, Src, Srr, Slr, Ssr}
 use Rattle.tc_isa.specs.Words.{IsBelow, bounds, second_bound, word, fields_of, second_of, is_long_form}
-use Rattle.tc_encode.specs.Finding.{has_no_gap}
+use Rattle.tc_encode.specs.WordSearch.{has_no_gap}
 
 pub fields_below : (form : Form) (w : ℕ) → w < 2 ^ 32 → IsBelow (fields_of form w) (bounds form)
 unfolding fields_of bounds

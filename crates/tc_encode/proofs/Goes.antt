@@ -6,7 +6,7 @@ use Rattle.tc_isa.specs.Codec.{Fits, word_of, least}
 use Rattle.tc_isa.specs.Insts.{InstData, fields_in}
 use Rattle.tc_isa.proofs.TableFacts.{row_at}
 use Rattle.tc_encode.specs.Decoding.{instruction, size_of}
-use Rattle.tc_encode.specs.Finding.{Makes, GoesOn, span, hold_all}
+use Rattle.tc_encode.specs.WordSearch.{Makes, GoesOn, span, hold_all}
 use Rattle.tc_encode.proofs.Complete.{completed, same_mix}
 use Rattle.tc_encode.proofs.Finds.{row_is, first_is, Between, stands_between}
 

@@ -4,7 +4,7 @@ use Rattle.tc_isa.specs.declared.fields.Fields.{Fields}
 use Rattle.tc_isa.specs.declared.table.Form.{Form}
 use Rattle.tc_isa.specs.declared.table.Form.TheVariants.{Rlc, Rr, Rc, Bol, Bo, Brr, Brc, B, Abs, Sys, Sr, Sc, Sb, Sbr, Src, Srr, Slr, Ssr}
 use Rattle.tc_isa.specs.Words.{IsBelow, bounds, second_bound, word, fields_of}
-use Rattle.tc_encode.specs.Finding.{mix1, mix2, mix3}
+use Rattle.tc_encode.specs.WordSearch.{mix1, mix2, mix3}
 
 pub record Mixed (form : Form) (op1 op2 : ℕ) (f g : Fields) (m : ℕ) : Type 0 where
   pub below : IsBelow (fields_of form m) (bounds form)

@@ -7,7 +7,7 @@ use Rattle.std.proofs.lemmas.List.{take_at}
 use Rattle.tc_isa.specs.declared.fields.Fields.{Fields}
 use Rattle.tc_isa.specs.Rows.{RowData}
 use Rattle.tc_isa.specs.Words.{bounds, fields_of, IsBelow}
-use Rattle.tc_isa.specs.Codec.{Fits, IsRow, word_of, is_below_test, is_long, spelled, spelling, two_bytes, four_bytes}
+use Rattle.tc_isa.specs.Codec.{Fits, IsRow, word_of, is_below_test, is_long, spelling_of, spelling, two_bytes, four_bytes}
 use Rattle.tc_encode.specs.Decoding.{number_of, size_of, do_fit, fields_at, begins_with}
 use Rattle.tc_encode.proofs.Inverse.{fields-word}
 use Rattle.tc_encode.proofs.Bytes.{word-lt}
@@ -30,7 +30,7 @@ pub fits_true : (r : RowData) (f : Fields) → Fits r f → do_fit r f ≡ true
 fits_true r f fits = and_from _ _ (and_from _ _ (below_true f (bounds r.form) fits.below) fits.zero) fits.apart
 
 -- a row's spelling has the row's size
-size_spelled : (long : Bool) (w : ℕ) → length (spelled long w) ≡ (if long then 4 else 2)
+size_spelled : (long : Bool) (w : ℕ) → length (spelling_of long w) ≡ (if long then 4 else 2)
 size_spelled true w = refl
 size_spelled false w = refl
 
@@ -44,7 +44,7 @@ four_number w h = omega arith
 two_number : (w : ℕ) → number_of (two_bytes w) ≡ w
 two_number w = omega arith
 
-spelled_number : (long : Bool) (w : ℕ) → w < 2 ^ 32 → number_of (spelled long w) ≡ w
+spelled_number : (long : Bool) (w : ℕ) → w < 2 ^ 32 → number_of (spelling_of long w) ≡ w
 spelled_number true w h = four_number w h
 spelled_number false w h = two_number w
 

@@ -5,19 +5,19 @@ use Rattle.std.proofs.lemmas.Bool.{eq-eqb}
 use Rattle.std.proofs.lemmas.List.{take-append-drop}
 use Rattle.tc_isa.specs.Words.{fields_of, bounds, word}
 use Rattle.tc_isa.specs.Insts.{InstData, IsInst, fields_in}
-use Rattle.tc_isa.specs.Codec.{word_of, is_long, spelled, spelling, two_bytes, four_bytes}
+use Rattle.tc_isa.specs.Codec.{word_of, is_long, spelling_of, spelling, two_bytes, four_bytes}
 use Rattle.tc_isa.specs.Spelling.{Begins, IsFront}
 use Rattle.tc_isa.proofs.TableFacts.{row_at}
 use Rattle.tc_encode.specs.declared.errors.DecodeErr.TheVariants.{Short, NotListed}
 use Rattle.tc_encode.specs.Decoding.{decoded_of, need_of, size_of, number_of}
-use Rattle.tc_encode.specs.Finding.{Makes, GoesOn, span}
+use Rattle.tc_encode.specs.WordSearch.{Makes, GoesOn, span}
 use Rattle.tc_encode.proofs.Inverse.{first-word}
 use Rattle.tc_encode.proofs.Spelled.{size_spelling}
 use Rattle.tc_encode.proofs.Finds.{first_is}
 use Rattle.tc_encode.proofs.DecodeProofs.{spelled_decodes, short_is_front, not_listed_is_rest}
 
 -- the first byte of a spelling is the row's first code
-head_of : (long : Bool) (w a : ℕ) (more rest : List ℕ) → a ∷ more ≡ spelled long w ++ rest → a ≡ w % 256
+head_of : (long : Bool) (w a : ℕ) (more rest : List ℕ) → a ∷ more ≡ spelling_of long w ++ rest → a ≡ w % 256
 head_of true w a more rest e = cc
 head_of false w a more rest e = cc
 
@@ -80,7 +80,7 @@ pub long_ok : (a b c d w : ℕ) (i : InstData) (rest : List ℕ) → a % 2 ≡ 1
 long_ok a b c d w i rest odd la lb lc ld is m =
     let first : m.inst.row.op1 ≡ a = sym (first_is w i m) ∙ omega arith in
     let bytes : a ∷ b ∷ c ∷ d ∷ [] ≡ spelling m.inst.row (fields_in i) =
-    sym (ap (λ l. spelled l (word_of m.inst.row (fields_in i))) (long_is i m.inst a first odd) ∙ ap four_bytes m.is ∙ four_bytes_of w a b c d is la lb lc ld) in
+    sym (ap (λ l. spelling_of l (word_of m.inst.row (fields_in i))) (long_is i m.inst a first odd) ∙ ap four_bytes m.is ∙ four_bytes_of w a b c d is la lb lc ld) in
     spelled_decodes (a ∷ b ∷ c ∷ d ∷ []) rest i (record { inst = m.inst; is = bytes })
 
 four_parts : (w a b c d : ℕ) (more rest : List ℕ) → a ∷ b ∷ c ∷ d ∷ more ≡ four_bytes w ++ rest → w ≡ a + b * 2 ^ 8 + c * 2 ^ 16 + d * 2 ^ 24
@@ -96,7 +96,7 @@ long_none a b c d w rest odd is none =
           let inst = begins.spells.inst in
           let whole = begun xs i n begins in
           let first = first_of_spelling i inst a (b ∷ c ∷ d ∷ rest) (drop n xs) whole in
-          let bytes : xs ≡ four_bytes (word_of inst.row (fields_in i)) ++ drop n xs = whole ∙ ap (λ l. spelled l (word_of inst.row (fields_in i)) ++ drop n xs) (long_is i inst a first odd) in
+          let bytes : xs ≡ four_bytes (word_of inst.row (fields_in i)) ++ drop n xs = whole ∙ ap (λ l. spelling_of l (word_of inst.row (fields_in i)) ++ drop n xs) (long_is i inst a first odd) in
           none i (record { inst = inst; is = four_parts _ a b c d rest (drop n xs) bytes ∙ sym is }),
     )
 
@@ -104,7 +104,7 @@ pub short_ok : (a b w : ℕ) (i : InstData) (rest : List ℕ) → a % 2 ≡ 0 �
 short_ok a b w i rest even la lb is m =
     let first : m.inst.row.op1 ≡ a = sym (first_is w i m) ∙ omega arith in
     let bytes : a ∷ b ∷ [] ≡ spelling m.inst.row (fields_in i) =
-    sym (ap (λ l. spelled l (word_of m.inst.row (fields_in i))) (short_is i m.inst a first even) ∙ ap two_bytes m.is ∙ two_bytes_of w a b is la lb) in
+    sym (ap (λ l. spelling_of l (word_of m.inst.row (fields_in i))) (short_is i m.inst a first even) ∙ ap two_bytes m.is ∙ two_bytes_of w a b is la lb) in
     spelled_decodes (a ∷ b ∷ []) rest i (record { inst = m.inst; is = bytes })
 
 two_parts : (w a b : ℕ) (more rest : List ℕ) → a ∷ b ∷ more ≡ two_bytes w ++ rest → w ≡ a + b * 2 ^ 8
@@ -119,12 +119,12 @@ short_none a b w rest even is none =
           let inst = begins.spells.inst in
           let whole = begun xs i n begins in
           let first = first_of_spelling i inst a (b ∷ rest) (drop n xs) whole in
-          let bytes : xs ≡ two_bytes (word_of inst.row (fields_in i)) ++ drop n xs = whole ∙ ap (λ l. spelled l (word_of inst.row (fields_in i)) ++ drop n xs) (short_is i inst a first even) in
+          let bytes : xs ≡ two_bytes (word_of inst.row (fields_in i)) ++ drop n xs = whole ∙ ap (λ l. spelling_of l (word_of inst.row (fields_in i)) ++ drop n xs) (short_is i inst a first even) in
           none i (record { inst = inst; is = two_parts _ a b rest (drop n xs) bytes ∙ sym is }),
     )
 
 -- one to three bytes and the number that they are
-low_bytes : (long : Bool) (w : ℕ) (bytes : List ℕ) → All (λ b. b < 256) bytes → 1 ≤ length bytes → length bytes < (if long then 4 else 2) → w % span (length bytes) ≡ number_of bytes → take (length bytes) (spelled long w) ≡ bytes
+low_bytes : (long : Bool) (w : ℕ) (bytes : List ℕ) → All (λ b. b < 256) bytes → 1 ≤ length bytes → length bytes < (if long then 4 else 2) → w % span (length bytes) ≡ number_of bytes → take (length bytes) (spelling_of long w) ≡ bytes
 low_bytes long w [] all low high is = absurd (omega arith)
 low_bytes true w (a ∷ []) all low high is = let p : w % 256 ≡ a = omega arith in rw p refl
 low_bytes true w (a ∷ b ∷ []) all low high is =
@@ -137,7 +137,7 @@ low_bytes true w (a ∷ b ∷ c ∷ d ∷ more) all low high is = absurd (omega 
 low_bytes false w (a ∷ []) all low high is = let p : w % 256 ≡ a = omega arith in rw p refl
 low_bytes false w (a ∷ b ∷ more) all low high is = absurd (omega arith)
 
-low_number : (long : Bool) (w : ℕ) (bytes rest : List ℕ) → 1 ≤ length bytes → length bytes < (if long then 4 else 2) → bytes ++ rest ≡ spelled long w → w % span (length bytes) ≡ number_of bytes
+low_number : (long : Bool) (w : ℕ) (bytes rest : List ℕ) → 1 ≤ length bytes → length bytes < (if long then 4 else 2) → bytes ++ rest ≡ spelling_of long w → w % span (length bytes) ≡ number_of bytes
 low_number long w [] rest low high is = absurd (omega arith)
 low_number true w (a ∷ []) rest low high is = let p : a ≡ w % 256 = cc in omega arith
 low_number true w (a ∷ b ∷ []) rest low high is = let p : a ≡ w % 256 = cc in let q : b ≡ w / 2 ^ 8 % 256 = cc in omega arith

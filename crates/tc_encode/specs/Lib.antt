@@ -1,4 +1,4 @@
 -- Decoding: the instruction with whose spelling bytes begin.
 pub mod Decoding
 pub mod DecodeLaws
-pub mod Finding
+pub mod WordSearch

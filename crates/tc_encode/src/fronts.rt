@@ -4,7 +4,7 @@ ghost use Rattle.tc_isa.specs.Rows.{row_of, listed, RowData};
 ghost use Rattle.tc_isa.specs.Codec.{least};
 ghost use Rattle.tc_isa.specs.Insts.{InstData};
 ghost use Rattle.tc_encode.specs.Decoding.{size_of, need_of};
-ghost use Rattle.tc_encode.specs.Finding.{GoesOn, Makes, span};
+ghost use Rattle.tc_encode.specs.WordSearch.{GoesOn, Makes, span};
 
 use crate::forms::{join, split};
 use crate::index::groups;
@@ -99,7 +99,8 @@ fn completed_between(from: u8, to: u8, first: u8, n: u8, part: u32) -> Option<In
     requires part { part < span n }
     requires first { first ≡ part % 256 }
     ensures some { IfSome result (GoesOn n part) }
-    ensures none { IfNone result ((i : InstData) → GoesOn n part i → from ≤ i.row → i.row < to → ⊥) }
+    ensures none { IfNone result
+        ((i : InstData) → GoesOn n part i → from ≤ i.row → i.row < to → ⊥) }
 {
     for place in from..to {
         if let Some(found) = completed_at(place, first, n, part) {

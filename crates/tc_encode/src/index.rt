@@ -2,7 +2,7 @@
 ghost use Rattle.std.specs.Prelude.{◌≡◌, length, map, true, nat_le};
 ghost use Rattle.std.specs.List.{list_all};
 ghost use Rattle.tc_isa.specs.Rows.{listed};
-ghost use Rattle.tc_encode.specs.Finding.{hold_all, hold_places, names_all};
+ghost use Rattle.tc_encode.specs.WordSearch.{hold_all, hold_places, names_all};
 
 // By the first byte, the place of the first row that begins with it.
 static STARTS: [u8; 256] = [

@@ -1,18 +1,16 @@
 //! Instructions as bytes.
 #![tactic(auto)]
 
-mod codes;
-mod decoding;
-mod encoding;
+mod code;
 mod errors;
-mod finding;
+mod first_instruction;
 mod forms;
 mod fronts;
 mod index;
 mod laws;
+mod word_search;
 
-pub use codes::Code;
-pub use decoding::decode;
-pub use encoding::encode;
+pub use code::{Code, encode};
 pub use errors::DecodeErr;
+pub use first_instruction::decode;
 pub use laws::{decoding_laws, spelling_laws};

@@ -6,19 +6,19 @@ use Rattle.std.proofs.lemmas.Bool.{cases_lt, lt-ltb, le-ltb, or_cases, eqb-true}
 use Rattle.std.proofs.lemmas.List.Sums.{AllPass-from_list_all}
 use Rattle.tcd_base.specs.Fields.{sext_of}
 use Rattle.tc_isa.specs.declared.fields.Fields.{Fields}
-use Rattle.tc_isa.specs.declared.meaning.Place.{Place}
-use Rattle.tc_isa.specs.declared.meaning.Place.TheVariants.{Dc, Ds1, Ds2, D15, Ac, As1, As2, A10}
-use Rattle.tc_isa.specs.declared.meaning.Constant.{Constant}
-use Rattle.tc_isa.specs.declared.meaning.Constant.TheVariants.{Zero, Signed4, Signed9, Signed10, Signed16, Unsigned, High, Address, SignedS2, UnsignedS2}
+use Rattle.tc_isa.specs.declared.meaning.RegField.{RegField}
+use Rattle.tc_isa.specs.declared.meaning.RegField.TheVariants.{Dc, Ds1, Ds2, D15, Ac, As1, As2, A10}
+use Rattle.tc_isa.specs.declared.meaning.Immediate.{Immediate}
+use Rattle.tc_isa.specs.declared.meaning.Immediate.TheVariants.{Zero, Signed4, Signed9, Signed10, Signed16, Unsigned, High, Address, SignedS2, UnsignedS2}
 use Rattle.tc_isa.specs.declared.meaning.Operand.{Operand}
 use Rattle.tc_isa.specs.declared.meaning.Operand.TheVariants.{At, Of}
-use Rattle.tc_isa.specs.declared.meaning.Distance.{Distance}
-use Rattle.tc_isa.specs.declared.meaning.Distance.TheVariants.{Ahead8, Ahead15, Ahead24, AheadOnly}
-use Rattle.tc_isa.specs.declared.meaning.Goal.{Goal}
-use Rattle.tc_isa.specs.declared.meaning.Goal.TheVariants.{By, Code, In}
+use Rattle.tc_isa.specs.declared.meaning.Displacement.{Displacement}
+use Rattle.tc_isa.specs.declared.meaning.Displacement.TheVariants.{Ahead8, Ahead15, Ahead24, AheadOnly}
+use Rattle.tc_isa.specs.declared.meaning.Destination.{Destination}
+use Rattle.tc_isa.specs.declared.meaning.Destination.TheVariants.{By, Code, In}
 use Rattle.tc_isa.specs.declared.meaning.Meaning.{Meaning}
 use Rattle.tc_isa.specs.declared.meaning.Meaning.TheVariants.{Computes, Scales, Loads, Stores, Branches, Jumps, Calls, Masks, Traps, ReadsCore, WritesCore, Always}
-use Rattle.tc_isa.specs.declared.meanings.TheConstants.{MEANINGS}
+use Rattle.tc_isa.specs.declared.row_meanings.TheConstants.{MEANINGS}
 use Rattle.tc_isa.specs.declared.shapes.Shape.{Shape}
 use Rattle.tc_isa.specs.declared.shapes.Shape.TheVariants.{Compute, Scaled, Load, Store, Branch, Jump, Call, Ret, Rfe, Svlcx, Rslcx, Bisr, Enable, Disable, Syscall, Mfcr, Mtcr, Nothing}
 use Rattle.tc_isa.specs.Insts.{InstData, IsInst, fields_in}
@@ -34,7 +34,7 @@ sext_lt x n low word = elim (cases_lt x (2 ^ (n - 1))) [
   | inr minus ↦ rw (le-ltb x (2 ^ (n - 1)) minus) (omega arith)
 ]
 
-register_is : (p : Place) (f : Fields) → AreSmall f → IsRegister (register_of p f)
+register_is : (p : RegField) (f : Fields) → AreSmall f → IsRegister (register_of p f)
 register_is Dc f s = omega arith
 register_is Ds1 f s = omega arith
 register_is Ds2 f s = omega arith
@@ -44,7 +44,7 @@ register_is As1 f s = omega arith
 register_is As2 f s = omega arith
 register_is A10 f s = omega arith
 
-word_is : (c : Constant) (f : Fields) → AreSmall f → IsWord (word_at c f)
+word_is : (c : Immediate) (f : Fields) → AreSmall f → IsWord (word_at c f)
 word_is Zero f s = omega arith
 word_is Signed4 f s = sext_lt (f.k % 2 ^ 4) 4 (omega arith) (omega arith)
 word_is Signed9 f s = sext_lt (f.k % 2 ^ 9) 9 (omega arith) (omega arith)
@@ -60,13 +60,13 @@ operand_is : (o : Operand) (f : Fields) → AreSmall f → IsArg (operand_of o f
 operand_is (At p) f s = register_is p f s
 operand_is (Of c) f s = word_is c f s
 
-distance_is : (b : Distance) (f : Fields) → AreSmall f → IsWord (distance_of b f)
+distance_is : (b : Displacement) (f : Fields) → AreSmall f → IsWord (distance_of b f)
 distance_is Ahead8 f s = omega arith
 distance_is Ahead15 f s = omega arith
 distance_is Ahead24 f s = omega arith
 distance_is AheadOnly f s = omega arith
 
-target_is : (g : Goal) (f : Fields) → AreSmall f → IsTarget (goal_of g f)
+target_is : (g : Destination) (f : Fields) → AreSmall f → IsTarget (goal_of g f)
 target_is (By b) f s = distance_is b f s
 target_is Code f s = omega arith
 target_is (In p) f s = register_is p f s

@@ -33,8 +33,8 @@ one_if b = if b then 1 else 0
 
 -- the shift by a count of six bits, which is a signed number: left by it below 32, else right by 64 less it, filled
 -- with zeros
-abbrev pub shifted : ℕ → ℕ → ℕ
-shifted x n = if nat_lt n 32 then x * 2 ^ n % 2 ^ 32 else x / 2 ^ (64 - n)
+abbrev pub shift_by : ℕ → ℕ → ℕ
+shift_by x n = if nat_lt n 32 then x * 2 ^ n % 2 ^ 32 else x / 2 ^ (64 - n)
 
 -- the same, but to the right filled with the sign bit
 abbrev pub shifted_signed : ℕ → ℕ → ℕ
@@ -59,5 +59,5 @@ alu_of op.Lt x y = one_if (nat_lt (signed_place x) (signed_place y))
 alu_of op.LtU x y = one_if (nat_lt x y)
 alu_of op.Ge x y = one_if (nat_le (signed_place y) (signed_place x))
 alu_of op.GeU x y = one_if (nat_le y x)
-alu_of op.Sh x y = shifted x (y % 64)
+alu_of op.Sh x y = shift_by x (y % 64)
 alu_of op.Sha x y = shifted_signed x (y % 64)

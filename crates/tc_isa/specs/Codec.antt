@@ -81,13 +81,13 @@ abbrev pub four_bytes : ℕ → List ℕ
 four_bytes w = w % 256 ∷ w / 2 ^ 8 % 256 ∷ w / 2 ^ 16 % 256 ∷ w / 2 ^ 24 ∷ []
 
 -- a number as the bytes of an instruction of 32 bits or of 16
-abbrev pub spelled : Bool → ℕ → List ℕ
-spelled true w = four_bytes w
-spelled false w = two_bytes w
+abbrev pub spelling_of : Bool → ℕ → List ℕ
+spelling_of true w = four_bytes w
+spelling_of false w = two_bytes w
 
 -- the bytes of a row with these fields
 abbrev pub spelling : RowData → Fields → List ℕ
-spelling r f = spelled (is_long r) (word_of r f)
+spelling r f = spelling_of (is_long r) (word_of r f)
 
 -- two rows that some word could have both: one first code, and another form or the same second code
 abbrev pub clash : RowData → RowData → Bool

@@ -1,16 +1,16 @@
 -- What an instruction does, by places for what its fields give.
 use Rattle.std.specs.Prelude.{◌%◌, ◌^◌, ◌<◌, ℕ}
 use Rattle.tc_isa.specs.declared.fields.Fields.{Fields}
-use Rattle.tc_isa.specs.declared.meaning.Place.{Place}
-use Rattle.tc_isa.specs.declared.meaning.Place.TheVariants.{Dc, Ds1, Ds2, D15, Ac, As1, As2, A10}
-use Rattle.tc_isa.specs.declared.meaning.Constant.{Constant}
-use Rattle.tc_isa.specs.declared.meaning.Constant.TheVariants.{Zero, Signed4, Signed9, Signed10, Signed16, Unsigned, High, Address, SignedS2, UnsignedS2}
+use Rattle.tc_isa.specs.declared.meaning.RegField.{RegField}
+use Rattle.tc_isa.specs.declared.meaning.RegField.TheVariants.{Dc, Ds1, Ds2, D15, Ac, As1, As2, A10}
+use Rattle.tc_isa.specs.declared.meaning.Immediate.{Immediate}
+use Rattle.tc_isa.specs.declared.meaning.Immediate.TheVariants.{Zero, Signed4, Signed9, Signed10, Signed16, Unsigned, High, Address, SignedS2, UnsignedS2}
 use Rattle.tc_isa.specs.declared.meaning.Operand.{Operand}
 use Rattle.tc_isa.specs.declared.meaning.Operand.TheVariants.{At, Of}
-use Rattle.tc_isa.specs.declared.meaning.Distance.{Distance}
-use Rattle.tc_isa.specs.declared.meaning.Distance.TheVariants.{Ahead8, Ahead15, Ahead24, AheadOnly}
-use Rattle.tc_isa.specs.declared.meaning.Goal.{Goal}
-use Rattle.tc_isa.specs.declared.meaning.Goal.TheVariants.{By, Code, In}
+use Rattle.tc_isa.specs.declared.meaning.Displacement.{Displacement}
+use Rattle.tc_isa.specs.declared.meaning.Displacement.TheVariants.{Ahead8, Ahead15, Ahead24, AheadOnly}
+use Rattle.tc_isa.specs.declared.meaning.Destination.{Destination}
+use Rattle.tc_isa.specs.declared.meaning.Destination.TheVariants.{By, Code, In}
 use Rattle.tc_isa.specs.declared.meaning.Meaning.{Meaning}
 use Rattle.tc_isa.specs.declared.meaning.Meaning.TheVariants.{Computes, Scales, Loads, Stores, Branches, Jumps, Calls, Masks, Traps, ReadsCore, WritesCore, Always}
 use Rattle.tc_isa.specs.declared.shapes.Arg.{Arg}
@@ -20,7 +20,7 @@ use Rattle.tc_isa.specs.declared.shapes.Target.TheVariants as target
 use Rattle.tc_isa.specs.declared.shapes.Shape.{Shape}
 use Rattle.tc_isa.specs.declared.shapes.Shape.TheVariants.{Compute, Scaled, Load, Store, Branch, Jump, Call, Bisr, Syscall, Mfcr, Mtcr}
 use Rattle.tc_isa.specs.Arithmetic.{sign_extended}
-use Rattle.tc_isa.specs.Shapes.{d, a, sk, uk, high, place, code_place, ahead, ahead_only}
+use Rattle.tc_isa.specs.Shapes.{d, a, sk, uk, high, place, code_place, doubled_displacement, ahead_only}
 
 -- register fields have four bits, n two, and k at most 24
 pub record AreSmall (f : Fields) : Type 0 where
@@ -31,7 +31,7 @@ pub record AreSmall (f : Fields) : Type 0 where
   pub k : f.k < 2 ^ 24
 
 -- the register at a place
-abbrev pub register_of : Place → Fields → ℕ
+abbrev pub register_of : RegField → Fields → ℕ
 register_of Dc f = d f.c
 register_of Ds1 f = d f.s1
 register_of Ds2 f = d f.s2
@@ -42,7 +42,7 @@ register_of As2 f = a f.s2
 register_of A10 f = a 10
 
 -- the word that a constant is
-abbrev pub word_at : Constant → Fields → ℕ
+abbrev pub word_at : Immediate → Fields → ℕ
 word_at Zero f = 0
 word_at Signed4 f = sk 4 f
 word_at Signed9 f = sk 9 f
@@ -60,14 +60,14 @@ operand_of (At p) f = Reg (register_of p f)
 operand_of (Of c) f = Word (word_at c f)
 
 -- how many bytes ahead a target is
-abbrev pub distance_of : Distance → Fields → ℕ
-distance_of Ahead8 f = ahead 8 f
-distance_of Ahead15 f = ahead 15 f
-distance_of Ahead24 f = ahead 24 f
+abbrev pub distance_of : Displacement → Fields → ℕ
+distance_of Ahead8 f = doubled_displacement 8 f
+distance_of Ahead15 f = doubled_displacement 15 f
+distance_of Ahead24 f = doubled_displacement 24 f
 distance_of AheadOnly f = ahead_only f
 
 -- the target
-abbrev pub goal_of : Goal → Fields → Target
+abbrev pub goal_of : Destination → Fields → Target
 goal_of (By b) f = target.Rel (distance_of b f)
 goal_of Code f = target.Abs (code_place f)
 goal_of (In p) f = target.Reg (register_of p f)

@@ -3,16 +3,44 @@ use Rattle.std.specs.Prelude.{◌==◌, ◌&&◌, ◌||◌, nat_le, ℕ, Bool, f
 use Rattle.tc_isa.specs.declared.table.Form.{Form}
 use Rattle.tc_isa.specs.declared.table.Form.TheVariants.{Rlc, Bol, Brr, Brc, B}
 
+-- half the displacement of a jump or a call, in 24 bits
+abbrev pub rel24 : ℕ
+rel24 = 1
+
+-- bits 31:28 and 20:1 of an address, in 24 bits
+abbrev pub abs24 : ℕ
+abs24 = 2
+
+-- half the displacement of a branch, in 15 bits
+abbrev pub rel15 : ℕ
+rel15 = 3
+
+-- the upper half of an address, one more where its lower half is negative
+abbrev pub hi16 : ℕ
+hi16 = 4
+
+-- the lower half of an address, in the constant of an operation
+abbrev pub lo16 : ℕ
+lo16 = 5
+
+-- the lower half of an address, in the offset of an access
+abbrev pub offset16 : ℕ
+offset16 = 6
+
+-- an address as a word of data
+abbrev pub word32 : ℕ
+word32 = 7
+
 -- the kinds of relocations, from 1 to 7
 abbrev pub is_reloc : ℕ → Bool
-is_reloc kind = nat_le 1 kind && nat_le kind 7
+is_reloc kind = nat_le rel24 kind && nat_le kind word32
 
 -- a relocation of this kind fills the constant of an instruction of this form (TriCore 1 architecture manual, volume 2,
 -- instruction formats)
 unfoldable pub fills : Form → ℕ → Bool
-fills B kind = kind == 1 || kind == 2
-fills Brr kind = kind == 3
-fills Brc kind = kind == 3
-fills Rlc kind = kind == 4 || kind == 5
-fills Bol kind = kind == 6
+fills B kind = kind == rel24 || kind == abs24
+fills Brr kind = kind == rel15
+fills Brc kind = kind == rel15
+fills Rlc kind = kind == hi16 || kind == lo16
+fills Bol kind = kind == offset16
 fills form kind = false

@@ -41,8 +41,8 @@ abbrev pub code_place : Fields → ℕ
 code_place f = f.k / 2 ^ 20 % 2 ^ 4 * 2 ^ 28 + f.k % 2 ^ 20 * 2
 
 -- twice the displacement k of n bits, sign-extended, and zero-extended
-abbrev pub ahead : ℕ → Fields → ℕ
-ahead n f = 2 * sk n f % 2 ^ 32
+abbrev pub doubled_displacement : ℕ → Fields → ℕ
+doubled_displacement n f = 2 * sk n f % 2 ^ 32
 
 -- twice the displacement k, zero-extended
 abbrev pub ahead_only : Fields → ℕ
@@ -86,15 +86,15 @@ store_address after f = Store (a f.s1) (Reg (a f.s2)) (sk 10 f) 4 after
 
 -- branches on two data registers, and on one and a constant of four bits in the place of s2
 abbrev pub branch : Cond → Meaning
-branch c f = Branch c (d f.s1) (Reg (d f.s2)) (ahead 15 f) false
+branch c f = Branch c (d f.s1) (Reg (d f.s2)) (doubled_displacement 15 f) false
 
 -- a branch on a data register and a signed constant of four bits
 abbrev pub branch_signed : Cond → Meaning
-branch_signed c f = Branch c (d f.s1) (Word (sign_extended 4 (f.s2 % 2 ^ 4))) (ahead 15 f) false
+branch_signed c f = Branch c (d f.s1) (Word (sign_extended 4 (f.s2 % 2 ^ 4))) (doubled_displacement 15 f) false
 
 -- a branch on a data register and an unsigned constant of four bits
 abbrev pub branch_unsigned : Cond → Meaning
-branch_unsigned c f = Branch c (d f.s1) (Word f.s2) (ahead 15 f) false
+branch_unsigned c f = Branch c (d f.s1) (Word f.s2) (doubled_displacement 15 f) false
 
 -- a row's name, and its meaning
 pub record Line : Type 0 where
@@ -204,20 +204,20 @@ meanings =
     line (codes "jlt.u") (branch cond.LtU) ∷
     line (codes "jge") (branch cond.Ge) ∷
     line (codes "jge.u") (branch cond.GeU) ∷
-    line (codes "jeq.a") (λ f. Branch cond.Eq (a f.s1) (Reg (a f.s2)) (ahead 15 f) false) ∷
-    line (codes "jne.a") (λ f. Branch cond.Ne (a f.s1) (Reg (a f.s2)) (ahead 15 f) false) ∷
-    line (codes "jz.a") (λ f. Branch cond.Eq (a f.s1) (Word 0) (ahead 15 f) false) ∷
-    line (codes "jnz.a") (λ f. Branch cond.Ne (a f.s1) (Word 0) (ahead 15 f) false) ∷
-    line (codes "loop") (λ f. Branch cond.Ne (a f.s2) (Word 0) (ahead 15 f) true) ∷
+    line (codes "jeq.a") (λ f. Branch cond.Eq (a f.s1) (Reg (a f.s2)) (doubled_displacement 15 f) false) ∷
+    line (codes "jne.a") (λ f. Branch cond.Ne (a f.s1) (Reg (a f.s2)) (doubled_displacement 15 f) false) ∷
+    line (codes "jz.a") (λ f. Branch cond.Eq (a f.s1) (Word 0) (doubled_displacement 15 f) false) ∷
+    line (codes "jnz.a") (λ f. Branch cond.Ne (a f.s1) (Word 0) (doubled_displacement 15 f) false) ∷
+    line (codes "loop") (λ f. Branch cond.Ne (a f.s2) (Word 0) (doubled_displacement 15 f) true) ∷
     line (codes "jeq") (branch_signed cond.Eq) ∷
     line (codes "jne") (branch_signed cond.Ne) ∷
     line (codes "jlt") (branch_signed cond.Lt) ∷
     line (codes "jge") (branch_signed cond.Ge) ∷
     line (codes "jlt.u") (branch_unsigned cond.LtU) ∷
     line (codes "jge.u") (branch_unsigned cond.GeU) ∷
-    line (codes "call") (λ f. Call (target.Rel (ahead 24 f))) ∷
+    line (codes "call") (λ f. Call (target.Rel (doubled_displacement 24 f))) ∷
     line (codes "calla") (λ f. Call (target.Abs (code_place f))) ∷
-    line (codes "j") (λ f. Jump (target.Rel (ahead 24 f))) ∷
+    line (codes "j") (λ f. Jump (target.Rel (doubled_displacement 24 f))) ∷
     line (codes "ja") (λ f. Jump (target.Abs (code_place f))) ∷
     line (codes "nop16") (λ f. Nothing) ∷
     line (codes "rfe16") (λ f. Rfe) ∷
@@ -226,10 +226,10 @@ meanings =
     line (codes "bisr16") (λ f. Bisr (uk f % 256)) ∷
     line (codes "mov16.d15") (λ f. Compute Second (d 15) (Word 0) (Word (uk f))) ∷
     line (codes "sub16.a") (λ f. Compute Sub (a 10) (Reg (a 10)) (Word (uk f))) ∷
-    line (codes "call16") (λ f. Call (target.Rel (ahead 8 f))) ∷
-    line (codes "j16") (λ f. Jump (target.Rel (ahead 8 f))) ∷
-    line (codes "jz16.d15") (λ f. Branch cond.Eq (d 15) (Word 0) (ahead 8 f) false) ∷
-    line (codes "jnz16.d15") (λ f. Branch cond.Ne (d 15) (Word 0) (ahead 8 f) false) ∷
+    line (codes "call16") (λ f. Call (target.Rel (doubled_displacement 8 f))) ∷
+    line (codes "j16") (λ f. Jump (target.Rel (doubled_displacement 8 f))) ∷
+    line (codes "jz16.d15") (λ f. Branch cond.Eq (d 15) (Word 0) (doubled_displacement 8 f) false) ∷
+    line (codes "jnz16.d15") (λ f. Branch cond.Ne (d 15) (Word 0) (doubled_displacement 8 f) false) ∷
     line (codes "jz16") (λ f. Branch cond.Eq (d f.s2) (Word 0) (ahead_only f) false) ∷
     line (codes "jnz16") (λ f. Branch cond.Ne (d f.s2) (Word 0) (ahead_only f) false) ∷
     line (codes "mov16") (λ f. Compute Second (d f.s1) (Word 0) (Reg (d f.s2))) ∷

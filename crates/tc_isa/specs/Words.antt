@@ -1,5 +1,5 @@
 -- The words of instructions, by their form.
-use Rattle.std.specs.Prelude.{◌+◌, ◌*◌, ◌/◌, ◌%◌, ◌^◌, ◌<◌, ℕ, Bool, true, false}
+use Rattle.std.specs.Prelude.{◌==◌, ◌+◌, ◌*◌, ◌/◌, ◌%◌, ◌^◌, ◌<◌, ℕ, Bool, true, false}
 use Rattle.tc_isa.specs.declared.fields.Fields.{Fields}
 use Rattle.tc_isa.specs.declared.table.Form.{Form}
 use Rattle.tc_isa.specs.declared.table.Form.TheVariants.{Rlc, Rr, Rc, Bol, Bo, Brr, Brc, B, Abs, Sys, Sr, Sc, Sb, Sbr, Src, Srr, Slr, Ssr}
@@ -162,3 +162,23 @@ form_index Src = 14
 form_index Srr = 15
 form_index Slr = 16
 form_index Ssr = 17
+
+-- the form of loads and stores with a long offset
+abbrev pub is_bol : Form → Bool
+is_bol form = form_index form == 3
+
+-- the form of calls and jumps of 32 bits
+abbrev pub is_b : Form → Bool
+is_b form = form_index form == 7
+
+-- the form with an absolute address
+abbrev pub is_abs : Form → Bool
+is_abs form = form_index form == 8
+
+-- the form of jumps of 16 bits that go both ways
+abbrev pub is_sb : Form → Bool
+is_sb form = form_index form == 12
+
+-- the form of branches of 16 bits, which only go forwards
+abbrev pub is_sbr : Form → Bool
+is_sbr form = form_index form == 13

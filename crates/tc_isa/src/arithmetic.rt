@@ -1,6 +1,6 @@
 // Arithmetic on words.
 ghost use Rattle.std.specs.Prelude.{◌≡◌, ◌<◌};
-ghost use Rattle.tc_isa.specs.Arithmetic.{alu_of, taken_of, shifted, shifted_signed, signed_place, complement, one_if};
+ghost use Rattle.tc_isa.specs.Arithmetic.{alu_of, taken_of, shift_by, shifted_signed, signed_place, complement, one_if};
 
 use crate::{Cond, Op};
 
@@ -72,7 +72,7 @@ fn place_of(x: u32) -> u32
 /// Left by `n` below 32, else right by 64 less `n`, filled with zeros.
 fn shift(x: u32, n: u8) -> u32
     requires { n < 64 }
-    ensures { result ≡ shifted x n }
+    ensures { result ≡ shift_by x n }
 {
     if n < 32 {
         x << n

@@ -3,7 +3,7 @@ use crate::{Cond, Op, Shape};
 
 /// A register that a field names, or one that the row fixes.
 #[derive(Clone, Copy)]
-pub enum Place {
+pub enum RegField {
     Dc,
     Ds1,
     Ds2,
@@ -17,7 +17,7 @@ pub enum Place {
 /// A word that the fields give: 0; the low bits of `k` sign-extended; `k` as it is and times 2^16; the address of the
 /// 18 bits of `k`; the field `s2` sign-extended and as it is.
 #[derive(Clone, Copy)]
-pub enum Constant {
+pub enum Immediate {
     Zero,
     Signed4,
     Signed9,
@@ -33,13 +33,13 @@ pub enum Constant {
 /// A register or a word.
 #[derive(Clone, Copy)]
 pub enum Operand {
-    At(Place),
-    Of(Constant),
+    At(RegField),
+    Of(Immediate),
 }
 
 /// Twice the displacement `k`, sign-extended from its bits, or as it is.
 #[derive(Clone, Copy)]
-pub enum Distance {
+pub enum Displacement {
     Ahead8,
     Ahead15,
     Ahead24,
@@ -48,25 +48,25 @@ pub enum Distance {
 
 /// Where a jump or a call goes.
 #[derive(Clone, Copy)]
-pub enum Goal {
-    By(Distance),
+pub enum Destination {
+    By(Displacement),
     Code,
-    In(Place),
+    In(RegField),
 }
 
 /// What an instruction does, with places for what its fields give.
 #[derive(Clone, Copy)]
 pub enum Meaning {
-    Computes(Op, Place, Operand, Operand),
-    Scales(Place, Place, Place),
-    Loads(Place, Operand, Constant, u8, bool, bool),
-    Stores(Place, Operand, Constant, u8, bool),
-    Branches(Cond, Place, Operand, Distance, bool),
-    Jumps(Goal),
-    Calls(Goal),
+    Computes(Op, RegField, Operand, Operand),
+    Scales(RegField, RegField, RegField),
+    Loads(RegField, Operand, Immediate, u8, bool, bool),
+    Stores(RegField, Operand, Immediate, u8, bool),
+    Branches(Cond, RegField, Operand, Displacement, bool),
+    Jumps(Destination),
+    Calls(Destination),
     Masks,
     Traps,
-    ReadsCore(Place),
-    WritesCore(Place),
+    ReadsCore(RegField),
+    WritesCore(RegField),
     Always(Shape),
 }

@@ -3,3 +3,5 @@ pub mod CutLaws
 pub mod TextLaws
 pub mod LongestLaws
 pub mod LineLaws
+pub mod Mapped
+pub mod Parted

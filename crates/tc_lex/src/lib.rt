@@ -1,11 +1,19 @@
-//! The tokens of one line of assembler.
+//! The tokens of one line of assembler, and the operands that they spell.
 #![tactic(auto)]
 
 mod bytes;
 mod cutting;
 mod fronts;
 mod kinds;
+mod numbers;
+mod operand;
+mod operand_list;
+mod operand_tokens;
+mod pieces;
 
 pub use bytes::is_hex;
 pub use cutting::{cut_into, tokens};
 pub use kinds::{Front, Token, TokenKind};
+pub use operand::{Operand, Shape, Value};
+pub use operand_list::operands;
+pub use pieces::{Piece, is_kind, is_text, text_at};

@@ -11,76 +11,76 @@ use Rattle.std.proofs.lemmas.List.Concat.{flat_map-append}
 use Rattle.std.proofs.lemmas.List.Sums.{sum_by-append, sum_by_more}
 use Rattle.tc_object.specs.Objects.{SymbolData, ObjectData}
 use Rattle.tc_link.specs.declared.definitions.Definition.{Definition}
-use Rattle.tc_link.specs.Names.{kept}
-use Rattle.tc_link.specs.Linked.{named, globals_named}
+use Rattle.tc_link.specs.Names.{twice_of_count}
+use Rattle.tc_link.specs.Linked.{has_global_name, globals_named}
 
 pub bytes_eq-sym : (xs ys : List ℕ) → bytes_eq xs ys ≡ bytes_eq ys xs
 bytes_eq-sym xs ys = same_from_decides (bytes_eq xs ys) (bytes_eq ys xs) (bytes_eq-Decides xs ys) (Decides-like (bytes_eq ys xs) sym sym (bytes_eq-Decides ys xs))
 
 -- a name that so many have is kept, and one more
-kept_more : (n : ℕ) → Some (is_some (kept n)) ≡ kept (n + 1)
+kept_more : (n : ℕ) → Some (is_some (twice_of_count n)) ≡ twice_of_count (n + 1)
 kept_more zero = refl
 kept_more (suc n) = grind (arith, nat_tests)
 
 pub add_one : (old : List ℕ → Option Bool) (name q : List ℕ) (n : ℕ) (seen : Bool) (new : Option Bool)
-    → seen ≡ is_some (old name) → new ≡ cond (bytes_eq name q) (Some seen) (old q) → old q ≡ kept n → new ≡ kept (n + cond (bytes_eq q name) 1 0)
+    → seen ≡ is_some (old name) → new ≡ cond (bytes_eq name q) (Some seen) (old q) → old q ≡ twice_of_count n → new ≡ twice_of_count (n + cond (bytes_eq q name) 1 0)
 add_one old name q n seen new s u e = by_test (bytes_eq name q) refl
   where
-    by_test : (b : Bool) → bytes_eq name q ≡ b → new ≡ kept (n + cond (bytes_eq q name) 1 0)
+    by_test : (b : Bool) → bytes_eq name q ≡ b → new ≡ twice_of_count (n + cond (bytes_eq q name) 1 0)
     by_test true t =
         let same : name ≡ q = (bytes_eq-Decides name q).0 t in
         let back : bytes_eq q name ≡ true = bytes_eq-sym q name ∙ t in
         u ∙ ap (λ b. cond b (Some seen) (old q)) t
         ∙ ap (λ (b : Bool). Some b) (s ∙ ap (λ (x : List ℕ). is_some (old x)) same ∙ ap is_some e)
         ∙ kept_more n
-        ∙ ap (λ b. kept (n + cond b 1 0)) (sym back)
+        ∙ ap (λ b. twice_of_count (n + cond b 1 0)) (sym back)
     by_test false t =
         let back : bytes_eq q name ≡ false = bytes_eq-sym q name ∙ t in
         u ∙ ap (λ b. cond b (Some seen) (old q)) t ∙ e
-        ∙ ap kept (sym (add-zero n))
-        ∙ ap (λ b. kept (n + cond b 1 0)) (sym back)
+        ∙ ap twice_of_count (sym (add-zero n))
+        ∙ ap (λ b. twice_of_count (n + cond b 1 0)) (sym back)
 
 not_zero : (n : ℕ) → eqb (suc n) 0 ≡ false
 not_zero n = grind (arith, nat_tests)
 
-kept_suc : (n : ℕ) → kept (suc n) ≡ Some (ltb 1 (suc n))
+kept_suc : (n : ℕ) → twice_of_count (suc n) ≡ Some (ltb 1 (suc n))
 kept_suc n = ap (λ b. cond {A = Option Bool} b None (Some (ltb 1 (suc n)))) (not_zero n)
 
 -- a name of which not more than one is kept
-single_of : (n : ℕ) (o : Option Bool) → o ≡ kept n → IfSome o (λ t. t ≡ false) → ltb 1 n ≡ false
+single_of : (n : ℕ) (o : Option Bool) → o ≡ twice_of_count n → IfSome o (λ t. t ≡ false) → ltb 1 n ≡ false
 single_of zero o e h = refl
 single_of (suc n) o e h = subst (λ (x : Option Bool). IfSome x (λ t. t ≡ false)) (e ∙ kept_suc n) h
 
-pub single_at : (n : ℕ) (o : Option Definition) → option_map (λ d. d.is_twice) o ≡ kept n → IfSome o (λ d. d.is_twice ≡ false) → ltb 1 n ≡ false
+pub single_at : (n : ℕ) (o : Option Definition) → option_map (λ d. d.is_twice) o ≡ twice_of_count n → IfSome o (λ d. d.is_twice ≡ false) → ltb 1 n ≡ false
 single_at n None e h = single_of n None e tt
 single_at n (Some d) e h = single_of n (Some d.is_twice) e h
 
 -- a symbol that isn't global, and one that is
-pub named_off : (b c : Bool) (n : ℕ) (new : Option Bool) → b ≡ false → new ≡ kept n → new ≡ kept (n + cond (b && c) 1 0)
-named_off b c n new t e = e ∙ ap kept (sym (add-zero n)) ∙ ap (λ (x : Bool). kept (n + cond (x && c) 1 0)) (sym t)
+pub named_off : (b c : Bool) (n : ℕ) (new : Option Bool) → b ≡ false → new ≡ twice_of_count n → new ≡ twice_of_count (n + cond (b && c) 1 0)
+named_off b c n new t e = e ∙ ap twice_of_count (sym (add-zero n)) ∙ ap (λ (x : Bool). twice_of_count (n + cond (x && c) 1 0)) (sym t)
 
-pub named_on : (b c : Bool) (n : ℕ) (new : Option Bool) → b ≡ true → new ≡ kept (n + cond c 1 0) → new ≡ kept (n + cond (b && c) 1 0)
-named_on b c n new t e = e ∙ ap (λ (x : Bool). kept (n + cond (x && c) 1 0)) (sym t)
+pub named_on : (b c : Bool) (n : ℕ) (new : Option Bool) → b ≡ true → new ≡ twice_of_count (n + cond c 1 0) → new ≡ twice_of_count (n + cond (b && c) 1 0)
+named_on b c n new t e = e ∙ ap (λ (x : Bool). twice_of_count (n + cond (x && c) 1 0)) (sym t)
 
 -- one symbol more
 pub symbols_more : (symbols : List SymbolData) (i : ℕ) (x : SymbolData) (q : List ℕ) (n : ℕ) → i < length symbols → x ≡ get_or symbols i x
-    → n + count_by (named q) (take i symbols) + cond (named q x) 1 0 ≡ n + count_by (named q) (take (i + 1) symbols)
+    → n + count_by (has_global_name q) (take i symbols) + cond (has_global_name q x) 1 0 ≡ n + count_by (has_global_name q) (take (i + 1) symbols)
 symbols_more symbols i x q n h is =
-    let more : count_by (named q) (take (i + 1) symbols) ≡ count_by (named q) (take i symbols) + cond (named q (get_or symbols i x)) 1 0 = sum_by_more (λ s. cond (named q s) 1 0) symbols i x h in
-    let same : cond {A = ℕ} (named q x) 1 0 ≡ cond (named q (get_or symbols i x)) 1 0 = ap (λ (s : SymbolData). cond {A = ℕ} (named q s) 1 0) is in
+    let more : count_by (has_global_name q) (take (i + 1) symbols) ≡ count_by (has_global_name q) (take i symbols) + cond (has_global_name q (get_or symbols i x)) 1 0 = sum_by_more (λ s. cond (has_global_name q s) 1 0) symbols i x h in
+    let same : cond {A = ℕ} (has_global_name q x) 1 0 ≡ cond (has_global_name q (get_or symbols i x)) 1 0 = ap (λ (s : SymbolData). cond {A = ℕ} (has_global_name q s) 1 0) is in
     omega (arith, more, same)
 
 globals_next : (objects : List ObjectData) (i : ℕ) (d : ObjectData) (q : List ℕ) → i < length objects
-    → globals_named (take i objects) q + count_by (named q) (get_or objects i d).symbols ≡ globals_named (take (i + 1) objects) q
+    → globals_named (take i objects) q + count_by (has_global_name q) (get_or objects i d).symbols ≡ globals_named (take (i + 1) objects) q
 unfolding globals_named
 globals_next objects i d q h =
     let f : ObjectData → List SymbolData = λ o. o.symbols in
-    sym (ap (λ (os : List ObjectData). count_by (named q) (flat_map f os)) (take_more objects i d h)
-    ∙ ap (count_by (named q)) (flat_map-append f (take i objects) (get_or objects i d ∷ []))
-    ∙ sum_by-append (λ s. cond (named q s) 1 0) (flat_map f (take i objects)) (flat_map f (get_or objects i d ∷ []))
-    ∙ ap (λ (ss : List SymbolData). count_by (named q) (flat_map f (take i objects)) + count_by (named q) ss) (append-nil (get_or objects i d).symbols))
+    sym (ap (λ (os : List ObjectData). count_by (has_global_name q) (flat_map f os)) (take_more objects i d h)
+    ∙ ap (count_by (has_global_name q)) (flat_map-append f (take i objects) (get_or objects i d ∷ []))
+    ∙ sum_by-append (λ s. cond (has_global_name q s) 1 0) (flat_map f (take i objects)) (flat_map f (get_or objects i d ∷ []))
+    ∙ ap (λ (ss : List SymbolData). count_by (has_global_name q) (flat_map f (take i objects)) + count_by (has_global_name q) ss) (append-nil (get_or objects i d).symbols))
 
 -- the symbols of one object more
 pub globals_more : (objects : List ObjectData) (i : ℕ) (x : ObjectData) (q : List ℕ) → i < length objects → x ≡ get_or objects i x
-    → globals_named (take i objects) q + count_by (named q) x.symbols ≡ globals_named (take (i + 1) objects) q
-globals_more objects i x q h is = ap (λ (o : ObjectData). globals_named (take i objects) q + count_by (named q) o.symbols) is ∙ globals_next objects i x q h
+    → globals_named (take i objects) q + count_by (has_global_name q) x.symbols ≡ globals_named (take (i + 1) objects) q
+globals_more objects i x q h is = ap (λ (o : ObjectData). globals_named (take i objects) q + count_by (has_global_name q) o.symbols) is ∙ globals_next objects i x q h

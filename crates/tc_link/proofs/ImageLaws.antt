@@ -8,8 +8,8 @@ use Rattle.std.proofs.lemmas.List.Sums.{sum_by-cons}
 use Rattle.elf_image.specs.Images.{SegmentData, ImageData, AreBytes, IsImage, is_segment, are_apart, all_apart}
 use Rattle.tc_object.specs.Objects.{SectionData, InTurn}
 use Rattle.tc_link.specs.Layouts.{PlaceData, LayoutData, IsPlace, IsPlaceAfter, IsLayout, shares}
-use Rattle.tc_link.specs.Placing.{taken}
-use Rattle.tc_link.specs.Relocated.{joined, segment_of, segments_of}
+use Rattle.tc_link.specs.Placing.{taken_bytes}
+use Rattle.tc_link.specs.Relocated.{joined_sections, segment_of, segments_of}
 use Rattle.tc_link.specs.Linked.{is_over, total}
 use Rattle.tc_link.specs.Shapes.{shape_of}
 use Rattle.tc_link.proofs.ShapeLaws.{length-joined, taken-shapes}
@@ -21,15 +21,15 @@ or_false false b e = (refl, e)
 -- ---- places that hold their sections
 abbrev Fits : List SectionData → List PlaceData → Type 0
 Fits contents [] = Unit {0}
-Fits contents (p ∷ ps) = (IsPlace p × (length (joined p.section contents) ≤ p.most)) × Fits contents ps
+Fits contents (p ∷ ps) = (IsPlace p × (length (joined_sections p.section contents) ≤ p.most)) × Fits contents ps
 
 fits_from : (contents sections : List SectionData) (before places : List PlaceData) → map shape_of contents ≡ map shape_of sections → InTurn IsPlaceAfter before places
-    → list_any (λ p. ltb p.most (taken p.section sections)) places ≡ false → Fits contents places
+    → list_any (λ p. ltb p.most (taken_bytes p.section sections)) places ≡ false → Fits contents places
 fits_from contents sections before [] same turn e = tt
 fits_from contents sections before (p ∷ ps) same turn e =
-    let parts = or_false (ltb p.most (taken p.section sections)) (list_any (λ q. ltb q.most (taken q.section sections)) ps) e in
-    let most : taken p.section sections ≤ p.most = ltb-false _ _ parts.0 in
-    let len : length (joined p.section contents) ≡ taken p.section sections = length-joined p.section contents ∙ taken-shapes p.section contents sections same in
+    let parts = or_false (ltb p.most (taken_bytes p.section sections)) (list_any (λ q. ltb q.most (taken_bytes q.section sections)) ps) e in
+    let most : taken_bytes p.section sections ≤ p.most = ltb-false _ _ parts.0 in
+    let len : length (joined_sections p.section contents) ≡ taken_bytes p.section sections = length-joined p.section contents ∙ taken-shapes p.section contents sections same in
     ((turn.0.place, omega arith), fits_from contents sections (before ++ p ∷ []) ps same turn.1 parts.1)
 
 abbrev has_bytes : SegmentData → Bool
@@ -49,7 +49,7 @@ all_segments contents (p ∷ ps) h = by_bytes (all_segments contents ps h.1) (ha
     by_bytes : list_all is_segment (segments contents ps) ≡ true → (b : Bool) → has_bytes (segment_of contents p) ≡ b → list_all is_segment (cond b (segment_of contents p ∷ segments contents ps) (segments contents ps)) ≡ true
     by_bytes rest true e =
         let place : IsPlace p = h.0.0 in
-        let fits : p.at + length (joined p.section contents) ≤ 2 ^ 32 = omega (arith, place.within, h.0.1) in
+        let fits : p.at + length (joined_sections p.section contents) ≤ 2 ^ 32 = omega (arith, place.within, h.0.1) in
         and_true _ _ (and_true _ _ e (le-leb _ _ fits)) rest
     by_bytes rest false e = rest
 
@@ -88,13 +88,13 @@ two_apart p q m n fm fn sm sn e = by_first (leb (p.at + m) q.at) refl
         let under : q.at + n ≤ p.at = omega arith in
         le-leb _ _ under
 
-apart_one : (contents : List SectionData) (p : PlaceData) (qs : List PlaceData) → length (joined p.section contents) ≤ p.most → 0 < length (joined p.section contents) → Fits contents qs → ApartFrom p qs
+apart_one : (contents : List SectionData) (p : PlaceData) (qs : List PlaceData) → length (joined_sections p.section contents) ≤ p.most → 0 < length (joined_sections p.section contents) → Fits contents qs → ApartFrom p qs
     → list_all (are_apart (segment_of contents p)) (segments contents qs) ≡ true
 apart_one contents p [] few some h apart = refl
 apart_one contents p (q ∷ qs) few some h apart = by_bytes (apart_one contents p qs few some h.1 apart.1) (has_bytes (segment_of contents q)) refl
   where
     by_bytes : list_all (are_apart (segment_of contents p)) (segments contents qs) ≡ true → (b : Bool) → has_bytes (segment_of contents q) ≡ b → list_all (are_apart (segment_of contents p)) (cond b (segment_of contents q ∷ segments contents qs) (segments contents qs)) ≡ true
-    by_bytes rest true e = and_true _ _ (two_apart p q (length (joined p.section contents)) (length (joined q.section contents)) few h.0.1 some (ltb-true _ _ e) apart.0) rest
+    by_bytes rest true e = and_true _ _ (two_apart p q (length (joined_sections p.section contents)) (length (joined_sections q.section contents)) few h.0.1 some (ltb-true _ _ e) apart.0) rest
     by_bytes rest false e = rest
 
 apart_all : (contents : List SectionData) (before ps : List PlaceData) → InTurn IsPlaceAfter before ps → Fits contents ps → all_apart (segments contents ps) ≡ true
@@ -115,20 +115,20 @@ few_segments contents (p ∷ ps) = by_bytes (few_segments contents ps) (has_byte
     by_bytes rest false = omega arith
 
 small_segments : (contents sections : List SectionData) (ps : List PlaceData) → map shape_of contents ≡ map shape_of sections
-    → sum_by (λ s. length s.bytes) (segments contents ps) ≤ sum_by (λ p. taken p.section sections) ps
+    → sum_by (λ s. length s.bytes) (segments contents ps) ≤ sum_by (λ p. taken_bytes p.section sections) ps
 small_segments contents sections [] same = omega arith
 small_segments contents sections (p ∷ ps) same =
-    subst (λ n. sum_by (λ (s : SegmentData). length s.bytes) (segments contents (p ∷ ps)) ≤ n) (sym (sum_by-cons (λ (q : PlaceData). taken q.section sections) p ps)) (by_bytes (small_segments contents sections ps same) (has_bytes (segment_of contents p)))
+    subst (λ n. sum_by (λ (s : SegmentData). length s.bytes) (segments contents (p ∷ ps)) ≤ n) (sym (sum_by-cons (λ (q : PlaceData). taken_bytes q.section sections) p ps)) (by_bytes (small_segments contents sections ps same) (has_bytes (segment_of contents p)))
   where
-    len : length (joined p.section contents) ≡ taken p.section sections
+    len : length (joined_sections p.section contents) ≡ taken_bytes p.section sections
     len = length-joined p.section contents ∙ taken-shapes p.section contents sections same
 
-    by_bytes : sum_by (λ s. length s.bytes) (segments contents ps) ≤ sum_by (λ q. taken q.section sections) ps → (b : Bool) → sum_by (λ s. length s.bytes) (cond b (segment_of contents p ∷ segments contents ps) (segments contents ps)) ≤ taken p.section sections + sum_by (λ q. taken q.section sections) ps
+    by_bytes : sum_by (λ s. length s.bytes) (segments contents ps) ≤ sum_by (λ q. taken_bytes q.section sections) ps → (b : Bool) → sum_by (λ s. length s.bytes) (cond b (segment_of contents p ∷ segments contents ps) (segments contents ps)) ≤ taken_bytes p.section sections + sum_by (λ q. taken_bytes q.section sections) ps
     by_bytes rest true =
-        let l : length (joined p.section contents) ≡ taken p.section sections = len in
+        let l : length (joined_sections p.section contents) ≡ taken_bytes p.section sections = len in
         let f : SegmentData → ℕ = λ s. length s.bytes in
-        let more : sum_by f (segment_of contents p ∷ segments contents ps) ≡ length (joined p.section contents) + sum_by f (segments contents ps) = sum_by-cons f (segment_of contents p) (segments contents ps) in
-        let most : sum_by f (segment_of contents p ∷ segments contents ps) ≤ taken p.section sections + sum_by (λ q. taken q.section sections) ps = omega (arith, more, rest, l) in
+        let more : sum_by f (segment_of contents p ∷ segments contents ps) ≡ length (joined_sections p.section contents) + sum_by f (segments contents ps) = sum_by-cons f (segment_of contents p) (segments contents ps) in
+        let most : sum_by f (segment_of contents p ∷ segments contents ps) ≤ taken_bytes p.section sections + sum_by (λ q. taken_bytes q.section sections) ps = omega (arith, more, rest, l) in
         most
     by_bytes rest false = omega arith
 
@@ -148,11 +148,11 @@ pub image_is : (layout : LayoutData) (contents sections : List SectionData) (ent
     → KeepsLimits (record { entry = entry; segments = segments_of layout.places contents })
 unfolding is_over total segments_of
 image_is layout contents sections entry good same room small =
-    let parts = or_false (list_any (λ p. ltb p.most (taken p.section sections)) layout.places) (ltb (2 ^ 24) (sum_by (λ p. taken p.section sections) layout.places)) room in
+    let parts = or_false (list_any (λ p. ltb p.most (taken_bytes p.section sections)) layout.places) (ltb (2 ^ 24) (sum_by (λ p. taken_bytes p.section sections) layout.places)) room in
     let fits = fits_from contents sections [] layout.places same good.places parts.0 in
     let few : length (segments contents layout.places) ≤ length layout.places = few_segments contents layout.places in
-    let most : sum_by (λ p. taken p.section sections) layout.places ≤ 2 ^ 24 = ltb-false _ _ parts.1 in
-    let size : sum_by (λ s. length s.bytes) (segments contents layout.places) ≤ sum_by (λ p. taken p.section sections) layout.places = small_segments contents sections layout.places same in
+    let most : sum_by (λ p. taken_bytes p.section sections) layout.places ≤ 2 ^ 24 = ltb-false _ _ parts.1 in
+    let size : sum_by (λ s. length s.bytes) (segments contents layout.places) ≤ sum_by (λ p. taken_bytes p.section sections) layout.places = small_segments contents sections layout.places same in
     record {
       entry = small;
       few = omega (arith, few, good.few);

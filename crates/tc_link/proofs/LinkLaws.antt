@@ -7,7 +7,7 @@ use Rattle.tc_object.specs.Objects.{SectionData, ObjectData, IsObject}
 use Rattle.tc_link.specs.Layouts.{PlaceData, LayoutData, IsLayout}
 use Rattle.tc_link.specs.Placing.{PlacedData, sections_of, globals_of, global_address, placed_after}
 use Rattle.tc_link.specs.Relocated.{segments_of}
-use Rattle.tc_link.specs.Linked.{Refusal, no_entry, twice_in, missing_in, no_place_in, no_room_after, reloc_in, placed_of, contents_of, entry_of, image_of, made_of, refused_early, unless, linked}
+use Rattle.tc_link.specs.Linked.{Refusal, no_entry, twice_in, missing_in, no_place_in, no_room_after, reloc_in, placed_of, contents_of, entry_of, image_of, made_of, refused_early, unless, image_of_objects}
 use Rattle.tc_link.specs.Errors.{IsRefusal, refusal_of}
 use Rattle.tc_link.specs.Shapes.{shape_of}
 use Rattle.tc_link.specs.declared.errors.LinkErr.{LinkErr}
@@ -75,15 +75,15 @@ pub made_ok : (layout : LayoutData) (placed : List PlacedData) (entry : ℕ) →
 made_ok layout placed entry e a = made_as layout placed (Some entry) e a
 
 -- ---- all of it
-linked_early : (objects : List ObjectData) (layout : LayoutData) (r : Refusal) → refused_early layout objects ≡ Some r → linked objects layout ≡ Err r
-unfolding linked
+linked_early : (objects : List ObjectData) (layout : LayoutData) (r : Refusal) → refused_early layout objects ≡ Some r → image_of_objects objects layout ≡ Err r
+unfolding image_of_objects
 linked_early objects layout r e = ap (λ (o : Option Refusal). unless o (made_of layout (placed_of layout objects))) e
 
-pub linked_told : (objects : List ObjectData) (layout : LayoutData) (x : Option Refusal) → IfSome x (λ r. refused_early layout objects ≡ Some r) → IfSome x (λ r. linked objects layout ≡ Err r)
-linked_told objects layout x h = told {A = Result ImageData Refusal} (refused_early layout objects) x (λ r. Err r) (linked objects layout) (linked_early objects layout) h
+pub linked_told : (objects : List ObjectData) (layout : LayoutData) (x : Option Refusal) → IfSome x (λ r. refused_early layout objects ≡ Some r) → IfSome x (λ r. image_of_objects objects layout ≡ Err r)
+linked_told objects layout x h = told {A = Result ImageData Refusal} (refused_early layout objects) x (λ r. Err r) (image_of_objects objects layout) (linked_early objects layout) h
 
-pub linked_made : (objects : List ObjectData) (layout : LayoutData) (placed : List PlacedData) → refused_early layout objects ≡ None → placed ≡ placed_of layout objects → made_of layout placed ≡ linked objects layout
-unfolding linked
+pub linked_made : (objects : List ObjectData) (layout : LayoutData) (placed : List PlacedData) → refused_early layout objects ≡ None → placed ≡ placed_of layout objects → made_of layout placed ≡ image_of_objects objects layout
+unfolding image_of_objects
 linked_made objects layout placed e p = ap (made_of layout) p ∙ sym (ap (λ (o : Option Refusal). unless o (made_of layout (placed_of layout objects))) e)
 
 -- no more placed objects than objects

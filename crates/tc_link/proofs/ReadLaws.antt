@@ -3,8 +3,8 @@ use Rattle.std.proofs.Common.{◌≡◌, ◌≤◌, ◌+◌, ◌∷◌, ◌++◌
 use Rattle.std.specs.Option.{option_or, option_and_then, option_to_list}
 use Rattle.std.proofs.lemmas.List.{length-take-le, take_all}
 use Rattle.std.proofs.lemmas.List.Elements.{filter_map-append}
-use Rattle.tc_link.specs.declared.faults.LayoutErr.{LayoutErr}
-use Rattle.tc_link.specs.declared.faults.LayoutErr.TheVariants.{BadLine, Twice, TooMany, Overlap, NoMemory}
+use Rattle.tc_link.specs.declared.layout_errors.LayoutErr.{LayoutErr}
+use Rattle.tc_link.specs.declared.layout_errors.LayoutErr.TheVariants.{BadLine, Twice, TooMany, Overlap, NoMemory}
 use Rattle.tc_link.specs.Layouts.{PlaceData}
 use Rattle.tcd_text.specs.Lines.{lines_of}
 use Rattle.tc_link.specs.Lines.{LineData, line_of}

@@ -11,7 +11,7 @@ use Rattle.tc_object.specs.declared.relocs.Reloc.{Reloc}
 use Rattle.tc_object.specs.Objects.{SectionData, ObjectData, InTurn, IsReloc, IsObject, size_of, size_at}
 use Rattle.tc_link.specs.Layouts.{PlaceData}
 use Rattle.tc_link.specs.Placing.{GlobalData, PlacedData, sections_of, bases_after, placed_after}
-use Rattle.tc_link.specs.Relocated.{field_at, filled, written, changed, with_reloc, field_place, value_of, reloc_refusal, relocated}
+use Rattle.tc_link.specs.Relocated.{field_at, with_filled_field, with_relocation, with_item, with_reloc, field_place, value_of, reloc_refusal, relocated_sections}
 use Rattle.tc_reloc.specs.declared.refusals.RelocErr.{RelocErr}
 use Rattle.tc_reloc.specs.Refusals.{refusal_of}
 use Rattle.tc_link.specs.Linked.{reloc, refusal_at}
@@ -37,7 +37,7 @@ four_bytes bs i h =
     ∙ ap (λ k. get_or bs i 0 ∷ get_or bs (i + 1) 0 ∷ get_or bs (i + 2) 0 ∷ get_or bs k 0 ∷ []) c)
 
 -- an item that is changed
-pub changed_at : {A : Type 0} (f : A → A) (n : ℕ) (xs : List A) (x : A) → n < length xs → x ≡ get_or xs n x → changed f n xs ≡ set xs n (f x)
+pub changed_at : {A : Type 0} (f : A → A) (n : ℕ) (xs : List A) (x : A) → n < length xs → x ≡ get_or xs n x → with_item f n xs ≡ set xs n (f x)
 changed_at {A} f n xs x h is =
     ap (λ (o : Option A). option_map_or (λ y. set xs n (f y)) o xs) (slice_get-get_or xs n x h ∙ ap (λ (y : A). Some y) (sym is))
 
@@ -63,11 +63,11 @@ size_at-shapes ss ts n e =
 pub with_reloc_shapes : (g : List GlobalData) (p : PlacedData) (ss : List SectionData) (r : Reloc) → r.offset + 4 ≤ size_at ss r.section → map shape_of (with_reloc g p ss r) ≡ map shape_of ss
 with_reloc_shapes g p ss r h = by_section (slice_get ss r.section) refl
   where
-    by_section : (o : Option SectionData) → slice_get ss r.section ≡ o → map shape_of (option_map_or (λ x. set ss r.section (written g p r x)) o ss) ≡ map shape_of ss
+    by_section : (o : Option SectionData) → slice_get ss r.section ≡ o → map shape_of (option_map_or (λ x. set ss r.section (with_relocation g p r x)) o ss) ≡ map shape_of ss
     by_section None at = refl
     by_section (Some x) at =
         let room : r.offset + 4 ≤ length x.bytes = omega (arith, h, ap size_of at) in
-        set_shape ss r.section x (written g p r x) at (filled_shape r (field_place p r) (value_of g p r) x room)
+        set_shape ss r.section x (with_relocation g p r x) at (filled_shape r (field_place p r) (value_of g p r) x room)
 
 relocs_shapes : (g : List GlobalData) (p : PlacedData) (sections ss : List SectionData) (symbols : ℕ) (before rs : List Reloc) → map shape_of ss ≡ map shape_of sections → InTurn (IsReloc sections symbols) before rs
     → map shape_of (fold (with_reloc g p) ss rs) ≡ map shape_of sections
@@ -76,19 +76,19 @@ relocs_shapes g p sections ss symbols before (r ∷ rs) same turn =
     let room : r.offset + 4 ≤ size_at ss r.section = omega (arith, turn.0.room, size_at-shapes ss sections r.section same) in
     relocs_shapes g p sections (with_reloc g p ss r) symbols (before ++ r ∷ []) rs (with_reloc_shapes g p ss r room ∙ same) turn.1
 
-pub relocated_shapes : (g : List GlobalData) (p : PlacedData) → IsObject p.object → map shape_of (relocated g p) ≡ map shape_of p.object.sections
-unfolding relocated
+pub relocated_shapes : (g : List GlobalData) (p : PlacedData) → IsObject p.object → map shape_of (relocated_sections g p) ≡ map shape_of p.object.sections
+unfolding relocated_sections
 relocated_shapes g p good = relocs_shapes g p p.object.sections p.object.sections (length p.object.symbols) [] p.object.relocs refl good.relocs
 
 -- all sections keep their shapes
 pub contents_shapes : (g : List GlobalData) (places : List PlaceData) (before : List SectionData) (objects : List ObjectData) → ((k : ℕ) (d : ObjectData) → k < length objects → IsObject (get_or objects k d))
-    → map shape_of (flat_map (relocated g) (placed_after places before objects)) ≡ map shape_of (sections_of objects)
+    → map shape_of (flat_map (relocated_sections g) (placed_after places before objects)) ≡ map shape_of (sections_of objects)
 unfolding placed_after
 contents_shapes g places before [] good = refl
 contents_shapes g places before (o ∷ os) good =
     let p : PlacedData = record { object = o; bases = bases_after places before o.sections } in
-    map-append shape_of (relocated g p) (flat_map (relocated g) (placed_after places (before ++ o.sections) os))
-    ∙ ap (λ (l : List Shape). l ++ map shape_of (flat_map (relocated g) (placed_after places (before ++ o.sections) os))) (relocated_shapes g p (good 0 o (omega arith)))
+    map-append shape_of (relocated_sections g p) (flat_map (relocated_sections g) (placed_after places (before ++ o.sections) os))
+    ∙ ap (λ (l : List Shape). l ++ map shape_of (flat_map (relocated_sections g) (placed_after places (before ++ o.sections) os))) (relocated_shapes g p (good 0 o (omega arith)))
     ∙ ap (λ (l : List Shape). map shape_of o.sections ++ l) (contents_shapes g places (before ++ o.sections) os (λ k d h. good (suc k) d (omega arith)))
     ∙ sym (map-append shape_of o.sections (sections_of os))
 
@@ -114,17 +114,17 @@ size_here ss n x h is = ap size_of (slice_get-get_or ss n x h) ∙ ap (λ (s : S
 
 -- one relocation written
 pub written_in : (g : List GlobalData) (p : PlacedData) (r : Reloc) (ss new : List SectionData) (x : SectionData) (place value : ℕ) → r.section < length ss → x ≡ get_or ss r.section x
-    → new ≡ set ss r.section (filled r place value x) → place ≡ field_place p r → value ≡ value_of g p r → new ≡ with_reloc g p ss r
+    → new ≡ set ss r.section (with_filled_field r place value x) → place ≡ field_place p r → value ≡ value_of g p r → new ≡ with_reloc g p ss r
 written_in g p r ss new x place value h is e pl va =
     e
-    ∙ ap (λ k. set ss r.section (filled r k value x)) pl
-    ∙ ap (λ v. set ss r.section (filled r (field_place p r) v x)) va
-    ∙ sym (changed_at (written g p r) r.section ss x h is)
+    ∙ ap (λ k. set ss r.section (with_filled_field r k value x)) pl
+    ∙ ap (λ v. set ss r.section (with_filled_field r (field_place p r) v x)) va
+    ∙ sym (changed_at (with_relocation g p r) r.section ss x h is)
 
 pub shapes_in : (r : Reloc) (ss new : List SectionData) (x : SectionData) (place value : ℕ) → r.section < length ss → x ≡ get_or ss r.section x → r.offset + 4 ≤ length x.bytes
-    → new ≡ set ss r.section (filled r place value x) → map shape_of new ≡ map shape_of ss
+    → new ≡ set ss r.section (with_filled_field r place value x) → map shape_of new ≡ map shape_of ss
 shapes_in r ss new x place value h is room e =
-    ap (map shape_of) e ∙ set_shape ss r.section x (filled r place value x) (slice_get-get_or ss r.section x h ∙ ap (λ (s : SectionData). Some s) (sym is)) (filled_shape r place value x room)
+    ap (map shape_of) e ∙ set_shape ss r.section x (with_filled_field r place value x) (slice_get-get_or ss r.section x h ∙ ap (λ (s : SectionData). Some s) (sym is)) (filled_shape r place value x room)
 
 pub refusal_in : (g : List GlobalData) (p : PlacedData) (r : Reloc) (place value : ℕ) → place ≡ field_place p r → value ≡ value_of g p r → reloc_refusal g p r ≡ refusal_of r.kind place value
 refusal_in g p r place value pl va = ap (λ v. refusal_of r.kind (field_place p r) v) (sym va) ∙ ap (λ k. refusal_of r.kind k value) (sym pl)
@@ -147,20 +147,20 @@ refusal_some g object p i r err e = ap (option_map (λ (x : RelocErr). reloc obj
 
 -- the sections of one object more
 pub contents_next : (g : List GlobalData) (placed : List PlacedData) (i : ℕ) (p : PlacedData) (old more : List SectionData) → i < length placed → p ≡ get_or placed i p
-    → old ≡ flat_map (relocated g) (take i placed) → more ≡ relocated g p → old ++ more ≡ flat_map (relocated g) (take (i + 1) placed)
+    → old ≡ flat_map (relocated_sections g) (take i placed) → more ≡ relocated_sections g p → old ++ more ≡ flat_map (relocated_sections g) (take (i + 1) placed)
 contents_next g placed i p old more h is e m =
     ap (λ (l : List SectionData). old ++ l) m
-    ∙ ap (λ (l : List SectionData). l ++ relocated g p) e
-    ∙ ap (λ (x : PlacedData). flat_map (relocated g) (take i placed) ++ relocated g x) is
-    ∙ ap (λ (l : List SectionData). flat_map (relocated g) (take i placed) ++ l) (sym (append-nil (relocated g (get_or placed i p))))
-    ∙ sym (ap (flat_map (relocated g)) (take_more placed i p h) ∙ flat_map-append (relocated g) (take i placed) (get_or placed i p ∷ []))
+    ∙ ap (λ (l : List SectionData). l ++ relocated_sections g p) e
+    ∙ ap (λ (x : PlacedData). flat_map (relocated_sections g) (take i placed) ++ relocated_sections g x) is
+    ∙ ap (λ (l : List SectionData). flat_map (relocated_sections g) (take i placed) ++ l) (sym (append-nil (relocated_sections g (get_or placed i p))))
+    ∙ sym (ap (flat_map (relocated_sections g)) (take_more placed i p h) ∙ flat_map-append (relocated_sections g) (take i placed) (get_or placed i p ∷ []))
 
 pub reloc_here : (o : ObjectData) (ds : List Reloc) (i : ℕ) (d : Reloc) → IsObject o → ds ≡ o.relocs → i < length ds → IsReloc o.sections (length o.symbols) (take i o.relocs) (get_or ds i d)
 reloc_here o ds i d good e h =
     subst (λ (r : Reloc). IsReloc o.sections (length o.symbols) (take i o.relocs) r) (ap (λ (l : List Reloc). get_or l i d) (sym e)) (reloc_at o i d good (subst (λ (l : List Reloc). i < length l) e h))
 
 -- the same of the section that stands there, whatever is read past the end
-pub shapes_at : (r : Reloc) (ss : List SectionData) (y d : SectionData) (place value : ℕ) → r.section < length ss → r.offset + 4 ≤ size_at ss r.section → y ≡ filled r place value (get_or ss r.section d)
+pub shapes_at : (r : Reloc) (ss : List SectionData) (y d : SectionData) (place value : ℕ) → r.section < length ss → r.offset + 4 ≤ size_at ss r.section → y ≡ with_filled_field r place value (get_or ss r.section d)
     → map shape_of (set ss r.section y) ≡ map shape_of ss
 shapes_at r ss y d place value h room e =
     let x : SectionData = get_or ss r.section d in

@@ -14,19 +14,19 @@ use Rattle.std.proofs.lemmas.List.Folds.{find_at}
 use Rattle.std.proofs.lemmas.List.Quantifiers.{position-Some}
 use Rattle.tc_object.specs.Objects.{SectionData, ObjectData}
 use Rattle.tc_link.specs.Layouts.{PlaceData}
-use Rattle.tc_link.specs.Placing.{PlacedData, sections_of, rounded, with_size, taken, base_of, bases_after, placed_after}
-use Rattle.tc_link.specs.Rooms.{AreTaken}
+use Rattle.tc_link.specs.Placing.{PlacedData, sections_of, round_up, with_size, taken_bytes, base_of, bases_after, placed_after}
+use Rattle.tc_link.specs.PlaceSizes.{AreTaken}
 use Rattle.tc_link.specs.Linked.{Refusal, no_room, is_over, total, no_room_of, no_room_after}
 use Rattle.std.specs.Bool.{then_some}
 use Rattle.std.proofs.lemmas.Bool.Decides.{nat_tests}
 
-pub taken_none : (name : List ℕ) → taken name [] ≡ 0
-unfolding taken
+pub taken_none : (name : List ℕ) → taken_bytes name [] ≡ 0
+unfolding taken_bytes
 taken_none name = refl
 
 -- one section more
-pub taken_more : (name : List ℕ) (before : List SectionData) (s : SectionData) → taken name (before ++ s ∷ []) ≡ with_size name (taken name before) s
-unfolding taken
+pub taken_more : (name : List ℕ) (before : List SectionData) (s : SectionData) → taken_bytes name (before ++ s ∷ []) ≡ with_size name (taken_bytes name before) s
+unfolding taken_bytes
 taken_more name before s = fold-append (with_size name) 0 before (s ∷ [])
 
 pub bases_push : (places : List PlaceData) (before ss : List SectionData) (s : SectionData) → bases_after places before (ss ++ s ∷ []) ≡ bases_after places before ss ++ base_of places (before ++ ss) s ∷ []
@@ -104,17 +104,17 @@ find_some {A} p xs i d e =
     find_at p xs ∙ slice_get-get_or xs (position_or_len p xs) d (ltb-true _ _ w.0) ∙ ap (λ k. Some (get_or xs k d)) w.1
 
 pub base_none : (places : List PlaceData) (before : List SectionData) (s : SectionData) → position (λ p. bytes_eq s.name p.section) places ≡ None → 0 ≡ base_of places before s
-base_none places before s e = sym (ap (λ (o : Option PlaceData). option_map_or (λ p. p.at + rounded (taken s.name before)) o 0) (find_none (λ p. bytes_eq s.name p.section) places e))
+base_none places before s e = sym (ap (λ (o : Option PlaceData). option_map_or (λ p. p.at + round_up (taken_bytes s.name before)) o 0) (find_none (λ p. bytes_eq s.name p.section) places e))
 
 -- a section begins behind those of its place
 pub base_some : (places : List PlaceData) (before : List SectionData) (s : SectionData) (i : ℕ) (p : PlaceData) (sizes : List ℕ) → AreTaken places before sizes
-    → position (λ p. bytes_eq s.name p.section) places ≡ Some i → p ≡ get_or places i p → p.at + rounded (get_or sizes i 0) ≡ base_of places before s
+    → position (λ p. bytes_eq s.name p.section) places ≡ Some i → p ≡ get_or places i p → p.at + round_up (get_or sizes i 0) ≡ base_of places before s
 base_some places before s i p sizes t e is =
     let at = position-Some (λ q. bytes_eq s.name q.section) places i p e in
     let named : s.name ≡ (get_or places i p).section = (bytes_eq-Decides s.name (get_or places i p).section).0 at.1 in
-    ap (λ n. p.at + rounded n) (t i p at.0 ∙ ap (λ (name : List ℕ). taken name before) (sym named))
-    ∙ ap (λ (q : PlaceData). q.at + rounded (taken s.name before)) is
-    ∙ sym (ap (λ (o : Option PlaceData). option_map_or (λ q. q.at + rounded (taken s.name before)) o 0) (find_some (λ q. bytes_eq s.name q.section) places i p e))
+    ap (λ n. p.at + round_up n) (t i p at.0 ∙ ap (λ (name : List ℕ). taken_bytes name before) (sym named))
+    ∙ ap (λ (q : PlaceData). q.at + round_up (taken_bytes s.name before)) is
+    ∙ sym (ap (λ (o : Option PlaceData). option_map_or (λ q. q.at + round_up (taken_bytes s.name before)) o 0) (find_some (λ q. bytes_eq s.name q.section) places i p e))
 
 -- ---- the end
 then_none : {A : Type 0} (b : Bool) (x : A) → then_some b x ≡ None → b ≡ false
@@ -136,18 +136,18 @@ room_end places before (s ∷ ss) room e =
 never_below : (n : ℕ) → ltb n 0 ≡ false
 never_below n = grind (arith, nat_tests)
 
-none_over : (places : List PlaceData) → (list_any (λ p. ltb p.most (taken p.section [])) places ≡ false) × (sum_by (λ p. taken p.section []) places ≡ 0)
-unfolding taken
+none_over : (places : List PlaceData) → (list_any (λ p. ltb p.most (taken_bytes p.section [])) places ≡ false) × (sum_by (λ p. taken_bytes p.section []) places ≡ 0)
+unfolding taken_bytes
 none_over [] = (refl, refl)
 none_over (p ∷ ps) =
     let rest = none_over ps in
-    (ap (λ b. b || list_any (λ q. ltb q.most (taken q.section [])) ps) (never_below p.most) ∙ rest.0, omega (arith, rest.1))
+    (ap (λ b. b || list_any (λ q. ltb q.most (taken_bytes q.section [])) ps) (never_below p.most) ∙ rest.0, omega (arith, rest.1))
 
 pub room_start : (places : List PlaceData) → is_over places [] ≡ false
 unfolding is_over total
 room_start places =
     let n = none_over places in
-    ap (λ b. b || ltb (2 ^ 24) (sum_by (λ p. taken p.section []) places)) n.0 ∙ ap (ltb (2 ^ 24)) n.1
+    ap (λ b. b || ltb (2 ^ 24) (sum_by (λ p. taken_bytes p.section []) places)) n.0 ∙ ap (ltb (2 ^ 24)) n.1
 
 -- ---- one item more
 pub take_next : {A : Type 0} (xs : List A) (i : ℕ) (x : A) → i < length xs → x ≡ get_or xs i x → take (i + 1) xs ≡ take i xs ++ x ∷ []

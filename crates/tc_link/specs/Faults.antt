@@ -6,8 +6,8 @@ use Rattle.std.specs.List.{list_any}
 use Rattle.tc_link.specs.Layouts.{PlaceData, LayoutData, shares, is_placed}
 use Rattle.tcd_text.specs.Lines.{lines_of}
 use Rattle.tc_link.specs.Lines.{LineData, blank, entry, place, line_of}
-use Rattle.tc_link.specs.declared.faults.LayoutErr.{LayoutErr}
-use Rattle.tc_link.specs.declared.faults.LayoutErr.TheVariants.{BadLine, Twice, TooMany, Overlap, NoMemory}
+use Rattle.tc_link.specs.declared.layout_errors.LayoutErr.{LayoutErr}
+use Rattle.tc_link.specs.declared.layout_errors.LayoutErr.TheVariants.{BadLine, Twice, TooMany, Overlap, NoMemory}
 
 -- the name in an entry's line
 abbrev pub entry_in : LineData → Option (List ℕ)

@@ -8,5 +8,5 @@ pub mod Relocated
 pub mod Linked
 pub mod Errors
 pub mod Names
-pub mod Rooms
+pub mod PlaceSizes
 pub mod Shapes

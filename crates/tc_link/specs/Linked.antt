@@ -4,13 +4,13 @@ use Rattle.std.specs.Bool.{then_some}
 use Rattle.std.specs.Option.{option_map, option_or}
 use Rattle.std.specs.List.{flat_map, list_any}
 use Rattle.std.specs.Str.{bytes_eq}
+use Rattle.tc_object.specs.Objects.{undefined_symbol, SectionData, SymbolData, ObjectData}
 use Rattle.elf_image.specs.Images.{ImageData}
 use Rattle.tc_object.specs.declared.relocs.Reloc.{Reloc}
-use Rattle.tc_object.specs.Objects.{SectionData, SymbolData, ObjectData}
 use Rattle.tc_reloc.specs.declared.refusals.RelocErr.{RelocErr}
 use Rattle.tc_link.specs.Layouts.{PlaceData, LayoutData, is_placed}
-use Rattle.tc_link.specs.Placing.{PlacedData, GlobalData, sections_of, taken, placed_after, globals_of, global_address, is_global}
-use Rattle.tc_link.specs.Relocated.{relocated, reloc_refusal, segments_of}
+use Rattle.tc_link.specs.Placing.{PlacedData, GlobalData, sections_of, taken_bytes, placed_after, globals_of, global_address, is_global}
+use Rattle.tc_link.specs.Relocated.{relocated_sections, reloc_refusal, segments_of}
 
 -- why objects can't be linked
 pub data Refusal : Type 0 where
@@ -32,8 +32,8 @@ first_some f xs = first_at f 0 xs
 
 -- ---- symbols
 -- a symbol counts for a name: it's global and has the name
-abbrev pub named : List ℕ → SymbolData → Bool
-named name s = is_global s && bytes_eq name s.name
+abbrev pub has_global_name : List ℕ → SymbolData → Bool
+has_global_name name s = is_global s && bytes_eq name s.name
 
 -- the symbols of objects, one object after another
 abbrev pub symbols_of : List ObjectData → List SymbolData
@@ -41,7 +41,7 @@ symbols_of objects = flat_map (λ o. o.symbols) objects
 
 -- how many global symbols of these objects have the name; those of one object have distinct names
 unfoldable pub globals_named : List ObjectData → List ℕ → ℕ
-globals_named objects name = count_by (named name) (symbols_of objects)
+globals_named objects name = count_by (has_global_name name) (symbols_of objects)
 
 -- a global symbol that is defined in two objects
 abbrev pub twice_of : List ObjectData → ℕ → SymbolData → Option Refusal
@@ -57,7 +57,7 @@ is_used relocs number = list_any (λ r. r.symbol == number) relocs
 
 -- a symbol that a relocation uses, undefined in its object and global in none
 abbrev pub missing_of : List ObjectData → List Reloc → ℕ → SymbolData → Option Refusal
-missing_of objects relocs number s = then_some (s.kind == 0 && is_used relocs number && globals_named objects s.name == 0) (missing s.name)
+missing_of objects relocs number s = then_some (s.kind == undefined_symbol && is_used relocs number && globals_named objects s.name == 0) (missing s.name)
 
 -- the first symbol that is used, undefined in its object and global in none, if there is one
 unfoldable pub missing_in : List ObjectData → Option Refusal
@@ -66,7 +66,7 @@ missing_in objects = first_some (λ _ o. first_some (missing_of objects o.relocs
 -- ---- sections
 -- a symbol is defined in the section of this number
 abbrev pub has_symbol : List SymbolData → ℕ → Bool
-has_symbol symbols number = list_any (λ s. not (s.kind == 0) && s.section == number) symbols
+has_symbol symbols number = list_any (λ s. not (s.kind == undefined_symbol) && s.section == number) symbols
 
 -- a section without a place that has bytes or in which a symbol is defined
 abbrev pub no_place_of : List PlaceData → List SymbolData → ℕ → SectionData → Option Refusal
@@ -78,11 +78,11 @@ no_place_in places objects = first_some (λ _ o. first_some (no_place_of places 
 
 -- how many bytes the sections take in all places
 unfoldable pub total : List PlaceData → List SectionData → ℕ
-total places sections = sum_by (λ p. taken p.section sections) places
+total places sections = sum_by (λ p. taken_bytes p.section sections) places
 
 -- with these sections a place, or the 16,777,216 bytes of an image, is passed
 unfoldable pub is_over : List PlaceData → List SectionData → Bool
-is_over places sections = list_any (λ p. nat_lt p.most (taken p.section sections)) places || nat_lt (2 ^ 24) (total places sections)
+is_over places sections = list_any (λ p. nat_lt p.most (taken_bytes p.section sections)) places || nat_lt (2 ^ 24) (total places sections)
 
 -- a section with which, behind those before it, there is no room
 abbrev pub no_room_of : List PlaceData → List SectionData → SectionData → Option Refusal
@@ -109,7 +109,7 @@ placed_of layout objects = placed_after layout.places [] objects
 
 -- all sections, with their relocations written
 unfoldable pub contents_of : List PlacedData → List SectionData
-contents_of placed = flat_map (relocated (globals_of placed)) placed
+contents_of placed = flat_map (relocated_sections (globals_of placed)) placed
 
 -- the image that begins at this address; a refusal where the entry is no global symbol
 abbrev pub entry_of : Option ℕ → List PlaceData → List PlacedData → Result ImageData Refusal
@@ -137,5 +137,5 @@ abbrev pub made_of : LayoutData → List PlacedData → Result ImageData Refusal
 made_of layout placed = unless (reloc_in (globals_of placed) placed) (image_of layout placed)
 
 -- the image, or the first refusal
-unfoldable pub linked : List ObjectData → LayoutData → Result ImageData Refusal
-linked objects layout = unless (refused_early layout objects) (made_of layout (placed_of layout objects))
+unfoldable pub image_of_objects : List ObjectData → LayoutData → Result ImageData Refusal
+image_of_objects objects layout = unless (refused_early layout objects) (made_of layout (placed_of layout objects))

@@ -19,12 +19,12 @@ abbrev pub twice_at : {S : Type 0} → HashMap (Bor (List ℕ)) Definition S →
 twice_at names q = option_map (λ d. d.is_twice) (at_name names q)
 
 -- what is kept of a name that so many symbols have: whether they are more than one
-abbrev pub kept : ℕ → Option Bool
-kept n = if n == 0 then None else Some (nat_lt 1 n)
+abbrev pub twice_of_count : ℕ → Option Bool
+twice_of_count n = if n == 0 then None else Some (nat_lt 1 n)
 
 -- the map tells of each name whether several objects define it as a global symbol
 abbrev pub CountsGlobals : {S : Type 0} → HashMap (Bor (List ℕ)) Definition S → List ObjectData → Type 0
-CountsGlobals names objects = (q : List ℕ) → twice_at names q ≡ kept (globals_named objects q)
+CountsGlobals names objects = (q : List ℕ) → twice_at names q ≡ twice_of_count (globals_named objects q)
 
 -- ---- where they lie
 -- the address of what is defined in one of these objects

@@ -3,7 +3,7 @@ use Rattle.std.specs.Prelude.{◌+◌, ◌*◌, ◌/◌, ◌%◌, ◌^◌, ◌==
 use Rattle.std.specs.Option.{option_map, option_map_or}
 use Rattle.std.specs.List.{flat_map}
 use Rattle.std.specs.Str.{bytes_eq}
-use Rattle.tc_object.specs.Objects.{SectionData, SymbolData, ObjectData}
+use Rattle.tc_object.specs.Objects.{global_symbol, undefined_symbol, SectionData, SymbolData, ObjectData}
 use Rattle.tc_link.specs.Layouts.{PlaceData}
 
 -- ---- sections
@@ -12,16 +12,16 @@ abbrev pub sections_of : List ObjectData → List SectionData
 sections_of objects = flat_map (λ o. o.sections) objects
 
 -- the least multiple of 4 that isn't below
-abbrev pub rounded : ℕ → ℕ
-rounded n = (n + 3) / 4 * 4
+abbrev pub round_up : ℕ → ℕ
+round_up n = (n + 3) / 4 * 4
 
 -- how many bytes of the place for this name are taken, where n were, with one section more
 abbrev pub with_size : List ℕ → ℕ → SectionData → ℕ
-with_size name n s = if bytes_eq name s.name then rounded n + length s.bytes else n
+with_size name n s = if bytes_eq name s.name then round_up n + length s.bytes else n
 
 -- how many bytes of their place the sections of this name take, each beginning at a multiple of 4
-unfoldable pub taken : List ℕ → List SectionData → ℕ
-taken name sections = fold (with_size name) 0 sections
+unfoldable pub taken_bytes : List ℕ → List SectionData → ℕ
+taken_bytes name sections = fold (with_size name) 0 sections
 
 -- the place for the sections of this name
 abbrev pub place_of : List PlaceData → List ℕ → Option PlaceData
@@ -29,7 +29,7 @@ place_of places name = find (λ p. bytes_eq name p.section) places
 
 -- where a section behind others begins; 0 where it has no place
 abbrev pub base_of : List PlaceData → List SectionData → SectionData → ℕ
-base_of places before s = option_map_or (λ p. p.at + rounded (taken s.name before)) (place_of places s.name) 0
+base_of places before s = option_map_or (λ p. p.at + round_up (taken_bytes s.name before)) (place_of places s.name) 0
 
 -- where sections behind others begin, each behind those before it
 unfoldable pub bases_after : List PlaceData → List SectionData → List SectionData → List ℕ
@@ -49,7 +49,7 @@ placed_after places before (o ∷ os) = record { object = o; bases = bases_after
 -- ---- symbols
 -- the symbol is defined, and other objects may use it
 abbrev pub is_global : SymbolData → Bool
-is_global s = s.kind == 2
+is_global s = s.kind == global_symbol
 
 -- the address of an offset in a section of this number
 abbrev pub address_in : List ℕ → ℕ → ℕ → ℕ
@@ -74,7 +74,7 @@ global_address globals name = option_map (λ g. g.address) (find (λ g. bytes_eq
 
 -- the address of a symbol of a placed object: its own, or of the global one for which it stands; 0 where there is none
 abbrev pub symbol_address : List GlobalData → List ℕ → SymbolData → ℕ
-symbol_address globals bases s = if s.kind == 0 then option_map_or (λ a. a) (global_address globals s.name) 0 else address_in bases s.section s.offset
+symbol_address globals bases s = if s.kind == undefined_symbol then option_map_or (λ a. a) (global_address globals s.name) 0 else address_in bases s.section s.offset
 
 -- the addresses of the symbols of a placed object, by their numbers
 unfoldable pub symbol_addresses : List GlobalData → PlacedData → List ℕ

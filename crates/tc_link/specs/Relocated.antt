@@ -10,7 +10,7 @@ use Rattle.tc_reloc.specs.Refusals.{refusal_of}
 use Rattle.tc_reloc.specs.Fields.{content_of}
 use Rattle.tc_reloc.specs.Applied.{with_field}
 use Rattle.tc_link.specs.Layouts.{PlaceData}
-use Rattle.tc_link.specs.Placing.{GlobalData, PlacedData, rounded, address_in, symbol_address}
+use Rattle.tc_link.specs.Placing.{GlobalData, PlacedData, round_up, address_in, symbol_address}
 
 -- ---- relocations
 -- where the field of a relocation stands
@@ -34,44 +34,44 @@ abbrev pub with_field_at : List ℕ → ℕ → List ℕ → List ℕ
 with_field_at bytes at field = take at bytes ++ (field ++ drop (at + 4) bytes)
 
 -- a section with the field of a relocation at this place filled with this value
-abbrev pub filled : Reloc → ℕ → ℕ → SectionData → SectionData
-filled r place value s = record {
+abbrev pub with_filled_field : Reloc → ℕ → ℕ → SectionData → SectionData
+with_filled_field r place value s = record {
   name = s.name;
   bytes = with_field_at s.bytes r.offset (with_field r.kind (field_at s.bytes r.offset) (content_of r.kind place value));
 }
 
 -- the section with the field of one relocation written
-abbrev pub written : List GlobalData → PlacedData → Reloc → SectionData → SectionData
-written globals p r s = filled r (field_place p r) (value_of globals p r) s
+abbrev pub with_relocation : List GlobalData → PlacedData → Reloc → SectionData → SectionData
+with_relocation globals p r s = with_filled_field r (field_place p r) (value_of globals p r) s
 
 -- a list with the item of this number changed, if it's there
-abbrev pub changed : {A : Type 0} → (A → A) → ℕ → List A → List A
-changed f n xs = option_map_or (λ x. slice_set xs n (f x)) (slice_get xs n) xs
+abbrev pub with_item : {A : Type 0} → (A → A) → ℕ → List A → List A
+with_item f n xs = option_map_or (λ x. slice_set xs n (f x)) (slice_get xs n) xs
 
 -- the sections of a placed object with one of its relocations written
 abbrev pub with_reloc : List GlobalData → PlacedData → List SectionData → Reloc → List SectionData
-with_reloc globals p sections r = changed (written globals p r) r.section sections
+with_reloc globals p sections r = with_item (with_relocation globals p r) r.section sections
 
 -- the sections of a placed object with its relocations written, one after another
-unfoldable pub relocated : List GlobalData → PlacedData → List SectionData
-relocated globals p = fold (with_reloc globals p) p.object.sections p.object.relocs
+unfoldable pub relocated_sections : List GlobalData → PlacedData → List SectionData
+relocated_sections globals p = fold (with_reloc globals p) p.object.sections p.object.relocs
 
 -- ---- places
 -- zeros up to a multiple of 4
-abbrev pub padded : List ℕ → List ℕ
-padded bytes = bytes ++ replicate (rounded (length bytes) - length bytes) 0
+abbrev pub with_padding : List ℕ → List ℕ
+with_padding bytes = bytes ++ replicate (round_up (length bytes) - length bytes) 0
 
 -- the bytes of a place with one section more, if it has the place's name
 abbrev pub with_section : List ℕ → List ℕ → SectionData → List ℕ
-with_section name bytes s = if bytes_eq name s.name then padded bytes ++ s.bytes else bytes
+with_section name bytes s = if bytes_eq name s.name then with_padding bytes ++ s.bytes else bytes
 
 -- the sections of one name, each at a multiple of 4, the gaps zero
-unfoldable pub joined : List ℕ → List SectionData → List ℕ
-joined name sections = fold (with_section name) [] sections
+unfoldable pub joined_sections : List ℕ → List SectionData → List ℕ
+joined_sections name sections = fold (with_section name) [] sections
 
 -- the bytes of a place: the sections that go there
 abbrev pub segment_of : List SectionData → PlaceData → SegmentData
-segment_of sections p = record { at = p.at; bytes = joined p.section sections }
+segment_of sections p = record { at = p.at; bytes = joined_sections p.section sections }
 
 -- the places with bytes
 unfoldable pub segments_of : List PlaceData → List SectionData → List SegmentData

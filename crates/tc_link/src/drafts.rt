@@ -34,7 +34,7 @@ impl Draft {
     ghost use Rattle.tc_link.specs.Lines.{line_of, place};
     ghost use Rattle.tc_link.specs.Faults.{fault_of, with_entry, IsFaultOf, IsFault};
     ghost use Rattle.tc_link.specs.Seen.{with_line, line_data, IsGood};
-    ghost use Rattle.tc_link.specs.declared.faults.LayoutErr.TheVariants.{Twice, TooMany, Overlap, NoMemory};
+    ghost use Rattle.tc_link.specs.declared.layout_errors.LayoutErr.TheVariants.{Twice, TooMany, Overlap, NoMemory};
 
     /// No line.
     pub(crate) fn new(alloc: Global) -> Draft

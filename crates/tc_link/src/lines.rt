@@ -7,7 +7,7 @@ ghost use Rattle.tcd_text.specs.HexNumbers.{hex_number_of};
 ghost use Rattle.tc_link.specs.Lines.{entry, line_of, place_of_words};
 ghost use Rattle.tc_link.specs.Seen.{line_data, IsGood};
 
-use crate::words::is_text;
+use crate::text::is_text;
 use tc_object::name_of;
 use tcd_text::{cut_word, hex_number};
 

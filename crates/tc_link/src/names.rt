@@ -3,8 +3,8 @@ ghost use Rattle.std.specs.Prelude.{◌≡◌, ◌+◌, ◌++◌, ◌∷◌, nat
 ghost use Rattle.std.specs.Str.{bytes_eq};
 ghost use Rattle.tc_object.specs.Objects.{ObjectData};
 ghost use Rattle.tc_link.specs.Placing.{PlacedData, GlobalData, is_global, global_data};
-ghost use Rattle.tc_link.specs.Linked.{named, globals_named};
-ghost use Rattle.tc_link.specs.Names.{at_name, twice_at, kept, address_of, AreGlobals, CountsGlobals, DefinesGlobals};
+ghost use Rattle.tc_link.specs.Linked.{has_global_name, globals_named};
+ghost use Rattle.tc_link.specs.Names.{at_name, twice_at, twice_of_count, address_of, AreGlobals, CountsGlobals, DefinesGlobals};
 ghost use Rattle.tc_link.specs.declared.errors.LinkErr.TheVariants.{NoMemory};
 
 use crate::LinkErr;
@@ -20,8 +20,8 @@ fn add_name<'a>(
     definition: Definition,
 ) -> Result<(), LinkErr>
     requires { definition.is_twice ≡ false }
-    ensures counts { OnOk result ((q : List ℕ) (n : ℕ) → twice_at names.old q ≡ kept n
-        → twice_at names.new q ≡ kept (n + (if bytes_eq q name.now then 1 else 0))) }
+    ensures counts { OnOk result ((q : List ℕ) (n : ℕ) → twice_at names.old q ≡ twice_of_count n
+        → twice_at names.new q ≡ twice_of_count (n + (if bytes_eq q name.now then 1 else 0))) }
     ensures globals { OnOk result ((placed : List PlacedData) (before : List GlobalData)
         → AreGlobals names.old placed before → AreGlobals names.new placed
         (before ++ record { name = name.now; address = address_of placed definition } ∷ [])) }
@@ -47,8 +47,9 @@ fn add_symbol<'a>(
     object: usize,
     symbol: &'a Symbol,
 ) -> Result<(), LinkErr>
-    ensures counts { OnOk result ((q : List ℕ) (n : ℕ) → twice_at names.old q ≡ kept n
-        → twice_at names.new q ≡ kept (n + (if named q symbol.now then 1 else 0))) }
+    ensures counts { OnOk result ((q : List ℕ) (n : ℕ) → twice_at names.old q ≡ twice_of_count n
+        → twice_at names.new q
+        ≡ twice_of_count (n + (if has_global_name q symbol.now then 1 else 0))) }
     ensures globals { OnOk result ((placed : List PlacedData) (p : PlacedData)
         (before : List GlobalData) → slice_get placed object ≡ Some p
         → AreGlobals names.old placed before → AreGlobals names.new placed
@@ -74,8 +75,8 @@ fn add_symbols<'a>(
     object: usize,
     symbols: &'a [Symbol],
 ) -> Result<(), LinkErr>
-    ensures counts { OnOk result ((q : List ℕ) (n : ℕ) → twice_at names.old q ≡ kept n
-        → twice_at names.new q ≡ kept (n + count_by (named q) symbols.now)) }
+    ensures counts { OnOk result ((q : List ℕ) (n : ℕ) → twice_at names.old q ≡ twice_of_count n
+        → twice_at names.new q ≡ twice_of_count (n + count_by (has_global_name q) symbols.now)) }
     ensures globals { OnOk result ((placed : List PlacedData) (p : PlacedData)
         (before : List GlobalData) → slice_get placed object ≡ Some p
         → AreGlobals names.old placed before → AreGlobals names.new placed
@@ -121,7 +122,7 @@ pub(crate) fn are_single(names: &HashMap<&str, Definition>) -> bool
 
 /// Whether more than one global symbol has the name.
 pub(crate) fn is_twice(names: &HashMap<&str, Definition>, name: &str) -> bool
-    ensures { (n : ℕ) → twice_at names.now name.now ≡ kept n → result ≡ nat_lt 1 n }
+    ensures { (n : ℕ) → twice_at names.now name.now ≡ twice_of_count n → result ≡ nat_lt 1 n }
 {
     match names.get(name) {
         Some(definition) => definition.is_twice,
@@ -131,7 +132,7 @@ pub(crate) fn is_twice(names: &HashMap<&str, Definition>, name: &str) -> bool
 
 /// Whether no global symbol has the name.
 pub(crate) fn is_missing(names: &HashMap<&str, Definition>, name: &str) -> bool
-    ensures { (n : ℕ) → twice_at names.now name.now ≡ kept n → result ≡ (n == 0) }
+    ensures { (n : ℕ) → twice_at names.now name.now ≡ twice_of_count n → result ≡ (n == 0) }
 {
     !names.contains_key(name)
 }

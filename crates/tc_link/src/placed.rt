@@ -3,11 +3,11 @@ ghost use Rattle.std.specs.Prelude.{◌≡◌, ◌≤◌, ◌<◌, [], ℕ, IfOk
 ghost use Rattle.tc_object.specs.Objects.{ObjectData, IsObject};
 ghost use Rattle.tc_link.specs.Placing.{placed_after, sections_of};
 ghost use Rattle.tc_link.specs.Linked.{no_room_after};
-ghost use Rattle.tc_link.specs.Rooms.{AreTaken, AreSmall};
+ghost use Rattle.tc_link.specs.PlaceSizes.{AreTaken, AreSmall};
 ghost use Rattle.tc_link.specs.Errors.{IsRefusal};
 ghost use Rattle.tc_link.specs.declared.errors.LinkErr.TheVariants.{NoMemory};
 
-use crate::rooms::bases_of;
+use crate::place_sizes::bases_of;
 use crate::{LinkErr, Place};
 use std::alloc::Global;
 use std::marker::Model;

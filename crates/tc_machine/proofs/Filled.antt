@@ -7,7 +7,7 @@ use Rattle.csa_chain.specs.Memory.{Memory, is_mapped, with_byte}
 use Rattle.csa_chain.proofs.MemoryLaws.{get-with_byte_same, get-with_byte_other, is_mapped-with_byte, is_mapped-with_words, get-with_words_other}
 use Rattle.csa_chain.proofs.WordLaws.{HasBytes-with_words}
 use Rattle.elf_image.specs.Images.{ImageData, image_byte}
-use Rattle.tcd_base.specs.declared.types.Range.{Range}
+use Rattle.tcd_base.specs.declared.range.Range.{Range}
 use Rattle.tcd_base.specs.Ranges.{IsWithin, IsInOne}
 use Rattle.csa_chain.specs.MemoryChanges.{HasBytes}
 use Rattle.tc_machine.specs.Starting.{with_some, with_image, with_images, next_link, with_links}

@@ -7,7 +7,7 @@ use Rattle.csa_chain.specs.Memory.{Memory}
 use Rattle.csa_chain.specs.Chain.{link_address, area_word}
 use Rattle.csa_chain.proofs.ChainLaws.{Links, Links-chain_within, are_mapped_each, reverse_onto, reverse-append_onto}
 use Rattle.elf_image.specs.Images.{ImageData}
-use Rattle.tcd_base.specs.declared.types.Range.{Range}
+use Rattle.tcd_base.specs.declared.range.Range.{Range}
 use Rattle.tcd_base.specs.Ranges.{IsInOne}
 use Rattle.tcd_plan.specs.declared.plans.Device.{Device}
 use Rattle.tcd_plan.specs.PlanData.{PlanData, IsPlan}

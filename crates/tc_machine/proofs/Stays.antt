@@ -28,7 +28,7 @@ use Rattle.tc_machine.specs.declared.events.Event.{Event}
 use Rattle.tc_machine.specs.declared.state.Machine.{Machine}
 use Rattle.tc_machine.specs.Machine.{reg, with_reg, arg, a10, a11, is_of, handler_psw, with_status, moved, advanced, died, goes_on, then_}
 use Rattle.tc_machine.specs.Contexts.{context_of, saved, save, has_kind, last_context, released, restored, restore}
-use Rattle.csa_chain.specs.Memory.{loaded, with_bytes, extended}
+use Rattle.csa_chain.specs.Memory.{load_number, with_bytes, extend}
 use Rattle.tc_machine.specs.Fetching.{mapped_bytes, shaped, fetched}
 use Rattle.tc_machine.specs.Instructions.{handler_stack, at_handler, interrupt, trap, access_address, with_base, traps_at, misaligned, core_register, with_core_register, target_of, lowered, does}
 use Rattle.tc_machine.specs.Stepping.{is_taken, executed, done, step, run}
@@ -278,8 +278,8 @@ stays_does m k e small (Compute op dst x y) n h = stays_advanced _ (stays_reg m 
 stays_does m k e small (Scaled dst base index c) n h = stays_advanced _ (stays_reg m k dst (moved (reg m base) (reg m index * 2 ^ c)) (moved-lt (reg m base) (reg m index * 2 ^ c))) n
 stays_does m k e small (Load dst base offset size signed after) n h =
     let x = access_address m base offset after in
-    cond_both (traps_at e x size) (misaligned m) (advanced n (with_reg (with_base m base offset after) dst (extended signed size (loaded m.mem e.input x size)))) IsMachine (λ _. stays_misaligned m k)
-    (λ _. stays_advanced _ (stays_reg (with_base m base offset after) (stays_base m k base offset after) dst (extended signed size (loaded m.mem e.input x size)) (load_lt m.mem k.bytes signed e.input x size h)) n)
+    cond_both (traps_at e x size) (misaligned m) (advanced n (with_reg (with_base m base offset after) dst (extend signed size (load_number m.mem e.input x size)))) IsMachine (λ _. stays_misaligned m k)
+    (λ _. stays_advanced _ (stays_reg (with_base m base offset after) (stays_base m k base offset after) dst (extend signed size (load_number m.mem e.input x size)) (load_lt m.mem k.bytes signed e.input x size h)) n)
 stays_does m k e small (Store src base offset size after) n h =
     let x = access_address m base offset after in
     cond_both (traps_at e x size) (misaligned m) (advanced n (record (with_base m base offset after) { mem = with_bytes m.mem x (reg m src) size })) IsMachine (λ _. stays_misaligned m k)

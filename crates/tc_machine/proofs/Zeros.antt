@@ -3,7 +3,7 @@ use Rattle.std.proofs.Common.{◌≡◌, ℕ, ◌+◌, ◌^◌, ◌<◌, ◌⊎�
 use Rattle.std.proofs.lemmas.Bool.{and_parts, and_from, or_cases, le-leb, leb-true, lt-ltb, ltb-true}
 use Rattle.std.specs.FinMap as map
 use Rattle.csa_chain.specs.Memory.{Memory}
-use Rattle.tcd_base.specs.declared.types.Range.{Range}
+use Rattle.tcd_base.specs.declared.range.Range.{Range}
 use Rattle.tc_mem.specs.Pages.{is_in, IsZeros}
 use Rattle.tcd_base.specs.Ranges.{IsInOne}
 use Rattle.csa_chain.specs.MemoryChanges.{HasBytes}

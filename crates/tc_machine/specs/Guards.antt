@@ -5,7 +5,7 @@ use Rattle.std.specs.FinMap as bytes
 use Rattle.csa_chain.specs.Memory.{Memory, is_mapped}
 use Rattle.csa_chain.specs.Chain.{link_address, area_word}
 use Rattle.elf_image.specs.Images.{ImageData, IsImage, image_byte}
-use Rattle.tcd_base.specs.declared.types.Range.{Range}
+use Rattle.tcd_base.specs.declared.range.Range.{Range}
 use Rattle.tcd_base.specs.Ranges.{IsInOne}
 use Rattle.tcd_plan.specs.declared.plans.Device.{Device}
 use Rattle.tcd_plan.specs.PlanData.{PlanData, IsPlan}

@@ -12,7 +12,7 @@ use Rattle.tc_machine.specs.declared.events.Event.{Event}
 use Rattle.tc_machine.specs.declared.state.Machine.{Machine}
 use Rattle.tc_machine.specs.Machine.{reg, with_reg, arg, a10, a11, is_of, handler_psw, moved, advanced, then_}
 use Rattle.tc_machine.specs.Contexts.{save, restore}
-use Rattle.csa_chain.specs.Memory.{loaded, with_bytes, extended}
+use Rattle.csa_chain.specs.Memory.{load_number, with_bytes, extend}
 
 -- ---- entries of handlers
 -- the stack pointer of a handler: the interrupt stack's, or A10 where that is in use already
@@ -105,7 +105,7 @@ does m e (Scaled dst base index k) n = advanced n (with_reg m dst (moved (reg m 
 does m e (Load dst base offset size signed after) n =
     let x = access_address m base offset after in
     if traps_at e x size then misaligned m
-    else advanced n (with_reg (with_base m base offset after) dst (extended signed size (loaded m.mem e.input x size)))
+    else advanced n (with_reg (with_base m base offset after) dst (extend signed size (load_number m.mem e.input x size)))
 does m e (Store src base offset size after) n =
     let x = access_address m base offset after in
     if traps_at e x size then misaligned m

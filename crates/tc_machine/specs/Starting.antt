@@ -4,7 +4,7 @@ use Rattle.std.specs.FinMap as map
 use Rattle.csa_chain.specs.Memory.{Memory, is_mapped, with_byte, with_words}
 use Rattle.csa_chain.specs.Chain.{area_word}
 use Rattle.elf_image.specs.Images.{ImageData, SegmentData, byte_in, image_byte}
-use Rattle.tcd_base.specs.declared.types.Range.{Range}
+use Rattle.tcd_base.specs.declared.range.Range.{Range}
 use Rattle.tcd_plan.specs.PlanData.{PlanData}
 use Rattle.tc_mem.specs.Pages.{IsZeros}
 use Rattle.tc_machine.specs.declared.state.Machine.{Machine}

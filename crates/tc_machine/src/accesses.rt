@@ -3,7 +3,7 @@ ghost use Rattle.std.specs.Prelude.{◌≡◌, ◌<◌, ◌%◌, ◌^◌, unwrap
 ghost use Rattle.std.specs.Bool.{MatchBool};
 ghost use Rattle.std.specs.FinMap as map;
 ghost use Rattle.tc_isa.specs.Bounded.{IsSize};
-ghost use Rattle.csa_chain.specs.Memory.{loaded, with_bytes, extended};
+ghost use Rattle.csa_chain.specs.Memory.{load_number, with_bytes, extend};
 
 use crate::registers::ahead;
 use tc_mem::Mem;
@@ -17,9 +17,9 @@ fn byte(mem: &Mem, input: u32, addr: u32) -> u8
 }
 
 /// The two bytes from an address on, each looked up on its own.
-#[tactic(auto, unfolding(csa_chain::specs::Memory::loaded))]
+#[tactic(auto, unfolding(csa_chain::specs::Memory::load_number))]
 fn half_by_bytes(mem: &Mem, input: u32, addr: u32) -> u16
-    ensures { result ≡ loaded mem.now input addr 2 }
+    ensures { result ≡ load_number mem.now input addr 2 }
 {
     let low = byte(mem, input, addr);
     let high = byte(mem, input / 256, ahead(addr, 1));
@@ -28,7 +28,7 @@ fn half_by_bytes(mem: &Mem, input: u32, addr: u32) -> u16
 
 /// The two bytes from an address on.
 fn half(mem: &Mem, input: u32, addr: u32) -> u16
-    ensures { result ≡ loaded mem.now input addr 2 }
+    ensures { result ≡ load_number mem.now input addr 2 }
 {
     match mem.half(addr) {
         Some(half) => half,
@@ -37,9 +37,9 @@ fn half(mem: &Mem, input: u32, addr: u32) -> u16
 }
 
 /// The four bytes from an address on, each looked up on its own.
-#[tactic(auto, unfolding(csa_chain::specs::Memory::loaded))]
+#[tactic(auto, unfolding(csa_chain::specs::Memory::load_number))]
 fn word_by_bytes(mem: &Mem, input: u32, addr: u32) -> u32
-    ensures { result ≡ loaded mem.now input addr 4 }
+    ensures { result ≡ load_number mem.now input addr 4 }
 {
     let low = byte(mem, input, addr);
     let second = byte(mem, input / 256, ahead(addr, 1));
@@ -49,7 +49,7 @@ fn word_by_bytes(mem: &Mem, input: u32, addr: u32) -> u32
 
 /// The four bytes from an address on.
 fn word(mem: &Mem, input: u32, addr: u32) -> u32
-    ensures { result ≡ loaded mem.now input addr 4 }
+    ensures { result ≡ load_number mem.now input addr 4 }
 {
     match mem.word(addr) {
         Some(word) => word,
@@ -58,9 +58,9 @@ fn word(mem: &Mem, input: u32, addr: u32) -> u32
 }
 
 /// The one byte from an address on, as a number.
-#[tactic(auto, unfolding(csa_chain::specs::Memory::loaded))]
+#[tactic(auto, unfolding(csa_chain::specs::Memory::load_number))]
 fn single(mem: &Mem, input: u32, addr: u32) -> u8
-    ensures { result ≡ loaded mem.now input addr 1 }
+    ensures { result ≡ load_number mem.now input addr 1 }
 {
     byte(mem, input, addr)
 }
@@ -68,7 +68,7 @@ fn single(mem: &Mem, input: u32, addr: u32) -> u8
 /// What a load of so many bytes from an address gives.
 pub(crate) fn load(mem: &Mem, input: u32, addr: u32, size: u8, signed: bool) -> u32
     requires { IsSize size }
-    ensures { result ≡ extended signed size (loaded mem.now input addr size) }
+    ensures { result ≡ extend signed size (load_number mem.now input addr size) }
 {
     if size == 4 {
         return word(mem, input, addr);

@@ -69,7 +69,9 @@ impl Machine {
     /// Word 0 of the area that a word of a chain names. Its place in memory is looked for near the one before.
     #[tactic(auto, using(crate::proofs::WholeAccesses::first_of_area))]
     fn word_after(&self, word: u32, near: &mut usize) -> Option<u32>
-        ensures { result ≡ (if is_area self.now.mem (link_in word) then Some (area_word self.now.mem (link_in word) 0) else None) }
+        ensures { result ≡
+            (if is_area self.now.mem (link_in word)
+            then Some (area_word self.now.mem (link_in word) 0) else None) }
     {
         self.mem.first_word(address_of(link(word)), near)
     }

@@ -56,7 +56,8 @@ impl Machine {
 
     /// PCXI once a context has gone into the area of a link.
     fn pcxi_after(&self, upper: bool, free: u32) -> u32
-        ensures { result ≡ pcxi_word_of self.now.core self.now.ccpn self.now.ie upper (link_in free) }
+        ensures { result ≡ pcxi_word_of self.now.core self.now.ccpn self.now.ie upper
+            (link_in free) }
     {
         let parts = PcxiParts {
             pcpn: self.ccpn,
@@ -73,7 +74,8 @@ impl Machine {
     #[tactic(auto, using(crate::proofs::ContextWords::area_of_words))]
     pub(crate) fn words_of(&self, named: u32) -> Option<[u32; 16]>
         requires { named < 2 ^ 20 }
-        ensures { result ≡ (if is_area self.now.mem named then Some (area_words self.now.mem named) else None) }
+        ensures { result ≡
+            (if is_area self.now.mem named then Some (area_words self.now.mem named) else None) }
     {
         self.mem.area(address_of(named))
     }

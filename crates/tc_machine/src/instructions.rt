@@ -21,6 +21,14 @@ struct Access {
     after: bool,
 }
 
+/// A branch's condition, with the register and the operand that it compares.
+#[derive(Clone, Copy)]
+struct Comparison {
+    cond: Cond,
+    x: u8,
+    y: Arg,
+}
+
 impl Machine {
     /// An operation on two words.
     #[tactic(auto, unfolding(crate::specs::Instructions::does))]
@@ -37,7 +45,8 @@ impl Machine {
     #[tactic(auto, unfolding(crate::specs::Instructions::does))]
     fn scaled(&mut self, dst: u8, base: u8, index: u8, k: u8, n: u32)
         requires { IsShape (Shape.Scaled dst base index k) }
-        ensures { (event : Event) → self.new ≡ does self.old event (Shape.Scaled dst base index k) n }
+        ensures { (event : Event)
+            → self.new ≡ does self.old event (Shape.Scaled dst base index k) n }
     {
         let word = ahead(self.reg(base), self.reg(index) << k);
         self.set_reg(dst, word);
@@ -48,7 +57,8 @@ impl Machine {
     #[tactic(auto, unfolding(crate::specs::Instructions::does))]
     fn load(&mut self, event: &Event, dst: u8, at: Access, signed: bool, n: u32)
         requires { IsShape (Shape.Load dst at.base at.offset at.size signed at.after) }
-        ensures { self.new ≡ does self.old event.now (Shape.Load dst at.base at.offset at.size signed at.after) n }
+        ensures { self.new
+            ≡ does self.old event.now (Shape.Load dst at.base at.offset at.size signed at.after) n }
     {
         let addr = self.access(at.base, at.offset, at.after);
         if traps(event, addr, at.size) {
@@ -65,7 +75,8 @@ impl Machine {
     #[tactic(auto, unfolding(crate::specs::Instructions::does))]
     fn store(&mut self, event: &Event, src: u8, at: Access, n: u32)
         requires { IsShape (Shape.Store src at.base at.offset at.size at.after) }
-        ensures { self.new ≡ does self.old event.now (Shape.Store src at.base at.offset at.size at.after) n }
+        ensures { self.new
+            ≡ does self.old event.now (Shape.Store src at.base at.offset at.size at.after) n }
     {
         let addr = self.access(at.base, at.offset, at.after);
         if traps(event, addr, at.size) {
@@ -80,13 +91,14 @@ impl Machine {
 
     /// A branch, taken or not.
     #[tactic(auto, unfolding(crate::specs::Instructions::does))]
-    fn branch(&mut self, cond: Cond, x: u8, y: Arg, by: u32, lowers: bool, n: u32)
-        requires { IsShape (Shape.Branch cond x y by lowers) }
-        ensures { (event : Event) → self.new ≡ does self.old event (Shape.Branch cond x y by lowers) n }
+    fn branch(&mut self, test: Comparison, by: u32, lowers: bool, n: u32)
+        requires { IsShape (Shape.Branch test.cond test.x test.y by lowers) }
+        ensures { (event : Event)
+            → self.new ≡ does self.old event (Shape.Branch test.cond test.x test.y by lowers) n }
     {
-        let goes = taken(cond, self.reg(x), self.arg(y));
+        let goes = taken(test.cond, self.reg(test.x), self.arg(test.y));
         let distance = if goes { by } else { n };
-        self.lower(x, lowers);
+        self.lower(test.x, lowers);
         self.advance(distance);
     }
 
@@ -290,7 +302,7 @@ impl Machine {
                 y,
                 by,
                 lowers,
-            } => self.branch(cond, x, y, by, lowers, n),
+            } => self.branch(Comparison { cond, x, y }, by, lowers, n),
             Shape::Jump { to } => self.pc = self.target(to),
             Shape::Call { .. } | Shape::Ret | Shape::Rfe | Shape::Svlcx | Shape::Rslcx => {
                 self.execute_context(event, shape, n)

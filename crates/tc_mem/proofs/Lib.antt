@@ -8,4 +8,4 @@ pub mod Numbers
 pub mod Search
 pub mod Stored
 pub mod Small
-pub mod Runs
+pub mod WrittenLaws

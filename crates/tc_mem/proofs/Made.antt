@@ -9,7 +9,7 @@ use Rattle.tc_mem.proofs.Numbers.{place_of, not_contained}
 use Rattle.tc_mem.proofs.AreaLaws.{not_true}
 use Rattle.tc_mem.specs.Pages.{byte_of, is_in, memory_of, IsPage, ArePages, AreSmall, IsMem, IsZeros, number_of}
 use Rattle.tc_mem.specs.declared.page.Page.{Page}
-use Rattle.tcd_base.specs.declared.types.Range.{Range}
+use Rattle.tcd_base.specs.declared.range.Range.{Range}
 
 -- a page whose bytes in the ranges are zeros, and no others mapped
 abbrev pub IsZeroPage : List Range → Page → Type 0

@@ -6,7 +6,7 @@ use Rattle.std.proofs.lemmas.Grind.{get_or_default_zero}
 use Rattle.std.proofs.lemmas.List.Folds.{list_any_more}
 use Rattle.std.proofs.lemmas.List.Elements.{Contains-append_left, Contains-push}
 use Rattle.tc_mem.specs.Pages.{is_in}
-use Rattle.tcd_base.specs.declared.types.Range.{Range}
+use Rattle.tcd_base.specs.declared.range.Range.{Range}
 
 -- after one more number
 pub kept_more : (xs ys : List ℕ) (x : ℕ) → ys ≡ xs ++ x ∷ [] → (n : ℕ) → Contains xs n → Contains ys n

@@ -2,4 +2,4 @@ pub mod Areas
 pub mod Blocks
 pub mod Pages
 pub mod PlanMemory
-pub mod Runs
+pub mod Written

@@ -1,18 +1,19 @@
-// A memory, and its public calls.
+// A memory: its pages, and its public calls.
 ghost use Rattle.std.specs.Prelude.{◌≡◌, ◌≤◌, ◌+◌, ◌%◌, ◌^◌, All, IfOk, length};
 ghost use Rattle.std.specs.Bool.{OnFalse};
 ghost use Rattle.std.specs.FinMap as finite;
-ghost use Rattle.csa_chain.specs.Memory.{is_mapped, are_mapped, with_byte};
+ghost use Rattle.csa_chain.specs.Memory.{is_mapped, are_mapped, with_byte, is_mapped as has_byte};
 ghost use Rattle.csa_chain.specs.MemoryChanges.{HasBytes};
 ghost use Rattle.tc_mem.specs.Areas.{area_of, with_area};
 ghost use Rattle.tc_mem.specs.Blocks.{are_in_block, word_of, half_of, with_word_in, with_half_in, first_word_of};
-ghost use Rattle.tc_mem.specs.Pages.{IsZeros};
-ghost use Rattle.tc_mem.specs.Runs.{IsWritten};
+ghost use Rattle.tc_mem.specs.Pages.{IsZeros, memory_of, IsMem};
+ghost use Rattle.tc_mem.specs.Written.{IsWritten};
 
-use crate::making::pages_of;
-use crate::memory::{read, read_area, write, write_area, write_bytes};
-use crate::memory_words::{read_first, read_half, read_word, write_half, write_word};
-use crate::page::Page;
+use crate::page::{
+    Page, area_in, byte, first_in, mapped_half, mapped_word, put_area, put_byte, put_bytes,
+    put_mapped_half, put_mapped_word,
+};
+use crate::page_table::{find_near, find_page, pages_of};
 use std::alloc::Global;
 use std::marker::Model;
 use tcd_base::{NoMemory, Range};
@@ -147,4 +148,167 @@ impl Mem {
     {
         read_first(&self.pages, addr, near)
     }
+}
+
+// The byte at an address.
+pub(crate) fn read(pages: &[Page], addr: u32) -> Option<u8>
+    requires { IsMem pages.now }
+    ensures byte { result ≡ finite.get (memory_of pages.now) addr }
+    ensures bytes { HasBytes (memory_of pages.now) }
+{
+    let Some(i) = find_page(pages, addr / 4096) else {
+        return None;
+    };
+    byte(&pages[i], addr)
+}
+
+// Writes a mapped byte, and says whether it is mapped.
+pub(crate) fn write(pages: &mut [Page], addr: u32, byte: u8) -> bool
+    requires { IsMem pages.old }
+    ensures mapped { result ≡ has_byte (memory_of pages.old) addr }
+    ensures written { memory_of pages.new ≡ with_byte (memory_of pages.old) addr byte }
+    ensures kept { OnFalse result (memory_of pages.new ≡ memory_of pages.old) }
+    ensures pages { IsMem pages.new }
+    ensures bytes { HasBytes (memory_of pages.new) }
+{
+    let Some(i) = find_page(pages, addr / 4096) else {
+        return false;
+    };
+    put_byte(&mut pages[i], (addr % 4096) as usize, byte)
+}
+
+// Writes the mapped ones of bytes from an address on, all in one page.
+fn write_in_page(pages: &mut [Page], addr: u32, bytes: &[u8])
+    requires pages { IsMem pages.old }
+    requires within { addr % 4096 + length bytes.now ≤ 4096 }
+    ensures written { IsWritten (memory_of pages.old) addr bytes.now (memory_of pages.new) }
+    ensures pages { IsMem pages.new }
+{
+    let Some(i) = find_page(pages, addr / 4096) else {
+        return;
+    };
+    put_bytes(&mut pages[i], (addr % 4096) as usize, bytes);
+}
+
+// Writes the mapped ones of bytes from an address on.
+pub(crate) fn write_bytes(pages: &mut [Page], addr: u32, bytes: &[u8])
+    requires pages { IsMem pages.old }
+    requires fits { addr + length bytes.now ≤ 2 ^ 32 }
+    ensures written { IsWritten (memory_of pages.old) addr bytes.now (memory_of pages.new) }
+    ensures pages { IsMem pages.new }
+    ensures bytes { HasBytes (memory_of pages.new) }
+{
+    let mut done = 0;
+    while done < bytes.len() {
+        let at = addr + done as u32;
+        let end = bytes.len().min(done + (4096 - at % 4096) as usize);
+        write_in_page(pages, at, &bytes[done..end]);
+        done = end;
+    }
+}
+
+// The words of an area that is wholly mapped.
+pub(crate) fn read_area(pages: &[Page], addr: u32) -> Option<[u32; 16]>
+    requires pages { IsMem pages.now }
+    requires aligned { addr % 64 ≡ 0 }
+    ensures words { result ≡ area_of (memory_of pages.now) addr }
+    ensures bytes { HasBytes (memory_of pages.now) }
+{
+    let Some(i) = find_page(pages, addr / 4096) else {
+        return None;
+    };
+    area_in(&pages[i], (addr % 4096) as usize)
+}
+
+// Writes an area that is wholly mapped, and says whether it is.
+pub(crate) fn write_area(pages: &mut [Page], addr: u32, words: &[u32; 16]) -> bool
+    requires pages { IsMem pages.old }
+    requires aligned { addr % 64 ≡ 0 }
+    ensures mapped { result ≡ are_mapped (memory_of pages.old) addr 64 }
+    ensures written { memory_of pages.new ≡ with_area (memory_of pages.old) addr words.now }
+    ensures pages { IsMem pages.new }
+    ensures bytes { HasBytes (memory_of pages.new) }
+{
+    let Some(i) = find_page(pages, addr / 4096) else {
+        return false;
+    };
+    put_area(&mut pages[i], (addr % 4096) as usize, words)
+}
+
+// The word at an address, where its bytes are in one block.
+pub(crate) fn read_word(pages: &[Page], addr: u32) -> Option<u32>
+    requires { IsMem pages.now }
+    ensures word { result ≡ word_of (memory_of pages.now) addr }
+    ensures bytes { HasBytes (memory_of pages.now) }
+{
+    if addr % 64 > 60 {
+        return None;
+    }
+    let Some(i) = find_page(pages, addr / 4096) else {
+        return None;
+    };
+    mapped_word(&pages[i], (addr % 4096) as usize)
+}
+
+// The halfword at an address, where its bytes are in one block.
+pub(crate) fn read_half(pages: &[Page], addr: u32) -> Option<u16>
+    requires { IsMem pages.now }
+    ensures half { result ≡ half_of (memory_of pages.now) addr }
+    ensures bytes { HasBytes (memory_of pages.now) }
+{
+    if addr % 64 > 62 {
+        return None;
+    }
+    let Some(i) = find_page(pages, addr / 4096) else {
+        return None;
+    };
+    mapped_half(&pages[i], (addr % 4096) as usize)
+}
+
+// Writes a word whose bytes are in one block, and says whether they are.
+pub(crate) fn write_word(pages: &mut [Page], addr: u32, word: u32) -> bool
+    requires { IsMem pages.old }
+    ensures mapped { result ≡ are_in_block (memory_of pages.old) addr 4 }
+    ensures written { memory_of pages.new ≡ with_word_in (memory_of pages.old) addr word }
+    ensures pages { IsMem pages.new }
+    ensures bytes { HasBytes (memory_of pages.new) }
+{
+    if addr % 64 > 60 {
+        return false;
+    }
+    let Some(i) = find_page(pages, addr / 4096) else {
+        return false;
+    };
+    put_mapped_word(&mut pages[i], (addr % 4096) as usize, word)
+}
+
+// Writes a halfword whose bytes are in one block, and says whether they are.
+pub(crate) fn write_half(pages: &mut [Page], addr: u32, half: u16) -> bool
+    requires { IsMem pages.old }
+    ensures mapped { result ≡ are_in_block (memory_of pages.old) addr 2 }
+    ensures written { memory_of pages.new ≡ with_half_in (memory_of pages.old) addr half }
+    ensures pages { IsMem pages.new }
+    ensures bytes { HasBytes (memory_of pages.new) }
+{
+    if addr % 64 > 62 {
+        return false;
+    }
+    let Some(i) = find_page(pages, addr / 4096) else {
+        return false;
+    };
+    put_mapped_half(&mut pages[i], (addr % 4096) as usize, half)
+}
+
+// The first word of an area that is wholly mapped. Its page is looked for first at this place, which becomes the page's.
+pub(crate) fn read_first(pages: &[Page], addr: u32, near: &mut usize) -> Option<u32>
+    requires pages { IsMem pages.now }
+    requires aligned { addr % 64 ≡ 0 }
+    ensures word { result ≡ first_word_of (memory_of pages.now) addr }
+    ensures bytes { HasBytes (memory_of pages.now) }
+{
+    let Some(i) = find_near(pages, addr / 4096, *near) else {
+        return None;
+    };
+    *near = i;
+    first_in(&pages[i], (addr % 4096) as usize)
 }

@@ -1,3 +1,10 @@
+// One page: which of its bytes are mapped, and what is read and written in it.
+ghost use Rattle.std.specs.Prelude.{◌≡◌, ◌≢◌, ◌<◌, ◌≤◌, ◌+◌, ◌-◌, ◌==◌, [], ◌∷◌, ℕ, ◌*◌, ◌/◌, ◌%◌, ◌^◌, All, IfSome, IfNone, is_some, map, length, slice_index, slice_set, if◌then◌else◌, ◌||◌, ◌&&◌, nat_le, nat_lt};
+ghost use Rattle.tcd_base.specs.Bytes.{word_at, half_at};
+ghost use Rattle.tc_mem.specs.Pages.{is_set, byte_of, bytes_with, with_bytes_at, are_set};
+
+use tcd_base::Range;
+
 /// A page of 4,096 bytes: its first address divided by 4,096, a bit for each byte that tells whether it is mapped, 64
 /// to a word and the lowest first, and the bytes.
 #[derive(Drop)]
@@ -5,4 +12,304 @@ pub(crate) struct Page {
     pub number: u32,
     pub mapped: [u64; 64],
     pub bytes: [u8; 4096],
+}
+
+// Whether the byte at an offset is mapped.
+fn is_mapped(page: &Page, offset: usize) -> bool
+    requires { offset < 4096 }
+    ensures { result ≡ is_set page.now.mapped offset }
+{
+    (page.mapped[offset / 64] >> (offset % 64)) % 2 == 1
+}
+
+// The byte at an address of the page.
+pub(crate) fn byte(page: &Page, addr: u32) -> Option<u8>
+    requires { page.now.number ≡ addr / 4096 }
+    ensures { result ≡ byte_of addr page.now }
+{
+    let offset = (addr % 4096) as usize;
+    if is_mapped(page, offset) {
+        Some(page.bytes[offset])
+    } else {
+        None
+    }
+}
+
+// Writes the byte at an offset where it is mapped, and says whether it is.
+pub(crate) fn put_byte(page: &mut Page, offset: usize, byte: u8) -> bool
+    requires { offset < 4096 }
+    ensures mapped { result ≡ is_set page.old.mapped offset }
+    ensures written { page.new
+        ≡ record page.old {
+          bytes = if result then slice_set page.old.bytes offset byte
+              else page.old.bytes;
+        } }
+{
+    let mapped = is_mapped(page, offset);
+    if mapped {
+        page.bytes[offset] = byte;
+    }
+    mapped
+}
+
+// Puts bytes at an offset. What an unmapped byte holds is never seen.
+pub(crate) fn put_bytes(page: &mut Page, offset: usize, bytes: &[u8])
+    requires { offset + length bytes.now ≤ 4096 }
+    ensures written { page.new
+        ≡ record page.old { bytes = with_bytes_at page.old.bytes offset bytes.now } }
+    ensures small { All (λ b. b < 2 ^ 8) bytes.now }
+{
+    page.bytes[offset..offset + bytes.len()].copy_from_slice(bytes);
+}
+
+// The word of the four bytes from an offset on, the lowest byte first.
+pub(crate) fn word_in(bytes: &[u8; 4096], offset: usize) -> u32
+    requires { offset + 4 ≤ 4096 }
+    ensures { result ≡ word_at bytes.now offset }
+{
+    u32::from_le_bytes([
+        bytes[offset],
+        bytes[offset + 1],
+        bytes[offset + 2],
+        bytes[offset + 3],
+    ])
+}
+
+// Puts a word into the four bytes from an offset on, the lowest byte first.
+#[tactic(auto, unfolding(crate::specs::Pages::bytes_with))]
+pub(crate) fn put_word(bytes: &mut [u8; 4096], offset: usize, word: u32)
+    requires { offset + 4 ≤ 4096 }
+    ensures { bytes.new ≡ bytes_with bytes.old offset (word ∷ []) }
+{
+    let parts = word.to_le_bytes();
+    bytes[offset] = parts[0];
+    bytes[offset + 1] = parts[1];
+    bytes[offset + 2] = parts[2];
+    bytes[offset + 3] = parts[3];
+}
+
+// The 16 words from an offset on, each with its lowest byte first.
+fn words_from(bytes: &[u8; 4096], offset: usize) -> [u32; 16]
+    requires { offset + 64 ≤ 4096 }
+    ensures size { length result ≡ 16 }
+    ensures words { (k : ℕ) → k < 16 → slice_index result k ≡ word_at bytes.now (offset + 4 * k) }
+{
+    let mut words = [0; 16];
+    for i in 0..16 {
+        words[i] = word_in(bytes, offset + 4 * i);
+    }
+    words
+}
+
+// The 16 words from an offset on, where the one word of their bits says that all are mapped.
+pub(crate) fn area_in(page: &Page, offset: usize) -> Option<[u32; 16]>
+    requires aligned { offset % 64 ≡ 0 }
+    requires within { offset < 4096 }
+    ensures fits { slice_index page.now.mapped (offset / 64) < 2 ^ 64 }
+    ensures mapped { is_some result ≡ (slice_index page.now.mapped (offset / 64) == 2 ^ 64 - 1) }
+    ensures size { IfSome result (λ ws. length ws ≡ 16) }
+    ensures words { IfSome result
+        (λ ws. (k : ℕ) → k < 16 → slice_index ws k ≡ word_at page.now.bytes (offset + 4 * k)) }
+{
+    if page.mapped[offset / 64] != u64::MAX {
+        return None;
+    }
+    Some(words_from(&page.bytes, offset))
+}
+
+// Puts 16 words at an offset, each with its lowest byte first.
+fn put_words(bytes: &mut [u8; 4096], offset: usize, words: &[u32; 16])
+    requires { offset + 64 ≤ 4096 }
+    ensures { bytes.new ≡ bytes_with bytes.old offset words.now }
+{
+    let mut i = 16;
+    while i > 0 {
+        i -= 1;
+        put_word(bytes, offset + 4 * i, words[i]);
+    }
+}
+
+// Puts 16 words at an offset where the one word of their bits says that all are mapped, and says whether it does.
+pub(crate) fn put_area(page: &mut Page, offset: usize, words: &[u32; 16]) -> bool
+    requires aligned { offset % 64 ≡ 0 }
+    requires within { offset < 4096 }
+    ensures fits { slice_index page.old.mapped (offset / 64) < 2 ^ 64 }
+    ensures mapped { result ≡ (slice_index page.old.mapped (offset / 64) == 2 ^ 64 - 1) }
+    ensures written { page.new
+        ≡ record page.old {
+          bytes = if result then bytes_with page.old.bytes offset words.now
+              else page.old.bytes;
+        } }
+{
+    let mapped = page.mapped[offset / 64] == u64::MAX;
+    if mapped {
+        put_words(&mut page.bytes, offset, words);
+    }
+    mapped
+}
+
+// The first word of the 64 bytes from an offset on, where the one word of their bits says that all are mapped.
+pub(crate) fn first_in(page: &Page, offset: usize) -> Option<u32>
+    requires aligned { offset % 64 ≡ 0 }
+    requires within { offset < 4096 }
+    ensures fits { slice_index page.now.mapped (offset / 64) < 2 ^ 64 }
+    ensures mapped { is_some result ≡ (slice_index page.now.mapped (offset / 64) == 2 ^ 64 - 1) }
+    ensures word { IfSome result (λ w. w ≡ word_at page.now.bytes offset) }
+{
+    let mapped = page.mapped[offset / 64] == u64::MAX;
+    if mapped {
+        Some(word_in(&page.bytes, offset))
+    } else {
+        None
+    }
+}
+
+// Whether the four bytes from an offset on are mapped.
+fn is_word_mapped(page: &Page, offset: usize) -> bool
+    requires { offset < 4096 }
+    ensures { result ≡ are_set 4 page.now.mapped offset }
+{
+    (page.mapped[offset / 64] >> (offset % 64)) % 16 == 15
+}
+
+// Whether the two bytes from an offset on are mapped.
+fn is_half_mapped(page: &Page, offset: usize) -> bool
+    requires { offset < 4096 }
+    ensures { result ≡ are_set 2 page.now.mapped offset }
+{
+    (page.mapped[offset / 64] >> (offset % 64)) % 4 == 3
+}
+
+// The word at an offset, where it is mapped.
+pub(crate) fn mapped_word(page: &Page, offset: usize) -> Option<u32>
+    requires { offset + 4 ≤ 4096 }
+    ensures mapped { is_some result ≡ are_set 4 page.now.mapped offset }
+    ensures word { IfSome result (λ w. w ≡ word_at page.now.bytes offset) }
+{
+    if is_word_mapped(page, offset) {
+        Some(word_in(&page.bytes, offset))
+    } else {
+        None
+    }
+}
+
+// The halfword of the two bytes from an offset on, the lower byte first.
+fn half_in(bytes: &[u8; 4096], offset: usize) -> u16
+    requires { offset + 2 ≤ 4096 }
+    ensures { result ≡ half_at bytes.now offset }
+{
+    u16::from_le_bytes([bytes[offset], bytes[offset + 1]])
+}
+
+// The halfword at an offset, where it is mapped.
+pub(crate) fn mapped_half(page: &Page, offset: usize) -> Option<u16>
+    requires { offset + 2 ≤ 4096 }
+    ensures mapped { is_some result ≡ are_set 2 page.now.mapped offset }
+    ensures half { IfSome result (λ h. h ≡ half_at page.now.bytes offset) }
+{
+    if is_half_mapped(page, offset) {
+        Some(half_in(&page.bytes, offset))
+    } else {
+        None
+    }
+}
+
+// Puts a word at an offset where it is mapped, and says whether it is.
+pub(crate) fn put_mapped_word(page: &mut Page, offset: usize, word: u32) -> bool
+    requires { offset + 4 ≤ 4096 }
+    ensures mapped { result ≡ are_set 4 page.old.mapped offset }
+    ensures written { page.new
+        ≡ record page.old {
+          bytes = if result then bytes_with page.old.bytes offset (word ∷ [])
+              else page.old.bytes;
+        } }
+{
+    let mapped = is_word_mapped(page, offset);
+    if mapped {
+        put_word(&mut page.bytes, offset, word);
+    }
+    mapped
+}
+
+// Puts a halfword into the two bytes from an offset on, the lower byte first.
+fn put_half(bytes: &mut [u8; 4096], offset: usize, half: u16)
+    requires { offset + 2 ≤ 4096 }
+    ensures { bytes.new
+        ≡ slice_set (slice_set bytes.old offset (half % 2 ^ 8)) (offset + 1)
+        (half / 2 ^ 8 % 2 ^ 8) }
+{
+    let parts = half.to_le_bytes();
+    bytes[offset] = parts[0];
+    bytes[offset + 1] = parts[1];
+}
+
+// Puts a halfword at an offset where it is mapped, and says whether it is.
+pub(crate) fn put_mapped_half(page: &mut Page, offset: usize, half: u16) -> bool
+    requires { offset + 2 ≤ 4096 }
+    ensures mapped { result ≡ are_set 2 page.old.mapped offset }
+    ensures written { page.new
+        ≡ record page.old {
+          bytes = if result
+              then slice_set (slice_set page.old.bytes offset (half % 2 ^ 8)) (offset + 1)
+              (half / 2 ^ 8 % 2 ^ 8) else page.old.bytes;
+        } }
+{
+    let mapped = is_half_mapped(page, offset);
+    if mapped {
+        put_half(&mut page.bytes, offset, half);
+    }
+    mapped
+}
+
+// Sets the bit of an offset.
+fn mark_byte(mapped: &mut [u64; 64], offset: usize)
+    requires { offset < 4096 }
+    ensures { (k : ℕ) → k < 4096 → is_set mapped.new k ≡ (is_set mapped.old k || (k == offset)) }
+{
+    mapped[offset / 64] |= 1u64 << (offset % 64);
+}
+
+// Sets the 64 bits from an offset on, which are one word.
+fn mark_block(mapped: &mut [u64; 64], offset: usize)
+    requires aligned { offset % 64 ≡ 0 }
+    requires within { offset < 4096 }
+    ensures { (k : ℕ) → k < 4096 → is_set mapped.new k
+        ≡ (is_set mapped.old k || (nat_le offset k && nat_lt k (offset + 64))) }
+{
+    mapped[offset / 64] = u64::MAX;
+}
+
+// Sets the bits from one offset on up to another.
+fn mark_between(mapped: &mut [u64; 64], from: usize, to: usize)
+    requires ordered { from ≤ to }
+    requires within { to ≤ 4096 }
+    ensures { (k : ℕ) → k < 4096
+        → is_set mapped.new k ≡ (is_set mapped.old k || (nat_le from k && nat_lt k to)) }
+{
+    let mut offset = from;
+    while offset < to {
+        if offset % 64 == 0 && to - offset >= 64 {
+            mark_block(mapped, offset);
+            offset += 64;
+        } else {
+            mark_byte(mapped, offset);
+            offset += 1;
+        }
+    }
+}
+
+// Sets the bits of the bytes of a page that a range has.
+pub(crate) fn mark_range(mapped: &mut [u64; 64], number: u32, range: &Range)
+    ensures { (k : ℕ) → k < 4096
+        → is_set mapped.new k
+        ≡ (is_set mapped.old k
+        || (nat_le range.now.at (number * 4096 + k)
+        && nat_lt (number * 4096 + k) (range.now.at + range.now.len))) }
+{
+    let base = u64::from(number) * 4096;
+    let from = u64::from(range.at).max(base);
+    let to = (u64::from(range.at) + u64::from(range.len)).min(base + 4096);
+    if from < to {
+        mark_between(mapped, (from - base) as usize, (to - base) as usize);
+    }
 }

@@ -4,9 +4,9 @@ use Rattle.std.proofs.lemmas.List.{append-nil}
 use Rattle.std.proofs.lemmas.Bool.{le-leb, lt-ltb}
 use Rattle.std.proofs.lemmas.Bool.Decides.{nat_tests}
 use Rattle.std.specs.List.{flat_map}
-use Rattle.tcd_base.specs.declared.types.FormErr.{FormErr}
+use Rattle.tcd_base.specs.declared.errors.FormErr.{FormErr}
 use Rattle.tcd_base.specs.Bytes.{bytes_of_half, bytes_of_word}
-use Rattle.tcd_base.specs.Place.{Place, between}
+use Rattle.tcd_base.specs.Place.{Place, place_between}
 use Rattle.tcd_base.specs.Reading.{◌>>=◌}
 use Rattle.tcd_base.proofs.FieldReads.{u8_at-between, u16_at-between, u32_at-between, bytes_at-between}
 use Rattle.tc_object.specs.declared.relocs.Reloc.{Reloc}
@@ -27,48 +27,48 @@ both : (a b : Bool) → a ≡ true → b ≡ true → (a && b) ≡ true
 both a b e f = rw (e, f) refl
 
 -- ---- names
-name_back : (used : List ℕ → Bool) (name : List ℕ) → IsName used name → (front rest : List ℕ) → name_after used (between front (bytes_of_name name ++ rest)) ≡ Ok (name, between (front ++ bytes_of_name name) rest)
+name_back : (used : List ℕ → Bool) (name : List ℕ) → IsName used name → (front rest : List ℕ) → name_after used (place_between front (bytes_of_name name ++ rest)) ≡ Ok (name, place_between (front ++ bytes_of_name name) rest)
 unfolding name_after name_length_at name_bytes_at bytes_of_name
 name_back used name good front rest =
     let long : is_length (length name) ≡ true = both _ _ (le-leb 1 (length name) good.some) (le-leb (length name) 64 good.few) in
     then_ok _ _ _ _ (then_ok _ _ _ _ (u8_at-between front (length name) (name ++ rest)) (checked_ok _ _ _ long))
     (then_ok _ _ _ _ (then_ok _ _ _ _ (bytes_at-between (front ++ length name ∷ []) name rest) (checked_ok _ _ _ good.written))
-    (checked_ok _ _ _ (ap not good.new) ∙ ap (λ (l : List ℕ). Ok (name, between l rest)) (append_assoc front (length name ∷ []) name)))
+    (checked_ok _ _ _ (ap not good.new) ∙ ap (λ (l : List ℕ). Ok (name, place_between l rest)) (append_assoc front (length name ∷ []) name)))
 
 -- ---- many items
 many_back : {A : Type 0} (item : List A → Place → Result (A × Place) FormErr) (spell : A → List ℕ) (Good : List A → A → Type 0)
-    → ((before : List A) (x : A) → Good before x → (front rest : List ℕ) → item before (between front (spell x ++ rest)) ≡ Ok (x, between (front ++ spell x) rest))
-    → (before xs : List A) (front rest : List ℕ) → InTurn Good before xs → many_at item (length xs) before (between front (flat_map spell xs ++ rest)) ≡ Ok (before ++ xs, between (front ++ flat_map spell xs) rest)
+    → ((before : List A) (x : A) → Good before x → (front rest : List ℕ) → item before (place_between front (spell x ++ rest)) ≡ Ok (x, place_between (front ++ spell x) rest))
+    → (before xs : List A) (front rest : List ℕ) → InTurn Good before xs → many_at item (length xs) before (place_between front (flat_map spell xs ++ rest)) ≡ Ok (before ++ xs, place_between (front ++ flat_map spell xs) rest)
 unfolding many_at
 many_back item spell Good each before [] front rest good = rw (append-nil before, append-nil front) refl
 many_back item spell Good each before (x ∷ xs) front rest good =
-    ap (λ (l : List ℕ). many_at item (suc (length xs)) before (between front l)) (append_assoc (spell x) (flat_map spell xs) rest)
+    ap (λ (l : List ℕ). many_at item (suc (length xs)) before (place_between front l)) (append_assoc (spell x) (flat_map spell xs) rest)
     ∙ then_ok _ _ _ _ (each before x good.0 front (flat_map spell xs ++ rest))
     (many_back item spell Good each (before ++ x ∷ []) xs (front ++ spell x) rest good.1 ∙ rw (append_assoc before (x ∷ []) xs, append_assoc front (spell x) (flat_map spell xs)) refl)
 
 -- ---- sections
-section_back : (before : List SectionData) (s : SectionData) → IsSection before s → (front rest : List ℕ) → section_after before (between front (bytes_of_section s ++ rest)) ≡ Ok (s, between (front ++ bytes_of_section s) rest)
+section_back : (before : List SectionData) (s : SectionData) → IsSection before s → (front rest : List ℕ) → section_after before (place_between front (bytes_of_section s ++ rest)) ≡ Ok (s, place_between (front ++ bytes_of_section s) rest)
 unfolding section_after section_with bytes_of_section
 section_back before s good front rest =
-    let inner : section_after before (between front (bytes_of_name s.name ++ (bytes_of_word (length s.bytes) ++ (s.bytes ++ rest)))) ≡ Ok (s, between (((front ++ bytes_of_name s.name) ++ bytes_of_word (length s.bytes)) ++ s.bytes) rest) =
+    let inner : section_after before (place_between front (bytes_of_name s.name ++ (bytes_of_word (length s.bytes) ++ (s.bytes ++ rest)))) ≡ Ok (s, place_between (((front ++ bytes_of_name s.name) ++ bytes_of_word (length s.bytes)) ++ s.bytes) rest) =
     then_ok _ _ _ _ (name_back (is_section_name before) s.name good.name front (bytes_of_word (length s.bytes) ++ (s.bytes ++ rest)))
     (then_ok _ _ _ _ (u32_at-between (front ++ bytes_of_name s.name) (length s.bytes) (s.bytes ++ rest) good.small)
     (then_ok _ _ _ _ (bytes_at-between ((front ++ bytes_of_name s.name) ++ bytes_of_word (length s.bytes)) s.bytes rest) refl)) in
     simp append_assoc (simp append_assoc at inner)
 
 -- ---- symbols
-kind_back : (low high kind : ℕ) → low ≤ kind → kind ≤ high → (front rest : List ℕ) → kind_at low high (between front (kind ∷ rest)) ≡ Ok (kind, between (front ++ kind ∷ []) rest)
+kind_back : (low high kind : ℕ) → low ≤ kind → kind ≤ high → (front rest : List ℕ) → kind_at low high (place_between front (kind ∷ rest)) ≡ Ok (kind, place_between (front ++ kind ∷ []) rest)
 unfolding kind_at
 kind_back low high kind above below front rest =
     then_ok _ _ _ _ (u8_at-between front kind rest) (checked_ok _ _ _ (both _ _ (le-leb low kind above) (le-leb kind high below)))
 
-symbol_back : (sections : List SectionData) (before : List SymbolData) (s : SymbolData) → IsSymbol sections before s → (front rest : List ℕ) → symbol_after sections before (between front (bytes_of_symbol s ++ rest)) ≡ Ok (s, between (front ++ bytes_of_symbol s) rest)
+symbol_back : (sections : List SectionData) (before : List SymbolData) (s : SymbolData) → IsSymbol sections before s → (front rest : List ℕ) → symbol_after sections before (place_between front (bytes_of_symbol s ++ rest)) ≡ Ok (s, place_between (front ++ bytes_of_symbol s) rest)
 unfolding symbol_after symbol_with symbol_section_at symbol_offset_at bytes_of_symbol
 symbol_back sections before s good front rest =
     let f1 : List ℕ = front ++ bytes_of_name s.name in
     let f2 : List ℕ = f1 ++ s.kind ∷ [] in
     let f3 : List ℕ = f2 ++ bytes_of_half s.section in
-    let inner : symbol_after sections before (between front (bytes_of_name s.name ++ (s.kind ∷ (bytes_of_half s.section ++ (bytes_of_word s.offset ++ rest))))) ≡ Ok (s, between (f3 ++ bytes_of_word s.offset) rest) =
+    let inner : symbol_after sections before (place_between front (bytes_of_name s.name ++ (s.kind ∷ (bytes_of_half s.section ++ (bytes_of_word s.offset ++ rest))))) ≡ Ok (s, place_between (f3 ++ bytes_of_word s.offset) rest) =
     then_ok _ _ _ _ (name_back (is_symbol_name before) s.name good.name front (s.kind ∷ (bytes_of_half s.section ++ (bytes_of_word s.offset ++ rest))))
     (then_ok _ _ _ _ (kind_back 0 2 s.kind (omega arith) good.kind f1 (bytes_of_half s.section ++ (bytes_of_word s.offset ++ rest)))
     (then_ok _ _ _ _ (then_ok _ _ _ _ (u16_at-between f2 s.section (bytes_of_word s.offset ++ rest) good.half) (checked_ok _ _ _ good.section))
@@ -81,7 +81,7 @@ not_below_of_behind : (last : Option Reloc) (section offset : ℕ) → is_behind
 not_below_of_behind None section offset h = refl
 not_below_of_behind (Some r) section offset h = le-leb r.section section (grind (arith, nat_tests))
 
-reloc_back : (sections : List SectionData) (symbols : ℕ) (before : List Reloc) (r : Reloc) → symbols < 2 ^ 16 → IsReloc sections symbols before r → (front rest : List ℕ) → reloc_after sections symbols before (between front (bytes_of_reloc r ++ rest)) ≡ Ok (r, between (front ++ bytes_of_reloc r) rest)
+reloc_back : (sections : List SectionData) (symbols : ℕ) (before : List Reloc) (r : Reloc) → symbols < 2 ^ 16 → IsReloc sections symbols before r → (front rest : List ℕ) → reloc_after sections symbols before (place_between front (bytes_of_reloc r ++ rest)) ≡ Ok (r, place_between (front ++ bytes_of_reloc r) rest)
 unfolding reloc_after reloc_section_at reloc_offset_at reloc_symbol_at bytes_of_reloc
 reloc_back sections symbols before r few good front rest =
     let f1 : List ℕ = front ++ bytes_of_half r.section in
@@ -92,7 +92,7 @@ reloc_back sections symbols before r few good front rest =
     let r3 : List ℕ = bytes_of_half r.symbol ++ r4 in
     let r2 : List ℕ = r.kind ∷ r3 in
     let r1 : List ℕ = bytes_of_word r.offset ++ r2 in
-    let inner : reloc_after sections symbols before (between front (bytes_of_half r.section ++ r1)) ≡ Ok (r, between (f4 ++ bytes_of_word r.addend) rest) =
+    let inner : reloc_after sections symbols before (place_between front (bytes_of_half r.section ++ r1)) ≡ Ok (r, place_between (f4 ++ bytes_of_word r.addend) rest) =
     then_ok _ _ _ _ (then_ok _ _ _ _ (u16_at-between front r.section r1 good.half)
     (then_ok _ _ _ _ (checked_ok _ _ _ (not_below_of_behind (last_of before) r.section r.offset good.behind)) (checked_ok _ _ _ (lt-ltb r.section (length sections) good.section))))
     (then_ok _ _ _ _ (then_ok _ _ _ _ (u32_at-between f1 r.offset r2 good.word)
@@ -103,7 +103,7 @@ reloc_back sections symbols before r few good front rest =
     simp append_assoc (simp append_assoc at inner)
 
 -- ---- objects
-object_back : (o : ObjectData) → IsObject o → (front rest : List ℕ) → object_at (between front (bytes_of o ++ rest)) ≡ Ok (o, between (front ++ bytes_of o) rest)
+object_back : (o : ObjectData) → IsObject o → (front rest : List ℕ) → object_at (place_between front (bytes_of o ++ rest)) ≡ Ok (o, place_between (front ++ bytes_of o) rest)
 unfolding object_at parts_at magic_at section_count_at bytes_of bytes_of_header
 object_back o good front rest =
     let f1 : List ℕ = front ++ bytes_of_word 0x314F4354 in
@@ -118,7 +118,7 @@ object_back o good front rest =
     let r3 : List ℕ = bytes_of_half (length o.relocs) ++ r4 in
     let r2 : List ℕ = bytes_of_half (length o.symbols) ++ r3 in
     let r1 : List ℕ = bytes_of_half (length o.sections) ++ r2 in
-    let inner : object_at (between front (bytes_of_word 0x314F4354 ++ r1)) ≡ Ok (o, between (f6 ++ flat_map bytes_of_reloc o.relocs) rest) =
+    let inner : object_at (place_between front (bytes_of_word 0x314F4354 ++ r1)) ≡ Ok (o, place_between (f6 ++ flat_map bytes_of_reloc o.relocs) rest) =
     then_ok _ _ _ _ (then_ok _ _ _ _ (u32_at-between front 0x314F4354 r1 (omega arith)) refl)
     (then_ok _ _ _ _ (then_ok _ _ _ _ (u16_at-between f1 (length o.sections) r2 (omega (arith, good.few_sections))) (checked_ok _ _ _ (le-leb (length o.sections) 64 good.few_sections)))
     (then_ok _ _ _ _ (u16_at-between f2 (length o.symbols) r3 good.few_symbols)
@@ -132,7 +132,7 @@ object_back o good front rest =
 pub object_of-bytes_of : (o : ObjectData) → IsObject o → object_of (bytes_of o) ≡ Ok o
 unfolding object_of
 object_of-bytes_of o good =
-    let whole : object_at (between [] (bytes_of o)) ≡ Ok (o, record { bytes = bytes_of o; place = length (bytes_of o) }) = rw append-nil at (object_back o good [] []) in
+    let whole : object_at (place_between [] (bytes_of o)) ≡ Ok (o, record { bytes = bytes_of o; place = length (bytes_of o) }) = rw append-nil at (object_back o good [] []) in
     then_ok _ _ _ _ whole (checked_ok _ _ _ (same_length (length (bytes_of o))))
   where
     same_length : (n : ℕ) → eqb n n ≡ true

@@ -4,9 +4,9 @@ use Rattle.std.proofs.lemmas.Bool.{leb-true, ltb-true, eqb-true, and_parts}
 use Rattle.std.proofs.lemmas.List.{append-nil, length-take-le}
 use Rattle.std.proofs.Math.Seq.{drop-append_seam}
 use Rattle.std.specs.List.{flat_map}
-use Rattle.tcd_base.specs.declared.types.FormErr.{FormErr}
+use Rattle.tcd_base.specs.declared.errors.FormErr.{FormErr}
 use Rattle.tcd_base.specs.Bytes.{bytes_of_half, bytes_of_word}
-use Rattle.tcd_base.specs.Place.{Place, between}
+use Rattle.tcd_base.specs.Place.{Place, place_between}
 use Rattle.tcd_base.specs.Reading.{◌>>=◌, u8_at, u16_at, u32_at, bytes_at}
 use Rattle.tcd_base.proofs.FieldReads.{bytes_at_ok, bind_ok}
 use Rattle.tc_object.specs.declared.relocs.Reloc.{Reloc}
@@ -17,7 +17,7 @@ use Rattle.tc_object.specs.Spelling.{bytes_of_name, bytes_of_section, bytes_of_s
 use Rattle.tc_object.proofs.PassedLaws.{AreBytes, bytes_from, Passed, passed_bytes, passed_both, ok_pair, passed_test, took_passed, byte_passed, half_passed, word_passed, many_passed}
 
 -- the reading that follows stands after the part
-next : {A : Type 0} {part front rest : List ℕ} {q : Place} (read : Place → Result A FormErr) (y : Result A FormErr) (h : Passed part front rest q) → read q ≡ y → read (between (front ++ part) h.after) ≡ y
+next : {A : Type 0} {part front rest : List ℕ} {q : Place} (read : Place → Result A FormErr) (y : Result A FormErr) (h : Passed part front rest q) → read q ≡ y → read (place_between (front ++ part) h.after) ≡ y
 next read y h e = ap read (sym h.at) ∙ e
 
 -- the same bytes, and the same place
@@ -31,30 +31,30 @@ turn_push good before (y ∷ ys) x h g = (h.0, turn_push good (before ++ y ∷ [
 
 -- ---- fields
 -- n bytes as they stand
-bytes_passed : (n : ℕ) (front rest xs : List ℕ) (q : Place) → bytes_at n (between front rest) ≡ Ok (xs, q) → Passed xs front rest q × (length xs ≡ n)
+bytes_passed : (n : ℕ) (front rest xs : List ℕ) (q : Place) → bytes_at n (place_between front rest) ≡ Ok (xs, q) → Passed xs front rest q × (length xs ≡ n)
 bytes_passed n front rest xs q e =
-    let t = bytes_at_ok n (between front rest) xs q e in
+    let t = bytes_at_ok n (place_between front rest) xs q e in
     let same : xs ≡ take n rest = t.1 ∙ ap (take n) (drop-append_seam front rest) in
     let within : n ≤ length rest = omega (arith, t.0.within, length-append front rest) in
     (passed_as (sym same) refl (took_passed n front rest q t.0), ap length same ∙ length-take-le n rest within)
 
 -- a byte, two and four bytes that passed a test
-tested_byte : (kind : ℕ) (good : ℕ → Bool) (front rest : List ℕ) (x : ℕ) (q : Place) → AreBytes rest → (u8_at (between front rest) >>= λ v. checked kind (good v.0) (between front rest) v) ≡ Ok (x, q) → Passed (x ∷ []) front rest q × (good x ≡ true)
+tested_byte : (kind : ℕ) (good : ℕ → Bool) (front rest : List ℕ) (x : ℕ) (q : Place) → AreBytes rest → (u8_at (place_between front rest) >>= λ v. checked kind (good v.0) (place_between front rest) v) ≡ Ok (x, q) → Passed (x ∷ []) front rest q × (good x ≡ true)
 tested_byte kind good front rest x q bytes e =
-    let b = bind_ok (u8_at (between front rest)) _ _ e in
+    let b = bind_ok (u8_at (place_between front rest)) _ _ e in
     let t = passed_test (good b.0.0) b.0 (x, q) _ b.2 in
     ((byte_passed front rest x q bytes (b.1 ∙ ap (λ (v : ℕ × Place). Ok v) t.1)).0, subst (λ (v : ℕ × Place). good v.0 ≡ true) t.1 t.0)
 
-tested_half : (kind : ℕ) (good : ℕ → Bool) (front rest : List ℕ) (x : ℕ) (q : Place) → AreBytes rest → (u16_at (between front rest) >>= λ v. checked kind (good v.0) (between front rest) v) ≡ Ok (x, q) → Passed (bytes_of_half x) front rest q × (x < 2 ^ 16) × (good x ≡ true)
+tested_half : (kind : ℕ) (good : ℕ → Bool) (front rest : List ℕ) (x : ℕ) (q : Place) → AreBytes rest → (u16_at (place_between front rest) >>= λ v. checked kind (good v.0) (place_between front rest) v) ≡ Ok (x, q) → Passed (bytes_of_half x) front rest q × (x < 2 ^ 16) × (good x ≡ true)
 tested_half kind good front rest x q bytes e =
-    let b = bind_ok (u16_at (between front rest)) _ _ e in
+    let b = bind_ok (u16_at (place_between front rest)) _ _ e in
     let t = passed_test (good b.0.0) b.0 (x, q) _ b.2 in
     let h = half_passed front rest x q bytes (b.1 ∙ ap (λ (v : ℕ × Place). Ok v) t.1) in
     (h.0, h.1, subst (λ (v : ℕ × Place). good v.0 ≡ true) t.1 t.0)
 
-tested_word : (kind : ℕ) (good : ℕ → Bool) (front rest : List ℕ) (x : ℕ) (q : Place) → AreBytes rest → (u32_at (between front rest) >>= λ v. checked kind (good v.0) (between front rest) v) ≡ Ok (x, q) → Passed (bytes_of_word x) front rest q × (x < 2 ^ 32) × (good x ≡ true)
+tested_word : (kind : ℕ) (good : ℕ → Bool) (front rest : List ℕ) (x : ℕ) (q : Place) → AreBytes rest → (u32_at (place_between front rest) >>= λ v. checked kind (good v.0) (place_between front rest) v) ≡ Ok (x, q) → Passed (bytes_of_word x) front rest q × (x < 2 ^ 32) × (good x ≡ true)
 tested_word kind good front rest x q bytes e =
-    let b = bind_ok (u32_at (between front rest)) _ _ e in
+    let b = bind_ok (u32_at (place_between front rest)) _ _ e in
     let t = passed_test (good b.0.0) b.0 (x, q) _ b.2 in
     let h = word_passed front rest x q bytes (b.1 ∙ ap (λ (v : ℕ × Place). Ok v) t.1) in
     (h.0, h.1, subst (λ (v : ℕ × Place). good v.0 ≡ true) t.1 t.0)
@@ -68,10 +68,10 @@ not_true : (b : Bool) → not b ≡ true → b ≡ false
 not_true true h = sym h
 not_true false h = refl
 
-name_passed : (is_used : List ℕ → Bool) (front rest name : List ℕ) (q : Place) → AreBytes rest → name_after is_used (between front rest) ≡ Ok (name, q) → Passed (bytes_of_name name) front rest q × IsName is_used name
+name_passed : (is_used : List ℕ → Bool) (front rest name : List ℕ) (q : Place) → AreBytes rest → name_after is_used (place_between front rest) ≡ Ok (name, q) → Passed (bytes_of_name name) front rest q × IsName is_used name
 unfolding name_after name_length_at name_bytes_at
 name_passed is_used front rest name q bytes e =
-    let count = bind_ok (name_length_at (between front rest)) _ _ e in
+    let count = bind_ok (name_length_at (place_between front rest)) _ _ e in
     let n : ℕ = count.0.0 in
     let h1 = tested_byte 4 is_length front rest n count.0.1 bytes count.1 in
     let limits = and_parts (leb 1 n) (leb n 64) h1.1 in
@@ -98,11 +98,11 @@ section_bytes : (s : SectionData) → bytes_of_name s.name ++ (bytes_of_word (le
 unfolding bytes_of_section
 section_bytes s = refl
 
-section_passed : (before : List SectionData) (front rest : List ℕ) (s : SectionData) (q : Place) → AreBytes rest → InTurn IsSection [] before → section_after before (between front rest) ≡ Ok (s, q)
+section_passed : (before : List SectionData) (front rest : List ℕ) (s : SectionData) (q : Place) → AreBytes rest → InTurn IsSection [] before → section_after before (place_between front rest) ≡ Ok (s, q)
     → Passed (bytes_of_section s) front rest q × InTurn IsSection [] (before ++ s ∷ [])
 unfolding section_after section_with
 section_passed before front rest s q bytes good e =
-    let name = bind_ok (name_after (is_section_name before) (between front rest)) _ _ e in
+    let name = bind_ok (name_after (is_section_name before) (place_between front rest)) _ _ e in
     let h1 = name_passed (is_section_name before) front rest name.0.0 name.0.1 bytes name.1 in
     let b1 = passed_bytes h1.0 bytes in
     let len = bind_ok (u32_at name.0.1) _ _ name.2 in
@@ -117,7 +117,7 @@ section_passed before front rest s q bytes good e =
     )
 
 -- ---- symbols
-kind_passed : (low high : ℕ) (front rest : List ℕ) (kind : ℕ) (q : Place) → AreBytes rest → kind_at low high (between front rest) ≡ Ok (kind, q) → Passed (kind ∷ []) front rest q × (low ≤ kind) × (kind ≤ high)
+kind_passed : (low high : ℕ) (front rest : List ℕ) (kind : ℕ) (q : Place) → AreBytes rest → kind_at low high (place_between front rest) ≡ Ok (kind, q) → Passed (kind ∷ []) front rest q × (low ≤ kind) × (kind ≤ high)
 unfolding kind_at
 kind_passed low high front rest kind q bytes e =
     let h = tested_byte 4 (λ k. leb low k && leb k high) front rest kind q bytes e in
@@ -128,11 +128,11 @@ symbol_bytes : (s : SymbolData) → bytes_of_name s.name ++ (s.kind ∷ bytes_of
 unfolding bytes_of_symbol
 symbol_bytes s = refl
 
-symbol_passed : (sections : List SectionData) (before : List SymbolData) (front rest : List ℕ) (s : SymbolData) (q : Place) → AreBytes rest → InTurn (IsSymbol sections) [] before → symbol_after sections before (between front rest) ≡ Ok (s, q)
+symbol_passed : (sections : List SectionData) (before : List SymbolData) (front rest : List ℕ) (s : SymbolData) (q : Place) → AreBytes rest → InTurn (IsSymbol sections) [] before → symbol_after sections before (place_between front rest) ≡ Ok (s, q)
     → Passed (bytes_of_symbol s) front rest q × InTurn (IsSymbol sections) [] (before ++ s ∷ [])
 unfolding symbol_after symbol_with symbol_section_at symbol_offset_at
 symbol_passed sections before front rest s q bytes good e =
-    let name = bind_ok (name_after (is_symbol_name before) (between front rest)) _ _ e in
+    let name = bind_ok (name_after (is_symbol_name before) (place_between front rest)) _ _ e in
     let h1 = name_passed (is_symbol_name before) front rest name.0.0 name.0.1 bytes name.1 in
     let b1 = passed_bytes h1.0 bytes in
     let kind = bind_ok (kind_at 0 2 name.0.1) _ _ name.2 in
@@ -154,21 +154,21 @@ reloc_bytes : (r : Reloc) → bytes_of_half r.section ++ (bytes_of_word r.offset
 unfolding bytes_of_reloc
 reloc_bytes r = refl
 
-reloc_section_passed : (sections : List SectionData) (before : List Reloc) (front rest : List ℕ) (x : ℕ) (q : Place) → AreBytes rest → reloc_section_at sections before (between front rest) ≡ Ok (x, q) → Passed (bytes_of_half x) front rest q × (x < 2 ^ 16) × (x < length sections)
+reloc_section_passed : (sections : List SectionData) (before : List Reloc) (front rest : List ℕ) (x : ℕ) (q : Place) → AreBytes rest → reloc_section_at sections before (place_between front rest) ≡ Ok (x, q) → Passed (bytes_of_half x) front rest q × (x < 2 ^ 16) × (x < length sections)
 unfolding reloc_section_at
 reloc_section_passed sections before front rest x q bytes e =
-    let b = bind_ok (u16_at (between front rest)) _ _ e in
-    let c = bind_ok (checked 3 (is_not_below (last_of before) b.0.0) (between front rest) b.0) _ _ b.2 in
+    let b = bind_ok (u16_at (place_between front rest)) _ _ e in
+    let c = bind_ok (checked 3 (is_not_below (last_of before) b.0.0) (place_between front rest) b.0) _ _ b.2 in
     let t1 = passed_test (is_not_below (last_of before) b.0.0) b.0 c.0 _ c.1 in
     let t2 = passed_test (ltb c.0.0 (length sections)) c.0 (x, q) _ c.2 in
     let h = half_passed front rest x q bytes (b.1 ∙ ap (λ (v : ℕ × Place). Ok v) (t1.1 ∙ t2.1)) in
     (h.0, h.1, ltb-true _ _ (subst (λ (v : ℕ × Place). ltb v.0 (length sections) ≡ true) t2.1 t2.0))
 
-reloc_offset_passed : (sections : List SectionData) (before : List Reloc) (section : ℕ) (start : Place) (front rest : List ℕ) (x : ℕ) (q : Place) → AreBytes rest → reloc_offset_at sections before section start (between front rest) ≡ Ok (x, q)
+reloc_offset_passed : (sections : List SectionData) (before : List Reloc) (section : ℕ) (start : Place) (front rest : List ℕ) (x : ℕ) (q : Place) → AreBytes rest → reloc_offset_at sections before section start (place_between front rest) ≡ Ok (x, q)
     → Passed (bytes_of_word x) front rest q × (x < 2 ^ 32) × (is_behind (last_of before) section x ≡ true) × (x + 4 ≤ size_at sections section)
 unfolding reloc_offset_at
 reloc_offset_passed sections before section start front rest x q bytes e =
-    let b = bind_ok (u32_at (between front rest)) _ _ e in
+    let b = bind_ok (u32_at (place_between front rest)) _ _ e in
     let c = bind_ok (checked 3 (is_behind (last_of before) section b.0.0) start b.0) _ _ b.2 in
     let t1 = passed_test (is_behind (last_of before) section b.0.0) b.0 c.0 _ c.1 in
     let t2 = passed_test (leb (c.0.0 + 4) (size_at sections section)) c.0 (x, q) _ c.2 in
@@ -179,15 +179,15 @@ reloc_offset_passed sections before section start front rest x q bytes e =
       leb-true _ _ (subst (λ (v : ℕ × Place). leb (v.0 + 4) (size_at sections section) ≡ true) t2.1 t2.0),
     )
 
-reloc_passed : (sections : List SectionData) (symbols : ℕ) (before : List Reloc) (front rest : List ℕ) (r : Reloc) (q : Place) → AreBytes rest → InTurn (IsReloc sections symbols) [] before → reloc_after sections symbols before (between front rest) ≡ Ok (r, q)
+reloc_passed : (sections : List SectionData) (symbols : ℕ) (before : List Reloc) (front rest : List ℕ) (r : Reloc) (q : Place) → AreBytes rest → InTurn (IsReloc sections symbols) [] before → reloc_after sections symbols before (place_between front rest) ≡ Ok (r, q)
     → Passed (bytes_of_reloc r) front rest q × InTurn (IsReloc sections symbols) [] (before ++ r ∷ [])
 unfolding reloc_after reloc_symbol_at
 reloc_passed sections symbols before front rest r q bytes good e =
-    let section = bind_ok (reloc_section_at sections before (between front rest)) _ _ e in
+    let section = bind_ok (reloc_section_at sections before (place_between front rest)) _ _ e in
     let h1 = reloc_section_passed sections before front rest section.0.0 section.0.1 bytes section.1 in
     let b1 = passed_bytes h1.0 bytes in
-    let offset = bind_ok (reloc_offset_at sections before section.0.0 (between front rest) section.0.1) _ _ section.2 in
-    let h2 = reloc_offset_passed sections before section.0.0 (between front rest) _ h1.0.after offset.0.0 offset.0.1 b1 (next (reloc_offset_at sections before section.0.0 (between front rest)) _ h1.0 offset.1) in
+    let offset = bind_ok (reloc_offset_at sections before section.0.0 (place_between front rest) section.0.1) _ _ section.2 in
+    let h2 = reloc_offset_passed sections before section.0.0 (place_between front rest) _ h1.0.after offset.0.0 offset.0.1 b1 (next (reloc_offset_at sections before section.0.0 (place_between front rest)) _ h1.0 offset.1) in
     let b2 = passed_bytes h2.0 b1 in
     let kind = bind_ok (kind_at 1 7 offset.0.1) _ _ offset.2 in
     let h3 = kind_passed 1 7 _ h2.0.after kind.0.0 kind.0.1 b2 (next (kind_at 1 7) _ h2.0 kind.1) in
@@ -208,8 +208,8 @@ reloc_passed sections symbols before front rest r q bytes good e =
 -- ---- objects
 -- many items, from none on
 all_passed : {A : Type 0} (item : List A → Place → Result (A × Place) FormErr) (spell : A → List ℕ) (Good : List A → Type 0)
-    → ((before : List A) (front rest : List ℕ) (x : A) (q : Place) → AreBytes rest → Good before → item before (between front rest) ≡ Ok (x, q) → Passed (spell x) front rest q × Good (before ++ x ∷ []))
-    → (n : ℕ) (xs : List A) (front rest : List ℕ) (q : Place) → AreBytes rest → Good [] → many_at item n [] (between front rest) ≡ Ok (xs, q) → Passed (flat_map spell xs) front rest q × (n ≡ length xs) × Good xs
+    → ((before : List A) (front rest : List ℕ) (x : A) (q : Place) → AreBytes rest → Good before → item before (place_between front rest) ≡ Ok (x, q) → Passed (spell x) front rest q × Good (before ++ x ∷ []))
+    → (n : ℕ) (xs : List A) (front rest : List ℕ) (q : Place) → AreBytes rest → Good [] → many_at item n [] (place_between front rest) ≡ Ok (xs, q) → Passed (flat_map spell xs) front rest q × (n ≡ length xs) × Good xs
 all_passed item spell Good each n xs front rest q bytes good e =
     let m = many_passed item spell Good each n [] xs front rest q bytes good e in
     (passed_as (ap (flat_map spell) (sym m.is)) refl m.passed, sym (ap length m.is ∙ m.count), m.good)
@@ -224,10 +224,10 @@ record ArePartsOf (o : ObjectData) (n m k : ℕ) (front rest : List ℕ) (q : Pl
   pub relocs : InTurn (IsReloc o.sections m) [] o.relocs
   pub passed : Passed (flat_map bytes_of_section o.sections ++ (flat_map bytes_of_symbol o.symbols ++ flat_map bytes_of_reloc o.relocs)) front rest q
 
-parts_passed : (n m k : ℕ) (front rest : List ℕ) (o : ObjectData) (q : Place) → AreBytes rest → parts_at n m k (between front rest) ≡ Ok (o, q) → ArePartsOf o n m k front rest q
+parts_passed : (n m k : ℕ) (front rest : List ℕ) (o : ObjectData) (q : Place) → AreBytes rest → parts_at n m k (place_between front rest) ≡ Ok (o, q) → ArePartsOf o n m k front rest q
 unfolding parts_at
 parts_passed n m k front rest o q bytes e =
-    let sections = bind_ok (many_at section_after n [] (between front rest)) _ _ e in
+    let sections = bind_ok (many_at section_after n [] (place_between front rest)) _ _ e in
     let h1 = all_passed section_after bytes_of_section (InTurn IsSection []) section_passed n sections.0.0 front rest sections.0.1 bytes tt sections.1 in
     let b1 = passed_bytes h1.0 bytes in
     let symbols = bind_ok (many_at (symbol_after sections.0.0) m [] sections.0.1) _ _ sections.2 in
@@ -253,10 +253,10 @@ header_bytes : (o : ObjectData) (magic n m k : ℕ) (parts : List ℕ) → parts
 unfolding bytes_of bytes_of_header
 header_bytes o magic n m k parts p e a b c = rw (p, e, a, b, c) refl
 
-object_passed : (front rest : List ℕ) (o : ObjectData) (q : Place) → AreBytes rest → object_at (between front rest) ≡ Ok (o, q) → Passed (bytes_of o) front rest q × IsObject o
+object_passed : (front rest : List ℕ) (o : ObjectData) (q : Place) → AreBytes rest → object_at (place_between front rest) ≡ Ok (o, q) → Passed (bytes_of o) front rest q × IsObject o
 unfolding object_at magic_at section_count_at
 object_passed front rest o q bytes e =
-    let magic = bind_ok (magic_at (between front rest)) _ _ e in
+    let magic = bind_ok (magic_at (place_between front rest)) _ _ e in
     let h1 = tested_word 2 (λ m. eqb m 0x314F4354) front rest magic.0.0 magic.0.1 bytes magic.1 in
     let b1 = passed_bytes h1.0 bytes in
     let n = bind_ok (section_count_at magic.0.1) _ _ magic.2 in
@@ -284,7 +284,7 @@ object_passed front rest o q bytes e =
 pub read_is_object : (bytes : List ℕ) (o : ObjectData) → ((k : ℕ) → get_or bytes k 0 < 2 ^ 8) → object_of bytes ≡ Ok o → (bytes_of o ≡ bytes) × IsObject o
 unfolding object_of
 read_is_object bytes o small e =
-    let b = bind_ok (object_at (between [] bytes)) _ _ e in
+    let b = bind_ok (object_at (place_between [] bytes)) _ _ e in
     let h = object_passed [] bytes b.0.0 b.0.1 (bytes_from bytes small) b.1 in
     let t = passed_test (eqb b.0.1.place (length bytes)) b.0.0 o _ b.2 in
     let end : length (bytes_of b.0.0) ≡ length bytes = sym (ap (λ (p : Place). p.place) h.0.at) ∙ eqb-true _ _ t.0 in

@@ -1,6 +1,6 @@
 -- Reading many items, one after another.
 use Rattle.std.proofs.Common.{◌≡◌, ℕ, suc, ◌+◌, ◌-◌, ◌<◌, ◌≤◌, List, [], ◌∷◌, ◌++◌, Result, Ok, Err, ap, ◌∙◌, arith}
-use Rattle.tcd_base.specs.declared.types.FormErr.{FormErr}
+use Rattle.tcd_base.specs.declared.errors.FormErr.{FormErr}
 use Rattle.tcd_base.specs.Place.{Place}
 use Rattle.tcd_base.specs.Reading.{◌>>=◌}
 use Rattle.tc_object.specs.declared.errors.ObjErr.{ObjErr}

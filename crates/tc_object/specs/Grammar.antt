@@ -1,7 +1,7 @@
 -- The grammar of object files: fields read from left to right, and the first fault. Its kinds are 1 Short (of every
 -- field), 2 Magic, 3 Order, 4 BadValue, 5 Limit, 6 Trailing.
 use Rattle.std.specs.Prelude.{◌+◌, ◌==◌, ◌&&◌, not, nat_lt, nat_le, if◌then◌else◌, ℕ, zero, suc, Bool, List, [], ◌∷◌, ◌++◌, length, Result, Ok}
-use Rattle.tcd_base.specs.declared.types.FormErr.{FormErr}
+use Rattle.tcd_base.specs.declared.errors.FormErr.{FormErr}
 use Rattle.tcd_base.specs.Place.{Place}
 use Rattle.tcd_base.specs.Reading.{◌>>=◌, fault_at, u8_at, u16_at, u32_at, bytes_at}
 use Rattle.tc_object.specs.declared.relocs.Reloc.{Reloc}

@@ -5,6 +5,18 @@ use Rattle.std.specs.List.{list_any}
 use Rattle.std.specs.Str.{bytes_eq}
 use Rattle.tc_object.specs.Names.{IsName}
 
+-- the kind of symbols that are used and not defined here
+abbrev pub undefined_symbol : ℕ
+undefined_symbol = 0
+
+-- the kind of symbols that only their own object sees
+abbrev pub local_symbol : ℕ
+local_symbol = 1
+
+-- the kind of symbols that all objects see
+abbrev pub global_symbol : ℕ
+global_symbol = 2
+
 -- a section: its name and its bytes
 pub record SectionData : Type 0 where
   pub name : List ℕ
@@ -54,16 +66,16 @@ size_at ss n = size_of (slice_get ss n)
 -- ---- symbols
 -- the section of an undefined symbol is 0, that of a defined one is there
 abbrev pub is_section_of : List SectionData → ℕ → ℕ → Bool
-is_section_of ss kind section = if kind == 0 then section == 0 else nat_lt section (length ss)
+is_section_of ss kind section = if kind == undefined_symbol then section == 0 else nat_lt section (length ss)
 
 -- the offset of an undefined symbol is 0, that of a defined one is within its section or at its end
 abbrev pub is_offset_of : List SectionData → ℕ → ℕ → ℕ → Bool
-is_offset_of ss kind section offset = if kind == 0 then offset == 0 else nat_le offset (size_at ss section)
+is_offset_of ss kind section offset = if kind == undefined_symbol then offset == 0 else nat_le offset (size_at ss section)
 
 -- a symbol with a name that none before it has, of a known kind, that stands in a section, or nowhere if undefined
 pub record IsSymbol (sections : List SectionData) (before : List SymbolData) (s : SymbolData) : Type 0 where
   pub name : IsName (is_symbol_name before) s.name
-  pub kind : s.kind ≤ 2
+  pub kind : s.kind ≤ global_symbol
   pub section : is_section_of sections s.kind s.section ≡ true
   pub offset : is_offset_of sections s.kind s.section s.offset ≡ true
   pub half : s.section < 2 ^ 16

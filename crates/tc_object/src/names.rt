@@ -67,7 +67,8 @@ pub(crate) fn read_name_length(c: &mut Cursor<'_>) -> Result<u8, FormErr>
 #[tactic(auto, unfolding(crate::specs::Grammar::name_bytes_at))]
 pub(crate) fn read_name_bytes<'a>(c: &mut Cursor<'a>, count: u8) -> Result<&'a str, FormErr>
     requires { length c.old.bytes ≤ 2 ^ 30 }
-    ensures read { MatchResult result (λ name. name_bytes_at count c.old ≡ Ok (name.now, c.new)) (λ e. name_bytes_at count c.old ≡ Err e) }
+    ensures read { MatchResult result (λ name. name_bytes_at count c.old ≡ Ok (name.now, c.new))
+        (λ e. name_bytes_at count c.old ≡ Err e) }
     ensures bytes { c.new.bytes ≡ c.old.bytes }
 {
     let start = c.place();

@@ -64,7 +64,9 @@ fn read_offset(
 ) -> Result<u32, FormErr>
     requires short { length c.old.bytes ≤ 2 ^ 30 }
     requires start { section_at ≤ length c.old.bytes }
-    ensures read { Reads result c.new (reloc_offset_at sections.now before.now section (record { bytes = c.old.bytes; place = section_at }) c.old) }
+    ensures read { Reads result c.new
+        (reloc_offset_at sections.now before.now section
+        (record { bytes = c.old.bytes; place = section_at }) c.old) }
     ensures bytes { c.new.bytes ≡ c.old.bytes }
 {
     let start = c.place();
@@ -129,8 +131,10 @@ pub(crate) fn read_relocs(
     count: u16,
 ) -> Result<Vec<Reloc>, ObjErr>
     requires { length c.old.bytes ≤ 2 ^ 30 }
-    ensures ok { IfOk result (λ rs. many_at (reloc_after sections.now symbols) count [] c.old ≡ Ok (rs.items, c.new)) }
-    ensures err { IfErr result (IsFaultOf (many_at (reloc_after sections.now symbols) count [] c.old)) }
+    ensures ok { IfOk result
+        (λ rs. many_at (reloc_after sections.now symbols) count [] c.old ≡ Ok (rs.items, c.new)) }
+    ensures err { IfErr result
+        (IsFaultOf (many_at (reloc_after sections.now symbols) count [] c.old)) }
     ensures bytes { c.new.bytes ≡ c.old.bytes }
 {
     let mut relocs = Vec::with_capacity(alloc, count as usize)?;

@@ -88,7 +88,8 @@ fn read_symbol<'a>(
     names: &mut HashMap<&'a str, ()>,
 ) -> Result<Symbol, ObjErr>
     requires { length c.old.bytes ≤ 2 ^ 30 }
-    ensures ok { IfOk result (λ s. symbol_with sections.now (is_among names.old) c.old ≡ Ok (s, c.new)) }
+    ensures ok { IfOk result
+        (λ s. symbol_with sections.now (is_among names.old) c.old ≡ Ok (s, c.new)) }
     ensures err { IfErr result (IsFaultOf (symbol_with sections.now (is_among names.old) c.old)) }
     ensures bytes { c.new.bytes ≡ c.old.bytes }
     ensures names { IfOk result (λ s. (q : List ℕ) → is_among names.new q
@@ -114,7 +115,8 @@ pub(crate) fn read_symbols<'a>(
     count: u16,
 ) -> Result<Vec<Symbol>, ObjErr>
     requires { length c.old.bytes ≤ 2 ^ 30 }
-    ensures ok { IfOk result (λ ss. many_at (symbol_after sections.now) count [] c.old ≡ Ok (ss.items, c.new)) }
+    ensures ok { IfOk result
+        (λ ss. many_at (symbol_after sections.now) count [] c.old ≡ Ok (ss.items, c.new)) }
     ensures err { IfErr result (IsFaultOf (many_at (symbol_after sections.now) count [] c.old)) }
     ensures bytes { c.new.bytes ≡ c.old.bytes }
 {

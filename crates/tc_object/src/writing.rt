@@ -39,7 +39,8 @@ fn write_section(out: &mut Vec<u8>, section: &Section) -> Result<(), NoMemory>
 pub(crate) fn write_sections(out: &mut Vec<u8>, sections: &[Section]) -> Result<(), NoMemory>
     requires names { All (λ s. length s.name ≤ 64) sections.now }
     requires small { All (λ s. length s.bytes < 2 ^ 32) sections.now }
-    ensures { OnOk result (out.new.items ≡ out.old.items ++ flat_map bytes_of_section sections.now) }
+    ensures { OnOk result
+        (out.new.items ≡ out.old.items ++ flat_map bytes_of_section sections.now) }
 {
     for section in sections {
         write_section(out, section)?;

@@ -6,7 +6,7 @@ use Rattle.std.specs.Bool.{then_some}
 use Rattle.std.specs.Str.{bytes_eq}
 use Rattle.tc_object.specs.Objects.{SectionData, ObjectData}
 use Rattle.tc_link.specs.Layouts.{PlaceData, is_placed}
-use Rattle.tc_link.specs.Placing.{PlacedData, rounded, taken, place_of, base_of, bases_after, placed_after}
+use Rattle.tc_link.specs.Placing.{PlacedData, round_up, taken_bytes, place_of, base_of, bases_after, placed_after}
 use Rattle.tc_link.specs.Placing as placing
 use Rattle.tc_link.specs.Linked.{Refusal, no_place, first_at, has_symbol, no_place_of, no_place_in}
 use Rattle.tc_asm.specs.Objects.{object_of}
@@ -114,5 +114,5 @@ begins_at places sources objects i source s x p are at there is =
       is = ap (λ (l : List SectionData). slice_index (bases_after places (placing.sections_of (take i objects)) l) s) (sym same)
           ∙ base_at places (placing.sections_of (take i objects)) (sections_in source) s x there
           ∙ ap (λ (b : List SectionData). base_of places (b ++ take s (sections_in source)) x) earlier
-          ∙ ap (λ (o : Option PlaceData). option_map_or (λ q. q.at + rounded (taken x.name (sections_of (take i sources) ++ take s (sections_in source)))) o 0) is;
+          ∙ ap (λ (o : Option PlaceData). option_map_or (λ q. q.at + round_up (taken_bytes x.name (sections_of (take i sources) ++ take s (sections_in source)))) o 0) is;
     }

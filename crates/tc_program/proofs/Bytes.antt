@@ -3,15 +3,15 @@ use Rattle.std.proofs.Common.{◌≡◌, ◌≤◌, ◌+◌, ℕ, zero, suc, Lis
 use Rattle.std.specs.Prelude.{slice_get, fold}
 use Rattle.std.proofs.lemmas.Bool.Decides.{Decides-eqb}
 use Rattle.tc_object.specs.Objects.{SectionData, ObjectData}
-use Rattle.tc_asm.specs.Lines.{lines_in}
+use Rattle.tc_stmt.specs.Lines.{lines_in, items_in}
 use Rattle.tc_asm.specs.Symbols.{SymbolData}
 use Rattle.tc_asm.specs.Drafts.{UseData, PartData, start}
 use Rattle.tc_asm.specs.Sources.{symbols_of, items_rule}
 use Rattle.tc_asm.specs.Objects.{section_of, object_of}
-use Rattle.tc_asm.specs.Statements.{StatementData, items_in, section_bytes, offset_of}
+use Rattle.tc_asm.specs.Statements.{StatementData, section_bytes, offset_of}
 use Rattle.tc_asm.proofs.LaidLaws.{stands}
 use Rattle.tc_link.specs.Placing.{GlobalData, PlacedData}
-use Rattle.tc_link.specs.Relocated.{with_reloc, relocated}
+use Rattle.tc_link.specs.Relocated.{with_reloc, relocated_sections}
 use Rattle.tc_asm.specs.Contents.{draft_in, statements_in}
 use Rattle.tc_asm.proofs.Uses.{GoodItems}
 use Rattle.tc_program.proofs.Fields.{finished, finished_at, relocs_written, filled_from, filled_bytes, filled_at, filled_offset, fields_written}
@@ -37,8 +37,8 @@ module _ (source : List ℕ) (good : GoodItems (symbols_of (lines_in source)) st
   module _ (g : List GlobalData) (p : PlacedData) (is : p.object ≡ object_of (draft_in source)) where
     -- the bytes of a section with its relocations written
     pub final : (s : ℕ) (q : PartData) → slice_get (draft_in source).parts s ≡ Some q →
-        slice_get (relocated g p) s ≡ Some (record { name = q.name; bytes = section_bytes s (filled_from g p (draft_in source).symbols s 0 (statements_in source)) })
-    unfolding relocated
+        slice_get (relocated_sections g p) s ≡ Some (record { name = q.name; bytes = section_bytes s (filled_from g p (draft_in source).symbols s 0 (statements_in source)) })
+    unfolding relocated_sections
     final s q e =
         let part = part_is source good rules s q e in
         let same : 0 + s ≡ s = omega arith in

@@ -3,7 +3,7 @@ use Rattle.std.proofs.Common.{◌≡◌, ◌+◌, ℕ, zero, suc, Bool, true, fa
 use Rattle.std.specs.Prelude.{slice_get, slice_set, fold, if◌then◌else◌}
 use Rattle.std.specs.Option.{option_map_or}
 use Rattle.std.proofs.lemmas.List.{length-append, append-nil}
-use Rattle.tc_stmt.specs.Filling.{ReferenceData}
+use Rattle.tc_stmt.specs.RowFields.{ReferenceData}
 use Rattle.tc_object.specs.declared.relocs.Reloc.{Reloc}
 use Rattle.tc_object.specs.Objects.{SectionData}
 use Rattle.tc_asm.specs.Symbols.{SymbolData}
@@ -13,21 +13,21 @@ use Rattle.tc_asm.specs.Statements.{StatementData, section_bytes, offset_of}
 use Rattle.tc_reloc.specs.Fields.{content_of}
 use Rattle.tc_reloc.specs.Applied.{with_field}
 use Rattle.tc_link.specs.Placing.{GlobalData, PlacedData}
-use Rattle.tc_link.specs.Relocated.{field_place, value_of, field_at, written, with_reloc}
+use Rattle.tc_link.specs.Relocated.{field_place, value_of, field_at, with_relocation, with_reloc}
 use Rattle.tc_asm.specs.Contents.{is_open}
-use Rattle.tc_asm.proofs.ListItems.{seam_get, seam_set, take_behind, drop_behind}
+use Rattle.tc_stmt.proofs.ListItems.{seam_get, seam_set, take_behind, drop_behind}
 use Rattle.tc_asm.proofs.Uses.{use_at, uses_from, HaveFields}
 
 -- ---- one section after another
 module _ (g : List GlobalData) (p : PlacedData) (symbols : List SymbolData) where
   -- the section of this number with the field of one use written
   abbrev pub stepped : ℕ → SectionData → UseData → SectionData
-  stepped n sec u = written g p (reloc_of symbols n u) sec
+  stepped n sec u = with_relocation g p (reloc_of symbols n u) sec
 
   reloc_here : (before after : List SectionData) (sec : SectionData) (n : ℕ) (u : UseData) → n ≡ length before → with_reloc g p (before ++ sec ∷ after) (reloc_of symbols n u) ≡ before ++ stepped n sec u ∷ after
   reloc_here before after sec n u e =
-      ap (λ k. option_map_or (λ x. slice_set (before ++ sec ∷ after) k (written g p (reloc_of symbols n u) x)) (slice_get (before ++ sec ∷ after) k) (before ++ sec ∷ after)) e
-      ∙ ap (λ (o : Option SectionData). option_map_or (λ x. slice_set (before ++ sec ∷ after) (length before) (written g p (reloc_of symbols n u) x)) o (before ++ sec ∷ after)) (seam_get before after sec)
+      ap (λ k. option_map_or (λ x. slice_set (before ++ sec ∷ after) k (with_relocation g p (reloc_of symbols n u) x)) (slice_get (before ++ sec ∷ after) k) (before ++ sec ∷ after)) e
+      ∙ ap (λ (o : Option SectionData). option_map_or (λ x. slice_set (before ++ sec ∷ after) (length before) (with_relocation g p (reloc_of symbols n u) x)) o (before ++ sec ∷ after)) (seam_get before after sec)
       ∙ seam_set before after sec (stepped n sec u)
 
   relocs_here : (before after : List SectionData) (sec : SectionData) (n : ℕ) (us : List UseData) (rest : List Reloc) → n ≡ length before →

@@ -11,11 +11,11 @@ use Rattle.std.proofs.lemmas.Slice.Eq.{bytes_eq-Decides}
 use Rattle.elf_image.specs.Images.{SegmentData, holds, byte_in, are_apart, all_apart}
 use Rattle.tc_object.specs.Objects.{SectionData, InTurn}
 use Rattle.tc_link.specs.Layouts.{PlaceData, IsPlaceAfter, is_placed}
-use Rattle.tc_link.specs.Placing.{rounded, taken, place_of}
-use Rattle.tc_link.specs.Relocated.{padded, with_section, joined}
+use Rattle.tc_link.specs.Placing.{round_up, taken_bytes, place_of}
+use Rattle.tc_link.specs.Relocated.{with_padding, with_section, joined_sections}
 use Rattle.tc_link.specs.Shapes.{Shape, shape_of}
 use Rattle.tc_link.proofs.ShapeLaws.{length-joined, taken-shapes}
-use Rattle.tc_asm.proofs.ListItems.{get_short, in_front_or_rest, InRest, map_get, map_at, map_take}
+use Rattle.tc_stmt.proofs.ListItems.{get_short, in_front_or_rest, InRest, map_get, map_at, map_take}
 
 -- ---- the bytes of a place
 -- what was put together stays in front
@@ -28,36 +28,36 @@ stays name [] before = record { more = []; is = sym (append-nil before) }
 stays name (s ∷ ss) before = by (bytes_eq name s.name) refl (stays name ss (with_section name before s))
   where
     zeros : List ℕ
-    zeros = replicate (rounded (length before) - length before) 0
+    zeros = replicate (round_up (length before) - length before) 0
 
     by : (b : Bool) → bytes_eq name s.name ≡ b → Longer name (with_section name before s) ss → Longer name before (s ∷ ss)
     by true e h = record {
       more = zeros ++ (s.bytes ++ h.more);
-      is = h.is ∙ ap (λ b. cond b (padded before ++ s.bytes) before ++ h.more) e ∙ append_assoc (padded before) s.bytes h.more ∙ append_assoc before zeros (s.bytes ++ h.more);
+      is = h.is ∙ ap (λ b. cond b (with_padding before ++ s.bytes) before ++ h.more) e ∙ append_assoc (with_padding before) s.bytes h.more ∙ append_assoc before zeros (s.bytes ++ h.more);
     }
-    by false e h = record { more = h.more; is = h.is ∙ ap (λ b. cond b (padded before ++ s.bytes) before ++ h.more) e }
+    by false e h = record { more = h.more; is = h.is ∙ ap (λ b. cond b (with_padding before ++ s.bytes) before ++ h.more) e }
 
-padded_length : (bytes : List ℕ) → length (padded bytes) ≡ rounded (length bytes)
-padded_length bytes = omega (arith, length-append bytes (replicate (rounded (length bytes) - length bytes) 0), length-replicate {A = ℕ} (rounded (length bytes) - length bytes) 0)
+padded_length : (bytes : List ℕ) → length (with_padding bytes) ≡ round_up (length bytes)
+padded_length bytes = omega (arith, length-append bytes (replicate (round_up (length bytes) - length bytes) 0), length-replicate {A = ℕ} (round_up (length bytes) - length bytes) 0)
 
 -- a section stands behind those of its name, at a multiple of 4
 pub record Stands (name : List ℕ) (before : List SectionData) (s : SectionData) (after : List SectionData) : Type 0 where
   pub front : List ℕ
   pub rest : List ℕ
-  pub is : joined name (before ++ s ∷ after) ≡ front ++ (s.bytes ++ rest)
-  pub place : length front ≡ rounded (taken name before)
+  pub is : joined_sections name (before ++ s ∷ after) ≡ front ++ (s.bytes ++ rest)
+  pub place : length front ≡ round_up (taken_bytes name before)
 
 pub stands : (name : List ℕ) (before : List SectionData) (s : SectionData) (after : List SectionData) → bytes_eq name s.name ≡ true → Stands name before s after
-unfolding joined
+unfolding joined_sections
 stands name before s after e =
     let h = stays name after (with_section name (fold (with_section name) [] before) s) in
     record {
-      front = padded (fold (with_section name) [] before);
+      front = with_padding (fold (with_section name) [] before);
       rest = h.more;
       is = fold-append (with_section name) [] before (s ∷ after) ∙ h.is
-          ∙ ap (λ b. cond b (padded (fold (with_section name) [] before) ++ s.bytes) (fold (with_section name) [] before) ++ h.more) e
-          ∙ append_assoc (padded (fold (with_section name) [] before)) s.bytes h.more;
-      place = padded_length (fold (with_section name) [] before) ∙ ap rounded (length-joined name before);
+          ∙ ap (λ b. cond b (with_padding (fold (with_section name) [] before) ++ s.bytes) (fold (with_section name) [] before) ++ h.more) e
+          ∙ append_assoc (with_padding (fold (with_section name) [] before)) s.bytes h.more;
+      place = padded_length (fold (with_section name) [] before) ∙ ap round_up (length-joined name before);
     }
 
 -- ---- what a byte of a place is
@@ -76,15 +76,15 @@ zero_in (suc n) zero b e = cc
 zero_in (suc n) (suc k) b e = zero_in n k b e
 
 -- in the padding, or before it
-pad_byte : (before : List ℕ) (k b : ℕ) → slice_get (padded before) k ≡ Some b → (k < length before) ⊎ (b ≡ 0)
-pad_byte before k b e = by (in_front_or_rest before (replicate (rounded (length before) - length before) 0) k b e)
+pad_byte : (before : List ℕ) (k b : ℕ) → slice_get (with_padding before) k ≡ Some b → (k < length before) ⊎ (b ≡ 0)
+pad_byte before k b e = by (in_front_or_rest before (replicate (round_up (length before) - length before) 0) k b e)
   where
-    by : (slice_get before k ≡ Some b) ⊎ InRest ℕ before (replicate (rounded (length before) - length before) 0) k b → (k < length before) ⊎ (b ≡ 0)
+    by : (slice_get before k ≡ Some b) ⊎ InRest ℕ before (replicate (round_up (length before) - length before) 0) k b → (k < length before) ⊎ (b ≡ 0)
     by (inl h) = inl (slice_get_within before k b h)
-    by (inr r) = inr (zero_in (rounded (length before) - length before) r.at b r.is)
+    by (inr r) = inr (zero_in (round_up (length before) - length before) r.at b r.is)
 
 abbrev starts_behind : List ℕ → List ℕ → List SectionData → ℕ
-starts_behind name before ss = rounded (length (fold (with_section name) before ss))
+starts_behind name before ss = round_up (length (fold (with_section name) before ss))
 
 in_joined : (name : List ℕ) (ss : List SectionData) (before : List ℕ) (k b : ℕ) → slice_get (fold (with_section name) before ss) k ≡ Some b →
     (k < length before) ⊎ ((b ≡ 0) ⊎ InSection name ss (starts_behind name before) k)
@@ -100,14 +100,14 @@ in_joined name (s ∷ ss) before k b e = by_rest (in_joined name ss (with_sectio
         let l = stays name ss (with_section name before s) in
         sym (get_short (with_section name before s) l.more k h) ∙ ap (λ (bs : List ℕ). slice_get bs k) (sym l.is) ∙ e
 
-    in_this : (t : Bool) → bytes_eq name s.name ≡ t → slice_get (cond t (padded before ++ s.bytes) before) k ≡ Some b → (k < length before) ⊎ ((b ≡ 0) ⊎ InSection name (s ∷ ss) (starts_behind name before) k)
-    in_this true named g = by_part (in_front_or_rest (padded before) s.bytes k b g)
+    in_this : (t : Bool) → bytes_eq name s.name ≡ t → slice_get (cond t (with_padding before ++ s.bytes) before) k ≡ Some b → (k < length before) ⊎ ((b ≡ 0) ⊎ InSection name (s ∷ ss) (starts_behind name before) k)
+    in_this true named g = by_part (in_front_or_rest (with_padding before) s.bytes k b g)
       where
         by_pad : (k < length before) ⊎ (b ≡ 0) → (k < length before) ⊎ ((b ≡ 0) ⊎ InSection name (s ∷ ss) (starts_behind name before) k)
         by_pad (inl h) = inl h
         by_pad (inr h) = inr (inl h)
 
-        by_part : (slice_get (padded before) k ≡ Some b) ⊎ InRest ℕ (padded before) s.bytes k b → (k < length before) ⊎ ((b ≡ 0) ⊎ InSection name (s ∷ ss) (starts_behind name before) k)
+        by_part : (slice_get (with_padding before) k ≡ Some b) ⊎ InRest ℕ (with_padding before) s.bytes k b → (k < length before) ⊎ ((b ≡ 0) ⊎ InSection name (s ∷ ss) (starts_behind name before) k)
         by_part (inl h) = by_pad (pad_byte before k b h)
         by_part (inr r) =
             let p = r.place in
@@ -122,19 +122,19 @@ in_joined name (s ∷ ss) before k b e = by_rest (in_joined name ss (with_sectio
     by_rest (inr (inl h)) = inr (inl h)
     by_rest (inr (inr r)) = inr (inr (record { at = suc r.at; section = r.section; is_section = r.is_section; named = r.named; low = r.low; high = r.high }))
 
-starts_same : (name : List ℕ) (ss : List SectionData) (k : ℕ) → InSection name ss (starts_behind name []) k → InSection name ss (λ before. rounded (taken name before)) k
-unfolding joined
+starts_same : (name : List ℕ) (ss : List SectionData) (k : ℕ) → InSection name ss (starts_behind name []) k → InSection name ss (λ before. round_up (taken_bytes name before)) k
+unfolding joined_sections
 starts_same name ss k h =
-    let same : starts_behind name [] (take h.at ss) ≡ rounded (taken name (take h.at ss)) = ap rounded (length-joined name (take h.at ss)) in
+    let same : starts_behind name [] (take h.at ss) ≡ round_up (taken_bytes name (take h.at ss)) = ap round_up (length-joined name (take h.at ss)) in
     let low = h.low in
     let high = h.high in
     record { at = h.at; section = h.section; is_section = h.is_section; named = h.named; low = omega arith; high = omega arith }
 
-pub joined_byte : (name : List ℕ) (ss : List SectionData) (k b : ℕ) → slice_get (joined name ss) k ≡ Some b → (b ≡ 0) ⊎ InSection name ss (λ before. rounded (taken name before)) k
-unfolding joined
+pub joined_byte : (name : List ℕ) (ss : List SectionData) (k b : ℕ) → slice_get (joined_sections name ss) k ≡ Some b → (b ≡ 0) ⊎ InSection name ss (λ before. round_up (taken_bytes name before)) k
+unfolding joined_sections
 joined_byte name ss k b e = by (in_joined name ss [] k b e)
   where
-    by : (k < length {A = ℕ} []) ⊎ ((b ≡ 0) ⊎ InSection name ss (starts_behind name []) k) → (b ≡ 0) ⊎ InSection name ss (λ before. rounded (taken name before)) k
+    by : (k < length {A = ℕ} []) ⊎ ((b ≡ 0) ⊎ InSection name ss (starts_behind name []) k) → (b ≡ 0) ⊎ InSection name ss (λ before. round_up (taken_bytes name before)) k
     by (inl h) = absurd (omega arith)
     by (inr (inl h)) = inl h
     by (inr (inr r)) = inr (starts_same name ss k r)
@@ -145,13 +145,13 @@ shaped_at ss ts i s e h =
     let f = map_at shape_of ts i (shape_of s) (ap (λ (l : List Shape). slice_get l i) (sym e) ∙ map_get shape_of ss i s h) in
     (f.item, f.is_item, f.is)
 
-pub taken_front : (name : List ℕ) (ss ts : List SectionData) (i : ℕ) → map shape_of ss ≡ map shape_of ts → taken name (take i ss) ≡ taken name (take i ts)
+pub taken_front : (name : List ℕ) (ss ts : List SectionData) (i : ℕ) → map shape_of ss ≡ map shape_of ts → taken_bytes name (take i ss) ≡ taken_bytes name (take i ts)
 taken_front name ss ts i e = taken-shapes name (take i ss) (take i ts) (map_take shape_of ss i ∙ ap (take i) e ∙ sym (map_take shape_of ts i))
 
-pub in_shaped : (name : List ℕ) (ss ts : List SectionData) (k : ℕ) → map shape_of ss ≡ map shape_of ts → InSection name ss (λ before. rounded (taken name before)) k → InSection name ts (λ before. rounded (taken name before)) k
+pub in_shaped : (name : List ℕ) (ss ts : List SectionData) (k : ℕ) → map shape_of ss ≡ map shape_of ts → InSection name ss (λ before. round_up (taken_bytes name before)) k → InSection name ts (λ before. round_up (taken_bytes name before)) k
 in_shaped name ss ts k e h =
     let t = shaped_at ss ts h.at h.section e h.is_section in
-    let front = ap rounded (taken_front name ss ts h.at e) in
+    let front = ap round_up (taken_front name ss ts h.at e) in
     let size : length t.0.bytes ≡ length h.section.bytes = ap (λ (x : Shape). x.size) t.2 in
     let low = h.low in
     let high = h.high in

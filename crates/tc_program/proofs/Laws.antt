@@ -8,8 +8,8 @@ use Rattle.tc_object.specs.Objects.{ObjectData, IsObject}
 use Rattle.tc_asm.specs.Kept.{IsDraft}
 use Rattle.tc_link.specs.Layouts.{LayoutData}
 use Rattle.tc_link.specs.Placing.{globals_of, global_address}
-use Rattle.tc_link.specs.Relocated.{relocated, segments_of}
-use Rattle.tc_link.specs.Linked.{Refusal, unless, no_place_in, reloc_in, placed_of, contents_of, entry_of, made_of, refused_early, linked}
+use Rattle.tc_link.specs.Relocated.{relocated_sections, segments_of}
+use Rattle.tc_link.specs.Linked.{Refusal, unless, no_place_in, reloc_in, placed_of, contents_of, entry_of, made_of, refused_early, image_of_objects}
 use Rattle.tc_link.specs.Shapes.{shape_of}
 use Rattle.tc_link.proofs.RelocLaws.{contents_shapes}
 use Rattle.tc_asm.specs.Contents.{draft_in}
@@ -48,8 +48,8 @@ pub record Parts (objects : List ObjectData) (layout : LayoutData) (image : Imag
   pub entry : global_address (globals_of (placed_of layout objects)) layout.entry ≡ Some image.entry
   pub segments : image.segments ≡ segments_of layout.places (contents_of (placed_of layout objects))
 
-pub parts_of : (objects : List ObjectData) (layout : LayoutData) (image : ImageData) → linked objects layout ≡ Ok image → Parts objects layout image
-unfolding linked
+pub parts_of : (objects : List ObjectData) (layout : LayoutData) (image : ImageData) → image_of_objects objects layout ≡ Ok image → Parts objects layout image
+unfolding image_of_objects
 parts_of objects layout image e = by_early (refused_early layout objects) refl e
   where
     by_entry : (a : Option ℕ) → global_address (globals_of (placed_of layout objects)) layout.entry ≡ a → refused_early layout objects ≡ None
@@ -86,9 +86,9 @@ unfolding contents_of
 segments_law sources objects layout image are e =
     let parts = parts_of objects layout image e in
     let g = globals_of (placed_of layout objects) in
-    let shapes : map shape_of (flat_map (relocated g) (placed_of layout objects)) ≡ map shape_of (sections_of sources)
+    let shapes : map shape_of (flat_map (relocated_sections g) (placed_of layout objects)) ≡ map shape_of (sections_of sources)
     = contents_shapes g layout.places [] objects (objects_good sources objects are) ∙ ap (map shape_of) (sym (all_sections sources objects (are_objects sources objects are))) in
-    ap (map span_of) parts.segments ∙ spans (flat_map (relocated g) (placed_of layout objects)) (sections_of sources) layout.places shapes
+    ap (map span_of) parts.segments ∙ spans (flat_map (relocated_sections g) (placed_of layout objects)) (sections_of sources) layout.places shapes
 
 pub entry_law : EntryLaw
 entry_law sources objects layout image are e =

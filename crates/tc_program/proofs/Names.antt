@@ -8,8 +8,8 @@ use Rattle.std.proofs.lemmas.Slice.Eq.{bytes_eq-Decides}
 use Rattle.std.proofs.lemmas.Bool.Decides.{Decides-eqb}
 use Rattle.tc_object.specs.Objects.{SectionData, ObjectData, InTurn}
 use Rattle.tc_object.specs.Objects as object
-use Rattle.tc_asm.specs.declared.entries.Place.{Place}
-use Rattle.tc_asm.specs.declared.entries.Entry.{Entry}
+use Rattle.tc_asm.specs.declared.symbols.Place.{Place}
+use Rattle.tc_asm.specs.declared.symbols.Entry.{Entry}
 use Rattle.tc_asm.specs.Symbols.{SymbolData, entry_of, place_in}
 use Rattle.tc_asm.specs.Drafts.{PartData}
 use Rattle.tc_asm.specs.Kept.{Each, is_among, IsNew, AreNames, symbol_names, IsPlace, IsPlaced, IsDraft}
@@ -20,7 +20,7 @@ use Rattle.tc_link.specs.Placing.{PlacedData, GlobalData, bases_after, placed_af
 use Rattle.tc_link.specs.Placing as placing
 use Rattle.tc_asm.specs.Contents.{draft_in, symbols_in, sections_in}
 use Rattle.tc_program.specs.Addresses.{Begins, HasLabel, HasGlobal}
-use Rattle.tc_asm.proofs.ListItems.{flat_at, map_at, map_get, filter_at, find_at}
+use Rattle.tc_stmt.proofs.ListItems.{flat_at, map_at, map_get, filter_at, find_at}
 use Rattle.tc_asm.proofs.SourceParts.{sections_are}
 use Rattle.tc_program.proofs.Sections.{AreObjects, object_at, source_at}
 use Rattle.tc_program.proofs.Bases.{placed_from, place_for, begins_at}

@@ -13,25 +13,25 @@ use Rattle.elf_image.specs.Images.{SegmentData, ImageData, is_segment, byte_in, 
 use Rattle.tc_object.specs.declared.relocs.Reloc.{Reloc}
 use Rattle.tc_object.specs.Objects.{SectionData, ObjectData, IsObject}
 use Rattle.tc_object.specs.Objects as obj
-use Rattle.tc_stmt.specs.Filling.{ReferenceData}
+use Rattle.tc_stmt.specs.RowFields.{ReferenceData}
 use Rattle.tc_reloc.specs.declared.refusals.RelocErr.{RelocErr}
 use Rattle.tc_reloc.specs.Refusals.{refusal_of}
 use Rattle.tc_reloc.specs.Fields.{content_of}
 use Rattle.tc_reloc.specs.Applied.{with_field}
-use Rattle.tc_asm.specs.Lines.{lines_in}
+use Rattle.tc_stmt.specs.Lines.{lines_in, items_in}
 use Rattle.tc_asm.specs.Symbols.{SymbolData}
 use Rattle.tc_asm.specs.Drafts.{UseData, PartData, start}
 use Rattle.tc_isa.specs.Relocations.{is_reloc}
 use Rattle.tc_asm.specs.Sources.{KeepsRules, symbols_of, items_rule}
 use Rattle.tc_asm.specs.Kept.{is_among, symbol_names, IsUse, IsPart}
 use Rattle.tc_asm.specs.Objects.{section_of, symbol_of, number_of, addend_of, reloc_of, relocs_from, object_of}
-use Rattle.tc_asm.specs.Statements.{StatementData, section_bytes, offset_of, bytes_at, items_in}
+use Rattle.tc_asm.specs.Statements.{StatementData, section_bytes, offset_of, bytes_at}
 use Rattle.tc_asm.proofs.LaidLaws.{drafted-bytes, stands}
 use Rattle.tc_asm.proofs.ListLaws.{position_first}
 use Rattle.tc_link.specs.Layouts.{PlaceData, LayoutData, IsLayout}
-use Rattle.tc_link.specs.Placing.{PlacedData, GlobalData, rounded, taken, place_of, base_of, bases_after, placed_after, globals_of, address_in, symbol_address}
+use Rattle.tc_link.specs.Placing.{PlacedData, GlobalData, round_up, taken_bytes, place_of, base_of, bases_after, placed_after, globals_of, address_in, symbol_address}
 use Rattle.tc_link.specs.Placing as placing
-use Rattle.tc_link.specs.Relocated.{relocated, field_place, value_of, reloc_refusal, joined, segment_of, segments_of}
+use Rattle.tc_link.specs.Relocated.{relocated_sections, field_place, value_of, reloc_refusal, joined_sections, segment_of, segments_of}
 use Rattle.tc_link.specs.Linked.{Refusal, reloc, missing_in, is_used, has_symbol, refusal_at, reloc_in, first_at, placed_of, contents_of, refused_early}
 use Rattle.tc_link.specs.Shapes.{Shape, shape_of}
 use Rattle.tc_link.proofs.ShapeLaws.{taken-shapes}
@@ -42,7 +42,7 @@ use Rattle.tc_asm.specs.Contents.{draft_in, statements_in, is_open}
 use Rattle.tc_program.specs.Addresses.{Begins, Means}
 use Rattle.tc_program.specs.Placed.{value_at, plain, filled, HoldsFrom, StandsAt}
 use Rattle.tc_program.specs.Laws.{AreAssembled}
-use Rattle.tc_asm.proofs.ListItems.{IsIn, get_front, get_behind, map_get, map_take, filter_in, find_at, flat_parted}
+use Rattle.tc_stmt.proofs.ListItems.{IsIn, get_front, get_behind, map_get, map_take, filter_in, find_at, flat_parted}
 use Rattle.tc_asm.proofs.SourceParts.{sections_are, part_bytes, part_is, have}
 use Rattle.tc_program.proofs.Sections.{object_at}
 use Rattle.tc_asm.proofs.Uses.{HasField, HaveFields, use_at, uses_from}
@@ -203,14 +203,14 @@ module _ (sources : List (List ℕ)) (objects : List ObjectData) (layout : Layou
     done = record { name = q.name; bytes = section_bytes s (filled_from globals own (draft_in source).symbols s 0 (statements_in source)) }
 
     abbrev before : List SectionData
-    before = flat_map (relocated globals) (take number (placed_of layout objects)) ++ take s (relocated globals own)
+    before = flat_map (relocated_sections globals) (take number (placed_of layout objects)) ++ take s (relocated_sections globals own)
 
     abbrev after : List SectionData
-    after = drop (suc s) (relocated globals own) ++ flat_map (relocated globals) (drop (suc number) (placed_of layout objects))
+    after = drop (suc s) (relocated_sections globals own) ++ flat_map (relocated_sections globals) (drop (suc number) (placed_of layout objects))
 
     parted : contents ≡ before ++ done ∷ after
     unfolding contents_of
-    parted = flat_parted (relocated globals) (placed_of layout objects) number own s done own_there (final source (source_good source) rules globals own refl s q is_part)
+    parted = flat_parted (relocated_sections globals) (placed_of layout objects) number own s done own_there (final source (source_good source) rules globals own refl s q is_part)
 
     section_there : slice_get (map section_of (draft_in source).parts) s ≡ Some (section_of q)
     section_there = map_get section_of (draft_in source).parts s q is_part
@@ -230,27 +230,27 @@ module _ (sources : List (List ℕ)) (objects : List ObjectData) (layout : Layou
 
     earlier : map shape_of before ≡ map shape_of (placing.sections_of (take number objects) ++ take s object.sections)
     earlier =
-        map-append shape_of (flat_map (relocated globals) (take number (placed_of layout objects))) (take s (relocated globals own))
-        ∙ ap (λ (l : List PlacedData). map shape_of (flat_map (relocated globals) l) ++ map shape_of (take s (relocated globals own))) (placed_take layout.places [] objects number)
-        ∙ ap (λ (l : List Shape). l ++ map shape_of (take s (relocated globals own)))
+        map-append shape_of (flat_map (relocated_sections globals) (take number (placed_of layout objects))) (take s (relocated_sections globals own))
+        ∙ ap (λ (l : List PlacedData). map shape_of (flat_map (relocated_sections globals) l) ++ map shape_of (take s (relocated_sections globals own))) (placed_take layout.places [] objects number)
+        ∙ ap (λ (l : List Shape). l ++ map shape_of (take s (relocated_sections globals own)))
         (contents_shapes globals layout.places [] (take number objects) (objects_good (take number sources) (take number objects) (assembled_take sources objects number are)))
         ∙ ap (λ (l : List Shape). map shape_of (placing.sections_of (take number objects)) ++ l)
-        (map_take shape_of (relocated globals own) s ∙ ap (take s) (relocated_shapes globals own (object_good sources objects are number object object_there)) ∙ sym (map_take shape_of object.sections s))
+        (map_take shape_of (relocated_sections globals own) s ∙ ap (take s) (relocated_shapes globals own (object_good sources objects are number object object_there)) ∙ sym (map_take shape_of object.sections s))
         ∙ sym (map-append shape_of (placing.sections_of (take number objects)) (take s object.sections))
 
     base_is : slice_index bases s ≡ placed.0.at + length stood.front
     base_is =
         base_at layout.places (placing.sections_of (take number objects)) object.sections s (section_of q) section_there
-        ∙ ap (λ (o : Option PlaceData). option_map_or (λ p. p.at + rounded (taken q.name (placing.sections_of (take number objects) ++ take s object.sections))) o 0) placed.1
-        ∙ ap (λ n. placed.0.at + rounded n) (sym (taken-shapes q.name before (placing.sections_of (take number objects) ++ take s object.sections) earlier))
+        ∙ ap (λ (o : Option PlaceData). option_map_or (λ p. p.at + round_up (taken_bytes q.name (placing.sections_of (take number objects) ++ take s object.sections))) o 0) placed.1
+        ∙ ap (λ n. placed.0.at + round_up n) (sym (taken-shapes q.name before (placing.sections_of (take number objects) ++ take s object.sections) earlier))
         ∙ ap (λ n. placed.0.at + n) (sym stood.place)
 
     -- the segment of the section's place has its bytes
-    in_segment : (m b : ℕ) → slice_get done.bytes m ≡ Some b → slice_get (joined placed.0.section contents) (length stood.front + m) ≡ Some b
+    in_segment : (m b : ℕ) → slice_get done.bytes m ≡ Some b → slice_get (joined_sections placed.0.section contents) (length stood.front + m) ≡ Some b
     in_segment m b h =
         let f = find_at (λ (p : PlaceData). bytes_eq q.name p.section) layout.places placed.0 placed.1 in
-        ap (λ (n : List ℕ). slice_get (joined n contents) (length stood.front + m)) (sym ((bytes_eq-Decides q.name placed.0.section).0 f.holds))
-        ∙ ap (λ (cs : List SectionData). slice_get (joined q.name cs) (length stood.front + m)) parted
+        ap (λ (n : List ℕ). slice_get (joined_sections n contents) (length stood.front + m)) (sym ((bytes_eq-Decides q.name placed.0.section).0 f.holds))
+        ∙ ap (λ (cs : List SectionData). slice_get (joined_sections q.name cs) (length stood.front + m)) parted
         ∙ ap (λ (bs : List ℕ). slice_get bs (length stood.front + m)) stood.is
         ∙ get_behind stood.front (done.bytes ++ stood.rest) (length stood.front + m) m refl
         ∙ get_front done.bytes stood.rest m b h
@@ -259,9 +259,9 @@ module _ (sources : List (List ℕ)) (objects : List ObjectData) (layout : Layou
     unfolding segments_of
     segment_there m b h =
         let f = find_at (λ (p : PlaceData). bytes_eq q.name p.section) layout.places placed.0 placed.1 in
-        let within = slice_get_within (joined placed.0.section contents) (length stood.front + m) b (in_segment m b h) in
+        let within = slice_get_within (joined_sections placed.0.section contents) (length stood.front + m) b (in_segment m b h) in
         filter_in (λ (x : SegmentData). nat_lt 0 (length x.bytes)) (map (segment_of contents) layout.places) f.at (segment_of contents placed.0)
-        (map_get (segment_of contents) layout.places f.at placed.0 f.is_item) (lt-ltb 0 (length (joined placed.0.section contents)) (omega arith))
+        (map_get (segment_of contents) layout.places f.at placed.0 f.is_item) (lt-ltb 0 (length (joined_sections placed.0.section contents)) (omega arith))
 
     byte_there : (m b : ℕ) → slice_get done.bytes m ≡ Some b → image_byte image (slice_index bases s + m) ≡ Some b
     byte_there m b h =
@@ -276,8 +276,8 @@ module _ (sources : List (List ℕ)) (objects : List ObjectData) (layout : Layou
     small_there m b h =
         let i = segment_there m b h in
         let base = base_is in
-        let within = slice_get_within (joined placed.0.section contents) (length stood.front + m) b (in_segment m b h) in
-        let small = leb-true (placed.0.at + length (joined placed.0.section contents)) (2 ^ 32)
+        let within = slice_get_within (joined_sections placed.0.section contents) (length stood.front + m) b (in_segment m b h) in
+        let small = leb-true (placed.0.at + length (joined_sections placed.0.section contents)) (2 ^ 32)
         (and_parts _ _ (one_passes is_segment (segments_of layout.places contents) i.at (segment_of contents placed.0) limits.segments i.is)).1 in
         omega arith
 

@@ -9,17 +9,17 @@ use Rattle.std.proofs.lemmas.List.Folds.{find-append}
 use Rattle.std.proofs.lemmas.List.Sums.{sum_by-cons, sum_by-append}
 use Rattle.tc_object.specs.Objects.{SectionData, ObjectData}
 use Rattle.tc_object.specs.Objects as object
-use Rattle.tc_asm.specs.declared.entries.Place.{Place}
-use Rattle.tc_asm.specs.declared.entries.Entry.{Entry}
+use Rattle.tc_asm.specs.declared.symbols.Place.{Place}
+use Rattle.tc_asm.specs.declared.symbols.Entry.{Entry}
 use Rattle.tc_asm.specs.Symbols.{SymbolData, place_in}
 use Rattle.tc_asm.specs.Kept.{IsDraft}
 use Rattle.tc_asm.specs.Objects.{symbol_at, symbol_of, object_of}
 use Rattle.tc_link.specs.Layouts.{PlaceData}
-use Rattle.tc_link.specs.Linked.{Refusal, missing, first_at, named, globals_named, is_used, missing_of, missing_in, no_place_in, symbols_of}
+use Rattle.tc_link.specs.Linked.{Refusal, missing, first_at, has_global_name, globals_named, is_used, missing_of, missing_in, no_place_in, symbols_of}
 use Rattle.tc_link.specs.Placing.{GlobalData, placed_after, bases_after, is_global, global_data, globals_of, global_address, address_in, symbol_address}
 use Rattle.tc_asm.specs.Contents.{draft_in, symbols_in}
 use Rattle.tc_program.specs.Addresses.{Means, own, other}
-use Rattle.tc_asm.proofs.ListItems.{map_get}
+use Rattle.tc_stmt.proofs.ListItems.{map_get}
 use Rattle.tc_program.proofs.Bases.{none_at}
 use Rattle.tc_program.proofs.Sections.{AreObjects, object_at}
 use Rattle.tc_program.proofs.Names.{entry_at, label_at, global_at, bases}
@@ -32,16 +32,16 @@ or_none (Some x) b e = cc
 abbrev is_named : List ℕ → GlobalData → Bool
 is_named name x = bytes_eq name x.name
 
-none_in : (name b : List ℕ) (ss : List object.SymbolData) → find (is_named name) (map (global_data b) (filter is_global ss)) ≡ None → count_by (named name) ss ≡ 0
+none_in : (name b : List ℕ) (ss : List object.SymbolData) → find (is_named name) (map (global_data b) (filter is_global ss)) ≡ None → count_by (has_global_name name) ss ≡ 0
 none_in name b [] e = refl
-none_in name b (s ∷ ss) e = sum_by-cons (λ x. cond (named name x) 1 0) s ss ∙ by (is_global s) e (none_in name b ss)
+none_in name b (s ∷ ss) e = sum_by-cons (λ x. cond (has_global_name name x) 1 0) s ss ∙ by (is_global s) e (none_in name b ss)
   where
     by : (g : Bool) → find (is_named name) (map (global_data b) (cond g (s ∷ filter is_global ss) (filter is_global ss))) ≡ None
-        → (find (is_named name) (map (global_data b) (filter is_global ss)) ≡ None → count_by (named name) ss ≡ 0) → cond (g && bytes_eq name s.name) 1 0 + count_by (named name) ss ≡ 0
+        → (find (is_named name) (map (global_data b) (filter is_global ss)) ≡ None → count_by (has_global_name name) ss ≡ 0) → cond (g && bytes_eq name s.name) 1 0 + count_by (has_global_name name) ss ≡ 0
     by false f rec = let z = rec f in omega arith
     by true f rec = by_name (bytes_eq name s.name) f
       where
-        by_name : (t : Bool) → cond t (Some (global_data b s)) (find (is_named name) (map (global_data b) (filter is_global ss))) ≡ None → cond t 1 0 + count_by (named name) ss ≡ 0
+        by_name : (t : Bool) → cond t (Some (global_data b s)) (find (is_named name) (map (global_data b) (filter is_global ss))) ≡ None → cond t 1 0 + count_by (has_global_name name) ss ≡ 0
         by_name true h = cc
         by_name false h = let z = rec h in omega arith
 
@@ -54,7 +54,7 @@ none_all name places before (o ∷ os) e =
     let parts = or_none (find (is_named name) first) (find (is_named name) rest) (sym (find-append (is_named name) first rest) ∙ e) in
     let here = none_in name (bases_after places before o.sections) o.symbols parts.0 in
     let more = none_all name places (before ++ o.sections) os parts.1 in
-    sum_by-append (λ x. cond (named name x) 1 0) o.symbols (symbols_of os) ∙ omega arith
+    sum_by-append (λ x. cond (has_global_name name x) 1 0) o.symbols (symbols_of os) ∙ omega arith
 
 unused : (a b c : Bool) (r : Refusal) → then_some (a && b && c) r ≡ None → a ≡ true → b ≡ true → c ≡ false
 unused true true true r e h k = cc

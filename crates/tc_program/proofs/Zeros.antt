@@ -7,13 +7,13 @@ use Rattle.std.proofs.lemmas.List.{length-append}
 use Rattle.std.proofs.lemmas.Slice.Eq.{bytes_eq-Decides}
 use Rattle.elf_image.specs.Images.{SegmentData, ImageData, byte_in, image_byte}
 use Rattle.tc_object.specs.Objects.{SectionData, ObjectData}
-use Rattle.tc_asm.specs.Lines.{lines_in}
+use Rattle.tc_stmt.specs.Lines.{lines_in}
 use Rattle.tc_asm.specs.Sources.{symbols_of}
 use Rattle.tc_asm.specs.Objects.{section_of}
 use Rattle.tc_asm.specs.Statements.{StatementData, section_bytes, offset_of}
 use Rattle.tc_asm.proofs.LaidLaws.{drafted-bytes}
 use Rattle.tc_link.specs.Layouts.{PlaceData, LayoutData, IsLayout}
-use Rattle.tc_link.specs.Placing.{rounded, taken, place_of, globals_of}
+use Rattle.tc_link.specs.Placing.{round_up, taken_bytes, place_of, globals_of}
 use Rattle.tc_link.specs.Relocated.{segment_of, segments_of}
 use Rattle.tc_link.specs.Linked.{placed_of, contents_of}
 use Rattle.tc_link.specs.Shapes.{shape_of}
@@ -22,7 +22,7 @@ use Rattle.tc_asm.specs.Contents.{draft_in, statements_in, sections_in}
 use Rattle.tc_program.specs.Addresses.{sections_of, Begins}
 use Rattle.tc_program.specs.Placed.{IsCovered}
 use Rattle.tc_program.specs.Laws.{AreAssembled}
-use Rattle.tc_asm.proofs.ListItems.{FlatAt, flat_at, map_at, filter_at}
+use Rattle.tc_stmt.proofs.ListItems.{FlatAt, flat_at, map_at, filter_at}
 use Rattle.tc_asm.proofs.SourceParts.{sections_are, part_bytes}
 use Rattle.tc_program.proofs.Sections.{all_sections}
 use Rattle.tc_program.proofs.Image.{InSection, joined_byte, in_shaped, byte_from, place_alone}
@@ -74,7 +74,7 @@ section_is source s x e =
 -- ---- the bytes of places
 module _ (sources : List (List ℕ)) (layout : LayoutData) (good : IsLayout layout) where
   -- an address in a section that goes to a place is in a statement
-  in_statement : (place : PlaceData) (i q : ℕ) → slice_get layout.places i ≡ Some place → place.at ≤ q → InSection place.section (sections_of sources) (λ before. rounded (taken place.section before)) (q - place.at) → IsCovered layout.places sources q
+  in_statement : (place : PlaceData) (i q : ℕ) → slice_get layout.places i ≡ Some place → place.at ≤ q → InSection place.section (sections_of sources) (λ before. round_up (taken_bytes place.section before)) (q - place.at) → IsCovered layout.places sources q
   in_statement place i q is_place above h = by (flat_at sections_in sources h.at h.section h.is_section)
     where
       name : place.section ≡ h.section.name
@@ -83,14 +83,14 @@ module _ (sources : List (List ℕ)) (layout : LayoutData) (good : IsLayout layo
       by : FlatAt (List ℕ) SectionData sections_in sources h.at h.section → IsCovered layout.places sources q
       by f =
           let behind : List SectionData = sections_of (take f.outer sources) ++ take f.inner (sections_in f.item) in
-          let start : ℕ = place.at + rounded (taken h.section.name (sections_of (take f.outer sources) ++ take f.inner (sections_in f.item))) in
-          let same : rounded (taken place.section (take h.at (sections_of sources))) ≡ rounded (taken h.section.name (sections_of (take f.outer sources) ++ take f.inner (sections_in f.item)))
-          = ap (λ (l : List SectionData). rounded (taken place.section l)) f.front ∙ ap (λ (n : List ℕ). rounded (taken n (sections_of (take f.outer sources) ++ take f.inner (sections_in f.item)))) name in
+          let start : ℕ = place.at + round_up (taken_bytes h.section.name (sections_of (take f.outer sources) ++ take f.inner (sections_in f.item))) in
+          let same : round_up (taken_bytes place.section (take h.at (sections_of sources))) ≡ round_up (taken_bytes h.section.name (sections_of (take f.outer sources) ++ take f.inner (sections_in f.item)))
+          = ap (λ (l : List SectionData). round_up (taken_bytes place.section l)) f.front ∙ ap (λ (n : List ℕ). round_up (taken_bytes n (sections_of (take f.outer sources) ++ take f.inner (sections_in f.item)))) name in
           inside f start refl same (covering f.inner (statements_in f.item) (q - start) (within f start refl same))
         where
           within : (f : FlatAt (List ℕ) SectionData sections_in sources h.at h.section) (start : ℕ)
-              → start ≡ place.at + rounded (taken h.section.name (sections_of (take f.outer sources) ++ take f.inner (sections_in f.item)))
-              → rounded (taken place.section (take h.at (sections_of sources))) ≡ rounded (taken h.section.name (sections_of (take f.outer sources) ++ take f.inner (sections_in f.item)))
+              → start ≡ place.at + round_up (taken_bytes h.section.name (sections_of (take f.outer sources) ++ take f.inner (sections_in f.item)))
+              → round_up (taken_bytes place.section (take h.at (sections_of sources))) ≡ round_up (taken_bytes h.section.name (sections_of (take f.outer sources) ++ take f.inner (sections_in f.item)))
               → q - start < length (section_bytes f.inner (statements_in f.item))
           within f start is same =
               let low = h.low in
@@ -99,8 +99,8 @@ module _ (sources : List (List ℕ)) (layout : LayoutData) (good : IsLayout layo
               omega arith
 
           inside : (f : FlatAt (List ℕ) SectionData sections_in sources h.at h.section) (start : ℕ)
-              → start ≡ place.at + rounded (taken h.section.name (sections_of (take f.outer sources) ++ take f.inner (sections_in f.item)))
-              → rounded (taken place.section (take h.at (sections_of sources))) ≡ rounded (taken h.section.name (sections_of (take f.outer sources) ++ take f.inner (sections_in f.item)))
+              → start ≡ place.at + round_up (taken_bytes h.section.name (sections_of (take f.outer sources) ++ take f.inner (sections_in f.item)))
+              → round_up (taken_bytes place.section (take h.at (sections_of sources))) ≡ round_up (taken_bytes h.section.name (sections_of (take f.outer sources) ++ take f.inner (sections_in f.item)))
               → Covering f.inner (statements_in f.item) (q - start) → IsCovered layout.places sources q
           inside f start is same c =
               let first = h.low in
@@ -151,6 +151,6 @@ module _ (sources : List (List ℕ)) (layout : LayoutData) (good : IsLayout layo
         by m.item f.at m.is_item above
         (joined_byte m.item.section contents (q - m.item.at) b (ap (λ (s : SegmentData). slice_get s.bytes (q - s.at)) m.is ∙ i.byte))
       where
-        by : (place : PlaceData) (k : ℕ) → slice_get layout.places k ≡ Some place → place.at ≤ q → (b ≡ 0) ⊎ InSection place.section contents (λ before. rounded (taken place.section before)) (q - place.at) → IsCovered layout.places sources q ⊎ (b ≡ 0)
+        by : (place : PlaceData) (k : ℕ) → slice_get layout.places k ≡ Some place → place.at ≤ q → (b ≡ 0) ⊎ InSection place.section contents (λ before. round_up (taken_bytes place.section before)) (q - place.at) → IsCovered layout.places sources q ⊎ (b ≡ 0)
         by place k is above (inl z) = inr z
         by place k is above (inr h) = inl (in_statement place k q is above (in_shaped place.section contents (sections_of sources) (q - place.at) shapes h))

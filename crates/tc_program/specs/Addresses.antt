@@ -2,11 +2,11 @@
 use Rattle.std.specs.Prelude.{◌≡◌, ◌+◌, ◌%◌, ◌^◌, ℕ, true, List, ◌++◌, take, slice_get, Some, None}
 use Rattle.std.specs.List.{flat_map}
 use Rattle.tc_object.specs.Objects.{SectionData}
-use Rattle.tc_asm.specs.declared.entries.Place.{Place}
+use Rattle.tc_asm.specs.declared.symbols.Place.{Place}
 use Rattle.tc_asm.specs.Symbols.{entry_of, place_in}
 use Rattle.tc_asm.specs.Contents.{symbols_in, sections_in}
 use Rattle.tc_link.specs.Layouts.{PlaceData}
-use Rattle.tc_link.specs.Placing.{rounded, taken, place_of}
+use Rattle.tc_link.specs.Placing.{round_up, taken_bytes, place_of}
 
 -- the sections of sources, one source after another
 abbrev pub sections_of : List (List ℕ) → List SectionData
@@ -21,7 +21,7 @@ pub record Begins (places : List PlaceData) (sources : List (List ℕ)) (number 
   pub is_section : slice_get (sections_in source) section ≡ Some data_of
   pub place : PlaceData
   pub is_place : place_of places data_of.name ≡ Some place
-  pub is : base ≡ place.at + rounded (taken data_of.name (sections_of (take number sources) ++ take section (sections_in source)))
+  pub is : base ≡ place.at + round_up (taken_bytes data_of.name (sections_of (take number sources) ++ take section (sections_in source)))
 
 -- a label of a source stands at an address
 pub record HasLabel (places : List PlaceData) (sources : List (List ℕ)) (number : ℕ) (name : List ℕ) (address : ℕ) : Type 0 where

@@ -7,16 +7,16 @@ use Rattle.tc_isa.specs.Codec.{Fits, spelling}
 use Rattle.tc_isa.specs.Relocations.{is_reloc}
 use Rattle.tc_reloc.specs.Fields.{room_of}
 use Rattle.tc_reloc.specs.Applied.{with_field}
-use Rattle.tc_stmt.specs.Filling.{ReferenceData}
+use Rattle.tc_stmt.specs.RowFields.{ReferenceData}
 use Rattle.tc_object.specs.Objects.{ObjectData}
-use Rattle.tc_asm.specs.Lines.{lines_in}
+use Rattle.tc_stmt.specs.Lines.{lines_in}
 use Rattle.tc_asm.specs.Sources.{symbols_of, KeepsRules}
 use Rattle.tc_asm.specs.Objects.{object_of}
 use Rattle.tc_asm.specs.Statements.{StatementData, offset_of}
 use Rattle.tc_asm.specs.Spelled.{Spells, displacement}
 use Rattle.tc_asm.specs.Contents.{draft_in, symbols_in, statements_in}
 use Rattle.tc_link.specs.Layouts.{PlaceData, LayoutData, IsLayout}
-use Rattle.tc_link.specs.Linked.{linked}
+use Rattle.tc_link.specs.Linked.{image_of_objects}
 use Rattle.tc_program.specs.Addresses.{sections_of, Begins, HasGlobal, Means}
 use Rattle.tc_program.specs.Placed.{value_at, span_of, place_span, Placed}
 
@@ -29,17 +29,17 @@ AreAssembled (x ∷ xs) (o ∷ os) = (KeepsRules (lines_in x) (length (lines_in 
 
 -- where such objects are linked, each place with bytes is one segment
 abbrev pub SegmentsLaw : Type 0
-SegmentsLaw = (sources : List (List ℕ)) (objects : List ObjectData) (layout : LayoutData) (image : ImageData) → AreAssembled sources objects → linked objects layout ≡ Ok image
+SegmentsLaw = (sources : List (List ℕ)) (objects : List ObjectData) (layout : LayoutData) (image : ImageData) → AreAssembled sources objects → image_of_objects objects layout ≡ Ok image
     → map span_of image.segments ≡ filter (λ s. nat_lt 0 s.size) (map (place_span (sections_of sources)) layout.places)
 
 -- and the entry is the address of the layout's entry symbol
 abbrev pub EntryLaw : Type 0
-EntryLaw = (sources : List (List ℕ)) (objects : List ObjectData) (layout : LayoutData) (image : ImageData) → AreAssembled sources objects → linked objects layout ≡ Ok image
+EntryLaw = (sources : List (List ℕ)) (objects : List ObjectData) (layout : LayoutData) (image : ImageData) → AreAssembled sources objects → image_of_objects objects layout ≡ Ok image
     → HasGlobal layout.places sources layout.entry image.entry
 
 -- where they are linked by a layout, the image is the sources'
 abbrev pub PlacedLaw : Type 0
-PlacedLaw = (sources : List (List ℕ)) (objects : List ObjectData) (layout : LayoutData) (image : ImageData) → IsLayout layout → AreAssembled sources objects → linked objects layout ≡ Ok image
+PlacedLaw = (sources : List (List ℕ)) (objects : List ObjectData) (layout : LayoutData) (image : ImageData) → IsLayout layout → AreAssembled sources objects → image_of_objects objects layout ≡ Ok image
     → Placed sources layout image
 
 -- the symbols by which a source's jumps of 16 bits are resolved are those that all its lines put together

@@ -5,13 +5,13 @@ use Rattle.tc_isa.specs.Relocations.{is_reloc}
 use Rattle.tc_reloc.specs.Refusals.{refusal_of}
 use Rattle.tc_reloc.specs.Fields.{content_of}
 use Rattle.tc_reloc.specs.Applied.{with_field}
-use Rattle.tc_stmt.specs.Filling.{ReferenceData}
+use Rattle.tc_stmt.specs.RowFields.{ReferenceData}
 use Rattle.tc_object.specs.Objects.{SectionData}
 use Rattle.tc_asm.specs.Objects.{addend_of}
 use Rattle.tc_asm.specs.Statements.{StatementData, offset_of}
 use Rattle.tc_asm.specs.Contents.{statements_in, is_open}
 use Rattle.tc_link.specs.Layouts.{PlaceData, LayoutData}
-use Rattle.tc_link.specs.Placing.{taken}
+use Rattle.tc_link.specs.Placing.{taken_bytes}
 use Rattle.tc_program.specs.Addresses.{sections_of, Begins, HasGlobal, Means}
 
 -- ---- bytes
@@ -65,7 +65,7 @@ span_of s = record { at = s.at; size = length s.bytes }
 
 -- where a place of a layout begins, and how many bytes the sections of its name take there
 abbrev pub place_span : List SectionData → PlaceData → SpanData
-place_span sections p = record { at = p.at; size = taken p.section sections }
+place_span sections p = record { at = p.at; size = taken_bytes p.section sections }
 
 -- The image is the sources' by the layout: each place with bytes is one segment at its address, in the layout's order; each
 -- statement with bytes stands there, its symbols replaced by their addresses; all other bytes are 0; and the entry is the

@@ -11,7 +11,7 @@ use Rattle.tc_isa.specs.declared.table.Form.TheVariants.{Rlc, Rr, Rc, Bol, Bo, B
 use Rattle.tc_isa.specs.Rows.{RowData, listed}
 use Rattle.tc_isa.specs.Words.{IsBelow, bounds, second_bound, word}
 use Rattle.tc_isa.specs.declared.fields.Uses.{Uses}
-use Rattle.tc_isa.specs.Codec.{uses_of, rest_is_zero, Fits, IsRow, is_long, four_bytes, spelled, spelling, word_of}
+use Rattle.tc_isa.specs.Codec.{uses_of, rest_is_zero, Fits, IsRow, is_long, four_bytes, spelling_of, spelling, word_of}
 use Rattle.tc_isa.proofs.TableFacts.{row_at}
 use Rattle.tc_reloc.specs.Fields.{room_of, spread_of, rest_of}
 use Rattle.tc_reloc.specs.Applied.{with_field}
@@ -144,10 +144,10 @@ pub filled_row : (row : RowData) (f : Fields) (kind n : ℕ) → IsRow row → F
 filled_row row f kind n is fit long suited room =
     let first = is.first in
     let less : row.op1 < 2 ^ 8 = omega arith in
-    ap (λ b. with_field kind (spelled b (word_of row f)) n) long
+    ap (λ b. with_field kind (spelling_of b (word_of row f)) n) long
     ∙ filled_bytes kind (word_of row f) (word_of row (record f { k = n })) n (filled_word row.form kind row.op1 row.op2 n f suited less is.second fit.below)
     (room_below row.form kind row.op1 row.op2 n f suited less is.second fit.below room)
-    ∙ ap (λ b. spelled b (word_of row (record f { k = n }))) (sym long)
+    ∙ ap (λ b. spelling_of b (word_of row (record f { k = n }))) (sym long)
 
 -- every row of these forms has a constant
 abbrev takes_field : Form → Bool

@@ -1,51 +1,52 @@
 -- What a relocation writes, and into which bits of the little-endian word. Where the fields stand: TriCore 1 architecture
 -- manual, volume 2, instruction formats.
 use Rattle.std.specs.Prelude.{◌+◌, ◌*◌, ◌/◌, ◌%◌, ◌^◌, ◌==◌, ◌||◌, if◌then◌else◌, ℕ}
+use Rattle.tc_isa.specs.Relocations.{rel24, abs24, rel15, hi16, lo16, offset16, word32}
 use Rattle.tc_reloc.specs.Refusals.{distance}
 
 -- the number in the field
 unfoldable pub content_of : ℕ → ℕ → ℕ → ℕ
 content_of kind place value =
     -- the displacement in halfwords, of 24 bits
-    if kind == 1 then distance place value / 2 % 2 ^ 24
+    if kind == rel24 then distance place value / 2 % 2 ^ 24
     -- bits 31:28 and 20:1 of the address
-    else if kind == 2 then value / 2 ^ 28 * 2 ^ 20 + value / 2 % 2 ^ 20
+    else if kind == abs24 then value / 2 ^ 28 * 2 ^ 20 + value / 2 % 2 ^ 20
     -- the displacement in halfwords, of 15 bits
-    else if kind == 3 then distance place value / 2 % 2 ^ 15
+    else if kind == rel15 then distance place value / 2 % 2 ^ 15
     -- the upper half, one more where the lower half is negative as a signed number
-    else if kind == 4 then (value + 0x8000) / 2 ^ 16 % 2 ^ 16
+    else if kind == hi16 then (value + 0x8000) / 2 ^ 16 % 2 ^ 16
     -- the lower half
-    else if kind == 5 || kind == 6 then value % 2 ^ 16
+    else if kind == lo16 || kind == offset16 then value % 2 ^ 16
     -- the whole word
     else value
 
 -- the numbers that the field can hold are those below this
 unfoldable pub room_of : ℕ → ℕ
 room_of kind =
-    if kind == 1 || kind == 2 then 2 ^ 24
-    else if kind == 3 then 2 ^ 15
-    else if kind == 7 then 2 ^ 32
+    if kind == rel24 || kind == abs24 then 2 ^ 24
+    else if kind == rel15 then 2 ^ 15
+    else if kind == word32 then 2 ^ 32
     else 2 ^ 16
 
 -- a number in the field, and zeros elsewhere
 unfoldable pub spread_of : ℕ → ℕ → ℕ
 spread_of kind k =
     -- form B: k[15:0] in 31:16, k[23:16] in 15:8
-    if kind == 1 || kind == 2 then k / 2 ^ 16 * 2 ^ 8 + k % 2 ^ 16 * 2 ^ 16
+    if kind == rel24 || kind == abs24 then k / 2 ^ 16 * 2 ^ 8 + k % 2 ^ 16 * 2 ^ 16
     -- forms BRR and BRC: k in 30:16
-    else if kind == 3 then k * 2 ^ 16
+    else if kind == rel15 then k * 2 ^ 16
     -- form RLC: k in 27:12
-    else if kind == 4 || kind == 5 then k * 2 ^ 12
+    else if kind == hi16 || kind == lo16 then k * 2 ^ 12
     -- form BOL: k[9:6] in 31:28, k[15:10] in 27:22, k[5:0] in 21:16
-    else if kind == 6 then k % 2 ^ 6 * 2 ^ 16 + k / 2 ^ 10 * 2 ^ 22 + k / 2 ^ 6 % 2 ^ 4 * 2 ^ 28
+    else if kind == offset16 then k % 2 ^ 6 * 2 ^ 16 + k / 2 ^ 10 * 2 ^ 22 + k / 2 ^ 6 % 2 ^ 4 * 2 ^ 28
     -- four bytes
     else k
 
 -- the word with zeros in the field
 unfoldable pub rest_of : ℕ → ℕ → ℕ
 rest_of kind w =
-    if kind == 1 || kind == 2 then w % 2 ^ 8
-    else if kind == 3 then w % 2 ^ 16 + w / 2 ^ 31 * 2 ^ 31
-    else if kind == 4 || kind == 5 then w % 2 ^ 12 + w / 2 ^ 28 * 2 ^ 28
-    else if kind == 6 then w % 2 ^ 16
+    if kind == rel24 || kind == abs24 then w % 2 ^ 8
+    else if kind == rel15 then w % 2 ^ 16 + w / 2 ^ 31 * 2 ^ 31
+    else if kind == hi16 || kind == lo16 then w % 2 ^ 12 + w / 2 ^ 28 * 2 ^ 28
+    else if kind == offset16 then w % 2 ^ 16
     else 0

@@ -1,15 +1,16 @@
 -- What a written field means: the instruction that holds it reaches the value.
 use Rattle.std.specs.Prelude.{◌+◌, ◌*◌, ◌/◌, ◌%◌, ◌^◌, ◌==◌, ◌||◌, if◌then◌else◌, ℕ}
+use Rattle.tc_isa.specs.Relocations.{rel24, abs24, rel15, hi16, lo16, offset16}
 use Rattle.tcd_base.specs.Fields.{sext_of}
 use Rattle.tc_reloc.specs.Fields.{content_of}
 
 -- the number in the field of a word
 unfoldable pub held_of : ℕ → ℕ → ℕ
 held_of kind w =
-    if kind == 1 || kind == 2 then w / 2 ^ 16 + w / 2 ^ 8 % 2 ^ 8 * 2 ^ 16
-    else if kind == 3 then w / 2 ^ 16 % 2 ^ 15
-    else if kind == 4 || kind == 5 then w / 2 ^ 12 % 2 ^ 16
-    else if kind == 6 then w / 2 ^ 16 % 2 ^ 6 + w / 2 ^ 28 * 2 ^ 6 + w / 2 ^ 22 % 2 ^ 6 * 2 ^ 10
+    if kind == rel24 || kind == abs24 then w / 2 ^ 16 + w / 2 ^ 8 % 2 ^ 8 * 2 ^ 16
+    else if kind == rel15 then w / 2 ^ 16 % 2 ^ 15
+    else if kind == hi16 || kind == lo16 then w / 2 ^ 12 % 2 ^ 16
+    else if kind == offset16 then w / 2 ^ 16 % 2 ^ 6 + w / 2 ^ 28 * 2 ^ 6 + w / 2 ^ 22 % 2 ^ 6 * 2 ^ 10
     else w
 
 -- an upper half, to which a lower half is added with its sign
@@ -21,9 +22,9 @@ sum_of_halves upper lower = (upper * 2 ^ 16 + sext_of lower 16) % 2 ^ 32
 -- volume 2: CALL and J, CALLA and JA, JEQ and its like, MOVH.A with LEA or ADDI)
 unfoldable pub reached_by : ℕ → ℕ → ℕ → ℕ → ℕ
 reached_by kind place value k =
-    if kind == 1 then (place + sext_of k 24 * 2) % 2 ^ 32
-    else if kind == 2 then k / 2 ^ 20 * 2 ^ 28 + k % 2 ^ 20 * 2
-    else if kind == 3 then (place + sext_of k 15 * 2) % 2 ^ 32
-    else if kind == 4 then sum_of_halves k (content_of 5 place value)
-    else if kind == 5 || kind == 6 then sum_of_halves (content_of 4 place value) k
+    if kind == rel24 then (place + sext_of k 24 * 2) % 2 ^ 32
+    else if kind == abs24 then k / 2 ^ 20 * 2 ^ 28 + k % 2 ^ 20 * 2
+    else if kind == rel15 then (place + sext_of k 15 * 2) % 2 ^ 32
+    else if kind == hi16 then sum_of_halves k (content_of lo16 place value)
+    else if kind == lo16 || kind == offset16 then sum_of_halves (content_of hi16 place value) k
     else k

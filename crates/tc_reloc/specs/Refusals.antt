@@ -1,5 +1,6 @@
 -- When a value can't be written.
 use Rattle.std.specs.Prelude.{◌+◌, ◌-◌, ◌/◌, ◌%◌, ◌^◌, ◌==◌, ◌&&◌, ◌||◌, not, nat_lt, nat_le, if◌then◌else◌, ℕ, Bool, Option, Some, None}
+use Rattle.tc_isa.specs.Relocations.{rel24, rel15, abs24}
 use Rattle.tc_reloc.specs.declared.refusals.RelocErr.{RelocErr}
 use Rattle.tc_reloc.specs.declared.refusals.RelocErr.TheVariants.{Odd, FarOff, Segment}
 
@@ -13,15 +14,15 @@ is_near bits d = nat_lt d (2 ^ bits) || nat_le (2 ^ 32 - 2 ^ bits) d
 
 -- kinds 1 and 3 jump over an even distance, kind 2 to an even address
 abbrev pub is_odd : ℕ → ℕ → ℕ → Bool
-is_odd kind place value = ((kind == 1 || kind == 3) && distance place value % 2 == 1) || (kind == 2 && value % 2 == 1)
+is_odd kind place value = ((kind == rel24 || kind == rel15) && distance place value % 2 == 1) || (kind == abs24 && value % 2 == 1)
 
 -- a displacement has 24 bits in kind 1, 15 bits in kind 3
 abbrev pub is_far : ℕ → ℕ → ℕ → Bool
-is_far kind place value = (kind == 1 && not (is_near 24 (distance place value))) || (kind == 3 && not (is_near 15 (distance place value)))
+is_far kind place value = (kind == rel24 && not (is_near 24 (distance place value))) || (kind == rel15 && not (is_near 15 (distance place value)))
 
 -- an absolute jump reaches the first 2^21 bytes of each segment of 2^28: bits 27:21 are zero
 abbrev pub is_outside : ℕ → ℕ → Bool
-is_outside kind value = kind == 2 && nat_lt 0 (value / 2 ^ 21 % 2 ^ 7)
+is_outside kind value = kind == abs24 && nat_lt 0 (value / 2 ^ 21 % 2 ^ 7)
 
 -- the first of these that is so
 unfoldable pub refusal_of : ℕ → ℕ → ℕ → Option RelocErr

@@ -18,8 +18,10 @@ pub fn apply(kind: u8, field: [u8; 4], place: u32, value: u32) -> Result<[u8; 4]
 
     // The field holds the number that reaches the value, and all bits outside of it stay.
     ensures held { IfOk result (λ new. held_of kind (word_at new 0) ≡ content_of kind place value) }
-    ensures reached { OnOk result (reached_by kind place value (content_of kind place value) ≡ value) }
-    ensures rest { IfOk result (λ new. rest_of kind (word_at new 0) ≡ rest_of kind (word_at field 0)) }
+    ensures reached { OnOk result
+        (reached_by kind place value (content_of kind place value) ≡ value) }
+    ensures rest { IfOk result
+        (λ new. rest_of kind (word_at new 0) ≡ rest_of kind (word_at field 0)) }
 {
     if let Some(err) = refusal(kind, place, value) {
         return Err(err);

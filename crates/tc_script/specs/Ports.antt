@@ -1,6 +1,6 @@
 -- What answers for the devices.
 use Rattle.std.specs.Prelude.{ℕ, ◌+◌, ◌^◌, ◌<◌, ◌≤◌, ◌&&◌, nat_le, Bool, List, All}
-use Rattle.tcd_base.specs.declared.types.Range.{Range}
+use Rattle.tcd_base.specs.declared.range.Range.{Range}
 use Rattle.tcd_plan.specs.declared.plans.Device.{Device}
 use Rattle.tcd_base.specs.Ranges.{IsWithin}
 

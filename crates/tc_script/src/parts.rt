@@ -13,7 +13,8 @@ fn place(text: &[u8], at: u8) -> Option<usize>
 
 /// What stands in front of the first such byte, and what stands behind it, where there is one.
 pub(crate) fn cut(text: &[u8], at: u8) -> (&[u8], Option<&[u8]>)
-    ensures parts { slice_split (λ b. b == at) text.now ≡ result.0.now ∷ parts_in (λ b. b == at) result.1 }
+    ensures parts { slice_split (λ b. b == at) text.now
+        ≡ result.0.now ∷ parts_in (λ b. b == at) result.1 }
     ensures shorter { bytes_in result.1 ≤ length text.now }
 {
     match place(text, at) {

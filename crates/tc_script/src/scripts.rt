@@ -66,7 +66,8 @@ impl Script {
     /// after another and over again.
     pub fn answer(&self, device: usize, at: u32) -> u32
         requires { device < length self.now.bounds }
-        ensures { option_map (λ b. answer_of b at) (slice_get self.now.bounds device) ≡ Some result }
+        ensures { option_map (λ b. answer_of b at) (slice_get self.now.bounds device)
+            ≡ Some result }
     {
         answer(self.bounds.as_slice()[device], at)
     }

@@ -3,37 +3,37 @@ use Rattle.std.proofs.Common.{◌≡◌, ◌<◌, ◌≤◌, ◌+◌, ◌≢◌,
 use Rattle.std.specs.Prelude.{option_and_then}
 use Rattle.std.proofs.lemmas.List.{drop_more, drop_all, length-map, get_or-map}
 use Rattle.tc_isa.specs.Rows.{RowData}
-use Rattle.tc_stmt.specs.declared.wanting.Want.{Want}
-use Rattle.tc_stmt.specs.declared.values.Operand.{Operand}
-use Rattle.tc_stmt.specs.Operands.{OperandData, operand_of}
-use Rattle.tc_stmt.specs.Filling.{FoundData, fill, fill_all}
+use Rattle.tc_stmt.specs.declared.want.Want.{Want}
+use Rattle.tc_lex.specs.declared.operand.Operand.{Operand}
+use Rattle.tc_lex.specs.Operands.{OperandData, operand_of}
+use Rattle.tc_stmt.specs.RowFields.{RowFieldsData, fill, fill_all}
 
-none_of : (next : FoundData → Option FoundData) → ((f : FoundData) → next f ≡ None) → (found : Option FoundData) → option_and_then next found ≡ None
+none_of : (next : RowFieldsData → Option RowFieldsData) → ((f : RowFieldsData) → next f ≡ None) → (found : Option RowFieldsData) → option_and_then next found ≡ None
 none_of next none None = refl
 none_of next none (Some f) = none f
 
 -- other numbers of operands never fit
-pub fill_all-uneven : (r : RowData) (ws : List Want) (os : List OperandData) (acc : FoundData) → length ws ≢ length os → fill_all r ws os acc ≡ None
+pub fill_all-uneven : (r : RowData) (ws : List Want) (os : List OperandData) (acc : RowFieldsData) → length ws ≢ length os → fill_all r ws os acc ≡ None
 unfolding fill_all
 fill_all-uneven r [] [] acc h = absurd (h refl)
 fill_all-uneven r [] (o ∷ os) acc h = refl
 fill_all-uneven r (w ∷ ws) [] acc h = refl
 fill_all-uneven r (w ∷ ws) (o ∷ os) acc h = none_of (fill_all r ws os) (λ f. fill_all-uneven r ws os f (λ e. h (ap suc e))) (fill r w o acc)
 
-pub fill_all-drop : (r : RowData) (ws : List Want) (os : List OperandData) (i : ℕ) (w : Want) (o : OperandData) (acc : FoundData) → i < length ws → i < length os
+pub fill_all-drop : (r : RowData) (ws : List Want) (os : List OperandData) (i : ℕ) (w : Want) (o : OperandData) (acc : RowFieldsData) → i < length ws → i < length os
     → fill_all r (drop i ws) (drop i os) acc ≡ option_and_then (fill_all r (drop (i + 1) ws) (drop (i + 1) os)) (fill r (get_or ws i w) (get_or os i o) acc)
 unfolding fill_all
 fill_all-drop r ws os i w o acc h k =
     ap (λ (vs : List Want). fill_all r vs (drop i os) acc) (drop_more ws i w h)
     ∙ ap (λ (ps : List OperandData). fill_all r (get_or ws i w ∷ drop (i + 1) ws) ps acc) (drop_more os i o k)
 
-pub fill_all-end : (r : RowData) (ws : List Want) (os : List OperandData) (i : ℕ) (acc : FoundData) → length ws ≤ i → length os ≤ i → fill_all r (drop i ws) (drop i os) acc ≡ Some acc
+pub fill_all-end : (r : RowData) (ws : List Want) (os : List OperandData) (i : ℕ) (acc : RowFieldsData) → length ws ≤ i → length os ≤ i → fill_all r (drop i ws) (drop i os) acc ≡ Some acc
 unfolding fill_all
 fill_all-end r ws os i acc h k =
     ap (λ (vs : List Want). fill_all r vs (drop i os) acc) (drop_all i ws h)
     ∙ ap (λ (ps : List OperandData). fill_all r [] ps acc) (drop_all i os k)
 
-pub fill_step : (r : RowData) (ws : List Want) (os : List Operand) (i : ℕ) (w : Want) (o : Operand) (acc : FoundData) (found : Option FoundData)
+pub fill_step : (r : RowData) (ws : List Want) (os : List Operand) (i : ℕ) (w : Want) (o : Operand) (acc : RowFieldsData) (found : Option RowFieldsData)
     → found ≡ fill r (get_or ws i w) (operand_of (get_or os i o)) acc → i < length ws → length ws ≡ length os
     → fill_all r (drop i ws) (drop i (map operand_of os)) acc ≡ option_and_then (fill_all r (drop (i + 1) ws) (drop (i + 1) (map operand_of os))) found
 fill_step r ws os i w o acc found e h even =

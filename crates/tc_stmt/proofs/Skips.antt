@@ -8,10 +8,10 @@ use Rattle.std.proofs.lemmas.List.{drop-drop, length-map, get_or-map}
 use Rattle.std.proofs.lemmas.Slice.Eq.{bytes_eq-Decides}
 use Rattle.tc_isa.specs.declared.table.Row.{Row}
 use Rattle.tc_isa.specs.Rows.{RowData, row_of}
-use Rattle.tc_stmt.specs.declared.tallying.Tally.{Tally}
-use Rattle.tc_stmt.specs.Operands.{OperandData}
-use Rattle.tc_stmt.specs.Judging.{stepped, outcome, followed}
-use Rattle.tc_stmt.specs.Skipping.{none_begins, are_next, are_first}
+use Rattle.tc_stmt.specs.declared.tally.Tally.{Tally}
+use Rattle.tc_lex.specs.Operands.{OperandData}
+use Rattle.tc_stmt.specs.StatementRow.{after_row, outcome, or_next}
+use Rattle.tc_stmt.specs.RowIndex.{none_begins, are_next, are_first}
 
 -- names that begin otherwise differ
 other_name : (xs ys : List ℕ) → not (get_or xs 0 0 == get_or ys 0 0) ≡ true → bytes_eq xs ys ≡ false
@@ -26,8 +26,8 @@ other_name xs ys h = by (bytes_eq xs ys) refl
         cc
 
 -- a row of another name changes nothing
-other_row : (name : List ℕ) (os : List OperandData) (r : RowData) (t : Tally) → not (get_or r.name 0 0 == get_or name 0 0) ≡ true → stepped name os r t ≡ Err t
-unfolding stepped
+other_row : (name : List ℕ) (os : List OperandData) (r : RowData) (t : Tally) → not (get_or r.name 0 0 == get_or name 0 0) ≡ true → after_row name os r t ≡ Err t
+unfolding after_row
 other_row name os r t h = rw (other_name r.name name h) refl
 
 skip : (name : List ℕ) (os : List OperandData) (n : ℕ) (rs : List RowData) (k : ℕ) (t : Tally) → none_begins n (get_or name 0 0) rs ≡ true → outcome name os rs k t ≡ outcome name os (drop n rs) (k + n) t
@@ -36,7 +36,7 @@ skip name os zero rs k t h = ap (λ i. outcome name os rs i t) (omega arith)
 skip name os (suc n) [] k t h = refl
 skip name os (suc n) (r ∷ rs) k t h =
     let parts = and_parts (not (get_or r.name 0 0 == get_or name 0 0)) (none_begins n (get_or name 0 0) rs) h in
-    ap (λ q. followed q k (outcome name os rs (k + 1))) (other_row name os r t parts.0)
+    ap (λ q. or_next q k (outcome name os rs (k + 1))) (other_row name os r t parts.0)
     ∙ skip name os n rs (k + 1) t parts.1
     ∙ ap (λ i. outcome name os (drop n rs) i t) (omega arith)
 

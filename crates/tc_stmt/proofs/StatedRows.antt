@@ -13,19 +13,19 @@ use Rattle.tc_isa.specs.Rows.{RowData, listed}
 use Rattle.tc_isa.specs.Words.{IsBelow, bounds, form_index}
 use Rattle.tc_isa.specs.Codec.{IsRow, uses_of, rest_is_zero, is_apart, is_long}
 use Rattle.tc_isa.proofs.TableFacts.{row_at}
-use Rattle.tc_stmt.specs.declared.values.Shape.{Shape}
-use Rattle.tc_stmt.specs.declared.values.Shape.TheVariants as shape
-use Rattle.tc_stmt.specs.declared.wanting.Field.{Field}
-use Rattle.tc_stmt.specs.declared.wanting.Field.TheVariants.{C, S1, S2, N, K}
-use Rattle.tc_stmt.specs.declared.wanting.Want.{Want}
-use Rattle.tc_stmt.specs.declared.wanting.Want.TheVariants.{Reg, A10, Number, Target, Absolute, Memory}
-use Rattle.tc_stmt.specs.declared.tallying.Tally.{Tally}
+use Rattle.tc_lex.specs.declared.operand.Shape.{Shape}
+use Rattle.tc_lex.specs.declared.operand.Shape.TheVariants as shape
+use Rattle.tc_stmt.specs.declared.want.Field.{Field}
+use Rattle.tc_stmt.specs.declared.want.Field.TheVariants.{C, S1, S2, N, K}
+use Rattle.tc_stmt.specs.declared.want.Want.{Want}
+use Rattle.tc_stmt.specs.declared.want.Want.TheVariants.{Reg, A10, Number, Target, Absolute, Memory}
+use Rattle.tc_stmt.specs.declared.tally.Tally.{Tally}
 use Rattle.tc_stmt.specs.Names.{is_name}
-use Rattle.tc_stmt.specs.Operands.{ValueData, OperandData}
+use Rattle.tc_lex.specs.Operands.{ValueData, OperandData}
 use Rattle.tc_stmt.specs.Wants.{want_of, wants_of}
-use Rattle.tc_stmt.specs.Filling.{ReferenceData, FoundData, nothing, broken, set_field, field_of, put, shape_index, register_of, put_register, fits, wrapped, put_number, symbol_rule, reference, with_symbol, half_kind, is_symbol, is_half, fill_value, fill_memory, is_far, is_odd, displacement_rule, displaced, target_kind, fill_target, put_absolute, fill_absolute, fill_register, fill_a10, fill_plain, fill, fill_all, apart, judged}
-use Rattle.tc_stmt.specs.Judging.{stepped, outcome, followed, rule_of, statement}
-use Rattle.tc_stmt.specs.Judging as judging
+use Rattle.tc_stmt.specs.RowFields.{ReferenceData, RowFieldsData, no_fields, with_rule, set_field, field_of, with_value, shape_index, register_of, put_register, fits, wrap, put_number, symbol_rule, reference, with_symbol, half_kind, is_symbol, is_half, fill_value, fill_memory, is_far, is_odd, displacement_rule, with_displacement, target_kind, fill_target, put_absolute, fill_absolute, fill_register, fill_a10, fill_plain, fill, fill_all, kept_apart, fields_of_row}
+use Rattle.tc_stmt.specs.StatementRow.{after_row, outcome, or_next, rule_of, statement}
+use Rattle.tc_stmt.specs.StatementRow as judging
 use Rattle.tc_isa.specs.Relocations.{is_reloc, fills}
 use Rattle.tc_stmt.specs.Stated.{is_short_jump, TakesSymbol, Symbols, Stated, IsStated, StatedLaw}
 use Rattle.tc_stmt.proofs.Cases.{by_test, one_passes}
@@ -64,21 +64,21 @@ row_suit : (k : ℕ) (r : RowData) → slice_get listed k ≡ Some r → (list_a
 row_suit k r at = and_parts (list_all (suits r) (wants_of r)) (halves_long r) (one_passes row_suits listed k r all_suit at)
 
 -- ---- what a row has so far
-pub record Sound (r : RowData) (f : FoundData) : Type 0 where
+pub record Sound (r : RowData) (f : RowFieldsData) : Type 0 where
   pub below : IsBelow f.fields (bounds r.form)
   pub zero : rest_is_zero (uses_of r) f.fields ≡ true
   pub symbols : Symbols r f.reference
 
-record IfSound (r : RowData) (o : Option FoundData) : Type 0 where
-  some : (f : FoundData) → o ≡ Some f → Sound r f
+record IfSound (r : RowData) (o : Option RowFieldsData) : Type 0 where
+  some : (f : RowFieldsData) → o ≡ Some f → Sound r f
 
-sound_some : (r : RowData) (f : FoundData) → Sound r f → IfSound r (Some f)
+sound_some : (r : RowData) (f : RowFieldsData) → Sound r f → IfSound r (Some f)
 sound_some r f s = record { some = λ g e. let same : f ≡ g = cc in subst (Sound r) same s }
 
 sound_none : (r : RowData) → IfSound r None
 sound_none r = record { some = λ g e. cc }
 
-sound_broken : (r : RowData) (n : ℕ) (f : FoundData) → Sound r f → Sound r (broken n f)
+sound_broken : (r : RowData) (n : ℕ) (f : RowFieldsData) → Sound r f → Sound r (with_rule n f)
 sound_broken r n f s = record { below = s.below; zero = s.zero; symbols = s.symbols }
 
 -- ---- one field
@@ -124,7 +124,7 @@ below_put S2 b f v h s = record { c = s.c; s1 = s.s1; s2 = byte_below v b.s2 h; 
 below_put N b f v h s = record { c = s.c; s1 = s.s1; s2 = s.s2; n = byte_below v b.n h; k = s.k }
 below_put K b f v h s = record { c = s.c; s1 = s.s1; s2 = s.s2; n = s.n; k = h }
 
-sound_put : (r : RowData) (field : Field) (v : ℕ) (f : FoundData) → is_used field (uses_of r) ≡ true → v < field_of field (bounds r.form) → Sound r f → Sound r (put field v f)
+sound_put : (r : RowData) (field : Field) (v : ℕ) (f : RowFieldsData) → is_used field (uses_of r) ≡ true → v < field_of field (bounds r.form) → Sound r f → Sound r (with_value field v f)
 sound_put r field v f used less s = record {
   below = below_put field (bounds r.form) f.fields v less s.below;
   zero = zero_put field (uses_of r) f.fields v used s.zero;
@@ -139,7 +139,7 @@ more_than_none S2 b f s = let h = s.s2 in omega arith
 more_than_none N b f s = let h = s.n in omega arith
 more_than_none K b f s = let h = s.k in omega arith
 
-wrapped_below : (bound : ℕ) (minus : Bool) (size : ℕ) → 0 < bound → (minus ≡ false → size < bound) → wrapped bound minus size < bound
+wrapped_below : (bound : ℕ) (minus : Bool) (size : ℕ) → 0 < bound → (minus ≡ false → size < bound) → wrap bound minus size < bound
 wrapped_below bound false size p h = h refl
 wrapped_below bound true zero p h = p
 wrapped_below bound true (suc n) p h = rw (eqb-suc-zero n) (omega arith)
@@ -150,17 +150,17 @@ unfolding fits
 fits_plus true bound size e = let h = ltb-true size (bound / 2) e in omega arith
 fits_plus false bound size e = ltb-true size bound e
 
-sound_number : (r : RowData) (signed : Bool) (field : Field) (minus : Bool) (size : ℕ) (f : FoundData) → is_used field (uses_of r) ≡ true → Sound r f → Sound r (put_number r.form signed field minus size f)
+sound_number : (r : RowData) (signed : Bool) (field : Field) (minus : Bool) (size : ℕ) (f : RowFieldsData) → is_used field (uses_of r) ≡ true → Sound r f → Sound r (put_number r.form signed field minus size f)
 unfolding put_number
 sound_number r signed field minus size f used s =
     let bound : ℕ = field_of field (bounds r.form) in
     by_test (Sound r) (fits signed (field_of field (bounds r.form)) minus size) _ _
-    (λ b. sound_put r field (wrapped (field_of field (bounds r.form)) minus size) f used
+    (λ b. sound_put r field (wrap (field_of field (bounds r.form)) minus size) f used
     (wrapped_below (field_of field (bounds r.form)) minus size (more_than_none field (bounds r.form) f.fields s.below)
     (λ e. fits_plus signed (field_of field (bounds r.form)) size (ap (λ m. fits signed (field_of field (bounds r.form)) m size) (sym e) ∙ b))) s)
     (λ b. sound_broken r 5 f s)
 
-sound_register : (r : RowData) (bank : Bool) (field : Field) (name : List ℕ) (f : FoundData) → is_used field (uses_of r) ≡ true → nat_le 16 (field_of field (bounds r.form)) ≡ true → Sound r f → Sound r (put_register bank field name f)
+sound_register : (r : RowData) (bank : Bool) (field : Field) (name : List ℕ) (f : RowFieldsData) → is_used field (uses_of r) ≡ true → nat_le 16 (field_of field (bounds r.form)) ≡ true → Sound r f → Sound r (put_register bank field name f)
 unfolding put_register
 sound_register r bank field name f used wide s =
     let bound = leb-true 16 (field_of field (bounds r.form)) wide in
@@ -181,7 +181,7 @@ symbol_named v e = by (v.wide || nat_le (2 ^ 32) v.size) (is_name v.name) e
     by false true e = refl
     by false false e = cc
 
-sound_symbol : (r : RowData) (kind : ℕ) (v : ValueData) (f : FoundData) → (is_reloc kind ≡ true → (is_long r ≡ true) × (fills r.form kind ≡ true)) → (kind ≡ 0 → ((uses_of r).k ≡ true) × (is_short_jump r.form ≡ true)) → Sound r f → Sound r (with_symbol kind v f)
+sound_symbol : (r : RowData) (kind : ℕ) (v : ValueData) (f : RowFieldsData) → (is_reloc kind ≡ true → (is_long r ≡ true) × (fills r.form kind ≡ true)) → (kind ≡ 0 → ((uses_of r).k ≡ true) × (is_short_jump r.form ≡ true)) → Sound r f → Sound r (with_symbol kind v f)
 unfolding with_symbol
 sound_symbol r kind v f long target s =
     by_test (Sound r) (symbol_rule v == 15) _ _
@@ -210,7 +210,7 @@ half_long r shape.Bad all half some = cc
 half_long r shape.Huge all half some = cc
 
 -- ---- values at their places
-sound_value : (r : RowData) (signed : Bool) (field : Field) (v : ValueData) (f : FoundData) → halves_long r ≡ true → is_used field (uses_of r) ≡ true → Sound r f → IfSound r (fill_value r signed field v f)
+sound_value : (r : RowData) (signed : Bool) (field : Field) (v : ValueData) (f : RowFieldsData) → halves_long r ≡ true → is_used field (uses_of r) ≡ true → Sound r f → IfSound r (fill_value r signed field v f)
 unfolding fill_value
 sound_value r signed field v f halves used s =
     by_test (IfSound r) (shape_index v.shape == 1) _ _ (λ e. sound_some r _ (sound_number r signed field v.minus v.size f used s))
@@ -221,7 +221,7 @@ sound_value r signed field v f halves used s =
     (λ some. sound_some r _ (sound_symbol r (half_kind r v.shape) v f (λ k. half_long r v.shape halves half some) (λ z. absurd (never (half_kind r v.shape) z some)) s)))
     (λ e. sound_none r))))
 
-sound_memory : (r : RowData) (plus offset : Bool) (o : OperandData) (f : FoundData) → halves_long r ≡ true → suits r (Memory plus offset) ≡ true → Sound r f → IfSound r (fill_memory r plus offset o f)
+sound_memory : (r : RowData) (plus offset : Bool) (o : OperandData) (f : RowFieldsData) → halves_long r ≡ true → suits r (Memory plus offset) ≡ true → Sound r f → IfSound r (fill_memory r plus offset o f)
 unfolding fill_memory field_of
 sound_memory r plus offset o f halves suit s =
     let p = and_parts ((uses_of r).s2 && nat_le 16 (bounds r.form).s2) (not offset || (uses_of r).k) suit in
@@ -252,12 +252,12 @@ near r size e some = by_form (form_index r.form == 13) (bounds r.form).k some (b
     by_form true bound some e = let h = ltb-false (2 * (bound - 1)) size e in omega arith
     by_form false bound some e = let h = ltb-false (bound - 2) size e in omega arith
 
-pub sound_displaced : (r : RowData) (minus : Bool) (size : ℕ) (f : FoundData) → (uses_of r).k ≡ true → Sound r f → Sound r (displaced r minus size f)
-unfolding displaced field_of
+pub sound_displaced : (r : RowData) (minus : Bool) (size : ℕ) (f : RowFieldsData) → (uses_of r).k ≡ true → Sound r f → Sound r (with_displacement r minus size f)
+unfolding with_displacement field_of
 sound_displaced r minus size f used s =
     let some : 0 < (bounds r.form).k = more_than_none K (bounds r.form) f.fields s.below in
     by_test (Sound r) (displacement_rule r minus size == 15) _ _
-    (λ b. sound_put r K (wrapped (bounds r.form).k minus (size / 2)) f used (wrapped_below (bounds r.form).k minus (size / 2) some (λ e. near r size (ap (λ m. displacement_rule r m size == 15) (sym e) ∙ b) some)) s)
+    (λ b. sound_put r K (wrap (bounds r.form).k minus (size / 2)) f used (wrapped_below (bounds r.form).k minus (size / 2) some (λ e. near r size (ap (λ m. displacement_rule r m size == 15) (sym e) ∙ b) some)) s)
     (λ b. sound_broken r (displacement_rule r minus size) f s)
 
 is_target : (r : RowData) → is_reloc (target_kind r) ≡ true → is_long r ≡ true
@@ -285,7 +285,7 @@ target_short r fit e = by (is_long r) (form_index r.form == 7) (fills r.form (ta
     by true false c z h = absurd (omega arith)
     by false b c z h = h
 
-sound_target : (r : RowData) (v : ValueData) (f : FoundData) → suits r Target ≡ true → Sound r f → IfSound r (fill_target r v f)
+sound_target : (r : RowData) (v : ValueData) (f : RowFieldsData) → suits r Target ≡ true → Sound r f → IfSound r (fill_target r v f)
 unfolding fill_target
 sound_target r v f suit s =
     let used = (and_parts (uses_of r).k (cond (is_long r) (fills r.form (target_kind r)) (is_short_jump r.form)) suit).0 in
@@ -305,7 +305,7 @@ high_segment size bound h room = omega arith
 jump_segment : (size bound : ℕ) → size < 2 ^ 32 → 2 ^ 24 ≤ bound → size / 2 ^ 28 * 2 ^ 20 + size % 2 ^ 21 / 2 < bound
 jump_segment size bound h room = omega arith
 
-sound_address : (r : RowData) (minus : Bool) (size : ℕ) (f : FoundData) → (uses_of r).k ≡ true → nat_le (cond (form_index r.form == 8) (2 ^ 18) (2 ^ 24)) (bounds r.form).k ≡ true → Sound r f → Sound r (put_absolute r.form minus size f)
+sound_address : (r : RowData) (minus : Bool) (size : ℕ) (f : RowFieldsData) → (uses_of r).k ≡ true → nat_le (cond (form_index r.form == 8) (2 ^ 18) (2 ^ 24)) (bounds r.form).k ≡ true → Sound r f → Sound r (put_absolute r.form minus size f)
 unfolding put_absolute field_of
 sound_address r minus size f used room s =
     by_test (Sound r) ((minus && not (size == 0)) || nat_le (2 ^ 32) size) _ _ (λ e. sound_broken r 5 f s)
@@ -318,7 +318,7 @@ sound_address r minus size f used room s =
     (λ e. sound_put r K (size / 2 ^ 28 * 2 ^ 20 + size % 2 ^ 21 / 2) f used (jump_segment size (bounds r.form).k small (leb-true (2 ^ 24) (bounds r.form).k (ap (λ b. nat_le (cond b (2 ^ 18) (2 ^ 24)) (bounds r.form).k) (sym form) ∙ room))) s)
     (λ e. sound_broken r 5 f s)))
 
-sound_absolute : (r : RowData) (v : ValueData) (f : FoundData) → suits r Absolute ≡ true → Sound r f → IfSound r (fill_absolute r v f)
+sound_absolute : (r : RowData) (v : ValueData) (f : RowFieldsData) → suits r Absolute ≡ true → Sound r f → IfSound r (fill_absolute r v f)
 unfolding fill_absolute
 sound_absolute r v f suit s =
     let p = and_parts _ _ suit in
@@ -331,7 +331,7 @@ sound_absolute r v f suit s =
     (λ e. by_test (IfSound r) (is_half (shape_index v.shape)) _ _ (λ e. sound_some r _ (sound_broken r _ f s)) (λ e. sound_none r))))
 
 -- ---- operands
-sound_fill : (r : RowData) (w : Want) (o : OperandData) (f : FoundData) → halves_long r ≡ true → suits r w ≡ true → Sound r f → IfSound r (fill r w o f)
+sound_fill : (r : RowData) (w : Want) (o : OperandData) (f : RowFieldsData) → halves_long r ≡ true → suits r w ≡ true → Sound r f → IfSound r (fill r w o f)
 unfolding fill fill_plain fill_register fill_a10
 sound_fill r (Reg bank field) o f halves suit s =
     let p = and_parts (is_used field (uses_of r)) (nat_le 16 (field_of field (bounds r.form))) suit in
@@ -345,11 +345,11 @@ sound_fill r Target o f halves suit s = by_test (IfSound r) o.is_memory _ _ (λ 
 sound_fill r Absolute o f halves suit s = by_test (IfSound r) o.is_memory _ _ (λ e. sound_none r) (λ e. sound_absolute r o.value f suit s)
 sound_fill r (Memory plus offset) o f halves suit s = sound_memory r plus offset o f halves suit s
 
-sound_then : (r : RowData) (next : FoundData → Option FoundData) (o : Option FoundData) → IfSound r o → ((f : FoundData) → Sound r f → IfSound r (next f)) → IfSound r (option_and_then next o)
+sound_then : (r : RowData) (next : RowFieldsData → Option RowFieldsData) (o : Option RowFieldsData) → IfSound r o → ((f : RowFieldsData) → Sound r f → IfSound r (next f)) → IfSound r (option_and_then next o)
 sound_then r next None h more = sound_none r
 sound_then r next (Some f) h more = more f (h.some f refl)
 
-sound_all : (r : RowData) (ws : List Want) (os : List OperandData) (f : FoundData) → halves_long r ≡ true → list_all (suits r) ws ≡ true → Sound r f → IfSound r (fill_all r ws os f)
+sound_all : (r : RowData) (ws : List Want) (os : List OperandData) (f : RowFieldsData) → halves_long r ≡ true → list_all (suits r) ws ≡ true → Sound r f → IfSound r (fill_all r ws os f)
 unfolding fill_all
 sound_all r [] [] f halves all s = sound_some r f s
 sound_all r [] (o ∷ os) f halves all s = sound_none r
@@ -358,7 +358,7 @@ sound_all r (w ∷ ws) (o ∷ os) f halves all s =
     let p = and_parts (suits r w) (list_all (suits r) ws) all in
     sound_then r (fill_all r ws os) (fill r w o f) (sound_fill r w o f halves p.0 s) (λ g t. sound_all r ws os g halves p.1 t)
 
-sound_nothing : (r : RowData) → IsRow r → Sound r nothing
+sound_nothing : (r : RowData) → IsRow r → Sound r no_fields
 sound_nothing r row = record {
   below = let b = row.has_least.below in
       let c = b.c in
@@ -379,68 +379,68 @@ sound_nothing r row = record {
     zeros a b c d e = rw (or_true a, or_true b, or_true c, or_true d, or_true e) refl
 
 -- ---- a statement
-sound_apart : (r : RowData) (g f : FoundData) → Sound r g → apart r g ≡ f → f.rule ≡ 15 → Stated r f
+sound_apart : (r : RowData) (g f : RowFieldsData) → Sound r g → kept_apart r g ≡ f → f.rule ≡ 15 → Stated r f
 sound_apart r g f s e rule = by (is_apart r g.fields) refl e
   where
-    by : (b : Bool) → is_apart r g.fields ≡ b → cond b g (broken 12 g) ≡ f → Stated r f
+    by : (b : Bool) → is_apart r g.fields ≡ b → cond b g (with_rule 12 g) ≡ f → Stated r f
     by true is e = subst (Stated r) e (record { fits = record { below = s.below; zero = s.zero; apart = is }; symbols = s.symbols })
-    by false is e = let least : min g.rule 12 ≡ 15 = ap (λ (x : FoundData). x.rule) e ∙ rule in absurd (omega arith)
+    by false is e = let least : min g.rule 12 ≡ 15 = ap (λ (x : RowFieldsData). x.rule) e ∙ rule in absurd (omega arith)
 
-sound_judged : (k : ℕ) (r : RowData) (os : List OperandData) (f : FoundData) → slice_get listed k ≡ Some r → judged r (wants_of r) os ≡ Some f → f.rule ≡ 15 → Stated r f
-unfolding judged
+sound_judged : (k : ℕ) (r : RowData) (os : List OperandData) (f : RowFieldsData) → slice_get listed k ≡ Some r → fields_of_row r (wants_of r) os ≡ Some f → f.rule ≡ 15 → Stated r f
+unfolding fields_of_row
 sound_judged k r os f at e rule =
     let suit = row_suit k r at in
-    by (fill_all r (wants_of r) os nothing) (sound_all r (wants_of r) os nothing suit.1 suit.0 (sound_nothing r (row_at k r at))) e
+    by (fill_all r (wants_of r) os no_fields) (sound_all r (wants_of r) os no_fields suit.1 suit.0 (sound_nothing r (row_at k r at))) e
   where
-    by : (o : Option FoundData) → IfSound r o → option_and_then (λ g. Some (apart r g)) o ≡ Some f → Stated r f
+    by : (o : Option RowFieldsData) → IfSound r o → option_and_then (λ g. Some (kept_apart r g)) o ≡ Some f → Stated r f
     by None h e = cc
-    by (Some g) h e = let same : apart r g ≡ f = cc in sound_apart r g f (h.some g refl) same rule
+    by (Some g) h e = let same : kept_apart r g ≡ f = cc in sound_apart r g f (h.some g refl) same rule
 
 -- the row that a statement is
-record Chosen (os : List OperandData) (rows : List RowData) (place k : ℕ) (f : FoundData) : Type 0 where
+record Chosen (os : List OperandData) (rows : List RowData) (place k : ℕ) (f : RowFieldsData) : Type 0 where
   at : ℕ
   row : RowData
   is_row : slice_get rows at ≡ Some row
   number : k ≡ place + at
-  is : judged row (wants_of row) os ≡ Some f
+  is : fields_of_row row (wants_of row) os ≡ Some f
   rule : f.rule ≡ 15
 
-stepped_ok : (name : List ℕ) (os : List OperandData) (r : RowData) (t : Tally) (f : FoundData) → stepped name os r t ≡ Ok f → (judged r (wants_of r) os ≡ Some f) × (f.rule ≡ 15)
-unfolding stepped
-stepped_ok name os r t f e = by (bytes_eq r.name name) (judged r (wants_of r) os) refl e
+stepped_ok : (name : List ℕ) (os : List OperandData) (r : RowData) (t : Tally) (f : RowFieldsData) → after_row name os r t ≡ Ok f → (fields_of_row r (wants_of r) os ≡ Some f) × (f.rule ≡ 15)
+unfolding after_row
+stepped_ok name os r t f e = by (bytes_eq r.name name) (fields_of_row r (wants_of r) os) refl e
   where
-    by_rule : (g : FoundData) (b : Bool) → (g.rule == 15) ≡ b → judged r (wants_of r) os ≡ Some g → cond {A = Result FoundData Tally} b (Ok g) (Err (record { named = true; fits = true; least = min t.least g.rule })) ≡ Ok f → (judged r (wants_of r) os ≡ Some f) × (f.rule ≡ 15)
+    by_rule : (g : RowFieldsData) (b : Bool) → (g.rule == 15) ≡ b → fields_of_row r (wants_of r) os ≡ Some g → cond {A = Result RowFieldsData Tally} b (Ok g) (Err (record { named = true; fits = true; least = min t.least g.rule })) ≡ Ok f → (fields_of_row r (wants_of r) os ≡ Some f) × (f.rule ≡ 15)
     by_rule g true rule is e =
         let same : g ≡ f = cc in
-        (is ∙ ap (λ (x : FoundData). Some x) same, ap (λ (x : FoundData). x.rule) (sym same) ∙ (Decides-eqb g.rule 15).0 rule)
+        (is ∙ ap (λ (x : RowFieldsData). Some x) same, ap (λ (x : RowFieldsData). x.rule) (sym same) ∙ (Decides-eqb g.rule 15).0 rule)
     by_rule g false rule is e = cc
 
-    by : (b : Bool) (o : Option FoundData) → judged r (wants_of r) os ≡ o
-        → cond {A = Result FoundData Tally} b (option_map_or (λ (g : FoundData). cond {A = Result FoundData Tally} (g.rule == 15) (Ok g) (Err (record { named = true; fits = true; least = min t.least g.rule }))) o (Err (record t { named = true }))) (Err t) ≡ Ok f
-        → (judged r (wants_of r) os ≡ Some f) × (f.rule ≡ 15)
+    by : (b : Bool) (o : Option RowFieldsData) → fields_of_row r (wants_of r) os ≡ o
+        → cond {A = Result RowFieldsData Tally} b (option_map_or (λ (g : RowFieldsData). cond {A = Result RowFieldsData Tally} (g.rule == 15) (Ok g) (Err (record { named = true; fits = true; least = min t.least g.rule }))) o (Err (record t { named = true }))) (Err t) ≡ Ok f
+        → (fields_of_row r (wants_of r) os ≡ Some f) × (f.rule ≡ 15)
     by false o is e = cc
     by true None is e = cc
     by true (Some g) is e = by_rule g (g.rule == 15) refl is e
 
-chosen : (name : List ℕ) (os : List OperandData) (rows : List RowData) (place : ℕ) (t : Tally) (k : ℕ) (f : FoundData) → outcome name os rows place t ≡ Ok (k, f) → Chosen os rows place k f
+chosen : (name : List ℕ) (os : List OperandData) (rows : List RowData) (place : ℕ) (t : Tally) (k : ℕ) (f : RowFieldsData) → outcome name os rows place t ≡ Ok (k, f) → Chosen os rows place k f
 unfolding outcome
 chosen name os [] place t k f e = cc
-chosen name os (r ∷ rs) place t k f e = by (stepped name os r t) refl e (λ u g. chosen name os rs (place + 1) u k f g)
+chosen name os (r ∷ rs) place t k f e = by (after_row name os r t) refl e (λ u g. chosen name os rs (place + 1) u k f g)
   where
     further : Chosen os rs (place + 1) k f → Chosen os (r ∷ rs) place k f
     further c = record { at = suc c.at; row = c.row; is_row = c.is_row; number = let n = c.number in omega arith; is = c.is; rule = c.rule }
 
-    by : (q : Result FoundData Tally) → stepped name os r t ≡ q → followed q place (outcome name os rs (place + 1)) ≡ Ok (k, f)
+    by : (q : Result RowFieldsData Tally) → after_row name os r t ≡ q → or_next q place (outcome name os rs (place + 1)) ≡ Ok (k, f)
         → ((u : Tally) → outcome name os rs (place + 1) u ≡ Ok (k, f) → Chosen os rs (place + 1) k f) → Chosen os (r ∷ rs) place k f
     by (Ok g) is e rec =
         let both : (place, g) ≡ (k, f) = cc in
-        let same : g ≡ f = ap (λ (p : ℕ × FoundData). p.1) both in
-        let number : place ≡ k = ap (λ (p : ℕ × FoundData). p.0) both in
-        let ok = stepped_ok name os r t f (is ∙ ap (λ (x : FoundData). Ok x) same) in
+        let same : g ≡ f = ap (λ (p : ℕ × RowFieldsData). p.1) both in
+        let number : place ≡ k = ap (λ (p : ℕ × RowFieldsData). p.0) both in
+        let ok = stepped_ok name os r t f (is ∙ ap (λ (x : RowFieldsData). Ok x) same) in
         record { at = 0; row = r; is_row = refl; number = omega arith; is = ok.0; rule = ok.1 }
     by (Err u) is e rec = further (rec u e)
 
-pub stated : (name : List ℕ) (os : List OperandData) (k : ℕ) (f : FoundData) → statement name os ≡ Ok (k, f) → IsStated k f
+pub stated : (name : List ℕ) (os : List OperandData) (k : ℕ) (f : RowFieldsData) → statement name os ≡ Ok (k, f) → IsStated k f
 stated name os k f e =
     let c = chosen name os listed 0 judging.start k f e in
     let same : c.at ≡ k = let n = c.number in omega arith in

@@ -8,15 +8,15 @@ use Rattle.tc_isa.specs.declared.table.Form.{Form}
 use Rattle.tc_isa.specs.Rows.{RowData, listed}
 use Rattle.tc_isa.specs.Words.{bounds, form_index}
 use Rattle.tc_isa.specs.Codec.{is_apart}
-use Rattle.tc_stmt.specs.declared.values.Shape.{Shape}
-use Rattle.tc_stmt.specs.declared.values.Shape.TheVariants as shape
-use Rattle.tc_stmt.specs.declared.wanting.Field.{Field}
-use Rattle.tc_stmt.specs.declared.wanting.Field.TheVariants.{C, S1, S2, N, K}
-use Rattle.tc_stmt.specs.declared.wanting.Want.{Want}
-use Rattle.tc_stmt.specs.declared.wanting.Want.TheVariants.{Reg, A10, Number, Target, Absolute, Memory}
-use Rattle.tc_stmt.specs.Operands.{ValueData, OperandData}
+use Rattle.tc_lex.specs.declared.operand.Shape.{Shape}
+use Rattle.tc_lex.specs.declared.operand.Shape.TheVariants as shape
+use Rattle.tc_stmt.specs.declared.want.Field.{Field}
+use Rattle.tc_stmt.specs.declared.want.Field.TheVariants.{C, S1, S2, N, K}
+use Rattle.tc_stmt.specs.declared.want.Want.{Want}
+use Rattle.tc_stmt.specs.declared.want.Want.TheVariants.{Reg, A10, Number, Target, Absolute, Memory}
+use Rattle.tc_lex.specs.Operands.{ValueData, OperandData}
 use Rattle.tc_stmt.specs.Wants.{want_of, wants_of}
-use Rattle.tc_stmt.specs.Filling.{ReferenceData, FoundData, nothing, broken, set_field, put, shape_index, register_of, put_register, field_of, fits, wrapped, put_number, symbol_rule, with_symbol, half_kind, is_symbol, is_half, fill_value, fill_memory, displacement_rule, displaced, fill_target, put_absolute, fill_absolute, fill_register, fill_a10, fill_plain, fill, fill_all, apart, judged}
+use Rattle.tc_stmt.specs.RowFields.{ReferenceData, RowFieldsData, no_fields, with_rule, set_field, with_value, shape_index, register_of, put_register, field_of, fits, wrap, put_number, symbol_rule, with_symbol, half_kind, is_symbol, is_half, fill_value, fill_memory, displacement_rule, with_displacement, fill_target, put_absolute, fill_absolute, fill_register, fill_a10, fill_plain, fill, fill_all, kept_apart, fields_of_row}
 use Rattle.tc_stmt.proofs.Cases.{by_test, one_passes}
 
 -- ---- rows
@@ -53,51 +53,51 @@ all_take = refl
 
 -- ---- what a row has so far
 -- neither a constant nor a symbol
-record IsFree (f : FoundData) : Type 0 where
+record IsFree (f : RowFieldsData) : Type 0 where
   none : f.reference ≡ None
   zero : f.fields.k ≡ 0
 
 -- no constant where there is a symbol
-pub record IsZero (f : FoundData) : Type 0 where
+pub record IsZero (f : RowFieldsData) : Type 0 where
   pub some : (s : ReferenceData) → f.reference ≡ Some s → f.fields.k ≡ 0
 
-record IsKept (f g : FoundData) : Type 0 where
+record IsKept (f g : RowFieldsData) : Type 0 where
   reference : g.reference ≡ f.reference
   constant : g.fields.k ≡ f.fields.k
 
-record IfSo (P : FoundData → Type 0) (o : Option FoundData) : Type 0 where
-  so : (f : FoundData) → o ≡ Some f → P f
+record IfSo (P : RowFieldsData → Type 0) (o : Option RowFieldsData) : Type 0 where
+  so : (f : RowFieldsData) → o ≡ Some f → P f
 
-if_some : (P : FoundData → Type 0) (f : FoundData) → P f → IfSo P (Some f)
+if_some : (P : RowFieldsData → Type 0) (f : RowFieldsData) → P f → IfSo P (Some f)
 if_some P f h = record { so = λ g e. let same : f ≡ g = cc in subst P same h }
 
-if_none : (P : FoundData → Type 0) → IfSo P None
+if_none : (P : RowFieldsData → Type 0) → IfSo P None
 if_none P = record { so = λ g e. cc }
 
-then_so : (P Q : FoundData → Type 0) (next : FoundData → Option FoundData) (o : Option FoundData) → IfSo P o → ((f : FoundData) → P f → IfSo Q (next f)) → IfSo Q (option_and_then next o)
+then_so : (P Q : RowFieldsData → Type 0) (next : RowFieldsData → Option RowFieldsData) (o : Option RowFieldsData) → IfSo P o → ((f : RowFieldsData) → P f → IfSo Q (next f)) → IfSo Q (option_and_then next o)
 then_so P Q next None h more = if_none Q
 then_so P Q next (Some f) h more = more f (h.so f refl)
 
-free_kept : (f g : FoundData) → IsFree f → IsKept f g → IsFree g
+free_kept : (f g : RowFieldsData) → IsFree f → IsKept f g → IsFree g
 free_kept f g h k = record { none = k.reference ∙ h.none; zero = k.constant ∙ h.zero }
 
-zero_kept : (f g : FoundData) → IsZero f → IsKept f g → IsZero g
+zero_kept : (f g : RowFieldsData) → IsZero f → IsKept f g → IsZero g
 zero_kept f g h k = record { some = λ s e. k.constant ∙ h.some s (sym k.reference ∙ e) }
 
-zero_free : (f : FoundData) → IsFree f → IsZero f
+zero_free : (f : RowFieldsData) → IsFree f → IsZero f
 zero_free f h = record { some = λ s e. h.zero }
 
-zero_none : (f : FoundData) → f.reference ≡ None → IsZero f
+zero_none : (f : RowFieldsData) → f.reference ≡ None → IsZero f
 zero_none f h = record { some = λ s e. cc }
 
 -- ---- operands that set neither
-kept_same : (f : FoundData) → IsKept f f
+kept_same : (f : RowFieldsData) → IsKept f f
 kept_same f = record { reference = refl; constant = refl }
 
-kept_broken : (n : ℕ) (f : FoundData) → IsKept f (broken n f)
+kept_broken : (n : ℕ) (f : RowFieldsData) → IsKept f (with_rule n f)
 kept_broken n f = record { reference = refl; constant = refl }
 
-kept_put : (field : Field) (v : ℕ) (f : FoundData) → is_constant field ≡ false → IsKept f (put field v f)
+kept_put : (field : Field) (v : ℕ) (f : RowFieldsData) → is_constant field ≡ false → IsKept f (with_value field v f)
 unfolding set_field
 kept_put C v f h = record { reference = refl; constant = refl }
 kept_put S1 v f h = record { reference = refl; constant = refl }
@@ -105,13 +105,13 @@ kept_put S2 v f h = record { reference = refl; constant = refl }
 kept_put N v f h = record { reference = refl; constant = refl }
 kept_put K v f h = cc
 
-kept_register : (bank : Bool) (field : Field) (name : List ℕ) (f : FoundData) → is_constant field ≡ false → IsKept f (put_register bank field name f)
+kept_register : (bank : Bool) (field : Field) (name : List ℕ) (f : RowFieldsData) → is_constant field ≡ false → IsKept f (put_register bank field name f)
 unfolding put_register
 kept_register bank field name f h = by_test (IsKept f) (register_of name / 16 == cond bank 1 0) _ _ (λ e. kept_put field (register_of name % 16) f h) (λ e. kept_broken 4 f)
 
-kept_number : (form : Form) (signed : Bool) (field : Field) (minus : Bool) (size : ℕ) (f : FoundData) → is_constant field ≡ false → IsKept f (put_number form signed field minus size f)
+kept_number : (form : Form) (signed : Bool) (field : Field) (minus : Bool) (size : ℕ) (f : RowFieldsData) → is_constant field ≡ false → IsKept f (put_number form signed field minus size f)
 unfolding put_number
-kept_number form signed field minus size f h = by_test (IsKept f) (fits signed (field_of field (bounds form)) minus size) _ _ (λ e. kept_put field (wrapped (field_of field (bounds form)) minus size) f h) (λ e. kept_broken 5 f)
+kept_number form signed field minus size f h = by_test (IsKept f) (fits signed (field_of field (bounds form)) minus size) _ _ (λ e. kept_put field (wrap (field_of field (bounds form)) minus size) f h) (λ e. kept_broken 5 f)
 
 no_half : (r : RowData) (s : Shape) → (half_kind r shape.High == 0 && half_kind r shape.Low == 0) ≡ true → is_half (shape_index s) ≡ true → half_kind r s == 0 ≡ true
 unfolding shape_index
@@ -129,7 +129,7 @@ neither true b e = cc
 neither false true e = (refl, refl)
 neither false false e = cc
 
-kept_value : (r : RowData) (signed : Bool) (field : Field) (v : ValueData) (f : FoundData) → takes r (Number signed field) ≡ false → IfSo (IsKept f) (fill_value r signed field v f)
+kept_value : (r : RowData) (signed : Bool) (field : Field) (v : ValueData) (f : RowFieldsData) → takes r (Number signed field) ≡ false → IfSo (IsKept f) (fill_value r signed field v f)
 unfolding fill_value
 kept_value r signed field v f h =
     let p = neither (is_constant field) (half_kind r shape.High == 0 && half_kind r shape.Low == 0) h in
@@ -144,7 +144,7 @@ kept_value r signed field v f h =
     both : (b : Bool) → b ≡ true → b ≡ false → ⊥
     both b e g = cc
 
-kept_memory : (r : RowData) (plus offset : Bool) (o : OperandData) (f : FoundData) → offset ≡ false → IfSo (IsKept f) (fill_memory r plus offset o f)
+kept_memory : (r : RowData) (plus offset : Bool) (o : OperandData) (f : RowFieldsData) → offset ≡ false → IfSo (IsKept f) (fill_memory r plus offset o f)
 unfolding fill_memory
 kept_memory r plus true o f h = cc
 kept_memory r plus false o f h =
@@ -152,7 +152,7 @@ kept_memory r plus false o f h =
     (λ e. by_test (IfSo (IsKept f)) (shape_index o.value.shape == 0) _ _ (λ e. if_some (IsKept f) _ (kept_register true S2 o.base f refl)) (λ e. if_none (IsKept f)))
     (λ e. if_none (IsKept f))
 
-kept_fill : (r : RowData) (w : Want) (o : OperandData) (f : FoundData) → takes r w ≡ false → IfSo (IsKept f) (fill r w o f)
+kept_fill : (r : RowData) (w : Want) (o : OperandData) (f : RowFieldsData) → takes r w ≡ false → IfSo (IsKept f) (fill r w o f)
 unfolding fill fill_plain fill_register fill_a10
 kept_fill r (Reg bank field) o f h =
     by_test (IfSo (IsKept f)) o.is_memory _ _ (λ e. if_none (IsKept f))
@@ -166,25 +166,25 @@ kept_fill r Absolute o f h = cc
 kept_fill r (Memory plus offset) o f h = kept_memory r plus offset o f h
 
 -- ---- operands that set one of both
-none_put : (field : Field) (v : ℕ) (f : FoundData) → IsFree f → IsZero (put field v f)
-none_put field v f h = zero_none (put field v f) h.none
+none_put : (field : Field) (v : ℕ) (f : RowFieldsData) → IsFree f → IsZero (with_value field v f)
+none_put field v f h = zero_none (with_value field v f) h.none
 
-none_broken : (n : ℕ) (f : FoundData) → IsFree f → IsZero (broken n f)
-none_broken n f h = zero_none (broken n f) h.none
+none_broken : (n : ℕ) (f : RowFieldsData) → IsFree f → IsZero (with_rule n f)
+none_broken n f h = zero_none (with_rule n f) h.none
 
-zero_symbol : (kind : ℕ) (v : ValueData) (f : FoundData) → IsFree f → IsZero (with_symbol kind v f)
+zero_symbol : (kind : ℕ) (v : ValueData) (f : RowFieldsData) → IsFree f → IsZero (with_symbol kind v f)
 unfolding with_symbol
 zero_symbol kind v f h = by_test IsZero (symbol_rule v == 15) _ _ (λ e. record { some = λ s g. h.zero }) (λ e. none_broken (symbol_rule v) f h)
 
-zero_register : (bank : Bool) (field : Field) (name : List ℕ) (f : FoundData) → IsFree f → IsZero (put_register bank field name f)
+zero_register : (bank : Bool) (field : Field) (name : List ℕ) (f : RowFieldsData) → IsFree f → IsZero (put_register bank field name f)
 unfolding put_register
 zero_register bank field name f h = by_test IsZero (register_of name / 16 == cond bank 1 0) _ _ (λ e. none_put field (register_of name % 16) f h) (λ e. none_broken 4 f h)
 
-zero_number : (form : Form) (signed : Bool) (field : Field) (minus : Bool) (size : ℕ) (f : FoundData) → IsFree f → IsZero (put_number form signed field minus size f)
+zero_number : (form : Form) (signed : Bool) (field : Field) (minus : Bool) (size : ℕ) (f : RowFieldsData) → IsFree f → IsZero (put_number form signed field minus size f)
 unfolding put_number
-zero_number form signed field minus size f h = by_test IsZero (fits signed (field_of field (bounds form)) minus size) _ _ (λ e. none_put field (wrapped (field_of field (bounds form)) minus size) f h) (λ e. none_broken 5 f h)
+zero_number form signed field minus size f h = by_test IsZero (fits signed (field_of field (bounds form)) minus size) _ _ (λ e. none_put field (wrap (field_of field (bounds form)) minus size) f h) (λ e. none_broken 5 f h)
 
-zero_value : (r : RowData) (signed : Bool) (field : Field) (v : ValueData) (f : FoundData) → IsFree f → IfSo IsZero (fill_value r signed field v f)
+zero_value : (r : RowData) (signed : Bool) (field : Field) (v : ValueData) (f : RowFieldsData) → IsFree f → IfSo IsZero (fill_value r signed field v f)
 unfolding fill_value
 zero_value r signed field v f h =
     by_test (IfSo IsZero) (shape_index v.shape == 1) _ _ (λ e. if_some IsZero _ (zero_number r.form signed field v.minus v.size f h))
@@ -194,7 +194,7 @@ zero_value r signed field v f h =
     (λ e. by_test (IfSo IsZero) (half_kind r v.shape == 0) _ _ (λ e. if_some IsZero _ (none_broken _ f h)) (λ e. if_some IsZero _ (zero_symbol (half_kind r v.shape) v f h)))
     (λ e. if_none IsZero))))
 
-zero_memory : (r : RowData) (plus offset : Bool) (o : OperandData) (f : FoundData) → IsFree f → IfSo IsZero (fill_memory r plus offset o f)
+zero_memory : (r : RowData) (plus offset : Bool) (o : OperandData) (f : RowFieldsData) → IsFree f → IfSo IsZero (fill_memory r plus offset o f)
 unfolding fill_memory
 zero_memory r plus offset o f h =
     by_test (IfSo IsZero) _ _ _
@@ -202,18 +202,18 @@ zero_memory r plus offset o f h =
     (λ e. by_test (IfSo IsZero) offset _ _ (λ e. zero_value r true K o.value (put_register true S2 o.base f) (free_kept f _ h (kept_register true S2 o.base f refl))) (λ e. if_none IsZero)))
     (λ e. if_none IsZero)
 
-zero_displaced : (r : RowData) (minus : Bool) (size : ℕ) (f : FoundData) → IsFree f → IsZero (displaced r minus size f)
-unfolding displaced
-zero_displaced r minus size f h = by_test IsZero (displacement_rule r minus size == 15) _ _ (λ e. none_put K (wrapped (bounds r.form).k minus (size / 2)) f h) (λ e. none_broken (displacement_rule r minus size) f h)
+zero_displaced : (r : RowData) (minus : Bool) (size : ℕ) (f : RowFieldsData) → IsFree f → IsZero (with_displacement r minus size f)
+unfolding with_displacement
+zero_displaced r minus size f h = by_test IsZero (displacement_rule r minus size == 15) _ _ (λ e. none_put K (wrap (bounds r.form).k minus (size / 2)) f h) (λ e. none_broken (displacement_rule r minus size) f h)
 
-zero_target : (r : RowData) (v : ValueData) (f : FoundData) → IsFree f → IfSo IsZero (fill_target r v f)
+zero_target : (r : RowData) (v : ValueData) (f : RowFieldsData) → IsFree f → IfSo IsZero (fill_target r v f)
 unfolding fill_target
 zero_target r v f h =
     by_test (IfSo IsZero) (shape_index v.shape == 3 && bytes_eq v.name (codes ".")) _ _ (λ e. if_some IsZero _ (by_test IsZero v.wide _ _ (λ e. none_broken 5 f h) (λ e. zero_displaced r v.minus v.size f h)))
     (λ e. by_test (IfSo IsZero) (is_symbol (shape_index v.shape)) _ _ (λ e. if_some IsZero _ (zero_symbol _ v f h))
     (λ e. by_test (IfSo IsZero) (is_half (shape_index v.shape)) _ _ (λ e. if_some IsZero _ (none_broken _ f h)) (λ e. if_none IsZero)))
 
-zero_address : (form : Form) (minus : Bool) (size : ℕ) (f : FoundData) → IsFree f → IsZero (put_absolute form minus size f)
+zero_address : (form : Form) (minus : Bool) (size : ℕ) (f : RowFieldsData) → IsFree f → IsZero (put_absolute form minus size f)
 unfolding put_absolute
 zero_address form minus size f h =
     by_test IsZero ((minus && not (size == 0)) || nat_le (2 ^ 32) size) _ _ (λ e. none_broken 5 f h)
@@ -221,7 +221,7 @@ zero_address form minus size f h =
     (λ e. by_test IsZero (size / 2 ^ 14 % 2 ^ 14 == 0) _ _ (λ e. none_put K (size / 2 ^ 28 * 2 ^ 14 + size % 2 ^ 14) f h) (λ e. none_broken 5 f h))
     (λ e. by_test IsZero (size / 2 ^ 21 % 2 ^ 7 == 0 && size % 2 == 0) _ _ (λ e. none_put K (size / 2 ^ 28 * 2 ^ 20 + size % 2 ^ 21 / 2) f h) (λ e. none_broken 5 f h)))
 
-zero_absolute : (r : RowData) (v : ValueData) (f : FoundData) → IsFree f → IfSo IsZero (fill_absolute r v f)
+zero_absolute : (r : RowData) (v : ValueData) (f : RowFieldsData) → IsFree f → IfSo IsZero (fill_absolute r v f)
 unfolding fill_absolute
 zero_absolute r v f h =
     by_test (IfSo IsZero) (shape_index v.shape == 1) _ _ (λ e. if_some IsZero _ (zero_address r.form v.minus v.size f h))
@@ -230,7 +230,7 @@ zero_absolute r v f h =
     (λ e. by_test (IfSo IsZero) (form_index r.form == 8) _ _ (λ e. if_some IsZero _ (none_broken _ f h)) (λ e. if_some IsZero _ (zero_symbol 2 v f h)))
     (λ e. by_test (IfSo IsZero) (is_half (shape_index v.shape)) _ _ (λ e. if_some IsZero _ (none_broken _ f h)) (λ e. if_none IsZero))))
 
-zero_fill : (r : RowData) (w : Want) (o : OperandData) (f : FoundData) → IsFree f → IfSo IsZero (fill r w o f)
+zero_fill : (r : RowData) (w : Want) (o : OperandData) (f : RowFieldsData) → IsFree f → IfSo IsZero (fill r w o f)
 unfolding fill fill_plain fill_register fill_a10
 zero_fill r (Reg bank field) o f h =
     by_test (IfSo IsZero) o.is_memory _ _ (λ e. if_none IsZero)
@@ -248,7 +248,7 @@ not_true : (b : Bool) → not b ≡ true → b ≡ false
 not_true true e = cc
 not_true false e = refl
 
-none_all : (r : RowData) (ws : List Want) (os : List OperandData) (f : FoundData) → none_takes r ws ≡ true → IsZero f → IfSo IsZero (fill_all r ws os f)
+none_all : (r : RowData) (ws : List Want) (os : List OperandData) (f : RowFieldsData) → none_takes r ws ≡ true → IsZero f → IfSo IsZero (fill_all r ws os f)
 unfolding fill_all
 none_all r [] [] f h z = if_some IsZero f z
 none_all r [] (o ∷ os) f h z = if_none IsZero
@@ -257,23 +257,23 @@ none_all r (w ∷ ws) (o ∷ os) f h z =
     let p = and_parts (not (takes r w)) (none_takes r ws) h in
     then_so (IsKept f) IsZero (fill_all r ws os) (fill r w o f) (kept_fill r w o f (not_true (takes r w) p.0)) (λ g k. none_all r ws os g p.1 (zero_kept f g z k))
 
-one_all : (r : RowData) (ws : List Want) (os : List OperandData) (f : FoundData) → one_takes r ws ≡ true → IsFree f → IfSo IsZero (fill_all r ws os f)
+one_all : (r : RowData) (ws : List Want) (os : List OperandData) (f : RowFieldsData) → one_takes r ws ≡ true → IsFree f → IfSo IsZero (fill_all r ws os f)
 unfolding fill_all
 one_all r [] [] f h z = if_some IsZero f (zero_free f z)
 one_all r [] (o ∷ os) f h z = if_none IsZero
 one_all r (w ∷ ws) [] f h z = if_none IsZero
 one_all r (w ∷ ws) (o ∷ os) f h z = by (takes r w) refl h (λ g k. one_all r ws os g k)
   where
-    by : (b : Bool) → takes r w ≡ b → cond b (none_takes r ws) (one_takes r ws) ≡ true → ((g : FoundData) → one_takes r ws ≡ true → IsFree g → IfSo IsZero (fill_all r ws os g)) → IfSo IsZero (option_and_then (fill_all r ws os) (fill r w o f))
+    by : (b : Bool) → takes r w ≡ b → cond b (none_takes r ws) (one_takes r ws) ≡ true → ((g : RowFieldsData) → one_takes r ws ≡ true → IsFree g → IfSo IsZero (fill_all r ws os g)) → IfSo IsZero (option_and_then (fill_all r ws os) (fill r w o f))
     by true e none rec = then_so IsZero IsZero (fill_all r ws os) (fill r w o f) (zero_fill r w o f z) (λ g k. none_all r ws os g none k)
     by false e one rec = then_so (IsKept f) IsZero (fill_all r ws os) (fill r w o f) (kept_fill r w o f e) (λ g k. rec g one (free_kept f g z k))
 
-zero_apart : (r : RowData) (f : FoundData) → IsZero f → IsZero (apart r f)
-zero_apart r f h = by_test IsZero (is_apart r f.fields) f (broken 12 f) (λ e. h) (λ e. zero_kept f (broken 12 f) h (kept_broken 12 f))
+zero_apart : (r : RowData) (f : RowFieldsData) → IsZero f → IsZero (kept_apart r f)
+zero_apart r f h = by_test IsZero (is_apart r f.fields) f (with_rule 12 f) (λ e. h) (λ e. zero_kept f (with_rule 12 f) h (kept_broken 12 f))
 
 -- what a listed row makes of operands has no constant where it has a symbol
-pub zero_judged : (k : ℕ) (r : RowData) (os : List OperandData) (f : FoundData) → slice_get listed k ≡ Some r → judged r (wants_of r) os ≡ Some f → IsZero f
-unfolding judged
+pub zero_judged : (k : ℕ) (r : RowData) (os : List OperandData) (f : RowFieldsData) → slice_get listed k ≡ Some r → fields_of_row r (wants_of r) os ≡ Some f → IsZero f
+unfolding fields_of_row
 zero_judged k r os f at e =
-    (then_so IsZero IsZero (λ g. Some (apart r g)) (fill_all r (wants_of r) os nothing)
-    (one_all r (wants_of r) os nothing (one_passes row_takes listed k r all_take at) (record { none = refl; zero = refl })) (λ g z. if_some IsZero (apart r g) (zero_apart r g z))).so f e
+    (then_so IsZero IsZero (λ g. Some (kept_apart r g)) (fill_all r (wants_of r) os no_fields)
+    (one_all r (wants_of r) os no_fields (one_passes row_takes listed k r all_take at) (record { none = refl; zero = refl })) (λ g z. if_some IsZero (kept_apart r g) (zero_apart r g z))).so f e

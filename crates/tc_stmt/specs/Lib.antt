@@ -1,10 +1,12 @@
 -- Statements: tokens, operands, what a row wants of them, and the row that a statement is.
 pub mod Names
-pub mod Pieces
-pub mod Numbers
-pub mod Operands
 pub mod Wants
-pub mod Filling
-pub mod Judging
+pub mod RowFields
+pub mod StatementRow
 pub mod Stated
-pub mod Skipping
+pub mod RowIndex
+pub mod Items
+pub mod Values
+pub mod Lines
+pub mod Readings
+pub mod SourceRules

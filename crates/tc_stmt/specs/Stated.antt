@@ -2,17 +2,17 @@
 use Rattle.std.specs.Prelude.{◌≡◌, ◌==◌, ◌||◌, ℕ, Bool, true, List, slice_get, Option, Some, Ok}
 use Rattle.tc_isa.specs.Rows.{RowData, listed}
 use Rattle.tc_isa.specs.declared.table.Form.{Form}
-use Rattle.tc_isa.specs.Words.{form_index}
+use Rattle.tc_isa.specs.Words.{is_sb, is_sbr}
 use Rattle.tc_isa.specs.Codec.{Fits, uses_of, is_long}
 use Rattle.tc_isa.specs.Relocations.{is_reloc, fills}
 use Rattle.tc_stmt.specs.Names.{is_name}
-use Rattle.tc_stmt.specs.Operands.{OperandData}
-use Rattle.tc_stmt.specs.Filling.{ReferenceData, FoundData}
-use Rattle.tc_stmt.specs.Judging.{statement}
+use Rattle.tc_lex.specs.Operands.{OperandData}
+use Rattle.tc_stmt.specs.RowFields.{ReferenceData, RowFieldsData}
+use Rattle.tc_stmt.specs.StatementRow.{statement}
 
 -- the forms of jumps and calls of 16 bits: SB (12) and SBR (13)
 abbrev pub is_short_jump : Form → Bool
-is_short_jump form = form_index form == 12 || form_index form == 13
+is_short_jump form = is_sb form || is_sbr form
 
 -- A symbol that the row has a field for: its relocation, if it waits for one, fills the constant of this row of 32 bits; a
 -- jump of 16 bits, which takes none, has a constant of its form.
@@ -26,12 +26,12 @@ pub record Symbols (r : RowData) (o : Option ReferenceData) : Type 0 where
   pub some : (s : ReferenceData) → o ≡ Some s → TakesSymbol r s
 
 -- the fields fit the row, and the row takes the symbol
-pub record Stated (r : RowData) (f : FoundData) : Type 0 where
+pub record Stated (r : RowData) (f : RowFieldsData) : Type 0 where
   pub fits : Fits r f.fields
   pub symbols : Symbols r f.reference
 
 -- the row of this number is listed, the fields fit it, and it takes the symbol; where there is one, the constant is 0
-pub record IsStated (k : ℕ) (f : FoundData) : Type 0 where
+pub record IsStated (k : ℕ) (f : RowFieldsData) : Type 0 where
   pub row : RowData
   pub at : slice_get listed k ≡ Some row
   pub stated : Stated row f
@@ -39,4 +39,4 @@ pub record IsStated (k : ℕ) (f : FoundData) : Type 0 where
 
 -- what a statement that breaks no rule is, fits its row
 abbrev pub StatedLaw : Type 0
-StatedLaw = (name : List ℕ) (os : List OperandData) (k : ℕ) (f : FoundData) → statement name os ≡ Ok (k, f) → IsStated k f
+StatedLaw = (name : List ℕ) (os : List OperandData) (k : ℕ) (f : RowFieldsData) → statement name os ≡ Ok (k, f) → IsStated k f

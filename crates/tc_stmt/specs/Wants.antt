@@ -4,9 +4,9 @@ use Rattle.std.specs.Borrow.{Bor}
 use Rattle.std.specs.List.{slice_split}
 use Rattle.std.specs.Str.{bytes_eq}
 use Rattle.tc_isa.specs.Rows.{RowData}
-use Rattle.tc_stmt.specs.declared.wanting.Field.TheVariants.{C, S1, S2, N, K}
-use Rattle.tc_stmt.specs.declared.wanting.Want.{Want}
-use Rattle.tc_stmt.specs.declared.wanting.Want.TheVariants.{Reg, A10, Number, Target, Absolute, Memory}
+use Rattle.tc_stmt.specs.declared.want.Field.TheVariants.{C, S1, S2, N, K}
+use Rattle.tc_stmt.specs.declared.want.Want.{Want}
+use Rattle.tc_stmt.specs.declared.want.Want.TheVariants.{Reg, A10, Number, Target, Absolute, Memory}
 
 -- the words of the operand texts
 unfoldable pub want_of : List ℕ → Want

@@ -1,5 +1,5 @@
 // Laws of numbers and statements.
-ghost use Rattle.tc_stmt.specs.Numbers.{NumberLaw};
+ghost use Rattle.tc_lex.specs.Numbers.{NumberLaw};
 ghost use Rattle.tc_stmt.specs.Stated.{StatedLaw};
 
 /// A token's number is what its digits spell, where that is below 2^128. A statement that breaks no rule has a listed row, its

@@ -1,29 +1,28 @@
-//! The statements of the assembler's language: what a row of the instruction table wants of operands, and which row a
-//! statement is.
+//! The statements of the assembler's language: what a row of the instruction table wants of operands, which row a statement
+//! is, and the lines of a source, read.
 #![tactic(auto)]
 
-mod filling;
-mod finding;
-mod forms;
-mod judging;
+mod data;
+mod fill;
+mod item;
 mod laws;
-mod numbers;
-mod parting;
+mod parse;
 mod pieces;
-mod skipping;
+mod row_fields;
+mod row_index;
+mod row_wants;
+mod source;
+mod statement_row;
 mod symbols;
-mod table;
-mod tallying;
-mod values;
-mod wanting;
+mod tally;
+mod want;
 
-pub use filling::{displaced, shape_index};
-pub use finding::{Found, Reference};
-pub use judging::statement;
+pub use fill::{displaced, shape_index};
+pub use item::Item;
 pub use laws::statement_laws;
-pub use parting::operands;
-pub use pieces::{Piece, is_kind, text_at};
+pub use row_fields::{Reference, RowFields};
+pub use row_wants::wants;
+pub use source::{Line, Source, read_source};
+pub use statement_row::statement;
 pub use symbols::{is_name, symbol_rule};
-pub use table::wants;
-pub use values::{Operand, Shape, Value};
-pub use wanting::{Field, Want};
+pub use want::{Field, Want};

@@ -1,57 +1,39 @@
-// The tokens of a line, with their texts.
-ghost use Rattle.std.specs.Prelude.{◌≡◌, ◌<◌, map, length, true};
-ghost use Rattle.std.specs.Str.{bytes_eq};
-ghost use Rattle.tc_stmt.specs.Pieces.{piece_of, kind_index, is_kind, text_at};
+// A line's tokens with their texts.
+ghost use Rattle.std.specs.Prelude.{◌≡◌, ◌≤◌, ◌<◌, map, length};
+ghost use Rattle.tc_lex.specs.declared.kinds.Token.{Token};
+ghost use Rattle.tc_lex.specs.Pieces.{piece_of};
+ghost use Rattle.tc_stmt.specs.Lines.{text_in, piece_in};
 
-use tc_lex::TokenKind;
+use arrayvec::ArrayVec;
+use tc_lex::{Piece, Token};
 
-/// A token and its text.
-#[derive(Clone, Copy, Default)]
-pub struct Piece<'a> {
-    pub kind: TokenKind,
-    pub text: &'a [u8],
-}
-
-#[tactic(auto, unfolding(crate::specs::Pieces::kind_index))]
-pub(crate) fn kind_index(kind: TokenKind) -> u8
-    ensures { result ≡ kind_index kind }
+// The bytes of a line from one place to another.
+fn text_in(line: &[u8], from: usize, to: usize) -> &[u8]
+    ensures { result.now ≡ text_in line.now from to }
 {
-    match kind {
-        TokenKind::Word => 0,
-        TokenKind::Number => 1,
-        TokenKind::Comma => 2,
-        TokenKind::Colon => 3,
-        TokenKind::Open => 4,
-        TokenKind::Close => 5,
-        TokenKind::Plus => 6,
-        TokenKind::Minus => 7,
-    }
-}
-
-/// Whether a token of this kind stands at a place.
-#[tactic(auto, unfolding(crate::specs::Pieces::is_kind))]
-pub fn is_kind(ps: &[Piece], i: usize, kind: TokenKind) -> bool
-    ensures value { result ≡ is_kind (map piece_of ps.now) i kind }
-    ensures there { result ≡ true → i < length ps.now }
-{
-    if i < ps.len() {
-        kind_index(ps[i].kind) == kind_index(kind)
+    if from <= to && to <= line.len() {
+        &line[from..to]
     } else {
-        false
+        &[]
     }
 }
 
-/// The text of the token at a place; empty where there is none.
-#[tactic(auto, unfolding(crate::specs::Pieces::text_at))]
-pub fn text_at<'a>(ps: &[Piece<'a>], i: usize) -> &'a [u8]
-    ensures { result.now ≡ text_at (map piece_of ps.now) i }
+fn piece_in<'a>(line: &'a [u8], token: Token) -> Piece<'a>
+    ensures { piece_of result ≡ piece_in line.now token }
 {
-    if i < ps.len() { ps[i].text } else { &[] }
+    Piece {
+        kind: token.kind,
+        text: text_in(line, token.from, token.to),
+    }
 }
 
-/// Whether bytes are this text.
-pub(crate) fn is_text(bytes: &[u8], text: &str) -> bool
-    ensures { result ≡ bytes_eq bytes.now text.now }
+/// Puts the tokens with their texts in the place of what `out` holds.
+pub(crate) fn pieces_in<'a>(line: &'a [u8], tokens: &[Token], out: &mut ArrayVec<Piece<'a>, 64>)
+    requires { length tokens.now ≤ 64 }
+    ensures { map piece_of out.new.items ≡ map (piece_in line.now) tokens.now }
 {
-    bytes == text.as_bytes()
+    out.clear();
+    for token in tokens {
+        out.push(piece_in(line, *token));
+    }
 }

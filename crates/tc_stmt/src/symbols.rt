@@ -1,12 +1,11 @@
 // Names, and symbols in places that take one.
 ghost use Rattle.std.specs.Prelude.{◌≡◌, ◌<◌, ◌^◌, true};
 ghost use Rattle.tc_stmt.specs.Names.{is_name};
-ghost use Rattle.tc_stmt.specs.Operands.{value_of};
-ghost use Rattle.tc_stmt.specs.Filling.{found_of, symbol_rule, broken, with_symbol, misplaced};
+ghost use Rattle.tc_lex.specs.Operands.{value_of};
+ghost use Rattle.tc_stmt.specs.RowFields.{row_fields_of, symbol_rule, with_rule, with_symbol, with_misplaced};
 
-use crate::finding::{Found, Reference};
-use crate::pieces::is_text;
-use crate::values::Value;
+use crate::row_fields::{Reference, RowFields};
+use tc_lex::{Value, is_text};
 use tc_object::name_of;
 
 /// Whether bytes are a name that a source may use: a Word of at most 64 bytes, and no lone `.`.
@@ -18,7 +17,7 @@ pub fn is_name(bytes: &[u8]) -> bool
 }
 
 /// The least rule that a symbol breaks anywhere; 15 is none.
-#[tactic(auto, unfolding(crate::specs::Filling::symbol_rule))]
+#[tactic(auto, unfolding(crate::specs::RowFields::symbol_rule))]
 pub fn symbol_rule(v: Value<'_>) -> u8
     ensures value { result ≡ symbol_rule (value_of v.entry) }
     ensures small { result ≡ 15 → v.entry.size < 2 ^ 32 }
@@ -32,23 +31,23 @@ pub fn symbol_rule(v: Value<'_>) -> u8
     }
 }
 
-pub(crate) fn broken(rule: u8, acc: Found<'_>) -> Found<'_>
-    ensures { found_of result ≡ broken rule (found_of acc.entry) }
+pub(crate) fn break_rule(rule: u8, acc: RowFields<'_>) -> RowFields<'_>
+    ensures { row_fields_of result ≡ with_rule rule (row_fields_of acc.entry) }
 {
-    Found {
+    RowFields {
         rule: acc.rule.min(rule),
         ..acc
     }
 }
 
 /// A symbol in a place that takes one.
-#[tactic(auto, unfolding(crate::specs::Filling::with_symbol))]
-pub(crate) fn with_symbol<'a>(kind: u8, v: Value<'a>, acc: Found<'a>) -> Found<'a>
-    ensures { found_of result ≡ with_symbol kind (value_of v.entry) (found_of acc.entry) }
+#[tactic(auto, unfolding(crate::specs::RowFields::with_symbol))]
+pub(crate) fn with_symbol<'a>(kind: u8, v: Value<'a>, acc: RowFields<'a>) -> RowFields<'a>
+    ensures { row_fields_of result ≡ with_symbol kind (value_of v.entry) (row_fields_of acc.entry) }
 {
     let rule = symbol_rule(v);
     if rule != 15 {
-        return broken(rule, acc);
+        return break_rule(rule, acc);
     }
     let reference = Reference {
         kind,
@@ -56,15 +55,15 @@ pub(crate) fn with_symbol<'a>(kind: u8, v: Value<'a>, acc: Found<'a>) -> Found<'
         minus: v.minus,
         size: v.size as u32,
     };
-    Found {
+    RowFields {
         reference: Some(reference),
         ..acc
     }
 }
 
 /// A symbol where none may stand.
-pub(crate) fn misplaced<'a>(v: Value<'_>, acc: Found<'a>) -> Found<'a>
-    ensures { found_of result ≡ misplaced (value_of v.entry) (found_of acc.entry) }
+pub(crate) fn misplace<'a>(v: Value<'_>, acc: RowFields<'a>) -> RowFields<'a>
+    ensures { row_fields_of result ≡ with_misplaced (value_of v.entry) (row_fields_of acc.entry) }
 {
-    broken(10u8.min(symbol_rule(v)), acc)
+    break_rule(10u8.min(symbol_rule(v)), acc)
 }

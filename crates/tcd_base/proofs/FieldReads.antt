@@ -4,9 +4,9 @@ use Rattle.std.specs.Prelude.{nat_le}
 use Rattle.std.proofs.lemmas.Bool.{leb-true, le-leb}
 use Rattle.std.proofs.Math.Seq.{take-append_seam, drop-append_seam}
 use Rattle.tcd_base.specs.Bytes.{half_at, word_at, bytes_of_half, bytes_of_word}
-use Rattle.tcd_base.specs.Place.{Place, between}
+use Rattle.tcd_base.specs.Place.{Place, place_between}
 use Rattle.tcd_base.specs.Reading.{◌>>=◌, u8_at, u16_at, u32_at, bytes_at, fault_at}
-use Rattle.tcd_base.specs.declared.types.FormErr.{FormErr}
+use Rattle.tcd_base.specs.declared.errors.FormErr.{FormErr}
 use Rattle.tcd_base.proofs.ByteWords.{get_or-behind, half_at-written, word_at-written}
 
 -- a value that was read, and the place after it
@@ -25,25 +25,25 @@ in_middle : (front part rest : List ℕ) (n : ℕ) → length part ≡ n → len
 in_middle front part rest n e = simp (length-append) (omega arith)
 
 -- what the second part begins with moves over to the first
-moved : (front part rest : List ℕ) (n : ℕ) → length part ≡ n → record (between front (part ++ rest)) { place = length front + n } ≡ between (front ++ part) rest
+moved : (front part rest : List ℕ) (n : ℕ) → length part ≡ n → record (place_between front (part ++ rest)) { place = length front + n } ≡ place_between (front ++ part) rest
 moved front part rest n e = rw (append_assoc front part rest, length-append front part, e) refl
 
 -- a field of n bytes in the middle is read
-read_middle : {A : Type 0} (front part rest : List ℕ) (n : ℕ) (x y : A) → length part ≡ n → x ≡ y → cond (nat_le (length front + n) (length (front ++ (part ++ rest)))) (found x (record (between front (part ++ rest)) { place = length front + n })) (fault_at 1 (between front (part ++ rest))) ≡ found y (between (front ++ part) rest)
+read_middle : {A : Type 0} (front part rest : List ℕ) (n : ℕ) (x y : A) → length part ≡ n → x ≡ y → cond (nat_le (length front + n) (length (front ++ (part ++ rest)))) (found x (record (place_between front (part ++ rest)) { place = length front + n })) (fault_at 1 (place_between front (part ++ rest))) ≡ found y (place_between (front ++ part) rest)
 read_middle front part rest n x y e same =
     chosen _ _ _ (le-leb (length front + n) (length (front ++ (part ++ rest))) (in_middle front part rest n e))
     ∙ found_same _ _ _ _ same (moved front part rest n e)
 
 -- a field that was written is read back
-pub u8_at-between : (front : List ℕ) (x : ℕ) (rest : List ℕ) → u8_at (between front (x ∷ rest)) ≡ Ok (x, between (front ++ x ∷ []) rest)
+pub u8_at-between : (front : List ℕ) (x : ℕ) (rest : List ℕ) → u8_at (place_between front (x ∷ rest)) ≡ Ok (x, place_between (front ++ x ∷ []) rest)
 unfolding u8_at
 u8_at-between front x rest = read_middle front (x ∷ []) rest 1 _ _ refl (get_or-behind front (x ∷ rest) (length front) 0 (omega arith))
 
-pub u16_at-between : (front : List ℕ) (x : ℕ) (rest : List ℕ) → x < 2 ^ 16 → u16_at (between front (bytes_of_half x ++ rest)) ≡ Ok (x, between (front ++ bytes_of_half x) rest)
+pub u16_at-between : (front : List ℕ) (x : ℕ) (rest : List ℕ) → x < 2 ^ 16 → u16_at (place_between front (bytes_of_half x ++ rest)) ≡ Ok (x, place_between (front ++ bytes_of_half x) rest)
 unfolding u16_at
 u16_at-between front x rest h = read_middle front (bytes_of_half x) rest 2 _ _ refl (half_at-written front x rest h)
 
-pub u32_at-between : (front : List ℕ) (x : ℕ) (rest : List ℕ) → x < 2 ^ 32 → u32_at (between front (bytes_of_word x ++ rest)) ≡ Ok (x, between (front ++ bytes_of_word x) rest)
+pub u32_at-between : (front : List ℕ) (x : ℕ) (rest : List ℕ) → x < 2 ^ 32 → u32_at (place_between front (bytes_of_word x ++ rest)) ≡ Ok (x, place_between (front ++ bytes_of_word x) rest)
 unfolding u32_at
 u32_at-between front x rest h = read_middle front (bytes_of_word x) rest 4 _ _ refl (word_at-written front x rest h)
 
@@ -51,7 +51,7 @@ u32_at-between front x rest h = read_middle front (bytes_of_word x) rest 4 _ _ r
 middle : (front part rest : List ℕ) → take (length part) (drop (length front) (front ++ (part ++ rest))) ≡ part
 middle front part rest = ap (take (length part)) (drop-append_seam front (part ++ rest)) ∙ take-append_seam part rest
 
-pub bytes_at-between : (front part rest : List ℕ) → bytes_at (length part) (between front (part ++ rest)) ≡ Ok (part, between (front ++ part) rest)
+pub bytes_at-between : (front part rest : List ℕ) → bytes_at (length part) (place_between front (part ++ rest)) ≡ Ok (part, place_between (front ++ part) rest)
 unfolding bytes_at
 bytes_at-between front part rest = read_middle front part rest (length part) _ _ refl (middle front part rest)
 

@@ -2,7 +2,7 @@
 use Rattle.std.proofs.Common.{◌-◌, ◌^◌, ◌<◌, ◌≤◌, ℕ, ◌⊎◌, inl, inr, arith}
 use Rattle.std.proofs.lemmas.Bool.{cases_lt}
 use Rattle.tcd_base.specs.Files.{FaultCounted}
-use Rattle.tcd_base.specs.Failing.{one_more}
+use Rattle.tcd_base.specs.FailingCalls.{one_more}
 
 -- a fault that was counted in a part of a call was counted in the call
 pub counted_within : (a b c d : ℕ) → a ≤ b → b ≤ c → FaultCounted b c → c ≤ d → FaultCounted a d

@@ -7,5 +7,5 @@ pub record Place : Type 0 where
   pub place : ℕ
 
 -- the place between two parts of the bytes
-abbrev pub between : List ℕ → List ℕ → Place
-between front rest = record { bytes = front ++ rest; place = length front }
+abbrev pub place_between : List ℕ → List ℕ → Place
+place_between front rest = record { bytes = front ++ rest; place = length front }

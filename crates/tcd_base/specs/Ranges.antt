@@ -1,6 +1,6 @@
 -- Ranges of addresses, and what lies in them.
 use Rattle.std.specs.Prelude.{ℕ, ◌+◌, ◌≤◌, ◌⊎◌, ◌&&◌, Bool, nat_le, List, [], ◌∷◌}
-use Rattle.tcd_base.specs.declared.types.Range.{Range}
+use Rattle.tcd_base.specs.declared.range.Range.{Range}
 
 -- the first address past a range
 abbrev pub range_end : Range → ℕ

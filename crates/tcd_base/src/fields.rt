@@ -1,7 +1,7 @@
 // Fields of words, and words as bytes.
 ghost use Rattle.std.specs.Prelude.{◌≡◌, ◌<◌, ◌≤◌, ◌^◌, ◌++◌, ℕ, List, OnOk, OnErr};
 ghost use Rattle.tcd_base.specs.Bytes.{bytes_of_word};
-ghost use Rattle.tcd_base.specs.Place.{between};
+ghost use Rattle.tcd_base.specs.Place.{place_between};
 ghost use Rattle.tcd_base.specs.Reading.{u32_at};
 ghost use Rattle.tcd_base.specs.Fields.{bits_of, sext_of};
 
@@ -38,8 +38,8 @@ pub fn put_u32(out: &mut Vec<u8>, x: u32) -> Result<(), NoMemory>
 
     // A reader at the word reads it, and then stands before whatever comes after it.
     ensures back { OnOk result ((rest : List ℕ)
-        → u32_at (between out.old.items (bytes_of_word x ++ rest))
-        ≡ Ok (x, between out.new.items rest)) }
+        → u32_at (place_between out.old.items (bytes_of_word x ++ rest))
+        ≡ Ok (x, place_between out.new.items rest)) }
 {
     out.extend_from_slice(&x.to_le_bytes())?;
     Ok(())

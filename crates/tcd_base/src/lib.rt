@@ -1,25 +1,27 @@
 //! The types that all crates share, and the seams to the outside: files and a sink of text.
 #![tactic(auto)]
 
+mod core_version;
 mod cursor;
-mod failing;
+mod errors;
+mod failing_calls;
+mod field_readers;
 mod fields;
 mod files;
 mod mem_files;
 mod mem_sink;
-mod ranges;
-mod reading;
+mod range;
 mod sink;
 #[cfg(test)]
 mod tests;
-mod types;
 
+pub use core_version::Core;
 pub use cursor::Cursor;
+pub use errors::{FormErr, NoMemory};
+pub use field_readers::{read_bytes, read_u8, read_u16, read_u32};
 pub use fields::{bits, put_u32, sext};
 pub use files::{FileErr, Files};
 pub use mem_files::MemFiles;
 pub use mem_sink::MemSink;
-pub use ranges::any_holds;
-pub use reading::{read_bytes, read_u8, read_u16, read_u32};
+pub use range::{Range, any_holds};
 pub use sink::{Sink, SinkErr};
-pub use types::{Core, FormErr, NoMemory, Range};

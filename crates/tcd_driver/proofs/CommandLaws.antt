@@ -14,7 +14,7 @@ use Rattle.tc_script.specs.ScriptRuns.{script_events, IsScriptRun}
 use Rattle.tc_script.specs.ScriptData.{ScriptData}
 use Rattle.tc_object.specs.Objects.{ObjectData}
 use Rattle.tc_link.specs.Layouts.{LayoutData}
-use Rattle.tc_link.specs.Linked.{Refusal, linked}
+use Rattle.tc_link.specs.Linked.{Refusal, image_of_objects}
 use Rattle.tc_link.specs.Errors.{refusal_of}
 use Rattle.tc_link.specs.declared.errors.LinkErr.{LinkErr}
 use Rattle.tc_link.specs.declared.errors.LinkErr.TheVariants as error
@@ -104,21 +104,21 @@ module _ (name : List ℕ) (l : LayoutData) (objects : List ObjectData) where
 
   linked_one : (r q : Report) → IsLinked name l objects r → IsLinked name l objects q → r.status ≡ q.status
   linked_one r q (refused a is e) (refused b is2 f) = status_is r _ e ∙ sym (status_is q _ f)
-  linked_one r q (refused a is e) (image i is2 f) = absurd (ok_err (linked objects l) i a is2 is)
-  linked_one r q (image i is e) (refused a is2 f) = absurd (ok_err (linked objects l) i a is is2)
+  linked_one r q (refused a is e) (image i is2 f) = absurd (ok_err (image_of_objects objects l) i a is2 is)
+  linked_one r q (image i is e) (refused a is2 f) = absurd (ok_err (image_of_objects objects l) i a is is2)
   linked_one r q (image i is e) (image j is2 f) = status_is r _ e ∙ sym (status_is q _ f)
 
   linked_alike : AreAlike (IsLinked name l objects)
   linked_alike = record { words = linked_words; done = linked_done; one = linked_one }
 
-pub linked_image : (name : List ℕ) (l : LayoutData) (objects : List ObjectData) (i : ImageData) (r : Report) → linked objects l ≡ Ok i → WritesImage name i r → IsLinked name l objects r
+pub linked_image : (name : List ℕ) (l : LayoutData) (objects : List ObjectData) (i : ImageData) (r : Report) → image_of_objects objects l ≡ Ok i → WritesImage name i r → IsLinked name l objects r
 linked_image name l objects i r is writes = image i is writes
 
-refused_by : (name : List ℕ) (l : LayoutData) (objects : List ObjectData) (o : Option Refusal) (r : Report) → (o ≡ None → ⊥) → IfSome o (λ q. linked objects l ≡ Err q) → IfSome o (λ q. r ≡ says BadInput (link_line q)) → IsLinked name l objects r
+refused_by : (name : List ℕ) (l : LayoutData) (objects : List ObjectData) (o : Option Refusal) (r : Report) → (o ≡ None → ⊥) → IfSome o (λ q. image_of_objects objects l ≡ Err q) → IfSome o (λ q. r ≡ says BadInput (link_line q)) → IsLinked name l objects r
 refused_by name l objects None r some is text = absurd (some refl)
 refused_by name l objects (Some q) r some is text = refused q is text
 
-pub refused_report : {V E : Type 0} (items : V → List ℕ) (name : List ℕ) (l : LayoutData) (objects : List ObjectData) (e : LinkErr) (line : Result V E) (r : Report) → IfSome (refusal_of e) (λ q. linked objects l ≡ Err q) →
+pub refused_report : {V E : Type 0} (items : V → List ℕ) (name : List ℕ) (l : LayoutData) (objects : List ObjectData) (e : LinkErr) (line : Result V E) (r : Report) → IfSome (refusal_of e) (λ q. image_of_objects objects l ≡ Err q) →
     IfOk line (λ x. IfSome (refusal_of e) (λ q. items x ≡ link_line q)) → (e ≡ error.NoMemory → ⊥) → IsOkAnd line (λ x. r ≡ says BadInput (items x)) → IsLinked name l objects r
 refused_report items name l objects e line r is made some said = refused_by name l objects (refusal_of e) r (λ n. some (none_memory e n)) is (line_told items line r (refusal_of e) made said)
 

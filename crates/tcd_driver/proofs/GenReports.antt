@@ -21,7 +21,7 @@ use Rattle.depth_cert.specs.Certs.{CertData, IsCert, count_points}
 use Rattle.depth_cert.specs.Grammar.{certificate_of}
 use Rattle.depth_cert.proofs.BackLaws.{written_is_read}
 use Rattle.depth_cert.proofs.SizeLaws.{cert_most}
-use Rattle.tcd_base.specs.declared.types.FormErr.{FormErr}
+use Rattle.tcd_base.specs.declared.errors.FormErr.{FormErr}
 use Rattle.cfg_recover.specs.Accepting.{certified_need}
 use Rattle.depth_maker.specs.Making.{IsMade}
 use Rattle.depth_maker.specs.Made.{AreMade, IsRefused}

@@ -11,7 +11,7 @@ use Rattle.depth_cert.specs.Spelling.{bytes_of}
 use Rattle.cfg_recover.specs.Accepting.{certified_need}
 use Rattle.tc_object.specs.Objects.{ObjectData}
 use Rattle.tc_link.specs.Layouts.{LayoutData, IsLayout}
-use Rattle.tc_link.specs.Linked.{Refusal, linked}
+use Rattle.tc_link.specs.Linked.{Refusal, image_of_objects}
 use Rattle.tc_link.specs.Errors.{refusal_of}
 use Rattle.tc_link.specs.declared.errors.LinkErr.{LinkErr}
 use Rattle.tc_link.specs.declared.errors.LinkErr.TheVariants as error
@@ -61,10 +61,10 @@ module _ (elf cert : List ℕ) (p : PlanData) (l : LayoutData) (ss : List Source
 
   shipped_one : (r q : Report) → IsShipped elf cert p l ss r → IsShipped elf cert p l ss q → r.status ≡ q.status
   shipped_one r q (unlinked a is e) (unlinked b is2 f) = status_is r _ e ∙ sym (status_is q _ f)
-  shipped_one r q (unlinked a is e) (of_image i of_sources h) = absurd (ok_err (linked (objects_of ss) l) i a of_sources.linked_is is)
-  shipped_one r q (of_image i of_sources h) (unlinked a is e) = absurd (ok_err (linked (objects_of ss) l) i a of_sources.linked_is is)
+  shipped_one r q (unlinked a is e) (of_image i of_sources h) = absurd (ok_err (image_of_objects (objects_of ss) l) i a of_sources.linked_is is)
+  shipped_one r q (of_image i of_sources h) (unlinked a is e) = absurd (ok_err (image_of_objects (objects_of ss) l) i a of_sources.linked_is is)
   shipped_one r q (of_image i of_sources h) (of_image j of_sources2 k) =
-      let same = same_image (linked (objects_of ss) l) j i of_sources2.linked_is of_sources.linked_is in
+      let same = same_image (image_of_objects (objects_of ss) l) j i of_sources2.linked_is of_sources.linked_is in
       shipping_one elf cert p i r q h (subst (λ (x : ImageData). IsShipping elf cert p x q) same k)
 
   pub shipped_alike : AreAlike (IsShipped elf cert p l ss)
@@ -95,21 +95,21 @@ spelled_again i j lent bytes same is e f =
 
 -- ---- linking
 -- the image of the sources
-pub image_report : (elf cert : List ℕ) (p : PlanData) (l : LayoutData) (ss : List SourceData) (os : List ObjectData) (i : ImageData) (r : Report) → IsLayout l → AreSourcesOf ss os → linked os l ≡ Ok i → IsShipping elf cert p i r → IsShipped elf cert p l ss r
+pub image_report : (elf cert : List ℕ) (p : PlanData) (l : LayoutData) (ss : List SourceData) (os : List ObjectData) (i : ImageData) (r : Report) → IsLayout l → AreSourcesOf ss os → image_of_objects os l ≡ Ok i → IsShipping elf cert p i r → IsShipped elf cert p l ss r
 image_report elf cert p l ss os i r keeps are is h =
-    let is' : linked (objects_of ss) l ≡ Ok i = subst (λ (x : List ObjectData). linked x l ≡ Ok i) are.objects_are is in
+    let is' : image_of_objects (objects_of ss) l ≡ Ok i = subst (λ (x : List ObjectData). image_of_objects x l ≡ Ok i) are.objects_are is in
     of_image i (record { linked_is = is'; placed = placed_law (texts_of ss) (objects_of ss) l i keeps are.assembled is' }) h
 
-unlinked_by : (elf cert : List ℕ) (p : PlanData) (l : LayoutData) (ss : List SourceData) (o : Option Refusal) (r : Report) → (o ≡ None → ⊥) → IfSome o (λ q. linked (objects_of ss) l ≡ Err q) → IfSome o (λ q. r ≡ says BadInput (link_line q)) → IsShipped elf cert p l ss r
+unlinked_by : (elf cert : List ℕ) (p : PlanData) (l : LayoutData) (ss : List SourceData) (o : Option Refusal) (r : Report) → (o ≡ None → ⊥) → IfSome o (λ q. image_of_objects (objects_of ss) l ≡ Err q) → IfSome o (λ q. r ≡ says BadInput (link_line q)) → IsShipped elf cert p l ss r
 unlinked_by elf cert p l ss None r some is text = absurd (some refl)
 unlinked_by elf cert p l ss (Some q) r some is text = unlinked q is text
 
 -- the objects aren't linked
 pub unlinked_report : {V E : Type 0} (items : V → List ℕ) (elf cert : List ℕ) (p : PlanData) (l : LayoutData) (ss : List SourceData) (os : List ObjectData) (e : LinkErr) (line : Result V E) (r : Report) → AreSourcesOf ss os →
-    IfSome (refusal_of e) (λ q. linked os l ≡ Err q) → IfOk line (λ x. IfSome (refusal_of e) (λ q. items x ≡ link_line q)) → (e ≡ error.NoMemory → ⊥) → IsOkAnd line (λ x. r ≡ says BadInput (items x)) → IsShipped elf cert p l ss r
+    IfSome (refusal_of e) (λ q. image_of_objects os l ≡ Err q) → IfOk line (λ x. IfSome (refusal_of e) (λ q. items x ≡ link_line q)) → (e ≡ error.NoMemory → ⊥) → IsOkAnd line (λ x. r ≡ says BadInput (items x)) → IsShipped elf cert p l ss r
 unlinked_report items elf cert p l ss os e line r are is made some said =
     unlinked_by elf cert p l ss (refusal_of e) r (λ n. some (none_memory e n))
-    (subst (λ (x : List ObjectData). IfSome (refusal_of e) (λ q. linked x l ≡ Err q)) are.objects_are is) (line_told items line r (refusal_of e) made said)
+    (subst (λ (x : List ObjectData). IfSome (refusal_of e) (λ q. image_of_objects x l ≡ Err q)) are.objects_are is) (line_told items line r (refusal_of e) made said)
 
 -- ---- sources
 assembled_more : (ss : List SourceData) (s : SourceData) → AreAssembled (texts_of ss) (objects_of ss) → IsSource s.text s.object → AreAssembled (texts_of (ss ++ s ∷ [])) (objects_of (ss ++ s ∷ []))

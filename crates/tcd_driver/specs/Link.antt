@@ -4,7 +4,7 @@ use Rattle.elf_image.specs.Images.{ImageData}
 use Rattle.elf_image.specs.Written.{file_of}
 use Rattle.tc_object.specs.Objects.{ObjectData}
 use Rattle.tc_link.specs.Layouts.{LayoutData}
-use Rattle.tc_link.specs.Linked.{Refusal, linked}
+use Rattle.tc_link.specs.Linked.{Refusal, image_of_objects}
 use Rattle.tcd_reading.specs.Reports.{Report, says, writes_file}
 use Rattle.tcd_reading.specs.Inputs.{Reading, input, each, answer}
 use Rattle.tcd_forms.specs.Forms.{layout_form, object_form}
@@ -23,8 +23,8 @@ WritesImage name image report = report ≡ writes_file name (file_of image) (lin
 
 -- what linking the objects by the layout comes to: the image, or the first refusal
 pub data IsLinked (name : List ℕ) (layout : LayoutData) (objects : List ObjectData) (report : Report) : Type 0 where
-  refused : (r : Refusal) → linked objects layout ≡ Err r → report ≡ says BadInput (link_line r) → IsLinked name layout objects report
-  image : (i : ImageData) → linked objects layout ≡ Ok i → WritesImage name i report → IsLinked name layout objects report
+  refused : (r : Refusal) → image_of_objects objects layout ≡ Err r → report ≡ says BadInput (link_line r) → IsLinked name layout objects report
+  image : (i : ImageData) → image_of_objects objects layout ≡ Ok i → WritesImage name i report → IsLinked name layout objects report
 
 -- a layout and the objects are read; then they are linked
 abbrev pub link_reading : LinkNames → Reading

@@ -6,7 +6,7 @@ use Rattle.elf_image.specs.Written.{file_of}
 use Rattle.tcd_plan.specs.PlanData.{PlanData}
 use Rattle.tc_object.specs.Objects.{ObjectData}
 use Rattle.tc_link.specs.Layouts.{LayoutData}
-use Rattle.tc_link.specs.Linked.{Refusal, linked}
+use Rattle.tc_link.specs.Linked.{Refusal, image_of_objects}
 use Rattle.tc_program.specs.Laws.{AreAssembled}
 use Rattle.tc_program.specs.Placed.{Placed}
 use Rattle.depth_cert.specs.declared.keys.Key.{Key}
@@ -38,7 +38,7 @@ texts_of sources = map (λ s. s.text) sources
 
 -- the image of the sources by the layout: it is linked from their objects, and their statements stand in it
 pub record IsImageOf (layout : LayoutData) (sources : List SourceData) (image : ImageData) : Type 0 where
-  pub linked_is : linked (objects_of sources) layout ≡ Ok image
+  pub linked_is : image_of_objects (objects_of sources) layout ≡ Ok image
   pub placed : Placed (texts_of sources) layout image
 
 -- what is said of an image and a plan: no certificate is accepted, and why is told; or the image is written under a name, so that
@@ -57,7 +57,7 @@ pub data IsShipping (elf cert : List ℕ) (plan : PlanData) (image : ImageData) 
 -- what is said of a plan, a layout and sources: linking refuses them; or their image is shipped, or refused
 pub data IsShipped (elf cert : List ℕ) (plan : PlanData) (layout : LayoutData) (sources : List SourceData) (report : Report) : Type 0 where
   unlinked :
-      (r : Refusal) → linked (objects_of sources) layout ≡ Err r → report ≡ says BadInput (link_line r)
+      (r : Refusal) → image_of_objects (objects_of sources) layout ≡ Err r → report ≡ says BadInput (link_line r)
       → IsShipped elf cert plan layout sources report
   of_image :
       (i : ImageData) → IsImageOf layout sources i → IsShipping elf cert plan i report → IsShipped elf cert plan layout sources report

@@ -1,11 +1,8 @@
 //! The tokens of worked lines, and the rows that worked statements are.
 use arrayvec::ArrayVec;
 use tc_isa::rows;
-use tc_lex::{Token, TokenKind, tokens};
-use tc_stmt::{
-    Piece, Shape, Value, is_kind, is_name, operands, shape_index, statement, symbol_rule, text_at,
-    wants,
-};
+use tc_lex::{Piece, Shape, Token, TokenKind, Value, is_kind, operands, text_at, tokens};
+use tc_stmt::{is_name, shape_index, statement, symbol_rule, wants};
 
 static TOKENS: [Token; 13] = [
     Token {

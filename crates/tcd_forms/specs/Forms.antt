@@ -1,6 +1,6 @@
 -- The forms of inputs.
 use Rattle.std.specs.Prelude.{◌≡◌, ◌≢◌, ◌^◌, ℕ, List, length, Ok, Err}
-use Rattle.tcd_base.specs.declared.types.FormErr.{FormErr}
+use Rattle.tcd_base.specs.declared.errors.FormErr.{FormErr}
 use Rattle.elf_image.specs.Images.{ImageData}
 use Rattle.elf_image.specs.Elf.{image_of}
 use Rattle.elf_image.specs.declared.errors.ImageErr.{ImageErr}
@@ -15,12 +15,12 @@ use Rattle.tc_script.specs.Reading.{script_of}
 use Rattle.tc_script.specs.declared.errors.ScriptErr.{ScriptErr}
 use Rattle.tc_object.specs.Objects.{ObjectData}
 use Rattle.tc_object.specs.Grammar as grammar
-use Rattle.tc_asm.specs.Lines.{lines_in}
+use Rattle.tc_stmt.specs.Lines.{lines_in}
 use Rattle.tc_asm.specs.Objects.{object_of}
 use Rattle.tc_asm.specs.Sources.{drafted, symbols_of, KeepsRules, IsLeast}
 use Rattle.tc_link.specs.Layouts.{LayoutData}
 use Rattle.tc_link.specs.Faults.{layout_of}
-use Rattle.tc_link.specs.declared.faults.LayoutErr.{LayoutErr}
+use Rattle.tc_link.specs.declared.layout_errors.LayoutErr.{LayoutErr}
 use Rattle.tcd_reading.specs.Inputs.{FormSeen}
 use Rattle.tcd_forms.specs.Lines.{long_elf_line, elf_line, long_plan_line, plan_line, long_cert_line, cert_line, long_script_line, script_line, long_source_line, source_line, long_layout_line, layout_line, long_object_line, object_line}
 

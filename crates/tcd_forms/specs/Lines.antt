@@ -1,9 +1,10 @@
 -- The printed lines.
 use Rattle.std.specs.Prelude.{ℕ, ◌+◌, ◌/◌, ◌%◌, ◌^◌, ◌==◌, nat_lt, if◌then◌else◌, List, [], ◌∷◌, ◌++◌, codes, slice_get, unwrap_or}
 use Rattle.std.specs.Fmt.{decimal}
+use Rattle.depth_cert.specs.Keys.{start_kind, call_kind, irq_kind, sys_kind}
 use Rattle.elf_image.specs.declared.errors.ImageErr.{ImageErr}
 use Rattle.elf_image.specs.declared.errors.ImageErr.TheVariants as elf
-use Rattle.tcd_base.specs.declared.types.FormErr.{FormErr}
+use Rattle.tcd_base.specs.declared.errors.FormErr.{FormErr}
 use Rattle.depth_cert.specs.declared.keys.Key.{Key}
 use Rattle.tc_machine.specs.declared.events.Cause.{Cause}
 use Rattle.tc_machine.specs.declared.events.Cause.TheVariants.{Fcd, Fcu, Csu, Ctyp, NotListed, NoCode, NoArea}
@@ -15,8 +16,8 @@ use Rattle.tc_script.specs.declared.errors.ScriptErr.TheVariants as script
 use Rattle.tc_reloc.specs.declared.refusals.RelocErr.{RelocErr}
 use Rattle.tc_reloc.specs.declared.refusals.RelocErr.TheVariants.{Odd, FarOff, Segment}
 use Rattle.tc_link.specs.Linked.{Refusal, twice, missing, no_place, no_room, reloc, no_entry}
-use Rattle.tc_link.specs.declared.faults.LayoutErr.{LayoutErr}
-use Rattle.tc_link.specs.declared.faults.LayoutErr.TheVariants as layout
+use Rattle.tc_link.specs.declared.layout_errors.LayoutErr.{LayoutErr}
+use Rattle.tc_link.specs.declared.layout_errors.LayoutErr.TheVariants as layout
 use Rattle.tcd_plan.specs.Keys.{key_texts}
 use Rattle.tcd_plan.specs.declared.plans.PlanKey.{PlanKey}
 use Rattle.tcd_plan.specs.declared.plans.PlanErr.{PlanErr}
@@ -35,10 +36,10 @@ hex_word x =
 -- the kind of a key: the start (0), a call, an interrupt, a system call or a misaligned access
 unfoldable pub kind_text : ℕ → List ℕ
 kind_text kind =
-    if kind == 0 then codes "start "
-    else if kind == 1 then codes "call "
-    else if kind == 2 then codes "irq "
-    else if kind == 3 then codes "sys "
+    if kind == start_kind then codes "start "
+    else if kind == call_kind then codes "call "
+    else if kind == irq_kind then codes "irq "
+    else if kind == sys_kind then codes "sys "
     else codes "aln "
 
 -- a key: its kind, its entry, its priority, and whether the interrupt stack is in use

@@ -17,7 +17,7 @@ use Rattle.tc_link.specs.Layouts.{PlaceData, LayoutData, IsPlace, IsPlaceAfter, 
 use Rattle.tc_link.specs.Lines.{LineData, blank, entry, place, place_of_words, line_in, line_of}
 use Rattle.tc_link.specs.Faults.{entry_in, region_in, entries_of, places_of, fault_of, first_fault, with_entry, unless}
 use Rattle.tc_link.specs.Seen.{DraftData, IsDraft, IsGood, with_line}
-use Rattle.tc_link.specs.declared.faults.LayoutErr.{LayoutErr}
+use Rattle.tc_link.specs.declared.layout_errors.LayoutErr.{LayoutErr}
 use Rattle.tc_link.proofs.TurnLaws.{turn_push}
 use Rattle.tcd_laws.specs.Images.{TextsGiveLayouts}
 

@@ -11,10 +11,10 @@ use Rattle.elf_image.specs.Images.{SegmentData, AreBytes, IsImage}
 use Rattle.tc_object.specs.declared.relocs.Reloc.{Reloc}
 use Rattle.tc_object.specs.Objects.{SectionData, SymbolData, ObjectData}
 use Rattle.tc_link.specs.Layouts.{PlaceData}
-use Rattle.tc_link.specs.Placing.{rounded, GlobalData, PlacedData, is_global, global_data, globals_of, global_address, bases_after, placed_after}
+use Rattle.tc_link.specs.Placing.{round_up, GlobalData, PlacedData, is_global, global_data, globals_of, global_address, bases_after, placed_after}
 use Rattle.tc_reloc.specs.Fields.{content_of, spread_of, rest_of}
 use Rattle.tc_reloc.specs.Applied.{with_field}
-use Rattle.tc_link.specs.Relocated.{field_place, value_of, field_at, written, with_reloc, relocated, padded, with_section, joined, segment_of, segments_of}
+use Rattle.tc_link.specs.Relocated.{field_place, value_of, field_at, with_relocation, with_reloc, relocated_sections, with_padding, with_section, joined_sections, segment_of, segments_of}
 use Rattle.tc_link.specs.Linked.{placed_of, contents_of}
 use Rattle.tc_link.proofs.ImageLaws.{image_of_bytes}
 use Rattle.tc_link.proofs.LinkLaws.{linked_image}
@@ -24,7 +24,7 @@ use Rattle.tcd_laws.proofs.ObjectBytes.{word_small}
 
 -- ---- relocations
 module _ (g : List GlobalData) (p : PlacedData) where
-  written_small : (r : Reloc) (s : SectionData) → HoldsBytes s → HoldsBytes (written g p r s)
+  written_small : (r : Reloc) (s : SectionData) → HoldsBytes s → HoldsBytes (with_relocation g p r s)
   written_small r s h =
       let old : List ℕ = field_at s.bytes r.offset in
       let content : ℕ = content_of r.kind (field_place p r) (value_of g p r) in
@@ -36,38 +36,38 @@ module _ (g : List GlobalData) (p : PlacedData) where
   with_small : (ss : List SectionData) (r : Reloc) → All HoldsBytes ss → All HoldsBytes (with_reloc g p ss r)
   with_small ss r h = by_section (slice_get ss r.section) refl
     where
-      by_section : (o : Option SectionData) → slice_get ss r.section ≡ o → All HoldsBytes (option_map_or (λ x. set ss r.section (written g p r x)) o ss)
+      by_section : (o : Option SectionData) → slice_get ss r.section ≡ o → All HoldsBytes (option_map_or (λ x. set ss r.section (with_relocation g p r x)) o ss)
       by_section None e = h
       by_section (Some x) e =
           let here : HoldsBytes x = subst HoldsBytes (get_or_from_slice_get ss r.section x x e) (h r.section x (slice_get_within ss r.section x e)) in
-          All-set HoldsBytes ss r.section (written g p r x) (written_small r x here) h
+          All-set HoldsBytes ss r.section (with_relocation g p r x) (written_small r x here) h
 
   all_with_small : (rs : List Reloc) (ss : List SectionData) → All HoldsBytes ss → All HoldsBytes (fold (with_reloc g p) ss rs)
   all_with_small [] ss h = h
   all_with_small (r ∷ rs) ss h = all_with_small rs (with_reloc g p ss r) (with_small ss r h)
 
-  relocated_small : All HoldsBytes (p.object).sections → All HoldsBytes (relocated g p)
-  unfolding relocated
+  relocated_small : All HoldsBytes (p.object).sections → All HoldsBytes (relocated_sections g p)
+  unfolding relocated_sections
   relocated_small h = all_with_small (p.object).relocs (p.object).sections h
 
-contents_small : (g : List GlobalData) (places : List PlaceData) (before : List SectionData) (objects : List ObjectData) → All IsObjectOfBytes objects → All HoldsBytes (flat_map (relocated g) (placed_after places before objects))
+contents_small : (g : List GlobalData) (places : List PlaceData) (before : List SectionData) (objects : List ObjectData) → All IsObjectOfBytes objects → All HoldsBytes (flat_map (relocated_sections g) (placed_after places before objects))
 unfolding placed_after
 contents_small g places before [] h = All-nil HoldsBytes
 contents_small g places before (o ∷ os) h =
     let here : PlacedData = record { object = o; bases = bases_after places before o.sections } in
-    All-append HoldsBytes (relocated g here) (flat_map (relocated g) (placed_after places (before ++ o.sections) os)) (relocated_small g here (All-head IsObjectOfBytes o os h).bytes) (contents_small g places (before ++ o.sections) os (All-tail IsObjectOfBytes o os h))
+    All-append HoldsBytes (relocated_sections g here) (flat_map (relocated_sections g) (placed_after places (before ++ o.sections) os)) (relocated_small g here (All-head IsObjectOfBytes o os h).bytes) (contents_small g places (before ++ o.sections) os (All-tail IsObjectOfBytes o os h))
 
 -- ---- segments
 zero_small : IsByte 0
 zero_small = lit< tt
 
-padded_small : (bs : List ℕ) → All IsByte bs → All IsByte (padded bs)
+padded_small : (bs : List ℕ) → All IsByte bs → All IsByte (with_padding bs)
 padded_small bs h =
-    let n : ℕ = rounded (length bs) - length bs in
+    let n : ℕ = round_up (length bs) - length bs in
     All-append IsByte bs (replicate n 0) h (All-replicate IsByte n 0 zero_small)
 
-section_small : (name bs : List ℕ) (s : SectionData) → All IsByte bs → HoldsBytes s → (b : Bool) → All IsByte (cond b (padded bs ++ s.bytes) bs)
-section_small name bs s h k true = All-append IsByte (padded bs) s.bytes (padded_small bs h) k
+section_small : (name bs : List ℕ) (s : SectionData) → All IsByte bs → HoldsBytes s → (b : Bool) → All IsByte (cond b (with_padding bs ++ s.bytes) bs)
+section_small name bs s h k true = All-append IsByte (with_padding bs) s.bytes (padded_small bs h) k
 section_small name bs s h k false = h
 
 all_joined_small : (name : List ℕ) (sections : List SectionData) (bs : List ℕ) → All HoldsBytes sections → All IsByte bs → All IsByte (fold (with_section name) bs sections)
@@ -75,8 +75,8 @@ all_joined_small name [] bs h k = k
 all_joined_small name (s ∷ ss) bs h k =
     all_joined_small name ss (with_section name bs s) (All-tail HoldsBytes s ss h) (section_small name bs s k (All-head HoldsBytes s ss h) (bytes_eq name s.name))
 
-joined_small : (name : List ℕ) (sections : List SectionData) → All HoldsBytes sections → All IsByte (joined name sections)
-unfolding joined
+joined_small : (name : List ℕ) (sections : List SectionData) → All HoldsBytes sections → All IsByte (joined_sections name sections)
+unfolding joined_sections
 joined_small name sections h = all_joined_small name sections [] h (All-nil IsByte)
 
 abbrev IsSmall : SegmentData → Type 0

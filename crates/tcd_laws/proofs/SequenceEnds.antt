@@ -3,7 +3,7 @@ use Rattle.std.proofs.Common.{◌≡◌, ◌≤◌, ◌-◌, ◌⊎◌, inl, inr
 use Rattle.std.specs.Prelude.{IsTrue, IsSomeAnd}
 use Rattle.std.specs.Option.{option_map}
 use Rattle.tcd_base.specs.Files.{Map, FilesSeen, with_file}
-use Rattle.tcd_base.specs.Sink.{SinkSeen, appended, HasRoomFor}
+use Rattle.tcd_base.specs.Sink.{SinkSeen, with_appended, HasRoomFor}
 use Rattle.tcd_reading.specs.Reports.{Report, Written, with_written, Stopped}
 use Rattle.tcd_reading.specs.Inputs.{Reading, Says, AreSureOf}
 use Rattle.tcd_reading.specs.Outcomes.{IsPrinted, Prints, whole, cut, IsReported}
@@ -108,11 +108,11 @@ room_both : (o : Option ℕ) (xs ys : List ℕ) → option_map (λ n. n - length
 room_both None xs ys = refl
 room_both (Some n) xs ys = let same : n - length xs - length ys ≡ n - length (xs ++ ys) = omega (arith, length-append xs ys) in ap (λ (k : ℕ). Some k) same
 
-text_none : (o : Option (List ℕ)) → o ≡ appended o []
+text_none : (o : Option (List ℕ)) → o ≡ with_appended o []
 text_none None = refl
 text_none (Some w) = ap (λ (x : List ℕ). Some x) (sym (append-nil w))
 
-text_both : (o : Option (List ℕ)) (xs ys : List ℕ) → appended (appended o xs) ys ≡ appended o (xs ++ ys)
+text_both : (o : Option (List ℕ)) (xs ys : List ℕ) → with_appended (with_appended o xs) ys ≡ with_appended o (xs ++ ys)
 text_both None xs ys = refl
 text_both (Some w) xs ys = ap (λ (x : List ℕ). Some x) (append_assoc w xs ys)
 
@@ -138,7 +138,7 @@ none_end files files' sink sink' result h = record {
 whole_more : (q : Report) (qs : List Report) (files mid files' : FilesSeen) (sink between sink' : SinkSeen) → HasRoomFor sink q.text → HasDone q files mid sink between → IsWhole qs mid files' between sink' → IsWhole (q ∷ qs) files files' sink sink'
 whole_more q qs files mid files' sink between sink' room one rest = record {
   held = rest.held ∙ ap (λ (m : Option Map). with_written m (all_writes qs)) one.held ∙ sym (written_both files.held q.writes (all_writes qs));
-  written = rest.written ∙ ap (λ (o : Option (List ℕ)). appended o (all_text qs)) (one.printed).written ∙ text_both sink.written q.text (all_text qs);
+  written = rest.written ∙ ap (λ (o : Option (List ℕ)). with_appended o (all_text qs)) (one.printed).written ∙ text_both sink.written q.text (all_text qs);
   room = rest.room ∙ ap (λ (o : Option ℕ). option_map (λ n. n - length (all_text qs)) o) ((one.printed).room room) ∙ room_both sink.room q.text (all_text qs);
 }
 
@@ -165,7 +165,7 @@ out_later q qs files mid files' sink between sink' room one rest =
       behind = rest.behind;
       are = ap (λ (xs : List Report). q ∷ xs) rest.are;
       held = subst (λ (m : Option Map). (files'.held ≡ m) ⊎ Stopped m files'.held (rest.at).writes) same rest.held;
-      written = rest.written ∙ ap (λ (o : Option (List ℕ)). appended o text) (one.printed).written ∙ text_both sink.written q.text text;
+      written = rest.written ∙ ap (λ (o : Option (List ℕ)). with_appended o text) (one.printed).written ∙ text_both sink.written q.text text;
       room = rest.room ∙ ap (λ (o : Option ℕ). option_map (λ n. n - length text) o) ((one.printed).room room) ∙ room_both sink.room q.text text;
     }
 

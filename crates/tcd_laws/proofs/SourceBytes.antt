@@ -10,23 +10,23 @@ use Rattle.tc_lex.specs.Cut.{tokens_of}
 use Rattle.tc_isa.specs.declared.fields.Fields.{Fields}
 use Rattle.tc_isa.specs.Rows.{RowData, listed}
 use Rattle.tc_isa.specs.Words.{bounds}
-use Rattle.tc_isa.specs.Codec.{IsRow, word_of, is_long, spelled, spelling, four_bytes, two_bytes}
+use Rattle.tc_isa.specs.Codec.{IsRow, word_of, is_long, spelling_of, spelling, four_bytes, two_bytes}
 use Rattle.tc_isa.proofs.TableFacts.{row_at}
 use Rattle.tc_encode.proofs.Bytes.{word-lt, short-lt}
 use Rattle.tc_encode.proofs.Spelled.{below_from}
-use Rattle.tc_stmt.specs.Pieces.{PieceData, text_at}
-use Rattle.tc_stmt.specs.Operands.{OperandData, operands}
-use Rattle.tc_stmt.specs.Filling.{ReferenceData, FoundData, shape_index, is_symbol, is_half, symbol_rule, wrapped, reference}
-use Rattle.tc_stmt.specs.Judging.{statement}
-use Rattle.tc_asm.specs.Items.{ItemData, label, section, global, code, bytes, zeros}
-use Rattle.tc_asm.specs.Values.{fits_width, value_rule, value_item, space_item}
-use Rattle.tc_asm.specs.Lines.{LineData, line_data, word_of as name_operand, named_line, space_line, values_line, code_line, stated_line, line_from, has_label, line_with_label, pieces_line, piece_in, label_of, label_before, cut_line, line_in, lines_in}
+use Rattle.tc_lex.specs.Pieces.{PieceData, text_at}
+use Rattle.tc_lex.specs.Operands.{OperandData, operands}
+use Rattle.tc_stmt.specs.RowFields.{ReferenceData, RowFieldsData, shape_index, is_symbol, is_half, symbol_rule, wrap, reference}
+use Rattle.tc_stmt.specs.StatementRow.{statement}
+use Rattle.tc_stmt.specs.Items.{ItemData, label, section, global, code, bytes, zeros}
+use Rattle.tc_stmt.specs.Values.{fits_width, value_rule, value_item, space_item}
+use Rattle.tc_stmt.specs.Lines.{LineData, line_data, word_of as name_operand, named_line, space_line, values_line, code_line, stated_line, line_from, has_label, line_with_label, pieces_line, piece_in, label_of, label_before, cut_line, line_in, lines_in, items_in}
 use Rattle.tc_asm.specs.Symbols.{SymbolData}
 use Rattle.tc_asm.specs.Drafts.{PartData, DraftData, start, has_section, has_room, is_fit, spelled_code, resolved, code_bytes, stepped}
 use Rattle.tc_asm.specs.Sources.{symbols_of}
 use Rattle.tc_asm.specs.Objects.{section_of}
 use Rattle.tc_asm.specs.Kept.{Each}
-use Rattle.tc_asm.specs.Statements.{StatementData, content_of, standing, statements_from, items_in, section_bytes, bytes_at}
+use Rattle.tc_asm.specs.Statements.{StatementData, content_of, standing, statements_from, section_bytes, bytes_at}
 use Rattle.tc_asm.specs.Contents.{draft_in}
 use Rattle.tc_asm.proofs.LaidLaws.{drafted-bytes}
 use Rattle.tc_asm.proofs.ListLaws.{all_from_each}
@@ -62,7 +62,7 @@ spelled_small : (row : RowData) (f : Fields) → IsRow row → All IsByte (spell
 unfolding spelled_code
 spelled_small row f is = by_fit (is_fit row f) refl
   where
-    by_size : is_fit row f ≡ true → (b : Bool) → is_long row ≡ b → All IsByte (spelled b (word_of row f))
+    by_size : is_fit row f ≡ true → (b : Bool) → is_long row ≡ b → All IsByte (spelling_of b (word_of row f))
     by_size fit true e = four_small (word_of row f) (word-lt row.form row.op1 row.op2 f is.first is.second (below_from f (bounds row.form) (and_parts _ _ (and_parts _ _ fit).0).0))
     by_size fit false e =
         two_small (word_of row f)
@@ -98,7 +98,7 @@ choose true x y h k = h
 choose false x y h k = k
 
 -- a number that fits a width is a word
-wrapped_small : (bound : ℕ) (minus : Bool) (size : ℕ) → bound ≤ 2 ^ 32 → cond minus (leb size (bound / 2)) (ltb size bound) ≡ true → wrapped (2 ^ 32) minus size < 2 ^ 32
+wrapped_small : (bound : ℕ) (minus : Bool) (size : ℕ) → bound ≤ 2 ^ 32 → cond minus (leb size (bound / 2)) (ltb size bound) ≡ true → wrap (2 ^ 32) minus size < 2 ^ 32
 wrapped_small bound true size most e = by_zero (size == 0) refl
   where
     by_zero : (b : Bool) → (size == 0) ≡ b → cond (not b) (2 ^ 32 - size) size < 2 ^ 32
@@ -111,11 +111,11 @@ unfolding GoodItem
 rest_good width r true = All-take IsByte width (0 ∷ 0 ∷ 0 ∷ 0 ∷ []) no_word
 rest_good width r false = tt
 
-value_good : (width : ℕ) (minus : Bool) (size rest : ℕ) (r : ReferenceData) (memory one fits : Bool) → (fits ≡ true → wrapped (2 ^ 32) minus size < 2 ^ 32)
-    → GoodItem (cond (not (cond memory 3 (cond one (cond fits 15 5) rest) == 15)) (zeros width) (cond one (bytes (take width (four_bytes (wrapped (2 ^ 32) minus size))) None) (bytes (take width (0 ∷ 0 ∷ 0 ∷ 0 ∷ [])) (Some r))))
+value_good : (width : ℕ) (minus : Bool) (size rest : ℕ) (r : ReferenceData) (memory one fits : Bool) → (fits ≡ true → wrap (2 ^ 32) minus size < 2 ^ 32)
+    → GoodItem (cond (not (cond memory 3 (cond one (cond fits 15 5) rest) == 15)) (zeros width) (cond one (bytes (take width (four_bytes (wrap (2 ^ 32) minus size))) None) (bytes (take width (0 ∷ 0 ∷ 0 ∷ 0 ∷ [])) (Some r))))
 unfolding GoodItem
 value_good width minus size rest r true one fits small = tt
-value_good width minus size rest r false true true small = All-take IsByte width (four_bytes (wrapped (2 ^ 32) minus size)) (four_small (wrapped (2 ^ 32) minus size) (small refl))
+value_good width minus size rest r false true true small = All-take IsByte width (four_bytes (wrap (2 ^ 32) minus size)) (four_small (wrap (2 ^ 32) minus size) (small refl))
 value_good width minus size rest r false true false small = tt
 value_good width minus size rest r false false fits small = rest_good width r (rest == 15)
 
@@ -151,7 +151,7 @@ space_good [] = (tt, tt)
 space_good (o ∷ []) = (tt, tt)
 space_good (o ∷ p ∷ os) = (tt, tt)
 
-code_good : (name : List ℕ) (r : Result (ℕ × FoundData) ℕ) → GoodLine (code_line name r)
+code_good : (name : List ℕ) (r : Result (ℕ × RowFieldsData) ℕ) → GoodLine (code_line name r)
 unfolding GoodItem GoodLine
 code_good name (Ok found) = (tt, tt)
 code_good name (Err rule) = (tt, tt)

@@ -5,7 +5,7 @@ use Rattle.elf_image.specs.Written.{file_of}
 use Rattle.tc_object.specs.Objects.{ObjectData}
 use Rattle.tc_object.specs.Spelling.{bytes_of}
 use Rattle.tc_link.specs.Layouts.{LayoutData}
-use Rattle.tc_link.specs.Linked.{Refusal, linked}
+use Rattle.tc_link.specs.Linked.{Refusal, image_of_objects}
 use Rattle.tc_disasm.specs.Listing.{listing_of}
 use Rattle.tcd_base.specs.Files.{Map}
 use Rattle.tcd_reading.specs.Reports.{Report, says, writes_file}
@@ -36,11 +36,11 @@ same_image o i j e f = cc
 abbrev pub image_report : List ℕ → ImageData → Report
 image_report name i = writes_file name (file_of i) (linked_line (length (file_of i)))
 
-only_image : (name : List ℕ) (l : LayoutData) (objects : List ObjectData) (i : ImageData) → linked objects l ≡ Ok i → (o : Report) → IsLinked name l objects o → o ≡ image_report name i
-only_image name l objects i is o (refused r e f) = absurd (ok_err (linked objects l) i r is e)
-only_image name l objects i is o (image j e f) = f ∙ ap (λ (x : ImageData). writes_file name (file_of x) (linked_line (length (file_of x)))) (same_image (linked objects l) j i e is)
+only_image : (name : List ℕ) (l : LayoutData) (objects : List ObjectData) (i : ImageData) → image_of_objects objects l ≡ Ok i → (o : Report) → IsLinked name l objects o → o ≡ image_report name i
+only_image name l objects i is o (refused r e f) = absurd (ok_err (image_of_objects objects l) i r is e)
+only_image name l objects i is o (image j e f) = f ∙ ap (λ (x : ImageData). writes_file name (file_of x) (linked_line (length (file_of x)))) (same_image (image_of_objects objects l) j i e is)
 
-pub sure_link : (m : Map) (names : LinkNames) (l : LayoutData) (objects : List ObjectData) (i : ImageData) → HoldsInput layout_form (Some m) names.layout l → HoldEach object_form 0 (Some m) names.objects objects → linked objects l ≡ Ok i →
+pub sure_link : (m : Map) (names : LinkNames) (l : LayoutData) (objects : List ObjectData) (i : ImageData) → HoldsInput layout_form (Some m) names.layout l → HoldEach object_form 0 (Some m) names.objects objects → image_of_objects objects l ≡ Ok i →
     IsSure (link_reading names) (Some m) (image_report names.image i)
 sure_link m names l objects i is_layout are is =
     sure_input layout_form m names.layout l (λ l. each ObjectData object_form 0 names.objects (λ os. answer (IsLinked names.image l os))) (image_report names.image i) layout_lawful is_layout

@@ -5,7 +5,7 @@ use Rattle.elf_image.specs.Written.{file_of}
 use Rattle.tc_object.specs.Objects.{ObjectData}
 use Rattle.tc_object.specs.Spelling.{bytes_of}
 use Rattle.tc_link.specs.Layouts.{LayoutData}
-use Rattle.tc_link.specs.Linked.{linked}
+use Rattle.tc_link.specs.Linked.{image_of_objects}
 use Rattle.tc_disasm.specs.Listing.{listing_of}
 use Rattle.tcd_base.specs.Files.{Map, FilesSeen}
 use Rattle.tcd_base.specs.Sink.{SinkSeen, HasRoomFor}
@@ -77,7 +77,7 @@ pub record IsBuild (held : Option Map) (b : BuildData) : Type 0 where
   pub parts : All (IsPart held) b.parts
   pub apart : AreApart b
   pub layout : HoldsInput layout_form held b.layout b.rules
-  pub linked_is : linked (objects_of b.parts) b.rules ≡ Ok b.image
+  pub linked_is : image_of_objects (objects_of b.parts) b.rules ≡ Ok b.image
   pub short : length (file_of b.image) ≤ 2 ^ 24
 
 -- ---- the laws

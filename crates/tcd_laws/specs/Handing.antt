@@ -6,7 +6,7 @@ use Rattle.elf_image.specs.Written.{file_of}
 use Rattle.tc_object.specs.Objects.{ObjectData}
 use Rattle.tc_object.specs.Spelling.{bytes_of}
 use Rattle.tc_link.specs.Layouts.{LayoutData}
-use Rattle.tc_link.specs.Linked.{linked}
+use Rattle.tc_link.specs.Linked.{image_of_objects}
 use Rattle.tcd_base.specs.Files.{Map, FilesSeen, with_file}
 use Rattle.tcd_base.specs.Sink.{SinkSeen}
 use Rattle.tcd_reading.specs.Inputs.{FormSeen, HoldsInput, IsRefusal}
@@ -57,7 +57,7 @@ pub record IsLinkedTo (names : LinkNames) (held held' : Option Map) : Type 0 whe
   pub objects : List ObjectData
   pub objects_are : HoldEach object_form 0 held names.objects objects
   pub image : ImageData
-  pub linked_is : linked objects layout ≡ Ok image
+  pub linked_is : image_of_objects objects layout ≡ Ok image
   pub written : held' ≡ with_file held names.image (file_of image)
   pub read : length (file_of image) ≤ 2 ^ 24 → IsExactly elf_form held' names.image image
 

@@ -3,13 +3,13 @@ use Rattle.std.specs.Prelude.{◌≡◌, ◌<◌, ◌^◌, ℕ, List, length, Al
 use Rattle.elf_image.specs.Images.{ImageData, IsImage}
 use Rattle.tc_object.specs.Objects.{SectionData, ObjectData, IsObject}
 use Rattle.tc_object.specs.Spelling.{bytes_of}
-use Rattle.tc_asm.specs.Lines.{lines_in}
+use Rattle.tc_stmt.specs.Lines.{lines_in}
 use Rattle.tc_asm.specs.Sources.{KeepsRules}
 use Rattle.tc_asm.specs.Objects.{object_of}
 use Rattle.tc_asm.specs.Contents.{draft_in}
 use Rattle.tc_link.specs.Layouts.{LayoutData, IsLayout}
 use Rattle.tc_link.specs.Faults.{layout_of}
-use Rattle.tc_link.specs.Linked.{linked}
+use Rattle.tc_link.specs.Linked.{image_of_objects}
 
 -- a number of eight bits
 abbrev pub IsByte : ℕ → Type 0
@@ -40,4 +40,4 @@ TextsGiveLayouts = (text : List ℕ) (layout : LayoutData) → layout_of text �
 abbrev pub LinksGiveImages : Type 0
 LinksGiveImages =
     (objects : List ObjectData) (layout : LayoutData) (image : ImageData) → All IsObjectOfBytes objects → IsLayout layout
-    → linked objects layout ≡ Ok image → IsImage image
+    → image_of_objects objects layout ≡ Ok image → IsImage image

@@ -3,7 +3,7 @@ use Rattle.std.specs.Prelude.{◌≡◌, ◌≢◌, ◌-◌, ◌⊎◌, ℕ, Lis
 use Rattle.std.specs.List.{flat_map}
 use Rattle.std.specs.Option.{option_map}
 use Rattle.tcd_base.specs.Files.{Map, FilesSeen}
-use Rattle.tcd_base.specs.Sink.{SinkSeen, appended, HasRoomFor}
+use Rattle.tcd_base.specs.Sink.{SinkSeen, with_appended, HasRoomFor}
 use Rattle.tcd_reading.specs.Reports.{Report, Written, with_written, Stopped}
 use Rattle.tcd_reading.specs.Inputs.{Reading, Says, HoldsAsked}
 use Rattle.tcd_reading.specs.Outcomes.{IsQuiet}
@@ -57,7 +57,7 @@ all_text reports = flat_map (λ q. q.text) reports
 -- all was written and printed, and the room is less by all texts
 pub record IsWhole (reports : List Report) (files files' : FilesSeen) (sink sink' : SinkSeen) : Type 0 where
   pub held : files'.held ≡ with_written files.held (all_writes reports)
-  pub written : sink'.written ≡ appended sink.written (all_text reports)
+  pub written : sink'.written ≡ with_appended sink.written (all_text reports)
   pub room : sink'.room ≡ option_map (λ n. n - length (all_text reports)) sink.room
 
 -- Memory ran out in one of them: those before it wrote and printed all that they were to; it printed nothing, and if it wrote
@@ -68,7 +68,7 @@ pub record RanOut (reports : List Report) (files files' : FilesSeen) (sink sink'
   pub behind : List Report
   pub are : reports ≡ before ++ at ∷ behind
   pub held : (files'.held ≡ with_written files.held (all_writes before)) ⊎ Stopped (with_written files.held (all_writes before)) files'.held at.writes
-  pub written : sink'.written ≡ appended sink.written (all_text before)
+  pub written : sink'.written ≡ with_appended sink.written (all_text before)
   pub room : sink'.room ≡ option_map (λ n. n - length (all_text before)) sink.room
 
 -- Done or want of memory, and no fault of the files or the sink; where it is Done, all was written and printed.

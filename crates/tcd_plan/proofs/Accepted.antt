@@ -8,7 +8,7 @@ use Rattle.tcd_plan.specs.PlanData.{PlanData}
 use Rattle.tcd_plan.specs.Plans.{AreFew, are_areas, are_few, bad_value_of, has_areas, has_vectors, device_of, irq_of, numbered, overlap_of, places_of, range_of, refusal_of, refusals, told_by, too_many_of}
 use Rattle.tcd_plan.specs.Values.{word_in}
 use Rattle.tcd_plan.specs.declared.plans.PlanErr.TheVariants.{BadValue, TooMany, BadCsa, BadVector}
-use Rattle.tcd_base.specs.declared.types.Range.{Range}
+use Rattle.tcd_base.specs.declared.range.Range.{Range}
 use Rattle.tcd_plan.specs.declared.rows.Holder.TheVariants.{Rom, Ram, Devices}
 use Rattle.tcd_plan.proofs.Small.{first_some_none, four_hold, option_map_none, where_none}
 

@@ -4,7 +4,7 @@ use Rattle.std.specs.List.{find, list_all, list_any, position}
 use Rattle.std.specs.Option.{option_map_or, option_or}
 use Rattle.std.proofs.lemmas.Bool.{and_parts, ltb-true}
 use Rattle.serde_json.specs.Data.{Data}
-use Rattle.tcd_base.specs.declared.types.Range.{Range}
+use Rattle.tcd_base.specs.declared.range.Range.{Range}
 use Rattle.tcd_plan.specs.KeyRows.{KeyRow, holder_key, holders, key_rows}
 use Rattle.tcd_plan.specs.Objects.{has_unknown, is_bad, lacks, objects_of}
 use Rattle.tcd_plan.specs.PlanData.{PlanData, all_ranges, ranges_apart}

@@ -4,7 +4,7 @@ use Rattle.std.specs.List.{position}
 use Rattle.std.specs.Option.{option_map_or}
 use Rattle.std.proofs.lemmas.List.{at_drop_more, take_all, length-drop}
 use Rattle.serde_json.specs.Data.{Data}
-use Rattle.tcd_base.specs.declared.types.Range.{Range}
+use Rattle.tcd_base.specs.declared.range.Range.{Range}
 use Rattle.tcd_plan.specs.PlanData.{all_ranges, areas_range, ranges_apart}
 use Rattle.tcd_plan.specs.Objects.{objects_of}
 use Rattle.tcd_plan.specs.Plans.{device_of, overlap_from, range_of, told_by}

@@ -6,7 +6,7 @@ use Rattle.std.proofs.lemmas.Bool.{and_from, and_parts, eqb-true, leb-true, lt-l
 use Rattle.std.proofs.lemmas.List.{length-map}
 use Rattle.serde_json.specs.Data.{Data}
 use Rattle.serde_json.specs.Find.{get}
-use Rattle.tcd_base.specs.declared.types.Range.{Range}
+use Rattle.tcd_base.specs.declared.range.Range.{Range}
 use Rattle.tcd_plan.specs.Objects.{ascend_above, has_form, objects_of}
 use Rattle.tcd_plan.specs.PlanData.{AreAreas, AreIrqs, AreRanges, AreWords, IsPlan, PlanData, all_apart, all_ranges, ranges_apart}
 use Rattle.tcd_plan.specs.Plans.{are_few, bad_value_of, has_areas, has_vectors, overlap_from, overlap_of, places_of, range_of, refusal_of, told_by}

@@ -5,9 +5,9 @@ use Rattle.std.specs.Option.{option_map_or, option_or}
 use Rattle.serde_json.specs.Data.{Data}
 use Rattle.serde_json.specs.Find.{get}
 use Rattle.serde_json.specs.Read.{read}
-use Rattle.tcd_base.specs.declared.types.Range.{Range}
-use Rattle.tcd_base.specs.declared.types.Core.{Core}
-use Rattle.tcd_base.specs.declared.types.Core.TheVariants.{V13, V16}
+use Rattle.tcd_base.specs.declared.range.Range.{Range}
+use Rattle.tcd_base.specs.declared.core_version.Core.{Core}
+use Rattle.tcd_base.specs.declared.core_version.Core.TheVariants.{V13, V16}
 use Rattle.tcd_plan.specs.Keys.{key_texts}
 use Rattle.tcd_plan.specs.KeyRows.{KeyRow, key_rows, holders, holder_key}
 use Rattle.tcd_plan.specs.Objects.{has_unknown, is_bad, lacks, objects_of, passes}

@@ -21,7 +21,8 @@ pub fn missing(value: &Value) -> Option<PlanKey>
 }
 
 fn is_missing(row: &Row, value: &Value) -> bool
-    ensures { result ≡ list_any (lacks (row_of row.now)) (objects_of row.now.holder (view value.now)) }
+    ensures { result ≡ list_any (lacks (row_of row.now))
+        (objects_of row.now.holder (view value.now)) }
 {
     objects_of(row.holder, value)
         .iter()
@@ -36,7 +37,8 @@ pub fn bad_value(value: &Value) -> Option<PlanKey>
 }
 
 fn is_bad(row: &Row, value: &Value) -> bool
-    ensures { result ≡ list_any (is_bad (row_of row.now)) (objects_of row.now.holder (view value.now)) }
+    ensures { result ≡ list_any (is_bad (row_of row.now))
+        (objects_of row.now.holder (view value.now)) }
 {
     objects_of(row.holder, value)
         .iter()

@@ -71,7 +71,8 @@ fn text_word(text: &[u8]) -> Option<u32>
 
 fn hex_digits(digits: &[u8]) -> Option<u32>
     requires { length digits.now ≤ 8 }
-    ensures { result ≡ (if list_all is_hex digits.now then Some (digits_value 16 digits.now) else None) }
+    ensures { result ≡
+        (if list_all is_hex digits.now then Some (digits_value 16 digits.now) else None) }
 {
     let mut value = 0u32;
     for c in digits {

@@ -2,7 +2,7 @@
 use Rattle.std.specs.Prelude.{◌≡◌, ◌≤◌, ◌-◌, ℕ, List, length, IsTrue}
 use Rattle.std.specs.Option.{option_map}
 use Rattle.tcd_base.specs.Files.{FilesSeen, FaultCounted, AreSure, LeavesFaults}
-use Rattle.tcd_base.specs.Sink.{SinkSeen, appended, AppendsFront, HasRoomFor}
+use Rattle.tcd_base.specs.Sink.{SinkSeen, with_appended, AppendsFront, HasRoomFor}
 use Rattle.tcd_reading.specs.Reports.{Report, with_written, Stopped}
 use Rattle.tcd_reading.specs.Inputs.{Refuses, Reading, Says, AreSureOf}
 use Rattle.tcd_reading.specs.declared.status.Status.{Status}
@@ -42,7 +42,7 @@ pub record Comes (reading : Reading) (old new : FilesSeen) (o : Outcome) : Type 
 -- ---- how it ends
 -- a text is printed whole; where the sink surely takes it no fault is counted, and the room is less by it
 pub record IsPrinted (text : List ℕ) (old new : SinkSeen) : Type 0 where
-  pub written : new.written ≡ appended old.written text
+  pub written : new.written ≡ with_appended old.written text
   pub faults : HasRoomFor old text → new.faults ≡ old.faults
   pub room : HasRoomFor old text → new.room ≡ option_map (λ n. n - length text) old.room
 

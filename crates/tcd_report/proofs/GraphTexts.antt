@@ -16,10 +16,10 @@ use Rattle.cfg_recover.specs.Duties.{Owed, duties_of}
 use Rattle.cfg_recover.specs.Flows.{told_by, leave_of, Tells}
 use Rattle.cfg_recover.specs.Accepting.{limits_in}
 use Rattle.cfg_recover.specs.Frames.{to, call, irq, sys, aln, ret, rfe}
-use Rattle.tcd_report.specs.declared.ways.Ways.{Ways}
+use Rattle.tcd_report.specs.declared.edges.Edges.{Edges}
 use Rattle.tcd_report.specs.Graphs.{Arrow, goes, back, line_to, line_text, leaves_by, jumps_in, calls_in, backs_in, systems_in, misaligned_in, interrupts_in, arrows_of, ArePointLines}
 use Rattle.tcd_report.specs.Judging.{GrowsBy}
-use Rattle.tcd_report.specs.Told.{AreWays, lines_to, ways_text, leaving_text}
+use Rattle.tcd_report.specs.Told.{AreEdges, lines_to, ways_text, leaving_text}
 
 -- lines made from a list, one behind the other
 lines_joined : {A : Type 0} (f : A → List ℕ) (xs : List A) → flat_map (λ l. l) (map f xs) ≡ flat_map f xs
@@ -44,8 +44,8 @@ joined_six a b c d e f g =
     ∙ ap (λ l. a ++ l) (append_assoc b (c ++ (d ++ (e ++ f))) g ∙ ap (λ l. b ++ l) (append_assoc c (d ++ (e ++ f)) g ∙ ap (λ l. c ++ l) (append_assoc d (e ++ f) g ∙ ap (λ l. d ++ l) (append_assoc e f g))))
     )
 
-module _ (key : Key) (p : ℕ) (cert : CertData) (ds : List Owed) (s : Shape) (w : Ways) where
-  pub point_text : AreWays cert ds w → flat_map (λ l. l) (map (line_text key p) (arrows_of cert ds s)) ≡ ways_text key p w ++ leaving_text key p (leave_of s)
+module _ (key : Key) (p : ℕ) (cert : CertData) (ds : List Owed) (s : Shape) (w : Edges) where
+  pub point_text : AreEdges cert ds w → flat_map (λ l. l) (map (line_text key p) (arrows_of cert ds s)) ≡ ways_text key p w ++ leaving_text key p (leave_of s)
   unfolding arrows_of
   point_text h =
       let g : Arrow → List ℕ = line_text key p in
@@ -83,12 +83,12 @@ module _ (key : Key) (p : ℕ) (cert : CertData) (ds : List Owed) (s : Shape) (w
 
 -- a text that grew by these is that of the point's lines
 pub point_lines :
-    (image : ImageData) (plan : PlanData) (cert : CertData) (key : Key) (point : Point) (b : Limits) (f : Flow) (w : Ways) (before text after : List ℕ) → b ≡ limits_in plan cert → Tells b image plan key point.addr point.state f
-    → AreWays cert (told_by plan key point.state f) w → text ≡ before ++ ways_text key point.addr w → after ≡ text ++ leaving_text key point.addr f.leave → GrowsBy (ArePointLines image plan cert key point) before after
+    (image : ImageData) (plan : PlanData) (cert : CertData) (key : Key) (point : Point) (b : Limits) (f : Flow) (w : Edges) (before text after : List ℕ) → b ≡ limits_in plan cert → Tells b image plan key point.addr point.state f
+    → AreEdges cert (told_by plan key point.state f) w → text ≡ before ++ ways_text key point.addr w → after ≡ text ++ leaving_text key point.addr f.leave → GrowsBy (ArePointLines image plan cert key point) before after
 point_lines image plan cert key point b f w before text after same told are front whole =
     let ds : List Owed = duties_of (limits_in plan cert) image plan key point.addr point.state told.shape told.size in
     let owes : told_by plan key point.state f ≡ ds = told.told ∙ ap (λ x. duties_of x image plan key point.addr point.state told.shape told.size) same in
-    let ways : AreWays cert ds w = subst (λ ds. AreWays cert ds w) owes are in
+    let ways : AreEdges cert ds w = subst (λ ds. AreEdges cert ds w) owes are in
     let text_is = point_text key point.addr cert ds told.shape w ways in
     record {
       lines = map (line_text key point.addr) (arrows_of cert ds told.shape);

@@ -14,7 +14,8 @@ use Rattle.cfg_recover.specs.declared.flows.Enter.{Enter}
 use Rattle.cfg_recover.specs.declared.flows.Leave.{Leave}
 use Rattle.cfg_recover.specs.declared.flows.Leave.TheVariants.{Stays, Ret, Rfe}
 use Rattle.cfg_recover.specs.declared.flows.Flow.{Flow}
-use Rattle.cfg_recover.specs.Entries.{irq_key, exit_of}
+use Rattle.cfg_recover.specs.Entries.{irq_key}
+use Rattle.depth_cert.specs.Exits.{exit_of}
 use Rattle.cfg_recover.specs.Duties.{Owed, owed, jump, enter, resume, leave}
 use Rattle.cfg_recover.specs.Flows.{told_jump, told_jumps, entered_key, told_back, told_entry, rule_of_entry, told_irqs, told_leaving, told_by}
 use Rattle.tcd_report.specs.Graphs.{jump_by, entry_by, entries_in, back_by}

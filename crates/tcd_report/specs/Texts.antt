@@ -1,6 +1,7 @@
 -- Printed words and keys.
 use Rattle.std.specs.Prelude.{ℕ, ◌+◌, ◌/◌, ◌%◌, ◌^◌, ◌==◌, nat_lt, if◌then◌else◌, List, [], ◌∷◌, ◌++◌, codes}
 use Rattle.std.specs.Fmt.{decimal}
+use Rattle.depth_cert.specs.Keys.{start_kind, call_kind, irq_kind, sys_kind}
 use Rattle.depth_cert.specs.declared.keys.Key.{Key}
 
 -- a hex digit, in upper case
@@ -18,10 +19,10 @@ hex_word x = hex_byte (x / 2 ^ 24) ++ (hex_byte (x / 2 ^ 16 % 256) ++ (hex_byte 
 -- a kind of frame, and a blank
 unfoldable pub kind_text : ℕ → List ℕ
 kind_text kind =
-    if kind == 0 then codes "start "
-    else if kind == 1 then codes "call "
-    else if kind == 2 then codes "irq "
-    else if kind == 3 then codes "sys "
+    if kind == start_kind then codes "start "
+    else if kind == call_kind then codes "call "
+    else if kind == irq_kind then codes "irq "
+    else if kind == sys_kind then codes "sys "
     else codes "aln "
 
 -- a key: its kind, its entry, its priority, and whether the interrupt stack is in use

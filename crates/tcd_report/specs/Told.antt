@@ -1,6 +1,7 @@
 -- The lists of addresses behind the words of a point's lines, as a flow tells them.
 use Rattle.std.specs.Prelude.{◌≡◌, ◌==◌, ℕ, List, [], ◌∷◌, ◌++◌, map, codes, Option, Some, None, if◌then◌else◌}
 use Rattle.std.specs.List.{flat_map, list_any}
+use Rattle.depth_cert.specs.Keys.{call_kind}
 use Rattle.elf_image.specs.Images.{ImageData}
 use Rattle.tcd_plan.specs.PlanData.{PlanData}
 use Rattle.depth_cert.specs.declared.keys.Key.{Key}
@@ -12,7 +13,7 @@ use Rattle.cfg_recover.specs.declared.flows.Leave.TheVariants.{Stays, Ret, Rfe}
 use Rattle.cfg_recover.specs.Entries.{irq_key}
 use Rattle.cfg_recover.specs.Duties.{Owed, resume}
 use Rattle.cfg_recover.specs.Flows.{entered_key}
-use Rattle.tcd_report.specs.declared.ways.Ways.{Ways}
+use Rattle.tcd_report.specs.declared.edges.Edges.{Edges}
 use Rattle.tcd_report.specs.Graphs.{back_by, jumps_in, calls_in, backs_in, systems_in, misaligned_in, interrupts_in, line_front, line_to}
 
 -- a number more behind those that are there, unless it is one of them
@@ -32,12 +33,12 @@ entered_in (Some e) = e.targets.items
 -- what is entered by a call
 abbrev pub called_in : Option Enter → List ℕ
 called_in None = []
-called_in (Some e) = if e.kind == 1 then e.targets.items else []
+called_in (Some e) = if e.kind == call_kind then e.targets.items else []
 
 -- what is entered otherwise
 abbrev pub trapped_in : Option Enter → List ℕ
 trapped_in None = []
-trapped_in (Some e) = if e.kind == 1 then [] else e.targets.items
+trapped_in (Some e) = if e.kind == call_kind then [] else e.targets.items
 
 -- where frames of a kind, entered at these addresses, come back, once for each whose node has an exit
 abbrev pub returns_from : CertData → Key → ℕ → List ℕ → Option ℕ → List ℕ
@@ -54,7 +55,7 @@ abbrev pub vectors_in : PlanData → List ℕ → List ℕ
 vectors_in plan irqs = map (λ p. (irq_key plan p).entry) irqs
 
 -- the lists are those of a point's duties
-pub record AreWays (cert : CertData) (ds : List Owed) (w : Ways) : Type 0 where
+pub record AreEdges (cert : CertData) (ds : List Owed) (w : Edges) : Type 0 where
   pub to : w.to.items ≡ jumps_in ds
   pub call : w.call.items ≡ calls_in ds
   pub back : w.back.items ≡ backs_in cert ds
@@ -67,7 +68,7 @@ abbrev pub lines_to : Key → ℕ → List ℕ → List ℕ → List ℕ
 lines_to key p word targets = flat_map (line_to key p word) targets
 
 -- the lines of a point but for that of a return
-abbrev pub ways_text : Key → ℕ → Ways → List ℕ
+abbrev pub ways_text : Key → ℕ → Edges → List ℕ
 ways_text key p w =
     lines_to key p (codes "to ") w.to.items
     ++ (lines_to key p (codes "call ") w.call.items

@@ -6,9 +6,9 @@ ghost use Rattle.cfg_recover.specs.Local.{IsFaultless};
 ghost use Rattle.tcd_report.specs.Graphs.{ArePointLines, AreNodeLines, IsGraph};
 ghost use Rattle.tcd_report.specs.Judging.{IsJudged, GrowsBy};
 
+use crate::edges::edges_of;
 use crate::judged::Judged;
-use crate::lines::{append_leaving, append_ways};
-use crate::ways::ways_of;
+use crate::lines::{append_edges, append_leaving};
 use cfg_recover::flow;
 use depth_cert::{Cert, Key, Node, Point};
 use elf_image::Image;
@@ -43,8 +43,8 @@ fn append_point(
     ) else {
         unreachable!()
     };
-    let ways = ways_of(alloc, judged.plan, judged.cert, key, &told)?;
-    append_ways(text, key, point.addr, &ways)?;
+    let ways = edges_of(alloc, judged.plan, judged.cert, key, &told)?;
+    append_edges(text, key, point.addr, &ways)?;
     append_leaving(text, key, point.addr, told.leave)
 }
 

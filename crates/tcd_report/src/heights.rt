@@ -5,8 +5,8 @@ ghost use Rattle.depth_cert.specs.Nodes.{NodeData};
 ghost use Rattle.tcd_report.specs.Heights.{key_eq, rank_of, TellsHeights};
 ghost use Rattle.tcd_report.specs.Judging.{IsJudged};
 
+use crate::calls_in_a_row::rows_from;
 use crate::judged::Judged;
-use crate::rows::rows_from;
 use depth_cert::{Key, Node};
 use std::alloc::Global;
 use std::collections::HashMap;

@@ -2,6 +2,8 @@
 #![tactic(auto)]
 
 mod addresses;
+mod calls_in_a_row;
+mod edges;
 mod graphs;
 mod heights;
 mod judged;
@@ -9,9 +11,7 @@ mod laws;
 mod lines;
 mod longest;
 mod reports;
-mod rows;
 mod texts;
-mod ways;
 
 pub use graphs::graph;
 pub use laws::graph_law;

@@ -3,8 +3,8 @@ ghost use Rattle.std.specs.Prelude.{◌≡◌, ◌++◌, ◌∷◌, [], OnOk, st
 ghost use Rattle.tcd_report.specs.Graphs.{line_front, line_to};
 ghost use Rattle.tcd_report.specs.Told.{lines_to, ways_text, leaving_text};
 
+use crate::edges::Edges;
 use crate::texts::{append, append_key, append_word};
-use crate::ways::Ways;
 use cfg_recover::Leave;
 use depth_cert::Key;
 use tcd_base::NoMemory;
@@ -49,11 +49,11 @@ fn append_lines(
 }
 
 /// The lines of a point but for that of a return.
-pub(crate) fn append_ways(
+pub(crate) fn append_edges(
     text: &mut String,
     key: &Key,
     addr: u32,
-    ways: &Ways,
+    ways: &Edges,
 ) -> Result<(), NoMemory>
     ensures { OnOk result (string_bytes text.new
         ≡ string_bytes text.old ++ ways_text key.now addr ways.now) }

@@ -13,7 +13,8 @@ fn find_blank(text: &[u8]) -> Option<usize>
 
 /// The first word of a line and what stands behind its blank; nothing where the line is one word.
 pub fn cut_word(text: &[u8]) -> Option<(&[u8], &[u8])>
-    ensures { MatchOption result (words_of text.now ≡ text.now ∷ []) (λ p. words_of text.now ≡ p.0.now ∷ words_of p.1.now) }
+    ensures { MatchOption result (words_of text.now ≡ text.now ∷ [])
+        (λ p. words_of text.now ≡ p.0.now ∷ words_of p.1.now) }
 {
     match find_blank(text) {
         None => None,

@@ -3,7 +3,7 @@ use Rattle.std.proofs.Common.{◌≡◌, ℕ, ◌-◌, ◌<◌, ◌≤◌, inl, 
 use Rattle.std.proofs.lemmas.List.{take_more, take_all, take-append-drop}
 use Rattle.value_domain.specs.declared.values.Val.{Val}
 use Rattle.value_domain.specs.declared.values.Val.TheVariants.{Set, Span}
-use Rattle.value_domain.specs.Sets.{Among, Rising, AreWords, put, distinct, alignment_log2}
+use Rattle.value_domain.specs.Sets.{Among, Rising, AreWords, sorted_insert, distinct, alignment_log2}
 use Rattle.value_domain.specs.Limits.{Limits, AreLimits}
 use Rattle.value_domain.specs.Floors.{floor, above}
 use Rattle.value_domain.specs.Values.{IsMember, IsWell, IsValue, IsExtent, cover, members, range, words_of}
@@ -22,11 +22,11 @@ with_member b v x value m =
     ∙ cover-same b (members v) (x ∷ members v) (λ z i. inr i)
     (λ z i. elim i [ inl e ↦ subst (λ (y : ℕ). Among y (members v)) (sym e) (among_member v x (has_step v value.well) m) | inr j ↦ j ])
 
-distinct-more : (x : ℕ) (ws : List ℕ) → Rising ws → distinct (x ∷ ws) ≡ put x ws
+distinct-more : (x : ℕ) (ws : List ℕ) → Rising ws → distinct (x ∷ ws) ≡ sorted_insert x ws
 unfolding distinct
-distinct-more x ws r = ap (put x) (distinct-rising ws r)
+distinct-more x ws r = ap (sorted_insert x) (distinct-rising ws r)
 
-pub with_room : (b : Limits) (ws : List ℕ) (x : ℕ) → AreWords ws → length ws < b.most_words → Set (put x ws) ≡ cover b (x ∷ ws)
+pub with_room : (b : Limits) (ws : List ℕ) (x : ℕ) → AreWords ws → length ws < b.most_words → Set (sorted_insert x ws) ≡ cover b (x ∷ ws)
 with_room b ws x a room =
     let e = distinct-more x ws a.rising in
     ap (λ (l : List ℕ). Set l) (sym e) ∙ sym (cover-few b (x ∷ ws) (rw e (omega (arith, length_put x ws))))

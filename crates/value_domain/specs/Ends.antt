@@ -1,6 +1,6 @@
 -- Where ranges begin and end.
 use Rattle.std.specs.Prelude.{◌+◌, ℕ, List, [], ◌∷◌}
-use Rattle.tcd_base.specs.declared.types.Range.{Range}
+use Rattle.tcd_base.specs.declared.range.Range.{Range}
 
 -- the first address of each range, and the one past its last
 abbrev pub ends : List Range → List ℕ

@@ -1,5 +1,5 @@
 -- States, the covering of one by another, and the least state that covers two.
-use Rattle.std.specs.Prelude.{◌<◌, ◌≤◌, ℕ, Bool, ◌&&◌, ◌||◌, ◌==◌, if◌then◌else◌, min, List, [], ◌∷◌, ◌++◌, length, Option, Some, None, IsTrue, slice_index_or}
+use Rattle.std.specs.Prelude.{◌<◌, ◌≤◌, ℕ, Bool, ◌&&◌, ◌||◌, ◌==◌, if◌then◌else◌, min, List, [], ◌∷◌, ◌++◌, length, Option, Some, None, IsTrue, slice_index_or, nat_lt, nat_le}
 use Rattle.value_domain.specs.declared.values.Val.{Val}
 use Rattle.value_domain.specs.declared.states.State.{State}
 use Rattle.value_domain.specs.Limits.{Limits}
@@ -61,5 +61,9 @@ joined_of b s t = record {
 }
 
 -- none for unequal numbers of locals
-abbrev pub joined : Limits → State → State → Option State
-joined b s t = if length s.locals.items == length t.locals.items then Some (joined_of b s t) else None
+abbrev pub joined_states : Limits → State → State → Option State
+joined_states b s t = if length s.locals.items == length t.locals.items then Some (joined_of b s t) else None
+
+-- the places of the lower registers D0..D7 and A2..A7
+abbrev pub is_lower_slot : ℕ → Bool
+is_lower_slot i = nat_lt i 8 || (nat_le 16 i && nat_lt i 22)

@@ -1,7 +1,7 @@
 // States of 27 registers.
 ghost use Rattle.std.specs.Prelude.{◌≡◌, ◌≤◌, ◌<◌, ◌↔◌, IsTrue, length, ℕ, slice_index_or, ◌&&◌};
 ghost use Rattle.value_domain.specs.Values.{IsWell, IsValue, IsBelow, any_val};
-ghost use Rattle.value_domain.specs.State.{Covers, AreWell, AreValues, joined, joined_regs, joined_locals, AreBelow, ImpliedBy};
+ghost use Rattle.value_domain.specs.State.{Covers, AreWell, AreValues, joined_states, joined_regs, joined_locals, AreBelow, ImpliedBy};
 
 use crate::lattice::are_same;
 use crate::values::{copy_of, copy_to};
@@ -104,7 +104,7 @@ pub fn are_implied(flags: &[bool], others: &[bool]) -> bool
 pub fn join_states(b: &Bounds, s: &State, t: &State) -> Option<State>
     requires left { AreValues b.now s.now.regs }
     requires right { AreValues b.now t.now.regs }
-    ensures { result ≡ joined b.now s.now t.now }
+    ensures { result ≡ joined_states b.now s.now t.now }
 {
     if s.locals.len() != t.locals.len() {
         return None;

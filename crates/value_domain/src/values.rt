@@ -2,7 +2,7 @@
 ghost use Rattle.std.specs.Prelude.{◌≡◌, ◌≤◌, ◌<◌, ◌+◌, ◌-◌, ◌^◌, IsTrue, length, IfSome, IfNone, [], ◌∷◌, List, ℕ, option_map, ◌↔◌, slice_index};
 ghost use Rattle.std.specs.Prelude.{IsSome};
 ghost use Rattle.std.specs.List.Sorted.{IsStrictlyIncreasing};
-ghost use Rattle.value_domain.specs.Sets.{AreWords, Among, put, Rising};
+ghost use Rattle.value_domain.specs.Sets.{AreWords, Among, sorted_insert, Rising};
 ghost use Rattle.value_domain.specs.declared.values.Val.TheVariants.{Set, Span};
 
 use arrayvec::ArrayVec;
@@ -87,7 +87,7 @@ impl Words {
     pub fn put(&mut self, x: u32)
         requires room { length self.old < 128 }
         requires absent { ¬ Among x self.old }
-        ensures { self.new ≡ put x self.old }
+        ensures { self.new ≡ sorted_insert x self.old }
     {
         let at = place(self.words.as_slice(), x);
         self.words.insert(at, x);

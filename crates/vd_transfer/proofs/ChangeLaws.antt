@@ -9,15 +9,15 @@ use Rattle.value_domain.specs.declared.values.Val.{Val}
 use Rattle.value_domain.specs.declared.states.State.{State}
 use Rattle.value_domain.specs.Limits.{Limits}
 use Rattle.value_domain.specs.Values.{any_val, IsValue}
-use Rattle.value_domain.specs.State.{AreValues}
-use Rattle.vd_transfer.specs.declared.changes.Base.{Base}
-use Rattle.vd_transfer.specs.declared.changes.Base.TheVariants.{Same, Forgotten, Any}
-use Rattle.vd_transfer.specs.declared.changes.Put.{Put}
-use Rattle.vd_transfer.specs.declared.changes.Change.{Change}
+use Rattle.value_domain.specs.State.{AreValues, is_lower_slot}
+use Rattle.vd_transfer.specs.declared.change.Base.{Base}
+use Rattle.vd_transfer.specs.declared.change.Base.TheVariants.{Same, Forgotten, Any}
+use Rattle.vd_transfer.specs.declared.change.Put.{Put}
+use Rattle.vd_transfer.specs.declared.change.Change.{Change}
 use Rattle.vd_transfer.specs.Registers.{slot, set_at, set_reg, write_reg, is_lower}
-use Rattle.vd_transfer.specs.Effects.{forgotten_from, is_lower_slot}
+use Rattle.vd_transfer.specs.Effects.{forgotten_from}
 use Rattle.vd_transfer.specs.Branches.{set_arg}
-use Rattle.vd_transfer.specs.Changes.{base_of, value_put, put_in, changed, no_put, reg_put, arg_put, kept_of}
+use Rattle.vd_transfer.specs.Changes.{base_of, value_put, put_in, state_after, no_put, reg_put, arg_put, kept_of}
 use Rattle.vd_transfer.proofs.HoldLaws.{set_values_at}
 use Rattle.vd_transfer.proofs.RegisterLaws.{length-forgotten, get_or-forgotten}
 
@@ -27,32 +27,32 @@ set_at-is s v None = refl
 set_at-is s v (Some i) = refl
 
 -- ---- writes
-pub written-is : (s : State) (r : ℕ) (v : Val) → changed s (record (kept_of s) { second = reg_put r v; lower = s.lower && not (is_lower r) }) ≡ write_reg s r v
+pub written-is : (s : State) (r : ℕ) (v : Val) → state_after s (record (kept_of s) { second = reg_put r v; lower = s.lower && not (is_lower r) }) ≡ write_reg s r v
 written-is s r v = ap (λ (t : State). record t { lower = s.lower && not (is_lower r) }) (sym (set_at-is s v (slot r)))
 
 -- before the third value is put
 abbrev two_put : State → Change → List Val
 two_put s c = put_in (put_in (base_of c.base s.regs) c.first) c.second
 
-free-regs : (s : State) (c : Change) → c.third ≡ no_put → (changed s c).regs ≡ two_put s c
+free-regs : (s : State) (c : Change) → c.third ≡ no_put → (state_after s c).regs ≡ two_put s c
 free-regs s c free = ap (λ (p : Put). put_in (two_put s c) p) free
 
-pub written_last-is : (s : State) (c : Change) (r : ℕ) (v : Val) → c.third ≡ no_put → changed s (record c { third = reg_put r v; lower = c.lower && not (is_lower r) }) ≡ write_reg (changed s c) r v
+pub written_last-is : (s : State) (c : Change) (r : ℕ) (v : Val) → c.third ≡ no_put → state_after s (record c { third = reg_put r v; lower = c.lower && not (is_lower r) }) ≡ write_reg (state_after s c) r v
 written_last-is s c r v free =
     sym
-    (ap (λ (t : State). record t { lower = c.lower && not (is_lower r) }) (set_at-is (changed s c) v (slot r))
-    ∙ ap (λ (vs : List Val). record (changed s c) { regs = value_put vs v (slot r); lower = c.lower && not (is_lower r) }) (free-regs s c free))
+    (ap (λ (t : State). record t { lower = c.lower && not (is_lower r) }) (set_at-is (state_after s c) v (slot r))
+    ∙ ap (λ (vs : List Val). record (state_after s c) { regs = value_put vs v (slot r); lower = c.lower && not (is_lower r) }) (free-regs s c free))
 
-pub written_last-values : (b : Limits) (s : State) (c : Change) (r : ℕ) (v : Val) → AreValues b (changed s c).regs → c.third ≡ no_put → IsValue b v
-    → AreValues b (changed s (record c { third = reg_put r v; lower = c.lower && not (is_lower r) })).regs
+pub written_last-values : (b : Limits) (s : State) (c : Change) (r : ℕ) (v : Val) → AreValues b (state_after s c).regs → c.third ≡ no_put → IsValue b v
+    → AreValues b (state_after s (record c { third = reg_put r v; lower = c.lower && not (is_lower r) })).regs
 written_last-values b s c r v values free value =
-    subst (λ (t : State). AreValues b t.regs) (sym (written_last-is s c r v free)) (set_values_at b (changed s c) v (slot r) values value)
+    subst (λ (t : State). AreValues b t.regs) (sym (written_last-is s c r v free)) (set_values_at b (state_after s c) v (slot r) values value)
 
 -- ---- sides of branches
-pub one-is : (s : State) (x : ℕ) (v : Val) → changed s (record (kept_of s) { first = reg_put x v }) ≡ set_reg s x v
+pub one-is : (s : State) (x : ℕ) (v : Val) → state_after s (record (kept_of s) { first = reg_put x v }) ≡ set_reg s x v
 one-is s x v = sym (set_at-is s v (slot x))
 
-pub two-is : (s : State) (x : ℕ) (y : Arg) (v w : Val) → changed s (record (kept_of s) { first = reg_put x v; second = arg_put y w }) ≡ set_arg (set_reg s x v) y w
+pub two-is : (s : State) (x : ℕ) (y : Arg) (v w : Val) → state_after s (record (kept_of s) { first = reg_put x v; second = arg_put y w }) ≡ set_arg (set_reg s x v) y w
 two-is s x (Word z) v w = one-is s x v
 two-is s x (Reg r) v w =
     sym (set_at-is (set_reg s x v) w (slot r) ∙ ap (λ (t : State). record t { regs = value_put t.regs w (slot r) }) (set_at-is s v (slot x)))
@@ -61,7 +61,7 @@ arg_values : (b : Limits) (s : State) (y : Arg) (v : Val) → AreValues b s.regs
 arg_values b s (Reg r) v values value = set_values_at b s v (slot r) values value
 arg_values b s (Word w) v values value = values
 
-pub two_values : (b : Limits) (s : State) (x : ℕ) (y : Arg) (v w : Val) → AreValues b s.regs → IsValue b v → IsValue b w → AreValues b (changed s (record (kept_of s) { first = reg_put x v; second = arg_put y w })).regs
+pub two_values : (b : Limits) (s : State) (x : ℕ) (y : Arg) (v w : Val) → AreValues b s.regs → IsValue b v → IsValue b w → AreValues b (state_after s (record (kept_of s) { first = reg_put x v; second = arg_put y w })).regs
 two_values b s x y v w values left right =
     subst (λ (t : State). AreValues b t.regs) (sym (two-is s x y v w)) (arg_values b (set_reg s x v) y w (set_values_at b s v (slot x) values left) right)
 
@@ -92,7 +92,7 @@ length-base Same vs e = e
 length-base Forgotten vs e = length-forgotten 0 vs ∙ e
 length-base Any vs e = length-replicate 27 any_val
 
-pub length-changed : (s : State) (c : Change) → length s.regs ≡ 27 → length (changed s c).regs ≡ 27
+pub length-changed : (s : State) (c : Change) → length s.regs ≡ 27 → length (state_after s c).regs ≡ 27
 length-changed s c e =
     let base = base_of c.base s.regs in
     length-put (put_in (put_in base c.first) c.second) c.third ∙ length-put (put_in base c.first) c.second ∙ length-put base c.first ∙ length-base c.base s.regs e
@@ -109,24 +109,24 @@ module _ (s : State) (c : Change) (i : ℕ) (len : length s.regs ≡ 27) (h : i 
   base : List Val
   base = base_of c.base s.regs
 
-  pub value-third : c.third.at ≡ Some i → get_or (changed s c).regs i any_val ≡ c.third.value
+  pub value-third : c.third.at ≡ Some i → get_or (state_after s c).regs i any_val ≡ c.third.value
   value-third e =
       put-here (put_in (put_in (base_of c.base s.regs) c.first) c.second) c.third i
       (omega (arith, length-put (put_in (base_of c.base s.regs) c.first) c.second, length-put (base_of c.base s.regs) c.first, length-base c.base s.regs len)) e
 
-  past-third : (c.third.at ≡ Some i → ⊥) → get_or (changed s c).regs i any_val ≡ get_or (put_in (put_in (base_of c.base s.regs) c.first) c.second) i any_val
+  past-third : (c.third.at ≡ Some i → ⊥) → get_or (state_after s c).regs i any_val ≡ get_or (put_in (put_in (base_of c.base s.regs) c.first) c.second) i any_val
   past-third n = put-there (put_in (put_in (base_of c.base s.regs) c.first) c.second) c.third.value c.third.at i n
 
-  pub value-second : (c.third.at ≡ Some i → ⊥) → c.second.at ≡ Some i → get_or (changed s c).regs i any_val ≡ c.second.value
+  pub value-second : (c.third.at ≡ Some i → ⊥) → c.second.at ≡ Some i → get_or (state_after s c).regs i any_val ≡ c.second.value
   value-second n e =
       past-third n
       ∙ put-here (put_in (base_of c.base s.regs) c.first) c.second i (omega (arith, length-put (base_of c.base s.regs) c.first, length-base c.base s.regs len)) e
 
-  past-second : (c.third.at ≡ Some i → ⊥) → (c.second.at ≡ Some i → ⊥) → get_or (changed s c).regs i any_val ≡ get_or (put_in (base_of c.base s.regs) c.first) i any_val
+  past-second : (c.third.at ≡ Some i → ⊥) → (c.second.at ≡ Some i → ⊥) → get_or (state_after s c).regs i any_val ≡ get_or (put_in (base_of c.base s.regs) c.first) i any_val
   past-second n m = past-third n ∙ put-there (put_in (base_of c.base s.regs) c.first) c.second.value c.second.at i m
 
-  pub value-first : (c.third.at ≡ Some i → ⊥) → (c.second.at ≡ Some i → ⊥) → c.first.at ≡ Some i → get_or (changed s c).regs i any_val ≡ c.first.value
+  pub value-first : (c.third.at ≡ Some i → ⊥) → (c.second.at ≡ Some i → ⊥) → c.first.at ≡ Some i → get_or (state_after s c).regs i any_val ≡ c.first.value
   value-first n m e = past-second n m ∙ put-here (base_of c.base s.regs) c.first i (omega (arith, length-base c.base s.regs len)) e
 
-  pub value-base : (c.third.at ≡ Some i → ⊥) → (c.second.at ≡ Some i → ⊥) → (c.first.at ≡ Some i → ⊥) → get_or (changed s c).regs i any_val ≡ get_or (base_of c.base s.regs) i any_val
+  pub value-base : (c.third.at ≡ Some i → ⊥) → (c.second.at ≡ Some i → ⊥) → (c.first.at ≡ Some i → ⊥) → get_or (state_after s c).regs i any_val ≡ get_or (base_of c.base s.regs) i any_val
   value-base n m k = past-second n m ∙ put-there (base_of c.base s.regs) c.first.value c.first.at i k

@@ -11,21 +11,21 @@ use Rattle.tc_isa.specs.declared.shapes.Arg.TheVariants.{Reg, Word}
 use Rattle.tc_isa.specs.declared.shapes.Cond.{Cond}
 use Rattle.tc_isa.specs.declared.shapes.Op.TheVariants.{Add, Sub, Sh}
 use Rattle.tc_isa.specs.declared.shapes.Shape.TheVariants.{Compute, Scaled, Load, Store, Branch, Jump, Call, Ret, Rfe, Svlcx, Rslcx, Bisr, Enable, Disable, Syscall, Mfcr, Mtcr, Nothing}
-use Rattle.tc_isa.specs.Arithmetic.{alu_of, taken_of, shifted}
+use Rattle.tc_isa.specs.Arithmetic.{alu_of, taken_of, shift_by}
 use Rattle.tc_isa.specs.Bounded.{IsArg}
 use Rattle.value_domain.specs.declared.values.Val.{Val}
 use Rattle.value_domain.specs.declared.states.State.{State}
 use Rattle.value_domain.specs.Limits.{Limits, AreLimits}
 use Rattle.value_domain.specs.Sets.{Among}
 use Rattle.value_domain.specs.Values.{IsMember, IsValue, any_val, members}
-use Rattle.value_domain.specs.State.{AreValues}
+use Rattle.value_domain.specs.State.{AreValues, is_lower_slot}
 use Rattle.value_domain.proofs.CoverLaws.{among_member, has_step, cover_holds}
 use Rattle.value_domain.proofs.RangeLaws.{one_value, cover_value, members_below}
 use Rattle.vd_transfer.specs.Operations.{value_of}
 use Rattle.vd_transfer.specs.Refinement.{cover_some, kept_left, kept_right, kept_both, holds}
 use Rattle.vd_transfer.specs.Registers.{slot, reg_of, arg_of, value_at, fixed_of, set_at, set_reg, write_reg, word_val, is_lower}
-use Rattle.vd_transfer.specs.Effects.{with_base, access_of, saved_lower, restored_lower, is_lower_slot, transfer_of, address_of}
-use Rattle.vd_transfer.specs.Branches.{is_reg, set_arg, with_one, with_two, refined, lowered, refine_of}
+use Rattle.vd_transfer.specs.Effects.{with_base, access_of, saved_lower, restored_lower, transfer_of, address_of}
+use Rattle.vd_transfer.specs.Branches.{is_reg, set_arg, with_one, with_two, state_on_side, with_lowered_counter, refine_of}
 use Rattle.vd_transfer.specs.Holding.{Holds, set_word, word_of, access_word, with_base_word, words_after, ie_after, ccpn_after, HasValue, HasBaseValue}
 use Rattle.vd_transfer.specs.Soundness.{IsSetting, TransferHolds, RestoreHolds, BranchHolds, AddressHolds}
 use Rattle.vd_transfer.proofs.Meets.{filter_has, among_any, among_filter}
@@ -156,7 +156,7 @@ base_length b p s (Word w) offset after = refl
 base_length b p s (Reg r) offset false = refl
 base_length b p s (Reg r) offset true = write_length s r (value_of b Add (reg_of p s r) (word_val offset))
 
-scaled_word : (a x n : ℕ) → n < 4 → (a + shifted x (n % 64)) % 2 ^ 32 ≡ (a + x * 2 ^ n) % 2 ^ 32
+scaled_word : (a x n : ℕ) → n < 4 → (a + shift_by x (n % 64)) % 2 ^ 32 ≡ (a + x * 2 ^ n) % 2 ^ 32
 scaled_word a x n small =
     let same : n % 64 ≡ n = omega arith in
     rw (same, lt-ltb n 32 (omega arith)) (mod_twice a (x * 2 ^ n))
@@ -171,9 +171,9 @@ scaled_member b p s word ie ccpn base index n set small_b small_i few h =
     let vb = reg_value b p s base set in
     let vi = reg_value b p s index set in
     let vn = const_value b n set.limits (omega arith) in
-    let by : IsMember (shifted (word index) (n % 64)) (value_of b Sh (reg_of p s index) (word_val n)) = sound b Sh (reg_of p s index) (word_val n) set.limits vi vn (word index) n (h.regs index small_i) (const_member n) in
-    let sum : IsMember ((word base + shifted (word index) (n % 64)) % 2 ^ 32) (value_of b Add (reg_of p s base) (value_of b Sh (reg_of p s index) (word_val n))) =
-    sound b Add (reg_of p s base) (value_of b Sh (reg_of p s index) (word_val n)) set.limits vb (value_of_value b Sh (reg_of p s index) (word_val n) set.limits vi vn) (word base) (shifted (word index) (n % 64)) (h.regs base small_b) by in
+    let by : IsMember (shift_by (word index) (n % 64)) (value_of b Sh (reg_of p s index) (word_val n)) = sound b Sh (reg_of p s index) (word_val n) set.limits vi vn (word index) n (h.regs index small_i) (const_member n) in
+    let sum : IsMember ((word base + shift_by (word index) (n % 64)) % 2 ^ 32) (value_of b Add (reg_of p s base) (value_of b Sh (reg_of p s index) (word_val n))) =
+    sound b Add (reg_of p s base) (value_of b Sh (reg_of p s index) (word_val n)) set.limits vb (value_of_value b Sh (reg_of p s index) (word_val n) set.limits vi vn) (word base) (shift_by (word index) (n % 64)) (h.regs base small_b) by in
     subst (λ (w : ℕ). IsMember w (value_of b Add (reg_of p s base) (value_of b Sh (reg_of p s index) (word_val n)))) (scaled_word (word base) (word index) n few) sum
 
 any_member : (w : ℕ) → w < 2 ^ 32 → IsMember w any_val
@@ -319,7 +319,7 @@ same_reg x (Reg r) word e = ap word (sym (eqb-true x r e))
 same_reg x (Word w) word e = absurd (let f : false ≡ true = e in cc)
 
 refined_holds : (b : Limits) (p : PlanData) (cond : Cond) (x : ℕ) (y : Arg) (s : State) (side : Bool) (word : ℕ → ℕ) (ie : Bool) (ccpn : ℕ) → x < 32 → IsArg y → HoldsWell b p word ie ccpn s
-    → taken_of cond (word x) (word_of word y) ≡ side → IsSomeAnd (refined b p cond x y s side) (HoldsWell b p word ie ccpn)
+    → taken_of cond (word x) (word_of word y) ≡ side → IsSomeAnd (state_on_side b p cond x y s side) (HoldsWell b p word ie ccpn)
 refined_holds b p cond x y s side word ie ccpn small is h e =
     let set = h.setting in
     let vx = reg_value b p s x set in
@@ -344,7 +344,7 @@ less_member b v x limits vv m =
     subst (λ (w : ℕ). IsMember w (value_of b Sub v (word_val 1))) same (sound b Sub v (word_val 1) limits vv (const_value b 1 limits (omega arith)) x 1 m (const_member 1))
 
 lowered_holds : (b : Limits) (p : PlanData) (x : ℕ) (lowers : Bool) (t : Option State) (word : ℕ → ℕ) (ie : Bool) (ccpn : ℕ) → x < 32 → (IsTrue lowers → HasValue x) → IsSomeAnd t (HoldsWell b p word ie ccpn)
-    → IsSomeAnd (lowered b p x lowers t) (Holds p (if lowers then set_word word x ((word x + (2 ^ 32 - 1)) % 2 ^ 32) else word) ie ccpn)
+    → IsSomeAnd (with_lowered_counter b p x lowers t) (Holds p (if lowers then set_word word x ((word x + (2 ^ 32 - 1)) % 2 ^ 32) else word) ie ccpn)
 lowered_holds b p x lowers None word ie ccpn small has h = h
 lowered_holds b p x false (Some s) word ie ccpn small has h = h.holds
 lowered_holds b p x true (Some s) word ie ccpn small has h =
@@ -354,5 +354,5 @@ lowered_holds b p x true (Some s) word ie ccpn small has h =
 pub branch_holds : BranchHolds
 unfolding refine_of words_after
 branch_holds b p cond x y by lowers s side word ie ccpn set is writes h e =
-    lowered_holds b p x lowers (refined b p cond x y s side) word ie ccpn is.0 writes
+    lowered_holds b p x lowers (state_on_side b p cond x y s side) word ie ccpn is.0 writes
     (refined_holds b p cond x y s side word ie ccpn is.0 is.1 (record { holds = h; setting = set }) e)

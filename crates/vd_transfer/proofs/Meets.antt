@@ -11,9 +11,9 @@ use Rattle.value_domain.proofs.CoverLaws.{cover-same, range_among, among_range, 
 use Rattle.value_domain.proofs.ExtentLaws.{cover-more, cover-part, append_left, append_right, among_append}
 use Rattle.value_domain.proofs.RangeLaws.{cover-one}
 use Rattle.vd_transfer.specs.Refinement.{cover_some, in_span, is_member}
-use Rattle.vd_transfer.specs.Intervals.{related, Reaches, kept_by, IsIn}
-use Rattle.vd_transfer.specs.declared.refinement.Rel.{Rel}
-use Rattle.vd_transfer.specs.declared.refinement.Rel.TheVariants.{Same, Other, Less, AtLeast, More, AtMost}
+use Rattle.vd_transfer.specs.Intervals.{is_related, Reaches, kept_by, IsIn}
+use Rattle.vd_transfer.specs.declared.refinement.Relation.{Relation}
+use Rattle.vd_transfer.specs.declared.refinement.Relation.TheVariants.{Same, Other, Less, AtLeast, More, AtMost}
 use Rattle.vd_transfer.specs.declared.refinement.Interval.{Interval}
 
 pub cover_some-same : (b : Limits) (xs ys : List ℕ) → Within xs ys → Within ys xs → cover_some b xs ≡ cover_some b ys
@@ -148,9 +148,9 @@ is_member_parts x (Span lo last step) well = (
 )
 
 -- ---- some word of a set in a relation
-pub reaches : (rel : Rel) (x low high s : ℕ) (ws : List ℕ) → (rel ≡ Same → ⊥) → IsExtent ws low high s
-    → (list_any (λ y. related rel x y) ws ≡ true → Reaches rel low high x) × (Reaches rel low high x → list_any (λ y. related rel x y) ws ≡ true)
-unfolding related Reaches
+pub reaches : (rel : Relation) (x low high s : ℕ) (ws : List ℕ) → (rel ≡ Same → ⊥) → IsExtent ws low high s
+    → (list_any (λ y. is_related rel x y) ws ≡ true → Reaches rel low high x) × (Reaches rel low high x → list_any (λ y. is_related rel x y) ws ≡ true)
+unfolding is_related Reaches
 reaches Same x low high s ws order e = absurd (order refl)
 reaches Other x low high s ws order e = (
   (λ t.
@@ -184,25 +184,25 @@ reaches AtMost x low high s ws order e = (
 )
 
 -- the members of two intervals
-pub kept_intervals : (b : Limits) (rel : Rel) (vs ws : List ℕ) (i j : Interval) (low high s : ℕ) → (rel ≡ Same → ⊥) → IsExtent ws low high s
+pub kept_intervals : (b : Limits) (rel : Relation) (vs ws : List ℕ) (i j : Interval) (low high s : ℕ) → (rel ≡ Same → ⊥) → IsExtent ws low high s
     → ((x : ℕ) → Among x vs → x < 2 ^ 32)
     → ((x : ℕ) → x < 2 ^ 32 → (IsIn i x ⊎ IsIn j x → Reaches rel low high x) × (Reaches rel low high x → IsIn i x ⊎ IsIn j x))
     → cover_some b (filter (in_span i.lo i.last 0) vs ++ filter (in_span j.lo j.last 0) vs) ≡ cover_some b (kept_by rel vs ws)
 unfolding kept_by
 kept_intervals b rel vs ws i j low high s order e small are =
-    cover_some-same b (filter (in_span i.lo i.last 0) vs ++ filter (in_span j.lo j.last 0) vs) (filter (λ x. list_any (λ y. related rel x y) ws) vs)
+    cover_some-same b (filter (in_span i.lo i.last 0) vs ++ filter (in_span j.lo j.last 0) vs) (filter (λ x. list_any (λ y. is_related rel x y) ws) vs)
     (λ z k. elim (among_append z (filter (in_span i.lo i.last 0) vs) (filter (in_span j.lo j.last 0) vs) k) [
       | inl l ↦
           let f = among_filter (in_span i.lo i.last 0) z vs l in
           let n = in_span_parts i.lo i.last 0 z f.1 in
-          filter_has (λ x. list_any (λ y. related rel x y) ws) z vs f.0 ((reaches rel z low high s ws order e).1 ((are z (small z f.0)).0 (inl (n.0, n.1))))
+          filter_has (λ x. list_any (λ y. is_related rel x y) ws) z vs f.0 ((reaches rel z low high s ws order e).1 ((are z (small z f.0)).0 (inl (n.0, n.1))))
       | inr l ↦
           let f = among_filter (in_span j.lo j.last 0) z vs l in
           let n = in_span_parts j.lo j.last 0 z f.1 in
-          filter_has (λ x. list_any (λ y. related rel x y) ws) z vs f.0 ((reaches rel z low high s ws order e).1 ((are z (small z f.0)).0 (inr (n.0, n.1))))
+          filter_has (λ x. list_any (λ y. is_related rel x y) ws) z vs f.0 ((reaches rel z low high s ws order e).1 ((are z (small z f.0)).0 (inr (n.0, n.1))))
     ])
     (λ z k.
-    let f = among_filter (λ x. list_any (λ y. related rel x y) ws) z vs k in
+    let f = among_filter (λ x. list_any (λ y. is_related rel x y) ws) z vs k in
     elim ((are z (small z f.0)).1 ((reaches rel z low high s ws order e).0 f.1)) [
       | inl n ↦ append_left z (filter (in_span i.lo i.last 0) vs) (filter (in_span j.lo j.last 0) vs) (filter_has (in_span i.lo i.last 0) z vs f.0 (in_span_from i.lo i.last 0 z n.0 n.1 (omega arith)))
       | inr n ↦ append_right z (filter (in_span i.lo i.last 0) vs) (filter (in_span j.lo j.last 0) vs) (filter_has (in_span j.lo j.last 0) z vs f.0 (in_span_from j.lo j.last 0 z n.0 n.1 (omega arith)))
@@ -211,7 +211,7 @@ kept_intervals b rel vs ws i j low high s order e small are =
 -- the common members, by the words of either or by a range
 pub kept_common : (b : Limits) (vs ws : List ℕ) (p : ℕ → Bool) → ((x : ℕ) → (p x ≡ true → Among x vs) × (Among x vs → p x ≡ true))
     → cover_some b (filter p ws) ≡ cover_some b (kept_by Same vs ws)
-unfolding kept_by related
+unfolding kept_by is_related
 kept_common b vs ws p are =
     cover_some-same b (filter p ws) (filter (λ x. list_any (λ y. eqb x y) ws) vs)
     (λ z k.
@@ -224,7 +224,7 @@ kept_common b vs ws p are =
     filter_has p z ws (subst (λ (y : ℕ). Among y ws) (sym e) r.1) ((are z).1 f.0))
 
 pub kept_range : (b : Limits) (vs : List ℕ) (lo last s : ℕ) → s ≤ 2 → cover_some b (filter (in_span lo last s) vs) ≡ cover_some b (kept_by Same vs (range lo last s))
-unfolding kept_by related
+unfolding kept_by is_related
 kept_range b vs lo last s small =
     cover_some-same b (filter (in_span lo last s) vs) (filter (λ x. list_any (λ y. eqb x y) (range lo last s)) vs)
     (λ z k.

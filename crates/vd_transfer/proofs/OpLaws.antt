@@ -14,13 +14,13 @@ use Rattle.value_domain.specs.Values.{IsMember, IsWell, IsValue, IsBelow, IsExte
 use Rattle.value_domain.proofs.SetLaws.{length_within}
 use Rattle.value_domain.proofs.CoverLaws.{cover-same, cover_holds, cover_mono, cover_own, cover_step, among_member, member_among, has_step, range_among, among_range, rising_multiples, unit_some, length-multiples}
 use Rattle.value_domain.specs.declared.lattice.Extent.{Extent}
-use Rattle.vd_transfer.specs.declared.runs.Run.{Run}
+use Rattle.vd_transfer.specs.declared.strided_interval.StridedInterval.{StridedInterval}
 use Rattle.value_domain.proofs.Loops.{among_get}
 use Rattle.value_domain.proofs.ExtentLaws.{cover-part, extent_only, extent_rising, append_left, append_right, among_append, some_length}
 use Rattle.value_domain.proofs.RangeLaws.{words_more, members_below, some_members, span_count, set_value}
 use Rattle.tc_isa.specs.declared.shapes.Op.{Op}
 use Rattle.tc_isa.specs.declared.shapes.Op.TheVariants.{Second, Add, Sub, And, Nand, Or, Nor, Xor, Xnor, Andn, Orn, Eq, Ne, Lt, LtU, Ge, GeU, Sh, Sha}
-use Rattle.tc_isa.specs.Arithmetic.{alu_of, shifted, shifted_signed, complement, one_if, signed_place}
+use Rattle.tc_isa.specs.Arithmetic.{alu_of, shift_by, shifted_signed, complement, one_if, signed_place}
 use Rattle.vd_transfer.specs.Operations.{low, high, step, results, row, pairs, whole, all_of, runs, bounds, gives_truth, by_count, Shifts, differences, sums, shifts, signed_shifts, value_of, range_of, HasMet}
 use Rattle.vd_transfer.specs.Laws.{AreSound, AreMonotone}
 use Rattle.vd_transfer.proofs.Rows.{Lies, sums_have, sums_grow, differences_have, differences_grow, ands_have, ands_grow, shifts_have, shifts_grow, shifts_below}
@@ -70,7 +70,7 @@ pub record AreShifts (shift : Shifts) (by : ℕ → ℕ → ℕ) : Type 0 where
   pub word : (x n : ℕ) → x < 2 ^ 32 → by x n < 2 ^ 32
   pub small : (a b p n : ℕ) → (shift a b p n).step ≤ 2
 
-shifted_below : (x n : ℕ) → x < 2 ^ 32 → shifted x n < 2 ^ 32
+shifted_below : (x n : ℕ) → x < 2 ^ 32 → shift_by x n < 2 ^ 32
 shifted_below x n h =
     elim (cases_lt n 32) [
       | inl left ↦ rw (lt-ltb n 32 left) (omega arith)
@@ -85,7 +85,7 @@ shifts_step a b p n =
       | inr t ↦ rw t (omega arith)
     ]
 
-pub logical : AreShifts shifts shifted
+pub logical : AreShifts shifts shift_by
 logical = record {
   have = shifts_have;
   grow = λ a b p n a2 b2 p2 small bb la hb hp. shifts_grow a b p n a2 b2 p2 small la hb hp;
@@ -95,10 +95,10 @@ logical = record {
 }
 
 -- a shift to the left, and one of a word without the sign bit, is filled with zeros
-same_left : (x n : ℕ) → n < 32 → shifted_signed x n ≡ shifted x n
+same_left : (x n : ℕ) → n < 32 → shifted_signed x n ≡ shift_by x n
 same_left x n h = rw (lt-ltb n 32 h) refl
 
-same_right : (x n : ℕ) → 32 ≤ n → x < 2 ^ 31 → shifted_signed x n ≡ shifted x n
+same_right : (x n : ℕ) → 32 ≤ n → x < 2 ^ 31 → shifted_signed x n ≡ shift_by x n
 same_right x n h small = rw (le-ltb n 32 h, lt-ltb x (2 ^ 31) small) refl
 
 signed_word : (x n : ℕ) → x < 2 ^ 32 → shifted_signed x n < 2 ^ 32
@@ -470,7 +470,7 @@ runs_step Ge e f w a b = omega arith
 runs_step GeU e f w a b = omega arith
 
 -- a run that a row covers isn't empty
-pub run_some : (r : Run) (op : Op) (v w : Val) → IsWell v → IsWell w → range_of r ≡ row op v w → 1 ≤ count_in r.first r.last r.step
+pub run_some : (r : StridedInterval) (op : Op) (v w : Val) → IsWell v → IsWell w → range_of r ≡ row op v w → 1 ≤ count_in r.first r.last r.step
 run_some r op v w wv ww e =
     let i = row_has op v w wv ww (low v) (low w) (bounds_of v wv).low_in (bounds_of w ww).low_in in
     let j : Among (alu_of op (low v) (low w)) (range_of r) = rw e i in

@@ -8,9 +8,9 @@ use Rattle.value_domain.specs.declared.values.Val.{Val}
 use Rattle.value_domain.specs.declared.states.State.{State}
 use Rattle.value_domain.specs.Limits.{Limits, AreLimits}
 use Rattle.value_domain.specs.Values.{IsValue, any_val}
-use Rattle.value_domain.specs.State.{AreValues}
+use Rattle.value_domain.specs.State.{AreValues, is_lower_slot}
 use Rattle.value_domain.proofs.RangeLaws.{one_value, any_value}
-use Rattle.vd_transfer.specs.Effects.{forgotten_from, is_lower_slot}
+use Rattle.vd_transfer.specs.Effects.{forgotten_from}
 use Rattle.vd_transfer.specs.Registers.{slot, reg_of, value_at, fixed_of, global_of}
 
 -- the plan's words are words

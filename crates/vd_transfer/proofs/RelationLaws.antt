@@ -9,9 +9,9 @@ use Rattle.value_domain.specs.declared.values.Val.{Val}
 use Rattle.value_domain.specs.Limits.{Limits}
 use Rattle.value_domain.specs.Values.{IsValue, members}
 use Rattle.value_domain.proofs.RangeLaws.{some_members}
-use Rattle.vd_transfer.specs.declared.refinement.Rel.{Rel}
-use Rattle.vd_transfer.specs.declared.refinement.Rel.TheVariants.{Same, Other, Less, AtLeast, More, AtMost}
-use Rattle.vd_transfer.specs.Intervals.{related, kept_by}
+use Rattle.vd_transfer.specs.declared.refinement.Relation.{Relation}
+use Rattle.vd_transfer.specs.declared.refinement.Relation.TheVariants.{Same, Other, Less, AtLeast, More, AtMost}
+use Rattle.vd_transfer.specs.Intervals.{is_related, kept_by}
 use Rattle.vd_transfer.specs.Refinement.{holds, kept_left, kept_right, kept_both, cover_some}
 use Rattle.vd_transfer.specs.Relations.{relation_of, is_signed, converse, self_holds}
 use Rattle.vd_transfer.specs.Signs.{kept_signed}
@@ -35,8 +35,8 @@ eqb_swapped x y =
     ]
 
 -- the relation of a condition's side
-pub related_holds : (c : Cond) (side : Bool) (x y : ℕ) → is_signed c ≡ false → related (relation_of c side) x y ≡ holds c side x y
-unfolding related relation_of is_signed taken_of
+pub related_holds : (c : Cond) (side : Bool) (x y : ℕ) → is_signed c ≡ false → is_related (relation_of c side) x y ≡ holds c side x y
+unfolding is_related relation_of is_signed taken_of
 related_holds cond.Eq true x y e = refl
 related_holds cond.Eq false x y e = refl
 related_holds cond.Ne true x y e = refl
@@ -49,8 +49,8 @@ related_holds cond.GeU true x y e = refl
 related_holds cond.GeU false x y e = sym (not_leb y x)
 
 -- the same in the signed order
-pub related_signed : (c : Cond) (side : Bool) (x y : ℕ) → is_signed c ≡ true → related (relation_of c side) (signed_place x) (signed_place y) ≡ holds c side x y
-unfolding related relation_of is_signed taken_of
+pub related_signed : (c : Cond) (side : Bool) (x y : ℕ) → is_signed c ≡ true → is_related (relation_of c side) (signed_place x) (signed_place y) ≡ holds c side x y
+unfolding is_related relation_of is_signed taken_of
 related_signed cond.Eq side x y e = cc
 related_signed cond.Ne side x y e = cc
 related_signed cond.Lt true x y e = refl
@@ -60,8 +60,8 @@ related_signed cond.Ge true x y e = refl
 related_signed cond.Ge false x y e = sym (not_leb (signed_place y) (signed_place x))
 related_signed cond.GeU side x y e = cc
 
-pub converse_related : (rel : Rel) (x y : ℕ) → related (converse rel) y x ≡ related rel x y
-unfolding related converse
+pub converse_related : (rel : Relation) (x y : ℕ) → is_related (converse rel) y x ≡ is_related rel x y
+unfolding is_related converse
 converse_related Same x y = eqb_swapped x y
 converse_related Other x y = ap not (eqb_swapped x y)
 converse_related Less x y = refl
@@ -81,7 +81,7 @@ signed_order cond.Ge true e f = cc
 signed_order cond.Ge false e f = cc
 signed_order cond.GeU side e f = absurd (let g : false ≡ true = e in cc)
 
-pub converse_order : (rel : Rel) → (rel ≡ Same → ⊥) → converse rel ≡ Same → ⊥
+pub converse_order : (rel : Relation) → (rel ≡ Same → ⊥) → converse rel ≡ Same → ⊥
 unfolding converse
 converse_order Same n f = n refl
 converse_order Other n f = cc

@@ -7,7 +7,7 @@ use Rattle.std.proofs.Math.Nat.{mul-le-mul_right}
 use Rattle.value_domain.specs.Sets.{Among, Within, alignment_log2}
 use Rattle.value_domain.specs.Values.{range}
 use Rattle.value_domain.proofs.CoverLaws.{range_among, among_range, from_units}
-use Rattle.tc_isa.specs.Arithmetic.{shifted}
+use Rattle.tc_isa.specs.Arithmetic.{shift_by}
 use Rattle.vd_transfer.specs.Operations.{sums, differences, shifts, range_of}
 use Rattle.vd_transfer.proofs.Steps.{twos_add, twos_sub, twos_mod, twos_and_both, twos_shift}
 
@@ -85,7 +85,7 @@ pub ands_grow : (b d p q b2 d2 p2 q2 : ℕ) → p ≤ 2 → q ≤ 2 → b ≤ b2
 ands_grow b d p q b2 d2 p2 q2 sp sq hb hd hp hq = range_inside 0 (min b d) (max p q) 0 (min b2 d2) (max p2 q2) (omega arith) (omega arith) (omega arith) (omega arith)
 
 -- ---- Sh by n
-pub shifts_have : (x a b p n : ℕ) → p ≤ 2 → Lies x a b p → b < 2 ^ 32 → Among (shifted x n) (range_of (shifts a b p n))
+pub shifts_have : (x a b p n : ℕ) → p ≤ 2 → Lies x a b p → b < 2 ^ 32 → Among (shift_by x n) (range_of (shifts a b p n))
 unfolding shifts
 shifts_have x a b p n small l bb =
     elim (cases_lt n 32) [

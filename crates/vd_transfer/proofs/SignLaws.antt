@@ -11,10 +11,10 @@ use Rattle.value_domain.proofs.CoverLaws.{range_among, among_range, step_cases, 
 use Rattle.value_domain.proofs.ExtentLaws.{among_append, append_left, append_right}
 use Rattle.vd_transfer.specs.Refinement.{cover_some, in_span}
 use Rattle.tc_isa.specs.Arithmetic.{signed_place}
-use Rattle.vd_transfer.specs.Intervals.{related, Reaches, IsIn}
+use Rattle.vd_transfer.specs.Intervals.{is_related, Reaches, IsIn}
 use Rattle.vd_transfer.specs.Signs.{IsSignedRange, kept_signed}
-use Rattle.vd_transfer.specs.declared.refinement.Rel.{Rel}
-use Rattle.vd_transfer.specs.declared.refinement.Rel.TheVariants.{Same, Other, Less, AtLeast, More, AtMost}
+use Rattle.vd_transfer.specs.declared.refinement.Relation.{Relation}
+use Rattle.vd_transfer.specs.declared.refinement.Relation.TheVariants.{Same, Other, Less, AtLeast, More, AtMost}
 use Rattle.vd_transfer.specs.declared.refinement.Interval.{Interval}
 use Rattle.vd_transfer.proofs.Steps.{twos_sub}
 use Rattle.vd_transfer.proofs.Meets.{cover_some-same, any_among, among_any, among_filter, filter_has, in_span_parts, in_span_from}
@@ -96,10 +96,10 @@ aside {least} {greatest} lo last s well e side = record {
     ordered_2 z i a b d = elim side [ inl below ↦ omega arith | inr past ↦ omega (arith, well.2) ]
 
 -- ---- some word of a set in a relation
-pub reaches_signed : (rel : Rel) (x low high : ℕ) (ws : List ℕ) → (rel ≡ Same → ⊥) → IsSignedRange ws low high
-    → (list_any (λ y. related rel (signed_place x) (signed_place y)) ws ≡ true → Reaches rel (signed_place low) (signed_place high) (signed_place x))
-    × (Reaches rel (signed_place low) (signed_place high) (signed_place x) → list_any (λ y. related rel (signed_place x) (signed_place y)) ws ≡ true)
-unfolding related Reaches
+pub reaches_signed : (rel : Relation) (x low high : ℕ) (ws : List ℕ) → (rel ≡ Same → ⊥) → IsSignedRange ws low high
+    → (list_any (λ y. is_related rel (signed_place x) (signed_place y)) ws ≡ true → Reaches rel (signed_place low) (signed_place high) (signed_place x))
+    × (Reaches rel (signed_place low) (signed_place high) (signed_place x) → list_any (λ y. is_related rel (signed_place x) (signed_place y)) ws ≡ true)
+unfolding is_related Reaches
 reaches_signed Same x low high ws order e = absurd (order refl)
 reaches_signed Other x low high ws order e = (
   (λ t.
@@ -163,7 +163,7 @@ part_is i vs z = (
 )
 
 -- the members of four intervals
-pub kept_parts : (b : Limits) (rel : Rel) (vs ws : List ℕ) (i j i1 i2 j1 j2 : Interval) (low high : ℕ) → (rel ≡ Same → ⊥) → IsSignedRange ws low high
+pub kept_parts : (b : Limits) (rel : Relation) (vs ws : List ℕ) (i j i1 i2 j1 j2 : Interval) (low high : ℕ) → (rel ≡ Same → ⊥) → IsSignedRange ws low high
     → ((x : ℕ) → Among x vs → x < 2 ^ 32)
     → ((x : ℕ) → x < 2 ^ 32 → (IsIn i x ⊎ IsIn j x → Reaches rel (signed_place low) (signed_place high) x) × (Reaches rel (signed_place low) (signed_place high) x → IsIn i x ⊎ IsIn j x))
     → ((x : ℕ) → x < 2 ^ 32 → (IsIn i1 x ⊎ IsIn i2 x → IsIn i (signed_place x)) × (IsIn i (signed_place x) → IsIn i1 x ⊎ IsIn i2 x))
@@ -171,7 +171,7 @@ pub kept_parts : (b : Limits) (rel : Rel) (vs ws : List ℕ) (i j i1 i2 j1 j2 : 
     → cover_some b ((part i1 vs ++ part i2 vs) ++ (part j1 vs ++ part j2 vs)) ≡ cover_some b (kept_signed rel vs ws)
 unfolding kept_signed
 kept_parts b rel vs ws i j i1 i2 j1 j2 low high order e small are first second =
-    cover_some-same b ((part i1 vs ++ part i2 vs) ++ (part j1 vs ++ part j2 vs)) (filter (λ x. list_any (λ y. related rel (signed_place x) (signed_place y)) ws) vs)
+    cover_some-same b ((part i1 vs ++ part i2 vs) ++ (part j1 vs ++ part j2 vs)) (filter (λ x. list_any (λ y. is_related rel (signed_place x) (signed_place y)) ws) vs)
     (λ z k. elim (among_append z (part i1 vs ++ part i2 vs) (part j1 vs ++ part j2 vs) k) [
       | inl l ↦ elim (among_append z (part i1 vs) (part i2 vs) l) [
         | inl m ↦ let p = (part_is i1 vs z).0 m in in_kept z p.0 (inl ((first z (small z p.0)).0 (inl p.1)))
@@ -183,7 +183,7 @@ kept_parts b rel vs ws i j i1 i2 j1 j2 low high order e small are first second =
       ]
     ])
     (λ z k.
-    let f = among_filter (λ x. list_any (λ y. related rel (signed_place x) (signed_place y)) ws) z vs k in
+    let f = among_filter (λ x. list_any (λ y. is_related rel (signed_place x) (signed_place y)) ws) z vs k in
     elim ((are (signed_place z) (signed_word z)).1 ((reaches_signed rel z low high ws order e).0 f.1)) [
       | inl n ↦ append_left z (part i1 vs ++ part i2 vs) (part j1 vs ++ part j2 vs)
           (elim ((first z (small z f.0)).1 n) [ inl m ↦ append_left z (part i1 vs) (part i2 vs) ((part_is i1 vs z).1 f.0 m) | inr m ↦ append_right z (part i1 vs) (part i2 vs) ((part_is i2 vs z).1 f.0 m) ])
@@ -194,8 +194,8 @@ kept_parts b rel vs ws i j i1 i2 j1 j2 low high order e small are first second =
     signed_word : (z : ℕ) → signed_place z < 2 ^ 32
     signed_word z = omega arith
 
-    in_kept : (z : ℕ) → Among z vs → IsIn i (signed_place z) ⊎ IsIn j (signed_place z) → Among z (filter (λ x. list_any (λ y. related rel (signed_place x) (signed_place y)) ws) vs)
-    in_kept z k s = filter_has (λ x. list_any (λ y. related rel (signed_place x) (signed_place y)) ws) z vs k ((reaches_signed rel z low high ws order e).1 ((are (signed_place z) (signed_word z)).0 s))
+    in_kept : (z : ℕ) → Among z vs → IsIn i (signed_place z) ⊎ IsIn j (signed_place z) → Among z (filter (λ x. list_any (λ y. is_related rel (signed_place x) (signed_place y)) ws) vs)
+    in_kept z k s = filter_has (λ x. list_any (λ y. is_related rel (signed_place x) (signed_place y)) ws) z vs k ((reaches_signed rel z low high ws order e).1 ((are (signed_place z) (signed_word z)).0 s))
 
 pub unit_shift_32 : (s : ℕ) → s ≤ 2 → 1 * 2 ^ s % 2 ^ 32 ≡ 2 ^ s
 unit_shift_32 = step_cases (λ s. 1 * 2 ^ s % 2 ^ 32 ≡ 2 ^ s) refl refl refl

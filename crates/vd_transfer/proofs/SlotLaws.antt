@@ -2,7 +2,7 @@
 use Rattle.std.proofs.Common.{◌≡◌, ℕ, ◌+◌, ◌-◌, ◌<◌, ◌≤◌, inl, inr, false, refl, sym, ap, ◌∙◌, arith, Some, None, leb, ltb, eqb, ◌&&◌, if◌then◌else◌}
 use Rattle.std.proofs.lemmas.Bool.{cases_lt, cases_Bool, lt-ltb, le-ltb, le-leb, lt-leb, eqb-true, leb-true, and_parts}
 use Rattle.vd_transfer.specs.Registers.{slot, is_lower}
-use Rattle.vd_transfer.specs.Effects.{is_lower_slot}
+use Rattle.value_domain.specs.State.{is_lower_slot}
 
 some_same : (i j : ℕ) → Some i ≡ Some j → i ≡ j
 some_same i j e = cc

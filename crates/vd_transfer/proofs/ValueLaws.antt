@@ -13,7 +13,7 @@ use Rattle.value_domain.specs.Values.{IsWell, IsValue}
 use Rattle.value_domain.proofs.CoverLaws.{range_among, cover_least}
 use Rattle.value_domain.proofs.RangeLaws.{members_below}
 use Rattle.vd_transfer.specs.Operations.{results, row, runs, bounds, gives_truth, sums, differences, value_of, range_of, whole, run, low, high, step}
-use Rattle.vd_transfer.specs.declared.runs.Run.{Run}
+use Rattle.vd_transfer.specs.declared.strided_interval.StridedInterval.{StridedInterval}
 use Rattle.vd_transfer.proofs.OpLaws.{logical, arithmetic, complement_below, and_below, pairs_among, some_results, runs_step, bounds_of, high_below, by_below}
 
 truth_below : (b : Bool) → one_if b < 2 ^ 32
@@ -66,7 +66,7 @@ differences_last a b c d m h =
     ]
 
 -- the words of a run whose last is a word
-run_below : (r : Run) (z : ℕ) → r.step ≤ 2 → r.last < 2 ^ 32 → Among z (range_of r) → z < 2 ^ 32
+run_below : (r : StridedInterval) (z : ℕ) → r.step ≤ 2 → r.last < 2 ^ 32 → Among z (range_of r) → z < 2 ^ 32
 run_below r z small last i = let m = range_among z r.first r.last r.step small i in omega (arith, m.1)
 
 all_words : (z : ℕ) → Among z (range_of (whole 0)) → z < 2 ^ 32

@@ -37,8 +37,8 @@ with_two s x y (Some v) None = None
 with_two s x y (Some v) (Some w) = Some (set_arg (set_reg s x v) y w)
 
 -- the state on a side of the condition, if the side is possible
-abbrev pub refined : Limits → PlanData → Cond → ℕ → Arg → State → Bool → Option State
-refined b p cond x y s side =
+abbrev pub state_on_side : Limits → PlanData → Cond → ℕ → Arg → State → Bool → Option State
+state_on_side b p cond x y s side =
     if is_reg x y
     then with_one s x (cover_some b (kept_both cond side (members (reg_of p s x))))
     else with_two s x y
@@ -46,11 +46,11 @@ refined b p cond x y s side =
     (cover_some b (kept_right cond side (members (reg_of p s x)) (members (arg_of p s y))))
 
 -- a loop lowers its register by 1, on both sides
-abbrev pub lowered : Limits → PlanData → ℕ → Bool → Option State → Option State
-lowered b p x lowers None = None
-lowered b p x lowers (Some s) = Some (if lowers then write_reg s x (value_of b Sub (reg_of p s x) (word_val 1)) else s)
+abbrev pub with_lowered_counter : Limits → PlanData → ℕ → Bool → Option State → Option State
+with_lowered_counter b p x lowers None = None
+with_lowered_counter b p x lowers (Some s) = Some (if lowers then write_reg s x (value_of b Sub (reg_of p s x) (word_val 1)) else s)
 
 -- the state on a side of a branch, if the side is possible
 unfoldable pub refine_of : Limits → PlanData → Shape → State → Bool → Option State
-refine_of b p (Branch cond x y by lowers) s side = lowered b p x lowers (refined b p cond x y s side)
+refine_of b p (Branch cond x y by lowers) s side = with_lowered_counter b p x lowers (state_on_side b p cond x y s side)
 refine_of b p _ s side = None

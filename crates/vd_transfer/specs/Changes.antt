@@ -5,10 +5,10 @@ use Rattle.tc_isa.specs.declared.shapes.Arg.TheVariants.{Reg, Word}
 use Rattle.value_domain.specs.declared.values.Val.{Val}
 use Rattle.value_domain.specs.declared.states.State.{State}
 use Rattle.value_domain.specs.Values.{any_val}
-use Rattle.vd_transfer.specs.declared.changes.Base.{Base}
-use Rattle.vd_transfer.specs.declared.changes.Base.TheVariants.{Same, Forgotten, Any}
-use Rattle.vd_transfer.specs.declared.changes.Put.{Put}
-use Rattle.vd_transfer.specs.declared.changes.Change.{Change}
+use Rattle.vd_transfer.specs.declared.change.Base.{Base}
+use Rattle.vd_transfer.specs.declared.change.Base.TheVariants.{Same, Forgotten, Any}
+use Rattle.vd_transfer.specs.declared.change.Put.{Put}
+use Rattle.vd_transfer.specs.declared.change.Change.{Change}
 use Rattle.vd_transfer.specs.Registers.{slot}
 use Rattle.vd_transfer.specs.Effects.{forgotten_from}
 
@@ -28,8 +28,8 @@ abbrev pub put_in : List Val → Put → List Val
 put_in vs put = value_put vs put.value put.at
 
 -- the state after a change
-abbrev pub changed : State → Change → State
-changed s c = record {
+abbrev pub state_after : State → Change → State
+state_after s c = record {
   regs = put_in (put_in (put_in (base_of c.base s.regs) c.first) c.second) c.third;
   ie = c.ie;
   ccpn = c.ccpn;

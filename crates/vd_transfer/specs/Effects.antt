@@ -1,5 +1,5 @@
 -- What an instruction does to a state.
-use Rattle.std.specs.Prelude.{◌+◌, ◌-◌, ◌<◌, ◌≤◌, ℕ, Bool, true, false, ◌&&◌, ◌||◌, nat_lt, nat_le, if◌then◌else◌, List, [], ◌∷◌, ◌++◌, length, take, slice_index_or}
+use Rattle.std.specs.Prelude.{◌+◌, ◌-◌, ◌<◌, ◌≤◌, ℕ, Bool, true, false, if◌then◌else◌, List, [], ◌∷◌, ◌++◌, length, take, slice_index_or}
 use Rattle.tcd_plan.specs.PlanData.{PlanData}
 use Rattle.tc_isa.specs.declared.shapes.Op.TheVariants.{Add, Sh}
 use Rattle.tc_isa.specs.declared.shapes.Arg.{Arg}
@@ -12,6 +12,7 @@ use Rattle.value_domain.specs.Values.{any_val}
 use Rattle.value_domain.specs.Limits.{Limits}
 use Rattle.vd_transfer.specs.Operations.{value_of}
 use Rattle.vd_transfer.specs.Registers.{reg_of, arg_of, write_reg, word_val}
+use Rattle.value_domain.specs.State.{is_lower_slot}
 
 -- the base register is increased by the offset where the access says so
 abbrev pub with_base : Limits → PlanData → State → Arg → ℕ → Bool → State
@@ -25,10 +26,6 @@ access_of b p s base offset after = if after then arg_of p s base else value_of 
 -- a lower context is saved: whether the lower registers are the entry's becomes a local
 abbrev pub saved_lower : State → State
 saved_lower s = record s { locals = record { items = s.locals.items ++ s.lower ∷ [] } }
-
--- the places of the lower registers D0..D7 and A2..A7
-abbrev pub is_lower_slot : ℕ → Bool
-is_lower_slot i = nat_lt i 8 || (nat_le 16 i && nat_lt i 22)
 
 -- values from place i on, those of lower registers any
 unfoldable pub forgotten_from : ℕ → List Val → List Val

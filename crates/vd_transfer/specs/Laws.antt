@@ -1,8 +1,8 @@
 -- What holds of operations.
 use Rattle.std.specs.Prelude.{◌≡◌, ℕ, List, true}
 use Rattle.value_domain.specs.Sets.{Among, Within}
-use Rattle.vd_transfer.specs.declared.refinement.Rel.{Rel}
-use Rattle.vd_transfer.specs.Intervals.{related, kept_by}
+use Rattle.vd_transfer.specs.declared.refinement.Relation.{Relation}
+use Rattle.vd_transfer.specs.Intervals.{is_related, kept_by}
 use Rattle.value_domain.specs.declared.values.Val.{Val}
 use Rattle.value_domain.specs.Limits.{Limits, AreLimits}
 use Rattle.value_domain.specs.Values.{IsMember, IsValue, IsBelow}
@@ -23,10 +23,10 @@ AreMonotone =
     → IsBelow v v2 → IsBelow w w2 → IsBelow (value_of b op v w) (value_of b op v2 w2)
 
 -- what refinement keeps holds each word for which the relation holds, and grows with both sets
-pub record RefinesWell (rel : Rel) : Type 0 where
-  pub sound : (vs ws : List ℕ) (x y : ℕ) → Among x vs → Among y ws → related rel x y ≡ true → Among x (kept_by rel vs ws)
+pub record RefinesWell (rel : Relation) : Type 0 where
+  pub sound : (vs ws : List ℕ) (x y : ℕ) → Among x vs → Among y ws → is_related rel x y ≡ true → Among x (kept_by rel vs ws)
   pub monotone : (vs ws vs2 ws2 : List ℕ) → Within vs vs2 → Within ws ws2 → Within (kept_by rel vs ws) (kept_by rel vs2 ws2)
 
 -- refinement by each relation does so
 abbrev pub AreRefined : Type 0
-AreRefined = (rel : Rel) → RefinesWell rel
+AreRefined = (rel : Relation) → RefinesWell rel

@@ -10,7 +10,7 @@ use Rattle.value_domain.specs.declared.lattice.Extent.{Extent}
 use Rattle.value_domain.specs.Sets.{least, greatest, step_of}
 use Rattle.value_domain.specs.Limits.{Limits}
 use Rattle.value_domain.specs.Values.{IsMember, cover, members, range}
-use Rattle.vd_transfer.specs.declared.runs.Run.{Run}
+use Rattle.vd_transfer.specs.declared.strided_interval.StridedInterval.{StridedInterval}
 
 -- a value's least and greatest member, and its step
 abbrev pub low : Val → ℕ
@@ -25,15 +25,15 @@ abbrev pub step : Val → ℕ
 step v = step_of (members v)
 
 -- the words of a run
-abbrev pub range_of : Run → List ℕ
+abbrev pub range_of : StridedInterval → List ℕ
 range_of r = range r.first r.last r.step
 
 -- the multiples of 2 ^ step from the first word to the last
-abbrev pub run : ℕ → ℕ → ℕ → Run
+abbrev pub run : ℕ → ℕ → ℕ → StridedInterval
 run first last step = record { first = first; last = last; step = step }
 
 -- all words that are multiples of 2 ^ s
-abbrev pub whole : ℕ → Run
+abbrev pub whole : ℕ → StridedInterval
 whole s = run 0 (2 ^ 32 - 1) s
 
 -- the words that are multiples of 2 ^ s
@@ -41,36 +41,36 @@ abbrev pub all_of : ℕ → List ℕ
 all_of s = range_of (whole s)
 
 -- sums of a..=b and c..=d of step m, modulo 2 ^ 32
-unfoldable pub sums : ℕ → ℕ → ℕ → ℕ → ℕ → Run
+unfoldable pub sums : ℕ → ℕ → ℕ → ℕ → ℕ → StridedInterval
 sums a b c d m =
     if nat_lt (b + d) (2 ^ 32) then run (a + c) (b + d) m
     else if nat_le (2 ^ 32) (a + c) then run (a + c - 2 ^ 32) (b + d - 2 ^ 32) m
     else whole m
 
 -- differences, modulo 2 ^ 32
-unfoldable pub differences : ℕ → ℕ → ℕ → ℕ → ℕ → Run
+unfoldable pub differences : ℕ → ℕ → ℕ → ℕ → ℕ → StridedInterval
 differences a b c d m =
     if nat_le d a then run (a - d) (b - c) m
     else if nat_lt b c then run (a + 2 ^ 32 - d) (b + 2 ^ 32 - c) m
     else whole m
 
 -- shifts of a..=b of step p by the six bits n: left by n below 32, else right by 64 - n, filled with zeros
-unfoldable pub shifts : ℕ → ℕ → ℕ → ℕ → Run
+unfoldable pub shifts : ℕ → ℕ → ℕ → ℕ → StridedInterval
 shifts a b p n =
     if nat_lt n 32
     then (if nat_lt (b * 2 ^ n) (2 ^ 32) then run (a * 2 ^ n) (b * 2 ^ n) (min 2 (p + n)) else whole (min 2 (p + n)))
     else run (a / 2 ^ (64 - n)) (b / 2 ^ (64 - n)) 0
 
 -- the same, but to the right filled with the sign bit
-unfoldable pub signed_shifts : ℕ → ℕ → ℕ → ℕ → Run
+unfoldable pub signed_shifts : ℕ → ℕ → ℕ → ℕ → StridedInterval
 signed_shifts a b p n = if nat_lt n 32 || nat_lt b (2 ^ 31) then shifts a b p n else whole 0
 
 -- a shift of words: the run of the results, by the words' ends and step and by the six bits of the count
 abbrev pub Shifts : Type 0
-Shifts = ℕ → ℕ → ℕ → ℕ → Run
+Shifts = ℕ → ℕ → ℕ → ℕ → StridedInterval
 
 -- the run of shifts by the count that a value is, if it is one word; else any
-abbrev pub by_count : Shifts → ℕ → ℕ → ℕ → Val → Run
+abbrev pub by_count : Shifts → ℕ → ℕ → ℕ → Val → StridedInterval
 by_count shift a b p (Set (y ∷ [])) = shift a b p (y % 64)
 by_count shift a b p (Set []) = whole 0
 by_count shift a b p (Set (x ∷ y ∷ ys)) = whole 0
@@ -99,7 +99,7 @@ gives_truth Sh = false
 gives_truth Sha = false
 
 -- the run that a row covers, by the bounds e and f of its operands
-unfoldable pub runs : Op → Extent → Extent → Val → Run
+unfoldable pub runs : Op → Extent → Extent → Val → StridedInterval
 runs Second e f w = whole 0
 runs Add e f w = sums e.least e.greatest f.least f.greatest (min e.step f.step)
 runs Sub e f w = differences e.least e.greatest f.least f.greatest (min e.step f.step)

@@ -2,11 +2,11 @@
 use Rattle.std.specs.Prelude.{Bool, true, false, not, if◌then◌else◌}
 use Rattle.tc_isa.specs.declared.shapes.Cond.{Cond}
 use Rattle.tc_isa.specs.declared.shapes.Cond.TheVariants as cond
-use Rattle.vd_transfer.specs.declared.refinement.Rel.{Rel}
-use Rattle.vd_transfer.specs.declared.refinement.Rel.TheVariants.{Same, Other, Less, AtLeast, More, AtMost}
+use Rattle.vd_transfer.specs.declared.refinement.Relation.{Relation}
+use Rattle.vd_transfer.specs.declared.refinement.Relation.TheVariants.{Same, Other, Less, AtLeast, More, AtMost}
 
 -- the relation that the operands are in on a side of a condition
-unfoldable pub relation_of : Cond → Bool → Rel
+unfoldable pub relation_of : Cond → Bool → Relation
 relation_of cond.Eq side = if side then Same else Other
 relation_of cond.Ne side = if side then Other else Same
 relation_of cond.Lt side = if side then Less else AtLeast
@@ -24,7 +24,7 @@ is_signed cond.Ge = true
 is_signed cond.GeU = false
 
 -- the relation the other way round
-unfoldable pub converse : Rel → Rel
+unfoldable pub converse : Relation → Relation
 converse Same = Same
 converse Other = Other
 converse Less = More

@@ -2,13 +2,13 @@
 use Rattle.std.specs.Prelude.{◌≤◌, ℕ, List, filter}
 use Rattle.std.specs.List.{list_any}
 use Rattle.value_domain.specs.Sets.{Among}
-use Rattle.vd_transfer.specs.declared.refinement.Rel.{Rel}
+use Rattle.vd_transfer.specs.declared.refinement.Relation.{Relation}
 use Rattle.tc_isa.specs.Arithmetic.{signed_place}
-use Rattle.vd_transfer.specs.Intervals.{related}
+use Rattle.vd_transfer.specs.Intervals.{is_related}
 
 -- the words of vs that stand in a relation to some word of ws in the signed order
-unfoldable pub kept_signed : Rel → List ℕ → List ℕ → List ℕ
-kept_signed rel vs ws = filter (λ x. list_any (λ y. related rel (signed_place x) (signed_place y)) ws) vs
+unfoldable pub kept_signed : Relation → List ℕ → List ℕ → List ℕ
+kept_signed rel vs ws = filter (λ x. list_any (λ y. is_related rel (signed_place x) (signed_place y)) ws) vs
 
 -- low and high are the least and the greatest of a set in the signed order
 pub record IsSignedRange (ws : List ℕ) (low high : ℕ) : Type 0 where

@@ -1,25 +1,22 @@
 //! Effects of instructions on values.
 #![tactic(auto)]
 
-mod branching;
-mod changes;
-mod changing;
-mod comparing;
-mod effects;
+mod access;
+mod branch;
+mod change;
+mod cover;
+mod effect;
 mod laws;
-mod narrowing;
 mod operations;
 mod refinement;
 mod registers;
-mod runs;
-mod signs;
-mod transferring;
+mod signed_refinement;
+mod strided_interval;
 
-pub use branching::refine;
-pub use changes::{Base, Change, Put, put_register, unchanged};
-pub use changing::change_of;
-pub use comparing::{changed_state, changed_value, covers_changed};
+pub use access::{address, address_by};
+pub use branch::{change_on, refine};
+pub use change::{Base, Change, Put, put_register, unchanged};
+pub use cover::{changed_state, changed_value, covers_changed};
+pub use effect::{change_of, transfer};
 pub use laws::{effect_laws, operation_laws, refinement_laws};
-pub use narrowing::change_on;
 pub use registers::reg;
-pub use transferring::{address, address_by, transfer};

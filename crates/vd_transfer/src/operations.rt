@@ -5,7 +5,7 @@ ghost use Rattle.tc_isa.specs.Arithmetic.{alu_of};
 ghost use Rattle.tc_isa.specs.declared.shapes.Op.TheVariants.{Second};
 ghost use Rattle.vd_transfer.specs.Operations.{results, row, pairs, HasMet};
 
-use crate::runs::{gives_truth, run_of};
+use crate::strided_interval::{gives_truth, interval_of_row};
 use tc_isa::{Op, alu};
 use value_domain::{Bounds, Val, add_word, add_words, cover, cover_words, extent_of};
 
@@ -132,6 +132,6 @@ fn other_row(b: &Bounds, op: Op, v: &Val, w: &Val) -> Val
     if gives_truth(op) {
         return cover_words(b, &[0, 1]);
     }
-    let run = run_of(op, &extent_of(v), &extent_of(w), w);
+    let run = interval_of_row(op, &extent_of(v), &extent_of(w), w);
     cover(b, run.first, run.last, run.step)
 }

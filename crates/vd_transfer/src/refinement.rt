@@ -8,13 +8,13 @@ ghost use Rattle.vd_transfer.specs.Refinement as spec;
 ghost use Rattle.vd_transfer.specs.Refinement.{cover_some, in_span, is_member};
 ghost use Rattle.tc_isa.specs.Arithmetic.{signed_place};
 ghost use Rattle.vd_transfer.specs.Intervals.{IsIn, Reaches, kept_by};
-ghost use Rattle.vd_transfer.specs.declared.refinement.Rel.TheVariants.{Same};
+ghost use Rattle.vd_transfer.specs.declared.refinement.Relation.TheVariants.{Same};
 
 use value_domain::{Bounds, Val, cover, extent_of, join, member, with_word};
 
 /// Relations of words.
 #[derive(Clone, Copy, PartialEq, Eq)]
-pub enum Rel {
+pub enum Relation {
     Same,
     Other,
     Less,
@@ -117,7 +117,7 @@ pub struct Interval {
 
 pub(crate) const NONE: Interval = Interval { lo: 1, last: 0 };
 
-fn below(high: u32) -> Interval
+fn words_below(high: u32) -> Interval
     ensures { (x : ℕ) → IsIn result x ↔ (x < high) }
 {
     if high == 0 {
@@ -130,13 +130,13 @@ fn below(high: u32) -> Interval
     }
 }
 
-fn up_to(high: u32) -> Interval
+fn words_up_to(high: u32) -> Interval
     ensures { (x : ℕ) → IsIn result x ↔ (x ≤ high) }
 {
     Interval { lo: 0, last: high }
 }
 
-fn from(low: u32) -> Interval
+fn words_from(low: u32) -> Interval
     ensures { (x : ℕ) → x < 2 ^ 32 → IsIn result x ↔ (low ≤ x) }
 {
     Interval {
@@ -145,7 +145,7 @@ fn from(low: u32) -> Interval
     }
 }
 
-fn past(low: u32) -> Interval
+fn words_past(low: u32) -> Interval
     ensures { (x : ℕ) → x < 2 ^ 32 → IsIn result x ↔ (low < x) }
 {
     if low == u32::MAX {
@@ -160,33 +160,33 @@ fn past(low: u32) -> Interval
 
 /// The words that stand in a relation to some word from `low` to `high`.
 #[tactic(auto, unfolding(crate::specs::Intervals::Reaches))]
-pub(crate) fn reached(rel: Rel, low: u32, high: u32) -> (Interval, Interval)
+pub(crate) fn words_reached(rel: Relation, low: u32, high: u32) -> (Interval, Interval)
     ensures { (x : ℕ) → x < 2 ^ 32 → (IsIn result.0 x ⊎ IsIn result.1 x) ↔ Reaches rel low high x }
 {
     match rel {
-        Rel::Less => (below(high), NONE),
-        Rel::AtMost => (up_to(high), NONE),
-        Rel::AtLeast => (from(low), NONE),
-        Rel::More => (past(low), NONE),
-        Rel::Other => (below(high), past(low)),
-        Rel::Same => (from(low), NONE),
+        Relation::Less => (words_below(high), NONE),
+        Relation::AtMost => (words_up_to(high), NONE),
+        Relation::AtLeast => (words_from(low), NONE),
+        Relation::More => (words_past(low), NONE),
+        Relation::Other => (words_below(high), words_past(low)),
+        Relation::Same => (words_from(low), NONE),
     }
 }
 
 /// The cover of the members of `v` that stand in a relation to some member of `w`.
-pub fn kept(b: &Bounds, rel: Rel, v: &Val, w: &Val) -> Option<Val>
+pub fn narrow(b: &Bounds, rel: Relation, v: &Val, w: &Val) -> Option<Val>
     requires left { IsValue b.now v.now }
     requires right { IsValue b.now w.now }
     ensures kept { result ≡ cover_some b.now (kept_by rel (members v.now) (members w.now)) }
     ensures value { IfSome result (IsValue b.now) }
 {
     match rel {
-        Rel::Same => common(b, v, w),
+        Relation::Same => common(b, v, w),
         _ => by_intervals(b, rel, v, w),
     }
 }
 
-fn by_intervals(b: &Bounds, rel: Rel, v: &Val, w: &Val) -> Option<Val>
+fn by_intervals(b: &Bounds, rel: Relation, v: &Val, w: &Val) -> Option<Val>
     requires left { IsValue b.now v.now }
     requires right { IsValue b.now w.now }
     requires order { rel ≢ Same }
@@ -194,7 +194,7 @@ fn by_intervals(b: &Bounds, rel: Rel, v: &Val, w: &Val) -> Option<Val>
     ensures value { IfSome result (IsValue b.now) }
 {
     let e = extent_of(w);
-    let (first, second) = reached(rel, e.least, e.greatest);
+    let (first, second) = words_reached(rel, e.least, e.greatest);
     let here = meet(b, v, first.lo, first.last, 0);
     let there = meet(b, v, second.lo, second.last, 0);
     join_some(b, here, there)

@@ -1,7 +1,7 @@
 // The registers of a state.
 ghost use Rattle.std.specs.Prelude.{◌≡◌, ◌<◌, ◌≤◌, IfSome};
-ghost use Rattle.value_domain.specs.Values.{IsValue};
-ghost use Rattle.value_domain.specs.State.{AreValues};
+ghost use Rattle.value_domain.specs.Values.{IsValue, any_val};
+ghost use Rattle.value_domain.specs.State.{AreValues, is_lower_slot};
 ghost use Rattle.tc_isa.specs.Bounded.{IsArg};
 ghost use Rattle.vd_transfer.specs.Registers.{slot, reg_of, arg_of, fixed_of, is_lower, word_val};
 
@@ -95,4 +95,18 @@ pub(crate) fn is_lower(r: u8) -> bool
     ensures { result ≡ is_lower r }
 {
     r < 8 || 18 <= r && r <= 23
+}
+
+pub(crate) fn is_lower_slot(i: usize) -> bool
+    ensures { result ≡ is_lower_slot i }
+{
+    i < 8 || 16 <= i && i < 22
+}
+
+pub(crate) fn any(b: &Bounds) -> Val
+    ensures any { result ≡ any_val }
+    ensures value { IsValue b.now result }
+{
+    let _most_words = b.most_words();
+    Val::any()
 }

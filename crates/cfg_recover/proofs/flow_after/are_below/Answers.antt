@@ -3,7 +3,7 @@ use Rattle.std.proofs.lemmas.List.{get_or_default}
 use Rattle.value_domain.specs.declared.values.Val.{Val}
 use Rattle.value_domain.specs.Values.{any_val}
 use Rattle.value_domain.proofs.RegLaws.{read_at, below_more}
-use Rattle.cfg_recover.specs.Entries.{with_lower_from}
+use Rattle.depth_cert.specs.Exits.{with_lower_from}
 use Rattle.cfg_recover.proofs.FlowStates.{after-at, restored_at, with_lower_length}
 use Rattle.cfg_recover.proofs.flow_after.are_below.Goals as goal
 

@@ -1,6 +1,6 @@
 use Rattle.std.proofs.Common.{ℕ, ◌<◌, get_or}
 use Rattle.value_domain.specs.Values.{IsBelow, any_val}
-use Rattle.cfg_recover.specs.Entries.{with_lower_from}
+use Rattle.depth_cert.specs.Exits.{with_lower_from}
 use Rattle.cfg_recover.proofs.flow_after.are_below.Given as goal
 
 abbrev pub invariant-loop-i : goal.invariant-loop-i

@@ -3,7 +3,7 @@ use Rattle.std.proofs.lemmas.List.{take_all, get_or_default}
 use Rattle.std.proofs.Math.ListN.{length-set}
 use Rattle.value_domain.specs.declared.values.Val.{Val}
 use Rattle.value_domain.specs.Values.{any_val}
-use Rattle.cfg_recover.specs.Entries.{with_lower_from}
+use Rattle.depth_cert.specs.Exits.{with_lower_from}
 use Rattle.cfg_recover.proofs.FlowStates.{lower_more, restored_at, with_lower_length}
 use Rattle.cfg_recover.proofs.flow_after.with_lower.Goals as goal
 

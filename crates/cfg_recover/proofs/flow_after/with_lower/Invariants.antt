@@ -1,5 +1,5 @@
 use Rattle.std.proofs.Common.{◌≡◌, take, length}
-use Rattle.cfg_recover.specs.Entries.{with_lower_from}
+use Rattle.depth_cert.specs.Exits.{with_lower_from}
 use Rattle.cfg_recover.proofs.flow_after.with_lower.Given as goal
 
 abbrev pub invariant-loop-i : goal.invariant-loop-i

@@ -1,5 +1,5 @@
 use Rattle.std.proofs.Common.{sym, ◌==◌}
-use Rattle.vd_transfer.specs.Changes.{changed}
+use Rattle.vd_transfer.specs.Changes.{state_after}
 use Rattle.depth_cert.specs.Keys.{number_of_key}
 use Rattle.depth_cert.specs.Nodes.{NodeData}
 use Rattle.depth_check.specs.Finding.{IsWellNode}
@@ -8,7 +8,7 @@ use Rattle.depth_check.proofs.DutyLaws.{entry_found, entry_missing}
 use Rattle.depth_check.proofs.duties.broken_by_entry.Goals as goal
 
 pub returns-in_default : goal.returns-in_default
-returns-in_default c = entry_missing c.args.cert.now c.args.node.now c.args.s.now c.args.rule c.args.key.now (changed c.args.s.now c.args.entry.now) c.args.back (sym c.in_default.ensures) c.requires.rule
+returns-in_default c = entry_missing c.args.cert.now c.args.node.now c.args.s.now c.args.rule c.args.key.now (state_after c.args.s.now c.args.entry.now) c.args.back (sym c.in_default.ensures) c.requires.rule
 
 pub has_changed-requires-clause-node : goal.has_changed-requires-clause-node
 has_changed-requires-clause-node c = found_holds IsWellNode (λ (n : NodeData). number_of_key n.key == number_of_key c.args.key.now) (c.args.cert.now).nodes c.in-Some.entered (sym c.in-Some.ensures) c.requires.nodes
@@ -19,5 +19,5 @@ goes_on-requires-clause-entered c = found_holds IsWellNode (λ (n : NodeData). n
 pub returns : goal.returns
 returns c =
     rw (c.least-2.ensures, c.least.ensures, c.unless-into.ensures, c.unless-need.ensures, c.unless-on.ensures)
-    (entry_found c.args.cert.now c.args.node.now c.args.s.now c.args.rule c.args.key.now (changed c.args.s.now c.args.entry.now) c.args.back c.in-Some.entered c.has_changed.result c.is_need_above.result c.goes_on.result
+    (entry_found c.args.cert.now c.args.node.now c.args.s.now c.args.rule c.args.key.now (state_after c.args.s.now c.args.entry.now) c.args.back c.in-Some.entered c.has_changed.result c.is_need_above.result c.goes_on.result
     (sym c.in-Some.ensures) c.requires.rule c.has_changed.ensures c.is_need_above.ensures c.goes_on.ensures)

@@ -1,11 +1,11 @@
 use Rattle.std.proofs.Common.{◌≡◌, take}
-use Rattle.vd_transfer.specs.Changes.{changed}
+use Rattle.vd_transfer.specs.Changes.{state_after}
 use Rattle.cfg_recover.specs.Flows.{told_irqs}
 use Rattle.depth_check.specs.Finding.{Finds, DutiesHold}
 use Rattle.depth_check.proofs.duties.broken_by_irqs.Given as goal
 
 abbrev pub invariant-loop-p : goal.invariant-loop-p
 invariant-loop-p l = record {
-  found : Finds (DutiesHold l.cert l.node l.s (told_irqs l.plan (changed l.s l.fn.entry) (take l.p-index l.irqs))) l.found;
+  found : Finds (DutiesHold l.cert l.node l.s (told_irqs l.plan (state_after l.s l.fn.entry) (take l.p-index l.irqs))) l.found;
   same : record l.entry { ccpn = 0 } ≡ record l.fn.entry { ccpn = 0 };
 }

@@ -1,6 +1,6 @@
 use Rattle.std.proofs.Common.{Option, None, subst}
 use Rattle.value_domain.specs.declared.states.State.{State}
-use Rattle.vd_transfer.specs.Changes.{changed}
+use Rattle.vd_transfer.specs.Changes.{state_after}
 use Rattle.cfg_recover.specs.Duties.{jump_on}
 use Rattle.depth_check.specs.Finding.{Finds, DutiesHold, unless}
 use Rattle.depth_check.proofs.DutyLaws.{nothing_found, point_found}
@@ -14,7 +14,7 @@ pub returns-in-Some : goal.returns-in-Some
 returns-in-Some c cert =
     rw c.unless.ensures
     (subst (λ (o : Option State). Finds (DutiesHold cert c.args.node.now c.args.s.now (jump_on c.args.to o)) (unless c.has_changed.result 4)) c.in-Some.ensures.refine
-    (point_found cert c.args.node.now c.args.s.now (changed c.args.s.now c.in-Some.c) c.args.to c.has_changed.result c.has_changed.ensures))
+    (point_found cert c.args.node.now c.args.s.now (state_after c.args.s.now c.in-Some.c) c.args.to c.has_changed.result c.has_changed.ensures))
 
 pub returns-in-None : goal.returns-in-None
 returns-in-None c cert =

@@ -3,7 +3,7 @@ use Rattle.value_domain.specs.declared.values.Val.{Val}
 use Rattle.value_domain.specs.declared.states.State.{State}
 use Rattle.tc_machine.specs.Machine.{moved}
 use Rattle.vd_transfer.specs.Effects.{transfer_of}
-use Rattle.vd_transfer.specs.Changes.{changed}
+use Rattle.vd_transfer.specs.Changes.{state_after}
 use Rattle.cfg_recover.specs.Duties.{owed, jump, loaded_at}
 use Rattle.depth_check.specs.Finding.{Finds, DutiesHold, unless}
 use Rattle.depth_check.proofs.DutyLaws.{point_found, room_at}
@@ -22,4 +22,4 @@ returns c cert =
     let after = c.change_of-c.ensures.change ∙ ap (λ (v : Val). transfer_of c.args.b.now c.args.plan.now c.args.found.now.shape c.args.s.now v) loaded in
     rw c.unless.ensures
     (subst (λ (t : State). Finds (DutiesHold cert c.args.node.now c.args.s.now (owed 4 (jump (moved c.args.addr c.args.found.now.size) t) ∷ [])) (unless c.has_changed.result 4)) after
-    (point_found cert c.args.node.now c.args.s.now (changed c.args.s.now c.change_of-c.result) (moved c.args.addr c.args.found.now.size) c.has_changed.result c.has_changed.ensures))
+    (point_found cert c.args.node.now c.args.s.now (state_after c.args.s.now c.change_of-c.result) (moved c.args.addr c.args.found.now.size) c.has_changed.result c.has_changed.ensures))

@@ -1,11 +1,11 @@
 use Rattle.std.proofs.Common.{sym, ◌∙◌, ◌≡◌, ap, subst, Some, Option}
 use Rattle.indexmap.specs.IndexMap.{get}
 use Rattle.depth_cert.specs.declared.points.Exit.{Exit}
-use Rattle.cfg_recover.specs.Entries.{after_of}
-use Rattle.cfg_recover.specs.Assignments.{Known, leaving}
+use Rattle.depth_cert.specs.Exits.{after_of}
+use Rattle.depth_cert.specs.Known.{Known, leaving}
 use Rattle.cfg_recover.specs.Duties.{resume}
 use Rattle.frame_places.specs.declared.places.Spot.TheVariants as spots
-use Rattle.depth_maker.specs.Kept.{IsExitAt}
+use Rattle.small_states.specs.Kept.{IsExitAt}
 use Rattle.frame_places.specs.Spots.{spot_eq}
 use Rattle.depth_maker.proofs.Lawful.{lawful}
 use Rattle.depth_maker.proofs.RiseLemmas.{cells_proper}

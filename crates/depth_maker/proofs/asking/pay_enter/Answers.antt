@@ -1,6 +1,6 @@
 use Rattle.std.proofs.Common.{sym, ◌∙◌, refl}
-use Rattle.vd_transfer.specs.Changes.{changed}
-use Rattle.cfg_recover.specs.Assignments.{state}
+use Rattle.vd_transfer.specs.Changes.{state_after}
+use Rattle.depth_cert.specs.Known.{state}
 use Rattle.cfg_recover.specs.Duties.{enter}
 use Rattle.frame_places.specs.declared.places.Spot.TheVariants.{Point}
 use Rattle.depth_maker.specs.View.{seen}
@@ -15,13 +15,13 @@ is_covered-requires-clause-fine c = c.requires.visited.fine
 pub is_covered-requires-clause-value : goal.is_covered-requires-clause-value
 is_covered-requires-clause-value c =
     let v = c.args.v.now in
-    owed_proper _ _ _ v.key v.addr v.state.now (lawful _ _ _ v.ground.now.sound) (enter c.args.key (changed v.state.now c.args.c.now)) c.requires.visited.proper c.requires.owes
+    owed_proper _ _ _ v.key v.addr v.state.now (lawful _ _ _ v.ground.now.sound) (enter c.args.key (state_after v.state.now c.args.c.now)) c.requires.visited.proper c.requires.owes
 
 pub returns-then-is_covered-clause-ok : goal.returns-then-is_covered-clause-ok
 unfolding seen
 returns-then-is_covered-clause-ok c rule =
     let v = c.args.v.now in
-    let u = changed v.state.now c.args.c.now in
+    let u = state_after v.state.now c.args.c.now in
     paid_enter _ _ _ v.key v.addr v.state.now c.args.table.now c.args.table.now rule c.args.key u
     (stays_joined _ _ _ c.args.table.now (Point c.args.key c.args.key.entry) (state u) c.requires.visited.fine (c.is_covered.ensures c.if-is_covered.true))
 
@@ -34,8 +34,8 @@ raise-requires-clause-fine c = c.requires.visited.fine
 pub raise-requires-clause-asked : goal.raise-requires-clause-asked
 raise-requires-clause-asked c =
     let v = c.args.v.now in
-    enter_asks _ _ _ v.key v.addr v.state.now c.args.table.now c.args.key (changed v.state.now c.args.c.now)
-    (has_duty _ _ _ v.key v.addr v.state.now c.args.table.now (enter c.args.key (changed v.state.now c.args.c.now)) c.requires.visited (sym c.has_work.ensures ∙ c.if-has_work.false) c.requires.owes)
+    enter_asks _ _ _ v.key v.addr v.state.now c.args.table.now c.args.key (state_after v.state.now c.args.c.now)
+    (has_duty _ _ _ v.key v.addr v.state.now c.args.table.now (enter c.args.key (state_after v.state.now c.args.c.now)) c.requires.visited (sym c.has_work.ensures ∙ c.if-has_work.false) c.requires.owes)
 
 pub returns-clause-ok : goal.returns-clause-ok
-returns-clause-ok c rule = on_enter _ _ _ c.args.v.now.key c.args.v.now.addr c.args.v.now.state.now c.args.table.now c.raise.new.table rule c.args.key (changed c.args.v.now.state.now c.args.c.now) c.raise.result c.raise.ensures.ok
+returns-clause-ok c rule = on_enter _ _ _ c.args.v.now.key c.args.v.now.addr c.args.v.now.state.now c.args.table.now c.raise.new.table rule c.args.key (state_after c.args.v.now.state.now c.args.c.now) c.raise.result c.raise.ensures.ok

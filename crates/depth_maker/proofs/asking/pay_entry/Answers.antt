@@ -1,5 +1,5 @@
 use Rattle.std.proofs.Common.{[], ◌∷◌}
-use Rattle.vd_transfer.specs.Changes.{changed}
+use Rattle.vd_transfer.specs.Changes.{state_after}
 use Rattle.cfg_recover.specs.Duties.{owed, enter, resume}
 use Rattle.depth_maker.proofs.Lawful.{lawful}
 use Rattle.depth_maker.proofs.PartLemmas.{visited_after, owes_alone, on_both}
@@ -13,7 +13,7 @@ pay_resume-requires-clause-visited c =
 pub returns-clause-ok : goal.returns-clause-ok
 returns-clause-ok c rule =
     let v = c.args.v.now in
-    let e = owed rule (enter c.args.key (changed v.state.now c.args.c.now)) in
+    let e = owed rule (enter c.args.key (state_after v.state.now c.args.c.now)) in
     let back = owed 4 (resume c.args.key c.args.back) in
     on_both _ _ _ v.key v.addr v.state.now (lawful _ _ _ v.ground.now.sound) c.args.table.now c.pay_enter.new.table _ (e ∷ []) (back ∷ []) _ c.requires.visited
     (owes_alone _ _ _ v.key v.addr v.state.now e c.requires.enters) (c.in_ok-pay_enter.ensures.ok rule) c.pay_resume.ensures.ok

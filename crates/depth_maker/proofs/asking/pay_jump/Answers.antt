@@ -1,5 +1,5 @@
 use Rattle.std.proofs.Common.{sym, ◌∙◌}
-use Rattle.vd_transfer.specs.Changes.{changed}
+use Rattle.vd_transfer.specs.Changes.{state_after}
 use Rattle.cfg_recover.specs.Duties.{jump}
 use Rattle.depth_maker.proofs.PartLemmas.{has_duty, jump_asks, on_jump, paid_queued}
 use Rattle.depth_maker.proofs.asking.pay_jump.Goals as goal
@@ -13,8 +13,8 @@ raise-requires-clause-fine c = c.requires.visited.fine
 pub raise-requires-clause-asked : goal.raise-requires-clause-asked
 raise-requires-clause-asked c =
     let v = c.args.v.now in
-    jump_asks _ _ _ v.key v.addr v.state.now c.args.table.now c.args.to (changed v.state.now c.args.c.now)
-    (has_duty _ _ _ v.key v.addr v.state.now c.args.table.now (jump c.args.to (changed v.state.now c.args.c.now)) c.requires.visited (sym c.has_work.ensures ∙ c.if-has_work.false) c.requires.owes)
+    jump_asks _ _ _ v.key v.addr v.state.now c.args.table.now c.args.to (state_after v.state.now c.args.c.now)
+    (has_duty _ _ _ v.key v.addr v.state.now c.args.table.now (jump c.args.to (state_after v.state.now c.args.c.now)) c.requires.visited (sym c.has_work.ensures ∙ c.if-has_work.false) c.requires.owes)
 
 pub returns-clause-ok : goal.returns-clause-ok
-returns-clause-ok c = on_jump _ _ _ c.args.v.now.key c.args.v.now.addr c.args.v.now.state.now c.args.table.now c.raise.new.table 4 c.args.to (changed c.args.v.now.state.now c.args.c.now) c.raise.result c.raise.ensures.ok
+returns-clause-ok c = on_jump _ _ _ c.args.v.now.key c.args.v.now.addr c.args.v.now.state.now c.args.table.now c.raise.new.table 4 c.args.to (state_after c.args.v.now.state.now c.args.c.now) c.raise.result c.raise.ensures.ok

@@ -1,6 +1,6 @@
 use Rattle.std.proofs.Common.{sym, ◌∙◌}
 use Rattle.cfg_recover.specs.Duties.{leave}
-use Rattle.cfg_recover.specs.Entries.{exit_of}
+use Rattle.depth_cert.specs.Exits.{exit_of}
 use Rattle.depth_maker.proofs.PartLemmas.{has_duty, leave_asks, on_leave, paid_queued}
 use Rattle.depth_maker.proofs.asking.pay_leave.Goals as goal
 

@@ -1,9 +1,8 @@
 use Rattle.std.proofs.Common.{sym, ap, subst, ◌∙◌, ◌++◌, ◌∷◌, [], List, Option, Some}
 use Rattle.std.specs.Prelude.{if◌then◌else◌}
 use Rattle.value_domain.specs.declared.states.State.{State}
-use Rattle.cfg_recover.specs.Assignments.{Known, state}
+use Rattle.depth_cert.specs.Known.{Known, state, IsProper}
 use Rattle.depth_cert.specs.declared.keys.Key.{Key}
-use Rattle.depth_maker.specs.Growth.{IsProper}
 use Rattle.frame_places.specs.declared.places.Spot.{Spot}
 use Rattle.frame_places.specs.declared.places.Spot.TheVariants.{Point}
 use Rattle.frame_places.specs.declared.places.Mark.{Mark}

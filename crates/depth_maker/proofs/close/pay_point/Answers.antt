@@ -1,8 +1,8 @@
 use Rattle.std.proofs.Common.{sym, ◌∙◌, ◌≡◌, ap, subst, Some}
 use Rattle.indexmap.specs.IndexMap.{get}
-use Rattle.cfg_recover.specs.Assignments.{Known, state}
+use Rattle.depth_cert.specs.Known.{Known, state}
 use Rattle.frame_places.specs.declared.places.Spot.TheVariants.{Point}
-use Rattle.depth_maker.specs.Kept.{IsStateAt}
+use Rattle.small_states.specs.Kept.{IsStateAt}
 use Rattle.frame_places.specs.Spots.{spot_eq}
 use Rattle.depth_maker.specs.View.{seen}
 use Rattle.depth_maker.proofs.Lawful.{lawful}

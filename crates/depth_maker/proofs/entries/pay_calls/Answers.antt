@@ -1,6 +1,6 @@
 use Rattle.std.proofs.Common.{sym, subst, ap, ◌∙◌, ℕ, List, take, get_or}
 use Rattle.std.proofs.lemmas.List.{take_all}
-use Rattle.vd_transfer.specs.Changes.{changed}
+use Rattle.vd_transfer.specs.Changes.{state_after}
 use Rattle.depth_cert.specs.declared.keys.Key.{Key}
 use Rattle.cfg_recover.specs.Entries.{call_key}
 use Rattle.cfg_recover.specs.Duties.{enter, resume, entered_and_back}
@@ -21,7 +21,7 @@ pub pay_entry-requires-clause-enters : goal.pay_entry-requires-clause-enters
 pay_entry-requires-clause-enters c =
     let v = c.args.v.now in
     let t = get_or c.args.targets.now c.loop-t.t-index 0 in
-    let e = changed v.state.now c.args.entry.now in
+    let e = state_after v.state.now c.args.entry.now in
     subst (λ (k : Key). OwesDuty v (enter k e)) (sym c.entered_key-key.ensures)
     (owes_both _ _ _ v.key v.addr v.state.now 5 c.args.back (call_key v.key t) e
     (owes_at_flat _ _ _ v.key v.addr v.state.now (λ (n : ℕ). entered_and_back 5 (call_key v.key n) e c.args.back) c.args.targets.now c.loop-t.t-index c.loop-t-test.true c.requires.owes)).0
@@ -30,7 +30,7 @@ pub pay_entry-requires-clause-resumes : goal.pay_entry-requires-clause-resumes
 pay_entry-requires-clause-resumes c =
     let v = c.args.v.now in
     let t = get_or c.args.targets.now c.loop-t.t-index 0 in
-    let e = changed v.state.now c.args.entry.now in
+    let e = state_after v.state.now c.args.entry.now in
     subst (λ (k : Key). OwesDuty v (resume k c.args.back)) (sym c.entered_key-key.ensures)
     (owes_both _ _ _ v.key v.addr v.state.now 5 c.args.back (call_key v.key t) e
     (owes_at_flat _ _ _ v.key v.addr v.state.now (λ (n : ℕ). entered_and_back 5 (call_key v.key n) e c.args.back) c.args.targets.now c.loop-t.t-index c.loop-t-test.true c.requires.owes)).1
@@ -38,7 +38,7 @@ pay_entry-requires-clause-resumes c =
 pub loop-t-preserved : goal.loop-t-preserved
 loop-t-preserved c =
     let v = c.args.v.now in
-    let e = changed v.state.now c.args.entry.now in
+    let e = state_after v.state.now c.args.entry.now in
     paid_more_flat _ _ _ v.key v.addr v.state.now (lawful _ _ _ v.ground.now.sound) c.args.table.now c.loop-t.table c.pay_entry.new.table (λ (n : ℕ). entered_and_back 5 (call_key v.key n) e c.args.back)
     c.args.targets.now c.loop-t.t-index c.loop-t-test.true c.requires.visited c.requires.owes c.loop-t.invariant
     (subst (λ (k : Key). PaidBy v c.loop-t.table c.pay_entry.new.table (entered_and_back 5 k e c.args.back)) c.entered_key-key.ensures (c.in_ok-pay_entry.ensures.ok 5))
@@ -46,4 +46,4 @@ loop-t-preserved c =
 pub returns-clause-ok : goal.returns-clause-ok
 returns-clause-ok c =
     let v = c.args.v.now in
-    subst (λ (l : List ℕ). PaidBy v c.args.table.now c.loop-t.table (calls_by v (changed v.state.now c.args.entry.now) c.args.back l)) (take_all c.loop-t.t-index c.args.targets.now c.loop-t-test.false) c.loop-t.invariant
+    subst (λ (l : List ℕ). PaidBy v c.args.table.now c.loop-t.table (calls_by v (state_after v.state.now c.args.entry.now) c.args.back l)) (take_all c.loop-t.t-index c.args.targets.now c.loop-t-test.false) c.loop-t.invariant

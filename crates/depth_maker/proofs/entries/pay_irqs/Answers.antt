@@ -1,8 +1,8 @@
 use Rattle.std.proofs.Common.{sym, subst, ap, ◌∙◌, ◌≡◌, refl, ℕ, List, [], ◌∷◌, take, get_or}
 use Rattle.std.proofs.lemmas.List.{take_all}
 use Rattle.value_domain.specs.declared.states.State.{State}
-use Rattle.vd_transfer.specs.declared.changes.Change.{Change}
-use Rattle.vd_transfer.specs.Changes.{changed}
+use Rattle.vd_transfer.specs.declared.change.Change.{Change}
+use Rattle.vd_transfer.specs.Changes.{state_after}
 use Rattle.depth_cert.specs.declared.keys.Key.{Key}
 use Rattle.cfg_recover.specs.Entries as entries
 use Rattle.cfg_recover.specs.Duties.{owed, enter}
@@ -25,9 +25,9 @@ pay_enter-requires-clause-owes c =
     let v = c.args.v.now in
     let p = get_or c.args.irqs.now c.loop-p.p-index 0 in
     let plan = v.ground.now.plan.now in
-    let from = changed v.state.now c.args.entry in
-    let entry : changed v.state.now (record c.loop-p.entry { ccpn = p }) ≡ record from { ccpn = p } = ap (λ (e : Change). changed v.state.now (record e { ccpn = p })) c.loop-p.invariant.same in
-    subst (λ (k : Key). OwesDuty v (enter k (changed v.state.now (record c.loop-p.entry { ccpn = p })))) (sym c.irq_key.ensures)
+    let from = state_after v.state.now c.args.entry in
+    let entry : state_after v.state.now (record c.loop-p.entry { ccpn = p }) ≡ record from { ccpn = p } = ap (λ (e : Change). state_after v.state.now (record e { ccpn = p })) c.loop-p.invariant.same in
+    subst (λ (k : Key). OwesDuty v (enter k (state_after v.state.now (record c.loop-p.entry { ccpn = p })))) (sym c.irq_key.ensures)
     (subst (λ (s : State). OwesDuty v (enter (entries.irq_key plan p) s)) (sym entry)
     (owes_at_map _ _ _ v.key v.addr v.state.now (λ (n : ℕ). owed 11 (enter (entries.irq_key plan n) (record from { ccpn = n }))) c.args.irqs.now c.loop-p.p-index c.loop-p-test.true c.requires.owes))
 
@@ -36,8 +36,8 @@ loop-p-preserved c =
     let v = c.args.v.now in
     let p = get_or c.args.irqs.now c.loop-p.p-index 0 in
     let plan = v.ground.now.plan.now in
-    let from = changed v.state.now c.args.entry in
-    let entry : changed v.state.now (record c.loop-p.entry { ccpn = p }) ≡ record from { ccpn = p } = ap (λ (e : Change). changed v.state.now (record e { ccpn = p })) c.loop-p.invariant.same in
+    let from = state_after v.state.now c.args.entry in
+    let entry : state_after v.state.now (record c.loop-p.entry { ccpn = p }) ≡ record from { ccpn = p } = ap (λ (e : Change). state_after v.state.now (record e { ccpn = p })) c.loop-p.invariant.same in
     record {
       paid =
           paid_more_map _ _ _ v.key v.addr v.state.now (lawful _ _ _ v.ground.now.sound) c.args.table.now c.loop-p.table c.pay_enter.new.table (λ (n : ℕ). owed 11 (enter (entries.irq_key plan n) (record from { ccpn = n })))
@@ -50,4 +50,4 @@ loop-p-preserved c =
 pub returns-clause-ok : goal.returns-clause-ok
 returns-clause-ok c =
     let v = c.args.v.now in
-    subst (λ (l : List ℕ). PaidBy v c.args.table.now c.loop-p.table (told_irqs v.ground.now.plan.now (changed v.state.now c.args.entry) l)) (take_all c.loop-p.p-index c.args.irqs.now c.loop-p-test.false) c.loop-p.invariant.paid
+    subst (λ (l : List ℕ). PaidBy v c.args.table.now c.loop-p.table (told_irqs v.ground.now.plan.now (state_after v.state.now c.args.entry) l)) (take_all c.loop-p.p-index c.args.irqs.now c.loop-p-test.false) c.loop-p.invariant.paid

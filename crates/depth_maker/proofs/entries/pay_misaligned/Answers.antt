@@ -1,7 +1,7 @@
 use Rattle.std.proofs.Common.{sym, subst, ap, ◌∙◌, ◌≡◌, List, [], ◌∷◌}
 use Rattle.std.specs.Prelude.{OnOk}
 use Rattle.value_domain.specs.declared.states.State.{State}
-use Rattle.vd_transfer.specs.Changes.{changed}
+use Rattle.vd_transfer.specs.Changes.{state_after}
 use Rattle.depth_cert.specs.declared.keys.Key.{Key}
 use Rattle.cfg_recover.specs.Entries as entries
 use Rattle.cfg_recover.specs.Duties.{Owed, owed, enter}
@@ -23,7 +23,7 @@ pay_enter-requires-clause-owes c =
     let e = owed 10 (enter (entries.aln_key g.plan.now v.key) (entries.aln_entry g.plan.now v.key v.state.now)) in
     let one = owes_one _ _ _ v.key v.addr v.state.now e
     (subst (λ (l : List Owed). OwesAll v l) (sym (misaligned_one g.plan.now v.key v.state.now c.args.at.now c.args.size (sym c.is_aligned.ensures ∙ c.if-is_aligned.false))) c.requires.owes) in
-    subst (λ (k : Key). OwesDuty v (enter k (changed v.state.now c.misaligned_change-entry.result))) (sym c.aln_key.ensures)
+    subst (λ (k : Key). OwesDuty v (enter k (state_after v.state.now c.misaligned_change-entry.result))) (sym c.aln_key.ensures)
     (subst (λ (s : State). OwesDuty v (enter (entries.aln_key g.plan.now v.key) s)) (sym c.misaligned_change-entry.ensures.entry) one)
 
 pub returns-clause-ok : goal.returns-clause-ok

@@ -1,7 +1,7 @@
 use Rattle.std.proofs.Common.{sym, subst, ap, ◌∙◌}
 use Rattle.std.specs.Prelude.{OnOk}
 use Rattle.value_domain.specs.declared.states.State.{State}
-use Rattle.vd_transfer.specs.Changes.{changed}
+use Rattle.vd_transfer.specs.Changes.{state_after}
 use Rattle.depth_cert.specs.declared.keys.Key.{Key}
 use Rattle.cfg_recover.specs.Entries as entries
 use Rattle.cfg_recover.specs.Duties.{enter, resume, entered_and_back}
@@ -14,7 +14,7 @@ pay_entry-requires-clause-enters c =
     let v = c.args.v.now in
     let g = v.ground.now in
     let owes = owes_both _ _ _ v.key v.addr v.state.now 12 c.args.back (entries.sys_key g.plan.now v.key) (entries.sys_entry g.plan.now v.key v.state.now c.args.tin) c.requires.owes in
-    subst (λ (k : Key). OwesDuty v (enter k (changed v.state.now c.system_change-entry.result))) (sym c.sys_key.ensures)
+    subst (λ (k : Key). OwesDuty v (enter k (state_after v.state.now c.system_change-entry.result))) (sym c.sys_key.ensures)
     (subst (λ (s : State). OwesDuty v (enter (entries.sys_key g.plan.now v.key) s)) (sym c.system_change-entry.ensures.entry) owes.0)
 
 pub pay_entry-requires-clause-resumes : goal.pay_entry-requires-clause-resumes

@@ -5,7 +5,7 @@ use Rattle.depth_maker.proofs.Below.{asks_proper}
 use Rattle.depth_maker.proofs.Lawful.{lawful}
 use Rattle.depth_maker.proofs.TableLaws.{derived_proper}
 use Rattle.depth_maker.specs.Spots.{place_of}
-use Rattle.depth_maker.specs.Kept.{asked_for}
+use Rattle.small_states.specs.Kept.{asked_for}
 use Rattle.depth_maker.specs.View.{seen}
 use Rattle.depth_maker.proofs.CountedLemmas.{are_few, few_spots, limit_passed}
 use Rattle.depth_maker.proofs.RiseLemmas.{cells_proper, the_joined, the_answer, stays_joined}

@@ -3,7 +3,7 @@ use Rattle.value_domain.specs.declared.values.Val.{Val}
 use Rattle.value_domain.specs.Values.{IsBelow, any_val}
 use Rattle.value_domain.proofs.RangeLaws.{below_any}
 use Rattle.value_domain.proofs.RegLaws.{below_more}
-use Rattle.vd_transfer.specs.Changes.{changed}
+use Rattle.vd_transfer.specs.Changes.{state_after}
 use Rattle.vd_transfer.proofs.ChangeLaws.{length-changed}
 use Rattle.packed_cert.specs.Standing.{behind}
 use Rattle.packed_cert.specs.Below.{value_in, values_in}
@@ -13,7 +13,7 @@ use Rattle.packed_cert.proofs.changed.is_changed_below_at.Goals.{else-tag-ne0-vi
 
 pub is_below_at-requires-clause-well : goal.is_below_at-requires-clause-well
 is_below_at-requires-clause-well c =
-    let len : length (changed c.args.s.now c.args.c.now).regs ≡ 27 = length-changed c.args.s.now c.args.c.now (omega arith) in
+    let len : length (state_after c.args.s.now c.args.c.now).regs ≡ 27 = length-changed c.args.s.now c.args.c.now (omega arith) in
     rw c.changed_value.ensures (c.requires.well c.loop-i.i (omega arith))
 
 pub is_below_at-requires-clause-stands : goal.is_below_at-requires-clause-stands
@@ -34,7 +34,7 @@ overflow_add-at c =
 
 pub returns-then-not-is_below_at : goal.returns-then-not-is_below_at
 returns-then-not-is_below_at c =
-    let len : length (changed c.args.s.now c.args.c.now).regs ≡ 27 = length-changed c.args.s.now c.args.c.now (omega arith) in
+    let len : length (state_after c.args.s.now c.args.c.now).regs ≡ 27 = length-changed c.args.s.now c.args.c.now (omega arith) in
     let l = left_first c.args.version c.args.bytes.now c.loop-i.at 27 c.loop-i.i (values_in c.args.version c.args.bytes.now c.args.place 27) (omega arith) (length-values_in c.args.version c.args.bytes.now c.args.place 27) c.loop-i.invariant.have c.loop-i.invariant.left in (
       (λ t. absurd (let g : false ≡ true = t in cc)),
       (λ below.
@@ -45,7 +45,7 @@ returns-then-not-is_below_at c =
 pub loop-i-preserved : goal.loop-i-preserved
 loop-i-preserved c =
     let vs = values_in c.args.version c.args.bytes.now c.args.place 27 in
-    let low = (changed c.args.s.now c.args.c.now).regs in
+    let low = (state_after c.args.s.now c.args.c.now).regs in
     let l = left_first c.args.version c.args.bytes.now c.loop-i.at 27 c.loop-i.i vs (omega arith) (length-values_in c.args.version c.args.bytes.now c.args.place 27) c.loop-i.invariant.have c.loop-i.invariant.left in
     let next : c.loop-i.at + c.length_by-at.result ≡ behind c.args.bytes.now c.loop-i.at = ap (λ (k : ℕ). c.loop-i.at + k) c.length_by-at.ensures in
     let len : length low ≡ 27 = length-changed c.args.s.now c.args.c.now (omega arith) in
@@ -66,5 +66,5 @@ loop-i-preserved c =
 
 pub returns : goal.returns
 returns c =
-    let len : length (changed c.args.s.now c.args.c.now).regs ≡ 27 = length-changed c.args.s.now c.args.c.now (omega arith) in
+    let len : length (state_after c.args.s.now c.args.c.now).regs ≡ 27 = length-changed c.args.s.now c.args.c.now (omega arith) in
     ((λ t r h. c.loop-i.invariant.below r (omega arith)), (λ below. refl))

@@ -1,7 +1,7 @@
 use Rattle.std.proofs.Common.{arith}
 use Rattle.tc_asm.specs.Views.{use_of}
 use Rattle.tc_asm.specs.Objects.{reloc_of}
-use Rattle.tc_asm.proofs.LoopLaws.{pushed_view}
+use Rattle.tc_stmt.proofs.LoopLaws.{pushed_view}
 use Rattle.tc_asm.proofs.emit.add_relocs.Goals as goal
 
 pub loop-i-preserved : goal.loop-i-preserved

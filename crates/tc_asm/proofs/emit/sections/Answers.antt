@@ -1,7 +1,7 @@
 use Rattle.std.proofs.Common.{[], arith}
 use Rattle.tc_asm.specs.Views.{part_of}
 use Rattle.tc_asm.specs.Objects.{section_of}
-use Rattle.tc_asm.proofs.LoopLaws.{pushed_seen}
+use Rattle.tc_stmt.proofs.LoopLaws.{pushed_seen}
 use Rattle.tc_asm.proofs.emit.sections.Goals as goal
 
 pub loop-i-preserved : goal.loop-i-preserved

@@ -1,6 +1,6 @@
 use Rattle.std.proofs.Common.{[]}
 use Rattle.tc_asm.specs.Objects.{symbol_of}
-use Rattle.tc_asm.proofs.LoopLaws.{pushed_got}
+use Rattle.tc_stmt.proofs.LoopLaws.{pushed_got}
 use Rattle.tc_asm.proofs.emit.symbols.Goals as goal
 
 pub loop-i-preserved : goal.loop-i-preserved

@@ -5,7 +5,7 @@ use Rattle.std.specs.Str.{bytes_eq}
 use Rattle.tc_asm.specs.declared.sections.Part.{Part}
 use Rattle.tc_asm.specs.Views.{part_of}
 use Rattle.tc_asm.specs.Drafts.{number_of_part}
-use Rattle.tc_stmt.proofs.Mapped.{position-map}
+use Rattle.tc_lex.proofs.Mapped.{position-map}
 use Rattle.tc_asm.proofs.sections.number_of_part.Goals as goal
 
 module _ (parts : List Part) (name : List ℕ) (o : Option ℕ) (e : o ≡ position (λ p. bytes_eq name p.name.now) parts) where

@@ -1,6 +1,6 @@
 use Rattle.std.proofs.Common.{◌++◌, ◌∷◌, [], List, map, ap, ◌∙◌}
 use Rattle.std.proofs.lemmas.List.{map_push}
-use Rattle.tc_stmt.specs.Filling.{reference_of}
+use Rattle.tc_stmt.specs.RowFields.{reference_of}
 use Rattle.tc_asm.specs.declared.sections.Part.{Part}
 use Rattle.tc_asm.specs.Drafts.{PartData, UseData}
 use Rattle.tc_asm.specs.Views.{part_of, use_of}

@@ -1,7 +1,7 @@
 use Rattle.std.proofs.Common.{◌≡◌, ◌≤◌, ◌+◌, ◌++◌, ℕ, List, Result, Ok, Err, length, drop, subst, arith, length-drop}
 use Rattle.std.specs.Prelude.{OnOk, IfOk, string_bytes}
 use Rattle.std.proofs.lemmas.List.{take_rest}
-use Rattle.tcd_base.specs.declared.types.NoMemory.{NoMemory}
+use Rattle.tcd_base.specs.declared.errors.NoMemory.{NoMemory}
 use Rattle.tc_disasm.specs.Listing.{line_at, size_at}
 use Rattle.tc_disasm.proofs.pieces.append_line_at.Goals as goal
 

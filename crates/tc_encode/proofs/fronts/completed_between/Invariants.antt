@@ -1,6 +1,6 @@
 use Rattle.std.proofs.Common.{◌<◌, ◌≤◌}
 use Rattle.tc_isa.specs.Insts.{InstData}
-use Rattle.tc_encode.specs.Finding.{GoesOn}
+use Rattle.tc_encode.specs.WordSearch.{GoesOn}
 use Rattle.tc_encode.proofs.fronts.completed_between.Given as goal
 
 abbrev pub invariant-loop-place : goal.invariant-loop-place

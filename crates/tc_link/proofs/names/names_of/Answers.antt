@@ -4,9 +4,9 @@ use Rattle.std.specs.List.{count_by}
 use Rattle.std.specs.Option.{option_map}
 use Rattle.tc_object.specs.Objects.{SymbolData, ObjectData}
 use Rattle.tc_link.specs.Placing.{PlacedData, GlobalData, is_global, global_data, globals_of, global_address}
-use Rattle.tc_link.specs.Linked.{named, globals_named}
+use Rattle.tc_link.specs.Linked.{has_global_name, globals_named}
 use Rattle.tc_link.specs.declared.definitions.Definition.{Definition}
-use Rattle.tc_link.specs.Names.{kept, address_of}
+use Rattle.tc_link.specs.Names.{twice_of_count, address_of}
 use Rattle.tc_link.proofs.CountLaws.{globals_more}
 use Rattle.tc_link.proofs.GlobalLaws.{globals_next}
 use Rattle.tc_link.proofs.PlacedLaws.{PlacedAt, placed_at, whole_placed}
@@ -28,8 +28,8 @@ loop-number-preserved c =
       counts = λ q.
           let n : ℕ = globals_named (take i c.args.objects.now) q in
           c.in_ok-add_symbols.ensures.counts q n (c.loop-number.invariant.counts q)
-          ∙ ap (λ (ss : List SymbolData). kept (n + count_by (named q) ss)) e
-          ∙ ap kept (globals_more c.args.objects.now i o q c.loop-number-test.true c.index-objects-number.is);
+          ∙ ap (λ (ss : List SymbolData). twice_of_count (n + count_by (has_global_name q) ss)) e
+          ∙ ap twice_of_count (globals_more c.args.objects.now i o q c.loop-number-test.true c.index-objects-number.is);
       globals = λ placed same q.
           let at : PlacedAt placed i o = placed_at placed c.args.objects.now i o same c.loop-number-test.true c.index-objects-number.is in
           let p : PlacedData = at.placed in

@@ -4,19 +4,19 @@ use Rattle.vd_transfer.specs.Operations.{range_of, row}
 use Rattle.vd_transfer.proofs.OpLaws.{same_bounds, row_runs, runs_step, run_some, row-truth}
 use Rattle.vd_transfer.proofs.operations.other_row.Goals as goal
 
-covered : (c : goal.After-run_of-run) → range_of c.run_of-run.result ≡ row c.args.op c.args.v.now c.args.w.now
+covered : (c : goal.After-interval_of_row-run) → range_of c.interval_of_row-run.result ≡ row c.args.op c.args.v.now c.args.w.now
 covered c =
-    ap range_of c.run_of-run.ensures
+    ap range_of c.interval_of_row-run.ensures
     ∙ row_runs c.args.op c.args.v.now c.args.w.now c.extent_of.result c.extent_of-2.result c.requires.other (sym c.gives_truth.ensures ∙ c.if-gives_truth.false)
     (same_bounds c.extent_of.result c.args.v.now c.requires.left.well c.extent_of.ensures) (same_bounds c.extent_of-2.result c.args.w.now c.requires.right.well c.extent_of-2.ensures)
 
-pub run_of-run-requires : goal.run_of-run-requires
-run_of-run-requires c = record { left = c.extent_of.ensures.low _ c.extent_of.ensures.high_in; right = c.extent_of-2.ensures.low _ c.extent_of-2.ensures.high_in }
+pub interval_of_row-run-requires : goal.interval_of_row-run-requires
+interval_of_row-run-requires c = record { left = c.extent_of.ensures.low _ c.extent_of.ensures.high_in; right = c.extent_of-2.ensures.low _ c.extent_of-2.ensures.high_in }
 
 pub cover-requires : goal.cover-requires
 cover-requires c = record {
-  step = rw c.run_of-run.ensures (runs_step c.args.op c.extent_of.result c.extent_of-2.result c.args.w.now c.extent_of.ensures.small c.extent_of-2.ensures.small);
-  some = run_some c.run_of-run.result c.args.op c.args.v.now c.args.w.now c.requires.left.well c.requires.right.well (covered c);
+  step = rw c.interval_of_row-run.ensures (runs_step c.args.op c.extent_of.result c.extent_of-2.result c.args.w.now c.extent_of.ensures.small c.extent_of-2.ensures.small);
+  some = run_some c.interval_of_row-run.result c.args.op c.args.v.now c.args.w.now c.requires.left.well c.requires.right.well (covered c);
 }
 
 pub returns-clause-cover : goal.returns-clause-cover

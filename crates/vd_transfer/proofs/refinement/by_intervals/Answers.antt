@@ -8,9 +8,9 @@ use Rattle.vd_transfer.proofs.refinement.by_intervals.Goals as goal
 
 pub returns-clause-kept : goal.returns-clause-kept
 returns-clause-kept c =
-    let i = c.reached.result.0 in
-    let j = c.reached.result.1 in
+    let i = c.words_reached.result.0 in
+    let j = c.words_reached.result.1 in
     let vs = members c.args.v.now in
-    c.join_some.ensures.both (filter (in_span c.reached.result.0.lo c.reached.result.0.last 0) vs) (filter (in_span c.reached.result.1.lo c.reached.result.1.last 0) vs) c.meet-here.ensures.meet c.meet-there.ensures.meet
+    c.join_some.ensures.both (filter (in_span c.words_reached.result.0.lo c.words_reached.result.0.last 0) vs) (filter (in_span c.words_reached.result.1.lo c.words_reached.result.1.last 0) vs) c.meet-here.ensures.meet c.meet-there.ensures.meet
     ∙ kept_intervals c.args.b.now c.args.rel vs (members c.args.w.now) i j c.extent_of-e.result.least c.extent_of-e.result.greatest c.extent_of-e.result.step
-    c.requires.order c.extent_of-e.ensures (members_below c.args.v.now c.requires.left.well) c.reached.ensures
+    c.requires.order c.extent_of-e.ensures (members_below c.args.v.now c.requires.left.well) c.words_reached.ensures

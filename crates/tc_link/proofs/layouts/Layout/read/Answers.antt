@@ -2,7 +2,7 @@ use Rattle.std.proofs.Common.{◌≡◌, ℕ, List, length, Result, Ok, sym, sub
 use Rattle.std.specs.Prelude.{IfOk, IfErr}
 use Rattle.std.proofs.lemmas.Bool.Decides.{nat_tests}
 use Rattle.std.proofs.lemmas.Result.{err_from_is_err_and}
-use Rattle.tc_link.specs.declared.faults.LayoutErr.{LayoutErr}
+use Rattle.tc_link.specs.declared.layout_errors.LayoutErr.{LayoutErr}
 use Rattle.tc_link.specs.Layouts.{LayoutData}
 use Rattle.tcd_text.specs.Lines.{lines_of}
 use Rattle.tc_link.specs.Faults.{IsFaultOf}

@@ -1,5 +1,5 @@
 use Rattle.std.proofs.Common.{List, length, ap, ◌∙◌}
-use Rattle.tcd_base.specs.declared.types.Range.{Range}
+use Rattle.tcd_base.specs.declared.range.Range.{Range}
 use Rattle.tcd_plan.specs.PlanData.{plan_data}
 use Rattle.value_cells.specs.declared.cells.Cell.{Cell}
 use Rattle.value_cells.specs.Cells.{ranges_without, ram_without}

@@ -1,0 +1,51 @@
+-- What is known at a place of a frame: a state at a point, or an exit; what covers it, and what joins it.
+use Rattle.std.specs.Prelude.{◌||◌, min, Option, Some, None, option_map, ℕ, ◌≡◌, ◌≤◌, length}
+use Rattle.value_domain.specs.declared.states.State.{State}
+use Rattle.value_domain.specs.Limits.{Limits}
+use Rattle.value_domain.specs.State.{Covers, joined_states, joined_regs, AreValues}
+use Rattle.depth_cert.specs.declared.points.Exit.{Exit}
+use Rattle.depth_cert.specs.Exits.{ExitCovers}
+
+-- what is known at a place
+pub data Known : Type 0 where
+  state : State → Known
+  leaving : Exit → Known
+
+-- what is known covers something of its kind
+abbrev pub CoversKnown : Known → Known → Type 0
+CoversKnown (state u) (state s) = Covers u s
+CoversKnown (leaving y) (leaving x) = ExitCovers y x
+CoversKnown (state u) (leaving x) = ⊥
+CoversKnown (leaving y) (state s) = ⊥
+
+-- the least exit that covers both
+abbrev pub joined_exit : Limits → Exit → Exit → Exit
+joined_exit b x y = record { ie = x.ie || y.ie; ccpn = min x.ccpn y.ccpn; lower = joined_regs b x.lower y.lower }
+
+-- the least that covers both; none for states with unequal numbers of locals
+abbrev pub joined_known : Limits → Known → Known → Option Known
+joined_known b (state s) (state t) = option_map state (joined_states b s t)
+joined_known b (leaving x) (leaving y) = Some (leaving (joined_exit b x y))
+joined_known b (state s) (leaving y) = None
+joined_known b (leaving x) (state t) = None
+
+-- the priority of a state, of an exit
+abbrev pub priority_of : Known → ℕ
+priority_of (state s) = s.ccpn
+priority_of (leaving x) = x.ccpn
+
+-- a state of the plan and the version: 27 values, and no more locals than it may have
+pub record IsProper (b : Limits) (s : State) : Type 0 where
+  pub regs : length s.regs ≡ 27
+  pub values : AreValues b s.regs
+  pub few : length s.locals.items ≤ b.most_locals
+
+-- an exit of the plan and the version: 14 values
+pub record IsProperExit (b : Limits) (x : Exit) : Type 0 where
+  pub regs : length x.lower ≡ 14
+  pub values : AreValues b x.lower
+
+-- what is known is of the plan and the version
+abbrev pub IsProperKnown : Limits → Known → Type 0
+IsProperKnown b (state s) = IsProper b s
+IsProperKnown b (leaving x) = IsProperExit b x

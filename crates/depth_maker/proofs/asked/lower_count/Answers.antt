@@ -1,6 +1,0 @@
-use Rattle.std.proofs.Common.{sym, arith}
-use Rattle.depth_maker.proofs.AskedLemmas as lemmas
-use Rattle.depth_maker.proofs.asked.lower_count.Goals as goal
-
-pub returns : goal.returns
-returns c = sym (lemmas.lower_count c.args.s.now.regs (omega arith))

@@ -1,7 +1,0 @@
-use Rattle.std.proofs.Common.{◌≡◌, take}
-use Rattle.value_domain.specs.State.{joined_regs}
-use Rattle.depth_maker.specs.Kept.{values_asked}
-use Rattle.depth_maker.proofs.values.joined.Given as goal
-
-abbrev pub invariant-loop-i : goal.invariant-loop-i
-invariant-loop-i l = l.values.items ≡ take l.i (joined_regs l.b l.left (values_asked l.asked))

@@ -1,6 +1,0 @@
-use Rattle.std.proofs.Common.{◌≡◌, take}
-use Rattle.depth_maker.specs.Kept.{values_asked}
-use Rattle.depth_maker.proofs.values.packed.Given as goal
-
-abbrev pub invariant-loop-i : goal.invariant-loop-i
-invariant-loop-i l = l.values.items ≡ take l.i (values_asked l.asked)

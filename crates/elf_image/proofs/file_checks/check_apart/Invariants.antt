@@ -1,0 +1,7 @@
+use Rattle.std.proofs.Common.{◌≡◌, drop}
+use Rattle.elf_image.specs.Elf.{overlap_refusal}
+use Rattle.elf_image.proofs.file_checks.check_apart.Given as goal
+
+-- the first pair is among what is left
+abbrev pub invariant-loop-i : goal.invariant-loop-i
+invariant-loop-i l = overlap_refusal (drop l.i l.loads) ≡ overlap_refusal l.loads

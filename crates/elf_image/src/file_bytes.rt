@@ -1,0 +1,83 @@
+// The file of an image, part by part.
+ghost use Rattle.std.specs.Prelude.{◌≡◌, ◌++◌, ◌≤◌, ◌^◌, length, map, sum_by, OnOk, IfOk, IfErr};
+ghost use Rattle.elf_image.specs.Images.{segment_data};
+ghost use Rattle.elf_image.specs.Written.{elf_header, program_header, program_headers, contents, contents_place, file_of};
+
+use crate::{ImageErr, Segment};
+use std::alloc::Global;
+
+// The ELF header of an executable with this entry and so many program headers.
+#[tactic(auto, unfolding(crate::specs::Written::elf_header))]
+fn elf_header(entry: u32, count: u16) -> [u8; 52]
+    ensures { result ≡ elf_header entry count }
+{
+    let e = entry.to_le_bytes();
+    let n = count.to_le_bytes();
+    [
+        0x7f, b'E', b'L', b'F', 1, 1, 1, 0, 0, 0, 0, 0, 0, 0, 0, 0, 2, 0, 44, 0, 1, 0, 0, 0, e[0],
+        e[1], e[2], e[3], 52, 0, 0, 0, 0, 0, 0, 0, 0, 0, 0, 0, 52, 0, 32, 0, n[0], n[1], 0, 0, 0,
+        0, 0, 0,
+    ]
+}
+
+// The program header of a segment at an address, whose bytes begin at this place of the file.
+#[tactic(auto, unfolding(crate::specs::Written::program_header))]
+fn program_header(offset: u32, at: u32, len: u32) -> [u8; 32]
+    ensures { result ≡ program_header offset at len }
+{
+    let o = offset.to_le_bytes();
+    let a = at.to_le_bytes();
+    let n = len.to_le_bytes();
+    [
+        1, 0, 0, 0, o[0], o[1], o[2], o[3], a[0], a[1], a[2], a[3], a[0], a[1], a[2], a[3], n[0],
+        n[1], n[2], n[3], n[0], n[1], n[2], n[3], 5, 0, 0, 0, 1, 0, 0, 0,
+    ]
+}
+
+// Appends the program headers.
+#[tactic(auto, unfolding(crate::specs::Written::program_headers))]
+fn put_headers(out: &mut Vec<u8>, segments: &[Segment]) -> Result<(), ImageErr>
+    requires few { length segments.now ≤ 64 }
+    requires small { sum_by (λ s. length s.bytes) (map segment_data segments.now) ≤ 2 ^ 24 }
+    ensures ok { let all = map segment_data segments.now in
+        OnOk result (out.new.items ≡ out.old.items ++ program_headers (contents_place all) all) }
+    ensures err { IfErr result (λ e. e ≡ ImageErr.NoMemory) }
+{
+    let mut offset = 52 + 32 * segments.len() as u32;
+    for segment in segments {
+        let len = segment.bytes.len() as u32;
+        out.extend_from_slice(&program_header(offset, segment.at, len))?;
+        offset += len;
+    }
+    Ok(())
+}
+
+// Appends the segments' bytes.
+#[tactic(auto, unfolding(crate::specs::Written::contents))]
+fn put_contents(out: &mut Vec<u8>, segments: &[Segment]) -> Result<(), ImageErr>
+    ensures ok { OnOk result
+        (out.new.items ≡ out.old.items ++ contents (map segment_data segments.now)) }
+    ensures err { IfErr result (λ e. e ≡ ImageErr.NoMemory) }
+{
+    for segment in segments {
+        out.extend_from_slice(&segment.bytes)?;
+    }
+    Ok(())
+}
+
+// The file of these segments, with the address at which the program begins.
+#[tactic(auto, unfolding(crate::specs::Written::file_of))]
+pub(crate) fn file_of(alloc: Global, entry: u32, segments: &[Segment]) -> Result<Vec<u8>, ImageErr>
+    requires few { length segments.now ≤ 64 }
+    requires small { sum_by (λ s. length s.bytes) (map segment_data segments.now) ≤ 2 ^ 24 }
+    ensures ok { IfOk result (λ v.
+        v.items ≡ file_of (record { entry = entry; segments = map segment_data segments.now })) }
+    ensures err { IfErr result (λ e. e ≡ ImageErr.NoMemory) }
+{
+    let mut out = Vec::new(alloc);
+    let header = elf_header(entry, segments.len() as u16);
+    out.extend_from_slice(&header)?;
+    put_headers(&mut out, segments)?;
+    put_contents(&mut out, segments)?;
+    Ok(out)
+}

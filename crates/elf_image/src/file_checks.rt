@@ -1,0 +1,145 @@
+// What an image is loaded from: the checks of a file, in their order.
+ghost use Rattle.std.specs.Prelude.{◌≡◌, ◌+◌, ◌≤◌, ◌<◌, ◌⊎◌, length, map, find, All, Option, Some, None, OnOk, IfOk, IfErr, true, false};
+ghost use Rattle.std.specs.Result.{result_err};
+ghost use Rattle.std.specs.Option.{option_map};
+ghost use Rattle.elf_image.specs.Elf.{e_phnum, header_at, headers_of, is_bad, start_refusal, segment_refusal, meets, loads_of, is_large, overlap_refusal, segment_of};
+ghost use Rattle.elf_image.specs.Images.{segment_data};
+
+use crate::headers::{Header, half_at, has_bytes, header_at, is_bad, meets};
+use crate::{ImageErr, Segment};
+use std::alloc::Global;
+
+// That a file begins as an executable ELF file for this machine.
+#[tactic(auto, unfolding(crate::specs::Elf::start_refusal))]
+pub(crate) fn check_start(bytes: &[u8]) -> Result<(), ImageErr>
+    ensures refusal { result_err result ≡ start_refusal bytes.now }
+    ensures long { OnOk result (52 ≤ length bytes.now) }
+{
+    if bytes.len() < 52 {
+        return Err(ImageErr::Short);
+    }
+    if !bytes.starts_with(&[127, 69, 76, 70, 1, 1]) {
+        return Err(ImageErr::NotElf32Le);
+    }
+    if half_at(bytes, 18) != 44 {
+        return Err(ImageErr::NotTriCore);
+    }
+    if half_at(bytes, 16) != 2 {
+        return Err(ImageErr::NotExec);
+    }
+    Ok(())
+}
+
+// The number of the first program header that can't be used.
+fn first_bad(bytes: &[u8]) -> Option<u32>
+    requires { 52 ≤ length bytes.now }
+    ensures { result ≡ option_map (λ h. h.number) (find (is_bad bytes.now) (headers_of bytes.now)) }
+{
+    let count = half_at(bytes, 44);
+    for number in 0..count {
+        if is_bad(bytes, number) {
+            return Some(u32::from(number));
+        }
+    }
+    None
+}
+
+// That each program header can be used.
+#[tactic(auto, unfolding(crate::specs::Elf::segment_refusal))]
+pub(crate) fn check_segments(bytes: &[u8]) -> Result<(), ImageErr>
+    requires { 52 ≤ length bytes.now }
+    ensures { result_err result ≡ segment_refusal bytes.now }
+{
+    if half_at(bytes, 44) > 0 && half_at(bytes, 42) != 32 {
+        return Err(ImageErr::BadSegment(0));
+    }
+    match first_bad(bytes) {
+        Some(number) => Err(ImageErr::BadSegment(number)),
+        None => Ok(()),
+    }
+}
+
+// The number of the first of these headers that shares an address with the first.
+fn first_meeting(header: &Header, others: &[Header]) -> Option<u32>
+    ensures { result ≡ option_map (λ k. k.number) (find (meets header.now) others.now) }
+{
+    for other in others {
+        if meets(header, other) {
+            return Some(other.number);
+        }
+    }
+    None
+}
+
+// That no two of the headers that load bytes share an address.
+#[tactic(auto, unfolding(crate::specs::Elf::overlap_refusal))]
+pub(crate) fn check_apart(loads: &[Header]) -> Result<(), ImageErr>
+    ensures { result_err result ≡ overlap_refusal loads.now }
+{
+    for (i, header) in loads.iter().enumerate() {
+        if let Some(other) = first_meeting(header, &loads[i + 1..]) {
+            return Err(ImageErr::Overlap(header.number, other));
+        }
+    }
+    Ok(())
+}
+
+// The headers that load bytes, in order; at most 64, with at most 2^24 bytes together.
+pub(crate) fn loads_of(alloc: Global, bytes: &[u8]) -> Result<Vec<Header>, ImageErr>
+    requires long { 52 ≤ length bytes.now }
+    requires good { segment_refusal bytes.now ≡ None }
+    ensures ok { IfOk result (λ v.
+        (v.items ≡ loads_of bytes.now) × (is_large (loads_of bytes.now) ≡ false)) }
+    ensures err { IfErr result (λ e.
+        (e ≡ ImageErr.NoMemory)
+        ⊎ ((e ≡ ImageErr.TooLarge) × (is_large (loads_of bytes.now) ≡ true))) }
+{
+    let mut loads = Vec::new(alloc);
+    let mut total = 0u32;
+    let count = half_at(bytes, 44);
+    for number in 0..count {
+        let header = header_at(bytes, number);
+        if has_bytes(&header) {
+            if loads.len() == 64 || header.file_size > 16_777_216 - total {
+                return Err(ImageErr::TooLarge);
+            }
+            total += header.file_size;
+            loads.push(header)?;
+        }
+    }
+    Ok(loads)
+}
+
+// The bytes that a header loads, at their address.
+fn segment_of(alloc: Global, bytes: &[u8], load: &Header) -> Result<Segment, ImageErr>
+    requires { load.now.offset + load.now.file_size ≤ length bytes.now }
+    ensures ok { IfOk result (λ s. segment_data s ≡ segment_of bytes.now load.now) }
+    ensures err { IfErr result (λ e. e ≡ ImageErr.NoMemory) }
+{
+    let start = load.offset as usize;
+    let end = start + load.file_size as usize;
+    let loaded = Vec::from_slice(alloc, &bytes[start..end])?;
+    Ok(Segment {
+        at: load.address,
+        bytes: loaded,
+    })
+}
+
+// The segments of these headers, in order.
+pub(crate) fn segments_of(
+    alloc: Global,
+    bytes: &[u8],
+    loads: &[Header],
+) -> Result<Vec<Segment>, ImageErr>
+    requires { All (λ h. h.offset + h.file_size ≤ length bytes.now) loads.now }
+    ensures ok { IfOk result (λ v.
+        map segment_data v.items ≡ map (segment_of bytes.now) loads.now) }
+    ensures err { IfErr result (λ e. e ≡ ImageErr.NoMemory) }
+{
+    let mut segments = Vec::new(alloc);
+    for load in loads {
+        let segment = segment_of(alloc, bytes, load)?;
+        segments.push(segment)?;
+    }
+    Ok(segments)
+}

@@ -1,0 +1,14 @@
+use Rattle.std.proofs.Common.{arith}
+use Rattle.vd_transfer.proofs.ChangeLaws.{length-changed}
+use Rattle.cfg_recover.proofs.FlowStates.{with_lower_length}
+use Rattle.small_states.proofs.asked.asked_value.Goals as goal
+
+pub changed_value-requires-clause-place : goal.changed_value-requires-clause-place
+changed_value-requires-clause-place c =
+    let h = rw c.in-Changed.is at c.requires.place in
+    omega (arith, h, length-changed c.in-Changed.s.now c.in-Changed.c.now (omega arith))
+
+pub value_after-requires : goal.value_after-requires
+value_after-requires c =
+    let h = rw c.in-After.is at c.requires.place in
+    omega (arith, h, with_lower_length c.in-After.exit.now.lower c.in-After.s.now.regs)

@@ -1,0 +1,12 @@
+use Rattle.std.proofs.Common.{◌∙◌, ap, sym, arith}
+use Rattle.std.proofs.lemmas.List.{get_or_default}
+use Rattle.value_domain.specs.declared.values.Val.{Val}
+use Rattle.value_domain.specs.Values.{any_val}
+use Rattle.cfg_recover.proofs.FlowStates.{after-at, restored_at}
+use Rattle.small_states.proofs.asked.value_after.Goals as goal
+
+pub returns : goal.returns
+returns c =
+    c.restored.ensures
+    ∙ ap (λ (u : Val). restored_at c.args.i c.args.exit.now.lower u) (get_or_default c.args.s.now.regs c.args.i c.index-s-i.result any_val (omega arith))
+    ∙ sym (after-at c.args.exit.now.lower c.args.s.now.regs c.args.i (omega arith))

@@ -1,0 +1,59 @@
+-- What is kept at a place, as what is known there, and what duties ask for.
+use Rattle.std.specs.Prelude.{◌≡◌, Bool, true, false, List, if◌then◌else◌}
+use Rattle.value_domain.specs.declared.values.Val.{Val}
+use Rattle.value_domain.specs.declared.states.State.{State}
+use Rattle.vd_transfer.specs.Changes.{state_after}
+use Rattle.depth_cert.specs.declared.points.Exit.{Exit}
+use Rattle.depth_cert.specs.Exits.{after_of, exit_of, lower_values}
+use Rattle.depth_cert.specs.Known.{Known, state, leaving}
+use Rattle.small_states.specs.declared.cells.Kept.{Kept}
+use Rattle.small_states.specs.declared.cells.Kept.TheVariants.{Point, Leaves}
+use Rattle.small_states.specs.Wholes.{exit_in, state_in}
+use Rattle.small_states.specs.declared.asked.Asked.{Asked}
+use Rattle.small_states.specs.declared.asked.Context.{Context}
+use Rattle.small_states.specs.declared.asked.Asked.TheVariants.{Changed, After, Leaving}
+
+-- what is kept at a place is known there
+abbrev pub known_of : Kept → Known
+known_of (Point s) = state (state_in s)
+known_of (Leaves x) = leaving (exit_in x)
+
+-- what a duty asks for
+abbrev pub asked_for : Asked → Known
+asked_for (Changed s c) = state (state_after s.now c.now)
+asked_for (After s x kind) = state (after_of s.now x.now kind)
+asked_for (Leaving s) = leaving (exit_of s.now)
+
+-- the state that is known; nothing is said where it is an exit
+abbrev pub IsStateAt : Known → State → Type 0
+IsStateAt (state s) u = u ≡ s
+IsStateAt (leaving x) u = Unit {0}
+
+-- the exit that is known; nothing is said where it is a state
+abbrev pub IsExitAt : Known → Exit → Type 0
+IsExitAt (state s) u = Unit {0}
+IsExitAt (leaving x) u = u ≡ x
+
+-- the values that a duty asks for: a state's 27, or an exit's 14
+abbrev pub values_asked : Asked → List Val
+values_asked (Changed s c) = (state_after s.now c.now).regs
+values_asked (After s x kind) = (after_of s.now x.now kind).regs
+values_asked (Leaving s) = lower_values (s.now).regs
+
+-- a duty asks for an exit
+abbrev pub is_exit : Asked → Bool
+is_exit (Changed s c) = false
+is_exit (After s x kind) = false
+is_exit (Leaving s) = true
+
+-- the state, the exit with these values and this context
+abbrev pub state_with : List Val → Context → State
+state_with values k = record { regs = values; ie = k.ie; ccpn = k.ccpn; lower = k.lower; locals = k.locals.now }
+
+-- an exit keeps no more than IE and CCPN of a context
+abbrev pub exit_with : List Val → Context → Exit
+exit_with values k = record { ie = k.ie; ccpn = k.ccpn; lower = values }
+
+-- what a duty asks for, by its values and its context
+abbrev pub known_by : Asked → Context → Known
+known_by asked k = if is_exit asked then leaving (exit_with (values_asked asked) k) else state (state_with (values_asked asked) k)

@@ -1,0 +1,163 @@
+// What duties ask for.
+ghost use Rattle.std.specs.Prelude.{◌≡◌, ◌<◌, ◌-◌, ◌==◌, length, nat_lt, slice_index_or, if◌then◌else◌};
+ghost use Rattle.value_domain.specs.Values.{any_val};
+ghost use Rattle.value_domain.specs.State as states;
+ghost use Rattle.depth_cert.specs.Exits.{lower_values, with_lower_from};
+ghost use Rattle.small_states.specs.Kept.{asked_for, is_exit, known_by, values_asked};
+ghost use Rattle.depth_cert.specs.Known.{priority_of};
+
+use arrayvec::ArrayVec;
+use depth_cert::Exit;
+use value_domain::{State, Val};
+use vd_transfer::{Change, changed_value};
+
+/// What a duty asks for at a place, told by the state of the point that owes it, so that nothing is built where it is
+/// covered: the changed state; the state after an entered frame of a kind (1 call, 3 system call) that came back by an exit;
+/// the exit by which the frame is left with this state.
+#[derive(Drop)]
+pub enum Asked<'a> {
+    Changed(&'a State, &'a Change),
+    After(&'a State, &'a Exit, u8),
+    Leaving(&'a State),
+}
+
+/// What is asked for beside values.
+#[derive(Drop)]
+pub(crate) struct Context<'a> {
+    pub ie: bool,
+    pub ccpn: u8,
+    pub lower: bool,
+    pub locals: &'a ArrayVec<bool, 8>,
+}
+
+/// The priority of what is asked for.
+pub fn priority(asked: &Asked) -> u8
+    ensures { result ≡ priority_of (asked_for asked.now) }
+{
+    match asked {
+        Asked::Changed(_, change) => change.ccpn,
+        Asked::After(s, exit, kind) => { if *kind == 1 { exit.ccpn } else { s.ccpn } }
+        Asked::Leaving(s) => s.ccpn,
+    }
+}
+
+/// Whether an exit is asked for.
+pub(crate) fn is_leaving(asked: &Asked) -> bool
+    ensures { result ≡ is_exit asked.now }
+{
+    match asked {
+        Asked::Changed(_, _) => false,
+        Asked::After(_, _, _) => false,
+        Asked::Leaving(_) => true,
+    }
+}
+
+/// A call comes back with its exit's IE, a system call with its caller's.
+fn ie_after(s: &State, exit: &Exit, kind: u8) -> bool
+    ensures { result ≡ (if kind == 1 then exit.now.ie else s.now.ie) }
+{
+    if kind == 1 { exit.ie } else { s.ie }
+}
+
+/// What is asked for beside values.
+pub(crate) fn context_of<'a>(asked: &Asked<'a>) -> Context<'a>
+    ensures { asked_for asked.now ≡ known_by asked.now result }
+{
+    let ccpn = priority(asked);
+    match asked {
+        Asked::Changed(_, c) => Context {
+            ie: c.ie,
+            ccpn,
+            lower: c.lower,
+            locals: &c.locals,
+        },
+        Asked::After(s, exit, kind) => Context {
+            ie: ie_after(s, exit, *kind),
+            ccpn,
+            lower: false,
+            locals: &s.locals,
+        },
+        Asked::Leaving(s) => Context {
+            ie: s.ie,
+            ccpn,
+            lower: false,
+            locals: &s.locals,
+        },
+    }
+}
+
+/// How many values are asked for: those of a state, or those of an exit.
+pub(crate) fn count_asked(asked: &Asked) -> usize
+    ensures { result ≡ length (values_asked asked.now) }
+{
+    match asked {
+        Asked::Changed(s, _) => {
+            let _regs = &s.regs[..];
+            27
+        }
+        Asked::After(s, _, _) => {
+            let _regs = &s.regs[..];
+            27
+        }
+        Asked::Leaving(s) => lower_count(s),
+    }
+}
+
+fn lower_count(s: &State) -> usize
+    ensures { result ≡ length (lower_values s.now.regs) }
+{
+    let _regs = &s.regs[..];
+    14
+}
+
+/// The value of a place after a frame came back: the exit's for a lower register, else the one that it had.
+fn restored<'a>(i: usize, lower: &'a [Val; 14], v: &'a Val) -> &'a Val
+    ensures { result.now
+        ≡ (if states.is_lower_slot i
+        then slice_index_or lower.now (if nat_lt i 8 then i else i - 8) any_val else v.now) }
+{
+    if i < 8 {
+        &lower[i]
+    } else if 16 <= i && i < 22 {
+        &lower[i - 8]
+    } else {
+        v
+    }
+}
+
+/// The value after a frame came back by an exit.
+fn value_after<'a>(s: &'a State, exit: &'a Exit, i: usize) -> &'a Val
+    requires { i < 27 }
+    ensures { result.now ≡ slice_index_or (with_lower_from 0 exit.now.lower s.now.regs) i any_val }
+{
+    let _regs = &s.regs[..];
+    restored(i, &exit.lower, &s.regs[i])
+}
+
+/// The value of a lower register.
+fn lower_value(s: &State, i: usize) -> &Val
+    requires { i < 14 }
+    ensures { result.now ≡ slice_index_or (lower_values s.now.regs) i any_val }
+{
+    let _regs = &s.regs[..];
+    if i < 8 { &s.regs[i] } else { &s.regs[i + 8] }
+}
+
+/// The value that is asked for at a place; `any` stands for each of which nothing is known.
+pub(crate) fn asked_value<'a>(asked: &'a Asked, any: &'a Val, i: usize) -> &'a Val
+    requires place { i < length (values_asked asked.now) }
+    requires any { any.now ≡ any_val }
+    ensures { result.now ≡ slice_index_or (values_asked asked.now) i any_val }
+{
+    match asked {
+        Asked::Changed(s, c) => {
+            let _regs = &s.regs[..];
+            changed_value(s, c, any, i)
+        }
+        Asked::After(s, exit, _) => {
+            let _regs = &s.regs[..];
+            value_after(s, exit, i)
+        }
+        Asked::Leaving(s) => lower_value(s, i),
+    }
+}

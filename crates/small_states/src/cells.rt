@@ -1,0 +1,237 @@
+// What is known at a place.
+ghost use Rattle.std.specs.Prelude.{◌≡◌, ◌↔◌, IsTrue, IfOk, Some, length};
+ghost use Rattle.std.specs.Option.{option_map};
+ghost use Rattle.value_domain.specs.State.{AreValues, AreWell, Covers, joined_states};
+ghost use Rattle.small_states.specs.Wholes.{exit_in, state_in};
+ghost use Rattle.depth_cert.specs.Exits.{ExitCovers};
+ghost use Rattle.depth_cert.specs.Known.{CoversKnown, joined_exit, joined_known, state, leaving, IsProperKnown};
+ghost use Rattle.small_states.specs.Kept.{IsExitAt, IsStateAt, asked_for, exit_with, known_of, state_with, values_asked};
+
+use crate::asked::{Asked, Context, context_of, is_leaving};
+use crate::values::{are_covered, joined, packed};
+use crate::{Small, SmallExit, SmallState, copy_of, join_locals};
+use depth_cert::Exit;
+use std::alloc::{AllocError, Global};
+use std::marker::Model;
+use value_domain::{Bounds, State, Val, are_implied};
+
+/// A state at a point, or the exit of a frame.
+#[derive(Drop)]
+pub(crate) enum Kept {
+    Point(SmallState),
+    Leaves(SmallExit),
+}
+
+/// What is known at a place; contracts see the state or the exit, however it is kept.
+#[derive(Drop)]
+pub struct Cell {
+    kept: Kept,
+}
+
+impl Model for Cell {
+    ghost use Rattle.depth_cert.specs.Known.{Known};
+    ghost use Rattle.small_states.specs.Kept.{known_of};
+
+    ghost Value = { Known };
+
+    ghost view = { λ c. known_of c.kept };
+}
+
+/// What a duty asks for.
+fn kept_for(alloc: Global, asked: &Asked) -> Result<Kept, AllocError>
+    ensures { IfOk result (λ kept. known_of kept ≡ asked_for asked.now) }
+{
+    let values = packed(alloc, asked)?;
+    let k = context_of(asked);
+    if is_leaving(asked) {
+        return Ok(Kept::Leaves(SmallExit {
+            ie: k.ie,
+            ccpn: k.ccpn,
+            lower: values,
+        }));
+    }
+    Ok(kept_state(values, &k))
+}
+
+fn kept_state(values: Vec<Small>, k: &Context) -> Kept
+    ensures { known_of result ≡ state (state_with values.items k.now) }
+{
+    Kept::Point(SmallState {
+        regs: values,
+        ie: k.ie,
+        ccpn: k.ccpn,
+        lower: k.lower,
+        locals: copy_of(k.locals),
+    })
+}
+
+/// Whether a state covers what a duty asks for of one.
+fn covers_state(upper: &SmallState, asked: &Asked, k: &Context) -> bool
+    requires upper { AreWell upper.now.regs.items }
+    requires asked { AreWell (values_asked asked.now) }
+    requires long { length upper.now.regs.items ≡ length (values_asked asked.now) }
+    ensures { IsTrue result
+        ↔ Covers (state_in upper.now) (state_with (values_asked asked.now) k.now) }
+{
+    if !upper.covers_context(k.ie, k.ccpn, k.lower) {
+        return false;
+    }
+    if !are_implied(upper.locals.as_slice(), k.locals.as_slice()) {
+        return false;
+    }
+    are_covered(upper.regs.as_slice(), asked)
+}
+
+/// Whether an exit covers what a duty asks for of one.
+fn covers_exit(upper: &SmallExit, asked: &Asked, k: &Context) -> bool
+    requires upper { AreWell upper.now.lower.items }
+    requires asked { AreWell (values_asked asked.now) }
+    requires long { length upper.now.lower.items ≡ length (values_asked asked.now) }
+    ensures { IsTrue result
+        ↔ ExitCovers (exit_in upper.now) (exit_with (values_asked asked.now) k.now) }
+{
+    if !upper.covers_context(k.ie, k.ccpn) {
+        return false;
+    }
+    are_covered(upper.lower.as_slice(), asked)
+}
+
+/// The least state that covers both; `None` for unequal numbers of locals.
+fn join_state(
+    alloc: Global,
+    b: &Bounds,
+    left: &SmallState,
+    asked: &Asked,
+    k: &Context,
+) -> Result<Option<Cell>, AllocError>
+    requires left { AreValues b.now left.now.regs.items }
+    requires asked { AreValues b.now (values_asked asked.now) }
+    requires long { length left.now.regs.items ≡ length (values_asked asked.now) }
+    ensures { IfOk result
+        (λ r. r ≡ option_map state
+        (joined_states b.now (state_in left.now) (state_with (values_asked asked.now) k.now))) }
+{
+    if left.locals.len() != k.locals.len() {
+        return Ok(None);
+    }
+    let regs = joined(alloc, b, left.regs.as_slice(), asked)?;
+    let kept = Kept::Point(SmallState {
+        regs,
+        ie: left.ie || k.ie,
+        ccpn: left.ccpn.min(k.ccpn),
+        lower: left.lower && k.lower,
+        locals: join_locals(left.locals.as_slice(), k.locals.as_slice()),
+    });
+    Ok(Some(Cell { kept }))
+}
+
+/// The least exit that covers both.
+fn join_exit(
+    alloc: Global,
+    b: &Bounds,
+    exit: &SmallExit,
+    asked: &Asked,
+    k: &Context,
+) -> Result<Option<Cell>, AllocError>
+    requires exit { AreValues b.now exit.now.lower.items }
+    requires asked { AreValues b.now (values_asked asked.now) }
+    requires long { length exit.now.lower.items ≡ length (values_asked asked.now) }
+    ensures { IfOk result
+        (λ r. r ≡ Some
+        (leaving (joined_exit b.now (exit_in exit.now)
+        (exit_with (values_asked asked.now) k.now)))) }
+{
+    let lower = joined(alloc, b, exit.lower.as_slice(), asked)?;
+    let kept = Kept::Leaves(SmallExit {
+        ie: exit.ie || k.ie,
+        ccpn: exit.ccpn.min(k.ccpn),
+        lower,
+    });
+    Ok(Some(Cell { kept }))
+}
+
+/// An exit of which nothing is known.
+pub fn any_exit() -> Exit {
+    Exit {
+        ie: false,
+        ccpn: 0,
+        lower: std::array::from_fn(|_| Val::any()),
+    }
+}
+
+impl Cell {
+    /// What a duty asks for.
+    pub fn new(alloc: Global, _b: &Bounds, asked: &Asked) -> Result<Cell, AllocError>
+        requires { IsProperKnown _b.now (asked_for asked.now) }
+        ensures { IfOk result (λ c. c ≡ asked_for asked.now) }
+    {
+        let kept = kept_for(alloc, asked)?;
+        Ok(Cell { kept })
+    }
+
+    /// Whether it covers what a duty asks for.
+    pub fn covers(&self, _b: &Bounds, asked: &Asked) -> bool
+        requires known { IsProperKnown _b.now self.now }
+        requires asked { IsProperKnown _b.now (asked_for asked.now) }
+        ensures { IsTrue result ↔ CoversKnown self.now (asked_for asked.now) }
+    {
+        let k = context_of(asked);
+        match &self.kept {
+            Kept::Point(upper) => {
+                if is_leaving(asked) {
+                    return false;
+                }
+                covers_state(upper, asked, &k)
+            }
+            Kept::Leaves(upper) => {
+                if !is_leaving(asked) {
+                    return false;
+                }
+                covers_exit(upper, asked, &k)
+            }
+        }
+    }
+
+    /// The least that covers both; `None` for states with unequal numbers of locals.
+    pub fn join(&self, alloc: Global, b: &Bounds, asked: &Asked) -> Result<Option<Cell>, AllocError>
+        requires known { IsProperKnown b.now self.now }
+        requires asked { IsProperKnown b.now (asked_for asked.now) }
+        ensures { IfOk result (λ r. r ≡ joined_known b.now self.now (asked_for asked.now)) }
+    {
+        let k = context_of(asked);
+        match &self.kept {
+            Kept::Point(left) => {
+                if is_leaving(asked) {
+                    return Ok(None);
+                }
+                join_state(alloc, b, left, asked, &k)
+            }
+            Kept::Leaves(left) => {
+                if !is_leaving(asked) {
+                    return Ok(None);
+                }
+                join_exit(alloc, b, left, asked, &k)
+            }
+        }
+    }
+
+    /// Writes the state over another.
+    pub fn read_state(&self, _b: &Bounds, into: &mut State)
+        requires { IsProperKnown _b.now self.now }
+        ensures { IsStateAt self.now into.new }
+    {
+        if let Kept::Point(s) = &self.kept {
+            s.write(into);
+        }
+    }
+
+    /// Writes the exit over another.
+    pub fn read_exit(&self, _b: &Bounds, into: &mut Exit)
+        requires { IsProperKnown _b.now self.now }
+        ensures { IsExitAt self.now into.new }
+    {
+        if let Kept::Leaves(x) = &self.kept {
+            x.write(into);
+        }
+    }
+}

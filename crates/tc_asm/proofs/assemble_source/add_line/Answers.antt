@@ -1,0 +1,16 @@
+use Rattle.std.proofs.Common.{min, fold, ap, ◌∙◌}
+use Rattle.tc_asm.specs.Drafts.{stepped}
+use Rattle.tc_asm.specs.Sources.{items_rule, with_line, line_rule}
+use Rattle.tc_asm.proofs.Passes.{first_things}
+use Rattle.tc_asm.proofs.assemble_source.add_line.Goals as goal
+
+pub returns-clause-draft : goal.returns-clause-draft
+unfolding with_line
+returns-clause-draft c = c.in_ok-rule.ensures.draft ∙ ap (fold (stepped c.args.labels.now) c.args.draft.now) (first_things c.args.items.now c.first_items.result.now c.args.line.count c.first_items.ensures)
+
+pub returns-clause-rule : goal.returns-clause-rule
+unfolding line_rule
+returns-clause-rule c =
+    c.min.ensures
+    ∙ ap (min c.args.line.rule)
+    (c.in_ok-rule.ensures.rule ∙ ap (items_rule c.args.labels.now c.args.draft.now) (first_things c.args.items.now c.first_items.result.now c.args.line.count c.first_items.ensures))

@@ -1,0 +1,142 @@
+// A source, put together.
+ghost use Rattle.std.specs.Prelude.{◌≡◌, ◌≤◌, ◌<◌, ◌^◌, map, length, IfOk, OnOk, IfErr, fold, take, drop, []};
+ghost use Rattle.tc_stmt.specs.Items.{item_of};
+ghost use Rattle.tc_stmt.specs.Lines.{line_data, lines_in};
+ghost use Rattle.tc_asm.specs.Drafts.{start, stepped};
+ghost use Rattle.tc_asm.specs.Sources.{items_rule, with_line, line_rule, drafted, symbols_of as symbols_in, KeepsRules, IsLeast};
+ghost use Rattle.tc_asm.specs.Objects.{object_of};
+ghost use Rattle.tc_asm.specs.Errors.{IfBad};
+ghost use Rattle.tc_asm.specs.Kept.{IsDraft};
+ghost use Rattle.tc_stmt.specs.Readings.{lines_of};
+
+use crate::AsmErr;
+use crate::draft::Draft;
+use crate::emit::finish;
+use crate::symbols::Symbols;
+use std::alloc::{AllocError, Global};
+use tc_object::Object;
+use tc_stmt::{Item, Line, Source, read_source};
+
+// Puts things one behind the other.
+fn put_items<'a>(
+    alloc: Global,
+    draft: &mut Draft<'a>,
+    labels: &Symbols<'a>,
+    items: &[Item<'a>],
+) -> Result<(), AllocError>
+    ensures { OnOk result
+        (draft.new ≡ fold (stepped labels.now) draft.old (map item_of items.now)) }
+{
+    for item in items {
+        draft.step(alloc, labels, *item)?;
+    }
+    Ok(())
+}
+
+// The symbols of all that lines add, which don't depend on where jumps go.
+fn symbols_of<'a>(alloc: Global, items: &[Item<'a>]) -> Result<Symbols<'a>, AllocError>
+    ensures { IfOk result (λ s. s ≡ (fold (stepped []) start (map item_of items.now)).symbols) }
+{
+    let none = Symbols::new(alloc);
+    let mut draft = Draft::new(alloc);
+    put_items(alloc, &mut draft, &none, items)?;
+    Ok(draft.symbols)
+}
+
+// Puts things one behind the other, and tells the least rule that they break.
+fn add_items<'a>(
+    alloc: Global,
+    draft: &mut Draft<'a>,
+    labels: &Symbols<'a>,
+    items: &[Item<'a>],
+) -> Result<u8, AllocError>
+    ensures draft { OnOk result
+        (draft.new ≡ fold (stepped labels.now) draft.old (map item_of items.now)) }
+    ensures rule { IfOk result
+        (λ rule. rule ≡ items_rule labels.now draft.old (map item_of items.now)) }
+{
+    let mut rule = 15;
+    for item in items {
+        rule = draft.put(alloc, labels, *item)?.min(rule);
+    }
+    Ok(rule)
+}
+
+// The first so many things.
+fn first_items<'p, 'a>(items: &'p [Item<'a>], count: u8) -> &'p [Item<'a>]
+    ensures { result.now ≡ take count items.now }
+{
+    &items[..usize::from(count).min(items.len())]
+}
+
+// The things behind the first so many.
+fn later_items<'p, 'a>(items: &'p [Item<'a>], count: u8) -> &'p [Item<'a>]
+    ensures { result.now ≡ drop count items.now }
+{
+    &items[usize::from(count).min(items.len())..]
+}
+
+// Puts a line more, whose things come first, and tells the least rule that it breaks.
+#[tactic(auto, unfolding(crate::specs::Sources::with_line, crate::specs::Sources::line_rule))]
+fn add_line<'a>(
+    alloc: Global,
+    draft: &mut Draft<'a>,
+    labels: &Symbols<'a>,
+    line: Line,
+    items: &[Item<'a>],
+) -> Result<u8, AllocError>
+    ensures draft { OnOk result
+        (draft.new ≡ with_line labels.now draft.old
+        (line_data line.rule (take line.count (map item_of items.now)))) }
+    ensures rule { IfOk result
+        (λ rule. rule
+        ≡ line_rule labels.now draft.old
+        (line_data line.rule (take line.count (map item_of items.now)))) }
+{
+    let rule = add_items(alloc, draft, labels, first_items(items, line.count))?;
+    Ok(line.rule.min(rule))
+}
+
+// All lines, up to one that breaks a rule.
+fn checked<'a>(
+    alloc: Global,
+    labels: &Symbols<'a>,
+    source: &Source<'a>,
+) -> Result<Draft<'a>, AsmErr>
+    requires few { length source.now.lines.items < 2 ^ 32 }
+    requires labels { labels.now ≡ symbols_in (lines_of source.now) }
+    ensures ok { IfOk result (λ d. d ≡ drafted labels.now (lines_of source.now)) }
+    ensures kept { OnOk result (KeepsRules (lines_of source.now) (length (lines_of source.now))) }
+    ensures whole { IfOk result (λ d. IsDraft d) }
+    ensures bad { IfErr result (IfBad (IsLeast (lines_of source.now))) }
+{
+    let mut draft = Draft::new(alloc);
+    let lines = source.lines.as_slice();
+    let mut rest = source.items.as_slice();
+    for i in 0..lines.len() {
+        let line = lines[i];
+        let rule = add_line(alloc, &mut draft, labels, line, rest)?;
+        if rule != 15 {
+            return Err(AsmErr::Bad {
+                line: (i + 1) as u32,
+                rule,
+            });
+        }
+        rest = later_items(rest, line.count);
+    }
+    Ok(draft)
+}
+
+/// The object of a source, or the least line that breaks a rule, counted from 1, and the least rule there.
+pub fn assemble(alloc: Global, source: &[u8]) -> Result<Object, AsmErr>
+    requires { length source.now ≤ 2 ^ 30 }
+    ensures ok { IfOk result
+        (λ o. o ≡ object_of (drafted (symbols_in (lines_in source.now)) (lines_in source.now))) }
+    ensures kept { OnOk result (KeepsRules (lines_in source.now) (length (lines_in source.now))) }
+    ensures bad { IfErr result (IfBad (IsLeast (lines_in source.now))) }
+{
+    let read = read_source(alloc, source)?;
+    let labels = symbols_of(alloc, &read.items)?;
+    let draft = checked(alloc, &labels, &read)?;
+    Ok(finish(alloc, draft)?)
+}

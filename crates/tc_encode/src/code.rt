@@ -1,0 +1,41 @@
+// The bytes of an instruction.
+ghost use Rattle.std.specs.Prelude.{◌≡◌, take, drop, All};
+ghost use Rattle.tc_isa.specs.Spelling.{Spells};
+ghost use Rattle.tc_encode.specs.Decoding.{need_of};
+
+use crate::forms::join;
+use tc_isa::{Fields, Inst, rows};
+
+/// The bytes of an instruction: the first `len` of them; the others are 0.
+#[derive(Clone, Copy, Debug, PartialEq, Eq)]
+pub struct Code {
+    pub len: u8,
+    pub bytes: [u8; 4],
+}
+
+/// The one spelling of the instruction; bytes past its length are 0.
+pub fn encode(inst: &Inst) -> Code
+    ensures spells { Spells (take result.len result.bytes) inst.now }
+    ensures rest { All (λ b. b ≡ 0) (drop result.len result.bytes) }
+{
+    let row = &rows()[usize::from(inst.row)];
+    let fields = Fields {
+        c: inst.c,
+        s1: inst.s1,
+        s2: inst.s2,
+        n: inst.n,
+        k: inst.k,
+    };
+    let word = join(row.form, row.op1, row.op2, &fields);
+    Code {
+        len: length_by(row.op1),
+        bytes: word.to_le_bytes(),
+    }
+}
+
+/// How many bytes what begins with this byte has.
+fn length_by(first: u8) -> u8
+    ensures { result ≡ need_of first }
+{
+    if first % 2 == 1 { 4 } else { 2 }
+}

@@ -1,0 +1,149 @@
+// The instruction that has a word.
+ghost use Rattle.std.specs.Prelude.{◌≡◌, ◌<◌, ◌%◌, ◌^◌, ℕ, IfSome, IfNone, slice_get, Some};
+ghost use Rattle.tc_isa.specs.Rows.{RowData, row_of, listed};
+ghost use Rattle.tc_isa.specs.Words.{second_of, form_index, IsBelow, bounds};
+ghost use Rattle.tc_isa.specs.Codec.{uses_of, rest_is_zero, is_apart};
+ghost use Rattle.tc_isa.specs.Insts.{InstData};
+ghost use Rattle.tc_encode.specs.WordSearch.{Makes, has_no_gap};
+
+use crate::forms::{second_code, split};
+use crate::index::{codes, groups, plain_rows};
+use tc_isa::{Fields, Form, Inst, Row, Uses, rows, uses};
+
+/// The instruction that has the word. A word that begins with an even byte has two bytes.
+pub fn find(w: u32) -> Option<Inst>
+    requires { w % 2 ≡ 0 → w < 2 ^ 16 }
+    ensures some { IfSome result (Makes w) }
+    ensures none { IfNone result ((i : InstData) → Makes w i → ⊥) }
+{
+    let first = (w % 256) as u8;
+    let second = second_by(first, w);
+    let Some(place) = place_by(first, second) else {
+        return None;
+    };
+    inst_at(place, first, second, w)
+}
+
+/// The second code of the word, as the rows that begin with this byte have it.
+fn second_by(first: u8, w: u32) -> u8
+    ensures { (place : ℕ) (r : RowData) → slice_get listed place ≡ Some r → r.op1 ≡ first
+        → result ≡ second_of r.form w }
+{
+    second_code(form_by(first), w)
+}
+
+/// The place of the row with these codes, if any.
+fn place_by(first: u8, second: u8) -> Option<u8>
+    ensures within { IfSome result (λ p. p < 142) }
+    ensures only { (place : ℕ) (r : RowData) → slice_get listed place ≡ Some r → r.op1 ≡ first
+        → r.op2 ≡ second → result ≡ Some place }
+{
+    let (bases, places) = codes();
+    let at = usize::from(bases[usize::from(first)]) + usize::from(second);
+    if at < places.len() {
+        Some(places[at])
+    } else {
+        None
+    }
+}
+
+/// The form of the rows that begin with this byte, where there are any.
+fn form_by(first: u8) -> Form
+    ensures { (place : ℕ) (r : RowData) → slice_get listed place ≡ Some r → r.op1 ≡ first
+        → form_index r.form ≡ form_index result }
+{
+    let (starts, _) = groups();
+    rows()[usize::from(starts[usize::from(first)])].form
+}
+
+/// The instruction of the row at this place that has the word, with these codes.
+fn inst_at(place: u8, first: u8, second: u8, w: u32) -> Option<Inst>
+    requires place { place < 142 }
+    requires first { first ≡ w % 256 }
+    requires second { (r : RowData) → slice_get listed place ≡ Some r → r.op1 ≡ first
+        → second ≡ second_of r.form w }
+    requires short { w % 2 ≡ 0 → w < 2 ^ 16 }
+    ensures some { IfSome result (Makes w) }
+    ensures none { IfNone result ((i : InstData) → Makes w i → i.row ≡ place → ⊥) }
+{
+    let at = usize::from(place);
+    let row = &rows()[at];
+    if row.op1 != first {
+        return None;
+    }
+    if row.op2 != second {
+        return None;
+    }
+    inst_of(place, row, w)
+}
+
+/// The instruction of this row, which has the word's codes, where the rest of the word is its spelling.
+fn inst_of(place: u8, row: &Row, w: u32) -> Option<Inst>
+    requires place { slice_get listed place ≡ Some (row_of row.now) }
+    requires within { place < 142 }
+    requires first { row.now.op1 ≡ w % 256 }
+    requires second { row.now.op2 ≡ second_of row.now.form w }
+    requires short { w % 2 ≡ 0 → w < 2 ^ 16 }
+    ensures some { IfSome result (Makes w) }
+    ensures none { IfNone result ((i : InstData) → Makes w i → i.row ≡ place → ⊥) }
+{
+    let f = split(row.form, w);
+    if !is_full(row.form, w) {
+        return None;
+    }
+    if !has_no_other(place, row, &f) {
+        return None;
+    }
+    if !parts_differ(row, &f) {
+        return None;
+    }
+    Some(Inst {
+        row: place,
+        c: f.c,
+        s1: f.s1,
+        s2: f.s2,
+        n: f.n,
+        k: f.k,
+    })
+}
+
+/// Whether the bits that the form has for no field are 0.
+#[tactic(auto, unfolding(crate::specs::WordSearch::has_no_gap))]
+fn is_full(form: Form, w: u32) -> bool
+    ensures { result ≡ has_no_gap form w }
+{
+    match form {
+        Form::Rr => w / 262_144 % 4 == 0,
+        Form::Sys => w / 268_435_456 == 0 && w / 256 % 16384 == 0,
+        _ => true,
+    }
+}
+
+/// Whether the fields that the row at this place doesn't name are 0.
+fn has_no_other(place: u8, row: &Row, f: &Fields) -> bool
+    requires place { slice_get listed place ≡ Some (row_of row.now) }
+    requires within { place < 142 }
+    requires below { IsBelow f.now (bounds row.now.form) }
+    ensures { result ≡ rest_is_zero (uses_of (row_of row.now)) f.now }
+{
+    let at = usize::from(place);
+    plain_rows()[at] || is_zero_elsewhere(&uses()[at], f)
+}
+
+/// Whether the fields that aren't used are 0.
+fn is_zero_elsewhere(uses: &Uses, f: &Fields) -> bool
+    ensures { result ≡ rest_is_zero uses.now f.now }
+{
+    (uses.c || f.c == 0)
+        && (uses.s1 || f.s1 == 0)
+        && (uses.s2 || f.s2 == 0)
+        && (uses.n || f.n == 0)
+        && (uses.k || f.k == 0)
+}
+
+/// Whether the row may have these registers: a post-increment of an address register isn't of the base itself.
+fn parts_differ(row: &Row, f: &Fields) -> bool
+    ensures { result ≡ is_apart (row_of row.now) f.now }
+{
+    !((row.op1 == 9 || row.op1 == 137) && row.op2 == 6) || f.s1 != f.s2
+}

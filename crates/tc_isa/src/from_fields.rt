@@ -1,0 +1,64 @@
+// Instructions from their fields.
+ghost use Rattle.std.specs.Prelude.{◌≡◌, ◌↔◌, IsTrue, IsSome, IfSome};
+ghost use Rattle.tc_isa.specs.Rows.{row_of};
+ghost use Rattle.tc_isa.specs.Codec.{Fits, uses_of, rest_is_zero, is_apart};
+ghost use Rattle.tc_isa.specs.Insts.{IsInst};
+
+use crate::bounds::{bounds_of, is_below};
+use crate::row_uses::uses;
+use crate::{Fields, Inst, Row, Uses, rows};
+
+/// The instruction of the row with this number and with these raw fields; None exactly where there is no such row, the
+/// fields don't fit its form, or a field that the row doesn't use isn't 0.
+pub fn inst(row: u8, c: u8, s1: u8, s2: u8, n: u8, k: u32) -> Option<Inst>
+    ensures listed { IsSome result
+        ↔ IsInst (record { row = row; c = c; s1 = s1; s2 = s2; n = n; k = k }) }
+    ensures fields { IfSome result (λ i.
+        i ≡ record { row = row; c = c; s1 = s1; s2 = s2; n = n; k = k }) }
+{
+    let place = usize::from(row);
+    let rows = rows();
+    if place >= rows.len() {
+        return None;
+    }
+    let fields = Fields { c, s1, s2, n, k };
+    if !do_fit(&rows[place], &uses()[place], &fields) {
+        return None;
+    }
+    Some(Inst {
+        row,
+        c,
+        s1,
+        s2,
+        n,
+        k,
+    })
+}
+
+/// Whether the fields fit the row.
+fn do_fit(row: &Row, uses: &Uses, fields: &Fields) -> bool
+    requires { uses.now ≡ uses_of (row_of row.now) }
+    ensures { IsTrue result ↔ Fits (row_of row.now) fields.now }
+{
+    is_below(fields, &bounds_of(row.form))
+        && is_zero_elsewhere(uses, fields)
+        && parts_differ(row, fields)
+}
+
+/// Whether the fields that aren't used are 0.
+fn is_zero_elsewhere(uses: &Uses, f: &Fields) -> bool
+    ensures { result ≡ rest_is_zero uses.now f.now }
+{
+    (uses.c || f.c == 0)
+        && (uses.s1 || f.s1 == 0)
+        && (uses.s2 || f.s2 == 0)
+        && (uses.n || f.n == 0)
+        && (uses.k || f.k == 0)
+}
+
+/// Whether the row may have these registers: a post-increment of an address register isn't of the base itself.
+pub fn parts_differ(row: &Row, f: &Fields) -> bool
+    ensures { result ≡ is_apart (row_of row.now) f.now }
+{
+    !((row.op1 == 9 || row.op1 == 137) && row.op2 == 6) || f.s1 != f.s2
+}

@@ -1,0 +1,45 @@
+// The registers that an instruction itself writes.
+ghost use Rattle.std.specs.Prelude.{◌≡◌, ◌<◌, ◌^◌, ℕ, ◌↔◌};
+ghost use Rattle.tc_isa.specs.Bounded.{IsArg};
+ghost use Rattle.tc_isa.specs.Writes.{written_registers, written_by, base_bit, bit_of};
+
+use crate::inst_shape::shape;
+use crate::{Arg, Inst, Shape};
+
+/// Bit r is set for each register r, as `Arg` numbers them, that the instruction itself writes; what saves and restores
+/// write, and A11 of calls, aren't counted.
+pub fn writes(inst: &Inst) -> u32
+    ensures { result ≡ written_registers inst.now }
+{
+    match shape(inst) {
+        Shape::Compute { dst, .. } | Shape::Scaled { dst, .. } | Shape::Mfcr { dst, .. } => bit(
+            dst,
+        ),
+        Shape::Load {
+            dst,
+            base,
+            after,
+            ..
+        } => bit(dst) | bit_if(after, base),
+        Shape::Store { base, after, .. } => bit_if(after, base),
+        Shape::Branch { x, lowers, .. } => { if lowers { bit(x) } else { 0 } }
+        _ => 0,
+    }
+}
+
+fn bit(register: u8) -> u32
+    requires { register < 32 }
+    ensures { result ≡ bit_of register }
+{
+    1u32 << register
+}
+
+fn bit_if(after: bool, base: Arg) -> u32
+    requires { IsArg base }
+    ensures { result ≡ base_bit after base }
+{
+    match base {
+        Arg::Reg(register) => { if after { bit(register) } else { 0 } }
+        Arg::Word(_) => 0,
+    }
+}

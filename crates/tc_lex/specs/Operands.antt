@@ -1,0 +1,113 @@
+-- The forms of operands.
+use Rattle.std.specs.Prelude.{ℕ, ◌+◌, ◌==◌, ◌&&◌, not, Bool, true, false, if◌then◌else◌, List, [], ◌∷◌, length, codes, Option, Some, None, map}
+use Rattle.std.specs.Option.{option_map_or}
+use Rattle.std.specs.List.{slice_split}
+use Rattle.std.specs.Str.{bytes_eq}
+use Rattle.tc_lex.specs.declared.kinds.TokenKind.TheVariants as kind
+use Rattle.tc_lex.specs.declared.operand.Shape.{Shape}
+use Rattle.tc_lex.specs.declared.operand.Shape.TheVariants as shape
+use Rattle.tc_lex.specs.declared.operand.Value.{Value}
+use Rattle.tc_lex.specs.declared.operand.Operand.{Operand}
+use Rattle.tc_lex.specs.Pieces.{PieceData, is_kind, text_at, kind_index}
+use Rattle.tc_lex.specs.Numbers.{number_of}
+
+-- a value without where its name lies; a wide one adds a number of 2^128 or more to its name, which no field holds
+pub record ValueData : Type 0 where
+  pub shape : Shape
+  pub name : List ℕ
+  pub minus : Bool
+  pub size : ℕ
+  pub wide : Bool
+
+-- a value of the code as such a record
+abbrev pub value_of : Value → ValueData
+value_of v = record { shape = v.shape; name = v.name.now; minus = v.minus; size = v.size; wide = v.wide }
+
+-- an operand: a value, or `[BASE]` or `[BASE+]` with a value behind it
+pub record OperandData : Type 0 where
+  pub is_memory : Bool
+  pub plus : Bool
+  pub base : List ℕ
+  pub value : ValueData
+
+-- an operand without where its names lie
+abbrev pub operand_of : Operand → OperandData
+operand_of o = record { is_memory = o.is_memory; plus = o.plus; base = o.base.now; value = value_of o.value }
+
+-- a value of this form, with a name, a sign and a number
+abbrev pub value : Shape → List ℕ → Bool → ℕ → ValueData
+value s name minus size = record { shape = s; name = name; minus = minus; size = size; wide = false }
+
+-- tokens that are no value
+abbrev pub bad : ValueData
+bad = value shape.Bad [] false 0
+
+-- a number with an optional `-` from this place to the end: whether there is the `-`, and the number where it is below 2^128
+unfoldable pub number_at : List PieceData → ℕ → Option (Bool × Option ℕ)
+number_at ps at =
+    if is_kind ps at kind.Number && length ps == at + 1 then Some (false, number_of (text_at ps at))
+    else (if is_kind ps at kind.Minus && is_kind ps (at + 1) kind.Number && length ps == at + 2 then Some (true, number_of (text_at ps (at + 1)))
+    else None)
+
+-- a number by itself
+abbrev pub plain_number : Bool → Option ℕ → ValueData
+plain_number minus (Some n) = value shape.Number [] minus n
+plain_number minus None = value shape.Huge [] minus 0
+
+-- a name with a number added, or with one of 2^128 or more
+abbrev pub with_number : Shape → List ℕ → Bool → Option ℕ → ValueData
+with_number s name minus (Some n) = value s name minus n
+with_number s name minus None = record (value s name minus 0) { wide = true }
+
+-- a name at this place, with or without a number added
+unfoldable pub sum_at : List PieceData → ℕ → Shape → Shape → ValueData
+sum_at ps at plain summed =
+    if is_kind ps at kind.Word
+    then (if length ps == at + 1 then value plain (text_at ps at) false 0
+    else (if is_kind ps (at + 1) kind.Plus then option_map_or (λ n. with_number summed (text_at ps at) n.0 n.1) (number_at ps (at + 2)) bad
+    else (if is_kind ps (at + 1) kind.Minus then option_map_or (λ n. with_number summed (text_at ps at) (not n.0) n.1) (number_at ps (at + 2)) bad
+    else bad)))
+    else bad
+
+-- a half of a symbol, or a symbol
+unfoldable pub named_at : List PieceData → ℕ → ValueData
+named_at ps at =
+    if is_kind ps (at + 1) kind.Colon
+    then (if bytes_eq (text_at ps at) (codes "hi") then sum_at ps (at + 2) shape.High shape.High
+    else (if bytes_eq (text_at ps at) (codes "lo") then sum_at ps (at + 2) shape.Low shape.Low
+    else bad))
+    else sum_at ps at shape.Word shape.Sum
+
+-- a value from this place to the end
+unfoldable pub value_at : List PieceData → ℕ → ValueData
+value_at ps at =
+    if length ps == at then value shape.Absent [] false 0
+    else option_map_or (λ n. plain_number n.0 n.1) (number_at ps at) (named_at ps at)
+
+-- an operand that is a value alone
+abbrev pub plain : ValueData → OperandData
+plain v = record { is_memory = false; plus = false; base = []; value = v }
+
+-- the operand `[BASE]`, or `[BASE+]`, with a value behind it
+abbrev pub memory : Bool → List ℕ → ValueData → OperandData
+memory plus base v = record { is_memory = true; plus = plus; base = base; value = v }
+
+-- an operand: `[BASE]` or `[BASE+]` and a value, or a value alone
+unfoldable pub operand : List PieceData → OperandData
+operand ps =
+    if is_kind ps 0 kind.Open
+    then (if is_kind ps 1 kind.Word
+    then (if is_kind ps 2 kind.Close then memory false (text_at ps 1) (value_at ps 3)
+    else (if is_kind ps 2 kind.Plus && is_kind ps 3 kind.Close then memory true (text_at ps 1) (value_at ps 4)
+    else plain bad))
+    else plain bad)
+    else plain (value_at ps 0)
+
+-- the token that parts operands
+abbrev pub is_comma : PieceData → Bool
+is_comma p = kind_index p.kind == 2
+
+-- the operands, parted by commas
+unfoldable pub operands : List PieceData → List OperandData
+operands [] = []
+operands (p ∷ ps) = map operand (slice_split is_comma (p ∷ ps))

@@ -1,0 +1,63 @@
+// The numbers that tokens spell.
+ghost use Rattle.std.specs.Prelude.{◌≡◌, ◌<◌, ◌≤◌, ◌^◌, length, fold, true};
+ghost use Rattle.tc_lex.specs.Cut.{has_hex_front};
+ghost use Rattle.tc_lex.specs.Numbers.{digit_of, add_digit, digits_of, number_of};
+
+use crate::is_hex;
+
+#[tactic(auto, unfolding(crate::specs::Numbers::digit_of, crate::specs::Bytes::is_digit))]
+fn digit_of(c: u8) -> u128
+    ensures value { result ≡ digit_of c }
+    ensures small { result < 256 }
+{
+    if 48 <= c && c <= 57 {
+        u128::from(c) - 48
+    } else if 97 <= c {
+        u128::from(c) - 87
+    } else {
+        u128::from(c).saturating_sub(55)
+    }
+}
+
+#[tactic(auto, unfolding(crate::specs::Numbers::add_digit))]
+fn add_digit(base: u128, so_far: Option<u128>, c: u8) -> Option<u128>
+    ensures { result ≡ add_digit base so_far c }
+{
+    match so_far {
+        None => None,
+        Some(n) => match n.checked_mul(base) {
+            None => None,
+            Some(shifted) => shifted.checked_add(digit_of(c)),
+        },
+    }
+}
+
+fn digits(base: u128, text: &[u8]) -> Option<u128>
+    ensures { result ≡ digits_of base text.now }
+{
+    let mut so_far = Some(0);
+    for c in text {
+        so_far = add_digit(base, so_far, *c);
+    }
+    so_far
+}
+
+#[tactic(auto, unfolding(crate::specs::Cut::has_hex_front))]
+fn has_hex_front(text: &[u8]) -> bool
+    ensures value { result ≡ has_hex_front text.now }
+    ensures long { result ≡ true → 2 < length text.now }
+{
+    text.len() > 2 && text[0] == b'0' && text[1] == b'x' && is_hex(text[2])
+}
+
+/// The number that a token spells, where it is below 2^128.
+#[tactic(auto, unfolding(crate::specs::Numbers::number_of))]
+pub(crate) fn number_of(text: &[u8]) -> Option<u128>
+    ensures { result ≡ number_of text.now }
+{
+    if has_hex_front(text) {
+        digits(16, &text[2..])
+    } else {
+        digits(10, text)
+    }
+}

@@ -1,0 +1,49 @@
+// The operands, parted by commas.
+ghost use Rattle.std.specs.Prelude.{◌≡◌, ◌≤◌, ◌<◌, map, length, position, IfSome, take, drop, ◌+◌};
+ghost use Rattle.tc_lex.specs.Pieces.{piece_of, kind_index};
+ghost use Rattle.tc_lex.specs.Operands.{operand_of, operands, is_comma, operand};
+
+use crate::operand::Operand;
+use crate::operand_tokens::operand;
+use crate::pieces::{Piece, kind_index};
+use arrayvec::ArrayVec;
+
+fn find_comma(ps: &[Piece]) -> Option<usize>
+    ensures value { result ≡ position (λ p. is_comma (piece_of p)) ps.now }
+    ensures within { IfSome result (λ i. i < length ps.now) }
+{
+    ps.iter().position(|p| kind_index(p.kind) == 2)
+}
+
+// The operand before this place.
+fn operand_before<'a>(ps: &[Piece<'a>], i: usize) -> Operand<'a>
+    requires { i ≤ length ps.now }
+    ensures { operand_of result ≡ operand (take i (map piece_of ps.now)) }
+{
+    operand(&ps[..i])
+}
+
+// What follows the comma at this place.
+fn after<'b, 'a>(ps: &'b [Piece<'a>], i: usize) -> &'b [Piece<'a>]
+    requires { i < length ps.now }
+    ensures { result.now ≡ drop (i + 1) ps.now }
+{
+    &ps[i + 1..]
+}
+
+/// Puts the operands that these tokens are in the place of what `out` holds.
+pub fn operands<'a>(ps: &[Piece<'a>], out: &mut ArrayVec<Operand<'a>, 65>)
+    requires { length ps.now ≤ 64 }
+    ensures { map operand_of out.new.items ≡ operands (map piece_of ps.now) }
+{
+    out.clear();
+    if ps.is_empty() {
+        return;
+    }
+    let mut rest = ps;
+    'parts: while let Some(i) = find_comma(rest) {
+        out.push(operand_before(rest, i));
+        rest = after(rest, i);
+    }
+    out.push(operand(rest));
+}

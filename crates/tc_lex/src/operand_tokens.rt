@@ -1,0 +1,165 @@
+// The forms of operands.
+ghost use Rattle.std.specs.Prelude.{◌≡◌, ◌<◌, ◌≤◌, ◌+◌, map, length, not};
+ghost use Rattle.tc_lex.specs.Pieces.{piece_of};
+ghost use Rattle.tc_lex.specs.Operands.{value_of, operand_of, number_at, sum_at, named_at, value_at, operand, value as data_of, plain as plain_of, memory as memory_of, plain_number as number_value, with_number as sum_value};
+
+use crate::TokenKind;
+use crate::numbers::number_of;
+use crate::operand::{Operand, Shape, Value};
+use crate::pieces::{Piece, is_kind, is_text, text_at};
+
+fn make_value(shape: Shape, name: &[u8], minus: bool, size: u128) -> Value<'_>
+    ensures { value_of result ≡ data_of shape name.now minus size }
+{
+    Value {
+        shape,
+        name,
+        minus,
+        size,
+        wide: false,
+    }
+}
+
+// A number by itself.
+fn plain_number<'a>(minus: bool, n: Option<u128>) -> Value<'a>
+    ensures { value_of result ≡ number_value minus n }
+{
+    match n {
+        Some(size) => make_value(Shape::Number, &[], minus, size),
+        None => make_value(Shape::Huge, &[], minus, 0),
+    }
+}
+
+// A name with a number added, or with one of 2^128 or more.
+fn add_number(shape: Shape, name: &[u8], minus: bool, n: Option<u128>) -> Value<'_>
+    ensures { value_of result ≡ sum_value shape name.now minus n }
+{
+    match n {
+        Some(size) => make_value(shape, name, minus, size),
+        None => Value {
+            wide: true,
+            ..make_value(shape, name, minus, 0)
+        },
+    }
+}
+
+#[tactic(auto, unfolding(crate::specs::Operands::number_at))]
+fn number_at(ps: &[Piece], at: usize) -> Option<(bool, Option<u128>)>
+    requires { at ≤ length ps.now }
+    ensures { result ≡ number_at (map piece_of ps.now) at }
+{
+    if is_kind(ps, at, TokenKind::Number) && ps.len() - at == 1 {
+        Some((false, number_of(text_at(ps, at))))
+    } else if is_kind(ps, at, TokenKind::Minus)
+        && ps.len() - at == 2
+        && is_kind(ps, at + 1, TokenKind::Number)
+    {
+        Some((true, number_of(text_at(ps, at + 1))))
+    } else {
+        None
+    }
+}
+
+#[tactic(auto, unfolding(crate::specs::Operands::sum_at))]
+fn sum_at<'a>(ps: &[Piece<'a>], at: usize, plain: Shape, summed: Shape) -> Value<'a>
+    requires { at ≤ length ps.now }
+    ensures { value_of result ≡ sum_at (map piece_of ps.now) at plain summed }
+{
+    if is_kind(ps, at, TokenKind::Word) {
+        if ps.len() - at == 1 {
+            make_value(plain, text_at(ps, at), false, 0)
+        } else if is_kind(ps, at + 1, TokenKind::Plus) {
+            match number_at(ps, at + 2) {
+                Some((minus, n)) => add_number(summed, text_at(ps, at), minus, n),
+                None => make_value(Shape::Bad, &[], false, 0),
+            }
+        } else if is_kind(ps, at + 1, TokenKind::Minus) {
+            match number_at(ps, at + 2) {
+                Some((minus, n)) => add_number(summed, text_at(ps, at), !minus, n),
+                None => make_value(Shape::Bad, &[], false, 0),
+            }
+        } else {
+            make_value(Shape::Bad, &[], false, 0)
+        }
+    } else {
+        make_value(Shape::Bad, &[], false, 0)
+    }
+}
+
+#[tactic(auto, unfolding(crate::specs::Operands::named_at))]
+fn named_at<'a>(ps: &[Piece<'a>], at: usize) -> Value<'a>
+    requires { at ≤ length ps.now }
+    ensures { value_of result ≡ named_at (map piece_of ps.now) at }
+{
+    if is_kind(ps, at + 1, TokenKind::Colon) {
+        let name = text_at(ps, at);
+        if is_text(name, "hi") {
+            sum_at(ps, at + 2, Shape::High, Shape::High)
+        } else if is_text(name, "lo") {
+            sum_at(ps, at + 2, Shape::Low, Shape::Low)
+        } else {
+            make_value(Shape::Bad, &[], false, 0)
+        }
+    } else {
+        sum_at(ps, at, Shape::Word, Shape::Sum)
+    }
+}
+
+#[tactic(auto, unfolding(crate::specs::Operands::value_at))]
+fn value_at<'a>(ps: &[Piece<'a>], at: usize) -> Value<'a>
+    requires { at ≤ length ps.now }
+    ensures { value_of result ≡ value_at (map piece_of ps.now) at }
+{
+    if ps.len() == at {
+        make_value(Shape::Absent, &[], false, 0)
+    } else {
+        match number_at(ps, at) {
+            Some((minus, n)) => plain_number(minus, n),
+            None => named_at(ps, at),
+        }
+    }
+}
+
+fn plain(value: Value<'_>) -> Operand<'_>
+    ensures { operand_of result ≡ plain_of (value_of value.entry) }
+{
+    Operand {
+        is_memory: false,
+        plus: false,
+        base: &[],
+        value,
+    }
+}
+
+fn memory<'a>(plus: bool, base: &'a [u8], value: Value<'a>) -> Operand<'a>
+    ensures { operand_of result ≡ memory_of plus base.now (value_of value.entry) }
+{
+    Operand {
+        is_memory: true,
+        plus,
+        base,
+        value,
+    }
+}
+
+/// The operand that these tokens are.
+#[tactic(auto, unfolding(crate::specs::Operands::operand))]
+pub(crate) fn operand<'a>(ps: &[Piece<'a>]) -> Operand<'a>
+    ensures { operand_of result ≡ operand (map piece_of ps.now) }
+{
+    if is_kind(ps, 0, TokenKind::Open) {
+        if is_kind(ps, 1, TokenKind::Word) {
+            if is_kind(ps, 2, TokenKind::Close) {
+                memory(false, text_at(ps, 1), value_at(ps, 3))
+            } else if is_kind(ps, 2, TokenKind::Plus) && is_kind(ps, 3, TokenKind::Close) {
+                memory(true, text_at(ps, 1), value_at(ps, 4))
+            } else {
+                plain(make_value(Shape::Bad, &[], false, 0))
+            }
+        } else {
+            plain(make_value(Shape::Bad, &[], false, 0))
+        }
+    } else {
+        plain(value_at(ps, 0))
+    }
+}

@@ -1,0 +1,57 @@
+// The tokens of a line, with their texts.
+ghost use Rattle.std.specs.Prelude.{◌≡◌, ◌<◌, map, length, true};
+ghost use Rattle.std.specs.Str.{bytes_eq};
+ghost use Rattle.tc_lex.specs.Pieces.{piece_of, kind_index, is_kind, text_at};
+
+use crate::TokenKind;
+
+/// A token and its text.
+#[derive(Clone, Copy, Default)]
+pub struct Piece<'a> {
+    pub kind: TokenKind,
+    pub text: &'a [u8],
+}
+
+#[tactic(auto, unfolding(crate::specs::Pieces::kind_index))]
+pub(crate) fn kind_index(kind: TokenKind) -> u8
+    ensures { result ≡ kind_index kind }
+{
+    match kind {
+        TokenKind::Word => 0,
+        TokenKind::Number => 1,
+        TokenKind::Comma => 2,
+        TokenKind::Colon => 3,
+        TokenKind::Open => 4,
+        TokenKind::Close => 5,
+        TokenKind::Plus => 6,
+        TokenKind::Minus => 7,
+    }
+}
+
+/// Whether a token of this kind stands at a place.
+#[tactic(auto, unfolding(crate::specs::Pieces::is_kind))]
+pub fn is_kind(ps: &[Piece], i: usize, kind: TokenKind) -> bool
+    ensures value { result ≡ is_kind (map piece_of ps.now) i kind }
+    ensures there { result ≡ true → i < length ps.now }
+{
+    if i < ps.len() {
+        kind_index(ps[i].kind) == kind_index(kind)
+    } else {
+        false
+    }
+}
+
+/// The text of the token at a place; empty where there is none.
+#[tactic(auto, unfolding(crate::specs::Pieces::text_at))]
+pub fn text_at<'a>(ps: &[Piece<'a>], i: usize) -> &'a [u8]
+    ensures { result.now ≡ text_at (map piece_of ps.now) i }
+{
+    if i < ps.len() { ps[i].text } else { &[] }
+}
+
+/// Whether bytes are this text.
+pub fn is_text(bytes: &[u8], text: &str) -> bool
+    ensures { result ≡ bytes_eq bytes.now text.now }
+{
+    bytes == text.as_bytes()
+}

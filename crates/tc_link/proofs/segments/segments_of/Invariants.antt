@@ -1,0 +1,7 @@
+use Rattle.std.proofs.Common.{◌≡◌, map, take}
+use Rattle.elf_image.specs.Images.{segment_data}
+use Rattle.tc_link.specs.Relocated.{segments_of}
+use Rattle.tc_link.proofs.segments.segments_of.Given as goal
+
+abbrev pub invariant-loop-place : goal.invariant-loop-place
+invariant-loop-place l = map segment_data l.segments.items ≡ segments_of (take l.place-index l.places) l.sections

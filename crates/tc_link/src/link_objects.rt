@@ -1,0 +1,83 @@
+// Linking.
+ghost use Rattle.std.specs.Prelude.{◌≡◌, ◌≤◌, ◌<◌, ◌^◌, ℕ, length, slice_index_or, None, Ok, Err, OnOk, IfOk, IfErr, IfSome};
+ghost use Rattle.elf_image.specs.Images.{ImageData, AreBytes, IsImage};
+ghost use Rattle.tc_object.specs.Objects.{ObjectData, IsObject};
+ghost use Rattle.tc_link.specs.Layouts.{IsLayout};
+ghost use Rattle.tc_link.specs.Placing.{globals_of};
+ghost use Rattle.tc_link.specs.Relocated.{segments_of};
+ghost use Rattle.tc_link.specs.Names.{AreGlobals, CountsGlobals};
+ghost use Rattle.tc_link.specs.Linked.{no_room_after, placed_of, contents_of, refused_early, made_of, image_of_objects};
+ghost use Rattle.tc_link.specs.Errors.{IsRefusal, refusal_of};
+
+use crate::addresses::address_named;
+use crate::definitions::Definition;
+use crate::names::names_of;
+use crate::placed::{Placed, placed_of};
+use crate::relocations::contents_of;
+use crate::section_checks::check_places;
+use crate::segments::segments_of;
+use crate::symbol_checks::{check_missing, check_repeated};
+use crate::{Layout, LinkErr};
+use elf_image::{Image, read_segments};
+use std::alloc::Global;
+use std::collections::HashMap;
+use tc_object::Object;
+
+// The objects with the addresses of their sections, or what is refused before anything is relocated.
+fn place_all<'a>(
+    alloc: Global,
+    names: &HashMap<&str, Definition>,
+    objects: &'a [Object],
+    layout: &Layout,
+) -> Result<Vec<Placed<'a>>, LinkErr>
+    requires { CountsGlobals names.now objects.now }
+    ensures placed { IfOk result (λ placed. placed.items ≡ placed_of layout.now objects.now) }
+    ensures good { IfOk result (λ _. (k : ℕ) (d : ObjectData) → k < length objects.now
+        → IsObject (slice_index_or objects.now k d)) }
+    ensures none { OnOk result (refused_early layout.now objects.now ≡ None) }
+    ensures err { IfErr result (IsRefusal (refused_early layout.now objects.now)) }
+{
+    check_repeated(alloc, names, objects)?;
+    check_missing(alloc, names, objects)?;
+    check_places(alloc, &layout.places, objects)?;
+    placed_of(alloc, &layout.places, objects)
+}
+
+// The image of placed objects, or the first relocation that is refused.
+fn make(
+    alloc: Global,
+    names: &HashMap<&str, Definition>,
+    placed: &[Placed<'_>],
+    layout: &Layout,
+) -> Result<Image, LinkErr>
+    requires globals { AreGlobals names.now placed.now (globals_of placed.now) }
+    requires few { length placed.now ≤ 65535 }
+    requires good { let segments = segments_of layout.now.places (contents_of placed.now) in
+        IsLayout layout.now → AreBytes segments → (entry : ℕ) → entry < 2 ^ 32
+        → IsImage (record { entry = entry; segments = segments }) }
+    ensures ok { IfOk result (λ image. made_of layout.now placed.now ≡ Ok image) }
+    ensures err { IfErr result (λ e. IfSome (refusal_of e)
+        (λ r. made_of layout.now placed.now ≡ Err r)) }
+{
+    let contents = contents_of(alloc, names, placed)?;
+    let Some(entry) = address_named(names, placed, layout.entry.as_str()) else {
+        return Err(LinkErr::NoEntry);
+    };
+    let segments = segments_of(alloc, &layout.places, &contents)?;
+    read_segments(&segments);
+    Ok(Image { entry, segments })
+}
+
+/// The image of objects that are laid out this way, or the first refusal. The sections of one name stand in their place
+/// one after another, in the order of the objects, each at a multiple of 4, the gaps zero; each place with bytes gives
+/// one segment, in the order of the layout.
+pub fn link(alloc: Global, objects: &[Object], layout: &Layout) -> Result<Image, LinkErr>
+    requires { length objects.now ≤ 65535 }
+    ensures ok { IfOk result (λ image. image_of_objects objects.now layout.now ≡ Ok image) }
+    ensures err { IfErr result (λ e. IfSome (refusal_of e)
+        (λ r. image_of_objects objects.now layout.now ≡ Err r)) }
+{
+    let names = names_of(alloc, objects)?;
+    let placed = place_all(alloc, &names, objects, layout)?;
+    make(alloc, &names, &placed, layout)
+}

@@ -1,0 +1,90 @@
+// The bytes of places.
+ghost use Rattle.std.specs.Prelude.{◌≡◌, ◌≤◌, ◌<◌, ◌-◌, ◌++◌, ◌∷◌, length, nat_lt, map, filter, [], OnOk, IfOk, IfErr, replicate};
+ghost use Rattle.elf_image.specs.Images.{segment_data};
+ghost use Rattle.tc_link.specs.Placing.{round_up};
+ghost use Rattle.tc_link.specs.Relocated.{with_padding, joined_sections, segments_of, with_section};
+ghost use Rattle.tc_link.specs.declared.errors.LinkErr.TheVariants.{NoMemory};
+
+use crate::{LinkErr, Place};
+use elf_image::Segment;
+use std::alloc::Global;
+use tc_object::Section;
+
+static ZEROS: [u8; 4] = [0, 0, 0, 0];
+
+// So many zeros, at most 4.
+fn zeros(count: usize) -> &'static [u8]
+    requires { count ≤ 4 }
+    ensures { result.now ≡ replicate count 0 }
+{
+    &ZEROS[..count]
+}
+
+// Zeros up to a multiple of 4.
+fn pad(bytes: &mut Vec<u8>) -> Result<(), LinkErr>
+    ensures ok { OnOk result (bytes.new.items ≡ with_padding bytes.old.items) }
+    ensures err { IfErr result (λ e. e ≡ NoMemory) }
+{
+    let gap = (4 - bytes.len() % 4) % 4;
+    bytes.extend_from_slice(zeros(gap))?;
+    Ok(())
+}
+
+// One section more, where it has the name.
+fn add_section(bytes: &mut Vec<u8>, name: &str, section: &Section) -> Result<(), LinkErr>
+    ensures ok { OnOk result (bytes.new.items ≡ with_section name.now bytes.old.items section.now) }
+    ensures err { IfErr result (λ e. e ≡ NoMemory) }
+{
+    if name == section.name.as_str() {
+        pad(bytes)?;
+        bytes.extend_from_slice(&section.bytes)?;
+    }
+    Ok(())
+}
+
+// The sections of one name, each at a multiple of 4.
+#[tactic(auto, unfolding(crate::specs::Relocated::joined_sections))]
+fn join_sections(alloc: Global, name: &str, sections: &[Section]) -> Result<Vec<u8>, LinkErr>
+    ensures ok { IfOk result (λ bytes. bytes.items ≡ joined_sections name.now sections.now) }
+    ensures err { IfErr result (λ e. e ≡ NoMemory) }
+{
+    let mut bytes = Vec::new(alloc);
+    for section in sections {
+        add_section(&mut bytes, name, section)?;
+    }
+    Ok(bytes)
+}
+
+// One segment more, where it has bytes.
+fn add_segment(segments: &mut Vec<Segment>, at: u32, bytes: Vec<u8>) -> Result<(), LinkErr>
+    ensures ok { OnOk result (map segment_data segments.new.items
+        ≡ map segment_data segments.old.items
+        ++ filter (λ s. nat_lt 0 (length s.bytes))
+        (record { at = at; bytes = bytes.items } ∷ [])) }
+    ensures err { IfErr result (λ e. e ≡ NoMemory) }
+{
+    if bytes.is_empty() {
+        return Ok(());
+    }
+    segments.push(Segment { at, bytes })?;
+    Ok(())
+}
+
+/// The places with bytes.
+#[tactic(auto, unfolding(crate::specs::Relocated::segments_of))]
+pub(crate) fn segments_of(
+    alloc: Global,
+    places: &[Place],
+    sections: &[Section],
+) -> Result<Vec<Segment>, LinkErr>
+    ensures ok { IfOk result (λ segments. map segment_data segments.items
+        ≡ segments_of places.now sections.now) }
+    ensures err { IfErr result (λ e. e ≡ NoMemory) }
+{
+    let mut segments = Vec::new(alloc);
+    for place in places {
+        let bytes = join_sections(alloc, place.section.as_str(), sections)?;
+        add_segment(&mut segments, place.at, bytes)?;
+    }
+    Ok(segments)
+}

@@ -1,0 +1,137 @@
+-- What a line is by itself.
+use Rattle.std.specs.Prelude.{◌≡◌, ℕ, ◌+◌, ◌++◌, IfOk, ◌==◌, ◌&&◌, nat_le, min, Bool, false, if◌then◌else◌, List, [], ◌∷◌, codes, take, drop, length, map, fold, find, slice_range, Option, Some, None, Result, Ok, Err}
+use Rattle.std.specs.Option.{option_map_or}
+use Rattle.std.specs.List.{flat_map, slice_split}
+use Rattle.std.specs.Str.{bytes_eq}
+use Rattle.tc_stmt.specs.SourceRules.{no_rule, wrong_operands}
+use Rattle.tc_lex.specs.declared.kinds.Token.{Token}
+use Rattle.tc_lex.specs.declared.kinds.TokenKind.TheVariants as kind
+use Rattle.tc_lex.specs.Cut.{tokens_of}
+use Rattle.tc_isa.specs.Rows.{listed}
+use Rattle.tc_isa.specs.Codec.{is_long}
+use Rattle.tc_lex.specs.Pieces.{PieceData, is_kind, text_at}
+use Rattle.tc_lex.specs.Operands.{OperandData, operands}
+use Rattle.tc_stmt.specs.RowFields.{RowFieldsData, is_word}
+use Rattle.tc_stmt.specs.StatementRow.{statement}
+use Rattle.tc_stmt.specs.declared.item.Item.{Item}
+use Rattle.tc_stmt.specs.Items.{ItemData, item_of, label, section, global, code, zeros}
+use Rattle.tc_stmt.specs.Values.{value_rule, value_item, space_rule, space_item}
+
+-- the least rule that a line breaks by itself (15 is none), and what it adds to its source
+pub record LineData : Type 0 where
+  pub rule : ℕ
+  pub items : List ItemData
+
+-- a line that breaks this rule by itself and adds these things
+abbrev pub line_data : ℕ → List ItemData → LineData
+line_data rule items = record { rule = rule; items = items }
+
+-- a line whose things stand behind these
+abbrev pub behind : List ItemData → LineData → LineData
+behind is l = line_data l.rule (is ++ l.items)
+
+-- a line was read: its rule is told, and its things stand behind those before
+abbrev pub Adds : {E : Type 0} → LineData → Result ℕ E → List Item → List Item → Type 0
+Adds l result old new = IfOk result (λ rule. line_data rule (map item_of new) ≡ behind (map item_of old) l)
+
+-- ---- statements
+-- the one operand of `.section` and `.global`: a Word
+unfoldable pub is_word_operand : OperandData → Bool
+is_word_operand o = if o.is_memory then false else is_word o.value.shape
+
+-- the name that is the one operand, if it is so
+unfoldable pub word_of : List OperandData → Option (List ℕ)
+word_of [] = None
+word_of (o ∷ []) = if is_word_operand o then Some o.value.name else None
+word_of (o ∷ p ∷ os) = None
+
+-- `.section NAME` or `.global NAME`; else rule 3
+unfoldable pub named_line : (List ℕ → ItemData) → List OperandData → LineData
+named_line make os = option_map_or (λ name. line_data no_rule (make name ∷ [])) (word_of os) (line_data wrong_operands [])
+
+-- `.space N`; without its one operand rule 3
+unfoldable pub space_line : List OperandData → LineData
+space_line [] = line_data wrong_operands (zeros 0 ∷ [])
+space_line (o ∷ []) = line_data (space_rule o) (space_item o ∷ [])
+space_line (o ∷ p ∷ os) = line_data wrong_operands (zeros 0 ∷ [])
+
+-- the least rule that values break, of which there is one at least
+unfoldable pub values_rule : ℕ → List OperandData → ℕ
+values_rule width os = fold (λ rule o. min rule (value_rule width o)) (if length os == 0 then wrong_operands else no_rule) os
+
+-- `.byte`, `.half` or `.word` with values of so many bytes
+unfoldable pub values_line : ℕ → List OperandData → LineData
+values_line width os = line_data (values_rule width os) (map (value_item width) os)
+
+-- how many bytes the instructions of this name have; 0 where there is none
+unfoldable pub size_of_name : List ℕ → ℕ
+size_of_name name = option_map_or (λ r. if is_long r then 4 else 2) (find (λ r. bytes_eq r.name name) listed) 0
+
+-- an instruction; where it breaks a rule, as many zeros as instructions of its name have bytes
+abbrev pub code_line : List ℕ → Result (ℕ × RowFieldsData) ℕ → LineData
+code_line name (Ok found) = line_data no_rule (code found.0 found.1.fields found.1.reference ∷ [])
+code_line name (Err rule) = line_data rule (zeros (size_of_name name) ∷ [])
+
+-- a statement: a directive, or an instruction
+unfoldable pub stated_line : List ℕ → List OperandData → LineData
+stated_line name os =
+    if bytes_eq name (codes ".section") then named_line section os
+    else (if bytes_eq name (codes ".global") then named_line global os
+    else (if bytes_eq name (codes ".byte") then values_line 1 os
+    else (if bytes_eq name (codes ".half") then values_line 2 os
+    else (if bytes_eq name (codes ".word") then values_line 4 os
+    else (if bytes_eq name (codes ".space") then space_line os
+    else code_line name (statement name os))))))
+
+-- ---- lines
+-- the tokens from a place on: nothing, or a Word and operands
+unfoldable pub line_from : List PieceData → ℕ → LineData
+line_from ps at =
+    if length ps == at then line_data no_rule []
+    else (if is_kind ps at kind.Word then stated_line (text_at ps at) (operands (drop (at + 1) ps)) else line_data 1 [])
+
+-- a label in front: a Word and a `:`
+abbrev pub has_label : List PieceData → Bool
+has_label ps = is_kind ps 0 kind.Word && is_kind ps 1 kind.Colon
+
+-- a line with this label in front
+abbrev pub line_with_label : List ℕ → LineData → LineData
+line_with_label name l = line_data l.rule (label name ∷ l.items)
+
+-- a label, where the line begins with one, and what follows it
+unfoldable pub pieces_line : List PieceData → LineData
+pieces_line ps = if has_label ps then line_with_label (text_at ps 0) (line_from ps 2) else line_from ps 0
+
+-- the bytes from one place to another; tokens always lie within their line
+abbrev pub text_in : List ℕ → ℕ → ℕ → List ℕ
+text_in line from to = if nat_le from to && nat_le to (length line) then slice_range line from to else []
+
+-- a token with its text
+abbrev pub piece_in : List ℕ → Token → PieceData
+piece_in line t = record { kind = t.kind; text = text_in line t.from t.to }
+
+-- the label alone that tokens begin with
+unfoldable pub label_of : List PieceData → List ItemData
+label_of ps = if has_label ps then label (text_at ps 0) ∷ [] else []
+
+-- the label that a text begins with, which is cut into these tokens
+abbrev pub label_before : List ℕ → Result (List Token) ℕ → List ItemData
+label_before text (Ok ts) = label_of (map (piece_in text) ts)
+label_before text (Err at) = []
+
+-- a line that is cut into these tokens; rule 1 where it can't be cut, and the label before that place defines its name even so
+abbrev pub cut_line : List ℕ → Result (List Token) ℕ → LineData
+cut_line line (Ok ts) = pieces_line (map (piece_in line) ts)
+cut_line line (Err at) = line_data 1 (label_before (take at line) (tokens_of (take at line)))
+
+-- a line of a source: a byte outside the grammar or a 65th token breaks rule 1
+abbrev pub line_in : List ℕ → LineData
+line_in line = cut_line line (tokens_of line)
+
+-- the lines of a source, parted by line feeds
+abbrev pub lines_in : List ℕ → List LineData
+lines_in source = map line_in (slice_split (λ c. c == 10) source)
+
+-- all that the lines add, in order
+abbrev pub items_in : List LineData → List ItemData
+items_in lines = flat_map (λ (l : LineData). l.items) lines

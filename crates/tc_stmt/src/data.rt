@@ -1,0 +1,127 @@
+// The values of `.byte`, `.half`, `.word` and `.space`.
+ghost use Rattle.std.specs.Prelude.{◌≡◌, ◌≤◌, ◌<◌, ◌+◌, ◌^◌, ◌*◌, take, true, if◌then◌else◌, ◌⊎◌};
+ghost use Rattle.tc_isa.specs.Codec.{four_bytes};
+ghost use Rattle.tc_lex.specs.Operands.{operand_of};
+ghost use Rattle.tc_stmt.specs.RowFields.{reference_of, shape_index, wrap};
+ghost use Rattle.tc_stmt.specs.Items.{item_of};
+ghost use Rattle.tc_stmt.specs.Values.{fits_width, value_rule, value_item, space_rule, space_item};
+
+use crate::item::Item;
+use crate::{Reference, shape_index, symbol_rule};
+use tc_lex::Operand;
+
+// A number of at most four bytes, modulo 2^32, the lowest byte first.
+fn word_bytes(minus: bool, size: u32) -> [u8; 4]
+    ensures { result ≡ four_bytes (wrap (2 ^ 32) minus size) }
+{
+    let word = if minus { size.wrapping_neg() } else { size };
+    word.to_le_bytes()
+}
+
+// Whether a number fits a width of so many bytes.
+fn fits_width(width: u8, minus: bool, size: u128) -> bool
+    requires { (width ≡ 1) ⊎ ((width ≡ 2) ⊎ (width ≡ 4)) }
+    ensures value { result ≡ fits_width (8 * width) minus size }
+    ensures small { result ≡ true → size < 2 ^ 32 }
+{
+    let bound: u128 = if width == 1 {
+        0x100
+    } else if width == 2 {
+        0x1_0000
+    } else {
+        0x1_0000_0000
+    };
+    if minus {
+        size <= bound / 2
+    } else {
+        size < bound
+    }
+}
+
+/// The least rule that a value of so many bytes breaks; 15 is none.
+#[tactic(auto, unfolding(crate::specs::Values::value_rule))]
+pub(crate) fn value_rule(width: u8, o: Operand<'_>) -> u8
+    requires { (width ≡ 1) ⊎ ((width ≡ 2) ⊎ (width ≡ 4)) }
+    ensures value { result ≡ value_rule width (operand_of o.entry) }
+    ensures small { result ≡ 15 → o.entry.value.size < 2 ^ 32 }
+{
+    let shape = shape_index(o.value.shape);
+    if o.is_memory {
+        3
+    } else if shape == 1 {
+        if fits_width(width, o.value.minus, o.value.size) {
+            15
+        } else {
+            5
+        }
+    } else if shape == 7 {
+        5
+    } else if shape == 2 || shape == 3 {
+        let rule = symbol_rule(o.value);
+        if width == 4 { rule } else { rule.min(10) }
+    } else if shape == 4 || shape == 5 {
+        symbol_rule(o.value).min(10)
+    } else {
+        3
+    }
+}
+
+/// What a value of so many bytes adds: zeros where it breaks a rule.
+#[tactic(auto, unfolding(crate::specs::Values::value_item))]
+pub(crate) fn value_item<'a>(width: u8, o: Operand<'a>) -> Item<'a>
+    requires { (width ≡ 1) ⊎ ((width ≡ 2) ⊎ (width ≡ 4)) }
+    ensures { item_of result ≡ value_item width (operand_of o.entry) }
+{
+    if value_rule(width, o) != 15 {
+        return Item::Zeros(u32::from(width));
+    }
+    let size = o.value.size as u32;
+    if shape_index(o.value.shape) == 1 {
+        return Item::Data(width, word_bytes(o.value.minus, size), None);
+    }
+    let reference = Reference {
+        kind: 7,
+        name: o.value.name,
+        minus: o.value.minus,
+        size,
+    };
+    Item::Data(width, [0; 4], Some(reference))
+}
+
+/// The least rule that a number of zeros breaks by itself; 15 is none.
+#[tactic(auto, unfolding(crate::specs::Values::space_rule))]
+pub(crate) fn space_rule(o: Operand<'_>) -> u8
+    ensures value { result ≡ space_rule (operand_of o.entry) }
+    ensures small { result ≡ 15 → o.entry.value.size ≤ 2 ^ 24 }
+{
+    let shape = shape_index(o.value.shape);
+    if o.is_memory {
+        3
+    } else if shape == 1 {
+        if o.value.minus && o.value.size != 0 {
+            5
+        } else if o.value.size <= 0x100_0000 {
+            15
+        } else {
+            13
+        }
+    } else if shape == 7 {
+        5
+    } else if shape == 2 || shape == 3 || shape == 4 || shape == 5 {
+        symbol_rule(o.value).min(10)
+    } else {
+        3
+    }
+}
+
+/// Zeros; none where a rule is broken.
+#[tactic(auto, unfolding(crate::specs::Values::space_item))]
+pub(crate) fn space_item<'a>(o: Operand<'a>) -> Item<'a>
+    ensures { item_of result ≡ space_item (operand_of o.entry) }
+{
+    if space_rule(o) == 15 {
+        Item::Zeros(o.value.size as u32)
+    } else {
+        Item::Zeros(0)
+    }
+}

@@ -1,0 +1,485 @@
+// What operands give a row.
+ghost use Rattle.std.specs.Prelude.{◌≡◌, ◌<◌, ◌≤◌, ◌+◌, ◌^◌, map, option_map, length, true, if◌then◌else◌, ◌==◌, false, ◌*◌};
+ghost use Rattle.tc_isa.specs.Rows.{row_of};
+ghost use Rattle.tc_isa.specs.Words.{form_index, bounds};
+ghost use Rattle.tc_lex.specs.Operands.{value_of, operand_of};
+ghost use Rattle.tc_stmt.specs.RowFields.{row_fields_of, set_field, field_of, shape_index, register_of, put_register, fits, wrap, put_number, half_kind, fill_value, fill_memory, displacement_rule, with_displacement, target_kind, fill_target, put_absolute, fill_absolute, fill_register, fill_a10, fill_plain, fill, with_value as put_in, is_named as named, is_far};
+
+use crate::row_fields::RowFields;
+use crate::symbols::{break_rule, misplace, with_symbol};
+use crate::want::{Field, Want};
+use tc_isa::{Fields, Form, Row, bounds_of};
+use tc_lex::{Operand, Shape, Value, is_text};
+
+#[tactic(auto, unfolding(crate::specs::RowFields::set_field))]
+fn set_field(field: Field, v: u32, f: &Fields) -> Fields
+    ensures { result ≡ set_field field v f.now }
+{
+    match field {
+        Field::C => Fields {
+            c: (v % 256) as u8,
+            ..*f
+        },
+        Field::S1 => Fields {
+            s1: (v % 256) as u8,
+            ..*f
+        },
+        Field::S2 => Fields {
+            s2: (v % 256) as u8,
+            ..*f
+        },
+        Field::N => Fields {
+            n: (v % 256) as u8,
+            ..*f
+        },
+        Field::K => Fields { k: v, ..*f },
+    }
+}
+
+#[tactic(auto, unfolding(crate::specs::RowFields::field_of))]
+fn field_of(field: Field, f: &Fields) -> u32
+    ensures { result ≡ field_of field f.now }
+{
+    match field {
+        Field::C => u32::from(f.c),
+        Field::S1 => u32::from(f.s1),
+        Field::S2 => u32::from(f.s2),
+        Field::N => u32::from(f.n),
+        Field::K => f.k,
+    }
+}
+
+/// The number of a form of values: 0 nothing, 1 a number, 2 a name, 3 a name with a number added, 4 and 5 its upper and
+/// lower half, 6 none of these, 7 a number of 2^128 or more.
+#[tactic(auto, unfolding(crate::specs::RowFields::shape_index))]
+pub fn shape_index(shape: Shape) -> u8
+    ensures { result ≡ shape_index shape }
+{
+    match shape {
+        Shape::Absent => 0,
+        Shape::Number => 1,
+        Shape::Word => 2,
+        Shape::Sum => 3,
+        Shape::High => 4,
+        Shape::Low => 5,
+        Shape::Bad => 6,
+        Shape::Huge => 7,
+    }
+}
+
+#[tactic(auto, unfolding(tc_isa::specs::Words::form_index))]
+fn form_index(form: Form) -> u8
+    ensures { result ≡ form_index form }
+{
+    match form {
+        Form::Rlc => 0,
+        Form::Rr => 1,
+        Form::Rc => 2,
+        Form::Bol => 3,
+        Form::Bo => 4,
+        Form::Brr => 5,
+        Form::Brc => 6,
+        Form::B => 7,
+        Form::Abs => 8,
+        Form::Sys => 9,
+        Form::Sr => 10,
+        Form::Sc => 11,
+        Form::Sb => 12,
+        Form::Sbr => 13,
+        Form::Src => 14,
+        Form::Srr => 15,
+        Form::Slr => 16,
+        Form::Ssr => 17,
+    }
+}
+
+fn bank_of(c: u8) -> u8
+    ensures { result ≡ (if c == 100 then 0 else (if c == 97 then 16 else 64)) }
+{
+    if c == b'd' {
+        0
+    } else if c == b'a' {
+        16
+    } else {
+        64
+    }
+}
+
+#[tactic(auto, unfolding(crate::specs::RowFields::register_of, tc_lex::specs::Bytes::is_digit))]
+fn register_of(name: &[u8]) -> u8
+    ensures value { result ≡ register_of name.now }
+{
+    if name.len() == 2 && 48 <= name[1] && name[1] <= 57 {
+        bank_of(name[0]) + (name[1] - 48)
+    } else if name.len() == 3 && name[1] == b'1' && 48 <= name[2] && name[2] <= 53 {
+        bank_of(name[0]) + (name[2] - 38)
+    } else if name.is_empty() {
+        128
+    } else {
+        bank_of(name[0]) + 64
+    }
+}
+
+fn put(field: Field, v: u32, acc: RowFields<'_>) -> RowFields<'_>
+    ensures { row_fields_of result ≡ put_in field v (row_fields_of acc.entry) }
+{
+    RowFields {
+        fields: set_field(field, v, &acc.fields),
+        ..acc
+    }
+}
+
+#[tactic(auto, unfolding(crate::specs::RowFields::put_register))]
+fn put_register<'a>(bank: bool, field: Field, name: &[u8], acc: RowFields<'a>) -> RowFields<'a>
+    ensures { row_fields_of result ≡ put_register bank field name.now (row_fields_of acc.entry) }
+{
+    let reg = register_of(name);
+    if reg / 16 == (if bank { 1 } else { 0 }) {
+        put(field, u32::from(reg % 16), acc)
+    } else {
+        break_rule(4, acc)
+    }
+}
+
+#[tactic(auto, unfolding(crate::specs::RowFields::fits))]
+fn fits(signed: bool, bound: u32, minus: bool, size: u128) -> bool
+    ensures value { result ≡ fits signed bound minus size }
+    ensures within { result ≡ true → size ≤ bound }
+{
+    if signed {
+        if minus {
+            size <= u128::from(bound / 2)
+        } else {
+            size < u128::from(bound / 2)
+        }
+    } else if minus {
+        size == 0
+    } else {
+        size < u128::from(bound)
+    }
+}
+
+fn wrap(bound: u32, minus: bool, size: u32) -> u32
+    requires { size ≤ bound }
+    ensures { result ≡ wrap bound minus size }
+{
+    if minus && size != 0 {
+        bound - size
+    } else {
+        size
+    }
+}
+
+#[tactic(auto, unfolding(crate::specs::RowFields::put_number))]
+fn put_number<'a>(
+    form: Form,
+    signed: bool,
+    field: Field,
+    minus: bool,
+    size: u128,
+    acc: RowFields<'a>,
+) -> RowFields<'a>
+    ensures { row_fields_of result
+        ≡ put_number form signed field minus size (row_fields_of acc.entry) }
+{
+    let bound = field_of(field, &bounds_of(form));
+    if fits(signed, bound, minus, size) {
+        put(field, wrap(bound, minus, size as u32), acc)
+    } else {
+        break_rule(5, acc)
+    }
+}
+
+fn is_named(row: &Row, name: &str) -> bool
+    ensures { result ≡ named (row_of row.now) name.now }
+{
+    is_text(row.name.as_bytes(), name)
+}
+
+#[tactic(auto, unfolding(crate::specs::RowFields::half_kind))]
+fn half_kind(row: &Row, shape: Shape) -> u8
+    ensures { result ≡ half_kind (row_of row.now) shape }
+{
+    if shape_index(shape) == 4 {
+        if is_named(row, "movh")
+            || is_named(row, "movh.a")
+            || is_named(row, "addih")
+            || is_named(row, "addih.a")
+        {
+            4
+        } else {
+            0
+        }
+    } else if is_named(row, "addi") {
+        5
+    } else if form_index(row.form) == 3 {
+        6
+    } else {
+        0
+    }
+}
+
+#[tactic(auto, unfolding(crate::specs::RowFields::fill_value))]
+fn fill_value<'a>(
+    row: &Row,
+    signed: bool,
+    field: Field,
+    v: Value<'a>,
+    acc: RowFields<'a>,
+) -> Option<RowFields<'a>>
+    ensures { option_map row_fields_of result
+        ≡ fill_value (row_of row.now) signed field (value_of v.entry) (row_fields_of acc.entry) }
+{
+    let shape = shape_index(v.shape);
+    if shape == 1 {
+        Some(put_number(row.form, signed, field, v.minus, v.size, acc))
+    } else if shape == 7 {
+        Some(break_rule(5, acc))
+    } else if shape == 2 || shape == 3 {
+        Some(misplace(v, acc))
+    } else if shape == 4 || shape == 5 {
+        let kind = half_kind(row, v.shape);
+        if kind == 0 {
+            Some(misplace(v, acc))
+        } else {
+            Some(with_symbol(kind, v, acc))
+        }
+    } else {
+        None
+    }
+}
+
+#[tactic(auto, unfolding(crate::specs::RowFields::fill_memory))]
+fn fill_memory<'a>(
+    row: &Row,
+    plus: bool,
+    offset: bool,
+    o: Operand<'a>,
+    acc: RowFields<'a>,
+) -> Option<RowFields<'a>>
+    ensures { option_map row_fields_of result
+        ≡ fill_memory (row_of row.now) plus offset (operand_of o.entry) (row_fields_of acc.entry) }
+{
+    if o.is_memory && (if o.plus { plus } else { !plus }) {
+        if shape_index(o.value.shape) == 0 {
+            Some(put_register(true, Field::S2, o.base, acc))
+        } else if offset {
+            fill_value(
+                row,
+                true,
+                Field::K,
+                o.value,
+                put_register(true, Field::S2, o.base, acc),
+            )
+        } else {
+            None
+        }
+    } else {
+        None
+    }
+}
+
+// The bound of the constant of a form that has a target.
+#[tactic(auto, unfolding(tc_isa::specs::Words::bounds))]
+fn bound_of(form: Form) -> u32
+    ensures value { result ≡ (bounds form).k }
+    ensures small { result < 2 ^ 31 }
+    ensures some { 1 ≤ result }
+{
+    bounds_of(form).k
+}
+
+fn is_far(form: Form, bound: u32, minus: bool, size: u128) -> bool
+    requires { 1 ≤ bound }
+    ensures value { result ≡ is_far form bound minus size }
+    ensures near { result ≡ false → size ≤ 2 * bound }
+{
+    let bound = u128::from(bound);
+    if form_index(form) == 13 {
+        if minus {
+            size != 0
+        } else {
+            2 * (bound - 1) < size
+        }
+    } else if minus {
+        bound < size
+    } else {
+        bound.saturating_sub(2) < size
+    }
+}
+
+// The least rule that a displacement of so many bytes breaks; 15 is none.
+#[tactic(auto, unfolding(crate::specs::RowFields::displacement_rule))]
+fn displacement_rule(row: &Row, minus: bool, size: u128) -> u8
+    ensures value { result ≡ displacement_rule (row_of row.now) minus size }
+    ensures near { result ≡ 15 → size ≤ 2 * (bounds row.now.form).k }
+{
+    let by_odd = if size % 2 == 1 { 6 } else { 15 };
+    let too_far = if row.op1 % 2 == 1 { 5 } else { 11 };
+    let by_far: u8 = if is_far(row.form, bound_of(row.form), minus, size) {
+        too_far
+    } else {
+        15
+    };
+    by_far.min(by_odd)
+}
+
+/// What a displacement of so many bytes adds.
+#[tactic(auto, unfolding(crate::specs::RowFields::with_displacement))]
+pub fn displaced<'a>(row: &Row, minus: bool, size: u128, acc: RowFields<'a>) -> RowFields<'a>
+    ensures { row_fields_of result
+        ≡ with_displacement (row_of row.now) minus size (row_fields_of acc.entry) }
+{
+    let rule = displacement_rule(row, minus, size);
+    if rule == 15 {
+        put(
+            Field::K,
+            wrap(bound_of(row.form), minus, (size / 2) as u32),
+            acc,
+        )
+    } else {
+        break_rule(rule, acc)
+    }
+}
+
+#[tactic(auto, unfolding(crate::specs::RowFields::target_kind))]
+fn target_kind(row: &Row) -> u8
+    ensures { result ≡ target_kind (row_of row.now) }
+{
+    if row.op1 % 2 == 1 {
+        if form_index(row.form) == 7 { 1 } else { 3 }
+    } else {
+        0
+    }
+}
+
+#[tactic(auto, unfolding(crate::specs::RowFields::fill_target))]
+fn fill_target<'a>(row: &Row, v: Value<'a>, acc: RowFields<'a>) -> Option<RowFields<'a>>
+    ensures { option_map row_fields_of result
+        ≡ fill_target (row_of row.now) (value_of v.entry) (row_fields_of acc.entry) }
+{
+    let shape = shape_index(v.shape);
+    if shape == 3 && is_text(v.name, ".") {
+        Some(if v.wide {
+            break_rule(5, acc)
+        } else {
+            displaced(row, v.minus, v.size, acc)
+        })
+    } else if shape == 2 || shape == 3 {
+        Some(with_symbol(target_kind(row), v, acc))
+    } else if shape == 4 || shape == 5 {
+        Some(misplace(v, acc))
+    } else {
+        None
+    }
+}
+
+#[tactic(auto, unfolding(crate::specs::RowFields::put_absolute))]
+fn put_absolute(form: Form, minus: bool, size: u128, acc: RowFields<'_>) -> RowFields<'_>
+    ensures { row_fields_of result ≡ put_absolute form minus size (row_fields_of acc.entry) }
+{
+    if (minus && size != 0) || 0x1_0000_0000 <= size {
+        break_rule(5, acc)
+    } else if form_index(form) == 8 {
+        if size / 16384 % 16384 == 0 {
+            put(
+                Field::K,
+                (size / 268435456 * 16384 + size % 16384) as u32,
+                acc,
+            )
+        } else {
+            break_rule(5, acc)
+        }
+    } else if size / 2097152 % 128 == 0 && size % 2 == 0 {
+        put(
+            Field::K,
+            (size / 268435456 * 1048576 + size % 2097152 / 2) as u32,
+            acc,
+        )
+    } else {
+        break_rule(5, acc)
+    }
+}
+
+#[tactic(auto, unfolding(crate::specs::RowFields::fill_absolute))]
+fn fill_absolute<'a>(row: &Row, v: Value<'a>, acc: RowFields<'a>) -> Option<RowFields<'a>>
+    ensures { option_map row_fields_of result
+        ≡ fill_absolute (row_of row.now) (value_of v.entry) (row_fields_of acc.entry) }
+{
+    let shape = shape_index(v.shape);
+    if shape == 1 {
+        Some(put_absolute(row.form, v.minus, v.size, acc))
+    } else if shape == 7 {
+        Some(break_rule(5, acc))
+    } else if shape == 2 || shape == 3 {
+        if form_index(row.form) == 8 {
+            Some(misplace(v, acc))
+        } else {
+            Some(with_symbol(2, v, acc))
+        }
+    } else if shape == 4 || shape == 5 {
+        Some(misplace(v, acc))
+    } else {
+        None
+    }
+}
+
+#[tactic(auto, unfolding(crate::specs::RowFields::fill_register))]
+fn fill_register<'a>(
+    bank: bool,
+    field: Field,
+    v: Value<'a>,
+    acc: RowFields<'a>,
+) -> Option<RowFields<'a>>
+    ensures { option_map row_fields_of result
+        ≡ fill_register bank field (value_of v.entry) (row_fields_of acc.entry) }
+{
+    if shape_index(v.shape) == 2 {
+        Some(put_register(bank, field, v.name, acc))
+    } else {
+        None
+    }
+}
+
+#[tactic(auto, unfolding(crate::specs::RowFields::fill_a10))]
+fn fill_a10<'a>(v: Value<'a>, acc: RowFields<'a>) -> Option<RowFields<'a>>
+    ensures { option_map row_fields_of result
+        ≡ fill_a10 (value_of v.entry) (row_fields_of acc.entry) }
+{
+    if shape_index(v.shape) == 2 {
+        if is_text(v.name, "a10") {
+            Some(acc)
+        } else {
+            Some(break_rule(4, acc))
+        }
+    } else {
+        None
+    }
+}
+
+/// What the operand at this place adds; nothing where its form doesn't belong there.
+#[tactic(auto, unfolding(crate::specs::RowFields::fill, crate::specs::RowFields::fill_plain))]
+pub(crate) fn fill<'a>(
+    row: &Row,
+    want: Want,
+    o: Operand<'a>,
+    acc: RowFields<'a>,
+) -> Option<RowFields<'a>>
+    ensures { option_map row_fields_of result
+        ≡ fill (row_of row.now) want (operand_of o.entry) (row_fields_of acc.entry) }
+{
+    if let Want::Memory(plus, offset) = want {
+        return fill_memory(row, plus, offset, o, acc);
+    }
+    if o.is_memory {
+        return None;
+    }
+    match want {
+        Want::Reg(bank, field) => fill_register(bank, field, o.value, acc),
+        Want::A10 => fill_a10(o.value, acc),
+        Want::Number(signed, field) => fill_value(row, signed, field, o.value, acc),
+        Want::Target => fill_target(row, o.value, acc),
+        Want::Absolute => fill_absolute(row, o.value, acc),
+        Want::Memory(_, _) => None,
+    }
+}

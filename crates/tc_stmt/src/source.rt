@@ -1,0 +1,98 @@
+// A source that is read, line by line.
+ghost use Rattle.std.specs.Prelude.{◌≡◌, ◌≤◌, ◌<◌, ◌+◌, ◌++◌, List, [], ◌∷◌, map, length, position, take, drop, IfOk, OnOk, IfSome, ◌==◌};
+ghost use Rattle.tc_stmt.specs.Items.{item_of};
+ghost use Rattle.tc_stmt.specs.Lines.{LineData, line_in, lines_in, items_in};
+ghost use Rattle.tc_stmt.specs.Readings.{lines_of, AreRead};
+
+use crate::item::Item;
+use crate::parse::read_line;
+use arrayvec::ArrayVec;
+use std::alloc::{AllocError, Global};
+use tc_lex::{Operand, Piece, Token};
+
+/// A line that is read: the least rule that it breaks by itself (15 is none), and how many things it adds.
+#[derive(Clone, Copy)]
+pub struct Line {
+    pub rule: u8,
+    pub count: u8,
+}
+
+/// A source that is read: its lines, and all that they add, one thing after another.
+#[derive(Drop)]
+pub struct Source<'a> {
+    pub lines: Vec<Line>,
+    pub items: Vec<Item<'a>>,
+}
+
+fn find_feed(rest: &[u8]) -> Option<usize>
+    ensures value { result ≡ position (λ c. c == 10) rest.now }
+    ensures within { IfSome result (λ i. i < length rest.now) }
+{
+    rest.iter().position(|c| *c == b'\n')
+}
+
+// The bytes before this place.
+fn front(rest: &[u8], i: usize) -> &[u8]
+    requires { i ≤ length rest.now }
+    ensures { result.now ≡ take i rest.now }
+{
+    &rest[..i]
+}
+
+// The bytes behind the one at this place.
+fn back(rest: &[u8], i: usize) -> &[u8]
+    requires { i < length rest.now }
+    ensures { result.now ≡ drop (i + 1) rest.now }
+{
+    &rest[i + 1..]
+}
+
+// Reads one line more. The lists in between have room for what is known of one line.
+fn add_line<'a>(
+    line: &'a [u8],
+    tokens: &mut ArrayVec<Token, 64>,
+    pieces: &mut ArrayVec<Piece<'a>, 64>,
+    operands: &mut ArrayVec<Operand<'a>, 65>,
+    lines: &mut Vec<Line>,
+    items: &mut Vec<Item<'a>>,
+) -> Result<(), AllocError>
+    ensures { OnOk result ((ls : List LineData) → AreRead lines.old.items items.old.items ls
+        → AreRead lines.new.items items.new.items (ls ++ line_in line.now ∷ [])) }
+{
+    lines.push(read_line(line, tokens, pieces, operands, items)?)?;
+    Ok(())
+}
+
+/// Reads each line of a source, which line feeds part.
+pub fn read_source<'a>(alloc: Global, source: &'a [u8]) -> Result<Source<'a>, AllocError>
+    ensures lines { IfOk result (λ s. lines_of s ≡ lines_in source.now) }
+    ensures items { IfOk result (λ s. map item_of s.items.items ≡ items_in (lines_in source.now)) }
+{
+    let mut tokens = ArrayVec::new();
+    let mut pieces = ArrayVec::new();
+    let mut operands = ArrayVec::new();
+    let mut lines = Vec::new(alloc);
+    let mut items = Vec::new(alloc);
+    let mut rest = source;
+    'lines: while let Some(i) = find_feed(rest) {
+        let line = front(rest, i);
+        add_line(
+            line,
+            &mut tokens,
+            &mut pieces,
+            &mut operands,
+            &mut lines,
+            &mut items,
+        )?;
+        rest = back(rest, i);
+    }
+    add_line(
+        rest,
+        &mut tokens,
+        &mut pieces,
+        &mut operands,
+        &mut lines,
+        &mut items,
+    )?;
+    Ok(Source { lines, items })
+}

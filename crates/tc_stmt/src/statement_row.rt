@@ -1,0 +1,190 @@
+// Which row a statement is.
+ghost use Rattle.std.specs.Prelude.{◌≡◌, ◌<◌, map, option_map, length, slice_index_or as get_or, drop, ◌≤◌, ◌+◌, true};
+ghost use Rattle.tc_isa.specs.Rows.{row_of, listed};
+ghost use Rattle.tc_stmt.specs.Wants.{wants_of, now_of};
+ghost use Rattle.tc_lex.specs.Operands.{operand_of};
+ghost use Rattle.tc_stmt.specs.RowFields.{row_fields_of, fill_all, no_fields, kept_apart, fields_of_row};
+ghost use Rattle.tc_stmt.specs.StatementRow.{start, after_row, outcome, Steps, Judges, statement, rule_of};
+ghost use Rattle.tc_stmt.specs.RowIndex.{are_first, are_next};
+
+use crate::fill::fill;
+use crate::row_fields::RowFields;
+use crate::row_index::{first_row, first_rows, next_row, next_rows};
+use crate::row_wants::wants;
+use crate::symbols::break_rule;
+use crate::tally::Tally;
+use crate::want::Want;
+use tc_isa::{Fields, Row, parts_differ, rows};
+use tc_lex::Operand;
+
+fn no_fields<'a>() -> RowFields<'a>
+    ensures { row_fields_of result ≡ no_fields }
+{
+    RowFields {
+        fields: Fields {
+            c: 0,
+            s1: 0,
+            s2: 0,
+            n: 0,
+            k: 0,
+        },
+        rule: 15,
+        reference: None,
+    }
+}
+
+// What the operands from this place on add.
+fn fill_from<'a>(
+    row: &Row,
+    wants: &[Want],
+    os: &[Operand<'a>],
+    i: usize,
+    acc: RowFields<'a>,
+) -> Option<RowFields<'a>>
+    requires even { length wants.now ≡ length os.now }
+    requires place { i ≤ length os.now }
+    ensures { option_map row_fields_of result
+        ≡ fill_all (row_of row.now) (drop i wants.now) (drop i (map operand_of os.now))
+        (row_fields_of acc.entry) }
+{
+    if i == wants.len() {
+        return Some(acc);
+    }
+    match fill(row, wants[i], os[i], acc) {
+        None => None,
+        Some(next) => fill_from(row, wants, os, i + 1, next),
+    }
+}
+
+fn fill_all<'a>(row: &Row, wants: &[Want], os: &[Operand<'a>]) -> Option<RowFields<'a>>
+    ensures { option_map row_fields_of result
+        ≡ fill_all (row_of row.now) wants.now (map operand_of os.now) no_fields }
+{
+    if wants.len() != os.len() {
+        return None;
+    }
+    fill_from(row, wants, os, 0, no_fields())
+}
+
+fn keep_apart<'a>(row: &Row, f: RowFields<'a>) -> RowFields<'a>
+    ensures { row_fields_of result ≡ kept_apart (row_of row.now) (row_fields_of f.entry) }
+{
+    if parts_differ(row, &f.fields) {
+        f
+    } else {
+        break_rule(12, f)
+    }
+}
+
+#[tactic(auto, unfolding(crate::specs::RowFields::fields_of_row))]
+fn judge_row<'a>(row: &Row, wants: &[Want], os: &[Operand<'a>]) -> Option<RowFields<'a>>
+    ensures { option_map row_fields_of result
+        ≡ fields_of_row (row_of row.now) wants.now (map operand_of os.now) }
+{
+    match fill_all(row, wants, os) {
+        None => None,
+        Some(f) => Some(keep_apart(row, f)),
+    }
+}
+
+#[tactic(auto, unfolding(crate::specs::StatementRow::after_row))]
+fn step<'a>(
+    row: &Row,
+    wants: &[Want],
+    name: &[u8],
+    os: &[Operand<'a>],
+    so_far: Tally,
+) -> Result<RowFields<'a>, Tally>
+    requires { wants.now ≡ wants_of (row_of row.now) }
+    ensures { Steps result (after_row name.now (map operand_of os.now) (row_of row.now) so_far) }
+{
+    if row.name.as_bytes() == name {
+        match judge_row(row, wants, os) {
+            None => Err(Tally {
+                named: true,
+                ..so_far
+            }),
+            Some(f) => {
+                if f.rule == 15 {
+                    Ok(f)
+                } else {
+                    Err(Tally {
+                        named: true,
+                        fits: true,
+                        least: so_far.least.min(f.rule),
+                    })
+                }
+            }
+        }
+    } else {
+        Err(so_far)
+    }
+}
+
+// The row at this place, where it is the one, or what is known after it.
+fn step_at<'a>(
+    rows: &[Row],
+    wants: &[&[Want]],
+    i: usize,
+    name: &[u8],
+    os: &[Operand<'a>],
+    so_far: Tally,
+) -> Result<RowFields<'a>, Tally>
+    requires wants { map now_of wants.now ≡ map wants_of (map row_of rows.now) }
+    requires place { i < length rows.now }
+    ensures { (d : _)
+        → Steps result
+        (after_row name.now (map operand_of os.now) (get_or (map row_of rows.now) i d) so_far) }
+{
+    step(&rows[i], wants[i], name, os, so_far)
+}
+
+/// The row that a statement is, and what its operands give; or the least rule that it breaks. Only rows that begin as the name
+/// does are looked at.
+fn judge<'a>(
+    rows: &[Row],
+    wants: &[&[Want]],
+    first: &[u8],
+    next: &[u8],
+    name: &[u8],
+    os: &[Operand<'a>],
+) -> Result<(u8, RowFields<'a>), u8>
+    requires wants { map now_of wants.now ≡ map wants_of (map row_of rows.now) }
+    requires few { length rows.now < 256 }
+    requires first { are_first 97 (map row_of rows.now) first.now ≡ true }
+    requires next { are_next 0 (map row_of rows.now) next.now ≡ true }
+    ensures { Judges result
+        (outcome name.now (map operand_of os.now) (map row_of rows.now) 0 start) }
+{
+    let mut so_far = Tally {
+        named: false,
+        fits: false,
+        least: 15,
+    };
+    let mut i = first_row(first, name);
+    'rows: while i < rows.len() {
+        match step_at(rows, wants, i, name, os, so_far) {
+            Ok(f) => return Ok((i as u8, f)),
+            Err(after) => so_far = after,
+        }
+        i = next_row(rows, next, i, name);
+    }
+    Err(rule_of(so_far))
+}
+
+fn rule_of(t: Tally) -> u8
+    ensures { result ≡ rule_of t }
+{
+    if t.named {
+        if t.fits { t.least } else { 3 }
+    } else {
+        2
+    }
+}
+
+/// The same, of the table.
+pub fn statement<'a>(name: &[u8], os: &[Operand<'a>]) -> Result<(u8, RowFields<'a>), u8>
+    ensures { Judges result (statement name.now (map operand_of os.now)) }
+{
+    judge(rows(), wants(), first_rows(), next_rows(), name, os)
+}

@@ -1,0 +1,10 @@
+// Calls that fail by their number.
+ghost use Rattle.std.specs.Prelude.{◌≡◌};
+ghost use Rattle.tcd_base.specs.FailingCalls.{is_listed as listed};
+
+// Whether the call of this number is one of those that fail.
+pub(crate) fn is_listed(failing: &[u32], call: u64) -> bool
+    ensures { result ≡ listed failing.now call }
+{
+    failing.iter().any(|n| u64::from(*n) == call)
+}

@@ -1,6 +1,0 @@
-use Rattle.vd_transfer.proofs.ChangeLaws.{written_last-values}
-use Rattle.vd_transfer.proofs.changes.write_last.Goals as goal
-
-pub returns-clause-values : goal.returns-clause-values
-returns-clause-values c =
-    rw c.put_register-c.ensures (written_last-values c.args.b.now c.args.s.now c.args.c.now c.args.r c.args.v c.requires.values c.requires.free c.requires.value)

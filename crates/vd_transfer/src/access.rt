@@ -1,0 +1,63 @@
+// The addresses of loads and stores.
+ghost use Rattle.std.specs.Prelude.{◌≡◌};
+ghost use Rattle.value_domain.specs.Values.{IsValue};
+ghost use Rattle.value_domain.specs.State.{AreValues};
+ghost use Rattle.tc_isa.specs.Bounded.{IsShape, IsArg};
+ghost use Rattle.tc_isa.specs.Shapes.{shape_of};
+ghost use Rattle.vd_transfer.specs.Effects.{address_of, access_of};
+ghost use Rattle.tc_isa.specs.declared.shapes.Op.TheVariants.{Add};
+
+use crate::operations::operation;
+use crate::registers::{any, arg, constant};
+use tc_isa::{Arg, Inst, Op, Shape, shape};
+use tcd_plan::Plan;
+use value_domain::{Bounds, State, Val};
+
+/// The addresses of a load or a store.
+pub fn address(b: &Bounds, plan: &Plan, inst: &Inst, s: &State) -> Val
+    requires { AreValues b.now s.now.regs }
+    ensures address { result ≡ address_of b.now plan.now (shape_of inst.now) s.now }
+    ensures value { IsValue b.now result }
+{
+    address_by(b, plan, shape(inst), s)
+}
+
+/// The addresses of an access of this shape.
+#[tactic(auto, unfolding(crate::specs::Effects::address_of))]
+pub fn address_by(b: &Bounds, plan: &Plan, shape: Shape, s: &State) -> Val
+    requires shape { IsShape shape }
+    requires values { AreValues b.now s.now.regs }
+    ensures address { result ≡ address_of b.now plan.now shape s.now }
+    ensures value { IsValue b.now result }
+{
+    match shape {
+        Shape::Load {
+            base,
+            offset,
+            after,
+            ..
+        } => access(b, plan, s, base, offset, after),
+        Shape::Store {
+            base,
+            offset,
+            after,
+            ..
+        } => access(b, plan, s, base, offset, after),
+        _ => any(b),
+    }
+}
+
+/// The address of an access; by itself, so that its caller has no values to fill where there is no access.
+#[inline(never)]
+pub(crate) fn access(b: &Bounds, plan: &Plan, s: &State, base: Arg, offset: u32, after: bool) -> Val
+    requires base { IsArg base }
+    requires values { AreValues b.now s.now.regs }
+    ensures access { result ≡ access_of b.now plan.now s.now base offset after }
+    ensures value { IsValue b.now result }
+{
+    let v = arg(b, plan, s, base);
+    if after {
+        return v;
+    }
+    operation(b, Op::Add, &v, &constant(b, offset))
+}

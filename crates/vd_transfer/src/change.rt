@@ -1,0 +1,122 @@
+// What an instruction changes of a state.
+ghost use Rattle.std.specs.Prelude.{◌≡◌};
+ghost use Rattle.value_domain.specs.Values.{IsValue};
+ghost use Rattle.value_domain.specs.State.{AreValues};
+ghost use Rattle.vd_transfer.specs.Registers.{write_reg};
+ghost use Rattle.vd_transfer.specs.Changes.{state_after, no_put, reg_put, arg_put, kept_of};
+
+use crate::registers::{is_lower, slot_of};
+use arrayvec::ArrayVec;
+use tc_isa::Arg;
+use value_domain::{Bounds, State, Val};
+
+/// The values that a change starts from: those of its state, those with the lower registers any, or any at each place.
+#[derive(Clone, Copy, PartialEq, Eq)]
+pub enum Base {
+    Same,
+    Forgotten,
+    Any,
+}
+
+/// A value at a place of a state; nothing without a place.
+#[derive(Drop)]
+pub struct Put {
+    pub at: Option<usize>,
+    pub value: Val,
+}
+
+/// What a state becomes: values put one after another, from a base, and what is known of the context.
+#[derive(Drop)]
+pub struct Change {
+    pub base: Base,
+    pub first: Put,
+    pub second: Put,
+    pub third: Put,
+    pub ie: bool,
+    pub ccpn: u8,
+    pub lower: bool,
+    pub locals: ArrayVec<bool, 8>,
+}
+
+/// No value anywhere.
+pub(crate) fn no_value() -> Put
+    ensures { result ≡ no_put }
+{
+    Put {
+        at: None,
+        value: Val::any(),
+    }
+}
+
+/// A register's value, where a state has one for it.
+pub fn put_register(r: u8, v: Val) -> Put
+    ensures { result ≡ reg_put r v }
+{
+    Put {
+        at: slot_of(r),
+        value: v,
+    }
+}
+
+/// An operand's value, if it is a register.
+pub(crate) fn put_operand(y: Arg, v: Val) -> Put
+    ensures { result ≡ arg_put y v }
+{
+    match y {
+        Arg::Reg(r) => put_register(r, v),
+        Arg::Word(_) => no_value(),
+    }
+}
+
+pub(crate) fn copy_of(locals: &ArrayVec<bool, 8>) -> ArrayVec<bool, 8>
+    ensures { result ≡ locals.now }
+{
+    let mut copy = ArrayVec::new();
+    copy.try_extend_from_slice(locals.as_slice()).unwrap();
+    copy
+}
+
+/// The change that keeps all of a state.
+pub fn unchanged(s: &State) -> Change
+    ensures kept { result ≡ kept_of s.now }
+    ensures same { state_after s.now result ≡ s.now }
+{
+    Change {
+        base: Base::Same,
+        first: no_value(),
+        second: no_value(),
+        third: no_value(),
+        ie: s.ie,
+        ccpn: s.ccpn,
+        lower: s.lower,
+        locals: copy_of(&s.locals),
+    }
+}
+
+/// Writes a register of a state; a third value may follow.
+pub(crate) fn write_register(b: &Bounds, s: &State, r: u8, v: Val) -> Change
+    requires values { AreValues b.now s.now.regs }
+    requires value { IsValue b.now v }
+    ensures written { state_after s.now result ≡ write_reg s.now r v }
+    ensures values { AreValues b.now (state_after s.now result).regs }
+    ensures free { result.third ≡ no_put }
+{
+    let kept = !is_lower(r);
+    let mut c = unchanged(s);
+    c.second = put_register(r, v);
+    c.lower = c.lower && kept;
+    c
+}
+
+/// Writes a register last.
+pub(crate) fn write_last(b: &Bounds, s: &State, c: &mut Change, r: u8, v: Val)
+    requires values { AreValues b.now (state_after s.now c.old).regs }
+    requires free { c.old.third ≡ no_put }
+    requires value { IsValue b.now v }
+    ensures written { state_after s.now c.new ≡ write_reg (state_after s.now c.old) r v }
+    ensures values { AreValues b.now (state_after s.now c.new).regs }
+{
+    let kept = !is_lower(r);
+    c.third = put_register(r, v);
+    c.lower = c.lower && kept;
+}

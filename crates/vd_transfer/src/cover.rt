@@ -1,0 +1,123 @@
+// The values of a changed state, and whether another state covers it.
+ghost use Rattle.std.specs.Prelude.{◌≡◌, ◌<◌, ◌↔◌, IsTrue, Some, slice_index_or};
+ghost use Rattle.value_domain.specs.Values.{IsValue, any_val};
+ghost use Rattle.value_domain.specs.State.{Covers, AreBelow, AreWell, AreValues};
+ghost use Rattle.vd_transfer.specs.Registers.{reg_of};
+ghost use Rattle.vd_transfer.specs.Changes.{base_of, state_after};
+
+use crate::change::{Base, Change, Put, copy_of};
+use crate::registers::{fixed, is_lower_slot, slot_of};
+use tcd_plan::Plan;
+use value_domain::{Bounds, State, Val, are_implied, covers_context, leq};
+
+fn is_at(put: &Put, i: usize) -> bool
+    ensures { IsTrue result ↔ (put.now.at ≡ Some i) }
+{
+    match put.at {
+        Some(at) => at == i,
+        None => false,
+    }
+}
+
+/// The value that a change starts from at a place.
+fn base_value<'a>(s: &'a State, base: Base, any: &'a Val, i: usize) -> &'a Val
+    requires place { i < 27 }
+    requires any { any.now ≡ any_val }
+    ensures { result.now ≡ slice_index_or (base_of base s.now.regs) i any_val }
+{
+    let _regs = &s.regs[..];
+    match base {
+        Base::Same => &s.regs[i],
+        Base::Forgotten => { if is_lower_slot(i) { any } else { &s.regs[i] } }
+        Base::Any => any,
+    }
+}
+
+/// The value of a changed state at a place; `any` stands for each that is no more known.
+pub fn changed_value<'a>(s: &'a State, c: &'a Change, any: &'a Val, i: usize) -> &'a Val
+    requires place { i < 27 }
+    requires any { any.now ≡ any_val }
+    ensures { result.now ≡ slice_index_or (state_after s.now c.now).regs i any_val }
+{
+    let _regs = &s.regs[..];
+    if is_at(&c.third, i) {
+        return &c.third.value;
+    }
+    if is_at(&c.second, i) {
+        return &c.second.value;
+    }
+    if is_at(&c.first, i) {
+        return &c.first.value;
+    }
+    base_value(s, c.base, any, i)
+}
+
+/// The value of a register in a changed state.
+pub(crate) fn changed_reg(b: &Bounds, plan: &Plan, s: &State, c: &Change, r: u8) -> Val
+    requires register { r < 32 }
+    requires values { AreValues b.now (state_after s.now c.now).regs }
+    ensures reg { result ≡ reg_of plan.now (state_after s.now c.now) r }
+    ensures value { IsValue b.now result }
+{
+    let _most_words = b.most_words();
+    let _globals = &plan.globals;
+    match slot_of(r) {
+        Some(i) => changed_value(s, c, &Val::any(), i).copy(),
+        None => fixed(plan, r),
+    }
+}
+
+fn are_below(s: &State, c: &Change, high: &[Val; 27]) -> bool
+    requires low { AreWell (state_after s.now c.now).regs }
+    requires high { AreWell high.now }
+    ensures { IsTrue result ↔ AreBelow (state_after s.now c.now).regs high.now }
+{
+    let _regs = &s.regs[..];
+    let any = Val::any();
+    for i in 0..27 {
+        if !leq(changed_value(s, c, &any, i), &high[i]) {
+            return false;
+        }
+    }
+    true
+}
+
+/// Whether a state covers a changed one, which is never built.
+pub fn covers_changed(upper: &State, s: &State, c: &Change) -> bool
+    requires upper { AreWell upper.now.regs }
+    requires state { AreWell (state_after s.now c.now).regs }
+    ensures { IsTrue result ↔ Covers upper.now (state_after s.now c.now) }
+{
+    if !covers_context(upper, c.ie, c.ccpn, c.lower) {
+        return false;
+    }
+    if !are_implied(upper.locals.as_slice(), c.locals.as_slice()) {
+        return false;
+    }
+    are_below(s, c, &upper.regs)
+}
+
+fn changed_regs(s: &State, c: &Change) -> [Val; 27]
+    ensures { result ≡ (state_after s.now c.now).regs }
+{
+    let _regs = &s.regs[..];
+    let any = Val::any();
+    let mut out = std::array::from_fn(|_| Val::any());
+    for i in 0..27 {
+        out[i] = changed_value(s, c, &any, i).copy();
+    }
+    out
+}
+
+/// The state that a change makes of another.
+pub fn changed_state(s: &State, c: &Change) -> State
+    ensures { result ≡ state_after s.now c.now }
+{
+    State {
+        regs: changed_regs(s, c),
+        ie: c.ie,
+        ccpn: c.ccpn,
+        lower: c.lower,
+        locals: copy_of(&c.locals),
+    }
+}

@@ -1,0 +1,213 @@
+// What each instruction changes.
+ghost use Rattle.std.specs.Prelude.{◌≡◌, ◌<◌, ◌≤◌, length, true};
+ghost use Rattle.value_domain.specs.Values.{IsValue};
+ghost use Rattle.value_domain.specs.State.{AreValues};
+ghost use Rattle.tc_isa.specs.Bounded.{IsArg, IsShape};
+ghost use Rattle.tc_isa.specs.declared.shapes.Op.TheVariants.{Add, Sh};
+ghost use Rattle.vd_transfer.specs.Operations.{value_of};
+ghost use Rattle.vd_transfer.specs.Registers.{reg_of, arg_of, write_reg, word_val};
+ghost use Rattle.vd_transfer.specs.Effects.{HasRoom, with_base, saved_lower, restored_lower, transfer_of};
+ghost use Rattle.vd_transfer.specs.Changes.{state_after, no_put};
+ghost use Rattle.tc_isa.specs.Shapes.{shape_of};
+
+use crate::change::{Base, Change, unchanged, write_last, write_register};
+use crate::cover::changed_state;
+use crate::operations::operation;
+use crate::registers::{any, arg, constant, reg_value};
+use tc_isa::{Arg, Inst, Op, Shape, shape};
+use tcd_plan::Plan;
+use value_domain::{Bounds, State, Val};
+
+// What makes values stands in functions of its own, so that `change_of` has none to fill where nothing is computed.
+
+fn keep_all(b: &Bounds, s: &State) -> Change
+    requires { AreValues b.now s.now.regs }
+    ensures same { state_after s.now result ≡ s.now }
+    ensures values { AreValues b.now (state_after s.now result).regs }
+    ensures free { result.third ≡ no_put }
+{
+    unchanged(s)
+}
+
+#[inline(never)]
+fn compute(b: &Bounds, plan: &Plan, s: &State, op: Op, dst: u8, x: Arg, y: Arg) -> Change
+    requires operands { IsArg x × IsArg y }
+    requires values { AreValues b.now s.now.regs }
+    ensures write { state_after s.now result
+        ≡ write_reg s.now dst
+        (value_of b.now op (arg_of plan.now s.now x) (arg_of plan.now s.now y)) }
+    ensures values { AreValues b.now (state_after s.now result).regs }
+{
+    let v = operation(b, op, &arg(b, plan, s, x), &arg(b, plan, s, y));
+    write_register(b, s, dst, v)
+}
+
+#[inline(never)]
+fn scale(b: &Bounds, plan: &Plan, s: &State, dst: u8, base: u8, index: u8, n: u8) -> Change
+    requires registers { (base < 32) × (index < 32) }
+    requires values { AreValues b.now s.now.regs }
+    ensures write { state_after s.now result
+        ≡ write_reg s.now dst
+        (value_of b.now Add (reg_of plan.now s.now base)
+        (value_of b.now Sh (reg_of plan.now s.now index) (word_val n))) }
+    ensures values { AreValues b.now (state_after s.now result).regs }
+{
+    let by = operation(
+        b,
+        Op::Sh,
+        &reg_value(b, plan, s, index),
+        &constant(b, u32::from(n)),
+    );
+    let v = operation(b, Op::Add, &reg_value(b, plan, s, base), &by);
+    write_register(b, s, dst, v)
+}
+
+/// Increases the base register by the offset, where the access says so.
+#[inline(never)]
+fn increase_base(b: &Bounds, plan: &Plan, s: &State, base: Arg, offset: u32, after: bool) -> Change
+    requires base { IsArg base }
+    requires values { AreValues b.now s.now.regs }
+    ensures base { state_after s.now result ≡ with_base b.now plan.now s.now base offset after }
+    ensures values { AreValues b.now (state_after s.now result).regs }
+    ensures free { result.third ≡ no_put }
+{
+    if !after {
+        return keep_all(b, s);
+    }
+    match base {
+        Arg::Reg(r) => {
+            let sum = operation(b, Op::Add, &reg_value(b, plan, s, r), &constant(b, offset));
+            write_register(b, s, r, sum)
+        }
+        Arg::Word(_) => keep_all(b, s),
+    }
+}
+
+#[inline(never)]
+fn load_into(
+    b: &Bounds,
+    plan: &Plan,
+    s: &State,
+    base: Arg,
+    offset: u32,
+    after: bool,
+    dst: u8,
+    v: Val,
+) -> Change
+    requires base { IsArg base }
+    requires values { AreValues b.now s.now.regs }
+    requires loaded { IsValue b.now v }
+    ensures write { state_after s.now result
+        ≡ write_reg (with_base b.now plan.now s.now base offset after) dst v }
+    ensures values { AreValues b.now (state_after s.now result).regs }
+{
+    let mut c = increase_base(b, plan, s, base, offset, after);
+    write_last(b, s, &mut c, dst, v);
+    c
+}
+
+/// Saves a lower context: whether the lower registers are the entry's becomes a local.
+fn save_lower(s: &State) -> Change
+    requires { length s.now.locals.items < 8 }
+    ensures { state_after s.now result ≡ saved_lower s.now }
+{
+    let mut c = unchanged(s);
+    c.locals.push(s.lower);
+    c
+}
+
+fn begin_isr(s: &State, number: u8) -> Change
+    requires { length s.now.locals.items < 8 }
+    ensures { state_after s.now result ≡ record (saved_lower s.now) { ie = true; ccpn = number } }
+{
+    let mut c = save_lower(s);
+    c.ie = true;
+    c.ccpn = number;
+    c
+}
+
+/// Restores the last lower context.
+fn restore_lower(b: &Bounds, s: &State) -> Change
+    requires some { 1 ≤ length s.now.locals.items }
+    requires values { AreValues b.now s.now.regs }
+    ensures restored { state_after s.now result ≡ restored_lower s.now }
+    ensures values { AreValues b.now (state_after s.now result).regs }
+{
+    let _most_words = b.most_words();
+    let mut c = unchanged(s);
+    let last = c.locals.len() - 1;
+    c.lower = c.locals.as_slice()[last];
+    c.locals.truncate(last);
+    c.base = Base::Forgotten;
+    c
+}
+
+fn set_enable(s: &State, ie: bool) -> Change
+    ensures { state_after s.now result ≡ record s.now { ie = ie } }
+{
+    let mut c = unchanged(s);
+    c.ie = ie;
+    c
+}
+
+/// What an instruction of this shape changes, where it stays in its frame and isn't a branch or a jump. A load writes
+/// `loaded`, which nothing else uses. There is room where it saves a lower context, and one to restore where it restores one.
+#[tactic(auto, unfolding(crate::specs::Effects::transfer_of))]
+pub fn change_of(b: &Bounds, plan: &Plan, shape: Shape, s: &State, loaded: Val) -> Change
+    requires shape { IsShape shape }
+    requires values { AreValues b.now s.now.regs }
+    requires loaded { IsValue b.now loaded }
+    requires room { HasRoom b.now shape s.now }
+    ensures change { state_after s.now result ≡ transfer_of b.now plan.now shape s.now loaded }
+    ensures values { AreValues b.now (state_after s.now result).regs }
+{
+    let _most_locals = b.most_locals();
+    match shape {
+        Shape::Compute { op, dst, x, y } => compute(b, plan, s, op, dst, x, y),
+        Shape::Scaled {
+            dst,
+            base,
+            index,
+            n,
+        } => scale(b, plan, s, dst, base, index, n),
+        Shape::Load {
+            dst,
+            base,
+            offset,
+            after,
+            ..
+        } => load_into(b, plan, s, base, offset, after, dst, loaded),
+        Shape::Store {
+            base,
+            offset,
+            after,
+            ..
+        } => increase_base(b, plan, s, base, offset, after),
+        Shape::Svlcx => save_lower(s),
+        Shape::Rslcx => restore_lower(b, s),
+        Shape::Bisr { c } => begin_isr(s, c),
+        Shape::Enable => set_enable(s, true),
+        Shape::Disable => set_enable(s, false),
+        Shape::Mfcr { dst, .. } => write_register(b, s, dst, any(b)),
+        Shape::Branch { .. } => keep_all(b, s),
+        Shape::Jump { .. } => keep_all(b, s),
+        Shape::Call { .. } => keep_all(b, s),
+        Shape::Ret => keep_all(b, s),
+        Shape::Rfe => keep_all(b, s),
+        Shape::Syscall { .. } => keep_all(b, s),
+        Shape::Mtcr { .. } => keep_all(b, s),
+        Shape::Nothing => keep_all(b, s),
+    }
+}
+
+/// The state after an instruction that stays in its frame and isn't a branch or a jump. A load writes `loaded`, which
+/// nothing else uses. There is room where it saves a lower context, and one to restore where it restores one.
+pub fn transfer(b: &Bounds, plan: &Plan, inst: &Inst, s: &State, loaded: &Val) -> State
+    requires values { AreValues b.now s.now.regs }
+    requires loaded { IsValue b.now loaded.now }
+    requires room { HasRoom b.now (shape_of inst.now) s.now }
+    ensures transfer { result ≡ transfer_of b.now plan.now (shape_of inst.now) s.now loaded.now }
+    ensures values { AreValues b.now result.regs }
+{
+    changed_state(s, &change_of(b, plan, shape(inst), s, loaded.copy()))
+}

@@ -1,0 +1,116 @@
+// Refinement by signed comparisons.
+ghost use Rattle.std.specs.Prelude.{◌≡◌, ◌≢◌, ◌<◌, ◌≤◌, ◌+◌, ◌^◌, length, List, ℕ, [], ◌∷◌, ◌++◌, IfSome, ◌↔◌, ◌⊎◌};
+ghost use Rattle.value_domain.specs.Values.{IsValue, IsWell, members, range};
+ghost use Rattle.value_domain.specs.Sets.{AreWords, Among};
+ghost use Rattle.value_domain.specs.declared.values.Val.TheVariants.{Set, Span};
+ghost use Rattle.vd_transfer.specs.Refinement.{cover_some};
+ghost use Rattle.tc_isa.specs.Arithmetic.{signed_place};
+ghost use Rattle.vd_transfer.specs.Intervals.{IsIn};
+ghost use Rattle.vd_transfer.specs.Signs.{IsSignedRange, kept_signed};
+ghost use Rattle.vd_transfer.specs.declared.refinement.Relation.TheVariants.{Same};
+
+use crate::refinement::{Interval, NONE, Relation, join_some, meet, signed, words_reached};
+use value_domain::{Bounds, Val, extent_of};
+
+const HALF: u32 = 1 << 31;
+
+/// The words whose places in the signed order are those of an interval.
+fn parts(i: Interval) -> (Interval, Interval)
+    ensures { (x : ℕ) → x < 2 ^ 32 → (IsIn result.0 x ⊎ IsIn result.1 x) ↔ IsIn i (signed_place x) }
+{
+    let first = if i.lo < HALF {
+        Interval {
+            lo: i.lo + HALF,
+            last: i.last.min(HALF - 1) + HALF,
+        }
+    } else {
+        NONE
+    };
+    let second = if HALF <= i.last {
+        Interval {
+            lo: i.lo.max(HALF) - HALF,
+            last: i.last - HALF,
+        }
+    } else {
+        NONE
+    };
+    (first, second)
+}
+
+/// The least and the greatest member in the signed order.
+fn signed_range(v: &Val) -> (u32, u32)
+    requires { IsWell v.now }
+    ensures { IsSignedRange (members v.now) result.0 result.1 }
+{
+    match v {
+        Val::Set(words) => signed_words(words.as_slice()),
+        Val::Span { lo, last, step } => signed_span(*lo, *last, *step),
+    }
+}
+
+fn signed_words(words: &[u32]) -> (u32, u32)
+    requires { 1 ≤ length words.now }
+    ensures { IsSignedRange words.now result.0 result.1 }
+{
+    let mut low = words[0];
+    let mut high = words[0];
+    for x in words {
+        low = signed_min(*x, low);
+        high = signed_max(*x, high);
+    }
+    (low, high)
+}
+
+fn signed_span(lo: u32, last: u32, step: u8) -> (u32, u32)
+    requires { IsWell (Span lo last step) }
+    ensures { IsSignedRange (range lo last step) result.0 result.1 }
+{
+    let v = Val::Span { lo, last, step };
+    let e = extent_of(&v);
+    if e.least < HALF && HALF <= e.greatest {
+        (HALF, HALF - (1 << step))
+    } else {
+        (e.least, e.greatest)
+    }
+}
+
+/// The cover of the members of `v` that stand in a relation to some member of `w` in the signed order.
+pub fn narrow_signed(b: &Bounds, rel: Relation, v: &Val, w: &Val) -> Option<Val>
+    requires left { IsValue b.now v.now }
+    requires right { IsValue b.now w.now }
+    requires order { rel ≢ Same }
+    ensures kept { result ≡ cover_some b.now (kept_signed rel (members v.now) (members w.now)) }
+    ensures value { IfSome result (IsValue b.now) }
+{
+    let (low, high) = signed_range(w);
+    let (i, j) = words_reached(rel, signed(low), signed(high));
+    let (first, second) = parts(i);
+    let (third, fourth) = parts(j);
+    let here = join_some(
+        b,
+        meet(b, v, first.lo, first.last, 0),
+        meet(b, v, second.lo, second.last, 0),
+    );
+    let there = join_some(
+        b,
+        meet(b, v, third.lo, third.last, 0),
+        meet(b, v, fourth.lo, fourth.last, 0),
+    );
+    join_some(b, here, there)
+}
+
+fn signed_min(x: u32, low: u32) -> u32
+    ensures either { (result ≡ x) ⊎ (result ≡ low) }
+    ensures below_x { signed_place result ≤ signed_place x }
+    ensures below_low { signed_place result ≤ signed_place low }
+{
+    if signed(x) < signed(low) { x } else { low }
+}
+
+fn signed_max(x: u32, high: u32) -> u32
+    ensures either { (result ≡ x) ⊎ (result ≡ high) }
+    ensures above_x { signed_place x ≤ signed_place result }
+    ensures above_high { signed_place high ≤ signed_place result }
+{
+    if signed(high) < signed(x) { x } else { high }
+}

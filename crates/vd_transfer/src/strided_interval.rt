@@ -1,0 +1,170 @@
+// The sets that the rows of operations cover.
+ghost use Rattle.std.specs.Prelude.{◌≡◌, ◌<◌, ◌≤◌, ◌||◌, min, max, nat_lt, ◌^◌};
+ghost use Rattle.vd_transfer.specs.Operations.{sums, differences, shifts, signed_shifts, runs, gives_truth};
+
+use tc_isa::Op;
+use value_domain::{Extent, Val};
+
+/// How many words there are.
+const WORDS: u64 = 1 << 32;
+
+/// The multiples of 2^`step` in `first..=last`.
+#[derive(Clone, Copy)]
+pub struct StridedInterval {
+    pub first: u32,
+    pub last: u32,
+    pub step: u8,
+}
+
+const ANY: StridedInterval = StridedInterval {
+    first: 0,
+    last: u32::MAX,
+    step: 0,
+};
+
+/// Whether an operation gives 1 or 0.
+#[tactic(auto, unfolding(crate::specs::Operations::gives_truth))]
+pub(crate) fn gives_truth(op: Op) -> bool
+    ensures { result ≡ gives_truth op }
+{
+    match op {
+        Op::Eq | Op::Ne | Op::Lt | Op::LtU | Op::Ge | Op::GeU => true,
+        _ => false,
+    }
+}
+
+/// The run that a row covers.
+#[tactic(auto, unfolding(crate::specs::Operations::runs))]
+pub(crate) fn interval_of_row(op: Op, e: &Extent, f: &Extent, w: &Val) -> StridedInterval
+    requires left { e.now.least ≤ e.now.greatest }
+    requires right { f.now.least ≤ f.now.greatest }
+    ensures { result ≡ runs op e.now f.now w.now }
+{
+    match op {
+        Op::Add => sum(e, f),
+        Op::Sub => difference(e, f),
+        Op::And => StridedInterval {
+            first: 0,
+            last: e.greatest.min(f.greatest),
+            step: e.step.max(f.step),
+        },
+        Op::Sh => match w.words() {
+            Some([count]) => shift(e, (*count % 64) as u8),
+            _ => ANY,
+        },
+        Op::Sha => match w.words() {
+            Some([count]) => signed_shift(e, (*count % 64) as u8),
+            _ => ANY,
+        },
+        _ => ANY,
+    }
+}
+
+#[tactic(auto, unfolding(crate::specs::Operations::sums))]
+fn sum(e: &Extent, f: &Extent) -> StridedInterval
+    requires left { e.now.least ≤ e.now.greatest }
+    requires right { f.now.least ≤ f.now.greatest }
+    ensures { result
+        ≡ sums e.now.least e.now.greatest f.now.least f.now.greatest (min e.now.step f.now.step) }
+{
+    let first = u64::from(e.least) + u64::from(f.least);
+    let last = u64::from(e.greatest) + u64::from(f.greatest);
+    let step = e.step.min(f.step);
+    if last < WORDS {
+        StridedInterval {
+            first: first as u32,
+            last: last as u32,
+            step,
+        }
+    } else if WORDS <= first {
+        StridedInterval {
+            first: (first - WORDS) as u32,
+            last: (last - WORDS) as u32,
+            step,
+        }
+    } else {
+        StridedInterval {
+            first: 0,
+            last: u32::MAX,
+            step,
+        }
+    }
+}
+
+#[tactic(auto, unfolding(crate::specs::Operations::differences))]
+fn difference(e: &Extent, f: &Extent) -> StridedInterval
+    requires left { e.now.least ≤ e.now.greatest }
+    requires right { f.now.least ≤ f.now.greatest }
+    ensures { result
+        ≡ differences e.now.least e.now.greatest f.now.least f.now.greatest
+        (min e.now.step f.now.step) }
+{
+    let step = e.step.min(f.step);
+    if f.greatest <= e.least {
+        StridedInterval {
+            first: e.least - f.greatest,
+            last: e.greatest - f.least,
+            step,
+        }
+    } else if e.greatest < f.least {
+        let first = u64::from(e.least) + WORDS - u64::from(f.greatest);
+        let last = u64::from(e.greatest) + WORDS - u64::from(f.least);
+        StridedInterval {
+            first: first as u32,
+            last: last as u32,
+            step,
+        }
+    } else {
+        StridedInterval {
+            first: 0,
+            last: u32::MAX,
+            step,
+        }
+    }
+}
+
+#[tactic(auto, unfolding(crate::specs::Operations::shifts))]
+fn shift(e: &Extent, n: u8) -> StridedInterval
+    requires count { n < 64 }
+    requires order { e.now.least ≤ e.now.greatest }
+    ensures { result ≡ shifts e.now.least e.now.greatest e.now.step n }
+{
+    if n < 32 {
+        let first = u64::from(e.least) << n;
+        let last = u64::from(e.greatest) << n;
+        let step = (u16::from(e.step) + u16::from(n)).min(2) as u8;
+        if last < WORDS {
+            StridedInterval {
+                first: first as u32,
+                last: last as u32,
+                step,
+            }
+        } else {
+            StridedInterval {
+                first: 0,
+                last: u32::MAX,
+                step,
+            }
+        }
+    } else {
+        let by = 64 - n;
+        StridedInterval {
+            first: (u64::from(e.least) >> by) as u32,
+            last: (u64::from(e.greatest) >> by) as u32,
+            step: 0,
+        }
+    }
+}
+
+#[tactic(auto, unfolding(crate::specs::Operations::signed_shifts))]
+fn signed_shift(e: &Extent, n: u8) -> StridedInterval
+    requires count { n < 64 }
+    requires order { e.now.least ≤ e.now.greatest }
+    ensures { result ≡ signed_shifts e.now.least e.now.greatest e.now.step n }
+{
+    if n < 32 || e.greatest < 0x8000_0000 {
+        shift(e, n)
+    } else {
+        ANY
+    }
+}
