@@ -7,6 +7,9 @@ pub mod Points
 pub mod PointLaws
 pub mod MoveLaws
 pub mod CodeLaws
+pub mod AccessGrowth
+pub mod FirstFault
+pub mod KnownPlaces
 pub mod DutyRules
 pub mod FaultLaws
 pub mod FlowDuties

@@ -58,7 +58,7 @@ pub record CoversAt (a : Assignment) (y : Place) (v : Known) : Type 0 where
 abbrev pub IsBelowAt : Assignment → Assignment → Type 0
 IsBelowAt a upper = (y : Place) (v : Known) → a y ≡ Some v → CoversAt upper y v
 
--- the same, where nothing may be known yet
+-- the least that covers what may be known so far and this; none for states with unequal numbers of locals
 abbrev pub raised : Limits → Option Known → Known → Option Known
 raised b None v = Some v
 raised b (Some w) v = joined_known b w v

@@ -10,6 +10,7 @@ use tcd_base::any_holds;
 use tcd_plan::Plan;
 
 /// Whether `count` bytes from the address on lie in one rom range.
+#[inline(always)]
 fn is_in_rom(plan: &Plan, addr: u32, count: u32) -> bool
     ensures decides { IsTrue result ↔ IsInOne addr count plan.now.rom }
     ensures fits { IsTrue result → addr + count ≤ 2 ^ 32 }
@@ -18,6 +19,7 @@ fn is_in_rom(plan: &Plan, addr: u32, count: u32) -> bool
 }
 
 /// Two bytes of the image, where segments hold them.
+#[inline(always)]
 fn two_bytes(image: &Image, addr: u32) -> Option<[u8; 2]>
     requires { addr + 2 ≤ 2 ^ 32 }
     ensures { result ≡ held_bytes image.now addr 2 }
@@ -28,6 +30,7 @@ fn two_bytes(image: &Image, addr: u32) -> Option<[u8; 2]>
 }
 
 /// Four bytes of the image, where segments hold them.
+#[inline(always)]
 fn four_bytes(image: &Image, addr: u32) -> Option<[u8; 4]>
     requires { addr + 4 ≤ 2 ^ 32 }
     ensures { result ≡ held_bytes image.now addr 4 }
@@ -40,6 +43,7 @@ fn four_bytes(image: &Image, addr: u32) -> Option<[u8; 4]>
 }
 
 /// The instruction with which the bytes begin, and its length.
+#[inline(always)]
 fn inst_in(bytes: &[u8]) -> Option<(Inst, u32)>
     ensures { FindsBytes bytes.now result }
 {
@@ -66,6 +70,7 @@ pub fn code_at(image: &Image, plan: &Plan, addr: u32) -> Option<(Inst, u32)>
 }
 
 /// Four bytes of the image in one rom range.
+#[inline(always)]
 fn four_in_rom(image: &Image, plan: &Plan, addr: u32) -> Option<[u8; 4]>
     ensures { FindsInRom image.now plan.now addr 4 result }
 {
@@ -77,6 +82,7 @@ fn four_in_rom(image: &Image, plan: &Plan, addr: u32) -> Option<[u8; 4]>
 }
 
 /// Two bytes of the image in one rom range.
+#[inline(always)]
 fn two_in_rom(image: &Image, plan: &Plan, addr: u32) -> Option<[u8; 2]>
     ensures { FindsInRom image.now plan.now addr 2 result }
 {

@@ -11,6 +11,7 @@ ghost use Rattle.cfg_recover.specs.Flows.{told_entry, rule_of_entry, told_leavin
 
 use crate::entry_changes::{call_change, misaligned_change, system_change};
 use crate::flow_targets::{one, targets};
+use crate::inst_at::InstAt;
 use crate::{Enter, Leave};
 use depth_cert::{ALN, CALL, Key, SYS};
 use store_ranges::aligned;
@@ -20,25 +21,18 @@ use value_domain::{Bounds, State, Val};
 use vd_transfer::{address, changed_state};
 
 /// The entries by a call or a system call.
-pub(crate) fn entry(
-    b: &Bounds,
-    plan: &Plan,
-    key: &Key,
-    addr: u32,
-    s: &State,
-    inst: &Inst,
-    size: u32,
-) -> Option<Enter>
+pub(crate) fn entry(b: &Bounds, plan: &Plan, key: &Key, s: &State, at: InstAt<'_>) -> Option<Enter>
     requires { AreValues b.now s.now.regs }
     ensures entry { told_entry (rule_of_entry result) key.now result
-        ≡ entries_of plan.now key.now addr s.now (shape_of inst.now) size }
+        ≡ entries_of plan.now key.now at.entry.addr s.now
+        (shape_of at.entry.inst.now) at.entry.size }
     ensures values { EntersWithValues b.now result }
 {
-    let resume = Some(addr.wrapping_add(size));
-    match shape(inst) {
+    let resume = Some(at.addr.wrapping_add(at.size));
+    match shape(at.inst) {
         Shape::Call { to } => Some(Enter {
             kind: CALL,
-            targets: targets(plan, s, addr, to),
+            targets: targets(plan, s, at.addr, to),
             state: changed_state(s, &call_change(b, s)),
             resume,
         }),

@@ -14,10 +14,10 @@ use crate::entry_changes::handler_change;
 use crate::flow_entries::{entry, leaving, misaligned};
 use crate::flow_interrupts::interrupts;
 use crate::flow_successors::successors;
+use crate::inst_at::InstAt;
 use crate::local::local_or_code;
 use depth_cert::Key;
 use elf_image::Image;
-use tc_isa::Inst;
 use tcd_plan::Plan;
 use value_domain::{Bounds, State};
 use vd_transfer::changed_state;
@@ -38,36 +38,31 @@ pub fn flow(
     ensures values { IfOk result (HasValues b.now) }
 {
     match local_or_code(b, image, plan, key, addr, s) {
-        Ok((inst, size)) => Ok(flow_of(b, image, plan, key, addr, s, &inst, size)),
+        Ok((inst, size)) => {
+            let inst = &inst;
+            Ok(flow_of(b, image, plan, key, s, InstAt { addr, inst, size }))
+        }
         Err(rule) => Err(rule),
     }
 }
 
-/// The duties of a point, by its instruction and that one's size in bytes.
-fn flow_of(
-    b: &Bounds,
-    image: &Image,
-    plan: &Plan,
-    key: &Key,
-    addr: u32,
-    s: &State,
-    inst: &Inst,
-    size: u32,
-) -> Flow
+/// The duties of a point, by its instruction.
+fn flow_of(b: &Bounds, image: &Image, plan: &Plan, key: &Key, s: &State, at: InstAt<'_>) -> Flow
     requires values { AreValues b.now s.now.regs }
-    requires room { HasRoom b.now (shape_of inst.now) s.now }
+    requires room { HasRoom b.now (shape_of at.inst.now) s.now }
     ensures values { HasValues b.now result }
     ensures told { told_by plan.now key.now s.now result
-        ≡ duties_of b.now image.now plan.now key.now addr s.now (shape_of inst.now) size }
+        ≡ duties_of b.now image.now plan.now key.now at.entry.addr s.now
+        (shape_of at.entry.inst.now) at.entry.size }
     ensures entry { result.irq_entry ≡ irq_entry plan.now key.now s.now 0 }
-    ensures leaves { result.leave ≡ leave_of (shape_of inst.now) }
+    ensures leaves { result.leave ≡ leave_of (shape_of at.entry.inst.now) }
 {
     Flow {
-        jumps: successors(b, image, plan, addr, s, inst, size),
-        enter: entry(b, plan, key, addr, s, inst, size),
-        aln: misaligned(b, plan, key, s, inst),
+        jumps: successors(b, image, plan, s, at),
+        enter: entry(b, plan, key, s, at),
+        aln: misaligned(b, plan, key, s, at.inst),
         irqs: interrupts(plan, s),
         irq_entry: changed_state(s, &handler_change(b, plan, key, s, 0)),
-        leave: leaving(key, s, inst),
+        leave: leaving(key, s, at.inst),
     }
 }

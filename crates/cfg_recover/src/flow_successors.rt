@@ -13,6 +13,7 @@ ghost use Rattle.cfg_recover.specs.Flows.{told_jump, told_jumps};
 
 use crate::Jump;
 use crate::flow_targets::{one, targets};
+use crate::inst_at::InstAt;
 use elf_image::Image;
 use store_ranges::load_of;
 use tc_isa::{Inst, Shape, shape};
@@ -25,33 +26,32 @@ pub(crate) fn successors(
     b: &Bounds,
     image: &Image,
     plan: &Plan,
-    addr: u32,
     s: &State,
-    inst: &Inst,
-    size: u32,
+    at: InstAt<'_>,
 ) -> [Option<Jump>; 2]
     requires values { AreValues b.now s.now.regs }
-    requires room { HasRoom b.now (shape_of inst.now) s.now }
+    requires room { HasRoom b.now (shape_of at.inst.now) s.now }
     ensures values { All (JumpsWithValues b.now) result }
     ensures jumps { told_jumps result
-        ≡ successors_of b.now image.now plan.now addr s.now (shape_of inst.now) size }
+        ≡ successors_of b.now image.now plan.now at.entry.addr s.now
+        (shape_of at.entry.inst.now) at.entry.size }
 {
-    let next = addr.wrapping_add(size);
-    match shape(inst) {
+    let next = at.addr.wrapping_add(at.size);
+    match shape(at.inst) {
         Shape::Branch { by, .. } => [
-            side(b, plan, inst, s, false, next),
-            side(b, plan, inst, s, true, addr.wrapping_add(by)),
+            side(b, plan, at.inst, s, false, next),
+            side(b, plan, at.inst, s, true, at.addr.wrapping_add(by)),
         ],
         Shape::Jump { to } => [
             Some(Jump {
-                targets: targets(plan, s, addr, to),
+                targets: targets(plan, s, at.addr, to),
                 state: s.copy(),
             }),
             None,
         ],
         Shape::Call { .. } | Shape::Ret | Shape::Rfe | Shape::Syscall { .. } | Shape::Mtcr { .. } =>
             [None, None],
-        _ => [Some(step(b, image, plan, addr, s, inst, size)), None],
+        _ => [Some(step(b, image, plan, s, at)), None],
     }
 }
 
@@ -70,25 +70,18 @@ fn side(b: &Bounds, plan: &Plan, inst: &Inst, s: &State, taken: bool, to: u32) -
 }
 
 /// The step to the next instruction.
-fn step(
-    b: &Bounds,
-    image: &Image,
-    plan: &Plan,
-    addr: u32,
-    s: &State,
-    inst: &Inst,
-    size: u32,
-) -> Jump
+fn step(b: &Bounds, image: &Image, plan: &Plan, s: &State, at: InstAt<'_>) -> Jump
     requires values { AreValues b.now s.now.regs }
-    requires room { HasRoom b.now (shape_of inst.now) s.now }
+    requires room { HasRoom b.now (shape_of at.inst.now) s.now }
     ensures values { JumpsWithValues b.now (Some result) }
     ensures jump { told_jump (Some result)
-        ≡ next_of b.now image.now plan.now addr s.now (shape_of inst.now) size }
+        ≡ next_of b.now image.now plan.now at.entry.addr s.now
+        (shape_of at.entry.inst.now) at.entry.size }
 {
-    let value = loaded(b, image, plan, s, inst);
+    let value = loaded(b, image, plan, s, at.inst);
     Jump {
-        targets: one(addr.wrapping_add(size)),
-        state: transfer(b, plan, inst, s, &value),
+        targets: one(at.addr.wrapping_add(at.size)),
+        state: transfer(b, plan, at.inst, s, &value),
     }
 }
 

@@ -10,6 +10,7 @@ mod flow_point;
 mod flow_successors;
 mod flow_targets;
 mod flows;
+mod inst_at;
 mod keys;
 mod laws;
 mod local;

@@ -13,6 +13,27 @@ use tc_isa::{Arg, Inst, Op, Shape, shape};
 use tcd_plan::Plan;
 use value_domain::{Bounds, State, Val};
 
+/// How an access comes to its address: by a base and an offset, or by the base alone, which is increased afterwards.
+#[derive(Clone, Copy)]
+pub(crate) struct Addressing {
+    pub(crate) base: Arg,
+    pub(crate) offset: u32,
+    pub(crate) after: bool,
+}
+
+impl Addressing {
+    /// The addressing by this base and offset.
+    pub(crate) fn by(base: Arg, offset: u32, after: bool) -> Addressing
+        ensures { result ≡ record { base = base; offset = offset; after = after } }
+    {
+        Addressing {
+            base,
+            offset,
+            after,
+        }
+    }
+}
+
 /// The addresses of a load or a store.
 pub fn address(b: &Bounds, plan: &Plan, inst: &Inst, s: &State) -> Val
     requires { AreValues b.now s.now.regs }
@@ -24,6 +45,7 @@ pub fn address(b: &Bounds, plan: &Plan, inst: &Inst, s: &State) -> Val
 
 /// The addresses of an access of this shape.
 #[tactic(auto, unfolding(crate::specs::Effects::address_of))]
+#[inline(always)]
 pub fn address_by(b: &Bounds, plan: &Plan, shape: Shape, s: &State) -> Val
     requires shape { IsShape shape }
     requires values { AreValues b.now s.now.regs }
@@ -36,28 +58,28 @@ pub fn address_by(b: &Bounds, plan: &Plan, shape: Shape, s: &State) -> Val
             offset,
             after,
             ..
-        } => access(b, plan, s, base, offset, after),
+        } => access(b, plan, s, Addressing::by(base, offset, after)),
         Shape::Store {
             base,
             offset,
             after,
             ..
-        } => access(b, plan, s, base, offset, after),
+        } => access(b, plan, s, Addressing::by(base, offset, after)),
         _ => any(b),
     }
 }
 
 /// The address of an access; by itself, so that its caller has no values to fill where there is no access.
 #[inline(never)]
-pub(crate) fn access(b: &Bounds, plan: &Plan, s: &State, base: Arg, offset: u32, after: bool) -> Val
-    requires base { IsArg base }
+pub(crate) fn access(b: &Bounds, plan: &Plan, s: &State, at: Addressing) -> Val
+    requires base { IsArg at.base }
     requires values { AreValues b.now s.now.regs }
-    ensures access { result ≡ access_of b.now plan.now s.now base offset after }
+    ensures access { result ≡ access_of b.now plan.now s.now at.base at.offset at.after }
     ensures value { IsValue b.now result }
 {
-    let v = arg(b, plan, s, base);
-    if after {
+    let v = arg(b, plan, s, at.base);
+    if at.after {
         return v;
     }
-    operation(b, Op::Add, &v, &constant(b, offset))
+    operation(b, Op::Add, &v, &constant(b, at.offset))
 }

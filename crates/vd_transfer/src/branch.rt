@@ -19,6 +19,14 @@ use tc_isa::{Arg, Cond, Inst, Op, Shape, shape};
 use tcd_plan::Plan;
 use value_domain::{Bounds, State, Val};
 
+/// A branch's condition, with the register and the operand that it compares.
+#[derive(Clone, Copy)]
+struct Comparison {
+    cond: Cond,
+    x: u8,
+    y: Arg,
+}
+
 /// The relation that the operands are in on a side of a condition.
 #[tactic(auto, unfolding(crate::specs::Relations::relation_of))]
 fn relation(cond: Cond, side: bool) -> Relation
@@ -224,34 +232,26 @@ fn with_values(
 }
 
 /// What a side of a condition changes, if the side is possible.
-fn narrow_by(
-    b: &Bounds,
-    plan: &Plan,
-    cond: Cond,
-    x: u8,
-    y: Arg,
-    s: &State,
-    side: bool,
-) -> Option<Change>
-    requires operands { (x < 32) × IsArg y }
+fn narrow_by(b: &Bounds, plan: &Plan, test: Comparison, s: &State, side: bool) -> Option<Change>
+    requires operands { (test.x < 32) × IsArg test.y }
     requires values { AreValues b.now s.now.regs }
     ensures refined { option_map (λ c. state_after s.now c) result
-        ≡ state_on_side b.now plan.now cond x y s.now side }
+        ≡ state_on_side b.now plan.now test.cond test.x test.y s.now side }
     ensures values { IfSome result (λ c. AreValues b.now (state_after s.now c).regs) }
     ensures free { IfSome result (λ c. c.third ≡ no_put) }
 {
-    let v = reg_value(b, plan, s, x);
-    if is_same(x, y) {
-        return with_value(b, s, x, narrow_both(b, cond, side, &v));
+    let v = reg_value(b, plan, s, test.x);
+    if is_same(test.x, test.y) {
+        return with_value(b, s, test.x, narrow_both(b, test.cond, side, &v));
     }
-    let w = arg(b, plan, s, y);
+    let w = arg(b, plan, s, test.y);
     with_values(
         b,
         s,
-        x,
-        y,
-        narrow_left(b, cond, side, &v, &w),
-        narrow_right(b, cond, side, &v, &w),
+        test.x,
+        test.y,
+        narrow_left(b, test.cond, side, &v, &w),
+        narrow_right(b, test.cond, side, &v, &w),
     )
 }
 
@@ -289,7 +289,7 @@ pub fn change_on(b: &Bounds, plan: &Plan, shape: Shape, s: &State, side: bool) -
             y,
             lowers,
             ..
-        } => match narrow_by(b, plan, cond, x, y, s, side) {
+        } => match narrow_by(b, plan, Comparison { cond, x, y }, s, side) {
             Some(c) => Some(lower_counter(b, plan, x, lowers, s, c)),
             None => None,
         },

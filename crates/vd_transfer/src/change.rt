@@ -39,6 +39,7 @@ pub struct Change {
 }
 
 /// No value anywhere.
+#[inline(always)]
 pub(crate) fn no_value() -> Put
     ensures { result ≡ no_put }
 {
@@ -49,6 +50,7 @@ pub(crate) fn no_value() -> Put
 }
 
 /// A register's value, where a state has one for it.
+#[inline(always)]
 pub fn put_register(r: u8, v: Val) -> Put
     ensures { result ≡ reg_put r v }
 {
@@ -68,6 +70,7 @@ pub(crate) fn put_operand(y: Arg, v: Val) -> Put
     }
 }
 
+#[inline(always)]
 pub(crate) fn copy_of(locals: &ArrayVec<bool, 8>) -> ArrayVec<bool, 8>
     ensures { result ≡ locals.now }
 {
@@ -77,6 +80,7 @@ pub(crate) fn copy_of(locals: &ArrayVec<bool, 8>) -> ArrayVec<bool, 8>
 }
 
 /// The change that keeps all of a state.
+#[inline(always)]
 pub fn unchanged(s: &State) -> Change
     ensures kept { result ≡ kept_of s.now }
     ensures same { state_after s.now result ≡ s.now }
@@ -94,6 +98,7 @@ pub fn unchanged(s: &State) -> Change
 }
 
 /// Writes a register of a state; a third value may follow.
+#[inline(always)]
 pub(crate) fn write_register(b: &Bounds, s: &State, r: u8, v: Val) -> Change
     requires values { AreValues b.now s.now.regs }
     requires value { IsValue b.now v }
@@ -109,6 +114,7 @@ pub(crate) fn write_register(b: &Bounds, s: &State, r: u8, v: Val) -> Change
 }
 
 /// Writes a register last.
+#[inline(always)]
 pub(crate) fn write_last(b: &Bounds, s: &State, c: &mut Change, r: u8, v: Val)
     requires values { AreValues b.now (state_after s.now c.old).regs }
     requires free { c.old.third ≡ no_put }

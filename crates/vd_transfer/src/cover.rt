@@ -10,6 +10,7 @@ use crate::registers::{fixed, is_lower_slot, slot_of};
 use tcd_plan::Plan;
 use value_domain::{Bounds, State, Val, are_implied, covers_context, leq};
 
+#[inline(always)]
 fn is_at(put: &Put, i: usize) -> bool
     ensures { IsTrue result ↔ (put.now.at ≡ Some i) }
 {
@@ -20,6 +21,7 @@ fn is_at(put: &Put, i: usize) -> bool
 }
 
 /// The value that a change starts from at a place.
+#[inline(always)]
 fn base_value<'a>(s: &'a State, base: Base, any: &'a Val, i: usize) -> &'a Val
     requires place { i < 27 }
     requires any { any.now ≡ any_val }
@@ -34,6 +36,7 @@ fn base_value<'a>(s: &'a State, base: Base, any: &'a Val, i: usize) -> &'a Val
 }
 
 /// The value of a changed state at a place; `any` stands for each that is no more known.
+#[inline(always)]
 pub fn changed_value<'a>(s: &'a State, c: &'a Change, any: &'a Val, i: usize) -> &'a Val
     requires place { i < 27 }
     requires any { any.now ≡ any_val }

@@ -10,6 +10,7 @@ ghost use Rattle.vd_transfer.specs.Effects.{HasRoom, with_base, saved_lower, res
 ghost use Rattle.vd_transfer.specs.Changes.{state_after, no_put};
 ghost use Rattle.tc_isa.specs.Shapes.{shape_of};
 
+use crate::access::Addressing;
 use crate::change::{Base, Change, unchanged, write_last, write_register};
 use crate::cover::changed_state;
 use crate::operations::operation;
@@ -18,8 +19,24 @@ use tc_isa::{Arg, Inst, Op, Shape, shape};
 use tcd_plan::Plan;
 use value_domain::{Bounds, State, Val};
 
+/// The operands of an operation.
+#[derive(Clone, Copy)]
+struct Operands {
+    x: Arg,
+    y: Arg,
+}
+
+/// The registers of a scaled address, a base plus an index shifted left by n.
+#[derive(Clone, Copy)]
+struct ScaledAddress {
+    base: u8,
+    index: u8,
+    n: u8,
+}
+
 // What makes values stands in functions of its own, so that `change_of` has none to fill where nothing is computed.
 
+#[inline(always)]
 fn keep_all(b: &Bounds, s: &State) -> Change
     requires { AreValues b.now s.now.regs }
     ensures same { state_after s.now result ≡ s.now }
@@ -30,53 +47,55 @@ fn keep_all(b: &Bounds, s: &State) -> Change
 }
 
 #[inline(never)]
-fn compute(b: &Bounds, plan: &Plan, s: &State, op: Op, dst: u8, x: Arg, y: Arg) -> Change
-    requires operands { IsArg x × IsArg y }
+fn compute(b: &Bounds, plan: &Plan, s: &State, op: Op, dst: u8, of: Operands) -> Change
+    requires operands { IsArg of.x × IsArg of.y }
     requires values { AreValues b.now s.now.regs }
     ensures write { state_after s.now result
         ≡ write_reg s.now dst
-        (value_of b.now op (arg_of plan.now s.now x) (arg_of plan.now s.now y)) }
+        (value_of b.now op (arg_of plan.now s.now of.x) (arg_of plan.now s.now of.y)) }
     ensures values { AreValues b.now (state_after s.now result).regs }
 {
-    let v = operation(b, op, &arg(b, plan, s, x), &arg(b, plan, s, y));
+    let v = operation(b, op, &arg(b, plan, s, of.x), &arg(b, plan, s, of.y));
     write_register(b, s, dst, v)
 }
 
 #[inline(never)]
-fn scale(b: &Bounds, plan: &Plan, s: &State, dst: u8, base: u8, index: u8, n: u8) -> Change
-    requires registers { (base < 32) × (index < 32) }
+fn scale(b: &Bounds, plan: &Plan, s: &State, dst: u8, at: ScaledAddress) -> Change
+    requires registers { (at.base < 32) × (at.index < 32) }
     requires values { AreValues b.now s.now.regs }
     ensures write { state_after s.now result
         ≡ write_reg s.now dst
-        (value_of b.now Add (reg_of plan.now s.now base)
-        (value_of b.now Sh (reg_of plan.now s.now index) (word_val n))) }
+        (value_of b.now Add (reg_of plan.now s.now at.base)
+        (value_of b.now Sh (reg_of plan.now s.now at.index) (word_val at.n))) }
     ensures values { AreValues b.now (state_after s.now result).regs }
 {
     let by = operation(
         b,
         Op::Sh,
-        &reg_value(b, plan, s, index),
-        &constant(b, u32::from(n)),
+        &reg_value(b, plan, s, at.index),
+        &constant(b, u32::from(at.n)),
     );
-    let v = operation(b, Op::Add, &reg_value(b, plan, s, base), &by);
+    let v = operation(b, Op::Add, &reg_value(b, plan, s, at.base), &by);
     write_register(b, s, dst, v)
 }
 
 /// Increases the base register by the offset, where the access says so.
 #[inline(never)]
-fn increase_base(b: &Bounds, plan: &Plan, s: &State, base: Arg, offset: u32, after: bool) -> Change
-    requires base { IsArg base }
+fn increase_base(b: &Bounds, plan: &Plan, s: &State, at: Addressing) -> Change
+    requires base { IsArg at.base }
     requires values { AreValues b.now s.now.regs }
-    ensures base { state_after s.now result ≡ with_base b.now plan.now s.now base offset after }
+    ensures base { state_after s.now result
+        ≡ with_base b.now plan.now s.now at.base at.offset at.after }
     ensures values { AreValues b.now (state_after s.now result).regs }
     ensures free { result.third ≡ no_put }
 {
-    if !after {
+    if !at.after {
         return keep_all(b, s);
     }
-    match base {
+    match at.base {
         Arg::Reg(r) => {
-            let sum = operation(b, Op::Add, &reg_value(b, plan, s, r), &constant(b, offset));
+            let by = constant(b, at.offset);
+            let sum = operation(b, Op::Add, &reg_value(b, plan, s, r), &by);
             write_register(b, s, r, sum)
         }
         Arg::Word(_) => keep_all(b, s),
@@ -84,24 +103,15 @@ fn increase_base(b: &Bounds, plan: &Plan, s: &State, base: Arg, offset: u32, aft
 }
 
 #[inline(never)]
-fn load_into(
-    b: &Bounds,
-    plan: &Plan,
-    s: &State,
-    base: Arg,
-    offset: u32,
-    after: bool,
-    dst: u8,
-    v: Val,
-) -> Change
-    requires base { IsArg base }
+fn load_into(b: &Bounds, plan: &Plan, s: &State, at: Addressing, dst: u8, v: Val) -> Change
+    requires base { IsArg at.base }
     requires values { AreValues b.now s.now.regs }
     requires loaded { IsValue b.now v }
     ensures write { state_after s.now result
-        ≡ write_reg (with_base b.now plan.now s.now base offset after) dst v }
+        ≡ write_reg (with_base b.now plan.now s.now at.base at.offset at.after) dst v }
     ensures values { AreValues b.now (state_after s.now result).regs }
 {
-    let mut c = increase_base(b, plan, s, base, offset, after);
+    let mut c = increase_base(b, plan, s, at);
     write_last(b, s, &mut c, dst, v);
     c
 }
@@ -163,26 +173,26 @@ pub fn change_of(b: &Bounds, plan: &Plan, shape: Shape, s: &State, loaded: Val) 
 {
     let _most_locals = b.most_locals();
     match shape {
-        Shape::Compute { op, dst, x, y } => compute(b, plan, s, op, dst, x, y),
+        Shape::Compute { op, dst, x, y } => compute(b, plan, s, op, dst, Operands { x, y }),
         Shape::Scaled {
             dst,
             base,
             index,
             n,
-        } => scale(b, plan, s, dst, base, index, n),
+        } => scale(b, plan, s, dst, ScaledAddress { base, index, n }),
         Shape::Load {
             dst,
             base,
             offset,
             after,
             ..
-        } => load_into(b, plan, s, base, offset, after, dst, loaded),
+        } => load_into(b, plan, s, Addressing::by(base, offset, after), dst, loaded),
         Shape::Store {
             base,
             offset,
             after,
             ..
-        } => increase_base(b, plan, s, base, offset, after),
+        } => increase_base(b, plan, s, Addressing::by(base, offset, after)),
         Shape::Svlcx => save_lower(s),
         Shape::Rslcx => restore_lower(b, s),
         Shape::Bisr { c } => begin_isr(s, c),

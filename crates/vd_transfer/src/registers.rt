@@ -11,6 +11,7 @@ use value_domain::{Bounds, State, Val};
 
 /// Where a state has the value of a register.
 #[tactic(auto, unfolding(crate::specs::Registers::slot))]
+#[inline(always)]
 pub(crate) fn slot_of(r: u8) -> Option<usize>
     ensures slot { result ≡ slot r }
     ensures within { IfSome result (λ i. i < 27) }
@@ -29,6 +30,7 @@ pub(crate) fn slot_of(r: u8) -> Option<usize>
 }
 
 /// The value of a register: the state's, or the plan's for A0, A1, A8 and A9; A11 is any.
+#[inline(always)]
 pub fn reg(plan: &Plan, s: &State, r: u8) -> Val
     requires { r < 32 }
     ensures { result ≡ reg_of plan.now s.now r }
@@ -39,6 +41,7 @@ pub fn reg(plan: &Plan, s: &State, r: u8) -> Val
     }
 }
 
+#[inline(always)]
 pub(crate) fn fixed(plan: &Plan, r: u8) -> Val
     ensures { result ≡ fixed_of plan.now r }
 {
@@ -58,6 +61,7 @@ pub(crate) fn fixed(plan: &Plan, r: u8) -> Val
 }
 
 /// The value of a register, which is one of the plan and the version.
+#[inline(always)]
 pub(crate) fn reg_value(b: &Bounds, plan: &Plan, s: &State, r: u8) -> Val
     requires register { r < 32 }
     requires values { AreValues b.now s.now.regs }
@@ -70,6 +74,7 @@ pub(crate) fn reg_value(b: &Bounds, plan: &Plan, s: &State, r: u8) -> Val
 }
 
 /// A constant.
+#[inline(always)]
 pub(crate) fn constant(b: &Bounds, w: u32) -> Val
     ensures word { result ≡ word_val w }
     ensures value { IsValue b.now result }
@@ -79,6 +84,7 @@ pub(crate) fn constant(b: &Bounds, w: u32) -> Val
 }
 
 /// The value of an operand.
+#[inline(always)]
 pub(crate) fn arg(b: &Bounds, plan: &Plan, s: &State, a: Arg) -> Val
     requires operand { IsArg a }
     requires values { AreValues b.now s.now.regs }
@@ -103,6 +109,7 @@ pub(crate) fn is_lower_slot(i: usize) -> bool
     i < 8 || 16 <= i && i < 22
 }
 
+#[inline(always)]
 pub(crate) fn any(b: &Bounds) -> Val
     ensures any { result ≡ any_val }
     ensures value { IsValue b.now result }

@@ -1,0 +1,32 @@
+-- Addresses and values grow with the state.
+use Rattle.std.proofs.Common.{◌≡◌, ℕ, ◌^◌, ◌<◌, Bool, true, false, Option, Some, None, refl, arith}
+use Rattle.tcd_plan.specs.PlanData.{PlanData}
+use Rattle.tc_isa.specs.declared.shapes.Arg.{Arg}
+use Rattle.tc_isa.specs.declared.shapes.Arg.TheVariants.{Reg, Word}
+use Rattle.tc_isa.specs.declared.shapes.Op.TheVariants.{Add}
+use Rattle.tc_isa.specs.Bounded.{IsArg}
+use Rattle.value_domain.specs.declared.states.State.{State}
+use Rattle.value_domain.specs.Limits.{Limits}
+use Rattle.value_domain.specs.Values.{IsBelow}
+use Rattle.value_domain.specs.State.{Covers}
+use Rattle.vd_transfer.specs.Registers.{slot, arg_of, value_at}
+use Rattle.vd_transfer.specs.Effects.{access_of}
+use Rattle.vd_transfer.specs.Soundness.{IsSetting}
+use Rattle.vd_transfer.proofs.SlotLaws.{slot_is}
+use Rattle.vd_transfer.proofs.HoldLaws.{arg_value}
+use Rattle.vd_transfer.proofs.OpLaws.{monotone}
+
+module _ (b : Limits) (p : PlanData) (s t : State) (low : IsSetting b p s) (high : IsSetting b p t) (c : Covers t s) where
+  pub value_grows : (r : ℕ) (o : Option ℕ) → slot r ≡ o → IsBelow (value_at p s r o) (value_at p t r o)
+  value_grows r None e = λ x m. m
+  value_grows r (Some i) e = c.regs i (let within = (slot_is r i e).within in let all = low.regs in omega arith)
+
+  pub arg_grows : (y : Arg) → IsBelow (arg_of p s y) (arg_of p t y)
+  arg_grows (Reg r) = value_grows r (slot r) refl
+  arg_grows (Word w) = λ x m. m
+
+  pub access_grows : (base : Arg) (offset : ℕ) (after : Bool) → IsArg base → offset < 2 ^ 32 → IsBelow (access_of b p s base offset after) (access_of b p t base offset after)
+  access_grows base offset true is small = arg_grows base
+  access_grows base offset false is small =
+      monotone b Add (arg_of p s base) (arg_of p s (Word offset)) (arg_of p t base) (arg_of p t (Word offset)) low.limits (arg_value b p s base low is) (arg_value b p s (Word offset) low small) (arg_value b p t base high is)
+      (arg_value b p t (Word offset) high small) (arg_grows base) (λ x m. m)

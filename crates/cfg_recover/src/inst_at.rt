@@ -1,0 +1,10 @@
+// An instruction where it stands.
+use tc_isa::Inst;
+
+/// The instruction at an address, and its size in bytes.
+#[derive(Clone, Copy)]
+pub(crate) struct InstAt<'a> {
+    pub(crate) addr: u32,
+    pub(crate) inst: &'a Inst,
+    pub(crate) size: u32,
+}
