@@ -74,7 +74,7 @@ module _ (b : Limits) (image : ImageData) (plan : PlanData) (laws : AreLawful b 
   the_marks = record {
     each = λ q.
         elim (woken.each (spot_of q)) [
-          | inl l ↦ inl (ap is_queued l, ap is_idle l)
+          | inl l ↦ inl (ap is_queued l.0, ap is_idle l.0)
           | inr r ↦ inr (ap is_idle r.0, ap is_queued r.0, sym (test q) ∙ r.1, (λ h. r.2 (subst (λ (z : Spot). Reads (get spot_eq s.readers z) (spot_of q)) (forth y) h)))
         ];
     reads = λ z x h. subst (λ m. Reads (get spot_eq m (spot_of z)) (spot_of x)) (sym readers) h;
@@ -86,7 +86,7 @@ module _ (b : Limits) (image : ImageData) (plan : PlanData) (laws : AreLawful b 
   the_marked : (q : Spot) (w : Known) → get spot_eq t.cells q ≡ Some w → IsSome (get spot_eq t.marks q)
   the_marked q w at =
       elim (woken.each q) [
-        | inl l ↦ subst (λ (o : Option Mark). IsSome o) (sym l) refl
+        | inl l ↦ subst (λ (o : Option Mark). IsSome o) (sym l.0) refl
         | inr r ↦ subst (λ (o : Option Mark). IsSome o) (sym r.0) (fine.marked q w (sym (not_same q r.1) ∙ at))
       ]
 
@@ -112,13 +112,13 @@ module _ (b : Limits) (image : ImageData) (plan : PlanData) (laws : AreLawful b 
   the_keeping = record {
     each = λ x free.
         elim (woken.each x) [
-          | inl l ↦ (let no : true ≡ false = sym (ap is_queued l) ∙ free in cc)
+          | inl l ↦ (let no : true ≡ false = sym (ap is_queued l.0) ∙ free in cc)
           | inr r ↦ (r.0, not_same x r.1)
         ];
     readers = λ z x h. subst (λ m. Reads (get spot_eq m z) x) (sym readers) h;
     read = λ z x h free.
         elim (woken.each x) [
-          | inl l ↦ (let no : true ≡ false = sym (ap is_queued l) ∙ free in cc)
+          | inl l ↦ (let no : true ≡ false = sym (ap is_queued l.0) ∙ free in cc)
           | inr r ↦ read_case z x h r.2 (spot_eq y z) refl
         ];
     settled = λ k p w d free ps pd h. settled_stays b image plan laws (seen s) (seen t) (place_of y) fine.table the_joining the_marks k p w d free ps pd h;

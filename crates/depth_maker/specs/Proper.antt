@@ -17,7 +17,7 @@ use Rattle.cfg_recover.specs.Assignments.{Place, point, Assignment}
 use Rattle.depth_cert.specs.Known.{Known, state, CoversKnown, joined_known, IsProper, IsProperExit, IsProperKnown}
 use Rattle.depth_maker.specs.Growth.{IsProperDuty, IsOwedBelow}
 
--- all that an assignment knows is
+-- all that an assignment knows is of the plan and the version
 abbrev pub AllProper : Limits → Assignment → Type 0
 AllProper b a = (y : Place) (v : Known) → a y ≡ Some v → IsProperKnown b v
 

@@ -35,9 +35,9 @@ pub Touched-push : {S : Type 0} (a b c : IndexMap Spot Mark S) (ps : List Spot) 
 Touched-push a b c ps x t is = record {
   each = λ q.
       elim (sides (spot_eq x q) (Some Queued) (get spot_eq b q) (get spot_eq c q) (is q)) [
-        | inl l ↦ inl l.1
+        | inl l ↦ inl (l.1, subst (λ (k : Spot). Contains (ps ++ x ∷ []) k) (spot_tells x q l.0) (Contains-push ps x))
         | inr r ↦ elim (t.each q) [
-          | inl u ↦ inl (r.1 ∙ u)
+          | inl u ↦ inl (r.1 ∙ u.0, Contains-append_left ps (x ∷ []) q u.1)
           | inr u ↦ inr (
             r.1 ∙ u.0,
             (λ has. elim (Contains-push_cases ps x q has) [
@@ -55,7 +55,7 @@ pub Woken-none : {S R : Type 0} (a b : IndexMap Spot Mark S) (readers : IndexMap
 Woken-none a b readers y is none = record {
   each = λ q.
       elim (sides (spot_eq y q) (Some Queued) (get spot_eq a q) (get spot_eq b q) (is q)) [
-        | inl l ↦ inl l.1
+        | inl l ↦ inl (l.1, inl l.0)
         | inr r ↦ inr (r.1, r.0, (λ h. subst (λ (o : Option (Vec Spot Global)). Reads o q) none h))
       ];
 }
@@ -65,9 +65,9 @@ pub Woken-some : {S R : Type 0} (a b c : IndexMap Spot Mark S) (readers : IndexM
 Woken-some a b c readers y ps is at t = record {
   each = λ q.
       elim (t.each q) [
-        | inl u ↦ inl u
+        | inl u ↦ inl (u.0, inr (subst (λ (o : Option (Vec Spot Global)). Reads o q) (sym at) u.1))
         | inr u ↦ elim (sides (spot_eq y q) (Some Queued) (get spot_eq a q) (get spot_eq b q) (is q)) [
-          | inl l ↦ inl (u.0 ∙ l.1)
+          | inl l ↦ inl (u.0 ∙ l.1, inl l.0)
           | inr r ↦ inr (u.0 ∙ r.1, r.0, (λ h. u.1 (subst (λ (o : Option (Vec Spot Global)). Reads o q) at h)))
         ]
       ];

@@ -1,5 +1,5 @@
--- What a place is hashed by: places that are equal have one number.
-use Rattle.std.specs.Prelude.{◌≡◌, ℕ, Bool, refl, true, false, ◌&&◌, nat_eq}
+-- What a place is hashed by: places that are equal have one word of eight bytes.
+use Rattle.std.specs.Prelude.{◌≡◌, ◌+◌, ◌*◌, ◌^◌, ◌%◌, ℕ, Bool, refl, true, false, ◌&&◌, nat_eq}
 use Rattle.std.specs.Hash as fed
 use Rattle.std.proofs.Common.{ap}
 use Rattle.std.proofs.Math.Bool.{beq}
@@ -7,7 +7,8 @@ use Rattle.std.proofs.lemmas.Bool.{eqb-true}
 use Rattle.depth_cert.specs.declared.keys.Key.{Key}
 use Rattle.frame_places.specs.declared.places.Spot.{Spot}
 use Rattle.frame_places.specs.declared.places.Spot.TheVariants.{Point, Exit}
-use Rattle.frame_places.specs.Spots.{spot_eq, spot_number}
+use Rattle.depth_cert.specs.Keys.{number_of_key}
+use Rattle.frame_places.specs.Spots.{spot_eq}
 
 both : (a b : Bool) → (a && b) ≡ true → (a ≡ true) × (b ≡ true)
 both true b e = (refl, e)
@@ -39,6 +40,11 @@ spot_tells (Point f p) (Exit g) e = cc
 spot_tells (Exit f) (Point g q) e = cc
 spot_tells (Exit f) (Exit g) e = ap Exit (keys_tell f g e)
 
+-- the low four bytes of the frame's number, then the address
+abbrev pub word_of : Spot → ℕ
+word_of (Point k p) = number_of_key k % 2 ^ 32 * 2 ^ 32 + p
+word_of (Exit k) = number_of_key k % 2 ^ 32 * 2 ^ 32
+
 -- places that are equal are hashed alike
-pub hashed_alike : (x y : Spot) → spot_eq x y ≡ true → fed.u128 (spot_number x) ≡ fed.u128 (spot_number y)
-hashed_alike x y e = ap (λ (z : Spot). fed.u128 (spot_number z)) (spot_tells x y e)
+pub hashed_alike : (x y : Spot) → spot_eq x y ≡ true → fed.u64 (word_of x) ≡ fed.u64 (word_of y)
+hashed_alike x y e = ap (λ (z : Spot). fed.u64 (word_of z)) (spot_tells x y e)

@@ -14,7 +14,7 @@ pub record AllListed {S : Type 0} (marks : IndexMap Spot Mark S) (work : List Sp
 
 -- these have work now, and the others' marks stay
 pub record Touched {S : Type 0} (old new : IndexMap Spot Mark S) (places : List Spot) : Type 0 where
-  pub each : (q : Spot) → (get spot_eq new q ≡ Some Queued) ⊎ ((get spot_eq new q ≡ get spot_eq old q) × (Contains places q → ⊥))
+  pub each : (q : Spot) → ((get spot_eq new q ≡ Some Queued) × Contains places q) ⊎ ((get spot_eq new q ≡ get spot_eq old q) × (Contains places q → ⊥))
 
 -- a place is marked as having no work
 abbrev pub is_idle : Option Mark → Bool
@@ -35,6 +35,16 @@ abbrev pub Reads : Option (Vec Spot Global) → Spot → Type 0
 Reads None x = ⊥
 Reads (Some ps) x = Contains ps.items x
 
+-- a place has work when y rises: y itself, and what is told of it
+abbrev pub IsTold : Spot → Option (Vec Spot Global) → Spot → Type 0
+IsTold y told q = (spot_eq y q ≡ true) ⊎ Reads told q
+
 -- y and all that read it have work, and the other marks stay
 pub record Woken {S : Type 0} {R : Type 0} (old new : IndexMap Spot Mark S) (readers : IndexMap Spot (Vec Spot Global) R) (y : Spot) : Type 0 where
-  pub each : (q : Spot) → (get spot_eq new q ≡ Some Queued) ⊎ ((get spot_eq new q ≡ get spot_eq old q) × (spot_eq y q ≡ false) × (Reads (get spot_eq readers y) q → ⊥))
+  pub each : (q : Spot) → ((get spot_eq new q ≡ Some Queued) × IsTold y (get spot_eq readers y) q) ⊎ ((get spot_eq new q ≡ get spot_eq old q) × (spot_eq y q ≡ false) × (Reads (get spot_eq readers y) q → ⊥))
+
+-- x is told of z too, and nobody else of anything else
+pub record Registered {R : Type 0} (old new : IndexMap Spot (Vec Spot Global) R) (z x : Spot) : Type 0 where
+  pub kept : (p q : Spot) → Reads (get spot_eq old p) q → Reads (get spot_eq new p) q
+  pub there : Reads (get spot_eq new z) x
+  pub alone : (p q : Spot) → Reads (get spot_eq new p) q → Reads (get spot_eq old p) q ⊎ ((spot_eq z p ≡ true) × (q ≡ x))

@@ -23,11 +23,10 @@ pub fn touch(
         ≡ (if spot_eq x q then Some Queued else get spot_eq marks.old q)) }
     ensures work { OnOk result (AllListed marks.new work.new.items) }
 {
-    if let Some(Mark::Queued) = marks.get(&x) {
+    if let Some(Mark::Queued) = marks.insert(x, Mark::Queued)? {
         return Ok(());
     }
     work.push_back(x)?;
-    marks.insert(x, Mark::Queued)?;
     Ok(())
 }
 

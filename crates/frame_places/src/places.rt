@@ -2,6 +2,7 @@
 ghost use Rattle.std.specs.Prelude.{◌≡◌};
 ghost use Rattle.std.specs.Hash as fed;
 ghost use Rattle.frame_places.specs.Spots.{spot_number};
+ghost use Rattle.frame_places.specs.Hashed.{word_of};
 
 use depth_cert::{Key, number_of};
 use std::hash::{Hash, Hasher};
@@ -18,6 +19,7 @@ pub enum Spot {
 
 impl Spot {
     /// The place's number, which orders places.
+    #[inline(always)]
     pub(crate) fn number(&self) -> u128
         ensures { result ≡ spot_number self.now }
     {
@@ -26,19 +28,30 @@ impl Spot {
             Spot::Exit(key) => u128::from(number_of(key)) * ADDRESSES,
         }
     }
+
+    /// What the place is hashed by: its address, and of its frame's number the low four bytes.
+    #[inline(always)]
+    fn word(&self) -> u64
+        ensures { result ≡ word_of self.now }
+    {
+        match self {
+            Spot::Point(key, addr) => number_of(key) % 4_294_967_296 * 4_294_967_296
+                + u64::from(*addr),
+            Spot::Exit(key) => number_of(key) % 4_294_967_296 * 4_294_967_296,
+        }
+    }
 }
 
-/// By one write, of the number.
+/// By one write of eight bytes.
 impl Hash for Spot {
-    ghost use Rattle.frame_places.specs.Spots.{spot_number};
-    ghost use Rattle.frame_places.specs.Hashed.{hashed_alike};
+    ghost use Rattle.frame_places.specs.Hashed.{hashed_alike, word_of};
 
-    ghost hash_input = { λ x. fed.u128 (spot_number x) };
+    ghost hash_input = { λ x. fed.u64 (word_of x) };
 
     ghost respects_eq = { λ x y e. hashed_alike x y e };
 
     fn hash<H: Hasher>(&self, state: &mut H) {
-        state.write_u128(self.number());
+        state.write_u64(self.word());
     }
 }
 

@@ -1,10 +1,11 @@
 -- What is kept at a place, as what is known there, and what duties ask for.
-use Rattle.std.specs.Prelude.{◌≡◌, Bool, true, false, List, if◌then◌else◌}
+use Rattle.std.specs.Prelude.{◌≡◌, ◌<◌, ◌^◌, ◌++◌, ℕ, Bool, true, false, List, length, if◌then◌else◌}
 use Rattle.value_domain.specs.declared.values.Val.{Val}
 use Rattle.value_domain.specs.declared.states.State.{State}
 use Rattle.vd_transfer.specs.Changes.{state_after}
 use Rattle.depth_cert.specs.declared.points.Exit.{Exit}
 use Rattle.depth_cert.specs.Exits.{after_of, exit_of, lower_values}
+use Rattle.depth_cert.specs.Spelling.{bytes_of_state}
 use Rattle.depth_cert.specs.Known.{Known, state, leaving}
 use Rattle.small_states.specs.declared.cells.Kept.{Kept}
 use Rattle.small_states.specs.declared.cells.Kept.TheVariants.{Point, Leaves}
@@ -57,3 +58,13 @@ exit_with values k = record { ie = k.ie; ccpn = k.ccpn; lower = values }
 -- what a duty asks for, by its values and its context
 abbrev pub known_by : Asked → Context → Known
 known_by asked k = if is_exit asked then leaving (exit_with (values_asked asked) k) else state (state_with (values_asked asked) k)
+
+-- a state with so many locals in which interrupts are off
+abbrev pub IsQuiet : Known → ℕ → Type 0
+IsQuiet (state s) count = (s.ie ≡ false) × (length s.locals.items ≡ count)
+IsQuiet (leaving x) count = ⊥
+
+-- the state that is known was added to the bytes, and its CCPN is a byte; nothing is said where it is an exit
+abbrev pub AddsState : Known → List ℕ → List ℕ → Type 0
+AddsState (state s) old new = (new ≡ old ++ bytes_of_state s) × (s.ccpn < 2 ^ 8)
+AddsState (leaving x) old new = Unit {0}

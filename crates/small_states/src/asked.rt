@@ -31,6 +31,7 @@ pub(crate) struct Context<'a> {
 }
 
 /// The priority of what is asked for.
+#[inline(always)]
 pub fn priority(asked: &Asked) -> u8
     ensures { result ≡ priority_of (asked_for asked.now) }
 {
@@ -42,6 +43,7 @@ pub fn priority(asked: &Asked) -> u8
 }
 
 /// Whether an exit is asked for.
+#[inline(always)]
 pub(crate) fn is_leaving(asked: &Asked) -> bool
     ensures { result ≡ is_exit asked.now }
 {
@@ -111,6 +113,7 @@ fn lower_count(s: &State) -> usize
 }
 
 /// The value of a place after a frame came back: the exit's for a lower register, else the one that it had.
+#[inline(always)]
 fn restored<'a>(i: usize, lower: &'a [Val; 14], v: &'a Val) -> &'a Val
     ensures { result.now
         ≡ (if states.is_lower_slot i
@@ -126,6 +129,7 @@ fn restored<'a>(i: usize, lower: &'a [Val; 14], v: &'a Val) -> &'a Val
 }
 
 /// The value after a frame came back by an exit.
+#[inline(always)]
 fn value_after<'a>(s: &'a State, exit: &'a Exit, i: usize) -> &'a Val
     requires { i < 27 }
     ensures { result.now ≡ slice_index_or (with_lower_from 0 exit.now.lower s.now.regs) i any_val }
@@ -135,6 +139,7 @@ fn value_after<'a>(s: &'a State, exit: &'a Exit, i: usize) -> &'a Val
 }
 
 /// The value of a lower register.
+#[inline(always)]
 fn lower_value(s: &State, i: usize) -> &Val
     requires { i < 14 }
     ensures { result.now ≡ slice_index_or (lower_values s.now.regs) i any_val }
@@ -144,6 +149,7 @@ fn lower_value(s: &State, i: usize) -> &Val
 }
 
 /// The value that is asked for at a place; `any` stands for each of which nothing is known.
+#[inline(always)]
 pub(crate) fn asked_value<'a>(asked: &'a Asked, any: &'a Val, i: usize) -> &'a Val
     requires place { i < length (values_asked asked.now) }
     requires any { any.now ≡ any_val }

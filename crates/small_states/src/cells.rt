@@ -1,11 +1,11 @@
 // What is known at a place.
-ghost use Rattle.std.specs.Prelude.{◌≡◌, ◌↔◌, IsTrue, IfOk, Some, length};
+ghost use Rattle.std.specs.Prelude.{◌≡◌, ◌↔◌, IsTrue, IfOk, IfSome, OnOk, Some, length};
 ghost use Rattle.std.specs.Option.{option_map};
 ghost use Rattle.value_domain.specs.State.{AreValues, AreWell, Covers, joined_states};
 ghost use Rattle.small_states.specs.Wholes.{exit_in, state_in};
 ghost use Rattle.depth_cert.specs.Exits.{ExitCovers};
 ghost use Rattle.depth_cert.specs.Known.{CoversKnown, joined_exit, joined_known, state, leaving, IsProperKnown};
-ghost use Rattle.small_states.specs.Kept.{IsExitAt, IsStateAt, asked_for, exit_with, known_of, state_with, values_asked};
+ghost use Rattle.small_states.specs.Kept.{AddsState, IsExitAt, IsQuiet, IsStateAt, asked_for, exit_with, known_of, state_with, values_asked};
 
 use crate::asked::{Asked, Context, context_of, is_leaving};
 use crate::values::{are_covered, joined, packed};
@@ -13,6 +13,7 @@ use crate::{Small, SmallExit, SmallState, copy_of, join_locals};
 use depth_cert::Exit;
 use std::alloc::{AllocError, Global};
 use std::marker::Model;
+use tcd_base::NoMemory;
 use value_domain::{Bounds, State, Val, are_implied};
 
 /// A state at a point, or the exit of a frame.
@@ -215,6 +216,22 @@ impl Cell {
         }
     }
 
+    /// How many locals a state has in which interrupts are off; `None` where they may be on, and of an exit.
+    pub fn quiet_locals(&self) -> Option<u8>
+        ensures { IfSome result (IsQuiet self.now) }
+    {
+        match &self.kept {
+            Kept::Point(s) => {
+                if s.ie {
+                    None
+                } else {
+                    Some(s.locals.len() as u8)
+                }
+            }
+            Kept::Leaves(_) => None,
+        }
+    }
+
     /// Writes the state over another.
     pub fn read_state(&self, _b: &Bounds, into: &mut State)
         requires { IsProperKnown _b.now self.now }
@@ -222,6 +239,20 @@ impl Cell {
     {
         if let Kept::Point(s) = &self.kept {
             s.write(into);
+        }
+    }
+
+    /// Adds the bytes that spell the state to `out`.
+    pub fn spell_state(&self, _b: &Bounds, out: &mut Vec<u8>) -> Result<(), NoMemory>
+        requires { IsProperKnown _b.now self.now }
+        ensures { OnOk result (AddsState self.now out.old.items out.new.items) }
+    {
+        match &self.kept {
+            Kept::Point(s) => {
+                let _ccpn = s.ccpn;
+                s.spell(out)
+            }
+            Kept::Leaves(_) => Ok(()),
         }
     }
 

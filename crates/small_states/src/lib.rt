@@ -4,6 +4,7 @@
 mod asked;
 mod cells;
 mod small;
+mod spelling;
 mod states;
 mod values;
 

@@ -1,12 +1,16 @@
 // A value in little room.
-ghost use Rattle.std.specs.Prelude.{◌≡◌, ◌↔◌, IsTrue, IfOk, IfSome, ◌∷◌, []};
+ghost use Rattle.std.specs.Prelude.{◌≡◌, ◌↔◌, IsTrue, IfOk, IfSome, OnOk, ◌∷◌, ◌++◌, []};
+ghost use Rattle.depth_cert.specs.Spelling.{bytes_of_value};
 ghost use Rattle.value_domain.specs.declared.values.Val.TheVariants.{Set, Span};
 ghost use Rattle.value_domain.specs.Values.{IsWell, IsValue, IsBelow, IsMember, any_val};
 ghost use Rattle.value_domain.specs.State.{join_of};
 ghost use Rattle.small_states.specs.Forms.{val_of};
 
+use crate::spelling::{put_any, put_one};
+use depth_cert::write_value;
 use std::alloc::{AllocError, Global};
 use std::marker::Model;
+use tcd_base::NoMemory;
 use value_domain::{Bounds, Val, Words, alignment_log2, join, leq};
 
 /// All words, one word, more words, or another range.
@@ -33,6 +37,7 @@ impl Model for Small {
     ghost view = { λ s. val_of s.form };
 }
 
+#[inline(always)]
 fn is_one(words: &Words, x: u32) -> bool
     ensures { IsTrue result → words.now ≡ x ∷ [] }
 {
@@ -43,6 +48,7 @@ fn is_one(words: &Words, x: u32) -> bool
     all[0] == x
 }
 
+#[inline(always)]
 fn is_the_range(v: &Val, lo: u32, last: u32, step: u8) -> bool
     ensures { IsTrue result → v.now ≡ Span lo last step }
 {
@@ -65,6 +71,7 @@ fn are_the_words(v: &Val, words: &Words) -> bool
     }
 }
 
+#[inline(always)]
 fn is_the_word(v: &Val, x: u32) -> bool
     ensures { IsTrue result → v.now ≡ Set (x ∷ []) }
 {
@@ -75,6 +82,7 @@ fn is_the_word(v: &Val, x: u32) -> bool
 }
 
 /// The word of a value that has no other.
+#[inline(always)]
 fn only_word(v: &Val) -> Option<u32>
     ensures { IfSome result (λ x. v.now ≡ Set (x ∷ [])) }
 {
@@ -88,6 +96,7 @@ fn only_word(v: &Val) -> Option<u32>
 }
 
 /// A range in the form in which it is kept: all words have one of their own, which is told at once.
+#[inline(always)]
 fn form_of(lo: u32, last: u32, step: u8) -> Form
     ensures { val_of result ≡ Span lo last step }
 {
@@ -109,6 +118,7 @@ impl Small {
     }
 
     /// The words of a set.
+    #[inline(always)]
     fn of_words(alloc: Global, words: &Words) -> Result<Small, AllocError>
         ensures { IfOk result (λ s. s ≡ Set words.now) }
     {
@@ -121,6 +131,7 @@ impl Small {
     }
 
     /// A value.
+    #[inline(always)]
     pub fn of(alloc: Global, v: &Val) -> Result<Small, AllocError>
         ensures { IfOk result (λ s. s ≡ v.now) }
     {
@@ -151,6 +162,7 @@ impl Small {
     }
 
     /// Whether it holds all words.
+    #[inline(always)]
     pub fn is_any(&self) -> bool
         ensures { IsTrue result ↔ (self.now ≡ any_val) }
     {
@@ -163,6 +175,7 @@ impl Small {
     }
 
     /// Whether it is seen at once to be this value.
+    #[inline(always)]
     fn is_same(&self, v: &Val) -> bool
         ensures { IsTrue result → v.now ≡ self.now }
     {
@@ -183,6 +196,7 @@ impl Small {
     }
 
     /// Writes the value over another, unless it stands there already.
+    #[inline(always)]
     pub fn write(&self, out: &mut Val)
         ensures { out.new ≡ self.now }
     {
@@ -191,7 +205,31 @@ impl Small {
         }
     }
 
+    /// Adds the value's one spelling to `out`, by the whole value.
+    #[inline(never)]
+    fn spell_whole(&self, out: &mut Vec<u8>) -> Result<(), NoMemory>
+        requires { IsWell self.now }
+        ensures { OnOk result (out.new.items ≡ out.old.items ++ bytes_of_value self.now) }
+    {
+        write_value(out, &self.value())
+    }
+
+    /// Adds the value's one spelling to `out`.
+    #[inline(always)]
+    pub(crate) fn spell(&self, out: &mut Vec<u8>) -> Result<(), NoMemory>
+        requires { IsWell self.now }
+        ensures { OnOk result (out.new.items ≡ out.old.items ++ bytes_of_value self.now) }
+    {
+        match &self.form {
+            Form::Any => put_any(out),
+            Form::One(x) => put_one(out, *x),
+            Form::Many(_) => self.spell_whole(out),
+            Form::Range { .. } => self.spell_whole(out),
+        }
+    }
+
     /// Whether a word is one of its own.
+    #[inline(always)]
     fn has(&self, x: u32) -> bool
         ensures { IsTrue result ↔ IsMember x self.now }
     {
@@ -216,6 +254,7 @@ impl Small {
     }
 
     /// Whether each member of a value is one of its own.
+    #[inline(always)]
     pub fn covers(&self, v: &Val) -> bool
         requires own { IsWell self.now }
         requires value { IsWell v.now }

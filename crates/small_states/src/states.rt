@@ -56,6 +56,7 @@ pub fn join_locals(s: &[bool], t: &[bool]) -> ArrayVec<bool, 8>
 }
 
 /// Writes values over others.
+#[inline(always)]
 fn write_values<const N: usize>(values: &[Small], out: &mut [Val; N])
     requires { length values.now ≡ N }
     ensures { out.new ≡ values.now }

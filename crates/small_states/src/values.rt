@@ -24,6 +24,7 @@ pub(crate) fn packed(alloc: Global, asked: &Asked) -> Result<Vec<Small>, AllocEr
 }
 
 /// Whether a value covers the one that is asked for at a place, which isn't looked up where it holds all words.
+#[inline(always)]
 fn covers_at(upper: &Small, asked: &Asked, any: &Val, i: usize) -> bool
     requires upper { IsWell upper.now }
     requires asked { AreWell (values_asked asked.now) }
