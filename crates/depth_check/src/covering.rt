@@ -1,5 +1,5 @@
 // Whether points and exits cover.
-ghost use Rattle.std.specs.Prelude.{◌≡◌, ◌≤◌, ◌↔◌, IsTrue, IfSome, length, All};
+ghost use Rattle.std.specs.Prelude.{◌≡◌, ◌≤◌, ◌↔◌, IsTrue, IfSome, Some, length, All};
 ghost use Rattle.value_domain.specs.State.{AreWell, AreBelow, AreValues};
 ghost use Rattle.vd_transfer.specs.Changes.{state_after};
 ghost use Rattle.depth_cert.specs.Exits.{after_of, exit_of, lower_values, ExitCovers};
@@ -95,6 +95,28 @@ pub(crate) fn has_point(node: &Frame<'_>, addr: u32, s: &State) -> bool
         NodeForm::Packed(node) => packed_has_point(node, 0, addr, s),
         NodeForm::Near(node, near) => packed_has_point(node, *near, addr, s),
     }
+}
+
+fn is_known(known: Option<u32>, addr: u32) -> bool
+    ensures { IsTrue result → known ≡ Some addr }
+{
+    match known {
+        Some(at) => at == addr,
+        None => false,
+    }
+}
+
+/// Whether the node has a point at this address that covers the state; it has one at the address that is known.
+pub(crate) fn has_next(node: &Frame<'_>, addr: u32, s: &State, known: Option<u32>) -> bool
+    requires node { IsWellNode node.now }
+    requires state { AreWell s.now.regs }
+    requires known { IfSome known (λ a. HasPoint node.now a s.now) }
+    ensures { IsTrue result ↔ HasPoint node.now addr s.now }
+{
+    if is_known(known, addr) {
+        return true;
+    }
+    has_point(node, addr, s)
 }
 
 /// Whether the node has a point at this address that covers the changed state.

@@ -15,6 +15,7 @@ ghost use Rattle.cfg_recover.specs.Flows as flows;
 ghost use Rattle.cfg_recover.specs.Flows.{told_back, told_irqs};
 ghost use Rattle.depth_check.specs.Finding.{IsWellNode, Finds, DutiesHold, GoesOn, LeavingHolds};
 ghost use Rattle.depth_check.specs.Finding as finding;
+ghost use Rattle.cfg_recover.specs.Accepting.{HasPoint};
 ghost use Rattle.depth_check.specs.Asking.{InterruptsHold};
 
 use crate::any_certs::AnyCert;
@@ -124,6 +125,7 @@ fn broken_by_calls(
 }
 
 /// The least rule broken by a call.
+#[inline(never)]
 fn broken_by_call(
     b: &Bounds,
     plan: &Plan,
@@ -149,6 +151,7 @@ fn broken_by_call(
 }
 
 /// The least rule broken by the system call `tin`.
+#[inline(never)]
 fn broken_by_system(
     b: &Bounds,
     plan: &Plan,
@@ -197,6 +200,7 @@ fn broken_by_entries(
 }
 
 /// The least rule broken by the entry of the handler of misaligned accesses, where one of these addresses may be so.
+#[inline(never)]
 fn broken_by_misaligned(
     b: &Bounds,
     plan: &Plan,
@@ -349,12 +353,13 @@ pub(crate) fn broken_by_duties(
     requires found { StandsFaultless b.now image.now plan.now node.now.key point.addr point.state.now found.now }
     requires again { IsTrue point.again
         → InterruptsHold plan.now cert.now node.now point.state.now }
+    requires next { IfSome point.next (λ a. HasPoint node.now a point.state.now) }
     ensures { Finds (DutiesHold cert.now node.now point.entry.state.now
         (duties_of b.now image.now plan.now node.now.key point.entry.addr point.entry.state.now found.now.shape found.now.size)) result }
 {
     let addr = point.addr;
     let s = point.state;
-    let jumps = broken_by_successors(b, image, plan, node, addr, s, found);
+    let jumps = broken_by_successors(b, image, plan, node, point, found);
     let entered = broken_by_entries(b, plan, cert, node, addr, s, found.shape, found.size);
     let misaligned = broken_by_access(b, plan, cert, node, s, found.shape, &found.at);
     let irqs = broken_by_interrupts(b, plan, cert, node, s, point.again);

@@ -6,13 +6,16 @@ use packed_cert::PackedNode;
 use std::marker::Model;
 use value_domain::State;
 
-/// The point at hand: its address, the state before its instruction, and whether the entries of interrupts were asked for
-/// already with what they depend on there.
+/// The point at hand: its address, the state before its instruction, whether the entries of interrupts were asked for already
+/// with what they depend on there, whether its values are known to be the plan's, and an address at which the node is known
+/// to have a point that covers the state.
 #[derive(Clone, Copy)]
 pub(crate) struct Here<'a> {
     pub(crate) addr: u32,
     pub(crate) state: &'a State,
     pub(crate) again: bool,
+    pub(crate) known: bool,
+    pub(crate) next: Option<u32>,
 }
 
 /// Where the node lies.

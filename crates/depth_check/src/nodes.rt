@@ -1,5 +1,5 @@
 // The first fault of a node.
-ghost use Rattle.std.specs.Prelude.{◌≡◌, ◌<◌, ◌^◌, ◌↔◌, IsTrue, All, Contains, MatchOption};
+ghost use Rattle.std.specs.Prelude.{◌≡◌, ◌<◌, ◌^◌, ◌↔◌, IsTrue, IsSome, All, Contains, MatchOption};
 ghost use Rattle.cfg_recover.specs.Accepting.{limits_in, HoldsAtEntry, HoldsAtNode};
 ghost use Rattle.depth_check.specs.Finding.{IsWellNode};
 ghost use Rattle.depth_check.specs.NodeFaults as nodes;
@@ -14,7 +14,7 @@ use depth_cert::Node;
 use elf_image::Image;
 use packed_cert::PackedNode;
 use tcd_plan::Plan;
-use value_domain::Bounds;
+use value_domain::{Bounds, State};
 
 /// A rule that fails in a node, and the address of its place.
 #[derive(Clone, Copy)]
@@ -98,6 +98,8 @@ fn plain_fault(
             addr: point.addr,
             state: &point.state,
             again: false,
+            known: false,
+            next: None,
         };
         let found = broken_by_point(b, image, plan, cert, frame, here);
         if let Some(fault) = first_of(good, entry, point.addr, found) {
@@ -112,8 +114,25 @@ fn is_word(addr: u32)
     ensures { addr < 2 ^ 32 }
 {}
 
-/// The same of a node on bytes: behind each point the next one is tried first, and the entries of interrupts are asked for
-/// where they depend on something else than at the point before.
+/// Whether the point before said of this one that it has the same state.
+fn is_repeat(said: Option<u32>) -> bool
+    ensures { IsTrue result → IsSome said }
+{
+    match said {
+        Some(_) => true,
+        None => false,
+    }
+}
+
+/// Whether the entries of some interrupts were asked for anew, so that what they depend on is worth keeping; where it isn't
+/// kept they are only asked for once more.
+fn is_worth_keeping(plan: &Plan, s: &State, again: bool) -> bool {
+    s.ie && !again && !plan.irqs.is_empty()
+}
+
+/// The same of a node on bytes: behind each point the next one is tried first, the entries of interrupts are asked for where
+/// they depend on something else than at the point before, and where the next point has the same state its values are known
+/// and it covers the one at hand.
 fn packed_fault(
     b: &Bounds,
     image: &Image,
@@ -132,22 +151,27 @@ fn packed_fault(
     let mut walk = node.points();
     let mut next = 0usize;
     let mut asked = None;
+    let mut said = None;
     while let Some(addr) = walk.step() {
         is_word(addr);
         next = next.wrapping_add(1);
         let frame = Frame::near(&*node, next);
         let s = walk.state();
         let again = is_asked(&asked, s);
+        let repeats = walk.repeats_at();
         let here = Here {
             addr,
             state: s,
             again,
+            known: is_repeat(said),
+            next: repeats,
         };
         let found = broken_by_point(b, image, plan, cert, &frame, here);
         if let Some(fault) = first_of(good, entry, addr, found) {
             return Some(fault);
         }
-        if !again {
+        said = repeats;
+        if is_worth_keeping(plan, s, again) {
             asked = Some(Asked::at(s));
         }
     }

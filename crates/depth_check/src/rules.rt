@@ -1,7 +1,7 @@
 // The least rule that fails at a point.
-ghost use Rattle.std.specs.Prelude.{◌≡◌, ◌≤◌, ◌↔◌, IsTrue, All, IfOk, IfErr};
+ghost use Rattle.std.specs.Prelude.{◌≡◌, ◌≤◌, ◌↔◌, IsTrue, All, IfOk, IfErr, IfSome};
 ghost use Rattle.value_domain.specs.State.{AreValues};
-ghost use Rattle.cfg_recover.specs.Accepting.{limits_in, RuleHolds};
+ghost use Rattle.cfg_recover.specs.Accepting.{limits_in, RuleHolds, HasPoint};
 ghost use Rattle.cfg_recover.specs.Changes.{StandsFaultless};
 ghost use Rattle.cfg_recover.specs.Local.{IsLocalFault};
 ghost use Rattle.depth_check.specs.Finding.{IsWellNode, Finds, HasOwnNeed};
@@ -30,6 +30,17 @@ fn has_own_need(image: &Image, plan: &Plan, node: &Frame<'_>, point: Here<'_>) -
     true
 }
 
+/// Whether the values of a point are the plan's.
+fn has_values(b: &Bounds, point: Here<'_>) -> bool
+    requires { IsTrue point.known → AreValues b.now point.state.now.regs }
+    ensures { IsTrue result ↔ AreValues b.now point.entry.state.now.regs }
+{
+    if point.known {
+        return true;
+    }
+    are_values(b, &point.state.regs)
+}
+
 /// The least rule that fails at a point whose values are the plan's, by what stands there.
 fn broken_by_located(
     b: &Bounds,
@@ -38,7 +49,7 @@ fn broken_by_located(
     cert: &AnyCert<'_>,
     node: &Frame<'_>,
     point: Here<'_>,
-    found: Result<Located, u8>,
+    found: &Result<Located, u8>,
 ) -> Option<u8>
     requires limits { b.now ≡ limits_in plan.now cert.now }
     requires nodes { All IsWellNode cert.now.nodes }
@@ -46,17 +57,18 @@ fn broken_by_located(
     requires values { AreValues b.now point.state.now.regs }
     requires again { IsTrue point.again
         → InterruptsHold plan.now cert.now node.now point.state.now }
-    requires fault { IfErr found
+    requires next { IfSome point.next (λ a. HasPoint node.now a point.state.now) }
+    requires fault { IfErr found.now
         (IsLocalFault b.now image.now plan.now node.now.key point.addr point.state.now) }
-    requires duties { IfOk found
+    requires duties { IfOk found.now
         (StandsFaultless b.now image.now plan.now node.now.key point.addr point.state.now) }
     ensures { Finds (RuleHolds image.now plan.now cert.now node.now
         (point_here point.entry)) result }
 {
     match found {
-        Err(rule) => Some(rule),
+        Err(rule) => Some(*rule),
         Ok(found) => {
-            let duties = broken_by_duties(b, image, plan, cert, node, point, &found);
+            let duties = broken_by_duties(b, image, plan, cert, node, point, found);
             let need = unless(has_own_need(image, plan, node, point), 14);
             least(duties, need)
         }
@@ -77,12 +89,14 @@ pub(crate) fn broken_by_point(
     requires node { IsWellNode node.now }
     requires again { IsTrue point.again
         → InterruptsHold plan.now cert.now node.now point.state.now }
+    requires known { IsTrue point.known → AreValues b.now point.state.now.regs }
+    requires next { IfSome point.next (λ a. HasPoint node.now a point.state.now) }
     ensures { Finds (RuleHolds image.now plan.now cert.now node.now
         (point_here point.entry)) result }
 {
-    if !are_values(b, &point.state.regs) {
+    if !has_values(b, point) {
         return Some(2);
     }
     let found = local_check(b, image, plan, &node.key, point.addr, point.state);
-    broken_by_located(b, image, plan, cert, node, point, found)
+    broken_by_located(b, image, plan, cert, node, point, &found)
 }

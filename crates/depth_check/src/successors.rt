@@ -1,5 +1,5 @@
 // The least rule that the jumps of a point in its frame break: rule 4, or none.
-ghost use Rattle.std.specs.Prelude.{◌≡◌, [], ◌∷◌, ◌++◌, unwrap_or, false, true};
+ghost use Rattle.std.specs.Prelude.{◌≡◌, [], ◌∷◌, ◌++◌, unwrap_or, false, true, IfSome};
 ghost use Rattle.value_domain.specs.State.{AreValues, AreWell};
 ghost use Rattle.tc_isa.specs.Bounded.{IsShape, IsTarget};
 ghost use Rattle.vd_transfer.specs.Branches.{refine_of};
@@ -7,11 +7,12 @@ ghost use Rattle.depth_cert.specs.Certs.{CertData};
 ghost use Rattle.cfg_recover.specs.Changes.{StandsFaultless};
 ghost use Rattle.cfg_recover.specs.Local.{targets_of};
 ghost use Rattle.cfg_recover.specs.Duties.{owed, jump, jumps_to, jump_on, next_of, successors_of};
+ghost use Rattle.cfg_recover.specs.Accepting.{HasPoint};
 ghost use Rattle.depth_check.specs.Finding.{IsWellNode, Finds, DutiesHold};
 
-use crate::covering::{has_changed, has_point, has_points};
+use crate::covering::{has_changed, has_next, has_points};
 use crate::duties::{least, unless};
-use crate::forms::Frame;
+use crate::forms::{Frame, Here};
 use cfg_recover::{Located, loaded_from, targets};
 use elf_image::Image;
 use tc_isa::{Shape, Target};
@@ -43,6 +44,7 @@ fn broken_by_side(
 }
 
 /// Both sides of a branch.
+#[inline(never)]
 fn broken_by_sides(
     b: &Bounds,
     plan: &Plan,
@@ -66,6 +68,7 @@ fn broken_by_sides(
 }
 
 /// A jump with the state as it is.
+#[inline(never)]
 fn broken_by_jump(plan: &Plan, node: &Frame<'_>, addr: u32, s: &State, to: Target) -> Option<u8>
     requires node { IsWellNode node.now }
     requires state { AreWell s.now.regs }
@@ -79,16 +82,19 @@ fn broken_by_jump(plan: &Plan, node: &Frame<'_>, addr: u32, s: &State, to: Targe
 }
 
 /// The step over an instruction that changes nothing.
-fn broken_by_pass(node: &Frame<'_>, s: &State, next: u32) -> Option<u8>
+fn broken_by_pass(node: &Frame<'_>, point: Here<'_>, next: u32) -> Option<u8>
     requires node { IsWellNode node.now }
-    requires state { AreWell s.now.regs }
+    requires state { AreWell point.state.now.regs }
+    requires next { IfSome point.next (λ a. HasPoint node.now a point.state.now) }
     ensures { (cert : CertData)
-        → Finds (DutiesHold cert node.now s.now (owed 4 (jump next s.now) ∷ [])) result }
+        → Finds (DutiesHold cert node.now point.entry.state.now
+        (owed 4 (jump next point.entry.state.now) ∷ [])) result }
 {
-    unless(has_point(node, next, s), 4)
+    unless(has_next(node, next, point.state, point.next), 4)
 }
 
 /// The step to the next instruction.
+#[inline(never)]
 fn broken_by_step(
     b: &Bounds,
     image: &Image,
@@ -117,17 +123,21 @@ pub(crate) fn broken_by_successors(
     image: &Image,
     plan: &Plan,
     node: &Frame<'_>,
-    addr: u32,
-    s: &State,
+    point: Here<'_>,
     found: &Located,
 ) -> Option<u8>
     requires node { IsWellNode node.now }
-    requires values { AreValues b.now s.now.regs }
-    requires found { StandsFaultless b.now image.now plan.now node.now.key addr s.now found.now }
+    requires values { AreValues b.now point.state.now.regs }
+    requires found { StandsFaultless b.now image.now plan.now node.now.key
+        point.addr point.state.now found.now }
+    requires next { IfSome point.next (λ a. HasPoint node.now a point.state.now) }
     ensures { (cert : CertData)
-        → Finds (DutiesHold cert node.now s.now
-        (successors_of b.now image.now plan.now addr s.now found.now.shape found.now.size)) result }
+        → Finds (DutiesHold cert node.now point.entry.state.now
+        (successors_of b.now image.now plan.now point.entry.addr point.entry.state.now
+        found.now.shape found.now.size)) result }
 {
+    let addr = point.addr;
+    let s = point.state;
     let next = addr.wrapping_add(found.size);
     let shape = found.shape;
     match shape {
@@ -137,7 +147,7 @@ pub(crate) fn broken_by_successors(
         Shape::Jump { to } => broken_by_jump(plan, node, addr, s, to),
         Shape::Call { .. } | Shape::Ret | Shape::Rfe | Shape::Syscall { .. } | Shape::Mtcr { .. } =>
             None,
-        Shape::Nothing => broken_by_pass(node, s, next),
+        Shape::Nothing => broken_by_pass(node, point, next),
         _ => broken_by_step(b, image, plan, node, addr, s, found),
     }
 }

@@ -4,6 +4,8 @@ pub mod NodeFinds
 pub mod NodeReads
 pub mod PointPlaces
 pub mod SameBytes
+pub mod SameStates
+pub mod SameWords
 pub mod StateShapes
 pub mod ValueShapes
 pub mod WalkSteps

@@ -59,10 +59,10 @@ state_inside version bytes x h =
     omega (arith, k.0.within)
 
 -- the state that is read at a place is the one that stands there
-pub whole_read : (version : ℕ) (bytes : List ℕ) (x : ℕ) (r : Result ℕ FormErr) (s : State) (c d : Place) → c ≡ at bytes x → HasState version bytes x
+pub whole_read : {A : Type 0} (version : ℕ) (bytes : List ℕ) (x : ℕ) (r : Result A FormErr) (s : State) (c d : Place) → c ≡ at bytes x → HasState version bytes x
     → OnOk r (state_at version c ≡ Ok (s, d)) → IfErr r (λ e. state_at version c ≡ Err e) → s ≡ state_in version bytes x
-whole_read version bytes x (Ok n) s c d e h ok err = sym (ap (read_or no_state) (ap (state_at version) (sym e) ∙ ok))
-whole_read version bytes x (Err f) s c d e h ok err =
+whole_read {A} version bytes x (Ok n) s c d e h ok err = sym (ap (read_or no_state) (ap (state_at version) (sym e) ∙ ok))
+whole_read {A} version bytes x (Err f) s c d e h ok err =
     let a : state_at version (at bytes x) ≡ Err f = ap (state_at version) (sym e) ∙ err in
     absurd (never _ _ (sym a ∙ h.1))
   where

@@ -6,7 +6,8 @@ use Rattle.value_domain.specs.declared.states.State.{State}
 use Rattle.depth_cert.specs.declared.points.Point.{Point}
 use Rattle.depth_cert.specs.Grammar.{state_at}
 use Rattle.packed_cert.specs.declared.packed_points.PackedPoint.{PackedPoint}
-use Rattle.packed_cert.specs.Standing.{at}
+use Rattle.packed_cert.specs.declared.state_places.StatePlaces.{StatePlaces}
+use Rattle.packed_cert.specs.Standing.{at, StandFrom}
 
 -- what was read, or something else where nothing was
 abbrev pub read_or : {A : Type 0} → A → Result (A × Place) FormErr → A
@@ -38,3 +39,10 @@ pub record IsStateAt (version : ℕ) (bytes : List ℕ) (place : ℕ) : Type 0 w
   pub short : length bytes ≤ 2 ^ 30
   pub inside : place ≤ length bytes
   pub state : HasState version bytes place
+
+-- a state stands at these places
+pub record StandsAt (version : ℕ) (bytes : List ℕ) (s : State) (p : StatePlaces) : Type 0 where
+  pub order : p.start ≤ p.end
+  pub within : p.end ≤ length bytes
+  pub read : state_at version (at bytes p.start) ≡ Ok (s, at bytes p.end)
+  pub values : StandFrom version bytes s.regs p.values

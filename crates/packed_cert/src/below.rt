@@ -16,7 +16,7 @@ use tcd_base::Cursor;
 use value_domain::{Val, extent_of, leq};
 
 /// The word at a place.
-fn word(bytes: &[u8], place: usize) -> u32
+pub(crate) fn word(bytes: &[u8], place: usize) -> u32
     requires { place + 4 ≤ length bytes.now }
     ensures { result ≡ word_at bytes.now place }
 {

@@ -6,10 +6,11 @@ ghost use Rattle.depth_cert.specs.Grammar.{values_at, state_at, address_after, p
 ghost use Rattle.depth_cert.specs.Answers.{IsFaultOf};
 ghost use Rattle.std.specs.List.Sorted.{IsStrictlyIncreasing};
 ghost use Rattle.packed_cert.specs.Standing.{StandFrom};
-ghost use Rattle.packed_cert.specs.Points.{HasState, points_in};
+ghost use Rattle.packed_cert.specs.Points.{HasState, StandsAt, points_in};
 
 use crate::packed_points::PackedPoint;
-use crate::values_after::read_values_after;
+use crate::state_places::StatePlaces;
+use crate::values_after::{passes, read_values_after};
 use arrayvec::ArrayVec;
 use depth_cert::{CertErr, fault, read_flag, read_locals, read_point_count, read_values};
 use std::alloc::Global;
@@ -37,10 +38,10 @@ fn read_values_like(
     }
 }
 
-/// Reads a state into a place, which may hold one whose values stand elsewhere; gives the place of
-/// its own values.
+/// Reads the fields of a state; where the values of `out` stand from a place on, those that stand
+/// alike aren't read. Gives the place of the values.
 #[tactic(auto, unfolding(depth_cert::specs::Grammar::state_at))]
-pub(crate) fn read_state_after(
+fn read_state_fields(
     c: &mut Cursor<'_>,
     bytes: &[u8],
     version: u8,
@@ -62,6 +63,55 @@ pub(crate) fn read_state_after(
     let at = c.place();
     read_values_like(c, bytes, version, from, &mut out.regs)?;
     Ok(at)
+}
+
+/// Reads a state into a place, which may hold one whose values stand from a place on; gives the
+/// places of what was read.
+pub(crate) fn read_state_after(
+    c: &mut Cursor<'_>,
+    bytes: &[u8],
+    version: u8,
+    from: Option<usize>,
+    out: &mut State,
+) -> Result<StatePlaces, FormErr>
+    requires short { length c.old.bytes ≤ 2 ^ 30 }
+    requires same { c.old.bytes ≡ bytes.now }
+    requires held { IfSome from (StandFrom version bytes.now out.old.regs) }
+    ensures ok { OnOk result (state_at version c.old ≡ Ok (out.new, c.new)) }
+    ensures err { IfErr result (λ e. state_at version c.old ≡ Err e) }
+    ensures held { IfOk result (StandsAt version bytes.now out.new) }
+    ensures bytes { c.new.bytes ≡ c.old.bytes }
+{
+    let start = c.place();
+    let values = read_state_fields(c, bytes, version, from, out)?;
+    let end = c.place();
+    Ok(StatePlaces { start, values, end })
+}
+
+/// Reads a state into a place, which may hold one that stands elsewhere: where the same bytes come
+/// again, they are passed over at once.
+pub(crate) fn read_state_like(
+    c: &mut Cursor<'_>,
+    bytes: &[u8],
+    version: u8,
+    before: Option<StatePlaces>,
+    out: &mut State,
+) -> Result<StatePlaces, FormErr>
+    requires short { length c.old.bytes ≤ 2 ^ 30 }
+    requires same { c.old.bytes ≡ bytes.now }
+    requires before { IfSome before (StandsAt version bytes.now out.old) }
+    ensures ok { OnOk result (state_at version c.old ≡ Ok (out.new, c.new)) }
+    ensures err { IfErr result (λ e. state_at version c.old ≡ Err e) }
+    ensures held { IfOk result (StandsAt version bytes.now out.new) }
+    ensures bytes { c.new.bytes ≡ c.old.bytes }
+{
+    let Some(at) = before else {
+        return read_state_after(c, bytes, version, None, out);
+    };
+    if passes(c, bytes, at.start, at.end - at.start) {
+        return Ok(at);
+    }
+    read_state_after(c, bytes, version, Some(at.values), out)
 }
 
 /// A state of which nothing is known.
@@ -128,11 +178,11 @@ pub(crate) fn read_points(
 {
     let count = read_point_count(c, room.used)?;
     let mut points = Vec::new(alloc);
-    let mut from = None;
+    let mut held = None;
     for _i in 0..count {
         let addr = read_address(c, &points)?;
         let place = c.place() as u32;
-        from = Some(read_state_after(c, bytes, version, from, &mut room.state)?);
+        held = Some(read_state_like(c, bytes, version, held, &mut room.state)?);
         points.push(PackedPoint { addr, place })?;
     }
     room.used += points.len();

@@ -1,9 +1,11 @@
 // Values read where others like them were read before.
-ghost use Rattle.std.specs.Prelude.{◌≡◌, ◌≤◌, ◌+◌, ◌^◌, IsTrue, IsFalse, length, take, drop, Ok, Err, OnOk, IfErr};
+ghost use Rattle.std.specs.Prelude.{◌≡◌, ◌≤◌, ◌+◌, ◌^◌, IsTrue, IsFalse, ◌<◌, length, slice_index, take, drop, Ok, Err, OnOk, IfErr};
+ghost use Rattle.tcd_base.specs.Bytes.{word_at};
 ghost use Rattle.packed_cert.specs.Standing.{Stand, MovedOver};
 ghost use Rattle.packed_cert.specs.Standing as standing;
 ghost use Rattle.depth_cert.specs.Grammar.{values_at};
 
+use crate::below::word;
 use depth_cert::read_value;
 use tcd_base::{Cursor, FormErr};
 use value_domain::Val;
@@ -21,20 +23,69 @@ pub(crate) fn length_by(tag: u8) -> usize
     }
 }
 
-/// Whether the same bytes stand at two places.
-fn are_same(bytes: &[u8], x: usize, y: usize, n: usize) -> bool
+fn is_same_word(bytes: &[u8], x: usize, y: usize) -> bool
+    requires first { x + 4 ≤ length bytes.now }
+    requires second { y + 4 ≤ length bytes.now }
+    ensures { IsTrue result → word_at bytes.now x ≡ word_at bytes.now y }
+{
+    word(bytes, x) == word(bytes, y)
+}
+
+fn is_same_byte(bytes: &[u8], x: usize, y: usize) -> bool
+    requires first { x < length bytes.now }
+    requires second { y < length bytes.now }
+    ensures { IsTrue result → slice_index bytes.now x ≡ slice_index bytes.now y }
+{
+    bytes[x] == bytes[y]
+}
+
+/// How many of these bytes stand alike at two places, as far as whole words are the same.
+fn same_words(bytes: &[u8], x: usize, y: usize, n: usize) -> usize
+    requires first { x + n ≤ length bytes.now }
+    requires second { y + n ≤ length bytes.now }
+    ensures within { result ≤ n }
+    ensures same { take result (drop x bytes.now) ≡ take result (drop y bytes.now) }
+{
+    let mut i = 0;
+    while i + 4 <= n {
+        if !is_same_word(bytes, x + i, y + i) {
+            return i;
+        }
+        i += 4;
+    }
+    i
+}
+
+/// Whether the same bytes stand at two places, if the first `from` do.
+fn are_same_from(bytes: &[u8], x: usize, y: usize, from: usize, n: usize) -> bool
+    requires first { x + n ≤ length bytes.now }
+    requires second { y + n ≤ length bytes.now }
+    requires from { from ≤ n }
+    requires same { take from (drop x bytes.now) ≡ take from (drop y bytes.now) }
+    ensures { IsTrue result → take n (drop x bytes.now) ≡ take n (drop y bytes.now) }
+{
+    let mut i = from;
+    while i < n {
+        if !is_same_byte(bytes, x + i, y + i) {
+            return false;
+        }
+        i += 1;
+    }
+    true
+}
+
+/// Whether the same bytes stand at two places: word by word, then byte by byte.
+pub(crate) fn are_same(bytes: &[u8], x: usize, y: usize, n: usize) -> bool
     requires first { x + n ≤ length bytes.now }
     requires second { y + n ≤ length bytes.now }
     ensures { IsTrue result → take n (drop x bytes.now) ≡ take n (drop y bytes.now) }
 {
-    if n == 1 {
-        return bytes[x] == bytes[y];
-    }
-    bytes[x..x + n] == bytes[y..y + n]
+    let from = same_words(bytes, x, y, n);
+    are_same_from(bytes, x, y, from, n)
 }
 
 /// Whether the bytes from `x` on stand at the cursor, too, which then moves past them.
-fn passes(c: &mut Cursor<'_>, bytes: &[u8], x: usize, n: usize) -> bool
+pub(crate) fn passes(c: &mut Cursor<'_>, bytes: &[u8], x: usize, n: usize) -> bool
     requires same { c.old.bytes ≡ bytes.now }
     requires within { x + n ≤ length bytes.now }
     ensures moved { IsTrue result → MovedOver bytes.now x n c.old c.new }

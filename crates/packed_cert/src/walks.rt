@@ -1,10 +1,12 @@
 // Points of a node one after another, with room for one state.
-ghost use Rattle.std.specs.Prelude.{◌≡◌, ◌≤◌, ◌<◌, ◌^◌, length, IfSome};
-ghost use Rattle.packed_cert.specs.Standing.{StandFrom};
-ghost use Rattle.packed_cert.specs.Points.{state_in, HasState};
+ghost use Rattle.std.specs.Prelude.{◌≡◌, ◌≤◌, ◌<◌, ◌^◌, ℕ, length, IfSome, IsTrue};
+ghost use Rattle.value_domain.specs.declared.states.State.{State};
+ghost use Rattle.packed_cert.specs.Points.{state_in, HasState, StandsAt};
 
 use crate::packed_points::PackedPoint;
-use crate::point_fields::{blank, read_state_after};
+use crate::point_fields::{blank, read_state_like};
+use crate::state_places::StatePlaces;
+use crate::values_after::are_same;
 use std::marker::Model;
 use tcd_base::Cursor;
 use value_domain::State;
@@ -16,7 +18,7 @@ pub struct PointWalk<'a> {
     version: u8,
     points: &'a [PackedPoint],
     next: usize,
-    from: Option<usize>,
+    held: Option<StatePlaces>,
     state: State,
 }
 
@@ -32,13 +34,13 @@ impl<'a> Model for PointWalk<'a> {
       left = points_in w.version w.bytes.now (drop w.next w.points.now);
     } };
 
-    ghost invariant = { λ w. IsWalk w.version w.bytes.now w.points.now w.from w.state };
+    ghost invariant = { λ w. IsWalk w.version w.bytes.now w.points.now w.held w.state };
 }
 
 impl<'a> PointWalk<'a> {
     ghost use Rattle.std.specs.List.{All};
     ghost use Rattle.packed_cert.specs.Points.{points_in, HasState};
-    ghost use Rattle.packed_cert.specs.Walks.{StepsTo};
+    ghost use Rattle.packed_cert.specs.Walks.{StepsTo, RepeatsAt};
 
     /// A walk before the first of the points.
     pub(crate) fn over(bytes: &'a [u8], version: u8, points: &'a [PackedPoint]) -> PointWalk<'a>
@@ -51,7 +53,7 @@ impl<'a> PointWalk<'a> {
             version,
             points,
             next: 0,
-            from: None,
+            held: None,
             state: blank(),
         }
     }
@@ -64,11 +66,27 @@ impl<'a> PointWalk<'a> {
             return None;
         }
         let point = self.points[self.next];
-        let from = self.from;
+        let held = self.held;
         let place = point.place as usize;
-        self.from = move_on(self.bytes, self.version, place, from, &mut self.state);
+        self.held = move_on(self.bytes, self.version, place, held, &mut self.state);
         self.next += 1;
         Some(point.addr)
+    }
+
+    /// The address of the next point, where its state stands in the bytes of the one at hand.
+    pub fn repeats_at(&self) -> Option<u32>
+        ensures { IfSome result (RepeatsAt self.now) }
+    {
+        if self.next >= self.points.len() {
+            return None;
+        }
+        let point = self.points[self.next];
+        let held = self.held?;
+        if stands_again(self.bytes, held, point.place as usize) {
+            Some(point.addr)
+        } else {
+            None
+        }
     }
 
     /// The state of the point at hand.
@@ -79,23 +97,35 @@ impl<'a> PointWalk<'a> {
     }
 }
 
-/// Moves the room for a state on to the one at a place, and gives the place of its values.
+/// Whether the bytes of a state stand at a place, too.
+fn stands_again(bytes: &[u8], held: StatePlaces, place: usize) -> bool
+    requires order { held.start ≤ held.end }
+    requires within { held.end ≤ length bytes.now }
+    requires place { place ≤ length bytes.now }
+    ensures { IsTrue result → (version : ℕ) (s : State)
+        → StandsAt version bytes.now s held → state_in version bytes.now place ≡ s }
+{
+    let n = held.end - held.start;
+    n <= bytes.len() - place && are_same(bytes, held.start, place, n)
+}
+
+/// Moves the room for a state on to the one at a place, and gives the places of what it holds then.
 fn move_on(
     bytes: &[u8],
     version: u8,
     place: usize,
-    from: Option<usize>,
+    held: Option<StatePlaces>,
     room: &mut State,
-) -> Option<usize>
+) -> Option<StatePlaces>
     requires short { length bytes.now ≤ 2 ^ 30 }
     requires state { HasState version bytes.now place }
-    requires held { IfSome from (StandFrom version bytes.now room.old.regs) }
+    requires held { IfSome held (StandsAt version bytes.now room.old) }
     ensures state { room.new ≡ state_in version bytes.now place }
-    ensures held { IfSome result (StandFrom version bytes.now room.new.regs) }
+    ensures held { IfSome result (StandsAt version bytes.now room.new) }
 {
     let mut c = Cursor::new(bytes);
     let _front = c.take(place);
-    match read_state_after(&mut c, bytes, version, from, room) {
+    match read_state_like(&mut c, bytes, version, held, room) {
         Ok(at) => Some(at),
         Err(_) => None,
     }

@@ -6,13 +6,15 @@ use Rattle.value_domain.specs.declared.states.State.{State}
 use Rattle.value_domain.specs.Limits.{Limits}
 use Rattle.depth_cert.specs.declared.points.Point.{Point}
 use Rattle.depth_cert.specs.Nodes.{NodeData}
-use Rattle.cfg_recover.specs.Accepting.{HoldsAtEntry, RuleHolds}
+use Rattle.cfg_recover.specs.Accepting.{limits_in, HoldsAtEntry, RuleHolds}
+use Rattle.value_domain.specs.State.{AreValues}
 use Rattle.depth_check.specs.declared.nodes.Fault.{Fault}
 use Rattle.depth_check.specs.Finding.{Finds}
 use Rattle.depth_check.specs.NodeFaults.{IsNodeFault, first_of}
 use Rattle.depth_check.specs.Asking.{AsksSame}
 use Rattle.depth_check.proofs.AskedLaws.{interrupts_at, asked_same, again_holds}
 use Rattle.depth_check.proofs.Deciding.{refuted}
+use Rattle.depth_check.proofs.RepeatLaws.{repeats_covers, repeats_known, known_here}
 use Rattle.depth_check.proofs.NodeLaws.{fault_at, none_at, entry_alone}
 use Rattle.depth_check.proofs.WalkLaws.{stands_behind, split_more}
 use Rattle.depth_check.proofs.nodes.packed_fault.Goals as goal
@@ -40,6 +42,19 @@ broken_by_point-found-requires-clause-again c = λ again.
     rw c.near-frame.ensures
     (again_holds c.args.plan.now c.args.cert.now c.args.node.now c.loop-addr.asked c.state-s.result.now c.loop-addr.invariant.asked (c.is_asked-again.ensures again))
 
+pub broken_by_point-found-requires-clause-known : goal.broken_by_point-found-requires-clause-known
+broken_by_point-found-requires-clause-known c = λ known.
+    let p : Point = record { addr = c.in-Some.addr; state = c.step.new.self.current } in
+    subst (λ (l : Limits). AreValues l (c.state-s.result.now).regs) (sym c.requires.limits)
+    (subst (λ (s : State). AreValues (limits_in c.args.plan.now c.args.cert.now) s.regs) (sym c.state-s.ensures)
+    (known_here (limits_in c.args.plan.now c.args.cert.now) c.loop-addr.said c.loop-addr.walk.left c.step.new.self.left p c.loop-addr.invariant.said (c.is_repeat.ensures known) c.in-Some.ensures))
+
+pub broken_by_point-found-requires-clause-next : goal.broken_by_point-found-requires-clause-next
+broken_by_point-found-requires-clause-next c =
+    let p : Point = record { addr = c.in-Some.addr; state = c.step.new.self.current } in
+    rw c.near-frame.ensures
+    (repeats_covers c.args.node.now c.loop-addr.invariant.done c.loop-addr.walk.left c.step.new.self p c.repeats_at-repeats.result c.state-s.result.now c.points-walk.ensures.rising c.loop-addr.invariant.split c.in-Some.ensures c.state-s.ensures c.repeats_at-repeats.ensures)
+
 pub loop-addr-preserved : goal.loop-addr-preserved
 loop-addr-preserved c =
     let inv = c.loop-addr.invariant in
@@ -55,11 +70,12 @@ loop-addr-preserved c =
       done = inv.done ++ p ∷ [];
       split = split_more points inv.done c.loop-addr.walk.left c.step.new.self.left p inv.split c.in-Some.ensures;
       all = All-push (λ (q : Point). (r : ℕ) → RuleHolds c.args.image.now c.args.plan.now c.args.cert.now c.args.node.now q r) inv.done p inv.all holds;
+      said = repeats_known (limits_in c.args.plan.now c.args.cert.now) c.step.new.self c.repeats_at-repeats.result ((holds 2).values refl) c.repeats_at-repeats.ensures;
       asked = inv.asked;
     }
 
-pub loop-addr-preserved-then-not-again : goal.loop-addr-preserved-then-not-again
-loop-addr-preserved-then-not-again c =
+pub loop-addr-preserved-then-is_worth_keeping : goal.loop-addr-preserved-then-is_worth_keeping
+loop-addr-preserved-then-is_worth_keeping c =
     let inv = c.loop-addr.invariant in
     let points = c.args.node.now.points in
     let p : Point = record { addr = c.in-Some.addr; state = c.step.new.self.current } in
@@ -73,6 +89,7 @@ loop-addr-preserved-then-not-again c =
       done = inv.done ++ p ∷ [];
       split = split_more points inv.done c.loop-addr.walk.left c.step.new.self.left p inv.split c.in-Some.ensures;
       all = All-push (λ (q : Point). (r : ℕ) → RuleHolds c.args.image.now c.args.plan.now c.args.cert.now c.args.node.now q r) inv.done p inv.all holds;
+      said = repeats_known (limits_in c.args.plan.now c.args.cert.now) c.step.new.self c.repeats_at-repeats.result ((holds 2).values refl) c.repeats_at-repeats.ensures;
       asked = λ (t : State) same.
           asked_same c.args.plan.now c.args.cert.now c.args.node.now c.at.result c.step.new.self.current t
           (subst (λ (s : State). AsksSame c.at.result s) c.state-s.ensures c.at.ensures) same

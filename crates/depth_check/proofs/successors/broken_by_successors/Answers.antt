@@ -15,6 +15,6 @@ returns-in-Nothing c cert = rw c.in-Nothing.is (c.broken_by_pass.ensures cert)
 pub returns-in_default : goal.returns-in_default
 returns-in_default c cert =
     let d = c.in_default in
-    rw (next_alone c.args.b.now c.args.image.now c.args.plan.now c.args.addr c.args.s.now c.args.found.now.shape c.args.found.now.size
+    rw (next_alone c.args.b.now c.args.image.now c.args.plan.now c.args.point.addr c.args.point.state.now c.args.found.now.shape c.args.found.now.size
     d.not-Branch d.not-Jump d.not-Call d.not-Ret d.not-Rfe d.not-Syscall d.not-Mtcr)
     (c.broken_by_step.ensures cert)

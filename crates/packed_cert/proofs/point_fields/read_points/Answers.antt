@@ -19,14 +19,14 @@ returns-in_err-addr-clause-err c =
     (address_fails c.args.version before c.loop-i.c _ (ap (λ (l : _). address_after l c.loop-i.c) (addresses_in c.args.version c.args.bytes.now c.loop-i.points.items) ∙ e)) in
     rw (p.1, p.2, c.in_ok-count.ensures.read) fault
 
-pub returns-in_err-read_state_after-clause-err : goal.returns-in_err-read_state_after-clause-err
+pub returns-in_err-read_state_like-clause-err : goal.returns-in_err-read_state_like-clause-err
 unfolding points_at
-returns-in_err-read_state_after-clause-err c =
-    let p = err_from_is_err_and c.from_residual-in_err-read_state_after.result c.from_residual-in_err-read_state_after.ensures.1 in
+returns-in_err-read_state_like-clause-err c =
+    let p = err_from_is_err_and c.from_residual-in_err-read_state_like.result c.from_residual-in_err-read_state_like.ensures.1 in
     let before = points_in c.args.version c.args.bytes.now c.loop-i.points.items in
     let e = rw c.deref.ensures.value at c.in_ok-addr.ensures.read in
     let fault = many_fail (point_after c.args.version) c.in_ok-count.count c.loop-i._i before c.read_point_count.new.c c.loop-i.c _ c.loop-i-test.true c.loop-i.invariant.read
-    (state_fails c.args.version before c.loop-i.c _ _ _ (ap (λ (l : _). address_after l c.loop-i.c) (addresses_in c.args.version c.args.bytes.now c.loop-i.points.items) ∙ e) c.in_err-read_state_after.ensures.err) in
+    (state_fails c.args.version before c.loop-i.c _ _ _ (ap (λ (l : _). address_after l c.loop-i.c) (addresses_in c.args.version c.args.bytes.now c.loop-i.points.items) ∙ e) c.in_err-read_state_like.ensures.err) in
     rw (p.1, p.2, c.in_ok-count.ensures.read) fault
 
 pub loop-i-preserved : goal.loop-i-preserved
@@ -39,20 +39,20 @@ loop-i-preserved c =
     let same = c.read_address.ensures.bytes ∙ c.loop-i.invariant.bytes ∙ c.read_point_count.ensures.bytes ∙ c.requires.same in
     let q = c.read_address.new.c in
     let item : PackedPoint = record { addr = c.in_ok-addr.addr; place = q.place } in
-    let h = state_read version bytes q q.place _ _ same (omega arith) c.in_ok-read_state_after.ensures.ok in
-    let more = point_more version bytes ps c.in_ok-addr.addr q.place c.loop-i.c q _ _ same (omega arith) e c.in_ok-read_state_after.ensures.ok in
+    let h = state_read version bytes q q.place _ _ same (omega arith) c.in_ok-read_state_like.ensures.ok in
+    let more = point_more version bytes ps c.in_ok-addr.addr q.place c.loop-i.c q _ _ same (omega arith) e c.in_ok-read_state_like.ensures.ok in
     let place : c.place-place.result ≡ q.place = c.place-place.ensures.place in
     let pushed : c.push.new.self.items ≡ ps ++ item ∷ [] = c.in_ok-push.ensures.items ∙ ap (λ (k : ℕ). ps ++ record { addr = c.in_ok-addr.addr; place = k } ∷ []) place in
     record {
       read =
           rw (pushed, points_push version bytes ps item)
           (many_more (point_after version) c.in_ok-count.count c.loop-i._i (points_in version bytes ps) c.read_point_count.new.c c.loop-i.c _ _ c.loop-i-test.true c.loop-i.invariant.read more);
-      bytes = c.read_state_after.ensures.bytes ∙ c.read_address.ensures.bytes ∙ c.loop-i.invariant.bytes;
+      bytes = c.read_state_like.ensures.bytes ∙ c.read_address.ensures.bytes ∙ c.loop-i.invariant.bytes;
       count = omega (arith, c.in_ok-push.ensures.len, c.loop-i.invariant.count);
       states = rw pushed (All-push (λ (p : PackedPoint). HasState version bytes p.place) ps item c.loop-i.invariant.states h.1);
       rising = rw pushed (rising_map_push (λ (p : PackedPoint). p.addr) ps item c.loop-i.invariant.rising next);
       used = c.loop-i.invariant.used;
-      held = c.in_ok-read_state_after.ensures.held;
+      held = c.in_ok-read_state_like.ensures.held;
     }
 
 pub returns-clause-ok : goal.returns-clause-ok

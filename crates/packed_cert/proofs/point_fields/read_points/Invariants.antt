@@ -1,10 +1,9 @@
-use Rattle.std.proofs.Common.{◌≡◌, ◌≤◌, ◌-◌, length, map, []}
+use Rattle.std.proofs.Common.{◌≡◌, ◌-◌, length, map, []}
 use Rattle.std.specs.Prelude.{IfSome}
 use Rattle.std.specs.List.{All}
 use Rattle.std.specs.List.Sorted.{IsStrictlyIncreasing}
 use Rattle.depth_cert.specs.Grammar.{many_at, point_after}
-use Rattle.packed_cert.specs.Standing.{Stand}
-use Rattle.packed_cert.specs.Points.{points_in, HasState}
+use Rattle.packed_cert.specs.Points.{points_in, HasState, StandsAt}
 use Rattle.packed_cert.proofs.point_fields.read_points.Given as goal
 
 abbrev pub invariant-loop-i : goal.invariant-loop-i
@@ -15,5 +14,5 @@ invariant-loop-i l = record {
   states : All (λ p. HasState l.version l.bytes p.place) l.points.items;
   rising : IsStrictlyIncreasing (map (λ p. p.addr) l.points.items);
   used : l.room.used ≡ l.initial.room.used;
-  held : IfSome l.from (λ x. (x ≤ length l.bytes) × Stand l.version l.bytes x l.room.state.regs);
+  held : IfSome l.held (StandsAt l.version l.bytes l.room.state);
 }

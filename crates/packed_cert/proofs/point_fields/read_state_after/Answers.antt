@@ -1,9 +1,9 @@
-use Rattle.std.proofs.Common.{◌∙◌}
-use Rattle.packed_cert.proofs.PointPlaces.{read_stand}
+use Rattle.std.proofs.Common.{◌∙◌, arith}
+use Rattle.packed_cert.proofs.SameStates.{stands_where}
 use Rattle.packed_cert.proofs.point_fields.read_state_after.Goals as goal
 
 pub returns-clause-held : goal.returns-clause-held
 returns-clause-held c =
-    let bytes = c.read_locals.ensures.bytes ∙ c.read_flag-2.ensures.bytes ∙ c.read_u8.ensures.bytes ∙ c.read_flag.ensures.bytes ∙ c.requires.same in
-    read_stand c.args.version _ c.args.bytes.now c.read_locals.new.c c.read_values_like.new.out _ c.place-at.result (λ k. (c.type_inv.bytes k).fits) bytes c.place-at.ensures.place (rw bytes at c.place-at.ensures.within)
-    c.in_ok-read_values_like.ensures.ok
+    let after = c.read_state_fields.ensures.bytes ∙ c.requires.same in
+    let from = stands_where c.args.version c.args.bytes.now c.args.c.now c.read_state_fields.new.c c.read_state_fields.new.out (record { start = c.place-start.result; values = c.in_ok-values.values; end = c.place-end.result }) (λ k. (c.type_inv.bytes k).fits) c.requires.same after c.place-start.ensures.place c.place-end.ensures.place (rw c.requires.same at c.place-start.ensures.within) c.in_ok-values.ensures.ok in
+    record { order = from.1; within = from.2; read = from.0; values = c.in_ok-values.ensures.held }

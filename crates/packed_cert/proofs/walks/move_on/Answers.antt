@@ -10,7 +10,7 @@ returns-in-Ok-clause-state c =
     let inside = state_inside c.args.version bytes x c.requires.state in
     let moved = took c.take-front.result _ x (length bytes) (rw c.new-c.ensures at c.take-front.ensures.there) (rw c.new-c.ensures at c.take-front.ensures.moved) inside in
     let there : 0 + x ≡ x = omega arith in
-    whole_read c.args.version bytes x c.read_state_after.result c.read_state_after.new.out c.take-front.new.self _ (moved ∙ ap (λ (k : ℕ). at bytes k) there) c.requires.state c.read_state_after.ensures.ok c.read_state_after.ensures.err
+    whole_read c.args.version bytes x c.read_state_like.result c.read_state_like.new.out c.take-front.new.self _ (moved ∙ ap (λ (k : ℕ). at bytes k) there) c.requires.state c.read_state_like.ensures.ok c.read_state_like.ensures.err
 
 pub returns-in-Err-clause-state : goal.returns-in-Err-clause-state
 returns-in-Err-clause-state c =
@@ -19,4 +19,4 @@ returns-in-Err-clause-state c =
     let inside = state_inside c.args.version bytes x c.requires.state in
     let moved = took c.take-front.result _ x (length bytes) (rw c.new-c.ensures at c.take-front.ensures.there) (rw c.new-c.ensures at c.take-front.ensures.moved) inside in
     let there : 0 + x ≡ x = omega arith in
-    whole_read c.args.version bytes x c.read_state_after.result c.read_state_after.new.out c.take-front.new.self _ (moved ∙ ap (λ (k : ℕ). at bytes k) there) c.requires.state c.read_state_after.ensures.ok c.read_state_after.ensures.err
+    whole_read c.args.version bytes x c.read_state_like.result c.read_state_like.new.out c.take-front.new.self _ (moved ∙ ap (λ (k : ℕ). at bytes k) there) c.requires.state c.read_state_like.ensures.ok c.read_state_like.ensures.err
