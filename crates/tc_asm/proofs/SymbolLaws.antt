@@ -3,12 +3,14 @@ use Rattle.std.proofs.Common.{◌≡◌, ℕ, Bool, true, false, cond, List, [],
 use Rattle.std.specs.Prelude.{find, option_map, slice_get, position, is_some, unwrap_or}
 use Rattle.std.specs.Borrow.{Bor}
 use Rattle.std.specs.Str.{bytes_eq}
+use Rattle.std.proofs.lemmas.Slice.Eq.{bytes_eq-Decides}
 use Rattle.std.specs.Map.{lookup, keys_of}
 use Rattle.std.proofs.lemmas.Option.{slice_get-map}
 use Rattle.indexmap.specs.IndexMap.{insert_entry}
 use Rattle.tc_lex.proofs.Mapped.{position-map}
 use Rattle.tc_asm.specs.declared.symbols.Entry.{Entry}
-use Rattle.tc_asm.specs.Symbols.{SymbolData, symbol, unseen, entry_in, entry_of, put_entry, seen}
+use Rattle.tc_asm.specs.Symbols.{SymbolData, symbol, unseen, entry_in, entry_of, put_entry, seen, labelled, labelled_at, with_label_at}
+use Rattle.tc_asm.specs.declared.symbols.Place.{Place}
 
 abbrev pub Key : Type 0
 Key = Bor (List ℕ)
@@ -68,3 +70,30 @@ pub seen_new : (ss next : List SymbolData) (name : List ℕ) (o : Option Entry) 
 unfolding seen
 seen_new ss next name None is h e = e ∙ ap (put_entry ss name) (sym (ap (λ (o : Option Entry). unwrap_or o unseen) (sym is)))
 seen_new ss next name (Some x) is h e = cc
+
+-- ---- a name that gets its label
+-- what is put at a name twice is there as it was put last
+pub put_again : (ss : List SymbolData) (name : List ℕ) (e f : Entry) → put_entry (put_entry ss name e) name f ≡ put_entry ss name f
+put_again [] name e f = ap (λ (q : Bool). cond q (symbol name f ∷ []) (symbol name e ∷ symbol name f ∷ [])) ((bytes_eq-Decides name name).1 refl)
+put_again (s ∷ ss) name e f = by (bytes_eq name s.name) refl (put_again ss name e f)
+  where
+    by : (b : Bool) → bytes_eq name s.name ≡ b → put_entry (put_entry ss name e) name f ≡ put_entry ss name f
+        → put_entry (cond b (symbol s.name e ∷ ss) (s ∷ put_entry ss name e)) name f ≡ cond b (symbol s.name f ∷ ss) (s ∷ put_entry ss name f)
+    by true t rec = ap (λ (q : Bool). cond q (symbol s.name f ∷ ss) (symbol s.name e ∷ put_entry ss name f)) t
+    by false t rec =
+        ap (λ (q : Bool). cond q (symbol s.name f ∷ put_entry ss name e) (s ∷ put_entry (put_entry ss name e) name f)) t
+        ∙ ap (λ (xs : List SymbolData). s ∷ xs) rec
+
+pub labelled_new : (ss next : List SymbolData) (name : List ℕ) (place : Place) (o : Option Entry) → o ≡ entry_in ss name → o ≡ None → next ≡ put_entry ss name (labelled_at place) → next ≡ labelled ss name place
+unfolding labelled
+labelled_new ss next name place o is none e =
+    e ∙ ap (λ (x : Option Entry). put_entry ss name (with_label_at (unwrap_or x unseen) place)) (sym none ∙ is)
+
+pub labelled_known : (ss mid next : List SymbolData) (name : List ℕ) (place : Place) (o : Option Entry) (old : Entry) → o ≡ entry_in ss name → o ≡ Some old
+    → mid ≡ put_entry ss name (labelled_at place) → next ≡ put_entry mid name (with_label_at old place) → next ≡ labelled ss name place
+unfolding labelled
+labelled_known ss mid next name place o old is some e f =
+    f
+    ∙ ap (λ (x : List SymbolData). put_entry x name (with_label_at old place)) e
+    ∙ put_again ss name (labelled_at place) (with_label_at old place)
+    ∙ ap (λ (x : Option Entry). put_entry ss name (with_label_at (unwrap_or x unseen) place)) (sym some ∙ is)

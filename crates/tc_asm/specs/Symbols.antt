@@ -38,9 +38,17 @@ place_in ss name = (entry_of ss name).place
 unfoldable pub seen : List SymbolData → List ℕ → List SymbolData
 seen ss name = put_entry ss name (entry_of ss name)
 
+-- a label stands here, and no more is known
+abbrev pub labelled_at : Place → Entry
+labelled_at place = record { place = Some place; is_global = false }
+
 -- a label stands here; one that stood somewhere before stays there
+abbrev pub with_label_at : Entry → Place → Entry
+with_label_at e place = if is_some e.place then e else record e { place = Some place }
+
+-- the symbols once a label stands here
 unfoldable pub labelled : List SymbolData → List ℕ → Place → List SymbolData
-labelled ss name place = put_entry ss name (if is_some (place_in ss name) then entry_of ss name else record (entry_of ss name) { place = Some place })
+labelled ss name place = put_entry ss name (with_label_at (entry_of ss name) place)
 
 -- the symbols once a name is made global
 unfoldable pub made_global : List SymbolData → List ℕ → List SymbolData

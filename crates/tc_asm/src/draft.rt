@@ -71,6 +71,7 @@ impl<'a> Draft<'a> {
         n <= MOST_BYTES && self.total <= MOST_BYTES - n
     }
 
+    #[inline(never)]
     #[tactic(auto, unfolding(crate::specs::Drafts::with_label))]
     fn add_label(&mut self, name: &'a [u8]) -> Result<(), AllocError>
         ensures { OnOk result (self.new ≡ with_label self.old name.entry.now) }
@@ -85,6 +86,7 @@ impl<'a> Draft<'a> {
         Ok(())
     }
 
+    #[inline(never)]
     #[tactic(auto, unfolding(crate::specs::Drafts::entered))]
     fn enter(&mut self, alloc: Global, name: &'a [u8]) -> Result<(), AllocError>
         ensures { OnOk result (self.new ≡ entered self.old name.entry.now) }
@@ -106,6 +108,7 @@ impl<'a> Draft<'a> {
         Ok(())
     }
 
+    #[inline(never)]
     #[tactic(auto, unfolding(crate::specs::Drafts::with_global))]
     fn make_global(&mut self, name: &'a [u8]) -> Result<(), AllocError>
         ensures { OnOk result (self.new ≡ with_global self.old name.entry.now) }
@@ -173,6 +176,7 @@ impl<'a> Draft<'a> {
         self.add_bytes(bytes)
     }
 
+    #[inline(never)]
     #[tactic(auto, unfolding(crate::specs::Drafts::with_bytes))]
     fn add_zeros(&mut self, alloc: Global, n: usize) -> Result<(), AllocError>
         ensures { OnOk result (self.new ≡ with_bytes self.old (replicate n 0)) }

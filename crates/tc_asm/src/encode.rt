@@ -71,6 +71,7 @@ impl<'a> Draft<'a> {
         }
     }
 
+    #[inline(never)]
     #[tactic(auto, unfolding(crate::specs::Drafts::jumped))]
     fn jumped(
         &self,

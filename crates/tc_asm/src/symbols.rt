@@ -1,4 +1,7 @@
 // Symbols by name, in the order of first sight, with what is known of each.
+ghost use Rattle.std.specs.Prelude.{◌≡◌};
+ghost use Rattle.tc_asm.specs.Symbols.{labelled_at, with_label_at};
+
 use indexmap::IndexMap;
 use std::alloc::{AllocError, Global};
 use std::marker::Model;
@@ -23,6 +26,30 @@ const UNSEEN: Entry = Entry {
     is_global: false,
 };
 
+// Of a name whose label stands here, and of which no more is known.
+fn labelled_at(place: Place) -> Entry
+    ensures { result ≡ labelled_at place }
+{
+    Entry {
+        place: Some(place),
+        is_global: false,
+    }
+}
+
+// The same of a name of which more is known: a label that stood somewhere before stays there.
+fn with_label(entry: Entry, place: Place) -> Entry
+    ensures { result ≡ with_label_at entry place }
+{
+    if entry.place.is_some() {
+        entry
+    } else {
+        Entry {
+            place: Some(place),
+            ..entry
+        }
+    }
+}
+
 /// What is known of each symbol, in the order of first sight.
 #[derive(Drop)]
 pub struct Symbols<'a> {
@@ -39,7 +66,7 @@ impl<'a> Model for Symbols<'a> {
 }
 
 impl<'a> Symbols<'a> {
-    ghost use Rattle.std.specs.Prelude.{◌≡◌, ◌<◌, ◌≤◌, [], OnOk, length, slice_get, Some};
+    ghost use Rattle.std.specs.Prelude.{◌≡◌, ◌<◌, ◌≤◌, [], IfOk, OnOk, length, slice_get, Some};
     ghost use Rattle.tc_asm.specs.Objects.{number_of};
     ghost use Rattle.tc_asm.specs.Symbols.{symbol, entry_in, entry_of, put_entry, place_in, seen, labelled, made_global};
 
@@ -95,11 +122,12 @@ impl<'a> Symbols<'a> {
         self.entry_of(name).place
     }
 
-    fn put(&mut self, name: &'a [u8], entry: Entry) -> Result<(), AllocError>
-        ensures { OnOk result (self.new ≡ put_entry self.old name.entry.now entry) }
+    // Puts what is known of a name, and tells what was.
+    fn put(&mut self, name: &'a [u8], entry: Entry) -> Result<Option<Entry>, AllocError>
+        ensures put { OnOk result (self.new ≡ put_entry self.old name.entry.now entry) }
+        ensures old { IfOk result (λ old. old ≡ entry_in self.old name.entry.now) }
     {
-        self.known.insert(name, entry)?;
-        Ok(())
+        Ok(self.known.insert(name, entry)?)
     }
 
     /// Adds a name that isn't known.
@@ -110,19 +138,22 @@ impl<'a> Symbols<'a> {
         if self.get(name).is_some() {
             return Ok(());
         }
-        self.put(name, UNSEEN)
+        self.put(name, UNSEEN)?;
+        Ok(())
     }
 
-    /// Notes where a name's label stands, if none stood anywhere before.
-    #[tactic(auto, unfolding(crate::specs::Symbols::labelled))]
+    /// Notes where a name's label stands, if none stood anywhere before. A new name is looked for once.
+    #[tactic(auto, using(crate::proofs::SymbolLaws::labelled_new, crate::proofs::SymbolLaws::labelled_known))]
     pub fn label(&mut self, name: &'a [u8], place: Place) -> Result<(), AllocError>
         ensures { OnOk result (self.new ≡ labelled self.old name.entry.now place) }
     {
-        let mut entry = self.entry_of(name);
-        if entry.place.is_none() {
-            entry.place = Some(place);
+        match self.put(name, labelled_at(place))? {
+            None => Ok(()),
+            Some(old) => {
+                self.put(name, with_label(old, place))?;
+                Ok(())
+            }
         }
-        self.put(name, entry)
     }
 
     /// Makes a name global.
@@ -132,6 +163,7 @@ impl<'a> Symbols<'a> {
     {
         let mut entry = self.entry_of(name);
         entry.is_global = true;
-        self.put(name, entry)
+        self.put(name, entry)?;
+        Ok(())
     }
 }

@@ -1,7 +1,9 @@
 pub mod FrontLaws
 pub mod CutLaws
+pub mod PieceLaws
 pub mod TextLaws
 pub mod LongestLaws
 pub mod LineLaws
 pub mod Mapped
 pub mod Parted
+pub mod NumberTokens

@@ -1,8 +1,9 @@
 -- The tokens of a line, with their texts.
-use Rattle.std.specs.Prelude.{ℕ, ◌==◌, Bool, false, List, [], slice_get}
+use Rattle.std.specs.Prelude.{◌≡◌, ℕ, ◌==◌, ◌&&◌, ◌++◌, nat_le, if◌then◌else◌, Bool, false, List, [], length, map, slice_get, slice_range, Result, Ok, Err}
 use Rattle.std.specs.Option.{option_map_or}
 use Rattle.tc_lex.specs.declared.kinds.TokenKind.{TokenKind}
 use Rattle.tc_lex.specs.declared.kinds.TokenKind.TheVariants.{Word, Number, Comma, Colon, Open, Close, Plus, Minus}
+use Rattle.tc_lex.specs.declared.kinds.Token.{Token}
 use Rattle.tc_lex.specs.declared.pieces.Piece.{Piece}
 
 -- a token without where its text lies
@@ -32,3 +33,21 @@ is_kind ps i kind = option_map_or (λ p. kind_index p.kind == kind_index kind) (
 -- the text of the token at this place
 unfoldable pub text_at : List PieceData → ℕ → List ℕ
 text_at ps i = option_map_or (λ p. p.text) (slice_get ps i) []
+
+-- the bytes from one place to another; tokens always lie within their line
+abbrev pub text_in : List ℕ → ℕ → ℕ → List ℕ
+text_in line from to = if nat_le from to && nat_le to (length line) then slice_range line from to else []
+
+-- a token with its text
+abbrev pub piece_in : List ℕ → Token → PieceData
+piece_in line t = record { kind = t.kind; text = text_in line t.from t.to }
+
+-- the tokens that a line is cut into, with their texts, or the place where it can't be cut
+abbrev pub pieces_of : List ℕ → Result (List Token) ℕ → Result (List PieceData) ℕ
+pieces_of line (Ok ts) = Ok (map (piece_in line) ts)
+pieces_of line (Err at) = Err at
+
+-- these are the tokens of a line with their texts, or that is the place
+abbrev pub CutsPieces : {U : Type 0} → Result U ℕ → List PieceData → Result (List PieceData) ℕ → Type 0
+CutsPieces (Ok u) ps r = r ≡ Ok ps
+CutsPieces (Err at) ps r = r ≡ Err at

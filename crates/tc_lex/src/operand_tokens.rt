@@ -1,6 +1,7 @@
 // The forms of operands.
-ghost use Rattle.std.specs.Prelude.{◌≡◌, ◌<◌, ◌≤◌, ◌+◌, map, length, not};
-ghost use Rattle.tc_lex.specs.Pieces.{piece_of};
+ghost use Rattle.std.specs.Prelude.{◌≡◌, ◌≢◌, ◌<◌, ◌≤◌, ◌+◌, map, length, not, true};
+ghost use Rattle.tc_lex.specs.declared.kinds.TokenKind.TheVariants.{Word, Colon, Open};
+ghost use Rattle.tc_lex.specs.Pieces.{piece_of, is_kind as is_kind_at};
 ghost use Rattle.tc_lex.specs.Operands.{value_of, operand_of, number_at, sum_at, named_at, value_at, operand, value as data_of, plain as plain_of, memory as memory_of, plain_number as number_value, with_number as sum_value};
 
 use crate::TokenKind;
@@ -60,6 +61,30 @@ fn number_at(ps: &[Piece], at: usize) -> Option<(bool, Option<u128>)>
     }
 }
 
+// A name at this place, with a number added to it.
+#[inline(never)]
+#[tactic(auto, unfolding(crate::specs::Operands::sum_at))]
+fn added_at<'a>(ps: &[Piece<'a>], at: usize, plain: Shape, summed: Shape) -> Value<'a>
+    requires place { at ≤ length ps.now }
+    requires word { is_kind_at (map piece_of ps.now) at Word ≡ true }
+    requires more { length ps.now ≢ at + 1 }
+    ensures { value_of result ≡ sum_at (map piece_of ps.now) at plain summed }
+{
+    if is_kind(ps, at + 1, TokenKind::Plus) {
+        match number_at(ps, at + 2) {
+            Some((minus, n)) => add_number(summed, text_at(ps, at), minus, n),
+            None => make_value(Shape::Bad, &[], false, 0),
+        }
+    } else if is_kind(ps, at + 1, TokenKind::Minus) {
+        match number_at(ps, at + 2) {
+            Some((minus, n)) => add_number(summed, text_at(ps, at), !minus, n),
+            None => make_value(Shape::Bad, &[], false, 0),
+        }
+    } else {
+        make_value(Shape::Bad, &[], false, 0)
+    }
+}
+
 #[tactic(auto, unfolding(crate::specs::Operands::sum_at))]
 fn sum_at<'a>(ps: &[Piece<'a>], at: usize, plain: Shape, summed: Shape) -> Value<'a>
     requires { at ≤ length ps.now }
@@ -68,19 +93,27 @@ fn sum_at<'a>(ps: &[Piece<'a>], at: usize, plain: Shape, summed: Shape) -> Value
     if is_kind(ps, at, TokenKind::Word) {
         if ps.len() - at == 1 {
             make_value(plain, text_at(ps, at), false, 0)
-        } else if is_kind(ps, at + 1, TokenKind::Plus) {
-            match number_at(ps, at + 2) {
-                Some((minus, n)) => add_number(summed, text_at(ps, at), minus, n),
-                None => make_value(Shape::Bad, &[], false, 0),
-            }
-        } else if is_kind(ps, at + 1, TokenKind::Minus) {
-            match number_at(ps, at + 2) {
-                Some((minus, n)) => add_number(summed, text_at(ps, at), !minus, n),
-                None => make_value(Shape::Bad, &[], false, 0),
-            }
         } else {
-            make_value(Shape::Bad, &[], false, 0)
+            added_at(ps, at, plain, summed)
         }
+    } else {
+        make_value(Shape::Bad, &[], false, 0)
+    }
+}
+
+// A half of a symbol.
+#[inline(never)]
+#[tactic(auto, unfolding(crate::specs::Operands::named_at))]
+fn half_at<'a>(ps: &[Piece<'a>], at: usize) -> Value<'a>
+    requires place { at + 1 < length ps.now }
+    requires colon { is_kind_at (map piece_of ps.now) (at + 1) Colon ≡ true }
+    ensures { value_of result ≡ named_at (map piece_of ps.now) at }
+{
+    let name = text_at(ps, at);
+    if is_text(name, "hi") {
+        sum_at(ps, at + 2, Shape::High, Shape::High)
+    } else if is_text(name, "lo") {
+        sum_at(ps, at + 2, Shape::Low, Shape::Low)
     } else {
         make_value(Shape::Bad, &[], false, 0)
     }
@@ -92,26 +125,21 @@ fn named_at<'a>(ps: &[Piece<'a>], at: usize) -> Value<'a>
     ensures { value_of result ≡ named_at (map piece_of ps.now) at }
 {
     if is_kind(ps, at + 1, TokenKind::Colon) {
-        let name = text_at(ps, at);
-        if is_text(name, "hi") {
-            sum_at(ps, at + 2, Shape::High, Shape::High)
-        } else if is_text(name, "lo") {
-            sum_at(ps, at + 2, Shape::Low, Shape::Low)
-        } else {
-            make_value(Shape::Bad, &[], false, 0)
-        }
+        half_at(ps, at)
     } else {
         sum_at(ps, at, Shape::Word, Shape::Sum)
     }
 }
 
-#[tactic(auto, unfolding(crate::specs::Operands::value_at))]
+#[tactic(auto, unfolding(crate::specs::Operands::value_at), using(crate::proofs::NumberTokens::word_no_number))]
 fn value_at<'a>(ps: &[Piece<'a>], at: usize) -> Value<'a>
     requires { at ≤ length ps.now }
     ensures { value_of result ≡ value_at (map piece_of ps.now) at }
 {
     if ps.len() == at {
         make_value(Shape::Absent, &[], false, 0)
+    } else if is_kind(ps, at, TokenKind::Word) {
+        named_at(ps, at)
     } else {
         match number_at(ps, at) {
             Some((minus, n)) => plain_number(minus, n),
@@ -142,23 +170,33 @@ fn memory<'a>(plus: bool, base: &'a [u8], value: Value<'a>) -> Operand<'a>
     }
 }
 
+// An operand that begins with a `[`.
+#[inline(never)]
+#[tactic(auto, unfolding(crate::specs::Operands::operand))]
+fn bracketed<'a>(ps: &[Piece<'a>]) -> Operand<'a>
+    requires { is_kind_at (map piece_of ps.now) 0 Open ≡ true }
+    ensures { operand_of result ≡ operand (map piece_of ps.now) }
+{
+    if is_kind(ps, 1, TokenKind::Word) {
+        if is_kind(ps, 2, TokenKind::Close) {
+            memory(false, text_at(ps, 1), value_at(ps, 3))
+        } else if is_kind(ps, 2, TokenKind::Plus) && is_kind(ps, 3, TokenKind::Close) {
+            memory(true, text_at(ps, 1), value_at(ps, 4))
+        } else {
+            plain(make_value(Shape::Bad, &[], false, 0))
+        }
+    } else {
+        plain(make_value(Shape::Bad, &[], false, 0))
+    }
+}
+
 /// The operand that these tokens are.
 #[tactic(auto, unfolding(crate::specs::Operands::operand))]
 pub(crate) fn operand<'a>(ps: &[Piece<'a>]) -> Operand<'a>
     ensures { operand_of result ≡ operand (map piece_of ps.now) }
 {
     if is_kind(ps, 0, TokenKind::Open) {
-        if is_kind(ps, 1, TokenKind::Word) {
-            if is_kind(ps, 2, TokenKind::Close) {
-                memory(false, text_at(ps, 1), value_at(ps, 3))
-            } else if is_kind(ps, 2, TokenKind::Plus) && is_kind(ps, 3, TokenKind::Close) {
-                memory(true, text_at(ps, 1), value_at(ps, 4))
-            } else {
-                plain(make_value(Shape::Bad, &[], false, 0))
-            }
-        } else {
-            plain(make_value(Shape::Bad, &[], false, 0))
-        }
+        bracketed(ps)
     } else {
         plain(value_at(ps, 0))
     }

@@ -1,5 +1,5 @@
 -- Operands, one after another.
-use Rattle.std.proofs.Common.{◌≡◌, ◌<◌, ◌≤◌, ◌+◌, ◌≢◌, suc, ℕ, List, [], ◌∷◌, length, get_or, drop, map, Option, Some, None, refl, ap, sym, ◌∙◌, arith}
+use Rattle.std.proofs.Common.{◌≡◌, ◌<◌, ◌≤◌, ◌+◌, ◌≢◌, suc, ℕ, Bool, true, false, cond, List, [], ◌∷◌, length, get_or, drop, map, Option, Some, None, refl, ap, sym, ◌∙◌, arith}
 use Rattle.std.specs.Prelude.{option_and_then}
 use Rattle.std.proofs.lemmas.List.{drop_more, drop_all, length-map, get_or-map}
 use Rattle.tc_isa.specs.Rows.{RowData}
@@ -41,3 +41,22 @@ fill_step r ws os i w o acc found e h even =
     fill_all-drop r ws (map operand_of os) i w (operand_of o) acc h (rw (length-map os operand_of) within)
     ∙ ap (λ q. option_and_then (fill_all r (drop (i + 1) ws) (drop (i + 1) (map operand_of os))) (fill r (get_or ws i w) q acc)) (get_or-map operand_of os i o (operand_of o) within)
     ∙ ap (λ f. option_and_then (fill_all r (drop (i + 1) ws) (drop (i + 1) (map operand_of os))) f) (sym e)
+
+-- ---- a loop over operands
+module _ (r : RowData) (ws : List Want) (os : List Operand) (i : ℕ) (acc : RowFieldsData) (all : Option RowFieldsData)
+    (so_far : fill_all r (drop i ws) (drop i (map operand_of os)) acc ≡ all) where
+  -- one operand that is of its form
+  pub fill_more : (w : Want) (o : Operand) (next : RowFieldsData) (fits : Bool) → cond fits (Some next) None ≡ fill r (get_or ws i w) (operand_of (get_or os i o)) acc → fits ≡ true
+      → i < length ws → length ws ≡ length os → fill_all r (drop (i + 1) ws) (drop (i + 1) (map operand_of os)) next ≡ all
+  fill_more w o next true e is h even = sym (fill_step r ws os i w o acc (Some next) e h even) ∙ so_far
+  fill_more w o next false e is h even = cc
+
+  -- one that isn't
+  pub fill_none : (w : Want) (o : Operand) (next : RowFieldsData) (fits : Bool) → cond fits (Some next) None ≡ fill r (get_or ws i w) (operand_of (get_or os i o)) acc → fits ≡ false
+      → i < length ws → length ws ≡ length os → None ≡ all
+  fill_none w o next true e is h even = cc
+  fill_none w o next false e is h even = sym (fill_step r ws os i w o acc None e h even) ∙ so_far
+
+  -- no operand is left
+  pub fill_last : length ws ≤ i → length ws ≡ length os → Some acc ≡ all
+  fill_last h even = sym (fill_all-end r ws (map operand_of os) i acc h (rw (length-map os operand_of) (omega arith))) ∙ so_far

@@ -9,7 +9,7 @@ use Rattle.tc_lex.specs.declared.kinds.TokenKind.TheVariants as kind
 use Rattle.tc_lex.specs.Cut.{tokens_of}
 use Rattle.tc_isa.specs.Rows.{listed}
 use Rattle.tc_isa.specs.Codec.{is_long}
-use Rattle.tc_lex.specs.Pieces.{PieceData, is_kind, text_at}
+use Rattle.tc_lex.specs.Pieces.{PieceData, is_kind, text_at, text_in as text_between, piece_in as with_text}
 use Rattle.tc_lex.specs.Operands.{OperandData, operands}
 use Rattle.tc_stmt.specs.RowFields.{RowFieldsData, is_word}
 use Rattle.tc_stmt.specs.StatementRow.{statement}
@@ -102,13 +102,13 @@ line_with_label name l = line_data l.rule (label name ∷ l.items)
 unfoldable pub pieces_line : List PieceData → LineData
 pieces_line ps = if has_label ps then line_with_label (text_at ps 0) (line_from ps 2) else line_from ps 0
 
--- the bytes from one place to another; tokens always lie within their line
+-- the bytes from one place to another
 abbrev pub text_in : List ℕ → ℕ → ℕ → List ℕ
-text_in line from to = if nat_le from to && nat_le to (length line) then slice_range line from to else []
+text_in line from to = text_between line from to
 
 -- a token with its text
 abbrev pub piece_in : List ℕ → Token → PieceData
-piece_in line t = record { kind = t.kind; text = text_in line t.from t.to }
+piece_in line t = with_text line t
 
 -- the label alone that tokens begin with
 unfoldable pub label_of : List PieceData → List ItemData

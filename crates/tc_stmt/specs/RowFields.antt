@@ -1,5 +1,5 @@
 -- What operands give a row: its fields, a symbol, and the least rule that they break.
-use Rattle.std.specs.Prelude.{ℕ, ◌+◌, ◌-◌, ◌*◌, ◌/◌, ◌%◌, ◌^◌, ◌==◌, ◌&&◌, ◌||◌, not, nat_lt, nat_le, min, Bool, true, if◌then◌else◌, List, [], ◌∷◌, length, codes, slice_index, Option, Some, None, option_map, option_and_then}
+use Rattle.std.specs.Prelude.{◌≡◌, ℕ, ◌+◌, ◌-◌, ◌*◌, ◌/◌, ◌%◌, ◌^◌, ◌==◌, ◌&&◌, ◌||◌, not, nat_lt, nat_le, min, Bool, true, if◌then◌else◌, List, [], ◌∷◌, length, codes, slice_index, Option, Some, None, option_map, option_and_then}
 use Rattle.std.specs.Str.{bytes_eq}
 use Rattle.tc_isa.specs.Relocations.{hi16, lo16, offset16, rel24, rel15, abs24}
 use Rattle.tc_stmt.specs.SourceRules.{wrong_register, wide_number, equal_registers, no_rule, bad_name, misplaced_symbol, far_target, odd_displacement}
@@ -40,6 +40,10 @@ pub record RowFieldsData : Type 0 where
 -- what a row has so far, without where a symbol's name lies
 abbrev pub row_fields_of : RowFields → RowFieldsData
 row_fields_of f = record { fields = f.fields; rule = f.rule; reference = option_map reference_of f.reference }
+
+-- what operands give a row is this, where they are of its forms
+abbrev pub Fills : Bool → RowFields → Option RowFieldsData → Type 0
+Fills fits f given = (if fits then Some (row_fields_of f) else None) ≡ given
 
 -- what a row has before its first operand: fields that are all zero, no rule broken, no symbol
 abbrev pub no_fields : RowFieldsData

@@ -1,9 +1,9 @@
 // What operands give a row.
-ghost use Rattle.std.specs.Prelude.{◌≡◌, ◌<◌, ◌≤◌, ◌+◌, ◌^◌, map, option_map, length, true, if◌then◌else◌, ◌==◌, false, ◌*◌};
+ghost use Rattle.std.specs.Prelude.{◌≡◌, ◌<◌, ◌≤◌, ◌+◌, ◌^◌, map, length, true, if◌then◌else◌, ◌==◌, false, ◌*◌};
 ghost use Rattle.tc_isa.specs.Rows.{row_of};
 ghost use Rattle.tc_isa.specs.Words.{form_index, bounds};
 ghost use Rattle.tc_lex.specs.Operands.{value_of, operand_of};
-ghost use Rattle.tc_stmt.specs.RowFields.{row_fields_of, set_field, field_of, shape_index, register_of, put_register, fits, wrap, put_number, half_kind, fill_value, fill_memory, displacement_rule, with_displacement, target_kind, fill_target, put_absolute, fill_absolute, fill_register, fill_a10, fill_plain, fill, with_value as put_in, is_named as named, is_far};
+ghost use Rattle.tc_stmt.specs.RowFields.{Fills, row_fields_of, set_field, field_of, shape_index, register_of, put_register, fits, wrap, put_number, half_kind, fill_value, fill_memory, displacement_rule, with_displacement, target_kind, fill_target, put_absolute, fill_absolute, fill_register, fill_a10, fill_plain, fill, with_value as put_in, is_named as named, is_far};
 
 use crate::row_fields::RowFields;
 use crate::symbols::{break_rule, misplace, with_symbol};
@@ -12,27 +12,15 @@ use tc_isa::{Fields, Form, Row, bounds_of};
 use tc_lex::{Operand, Shape, Value, is_text};
 
 #[tactic(auto, unfolding(crate::specs::RowFields::set_field))]
-fn set_field(field: Field, v: u32, f: &Fields) -> Fields
-    ensures { result ≡ set_field field v f.now }
+fn set_field(field: Field, v: u32, f: &mut Fields)
+    ensures { f.new ≡ set_field field v f.old }
 {
     match field {
-        Field::C => Fields {
-            c: (v % 256) as u8,
-            ..*f
-        },
-        Field::S1 => Fields {
-            s1: (v % 256) as u8,
-            ..*f
-        },
-        Field::S2 => Fields {
-            s2: (v % 256) as u8,
-            ..*f
-        },
-        Field::N => Fields {
-            n: (v % 256) as u8,
-            ..*f
-        },
-        Field::K => Fields { k: v, ..*f },
+        Field::C => f.c = (v % 256) as u8,
+        Field::S1 => f.s1 = (v % 256) as u8,
+        Field::S2 => f.s2 = (v % 256) as u8,
+        Field::N => f.n = (v % 256) as u8,
+        Field::K => f.k = v,
     }
 }
 
@@ -120,24 +108,22 @@ fn register_of(name: &[u8]) -> u8
     }
 }
 
-fn put(field: Field, v: u32, acc: RowFields<'_>) -> RowFields<'_>
-    ensures { row_fields_of result ≡ put_in field v (row_fields_of acc.entry) }
+fn put(field: Field, v: u32, acc: &mut RowFields<'_>)
+    ensures { row_fields_of acc.new ≡ put_in field v (row_fields_of acc.old) }
 {
-    RowFields {
-        fields: set_field(field, v, &acc.fields),
-        ..acc
-    }
+    set_field(field, v, &mut acc.fields);
 }
 
 #[tactic(auto, unfolding(crate::specs::RowFields::put_register))]
-fn put_register<'a>(bank: bool, field: Field, name: &[u8], acc: RowFields<'a>) -> RowFields<'a>
-    ensures { row_fields_of result ≡ put_register bank field name.now (row_fields_of acc.entry) }
+fn put_register(bank: bool, field: Field, name: &[u8], acc: &mut RowFields<'_>)
+    ensures { row_fields_of acc.new
+        ≡ put_register bank field name.now (row_fields_of acc.old) }
 {
     let reg = register_of(name);
     if reg / 16 == (if bank { 1 } else { 0 }) {
-        put(field, u32::from(reg % 16), acc)
+        put(field, u32::from(reg % 16), acc);
     } else {
-        break_rule(4, acc)
+        break_rule(4, acc);
     }
 }
 
@@ -171,22 +157,22 @@ fn wrap(bound: u32, minus: bool, size: u32) -> u32
 }
 
 #[tactic(auto, unfolding(crate::specs::RowFields::put_number))]
-fn put_number<'a>(
+fn put_number(
     form: Form,
     signed: bool,
     field: Field,
     minus: bool,
     size: u128,
-    acc: RowFields<'a>,
-) -> RowFields<'a>
-    ensures { row_fields_of result
-        ≡ put_number form signed field minus size (row_fields_of acc.entry) }
+    acc: &mut RowFields<'_>,
+)
+    ensures { row_fields_of acc.new
+        ≡ put_number form signed field minus size (row_fields_of acc.old) }
 {
     let bound = field_of(field, &bounds_of(form));
     if fits(signed, bound, minus, size) {
-        put(field, wrap(bound, minus, size as u32), acc)
+        put(field, wrap(bound, minus, size as u32), acc);
     } else {
-        break_rule(5, acc)
+        break_rule(5, acc);
     }
 }
 
@@ -224,28 +210,32 @@ fn fill_value<'a>(
     row: &Row,
     signed: bool,
     field: Field,
-    v: Value<'a>,
-    acc: RowFields<'a>,
-) -> Option<RowFields<'a>>
-    ensures { option_map row_fields_of result
-        ≡ fill_value (row_of row.now) signed field (value_of v.entry) (row_fields_of acc.entry) }
+    v: &Value<'a>,
+    acc: &mut RowFields<'a>,
+) -> bool
+    ensures { Fills result acc.new
+        (fill_value (row_of row.now) signed field (value_of v.now) (row_fields_of acc.old)) }
 {
     let shape = shape_index(v.shape);
     if shape == 1 {
-        Some(put_number(row.form, signed, field, v.minus, v.size, acc))
+        put_number(row.form, signed, field, v.minus, v.size, acc);
+        true
     } else if shape == 7 {
-        Some(break_rule(5, acc))
+        break_rule(5, acc);
+        true
     } else if shape == 2 || shape == 3 {
-        Some(misplace(v, acc))
+        misplace(v, acc);
+        true
     } else if shape == 4 || shape == 5 {
         let kind = half_kind(row, v.shape);
         if kind == 0 {
-            Some(misplace(v, acc))
+            misplace(v, acc);
         } else {
-            Some(with_symbol(kind, v, acc))
+            with_symbol(kind, v, acc);
         }
+        true
     } else {
-        None
+        false
     }
 }
 
@@ -254,28 +244,24 @@ fn fill_memory<'a>(
     row: &Row,
     plus: bool,
     offset: bool,
-    o: Operand<'a>,
-    acc: RowFields<'a>,
-) -> Option<RowFields<'a>>
-    ensures { option_map row_fields_of result
-        ≡ fill_memory (row_of row.now) plus offset (operand_of o.entry) (row_fields_of acc.entry) }
+    o: &Operand<'a>,
+    acc: &mut RowFields<'a>,
+) -> bool
+    ensures { Fills result acc.new
+        (fill_memory (row_of row.now) plus offset (operand_of o.now) (row_fields_of acc.old)) }
 {
     if o.is_memory && (if o.plus { plus } else { !plus }) {
         if shape_index(o.value.shape) == 0 {
-            Some(put_register(true, Field::S2, o.base, acc))
+            put_register(true, Field::S2, o.base, acc);
+            true
         } else if offset {
-            fill_value(
-                row,
-                true,
-                Field::K,
-                o.value,
-                put_register(true, Field::S2, o.base, acc),
-            )
+            put_register(true, Field::S2, o.base, acc);
+            fill_value(row, true, Field::K, &o.value, acc)
         } else {
-            None
+            false
         }
     } else {
-        None
+        false
     }
 }
 
@@ -324,11 +310,10 @@ fn displacement_rule(row: &Row, minus: bool, size: u128) -> u8
     by_far.min(by_odd)
 }
 
-/// What a displacement of so many bytes adds.
 #[tactic(auto, unfolding(crate::specs::RowFields::with_displacement))]
-pub fn displaced<'a>(row: &Row, minus: bool, size: u128, acc: RowFields<'a>) -> RowFields<'a>
-    ensures { row_fields_of result
-        ≡ with_displacement (row_of row.now) minus size (row_fields_of acc.entry) }
+fn displace(row: &Row, minus: bool, size: u128, acc: &mut RowFields<'_>)
+    ensures { row_fields_of acc.new
+        ≡ with_displacement (row_of row.now) minus size (row_fields_of acc.old) }
 {
     let rule = displacement_rule(row, minus, size);
     if rule == 15 {
@@ -336,10 +321,20 @@ pub fn displaced<'a>(row: &Row, minus: bool, size: u128, acc: RowFields<'a>) -> 
             Field::K,
             wrap(bound_of(row.form), minus, (size / 2) as u32),
             acc,
-        )
+        );
     } else {
-        break_rule(rule, acc)
+        break_rule(rule, acc);
     }
+}
+
+/// What a displacement of so many bytes adds.
+pub fn displaced<'a>(row: &Row, minus: bool, size: u128, acc: RowFields<'a>) -> RowFields<'a>
+    ensures { row_fields_of result
+        ≡ with_displacement (row_of row.now) minus size (row_fields_of acc.entry) }
+{
+    let mut made = acc;
+    displace(row, minus, size, &mut made);
+    made
 }
 
 #[tactic(auto, unfolding(crate::specs::RowFields::target_kind))]
@@ -354,132 +349,128 @@ fn target_kind(row: &Row) -> u8
 }
 
 #[tactic(auto, unfolding(crate::specs::RowFields::fill_target))]
-fn fill_target<'a>(row: &Row, v: Value<'a>, acc: RowFields<'a>) -> Option<RowFields<'a>>
-    ensures { option_map row_fields_of result
-        ≡ fill_target (row_of row.now) (value_of v.entry) (row_fields_of acc.entry) }
+fn fill_target<'a>(row: &Row, v: &Value<'a>, acc: &mut RowFields<'a>) -> bool
+    ensures { Fills result acc.new
+        (fill_target (row_of row.now) (value_of v.now) (row_fields_of acc.old)) }
 {
     let shape = shape_index(v.shape);
     if shape == 3 && is_text(v.name, ".") {
-        Some(if v.wide {
-            break_rule(5, acc)
+        if v.wide {
+            break_rule(5, acc);
         } else {
-            displaced(row, v.minus, v.size, acc)
-        })
+            displace(row, v.minus, v.size, acc);
+        }
+        true
     } else if shape == 2 || shape == 3 {
-        Some(with_symbol(target_kind(row), v, acc))
+        with_symbol(target_kind(row), v, acc);
+        true
     } else if shape == 4 || shape == 5 {
-        Some(misplace(v, acc))
+        misplace(v, acc);
+        true
     } else {
-        None
+        false
     }
 }
 
 #[tactic(auto, unfolding(crate::specs::RowFields::put_absolute))]
-fn put_absolute(form: Form, minus: bool, size: u128, acc: RowFields<'_>) -> RowFields<'_>
-    ensures { row_fields_of result ≡ put_absolute form minus size (row_fields_of acc.entry) }
+fn put_absolute(form: Form, minus: bool, size: u128, acc: &mut RowFields<'_>)
+    ensures { row_fields_of acc.new ≡ put_absolute form minus size (row_fields_of acc.old) }
 {
     if (minus && size != 0) || 0x1_0000_0000 <= size {
-        break_rule(5, acc)
+        break_rule(5, acc);
     } else if form_index(form) == 8 {
         if size / 16384 % 16384 == 0 {
             put(
                 Field::K,
                 (size / 268435456 * 16384 + size % 16384) as u32,
                 acc,
-            )
+            );
         } else {
-            break_rule(5, acc)
+            break_rule(5, acc);
         }
     } else if size / 2097152 % 128 == 0 && size % 2 == 0 {
         put(
             Field::K,
             (size / 268435456 * 1048576 + size % 2097152 / 2) as u32,
             acc,
-        )
+        );
     } else {
-        break_rule(5, acc)
+        break_rule(5, acc);
     }
 }
 
 #[tactic(auto, unfolding(crate::specs::RowFields::fill_absolute))]
-fn fill_absolute<'a>(row: &Row, v: Value<'a>, acc: RowFields<'a>) -> Option<RowFields<'a>>
-    ensures { option_map row_fields_of result
-        ≡ fill_absolute (row_of row.now) (value_of v.entry) (row_fields_of acc.entry) }
+fn fill_absolute<'a>(row: &Row, v: &Value<'a>, acc: &mut RowFields<'a>) -> bool
+    ensures { Fills result acc.new
+        (fill_absolute (row_of row.now) (value_of v.now) (row_fields_of acc.old)) }
 {
     let shape = shape_index(v.shape);
     if shape == 1 {
-        Some(put_absolute(row.form, v.minus, v.size, acc))
+        put_absolute(row.form, v.minus, v.size, acc);
+        true
     } else if shape == 7 {
-        Some(break_rule(5, acc))
+        break_rule(5, acc);
+        true
     } else if shape == 2 || shape == 3 {
         if form_index(row.form) == 8 {
-            Some(misplace(v, acc))
+            misplace(v, acc);
         } else {
-            Some(with_symbol(2, v, acc))
+            with_symbol(2, v, acc);
         }
+        true
     } else if shape == 4 || shape == 5 {
-        Some(misplace(v, acc))
+        misplace(v, acc);
+        true
     } else {
-        None
+        false
     }
 }
 
 #[tactic(auto, unfolding(crate::specs::RowFields::fill_register))]
-fn fill_register<'a>(
-    bank: bool,
-    field: Field,
-    v: Value<'a>,
-    acc: RowFields<'a>,
-) -> Option<RowFields<'a>>
-    ensures { option_map row_fields_of result
-        ≡ fill_register bank field (value_of v.entry) (row_fields_of acc.entry) }
+fn fill_register(bank: bool, field: Field, v: &Value<'_>, acc: &mut RowFields<'_>) -> bool
+    ensures { Fills result acc.new
+        (fill_register bank field (value_of v.now) (row_fields_of acc.old)) }
 {
     if shape_index(v.shape) == 2 {
-        Some(put_register(bank, field, v.name, acc))
+        put_register(bank, field, v.name, acc);
+        true
     } else {
-        None
+        false
     }
 }
 
 #[tactic(auto, unfolding(crate::specs::RowFields::fill_a10))]
-fn fill_a10<'a>(v: Value<'a>, acc: RowFields<'a>) -> Option<RowFields<'a>>
-    ensures { option_map row_fields_of result
-        ≡ fill_a10 (value_of v.entry) (row_fields_of acc.entry) }
+fn fill_a10(v: &Value<'_>, acc: &mut RowFields<'_>) -> bool
+    ensures { Fills result acc.new (fill_a10 (value_of v.now) (row_fields_of acc.old)) }
 {
     if shape_index(v.shape) == 2 {
-        if is_text(v.name, "a10") {
-            Some(acc)
-        } else {
-            Some(break_rule(4, acc))
+        if !is_text(v.name, "a10") {
+            break_rule(4, acc);
         }
+        true
     } else {
-        None
+        false
     }
 }
 
-/// What the operand at this place adds; nothing where its form doesn't belong there.
+/// What the operand at this place adds; false where its form doesn't belong there.
 #[tactic(auto, unfolding(crate::specs::RowFields::fill, crate::specs::RowFields::fill_plain))]
-pub(crate) fn fill<'a>(
-    row: &Row,
-    want: Want,
-    o: Operand<'a>,
-    acc: RowFields<'a>,
-) -> Option<RowFields<'a>>
-    ensures { option_map row_fields_of result
-        ≡ fill (row_of row.now) want (operand_of o.entry) (row_fields_of acc.entry) }
+pub(crate) fn fill<'a>(row: &Row, want: Want, o: &Operand<'a>, acc: &mut RowFields<'a>) -> bool
+    ensures { Fills result acc.new
+        (fill (row_of row.now) want (operand_of o.now) (row_fields_of acc.old)) }
 {
     if let Want::Memory(plus, offset) = want {
         return fill_memory(row, plus, offset, o, acc);
     }
     if o.is_memory {
-        return None;
+        return false;
     }
     match want {
-        Want::Reg(bank, field) => fill_register(bank, field, o.value, acc),
-        Want::A10 => fill_a10(o.value, acc),
-        Want::Number(signed, field) => fill_value(row, signed, field, o.value, acc),
-        Want::Target => fill_target(row, o.value, acc),
-        Want::Absolute => fill_absolute(row, o.value, acc),
-        Want::Memory(_, _) => None,
+        Want::Reg(bank, field) => fill_register(bank, field, &o.value, acc),
+        Want::A10 => fill_a10(&o.value, acc),
+        Want::Number(signed, field) => fill_value(row, signed, field, &o.value, acc),
+        Want::Target => fill_target(row, &o.value, acc),
+        Want::Absolute => fill_absolute(row, &o.value, acc),
+        Want::Memory(_, _) => false,
     }
 }

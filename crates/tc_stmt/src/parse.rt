@@ -13,13 +13,12 @@ ghost use Rattle.tc_stmt.specs.Lines.{line_data, Adds, behind, named_line, is_wo
 
 use crate::data::{space_item, space_rule, value_item, value_rule};
 use crate::item::Item;
-use crate::pieces::pieces_in;
 use crate::source::Line;
 use crate::{shape_index, statement};
 use arrayvec::ArrayVec;
 use std::alloc::AllocError;
 use tc_isa::{Row, rows};
-use tc_lex::{Operand, Piece, Token, TokenKind, cut_into, is_kind, operands, text_at};
+use tc_lex::{Operand, Piece, TokenKind, cut_pieces, is_kind, operands, text_at};
 
 // Adds nothing.
 fn nothing(rule: u8, items: &mut Vec<Item<'_>>) -> Result<u8, AllocError>
@@ -347,47 +346,40 @@ fn label_line<'a>(ps: &[Piece<'a>], items: &mut Vec<Item<'a>>) -> Result<u8, All
 }
 
 // A line that can't be cut, of which this stands before the byte that can't be taken.
+#[tactic(auto, using(crate::proofs::PieceLines::label_pieces, crate::proofs::PieceLines::label_unread))]
 fn uncut_line<'a>(
     front: &'a [u8],
-    tokens: &mut ArrayVec<Token, 64>,
     pieces: &mut ArrayVec<Piece<'a>, 64>,
     items: &mut Vec<Item<'a>>,
 ) -> Result<u8, AllocError>
     ensures { Adds (line_data 1
         (label_before front.now (tokens_of front.now))) result items.old.items items.new.items }
 {
-    match cut_into(front, tokens) {
-        Ok(()) => {
-            pieces_in(front, tokens.as_slice(), pieces);
-            label_line(pieces.as_slice(), items)
-        }
+    match cut_pieces(front, pieces) {
+        Ok(()) => label_line(pieces.as_slice(), items),
         Err(_) => nothing(1, items),
     }
 }
 
 // The least rule that a line breaks by itself; what it adds to its source goes behind the items.
+#[tactic(auto, using(crate::proofs::PieceLines::line_pieces, crate::proofs::PieceLines::line_unread))]
 fn line_rule<'a>(
     line: &'a [u8],
-    tokens: &mut ArrayVec<Token, 64>,
     pieces: &mut ArrayVec<Piece<'a>, 64>,
     operands: &mut ArrayVec<Operand<'a>, 65>,
     items: &mut Vec<Item<'a>>,
 ) -> Result<u8, AllocError>
     ensures { Adds (line_in line.now) result items.old.items items.new.items }
 {
-    match cut_into(line, tokens) {
-        Ok(()) => {
-            pieces_in(line, tokens.as_slice(), pieces);
-            pieces_line(pieces.as_slice(), operands, items)
-        }
-        Err(at) => uncut_line(&line[..at], tokens, pieces, items),
+    match cut_pieces(line, pieces) {
+        Ok(()) => pieces_line(pieces.as_slice(), operands, items),
+        Err(at) => uncut_line(&line[..at], pieces, items),
     }
 }
 
 /// Reads a line: what it adds to its source goes behind the items. The other lists have room for what is known of one line.
 pub(crate) fn read_line<'a>(
     line: &'a [u8],
-    tokens: &mut ArrayVec<Token, 64>,
     pieces: &mut ArrayVec<Piece<'a>, 64>,
     operands: &mut ArrayVec<Operand<'a>, 65>,
     items: &mut Vec<Item<'a>>,
@@ -398,7 +390,7 @@ pub(crate) fn read_line<'a>(
         (map item_of items.new.items ≡ map item_of items.old.items ++ (line_in line.now).items) }
 {
     let before = items.len();
-    let rule = line_rule(line, tokens, pieces, operands, items)?;
+    let rule = line_rule(line, pieces, operands, items)?;
     let count = (items.len() - before) as u8;
     Ok(Line { rule, count })
 }

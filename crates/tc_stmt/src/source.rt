@@ -8,7 +8,7 @@ use crate::item::Item;
 use crate::parse::read_line;
 use arrayvec::ArrayVec;
 use std::alloc::{AllocError, Global};
-use tc_lex::{Operand, Piece, Token};
+use tc_lex::{Operand, Piece};
 
 /// A line that is read: the least rule that it breaks by itself (15 is none), and how many things it adds.
 #[derive(Clone, Copy)]
@@ -50,7 +50,6 @@ fn back(rest: &[u8], i: usize) -> &[u8]
 // Reads one line more. The lists in between have room for what is known of one line.
 fn add_line<'a>(
     line: &'a [u8],
-    tokens: &mut ArrayVec<Token, 64>,
     pieces: &mut ArrayVec<Piece<'a>, 64>,
     operands: &mut ArrayVec<Operand<'a>, 65>,
     lines: &mut Vec<Line>,
@@ -59,7 +58,7 @@ fn add_line<'a>(
     ensures { OnOk result ((ls : List LineData) → AreRead lines.old.items items.old.items ls
         → AreRead lines.new.items items.new.items (ls ++ line_in line.now ∷ [])) }
 {
-    lines.push(read_line(line, tokens, pieces, operands, items)?)?;
+    lines.push(read_line(line, pieces, operands, items)?)?;
     Ok(())
 }
 
@@ -68,7 +67,6 @@ pub fn read_source<'a>(alloc: Global, source: &'a [u8]) -> Result<Source<'a>, Al
     ensures lines { IfOk result (λ s. lines_of s ≡ lines_in source.now) }
     ensures items { IfOk result (λ s. map item_of s.items.items ≡ items_in (lines_in source.now)) }
 {
-    let mut tokens = ArrayVec::new();
     let mut pieces = ArrayVec::new();
     let mut operands = ArrayVec::new();
     let mut lines = Vec::new(alloc);
@@ -76,23 +74,9 @@ pub fn read_source<'a>(alloc: Global, source: &'a [u8]) -> Result<Source<'a>, Al
     let mut rest = source;
     'lines: while let Some(i) = find_feed(rest) {
         let line = front(rest, i);
-        add_line(
-            line,
-            &mut tokens,
-            &mut pieces,
-            &mut operands,
-            &mut lines,
-            &mut items,
-        )?;
+        add_line(line, &mut pieces, &mut operands, &mut lines, &mut items)?;
         rest = back(rest, i);
     }
-    add_line(
-        rest,
-        &mut tokens,
-        &mut pieces,
-        &mut operands,
-        &mut lines,
-        &mut items,
-    )?;
+    add_line(rest, &mut pieces, &mut operands, &mut lines, &mut items)?;
     Ok(Source { lines, items })
 }

@@ -1,9 +1,10 @@
 // Which row a statement is.
 ghost use Rattle.std.specs.Prelude.{◌≡◌, ◌<◌, map, option_map, length, slice_index_or as get_or, drop, ◌≤◌, ◌+◌, true};
+ghost use Rattle.std.specs.Str.{bytes_eq};
 ghost use Rattle.tc_isa.specs.Rows.{row_of, listed};
 ghost use Rattle.tc_stmt.specs.Wants.{wants_of, now_of};
 ghost use Rattle.tc_lex.specs.Operands.{operand_of};
-ghost use Rattle.tc_stmt.specs.RowFields.{row_fields_of, fill_all, no_fields, kept_apart, fields_of_row};
+ghost use Rattle.tc_stmt.specs.RowFields.{Fills, row_fields_of, fill_all, no_fields, kept_apart, fields_of_row};
 ghost use Rattle.tc_stmt.specs.StatementRow.{start, after_row, outcome, Steps, Judges, statement, rule_of};
 ghost use Rattle.tc_stmt.specs.RowIndex.{are_first, are_next};
 
@@ -11,6 +12,7 @@ use crate::fill::fill;
 use crate::row_fields::RowFields;
 use crate::row_index::{first_row, first_rows, next_row, next_rows};
 use crate::row_wants::wants;
+use crate::same_bytes::is_same;
 use crate::symbols::break_rule;
 use crate::tally::Tally;
 use crate::want::Want;
@@ -33,46 +35,27 @@ fn no_fields<'a>() -> RowFields<'a>
     }
 }
 
-// What the operands from this place on add.
-fn fill_from<'a>(
-    row: &Row,
-    wants: &[Want],
-    os: &[Operand<'a>],
-    i: usize,
-    acc: RowFields<'a>,
-) -> Option<RowFields<'a>>
-    requires even { length wants.now ≡ length os.now }
-    requires place { i ≤ length os.now }
-    ensures { option_map row_fields_of result
-        ≡ fill_all (row_of row.now) (drop i wants.now) (drop i (map operand_of os.now))
-        (row_fields_of acc.entry) }
-{
-    if i == wants.len() {
-        return Some(acc);
-    }
-    match fill(row, wants[i], os[i], acc) {
-        None => None,
-        Some(next) => fill_from(row, wants, os, i + 1, next),
-    }
-}
-
-fn fill_all<'a>(row: &Row, wants: &[Want], os: &[Operand<'a>]) -> Option<RowFields<'a>>
-    ensures { option_map row_fields_of result
-        ≡ fill_all (row_of row.now) wants.now (map operand_of os.now) no_fields }
+// What all operands add, each at its own place; false where their forms aren't the row's.
+fn fill_all<'a>(row: &Row, wants: &[Want], os: &[Operand<'a>], acc: &mut RowFields<'a>) -> bool
+    ensures { Fills result acc.new
+        (fill_all (row_of row.now) wants.now (map operand_of os.now) (row_fields_of acc.old)) }
 {
     if wants.len() != os.len() {
-        return None;
+        return false;
     }
-    fill_from(row, wants, os, 0, no_fields())
+    for i in 0..wants.len() {
+        if !fill(row, wants[i], &os[i], acc) {
+            return false;
+        }
+    }
+    true
 }
 
-fn keep_apart<'a>(row: &Row, f: RowFields<'a>) -> RowFields<'a>
-    ensures { row_fields_of result ≡ kept_apart (row_of row.now) (row_fields_of f.entry) }
+fn keep_apart(row: &Row, f: &mut RowFields<'_>)
+    ensures { row_fields_of f.new ≡ kept_apart (row_of row.now) (row_fields_of f.old) }
 {
-    if parts_differ(row, &f.fields) {
-        f
-    } else {
-        break_rule(12, f)
+    if !parts_differ(row, &f.fields) {
+        break_rule(12, f);
     }
 }
 
@@ -81,9 +64,44 @@ fn judge_row<'a>(row: &Row, wants: &[Want], os: &[Operand<'a>]) -> Option<RowFie
     ensures { option_map row_fields_of result
         ≡ fields_of_row (row_of row.now) wants.now (map operand_of os.now) }
 {
-    match fill_all(row, wants, os) {
-        None => None,
-        Some(f) => Some(keep_apart(row, f)),
+    let mut found = no_fields();
+    if !fill_all(row, wants, os, &mut found) {
+        return None;
+    }
+    keep_apart(row, &mut found);
+    Some(found)
+}
+
+// A row of this name, where it is the one, or what is known after it.
+#[inline(never)]
+#[tactic(auto, unfolding(crate::specs::StatementRow::after_row))]
+fn named_step<'a>(
+    row: &Row,
+    wants: &[Want],
+    name: &[u8],
+    os: &[Operand<'a>],
+    so_far: Tally,
+) -> Result<RowFields<'a>, Tally>
+    requires wants { wants.now ≡ wants_of (row_of row.now) }
+    requires named { bytes_eq (row_of row.now).name name.now ≡ true }
+    ensures { Steps result (after_row name.now (map operand_of os.now) (row_of row.now) so_far) }
+{
+    match judge_row(row, wants, os) {
+        None => Err(Tally {
+            named: true,
+            ..so_far
+        }),
+        Some(f) => {
+            if f.rule == 15 {
+                Ok(f)
+            } else {
+                Err(Tally {
+                    named: true,
+                    fits: true,
+                    least: so_far.least.min(f.rule),
+                })
+            }
+        }
     }
 }
 
@@ -98,24 +116,8 @@ fn step<'a>(
     requires { wants.now ≡ wants_of (row_of row.now) }
     ensures { Steps result (after_row name.now (map operand_of os.now) (row_of row.now) so_far) }
 {
-    if row.name.as_bytes() == name {
-        match judge_row(row, wants, os) {
-            None => Err(Tally {
-                named: true,
-                ..so_far
-            }),
-            Some(f) => {
-                if f.rule == 15 {
-                    Ok(f)
-                } else {
-                    Err(Tally {
-                        named: true,
-                        fits: true,
-                        least: so_far.least.min(f.rule),
-                    })
-                }
-            }
-        }
+    if is_same(row.name.as_bytes(), name) {
+        named_step(row, wants, name, os, so_far)
     } else {
         Err(so_far)
     }

@@ -1,19 +1,44 @@
 // Names, and symbols in places that take one.
 ghost use Rattle.std.specs.Prelude.{◌≡◌, ◌<◌, ◌^◌, true};
+ghost use Rattle.std.specs.List.{list_all};
+ghost use Rattle.tc_object.specs.Names.{is_first, is_further};
 ghost use Rattle.tc_stmt.specs.Names.{is_name};
 ghost use Rattle.tc_lex.specs.Operands.{value_of};
 ghost use Rattle.tc_stmt.specs.RowFields.{row_fields_of, symbol_rule, with_rule, with_symbol, with_misplaced};
 
 use crate::row_fields::{Reference, RowFields};
 use tc_lex::{Value, is_text};
-use tc_object::name_of;
+
+#[tactic(auto, unfolding(tc_object::specs::Names::is_first))]
+fn is_first(c: u8) -> bool
+    ensures { result ≡ is_first c }
+{
+    (b'a' <= c && c <= b'z') || (b'A' <= c && c <= b'Z') || c == b'_' || c == b'.' || c == b'$'
+}
+
+#[tactic(auto, unfolding(tc_object::specs::Names::is_further))]
+fn is_further(c: u8) -> bool
+    ensures { result ≡ is_further c }
+{
+    is_first(c) || (b'0' <= c && c <= b'9')
+}
+
+fn are_further(bytes: &[u8]) -> bool
+    ensures { result ≡ list_all is_further bytes.now }
+{
+    bytes.iter().all(|c| is_further(*c))
+}
 
 /// Whether bytes are a name that a source may use: a Word of at most 64 bytes, and no lone `.`.
-#[tactic(auto, unfolding(crate::specs::Names::is_name))]
+#[tactic(auto, unfolding(crate::specs::Names::is_name), using(crate::proofs::Named::some_name))]
 pub fn is_name(bytes: &[u8]) -> bool
     ensures { result ≡ is_name bytes.now }
 {
-    name_of(bytes).is_some() && !is_text(bytes, ".")
+    1 <= bytes.len()
+        && bytes.len() <= 64
+        && is_first(bytes[0])
+        && are_further(bytes)
+        && !is_text(bytes, ".")
 }
 
 /// The least rule that a symbol breaks anywhere; 15 is none.
@@ -31,39 +56,35 @@ pub fn symbol_rule(v: Value<'_>) -> u8
     }
 }
 
-pub(crate) fn break_rule(rule: u8, acc: RowFields<'_>) -> RowFields<'_>
-    ensures { row_fields_of result ≡ with_rule rule (row_fields_of acc.entry) }
+/// One rule more that is broken: the least counts.
+pub(crate) fn break_rule(rule: u8, acc: &mut RowFields<'_>)
+    ensures { row_fields_of acc.new ≡ with_rule rule (row_fields_of acc.old) }
 {
-    RowFields {
-        rule: acc.rule.min(rule),
-        ..acc
-    }
+    acc.rule = acc.rule.min(rule);
 }
 
 /// A symbol in a place that takes one.
 #[tactic(auto, unfolding(crate::specs::RowFields::with_symbol))]
-pub(crate) fn with_symbol<'a>(kind: u8, v: Value<'a>, acc: RowFields<'a>) -> RowFields<'a>
-    ensures { row_fields_of result ≡ with_symbol kind (value_of v.entry) (row_fields_of acc.entry) }
+pub(crate) fn with_symbol<'a>(kind: u8, v: &Value<'a>, acc: &mut RowFields<'a>)
+    ensures { row_fields_of acc.new
+        ≡ with_symbol kind (value_of v.now) (row_fields_of acc.old) }
 {
-    let rule = symbol_rule(v);
+    let rule = symbol_rule(*v);
     if rule != 15 {
-        return break_rule(rule, acc);
+        break_rule(rule, acc);
+        return;
     }
-    let reference = Reference {
+    acc.reference = Some(Reference {
         kind,
         name: v.name,
         minus: v.minus,
         size: v.size as u32,
-    };
-    RowFields {
-        reference: Some(reference),
-        ..acc
-    }
+    });
 }
 
 /// A symbol where none may stand.
-pub(crate) fn misplace<'a>(v: Value<'_>, acc: RowFields<'a>) -> RowFields<'a>
-    ensures { row_fields_of result ≡ with_misplaced (value_of v.entry) (row_fields_of acc.entry) }
+pub(crate) fn misplace(v: &Value<'_>, acc: &mut RowFields<'_>)
+    ensures { row_fields_of acc.new ≡ with_misplaced (value_of v.now) (row_fields_of acc.old) }
 {
-    break_rule(10u8.min(symbol_rule(v)), acc)
+    break_rule(10u8.min(symbol_rule(*v)), acc);
 }

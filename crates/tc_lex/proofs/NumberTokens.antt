@@ -1,0 +1,61 @@
+-- Where no number stands.
+use Rattle.std.proofs.Common.{◌≡◌, ◌≢◌, ℕ, ◌==◌, Bool, true, false, cond, List, [], length, Option, Some, None, refl, sym, ap, ◌∙◌}
+use Rattle.std.specs.Prelude.{slice_get}
+use Rattle.std.specs.Option.{option_map_or}
+use Rattle.tc_lex.specs.declared.kinds.TokenKind.{TokenKind}
+use Rattle.tc_lex.specs.declared.kinds.TokenKind.TheVariants.{Word, Number, Comma, Colon, Open, Close, Plus, Minus}
+use Rattle.tc_lex.specs.Pieces.{PieceData, is_kind, kind_index}
+use Rattle.tc_lex.specs.declared.operand.Shape.TheVariants as shape
+use Rattle.std.proofs.lemmas.Bool.Decides.{Decides-eqb}
+use Rattle.tc_lex.specs.Operands.{ValueData, value, plain_number, number_at, named_at, value_at}
+
+other : (k : TokenKind) (i : ℕ) → (kind_index k == 0) ≡ true → i ≡ 1 → (kind_index k == i) ≡ false
+unfolding kind_index
+other Word i e h = rw h refl
+other Number i e h = cc
+other Comma i e h = cc
+other Colon i e h = cc
+other Open i e h = cc
+other Close i e h = cc
+other Plus i e h = cc
+other Minus i e h = cc
+
+seven : (k : TokenKind) (i : ℕ) → (kind_index k == 0) ≡ true → i ≡ 7 → (kind_index k == i) ≡ false
+unfolding kind_index
+seven Word i e h = rw h refl
+seven Number i e h = cc
+seven Comma i e h = cc
+seven Colon i e h = cc
+seven Open i e h = cc
+seven Close i e h = cc
+seven Plus i e h = cc
+seven Minus i e h = cc
+
+of_kind : (o : Option PieceData) (i : ℕ) (other_kind : (p : PieceData) → (kind_index p.kind == 0) ≡ true → (kind_index p.kind == i) ≡ false)
+    → option_map_or (λ p. kind_index p.kind == 0) o false ≡ true → option_map_or (λ p. kind_index p.kind == i) o false ≡ false
+of_kind None i other_kind e = refl
+of_kind (Some p) i other_kind e = other_kind p e
+
+no_number_kind : (ps : List PieceData) (at : ℕ) → is_kind ps at Word ≡ true → is_kind ps at Number ≡ false
+unfolding is_kind kind_index
+no_number_kind ps at e = of_kind (slice_get ps at) 1 (λ p h. other p.kind 1 h refl) e
+
+no_minus_kind : (ps : List PieceData) (at : ℕ) → is_kind ps at Word ≡ true → is_kind ps at Minus ≡ false
+unfolding is_kind kind_index
+no_minus_kind ps at e = of_kind (slice_get ps at) 7 (λ p h. seven p.kind 7 h refl) e
+
+-- a Word begins no number
+pub word_no_number : (ps : List PieceData) (at : ℕ) → is_kind ps at Word ≡ true → number_at ps at ≡ None
+unfolding number_at
+word_no_number ps at e = rw (no_number_kind ps at e) (rw (no_minus_kind ps at e) refl)
+
+differ : (m n : ℕ) (b : Bool) → (m == n) ≡ b → m ≢ n → b ≡ false
+differ m n true e h = absurd (h ((Decides-eqb m n).0 e))
+differ m n false e h = refl
+
+-- a value that begins with a Word is a name
+pub word_value : (ps : List PieceData) (at : ℕ) → is_kind ps at Word ≡ true → length ps ≢ at → named_at ps at ≡ value_at ps at
+unfolding value_at
+word_value ps at e h =
+    let told : Option (Bool × Option ℕ) → ValueData = λ o. option_map_or (λ n. plain_number n.0 n.1) o (named_at ps at) in
+    sym (ap (λ b. cond b (value shape.Absent [] false 0) (told (number_at ps at))) (differ (length ps) at (length ps == at) refl h) ∙ ap told (word_no_number ps at e))

@@ -1,0 +1,46 @@
+// A line, cut into tokens with their texts.
+ghost use Rattle.std.specs.Prelude.{◌≡◌, ◌<◌, ◌≤◌, ◌+◌, length, map};
+ghost use Rattle.tc_lex.specs.Cut.{tokens_of, token};
+ghost use Rattle.tc_lex.specs.Pieces.{piece_of, piece_in, pieces_of, CutsPieces};
+
+use crate::fronts::front;
+use crate::kinds::{Front, TokenKind};
+use crate::pieces::Piece;
+use arrayvec::ArrayVec;
+
+// The token of so many bytes at this place, with its text.
+fn piece_at(line: &[u8], kind: TokenKind, at: usize, len: usize) -> Piece<'_>
+    requires { at + len ≤ length line.now }
+    ensures { piece_of result ≡ piece_in line.now (token kind at len) }
+{
+    Piece {
+        kind,
+        text: &line[at..at + len],
+    }
+}
+
+/// Puts the tokens of a line with their texts in the place of what `out` holds; or tells the place of the first byte that
+/// can't be taken.
+pub fn cut_pieces<'a>(line: &'a [u8], out: &mut ArrayVec<Piece<'a>, 64>) -> Result<(), usize>
+    ensures pieces { CutsPieces result
+        (map piece_of out.new.items) (pieces_of line.now (tokens_of line.now)) }
+    ensures few { length out.new.items ≤ 64 }
+{
+    out.clear();
+    let mut at = 0;
+    'cut: while at < line.len() {
+        match front(line, at) {
+            Front::End => return Ok(()),
+            Front::Blank => at += 1,
+            Front::Bad => return Err(at),
+            Front::Token(kind, len) => {
+                if out.is_full() {
+                    return Err(at);
+                }
+                out.push(piece_at(line, kind, at, len));
+                at += len;
+            }
+        }
+    }
+    Ok(())
+}
