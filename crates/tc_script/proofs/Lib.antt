@@ -8,3 +8,4 @@ pub mod Small
 pub mod Words
 pub mod Answered
 pub mod Bounded
+pub mod AreaLaws

@@ -1,6 +1,5 @@
 -- A run by turns, one event after another.
-use Rattle.std.proofs.Common.{◌≡◌, ℕ, ◌+◌, ◌⊎◌, Bool, true, false, Option, max, unwrap_or, List, [], ◌∷◌, ◌++◌, length, drop, refl, sym, ap, subst, ◌∙◌, arith, length-append, append_assoc, append-nil}
-use Rattle.std.specs.Bool.{OnTrue}
+use Rattle.std.proofs.Common.{◌≡◌, ℕ, ◌+◌, ◌⊎◌, max, unwrap_or, List, [], ◌∷◌, ◌++◌, length, drop, refl, sym, ap, subst, ◌∙◌, arith, length-append, append_assoc, append-nil}
 use Rattle.tcd_plan.specs.PlanData.{PlanData}
 use Rattle.tc_machine.specs.declared.events.Event.{Event}
 use Rattle.tc_machine.specs.declared.events.End.TheVariants.{Running}
@@ -62,8 +61,3 @@ module _ {plan : PlanData} {answers : Answers} {turns : List Turn} {old : Machin
     count = d.count ∙ sym d.number;
     peak = d.peak;
   }
-
--- the count of areas in use, where an event kept them
-pub kept_count : (kept : Bool) (before after then : Option ℕ) (n : ℕ) → n ≡ unwrap_or before 0 → after ≡ then → OnTrue kept (then ≡ before) → OnTrue kept (n ≡ unwrap_or after 0)
-kept_count true before after then n is new same = is ∙ ap (λ (o : Option ℕ). unwrap_or o 0) (sym same ∙ sym new)
-kept_count false before after then n is new same = tt

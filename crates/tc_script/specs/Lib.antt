@@ -8,3 +8,4 @@ pub mod Fitting
 pub mod Ports
 pub mod Runs
 pub mod ScriptRuns
+pub mod AreaRows

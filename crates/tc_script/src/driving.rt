@@ -1,15 +1,15 @@
 // The machine, driven by the turns of a script.
-ghost use Rattle.std.specs.Prelude.{◌≡◌, ◌≤◌, ◌<◌, ◌^◌, Some, IfSome, IfOk, unwrap_or};
-ghost use Rattle.std.specs.Bool.{MatchBool, OnTrue};
+ghost use Rattle.std.specs.Prelude.{◌≡◌, ◌≤◌, ◌<◌, ◌^◌, Some, IfSome, IfOk};
+ghost use Rattle.std.specs.Bool.{MatchBool};
 ghost use Rattle.tc_isa.specs.Bounded.{IsShape};
 ghost use Rattle.tc_encode.specs.Decoding.{decoded_of};
 ghost use Rattle.tc_machine.specs.Fetching.{mapped_bytes, shaped};
-ghost use Rattle.tc_machine.specs.Stepping.{used_of};
 ghost use Rattle.tc_script.specs.Fitting.{HasSources};
 ghost use Rattle.tc_script.specs.Ports.{IsAskable, IsBounded};
 ghost use Rattle.tc_script.specs.Runs.{IsInput, IsEventOf, IsDead, IsDriven};
 
 use crate::asking::Ports;
+use crate::counting::{count_areas, effect_of_event, used_after};
 use crate::{Script, Turn};
 use tc_isa::Shape;
 use tc_machine::{Cause, End, Event, Machine};
@@ -20,13 +20,6 @@ use tcd_plan::Plan;
 pub struct Peak {
     pub events: u32,
     pub peak: u32,
-}
-
-/// How many areas are in use, 0 where that isn't known.
-fn used(m: &Machine) -> u32
-    ensures { result ≡ unwrap_or (used_of m.now) 0 }
-{
-    m.used().unwrap_or(0)
 }
 
 /// Whether the machine runs.
@@ -88,14 +81,6 @@ fn event<F: Fn(u32, u32) -> u32>(
     }
 }
 
-/// How many areas are in use: as many as before the event where it left them as they were.
-fn used_after(m: &Machine, kept: bool, before: u32) -> u32
-    requires { OnTrue kept (before ≡ unwrap_or (used_of m.now) 0) }
-    ensures { result ≡ unwrap_or (used_of m.now) 0 }
-{
-    if kept { before } else { used(m) }
-}
-
 /// Does one event for each turn of the script, until the machine is dead or the turns end. An event has the turn's
 /// interrupt and its way with misaligned accesses, status 0, and as input the answer of the ports where the load at pc
 /// lies wholly in one device range, else 0.
@@ -111,10 +96,10 @@ pub fn drive<F: Fn(u32, u32) -> u32>(
     requires bounded { IsBounded (F.post ports.now.answer) plan.now.devices }
     ensures { IsDriven plan.now (F.post ports.now.answer) script.now.turns m.old m.new result }
 {
-    let mut areas = used(m);
+    let mut areas = count_areas(m);
     let mut done = Peak {
         events: 0,
-        peak: areas,
+        peak: areas.count,
     };
     for t in 0..script.len() {
         if !is_running(m) {
@@ -122,13 +107,13 @@ pub fn drive<F: Fn(u32, u32) -> u32>(
         }
         let found = m.shape_at_pc();
         let event = event(ports, m, &found, script.turn(t), t);
-        let kept = m.keeps_areas(&event, &found);
+        let effect = effect_of_event(m, &event, &found, areas);
         m.step_by(&event, found);
-        let count = used_after(m, kept, areas);
-        areas = count;
+        let counted = used_after(m, areas, effect);
+        areas = counted;
         done = Peak {
             events: t + 1,
-            peak: done.peak.max(count),
+            peak: done.peak.max(counted.count),
         };
     }
     done

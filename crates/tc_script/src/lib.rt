@@ -2,6 +2,7 @@
 #![tactic(auto)]
 
 mod asking;
+mod counting;
 mod driving;
 mod errors;
 mod laws;

@@ -1,19 +1,20 @@
-use Rattle.std.proofs.Common.{◌≡◌, ◌<◌, ◌^◌, ◌⊎◌, max, inl, inr, refl, ap, subst, ◌∙◌, arith}
+use Rattle.std.proofs.Common.{◌≡◌, ◌<◌, ◌^◌, ◌⊎◌, max, inl, inr, refl, sym, ap, subst, ◌∙◌, arith}
 use Rattle.std.specs.Prelude.{Contains}
 use Rattle.std.proofs.lemmas.List.{drop_all}
 use Rattle.tc_machine.specs.declared.events.End.TheVariants.{Running}
-use Rattle.tc_machine.specs.Stepping.{step, used_of}
+use Rattle.tc_machine.specs.declared.state.Machine.{Machine}
+use Rattle.tc_script.specs.AreaRows.{Tells}
 use Rattle.tc_script.specs.Runs.{IsEventOf}
 use Rattle.tc_script.proofs.Events.{fits_event, all_at, drop_at}
-use Rattle.tc_script.proofs.Runs.{one_more, ended, kept_count}
+use Rattle.tc_script.proofs.Runs.{one_more, ended}
 use Rattle.tc_script.proofs.driving.drive.Goals as goal
 
 pub returns-then-not-is_running : goal.returns-then-not-is_running
 returns-then-not-is_running g c = ended c.loop-t.t c.loop-t.m c.loop-t.done c.loop-t.invariant.so_far (inr c.if-not-is_running.ensures)
 
-pub used_after-count-requires : goal.used_after-count-requires
-used_after-count-requires g c =
-    kept_count c.keeps_areas-kept.result (used_of c.loop-t.m) (used_of c.step_by.new.self) (used_of (step c.loop-t.m c.event-event.result)) c.loop-t.areas c.loop-t.invariant.areas (ap used_of c.step_by.ensures) c.keeps_areas-kept.ensures.kept
+pub used_after-counted-requires : goal.used_after-counted-requires
+used_after-counted-requires g c =
+    subst (λ (k : Machine). k.end ≡ Running → Tells c.effect_of_event-effect.result c.loop-t.areas k) (sym c.step_by.ensures) c.effect_of_event-effect.ensures
 
 pub loop-t-preserved : goal.loop-t-preserved
 loop-t-preserved g c =
@@ -30,8 +31,8 @@ loop-t-preserved g c =
       so_far =
           one_more c.loop-t.t m c.loop-t.done turn e c.step_by.new.self _ c.loop-t.invariant.so_far running (drop_at c.args.script.now.turns c.loop-t.t turn c.turn.ensures) event
           (fits_event plan answers c.loop-t.t turn m e running event c.requires.bounded source early c.event-event.ensures.word) c.step_by.ensures refl
-          (c.max.ensures ∙ ap (λ n. max c.loop-t.done.peak n) c.used_after-count.ensures);
-      areas = c.used_after-count.ensures;
+          (c.max.ensures ∙ ap (λ n. max c.loop-t.done.peak n) c.used_after-counted.ensures.count);
+      areas = c.used_after-counted.ensures;
     }
 
 pub returns : goal.returns

@@ -1,7 +1,7 @@
-use Rattle.std.proofs.Common.{◌≡◌, unwrap_or}
-use Rattle.tc_machine.specs.Stepping.{used_of}
+use Rattle.std.proofs.Common.{◌≡◌}
+use Rattle.tc_script.specs.AreaRows.{IsCounted}
 use Rattle.tc_script.proofs.Runs.{DrivenSoFar}
 use Rattle.tc_script.proofs.driving.drive.Given as goal
 
 abbrev pub invariant-loop-t : goal.invariant-loop-t
-invariant-loop-t g l = record { so_far : DrivenSoFar l.plan (goal.F-post g l.ports.answer) l.script.turns l.fn.m l.t l.m l.done; areas : l.areas ≡ unwrap_or (used_of l.m) 0 }
+invariant-loop-t g l = record { so_far : DrivenSoFar l.plan (goal.F-post g l.ports.answer) l.script.turns l.fn.m l.t l.m l.done; areas : IsCounted l.areas l.m }

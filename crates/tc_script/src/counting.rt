@@ -1,0 +1,336 @@
+// How many save areas are in use, kept from event to event where that can be told.
+ghost use Rattle.std.specs.Prelude.{◌≡◌, ◌<◌, ◌^◌, ◌+◌, ◌*◌, true, false, IfOk, unwrap_or};
+ghost use Rattle.tc_isa.specs.Bounded.{IsShape, IsArg, IsSize};
+ghost use Rattle.tc_encode.specs.Decoding.{decoded_of};
+ghost use Rattle.tc_machine.specs.declared.state.Machine.{Machine};
+ghost use Rattle.tc_machine.specs.Fetching.{mapped_bytes, shaped};
+ghost use Rattle.tc_machine.specs.Machine.{reg, arg};
+ghost use Rattle.tc_machine.specs.Instructions.{access_address, traps_at};
+ghost use Rattle.tc_machine.specs.Stepping.{step, used_of, is_taken};
+ghost use Rattle.tc_script.specs.AreaRows.{IsCounted, HasSaved, HasRestored, HasStored, HasStayed, Tells, IsToldBy};
+
+use csa_chain::address_of;
+use tc_isa::{Arg, Shape};
+use tc_machine::{Cause, End, Event, Machine};
+
+/// How many areas are in use, and whether they are known to lie in a row from the one of this link on.
+#[derive(Clone, Copy, Debug, PartialEq, Eq)]
+pub(crate) struct AreasUsed {
+    pub count: u32,
+    pub in_row: bool,
+    pub first: u32,
+}
+
+/// What an event makes of the areas in use.
+#[derive(Clone, Copy, Debug, PartialEq, Eq)]
+pub(crate) enum Effect {
+    Stays,
+    Saves,
+    Restores,
+    Unknown,
+}
+
+/// How many areas are in use, 0 where that isn't known.
+fn used(m: &Machine) -> u32
+    ensures { result ≡ unwrap_or (used_of m.now) 0 }
+{
+    m.used().unwrap_or(0)
+}
+
+/// The areas in use, counted along their chain. Where there are none, the first free one begins the row.
+pub(crate) fn count_areas(m: &Machine) -> AreasUsed
+    ensures { IsCounted result m.now }
+{
+    let count = used(m);
+    AreasUsed {
+        count,
+        in_row: m.pcxi % 0x10_0000 == 0,
+        first: m.fcx % 0x10_0000,
+    }
+}
+
+/// The effect of a save: one area more, where the first free one is the next one of the row.
+fn of_save(m: &Machine, used: AreasUsed) -> Effect
+    requires counted { IsCounted used m.now }
+    requires row { used.in_row ≡ true }
+    ensures { (after : Machine) → HasSaved m.now after → Tells result used after }
+{
+    let _pcxi = m.pcxi;
+    let count = used.count;
+    if count >= 4096 {
+        return Effect::Unknown;
+    }
+    let free = m.fcx % 0x10_0000;
+    let next = used.first + count;
+    if free != next {
+        return Effect::Unknown;
+    }
+    Effect::Saves
+}
+
+/// The effect of a restore: one area less.
+fn of_restore(m: &Machine, used: AreasUsed) -> Effect
+    requires counted { IsCounted used m.now }
+    requires row { used.in_row ≡ true }
+    ensures { (after : Machine) → HasRestored m.now after → Tells result used after }
+{
+    let count = used.count;
+    if count == 0 {
+        return Effect::Unknown;
+    }
+    Effect::Restores
+}
+
+/// The effect of a store: none, where it meets no area in use.
+fn of_store(m: &Machine, used: AreasUsed, addr: u32, size: u8) -> Effect
+    requires counted { IsCounted used m.now }
+    requires row { used.in_row ≡ true }
+    ensures { (after : Machine) → HasStored addr size m.now after → Tells result used after }
+{
+    let count = used.count;
+    if addr > 0xFFFF_F000 {
+        return Effect::Unknown;
+    }
+    if count == 0 {
+        return Effect::Stays;
+    }
+    let end = addr + u32::from(size);
+    let low = address_of(used.first);
+    if end <= low {
+        return Effect::Stays;
+    }
+    let last = address_of(m.pcxi % 0x10_0000);
+    let high = last + 64;
+    if high <= addr {
+        return Effect::Stays;
+    }
+    Effect::Unknown
+}
+
+/// The word in a register: 0 to 15 is Dn, 16 to 31 is A(n - 16).
+fn register(m: &Machine, r: u8) -> u32
+    requires { r < 32 }
+    ensures { result ≡ reg m.now r }
+{
+    if r < 16 {
+        m.d[usize::from(r)]
+    } else {
+        m.a[usize::from(r - 16)]
+    }
+}
+
+/// The value of an operand.
+fn operand(m: &Machine, x: Arg) -> u32
+    requires { IsArg x }
+    ensures { result ≡ arg m.now x }
+{
+    match x {
+        Arg::Reg(r) => register(m, r),
+        Arg::Word(word) => word,
+    }
+}
+
+/// The address of an access.
+fn address(m: &Machine, base: Arg, offset: u32, after: bool) -> u32
+    requires { IsArg base }
+    ensures { result ≡ access_address m.now base offset after }
+{
+    let word = operand(m, base);
+    if after {
+        word
+    } else {
+        word.wrapping_add(offset)
+    }
+}
+
+/// Whether an access traps: its address is no multiple of its size, and the event says so.
+fn traps(event: &Event, addr: u32, size: u8) -> bool
+    requires { IsSize size }
+    ensures { result ≡ traps_at event.now addr size }
+{
+    event.aln && addr % u32::from(size) != 0
+}
+
+/// The effect of a load: none, unless it traps.
+fn of_load(m: &Machine, event: &Event, used: AreasUsed, addr: u32, size: u8) -> Effect
+    requires counted { IsCounted used m.now }
+    requires row { used.in_row ≡ true }
+    requires size { IsSize size }
+    ensures { (after : Machine) → (traps_at event.now addr size ≡ true → HasSaved m.now after)
+        → (traps_at event.now addr size ≡ false → HasStayed m.now after)
+        → Tells result used after }
+{
+    if traps(event, addr, size) {
+        of_save(m, used)
+    } else {
+        Effect::Stays
+    }
+}
+
+/// The effect of a store that may trap.
+fn of_any_store(m: &Machine, event: &Event, used: AreasUsed, addr: u32, size: u8) -> Effect
+    requires counted { IsCounted used m.now }
+    requires row { used.in_row ≡ true }
+    requires size { IsSize size }
+    ensures { (after : Machine) → (traps_at event.now addr size ≡ true → HasSaved m.now after)
+        → (traps_at event.now addr size ≡ false → HasStored addr size m.now after)
+        → Tells result used after }
+{
+    if traps(event, addr, size) {
+        of_save(m, used)
+    } else {
+        of_store(m, used, addr, size)
+    }
+}
+
+/// The effect of an instruction that accesses no memory but that of an area, and leaves the machine running.
+fn of_other(m: &Machine, event: &Event, shape: Shape, used: AreasUsed) -> Effect
+    requires counted { IsCounted used m.now }
+    requires row { used.in_row ≡ true }
+    ensures { IsToldBy result used m.now event.now shape }
+{
+    match shape {
+        Shape::Call { .. } => of_save(m, used),
+        Shape::Svlcx => of_save(m, used),
+        Shape::Bisr { .. } => of_save(m, used),
+        Shape::Syscall { .. } => of_save(m, used),
+        Shape::Ret => of_restore(m, used),
+        Shape::Rfe => of_restore(m, used),
+        Shape::Rslcx => of_restore(m, used),
+        _ => Effect::Unknown,
+    }
+}
+
+/// The effect of an instruction that leaves the machine running.
+fn of_shape(m: &Machine, event: &Event, shape: Shape, used: AreasUsed) -> Effect
+    requires counted { IsCounted used m.now }
+    requires row { used.in_row ≡ true }
+    requires bounded { IsShape shape }
+    ensures { IsToldBy result used m.now event.now shape }
+{
+    match shape {
+        Shape::Load {
+            base,
+            offset,
+            size,
+            after,
+            ..
+        } => {
+            let addr = address(m, base, offset, after);
+            of_load(m, event, used, addr, size)
+        }
+        Shape::Store {
+            base,
+            offset,
+            size,
+            after,
+            ..
+        } => {
+            let addr = address(m, base, offset, after);
+            of_any_store(m, event, used, addr, size)
+        }
+        Shape::Compute { .. } => Effect::Stays,
+        Shape::Scaled { .. } => Effect::Stays,
+        Shape::Branch { .. } => Effect::Stays,
+        Shape::Jump { .. } => Effect::Stays,
+        Shape::Mfcr { .. } => Effect::Stays,
+        Shape::Enable => Effect::Stays,
+        Shape::Disable => Effect::Stays,
+        Shape::Nothing => Effect::Stays,
+        _ => of_other(m, event, shape, used),
+    }
+}
+
+/// Whether the event's interrupt is taken.
+fn takes(m: &Machine, event: &Event) -> bool
+    ensures { result ≡ is_taken m.now event.now }
+{
+    m.ie && m.ccpn < event.irq
+}
+
+/// The effect of an event where the areas in use lie in a row.
+fn effect_in_row(
+    m: &Machine,
+    event: &Event,
+    found: &Result<(Shape, u32), Cause>,
+    used: AreasUsed,
+) -> Effect
+    requires running { m.now.end ≡ End.Running }
+    requires found { found.now ≡ shaped (decoded_of (mapped_bytes 4 m.now.mem m.now.pc)) }
+    requires bounded { IfOk found.now (λ it. IsShape it.0) }
+    requires counted { IsCounted used m.now }
+    requires row { used.in_row ≡ true }
+    ensures { (step m.now event.now).end ≡ End.Running
+        → Tells result used (step m.now event.now) }
+{
+    if takes(m, event) {
+        return of_save(m, used);
+    }
+    match found {
+        Ok((shape, _)) => of_shape(m, event, *shape, used),
+        Err(_) => Effect::Unknown,
+    }
+}
+
+/// What an event of a machine that runs makes of the areas in use, where it leaves the machine running.
+pub(crate) fn effect_of_event(
+    m: &Machine,
+    event: &Event,
+    found: &Result<(Shape, u32), Cause>,
+    used: AreasUsed,
+) -> Effect
+    requires running { m.now.end ≡ End.Running }
+    requires found { found.now ≡ shaped (decoded_of (mapped_bytes 4 m.now.mem m.now.pc)) }
+    requires bounded { IfOk found.now (λ it. IsShape it.0) }
+    requires counted { IsCounted used m.now }
+    ensures { (step m.now event.now).end ≡ End.Running
+        → Tells result used (step m.now event.now) }
+{
+    let in_row = used.in_row;
+    if in_row {
+        return effect_in_row(m, event, found, used);
+    }
+    if m.keeps_areas(event, found) {
+        Effect::Stays
+    } else {
+        Effect::Unknown
+    }
+}
+
+/// The areas in use after an event with this effect; counted anew where it isn't known.
+fn used_by_effect(m: &Machine, used: AreasUsed, effect: Effect) -> AreasUsed
+    requires { Tells effect used m.now }
+    ensures { IsCounted result m.now }
+{
+    match effect {
+        Effect::Stays => used,
+        Effect::Saves => {
+            let count = used.count + 1;
+            AreasUsed {
+                count,
+                in_row: used.in_row,
+                first: used.first,
+            }
+        }
+        Effect::Restores => {
+            let count = used.count - 1;
+            AreasUsed {
+                count,
+                in_row: used.in_row,
+                first: used.first,
+            }
+        }
+        Effect::Unknown => count_areas(m),
+    }
+}
+
+/// The areas in use after an event that has this effect where the machine still runs.
+pub(crate) fn used_after(m: &Machine, used: AreasUsed, effect: Effect) -> AreasUsed
+    requires { m.now.end ≡ End.Running → Tells effect used m.now }
+    ensures { IsCounted result m.now }
+{
+    match m.end {
+        End::Running => used_by_effect(m, used, effect),
+        End::Dead(_) => count_areas(m),
+    }
+}
