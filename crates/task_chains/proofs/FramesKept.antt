@@ -1,5 +1,5 @@
 -- The frames of a view: their keys have numbers that fit, and where one of the switch routine waits it stands at the first instruction.
-use Rattle.std.proofs.Common.{◌≡◌, ℕ, ◌+◌, ◌*◌, ◌^◌, ◌<◌, Bool, true, false, cond, List, [], ◌∷◌, Result, Ok, Err, refl, sym, ap, ◌∙◌, subst, arith}
+use Rattle.std.proofs.Common.{◌≡◌, ℕ, ◌^◌, ◌<◌, true, cond, List, [], ◌∷◌, Result, Ok, Err, sym, ap, subst, arith}
 use Rattle.std.proofs.lemmas.Bool.{cond_both}
 use Rattle.tc_isa.specs.declared.shapes.Shape.{Shape}
 use Rattle.tc_isa.specs.declared.shapes.Shape.TheVariants.{Compute, Scaled, Load, Store, Branch, Jump, Call, Ret, Rfe, Svlcx, Rslcx, Bisr, Enable, Disable, Syscall, Mfcr, Mtcr, Nothing}
@@ -10,40 +10,11 @@ use Rattle.tc_machine.specs.Machine.{moved}
 use Rattle.tc_machine.specs.Fetching.{fetched}
 use Rattle.tc_machine.specs.Stepping.{is_taken, step}
 use Rattle.depth_cert.specs.declared.keys.Key.{Key}
-use Rattle.depth_cert.specs.Keys.{byte_of, key_number, number_of_key, IsKey}
+use Rattle.depth_cert.specs.Keys.{IsKey}
 use Rattle.cfg_recover.specs.Frames.{Standing, Way, to, call, irq, sys, aln, ret, rfe, way_of_shape, way_in, frames_left, frames_by, frames_after, size_in}
 use Rattle.cfg_recover.specs.Moves.{traps}
 use Rattle.task_chains.specs.Tasks.{TasksData}
 use Rattle.task_chains.specs.Apart.{switch_key}
-
--- ---- keys of the same number are the same
-byte_lt : (b : Bool) → byte_of b < 2
-byte_lt true = omega arith
-byte_lt false = omega arith
-
-byte_same : (a b : Bool) → byte_of a ≡ byte_of b → a ≡ b
-byte_same true true e = refl
-byte_same false false e = refl
-byte_same true false e = absurd (let f : 1 ≡ 0 = e in omega arith)
-byte_same false true e = absurd (let f : 0 ≡ 1 = e in omega arith)
-
-number_parts : (a b c d e f g h : ℕ) → b < 2 ^ 32 → c < 2 ^ 8 → d < 2 → f < 2 ^ 32 → g < 2 ^ 8 → h < 2 → key_number a b c d ≡ key_number e f g h → (a ≡ e) × (b ≡ f) × (c ≡ g) × (d ≡ h)
-number_parts a b c d e f g h b_lt c_lt d_lt f_lt g_lt h_lt same =
-    let last : d ≡ h = omega arith in
-    let rest : (a * 2 ^ 32 + b) * 2 ^ 8 + c ≡ (e * 2 ^ 32 + f) * 2 ^ 8 + g = omega arith in
-    let prio : c ≡ g = omega arith in
-    let more : a * 2 ^ 32 + b ≡ e * 2 ^ 32 + f = omega arith in
-    let entry : b ≡ f = omega arith in
-    (omega arith, entry, prio, last)
-
-made : ℕ → ℕ → ℕ → Bool → Key
-made kind entry prio is = record { kind = kind; entry = entry; prio = prio; is = is }
-
-pub key_same : (j k : Key) → IsKey j → IsKey k → number_of_key j ≡ number_of_key k → j ≡ k
-unfolding made
-key_same j k hj hk e =
-    let p = number_parts j.kind j.entry j.prio (byte_of j.is) k.kind k.entry k.prio (byte_of k.is) hj.entry hj.prio (byte_lt j.is) hk.entry hk.prio (byte_lt k.is) e in
-    ap (λ x. made x j.entry j.prio j.is) p.0 ∙ ap (λ x. made k.kind x j.prio j.is) p.1 ∙ ap (λ x. made k.kind k.entry x j.is) p.2 ∙ ap (λ x. made k.kind k.entry k.prio x) (byte_same j.is k.is p.3)
 
 -- ---- frames
 -- each key has numbers that fit

@@ -1,68 +1,39 @@
 -- The faults of rule 17 grow with what is known.
-use Rattle.std.proofs.Common.{◌≡◌, ℕ, zero, suc, ◌^◌, ◌<◌, inl, inr, Bool, true, false, cond, List, [], ◌∷◌, length, map, get_or, Option, Some, None, refl, sym, ap, ◌∙◌, subst, arith, eqb, ◌&&◌}
-use Rattle.std.specs.Prelude.{find, option_map, option_and_then, All, Contains}
-use Rattle.std.specs.List.Sorted.{IsStrictlyIncreasing}
-use Rattle.std.proofs.lemmas.Bool.{cases_lt, and_parts, eqb-true, eq-eqb}
-use Rattle.std.proofs.lemmas.List.{get_or-map, length-map}
+use Rattle.std.proofs.Common.{◌≡◌, ℕ, sym, subst}
+use Rattle.std.specs.Prelude.{All, Contains}
 use Rattle.std.proofs.lemmas.List.Elements.{All-contains}
-use Rattle.std.proofs.lemmas.List.Kept.{AllPairs-from_increasing}
 use Rattle.elf_image.specs.Images.{ImageData}
 use Rattle.tcd_plan.specs.PlanData.{PlanData, IsPlan}
-use Rattle.tc_isa.specs.declared.shapes.Arg.{Arg}
-use Rattle.tc_isa.specs.declared.shapes.Arg.TheVariants.{Reg, Word}
-use Rattle.tc_isa.specs.declared.shapes.Op.TheVariants.{Add}
 use Rattle.tc_isa.specs.declared.shapes.Shape.{Shape}
 use Rattle.tc_isa.specs.declared.shapes.Shape.TheVariants.{Compute, Scaled, Load, Store, Branch, Jump, Call, Ret, Rfe, Svlcx, Rslcx, Bisr, Enable, Disable, Syscall, Mfcr, Mtcr, Nothing}
-use Rattle.tc_isa.specs.Bounded.{IsArg, IsShape}
+use Rattle.tc_isa.specs.Bounded.{IsShape}
 use Rattle.value_domain.specs.declared.states.State.{State}
 use Rattle.value_domain.specs.Limits.{Limits}
-use Rattle.value_domain.specs.Values.{IsBelow}
-use Rattle.value_domain.specs.State.{Covers, AreValues}
-use Rattle.vd_transfer.specs.Registers.{slot, arg_of, value_at}
-use Rattle.vd_transfer.specs.Effects.{access_of, address_of}
+use Rattle.value_domain.specs.State.{Covers}
+use Rattle.vd_transfer.specs.Effects.{address_of}
 use Rattle.vd_transfer.specs.Soundness.{IsSetting}
-use Rattle.vd_transfer.proofs.SlotLaws.{slot_is}
-use Rattle.vd_transfer.proofs.HoldLaws.{arg_value}
-use Rattle.vd_transfer.proofs.OpLaws.{monotone}
 use Rattle.depth_cert.specs.declared.keys.Key.{Key}
 use Rattle.depth_cert.specs.declared.points.Point.{Point}
-use Rattle.depth_cert.specs.Keys.{byte_of, number_of_key, same_key}
-use Rattle.depth_cert.specs.Points.{find_point, IsPoint}
-use Rattle.depth_cert.specs.Nodes.{NodeData, IsNode}
+use Rattle.depth_cert.specs.Nodes.{NodeData}
 use Rattle.depth_cert.specs.Certs.{CertData, IsCert}
-use Rattle.depth_cert.proofs.KeyLaws.{found_in}
 use Rattle.cfg_recover.specs.Code.{IsCode}
 use Rattle.cfg_recover.specs.Accepting.{limits_in, Accepts}
-use Rattle.cfg_recover.specs.Assignments.{point, known_at, known_in, IsBelowAt}
-use Rattle.depth_cert.specs.Known.{Known, state, leaving, CoversKnown}
+use Rattle.cfg_recover.specs.Assignments.{known_in, IsBelowAt}
+use Rattle.depth_cert.specs.Known.{state}
 use Rattle.cfg_recover.proofs.CodeLaws.{IsCode-bounded}
-use Rattle.cfg_recover.proofs.PointLaws.{limits_are}
 use Rattle.task_chains.specs.Tasks.{TasksData}
 use Rattle.task_chains.specs.Apart.{LoadsElsewhere, StaysApart, HoldsApart, FailsApart, at_point}
 use Rattle.task_chains.specs.Growing.{TaskFaultsGrow, TaskFaultsRefute}
-use Rattle.task_chains.proofs.FaultLaws.{accepted_values}
+use Rattle.cfg_recover.proofs.AccessGrowth.{access_grows}
+use Rattle.cfg_recover.proofs.KnownPlaces.{above, limits_same, setting}
 
--- ---- addresses grow with the state
+-- ---- a load from a smaller state
 module _ (b : Limits) (p : PlanData) (s t : State) (low : IsSetting b p s) (high : IsSetting b p t) (c : Covers t s) where
-  value_grows : (r : ℕ) (o : Option ℕ) → slot r ≡ o → IsBelow (value_at p s r o) (value_at p t r o)
-  value_grows r None e = λ x m. m
-  value_grows r (Some i) e = c.regs i (let within = (slot_is r i e).within in let all = low.regs in omega arith)
-
-  arg_grows : (y : Arg) → IsBelow (arg_of p s y) (arg_of p t y)
-  arg_grows (Reg r) = value_grows r (slot r) refl
-  arg_grows (Word w) = λ x m. m
-
-  access_grows : (base : Arg) (offset : ℕ) (after : Bool) → IsArg base → offset < 2 ^ 32 → IsBelow (access_of b p s base offset after) (access_of b p t base offset after)
-  access_grows base offset true is small = arg_grows base
-  access_grows base offset false is small =
-      monotone b Add (arg_of p s base) (arg_of p s (Word offset)) (arg_of p t base) (arg_of p t (Word offset)) low.limits (arg_value b p s base low is) (arg_value b p s (Word offset) low small) (arg_value b p t base high is)
-      (arg_value b p t (Word offset) high small) (arg_grows base) (λ x m. m)
-
   -- a load that reaches no more elsewhere does so from the smaller state
   loads_shrink : (tasks : TasksData) (shape : Shape) → IsShape shape → LoadsElsewhere b p tasks t shape → LoadsElsewhere b p tasks s shape
   unfolding address_of
   loads_shrink tasks (Load dst base offset size signed after) is h =
-      let below = access_grows base offset after is.1 is.2 in
+      let below = access_grows b p s t low high c base offset after is.1 is.2 in
       ((λ x m. h.0 x (below x m)), (λ x m. h.1 x (below x m)))
   loads_shrink tasks (Compute op dst x y) is h = h
   loads_shrink tasks (Scaled dst base index n) is h = h
@@ -85,155 +56,24 @@ module _ (b : Limits) (p : PlanData) (s t : State) (low : IsSetting b p s) (high
   apart_shrinks : (tasks : TasksData) (key : Key) (at : ℕ) (shape : Shape) → IsShape shape → StaysApart b p tasks key at t shape → StaysApart b p tasks key at s shape
   apart_shrinks tasks key at shape is h = record { inside = h.inside; at = h.at; loads = loads_shrink tasks shape is h.loads; links = h.links; level = h.level }
 
--- ---- what is found
--- a member of a list is the first or one of the others
-in_rest : {X : Type 0} (p : X → Bool) (ys : List X) (x y : X) (k : ℕ) → k < length (y ∷ ys) → get_or (y ∷ ys) k x ≡ x → p x ≡ true → p y ≡ false → Contains ys x
-in_rest p ys x y zero lt at t f = absurd (let g : true ≡ false = sym t ∙ ap p (sym at) ∙ f in cc)
-in_rest {X = X} p ys x y (suc k) lt at t f = (k, (let l : k < length {A = X} ys = omega arith in l), at)
-
-find_by : {X : Type 0} (r : Bool) (x y : X) (o : Option X) → (r ≡ true → y ≡ x) → (r ≡ false → o ≡ Some x) → cond r (Some y) o ≡ Some x
-find_by true x y o first rest = ap Some (first refl)
-find_by false x y o first rest = rest refl
-
-find_of : {X : Type 0} (p : X → Bool) (xs : List X) (x : X) → Contains xs x → p x ≡ true → ((y : X) → Contains xs y → p y ≡ true → y ≡ x) → find p xs ≡ Some x
-find_of p [] x (k, lt, at) t one = absurd (omega arith)
-find_of {X = X} p (y ∷ ys) x has t one =
-    find_by (p y) x y (find p ys) (λ e. one y (0, omega arith, refl) e)
-    (λ e. find_of p ys x (in_rest p ys x y has.0 has.1 has.2 t e) t (λ z in_it. one z (suc in_it.0, (let l : in_it.0 < length {A = X} ys = in_it.1 in omega arith), in_it.2)))
-
-same_place : {X : Type 0} (xs : List X) (j : ℕ) (d e : X) → j < length xs → get_or xs j d ≡ get_or xs j e
-same_place [] j d e lt = absurd (omega arith)
-same_place (z ∷ zs) zero d e lt = refl
-same_place (z ∷ zs) (suc j) d e lt = same_place zs j d e (omega arith)
-
--- elements with one number are one
-one_of : {X : Type 0} (f : X → ℕ) (xs : List X) (x y : X) → IsStrictlyIncreasing (map f xs) → Contains xs x → Contains xs y → f x ≡ f y → x ≡ y
-one_of f xs x y rising (i, lt, at) (j, less, is) same =
-    elim (cases_lt i j) [
-      | inl before ↦
-          let up = AllPairs-from_increasing (map f xs) rising i j 0 before (omega (arith, length-map xs f)) in
-          absurd (omega (arith, up, get_or-map f xs i x 0 lt, get_or-map f xs j y 0 less, ap f at, ap f is))
-      | inr from ↦ elim (cases_lt j i) [
-        | inl behind ↦
-            let up = AllPairs-from_increasing (map f xs) rising j i 0 behind (omega (arith, length-map xs f)) in
-            absurd (omega (arith, up, get_or-map f xs i x 0 lt, get_or-map f xs j y 0 less, ap f at, ap f is))
-        | inr past ↦ let e : i ≡ j = omega arith in sym at ∙ ap (λ n. get_or xs n x) e ∙ same_place xs j x y less ∙ is
-      ]
-    ]
-
-same_flag : (a b : Bool) → eqb (byte_of a) (byte_of b) ≡ true → a ≡ b
-same_flag false false e = refl
-same_flag true true e = refl
-same_flag false true e = cc
-same_flag true false e = cc
-
-flag_same : (a : Bool) → eqb (byte_of a) (byte_of a) ≡ true
-flag_same false = refl
-flag_same true = refl
-
-key_tells : (k j : Key) → same_key k j ≡ true → k ≡ j
-key_tells k j e =
-    let h = and_parts (eqb k.kind j.kind && eqb k.entry j.entry && eqb k.prio j.prio) (eqb (byte_of k.is) (byte_of j.is)) e in
-    let g = and_parts (eqb k.kind j.kind && eqb k.entry j.entry) (eqb k.prio j.prio) h.0 in
-    let f = and_parts (eqb k.kind j.kind) (eqb k.entry j.entry) g.0 in
-    let kind : k.kind ≡ j.kind = eqb-true k.kind j.kind f.0 in
-    let entry : k.entry ≡ j.entry = eqb-true k.entry j.entry f.1 in
-    let prio : k.prio ≡ j.prio = eqb-true k.prio j.prio g.1 in
-    let is : k.is ≡ j.is = same_flag k.is j.is h.1 in
-    λ i. record { kind = kind i; entry = entry i; prio = prio i; is = is i }
-
-key_same : (k : Key) → same_key k k ≡ true
-key_same k = rw (eq-eqb k.kind k.kind refl, eq-eqb k.entry k.entry refl, eq-eqb k.prio k.prio refl, flag_same k.is) refl
-
-and_then_some : {A B : Type 0} (f : A → Option B) (o : Option A) (r : B) → option_and_then f o ≡ Some r → (x : A) × (o ≡ Some x) × (f x ≡ Some r)
-and_then_some f None r e = absurd (let g : None ≡ Some r = e in cc)
-and_then_some f (Some x) r e = (x, refl, e)
-
-map_some : {A B : Type 0} (f : A → B) (o : Option A) (r : B) → option_map f o ≡ Some r → (x : A) × (o ≡ Some x) × (f x ≡ r)
-map_some f None r e = absurd (let g : None ≡ Some r = e in cc)
-map_some f (Some x) r e = (x, refl, (let g : Some (f x) ≡ Some r = e in cc))
-
--- ---- the places of a certificate
-module _ (cert : CertData) (is_cert : IsCert cert) where
-  node_found : (node : NodeData) → Contains cert.nodes node → find (λ n. same_key n.key node.key) cert.nodes ≡ Some node
-  node_found node has =
-      find_of (λ n. same_key n.key node.key) cert.nodes node has (key_same node.key)
-      (λ n in_it t. one_of (λ (z : NodeData). number_of_key z.key) cert.nodes n node is_cert.rising in_it has (ap number_of_key (key_tells n.key node.key t)))
-
-  point_found : (node : NodeData) (q : Point) → Contains cert.nodes node → Contains node.points q → find_point q.addr node.points ≡ Some q
-  point_found node q has stands =
-      let is = All-contains (IsNode cert.version) cert.nodes node is_cert.nodes has in
-      find_of (λ (z : Point). eqb z.addr q.addr) node.points q stands (eq-eqb q.addr q.addr refl) (λ z in_it t. one_of (λ (y : Point). y.addr) node.points z q is.rising in_it stands (eqb-true z.addr q.addr t))
-
-  -- what is known at a point of a node
-  known_there : (node : NodeData) (q : Point) → Contains cert.nodes node → Contains node.points q → known_in cert (point node.key q.addr) ≡ Some (state q.state)
-  known_there node q has stands =
-      ap (option_and_then (known_at (point node.key q.addr))) (node_found node has) ∙ ap (option_map (λ (z : Point). state z.state)) (point_found node q has stands)
-
--- a point at which this is known
-record AtPoint (cert : CertData) (k : Key) (p : ℕ) (s : State) : Type 0 where
-  node : NodeData
-  place : Point
-  member : Contains cert.nodes node
-  stands : Contains node.points place
-  key : node.key ≡ k
-  addr : place.addr ≡ p
-  is : place.state ≡ s
-
-known_from : (cert : CertData) (k : Key) (p : ℕ) (s : State) → known_in cert (point k p) ≡ Some (state s) → AtPoint cert k p s
-known_from cert k p s e =
-    let a = and_then_some (known_at (point k p)) (find (λ n. same_key n.key k) cert.nodes) (state s) e in
-    let m = map_some (λ (q : Point). state q.state) (find_point p (a.0).points) (state s) a.2 in
-    let n = found_in (λ n. same_key n.key k) cert.nodes a.0 a.1 in
-    let q = found_in (λ (z : Point). eqb z.addr p) (a.0).points m.0 m.1 in
-    record {
-      node = a.0;
-      place = m.0;
-      member = n.0;
-      stands = q.0;
-      key = key_tells (a.0).key k n.1;
-      addr = eqb-true (m.0).addr p q.1;
-      is = (let f : state (m.0).state ≡ state s = m.2 in cc);
-    }
-
-over_state : (w : Known) (s : State) → CoversKnown w (state s) → (t : State) × (w ≡ state t) × Covers t s
-over_state (state t) s c = (t, refl, c)
-over_state (leaving x) s c = absurd c
-
 -- ---- the law
 module _ (view : ImageData) (plan : PlanData) (tasks : TasksData) (lower upper : CertData) (ok : IsPlan plan) (low_cert : IsCert lower) (up_cert : IsCert upper) (same : lower.version ≡ upper.version)
     (low_ok : Accepts view plan lower) (up_ok : Accepts view plan upper) where
-  setting : (cert : CertData) → IsCert cert → Accepts view plan cert → (node : NodeData) (q : Point) → Contains cert.nodes node → Contains node.points q → IsSetting (limits_in plan cert) plan q.state
-  setting cert is accepted node q has stands =
-      let in_node = All-contains (IsNode cert.version) cert.nodes node is.nodes has in
-      record {
-        limits = limits_are plan cert.version;
-        plan = ok;
-        regs = ((All-contains (IsPoint cert.version) node.points q in_node.points stands).state).regs;
-        values = All-contains (λ (z : Point). AreValues (limits_in plan cert) (z.state).regs) node.points q (accepted_values view plan cert node accepted has) stands;
-      }
-
-  limits_same : limits_in plan upper ≡ limits_in plan lower
-  limits_same = sym (ap (λ v. limits_in plan (record lower { version = v })) same)
-
   holds_below : (node other : NodeData) (q z : Point) → Contains lower.nodes node → Contains node.points q → Contains upper.nodes other → Contains other.points z → other.key ≡ node.key → z.addr ≡ q.addr → Covers z.state q.state
       → HoldsApart view plan tasks upper other z → HoldsApart view plan tasks lower node q
   holds_below node other q z has stands up_has up_stands key at covers holds shape n code =
       let is = IsCode-bounded view plan q.addr shape n code in
-      let high = subst (λ (b : Limits). IsSetting b plan z.state) limits_same (setting upper up_cert up_ok other z up_has up_stands) in
+      let high = subst (λ (b : Limits). IsSetting b plan z.state) (limits_same plan lower upper same) (setting view plan upper ok up_cert up_ok other z up_has up_stands) in
       let there = holds shape n (subst (λ x. IsCode view plan x shape n) (sym at) code) in
-      let limited = subst (λ (b : Limits). StaysApart b plan tasks other.key z.addr z.state shape) limits_same there in
+      let limited = subst (λ (b : Limits). StaysApart b plan tasks other.key z.addr z.state shape) (limits_same plan lower upper same) there in
       let moved = subst (λ x. StaysApart (limits_in plan lower) plan tasks other.key x z.state shape) at limited in
       let keyed = subst (λ (k : Key). StaysApart (limits_in plan lower) plan tasks k q.addr z.state shape) key moved in
-      apart_shrinks (limits_in plan lower) plan q.state z.state (setting lower low_cert low_ok node q has stands) high covers tasks node.key q.addr shape is keyed
+      apart_shrinks (limits_in plan lower) plan q.state z.state (setting view plan lower ok low_cert low_ok node q has stands) high covers tasks node.key q.addr shape is keyed
 
   fails_above : IsBelowAt (known_in lower) (known_in upper) → (k : Key) (p : ℕ) → FailsApart view plan tasks lower k p → FailsApart view plan tasks upper k p
   fails_above below _ _ (at_point node q has stands wrong) =
-      let c = below (point node.key q.addr) (state q.state) (known_there lower low_cert node q has stands) in
-      let o = over_state c.known q.state c.covers in
-      let a = known_from upper node.key q.addr o.0 (c.at ∙ ap Some o.1) in
-      let covers = subst (λ t. Covers t q.state) (sym a.is) o.2 in
-      let up : FailsApart view plan tasks upper (a.node).key (a.place).addr = at_point a.node a.place a.member a.stands (λ holds. wrong (holds_below node a.node q a.place has stands a.member a.stands a.key a.addr covers holds)) in
+      let a = above lower upper low_cert below node q has stands in
+      let up : FailsApart view plan tasks upper (a.node).key (a.place).addr = at_point a.node a.place a.member a.stands (λ holds. wrong (holds_below node a.node q a.place has stands a.member a.stands a.key a.addr a.covers holds)) in
       subst (λ x. FailsApart view plan tasks upper node.key x) a.addr (subst (λ (k : Key). FailsApart view plan tasks upper k (a.place).addr) a.key up)
 
 pub task_faults_grow : TaskFaultsGrow

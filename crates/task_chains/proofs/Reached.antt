@@ -1,7 +1,7 @@
 -- States that a view's run has reached, and what the certificate says of them.
-use Rattle.std.proofs.Common.{◌≡◌, ℕ, suc, ◌≤◌, Bool, true, false, cond, List, [], ◌∷◌, ◌++◌, length, Option, Some, None, refl, sym, ap, ◌∙◌, subst, arith, All, Contains, ◌==◌}
-use Rattle.std.proofs.lemmas.Bool.{cond_both, eqb-true}
-use Rattle.std.specs.List.{find}
+use Rattle.std.proofs.Common.{◌≡◌, ℕ, false, List, [], ◌∷◌, ◌++◌, length, Option, Some, None, refl, sym, ap, ◌∙◌, subst, All, ◌==◌}
+use Rattle.std.proofs.lemmas.Bool.{eqb-true}
+use Rattle.std.proofs.lemmas.List.Elements.{All-contains}
 use Rattle.std.specs.Prelude.{IsSomeAnd}
 use Rattle.elf_image.specs.Images.{ImageData}
 use Rattle.tcd_plan.specs.PlanData.{PlanData, IsPlan}
@@ -16,10 +16,9 @@ use Rattle.tc_machine.specs.Safe.{IsMachine, Starts, Fits, AllFit, IsSafeAt, Saf
 use Rattle.tcd_plan.specs.Regions.{IsStoreInRange}
 use Rattle.tc_machine.proofs.Stays.{stays_run}
 use Rattle.value_domain.specs.declared.states.State.{State}
-use Rattle.value_domain.specs.Limits.{Limits, AreLimits}
+use Rattle.value_domain.specs.Limits.{Limits}
 use Rattle.value_domain.specs.State.{AreValues}
 use Rattle.value_domain.specs.Values.{IsMember}
-use Rattle.value_domain.specs.Thresholds.{limits_for}
 use Rattle.vd_transfer.specs.Effects.{address_of}
 use Rattle.vd_transfer.specs.Soundness.{IsSetting}
 use Rattle.vd_transfer.proofs.HoldLaws.{address_holds}
@@ -35,7 +34,9 @@ use Rattle.cfg_recover.specs.Local.{LocalRule, IsFaultless}
 use Rattle.cfg_recover.specs.Accepting.{limits_in, RuleHolds, HoldsAtNode, Accepts}
 use Rattle.cfg_recover.specs.Moves.{InState}
 use Rattle.cfg_recover.specs.Frames.{Standing, frames_after, frames_from, frames, HoldFrames, FramesHeld}
+use Rattle.depth_cert.proofs.KeyLaws.{found_in}
 use Rattle.cfg_recover.proofs.CodeLaws.{IsCode-bounded}
+use Rattle.cfg_recover.proofs.PointLaws.{limits_are}
 use Rattle.cfg_recover.proofs.Went.{address-is}
 use Rattle.task_chains.specs.Tasks.{TasksData}
 use Rattle.task_chains.specs.Apart.{StaysApart, HoldsApart, KeepsApart}
@@ -75,26 +76,7 @@ Reached-step image plan v fs e r fits = record {
   frames_are = (λ i. frames_after (r.is i) e (r.frames_are i)) ∙ sym (frames-snoc r.from r.events e (record { key = start_key image plan; at = (r.from).pc } ∷ []));
 }
 
--- ---- what is found in lists
-All-at : {X : Type 0} (P : X → Type 0) (xs : List X) (x : X) → All P xs → Contains xs x → P x
-All-at P xs x all c = subst P c.2 (all c.0 x c.1)
-
-found_in : {X : Type 0} (p : X → Bool) (xs : List X) (x : X) → find p xs ≡ Some x → Contains xs x × (p x ≡ true)
-found_in p [] x h = absurd (let f : None ≡ Some x = h in cc)
-found_in p (y ∷ ys) x h =
-    elim (p y) as (λ t. p y ≡ t → cond t (Some y) (find p ys) ≡ Some x → Contains (y ∷ ys) x × (p x ≡ true)) [
-      | true ↦ λ e g. let same : y ≡ x = cc in subst (λ z. Contains (y ∷ ys) z × (p z ≡ true)) same ((0, omega arith, refl), e)
-      | false ↦ λ e g. let rest = found_in p ys x g in ((suc (rest.0).0, (let lt = (rest.0).1 in omega arith), (rest.0).2), rest.1)
-    ] refl h
-
-limits_are : (plan : PlanData) (version : ℕ) → AreLimits (limits_for plan version)
-limits_are plan version =
-    record {
-      wide = cond_both (version == 1) 64 128 (λ w. 64 ≤ w) (λ _. omega arith) (λ _. omega arith);
-      narrow = cond_both (version == 1) 64 128 (λ w. w ≤ 128) (λ _. omega arith) (λ _. omega arith);
-      few_locals = cond_both (version == 1) 4 8 (λ w. w ≤ 8) (λ _. omega arith) (λ _. omega arith);
-    }
-
+-- ---- what is at a point
 -- the address of a load is one of its value's
 abbrev pub LoadsAt : Limits → PlanData → State → Machine → Shape → Type 0
 LoadsAt b plan s m (Load dst base offset size signed after) = IsMember (access_address m base offset after) (address_of b plan (Load dst base offset size signed after) s)
@@ -147,16 +129,16 @@ module _ (image : ImageData) (plan : PlanData) (ok : IsPlan plan) (cert : CertDa
   by_point : (v : Machine) (key : Key) (node : NodeData) (point : Point) → find_node key cert.nodes ≡ Some node → find_point v.pc node.points ≡ Some point → InState plan v point.state → PointOf plan image cert tasks v key
   by_point v key node point found at inside =
       let there = found_in (λ n. number_of_key n.key == number_of_key key) cert.nodes node found in
-      let holds = All-at (HoldsAtNode image plan cert) cert.nodes node accepted.nodes there.0 in
+      let holds = All-contains (HoldsAtNode image plan cert) cert.nodes node accepted.nodes there.0 in
       let here = found_in (λ p. p.addr == v.pc) node.points point at in
       let addr : point.addr ≡ v.pc = eqb-true _ _ here.1 in
-      let all : (r : ℕ) → RuleHolds image plan cert node point r = All-at (λ p. (r : ℕ) → RuleHolds image plan cert node p r) node.points point holds.points here.0 in
+      let all : (r : ℕ) → RuleHolds image plan cert node point r = All-contains (λ p. (r : ℕ) → RuleHolds image plan cert node p r) node.points point holds.points here.0 in
       let values : AreValues (limits_in plan cert) (point.state).regs = (all 2).values refl in
       let faultless : IsFaultless (limits_in plan cert) image plan node.key point.addr point.state = λ r. (all r).own values in
       let has : HasCode image plan point.addr = (faultless 3).code refl in
-      let is_node = All-at (IsNode cert.version) cert.nodes node is_cert.nodes there.0 in
-      let is_point : IsPoint cert.version point = All-at (IsPoint cert.version) node.points point is_node.points here.0 in
-      let keeps : HoldsApart image plan tasks cert node point = All-at (HoldsApart image plan tasks cert node) node.points point (All-at (λ n. All (HoldsApart image plan tasks cert n) n.points) cert.nodes node apart there.0) here.0 in
+      let is_node = All-contains (IsNode cert.version) cert.nodes node is_cert.nodes there.0 in
+      let is_point : IsPoint cert.version point = All-contains (IsPoint cert.version) node.points point is_node.points here.0 in
+      let keeps : HoldsApart image plan tasks cert node point = All-contains (HoldsApart image plan tasks cert node) node.points point (All-contains (λ n. All (HoldsApart image plan tasks cert n) n.points) cert.nodes node apart there.0) here.0 in
       let code : IsCode image plan v.pc has.shape has.size = subst (λ x. IsCode image plan x has.shape has.size) addr has.code in
       record {
         node = node;

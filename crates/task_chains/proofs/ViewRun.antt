@@ -38,7 +38,8 @@ use Rattle.task_chains.specs.Tasks.{TasksData, AreTasks, count}
 use Rattle.task_chains.specs.Views.{view_image_of, view_plan_of, FitPlan}
 use Rattle.task_chains.specs.Apart.{switch_key, StaysApart}
 use Rattle.task_chains.specs.Safe.{IsInRoutine, IsJudged}
-use Rattle.task_chains.proofs.FramesKept.{key_same, AreKeys, AreFirst, keys_next}
+use Rattle.depth_cert.proofs.KeyLaws.{one_number}
+use Rattle.task_chains.proofs.FramesKept.{AreKeys, AreFirst, keys_next}
 use Rattle.task_chains.proofs.Fitting.{quiet}
 use Rattle.task_chains.proofs.LevelSteps.{Leveled}
 use Rattle.task_chains.proofs.Leveling.{EndsBy, StoresNothing, level_interrupt, level_step}
@@ -120,7 +121,7 @@ module _ {image : ImageData} {plan : PlanData} (ok : IsPlan plan) {tasks : Tasks
   view_point = point_of view plan2 view_ok cert judged.is_cert judged.accepted tasks judged.apart v r.frame r.behind judged.frames r.reached
 
   same_key : (view_point.node).key ≡ (r.frame).key
-  same_key = key_same (view_point.node).key (r.frame).key view_point.is_key (r.keys).0 view_point.same_key
+  same_key = one_number (view_point.node).key (r.frame).key view_point.is_key (r.keys).0 view_point.same_key
 
   apart_at : StaysApart (limits_in plan2 cert) plan2 tasks (r.frame).key v.pc view_point.state view_point.shape
   apart_at = subst (λ (k : Key). StaysApart (limits_in plan2 cert) plan2 tasks k v.pc view_point.state view_point.shape) same_key view_point.apart

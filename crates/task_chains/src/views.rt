@@ -64,24 +64,6 @@ pub fn view_image(alloc: Global, image: &Image, tasks: &Tasks, u: usize) -> Resu
     })
 }
 
-fn copied(ranges: &[Range]) -> ArrayVec<Range, 16>
-    requires { length ranges.now ≤ 16 }
-    ensures { result.items ≡ ranges.now }
-{
-    let mut copy = ArrayVec::new();
-    copy.try_extend_from_slice(ranges).unwrap();
-    copy
-}
-
-fn copied_bytes(bytes: &[u8]) -> ArrayVec<u8, 32>
-    requires { length bytes.now ≤ 32 }
-    ensures { result.items ≡ bytes.now }
-{
-    let mut copy = ArrayVec::new();
-    copy.try_extend_from_slice(bytes).unwrap();
-    copy
-}
-
 /// Whether interrupts are on at the start of a task: as the plan says for the first, else not.
 fn starts_enabled(plan: &Plan, u: usize) -> bool
     ensures { result ≡ (if u == 0 then plan.now.start_ie else false) }
@@ -97,7 +79,7 @@ pub fn view_plan(plan: &Plan, tasks: &Tasks, u: usize) -> Plan
     ensures { result ≡ view_plan_of plan.now tasks.now u }
 {
     Plan {
-        rom: copied(plan.rom.as_slice()),
+        rom: ArrayVec::try_from(plan.rom.as_slice()).unwrap(),
         ram: ArrayVec::new(),
         devices: devices_without(plan, tasks.block, tasks.block_size()),
         csa_at: plan.csa_at,
@@ -107,7 +89,7 @@ pub fn view_plan(plan: &Plan, tasks: &Tasks, u: usize) -> Plan
         isp: plan.isp,
         biv: plan.biv,
         btv: plan.btv,
-        irqs: copied_bytes(plan.irqs.as_slice()),
+        irqs: ArrayVec::try_from(plan.irqs.as_slice()).unwrap(),
         sys: plan.sys,
         aln: plan.aln,
         start_ie: starts_enabled(plan, u),

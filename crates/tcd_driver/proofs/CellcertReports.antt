@@ -23,7 +23,7 @@ use Rattle.value_cells.proofs.CellSafe.{cells_keep}
 use Rattle.value_cells.proofs.GrowthLaws.{cell_faults_grow, cell_faults_refute}
 use Rattle.tcd_reading.specs.Reports.{Report, says, writes_file}
 use Rattle.tcd_forms.specs.Lines.{refused_line}
-use Rattle.tcd_driver.specs.Lines.{certified_cells_line}
+use Rattle.tcd_forms.specs.Results.{certified_cells_line}
 use Rattle.tcd_driver.specs.Cellcert.{NoneKeepsCells, IsCertifyingCells, refused, broken, certified}
 use Rattle.tcd_reading.specs.declared.status.Status.TheVariants.{Done, Refused, BadWords}
 use Rattle.tcd_reading.proofs.Decided.{AreAlike, status_is, writes_are}

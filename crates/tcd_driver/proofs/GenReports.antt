@@ -29,7 +29,7 @@ use Rattle.depth_maker.specs.declared.answering.MakeErr.{MakeErr}
 use Rattle.depth_maker.specs.declared.answering.MakeErr.TheVariants as make
 use Rattle.tcd_reading.specs.Reports.{Report, says}
 use Rattle.tcd_forms.specs.Lines.{refused_line}
-use Rattle.tcd_driver.specs.Lines.{generated_line}
+use Rattle.tcd_forms.specs.Results.{generated_line}
 use Rattle.tcd_driver.specs.Gen.{IsSummary, refused, certified}
 use Rattle.tcd_reading.specs.declared.status.Status.TheVariants.{Done, Refused, BadWords}
 use Rattle.tcd_reading.proofs.Decided.{AreAlike, status_is, writes_are}

@@ -40,7 +40,8 @@ use Rattle.tcd_reading.specs.Inputs.{answer}
 use Rattle.tcd_reading.specs.Outcomes.{Comes, IsTold}
 use Rattle.tcd_reading.specs.declared.outcome.Outcome.{Outcome}
 use Rattle.tcd_reading.proofs.Told.{comes_told}
-use Rattle.tcd_driver.specs.Lines.{tasks_line, certified_tasks_line, sum_line}
+use Rattle.tcd_forms.specs.Results.{certified_tasks_line, sum_line}
+use Rattle.tcd_driver.specs.Lines.{tasks_line}
 use Rattle.tcd_driver.specs.Tasks.{cert_of, needs_of, sum_of_needs, AreJudged, with_a_name_each}
 use Rattle.tcd_driver.specs.Taskcert.{IsTaskMade, NoneApart, IsUncertified, unaccepted, not_apart, AreTasksMade, IsFirstUncertified, cert_files, IsTaskcerting, no_switch, refused, above, certified, SpellApart, MakesApart, SpellTask, MakesTask, AreFiles, writes_files}
 use Rattle.tcd_driver.specs.declared.making.Making.{Making}

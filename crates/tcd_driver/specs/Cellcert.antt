@@ -16,7 +16,7 @@ use Rattle.tcd_reading.specs.Reports.{Report, says, writes_file}
 use Rattle.tcd_reading.specs.Inputs.{Reading, input, answer}
 use Rattle.tcd_driver.specs.Forms.{cells_form}
 use Rattle.tcd_forms.specs.Forms.{elf_form, plan_form}
-use Rattle.tcd_driver.specs.Lines.{certified_cells_line}
+use Rattle.tcd_forms.specs.Results.{certified_cells_line}
 use Rattle.tcd_forms.specs.Lines.{refused_line}
 use Rattle.tcd_reading.specs.declared.status.Status.TheVariants.{Refused}
 

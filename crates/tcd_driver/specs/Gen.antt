@@ -16,7 +16,7 @@ use Rattle.tcd_generate.specs.Planned.{generated_plan}
 use Rattle.tcd_reading.specs.Reports.{Report, says}
 use Rattle.tcd_reading.specs.Inputs.{Reading, answer}
 use Rattle.tcd_forms.specs.Lines.{refused_line}
-use Rattle.tcd_driver.specs.Lines.{generated_line}
+use Rattle.tcd_forms.specs.Results.{generated_line}
 use Rattle.tcd_reading.specs.declared.status.Status.TheVariants.{Done, Refused}
 
 -- how many functions a word asks for: 1 to 500, in decimal without leading zeros

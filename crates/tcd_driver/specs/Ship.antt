@@ -29,10 +29,11 @@ pub record ShipNames : Type 0 where
   pub cert : List ℕ
   pub sources : List (List ℕ)
 
--- the objects of sources, and their texts
+-- the objects of sources
 abbrev pub objects_of : List SourceData → List ObjectData
 objects_of sources = map (λ s. s.object) sources
 
+-- their texts
 abbrev pub texts_of : List SourceData → List (List ℕ)
 texts_of sources = map (λ s. s.text) sources
 

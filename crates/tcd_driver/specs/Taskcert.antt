@@ -18,7 +18,7 @@ use Rattle.tcd_reading.specs.Reports.{Report, Written, says}
 use Rattle.tcd_reading.specs.Inputs.{Reading, input, answer}
 use Rattle.tcd_driver.specs.Forms.{tasks_form}
 use Rattle.tcd_forms.specs.Forms.{elf_form, plan_form}
-use Rattle.tcd_driver.specs.Lines.{switch_line, refused_task_line, sum_line, certified_tasks_line}
+use Rattle.tcd_forms.specs.Results.{switch_line, refused_task_line, sum_line, certified_tasks_line}
 use Rattle.tcd_driver.specs.Tasks.{cert_of, needs_of, sum_of_needs, with_a_name_each}
 use Rattle.tcd_driver.specs.declared.making.Making.{Making}
 use Rattle.tcd_driver.specs.declared.making.Making.TheVariants as making

@@ -18,7 +18,8 @@ use Rattle.tcd_reading.specs.Reports.{Report, says}
 use Rattle.tcd_reading.specs.Inputs.{Reading, input, each, answer}
 use Rattle.tcd_driver.specs.Forms.{tasks_form}
 use Rattle.tcd_forms.specs.Forms.{elf_form, plan_form, cert_form}
-use Rattle.tcd_driver.specs.Lines.{tasks_line, switch_line, refused_task_line, sum_line, certified_tasks_line}
+use Rattle.tcd_forms.specs.Results.{switch_line, refused_task_line, sum_line, certified_tasks_line}
+use Rattle.tcd_driver.specs.Lines.{tasks_line}
 use Rattle.tcd_driver.specs.declared.commands.tasks.Tally.{Tally}
 use Rattle.tcd_driver.specs.declared.commands.tasks.Tally.TheVariants.{Sum, Against}
 use Rattle.tcd_reading.specs.declared.status.Status.TheVariants.{Done, Refused, BadInput}
@@ -55,6 +56,7 @@ JudgesTask image plan tasks cert u (No rule key addr) = IsTaskRefused image plan
 abbrev pub needs_of : ImageData → PlanData → TasksData → List CertData → ℕ → ℕ
 needs_of image plan tasks certs = need_of_task image plan tasks (cert_of certs)
 
+-- their sum
 abbrev pub sum_of_needs : ImageData → PlanData → TasksData → List CertData → ℕ
 sum_of_needs image plan tasks certs = sum_below (count tasks) (needs_of image plan tasks certs)
 
@@ -96,6 +98,7 @@ abbrev pub if_as_many : Bool → Reading → Reading
 if_as_many true reading = reading
 if_as_many false reading = answer (λ report. report ≡ says BadInput (tasks_line Count))
 
+-- the same, of these names and tasks
 abbrev pub with_a_name_each : List (List ℕ) → TasksData → Reading → Reading
 with_a_name_each names tasks reading = if_as_many (length names == count tasks) reading
 

@@ -1,9 +1,9 @@
 // The forms of inputs that stand above the others.
-use crate::lines::{cells_line, long_cells_line, long_tasks_line, tasks_line};
+use crate::lines::{cells_line, tasks_line};
 use std::alloc::Global;
 use task_chains::Tasks;
 use tcd_base::NoMemory;
-use tcd_forms::{LIMIT, line_of};
+use tcd_forms::{LIMIT, line_of, long_cells_line, long_tasks_line};
 use tcd_plan::Plan;
 use tcd_reading::{Form, Outcome, bad_input};
 use value_cells::Cells;

@@ -1,18 +1,12 @@
-//! Worked files. The worked image is `call f`, `j .+0`, `f: ret16` at 80000000, where it begins.
+//! Worked files. The worked image is `call f`, `j .+0`, `f: ret16` at 80000000, where it begins: the ELF header, one program
+//! header and ten bytes.
 use elf_image::{Image, ImageErr};
 use std::test::Fail;
-
-// The ELF header, one program header and ten bytes.
-const WORKED: [u8; 94] = [
-    0x7f, 0x45, 0x4c, 0x46, 1, 1, 1, 0, 0, 0, 0, 0, 0, 0, 0, 0, 2, 0, 44, 0, 1, 0, 0, 0, 0, 0, 0,
-    0x80, 52, 0, 0, 0, 0, 0, 0, 0, 0, 0, 0, 0, 52, 0, 32, 0, 1, 0, 0, 0, 0, 0, 0, 0, 1, 0, 0, 0,
-    84, 0, 0, 0, 0, 0, 0, 0x80, 0, 0, 0, 0x80, 10, 0, 0, 0, 10, 0, 0, 0, 5, 0, 0, 0, 1, 0, 0, 0,
-    0x6d, 0x00, 0x04, 0x00, 0x1d, 0x00, 0x00, 0x00, 0x00, 0x90,
-];
+use tcd_samples::CALLER;
 
 #[test]
 fn worked_file(rt: HostRuntime) -> Result<(), Fail> {
-    let image = Image::read(rt.alloc(), &WORKED)?;
+    let image = Image::read(rt.alloc(), &CALLER)?;
     assert_eq!(rt; image.entry, 0x8000_0000);
     assert_eq!(rt; image.segments.len(), 1);
     assert_eq!(rt; image.segments[0].at, 0x8000_0000);
@@ -29,7 +23,7 @@ fn worked_file(rt: HostRuntime) -> Result<(), Fail> {
         assert_eq!(rt; image.byte(addr), want, "at {addr}");
     }
     let file = image.write(rt.alloc())?;
-    assert_eq!(rt; file.as_slice(), WORKED.as_slice());
+    assert_eq!(rt; file.as_slice(), CALLER.as_slice());
     Ok(())
 }
 
@@ -43,7 +37,7 @@ fn cut_files(rt: HostRuntime) -> Result<(), Fail> {
         } else {
             None
         };
-        let got = Image::read(rt.alloc(), &WORKED[..n]).err();
+        let got = Image::read(rt.alloc(), &CALLER[..n]).err();
         assert_eq!(rt; got, want, "of {n} bytes");
     }
     Ok(())
@@ -88,7 +82,7 @@ fn changed_files(rt: HostRuntime) -> Result<(), Fail> {
     for c in &CHANGED {
         let place = c.place;
         assert!(rt; place < 94);
-        let mut file = WORKED;
+        let mut file = CALLER;
         file[place] = c.byte;
         assert_eq!(rt;
             Image::read(rt.alloc(), &file).err(),
@@ -102,7 +96,7 @@ fn changed_files(rt: HostRuntime) -> Result<(), Fail> {
 // An ELF header of 65,535 program headers, and nothing more.
 #[test]
 fn headers_that_are_not_there(rt: HostRuntime) {
-    let mut file = WORKED;
+    let mut file = CALLER;
     file[44] = 0xff;
     file[45] = 0xff;
     assert_eq!(rt;
@@ -119,11 +113,11 @@ fn same_addresses(rt: HostRuntime) -> Result<(), Fail> {
         (64, ImageErr::Overlap(0, 1)),
         (65, ImageErr::TooLarge),
     ] {
-        let mut file = Vec::from_slice(rt.alloc(), &WORKED[..44])?;
+        let mut file = Vec::from_slice(rt.alloc(), &CALLER[..44])?;
         file.extend_from_slice(&[count, 0])?;
-        file.extend_from_slice(&WORKED[46..52])?;
+        file.extend_from_slice(&CALLER[46..52])?;
         for _ in 0..count {
-            file.extend_from_slice(&WORKED[52..84])?;
+            file.extend_from_slice(&CALLER[52..84])?;
         }
         assert!(rt; file.len() < 10_000);
         assert_eq!(rt;

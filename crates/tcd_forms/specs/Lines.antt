@@ -1,6 +1,7 @@
 -- The printed lines.
-use Rattle.std.specs.Prelude.{ℕ, ◌+◌, ◌/◌, ◌%◌, ◌^◌, ◌==◌, nat_lt, if◌then◌else◌, List, [], ◌∷◌, ◌++◌, codes, slice_get, unwrap_or}
+use Rattle.std.specs.Prelude.{ℕ, ◌==◌, if◌then◌else◌, List, [], ◌∷◌, ◌++◌, codes, slice_get, unwrap_or}
 use Rattle.std.specs.Fmt.{decimal}
+use Rattle.hex_text.specs.Digits.{hex_word}
 use Rattle.depth_cert.specs.Keys.{start_kind, call_kind, irq_kind, sys_kind}
 use Rattle.elf_image.specs.declared.errors.ImageErr.{ImageErr}
 use Rattle.elf_image.specs.declared.errors.ImageErr.TheVariants as elf
@@ -22,16 +23,6 @@ use Rattle.tcd_plan.specs.Keys.{key_texts}
 use Rattle.tcd_plan.specs.declared.plans.PlanKey.{PlanKey}
 use Rattle.tcd_plan.specs.declared.plans.PlanErr.{PlanErr}
 use Rattle.tcd_plan.specs.declared.plans.PlanErr.TheVariants as plan
-
--- one of the sixteen hex digits, in upper case
-abbrev pub hex_digit : ℕ → ℕ
-hex_digit n = if nat_lt n 10 then 48 + n else 55 + n
-
--- a word as eight of them
-unfoldable pub hex_word : ℕ → List ℕ
-hex_word x =
-    hex_digit (x / 2 ^ 28 % 16) ∷ hex_digit (x / 2 ^ 24 % 16) ∷ hex_digit (x / 2 ^ 20 % 16) ∷ hex_digit (x / 2 ^ 16 % 16)
-    ∷ hex_digit (x / 2 ^ 12 % 16) ∷ hex_digit (x / 2 ^ 8 % 16) ∷ hex_digit (x / 2 ^ 4 % 16) ∷ hex_digit (x % 16) ∷ []
 
 -- the kind of a key: the start (0), a call, an interrupt, a system call or a misaligned access
 unfoldable pub kind_text : ℕ → List ℕ
@@ -191,3 +182,11 @@ link_line no_entry = codes "bad link 6" ++ 10 ∷ []
 -- so many bytes of an image were written
 unfoldable pub linked_line : ℕ → List ℕ
 linked_line bytes = codes "image " ++ (decimal bytes ++ (codes " bytes" ++ 10 ∷ []))
+
+-- a file of cells above its limit
+unfoldable pub long_cells_line : List ℕ
+long_cells_line = codes "bad cells 0" ++ 10 ∷ []
+
+-- a file of tasks above its limit
+unfoldable pub long_tasks_line : List ℕ
+long_tasks_line = codes "bad tasks 0" ++ 10 ∷ []

@@ -3,14 +3,19 @@
 
 mod forms;
 mod lines;
+mod results;
 
 pub use forms::{
     CertFile, ElfFile, LIMIT, LayoutFile, ObjectFile, PlacedSourceFile, PlanFile, ScriptFile,
     Source, SourceFile,
 };
 pub use lines::{
-    append, assembled_line, cert_line, certified_line, elf_line, hex_word, layout_line, line_of,
-    link_line, linked_line, long_cert_line, long_elf_line, long_layout_line, long_object_line,
-    long_plan_line, long_script_line, long_source_line, object_line, plan_line, refused_line,
-    run_line, script_line, source_line,
+    append, assembled_line, cert_line, certified_line, elf_line, layout_line, line_of, link_line,
+    linked_line, long_cells_line, long_cert_line, long_elf_line, long_layout_line,
+    long_object_line, long_plan_line, long_script_line, long_source_line, long_tasks_line,
+    object_line, plan_line, refused_line, run_line, script_line, source_line,
+};
+pub use results::{
+    boots_line, certified_cells_line, certified_tasks_line, generated_boot_line, generated_line,
+    refused_task_line, sum_line, switch_line,
 };

@@ -1,13 +1,15 @@
 // The printed lines.
 ghost use Rattle.std.specs.Prelude.{◌≡◌, ◌≢◌, ◌<◌, ◌++◌, ◌∷◌, [], if◌then◌else◌, length, codes, IsErr, IfOk, IfSome, OnOk};
 ghost use Rattle.std.specs.Fmt.{decimal};
-ghost use Rattle.tcd_forms.specs.Lines.{long_elf_line, long_plan_line, long_cert_line, long_script_line, long_source_line, hex_digit, hex_word, kind_text, key_line, at_key, elf_line, plan_line, cert_line, script_line, source_line, assembled_line, long_layout_line, layout_line, long_object_line, object_line, at_name, field_fault, link_line, linked_line, cause_text, end_text, run_line, refused_line, certified_line};
+ghost use Rattle.tcd_forms.specs.Lines.{long_elf_line, long_plan_line, long_cert_line, long_script_line, long_source_line, kind_text, key_line, at_key, elf_line, plan_line, cert_line, script_line, source_line, assembled_line, long_layout_line, long_cells_line, long_tasks_line, layout_line, long_object_line, object_line, at_name, field_fault, link_line, linked_line, cause_text, end_text, run_line, refused_line, certified_line};
+ghost use Rattle.hex_text.specs.Digits.{hex_word};
 ghost use Rattle.tcd_plan.specs.Plans.{HasText};
 ghost use Rattle.tc_link.specs.Errors.{refusal_of};
 ghost use Rattle.tcd_plan.specs.Keys.{key_texts};
 
 use depth_cert::Key;
 use elf_image::ImageErr;
+use hex_text::hex_word;
 use std::alloc::Global;
 use tc_link::{LayoutErr, LinkErr};
 use tc_machine::{Cause, End, Machine};
@@ -15,31 +17,6 @@ use tc_reloc::RelocErr;
 use tc_script::ScriptErr;
 use tcd_base::{FormErr, NoMemory};
 use tcd_plan::{PlanErr, PlanKey, key_text};
-
-// A hex digit, in upper case.
-fn hex_digit(n: u32) -> u8
-    requires { n < 16 }
-    ensures { result ≡ hex_digit n }
-{
-    if n < 10 { 48 + n as u8 } else { 55 + n as u8 }
-}
-
-/// A word as eight of them.
-#[tactic(auto, unfolding(crate::specs::Lines::hex_word))]
-pub fn hex_word(x: u32) -> [u8; 8]
-    ensures { result ≡ hex_word x }
-{
-    [
-        hex_digit(x / 268_435_456 % 16),
-        hex_digit(x / 16_777_216 % 16),
-        hex_digit(x / 1_048_576 % 16),
-        hex_digit(x / 65_536 % 16),
-        hex_digit(x / 4_096 % 16),
-        hex_digit(x / 256 % 16),
-        hex_digit(x / 16 % 16),
-        hex_digit(x % 16),
-    ]
-}
 
 /// The bytes, behind what stands there.
 pub fn append(line: &mut Vec<u8>, bytes: &[u8]) -> Result<(), NoMemory>
@@ -115,6 +92,22 @@ pub fn long_layout_line() -> &'static [u8]
     ensures { result.now ≡ long_layout_line }
 {
     b"bad layout 0\n"
+}
+
+/// A file of cells above its limit.
+#[tactic(auto, unfolding(crate::specs::Lines::long_cells_line))]
+pub fn long_cells_line() -> &'static [u8]
+    ensures { result.now ≡ long_cells_line }
+{
+    b"bad cells 0\n"
+}
+
+/// A file of tasks above its limit.
+#[tactic(auto, unfolding(crate::specs::Lines::long_tasks_line))]
+pub fn long_tasks_line() -> &'static [u8]
+    ensures { result.now ≡ long_tasks_line }
+{
+    b"bad tasks 0\n"
 }
 
 /// Why a file is no image.

@@ -108,6 +108,7 @@ EndsSay reading =
     → files.held ≡ Some m → sink.written ≡ Some text → Ends reading files files' sink sink' result
     → EndsSo reading files files' sink sink' m text result
 
+-- the same, whether files and sink tell what they hold or not
 abbrev pub EndsAnyhowSay : Reading → Type 0
 EndsAnyhowSay reading =
     (files files' : FilesSeen) (sink sink' : SinkSeen) (result : Status)

@@ -15,7 +15,8 @@ use Rattle.cfg_recover.specs.Code.{IsCode}
 use Rattle.cfg_recover.specs.Duties.{Duty, jump, enter, resume, Owed, duties_of}
 use Rattle.cfg_recover.specs.Accepting.{limits_in}
 use Rattle.cfg_recover.specs.Frames.{Way, to, call, irq, sys, aln, ret, rfe}
-use Rattle.tcd_report.specs.Texts.{hex_word, key_text}
+use Rattle.hex_text.specs.Digits.{hex_word}
+use Rattle.tcd_report.specs.Texts.{key_text}
 
 -- ---- lines
 -- a way of a step, or where a point goes on once a frame that it enters comes back
@@ -85,23 +86,27 @@ leaves_by shape.Ret = goes ret ∷ []
 leaves_by shape.Rfe = goes rfe ∷ []
 leaves_by _ = []
 
--- jumps, calls and their coming back, system calls, misaligned accesses and interrupts, by the duties of a point: jumps and
--- calls by ascending address; interrupts by ascending priority, a vector that two of them share once
+-- where the duties of a point jump in the frame, by ascending address
 abbrev pub jumps_in : List Owed → List ℕ
 jumps_in ds = distinct (flat_map (λ d. jump_by d.duty) ds)
 
+-- the entries of what they call, by ascending address
 abbrev pub calls_in : List Owed → List ℕ
 calls_in ds = distinct (entries_in 5 ds)
 
+-- where the frame goes on once what it enters comes back, each place once
 abbrev pub backs_in : CertData → List Owed → List ℕ
 backs_in cert ds = each_once (flat_map (λ d. back_by cert d.duty) ds)
 
+-- the entry of the handler of system calls
 abbrev pub systems_in : List Owed → List ℕ
 systems_in ds = each_once (entries_in 12 ds)
 
+-- the entry of the handler of misaligned accesses
 abbrev pub misaligned_in : List Owed → List ℕ
 misaligned_in ds = each_once (entries_in 10 ds)
 
+-- the entries of the interrupts by ascending priority, a vector that two of them share once
 abbrev pub interrupts_in : List Owed → List ℕ
 interrupts_in ds = each_once (entries_in 11 ds)
 

@@ -32,10 +32,11 @@ whole_data areas calls certified nodes reserve =
     (member (codes "calls") calls
     (member (codes "certified") (count certified) (member (codes "nodes") nodes (member (codes "reserve") (count reserve) no_members)))))
 
--- the rows, and the nodes
+-- the rows
 abbrev pub rows_data : List Row → Data
 rows_data rows = array (items_of (map row_data rows))
 
+-- the nodes
 abbrev pub nodes_data : List NodeData → Data
 nodes_data nodes = array (items_of (map node_data nodes))
 

@@ -4,9 +4,10 @@ ghost use Rattle.tcd_report.specs.Graphs.{line_front, line_to};
 ghost use Rattle.tcd_report.specs.Told.{lines_to, ways_text, leaving_text};
 
 use crate::edges::Edges;
-use crate::texts::{append, append_key, append_word};
+use crate::texts::{append, append_key};
 use cfg_recover::Leave;
 use depth_cert::Key;
+use hex_text::append_hex_word;
 use tcd_base::NoMemory;
 
 // What each line of a point begins with.
@@ -16,7 +17,7 @@ fn append_front(text: &mut String, key: &Key, addr: u32) -> Result<(), NoMemory>
 {
     append_key(text, key)?;
     append(text, ": ")?;
-    append_word(text, addr)?;
+    append_hex_word(text, addr)?;
     append(text, " ")
 }
 
@@ -27,7 +28,7 @@ fn append_line(text: &mut String, key: &Key, addr: u32, word: &str, to: u32) -> 
 {
     append_front(text, key, addr)?;
     append(text, word)?;
-    append_word(text, to)?;
+    append_hex_word(text, to)?;
     append(text, "\n")
 }
 

@@ -1,7 +1,7 @@
 -- An accepted certificate that keeps the cells is safe for the plan itself.
-use Rattle.std.proofs.Common.{◌≡◌, ℕ, suc, ◌+◌, ◌%◌, ◌≤◌, inl, inr, Bool, true, false, cond, List, [], ◌∷◌, ◌++◌, length, Option, Some, None, Ok, Err, refl, sym, ap, ◌∙◌, subst, arith, ◌==◌, All, Contains}
-use Rattle.std.proofs.lemmas.Bool.{cond_both, eq-eqb, eqb-true}
-use Rattle.std.specs.List.{find}
+use Rattle.std.proofs.Common.{◌≡◌, ℕ, suc, ◌+◌, ◌%◌, inl, inr, Bool, true, false, cond, List, [], ◌∷◌, ◌++◌, length, Option, Some, None, Ok, Err, refl, sym, ap, ◌∙◌, subst, arith, ◌==◌, All, Contains}
+use Rattle.std.proofs.lemmas.Bool.{eq-eqb, eqb-true}
+use Rattle.std.proofs.lemmas.List.Elements.{All-contains}
 use Rattle.std.specs.Prelude.{IfSome, IsSomeAnd}
 use Rattle.csa_chain.specs.Memory.{Memory}
 use Rattle.elf_image.specs.Images.{ImageData}
@@ -28,10 +28,8 @@ use Rattle.tc_machine.proofs.Fetched.{mapped_bytes-front}
 use Rattle.tc_machine.proofs.Stays.{irq_lt, stays_step}
 use Rattle.tc_machine.proofs.Steps.{stored-is}
 use Rattle.value_domain.specs.declared.values.Val.{Val}
-use Rattle.value_domain.specs.Limits.{AreLimits}
 use Rattle.value_domain.specs.Values.{IsMember}
 use Rattle.value_domain.specs.State.{AreValues}
-use Rattle.value_domain.specs.Thresholds.{limits_for}
 use Rattle.vd_transfer.specs.Registers.{reg_of}
 use Rattle.vd_transfer.specs.Effects.{address_of}
 use Rattle.vd_transfer.specs.Soundness.{IsSetting}
@@ -47,6 +45,8 @@ use Rattle.cfg_recover.specs.Accepting.{limits_in, RuleHolds, HoldsAtNode, Accep
 use Rattle.cfg_recover.specs.Frames.{Standing, frames_after, frames_from, HoldFrames}
 use Rattle.cfg_recover.specs.Moves.{InState}
 use Rattle.cfg_recover.proofs.EntryLaws.{reg_lt}
+use Rattle.depth_cert.proofs.KeyLaws.{found_in}
+use Rattle.cfg_recover.proofs.PointLaws.{limits_are}
 use Rattle.cfg_recover.proofs.Went.{address-is}
 use Rattle.value_cells.specs.declared.cells.Cell.{Cell}
 use Rattle.value_cells.specs.Cells.{with_cells, IsCell}
@@ -62,18 +62,7 @@ use Rattle.value_cells.proofs.CellEvents.{AreMapped, hidden_fits}
 use Rattle.value_cells.proofs.CellPlan.{IsPlan-with_cells}
 use Rattle.value_cells.proofs.CellKeeps.{AreKept, KeepsWritten, StoreKeeps, kept_step}
 
--- ---- lists
-all_at : {X : Type 0} (P : X → Type 0) (xs : List X) (x : X) → All P xs → Contains xs x → P x
-all_at P xs x all c = subst P c.2 (all c.0 x c.1)
-
-found_in : {X : Type 0} (p : X → Bool) (xs : List X) (x : X) → find p xs ≡ Some x → Contains xs x × (p x ≡ true)
-found_in p [] x h = absurd (let f : None ≡ Some x = h in cc)
-found_in p (y ∷ ys) x h =
-    elim (p y) as (λ t. p y ≡ t → cond t (Some y) (find p ys) ≡ Some x → Contains (y ∷ ys) x × (p x ≡ true)) [
-      | true ↦ λ e g. let same : y ≡ x = cc in subst (λ z. Contains (y ∷ ys) z × (p z ≡ true)) same ((0, omega arith, refl), e)
-      | false ↦ λ e g. let rest = found_in p ys x g in ((suc (rest.0).0, (let lt = (rest.0).1 in omega arith), (rest.0).2), rest.1)
-    ] refl h
-
+-- ---- options
 if_some : {X : Type 0} (o : Option X) (P Q : X → Type 0) → IfSome o P → ((x : X) → P x → Q x) → IfSome o Q
 if_some None P Q h f = tt
 if_some (Some x) P Q h f = f x h
@@ -154,14 +143,6 @@ module _ (image : ImageData) {plan : PlanData} (ok : IsPlan plan) (cells : List 
     pub even : m.pc % 2 ≡ 0
     pub setting : IsSetting (limits_in other cert) other point.state
 
-  limits_are : (version : ℕ) → AreLimits (limits_for other version)
-  limits_are version =
-      record {
-        wide = cond_both (version == 1) 64 128 (λ w. 64 ≤ w) (λ _. omega arith) (λ _. omega arith);
-        narrow = cond_both (version == 1) 64 128 (λ w. w ≤ 128) (λ _. omega arith) (λ _. omega arith);
-        few_locals = cond_both (version == 1) 4 8 (λ w. w ≤ 8) (λ _. omega arith) (λ _. omega arith);
-      }
-
   at_found : (m : Machine) (f : Standing) → f.at ≡ m.pc → (o : Option NodeData) → find_node f.key cert.nodes ≡ o → IsSomeAnd o (λ n. IsSomeAnd (find_point f.at n.points) (λ p. InState other m p.state)) → AtPoint m
   at_found m f at None e h = absurd h
   at_found m f at (Some node) e h = at_point (find_point f.at node.points) refl h
@@ -170,19 +151,19 @@ module _ (image : ImageData) {plan : PlanData} (ok : IsPlan plan) (cells : List 
       in_cert = (found_in (λ n. number_of_key n.key == number_of_key f.key) cert.nodes node e).0
 
       rules : HoldsAtNode image other cert node
-      rules = all_at (HoldsAtNode image other cert) cert.nodes node accepted.nodes in_cert
+      rules = All-contains (HoldsAtNode image other cert) cert.nodes node accepted.nodes in_cert
 
       is_node : IsNode cert.version node
-      is_node = all_at (IsNode cert.version) cert.nodes node is_cert.nodes in_cert
+      is_node = All-contains (IsNode cert.version) cert.nodes node is_cert.nodes in_cert
 
       at_point : (o : Option Point) → find_point f.at node.points ≡ o → IsSomeAnd o (λ p. InState other m p.state) → AtPoint m
       at_point None g k = absurd k
       at_point (Some point) g k =
           let there = found_in (λ p. p.addr == f.at) node.points point g in
-          let all : (r : ℕ) → RuleHolds image other cert node point r = all_at (λ p. (r : ℕ) → RuleHolds image other cert node p r) node.points point rules.points there.0 in
+          let all : (r : ℕ) → RuleHolds image other cert node point r = All-contains (λ p. (r : ℕ) → RuleHolds image other cert node p r) node.points point rules.points there.0 in
           let values : AreValues (limits_in other cert) (point.state).regs = (all 2).values refl in
           let code : HasCode image other point.addr = ((all 3).own values).code refl in
-          let is : IsPoint cert.version point = all_at (IsPoint cert.version) node.points point is_node.points there.0 in
+          let is : IsPoint cert.version point = All-contains (IsPoint cert.version) node.points point is_node.points there.0 in
           let addr : point.addr ≡ m.pc = eqb-true _ _ there.1 ∙ at in
           record {
             node = node;
@@ -192,7 +173,7 @@ module _ (image : ImageData) {plan : PlanData} (ok : IsPlan plan) (cells : List 
             addr = addr;
             inside = k;
             even = ap (λ p. p % 2) (sym addr) ∙ (code.code).even;
-            setting = record { limits = limits_are cert.version; plan = ok2; regs = (is.state).regs; values = values };
+            setting = record { limits = limits_are other cert.version; plan = ok2; regs = (is.state).regs; values = values };
           }
 
   at_held : (m : Machine) (fs : List Standing) → HoldFrames other cert m fs → AtPoint m

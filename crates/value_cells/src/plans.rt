@@ -10,24 +10,6 @@ use arrayvec::ArrayVec;
 use tcd_base::{Range, any_holds};
 use tcd_plan::{Device, Plan};
 
-fn copied(ranges: &[Range]) -> ArrayVec<Range, 16>
-    requires { length ranges.now ≤ 16 }
-    ensures { result.items ≡ ranges.now }
-{
-    let mut copy = ArrayVec::new();
-    copy.try_extend_from_slice(ranges).unwrap();
-    copy
-}
-
-fn copied_bytes(bytes: &[u8]) -> ArrayVec<u8, 32>
-    requires { length bytes.now ≤ 32 }
-    ensures { result.items ≡ bytes.now }
-{
-    let mut copy = ArrayVec::new();
-    copy.try_extend_from_slice(bytes).unwrap();
-    copy
-}
-
 /// Whether the word at an address lies in one range of ram.
 pub(crate) fn is_in_ram(plan: &Plan, at: u32) -> bool
     ensures { IsTrue result ↔ IsInOne at 4 plan.now.ram }
@@ -40,7 +22,7 @@ pub(crate) fn ram_without(plan: &Plan, cells: &[Cell]) -> ArrayVec<Range, 16>
     requires { AreCells plan.now cells.now }
     ensures { result.items ≡ spec.ram_without cells.now plan.now.ram }
 {
-    let mut ram = copied(plan.ram.as_slice());
+    let mut ram = ArrayVec::try_from(plan.ram.as_slice()).unwrap();
     for cell in cells {
         ram = ranges_without(ram.as_slice(), cell.at);
     }
@@ -75,7 +57,7 @@ pub fn with_cells(plan: &Plan, cells: &Cells) -> Plan
     ensures { result ≡ spec.with_cells plan.now cells.now }
 {
     Plan {
-        rom: copied(plan.rom.as_slice()),
+        rom: ArrayVec::try_from(plan.rom.as_slice()).unwrap(),
         ram: ram_without(plan, cells.list()),
         devices: devices_with(plan, cells.list()),
         csa_at: plan.csa_at,
@@ -85,7 +67,7 @@ pub fn with_cells(plan: &Plan, cells: &Cells) -> Plan
         isp: plan.isp,
         biv: plan.biv,
         btv: plan.btv,
-        irqs: copied_bytes(plan.irqs.as_slice()),
+        irqs: ArrayVec::try_from(plan.irqs.as_slice()).unwrap(),
         sys: plan.sys,
         aln: plan.aln,
         start_ie: plan.start_ie,

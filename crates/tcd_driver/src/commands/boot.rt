@@ -2,14 +2,14 @@
 ghost use Rattle.tcd_driver.specs.Boot.{IsBootVerdict, boot_reading};
 ghost use Rattle.tcd_reading.specs.Outcomes.{Comes, IsTold};
 
-use crate::lines::{boots_line, unbooted_line};
+use crate::lines::unbooted_line;
 use depth_check::{Verdict, check_packed};
 use elf_image::Image;
 use packed_cert::PackedCert;
 use std::alloc::Global;
 use tc_boot::boot_ok;
 use tcd_base::Files;
-use tcd_forms::{CertFile, ElfFile, PlanFile, refused_line};
+use tcd_forms::{CertFile, ElfFile, PlanFile, boots_line, refused_line};
 use tcd_plan::Plan;
 use tcd_reading::{Outcome, Status, read_input, report};
 

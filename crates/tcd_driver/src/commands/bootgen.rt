@@ -3,11 +3,10 @@ ghost use Rattle.std.specs.Prelude.{◌≤◌, ◌+◌, ◌^◌};
 ghost use Rattle.tcd_driver.specs.Boot.{WritesBoot, bootgen_reading};
 ghost use Rattle.tcd_reading.specs.Outcomes.{Comes, IsTold};
 
-use crate::lines::generated_boot_line;
 use std::alloc::Global;
 use tc_boot::boot_source;
 use tcd_base::Files;
-use tcd_forms::{PlanFile, line_of};
+use tcd_forms::{PlanFile, generated_boot_line, line_of};
 use tcd_plan::Plan;
 use tcd_reading::{Outcome, read_input, report_file};
 

@@ -6,14 +6,13 @@ ghost use Rattle.tcd_driver.specs.Cellcert.{IsCertifyingCells, cellcert_reading}
 ghost use Rattle.tcd_reading.specs.Outcomes.{Comes, IsTold};
 
 use crate::forms::CellsFile;
-use crate::lines::certified_cells_line;
 use depth_check::{Verdict, check_packed};
 use depth_maker::{MakeErr, make_bytes};
 use elf_image::Image;
 use packed_cert::PackedCert;
 use std::alloc::Global;
 use tcd_base::Files;
-use tcd_forms::{ElfFile, PlanFile, refused_line};
+use tcd_forms::{ElfFile, PlanFile, certified_cells_line, refused_line};
 use tcd_plan::Plan;
 use tcd_reading::{Outcome, Status, read_input, report, report_file};
 use value_cells::{Cells, cells_fault, with_cells};
@@ -90,7 +89,8 @@ fn kept_cells(
                     report(alloc, Status::Refused, refused_line(alloc, 16, key, addr))
                 }
                 None => {
-                    let line = certified_cells_line(alloc, need, areas, cells.list());
+                    let count = cells.list().len();
+                    let line = certified_cells_line(alloc, need, areas, count);
                     report_file(alloc, name, cert.into_bytes(), line)
                 }
             },

@@ -4,13 +4,12 @@ ghost use Rattle.tcd_driver.specs.Cells.{IsCellsVerdict, cells_reading};
 ghost use Rattle.tcd_reading.specs.Outcomes.{Comes, IsTold};
 
 use crate::forms::CellsFile;
-use crate::lines::certified_cells_line;
 use depth_check::{Verdict, check_packed};
 use elf_image::Image;
 use packed_cert::PackedCert;
 use std::alloc::Global;
 use tcd_base::Files;
-use tcd_forms::{CertFile, ElfFile, PlanFile, refused_line};
+use tcd_forms::{CertFile, ElfFile, PlanFile, certified_cells_line, refused_line};
 use tcd_plan::Plan;
 use tcd_reading::{Outcome, Status, read_input, report};
 use value_cells::{Cells, cells_fault, with_cells};
@@ -75,7 +74,8 @@ fn cells_verdict(
                 }
                 None => {
                     let areas = plan.areas - plan.reserve;
-                    let line = certified_cells_line(alloc, need, areas, cells.list());
+                    let count = cells.list().len();
+                    let line = certified_cells_line(alloc, need, areas, count);
                     report(alloc, Status::Done, line)
                 }
             },

@@ -6,13 +6,12 @@ ghost use Rattle.tcd_generate.specs.Planned.{generated_plan};
 ghost use Rattle.tcd_driver.specs.Gen.{IsSummary};
 ghost use Rattle.tcd_reading.specs.Outcomes.{IsTold};
 
-use crate::lines::generated_line;
 use depth_check::{Verdict, check_packed};
 use depth_maker::{MakeErr, make_bytes};
 use elf_image::Image;
 use packed_cert::PackedCert;
 use std::alloc::Global;
-use tcd_forms::refused_line;
+use tcd_forms::{generated_line, refused_line};
 use tcd_generate::generate;
 use tcd_plan::Plan;
 use tcd_reading::{Outcome, Status, report};

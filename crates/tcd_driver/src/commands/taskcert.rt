@@ -8,7 +8,7 @@ ghost use Rattle.tcd_driver.specs.Taskcert.{IsTaskcerting, MakesApart, MakesTask
 
 use crate::commands::tasks::counted;
 use crate::forms::TasksFile;
-use crate::lines::{certified_tasks_line, refused_task_line, sum_line, switch_line, tasks_line};
+use crate::lines::tasks_line;
 use crate::making::Making;
 use depth_cert::Key;
 use depth_check::{Verdict, check_packed};
@@ -18,7 +18,9 @@ use packed_cert::PackedCert;
 use std::alloc::Global;
 use task_chains::{Tasks, TasksErr, routine_fault, task_fault, view_image, view_plan};
 use tcd_base::{Files, NoMemory};
-use tcd_forms::{ElfFile, PlanFile};
+use tcd_forms::{
+    ElfFile, PlanFile, certified_tasks_line, refused_task_line, sum_line, switch_line,
+};
 use tcd_plan::Plan;
 use tcd_reading::{Outcome, Status, Write, read_input, report};
 

@@ -9,7 +9,7 @@ ghost use Rattle.tcd_reading.specs.Outcomes.{Comes, IsTold};
 ghost use Rattle.tcd_driver.specs.Tasks.{IsTasksVerdict, JudgesTask, Tallies, certs_reading, tasks_reading};
 
 use crate::forms::TasksFile;
-use crate::lines::{certified_tasks_line, refused_task_line, sum_line, switch_line, tasks_line};
+use crate::lines::tasks_line;
 use depth_cert::Key;
 use depth_check::{Verdict, check_packed};
 use elf_image::Image;
@@ -17,7 +17,9 @@ use packed_cert::PackedCert;
 use std::alloc::Global;
 use task_chains::{Tasks, TasksErr, routine_fault, task_fault, view_image, view_plan};
 use tcd_base::{Files, NoMemory};
-use tcd_forms::{CertFile, ElfFile, PlanFile};
+use tcd_forms::{
+    CertFile, ElfFile, PlanFile, certified_tasks_line, refused_task_line, sum_line, switch_line,
+};
 use tcd_plan::Plan;
 use tcd_reading::{Outcome, Status, read_input, report};
 

@@ -1,5 +1,5 @@
 use Rattle.std.proofs.Common.{◌+◌, ◌-◌, ◌%◌, ◌^◌, arith}
-use Rattle.task_chains.proofs.FaultLaws.{broken}
+use Rattle.cfg_recover.proofs.FirstFault.{broken}
 use Rattle.task_chains.proofs.MissLaws.{touches_then, misses_then, misses_else}
 use Rattle.task_chains.proofs.apart.misses.Goals as goal
 

@@ -5,7 +5,8 @@ use Rattle.depth_cert.specs.declared.points.Point.{Point}
 use Rattle.depth_cert.specs.Nodes.{NodeData}
 use Rattle.depth_cert.specs.Points.{ArePoints}
 use Rattle.task_chains.specs.Faults.{HoldsApartIn}
-use Rattle.task_chains.proofs.FaultLaws.{all_more, all_done, node_fails, broken}
+use Rattle.cfg_recover.proofs.FirstFault.{all_more, all_done, broken}
+use Rattle.task_chains.proofs.FaultLaws.{node_fails}
 use Rattle.task_chains.proofs.faults.node_fault.Goals as goal
 
 pub returns-then-not-holds_apart-clause-some : goal.returns-then-not-holds_apart-clause-some

@@ -6,7 +6,8 @@ use Rattle.depth_cert.specs.Nodes.{NodeData}
 use Rattle.depth_cert.specs.Certs.{CertData, IsCert}
 use Rattle.task_chains.specs.Apart.{HoldsApart, IsTaskFault}
 use Rattle.task_chains.specs.Faults.{HoldsApartIn, IsNodeFault}
-use Rattle.task_chains.proofs.FaultLaws.{all_more, all_apart, first_fails, item_values}
+use Rattle.cfg_recover.proofs.FirstFault.{all_more, item_values}
+use Rattle.task_chains.proofs.FaultLaws.{all_apart, first_fails}
 use Rattle.task_chains.proofs.faults.task_fault.Goals as goal
 
 pub node_fault-requires : goal.node_fault-requires

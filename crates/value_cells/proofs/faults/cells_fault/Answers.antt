@@ -5,16 +5,18 @@ use Rattle.value_domain.specs.Limits.{Limits}
 use Rattle.value_domain.specs.Thresholds.{limits_for}
 use Rattle.depth_cert.specs.Nodes.{NodeData}
 use Rattle.depth_cert.specs.Certs.{CertData, IsCert}
-use Rattle.cfg_recover.specs.Accepting.{limits_in}
+use Rattle.cfg_recover.specs.Accepting.{limits_in, Accepts}
 use Rattle.value_cells.specs.declared.cells.Cell.{Cell}
 use Rattle.value_cells.specs.Cells.{with_cells}
 use Rattle.value_cells.specs.Keeping.{KeepsCells, IsFirstBreak, IsNodeBreak, KeepsCellsAtPoint}
-use Rattle.value_cells.proofs.FaultLaws.{all_more, all_keep, first_breaks, item_values, cells_fit}
+use Rattle.cfg_recover.proofs.FirstFault.{all_more, item_values}
+use Rattle.value_cells.proofs.FaultLaws.{all_keep, first_breaks, cells_fit}
 use Rattle.value_cells.proofs.faults.cells_fault.Goals as goal
 
 pub node_break-requires-clause-values : goal.node_break-requires-clause-values
 node_break-requires-clause-values c =
-    item_values c.args.image.now _ c.with_cells-other.result c.args.cert.now c.of-b.result c.deref-node-items.result.now c.loop-node.node-index c.node-item.result c.requires.accepted c.with_cells-other.ensures
+    item_values c.args.image.now c.with_cells-other.result c.args.cert.now c.of-b.result c.deref-node-items.result.now c.loop-node.node-index c.node-item.result
+    (subst (λ (p : PlanData). Accepts c.args.image.now p c.args.cert.now) (sym c.with_cells-other.ensures) c.requires.accepted)
     (c.of-b.ensures ∙ ap (λ (t : CertData). limits_for c.with_cells-other.result t.version) c.cert.view_is) (c.deref-node-items.ensures.value ∙ ap (λ (t : CertData). t.nodes) c.cert.view_is) c.loop-node-test.true c.node-item.is
 
 pub node_break-requires-clause-cells : goal.node_break-requires-clause-cells

@@ -4,7 +4,8 @@ use Rattle.depth_cert.specs.declared.points.Point.{Point}
 use Rattle.depth_cert.specs.Nodes.{NodeData}
 use Rattle.depth_cert.specs.Points.{ArePoints}
 use Rattle.value_cells.specs.Keeping.{KeepsCellsAtPoint}
-use Rattle.value_cells.proofs.FaultLaws.{all_more, all_done, node_breaks, broken}
+use Rattle.cfg_recover.proofs.FirstFault.{all_more, all_done, broken}
+use Rattle.value_cells.proofs.FaultLaws.{node_breaks}
 use Rattle.value_cells.proofs.faults.node_break.Goals as goal
 
 pub returns-then-not-keeps_point-clause-some : goal.returns-then-not-keeps_point-clause-some

@@ -30,5 +30,5 @@ returns-in-None c =
     (λ r p. kept_report c.args.name.now c.args.image.now (plan_data c.plan.inside) c.args.plan.now c.args.cells.now c.args.bytes.items c.into_bytes.result.items _ c.plan.view_is c.plan.invariant c.requires.cells
     e (subst (AreMade c.args.image.now (with_cells c.args.plan.now c.args.cells.now) 2) e c.requires.made) c.in-Ok.ensures.ok _ c.in-Yes.need _ r c.with_cells.ensures c.in-Yes.ensures.judges.0 c.in-Yes.ensures.judges.1 c.in-Yes.ensures.safe
     (subst (λ (d : CertData). KeepsCells c.args.image.now (with_cells c.args.plan.now c.args.cells.now) c.args.cells.now d) c.in-Ok-unpack.ensures c.in-None.ensures.none)
-    (ap (λ (l : List Cell). length l) c.list.ensures)
+    (ap (λ (l : List Cell). length l) c.list-count.ensures)
     (report_is _ (λ t. writes_file c.args.name.now c.into_bytes.result.items t) c.certified_cells_line-line.result r _ c.certified_cells_line-line.ensures p))

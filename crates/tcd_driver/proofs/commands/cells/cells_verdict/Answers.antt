@@ -29,7 +29,7 @@ returns-in-Ok c =
     (c.in-Yes.ensures.judges.1 ∙ ap (λ (q : PlanData). certified_need c.args.image.now q c.args.cert.now) c.with_cells.ensures)
     (subst (λ (q : PlanData). Safe c.args.image.now q c.in-Yes.need) c.with_cells.ensures c.in-Yes.ensures.safe)
     (subst (λ (d : CertData). KeepsCells c.args.image.now (with_cells c.args.plan.now c.args.cells.now) c.args.cells.now d) c.in-Ok.ensures c.in-None.ensures.none)
-    (ap (λ (l : List Cell). length l) c.list.ensures)
+    (ap (λ (l : List Cell). length l) c.list-count.ensures)
     (report_is _ (λ t. says Done t) c.certified_cells_line-line.result r _ c.certified_cells_line-line.ensures p))
 
 pub returns : goal.returns

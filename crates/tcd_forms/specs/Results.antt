@@ -1,0 +1,51 @@
+-- The printed lines of what boot sequences, cells, tasks and generated images come to.
+use Rattle.std.specs.Prelude.{ℕ, ◌-◌, List, [], ◌∷◌, ◌++◌, codes, length, take}
+use Rattle.std.specs.Fmt.{decimal}
+use Rattle.hex_text.specs.Digits.{hex_word}
+use Rattle.depth_cert.specs.declared.keys.Key.{Key}
+use Rattle.tcd_forms.specs.Lines.{refused_line}
+
+-- so many events of a boot sequence, and then so many areas are needed, of so many
+unfoldable pub boots_line : ℕ → ℕ → ℕ → List ℕ
+boots_line events need areas =
+    codes "boot " ++ (decimal events ++ (codes " events certified " ++ (decimal need ++ (codes " of " ++ (decimal areas ++ (codes " areas" ++ 10 ∷ []))))))
+
+-- a boot sequence was written as a source
+unfoldable pub generated_boot_line : List ℕ
+generated_boot_line = codes "boot 56 instructions" ++ 10 ∷ []
+
+-- so many areas are needed, of so many, where so many cells keep their bounds
+unfoldable pub certified_cells_line : ℕ → ℕ → ℕ → List ℕ
+certified_cells_line need areas count =
+    codes "certified " ++ (decimal need ++ (codes " of " ++ (decimal areas ++ (codes " areas with " ++ (decimal count ++ (codes " cells" ++ 10 ∷ []))))))
+
+-- the first address at which the switch routine doesn't stand
+unfoldable pub switch_line : ℕ → List ℕ
+switch_line addr = codes "refused switch at " ++ (hex_word addr ++ 10 ∷ [])
+
+-- a line with the number of a task before its end
+unfoldable pub of_task : List ℕ → ℕ → List ℕ
+of_task line u = take (length line - 1) line ++ (codes " of task " ++ (decimal u ++ 10 ∷ []))
+
+-- the rule that fails, the address, the key, and the task
+abbrev pub refused_task_line : ℕ → Key → ℕ → ℕ → List ℕ
+refused_task_line rule key addr u = of_task (refused_line rule key addr) u
+
+-- the needs of all tasks are together above so many areas
+unfoldable pub sum_line : ℕ → ℕ → List ℕ
+sum_line sum areas = codes "refused sum " ++ (decimal sum ++ (codes " of " ++ (decimal areas ++ (codes " areas" ++ 10 ∷ []))))
+
+-- so many areas are needed, of so many, by so many tasks
+unfoldable pub certified_tasks_line : ℕ → ℕ → ℕ → List ℕ
+certified_tasks_line sum areas n =
+    codes "certified " ++ (decimal sum ++ (codes " of " ++ (decimal areas ++ (codes " areas in " ++ (decimal n ++ (codes " tasks" ++ 10 ∷ []))))))
+
+-- so many functions are generated, whose certificate has so many nodes and points; so many areas are needed, of so many
+unfoldable pub generated_line : ℕ → ℕ → ℕ → ℕ → ℕ → List ℕ
+generated_line functions nodes points need areas =
+    codes "functions "
+    ++ (decimal functions
+    ++ (codes " nodes "
+    ++ (decimal nodes
+    ++ (codes " points "
+    ++ (decimal points ++ (codes " certified " ++ (decimal need ++ (codes " of " ++ (decimal areas ++ (codes " areas" ++ 10 ∷ []))))))))))

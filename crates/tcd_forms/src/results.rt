@@ -1,0 +1,123 @@
+// The printed lines of what boot sequences, cells, tasks and generated images come to.
+ghost use Rattle.std.specs.Prelude.{◌≡◌, ◌++◌, ◌∷◌, [], length, codes, IfOk};
+ghost use Rattle.std.specs.Fmt.{decimal};
+ghost use Rattle.depth_cert.specs.Certs.{count_points};
+ghost use Rattle.tcd_forms.specs.Results.{boots_line, generated_boot_line, certified_cells_line, switch_line, of_task, refused_task_line, sum_line, certified_tasks_line, generated_line};
+
+use crate::lines::{append, line_of, refused_line};
+use depth_cert::Key;
+use hex_text::hex_word;
+use packed_cert::PackedCert;
+use std::alloc::Global;
+use tcd_base::NoMemory;
+
+/// So many events of a boot sequence, and the areas that are needed then.
+#[tactic(auto, unfolding(crate::specs::Results::boots_line))]
+pub fn boots_line(alloc: Global, events: u32, need: u32, areas: u32) -> Result<Vec<u8>, NoMemory>
+    ensures { IfOk result (λ line. line.items ≡ boots_line events need areas) }
+{
+    let text = format!(in alloc; "boot {events} events certified {need} of {areas} areas\n")?;
+    Ok(text.into_bytes())
+}
+
+/// A boot sequence was written.
+#[tactic(auto, unfolding(crate::specs::Results::generated_boot_line))]
+pub fn generated_boot_line() -> &'static [u8]
+    ensures { result.now ≡ generated_boot_line }
+{
+    b"boot 56 instructions\n"
+}
+
+/// The areas that are needed where these cells keep their bounds.
+#[tactic(auto, unfolding(crate::specs::Results::certified_cells_line))]
+pub fn certified_cells_line(
+    alloc: Global,
+    need: u32,
+    areas: u32,
+    count: usize,
+) -> Result<Vec<u8>, NoMemory>
+    ensures { IfOk result
+        (λ line. line.items ≡ certified_cells_line need areas count) }
+{
+    let text = format!(in alloc; "certified {need} of {areas} areas with {count} cells\n")?;
+    Ok(text.into_bytes())
+}
+
+/// The switch routine doesn't stand at an address.
+#[tactic(auto, unfolding(crate::specs::Results::switch_line))]
+pub fn switch_line(alloc: Global, addr: u32) -> Result<Vec<u8>, NoMemory>
+    ensures { IfOk result (λ line. line.items ≡ switch_line addr) }
+{
+    let mut line = line_of(alloc, b"refused switch at ")?;
+    append(&mut line, &hex_word(addr))?;
+    append(&mut line, b"\n")?;
+    Ok(line)
+}
+
+// The number of a task, and the line's end.
+fn task_text(alloc: Global, u: usize) -> Result<Vec<u8>, NoMemory>
+    ensures { IfOk result
+        (λ line. line.items ≡ codes " of task " ++ (decimal u ++ 10 ∷ [])) }
+{
+    Ok(format!(in alloc; " of task {u}\n")?.into_bytes())
+}
+
+/// The line of a certificate's fault, of a task.
+#[tactic(auto, unfolding(crate::specs::Results::of_task))]
+pub fn refused_task_line(
+    alloc: Global,
+    rule: u8,
+    key: Key,
+    addr: u32,
+    u: usize,
+) -> Result<Vec<u8>, NoMemory>
+    ensures { IfOk result (λ line. line.items ≡ refused_task_line rule key addr u) }
+{
+    let mut line = refused_line(alloc, rule, key, addr)?;
+    let _end = line.pop();
+    let text = task_text(alloc, u)?;
+    append(&mut line, &text)?;
+    Ok(line)
+}
+
+/// The needs of all tasks are together above so many areas.
+#[tactic(auto, unfolding(crate::specs::Results::sum_line))]
+pub fn sum_line(alloc: Global, sum: u64, areas: u32) -> Result<Vec<u8>, NoMemory>
+    ensures { IfOk result (λ line. line.items ≡ sum_line sum areas) }
+{
+    Ok(format!(in alloc; "refused sum {sum} of {areas} areas\n")?.into_bytes())
+}
+
+/// The areas that all tasks need together.
+#[tactic(auto, unfolding(crate::specs::Results::certified_tasks_line))]
+pub fn certified_tasks_line(
+    alloc: Global,
+    sum: u64,
+    areas: u32,
+    n: usize,
+) -> Result<Vec<u8>, NoMemory>
+    ensures { IfOk result (λ line. line.items ≡ certified_tasks_line sum areas n) }
+{
+    let text = format!(in alloc; "certified {sum} of {areas} areas in {n} tasks\n")?;
+    Ok(text.into_bytes())
+}
+
+/// The functions that were generated, and what their certificate holds and asks for.
+#[tactic(auto, unfolding(crate::specs::Results::generated_line))]
+pub fn generated_line(
+    alloc: Global,
+    functions: u32,
+    cert: &PackedCert,
+    need: u32,
+    areas: u32,
+) -> Result<Vec<u8>, NoMemory>
+    ensures { IfOk result (λ line. line.items ≡
+        generated_line functions (length cert.now.nodes) (count_points cert.now.nodes) need areas) }
+{
+    let nodes = cert.len();
+    let points = cert.count_points();
+    let text = format!(in alloc;
+        "functions {functions} nodes {nodes} points {points} certified {need} of {areas} areas\n"
+    )?;
+    Ok(text.into_bytes())
+}
