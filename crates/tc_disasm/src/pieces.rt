@@ -1,12 +1,12 @@
 // The lines of the bytes from an address on.
-ghost use Rattle.std.specs.Prelude.{◌≡◌, ◌<◌, ◌≤◌, ◌+◌, ◌^◌, ◌++◌, ◌∷◌, [], OnOk, IfOk, string_bytes, length, min, drop};
+ghost use Rattle.std.specs.Prelude.{◌≡◌, ◌<◌, ◌≤◌, ◌+◌, ◌^◌, ◌++◌, ◌∷◌, [], OnOk, IfOk, string_bytes, codes, length, min, drop};
 ghost use Rattle.std.specs.List.{flat_map};
-ghost use Rattle.hex_text.specs.Digits.{hex_byte};
+ghost use Rattle.hex_text.specs.Digits.{hex_byte, hex_word};
 ghost use Rattle.tc_disasm.specs.Listing.{data_text, text_at, size_at, remark, line_at, lines_from};
 
 use crate::instructions::append_instruction;
 use crate::texts::{append, append_address};
-use hex_text::{append_ascii, append_hex_byte, hex_byte};
+use hex_text::{append_ascii, append_hex_byte, hex_byte, hex_word};
 use tc_encode::decode;
 use tcd_base::NoMemory;
 
@@ -50,28 +50,42 @@ fn append_text(text: &mut String, bytes: &[u8]) -> Result<usize, NoMemory>
     }
 }
 
-// Two bytes in hex digits, and a line feed.
-fn append_half(text: &mut String, a: u8, b: u8) -> Result<(), NoMemory>
-    ensures { OnOk result (string_bytes text.new
-        ≡ string_bytes text.old ++ (hex_byte a ++ (hex_byte b ++ (10 ∷ [])))) }
+// An address, two bytes and the line's end.
+fn append_half_remark(text: &mut String, address: u32, a: u8, b: u8) -> Result<(), NoMemory>
+    ensures { OnOk result (string_bytes text.new ≡ string_bytes text.old ++ (codes " # "
+        ++ (hex_word address ++ (32 ∷ (hex_byte a ++ (hex_byte b ++ (10 ∷ []))))))) }
 {
+    let w = hex_word(address);
     let first = hex_byte(u32::from(a));
     let second = hex_byte(u32::from(b));
-    let line = [first[0], first[1], second[0], second[1], b'\n'];
+    let line = [
+        b' ', b'#', b' ', w[0], w[1], w[2], w[3], w[4], w[5], w[6], w[7], b' ', first[0], first[1],
+        second[0], second[1], b'\n',
+    ];
     append_ascii(text, &line)
 }
 
-// Four bytes in hex digits, and a line feed.
-fn append_four(text: &mut String, a: u8, b: u8, c: u8, d: u8) -> Result<(), NoMemory>
-    ensures { OnOk result (string_bytes text.new ≡ string_bytes text.old
-        ++ (hex_byte a ++ (hex_byte b ++ (hex_byte c ++ (hex_byte d ++ (10 ∷ [])))))) }
+// An address, four bytes and the line's end.
+fn append_four_remark(
+    text: &mut String,
+    address: u32,
+    a: u8,
+    b: u8,
+    c: u8,
+    d: u8,
+) -> Result<(), NoMemory>
+    ensures { OnOk result (string_bytes text.new ≡ string_bytes text.old ++ (codes " # "
+        ++ (hex_word address ++ (32 ∷ (hex_byte a ++ (hex_byte b ++ (hex_byte c
+        ++ (hex_byte d ++ (10 ∷ []))))))))) }
 {
+    let w = hex_word(address);
     let first = hex_byte(u32::from(a));
     let second = hex_byte(u32::from(b));
     let third = hex_byte(u32::from(c));
     let fourth = hex_byte(u32::from(d));
     let line = [
-        first[0], first[1], second[0], second[1], third[0], third[1], fourth[0], fourth[1], b'\n',
+        b' ', b'#', b' ', w[0], w[1], w[2], w[3], w[4], w[5], w[6], w[7], b' ', first[0], first[1],
+        second[0], second[1], third[0], third[1], fourth[0], fourth[1], b'\n',
     ];
     append_ascii(text, &line)
 }
@@ -87,19 +101,15 @@ fn append_each(text: &mut String, bytes: &[u8]) -> Result<(), NoMemory>
     Ok(())
 }
 
-// Bytes in hex digits, and a line feed.
-fn append_bytes(text: &mut String, bytes: &[u8]) -> Result<(), NoMemory>
-    ensures { OnOk result (string_bytes text.new
-        ≡ string_bytes text.old ++ (flat_map hex_byte bytes.now ++ (10 ∷ []))) }
+// An address, any bytes and the line's end.
+#[tactic(auto, unfolding(crate::specs::Listing::remark))]
+fn append_long_remark(text: &mut String, address: u32, bytes: &[u8]) -> Result<(), NoMemory>
+    ensures { OnOk result
+        (string_bytes text.new ≡ string_bytes text.old ++ remark address bytes.now) }
 {
-    match bytes {
-        [a, b] => append_half(text, *a, *b),
-        [a, b, c, d] => append_four(text, *a, *b, *c, *d),
-        _ => {
-            append_each(text, bytes)?;
-            append(text, "\n")
-        }
-    }
+    append_address(text, address)?;
+    append_each(text, bytes)?;
+    append(text, "\n")
 }
 
 // An address, the bytes there, and the line's end.
@@ -108,8 +118,11 @@ fn append_remark(text: &mut String, address: u32, bytes: &[u8]) -> Result<(), No
     ensures { OnOk result
         (string_bytes text.new ≡ string_bytes text.old ++ remark address bytes.now) }
 {
-    append_address(text, address)?;
-    append_bytes(text, bytes)
+    match bytes {
+        [a, b] => append_half_remark(text, address, *a, *b),
+        [a, b, c, d] => append_four_remark(text, address, *a, *b, *c, *d),
+        _ => append_long_remark(text, address, bytes),
+    }
 }
 
 // A line, and how many bytes it lists.
