@@ -1,10 +1,10 @@
 -- States that stand at two places in the same bytes.
-use Rattle.std.proofs.Common.{◌≡◌, ℕ, ◌+◌, ◌-◌, ◌≤◌, ◌^◌, List, [], ◌∷◌, ◌++◌, length, map, take, drop, leb, Bool, Ok, Err, Result, refl, sym, ap, ◌∙◌, subst, arith, append_assoc, length-append}
+use Rattle.std.proofs.Common.{◌≡◌, ℕ, ◌+◌, ◌≤◌, List, [], ◌∷◌, ◌++◌, length, map, take, drop, leb, Bool, Ok, Result, refl, sym, ap, ◌∙◌, subst, arith, append_assoc, length-append}
 use Rattle.std.proofs.lemmas.Bool.{le-leb}
 use Rattle.std.proofs.lemmas.List.{append-nil, take-append-drop, length-take, get_or-drop}
 use Rattle.std.specs.List.{flat_map}
 use Rattle.tcd_base.specs.declared.errors.FormErr.{FormErr}
-use Rattle.tcd_base.specs.Place.{Place, place_between}
+use Rattle.tcd_base.specs.Place.{Place}
 use Rattle.tcd_base.specs.Reading.{u8_at}
 use Rattle.value_domain.specs.declared.states.State.{State}
 use Rattle.value_domain.specs.Versions.{most_locals_of}

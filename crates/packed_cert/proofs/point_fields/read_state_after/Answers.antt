@@ -1,4 +1,4 @@
-use Rattle.std.proofs.Common.{◌∙◌, arith}
+use Rattle.std.proofs.Common.{◌∙◌}
 use Rattle.packed_cert.proofs.SameStates.{stands_where}
 use Rattle.packed_cert.proofs.point_fields.read_state_after.Goals as goal
 

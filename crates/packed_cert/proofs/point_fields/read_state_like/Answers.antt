@@ -1,4 +1,4 @@
-use Rattle.std.proofs.Common.{◌+◌, ◌-◌, arith}
+use Rattle.std.proofs.Common.{◌-◌, arith}
 use Rattle.packed_cert.proofs.SameStates.{state_again}
 use Rattle.packed_cert.proofs.point_fields.read_state_like.Goals as goal
 

@@ -1,4 +1,4 @@
-use Rattle.std.proofs.Common.{◌+◌, ◌-◌, arith}
+use Rattle.std.proofs.Common.{◌-◌, arith}
 use Rattle.packed_cert.proofs.SameStates.{state_there}
 use Rattle.packed_cert.proofs.walks.stands_again.Goals as goal
 
