@@ -5,7 +5,7 @@ use Rattle.std.proofs.lemmas.List.Elements.{All-nil, All-push}
 use Rattle.std.specs.List.{All, flat_map}
 use Rattle.tcd_base.specs.Bytes.{bytes_of_word}
 use Rattle.tcd_base.specs.Place.{Place, place_between}
-use Rattle.tcd_base.specs.Reading.{u8_at, u32_at}
+use Rattle.tcd_base.specs.Reading.{u8_at, u32_at, many_at}
 use Rattle.tcd_base.proofs.FieldReads.{bind_ok}
 use Rattle.value_domain.specs.declared.states.State.{State}
 use Rattle.value_domain.specs.Versions.{most_locals_of}
@@ -13,10 +13,10 @@ use Rattle.depth_cert.specs.declared.keys.Key.{Key}
 use Rattle.depth_cert.specs.declared.points.Point.{Point}
 use Rattle.depth_cert.specs.Keys.{byte_of, key_number, number_of_key, IsKey}
 use Rattle.depth_cert.specs.Points.{IsState, IsPoint, ArePoints, addresses}
-use Rattle.depth_cert.specs.Grammar.{many_at, checked, is_above, flag_at, values_at, locals_at, state_at, address_after, point_after, key_after, point_count_at, points_at}
+use Rattle.depth_cert.specs.Grammar.{checked, is_above, flag_at, values_at, locals_at, state_at, address_after, point_after, key_after, point_count_at, points_at}
 use Rattle.depth_cert.specs.Spelling.{bytes_of_value, bytes_of_state, bytes_of_point, bytes_of_key}
 use Rattle.depth_cert.proofs.ManyLaws.{rising_map_push}
-use Rattle.depth_cert.proofs.PassedLaws.{AreBytes, Passed, passed_bytes, passed_both, ok_pair, byte_passed, word_passed, many_passed}
+use Rattle.tcd_base.proofs.PassedLaws.{AreBytes, Passed, passed_bytes, passed_both, ok_pair, byte_passed, word_passed, many_passed}
 use Rattle.depth_cert.proofs.GrammarLaws.{next, checked_passed, flag_passed, values_passed}
 
 -- ---- points

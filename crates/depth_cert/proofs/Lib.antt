@@ -4,7 +4,6 @@ pub mod FindLaws
 pub mod GrammarLaws
 pub mod KeyLaws
 pub mod ManyLaws
-pub mod PassedLaws
 pub mod PointReads
 pub mod SizeLaws
 pub mod WholeLaws

@@ -1,47 +1,22 @@
--- Reading many items, one after another.
-use Rattle.std.proofs.Common.{◌≡◌, ℕ, zero, suc, ◌+◌, ◌-◌, ◌<◌, ◌≤◌, List, [], ◌∷◌, ◌++◌, length, get_or, true, false, Result, Ok, Err, refl, sym, ap, ◌∙◌, arith, ltb, eqb, inl, inr, map}
+-- Reading many items, one after another: their first fault, and numbers that ascend.
+use Rattle.std.proofs.Common.{◌≡◌, ℕ, zero, suc, ◌+◌, ◌-◌, ◌<◌, ◌≤◌, List, [], ◌∷◌, ◌++◌, length, get_or, true, false, Result, refl, sym, ap, ◌∙◌, arith, ltb, eqb, inl, inr, map}
 use Rattle.std.specs.List.Sorted.{IsStrictlyIncreasing}
 use Rattle.std.proofs.lemmas.Bool.{cases_lt, ltb-true}
 use Rattle.std.proofs.lemmas.List.{get_or_append_left, length_push, length-map, get_or-map, map-append}
 use Rattle.std.proofs.Math.Seq.{get_or-append_seam}
 use Rattle.tcd_base.specs.declared.errors.FormErr.{FormErr}
 use Rattle.tcd_base.specs.Place.{Place}
-use Rattle.tcd_base.specs.Reading.{◌>>=◌}
+use Rattle.tcd_base.specs.Reading.{many_at}
 use Rattle.depth_cert.specs.declared.errors.CertErr.{CertErr}
 use Rattle.depth_cert.specs.declared.errors.CertErr.TheVariants.{Bad, NoMemory}
 use Rattle.depth_cert.specs.Answers.{IsFaultOf}
-use Rattle.depth_cert.specs.Grammar.{many_at, is_above}
+use Rattle.depth_cert.specs.Grammar.{is_above}
 
--- one item more of those that are left
-pub many_more : {A : Type 0} (item : List A → Place → Result (A × Place) FormErr) (n i : ℕ) (before : List A) (start p q : Place) (x : A) → i < n
-    → many_at item n [] start ≡ many_at item (n - i) before p → item before p ≡ Ok (x, q) → many_at item n [] start ≡ many_at item (n - (i + 1)) (before ++ x ∷ []) q
-unfolding many_at
-many_more {A} item n i before start p q x h inv e =
-    let left : n - i ≡ suc (n - (i + 1)) = omega arith in
-    inv
-    ∙ ap (λ k. many_at item k before p) left
-    ∙ ap (λ (r : Result (A × Place) FormErr). r >>= λ x. many_at item (n - (i + 1)) (before ++ x.0 ∷ []) x.1) e
-
--- the first fault of an item
-pub many_fail : {A : Type 0} (item : List A → Place → Result (A × Place) FormErr) (n i : ℕ) (before : List A) (start p : Place) (e : FormErr) → i < n
-    → many_at item n [] start ≡ many_at item (n - i) before p → item before p ≡ Err e → many_at item n [] start ≡ Err e
-unfolding many_at
-many_fail {A} item n i before start p e h inv f =
-    let left : n - i ≡ suc (n - (i + 1)) = omega arith in
-    inv
-    ∙ ap (λ k. many_at item k before p) left
-    ∙ ap (λ (r : Result (A × Place) FormErr). r >>= λ x. many_at item (n - (i + 1)) (before ++ x.0 ∷ []) x.1) f
-
--- the same of an error
+-- the first fault of an item, as an error says it
 pub many_fault : {A : Type 0} (item : List A → Place → Result (A × Place) FormErr) (n i : ℕ) (before : List A) (start p : Place) (e : CertErr) → i < n
     → many_at item n [] start ≡ many_at item (n - i) before p → IsFaultOf (item before p) e → IsFaultOf (many_at item n [] start) e
 many_fault item n i before start p (Bad e) h inv f = many_fail item n i before start p e h inv f
 many_fault item n i before start p NoMemory h inv f = tt
-
-pub many_end : {A : Type 0} (item : List A → Place → Result (A × Place) FormErr) (n i : ℕ) (before : List A) (start p : Place) → n ≤ i
-    → many_at item n [] start ≡ many_at item (n - i) before p → many_at item n [] start ≡ Ok (before, p)
-unfolding many_at
-many_end item n i before start p h inv = let none : n - i ≡ 0 = omega arith in inv ∙ ap (λ k. many_at item k before p) none
 
 -- ---- numbers that ascend
 pub is_above-last : (xs : List ℕ) (x : ℕ) → 1 ≤ length xs → is_above xs x ≡ ltb (get_or xs (length xs - 1) 0) x

@@ -10,17 +10,17 @@ use Rattle.std.specs.List.Sorted.{IsStrictlyIncreasing}
 use Rattle.tcd_base.specs.declared.errors.FormErr.{FormErr}
 use Rattle.tcd_base.specs.Bytes.{bytes_of_half, bytes_of_word}
 use Rattle.tcd_base.specs.Place.{Place, place_between}
-use Rattle.tcd_base.specs.Reading.{◌>>=◌, u8_at, u16_at, u32_at}
+use Rattle.tcd_base.specs.Reading.{◌>>=◌, u8_at, u16_at, u32_at, many_at}
 use Rattle.tcd_base.proofs.FieldReads.{bind_ok}
 use Rattle.depth_cert.specs.declared.points.Exit.{Exit}
 use Rattle.depth_cert.specs.Keys.{byte_of, number_of_key}
 use Rattle.depth_cert.specs.Points.{IsExit}
 use Rattle.depth_cert.specs.Nodes.{NodeData, IsNode}
 use Rattle.depth_cert.specs.Certs.{CertData, IsCert, key_numbers, count_points}
-use Rattle.depth_cert.specs.Grammar.{many_at, flag_at, values_at, key_after, need_at, has_exit_at, exit_at, exits_at, points_at, node_after, magic_at, version_at, node_count_at, cert_at, certificate_of}
+use Rattle.depth_cert.specs.Grammar.{flag_at, values_at, key_after, need_at, has_exit_at, exit_at, exits_at, points_at, node_after, magic_at, version_at, node_count_at, cert_at, certificate_of}
 use Rattle.depth_cert.specs.Spelling.{bytes_of_value, bytes_of_point, bytes_of_key, bytes_of_exit, bytes_of_node, bytes_of}
 use Rattle.depth_cert.proofs.ManyLaws.{rising_map_push}
-use Rattle.depth_cert.proofs.PassedLaws.{AreBytes, bytes_from, Passed, passed_bytes, passed_both, ok_pair, passed_test, byte_passed, half_passed, word_passed, many_passed}
+use Rattle.tcd_base.proofs.PassedLaws.{AreBytes, bytes_from, Passed, passed_bytes, passed_both, ok_pair, passed_test, byte_passed, half_passed, word_passed, many_passed}
 use Rattle.depth_cert.proofs.GrammarLaws.{next, checked_passed, flag_passed, values_passed}
 use Rattle.depth_cert.proofs.CertLaws.{key_passed, points_passed}
 

@@ -11,7 +11,7 @@ use Rattle.std.specs.List.Sorted.{IsStrictlyIncreasing}
 use Rattle.tcd_base.specs.declared.errors.FormErr.{FormErr}
 use Rattle.tcd_base.specs.Bytes.{bytes_of_half, bytes_of_word}
 use Rattle.tcd_base.specs.Place.{Place, place_between}
-use Rattle.tcd_base.specs.Reading.{◌>>=◌, u8_at, u16_at, u32_at}
+use Rattle.tcd_base.specs.Reading.{◌>>=◌, u8_at, u16_at, u32_at, many_at}
 use Rattle.tcd_base.proofs.FieldReads.{u8_at-between, u16_at-between, u32_at-between}
 use Rattle.value_domain.specs.declared.values.Val.{Val}
 use Rattle.value_domain.specs.declared.values.Val.TheVariants.{Set, Span}
@@ -20,7 +20,7 @@ use Rattle.value_domain.specs.Values.{any_val, count_in}
 use Rattle.value_domain.specs.Versions.{most_words_of}
 use Rattle.depth_cert.specs.Keys.{byte_of}
 use Rattle.depth_cert.specs.Points.{IsWellOf}
-use Rattle.depth_cert.specs.Grammar.{many_at, checked, is_above, is_any, is_span, flag_at, word_after, set_at, span_at, value_at, values_at}
+use Rattle.depth_cert.specs.Grammar.{checked, is_above, is_any, is_span, flag_at, word_after, set_at, span_at, value_at, values_at}
 use Rattle.depth_cert.specs.Spelling.{bytes_of_value}
 use Rattle.depth_cert.proofs.ManyLaws.{is_above-last}
 use Rattle.depth_cert.proofs.GrammarLaws.{width_le}

@@ -1,10 +1,10 @@
 -- The grammar of certificates: fields read from left to right, and the first fault. Its kinds are 1 Short (of every
 -- field), 2 Magic, 3 Order, 4 BadValue, 5 Limit, 6 Trailing.
-use Rattle.std.specs.Prelude.{◌+◌, ◌-◌, ◌^◌, ◌==◌, ◌&&◌, ◌||◌, not, nat_lt, nat_le, if◌then◌else◌, ℕ, zero, suc, Bool, true, List, [], ◌∷◌, ◌++◌, length, Option, Some, None, Result, Ok}
+use Rattle.std.specs.Prelude.{◌+◌, ◌-◌, ◌^◌, ◌==◌, ◌&&◌, ◌||◌, not, nat_lt, nat_le, if◌then◌else◌, ℕ, Bool, true, List, [], ◌∷◌, length, Option, Some, None, Result, Ok}
 use Rattle.depth_cert.specs.Keys.{call_kind, sys_kind, key_number}
 use Rattle.tcd_base.specs.declared.errors.FormErr.{FormErr}
 use Rattle.tcd_base.specs.Place.{Place}
-use Rattle.tcd_base.specs.Reading.{◌>>=◌, fault_at, u8_at, u16_at, u32_at}
+use Rattle.tcd_base.specs.Reading.{◌>>=◌, fault_at, u8_at, u16_at, u32_at, many_at}
 use Rattle.value_domain.specs.declared.values.Val.{Val}
 use Rattle.value_domain.specs.declared.values.Val.TheVariants.{Set, Span}
 use Rattle.value_domain.specs.declared.states.State.{State}
@@ -18,11 +18,6 @@ use Rattle.depth_cert.specs.Nodes.{NodeData}
 use Rattle.depth_cert.specs.Certs.{CertData, key_numbers, count_points}
 
 -- ---- fields
--- n items more after those before, each read in the light of those before it
-unfoldable pub many_at : {A : Type 0} → (List A → Place → Result (A × Place) FormErr) → ℕ → List A → Place → Result (List A × Place) FormErr
-many_at item zero before p = Ok (before, p)
-many_at item (suc n) before p = item before p >>= λ x. many_at item n (before ++ x.0 ∷ []) x.1
-
 -- a number that a field may have, or a fault of this kind at the field
 abbrev pub checked : ℕ → Bool → Place → ℕ × Place → Result (ℕ × Place) FormErr
 checked kind good p x = if good then Ok x else fault_at kind p

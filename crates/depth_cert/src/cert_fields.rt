@@ -1,8 +1,8 @@
 // The fields of a certificate, read.
 ghost use Rattle.std.specs.Prelude.{◌≡◌, ◌≤◌, ◌+◌, ◌^◌, ◌-◌, ◌⊎◌, [], length, true, Ok, Err, IfOk, IfErr};
-ghost use Rattle.tcd_base.specs.Reading.{Reads};
+ghost use Rattle.tcd_base.specs.Reading.{Reads, many_at};
 ghost use Rattle.depth_cert.specs.Answers.{IsFaultOf};
-ghost use Rattle.depth_cert.specs.Grammar.{magic_at, version_at, node_count_at, node_after, many_at, certificate_of};
+ghost use Rattle.depth_cert.specs.Grammar.{magic_at, version_at, node_count_at, node_after, certificate_of};
 ghost use Rattle.depth_cert.specs.Certs.{count_points};
 
 use crate::node_fields::read_node;

@@ -1,7 +1,7 @@
 // The fields of points, read.
 ghost use Rattle.std.specs.Prelude.{◌≡◌, ◌≤◌, ◌+◌, ◌^◌, ◌-◌, [], length, vec_len, true, Ok, Err, OnOk, IfOk, IfErr};
-ghost use Rattle.tcd_base.specs.Reading.{Reads};
-ghost use Rattle.depth_cert.specs.Grammar.{flag_at, locals_at, state_at, address_after, point_count_at, points_at, is_above, many_at};
+ghost use Rattle.tcd_base.specs.Reading.{Reads, many_at};
+ghost use Rattle.depth_cert.specs.Grammar.{flag_at, locals_at, state_at, address_after, point_count_at, points_at, is_above};
 ghost use Rattle.depth_cert.specs.Answers.{IsFaultOf};
 ghost use Rattle.depth_cert.specs.Points.{addresses, ArePoints};
 
@@ -29,7 +29,7 @@ pub fn read_locals(c: &mut Cursor<'_>, version: u8) -> Result<ArrayVec<bool, 8>,
     read_flags(c, count)
 }
 
-#[tactic(auto, unfolding(crate::specs::Grammar::many_at))]
+#[tactic(auto, unfolding(tcd_base::specs::Reading::many_at))]
 fn read_flags(c: &mut Cursor<'_>, count: u8) -> Result<ArrayVec<bool, 8>, FormErr>
     requires short { length c.old.bytes ≤ 2 ^ 30 }
     requires few { count ≤ 8 }

@@ -12,9 +12,10 @@ use Rattle.value_domain.specs.declared.values.Val.{Val}
 use Rattle.value_domain.specs.declared.values.Val.TheVariants.{Set, Span}
 use Rattle.value_domain.specs.Values.{any_val}
 use Rattle.depth_cert.specs.Points.{IsWellOf}
-use Rattle.depth_cert.specs.Grammar.{many_at, value_at, is_any}
+use Rattle.tcd_base.specs.Reading.{many_at}
+use Rattle.depth_cert.specs.Grammar.{value_at, is_any}
 use Rattle.depth_cert.specs.Spelling.{bytes_of_value}
-use Rattle.depth_cert.proofs.PassedLaws.{AreBytes, bytes_from, Passed, ok_pair}
+use Rattle.tcd_base.proofs.PassedLaws.{AreBytes, bytes_from, Passed, ok_pair}
 use Rattle.depth_cert.proofs.GrammarLaws.{value_passed}
 use Rattle.depth_cert.proofs.WrittenLaws.{IsRead, value_cases}
 use Rattle.packed_cert.specs.Standing.{at, length_by, behind, Stand}

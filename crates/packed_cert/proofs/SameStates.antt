@@ -5,14 +5,14 @@ use Rattle.std.proofs.lemmas.List.{append-nil, take-append-drop, length-take, ge
 use Rattle.std.specs.List.{flat_map}
 use Rattle.tcd_base.specs.declared.errors.FormErr.{FormErr}
 use Rattle.tcd_base.specs.Place.{Place}
-use Rattle.tcd_base.specs.Reading.{u8_at}
+use Rattle.tcd_base.specs.Reading.{u8_at, many_at}
 use Rattle.value_domain.specs.declared.states.State.{State}
 use Rattle.value_domain.specs.Versions.{most_locals_of}
 use Rattle.depth_cert.specs.Keys.{byte_of}
 use Rattle.depth_cert.specs.Points.{IsState}
-use Rattle.depth_cert.specs.Grammar.{many_at, checked, flag_at, values_at, locals_at, state_at}
+use Rattle.depth_cert.specs.Grammar.{checked, flag_at, values_at, locals_at, state_at}
 use Rattle.depth_cert.specs.Spelling.{bytes_of_value, bytes_of_state}
-use Rattle.depth_cert.proofs.PassedLaws.{bytes_from}
+use Rattle.tcd_base.proofs.PassedLaws.{bytes_from}
 use Rattle.depth_cert.proofs.CertLaws.{state_passed}
 use Rattle.depth_cert.proofs.WrittenLaws.{IsRead, done, seq, test, byte, many_read, flag, values_read}
 use Rattle.packed_cert.specs.declared.state_places.StatePlaces.{StatePlaces}

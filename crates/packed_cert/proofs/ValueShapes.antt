@@ -5,7 +5,7 @@ use Rattle.std.proofs.lemmas.List.{append-nil, drop_more}
 use Rattle.tcd_base.specs.declared.errors.FormErr.{FormErr}
 use Rattle.tcd_base.specs.Bytes.{word_at}
 use Rattle.tcd_base.specs.Place.{Place}
-use Rattle.tcd_base.specs.Reading.{u8_at, u32_at}
+use Rattle.tcd_base.specs.Reading.{u8_at, u32_at, many_at}
 use Rattle.tcd_base.proofs.FieldReads.{bind_ok, u8_at_ok, u32_at_ok}
 use Rattle.value_domain.specs.declared.values.Val.{Val}
 use Rattle.value_domain.specs.declared.values.Val.TheVariants.{Set, Span}
@@ -14,8 +14,8 @@ use Rattle.value_domain.specs.Values.{any_val, members, IsWell, IsBelow, IsExten
 use Rattle.value_domain.proofs.RangeLaws.{below_span}
 use Rattle.value_domain.specs.Versions.{most_words_of}
 use Rattle.depth_cert.specs.Points.{IsWellOf}
-use Rattle.depth_cert.specs.Grammar.{many_at, checked, word_after, set_at, span_at, value_at, is_above, is_span}
-use Rattle.depth_cert.proofs.PassedLaws.{ok_pair, passed_test}
+use Rattle.depth_cert.specs.Grammar.{checked, word_after, set_at, span_at, value_at, is_above, is_span}
+use Rattle.tcd_base.proofs.PassedLaws.{ok_pair, passed_test}
 use Rattle.depth_cert.proofs.GrammarLaws.{checked_passed, width_le}
 use Rattle.packed_cert.specs.Standing.{at, length_by, behind}
 use Rattle.packed_cert.specs.Points.{read_or}

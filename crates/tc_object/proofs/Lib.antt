@@ -1,5 +1,4 @@
 pub mod ManyLaws
-pub mod PassedLaws
 pub mod NameLaws
 pub mod TurnLaws
 pub mod UsedLaws

@@ -1,40 +1,14 @@
--- Reading many items, one after another.
-use Rattle.std.proofs.Common.{◌≡◌, ℕ, suc, ◌+◌, ◌-◌, ◌<◌, ◌≤◌, List, [], ◌∷◌, ◌++◌, Result, Ok, Err, ap, ◌∙◌, arith}
+-- Reading many items, one after another: their first fault.
+use Rattle.std.proofs.Common.{◌≡◌, ℕ, ◌-◌, ◌<◌, List, [], Result}
 use Rattle.tcd_base.specs.declared.errors.FormErr.{FormErr}
 use Rattle.tcd_base.specs.Place.{Place}
-use Rattle.tcd_base.specs.Reading.{◌>>=◌}
+use Rattle.tcd_base.specs.Reading.{many_at}
 use Rattle.tc_object.specs.declared.errors.ObjErr.{ObjErr}
 use Rattle.tc_object.specs.declared.errors.ObjErr.TheVariants.{Bad, NoMemory}
 use Rattle.tc_object.specs.Answers.{IsFaultOf}
-use Rattle.tc_object.specs.Grammar.{many_at}
 
--- one item more of those that are left
-pub many_more : {A : Type 0} (item : List A → Place → Result (A × Place) FormErr) (n i : ℕ) (before : List A) (start p q : Place) (x : A) → i < n
-    → many_at item n [] start ≡ many_at item (n - i) before p → item before p ≡ Ok (x, q) → many_at item n [] start ≡ many_at item (n - (i + 1)) (before ++ x ∷ []) q
-unfolding many_at
-many_more {A} item n i before start p q x h inv e =
-    let left : n - i ≡ suc (n - (i + 1)) = omega arith in
-    inv
-    ∙ ap (λ k. many_at item k before p) left
-    ∙ ap (λ (r : Result (A × Place) FormErr). r >>= λ x. many_at item (n - (i + 1)) (before ++ x.0 ∷ []) x.1) e
-
--- the first fault of an item
-pub many_fail : {A : Type 0} (item : List A → Place → Result (A × Place) FormErr) (n i : ℕ) (before : List A) (start p : Place) (e : FormErr) → i < n
-    → many_at item n [] start ≡ many_at item (n - i) before p → item before p ≡ Err e → many_at item n [] start ≡ Err e
-unfolding many_at
-many_fail {A} item n i before start p e h inv f =
-    let left : n - i ≡ suc (n - (i + 1)) = omega arith in
-    inv
-    ∙ ap (λ k. many_at item k before p) left
-    ∙ ap (λ (r : Result (A × Place) FormErr). r >>= λ x. many_at item (n - (i + 1)) (before ++ x.0 ∷ []) x.1) f
-
--- the same of an error
+-- the first fault of an item, as an error says it
 pub many_fault : {A : Type 0} (item : List A → Place → Result (A × Place) FormErr) (n i : ℕ) (before : List A) (start p : Place) (e : ObjErr) → i < n
     → many_at item n [] start ≡ many_at item (n - i) before p → IsFaultOf (item before p) e → IsFaultOf (many_at item n [] start) e
 many_fault item n i before start p (Bad e) h inv f = many_fail item n i before start p e h inv f
 many_fault item n i before start p NoMemory h inv f = tt
-
-pub many_end : {A : Type 0} (item : List A → Place → Result (A × Place) FormErr) (n i : ℕ) (before : List A) (start p : Place) → n ≤ i
-    → many_at item n [] start ≡ many_at item (n - i) before p → many_at item n [] start ≡ Ok (before, p)
-unfolding many_at
-many_end item n i before start p h inv = let none : n - i ≡ 0 = omega arith in inv ∙ ap (λ k. many_at item k before p) none

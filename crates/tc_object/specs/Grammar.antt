@@ -1,19 +1,14 @@
 -- The grammar of object files: fields read from left to right, and the first fault. Its kinds are 1 Short (of every
 -- field), 2 Magic, 3 Order, 4 BadValue, 5 Limit, 6 Trailing.
-use Rattle.std.specs.Prelude.{◌+◌, ◌==◌, ◌&&◌, not, nat_lt, nat_le, if◌then◌else◌, ℕ, zero, suc, Bool, List, [], ◌∷◌, ◌++◌, length, Result, Ok}
+use Rattle.std.specs.Prelude.{◌+◌, ◌==◌, ◌&&◌, not, nat_lt, nat_le, if◌then◌else◌, ℕ, Bool, List, [], length, Result, Ok}
 use Rattle.tcd_base.specs.declared.errors.FormErr.{FormErr}
 use Rattle.tcd_base.specs.Place.{Place}
-use Rattle.tcd_base.specs.Reading.{◌>>=◌, fault_at, u8_at, u16_at, u32_at, bytes_at}
+use Rattle.tcd_base.specs.Reading.{◌>>=◌, fault_at, u8_at, u16_at, u32_at, bytes_at, many_at}
 use Rattle.tc_object.specs.declared.relocs.Reloc.{Reloc}
 use Rattle.tc_object.specs.Names.{is_length, is_name}
 use Rattle.tc_object.specs.Objects.{SectionData, SymbolData, ObjectData, is_section_name, is_symbol_name, size_at, is_section_of, is_offset_of, last_of, is_not_below, is_behind}
 
 -- ---- fields
--- n items more after those before, each read in the light of those before it
-unfoldable pub many_at : {A : Type 0} → (List A → Place → Result (A × Place) FormErr) → ℕ → List A → Place → Result (List A × Place) FormErr
-many_at item zero before p = Ok (before, p)
-many_at item (suc n) before p = item before p >>= λ x. many_at item n (before ++ x.0 ∷ []) x.1
-
 -- a value that a field may have, or a fault of this kind at the place
 abbrev pub checked : {A : Type 0} → ℕ → Bool → Place → A × Place → Result (A × Place) FormErr
 checked kind good p x = if good then Ok x else fault_at kind p

@@ -1,9 +1,9 @@
 // Relocations, read.
 ghost use Rattle.std.specs.Prelude.{◌≡◌, ◌≤◌, ◌+◌, ◌^◌, ◌-◌, [], length, Ok, Err, IfOk, IfErr};
-ghost use Rattle.tcd_base.specs.Reading.{Reads};
+ghost use Rattle.tcd_base.specs.Reading.{Reads, many_at};
 ghost use Rattle.tc_object.specs.Answers.{IsFaultOf};
 ghost use Rattle.tc_object.specs.Objects.{size_at, last_of, is_not_below, is_behind};
-ghost use Rattle.tc_object.specs.Grammar.{reloc_section_at, reloc_offset_at, reloc_symbol_at, reloc_after, many_at};
+ghost use Rattle.tc_object.specs.Grammar.{reloc_section_at, reloc_offset_at, reloc_symbol_at, reloc_after};
 
 use crate::fields::{fault, read_kind};
 use crate::symbol_fields::size_at;

@@ -2,7 +2,8 @@
 ghost use Rattle.std.specs.Prelude.{◌≡◌, ◌≤◌, ◌^◌, ◌-◌, ◌||◌, [], ℕ, List, length, Ok, Err, IfOk, IfErr};
 ghost use Rattle.std.specs.Str.{bytes_eq};
 ghost use Rattle.tc_object.specs.Answers.{IsFaultOf};
-ghost use Rattle.tc_object.specs.Grammar.{section_with, section_after, many_at};
+ghost use Rattle.tcd_base.specs.Reading.{many_at};
+ghost use Rattle.tc_object.specs.Grammar.{section_with, section_after};
 ghost use Rattle.tc_object.specs.Used.{is_among};
 
 use crate::used_names::{no_names, read_new_name};

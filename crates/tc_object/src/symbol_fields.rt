@@ -1,10 +1,10 @@
 // Symbols, read.
 ghost use Rattle.std.specs.Prelude.{◌≡◌, ◌≤◌, ◌^◌, ◌-◌, ◌||◌, [], ℕ, List, length, Ok, Err, IfOk, IfErr};
 ghost use Rattle.std.specs.Str.{bytes_eq};
-ghost use Rattle.tcd_base.specs.Reading.{Reads};
+ghost use Rattle.tcd_base.specs.Reading.{Reads, many_at};
 ghost use Rattle.tc_object.specs.Answers.{IsFaultOf};
 ghost use Rattle.tc_object.specs.Objects.{size_at, is_section_of, is_offset_of};
-ghost use Rattle.tc_object.specs.Grammar.{symbol_section_at, symbol_offset_at, symbol_with, symbol_after, many_at};
+ghost use Rattle.tc_object.specs.Grammar.{symbol_section_at, symbol_offset_at, symbol_with, symbol_after};
 ghost use Rattle.tc_object.specs.Used.{is_among};
 
 use crate::fields::{fault, read_kind};

@@ -1,5 +1,5 @@
 -- Reading fields from left to right: the value and the place after it, or the first fault.
-use Rattle.std.specs.Prelude.{◌≡◌, ◌+◌, ℕ, List, length, take, drop, slice_index, nat_le, if◌then◌else◌, Result, Ok, Err}
+use Rattle.std.specs.Prelude.{◌≡◌, ◌+◌, ℕ, zero, suc, List, [], ◌∷◌, ◌++◌, length, take, drop, slice_index, nat_le, if◌then◌else◌, Result, Ok, Err}
 use Rattle.tcd_base.specs.Bytes.{half_at, word_at}
 use Rattle.tcd_base.specs.Place.{Place}
 use Rattle.tcd_base.specs.declared.errors.FormErr.{FormErr}
@@ -29,6 +29,11 @@ u32_at p = if nat_le (p.place + 4) (length p.bytes) then Ok (word_at p.bytes p.p
 -- a field of n bytes, as they stand
 unfoldable pub bytes_at : ℕ → Place → Result (List ℕ × Place) FormErr
 bytes_at n p = if nat_le (p.place + n) (length p.bytes) then Ok (take n (drop p.place p.bytes), record p { place = p.place + n }) else fault_at 1 p
+
+-- n items more after those before, each read in the light of those before it
+unfoldable pub many_at : {A : Type 0} → (List A → Place → Result (A × Place) FormErr) → ℕ → List A → Place → Result (List A × Place) FormErr
+many_at item zero before p = Ok (before, p)
+many_at item (suc n) before p = item before p >>= λ x. many_at item n (before ++ x.0 ∷ []) x.1
 
 -- the answer is the value that was read, with the cursor at the place after it, or the fault
 abbrev pub Reads : {A : Type 0} → Result A FormErr → Place → Result (A × Place) FormErr → Type 0

@@ -5,7 +5,8 @@ use Rattle.std.specs.Prelude.{length}
 use Rattle.depth_cert.specs.Nodes.{NodeData}
 use Rattle.depth_cert.specs.Certs.{count_points}
 use Rattle.depth_cert.specs.Grammar.{node_after}
-use Rattle.depth_cert.proofs.ManyLaws.{many_more, many_fault, many_end}
+use Rattle.tcd_base.proofs.ManyLaws.{many_more, many_end}
+use Rattle.depth_cert.proofs.ManyLaws.{many_fault}
 use Rattle.depth_cert.proofs.cert_fields.read_nodes.Goals as goal
 
 pub returns-in_err-node-clause-err : goal.returns-in_err-node-clause-err

@@ -1,7 +1,7 @@
 use Rattle.std.proofs.Common.{◌∙◌, arith}
 use Rattle.std.proofs.lemmas.Result.{err_from_is_err_and}
 use Rattle.depth_cert.specs.Grammar.{flag_at}
-use Rattle.depth_cert.proofs.ManyLaws.{many_more, many_fail, many_end}
+use Rattle.tcd_base.proofs.ManyLaws.{many_more, many_fail, many_end}
 use Rattle.depth_cert.proofs.point_fields.read_flags.Goals as goal
 
 pub returns-in_err-flag-clause-err : goal.returns-in_err-flag-clause-err

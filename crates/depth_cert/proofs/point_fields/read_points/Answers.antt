@@ -2,7 +2,8 @@ use Rattle.std.proofs.Common.{◌≡◌, ◌∙◌, ◌-◌, length, ap, arith}
 use Rattle.std.proofs.lemmas.List.{length-set}
 use Rattle.std.proofs.lemmas.Result.{err_from_is_err_and}
 use Rattle.depth_cert.specs.Grammar.{points_at, point_after}
-use Rattle.depth_cert.proofs.ManyLaws.{many_more, many_fail, many_end, rising_map_push}
+use Rattle.tcd_base.proofs.ManyLaws.{many_more, many_fail, many_end}
+use Rattle.depth_cert.proofs.ManyLaws.{rising_map_push}
 use Rattle.depth_cert.proofs.PointReads.{point_reads, address_fails, state_fails, set_last, get_last}
 use Rattle.depth_cert.proofs.point_fields.read_points.Goals as goal
 

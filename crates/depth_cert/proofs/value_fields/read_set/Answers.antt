@@ -1,7 +1,8 @@
 use Rattle.std.proofs.Common.{◌∙◌, arith, refl}
 use Rattle.std.proofs.lemmas.Result.{err_from_is_err_and}
 use Rattle.depth_cert.specs.Grammar.{word_after, set_at}
-use Rattle.depth_cert.proofs.ManyLaws.{many_more, many_fail, many_end, rising_push}
+use Rattle.tcd_base.proofs.ManyLaws.{many_more, many_fail, many_end}
+use Rattle.depth_cert.proofs.ManyLaws.{rising_push}
 use Rattle.depth_cert.proofs.value_fields.read_set.Goals as goal
 
 pub returns-in_err-word-clause-read : goal.returns-in_err-word-clause-read

@@ -1,6 +1,7 @@
 use Rattle.std.proofs.Common.{◌≡◌, ◌-◌, length, []}
 use Rattle.std.specs.List.Sorted.{IsStrictlyIncreasing}
-use Rattle.depth_cert.specs.Grammar.{many_at, word_after}
+use Rattle.tcd_base.specs.Reading.{many_at}
+use Rattle.depth_cert.specs.Grammar.{word_after}
 use Rattle.depth_cert.proofs.value_fields.read_set.Given as goal
 
 abbrev pub invariant-loop-i : goal.invariant-loop-i

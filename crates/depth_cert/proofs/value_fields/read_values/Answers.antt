@@ -2,7 +2,7 @@ use Rattle.std.proofs.Common.{◌∙◌, arith, length, take, refl}
 use Rattle.std.proofs.lemmas.Result.{err_from_is_err_and}
 use Rattle.std.proofs.lemmas.List.{take_more_set, take_all}
 use Rattle.depth_cert.specs.Grammar.{value_at, values_at}
-use Rattle.depth_cert.proofs.ManyLaws.{many_more, many_fail, many_end}
+use Rattle.tcd_base.proofs.ManyLaws.{many_more, many_fail, many_end}
 use Rattle.depth_cert.proofs.value_fields.read_values.Goals as goal
 
 pub returns-in_err-read_value-clause-err : goal.returns-in_err-read_value-clause-err

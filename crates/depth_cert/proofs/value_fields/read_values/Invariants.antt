@@ -1,5 +1,6 @@
 use Rattle.std.proofs.Common.{◌≡◌, ◌-◌, length, [], take}
-use Rattle.depth_cert.specs.Grammar.{many_at, value_at}
+use Rattle.tcd_base.specs.Reading.{many_at}
+use Rattle.depth_cert.specs.Grammar.{value_at}
 use Rattle.depth_cert.proofs.value_fields.read_values.Given as goal
 
 abbrev pub invariant-loop-i : goal.invariant-loop-i

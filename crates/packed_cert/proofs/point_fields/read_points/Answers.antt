@@ -2,7 +2,8 @@ use Rattle.std.proofs.Common.{◌≡◌, ◌∙◌, ◌++◌, ◌∷◌, [], ℕ
 use Rattle.std.proofs.lemmas.Result.{err_from_is_err_and}
 use Rattle.std.proofs.lemmas.List.Elements.{All-push}
 use Rattle.depth_cert.specs.Grammar.{points_at, point_after, address_after}
-use Rattle.depth_cert.proofs.ManyLaws.{many_more, many_fail, many_end, rising_map_push}
+use Rattle.tcd_base.proofs.ManyLaws.{many_more, many_fail, many_end}
+use Rattle.depth_cert.proofs.ManyLaws.{rising_map_push}
 use Rattle.depth_cert.proofs.PointReads.{address_fails, state_fails}
 use Rattle.packed_cert.specs.declared.packed_points.PackedPoint.{PackedPoint}
 use Rattle.packed_cert.specs.Points.{points_in, HasState}

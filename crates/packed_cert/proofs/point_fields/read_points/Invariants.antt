@@ -2,7 +2,8 @@ use Rattle.std.proofs.Common.{◌≡◌, ◌-◌, length, map, []}
 use Rattle.std.specs.Prelude.{IfSome}
 use Rattle.std.specs.List.{All}
 use Rattle.std.specs.List.Sorted.{IsStrictlyIncreasing}
-use Rattle.depth_cert.specs.Grammar.{many_at, point_after}
+use Rattle.tcd_base.specs.Reading.{many_at}
+use Rattle.depth_cert.specs.Grammar.{point_after}
 use Rattle.packed_cert.specs.Points.{points_in, HasState, StandsAt}
 use Rattle.packed_cert.proofs.point_fields.read_points.Given as goal
 

@@ -3,7 +3,7 @@ use Rattle.std.proofs.lemmas.Result.{err_from_is_err_and}
 use Rattle.std.proofs.lemmas.List.{take_more_set, take_more, take_all, drop-set-lt}
 use Rattle.value_domain.specs.Values.{any_val}
 use Rattle.depth_cert.specs.Grammar.{value_at, values_at}
-use Rattle.depth_cert.proofs.ManyLaws.{many_more, many_fail, many_end}
+use Rattle.tcd_base.proofs.ManyLaws.{many_more, many_fail, many_end}
 use Rattle.packed_cert.proofs.SameBytes.{stand_next, value_stands, same_read}
 use Rattle.packed_cert.proofs.values_after.read_values_after.Goals as goal
 use Rattle.packed_cert.proofs.values_after.read_values_after.Goals.{then-not-passes+in_ok-read_value, else-not-passes}

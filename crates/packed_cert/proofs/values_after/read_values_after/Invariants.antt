@@ -1,5 +1,6 @@
 use Rattle.std.proofs.Common.{◌≡◌, ◌≤◌, ◌-◌, length, [], take, drop}
-use Rattle.depth_cert.specs.Grammar.{many_at, value_at}
+use Rattle.tcd_base.specs.Reading.{many_at}
+use Rattle.depth_cert.specs.Grammar.{value_at}
 use Rattle.packed_cert.specs.Standing.{Stand}
 use Rattle.packed_cert.proofs.values_after.read_values_after.Given as goal
 

@@ -1,7 +1,7 @@
 use Rattle.std.proofs.Common.{◌∙◌}
 use Rattle.std.proofs.lemmas.Result.{err_from_is_err_and}
 use Rattle.tc_object.specs.Grammar.{reloc_after}
-use Rattle.tc_object.proofs.ManyLaws.{many_more, many_fail, many_end}
+use Rattle.tcd_base.proofs.ManyLaws.{many_more, many_fail, many_end}
 use Rattle.tc_object.proofs.reloc_fields.read_relocs.Goals as goal
 
 pub returns-in_err-reloc-clause-err : goal.returns-in_err-reloc-clause-err

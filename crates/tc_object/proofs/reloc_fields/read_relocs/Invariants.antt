@@ -1,5 +1,6 @@
 use Rattle.std.proofs.Common.{◌≡◌, ◌-◌, []}
-use Rattle.tc_object.specs.Grammar.{many_at, reloc_after}
+use Rattle.tcd_base.specs.Reading.{many_at}
+use Rattle.tc_object.specs.Grammar.{reloc_after}
 use Rattle.tc_object.proofs.reloc_fields.read_relocs.Given as goal
 
 abbrev pub invariant-loop-i : goal.invariant-loop-i

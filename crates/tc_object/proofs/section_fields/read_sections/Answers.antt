@@ -4,7 +4,8 @@ use Rattle.tcd_base.specs.Place.{Place}
 use Rattle.tc_object.specs.Grammar.{section_after, section_with}
 use Rattle.tc_object.specs.Objects.{SectionData, is_section_name}
 use Rattle.tc_object.specs.Used.{is_among}
-use Rattle.tc_object.proofs.ManyLaws.{many_more, many_fault, many_end}
+use Rattle.tcd_base.proofs.ManyLaws.{many_more, many_end}
+use Rattle.tc_object.proofs.ManyLaws.{many_fault}
 use Rattle.tc_object.proofs.UsedLaws.{used_more, same_test}
 use Rattle.tc_object.proofs.section_fields.read_sections.Goals as goal
 

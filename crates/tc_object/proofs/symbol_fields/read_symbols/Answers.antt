@@ -4,7 +4,8 @@ use Rattle.tcd_base.specs.Place.{Place}
 use Rattle.tc_object.specs.Grammar.{symbol_after, symbol_with}
 use Rattle.tc_object.specs.Objects.{SectionData, SymbolData, is_symbol_name}
 use Rattle.tc_object.specs.Used.{is_among}
-use Rattle.tc_object.proofs.ManyLaws.{many_more, many_fault, many_end}
+use Rattle.tcd_base.proofs.ManyLaws.{many_more, many_end}
+use Rattle.tc_object.proofs.ManyLaws.{many_fault}
 use Rattle.tc_object.proofs.UsedLaws.{used_more, same_test}
 use Rattle.tc_object.proofs.symbol_fields.read_symbols.Goals as goal
 

@@ -1,5 +1,6 @@
 use Rattle.std.proofs.Common.{◌≡◌, ◌-◌, ℕ, List, []}
-use Rattle.tc_object.specs.Grammar.{many_at, symbol_after}
+use Rattle.tcd_base.specs.Reading.{many_at}
+use Rattle.tc_object.specs.Grammar.{symbol_after}
 use Rattle.tc_object.specs.Objects.{is_symbol_name}
 use Rattle.tc_object.specs.Used.{is_among}
 use Rattle.tc_object.proofs.symbol_fields.read_symbols.Given as goal

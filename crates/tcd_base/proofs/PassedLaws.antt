@@ -5,10 +5,9 @@ use Rattle.std.specs.List.{flat_map}
 use Rattle.tcd_base.specs.declared.errors.FormErr.{FormErr}
 use Rattle.tcd_base.specs.Bytes.{half_at, word_at, bytes_of_half, bytes_of_word}
 use Rattle.tcd_base.specs.Place.{Place, place_between}
-use Rattle.tcd_base.specs.Reading.{u8_at, u16_at, u32_at}
+use Rattle.tcd_base.specs.Reading.{u8_at, u16_at, u32_at, many_at}
 use Rattle.tcd_base.proofs.ByteWords.{get_or-behind, half_at-behind, word_at-behind, half_at_below, word_at_below, bytes_of_half-half_at, bytes_of_word-word_at}
 use Rattle.tcd_base.proofs.FieldReads.{Took, u8_at_ok, u16_at_ok, u32_at_ok, bind_ok}
-use Rattle.depth_cert.specs.Grammar.{many_at}
 
 -- bytes
 abbrev pub AreBytes : List ℕ → Type 0
@@ -60,7 +59,7 @@ passed_test true x y e h = (refl, cc)
 passed_test false x y e h = cc
 
 -- ---- fields of one, two and four bytes
-took_passed : (n : ℕ) (front rest : List ℕ) (q : Place) → Took n (place_between front rest) q → Passed (take n rest) front rest q
+pub took_passed : (n : ℕ) (front rest : List ℕ) (q : Place) → Took n (place_between front rest) q → Passed (take n rest) front rest q
 took_passed n front rest q t =
     let within : n ≤ length rest = omega (arith, t.within, length-append front rest) in
     record {
