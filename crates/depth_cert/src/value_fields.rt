@@ -1,6 +1,6 @@
 // The fields of values, read.
 ghost use Rattle.std.specs.Prelude.{◌≡◌, ◌≤◌, ◌<◌, ◌^◌, ◌-◌, ◌∷◌, [], IsTrue, ℕ, length, Ok, Err, OnOk, IfOk, IfErr, true};
-ghost use Rattle.tcd_base.specs.Reading.{Reads, many_at};
+ghost use Rattle.tcd_base.specs.Reading.{Reads};
 ghost use Rattle.value_domain.specs.Values.{any_val};
 ghost use Rattle.value_domain.specs.declared.values.Val.TheVariants.{Set, Span};
 ghost use Rattle.std.specs.List.Sorted.{IsStrictlyIncreasing};

@@ -10,7 +10,8 @@ use Rattle.std.proofs.Math.Dec.{eqb-suc-zero}
 use Rattle.std.proofs.lemmas.Bool.Decides.{nat_tests}
 use Rattle.std.proofs.lemmas.Fmt.{length-decimal-le}
 use Rattle.tc_lex.specs.Bytes.{is_digit}
-use Rattle.tc_object.specs.Names.{is_first, is_further, is_length}
+use Rattle.tcd_base.specs.NameBytes.{is_name_first}
+use Rattle.tc_object.specs.Names.{is_further, is_length}
 use Rattle.tc_stmt.specs.Names.{is_name}
 use Rattle.tc_stmt.specs.Items.{section}
 use Rattle.tc_stmt.specs.Lines.{LineData, line_data}
@@ -113,7 +114,7 @@ module _ (name : List ℕ) where
 
 -- ---- the names of a listing's sections
 digit_is_further : (c : ℕ) → is_digit c ≡ true → is_further c ≡ true
-unfolding is_digit is_further is_first
+unfolding is_digit is_further is_name_first
 digit_is_further c e = grind (arith, nat_tests)
 
 digits_are_further : (ds : List ℕ) → list_all is_digit ds ≡ true → list_all is_further ds ≡ true
@@ -123,7 +124,7 @@ digits_are_further (c ∷ cs) e =
     rw (digit_is_further c two.0) (digits_are_further cs two.1)
 
 pub section_name-is : (n : ℕ) → n < 64 → is_name (115 ∷ decimal n) ≡ true
-unfolding is_name is_further is_first
+unfolding is_name is_further is_name_first
 section_name-is n small =
     let ds = decimal n in
     let wide : n < 2 ^ 64 = omega arith in

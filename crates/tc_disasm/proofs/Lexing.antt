@@ -9,7 +9,8 @@ use Rattle.std.proofs.lemmas.List.{take_at, drop_at}
 use Rattle.tc_lex.specs.declared.kinds.TokenKind.{TokenKind}
 use Rattle.tc_lex.specs.declared.kinds.TokenKind.TheVariants.{Word, Number}
 use Rattle.tc_lex.specs.declared.kinds.Front.TheVariants as front
-use Rattle.tc_lex.specs.Bytes.{is_digit, is_name_first, is_name_byte, is_hex}
+use Rattle.tcd_base.specs.NameBytes.{is_name_first}
+use Rattle.tc_lex.specs.Bytes.{is_digit, is_name_byte, is_hex}
 use Rattle.tc_lex.specs.Cut.{front_of, front_at, number_len, has_hex_front}
 use Rattle.tc_lex.specs.Pieces.{PieceData}
 use Rattle.tc_disasm.specs.Tokens.{piece}

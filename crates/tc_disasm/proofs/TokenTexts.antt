@@ -6,7 +6,8 @@ use Rattle.std.specs.Fmt.{decimal}
 use Rattle.std.proofs.lemmas.Bool.Decides.{nat_tests}
 use Rattle.tc_lex.specs.declared.kinds.TokenKind.TheVariants as kind
 use Rattle.tc_lex.specs.declared.kinds.Front.TheVariants as front
-use Rattle.tc_lex.specs.Bytes.{is_digit, is_hex, is_name_first, is_name_byte}
+use Rattle.tcd_base.specs.NameBytes.{is_name_first}
+use Rattle.tc_lex.specs.Bytes.{is_digit, is_hex, is_name_byte}
 use Rattle.tc_lex.specs.Cut.{front_of, front_at, number_len, has_hex_front}
 use Rattle.tc_lex.specs.Pieces.{PieceData}
 use Rattle.hex_text.specs.Digits.{hex_byte, hex_word}

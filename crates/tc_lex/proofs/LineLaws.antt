@@ -10,7 +10,8 @@ use Rattle.tc_lex.specs.declared.kinds.TokenKind.{TokenKind}
 use Rattle.tc_lex.specs.declared.kinds.TokenKind.TheVariants.{Comma, Colon, Open, Close, Plus, Minus}
 use Rattle.tc_lex.specs.declared.kinds.Front.{Front}
 use Rattle.tc_lex.specs.declared.kinds.Front.TheVariants as front
-use Rattle.tc_lex.specs.Bytes.{is_digit, is_name_first}
+use Rattle.tcd_base.specs.NameBytes.{is_name_first}
+use Rattle.tc_lex.specs.Bytes.{is_digit}
 use Rattle.tc_lex.specs.Cut.{cut, front_at, follow, with_front, token, tokens_of}
 use Rattle.tc_lex.specs.Texts.{IsLongest, BeginsNone}
 use Rattle.tc_lex.specs.Lines.{is_blank, AreBlanks, IsNext, AreTokens, IsCut, IsStray, IsPast, IsFault}

@@ -10,7 +10,8 @@ use Rattle.std.proofs.lemmas.List.Folds.{list_all_at}
 use Rattle.std.proofs.lemmas.Bool.Decides.{nat_tests}
 use Rattle.tc_lex.specs.declared.kinds.TokenKind.{TokenKind}
 use Rattle.tc_lex.specs.declared.kinds.TokenKind.TheVariants.{Word, Number, Comma, Colon, Open, Close, Plus, Minus}
-use Rattle.tc_lex.specs.Bytes.{is_digit, is_hex, is_name_first}
+use Rattle.tcd_base.specs.NameBytes.{is_name_first}
+use Rattle.tc_lex.specs.Bytes.{is_digit, is_hex}
 use Rattle.tc_lex.specs.Texts.{is_run, is_hex_text, is_token}
 
 -- ---- runs of bytes that pass a test

@@ -1,6 +1,8 @@
 // Which bytes stand in which tokens.
 ghost use Rattle.std.specs.Prelude.{◌≡◌};
-ghost use Rattle.tc_lex.specs.Bytes.{is_digit, is_hex, is_name_first, is_name_byte};
+ghost use Rattle.tc_lex.specs.Bytes.{is_digit, is_hex, is_name_byte};
+
+use tcd_base::is_name_first;
 
 #[tactic(auto, unfolding(crate::specs::Bytes::is_digit))]
 pub(crate) fn is_digit(c: u8) -> bool
@@ -15,13 +17,6 @@ pub fn is_hex(c: u8) -> bool
     ensures { result ≡ is_hex c }
 {
     is_digit(c) || (b'A' <= c && c <= b'F') || (b'a' <= c && c <= b'f')
-}
-
-#[tactic(auto, unfolding(crate::specs::Bytes::is_name_first))]
-pub(crate) fn is_name_first(c: u8) -> bool
-    ensures { result ≡ is_name_first c }
-{
-    (b'A' <= c && c <= b'Z') || (b'a' <= c && c <= b'z') || c == b'_' || c == b'.' || c == b'$'
 }
 
 #[tactic(auto, unfolding(crate::specs::Bytes::is_name_byte))]

@@ -8,10 +8,11 @@ use Rattle.std.proofs.lemmas.Bool.{and_parts, cases_lt}
 use Rattle.std.proofs.lemmas.List.{get_or_past}
 use Rattle.std.proofs.lemmas.Bool.Decides.{nat_tests}
 use Rattle.std.proofs.lemmas.List.Sums.{AllPass-from_list_all}
-use Rattle.tc_object.specs.Names.{is_first, is_further, is_name}
+use Rattle.tcd_base.specs.NameBytes.{is_name_first}
+use Rattle.tc_object.specs.Names.{is_further, is_name}
 
 further_ascii : (c : ℕ) → is_further c ≡ true → c < 128
-unfolding is_further is_first
+unfolding is_further is_name_first
 further_ascii c h = grind (arith, nat_tests)
 
 pub name_utf8 : (bs : List ℕ) → is_name bs ≡ true → IsUtf8 bs

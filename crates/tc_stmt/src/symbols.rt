@@ -1,26 +1,20 @@
 // Names, and symbols in places that take one.
 ghost use Rattle.std.specs.Prelude.{◌≡◌, ◌<◌, ◌^◌, true};
 ghost use Rattle.std.specs.List.{list_all};
-ghost use Rattle.tc_object.specs.Names.{is_first, is_further};
+ghost use Rattle.tc_object.specs.Names.{is_further};
 ghost use Rattle.tc_stmt.specs.Names.{is_name};
 ghost use Rattle.tc_lex.specs.Operands.{value_of};
 ghost use Rattle.tc_stmt.specs.RowFields.{row_fields_of, symbol_rule, with_rule, with_symbol, with_misplaced};
 
 use crate::row_fields::{Reference, RowFields};
 use tc_lex::{Value, is_text};
-
-#[tactic(auto, unfolding(tc_object::specs::Names::is_first))]
-fn is_first(c: u8) -> bool
-    ensures { result ≡ is_first c }
-{
-    (b'a' <= c && c <= b'z') || (b'A' <= c && c <= b'Z') || c == b'_' || c == b'.' || c == b'$'
-}
+use tcd_base::is_name_first;
 
 #[tactic(auto, unfolding(tc_object::specs::Names::is_further))]
 fn is_further(c: u8) -> bool
     ensures { result ≡ is_further c }
 {
-    is_first(c) || (b'0' <= c && c <= b'9')
+    is_name_first(c) || (b'0' <= c && c <= b'9')
 }
 
 fn are_further(bytes: &[u8]) -> bool
@@ -36,7 +30,7 @@ pub fn is_name(bytes: &[u8]) -> bool
 {
     1 <= bytes.len()
         && bytes.len() <= 64
-        && is_first(bytes[0])
+        && is_name_first(bytes[0])
         && are_further(bytes)
         && !is_text(bytes, ".")
 }

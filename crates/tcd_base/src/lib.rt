@@ -10,6 +10,7 @@ mod fields;
 mod files;
 mod mem_files;
 mod mem_sink;
+mod name_bytes;
 mod range;
 mod sink;
 #[cfg(test)]
@@ -23,5 +24,6 @@ pub use fields::{bits, put_u32, sext};
 pub use files::{FileErr, Files};
 pub use mem_files::MemFiles;
 pub use mem_sink::MemSink;
+pub use name_bytes::is_name_first;
 pub use range::{Range, any_holds};
 pub use sink::{Sink, SinkErr};
