@@ -1,5 +1,6 @@
 pub mod BackLaws
 pub mod CertLaws
+pub mod ExitValues
 pub mod FindLaws
 pub mod GrammarLaws
 pub mod KeyLaws

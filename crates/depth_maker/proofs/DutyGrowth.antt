@@ -32,7 +32,7 @@ use Rattle.cfg_recover.specs.Local.{targets_of, are_aligned, IsFaultless}
 use Rattle.cfg_recover.specs.Duties.{Duty, jump, enter, resume, leave, Owed, owed, loaded_at, jumps_to, jump_on, next_of, successors_of, entered_and_back, entries_of, misaligned_at, misaligned_of, irqs_of, interrupts_of, leavings_of, duties_of}
 use Rattle.cfg_recover.proofs.CodeLaws.{IsCode-bounded}
 use Rattle.cfg_recover.proofs.EntryLaws.{lower_length, entry_length}
-use Rattle.cfg_recover.proofs.FlowStates.{after-at, with_lower_length, restored_at}
+use Rattle.depth_cert.proofs.ExitValues.{after-at, with_lower_length, restored_at}
 use Rattle.cfg_recover.proofs.Members.{contains_first, contains_map, contains_flat, contains_filter}
 use Rattle.depth_maker.specs.Growth.{IsGround, IsDutyBelow, IsOwedBelow, DutiesGrow, AfterGrows}
 use Rattle.depth_cert.specs.Known.{IsProper, IsProperExit}

@@ -40,7 +40,8 @@ use Rattle.cfg_recover.specs.Local.{targets_of, are_aligned, IsFaultless}
 use Rattle.cfg_recover.specs.Duties.{Duty, jump, enter, resume, leave, Owed, owed, loaded_at, jumps_to, jump_on, next_of, successors_of, entered_and_back, entries_of, misaligned_at, misaligned_of, irqs_of, interrupts_of, leavings_of, duties_of}
 use Rattle.cfg_recover.proofs.CodeLaws.{IsCode-bounded}
 use Rattle.cfg_recover.proofs.EntryLaws.{lower_length, entry_length, aln_length, sys_length, transfer_length}
-use Rattle.cfg_recover.proofs.FlowStates.{after-at, with_lower_length, set_values, entry_values}
+use Rattle.depth_cert.proofs.ExitValues.{after-at, with_lower_length}
+use Rattle.cfg_recover.proofs.FlowStates.{set_values, entry_values}
 use Rattle.depth_maker.specs.Growth.{IsGround, IsProperDuty, DutiesAreProper, AfterIsProper}
 use Rattle.depth_cert.specs.Known.{IsProper, IsProperExit}
 use Rattle.depth_maker.proofs.StateGrowth.{covers_same, setting_set, setting_write, set_locals}

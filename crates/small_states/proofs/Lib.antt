@@ -1,4 +1,3 @@
 pub mod SameValues
 pub mod WordTests
 pub mod AskedLemmas
-pub mod ExitValues

@@ -4,7 +4,7 @@ use Rattle.value_domain.specs.declared.values.Val.{Val}
 use Rattle.value_domain.specs.Values.{any_val}
 use Rattle.value_domain.proofs.RegLaws.{read_at, below_more}
 use Rattle.depth_cert.specs.Exits.{with_lower_from}
-use Rattle.cfg_recover.proofs.FlowStates.{after-at, restored_at, with_lower_length}
+use Rattle.depth_cert.proofs.ExitValues.{after-at, restored_at, with_lower_length}
 use Rattle.cfg_recover.proofs.flow_after.are_below.Goals as goal
 
 pub leq-requires-clause-left : goal.leq-requires-clause-left

@@ -4,7 +4,7 @@ use Rattle.std.proofs.Math.ListN.{length-set}
 use Rattle.value_domain.specs.declared.values.Val.{Val}
 use Rattle.value_domain.specs.Values.{any_val}
 use Rattle.depth_cert.specs.Exits.{with_lower_from}
-use Rattle.cfg_recover.proofs.FlowStates.{lower_more, restored_at, with_lower_length}
+use Rattle.depth_cert.proofs.ExitValues.{lower_more, restored_at, with_lower_length}
 use Rattle.cfg_recover.proofs.flow_after.with_lower.Goals as goal
 
 pub loop-i-preserved : goal.loop-i-preserved

@@ -1,6 +1,6 @@
 use Rattle.std.proofs.Common.{arith}
 use Rattle.vd_transfer.proofs.ChangeLaws.{length-changed}
-use Rattle.small_states.proofs.ExitValues.{with_lower_length}
+use Rattle.depth_cert.proofs.ExitValues.{with_lower_length}
 use Rattle.small_states.proofs.asked.asked_value.Goals as goal
 
 pub changed_value-requires-clause-place : goal.changed_value-requires-clause-place

@@ -1,6 +1,6 @@
 use Rattle.std.proofs.Common.{sym, arith}
 use Rattle.vd_transfer.proofs.ChangeLaws.{length-changed}
-use Rattle.small_states.proofs.ExitValues.{with_lower_length}
+use Rattle.depth_cert.proofs.ExitValues.{with_lower_length}
 use Rattle.small_states.proofs.asked.count_asked.Goals as goal
 
 pub returns-in-Changed : goal.returns-in-Changed

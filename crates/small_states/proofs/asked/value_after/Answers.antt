@@ -2,7 +2,7 @@ use Rattle.std.proofs.Common.{◌∙◌, ap, sym, arith}
 use Rattle.std.proofs.lemmas.List.{get_or_default}
 use Rattle.value_domain.specs.declared.values.Val.{Val}
 use Rattle.value_domain.specs.Values.{any_val}
-use Rattle.small_states.proofs.ExitValues.{after-at, restored_at}
+use Rattle.depth_cert.proofs.ExitValues.{after-at, restored_at}
 use Rattle.small_states.proofs.asked.value_after.Goals as goal
 
 pub returns : goal.returns
