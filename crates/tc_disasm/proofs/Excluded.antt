@@ -4,6 +4,7 @@ use Rattle.std.specs.Prelude.{codes, not, nat_le, ◌*◌, ◌^◌, if◌then◌
 use Rattle.std.specs.Str.{bytes_eq}
 use Rattle.std.proofs.lemmas.Bool.{false≢true}
 use Rattle.tc_isa.specs.Rows.{RowData}
+use Rattle.tc_isa.specs.Codec.{same_test}
 use Rattle.tc_isa.specs.Words.{form_index}
 use Rattle.tc_stmt.specs.declared.want.Field.{Field}
 use Rattle.tc_stmt.specs.declared.want.Field.TheVariants.{S2, K}
@@ -13,7 +14,7 @@ use Rattle.tc_lex.specs.Operands.{OperandData, ValueData, memory}
 use Rattle.tc_stmt.specs.RowFields.{target_kind, reference, RowFieldsData, fill, fill_plain, fill_register, fill_a10, fill_value, fill_memory, fill_target, fill_absolute, put_register, put_number, put_absolute, with_displacement, with_symbol, with_misplaced, with_rule, with_value, shape_index, half_kind, register_of, symbol_rule, is_symbol, is_half}
 use Rattle.tc_disasm.specs.Texts.{register_text}
 use Rattle.tc_disasm.specs.Refused.{Prints, IsRefused, Falls}
-use Rattle.tc_disasm.specs.Apart.{excludes, same_bool}
+use Rattle.tc_disasm.specs.Apart.{excludes}
 use Rattle.tc_disasm.proofs.Registers.{register_of-text}
 
 by_bool : {A : Type 0} (P : A → Type 0) (b : Bool) (x y : A) → P x → P y → P (cond b x y)
@@ -122,7 +123,7 @@ falls acc r (Memory p u) o = falls-memory acc r p u o
 misplaced_there : (a n : ℕ) → min a (min 10 n) < 15
 misplaced_there a n = omega arith
 
-refused-bank : (acc : RowFieldsData) (p q : Bool) (y : Field) (n : ℕ) → n < 16 → not (same_bool p q) ≡ true → (put_register q y (register_text p n) acc).rule < 15
+refused-bank : (acc : RowFieldsData) (p q : Bool) (y : Field) (n : ℕ) → n < 16 → not (same_test p q) ≡ true → (put_register q y (register_text p n) acc).rule < 15
 unfolding put_register
 refused-bank acc true true y n h e = absurd (false≢true e)
 refused-bank acc false false y n h e = absurd (false≢true e)
@@ -135,7 +136,7 @@ refused-bank acc false true y n h e =
     let reg : register_of (register_text false n) / 16 ≡ 0 = ap (λ m. m / 16) (register_of-text false n h) ∙ bank in
     subst (λ (m : ℕ). (cond (m == 1) (with_value y (register_of (register_text false n) % 16) acc) (with_rule 4 acc)).rule < 15) (sym reg) (omega arith)
 
-refused-plus : (r : RowData) (acc : RowFieldsData) (p q offset : Bool) (text : List ℕ) (v : ValueData) → not (same_bool p q) ≡ true → IsRefused (fill r (Memory q offset) (memory p text v) acc)
+refused-plus : (r : RowData) (acc : RowFieldsData) (p q offset : Bool) (text : List ℕ) (v : ValueData) → not (same_test p q) ≡ true → IsRefused (fill r (Memory q offset) (memory p text v) acc)
 unfolding fill fill_memory
 refused-plus r acc true true offset text v e = absurd (false≢true e)
 refused-plus r acc false false offset text v e = absurd (false≢true e)

@@ -3,6 +3,7 @@ use Rattle.std.specs.Prelude.{ℕ, ◌&&◌, ◌||◌, not, Bool, true, false, L
 use Rattle.std.specs.List.{list_all, list_any}
 use Rattle.std.specs.Str.{bytes_eq}
 use Rattle.tc_isa.specs.Rows.{RowData}
+use Rattle.tc_isa.specs.Codec.{same_test}
 use Rattle.tc_isa.specs.declared.fields.Uses.{Uses}
 use Rattle.tc_stmt.specs.declared.want.Field.{Field}
 use Rattle.tc_stmt.specs.declared.want.Field.TheVariants.{C, S1, S2, N, K}
@@ -10,14 +11,9 @@ use Rattle.tc_stmt.specs.declared.want.Want.{Want}
 use Rattle.tc_stmt.specs.declared.want.Want.TheVariants.{Reg, A10, Number, Target, Absolute, Memory}
 use Rattle.tc_stmt.specs.Wants.{wants_of}
 
--- both hold, or neither
-abbrev pub same_bool : Bool → Bool → Bool
-same_bool true b = b
-same_bool false b = not b
-
 -- what is printed for the first breaks a rule, or has another form, at the place of the second
 unfoldable pub excludes : Want → Want → Bool
-excludes (Reg p f) (Reg q g) = not (same_bool p q)
+excludes (Reg p f) (Reg q g) = not (same_test p q)
 excludes (Reg p f) (Number s g) = true
 excludes (Reg p f) (Memory q o) = true
 excludes (Number s f) (Reg q g) = true
@@ -32,7 +28,7 @@ excludes Target (Reg q g) = true
 excludes Target A10 = true
 excludes Target (Number s g) = true
 excludes Target (Memory q o) = true
-excludes (Memory p o) (Memory q u) = not (same_bool p q)
+excludes (Memory p o) (Memory q u) = not (same_test p q)
 excludes (Memory p o) (Reg q g) = true
 excludes (Memory p o) A10 = true
 excludes (Memory p o) (Number s g) = true

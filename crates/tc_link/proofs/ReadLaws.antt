@@ -9,7 +9,8 @@ use Rattle.tc_link.specs.Layouts.{PlaceData}
 use Rattle.tcd_text.specs.Lines.{lines_of}
 use Rattle.tc_link.specs.Lines.{LineData, line_of}
 use Rattle.std.specs.List.{filter_map, cons_option}
-use Rattle.tc_link.specs.Faults.{entry_in, region_in, entries_of, places_of, fault_of, first_fault, layout_in, with_entry, unless, IsFault, IsFaultOf}
+use Rattle.tcd_base.specs.Refusing.{unless}
+use Rattle.tc_link.specs.Faults.{entry_in, region_in, entries_of, places_of, fault_of, first_fault, layout_in, with_entry, IsFault, IsFaultOf}
 use Rattle.tc_link.specs.Seen.{DraftData, with_line}
 
 -- n of all lines were read without a fault and gave the draft; the text is the rest

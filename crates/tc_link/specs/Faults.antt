@@ -4,6 +4,7 @@ use Rattle.std.specs.Bool.{then_some}
 use Rattle.std.specs.Option.{option_or, option_and_then}
 use Rattle.std.specs.List.{list_any}
 use Rattle.tc_link.specs.Layouts.{PlaceData, LayoutData, shares, is_placed}
+use Rattle.tcd_base.specs.Refusing.{unless}
 use Rattle.tcd_text.specs.Lines.{lines_of}
 use Rattle.tc_link.specs.Lines.{LineData, blank, entry, place, line_of}
 use Rattle.tc_link.specs.declared.layout_errors.LayoutErr.{LayoutErr}
@@ -52,11 +53,6 @@ first_fault before (line ∷ lines) = option_or (fault_after before line) (first
 abbrev pub with_entry : ℕ → List (List ℕ) → List PlaceData → Result LayoutData LayoutErr
 with_entry n [] places = Err (BadLine (n + 1))
 with_entry n (name ∷ names) places = Ok (record { entry = name; places = places })
-
--- the first fault, if there is one, else this answer
-abbrev pub unless : Option LayoutErr → Result LayoutData LayoutErr → Result LayoutData LayoutErr
-unless (Some e) r = Err e
-unless None r = r
 
 -- the layout of these lines, or their first fault
 abbrev pub layout_in : List (List ℕ) → Result LayoutData LayoutErr

@@ -4,6 +4,7 @@ use Rattle.std.specs.Bool.{then_some}
 use Rattle.std.specs.Option.{option_map, option_or}
 use Rattle.std.specs.List.{flat_map, list_any}
 use Rattle.std.specs.Str.{bytes_eq}
+use Rattle.tcd_base.specs.Refusing.{unless}
 use Rattle.tc_object.specs.Objects.{undefined_symbol, SectionData, SymbolData, ObjectData}
 use Rattle.elf_image.specs.Images.{ImageData}
 use Rattle.tc_object.specs.declared.relocs.Reloc.{Reloc}
@@ -126,11 +127,6 @@ refused_early layout objects =
     option_or (twice_in objects)
     (option_or (missing_in objects)
     (option_or (no_place_in layout.places objects) (no_room_after layout.places [] (sections_of objects))))
-
--- the refusal, if there is one, else this answer
-abbrev pub unless : {A : Type 0} → Option Refusal → Result A Refusal → Result A Refusal
-unless (Some e) r = Err e
-unless None r = r
 
 -- the image of placed objects, or the first relocation that is refused
 abbrev pub made_of : LayoutData → List PlacedData → Result ImageData Refusal

@@ -9,7 +9,8 @@ use Rattle.tc_asm.specs.Kept.{IsDraft}
 use Rattle.tc_link.specs.Layouts.{LayoutData}
 use Rattle.tc_link.specs.Placing.{globals_of, global_address}
 use Rattle.tc_link.specs.Relocated.{relocated_sections, segments_of}
-use Rattle.tc_link.specs.Linked.{Refusal, unless, no_place_in, reloc_in, placed_of, contents_of, entry_of, made_of, refused_early, image_of_objects}
+use Rattle.tcd_base.specs.Refusing.{unless}
+use Rattle.tc_link.specs.Linked.{Refusal, no_place_in, reloc_in, placed_of, contents_of, entry_of, made_of, refused_early, image_of_objects}
 use Rattle.tc_link.specs.Shapes.{shape_of}
 use Rattle.tc_link.proofs.RelocLaws.{contents_shapes}
 use Rattle.tc_asm.specs.Contents.{draft_in}
