@@ -24,8 +24,11 @@ pub(crate) struct Parts {
 pub(crate) fn read_parts(alloc: Global, bytes: &[u8]) -> Result<Parts, ObjErr>
     requires { length bytes.now ≤ 2 ^ 30 }
     ensures ok { IfOk result
-        (λ o. object_of bytes.now
-        ≡ Ok (record { sections = o.sections.items; symbols = o.symbols.items; relocs = o.relocs.items })) }
+        (λ o. object_of bytes.now ≡ Ok (record {
+          sections = o.sections.items;
+          symbols = o.symbols.items;
+          relocs = o.relocs.items;
+        })) }
     ensures err { IfErr result (IsFaultOf (object_of bytes.now)) }
 {
     let mut c = Cursor::new(bytes);
