@@ -4,11 +4,17 @@ ghost use Rattle.tc_isa.specs.Codec.{four_bytes};
 ghost use Rattle.tc_lex.specs.Operands.{operand_of};
 ghost use Rattle.tc_stmt.specs.RowFields.{reference_of, shape_index, wrap};
 ghost use Rattle.tc_stmt.specs.Items.{item_of};
+ghost use Rattle.tc_stmt.specs.SourceRules.{no_rule};
 ghost use Rattle.tc_stmt.specs.Values.{fits_width, value_rule, value_item, space_rule, space_item};
 
 use crate::item::Item;
+use crate::source_rules::{MISPLACED_SYMBOL, NO_RULE, PAST_LIMITS, WIDE_NUMBER, WRONG_OPERANDS};
+use crate::value_shapes::{HIGH, HUGE, LOW, NUMBER, SUM, WORD};
 use crate::{Reference, shape_index, symbol_rule};
 use tc_lex::Operand;
+
+// The kind of relocations that fill a word of data.
+const WORD32: u8 = 7;
 
 // A number of at most four bytes, modulo 2^32, the lowest byte first.
 fn word_bytes(minus: bool, size: u32) -> [u8; 4]
@@ -38,31 +44,35 @@ fn fits_width(width: u8, minus: bool, size: u128) -> bool
     }
 }
 
-/// The least rule that a value of so many bytes breaks; 15 is none.
+/// The least rule that a value of so many bytes breaks, or no rule.
 #[tactic(auto, unfolding(crate::specs::Values::value_rule))]
 pub(crate) fn value_rule(width: u8, o: Operand<'_>) -> u8
     requires { (width ≡ 1) ⊎ ((width ≡ 2) ⊎ (width ≡ 4)) }
     ensures value { result ≡ value_rule width (operand_of o.entry) }
-    ensures small { result ≡ 15 → o.entry.value.size < 2 ^ 32 }
+    ensures small { result ≡ no_rule → o.entry.value.size < 2 ^ 32 }
 {
     let shape = shape_index(o.value.shape);
     if o.is_memory {
-        3
-    } else if shape == 1 {
+        WRONG_OPERANDS
+    } else if shape == NUMBER {
         if fits_width(width, o.value.minus, o.value.size) {
-            15
+            NO_RULE
         } else {
-            5
+            WIDE_NUMBER
         }
-    } else if shape == 7 {
-        5
-    } else if shape == 2 || shape == 3 {
+    } else if shape == HUGE {
+        WIDE_NUMBER
+    } else if shape == WORD || shape == SUM {
         let rule = symbol_rule(o.value);
-        if width == 4 { rule } else { rule.min(10) }
-    } else if shape == 4 || shape == 5 {
-        symbol_rule(o.value).min(10)
+        if width == 4 {
+            rule
+        } else {
+            rule.min(MISPLACED_SYMBOL)
+        }
+    } else if shape == HIGH || shape == LOW {
+        symbol_rule(o.value).min(MISPLACED_SYMBOL)
     } else {
-        3
+        WRONG_OPERANDS
     }
 }
 
@@ -72,15 +82,15 @@ pub(crate) fn value_item<'a>(width: u8, o: Operand<'a>) -> Item<'a>
     requires { (width ≡ 1) ⊎ ((width ≡ 2) ⊎ (width ≡ 4)) }
     ensures { item_of result ≡ value_item width (operand_of o.entry) }
 {
-    if value_rule(width, o) != 15 {
+    if value_rule(width, o) != NO_RULE {
         return Item::Zeros(u32::from(width));
     }
     let size = o.value.size as u32;
-    if shape_index(o.value.shape) == 1 {
+    if shape_index(o.value.shape) == NUMBER {
         return Item::Data(width, word_bytes(o.value.minus, size), None);
     }
     let reference = Reference {
-        kind: 7,
+        kind: WORD32,
         name: o.value.name,
         minus: o.value.minus,
         size,
@@ -88,29 +98,29 @@ pub(crate) fn value_item<'a>(width: u8, o: Operand<'a>) -> Item<'a>
     Item::Data(width, [0; 4], Some(reference))
 }
 
-/// The least rule that a number of zeros breaks by itself; 15 is none.
+/// The least rule that a number of zeros breaks by itself, or no rule.
 #[tactic(auto, unfolding(crate::specs::Values::space_rule))]
 pub(crate) fn space_rule(o: Operand<'_>) -> u8
     ensures value { result ≡ space_rule (operand_of o.entry) }
-    ensures small { result ≡ 15 → o.entry.value.size ≤ 2 ^ 24 }
+    ensures small { result ≡ no_rule → o.entry.value.size ≤ 2 ^ 24 }
 {
     let shape = shape_index(o.value.shape);
     if o.is_memory {
-        3
-    } else if shape == 1 {
+        WRONG_OPERANDS
+    } else if shape == NUMBER {
         if o.value.minus && o.value.size != 0 {
-            5
+            WIDE_NUMBER
         } else if o.value.size <= 0x100_0000 {
-            15
+            NO_RULE
         } else {
-            13
+            PAST_LIMITS
         }
-    } else if shape == 7 {
-        5
-    } else if shape == 2 || shape == 3 || shape == 4 || shape == 5 {
-        symbol_rule(o.value).min(10)
+    } else if shape == HUGE {
+        WIDE_NUMBER
+    } else if shape == WORD || shape == SUM || shape == HIGH || shape == LOW {
+        symbol_rule(o.value).min(MISPLACED_SYMBOL)
     } else {
-        3
+        WRONG_OPERANDS
     }
 }
 
@@ -119,7 +129,7 @@ pub(crate) fn space_rule(o: Operand<'_>) -> u8
 pub(crate) fn space_item<'a>(o: Operand<'a>) -> Item<'a>
     ensures { item_of result ≡ space_item (operand_of o.entry) }
 {
-    if space_rule(o) == 15 {
+    if space_rule(o) == NO_RULE {
         Item::Zeros(o.value.size as u32)
     } else {
         Item::Zeros(0)

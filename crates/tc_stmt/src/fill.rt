@@ -3,13 +3,40 @@ ghost use Rattle.std.specs.Prelude.{◌≡◌, ◌<◌, ◌≤◌, ◌+◌, ◌^
 ghost use Rattle.tc_isa.specs.Rows.{row_of};
 ghost use Rattle.tc_isa.specs.Words.{form_index, bounds};
 ghost use Rattle.tc_lex.specs.Operands.{value_of, operand_of};
-ghost use Rattle.tc_stmt.specs.RowFields.{Fills, row_fields_of, set_field, field_of, shape_index, register_of, put_register, fits, wrap, put_number, half_kind, fill_value, fill_memory, displacement_rule, with_displacement, target_kind, fill_target, put_absolute, fill_absolute, fill_register, fill_a10, fill_plain, fill, with_value as put_in, is_named as named, is_far};
+ghost use Rattle.tc_stmt.specs.SourceRules.{no_rule};
+ghost use Rattle.tc_stmt.specs.RowFields.{Fills, row_fields_of, set_field, field_of, register_of, put_register, fits, wrap, put_number, half_kind, fill_value, fill_memory, displacement_rule, with_displacement, target_kind, fill_target, put_absolute, fill_absolute, fill_register, fill_a10, fill_plain, fill, with_value as put_in, is_named as named, is_far};
 
 use crate::row_fields::RowFields;
+use crate::source_rules::{FAR_TARGET, NO_RULE, ODD_DISPLACEMENT, WIDE_NUMBER, WRONG_REGISTER};
 use crate::symbols::{break_rule, misplace, with_symbol};
+use crate::value_shapes::{ABSENT, HIGH, HUGE, LOW, NUMBER, SUM, WORD, shape_index};
 use crate::want::{Field, Want};
 use tc_isa::{Fields, Form, Row, bounds_of};
 use tc_lex::{Operand, Shape, Value, is_text};
+
+// No relocation.
+const NO_KIND: u8 = 0;
+
+// The relocation of half the displacement of a jump or a call, in 24 bits.
+const REL24: u8 = 1;
+
+// The relocation of bits 31:28 and 20:1 of an address, in 24 bits.
+const ABS24: u8 = 2;
+
+// The relocation of half the displacement of a branch, in 15 bits.
+const REL15: u8 = 3;
+
+// The relocation of the upper half of an address, one more where its lower half is negative.
+const HI16: u8 = 4;
+
+// The relocation of the lower half of an address, in the constant of an operation.
+const LO16: u8 = 5;
+
+// The relocation of the lower half of an address, in the offset of an access.
+const OFFSET16: u8 = 6;
+
+// More than the number of each register: what a letter or a number that names none counts.
+const NO_REGISTER: u8 = 64;
 
 #[tactic(auto, unfolding(crate::specs::RowFields::set_field))]
 fn set_field(field: Field, v: u32, f: &mut Fields)
@@ -34,24 +61,6 @@ fn field_of(field: Field, f: &Fields) -> u32
         Field::S2 => u32::from(f.s2),
         Field::N => u32::from(f.n),
         Field::K => f.k,
-    }
-}
-
-/// The number of a form of values: 0 nothing, 1 a number, 2 a name, 3 a name with a number added, 4 and 5 its upper and
-/// lower half, 6 none of these, 7 a number of 2^128 or more.
-#[tactic(auto, unfolding(crate::specs::RowFields::shape_index))]
-pub fn shape_index(shape: Shape) -> u8
-    ensures { result ≡ shape_index shape }
-{
-    match shape {
-        Shape::Absent => 0,
-        Shape::Number => 1,
-        Shape::Word => 2,
-        Shape::Sum => 3,
-        Shape::High => 4,
-        Shape::Low => 5,
-        Shape::Bad => 6,
-        Shape::Huge => 7,
     }
 }
 
@@ -89,7 +98,7 @@ fn bank_of(c: u8) -> u8
     } else if c == b'a' {
         16
     } else {
-        64
+        NO_REGISTER
     }
 }
 
@@ -102,9 +111,9 @@ fn register_of(name: &[u8]) -> u8
     } else if name.len() == 3 && name[1] == b'1' && 48 <= name[2] && name[2] <= 53 {
         bank_of(name[0]) + (name[2] - 38)
     } else if name.is_empty() {
-        128
+        NO_REGISTER + NO_REGISTER
     } else {
-        bank_of(name[0]) + 64
+        bank_of(name[0]) + NO_REGISTER
     }
 }
 
@@ -123,7 +132,7 @@ fn put_register(bank: bool, field: Field, name: &[u8], acc: &mut RowFields<'_>)
     if reg / 16 == (if bank { 1 } else { 0 }) {
         put(field, u32::from(reg % 16), acc);
     } else {
-        break_rule(4, acc);
+        break_rule(WRONG_REGISTER, acc);
     }
 }
 
@@ -172,7 +181,7 @@ fn put_number(
     if fits(signed, bound, minus, size) {
         put(field, wrap(bound, minus, size as u32), acc);
     } else {
-        break_rule(5, acc);
+        break_rule(WIDE_NUMBER, acc);
     }
 }
 
@@ -186,22 +195,22 @@ fn is_named(row: &Row, name: &str) -> bool
 fn half_kind(row: &Row, shape: Shape) -> u8
     ensures { result ≡ half_kind (row_of row.now) shape }
 {
-    if shape_index(shape) == 4 {
+    if shape_index(shape) == HIGH {
         if is_named(row, "movh")
             || is_named(row, "movh.a")
             || is_named(row, "addih")
             || is_named(row, "addih.a")
         {
-            4
+            HI16
         } else {
-            0
+            NO_KIND
         }
     } else if is_named(row, "addi") {
-        5
+        LO16
     } else if form_index(row.form) == 3 {
-        6
+        OFFSET16
     } else {
-        0
+        NO_KIND
     }
 }
 
@@ -217,18 +226,18 @@ fn fill_value<'a>(
         (fill_value (row_of row.now) signed field (value_of v.now) (row_fields_of acc.old)) }
 {
     let shape = shape_index(v.shape);
-    if shape == 1 {
+    if shape == NUMBER {
         put_number(row.form, signed, field, v.minus, v.size, acc);
         true
-    } else if shape == 7 {
-        break_rule(5, acc);
+    } else if shape == HUGE {
+        break_rule(WIDE_NUMBER, acc);
         true
-    } else if shape == 2 || shape == 3 {
+    } else if shape == WORD || shape == SUM {
         misplace(v, acc);
         true
-    } else if shape == 4 || shape == 5 {
+    } else if shape == HIGH || shape == LOW {
         let kind = half_kind(row, v.shape);
-        if kind == 0 {
+        if kind == NO_KIND {
             misplace(v, acc);
         } else {
             with_symbol(kind, v, acc);
@@ -251,7 +260,7 @@ fn fill_memory<'a>(
         (fill_memory (row_of row.now) plus offset (operand_of o.now) (row_fields_of acc.old)) }
 {
     if o.is_memory && (if o.plus { plus } else { !plus }) {
-        if shape_index(o.value.shape) == 0 {
+        if shape_index(o.value.shape) == ABSENT {
             put_register(true, Field::S2, o.base, acc);
             true
         } else if offset {
@@ -294,18 +303,26 @@ fn is_far(form: Form, bound: u32, minus: bool, size: u128) -> bool
     }
 }
 
-// The least rule that a displacement of so many bytes breaks; 15 is none.
+// The least rule that a displacement of so many bytes breaks, or no rule.
 #[tactic(auto, unfolding(crate::specs::RowFields::displacement_rule))]
 fn displacement_rule(row: &Row, minus: bool, size: u128) -> u8
     ensures value { result ≡ displacement_rule (row_of row.now) minus size }
-    ensures near { result ≡ 15 → size ≤ 2 * (bounds row.now.form).k }
+    ensures near { result ≡ no_rule → size ≤ 2 * (bounds row.now.form).k }
 {
-    let by_odd = if size % 2 == 1 { 6 } else { 15 };
-    let too_far = if row.op1 % 2 == 1 { 5 } else { 11 };
+    let by_odd = if size % 2 == 1 {
+        ODD_DISPLACEMENT
+    } else {
+        NO_RULE
+    };
+    let too_far = if row.op1 % 2 == 1 {
+        WIDE_NUMBER
+    } else {
+        FAR_TARGET
+    };
     let by_far: u8 = if is_far(row.form, bound_of(row.form), minus, size) {
         too_far
     } else {
-        15
+        NO_RULE
     };
     by_far.min(by_odd)
 }
@@ -316,7 +333,7 @@ fn displace(row: &Row, minus: bool, size: u128, acc: &mut RowFields<'_>)
         ≡ with_displacement (row_of row.now) minus size (row_fields_of acc.old) }
 {
     let rule = displacement_rule(row, minus, size);
-    if rule == 15 {
+    if rule == NO_RULE {
         put(
             Field::K,
             wrap(bound_of(row.form), minus, (size / 2) as u32),
@@ -342,9 +359,13 @@ fn target_kind(row: &Row) -> u8
     ensures { result ≡ target_kind (row_of row.now) }
 {
     if row.op1 % 2 == 1 {
-        if form_index(row.form) == 7 { 1 } else { 3 }
+        if form_index(row.form) == 7 {
+            REL24
+        } else {
+            REL15
+        }
     } else {
-        0
+        NO_KIND
     }
 }
 
@@ -354,17 +375,17 @@ fn fill_target<'a>(row: &Row, v: &Value<'a>, acc: &mut RowFields<'a>) -> bool
         (fill_target (row_of row.now) (value_of v.now) (row_fields_of acc.old)) }
 {
     let shape = shape_index(v.shape);
-    if shape == 3 && is_text(v.name, ".") {
+    if shape == SUM && is_text(v.name, ".") {
         if v.wide {
-            break_rule(5, acc);
+            break_rule(WIDE_NUMBER, acc);
         } else {
             displace(row, v.minus, v.size, acc);
         }
         true
-    } else if shape == 2 || shape == 3 {
+    } else if shape == WORD || shape == SUM {
         with_symbol(target_kind(row), v, acc);
         true
-    } else if shape == 4 || shape == 5 {
+    } else if shape == HIGH || shape == LOW {
         misplace(v, acc);
         true
     } else {
@@ -377,7 +398,7 @@ fn put_absolute(form: Form, minus: bool, size: u128, acc: &mut RowFields<'_>)
     ensures { row_fields_of acc.new ≡ put_absolute form minus size (row_fields_of acc.old) }
 {
     if (minus && size != 0) || 0x1_0000_0000 <= size {
-        break_rule(5, acc);
+        break_rule(WIDE_NUMBER, acc);
     } else if form_index(form) == 8 {
         if size / 16384 % 16384 == 0 {
             put(
@@ -386,7 +407,7 @@ fn put_absolute(form: Form, minus: bool, size: u128, acc: &mut RowFields<'_>)
                 acc,
             );
         } else {
-            break_rule(5, acc);
+            break_rule(WIDE_NUMBER, acc);
         }
     } else if size / 2097152 % 128 == 0 && size % 2 == 0 {
         put(
@@ -395,7 +416,7 @@ fn put_absolute(form: Form, minus: bool, size: u128, acc: &mut RowFields<'_>)
             acc,
         );
     } else {
-        break_rule(5, acc);
+        break_rule(WIDE_NUMBER, acc);
     }
 }
 
@@ -405,20 +426,20 @@ fn fill_absolute<'a>(row: &Row, v: &Value<'a>, acc: &mut RowFields<'a>) -> bool
         (fill_absolute (row_of row.now) (value_of v.now) (row_fields_of acc.old)) }
 {
     let shape = shape_index(v.shape);
-    if shape == 1 {
+    if shape == NUMBER {
         put_absolute(row.form, v.minus, v.size, acc);
         true
-    } else if shape == 7 {
-        break_rule(5, acc);
+    } else if shape == HUGE {
+        break_rule(WIDE_NUMBER, acc);
         true
-    } else if shape == 2 || shape == 3 {
+    } else if shape == WORD || shape == SUM {
         if form_index(row.form) == 8 {
             misplace(v, acc);
         } else {
-            with_symbol(2, v, acc);
+            with_symbol(ABS24, v, acc);
         }
         true
-    } else if shape == 4 || shape == 5 {
+    } else if shape == HIGH || shape == LOW {
         misplace(v, acc);
         true
     } else {
@@ -431,7 +452,7 @@ fn fill_register(bank: bool, field: Field, v: &Value<'_>, acc: &mut RowFields<'_
     ensures { Fills result acc.new
         (fill_register bank field (value_of v.now) (row_fields_of acc.old)) }
 {
-    if shape_index(v.shape) == 2 {
+    if shape_index(v.shape) == WORD {
         put_register(bank, field, v.name, acc);
         true
     } else {
@@ -443,9 +464,9 @@ fn fill_register(bank: bool, field: Field, v: &Value<'_>, acc: &mut RowFields<'_
 fn fill_a10(v: &Value<'_>, acc: &mut RowFields<'_>) -> bool
     ensures { Fills result acc.new (fill_a10 (value_of v.now) (row_fields_of acc.old)) }
 {
-    if shape_index(v.shape) == 2 {
+    if shape_index(v.shape) == WORD {
         if !is_text(v.name, "a10") {
-            break_rule(4, acc);
+            break_rule(WRONG_REGISTER, acc);
         }
         true
     } else {

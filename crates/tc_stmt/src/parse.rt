@@ -14,6 +14,8 @@ ghost use Rattle.tc_stmt.specs.Lines.{line_data, Adds, behind, named_line, is_wo
 use crate::data::{space_item, space_rule, value_item, value_rule};
 use crate::item::Item;
 use crate::source::Line;
+use crate::source_rules::{BAD_TOKEN, NO_RULE, WRONG_OPERANDS};
+use crate::value_shapes::WORD;
 use crate::{shape_index, statement};
 use arrayvec::ArrayVec;
 use std::alloc::AllocError;
@@ -40,7 +42,7 @@ fn one<'a>(rule: u8, item: Item<'a>, items: &mut Vec<Item<'a>>) -> Result<u8, Al
 fn is_word_operand(o: Operand<'_>) -> bool
     ensures { result ≡ is_word_operand (operand_of o.entry) }
 {
-    !o.is_memory && shape_index(o.value.shape) == 2
+    !o.is_memory && shape_index(o.value.shape) == WORD
 }
 
 // The one operand, where it is a Word.
@@ -64,8 +66,8 @@ fn section_line<'a>(os: &[Operand<'a>], items: &mut Vec<Item<'a>>) -> Result<u8,
         (map operand_of os.now)) result items.old.items items.new.items }
 {
     match word_of(os) {
-        None => nothing(3, items),
-        Some(name) => one(15, Item::Section(name), items),
+        None => nothing(WRONG_OPERANDS, items),
+        Some(name) => one(NO_RULE, Item::Section(name), items),
     }
 }
 
@@ -75,8 +77,8 @@ fn global_line<'a>(os: &[Operand<'a>], items: &mut Vec<Item<'a>>) -> Result<u8, 
         (map operand_of os.now)) result items.old.items items.new.items }
 {
     match word_of(os) {
-        None => nothing(3, items),
-        Some(name) => one(15, Item::Global(name), items),
+        None => nothing(WRONG_OPERANDS, items),
+        Some(name) => one(NO_RULE, Item::Global(name), items),
     }
 }
 
@@ -92,7 +94,7 @@ fn space_line<'a>(os: &[Operand<'a>], items: &mut Vec<Item<'a>>) -> Result<u8, A
     ensures { Adds (space_line (map operand_of os.now)) result items.old.items items.new.items }
 {
     if os.len() != 1 {
-        return one(3, Item::Zeros(0), items);
+        return one(WRONG_OPERANDS, Item::Zeros(0), items);
     }
     one_space(os[0], items)
 }
@@ -101,7 +103,11 @@ fn space_line<'a>(os: &[Operand<'a>], items: &mut Vec<Item<'a>>) -> Result<u8, A
 fn count_rule(os: &[Operand<'_>]) -> u8
     ensures { result ≡ (if length (map operand_of os.now) == 0 then 3 else 15) }
 {
-    if os.is_empty() { 3 } else { 15 }
+    if os.is_empty() {
+        WRONG_OPERANDS
+    } else {
+        NO_RULE
+    }
 }
 
 fn least_rule(rule: u8, width: u8, o: Operand<'_>) -> u8
@@ -184,7 +190,11 @@ fn code_line<'a>(
         (statement_of name.now (map operand_of os.now))) result items.old.items items.new.items }
 {
     match statement(name, os) {
-        Ok((row, found)) => one(15, Item::Code(row, found.fields, found.reference), items),
+        Ok((row, found)) => one(
+            NO_RULE,
+            Item::Code(row, found.fields, found.reference),
+            items,
+        ),
         Err(rule) => one(rule, Item::Zeros(size_of_name(name)), items),
     }
 }
@@ -267,11 +277,11 @@ fn line_from<'a>(
     ensures { Adds (line_from (map piece_of ps.now) at) result items.old.items items.new.items }
 {
     if ps.len() == at {
-        nothing(15, items)
+        nothing(NO_RULE, items)
     } else if is_kind(ps, at, TokenKind::Word) {
         statement_at(ps, at, operands, items)
     } else {
-        nothing(1, items)
+        nothing(BAD_TOKEN, items)
     }
 }
 
@@ -328,7 +338,7 @@ fn broken_label<'a>(name: &'a [u8], items: &mut Vec<Item<'a>>) -> Result<u8, All
     ensures { Adds (line_data 1
         (label name.entry.now ∷ [])) result items.old.items items.new.items }
 {
-    one(1, Item::Label(name), items)
+    one(BAD_TOKEN, Item::Label(name), items)
 }
 
 // A line that breaks rule 1, with the label that these pieces begin with.
@@ -341,7 +351,7 @@ fn label_line<'a>(ps: &[Piece<'a>], items: &mut Vec<Item<'a>>) -> Result<u8, All
     if has_label(ps) {
         broken_label(name, items)
     } else {
-        nothing(1, items)
+        nothing(BAD_TOKEN, items)
     }
 }
 
@@ -357,7 +367,7 @@ fn uncut_line<'a>(
 {
     match cut_pieces(front, pieces) {
         Ok(()) => label_line(pieces.as_slice(), items),
-        Err(_) => nothing(1, items),
+        Err(_) => nothing(BAD_TOKEN, items),
     }
 }
 

@@ -11,7 +11,8 @@ pub struct Reference<'a> {
     pub size: u32,
 }
 
-/// The fields and the symbol of a row, and the least rule that the operands break; 15 is none.
+/// The fields and the symbol of a row, and the least rule that the operands break; 15, more than the number of each
+/// rule, where they break none.
 #[derive(Clone, Copy)]
 pub struct RowFields<'a> {
     pub fields: Fields,

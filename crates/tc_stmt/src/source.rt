@@ -10,7 +10,8 @@ use arrayvec::ArrayVec;
 use std::alloc::{AllocError, Global};
 use tc_lex::{Operand, Piece};
 
-/// A line that is read: the least rule that it breaks by itself (15 is none), and how many things it adds.
+/// A line that is read: the least rule that it breaks by itself (15, more than the number of each rule, where it breaks
+/// none), and how many things it adds.
 #[derive(Clone, Copy)]
 pub struct Line {
     pub rule: u8,

@@ -13,6 +13,7 @@ use crate::row_fields::RowFields;
 use crate::row_index::{first_row, first_rows, next_row, next_rows};
 use crate::row_wants::wants;
 use crate::same_bytes::is_same;
+use crate::source_rules::{EQUAL_REGISTERS, NO_RULE, UNKNOWN_STATEMENT, WRONG_OPERANDS};
 use crate::symbols::break_rule;
 use crate::tally::Tally;
 use crate::want::Want;
@@ -30,7 +31,7 @@ fn no_fields<'a>() -> RowFields<'a>
             n: 0,
             k: 0,
         },
-        rule: 15,
+        rule: NO_RULE,
         reference: None,
     }
 }
@@ -55,7 +56,7 @@ fn keep_apart(row: &Row, f: &mut RowFields<'_>)
     ensures { row_fields_of f.new ≡ kept_apart (row_of row.now) (row_fields_of f.old) }
 {
     if !parts_differ(row, &f.fields) {
-        break_rule(12, f);
+        break_rule(EQUAL_REGISTERS, f);
     }
 }
 
@@ -92,7 +93,7 @@ fn named_step<'a>(
             ..so_far
         }),
         Some(f) => {
-            if f.rule == 15 {
+            if f.rule == NO_RULE {
                 Ok(f)
             } else {
                 Err(Tally {
@@ -161,7 +162,7 @@ fn judge<'a>(
     let mut so_far = Tally {
         named: false,
         fits: false,
-        least: 15,
+        least: NO_RULE,
     };
     let mut i = first_row(first, name);
     'rows: while i < rows.len() {
@@ -178,9 +179,9 @@ fn rule_of(t: Tally) -> u8
     ensures { result ≡ rule_of t }
 {
     if t.named {
-        if t.fits { t.least } else { 3 }
+        if t.fits { t.least } else { WRONG_OPERANDS }
     } else {
-        2
+        UNKNOWN_STATEMENT
     }
 }
 

@@ -3,10 +3,12 @@ ghost use Rattle.std.specs.Prelude.{◌≡◌, ◌<◌, ◌^◌, true};
 ghost use Rattle.std.specs.List.{list_all};
 ghost use Rattle.tc_object.specs.Names.{is_further};
 ghost use Rattle.tc_stmt.specs.Names.{is_name};
+ghost use Rattle.tc_stmt.specs.SourceRules.{no_rule};
 ghost use Rattle.tc_lex.specs.Operands.{value_of};
 ghost use Rattle.tc_stmt.specs.RowFields.{row_fields_of, symbol_rule, with_rule, with_symbol, with_misplaced};
 
 use crate::row_fields::{Reference, RowFields};
+use crate::source_rules::{BAD_NAME, MISPLACED_SYMBOL, NO_RULE, WIDE_NUMBER};
 use tc_lex::{Value, is_text};
 use tcd_base::is_name_first;
 
@@ -35,18 +37,18 @@ pub fn is_name(bytes: &[u8]) -> bool
         && !is_text(bytes, ".")
 }
 
-/// The least rule that a symbol breaks anywhere; 15 is none.
+/// The least rule that a symbol breaks anywhere; 15, more than the number of each rule, where it breaks none.
 #[tactic(auto, unfolding(crate::specs::RowFields::symbol_rule))]
 pub fn symbol_rule(v: Value<'_>) -> u8
     ensures value { result ≡ symbol_rule (value_of v.entry) }
-    ensures small { result ≡ 15 → v.entry.size < 2 ^ 32 }
+    ensures small { result ≡ no_rule → v.entry.size < 2 ^ 32 }
 {
     if v.wide || 0x1_0000_0000 <= v.size {
-        5
+        WIDE_NUMBER
     } else if is_name(v.name) {
-        15
+        NO_RULE
     } else {
-        9
+        BAD_NAME
     }
 }
 
@@ -64,7 +66,7 @@ pub(crate) fn with_symbol<'a>(kind: u8, v: &Value<'a>, acc: &mut RowFields<'a>)
         ≡ with_symbol kind (value_of v.now) (row_fields_of acc.old) }
 {
     let rule = symbol_rule(*v);
-    if rule != 15 {
+    if rule != NO_RULE {
         break_rule(rule, acc);
         return;
     }
@@ -80,5 +82,5 @@ pub(crate) fn with_symbol<'a>(kind: u8, v: &Value<'a>, acc: &mut RowFields<'a>)
 pub(crate) fn misplace(v: &Value<'_>, acc: &mut RowFields<'_>)
     ensures { row_fields_of acc.new ≡ with_misplaced (value_of v.now) (row_fields_of acc.old) }
 {
-    break_rule(10u8.min(symbol_rule(*v)), acc);
+    break_rule(MISPLACED_SYMBOL.min(symbol_rule(*v)), acc);
 }
