@@ -11,7 +11,7 @@ pub record CertData : Type 0 where
   pub version : ℕ
   pub nodes : List NodeData
 
--- the keys of nodes, as key_numbers
+-- the keys of nodes, as numbers
 abbrev pub key_numbers : List NodeData → List ℕ
 key_numbers ns = map (λ n. number_of_key n.key) ns
 

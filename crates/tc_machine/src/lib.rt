@@ -2,7 +2,7 @@
 #![tactic(auto)]
 
 mod accesses;
-mod chains;
+mod areas_in_use;
 mod contexts;
 mod core_registers;
 mod events;
