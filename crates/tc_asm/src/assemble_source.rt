@@ -15,7 +15,7 @@ use crate::emit::finish;
 use crate::symbols::Symbols;
 use std::alloc::{AllocError, Global};
 use tc_object::Object;
-use tc_stmt::{Item, Line, Source, read_source};
+use tc_stmt::{Item, Line, NO_RULE, Source, read_source};
 
 // Puts things one behind the other.
 fn put_items<'a>(
@@ -55,7 +55,7 @@ fn add_items<'a>(
     ensures rule { IfOk result
         (λ rule. rule ≡ items_rule labels.now draft.old (map item_of items.now)) }
 {
-    let mut rule = 15;
+    let mut rule = NO_RULE;
     for item in items {
         rule = draft.put(alloc, labels, *item)?.min(rule);
     }
@@ -116,7 +116,7 @@ fn checked<'a>(
     for i in 0..lines.len() {
         let line = lines[i];
         let rule = add_line(alloc, &mut draft, labels, line, rest)?;
-        if rule != 15 {
+        if rule != NO_RULE {
             return Err(AsmErr::Bad {
                 line: (i + 1) as u32,
                 rule,

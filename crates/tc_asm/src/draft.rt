@@ -30,6 +30,12 @@ impl<'a> Model for Draft<'a> {
 // The most bytes that all sections have.
 const MOST_BYTES: usize = 0x100_0000;
 
+/// The most sections that a source has.
+pub(crate) const MOST_SECTIONS: usize = 64;
+
+// The number of the section that goes on where none does: past the number of each.
+const NO_NUMBER: usize = 64;
+
 impl<'a> Draft<'a> {
     ghost use Rattle.std.specs.Prelude.{◌≡◌, OnOk, option_map, replicate};
     ghost use Rattle.tc_stmt.specs.RowFields.{reference_of};
@@ -40,7 +46,7 @@ impl<'a> Draft<'a> {
         ensures { result ≡ start }
     {
         Draft {
-            section: 64,
+            section: NO_NUMBER,
             parts: Vec::new(alloc),
             symbols: Symbols::new(alloc),
             total: 0,
@@ -99,7 +105,7 @@ impl<'a> Draft<'a> {
             self.section = number;
             return Ok(());
         }
-        if self.parts.len() < 64 {
+        if self.parts.len() < MOST_SECTIONS {
             let bytes = Vec::new(alloc);
             let uses = Vec::new(alloc);
             self.section = self.parts.len();

@@ -7,7 +7,7 @@ use crate::draft::Draft;
 use crate::symbols::Symbols;
 use tc_encode::{Code, encode};
 use tc_isa::{Fields, Row, inst, rows};
-use tc_stmt::{Reference, RowFields, displaced};
+use tc_stmt::{NO_RULE, Reference, RowFields, displaced};
 
 /// The bytes of the row with this number and these fields; none where they are no listed instruction.
 pub(crate) fn code_of(row: u8, f: &Fields) -> Code
@@ -36,7 +36,7 @@ fn found<'a>(fields: Fields) -> RowFields<'a>
 {
     RowFields {
         fields,
-        rule: 15,
+        rule: NO_RULE,
         reference: None,
     }
 }

@@ -2,13 +2,16 @@
 ghost use Rattle.std.specs.Prelude.{◌≡◌};
 ghost use Rattle.tc_isa.specs.Relocations.{is_reloc as needs_reloc};
 
-use crate::draft::Draft;
+use crate::draft::{Draft, MOST_SECTIONS};
 use crate::encode::{code_of, first_bytes};
 use crate::sections::number_of_part;
 use crate::symbols::Symbols;
 use std::alloc::{AllocError, Global};
 use tc_isa::Fields;
-use tc_stmt::{Item, Reference, is_name};
+use tc_stmt::{
+    BAD_NAME, Item, LABEL_TWICE, NO_RULE, NO_SECTION, PAST_LIMITS, Reference, UNDEFINED_GLOBAL,
+    is_name,
+};
 
 /// Whether a symbol of this kind has a relocation.
 pub(crate) fn is_reloc(kind: u8) -> bool
@@ -28,26 +31,30 @@ impl<'a> Draft<'a> {
         ensures { result ≡ label_rule self.now name.now }
     {
         if self.symbols.place(name).is_some() {
-            7
+            LABEL_TWICE
         } else {
-            15
+            NO_RULE
         }
     }
 
     fn section_rule(&self) -> u8
         ensures { result ≡ section_rule self.now }
     {
-        if self.has_section() { 15 } else { 8 }
+        if self.has_section() {
+            NO_RULE
+        } else {
+            NO_SECTION
+        }
     }
 
     fn section_room(&self, name: &[u8]) -> u8
         ensures { result ≡ section_room self.now name.now }
     {
         let known = number_of_part(&self.parts, name) < self.parts.len();
-        if known || self.parts.len() < 64 {
-            15
+        if known || self.parts.len() < MOST_SECTIONS {
+            NO_RULE
         } else {
-            13
+            PAST_LIMITS
         }
     }
 
@@ -55,9 +62,9 @@ impl<'a> Draft<'a> {
         ensures { result ≡ symbol_room self.now name.now }
     {
         if self.symbols.len() < 65535 || self.symbols.get(name).is_some() {
-            15
+            NO_RULE
         } else {
-            13
+            PAST_LIMITS
         }
     }
 
@@ -65,23 +72,27 @@ impl<'a> Draft<'a> {
         ensures { result ≡ reloc_room self.now (reference_of r.entry) }
     {
         if is_reloc(r.kind) && self.count >= 65535 {
-            13
+            PAST_LIMITS
         } else {
-            15
+            NO_RULE
         }
     }
 
     fn bytes_room(&self, n: usize) -> u8
         ensures { result ≡ bytes_room self.now n }
     {
-        if self.has_room(n) { 15 } else { 13 }
+        if self.has_room(n) {
+            NO_RULE
+        } else {
+            PAST_LIMITS
+        }
     }
 
     fn reference_rule(&self, r: Option<Reference<'a>>) -> u8
         ensures { result ≡ reference_rule self.now (option_map reference_of r.entry) }
     {
         match r {
-            None => 15,
+            None => NO_RULE,
             Some(r) => self.symbol_room(r.name).min(self.reloc_room(r)),
         }
     }
@@ -96,16 +107,20 @@ impl<'a> Draft<'a> {
     fn name_rule(name: &[u8]) -> u8
         ensures { result ≡ name_rule name.now }
     {
-        if is_name(name) { 15 } else { 9 }
+        if is_name(name) { NO_RULE } else { BAD_NAME }
     }
 
     fn defined_rule(labels: &Symbols<'a>, name: &[u8]) -> u8
         ensures { result ≡ defined_rule labels.now name.now }
     {
-        if labels.place(name).is_some() { 15 } else { 14 }
+        if labels.place(name).is_some() {
+            NO_RULE
+        } else {
+            UNDEFINED_GLOBAL
+        }
     }
 
-    /// The least rule that a thing breaks behind these lines, where the whole source has these symbols; 15 is none.
+    /// The least rule that a thing breaks behind these lines, where the whole source has these symbols, or no rule.
     #[tactic(auto, unfolding(crate::specs::Rules::item_rule))]
     pub(crate) fn item_rule(&self, labels: &Symbols<'a>, item: Item<'a>) -> u8
         ensures { result ≡ item_rule labels.now self.now (item_of item.entry) }
@@ -155,7 +170,7 @@ impl<'a> Draft<'a> {
         Ok(rule)
     }
 
-    /// Puts one thing more, and tells the least rule that it breaks, where the whole source has these symbols; 15 is none.
+    /// Puts one thing more, and tells the least rule that it breaks, where the whole source has these symbols, or no rule.
     pub(crate) fn put(
         &mut self,
         alloc: Global,

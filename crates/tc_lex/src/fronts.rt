@@ -5,8 +5,8 @@ ghost use Rattle.tc_lex.specs.Bytes.{is_digit, is_hex, is_name_byte};
 ghost use Rattle.tc_lex.specs.Cut.{has_hex_front, number_len, front_of, front_at, IsWithin};
 
 use crate::bytes::{is_digit, is_hex, is_name_byte};
-use tcd_base::is_name_first;
 use crate::kinds::{Front, TokenKind};
+use tcd_base::is_name_first;
 
 fn digits_len(rest: &[u8]) -> usize
     ensures value { result ≡ prefix_len is_digit rest.now }

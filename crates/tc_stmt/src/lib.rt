@@ -25,6 +25,7 @@ pub use laws::statement_laws;
 pub use row_fields::{Reference, RowFields};
 pub use row_wants::wants;
 pub use source::{Line, Source, read_source};
+pub use source_rules::{BAD_NAME, LABEL_TWICE, NO_RULE, NO_SECTION, PAST_LIMITS, UNDEFINED_GLOBAL};
 pub use statement_row::statement;
 pub use symbols::{is_name, symbol_rule};
 pub use value_shapes::shape_index;

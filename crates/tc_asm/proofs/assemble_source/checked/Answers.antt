@@ -17,10 +17,10 @@ loop-i-preserved c =
       rest = behind_here (lines_of c.args.source.now) c.loop-i.i _ _ here ∙ read_behind lines c.loop-i.i _ c.loop-i.rest.now (omega arith) _ c.later_items-rest.ensures;
     }
 
-pub returns-then-rule-ne15-clause-bad : goal.returns-then-rule-ne15-clause-bad
-returns-then-rule-ne15-clause-bad c =
+pub returns-then-rule-ne-NO_RULE-clause-bad : goal.returns-then-rule-ne-NO_RULE-clause-bad
+returns-then-rule-ne-NO_RULE-clause-bad c =
     let here = read_here c.as_slice-lines.result.now c.loop-i.i _ c.loop-i.rest.now (omega arith) (lines_of c.args.source.now) c.loop-i.invariant.rest in
-    least_here (lines_of c.args.source.now) c.loop-i.i _ _ here c.args.labels.now c.loop-i.draft _ c.requires.labels c.loop-i.invariant.so_far c.in_ok-rule.ensures.rule c.if-rule-ne15.true c.loop-i.invariant.kept
+    least_here (lines_of c.args.source.now) c.loop-i.i _ _ here c.args.labels.now c.loop-i.draft _ c.requires.labels c.loop-i.invariant.so_far c.in_ok-rule.ensures.rule c.if-rule-ne-NO_RULE.true c.loop-i.invariant.kept
 
 pub returns-clause-ok : goal.returns-clause-ok
 returns-clause-ok c =
