@@ -2,7 +2,7 @@
 use Rattle.std.proofs.Common.{◌≡◌, ◌<◌, ◌≤◌, ◌+◌, ◌^◌, ◌&&◌, ◌++◌, ℕ, zero, suc, Bool, true, List, [], ◌∷◌, length, map, Option, None, Some, refl, ap, arith}
 use Rattle.std.specs.Prelude.{is_some, All}
 use Rattle.std.specs.Bool.{then_some}
-use Rattle.tc_object.specs.Names.{IsName, name_of, is_length}
+use Rattle.tc_object.specs.Names.{name_of, is_length}
 use Rattle.tc_object.specs.Names as object
 use Rattle.tc_object.specs.Objects.{InTurn}
 use Rattle.std.proofs.lemmas.Bool.{le-leb}

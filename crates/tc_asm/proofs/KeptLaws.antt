@@ -8,7 +8,7 @@ use Rattle.std.specs.Str.{bytes_eq}
 use Rattle.std.proofs.lemmas.List.{length-map, map-append}
 use Rattle.std.proofs.lemmas.Bool.{and_parts, ltb-true, leb-true, lt-ltb}
 use Rattle.std.proofs.lemmas.Bool.Decides.{Decides-eqb}
-use Rattle.tc_object.specs.Names.{IsName, name_of, is_length}
+use Rattle.tc_object.specs.Names.{name_of, is_length}
 use Rattle.tc_object.specs.Names as object
 use Rattle.tc_stmt.specs.Names.{is_name}
 use Rattle.tc_stmt.specs.RowFields.{ReferenceData}

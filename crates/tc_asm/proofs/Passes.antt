@@ -1,6 +1,6 @@
 -- One line more.
 use Rattle.std.proofs.Common.{◌≡◌, ◌≢◌, ◌<◌, ◌≤◌, ◌+◌, ℕ, List, [], ◌∷◌, map, length, get_or, take, drop, min, refl, ap, sym, subst, ◌∙◌, inl, inr, arith, length-drop, get_or-drop}
-use Rattle.std.specs.Prelude.{fold, ◌==◌}
+use Rattle.std.specs.Prelude.{fold}
 use Rattle.std.proofs.lemmas.List.{length-map, get_or-map, drop_more, drop_all, drop-drop, take_all, take-map}
 use Rattle.std.specs.List.{drop-map}
 use Rattle.std.proofs.lemmas.List.Sums.{fold_more}
@@ -20,7 +20,6 @@ use Rattle.tc_asm.specs.Symbols.{SymbolData}
 use Rattle.tc_asm.specs.Drafts.{DraftData, start, stepped}
 use Rattle.tc_asm.specs.Rules.{item_rule}
 use Rattle.tc_asm.specs.Sources.{items_rule, with_line, line_rule, drafted, rule_in, symbols_of, KeepsRules, IsLeast}
-use Rattle.tc_stmt.proofs.ReadLines.{length-lines_read}
 
 -- the line at a place, with those behind it
 module _ (ls : List LineData) (i : ℕ) (x : LineData) (zs : List LineData) (here : drop i ls ≡ x ∷ zs) where

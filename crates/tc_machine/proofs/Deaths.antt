@@ -1,7 +1,6 @@
 -- A machine that dies of another cause than Fcd changes only its end.
-use Rattle.std.proofs.Common.{◌≡◌, ◌≢◌, ℕ, ◌-◌, ◌%◌, Bool, true, false, cond, set, Result, Ok, Err, refl, sym, ap, ◌∙◌, ◌==◌, nat_lt}
+use Rattle.std.proofs.Common.{◌≡◌, ◌≢◌, ℕ, ◌-◌, Bool, true, false, set, Result, Ok, Err, refl, sym, ap, ◌∙◌, ◌==◌, nat_lt}
 use Rattle.std.proofs.lemmas.Bool.{cond_both}
-use Rattle.std.specs.Prelude.{not, ◌&&◌}
 use Rattle.csa_chain.specs.Chain.{link_in, is_area}
 use Rattle.tc_isa.specs.declared.shapes.Arg.{Arg}
 use Rattle.tc_isa.specs.declared.shapes.Arg.TheVariants.{Reg, Word}
@@ -16,7 +15,7 @@ use Rattle.tc_machine.specs.declared.state.Machine.{Machine}
 use Rattle.tc_machine.specs.Machine.{with_reg, with_status, died, goes_on, then_}
 use Rattle.tc_machine.specs.Contexts.{saved, save, has_kind, restored, restore}
 use Rattle.tc_machine.specs.Fetching.{fetched}
-use Rattle.tc_machine.specs.Instructions.{interrupt, trap, access_address, with_base, traps_at, misaligned, with_core_register, lowered, does}
+use Rattle.tc_machine.specs.Instructions.{trap, access_address, with_base, traps_at, with_core_register, lowered, does}
 use Rattle.tc_machine.specs.Stepping.{is_taken, executed, done, step}
 use Rattle.tc_machine.specs.MachineLaws.{DeathChanges}
 

@@ -1,5 +1,5 @@
 -- What holds of the memory of every plan: its ranges, its save areas and their links.
-use Rattle.std.proofs.Common.{◌≡◌, ◌≢◌, ℕ, zero, suc, ◌+◌, ◌*◌, ◌/◌, ◌%◌, ◌^◌, ◌<◌, ◌≤◌, ◌⊎◌, inl, inr, true, ◌&&◌, List, [], ◌∷◌, ◌++◌, map, length, get_or, refl, sym, ap, ◌∙◌, arith, nat_le, nat_lt, ◌==◌}
+use Rattle.std.proofs.Common.{◌≡◌, ◌≢◌, ℕ, zero, suc, ◌+◌, ◌*◌, ◌/◌, ◌%◌, ◌^◌, ◌<◌, ◌≤◌, ◌⊎◌, inl, inr, List, [], ◌∷◌, length, get_or, refl, sym, ap, ◌∙◌, arith}
 use Rattle.std.proofs.lemmas.Bool.{cases_lt}
 use Rattle.csa_chain.specs.Memory.{Memory, with_words}
 use Rattle.csa_chain.specs.Chain.{link_address}
@@ -7,8 +7,6 @@ use Rattle.csa_chain.proofs.MemoryLaws.{get-with_words_other}
 use Rattle.csa_chain.proofs.ChainLaws.{Avoids, Distinct, reverse_onto}
 use Rattle.elf_image.specs.Images.{ImageData}
 use Rattle.tcd_plan.specs.PlanData.{PlanData, IsPlan}
-use Rattle.tcd_base.specs.Ranges.{IsInOne}
-use Rattle.tcd_plan.specs.Regions.{IsInAreas}
 use Rattle.tcd_plan.proofs.ApartLaws.{rom_apart}
 use Rattle.tc_machine.specs.PlanAreas.{links_up, first_link}
 use Rattle.tc_mem.specs.PlanMemory.{HoldsRom}

@@ -1,10 +1,9 @@
 -- The instruction at pc, and the bytes that loads and stores reach.
-use Rattle.std.specs.Prelude.{ℕ, zero, suc, ◌+◌, ◌*◌, ◌/◌, ◌%◌, ◌^◌, Bool, ◌==◌, if◌then◌else◌, List, [], ◌∷◌, Option, Some, None, Result, Ok, Err, unwrap_or}
+use Rattle.std.specs.Prelude.{ℕ, zero, suc, ◌+◌, ◌%◌, ◌^◌, ◌==◌, if◌then◌else◌, List, [], ◌∷◌, Option, Some, None, Result, Ok, Err}
 use Rattle.std.specs.FinMap as map
-use Rattle.csa_chain.specs.Memory.{Memory, with_byte}
+use Rattle.csa_chain.specs.Memory.{Memory}
 use Rattle.tc_isa.specs.Insts.{InstData}
 use Rattle.tc_isa.specs.Shapes.{shape_of}
-use Rattle.tc_isa.specs.Arithmetic.{sign_extended}
 use Rattle.tc_isa.specs.declared.shapes.Shape.{Shape}
 use Rattle.tc_encode.specs.Decoding.{decoded_of}
 use Rattle.tc_encode.specs.declared.errors.DecodeErr.{DecodeErr}

@@ -1,6 +1,5 @@
 -- What answers for the devices.
-use Rattle.std.specs.Prelude.{ℕ, ◌+◌, ◌^◌, ◌<◌, ◌≤◌, ◌&&◌, nat_le, Bool, List, All}
-use Rattle.tcd_base.specs.declared.range.Range.{Range}
+use Rattle.std.specs.Prelude.{ℕ, ◌^◌, ◌<◌, ◌≤◌, List, All}
 use Rattle.tcd_plan.specs.declared.plans.Device.{Device}
 use Rattle.tcd_base.specs.Ranges.{IsWithin}
 

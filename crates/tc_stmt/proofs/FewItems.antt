@@ -1,5 +1,5 @@
 -- A line adds few things: as many as a byte counts.
-use Rattle.std.proofs.Common.{◌≡◌, ◌≤◌, ◌+◌, ◌&&◌, ◌==◌, ℕ, List, [], ◌∷◌, length, take, drop, map, Option, Some, None, Result, Ok, Err, refl, length-drop, arith}
+use Rattle.std.proofs.Common.{◌≡◌, ◌≤◌, ◌+◌, ◌==◌, ℕ, List, [], ◌∷◌, length, take, drop, map, Option, Some, None, Result, Ok, Err, refl, length-drop, arith}
 use Rattle.std.specs.Prelude.{codes}
 use Rattle.std.specs.List.{slice_split}
 use Rattle.std.specs.Option.{option_map_or}

@@ -1,6 +1,6 @@
 -- Steps of loops over lists that are seen as other lists.
 use Rattle.std.proofs.Common.{◌≡◌, ◌≢◌, ◌<◌, ◌≤◌, ◌+◌, ◌++◌, min, ℕ, zero, suc, Bool, true, false, cond, List, [], ◌∷◌, length, get_or, take, drop, map, None, Some, refl, ap, sym, ◌∙◌, append_assoc, arith}
-use Rattle.std.specs.Prelude.{fold, count_by, position, nat_lt, slice_get, ◌==◌}
+use Rattle.std.specs.Prelude.{fold, position, nat_lt, slice_get, ◌==◌}
 use Rattle.std.specs.List.{slice_split, position_or_len}
 use Rattle.std.proofs.lemmas.List.Splits.{slice_split_first, slice_split_none}
 use Rattle.std.proofs.lemmas.Bool.{ltb-true, ltb-false}

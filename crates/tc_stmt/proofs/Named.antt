@@ -1,5 +1,5 @@
 -- A name, where one is.
-use Rattle.std.proofs.Common.{◌≡◌, Bool, true, false, List, refl}
+use Rattle.std.proofs.Common.{◌≡◌, Bool, true, false, refl}
 use Rattle.std.specs.Prelude.{is_some}
 use Rattle.std.specs.Bool.{then_some}
 

@@ -3,8 +3,7 @@ use Rattle.std.proofs.Common.{◌≡◌, ℕ, List, [], map, take, Result, Ok, E
 use Rattle.tc_lex.specs.declared.kinds.Token.{Token}
 use Rattle.tc_lex.specs.Cut.{tokens_of}
 use Rattle.tc_lex.specs.Pieces.{PieceData, pieces_of, piece_in}
-use Rattle.tc_stmt.specs.Items.{ItemData}
-use Rattle.tc_stmt.specs.Lines.{LineData, line_data, pieces_line, label_of, label_before, cut_line}
+use Rattle.tc_stmt.specs.Lines.{line_data, pieces_line, label_of, label_before, cut_line}
 
 pub label_pieces : (text : List ℕ) (r : Result (List Token) ℕ) (ps : List PieceData) → pieces_of text r ≡ Ok ps → label_before text r ≡ label_of ps
 label_pieces text (Ok ts) ps e = let same : map (piece_in text) ts ≡ ps = cc in ap label_of same

@@ -24,7 +24,7 @@ use Rattle.tc_stmt.specs.Names.{is_name}
 use Rattle.tc_lex.specs.Operands.{ValueData, OperandData}
 use Rattle.tc_stmt.specs.Wants.{want_of, wants_of}
 use Rattle.tc_stmt.specs.RowFields.{ReferenceData, RowFieldsData, no_fields, with_rule, set_field, field_of, with_value, shape_index, register_of, put_register, fits, wrap, put_number, symbol_rule, reference, with_symbol, half_kind, is_symbol, is_half, fill_value, fill_memory, is_far, is_odd, displacement_rule, with_displacement, target_kind, fill_target, put_absolute, fill_absolute, fill_register, fill_a10, fill_plain, fill, fill_all, kept_apart, fields_of_row}
-use Rattle.tc_stmt.specs.StatementRow.{after_row, outcome, or_next, rule_of, statement}
+use Rattle.tc_stmt.specs.StatementRow.{after_row, outcome, or_next, statement}
 use Rattle.tc_stmt.specs.StatementRow as judging
 use Rattle.tc_isa.specs.Relocations.{is_reloc, fills}
 use Rattle.tc_stmt.specs.Stated.{is_short_jump, TakesSymbol, Symbols, Stated, IsStated, StatedLaw}

@@ -1,5 +1,5 @@
 -- What a line is by itself.
-use Rattle.std.specs.Prelude.{◌≡◌, ℕ, ◌+◌, ◌++◌, IfOk, ◌==◌, ◌&&◌, nat_le, min, Bool, false, if◌then◌else◌, List, [], ◌∷◌, codes, take, drop, length, map, fold, find, slice_range, Option, Some, None, Result, Ok, Err}
+use Rattle.std.specs.Prelude.{◌≡◌, ℕ, ◌+◌, ◌++◌, IfOk, ◌==◌, ◌&&◌, min, Bool, false, if◌then◌else◌, List, [], ◌∷◌, codes, take, drop, length, map, fold, find, Option, Some, None, Result, Ok, Err}
 use Rattle.std.specs.Option.{option_map_or}
 use Rattle.std.specs.List.{flat_map, slice_split}
 use Rattle.std.specs.Str.{bytes_eq}

@@ -1,5 +1,5 @@
 -- What a source is that was read.
-use Rattle.std.specs.Prelude.{◌≡◌, List, [], ◌∷◌, ◌++◌, length, map, take, drop}
+use Rattle.std.specs.Prelude.{◌≡◌, List, [], ◌∷◌, length, map, take, drop}
 use Rattle.tc_stmt.specs.declared.source.Line.{Line}
 use Rattle.tc_stmt.specs.declared.source.Source.{Source}
 use Rattle.tc_stmt.specs.declared.item.Item.{Item}

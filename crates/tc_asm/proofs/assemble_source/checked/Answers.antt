@@ -1,4 +1,4 @@
-use Rattle.std.proofs.Common.{◌≡◌, ◌≤◌, length, map, ap, ◌∙◌, arith}
+use Rattle.std.proofs.Common.{◌≡◌, length, map, ap, ◌∙◌, arith}
 use Rattle.tc_stmt.specs.Items.{item_of}
 use Rattle.tc_stmt.specs.Readings.{lines_of}
 use Rattle.tc_asm.proofs.Passes.{drafted_more, kept_more, least_here, behind_here, read_here, read_behind, drafted_end}

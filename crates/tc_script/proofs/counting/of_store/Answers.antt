@@ -1,4 +1,4 @@
-use Rattle.std.proofs.Common.{arith, inl, inr, sym}
+use Rattle.std.proofs.Common.{arith, inl, inr}
 use Rattle.tc_script.proofs.AreaLaws.{told_store}
 use Rattle.tc_script.proofs.counting.of_store.Goals as goal
 

@@ -1,4 +1,3 @@
-use Rattle.std.proofs.Common.{◌≡◌}
 use Rattle.tc_script.specs.AreaRows.{IsCounted}
 use Rattle.tc_script.proofs.Runs.{DrivenSoFar}
 use Rattle.tc_script.proofs.driving.drive.Given as goal
