@@ -46,14 +46,14 @@ pub fn local_check(
         return Err(3);
     };
     let shape = shape(&found.0);
-    let located = Located {
-        shape,
-        size: found.1,
-        at: address_by(b, plan, shape, s),
-    };
-    match first_fault(b, plan, key, s, shape, &located.at) {
+    let at = address_by(b, plan, shape, s);
+    match first_fault(b, plan, key, s, shape, &at) {
         Some(rule) => Err(rule),
-        None => Ok(located),
+        None => Ok(Located {
+            shape,
+            size: found.1,
+            at,
+        }),
     }
 }
 

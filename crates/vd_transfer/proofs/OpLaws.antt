@@ -9,7 +9,7 @@ use Rattle.std.proofs.lemmas.Nat.{shl_below, shr_le, or_of_32, xor_of_32, and_le
 use Rattle.value_domain.specs.declared.values.Val.{Val}
 use Rattle.value_domain.specs.declared.values.Val.TheVariants.{Set, Span}
 use Rattle.value_domain.specs.Sets.{Among, Within, Rising}
-use Rattle.value_domain.specs.Limits.{Limits}
+use Rattle.value_domain.specs.Limits.{Limits, AreLimits}
 use Rattle.value_domain.specs.Values.{IsMember, IsWell, IsValue, IsBelow, IsExtent, cover, members, range, count_in, first_in}
 use Rattle.value_domain.proofs.SetLaws.{length_within}
 use Rattle.value_domain.proofs.CoverLaws.{cover-same, cover_holds, cover_mono, cover_own, cover_step, among_member, member_among, has_step, range_among, among_range, rising_multiples, unit_some, length-multiples}
@@ -17,7 +17,7 @@ use Rattle.value_domain.specs.declared.lattice.Extent.{Extent}
 use Rattle.vd_transfer.specs.declared.strided_interval.StridedInterval.{StridedInterval}
 use Rattle.value_domain.proofs.Loops.{among_get}
 use Rattle.value_domain.proofs.ExtentLaws.{cover-part, extent_only, extent_rising, append_left, append_right, among_append, some_length}
-use Rattle.value_domain.proofs.RangeLaws.{words_more, members_below, some_members, span_count, set_value}
+use Rattle.value_domain.proofs.RangeLaws.{words_more, members_below, some_members, span_count, set_value, cover-one}
 use Rattle.tc_isa.specs.declared.shapes.Op.{Op}
 use Rattle.tc_isa.specs.declared.shapes.Op.TheVariants.{Second, Add, Sub, And, Nand, Or, Nor, Xor, Xnor, Andn, Orn, Eq, Ne, Lt, LtU, Ge, GeU, Sh, Sha}
 use Rattle.tc_isa.specs.Arithmetic.{alu_of, shift_by, shifted_signed, complement, one_if, signed_place}
@@ -578,6 +578,16 @@ pairs_first b op xs ys some_x some_y =
       | inr j ↦ j
     ])
     (λ z i. inr i)
+
+-- the value of a word and a word is the word that they give
+pub pair_one : (b : Limits) (op : Op) (xs ys : List ℕ) → AreLimits b → length xs ≡ 1 → length ys ≡ 1 → alu_of op (get_or xs 0 0) (get_or ys 0 0) < 2 ^ 32
+    → Set (alu_of op (get_or xs 0 0) (get_or ys 0 0) ∷ []) ≡ cover b (pairs op xs ys)
+unfolding pairs
+pair_one b op [] ys limits left right small = absurd (omega (arith, left))
+pair_one b op (x ∷ xs) [] limits left right small = absurd (omega (arith, right))
+pair_one b op (x ∷ []) (y ∷ []) limits left right small = cover-one b (alu_of op x y) limits small
+pair_one b op (x ∷ []) (y ∷ z ∷ ys) limits left right small = absurd (omega (arith, right))
+pair_one b op (x ∷ w ∷ xs) (y ∷ ys) limits left right small = absurd (omega (arith, left))
 
 pub pairs-none : (op : Op) (x : ℕ) (ys : List ℕ) → x ∷ [] ≡ x ∷ pairs op [] ys
 unfolding pairs

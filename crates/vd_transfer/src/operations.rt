@@ -25,8 +25,34 @@ pub fn operation(b: &Bounds, op: Op, v: &Val, w: &Val) -> Val
     }
 }
 
-/// The results of all pairs, collected row by row.
+/// The results of all pairs: at once where there is one.
 fn all_pairs(b: &Bounds, op: Op, xs: &[u32], ys: &[u32]) -> Val
+    requires left { 1 ≤ length xs.now }
+    requires right { 1 ≤ length ys.now }
+    requires few { length ys.now ≤ 128 }
+    ensures cover { result ≡ cover b.now (pairs op xs.now ys.now) }
+    ensures value { IsValue b.now result }
+{
+    if xs.len() == 1 && ys.len() == 1 {
+        return one_pair(b, op, xs, ys);
+    }
+    many_pairs(b, op, xs, ys)
+}
+
+/// The result of a word and a word.
+fn one_pair(b: &Bounds, op: Op, xs: &[u32], ys: &[u32]) -> Val
+    requires left { length xs.now ≡ 1 }
+    requires right { length ys.now ≡ 1 }
+    ensures cover { result ≡ cover b.now (pairs op xs.now ys.now) }
+    ensures value { IsValue b.now result }
+{
+    let _most_words = b.most_words();
+    Val::one(alu(op, xs[0], ys[0]))
+}
+
+/// The results of all pairs, collected row by row. The words that were met lately have a table, which is to be filled.
+#[inline(never)]
+fn many_pairs(b: &Bounds, op: Op, xs: &[u32], ys: &[u32]) -> Val
     requires left { 1 ≤ length xs.now }
     requires right { 1 ≤ length ys.now }
     requires few { length ys.now ≤ 128 }

@@ -3,7 +3,7 @@ use Rattle.std.proofs.lemmas.List.{take_all}
 use Rattle.value_domain.specs.Values.{cover}
 use Rattle.value_domain.proofs.RangeLaws.{one_value, cover-one}
 use Rattle.vd_transfer.proofs.OpLaws.{pairs_more, pairs_first, pairs-none, met_one}
-use Rattle.vd_transfer.proofs.operations.all_pairs.Goals as goal
+use Rattle.vd_transfer.proofs.operations.many_pairs.Goals as goal
 
 pub loop-x-init : goal.loop-x-init
 loop-x-init c =

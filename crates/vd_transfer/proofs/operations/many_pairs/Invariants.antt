@@ -2,7 +2,7 @@ use Rattle.std.proofs.Common.{◌≡◌, ◌∷◌, take, get_or}
 use Rattle.value_domain.specs.Values.{cover, IsValue}
 use Rattle.tc_isa.specs.Arithmetic.{alu_of}
 use Rattle.vd_transfer.specs.Operations.{pairs, HasMet}
-use Rattle.vd_transfer.proofs.operations.all_pairs.Given as goal
+use Rattle.vd_transfer.proofs.operations.many_pairs.Given as goal
 
 abbrev pub invariant-loop-x : goal.invariant-loop-x
 invariant-loop-x l = record {
