@@ -1,7 +1,7 @@
 -- Bytes that stand at two places are read alike.
-use Rattle.std.proofs.Common.{◌≡◌, ℕ, zero, suc, ◌+◌, ◌*◌, ◌<◌, ◌≤◌, ◌^◌, List, [], ◌∷◌, ◌++◌, length, get_or, take, drop, true, false, Ok, Result, cond, refl, sym, ap, ◌∙◌, subst, arith, append_assoc, length-append, eqb, leb}
+use Rattle.std.proofs.Common.{◌≡◌, ℕ, zero, suc, ◌+◌, ◌-◌, ◌*◌, ◌<◌, ◌≤◌, ◌^◌, List, [], ◌∷◌, ◌++◌, length, get_or, take, drop, true, false, Ok, Result, cond, refl, sym, ap, ◌∙◌, subst, arith, append_assoc, length-append, eqb, leb}
 use Rattle.std.proofs.lemmas.Bool.{le-leb, lt-leb, ne_eqb}
-use Rattle.std.proofs.lemmas.List.{append-nil, take-append-drop, length-take, get_or-drop, drop_more}
+use Rattle.std.proofs.lemmas.List.{append-nil, take-append-drop, take-take, drop-drop, drop-take, length-take, get_or-drop, drop_more}
 use Rattle.std.proofs.Math.Seq.{take-append_seam}
 use Rattle.std.specs.List.{flat_map}
 use Rattle.tcd_base.specs.declared.errors.FormErr.{FormErr}
@@ -18,7 +18,7 @@ use Rattle.depth_cert.specs.Spelling.{bytes_of_value}
 use Rattle.tcd_base.proofs.PassedLaws.{AreBytes, bytes_from, Passed, ok_pair}
 use Rattle.depth_cert.proofs.GrammarLaws.{value_passed}
 use Rattle.depth_cert.proofs.WrittenLaws.{IsRead, value_cases}
-use Rattle.packed_cert.specs.Standing.{at, length_by, behind, Stand}
+use Rattle.packed_cert.specs.Standing.{at, length_by, behind, Stand, StandAlike}
 
 -- all bytes are below 256
 abbrev pub Small : List ℕ → Type 0
@@ -136,13 +136,25 @@ pub stand_next : (version : ℕ) (bytes : List ℕ) (b i : ℕ) (out : List Val)
     → (value_at version (at bytes b) ≡ Ok (get_or out i any_val, at bytes (behind bytes b))) × Stand version bytes (behind bytes b) (drop (i + 1) out)
 stand_next version bytes b i out h s = subst (Stand version bytes b) (drop_more out i any_val h) s
 
--- where the same bytes come again, the same value is read
-pub same_read : (version : ℕ) (bytes : List ℕ) (x n : ℕ) (v : Val) (q c d : Place) → Small bytes → x ≤ length bytes → value_at version (at bytes x) ≡ Ok (v, q) → c.bytes ≡ bytes
-    → n ≡ length_by (get_or bytes x 0) → (d ≡ record c { place = c.place + n }) × (c.place + n ≤ length bytes) × (take n (drop x bytes) ≡ take n (drop c.place bytes)) → value_at version c ≡ Ok (v, d)
-same_read version bytes x n v q c d small h e b len m =
+-- ---- fewer of the bytes that stand alike, and those behind them
+pub alike_fewer : (bytes : List ℕ) (x y n k : ℕ) → n ≤ k → StandAlike bytes x y k → StandAlike bytes x y n
+alike_fewer bytes x y n k h e = sym (take-take n k (drop x bytes) h) ∙ ap (take n) e ∙ take-take n k (drop y bytes) h
+
+pub alike_behind : (bytes : List ℕ) (x y n k : ℕ) → n ≤ k → StandAlike bytes x y k → StandAlike bytes (x + n) (y + n) (k - n)
+alike_behind bytes x y n k h e =
+    let all : k ≡ n + (k - n) = omega arith in
+    let whole : StandAlike bytes x y (n + (k - n)) = subst (λ (m : ℕ). StandAlike bytes x y m) all e in
+    ap (take (k - n)) (sym (drop-drop n x bytes))
+    ∙ sym (drop-take n (k - n) (drop x bytes))
+    ∙ ap (drop n) whole
+    ∙ drop-take n (k - n) (drop y bytes)
+    ∙ ap (take (k - n)) (drop-drop n y bytes)
+
+-- a value whose bytes are among those that stand alike is read there, too
+pub alike_read : (version : ℕ) (bytes : List ℕ) (x y n k : ℕ) (v : Val) (q : Place) → Small bytes → x ≤ length bytes → value_at version (at bytes x) ≡ Ok (v, q) → n ≡ length_by (get_or bytes x 0)
+    → n ≤ k → y + k ≤ length bytes → StandAlike bytes x y k → value_at version (at bytes y) ≡ Ok (v, at bytes (y + n))
+alike_read version bytes x y n k v q small h e len few room same =
     let s = value_stands version bytes x v q small h e in
-    let there : c ≡ at bytes c.place = ap (λ (l : List ℕ). at l c.place) b in
-    let after : at bytes (c.place + length_by (get_or bytes x 0)) ≡ d = ap (λ (k : ℕ). at bytes (c.place + k)) (sym len) ∙ ap (λ (l : List ℕ). at l (c.place + n)) (sym b) ∙ sym m.0 in
-    ap (value_at version) there
-    ∙ s.same c.place (rw (← len) m.1) (rw (← len) m.2)
-    ∙ ap (λ (p : Place). let r : Result (Val × Place) FormErr = Ok (v, p) in r) after
+    let part = alike_fewer bytes x y n k few same in
+    let within : y + n ≤ length bytes = omega arith in
+    rw len (s.same y (rw (← len) within) (rw (← len) part))

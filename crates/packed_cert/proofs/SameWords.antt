@@ -2,6 +2,7 @@
 use Rattle.std.proofs.Common.{◌≡◌, ℕ, ◌+◌, ◌*◌, ◌<◌, ◌≤◌, ◌^◌, List, length, get_or, take, drop, refl, sym, ap, ◌∙◌, subst, arith, length-append}
 use Rattle.std.proofs.lemmas.List.{take_more_same, take-append-drop, length-take, get_or-drop}
 use Rattle.tcd_base.specs.Bytes.{word_at}
+use Rattle.packed_cert.specs.Standing.{eight_at, StandAlike}
 use Rattle.packed_cert.proofs.SameBytes.{Small}
 
 drop_length : (bytes : List ℕ) (x i : ℕ) → x + i < length bytes → i < length (drop x bytes)
@@ -39,3 +40,25 @@ word_more bytes x y i small h k same e =
     let two = byte_more bytes x y (i + 1) (i + 2) (p + 1) (q + 1) (omega arith) (omega arith) (omega arith) (omega arith) (omega arith) one parts.1 in
     let three = byte_more bytes x y (i + 2) (i + 3) (p + 2) (q + 2) (omega arith) (omega arith) (omega arith) (omega arith) (omega arith) two parts.2 in
     byte_more bytes x y (i + 3) (i + 4) (p + 3) (q + 3) (omega arith) (omega arith) (omega arith) (omega arith) (omega arith) three parts.3
+
+word_below : (bytes : List ℕ) (p : ℕ) → Small bytes → word_at bytes p < 4294967296
+word_below bytes p small = omega (arith, small p, small (p + 1), small (p + 2), small (p + 3))
+
+same_halves : (a b c d : ℕ) → a < 4294967296 → c < 4294967296 → a + b * 4294967296 ≡ c + d * 4294967296 → (a ≡ c) × (b ≡ d)
+same_halves a b c d h k e =
+    let low : a ≡ c = omega arith in
+    (low, omega arith)
+
+-- eight bytes more
+pub eight_more : (bytes : List ℕ) (x y i : ℕ) → Small bytes → x + i + 8 ≤ length bytes → y + i + 8 ≤ length bytes → StandAlike bytes x y i → eight_at bytes (x + i) ≡ eight_at bytes (y + i)
+    → StandAlike bytes x y (i + 8)
+eight_more bytes x y i small h k same e =
+    let p = x + i in
+    let q = y + i in
+    let parts = same_halves (word_at bytes p) (word_at bytes (p + 4)) (word_at bytes q) (word_at bytes (q + 4)) (word_below bytes p small) (word_below bytes q small) e in
+    let one : StandAlike bytes x y (i + 4) = word_more bytes x y i small (omega arith) (omega arith) same parts.0 in
+    let first : x + (i + 4) ≡ p + 4 = omega arith in
+    let second : q + 4 ≡ y + (i + 4) = omega arith in
+    let next = ap (λ (n : ℕ). word_at bytes n) first ∙ parts.1 ∙ ap (λ (n : ℕ). word_at bytes n) second in
+    let all : i + 4 + 4 ≡ i + 8 = omega arith in
+    subst (λ (n : ℕ). StandAlike bytes x y n) all (word_more bytes x y (i + 4) small (omega arith) (omega arith) one next)

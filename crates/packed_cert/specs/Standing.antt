@@ -1,5 +1,6 @@
 -- Values where they stand in bytes.
 use Rattle.std.specs.Prelude.{◌≡◌, ◌≤◌, ◌+◌, ◌*◌, ◌==◌, nat_le, if◌then◌else◌, ℕ, zero, suc, Bool, List, [], ◌∷◌, length, take, drop, slice_index, Ok}
+use Rattle.tcd_base.specs.Bytes.{word_at}
 use Rattle.tcd_base.specs.Place.{Place}
 use Rattle.value_domain.specs.declared.values.Val.{Val}
 use Rattle.depth_cert.specs.Grammar.{value_at}
@@ -29,6 +30,14 @@ Stand version bytes place (v ∷ vs) = (value_at version (at bytes place) ≡ Ok
 -- they stand from a place in the bytes on
 abbrev pub StandFrom : ℕ → List ℕ → List Val → ℕ → Type 0
 StandFrom version bytes vs x = (x ≤ length bytes) × Stand version bytes x vs
+
+-- the eight bytes from a place on, as a number
+abbrev pub eight_at : List ℕ → ℕ → ℕ
+eight_at bytes place = word_at bytes place + word_at bytes (place + 4) * 4294967296
+
+-- the same n bytes stand at two places
+abbrev pub StandAlike : List ℕ → ℕ → ℕ → ℕ → Type 0
+StandAlike bytes x y n = take n (drop x bytes) ≡ take n (drop y bytes)
 
 -- a cursor moved over n bytes, and the same stand from x on
 abbrev pub MovedOver : List ℕ → ℕ → ℕ → Place → Place → Type 0

@@ -58,6 +58,7 @@ fn are_among(own: &[u32], bytes: &[u8], place: usize, n: usize) -> bool
         if k == n || word(bytes, place + 4 * k) != *x {
             return false;
         }
+        k += 1;
     }
     true
 }

@@ -17,40 +17,40 @@ use std::alloc::Global;
 use tcd_base::{Cursor, FormErr, read_u8, read_u32};
 use value_domain::{State, Val};
 
-/// Reads values; where some stand from a place on, they lie in `out` already.
+/// Reads values; where some stand at places of a state, they lie in `out` already.
 fn read_values_like(
     c: &mut Cursor<'_>,
     bytes: &[u8],
     version: u8,
-    from: Option<usize>,
+    before: Option<StatePlaces>,
     out: &mut [Val],
 ) -> Result<(), FormErr>
     requires short { length c.old.bytes ≤ 2 ^ 30 }
     requires same { c.old.bytes ≡ bytes.now }
-    requires held { IfSome from (StandFrom version bytes.now out.old) }
+    requires held { IfSome before (λ p. StandFrom version bytes.now out.old p.values) }
     ensures ok { OnOk result (values_at version (length out.old) c.old ≡ Ok (out.new, c.new)) }
     ensures err { IfErr result (λ e. values_at version (length out.old) c.old ≡ Err e) }
     ensures bytes { c.new.bytes ≡ c.old.bytes }
 {
-    match from {
-        Some(x) => read_values_after(c, bytes, version, x, out),
+    match before {
+        Some(at) => read_values_after(c, bytes, version, at, out),
         None => read_values(c, version, out),
     }
 }
 
-/// Reads the fields of a state; where the values of `out` stand from a place on, those that stand
-/// alike aren't read. Gives the place of the values.
+/// Reads the fields of a state; where the values of `out` stand at places of their own, those that
+/// stand alike aren't read. Gives the place of the values.
 #[tactic(auto, unfolding(depth_cert::specs::Grammar::state_at))]
 fn read_state_fields(
     c: &mut Cursor<'_>,
     bytes: &[u8],
     version: u8,
-    from: Option<usize>,
+    before: Option<StatePlaces>,
     out: &mut State,
 ) -> Result<usize, FormErr>
     requires short { length c.old.bytes ≤ 2 ^ 30 }
     requires same { c.old.bytes ≡ bytes.now }
-    requires held { IfSome from (StandFrom version bytes.now out.old.regs) }
+    requires held { IfSome before (λ p. StandFrom version bytes.now out.old.regs p.values) }
     ensures ok { OnOk result (state_at version c.old ≡ Ok (out.new, c.new)) }
     ensures err { IfErr result (λ e. state_at version c.old ≡ Err e) }
     ensures held { IfOk result (StandFrom version bytes.now out.new.regs) }
@@ -61,29 +61,29 @@ fn read_state_fields(
     out.lower = read_flag(c)?;
     out.locals = read_locals(c, version)?;
     let at = c.place();
-    read_values_like(c, bytes, version, from, &mut out.regs)?;
+    read_values_like(c, bytes, version, before, &mut out.regs)?;
     Ok(at)
 }
 
-/// Reads a state into a place, which may hold one whose values stand from a place on; gives the
-/// places of what was read.
+/// Reads a state into a place, which may hold one whose values stand at places of their own; gives
+/// the places of what was read.
 pub(crate) fn read_state_after(
     c: &mut Cursor<'_>,
     bytes: &[u8],
     version: u8,
-    from: Option<usize>,
+    before: Option<StatePlaces>,
     out: &mut State,
 ) -> Result<StatePlaces, FormErr>
     requires short { length c.old.bytes ≤ 2 ^ 30 }
     requires same { c.old.bytes ≡ bytes.now }
-    requires held { IfSome from (StandFrom version bytes.now out.old.regs) }
+    requires held { IfSome before (λ p. StandFrom version bytes.now out.old.regs p.values) }
     ensures ok { OnOk result (state_at version c.old ≡ Ok (out.new, c.new)) }
     ensures err { IfErr result (λ e. state_at version c.old ≡ Err e) }
     ensures held { IfOk result (StandsAt version bytes.now out.new) }
     ensures bytes { c.new.bytes ≡ c.old.bytes }
 {
     let start = c.place();
-    let values = read_state_fields(c, bytes, version, from, out)?;
+    let values = read_state_fields(c, bytes, version, before, out)?;
     let end = c.place();
     Ok(StatePlaces { start, values, end })
 }
@@ -111,7 +111,7 @@ pub(crate) fn read_state_like(
     if passes(c, bytes, at.start, at.end - at.start) {
         return Ok(at);
     }
-    read_state_after(c, bytes, version, Some(at.values), out)
+    read_state_after(c, bytes, version, Some(at), out)
 }
 
 /// A state of which nothing is known.

@@ -5,8 +5,8 @@ ghost use Rattle.packed_cert.specs.Points.{state_in, HasState, StandsAt};
 
 use crate::packed_points::PackedPoint;
 use crate::point_fields::{blank, read_state_like};
+use crate::same_bytes::are_same;
 use crate::state_places::StatePlaces;
-use crate::values_after::are_same;
 use std::marker::Model;
 use tcd_base::Cursor;
 use value_domain::State;

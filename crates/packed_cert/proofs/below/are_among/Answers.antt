@@ -1,5 +1,6 @@
-use Rattle.std.proofs.Common.{◌≡◌, ℕ, ◌+◌, true, false, get_or, refl, sym, ◌∙◌, subst, arith, inl, inr}
+use Rattle.std.proofs.Common.{◌≡◌, ℕ, ◌+◌, ◌*◌, true, false, get_or, refl, sym, ap, ◌∙◌, subst, arith, inl, inr}
 use Rattle.std.proofs.lemmas.Bool.{cases_lt}
+use Rattle.tcd_base.specs.Bytes.{word_at}
 use Rattle.value_domain.specs.Sets.{Among}
 use Rattle.value_domain.proofs.Loops.{among_get}
 use Rattle.value_domain.proofs.WordLaws.{among_place}
@@ -25,12 +26,22 @@ loop-x-preserved c =
     let x = get_or c.args.own.now c.loop-x.x-index 0 in
     let here = among_here c.args.bytes.now c.args.place c.args.n c.first_from-k.result x (omega (arith, c.first_from-k.ensures.end, c.if-k-n.false)) (sym c.word.ensures ∙ c.if-word-x.false) in
     record {
-      end = c.first_from-k.ensures.end;
+      end = omega (arith, c.first_from-k.ensures.end, c.if-k-n.false);
       among = λ i h. elim (cases_lt i c.loop-x.x-index) [
         | inl lt ↦ c.loop-x.invariant.among i lt
         | inr ge ↦ let e : c.loop-x.x-index ≡ i = omega arith in subst (λ (k : ℕ). Among (get_or c.args.own.now k 0) (words_at c.args.bytes.now c.args.place c.args.n)) e here
       ];
-      below = λ h j l. let low = passed_more c.args.bytes.now c.args.place c.loop-x.k c.first_from-k.result _ (c.loop-x.invariant.below c.loop-x-test.true) c.first_from-k.ensures.below j l in let next = rising_places c.args.own.now c.requires.own c.loop-x.x-index (c.loop-x.x-index + 1) (omega arith) h in omega arith;
+      below = λ h j l.
+          let next = rising_places c.args.own.now c.requires.own c.loop-x.x-index (c.loop-x.x-index + 1) (omega arith) h in
+          elim (cases_lt j c.first_from-k.result) [
+            | inl lt ↦
+                let low = passed_more c.args.bytes.now c.args.place c.loop-x.k c.first_from-k.result _ (c.loop-x.invariant.below (c.loop-x-test.true)) c.first_from-k.ensures.below j lt in
+                omega arith
+            | inr ge ↦
+                let same : c.first_from-k.result ≡ j = omega arith in
+                let is : word_at c.args.bytes.now (c.args.place + 4 * j) ≡ x = ap (λ (k : ℕ). word_at c.args.bytes.now (c.args.place + 4 * k)) (sym same) ∙ sym c.word.ensures ∙ c.if-word-x.false in
+                omega arith
+          ];
     }
 
 pub returns : goal.returns

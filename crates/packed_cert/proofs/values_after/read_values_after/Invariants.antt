@@ -1,13 +1,16 @@
-use Rattle.std.proofs.Common.{◌≡◌, ◌≤◌, ◌-◌, length, [], take, drop}
+use Rattle.std.proofs.Common.{◌≡◌, ◌≤◌, ◌+◌, ◌-◌, length, [], take, drop}
 use Rattle.tcd_base.specs.Reading.{many_at}
 use Rattle.depth_cert.specs.Grammar.{value_at}
-use Rattle.packed_cert.specs.Standing.{Stand}
+use Rattle.packed_cert.specs.Standing.{at, Stand, StandAlike}
 use Rattle.packed_cert.proofs.values_after.read_values_after.Given as goal
 
 abbrev pub invariant-loop-i : goal.invariant-loop-i
 invariant-loop-i l = record {
-  read : many_at (λ before. value_at l.version) (length l.initial.out) [] l.initial.c ≡ many_at (λ before. value_at l.version) (length l.initial.out - l.i) (take l.i l.out) l.c;
-  bytes : l.c.bytes ≡ l.initial.c.bytes;
-  held : Stand l.version l.bytes l.before (drop l.i l.out);
-  within : l.before ≤ length l.bytes;
+  read : many_at (λ before. value_at l.version) (length l.initial.out) [] l.initial.c ≡ many_at (λ before. value_at l.version) (length l.initial.out - l.i) (take l.i l.out) (at l.bytes l.place);
+  bytes : l.c.bytes ≡ l.bytes;
+  order : l.c.place ≤ l.place;
+  held : Stand l.version l.bytes l.from (drop l.i l.out);
+  first : l.from + l.alike ≤ length l.bytes;
+  second : l.place + l.alike ≤ length l.bytes;
+  same : StandAlike l.bytes l.from l.place l.alike;
 }

@@ -1,9 +1,0 @@
-use Rattle.std.proofs.Common.{arith}
-use Rattle.packed_cert.proofs.SameWords.{word_more}
-use Rattle.packed_cert.proofs.values_after.same_words.Goals as goal
-
-pub loop-i-preserved : goal.loop-i-preserved
-loop-i-preserved c = record {
-  within = omega (arith, c.loop-i-test.true);
-  same = word_more c.args.bytes.now c.args.x c.args.y c.loop-i.i (λ k. (c.type_inv.bytes k).fits) (omega (arith, c.loop-i-test.true, c.requires.first)) (omega (arith, c.loop-i-test.true, c.requires.second)) c.loop-i.invariant.same (c.is_same_word.ensures c.if-not-is_same_word.false);
-}

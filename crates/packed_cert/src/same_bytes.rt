@@ -1,0 +1,108 @@
+// Bytes that stand alike at two places.
+ghost use Rattle.std.specs.Prelude.{◌≡◌, ◌≤◌, ◌<◌, ◌+◌, ◌*◌, IsTrue, length, slice_index, take, drop};
+ghost use Rattle.tcd_base.specs.Bytes.{word_at};
+ghost use Rattle.packed_cert.specs.Standing.{eight_at, StandAlike};
+
+/// The eight bytes from a place on, as a number.
+#[inline(always)]
+fn eight(bytes: &[u8], place: usize) -> u64
+    requires { place + 8 ≤ length bytes.now }
+    ensures { result ≡ eight_at bytes.now place }
+{
+    u64::from_le_bytes([
+        bytes[place],
+        bytes[place + 1],
+        bytes[place + 2],
+        bytes[place + 3],
+        bytes[place + 4],
+        bytes[place + 5],
+        bytes[place + 6],
+        bytes[place + 7],
+    ])
+}
+
+fn is_same_eight(bytes: &[u8], x: usize, y: usize) -> bool
+    requires first { x + 8 ≤ length bytes.now }
+    requires second { y + 8 ≤ length bytes.now }
+    ensures { IsTrue result → eight_at bytes.now x ≡ eight_at bytes.now y }
+{
+    eight(bytes, x) == eight(bytes, y)
+}
+
+fn is_same_byte(bytes: &[u8], x: usize, y: usize) -> bool
+    requires first { x < length bytes.now }
+    requires second { y < length bytes.now }
+    ensures { IsTrue result → slice_index bytes.now x ≡ slice_index bytes.now y }
+{
+    bytes[x] == bytes[y]
+}
+
+/// How many of these bytes stand alike at two places, as far as eight at a time do.
+#[inline(always)]
+fn same_eights(bytes: &[u8], x: usize, y: usize, n: usize) -> usize
+    requires first { x + n ≤ length bytes.now }
+    requires second { y + n ≤ length bytes.now }
+    ensures within { result ≤ n }
+    ensures same { StandAlike bytes.now x y result }
+{
+    let mut i = 0;
+    while i + 8 <= n {
+        if !is_same_eight(bytes, x + i, y + i) {
+            return i;
+        }
+        i += 8;
+    }
+    i
+}
+
+/// How many of these bytes stand alike at two places, if the first `from` do.
+#[inline(always)]
+fn same_from(bytes: &[u8], x: usize, y: usize, from: usize, n: usize) -> usize
+    requires first { x + n ≤ length bytes.now }
+    requires second { y + n ≤ length bytes.now }
+    requires from { from ≤ n }
+    requires same { StandAlike bytes.now x y from }
+    ensures within { result ≤ n }
+    ensures same { StandAlike bytes.now x y result }
+{
+    let mut i = from;
+    while i < n {
+        if !is_same_byte(bytes, x + i, y + i) {
+            return i;
+        }
+        i += 1;
+    }
+    i
+}
+
+/// How many of these bytes stand alike at two places: eight at a time, then byte by byte.
+pub(crate) fn count_same(bytes: &[u8], x: usize, y: usize, n: usize) -> usize
+    requires first { x + n ≤ length bytes.now }
+    requires second { y + n ≤ length bytes.now }
+    ensures within { result ≤ n }
+    ensures same { StandAlike bytes.now x y result }
+{
+    let from = same_eights(bytes, x, y, n);
+    same_from(bytes, x, y, from, n)
+}
+
+/// Whether the same bytes stand at two places.
+pub(crate) fn are_same(bytes: &[u8], x: usize, y: usize, n: usize) -> bool
+    requires first { x + n ≤ length bytes.now }
+    requires second { y + n ≤ length bytes.now }
+    ensures { IsTrue result → StandAlike bytes.now x y n }
+{
+    count_same(bytes, x, y, n) == n
+}
+
+/// How many bytes stand alike at two places, of those before `end` at the first.
+pub(crate) fn count_same_before(bytes: &[u8], x: usize, y: usize, end: usize) -> usize
+    requires first { x ≤ length bytes.now }
+    requires second { y ≤ length bytes.now }
+    ensures first { x + result ≤ length bytes.now }
+    ensures second { y + result ≤ length bytes.now }
+    ensures same { StandAlike bytes.now x y result }
+{
+    let n = end.min(bytes.len()).saturating_sub(x).min(bytes.len() - y);
+    count_same(bytes, x, y, n)
+}
