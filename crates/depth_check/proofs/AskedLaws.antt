@@ -1,5 +1,5 @@
--- The entries of interrupts: they hold where all rules hold at a point, and where what they depend on is the same.
-use Rattle.std.proofs.Common.{◌≡◌, ℕ, ◌≤◌, ◌+◌, ◌++◌, ◌∙◌, Bool, true, false, if◌then◌else◌, List, [], ◌∷◌, length, map, filter, refl, sym, ap, subst}
+-- The entries of interrupts: they hold where all rules hold at a point, and where a state asks for no more than one at which they hold.
+use Rattle.std.proofs.Common.{◌≡◌, ℕ, ◌≤◌, ◌+◌, ◌++◌, ◌∙◌, Bool, true, false, if◌then◌else◌, List, [], ◌∷◌, length, map, filter, arith, refl, sym, ap, subst}
 use Rattle.std.specs.Prelude.{IfSome, IsSomeAnd, Option, Some, None, nat_lt, slice_index_or}
 use Rattle.std.proofs.lemmas.List.Elements.{All-nil, All-cons, All-head, All-tail}
 use Rattle.elf_image.specs.Images.{ImageData}
@@ -20,7 +20,7 @@ use Rattle.cfg_recover.specs.Duties.{Owed, owed, enter, successors_of, entries_o
 use Rattle.cfg_recover.specs.Accepting.{limits_in, RuleHolds}
 use Rattle.depth_check.specs.declared.asked.Asked.{Asked}
 use Rattle.depth_check.specs.Finding.{DutyHolds, DutiesHold}
-use Rattle.depth_check.specs.Asking.{AsksSame, InterruptsHold}
+use Rattle.depth_check.specs.Asking.{AsksSame, AsksNoMore, InterruptsHold}
 use Rattle.depth_check.proofs.DutyLaws.{All-left, All-right}
 use Rattle.depth_check.proofs.RuleLaws.{holds_from}
 
@@ -54,30 +54,38 @@ entered-is plan key s = refl
 same_entered : (plan : PlanData) (key : Key) (v w : Val) (ie on : Bool) (m n : ℕ) → v ≡ w → ie ≡ on → m ≡ n → entered plan key v ie m ≡ entered plan key w on n
 same_entered plan key v w ie on m n e f g = ap (λ (x : Val). entered plan key x ie m) e ∙ ap (λ (x : Bool). entered plan key w x m) f ∙ ap (λ (x : ℕ). entered plan key w on x) g
 
+-- a need that is above with more local areas is so with fewer
+need_fewer : (o : Option NodeData) (m k need : ℕ) → k ≤ m → IfSome o (λ n. m + 1 + n.need ≤ need) → IfSome o (λ n. k + 1 + n.need ≤ need)
+need_fewer None m k need le h = h
+need_fewer (Some n) m k need le h =
+    let above : m + 1 + n.need ≤ need = h in
+    let so : k + 1 + n.need ≤ need = omega (arith, le, above) in
+    so
+
 -- entries alone depend on a state by its number of local areas
-same_locals : (cert : CertData) (node : NodeData) (s t : State) (q : ℕ) (keys : ℕ → Key) (entry : ℕ → State) (irqs : List ℕ) → length s.locals.items ≡ length t.locals.items
+fewer_locals : (cert : CertData) (node : NodeData) (s t : State) (q : ℕ) (keys : ℕ → Key) (entry : ℕ → State) (irqs : List ℕ) → length t.locals.items ≤ length s.locals.items
     → DutiesHold cert node s (map (λ p. owed 11 (enter (keys p) (entry p))) irqs) q → DutiesHold cert node t (map (λ p. owed 11 (enter (keys p) (entry p))) irqs) q
-same_locals cert node s t q keys entry [] e h = All-nil (DutyHolds cert node t q)
-same_locals cert node s t q keys entry (p ∷ ps) e h =
+fewer_locals cert node s t q keys entry [] le h = All-nil (DutyHolds cert node t q)
+fewer_locals cert node s t q keys entry (p ∷ ps) le h =
     let told : ℕ → Owed = λ p. owed 11 (enter (keys p) (entry p)) in
     let first = All-head (DutyHolds cert node s q) (told p) (map told ps) h in
     let rest = All-tail (DutyHolds cert node s q) (told p) (map told ps) h in
     All-cons (DutyHolds cert node t q) (told p) (map told ps)
-    (record { met = first.met; need = λ r. subst (λ (m : ℕ). IfSome (find_node (keys p) cert.nodes) (λ n. m + 1 + n.need ≤ node.need)) e (first.need r) })
-    (same_locals cert node s t q keys entry ps e rest)
+    (record { met = first.met; need = λ r. need_fewer (find_node (keys p) cert.nodes) (length s.locals.items) (length t.locals.items) node.need le (first.need r) })
+    (fewer_locals cert node s t q keys entry ps le rest)
 
--- what they depend on is the same
-pub asked_same : (plan : PlanData) (cert : CertData) (node : NodeData) (asked : Asked) (s t : State) → AsksSame asked s → AsksSame asked t → InterruptsHold plan cert node s → InterruptsHold plan cert node t
-asked_same plan cert node asked s t a b h q =
+-- no more is asked for
+pub asked_no_more : (plan : PlanData) (cert : CertData) (node : NodeData) (asked : Asked) (s t : State) → AsksSame asked s → AsksNoMore asked t → InterruptsHold plan cert node s → InterruptsHold plan cert node t
+asked_no_more plan cert node asked s t a b h q =
     let told : interrupts_of plan node.key s ≡ interrupts_of plan node.key t =
     entered-is plan node.key s
     ∙ same_entered plan node.key (slice_index_or s.regs 22 any_val) (slice_index_or t.regs 22 any_val) s.ie t.ie s.ccpn t.ccpn (sym a.sp ∙ b.sp) (sym a.ie ∙ b.ie) (sym a.ccpn ∙ b.ccpn)
     ∙ sym (entered-is plan node.key t) in
-    same_locals cert node s t q (λ p. irq_key plan p) (λ p. irq_entry plan node.key t p) (irqs_of plan t) (sym a.locals ∙ b.locals)
+    fewer_locals cert node s t q (λ p. irq_key plan p) (λ p. irq_entry plan node.key t p) (irqs_of plan t) (omega (arith, a.locals, b.locals))
     (subst (λ (l : List Owed). DutiesHold cert node s l q) told (h q))
 
--- so the entries hold where what was asked for last is asked for again
-pub again_holds : (plan : PlanData) (cert : CertData) (node : NodeData) (asked : Option Asked) (t : State) → IfSome asked (λ a. (u : State) → AsksSame a u → InterruptsHold plan cert node u) → IsSomeAnd asked (λ a. AsksSame a t)
+-- so the entries hold where no more is asked for than was asked for last
+pub again_holds : (plan : PlanData) (cert : CertData) (node : NodeData) (asked : Option Asked) (t : State) → IfSome asked (λ a. (u : State) → AsksNoMore a u → InterruptsHold plan cert node u) → IsSomeAnd asked (λ a. AsksNoMore a t)
     → InterruptsHold plan cert node t
 again_holds plan cert node None t h a = absurd a
 again_holds plan cert node (Some x) t h a = h t a

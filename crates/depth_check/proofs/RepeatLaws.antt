@@ -21,7 +21,7 @@ implied_same : (xs : List Bool) → ImpliedBy xs xs
 implied_same [] = tt
 implied_same (x ∷ xs) = ((λ t. t), implied_same xs)
 
-covers_same : (s : State) → Covers s s
+pub covers_same : (s : State) → Covers s s
 covers_same s = record { regs = λ r h x m. m; context = ((λ t. t), omega arith, (λ t. t)); locals = implied_same s.locals.items }
 
 -- ---- an element of a list that rises by a number is found by its number

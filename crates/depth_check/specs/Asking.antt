@@ -1,5 +1,5 @@
 -- What the entries of interrupts depend on.
-use Rattle.std.specs.Prelude.{◌≡◌, ℕ, length, slice_index_or}
+use Rattle.std.specs.Prelude.{◌≡◌, ◌≤◌, ℕ, length, slice_index_or}
 use Rattle.tcd_plan.specs.PlanData.{PlanData}
 use Rattle.value_domain.specs.declared.states.State.{State}
 use Rattle.value_domain.specs.Values.{any_val}
@@ -15,6 +15,13 @@ pub record AsksSame (asked : Asked) (s : State) : Type 0 where
   pub ie : asked.ie ≡ s.ie
   pub ccpn : asked.ccpn ≡ s.ccpn
   pub locals : asked.locals ≡ length s.locals.items
+
+-- a state asks for no more: the same A10, IE and CCPN, and no more local areas
+pub record AsksNoMore (asked : Asked) (s : State) : Type 0 where
+  pub sp : asked.sp ≡ slice_index_or s.regs 22 any_val
+  pub ie : asked.ie ≡ s.ie
+  pub ccpn : asked.ccpn ≡ s.ccpn
+  pub locals : length s.locals.items ≤ asked.locals
 
 -- what all rules ask of the entries of interrupts in a state of a node's point
 abbrev pub InterruptsHold : PlanData → CertData → NodeData → State → Type 0

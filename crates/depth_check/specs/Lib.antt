@@ -6,3 +6,5 @@ pub mod Forms
 pub mod Headline
 pub mod Judging
 pub mod NodeFaults
+pub mod Points
+pub mod Puts

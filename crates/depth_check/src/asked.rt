@@ -2,7 +2,7 @@
 ghost use Rattle.std.specs.Prelude.{◌≡◌, ◌↔◌, IsTrue, IsSomeAnd, length, slice_index_or};
 ghost use Rattle.value_domain.specs.Values.{any_val};
 ghost use Rattle.value_domain.specs.declared.values.Val.TheVariants.{Span};
-ghost use Rattle.depth_check.specs.Asking.{AsksSame};
+ghost use Rattle.depth_check.specs.Asking.{AsksSame, AsksNoMore};
 
 use value_domain::{State, Val};
 
@@ -28,20 +28,20 @@ impl Asked {
         }
     }
 
-    /// Whether they depend on the same in this state.
+    /// Whether they depend on the same in this state, but for local areas, of which there are no more.
     fn is_at(&self, s: &State) -> bool
-        ensures { IsTrue result → AsksSame self.now s.now }
+        ensures { IsTrue result → AsksNoMore self.now s.now }
     {
         self.ie == s.ie
             && self.ccpn == s.ccpn
-            && self.locals == s.locals.len()
+            && s.locals.len() <= self.locals
             && are_same(&self.sp, &s.regs[22])
     }
 }
 
-/// Whether what was asked for last is what this state asks for.
+/// Whether this state asks for no more than what was asked for last.
 pub(crate) fn is_asked(asked: &Option<Asked>, s: &State) -> bool
-    ensures { IsTrue result → IsSomeAnd asked.now (λ a. AsksSame a s.now) }
+    ensures { IsTrue result → IsSomeAnd asked.now (λ a. AsksNoMore a s.now) }
 {
     match asked {
         Some(asked) => asked.is_at(s),

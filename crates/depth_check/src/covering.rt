@@ -7,6 +7,7 @@ ghost use Rattle.cfg_recover.specs.Accepting.{HasPoint};
 ghost use Rattle.depth_check.specs.Finding.{IsWellNode, HasPoints, HasExit};
 
 use crate::forms::{Frame, NodeForm};
+use crate::put_cover::stays_covered;
 use cfg_recover::covers_after;
 use depth_cert::{Exit, Node};
 use packed_cert::PackedNode;
@@ -130,6 +131,28 @@ pub(crate) fn has_changed(node: &Frame<'_>, addr: u32, s: &State, c: &Change) ->
         NodeForm::Packed(node) => packed_has_changed(node, 0, addr, s, c),
         NodeForm::Near(node, near) => packed_has_changed(node, *near, addr, s, c),
     }
+}
+
+/// The same, where one that covers the state is known at an address.
+pub(crate) fn has_changed_next(
+    node: &Frame<'_>,
+    addr: u32,
+    s: &State,
+    c: &Change,
+    known: Option<u32>,
+) -> bool
+    requires node { IsWellNode node.now }
+    requires state { AreWell s.now.regs }
+    requires changed { AreWell (state_after s.now c.now).regs }
+    requires known { IfSome known (λ a. HasPoint node.now a s.now) }
+    ensures { IsTrue result ↔ HasPoint node.now addr (state_after s.now c.now) }
+{
+    if is_known(known, addr) {
+        if stays_covered(s, c) {
+            return true;
+        }
+    }
+    has_changed(node, addr, s, c)
 }
 
 /// Whether it has one that covers the state after an entered frame came back by this exit.

@@ -1,6 +1,6 @@
 // The least rule that the duties of a point break.
-ghost use Rattle.std.specs.Prelude.{◌≡◌, ◌≤◌, ◌+◌, ◌↔◌, [], ◌∷◌, IsTrue, length, unwrap_or, All, IfSome};
-ghost use Rattle.value_domain.specs.State.{AreWell, AreValues};
+ghost use Rattle.std.specs.Prelude.{◌≡◌, ◌≤◌, ◌+◌, ◌↔◌, [], ◌∷◌, IsTrue, length, unwrap_or};
+ghost use Rattle.value_domain.specs.State.{AreWell};
 ghost use Rattle.cfg_recover.specs.Entries as entries;
 ghost use Rattle.std.specs.List.{flat_map};
 ghost use Rattle.value_domain.specs.Values.{IsValue};
@@ -10,27 +10,24 @@ ghost use Rattle.vd_transfer.specs.Changes.{state_after};
 ghost use Rattle.cfg_recover.specs.Changes.{StandsFaultless};
 ghost use Rattle.cfg_recover.specs.Entries.{call_key};
 ghost use Rattle.cfg_recover.specs.Local.{targets_of};
-ghost use Rattle.cfg_recover.specs.Duties.{owed, enter, entered_and_back, entries_of, misaligned_at, misaligned_of, interrupts_of, duties_of};
+ghost use Rattle.cfg_recover.specs.Duties.{owed, enter, entered_and_back, entries_of, misaligned_at, misaligned_of, irqs_of, interrupts_of, duties_of};
 ghost use Rattle.cfg_recover.specs.Flows as flows;
 ghost use Rattle.cfg_recover.specs.Flows.{told_back, told_irqs};
-ghost use Rattle.depth_check.specs.Finding.{IsWellNode, Finds, DutiesHold, GoesOn, LeavingHolds};
+ghost use Rattle.depth_check.specs.Finding.{IsWellNode, Finds, GoesOn, LeavingHolds};
 ghost use Rattle.depth_check.specs.Finding as finding;
-ghost use Rattle.cfg_recover.specs.Accepting.{HasPoint};
-ghost use Rattle.depth_check.specs.Asking.{InterruptsHold};
+ghost use Rattle.depth_check.specs.Points.{IsAt, Breaks};
 
-use crate::any_certs::AnyCert;
 use crate::covering::{comes_back, has_changed, has_exit};
-use crate::forms::{Frame, Here};
+use crate::forms::Frame;
+use crate::point_at::At;
 use crate::successors::broken_by_successors;
 use cfg_recover::{
     Leave, Located, aln_key, call_change, entered_key, handler_change, interrupts, irq_key,
     is_aligned, misaligned_change, sys_key, system_change, targets,
 };
 use depth_cert::Key;
-use elf_image::Image;
 use tc_isa::{Shape, Target};
-use tcd_plan::Plan;
-use value_domain::{Bounds, State, Val};
+use value_domain::{State, Val};
 use vd_transfer::Change;
 
 /// The lesser of two rules that were found.
@@ -73,22 +70,22 @@ fn goes_on(node: &Frame<'_>, s: &State, entered: &Frame<'_>, kind: u8, back: Opt
 
 /// The least rule broken where a node of the key is entered with a changed state, as `rule` asks, and comes back to `back`.
 fn broken_by_entry(
-    cert: &AnyCert<'_>,
-    node: &Frame<'_>,
-    s: &State,
+    at: &At<'_>,
     rule: u8,
     key: &Key,
     entry: &Change,
     back: Option<u32>,
 ) -> Option<u8>
     requires rule { rule ≤ 14 }
-    requires nodes { All IsWellNode cert.now.nodes }
-    requires node { IsWellNode node.now }
-    requires state { AreWell s.now.regs }
-    requires entry { AreWell (state_after s.now entry.now).regs }
-    ensures { Finds (DutiesHold cert.now node.now s.now
-        (owed rule (enter key.now (state_after s.now entry.now)) ∷ told_back key.now back)) result }
+    requires point { IsAt at.now }
+    requires entry { AreWell (state_after at.now.point.state.now entry.now).regs }
+    ensures { Breaks at.now
+        (owed rule (enter key.now (state_after at.now.point.state.now entry.now))
+        ∷ told_back key.now back) result }
 {
+    let cert = at.cert;
+    let node = at.node;
+    let s = at.point.state;
     let Some(entered) = cert.node(key) else {
         return Some(rule);
     };
@@ -99,26 +96,18 @@ fn broken_by_entry(
 }
 
 /// The least rule broken by calls of these targets, which come back to `back`.
-fn broken_by_calls(
-    cert: &AnyCert<'_>,
-    node: &Frame<'_>,
-    s: &State,
-    entry: &Change,
-    targets: &[u32],
-    back: u32,
-) -> Option<u8>
-    requires nodes { All IsWellNode cert.now.nodes }
-    requires node { IsWellNode node.now }
-    requires state { AreWell s.now.regs }
-    requires entry { AreWell (state_after s.now entry.now).regs }
-    ensures { Finds (DutiesHold cert.now node.now s.now
-        (flat_map (λ t. entered_and_back 5 (call_key node.now.key t)
-        (state_after s.now entry.now) back) targets.now)) result }
+fn broken_by_calls(at: &At<'_>, entry: &Change, targets: &[u32], back: u32) -> Option<u8>
+    requires point { IsAt at.now }
+    requires entry { AreWell (state_after at.now.point.state.now entry.now).regs }
+    ensures { Breaks at.now
+        (flat_map (λ t. entered_and_back 5 (call_key at.now.node.now.key t)
+        (state_after at.now.point.state.now entry.now) back) targets.now) result }
 {
+    let node = at.node;
     let mut found = None;
     for t in targets {
         let key = entered_key(&node.key, 1, *t);
-        let one = broken_by_entry(cert, node, s, 5, &key, entry, Some(back));
+        let one = broken_by_entry(at, 5, &key, entry, Some(back));
         found = least(found, one);
     }
     found
@@ -126,153 +115,112 @@ fn broken_by_calls(
 
 /// The least rule broken by a call.
 #[inline(never)]
-fn broken_by_call(
-    b: &Bounds,
-    plan: &Plan,
-    cert: &AnyCert<'_>,
-    node: &Frame<'_>,
-    addr: u32,
-    s: &State,
-    to: Target,
-    back: u32,
-) -> Option<u8>
-    requires nodes { All IsWellNode cert.now.nodes }
-    requires node { IsWellNode node.now }
-    requires values { AreValues b.now s.now.regs }
+fn broken_by_call(at: &At<'_>, to: Target, back: u32) -> Option<u8>
+    requires point { IsAt at.now }
     requires target { IsTarget to }
-    ensures { Finds (DutiesHold cert.now node.now s.now
-        (flat_map (λ t. entered_and_back 5 (call_key node.now.key t)
-        (entries.call_entry s.now) back)
-        (unwrap_or (targets_of plan.now s.now addr to) []))) result }
+    ensures { Breaks at.now
+        (flat_map (λ t. entered_and_back 5 (call_key at.now.node.now.key t)
+        (entries.call_entry at.now.point.state.now) back)
+        (unwrap_or (targets_of at.now.plan.now at.now.point.state.now at.now.point.addr to) []))
+        result }
 {
-    let entry = call_change(b, s);
-    let targets = targets(plan, s, addr, to);
-    broken_by_calls(cert, node, s, &entry, targets.as_slice(), back)
+    let s = at.point.state;
+    let entry = call_change(at.bounds, s);
+    let targets = targets(at.plan, s, at.point.addr, to);
+    broken_by_calls(at, &entry, targets.as_slice(), back)
 }
 
 /// The least rule broken by the system call `tin`.
 #[inline(never)]
-fn broken_by_system(
-    b: &Bounds,
-    plan: &Plan,
-    cert: &AnyCert<'_>,
-    node: &Frame<'_>,
-    s: &State,
-    tin: u8,
-    back: u32,
-) -> Option<u8>
-    requires nodes { All IsWellNode cert.now.nodes }
-    requires node { IsWellNode node.now }
-    requires values { AreValues b.now s.now.regs }
-    ensures { Finds (DutiesHold cert.now node.now s.now
-        (entered_and_back 12 (entries.sys_key plan.now node.now.key)
-        (entries.sys_entry plan.now node.now.key s.now tin) back)) result }
+fn broken_by_system(at: &At<'_>, tin: u8, back: u32) -> Option<u8>
+    requires { IsAt at.now }
+    ensures { Breaks at.now
+        (entered_and_back 12 (entries.sys_key at.now.plan.now at.now.node.now.key)
+        (entries.sys_entry at.now.plan.now at.now.node.now.key at.now.point.state.now tin) back)
+        result }
 {
-    let entry = system_change(b, plan, &node.key, s, tin);
-    let key = sys_key(plan, &node.key);
-    broken_by_entry(cert, node, s, 12, &key, &entry, Some(back))
+    let node = at.node;
+    let entry = system_change(at.bounds, at.plan, &node.key, at.point.state, tin);
+    let key = sys_key(at.plan, &node.key);
+    broken_by_entry(at, 12, &key, &entry, Some(back))
 }
 
 /// The least rule broken by the entries of a call or a system call.
-fn broken_by_entries(
-    b: &Bounds,
-    plan: &Plan,
-    cert: &AnyCert<'_>,
-    node: &Frame<'_>,
-    addr: u32,
-    s: &State,
-    shape: Shape,
-    size: u32,
-) -> Option<u8>
-    requires nodes { All IsWellNode cert.now.nodes }
-    requires node { IsWellNode node.now }
-    requires values { AreValues b.now s.now.regs }
+fn broken_by_entries(at: &At<'_>, shape: Shape, size: u32) -> Option<u8>
+    requires point { IsAt at.now }
     requires shape { IsShape shape }
-    ensures { Finds (DutiesHold cert.now node.now s.now
-        (entries_of plan.now node.now.key addr s.now shape size)) result }
+    ensures { Breaks at.now
+        (entries_of at.now.plan.now at.now.node.now.key at.now.point.addr at.now.point.state.now
+        shape size) result }
 {
-    let back = addr.wrapping_add(size);
+    let back = at.point.addr.wrapping_add(size);
     match shape {
-        Shape::Call { to } => broken_by_call(b, plan, cert, node, addr, s, to, back),
-        Shape::Syscall { tin } => broken_by_system(b, plan, cert, node, s, tin, back),
+        Shape::Call { to } => broken_by_call(at, to, back),
+        Shape::Syscall { tin } => broken_by_system(at, tin, back),
         _ => None,
     }
 }
 
 /// The least rule broken by the entry of the handler of misaligned accesses, where one of these addresses may be so.
-#[inline(never)]
-fn broken_by_misaligned(
-    b: &Bounds,
-    plan: &Plan,
-    cert: &AnyCert<'_>,
-    node: &Frame<'_>,
-    s: &State,
-    at: &Val,
-    size: u8,
-) -> Option<u8>
-    requires nodes { All IsWellNode cert.now.nodes }
-    requires node { IsWellNode node.now }
-    requires values { AreValues b.now s.now.regs }
-    requires at { IsValue b.now at.now }
+fn broken_by_misaligned(at: &At<'_>, accessed: &Val, size: u8) -> Option<u8>
+    requires point { IsAt at.now }
+    requires accessed { IsValue at.now.bounds.now accessed.now }
     requires size { IsSize size }
-    ensures { Finds (DutiesHold cert.now node.now s.now
-        (misaligned_at plan.now node.now.key s.now at.now size)) result }
+    ensures { Breaks at.now
+        (misaligned_at at.now.plan.now at.now.node.now.key at.now.point.state.now accessed.now size)
+        result }
 {
-    if is_aligned(b, at, size) {
+    if is_aligned(at.bounds, accessed, size) {
         return None;
     }
-    let entry = misaligned_change(b, plan, &node.key, s);
-    let key = aln_key(plan, &node.key);
-    broken_by_entry(cert, node, s, 10, &key, &entry, None)
+    broken_by_trap(at)
+}
+
+/// The least rule broken by the entry of that handler.
+#[inline(never)]
+fn broken_by_trap(at: &At<'_>) -> Option<u8>
+    requires { IsAt at.now }
+    ensures { Breaks at.now
+        (owed 10 (enter (entries.aln_key at.now.plan.now at.now.node.now.key)
+        (entries.aln_entry at.now.plan.now at.now.node.now.key at.now.point.state.now)) ∷ [])
+        result }
+{
+    let node = at.node;
+    let entry = misaligned_change(at.bounds, at.plan, &node.key, at.point.state);
+    let key = aln_key(at.plan, &node.key);
+    broken_by_entry(at, 10, &key, &entry, None)
 }
 
 /// The same for the access of an instruction.
-fn broken_by_access(
-    b: &Bounds,
-    plan: &Plan,
-    cert: &AnyCert<'_>,
-    node: &Frame<'_>,
-    s: &State,
-    shape: Shape,
-    at: &Val,
-) -> Option<u8>
-    requires nodes { All IsWellNode cert.now.nodes }
-    requires node { IsWellNode node.now }
-    requires values { AreValues b.now s.now.regs }
+fn broken_by_access(at: &At<'_>, shape: Shape, accessed: &Val) -> Option<u8>
+    requires point { IsAt at.now }
     requires shape { IsShape shape }
-    requires at { IsValue b.now at.now }
-    requires access { at.now ≡ address_of b.now plan.now shape s.now }
-    ensures { Finds (DutiesHold cert.now node.now s.now
-        (misaligned_of b.now plan.now node.now.key s.now shape)) result }
+    requires accessed { IsValue at.now.bounds.now accessed.now }
+    requires access { accessed.now
+        ≡ address_of at.now.bounds.now at.now.plan.now shape at.now.point.state.now }
+    ensures { Breaks at.now
+        (misaligned_of at.now.bounds.now at.now.plan.now at.now.node.now.key at.now.point.state.now
+        shape) result }
 {
     match shape {
-        Shape::Load { size, .. } => broken_by_misaligned(b, plan, cert, node, s, at, size),
-        Shape::Store { size, .. } => broken_by_misaligned(b, plan, cert, node, s, at, size),
+        Shape::Load { size, .. } => broken_by_misaligned(at, accessed, size),
+        Shape::Store { size, .. } => broken_by_misaligned(at, accessed, size),
         _ => None,
     }
 }
 
 /// The least rule broken by the entries of these interrupts; `entry` is the change there but for its CCPN.
-fn broken_by_irqs(
-    cert: &AnyCert<'_>,
-    plan: &Plan,
-    node: &Frame<'_>,
-    s: &State,
-    irqs: &[u8],
-    entry: Change,
-) -> Option<u8>
-    requires nodes { All IsWellNode cert.now.nodes }
-    requires node { IsWellNode node.now }
-    requires state { AreWell s.now.regs }
-    requires entry { AreWell (state_after s.now entry).regs }
-    ensures { Finds (DutiesHold cert.now node.now s.now
-        (told_irqs plan.now (state_after s.now entry) irqs.now)) result }
+fn broken_by_irqs(at: &At<'_>, irqs: &[u8], entry: Change) -> Option<u8>
+    requires point { IsAt at.now }
+    requires entry { AreWell (state_after at.now.point.state.now entry).regs }
+    ensures { Breaks at.now
+        (told_irqs at.now.plan.now (state_after at.now.point.state.now entry) irqs.now) result }
 {
     let mut entry = entry;
     let mut found = None;
     for p in irqs {
         entry.ccpn = *p;
-        let one = broken_by_entry(cert, node, s, 11, &irq_key(plan, *p), &entry, None);
+        let one = broken_by_entry(at, 11, &irq_key(at.plan, *p), &entry, None);
         found = least(found, one);
     }
     found
@@ -280,30 +228,33 @@ fn broken_by_irqs(
 
 /// The least rule broken by the entries of the interrupts that may be taken; none, where what these depend on was asked for
 /// already.
-fn broken_by_interrupts(
-    b: &Bounds,
-    plan: &Plan,
-    cert: &AnyCert<'_>,
-    node: &Frame<'_>,
-    s: &State,
-    again: bool,
-) -> Option<u8>
-    requires nodes { All IsWellNode cert.now.nodes }
-    requires node { IsWellNode node.now }
-    requires values { AreValues b.now s.now.regs }
-    requires again { IsTrue again → InterruptsHold plan.now cert.now node.now s.now }
-    ensures { Finds (DutiesHold cert.now node.now s.now
-        (interrupts_of plan.now node.now.key s.now)) result }
+pub(crate) fn broken_by_interrupts(at: &At<'_>) -> Option<u8>
+    requires { IsAt at.now }
+    ensures { Breaks at.now
+        (interrupts_of at.now.plan.now at.now.node.now.key at.now.point.state.now) result }
 {
+    let again = at.point.again;
     if again {
         return None;
     }
-    let irqs = interrupts(plan, s);
+    let irqs = interrupts(at.plan, at.point.state);
     if irqs.is_empty() {
         return None;
     }
-    let entry = handler_change(b, plan, &node.key, s, 0);
-    broken_by_irqs(cert, plan, node, s, irqs.as_slice(), entry)
+    broken_by_taken(at, irqs.as_slice())
+}
+
+/// The same, where these are the interrupts that may be taken.
+#[inline(never)]
+fn broken_by_taken(at: &At<'_>, irqs: &[u8]) -> Option<u8>
+    requires point { IsAt at.now }
+    requires irqs { irqs.now ≡ irqs_of at.now.plan.now at.now.point.state.now }
+    ensures { Breaks at.now
+        (interrupts_of at.now.plan.now at.now.node.now.key at.now.point.state.now) result }
+{
+    let node = at.node;
+    let entry = handler_change(at.bounds, at.plan, &node.key, at.point.state, 0);
+    broken_by_irqs(at, irqs, entry)
 }
 
 /// How an instruction of this shape leaves its frame.
@@ -338,31 +289,18 @@ fn broken_by_leaving(node: &Frame<'_>, s: &State, leave: Leave) -> Option<u8>
 }
 
 /// The least rule that the duties of a point of the node break, where no rule's own part fails.
-pub(crate) fn broken_by_duties(
-    b: &Bounds,
-    image: &Image,
-    plan: &Plan,
-    cert: &AnyCert<'_>,
-    node: &Frame<'_>,
-    point: Here<'_>,
-    found: &Located,
-) -> Option<u8>
-    requires nodes { All IsWellNode cert.now.nodes }
-    requires node { IsWellNode node.now }
-    requires values { AreValues b.now point.state.now.regs }
-    requires found { StandsFaultless b.now image.now plan.now node.now.key point.addr point.state.now found.now }
-    requires again { IsTrue point.again
-        → InterruptsHold plan.now cert.now node.now point.state.now }
-    requires next { IfSome point.next (λ a. HasPoint node.now a point.state.now) }
-    ensures { Finds (DutiesHold cert.now node.now point.entry.state.now
-        (duties_of b.now image.now plan.now node.now.key point.entry.addr point.entry.state.now found.now.shape found.now.size)) result }
+pub(crate) fn broken_by_duties(at: &At<'_>, found: &Located) -> Option<u8>
+    requires point { IsAt at.now }
+    requires found { StandsFaultless at.now.bounds.now at.now.image.now at.now.plan.now
+        at.now.node.now.key at.now.point.addr at.now.point.state.now found.now }
+    ensures { Breaks at.now
+        (duties_of at.now.bounds.now at.now.image.now at.now.plan.now at.now.node.now.key
+        at.now.point.addr at.now.point.state.now found.now.shape found.now.size) result }
 {
-    let addr = point.addr;
-    let s = point.state;
-    let jumps = broken_by_successors(b, image, plan, node, point, found);
-    let entered = broken_by_entries(b, plan, cert, node, addr, s, found.shape, found.size);
-    let misaligned = broken_by_access(b, plan, cert, node, s, found.shape, &found.at);
-    let irqs = broken_by_interrupts(b, plan, cert, node, s, point.again);
-    let leave = broken_by_leaving(node, s, leave_by(found.shape));
+    let jumps = broken_by_successors(at, found);
+    let entered = broken_by_entries(at, found.shape, found.size);
+    let misaligned = broken_by_access(at, found.shape, &found.at);
+    let irqs = broken_by_interrupts(at);
+    let leave = broken_by_leaving(at.node, at.point.state, leave_by(found.shape));
     least(least(least(least(jumps, entered), misaligned), irqs), leave)
 }

@@ -6,9 +6,9 @@ use packed_cert::PackedNode;
 use std::marker::Model;
 use value_domain::State;
 
-/// The point at hand: its address, the state before its instruction, whether the entries of interrupts were asked for already
-/// with what they depend on there, whether its values are known to be the plan's, and an address at which the node is known
-/// to have a point that covers the state.
+/// The point at hand: its address, the state before its instruction, whether the entries of interrupts hold there by what was
+/// asked for already, whether its values are known to be the plan's, and an address at which the node is known to have a
+/// point that covers the state.
 #[derive(Clone, Copy)]
 pub(crate) struct Here<'a> {
     pub(crate) addr: u32,

@@ -11,6 +11,8 @@ mod forms;
 mod judging;
 mod laws;
 mod nodes;
+mod point_at;
+mod put_cover;
 mod rules;
 mod successors;
 mod verdicts;

@@ -131,8 +131,8 @@ fn is_worth_keeping(plan: &Plan, s: &State, again: bool) -> bool {
 }
 
 /// The same of a node on bytes: behind each point the next one is tried first, the entries of interrupts are asked for where
-/// they depend on something else than at the point before, and where the next point has the same state its values are known
-/// and it covers the one at hand.
+/// more is asked than was asked for already, and where the next point has the same state its values are known and it covers
+/// the one at hand.
 fn packed_fault(
     b: &Bounds,
     image: &Image,

@@ -1,30 +1,41 @@
 // The least rule that fails at a point.
-ghost use Rattle.std.specs.Prelude.{◌≡◌, ◌≤◌, ◌↔◌, IsTrue, All, IfOk, IfErr, IfSome};
+ghost use Rattle.std.specs.Prelude.{◌≡◌, ◌↔◌, IsTrue, All, IfOk, IfErr, IfSome};
 ghost use Rattle.value_domain.specs.State.{AreValues};
+ghost use Rattle.tc_isa.specs.declared.shapes.Shape.TheVariants.{Nothing};
+ghost use Rattle.tc_isa.specs.Shapes.{shape_of};
 ghost use Rattle.cfg_recover.specs.Accepting.{limits_in, RuleHolds, HasPoint};
 ghost use Rattle.cfg_recover.specs.Changes.{StandsFaultless};
+ghost use Rattle.cfg_recover.specs.Code.{IsCode};
 ghost use Rattle.cfg_recover.specs.Local.{IsLocalFault};
 ghost use Rattle.depth_check.specs.Finding.{IsWellNode, Finds, HasOwnNeed};
 ghost use Rattle.depth_check.specs.Forms.{point_here};
 ghost use Rattle.depth_check.specs.Asking.{InterruptsHold};
+ghost use Rattle.depth_check.specs.Points.{IsAt};
 
 use crate::any_certs::AnyCert;
 use crate::covering::are_values;
-use crate::duties::{broken_by_duties, least, unless};
+use crate::duties::{broken_by_duties, broken_by_interrupts, least, unless};
 use crate::forms::{Frame, Here};
-use cfg_recover::{Located, local_check, start_key};
+use crate::point_at::At;
+use crate::successors::broken_by_pass;
+use cfg_recover::{Located, code_at, local_check, start_key};
 use elf_image::Image;
+use tc_isa::{Inst, Shape, shape};
 use tcd_plan::Plan;
 use value_domain::Bounds;
 
 /// Whether the need of the node has room for the locals of a point, and at the start's entry leaves the reserve free.
-fn has_own_need(image: &Image, plan: &Plan, node: &Frame<'_>, point: Here<'_>) -> bool
-    ensures { IsTrue result ↔ HasOwnNeed image.now plan.now node.now (point_here point.entry) }
+fn has_own_need(at: &At<'_>) -> bool
+    ensures { IsTrue result
+        ↔ HasOwnNeed at.now.image.now at.now.plan.now at.now.node.now (point_here at.now.point) }
 {
-    if usize::from(node.need) < point.state.locals.len() {
+    let image = at.image;
+    let plan = at.plan;
+    let node = at.node;
+    if usize::from(node.need) < at.point.state.locals.len() {
         return false;
     }
-    if node.key == start_key(image, plan) && point.addr == image.entry {
+    if node.key == start_key(image, plan) && at.point.addr == image.entry {
         return u32::from(node.need) <= plan.areas - plan.reserve;
     }
     true
@@ -42,36 +53,90 @@ fn has_values(b: &Bounds, point: Here<'_>) -> bool
 }
 
 /// The least rule that fails at a point whose values are the plan's, by what stands there.
-fn broken_by_located(
-    b: &Bounds,
-    image: &Image,
-    plan: &Plan,
-    cert: &AnyCert<'_>,
-    node: &Frame<'_>,
-    point: Here<'_>,
-    found: &Result<Located, u8>,
-) -> Option<u8>
-    requires limits { b.now ≡ limits_in plan.now cert.now }
-    requires nodes { All IsWellNode cert.now.nodes }
-    requires node { IsWellNode node.now }
-    requires values { AreValues b.now point.state.now.regs }
-    requires again { IsTrue point.again
-        → InterruptsHold plan.now cert.now node.now point.state.now }
-    requires next { IfSome point.next (λ a. HasPoint node.now a point.state.now) }
+fn broken_by_located(at: &At<'_>, found: &Result<Located, u8>) -> Option<u8>
+    requires point { IsAt at.now }
     requires fault { IfErr found.now
-        (IsLocalFault b.now image.now plan.now node.now.key point.addr point.state.now) }
+        (IsLocalFault at.now.bounds.now at.now.image.now at.now.plan.now at.now.node.now.key
+        at.now.point.addr at.now.point.state.now) }
     requires duties { IfOk found.now
-        (StandsFaultless b.now image.now plan.now node.now.key point.addr point.state.now) }
-    ensures { Finds (RuleHolds image.now plan.now cert.now node.now
-        (point_here point.entry)) result }
+        (StandsFaultless at.now.bounds.now at.now.image.now at.now.plan.now at.now.node.now.key
+        at.now.point.addr at.now.point.state.now) }
+    ensures { Finds (RuleHolds at.now.image.now at.now.plan.now at.now.cert.now at.now.node.now
+        (point_here at.now.point)) result }
 {
     match found {
         Err(rule) => Some(*rule),
         Ok(found) => {
-            let duties = broken_by_duties(b, image, plan, cert, node, point, found);
-            let need = unless(has_own_need(image, plan, node, point), 14);
+            let duties = broken_by_duties(at, found);
+            let need = unless(has_own_need(at), 14);
             least(duties, need)
         }
+    }
+}
+
+/// The least rule that fails at a point whose values are the plan's.
+#[inline(never)]
+fn broken_by_any(at: &At<'_>) -> Option<u8>
+    requires { IsAt at.now }
+    ensures { Finds (RuleHolds at.now.image.now at.now.plan.now at.now.cert.now at.now.node.now
+        (point_here at.now.point)) result }
+{
+    let node = at.node;
+    let s = at.point.state;
+    let found = local_check(at.bounds, at.image, at.plan, &node.key, at.point.addr, s);
+    broken_by_located(at, &found)
+}
+
+/// The least rule that fails at a point where an instruction of this size stands that changes nothing.
+fn broken_by_idle(at: &At<'_>, size: u32) -> Option<u8>
+    requires point { IsAt at.now }
+    requires code { IsCode at.now.image.now at.now.plan.now at.now.point.addr Nothing size }
+    ensures { Finds (RuleHolds at.now.image.now at.now.plan.now at.now.cert.now at.now.node.now
+        (point_here at.now.point)) result }
+{
+    let jump = broken_by_pass(at, at.point.addr.wrapping_add(size));
+    let irqs = broken_by_interrupts(at);
+    let need = unless(has_own_need(at), 14);
+    least(least(jump, irqs), need)
+}
+
+/// Whether an instruction changes nothing.
+fn is_idle(inst: &Inst) -> bool
+    ensures { IsTrue result → shape_of inst.now ≡ Nothing }
+{
+    let found = shape(inst);
+    match found {
+        Shape::Nothing => true,
+        _ => false,
+    }
+}
+
+/// Whether an instruction that changes nothing may stand at an address: nop16 begins with 00, nop, dsync and isync with 0D.
+fn may_be_idle(image: &Image, addr: u32) -> bool {
+    match image.byte(addr) {
+        Some(first) => first == 0x00 || first == 0x0D,
+        None => false,
+    }
+}
+
+/// The size of the instruction of a point, where it changes nothing and the next point has the same state.
+fn idle_size(at: &At<'_>) -> Option<u32>
+    ensures { IfSome result
+        (IsCode at.now.image.now at.now.plan.now at.now.point.addr Nothing) }
+{
+    if at.point.next.is_none() {
+        return None;
+    }
+    if !may_be_idle(at.image, at.point.addr) {
+        return None;
+    }
+    let Some(found) = code_at(at.image, at.plan, at.point.addr) else {
+        return None;
+    };
+    if is_idle(&found.0) {
+        Some(found.1)
+    } else {
+        None
     }
 }
 
@@ -97,6 +162,16 @@ pub(crate) fn broken_by_point(
     if !has_values(b, point) {
         return Some(2);
     }
-    let found = local_check(b, image, plan, &node.key, point.addr, point.state);
-    broken_by_located(b, image, plan, cert, node, point, &found)
+    let at = At {
+        bounds: b,
+        image,
+        plan,
+        cert,
+        node,
+        point,
+    };
+    match idle_size(&at) {
+        Some(size) => broken_by_idle(&at, size),
+        None => broken_by_any(&at),
+    }
 }

@@ -1,153 +1,174 @@
 // The least rule that the jumps of a point in its frame break: rule 4, or none.
-ghost use Rattle.std.specs.Prelude.{◌≡◌, [], ◌∷◌, ◌++◌, unwrap_or, false, true, IfSome};
-ghost use Rattle.value_domain.specs.State.{AreValues, AreWell};
+ghost use Rattle.std.specs.Prelude.{◌≡◌, [], ◌∷◌, ◌++◌, unwrap_or, false, true, IfSome, IsTrue, Bool};
+ghost use Rattle.tcd_plan.specs.PlanData.{PlanData};
+ghost use Rattle.value_domain.specs.declared.values.Val.{Val};
+ghost use Rattle.value_domain.specs.declared.states.State.{State};
+ghost use Rattle.value_domain.specs.Limits.{Limits};
+ghost use Rattle.value_domain.specs.State.{AreValues, Covers};
 ghost use Rattle.tc_isa.specs.Bounded.{IsShape, IsTarget};
 ghost use Rattle.vd_transfer.specs.Branches.{refine_of};
-ghost use Rattle.depth_cert.specs.Certs.{CertData};
+ghost use Rattle.vd_transfer.specs.Effects.{transfer_of};
 ghost use Rattle.cfg_recover.specs.Changes.{StandsFaultless};
 ghost use Rattle.cfg_recover.specs.Local.{targets_of};
 ghost use Rattle.cfg_recover.specs.Duties.{owed, jump, jumps_to, jump_on, next_of, successors_of};
-ghost use Rattle.cfg_recover.specs.Accepting.{HasPoint};
-ghost use Rattle.depth_check.specs.Finding.{IsWellNode, Finds, DutiesHold};
+ghost use Rattle.depth_check.specs.Points.{IsAt, Breaks};
 
-use crate::covering::{has_changed, has_next, has_points};
+use crate::covering::{has_changed_next, has_next, has_points};
 use crate::duties::{least, unless};
-use crate::forms::{Frame, Here};
+use crate::point_at::At;
 use cfg_recover::{Located, loaded_from, targets};
-use elf_image::Image;
 use tc_isa::{Shape, Target};
-use tcd_plan::Plan;
-use value_domain::{Bounds, State};
 use vd_transfer::{change_of, change_on};
 
-/// A jump on a side of a branch, if that side is possible.
-fn broken_by_side(
-    b: &Bounds,
-    plan: &Plan,
-    node: &Frame<'_>,
-    s: &State,
-    shape: Shape,
-    taken: bool,
-    to: u32,
-) -> Option<u8>
-    requires node { IsWellNode node.now }
-    requires values { AreValues b.now s.now.regs }
+/// A jump with what a side of a branch changes, if that side is possible.
+#[inline(never)]
+fn broken_by_change(at: &At<'_>, shape: Shape, taken: bool, to: u32) -> Option<u8>
+    requires point { IsAt at.now }
     requires shape { IsShape shape }
-    ensures { (cert : CertData)
-        → Finds (DutiesHold cert node.now s.now
-        (jump_on to (refine_of b.now plan.now shape s.now taken))) result }
+    ensures { Breaks at.now
+        (jump_on to
+        (refine_of at.now.bounds.now at.now.plan.now shape at.now.point.state.now taken)) result }
 {
-    match change_on(b, plan, shape, s, taken) {
-        Some(c) => unless(has_changed(node, to, s, &c), 4),
+    let change = change_on(at.bounds, at.plan, shape, at.point.state, taken);
+    match &change {
+        Some(c) => {
+            let holds = has_changed_next(at.node, to, at.point.state, c, at.point.next);
+            unless(holds, 4)
+        }
         None => None,
     }
 }
 
+/// Whether a side of this branch allows no more than the state before it: all that lower no counter.
+fn only_narrows(shape: Shape) -> bool
+    ensures { IsTrue result → (b : Limits) (plan : PlanData) (s : State) (side : Bool)
+        → AreValues b s.regs → IfSome (refine_of b plan shape s side) (Covers s) }
+{
+    match shape {
+        Shape::Branch { lowers, .. } => !lowers,
+        _ => false,
+    }
+}
+
+/// A jump on a side of a branch, if that side is possible. A point that covers the state before it is enough, where the side
+/// allows no more.
+fn broken_by_side(at: &At<'_>, shape: Shape, taken: bool, to: u32) -> Option<u8>
+    requires point { IsAt at.now }
+    requires shape { IsShape shape }
+    ensures { Breaks at.now
+        (jump_on to
+        (refine_of at.now.bounds.now at.now.plan.now shape at.now.point.state.now taken)) result }
+{
+    if only_narrows(shape) {
+        if has_next(at.node, to, at.point.state, at.point.next) {
+            return None;
+        }
+    }
+    broken_by_change(at, shape, taken, to)
+}
+
 /// Both sides of a branch.
 #[inline(never)]
-fn broken_by_sides(
-    b: &Bounds,
-    plan: &Plan,
-    node: &Frame<'_>,
-    s: &State,
-    shape: Shape,
-    next: u32,
-    to: u32,
-) -> Option<u8>
-    requires node { IsWellNode node.now }
-    requires values { AreValues b.now s.now.regs }
+fn broken_by_sides(at: &At<'_>, shape: Shape, next: u32, to: u32) -> Option<u8>
+    requires point { IsAt at.now }
     requires shape { IsShape shape }
-    ensures { (cert : CertData)
-        → Finds (DutiesHold cert node.now s.now
-        (jump_on next (refine_of b.now plan.now shape s.now false)
-        ++ jump_on to (refine_of b.now plan.now shape s.now true))) result }
+    ensures { Breaks at.now
+        (jump_on next
+        (refine_of at.now.bounds.now at.now.plan.now shape at.now.point.state.now false)
+        ++ jump_on to
+        (refine_of at.now.bounds.now at.now.plan.now shape at.now.point.state.now true)) result }
 {
-    let on = broken_by_side(b, plan, node, s, shape, false, next);
-    let off = broken_by_side(b, plan, node, s, shape, true, to);
+    let on = broken_by_side(at, shape, false, next);
+    let off = broken_by_side(at, shape, true, to);
     least(on, off)
 }
 
 /// A jump with the state as it is.
 #[inline(never)]
-fn broken_by_jump(plan: &Plan, node: &Frame<'_>, addr: u32, s: &State, to: Target) -> Option<u8>
-    requires node { IsWellNode node.now }
-    requires state { AreWell s.now.regs }
+fn broken_by_jump(at: &At<'_>, to: Target) -> Option<u8>
+    requires point { IsAt at.now }
     requires target { IsTarget to }
-    ensures { (cert : CertData)
-        → Finds (DutiesHold cert node.now s.now
-        (jumps_to s.now (unwrap_or (targets_of plan.now s.now addr to) []))) result }
+    ensures { Breaks at.now
+        (jumps_to at.now.point.state.now
+        (unwrap_or (targets_of at.now.plan.now at.now.point.state.now at.now.point.addr to) []))
+        result }
 {
-    let targets = targets(plan, s, addr, to);
-    unless(has_points(node, targets.as_slice(), s), 4)
+    let s = at.point.state;
+    let targets = targets(at.plan, s, at.point.addr, to);
+    unless(has_points(at.node, targets.as_slice(), s), 4)
 }
 
 /// The step over an instruction that changes nothing.
-fn broken_by_pass(node: &Frame<'_>, point: Here<'_>, next: u32) -> Option<u8>
-    requires node { IsWellNode node.now }
-    requires state { AreWell point.state.now.regs }
-    requires next { IfSome point.next (λ a. HasPoint node.now a point.state.now) }
-    ensures { (cert : CertData)
-        → Finds (DutiesHold cert node.now point.entry.state.now
-        (owed 4 (jump next point.entry.state.now) ∷ [])) result }
+pub(crate) fn broken_by_pass(at: &At<'_>, next: u32) -> Option<u8>
+    requires { IsAt at.now }
+    ensures { Breaks at.now (owed 4 (jump next at.now.point.state.now) ∷ []) result }
 {
-    unless(has_next(node, next, point.state, point.next), 4)
+    unless(has_next(at.node, next, at.point.state, at.point.next), 4)
 }
 
 /// The step to the next instruction.
 #[inline(never)]
-fn broken_by_step(
-    b: &Bounds,
-    image: &Image,
-    plan: &Plan,
-    node: &Frame<'_>,
-    addr: u32,
-    s: &State,
-    found: &Located,
-) -> Option<u8>
-    requires node { IsWellNode node.now }
-    requires values { AreValues b.now s.now.regs }
-    requires found { StandsFaultless b.now image.now plan.now node.now.key addr s.now found.now }
-    ensures { (cert : CertData)
-        → Finds (DutiesHold cert node.now s.now
-        (next_of b.now image.now plan.now addr s.now found.now.shape found.now.size)) result }
+fn broken_by_step(at: &At<'_>, found: &Located) -> Option<u8>
+    requires point { IsAt at.now }
+    requires found { StandsFaultless at.now.bounds.now at.now.image.now at.now.plan.now
+        at.now.node.now.key at.now.point.addr at.now.point.state.now found.now }
+    ensures { Breaks at.now
+        (next_of at.now.bounds.now at.now.image.now at.now.plan.now at.now.point.addr
+        at.now.point.state.now found.now.shape found.now.size) result }
 {
-    let value = loaded_from(b, image, plan, found.shape, &found.at);
-    let c = change_of(b, plan, found.shape, s, value);
-    unless(has_changed(node, addr.wrapping_add(found.size), s, &c), 4)
+    let s = at.point.state;
+    let value = loaded_from(at.bounds, at.image, at.plan, found.shape, &found.at);
+    let c = change_of(at.bounds, at.plan, found.shape, s, value);
+    let next = at.point.addr.wrapping_add(found.size);
+    unless(has_changed_next(at.node, next, s, &c, at.point.next), 4)
+}
+
+/// Whether an instruction of this shape leaves a state as it is: one that changes nothing, and a store that doesn't increase
+/// its base.
+fn keeps_state(shape: Shape) -> bool
+    ensures { IsTrue result → (b : Limits) (plan : PlanData) (s : State) (loaded : Val)
+        → transfer_of b plan shape s loaded ≡ s }
+{
+    match shape {
+        Shape::Nothing => true,
+        Shape::Store { after, .. } => !after,
+        _ => false,
+    }
+}
+
+/// The step over an instruction that only goes on to the next one.
+fn broken_by_next(at: &At<'_>, found: &Located) -> Option<u8>
+    requires point { IsAt at.now }
+    requires found { StandsFaultless at.now.bounds.now at.now.image.now at.now.plan.now
+        at.now.node.now.key at.now.point.addr at.now.point.state.now found.now }
+    ensures { Breaks at.now
+        (next_of at.now.bounds.now at.now.image.now at.now.plan.now at.now.point.addr
+        at.now.point.state.now found.now.shape found.now.size) result }
+{
+    if keeps_state(found.shape) {
+        broken_by_pass(at, at.point.addr.wrapping_add(found.size))
+    } else {
+        broken_by_step(at, found)
+    }
 }
 
 /// The least rule broken by the successors in the same frame, without those after a call or a system call.
-#[tactic(auto, unfolding(vd_transfer::specs::Effects::transfer_of))]
-pub(crate) fn broken_by_successors(
-    b: &Bounds,
-    image: &Image,
-    plan: &Plan,
-    node: &Frame<'_>,
-    point: Here<'_>,
-    found: &Located,
-) -> Option<u8>
-    requires node { IsWellNode node.now }
-    requires values { AreValues b.now point.state.now.regs }
-    requires found { StandsFaultless b.now image.now plan.now node.now.key
-        point.addr point.state.now found.now }
-    requires next { IfSome point.next (λ a. HasPoint node.now a point.state.now) }
-    ensures { (cert : CertData)
-        → Finds (DutiesHold cert node.now point.entry.state.now
-        (successors_of b.now image.now plan.now point.entry.addr point.entry.state.now
-        found.now.shape found.now.size)) result }
+pub(crate) fn broken_by_successors(at: &At<'_>, found: &Located) -> Option<u8>
+    requires point { IsAt at.now }
+    requires found { StandsFaultless at.now.bounds.now at.now.image.now at.now.plan.now
+        at.now.node.now.key at.now.point.addr at.now.point.state.now found.now }
+    ensures { Breaks at.now
+        (successors_of at.now.bounds.now at.now.image.now at.now.plan.now at.now.point.addr
+        at.now.point.state.now found.now.shape found.now.size) result }
 {
-    let addr = point.addr;
-    let s = point.state;
+    let addr = at.point.addr;
     let next = addr.wrapping_add(found.size);
     let shape = found.shape;
     match shape {
-        Shape::Branch { by, .. } => {
-            broken_by_sides(b, plan, node, s, shape, next, addr.wrapping_add(by))
-        }
-        Shape::Jump { to } => broken_by_jump(plan, node, addr, s, to),
+        Shape::Branch { by, .. } => broken_by_sides(at, shape, next, addr.wrapping_add(by)),
+        Shape::Jump { to } => broken_by_jump(at, to),
         Shape::Call { .. } | Shape::Ret | Shape::Rfe | Shape::Syscall { .. } | Shape::Mtcr { .. } =>
             None,
-        Shape::Nothing => broken_by_pass(node, point, next),
-        _ => broken_by_step(b, image, plan, node, addr, s, found),
+        _ => broken_by_next(at, found),
     }
 }

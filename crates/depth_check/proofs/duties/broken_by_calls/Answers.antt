@@ -8,12 +8,12 @@ use Rattle.depth_check.proofs.duties.broken_by_calls.Goals as goal
 
 pub loop-t-preserved : goal.loop-t-preserved
 loop-t-preserved c =
-    entries_more c.args.cert.now c.args.node.now c.args.s.now 5 (c.args.node.now).key c.entered_key-key.result (called (state_after c.args.s.now c.args.entry.now) c.args.targets.now c.args.back) c.args.targets.now c.loop-t.t-index
+    entries_more c.args.at.now.cert.now c.args.at.now.node.now c.args.at.now.point.state.now 5 (c.args.at.now.node.now).key c.entered_key-key.result (called (state_after c.args.at.now.point.state.now c.args.entry.now) c.args.targets.now c.args.back) c.args.targets.now c.loop-t.t-index
     c.loop-t.found c.broken_by_entry-one.result c.least-found.result c.loop-t-test.true
     (c.entered_key-key.ensures ∙ ap (λ (k : Key). entered_key k 1 (get_or c.args.targets.now c.loop-t.t-index 0)) (c.node.invariant.same_key ∙ ap (λ (n : NodeData). n.key) c.node.view_is))
     c.least-found.ensures c.loop-t.invariant c.broken_by_entry-one.ensures
 
 pub returns : goal.returns
 returns c =
-    entries_done c.args.cert.now c.args.node.now c.args.s.now 5 (c.args.node.now).key (called (state_after c.args.s.now c.args.entry.now) c.args.targets.now c.args.back) c.args.targets.now c.loop-t.t-index c.loop-t.found
+    entries_done c.args.at.now.cert.now c.args.at.now.node.now c.args.at.now.point.state.now 5 (c.args.at.now.node.now).key (called (state_after c.args.at.now.point.state.now c.args.entry.now) c.args.targets.now c.args.back) c.args.targets.now c.loop-t.t-index c.loop-t.found
     c.loop-t-test.false c.loop-t.invariant

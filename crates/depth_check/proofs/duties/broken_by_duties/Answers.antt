@@ -6,13 +6,13 @@ use Rattle.depth_check.proofs.RuleLaws.{values_well}
 use Rattle.depth_check.proofs.duties.broken_by_duties.Goals as goal
 
 pub broken_by_leaving-leave-requires-clause-state : goal.broken_by_leaving-leave-requires-clause-state
-broken_by_leaving-leave-requires-clause-state c = values_well c.args.b.now _ c.requires.values
+broken_by_leaving-leave-requires-clause-state c = values_well c.args.at.now.bounds.now _ c.requires.point.values
 
 pub returns : goal.returns
 returns c =
     rw (c.least-4.ensures, c.least-3.ensures, c.least-2.ensures, c.least.ensures)
-    (parts_found c.args.b.now c.args.image.now c.args.plan.now c.args.cert.now c.args.node.now c.args.point.addr c.args.point.state.now c.args.found.now.shape c.args.found.now.size
+    (parts_found c.args.at.now.bounds.now c.args.at.now.image.now c.args.at.now.plan.now c.args.at.now.cert.now c.args.at.now.node.now c.args.at.now.point.addr c.args.at.now.point.state.now c.args.found.now.shape c.args.found.now.size
     c.broken_by_successors-jumps.result c.broken_by_entries-entered.result c.broken_by_access-misaligned.result c.broken_by_interrupts-irqs.result c.broken_by_leaving-leave.result
-    (c.broken_by_successors-jumps.ensures c.args.cert.now) c.broken_by_entries-entered.ensures c.broken_by_access-misaligned.ensures c.broken_by_interrupts-irqs.ensures
-    (shape_found c.args.cert.now c.args.node.now c.args.point.state.now c.args.found.now.shape c.broken_by_leaving-leave.result
-    (subst (λ (l : Leave). Finds (LeavingHolds c.args.node.now c.args.point.state.now l) c.broken_by_leaving-leave.result) c.leave_by.ensures c.broken_by_leaving-leave.ensures)))
+    c.broken_by_successors-jumps.ensures c.broken_by_entries-entered.ensures c.broken_by_access-misaligned.ensures c.broken_by_interrupts-irqs.ensures
+    (shape_found c.args.at.now.cert.now c.args.at.now.node.now c.args.at.now.point.state.now c.args.found.now.shape c.broken_by_leaving-leave.result
+    (subst (λ (l : Leave). Finds (LeavingHolds c.args.at.now.node.now c.args.at.now.point.state.now l) c.broken_by_leaving-leave.result) c.leave_by.ensures c.broken_by_leaving-leave.ensures)))

@@ -6,6 +6,6 @@ use Rattle.depth_check.proofs.duties.broken_by_irqs.Given as goal
 
 abbrev pub invariant-loop-p : goal.invariant-loop-p
 invariant-loop-p l = record {
-  found : Finds (DutiesHold l.cert l.node l.s (told_irqs l.plan (state_after l.s l.fn.entry) (take l.p-index l.irqs))) l.found;
+  found : Finds (DutiesHold l.at.cert.now l.at.node.now l.at.point.state.now (told_irqs l.at.plan.now (state_after l.at.point.state.now l.fn.entry) (take l.p-index l.irqs))) l.found;
   same : record l.entry { ccpn = 0 } ≡ record l.fn.entry { ccpn = 0 };
 }

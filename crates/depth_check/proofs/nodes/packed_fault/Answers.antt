@@ -12,7 +12,7 @@ use Rattle.depth_check.specs.declared.nodes.Fault.{Fault}
 use Rattle.depth_check.specs.Finding.{Finds}
 use Rattle.depth_check.specs.NodeFaults.{IsNodeFault, first_of}
 use Rattle.depth_check.specs.Asking.{AsksSame}
-use Rattle.depth_check.proofs.AskedLaws.{interrupts_at, asked_same, again_holds}
+use Rattle.depth_check.proofs.AskedLaws.{interrupts_at, asked_no_more, again_holds}
 use Rattle.depth_check.proofs.Deciding.{refuted}
 use Rattle.depth_check.proofs.RepeatLaws.{repeats_covers, repeats_known, known_here}
 use Rattle.depth_check.proofs.NodeLaws.{fault_at, none_at, entry_alone}
@@ -90,9 +90,9 @@ loop-addr-preserved-then-is_worth_keeping c =
       split = split_more points inv.done c.loop-addr.walk.left c.step.new.self.left p inv.split c.in-Some.ensures;
       all = All-push (λ (q : Point). (r : ℕ) → RuleHolds c.args.image.now c.args.plan.now c.args.cert.now c.args.node.now q r) inv.done p inv.all holds;
       said = repeats_known (limits_in c.args.plan.now c.args.cert.now) c.step.new.self c.repeats_at-repeats.result ((holds 2).values refl) c.repeats_at-repeats.ensures;
-      asked = λ (t : State) same.
-          asked_same c.args.plan.now c.args.cert.now c.args.node.now c.at.result c.step.new.self.current t
-          (subst (λ (s : State). AsksSame c.at.result s) c.state-s.ensures c.at.ensures) same
+      asked = λ (t : State) fewer.
+          asked_no_more c.args.plan.now c.args.cert.now c.args.node.now c.at.result c.step.new.self.current t
+          (subst (λ (s : State). AsksSame c.at.result s) c.state-s.ensures c.at.ensures) fewer
           (interrupts_at c.args.image.now c.args.plan.now c.args.cert.now c.args.node.now p holds);
     }
 

@@ -3,7 +3,7 @@ use Rattle.std.specs.Prelude.{All, IfSome}
 use Rattle.value_domain.specs.declared.states.State.{State}
 use Rattle.cfg_recover.specs.Accepting.{limits_in, RuleHolds}
 use Rattle.depth_cert.specs.declared.points.Point.{Point}
-use Rattle.depth_check.specs.Asking.{AsksSame, InterruptsHold}
+use Rattle.depth_check.specs.Asking.{AsksNoMore, InterruptsHold}
 use Rattle.depth_check.proofs.RepeatLaws.{FirstHasValues}
 use Rattle.depth_check.proofs.nodes.packed_fault.Given as goal
 
@@ -13,7 +13,7 @@ invariant-loop-addr l = record {
   split : (l.node).points ≡ done ++ (l.walk).left;
   all : All (λ (p : Point). (r : ℕ) → RuleHolds l.image l.plan l.cert l.node p r) done;
   said : IfSome l.said (λ a. FirstHasValues (limits_in l.plan l.cert) (l.walk).left);
-  asked : IfSome l.asked (λ a. (t : State) → AsksSame a t → InterruptsHold l.plan l.cert l.node t);
+  asked : IfSome l.asked (λ a. (t : State) → AsksNoMore a t → InterruptsHold l.plan l.cert l.node t);
 }
 
 abbrev pub decreases-loop-addr : goal.decreases-loop-addr

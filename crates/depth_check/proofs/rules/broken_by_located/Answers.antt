@@ -10,15 +10,15 @@ use Rattle.depth_check.proofs.rules.broken_by_located.Goals as goal
 
 pub returns-in-Ok : goal.returns-in-Ok
 returns-in-Ok c =
-    let stands = subst (λ (b : Limits). StandsFaultless b c.args.image.now c.args.plan.now (c.args.node.now).key c.args.point.addr c.args.point.state.now c.in-Ok.found) c.requires.limits (rw c.in-Ok.is at c.requires.duties) in
+    let stands = subst (λ (b : Limits). StandsFaultless b c.args.at.now.image.now c.args.at.now.plan.now (c.args.at.now.node.now).key c.args.at.now.point.addr c.args.at.now.point.state.now c.in-Ok.found) c.requires.point.limits (rw c.in-Ok.is at c.requires.duties) in
     rw (c.least.ensures, c.unless-need.ensures)
-    (duties_found c.args.image.now c.args.plan.now c.args.cert.now c.args.node.now (point_here c.args.point) c.in-Ok.found.shape c.in-Ok.found.size
-    (subst (λ (b : Limits). AreValues b (c.args.point.state.now).regs) c.requires.limits c.requires.values)
+    (duties_found c.args.at.now.image.now c.args.at.now.plan.now c.args.at.now.cert.now c.args.at.now.node.now (point_here c.args.at.now.point) c.in-Ok.found.shape c.in-Ok.found.size
+    (subst (λ (b : Limits). AreValues b (c.args.at.now.point.state.now).regs) c.requires.point.limits c.requires.point.values)
     stands.faultless stands.code
     c.broken_by_duties-duties.result c.has_own_need.result
-    (subst (λ (b : Limits). Finds (DutiesHold c.args.cert.now c.args.node.now c.args.point.state.now (duties_of b c.args.image.now c.args.plan.now (c.args.node.now).key c.args.point.addr c.args.point.state.now c.in-Ok.found.shape c.in-Ok.found.size)) c.broken_by_duties-duties.result) c.requires.limits c.broken_by_duties-duties.ensures)
+    (subst (λ (b : Limits). Finds (DutiesHold c.args.at.now.cert.now c.args.at.now.node.now c.args.at.now.point.state.now (duties_of b c.args.at.now.image.now c.args.at.now.plan.now (c.args.at.now.node.now).key c.args.at.now.point.addr c.args.at.now.point.state.now c.in-Ok.found.shape c.in-Ok.found.size)) c.broken_by_duties-duties.result) c.requires.point.limits c.broken_by_duties-duties.ensures)
     c.has_own_need.ensures)
 
 pub returns-in-Err : goal.returns-in-Err
 returns-in-Err c =
-    own_broken c.args.image.now c.args.plan.now c.args.cert.now c.args.node.now (point_here c.args.point) c.args.b.now c.in-Err.rule c.requires.limits c.requires.values (rw c.in-Err.is at c.requires.fault)
+    own_broken c.args.at.now.image.now c.args.at.now.plan.now c.args.at.now.cert.now c.args.at.now.node.now (point_here c.args.at.now.point) c.args.at.now.bounds.now c.in-Err.rule c.requires.point.limits c.requires.point.values (rw c.in-Err.is at c.requires.fault)

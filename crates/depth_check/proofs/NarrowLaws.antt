@@ -1,0 +1,130 @@
+-- What covers a state covers it on a side of a branch, too, where the branch lowers no counter.
+use Rattle.std.proofs.Common.{◌≡◌, ℕ, ◌<◌, ◌∷◌, [], Bool, true, false, List, length, set, get_or, Option, Some, None, inl, inr, arith, refl, sym, subst, ap, ◌∙◌, eq-eqb, ◌==◌}
+use Rattle.std.specs.Prelude.{IfSome}
+use Rattle.std.specs.List.{list_any}
+use Rattle.std.proofs.lemmas.Bool.{cases_Bool, eqb-true}
+use Rattle.std.proofs.lemmas.List.{get_or-set_same, get_or-set_other}
+use Rattle.std.proofs.Math.ListN.{length-set}
+use Rattle.tcd_plan.specs.PlanData.{PlanData}
+use Rattle.tc_isa.specs.declared.shapes.Cond.{Cond}
+use Rattle.tc_isa.specs.declared.shapes.Arg.{Arg}
+use Rattle.tc_isa.specs.declared.shapes.Arg.TheVariants.{Reg, Word}
+use Rattle.tc_isa.specs.declared.shapes.Shape.TheVariants.{Branch}
+use Rattle.value_domain.specs.declared.values.Val.{Val}
+use Rattle.value_domain.specs.declared.states.State.{State}
+use Rattle.value_domain.specs.Limits.{Limits}
+use Rattle.value_domain.specs.Sets.{Within}
+use Rattle.value_domain.specs.Values.{any_val, members, cover, IsValue, IsBelow}
+use Rattle.value_domain.specs.State.{AreValues, Covers}
+use Rattle.value_domain.proofs.CoverLaws.{cover_mono}
+use Rattle.vd_transfer.specs.Refinement.{holds, kept_left, kept_right, kept_both, cover_some}
+use Rattle.vd_transfer.specs.Registers.{slot, set_at, value_at, reg_of, arg_of}
+use Rattle.vd_transfer.specs.Branches.{is_reg, set_arg, with_one, with_two, state_on_side, with_lowered_counter, refine_of}
+use Rattle.vd_transfer.proofs.Meets.{among_filter}
+use Rattle.depth_cert.specs.Points.{find_point}
+use Rattle.depth_cert.specs.Nodes.{NodeData}
+use Rattle.depth_cert.specs.Certs.{CertData}
+use Rattle.cfg_recover.specs.Duties.{jump_on}
+use Rattle.cfg_recover.specs.Accepting.{HasPoint}
+use Rattle.depth_check.specs.Finding.{Finds, DutiesHold}
+use Rattle.depth_check.proofs.Deciding.{yes}
+use Rattle.depth_check.proofs.DutyLaws.{nothing_found, point_found}
+use Rattle.depth_check.proofs.PutLaws.{covers_trans, found_more}
+use Rattle.depth_check.proofs.RepeatLaws.{covers_same}
+
+-- ---- values
+-- the cover of some of a value's members is below it
+cover_below : (b : Limits) (v z : Val) (xs : List ℕ) → IsValue b v → Within xs (members v) → cover_some b xs ≡ Some z → IsBelow z v
+cover_below b v z [] value there e = absurd (let f : None ≡ Some z = e in cc)
+cover_below b v z (x ∷ xs) value there e =
+    let same : cover b (x ∷ xs) ≡ z = (let f : Some (cover b (x ∷ xs)) ≡ Some z = e in cc) in
+    let below : IsBelow (cover b (x ∷ xs)) (cover b (members v)) = cover_mono b (x ∷ xs) (members v) (omega arith) there in
+    subst (λ (u : Val). IsBelow u v) same (subst (λ (u : Val). IsBelow (cover b (x ∷ xs)) u) value.own below)
+
+place_below : (b : Limits) (plan : PlanData) (s : State) (r : ℕ) (o : Option ℕ) (z : Val) (xs : List ℕ) → AreValues b s.regs → Within xs (members (value_at plan s r o)) → cover_some b xs ≡ Some z
+    → IfSome o (λ i. i < length s.regs → IsBelow z (get_or s.regs i any_val))
+place_below b plan s r None z xs values there e = tt
+place_below b plan s r (Some i) z xs values there e = λ lt. cover_below b (get_or s.regs i any_val) z xs (values i lt) there e
+
+-- ---- states
+length_set_at : (t : State) (v : Val) (o : Option ℕ) → length (set_at t v o).regs ≡ length t.regs
+length_set_at t v None = refl
+length_set_at t v (Some i) = length-set t.regs i v
+
+apart : (r i : ℕ) → (r == i) ≡ false → r ≡ i → ⊥
+apart r i n e =
+    let same : (r == i) ≡ true = eq-eqb r i e in
+    let no : false ≡ true = sym n ∙ same in
+    cc
+
+value_covers : (s t : State) (v : Val) (i r : ℕ) → length t.regs ≡ length s.regs → Covers s t → (i < length s.regs → IsBelow v (get_or s.regs i any_val)) → r < length t.regs
+    → IsBelow (get_or (set t.regs i v) r any_val) (get_or s.regs r any_val)
+value_covers s t v i r len c h lt =
+    elim (cases_Bool (r == i)) [
+      | inl e ↦
+          let same : r ≡ i = eqb-true r i e in
+          let here : get_or (set t.regs i v) i any_val ≡ v = get_or-set_same t.regs i v any_val (omega (arith, same, lt)) in
+          let below : IsBelow v (get_or s.regs i any_val) = h (omega (arith, same, lt, len)) in
+          subst (λ (k : ℕ). IsBelow (get_or (set t.regs i v) k any_val) (get_or s.regs k any_val)) (sym same) (subst (λ (u : Val). IsBelow u (get_or s.regs i any_val)) (sym here) below)
+      | inr n ↦
+          let other : get_or (set t.regs i v) r any_val ≡ get_or t.regs r any_val = get_or-set_other t.regs i r v any_val (apart r i n) in
+          subst (λ (u : Val). IsBelow u (get_or s.regs r any_val)) (sym other) (c.regs r lt)
+    ]
+
+set_covers : (s t : State) (v : Val) (o : Option ℕ) → length t.regs ≡ length s.regs → Covers s t → IfSome o (λ i. i < length s.regs → IsBelow v (get_or s.regs i any_val)) → Covers s (set_at t v o)
+set_covers s t v None len c h = c
+set_covers s t v (Some i) len c h = record {
+  regs = λ r lt. (let within : r < length (set t.regs i v) = lt in value_covers s t v i r len c h (omega (arith, within, length-set t.regs i v)));
+  context = c.context;
+  locals = c.locals;
+}
+
+one_covers : (b : Limits) (plan : PlanData) (s : State) (x : ℕ) (xs : List ℕ) (o : Option Val) → AreValues b s.regs → Within xs (members (reg_of plan s x)) → cover_some b xs ≡ o → IfSome (with_one s x o) (Covers s)
+one_covers b plan s x xs None values there e = tt
+one_covers b plan s x xs (Some z) values there e = set_covers s s z (slot x) refl (covers_same s) (place_below b plan s x (slot x) z xs values there e)
+
+two_covers : (b : Limits) (plan : PlanData) (s : State) (x : ℕ) (y : Arg) (xs ys : List ℕ) (o q : Option Val) → AreValues b s.regs → Within xs (members (reg_of plan s x)) → Within ys (members (arg_of plan s y))
+    → cover_some b xs ≡ o → cover_some b ys ≡ q → IfSome (with_two s x y o q) (Covers s)
+two_covers b plan s x y xs ys None q values left right e f = tt
+two_covers b plan s x y xs ys (Some v) None values left right e f = tt
+two_covers b plan s x (Word k) xs ys (Some v) (Some w) values left right e f = one_covers b plan s x xs (Some v) values left e
+two_covers b plan s x (Reg r) xs ys (Some v) (Some w) values left right e f =
+    set_covers s (set_at s v (slot x)) w (slot r) (length_set_at s v (slot x)) (one_covers b plan s x xs (Some v) values left e) (place_below b plan s r (slot r) w ys values right f)
+
+-- ---- sides
+left_within : (test : Cond) (side : Bool) (vs ws : List ℕ) → Within (kept_left test side vs ws) vs
+unfolding kept_left
+left_within test side vs ws z i = (among_filter (λ x. list_any (λ y. holds test side x y) ws) z vs i).0
+
+right_within : (test : Cond) (side : Bool) (vs ws : List ℕ) → Within (kept_right test side vs ws) ws
+unfolding kept_right
+right_within test side vs ws z i = (among_filter (λ y. list_any (λ x. holds test side x y) vs) z ws i).0
+
+both_within : (test : Cond) (side : Bool) (vs : List ℕ) → Within (kept_both test side vs) vs
+unfolding kept_both
+both_within test side vs z i = (among_filter (λ z. holds test side z z) z vs i).0
+
+side_covers : (b : Limits) (plan : PlanData) (test : Cond) (x : ℕ) (y : Arg) (s : State) (side : Bool) → AreValues b s.regs → IfSome (state_on_side b plan test x y s side) (Covers s)
+side_covers b plan test x y s side values =
+    elim (cases_Bool (is_reg x y)) [
+      | inl one ↦ rw one (one_covers b plan s x (kept_both test side (members (reg_of plan s x))) _ values (both_within test side (members (reg_of plan s x))) refl)
+      | inr two ↦
+          rw two
+          (two_covers b plan s x y (kept_left test side (members (reg_of plan s x)) (members (arg_of plan s y))) (kept_right test side (members (reg_of plan s x)) (members (arg_of plan s y))) _ _ values
+          (left_within test side (members (reg_of plan s x)) (members (arg_of plan s y))) (right_within test side (members (reg_of plan s x)) (members (arg_of plan s y))) refl refl)
+    ]
+
+unlowered : (b : Limits) (plan : PlanData) (x : ℕ) (o : Option State) (P : State → Type 0) → IfSome o P → IfSome (with_lowered_counter b plan x false o) P
+unlowered b plan x None P h = h
+unlowered b plan x (Some t) P h = h
+
+pub branch_covers : (b : Limits) (plan : PlanData) (test : Cond) (x : ℕ) (y : Arg) (by : ℕ) (lowers : Bool) (s : State) (side : Bool) → lowers ≡ false → AreValues b s.regs → IfSome (refine_of b plan (Branch test x y by lowers) s side) (Covers s)
+unfolding refine_of
+branch_covers b plan test x y by true s side e values = absurd (let f : true ≡ false = e in cc)
+branch_covers b plan test x y by false s side e values = unlowered b plan x (state_on_side b plan test x y s side) (Covers s) (side_covers b plan test x y s side values)
+
+-- ---- duties
+-- the jump to a point that covers the state is met
+pub side_found : (cert : CertData) (node : NodeData) (s : State) (to : ℕ) (o : Option State) → IfSome o (λ t. length t.regs ≡ length s.regs) → IfSome o (Covers s) → HasPoint node to s → Finds (DutiesHold cert node s (jump_on to o)) None
+side_found cert node s to None len c h = nothing_found cert node s
+side_found cert node s to (Some t) len c h = point_found cert node s t to true (yes _ (found_more (find_point to node.points) s t (λ upper d. covers_trans upper s t len d c) h))
