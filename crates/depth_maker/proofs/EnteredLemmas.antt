@@ -104,6 +104,13 @@ entered_parts js bs ds es ls none last =
     ∙ flat_map-append f (js ++ bs ++ ds) es
     ∙ ap (λ (l : List Key). l ++ entered_in es) (flat_map-append f (js ++ bs) ds ∙ ap (λ (l : List Key). l ++ entered_in ds) (flat_map-append f js bs ∙ ap (λ (l : List Key). l ++ entered_in bs) none))
 
+pub entered_whole : (b : Limits) (image : ImageData) (plan : PlanData) (k : Key) (p : ℕ) (s : State) (shape : Shape) (n : ℕ)
+    → entered_in (duties_of b image plan k p s shape n) ≡ (entered_in (entries_of plan k p s shape n) ++ entered_in (misaligned_of b plan k s shape)) ++ entered_in (interrupts_of plan k s)
+unfolding duties_of
+entered_whole b image plan k p s shape n =
+    entered_parts (successors_of b image plan p s shape n) (entries_of plan k p s shape n) (misaligned_of b plan k s shape) (interrupts_of plan k s) (leavings_of k s shape)
+    (entered_successors b image plan p s shape n) (entered_leavings k s shape)
+
 -- ---- what is entered is owed
 pub entered_owed : (ds : List Owed) (k : Key) → Contains (entered_in ds) k → (t : State) × ((d : Owed) × Contains ds d × (d.duty ≡ enter k t))
 entered_owed [] k c = absurd (omega (arith, c.1))

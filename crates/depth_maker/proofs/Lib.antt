@@ -38,3 +38,7 @@ pub mod FindLemmas
 pub mod OutLemmas
 pub mod SpelledLaws
 pub mod MakeLemmas
+pub mod PlainRows
+pub mod HearingLaws
+pub mod PaidHeard
+pub mod HandlerLaws

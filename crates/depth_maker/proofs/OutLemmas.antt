@@ -57,12 +57,6 @@ state_there s source k p w u at is =
     let same : u ≡ e.0 = subst (λ (w : Known). IsStateAt w u) e.1 is in
     at ∙ ap (λ (w : Known). Some w) (e.1 ∙ ap state (sym same))
 
-pub state_well : (s : Source) → IsSource s → (k : Key) (p : ℕ) (u : State) → known_on s (point k p) ≡ Some (state u) → All IsWell u.regs
-unfolding seen
-state_well s source k p u at =
-    let good : IsProper (s.ground.now).bounds.now u = done_proper s.ground.now s.table.now source.done (Point k p) (state u) at in
-    well_values (s.ground.now).bounds.now u.regs good.values
-
 pub writes_point : (s : Source) (k : Key) (p : ℕ) (u : State) (old mid new : List ℕ) → known_on s (point k p) ≡ Some (state u) → u.ccpn < 2 ^ 8 → mid ≡ old ++ bytes_of_word p → new ≡ mid ++ bytes_of_state u
     → WritesPoint s k p old new
 unfolding bytes_of_point

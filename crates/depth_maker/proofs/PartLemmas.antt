@@ -25,6 +25,7 @@ use Rattle.cfg_recover.specs.Assignments.{Place, point, exit, CoversAt, HasDuty,
 use Rattle.depth_cert.specs.Known.{Known, state, leaving, IsProper}
 use Rattle.cfg_recover.proofs.CodeLaws.{IsCode-one}
 use Rattle.depth_maker.specs.Growth.{IsProperDuty}
+use Rattle.depth_maker.specs.Hearing.{HeardEntered}
 use Rattle.depth_maker.specs.Proper.{AreLawful}
 use Rattle.depth_maker.specs.Tables.{Table, IsTable, Settled, IsResumed}
 use Rattle.depth_maker.proofs.PlaceLaws.{one_state}
@@ -36,6 +37,7 @@ use Rattle.frame_places.specs.Spots.{spot_eq}
 use Rattle.depth_maker.specs.Spots.{spot_of, place_of}
 use Rattle.depth_maker.proofs.SpotLemmas.{back, forth}
 use Rattle.depth_maker.proofs.CountedLemmas.{counted_again}
+use Rattle.depth_maker.proofs.HearingLaws.{heard_again}
 use Rattle.depth_maker.proofs.LevelSteps.{rises_then, same_level}
 use Rattle.depth_maker.specs.View.{seen, IsFine, Keeps, Joined, Paid, PaidFor, AllSettled, Owes, IsVisited}
 use Rattle.frame_places.specs.Marks.{is_idle, is_queued, Reads}
@@ -318,9 +320,9 @@ module _ (b : Limits) (image : ImageData) (plan : PlanData) (k : Key) (p : ℕ) 
 -- ---- a registration
 -- the point was written down among the readers of an exit
 pub registered_fine : (b : Limits) (image : ImageData) (plan : PlanData) (laws : AreLawful b image plan) (s t : made.Table) → t.cells ≡ s.cells → t.marks ≡ s.marks → t.work.items ≡ s.work.items
-    → t.points.items ≡ s.points.items → t.frames.items ≡ s.frames.items → ((z q : Spot) → Reads (get spot_eq s.readers z) q → Reads (get spot_eq t.readers z) q) → IsFine b image plan s → IsFine b image plan t × Keeps b image plan s t
+    → t.points.items ≡ s.points.items → t.frames.items ≡ s.frames.items → t.heard ≡ s.heard → ((z q : Spot) → Reads (get spot_eq s.readers z) q → Reads (get spot_eq t.readers z) q) → IsFine b image plan s → IsFine b image plan t × Keeps b image plan s t
 unfolding seen
-registered_fine b image plan laws s t cells marks work points frames readers fine =
+registered_fine b image plan laws s t cells marks work points frames heard readers fine =
     let same : (q : Spot) → get spot_eq t.cells q ≡ get spot_eq s.cells q = λ q. ap (λ m. get spot_eq m q) cells in
     let marked : (q : Spot) → get spot_eq t.marks q ≡ get spot_eq s.marks q = λ q. ap (λ m. get spot_eq m q) marks in (
       record {
@@ -329,6 +331,7 @@ registered_fine b image plan laws s t cells marks work points frames readers fin
         listed = record { listed = λ q at. subst (λ (w : List Spot). Contains w q) (sym work) (fine.listed.listed q (sym (marked q) ∙ at)) };
         marked = λ q w at. subst (λ (o : Option Mark). IsSome o) (sym (marked q)) (fine.marked q w (sym (same q) ∙ at));
         counted = counted_again s.cells t.cells s.points.items t.points.items s.frames.items t.frames.items (λ q. same (spot_of q)) points frames fine.counted;
+        heard = heard_again b plan (seen s).cells (seen t).cells (λ q. same (spot_of q)) t.heard (subst (HeardEntered b plan (seen s).cells) (sym heard) fine.heard);
       },
       record {
         each = λ x free. (marked x, same x);

@@ -27,7 +27,9 @@ use Rattle.depth_maker.proofs.Below.{asks_proper}
 use Rattle.depth_maker.proofs.CountedLemmas.{counted_after}
 use Rattle.depth_maker.proofs.LevelLaws.{rank_rises}
 use Rattle.depth_maker.proofs.LevelSteps.{level_rises}
+use Rattle.depth_maker.specs.Hearing.{HeardEntered}
 use Rattle.depth_maker.specs.Levels.{rank_at}
+use Rattle.depth_maker.proofs.HearingLaws.{heard_stays}
 use Rattle.frame_places.proofs.SpotLemmas.{spot_tells}
 use Rattle.depth_maker.proofs.SpotLemmas.{back, forth, agrees}
 use Rattle.frame_places.specs.Marks.{AllListed, Touched, is_idle, is_queued, Reads, Woken}
@@ -51,7 +53,7 @@ cells_proper b image plan laws t fine q v at =
 module _ (b : Limits) (image : ImageData) (plan : PlanData) (laws : AreLawful b image plan) (s t : made.Table) (y : Spot) (v u : Known)
     (asks : Asks b image plan (seen s).cells (place_of y) v) (raises : raised b (get spot_eq s.cells y) v ≡ Some u)
     (after : (q : Spot) → get spot_eq t.cells q ≡ (if spot_eq y q then Some u else get spot_eq s.cells q))
-    (readers : t.readers ≡ s.readers) (points : t.points.items ≡ points_after (is_some (get spot_eq s.cells y)) s.points.items y)
+    (readers : t.readers ≡ s.readers) (heard : t.heard ≡ s.heard) (points : t.points.items ≡ points_after (is_some (get spot_eq s.cells y)) s.points.items y)
     (frames : t.frames.items ≡ frames_after (is_some (get spot_eq s.cells y)) s.frames.items y)
     (few : AreFew (map place_of t.points.items) t.frames.items) (woken : Woken s.marks t.marks s.readers y) (listed : AllListed t.marks t.work.items) (fine : IsFine b image plan s)
     (new : (w : Known) → get spot_eq s.cells y ≡ Some w → CoversKnown w v → ⊥) (small : priority_of v < 256) where
@@ -125,10 +127,15 @@ module _ (b : Limits) (image : ImageData) (plan : PlanData) (laws : AreLawful b 
     rises = inl (level_rises s t y u (is_some (get spot_eq s.cells y)) after points frames the_counted higher);
   }
 
+  the_heard : HeardEntered b plan (seen t).cells t.heard
+  the_heard =
+      heard_stays b image plan laws (seen s).cells (seen t).cells (place_of y) (derived_proper b image plan laws (seen s).cells (fine.table).derived) the_joining t.heard
+      (subst (HeardEntered b plan (seen s).cells) (sym heard) fine.heard)
+
   pub the_joined : Joined b image plan s t y v
   unfolding seen the_joining
   the_joined = record {
-    fine = record { table = the_table; listed = listed; marked = the_marked; counted = the_counted };
+    fine = record { table = the_table; listed = listed; marked = the_marked; counted = the_counted; heard = the_heard };
     covers = joined_covers b image plan laws (seen s).cells (seen t).cells (place_of y) (derived_proper b image plan laws (seen s).cells (fine.table).derived) the_joining;
     keeps = the_keeping;
   }

@@ -16,10 +16,12 @@ use Rattle.cfg_recover.specs.Local.{IsFaultless}
 use Rattle.cfg_recover.specs.Duties.{Owed, duties_of}
 use Rattle.cfg_recover.specs.Assignments.{Place, point, exit, same_place, Derived, begins, Closed, first_place}
 use Rattle.depth_cert.specs.Known.{Known, state, leaving}
+use Rattle.depth_maker.specs.Hearing.{HeardEntered}
 use Rattle.depth_maker.specs.Proper.{AllFaultless, AreLawful}
 use Rattle.depth_maker.specs.Tables.{Table, IsTable, Settled}
 use Rattle.depth_maker.proofs.TableLaws.{derived_proper, table_closed, table_marked, table_settles, settled_again}
 use Rattle.depth_maker.proofs.PlaceKinds.{IsOfKind, derived_kinds}
+use Rattle.depth_maker.proofs.HearingLaws.{heard_again}
 use Rattle.depth_maker.proofs.PartLemmas.{keeps_all}
 use Rattle.frame_places.specs.declared.places.Spot.{Spot}
 use Rattle.frame_places.specs.declared.places.Spot.TheVariants.{Point, Exit}
@@ -38,7 +40,7 @@ use Rattle.depth_maker.proofs.CountedLemmas.{counted_again, counted_start}
 
 -- ---- one place gets a mark
 module _ (b : Limits) (image : ImageData) (plan : PlanData) (laws : AreLawful b image plan) (s t : made.Table) (x : Spot) (cells : t.cells ≡ s.cells) (readers : t.readers ≡ s.readers) (points : t.points.items ≡ s.points.items)
-    (frames : t.frames.items ≡ s.frames.items) where
+    (frames : t.frames.items ≡ s.frames.items) (heard : t.heard ≡ s.heard) where
   the_cells : (q : Spot) → get spot_eq t.cells q ≡ get spot_eq s.cells q
   the_cells q = ap (λ m. get spot_eq m q) cells
 
@@ -51,6 +53,10 @@ module _ (b : Limits) (image : ImageData) (plan : PlanData) (laws : AreLawful b 
 
   the_counts : IsCountedIn s.cells s.points.items s.frames.items → IsCountedIn t.cells t.points.items t.frames.items
   the_counts c = counted_again s.cells t.cells s.points.items t.points.items s.frames.items t.frames.items (λ q. the_cells (spot_of q)) points frames c
+
+  the_heard : HeardEntered b plan (seen s).cells s.heard → HeardEntered b plan (seen t).cells t.heard
+  unfolding seen
+  the_heard h = heard_again b plan (seen s).cells (seen t).cells (λ q. the_cells (spot_of q)) t.heard (subst (HeardEntered b plan (seen s).cells) (sym heard) h)
 
   -- a place taken off the list
   pub opened : IsFine b image plan s → NoneOpen s → s.work.items ≡ x ∷ t.work.items → ((q : Spot) → get spot_eq t.marks q ≡ (if spot_eq x q then Some Open else get spot_eq s.marks q)) → IsFine b image plan t × IsOpenAt t x
@@ -81,6 +87,7 @@ module _ (b : Limits) (image : ImageData) (plan : PlanData) (laws : AreLawful b 
                 | inr r ↦ subst (λ (o : Option Mark). IsSome o) (sym r.1) (fine.marked q w (sym (the_cells q) ∙ at))
               ];
           counted = the_counts fine.counted;
+          heard = the_heard fine.heard;
         },
         record {
           at = marks x ∙ ap (λ e. if e then Some Open else get spot_eq s.marks x) (spot_refl x);
@@ -132,6 +139,7 @@ module _ (b : Limits) (image : ImageData) (plan : PlanData) (laws : AreLawful b 
                 | inr r ↦ subst (λ (o : Option Mark). IsSome o) (sym r.1) (fine.marked q w (sym (the_cells q) ∙ at))
               ];
           counted = the_counts fine.counted;
+          heard = the_heard fine.heard;
         },
         (λ q at. elim (side q) [
           | inl l ↦ (let no : Some Open ≡ Some Idle = sym at ∙ l.1 in cc)
@@ -161,9 +169,9 @@ paid_settled b image plan s t x paid opening k p u e at =
 -- ---- the start, and the end
 pub begun_table : (b : Limits) (image : ImageData) (plan : PlanData) (t : made.Table) (x : Spot) (v : Known) → x ≡ spot_of (first_place image plan) → v ≡ state (start_state plan)
     → ((q : Spot) → get spot_eq t.cells q ≡ (if spot_eq x q then Some v else None)) → ((q : Spot) → get spot_eq t.marks q ≡ (if spot_eq x q then Some Queued else None)) → t.work.items ≡ x ∷ []
-    → t.points.items ≡ x ∷ [] → t.frames.items ≡ start_key image plan ∷ [] → IsFine b image plan t × NoneOpen t
+    → t.points.items ≡ x ∷ [] → t.frames.items ≡ start_key image plan ∷ [] → t.heard ≡ None → IsFine b image plan t × NoneOpen t
 unfolding seen
-begun_table b image plan t x v place known cells marks work points frames =
+begun_table b image plan t x v place known cells marks work points frames none =
     let side : (q : Spot) → ((spot_eq x q ≡ true) × (get spot_eq t.marks q ≡ Some Queued)) ⊎ ((spot_eq x q ≡ false) × (get spot_eq t.marks q ≡ None)) =
     λ q. sides (spot_eq x q) (Some Queued) None (get spot_eq t.marks q) (marks q) in
     let never : (q : Spot) → is_idle (get spot_eq t.marks q) ≡ true → ⊥ =
@@ -193,6 +201,7 @@ begun_table b image plan t x v place known cells marks work points frames =
             ];
         counted = counted_start t.cells t.points.items t.frames.items (start_key image plan) v
             (λ q. cells (spot_of q) ∙ ap (λ e. if e then Some v else None) (test q)) (points ∙ ap (λ (z : Spot). z ∷ []) place) frames;
+        heard = subst (HeardEntered b plan (seen t).cells) (sym none) tt;
       },
       (λ q at. elim (side q) [
         | inl l ↦ (let no : Some Open ≡ Some Queued = sym at ∙ l.1 in cc)
@@ -259,9 +268,9 @@ paid_unknown b image plan s k p fine none = record {
 
 -- work that is taken off alone
 pub same_fine : (b : Limits) (image : ImageData) (plan : PlanData) (laws : AreLawful b image plan) (s t : made.Table) → t.cells ≡ s.cells → t.marks ≡ s.marks → t.readers ≡ s.readers → t.work.items ≡ s.work.items
-    → t.points.items ≡ s.points.items → t.frames.items ≡ s.frames.items → IsFine b image plan s → IsFine b image plan t
+    → t.points.items ≡ s.points.items → t.frames.items ≡ s.frames.items → t.heard ≡ s.heard → IsFine b image plan s → IsFine b image plan t
 unfolding seen
-same_fine b image plan laws s t cells marks readers work points frames fine =
+same_fine b image plan laws s t cells marks readers work points frames heard fine =
     let same : (q : Spot) → get spot_eq t.cells q ≡ get spot_eq s.cells q = λ q. ap (λ m. get spot_eq m q) cells in
     let marked : (q : Spot) → get spot_eq t.marks q ≡ get spot_eq s.marks q = λ q. ap (λ m. get spot_eq m q) marks in
     record {
@@ -270,6 +279,7 @@ same_fine b image plan laws s t cells marks readers work points frames fine =
       listed = record { listed = λ q at. subst (λ (w : List Spot). Contains w q) (sym work) (fine.listed.listed q (sym (marked q) ∙ at)) };
       marked = λ q w at. subst (λ (o : Option Mark). IsSome o) (sym (marked q)) (fine.marked q w (sym (same q) ∙ at));
       counted = counted_again s.cells t.cells s.points.items t.points.items s.frames.items t.frames.items (λ q. same (spot_of q)) points frames fine.counted;
+      heard = heard_again b plan (seen s).cells (seen t).cells (λ q. same (spot_of q)) t.heard (subst (HeardEntered b plan (seen s).cells) (sym heard) fine.heard);
     }
 
 -- a map without entries

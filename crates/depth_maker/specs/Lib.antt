@@ -12,6 +12,8 @@ pub mod RowsAt
 pub mod RowsBy
 pub mod NeedsBy
 pub mod Levels
+pub mod Hearing
+pub mod Handlers
 pub mod View
 pub mod Spelled
 pub mod Made

@@ -7,6 +7,7 @@ use Rattle.cfg_recover.specs.Local.{IsFaultless}
 use Rattle.cfg_recover.specs.Assignments.{point}
 use Rattle.depth_cert.specs.Known.{state}
 use Rattle.depth_maker.specs.Entered.{entered_in}
+use Rattle.depth_maker.specs.Handlers.{AreHandlers}
 use Rattle.depth_maker.specs.RowsAt.{IsRowAt, AreRows}
 use Rattle.frame_places.specs.Numbers.{AreNumbers}
 use Rattle.depth_maker.specs.View.{seen, IsDone, StandsBy, duties_by}
@@ -49,6 +50,7 @@ RowsOn g t rows = AreRows g.bounds.now g.image.now g.plan.now (seen t).cells t.f
 pub record IsSource (s : Source) : Type 0 where
   pub done : IsDone s.ground.now s.table.now
   pub numbers : AreNumbers s.numbers.now (s.table.now).frames.items (s.table.now).frames.items
+  pub handlers : AreHandlers (s.ground.now).plan.now (s.table.now).frames.items ((s.ground.now).plan.now).irqs s.handlers.now
 
 -- the row of a point that is known
 abbrev pub PointHasRow : Source → Key → ℕ → Result (Option Row) Refusal → Type 0

@@ -36,6 +36,7 @@ use Rattle.depth_maker.specs.Spots.{spot_of, place_of}
 use Rattle.frame_places.specs.Marks.{is_idle, is_queued, Reads, AllListed}
 use Rattle.depth_maker.specs.Counts.{AreCounted, AreFew}
 use Rattle.depth_maker.specs.Levels.{level, Rises}
+use Rattle.depth_maker.specs.Hearing.{HeardEntered}
 use Rattle.depth_maker.specs.declared.ground.Ground.{Ground}
 use Rattle.depth_maker.specs.declared.ground.Visit.{Visit}
 
@@ -65,6 +66,7 @@ pub record IsFine (b : Limits) (image : ImageData) (plan : PlanData) (t : made.T
   pub listed : AllListed t.marks t.work.items
   pub marked : (q : Spot) (s : Known) → get spot_eq t.cells q ≡ Some s → IsSome (get spot_eq t.marks q)
   pub counted : IsCountedIn t.cells t.points.items t.frames.items
+  pub heard : HeardEntered b plan (seen t).cells t.heard
 
 -- a fault that is answered is one
 abbrev pub Answered : Limits → ImageData → PlanData → Refusal → Type 0
@@ -246,6 +248,10 @@ access_by v found = misaligned_of (v.ground.now).bounds.now (v.ground.now).plan.
 -- to enter the handler of each interrupt that may be taken
 abbrev pub interrupts_by : Visit → List Owed
 interrupts_by v = interrupts_of (v.ground.now).plan.now v.key v.state.now
+
+-- what was joined of the entries of interrupts is joined still
+abbrev pub StayPaid : Visit → made.Table → made.Table → Type 0
+StayPaid v m t = (s : made.Table) → PaidBy v s m (interrupts_by v) → PaidBy v s t (interrupts_by v)
 
 -- all that the point owes
 abbrev pub duties_by : Visit → Located → List Owed

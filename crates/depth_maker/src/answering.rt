@@ -10,6 +10,7 @@ ghost use Rattle.frame_places.specs.declared.refusals.Refusal.TheVariants.{Fault
 
 use crate::close::close;
 use crate::ground::Ground;
+use crate::handlers::handlers;
 use crate::needs::frame_needs;
 use crate::recursion::recursion;
 use crate::rows::Source;
@@ -120,10 +121,14 @@ fn bytes_by(alloc: Global, ground: &Ground, table: &Table, version: u8) -> Resul
     ensures err { IfErr result (Refuses ground.now) }
 {
     let numbers = numbered(alloc, table.frames.as_slice())?;
+    let Ok(handlers) = handlers(alloc, ground.plan, &numbers) else {
+        return Err(MakeErr::NoMemory);
+    };
     let source = Source {
         ground,
         table,
         numbers: &numbers,
+        handlers: handlers.as_slice(),
     };
     bytes_from(alloc, &source, version)
 }

@@ -14,7 +14,7 @@ use crate::rise::{is_covered, raise};
 use crate::table::Table;
 use depth_cert::Key;
 use frame_places::{Refusal, Spot, has_work, register};
-use small_states::{Asked, any_exit};
+use small_states::Asked;
 use std::alloc::Global;
 use vd_transfer::Change;
 
@@ -83,15 +83,8 @@ pub(crate) fn pay_leave(alloc: Global, table: &mut Table, v: &Visit) -> Result<(
     raise(alloc, v.ground, table, Spot::Exit(v.key), &asked)
 }
 
-/// The same where there is an exit; by itself, as it has room for a whole exit.
-#[inline(never)]
-fn pay_after(
-    alloc: Global,
-    table: &mut Table,
-    v: &Visit,
-    key: Key,
-    back: u32,
-) -> Result<(), Refusal>
+/// Where a frame of this key has an exit, the point's frame goes on at `back`.
+fn pay_back(alloc: Global, table: &mut Table, v: &Visit, key: Key, back: u32) -> Result<(), Refusal>
     requires visited { VisitedBy v.now table.old }
     requires told { Reads (get spot_eq table.old.readers (Exit key)) (Point v.now.key v.now.addr) }
     requires owes { OwesDuty v.now (resume key back) }
@@ -101,27 +94,20 @@ fn pay_after(
     if has_work(&table.marks, Spot::Point(v.key, v.addr)) {
         return Ok(());
     }
-    let mut exit = any_exit();
     let Some(cell) = table.cells.get(&Spot::Exit(key)) else {
         return Ok(());
     };
-    cell.read_exit(v.ground.bounds, &mut exit);
-    let asked = Asked::After(v.state, &exit, key.kind);
-    raise(alloc, v.ground, table, Spot::Point(v.key, back), &asked)
-}
-
-/// Where a frame of this key has an exit, the point's frame goes on at `back`.
-fn pay_back(alloc: Global, table: &mut Table, v: &Visit, key: Key, back: u32) -> Result<(), Refusal>
-    requires visited { VisitedBy v.now table.old }
-    requires told { Reads (get spot_eq table.old.readers (Exit key)) (Point v.now.key v.now.addr) }
-    requires owes { OwesDuty v.now (resume key back) }
-    ensures ok { OnOk result (PaidBy v.now table.old table.new (owed 4 (resume key back) ∷ [])) }
-    ensures err { IfErr result (AnsweredOn v.now.ground.now) }
-{
-    if !table.cells.contains_key(&Spot::Exit(key)) {
+    let Some(exit) = cell.exit() else {
+        return Ok(());
+    };
+    let to = Spot::Point(v.key, back);
+    let asked = Asked::After(v.state, exit, key.kind);
+    if is_covered(v.ground, &*table, to, &asked) {
         return Ok(());
     }
-    pay_after(alloc, table, v, key, back)
+    let copy = exit.copy(alloc)?;
+    let asked = Asked::After(v.state, &copy, key.kind);
+    raise(alloc, v.ground, table, to, &asked)
 }
 
 /// The point is told of the exit of the frame that it enters, and goes on at `back` where there is one.

@@ -48,6 +48,7 @@ fn begin(alloc: Global, ground: &Ground) -> Result<Table, Refusal>
         work,
         points,
         frames,
+        heard: None,
     })
 }
 

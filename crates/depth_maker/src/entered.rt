@@ -1,18 +1,15 @@
-// The frames that a point enters.
+// The frames that an instruction enters.
 ghost use Rattle.std.specs.Prelude.{◌≡◌, ◌++◌, [], ◌∷◌, OnOk, IfOk, map, if◌then◌else◌};
 ghost use Rattle.tc_isa.specs.Bounded.{IsShape};
 ghost use Rattle.cfg_recover.specs.Entries as frames;
 ghost use Rattle.depth_maker.specs.Entered.{entered_in};
-ghost use Rattle.depth_maker.specs.View.{StandsBy, access_by, duties_by, entries_by, interrupts_by};
+ghost use Rattle.depth_maker.specs.View.{StandsBy, access_by, entries_by};
 
 use crate::ground::Visit;
-use cfg_recover::{
-    Located, aln_key, entered_key, interrupts, irq_key, is_aligned, sys_key, targets,
-};
+use cfg_recover::{Located, aln_key, entered_key, is_aligned, sys_key, targets};
 use depth_cert::Key;
 use std::alloc::{AllocError, Global};
 use tc_isa::Shape;
-use tcd_plan::Plan;
 
 fn add_calls(keys: &mut Vec<Key>, key: Key, targets: &[u32]) -> Result<(), AllocError>
     ensures { OnOk result
@@ -20,16 +17,6 @@ fn add_calls(keys: &mut Vec<Key>, key: Key, targets: &[u32]) -> Result<(), Alloc
 {
     for t in targets {
         keys.push(entered_key(&key, 1, *t))?;
-    }
-    Ok(())
-}
-
-fn add_irqs(keys: &mut Vec<Key>, plan: &Plan, irqs: &[u8]) -> Result<(), AllocError>
-    ensures { OnOk result
-        (keys.new.items ≡ keys.old.items ++ map (frames.irq_key plan.now) irqs.now) }
-{
-    for p in irqs {
-        keys.push(irq_key(plan, *p))?;
     }
     Ok(())
 }
@@ -77,21 +64,15 @@ fn add_access(keys: &mut Vec<Key>, v: &Visit, found: &Located) -> Result<(), All
     Ok(())
 }
 
-fn add_interrupts(keys: &mut Vec<Key>, v: &Visit) -> Result<(), AllocError>
-    ensures { OnOk result (keys.new.items ≡ keys.old.items ++ entered_in (interrupts_by v.now)) }
-{
-    let irqs = interrupts(v.ground.plan, v.state);
-    add_irqs(keys, v.ground.plan, irqs.as_slice())
-}
-
-/// The frames that the point enters, in the order of its duties.
+/// The frames that the instruction at the point enters, in the order of its duties.
 pub(crate) fn entered(alloc: Global, v: &Visit, found: &Located) -> Result<Vec<Key>, AllocError>
     requires { StandsBy v.now found.now }
-    ensures { IfOk result (λ keys. keys.items ≡ entered_in (duties_by v.now found.now)) }
+    ensures { IfOk result (λ keys. keys.items
+        ≡ entered_in (entries_by v.now found.now.shape found.now.size)
+        ++ entered_in (access_by v.now found.now)) }
 {
     let mut keys = Vec::new(alloc);
     add_entries(&mut keys, v, found)?;
     add_access(&mut keys, v, found)?;
-    add_interrupts(&mut keys, v)?;
     Ok(keys)
 }

@@ -1,23 +1,25 @@
 // The frames that a point enters.
-ghost use Rattle.std.specs.Prelude.{◌≡◌, OnOk, IfErr, [], unwrap_or};
+ghost use Rattle.std.specs.Prelude.{◌≡◌, OnOk, IfErr, IsTrue, [], unwrap_or};
 ghost use Rattle.tc_isa.specs.Bounded.{IsShape, IsSize, IsTarget};
 ghost use Rattle.value_domain.specs.Values.{IsValue};
 ghost use Rattle.vd_transfer.specs.Changes.{state_after};
+ghost use Rattle.depth_cert.specs.Known.{IsProper};
 ghost use Rattle.cfg_recover.specs.Entries as entries;
 ghost use Rattle.cfg_recover.specs.Local.{targets_of};
-ghost use Rattle.cfg_recover.specs.Duties.{entered_and_back};
+ghost use Rattle.cfg_recover.specs.Duties.{entered_and_back, irqs_of};
 ghost use Rattle.cfg_recover.specs.Flows as flows;
 ghost use Rattle.cfg_recover.specs.Flows.{told_irqs};
-ghost use Rattle.depth_maker.specs.View.{AnsweredOn, OwesAll, PaidBy, StandsBy, VisitedBy, access_by, calls_by, entries_by, interrupts_by, misaligned_by, system_by};
+ghost use Rattle.depth_maker.specs.View.{AnsweredOn, OwesAll, PaidBy, StandsBy, StayPaid, VisitedBy, access_by, calls_by, entries_by, interrupts_by, misaligned_by, system_by};
 
 use crate::asking::{pay_enter, pay_entry};
 use crate::ground::Visit;
+use crate::heard::Heard;
 use crate::table::Table;
 use cfg_recover::{
     Located, aln_key, call_change, entered_key, handler_change, interrupts, irq_key, is_aligned,
     misaligned_change, sys_key, system_change, targets,
 };
-use frame_places::Refusal;
+use frame_places::{Refusal, Spot, has_work};
 use std::alloc::Global;
 use tc_isa::{Shape, Target};
 use value_domain::Val;
@@ -177,6 +179,45 @@ fn pay_irqs(
     Ok(())
 }
 
+/// The entries of the handlers of these interrupts, which may be taken; by itself, as it has room for a change.
+#[inline(never)]
+fn pay_handlers(alloc: Global, table: &mut Table, v: &Visit, irqs: &[u8]) -> Result<(), Refusal>
+    requires visited { VisitedBy v.now table.old }
+    requires irqs { irqs.now ≡ irqs_of v.now.ground.now.plan.now v.now.state.now }
+    requires owes { OwesAll v.now (interrupts_by v.now) }
+    ensures ok { OnOk result (PaidBy v.now table.old table.new (interrupts_by v.now)) }
+    ensures err { IfErr result (AnsweredOn v.now.ground.now) }
+{
+    let entry = handler_change(v.ground.bounds, v.ground.plan, &v.key, v.state, 0);
+    pay_irqs(alloc, table, v, irqs, entry)
+}
+
+/// Whether the entries of all interrupts that may be taken are seen to be covered, since those that were heard last are.
+fn is_heard(table: &Table, v: &Visit) -> bool
+    requires { VisitedBy v.now table.now }
+    ensures { IsTrue result → PaidBy v.now table.now table.now (interrupts_by v.now) }
+{
+    match &table.heard {
+        Some(heard) => heard.has(v.key.is, v.state),
+        None => false,
+    }
+}
+
+/// What these interrupts enter with is heard; not where the point has new work, since then some may have been passed over. By
+/// itself, as it has room for a value.
+#[inline(never)]
+fn hear(table: &mut Table, v: &Visit)
+    requires proper { IsProper v.now.ground.now.bounds.now v.now.state.now }
+    requires on { IsTrue v.now.state.now.ie }
+    requires owes { OwesAll v.now (interrupts_by v.now) }
+    ensures { StayPaid v.now table.old table.new }
+{
+    if has_work(&table.marks, Spot::Point(v.key, v.addr)) {
+        return;
+    }
+    table.heard = Some(Heard::at(v.key.is, v.state));
+}
+
 /// The entries of the interrupts that may be taken.
 pub(crate) fn pay_interrupts(alloc: Global, table: &mut Table, v: &Visit) -> Result<(), Refusal>
     requires visited { VisitedBy v.now table.old }
@@ -184,10 +225,14 @@ pub(crate) fn pay_interrupts(alloc: Global, table: &mut Table, v: &Visit) -> Res
     ensures ok { OnOk result (PaidBy v.now table.old table.new (interrupts_by v.now)) }
     ensures err { IfErr result (AnsweredOn v.now.ground.now) }
 {
+    if is_heard(&*table, v) {
+        return Ok(());
+    }
     let irqs = interrupts(v.ground.plan, v.state);
     if irqs.is_empty() {
         return Ok(());
     }
-    let entry = handler_change(v.ground.bounds, v.ground.plan, &v.key, v.state, 0);
-    pay_irqs(alloc, table, v, irqs.as_slice(), entry)
+    pay_handlers(alloc, table, v, irqs.as_slice())?;
+    hear(table, v);
+    Ok(())
 }

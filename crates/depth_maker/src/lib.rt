@@ -7,6 +7,8 @@ mod close;
 mod entered;
 mod entries;
 mod ground;
+mod handlers;
+mod heard;
 mod laws;
 mod needs;
 mod paying;

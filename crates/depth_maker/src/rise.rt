@@ -75,9 +75,9 @@ pub(crate) fn raise(
         Ok(Some(cell)) => cell,
         Err(refusal) => return Err(refusal),
     };
-    let known = table.cells.contains_key(&y);
+    let before = table.cells.insert(y, new)?;
+    let known = before.is_some();
     count(known, &mut table.points, &mut table.frames, y)?;
     wake(&mut table.marks, &mut table.work, &table.readers, y)?;
-    table.cells.insert(y, new)?;
     Ok(())
 }

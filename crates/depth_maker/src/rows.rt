@@ -1,20 +1,27 @@
 // The rows of all points: which frames each enters, by numbers, and with how many locals.
-ghost use Rattle.std.specs.Prelude.{◌≡◌, List, Contains, IfOk, OnOk, map};
+ghost use Rattle.std.specs.Prelude.{◌≡◌, List, Contains, IfOk, IfSome, IsTrue, OnOk, Ok, Some, map, not};
 ghost use Rattle.depth_cert.specs.declared.keys.Key as keys;
 ghost use Rattle.depth_cert.specs.Known.{IsProper};
-ghost use Rattle.frame_places.specs.Numbers.{AreNumbers, number_in};
-ghost use Rattle.depth_maker.specs.View.{StandsBy};
+ghost use Rattle.frame_places.specs.Numbers.{number_in};
+ghost use Rattle.cfg_recover.specs.Assignments.{point};
+ghost use Rattle.depth_maker.specs.Entered.{EntersNone};
+ghost use Rattle.depth_maker.specs.Handlers.{AreNumbered};
+ghost use Rattle.depth_maker.specs.View.{StandsBy, seen};
 ghost use Rattle.depth_maker.specs.RowsBy.{AddsRow, AllKnownBy, FaultlessBy, IsRowBy, IsSource, PointHasRow, RowsOn};
 
 use crate::entered::entered;
 use crate::ground::{Ground, Visit};
+use crate::handlers::{Handler, add_taken};
 use crate::table::Table;
 use call_needs::Row;
-use cfg_recover::{Located, local_check, start_state};
+use cfg_recover::{Located, code_at, local_check, start_state};
 use depth_cert::Key;
 use frame_places::{Refusal, Spot, number_of, numbers_of};
 use indexmap::IndexMap;
+use small_states::Cell;
 use std::alloc::{AllocError, Global};
+use tc_isa::{Shape, shape};
+use tcd_plan::Plan;
 use value_domain::State;
 
 /// The row of a point, by what stands there.
@@ -22,15 +29,18 @@ fn row_with(
     alloc: Global,
     v: &Visit,
     numbers: &IndexMap<Key, usize>,
+    handlers: &[Handler],
     found: &Located,
 ) -> Result<Row, AllocError>
     requires found { StandsBy v.now found.now }
     requires proper { IsProper v.now.ground.now.bounds.now v.now.state.now }
-    ensures { IfOk result (λ row. (frames : List keys.Key) → AreNumbers numbers.now frames frames
+    ensures { IfOk result (λ row. (frames : List keys.Key)
+        → AreNumbered v.now.ground.now.plan.now numbers.now handlers.now frames
         → AllKnownBy v.now frames → IsRowBy v.now frames row) }
 {
     let keys = entered(alloc, v, found)?;
-    let into = numbers_of(alloc, numbers, keys.as_slice())?;
+    let mut into = numbers_of(alloc, numbers, keys.as_slice())?;
+    add_taken(&mut into, v.state, handlers)?;
     Ok(Row {
         node: number_of(numbers, v.key),
         held: v.state.locals.len() as u8,
@@ -39,25 +49,74 @@ fn row_with(
 }
 
 /// The row of a point without a fault of its own.
-fn row_at(alloc: Global, v: &Visit, numbers: &IndexMap<Key, usize>) -> Result<Row, Refusal>
+fn row_at(
+    alloc: Global,
+    v: &Visit,
+    numbers: &IndexMap<Key, usize>,
+    handlers: &[Handler],
+) -> Result<Row, Refusal>
     requires local_check { FaultlessBy v.now }
     requires proper { IsProper v.now.ground.now.bounds.now v.now.state.now }
-    ensures { IfOk result (λ row. (frames : List keys.Key) → AreNumbers numbers.now frames frames
+    ensures { IfOk result (λ row. (frames : List keys.Key)
+        → AreNumbered v.now.ground.now.plan.now numbers.now handlers.now frames
         → AllKnownBy v.now frames → IsRowBy v.now frames row) }
 {
     let g = v.ground;
     match local_check(g.bounds, g.image, g.plan, &v.key, v.addr, v.state) {
-        Ok(found) => Ok(row_with(alloc, v, numbers, &found)?),
+        Ok(found) => Ok(row_with(alloc, v, numbers, handlers, &found)?),
         Err(_) => Err(Refusal::NoMemory),
     }
 }
 
-/// What rows are made from: a table without work, and the numbers of its frames.
+/// What rows are made from: a table without work, the numbers of its frames, and the handlers of interrupts with theirs.
 #[derive(Drop)]
 pub(crate) struct Source<'a> {
     pub(crate) ground: &'a Ground<'a>,
     pub(crate) table: &'a Table,
     pub(crate) numbers: &'a IndexMap<Key, usize>,
+    pub(crate) handlers: &'a [Handler],
+}
+
+/// Whether the trap of misaligned accesses isn't stated, so that all accesses are aligned.
+fn is_without_trap(plan: &Plan) -> bool
+    ensures { result ≡ not plan.now.aln }
+{
+    !plan.aln
+}
+
+/// Whether an instruction of this shape is seen to enter no frame by itself.
+fn enters_none(plan: &Plan, shape: Shape) -> bool
+    ensures { IsTrue result → EntersNone plan.now shape }
+{
+    match shape {
+        Shape::Call { .. } => false,
+        Shape::Syscall { .. } => false,
+        Shape::Load { .. } => is_without_trap(plan),
+        Shape::Store { .. } => is_without_trap(plan),
+        _ => true,
+    }
+}
+
+/// The row of a point that enters no frame, where this is seen without the values of its state.
+fn plain_row(alloc: Global, source: &Source, cell: &Cell, key: Key, addr: u32) -> Option<Row>
+    requires source { IsSource source.now }
+    requires at { (seen source.now.table.now).cells (point key addr) ≡ Some cell.now }
+    ensures { IfSome result (λ row. PointHasRow source.now key addr (Ok (Some row))) }
+{
+    let Some(held) = cell.quiet_locals() else {
+        return None;
+    };
+    let Some(found) = code_at(source.ground.image, source.ground.plan, addr) else {
+        return None;
+    };
+    if !enters_none(source.ground.plan, shape(&found.0)) {
+        return None;
+    }
+    Some(Row {
+        node: number_of(source.numbers, key),
+        held,
+        into: Vec::new(alloc),
+    })
 }
 
 /// The row of a point, or `None` where nothing is known there; its state is written over `scratch`.
@@ -74,6 +133,9 @@ pub(crate) fn point_row(
     let Some(cell) = source.table.cells.get(&Spot::Point(key, addr)) else {
         return Ok(None);
     };
+    if let Some(row) = plain_row(alloc, source, cell, key, addr) {
+        return Ok(Some(row));
+    }
     cell.read_state(source.ground.bounds, scratch);
     let v = Visit {
         ground: source.ground,
@@ -81,7 +143,7 @@ pub(crate) fn point_row(
         addr,
         state: &*scratch,
     };
-    let row = row_at(alloc, &v, source.numbers)?;
+    let row = row_at(alloc, &v, source.numbers, source.handlers)?;
     Ok(Some(row))
 }
 

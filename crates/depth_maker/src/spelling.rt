@@ -6,27 +6,19 @@ ghost use Rattle.depth_maker.specs.RowsBy.{IsSource};
 ghost use Rattle.depth_maker.specs.Spelled.{AreFrames, AreKnown, IsFrameOf, IsOfVersion, IsOrdered, IsSpelledOn, NeedsAre, WritesCert, WritesExit, WritesNode, WritesNodes, WritesPoint, WritesPoints, known_on};
 
 use crate::rows::Source;
-use cfg_recover::start_state;
-use depth_cert::{Key, put_u16, write_exit, write_key, write_state};
+use depth_cert::{Key, put_u16, write_exit, write_key};
 use frame_places::{Spot, address_at, frames_in_order, number_of, points_in_order, points_of};
 use small_states::any_exit;
 use std::alloc::Global;
 use tcd_base::{NoMemory, put_u32};
-use value_domain::State;
 
 /// A byte is below 256.
 fn is_byte(_byte: u8)
     ensures { _byte < 2 ^ 8 }
 {}
 
-/// Adds a point: its address and its state, which is written over `scratch`.
-fn write_point(
-    out: &mut Vec<u8>,
-    source: &Source,
-    scratch: &mut State,
-    key: Key,
-    addr: u32,
-) -> Result<(), NoMemory>
+/// Adds a point: its address and its state.
+fn write_point(out: &mut Vec<u8>, source: &Source, key: Key, addr: u32) -> Result<(), NoMemory>
     requires source { IsSource source.now }
     requires known { IsSome (known_on source.now (point key addr)) }
     ensures { OnOk result (WritesPoint source.now key addr out.old.items out.new.items) }
@@ -34,10 +26,8 @@ fn write_point(
     let Some(cell) = source.table.cells.get(&Spot::Point(key, addr)) else {
         return Ok(());
     };
-    cell.read_state(source.ground.bounds, scratch);
-    is_byte(scratch.ccpn);
     put_u32(out, addr)?;
-    write_state(out, scratch)?;
+    cell.spell_state(source.ground.bounds, out)?;
     Ok(())
 }
 
@@ -45,7 +35,6 @@ fn write_point(
 fn write_points(
     out: &mut Vec<u8>,
     source: &Source,
-    scratch: &mut State,
     key: Key,
     points: &[Spot],
 ) -> Result<(), NoMemory>
@@ -54,7 +43,7 @@ fn write_points(
     ensures { OnOk result (WritesPoints source.now key points.now out.old.items out.new.items) }
 {
     for p in points {
-        write_point(out, source, scratch, key, address_at(p))?;
+        write_point(out, source, key, address_at(p))?;
     }
     Ok(())
 }
@@ -98,12 +87,7 @@ pub(crate) struct Ordered<'a> {
 }
 
 /// Adds the node of a frame.
-fn write_frame(
-    out: &mut Vec<u8>,
-    ordered: &Ordered,
-    scratch: &mut State,
-    key: Key,
-) -> Result<(), NoMemory>
+fn write_frame(out: &mut Vec<u8>, ordered: &Ordered, key: Key) -> Result<(), NoMemory>
     requires ordered { IsOrdered ordered.now }
     requires key { IsFrameOf ordered.now.source.now key }
     ensures { OnOk result (WritesNode ordered.now key out.old.items out.new.items) }
@@ -114,23 +98,18 @@ fn write_frame(
     put_u16(out, need_at(source, ordered.needs, key))?;
     write_exit_of(out, source, key)?;
     put_u32(out, points.len() as u32)?;
-    write_points(out, source, scratch, key, points)?;
+    write_points(out, source, key, points)?;
     Ok(())
 }
 
 /// Adds the nodes of these frames.
-fn write_frames(
-    out: &mut Vec<u8>,
-    ordered: &Ordered,
-    scratch: &mut State,
-    frames: &[Key],
-) -> Result<(), NoMemory>
+fn write_frames(out: &mut Vec<u8>, ordered: &Ordered, frames: &[Key]) -> Result<(), NoMemory>
     requires ordered { IsOrdered ordered.now }
     requires frames { AreFrames ordered.now frames.now }
     ensures { OnOk result (WritesNodes ordered.now frames.now out.old.items out.new.items) }
 {
     for k in frames {
-        write_frame(out, ordered, scratch, *k)?;
+        write_frame(out, ordered, *k)?;
     }
     Ok(())
 }
@@ -142,11 +121,10 @@ fn spell(alloc: Global, ordered: &Ordered, version: u8, frames: &[Key]) -> Resul
     ensures { IfOk result (λ out. WritesCert ordered.now version frames.now out.items) }
 {
     let mut out = Vec::new(alloc);
-    let mut scratch = start_state(ordered.source.ground.plan);
     put_u32(&mut out, 0x4344_4354)?;
     put_u16(&mut out, u16::from(version))?;
     put_u16(&mut out, frames.len() as u16)?;
-    write_frames(&mut out, ordered, &mut scratch, frames)?;
+    write_frames(&mut out, ordered, frames)?;
     Ok(out)
 }
 

@@ -13,6 +13,8 @@ use Rattle.small_states.specs.Wholes.{exit_in, state_in}
 use Rattle.small_states.specs.declared.asked.Asked.{Asked}
 use Rattle.small_states.specs.declared.asked.Context.{Context}
 use Rattle.small_states.specs.declared.asked.Asked.TheVariants.{Changed, After, Leaving}
+use Rattle.small_states.specs.declared.asked.Given.{Given}
+use Rattle.small_states.specs.declared.asked.Given.TheVariants.{Whole, Packed}
 
 -- what is kept at a place is known there
 abbrev pub known_of : Kept → Known
@@ -22,7 +24,7 @@ known_of (Leaves x) = leaving (exit_in x)
 -- what a duty asks for
 abbrev pub asked_for : Asked → Known
 asked_for (Changed s c) = state (state_after s.now c.now)
-asked_for (After s x kind) = state (after_of s.now x.now kind)
+asked_for (After s x kind) = state (after_of s.now (exit_in x.now) kind)
 asked_for (Leaving s) = leaving (exit_of s.now)
 
 -- the state that is known; nothing is said where it is an exit
@@ -38,8 +40,13 @@ IsExitAt (leaving x) u = u ≡ x
 -- the values that a duty asks for: a state's 27, or an exit's 14
 abbrev pub values_asked : Asked → List Val
 values_asked (Changed s c) = (state_after s.now c.now).regs
-values_asked (After s x kind) = (after_of s.now x.now kind).regs
+values_asked (After s x kind) = (after_of s.now (exit_in x.now) kind).regs
 values_asked (Leaving s) = lower_values (s.now).regs
+
+-- a value, however it is at hand
+abbrev pub given_of : Given → Val
+given_of (Whole v) = v.now
+given_of (Packed v) = v.now
 
 -- a duty asks for an exit
 abbrev pub is_exit : Asked → Bool
@@ -63,6 +70,11 @@ known_by asked k = if is_exit asked then leaving (exit_with (values_asked asked)
 abbrev pub IsQuiet : Known → ℕ → Type 0
 IsQuiet (state s) count = (s.ie ≡ false) × (length s.locals.items ≡ count)
 IsQuiet (leaving x) count = ⊥
+
+-- what is known is no exit
+abbrev pub IsNoExit : Known → Type 0
+IsNoExit (state s) = Unit {0}
+IsNoExit (leaving x) = ⊥
 
 -- the state that is known was added to the bytes, and its CCPN is a byte; nothing is said where it is an exit
 abbrev pub AddsState : Known → List ℕ → List ℕ → Type 0

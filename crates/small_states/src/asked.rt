@@ -3,11 +3,11 @@ ghost use Rattle.std.specs.Prelude.{◌≡◌, ◌<◌, ◌-◌, ◌==◌, lengt
 ghost use Rattle.value_domain.specs.Values.{any_val};
 ghost use Rattle.value_domain.specs.State as states;
 ghost use Rattle.depth_cert.specs.Exits.{lower_values, with_lower_from};
-ghost use Rattle.small_states.specs.Kept.{asked_for, is_exit, known_by, values_asked};
+ghost use Rattle.small_states.specs.Kept.{asked_for, given_of, is_exit, known_by, values_asked};
 ghost use Rattle.depth_cert.specs.Known.{priority_of};
 
+use crate::{Small, SmallExit};
 use arrayvec::ArrayVec;
-use depth_cert::Exit;
 use value_domain::{State, Val};
 use vd_transfer::{Change, changed_value};
 
@@ -17,8 +17,15 @@ use vd_transfer::{Change, changed_value};
 #[derive(Drop)]
 pub enum Asked<'a> {
     Changed(&'a State, &'a Change),
-    After(&'a State, &'a Exit, u8),
+    After(&'a State, &'a SmallExit, u8),
     Leaving(&'a State),
+}
+
+/// A value that is asked for, as it is at hand: whole, or in little room.
+#[derive(Drop)]
+pub(crate) enum Given<'a> {
+    Whole(&'a Val),
+    Packed(&'a Small),
 }
 
 /// What is asked for beside values.
@@ -55,7 +62,7 @@ pub(crate) fn is_leaving(asked: &Asked) -> bool
 }
 
 /// A call comes back with its exit's IE, a system call with its caller's.
-fn ie_after(s: &State, exit: &Exit, kind: u8) -> bool
+fn ie_after(s: &State, exit: &SmallExit, kind: u8) -> bool
     ensures { result ≡ (if kind == 1 then exit.now.ie else s.now.ie) }
 {
     if kind == 1 { exit.ie } else { s.ie }
@@ -112,30 +119,47 @@ fn lower_count(s: &State) -> usize
     14
 }
 
+/// The value of an exit at a place; `any` stands for each that it doesn't have.
+#[inline(always)]
+fn exit_value<'a>(exit: &'a SmallExit, any: &'a Val, at: usize) -> Given<'a>
+    requires { any.now ≡ any_val }
+    ensures { given_of result ≡ slice_index_or exit.now.lower.items at any_val }
+{
+    if at < exit.lower.len() {
+        Given::Packed(&exit.lower[at])
+    } else {
+        Given::Whole(any)
+    }
+}
+
 /// The value of a place after a frame came back: the exit's for a lower register, else the one that it had.
 #[inline(always)]
-fn restored<'a>(i: usize, lower: &'a [Val; 14], v: &'a Val) -> &'a Val
-    ensures { result.now
+fn restored<'a>(i: usize, exit: &'a SmallExit, any: &'a Val, v: &'a Val) -> Given<'a>
+    requires { any.now ≡ any_val }
+    ensures { given_of result
         ≡ (if states.is_lower_slot i
-        then slice_index_or lower.now (if nat_lt i 8 then i else i - 8) any_val else v.now) }
+        then slice_index_or exit.now.lower.items (if nat_lt i 8 then i else i - 8) any_val
+        else v.now) }
 {
     if i < 8 {
-        &lower[i]
+        exit_value(exit, any, i)
     } else if 16 <= i && i < 22 {
-        &lower[i - 8]
+        exit_value(exit, any, i - 8)
     } else {
-        v
+        Given::Whole(v)
     }
 }
 
 /// The value after a frame came back by an exit.
 #[inline(always)]
-fn value_after<'a>(s: &'a State, exit: &'a Exit, i: usize) -> &'a Val
-    requires { i < 27 }
-    ensures { result.now ≡ slice_index_or (with_lower_from 0 exit.now.lower s.now.regs) i any_val }
+fn value_after<'a>(s: &'a State, exit: &'a SmallExit, any: &'a Val, i: usize) -> Given<'a>
+    requires place { i < 27 }
+    requires any { any.now ≡ any_val }
+    ensures { given_of result
+        ≡ slice_index_or (with_lower_from 0 exit.now.lower.items s.now.regs) i any_val }
 {
     let _regs = &s.regs[..];
-    restored(i, &exit.lower, &s.regs[i])
+    restored(i, exit, any, &s.regs[i])
 }
 
 /// The value of a lower register.
@@ -150,20 +174,20 @@ fn lower_value(s: &State, i: usize) -> &Val
 
 /// The value that is asked for at a place; `any` stands for each of which nothing is known.
 #[inline(always)]
-pub(crate) fn asked_value<'a>(asked: &'a Asked, any: &'a Val, i: usize) -> &'a Val
+pub(crate) fn asked_value<'a>(asked: &'a Asked, any: &'a Val, i: usize) -> Given<'a>
     requires place { i < length (values_asked asked.now) }
     requires any { any.now ≡ any_val }
-    ensures { result.now ≡ slice_index_or (values_asked asked.now) i any_val }
+    ensures { given_of result ≡ slice_index_or (values_asked asked.now) i any_val }
 {
     match asked {
         Asked::Changed(s, c) => {
             let _regs = &s.regs[..];
-            changed_value(s, c, any, i)
+            Given::Whole(changed_value(s, c, any, i))
         }
         Asked::After(s, exit, _) => {
             let _regs = &s.regs[..];
-            value_after(s, exit, i)
+            value_after(s, exit, any, i)
         }
-        Asked::Leaving(s) => lower_value(s, i),
+        Asked::Leaving(s) => Given::Whole(lower_value(s, i)),
     }
 }

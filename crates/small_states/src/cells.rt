@@ -1,11 +1,11 @@
 // What is known at a place.
-ghost use Rattle.std.specs.Prelude.{◌≡◌, ◌↔◌, IsTrue, IfOk, IfSome, OnOk, Some, length};
+ghost use Rattle.std.specs.Prelude.{◌≡◌, ◌↔◌, IsTrue, IfNone, IfOk, IfSome, OnOk, Some, length};
 ghost use Rattle.std.specs.Option.{option_map};
 ghost use Rattle.value_domain.specs.State.{AreValues, AreWell, Covers, joined_states};
 ghost use Rattle.small_states.specs.Wholes.{exit_in, state_in};
 ghost use Rattle.depth_cert.specs.Exits.{ExitCovers};
 ghost use Rattle.depth_cert.specs.Known.{CoversKnown, joined_exit, joined_known, state, leaving, IsProperKnown};
-ghost use Rattle.small_states.specs.Kept.{AddsState, IsExitAt, IsQuiet, IsStateAt, asked_for, exit_with, known_of, state_with, values_asked};
+ghost use Rattle.small_states.specs.Kept.{AddsState, IsExitAt, IsNoExit, IsQuiet, IsStateAt, asked_for, exit_with, known_of, state_with, values_asked};
 
 use crate::asked::{Asked, Context, context_of, is_leaving};
 use crate::values::{are_covered, joined, packed};
@@ -253,6 +253,17 @@ impl Cell {
                 s.spell(out)
             }
             Kept::Leaves(_) => Ok(()),
+        }
+    }
+
+    /// The exit, in little room; `None` of a state.
+    pub fn exit(&self) -> Option<&SmallExit>
+        ensures some { IfSome result (λ x. self.now ≡ leaving (exit_in x.now)) }
+        ensures none { IfNone result (IsNoExit self.now) }
+    {
+        match &self.kept {
+            Kept::Point(_) => None,
+            Kept::Leaves(x) => Some(x),
         }
     }
 

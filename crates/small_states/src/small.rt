@@ -5,7 +5,9 @@ ghost use Rattle.value_domain.specs.declared.values.Val.TheVariants.{Set, Span};
 ghost use Rattle.value_domain.specs.Values.{IsWell, IsValue, IsBelow, IsMember, any_val};
 ghost use Rattle.value_domain.specs.State.{join_of};
 ghost use Rattle.small_states.specs.Forms.{val_of};
+ghost use Rattle.small_states.specs.Kept.{given_of};
 
+use crate::asked::Given;
 use crate::spelling::{put_any, put_one};
 use depth_cert::write_value;
 use std::alloc::{AllocError, Global};
@@ -95,6 +97,14 @@ fn only_word(v: &Val) -> Option<u32>
     }
 }
 
+/// A range that isn't all words. The call keeps the test before it a jump, where all words are most of what is tested.
+#[inline(never)]
+fn range_of(lo: u32, last: u32, step: u8) -> Form
+    ensures { val_of result ≡ Span lo last step }
+{
+    Form::Range { lo, last, step }
+}
+
 /// A range in the form in which it is kept: all words have one of their own, which is told at once.
 #[inline(always)]
 fn form_of(lo: u32, last: u32, step: u8) -> Form
@@ -103,7 +113,7 @@ fn form_of(lo: u32, last: u32, step: u8) -> Form
     if lo == 0 && last == u32::MAX && step == 0 {
         return Form::Any;
     }
-    Form::Range { lo, last, step }
+    range_of(lo, last, step)
 }
 
 // What needs room for a whole value stands in functions of its own, so that the others have no such room to fill.
@@ -184,6 +194,87 @@ impl Small {
             Form::One(x) => is_the_word(v, *x),
             Form::Many(words) => are_the_words(v, words),
             Form::Range { lo, last, step } => is_the_range(v, *lo, *last, *step),
+        }
+    }
+
+    /// Whether it is this word, in this form.
+    #[inline(always)]
+    fn is_word(&self, x: u32) -> bool
+        ensures { IsTrue result → self.now ≡ Set (x ∷ []) }
+    {
+        match &self.form {
+            Form::One(own) => *own == x,
+            _ => false,
+        }
+    }
+
+    /// Whether it is these words, in this form.
+    fn has_words(&self, words: &Words) -> bool
+        ensures { IsTrue result → self.now ≡ Set words.now }
+    {
+        match &self.form {
+            Form::Many(own) => own.as_slice() == words.as_slice(),
+            _ => false,
+        }
+    }
+
+    /// Whether it is this range, in this form.
+    #[inline(always)]
+    fn is_range(&self, lo: u32, last: u32, step: u8) -> bool
+        ensures { IsTrue result → self.now ≡ Span lo last step }
+    {
+        match &self.form {
+            Form::Range {
+                lo: own_lo,
+                last: own_last,
+                step: own_step,
+            } => *own_lo == lo && *own_last == last && *own_step == step,
+            _ => false,
+        }
+    }
+
+    /// Whether it is seen at once to be this value in little room.
+    #[inline(always)]
+    fn is_equal(&self, v: &Small) -> bool
+        ensures { IsTrue result → v.now ≡ self.now }
+    {
+        match &v.form {
+            Form::Any => self.is_any(),
+            Form::One(x) => self.is_word(*x),
+            Form::Many(words) => self.has_words(words),
+            Form::Range { lo, last, step } => self.is_range(*lo, *last, *step),
+        }
+    }
+
+    /// A copy.
+    #[inline(always)]
+    pub(crate) fn copy(&self, alloc: Global) -> Result<Small, AllocError>
+        ensures { IfOk result (λ s. s ≡ self.now) }
+    {
+        match &self.form {
+            Form::Any => Ok(Small { form: Form::Any }),
+            Form::One(x) => Ok(Small {
+                form: Form::One(*x),
+            }),
+            Form::Many(words) => Small::of_many(alloc, words),
+            Form::Range { lo, last, step } => Ok(Small {
+                form: Form::Range {
+                    lo: *lo,
+                    last: *last,
+                    step: *step,
+                },
+            }),
+        }
+    }
+
+    /// What is given, in little room.
+    #[inline(always)]
+    pub(crate) fn of_given(alloc: Global, v: &Given) -> Result<Small, AllocError>
+        ensures { IfOk result (λ s. s ≡ given_of v.now) }
+    {
+        match v {
+            Given::Whole(v) => Small::of(alloc, v),
+            Given::Packed(v) => v.copy(alloc),
         }
     }
 
@@ -272,6 +363,42 @@ impl Small {
         self.covers_whole(v)
     }
 
+    /// Whether each member of a value in little room is one of its own, by that value whole.
+    #[inline(never)]
+    fn covers_packed(&self, v: &Small) -> bool
+        requires own { IsWell self.now }
+        requires value { IsWell v.now }
+        ensures { IsTrue result ↔ IsBelow v.now self.now }
+    {
+        self.covers(&v.value())
+    }
+
+    /// Whether each member of a value in little room is one of its own.
+    #[inline(always)]
+    fn covers_small(&self, v: &Small) -> bool
+        requires own { IsWell self.now }
+        requires value { IsWell v.now }
+        ensures { IsTrue result ↔ IsBelow v.now self.now }
+    {
+        if self.is_equal(v) {
+            return true;
+        }
+        self.covers_packed(v)
+    }
+
+    /// Whether each member of what is given is one of its own.
+    #[inline(always)]
+    pub(crate) fn covers_given(&self, v: &Given) -> bool
+        requires own { IsWell self.now }
+        requires value { IsWell (given_of v.now) }
+        ensures { IsTrue result ↔ IsBelow (given_of v.now) self.now }
+    {
+        match v {
+            Given::Whole(v) => self.covers(v),
+            Given::Packed(v) => self.covers_small(v),
+        }
+    }
+
     /// The least value that holds both, by both values whole.
     #[inline(never)]
     fn join_whole(&self, alloc: Global, b: &Bounds, v: &Val) -> Result<Small, AllocError>
@@ -291,6 +418,51 @@ impl Small {
         if self.is_same(v) {
             return Small::of(alloc, v);
         }
+        if let Some(x) = only_word(v) {
+            if self.has(x) {
+                return self.copy(alloc);
+            }
+        }
         self.join_whole(alloc, b, v)
+    }
+
+    /// The least value that holds both, by a value in little room whole.
+    #[inline(never)]
+    fn join_packed(&self, alloc: Global, b: &Bounds, v: &Small) -> Result<Small, AllocError>
+        requires own { IsValue b.now self.now }
+        requires value { IsValue b.now v.now }
+        ensures { IfOk result (λ s. s ≡ join_of b.now self.now v.now) }
+    {
+        self.join(alloc, b, &v.value())
+    }
+
+    /// The least value that holds both.
+    fn join_small(&self, alloc: Global, b: &Bounds, v: &Small) -> Result<Small, AllocError>
+        requires own { IsValue b.now self.now }
+        requires value { IsValue b.now v.now }
+        ensures { IfOk result (λ s. s ≡ join_of b.now self.now v.now) }
+    {
+        if self.is_equal(v) {
+            return v.copy(alloc);
+        }
+        self.join_packed(alloc, b, v)
+    }
+
+    /// The least value that holds both.
+    #[inline(always)]
+    pub(crate) fn join_given(
+        &self,
+        alloc: Global,
+        b: &Bounds,
+        v: &Given,
+    ) -> Result<Small, AllocError>
+        requires own { IsValue b.now self.now }
+        requires value { IsValue b.now (given_of v.now) }
+        ensures { IfOk result (λ s. s ≡ join_of b.now self.now (given_of v.now)) }
+    {
+        match v {
+            Given::Whole(v) => self.join(alloc, b, v),
+            Given::Packed(v) => self.join_small(alloc, b, v),
+        }
     }
 }

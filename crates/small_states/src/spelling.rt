@@ -1,14 +1,14 @@
 // The one spelling of values and states in little room, as certificates have it.
-ghost use Rattle.std.specs.Prelude.{◌≡◌, ◌∷◌, [], ◌++◌, All, OnOk, map};
+ghost use Rattle.std.specs.Prelude.{◌≡◌, ◌∷◌, [], ◌++◌, All, OnOk, Some, map};
 ghost use Rattle.std.specs.List.{flat_map};
 ghost use Rattle.value_domain.specs.declared.values.Val.TheVariants.{Set};
 ghost use Rattle.value_domain.specs.Values.{IsWell, any_val};
 ghost use Rattle.depth_cert.specs.Keys.{byte_of};
-ghost use Rattle.depth_cert.specs.Spelling.{bytes_of_state, bytes_of_value};
-ghost use Rattle.small_states.specs.Wholes.{state_in};
+ghost use Rattle.depth_cert.specs.Spelling.{bytes_of_exit, bytes_of_state, bytes_of_value};
+ghost use Rattle.small_states.specs.Wholes.{exit_in, state_in};
 
 use crate::small::Small;
-use crate::states::SmallState;
+use crate::states::{SmallExit, SmallState};
 use tcd_base::{NoMemory, put_u32};
 
 #[inline(always)]
@@ -79,5 +79,20 @@ impl SmallState {
         put_byte(out, locals.len() as u8)?;
         put_flags(out, locals)?;
         put_values(out, self.regs.as_slice())
+    }
+}
+
+impl SmallExit {
+    /// Adds the bytes that spell the exit to `out`.
+    #[tactic(auto, unfolding(depth_cert::specs::Spelling::bytes_of_exit))]
+    pub fn spell(&self, out: &mut Vec<u8>) -> Result<(), NoMemory>
+        requires { All IsWell self.now.lower.items }
+        ensures { OnOk result
+            (out.new.items ≡ out.old.items ++ bytes_of_exit (Some (exit_in self.now))) }
+    {
+        put_byte(out, 1)?;
+        put_flag(out, self.ie)?;
+        put_byte(out, self.ccpn)?;
+        put_values(out, self.lower.as_slice())
     }
 }

@@ -1,11 +1,12 @@
 // States and exits whose values are in little room.
-ghost use Rattle.std.specs.Prelude.{◌≡◌, ◌≤◌, ◌&&◌, ◌↔◌, IsTrue, length};
+ghost use Rattle.std.specs.Prelude.{◌≡◌, ◌≤◌, ◌&&◌, ◌↔◌, IsTrue, IfOk, length};
 ghost use Rattle.value_domain.specs.State.{joined_locals};
 ghost use Rattle.small_states.specs.Wholes.{exit_in, state_in};
 
 use crate::small::Small;
 use arrayvec::ArrayVec;
 use depth_cert::Exit;
+use std::alloc::{AllocError, Global};
 use value_domain::{State, Val};
 
 /// A state.
@@ -89,7 +90,31 @@ impl SmallState {
     }
 }
 
+/// Copies of values.
+fn copies(alloc: Global, values: &[Small]) -> Result<Vec<Small>, AllocError>
+    ensures { IfOk result (λ copies. copies.items ≡ values.now) }
+{
+    let mut copies = Vec::with_capacity(alloc, values.len())?;
+    for v in values {
+        let copy = v.copy(alloc)?;
+        copies.push(copy)?;
+    }
+    Ok(copies)
+}
+
 impl SmallExit {
+    /// A copy.
+    pub fn copy(&self, alloc: Global) -> Result<SmallExit, AllocError>
+        ensures { IfOk result (λ x. exit_in x ≡ exit_in self.now) }
+    {
+        let lower = copies(alloc, self.lower.as_slice())?;
+        Ok(SmallExit {
+            ie: self.ie,
+            ccpn: self.ccpn,
+            lower,
+        })
+    }
+
     /// Writes the exit over another.
     pub fn write(&self, into: &mut Exit)
         requires { length self.now.lower.items ≡ 14 }

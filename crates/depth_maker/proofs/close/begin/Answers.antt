@@ -1,4 +1,4 @@
-use Rattle.std.proofs.Common.{sym, ap, subst, ◌∙◌, ◌++◌, ◌∷◌, [], List, Option, Some}
+use Rattle.std.proofs.Common.{refl, sym, ap, subst, ◌∙◌, ◌++◌, ◌∷◌, [], List, Option, Some}
 use Rattle.std.specs.Prelude.{if◌then◌else◌}
 use Rattle.value_domain.specs.declared.states.State.{State}
 use Rattle.depth_cert.specs.Known.{Known, state, IsProper}
@@ -29,4 +29,4 @@ returns-clause-ok c =
     (λ q. c.in_ok-insert.ensures.updates.0 q ∙ ap (λ (o : Option Mark). (if spot_eq x q then Some Queued else o)) (get_none c.new-marks.result q c.new-marks.ensures.empty))
     (c.in_ok-push_back.ensures.items ∙ ap (λ (w : List Spot). w ++ x ∷ []) c.new-work.ensures.items)
     (c.in_ok-push.ensures.items ∙ ap (λ (w : List Spot). w ++ x ∷ []) c.new-points.ensures.items)
-    (c.in_ok-push-2.ensures.items ∙ ap (λ (w : List Key). w ++ k ∷ []) c.new-frames.ensures.items ∙ ap (λ (z : Key). z ∷ []) c.start_key-key.ensures)
+    (c.in_ok-push-2.ensures.items ∙ ap (λ (w : List Key). w ++ k ∷ []) c.new-frames.ensures.items ∙ ap (λ (z : Key). z ∷ []) c.start_key-key.ensures) refl

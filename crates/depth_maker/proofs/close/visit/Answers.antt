@@ -15,7 +15,7 @@ returns-then-not-is_open-clause-ok c =
 pub returns-clause-ok : goal.returns-clause-ok
 returns-clause-ok c =
     let h =
-    finished _ _ _ (lawful _ _ _ c.args.ground.now.sound) c.pay_place.new.table _ c.args.x refl refl refl refl c.in_ok-pay_place.ensures.ok.fine
+    finished _ _ _ (lawful _ _ _ c.args.ground.now.sound) c.pay_place.new.table _ c.args.x refl refl refl refl refl c.in_ok-pay_place.ensures.ok.fine
     (paid_open _ _ _ c.args.table.now c.pay_place.new.table c.args.x c.requires.opened c.in_ok-pay_place.ensures.ok (c.if-not-is_open.ensures.0 refl))
     refl (λ q. c.in_ok-insert.ensures.updates.0 q)
     (paid_settled _ _ _ c.args.table.now c.pay_place.new.table c.args.x c.in_ok-pay_place.ensures.ok (c.if-not-is_open.ensures.0 refl)) in

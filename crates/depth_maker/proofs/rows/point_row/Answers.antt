@@ -39,4 +39,8 @@ returns c =
     let e = done_state c.args.source.now.ground.now c.args.source.now.table.now c.requires.done c.args.key c.args.addr c.in-Some.cell.now at in
     let is : c.read_state.new.into ≡ e.0 = subst (λ (w : Known). IsStateAt w c.read_state.new.into) e.1 c.read_state.ensures in
     let there : get spot_eq c.args.source.now.table.now.cells (Point c.args.key c.args.addr) ≡ Some (state c.read_state.new.into) = at ∙ ap (λ (w : Known). Some w) (e.1 ∙ ap state (sym is)) in
-    (c.read_state.new.into, there, c.in_ok-row.ensures c.args.source.now.table.now.frames.items c.requires.numbers (all_known _ c.args.source.now.table.now c.requires.done there))
+    (c.read_state.new.into, there, c.in_ok-row.ensures c.args.source.now.table.now.frames.items (record { all = c.requires.numbers; taken = c.requires.handlers }) (all_known _ c.args.source.now.table.now c.requires.done there))
+
+pub plain_row-requires-clause-at : goal.plain_row-requires-clause-at
+unfolding seen
+plain_row-requires-clause-at c = sym c.in-Some.ensures.value

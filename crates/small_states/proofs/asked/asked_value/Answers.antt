@@ -8,7 +8,7 @@ changed_value-requires-clause-place c =
     let h = rw c.in-Changed.is at c.requires.place in
     omega (arith, h, length-changed c.in-Changed.s.now c.in-Changed.c.now (omega arith))
 
-pub value_after-requires : goal.value_after-requires
-value_after-requires c =
+pub value_after-requires-clause-place : goal.value_after-requires-clause-place
+value_after-requires-clause-place c =
     let h = rw c.in-After.is at c.requires.place in
-    omega (arith, h, with_lower_length c.in-After.exit.now.lower c.in-After.s.now.regs)
+    omega (arith, h, with_lower_length c.in-After.exit.now.lower.items c.in-After.s.now.regs)

@@ -7,4 +7,4 @@ pub returns-in-Changed : goal.returns-in-Changed
 returns-in-Changed c = rw c.in-Changed.is (sym (length-changed c.in-Changed.s.now c.in-Changed.field-1.now (omega arith)))
 
 pub returns-in-After : goal.returns-in-After
-returns-in-After c = rw c.in-After.is (omega (arith, with_lower_length c.in-After.field-1.now.lower c.in-After.s.now.regs))
+returns-in-After c = rw c.in-After.is (omega (arith, with_lower_length c.in-After.field-1.now.lower.items c.in-After.s.now.regs))

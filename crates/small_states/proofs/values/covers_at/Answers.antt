@@ -13,8 +13,8 @@ returns-then-is_any c = (
   (λ below. refl),
 )
 
-pub covers-requires-clause-value : goal.covers-requires-clause-value
-covers-requires-clause-value c = rw c.asked_value.ensures (c.requires.asked c.args.i c.requires.place)
+pub covers_given-requires-clause-value : goal.covers_given-requires-clause-value
+covers_given-requires-clause-value c = rw c.asked_value.ensures (c.requires.asked c.args.i c.requires.place)
 
 pub returns : goal.returns
-returns c = rw c.asked_value.ensures at c.covers.ensures
+returns c = rw c.asked_value.ensures at c.covers_given.ensures

@@ -1,0 +1,125 @@
+-- Entries that are covered stay so as the table rises; and what asks for no more is covered.
+use Rattle.std.proofs.Common.{◌≡◌, ℕ, ◌<◌, ◌≤◌, Bool, true, false, IsTrue, List, [], ◌∷◌, length, Option, Some, None, refl, sym, ap, ◌∙◌, subst, arith, Contains}
+use Rattle.std.specs.Prelude.{◌==◌, filter, nat_lt, if◌then◌else◌, slice_index_or}
+use Rattle.std.proofs.lemmas.Bool.{eq-eqb, ltb-true, lt-ltb}
+use Rattle.elf_image.specs.Images.{ImageData}
+use Rattle.tcd_plan.specs.PlanData.{PlanData}
+use Rattle.value_domain.specs.declared.values.Val.{Val}
+use Rattle.value_domain.specs.declared.states.State.{State}
+use Rattle.value_domain.specs.Limits.{Limits}
+use Rattle.value_domain.specs.State.{Covers}
+use Rattle.value_domain.specs.Values.{IsBelow, IsWell, any_val}
+use Rattle.vd_transfer.specs.Registers.{slot, reg_of, word_val}
+use Rattle.depth_cert.specs.declared.keys.Key.{Key}
+use Rattle.depth_cert.specs.Known.{CoversKnown, IsProper, Known, leaving, state}
+use Rattle.cfg_recover.specs.Assignments.{Assignment, CoversAt, Joins, Place, point}
+use Rattle.cfg_recover.specs.Duties.{Owed, enter, interrupts_of, irqs_of, owed}
+use Rattle.cfg_recover.specs.Entries.{entry_with, irq_entry, irq_key, stack_of}
+use Rattle.cfg_recover.proofs.EntryLaws.{entry_length}
+use Rattle.cfg_recover.proofs.Members.{contains_filter, contains_map}
+use Rattle.depth_maker.specs.Growth.{IsProperDuty}
+use Rattle.depth_maker.specs.Hearing.{AreEntered, AsksNoMore, HeardEntered, IsEntered, IsHeardAt, heard_stack}
+use Rattle.depth_maker.specs.Proper.{AllProper, AreLawful}
+use Rattle.depth_maker.specs.Tables.{Settled, Table}
+use Rattle.depth_maker.specs.declared.heard.Heard.{Heard}
+use Rattle.depth_maker.proofs.DutyGrowth.{contained_filter, contained_map, entry_covers}
+use Rattle.depth_maker.proofs.StateGrowth.{covers_through}
+use Rattle.depth_maker.proofs.TableLaws.{covers_stays}
+
+-- ---- as the table rises
+-- cells only grow
+pub heard_stays : (b : Limits) (image : ImageData) (plan : PlanData) (laws : AreLawful b image plan) (a after : Assignment) (y : Place) (proper : AllProper b a) (j : Joins b image plan a after y) (heard : Option Heard)
+    → HeardEntered b plan a heard → HeardEntered b plan after heard
+heard_stays b image plan laws a after y proper j None h = tt
+heard_stays b image plan laws a after y proper j (Some x) h = record {
+  stack = h.stack;
+  each = λ p c lt.
+      let e = h.each p c lt in
+      record {
+        proper = e.proper;
+        covers = covers_stays b image plan laws a after y proper j (point (irq_key plan p) (irq_key plan p).entry) (state (entry_with (heard_stack plan x) false p true)) e.proper e.covers;
+      };
+}
+
+-- the same cells
+pub heard_again : (b : Limits) (plan : PlanData) (a after : Assignment) → ((q : Place) → after q ≡ a q) → (heard : Option Heard) → HeardEntered b plan a heard → HeardEntered b plan after heard
+heard_again b plan a after same None h = tt
+heard_again b plan a after same (Some x) h = record {
+  stack = h.stack;
+  each = λ p c lt.
+      let e = h.each p c lt in
+      record {
+        proper = e.proper;
+        covers = record { known = (e.covers).known; at = same (point (irq_key plan p) (irq_key plan p).entry) ∙ (e.covers).at; covers = (e.covers).covers };
+      };
+}
+
+-- ---- what asks for no more
+-- the interrupts that may be taken
+taken : (on : Bool) (m : ℕ) (irqs : List ℕ) (q : ℕ) → Contains (if on then filter (λ p. nat_lt m p) irqs else []) q → Contains irqs q × (m < q)
+taken false m irqs q c = absurd (omega (arith, c.1))
+taken true m irqs q c = let r = contained_filter (λ p. nat_lt m p) irqs q c in (r.0, ltb-true m q r.1)
+
+pub takes : (on : Bool) (m : ℕ) (irqs : List ℕ) (q : ℕ) → IsTrue on → Contains irqs q → m < q → Contains (if on then filter (λ p. nat_lt m p) irqs else []) q
+takes true m irqs q t c lt = contains_filter (λ p. nat_lt m p) q irqs c (lt-ltb m q lt)
+takes false m irqs q t c lt = absurd (let no : false ≡ true = t in cc)
+
+-- the stack pointers at the handlers' entries
+stacks_below : (inner heard : Bool) (v w x : Val) → heard ≡ inner → (IsTrue heard → IsBelow v w) → IsBelow (if inner then v else x) (if heard then w else x)
+stacks_below true true v w x e h = h refl
+stacks_below true false v w x e h = absurd (let no : false ≡ true = e in cc)
+stacks_below false true v w x e h = absurd (let no : true ≡ false = e in cc)
+stacks_below false false v w x e h = λ z m. m
+
+stack_below : (plan : PlanData) (k : Key) (s : State) (h : Heard) → AsksNoMore h k.is s → IsBelow (stack_of plan k s) (heard_stack plan h)
+unfolding slot
+stack_below plan k s h asks = stacks_below k.is h.is (slice_index_or s.regs 22 any_val) h.sp (word_val plan.isp) asks.same asks.below
+
+stack_same : (plan : PlanData) (k : Key) (s : State) (h : Heard) → IsHeardAt h k.is s → heard_stack plan h ≡ stack_of plan k s
+unfolding slot
+stack_same plan k s h from =
+    ap (λ (t : Bool). if t then h.sp else word_val plan.isp) from.same ∙ ap (λ (v : Val). if k.is then v else word_val plan.isp) from.sp
+
+-- what covers a state covers what that one covers
+covers_less : (w : Known) (v u : State) → length u.regs ≡ length v.regs → CoversKnown w (state v) → Covers v u → CoversKnown w (state u)
+covers_less (state x) v u same h c = covers_through x v u same h c
+covers_less (leaving x) v u same h c = absurd h
+
+-- the entries that a point asks for are covered
+pub heard_settles : (b : Limits) (plan : PlanData) (t : Table) (k : Key) (p : ℕ) (s : State) (h : Heard) → AreEntered b plan t.cells h → AsksNoMore h k.is s → (d : Owed) → Contains (interrupts_of plan k s) d
+    → Settled t k p s d.duty
+heard_settles b plan t k p s h entered asks d c =
+    let r = contained_map (λ (q : ℕ). owed 11 (enter (irq_key plan q) (irq_entry plan k s q))) (irqs_of plan s) d c in
+    let q = r.0 in
+    let i = taken s.ie s.ccpn plan.irqs q r.1 in
+    let e = entered.each q i.0 (omega (arith, i.1, asks.above)) in
+    let v = heard_stack plan h in
+    let w = stack_of plan k s in
+    let less : Covers (entry_with v false q true) (entry_with w false q true) = entry_covers w v false q q true (stack_below plan k s h asks) (omega arith) in
+    let covered : CoversAt t.cells (point (irq_key plan q) (irq_key plan q).entry) (state (irq_entry plan k s q)) =
+    record {
+      known = (e.covers).known;
+      at = (e.covers).at;
+      covers = covers_less (e.covers).known (entry_with v false q true) (entry_with w false q true) (entry_length w false q true ∙ sym (entry_length v false q true)) (e.covers).covers less;
+    } in
+    subst (λ (o : Owed). Settled t k p s o.duty) r.2 covered
+
+-- what a point asked for is heard, where it was covered
+pub heard_new : (b : Limits) (plan : PlanData) (t : Table) (k : Key) (p : ℕ) (s : State) (h : Heard) → IsHeardAt h k.is s → IsProper b s → IsTrue s.ie
+    → ((d : Owed) → Contains (interrupts_of plan k s) d → IsProperDuty b d.duty) → ((d : Owed) → Contains (interrupts_of plan k s) d → Settled t k p s d.duty) → AreEntered b plan t.cells h
+heard_new b plan t k p s h from ps on proper settled = record {
+  stack = subst IsWell (sym from.sp) (ps.values 22 (omega (arith, ps.regs))).well;
+  each = λ q c lt.
+      let f : ℕ → Owed = λ (q : ℕ). owed 11 (enter (irq_key plan q) (irq_entry plan k s q)) in
+      let i = contains_map f (irqs_of plan s) q (takes s.ie s.ccpn plan.irqs q on c (omega (arith, lt, from.ccpn))) in
+      let e = sym (stack_same plan k s h from) in
+      record {
+        proper = subst (λ (v : Val). IsProper b (entry_with v false q true)) e (proper (f q) i);
+        covers = subst (λ (v : Val). CoversAt t.cells (point (irq_key plan q) (irq_key plan q).entry) (state (entry_with v false q true))) e (settled (f q) i);
+      };
+}
+
+-- where some may be taken, interrupts may be on
+pub taken_on : (on : Bool) (ps irqs : List ℕ) → irqs ≡ (if on then ps else []) → (length irqs == 0) ≡ false → IsTrue on
+taken_on true ps irqs e some = refl
+taken_on false ps irqs e some = absurd (let no : true ≡ false = sym (eq-eqb (length irqs) 0 (ap (λ (l : List ℕ). length l) e)) ∙ some in cc)

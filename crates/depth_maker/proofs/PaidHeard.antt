@@ -1,0 +1,54 @@
+-- Entries of interrupts that are paid for by what was heard, and what is heard of those that were paid for.
+use Rattle.std.proofs.Common.{◌≡◌, ℕ, Bool, false, IsTrue, Some, Contains}
+use Rattle.indexmap.specs.IndexMap.{get}
+use Rattle.elf_image.specs.Images.{ImageData}
+use Rattle.tcd_plan.specs.PlanData.{PlanData}
+use Rattle.value_domain.specs.declared.states.State.{State}
+use Rattle.value_domain.specs.Limits.{Limits}
+use Rattle.depth_cert.specs.declared.keys.Key.{Key}
+use Rattle.depth_cert.specs.Known.{IsProper}
+use Rattle.cfg_recover.specs.Assignments.{point}
+use Rattle.cfg_recover.specs.Duties.{Owed, interrupts_of}
+use Rattle.frame_places.specs.Marks.{is_queued}
+use Rattle.frame_places.specs.Spots.{spot_eq}
+use Rattle.depth_maker.specs.Hearing.{AreEntered, AsksNoMore, IsHeardAt}
+use Rattle.depth_maker.specs.Levels.{level}
+use Rattle.depth_maker.specs.Proper.{AreLawful}
+use Rattle.depth_maker.specs.Spots.{spot_of}
+use Rattle.depth_maker.specs.View.{IsFine, Owes, PaidFor, seen}
+use Rattle.depth_maker.specs.declared.heard.Heard.{Heard}
+use Rattle.depth_maker.specs.declared.table.Table as made
+use Rattle.depth_maker.proofs.HearingLaws.{heard_new, heard_settles}
+use Rattle.depth_maker.proofs.PartLemmas.{keeps_all, owed_proper}
+
+module _ (b : Limits) (image : ImageData) (plan : PlanData) (k : Key) (p : ℕ) (u : State) where
+  -- nothing is to be joined
+  pub paid_already : (s : made.Table) (h : Heard) → IsFine b image plan s → AreEntered b plan (seen s).cells h → AsksNoMore h k.is u → PaidFor b image plan s s k p u (interrupts_of plan k u)
+  paid_already s h fine entered asks = record {
+    fine = fine;
+    keeps = keeps_all b image plan s;
+    settled = λ free d c. heard_settles b plan (seen s) k p u h entered asks d c;
+  }
+
+  -- what the point asked for is heard
+  pub paid_and_heard : (laws : AreLawful b image plan) (s m : made.Table) (h : Heard) → IsHeardAt h k.is u → IsProper b u → IsTrue u.ie
+      → ((d : Owed) → Contains (interrupts_of plan k u) d → Owes b image plan k p u d.duty) → is_queued (get spot_eq m.marks (spot_of (point k p))) ≡ false
+      → PaidFor b image plan s m k p u (interrupts_of plan k u) → PaidFor b image plan s (record m { heard = Some h }) k p u (interrupts_of plan k u)
+  unfolding seen level
+  paid_and_heard laws s m h from pu on owes free paid = record {
+    fine = record {
+      table = (paid.fine).table;
+      listed = (paid.fine).listed;
+      marked = (paid.fine).marked;
+      counted = (paid.fine).counted;
+      heard = heard_new b plan (seen m) k p u h from pu on (λ d c. owed_proper b image plan k p u laws d.duty pu (owes d c)) (λ d c. paid.settled free d c);
+    };
+    keeps = record {
+      each = (paid.keeps).each;
+      readers = (paid.keeps).readers;
+      read = (paid.keeps).read;
+      settled = (paid.keeps).settled;
+      rises = (paid.keeps).rises;
+    };
+    settled = paid.settled;
+  }

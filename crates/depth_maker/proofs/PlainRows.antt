@@ -1,0 +1,108 @@
+-- The row of a point that enters no frame.
+use Rattle.std.proofs.Common.{◌≡◌, ◌⊎◌, inl, inr, ℕ, Bool, true, false, not, List, [], ◌∷◌, ◌++◌, length, Some, refl, sym, ap, ◌∙◌, subst, Contains}
+use Rattle.std.specs.Prelude.{map, filter, nat_lt, if◌then◌else◌, Ok}
+use Rattle.tc_isa.specs.Bounded.{IsShape}
+use Rattle.tc_isa.specs.declared.shapes.Arg.{Arg}
+use Rattle.tc_isa.specs.declared.shapes.Shape.{Shape}
+use Rattle.tc_isa.specs.declared.shapes.Shape.TheVariants.{Load, Store}
+use Rattle.tcd_plan.specs.PlanData.{PlanData}
+use Rattle.value_domain.specs.declared.values.Val.{Val}
+use Rattle.value_domain.specs.declared.states.State.{State}
+use Rattle.vd_transfer.specs.Effects.{address_of}
+use Rattle.depth_cert.specs.declared.keys.Key.{Key}
+use Rattle.depth_cert.specs.Known.{Known, state}
+use Rattle.cfg_recover.specs.Assignments.{point}
+use Rattle.cfg_recover.specs.Code.{IsCode}
+use Rattle.cfg_recover.specs.Duties.{duties_of, enter, entries_of, interrupts_of, irqs_of, leavings_of, misaligned_at, misaligned_of, owed, successors_of}
+use Rattle.cfg_recover.specs.Local.{are_aligned}
+use Rattle.cfg_recover.specs.Entries.{aln_entry, aln_key, irq_key}
+use Rattle.frame_places.specs.Numbers.{AreNumbers, number_in}
+use Rattle.frame_places.specs.Spots.{spot_eq}
+use Rattle.frame_places.specs.declared.places.Spot.TheVariants.{Point}
+use Rattle.indexmap.specs.IndexMap.{get}
+use Rattle.small_states.specs.Kept.{IsQuiet}
+use Rattle.call_needs.specs.declared.row.Row.{Row}
+use Rattle.depth_maker.specs.Entered.{EntersNone, entered_in}
+use Rattle.depth_maker.specs.Spots.{place_of}
+use Rattle.depth_maker.specs.RowsAt.{IsRowAt}
+use Rattle.depth_maker.specs.RowsBy.{IsSource, PointHasRow}
+use Rattle.depth_maker.specs.View.{IsDone, seen}
+use Rattle.depth_maker.specs.declared.ground.Ground.{Ground}
+use Rattle.depth_maker.specs.declared.rows.Source.{Source}
+use Rattle.depth_maker.specs.declared.table.Table as made
+use Rattle.depth_maker.proofs.EffectGrowth.{address_value}
+use Rattle.depth_maker.proofs.EnteredLemmas.{entered_irqs, entered_leavings, entered_parts, entered_successors}
+use Rattle.depth_maker.proofs.OwnGrowth.{setting_of}
+use Rattle.depth_maker.proofs.RowLaws.{known_frame}
+use Rattle.depth_maker.proofs.RowSteps.{done_proper, done_state}
+
+pub off_of : (t : Bool) → not t ≡ true → t ≡ false
+off_of true e = cc
+off_of false e = refl
+
+-- an access that is aligned enters none
+aligned_none : (plan : PlanData) (k : Key) (u : State) (at : Val) (size : ℕ) → are_aligned at size ≡ true → entered_in (misaligned_at plan k u at size) ≡ []
+aligned_none plan k u at size e = ap (λ (t : Bool). entered_in (if t then [] else owed 10 (enter (aln_key plan k) (aln_entry plan k u)) ∷ [])) e
+
+either : (a : Bool) (b : Bool) → (a ≡ true) ⊎ (b ≡ true) → b ≡ false → a ≡ true
+either a b (inl e) off = e
+either a b (inr e) off = absurd (let no : true ≡ false = sym e ∙ off in cc)
+
+pub load_enters_none : (plan : PlanData) (shape : Shape) → plan.aln ≡ false → (dst : ℕ) (base : Arg) (offset size : ℕ) (signed after : Bool) → shape ≡ Load dst base offset size signed after → EntersNone plan shape
+load_enters_none plan shape off dst base offset size signed after is = subst (EntersNone plan) (sym is) at where
+  at : EntersNone plan (Load dst base offset size signed after)
+  at b k p u n rule = (refl, aligned_none plan k u (address_of b plan (Load dst base offset size signed after) u) size (either _ _ (rule.accesses refl) off))
+
+pub store_enters_none : (plan : PlanData) (shape : Shape) → plan.aln ≡ false → (src : ℕ) (base : Arg) (offset size : ℕ) (after : Bool) → shape ≡ Store src base offset size after → EntersNone plan shape
+store_enters_none plan shape off src base offset size after is = subst (EntersNone plan) (sym is) at where
+  at : EntersNone plan (Store src base offset size after)
+  at b k p u n rule = (refl, aligned_none plan k u (address_of b plan (Store src base offset size after) u) size (either _ _ (rule.accesses refl) off))
+
+-- where interrupts are off none is taken
+no_irqs : (plan : PlanData) (k : Key) (u : State) → u.ie ≡ false → entered_in (interrupts_of plan k u) ≡ []
+no_irqs plan k u off =
+    entered_irqs plan k u (irqs_of plan u) ∙ ap (λ (l : List ℕ). map (irq_key plan) l) (ap (λ (t : Bool). if t then filter (λ p. nat_lt u.ccpn p) plan.irqs else []) off)
+
+-- the row has no frame that is entered
+pub plain_row_is : (s : Source) → IsSource s → (k : Key) (p : ℕ) (w : Known) (shape : Shape) (n : ℕ) (row : Row) → (seen s.table.now).cells (point k p) ≡ Some w → IsQuiet w row.held
+    → IsCode (s.ground.now).image.now (s.ground.now).plan.now p shape n → IsShape shape → EntersNone (s.ground.now).plan.now shape
+    → ((frames : List Key) → AreNumbers s.numbers.now frames frames → Contains frames k → row.node ≡ number_in frames k) → row.into.items ≡ [] → PointHasRow s k p (Ok (Some row))
+unfolding seen duties_of
+plain_row_is s source k p w shape n row at is_quiet code shaped enters node none =
+    let g = s.ground.now in
+    let t = s.table.now in
+    let done = source.done in
+    let frames = t.frames.items in
+    let e = done_state g t done k p w at in
+    let u = e.0 in
+    let there : (seen t).cells (point k p) ≡ Some (state u) = at ∙ ap (λ (z : Known). Some z) e.1 in
+    let quiet : (u.ie ≡ false) × (length u.locals.items ≡ row.held) = subst (λ (z : Known). IsQuiet z row.held) e.1 is_quiet in
+    let proper = done_proper g t done (Point k p) (state u) there in
+    let b = g.bounds.now in
+    let image = g.image.now in
+    let plan = g.plan.now in
+    let entered = enters b k p u n ((done.faultless k p u there 10).own shape n code) in
+    let ds = entered_in (misaligned_of b plan k u shape) in
+    let es = entered_in (interrupts_of plan k u) in
+    let parts =
+    entered_parts (successors_of b image plan p u shape n) (entries_of plan k p u shape n) (misaligned_of b plan k u shape) (interrupts_of plan k u) (leavings_of k u shape)
+    (entered_successors b image plan p u shape n) (entered_leavings k u shape)
+    ∙ ap (λ (l : List Key). (l ++ ds) ++ es) entered.0
+    ∙ ap (λ (l : List Key). l ++ es) entered.1
+    ∙ no_irqs plan k u quiet.0 in (
+      u,
+      there,
+      record {
+        found = record { shape = shape; size = n; at = address_of b plan shape u };
+        stands = record {
+          faultless = done.faultless k p u there;
+          code = code;
+          shape = shaped;
+          access = refl;
+          value = address_value b plan shape u (setting_of b image plan u g.sound proper) shaped;
+        };
+        node = node frames source.numbers (known_frame _ _ _ (seen t).cells done.closed (map place_of t.points.items) frames (done.counted).each (point k p) (state u) there);
+        held = sym quiet.1;
+        into = none ∙ sym (ap (λ (l : List Key). map (number_in frames) l) parts);
+      },
+    )

@@ -1,0 +1,6 @@
+use Rattle.std.proofs.Common.{◌≡◌, ◌++◌, take}
+use Rattle.depth_maker.specs.Handlers.{nodes_above}
+use Rattle.depth_maker.proofs.handlers.add_all_above.Given as goal
+
+abbrev pub invariant-loop-h : goal.invariant-loop-h
+invariant-loop-h l = l.into.items ≡ l.initial.into.items ++ nodes_above l.ccpn (take l.h-index l.handlers)

@@ -1,0 +1,11 @@
+use Rattle.std.proofs.Common.{◌∙◌, ap, subst, ℕ, List}
+use Rattle.std.proofs.lemmas.Result.{IfOk-weaker}
+use Rattle.tcd_plan.specs.PlanData.{PlanData}
+use Rattle.depth_maker.specs.Handlers.{AreHandlers}
+use Rattle.depth_maker.proofs.handlers.handlers.Goals as goal
+
+pub returns : goal.returns
+returns c =
+    IfOk-weaker c.handlers_of.result _ _
+    (λ hs h frames are. subst (λ (l : List ℕ). AreHandlers c.args.plan.now frames l hs.items) (c.as_slice.ensures.value ∙ ap (λ (p : PlanData). p.irqs) c.plan.view_is) (h frames are))
+    c.handlers_of.ensures

@@ -1,0 +1,88 @@
+// The frames of the handlers of interrupts, by their numbers.
+ghost use Rattle.std.specs.Prelude.{◌≡◌, ◌++◌, ◌∷◌, [], List, IfOk, OnOk};
+ghost use Rattle.depth_cert.specs.declared.keys.Key as keys;
+ghost use Rattle.frame_places.specs.Numbers.{AreNumbers};
+ghost use Rattle.depth_maker.specs.Handlers.{AreHandlers, nodes_above, nodes_taken};
+
+use cfg_recover::irq_key;
+use depth_cert::Key;
+use frame_places::number_of;
+use indexmap::IndexMap;
+use std::alloc::{AllocError, Global};
+use tcd_plan::Plan;
+use value_domain::State;
+
+/// The priority of an interrupt, and the number of its handler's frame.
+#[derive(Drop)]
+pub(crate) struct Handler {
+    prio: u8,
+    node: usize,
+}
+
+/// The handlers of these interrupts.
+fn handlers_of(
+    alloc: Global,
+    plan: &Plan,
+    numbers: &IndexMap<Key, usize>,
+    irqs: &[u8],
+) -> Result<Vec<Handler>, AllocError>
+    ensures { IfOk result (λ handlers. (frames : List keys.Key)
+        → AreNumbers numbers.now frames frames
+        → AreHandlers plan.now frames irqs.now handlers.items) }
+{
+    let mut handlers = Vec::new(alloc);
+    for p in irqs {
+        let node = number_of(numbers, irq_key(plan, *p));
+        handlers.push(Handler { prio: *p, node })?;
+    }
+    Ok(handlers)
+}
+
+/// The handlers of all stated interrupts.
+pub(crate) fn handlers(
+    alloc: Global,
+    plan: &Plan,
+    numbers: &IndexMap<Key, usize>,
+) -> Result<Vec<Handler>, AllocError>
+    ensures { IfOk result (λ handlers. (frames : List keys.Key)
+        → AreNumbers numbers.now frames frames
+        → AreHandlers plan.now frames plan.now.irqs handlers.items) }
+{
+    handlers_of(alloc, plan, numbers, plan.irqs.as_slice())
+}
+
+/// Adds the frame of a handler, if the interrupt is above this priority.
+fn add_above(into: &mut Vec<usize>, ccpn: u8, handler: &Handler) -> Result<(), AllocError>
+    ensures { OnOk result
+        (into.new.items ≡ into.old.items ++ nodes_above ccpn (handler.now ∷ [])) }
+{
+    if handler.prio <= ccpn {
+        return Ok(());
+    }
+    into.push(handler.node)?;
+    Ok(())
+}
+
+/// Adds those of all interrupts above this priority.
+fn add_all_above(into: &mut Vec<usize>, ccpn: u8, handlers: &[Handler]) -> Result<(), AllocError>
+    ensures { OnOk result (into.new.items ≡ into.old.items ++ nodes_above ccpn handlers.now) }
+{
+    for h in handlers {
+        add_above(into, ccpn, h)?;
+    }
+    Ok(())
+}
+
+/// Adds those of the interrupts that may be taken in a state.
+pub(crate) fn add_taken(
+    into: &mut Vec<usize>,
+    s: &State,
+    handlers: &[Handler],
+) -> Result<(), AllocError>
+    ensures { OnOk result (into.new.items ≡ into.old.items ++ nodes_taken s.now handlers.now) }
+{
+    if !s.ie {
+        return Ok(());
+    }
+    add_all_above(into, s.ccpn, handlers)
+}
