@@ -166,8 +166,11 @@ module _ (b : Limits) (image : ImageData) (plan : PlanData) (k : Key) (p : ℕ) 
   }
 
   -- ---- between joinings
+  pub has_duty_at : (t : made.Table) (d : Duty) → (seen t).cells (point k p) ≡ Some (state u) → Owes b image plan k p u d → HasDuty b image plan (seen t).cells k p u d
+  has_duty_at t d at o = record { at = at; faultless = o.faultless; shape = o.shape; size = o.size; code = o.code; owed = o.owed; listed = o.listed; is = o.is }
+
   pub has_duty : (t : made.Table) (d : Duty) → IsVisited b image plan t k p u → is_queued (get spot_eq t.marks (spot_of (point k p))) ≡ false → Owes b image plan k p u d → HasDuty b image plan (seen t).cells k p u d
-  has_duty t d v free o = record { at = v.at free; faultless = o.faultless; shape = o.shape; size = o.size; code = o.code; owed = o.owed; listed = o.listed; is = o.is }
+  has_duty t d v free o = has_duty_at t d (v.at free) o
 
   -- the point has work already
   pub paid_queued : (s : made.Table) (ds : List Owed) → IsVisited b image plan s k p u → is_queued (get spot_eq s.marks (spot_of (point k p))) ≡ true → PaidFor b image plan s s k p u ds

@@ -1,12 +1,14 @@
 // One duty of a point that is visited: what it asks for is joined at its place.
-ghost use Rattle.std.specs.Prelude.{◌≡◌, ℕ, OnOk, IfErr, [], ◌∷◌};
+ghost use Rattle.std.specs.Prelude.{◌≡◌, ℕ, OnOk, IfErr, Some, [], ◌∷◌};
 ghost use Rattle.indexmap.specs.IndexMap.{get};
 ghost use Rattle.vd_transfer.specs.Changes.{state_after};
 ghost use Rattle.cfg_recover.specs.Duties.{owed, jump, enter, resume, leave, entered_and_back};
+ghost use Rattle.cfg_recover.specs.Assignments.{point};
 ghost use Rattle.depth_cert.specs.Exits.{exit_of};
+ghost use Rattle.depth_cert.specs.Known.{state};
 ghost use Rattle.frame_places.specs.declared.places.Spot.TheVariants.{Exit, Point};
 ghost use Rattle.frame_places.specs.Spots.{spot_eq};
-ghost use Rattle.depth_maker.specs.View.{AnsweredOn, OwesDuty, PaidBy, VisitedBy};
+ghost use Rattle.depth_maker.specs.View.{AnsweredOn, OwesDuty, PaidBy, VisitedBy, seen};
 ghost use Rattle.frame_places.specs.Marks.{Reads, is_queued};
 
 use crate::ground::Visit;
@@ -36,6 +38,27 @@ pub(crate) fn pay_jump(
     if has_work(&table.marks, Spot::Point(v.key, v.addr)) {
         return Ok(());
     }
+    let asked = Asked::Changed(v.state, c);
+    raise(alloc, v.ground, table, Spot::Point(v.key, to), &asked)
+}
+
+/// The same before anything else is joined, while the point has the state that it is visited with.
+pub(crate) fn pay_first(
+    alloc: Global,
+    table: &mut Table,
+    v: &Visit,
+    to: u32,
+    c: &Change,
+) -> Result<(), Refusal>
+    requires visited { VisitedBy v.now table.old }
+    requires at { (seen table.old).cells (point v.now.key v.now.addr)
+        ≡ Some (state v.now.state.now) }
+    requires owes { OwesDuty v.now (jump to (state_after v.now.state.now c.now)) }
+    ensures ok { OnOk result
+        (PaidBy v.now table.old table.new
+        (owed 4 (jump to (state_after v.now.state.now c.now)) ∷ [])) }
+    ensures err { IfErr result (AnsweredOn v.now.ground.now) }
+{
     let asked = Asked::Changed(v.state, c);
     raise(alloc, v.ground, table, Spot::Point(v.key, to), &asked)
 }

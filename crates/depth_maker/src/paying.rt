@@ -39,6 +39,8 @@ fn pay_leavings(alloc: Global, table: &mut Table, v: &Visit, shape: Shape) -> Re
 /// All that the point owes, by what stands there.
 fn pay_duties(alloc: Global, table: &mut Table, v: &Visit, found: &Located) -> Result<(), Refusal>
     requires visited { VisitedBy v.now table.old }
+    requires at { (seen table.old).cells (point v.now.key v.now.addr)
+        ≡ Some (state v.now.state.now) }
     requires found { StandsBy v.now found.now }
     ensures ok { OnOk result (PaidBy v.now table.old table.new (duties_by v.now found.now)) }
     ensures err { IfErr result (AnsweredOn v.now.ground.now) }

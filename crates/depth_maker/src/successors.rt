@@ -1,11 +1,13 @@
 // The jumps of a point in its frame.
-ghost use Rattle.std.specs.Prelude.{◌≡◌, OnOk, IfErr, [], ◌++◌, unwrap_or, false, true};
+ghost use Rattle.std.specs.Prelude.{◌≡◌, OnOk, IfErr, Some, [], ◌++◌, unwrap_or, false, true};
 ghost use Rattle.tc_isa.specs.Bounded.{IsShape, IsTarget};
+ghost use Rattle.cfg_recover.specs.Assignments.{point};
 ghost use Rattle.cfg_recover.specs.Local.{targets_of};
 ghost use Rattle.cfg_recover.specs.Duties.{jumps_to, jump_on};
-ghost use Rattle.depth_maker.specs.View.{AnsweredOn, OwesAll, PaidBy, StandsBy, VisitedBy, next_by, side_by, successors_by};
+ghost use Rattle.depth_cert.specs.Known.{state};
+ghost use Rattle.depth_maker.specs.View.{AnsweredOn, OwesAll, PaidBy, StandsBy, VisitedBy, next_by, seen, side_by, successors_by};
 
-use crate::asking::pay_jump;
+use crate::asking::{pay_first, pay_jump};
 use crate::ground::Visit;
 use crate::table::Table;
 use cfg_recover::{Located, loaded_from, targets};
@@ -89,9 +91,11 @@ fn pay_targets(alloc: Global, table: &mut Table, v: &Visit, to: Target) -> Resul
     pay_jumps(alloc, table, v, targets.as_slice())
 }
 
-/// The step to the next instruction.
+/// The step to the next instruction, before anything else is joined.
 fn pay_step(alloc: Global, table: &mut Table, v: &Visit, found: &Located) -> Result<(), Refusal>
     requires visited { VisitedBy v.now table.old }
+    requires at { (seen table.old).cells (point v.now.key v.now.addr)
+        ≡ Some (state v.now.state.now) }
     requires found { StandsBy v.now found.now }
     requires owes { OwesAll v.now (next_by v.now found.now) }
     ensures ok { OnOk result (PaidBy v.now table.old table.new (next_by v.now found.now)) }
@@ -99,11 +103,17 @@ fn pay_step(alloc: Global, table: &mut Table, v: &Visit, found: &Located) -> Res
 {
     let g = v.ground;
     let value = loaded_from(g.bounds, g.image, g.plan, found.shape, &found.at);
-    let c = change_of(g.bounds, g.plan, found.shape, v.state, value);
-    pay_jump(alloc, table, v, v.addr.wrapping_add(found.size), &c)
+    let next = v.addr.wrapping_add(found.size);
+    pay_first(
+        alloc,
+        table,
+        v,
+        next,
+        &change_of(g.bounds, g.plan, found.shape, v.state, value),
+    )
 }
 
-/// The successors in the same frame, without those after a call or a system call.
+/// The successors in the same frame, without those after a call or a system call; they are joined before anything else.
 pub(crate) fn pay_successors(
     alloc: Global,
     table: &mut Table,
@@ -111,6 +121,8 @@ pub(crate) fn pay_successors(
     found: &Located,
 ) -> Result<(), Refusal>
     requires visited { VisitedBy v.now table.old }
+    requires at { (seen table.old).cells (point v.now.key v.now.addr)
+        ≡ Some (state v.now.state.now) }
     requires found { StandsBy v.now found.now }
     requires owes { OwesAll v.now (successors_by v.now found.now) }
     ensures ok { OnOk result (PaidBy v.now table.old table.new (successors_by v.now found.now)) }

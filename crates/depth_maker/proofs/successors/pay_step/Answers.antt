@@ -10,16 +10,16 @@ use Rattle.depth_maker.specs.View.{OwesDuty, PaidBy}
 use Rattle.depth_maker.proofs.PartLemmas.{owes_one}
 use Rattle.depth_maker.proofs.successors.pay_step.Goals as goal
 
-pub change_of-c-requires-clause-room : goal.change_of-c-requires-clause-room
-change_of-c-requires-clause-room c = let f = c.requires.found in ((f.faultless 8).own c.args.found.now.shape c.args.found.now.size f.code).room refl
+pub change_of-requires-clause-room : goal.change_of-requires-clause-room
+change_of-requires-clause-room c = let f = c.requires.found in ((f.faultless 8).own c.args.found.now.shape c.args.found.now.size f.code).room refl
 
-pub pay_jump-requires-clause-owes : goal.pay_jump-requires-clause-owes
-pay_jump-requires-clause-owes c =
+pub pay_first-requires-clause-owes : goal.pay_first-requires-clause-owes
+pay_first-requires-clause-owes c =
     let v = c.args.v.now in
     let g = v.ground.now in
     let n = moved v.addr c.args.found.now.size in
     let loaded : c.loaded_from-value.result ≡ loaded_at g.bounds.now g.image.now g.plan.now v.state.now c.args.found.now.shape = c.loaded_from-value.ensures.loaded v.state.now c.requires.found.access in
-    let after = c.change_of-c.ensures.change ∙ ap (λ (x : Val). transfer_of g.bounds.now g.plan.now c.args.found.now.shape v.state.now x) loaded in
+    let after = c.change_of.ensures.change ∙ ap (λ (x : Val). transfer_of g.bounds.now g.plan.now c.args.found.now.shape v.state.now x) loaded in
     subst (λ (s : State). OwesDuty v (jump n s)) (sym after) (owes_one _ _ _ v.key v.addr v.state.now (owed 4 (jump n _)) c.requires.owes)
 
 pub returns-clause-ok : goal.returns-clause-ok
@@ -27,5 +27,5 @@ returns-clause-ok c =
     let v = c.args.v.now in
     let g = v.ground.now in
     let loaded : c.loaded_from-value.result ≡ loaded_at g.bounds.now g.image.now g.plan.now v.state.now c.args.found.now.shape = c.loaded_from-value.ensures.loaded v.state.now c.requires.found.access in
-    let after = c.change_of-c.ensures.change ∙ ap (λ (x : Val). transfer_of g.bounds.now g.plan.now c.args.found.now.shape v.state.now x) loaded in
-    subst (λ (s : State). OnOk c.pay_jump.result (PaidBy v c.args.table.now c.pay_jump.new.table (owed 4 (jump (moved v.addr c.args.found.now.size) s) ∷ []))) after c.pay_jump.ensures.ok
+    let after = c.change_of.ensures.change ∙ ap (λ (x : Val). transfer_of g.bounds.now g.plan.now c.args.found.now.shape v.state.now x) loaded in
+    subst (λ (s : State). OnOk c.pay_first.result (PaidBy v c.args.table.now c.pay_first.new.table (owed 4 (jump (moved v.addr c.args.found.now.size) s) ∷ []))) after c.pay_first.ensures.ok
