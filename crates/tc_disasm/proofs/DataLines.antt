@@ -4,8 +4,8 @@ use Rattle.std.specs.Prelude.{codes, nat_lt, fold}
 use Rattle.std.specs.Fmt.{decimal}
 use Rattle.std.proofs.lemmas.Bool.Decides.{nat_tests}
 use Rattle.tc_lex.specs.declared.kinds.TokenKind.TheVariants as kind
-use Rattle.tcd_base.specs.NameBytes.{is_name_first}
-use Rattle.tc_lex.specs.Bytes.{is_digit, is_name_byte}
+use Rattle.tcd_base.specs.NameBytes.{is_name_byte, is_name_first}
+use Rattle.tc_lex.specs.Bytes.{is_digit}
 use Rattle.tc_lex.specs.Cut.{has_hex_front}
 use Rattle.tc_isa.specs.Codec.{four_bytes}
 use Rattle.tc_lex.specs.declared.operand.Shape.TheVariants as shape

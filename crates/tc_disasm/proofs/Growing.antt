@@ -10,8 +10,8 @@ use Rattle.std.proofs.Math.Dec.{eqb-suc-zero}
 use Rattle.std.proofs.lemmas.Bool.Decides.{nat_tests}
 use Rattle.std.proofs.lemmas.Fmt.{length-decimal-le}
 use Rattle.tc_lex.specs.Bytes.{is_digit}
-use Rattle.tcd_base.specs.NameBytes.{is_name_first}
-use Rattle.tc_object.specs.Names.{is_further, is_length}
+use Rattle.tcd_base.specs.NameBytes.{is_name_byte, is_name_first}
+use Rattle.tc_object.specs.Names.{is_length}
 use Rattle.tc_stmt.specs.Names.{is_name}
 use Rattle.tc_stmt.specs.Items.{section}
 use Rattle.tc_stmt.specs.Lines.{LineData, line_data}
@@ -113,18 +113,18 @@ module _ (name : List ℕ) where
       }
 
 -- ---- the names of a listing's sections
-digit_is_further : (c : ℕ) → is_digit c ≡ true → is_further c ≡ true
-unfolding is_digit is_further is_name_first
+digit_is_further : (c : ℕ) → is_digit c ≡ true → is_name_byte c ≡ true
+unfolding is_digit is_name_byte is_name_first
 digit_is_further c e = grind (arith, nat_tests)
 
-digits_are_further : (ds : List ℕ) → list_all is_digit ds ≡ true → list_all is_further ds ≡ true
+digits_are_further : (ds : List ℕ) → list_all is_digit ds ≡ true → list_all is_name_byte ds ≡ true
 digits_are_further [] e = refl
 digits_are_further (c ∷ cs) e =
     let two = both (is_digit c) (list_all is_digit cs) e in
     rw (digit_is_further c two.0) (digits_are_further cs two.1)
 
 pub section_name-is : (n : ℕ) → n < 64 → is_name (115 ∷ decimal n) ≡ true
-unfolding is_name is_further is_name_first
+unfolding is_name is_name_byte is_name_first
 section_name-is n small =
     let ds = decimal n in
     let wide : n < 2 ^ 64 = omega arith in
@@ -132,6 +132,6 @@ section_name-is n small =
     let few = length-decimal-le 2 n (omega arith) hundred wide in
     let long : is_length (length (115 ∷ ds)) ≡ true = grind (arith, nat_tests) in
     let further = digits_are_further ds (decimal_is n wide).digits in
-    ap (λ b. is_some (then_some (b && (not (suc (length ds) == 0) && list_all is_further ds)) (115 ∷ ds)) && not (bytes_eq (115 ∷ ds) (codes "."))) long
-    ∙ ap (λ b. is_some (then_some (not b && list_all is_further ds) (115 ∷ ds)) && not (bytes_eq (115 ∷ ds) (codes "."))) (eqb-suc-zero (length ds))
+    ap (λ b. is_some (then_some (b && (not (suc (length ds) == 0) && list_all is_name_byte ds)) (115 ∷ ds)) && not (bytes_eq (115 ∷ ds) (codes "."))) long
+    ∙ ap (λ b. is_some (then_some (not b && list_all is_name_byte ds) (115 ∷ ds)) && not (bytes_eq (115 ∷ ds) (codes "."))) (eqb-suc-zero (length ds))
     ∙ ap (λ b. is_some (then_some b (115 ∷ ds)) && not (bytes_eq (115 ∷ ds) (codes "."))) further

@@ -9,8 +9,8 @@ use Rattle.std.proofs.lemmas.List.{take_at, drop_at}
 use Rattle.tc_lex.specs.declared.kinds.TokenKind.{TokenKind}
 use Rattle.tc_lex.specs.declared.kinds.TokenKind.TheVariants.{Word, Number}
 use Rattle.tc_lex.specs.declared.kinds.Front.TheVariants as front
-use Rattle.tcd_base.specs.NameBytes.{is_name_first}
-use Rattle.tc_lex.specs.Bytes.{is_digit, is_name_byte, is_hex}
+use Rattle.tcd_base.specs.NameBytes.{is_name_byte, is_name_first}
+use Rattle.tc_lex.specs.Bytes.{is_digit, is_hex}
 use Rattle.tc_lex.specs.Cut.{front_of, front_at, number_len, has_hex_front}
 use Rattle.tc_lex.specs.Pieces.{PieceData}
 use Rattle.tc_disasm.specs.Tokens.{piece}
@@ -52,7 +52,7 @@ name_stops [] h = refl
 name_stops (c ∷ cs) h = rw h refl
 
 digit_is_name : (c : ℕ) → is_name_byte c ≡ false → is_digit c ≡ false
-unfolding is_name_byte
+unfolding is_name_byte is_digit
 digit_is_name c h = by_tests (is_name_first c) (is_digit c) h
   where
     by_tests : (a b : Bool) → (a || b) ≡ false → b ≡ false

@@ -5,8 +5,7 @@ use Rattle.std.specs.Option.{option_map_or}
 use Rattle.std.specs.List.{list_all, slice_split}
 use Rattle.std.proofs.Math.Dec.{eqb-suc-zero}
 use Rattle.tc_lex.specs.declared.kinds.TokenKind.TheVariants as kind
-use Rattle.tcd_base.specs.NameBytes.{is_name_first}
-use Rattle.tc_lex.specs.Bytes.{is_name_byte}
+use Rattle.tcd_base.specs.NameBytes.{is_name_byte, is_name_first}
 use Rattle.tc_lex.specs.Texts.{is_run}
 use Rattle.tc_isa.specs.Rows.{RowData}
 use Rattle.tc_isa.specs.declared.table.Form.{Form}

@@ -4,8 +4,8 @@ use Rattle.std.specs.Prelude.{slice_get, nat_le, not, codes}
 use Rattle.std.specs.List.{list_all}
 use Rattle.std.specs.Str.{bytes_eq}
 use Rattle.std.proofs.lemmas.Bool.Decides.{nat_tests}
-use Rattle.tcd_base.specs.NameBytes.{is_name_first}
-use Rattle.tc_lex.specs.Bytes.{is_digit, is_name_byte}
+use Rattle.tcd_base.specs.NameBytes.{is_name_byte, is_name_first}
+use Rattle.tc_lex.specs.Bytes.{is_digit}
 use Rattle.tc_lex.specs.Texts.{is_run}
 use Rattle.tc_isa.specs.Rows.{RowData, listed}
 use Rattle.tc_stmt.specs.Wants.{wants_of, want_of}

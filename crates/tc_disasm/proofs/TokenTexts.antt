@@ -6,8 +6,8 @@ use Rattle.std.specs.Fmt.{decimal}
 use Rattle.std.proofs.lemmas.Bool.Decides.{nat_tests}
 use Rattle.tc_lex.specs.declared.kinds.TokenKind.TheVariants as kind
 use Rattle.tc_lex.specs.declared.kinds.Front.TheVariants as front
-use Rattle.tcd_base.specs.NameBytes.{is_name_first}
-use Rattle.tc_lex.specs.Bytes.{is_digit, is_hex, is_name_byte}
+use Rattle.tcd_base.specs.NameBytes.{is_name_byte, is_name_first}
+use Rattle.tc_lex.specs.Bytes.{is_digit, is_hex}
 use Rattle.tc_lex.specs.Cut.{front_of, front_at, number_len, has_hex_front}
 use Rattle.tc_lex.specs.Pieces.{PieceData}
 use Rattle.hex_text.specs.Digits.{hex_byte, hex_word}
@@ -39,8 +39,8 @@ unfolding is_hex is_digit
 hex_is_plain c e = grind (arith, nat_tests)
 
 digit_is_named : (c : ℕ) → is_digit c ≡ true → is_name_byte c ≡ true
-unfolding is_name_byte
-digit_is_named c e = rw e (by_first (is_name_first c))
+unfolding is_name_byte is_digit
+digit_is_named c e = ap (λ (b : Bool). is_name_first c || b) e ∙ by_first (is_name_first c)
   where
     by_first : (b : Bool) → (b || true) ≡ true
     by_first true = refl

@@ -2,10 +2,10 @@
 use Rattle.std.specs.Prelude.{◌≡◌, ℕ, zero, suc, ◌-◌, ◌==◌, false, if◌then◌else◌, List, [], ◌∷◌, take, Option, Some, None, option_map}
 use Rattle.tc_lex.specs.declared.kinds.Front.{Front}
 use Rattle.tc_lex.specs.declared.kinds.Front.TheVariants as front
-use Rattle.tc_lex.specs.Bytes.{is_name_byte}
 use Rattle.tc_lex.specs.Cut.{front_of}
 use Rattle.tc_lex.specs.Pieces.{PieceData}
 use Rattle.tc_disasm.specs.Tokens.{piece}
+use Rattle.tcd_base.specs.NameBytes.{is_name_byte}
 
 -- what follows from the front of a text: `next room skip` is the rest behind its first byte
 abbrev pub lex_follow : Front → List ℕ → ℕ → (ℕ → ℕ → Option (List PieceData)) → Option (List PieceData)

@@ -2,8 +2,8 @@
 ghost use Rattle.std.specs.Prelude.{◌≡◌, ◌<◌, ◌^◌, ◌++◌, ◌∷◌, ℕ, suc, true, Bool, if◌then◌else◌, ◌+◌, List, length, Ok, Some, option_map};
 ghost use Rattle.std.specs.Fmt.{decimal};
 ghost use Rattle.std.specs.List.{list_all};
-ghost use Rattle.tcd_base.specs.NameBytes.{is_name_first};
-ghost use Rattle.tc_lex.specs.Bytes.{is_name_byte, is_digit};
+ghost use Rattle.tcd_base.specs.NameBytes.{is_name_byte, is_name_first};
+ghost use Rattle.tc_lex.specs.Bytes.{is_digit};
 ghost use Rattle.tc_lex.specs.Cut.{front_of};
 ghost use Rattle.tc_lex.specs.declared.kinds.TokenKind.{TokenKind};
 ghost use Rattle.tc_lex.specs.declared.kinds.TokenKind.TheVariants as kind;

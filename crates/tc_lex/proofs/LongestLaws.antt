@@ -8,8 +8,8 @@ use Rattle.std.proofs.lemmas.List.Sums.{prefix_len-le-length}
 use Rattle.std.proofs.lemmas.Bool.Decides.{nat_tests, Decides-eqb}
 use Rattle.tc_lex.specs.declared.kinds.TokenKind.{TokenKind}
 use Rattle.tc_lex.specs.declared.kinds.TokenKind.TheVariants.{Word, Number, Comma, Colon, Open, Close, Plus, Minus}
-use Rattle.tcd_base.specs.NameBytes.{is_name_first}
-use Rattle.tc_lex.specs.Bytes.{is_digit, is_hex, is_name_byte}
+use Rattle.tcd_base.specs.NameBytes.{is_name_byte, is_name_first}
+use Rattle.tc_lex.specs.Bytes.{is_digit, is_hex}
 use Rattle.tc_lex.specs.Cut.{number_len, has_hex_front}
 use Rattle.tc_lex.specs.Texts.{is_run, is_hex_text, is_token, IsLongest, BeginsNone}
 use Rattle.tc_lex.proofs.FrontLaws.{prefix_len_some}

@@ -1,6 +1,5 @@
 -- Which bytes stand in which tokens.
 use Rattle.std.specs.Prelude.{ℕ, Bool, nat_le, ◌&&◌, ◌||◌}
-use Rattle.tcd_base.specs.NameBytes.{is_name_first}
 
 -- 0 to 9
 unfoldable pub is_digit : ℕ → Bool
@@ -9,7 +8,3 @@ is_digit c = nat_le 48 c && nat_le c 57
 -- a digit, A to F, a to f
 unfoldable pub is_hex : ℕ → Bool
 is_hex c = is_digit c || (nat_le 65 c && nat_le c 70) || (nat_le 97 c && nat_le c 102)
-
--- a letter, `_`, `.`, `$` or a digit
-unfoldable pub is_name_byte : ℕ → Bool
-is_name_byte c = is_name_first c || is_digit c

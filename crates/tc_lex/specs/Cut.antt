@@ -7,8 +7,8 @@ use Rattle.tc_lex.specs.declared.kinds.TokenKind.{TokenKind}
 use Rattle.tc_lex.specs.declared.kinds.TokenKind.TheVariants.{Word, Number, Comma, Colon, Open, Close, Plus, Minus}
 use Rattle.tc_lex.specs.declared.kinds.Front.{Front}
 use Rattle.tc_lex.specs.declared.kinds.Front.TheVariants as front
-use Rattle.tcd_base.specs.NameBytes.{is_name_first}
-use Rattle.tc_lex.specs.Bytes.{is_digit, is_hex, is_name_byte}
+use Rattle.tcd_base.specs.NameBytes.{is_name_byte, is_name_first}
+use Rattle.tc_lex.specs.Bytes.{is_digit, is_hex}
 
 -- `0x` and a hex digit
 unfoldable pub has_hex_front : List ℕ → Bool

@@ -1,8 +1,6 @@
 // Which bytes stand in which tokens.
 ghost use Rattle.std.specs.Prelude.{◌≡◌};
-ghost use Rattle.tc_lex.specs.Bytes.{is_digit, is_hex, is_name_byte};
-
-use tcd_base::is_name_first;
+ghost use Rattle.tc_lex.specs.Bytes.{is_digit, is_hex};
 
 #[tactic(auto, unfolding(crate::specs::Bytes::is_digit))]
 pub(crate) fn is_digit(c: u8) -> bool
@@ -17,11 +15,4 @@ pub fn is_hex(c: u8) -> bool
     ensures { result ≡ is_hex c }
 {
     is_digit(c) || (b'A' <= c && c <= b'F') || (b'a' <= c && c <= b'f')
-}
-
-#[tactic(auto, unfolding(crate::specs::Bytes::is_name_byte))]
-pub(crate) fn is_name_byte(c: u8) -> bool
-    ensures { result ≡ is_name_byte c }
-{
-    is_name_first(c) || is_digit(c)
 }

@@ -1,12 +1,13 @@
 // The longest token at the front.
 ghost use Rattle.std.specs.Prelude.{◌≡◌, ◌<◌, ◌≤◌, ◌-◌, drop, length, IsTrue, slice_index, true};
 ghost use Rattle.std.specs.List.{prefix_len};
-ghost use Rattle.tc_lex.specs.Bytes.{is_digit, is_hex, is_name_byte};
+ghost use Rattle.tc_lex.specs.Bytes.{is_digit, is_hex};
+ghost use Rattle.tcd_base.specs.NameBytes.{is_name_byte};
 ghost use Rattle.tc_lex.specs.Cut.{has_hex_front, number_len, front_of, front_at, IsWithin};
 
-use crate::bytes::{is_digit, is_hex, is_name_byte};
+use crate::bytes::{is_digit, is_hex};
 use crate::kinds::{Front, TokenKind};
-use tcd_base::is_name_first;
+use tcd_base::{is_name_byte, is_name_first};
 
 fn digits_len(rest: &[u8]) -> usize
     ensures value { result ≡ prefix_len is_digit rest.now }

@@ -2,15 +2,11 @@
 use Rattle.std.specs.Prelude.{◌≡◌, ◌≤◌, ◌==◌, ◌&&◌, ◌||◌, not, nat_le, ℕ, Bool, true, false, List, length, slice_index, Option}
 use Rattle.std.specs.List.{list_all}
 use Rattle.std.specs.Bool.{then_some}
-use Rattle.tcd_base.specs.NameBytes.{is_name_first}
-
--- a letter, `_`, `.`, `$` or a digit
-unfoldable pub is_further : ℕ → Bool
-is_further c = is_name_first c || (nat_le 48 c && nat_le c 57)
+use Rattle.tcd_base.specs.NameBytes.{is_name_byte, is_name_first}
 
 -- the bytes of a name, which doesn't begin with a digit
 abbrev pub is_name : List ℕ → Bool
-is_name bs = not (length bs == 0) && (is_name_first (slice_index bs 0) && list_all is_further bs)
+is_name bs = not (length bs == 0) && (is_name_first (slice_index bs 0) && list_all is_name_byte bs)
 
 -- how many bytes a name may have
 abbrev pub is_length : ℕ → Bool

@@ -1,32 +1,18 @@
 // Names of sections and symbols.
 ghost use Rattle.std.specs.Prelude.{◌≡◌, ◌≤◌, ◌^◌, length, true, Err, IfOk, IfErr, MatchResult};
-ghost use Rattle.std.specs.List.{list_all};
 ghost use Rattle.tcd_base.specs.Reading.{Reads};
 ghost use Rattle.std.specs.Option.{option_copied};
-ghost use Rattle.tc_object.specs.Names.{is_further, is_name, name_of};
+ghost use Rattle.tc_object.specs.Names.{is_name, name_of};
 ghost use Rattle.tc_object.specs.Grammar.{name_length_at, name_bytes_at};
 
 use crate::fields::fault;
-use tcd_base::{Cursor, FormErr, is_name_first, read_bytes, read_u8};
-
-#[tactic(auto, unfolding(crate::specs::Names::is_further))]
-fn is_further(c: u8) -> bool
-    ensures { result ≡ is_further c }
-{
-    is_name_first(c) || (b'0' <= c && c <= b'9')
-}
-
-fn are_further(bytes: &[u8]) -> bool
-    ensures { result ≡ list_all is_further bytes.now }
-{
-    bytes.iter().all(|c| is_further(*c))
-}
+use tcd_base::{Cursor, FormErr, are_name_bytes, is_name_first, read_bytes, read_u8};
 
 /// Whether these bytes make a name, apart from how many they are.
 fn is_name(bytes: &[u8]) -> bool
     ensures { result ≡ is_name bytes.now }
 {
-    !bytes.is_empty() && is_name_first(bytes[0]) && are_further(bytes)
+    !bytes.is_empty() && is_name_first(bytes[0]) && are_name_bytes(bytes)
 }
 
 /// The name that these bytes are: 1 to 64 letters, digits, `_`, `.` and `$`, the first of them no digit.

@@ -1,11 +1,12 @@
 // What operands give a row.
 ghost use Rattle.std.specs.Prelude.{◌≡◌, ◌<◌, ◌≤◌, ◌+◌, ◌^◌, map, length, true, if◌then◌else◌, ◌==◌, false, ◌*◌};
 ghost use Rattle.tc_isa.specs.Rows.{row_of};
-ghost use Rattle.tc_isa.specs.Words.{form_index, bounds};
+ghost use Rattle.tc_isa.specs.Words.{bounds};
 ghost use Rattle.tc_lex.specs.Operands.{value_of, operand_of};
 ghost use Rattle.tc_stmt.specs.SourceRules.{no_rule};
 ghost use Rattle.tc_stmt.specs.RowFields.{Fills, row_fields_of, set_field, field_of, register_of, put_register, fits, wrap, put_number, half_kind, fill_value, fill_memory, displacement_rule, with_displacement, target_kind, fill_target, put_absolute, fill_absolute, fill_register, fill_a10, fill_plain, fill, with_value as put_in, is_named as named, is_far};
 
+use crate::form_numbers::{ABS, B, BOL, SBR, form_index};
 use crate::row_fields::RowFields;
 use crate::source_rules::{FAR_TARGET, NO_RULE, ODD_DISPLACEMENT, WIDE_NUMBER, WRONG_REGISTER};
 use crate::symbols::{break_rule, misplace, with_symbol};
@@ -61,32 +62,6 @@ fn field_of(field: Field, f: &Fields) -> u32
         Field::S2 => u32::from(f.s2),
         Field::N => u32::from(f.n),
         Field::K => f.k,
-    }
-}
-
-#[tactic(auto, unfolding(tc_isa::specs::Words::form_index))]
-fn form_index(form: Form) -> u8
-    ensures { result ≡ form_index form }
-{
-    match form {
-        Form::Rlc => 0,
-        Form::Rr => 1,
-        Form::Rc => 2,
-        Form::Bol => 3,
-        Form::Bo => 4,
-        Form::Brr => 5,
-        Form::Brc => 6,
-        Form::B => 7,
-        Form::Abs => 8,
-        Form::Sys => 9,
-        Form::Sr => 10,
-        Form::Sc => 11,
-        Form::Sb => 12,
-        Form::Sbr => 13,
-        Form::Src => 14,
-        Form::Srr => 15,
-        Form::Slr => 16,
-        Form::Ssr => 17,
     }
 }
 
@@ -207,7 +182,7 @@ fn half_kind(row: &Row, shape: Shape) -> u8
         }
     } else if is_named(row, "addi") {
         LO16
-    } else if form_index(row.form) == 3 {
+    } else if form_index(row.form) == BOL {
         OFFSET16
     } else {
         NO_KIND
@@ -290,7 +265,7 @@ fn is_far(form: Form, bound: u32, minus: bool, size: u128) -> bool
     ensures near { result ≡ false → size ≤ 2 * bound }
 {
     let bound = u128::from(bound);
-    if form_index(form) == 13 {
+    if form_index(form) == SBR {
         if minus {
             size != 0
         } else {
@@ -359,7 +334,7 @@ fn target_kind(row: &Row) -> u8
     ensures { result ≡ target_kind (row_of row.now) }
 {
     if row.op1 % 2 == 1 {
-        if form_index(row.form) == 7 {
+        if form_index(row.form) == B {
             REL24
         } else {
             REL15
@@ -399,7 +374,7 @@ fn put_absolute(form: Form, minus: bool, size: u128, acc: &mut RowFields<'_>)
 {
     if (minus && size != 0) || 0x1_0000_0000 <= size {
         break_rule(WIDE_NUMBER, acc);
-    } else if form_index(form) == 8 {
+    } else if form_index(form) == ABS {
         if size / 16384 % 16384 == 0 {
             put(
                 Field::K,
@@ -433,7 +408,7 @@ fn fill_absolute<'a>(row: &Row, v: &Value<'a>, acc: &mut RowFields<'a>) -> bool
         break_rule(WIDE_NUMBER, acc);
         true
     } else if shape == WORD || shape == SUM {
-        if form_index(row.form) == 8 {
+        if form_index(row.form) == ABS {
             misplace(v, acc);
         } else {
             with_symbol(ABS24, v, acc);

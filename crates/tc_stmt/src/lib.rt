@@ -4,6 +4,7 @@
 
 mod data;
 mod fill;
+mod form_numbers;
 mod item;
 mod laws;
 mod parse;

@@ -1,7 +1,5 @@
 // Names, and symbols in places that take one.
 ghost use Rattle.std.specs.Prelude.{◌≡◌, ◌<◌, ◌^◌, true};
-ghost use Rattle.std.specs.List.{list_all};
-ghost use Rattle.tc_object.specs.Names.{is_further};
 ghost use Rattle.tc_stmt.specs.Names.{is_name};
 ghost use Rattle.tc_stmt.specs.SourceRules.{no_rule};
 ghost use Rattle.tc_lex.specs.Operands.{value_of};
@@ -10,20 +8,7 @@ ghost use Rattle.tc_stmt.specs.RowFields.{row_fields_of, symbol_rule, with_rule,
 use crate::row_fields::{Reference, RowFields};
 use crate::source_rules::{BAD_NAME, MISPLACED_SYMBOL, NO_RULE, WIDE_NUMBER};
 use tc_lex::{Value, is_text};
-use tcd_base::is_name_first;
-
-#[tactic(auto, unfolding(tc_object::specs::Names::is_further))]
-fn is_further(c: u8) -> bool
-    ensures { result ≡ is_further c }
-{
-    is_name_first(c) || (b'0' <= c && c <= b'9')
-}
-
-fn are_further(bytes: &[u8]) -> bool
-    ensures { result ≡ list_all is_further bytes.now }
-{
-    bytes.iter().all(|c| is_further(*c))
-}
+use tcd_base::{are_name_bytes, is_name_first};
 
 /// Whether bytes are a name that a source may use: a Word of at most 64 bytes, and no lone `.`.
 #[tactic(auto, unfolding(crate::specs::Names::is_name), using(crate::proofs::Named::some_name))]
@@ -33,7 +18,7 @@ pub fn is_name(bytes: &[u8]) -> bool
     1 <= bytes.len()
         && bytes.len() <= 64
         && is_name_first(bytes[0])
-        && are_further(bytes)
+        && are_name_bytes(bytes)
         && !is_text(bytes, ".")
 }
 

@@ -4,3 +4,7 @@ use Rattle.std.specs.Prelude.{ℕ, Bool, nat_le, ◌==◌, ◌&&◌, ◌||◌}
 -- a letter, `_`, `.` or `$`
 unfoldable pub is_name_first : ℕ → Bool
 is_name_first c = (nat_le 65 c && nat_le c 90) || (nat_le 97 c && nat_le c 122) || c == 95 || c == 46 || c == 36
+
+-- a letter, `_`, `.`, `$` or a digit
+unfoldable pub is_name_byte : ℕ → Bool
+is_name_byte c = is_name_first c || (nat_le 48 c && nat_le c 57)

@@ -24,6 +24,6 @@ pub use fields::{bits, put_u32, sext};
 pub use files::{FileErr, Files};
 pub use mem_files::MemFiles;
 pub use mem_sink::MemSink;
-pub use name_bytes::is_name_first;
+pub use name_bytes::{are_name_bytes, is_name_byte, is_name_first};
 pub use range::{Range, any_holds};
 pub use sink::{Sink, SinkErr};

@@ -6,8 +6,8 @@ use Rattle.std.proofs.lemmas.Bool.{and_parts, leb-true, eqb-true}
 use Rattle.std.proofs.lemmas.List.Elements.{All-nil, All-cons, All-head, All-tail, All-append}
 use Rattle.tcd_base.specs.Bytes.{bytes_of_half, bytes_of_word}
 use Rattle.tc_object.specs.declared.relocs.Reloc.{Reloc}
-use Rattle.tcd_base.specs.NameBytes.{is_name_first}
-use Rattle.tc_object.specs.Names.{is_further, IsName}
+use Rattle.tcd_base.specs.NameBytes.{is_name_byte, is_name_first}
+use Rattle.tc_object.specs.Names.{IsName}
 use Rattle.tc_object.specs.Objects.{SectionData, SymbolData, ObjectData, InTurn, IsSection, IsSymbol, IsReloc, is_section_name, is_symbol_name}
 use Rattle.tc_object.specs.Spelling.{bytes_of_name, bytes_of_section, bytes_of_symbol, bytes_of_reloc, bytes_of_header, bytes_of}
 use Rattle.tc_asm.proofs.ListLaws.{all_from_each}
@@ -44,11 +44,11 @@ unfolding is_name_first
 first_small c =
     either _ _ c (either _ _ c (either _ _ c (either _ _ c (between 65 90 c (omega arith)) (between 97 122 c (omega arith))) (equal c 95 (omega arith))) (equal c 46 (omega arith))) (equal c 36 (omega arith))
 
-further_small : (c : ℕ) → is_further c ≡ true → c < 2 ^ 8
-unfolding is_further
+further_small : (c : ℕ) → is_name_byte c ≡ true → c < 2 ^ 8
+unfolding is_name_byte
 further_small c = either (is_name_first c) _ c (first_small c) (between 48 57 c (omega arith))
 
-all_further : (cs : List ℕ) → list_all is_further cs ≡ true → All IsByte cs
+all_further : (cs : List ℕ) → list_all is_name_byte cs ≡ true → All IsByte cs
 all_further [] e = All-nil IsByte
 all_further (c ∷ cs) e = let p = and_parts _ _ e in All-cons IsByte c cs (further_small c p.0) (all_further cs p.1)
 
@@ -57,8 +57,8 @@ unfolding bytes_of_name
 name_small used name is =
     let few = is.few in
     let long : length name < 2 ^ 8 = omega arith in
-    let written = and_parts (not (length name == 0)) (is_name_first (slice_index name 0) && list_all is_further name) is.written in
-    All-cons IsByte (length name) name long (all_further name (and_parts (is_name_first (slice_index name 0)) (list_all is_further name) written.1).1)
+    let written = and_parts (not (length name == 0)) (is_name_first (slice_index name 0) && list_all is_name_byte name) is.written in
+    All-cons IsByte (length name) name long (all_further name (and_parts (is_name_first (slice_index name 0)) (list_all is_name_byte name) written.1).1)
 
 -- ---- sections, symbols and relocations
 section_small : (before : List SectionData) (s : SectionData) → IsSection before s → HoldsBytes s → All IsByte (bytes_of_section s)

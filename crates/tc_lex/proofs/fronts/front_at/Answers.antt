@@ -1,7 +1,6 @@
 use Rattle.std.proofs.Common.{◌≡◌, ℕ, true, ap, sym, ◌∙◌, arith}
 use Rattle.std.proofs.Common.{get_or}
-use Rattle.tcd_base.specs.NameBytes.{is_name_first}
-use Rattle.tc_lex.specs.Bytes.{is_name_byte}
+use Rattle.tcd_base.specs.NameBytes.{is_name_byte, is_name_first}
 use Rattle.tc_lex.proofs.FrontLaws.{prefix_len_some}
 use Rattle.tc_lex.proofs.fronts.front_at.Goals as goal
 
