@@ -36,7 +36,7 @@ fn ccpn_after(s: &State, exit: &Exit, kind: u8) -> u8
     if kind == 1 { exit.ccpn } else { s.ccpn }
 }
 
-fn copy_of(locals: &ArrayVec<bool, 8>) -> ArrayVec<bool, 8>
+pub(crate) fn copy_of(locals: &ArrayVec<bool, 8>) -> ArrayVec<bool, 8>
     ensures { result ≡ locals.now }
 {
     let mut copy = ArrayVec::new();

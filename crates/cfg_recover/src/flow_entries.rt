@@ -9,6 +9,7 @@ ghost use Rattle.cfg_recover.specs.Duties.{entries_of, misaligned_at, misaligned
 ghost use Rattle.cfg_recover.specs.FlowValues.{EntersWithValues};
 ghost use Rattle.cfg_recover.specs.Flows.{told_entry, rule_of_entry, told_leaving, leave_of};
 
+use crate::built_states::{address, changed_state};
 use crate::entry_changes::{call_change, misaligned_change, system_change};
 use crate::flow_targets::{one, targets};
 use crate::inst_at::InstAt;
@@ -18,7 +19,6 @@ use store_ranges::aligned;
 use tc_isa::{Inst, Shape, shape};
 use tcd_plan::Plan;
 use value_domain::{Bounds, State, Val};
-use vd_transfer::{address, changed_state};
 
 /// The entries by a call or a system call.
 pub(crate) fn entry(b: &Bounds, plan: &Plan, key: &Key, s: &State, at: InstAt<'_>) -> Option<Enter>

@@ -10,6 +10,7 @@ ghost use Rattle.cfg_recover.specs.Flows.{told_by, leave_of, Tells};
 ghost use Rattle.cfg_recover.specs.Local.{IsLocalFault};
 
 use crate::Flow;
+use crate::built_states::changed_state;
 use crate::entry_changes::handler_change;
 use crate::flow_entries::{entry, leaving, misaligned};
 use crate::flow_interrupts::interrupts;
@@ -20,7 +21,6 @@ use depth_cert::Key;
 use elf_image::Image;
 use tcd_plan::Plan;
 use value_domain::{Bounds, State};
-use vd_transfer::changed_state;
 
 /// What may follow a point with this state, where no rule's own part fails there: all that a certificate must have because
 /// of it. Else the least rule whose own part fails.

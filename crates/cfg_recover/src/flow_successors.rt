@@ -12,6 +12,7 @@ ghost use Rattle.cfg_recover.specs.FlowValues.{JumpsWithValues};
 ghost use Rattle.cfg_recover.specs.Flows.{told_jump, told_jumps};
 
 use crate::Jump;
+use crate::built_states::{address, refine, transfer};
 use crate::flow_targets::{one, targets};
 use crate::inst_at::InstAt;
 use elf_image::Image;
@@ -19,7 +20,6 @@ use store_ranges::load_of;
 use tc_isa::{Inst, Shape, shape};
 use tcd_plan::Plan;
 use value_domain::{Bounds, State, Val};
-use vd_transfer::{address, refine, transfer};
 
 /// Where the instruction may go on in its frame, without what follows a call or a system call.
 pub(crate) fn successors(

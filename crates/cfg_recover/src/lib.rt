@@ -1,6 +1,7 @@
 //! The rules of certificates: what a point owes, and when a certificate is accepted.
 #![tactic(auto)]
 
+mod built_states;
 mod code;
 mod entry_changes;
 mod flow_after;
@@ -17,6 +18,7 @@ mod local;
 mod local_rules;
 mod start;
 
+pub use built_states::{address, changed_state, refine, transfer};
 pub use code::code_at;
 pub use entry_changes::{call_change, handler_change, misaligned_change, system_change};
 pub use flow_after::{after, covers_after};

@@ -17,10 +17,11 @@ use Rattle.value_domain.specs.Sets.{Within}
 use Rattle.value_domain.specs.Values.{any_val, members, cover, IsValue, IsBelow}
 use Rattle.value_domain.specs.State.{AreValues, Covers}
 use Rattle.value_domain.proofs.CoverLaws.{cover_mono}
-use Rattle.vd_transfer.specs.Refinement.{holds, kept_left, kept_right, kept_both, cover_some}
+use Rattle.vd_transfer.specs.Refinement.{holds, kept_left, kept_right, kept_both}
+use Rattle.value_domain.specs.Meets.{cover_some}
 use Rattle.vd_transfer.specs.Registers.{slot, set_at, value_at, reg_of, arg_of}
 use Rattle.vd_transfer.specs.Branches.{is_reg, set_arg, with_one, with_two, state_on_side, with_lowered_counter, refine_of}
-use Rattle.vd_transfer.proofs.Meets.{among_filter}
+use Rattle.value_domain.proofs.MeetLaws.{among_filter}
 use Rattle.depth_cert.specs.Points.{find_point}
 use Rattle.depth_cert.specs.Nodes.{NodeData}
 use Rattle.depth_cert.specs.Certs.{CertData}

@@ -22,13 +22,14 @@ use Rattle.value_domain.specs.State.{Covers, AreBelow, AreValues, is_lower_slot}
 use Rattle.value_domain.proofs.CoverLaws.{cover_mono}
 use Rattle.value_domain.proofs.RangeLaws.{one_value, cover_value, members_below, any_value}
 use Rattle.vd_transfer.specs.Operations.{value_of}
-use Rattle.vd_transfer.specs.Refinement.{cover_some, kept_left, kept_right, kept_both, holds}
+use Rattle.vd_transfer.specs.Refinement.{kept_left, kept_right, kept_both, holds}
+use Rattle.value_domain.specs.Meets.{cover_some}
 use Rattle.vd_transfer.specs.Registers.{reg_of, arg_of, set_reg, write_reg, word_val}
 use Rattle.vd_transfer.specs.Effects.{with_base, access_of, forgotten_from, transfer_of, address_of, saved_lower, restored_lower}
 use Rattle.vd_transfer.specs.Branches.{is_reg, set_arg, with_one, with_two, state_on_side, with_lowered_counter, refine_of}
 use Rattle.vd_transfer.specs.Soundness.{IsSetting}
 use Rattle.vd_transfer.proofs.HoldLaws.{reg_value, arg_value}
-use Rattle.vd_transfer.proofs.Meets.{filter_has, among_any, among_filter, any_among}
+use Rattle.value_domain.proofs.MeetLaws.{filter_has, among_any, among_filter, any_among}
 use Rattle.vd_transfer.proofs.OpLaws.{monotone, within_members}
 use Rattle.vd_transfer.proofs.RegisterLaws.{length-forgotten, get_or-forgotten}
 use Rattle.vd_transfer.proofs.ValueLaws.{value_of_value}

@@ -9,11 +9,11 @@ ghost use Rattle.task_chains.specs.Apart.{AllMiss, LoadsElsewhere, ReadsNoLink, 
 ghost use Rattle.task_chains.specs.Faults.{HasBetween, IsPlaceApart};
 
 use crate::Tasks;
+use cfg_recover::address;
 use depth_cert::{CALL, Key, Point};
 use tc_isa::{Inst, Shape, shape};
 use tcd_plan::Plan;
 use value_domain::{Bounds, State, Val};
-use vd_transfer::address;
 
 fn is_between(x: u32, low: u32, high: u32) -> bool
     ensures { IsTrue result ↔ (low ≤ x) × (x ≤ high) }

@@ -7,10 +7,11 @@ ghost use Rattle.store_ranges.specs.Accesses.{IsSize};
 ghost use Rattle.value_cells.specs.Keeping.{KeepsAll, KeepsFrom, FitsCell, AreWithin, IsKept, KeepsCellsAt};
 
 use crate::cells::Cell;
+use cfg_recover::address;
 use tc_isa::{Inst, Shape, shape};
 use tcd_plan::Plan;
 use value_domain::{Bounds, State, Val, extent_of, member};
-use vd_transfer::{address, reg};
+use vd_transfer::reg;
 
 /// Whether a store of 1, 2 or 4 bytes (`size`), of any word of a value at any address of another, keeps each cell that it
 /// touches: it stores the cell's whole word, and one inside the cell's bounds.

@@ -13,3 +13,4 @@ pub mod EndLaws
 pub mod FloorLaws
 pub mod Places
 pub mod BitLaws
+pub mod MeetLaws

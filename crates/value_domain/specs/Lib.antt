@@ -3,6 +3,7 @@ pub mod Ends
 pub mod Floors
 pub mod Laws
 pub mod Limits
+pub mod Meets
 pub mod Merging
 pub mod Sets
 pub mod State

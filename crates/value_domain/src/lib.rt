@@ -4,6 +4,7 @@
 mod lattice;
 mod laws;
 mod limits;
+mod meets;
 mod merging;
 mod states;
 mod values;
@@ -14,5 +15,6 @@ pub use lattice::{
 };
 pub use laws::{state_laws, value_laws};
 pub use limits::Bounds;
+pub use meets::{join_some, meet, words_of};
 pub use states::{State, are_implied, covers, covers_context, join_states};
 pub use values::{Val, Words};

@@ -17,7 +17,7 @@ use Rattle.vd_transfer.specs.declared.change.Change.{Change}
 use Rattle.vd_transfer.specs.Registers.{slot, set_at, set_reg, write_reg, is_lower}
 use Rattle.vd_transfer.specs.Effects.{forgotten_from}
 use Rattle.vd_transfer.specs.Branches.{set_arg}
-use Rattle.vd_transfer.specs.Changes.{base_of, value_put, put_in, state_after, no_put, reg_put, arg_put, kept_of}
+use Rattle.vd_transfer.specs.Changes.{base_of, value_put, put_in, state_after, no_put, reg_put, arg_slot, kept_of}
 use Rattle.vd_transfer.proofs.HoldLaws.{set_values_at}
 use Rattle.vd_transfer.proofs.RegisterLaws.{length-forgotten, get_or-forgotten}
 
@@ -29,6 +29,9 @@ set_at-is s v (Some i) = refl
 -- ---- writes
 pub written-is : (s : State) (r : ℕ) (v : Val) → state_after s (record (kept_of s) { second = reg_put r v; lower = s.lower && not (is_lower r) }) ≡ write_reg s r v
 written-is s r v = ap (λ (t : State). record t { lower = s.lower && not (is_lower r) }) (sym (set_at-is s v (slot r)))
+
+pub written-values : (b : Limits) (s : State) (r : ℕ) (v : Val) → AreValues b s.regs → IsValue b v → AreValues b (state_after s (record (kept_of s) { second = reg_put r v; lower = s.lower && not (is_lower r) })).regs
+written-values b s r v values value = subst (λ (t : State). AreValues b t.regs) (sym (written-is s r v)) (set_values_at b s v (slot r) values value)
 
 -- before the third value is put
 abbrev two_put : State → Change → List Val
@@ -49,21 +52,29 @@ written_last-values b s c r v values free value =
     subst (λ (t : State). AreValues b t.regs) (sym (written_last-is s c r v free)) (set_values_at b (state_after s c) v (slot r) values value)
 
 -- ---- sides of branches
+bare-regs : (s : State) (c : Change) → c.second ≡ no_put → c.third ≡ no_put → (state_after s c).regs ≡ put_in (base_of c.base s.regs) c.first
+bare-regs s c none free = free-regs s c free ∙ ap (λ (p : Put). put_in (put_in (base_of c.base s.regs) c.first) p) none
+
 pub one-is : (s : State) (x : ℕ) (v : Val) → state_after s (record (kept_of s) { first = reg_put x v }) ≡ set_reg s x v
 one-is s x v = sym (set_at-is s v (slot x))
 
-pub two-is : (s : State) (x : ℕ) (y : Arg) (v w : Val) → state_after s (record (kept_of s) { first = reg_put x v; second = arg_put y w }) ≡ set_arg (set_reg s x v) y w
-two-is s x (Word z) v w = one-is s x v
-two-is s x (Reg r) v w =
-    sym (set_at-is (set_reg s x v) w (slot r) ∙ ap (λ (t : State). record t { regs = value_put t.regs w (slot r) }) (set_at-is s v (slot x)))
+-- a second value, where none stands behind the first
+pub second-is : (s : State) (c : Change) (y : Arg) (w : Val) → c.second ≡ no_put → c.third ≡ no_put → state_after s (record c { second = record { at = arg_slot y; value = w } }) ≡ set_arg (state_after s c) y w
+second-is s c (Word z) w none free = sym (ap (λ (p : Put). record (state_after s c) { regs = put_in (put_in (put_in (base_of c.base s.regs) c.first) p) c.third }) none)
+second-is s c (Reg r) w none free =
+    ap (λ (p : Put). record (state_after s c) { regs = put_in (value_put (put_in (base_of c.base s.regs) c.first) w (slot r)) p }) free
+    ∙ ap (λ (vs : List Val). record (state_after s c) { regs = value_put vs w (slot r) }) (sym (bare-regs s c none free))
+    ∙ sym (set_at-is (state_after s c) w (slot r))
 
 arg_values : (b : Limits) (s : State) (y : Arg) (v : Val) → AreValues b s.regs → IsValue b v → AreValues b (set_arg s y v).regs
 arg_values b s (Reg r) v values value = set_values_at b s v (slot r) values value
 arg_values b s (Word w) v values value = values
 
-pub two_values : (b : Limits) (s : State) (x : ℕ) (y : Arg) (v w : Val) → AreValues b s.regs → IsValue b v → IsValue b w → AreValues b (state_after s (record (kept_of s) { first = reg_put x v; second = arg_put y w })).regs
-two_values b s x y v w values left right =
-    subst (λ (t : State). AreValues b t.regs) (sym (two-is s x y v w)) (arg_values b (set_reg s x v) y w (set_values_at b s v (slot x) values left) right)
+pub second_values : (b : Limits) (s : State) (c : Change) (y : Arg) (w : Val) → c.second ≡ no_put → c.third ≡ no_put → AreValues b (state_after s c).regs → IsValue b w → AreValues b (state_after s (record c { second = record { at = arg_slot y; value = w } })).regs
+second_values b s c y w none free values value = subst (λ (t : State). AreValues b t.regs) (sym (second-is s c y w none free)) (arg_values b (state_after s c) y w values value)
+
+pub one_values : (b : Limits) (s : State) (x : ℕ) (v : Val) → AreValues b s.regs → IsValue b v → AreValues b (state_after s (record (kept_of s) { first = reg_put x v })).regs
+one_values b s x v values value = subst (λ (t : State). AreValues b t.regs) (sym (one-is s x v)) (set_values_at b s v (slot x) values value)
 
 -- ---- places
 -- a test that fails refutes what it decides

@@ -589,6 +589,10 @@ pair_one b op (x ∷ []) (y ∷ []) limits left right small = cover-one b (alu_o
 pair_one b op (x ∷ []) (y ∷ z ∷ ys) limits left right small = absurd (omega (arith, right))
 pair_one b op (x ∷ w ∷ xs) (y ∷ ys) limits left right small = absurd (omega (arith, left))
 
+pub words_result : (b : Limits) (op : Op) (x y : ℕ) → AreLimits b → alu_of op x y < 2 ^ 32 → Set (alu_of op x y ∷ []) ≡ value_of b op (Set (x ∷ [])) (Set (y ∷ []))
+unfolding results pairs
+words_result b op x y limits small = cover-one b (alu_of op x y) limits small
+
 pub pairs-none : (op : Op) (x : ℕ) (ys : List ℕ) → x ∷ [] ≡ x ∷ pairs op [] ys
 unfolding pairs
 pairs-none op x ys = refl

@@ -1,5 +1,6 @@
 -- The registers of a state.
-use Rattle.std.proofs.Common.{◌≡◌, ℕ, zero, suc, ◌+◌, ◌^◌, ◌<◌, inl, inr, true, cond, IsTrue, List, [], ◌∷◌, length, refl, ap, ◌∙◌, arith, get_or, Option, Some, None, ltb, eqb}
+use Rattle.std.proofs.Common.{◌≡◌, ℕ, zero, suc, ◌+◌, ◌^◌, ◌<◌, inl, inr, true, cond, IsTrue, List, [], ◌∷◌, length, refl, ap, ◌∙◌, arith, get_or, Option, Some, None, ltb, eqb, subst}
+use Rattle.std.specs.Prelude.{IfSome}
 use Rattle.std.specs.List.{list_all}
 use Rattle.std.proofs.lemmas.Bool.{cases_lt, cases_Bool, and_parts, ltb-true}
 use Rattle.std.proofs.Math.ListN.{get_or-eq_default}
@@ -11,7 +12,7 @@ use Rattle.value_domain.specs.Values.{IsValue, any_val}
 use Rattle.value_domain.specs.State.{AreValues, is_lower_slot}
 use Rattle.value_domain.proofs.RangeLaws.{one_value, any_value}
 use Rattle.vd_transfer.specs.Effects.{forgotten_from}
-use Rattle.vd_transfer.specs.Registers.{slot, reg_of, value_at, fixed_of, global_of}
+use Rattle.vd_transfer.specs.Registers.{slot, reg_of, value_at, fixed_of, global_of, word_val}
 
 -- the plan's words are words
 abbrev pub AreGlobals : PlanData → Type 0
@@ -45,6 +46,11 @@ value_at_is_value b p s r None limits globals values = fixed_is_value b p r limi
 
 pub reg_is_value : (b : Limits) (p : PlanData) (s : State) (r : ℕ) → AreLimits b → AreGlobals p → AreValues b s.regs → IsValue b (reg_of p s r)
 reg_is_value b p s r limits globals values = value_at_is_value b p s r (slot r) limits globals values
+
+-- the only word of a value
+pub word_value : (b : Limits) (v : Val) (o : Option ℕ) → IsValue b v → IfSome o (λ w. v ≡ word_val w) → IfSome o (λ w. IsValue b (word_val w))
+word_value b v None value h = h
+word_value b v (Some w) value h = subst (λ (u : Val). IsValue b u) h value
 
 -- ---- values that are forgotten
 pub length-forgotten : (k : ℕ) (vs : List Val) → length (forgotten_from k vs) ≡ length vs

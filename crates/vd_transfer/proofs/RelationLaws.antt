@@ -12,10 +12,11 @@ use Rattle.value_domain.proofs.RangeLaws.{some_members}
 use Rattle.vd_transfer.specs.declared.refinement.Relation.{Relation}
 use Rattle.vd_transfer.specs.declared.refinement.Relation.TheVariants.{Same, Other, Less, AtLeast, More, AtMost}
 use Rattle.vd_transfer.specs.Intervals.{is_related, kept_by}
-use Rattle.vd_transfer.specs.Refinement.{holds, kept_left, kept_right, kept_both, cover_some}
+use Rattle.vd_transfer.specs.Refinement.{holds, kept_left, kept_right, kept_both}
+use Rattle.value_domain.specs.Meets.{cover_some}
 use Rattle.vd_transfer.specs.Relations.{relation_of, is_signed, converse, self_holds}
 use Rattle.vd_transfer.specs.Signs.{kept_signed}
-use Rattle.vd_transfer.proofs.Meets.{cover_some-some}
+use Rattle.value_domain.proofs.MeetLaws.{cover_some-some}
 
 not_ltb : (x y : ℕ) → not (ltb x y) ≡ leb y x
 not_ltb x y = elim (cases_lt x y) [ inl h ↦ rw (lt-ltb x y h, lt-leb y x h) refl | inr h ↦ rw (le-ltb x y h, le-leb y x h) refl ]

@@ -9,7 +9,7 @@ use Rattle.value_domain.specs.Limits.{Limits}
 use Rattle.value_domain.specs.Values.{IsExtent, IsWell, range}
 use Rattle.value_domain.proofs.CoverLaws.{range_among, among_range, step_cases, from_units, in_units}
 use Rattle.value_domain.proofs.ExtentLaws.{among_append, append_left, append_right}
-use Rattle.vd_transfer.specs.Refinement.{cover_some, in_span}
+use Rattle.value_domain.specs.Meets.{cover_some, in_span}
 use Rattle.tc_isa.specs.Arithmetic.{signed_place}
 use Rattle.vd_transfer.specs.Intervals.{is_related, Reaches, IsIn}
 use Rattle.vd_transfer.specs.Signs.{IsSignedRange, kept_signed}
@@ -17,7 +17,7 @@ use Rattle.vd_transfer.specs.declared.refinement.Relation.{Relation}
 use Rattle.vd_transfer.specs.declared.refinement.Relation.TheVariants.{Same, Other, Less, AtLeast, More, AtMost}
 use Rattle.vd_transfer.specs.declared.refinement.Interval.{Interval}
 use Rattle.vd_transfer.proofs.Steps.{twos_sub}
-use Rattle.vd_transfer.proofs.Meets.{cover_some-same, any_among, among_any, among_filter, filter_has, in_span_parts, in_span_from}
+use Rattle.value_domain.proofs.MeetLaws.{cover_some-same, any_among, among_any, among_filter, filter_has, in_span_parts, in_span_from}
 
 -- ---- the ends of a set that is written out
 pub ends_more : (ws : List ℕ) (i x low high low2 high2 : ℕ) → i < length ws → x ≡ get_or ws i 0 → Among x ws → Among low ws → Among high ws

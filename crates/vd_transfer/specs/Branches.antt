@@ -1,5 +1,5 @@
 -- What a branch does to a state on each of its sides.
-use Rattle.std.specs.Prelude.{ℕ, Bool, false, ◌==◌, if◌then◌else◌, Option, Some, None}
+use Rattle.std.specs.Prelude.{ℕ, Bool, true, false, ◌==◌, if◌then◌else◌, Option, Some, None}
 use Rattle.tcd_plan.specs.PlanData.{PlanData}
 use Rattle.tc_isa.specs.declared.shapes.Op.TheVariants.{Sub}
 use Rattle.tc_isa.specs.declared.shapes.Cond.{Cond}
@@ -12,7 +12,8 @@ use Rattle.value_domain.specs.declared.states.State.{State}
 use Rattle.value_domain.specs.Values.{members}
 use Rattle.value_domain.specs.Limits.{Limits}
 use Rattle.vd_transfer.specs.Operations.{value_of}
-use Rattle.vd_transfer.specs.Refinement.{cover_some, kept_left, kept_right, kept_both}
+use Rattle.vd_transfer.specs.Refinement.{kept_left, kept_right, kept_both}
+use Rattle.value_domain.specs.Meets.{cover_some}
 use Rattle.vd_transfer.specs.Registers.{reg_of, arg_of, set_reg, write_reg, word_val}
 
 -- the operand is this register
@@ -24,6 +25,11 @@ is_reg x (Word w) = false
 abbrev pub set_arg : State → Arg → Val → State
 set_arg s (Reg r) v = set_reg s r v
 set_arg s (Word w) v = s
+
+-- a state, if the side is possible
+abbrev pub possible : Bool → State → Option State
+possible true s = Some s
+possible false s = None
 
 -- the register takes what is left of its value, if anything is
 abbrev pub with_one : State → ℕ → Option Val → Option State

@@ -45,10 +45,10 @@ no_put = record { at = None; value = any_val }
 abbrev pub reg_put : ℕ → Val → Put
 reg_put r v = record { at = slot r; value = v }
 
--- an operand takes one, if it is a register
-abbrev pub arg_put : Arg → Val → Put
-arg_put (Reg r) v = reg_put r v
-arg_put (Word w) v = no_put
+-- where a state has an operand's value
+abbrev pub arg_slot : Arg → Option ℕ
+arg_slot (Reg r) = slot r
+arg_slot (Word w) = None
 
 -- the change that keeps all of a state
 abbrev pub kept_of : State → Change

@@ -1,13 +1,8 @@
 -- Refinement of two values by a condition.
-use Rattle.std.specs.Prelude.{ℕ, nat_le, ◌==◌, Bool, not, ◌&&◌, if◌then◌else◌, List, [], ◌∷◌, filter, Option, Some, None}
+use Rattle.std.specs.Prelude.{ℕ, Bool, not, if◌then◌else◌, List, filter}
 use Rattle.std.specs.List.{list_any}
 use Rattle.tc_isa.specs.declared.shapes.Cond.{Cond}
 use Rattle.tc_isa.specs.Arithmetic.{taken_of}
-use Rattle.value_domain.specs.declared.values.Val.{Val}
-use Rattle.value_domain.specs.declared.values.Val.TheVariants.{Set, Span}
-use Rattle.value_domain.specs.Sets.{alignment_log2}
-use Rattle.value_domain.specs.Limits.{Limits}
-use Rattle.value_domain.specs.Values.{cover}
 
 -- the condition goes to a side
 abbrev pub holds : Cond → Bool → ℕ → ℕ → Bool
@@ -24,17 +19,3 @@ kept_right cond side vs ws = filter (λ y. list_any (λ x. holds cond side x y) 
 -- the words that make it go to the side against themselves
 unfoldable pub kept_both : Cond → Bool → List ℕ → List ℕ
 kept_both cond side zs = filter (λ z. holds cond side z z) zs
-
--- the cover, or none for no words
-abbrev pub cover_some : Limits → List ℕ → Option Val
-cover_some b [] = None
-cover_some b (x ∷ xs) = Some (cover b (x ∷ xs))
-
--- a word lies in a range
-abbrev pub in_span : ℕ → ℕ → ℕ → ℕ → Bool
-in_span lo last step x = nat_le lo x && nat_le x last && nat_le step (alignment_log2 x)
-
--- the test of a member
-abbrev pub is_member : ℕ → Val → Bool
-is_member x (Set ws) = list_any (λ w. x == w) ws
-is_member x (Span lo last step) = in_span lo last step x

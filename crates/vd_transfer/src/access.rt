@@ -3,13 +3,12 @@ ghost use Rattle.std.specs.Prelude.{◌≡◌};
 ghost use Rattle.value_domain.specs.Values.{IsValue};
 ghost use Rattle.value_domain.specs.State.{AreValues};
 ghost use Rattle.tc_isa.specs.Bounded.{IsShape, IsArg};
-ghost use Rattle.tc_isa.specs.Shapes.{shape_of};
 ghost use Rattle.vd_transfer.specs.Effects.{address_of, access_of};
 ghost use Rattle.tc_isa.specs.declared.shapes.Op.TheVariants.{Add};
 
-use crate::operations::operation;
-use crate::registers::{any, arg, constant};
-use tc_isa::{Arg, Inst, Op, Shape, shape};
+use crate::operands::{Operands, operate};
+use crate::registers::{any, arg};
+use tc_isa::{Arg, Op, Shape};
 use tcd_plan::Plan;
 use value_domain::{Bounds, State, Val};
 
@@ -32,15 +31,6 @@ impl Addressing {
             after,
         }
     }
-}
-
-/// The addresses of a load or a store.
-pub fn address(b: &Bounds, plan: &Plan, inst: &Inst, s: &State) -> Val
-    requires { AreValues b.now s.now.regs }
-    ensures address { result ≡ address_of b.now plan.now (shape_of inst.now) s.now }
-    ensures value { IsValue b.now result }
-{
-    address_by(b, plan, shape(inst), s)
 }
 
 /// The addresses of an access of this shape.
@@ -77,9 +67,12 @@ pub(crate) fn access(b: &Bounds, plan: &Plan, s: &State, at: Addressing) -> Val
     ensures access { result ≡ access_of b.now plan.now s.now at.base at.offset at.after }
     ensures value { IsValue b.now result }
 {
-    let v = arg(b, plan, s, at.base);
     if at.after {
-        return v;
+        return arg(b, plan, s, at.base);
     }
-    operation(b, Op::Add, &v, &constant(b, at.offset))
+    let of = Operands {
+        x: at.base,
+        y: Arg::Word(at.offset),
+    };
+    operate(b, plan, s, Op::Add, of)
 }

@@ -1,28 +1,33 @@
-// What a side of a branch changes, and the state there.
-ghost use Rattle.std.specs.Prelude.{◌≡◌, ◌<◌, IfSome, Some, option_map};
+// What a side of a branch changes.
+ghost use Rattle.std.specs.Prelude.{◌≡◌, ◌<◌, ◌∷◌, [], IfSome, Some, option_map};
 ghost use Rattle.value_domain.specs.Values.{IsValue, members};
 ghost use Rattle.value_domain.specs.State.{AreValues};
-ghost use Rattle.tc_isa.specs.Shapes.{shape_of};
-ghost use Rattle.vd_transfer.specs.Refinement.{cover_some, kept_left, kept_right, kept_both};
-ghost use Rattle.vd_transfer.specs.Relations.{relation_of, is_signed, converse, self_holds};
-ghost use Rattle.vd_transfer.specs.Branches.{is_reg, refine_of, with_one, with_two, state_on_side, with_lowered_counter};
 ghost use Rattle.tc_isa.specs.Bounded.{IsArg, IsShape};
-ghost use Rattle.vd_transfer.specs.Changes.{state_after, no_put};
+ghost use Rattle.tc_isa.specs.declared.shapes.Arg.TheVariants.{Word};
+ghost use Rattle.tc_isa.specs.declared.shapes.Op.TheVariants.{Sub};
+ghost use Rattle.vd_transfer.specs.Refinement.{holds, kept_left, kept_right};
+ghost use Rattle.value_domain.specs.Meets.{cover_some};
+ghost use Rattle.vd_transfer.specs.Relations.{relation_of, is_signed, converse, self_holds};
+ghost use Rattle.vd_transfer.specs.Registers.{reg_of, arg_of, write_reg, word_val};
+ghost use Rattle.vd_transfer.specs.Operations.{value_of};
+ghost use Rattle.vd_transfer.specs.Branches.{is_reg, refine_of, possible, with_one, with_two, state_on_side, with_lowered_counter};
+ghost use Rattle.vd_transfer.specs.Changes.{state_after, no_put, kept_of};
 
-use crate::change::{Change, put_operand, put_register, unchanged, write_last};
-use crate::cover::{changed_reg, changed_state};
+use crate::change::{Change, unchanged, write_last};
+use crate::cover::changed_reg;
 use crate::operations::operation;
 use crate::refinement::{Relation, narrow};
-use crate::registers::{arg, constant, reg_value};
+use crate::registers::{arg, arg_word, constant, operand_slot, reg_in, reg_value, slot_of};
 use crate::signed_refinement::narrow_signed;
-use tc_isa::{Arg, Cond, Inst, Op, Shape, shape};
+use tc_isa::{Arg, Cond, Op, Shape, taken};
 use tcd_plan::Plan;
 use value_domain::{Bounds, State, Val};
 
-/// A branch's condition, with the register and the operand that it compares.
+/// A side of a branch's condition, with the register and the operand that it compares.
 #[derive(Clone, Copy)]
 struct Comparison {
     cond: Cond,
+    side: bool,
     x: u8,
     y: Arg,
 }
@@ -132,16 +137,14 @@ fn holds_itself(cond: Cond, side: bool) -> bool
     }
 }
 
-/// The cover of the members that make the condition go to the side against themselves: all or none.
-pub(crate) fn narrow_both(b: &Bounds, cond: Cond, side: bool, v: &Val) -> Option<Val>
-    requires { IsValue b.now v.now }
-    ensures kept { result ≡ cover_some b.now (kept_both cond side (members v.now)) }
-    ensures value { IfSome result (IsValue b.now) }
+/// Whether a condition of two words goes to the side.
+fn goes(cond: Cond, side: bool, x: u32, y: u32) -> bool
+    ensures { result ≡ holds cond side x y }
 {
-    if holds_itself(cond, side) {
-        Some(v.copy())
+    if side {
+        taken(cond, x, y)
     } else {
-        None
+        !taken(cond, x, y)
     }
 }
 
@@ -154,123 +157,189 @@ pub(crate) fn is_same(x: u8, y: Arg) -> bool
     }
 }
 
-/// The state on a side of a branch, or nothing where the side isn't possible.
-pub fn refine(b: &Bounds, plan: &Plan, inst: &Inst, s: &State, side: bool) -> Option<State>
-    requires { AreValues b.now s.now.regs }
-    ensures refine { result ≡ refine_of b.now plan.now (shape_of inst.now) s.now side }
-    ensures values { IfSome result (λ t. AreValues b.now t.regs) }
+// What a side changes is written into a change that keeps all, in its place. Whatever has a value of its own to fill stands
+// in a function of its own.
+
+/// The register takes what is left of its value, if anything is.
+#[inline(never)]
+fn narrow_one(b: &Bounds, test: Comparison, s: &State, v: &Val, w: &Val, c: &mut Change) -> bool
+    requires values { AreValues b.now s.now.regs }
+    requires left { IsValue b.now v.now }
+    requires right { IsValue b.now w.now }
+    requires kept { c.old ≡ kept_of s.now }
+    ensures one { possible result (state_after s.now c.new)
+        ≡ with_one s.now test.x
+        (cover_some b.now (kept_left test.cond test.side (members v.now) (members w.now))) }
+    ensures values { AreValues b.now (state_after s.now c.new).regs }
+    ensures free { (c.new.second ≡ no_put) × (c.new.third ≡ no_put) }
 {
-    match change_on(b, plan, shape(inst), s, side) {
-        Some(c) => Some(changed_state(s, &c)),
-        None => None,
+    match narrow_left(b, test.cond, test.side, v, w) {
+        Some(kept) => {
+            c.first.at = slot_of(test.x);
+            c.first.value = kept;
+            true
+        }
+        None => false,
     }
-}
-
-/// A register takes what is left of its value.
-fn with_value(b: &Bounds, s: &State, x: u8, v: Option<Val>) -> Option<Change>
-    requires values { AreValues b.now s.now.regs }
-    requires value { IfSome v (IsValue b.now) }
-    ensures one { option_map (λ c. state_after s.now c) result ≡ with_one s.now x v }
-    ensures values { IfSome result (λ c. AreValues b.now (state_after s.now c).regs) }
-    ensures free { IfSome result (λ c. c.third ≡ no_put) }
-{
-    match v {
-        Some(v) => Some(narrow_one(b, s, x, v)),
-        None => None,
-    }
-}
-
-fn narrow_one(b: &Bounds, s: &State, x: u8, v: Val) -> Change
-    requires values { AreValues b.now s.now.regs }
-    requires value { IsValue b.now v }
-    ensures one { Some (state_after s.now result) ≡ with_one s.now x (Some v) }
-    ensures values { AreValues b.now (state_after s.now result).regs }
-    ensures free { result.third ≡ no_put }
-{
-    let mut c = unchanged(s);
-    c.first = put_register(x, v);
-    c
-}
-
-fn narrow_two(b: &Bounds, s: &State, x: u8, y: Arg, v: Val, w: Val) -> Change
-    requires values { AreValues b.now s.now.regs }
-    requires left { IsValue b.now v }
-    requires right { IsValue b.now w }
-    ensures two { Some (state_after s.now result) ≡ with_two s.now x y (Some v) (Some w) }
-    ensures values { AreValues b.now (state_after s.now result).regs }
-    ensures free { result.third ≡ no_put }
-{
-    let mut c = unchanged(s);
-    c.first = put_register(x, v);
-    c.second = put_operand(y, w);
-    c
 }
 
 /// Both operands take what is left of theirs.
-fn with_values(
-    b: &Bounds,
-    s: &State,
-    x: u8,
-    y: Arg,
-    v: Option<Val>,
-    w: Option<Val>,
-) -> Option<Change>
+#[inline(never)]
+fn narrow_two(b: &Bounds, test: Comparison, s: &State, v: &Val, w: &Val, c: &mut Change) -> bool
     requires values { AreValues b.now s.now.regs }
-    requires left { IfSome v (IsValue b.now) }
-    requires right { IfSome w (IsValue b.now) }
-    ensures two { option_map (λ c. state_after s.now c) result ≡ with_two s.now x y v w }
-    ensures values { IfSome result (λ c. AreValues b.now (state_after s.now c).regs) }
-    ensures free { IfSome result (λ c. c.third ≡ no_put) }
+    requires left { IsValue b.now v.now }
+    requires right { IsValue b.now w.now }
+    requires kept { c.old ≡ kept_of s.now }
+    ensures two { possible result (state_after s.now c.new)
+        ≡ with_two s.now test.x test.y
+        (cover_some b.now (kept_left test.cond test.side (members v.now) (members w.now)))
+        (cover_some b.now (kept_right test.cond test.side (members v.now) (members w.now))) }
+    ensures values { AreValues b.now (state_after s.now c.new).regs }
+    ensures free { c.new.third ≡ no_put }
 {
-    match v {
-        Some(v) => match w {
-            Some(w) => Some(narrow_two(b, s, x, y, v, w)),
-            None => None,
-        },
-        None => None,
+    if !narrow_one(b, test, s, v, w, c) {
+        return false;
+    }
+    match narrow_right(b, test.cond, test.side, v, w) {
+        Some(kept) => {
+            c.second.at = operand_slot(test.y);
+            c.second.value = kept;
+            true
+        }
+        None => false,
     }
 }
 
-/// What a side of a condition changes, if the side is possible.
-fn narrow_by(b: &Bounds, plan: &Plan, test: Comparison, s: &State, side: bool) -> Option<Change>
+/// The same against a constant, of which nothing is to be kept.
+#[inline(never)]
+fn narrow_constant(b: &Bounds, test: Comparison, s: &State, v: &Val, z: u32, c: &mut Change) -> bool
+    requires values { AreValues b.now s.now.regs }
+    requires left { IsValue b.now v.now }
+    requires kept { c.old ≡ kept_of s.now }
+    ensures two { possible result (state_after s.now c.new)
+        ≡ with_two s.now test.x (Word z)
+        (cover_some b.now (kept_left test.cond test.side (members v.now) (z ∷ [])))
+        (cover_some b.now (kept_right test.cond test.side (members v.now) (z ∷ []))) }
+    ensures values { AreValues b.now (state_after s.now c.new).regs }
+    ensures free { c.new.third ≡ no_put }
+{
+    narrow_one(b, test, s, v, &constant(b, z), c)
+}
+
+/// The same of values that are made.
+#[inline(never)]
+fn narrow_made(b: &Bounds, plan: &Plan, test: Comparison, s: &State, c: &mut Change) -> bool
     requires operands { (test.x < 32) × IsArg test.y }
     requires values { AreValues b.now s.now.regs }
-    ensures refined { option_map (λ c. state_after s.now c) result
-        ≡ state_on_side b.now plan.now test.cond test.x test.y s.now side }
-    ensures values { IfSome result (λ c. AreValues b.now (state_after s.now c).regs) }
-    ensures free { IfSome result (λ c. c.third ≡ no_put) }
+    requires kept { c.old ≡ kept_of s.now }
+    ensures two { possible result (state_after s.now c.new)
+        ≡ with_two s.now test.x test.y
+        (cover_some b.now (kept_left test.cond test.side (members (reg_of plan.now s.now test.x))
+        (members (arg_of plan.now s.now test.y))))
+        (cover_some b.now (kept_right test.cond test.side (members (reg_of plan.now s.now test.x))
+        (members (arg_of plan.now s.now test.y)))) }
+    ensures values { AreValues b.now (state_after s.now c.new).regs }
+    ensures free { c.new.third ≡ no_put }
 {
     let v = reg_value(b, plan, s, test.x);
-    if is_same(test.x, test.y) {
-        return with_value(b, s, test.x, narrow_both(b, test.cond, side, &v));
+    narrow_two(b, test, s, &v, &arg(b, plan, s, test.y), c)
+}
+
+/// The same of the state's own values, where it has them.
+fn narrow_values(b: &Bounds, plan: &Plan, test: Comparison, s: &State, c: &mut Change) -> bool
+    requires operands { (test.x < 32) × IsArg test.y }
+    requires values { AreValues b.now s.now.regs }
+    requires kept { c.old ≡ kept_of s.now }
+    ensures two { possible result (state_after s.now c.new)
+        ≡ with_two s.now test.x test.y
+        (cover_some b.now (kept_left test.cond test.side (members (reg_of plan.now s.now test.x))
+        (members (arg_of plan.now s.now test.y))))
+        (cover_some b.now (kept_right test.cond test.side (members (reg_of plan.now s.now test.x))
+        (members (arg_of plan.now s.now test.y)))) }
+    ensures values { AreValues b.now (state_after s.now c.new).regs }
+    ensures free { c.new.third ≡ no_put }
+{
+    match reg_in(b, plan, s, test.x) {
+        Some(v) => match test.y {
+            Arg::Word(z) => narrow_constant(b, test, s, v, z, c),
+            Arg::Reg(r) => match reg_in(b, plan, s, r) {
+                Some(w) => narrow_two(b, test, s, v, w, c),
+                None => narrow_made(b, plan, test, s, c),
+            },
+        },
+        None => narrow_made(b, plan, test, s, c),
     }
-    let w = arg(b, plan, s, test.y);
-    with_values(
-        b,
-        s,
-        test.x,
-        test.y,
-        narrow_left(b, test.cond, side, &v, &w),
-        narrow_right(b, test.cond, side, &v, &w),
-    )
+}
+
+/// What a side of a condition changes, if the side is possible. A word against a word stays as it is.
+fn narrow_by(b: &Bounds, plan: &Plan, test: Comparison, s: &State, c: &mut Change) -> bool
+    requires operands { (test.x < 32) × IsArg test.y }
+    requires values { AreValues b.now s.now.regs }
+    requires kept { c.old ≡ kept_of s.now }
+    ensures refined { possible result (state_after s.now c.new)
+        ≡ state_on_side b.now plan.now test.cond test.x test.y s.now test.side }
+    ensures values { AreValues b.now (state_after s.now c.new).regs }
+    ensures free { c.new.third ≡ no_put }
+{
+    let _most_words = b.most_words();
+    let _globals = &plan.globals;
+    if is_same(test.x, test.y) {
+        return holds_itself(test.cond, test.side);
+    }
+    match arg_word(b, plan, s, Arg::Reg(test.x)) {
+        Some(x) => match arg_word(b, plan, s, test.y) {
+            Some(y) => goes(test.cond, test.side, x, y),
+            None => narrow_values(b, plan, test, s, c),
+        },
+        None => narrow_values(b, plan, test, s, c),
+    }
+}
+
+/// Lowers a register by 1.
+#[inline(never)]
+fn lower(b: &Bounds, plan: &Plan, x: u8, s: &State, c: &mut Change)
+    requires register { x < 32 }
+    requires values { AreValues b.now (state_after s.now c.old).regs }
+    requires free { c.old.third ≡ no_put }
+    ensures lowered { state_after s.now c.new
+        ≡ write_reg (state_after s.now c.old) x
+        (value_of b.now Sub (reg_of plan.now (state_after s.now c.old) x) (word_val 1)) }
+    ensures values { AreValues b.now (state_after s.now c.new).regs }
+{
+    let v = operation(b, Op::Sub, &changed_reg(b, plan, s, c, x), &constant(b, 1));
+    write_last(b, s, c, x, v);
 }
 
 /// A loop lowers its register by 1.
-fn lower_counter(b: &Bounds, plan: &Plan, x: u8, lowers: bool, s: &State, c: Change) -> Change
+fn lower_counter(b: &Bounds, plan: &Plan, x: u8, lowers: bool, s: &State, c: &mut Change)
     requires register { x < 32 }
-    requires values { AreValues b.now (state_after s.now c).regs }
-    requires free { c.third ≡ no_put }
-    ensures lowered { Some (state_after s.now result)
-        ≡ with_lowered_counter b.now plan.now x lowers (Some (state_after s.now c)) }
-    ensures values { AreValues b.now (state_after s.now result).regs }
+    requires values { AreValues b.now (state_after s.now c.old).regs }
+    requires free { c.old.third ≡ no_put }
+    ensures lowered { Some (state_after s.now c.new)
+        ≡ with_lowered_counter b.now plan.now x lowers (Some (state_after s.now c.old)) }
+    ensures values { AreValues b.now (state_after s.now c.new).regs }
 {
-    if !lowers {
-        return c;
+    if lowers {
+        lower(b, plan, x, s, c);
     }
-    let mut c = c;
-    let v = operation(b, Op::Sub, &changed_reg(b, plan, s, &c, x), &constant(b, 1));
-    write_last(b, s, &mut c, x, v);
-    c
+}
+
+/// What a side of a branch changes, made in one place.
+#[inline(never)]
+fn change_by(b: &Bounds, plan: &Plan, test: Comparison, lowers: bool, s: &State) -> Option<Change>
+    requires operands { (test.x < 32) × IsArg test.y }
+    requires values { AreValues b.now s.now.regs }
+    ensures refine { option_map (λ c. state_after s.now c) result
+        ≡ with_lowered_counter b.now plan.now test.x lowers
+        (state_on_side b.now plan.now test.cond test.x test.y s.now test.side) }
+    ensures values { IfSome result (λ c. AreValues b.now (state_after s.now c).regs) }
+{
+    let mut c = unchanged(s);
+    if !narrow_by(b, plan, test, s, &mut c) {
+        return None;
+    }
+    lower_counter(b, plan, test.x, lowers, s, &mut c);
+    Some(c)
 }
 
 /// What a side of a branch changes, or nothing where the side isn't possible.
@@ -289,10 +358,7 @@ pub fn change_on(b: &Bounds, plan: &Plan, shape: Shape, s: &State, side: bool) -
             y,
             lowers,
             ..
-        } => match narrow_by(b, plan, Comparison { cond, x, y }, s, side) {
-            Some(c) => Some(lower_counter(b, plan, x, lowers, s, c)),
-            None => None,
-        },
+        } => change_by(b, plan, Comparison { cond, side, x, y }, lowers, s),
         _ => None,
     }
 }

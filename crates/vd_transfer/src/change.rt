@@ -3,11 +3,10 @@ ghost use Rattle.std.specs.Prelude.{◌≡◌};
 ghost use Rattle.value_domain.specs.Values.{IsValue};
 ghost use Rattle.value_domain.specs.State.{AreValues};
 ghost use Rattle.vd_transfer.specs.Registers.{write_reg};
-ghost use Rattle.vd_transfer.specs.Changes.{state_after, no_put, reg_put, arg_put, kept_of};
+ghost use Rattle.vd_transfer.specs.Changes.{state_after, no_put, reg_put, kept_of};
 
 use crate::registers::{is_lower, slot_of};
 use arrayvec::ArrayVec;
-use tc_isa::Arg;
 use value_domain::{Bounds, State, Val};
 
 /// The values that a change starts from: those of its state, those with the lower registers any, or any at each place.
@@ -60,16 +59,6 @@ pub fn put_register(r: u8, v: Val) -> Put
     }
 }
 
-/// An operand's value, if it is a register.
-pub(crate) fn put_operand(y: Arg, v: Val) -> Put
-    ensures { result ≡ arg_put y v }
-{
-    match y {
-        Arg::Reg(r) => put_register(r, v),
-        Arg::Word(_) => no_value(),
-    }
-}
-
 #[inline(always)]
 pub(crate) fn copy_of(locals: &ArrayVec<bool, 8>) -> ArrayVec<bool, 8>
     ensures { result ≡ locals.now }
@@ -97,22 +86,6 @@ pub fn unchanged(s: &State) -> Change
     }
 }
 
-/// Writes a register of a state; a third value may follow.
-#[inline(always)]
-pub(crate) fn write_register(b: &Bounds, s: &State, r: u8, v: Val) -> Change
-    requires values { AreValues b.now s.now.regs }
-    requires value { IsValue b.now v }
-    ensures written { state_after s.now result ≡ write_reg s.now r v }
-    ensures values { AreValues b.now (state_after s.now result).regs }
-    ensures free { result.third ≡ no_put }
-{
-    let kept = !is_lower(r);
-    let mut c = unchanged(s);
-    c.second = put_register(r, v);
-    c.lower = c.lower && kept;
-    c
-}
-
 /// Writes a register last.
 #[inline(always)]
 pub(crate) fn write_last(b: &Bounds, s: &State, c: &mut Change, r: u8, v: Val)
@@ -123,6 +96,7 @@ pub(crate) fn write_last(b: &Bounds, s: &State, c: &mut Change, r: u8, v: Val)
     ensures values { AreValues b.now (state_after s.now c.new).regs }
 {
     let kept = !is_lower(r);
-    c.third = put_register(r, v);
+    c.third.at = slot_of(r);
+    c.third.value = v;
     c.lower = c.lower && kept;
 }

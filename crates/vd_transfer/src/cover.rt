@@ -5,7 +5,7 @@ ghost use Rattle.value_domain.specs.State.{Covers, AreBelow, AreWell, AreValues}
 ghost use Rattle.vd_transfer.specs.Registers.{reg_of};
 ghost use Rattle.vd_transfer.specs.Changes.{base_of, state_after};
 
-use crate::change::{Base, Change, Put, copy_of};
+use crate::change::{Base, Change, Put};
 use crate::registers::{fixed, is_lower_slot, slot_of};
 use tcd_plan::Plan;
 use value_domain::{Bounds, State, Val, are_implied, covers_context, leq};
@@ -98,29 +98,4 @@ pub fn covers_changed(upper: &State, s: &State, c: &Change) -> bool
         return false;
     }
     are_below(s, c, &upper.regs)
-}
-
-fn changed_regs(s: &State, c: &Change) -> [Val; 27]
-    ensures { result ≡ (state_after s.now c.now).regs }
-{
-    let _regs = &s.regs[..];
-    let any = Val::any();
-    let mut out = std::array::from_fn(|_| Val::any());
-    for i in 0..27 {
-        out[i] = changed_value(s, c, &any, i).copy();
-    }
-    out
-}
-
-/// The state that a change makes of another.
-pub fn changed_state(s: &State, c: &Change) -> State
-    ensures { result ≡ state_after s.now c.now }
-{
-    State {
-        regs: changed_regs(s, c),
-        ie: c.ie,
-        ccpn: c.ccpn,
-        lower: c.lower,
-        locals: copy_of(&c.locals),
-    }
 }

@@ -1,30 +1,22 @@
 // What each instruction changes.
 ghost use Rattle.std.specs.Prelude.{◌≡◌, ◌<◌, ◌≤◌, length, true};
-ghost use Rattle.value_domain.specs.Values.{IsValue};
+ghost use Rattle.value_domain.specs.Values.{IsValue, any_val};
 ghost use Rattle.value_domain.specs.State.{AreValues};
 ghost use Rattle.tc_isa.specs.Bounded.{IsArg, IsShape};
 ghost use Rattle.tc_isa.specs.declared.shapes.Op.TheVariants.{Add, Sh};
 ghost use Rattle.vd_transfer.specs.Operations.{value_of};
 ghost use Rattle.vd_transfer.specs.Registers.{reg_of, arg_of, write_reg, word_val};
 ghost use Rattle.vd_transfer.specs.Effects.{HasRoom, with_base, saved_lower, restored_lower, transfer_of};
-ghost use Rattle.vd_transfer.specs.Changes.{state_after, no_put};
-ghost use Rattle.tc_isa.specs.Shapes.{shape_of};
+ghost use Rattle.vd_transfer.specs.Changes.{state_after, no_put, kept_of};
 
 use crate::access::Addressing;
-use crate::change::{Base, Change, unchanged, write_last, write_register};
-use crate::cover::changed_state;
+use crate::change::{Base, Change, unchanged, write_last};
+use crate::operands::{Operands, operate};
 use crate::operations::operation;
-use crate::registers::{any, arg, constant, reg_value};
-use tc_isa::{Arg, Inst, Op, Shape, shape};
+use crate::registers::{constant, is_lower, reg_value, slot_of};
+use tc_isa::{Arg, Op, Shape};
 use tcd_plan::Plan;
 use value_domain::{Bounds, State, Val};
-
-/// The operands of an operation.
-#[derive(Clone, Copy)]
-struct Operands {
-    x: Arg,
-    y: Arg,
-}
 
 /// The registers of a scaled address, a base plus an index shifted left by n.
 #[derive(Clone, Copy)]
@@ -34,14 +26,14 @@ struct ScaledAddress {
     n: u8,
 }
 
-// What makes values stands in functions of its own, so that `change_of` has none to fill where nothing is computed.
+// What makes values stands in functions of its own, so that `change_of` has none to fill where nothing is computed. Each
+// writes into the change that is returned.
 
-#[inline(always)]
+#[inline(never)]
 fn keep_all(b: &Bounds, s: &State) -> Change
     requires { AreValues b.now s.now.regs }
     ensures same { state_after s.now result ≡ s.now }
     ensures values { AreValues b.now (state_after s.now result).regs }
-    ensures free { result.third ≡ no_put }
 {
     unchanged(s)
 }
@@ -55,8 +47,12 @@ fn compute(b: &Bounds, plan: &Plan, s: &State, op: Op, dst: u8, of: Operands) ->
         (value_of b.now op (arg_of plan.now s.now of.x) (arg_of plan.now s.now of.y)) }
     ensures values { AreValues b.now (state_after s.now result).regs }
 {
-    let v = operation(b, op, &arg(b, plan, s, of.x), &arg(b, plan, s, of.y));
-    write_register(b, s, dst, v)
+    let kept = !is_lower(dst);
+    let mut c = unchanged(s);
+    c.second.at = slot_of(dst);
+    c.second.value = operate(b, plan, s, op, of);
+    c.lower = c.lower && kept;
+    c
 }
 
 #[inline(never)]
@@ -75,31 +71,65 @@ fn scale(b: &Bounds, plan: &Plan, s: &State, dst: u8, at: ScaledAddress) -> Chan
         &reg_value(b, plan, s, at.index),
         &constant(b, u32::from(at.n)),
     );
-    let v = operation(b, Op::Add, &reg_value(b, plan, s, at.base), &by);
-    write_register(b, s, dst, v)
+    let kept = !is_lower(dst);
+    let mut c = unchanged(s);
+    c.second.at = slot_of(dst);
+    c.second.value = operation(b, Op::Add, &reg_value(b, plan, s, at.base), &by);
+    c.lower = c.lower && kept;
+    c
+}
+
+/// Increases a register by the offset of an access.
+#[inline(never)]
+fn increase(b: &Bounds, plan: &Plan, s: &State, r: u8, offset: u32, c: &mut Change)
+    requires register { r < 32 }
+    requires values { AreValues b.now s.now.regs }
+    requires kept { c.old ≡ kept_of s.now }
+    ensures write { state_after s.now c.new
+        ≡ write_reg s.now r (value_of b.now Add (reg_of plan.now s.now r) (word_val offset)) }
+    ensures values { AreValues b.now (state_after s.now c.new).regs }
+    ensures free { c.new.third ≡ no_put }
+{
+    let of = Operands {
+        x: Arg::Reg(r),
+        y: Arg::Word(offset),
+    };
+    let kept = !is_lower(r);
+    c.second.at = slot_of(r);
+    c.second.value = operate(b, plan, s, Op::Add, of);
+    c.lower = c.lower && kept;
 }
 
 /// Increases the base register by the offset, where the access says so.
+fn increase_base(b: &Bounds, plan: &Plan, s: &State, at: Addressing, c: &mut Change)
+    requires base { IsArg at.base }
+    requires values { AreValues b.now s.now.regs }
+    requires kept { c.old ≡ kept_of s.now }
+    ensures base { state_after s.now c.new
+        ≡ with_base b.now plan.now s.now at.base at.offset at.after }
+    ensures values { AreValues b.now (state_after s.now c.new).regs }
+    ensures free { c.new.third ≡ no_put }
+{
+    if !at.after {
+        return;
+    }
+    match at.base {
+        Arg::Reg(r) => increase(b, plan, s, r, at.offset, c),
+        Arg::Word(_) => {}
+    }
+}
+
 #[inline(never)]
-fn increase_base(b: &Bounds, plan: &Plan, s: &State, at: Addressing) -> Change
+fn store(b: &Bounds, plan: &Plan, s: &State, at: Addressing) -> Change
     requires base { IsArg at.base }
     requires values { AreValues b.now s.now.regs }
     ensures base { state_after s.now result
         ≡ with_base b.now plan.now s.now at.base at.offset at.after }
     ensures values { AreValues b.now (state_after s.now result).regs }
-    ensures free { result.third ≡ no_put }
 {
-    if !at.after {
-        return keep_all(b, s);
-    }
-    match at.base {
-        Arg::Reg(r) => {
-            let by = constant(b, at.offset);
-            let sum = operation(b, Op::Add, &reg_value(b, plan, s, r), &by);
-            write_register(b, s, r, sum)
-        }
-        Arg::Word(_) => keep_all(b, s),
-    }
+    let mut c = unchanged(s);
+    increase_base(b, plan, s, at, &mut c);
+    c
 }
 
 #[inline(never)]
@@ -111,12 +141,29 @@ fn load_into(b: &Bounds, plan: &Plan, s: &State, at: Addressing, dst: u8, v: Val
         ≡ write_reg (with_base b.now plan.now s.now at.base at.offset at.after) dst v }
     ensures values { AreValues b.now (state_after s.now result).regs }
 {
-    let mut c = increase_base(b, plan, s, at);
+    let mut c = unchanged(s);
+    increase_base(b, plan, s, at, &mut c);
     write_last(b, s, &mut c, dst, v);
     c
 }
 
+/// A register takes any value.
+#[inline(never)]
+fn write_any(b: &Bounds, s: &State, dst: u8) -> Change
+    requires { AreValues b.now s.now.regs }
+    ensures write { state_after s.now result ≡ write_reg s.now dst any_val }
+    ensures values { AreValues b.now (state_after s.now result).regs }
+{
+    let _most_words = b.most_words();
+    let kept = !is_lower(dst);
+    let mut c = unchanged(s);
+    c.second.at = slot_of(dst);
+    c.lower = c.lower && kept;
+    c
+}
+
 /// Saves a lower context: whether the lower registers are the entry's becomes a local.
+#[inline(never)]
 fn save_lower(s: &State) -> Change
     requires { length s.now.locals.items < 8 }
     ensures { state_after s.now result ≡ saved_lower s.now }
@@ -126,6 +173,7 @@ fn save_lower(s: &State) -> Change
     c
 }
 
+#[inline(never)]
 fn begin_isr(s: &State, number: u8) -> Change
     requires { length s.now.locals.items < 8 }
     ensures { state_after s.now result ≡ record (saved_lower s.now) { ie = true; ccpn = number } }
@@ -137,6 +185,7 @@ fn begin_isr(s: &State, number: u8) -> Change
 }
 
 /// Restores the last lower context.
+#[inline(never)]
 fn restore_lower(b: &Bounds, s: &State) -> Change
     requires some { 1 ≤ length s.now.locals.items }
     requires values { AreValues b.now s.now.regs }
@@ -152,6 +201,7 @@ fn restore_lower(b: &Bounds, s: &State) -> Change
     c
 }
 
+#[inline(never)]
 fn set_enable(s: &State, ie: bool) -> Change
     ensures { state_after s.now result ≡ record s.now { ie = ie } }
 {
@@ -192,13 +242,13 @@ pub fn change_of(b: &Bounds, plan: &Plan, shape: Shape, s: &State, loaded: Val) 
             offset,
             after,
             ..
-        } => increase_base(b, plan, s, Addressing::by(base, offset, after)),
+        } => store(b, plan, s, Addressing::by(base, offset, after)),
         Shape::Svlcx => save_lower(s),
         Shape::Rslcx => restore_lower(b, s),
         Shape::Bisr { c } => begin_isr(s, c),
         Shape::Enable => set_enable(s, true),
         Shape::Disable => set_enable(s, false),
-        Shape::Mfcr { dst, .. } => write_register(b, s, dst, any(b)),
+        Shape::Mfcr { dst, .. } => write_any(b, s, dst),
         Shape::Branch { .. } => keep_all(b, s),
         Shape::Jump { .. } => keep_all(b, s),
         Shape::Call { .. } => keep_all(b, s),
@@ -208,16 +258,4 @@ pub fn change_of(b: &Bounds, plan: &Plan, shape: Shape, s: &State, loaded: Val) 
         Shape::Mtcr { .. } => keep_all(b, s),
         Shape::Nothing => keep_all(b, s),
     }
-}
-
-/// The state after an instruction that stays in its frame and isn't a branch or a jump. A load writes `loaded`, which
-/// nothing else uses. There is room where it saves a lower context, and one to restore where it restores one.
-pub fn transfer(b: &Bounds, plan: &Plan, inst: &Inst, s: &State, loaded: &Val) -> State
-    requires values { AreValues b.now s.now.regs }
-    requires loaded { IsValue b.now loaded.now }
-    requires room { HasRoom b.now (shape_of inst.now) s.now }
-    ensures transfer { result ≡ transfer_of b.now plan.now (shape_of inst.now) s.now loaded.now }
-    ensures values { AreValues b.now result.regs }
-{
-    changed_state(s, &change_of(b, plan, shape(inst), s, loaded.copy()))
 }

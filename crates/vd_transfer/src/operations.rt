@@ -25,7 +25,7 @@ pub fn operation(b: &Bounds, op: Op, v: &Val, w: &Val) -> Val
     }
 }
 
-/// The results of all pairs: at once where there is one.
+/// The results of all pairs: at once where there is one, one by one where there are few.
 fn all_pairs(b: &Bounds, op: Op, xs: &[u32], ys: &[u32]) -> Val
     requires left { 1 ≤ length xs.now }
     requires right { 1 ≤ length ys.now }
@@ -33,21 +33,41 @@ fn all_pairs(b: &Bounds, op: Op, xs: &[u32], ys: &[u32]) -> Val
     ensures cover { result ≡ cover b.now (pairs op xs.now ys.now) }
     ensures value { IsValue b.now result }
 {
+    let _most_words = b.most_words();
     if xs.len() == 1 && ys.len() == 1 {
-        return one_pair(b, op, xs, ys);
+        return Val::one(alu(op, xs[0], ys[0]));
+    }
+    if ys.len() <= 64 / xs.len() {
+        return few_pairs(b, op, xs, ys);
     }
     many_pairs(b, op, xs, ys)
 }
 
-/// The result of a word and a word.
-fn one_pair(b: &Bounds, op: Op, xs: &[u32], ys: &[u32]) -> Val
-    requires left { length xs.now ≡ 1 }
-    requires right { length ys.now ≡ 1 }
+/// The results of all pairs, added one by one.
+#[inline(never)]
+fn few_pairs(b: &Bounds, op: Op, xs: &[u32], ys: &[u32]) -> Val
+    requires left { 1 ≤ length xs.now }
+    requires right { 1 ≤ length ys.now }
     ensures cover { result ≡ cover b.now (pairs op xs.now ys.now) }
     ensures value { IsValue b.now result }
 {
     let _most_words = b.most_words();
-    Val::one(alu(op, xs[0], ys[0]))
+    let mut out = Val::one(alu(op, xs[0], ys[0]));
+    for x in xs {
+        add_few(b, &mut out, op, *x, ys);
+    }
+    out
+}
+
+/// Adds the results of a word and each of the others to a value.
+fn add_few(b: &Bounds, v: &mut Val, op: Op, x: u32, ys: &[u32])
+    requires { IsValue b.now v.old }
+    ensures cover { v.new ≡ cover b.now (members v.old ++ map (alu_of op x) ys.now) }
+    ensures value { IsValue b.now v.new }
+{
+    for y in ys {
+        add_word(b, v, alu(op, x, *y));
+    }
 }
 
 /// The results of all pairs, collected row by row. The words that were met lately have a table, which is to be filled.

@@ -1,8 +1,9 @@
 // The registers of a state.
-ghost use Rattle.std.specs.Prelude.{◌≡◌, ◌<◌, ◌≤◌, IfSome};
+ghost use Rattle.std.specs.Prelude.{◌≡◌, ◌<◌, IfSome};
 ghost use Rattle.value_domain.specs.Values.{IsValue, any_val};
 ghost use Rattle.value_domain.specs.State.{AreValues, is_lower_slot};
 ghost use Rattle.tc_isa.specs.Bounded.{IsArg};
+ghost use Rattle.vd_transfer.specs.Changes.{arg_slot};
 ghost use Rattle.vd_transfer.specs.Registers.{slot, reg_of, arg_of, fixed_of, is_lower, word_val};
 
 use tc_isa::Arg;
@@ -26,6 +27,34 @@ pub(crate) fn slot_of(r: u8) -> Option<usize>
         Some(r as usize - 5)
     } else {
         None
+    }
+}
+
+/// Where a state has the value of an operand.
+pub(crate) fn operand_slot(a: Arg) -> Option<usize>
+    ensures { result ≡ arg_slot a }
+{
+    match a {
+        Arg::Reg(r) => slot_of(r),
+        Arg::Word(_) => None,
+    }
+}
+
+/// The word of a value that has only one.
+#[inline(always)]
+pub(crate) fn only_word(v: &Val) -> Option<u32>
+    ensures { IfSome result (λ w. v.now ≡ word_val w) }
+{
+    match v {
+        Val::Set(words) => {
+            let words = words.as_slice();
+            if words.len() == 1 {
+                Some(words[0])
+            } else {
+                None
+            }
+        }
+        Val::Span { .. } => None,
     }
 }
 
@@ -73,6 +102,54 @@ pub(crate) fn reg_value(b: &Bounds, plan: &Plan, s: &State, r: u8) -> Val
     reg(plan, s, r)
 }
 
+/// The value of a register in its place, where the state has one for it.
+#[inline(always)]
+pub(crate) fn reg_in<'a>(b: &Bounds, plan: &Plan, s: &'a State, r: u8) -> Option<&'a Val>
+    requires register { r < 32 }
+    requires values { AreValues b.now s.now.regs }
+    ensures reg { IfSome result (λ v. v.now ≡ reg_of plan.now s.now r) }
+    ensures value { IfSome result (λ v. IsValue b.now v.now) }
+{
+    let _most_words = b.most_words();
+    let _regs = &s.regs[..];
+    match slot_of(r) {
+        Some(i) => Some(&s.regs[i]),
+        None => None,
+    }
+}
+
+/// The value of an operand in its place, where the state has one for it.
+#[inline(always)]
+pub(crate) fn arg_in<'a>(b: &Bounds, plan: &Plan, s: &'a State, a: Arg) -> Option<&'a Val>
+    requires operand { IsArg a }
+    requires values { AreValues b.now s.now.regs }
+    ensures arg { IfSome result (λ v. v.now ≡ arg_of plan.now s.now a) }
+    ensures value { IfSome result (λ v. IsValue b.now v.now) }
+{
+    match a {
+        Arg::Reg(r) => reg_in(b, plan, s, r),
+        Arg::Word(_) => None,
+    }
+}
+
+/// The word of an operand that has only one, and isn't one of the plan's.
+#[inline(always)]
+pub(crate) fn arg_word(b: &Bounds, plan: &Plan, s: &State, a: Arg) -> Option<u32>
+    requires operand { IsArg a }
+    requires values { AreValues b.now s.now.regs }
+    ensures arg { IfSome result (λ w. arg_of plan.now s.now a ≡ word_val w) }
+    ensures value { IfSome result (λ w. IsValue b.now (word_val w)) }
+{
+    let _most_words = b.most_words();
+    match a {
+        Arg::Reg(r) => match reg_in(b, plan, s, r) {
+            Some(v) => only_word(v),
+            None => None,
+        },
+        Arg::Word(w) => Some(w),
+    }
+}
+
 /// A constant.
 #[inline(always)]
 pub(crate) fn constant(b: &Bounds, w: u32) -> Val
@@ -83,8 +160,8 @@ pub(crate) fn constant(b: &Bounds, w: u32) -> Val
     Val::one(w)
 }
 
-/// The value of an operand.
-#[inline(always)]
+/// The value of an operand; by itself, so that its caller has no value to fill where it needs none made.
+#[inline(never)]
 pub(crate) fn arg(b: &Bounds, plan: &Plan, s: &State, a: Arg) -> Val
     requires operand { IsArg a }
     requires values { AreValues b.now s.now.regs }

@@ -1,16 +1,15 @@
 // Refinement by signed comparisons.
-ghost use Rattle.std.specs.Prelude.{◌≡◌, ◌≢◌, ◌<◌, ◌≤◌, ◌+◌, ◌^◌, length, List, ℕ, [], ◌∷◌, ◌++◌, IfSome, ◌↔◌, ◌⊎◌};
+ghost use Rattle.std.specs.Prelude.{◌≡◌, ◌≢◌, ◌<◌, ◌≤◌, ◌+◌, ◌^◌, length, ℕ, IfSome, ◌↔◌, ◌⊎◌};
 ghost use Rattle.value_domain.specs.Values.{IsValue, IsWell, members, range};
-ghost use Rattle.value_domain.specs.Sets.{AreWords, Among};
 ghost use Rattle.value_domain.specs.declared.values.Val.TheVariants.{Set, Span};
-ghost use Rattle.vd_transfer.specs.Refinement.{cover_some};
+ghost use Rattle.value_domain.specs.Meets.{cover_some};
 ghost use Rattle.tc_isa.specs.Arithmetic.{signed_place};
 ghost use Rattle.vd_transfer.specs.Intervals.{IsIn};
 ghost use Rattle.vd_transfer.specs.Signs.{IsSignedRange, kept_signed};
 ghost use Rattle.vd_transfer.specs.declared.refinement.Relation.TheVariants.{Same};
 
-use crate::refinement::{Interval, NONE, Relation, join_some, meet, signed, words_reached};
-use value_domain::{Bounds, Val, extent_of};
+use crate::refinement::{Interval, NONE, Relation, signed, words_reached};
+use value_domain::{Bounds, Val, extent_of, join_some, meet};
 
 const HALF: u32 = 1 << 31;
 

@@ -1,6 +1,6 @@
 use Rattle.std.proofs.Common.{◌∙◌, ap, sym}
 use Rattle.value_domain.specs.Values.{members}
-use Rattle.vd_transfer.specs.Refinement.{cover_some}
+use Rattle.value_domain.specs.Meets.{cover_some}
 use Rattle.vd_transfer.specs.Relations.{relation_of}
 use Rattle.vd_transfer.proofs.RelationLaws.{signed_order, converse_order, right_plain, right_signed}
 use Rattle.vd_transfer.proofs.branch.narrow_right.Goals as goal

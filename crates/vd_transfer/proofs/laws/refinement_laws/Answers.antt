@@ -1,6 +1,6 @@
 use Rattle.std.specs.List.{list_any}
 use Rattle.vd_transfer.specs.Intervals.{is_related, kept_by}
-use Rattle.vd_transfer.proofs.Meets.{among_filter, filter_has, any_among, among_any}
+use Rattle.value_domain.proofs.MeetLaws.{among_filter, filter_has, any_among, among_any}
 use Rattle.vd_transfer.proofs.laws.refinement_laws.Goals as goal
 
 pub returns : goal.returns

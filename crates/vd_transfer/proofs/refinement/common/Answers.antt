@@ -1,7 +1,8 @@
 use Rattle.std.proofs.Common.{◌∙◌}
 use Rattle.value_domain.specs.Values.{members}
-use Rattle.vd_transfer.specs.Refinement.{is_member}
-use Rattle.vd_transfer.proofs.Meets.{kept_common, kept_range, is_member_parts}
+use Rattle.value_domain.specs.Meets.{is_member}
+use Rattle.vd_transfer.proofs.Meets.{kept_common, kept_range}
+use Rattle.value_domain.proofs.MeetLaws.{is_member_parts}
 use Rattle.vd_transfer.proofs.refinement.common.Goals as goal
 
 pub returns-in-Set-clause-kept : goal.returns-in-Set-clause-kept

@@ -1,0 +1,72 @@
+// States that are built: what changes make of others. And the addresses of instructions.
+ghost use Rattle.std.specs.Prelude.{◌≡◌, IfSome};
+ghost use Rattle.value_domain.specs.Values.{IsValue};
+ghost use Rattle.value_domain.specs.State.{AreValues};
+ghost use Rattle.tc_isa.specs.Shapes.{shape_of};
+ghost use Rattle.vd_transfer.specs.Effects.{HasRoom, address_of, transfer_of};
+ghost use Rattle.vd_transfer.specs.Branches.{refine_of};
+ghost use Rattle.vd_transfer.specs.Changes.{state_after};
+
+use crate::flow_after::copy_of;
+use tc_isa::{Inst, shape};
+use tcd_plan::Plan;
+use value_domain::{Bounds, State, Val};
+use vd_transfer::{Change, address_by, change_of, change_on, changed_value};
+
+/// The addresses of a load or a store.
+pub fn address(b: &Bounds, plan: &Plan, inst: &Inst, s: &State) -> Val
+    requires { AreValues b.now s.now.regs }
+    ensures address { result ≡ address_of b.now plan.now (shape_of inst.now) s.now }
+    ensures value { IsValue b.now result }
+{
+    address_by(b, plan, shape(inst), s)
+}
+
+/// The state on a side of a branch, or nothing where the side isn't possible.
+pub fn refine(b: &Bounds, plan: &Plan, inst: &Inst, s: &State, side: bool) -> Option<State>
+    requires { AreValues b.now s.now.regs }
+    ensures refine { result ≡ refine_of b.now plan.now (shape_of inst.now) s.now side }
+    ensures values { IfSome result (λ t. AreValues b.now t.regs) }
+{
+    match change_on(b, plan, shape(inst), s, side) {
+        Some(c) => Some(changed_state(s, &c)),
+        None => None,
+    }
+}
+
+/// The state after an instruction that stays in its frame and isn't a branch or a jump. A load writes `loaded`, which
+/// nothing else uses. There is room where it saves a lower context, and one to restore where it restores one.
+pub fn transfer(b: &Bounds, plan: &Plan, inst: &Inst, s: &State, loaded: &Val) -> State
+    requires values { AreValues b.now s.now.regs }
+    requires loaded { IsValue b.now loaded.now }
+    requires room { HasRoom b.now (shape_of inst.now) s.now }
+    ensures transfer { result ≡ transfer_of b.now plan.now (shape_of inst.now) s.now loaded.now }
+    ensures values { AreValues b.now result.regs }
+{
+    changed_state(s, &change_of(b, plan, shape(inst), s, loaded.copy()))
+}
+
+fn changed_regs(s: &State, c: &Change) -> [Val; 27]
+    ensures { result ≡ (state_after s.now c.now).regs }
+{
+    let _regs = &s.regs[..];
+    let any = Val::any();
+    let mut out = std::array::from_fn(|_| Val::any());
+    for i in 0..27 {
+        out[i] = changed_value(s, c, &any, i).copy();
+    }
+    out
+}
+
+/// The state that a change makes of another.
+pub fn changed_state(s: &State, c: &Change) -> State
+    ensures { result ≡ state_after s.now c.now }
+{
+    State {
+        regs: changed_regs(s, c),
+        ie: c.ie,
+        ccpn: c.ccpn,
+        lower: c.lower,
+        locals: copy_of(&c.locals),
+    }
+}
