@@ -1,5 +1,5 @@
 -- What covers a state covers it on a side of a branch, too, where the branch lowers no counter.
-use Rattle.std.proofs.Common.{◌≡◌, ℕ, ◌<◌, ◌∷◌, [], Bool, true, false, List, length, set, get_or, Option, Some, None, inl, inr, arith, refl, sym, subst, ap, ◌∙◌, eq-eqb, ◌==◌}
+use Rattle.std.proofs.Common.{◌≡◌, ℕ, ◌<◌, ◌∷◌, [], Bool, true, false, List, length, set, get_or, Option, Some, None, inl, inr, arith, refl, sym, subst, ◌∙◌, eq-eqb, ◌==◌}
 use Rattle.std.specs.Prelude.{IfSome}
 use Rattle.std.specs.List.{list_any}
 use Rattle.std.proofs.lemmas.Bool.{cases_Bool, eqb-true}
@@ -20,7 +20,7 @@ use Rattle.value_domain.proofs.CoverLaws.{cover_mono}
 use Rattle.vd_transfer.specs.Refinement.{holds, kept_left, kept_right, kept_both}
 use Rattle.value_domain.specs.Meets.{cover_some}
 use Rattle.vd_transfer.specs.Registers.{slot, set_at, value_at, reg_of, arg_of}
-use Rattle.vd_transfer.specs.Branches.{is_reg, set_arg, with_one, with_two, state_on_side, with_lowered_counter, refine_of}
+use Rattle.vd_transfer.specs.Branches.{is_reg, with_one, with_two, state_on_side, with_lowered_counter, refine_of}
 use Rattle.value_domain.proofs.MeetLaws.{among_filter}
 use Rattle.depth_cert.specs.Points.{find_point}
 use Rattle.depth_cert.specs.Nodes.{NodeData}

@@ -1,5 +1,5 @@
 -- What covers a state covers it changed, where each value that is put is below the state's own.
-use Rattle.std.proofs.Common.{◌≡◌, ℕ, ◌<◌, Bool, true, false, length, get_or, List, Option, Some, None, inl, inr, arith, refl, sym, subst, ap, ◌∙◌, eq-eqb, ◌==◌}
+use Rattle.std.proofs.Common.{◌≡◌, ℕ, ◌<◌, Bool, true, false, length, get_or, Option, Some, None, inl, inr, arith, refl, sym, subst, ap, ◌∙◌, eq-eqb, ◌==◌}
 use Rattle.std.specs.Prelude.{IfSome, IsSomeAnd}
 use Rattle.std.proofs.lemmas.Bool.{cases_Bool, eqb-true}
 use Rattle.value_domain.specs.declared.values.Val.{Val}

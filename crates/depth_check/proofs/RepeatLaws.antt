@@ -1,19 +1,20 @@
 -- Points that have the state of the one before.
-use Rattle.std.proofs.Common.{◌≡◌, ℕ, ◌+◌, ◌<◌, ◌≤◌, List, [], ◌∷◌, ◌++◌, length, get_or, map, drop, Option, Some, None, Bool, true, false, arith, refl, sym, ap, ◌∙◌, subst, eq-eqb, ◌==◌}
-use Rattle.std.specs.Prelude.{IsTrue, IsSome, IfSome, IsSomeAnd}
+use Rattle.std.proofs.Common.{◌≡◌, ℕ, ◌+◌, ◌<◌, List, [], ◌∷◌, ◌++◌, length, get_or, map, drop, Option, Some, None, Bool, arith, inl, inr, refl, sym, ap, ◌∙◌, subst, eq-eqb, ◌==◌}
+use Rattle.std.specs.Prelude.{IfSome, IsSomeAnd}
 use Rattle.std.specs.List.{find}
 use Rattle.std.specs.List.Sorted.{IsStrictlyIncreasing}
 use Rattle.std.proofs.lemmas.Bool.{lt-ltb, le-ltb}
-use Rattle.std.proofs.lemmas.List.{length-map, get_or-map}
+use Rattle.std.proofs.lemmas.List.{length-map, get_or-map, get_or_default}
 use Rattle.value_domain.specs.declared.states.State.{State}
 use Rattle.value_domain.specs.Limits.{Limits}
+use Rattle.value_domain.specs.Values.{any_val, IsValue}
 use Rattle.value_domain.specs.State.{AreValues, Covers, ImpliedBy}
 use Rattle.depth_cert.specs.declared.points.Point.{Point}
 use Rattle.depth_cert.specs.Points.{ArePoints, find_point}
 use Rattle.depth_cert.specs.Nodes.{NodeData}
 use Rattle.depth_cert.proofs.FindLaws.{non_decreasing, found}
 use Rattle.cfg_recover.specs.Accepting.{HasPoint}
-use Rattle.packed_cert.specs.Walks.{WalkData, RepeatsAt}
+use Rattle.packed_cert.specs.Walks.{WalkData, RepeatsAt, KeepsOthers}
 use Rattle.depth_check.proofs.WalkLaws.{stands_behind, split_more}
 
 -- ---- a state covers itself
@@ -58,20 +59,9 @@ repeats_covers node done before w p (Some a) s rising split step same h =
     let q : Point = record { addr = a; state = w.current } in
     subst (λ (t : State). HasPoint node a t) (sym same) (next_covers node done w.left (drop 1 w.left) p q rising (split ∙ ap (λ (l : List Point). done ++ l) step) h)
 
--- ---- its values are known
-head_same : (p t : Point) (ps ts : List Point) → p ∷ ps ≡ t ∷ ts → p ≡ t
-head_same p t ps ts e = ap (λ (l : List Point). get_or l 0 p) e
-
--- the first of these points has values of the plan
-abbrev pub FirstHasValues : Limits → List Point → Type 0
-FirstHasValues b left = (t : Point) (ts : List Point) → left ≡ t ∷ ts → AreValues b (t.state).regs
-
-pub repeats_known : (b : Limits) (w : WalkData) (r : Option ℕ) → AreValues b (w.current).regs → IfSome r (RepeatsAt w) → IfSome r (λ a. FirstHasValues b w.left)
-repeats_known b w None v h = tt
-repeats_known b w (Some a) v h = λ t ts e.
-    let q : Point = record { addr = a; state = w.current } in
-    subst (λ (z : Point). AreValues b (z.state).regs) (head_same q t (drop 1 w.left) ts (sym h ∙ e)) v
-
-pub known_here : (b : Limits) (said : Option ℕ) (left after : List Point) (p : Point) → IfSome said (λ a. FirstHasValues b left) → IsSome said → left ≡ p ∷ after → AreValues b (p.state).regs
-known_here b None left after p h some e = absurd (let f : false ≡ true = some in cc)
-known_here b (Some a) left after p h some e = h p after e
+-- ---- values that are known
+pub known_values : (b : Limits) (before : State) (w : WalkData) → KeepsOthers before w → AreValues b before.regs → AreValues b w.anew → AreValues b (w.current).regs
+known_values b before w kept own anew r lt = elim (kept r lt) [
+  | inl same ↦ subst (IsValue b) (sym same.1) (own r same.0)
+  | inr among ↦ subst (IsValue b) (get_or_default w.anew among.0 any_val _ among.1 ∙ among.2) (anew among.0 among.1)
+]

@@ -1,5 +1,6 @@
 // The first fault of a node.
-ghost use Rattle.std.specs.Prelude.{◌≡◌, ◌<◌, ◌^◌, ◌↔◌, IsTrue, IsSome, All, Contains, MatchOption};
+ghost use Rattle.std.specs.Prelude.{◌≡◌, ◌<◌, ◌^◌, ◌↔◌, IsTrue, All, Contains, MatchOption};
+ghost use Rattle.value_domain.specs.State.{AreValues};
 ghost use Rattle.cfg_recover.specs.Accepting.{limits_in, HoldsAtEntry, HoldsAtNode};
 ghost use Rattle.depth_check.specs.Finding.{IsWellNode};
 ghost use Rattle.depth_check.specs.NodeFaults as nodes;
@@ -14,7 +15,7 @@ use depth_cert::Node;
 use elf_image::Image;
 use packed_cert::PackedNode;
 use tcd_plan::Plan;
-use value_domain::{Bounds, State};
+use value_domain::{Bounds, State, Val};
 
 /// A rule that fails in a node, and the address of its place.
 #[derive(Clone, Copy)]
@@ -114,14 +115,11 @@ fn is_word(addr: u32)
     ensures { addr < 2 ^ 32 }
 {}
 
-/// Whether the point before said of this one that it has the same state.
-fn is_repeat(said: Option<u32>) -> bool
-    ensures { IsTrue result → IsSome said }
+/// Whether values are known to be the plan's: those of the point before are, and so are those that were read anew.
+fn are_known(b: &Bounds, before: bool, anew: &[Val]) -> bool
+    ensures { IsTrue result → IsTrue before × AreValues b.now anew.now }
 {
-    match said {
-        Some(_) => true,
-        None => false,
-    }
+    before && are_values(b, anew)
 }
 
 /// Whether the entries of some interrupts were asked for anew, so that what they depend on is worth keeping; where it isn't
@@ -131,8 +129,8 @@ fn is_worth_keeping(plan: &Plan, s: &State, again: bool) -> bool {
 }
 
 /// The same of a node on bytes: behind each point the next one is tried first, the entries of interrupts are asked for where
-/// more is asked than was asked for already, and where the next point has the same state its values are known and it covers
-/// the one at hand.
+/// more is asked than was asked for already, only values that differ from those there are asked for, and where the next point
+/// has the same state it covers the one at hand.
 fn packed_fault(
     b: &Bounds,
     image: &Image,
@@ -151,7 +149,7 @@ fn packed_fault(
     let mut walk = node.points();
     let mut next = 0usize;
     let mut asked = None;
-    let mut said = None;
+    let mut known = false;
     while let Some(addr) = walk.step() {
         is_word(addr);
         next = next.wrapping_add(1);
@@ -163,14 +161,14 @@ fn packed_fault(
             addr,
             state: s,
             again,
-            known: is_repeat(said),
+            known: are_known(b, known, walk.anew()),
             next: repeats,
         };
         let found = broken_by_point(b, image, plan, cert, &frame, here);
         if let Some(fault) = first_of(good, entry, addr, found) {
             return Some(fault);
         }
-        said = repeats;
+        known = true;
         if is_worth_keeping(plan, s, again) {
             asked = Some(Asked::at(s));
         }

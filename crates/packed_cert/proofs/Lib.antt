@@ -3,6 +3,7 @@ pub mod CertFinds
 pub mod NodeFinds
 pub mod NodeReads
 pub mod PointPlaces
+pub mod ReadAnew
 pub mod SameBytes
 pub mod SameStates
 pub mod SameWords

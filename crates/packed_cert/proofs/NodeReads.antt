@@ -1,5 +1,5 @@
 -- Nodes whose parts are left where they stand.
-use Rattle.std.proofs.Common.{◌≡◌, ℕ, ◌+◌, List, [], ◌∷◌, ◌++◌, length, map, sum_by, true, Result, Ok, Err, Option, Some, refl, sym, ap, ◌∙◌, arith}
+use Rattle.std.proofs.Common.{◌≡◌, ℕ, ◌+◌, List, [], ◌∷◌, ◌++◌, length, map, sum_by, true, Result, Ok, Err, OnOk, IfErr, Option, Some, refl, sym, ap, ◌∙◌, arith}
 use Rattle.std.proofs.lemmas.List.{map-append, length-map}
 use Rattle.std.proofs.lemmas.List.Sums.{sum_by-cons, sum_by-append}
 use Rattle.tcd_base.specs.declared.errors.FormErr.{FormErr}
@@ -35,6 +35,12 @@ exit_never version bytes x f c there h read = never f h.0 (sym (ap (exit_at vers
   where
     never : (f : FormErr) (y : Exit × Place) → ◌≡◌ {A = Result (Exit × Place) FormErr} (Err f) (Ok y) → ⊥
     never f y g = cc
+
+-- the exit that was read into its place is the one that stands there
+pub whole_exit : {A : Type 0} (version : ℕ) (bytes : List ℕ) (x : ℕ) (r : Result A FormErr) (e : Exit) (c d : Place) → c ≡ at bytes x → HasExit version bytes x
+    → OnOk r (exit_at version c ≡ Ok (e, d)) → IfErr r (λ f. exit_at version c ≡ Err f) → e ≡ exit_in version bytes x
+whole_exit {A} version bytes x (Ok n) e c d there h ok err = exit_whole version bytes x e d c there ok
+whole_exit {A} version bytes x (Err f) e c d there h ok err = absurd (exit_never version bytes x f c there h err)
 
 -- a node's exit, left where it stands
 pub exits_some : (version kind : ℕ) (bytes : List ℕ) (p q r : Place) (x : ℕ) (e : Exit) → q.bytes ≡ bytes → x ≡ q.place → has_exit_at kind p ≡ Ok (true, q) → exit_at version q ≡ Ok (e, r)

@@ -19,12 +19,12 @@ use Rattle.packed_cert.proofs.SameBytes.{Small, values_stand}
 
 -- the values that were read stand where they were read
 pub read_stand : (version n : ℕ) (bytes : List ℕ) (c : Place) (vs : List Val) (q : Place) (x : ℕ) → Small bytes → c.bytes ≡ bytes → x ≡ c.place → x ≤ length bytes → values_at version n c ≡ Ok (vs, q)
-    → (x ≤ length bytes) × Stand version bytes x vs
+    → (x ≤ length bytes) × Stand version bytes x vs q.place
 unfolding values_at
 read_stand version n bytes c vs q x small b p h e =
     let there : at bytes x ≡ c = ap (λ (k : ℕ). at bytes k) p ∙ ap (λ (l : List ℕ). at l c.place) (sym b) in
     let s = values_stand version bytes n x [] vs q small h (ap (values_at version n) there ∙ e) in
-    (h, subst (Stand version bytes x) (sym s.is) s.stand)
+    (h, subst (λ (l : List Val). Stand version bytes x l q.place) (sym s.is) s.stand)
 
 -- so does the state
 pub state_read : (version : ℕ) (bytes : List ℕ) (c : Place) (x : ℕ) (s : State) (q : Place) → c.bytes ≡ bytes → x ≡ c.place → state_at version c ≡ Ok (s, q) → (state_in version bytes x ≡ s) × HasState version bytes x

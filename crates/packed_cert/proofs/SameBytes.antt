@@ -1,5 +1,5 @@
 -- Bytes that stand at two places are read alike.
-use Rattle.std.proofs.Common.{◌≡◌, ℕ, zero, suc, ◌+◌, ◌-◌, ◌*◌, ◌<◌, ◌≤◌, ◌^◌, List, [], ◌∷◌, ◌++◌, length, get_or, take, drop, true, false, Ok, Result, cond, refl, sym, ap, ◌∙◌, subst, arith, append_assoc, length-append, eqb, leb}
+use Rattle.std.proofs.Common.{◌≡◌, ℕ, zero, suc, ◌+◌, ◌-◌, ◌*◌, ◌<◌, ◌≤◌, ◌^◌, List, [], ◌∷◌, ◌++◌, length, get_or, take, drop, true, false, Ok, Result, cond, refl, sym, ap, ◌∙◌, subst, arith, append_assoc, length-append, length-drop, eqb, leb}
 use Rattle.std.proofs.lemmas.Bool.{le-leb, lt-leb, ne_eqb}
 use Rattle.std.proofs.lemmas.List.{append-nil, take-append-drop, take-take, drop-drop, drop-take, length-take, get_or-drop, drop_more}
 use Rattle.std.proofs.Math.Seq.{take-append_seam}
@@ -7,6 +7,7 @@ use Rattle.std.specs.List.{flat_map}
 use Rattle.tcd_base.specs.declared.errors.FormErr.{FormErr}
 use Rattle.tcd_base.specs.Bytes.{bytes_of_word}
 use Rattle.tcd_base.specs.Place.{Place, place_between}
+use Rattle.tcd_base.specs.Reading.{◌>>=◌}
 use Rattle.tcd_base.proofs.FieldReads.{bind_ok}
 use Rattle.value_domain.specs.declared.values.Val.{Val}
 use Rattle.value_domain.specs.declared.values.Val.TheVariants.{Set, Span}
@@ -108,18 +109,18 @@ value_stands version bytes x v q small h e =
     first (x ∷ xs) ys h = refl
 
 -- ---- many values
-pub record AreValuesAt (version : ℕ) (bytes : List ℕ) (x n : ℕ) (before vs : List Val) : Type 0 where
+pub record AreValuesAt (version : ℕ) (bytes : List ℕ) (x n : ℕ) (before vs : List Val) (end : ℕ) : Type 0 where
   pub values : List Val
   pub is : vs ≡ before ++ values
   pub count : length values ≡ n
-  pub stand : Stand version bytes x values
+  pub stand : Stand version bytes x values end
 
 pub values_stand : (version : ℕ) (bytes : List ℕ) (n x : ℕ) (before vs : List Val) (q : Place) → Small bytes → x ≤ length bytes
-    → many_at (λ before. value_at version) n before (at bytes x) ≡ Ok (vs, q) → AreValuesAt version bytes x n before vs
+    → many_at (λ before. value_at version) n before (at bytes x) ≡ Ok (vs, q) → AreValuesAt version bytes x n before vs q.place
 unfolding many_at
 values_stand version bytes zero x before vs q small h e =
     let same = ok_pair before vs (at bytes x) q e in
-    record { values = []; is = sym same.0 ∙ sym (append-nil before); count = refl; stand = tt }
+    record { values = []; is = sym same.0 ∙ sym (append-nil before); count = refl; stand = ap (λ (p : Place). p.place) same.1 }
 values_stand version bytes (suc n) x before vs q small h e =
     let b = bind_ok (value_at version (at bytes x)) _ _ e in
     let one = value_stands version bytes x b.0.0 b.0.1 small h b.1 in
@@ -132,9 +133,13 @@ values_stand version bytes (suc n) x before vs q small h e =
       stand = (b.1 ∙ ap (λ (p : Place). let r : Result (Val × Place) FormErr = Ok (b.0.0, p) in r) one.end, more.stand);
     }
 
-pub stand_next : (version : ℕ) (bytes : List ℕ) (b i : ℕ) (out : List Val) → i < length out → Stand version bytes b (drop i out)
-    → (value_at version (at bytes b) ≡ Ok (get_or out i any_val, at bytes (behind bytes b))) × Stand version bytes (behind bytes b) (drop (i + 1) out)
-stand_next version bytes b i out h s = subst (Stand version bytes b) (drop_more out i any_val h) s
+pub stand_next : (version : ℕ) (bytes : List ℕ) (b i e : ℕ) (out : List Val) → i < length out → Stand version bytes b (drop i out) e
+    → (value_at version (at bytes b) ≡ Ok (get_or out i any_val, at bytes (behind bytes b))) × Stand version bytes (behind bytes b) (drop (i + 1) out) e
+stand_next version bytes b i e out h s = subst (λ (vs : List Val). Stand version bytes b vs e) (drop_more out i any_val h) s
+
+pub stand_order : (version : ℕ) (bytes : List ℕ) (x e : ℕ) (vs : List Val) → Stand version bytes x vs e → x ≤ e
+stand_order version bytes x e [] s = let same : x ≡ e = s in omega arith
+stand_order version bytes x e (v ∷ vs) s = let more : behind bytes x ≤ e = stand_order version bytes (behind bytes x) e vs s.1 in omega arith
 
 -- ---- fewer of the bytes that stand alike, and those behind them
 pub alike_fewer : (bytes : List ℕ) (x y n k : ℕ) → n ≤ k → StandAlike bytes x y k → StandAlike bytes x y n
@@ -158,3 +163,39 @@ alike_read version bytes x y n k v q small h e len few room same =
     let part = alike_fewer bytes x y n k few same in
     let within : y + n ≤ length bytes = omega arith in
     rw len (s.same y (rw (← len) within) (rw (← len) part))
+
+-- where all bytes of values stand alike, all of them are read there
+pub rest_read : (version : ℕ) (bytes : List ℕ) (x y e : ℕ) (before vs : List Val) → Small bytes → x ≤ length bytes → Stand version bytes x vs e → y + (e - x) ≤ length bytes → StandAlike bytes x y (e - x)
+    → many_at (λ before. value_at version) (length vs) before (at bytes y) ≡ Ok (before ++ vs, at bytes (y + (e - x)))
+unfolding many_at
+rest_read version bytes x y e before [] small h s room same =
+    let end : y ≡ y + (e - x) = let is : x ≡ e = s in omega arith in
+    ap (λ (l : List Val). let r : Result (List Val × Place) FormErr = Ok (l, at bytes y) in r) (sym (append-nil before))
+    ∙ ap (λ (k : ℕ). let r : Result (List Val × Place) FormErr = Ok (before ++ [], at bytes k) in r) end
+rest_read version bytes x y e before (v ∷ vs) small h s room same =
+    let n : ℕ = length_by (get_or bytes x 0) in
+    let one = value_stands version bytes x v _ small h s.0 in
+    let order : x + n ≤ e = stand_order version bytes (behind bytes x) e vs s.1 in
+    let few : n ≤ e - x = omega arith in
+    let read = alike_read version bytes x y n (e - x) v _ small h s.0 refl few room same in
+    let left : e - x - n ≡ e - (x + n) = omega arith in
+    let rest : StandAlike bytes (x + n) (y + n) (e - (x + n)) = subst (λ (k : ℕ). StandAlike bytes (x + n) (y + n) k) left (alike_behind bytes x y n (e - x) few same) in
+    let more = rest_read version bytes (x + n) (y + n) e (before ++ v ∷ []) vs small one.within s.1 (omega arith) rest in
+    let end : y + n + (e - (x + n)) ≡ y + (e - x) = omega arith in
+    ap (λ (r : Result (Val × Place) FormErr). r >>= λ x. many_at (λ before. value_at version) (length vs) (before ++ x.0 ∷ []) x.1) read
+    ∙ more
+    ∙ ap (λ (l : List Val). let r : Result (List Val × Place) FormErr = Ok (l, at bytes (y + n + (e - (x + n)))) in r) (append_assoc before (v ∷ []) vs)
+    ∙ ap (λ (k : ℕ). let r : Result (List Val × Place) FormErr = Ok (before ++ v ∷ vs, at bytes k) in r) end
+
+-- so where all bytes behind the first values stand alike, all values are read
+pub all_read : (version n i x y stop e : ℕ) (bytes : List ℕ) (out : List Val) (c : Place) → Small bytes → stop ≡ e → x ≤ stop → stop ≤ length bytes → length out ≡ n → Stand version bytes x (drop i out) e
+    → y + (stop - x) ≤ length bytes → StandAlike bytes x y (stop - x) → many_at (λ before. value_at version) n [] c ≡ many_at (λ before. value_at version) (n - i) (take i out) (at bytes y)
+    → many_at (λ before. value_at version) n [] c ≡ Ok (out, at bytes (y + (stop - x)))
+all_read version n i x y stop e bytes out c small is order within count stand room same read =
+    let there : Stand version bytes x (drop i out) stop = subst (λ (k : ℕ). Stand version bytes x (drop i out) k) (sym is) stand in
+    let rest = rest_read version bytes x y stop (take i out) (drop i out) small (omega arith) there room same in
+    let left : n - i ≡ length (drop i out) = omega (arith, length-drop i out) in
+    read
+    ∙ ap (λ (k : ℕ). many_at (λ before. value_at version) k (take i out) (at bytes y)) left
+    ∙ rest
+    ∙ ap (λ (l : List Val). let r : Result (List Val × Place) FormErr = Ok (l, at bytes (y + (stop - x))) in r) (take-append-drop i out)

@@ -73,11 +73,11 @@ flags_took (suc n) before ls p q h e =
     }
 
 -- values that stand are those that are computed
-stand_in : (version : ℕ) (bytes : List ℕ) (vs : List Val) (x : ℕ) → Small bytes → x ≤ length bytes → Stand version bytes x vs → (vs ≡ values_in version bytes x (length vs)) × HaveValues version bytes x (length vs)
-stand_in version bytes [] x small h s = (refl, tt)
-stand_in version bytes (v ∷ vs) x small h s =
+stand_in : (version : ℕ) (bytes : List ℕ) (vs : List Val) (x e : ℕ) → Small bytes → x ≤ length bytes → Stand version bytes x vs e → (vs ≡ values_in version bytes x (length vs)) × HaveValues version bytes x (length vs)
+stand_in version bytes [] x e small h s = (refl, tt)
+stand_in version bytes (v ∷ vs) x e small h s =
     let one = value_stands version bytes x v _ small h s.0 in
-    let rest = stand_in version bytes vs (behind bytes x) small one.within s.1 in
+    let rest = stand_in version bytes vs (behind bytes x) e small one.within s.1 in
     let first : value_in version bytes x ≡ v = ap (read_or any_val) s.0 in
     (ap (λ (u : Val). u ∷ vs) (sym first) ∙ ap (λ (l : List Val). value_in version bytes x ∷ l) rest.0, (((v, at bytes (behind bytes x)), s.0, h), rest.1))
 
@@ -135,7 +135,7 @@ unfolding values_at
 values_here version n bytes c x vs q small b p h e =
     let there : at bytes x ≡ c = ap (λ (k : ℕ). at bytes k) (sym p) ∙ ap (λ (l : List ℕ). at l c.place) (sym b) in
     let v = values_stand version bytes n x [] vs q small h (ap (many_at (λ before. value_at version) n []) there ∙ e) in
-    let i = stand_in version bytes v.values x small h v.stand in
+    let i = stand_in version bytes v.values x _ small h v.stand in
     (v.is ∙ i.0 ∙ ap (values_in version bytes x) v.count, subst (HaveValues version bytes x) v.count i.1)
 
 -- the byte that was taken, by where it stands

@@ -1,10 +1,16 @@
 -- One step of a walk over points.
-use Rattle.std.proofs.Common.{◌≡◌, ℕ, ◌+◌, ◌<◌, ◌≤◌, List, [], ◌∷◌, length, get_or, drop, sym, ap, ◌∙◌}
-use Rattle.std.proofs.lemmas.List.{drop_more, drop_all}
+use Rattle.std.proofs.Common.{◌≡◌, ℕ, ◌+◌, ◌-◌, ◌<◌, ◌≤◌, inl, inr, List, [], ◌∷◌, length, get_or, take, drop, sym, ap, ◌∙◌, arith, length-take, length-drop}
+use Rattle.std.proofs.lemmas.Bool.{cases_lt}
+use Rattle.std.proofs.lemmas.List.{drop_more, drop_all, get_or-take, get_or-drop, get_or_default}
+use Rattle.value_domain.specs.declared.values.Val.{Val}
+use Rattle.value_domain.specs.Values.{any_val}
 use Rattle.value_domain.specs.declared.states.State.{State}
 use Rattle.depth_cert.specs.declared.points.Point.{Point}
 use Rattle.packed_cert.specs.declared.packed_points.PackedPoint.{PackedPoint}
+use Rattle.packed_cert.specs.declared.state_places.Anew.{Anew}
+use Rattle.packed_cert.specs.Standing.{AreAnew}
 use Rattle.packed_cert.specs.Points.{state_in, points_in}
+use Rattle.packed_cert.specs.Walks.{KeepsOthers}
 
 -- the first of the points that are left
 pub first_left : (version : ℕ) (bytes : List ℕ) (ps : List PackedPoint) (i : ℕ) (d : PackedPoint) (s : State) → i < length ps → s ≡ state_in version bytes (get_or ps i d).place
@@ -16,3 +22,24 @@ first_left version bytes ps i d s h e =
 -- behind the last of them
 pub none_left : (version : ℕ) (bytes : List ℕ) (ps : List PackedPoint) (i : ℕ) → length ps ≤ i → points_in version bytes (drop i ps) ≡ []
 none_left version bytes ps i h = ap (points_in version bytes) (drop_all i ps h)
+
+-- ---- values that were read anew
+pub keeps_others : (before after : State) (anew : Anew) (left : List Point) → AreAnew before.regs after.regs anew → KeepsOthers before (record { current = after; anew = take (anew.behind - anew.first) (drop anew.first after.regs); left = left })
+keeps_others before after anew left h r lt = elim (cases_lt r anew.first) [
+  | inl low ↦ inl (omega (arith, h.count), h.kept r (omega (arith, h.count)) (inl low))
+  | inr from ↦
+      elim (cases_lt r anew.behind) [
+        | inl within ↦
+            let x : Val = get_or after.regs r any_val in
+            let k : ℕ = r - anew.first in
+            let there : anew.first + k ≡ r = omega arith in
+            let read : get_or (take (anew.behind - anew.first) (drop anew.first after.regs)) k x ≡ x =
+            get_or-take (anew.behind - anew.first) (drop anew.first after.regs) k x (omega arith)
+            ∙ get_or-drop anew.first after.regs k x
+            ∙ ap (λ (j : ℕ). get_or after.regs j x) there
+            ∙ get_or_default after.regs r x any_val lt
+            in
+            inr (k, omega (arith, length-take (anew.behind - anew.first) (drop anew.first after.regs), length-drop anew.first after.regs, h.within, h.count), read)
+        | inr behind ↦ inl (omega (arith, h.count), h.kept r (omega (arith, h.count)) (inr behind))
+      ]
+]

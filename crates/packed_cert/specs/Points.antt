@@ -45,4 +45,4 @@ pub record StandsAt (version : ℕ) (bytes : List ℕ) (s : State) (p : StatePla
   pub order : p.start ≤ p.end
   pub within : p.end ≤ length bytes
   pub read : state_at version (at bytes p.start) ≡ Ok (s, at bytes p.end)
-  pub values : StandFrom version bytes s.regs p.values
+  pub values : StandFrom version bytes s.regs p.values p.end

@@ -1,9 +1,11 @@
 -- Values where they stand in bytes.
-use Rattle.std.specs.Prelude.{◌≡◌, ◌≤◌, ◌+◌, ◌*◌, ◌==◌, nat_le, if◌then◌else◌, ℕ, zero, suc, Bool, List, [], ◌∷◌, length, take, drop, slice_index, Ok}
+use Rattle.std.specs.Prelude.{◌≡◌, ◌≤◌, ◌<◌, ◌⊎◌, slice_index_or, ◌+◌, ◌*◌, ◌==◌, nat_le, if◌then◌else◌, ℕ, zero, suc, Bool, List, [], ◌∷◌, length, take, drop, slice_index, Ok}
 use Rattle.tcd_base.specs.Bytes.{word_at}
 use Rattle.tcd_base.specs.Place.{Place}
 use Rattle.value_domain.specs.declared.values.Val.{Val}
+use Rattle.value_domain.specs.Values.{any_val}
 use Rattle.depth_cert.specs.Grammar.{value_at}
+use Rattle.packed_cert.specs.declared.state_places.Anew.{Anew}
 
 -- a place in bytes
 abbrev pub at : List ℕ → ℕ → Place
@@ -22,14 +24,14 @@ abbrev pub flags_in : List ℕ → ℕ → ℕ → List Bool
 flags_in bytes place zero = []
 flags_in bytes place (suc n) = (slice_index bytes place == 1) ∷ flags_in bytes (place + 1) n
 
--- these values stand one after another from a place on
-abbrev pub Stand : ℕ → List ℕ → ℕ → List Val → Type 0
-Stand version bytes place [] = Unit {0}
-Stand version bytes place (v ∷ vs) = (value_at version (at bytes place) ≡ Ok (v, at bytes (behind bytes place))) × Stand version bytes (behind bytes place) vs
+-- these values stand one after another from a place to another
+abbrev pub Stand : ℕ → List ℕ → ℕ → List Val → ℕ → Type 0
+Stand version bytes place [] end = place ≡ end
+Stand version bytes place (v ∷ vs) end = (value_at version (at bytes place) ≡ Ok (v, at bytes (behind bytes place))) × Stand version bytes (behind bytes place) vs end
 
 -- they stand from a place in the bytes on
-abbrev pub StandFrom : ℕ → List ℕ → List Val → ℕ → Type 0
-StandFrom version bytes vs x = (x ≤ length bytes) × Stand version bytes x vs
+abbrev pub StandFrom : ℕ → List ℕ → List Val → ℕ → ℕ → Type 0
+StandFrom version bytes vs x end = (x ≤ length bytes) × Stand version bytes x vs end
 
 -- the eight bytes from a place on, as a number
 abbrev pub eight_at : List ℕ → ℕ → ℕ
@@ -43,3 +45,16 @@ StandAlike bytes x y n = take n (drop x bytes) ≡ take n (drop y bytes)
 abbrev pub MovedOver : List ℕ → ℕ → ℕ → Place → Place → Type 0
 MovedOver bytes x n before after =
     (after ≡ record before { place = before.place + n }) × (before.place + n ≤ length bytes) × (take n (drop x bytes) ≡ take n (drop before.place bytes))
+
+-- the values that were read anew, of as many as there were before: the others are those of the same places before
+pub record AreAnew (before after : List Val) (anew : Anew) : Type 0 where
+  pub count : length after ≡ length before
+  pub order : anew.first ≤ anew.behind
+  pub within : anew.behind ≤ length before
+  pub kept : (k : ℕ) → k < length before → (k < anew.first) ⊎ (anew.behind ≤ k) → slice_index_or after k any_val ≡ slice_index_or before k any_val
+
+-- one more was read, at a place behind them
+pub record IsWithRead (anew : Anew) (place : ℕ) (more : Anew) : Type 0 where
+  pub first : more.first ≤ place
+  pub behind : more.behind ≡ place + 1
+  pub others : (k : ℕ) → (k < more.first) ⊎ (more.behind ≤ k) → ((k < anew.first) ⊎ (anew.behind ≤ k)) × (k ≡ place → ⊥)

@@ -37,6 +37,9 @@ fn first_from(bytes: &[u8], place: usize, n: usize, k: usize, x: u32) -> usize
     ensures below { (j : ℕ) → k ≤ j → j < result → word_at bytes.now (place + 4 * j) < x }
     ensures reached { result < n → x ≤ word_at bytes.now (place + 4 * result) }
 {
+    if k < n && word(bytes, place + 4 * k) == x {
+        return k;
+    }
     let mut at = k;
     while at < n && word(bytes, place + 4 * at) < x {
         at += 1;

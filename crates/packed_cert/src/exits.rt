@@ -1,10 +1,11 @@
 // Exits where they stand in bytes.
-ghost use Rattle.std.specs.Prelude.{◌≡◌, ◌≤◌, ◌^◌, length};
+ghost use Rattle.std.specs.Prelude.{◌≡◌, ◌≤◌, ◌^◌, length, Ok, Err, OnOk, IfErr};
+ghost use Rattle.depth_cert.specs.Grammar.{exit_at};
 ghost use Rattle.packed_cert.specs.Nodes.{exit_in, HasExit};
 
-use depth_cert::{Exit, read_exit};
+use depth_cert::{Exit, read_flag, read_values};
 use std::marker::Model;
-use tcd_base::Cursor;
+use tcd_base::{Cursor, FormErr, read_u8};
 use value_domain::Val;
 
 /// An exit where it stands in bytes.
@@ -60,11 +61,23 @@ impl<'a> ExitAt<'a> {
     {
         let mut c = Cursor::new(self.bytes);
         let _front = c.take(self.place);
-        match read_exit(&mut c, self.version) {
-            Ok(exit) => exit,
-            Err(_) => no_exit(),
-        }
+        let mut exit = no_exit();
+        let _read = read_into(&mut c, self.version, &mut exit);
+        exit
     }
+}
+
+/// Reads an exit into its place.
+#[tactic(auto, unfolding(depth_cert::specs::Grammar::exit_at))]
+fn read_into(c: &mut Cursor<'_>, version: u8, out: &mut Exit) -> Result<(), FormErr>
+    requires { length c.old.bytes ≤ 2 ^ 30 }
+    ensures ok { OnOk result (exit_at version c.old ≡ Ok (out.new, c.new)) }
+    ensures err { IfErr result (λ e. exit_at version c.old ≡ Err e) }
+{
+    out.ie = read_flag(c)?;
+    out.ccpn = read_u8(c)?;
+    read_values(c, version, &mut out.lower)?;
+    Ok(())
 }
 
 /// An exit of which nothing is known.

@@ -5,11 +5,11 @@ ghost use Rattle.tcd_base.specs.Reading.{Reads};
 ghost use Rattle.depth_cert.specs.Grammar.{values_at, state_at, address_after, points_at, is_above};
 ghost use Rattle.depth_cert.specs.Answers.{IsFaultOf};
 ghost use Rattle.std.specs.List.Sorted.{IsStrictlyIncreasing};
-ghost use Rattle.packed_cert.specs.Standing.{StandFrom};
+ghost use Rattle.packed_cert.specs.Standing.{StandFrom, AreAnew};
 ghost use Rattle.packed_cert.specs.Points.{HasState, StandsAt, points_in};
 
 use crate::packed_points::PackedPoint;
-use crate::state_places::StatePlaces;
+use crate::state_places::{Anew, ReadState, StatePlaces};
 use crate::values_after::{passes, read_values_after};
 use arrayvec::ArrayVec;
 use depth_cert::{CertErr, fault, read_flag, read_locals, read_point_count, read_values};
@@ -17,29 +17,50 @@ use std::alloc::Global;
 use tcd_base::{Cursor, FormErr, read_u8, read_u32};
 use value_domain::{State, Val};
 
-/// Reads values; where some stand at places of a state, they lie in `out` already.
+/// Reads values; where some stand at places of a state, they lie in `out` already. Tells which were
+/// read.
 fn read_values_like(
     c: &mut Cursor<'_>,
     bytes: &[u8],
     version: u8,
     before: Option<StatePlaces>,
     out: &mut [Val],
-) -> Result<(), FormErr>
+) -> Result<Anew, FormErr>
     requires short { length c.old.bytes ≤ 2 ^ 30 }
     requires same { c.old.bytes ≡ bytes.now }
-    requires held { IfSome before (λ p. StandFrom version bytes.now out.old p.values) }
+    requires held { IfSome before
+        (λ p. StandFrom version bytes.now out.old p.values p.end) }
     ensures ok { OnOk result (values_at version (length out.old) c.old ≡ Ok (out.new, c.new)) }
     ensures err { IfErr result (λ e. values_at version (length out.old) c.old ≡ Err e) }
+    ensures anew { IfOk result (AreAnew out.old out.new) }
     ensures bytes { c.new.bytes ≡ c.old.bytes }
 {
     match before {
         Some(at) => read_values_after(c, bytes, version, at, out),
-        None => read_values(c, version, out),
+        None => read_all(c, version, out),
+    }
+}
+
+/// Reads values, all anew.
+fn read_all(c: &mut Cursor<'_>, version: u8, out: &mut [Val]) -> Result<Anew, FormErr>
+    requires { length c.old.bytes ≤ 2 ^ 30 }
+    ensures ok { OnOk result (values_at version (length out.old) c.old ≡ Ok (out.new, c.new)) }
+    ensures err { IfErr result (λ e. values_at version (length out.old) c.old ≡ Err e) }
+    ensures anew { IfOk result (AreAnew out.old out.new) }
+    ensures bytes { c.new.bytes ≡ c.old.bytes }
+{
+    let count = out.len();
+    match read_values(c, version, out) {
+        Ok(_) => Ok(Anew {
+            first: 0,
+            behind: count,
+        }),
+        Err(e) => Err(e),
     }
 }
 
 /// Reads the fields of a state; where the values of `out` stand at places of their own, those that
-/// stand alike aren't read. Gives the place of the values.
+/// stand alike aren't read. Gives the place of the values, and which were read.
 #[tactic(auto, unfolding(depth_cert::specs::Grammar::state_at))]
 fn read_state_fields(
     c: &mut Cursor<'_>,
@@ -47,13 +68,16 @@ fn read_state_fields(
     version: u8,
     before: Option<StatePlaces>,
     out: &mut State,
-) -> Result<usize, FormErr>
+) -> Result<(usize, Anew), FormErr>
     requires short { length c.old.bytes ≤ 2 ^ 30 }
     requires same { c.old.bytes ≡ bytes.now }
-    requires held { IfSome before (λ p. StandFrom version bytes.now out.old.regs p.values) }
+    requires held { IfSome before
+        (λ p. StandFrom version bytes.now out.old.regs p.values p.end) }
     ensures ok { OnOk result (state_at version c.old ≡ Ok (out.new, c.new)) }
     ensures err { IfErr result (λ e. state_at version c.old ≡ Err e) }
-    ensures held { IfOk result (StandFrom version bytes.now out.new.regs) }
+    ensures held { IfOk result
+        (λ r. StandFrom version bytes.now out.new.regs r.0 c.new.place) }
+    ensures anew { IfOk result (λ r. AreAnew out.old.regs out.new.regs r.1) }
     ensures bytes { c.new.bytes ≡ c.old.bytes }
 {
     out.ie = read_flag(c)?;
@@ -61,13 +85,42 @@ fn read_state_fields(
     out.lower = read_flag(c)?;
     out.locals = read_locals(c, version)?;
     let at = c.place();
-    read_values_like(c, bytes, version, before, &mut out.regs)?;
-    Ok(at)
+    let anew = read_values_like(c, bytes, version, before, &mut out.regs)?;
+    Ok((at, anew))
 }
 
 /// Reads a state into a place, which may hold one whose values stand at places of their own; gives
-/// the places of what was read.
+/// the places of what was read, and which values were read anew.
 pub(crate) fn read_state_after(
+    c: &mut Cursor<'_>,
+    bytes: &[u8],
+    version: u8,
+    before: Option<StatePlaces>,
+    out: &mut State,
+) -> Result<ReadState, FormErr>
+    requires short { length c.old.bytes ≤ 2 ^ 30 }
+    requires same { c.old.bytes ≡ bytes.now }
+    requires held { IfSome before
+        (λ p. StandFrom version bytes.now out.old.regs p.values p.end) }
+    ensures ok { OnOk result (state_at version c.old ≡ Ok (out.new, c.new)) }
+    ensures err { IfErr result (λ e. state_at version c.old ≡ Err e) }
+    ensures held { IfOk result (λ r. StandsAt version bytes.now out.new r.at) }
+    ensures anew { IfOk result (λ r. AreAnew out.old.regs out.new.regs r.anew) }
+    ensures bytes { c.new.bytes ≡ c.old.bytes }
+{
+    let start = c.place();
+    let fields = read_state_fields(c, bytes, version, before, out)?;
+    let end = c.place();
+    let at = StatePlaces {
+        start,
+        values: fields.0,
+        end,
+    };
+    Ok(ReadState { at, anew: fields.1 })
+}
+
+/// The same, where only the places are asked for.
+fn read_state_at(
     c: &mut Cursor<'_>,
     bytes: &[u8],
     version: u8,
@@ -76,16 +129,17 @@ pub(crate) fn read_state_after(
 ) -> Result<StatePlaces, FormErr>
     requires short { length c.old.bytes ≤ 2 ^ 30 }
     requires same { c.old.bytes ≡ bytes.now }
-    requires held { IfSome before (λ p. StandFrom version bytes.now out.old.regs p.values) }
+    requires held { IfSome before
+        (λ p. StandFrom version bytes.now out.old.regs p.values p.end) }
     ensures ok { OnOk result (state_at version c.old ≡ Ok (out.new, c.new)) }
     ensures err { IfErr result (λ e. state_at version c.old ≡ Err e) }
     ensures held { IfOk result (StandsAt version bytes.now out.new) }
     ensures bytes { c.new.bytes ≡ c.old.bytes }
 {
-    let start = c.place();
-    let values = read_state_fields(c, bytes, version, before, out)?;
-    let end = c.place();
-    Ok(StatePlaces { start, values, end })
+    match read_state_after(c, bytes, version, before, out) {
+        Ok(read) => Ok(read.at),
+        Err(e) => Err(e),
+    }
 }
 
 /// Reads a state into a place, which may hold one that stands elsewhere: where the same bytes come
@@ -106,12 +160,12 @@ pub(crate) fn read_state_like(
     ensures bytes { c.new.bytes ≡ c.old.bytes }
 {
     let Some(at) = before else {
-        return read_state_after(c, bytes, version, None, out);
+        return read_state_at(c, bytes, version, None, out);
     };
     if passes(c, bytes, at.start, at.end - at.start) {
         return Ok(at);
     }
-    read_state_after(c, bytes, version, Some(at), out)
+    read_state_at(c, bytes, version, Some(at), out)
 }
 
 /// A state of which nothing is known.

@@ -75,6 +75,20 @@ fn same_from(bytes: &[u8], x: usize, y: usize, from: usize, n: usize) -> usize
     i
 }
 
+/// Whether the last eight of these bytes stand alike, behind `from` of which that is known.
+#[inline(always)]
+fn ends_alike(bytes: &[u8], x: usize, y: usize, from: usize, n: usize) -> bool
+    requires first { x + n ≤ length bytes.now }
+    requires second { y + n ≤ length bytes.now }
+    requires same { StandAlike bytes.now x y from }
+    ensures { IsTrue result → StandAlike bytes.now x y n }
+{
+    if n < 8 || n - 8 > from {
+        return false;
+    }
+    is_same_eight(bytes, x + (n - 8), y + (n - 8))
+}
+
 /// How many of these bytes stand alike at two places: eight at a time, then byte by byte.
 pub(crate) fn count_same(bytes: &[u8], x: usize, y: usize, n: usize) -> usize
     requires first { x + n ≤ length bytes.now }
@@ -83,6 +97,9 @@ pub(crate) fn count_same(bytes: &[u8], x: usize, y: usize, n: usize) -> usize
     ensures same { StandAlike bytes.now x y result }
 {
     let from = same_eights(bytes, x, y, n);
+    if ends_alike(bytes, x, y, from, n) {
+        return n;
+    }
     same_from(bytes, x, y, from, n)
 }
 

@@ -1,11 +1,11 @@
 // Values read where others like them were read before.
-ghost use Rattle.std.specs.Prelude.{◌≡◌, ◌≤◌, ◌+◌, ◌^◌, IsTrue, IsFalse, length, Ok, Err, OnOk, IfErr};
-ghost use Rattle.packed_cert.specs.Standing.{StandFrom, MovedOver};
+ghost use Rattle.std.specs.Prelude.{◌≡◌, ◌≤◌, ◌<◌, ◌+◌, ◌^◌, IsTrue, IsFalse, length, Ok, Err, OnOk, IfOk, IfErr};
+ghost use Rattle.packed_cert.specs.Standing.{StandFrom, MovedOver, AreAnew, IsWithRead};
 ghost use Rattle.packed_cert.specs.Standing as standing;
 ghost use Rattle.depth_cert.specs.Grammar.{values_at};
 
 use crate::same_bytes::{are_same, count_same_before};
-use crate::state_places::StatePlaces;
+use crate::state_places::{Anew, StatePlaces};
 use depth_cert::read_value;
 use tcd_base::{Cursor, FormErr};
 use value_domain::Val;
@@ -15,13 +15,7 @@ use value_domain::Val;
 pub(crate) fn length_by(tag: u8) -> usize
     ensures { result ≡ standing.length_by tag }
 {
-    if tag == 0 {
-        1
-    } else if tag <= 128 {
-        1 + 4 * tag as usize
-    } else {
-        9
-    }
+    if tag <= 128 { 1 + 4 * tag as usize } else { 9 }
 }
 
 /// Whether the bytes from `x` on stand at the cursor, too, which then moves past them.
@@ -49,39 +43,72 @@ fn move_to(c: &mut Cursor<'_>, place: usize)
     let _passed = c.take(n);
 }
 
+/// No value was read anew.
+pub(crate) fn none_anew() -> Anew
+    ensures { result ≡ record { first = 0; behind = 0 } }
+{
+    Anew {
+        first: 0,
+        behind: 0,
+    }
+}
+
+/// With the value at a place that is behind those that were read anew.
+fn with_read(anew: Anew, place: usize) -> Anew
+    requires order { anew.first ≤ anew.behind }
+    requires behind { anew.behind ≤ place }
+    requires place { place + 1 < 2 ^ 64 }
+    ensures { IsWithRead anew place result }
+{
+    Anew {
+        first: if anew.behind == 0 { place } else { anew.first },
+        behind: place + 1,
+    }
+}
+
 /// Reads a value for each place; those of `out` stand at places of their own, and one whose bytes
-/// come again isn't read.
-// The cursor stays behind until a value is read: `place` is where it would stand.
+/// come again isn't read. Tells which were read.
+// The cursor stays behind until a value is read: `place` is where it would stand, and before `stop`
+// the bytes from `from` on stand there, too.
 pub(crate) fn read_values_after(
     c: &mut Cursor<'_>,
     bytes: &[u8],
     version: u8,
     before: StatePlaces,
     out: &mut [Val],
-) -> Result<(), FormErr>
+) -> Result<Anew, FormErr>
     requires short { length c.old.bytes ≤ 2 ^ 30 }
     requires same { c.old.bytes ≡ bytes.now }
-    requires held { StandFrom version bytes.now out.old before.values }
+    requires held { StandFrom version bytes.now out.old before.values before.end }
     ensures ok { OnOk result (values_at version (length out.old) c.old ≡ Ok (out.new, c.new)) }
     ensures err { IfErr result (λ e. values_at version (length out.old) c.old ≡ Err e) }
+    ensures anew { IfOk result (AreAnew out.old out.new) }
     ensures bytes { c.new.bytes ≡ c.old.bytes }
 {
+    let mut anew = none_anew();
     let mut from = before.values;
     let mut place = c.place();
-    let mut alike = count_same_before(bytes, from, place, before.end);
+    let alike = count_same_before(bytes, from, place, before.end);
+    let mut stop = from + alike;
     for i in 0..out.len() {
+        if stop == before.end {
+            move_to(c, place + (stop - from));
+            return Ok(anew);
+        }
         let n = length_by(bytes[from]);
-        from += n;
-        if n <= alike {
-            alike -= n;
+        let next = from + n;
+        if next <= stop {
             place += n;
         } else {
             move_to(c, place);
             read_value(c, version, &mut out[i])?;
+            anew = with_read(anew, i);
             place = c.place();
-            alike = count_same_before(bytes, from, place, before.end);
+            let alike = count_same_before(bytes, next, place, before.end);
+            stop = next + alike;
         }
+        from = next;
     }
     move_to(c, place);
-    Ok(())
+    Ok(anew)
 }

@@ -1,17 +1,22 @@
 // Points of a node one after another, with room for one state.
 ghost use Rattle.std.specs.Prelude.{◌≡◌, ◌≤◌, ◌<◌, ◌^◌, ℕ, length, IfSome, IsTrue};
+ghost use Rattle.std.specs.List.{All};
 ghost use Rattle.value_domain.specs.declared.states.State.{State};
 ghost use Rattle.packed_cert.specs.Points.{state_in, HasState, StandsAt};
+ghost use Rattle.packed_cert.specs.Standing.{AreAnew};
+ghost use Rattle.packed_cert.specs.Walks.{StandsNext};
 
 use crate::packed_points::PackedPoint;
-use crate::point_fields::{blank, read_state_like};
+use crate::point_fields::{blank, read_state_after};
 use crate::same_bytes::are_same;
-use crate::state_places::StatePlaces;
+use crate::state_places::{Anew, StatePlaces};
+use crate::values_after::none_anew;
 use std::marker::Model;
 use tcd_base::Cursor;
-use value_domain::State;
+use value_domain::{State, Val};
 
-/// A walk over the points of a node: the state of the point at hand, and the points behind it.
+/// A walk over the points of a node: the state of the point at hand, which of its values were read
+/// anew, the points behind it, and whether the first of these has that state, too.
 #[derive(Drop)]
 pub struct PointWalk<'a> {
     bytes: &'a [u8],
@@ -19,11 +24,13 @@ pub struct PointWalk<'a> {
     points: &'a [PackedPoint],
     next: usize,
     held: Option<StatePlaces>,
+    again: bool,
+    anew: Anew,
     state: State,
 }
 
 impl<'a> Model for PointWalk<'a> {
-    ghost use Rattle.std.specs.Prelude.{drop};
+    ghost use Rattle.std.specs.Prelude.{◌-◌, take, drop};
     ghost use Rattle.packed_cert.specs.Points.{points_in};
     ghost use Rattle.packed_cert.specs.Walks.{WalkData, IsWalk};
 
@@ -31,10 +38,12 @@ impl<'a> Model for PointWalk<'a> {
 
     ghost view = { λ w. record {
       current = w.state;
+      anew = take (w.anew.behind - w.anew.first) (drop w.anew.first (w.state).regs);
       left = points_in w.version w.bytes.now (drop w.next w.points.now);
     } };
 
-    ghost invariant = { λ w. IsWalk w.version w.bytes.now w.points.now w.held w.state };
+    ghost invariant = { λ w.
+        IsWalk w.version w.bytes.now w.points.now w.next w.held w.again w.anew w.state };
 }
 
 impl<'a> PointWalk<'a> {
@@ -54,6 +63,8 @@ impl<'a> PointWalk<'a> {
             points,
             next: 0,
             held: None,
+            again: false,
+            anew: none_anew(),
             state: blank(),
         }
     }
@@ -66,10 +77,20 @@ impl<'a> PointWalk<'a> {
             return None;
         }
         let point = self.points[self.next];
-        let held = self.held;
         let place = point.place as usize;
-        self.held = move_on(self.bytes, self.version, place, held, &mut self.state);
+        let (again, held) = (self.again, self.held);
+        let moved = move_on(
+            self.bytes,
+            self.version,
+            place,
+            again,
+            held,
+            &mut self.state,
+        );
+        self.held = moved.0;
+        self.anew = moved.1;
         self.next += 1;
+        self.again = comes_again(self.bytes, self.points, self.next, self.held);
         Some(point.addr)
     }
 
@@ -77,13 +98,8 @@ impl<'a> PointWalk<'a> {
     pub fn repeats_at(&self) -> Option<u32>
         ensures { IfSome result (RepeatsAt self.now) }
     {
-        if self.next >= self.points.len() {
-            return None;
-        }
-        let point = self.points[self.next];
-        let held = self.held?;
-        if stands_again(self.bytes, held, point.place as usize) {
-            Some(point.addr)
+        if self.again {
+            Some(self.points[self.next].addr)
         } else {
             None
         }
@@ -94,6 +110,14 @@ impl<'a> PointWalk<'a> {
         ensures { result.now ≡ self.now.current }
     {
         &self.state
+    }
+
+    /// The values that the last step read anew; the others of the state at hand were there before.
+    pub fn anew(&self) -> &[Val]
+        ensures { result.now ≡ self.now.anew }
+    {
+        let regs = &self.state.regs[..];
+        &regs[self.anew.first..self.anew.behind]
     }
 }
 
@@ -109,24 +133,58 @@ fn stands_again(bytes: &[u8], held: StatePlaces, place: usize) -> bool
     n <= bytes.len() - place && are_same(bytes, held.start, place, n)
 }
 
-/// Moves the room for a state on to the one at a place, and gives the places of what it holds then.
+/// Whether the bytes of the state that is held stand at the next point, too.
+fn comes_again(bytes: &[u8], points: &[PackedPoint], next: usize, held: Option<StatePlaces>) -> bool
+    requires inside { All (λ p. p.place ≤ length bytes.now) points.now }
+    requires order { IfSome held (λ p. p.start ≤ p.end) }
+    requires within { IfSome held (λ p. p.end ≤ length bytes.now) }
+    ensures { IsTrue result → (version : ℕ) (s : State)
+        → IfSome held (StandsAt version bytes.now s)
+        → StandsNext version bytes.now points.now next s }
+{
+    let Some(held) = held else {
+        return false;
+    };
+    if next >= points.len() {
+        return false;
+    }
+    stands_again(bytes, held, points[next].place as usize)
+}
+
+/// Moves the room for a state on to the one at a place, which may be the same one again, and gives
+/// the places of what it holds then and which of its values were read anew.
 fn move_on(
     bytes: &[u8],
     version: u8,
     place: usize,
+    again: bool,
     held: Option<StatePlaces>,
     room: &mut State,
-) -> Option<StatePlaces>
+) -> (Option<StatePlaces>, Anew)
     requires short { length bytes.now ≤ 2 ^ 30 }
     requires state { HasState version bytes.now place }
+    requires again { IsTrue again → state_in version bytes.now place ≡ room.old }
     requires held { IfSome held (StandsAt version bytes.now room.old) }
     ensures state { room.new ≡ state_in version bytes.now place }
-    ensures held { IfSome result (StandsAt version bytes.now room.new) }
+    ensures held { IfSome result.0 (StandsAt version bytes.now room.new) }
+    ensures anew { AreAnew room.old.regs room.new.regs result.1 }
+    ensures few { result.1.behind ≤ 27 }
 {
+    let _regs = &room.regs[..];
+    if again {
+        return (held, none_anew());
+    }
     let mut c = Cursor::new(bytes);
     let _front = c.take(place);
-    match read_state_like(&mut c, bytes, version, held, room) {
-        Ok(at) => Some(at),
-        Err(_) => None,
+    match read_state_after(&mut c, bytes, version, held, room) {
+        Ok(read) => (Some(read.at), read.anew),
+        Err(_) => {
+            let _read = &room.regs[..];
+            let all = Anew {
+                first: 0,
+                behind: 27,
+            };
+            (None, all)
+        }
     }
 }

@@ -2,6 +2,7 @@ use Rattle.std.proofs.Common.{◌^◌, ◌<◌, ◌≡◌, ◌++◌, ◌∷◌, 
 use Rattle.std.specs.Prelude.{IsTrue, ◌↔◌, All}
 use Rattle.std.proofs.lemmas.List.Elements.{All-push}
 use Rattle.std.proofs.lemmas.List.{append-nil}
+use Rattle.value_domain.specs.declared.values.Val.{Val}
 use Rattle.value_domain.specs.declared.states.State.{State}
 use Rattle.value_domain.specs.Limits.{Limits}
 use Rattle.depth_cert.specs.declared.points.Point.{Point}
@@ -14,7 +15,7 @@ use Rattle.depth_check.specs.NodeFaults.{IsNodeFault, first_of}
 use Rattle.depth_check.specs.Asking.{AsksSame}
 use Rattle.depth_check.proofs.AskedLaws.{interrupts_at, asked_no_more, again_holds}
 use Rattle.depth_check.proofs.Deciding.{refuted}
-use Rattle.depth_check.proofs.RepeatLaws.{repeats_covers, repeats_known, known_here}
+use Rattle.depth_check.proofs.RepeatLaws.{repeats_covers, known_values}
 use Rattle.depth_check.proofs.NodeLaws.{fault_at, none_at, entry_alone}
 use Rattle.depth_check.proofs.WalkLaws.{stands_behind, split_more}
 use Rattle.depth_check.proofs.nodes.packed_fault.Goals as goal
@@ -24,7 +25,7 @@ returns-in-Some-first_of c =
     let inv = c.loop-addr.invariant in
     let points = c.args.node.now.points in
     let p : Point = record { addr = c.in-Some.addr; state = c.step.new.self.current } in
-    let split : points ≡ inv.done ++ (p ∷ c.step.new.self.left) = inv.split ∙ ap (λ (l : List Point). inv.done ++ l) c.in-Some.ensures in
+    let split : points ≡ inv.done ++ (p ∷ c.step.new.self.left) = inv.split ∙ ap (λ (l : List Point). inv.done ++ l) c.in-Some.ensures.0 in
     let b = stands_behind points inv.done c.step.new.self.left p split in
     let finds =
     subst (λ (s : State). let q : Point = record { addr = c.in-Some.addr; state = s } in Finds (RuleHolds c.args.image.now c.args.plan.now c.args.cert.now c.args.node.now q) c.broken_by_point-found.result) c.state-s.ensures
@@ -44,16 +45,20 @@ broken_by_point-found-requires-clause-again c = λ again.
 
 pub broken_by_point-found-requires-clause-known : goal.broken_by_point-found-requires-clause-known
 broken_by_point-found-requires-clause-known c = λ known.
-    let p : Point = record { addr = c.in-Some.addr; state = c.step.new.self.current } in
+    let here = c.are_known.ensures known in
+    let b = limits_in c.args.plan.now c.args.cert.now in
+    let anew : AreValues b c.step.new.self.anew =
+    subst (λ (l : Limits). AreValues l c.step.new.self.anew) c.requires.limits (subst (λ (vs : List Val). AreValues c.args.b.now vs) c.anew.ensures here.1)
+    in
     subst (λ (l : Limits). AreValues l (c.state-s.result.now).regs) (sym c.requires.limits)
-    (subst (λ (s : State). AreValues (limits_in c.args.plan.now c.args.cert.now) s.regs) (sym c.state-s.ensures)
-    (known_here (limits_in c.args.plan.now c.args.cert.now) c.loop-addr.said c.loop-addr.walk.left c.step.new.self.left p c.loop-addr.invariant.said (c.is_repeat.ensures known) c.in-Some.ensures))
+    (subst (λ (s : State). AreValues b s.regs) (sym c.state-s.ensures)
+    (known_values b (c.loop-addr.walk).current c.step.new.self c.in-Some.ensures.1 (c.loop-addr.invariant.known here.0) anew))
 
 pub broken_by_point-found-requires-clause-next : goal.broken_by_point-found-requires-clause-next
 broken_by_point-found-requires-clause-next c =
     let p : Point = record { addr = c.in-Some.addr; state = c.step.new.self.current } in
     rw c.near-frame.ensures
-    (repeats_covers c.args.node.now c.loop-addr.invariant.done c.loop-addr.walk.left c.step.new.self p c.repeats_at-repeats.result c.state-s.result.now c.points-walk.ensures.rising c.loop-addr.invariant.split c.in-Some.ensures c.state-s.ensures c.repeats_at-repeats.ensures)
+    (repeats_covers c.args.node.now c.loop-addr.invariant.done c.loop-addr.walk.left c.step.new.self p c.repeats_at-repeats.result c.state-s.result.now c.points-walk.ensures.rising c.loop-addr.invariant.split c.in-Some.ensures.0 c.state-s.ensures c.repeats_at-repeats.ensures)
 
 pub loop-addr-preserved : goal.loop-addr-preserved
 loop-addr-preserved c =
@@ -68,9 +73,9 @@ loop-addr-preserved c =
     let holds = none_at c.args.image.now c.args.plan.now c.args.cert.now c.args.node.now c.requires.member points refl c.points-walk.ensures.rising p c.packed_holds_at_entry-good.result c.broken_by_point-found.result told finds in
     record {
       done = inv.done ++ p ∷ [];
-      split = split_more points inv.done c.loop-addr.walk.left c.step.new.self.left p inv.split c.in-Some.ensures;
+      split = split_more points inv.done c.loop-addr.walk.left c.step.new.self.left p inv.split c.in-Some.ensures.0;
       all = All-push (λ (q : Point). (r : ℕ) → RuleHolds c.args.image.now c.args.plan.now c.args.cert.now c.args.node.now q r) inv.done p inv.all holds;
-      said = repeats_known (limits_in c.args.plan.now c.args.cert.now) c.step.new.self c.repeats_at-repeats.result ((holds 2).values refl) c.repeats_at-repeats.ensures;
+      known = λ t. (holds 2).values refl;
       asked = inv.asked;
     }
 
@@ -87,9 +92,9 @@ loop-addr-preserved-then-is_worth_keeping c =
     let holds = none_at c.args.image.now c.args.plan.now c.args.cert.now c.args.node.now c.requires.member points refl c.points-walk.ensures.rising p c.packed_holds_at_entry-good.result c.broken_by_point-found.result told finds in
     record {
       done = inv.done ++ p ∷ [];
-      split = split_more points inv.done c.loop-addr.walk.left c.step.new.self.left p inv.split c.in-Some.ensures;
+      split = split_more points inv.done c.loop-addr.walk.left c.step.new.self.left p inv.split c.in-Some.ensures.0;
       all = All-push (λ (q : Point). (r : ℕ) → RuleHolds c.args.image.now c.args.plan.now c.args.cert.now c.args.node.now q r) inv.done p inv.all holds;
-      said = repeats_known (limits_in c.args.plan.now c.args.cert.now) c.step.new.self c.repeats_at-repeats.result ((holds 2).values refl) c.repeats_at-repeats.ensures;
+      known = λ t. (holds 2).values refl;
       asked = λ (t : State) fewer.
           asked_no_more c.args.plan.now c.args.cert.now c.args.node.now c.at.result c.step.new.self.current t
           (subst (λ (s : State). AsksSame c.at.result s) c.state-s.ensures c.at.ensures) fewer

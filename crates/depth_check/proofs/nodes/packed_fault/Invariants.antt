@@ -1,10 +1,10 @@
 use Rattle.std.proofs.Common.{◌≡◌, ◌++◌, ℕ, List, length}
-use Rattle.std.specs.Prelude.{All, IfSome}
+use Rattle.std.specs.Prelude.{All, IsTrue, IfSome}
 use Rattle.value_domain.specs.declared.states.State.{State}
+use Rattle.value_domain.specs.State.{AreValues}
 use Rattle.cfg_recover.specs.Accepting.{limits_in, RuleHolds}
 use Rattle.depth_cert.specs.declared.points.Point.{Point}
 use Rattle.depth_check.specs.Asking.{AsksNoMore, InterruptsHold}
-use Rattle.depth_check.proofs.RepeatLaws.{FirstHasValues}
 use Rattle.depth_check.proofs.nodes.packed_fault.Given as goal
 
 abbrev pub invariant-loop-addr : goal.invariant-loop-addr
@@ -12,7 +12,7 @@ invariant-loop-addr l = record {
   done : List Point;
   split : (l.node).points ≡ done ++ (l.walk).left;
   all : All (λ (p : Point). (r : ℕ) → RuleHolds l.image l.plan l.cert l.node p r) done;
-  said : IfSome l.said (λ a. FirstHasValues (limits_in l.plan l.cert) (l.walk).left);
+  known : IsTrue l.known → AreValues (limits_in l.plan l.cert) ((l.walk).current).regs;
   asked : IfSome l.asked (λ a. (t : State) → AsksNoMore a t → InterruptsHold l.plan l.cert l.node t);
 }
 

@@ -6,4 +6,4 @@ pub returns-clause-held : goal.returns-clause-held
 returns-clause-held c =
     let bytes = c.read_locals.ensures.bytes ∙ c.read_flag-2.ensures.bytes ∙ c.read_u8.ensures.bytes ∙ c.read_flag.ensures.bytes ∙ c.requires.same in
     read_stand c.args.version _ c.args.bytes.now c.read_locals.new.c c.read_values_like.new.out _ c.place-at.result (λ k. (c.type_inv.bytes k).fits) bytes c.place-at.ensures.place (rw bytes at c.place-at.ensures.within)
-    c.in_ok-read_values_like.ensures.ok
+    c.in_ok-anew.ensures.ok
