@@ -1,5 +1,5 @@
 -- Ascending words by their places.
-use Rattle.std.proofs.Common.{◌≡◌, ℕ, zero, suc, ◌<◌, ◌≤◌, inl, inr, List, [], ◌∷◌, length, get_or, sym, ap, ◌∙◌, subst, arith}
+use Rattle.std.proofs.Common.{◌≡◌, ℕ, zero, suc, ◌-◌, ◌<◌, ◌≤◌, inl, inr, List, [], ◌∷◌, length, get_or, sym, ap, ◌∙◌, subst, arith}
 use Rattle.std.proofs.lemmas.Bool.{cases_lt, cases_eq}
 use Rattle.std.proofs.lemmas.List.Sorted.{IsNonDecreasingBy-from_default}
 use Rattle.std.specs.List.Sorted.{IsNonDecreasing}
@@ -21,6 +21,14 @@ rising_order xs r =
       | inl lt ↦ let o : get_or xs i 0 < get_or xs j 0 = rising_places xs r i j lt h in omega arith
       | inr ge ↦ let e : i ≡ j = omega arith in let o : get_or xs i 0 ≡ get_or xs j 0 = ap (λ (k : ℕ). get_or xs k 0) e in omega arith
     ])
+
+-- where the last word is below x, all are
+pub below_last : (xs : List ℕ) (x : ℕ) → Rising xs → get_or xs (length xs - 1) 0 < x → (k : ℕ) → k < length xs → get_or xs k 0 < x
+below_last xs x r last k h =
+    elim (cases_lt k (length xs - 1)) [
+      | inl lt ↦ let over : get_or xs k 0 < get_or xs (length xs - 1) 0 = rising_places xs r k (length xs - 1) lt (omega arith) in omega arith
+      | inr ge ↦ let e : length xs - 1 ≡ k = omega arith in subst (λ (j : ℕ). get_or xs j 0 < x) e last
+    ]
 
 -- the words before place k are below x
 abbrev pub Below : List ℕ → ℕ → ℕ → Type 0

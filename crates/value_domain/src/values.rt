@@ -113,6 +113,17 @@ fn are_ascending(words: &[u32]) -> bool
     true
 }
 
+/// Whether there are words, and all of them, which ascend, are below `x`.
+fn is_past(words: &[u32], x: u32) -> bool
+    requires { Rising words.now }
+    ensures { IsTrue result → (k : ℕ) → k < length words.now → slice_index words.now k < x }
+{
+    if words.is_empty() {
+        return false;
+    }
+    words[words.len() - 1] < x
+}
+
 /// How many of the words, which ascend, are below `x`.
 fn place(words: &[u32], x: u32) -> usize
     requires { Rising words.now }
@@ -120,6 +131,9 @@ fn place(words: &[u32], x: u32) -> usize
     ensures before { (k : ℕ) → k < result → slice_index words.now k < x }
     ensures after { (k : ℕ) → result ≤ k → k < length words.now → x ≤ slice_index words.now k }
 {
+    if is_past(words, x) {
+        return words.len();
+    }
     words.partition_point(|w| *w < x)
 }
 

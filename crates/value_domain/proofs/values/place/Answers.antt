@@ -4,6 +4,13 @@ use Rattle.std.proofs.lemmas.List.Sorted.{IsPartitionPoint-from_clause, IsPartit
 use Rattle.value_domain.proofs.Places.{rising_order}
 use Rattle.value_domain.proofs.values.place.Goals as goal
 
+pub returns-then-is_past : goal.returns-then-is_past
+returns-then-is_past c = record {
+  within = omega arith;
+  before = λ k h. c.is_past.ensures c.if-is_past.true k h;
+  after = λ k low high. absurd (omega arith);
+}
+
 pub returns : goal.returns
 returns c =
     let parted = IsPartitionedBy-ltb (λ y. y) c.args.words.now c.args.x (rising_order c.args.words.now c.requires) in
