@@ -96,7 +96,8 @@ pub fn extent_of(v: &Val) -> Extent
     }
 }
 
-fn span(b: &Bounds, least: u32, greatest: u32, step: u8) -> Val
+/// The Span from the greatest threshold that isn't above `least` up to the least one above `greatest`.
+pub fn span(b: &Bounds, least: u32, greatest: u32, step: u8) -> Val
     ensures { result
         ≡ Span (floor b.now.thresholds least) (above b.now.thresholds greatest - 1) step }
 {
@@ -177,7 +178,8 @@ pub fn add_words(b: &Bounds, v: &mut Val, words: &[u32])
     }
 }
 
-fn is_set(v: &Val) -> bool
+/// Whether a value is written out.
+pub fn is_set(v: &Val) -> bool
     ensures { IsTrue result ↔ IsSome (words_of v.now) }
 {
     v.words().is_some()
@@ -194,7 +196,7 @@ fn widen(b: &Bounds, v: &mut Val, words: &[u32])
 }
 
 /// The extent of words that have this one, and of more.
-fn extent_with(e: &Extent, words: &[u32]) -> Extent
+pub fn extent_with(e: &Extent, words: &[u32]) -> Extent
     ensures { (xs : List ℕ) → IsExtent xs e.now.least e.now.greatest e.now.step
         → IsExtent (xs ++ words.now) result.least result.greatest result.step }
 {

@@ -10,8 +10,8 @@ mod states;
 mod values;
 
 pub use lattice::{
-    Extent, add_word, add_words, alignment_log2, count_of, cover, cover_words, extent_of, is_value,
-    join, leq, member, with_word,
+    Extent, add_word, add_words, alignment_log2, count_of, cover, cover_words, extent_of,
+    extent_with, is_set, is_value, join, leq, member, span, with_word,
 };
 pub use laws::{state_laws, value_laws};
 pub use limits::Bounds;

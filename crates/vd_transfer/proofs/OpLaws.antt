@@ -1,11 +1,13 @@
 -- Operations are sound and monotone.
-use Rattle.std.proofs.Common.{◌≡◌, ℕ, zero, suc, ◌+◌, ◌-◌, ◌*◌, ◌%◌, ◌^◌, ◌<◌, ◌≤◌, inl, inr, List, [], ◌∷◌, ◌++◌, length, refl, sym, ap, ◌∙◌, subst, arith, min, map, ltb, leb, take, set, replicate, get_or, append_assoc, append-nil, Bool, true, false, not, ◌||◌, eqb, bit_and, bit_or, bit_xor, ◌⊎◌}
+use Rattle.std.proofs.Common.{◌≡◌, ℕ, zero, suc, ◌+◌, ◌-◌, ◌*◌, ◌%◌, ◌^◌, ◌<◌, ◌≤◌, inl, inr, List, [], ◌∷◌, ◌++◌, length, refl, sym, ap, ◌∙◌, subst, arith, min, map, ltb, leb, take, drop, set, replicate, get_or, length-drop, length-append, append_assoc, append-nil, Bool, true, false, not, ◌||◌, eqb, bit_and, bit_or, bit_xor, ◌⊎◌}
 use Rattle.std.proofs.lemmas.Bool.{cases_lt, cases_eq, lt-ltb, le-ltb, cases_Bool}
-use Rattle.std.proofs.lemmas.List.{take_more, take_more_set, take_all, get_or-set_same, get_or-set_other, get_or-replicate, length-replicate}
+use Rattle.std.proofs.lemmas.List.{take_more, take_more_set, take_all, take-append-drop, get_or-set_same, get_or-set_other, get_or-replicate, length-replicate}
 use Rattle.std.proofs.Math.ListN.{length-set}
+use Rattle.std.proofs.Math.Seq.{take-add}
 use Rattle.std.proofs.Math.Nat.{mul-le-mul_right}
 use Rattle.std.proofs.Math.Pow.{pow_mono}
-use Rattle.std.proofs.lemmas.Nat.{shl_below, shr_le, or_of_32, xor_of_32, and_le_l}
+use Rattle.std.specs.Int.Bits.{xor_add_and}
+use Rattle.std.proofs.lemmas.Nat.{shl_below, shr_le, or_of_32, xor_of_32, and_le_l, and_le_r, le_or_l, le_or_r}
 use Rattle.value_domain.specs.declared.values.Val.{Val}
 use Rattle.value_domain.specs.declared.values.Val.TheVariants.{Set, Span}
 use Rattle.value_domain.specs.Sets.{Among, Within, Rising}
@@ -16,6 +18,7 @@ use Rattle.value_domain.proofs.CoverLaws.{cover-same, cover_holds, cover_mono, c
 use Rattle.value_domain.specs.declared.lattice.Extent.{Extent}
 use Rattle.vd_transfer.specs.declared.strided_interval.StridedInterval.{StridedInterval}
 use Rattle.value_domain.proofs.Loops.{among_get}
+use Rattle.value_domain.proofs.WordLaws.{among_place}
 use Rattle.value_domain.proofs.ExtentLaws.{cover-part, extent_only, extent_rising, append_left, append_right, among_append, some_length}
 use Rattle.value_domain.proofs.RangeLaws.{words_more, members_below, some_members, span_count, set_value, cover-one}
 use Rattle.tc_isa.specs.declared.shapes.Op.{Op}
@@ -480,34 +483,34 @@ pub row-Second : (b : Limits) (v w : Val) → IsValue b w → w ≡ cover b (row
 unfolding row
 row-Second b v w value = sym value.own
 
-pub row-truth : (b : Limits) (op : Op) (v w : Val) → (op ≡ Second → ⊥) → gives_truth op ≡ true → cover b (0 ∷ 1 ∷ []) ≡ cover b (row op v w)
+pub row-truth : (b : Limits) (op : Op) (v w : Val) → gives_truth op ≡ true → cover b (0 ∷ 1 ∷ []) ≡ cover b (row op v w)
 unfolding row gives_truth
-row-truth b Second v w n t = absurd (n refl)
-row-truth b Add v w n t = cc
-row-truth b Sub v w n t = cc
-row-truth b And v w n t = cc
-row-truth b Nand v w n t = cc
-row-truth b Or v w n t = cc
-row-truth b Nor v w n t = cc
-row-truth b Xor v w n t = cc
-row-truth b Xnor v w n t = cc
-row-truth b Andn v w n t = cc
-row-truth b Orn v w n t = cc
-row-truth b Eq v w n t = refl
-row-truth b Ne v w n t = refl
-row-truth b Lt v w n t = refl
-row-truth b LtU v w n t = refl
-row-truth b Ge v w n t = refl
-row-truth b GeU v w n t = refl
-row-truth b Sh v w n t = cc
-row-truth b Sha v w n t = cc
+row-truth b Second v w t = cc
+row-truth b Add v w t = cc
+row-truth b Sub v w t = cc
+row-truth b And v w t = cc
+row-truth b Nand v w t = cc
+row-truth b Or v w t = cc
+row-truth b Nor v w t = cc
+row-truth b Xor v w t = cc
+row-truth b Xnor v w t = cc
+row-truth b Andn v w t = cc
+row-truth b Orn v w t = cc
+row-truth b Eq v w t = refl
+row-truth b Ne v w t = refl
+row-truth b Lt v w t = refl
+row-truth b LtU v w t = refl
+row-truth b Ge v w t = refl
+row-truth b GeU v w t = refl
+row-truth b Sh v w t = cc
+row-truth b Sha v w t = cc
 
 map_at : (op : Op) (x i : ℕ) (ys : List ℕ) → i < length ys → get_or (map (alu_of op x) ys) i 0 ≡ alu_of op x (get_or ys i 0)
 map_at op x i [] h = absurd (omega arith)
 map_at op x zero (y ∷ ys) h = refl
 map_at op x (suc i) (y ∷ ys) h = map_at op x i ys (omega arith)
 
-map_length : (op : Op) (x : ℕ) (ys : List ℕ) → length (map (alu_of op x) ys) ≡ length ys
+pub map_length : (op : Op) (x : ℕ) (ys : List ℕ) → length (map (alu_of op x) ys) ≡ length ys
 map_length op x [] = refl
 map_length op x (y ∷ ys) = ap suc (map_length op x ys)
 
@@ -556,6 +559,45 @@ met_kept b v ms xs well met i lt = stays b v (members v ++ xs) (get_or ms i 0) w
 pub met_one : (n x : ℕ) → HasMet (Set (x ∷ [])) (replicate n x)
 met_one n x i lt = inl (get_or-replicate n i x 0 (omega (arith, length-replicate n x)))
 
+-- words that are all among those that were met
+pub met_none : (ms ws : List ℕ) → Within (take 0 ws) ms
+met_none ms [] z i = absurd i
+met_none ms (w ∷ ws) z i = absurd i
+
+-- where no bit differs, two words are the same
+no_bits : (x y : ℕ) → bit_xor x y ≡ 0 → x ≡ y
+no_bits x y e = omega (arith, xor_add_and x y, and_le_l x y, and_le_r x y)
+
+pub met_next : (ms ws : List ℕ) (i k missed : ℕ) → i < length ws → k < length ms → (missed ≡ 0 → Within (take i ws) ms)
+    → bit_or missed (bit_xor (get_or ms k 0) (get_or ws i 0)) ≡ 0 → Within (take (i + 1) ws) ms
+met_next ms ws i k missed h lt before none z j =
+    let low : missed ≡ 0 = omega (arith, le_or_l missed (bit_xor (get_or ms k 0) (get_or ws i 0))) in
+    let same : get_or ms k 0 ≡ get_or ws i 0 = no_bits (get_or ms k 0) (get_or ws i 0) (omega (arith, le_or_r missed (bit_xor (get_or ms k 0) (get_or ws i 0)))) in
+    elim (among_append z (take i ws) (get_or ws i 0 ∷ []) (rw (take_more ws i 0 h) at j)) [
+      | inl a ↦ before low z a
+      | inr a ↦ elim a [ inl e ↦ subst (λ (y : ℕ). Among y ms) (same ∙ sym e) (among_get ms k lt) | inr n ↦ absurd n ]
+    ]
+
+pub met_all : (b : Limits) (v : Val) (ms ws : List ℕ) (i : ℕ) → IsValue b v → HasMet v ms → length ws ≤ i → Within (take i ws) ms → v ≡ cover b (members v ++ ws)
+met_all b v ms ws i value met all within =
+    sym value.own
+    ∙ cover-same b (members v) (members v ++ ws)
+    (λ z j. append_left z (members v) ws j)
+    (λ z j. elim (among_append z (members v) ws j) [
+      | inl k ↦ k
+      | inr k ↦
+          let p = among_place ms z (within z (subst (λ (l : List ℕ). Among z l) (sym (take_all i ws all)) k)) in
+          among_member v z (has_step v value.well) (subst (λ (y : ℕ). IsMember y v) p.2 (met p.0 p.1))
+    ])
+
+-- some of the words after some of them
+pub words_next : (b : Limits) (v out : Val) (words : List ℕ) (i j n : ℕ) → IsWell v → j ≡ i + n → out ≡ cover b (members v ++ take i words)
+    → cover b (members out ++ take n (drop i words)) ≡ cover b (members v ++ take j words)
+words_next b v out words i j n well e same =
+    ap (λ (o : Val). cover b (members o ++ take n (drop i words))) same
+    ∙ cover-part b (members v ++ take i words) (take n (drop i words)) (omega (arith, length-append (members v) (take i words), some_members v well))
+    ∙ ap (cover b) (append_assoc (members v) (take i words) (take n (drop i words)) ∙ ap (λ (l : List ℕ). members v ++ l) (sym (take-add i n words) ∙ ap (λ (k : ℕ). take k words) (sym e)))
+
 -- the results of many words with many
 pairs-push : (op : Op) (x : ℕ) (xs ys : List ℕ) → pairs op (xs ++ x ∷ []) ys ≡ pairs op xs ys ++ map (alu_of op x) ys
 unfolding pairs
@@ -568,6 +610,33 @@ pairs_more b out op first i xs ys h e =
     ap (λ (o : Val). cover b (members o ++ map (alu_of op (get_or xs i 0)) ys)) e
     ∙ cover-part b (first ∷ pairs op (take i xs) ys) (map (alu_of op (get_or xs i 0)) ys) (omega arith)
     ∙ ap (λ (l : List ℕ). cover b (first ∷ l)) (sym (pairs-push op (get_or xs i 0) (take i xs) ys) ∙ ap (λ (l : List ℕ). pairs op l ys) (sym (take_more xs i 0 h)))
+
+pairs-append : (op : Op) (xs zs ys : List ℕ) → pairs op (xs ++ zs) ys ≡ pairs op xs ys ++ pairs op zs ys
+unfolding pairs
+pairs-append op [] zs ys = refl
+pairs-append op (x ∷ xs) zs ys =
+    ap (λ (l : List ℕ). map (alu_of op x) ys ++ l) (pairs-append op xs zs ys) ∙ sym (append_assoc (map (alu_of op x) ys) (pairs op xs ys) (pairs op zs ys))
+
+pub pairs_rest : (b : Limits) (out : Val) (op : Op) (first i : ℕ) (xs ys : List ℕ) → out ≡ cover b (first ∷ pairs op (take i xs) ys)
+    → cover b (members out ++ pairs op (take (length xs - i) (drop i xs)) ys) ≡ cover b (first ∷ pairs op xs ys)
+pairs_rest b out op first i xs ys e =
+    ap (λ (l : List ℕ). cover b (members out ++ pairs op l ys)) (take_all (length xs - i) (drop i xs) (omega (arith, length-drop i xs)))
+    ∙ ap (λ (o : Val). cover b (members o ++ pairs op (drop i xs) ys)) e
+    ∙ cover-part b (first ∷ pairs op (take i xs) ys) (pairs op (drop i xs) ys) (omega arith)
+    ∙ ap (λ (l : List ℕ). cover b (first ∷ l)) (sym (pairs-append op (take i xs) (drop i xs) ys) ∙ ap (λ (l : List ℕ). pairs op l ys) (take-append-drop i xs))
+
+-- the extent of a value and of results
+pub extent_no_pairs : {lo hi s : ℕ} (zs : List ℕ) (op : Op) (ys : List ℕ) → IsExtent zs lo hi s → IsExtent (zs ++ pairs op [] ys) lo hi s
+unfolding pairs
+extent_no_pairs zs op ys e = rw (append-nil zs) e
+
+pub extent_pairs : {lo hi s : ℕ} (zs : List ℕ) (op : Op) (i : ℕ) (xs ys : List ℕ) → i < length xs
+    → IsExtent ((zs ++ pairs op (take i xs) ys) ++ map (alu_of op (get_or xs i 0)) ys) lo hi s → IsExtent (zs ++ pairs op (take (i + 1) xs) ys) lo hi s
+extent_pairs {lo} {hi} {s} zs op i xs ys h e =
+    subst (λ (l : List ℕ). IsExtent l lo hi s)
+    (append_assoc zs (pairs op (take i xs) ys) (map (alu_of op (get_or xs i 0)) ys)
+    ∙ ap (λ (l : List ℕ). zs ++ l) (sym (pairs-push op (get_or xs i 0) (take i xs) ys) ∙ ap (λ (l : List ℕ). pairs op l ys) (sym (take_more xs i 0 h))))
+    e
 
 pub pairs_first : (b : Limits) (op : Op) (xs ys : List ℕ) → 1 ≤ length xs → 1 ≤ length ys
     → cover b (alu_of op (get_or xs 0 0) (get_or ys 0 0) ∷ pairs op xs ys) ≡ cover b (pairs op xs ys)

@@ -1,5 +1,5 @@
 -- The value of an operation is one of the plan and the version.
-use Rattle.std.proofs.Common.{◌≡◌, ℕ, ◌+◌, ◌%◌, ◌^◌, ◌<◌, ◌≤◌, inl, inr, Bool, true, false, not, [], ◌∷◌, sym, arith, min, max, subst, bit_and, bit_or, bit_xor, ltb, leb, eqb}
+use Rattle.std.proofs.Common.{◌≡◌, ℕ, ◌+◌, ◌%◌, ◌^◌, ◌<◌, ◌≤◌, inl, inr, Bool, true, false, not, List, [], ◌∷◌, ◌++◌, get_or, sym, arith, min, max, subst, bit_and, bit_or, bit_xor, ltb, leb, eqb}
 use Rattle.std.proofs.lemmas.Bool.{cases_lt, lt-ltb, le-ltb, le-leb, lt-leb}
 use Rattle.std.proofs.lemmas.Nat.{or_of_32, xor_of_32}
 use Rattle.tc_isa.specs.declared.shapes.Op.{Op}
@@ -9,10 +9,12 @@ use Rattle.value_domain.specs.declared.values.Val.{Val}
 use Rattle.value_domain.specs.declared.values.Val.TheVariants.{Set, Span}
 use Rattle.value_domain.specs.Sets.{Among}
 use Rattle.value_domain.specs.Limits.{Limits, AreLimits}
-use Rattle.value_domain.specs.Values.{IsWell, IsValue}
+use Rattle.value_domain.specs.Values.{IsWell, IsValue, cover, members}
 use Rattle.value_domain.proofs.CoverLaws.{range_among, cover_least}
-use Rattle.value_domain.proofs.RangeLaws.{members_below}
-use Rattle.vd_transfer.specs.Operations.{results, row, runs, bounds, gives_truth, sums, differences, value_of, range_of, whole, run, low, high, step}
+use Rattle.value_domain.proofs.ExtentLaws.{append_left, among_append}
+use Rattle.value_domain.proofs.RangeLaws.{members_below, cover_value}
+use Rattle.value_domain.proofs.WordLaws.{among_place}
+use Rattle.vd_transfer.specs.Operations.{results, pairs, row, runs, bounds, gives_truth, sums, differences, value_of, range_of, whole, run, low, high, step}
 use Rattle.vd_transfer.specs.declared.strided_interval.StridedInterval.{StridedInterval}
 use Rattle.vd_transfer.proofs.OpLaws.{logical, arithmetic, complement_below, and_below, pairs_among, some_results, runs_step, bounds_of, high_below, by_below}
 
@@ -114,3 +116,18 @@ results_below op (Span lo last s) w wv ww z i = row_below op (Span lo last s) w 
 pub value_of_value : (b : Limits) (op : Op) (v w : Val) → AreLimits b → IsValue b v → IsValue b w → IsValue b (value_of b op v w)
 value_of_value b op v w limits vv vw =
     (cover_least b (results op v w) limits (record { some = some_results op v w vv.well vw.well; below = results_below op v w vv.well vw.well })).value
+
+word_among : (xs : List ℕ) (x : ℕ) → ((k : ℕ) → get_or xs k 0 < 2 ^ 32) → Among x xs → x < 2 ^ 32
+word_among xs x below i = let p = among_place xs x i in subst (λ (n : ℕ). n < 2 ^ 32) p.2 (below p.0)
+
+-- the value of a value's members and of the results of words
+pub pairs_value : (b : Limits) (v : Val) (op : Op) (xs ys : List ℕ) → AreLimits b → IsValue b v → ((k : ℕ) → get_or xs k 0 < 2 ^ 32) → ((k : ℕ) → get_or ys k 0 < 2 ^ 32)
+    → IsValue b (cover b (members v ++ pairs op xs ys))
+pairs_value b v op xs ys limits value left right =
+    cover_value b (members v ++ pairs op xs ys) (low v) limits (append_left (low v) (members v) (pairs op xs ys) (bounds_of v value.well).low_in)
+    (λ z i. elim (among_append z (members v) (pairs op xs ys) i) [
+      | inl j ↦ members_below v value.well z j
+      | inr j ↦
+          let r = pairs_among op z xs ys j in
+          subst (λ (n : ℕ). n < 2 ^ 32) (sym r.4) (alu_below op r.0 r.1 (word_among xs r.0 left r.2) (word_among ys r.1 right r.3))
+    ])

@@ -1,13 +1,14 @@
 // The value of an operation on two values.
-ghost use Rattle.std.specs.Prelude.{◌≡◌, ◌≢◌, ◌≤◌, ◌<◌, length, ◌++◌, ◌∷◌, map};
-ghost use Rattle.value_domain.specs.Values.{IsValue, cover, members};
+ghost use Rattle.std.specs.Prelude.{◌≡◌, ◌≤◌, ◌<◌, length, ◌++◌, ◌∷◌, map, IsNone};
+ghost use Rattle.value_domain.specs.Values.{IsValue, cover, members, words_of};
 ghost use Rattle.tc_isa.specs.Arithmetic.{alu_of};
-ghost use Rattle.tc_isa.specs.declared.shapes.Op.TheVariants.{Second};
 ghost use Rattle.vd_transfer.specs.Operations.{results, row, pairs, HasMet};
 
 use crate::strided_interval::{gives_truth, interval_of_row};
 use tc_isa::{Op, alu};
-use value_domain::{Bounds, Val, add_word, add_words, cover, cover_words, extent_of};
+use value_domain::{
+    Bounds, Val, add_word, add_words, cover, cover_words, extent_of, extent_with, is_set, span,
+};
 
 /// The value of an operation.
 pub fn operation(b: &Bounds, op: Op, v: &Val, w: &Val) -> Val
@@ -70,7 +71,8 @@ fn add_few(b: &Bounds, v: &mut Val, op: Op, x: u32, ys: &[u32])
     }
 }
 
-/// The results of all pairs, collected row by row. The words that were met lately have a table, which is to be filled.
+/// The results of all pairs, collected row by row: looked at one by one while they are a Set, else by their extent. The
+/// words that were met lately have a table, which is to be filled.
 #[inline(never)]
 fn many_pairs(b: &Bounds, op: Op, xs: &[u32], ys: &[u32]) -> Val
     requires left { 1 ≤ length xs.now }
@@ -82,42 +84,79 @@ fn many_pairs(b: &Bounds, op: Op, xs: &[u32], ys: &[u32]) -> Val
     let _most_words = b.most_words();
     let first = alu(op, xs[0], ys[0]);
     let mut met = [first; 1024];
+    let mut room = [0u32; 128];
     let mut out = Val::one(first);
-    for x in xs {
-        add_row(b, &mut out, &mut met, op, *x, ys);
+    let mut i = 0;
+    while i < xs.len() && is_set(&out) {
+        let row = &mut room[..ys.len()];
+        fill(op, xs[i], ys, row);
+        add_row(b, &mut out, &mut met, row);
+        i += 1;
     }
+    if xs.len() <= i {
+        return out;
+    }
+    widen(b, &mut out, op, &xs[i..], ys, &mut room[..ys.len()]);
     out
 }
 
-/// Adds the results of a word and each of the others to a value: one by one while it is a Set, else at once. Of the
-/// words that the value has, `met` holds those that were met lately.
-fn add_row(b: &Bounds, v: &mut Val, met: &mut [u32; 1024], op: Op, x: u32, ys: &[u32])
+/// Adds the results of all pairs to a Span, by the extent of all.
+fn widen(b: &Bounds, v: &mut Val, op: Op, xs: &[u32], ys: &[u32], row: &mut [u32])
+    requires span { IsNone (words_of v.old) }
     requires value { IsValue b.now v.old }
-    requires met { HasMet v.old met.old }
-    requires few { length ys.now ≤ 128 }
-    ensures cover { v.new ≡ cover b.now (members v.old ++ map (alu_of op x) ys.now) }
+    requires room { length row.old ≡ length ys.now }
+    ensures cover { v.new ≡ cover b.now (members v.old ++ pairs op xs.now ys.now) }
     ensures value { IsValue b.now v.new }
-    ensures met { HasMet v.new met.new }
 {
-    if v.words().is_some() {
-        add_each(b, v, met, op, x, ys);
-        return;
+    let _most_words = b.most_words();
+    let mut e = extent_of(v);
+    for x in xs {
+        fill(op, *x, ys, row);
+        e = extent_with(&e, row);
     }
-    let mut row = [0u32; 128];
-    let part = &mut row[..ys.len()];
-    fill(op, x, ys, part);
-    add_words(b, v, part);
+    *v = span(b, e.least, e.greatest, e.step);
 }
 
-fn add_each(b: &Bounds, v: &mut Val, met: &mut [u32; 1024], op: Op, x: u32, ys: &[u32])
+/// Adds words to a value, eight at a time while it is a Set. Of the words that the value has, `met` holds those that were
+/// met lately.
+fn add_row(b: &Bounds, v: &mut Val, met: &mut [u32; 1024], words: &[u32])
     requires value { IsValue b.now v.old }
     requires met { HasMet v.old met.old }
-    ensures cover { v.new ≡ cover b.now (members v.old ++ map (alu_of op x) ys.now) }
+    ensures cover { v.new ≡ cover b.now (members v.old ++ words.now) }
     ensures value { IsValue b.now v.new }
     ensures met { HasMet v.new met.new }
 {
-    for y in ys {
-        add_result(b, v, met, alu(op, x, *y));
+    let mut i = 0;
+    while 8 <= words.len() - i && is_set(v) {
+        add_some(b, v, met, &words[i..i + 8]);
+        i += 8;
+    }
+    add_some(b, v, met, &words[i..]);
+}
+
+/// Adds words to a value: one by one while it is a Set, then at once, and none where all of them were met lately.
+#[inline(always)]
+fn add_some(b: &Bounds, v: &mut Val, met: &mut [u32; 1024], words: &[u32])
+    requires value { IsValue b.now v.old }
+    requires met { HasMet v.old met.old }
+    ensures cover { v.new ≡ cover b.now (members v.old ++ words.now) }
+    ensures value { IsValue b.now v.new }
+    ensures met { HasMet v.new met.new }
+{
+    let mut missed = 0;
+    for z in words {
+        missed |= met[slot_of(*z)] ^ *z;
+    }
+    if missed == 0 {
+        return;
+    }
+    let mut i = 0;
+    while i < words.len() && is_set(v) {
+        add_result(b, v, met, words[i]);
+        i += 1;
+    }
+    if i < words.len() {
+        add_words(b, v, &words[i..]);
     }
 }
 
@@ -144,8 +183,36 @@ fn slot_of(z: u32) -> usize
     (z.wrapping_mul(0x9E37_79B1) >> 22) as usize
 }
 
-/// The results of a word and each of the others, in turn.
+/// The results of a word and each of the others: a loop of its own for each operation, so that none asks which it is.
 fn fill(op: Op, x: u32, ys: &[u32], row: &mut [u32])
+    requires { length row.old ≡ length ys.now }
+    ensures { row.new ≡ map (alu_of op x) ys.now }
+{
+    match op {
+        Op::Second => fill_by(Op::Second, x, ys, row),
+        Op::Add => fill_by(Op::Add, x, ys, row),
+        Op::Sub => fill_by(Op::Sub, x, ys, row),
+        Op::And => fill_by(Op::And, x, ys, row),
+        Op::Nand => fill_by(Op::Nand, x, ys, row),
+        Op::Or => fill_by(Op::Or, x, ys, row),
+        Op::Nor => fill_by(Op::Nor, x, ys, row),
+        Op::Xor => fill_by(Op::Xor, x, ys, row),
+        Op::Xnor => fill_by(Op::Xnor, x, ys, row),
+        Op::Andn => fill_by(Op::Andn, x, ys, row),
+        Op::Orn => fill_by(Op::Orn, x, ys, row),
+        Op::Eq => fill_by(Op::Eq, x, ys, row),
+        Op::Ne => fill_by(Op::Ne, x, ys, row),
+        Op::Lt => fill_by(Op::Lt, x, ys, row),
+        Op::LtU => fill_by(Op::LtU, x, ys, row),
+        Op::Ge => fill_by(Op::Ge, x, ys, row),
+        Op::GeU => fill_by(Op::GeU, x, ys, row),
+        Op::Sh => fill_by(Op::Sh, x, ys, row),
+        Op::Sha => fill_by(Op::Sha, x, ys, row),
+    }
+}
+
+#[inline(always)]
+fn fill_by(op: Op, x: u32, ys: &[u32], row: &mut [u32])
     requires { length row.old ≡ length ys.now }
     ensures { row.new ≡ map (alu_of op x) ys.now }
 {
@@ -162,22 +229,14 @@ fn from_row(b: &Bounds, op: Op, v: &Val, w: &Val) -> Val
     ensures value { IsValue b.now result }
 {
     let _most_words = b.most_words();
-    match op {
-        Op::Second => w.copy(),
-        _ => other_row(b, op, v, w),
-    }
-}
-
-fn other_row(b: &Bounds, op: Op, v: &Val, w: &Val) -> Val
-    requires left { IsValue b.now v.now }
-    requires right { IsValue b.now w.now }
-    requires other { op ≢ Second }
-    ensures cover { result ≡ cover b.now (row op v.now w.now) }
-    ensures value { IsValue b.now result }
-{
     if gives_truth(op) {
         return cover_words(b, &[0, 1]);
     }
-    let run = interval_of_row(op, &extent_of(v), &extent_of(w), w);
-    cover(b, run.first, run.last, run.step)
+    match op {
+        Op::Second => w.copy(),
+        _ => {
+            let run = interval_of_row(op, &extent_of(v), &extent_of(w), w);
+            cover(b, run.first, run.last, run.step)
+        }
+    }
 }

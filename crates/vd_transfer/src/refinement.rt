@@ -49,12 +49,6 @@ fn words_below(high: u32) -> Interval
     }
 }
 
-fn words_up_to(high: u32) -> Interval
-    ensures { (x : ℕ) → IsIn result x ↔ (x ≤ high) }
-{
-    Interval { lo: 0, last: high }
-}
-
 fn words_from(low: u32) -> Interval
     ensures { (x : ℕ) → x < 2 ^ 32 → IsIn result x ↔ (low ≤ x) }
 {
@@ -84,7 +78,7 @@ pub(crate) fn words_reached(rel: Relation, low: u32, high: u32) -> (Interval, In
 {
     match rel {
         Relation::Less => (words_below(high), NONE),
-        Relation::AtMost => (words_up_to(high), NONE),
+        Relation::AtMost => (Interval { lo: 0, last: high }, NONE),
         Relation::AtLeast => (words_from(low), NONE),
         Relation::More => (words_past(low), NONE),
         Relation::Other => (words_below(high), words_past(low)),

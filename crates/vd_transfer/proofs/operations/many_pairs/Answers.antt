@@ -1,28 +1,37 @@
-use Rattle.std.proofs.Common.{◌∙◌, ap, ◌<◌, ◌^◌}
+use Rattle.std.proofs.Common.{◌∙◌, ap, ◌<◌, ◌^◌, arith}
 use Rattle.std.proofs.lemmas.List.{take_all}
 use Rattle.value_domain.specs.Values.{cover}
 use Rattle.value_domain.proofs.RangeLaws.{one_value, cover-one}
-use Rattle.vd_transfer.proofs.OpLaws.{pairs_more, pairs_first, pairs-none, met_one}
+use Rattle.vd_transfer.proofs.OpLaws.{pairs_more, pairs_rest, pairs_first, pairs-none, met_one}
 use Rattle.vd_transfer.proofs.operations.many_pairs.Goals as goal
 
-pub loop-x-init : goal.loop-x-init
-loop-x-init c =
+pub loop-i-init : goal.loop-i-init
+loop-i-init c =
     let small : c.alu-first.result < 2 ^ 32 = c.alu-first.type_inv in
     rw (c.one-out.ensures, ← c.alu-first.ensures)
     (record {
+      within = omega arith;
       cover = cover-one c.args.b.now c.alu-first.result c.most_words-most_words.ensures.limits small ∙ ap (cover c.args.b.now) (pairs-none c.args.op c.alu-first.result c.args.ys.now);
       value = one_value c.args.b.now c.alu-first.result c.most_words-most_words.ensures.limits small;
       met = met_one 1024 c.alu-first.result;
     })
 
-pub loop-x-preserved : goal.loop-x-preserved
-loop-x-preserved c = record {
-  cover = c.add_row.ensures.cover ∙ pairs_more c.args.b.now c.loop-x.out c.args.op _ c.loop-x.x-index c.args.xs.now c.args.ys.now c.loop-x-test.true c.loop-x.invariant.cover;
+pub loop-i-preserved : goal.loop-i-preserved
+loop-i-preserved c = record {
+  within = omega arith;
+  cover =
+      rw c.fill.ensures at c.add_row.ensures.cover
+      ∙ pairs_more c.args.b.now c.loop-i.out c.args.op _ c.loop-i.i c.args.xs.now c.args.ys.now c.loop-i-test.true c.loop-i.invariant.cover;
   value = c.add_row.ensures.value;
   met = c.add_row.ensures.met;
 }
 
+pub returns-then-xs-i-clause-cover : goal.returns-then-xs-i-clause-cover
+returns-then-xs-i-clause-cover c =
+    rw (take_all c.loop-i.i c.args.xs.now c.if-xs-i.true) at c.loop-i.invariant.cover
+    ∙ pairs_first c.args.b.now c.args.op c.args.xs.now c.args.ys.now c.requires.left c.requires.right
+
 pub returns-clause-cover : goal.returns-clause-cover
 returns-clause-cover c =
-    rw (take_all c.loop-x.x-index c.args.xs.now c.loop-x-test.false) at c.loop-x.invariant.cover
+    c.widen.ensures.cover ∙ pairs_rest c.args.b.now c.loop-i.out c.args.op _ c.loop-i.i c.args.xs.now c.args.ys.now c.loop-i.invariant.cover
     ∙ pairs_first c.args.b.now c.args.op c.args.xs.now c.args.ys.now c.requires.left c.requires.right

@@ -1,4 +1,4 @@
-use Rattle.std.proofs.Common.{◌≤◌, ◌<◌, inl, inr}
+use Rattle.std.proofs.Common.{◌≤◌, ◌<◌, inl, inr, arith}
 use Rattle.vd_transfer.specs.Intervals.{Reaches}
 use Rattle.vd_transfer.proofs.Meets.{with_none}
 use Rattle.vd_transfer.proofs.refinement.words_reached.Goals as goal
@@ -9,7 +9,7 @@ returns-in-Less c = λ x h. rw c.in-Less.is (with_none (x < c.args.high) c.words
 
 pub returns-in-AtMost : goal.returns-in-AtMost
 unfolding Reaches
-returns-in-AtMost c = λ x h. rw c.in-AtMost.is (with_none (x ≤ c.args.high) c.words_up_to.result x (c.words_up_to.ensures x))
+returns-in-AtMost c = λ x h. rw c.in-AtMost.is (with_none (x ≤ c.args.high) _ x ((λ i. i.1), (λ l. (omega arith, l))))
 
 pub returns-in-AtLeast : goal.returns-in-AtLeast
 unfolding Reaches
