@@ -261,6 +261,10 @@ pub interrupts_none : (plan : PlanData) (key : Key) (s : State) (irqs : List ℕ
 interrupts_none plan key s [] e len = ap (λ (l : List ℕ). map (λ p. owed 11 (enter (irq_key plan p) (irq_entry plan key s p))) l) e
 interrupts_none plan key s (p ∷ ps) e len = absurd (omega arith)
 
+-- nor where interrupts are disabled
+pub disabled_none : (plan : PlanData) (key : Key) (s : State) → s.ie ≡ false → [] ≡ interrupts_of plan key s
+disabled_none plan key s e = rw e refl
+
 -- addresses that are all multiples of the size, and others
 pub aligned_none : (plan : PlanData) (key : Key) (s : State) (at : Val) (size : ℕ) → are_aligned at size ≡ true → [] ≡ misaligned_at plan key s at size
 aligned_none plan key s at size e = rw e refl

@@ -70,8 +70,16 @@ impl<'a> AnyCert<'a> {
         ensures { result ≡ slice_get self.now.nodes index }
     {
         match &self.form {
-            CertForm::InMemory(cert) => plain_at(cert, index),
-            CertForm::OnBytes(cert) => packed_at(cert, index),
+            CertForm::InMemory(cert) => {
+                if index < cert.nodes.len() {
+                    return Some(Frame::plain(&cert.nodes[index]));
+                }
+                None
+            }
+            CertForm::OnBytes(cert) => match cert.get(index) {
+                Some(node) => Some(Frame::packed(node)),
+                None => None,
+            },
         }
     }
 
@@ -80,44 +88,14 @@ impl<'a> AnyCert<'a> {
         ensures { result ≡ find_node key.now self.now.nodes }
     {
         match &self.form {
-            CertForm::InMemory(cert) => plain_node(cert, key),
-            CertForm::OnBytes(cert) => packed_node(cert, key),
+            CertForm::InMemory(cert) => match cert.node(key) {
+                Some(node) => Some(Frame::plain(node)),
+                None => None,
+            },
+            CertForm::OnBytes(cert) => match cert.node(key) {
+                Some(node) => Some(Frame::packed(node)),
+                None => None,
+            },
         }
-    }
-}
-
-fn plain_at<'a>(cert: &'a Cert, index: usize) -> Option<Frame<'a>>
-    ensures { result ≡ slice_get cert.now.nodes index }
-{
-    if index < cert.nodes.len() {
-        return Some(Frame::plain(&cert.nodes[index]));
-    }
-    None
-}
-
-fn packed_at<'a>(cert: &'a PackedCert, index: usize) -> Option<Frame<'a>>
-    ensures { result ≡ slice_get cert.now.nodes index }
-{
-    match cert.get(index) {
-        Some(node) => Some(Frame::packed(node)),
-        None => None,
-    }
-}
-
-fn plain_node<'a>(cert: &'a Cert, key: &Key) -> Option<Frame<'a>>
-    ensures { result ≡ find_node key.now cert.now.nodes }
-{
-    match cert.node(key) {
-        Some(node) => Some(Frame::plain(node)),
-        None => None,
-    }
-}
-
-fn packed_node<'a>(cert: &'a PackedCert, key: &Key) -> Option<Frame<'a>>
-    ensures { result ≡ find_node key.now cert.now.nodes }
-{
-    match cert.node(key) {
-        Some(node) => Some(Frame::packed(node)),
-        None => None,
     }
 }

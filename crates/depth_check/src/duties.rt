@@ -237,6 +237,10 @@ pub(crate) fn broken_by_interrupts(at: &At<'_>) -> Option<u8>
     if again {
         return None;
     }
+    let enabled = at.point.state.ie;
+    if !enabled {
+        return None;
+    }
     let irqs = interrupts(at.plan, at.point.state);
     if irqs.is_empty() {
         return None;

@@ -1,5 +1,6 @@
 // The least rule that fails at a point.
-ghost use Rattle.std.specs.Prelude.{◌≡◌, ◌↔◌, IsTrue, All, IfOk, IfErr, IfSome};
+ghost use Rattle.std.specs.Prelude.{◌≡◌, ◌↔◌, IsTrue, All, IfOk, IfErr, IfSome, Some};
+ghost use Rattle.elf_image.specs.Images.{image_byte};
 ghost use Rattle.value_domain.specs.State.{AreValues};
 ghost use Rattle.tc_isa.specs.declared.shapes.Shape.TheVariants.{Nothing};
 ghost use Rattle.tc_isa.specs.Shapes.{shape_of};
@@ -21,6 +22,7 @@ use crate::successors::broken_by_pass;
 use cfg_recover::{Located, code_at, local_check, start_key};
 use elf_image::Image;
 use tc_isa::{Inst, Shape, shape};
+use tcd_base::any_holds;
 use tcd_plan::Plan;
 use value_domain::Bounds;
 
@@ -35,7 +37,7 @@ fn has_own_need(at: &At<'_>) -> bool
     if usize::from(node.need) < at.point.state.locals.len() {
         return false;
     }
-    if node.key == start_key(image, plan) && at.point.addr == image.entry {
+    if at.point.addr == image.entry && node.key == start_key(image, plan) {
         return u32::from(node.need) <= plan.areas - plan.reserve;
     }
     true
@@ -83,8 +85,10 @@ fn broken_by_any(at: &At<'_>) -> Option<u8>
 {
     let node = at.node;
     let s = at.point.state;
-    let found = local_check(at.bounds, at.image, at.plan, &node.key, at.point.addr, s);
-    broken_by_located(at, &found)
+    broken_by_located(
+        at,
+        &local_check(at.bounds, at.image, at.plan, &node.key, at.point.addr, s),
+    )
 }
 
 /// The least rule that fails at a point where an instruction of this size stands that changes nothing.
@@ -111,12 +115,24 @@ fn is_idle(inst: &Inst) -> bool
     }
 }
 
-/// Whether an instruction that changes nothing may stand at an address: nop16 begins with 00, nop, dsync and isync with 0D.
-fn may_be_idle(image: &Image, addr: u32) -> bool {
-    match image.byte(addr) {
-        Some(first) => first == 0x00 || first == 0x0D,
-        None => false,
+/// Whether this byte stands at an address.
+fn is_byte(image: &Image, addr: u32, byte: u8) -> bool
+    ensures { IsTrue result ↔ (image_byte image.now addr ≡ Some byte) }
+{
+    image.byte(addr) == Some(byte)
+}
+
+/// Whether nop16 stands at an address: 00 00, at an even one and in one rom range.
+fn is_nop16(image: &Image, plan: &Plan, addr: u32) -> bool
+    ensures { IsTrue result → IsCode image.now plan.now addr Nothing 2 }
+{
+    if addr % 2 == 1 {
+        return false;
     }
+    if !any_holds(plan.rom.as_slice(), addr, 2) {
+        return false;
+    }
+    is_byte(image, addr, 0) && is_byte(image, addr + 1, 0)
 }
 
 /// The size of the instruction of a point, where it changes nothing and the next point has the same state.
@@ -127,7 +143,11 @@ fn idle_size(at: &At<'_>) -> Option<u32>
     if at.point.next.is_none() {
         return None;
     }
-    if !may_be_idle(at.image, at.point.addr) {
+    if is_nop16(at.image, at.plan, at.point.addr) {
+        return Some(2);
+    }
+    // The others that change nothing, nop, dsync and isync, begin with 0D.
+    if !is_byte(at.image, at.point.addr, 0x0D) {
         return None;
     }
     let Some(found) = code_at(at.image, at.plan, at.point.addr) else {
