@@ -1,11 +1,12 @@
 -- The lower registers of a state against those of an exit.
 use Rattle.std.proofs.Common.{◌≡◌, ℕ, ◌≤◌, ◌<◌, ◌+◌, ◌-◌, List, length, get_or, take, drop, sym, ◌∙◌, ap, arith, inl, inr, subst}
 use Rattle.std.proofs.lemmas.Bool.{cases_lt}
-use Rattle.std.proofs.lemmas.List.{get_or-take, get_or-drop, get_or_append_left, get_or-append_right, length-take, length-drop, length-append}
+use Rattle.std.proofs.lemmas.List.{get_or-take, get_or-drop, length-take, length-drop}
 use Rattle.value_domain.specs.declared.values.Val.{Val}
 use Rattle.value_domain.specs.Values.{any_val, IsBelow, IsWell}
 use Rattle.value_domain.specs.State.{AreBelow, AreWell}
 use Rattle.depth_cert.specs.Exits.{lower_values}
+use Rattle.packed_cert.proofs.LowerLaws.{lower_front, lower_back, length_lower}
 
 -- a part of well-formed values
 pub well_part : (vs : List Val) (i n : ℕ) → AreWell vs → AreWell (take n (drop i vs))
@@ -18,16 +19,6 @@ pub well_front : (vs : List Val) (n : ℕ) → AreWell vs → AreWell (take n vs
 well_front vs n w r h =
     let lt : r < n = omega (arith, length-take n vs) in
     subst (λ v. IsWell v) (sym (get_or-take n vs r any_val lt)) (w r (omega (arith, length-take n vs)))
-
--- where the lower registers of a state stand in the exit's list
-lower_front : (regs : List Val) (r : ℕ) → 22 ≤ length regs → r < 8 → get_or (lower_values regs) r any_val ≡ get_or (take 8 regs) r any_val
-lower_front regs r len h = get_or_append_left (take 8 regs) (take 6 (drop 16 regs)) any_val r (omega (arith, length-take 8 regs))
-
-lower_back : (regs : List Val) (r : ℕ) → 22 ≤ length regs → 8 ≤ r → get_or (lower_values regs) r any_val ≡ get_or (take 6 (drop 16 regs)) (r - 8) any_val
-lower_back regs r len h = get_or-append_right (take 8 regs) (take 6 (drop 16 regs)) 8 r any_val (omega (arith, length-take 8 regs)) h
-
-length_lower : (regs : List Val) → 22 ≤ length regs → length (lower_values regs) ≡ 14
-length_lower regs len = omega (arith, length-append (take 8 regs) (take 6 (drop 16 regs)), length-take 8 regs, length-take 6 (drop 16 regs), length-drop 16 regs)
 
 exit_back : (lower : List Val) (r : ℕ) → 8 ≤ r → r < 14 → get_or (take 6 (drop 8 lower)) (r - 8) any_val ≡ get_or lower r any_val
 exit_back lower r h k =

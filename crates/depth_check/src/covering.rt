@@ -8,9 +8,9 @@ ghost use Rattle.depth_check.specs.Finding.{IsWellNode, HasPoints, HasExit};
 
 use crate::forms::{Frame, NodeForm};
 use crate::put_cover::stays_covered;
-use cfg_recover::covers_after;
+use cfg_recover::{after, covers_after};
 use depth_cert::{Exit, Node};
-use packed_cert::PackedNode;
+use packed_cert::{ExitAt, PackedNode};
 use value_domain::{Bounds, State, Val, covers, is_value, leq};
 use vd_transfer::{Change, covers_changed};
 
@@ -72,15 +72,14 @@ fn packed_has_after(
     near: usize,
     addr: u32,
     s: &State,
-    exit: &Exit,
+    exit: &ExitAt<'_>,
     kind: u8,
 ) -> bool
-    requires node { IsWellNode node.now }
-    requires state { AreWell (after_of s.now exit.now kind).regs }
+    requires state { AreWell s.now.regs }
     ensures { IsTrue result ↔ HasPoint node.now addr (after_of s.now exit.now kind) }
 {
     match node.state(addr, near) {
-        Some(upper) => covers_after(&upper.read(), s, exit, kind),
+        Some(upper) => upper.covers_after(s, exit, kind),
         None => false,
     }
 }
@@ -156,13 +155,48 @@ pub(crate) fn has_changed_next(
 }
 
 /// Whether it has one that covers the state after an entered frame came back by this exit.
-pub(crate) fn has_after(node: &Frame<'_>, addr: u32, s: &State, exit: &Exit, kind: u8) -> bool
+fn has_after(node: &Frame<'_>, addr: u32, s: &State, exit: &Exit, kind: u8) -> bool
     requires node { IsWellNode node.now }
     requires state { AreWell (after_of s.now exit.now kind).regs }
     ensures { IsTrue result ↔ HasPoint node.now addr (after_of s.now exit.now kind) }
 {
     match &node.form {
         NodeForm::Plain(node) => plain_has_after(node, addr, s, exit, kind),
+        _ => has_built(node, addr, s, exit, kind),
+    }
+}
+
+/// The same, where the state is built.
+// A function of its own, as the next one, so that the others have no room of a state to fill.
+#[inline(never)]
+fn has_built(node: &Frame<'_>, addr: u32, s: &State, exit: &Exit, kind: u8) -> bool
+    requires node { IsWellNode node.now }
+    requires state { AreWell (after_of s.now exit.now kind).regs }
+    ensures { IsTrue result ↔ HasPoint node.now addr (after_of s.now exit.now kind) }
+{
+    has_point(node, addr, &after(s, exit, kind))
+}
+
+/// The same of a node in memory, and an exit in bytes, which is read.
+#[inline(never)]
+fn plain_has_read(node: &Node, addr: u32, s: &State, exit: &ExitAt<'_>, kind: u8) -> bool
+    requires node { IsWellNode node.now }
+    requires exit { AreWell exit.now.lower }
+    requires state { AreWell s.now.regs }
+    ensures { IsTrue result ↔ HasPoint node.now addr (after_of s.now exit.now kind) }
+{
+    plain_has_after(node, addr, s, &exit.read(), kind)
+}
+
+/// The same of an exit where it stands in bytes.
+fn has_after_at(node: &Frame<'_>, addr: u32, s: &State, exit: &ExitAt<'_>, kind: u8) -> bool
+    requires node { IsWellNode node.now }
+    requires exit { AreWell exit.now.lower }
+    requires state { AreWell s.now.regs }
+    ensures { IsTrue result ↔ HasPoint node.now addr (after_of s.now exit.now kind) }
+{
+    match &node.form {
+        NodeForm::Plain(node) => plain_has_read(node, addr, s, exit, kind),
         NodeForm::Packed(node) => packed_has_after(node, 0, addr, s, exit, kind),
         NodeForm::Near(node, near) => packed_has_after(node, *near, addr, s, exit, kind),
     }
@@ -195,7 +229,7 @@ fn packed_comes_back(
         ↔ IfSome entered.now.exit (λ x. HasPoint node.now at (after_of s.now x kind)) }
 {
     match entered.exit() {
-        Some(exit) => has_after(node, at, s, &exit.read(), kind),
+        Some(exit) => has_after_at(node, at, s, &exit, kind),
         None => true,
     }
 }
@@ -303,7 +337,7 @@ fn packed_has_exit(node: &PackedNode<'_>, s: &State) -> bool
     ensures { IsTrue result ↔ HasExit node.now s.now }
 {
     match node.exit() {
-        Some(exit) => is_exit_covered(&exit.read(), s),
+        Some(exit) => exit.covers(s),
         None => false,
     }
 }

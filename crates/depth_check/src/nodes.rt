@@ -44,7 +44,7 @@ fn packed_holds_at_entry(b: &Bounds, node: &PackedNode<'_>) -> bool
         return false;
     }
     match node.exit() {
-        Some(exit) => are_values(b, &exit.read().lower),
+        Some(exit) => exit.are_values(b),
         None => true,
     }
 }

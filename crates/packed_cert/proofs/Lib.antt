@@ -1,5 +1,6 @@
 pub mod BelowLaws
 pub mod CertFinds
+pub mod LowerLaws
 pub mod NodeFinds
 pub mod NodeReads
 pub mod PointPlaces

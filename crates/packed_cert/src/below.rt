@@ -4,16 +4,16 @@ ghost use Rattle.tcd_base.specs.Bytes.{word_at};
 ghost use Rattle.tcd_base.specs.Place.{Place};
 ghost use Rattle.value_domain.specs.declared.values.Val.{Val};
 ghost use Rattle.value_domain.specs.Sets.{Rising, Within, AreWords};
-ghost use Rattle.value_domain.specs.Values.{IsWell, IsBelow};
+ghost use Rattle.value_domain.specs.Values.{IsWell, IsBelow, IsValue};
 ghost use Rattle.packed_cert.specs.Below.{words_at, value_in, HasValue, values_in, HaveValues};
-ghost use Rattle.value_domain.specs.State.{AreWell, AreBelow};
+ghost use Rattle.value_domain.specs.State.{AreWell, AreBelow, AreValues};
 ghost use Rattle.packed_cert.specs.Standing.{at};
 ghost use Rattle.depth_cert.specs.Grammar.{value_at};
 
 use crate::values_after::length_by;
 use depth_cert::read_value;
 use tcd_base::Cursor;
-use value_domain::{Val, extent_of, leq};
+use value_domain::{Bounds, Val, extent_of, is_value, leq};
 
 /// The word at a place.
 pub(crate) fn word(bytes: &[u8], place: usize) -> u32
@@ -68,7 +68,7 @@ fn are_among(own: &[u32], bytes: &[u8], place: usize, n: usize) -> bool
 
 /// A value of which the words are listed in bytes, read.
 #[inline(never)]
-fn value(bytes: &[u8], version: u8, place: usize) -> Val
+pub(crate) fn value(bytes: &[u8], version: u8, place: usize) -> Val
     requires short { length bytes.now ≤ 2 ^ 30 }
     requires stands { HasValue version bytes.now place }
     ensures { result ≡ value_in version bytes.now place }
@@ -144,6 +144,35 @@ pub(crate) fn are_below_at(low: &[Val], bytes: &[u8], version: u8, place: usize)
             return false;
         }
         at += length_by(bytes[at]);
+    }
+    true
+}
+
+/// Whether the value that stands at a place is one of the plan and the version.
+#[inline(never)]
+fn is_value_at(b: &Bounds, bytes: &[u8], version: u8, place: usize) -> bool
+    requires short { length bytes.now ≤ 2 ^ 30 }
+    requires stands { HasValue version bytes.now place }
+    ensures { IsTrue result ↔ IsValue b.now (value_in version bytes.now place) }
+{
+    is_value(b, &value(bytes, version, place))
+}
+
+/// Whether each of the `n` values that stand from a place on is one of the plan and the version.
+pub(crate) fn are_values_at(b: &Bounds, bytes: &[u8], version: u8, place: usize, n: usize) -> bool
+    requires short { length bytes.now ≤ 2 ^ 30 }
+    requires stand { HaveValues version bytes.now place n }
+    ensures { IsTrue result ↔ AreValues b.now (values_in version bytes.now place n) }
+{
+    let _most_words = b.most_words();
+    let mut at = place;
+    for _i in 0..n {
+        let tag = bytes[at];
+        // Any value is one of the plan.
+        if tag != 0 && !is_value_at(b, bytes, version, at) {
+            return false;
+        }
+        at += length_by(tag);
     }
     true
 }

@@ -6,6 +6,7 @@ ghost use Rattle.tcd_base.specs.Reading.{many_at};
 ghost use Rattle.depth_cert.specs.Grammar.{node_after, certificate_of};
 ghost use Rattle.packed_cert.specs.Nodes.{nodes_of, cert_of, HasPlaces};
 
+use crate::exits::no_exit;
 use crate::node_fields::read_node;
 use crate::node_places::NodePlaces;
 use crate::point_fields::{Room, blank};
@@ -31,6 +32,7 @@ fn read_nodes(
 {
     let mut nodes = Vec::new(alloc);
     let mut room = Room {
+        exit: no_exit(),
         state: blank(),
         used: 0,
     };

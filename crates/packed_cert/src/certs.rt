@@ -129,7 +129,7 @@ impl PackedCert {
 }
 
 /// Bytes are below 256, as their type says.
-fn are_bytes(bytes: &[u8])
+pub(crate) fn are_bytes(bytes: &[u8])
     ensures { (k : ℕ) → slice_index bytes.now k < 2 ^ 8 }
 {}
 

@@ -1,12 +1,15 @@
 // Exits where they stand in bytes.
-ghost use Rattle.std.specs.Prelude.{◌≡◌, ◌≤◌, ◌^◌, length, Ok, Err, OnOk, IfErr};
+ghost use Rattle.std.specs.Prelude.{◌≡◌, ◌≤◌, ◌^◌, ◌↔◌, IsTrue, length, Ok, Err, OnOk, IfErr};
 ghost use Rattle.depth_cert.specs.Grammar.{exit_at};
 ghost use Rattle.packed_cert.specs.Nodes.{exit_in, HasExit};
 
+use crate::below::are_values_at;
+use crate::certs::are_bytes;
+use crate::restored::{ValuesAt, are_lower_below_at};
 use depth_cert::{Exit, read_flag, read_values};
 use std::marker::Model;
 use tcd_base::{Cursor, FormErr, read_u8};
-use value_domain::Val;
+use value_domain::{Bounds, State, Val};
 
 /// An exit where it stands in bytes.
 #[derive(Drop)]
@@ -28,6 +31,10 @@ impl<'a> Model for ExitAt<'a> {
 }
 
 impl<'a> ExitAt<'a> {
+    ghost use Rattle.value_domain.specs.State.{AreValues, AreWell};
+    ghost use Rattle.depth_cert.specs.Exits.{exit_of, ExitCovers};
+    ghost use Rattle.packed_cert.specs.Below.{values_in, HaveValues};
+
     /// The exit that stands at a place.
     pub(crate) fn at(bytes: &'a [u8], version: u8, place: usize) -> ExitAt<'a>
         requires short { length bytes.now ≤ 2 ^ 30 }
@@ -55,6 +62,44 @@ impl<'a> ExitAt<'a> {
         self.bytes[self.place + 1]
     }
 
+    /// Where the values of its lower registers stand.
+    pub(crate) fn lower(&self) -> ValuesAt<'a>
+        ensures short { length result.bytes.now ≤ 2 ^ 30 }
+        ensures have { HaveValues result.version result.bytes.now result.place 14 }
+        ensures values { self.now.lower
+            ≡ values_in result.version result.bytes.now result.place 14 }
+    {
+        are_bytes(self.bytes);
+        ValuesAt {
+            bytes: self.bytes,
+            version: self.version,
+            place: self.place + 2,
+        }
+    }
+
+    /// Whether its values are those of the plan and the version.
+    pub fn are_values(&self, b: &Bounds) -> bool
+        ensures { IsTrue result ↔ AreValues b.now self.now.lower }
+    {
+        let lower = self.lower();
+        are_values_at(b, lower.bytes, lower.version, lower.place, 14)
+    }
+
+    /// Whether it covers that of a state, of which the values are compared where its own stand.
+    pub fn covers(&self, s: &State) -> bool
+        requires { AreWell s.now.regs }
+        ensures { IsTrue result ↔ ExitCovers self.now (exit_of s.now) }
+    {
+        if s.ie && !self.ie() {
+            return false;
+        }
+        if s.ccpn < self.ccpn() {
+            return false;
+        }
+        let lower = self.lower();
+        are_lower_below_at(s, lower.bytes, lower.version, lower.place)
+    }
+
     /// The exit, read.
     pub fn read(&self) -> Exit
         ensures { result ≡ self.now }
@@ -69,10 +114,11 @@ impl<'a> ExitAt<'a> {
 
 /// Reads an exit into its place.
 #[tactic(auto, unfolding(depth_cert::specs::Grammar::exit_at))]
-fn read_into(c: &mut Cursor<'_>, version: u8, out: &mut Exit) -> Result<(), FormErr>
+pub(crate) fn read_into(c: &mut Cursor<'_>, version: u8, out: &mut Exit) -> Result<(), FormErr>
     requires { length c.old.bytes ≤ 2 ^ 30 }
     ensures ok { OnOk result (exit_at version c.old ≡ Ok (out.new, c.new)) }
     ensures err { IfErr result (λ e. exit_at version c.old ≡ Err e) }
+    ensures bytes { c.new.bytes ≡ c.old.bytes }
 {
     out.ie = read_flag(c)?;
     out.ccpn = read_u8(c)?;
@@ -81,7 +127,7 @@ fn read_into(c: &mut Cursor<'_>, version: u8, out: &mut Exit) -> Result<(), Form
 }
 
 /// An exit of which nothing is known.
-fn no_exit() -> Exit {
+pub(crate) fn no_exit() -> Exit {
     Exit {
         ie: false,
         ccpn: 0,

@@ -11,6 +11,7 @@ mod node_places;
 mod packed_nodes;
 mod packed_points;
 mod point_fields;
+mod restored;
 mod same_bytes;
 mod state_places;
 mod states;

@@ -8,9 +8,10 @@ ghost use Rattle.depth_cert.specs.Keys.{key_number, number_of_key};
 ghost use Rattle.depth_cert.specs.Certs.{count_points};
 ghost use Rattle.packed_cert.specs.Nodes.{exit_in, HasExit, node_of, nodes_of, HasPlaces};
 
+use crate::exits::read_into;
 use crate::node_places::NodePlaces;
 use crate::point_fields::{Room, read_points};
-use depth_cert::{CertErr, Key, fault, number_of, read_exit, read_has_exit, read_need};
+use depth_cert::{CertErr, Exit, Key, fault, number_of, read_has_exit, read_need};
 use std::alloc::Global;
 use tcd_base::{Cursor, FormErr, read_u8, read_u32};
 
@@ -63,13 +64,14 @@ fn read_key(c: &mut Cursor<'_>, before: &[NodePlaces]) -> Result<Key, FormErr>
     })
 }
 
-/// The place of a node's exit, if it has one.
+/// The place of a node's exit, if it has one; it is read into its room.
 #[tactic(auto, unfolding(depth_cert::specs::Grammar::exits_at))]
 fn read_exits(
     c: &mut Cursor<'_>,
     bytes: &[u8],
     version: u8,
     kind: u8,
+    room: &mut Exit,
 ) -> Result<Option<u32>, FormErr>
     requires short { length c.old.bytes ≤ 2 ^ 30 }
     requires same { c.old.bytes ≡ bytes.now }
@@ -83,7 +85,7 @@ fn read_exits(
         return Ok(None);
     }
     let place = c.place() as u32;
-    let _exit = read_exit(c, version)?;
+    let _read = read_into(c, version, room)?;
     Ok(Some(place))
 }
 
@@ -113,7 +115,7 @@ pub(crate) fn read_node(
 {
     let key = read_key(c, before)?;
     let need = read_need(c)?;
-    let exit = read_exits(c, bytes, version, key.kind)?;
+    let exit = read_exits(c, bytes, version, key.kind, &mut room.exit)?;
     let points = read_points(alloc, c, bytes, version, room)?;
     Ok(NodePlaces {
         key,

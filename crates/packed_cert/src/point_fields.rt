@@ -12,7 +12,7 @@ use crate::packed_points::PackedPoint;
 use crate::state_places::{Anew, ReadState, StatePlaces};
 use crate::values_after::{passes, read_values_after};
 use arrayvec::ArrayVec;
-use depth_cert::{CertErr, fault, read_flag, read_locals, read_point_count, read_values};
+use depth_cert::{CertErr, Exit, fault, read_flag, read_locals, read_point_count, read_values};
 use std::alloc::Global;
 use tcd_base::{Cursor, FormErr, read_u8, read_u32};
 use value_domain::{State, Val};
@@ -201,10 +201,11 @@ fn read_address(c: &mut Cursor<'_>, before: &[PackedPoint]) -> Result<u32, FormE
     Ok(addr)
 }
 
-/// What the reading of a certificate carries from node to node: room for a state, and how many
-/// points were read.
+/// What the reading of a certificate carries from node to node: room for an exit and for a state,
+/// and how many points were read.
 #[derive(Drop)]
 pub(crate) struct Room {
+    pub(crate) exit: Exit,
     pub(crate) state: State,
     pub(crate) used: usize,
 }

@@ -1,12 +1,14 @@
 // States where they stand in bytes.
-ghost use Rattle.std.specs.Prelude.{◌≡◌, ◌≤◌, ◌+◌, ◌^◌, ◌↔◌, IsTrue, length};
+ghost use Rattle.std.specs.Prelude.{◌≡◌, ◌≤◌, ◌+◌, ◌^◌, ◌↔◌, ◌==◌, if◌then◌else◌, IsTrue, length};
 ghost use Rattle.packed_cert.specs.Standing.{flags_in};
 ghost use Rattle.packed_cert.specs.Points.{state_in, HasState};
 ghost use Rattle.packed_cert.specs.Below.{values_in, HaveValues};
 
 use crate::below::are_below_at;
 use crate::changed::is_changed_below_at;
+use crate::exits::ExitAt;
 use crate::point_fields::{blank, read_state_after};
+use crate::restored::{ValuesAt, are_restored_below};
 use arrayvec::ArrayVec;
 use std::marker::Model;
 use tcd_base::Cursor;
@@ -91,6 +93,7 @@ impl<'a> StateAt<'a> {
 
 impl<'a> StateAt<'a> {
     ghost use Rattle.value_domain.specs.State.{AreWell, AreBelow, Covers};
+    ghost use Rattle.depth_cert.specs.Exits.{after_of};
     ghost use Rattle.vd_transfer.specs.Changes.{state_after};
 
     /// Whether each value is below that of the same register, compared where these stand.
@@ -108,7 +111,7 @@ impl<'a> StateAt<'a> {
             ↔ ((IsTrue ie → IsTrue self.now.ie) × (self.now.ccpn ≤ ccpn)
             × (IsTrue self.now.lower → IsTrue lower)) }
     {
-        implies(ie, self.ie()) && self.ccpn() <= ccpn && implies(self.lower(), lower)
+        (self.ie() || !ie) && self.ccpn() <= ccpn && (lower || !self.lower())
     }
 
     /// Whether each run that a state allows is allowed by this one.
@@ -139,12 +142,38 @@ impl<'a> StateAt<'a> {
         let place = place_of_values(self.bytes, self.version, self.place);
         is_changed_below_at(s, c, self.bytes, self.version, place)
     }
+
+    /// Whether this state covers the one after a call (`kind` 1) or a system call (`kind` 3) that came
+    /// back by the exit; neither is read.
+    pub fn covers_after(&self, s: &State, exit: &ExitAt<'_>, kind: u8) -> bool
+        requires { AreWell s.now.regs }
+        ensures { IsTrue result ↔ Covers self.now (after_of s.now exit.now kind) }
+    {
+        let (ie, ccpn) = status_after(s, exit, kind);
+        if !self.covers_context(ie, ccpn, false) {
+            return false;
+        }
+        if !are_implied(self.locals().as_slice(), s.locals.as_slice()) {
+            return false;
+        }
+        let high = ValuesAt {
+            bytes: self.bytes,
+            version: self.version,
+            place: place_of_values(self.bytes, self.version, self.place),
+        };
+        are_restored_below(&s.regs, exit.lower(), high)
+    }
 }
 
-fn implies(a: bool, b: bool) -> bool
-    ensures { IsTrue result ↔ (IsTrue a → IsTrue b) }
+/// IE and CCPN after a call, which are its exit's, or after a system call, which are its caller's.
+fn status_after(s: &State, exit: &ExitAt<'_>, kind: u8) -> (bool, u8)
+    ensures ie { result.0 ≡ (if kind == 1 then exit.now.ie else s.now.ie) }
+    ensures ccpn { result.1 ≡ (if kind == 1 then exit.now.ccpn else s.now.ccpn) }
 {
-    if a { b } else { true }
+    if kind == 1 {
+        return (exit.ie(), exit.ccpn());
+    }
+    (s.ie, s.ccpn)
 }
 
 /// The truth values that stand from a place on.

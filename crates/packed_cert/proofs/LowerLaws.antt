@@ -1,0 +1,92 @@
+-- The values of the lower registers, by their numbers among them and by their places in a state.
+use Rattle.std.proofs.Common.{◌≡◌, ℕ, ◌≤◌, ◌<◌, ◌+◌, ◌-◌, List, length, get_or, take, drop, true, false, cond, ltb, refl, sym, ◌∙◌, ap, arith, inl, inr, subst}
+use Rattle.std.specs.Prelude.{IsTrue}
+use Rattle.std.proofs.lemmas.Bool.{cases_lt, cases_Bool}
+use Rattle.std.proofs.lemmas.List.{get_or-take, get_or-drop, get_or_append_left, get_or-append_right, length-take, length-drop, length-append}
+use Rattle.value_domain.specs.declared.values.Val.{Val}
+use Rattle.value_domain.specs.Values.{any_val, IsWell}
+use Rattle.value_domain.specs.State.{AreWell, is_lower_slot}
+use Rattle.depth_cert.specs.Exits.{lower_values, with_lower_from}
+use Rattle.depth_cert.proofs.ExitValues.{restored_at, after-at}
+use Rattle.packed_cert.specs.Standing.{behind}
+use Rattle.packed_cert.specs.Below.{value_in, values_in, HasValue, HaveValues}
+use Rattle.packed_cert.proofs.ValueShapes.{left_first, length-values_in}
+
+-- ---- where they stand in a list of their own
+pub lower_front : (regs : List Val) (r : ℕ) → 22 ≤ length regs → r < 8 → get_or (lower_values regs) r any_val ≡ get_or (take 8 regs) r any_val
+lower_front regs r len h = get_or_append_left (take 8 regs) (take 6 (drop 16 regs)) any_val r (omega (arith, length-take 8 regs))
+
+pub lower_back : (regs : List Val) (r : ℕ) → 22 ≤ length regs → 8 ≤ r → get_or (lower_values regs) r any_val ≡ get_or (take 6 (drop 16 regs)) (r - 8) any_val
+lower_back regs r len h = get_or-append_right (take 8 regs) (take 6 (drop 16 regs)) 8 r any_val (omega (arith, length-take 8 regs)) h
+
+pub length_lower : (regs : List Val) → 22 ≤ length regs → length (lower_values regs) ≡ 14
+length_lower regs len = omega (arith, length-append (take 8 regs) (take 6 (drop 16 regs)), length-take 8 regs, length-take 6 (drop 16 regs), length-drop 16 regs)
+
+-- by the place in a state
+pub lower_low : (regs : List Val) (i : ℕ) → 22 ≤ length regs → i < 8 → get_or (lower_values regs) i any_val ≡ get_or regs i any_val
+lower_low regs i len h = lower_front regs i len h ∙ get_or-take 8 regs i any_val h
+
+pub lower_high : (regs : List Val) (i : ℕ) → 22 ≤ length regs → 8 ≤ i → i < 14 → get_or (lower_values regs) i any_val ≡ get_or regs (i + 8) any_val
+lower_high regs i len h k =
+    let e : 16 + (i - 8) ≡ i + 8 = omega arith in
+    lower_back regs i len h
+    ∙ get_or-take 6 (drop 16 regs) (i - 8) any_val (omega arith)
+    ∙ get_or-drop 16 regs (i - 8) any_val
+    ∙ ap (λ (n : ℕ). get_or regs n any_val) e
+
+pub lower_well : (regs : List Val) (i : ℕ) → 22 ≤ length regs → i < 14 → AreWell regs → IsWell (get_or (lower_values regs) i any_val)
+lower_well regs i len h well =
+    elim (cases_lt i 8) [
+      | inl low ↦ subst (λ (v : Val). IsWell v) (sym (lower_low regs i len low)) (well i (omega arith))
+      | inr high ↦ subst (λ (v : Val). IsWell v) (sym (lower_high regs i len high h)) (well (i + 8) (omega arith))
+    ]
+
+-- ---- how many of them have a place before one
+abbrev pub lower_before : ℕ → ℕ
+lower_before i = cond (ltb i 8) i (cond (ltb i 16) 8 (cond (ltb i 22) (i - 8) 14))
+
+slot_before : (i : ℕ) → i < 27 → is_lower_slot i ≡ true → (lower_before (i + 1) ≡ lower_before i + 1) × (lower_before i < 14) × (cond (ltb i 8) i (i - 8) ≡ lower_before i)
+slot_before i h e = grind (arith)
+
+other_before : (i : ℕ) → i < 27 → is_lower_slot i ≡ false → lower_before (i + 1) ≡ lower_before i
+other_before i h e = grind (arith)
+
+-- ---- the state in which they are replaced by those that stand at a place: one value after another
+-- those that are left stand from a place on, where n were looked at
+pub record LeftBehind (version : ℕ) (bytes : List ℕ) (place n from : ℕ) : Type 0 where
+  pub have : HaveValues version bytes from (14 - n)
+  pub left : drop n (values_in version bytes place 14) ≡ values_in version bytes from (14 - n)
+
+-- the value at place i
+abbrev pub restored_in : ℕ → List ℕ → ℕ → ℕ → List Val → Val
+restored_in version bytes from i regs = cond (is_lower_slot i) (value_in version bytes from) (get_or regs i any_val)
+
+pub record LowerStep (version : ℕ) (bytes : List ℕ) (place i from : ℕ) (regs : List Val) : Type 0 where
+  pub has : IsTrue (is_lower_slot i) → HasValue version bytes from
+  pub is : get_or (with_lower_from 0 (values_in version bytes place 14) regs) i any_val ≡ restored_in version bytes from i regs
+  pub next : LeftBehind version bytes place (lower_before (i + 1)) (cond (is_lower_slot i) (behind bytes from) from)
+
+pub lower_step : (version : ℕ) (bytes : List ℕ) (place i from : ℕ) (regs : List Val) → i < 27 → length regs ≡ 27 → LeftBehind version bytes place (lower_before i) from → LowerStep version bytes place i from regs
+lower_step version bytes place i from regs h len l =
+    let ls : List Val = values_in version bytes place 14 in
+    let at : get_or (with_lower_from 0 ls regs) i any_val ≡ restored_at i ls (get_or regs i any_val) = after-at ls regs i (omega arith) in
+    elim (cases_Bool (is_lower_slot i)) [
+      | inl t ↦
+          let k = slot_before i h t in
+          let f = left_first version bytes from 14 (lower_before i) ls k.1 (length-values_in version bytes place 14) l.have l.left in
+          let next : LeftBehind version bytes place (lower_before i + 1) (behind bytes from) = record { have = f.1; left = f.3 } in
+          let value : restored_at i ls (get_or regs i any_val) ≡ value_in version bytes from = rw t (ap (λ (n : ℕ). get_or ls n any_val) k.2 ∙ f.2) in
+          let back : value_in version bytes from ≡ restored_in version bytes from i regs = rw t refl in
+          record {
+            has = λ s. f.0;
+            is = at ∙ value ∙ back;
+            next = rw t (subst (λ (n : ℕ). LeftBehind version bytes place n (behind bytes from)) (sym k.0) next);
+          }
+      | inr f ↦
+          let same : restored_at i ls (get_or regs i any_val) ≡ restored_in version bytes from i regs = rw f refl in
+          record {
+            has = λ s. absurd (let e : false ≡ true = sym f ∙ s in cc);
+            is = at ∙ same;
+            next = rw f (subst (λ (n : ℕ). LeftBehind version bytes place n from) (sym (other_before i h f)) l);
+          }
+    ]

@@ -1,0 +1,153 @@
+// The lower registers' values of exits, compared where they stand.
+ghost use Rattle.std.specs.Prelude.{◌≡◌, ◌≤◌, ◌<◌, ◌^◌, ◌↔◌, if◌then◌else◌, IsTrue, length, slice_index_or};
+ghost use Rattle.value_domain.specs.Values.{any_val, IsBelow};
+ghost use Rattle.value_domain.specs.State.{AreWell, AreBelow};
+ghost use Rattle.value_domain.specs.State as states;
+ghost use Rattle.depth_cert.specs.Exits.{lower_values, with_lower_from};
+ghost use Rattle.packed_cert.specs.Standing.{behind};
+ghost use Rattle.packed_cert.specs.Below.{value_in, HasValue, values_in, HaveValues};
+
+use crate::below::{is_below_at, value};
+use crate::certs::are_bytes;
+use crate::values_after::length_by;
+use value_domain::{State, Val};
+
+/// Values that stand in bytes, by the place of the first.
+#[derive(Clone, Copy)]
+pub(crate) struct ValuesAt<'a> {
+    pub(crate) bytes: &'a [u8],
+    pub(crate) version: u8,
+    pub(crate) place: usize,
+}
+
+/// The value of a lower register, by its number among them.
+fn lower_value(regs: &[Val; 27], i: usize) -> &Val
+    requires { i < 14 }
+    ensures { result.now ≡ slice_index_or (lower_values regs.now) i any_val }
+{
+    if i < 8 { &regs[i] } else { &regs[i + 8] }
+}
+
+/// Whether each value of the lower registers of a state is below the one that stands in its turn.
+pub(crate) fn are_lower_below_at(s: &State, bytes: &[u8], version: u8, place: usize) -> bool
+    requires short { length bytes.now ≤ 2 ^ 30 }
+    requires well { AreWell s.now.regs }
+    requires stand { HaveValues version bytes.now place 14 }
+    ensures { IsTrue result
+        ↔ AreBelow (lower_values s.now.regs) (values_in version bytes.now place 14) }
+{
+    let _regs = &s.regs[..];
+    let mut at = place;
+    for i in 0..14 {
+        if !is_below_at(lower_value(&s.regs, i), bytes, version, at) {
+            return false;
+        }
+        at += length_by(bytes[at]);
+    }
+    true
+}
+
+/// Whether a place of a state is that of a lower register.
+fn is_lower_slot(i: usize) -> bool
+    ensures { result ≡ states.is_lower_slot i }
+{
+    i < 8 || (16 <= i && i < 22)
+}
+
+/// Whether each member of the value that stands at a place is one of the value that stands at
+/// another; the first is read.
+#[inline(never)]
+fn is_read_below(low: ValuesAt<'_>, high: ValuesAt<'_>) -> bool
+    requires low_short { length low.bytes.now ≤ 2 ^ 30 }
+    requires high_short { length high.bytes.now ≤ 2 ^ 30 }
+    requires low { HasValue low.version low.bytes.now low.place }
+    requires high { HasValue high.version high.bytes.now high.place }
+    ensures { IsTrue result
+        ↔ IsBelow (value_in low.entry.version low.entry.bytes.now low.entry.place)
+        (value_in high.entry.version high.entry.bytes.now high.entry.place) }
+{
+    are_bytes(low.bytes);
+    let v = value(low.bytes, low.version, low.place);
+    is_below_at(&v, high.bytes, high.version, high.place)
+}
+
+/// Whether the value at a place of a state, for a lower register the one that stands at `low`, is
+/// below the one that stands at `high`.
+fn is_restored_below(regs: &[Val; 27], i: usize, low: ValuesAt<'_>, high: ValuesAt<'_>) -> bool
+    requires place { i < 27 }
+    requires well { AreWell regs.now }
+    requires low_short { length low.bytes.now ≤ 2 ^ 30 }
+    requires high_short { length high.bytes.now ≤ 2 ^ 30 }
+    requires low { IsTrue (states.is_lower_slot i) → HasValue low.version low.bytes.now low.place }
+    requires high { HasValue high.version high.bytes.now high.place }
+    ensures { IsTrue result
+        ↔ IsBelow
+        (if states.is_lower_slot i
+        then value_in low.entry.version low.entry.bytes.now low.entry.place
+        else slice_index_or regs.now i any_val)
+        (value_in high.entry.version high.entry.bytes.now high.entry.place) }
+{
+    are_bytes(low.bytes);
+    are_bytes(high.bytes);
+    if is_lower_slot(i) {
+        // Below any value is each.
+        if high.bytes[high.place] == 0 {
+            return true;
+        }
+        return is_read_below(low, high);
+    }
+    is_below_at(&regs[i], high.bytes, high.version, high.place)
+}
+
+/// The place of the next lower register's value, where the one at `low` is that of place `i` if that
+/// is a lower register's.
+fn next_lower(i: usize, low: ValuesAt<'_>) -> usize
+    requires short { length low.bytes.now ≤ 2 ^ 30 }
+    requires low { IsTrue (states.is_lower_slot i) → HasValue low.version low.bytes.now low.place }
+    ensures { result
+        ≡ (if states.is_lower_slot i then behind low.entry.bytes.now low.entry.place
+        else low.entry.place) }
+{
+    are_bytes(low.bytes);
+    if is_lower_slot(i) {
+        return low.place + length_by(low.bytes[low.place]);
+    }
+    low.place
+}
+
+/// Whether each value of a state in which those of the lower registers are replaced by the ones that
+/// stand at `lower` is below the one that stands in its turn at `high`.
+pub(crate) fn are_restored_below(regs: &[Val; 27], lower: ValuesAt<'_>, high: ValuesAt<'_>) -> bool
+    requires well { AreWell regs.now }
+    requires low_short { length lower.bytes.now ≤ 2 ^ 30 }
+    requires high_short { length high.bytes.now ≤ 2 ^ 30 }
+    requires low { HaveValues lower.version lower.bytes.now lower.place 14 }
+    requires high { HaveValues high.version high.bytes.now high.place 27 }
+    ensures { IsTrue result
+        ↔ AreBelow
+        (with_lower_from 0
+        (values_in lower.entry.version lower.entry.bytes.now lower.entry.place 14) regs.now)
+        (values_in high.entry.version high.entry.bytes.now high.entry.place 27) }
+{
+    are_bytes(high.bytes);
+    let mut from = lower.place;
+    let mut at = high.place;
+    for i in 0..27 {
+        let low = ValuesAt {
+            bytes: lower.bytes,
+            version: lower.version,
+            place: from,
+        };
+        let here = ValuesAt {
+            bytes: high.bytes,
+            version: high.version,
+            place: at,
+        };
+        if !is_restored_below(regs, i, low, here) {
+            return false;
+        }
+        from = next_lower(i, low);
+        at += length_by(high.bytes[at]);
+    }
+    true
+}
