@@ -12,7 +12,7 @@ use Rattle.tcd_base.proofs.FieldReads.{u8_at-between, u16_at-between, u32_at-bet
 use Rattle.tc_object.specs.declared.relocs.Reloc.{Reloc}
 use Rattle.tc_object.specs.Names.{IsName, is_length}
 use Rattle.tc_object.specs.Objects.{SectionData, SymbolData, ObjectData, InTurn, IsSection, IsSymbol, IsReloc, IsObject, is_section_name, is_symbol_name, last_of, is_not_below, is_behind, size_at}
-use Rattle.tc_object.specs.Grammar.{name_length_at, name_bytes_at, name_after, section_after, section_with, kind_at, symbol_section_at, symbol_offset_at, symbol_after, symbol_with, reloc_section_at, reloc_offset_at, reloc_symbol_at, reloc_after, magic_at, section_count_at, parts_at, object_at, object_of}
+use Rattle.tc_object.specs.Grammar.{name_length_at, name_bytes_at, name_after, section_after, section_with, kind_at, symbol_section_at, symbol_offset_at, symbol_after, symbol_with, symbol_named, reloc_section_at, reloc_offset_at, reloc_symbol_at, reloc_after, magic_at, section_count_at, parts_at, object_at, object_of}
 use Rattle.tc_object.specs.Spelling.{bytes_of_name, bytes_of_section, bytes_of_symbol, bytes_of_reloc, bytes_of_header, bytes_of}
 
 -- a reading that goes well, and what follows it
@@ -63,7 +63,7 @@ kind_back low high kind above below front rest =
     then_ok _ _ _ _ (u8_at-between front kind rest) (checked_ok _ _ _ (both _ _ (le-leb low kind above) (le-leb kind high below)))
 
 symbol_back : (sections : List SectionData) (before : List SymbolData) (s : SymbolData) → IsSymbol sections before s → (front rest : List ℕ) → symbol_after sections before (place_between front (bytes_of_symbol s ++ rest)) ≡ Ok (s, place_between (front ++ bytes_of_symbol s) rest)
-unfolding symbol_after symbol_with symbol_section_at symbol_offset_at bytes_of_symbol
+unfolding symbol_after symbol_with symbol_named symbol_section_at symbol_offset_at bytes_of_symbol
 symbol_back sections before s good front rest =
     let f1 : List ℕ = front ++ bytes_of_name s.name in
     let f2 : List ℕ = f1 ++ s.kind ∷ [] in

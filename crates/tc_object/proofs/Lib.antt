@@ -4,3 +4,4 @@ pub mod TurnLaws
 pub mod UsedLaws
 pub mod BackLaws
 pub mod FromLaws
+pub mod RecordLaws

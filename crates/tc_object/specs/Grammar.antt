@@ -49,12 +49,16 @@ symbol_section_at sections kind p = u16_at p >>= λ s. checked 4 (is_section_of 
 unfoldable pub symbol_offset_at : List SectionData → ℕ → ℕ → Place → Result (ℕ × Place) FormErr
 symbol_offset_at sections kind section p = u32_at p >>= λ o. checked 4 (is_offset_of sections kind section o.0) p o
 
+-- a symbol of this name: its kind, section and offset
+unfoldable pub symbol_named : List SectionData → List ℕ → Place → Result (SymbolData × Place) FormErr
+symbol_named sections name p =
+    kind_at 0 2 p >>= λ kind. symbol_section_at sections kind.0 kind.1 >>= λ section.
+    symbol_offset_at sections kind.0 section.0 section.1 >>= λ offset.
+    Ok (record { name = name; kind = kind.0; section = section.0; offset = offset.0 }, offset.1)
+
 -- a symbol with a name that isn't used yet
 unfoldable pub symbol_with : List SectionData → (List ℕ → Bool) → Place → Result (SymbolData × Place) FormErr
-symbol_with sections is_used p =
-    name_after is_used p >>= λ name. kind_at 0 2 name.1 >>= λ kind. symbol_section_at sections kind.0 kind.1 >>= λ section.
-    symbol_offset_at sections kind.0 section.0 section.1 >>= λ offset.
-    Ok (record { name = name.0; kind = kind.0; section = section.0; offset = offset.0 }, offset.1)
+symbol_with sections is_used p = name_after is_used p >>= λ name. symbol_named sections name.0 name.1
 
 -- a symbol behind those before, of which none has its name
 unfoldable pub symbol_after : List SectionData → List SymbolData → Place → Result (SymbolData × Place) FormErr

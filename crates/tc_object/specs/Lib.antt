@@ -3,5 +3,6 @@ pub mod Names
 pub mod Used
 pub mod Objects
 pub mod Grammar
+pub mod Faults
 pub mod Spelling
 pub mod Answers

@@ -1,5 +1,5 @@
 // Fields of object files, read.
-ghost use Rattle.std.specs.Prelude.{◌≡◌, ◌≤◌, ◌^◌, length};
+ghost use Rattle.std.specs.Prelude.{◌≡◌, ◌≤◌, ◌^◌, ◌&&◌, nat_le, length};
 ghost use Rattle.tcd_base.specs.Reading.{Reads};
 ghost use Rattle.tc_object.specs.Grammar.{magic_at, section_count_at, kind_at};
 
@@ -46,6 +46,13 @@ pub(crate) fn read_section_count(c: &mut Cursor<'_>) -> Result<u16, FormErr>
     Ok(count)
 }
 
+/// Whether a kind is one from `low` to `high`.
+pub(crate) fn is_kind(low: u8, high: u8, kind: u8) -> bool
+    ensures { result ≡ (nat_le low kind && nat_le kind high) }
+{
+    low <= kind && kind <= high
+}
+
 /// A kind from `low` to `high`.
 #[tactic(auto, unfolding(crate::specs::Grammar::kind_at))]
 pub(crate) fn read_kind(c: &mut Cursor<'_>, low: u8, high: u8) -> Result<u8, FormErr>
@@ -55,7 +62,7 @@ pub(crate) fn read_kind(c: &mut Cursor<'_>, low: u8, high: u8) -> Result<u8, For
 {
     let start = c.place();
     let kind = read_u8(c)?;
-    if low <= kind && kind <= high {
+    if is_kind(low, high, kind) {
         Ok(kind)
     } else {
         Err(fault(4, start))

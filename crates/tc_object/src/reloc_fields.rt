@@ -1,11 +1,13 @@
 // Relocations, read.
-ghost use Rattle.std.specs.Prelude.{◌≡◌, ◌≤◌, ◌+◌, ◌^◌, ◌-◌, [], length, Ok, Err, IfOk, IfErr};
+ghost use Rattle.std.specs.Prelude.{◌≡◌, ◌≤◌, ◌+◌, ◌^◌, ◌-◌, [], length, slice_index, Ok, Err, Some, None, IfOk, IfErr, MatchResult};
+ghost use Rattle.tcd_base.specs.Bytes.{half_at, word_at};
 ghost use Rattle.tcd_base.specs.Reading.{Reads, many_at};
 ghost use Rattle.tc_object.specs.Answers.{IsFaultOf};
 ghost use Rattle.tc_object.specs.Objects.{size_at, last_of, is_not_below, is_behind};
 ghost use Rattle.tc_object.specs.Grammar.{reloc_section_at, reloc_offset_at, reloc_symbol_at, reloc_after};
+ghost use Rattle.tc_object.specs.Faults.{reloc_fault};
 
-use crate::fields::{fault, read_kind};
+use crate::fields::{fault, is_kind, read_kind};
 use crate::symbol_fields::size_at;
 use crate::{ObjErr, Reloc, Section};
 use std::alloc::Global;
@@ -95,9 +97,10 @@ fn read_symbol_number(c: &mut Cursor<'_>, symbols: u16) -> Result<u16, FormErr>
     Ok(symbol)
 }
 
-/// A relocation behind these.
+/// A relocation behind these, field by field: the first fault where its bytes end early.
+#[inline(never)]
 #[tactic(auto, unfolding(crate::specs::Grammar::reloc_after))]
-fn read_reloc(
+fn read_reloc_fields(
     c: &mut Cursor<'_>,
     sections: &[Section],
     symbols: u16,
@@ -120,6 +123,83 @@ fn read_reloc(
         symbol,
         addend,
     })
+}
+
+// The fields of a relocation in their bytes.
+fn reloc_of(bytes: &[u8]) -> Reloc
+    requires { length bytes.now ≡ 13 }
+    ensures { result ≡ record {
+      section = half_at bytes.now 0;
+      offset = word_at bytes.now 2;
+      kind = slice_index bytes.now 6;
+      symbol = half_at bytes.now 7;
+      addend = word_at bytes.now 9;
+    } }
+{
+    Reloc {
+        section: u16::from_le_bytes([bytes[0], bytes[1]]),
+        offset: u32::from_le_bytes([bytes[2], bytes[3], bytes[4], bytes[5]]),
+        kind: bytes[6],
+        symbol: u16::from_le_bytes([bytes[7], bytes[8]]),
+        addend: u32::from_le_bytes([bytes[9], bytes[10], bytes[11], bytes[12]]),
+    }
+}
+
+// The first fault of a relocation behind these, whose bytes begin at `start`.
+#[tactic(auto, unfolding(crate::specs::Faults::reloc_fault))]
+fn check_reloc(
+    sections: &[Section],
+    symbols: u16,
+    before: &[Reloc],
+    reloc: &Reloc,
+    start: usize,
+) -> Result<(), FormErr>
+    requires { start + 13 ≤ 2 ^ 30 }
+    ensures { MatchResult result
+        (λ _. reloc_fault sections.now symbols before.now reloc.now start ≡ None)
+        (λ e. reloc_fault sections.now symbols before.now reloc.now start ≡ Some e) }
+{
+    if !is_not_below(before, reloc.section) {
+        return Err(fault(3, start));
+    }
+    if reloc.section as usize >= sections.len() {
+        return Err(fault(4, start));
+    }
+    if !is_behind(before, reloc.section, reloc.offset) {
+        return Err(fault(3, start));
+    }
+    if reloc.offset as usize + 4 > size_at(sections, reloc.section) {
+        return Err(fault(4, start + 2));
+    }
+    if !is_kind(1, 7, reloc.kind) {
+        return Err(fault(4, start + 6));
+    }
+    if reloc.symbol >= symbols {
+        return Err(fault(4, start + 7));
+    }
+    Ok(())
+}
+
+/// A relocation behind these: its bytes at once, where they are there.
+fn read_reloc(
+    c: &mut Cursor<'_>,
+    sections: &[Section],
+    symbols: u16,
+    before: &[Reloc],
+) -> Result<Reloc, FormErr>
+    requires { length c.old.bytes ≤ 2 ^ 30 }
+    ensures read { Reads result c.new (reloc_after sections.now symbols before.now c.old) }
+    ensures bytes { c.new.bytes ≡ c.old.bytes }
+{
+    let start = c.place();
+    let Some(bytes) = c.take(13) else {
+        return read_reloc_fields(c, sections, symbols, before);
+    };
+    let reloc = reloc_of(bytes);
+    if let Err(err) = check_reloc(sections, symbols, before, &reloc, start) {
+        return Err(err);
+    }
+    Ok(reloc)
 }
 
 /// So many relocations.

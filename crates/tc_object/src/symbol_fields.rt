@@ -1,13 +1,15 @@
 // Symbols, read.
-ghost use Rattle.std.specs.Prelude.{◌≡◌, ◌≤◌, ◌^◌, ◌-◌, ◌||◌, [], ℕ, List, length, Ok, Err, IfOk, IfErr};
+ghost use Rattle.std.specs.Prelude.{◌≡◌, ◌≤◌, ◌+◌, ◌^◌, ◌-◌, ◌||◌, [], ℕ, List, length, slice_index, string_bytes, Ok, Err, Some, None, IfOk, IfErr, MatchResult};
+ghost use Rattle.tcd_base.specs.Bytes.{half_at, word_at};
 ghost use Rattle.std.specs.Str.{bytes_eq};
 ghost use Rattle.tcd_base.specs.Reading.{Reads, many_at};
 ghost use Rattle.tc_object.specs.Answers.{IsFaultOf};
 ghost use Rattle.tc_object.specs.Objects.{size_at, is_section_of, is_offset_of};
-ghost use Rattle.tc_object.specs.Grammar.{symbol_section_at, symbol_offset_at, symbol_with, symbol_after};
+ghost use Rattle.tc_object.specs.Grammar.{symbol_section_at, symbol_offset_at, symbol_named, symbol_with, symbol_after};
+ghost use Rattle.tc_object.specs.Faults.{symbol_fault};
 ghost use Rattle.tc_object.specs.Used.{is_among};
 
-use crate::fields::{fault, read_kind};
+use crate::fields::{fault, is_kind, read_kind};
 use crate::used_names::{no_names, read_new_name};
 use crate::{ObjErr, Section, Symbol};
 use std::alloc::Global;
@@ -79,6 +81,85 @@ fn read_offset(
     Ok(offset)
 }
 
+/// A symbol of this name, field by field: the first fault where its bytes end early.
+#[inline(never)]
+#[tactic(auto, unfolding(crate::specs::Grammar::symbol_named))]
+fn read_named_fields(
+    c: &mut Cursor<'_>,
+    sections: &[Section],
+    name: String,
+) -> Result<Symbol, FormErr>
+    requires { length c.old.bytes ≤ 2 ^ 30 }
+    ensures read { Reads result c.new (symbol_named sections.now (string_bytes name) c.old) }
+    ensures name { IfOk result (λ s. s.name ≡ string_bytes name) }
+    ensures bytes { c.new.bytes ≡ c.old.bytes }
+{
+    let kind = read_kind(c, 0, 2)?;
+    let section = read_section_number(c, sections, kind)?;
+    let offset = read_offset(c, sections, kind, section)?;
+    Ok(Symbol {
+        name,
+        kind,
+        section,
+        offset,
+    })
+}
+
+// The symbol of this name whose kind, section and offset stand in these bytes.
+fn symbol_of(bytes: &[u8], name: String) -> Symbol
+    requires { length bytes.now ≡ 7 }
+    ensures { result ≡ record {
+      name = string_bytes name;
+      kind = slice_index bytes.now 0;
+      section = half_at bytes.now 1;
+      offset = word_at bytes.now 3;
+    } }
+{
+    Symbol {
+        name,
+        kind: bytes[0],
+        section: u16::from_le_bytes([bytes[1], bytes[2]]),
+        offset: u32::from_le_bytes([bytes[3], bytes[4], bytes[5], bytes[6]]),
+    }
+}
+
+// The first fault of a symbol whose bytes behind its name begin at `start`.
+#[tactic(auto, unfolding(crate::specs::Faults::symbol_fault))]
+fn check_symbol(sections: &[Section], symbol: &Symbol, start: usize) -> Result<(), FormErr>
+    requires { start + 7 ≤ 2 ^ 30 }
+    ensures { MatchResult result (λ _. symbol_fault sections.now symbol.now start ≡ None)
+        (λ e. symbol_fault sections.now symbol.now start ≡ Some e) }
+{
+    if !is_kind(0, 2, symbol.kind) {
+        return Err(fault(4, start));
+    }
+    if !is_section_of(sections, symbol.kind, symbol.section) {
+        return Err(fault(4, start + 1));
+    }
+    if !is_offset_of(sections, symbol.kind, symbol.section, symbol.offset) {
+        return Err(fault(4, start + 3));
+    }
+    Ok(())
+}
+
+/// A symbol of this name: the bytes of its kind, section and offset at once, where they are there.
+fn read_named(c: &mut Cursor<'_>, sections: &[Section], name: String) -> Result<Symbol, FormErr>
+    requires { length c.old.bytes ≤ 2 ^ 30 }
+    ensures read { Reads result c.new (symbol_named sections.now (string_bytes name) c.old) }
+    ensures name { IfOk result (λ s. s.name ≡ string_bytes name) }
+    ensures bytes { c.new.bytes ≡ c.old.bytes }
+{
+    let start = c.place();
+    let Some(bytes) = c.take(7) else {
+        return read_named_fields(c, sections, name);
+    };
+    let symbol = symbol_of(bytes, name);
+    if let Err(err) = check_symbol(sections, &symbol, start) {
+        return Err(err);
+    }
+    Ok(symbol)
+}
+
 /// A symbol with a name that isn't used yet.
 #[tactic(auto, unfolding(crate::specs::Grammar::symbol_with))]
 fn read_symbol<'a>(
@@ -96,15 +177,8 @@ fn read_symbol<'a>(
         ≡ (bytes_eq s.name q || is_among names.old q)) }
 {
     let name = read_new_name(alloc, c, names)?;
-    let kind = read_kind(c, 0, 2)?;
-    let section = read_section_number(c, sections, kind)?;
-    let offset = read_offset(c, sections, kind, section)?;
-    Ok(Symbol {
-        name,
-        kind,
-        section,
-        offset,
-    })
+    let symbol = read_named(c, sections, name)?;
+    Ok(symbol)
 }
 
 /// So many symbols.

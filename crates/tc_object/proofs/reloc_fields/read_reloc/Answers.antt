@@ -1,0 +1,16 @@
+use Rattle.std.proofs.Common.{◌≡◌, ◌∙◌, sym, ap}
+use Rattle.tc_object.specs.Faults.{reloc_fault}
+use Rattle.tc_object.proofs.RecordLaws.{reloc_in, whole_reloc, taken, none_told, fault_told}
+use Rattle.tc_object.proofs.reloc_fields.read_reloc.Goals as goal
+
+pub returns-in-Err-clause-read : goal.returns-in-Err-clause-read
+returns-in-Err-clause-read c =
+    fault_told _ (reloc_fault c.args.sections.now c.args.symbols c.args.before.now) _ c.reloc_of-reloc.result _ c.place-start.result _ c.in-Err.err
+    (whole_reloc c.args.sections.now c.args.symbols c.args.before.now c.args.c.now (taken _ _ _ c.take.ensures.there c.in-Some.is))
+    (c.reloc_of-reloc.ensures ∙ ap reloc_in c.in-Some.ensures.some) c.place-start.ensures.place c.in-Err.ensures
+
+pub returns-clause-read : goal.returns-clause-read
+returns-clause-read c =
+    none_told _ (reloc_fault c.args.sections.now c.args.symbols c.args.before.now) _ c.reloc_of-reloc.result _ c.place-start.result _ c.take.new.self
+    (whole_reloc c.args.sections.now c.args.symbols c.args.before.now c.args.c.now (taken _ _ _ c.take.ensures.there c.in-Some.is))
+    (c.reloc_of-reloc.ensures ∙ ap reloc_in c.in-Some.ensures.some) c.place-start.ensures.place c.in-Some.ensures.moved c.in_default-check_reloc.ensures
