@@ -1,42 +1,61 @@
 // Sections, read.
-ghost use Rattle.std.specs.Prelude.{◌≡◌, ◌≤◌, ◌^◌, ◌-◌, ◌||◌, [], ℕ, List, length, Ok, Err, IfOk, IfErr};
-ghost use Rattle.std.specs.Str.{bytes_eq};
+ghost use Rattle.std.specs.Prelude.{◌≡◌, ◌≤◌, ◌^◌, ◌-◌, [], length, Ok, Err, IfOk, IfErr, MatchResult};
 ghost use Rattle.tc_object.specs.Answers.{IsFaultOf};
 ghost use Rattle.tcd_base.specs.Reading.{many_at};
-ghost use Rattle.tc_object.specs.Grammar.{section_with, section_after};
-ghost use Rattle.tc_object.specs.Used.{is_among};
+ghost use Rattle.tc_object.specs.Objects.{is_section_name};
+ghost use Rattle.tc_object.specs.Grammar.{name_after, section_after};
 
-use crate::used_names::{no_names, read_new_name};
+use crate::fields::fault;
+use crate::names::{read_name_bytes, read_name_length};
 use crate::{ObjErr, Section};
 use std::alloc::Global;
-use std::collections::HashMap;
-use tcd_base::{Cursor, read_bytes, read_u32};
+use tcd_base::{Cursor, FormErr, read_bytes, read_u32};
 
-/// A section with a name that isn't used yet.
-#[tactic(auto, unfolding(crate::specs::Grammar::section_with))]
-fn read_section<'a>(
-    alloc: Global,
-    c: &mut Cursor<'a>,
-    names: &mut HashMap<&'a str, ()>,
-) -> Result<Section, ObjErr>
-    requires { length c.old.bytes ≤ 2 ^ 30 }
-    ensures ok { IfOk result (λ s. section_with (is_among names.old) c.old ≡ Ok (s, c.new)) }
-    ensures err { IfErr result (IsFaultOf (section_with (is_among names.old) c.old)) }
-    ensures bytes { c.new.bytes ≡ c.old.bytes }
-    ensures names { IfOk result (λ s. (q : List ℕ) → is_among names.new q
-        ≡ (bytes_eq s.name q || is_among names.old q)) }
+// Whether one of these sections, which are few, has the name.
+fn is_section_name(sections: &[Section], name: &str) -> bool
+    ensures { result ≡ is_section_name sections.now name.now }
 {
-    let name = read_new_name(alloc, c, names)?;
+    sections.iter().any(|section| name == section.name.as_str())
+}
+
+/// A name that none of these sections has.
+#[tactic(auto, unfolding(crate::specs::Grammar::name_after))]
+fn read_section_name<'a>(c: &mut Cursor<'a>, before: &[Section]) -> Result<&'a str, FormErr>
+    requires { length c.old.bytes ≤ 2 ^ 30 }
+    ensures read { MatchResult result
+        (λ name. name_after (is_section_name before.now) c.old ≡ Ok (name.now, c.new))
+        (λ e. name_after (is_section_name before.now) c.old ≡ Err e) }
+    ensures bytes { c.new.bytes ≡ c.old.bytes }
+{
+    let count = read_name_length(c)?;
+    let start = c.place();
+    let name = read_name_bytes(c, count)?;
+    if is_section_name(before, name) {
+        return Err(fault(4, start));
+    }
+    Ok(name)
+}
+
+/// A section behind these.
+#[tactic(auto, unfolding(crate::specs::Grammar::section_after, crate::specs::Grammar::section_with))]
+fn read_section(alloc: Global, c: &mut Cursor<'_>, before: &[Section]) -> Result<Section, ObjErr>
+    requires { length c.old.bytes ≤ 2 ^ 30 }
+    ensures ok { IfOk result (λ s. section_after before.now c.old ≡ Ok (s, c.new)) }
+    ensures err { IfErr result (IsFaultOf (section_after before.now c.old)) }
+    ensures bytes { c.new.bytes ≡ c.old.bytes }
+{
+    let text = read_section_name(c, before)?;
     let size = read_u32(c)?;
     let part = read_bytes(c, size as usize)?;
+    let name = String::from_str(alloc, text)?;
     let bytes = Vec::from_slice(alloc, part)?;
     Ok(Section { name, bytes })
 }
 
 /// So many sections.
-pub(crate) fn read_sections<'a>(
+pub(crate) fn read_sections(
     alloc: Global,
-    c: &mut Cursor<'a>,
+    c: &mut Cursor<'_>,
     count: u16,
 ) -> Result<Vec<Section>, ObjErr>
     requires { length c.old.bytes ≤ 2 ^ 30 }
@@ -44,10 +63,9 @@ pub(crate) fn read_sections<'a>(
     ensures err { IfErr result (IsFaultOf (many_at section_after count [] c.old)) }
     ensures bytes { c.new.bytes ≡ c.old.bytes }
 {
-    let mut names = no_names(alloc, count)?;
     let mut sections = Vec::with_capacity(alloc, count as usize)?;
     for _i in 0..count {
-        let section = read_section(alloc, c, &mut names)?;
+        let section = read_section(alloc, c, &sections)?;
         sections.push(section)?;
     }
     Ok(sections)
