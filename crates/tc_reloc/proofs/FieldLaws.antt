@@ -102,3 +102,8 @@ module _ (place value : ℕ) (place_word : place < 2 ^ 32) (value_word : value <
   -- what is written where nothing refuses it reaches the value
   pub reached_by-content_of : (kind : ℕ) → 1 ≤ kind → kind ≤ 7 → refusal_of kind place value ≡ None → reached_by kind place value (content_of kind place value) ≡ value
   reached_by-content_of kind some most = at_kind Reaches reaches_each kind some most
+
+-- a whole word takes the value, and nothing of it stays
+pub whole_word : (w place value : ℕ) → value ≡ rest_of 7 w + spread_of 7 (content_of 7 place value)
+unfolding content_of rest_of spread_of
+whole_word w place value = omega arith

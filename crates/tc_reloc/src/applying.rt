@@ -1,7 +1,7 @@
 // A relocation, applied.
-ghost use Rattle.std.specs.Prelude.{◌≡◌, ◌≤◌, OnOk, IfOk};
+ghost use Rattle.std.specs.Prelude.{◌≡◌, ◌≤◌, ◌+◌, OnOk, IfOk};
 ghost use Rattle.tcd_base.specs.Bytes.{word_at};
-ghost use Rattle.tc_reloc.specs.Fields.{content_of, rest_of};
+ghost use Rattle.tc_reloc.specs.Fields.{content_of, rest_of, spread_of};
 ghost use Rattle.tc_reloc.specs.Held.{held_of, reached_by};
 ghost use Rattle.tc_reloc.specs.Applied.{applied};
 
@@ -26,6 +26,19 @@ pub fn apply(kind: u8, field: [u8; 4], place: u32, value: u32) -> Result<[u8; 4]
     if let Some(err) = refusal(kind, place, value) {
         return Err(err);
     }
-    let word = rest(kind, u32::from_le_bytes(field)) + spread(kind, content(kind, place, value));
+    let word = filled(kind, u32::from_le_bytes(field), place, value);
     Ok(word.to_le_bytes())
+}
+
+// The word with the value in its field; of a whole word nothing stays.
+fn filled(kind: u8, word: u32, place: u32, value: u32) -> u32
+    requires some { 1 ≤ kind }
+    requires most { kind ≤ 7 }
+    ensures { result ≡ rest_of kind word + spread_of kind (content_of kind place value) }
+{
+    if kind == 7 {
+        return value;
+    }
+    let filled = rest(kind, word) + spread(kind, content(kind, place, value));
+    filled
 }

@@ -1,32 +1,19 @@
-use Rattle.std.proofs.Common.{◌≡◌, ◌+◌, ap, sym, ◌∙◌, [], arith}
+use Rattle.std.proofs.Common.{◌≡◌, ◌+◌, refl, ap, sym, ◌∙◌, [], arith}
 use Rattle.tcd_base.specs.Bytes.{word_at}
 use Rattle.tcd_base.proofs.ByteWords.{word_at-bytes_of_word}
-use Rattle.tc_reloc.specs.Fields.{spread_of, rest_of}
+use Rattle.tc_reloc.specs.Fields.{content_of, spread_of, rest_of}
 use Rattle.tc_reloc.specs.Held.{held_of}
-use Rattle.tc_reloc.proofs.FieldLaws.{written_below, held_of-written, rest_of-written, content_below, reached_by-content_of}
+use Rattle.tc_reloc.proofs.FieldLaws.{held_of-written, rest_of-written, content_below, reached_by-content_of}
 use Rattle.tc_reloc.proofs.applying.apply.Goals as goal
 
-pub spread-requires : goal.spread-requires
-spread-requires c = content_below c.args.place c.args.value (omega arith) (omega arith) c.args.kind c.content.result c.content.ensures c.requires.some c.requires.most
-
-pub overflow_add-word : goal.overflow_add-word
-overflow_add-word c =
-    let below = written_below c.from_le_bytes.result c.content.result (omega arith) c.args.kind c.requires.some c.requires.most (content_below c.args.place c.args.value (omega arith) (omega arith) c.args.kind c.content.result c.content.ensures c.requires.some c.requires.most) in
-    let same : c.rest.result + c.spread.result ≡ rest_of c.args.kind c.from_le_bytes.result + spread_of c.args.kind c.content.result = cc in
-    omega arith
-
 -- the word that was written
-word_is : (c : goal.After-to_le_bytes) → word_at c.to_le_bytes.result 0 ≡ rest_of c.args.kind c.from_le_bytes.result + spread_of c.args.kind c.content.result
-word_is c =
-    let below = written_below c.from_le_bytes.result c.content.result (omega arith) c.args.kind c.requires.some c.requires.most (content_below c.args.place c.args.value (omega arith) (omega arith) c.args.kind c.content.result c.content.ensures c.requires.some c.requires.most) in
-    let same : c.rest.result + c.spread.result ≡ rest_of c.args.kind c.from_le_bytes.result + spread_of c.args.kind c.content.result = cc in
-    ap (λ b. word_at b 0) c.to_le_bytes.ensures ∙ word_at-bytes_of_word (c.rest.result + c.spread.result) [] (omega arith) ∙ same
+word_is : (c : goal.After-to_le_bytes) → word_at c.to_le_bytes.result 0 ≡ rest_of c.args.kind c.from_le_bytes.result + spread_of c.args.kind (content_of c.args.kind c.args.place c.args.value)
+word_is c = ap (λ b. word_at b 0) c.to_le_bytes.ensures ∙ word_at-bytes_of_word c.filled-word.result [] (omega arith) ∙ c.filled-word.ensures
 
 pub returns-clause-held : goal.returns-clause-held
 returns-clause-held c =
     ap (held_of c.args.kind) (word_is c)
-    ∙ held_of-written c.from_le_bytes.result c.content.result (omega arith) c.args.kind c.requires.some c.requires.most (content_below c.args.place c.args.value (omega arith) (omega arith) c.args.kind c.content.result c.content.ensures c.requires.some c.requires.most)
-    ∙ c.content.ensures
+    ∙ held_of-written c.from_le_bytes.result (content_of c.args.kind c.args.place c.args.value) (omega arith) c.args.kind c.requires.some c.requires.most (content_below c.args.place c.args.value (omega arith) (omega arith) c.args.kind (content_of c.args.kind c.args.place c.args.value) refl c.requires.some c.requires.most)
 
 pub returns-clause-reached : goal.returns-clause-reached
 returns-clause-reached c = reached_by-content_of c.args.place c.args.value (omega arith) (omega arith) c.args.kind c.requires.some c.requires.most (sym c.refusal.ensures ∙ c.in_default.is)
@@ -34,5 +21,5 @@ returns-clause-reached c = reached_by-content_of c.args.place c.args.value (omeg
 pub returns-clause-rest : goal.returns-clause-rest
 returns-clause-rest c =
     ap (rest_of c.args.kind) (word_is c)
-    ∙ rest_of-written c.from_le_bytes.result c.content.result (omega arith) c.args.kind c.requires.some c.requires.most (content_below c.args.place c.args.value (omega arith) (omega arith) c.args.kind c.content.result c.content.ensures c.requires.some c.requires.most)
+    ∙ rest_of-written c.from_le_bytes.result (content_of c.args.kind c.args.place c.args.value) (omega arith) c.args.kind c.requires.some c.requires.most (content_below c.args.place c.args.value (omega arith) (omega arith) c.args.kind (content_of c.args.kind c.args.place c.args.value) refl c.requires.some c.requires.most)
     ∙ ap (rest_of c.args.kind) c.from_le_bytes.ensures
