@@ -89,11 +89,26 @@ fn add_symbols<'a>(
     Ok(())
 }
 
-// No names.
-fn no_names<'a>(alloc: Global) -> HashMap<&'a str, Definition>
-    ensures { (q : List ℕ) → at_name result q ≡ None }
+// How many symbols of objects are global: no more names than these.
+fn count_globals(objects: &[Object]) -> usize {
+    let mut count = 0usize;
+    for object in objects {
+        for symbol in &object.symbols {
+            if symbol.kind == 2 {
+                count = count.saturating_add(1);
+            }
+        }
+    }
+    count
+}
+
+// No names, with room for so many.
+fn no_names<'a>(alloc: Global, count: usize) -> Result<HashMap<&'a str, Definition>, LinkErr>
+    ensures none { IfOk result (λ names. (q : List ℕ) → at_name names q ≡ None) }
+    ensures err { IfErr result (λ e. e ≡ NoMemory) }
 {
-    HashMap::new(alloc)
+    let names = HashMap::with_capacity(alloc, count)?;
+    Ok(names)
 }
 
 /// The global symbols of objects by name.
@@ -105,7 +120,7 @@ pub(crate) fn names_of(
     ensures globals { IfOk result (λ names. DefinesGlobals names objects.now) }
     ensures err { IfErr result (λ e. e ≡ NoMemory) }
 {
-    let mut names = no_names(alloc);
+    let mut names = no_names(alloc, count_globals(objects))?;
     for (number, object) in objects.iter().enumerate() {
         add_symbols(&mut names, number, &object.symbols)?;
     }

@@ -1,5 +1,6 @@
 use Rattle.std.proofs.Common.{◌≡◌, ◌+◌, ◌++◌, ◌∙◌, ℕ, List, ap, sym, map, take}
 use Rattle.std.specs.Prelude.{filter}
+use Rattle.std.proofs.lemmas.List.{take_all}
 use Rattle.std.specs.List.{count_by}
 use Rattle.std.specs.Option.{option_map}
 use Rattle.tc_object.specs.Objects.{SymbolData, ObjectData}
@@ -15,8 +16,8 @@ use Rattle.tc_link.proofs.names.names_of.Goals as goal
 pub loop-number-init : goal.loop-number-init
 unfolding globals_named globals_of
 loop-number-init c = record {
-  counts = λ q. ap (option_map (λ (d : Definition). d.is_twice)) (c.no_names-names.ensures q);
-  globals = λ placed same q. ap (option_map (address_of placed)) (c.no_names-names.ensures q);
+  counts = λ q. ap (option_map (λ (d : Definition). d.is_twice)) (c.in_ok-names.ensures.none q);
+  globals = λ placed same q. ap (option_map (address_of placed)) (c.in_ok-names.ensures.none q);
 }
 
 pub loop-number-preserved : goal.loop-number-preserved
@@ -38,6 +39,11 @@ loop-number-preserved c =
           ∙ ap (λ (ss : List SymbolData). global_address (sofar ++ map (global_data p.bases) (filter is_global ss)) q) (e ∙ ap (λ (x : ObjectData). x.symbols) (sym at.object))
           ∙ ap (λ (gs : List GlobalData). global_address gs q) (globals_next placed i p at.within at.is);
     }
+
+pub returns-clause-counts : goal.returns-clause-counts
+returns-clause-counts c = λ q.
+    c.loop-number.invariant.counts q
+    ∙ ap (λ (os : List ObjectData). twice_of_count (globals_named os q)) (take_all c.loop-number.number c.args.objects.now c.loop-number-test.false)
 
 pub returns-clause-globals : goal.returns-clause-globals
 returns-clause-globals c = λ placed same q.
