@@ -7,3 +7,4 @@ pub mod LineLaws
 pub mod Mapped
 pub mod Parted
 pub mod NumberTokens
+pub mod SameBytes

@@ -1,13 +1,14 @@
--- Where no number stands.
-use Rattle.std.proofs.Common.{◌≡◌, ◌≢◌, ℕ, ◌==◌, Bool, true, false, cond, List, [], length, Option, Some, None, refl, sym, ap, ◌∙◌}
+-- Where no number stands, and operands of one token.
+use Rattle.std.proofs.Common.{◌≡◌, ◌≢◌, ℕ, ◌==◌, Bool, true, false, cond, List, [], ◌∷◌, length, Option, Some, None, refl, sym, ap, ◌∙◌, arith}
 use Rattle.std.specs.Prelude.{slice_get}
 use Rattle.std.specs.Option.{option_map_or}
 use Rattle.tc_lex.specs.declared.kinds.TokenKind.{TokenKind}
 use Rattle.tc_lex.specs.declared.kinds.TokenKind.TheVariants.{Word, Number, Comma, Colon, Open, Close, Plus, Minus}
-use Rattle.tc_lex.specs.Pieces.{PieceData, is_kind, kind_index}
+use Rattle.tc_lex.specs.Numbers.{number_of}
+use Rattle.tc_lex.specs.Pieces.{PieceData, is_kind, kind_index, text_at}
 use Rattle.tc_lex.specs.declared.operand.Shape.TheVariants as shape
 use Rattle.std.proofs.lemmas.Bool.Decides.{Decides-eqb}
-use Rattle.tc_lex.specs.Operands.{ValueData, value, plain_number, number_at, named_at, value_at}
+use Rattle.tc_lex.specs.Operands.{ValueData, value, plain_number, number_at, sum_at, named_at, value_at, plain, operand}
 
 other : (k : TokenKind) (i : ℕ) → (kind_index k == 0) ≡ true → i ≡ 1 → (kind_index k == i) ≡ false
 unfolding kind_index
@@ -59,3 +60,41 @@ unfolding value_at
 word_value ps at e h =
     let told : Option (Bool × Option ℕ) → ValueData = λ o. option_map_or (λ n. plain_number n.0 n.1) o (named_at ps at) in
     sym (ap (λ b. cond b (value shape.Absent [] false 0) (told (number_at ps at))) (differ (length ps) at (length ps == at) refl h) ∙ ap told (word_no_number ps at e))
+
+-- ---- an operand of one token
+abbrev token_with : TokenKind → List ℕ → PieceData
+token_with k text = record { kind = k; text = text }
+
+lone_word_of : (k : TokenKind) (text : List ℕ) → is_kind (token_with k text ∷ []) 0 Word ≡ true → plain (value shape.Word text false 0) ≡ operand (token_with k text ∷ [])
+unfolding operand value_at number_at named_at sum_at is_kind kind_index text_at
+lone_word_of Word text e = refl
+lone_word_of Number text e = cc
+lone_word_of Comma text e = cc
+lone_word_of Colon text e = cc
+lone_word_of Open text e = cc
+lone_word_of Close text e = cc
+lone_word_of Plus text e = cc
+lone_word_of Minus text e = cc
+
+lone_number_of : (k : TokenKind) (text : List ℕ) → is_kind (token_with k text ∷ []) 0 Number ≡ true → plain (plain_number false (number_of text)) ≡ operand (token_with k text ∷ [])
+unfolding operand value_at number_at is_kind kind_index text_at
+lone_number_of Word text e = cc
+lone_number_of Number text e = refl
+lone_number_of Comma text e = cc
+lone_number_of Colon text e = cc
+lone_number_of Open text e = cc
+lone_number_of Close text e = cc
+lone_number_of Plus text e = cc
+lone_number_of Minus text e = cc
+
+pub lone_word : (ps : List PieceData) → length ps ≡ 1 → is_kind ps 0 Word ≡ true → plain (value shape.Word (text_at ps 0) false 0) ≡ operand ps
+unfolding text_at
+lone_word [] n e = absurd (omega arith)
+lone_word (p ∷ []) n e = lone_word_of p.kind p.text e
+lone_word (p ∷ q ∷ qs) n e = absurd (omega arith)
+
+pub lone_number : (ps : List PieceData) → length ps ≡ 1 → is_kind ps 0 Number ≡ true → plain (plain_number false (number_of (text_at ps 0))) ≡ operand ps
+unfolding text_at
+lone_number [] n e = absurd (omega arith)
+lone_number (p ∷ []) n e = lone_number_of p.kind p.text e
+lone_number (p ∷ q ∷ qs) n e = absurd (omega arith)

@@ -11,6 +11,7 @@ mod operand;
 mod operand_list;
 mod operand_tokens;
 mod pieces;
+mod same_bytes;
 
 pub use bytes::is_hex;
 pub use cutting::{cut_into, tokens};
@@ -19,3 +20,4 @@ pub use line_pieces::cut_pieces;
 pub use operand::{Operand, Shape, Value};
 pub use operand_list::operands;
 pub use pieces::{Piece, is_kind, is_text, text_at};
+pub use same_bytes::is_same;

@@ -1,6 +1,6 @@
 // The forms of operands.
 ghost use Rattle.std.specs.Prelude.{◌≡◌, ◌≢◌, ◌<◌, ◌≤◌, ◌+◌, map, length, not, true};
-ghost use Rattle.tc_lex.specs.declared.kinds.TokenKind.TheVariants.{Word, Colon, Open};
+ghost use Rattle.tc_lex.specs.declared.kinds.TokenKind.TheVariants.{Word, Number, Colon, Open};
 ghost use Rattle.tc_lex.specs.Pieces.{piece_of, is_kind as is_kind_at};
 ghost use Rattle.tc_lex.specs.Operands.{value_of, operand_of, number_at, sum_at, named_at, value_at, operand, value as data_of, plain as plain_of, memory as memory_of, plain_number as number_value, with_number as sum_value};
 
@@ -190,14 +190,48 @@ fn bracketed<'a>(ps: &[Piece<'a>]) -> Operand<'a>
     }
 }
 
-/// The operand that these tokens are.
+// An operand of more than one token, or of none, or of one that is no value.
+#[inline(never)]
 #[tactic(auto, unfolding(crate::specs::Operands::operand))]
-pub(crate) fn operand<'a>(ps: &[Piece<'a>]) -> Operand<'a>
+fn longer_operand<'a>(ps: &[Piece<'a>]) -> Operand<'a>
     ensures { operand_of result ≡ operand (map piece_of ps.now) }
 {
     if is_kind(ps, 0, TokenKind::Open) {
         bracketed(ps)
     } else {
         plain(value_at(ps, 0))
+    }
+}
+
+// An operand that is one Word.
+fn lone_word<'a>(ps: &[Piece<'a>]) -> Operand<'a>
+    requires one { length ps.now ≡ 1 }
+    requires word { is_kind_at (map piece_of ps.now) 0 Word ≡ true }
+    ensures { operand_of result ≡ operand (map piece_of ps.now) }
+{
+    plain(make_value(Shape::Word, text_at(ps, 0), false, 0))
+}
+
+// An operand that is one number.
+fn lone_number<'a>(ps: &[Piece<'a>]) -> Operand<'a>
+    requires one { length ps.now ≡ 1 }
+    requires number { is_kind_at (map piece_of ps.now) 0 Number ≡ true }
+    ensures { operand_of result ≡ operand (map piece_of ps.now) }
+{
+    plain(plain_number(false, number_of(text_at(ps, 0))))
+}
+
+/// The operand that these tokens are.
+pub(crate) fn operand<'a>(ps: &[Piece<'a>]) -> Operand<'a>
+    ensures { operand_of result ≡ operand (map piece_of ps.now) }
+{
+    if ps.len() != 1 {
+        longer_operand(ps)
+    } else if is_kind(ps, 0, TokenKind::Word) {
+        lone_word(ps)
+    } else if is_kind(ps, 0, TokenKind::Number) {
+        lone_number(ps)
+    } else {
+        longer_operand(ps)
     }
 }

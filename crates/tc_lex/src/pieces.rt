@@ -4,6 +4,7 @@ ghost use Rattle.std.specs.Str.{bytes_eq};
 ghost use Rattle.tc_lex.specs.Pieces.{piece_of, kind_index, is_kind, text_at};
 
 use crate::TokenKind;
+use crate::same_bytes::is_same;
 
 /// A token and its text.
 #[derive(Clone, Copy, Default)]
@@ -53,5 +54,5 @@ pub fn text_at<'a>(ps: &[Piece<'a>], i: usize) -> &'a [u8]
 pub fn is_text(bytes: &[u8], text: &str) -> bool
     ensures { result ≡ bytes_eq bytes.now text.now }
 {
-    bytes == text.as_bytes()
+    is_same(bytes, text.as_bytes())
 }

@@ -1,20 +1,24 @@
--- Rows whose names begin with another byte than a statement's.
-use Rattle.std.specs.Prelude.{ℕ, zero, suc, ◌+◌, ◌-◌, ◌==◌, ◌&&◌, not, nat_lt, Bool, true, false, List, [], ◌∷◌, slice_index}
+-- Rows whose names have another key than a statement's.
+use Rattle.std.specs.Prelude.{ℕ, zero, suc, ◌+◌, ◌-◌, ◌*◌, ◌%◌, ◌==◌, ◌&&◌, not, nat_lt, Bool, true, false, List, [], ◌∷◌, length, slice_index}
 use Rattle.tc_isa.specs.Rows.{RowData}
 
--- none of the first so many rows begins with this byte
-abbrev pub none_begins : ℕ → ℕ → List RowData → Bool
-none_begins zero c rs = true
-none_begins (suc n) c [] = true
-none_begins (suc n) c (r ∷ rs) = not (slice_index r.name 0 == c) && none_begins n c rs
+-- a number below 64 that few names of rows share: of their first three bytes, 0 where there are fewer, and their length
+unfoldable pub name_key : List ℕ → ℕ
+name_key name = (slice_index name 0 + 7 * slice_index name 1 + slice_index name 2 + length name) % 64
 
--- each place is behind that of its row, and no row between them begins as that one does
+-- none of the first so many rows has this key
+abbrev pub none_has : ℕ → ℕ → List RowData → Bool
+none_has zero k rs = true
+none_has (suc n) k [] = true
+none_has (suc n) k (r ∷ rs) = not (name_key r.name == k) && none_has n k rs
+
+-- each place is behind that of its row, and no row between them has that one's key
 abbrev pub are_next : ℕ → List RowData → List ℕ → Bool
-are_next k [] ns = true
-are_next k (r ∷ rs) [] = false
-are_next k (r ∷ rs) (n ∷ ns) = nat_lt k n && none_begins (n - (k + 1)) (slice_index r.name 0) rs && are_next (k + 1) rs ns
+are_next i [] ns = true
+are_next i (r ∷ rs) [] = false
+are_next i (r ∷ rs) (n ∷ ns) = nat_lt i n && none_has (n - (i + 1)) (name_key r.name) rs && are_next (i + 1) rs ns
 
--- no row before each place begins with its byte
+-- no row before each place has its key
 abbrev pub are_first : ℕ → List RowData → List ℕ → Bool
-are_first c rs [] = true
-are_first c rs (n ∷ ns) = none_begins n c rs && are_first (c + 1) rs ns
+are_first k rs [] = true
+are_first k rs (n ∷ ns) = none_has n k rs && are_first (k + 1) rs ns

@@ -11,7 +11,6 @@ mod parse;
 mod row_fields;
 mod row_index;
 mod row_wants;
-mod same_bytes;
 mod source;
 mod source_rules;
 mod statement_row;

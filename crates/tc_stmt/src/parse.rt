@@ -20,7 +20,7 @@ use crate::{shape_index, statement};
 use arrayvec::ArrayVec;
 use std::alloc::AllocError;
 use tc_isa::{Row, rows};
-use tc_lex::{Operand, Piece, TokenKind, cut_pieces, is_kind, operands, text_at};
+use tc_lex::{Operand, Piece, TokenKind, cut_pieces, is_kind, is_text, operands, text_at};
 
 // Adds nothing.
 fn nothing(rule: u8, items: &mut Vec<Item<'_>>) -> Result<u8, AllocError>
@@ -197,12 +197,6 @@ fn code_line<'a>(
         ),
         Err(rule) => one(rule, Item::Zeros(size_of_name(name)), items),
     }
-}
-
-fn is_text(bytes: &[u8], text: &str) -> bool
-    ensures { result ≡ bytes_eq bytes.now text.now }
-{
-    bytes == text.as_bytes()
 }
 
 #[tactic(auto, unfolding(crate::specs::Lines::stated_line))]

@@ -1,79 +1,91 @@
-// Rows that are passed over, since their names begin with another letter.
+// Rows that are passed over, since their names have another key.
 ghost use Rattle.std.specs.Prelude.{◌≡◌, ◌<◌, ◌+◌, ◌-◌, ◌==◌, List, map, length, drop, true, slice_index};
 ghost use Rattle.tc_isa.specs.Rows.{RowData, row_of, listed};
-ghost use Rattle.tc_stmt.specs.RowIndex.{none_begins, are_next, are_first};
+ghost use Rattle.tc_stmt.specs.RowIndex.{name_key, none_has, are_next, are_first};
 
 use tc_isa::Row;
 
-// The place of the first row that begins with each small letter; how many rows there are, where none does.
-static FIRST: [u8; 26] = [
-    0, 41, 49, 57, 11, 142, 15, 142, 59, 50, 142, 13, 3, 12, 22, 142, 142, 29, 10, 142, 142, 142,
-    142, 24, 142, 142,
+// The place of the first row of each key; how many rows there are, where none has it.
+static FIRST: [u8; 64] = [
+    8, 142, 128, 142, 9, 0, 1, 21, 2, 142, 14, 10, 59, 18, 56, 22, 29, 72, 142, 80, 91, 84, 97, 93,
+    142, 142, 13, 61, 16, 142, 7, 138, 142, 90, 142, 94, 53, 95, 112, 142, 100, 142, 51, 99, 15,
+    25, 113, 3, 5, 4, 6, 12, 130, 116, 24, 142, 41, 120, 107, 49, 42, 57, 11, 142,
 ];
 
-// For each row the place of the next one that begins with the same letter; how many rows there are, where none does.
+// For each row the place of the next one of its key; how many rows there are, where none has it.
 static NEXT: [u8; 142] = [
-    1, 2, 9, 4, 5, 6, 7, 8, 17, 20, 18, 30, 21, 14, 32, 16, 34, 43, 19, 36, 26, 23, 27, 31, 25, 40,
-    28, 39, 38, 52, 56, 51, 33, 60, 35, 142, 37, 42, 44, 128, 129, 115, 45, 46, 47, 54, 48, 125,
-    116, 107, 90, 111, 53, 55, 72, 112, 142, 58, 142, 142, 61, 62, 63, 64, 65, 66, 67, 68, 69, 70,
-    71, 80, 73, 74, 75, 76, 77, 78, 79, 83, 81, 82, 84, 87, 85, 86, 89, 88, 117, 100, 91, 92, 93,
-    94, 95, 96, 97, 98, 99, 101, 138, 102, 103, 104, 105, 106, 109, 108, 118, 110, 114, 142, 113,
-    142, 119, 142, 124, 126, 142, 120, 121, 122, 123, 142, 130, 127, 140, 133, 142, 142, 131, 132,
-    134, 135, 136, 137, 142, 142, 139, 142, 141, 142,
+    142, 44, 47, 17, 46, 142, 43, 54, 142, 28, 26, 27, 31, 32, 20, 23, 35, 19, 36, 37, 33, 58, 39,
+    34, 40, 142, 50, 30, 142, 142, 114, 131, 60, 38, 52, 81, 45, 121, 142, 117, 142, 129, 118, 98,
+    125, 126, 48, 55, 124, 108, 142, 142, 111, 142, 142, 133, 142, 142, 142, 127, 62, 63, 64, 67,
+    65, 66, 68, 69, 70, 142, 71, 85, 73, 74, 75, 76, 77, 78, 79, 87, 83, 82, 142, 89, 92, 86, 142,
+    88, 142, 110, 101, 102, 103, 105, 96, 106, 104, 140, 142, 109, 142, 142, 142, 142, 142, 142,
+    142, 115, 142, 123, 142, 142, 142, 142, 142, 119, 122, 142, 142, 142, 142, 142, 142, 142, 134,
+    135, 142, 142, 142, 142, 142, 132, 136, 137, 142, 142, 142, 142, 139, 142, 141, 142,
 ];
 
-/// The first row of each letter.
+/// The first row of each key.
+#[tactic(auto, unfolding(crate::specs::RowIndex::name_key))]
 pub(crate) fn first_rows() -> &'static [u8]
-    ensures { are_first 97 listed result.now ≡ true }
+    ensures { are_first 0 listed result.now ≡ true }
 {
     &FIRST
 }
 
-/// The next row of the letter of each row.
+/// The next row of the key of each row.
+#[tactic(auto, unfolding(crate::specs::RowIndex::name_key))]
 pub(crate) fn next_rows() -> &'static [u8]
     ensures { are_next 0 listed result.now ≡ true }
 {
     &NEXT
 }
 
-fn first_byte(text: &[u8]) -> u8
-    ensures { result ≡ slice_index text.now 0 }
+// The byte at this place, or 0 where there is none.
+fn byte_at(text: &[u8], i: usize) -> usize
+    ensures value { result ≡ slice_index text.now i }
+    ensures small { result < 256 }
 {
-    if text.is_empty() { 0 } else { text[0] }
-}
-
-fn begin_alike(row: &Row, name: &[u8]) -> bool
-    ensures { result ≡ (slice_index (row_of row.now).name 0 == slice_index name.now 0) }
-{
-    first_byte(row.name.as_bytes()) == first_byte(name)
-}
-
-/// A place before which no row begins as this name does.
-pub(crate) fn first_row(first: &[u8], name: &[u8]) -> usize
-    ensures { (rows : List RowData) → are_first 97 rows first.now ≡ true
-        → none_begins result (slice_index name.now 0) rows ≡ true }
-{
-    let c = first_byte(name);
-    if c < 97 {
-        return 0;
-    }
-    let letter = usize::from(c - 97);
-    if letter < first.len() {
-        usize::from(first[letter])
+    if i < text.len() {
+        usize::from(text[i])
     } else {
         0
     }
 }
 
-/// A place behind a row's, up to which no row begins as this name does.
+#[tactic(auto, unfolding(crate::specs::RowIndex::name_key))]
+fn name_key(name: &[u8]) -> usize
+    ensures { result ≡ name_key name.now }
+{
+    (byte_at(name, 0) + 7 * byte_at(name, 1) + byte_at(name, 2) + name.len()) % 64
+}
+
+fn has_key(row: &Row, name: &[u8]) -> bool
+    ensures { result ≡ (name_key (row_of row.now).name == name_key name.now) }
+{
+    name_key(row.name.as_bytes()) == name_key(name)
+}
+
+/// A place before which no row has this name's key.
+pub(crate) fn first_row(first: &[u8], name: &[u8]) -> usize
+    ensures { (rows : List RowData) → are_first 0 rows first.now ≡ true
+        → none_has result (name_key name.now) rows ≡ true }
+{
+    let key = name_key(name);
+    if key < first.len() {
+        usize::from(first[key])
+    } else {
+        0
+    }
+}
+
+/// A place behind a row's, up to which no row has this name's key.
 pub(crate) fn next_row(rows: &[Row], next: &[u8], i: usize, name: &[u8]) -> usize
     requires place { i < length rows.now }
     requires next { are_next 0 (map row_of rows.now) next.now ≡ true }
     ensures later { i < result }
-    ensures none { none_begins (result - (i + 1)) (slice_index name.now 0)
+    ensures none { none_has (result - (i + 1)) (name_key name.now)
         (drop (i + 1) (map row_of rows.now)) ≡ true }
 {
-    if i < next.len() && begin_alike(&rows[i], name) {
+    if i < next.len() && has_key(&rows[i], name) {
         usize::from(next[i])
     } else {
         i + 1

@@ -12,13 +12,12 @@ use crate::fill::fill;
 use crate::row_fields::RowFields;
 use crate::row_index::{first_row, first_rows, next_row, next_rows};
 use crate::row_wants::wants;
-use crate::same_bytes::is_same;
 use crate::source_rules::{EQUAL_REGISTERS, NO_RULE, UNKNOWN_STATEMENT, WRONG_OPERANDS};
 use crate::symbols::break_rule;
 use crate::tally::Tally;
 use crate::want::Want;
 use tc_isa::{Fields, Row, parts_differ, rows};
-use tc_lex::Operand;
+use tc_lex::{Operand, is_same};
 
 fn no_fields<'a>() -> RowFields<'a>
     ensures { row_fields_of result ≡ no_fields }
@@ -142,8 +141,8 @@ fn step_at<'a>(
     step(&rows[i], wants[i], name, os, so_far)
 }
 
-/// The row that a statement is, and what its operands give; or the least rule that it breaks. Only rows that begin as the name
-/// does are looked at.
+/// The row that a statement is, and what its operands give; or the least rule that it breaks. Only rows that have
+/// the name's key are looked at.
 fn judge<'a>(
     rows: &[Row],
     wants: &[&[Want]],
@@ -154,7 +153,7 @@ fn judge<'a>(
 ) -> Result<(u8, RowFields<'a>), u8>
     requires wants { map now_of wants.now ≡ map wants_of (map row_of rows.now) }
     requires few { length rows.now < 256 }
-    requires first { are_first 97 (map row_of rows.now) first.now ≡ true }
+    requires first { are_first 0 (map row_of rows.now) first.now ≡ true }
     requires next { are_next 0 (map row_of rows.now) next.now ≡ true }
     ensures { Judges result
         (outcome name.now (map operand_of os.now) (map row_of rows.now) 0 start) }

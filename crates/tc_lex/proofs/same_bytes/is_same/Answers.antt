@@ -1,6 +1,6 @@
 use Rattle.std.proofs.Common.{arith}
-use Rattle.tc_stmt.proofs.SameBytes.{lengths_differ, byte_differs, byte_same, bytes_end}
-use Rattle.tc_stmt.proofs.same_bytes.is_same.Goals as goal
+use Rattle.tc_lex.proofs.SameBytes.{lengths_differ, byte_differs, byte_same, bytes_end}
+use Rattle.tc_lex.proofs.same_bytes.is_same.Goals as goal
 
 pub returns-then-a-b : goal.returns-then-a-b
 returns-then-a-b c = lengths_differ c.args.a.now c.args.b.now c.if-a-b.true
