@@ -1,41 +1,35 @@
 -- Both passes over a source give the same symbols.
-use Rattle.std.proofs.Common.{◌≡◌, ◌+◌, ◌^◌, ◌&&◌, ℕ, zero, suc, Bool, true, false, cond, List, [], ◌∷◌, ◌++◌, length, map, replicate, Option, Some, None, refl, sym, ap, ◌∙◌, arith, length-append}
-use Rattle.std.specs.Prelude.{fold, nat_lt, nat_le, not, position, unwrap_or}
+use Rattle.std.proofs.Common.{◌≡◌, ◌<◌, ◌≤◌, ◌+◌, ◌^◌, ◌&&◌, ℕ, zero, suc, Bool, true, false, cond, List, [], ◌∷◌, ◌++◌, length, map, get_or, take, replicate, Option, Some, None, refl, sym, ap, subst, ◌∙◌, arith, length-append}
+use Rattle.std.specs.Prelude.{All, fold, nat_lt, nat_le, not, position, slice_get, unwrap_or}
+use Rattle.std.specs.Option.{option_map_or}
 use Rattle.std.specs.Str.{bytes_eq}
-use Rattle.std.proofs.lemmas.List.{length-map, map-append}
+use Rattle.std.proofs.lemmas.List.{length-map, map-append, get_or-map, take_all}
+use Rattle.std.proofs.lemmas.List.Sums.{fold_more}
+use Rattle.tc_isa.specs.declared.fields.Fields.{Fields}
+use Rattle.tc_isa.specs.Rows.{RowData, listed}
+use Rattle.tc_isa.specs.Codec.{is_long}
 use Rattle.tc_stmt.specs.Names.{is_name}
 use Rattle.tc_stmt.specs.RowFields.{ReferenceData}
 use Rattle.tc_lex.proofs.Mapped.{position-map}
 use Rattle.tc_asm.specs.declared.symbols.Place.{Place}
-use Rattle.tc_stmt.specs.Items.{ItemData, label, section, global, code, bytes, zeros}
+use Rattle.tc_stmt.specs.declared.item.Item.{Item}
+use Rattle.tc_stmt.specs.Items.{ItemData, item_of, label, section, global, code, bytes, zeros}
 use Rattle.tc_stmt.specs.Lines.{lines_in, items_in}
 use Rattle.tc_asm.specs.Symbols.{SymbolData, seen, labelled, made_global}
 use Rattle.tc_asm.specs.Drafts.{PartData, DraftData, part, start, place_of, has_section, has_room, here, with_label, number_of_part, entered, with_global, extended, with_bytes, used, with_use, with_reference, with_content, code_bytes, stepped}
 use Rattle.tc_asm.specs.Sources.{symbols_of}
+use Rattle.tc_asm.specs.Added.{IsCode, IsItem}
+use Rattle.tc_asm.specs.Alike.{SizeData, size_of, Alike, code_size}
 use Rattle.tc_asm.specs.Kept.{Each, size_at}
 use Rattle.tc_stmt.proofs.Cases.{by_test}
 use Rattle.tc_asm.proofs.ListLaws.{changed, changed-set, size_at-get}
 use Rattle.tc_asm.specs.Contents.{symbols_in}
-use Rattle.tc_asm.proofs.SourceItems.{IsItem, source_are}
+use Rattle.tc_asm.proofs.SourceItems.{source_are}
 use Rattle.tc_asm.proofs.CodeSizes.{code_length}
 use Rattle.tc_asm.proofs.SourceParts.{lines_items}
 
--- a section's name and how many bytes it has
-record SizeData : Type 0 where
-  name : List ℕ
-  size : ℕ
-
-abbrev size_of : PartData → SizeData
-size_of p = record { name = p.name; size = length p.bytes }
-
--- two drafts that differ only in what the bytes are, and in uses of symbols
-record Alike (d e : DraftData) : Type 0 where
-  section : d.section ≡ e.section
-  sizes : map size_of d.parts ≡ map size_of e.parts
-  symbols : d.symbols ≡ e.symbols
-  total : d.total ≡ e.total
-
-alike_same : (d : DraftData) → Alike d d
+-- ---- alike
+pub alike_same : (d : DraftData) → Alike d d
 alike_same d = record { section = refl; sizes = refl; symbols = refl; total = refl }
 
 alike_then : (d e f : DraftData) → Alike d e → Alike e f → Alike d f
@@ -186,7 +180,7 @@ reference_alike d e m n (Some r) h =
 content_alike : (d e : DraftData) (bs cs : List ℕ) (o : Option ReferenceData) → length bs ≡ length cs → Alike d e → Alike (with_content d bs o) (with_content e cs o)
 content_alike d e bs cs o same h = bytes_alike (with_reference d (length bs) o) (with_reference e (length cs) o) (reference_alike d e (length bs) (length cs) o h) bs cs same
 
-step_alike : (labels others : List SymbolData) (d e : DraftData) (i : ItemData) → IsItem i → Alike d e → Alike (stepped labels d i) (stepped others e i)
+pub step_alike : (labels others : List SymbolData) (d e : DraftData) (i : ItemData) → IsItem i → Alike d e → Alike (stepped labels d i) (stepped others e i)
 unfolding stepped
 step_alike labels others d e (label name) good h = label_alike d e h name
 step_alike labels others d e (section name) good h = entered_alike d e h name
@@ -207,3 +201,57 @@ passes_agree source =
     ap (λ (d : DraftData). d.symbols) (lines_items labels (lines_in source) start)
     ∙ (items_alike labels [] (items_in (lines_in source)) start start (source_are source) (alike_same start)).symbols
     ∙ sym (ap (λ (d : DraftData). d.symbols) (lines_items [] (lines_in source) start))
+
+-- ---- the first pass
+abbrev zeros_of : ℕ → List ℕ
+zeros_of n = take n (0 ∷ 0 ∷ 0 ∷ 0 ∷ [])
+
+pub sized : (k : ℕ) → option_map_or (λ (row : RowData). cond (is_long row) 4 2) (slice_get listed k) 0 ≡ code_size k
+unfolding code_size
+sized k = refl
+
+-- zeros in place of an instruction's bytes
+pub count_alike : (d e mid next : DraftData) (k : ℕ) (f : Fields) (o : Option ReferenceData) (bs : List ℕ) → IsCode k f o
+    → mid ≡ with_reference d 0 o → next ≡ with_bytes mid bs → bs ≡ zeros_of (code_size k) → Alike d e → Alike next (stepped [] e (code k f o))
+unfolding stepped code_size
+count_alike d e mid next k f o bs is m n b h =
+    let made : with_bytes (with_reference d 0 o) (zeros_of (code_size k)) ≡ next = ap (with_bytes (with_reference d 0 o)) (sym b) ∙ ap (λ (x : DraftData). with_bytes x bs) (sym m) ∙ sym n in
+    let cs : List ℕ = code_bytes [] e k f o in
+    subst (λ (x : DraftData). Alike x (with_content e cs o)) made
+    (bytes_alike (with_reference d 0 o) (with_reference e (length cs) o) (reference_alike d e 0 (length cs) o h) (zeros_of (code_size k)) cs as_many)
+  where
+    by : (b : Bool) → length (zeros_of (cond b 4 2)) ≡ cond b 4 2
+    by true = refl
+    by false = refl
+
+    as_many : length (zeros_of (code_size k)) ≡ length (code_bytes [] e k f o)
+    as_many =
+        ap (λ (q : Option RowData). length (zeros_of (option_map_or (λ row. cond (is_long row) 4 2) q 0))) is.at
+        ∙ by (is_long is.row)
+        ∙ sym (code_length [] e k f o is)
+
+-- what other things make
+pub step_counted : (d e next : DraftData) (labels : List SymbolData) (i : ItemData) → IsItem i → labels ≡ [] → next ≡ stepped labels d i → Alike d e → Alike next (stepped [] e i)
+step_counted d e next labels i good none made h =
+    subst (λ (x : DraftData). Alike x (stepped [] e i)) (sym (made ∙ ap (λ (ls : List SymbolData). stepped ls d i) none)) (step_alike [] [] d e i good h)
+
+-- one thing more
+module _ (items : List Item) (i : ℕ) (draft first : DraftData) (so_far : Alike draft (fold (stepped []) first (take i (map item_of items)))) where
+  pub alike_next : (d : Item) (next : DraftData) → i < length items → ((e : DraftData) → Alike draft e → Alike next (stepped [] e (item_of (get_or items i d)))) → Alike next (fold (stepped []) first (take (i + 1) (map item_of items)))
+  alike_next d next within step =
+      let there : get_or (map item_of items) i (item_of d) ≡ item_of (get_or items i d) = get_or-map item_of items i d (item_of d) within in
+      subst (λ (e : DraftData). Alike next e)
+      (ap (stepped [] (fold (stepped []) first (take i (map item_of items)))) (sym there) ∙ sym (fold_more (stepped []) first (map item_of items) i (item_of d) (rw (length-map items item_of) within)))
+      (step (fold (stepped []) first (take i (map item_of items))) so_far)
+
+  pub alike_end : length items ≤ i → draft.symbols ≡ (fold (stepped []) first (map item_of items)).symbols
+  alike_end past = so_far.symbols ∙ ap (λ (is : List ItemData). (fold (stepped []) first is).symbols) (take_all i (map item_of items) (rw (length-map items item_of) past))
+
+-- all things of a source
+each_all : (items : List Item) → Each IsItem (map item_of items) → (k : ℕ) (d : Item) → k < length items → IsItem (item_of (get_or items k d))
+each_all [] h k d within = absurd (omega arith)
+each_all (x ∷ xs) h zero d within = h.0
+each_all (x ∷ xs) h (suc k) d within = each_all xs h.1 k d (omega arith)
+
+pub items_all : (source : List ℕ) (items : List Item) → map item_of items ≡ items_in (lines_in source) → All (λ (x : Item). IsItem (item_of x)) items
+items_all source items e = λ k d within. each_all items (subst (Each IsItem) (sym e) (source_are source)) k d within

@@ -18,7 +18,8 @@ use Rattle.tc_stmt.proofs.Cases.{by_test}
 use Rattle.tc_asm.specs.Contents.{is_open}
 use Rattle.tc_stmt.specs.Stated.{Symbols}
 use Rattle.tc_stmt.proofs.StatedRows.{Sound, sound_displaced}
-use Rattle.tc_asm.proofs.SourceItems.{IsCode, IsItem, source_are}
+use Rattle.tc_asm.specs.Added.{IsCode, IsItem}
+use Rattle.tc_asm.proofs.SourceItems.{source_are}
 use Rattle.tc_asm.proofs.Uses.{GoodItem, GoodItems}
 
 -- ---- a target resolved

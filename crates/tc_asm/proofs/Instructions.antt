@@ -14,7 +14,8 @@ use Rattle.tc_asm.specs.Statements.{StatementData, statement, standing, statemen
 use Rattle.tc_asm.specs.Spelled.{Spells, InstructionsLaw}
 use Rattle.tc_stmt.proofs.ListItems.{get_behind}
 use Rattle.tc_asm.proofs.Uses.{statements-append, fits, fits_too, then_fifteen}
-use Rattle.tc_asm.proofs.SourceItems.{IsCode, IsItem, source_are}
+use Rattle.tc_asm.specs.Added.{IsCode, IsItem}
+use Rattle.tc_asm.proofs.SourceItems.{source_are}
 use Rattle.tc_asm.proofs.SourceDrafts.{source_items}
 use Rattle.tc_asm.proofs.CodeSizes.{resolved_fits}
 use Rattle.tc_asm.proofs.StatementItems.{each_there, rule_there}

@@ -27,7 +27,8 @@ use Rattle.tc_asm.specs.Objects.{addend_of}
 use Rattle.tc_asm.specs.Statements.{StatementData, statement, content_of}
 use Rattle.tc_asm.specs.Spelled.{Spells, displacement, ShortJumpsLaw}
 use Rattle.tc_asm.proofs.Uses.{fits}
-use Rattle.tc_asm.proofs.SourceItems.{IsCode, IsItem, source_are}
+use Rattle.tc_asm.specs.Added.{IsCode, IsItem}
+use Rattle.tc_asm.proofs.SourceItems.{source_are}
 use Rattle.tc_asm.proofs.SourceDrafts.{source_items}
 use Rattle.tc_asm.proofs.AlikeDrafts.{passes_agree}
 use Rattle.tc_asm.proofs.StatementItems.{item_at, each_there, rule_there, offset_there}

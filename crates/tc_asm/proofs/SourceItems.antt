@@ -19,34 +19,13 @@ use Rattle.tc_stmt.specs.StatementRow.{statement}
 use Rattle.tc_stmt.specs.Items.{ItemData, label, section, global, code, bytes, zeros}
 use Rattle.tc_stmt.specs.Values.{fits_width, value_rule, value_item, space_item}
 use Rattle.tc_stmt.specs.Lines.{LineData, line_data, word_of, named_line, space_line, values_line, code_line, stated_line, line_from, pieces_line, piece_in, label_of, label_before, cut_line, line_in, lines_in, items_in}
+use Rattle.tc_asm.specs.Added.{IsData, IsItem}
 use Rattle.tc_asm.specs.Kept.{Each}
 use Rattle.tc_stmt.proofs.Cases.{by_test}
 use Rattle.tc_stmt.specs.Stated.{Symbols, IsStated}
 use Rattle.tc_stmt.proofs.StatedRows.{stated}
-use Rattle.tc_asm.proofs.Uses.{IsGood}
 
--- ---- one thing
--- an instruction of a listed row, or bytes with room for their symbol
-pub record IsCode (k : ℕ) (f : Fields) (o : Option ReferenceData) : Type 0 where
-  pub row : RowData
-  pub at : slice_get listed k ≡ Some row
-  pub fits : Fits row f
-  pub symbols : Symbols row o
-  pub zero : (r : ReferenceData) → o ≡ Some r → f.k ≡ 0
-
-pub record IsData (bs : List ℕ) (o : Option ReferenceData) : Type 0 where
-  pub good : IsGood bs o
-  pub kind : (r : ReferenceData) → o ≡ Some r → r.kind ≡ 7
-  pub zero : (r : ReferenceData) → o ≡ Some r → bs ≡ 0 ∷ 0 ∷ 0 ∷ 0 ∷ []
-
-abbrev pub IsItem : ItemData → Type 0
-IsItem (label name) = Unit {0}
-IsItem (section name) = Unit {0}
-IsItem (global name) = Unit {0}
-IsItem (code k f o) = IsCode k f o
-IsItem (bytes bs o) = IsData bs o
-IsItem (zeros n) = Unit {0}
-
+-- ---- a line
 record Are (l : LineData) : Type 0 where
   items : Each IsItem l.items
 

@@ -21,7 +21,8 @@ use Rattle.tc_asm.specs.Kept.{Each}
 use Rattle.tc_asm.specs.Statements.{StatementData, statement, content_of}
 use Rattle.tc_asm.specs.Relocations.{UnfilledLaw}
 use Rattle.tc_asm.specs.Spelled.{is_resolved}
-use Rattle.tc_asm.proofs.SourceItems.{IsCode, IsItem, source_are}
+use Rattle.tc_asm.specs.Added.{IsCode, IsItem}
+use Rattle.tc_asm.proofs.SourceItems.{source_are}
 use Rattle.tc_asm.proofs.CodeSizes.{fit_true, resolved_fits}
 use Rattle.tc_asm.proofs.StatementItems.{item_at, each_there}
 

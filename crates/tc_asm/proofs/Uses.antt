@@ -19,6 +19,7 @@ use Rattle.tc_asm.specs.Statements.{StatementData, statement, content_of, standi
 use Rattle.tc_stmt.proofs.Cases.{by_test}
 use Rattle.tc_asm.proofs.ListLaws.{changed, changed-set, size_at-get}
 use Rattle.tc_asm.proofs.LaidLaws.{drafted-bytes}
+use Rattle.tc_asm.specs.Added.{IsGood}
 use Rattle.tc_asm.specs.Contents.{is_open}
 
 -- ---- statements and their uses
@@ -78,11 +79,6 @@ unfolding place_of
 place_bytes d = size_at-get d.parts d.section ∙ size_bytes d.parts d.section
 
 -- ---- what an item has to be
--- the symbol of these bytes has a name, and they are four, where it waits for its address
-pub record IsGood (bs : List ℕ) (o : Option ReferenceData) : Type 0 where
-  pub named : (r : ReferenceData) → o ≡ Some r → is_reloc r.kind ≡ true → is_name r.name ≡ true
-  pub four : is_open o ≡ true → length bs ≡ 4
-
 abbrev pub GoodItem : List SymbolData → DraftData → ItemData → Type 0
 GoodItem labels d (label name) = Unit {0}
 GoodItem labels d (section name) = Unit {0}

@@ -11,3 +11,5 @@ pub mod Statements
 pub mod Contents
 pub mod Relocations
 pub mod Spelled
+pub mod Added
+pub mod Alike

@@ -1,7 +1,8 @@
 // A source, put together.
-ghost use Rattle.std.specs.Prelude.{◌≡◌, ◌≤◌, ◌<◌, ◌^◌, map, length, IfOk, OnOk, IfErr, fold, take, drop, []};
+ghost use Rattle.std.specs.Prelude.{◌≡◌, ◌≤◌, ◌<◌, ◌^◌, All, map, length, IfOk, OnOk, IfErr, fold, take, drop, []};
 ghost use Rattle.tc_stmt.specs.Items.{item_of};
 ghost use Rattle.tc_stmt.specs.Lines.{line_data, lines_in};
+ghost use Rattle.tc_asm.specs.Added.{IsItem};
 ghost use Rattle.tc_asm.specs.Drafts.{start, stepped};
 ghost use Rattle.tc_asm.specs.Sources.{items_rule, with_line, line_rule, drafted, symbols_of as symbols_in, KeepsRules, IsLeast};
 ghost use Rattle.tc_asm.specs.Objects.{object_of};
@@ -17,29 +18,30 @@ use std::alloc::{AllocError, Global};
 use tc_object::Object;
 use tc_stmt::{Item, Line, NO_RULE, Source, read_source};
 
-// Puts things one behind the other.
-fn put_items<'a>(
+// Puts things one behind the other, as far as symbols depend on them.
+fn count_items<'a>(
     alloc: Global,
     draft: &mut Draft<'a>,
-    labels: &Symbols<'a>,
     items: &[Item<'a>],
 ) -> Result<(), AllocError>
+    requires { All (λ i. IsItem (item_of i)) items.now }
     ensures { OnOk result
-        (draft.new ≡ fold (stepped labels.now) draft.old (map item_of items.now)) }
+        (draft.new.symbols ≡ (fold (stepped []) draft.old (map item_of items.now)).symbols) }
 {
+    let none = Symbols::new(alloc);
     for item in items {
-        draft.step(alloc, labels, *item)?;
+        draft.count(alloc, &none, *item)?;
     }
     Ok(())
 }
 
 // The symbols of all that lines add, which don't depend on where jumps go.
 fn symbols_of<'a>(alloc: Global, items: &[Item<'a>]) -> Result<Symbols<'a>, AllocError>
+    requires { All (λ i. IsItem (item_of i)) items.now }
     ensures { IfOk result (λ s. s ≡ (fold (stepped []) start (map item_of items.now)).symbols) }
 {
-    let none = Symbols::new(alloc);
     let mut draft = Draft::new(alloc);
-    put_items(alloc, &mut draft, &none, items)?;
+    count_items(alloc, &mut draft, items)?;
     Ok(draft.symbols)
 }
 

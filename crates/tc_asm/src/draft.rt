@@ -1,10 +1,11 @@
 // What the lines so far have put together.
-use crate::encode::first_bytes;
+use crate::encode::{code_size, first_bytes};
 use crate::rules::is_reloc;
 use crate::sections::{Part, extend_part, number_of_part, use_part};
 use crate::symbols::{Place, Symbols};
 use std::alloc::{AllocError, Global};
 use std::marker::Model;
+use tc_isa::Fields;
 use tc_stmt::{Item, Reference, is_name};
 
 /// The sections so far, which one goes on, the symbols, and how many bytes and relocations there are.
@@ -37,10 +38,12 @@ pub(crate) const MOST_SECTIONS: usize = 64;
 const NO_NUMBER: usize = 64;
 
 impl<'a> Draft<'a> {
-    ghost use Rattle.std.specs.Prelude.{◌≡◌, OnOk, option_map, replicate};
+    ghost use Rattle.std.specs.Prelude.{◌≡◌, [], OnOk, option_map, replicate};
     ghost use Rattle.tc_stmt.specs.RowFields.{reference_of};
-    ghost use Rattle.tc_stmt.specs.Items.{item_of};
-    ghost use Rattle.tc_asm.specs.Drafts.{start, place_of, has_section, has_room, with_label, entered, with_global, with_bytes, with_use, with_reference, with_content, stepped};
+    ghost use Rattle.tc_stmt.specs.Items.{item_of, code};
+    ghost use Rattle.tc_asm.specs.Added.{IsCode, IsItem};
+    ghost use Rattle.tc_asm.specs.Alike.{Alike};
+    ghost use Rattle.tc_asm.specs.Drafts.{DraftData, start, place_of, has_section, has_room, with_label, entered, with_global, with_bytes, with_use, with_reference, with_content, stepped};
 
     pub fn new(alloc: Global) -> Draft<'a>
         ensures { result ≡ start }
@@ -214,6 +217,56 @@ impl<'a> Draft<'a> {
             }
             Item::Data(len, bytes, r) => self.add_content(first_bytes(&bytes, len), r),
             Item::Zeros(n) => self.add_zeros(alloc, n as usize),
+        }
+    }
+
+    // Puts zeros for the bytes of an instruction, of which only the number is needed, and notes its symbol.
+    fn count_code(
+        &mut self,
+        row: u8,
+        fields: Fields,
+        r: Option<Reference<'a>>,
+    ) -> Result<(), AllocError>
+        requires { IsCode row fields (option_map reference_of r) }
+        ensures { OnOk result ((d : DraftData) → Alike self.old d
+            → Alike self.new (stepped [] d (code row fields (option_map reference_of r.entry)))) }
+    {
+        self.add_reference(0, r)?;
+        self.add_bytes(first_bytes(&[0; 4], code_size(row)))?;
+        Ok(())
+    }
+
+    // Puts one thing more that is no instruction, where no symbols are known.
+    fn count_other(
+        &mut self,
+        alloc: Global,
+        none: &Symbols<'a>,
+        item: Item<'a>,
+    ) -> Result<(), AllocError>
+        requires none { none.now ≡ [] }
+        requires added { IsItem (item_of item) }
+        ensures { OnOk result ((d : DraftData) → Alike self.old d
+            → Alike self.new (stepped [] d (item_of item.entry))) }
+    {
+        self.step(alloc, none, item)?;
+        Ok(())
+    }
+
+    /// Puts one thing more that a line of a source adds, as far as symbols depend on it.
+    pub fn count(
+        &mut self,
+        alloc: Global,
+        none: &Symbols<'a>,
+        item: Item<'a>,
+    ) -> Result<(), AllocError>
+        requires none { none.now ≡ [] }
+        requires added { IsItem (item_of item) }
+        ensures { OnOk result ((d : DraftData) → Alike self.old d
+            → Alike self.new (stepped [] d (item_of item.entry))) }
+    {
+        match item {
+            Item::Code(row, fields, r) => self.count_code(row, fields, r),
+            _ => self.count_other(alloc, none, item),
         }
     }
 }

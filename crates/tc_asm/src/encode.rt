@@ -1,6 +1,9 @@
 // The bytes of an instruction, once a target that takes no relocation is resolved.
-ghost use Rattle.std.specs.Prelude.{◌≡◌, take};
+ghost use Rattle.std.specs.Prelude.{◌≡◌, take, if◌then◌else◌};
+ghost use Rattle.tc_isa.specs.Codec.{is_long};
+ghost use Rattle.tc_isa.specs.Rows.{row_of};
 ghost use Rattle.tc_stmt.specs.RowFields.{row_fields_of};
+ghost use Rattle.tc_asm.specs.Alike.{code_size as size_of_code};
 ghost use Rattle.tc_asm.specs.Drafts.{bytes_of, found as found_in};
 
 use crate::draft::Draft;
@@ -30,7 +33,27 @@ pub(crate) fn first_bytes(bytes: &[u8; 4], len: u8) -> &[u8]
     &bytes[..len]
 }
 
+fn row_size(row: &Row) -> u8
+    ensures { result ≡ (if is_long (row_of row.now) then 4 else 2) }
+{
+    if row.op1 % 2 == 1 { 4 } else { 2 }
+}
+
+/// How many bytes an instruction of the row with this number has; none where no row has it.
+pub(crate) fn code_size(row: u8) -> u8
+    ensures { result ≡ size_of_code row }
+{
+    let rows = rows();
+    let place = usize::from(row);
+    if place < rows.len() {
+        row_size(&rows[place])
+    } else {
+        0
+    }
+}
+
 // Fields, with no symbol and no rule broken.
+#[inline(always)]
 fn found<'a>(fields: Fields) -> RowFields<'a>
     ensures { row_fields_of result ≡ found_in fields }
 {
@@ -93,6 +116,7 @@ impl<'a> Draft<'a> {
         }
     }
 
+    #[inline(always)]
     fn targeted(
         &self,
         labels: &Symbols<'a>,
@@ -117,6 +141,7 @@ impl<'a> Draft<'a> {
     }
 
     /// What the row with this number makes of the fields and the symbol.
+    #[inline(always)]
     pub(crate) fn resolved(
         &self,
         labels: &Symbols<'a>,

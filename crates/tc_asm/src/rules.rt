@@ -5,7 +5,7 @@ ghost use Rattle.tc_isa.specs.Relocations.{is_reloc as needs_reloc};
 use crate::draft::{Draft, MOST_SECTIONS};
 use crate::encode::{code_of, first_bytes};
 use crate::sections::number_of_part;
-use crate::symbols::Symbols;
+use crate::symbols::{Place, Symbols};
 use std::alloc::{AllocError, Global};
 use tc_isa::Fields;
 use tc_stmt::{
@@ -23,7 +23,7 @@ pub(crate) fn is_reloc(kind: u8) -> bool
 impl<'a> Draft<'a> {
     ghost use Rattle.std.specs.Prelude.{option_map, length, OnOk, IfOk};
     ghost use Rattle.tc_stmt.specs.RowFields.{reference_of};
-    ghost use Rattle.tc_stmt.specs.Items.{item_of, code};
+    ghost use Rattle.tc_stmt.specs.Items.{item_of, label, code};
     ghost use Rattle.tc_asm.specs.Drafts.{stepped};
     ghost use Rattle.tc_asm.specs.Rules.{label_rule, section_rule, name_rule, section_room, symbol_room, reloc_room, bytes_room, defined_rule, reference_rule, content_rule, item_rule};
 
@@ -170,6 +170,33 @@ impl<'a> Draft<'a> {
         Ok(rule)
     }
 
+    // Puts a label, whose name is looked for once, and tells the least rule that it breaks.
+    #[inline(never)]
+    #[tactic(auto, unfolding(crate::specs::Rules::item_rule, crate::specs::Drafts::stepped, crate::specs::Drafts::with_label))]
+    fn put_label(&mut self, labels: &Symbols<'a>, name: &'a [u8]) -> Result<u8, AllocError>
+        ensures draft { OnOk result
+            (self.new ≡ stepped labels.now self.old (label name.entry.now)) }
+        ensures rule { IfOk result
+            (λ rule. rule ≡ item_rule labels.now self.old (label name.entry.now)) }
+    {
+        if !is_name(name) {
+            return Ok(self.item_rule(labels, Item::Label(name)));
+        }
+        let section = self.section_rule();
+        let room = self.symbol_room(name);
+        let place = Place {
+            section: self.section,
+            offset: self.place(),
+        };
+        let before = self.symbols.define(name, place)?;
+        let twice = if before.is_some() {
+            LABEL_TWICE
+        } else {
+            NO_RULE
+        };
+        Ok(twice.min(section).min(NO_RULE.min(room)))
+    }
+
     /// Puts one thing more, and tells the least rule that it breaks, where the whole source has these symbols, or no rule.
     pub(crate) fn put(
         &mut self,
@@ -182,6 +209,7 @@ impl<'a> Draft<'a> {
             (λ rule. rule ≡ item_rule labels.now self.old (item_of item.entry)) }
     {
         match item {
+            Item::Label(name) => self.put_label(labels, name),
             Item::Code(row, fields, r) => self.put_code(labels, row, fields, r),
             _ => {
                 let rule = self.item_rule(labels, item);

@@ -6,6 +6,7 @@ ghost use Rattle.tc_asm.specs.Views.{part_of};
 ghost use Rattle.tc_asm.specs.Drafts.{extended, used, number_of_part};
 
 use std::alloc::AllocError;
+use tc_lex::is_same;
 use tc_stmt::Reference;
 
 /// Four bytes of a section that a symbol's value goes to.
@@ -26,7 +27,7 @@ pub struct Part<'a> {
 fn find_part(parts: &[Part], name: &[u8]) -> Option<usize>
     ensures { result ≡ position (λ p. bytes_eq name.now p.name.now) parts.now }
 {
-    parts.iter().position(|p| name == p.name)
+    parts.iter().position(|p| is_same(name, p.name))
 }
 
 /// The number of the section of this name, or how many sections there are.

@@ -142,18 +142,31 @@ impl<'a> Symbols<'a> {
         Ok(())
     }
 
-    /// Notes where a name's label stands, if none stood anywhere before. A new name is looked for once.
+    /// Notes where a name's label stands, if none stood anywhere before, and tells where one did. A new name is looked for once.
     #[tactic(auto, using(crate::proofs::SymbolLaws::labelled_new, crate::proofs::SymbolLaws::labelled_known))]
+    pub(crate) fn define(
+        &mut self,
+        name: &'a [u8],
+        place: Place,
+    ) -> Result<Option<Place>, AllocError>
+        ensures symbols { OnOk result (self.new ≡ labelled self.old name.entry.now place) }
+        ensures before { IfOk result (λ old. old ≡ place_in self.old name.entry.now) }
+    {
+        match self.put(name, labelled_at(place))? {
+            None => Ok(None),
+            Some(old) => {
+                self.put(name, with_label(old, place))?;
+                Ok(old.place)
+            }
+        }
+    }
+
+    /// Notes where a name's label stands, if none stood anywhere before.
     pub fn label(&mut self, name: &'a [u8], place: Place) -> Result<(), AllocError>
         ensures { OnOk result (self.new ≡ labelled self.old name.entry.now place) }
     {
-        match self.put(name, labelled_at(place))? {
-            None => Ok(()),
-            Some(old) => {
-                self.put(name, with_label(old, place))?;
-                Ok(())
-            }
-        }
+        self.define(name, place)?;
+        Ok(())
     }
 
     /// Makes a name global.

@@ -18,7 +18,8 @@ use Rattle.tc_asm.specs.Kept.{Each}
 use Rattle.tc_asm.specs.Statements.{StatementData, content_of, standing, statements_from}
 use Rattle.tc_program.specs.Laws.{FillsRow, FieldsLaw}
 use Rattle.tc_stmt.proofs.ListItems.{InRest, in_front_or_rest}
-use Rattle.tc_asm.proofs.SourceItems.{IsCode, IsItem, source_are}
+use Rattle.tc_asm.specs.Added.{IsCode, IsItem}
+use Rattle.tc_asm.proofs.SourceItems.{source_are}
 use Rattle.tc_asm.proofs.CodeSizes.{fit_true, resolved_fits}
 use Rattle.tc_reloc.proofs.FilledRows.{filled_row, filled_fits}
 

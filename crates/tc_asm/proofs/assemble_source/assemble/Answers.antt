@@ -1,8 +1,12 @@
-use Rattle.std.proofs.Common.{◌≤◌, ◌+◌, ◌^◌, length, map, arith}
+use Rattle.std.proofs.Common.{◌≤◌, ◌+◌, ◌^◌, ◌∙◌, ap, length, map, arith}
 use Rattle.tc_stmt.specs.Items.{item_of}
 use Rattle.tc_stmt.proofs.ReadLines.{few_read}
 use Rattle.tc_asm.proofs.Passes.{object_source, kept_source, labels_source}
+use Rattle.tc_asm.proofs.AlikeDrafts.{items_all}
 use Rattle.tc_asm.proofs.assemble_source.assemble.Goals as goal
+
+pub symbols_of-requires : goal.symbols_of-requires
+symbols_of-requires c = items_all c.args.source.now c.deref.result.now (ap (map item_of) c.deref.ensures.value ∙ c.in_ok-read.ensures.items)
 
 pub checked-requires-clause-few : goal.checked-requires-clause-few
 checked-requires-clause-few c =
