@@ -1,6 +1,6 @@
 -- What the lines of a source add: instructions whose fields fit their row, and symbols that their bytes have room for.
 use Rattle.std.proofs.Common.{◌≡◌, ◌+◌, ◌*◌, ◌^◌, ◌&&◌, ◌||◌, ◌==◌, min, ℕ, Bool, true, false, cond, List, [], ◌∷◌, ◌++◌, length, take, drop, map, Option, Some, None, Result, Ok, Err, refl, sym, ap, ◌∙◌}
-use Rattle.std.specs.Prelude.{slice_get, nat_le, not, codes}
+use Rattle.std.specs.Prelude.{nat_le, not, codes}
 use Rattle.std.specs.List.{slice_split}
 use Rattle.std.specs.Option.{option_map_or}
 use Rattle.std.specs.Str.{bytes_eq}
@@ -8,21 +8,19 @@ use Rattle.std.proofs.lemmas.Bool.Decides.{Decides-eqb}
 use Rattle.tc_lex.specs.declared.kinds.Token.{Token}
 use Rattle.tc_lex.specs.declared.kinds.TokenKind.TheVariants as kind
 use Rattle.tc_lex.specs.Cut.{tokens_of}
-use Rattle.tc_isa.specs.declared.fields.Fields.{Fields}
-use Rattle.tc_isa.specs.Rows.{RowData, listed}
-use Rattle.tc_isa.specs.Codec.{Fits, four_bytes}
+use Rattle.tc_isa.specs.Codec.{four_bytes}
 use Rattle.tc_stmt.specs.Names.{is_name}
 use Rattle.tc_lex.specs.Pieces.{PieceData, is_kind, text_at}
 use Rattle.tc_lex.specs.Operands.{OperandData, operands}
 use Rattle.tc_stmt.specs.RowFields.{ReferenceData, RowFieldsData, shape_index, is_symbol, is_half, symbol_rule, wrap, reference}
 use Rattle.tc_stmt.specs.StatementRow.{statement}
-use Rattle.tc_stmt.specs.Items.{ItemData, label, section, global, code, bytes, zeros}
+use Rattle.tc_stmt.specs.Items.{ItemData, section, global, bytes, zeros}
 use Rattle.tc_stmt.specs.Values.{fits_width, value_rule, value_item, space_item}
 use Rattle.tc_stmt.specs.Lines.{LineData, line_data, word_of, named_line, space_line, values_line, code_line, stated_line, line_from, pieces_line, piece_in, label_of, label_before, cut_line, line_in, lines_in, items_in}
 use Rattle.tc_asm.specs.Added.{IsData, IsItem}
 use Rattle.tc_asm.specs.Kept.{Each}
 use Rattle.tc_stmt.proofs.Cases.{by_test}
-use Rattle.tc_stmt.specs.Stated.{Symbols, IsStated}
+use Rattle.tc_stmt.specs.Stated.{IsStated}
 use Rattle.tc_stmt.proofs.StatedRows.{stated}
 
 -- ---- a line

@@ -1,5 +1,5 @@
 -- The tokens of a line, with their texts.
-use Rattle.std.specs.Prelude.{◌≡◌, ℕ, ◌==◌, ◌&&◌, ◌++◌, nat_le, if◌then◌else◌, Bool, false, List, [], length, map, slice_get, slice_range, Result, Ok, Err}
+use Rattle.std.specs.Prelude.{◌≡◌, ℕ, ◌==◌, ◌&&◌, nat_le, if◌then◌else◌, Bool, false, List, [], length, map, slice_get, slice_range, Result, Ok, Err}
 use Rattle.std.specs.Option.{option_map_or}
 use Rattle.tc_lex.specs.declared.kinds.TokenKind.{TokenKind}
 use Rattle.tc_lex.specs.declared.kinds.TokenKind.TheVariants.{Word, Number, Comma, Colon, Open, Close, Plus, Minus}

@@ -1,4 +1,4 @@
-use Rattle.std.proofs.Common.{false, map, length, ap, ◌∙◌}
+use Rattle.std.proofs.Common.{false, map, ap, ◌∙◌}
 use Rattle.std.proofs.lemmas.List.{length-map}
 use Rattle.tc_lex.specs.Numbers.{number_of}
 use Rattle.tc_lex.specs.Pieces.{piece_of}

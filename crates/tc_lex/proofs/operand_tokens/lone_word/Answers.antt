@@ -1,4 +1,4 @@
-use Rattle.std.proofs.Common.{false, map, length, ap, ◌∙◌}
+use Rattle.std.proofs.Common.{false, map, ap, ◌∙◌}
 use Rattle.std.proofs.lemmas.List.{length-map}
 use Rattle.tc_lex.specs.declared.operand.Shape.TheVariants as shape
 use Rattle.tc_lex.specs.Pieces.{piece_of}
