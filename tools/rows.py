@@ -5,9 +5,10 @@
     tools/rows.py --check    says which of them differ, and changes nothing
 
 The tables: the rows as a definition (tc_isa/specs/Rows.antt), the fields that each row names (tc_isa/src/row_uses.rt), the
-index by codes (tc_encode/src/index.rt), and the operands of each row (tc_stmt/src/row_wants.rt). What a row does is written
-by hand, in tc_isa/specs/Shapes.antt and tc_isa/src/row_meanings.rt. The count of rows is changed where it stands as a number.
-Both say too which rows the table of operands in docs/formats.md lacks, or has and shouldn't: that one is written by hand.
+index by codes (tc_encode/src/index.rt), the operands of each row (tc_stmt/src/row_wants.rt), and the index by names
+(tc_stmt/src/row_index.rt). What a row does is written by hand, in tc_isa/specs/Shapes.antt and tc_isa/src/row_meanings.rt.
+The count of rows is changed where it stands as a number. Both say too which rows the table of operands in docs/formats.md
+lacks, or has and shouldn't: that one is written by hand.
 Nothing here is trusted: the checks of tc_isa, tc_encode and tc_stmt prove that each table is that of the rows.
 """
 import os
@@ -86,6 +87,19 @@ def index(all_rows):
     }
 
 
+def name_key(name):
+    """As tc_stmt/specs/RowIndex.antt has it."""
+    first, second, third = (name.encode() + bytes(3))[:3]
+    return (first + 7 * second + third + len(name)) % 64
+
+
+def index_of_names(all_rows):
+    count, keys = len(all_rows), [name_key(r[0]) for r in all_rows]
+    first = [keys.index(k) if k in keys else count for k in range(64)]
+    later = [next((j for j in range(i + 1, count) if keys[j] == k), count) for i, k in enumerate(keys)]
+    return {"static FIRST": items("static FIRST", "u8", first), "static NEXT": items("static NEXT", "u8", later)}
+
+
 def replaced(text, name, new):
     """The text with the item of this name written anew."""
     end = r"\n    \[\]\n" if name == "listed =" else r"\n\];\n"
@@ -112,6 +126,7 @@ def main():
         "tc_isa/src/row_uses.rt": {"static USES": items("static USES", "Uses", uses)},
         "tc_encode/src/index.rt": index(all_rows),
         "tc_stmt/src/row_wants.rt": {"pub static WANTS": items("pub static WANTS", "&[Want]", wants)},
+        "tc_stmt/src/row_index.rt": index_of_names(all_rows),
     }
     before = int(re.search(r"MEANINGS: \[Meaning; (\d+)\]", read("tc_isa/src/row_meanings.rt")).group(1))
     places = int(re.search(r"PLACES: \[u8; (\d+)\]", read("tc_encode/src/index.rt")).group(1))
@@ -148,4 +163,5 @@ def main():
     return 1 if differ and "--check" in sys.argv else 0
 
 
-sys.exit(main())
+if __name__ == "__main__":
+    sys.exit(main())
