@@ -25,7 +25,7 @@ use Rattle.depth_cert.specs.Spelling.{bytes_of, bytes_of_exit, bytes_of_key, byt
 use Rattle.cfg_recover.proofs.Members.{contains_map}
 use Rattle.cfg_recover.specs.Assignments.{Place, point, exit}
 use Rattle.depth_cert.specs.Known.{Known, state, leaving, IsProper, IsProperExit, IsProperKnown}
-use Rattle.small_states.specs.Kept.{IsExitAt, IsStateAt}
+use Rattle.small_states.specs.Kept.{IsNoExit, IsStateAt}
 use Rattle.depth_maker.specs.Making.{IsWritten}
 use Rattle.depth_maker.specs.RowsAt.{need_by}
 use Rattle.depth_maker.specs.RowsBy.{IsSource}
@@ -83,12 +83,16 @@ points_more s k qs i d old mid new lt so one = record {
 }
 
 -- ---- exits
-pub exit_there : (s : Source) → IsSource s → (k : Key) (w : Known) (x : exits.Exit) → get spot_eq (s.table.now).cells (Exit k) ≡ Some w → IsExitAt w x → known_on s (exit k) ≡ Some (leaving x)
+pub exit_there : (s : Source) (k : Key) (w : Known) (x : exits.Exit) → get spot_eq (s.table.now).cells (Exit k) ≡ Some w → w ≡ leaving x → known_on s (exit k) ≡ Some (leaving x)
 unfolding seen
-exit_there s source k w x at is = of_kind w (derived_kinds _ _ _ (seen s.table.now).cells (source.done).derived (exit k) w at) at is where
-  of_kind : (w : Known) → IsOfKind (exit k) w → get spot_eq (s.table.now).cells (Exit k) ≡ Some w → IsExitAt w x → known_on s (exit k) ≡ Some (leaving x)
-  of_kind (leaving y) h at is = at ∙ ap (λ (x : exits.Exit). Some (leaving x)) (sym is)
-  of_kind (state u) h at is = absurd h
+exit_there s k w x at is = at ∙ ap (λ (v : Known). Some v) is
+
+pub no_exit_there : (s : Source) → IsSource s → (k : Key) (w : Known) → get spot_eq (s.table.now).cells (Exit k) ≡ Some w → IsNoExit w → ⊥
+unfolding seen
+no_exit_there s source k w at none = of_kind w (derived_kinds _ _ _ (seen s.table.now).cells (source.done).derived (exit k) w at) none where
+  of_kind : (v : Known) → IsOfKind (exit k) v → IsNoExit v → ⊥
+  of_kind (leaving y) h n = n
+  of_kind (state u) h n = h
 
 pub exit_well : (s : Source) → IsSource s → (k : Key) (x : exits.Exit) → known_on s (exit k) ≡ Some (leaving x) → All IsWell x.lower
 unfolding seen

@@ -8,7 +8,6 @@ ghost use Rattle.depth_maker.specs.Spelled.{AreFrames, AreKnown, IsFrameOf, IsOf
 use crate::rows::Source;
 use depth_cert::{Key, put_u16, write_exit, write_key};
 use frame_places::{Spot, address_at, frames_in_order, number_of, points_in_order, points_of};
-use small_states::any_exit;
 use std::alloc::Global;
 use tcd_base::{NoMemory, put_u32};
 
@@ -57,10 +56,11 @@ fn write_exit_of(out: &mut Vec<u8>, source: &Source, key: Key) -> Result<(), NoM
         write_exit(out, &None)?;
         return Ok(());
     };
-    let mut exit = any_exit();
-    cell.read_exit(source.ground.bounds, &mut exit);
+    let Some(exit) = cell.exit() else {
+        return Ok(());
+    };
     is_byte(exit.ccpn);
-    write_exit(out, &Some(exit))?;
+    exit.spell(out)?;
     Ok(())
 }
 

@@ -32,11 +32,6 @@ abbrev pub IsStateAt : Known → State → Type 0
 IsStateAt (state s) u = u ≡ s
 IsStateAt (leaving x) u = Unit {0}
 
--- the exit that is known; nothing is said where it is a state
-abbrev pub IsExitAt : Known → Exit → Type 0
-IsExitAt (state s) u = Unit {0}
-IsExitAt (leaving x) u = u ≡ x
-
 -- the values that a duty asks for: a state's 27, or an exit's 14
 abbrev pub values_asked : Asked → List Val
 values_asked (Changed s c) = (state_after s.now c.now).regs

@@ -5,16 +5,15 @@ ghost use Rattle.value_domain.specs.State.{AreValues, AreWell, Covers, joined_st
 ghost use Rattle.small_states.specs.Wholes.{exit_in, state_in};
 ghost use Rattle.depth_cert.specs.Exits.{ExitCovers};
 ghost use Rattle.depth_cert.specs.Known.{CoversKnown, joined_exit, joined_known, state, leaving, IsProperKnown};
-ghost use Rattle.small_states.specs.Kept.{AddsState, IsExitAt, IsNoExit, IsQuiet, IsStateAt, asked_for, exit_with, known_of, state_with, values_asked};
+ghost use Rattle.small_states.specs.Kept.{AddsState, IsNoExit, IsQuiet, IsStateAt, asked_for, exit_with, known_of, state_with, values_asked};
 
 use crate::asked::{Asked, Context, context_of, is_leaving};
 use crate::values::{are_covered, joined, packed};
 use crate::{Small, SmallExit, SmallState, copy_of, join_locals};
-use depth_cert::Exit;
 use std::alloc::{AllocError, Global};
 use std::marker::Model;
 use tcd_base::NoMemory;
-use value_domain::{Bounds, State, Val, are_implied};
+use value_domain::{Bounds, State, are_implied};
 
 /// A state at a point, or the exit of a frame.
 #[derive(Drop)]
@@ -151,15 +150,6 @@ fn join_exit(
     Ok(Some(Cell { kept }))
 }
 
-/// An exit of which nothing is known.
-pub fn any_exit() -> Exit {
-    Exit {
-        ie: false,
-        ccpn: 0,
-        lower: std::array::from_fn(|_| Val::any()),
-    }
-}
-
 impl Cell {
     /// What a duty asks for.
     pub fn new(alloc: Global, _b: &Bounds, asked: &Asked) -> Result<Cell, AllocError>
@@ -264,16 +254,6 @@ impl Cell {
         match &self.kept {
             Kept::Point(_) => None,
             Kept::Leaves(x) => Some(x),
-        }
-    }
-
-    /// Writes the exit over another.
-    pub fn read_exit(&self, _b: &Bounds, into: &mut Exit)
-        requires { IsProperKnown _b.now self.now }
-        ensures { IsExitAt self.now into.new }
-    {
-        if let Kept::Leaves(x) = &self.kept {
-            x.write(into);
         }
     }
 }

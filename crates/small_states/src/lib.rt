@@ -9,6 +9,6 @@ mod states;
 mod values;
 
 pub use asked::{Asked, priority};
-pub use cells::{Cell, any_exit};
+pub use cells::Cell;
 pub use small::Small;
 pub use states::{SmallExit, SmallState, copy_of, join_locals};

@@ -5,7 +5,6 @@ ghost use Rattle.small_states.specs.Wholes.{exit_in, state_in};
 
 use crate::small::Small;
 use arrayvec::ArrayVec;
-use depth_cert::Exit;
 use std::alloc::{AllocError, Global};
 use value_domain::{State, Val};
 
@@ -113,16 +112,6 @@ impl SmallExit {
             ccpn: self.ccpn,
             lower,
         })
-    }
-
-    /// Writes the exit over another.
-    pub fn write(&self, into: &mut Exit)
-        requires { length self.now.lower.items ≡ 14 }
-        ensures { into.new ≡ exit_in self.now }
-    {
-        write_values(self.lower.as_slice(), &mut into.lower);
-        into.ie = self.ie;
-        into.ccpn = self.ccpn;
     }
 
     /// Whether its IE and CCPN cover these.
