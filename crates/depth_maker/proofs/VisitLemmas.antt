@@ -22,7 +22,9 @@ use Rattle.depth_maker.specs.Tables.{Table, IsTable, Settled}
 use Rattle.depth_maker.proofs.TableLaws.{derived_proper, table_closed, table_marked, table_settles, settled_again}
 use Rattle.depth_maker.proofs.PlaceKinds.{IsOfKind, derived_kinds}
 use Rattle.depth_maker.proofs.HearingLaws.{heard_again}
+use Rattle.depth_maker.proofs.LevelSteps.{rises_then, same_level}
 use Rattle.depth_maker.proofs.PartLemmas.{keeps_all}
+use Rattle.depth_maker.specs.Levels.{Rises}
 use Rattle.frame_places.specs.declared.places.Spot.{Spot}
 use Rattle.frame_places.specs.declared.places.Spot.TheVariants.{Point, Exit}
 use Rattle.depth_cert.specs.declared.points.Exit as exits
@@ -33,7 +35,7 @@ use Rattle.frame_places.specs.Spots.{spot_eq}
 use Rattle.depth_maker.specs.Spots.{spot_of, place_of}
 use Rattle.depth_maker.proofs.SpotLemmas.{front_cases, back, forth, agrees}
 use Rattle.frame_places.proofs.SpotLemmas.{spot_tells, spot_refl}
-use Rattle.frame_places.specs.Marks.{AllListed, is_idle, is_queued, Reads}
+use Rattle.frame_places.specs.Marks.{AllListed, is_idle, is_queued, settled_mark, Reads}
 use Rattle.depth_maker.specs.View.{IsCountedIn, seen, IsFine, IsVisited, Keeps, IsOpenAt, NoneOpen, AllSettled, Paid}
 use Rattle.frame_places.proofs.MarkLemmas.{sides}
 use Rattle.depth_maker.proofs.CountedLemmas.{counted_again, counted_start}
@@ -266,13 +268,12 @@ paid_unknown b image plan s k p fine none = record {
   nothing : (l : Key) (q : ℕ) (u : State) → point k p ≡ point l q → get spot_eq s.cells (Point l q) ≡ Some (state u) → ⊥
   nothing l q u e at = let f : None ≡ Some (state u) = sym none ∙ ap (λ (y : Place). get spot_eq s.cells (spot_of y)) e ∙ at in cc
 
--- work that is taken off alone
-pub same_fine : (b : Limits) (image : ImageData) (plan : PlanData) (laws : AreLawful b image plan) (s t : made.Table) → t.cells ≡ s.cells → t.marks ≡ s.marks → t.readers ≡ s.readers → t.work.items ≡ s.work.items
-    → t.points.items ≡ s.points.items → t.frames.items ≡ s.frames.items → t.heard ≡ s.heard → IsFine b image plan s → IsFine b image plan t
+-- the same marks
+pub again_fine : (b : Limits) (image : ImageData) (plan : PlanData) (laws : AreLawful b image plan) (s t : made.Table) → t.cells ≡ s.cells → ((q : Spot) → get spot_eq t.marks q ≡ get spot_eq s.marks q) → t.readers ≡ s.readers
+    → t.work.items ≡ s.work.items → t.points.items ≡ s.points.items → t.frames.items ≡ s.frames.items → t.heard ≡ s.heard → IsFine b image plan s → IsFine b image plan t
 unfolding seen
-same_fine b image plan laws s t cells marks readers work points frames heard fine =
+again_fine b image plan laws s t cells marked readers work points frames heard fine =
     let same : (q : Spot) → get spot_eq t.cells q ≡ get spot_eq s.cells q = λ q. ap (λ m. get spot_eq m q) cells in
-    let marked : (q : Spot) → get spot_eq t.marks q ≡ get spot_eq s.marks q = λ q. ap (λ m. get spot_eq m q) marks in
     record {
       table = table_marked b image plan laws (seen s) (seen t) (λ q. same (spot_of q)) (λ z q h. subst (λ m. Reads (get spot_eq m (spot_of z)) (spot_of q)) (sym readers) h) fine.table
           (λ q h. sym (ap is_idle (marked (spot_of q))) ∙ h) (subst (λ m. Derived b image plan (λ q. get spot_eq m (spot_of q))) (sym cells) (fine.table).derived);
@@ -281,6 +282,46 @@ same_fine b image plan laws s t cells marks readers work points frames heard fin
       counted = counted_again s.cells t.cells s.points.items t.points.items s.frames.items t.frames.items (λ q. same (spot_of q)) points frames fine.counted;
       heard = heard_again b plan (seen s).cells (seen t).cells (λ q. same (spot_of q)) t.heard (subst (HeardEntered b plan (seen s).cells) (sym heard) fine.heard);
     }
+
+-- work that is taken off alone
+pub same_fine : (b : Limits) (image : ImageData) (plan : PlanData) (laws : AreLawful b image plan) (s t : made.Table) → t.cells ≡ s.cells → t.marks ≡ s.marks → t.readers ≡ s.readers → t.work.items ≡ s.work.items
+    → t.points.items ≡ s.points.items → t.frames.items ≡ s.frames.items → t.heard ≡ s.heard → IsFine b image plan s → IsFine b image plan t
+same_fine b image plan laws s t cells marks readers work points frames heard fine =
+    again_fine b image plan laws s t cells (λ q. ap (λ m. get spot_eq m q) marks) readers work points frames heard fine
+
+-- ---- the end of a visit
+queued_mark : (o : Option Mark) → is_queued o ≡ true → o ≡ Some Queued
+queued_mark None e = cc
+queued_mark (Some Idle) e = cc
+queued_mark (Some Queued) e = refl
+queued_mark (Some Open) e = cc
+
+-- what the point owes was joined, and it is idle now, unless it has new work
+pub ended : (b : Limits) (image : ImageData) (plan : PlanData) (laws : AreLawful b image plan) (s m t : made.Table) (x : Spot) → t.cells ≡ m.cells → t.readers ≡ m.readers → t.points.items ≡ m.points.items → t.frames.items ≡ m.frames.items
+    → t.heard ≡ m.heard → t.work.items ≡ m.work.items → ((q : Spot) → get spot_eq t.marks q ≡ (if spot_eq x q then Some (settled_mark (get spot_eq m.marks x)) else get spot_eq m.marks q)) → IsOpenAt s x → Paid b image plan s m x
+    → IsFine b image plan t × NoneOpen t × Rises s t
+ended b image plan laws s m t x cells readers points frames heard work marks opening paid = by_mark (is_queued (get spot_eq m.marks x)) refl where
+  higher : Rises s t
+  higher = rises_then s m t (paid.keeps).rises (inr (same_level m t cells points frames, work))
+
+  by_mark : (e : Bool) → is_queued (get spot_eq m.marks x) ≡ e → IsFine b image plan t × NoneOpen t × Rises s t
+  by_mark true e =
+      let at : get spot_eq m.marks x ≡ Some Queued = queued_mark (get spot_eq m.marks x) e in
+      let same : (q : Spot) → get spot_eq t.marks q ≡ get spot_eq m.marks q =
+      λ q. elim (sides (spot_eq x q) (Some (settled_mark (get spot_eq m.marks x))) (get spot_eq m.marks q) (get spot_eq t.marks q) (marks q)) [
+        | inl l ↦ l.1 ∙ ap (λ (o : Option Mark). Some (settled_mark o)) at ∙ sym at ∙ ap (get spot_eq m.marks) (spot_tells x q l.0)
+        | inr r ↦ r.1
+      ] in (
+        again_fine b image plan laws m t cells same readers work points frames heard paid.fine,
+        (λ q here. paid_closed b image plan s m x opening paid (λ open_. let no : Some Queued ≡ Some Open = sym at ∙ open_ in cc) q (sym (same q) ∙ here)),
+        higher,
+      )
+  by_mark false e =
+      let at : get spot_eq m.marks x ≡ Some Open = ((paid.keeps).each x e).0 ∙ opening.at in
+      let h =
+      finished b image plan laws m t x cells readers points frames heard paid.fine (paid_open b image plan s m x opening paid at) work
+      (λ q. marks q ∙ ap (λ (o : Option Mark). if spot_eq x q then Some (settled_mark o) else get spot_eq m.marks q) at) (paid_settled b image plan s m x paid at) in
+      (h.0, h.1, higher)
 
 -- a map without entries
 pub get_none : {X S : Type 0} (m : IndexMap Spot X S) (q : Spot) → m.entries ≡ [] → get spot_eq m q ≡ None

@@ -12,7 +12,7 @@ use crate::paying::pay;
 use crate::table::Table;
 use cfg_recover::{start_key, start_state};
 use depth_cert::Key;
-use frame_places::{Mark, Refusal, Spot, is_open};
+use frame_places::{Mark, Refusal, Spot, settle};
 use indexmap::IndexMap;
 use small_states::{Asked, Cell};
 use std::alloc::Global;
@@ -125,10 +125,7 @@ fn visit(
     ensures err { IfErr result (AnsweredOn ground.now) }
 {
     pay_place(alloc, ground, table, scratch, x)?;
-    if !is_open(&table.marks, x) {
-        return Ok(());
-    }
-    table.marks.insert(x, Mark::Idle)?;
+    settle(&mut table.marks, x)?;
     Ok(())
 }
 

@@ -30,6 +30,13 @@ is_queued (Some Idle) = false
 is_queued (Some Queued) = true
 is_queued (Some Open) = false
 
+-- what a place is marked as when its visit is over: where it was put on the list meanwhile it has work
+abbrev pub settled_mark : Option Mark → Mark
+settled_mark None = Idle
+settled_mark (Some Idle) = Idle
+settled_mark (Some Queued) = Queued
+settled_mark (Some Open) = Idle
+
 -- a place is among those that are told of a rise
 abbrev pub Reads : Option (Vec Spot Global) → Spot → Type 0
 Reads None x = ⊥

@@ -10,7 +10,7 @@ mod readers;
 mod refusals;
 
 pub use counting::count;
-pub use marks::{has_work, is_open, touch, touch_all, wake};
+pub use marks::{has_work, settle, touch, touch_all, wake};
 pub use numbers::{number_of, numbered, numbers_of};
 pub use ordering::{
     address_at, address_in, frames_in_order, orders_of, points_in_order, points_of,

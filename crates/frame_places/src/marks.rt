@@ -1,10 +1,10 @@
 // Which places have work.
-ghost use Rattle.std.specs.Prelude.{◌≡◌, ◌↔◌, IsTrue, OnOk, Some, if◌then◌else◌};
+ghost use Rattle.std.specs.Prelude.{◌≡◌, OnOk, Some, if◌then◌else◌};
 ghost use Rattle.indexmap.specs.IndexMap.{get};
 ghost use Rattle.frame_places.specs.declared.places.Spot.{Spot};
-ghost use Rattle.frame_places.specs.declared.places.Mark.TheVariants.{Open, Queued};
+ghost use Rattle.frame_places.specs.declared.places.Mark.TheVariants.{Queued};
 ghost use Rattle.frame_places.specs.Spots.{spot_eq};
-ghost use Rattle.frame_places.specs.Marks.{AllListed, Touched, Woken, is_queued};
+ghost use Rattle.frame_places.specs.Marks.{AllListed, Touched, Woken, is_queued, settled_mark};
 
 use crate::places::{Mark, Spot};
 use indexmap::IndexMap;
@@ -74,9 +74,16 @@ pub fn has_work(marks: &IndexMap<Spot, Mark>, x: Spot) -> bool
     matches!(marks.get(&x), Some(Mark::Queued))
 }
 
-/// Whether x is the place that is being visited.
-pub fn is_open(marks: &IndexMap<Spot, Mark>, x: Spot) -> bool
-    ensures { IsTrue result ↔ (get spot_eq marks.now x ≡ Some Open) }
+/// Ends the visit of x: it has no work, unless it was put on the list meanwhile.
+pub fn settle(marks: &mut IndexMap<Spot, Mark>, x: Spot) -> Result<(), AllocError>
+    ensures { OnOk result
+        ((q : Spot) → get spot_eq marks.new q
+        ≡ (if spot_eq x q then Some (settled_mark (get spot_eq marks.old x))
+        else get spot_eq marks.old q)) }
 {
-    matches!(marks.get(&x), Some(Mark::Open))
+    if let Some(Mark::Queued) = marks.insert(x, Mark::Idle)? {
+        marks.insert(x, Mark::Queued)?;
+        return Ok(());
+    }
+    Ok(())
 }
