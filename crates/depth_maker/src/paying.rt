@@ -62,8 +62,8 @@ pub(crate) fn pay(alloc: Global, table: &mut Table, v: &Visit) -> Result<(), Ref
     ensures err { IfErr result (AnsweredOn v.now.ground.now) }
 {
     let g = v.ground;
-    match local_check(g.bounds, g.image, g.plan, &v.key, v.addr, v.state) {
-        Ok(found) => pay_duties(alloc, table, v, &found),
-        Err(rule) => Err(Refusal::Fault(rule, Spot::Point(v.key, v.addr))),
+    match &local_check(g.bounds, g.image, g.plan, &v.key, v.addr, v.state) {
+        Ok(found) => pay_duties(alloc, table, v, found),
+        Err(rule) => Err(Refusal::Fault(*rule, Spot::Point(v.key, v.addr))),
     }
 }

@@ -7,10 +7,10 @@ use Rattle.depth_maker.proofs.paying.pay.Goals as goal
 pub returns-in-Ok-clause-ok : goal.returns-in-Ok-clause-ok
 returns-in-Ok-clause-ok c =
     let v = c.args.v.now in
-    let f = c.in-Ok.ensures.found in
+    let f = rw c.in-Ok.is at c.local_check.ensures.found in
     on_all _ _ _ v.key v.addr v.state.now c.args.table.now c.pay_duties.new.table c.in-Ok.found.shape c.in-Ok.found.size c.pay_duties.result c.requires.at f.faultless f.code c.pay_duties.ensures.ok
 
 pub returns-in-Err-clause-err : goal.returns-in-Err-clause-err
 returns-in-Err-clause-err c =
     let v = c.args.v.now in
-    (v.key, v.addr, refl, derived (seen c.args.table.now).cells c.in-Err.rule v.key v.addr (c.requires.visited.fine.table).derived (own c.in-Err.rule v.key v.addr v.state.now c.requires.at c.in-Err.ensures.fault))
+    (v.key, v.addr, refl, derived (seen c.args.table.now).cells c.in-Err.rule v.key v.addr (c.requires.visited.fine.table).derived (own c.in-Err.rule v.key v.addr v.state.now c.requires.at (rw c.in-Err.is at c.local_check.ensures.fault)))
