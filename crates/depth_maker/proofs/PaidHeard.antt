@@ -42,6 +42,8 @@ module _ (b : Limits) (image : ImageData) (plan : PlanData) (k : Key) (p : ℕ) 
       marked = (paid.fine).marked;
       counted = (paid.fine).counted;
       heard = heard_new b plan (seen m) k p u h from pu on (λ d c. owed_proper b image plan k p u laws d.duty pu (owes d c)) (λ d c. paid.settled free d c);
+      exits = (paid.fine).exits;
+      plain = (paid.fine).plain;
     };
     keeps = record {
       each = (paid.keeps).each;

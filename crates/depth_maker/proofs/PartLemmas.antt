@@ -31,7 +31,11 @@ use Rattle.depth_maker.specs.Tables.{Table, IsTable, Settled, IsResumed}
 use Rattle.depth_maker.proofs.PlaceLaws.{one_state}
 use Rattle.depth_maker.proofs.TableLaws.{derived_proper, table_marked, settled_again}
 use Rattle.frame_places.specs.declared.places.Spot.{Spot}
+use Rattle.frame_places.specs.declared.places.Spot.TheVariants as spots
 use Rattle.frame_places.specs.declared.places.Mark.{Mark}
+use Rattle.frame_places.specs.declared.places.Mark.TheVariants.{Plain}
+use Rattle.std.specs.declared.vec.Vec.{Vec}
+use Rattle.std.specs.declared.alloc.Global.{Global}
 use Rattle.depth_maker.specs.declared.table.Table as made
 use Rattle.frame_places.specs.Spots.{spot_eq}
 use Rattle.depth_maker.specs.Spots.{spot_of, place_of}
@@ -39,8 +43,8 @@ use Rattle.depth_maker.proofs.SpotLemmas.{back, forth}
 use Rattle.depth_maker.proofs.CountedLemmas.{counted_again}
 use Rattle.depth_maker.proofs.HearingLaws.{heard_again}
 use Rattle.depth_maker.proofs.LevelSteps.{rises_then, same_level}
-use Rattle.depth_maker.specs.View.{seen, IsFine, Keeps, Joined, Paid, PaidFor, AllSettled, Owes, IsVisited}
-use Rattle.frame_places.specs.Marks.{is_idle, is_queued, Reads}
+use Rattle.depth_maker.specs.View.{AreExitsRead, seen, IsFine, Keeps, Joined, Paid, PaidFor, AllSettled, Owes, IsVisited}
+use Rattle.frame_places.specs.Marks.{is_idle, is_queued, Reads, Registered}
 
 pub keeps_all : (b : Limits) (image : ImageData) (plan : PlanData) (s : made.Table) → Keeps b image plan s s
 keeps_all b image plan s = record { each = λ x free. (refl, refl); readers = λ z x h. h; read = λ z x h free. refl; settled = λ k p u d free pu pd h. h; rises = inr (refl, refl) }
@@ -315,17 +319,20 @@ module _ (b : Limits) (image : ImageData) (plan : PlanData) (k : Key) (p : ℕ) 
   on_from s m t ds (Ok _) keeps h = paid_from s m t ds keeps h
   on_from s m t ds (Err e) keeps h = tt
 
-  pub on_all : (s t : made.Table) (shape : Shape) (n : ℕ) (r : Result (Unit {0}) Refusal) → (seen s).cells (point k p) ≡ Some (state u) → IsFaultless b image plan k p u → IsCode image plan p shape n
-      → OnOk r (PaidFor b image plan s t k p u (duties_of b image plan k p u shape n)) → OnOk r (Paid b image plan s t (spot_of (point k p)))
-  on_all s t shape n (Ok _) at fine code h = paid_all s t shape n at fine code h
-  on_all s t shape n (Err e) at fine code h = tt
-
 -- ---- a registration
+-- only exits are read still, where one more place reads one
+pub exits_registered : {S : Type 0} (a b : IndexMap Spot (Vec Spot Global) S) (k : Key) (x : Spot) → Registered a b (spots.Exit k) x → AreExitsRead a → AreExitsRead b
+exits_registered a b k x more exits j p q h =
+    elim (more.alone (spots.Point j p) q h) [
+      | inl before ↦ exits j p q before
+      | inr e ↦ (let no : false ≡ true = e.0 in cc)
+    ]
+
 -- the point was written down among the readers of an exit
 pub registered_fine : (b : Limits) (image : ImageData) (plan : PlanData) (laws : AreLawful b image plan) (s t : made.Table) → t.cells ≡ s.cells → t.marks ≡ s.marks → t.work.items ≡ s.work.items
-    → t.points.items ≡ s.points.items → t.frames.items ≡ s.frames.items → t.heard ≡ s.heard → ((z q : Spot) → Reads (get spot_eq s.readers z) q → Reads (get spot_eq t.readers z) q) → IsFine b image plan s → IsFine b image plan t × Keeps b image plan s t
+    → t.points.items ≡ s.points.items → t.frames.items ≡ s.frames.items → t.heard ≡ s.heard → ((z q : Spot) → Reads (get spot_eq s.readers z) q → Reads (get spot_eq t.readers z) q) → AreExitsRead t.readers → IsFine b image plan s → IsFine b image plan t × Keeps b image plan s t
 unfolding seen
-registered_fine b image plan laws s t cells marks work points frames heard readers fine =
+registered_fine b image plan laws s t cells marks work points frames heard readers exits fine =
     let same : (q : Spot) → get spot_eq t.cells q ≡ get spot_eq s.cells q = λ q. ap (λ m. get spot_eq m q) cells in
     let marked : (q : Spot) → get spot_eq t.marks q ≡ get spot_eq s.marks q = λ q. ap (λ m. get spot_eq m q) marks in (
       record {
@@ -335,6 +342,8 @@ registered_fine b image plan laws s t cells marks work points frames heard reade
         marked = λ q w at. subst (λ (o : Option Mark). IsSome o) (sym (marked q)) (fine.marked q w (sym (same q) ∙ at));
         counted = counted_again s.cells t.cells s.points.items t.points.items s.frames.items t.frames.items (λ q. same (spot_of q)) points frames fine.counted;
         heard = heard_again b plan (seen s).cells (seen t).cells (λ q. same (spot_of q)) t.heard (subst (HeardEntered b plan (seen s).cells) (sym heard) fine.heard);
+        exits = exits;
+        plain = λ q at. fine.plain q (sym (marked q) ∙ at);
       },
       record {
         each = λ x free. (marked x, same x);

@@ -17,7 +17,8 @@ use Rattle.depth_maker.proofs.TableLaws.{table_rises, settled_stays, joined_cove
 use Rattle.depth_maker.proofs.PlaceKinds.{unjoined_fault}
 use Rattle.frame_places.specs.declared.places.Spot.{Spot}
 use Rattle.frame_places.specs.declared.places.Mark.{Mark}
-use Rattle.frame_places.specs.declared.places.Mark.TheVariants.{Idle, Queued, Open}
+use Rattle.frame_places.specs.declared.places.Spot.TheVariants.{Point}
+use Rattle.frame_places.specs.declared.places.Mark.TheVariants.{Idle, Plain, Queued, Open}
 use Rattle.frame_places.specs.declared.refusals.Refusal.{Refusal}
 use Rattle.frame_places.specs.declared.refusals.Refusal.TheVariants.{Fault, NoMemory}
 use Rattle.depth_maker.specs.declared.table.Table as made
@@ -41,6 +42,7 @@ use Rattle.frame_places.proofs.MarkLemmas.{sides}
 pub idle_not_queued : (o : Option Mark) → is_idle o ≡ true → is_queued o ≡ false
 idle_not_queued None e = refl
 idle_not_queued (Some Idle) e = refl
+idle_not_queued (Some Plain) e = refl
 idle_not_queued (Some Queued) e = cc
 idle_not_queued (Some Open) e = refl
 
@@ -135,10 +137,33 @@ module _ (b : Limits) (image : ImageData) (plan : PlanData) (laws : AreLawful b 
   pub the_joined : Joined b image plan s t y v
   unfolding seen the_joining
   the_joined = record {
-    fine = record { table = the_table; listed = listed; marked = the_marked; counted = the_counted; heard = the_heard };
+    fine = record {
+      table = the_table;
+      listed = listed;
+      marked = the_marked;
+      counted = the_counted;
+      heard = the_heard;
+      exits = λ k p q h. fine.exits k p q (subst (λ m. Reads (get spot_eq m (Point k p)) q) readers h);
+      plain = λ q at.
+          elim (woken.each q) [
+            | inl l ↦ (let no : Some Queued ≡ Some Plain = sym l.0 ∙ at in cc)
+            | inr r ↦ fine.plain q (sym r.0 ∙ at)
+          ];
+    };
     covers = joined_covers b image plan laws (seen s).cells (seen t).cells (place_of y) (derived_proper b image plan laws (seen s).cells (fine.table).derived) the_joining;
     keeps = the_keeping;
   }
+
+-- it is told of alone, where nothing reads it
+pub woken_alone : {S R : Type 0} (a b : IndexMap Spot Mark S) (readers : IndexMap Spot (Vec Spot Global) R) (y : Spot) → ((q : Spot) → get spot_eq b q ≡ (if spot_eq y q then Some Queued else get spot_eq a q))
+    → ((q : Spot) → Reads (get spot_eq readers y) q → ⊥) → Woken a b readers y
+woken_alone a b readers y is none = record {
+  each = λ q.
+      elim (sides (spot_eq y q) (Some Queued) (get spot_eq a q) (get spot_eq b q) (is q)) [
+        | inl l ↦ inl (l.1, inl l.0)
+        | inr r ↦ inr (r.1, r.0, (λ h. none q h))
+      ];
+}
 
 -- nothing was to be done
 pub stays_joined : (b : Limits) (image : ImageData) (plan : PlanData) (s : made.Table) (y : Spot) (v : Known) → IsFine b image plan s → CoversAt (λ q. get spot_eq s.cells (spot_of q)) (place_of y) v → Joined b image plan s s y v

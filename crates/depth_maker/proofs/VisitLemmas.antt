@@ -29,15 +29,19 @@ use Rattle.frame_places.specs.declared.places.Spot.{Spot}
 use Rattle.frame_places.specs.declared.places.Spot.TheVariants.{Point, Exit}
 use Rattle.depth_cert.specs.declared.points.Exit as exits
 use Rattle.frame_places.specs.declared.places.Mark.{Mark}
-use Rattle.frame_places.specs.declared.places.Mark.TheVariants.{Idle, Queued, Open}
+use Rattle.frame_places.specs.declared.places.Mark.TheVariants.{Idle, Plain, Queued, Open}
+use Rattle.std.specs.declared.vec.Vec.{Vec}
+use Rattle.std.specs.declared.alloc.Global.{Global}
+use Rattle.depth_maker.specs.Entered.{IsPlainIn}
 use Rattle.depth_maker.specs.declared.table.Table as made
 use Rattle.frame_places.specs.Spots.{spot_eq}
 use Rattle.depth_maker.specs.Spots.{spot_of, place_of}
 use Rattle.depth_maker.proofs.SpotLemmas.{front_cases, back, forth, agrees}
 use Rattle.frame_places.proofs.SpotLemmas.{spot_tells, spot_refl}
-use Rattle.frame_places.specs.Marks.{AllListed, is_idle, is_queued, settled_mark, Reads}
-use Rattle.depth_maker.specs.View.{IsCountedIn, seen, IsFine, IsVisited, Keeps, IsOpenAt, NoneOpen, AllSettled, Paid}
+use Rattle.frame_places.specs.Marks.{AllListed, idle_mark, is_idle, is_queued, settled_mark, Reads}
+use Rattle.depth_maker.specs.View.{AreExitsRead, IsCountedIn, seen, IsFine, IsVisited, Keeps, IsOpenAt, NoneOpen, AllSettled, Paid}
 use Rattle.frame_places.proofs.MarkLemmas.{sides}
+use Rattle.frame_places.proofs.NearbyLemmas.{queued_mark}
 use Rattle.depth_maker.proofs.CountedLemmas.{counted_again, counted_start}
 
 -- ---- one place gets a mark
@@ -59,6 +63,9 @@ module _ (b : Limits) (image : ImageData) (plan : PlanData) (laws : AreLawful b 
   the_heard : HeardEntered b plan (seen s).cells s.heard → HeardEntered b plan (seen t).cells t.heard
   unfolding seen
   the_heard h = heard_again b plan (seen s).cells (seen t).cells (λ q. the_cells (spot_of q)) t.heard (subst (HeardEntered b plan (seen s).cells) (sym heard) h)
+
+  the_exits : AreExitsRead s.readers → AreExitsRead t.readers
+  the_exits h k p q reads = h k p q (subst (λ m. Reads (get spot_eq m (Point k p)) q) readers reads)
 
   -- a place taken off the list
   pub opened : IsFine b image plan s → NoneOpen s → s.work.items ≡ x ∷ t.work.items → ((q : Spot) → get spot_eq t.marks q ≡ (if spot_eq x q then Some Open else get spot_eq s.marks q)) → IsFine b image plan t × IsOpenAt t x
@@ -90,6 +97,12 @@ module _ (b : Limits) (image : ImageData) (plan : PlanData) (laws : AreLawful b 
               ];
           counted = the_counts fine.counted;
           heard = the_heard fine.heard;
+          exits = the_exits fine.exits;
+          plain = λ q at.
+              elim (side q) [
+                | inl l ↦ (let no : Some Open ≡ Some Plain = sym l.1 ∙ at in cc)
+                | inr r ↦ fine.plain q (sym r.1 ∙ at)
+              ];
         },
         record {
           at = marks x ∙ ap (λ e. if e then Some Open else get spot_eq s.marks x) (spot_refl x);
@@ -102,12 +115,13 @@ module _ (b : Limits) (image : ImageData) (plan : PlanData) (laws : AreLawful b 
       )
 
   -- the end of a visit: the point is idle now, where all that it owes is settled
-  pub finished : IsFine b image plan s → IsOpenAt s x → t.work.items ≡ s.work.items → ((q : Spot) → get spot_eq t.marks q ≡ (if spot_eq x q then Some Idle else get spot_eq s.marks q))
+  pub finished : (w : Mark) → is_idle (Some w) ≡ true → (Some w ≡ Some Plain → IsPlainIn image plan x) → IsFine b image plan s → IsOpenAt s x → t.work.items ≡ s.work.items
+      → ((q : Spot) → get spot_eq t.marks q ≡ (if spot_eq x q then Some w else get spot_eq s.marks q))
       → ((k : Key) (p : ℕ) (u : State) → place_of x ≡ point k p → (seen s).cells (point k p) ≡ Some (state u) → IsFaultless b image plan k p u × AllSettled b image plan s k p u) → IsFine b image plan t × NoneOpen t
   unfolding seen
-  finished fine opening work marks paid =
-      let side : (q : Spot) → ((spot_eq x q ≡ true) × (get spot_eq t.marks q ≡ Some Idle)) ⊎ ((spot_eq x q ≡ false) × (get spot_eq t.marks q ≡ get spot_eq s.marks q)) =
-      λ q. sides (spot_eq x q) (Some Idle) (get spot_eq s.marks q) (get spot_eq t.marks q) (marks q) in
+  finished w idles told fine opening work marks paid =
+      let side : (q : Spot) → ((spot_eq x q ≡ true) × (get spot_eq t.marks q ≡ Some w)) ⊎ ((spot_eq x q ≡ false) × (get spot_eq t.marks q ≡ get spot_eq s.marks q)) =
+      λ q. sides (spot_eq x q) (Some w) (get spot_eq s.marks q) (get spot_eq t.marks q) (marks q) in
       let idle : (q : Place) → is_idle (get spot_eq t.marks (spot_of q)) ≡ true → (is_idle (get spot_eq s.marks (spot_of q)) ≡ true) ⊎ (place_of x ≡ q) =
       λ q h. elim (side (spot_of q)) [
         | inl l ↦ inr (ap place_of (spot_tells x (spot_of q) l.0) ∙ back q)
@@ -131,20 +145,26 @@ module _ (b : Limits) (image : ImageData) (plan : PlanData) (laws : AreLawful b 
           listed = record {
             listed = λ q at.
                 elim (side q) [
-                  | inl l ↦ (let no : Some Queued ≡ Some Idle = sym at ∙ l.1 in cc)
+                  | inl l ↦ (let no : false ≡ true = ap is_idle (sym at ∙ l.1) ∙ idles in cc)
                   | inr r ↦ subst (λ (w : List Spot). Contains w q) (sym work) (fine.listed.listed q (sym r.1 ∙ at))
                 ];
           };
-          marked = λ q w at.
+          marked = λ q v at.
               elim (side q) [
                 | inl l ↦ subst (λ (o : Option Mark). IsSome o) (sym l.1) refl
-                | inr r ↦ subst (λ (o : Option Mark). IsSome o) (sym r.1) (fine.marked q w (sym (the_cells q) ∙ at))
+                | inr r ↦ subst (λ (o : Option Mark). IsSome o) (sym r.1) (fine.marked q v (sym (the_cells q) ∙ at))
               ];
           counted = the_counts fine.counted;
           heard = the_heard fine.heard;
+          exits = the_exits fine.exits;
+          plain = λ q at.
+              elim (side q) [
+                | inl l ↦ subst (λ (k : Spot). IsPlainIn image plan k) (spot_tells x q l.0) (told (sym l.1 ∙ at))
+                | inr r ↦ fine.plain q (sym r.1 ∙ at)
+              ];
         },
         (λ q at. elim (side q) [
-          | inl l ↦ (let no : Some Open ≡ Some Idle = sym at ∙ l.1 in cc)
+          | inl l ↦ (let no : false ≡ true = ap is_idle (sym at ∙ l.1) ∙ idles in cc)
           | inr r ↦ (let no : true ≡ false = sym (subst (λ (k : Spot). spot_eq x k ≡ true) (sym (opening.only q (sym r.1 ∙ at))) (spot_refl x)) ∙ r.0 in cc)
         ]),
       )
@@ -171,9 +191,9 @@ paid_settled b image plan s t x paid opening k p u e at =
 -- ---- the start, and the end
 pub begun_table : (b : Limits) (image : ImageData) (plan : PlanData) (t : made.Table) (x : Spot) (v : Known) → x ≡ spot_of (first_place image plan) → v ≡ state (start_state plan)
     → ((q : Spot) → get spot_eq t.cells q ≡ (if spot_eq x q then Some v else None)) → ((q : Spot) → get spot_eq t.marks q ≡ (if spot_eq x q then Some Queued else None)) → t.work.items ≡ x ∷ []
-    → t.points.items ≡ x ∷ [] → t.frames.items ≡ start_key image plan ∷ [] → t.heard ≡ None → IsFine b image plan t × NoneOpen t
+    → t.points.items ≡ x ∷ [] → t.frames.items ≡ start_key image plan ∷ [] → t.heard ≡ None → ((z : Spot) → get spot_eq t.readers z ≡ None) → IsFine b image plan t × NoneOpen t
 unfolding seen
-begun_table b image plan t x v place known cells marks work points frames none =
+begun_table b image plan t x v place known cells marks work points frames none unread =
     let side : (q : Spot) → ((spot_eq x q ≡ true) × (get spot_eq t.marks q ≡ Some Queued)) ⊎ ((spot_eq x q ≡ false) × (get spot_eq t.marks q ≡ None)) =
     λ q. sides (spot_eq x q) (Some Queued) None (get spot_eq t.marks q) (marks q) in
     let never : (q : Spot) → is_idle (get spot_eq t.marks q) ≡ true → ⊥ =
@@ -204,6 +224,12 @@ begun_table b image plan t x v place known cells marks work points frames none =
         counted = counted_start t.cells t.points.items t.frames.items (start_key image plan) v
             (λ q. cells (spot_of q) ∙ ap (λ e. if e then Some v else None) (test q)) (points ∙ ap (λ (z : Spot). z ∷ []) place) frames;
         heard = subst (HeardEntered b plan (seen t).cells) (sym none) tt;
+        exits = λ k p q h. subst (λ (o : Option (Vec Spot Global)). Reads o q) (unread (Point k p)) h;
+        plain = λ q at.
+            elim (side q) [
+              | inl l ↦ (let no : Some Queued ≡ Some Plain = sym l.1 ∙ at in cc)
+              | inr r ↦ (let no : None ≡ Some Plain = sym r.1 ∙ at in cc)
+            ];
       },
       (λ q at. elim (side q) [
         | inl l ↦ (let no : Some Open ≡ Some Queued = sym at ∙ l.1 in cc)
@@ -215,6 +241,7 @@ begun_table b image plan t x v place known cells marks work points frames none =
 all_idle : (o : Option Mark) → IsSome o → (o ≡ Some Queued → ⊥) → (o ≡ Some Open → ⊥) → is_idle o ≡ true
 all_idle None is a b = cc
 all_idle (Some Idle) is a b = refl
+all_idle (Some Plain) is a b = refl
 all_idle (Some Queued) is a b = absurd (a refl)
 all_idle (Some Open) is a b = absurd (b refl)
 
@@ -281,6 +308,8 @@ again_fine b image plan laws s t cells marked readers work points frames heard f
       marked = λ q w at. subst (λ (o : Option Mark). IsSome o) (sym (marked q)) (fine.marked q w (sym (same q) ∙ at));
       counted = counted_again s.cells t.cells s.points.items t.points.items s.frames.items t.frames.items (λ q. same (spot_of q)) points frames fine.counted;
       heard = heard_again b plan (seen s).cells (seen t).cells (λ q. same (spot_of q)) t.heard (subst (HeardEntered b plan (seen s).cells) (sym heard) fine.heard);
+      exits = λ k p q h. fine.exits k p q (subst (λ m. Reads (get spot_eq m (Point k p)) q) readers h);
+      plain = λ q at. fine.plain q (sym (marked q) ∙ at);
     }
 
 -- work that is taken off alone
@@ -290,17 +319,19 @@ same_fine b image plan laws s t cells marks readers work points frames heard fin
     again_fine b image plan laws s t cells (λ q. ap (λ m. get spot_eq m q) marks) readers work points frames heard fine
 
 -- ---- the end of a visit
-queued_mark : (o : Option Mark) → is_queued o ≡ true → o ≡ Some Queued
-queued_mark None e = cc
-queued_mark (Some Idle) e = cc
-queued_mark (Some Queued) e = refl
-queued_mark (Some Open) e = cc
+idle_marked : (plain : Bool) → is_idle (Some (idle_mark plain)) ≡ true
+idle_marked true = refl
+idle_marked false = refl
+
+plain_marked : {P : Type 0} (plain : Bool) → (plain ≡ true → P) → Some (idle_mark plain) ≡ Some Plain → P
+plain_marked true told e = told refl
+plain_marked false told e = (let no : Some Idle ≡ Some Plain = e in cc)
 
 -- what the point owes was joined, and it is idle now, unless it has new work
-pub ended : (b : Limits) (image : ImageData) (plan : PlanData) (laws : AreLawful b image plan) (s m t : made.Table) (x : Spot) → t.cells ≡ m.cells → t.readers ≡ m.readers → t.points.items ≡ m.points.items → t.frames.items ≡ m.frames.items
-    → t.heard ≡ m.heard → t.work.items ≡ m.work.items → ((q : Spot) → get spot_eq t.marks q ≡ (if spot_eq x q then Some (settled_mark (get spot_eq m.marks x)) else get spot_eq m.marks q)) → IsOpenAt s x → Paid b image plan s m x
+pub ended : (b : Limits) (image : ImageData) (plan : PlanData) (laws : AreLawful b image plan) (s m t : made.Table) (x : Spot) (plain : Bool) → (plain ≡ true → IsPlainIn image plan x) → t.cells ≡ m.cells → t.readers ≡ m.readers → t.points.items ≡ m.points.items → t.frames.items ≡ m.frames.items
+    → t.heard ≡ m.heard → t.work.items ≡ m.work.items → ((q : Spot) → get spot_eq t.marks q ≡ (if spot_eq x q then Some (settled_mark plain (get spot_eq m.marks x)) else get spot_eq m.marks q)) → IsOpenAt s x → Paid b image plan s m x
     → IsFine b image plan t × NoneOpen t × Rises s t
-ended b image plan laws s m t x cells readers points frames heard work marks opening paid = by_mark (is_queued (get spot_eq m.marks x)) refl where
+ended b image plan laws s m t x plain told cells readers points frames heard work marks opening paid = by_mark (is_queued (get spot_eq m.marks x)) refl where
   higher : Rises s t
   higher = rises_then s m t (paid.keeps).rises (inr (same_level m t cells points frames, work))
 
@@ -308,8 +339,8 @@ ended b image plan laws s m t x cells readers points frames heard work marks ope
   by_mark true e =
       let at : get spot_eq m.marks x ≡ Some Queued = queued_mark (get spot_eq m.marks x) e in
       let same : (q : Spot) → get spot_eq t.marks q ≡ get spot_eq m.marks q =
-      λ q. elim (sides (spot_eq x q) (Some (settled_mark (get spot_eq m.marks x))) (get spot_eq m.marks q) (get spot_eq t.marks q) (marks q)) [
-        | inl l ↦ l.1 ∙ ap (λ (o : Option Mark). Some (settled_mark o)) at ∙ sym at ∙ ap (get spot_eq m.marks) (spot_tells x q l.0)
+      λ q. elim (sides (spot_eq x q) (Some (settled_mark plain (get spot_eq m.marks x))) (get spot_eq m.marks q) (get spot_eq t.marks q) (marks q)) [
+        | inl l ↦ l.1 ∙ ap (λ (o : Option Mark). Some (settled_mark plain o)) at ∙ sym at ∙ ap (get spot_eq m.marks) (spot_tells x q l.0)
         | inr r ↦ r.1
       ] in (
         again_fine b image plan laws m t cells same readers work points frames heard paid.fine,
@@ -319,8 +350,8 @@ ended b image plan laws s m t x cells readers points frames heard work marks ope
   by_mark false e =
       let at : get spot_eq m.marks x ≡ Some Open = ((paid.keeps).each x e).0 ∙ opening.at in
       let h =
-      finished b image plan laws m t x cells readers points frames heard paid.fine (paid_open b image plan s m x opening paid at) work
-      (λ q. marks q ∙ ap (λ (o : Option Mark). if spot_eq x q then Some (settled_mark o) else get spot_eq m.marks q) at) (paid_settled b image plan s m x paid at) in
+      finished b image plan laws m t x cells readers points frames heard (idle_mark plain) (idle_marked plain) (plain_marked plain told) paid.fine (paid_open b image plan s m x opening paid at) work
+      (λ q. marks q ∙ ap (λ (o : Option Mark). if spot_eq x q then Some (settled_mark plain o) else get spot_eq m.marks q) at) (paid_settled b image plan s m x paid at) in
       (h.0, h.1, higher)
 
 -- a map without entries

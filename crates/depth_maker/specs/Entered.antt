@@ -6,8 +6,12 @@ use Rattle.tc_isa.specs.declared.shapes.Shape.{Shape}
 use Rattle.value_domain.specs.Limits.{Limits}
 use Rattle.value_domain.specs.declared.states.State.{State}
 use Rattle.depth_cert.specs.declared.keys.Key.{Key}
-use Rattle.depth_cert.specs.declared.points.Exit.{Exit}
+use Rattle.cfg_recover.specs.Code.{IsCode}
 use Rattle.cfg_recover.specs.Local.{LocalRule}
+use Rattle.elf_image.specs.Images.{ImageData}
+use Rattle.tc_isa.specs.Bounded.{IsShape}
+use Rattle.frame_places.specs.declared.places.Spot.{Spot}
+use Rattle.frame_places.specs.declared.places.Spot.TheVariants.{Point, Exit}
 use Rattle.cfg_recover.specs.Duties.{Duty, jump, enter, resume, leave, Owed, entries_of, misaligned_of}
 
 -- the frame that a duty enters, if it enters one
@@ -25,3 +29,16 @@ entered_in ds = flat_map (λ d. entered_by d.duty) ds
 abbrev pub EntersNone : PlanData → Shape → Type 0
 EntersNone plan shape =
     (b : Limits) (k : Key) (p : ℕ) (u : State) (n : ℕ) → LocalRule b plan k p u shape 10 → (entered_in (entries_of plan k p u shape n) ≡ []) × (entered_in (misaligned_of b plan k u shape) ≡ [])
+
+-- an instruction stands there that enters no frame by itself
+pub record IsPlainAt (image : ImageData) (plan : PlanData) (p : ℕ) : Type 0 where
+  pub shape : Shape
+  pub size : ℕ
+  pub code : IsCode image plan p shape size
+  pub shaped : IsShape shape
+  pub enters : EntersNone plan shape
+
+-- the same of a place; an exit has no instruction
+abbrev pub IsPlainIn : ImageData → PlanData → Spot → Type 0
+IsPlainIn image plan (Point k p) = IsPlainAt image plan p
+IsPlainIn image plan (Exit k) = Unit {0}

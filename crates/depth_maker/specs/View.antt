@@ -27,7 +27,7 @@ use Rattle.depth_maker.specs.Tables.{Table, IsTable, Settled}
 use Rattle.frame_places.specs.declared.places.Spot.{Spot}
 use Rattle.frame_places.specs.declared.places.Spot.TheVariants.{Point, Exit}
 use Rattle.frame_places.specs.declared.places.Mark.{Mark}
-use Rattle.frame_places.specs.declared.places.Mark.TheVariants.{Idle, Queued, Open}
+use Rattle.frame_places.specs.declared.places.Mark.TheVariants.{Idle, Plain, Queued, Open}
 use Rattle.frame_places.specs.declared.refusals.Refusal.{Refusal}
 use Rattle.frame_places.specs.declared.refusals.Refusal.TheVariants.{Fault, NoMemory}
 use Rattle.depth_maker.specs.declared.table.Table as made
@@ -35,6 +35,7 @@ use Rattle.frame_places.specs.Spots.{spot_eq}
 use Rattle.depth_maker.specs.Spots.{spot_of, place_of}
 use Rattle.frame_places.specs.Marks.{is_idle, is_queued, Reads, AllListed}
 use Rattle.depth_maker.specs.Counts.{AreCounted, AreFew}
+use Rattle.depth_maker.specs.Entered.{IsPlainAt, IsPlainIn}
 use Rattle.depth_maker.specs.Levels.{level, Rises}
 use Rattle.depth_maker.specs.Hearing.{HeardEntered}
 use Rattle.depth_maker.specs.declared.ground.Ground.{Ground}
@@ -60,6 +61,14 @@ seen t = record {
 abbrev pub CellsProper : {S : Type 0} → Limits → IndexMap Spot Known S → Type 0
 CellsProper b cells = (q : Spot) (v : Known) → get spot_eq cells q ≡ Some v → IsProperKnown b v
 
+-- only exits are read
+abbrev pub AreExitsRead : {S : Type 0} → IndexMap Spot (Vec Spot Global) S → Type 0
+AreExitsRead readers = (k : Key) (p : ℕ) (q : Spot) → Reads (get spot_eq readers (Point k p)) q → ⊥
+
+-- where a place is marked as plain, the instruction there enters no frame by itself
+abbrev pub ArePlain : {S : Type 0} → ImageData → PlanData → IndexMap Spot Mark S → Type 0
+ArePlain image plan marks = (q : Spot) → get spot_eq marks q ≡ Some Plain → IsPlainIn image plan q
+
 -- the table between two steps
 pub record IsFine (b : Limits) (image : ImageData) (plan : PlanData) (t : made.Table) : Type 0 where
   pub table : IsTable b image plan (seen t)
@@ -67,6 +76,8 @@ pub record IsFine (b : Limits) (image : ImageData) (plan : PlanData) (t : made.T
   pub marked : (q : Spot) (s : Known) → get spot_eq t.cells q ≡ Some s → IsSome (get spot_eq t.marks q)
   pub counted : IsCountedIn t.cells t.points.items t.frames.items
   pub heard : HeardEntered b plan (seen t).cells t.heard
+  pub exits : AreExitsRead t.readers
+  pub plain : ArePlain image plan t.marks
 
 -- a fault that is answered is one
 abbrev pub Answered : Limits → ImageData → PlanData → Refusal → Type 0
@@ -133,6 +144,7 @@ pub record IsDone (g : Ground) (t : made.Table) : Type 0 where
   pub derived : Derived g.bounds.now g.image.now g.plan.now (seen t).cells
   pub closed : Closed g.bounds.now g.image.now g.plan.now (seen t).cells
   pub faultless : AllFaultless g.bounds.now g.image.now g.plan.now (seen t).cells
+  pub plain : ArePlain g.image.now g.plan.now t.marks
   pub counted : IsCountedIn t.cells t.points.items t.frames.items
 
 -- ---- parts of a visit
@@ -252,6 +264,10 @@ interrupts_by v = interrupts_of (v.ground.now).plan.now v.key v.state.now
 -- what was joined of the entries of interrupts is joined still
 abbrev pub StayPaid : Visit → made.Table → made.Table → Type 0
 StayPaid v m t = (s : made.Table) → PaidBy v s m (interrupts_by v) → PaidBy v s t (interrupts_by v)
+
+-- the instruction at the point enters no frame by itself
+abbrev pub IsPlainBy : Visit → Type 0
+IsPlainBy v = IsPlainAt (v.ground.now).image.now (v.ground.now).plan.now v.addr
 
 -- all that the point owes
 abbrev pub duties_by : Visit → Located → List Owed

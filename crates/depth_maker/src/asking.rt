@@ -35,7 +35,7 @@ pub(crate) fn pay_jump(
         (owed 4 (jump to (state_after v.now.state.now c.now)) ∷ [])) }
     ensures err { IfErr result (AnsweredOn v.now.ground.now) }
 {
-    if has_work(&table.marks, Spot::Point(v.key, v.addr)) {
+    if has_work(&table.marks, table.near, Spot::Point(v.key, v.addr)) {
         return Ok(());
     }
     let asked = Asked::Changed(v.state, c);
@@ -84,7 +84,7 @@ pub(crate) fn pay_enter(
     if is_covered(v.ground, &*table, entry, &asked) {
         return Ok(());
     }
-    if has_work(&table.marks, Spot::Point(v.key, v.addr)) {
+    if has_work(&table.marks, table.near, Spot::Point(v.key, v.addr)) {
         return Ok(());
     }
     raise(alloc, v.ground, table, entry, &asked)
@@ -99,7 +99,7 @@ pub(crate) fn pay_leave(alloc: Global, table: &mut Table, v: &Visit) -> Result<(
         (PaidBy v.now table.old table.new (owed rule (leave (exit_of v.now.state.now)) ∷ [])) }
     ensures err { IfErr result (AnsweredOn v.now.ground.now) }
 {
-    if has_work(&table.marks, Spot::Point(v.key, v.addr)) {
+    if has_work(&table.marks, table.near, Spot::Point(v.key, v.addr)) {
         return Ok(());
     }
     let asked = Asked::Leaving(v.state);
@@ -114,7 +114,7 @@ fn pay_back(alloc: Global, table: &mut Table, v: &Visit, key: Key, back: u32) ->
     ensures ok { OnOk result (PaidBy v.now table.old table.new (owed 4 (resume key back) ∷ [])) }
     ensures err { IfErr result (AnsweredOn v.now.ground.now) }
 {
-    if has_work(&table.marks, Spot::Point(v.key, v.addr)) {
+    if has_work(&table.marks, table.near, Spot::Point(v.key, v.addr)) {
         return Ok(());
     }
     let Some(cell) = table.cells.get(&Spot::Exit(key)) else {

@@ -1,10 +1,12 @@
 // The visits of all points that have work.
-ghost use Rattle.std.specs.Prelude.{◌≡◌, ◌↔◌, IsTrue, OnOk, IfOk, IfErr, Some};
+ghost use Rattle.std.specs.Prelude.{◌≡◌, ◌↔◌, IsTrue, OnOk, IfOk, IfErr, None, Some};
 ghost use Rattle.indexmap.specs.IndexMap.{get};
 ghost use Rattle.cfg_recover.specs.Entries as entries;
 ghost use Rattle.frame_places.specs.declared.places.Mark.TheVariants.{Open};
+ghost use Rattle.frame_places.specs.declared.places.Spot as spots;
 ghost use Rattle.frame_places.specs.declared.places.Spot.TheVariants.{Point};
 ghost use Rattle.frame_places.specs.Spots.{spot_eq};
+ghost use Rattle.depth_maker.specs.Entered.{IsPlainIn};
 ghost use Rattle.depth_maker.specs.View.{AnsweredOn, EndsOn, FineOn, IsDone, IsOpenAt, NoneOpen, OpensOn, PaidOn, TurnsOn};
 
 use crate::ground::{Ground, Visit};
@@ -12,13 +14,20 @@ use crate::paying::pay;
 use crate::table::Table;
 use cfg_recover::{start_key, start_state};
 use depth_cert::Key;
-use frame_places::{Mark, Refusal, Spot, settle};
+use frame_places::{Mark, Refusal, Spot, get_near, index_after, set_mark, settle};
 use indexmap::IndexMap;
 use small_states::{Asked, Cell};
 use std::alloc::Global;
 use std::collections::VecDeque;
 use value_domain::State;
 use vd_transfer::unchanged;
+
+/// Nothing is read.
+fn no_readers(alloc: Global) -> IndexMap<Spot, Vec<Spot>>
+    ensures { (z : spots.Spot) → get spot_eq result z ≡ None }
+{
+    IndexMap::new(alloc)
+}
 
 /// The table of the start alone.
 fn begin(alloc: Global, ground: &Ground) -> Result<Table, Refusal>
@@ -44,11 +53,12 @@ fn begin(alloc: Global, ground: &Ground) -> Result<Table, Refusal>
     Ok(Table {
         cells,
         marks,
-        readers: IndexMap::new(alloc),
+        readers: no_readers(alloc),
         work,
         points,
         frames,
         heard: None,
+        near: 0,
     })
 }
 
@@ -61,13 +71,14 @@ fn open_next(_ground: &Ground, table: &mut Table) -> Result<Option<Spot>, Refusa
     match table.work.pop_front() {
         None => Ok(None),
         Some(x) => {
-            table.marks.insert(x, Mark::Open)?;
+            table.near = index_after(&table.marks, table.near, x);
+            set_mark(&mut table.marks, table.near, x, Mark::Open)?;
             Ok(Some(x))
         }
     }
 }
 
-/// Joins what a point owes; its state is written over `scratch`.
+/// Joins what a point owes, and says whether its instruction enters no frame by itself; its state is written over `scratch`.
 fn pay_point(
     alloc: Global,
     ground: &Ground,
@@ -75,13 +86,15 @@ fn pay_point(
     scratch: &mut State,
     key: Key,
     addr: u32,
-) -> Result<(), Refusal>
+) -> Result<bool, Refusal>
     requires fine { FineOn ground.now table.old }
     ensures ok { OnOk result (PaidOn ground.now table.old table.new (Point key addr)) }
+    ensures plain { IfOk result (λ plain. IsTrue plain
+        → IsPlainIn ground.now.image.now ground.now.plan.now (Point key addr)) }
     ensures err { IfErr result (AnsweredOn ground.now) }
 {
-    let Some(cell) = table.cells.get(&Spot::Point(key, addr)) else {
-        return Ok(());
+    let Some(cell) = get_near(&table.cells, table.near, Spot::Point(key, addr)) else {
+        return Ok(false);
     };
     cell.read_state(ground.bounds, scratch);
     let v = Visit {
@@ -93,20 +106,22 @@ fn pay_point(
     pay(alloc, table, &v)
 }
 
-/// Joins what is owed at a place; nothing is at an exit.
+/// Joins what is owed at a place, and says whether an instruction there enters no frame by itself; nothing is owed at an exit.
 fn pay_place(
     alloc: Global,
     ground: &Ground,
     table: &mut Table,
     scratch: &mut State,
     x: Spot,
-) -> Result<(), Refusal>
+) -> Result<bool, Refusal>
     requires fine { FineOn ground.now table.old }
     ensures ok { OnOk result (PaidOn ground.now table.old table.new x) }
+    ensures plain { IfOk result (λ plain. IsTrue plain
+        → IsPlainIn ground.now.image.now ground.now.plan.now x) }
     ensures err { IfErr result (AnsweredOn ground.now) }
 {
     match x {
-        Spot::Exit(_) => Ok(()),
+        Spot::Exit(_) => Ok(false),
         Spot::Point(key, addr) => pay_point(alloc, ground, table, scratch, key, addr),
     }
 }
@@ -124,8 +139,8 @@ fn visit(
     ensures ok { OnOk result (EndsOn ground.now table.old table.new) }
     ensures err { IfErr result (AnsweredOn ground.now) }
 {
-    pay_place(alloc, ground, table, scratch, x)?;
-    settle(&mut table.marks, x)?;
+    let plain = pay_place(alloc, ground, table, scratch, x)?;
+    settle(&mut table.marks, table.near, x, plain)?;
     Ok(())
 }
 

@@ -212,7 +212,7 @@ fn hear(table: &mut Table, v: &Visit)
     requires owes { OwesAll v.now (interrupts_by v.now) }
     ensures { StayPaid v.now table.old table.new }
 {
-    if has_work(&table.marks, Spot::Point(v.key, v.addr)) {
+    if has_work(&table.marks, table.near, Spot::Point(v.key, v.addr)) {
         return;
     }
     table.heard = Some(Heard::at(v.key.is, v.state));

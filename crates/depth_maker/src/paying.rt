@@ -1,10 +1,11 @@
 // A visit: all that a point owes is joined, in the order in which its duties are listed.
-ghost use Rattle.std.specs.Prelude.{◌≡◌, OnOk, IfErr, Some};
+ghost use Rattle.std.specs.Prelude.{◌≡◌, IsTrue, OnOk, IfErr, IfOk, Some, not};
 ghost use Rattle.cfg_recover.specs.Assignments.{point};
 ghost use Rattle.depth_cert.specs.Known.{state};
 ghost use Rattle.cfg_recover.specs.Duties.{leavings_of};
 ghost use Rattle.frame_places.specs.declared.places.Spot.TheVariants.{Point};
-ghost use Rattle.depth_maker.specs.View.{seen, AnsweredOn, OwesAll, PaidBy, PaidOn, StandsBy, VisitedBy, duties_by};
+ghost use Rattle.depth_maker.specs.Entered.{EntersNone};
+ghost use Rattle.depth_maker.specs.View.{seen, AnsweredOn, IsPlainBy, OwesAll, PaidBy, PaidOn, StandsBy, VisitedBy, duties_by};
 
 use crate::asking::pay_leave;
 use crate::entries::{pay_access, pay_entries, pay_interrupts};
@@ -15,6 +16,7 @@ use cfg_recover::{Located, local_check};
 use frame_places::{Refusal, Spot};
 use std::alloc::Global;
 use tc_isa::Shape;
+use tcd_plan::Plan;
 
 /// The frame is left by RET, or by RFE of a system call's handler.
 fn pay_leavings(alloc: Global, table: &mut Table, v: &Visit, shape: Shape) -> Result<(), Refusal>
@@ -52,18 +54,43 @@ fn pay_duties(alloc: Global, table: &mut Table, v: &Visit, found: &Located) -> R
     pay_leavings(alloc, table, v, found.shape)
 }
 
-/// Joins what the point owes, or some of it where it has work again.
-pub(crate) fn pay(alloc: Global, table: &mut Table, v: &Visit) -> Result<(), Refusal>
+/// Whether the trap of misaligned accesses isn't stated, so that all accesses are aligned.
+fn is_without_trap(plan: &Plan) -> bool
+    ensures { result ≡ not plan.now.aln }
+{
+    !plan.aln
+}
+
+/// Whether an instruction of this shape is seen to enter no frame by itself.
+fn enters_none(plan: &Plan, shape: Shape) -> bool
+    ensures { IsTrue result → EntersNone plan.now shape }
+{
+    match shape {
+        Shape::Call { .. } => false,
+        Shape::Syscall { .. } => false,
+        Shape::Load { .. } => is_without_trap(plan),
+        Shape::Store { .. } => is_without_trap(plan),
+        _ => true,
+    }
+}
+
+/// Joins what the point owes, or some of it where it has work again; says whether its instruction is seen to enter no frame by
+/// itself.
+pub(crate) fn pay(alloc: Global, table: &mut Table, v: &Visit) -> Result<bool, Refusal>
     requires visited { VisitedBy v.now table.old }
     requires at { (seen table.old).cells (point v.now.key v.now.addr)
         ≡ Some (state v.now.state.now) }
     ensures ok { OnOk result
         (PaidOn v.now.ground.now table.old table.new (Point v.now.key v.now.addr)) }
+    ensures plain { IfOk result (λ plain. IsTrue plain → IsPlainBy v.now) }
     ensures err { IfErr result (AnsweredOn v.now.ground.now) }
 {
     let g = v.ground;
     match &local_check(g.bounds, g.image, g.plan, &v.key, v.addr, v.state) {
-        Ok(found) => pay_duties(alloc, table, v, found),
+        Ok(found) => {
+            pay_duties(alloc, table, v, found)?;
+            Ok(enters_none(g.plan, found.shape))
+        }
         Err(rule) => Err(Refusal::Fault(*rule, Spot::Point(v.key, v.addr))),
     }
 }

@@ -7,9 +7,8 @@ ghost use Rattle.frame_places.specs.Spots.{IsAddressIn};
 ghost use Rattle.depth_maker.specs.RowsBy.{IsSource};
 ghost use Rattle.frame_places.specs.declared.places.Spot.TheVariants.{Point};
 
-use crate::rows::{Source, point_row, rows};
+use crate::rows::{Scratch, Source, point_row, rows};
 use call_needs::{Edge, edges_of, first_recurring, has_marked, reaching};
-use cfg_recover::start_state;
 use depth_cert::Key;
 use frame_places::{Spot, address_in, orders_of};
 use std::alloc::{AllocError, Global};
@@ -25,7 +24,7 @@ fn enters_marked(
     requires { IsSource source.now }
     ensures { IfOk result (λ enters. IsTrue enters ↔ EntersMarked source.now marks.now key addr) }
 {
-    let mut scratch = start_state(source.ground.plan);
+    let mut scratch = Scratch::new(source.ground.plan);
     match point_row(alloc, source, &mut scratch, key, addr) {
         Ok(Some(row)) => Ok(has_marked(marks, row.into.as_slice())),
         Ok(None) => Ok(false),

@@ -5,14 +5,15 @@ ghost use Rattle.depth_cert.specs.Known.{IsProperKnown};
 ghost use Rattle.small_states.specs.Kept.{asked_for};
 ghost use Rattle.frame_places.specs.Marks.{AllListed, Woken};
 ghost use Rattle.depth_maker.specs.Spots.{place_of};
-ghost use Rattle.depth_maker.specs.View.{seen, AnsweredOn, AsksOn, CellsProper, FineOn, JoinedOn, Merges};
+ghost use Rattle.depth_maker.specs.View.{seen, AnsweredOn, AreExitsRead, AsksOn, CellsProper, FineOn, JoinedOn, Merges};
 
 use crate::ground::Ground;
 use crate::table::Table;
-use frame_places::{Refusal, Spot, count, wake};
+use frame_places::{Mark, Refusal, Spot, count, touch, wake};
 use indexmap::IndexMap;
 use small_states::{Asked, Cell, priority};
-use std::alloc::Global;
+use std::alloc::{AllocError, Global};
+use std::collections::VecDeque;
 use value_domain::Bounds;
 
 /// What is known at y with what is asked joined, or `None` where it is covered already.
@@ -56,6 +57,25 @@ pub(crate) fn is_covered(ground: &Ground, table: &Table, y: Spot, asked: &Asked)
     }
 }
 
+/// Puts y on the list, and all that read it; no point is read.
+fn tell(
+    marks: &mut IndexMap<Spot, Mark>,
+    work: &mut VecDeque<Spot>,
+    readers: &IndexMap<Spot, Vec<Spot>>,
+    y: Spot,
+) -> Result<(), AllocError>
+    requires listed { AllListed marks.old work.old.items }
+    requires exits { AreExitsRead readers.now }
+    ensures marks { OnOk result (Woken marks.old marks.new readers.now y) }
+    ensures work { OnOk result (AllListed marks.new work.new.items) }
+{
+    if let Spot::Point(_, _) = y {
+        touch(marks, work, y)?;
+        return Ok(());
+    }
+    wake(marks, work, readers, y)
+}
+
 /// Joins what is asked into what is known at y.
 pub(crate) fn raise(
     alloc: Global,
@@ -78,6 +98,6 @@ pub(crate) fn raise(
     let before = table.cells.insert(y, new)?;
     let known = before.is_some();
     count(known, &mut table.points, &mut table.frames, y)?;
-    wake(&mut table.marks, &mut table.work, &table.readers, y)?;
+    tell(&mut table.marks, &mut table.work, &table.readers, y)?;
     Ok(())
 }

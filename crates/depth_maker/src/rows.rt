@@ -1,12 +1,11 @@
 // The rows of all points: which frames each enters, by numbers, and with how many locals.
-ghost use Rattle.std.specs.Prelude.{◌≡◌, List, Contains, IfOk, IfSome, IsTrue, OnOk, Ok, Some, map, not};
+ghost use Rattle.std.specs.Prelude.{◌≡◌, List, Contains, IfOk, IfSome, IsTrue, OnOk, Ok, Some, map};
 ghost use Rattle.depth_cert.specs.declared.keys.Key as keys;
 ghost use Rattle.depth_cert.specs.Known.{IsProper};
 ghost use Rattle.frame_places.specs.Numbers.{number_in};
 ghost use Rattle.cfg_recover.specs.Assignments.{point};
-ghost use Rattle.depth_maker.specs.Entered.{EntersNone};
 ghost use Rattle.depth_maker.specs.Handlers.{AreNumbered};
-ghost use Rattle.depth_maker.specs.View.{StandsBy, seen};
+ghost use Rattle.depth_maker.specs.View.{IsPlainBy, StandsBy, seen};
 ghost use Rattle.depth_maker.specs.RowsBy.{AddsRow, AllKnownBy, FaultlessBy, IsRowBy, IsSource, PointHasRow, RowsOn};
 
 use crate::entered::entered;
@@ -14,13 +13,14 @@ use crate::ground::{Ground, Visit};
 use crate::handlers::{Handler, add_taken};
 use crate::table::Table;
 use call_needs::Row;
-use cfg_recover::{Located, code_at, local_check, start_state};
+use cfg_recover::{Located, local_check, start_state};
 use depth_cert::Key;
-use frame_places::{Refusal, Spot, number_of, numbers_of};
+use frame_places::{
+    Refusal, Spot, get_near, index_after, is_plain, number_near, number_of, numbers_of,
+};
 use indexmap::IndexMap;
 use small_states::Cell;
 use std::alloc::{AllocError, Global};
-use tc_isa::{Shape, shape};
 use tcd_plan::Plan;
 use value_domain::State;
 
@@ -48,19 +48,47 @@ fn row_with(
     })
 }
 
+/// The row of a point whose instruction enters no frame by itself.
+fn plain_row(
+    alloc: Global,
+    v: &Visit,
+    numbers: &IndexMap<Key, usize>,
+    handlers: &[Handler],
+) -> Result<Row, AllocError>
+    requires local_check { FaultlessBy v.now }
+    requires proper { IsProper v.now.ground.now.bounds.now v.now.state.now }
+    requires plain { IsPlainBy v.now }
+    ensures { IfOk result (λ row. (frames : List keys.Key)
+        → AreNumbered v.now.ground.now.plan.now numbers.now handlers.now frames
+        → AllKnownBy v.now frames → IsRowBy v.now frames row) }
+{
+    let mut into = Vec::new(alloc);
+    add_taken(&mut into, v.state, handlers)?;
+    Ok(Row {
+        node: number_of(numbers, v.key),
+        held: v.state.locals.len() as u8,
+        into,
+    })
+}
+
 /// The row of a point without a fault of its own.
 fn row_at(
     alloc: Global,
     v: &Visit,
     numbers: &IndexMap<Key, usize>,
     handlers: &[Handler],
+    plain: bool,
 ) -> Result<Row, Refusal>
     requires local_check { FaultlessBy v.now }
     requires proper { IsProper v.now.ground.now.bounds.now v.now.state.now }
+    requires plain { IsTrue plain → IsPlainBy v.now }
     ensures { IfOk result (λ row. (frames : List keys.Key)
         → AreNumbered v.now.ground.now.plan.now numbers.now handlers.now frames
         → AllKnownBy v.now frames → IsRowBy v.now frames row) }
 {
+    if plain {
+        return Ok(plain_row(alloc, v, numbers, handlers)?);
+    }
     let g = v.ground;
     match local_check(g.bounds, g.image, g.plan, &v.key, v.addr, v.state) {
         Ok(found) => Ok(row_with(alloc, v, numbers, handlers, &found)?),
@@ -77,43 +105,49 @@ pub(crate) struct Source<'a> {
     pub(crate) handlers: &'a [Handler],
 }
 
-/// Whether the trap of misaligned accesses isn't stated, so that all accesses are aligned.
-fn is_without_trap(plan: &Plan) -> bool
-    ensures { result ≡ not plan.now.aln }
-{
-    !plan.aln
+/// What rows are read over: a state; and for speed alone the number of the place that was read last, in the order of the table's
+/// cells, and that of its frame.
+#[derive(Drop)]
+pub(crate) struct Scratch {
+    state: State,
+    near: usize,
+    node: usize,
 }
 
-/// Whether an instruction of this shape is seen to enter no frame by itself.
-fn enters_none(plan: &Plan, shape: Shape) -> bool
-    ensures { IsTrue result → EntersNone plan.now shape }
-{
-    match shape {
-        Shape::Call { .. } => false,
-        Shape::Syscall { .. } => false,
-        Shape::Load { .. } => is_without_trap(plan),
-        Shape::Store { .. } => is_without_trap(plan),
-        _ => true,
+impl Scratch {
+    /// Before anything was read.
+    pub(crate) fn new(plan: &Plan) -> Scratch {
+        Scratch {
+            state: start_state(plan),
+            near: 0,
+            node: 0,
+        }
     }
 }
 
-/// The row of a point that enters no frame, where this is seen without the values of its state.
-fn plain_row(alloc: Global, source: &Source, cell: &Cell, key: Key, addr: u32) -> Option<Row>
+/// The row of a point where no interrupt may be taken, if its instruction enters no frame by itself.
+fn quiet_row(
+    alloc: Global,
+    source: &Source,
+    scratch: &mut Scratch,
+    cell: &Cell,
+    key: Key,
+    addr: u32,
+) -> Option<Row>
     requires source { IsSource source.now }
     requires at { (seen source.now.table.now).cells (point key addr) ≡ Some cell.now }
     ensures { IfSome result (λ row. PointHasRow source.now key addr (Ok (Some row))) }
 {
+    if !is_plain(&source.table.marks, scratch.near, Spot::Point(key, addr)) {
+        return None;
+    }
     let Some(held) = cell.quiet_locals() else {
         return None;
     };
-    let Some(found) = code_at(source.ground.image, source.ground.plan, addr) else {
-        return None;
-    };
-    if !enters_none(source.ground.plan, shape(&found.0)) {
-        return None;
-    }
+    let node = number_near(source.numbers, scratch.node, key);
+    scratch.node = node;
     Some(Row {
-        node: number_of(source.numbers, key),
+        node,
         held,
         into: Vec::new(alloc),
     })
@@ -123,27 +157,30 @@ fn plain_row(alloc: Global, source: &Source, cell: &Cell, key: Key, addr: u32) -
 pub(crate) fn point_row(
     alloc: Global,
     source: &Source,
-    scratch: &mut State,
+    scratch: &mut Scratch,
     key: Key,
     addr: u32,
 ) -> Result<Option<Row>, Refusal>
     requires { IsSource source.now }
     ensures { PointHasRow source.now key addr result }
 {
-    let Some(cell) = source.table.cells.get(&Spot::Point(key, addr)) else {
+    let place = Spot::Point(key, addr);
+    scratch.near = index_after(&source.table.cells, scratch.near, place);
+    let Some(cell) = get_near(&source.table.cells, scratch.near, place) else {
         return Ok(None);
     };
-    if let Some(row) = plain_row(alloc, source, cell, key, addr) {
+    if let Some(row) = quiet_row(alloc, source, scratch, cell, key, addr) {
         return Ok(Some(row));
     }
-    cell.read_state(source.ground.bounds, scratch);
+    let plain = is_plain(&source.table.marks, scratch.near, place);
+    cell.read_state(source.ground.bounds, &mut scratch.state);
     let v = Visit {
         ground: source.ground,
         key,
         addr,
-        state: &*scratch,
+        state: &scratch.state,
     };
-    let row = row_at(alloc, &v, source.numbers, source.handlers)?;
+    let row = row_at(alloc, &v, source.numbers, source.handlers, plain)?;
     Ok(Some(row))
 }
 
@@ -152,7 +189,7 @@ fn add_row(
     alloc: Global,
     source: &Source,
     rows: &mut Vec<Row>,
-    scratch: &mut State,
+    scratch: &mut Scratch,
     place: Spot,
 ) -> Result<(), Refusal>
     requires { IsSource source.now }
@@ -177,7 +214,7 @@ fn rows_of(alloc: Global, source: &Source, points: &[Spot]) -> Result<Vec<Row>, 
     ensures { IfOk result (λ rows. RowsOn source.now.ground.now source.now.table.now rows.items) }
 {
     let mut rows = Vec::new(alloc);
-    let mut scratch = start_state(source.ground.plan);
+    let mut scratch = Scratch::new(source.ground.plan);
     for p in points {
         add_row(alloc, source, &mut rows, &mut scratch, *p)?;
     }

@@ -7,7 +7,9 @@ ghost use Rattle.depth_maker.specs.Spelled.{AreFrames, AreKnown, IsFrameOf, IsOf
 
 use crate::rows::Source;
 use depth_cert::{Key, put_u16, write_exit, write_key};
-use frame_places::{Spot, address_at, frames_in_order, number_of, points_in_order, points_of};
+use frame_places::{
+    Spot, address_at, frames_in_order, get_near, index_after, number_of, points_in_order, points_of,
+};
 use std::alloc::Global;
 use tcd_base::{NoMemory, put_u32};
 
@@ -16,13 +18,19 @@ fn is_byte(_byte: u8)
     ensures { _byte < 2 ^ 8 }
 {}
 
-/// Adds a point: its address and its state.
-fn write_point(out: &mut Vec<u8>, source: &Source, key: Key, addr: u32) -> Result<(), NoMemory>
+/// Adds a point, whose number in the order of the table's cells is likely to be `near`: its address and its state.
+fn write_point(
+    out: &mut Vec<u8>,
+    source: &Source,
+    near: usize,
+    key: Key,
+    addr: u32,
+) -> Result<(), NoMemory>
     requires source { IsSource source.now }
     requires known { IsSome (known_on source.now (point key addr)) }
     ensures { OnOk result (WritesPoint source.now key addr out.old.items out.new.items) }
 {
-    let Some(cell) = source.table.cells.get(&Spot::Point(key, addr)) else {
+    let Some(cell) = get_near(&source.table.cells, near, Spot::Point(key, addr)) else {
         return Ok(());
     };
     put_u32(out, addr)?;
@@ -41,8 +49,10 @@ fn write_points(
     requires known { AreKnown source.now key points.now }
     ensures { OnOk result (WritesPoints source.now key points.now out.old.items out.new.items) }
 {
+    let mut near = 0;
     for p in points {
-        write_point(out, source, key, address_at(p))?;
+        near = index_after(&source.table.cells, near, *p);
+        write_point(out, source, near, key, address_at(p))?;
     }
     Ok(())
 }

@@ -8,6 +8,7 @@ use std::collections::VecDeque;
 
 /// What is known at each place, with the list of the places that have work. `points` has each point that is known, and
 /// `frames` each frame that has one, in the order in which they came; the entries of the interrupts that were `heard` are covered.
+/// `near` is the number of the place that is visited, in the order of `cells` and of `marks`; only speed depends on it.
 #[derive(Drop)]
 pub(crate) struct Table {
     pub(crate) cells: IndexMap<Spot, Cell>,
@@ -17,4 +18,5 @@ pub(crate) struct Table {
     pub(crate) points: Vec<Spot>,
     pub(crate) frames: Vec<Key>,
     pub(crate) heard: Option<Heard>,
+    pub(crate) near: usize,
 }

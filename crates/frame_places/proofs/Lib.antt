@@ -1,5 +1,6 @@
 pub mod KeyLaws
 pub mod MarkLemmas
+pub mod NearbyLemmas
 pub mod NumberLemmas
 pub mod OrderLemmas
 pub mod ReaderLemmas

@@ -2,5 +2,6 @@
 pub mod Spots
 pub mod Hashed
 pub mod Marks
+pub mod Nearby
 pub mod Numbers
 pub mod Counting

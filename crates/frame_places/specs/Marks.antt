@@ -1,11 +1,11 @@
 -- Which places have work, and who is told of a rise.
-use Rattle.std.specs.Prelude.{◌≡◌, ◌⊎◌, Option, Some, None, List, Contains, Bool, true, false}
+use Rattle.std.specs.Prelude.{◌≡◌, ◌⊎◌, Option, Some, None, List, Contains, Bool, true, false, if◌then◌else◌}
 use Rattle.std.specs.declared.vec.Vec.{Vec}
 use Rattle.std.specs.declared.alloc.Global.{Global}
 use Rattle.indexmap.specs.IndexMap.{IndexMap, get}
 use Rattle.frame_places.specs.declared.places.Spot.{Spot}
 use Rattle.frame_places.specs.declared.places.Mark.{Mark}
-use Rattle.frame_places.specs.declared.places.Mark.TheVariants.{Idle, Queued, Open}
+use Rattle.frame_places.specs.declared.places.Mark.TheVariants.{Idle, Plain, Queued, Open}
 use Rattle.frame_places.specs.Spots.{spot_eq}
 
 -- each place that is marked as having work is on the list of work
@@ -20,6 +20,7 @@ pub record Touched {S : Type 0} (old new : IndexMap Spot Mark S) (places : List 
 abbrev pub is_idle : Option Mark → Bool
 is_idle None = false
 is_idle (Some Idle) = true
+is_idle (Some Plain) = true
 is_idle (Some Queued) = false
 is_idle (Some Open) = false
 
@@ -27,15 +28,17 @@ is_idle (Some Open) = false
 abbrev pub is_queued : Option Mark → Bool
 is_queued None = false
 is_queued (Some Idle) = false
+is_queued (Some Plain) = false
 is_queued (Some Queued) = true
 is_queued (Some Open) = false
 
+-- what a place without work is marked as
+abbrev pub idle_mark : Bool → Mark
+idle_mark plain = if plain then Plain else Idle
+
 -- what a place is marked as when its visit is over: where it was put on the list meanwhile it has work
-abbrev pub settled_mark : Option Mark → Mark
-settled_mark None = Idle
-settled_mark (Some Idle) = Idle
-settled_mark (Some Queued) = Queued
-settled_mark (Some Open) = Idle
+abbrev pub settled_mark : Bool → Option Mark → Mark
+settled_mark plain o = if is_queued o then Queued else idle_mark plain
 
 -- a place is among those that are told of a rise
 abbrev pub Reads : Option (Vec Spot Global) → Spot → Type 0

@@ -1,11 +1,12 @@
 // Which places have work.
-ghost use Rattle.std.specs.Prelude.{◌≡◌, OnOk, Some, if◌then◌else◌};
+ghost use Rattle.std.specs.Prelude.{◌≡◌, ◌↔◌, IsTrue, OnOk, Some, if◌then◌else◌};
 ghost use Rattle.indexmap.specs.IndexMap.{get};
 ghost use Rattle.frame_places.specs.declared.places.Spot.{Spot};
-ghost use Rattle.frame_places.specs.declared.places.Mark.TheVariants.{Queued};
+ghost use Rattle.frame_places.specs.declared.places.Mark.TheVariants.{Plain, Queued};
 ghost use Rattle.frame_places.specs.Spots.{spot_eq};
-ghost use Rattle.frame_places.specs.Marks.{AllListed, Touched, Woken, is_queued, settled_mark};
+ghost use Rattle.frame_places.specs.Marks.{AllListed, Touched, Woken, idle_mark, is_queued, settled_mark};
 
+use crate::nearby::{get_near, stands_at};
 use crate::places::{Mark, Spot};
 use indexmap::IndexMap;
 use std::alloc::AllocError;
@@ -67,23 +68,62 @@ pub fn wake(
     }
 }
 
-/// Whether x is on the list.
-pub fn has_work(marks: &IndexMap<Spot, Mark>, x: Spot) -> bool
+/// Whether x, whose number is likely to be `near`, is on the list.
+pub fn has_work(marks: &IndexMap<Spot, Mark>, near: usize, x: Spot) -> bool
     ensures { result ≡ is_queued (get spot_eq marks.now x) }
 {
-    matches!(marks.get(&x), Some(Mark::Queued))
+    matches!(get_near(marks, near, x), Some(Mark::Queued))
 }
 
-/// Ends the visit of x: it has no work, unless it was put on the list meanwhile.
-pub fn settle(marks: &mut IndexMap<Spot, Mark>, x: Spot) -> Result<(), AllocError>
+/// Marks x, whose number is likely to be `near`.
+pub fn set_mark(
+    marks: &mut IndexMap<Spot, Mark>,
+    near: usize,
+    x: Spot,
+    mark: Mark,
+) -> Result<(), AllocError>
     ensures { OnOk result
         ((q : Spot) → get spot_eq marks.new q
-        ≡ (if spot_eq x q then Some (settled_mark (get spot_eq marks.old x))
-        else get spot_eq marks.old q)) }
+        ≡ (if spot_eq x q then Some mark else get spot_eq marks.old q)) }
 {
-    if let Some(Mark::Queued) = marks.insert(x, Mark::Idle)? {
-        marks.insert(x, Mark::Queued)?;
+    if stands_at(&*marks, near, x) {
+        marks[near] = mark;
         return Ok(());
     }
+    marks.insert(x, mark)?;
+    Ok(())
+}
+
+/// Whether x, whose number is likely to be `near`, has no work and is plain.
+pub fn is_plain(marks: &IndexMap<Spot, Mark>, near: usize, x: Spot) -> bool
+    ensures { IsTrue result ↔ (get spot_eq marks.now x ≡ Some Plain) }
+{
+    matches!(get_near(marks, near, x), Some(Mark::Plain))
+}
+
+/// What a place without work is marked as.
+fn mark_without_work(plain: bool) -> Mark
+    ensures { result ≡ idle_mark plain }
+{
+    if plain { Mark::Plain } else { Mark::Idle }
+}
+
+/// Ends the visit of x, whose number is likely to be `near` and which may be plain: it has no work, unless it was put on the list
+/// meanwhile.
+pub fn settle(
+    marks: &mut IndexMap<Spot, Mark>,
+    near: usize,
+    x: Spot,
+    plain: bool,
+) -> Result<(), AllocError>
+    ensures { OnOk result
+        ((q : Spot) → get spot_eq marks.new q
+        ≡ (if spot_eq x q then Some (settled_mark plain (get spot_eq marks.old x))
+        else get spot_eq marks.old q)) }
+{
+    if has_work(&*marks, near, x) {
+        return Ok(());
+    }
+    set_mark(marks, near, x, mark_without_work(plain))?;
     Ok(())
 }

@@ -55,10 +55,12 @@ impl Hash for Spot {
     }
 }
 
-/// What a place is for the list of work: all that it owes is covered; it is on the list; it is visited now.
+/// What a place is for the list of work: all that it owes is covered; the same, and the instruction there enters no frame by
+/// itself; it is on the list; it is visited now.
 #[derive(Clone, Copy, Debug, PartialEq, Eq)]
 pub enum Mark {
     Idle,
+    Plain,
     Queued,
     Open,
 }

@@ -30,3 +30,4 @@ returns-clause-ok c =
     (c.in_ok-push_back.ensures.items ∙ ap (λ (w : List Spot). w ++ x ∷ []) c.new-work.ensures.items)
     (c.in_ok-push.ensures.items ∙ ap (λ (w : List Spot). w ++ x ∷ []) c.new-points.ensures.items)
     (c.in_ok-push-2.ensures.items ∙ ap (λ (w : List Key). w ++ k ∷ []) c.new-frames.ensures.items ∙ ap (λ (z : Key). z ∷ []) c.start_key-key.ensures) refl
+    (λ z. c.no_readers.ensures z)

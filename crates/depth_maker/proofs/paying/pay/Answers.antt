@@ -1,14 +1,19 @@
 use Rattle.std.proofs.Common.{refl}
 use Rattle.cfg_recover.specs.Refusals.{derived, own}
 use Rattle.depth_maker.specs.View.{seen}
-use Rattle.depth_maker.proofs.PartLemmas.{on_all}
+use Rattle.depth_maker.proofs.PartLemmas.{paid_all}
 use Rattle.depth_maker.proofs.paying.pay.Goals as goal
 
-pub returns-in-Ok-clause-ok : goal.returns-in-Ok-clause-ok
-returns-in-Ok-clause-ok c =
+pub returns-in_ok-pay_duties-in-Ok-clause-ok : goal.returns-in_ok-pay_duties-in-Ok-clause-ok
+returns-in_ok-pay_duties-in-Ok-clause-ok c =
     let v = c.args.v.now in
     let f = rw c.in-Ok.is at c.local_check.ensures.found in
-    on_all _ _ _ v.key v.addr v.state.now c.args.table.now c.pay_duties.new.table c.in-Ok.found.shape c.in-Ok.found.size c.pay_duties.result c.requires.at f.faultless f.code c.pay_duties.ensures.ok
+    paid_all _ _ _ v.key v.addr v.state.now c.args.table.now c.pay_duties.new.table c.in-Ok.found.shape c.in-Ok.found.size c.requires.at f.faultless f.code c.in_ok-pay_duties-in-Ok.ensures.ok
+
+pub returns-in_ok-pay_duties-in-Ok-clause-plain : goal.returns-in_ok-pay_duties-in-Ok-clause-plain
+returns-in_ok-pay_duties-in-Ok-clause-plain c t =
+    let f = rw c.in-Ok.is at c.local_check.ensures.found in
+    record { shape = c.in-Ok.found.shape; size = c.in-Ok.found.size; code = f.code; shaped = f.shape; enters = c.enters_none.ensures t }
 
 pub returns-in-Err-clause-err : goal.returns-in-Err-clause-err
 returns-in-Err-clause-err c =

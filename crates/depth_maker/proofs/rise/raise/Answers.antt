@@ -47,5 +47,5 @@ returns-clause-ok c =
     c.requires.asked (rw c.in-Ok-Some.field-0-is at c.in-Ok-Some.ensures).0 (λ q. c.in_ok-before.ensures.updates.0 q) refl refl
     (c.in_ok-count.ensures.points ∙ ap (λ (k : Bool). points_after k c.args.table.now.points.items c.args.y) (c.is_some-known.ensures ∙ ap is_some c.in_ok-before.ensures.old))
     (c.in_ok-count.ensures.frames ∙ ap (λ (k : Bool). frames_after k c.args.table.now.frames.items c.args.y) (c.is_some-known.ensures ∙ ap is_some c.in_ok-before.ensures.old)) (are_few _ _ c.in_ok-count.ensures.few_points c.in_ok-count.ensures.few_frames)
-    c.in_ok-wake.ensures.marks c.in_ok-wake.ensures.work c.requires.fine
+    c.in_ok-tell.ensures.marks c.in_ok-tell.ensures.work c.requires.fine
     (rw c.in-Ok-Some.field-0-is at c.in-Ok-Some.ensures).1 (let e = c.priority-byte.ensures in let t = c.priority-byte.type_inv in omega (arith, e, t))

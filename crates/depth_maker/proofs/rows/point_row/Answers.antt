@@ -41,6 +41,9 @@ returns c =
     let there : get spot_eq c.args.source.now.table.now.cells (Point c.args.key c.args.addr) ≡ Some (state c.read_state.new.into) = at ∙ ap (λ (w : Known). Some w) (e.1 ∙ ap state (sym is)) in
     (c.read_state.new.into, there, c.in_ok-row.ensures c.args.source.now.table.now.frames.items (record { all = c.requires.numbers; taken = c.requires.handlers }) (all_known _ c.args.source.now.table.now c.requires.done there))
 
-pub plain_row-requires-clause-at : goal.plain_row-requires-clause-at
+pub quiet_row-requires-clause-at : goal.quiet_row-requires-clause-at
 unfolding seen
-plain_row-requires-clause-at c = sym c.in-Some.ensures.value
+quiet_row-requires-clause-at c = sym c.in-Some.ensures.value
+
+pub row_at-requires-clause-plain : goal.row_at-requires-clause-plain
+row_at-requires-clause-plain c t = (c.requires.done).plain (Point c.args.key c.args.addr) (c.is_plain-plain.ensures.0 t)

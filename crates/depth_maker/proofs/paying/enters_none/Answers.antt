@@ -1,7 +1,7 @@
 use Rattle.std.proofs.Common.{sym, ◌∙◌}
 use Rattle.depth_maker.proofs.EnteredLemmas.{access_none, entries_none}
 use Rattle.depth_maker.proofs.PlainRows.{load_enters_none, off_of, store_enters_none}
-use Rattle.depth_maker.proofs.rows.enters_none.Goals as goal
+use Rattle.depth_maker.proofs.paying.enters_none.Goals as goal
 
 pub returns-in-Load : goal.returns-in-Load
 returns-in-Load c t = load_enters_none c.args.plan.now c.args.shape (off_of c.args.plan.now.aln (sym c.is_without_trap.ensures ∙ t)) _ _ _ _ _ _ c.in-Load.is

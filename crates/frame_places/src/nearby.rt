@@ -1,0 +1,48 @@
+// Look-ups of places that mostly stand behind those that were looked up before them: the likely number first, then all.
+ghost use Rattle.std.specs.Prelude.{◌≡◌, ◌<◌, IsTrue, unwrap_or};
+ghost use Rattle.std.specs.Option.{option_copied};
+ghost use Rattle.indexmap.specs.IndexMap.{IsUnique, get, index_map_len, index_of};
+ghost use Rattle.frame_places.specs.Nearby.{StandsAt};
+ghost use Rattle.frame_places.specs.Spots.{spot_eq};
+
+use crate::places::Spot;
+use indexmap::IndexMap;
+
+/// Whether x is the place of this number.
+#[inline(always)]
+pub(crate) fn stands_at<V>(map: &IndexMap<Spot, V>, number: usize, x: Spot) -> bool
+    ensures within { IsTrue result → number < index_map_len map.now }
+    ensures there { IsTrue result → StandsAt map.now number x }
+    ensures unique { IsUnique spot_eq map.now }
+{
+    let _len = map.len();
+    match map.get_index(number) {
+        Some((key, _)) => *key == x,
+        None => false,
+    }
+}
+
+/// The number of x, which is likely to follow `last`; 0 where the map hasn't x.
+#[inline(always)]
+pub fn index_after<V>(map: &IndexMap<Spot, V>, last: usize, x: Spot) -> usize
+    ensures { result ≡ unwrap_or (index_of spot_eq map.now x) 0 }
+{
+    let next = last.wrapping_add(1);
+    if stands_at(map, next, x) {
+        return next;
+    }
+    map.get_index_of(&x).unwrap_or(0)
+}
+
+/// What the map has for x, whose number is likely to be `near`.
+#[inline(always)]
+pub fn get_near<V>(map: &IndexMap<Spot, V>, near: usize, x: Spot) -> Option<&V>
+    ensures value { option_copied result ≡ get spot_eq map.now x }
+{
+    if let Some((key, value)) = map.get_index(near) {
+        if *key == x {
+            return Some(value);
+        }
+    }
+    map.get(&x)
+}
