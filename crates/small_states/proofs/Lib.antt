@@ -1,3 +1,4 @@
 pub mod SameValues
 pub mod WordTests
 pub mod AskedLemmas
+pub mod SparseLemmas

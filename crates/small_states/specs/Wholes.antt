@@ -1,13 +1,27 @@
--- States and exits in little room, as those that they stand for.
+-- Values, states and exits in little room, as those that they stand for.
+use Rattle.std.specs.Prelude.{List, [], ◌∷◌, ◌++◌, replicate}
+use Rattle.std.specs.List.{flat_map}
+use Rattle.value_domain.specs.declared.values.Val.{Val}
 use Rattle.value_domain.specs.declared.states.State.{State}
+use Rattle.value_domain.specs.Values.{any_val}
 use Rattle.depth_cert.specs.declared.points.Exit.{Exit}
+use Rattle.small_states.specs.declared.sparse.SpacedValue.{SpacedValue}
+use Rattle.small_states.specs.declared.sparse.Values.{Values}
 use Rattle.small_states.specs.declared.states.SmallState.{SmallState}
 use Rattle.small_states.specs.declared.states.SmallExit.{SmallExit}
 
+-- a value behind those of which nothing is known
+abbrev pub spaced_values : SpacedValue → List Val
+spaced_values s = replicate s.anys any_val ++ s.value ∷ []
+
+-- the values in their order
+abbrev pub all_values : Values → List Val
+all_values v = flat_map spaced_values v.known.items ++ replicate v.rest any_val
+
 -- the state with these values
 abbrev pub state_in : SmallState → State
-state_in s = record { regs = s.regs.items; ie = s.ie; ccpn = s.ccpn; lower = s.lower; locals = s.locals }
+state_in s = record { regs = all_values s.regs; ie = s.ie; ccpn = s.ccpn; lower = s.lower; locals = s.locals }
 
 -- the exit with these values
 abbrev pub exit_in : SmallExit → Exit
-exit_in x = record { ie = x.ie; ccpn = x.ccpn; lower = x.lower.items }
+exit_in x = record { ie = x.ie; ccpn = x.ccpn; lower = all_values x.lower }

@@ -1,9 +1,10 @@
 // What duties ask for.
-ghost use Rattle.std.specs.Prelude.{◌≡◌, ◌<◌, ◌-◌, ◌==◌, length, nat_lt, slice_index_or, if◌then◌else◌};
+ghost use Rattle.std.specs.Prelude.{◌≡◌, ◌≤◌, ◌<◌, ◌-◌, ◌==◌, length, nat_lt, slice_index_or, if◌then◌else◌};
 ghost use Rattle.value_domain.specs.Values.{any_val};
 ghost use Rattle.value_domain.specs.State as states;
 ghost use Rattle.depth_cert.specs.Exits.{lower_values, with_lower_from};
 ghost use Rattle.small_states.specs.Kept.{asked_for, given_of, is_exit, known_by, values_asked};
+ghost use Rattle.small_states.specs.Wholes.{all_values};
 ghost use Rattle.depth_cert.specs.Known.{priority_of};
 
 use crate::{Small, SmallExit};
@@ -97,7 +98,8 @@ pub(crate) fn context_of<'a>(asked: &Asked<'a>) -> Context<'a>
 
 /// How many values are asked for: those of a state, or those of an exit.
 pub(crate) fn count_asked(asked: &Asked) -> usize
-    ensures { result ≡ length (values_asked asked.now) }
+    ensures long { result ≡ length (values_asked asked.now) }
+    ensures few { result ≤ 27 }
 {
     match asked {
         Asked::Changed(s, _) => {
@@ -113,23 +115,11 @@ pub(crate) fn count_asked(asked: &Asked) -> usize
 }
 
 fn lower_count(s: &State) -> usize
-    ensures { result ≡ length (lower_values s.now.regs) }
+    ensures long { result ≡ length (lower_values s.now.regs) }
+    ensures few { result ≤ 27 }
 {
     let _regs = &s.regs[..];
     14
-}
-
-/// The value of an exit at a place; `any` stands for each that it doesn't have.
-#[inline(always)]
-fn exit_value<'a>(exit: &'a SmallExit, any: &'a Val, at: usize) -> Given<'a>
-    requires { any.now ≡ any_val }
-    ensures { given_of result ≡ slice_index_or exit.now.lower.items at any_val }
-{
-    if at < exit.lower.len() {
-        Given::Packed(&exit.lower[at])
-    } else {
-        Given::Whole(any)
-    }
 }
 
 /// The value of a place after a frame came back: the exit's for a lower register, else the one that it had.
@@ -138,13 +128,13 @@ fn restored<'a>(i: usize, exit: &'a SmallExit, any: &'a Val, v: &'a Val) -> Give
     requires { any.now ≡ any_val }
     ensures { given_of result
         ≡ (if states.is_lower_slot i
-        then slice_index_or exit.now.lower.items (if nat_lt i 8 then i else i - 8) any_val
+        then slice_index_or (all_values exit.now.lower) (if nat_lt i 8 then i else i - 8) any_val
         else v.now) }
 {
     if i < 8 {
-        exit_value(exit, any, i)
+        exit.lower.given_at(any, i)
     } else if 16 <= i && i < 22 {
-        exit_value(exit, any, i - 8)
+        exit.lower.given_at(any, i - 8)
     } else {
         Given::Whole(v)
     }
@@ -156,7 +146,7 @@ fn value_after<'a>(s: &'a State, exit: &'a SmallExit, any: &'a Val, i: usize) ->
     requires place { i < 27 }
     requires any { any.now ≡ any_val }
     ensures { given_of result
-        ≡ slice_index_or (with_lower_from 0 exit.now.lower.items s.now.regs) i any_val }
+        ≡ slice_index_or (with_lower_from 0 (all_values exit.now.lower) s.now.regs) i any_val }
 {
     let _regs = &s.regs[..];
     restored(i, exit, any, &s.regs[i])

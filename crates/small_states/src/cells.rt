@@ -2,14 +2,14 @@
 ghost use Rattle.std.specs.Prelude.{◌≡◌, ◌↔◌, IsTrue, IfNone, IfOk, IfSome, OnOk, Some, length};
 ghost use Rattle.std.specs.Option.{option_map};
 ghost use Rattle.value_domain.specs.State.{AreValues, AreWell, Covers, joined_states};
-ghost use Rattle.small_states.specs.Wholes.{exit_in, state_in};
+ghost use Rattle.small_states.specs.Wholes.{all_values, exit_in, state_in};
 ghost use Rattle.depth_cert.specs.Exits.{ExitCovers};
 ghost use Rattle.depth_cert.specs.Known.{CoversKnown, joined_exit, joined_known, state, leaving, IsProperKnown};
 ghost use Rattle.small_states.specs.Kept.{AddsState, IsNoExit, IsQuiet, IsStateAt, asked_for, exit_with, known_of, state_with, values_asked};
 
 use crate::asked::{Asked, Context, context_of, is_leaving};
 use crate::values::{are_covered, joined, packed};
-use crate::{Small, SmallExit, SmallState, copy_of, join_locals};
+use crate::{SmallExit, SmallState, Values, copy_of, join_locals};
 use std::alloc::{AllocError, Global};
 use std::marker::Model;
 use tcd_base::NoMemory;
@@ -53,8 +53,8 @@ fn kept_for(alloc: Global, asked: &Asked) -> Result<Kept, AllocError>
     Ok(kept_state(values, &k))
 }
 
-fn kept_state(values: Vec<Small>, k: &Context) -> Kept
-    ensures { known_of result ≡ state (state_with values.items k.now) }
+fn kept_state(values: Values, k: &Context) -> Kept
+    ensures { known_of result ≡ state (state_with (all_values values) k.now) }
 {
     Kept::Point(SmallState {
         regs: values,
@@ -67,9 +67,9 @@ fn kept_state(values: Vec<Small>, k: &Context) -> Kept
 
 /// Whether a state covers what a duty asks for of one.
 fn covers_state(upper: &SmallState, asked: &Asked, k: &Context) -> bool
-    requires upper { AreWell upper.now.regs.items }
+    requires upper { AreWell (all_values upper.now.regs) }
     requires asked { AreWell (values_asked asked.now) }
-    requires long { length upper.now.regs.items ≡ length (values_asked asked.now) }
+    requires long { length (all_values upper.now.regs) ≡ length (values_asked asked.now) }
     ensures { IsTrue result
         ↔ Covers (state_in upper.now) (state_with (values_asked asked.now) k.now) }
 {
@@ -79,21 +79,21 @@ fn covers_state(upper: &SmallState, asked: &Asked, k: &Context) -> bool
     if !are_implied(upper.locals.as_slice(), k.locals.as_slice()) {
         return false;
     }
-    are_covered(upper.regs.as_slice(), asked)
+    are_covered(&upper.regs, asked)
 }
 
 /// Whether an exit covers what a duty asks for of one.
 fn covers_exit(upper: &SmallExit, asked: &Asked, k: &Context) -> bool
-    requires upper { AreWell upper.now.lower.items }
+    requires upper { AreWell (all_values upper.now.lower) }
     requires asked { AreWell (values_asked asked.now) }
-    requires long { length upper.now.lower.items ≡ length (values_asked asked.now) }
+    requires long { length (all_values upper.now.lower) ≡ length (values_asked asked.now) }
     ensures { IsTrue result
         ↔ ExitCovers (exit_in upper.now) (exit_with (values_asked asked.now) k.now) }
 {
     if !upper.covers_context(k.ie, k.ccpn) {
         return false;
     }
-    are_covered(upper.lower.as_slice(), asked)
+    are_covered(&upper.lower, asked)
 }
 
 /// The least state that covers both; `None` for unequal numbers of locals.
@@ -104,9 +104,9 @@ fn join_state(
     asked: &Asked,
     k: &Context,
 ) -> Result<Option<Cell>, AllocError>
-    requires left { AreValues b.now left.now.regs.items }
+    requires left { AreValues b.now (all_values left.now.regs) }
     requires asked { AreValues b.now (values_asked asked.now) }
-    requires long { length left.now.regs.items ≡ length (values_asked asked.now) }
+    requires long { length (all_values left.now.regs) ≡ length (values_asked asked.now) }
     ensures { IfOk result
         (λ r. r ≡ option_map state
         (joined_states b.now (state_in left.now) (state_with (values_asked asked.now) k.now))) }
@@ -114,7 +114,7 @@ fn join_state(
     if left.locals.len() != k.locals.len() {
         return Ok(None);
     }
-    let regs = joined(alloc, b, left.regs.as_slice(), asked)?;
+    let regs = joined(alloc, b, &left.regs, asked)?;
     let kept = Kept::Point(SmallState {
         regs,
         ie: left.ie || k.ie,
@@ -133,15 +133,15 @@ fn join_exit(
     asked: &Asked,
     k: &Context,
 ) -> Result<Option<Cell>, AllocError>
-    requires exit { AreValues b.now exit.now.lower.items }
+    requires exit { AreValues b.now (all_values exit.now.lower) }
     requires asked { AreValues b.now (values_asked asked.now) }
-    requires long { length exit.now.lower.items ≡ length (values_asked asked.now) }
+    requires long { length (all_values exit.now.lower) ≡ length (values_asked asked.now) }
     ensures { IfOk result
         (λ r. r ≡ Some
         (leaving (joined_exit b.now (exit_in exit.now)
         (exit_with (values_asked asked.now) k.now)))) }
 {
-    let lower = joined(alloc, b, exit.lower.as_slice(), asked)?;
+    let lower = joined(alloc, b, &exit.lower, asked)?;
     let kept = Kept::Leaves(SmallExit {
         ie: exit.ie || k.ie,
         ccpn: exit.ccpn.min(k.ccpn),

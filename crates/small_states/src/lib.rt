@@ -4,6 +4,7 @@
 mod asked;
 mod cells;
 mod small;
+mod sparse;
 mod spelling;
 mod states;
 mod values;
@@ -11,4 +12,5 @@ mod values;
 pub use asked::{Asked, priority};
 pub use cells::Cell;
 pub use small::Small;
+pub use sparse::{SpacedValue, Values};
 pub use states::{SmallExit, SmallState, copy_of, join_locals};

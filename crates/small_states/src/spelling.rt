@@ -1,13 +1,13 @@
 // The one spelling of values and states in little room, as certificates have it.
-ghost use Rattle.std.specs.Prelude.{◌≡◌, ◌∷◌, [], ◌++◌, All, OnOk, Some, map};
+ghost use Rattle.std.specs.Prelude.{◌≡◌, ◌∷◌, [], ◌++◌, All, OnOk, Some, map, replicate};
 ghost use Rattle.std.specs.List.{flat_map};
 ghost use Rattle.value_domain.specs.declared.values.Val.TheVariants.{Set};
 ghost use Rattle.value_domain.specs.Values.{IsWell, any_val};
 ghost use Rattle.depth_cert.specs.Keys.{byte_of};
 ghost use Rattle.depth_cert.specs.Spelling.{bytes_of_exit, bytes_of_state, bytes_of_value};
-ghost use Rattle.small_states.specs.Wholes.{exit_in, state_in};
+ghost use Rattle.small_states.specs.Wholes.{all_values, exit_in, state_in};
 
-use crate::small::Small;
+use crate::sparse::Values;
 use crate::states::{SmallExit, SmallState};
 use tcd_base::{NoMemory, put_u32};
 
@@ -54,21 +54,37 @@ fn put_flags(out: &mut Vec<u8>, flags: &[bool]) -> Result<(), NoMemory>
     Ok(())
 }
 
-fn put_values(out: &mut Vec<u8>, values: &[Small]) -> Result<(), NoMemory>
-    requires { All IsWell values.now }
-    ensures { OnOk result (out.new.items ≡ out.old.items ++ flat_map bytes_of_value values.now) }
+/// Adds so many values that hold all words: each is a byte, 0.
+#[inline(always)]
+fn put_anys(out: &mut Vec<u8>, count: u32) -> Result<(), NoMemory>
+    ensures { OnOk result (out.new.items ≡ out.old.items ++ replicate count 0) }
 {
-    for v in values {
-        v.spell(out)?;
+    if count == 0 {
+        return Ok(());
     }
+    out.resize(out.len() + count as usize, 0)?;
     Ok(())
+}
+
+fn put_values(out: &mut Vec<u8>, values: &Values) -> Result<(), NoMemory>
+    requires { All IsWell (all_values values.now) }
+    ensures { OnOk result
+        (out.new.items ≡ out.old.items ++ flat_map bytes_of_value (all_values values.now)) }
+{
+    let known = values.known.as_slice();
+    for n in 0..known.len() {
+        let here = &known[n];
+        put_anys(out, here.anys)?;
+        here.value.spell(out)?;
+    }
+    put_anys(out, values.rest)
 }
 
 impl SmallState {
     /// Adds the bytes that spell the state to `out`.
     #[tactic(auto, unfolding(depth_cert::specs::Spelling::bytes_of_state))]
     pub(crate) fn spell(&self, out: &mut Vec<u8>) -> Result<(), NoMemory>
-        requires { All IsWell self.now.regs.items }
+        requires { All IsWell (all_values self.now.regs) }
         ensures { OnOk result
             (out.new.items ≡ out.old.items ++ bytes_of_state (state_in self.now)) }
     {
@@ -78,7 +94,7 @@ impl SmallState {
         let locals = self.locals.as_slice();
         put_byte(out, locals.len() as u8)?;
         put_flags(out, locals)?;
-        put_values(out, self.regs.as_slice())
+        put_values(out, &self.regs)
     }
 }
 
@@ -86,13 +102,13 @@ impl SmallExit {
     /// Adds the bytes that spell the exit to `out`.
     #[tactic(auto, unfolding(depth_cert::specs::Spelling::bytes_of_exit))]
     pub fn spell(&self, out: &mut Vec<u8>) -> Result<(), NoMemory>
-        requires { All IsWell self.now.lower.items }
+        requires { All IsWell (all_values self.now.lower) }
         ensures { OnOk result
             (out.new.items ≡ out.old.items ++ bytes_of_exit (Some (exit_in self.now))) }
     {
         put_byte(out, 1)?;
         put_flag(out, self.ie)?;
         put_byte(out, self.ccpn)?;
-        put_values(out, self.lower.as_slice())
+        put_values(out, &self.lower)
     }
 }

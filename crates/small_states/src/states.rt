@@ -1,17 +1,17 @@
 // States and exits whose values are in little room.
 ghost use Rattle.std.specs.Prelude.{◌≡◌, ◌≤◌, ◌&&◌, ◌↔◌, IsTrue, IfOk, length};
 ghost use Rattle.value_domain.specs.State.{joined_locals};
-ghost use Rattle.small_states.specs.Wholes.{exit_in, state_in};
+ghost use Rattle.small_states.specs.Wholes.{all_values, exit_in, state_in};
 
-use crate::small::Small;
+use crate::sparse::Values;
 use arrayvec::ArrayVec;
 use std::alloc::{AllocError, Global};
-use value_domain::{State, Val};
+use value_domain::State;
 
 /// A state.
 #[derive(Drop)]
 pub struct SmallState {
-    pub regs: Vec<Small>,
+    pub regs: Values,
     pub ie: bool,
     pub ccpn: u8,
     pub lower: bool,
@@ -23,7 +23,7 @@ pub struct SmallState {
 pub struct SmallExit {
     pub ie: bool,
     pub ccpn: u8,
-    pub lower: Vec<Small>,
+    pub lower: Values,
 }
 
 /// A copy of flags.
@@ -55,24 +55,13 @@ pub fn join_locals(s: &[bool], t: &[bool]) -> ArrayVec<bool, 8>
     out
 }
 
-/// Writes values over others.
-#[inline(always)]
-fn write_values<const N: usize>(values: &[Small], out: &mut [Val; N])
-    requires { length values.now ≡ N }
-    ensures { out.new ≡ values.now }
-{
-    for (i, value) in values.iter().enumerate() {
-        value.write(&mut out[i]);
-    }
-}
-
 impl SmallState {
     /// Writes the state over another.
     pub fn write(&self, into: &mut State)
-        requires { length self.now.regs.items ≡ 27 }
+        requires { length (all_values self.now.regs) ≡ 27 }
         ensures { into.new ≡ state_in self.now }
     {
-        write_values(self.regs.as_slice(), &mut into.regs);
+        self.regs.write(&mut into.regs);
         into.ie = self.ie;
         into.ccpn = self.ccpn;
         into.lower = self.lower;
@@ -89,24 +78,12 @@ impl SmallState {
     }
 }
 
-/// Copies of values.
-fn copies(alloc: Global, values: &[Small]) -> Result<Vec<Small>, AllocError>
-    ensures { IfOk result (λ copies. copies.items ≡ values.now) }
-{
-    let mut copies = Vec::with_capacity(alloc, values.len())?;
-    for v in values {
-        let copy = v.copy(alloc)?;
-        copies.push(copy)?;
-    }
-    Ok(copies)
-}
-
 impl SmallExit {
     /// A copy.
     pub fn copy(&self, alloc: Global) -> Result<SmallExit, AllocError>
         ensures { IfOk result (λ x. exit_in x ≡ exit_in self.now) }
     {
-        let lower = copies(alloc, self.lower.as_slice())?;
+        let lower = self.lower.copy(alloc)?;
         Ok(SmallExit {
             ie: self.ie,
             ccpn: self.ccpn,

@@ -1,112 +1,121 @@
 // Lists of values in little room: made from what duties ask for, compared with it, joined with it.
-ghost use Rattle.std.specs.Prelude.{◌≡◌, ◌<◌, ◌↔◌, IsTrue, IfOk, OnOk, length, slice_index_or};
+ghost use Rattle.std.specs.Prelude.{◌≡◌, ◌+◌, ◌^◌, ◌<◌, ◌↔◌, ◌++◌, IsTrue, IfOk, IfSome, OnOk, List, length, slice_index_or};
+ghost use Rattle.value_domain.specs.declared.values.Val.{Val};
 ghost use Rattle.value_domain.specs.State.{AreBelow, AreValues, AreWell, joined_regs};
-ghost use Rattle.value_domain.specs.Values.{IsBelow, IsWell, any_val};
+ghost use Rattle.value_domain.specs.Values.{any_val};
 ghost use Rattle.vd_transfer.specs.Changes.{put_in, state_after};
 ghost use Rattle.vd_transfer.specs.declared.change.Base.TheVariants.{Same};
 ghost use Rattle.small_states.specs.Kept.{values_asked};
+ghost use Rattle.small_states.specs.Wholes.{all_values};
 
 use crate::Small;
 use crate::asked::{Asked, asked_value, count_asked};
+use crate::sparse::Values;
 use std::alloc::{AllocError, Global};
 use value_domain::{Bounds, State, Val};
 use vd_transfer::{Base, Change, Put};
 
-/// Values in little room.
-fn packed_values(alloc: Global, values: &[Val]) -> Result<Vec<Small>, AllocError>
-    ensures { IfOk result (λ packed. packed.items ≡ values.now) }
+/// The value that a change puts, if it puts no other.
+#[inline(always)]
+fn only_put(c: &Change) -> Option<&Put>
+    ensures { IfSome result (λ put. (vs : List Val)
+        → put_in (put_in (put_in vs c.now.first) c.now.second) c.now.third ≡ put_in vs put.now) }
 {
-    let mut packed = Vec::with_capacity(alloc, values.len())?;
-    for v in values {
-        let value = Small::of(alloc, v)?;
-        packed.push(value)?;
+    if c.first.at.is_some() {
+        return None;
     }
-    Ok(packed)
+    if c.second.at.is_none() {
+        return Some(&c.third);
+    }
+    if c.third.at.is_none() {
+        return Some(&c.second);
+    }
+    None
 }
 
-/// Puts a value at its place, if it has one.
+/// Adds values of which one is put at its place, if it has one.
 #[inline(always)]
-fn put_value(alloc: Global, values: &mut Vec<Small>, put: &Put) -> Result<(), AllocError>
-    ensures { OnOk result (values.new.items ≡ put_in values.old.items put.now) }
+fn add_put(alloc: Global, values: &mut Values, regs: &[Val], put: &Put) -> Result<(), AllocError>
+    requires { length (all_values values.old) + length regs.now < 2 ^ 32 }
+    ensures { OnOk result (all_values values.new ≡ all_values values.old ++ put_in regs.now put.now) }
 {
     let Some(at) = put.at else {
-        return Ok(());
+        return values.add_all(alloc, regs);
     };
-    if values.len() <= at {
-        return Ok(());
+    if regs.len() <= at {
+        return values.add_all(alloc, regs);
     }
-    values[at] = Small::of(alloc, &put.value)?;
-    Ok(())
-}
-
-/// The values of a state into which a change puts some.
-fn packed_change(alloc: Global, s: &State, c: &Change) -> Result<Vec<Small>, AllocError>
-    requires { c.now.base ≡ Same }
-    ensures { IfOk result (λ values. values.items ≡ (state_after s.now c.now).regs) }
-{
-    let mut values = packed_values(alloc, &s.regs[..])?;
-    put_value(alloc, &mut values, &c.first)?;
-    put_value(alloc, &mut values, &c.second)?;
-    put_value(alloc, &mut values, &c.third)?;
-    Ok(values)
+    values.add_all(alloc, &regs[..at])?;
+    let value = Small::of(alloc, &put.value)?;
+    values.add_small(value)?;
+    values.add_all(alloc, &regs[at + 1..])
 }
 
 /// The values that are asked for, place by place; by itself, as it has room for a whole value.
 #[inline(never)]
-fn packed_each(alloc: Global, asked: &Asked) -> Result<Vec<Small>, AllocError>
-    ensures { IfOk result (λ values. values.items ≡ values_asked asked.now) }
+fn packed_each(alloc: Global, asked: &Asked) -> Result<Values, AllocError>
+    ensures { IfOk result (λ values. all_values values ≡ values_asked asked.now) }
 {
     let any = Val::any();
     let count = count_asked(asked);
-    let mut values = Vec::with_capacity(alloc, count)?;
+    let mut values = Values::with_room(alloc, 0)?;
     for i in 0..count {
-        let value = Small::of_given(alloc, &asked_value(&*asked, &any, i))?;
-        values.push(value)?;
+        values.add(alloc, &asked_value(&*asked, &any, i))?;
     }
     Ok(values)
 }
 
+/// The values of a state into which a change puts some.
+fn packed_same(alloc: Global, s: &State, c: &Change) -> Result<Values, AllocError>
+    requires { c.now.base ≡ Same }
+    ensures { IfOk result (λ values. all_values values ≡ (state_after s.now c.now).regs) }
+{
+    let Some(put) = only_put(c) else {
+        return packed_each(alloc, &Asked::Changed(s, c));
+    };
+    let mut values = Values::with_room(alloc, 0)?;
+    add_put(alloc, &mut values, &s.regs[..], put)?;
+    Ok(values)
+}
+
+/// The values of a changed state.
+fn packed_change(alloc: Global, s: &State, c: &Change) -> Result<Values, AllocError>
+    ensures { IfOk result (λ values. all_values values ≡ (state_after s.now c.now).regs) }
+{
+    match c.base {
+        Base::Same => packed_same(alloc, s, c),
+        _ => packed_each(alloc, &Asked::Changed(s, c)),
+    }
+}
+
 /// The values that are asked for.
-pub(crate) fn packed(alloc: Global, asked: &Asked) -> Result<Vec<Small>, AllocError>
-    ensures { IfOk result (λ values. values.items ≡ values_asked asked.now) }
+pub(crate) fn packed(alloc: Global, asked: &Asked) -> Result<Values, AllocError>
+    ensures { IfOk result (λ values. all_values values ≡ values_asked asked.now) }
 {
     match asked {
-        Asked::Changed(s, c) => match c.base {
-            Base::Same => packed_change(alloc, s, c),
-            _ => packed_each(alloc, asked),
-        },
+        Asked::Changed(s, c) => packed_change(alloc, s, c),
         _ => packed_each(alloc, asked),
     }
 }
 
-/// Whether a value covers the one that is asked for at a place, which isn't looked up where it holds all words.
-#[inline(always)]
-fn covers_at(upper: &Small, asked: &Asked, any: &Val, i: usize) -> bool
-    requires upper { IsWell upper.now }
+/// Whether each value that is asked for is below the one at its place; where nothing is known there, none is looked up.
+pub(crate) fn are_covered(upper: &Values, asked: &Asked) -> bool
+    requires upper { AreWell (all_values upper.now) }
     requires asked { AreWell (values_asked asked.now) }
-    requires place { i < length (values_asked asked.now) }
-    requires any { any.now ≡ any_val }
-    ensures { IsTrue result
-        ↔ IsBelow (slice_index_or (values_asked asked.now) i any_val) upper.now }
+    requires long { length (all_values upper.now) ≡ length (values_asked asked.now) }
+    ensures { IsTrue result ↔ AreBelow (values_asked asked.now) (all_values upper.now) }
 {
-    if upper.is_any() {
-        return true;
-    }
-    upper.covers_given(&asked_value(asked, any, i))
-}
-
-/// Whether each value that is asked for is below the one at its place.
-pub(crate) fn are_covered(upper: &[Small], asked: &Asked) -> bool
-    requires upper { AreWell upper.now }
-    requires asked { AreWell (values_asked asked.now) }
-    requires long { length upper.now ≡ length (values_asked asked.now) }
-    ensures { IsTrue result ↔ AreBelow (values_asked asked.now) upper.now }
-{
+    let _count = count_asked(asked);
     let any = Val::any();
-    for i in 0..upper.len() {
-        if !covers_at(&upper[i], asked, &any, i) {
+    let known = upper.known.as_slice();
+    let mut at = 0;
+    for n in 0..known.len() {
+        let here = &known[n];
+        let place = at + here.anys as usize;
+        if !here.value.covers_given(&asked_value(&*asked, &any, place)) {
             return false;
         }
+        at = place + 1;
     }
     true
 }
@@ -115,20 +124,31 @@ pub(crate) fn are_covered(upper: &[Small], asked: &Asked) -> bool
 pub(crate) fn joined(
     alloc: Global,
     b: &Bounds,
-    left: &[Small],
+    left: &Values,
     asked: &Asked,
-) -> Result<Vec<Small>, AllocError>
-    requires left { AreValues b.now left.now }
+) -> Result<Values, AllocError>
+    requires left { AreValues b.now (all_values left.now) }
     requires asked { AreValues b.now (values_asked asked.now) }
-    requires long { length left.now ≡ length (values_asked asked.now) }
+    requires long { length (all_values left.now) ≡ length (values_asked asked.now) }
     ensures { IfOk result
-        (λ values. values.items ≡ joined_regs b.now left.now (values_asked asked.now)) }
+        (λ values. all_values values
+        ≡ joined_regs b.now (all_values left.now) (values_asked asked.now)) }
 {
+    let _count = count_asked(asked);
     let any = Val::any();
-    let mut values = Vec::with_capacity(alloc, left.len())?;
-    for i in 0..left.len() {
-        let value = left[i].join_given(alloc, b, &asked_value(&*asked, &any, i))?;
-        values.push(value)?;
+    let known = left.known.as_slice();
+    let mut values = Values::with_room(alloc, known.len())?;
+    let mut at = 0;
+    for n in 0..known.len() {
+        let here = &known[n];
+        let anys = here.anys;
+        let place = at + anys as usize;
+        let value = here
+            .value
+            .join_given(alloc, b, &asked_value(&*asked, &any, place))?;
+        values.add_spaced(anys, value)?;
+        at = place + 1;
     }
+    values.add_anys(left.rest);
     Ok(values)
 }

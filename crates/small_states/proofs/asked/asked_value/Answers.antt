@@ -1,6 +1,7 @@
 use Rattle.std.proofs.Common.{arith}
 use Rattle.vd_transfer.proofs.ChangeLaws.{length-changed}
 use Rattle.depth_cert.proofs.ExitValues.{with_lower_length}
+use Rattle.small_states.specs.Wholes.{all_values}
 use Rattle.small_states.proofs.asked.asked_value.Goals as goal
 
 pub changed_value-requires-clause-place : goal.changed_value-requires-clause-place
@@ -11,4 +12,4 @@ changed_value-requires-clause-place c =
 pub value_after-requires-clause-place : goal.value_after-requires-clause-place
 value_after-requires-clause-place c =
     let h = rw c.in-After.is at c.requires.place in
-    omega (arith, h, with_lower_length c.in-After.exit.now.lower.items c.in-After.s.now.regs)
+    omega (arith, h, with_lower_length (all_values c.in-After.exit.now.lower) c.in-After.s.now.regs)

@@ -1,10 +1,11 @@
 use Rattle.std.proofs.Common.{sym, arith}
 use Rattle.vd_transfer.proofs.ChangeLaws.{length-changed}
 use Rattle.depth_cert.proofs.ExitValues.{with_lower_length}
+use Rattle.small_states.specs.Wholes.{all_values}
 use Rattle.small_states.proofs.asked.count_asked.Goals as goal
 
-pub returns-in-Changed : goal.returns-in-Changed
-returns-in-Changed c = rw c.in-Changed.is (sym (length-changed c.in-Changed.s.now c.in-Changed.field-1.now (omega arith)))
+pub returns-in-Changed-clause-long : goal.returns-in-Changed-clause-long
+returns-in-Changed-clause-long c = rw c.in-Changed.is (sym (length-changed c.in-Changed.s.now c.in-Changed.field-1.now (omega arith)))
 
-pub returns-in-After : goal.returns-in-After
-returns-in-After c = rw c.in-After.is (omega (arith, with_lower_length c.in-After.field-1.now.lower.items c.in-After.s.now.regs))
+pub returns-in-After-clause-long : goal.returns-in-After-clause-long
+returns-in-After-clause-long c = rw c.in-After.is (omega (arith, with_lower_length (all_values c.in-After.field-1.now.lower) c.in-After.s.now.regs))

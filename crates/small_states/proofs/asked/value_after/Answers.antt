@@ -3,10 +3,11 @@ use Rattle.std.proofs.lemmas.List.{get_or_default}
 use Rattle.value_domain.specs.declared.values.Val.{Val}
 use Rattle.value_domain.specs.Values.{any_val}
 use Rattle.depth_cert.proofs.ExitValues.{after-at, restored_at}
+use Rattle.small_states.specs.Wholes.{all_values}
 use Rattle.small_states.proofs.asked.value_after.Goals as goal
 
 pub returns : goal.returns
 returns c =
     c.restored.ensures
-    ∙ ap (λ (u : Val). restored_at c.args.i c.args.exit.now.lower.items u) (get_or_default c.args.s.now.regs c.args.i c.index-s-i.result any_val (omega arith))
-    ∙ sym (after-at c.args.exit.now.lower.items c.args.s.now.regs c.args.i (omega arith))
+    ∙ ap (λ (u : Val). restored_at c.args.i (all_values c.args.exit.now.lower) u) (get_or_default c.args.s.now.regs c.args.i c.index-s-i.result any_val (omega arith))
+    ∙ sym (after-at (all_values c.args.exit.now.lower) c.args.s.now.regs c.args.i (omega arith))

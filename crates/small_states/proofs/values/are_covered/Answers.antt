@@ -1,31 +1,96 @@
-use Rattle.std.proofs.Common.{◌≡◌, true, false, refl, arith, sym, ◌∙◌}
-use Rattle.value_domain.specs.Values.{any_val}
-use Rattle.value_domain.proofs.RegLaws.{read_at, below_more}
+use Rattle.std.proofs.Common.{◌≡◌, ◌∙◌, ◌+◌, ℕ, List, length, true, false, refl, subst, ap, sym, arith}
+use Rattle.std.proofs.lemmas.List.{take_all}
+use Rattle.value_domain.specs.Values.{IsWell}
 use Rattle.small_states.specs.Kept.{values_asked}
+use Rattle.small_states.specs.declared.sparse.SpacedValue.{SpacedValue}
+use Rattle.small_states.proofs.SparseLemmas.{covered_all, covered_here, covered_more, front, length-front, place_there, place_within}
 use Rattle.small_states.proofs.values.are_covered.Goals as goal
 
-pub covers_at-requires-clause-place : goal.covers_at-requires-clause-place
-covers_at-requires-clause-place c = omega (arith, c.requires.long)
-
-pub covers_at-requires-clause-upper : goal.covers_at-requires-clause-upper
-covers_at-requires-clause-upper c =
-    let f = read_at c.args.upper.now c.loop-i.i c.index-upper-i.result any_val (omega arith) c.index-upper-i.is in
-    rw f at (c.requires.upper c.loop-i.i (omega arith))
-
-pub returns-then-not-covers_at : goal.returns-then-not-covers_at
-returns-then-not-covers_at c =
-    let f = read_at c.args.upper.now c.loop-i.i c.index-upper-i.result any_val (omega arith) c.index-upper-i.is in (
-      (λ t. absurd (let g : false ≡ true = t in cc)),
-      (λ below.
-          let here = rw f at (below c.loop-i.i (omega (arith, c.requires.long))) in
-          sym c.if-not-covers_at.true ∙ c.covers_at.ensures.1 here),
+pub overflow_add-place : goal.overflow_add-place
+overflow_add-place c =
+    let v = c.as_slice-known.ensures.value in
+    omega (
+      arith,
+      c.count_asked-count.ensures.long,
+      c.count_asked-count.ensures.few,
+      place_within c.args.upper.now.known.items c.args.upper.now.rest (values_asked c.args.asked.now) c.requires.long c.requires.asked c.loop-n.n c.index-known-n.result
+          (rw v at c.loop-n-test.true) (rw v at c.index-known-n.is) c.loop-n.at c.loop-n.invariant.0,
     )
 
-pub loop-i-preserved : goal.loop-i-preserved
-loop-i-preserved c =
-    let f = read_at c.args.upper.now c.loop-i.i c.index-upper-i.result any_val (omega arith) c.index-upper-i.is in
-    below_more (values_asked c.args.asked.now) c.args.upper.now c.loop-i.i c.loop-i.invariant
-    (rw f (c.covers_at.ensures.0 c.if-not-covers_at.false))
+pub overflow_add-at : goal.overflow_add-at
+overflow_add-at c =
+    let v = c.as_slice-known.ensures.value in
+    omega (
+      arith,
+      c.count_asked-count.ensures.long,
+      c.count_asked-count.ensures.few,
+      place_within c.args.upper.now.known.items c.args.upper.now.rest (values_asked c.args.asked.now) c.requires.long c.requires.asked c.loop-n.n c.index-known-n.result
+          (rw v at c.loop-n-test.true) (rw v at c.index-known-n.is) c.loop-n.at c.loop-n.invariant.0,
+    )
+
+pub asked_value-requires-clause-place : goal.asked_value-requires-clause-place
+asked_value-requires-clause-place c =
+    let v = c.as_slice-known.ensures.value in
+    place_within c.args.upper.now.known.items c.args.upper.now.rest (values_asked c.args.asked.now) c.requires.long c.requires.asked c.loop-n.n c.index-known-n.result
+    (rw v at c.loop-n-test.true) (rw v at c.index-known-n.is) c.loop-n.at c.loop-n.invariant.0
+
+pub covers_given-requires-clause-own : goal.covers_given-requires-clause-own
+covers_given-requires-clause-own c =
+    let v = c.as_slice-known.ensures.value in
+    let known = c.args.upper.now.known.items in
+    let rest = c.args.upper.now.rest in
+    let ws = values_asked c.args.asked.now in
+    let here = c.index-known-n.result in
+    let lt = rw v at c.loop-n-test.true in
+    let is = rw v at c.index-known-n.is in
+    let within = place_within known rest ws c.requires.long c.requires.asked c.loop-n.n here lt is c.loop-n.at c.loop-n.invariant.0 in
+    subst IsWell (place_there known rest ws c.requires.long c.requires.asked c.loop-n.n here lt is c.loop-n.at c.loop-n.invariant.0)
+    (c.requires.upper (c.loop-n.at + here.anys) (omega (arith, c.requires.long, within)))
+
+pub covers_given-requires-clause-value : goal.covers_given-requires-clause-value
+covers_given-requires-clause-value c =
+    let v = c.as_slice-known.ensures.value in
+    rw c.asked_value.ensures
+    (c.requires.asked (c.loop-n.at + c.index-known-n.result.anys)
+    (place_within c.args.upper.now.known.items c.args.upper.now.rest (values_asked c.args.asked.now) c.requires.long c.requires.asked c.loop-n.n c.index-known-n.result
+    (rw v at c.loop-n-test.true) (rw v at c.index-known-n.is) c.loop-n.at c.loop-n.invariant.0))
+
+pub returns-then-not-covers_given : goal.returns-then-not-covers_given
+returns-then-not-covers_given c =
+    let v = c.as_slice-known.ensures.value in
+    let known = c.args.upper.now.known.items in
+    let rest = c.args.upper.now.rest in
+    let ws = values_asked c.args.asked.now in
+    let covers = rw c.asked_value.ensures at c.covers_given.ensures in (
+      (λ t. absurd (let g : false ≡ true = t in cc)),
+      (λ below.
+          sym c.if-not-covers_given.true
+          ∙ covers.1
+          (covered_here known rest ws c.requires.long c.requires.asked c.loop-n.n c.index-known-n.result (rw v at c.loop-n-test.true) (rw v at c.index-known-n.is) c.loop-n.at
+          c.loop-n.invariant.0 below)),
+    )
+
+pub loop-n-preserved : goal.loop-n-preserved
+loop-n-preserved c =
+    let v = c.as_slice-known.ensures.value in
+    let known = c.args.upper.now.known.items in
+    let rest = c.args.upper.now.rest in
+    let ws = values_asked c.args.asked.now in
+    let here = c.index-known-n.result in
+    let lt = rw v at c.loop-n-test.true in
+    let is = rw v at c.index-known-n.is in
+    let covers = rw c.asked_value.ensures at c.covers_given.ensures in (
+      omega (arith, c.loop-n.invariant.0, length-front known rest c.loop-n.n here lt is),
+      covered_more known rest ws c.requires.long c.requires.asked c.loop-n.n here lt is c.loop-n.at c.loop-n.invariant.0 c.loop-n.invariant.1
+          (covers.0 c.if-not-covers_given.false),
+    )
 
 pub returns : goal.returns
-returns c = ((λ t r h. c.loop-i.invariant r (omega (arith, c.requires.long))), (λ below. refl))
+returns c =
+    let v = c.as_slice-known.ensures.value in
+    let known = c.args.upper.now.known.items in
+    let ws = values_asked c.args.asked.now in
+    let whole = ap (λ (l : List SpacedValue). length (front l)) (take_all c.loop-n.n known (rw v at c.loop-n-test.false)) in (
+      (λ t. covered_all known c.args.upper.now.rest ws c.requires.long c.requires.asked (λ r h. c.loop-n.invariant.1 r (omega (arith, c.loop-n.invariant.0, whole, h)))),
+      (λ below. refl),
+    )

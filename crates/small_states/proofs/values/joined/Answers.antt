@@ -1,26 +1,138 @@
-use Rattle.std.proofs.Common.{◌∙◌, ◌++◌, ◌∷◌, [], List, take, ap, sym, arith}
-use Rattle.std.proofs.lemmas.List.{get_or_default, take_all, take_more}
+use Rattle.std.proofs.Common.{◌≡◌, ◌∙◌, ◌+◌, ◌++◌, ◌∷◌, [], ℕ, List, length, replicate, take, subst, ap, sym, arith}
+use Rattle.std.proofs.lemmas.List.{take_all}
 use Rattle.value_domain.specs.declared.values.Val.{Val}
-use Rattle.value_domain.specs.Values.{any_val}
-use Rattle.value_domain.specs.State.{joined_regs}
-use Rattle.value_domain.proofs.RegLaws.{get_or-joined, length-joined}
-use Rattle.small_states.specs.Kept.{given_of, values_asked}
+use Rattle.value_domain.specs.State.{join_of, joined_regs}
+use Rattle.value_domain.specs.Values.{IsValue, any_val}
+use Rattle.small_states.specs.Kept.{values_asked}
+use Rattle.small_states.specs.Wholes.{all_values}
+use Rattle.small_states.specs.declared.sparse.SpacedValue.{SpacedValue}
+use Rattle.small_states.proofs.SparseLemmas.{all_few, front, is_within, joined_few, joined_more, joined_rest, known_place, length-front}
 use Rattle.small_states.proofs.values.joined.Goals as goal
 
-pub loop-i-preserved : goal.loop-i-preserved
-loop-i-preserved c =
+pub overflow_add-place : goal.overflow_add-place
+overflow_add-place c =
+    let v = c.as_slice-known.ensures.value in
+    omega (
+      arith,
+      c.count_asked-count.ensures.long,
+      c.count_asked-count.ensures.few,
+      c.requires.long,
+      c.loop-n.invariant.0,
+      ap (λ (s : SpacedValue). s.anys) c.index-known-n.is,
+      is_within c.args.left.now.known.items c.args.left.now.rest c.loop-n.n c.index-known-n.result (rw v at c.loop-n-test.true) (rw v at c.index-known-n.is),
+    )
+
+pub overflow_add-at : goal.overflow_add-at
+overflow_add-at c =
+    let v = c.as_slice-known.ensures.value in
+    omega (
+      arith,
+      c.count_asked-count.ensures.long,
+      c.count_asked-count.ensures.few,
+      c.requires.long,
+      c.loop-n.invariant.0,
+      ap (λ (s : SpacedValue). s.anys) c.index-known-n.is,
+      is_within c.args.left.now.known.items c.args.left.now.rest c.loop-n.n c.index-known-n.result (rw v at c.loop-n-test.true) (rw v at c.index-known-n.is),
+    )
+
+pub asked_value-requires-clause-place : goal.asked_value-requires-clause-place
+asked_value-requires-clause-place c =
+    let v = c.as_slice-known.ensures.value in
+    omega (
+      arith,
+      c.requires.long,
+      c.loop-n.invariant.0,
+      ap (λ (s : SpacedValue). s.anys) c.index-known-n.is,
+      is_within c.args.left.now.known.items c.args.left.now.rest c.loop-n.n c.index-known-n.result (rw v at c.loop-n-test.true) (rw v at c.index-known-n.is),
+    )
+
+pub join_given-requires-clause-own : goal.join_given-requires-clause-own
+join_given-requires-clause-own c =
+    let v = c.as_slice-known.ensures.value in
+    let known = c.args.left.now.known.items in
+    let rest = c.args.left.now.rest in
+    let here = c.index-known-n.result in
+    let lt = rw v at c.loop-n-test.true in
+    let is = rw v at c.index-known-n.is in
+    subst (λ (u : Val). IsValue c.args.b.now u) (known_place known rest c.loop-n.n here lt is c.loop-n.at c.loop-n.invariant.0)
+    (c.requires.left (c.loop-n.at + here.anys) (omega (arith, c.loop-n.invariant.0, is_within known rest c.loop-n.n here lt is)))
+
+pub join_given-requires-clause-value : goal.join_given-requires-clause-value
+join_given-requires-clause-value c =
+    let v = c.as_slice-known.ensures.value in
+    let known = c.args.left.now.known.items in
+    let here = c.index-known-n.result in
+    rw c.asked_value.ensures
+    (c.requires.asked (c.loop-n.at + here.anys)
+    (omega (
+      arith,
+      c.requires.long,
+      c.loop-n.invariant.0,
+      ap (λ (s : SpacedValue). s.anys) c.index-known-n.is,
+      is_within known c.args.left.now.rest c.loop-n.n here (rw v at c.loop-n-test.true) (rw v at c.index-known-n.is),
+    )))
+
+pub add_spaced-requires : goal.add_spaced-requires
+add_spaced-requires c =
+    let v = c.as_slice-known.ensures.value in
+    let known = c.args.left.now.known.items in
+    let within = is_within known c.args.left.now.rest c.loop-n.n c.index-known-n.result (rw v at c.loop-n-test.true) (rw v at c.index-known-n.is) in
+    omega (
+      arith,
+      c.count_asked-count.ensures.long,
+      c.count_asked-count.ensures.few,
+      c.requires.long,
+      c.loop-n.invariant.0,
+      ap (λ (s : SpacedValue). s.anys) c.index-known-n.is,
+      within,
+      joined_few c.args.b.now known c.args.left.now.rest (values_asked c.args.asked.now) c.requires.long (all_values c.loop-n.values) c.loop-n.at (omega (arith, c.loop-n.invariant.0, within)) c.loop-n.invariant.1,
+    )
+
+pub loop-n-preserved : goal.loop-n-preserved
+loop-n-preserved c =
+    let v = c.as_slice-known.ensures.value in
+    let b = c.args.b.now in
+    let known = c.args.left.now.known.items in
+    let rest = c.args.left.now.rest in
     let ws = values_asked c.args.asked.now in
-    let w = given_of c.asked_value.result in
-    let all = joined_regs c.args.b.now c.args.left.now ws in
-    let at = c.asked_value.ensures ∙ get_or_default ws c.loop-i.i any_val w (omega (arith, c.requires.long)) in
-    let here = get_or-joined c.args.b.now c.args.left.now ws c.loop-i.i c.index-left-i.result w any_val (omega arith) (omega (arith, c.requires.long)) c.index-left-i.is at in
-    c.in_ok-push.ensures.items
-    ∙ ap (λ (l : List Val). l ++ c.in_ok-value.value ∷ []) c.loop-i.invariant
-    ∙ ap (λ (u : Val). take c.loop-i.i all ++ u ∷ []) (c.in_ok-value.ensures ∙ sym here)
-    ∙ sym (take_more all c.loop-i.i any_val (omega (arith, length-joined c.args.b.now c.args.left.now (values_asked c.args.asked.now) c.requires.long)))
+    let here = c.index-known-n.result in
+    let lt = rw v at c.loop-n-test.true in
+    let is = rw v at c.index-known-n.is in
+    let joined = joined_regs b (all_values c.args.left.now) ws in (
+      omega (arith, c.loop-n.invariant.0, ap (λ (s : SpacedValue). s.anys) c.index-known-n.is, length-front known rest c.loop-n.n here lt is),
+      c.in_ok-add_spaced.ensures
+          ∙ ap (λ (l : List Val). (l ++ replicate here.anys any_val) ++ c.in_ok-value.value ∷ []) c.loop-n.invariant.1
+          ∙ ap (λ (u : Val). (take c.loop-n.at joined ++ replicate here.anys any_val) ++ u ∷ [])
+          (c.in_ok-value.ensures ∙ ap (λ (u : Val). join_of b here.value u) c.asked_value.ensures)
+          ∙ sym (joined_more b known rest ws c.requires.long c.requires.left c.requires.asked c.loop-n.n here lt is c.loop-n.at c.loop-n.invariant.0),
+    )
+
+pub add_anys-requires : goal.add_anys-requires
+add_anys-requires c =
+    let v = c.as_slice-known.ensures.value in
+    let known = c.args.left.now.known.items in
+    let ws = values_asked c.args.asked.now in
+    let whole = ap (λ (l : List SpacedValue). length (front l)) (take_all c.loop-n.n known (rw v at c.loop-n-test.false)) in
+    omega (
+      arith,
+      c.count_asked-count.ensures.long,
+      c.count_asked-count.ensures.few,
+      c.requires.long,
+      c.loop-n.invariant.0,
+      whole,
+      all_few known c.args.left.now.rest,
+      joined_few c.args.b.now known c.args.left.now.rest ws c.requires.long (all_values c.loop-n.values) c.loop-n.at (omega (arith, c.loop-n.invariant.0, whole, all_few known c.args.left.now.rest)) c.loop-n.invariant.1,
+    )
 
 pub returns : goal.returns
 returns c =
-    c.loop-i.invariant
-    ∙ take_all c.loop-i.i (joined_regs c.args.b.now c.args.left.now (values_asked c.args.asked.now))
-    (omega (arith, length-joined c.args.b.now c.args.left.now (values_asked c.args.asked.now) c.requires.long))
+    let v = c.as_slice-known.ensures.value in
+    let b = c.args.b.now in
+    let known = c.args.left.now.known.items in
+    let rest = c.args.left.now.rest in
+    let ws = values_asked c.args.asked.now in
+    let joined = joined_regs b (all_values c.args.left.now) ws in
+    let whole = c.loop-n.invariant.0 ∙ ap (λ (l : List SpacedValue). length (front l)) (take_all c.loop-n.n known (rw v at c.loop-n-test.false)) in
+    c.add_anys.ensures
+    ∙ ap (λ (l : List Val). l ++ replicate rest any_val) (c.loop-n.invariant.1 ∙ ap (λ (m : ℕ). take m joined) whole)
+    ∙ joined_rest b known rest ws c.requires.long c.requires.left c.requires.asked

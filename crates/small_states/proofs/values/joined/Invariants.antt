@@ -1,7 +1,11 @@
-use Rattle.std.proofs.Common.{◌≡◌, take}
+use Rattle.std.proofs.Common.{◌≡◌, length, take}
 use Rattle.value_domain.specs.State.{joined_regs}
 use Rattle.small_states.specs.Kept.{values_asked}
+use Rattle.small_states.specs.Wholes.{all_values}
+use Rattle.small_states.proofs.SparseLemmas.{front}
 use Rattle.small_states.proofs.values.joined.Given as goal
 
-abbrev pub invariant-loop-i : goal.invariant-loop-i
-invariant-loop-i l = l.values.items ≡ take l.i (joined_regs l.b l.left (values_asked l.asked))
+abbrev pub invariant-loop-n : goal.invariant-loop-n
+invariant-loop-n l =
+    (l.at ≡ length (front (take l.n l.left.known.items)))
+    × (all_values l.values ≡ take l.at (joined_regs l.b (all_values l.left) (values_asked l.asked)))

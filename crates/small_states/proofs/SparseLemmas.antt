@@ -1,0 +1,261 @@
+-- Values of which only those take room of which something is known.
+use Rattle.std.proofs.Common.{◌≡◌, ◌∙◌, ℕ, zero, suc, ◌+◌, ◌-◌, ◌<◌, ◌≤◌, inl, inr, List, [], ◌∷◌, ◌++◌, length, take, drop, get_or, replicate, set, All, refl, subst, sym, ap, arith}
+use Rattle.std.specs.List.{flat_map}
+use Rattle.std.proofs.lemmas.Bool.{cases_lt}
+use Rattle.std.proofs.lemmas.List.Concat.{flat_map-append}
+use Rattle.std.proofs.lemmas.List.{append-nil, append_assoc, drop_more, get_or-append-add, get_or-append_right, get_or-replicate, get_or_append_left, get_or_at, get_or_past, get_or_default, length-append, length-replicate, length-take-le, length_push, replicate-append-replicate, replicate_more, set_split, take-append-drop, take_all, take_more, take_rest}
+use Rattle.value_domain.specs.declared.values.Val.{Val}
+use Rattle.value_domain.specs.Limits.{Limits}
+use Rattle.value_domain.specs.State.{AreBelow, AreValues, AreWell, join_of, joined_regs}
+use Rattle.value_domain.specs.Values.{IsBelow, IsValue, IsWell, any_val}
+use Rattle.value_domain.proofs.RangeLaws.{below_any}
+use Rattle.value_domain.proofs.RegLaws.{get_or-joined, length-joined}
+use Rattle.depth_cert.specs.Spelling.{bytes_of_value}
+use Rattle.small_states.specs.declared.sparse.SpacedValue.{SpacedValue}
+use Rattle.small_states.specs.Wholes.{spaced_values}
+use Rattle.small_states.proofs.SameValues.{join_all}
+
+-- the values up to the last known one
+abbrev pub front : List SpacedValue → List Val
+front known = flat_map spaced_values known
+
+-- all values
+abbrev pub all : List SpacedValue → ℕ → List Val
+all known rest = front known ++ replicate rest any_val
+
+pub all_few : (known : List SpacedValue) (rest : ℕ) → length (front known) + rest ≡ length (all known rest)
+all_few known rest = omega (arith, length-append (front known) (replicate rest any_val), length-replicate rest any_val)
+
+pub more_anys : (known : List SpacedValue) (rest count : ℕ) → all known (rest + count) ≡ all known rest ++ replicate count any_val
+more_anys known rest count =
+    ap (λ (l : List Val). front known ++ l) (sym (replicate-append-replicate rest count any_val))
+    ∙ sym (append_assoc (front known) (replicate rest any_val) (replicate count any_val))
+
+-- ---- a value that is known
+module _ (known : List SpacedValue) (rest n : ℕ) (here : SpacedValue) (lt : n < length known) (is : here ≡ get_or known n here) where
+  abbrev before : List Val
+  before = front (take n known)
+
+  abbrev after : List Val
+  after = front (drop (n + 1) known) ++ replicate rest any_val
+
+  abbrev anys : List Val
+  anys = replicate here.anys any_val
+
+  split : known ≡ take n known ++ here ∷ drop (n + 1) known
+  split =
+      sym (take-append-drop n known)
+      ∙ ap (λ (l : List SpacedValue). take n known ++ l) (drop_more known n here lt ∙ ap (λ (s : SpacedValue). s ∷ drop (n + 1) known) (sym is))
+
+  all-split : all known rest ≡ before ++ (anys ++ here.value ∷ after)
+  all-split =
+      ap (λ (l : List SpacedValue). all l rest) split
+      ∙ ap (λ (l : List Val). l ++ replicate rest any_val) (flat_map-append spaced_values (take n known) (here ∷ drop (n + 1) known))
+      ∙ append_assoc before (spaced_values here ++ front (drop (n + 1) known)) (replicate rest any_val)
+      ∙ ap (λ (l : List Val). before ++ l)
+      (append_assoc (spaced_values here) (front (drop (n + 1) known)) (replicate rest any_val) ∙ append_assoc anys (here.value ∷ []) after)
+
+  pub front_more : front (take (n + 1) known) ≡ before ++ (anys ++ here.value ∷ [])
+  front_more =
+      ap (λ (l : List SpacedValue). front l) (take_more known n here lt ∙ ap (λ (s : SpacedValue). take n known ++ s ∷ []) (sym is))
+      ∙ flat_map-append spaced_values (take n known) (here ∷ [])
+      ∙ ap (λ (l : List Val). before ++ l) (append-nil (spaced_values here))
+
+  pub length-front : length (front (take (n + 1) known)) ≡ length (front (take n known)) + here.anys + 1
+  length-front =
+      ap (λ (l : List Val). length l) front_more ∙ omega (arith, length-append before (anys ++ here.value ∷ []), length_push anys here.value, length-replicate here.anys any_val)
+
+  pub is_within : length (front (take n known)) + here.anys < length (all known rest)
+  is_within =
+      omega (
+        arith,
+        ap (λ (l : List Val). length l) all-split,
+        length-append before (anys ++ here.value ∷ after),
+        length-append anys (here.value ∷ after),
+        length-replicate here.anys any_val,
+      )
+
+  pub value_there : get_or (all known rest) (length (front (take n known)) + here.anys) any_val ≡ here.value
+  value_there =
+      ap (λ (l : List Val). get_or l (length before + here.anys) any_val) all-split
+      ∙ get_or-append-add before (anys ++ here.value ∷ after) here.anys any_val
+      ∙ get_or_at anys here.value after any_val here.anys (length-replicate here.anys any_val)
+
+  pub any_there : (r : ℕ) → length (front (take n known)) ≤ r → r < length (front (take n known)) + here.anys → get_or (all known rest) r any_val ≡ any_val
+  any_there r ge lt2 =
+      ap (λ (l : List Val). get_or l r any_val) all-split
+      ∙ get_or-append_right before (anys ++ here.value ∷ after) (length before) r any_val refl ge
+      ∙ get_or_append_left anys (here.value ∷ after) any_val (r - length before) (omega (arith, length-replicate here.anys any_val))
+      ∙ get_or-replicate here.anys (r - length before) any_val any_val (omega arith)
+
+-- behind the last known value
+replicate_any : (rest i : ℕ) → get_or (replicate rest any_val) i any_val ≡ any_val
+replicate_any rest i =
+    elim (cases_lt i rest) [
+      | inl lt ↦ get_or-replicate rest i any_val any_val lt
+      | inr past ↦ get_or_past (replicate rest any_val) i any_val (omega (arith, length-replicate rest any_val))
+    ]
+
+pub any_behind : (known : List SpacedValue) (rest r : ℕ) → length (front known) ≤ r → get_or (all known rest) r any_val ≡ any_val
+any_behind known rest r ge =
+    get_or-append_right (front known) (replicate rest any_val) (length (front known)) r any_val refl ge ∙ replicate_any rest (r - length (front known))
+
+-- a known value, where the number of those before it and of their places is at hand
+pub known_place : (known : List SpacedValue) (rest n : ℕ) (here : SpacedValue) → n < length known → here ≡ get_or known n here → (at : ℕ) → at ≡ length (front (take n known)) → get_or (all known rest) (at + here.anys) any_val ≡ here.value
+known_place known rest n here lt is at up_to = ap (λ (m : ℕ). get_or (all known rest) (m + here.anys) any_val) up_to ∙ value_there known rest n here lt is
+
+-- ---- comparing
+module _ (known : List SpacedValue) (rest : ℕ) (ws : List Val) (long : length (all known rest) ≡ length ws) (well : AreWell ws) where
+  -- below up to the last known value, so everywhere
+  pub covered_all : ((r : ℕ) → r < length (front known) → IsBelow (get_or ws r any_val) (get_or (all known rest) r any_val)) → AreBelow ws (all known rest)
+  covered_all so_far r lt =
+      elim (cases_lt r (length (front known))) [
+        | inl h ↦ so_far r h
+        | inr ge ↦ subst (λ (v : Val). IsBelow (get_or ws r any_val) v) (sym (any_behind known rest r ge)) (below_any (get_or ws r any_val) (well r lt))
+      ]
+
+  module _ (n : ℕ) (here : SpacedValue) (lt : n < length known) (is : here ≡ get_or known n here) (at : ℕ) (up_to : at ≡ length (front (take n known))) where
+    pub place_there : get_or (all known rest) (at + here.anys) any_val ≡ here.value
+    place_there = known_place known rest n here lt is at up_to
+
+    pub place_within : at + here.anys < length ws
+    place_within = omega (arith, is_within known rest n here lt is)
+
+    pub covered_here : AreBelow ws (all known rest) → IsBelow (get_or ws (at + here.anys) any_val) here.value
+    covered_here below = subst (λ (v : Val). IsBelow (get_or ws (at + here.anys) any_val) v) place_there (below (at + here.anys) place_within)
+
+    pub covered_more : ((r : ℕ) → r < at → IsBelow (get_or ws r any_val) (get_or (all known rest) r any_val)) → IsBelow (get_or ws (at + here.anys) any_val) here.value
+        → (r : ℕ) → r < at + here.anys + 1 → IsBelow (get_or ws r any_val) (get_or (all known rest) r any_val)
+    covered_more so_far covers r h =
+        elim (cases_lt r at) [
+          | inl lt2 ↦ so_far r lt2
+          | inr ge ↦ elim (cases_lt r (at + here.anys)) [
+            | inl lt2 ↦
+                subst (λ (v : Val). IsBelow (get_or ws r any_val) v) (sym (any_there known rest n here lt is r (omega arith) (omega arith)))
+                (below_any (get_or ws r any_val) (well r (omega (arith, place_within))))
+            | inr ge2 ↦
+                let e : at + here.anys ≡ r = omega arith in
+                subst (λ (m : ℕ). IsBelow (get_or ws m any_val) (get_or (all known rest) m any_val)) e
+                (subst (λ (v : Val). IsBelow (get_or ws (at + here.anys) any_val) v) (sym place_there) covers)
+          ]
+        ]
+
+-- ---- joining
+-- a run of values of which nothing is known
+pub take_anys : (vs : List Val) (at k : ℕ) → at + k ≤ length vs → ((r : ℕ) → at ≤ r → r < at + k → get_or vs r any_val ≡ any_val) → take (at + k) vs ≡ take at vs ++ replicate k any_val
+take_anys vs at zero h none = let e : at + zero ≡ at = omega arith in ap (λ (m : ℕ). take m vs) e ∙ sym (append-nil (take at vs))
+take_anys vs at (suc k) h none =
+    let e : at + suc k ≡ at + k + 1 = omega arith in
+    let f : k + 1 ≡ suc k = omega arith in
+    ap (λ (m : ℕ). take m vs) e
+    ∙ take_more vs (at + k) any_val (omega arith)
+    ∙ ap (λ (v : Val). take (at + k) vs ++ v ∷ []) (none (at + k) (omega arith) (omega arith))
+    ∙ ap (λ (l : List Val). l ++ any_val ∷ []) (take_anys vs at k (omega arith) (λ r ge lt. none r ge (omega arith)))
+    ∙ append_assoc (take at vs) (replicate k any_val) (any_val ∷ [])
+    ∙ ap (λ (l : List Val). take at vs ++ l) (replicate_more k any_val ∙ ap (λ (m : ℕ). replicate m any_val) f)
+
+module _ (b : Limits) (known : List SpacedValue) (rest : ℕ) (ws : List Val) (long : length (all known rest) ≡ length ws) (left : AreValues b (all known rest)) (right : AreValues b ws) where
+  abbrev joins : List Val
+  joins = joined_regs b (all known rest) ws
+
+  length-joins : length joins ≡ length (all known rest)
+  length-joins = length-joined b (all known rest) ws long
+
+  join_at : (r : ℕ) (v : Val) → r < length (all known rest) → get_or (all known rest) r any_val ≡ v → get_or joins r any_val ≡ join_of b v (get_or ws r any_val)
+  join_at r v lt is =
+      get_or-joined b (all known rest) ws r (get_or (all known rest) r any_val) (get_or ws r any_val) any_val lt (omega (arith, long)) (get_or_default (all known rest) r any_val (get_or (all known rest) r any_val) lt)
+      (get_or_default ws r any_val (get_or ws r any_val) (omega (arith, long)))
+      ∙ ap (λ (u : Val). join_of b u (get_or ws r any_val)) is
+
+  -- nothing is known of the join either
+  join_any : (r : ℕ) → r < length (all known rest) → get_or (all known rest) r any_val ≡ any_val → get_or joins r any_val ≡ any_val
+  join_any r lt is =
+      join_at r any_val lt is
+      ∙ join_all b any_val (get_or ws r any_val) refl (subst (λ (v : Val). IsValue b v) is (left r lt)) (right r (omega (arith, long))).well
+
+  joined_all : length (front known) + rest ≡ length joins
+  joined_all = omega (arith, length-joins, all_few known rest)
+
+  pub joined_rest : take (length (front known)) joins ++ replicate rest any_val ≡ joins
+  joined_rest =
+      sym (take_anys joins (length (front known)) rest (omega (arith, joined_all)) (λ r ge lt. join_any r (omega (arith, joined_all, length-joins)) (any_behind known rest r ge)))
+      ∙ take_all (length (front known) + rest) joins (omega (arith, joined_all))
+
+  module _ (n : ℕ) (here : SpacedValue) (lt : n < length known) (is : here ≡ get_or known n here) (at : ℕ) (up_to : at ≡ length (front (take n known))) where
+    within : at + here.anys < length (all known rest)
+    within = omega (arith, is_within known rest n here lt is)
+
+    pub joined_more : take (at + here.anys + 1) joins ≡ (take at joins ++ replicate here.anys any_val) ++ join_of b here.value (get_or ws (at + here.anys) any_val) ∷ []
+    joined_more =
+        take_more joins (at + here.anys) any_val (omega (arith, within, length-joins))
+        ∙ ap (λ (v : Val). take (at + here.anys) joins ++ v ∷ [])
+        (join_at (at + here.anys) here.value within (known_place known rest n here lt is at up_to))
+        ∙ ap (λ (l : List Val). l ++ join_of b here.value (get_or ws (at + here.anys) any_val) ∷ [])
+        (take_anys joins at here.anys (omega (arith, within, length-joins))
+        (λ r ge lt2. join_any r (omega (arith, within)) (any_there known rest n here lt is r (omega arith) (omega arith))))
+
+-- what is joined so far has as many values as places were passed
+pub joined_few : (b : Limits) (known : List SpacedValue) (rest : ℕ) (ws : List Val) → length (all known rest) ≡ length ws → (vs : List Val) (at : ℕ) → at ≤ length (all known rest)
+    → vs ≡ take at (joined_regs b (all known rest) ws) → length vs ≡ at
+joined_few b known rest ws long vs at h e =
+    ap (λ (l : List Val). length l) e ∙ length-take-le at (joined_regs b (all known rest) ws) (omega (arith, length-joined b (all known rest) ws long))
+
+-- ---- spelling
+pub bytes_of_anys : (n : ℕ) → flat_map bytes_of_value (replicate n any_val) ≡ replicate n 0
+unfolding bytes_of_value
+bytes_of_anys zero = refl
+bytes_of_anys (suc n) = ap (λ (l : List ℕ). 0 ∷ l) (bytes_of_anys n)
+
+-- ---- a value put between others, of which parts are added one after another
+pub put_between : (old vs : List Val) (at : ℕ) (v : Val) → at < length vs → ((old ++ take at vs) ++ v ∷ []) ++ take (length vs - (at + 1)) (drop (at + 1) vs) ≡ old ++ set vs at v
+put_between old vs at v lt =
+    let f : suc at ≡ at + 1 = omega arith in
+    ap (λ (l : List Val). ((old ++ take at vs) ++ v ∷ []) ++ l) (take_rest vs (at + 1))
+    ∙ append_assoc (old ++ take at vs) (v ∷ []) (drop (at + 1) vs)
+    ∙ append_assoc old (take at vs) (v ∷ drop (at + 1) vs)
+    ∙ ap (λ (l : List Val). old ++ l) (ap (λ (m : ℕ). take at vs ++ v ∷ drop m vs) (sym f) ∙ sym (set_split vs at v lt))
+
+-- ---- a place that is looked for
+module _ (known : List SpacedValue) (rest n : ℕ) (here : SpacedValue) (lt : n < length known) (is : here ≡ get_or known n here) (i left : ℕ) (up_to : i ≡ length (front (take n known)) + left) where
+  pub found_any : left < here.anys → get_or (all known rest) i any_val ≡ any_val
+  found_any h = any_there known rest n here lt is i (omega (arith, up_to)) (omega (arith, up_to))
+
+  pub found_value : here.anys ≤ left → left - here.anys ≡ 0 → here.value ≡ get_or (all known rest) i any_val
+  found_value ge h =
+      let e : length (front (take n known)) + here.anys ≡ i = omega (arith, up_to) in
+      sym (value_there known rest n here lt is) ∙ ap (λ (m : ℕ). get_or (all known rest) m any_val) e
+
+  pub found_further : here.anys ≤ left → (left - here.anys ≡ 0 → ⊥) → i ≡ length (front (take (n + 1) known)) + (left - here.anys - 1)
+  found_further ge some =
+      let further : here.anys < left = elim (cases_lt here.anys left) [ inl lt2 ↦ lt2 | inr le ↦ absurd (some (omega arith)) ] in
+      omega (arith, up_to, further, length-front known rest n here lt is)
+
+-- ---- a known value that is written or spelled behind those before it
+module _ (known : List SpacedValue) (rest n : ℕ) (here : SpacedValue) (lt : n < length known) (is : here ≡ get_or known n here) where
+  pub spelled_more : (old : List ℕ)
+      → ((old ++ flat_map bytes_of_value (front (take n known))) ++ replicate here.anys 0) ++ bytes_of_value here.value ≡ old ++ flat_map bytes_of_value (front (take (n + 1) known))
+  spelled_more old =
+      let so_far = flat_map bytes_of_value (front (take n known)) in
+      let value = bytes_of_value here.value in
+      append_assoc (old ++ so_far) (replicate here.anys 0) value
+      ∙ append_assoc old so_far (replicate here.anys 0 ++ value)
+      ∙ ap (λ (l : List ℕ). old ++ l)
+      (ap (λ (l : List ℕ). so_far ++ (l ++ value)) (sym (bytes_of_anys here.anys))
+      ∙ ap (λ (l : List ℕ). so_far ++ (flat_map bytes_of_value (replicate here.anys any_val) ++ l)) (sym (append-nil value))
+      ∙ ap (λ (l : List ℕ). so_far ++ l) (sym (flat_map-append bytes_of_value (replicate here.anys any_val) (here.value ∷ [])))
+      ∙ sym (flat_map-append bytes_of_value (front (take n known)) (replicate here.anys any_val ++ here.value ∷ []))
+      ∙ ap (λ (l : List Val). flat_map bytes_of_value l) (sym (front_more known rest n here lt is)))
+
+  pub written_more : (front (take n known) ++ replicate here.anys any_val) ++ here.value ∷ [] ≡ front (take (n + 1) known)
+  written_more = append_assoc (front (take n known)) (replicate here.anys any_val) (here.value ∷ []) ∙ sym (front_more known rest n here lt is)
+
+pub spelled_all : (known : List SpacedValue) (rest : ℕ) (old : List ℕ) → (old ++ flat_map bytes_of_value (front known)) ++ replicate rest 0 ≡ old ++ flat_map bytes_of_value (all known rest)
+spelled_all known rest old =
+    append_assoc old (flat_map bytes_of_value (front known)) (replicate rest 0)
+    ∙ ap (λ (l : List ℕ). old ++ l)
+    (ap (λ (l : List ℕ). flat_map bytes_of_value (front known) ++ l) (sym (bytes_of_anys rest)) ∙ sym (flat_map-append bytes_of_value (front known) (replicate rest any_val)))
+
+-- a known value is one of all
+pub known_well : (known : List SpacedValue) (rest n : ℕ) (here : SpacedValue) → n < length known → here ≡ get_or known n here → All IsWell (all known rest) → IsWell here.value
+known_well known rest n here lt is well =
+    subst IsWell (value_there known rest n here lt is) (well (length (front (take n known)) + here.anys) any_val (is_within known rest n here lt is))

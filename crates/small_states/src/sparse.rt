@@ -1,0 +1,180 @@
+// Values one after another, of which only those take room of which something is known.
+ghost use Rattle.std.specs.Prelude.{◌≡◌, ◌+◌, ◌-◌, ◌^◌, ◌<◌, ◌≤◌, ◌++◌, ◌∷◌, [], IfOk, OnOk, length, replicate, take, slice_index_or};
+ghost use Rattle.value_domain.specs.Values.{any_val};
+ghost use Rattle.small_states.specs.Kept.{given_of};
+ghost use Rattle.small_states.specs.Wholes.{all_values};
+
+use crate::asked::Given;
+use crate::small::{Small, holds_all, write_any};
+use std::alloc::{AllocError, Global};
+use value_domain::Val;
+
+/// A value behind so many of which nothing is known.
+#[derive(Drop)]
+pub struct SpacedValue {
+    pub(crate) anys: u32,
+    pub(crate) value: Small,
+}
+
+/// Values in their order: those of which something is known, and how many stand behind the last of them.
+#[derive(Drop)]
+pub struct Values {
+    pub(crate) known: Vec<SpacedValue>,
+    pub(crate) rest: u32,
+}
+
+/// Writes the value that holds all words at the places from one on and before another.
+#[inline(always)]
+fn write_anys(out: &mut [Val; 27], from: usize, to: usize)
+    requires ordered { from ≤ to }
+    requires within { to ≤ 27 }
+    ensures written { take to out.new ≡ take from out.old ++ replicate (to - from) any_val }
+    ensures long { length out.new ≡ 27 }
+{
+    for i in from..to {
+        write_any(&mut out[i]);
+    }
+}
+
+impl Values {
+    /// No values, with room for so many that are known.
+    #[inline(always)]
+    pub(crate) fn with_room(alloc: Global, count: usize) -> Result<Values, AllocError>
+        ensures { IfOk result (λ v. all_values v ≡ []) }
+    {
+        let known = Vec::with_capacity(alloc, count)?;
+        Ok(Values { known, rest: 0 })
+    }
+
+    /// Adds so many values of which nothing is known.
+    #[inline(always)]
+    pub(crate) fn add_anys(&mut self, count: u32)
+        requires { length (all_values self.old) + count < 2 ^ 32 }
+        ensures { all_values self.new ≡ all_values self.old ++ replicate count any_val }
+    {
+        self.rest += count;
+    }
+
+    /// Adds a value of which something is known.
+    #[inline(always)]
+    fn add_known(&mut self, value: Small) -> Result<(), AllocError>
+        ensures { OnOk result (all_values self.new ≡ all_values self.old ++ value ∷ []) }
+    {
+        let anys = self.rest;
+        self.known.push(SpacedValue { anys, value })?;
+        self.rest = 0;
+        Ok(())
+    }
+
+    /// Adds a value in little room.
+    #[inline(always)]
+    pub(crate) fn add_small(&mut self, value: Small) -> Result<(), AllocError>
+        requires { length (all_values self.old) + 1 < 2 ^ 32 }
+        ensures { OnOk result (all_values self.new ≡ all_values self.old ++ value ∷ []) }
+    {
+        if value.is_any() {
+            self.rest += 1;
+            return Ok(());
+        }
+        self.add_known(value)
+    }
+
+    /// Adds so many values of which nothing is known, and one behind them.
+    #[inline(always)]
+    pub(crate) fn add_spaced(&mut self, anys: u32, value: Small) -> Result<(), AllocError>
+        requires { length (all_values self.old) + anys + 1 < 2 ^ 32 }
+        ensures { OnOk result (all_values self.new
+            ≡ (all_values self.old ++ replicate anys any_val) ++ value ∷ []) }
+    {
+        self.add_anys(anys);
+        self.add_small(value)
+    }
+
+    /// Adds a value.
+    #[inline(always)]
+    fn add_value(&mut self, alloc: Global, v: &Val) -> Result<(), AllocError>
+        requires { length (all_values self.old) + 1 < 2 ^ 32 }
+        ensures { OnOk result (all_values self.new ≡ all_values self.old ++ v.now ∷ []) }
+    {
+        if holds_all(v) {
+            self.rest += 1;
+            return Ok(());
+        }
+        let value = Small::of(alloc, v)?;
+        self.add_known(value)
+    }
+
+    /// Adds a value as it is at hand.
+    #[inline(always)]
+    pub(crate) fn add(&mut self, alloc: Global, v: &Given) -> Result<(), AllocError>
+        requires { length (all_values self.old) + 1 < 2 ^ 32 }
+        ensures { OnOk result (all_values self.new ≡ all_values self.old ++ given_of v.now ∷ []) }
+    {
+        let value = Small::of_given(alloc, v)?;
+        self.add_small(value)
+    }
+
+    /// Adds values.
+    pub(crate) fn add_all(&mut self, alloc: Global, values: &[Val]) -> Result<(), AllocError>
+        requires { length (all_values self.old) + length values.now < 2 ^ 32 }
+        ensures { OnOk result (all_values self.new ≡ all_values self.old ++ values.now) }
+    {
+        for i in 0..values.len() {
+            self.add_value(alloc, &values[i])?;
+        }
+        Ok(())
+    }
+
+    /// The value at a place; `any` stands for each of which nothing is known.
+    pub(crate) fn given_at<'a>(&'a self, any: &'a Val, i: usize) -> Given<'a>
+        requires { any.now ≡ any_val }
+        ensures { given_of result ≡ slice_index_or (all_values self.now) i any_val }
+    {
+        let known = self.known.as_slice();
+        let mut left = i;
+        for n in 0..known.len() {
+            let here = &known[n];
+            let anys = here.anys as usize;
+            if left < anys {
+                return Given::Whole(any);
+            }
+            let further = left - anys;
+            if further == 0 {
+                return Given::Packed(&here.value);
+            }
+            left = further - 1;
+        }
+        Given::Whole(any)
+    }
+
+    /// Writes the values of a state over others.
+    pub(crate) fn write(&self, out: &mut [Val; 27])
+        requires { length (all_values self.now) ≡ 27 }
+        ensures { out.new ≡ all_values self.now }
+    {
+        let known = self.known.as_slice();
+        let mut at = 0;
+        for n in 0..known.len() {
+            let here = &known[n];
+            let place = at + here.anys as usize;
+            write_anys(out, at, place);
+            here.value.write(&mut out[place]);
+            at = place + 1;
+        }
+        write_anys(out, at, 27);
+    }
+
+    /// A copy.
+    pub(crate) fn copy(&self, alloc: Global) -> Result<Values, AllocError>
+        ensures { IfOk result (λ copy. all_values copy ≡ all_values self.now) }
+    {
+        let mut known = Vec::with_capacity(alloc, self.known.len())?;
+        for spaced in self.known.as_slice() {
+            let anys = spaced.anys;
+            let value = spaced.value.copy(alloc)?;
+            known.push(SpacedValue { anys, value })?;
+        }
+        let rest = self.rest;
+        Ok(Values { known, rest })
+    }
+}
