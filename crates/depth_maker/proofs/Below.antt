@@ -1,20 +1,18 @@
 -- Every derived assignment lies below every closed one that has no fault of its own.
-use Rattle.std.proofs.Common.{◌≡◌, ℕ, ◌<◌, Bool, true, false, List, Option, Some, None, IsSome, refl, sym, ap, ◌∙◌, subst, inl, inr, ◌⊎◌, ◌^◌, length}
-use Rattle.std.specs.Prelude.{if◌then◌else◌, Contains}
+use Rattle.std.proofs.Common.{◌≡◌, ℕ, Option, Some, None, IsSome, refl, sym, ap, ◌∙◌, subst, inl, inr}
+use Rattle.std.specs.Prelude.{if◌then◌else◌}
 use Rattle.elf_image.specs.Images.{ImageData}
 use Rattle.tcd_plan.specs.PlanData.{PlanData}
 use Rattle.value_domain.specs.declared.states.State.{State}
 use Rattle.value_domain.specs.Limits.{Limits}
 use Rattle.value_domain.specs.State.{Covers, joined_states}
 use Rattle.depth_cert.specs.declared.keys.Key.{Key}
-use Rattle.depth_cert.specs.declared.points.Exit.{Exit}
 use Rattle.cfg_recover.specs.Entries.{start_state}
 use Rattle.depth_cert.specs.Exits.{after_of}
-use Rattle.cfg_recover.specs.Local.{IsFaultless}
 use Rattle.cfg_recover.specs.Duties.{Duty, jump, enter, resume, leave}
 use Rattle.cfg_recover.specs.Assignments.{Place, point, exit, Assignment, same_place, CoversAt, IsBelowAt, raised, asked, resumed, HasDuty, Asks, Joins, Derived, begins, joins, Closed, first_place}
-use Rattle.depth_cert.specs.Known.{Known, state, leaving, CoversKnown, joined_known, IsProper, IsProperExit, IsProperKnown}
-use Rattle.cfg_recover.specs.Refusals.{HasManyNodes, HasManyPoints, IsTooLarge, Passes, HasFault, own, locals, IsFault, derived, limits}
+use Rattle.depth_cert.specs.Known.{Known, state, leaving, CoversKnown, joined_known, IsProper, IsProperKnown}
+use Rattle.cfg_recover.specs.Refusals.{HasManyNodes, HasManyPoints, IsTooLarge, HasFault, own, locals, IsFault, derived, limits}
 use Rattle.depth_maker.specs.Growth.{IsProperDuty, IsDutyBelow}
 use Rattle.depth_maker.specs.Proper.{AllProper, AllFaultless, AreLawful}
 use Rattle.depth_maker.proofs.PlaceLaws.{place_tells, over_state, over_exit, resumed_some, from_if}

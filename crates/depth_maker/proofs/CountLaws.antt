@@ -1,5 +1,5 @@
 -- The limits of nodes and points, by counts.
-use Rattle.std.proofs.Common.{◌≡◌, ◌⊎◌, inl, inr, ℕ, suc, ◌+◌, ◌^◌, ◌<◌, ◌≤◌, Bool, true, false, List, [], ◌∷◌, ◌++◌, length, length-append, Option, Some, None, IsSome, refl, sym, ap, ◌∙◌, subst, arith, Contains}
+use Rattle.std.proofs.Common.{◌≡◌, ◌⊎◌, inl, inr, ℕ, ◌+◌, ◌^◌, Bool, true, false, List, [], ◌∷◌, ◌++◌, length, length-append, Option, Some, None, IsSome, refl, sym, ap, ◌∙◌, subst, arith, Contains}
 use Rattle.std.specs.Prelude.{if◌then◌else◌}
 use Rattle.std.specs.List.{IsDistinct, list_any}
 use Rattle.std.proofs.lemmas.Bool.{cases_Bool}
@@ -7,17 +7,16 @@ use Rattle.std.proofs.lemmas.List.Elements.{Contains-append_left, Contains-push,
 use Rattle.std.proofs.lemmas.Map.Keys.{IsDistinct-push}
 use Rattle.elf_image.specs.Images.{ImageData}
 use Rattle.tcd_plan.specs.PlanData.{PlanData}
-use Rattle.value_domain.specs.declared.states.State.{State}
 use Rattle.value_domain.specs.Limits.{Limits}
 use Rattle.depth_cert.specs.declared.keys.Key.{Key}
 use Rattle.depth_cert.specs.Keys.{same_key}
-use Rattle.cfg_recover.specs.Assignments.{Place, point, exit, Assignment, same_place, frame_of, Asks, HasDuty, Joins, Derived}
-use Rattle.depth_cert.specs.Known.{Known, state}
-use Rattle.cfg_recover.specs.Refusals.{HasManyNodes, HasManyPoints, IsTooLarge, Passes, IsFault, limits}
+use Rattle.cfg_recover.specs.Assignments.{Place, point, exit, Assignment, same_place, frame_of, Joins, Derived}
+use Rattle.depth_cert.specs.Known.{Known}
+use Rattle.cfg_recover.specs.Refusals.{IsTooLarge, IsFault, limits}
 use Rattle.depth_maker.specs.Counts.{AreCounted, AreFew}
 use Rattle.frame_places.proofs.KeyLaws.{key_tells, key_same}
 use Rattle.depth_maker.proofs.PlaceLaws.{place_tells, place_same}
-use Rattle.depth_maker.proofs.Sizes.{decides, any_contained, contained_any, no_more}
+use Rattle.depth_maker.proofs.Sizes.{decides, any_contained, no_more}
 use Rattle.depth_maker.proofs.Reached.{entry_of, asked_where}
 
 -- ---- within

@@ -1,9 +1,9 @@
 -- The counts of a table: one joining keeps them, or passes a limit.
-use Rattle.std.proofs.Common.{◌≡◌, ◌⊎◌, inl, inr, ℕ, suc, ◌+◌, ◌^◌, ◌<◌, ◌≤◌, Bool, true, false, eqb, List, [], ◌∷◌, ◌++◌, length, Option, Some, None, IsSome, refl, sym, ap, ◌∙◌, subst, arith, Contains}
+use Rattle.std.proofs.Common.{◌≡◌, ◌⊎◌, inl, inr, ℕ, suc, ◌+◌, ◌^◌, ◌≤◌, Bool, true, false, eqb, List, [], ◌∷◌, ◌++◌, length, Option, Some, None, IsSome, refl, sym, ap, ◌∙◌, subst, arith, Contains}
 use Rattle.std.specs.Prelude.{if◌then◌else◌, is_some, map, ◌==◌}
 use Rattle.std.specs.List.{IsDistinct}
 use Rattle.std.proofs.lemmas.Bool.{cases_Bool, eqb-true, eq-eqb}
-use Rattle.std.proofs.lemmas.List.{map-append, length-map}
+use Rattle.std.proofs.lemmas.List.{map-append}
 use Rattle.std.proofs.lemmas.List.Elements.{Contains-push, Contains-push_cases}
 use Rattle.indexmap.specs.IndexMap.{IndexMap, get}
 use Rattle.elf_image.specs.Images.{ImageData}
@@ -25,7 +25,7 @@ use Rattle.frame_places.specs.declared.refusals.Refusal.{Refusal}
 use Rattle.frame_places.specs.declared.refusals.Refusal.TheVariants.{Fault, NoMemory}
 use Rattle.frame_places.specs.Spots.{spot_eq}
 use Rattle.depth_maker.specs.Spots.{spot_of, place_of}
-use Rattle.frame_places.specs.Counting.{with_point, with_entered, points_after, frames_after, IsPassing, Passing}
+use Rattle.frame_places.specs.Counting.{points_after, frames_after, Passing}
 use Rattle.depth_maker.specs.View.{IsCountedIn, Answered}
 
 -- few spots are few places

@@ -1,5 +1,5 @@
 -- What a point owes grows with its state.
-use Rattle.std.proofs.Common.{◌≡◌, ℕ, zero, suc, ◌+◌, ◌-◌, ◌*◌, ◌/◌, ◌%◌, ◌^◌, ◌<◌, ◌≤◌, ◌⊎◌, inl, inr, Bool, true, false, cond, IsTrue, List, [], ◌∷◌, ◌++◌, length, map, get_or, take, drop, replicate, refl, sym, ap, ◌∙◌, subst, arith, Option, Some, None, IsSome, Contains, eqb, ltb, leb, length-append, length-take-le, length-drop, get_or-take, get_or-drop, ◌&&◌, if◌then◌else◌}
+use Rattle.std.proofs.Common.{◌≡◌, ℕ, zero, suc, ◌+◌, ◌-◌, ◌<◌, ◌≤◌, inl, inr, Bool, true, false, cond, IsTrue, List, [], ◌∷◌, ◌++◌, length, map, get_or, take, drop, replicate, refl, sym, ◌∙◌, subst, arith, Option, Some, None, IsSome, Contains, eqb, ltb, leb, length-take-le, get_or-take, get_or-drop, ◌&&◌, if◌then◌else◌}
 use Rattle.std.specs.Prelude.{filter, unwrap_or}
 use Rattle.std.specs.List.{flat_map}
 use Rattle.std.proofs.lemmas.Bool.{cases_Bool, cases_lt, ltb-true, lt-ltb, le-ltb, leb-true, and_parts, or_cases}
@@ -17,26 +17,23 @@ use Rattle.value_domain.specs.declared.states.State.{State}
 use Rattle.value_domain.specs.Limits.{Limits}
 use Rattle.value_domain.specs.Values.{IsValue, IsBelow, any_val}
 use Rattle.value_domain.specs.State.{Covers, AreBelow, is_lower_slot}
-use Rattle.vd_transfer.specs.Effects.{address_of, transfer_of}
-use Rattle.vd_transfer.specs.Branches.{refine_of}
-use Rattle.vd_transfer.specs.Registers.{reg_of, set_reg, word_val}
+use Rattle.vd_transfer.specs.Effects.{address_of}
+use Rattle.vd_transfer.specs.Registers.{set_reg, word_val}
 use Rattle.vd_transfer.specs.Soundness.{IsSetting}
 use Rattle.vd_transfer.proofs.HoldLaws.{same_length}
 use Rattle.store_ranges.proofs.Growth.{loads_grow}
 use Rattle.depth_cert.specs.declared.keys.Key.{Key}
-use Rattle.depth_cert.specs.declared.points.Exit.{Exit}
 use Rattle.cfg_recover.specs.Code.{IsCode}
-use Rattle.cfg_recover.specs.Entries.{call_key, irq_key, sys_key, aln_key, stack_of, entry_with, call_entry, irq_entry, aln_entry, sys_entry}
-use Rattle.depth_cert.specs.Exits.{lower_values, exit_of, with_lower_from, after_of, ExitCovers}
+use Rattle.cfg_recover.specs.Entries.{call_key, irq_key, sys_key, stack_of, entry_with, call_entry, irq_entry, aln_entry, sys_entry}
+use Rattle.depth_cert.specs.Exits.{lower_values, exit_of, with_lower_from, ExitCovers}
 use Rattle.cfg_recover.specs.Local.{targets_of, are_aligned, IsFaultless}
-use Rattle.cfg_recover.specs.Duties.{Duty, jump, enter, resume, leave, Owed, owed, loaded_at, jumps_to, jump_on, next_of, successors_of, entered_and_back, entries_of, misaligned_at, misaligned_of, irqs_of, interrupts_of, leavings_of, duties_of}
+use Rattle.cfg_recover.specs.Duties.{jump, enter, resume, leave, Owed, owed, loaded_at, jumps_to, jump_on, next_of, successors_of, entered_and_back, entries_of, misaligned_at, misaligned_of, interrupts_of, leavings_of, duties_of}
 use Rattle.cfg_recover.proofs.CodeLaws.{IsCode-bounded}
 use Rattle.cfg_recover.proofs.EntryLaws.{lower_length, entry_length}
-use Rattle.depth_cert.proofs.ExitValues.{after-at, with_lower_length, restored_at}
+use Rattle.depth_cert.proofs.ExitValues.{after-at, with_lower_length}
 use Rattle.cfg_recover.proofs.Members.{contains_first, contains_map, contains_flat, contains_filter}
-use Rattle.depth_maker.specs.Growth.{IsGround, IsDutyBelow, IsOwedBelow, DutiesGrow, AfterGrows}
-use Rattle.depth_cert.specs.Known.{IsProper, IsProperExit}
-use Rattle.depth_maker.proofs.StateGrowth.{same_locals, reg_grows, set_covers}
+use Rattle.depth_maker.specs.Growth.{IsOwedBelow, DutiesGrow, AfterGrows}
+use Rattle.depth_maker.proofs.StateGrowth.{reg_grows, set_covers}
 use Rattle.depth_maker.proofs.EffectGrowth.{transfer_covers, address_grows, address_value, branch_grows, GrowsTo}
 use Rattle.depth_maker.proofs.OwnGrowth.{targets_within, aligned_falls, setting_of}
 

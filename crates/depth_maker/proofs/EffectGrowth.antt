@@ -1,9 +1,7 @@
 -- What instructions do to a state grows with it.
-use Rattle.std.proofs.Common.{◌≡◌, ℕ, zero, suc, ◌+◌, ◌-◌, ◌^◌, ◌<◌, ◌≤◌, inl, inr, Bool, true, false, cond, IsTrue, List, [], ◌∷◌, ◌++◌, length, refl, sym, ap, ◌∙◌, subst, arith, get_or, Option, Some, None, take}
-use Rattle.std.specs.Prelude.{filter}
+use Rattle.std.proofs.Common.{◌≡◌, ℕ, ◌+◌, ◌-◌, ◌^◌, ◌<◌, inl, inr, Bool, true, false, cond, IsTrue, List, [], ◌∷◌, length, refl, sym, ap, ◌∙◌, subst, arith, get_or, Option, Some, None}
 use Rattle.std.specs.List.{list_any}
 use Rattle.std.proofs.lemmas.Bool.{cases_Bool}
-use Rattle.elf_image.specs.Images.{ImageData}
 use Rattle.tcd_plan.specs.PlanData.{PlanData}
 use Rattle.tc_isa.specs.declared.shapes.Arg.{Arg}
 use Rattle.tc_isa.specs.declared.shapes.Arg.TheVariants.{Reg, Word}
@@ -18,7 +16,7 @@ use Rattle.value_domain.specs.declared.states.State.{State}
 use Rattle.value_domain.specs.Limits.{Limits, AreLimits}
 use Rattle.value_domain.specs.Sets.{Among, Within}
 use Rattle.value_domain.specs.Values.{IsValue, IsBelow, any_val, members, cover}
-use Rattle.value_domain.specs.State.{Covers, AreBelow, AreValues, is_lower_slot}
+use Rattle.value_domain.specs.State.{Covers, AreBelow, is_lower_slot}
 use Rattle.value_domain.proofs.CoverLaws.{cover_mono}
 use Rattle.value_domain.proofs.RangeLaws.{one_value, cover_value, members_below, any_value}
 use Rattle.vd_transfer.specs.Operations.{value_of}
@@ -33,7 +31,7 @@ use Rattle.value_domain.proofs.MeetLaws.{filter_has, among_any, among_filter, an
 use Rattle.vd_transfer.proofs.OpLaws.{monotone, within_members}
 use Rattle.vd_transfer.proofs.RegisterLaws.{length-forgotten, get_or-forgotten}
 use Rattle.vd_transfer.proofs.ValueLaws.{value_of_value}
-use Rattle.depth_maker.proofs.StateGrowth.{below_same, implied_last, implied_take, implied_at, same_locals, reg_grows, arg_grows, set_covers, write_covers, setting_set, setting_write}
+use Rattle.depth_maker.proofs.StateGrowth.{implied_last, implied_take, implied_at, same_locals, reg_grows, arg_grows, set_covers, write_covers, setting_set, setting_write}
 
 pub word_value : (b : Limits) (w : ℕ) → AreLimits b → w < 2 ^ 32 → IsValue b (word_val w)
 word_value b w limits small = one_value b w limits small

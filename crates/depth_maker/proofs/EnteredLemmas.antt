@@ -4,11 +4,10 @@ use Rattle.std.specs.Prelude.{map, if◌then◌else◌, Option, Some, None, unwr
 use Rattle.std.specs.List.{flat_map}
 use Rattle.std.proofs.lemmas.List.{append-nil, map-append, take_more, append_assoc}
 use Rattle.std.proofs.lemmas.Grind.{flat_map-append}
-use Rattle.std.proofs.lemmas.List.Elements.{Contains-append_cases, Contains-append_left, Contains-append_right, Contains-push_cases}
+use Rattle.std.proofs.lemmas.List.Elements.{Contains-append_cases, Contains-append_right, Contains-push_cases}
 use Rattle.elf_image.specs.Images.{ImageData}
 use Rattle.tcd_plan.specs.PlanData.{PlanData}
 use Rattle.tc_isa.specs.declared.shapes.Arg.{Arg}
-use Rattle.tc_isa.specs.declared.shapes.Cond.{Cond}
 use Rattle.tc_isa.specs.declared.shapes.Target.{Target}
 use Rattle.tc_isa.specs.declared.shapes.Shape.{Shape}
 use Rattle.tc_isa.specs.declared.shapes.Shape.TheVariants.{Compute, Scaled, Load, Store, Branch, Jump, Call, Ret, Rfe, Svlcx, Rslcx, Bisr, Enable, Disable, Syscall, Mfcr, Mtcr, Nothing}
@@ -18,9 +17,9 @@ use Rattle.value_domain.specs.declared.states.State.{State}
 use Rattle.value_domain.specs.Limits.{Limits}
 use Rattle.vd_transfer.specs.Branches.{refine_of}
 use Rattle.depth_cert.specs.declared.keys.Key.{Key}
-use Rattle.cfg_recover.specs.Entries.{call_key, irq_key, aln_key, irq_entry, aln_entry, call_entry}
+use Rattle.cfg_recover.specs.Entries.{call_key, irq_key, aln_key, irq_entry}
 use Rattle.cfg_recover.specs.Local.{are_aligned, targets_of}
-use Rattle.cfg_recover.specs.Duties.{Duty, jump, enter, resume, leave, Owed, owed, entered_and_back, entries_of, jump_on, jumps_to, leavings_of, misaligned_at, misaligned_of, interrupts_of, irqs_of, successors_of, duties_of}
+use Rattle.cfg_recover.specs.Duties.{Duty, jump, enter, resume, leave, Owed, owed, entered_and_back, entries_of, jump_on, jumps_to, leavings_of, misaligned_at, misaligned_of, interrupts_of, successors_of, duties_of}
 use Rattle.cfg_recover.proofs.Members.{contains_flat}
 use Rattle.depth_maker.specs.Entered.{entered_by, entered_in}
 

@@ -1,5 +1,5 @@
 -- Entries that are covered stay so as the table rises; and what asks for no more is covered.
-use Rattle.std.proofs.Common.{◌≡◌, ℕ, ◌<◌, ◌≤◌, Bool, true, false, IsTrue, List, [], ◌∷◌, length, Option, Some, None, refl, sym, ap, ◌∙◌, subst, arith, Contains}
+use Rattle.std.proofs.Common.{◌≡◌, ℕ, ◌<◌, Bool, true, false, IsTrue, List, [], length, Option, Some, None, refl, sym, ap, ◌∙◌, subst, arith, Contains}
 use Rattle.std.specs.Prelude.{◌==◌, filter, nat_lt, if◌then◌else◌, slice_index_or}
 use Rattle.std.proofs.lemmas.Bool.{eq-eqb, ltb-true, lt-ltb}
 use Rattle.elf_image.specs.Images.{ImageData}
@@ -9,7 +9,7 @@ use Rattle.value_domain.specs.declared.states.State.{State}
 use Rattle.value_domain.specs.Limits.{Limits}
 use Rattle.value_domain.specs.State.{Covers}
 use Rattle.value_domain.specs.Values.{IsBelow, IsWell, any_val}
-use Rattle.vd_transfer.specs.Registers.{slot, reg_of, word_val}
+use Rattle.vd_transfer.specs.Registers.{slot, word_val}
 use Rattle.depth_cert.specs.declared.keys.Key.{Key}
 use Rattle.depth_cert.specs.Known.{CoversKnown, IsProper, Known, leaving, state}
 use Rattle.cfg_recover.specs.Assignments.{Assignment, CoversAt, Joins, Place, point}
@@ -18,7 +18,7 @@ use Rattle.cfg_recover.specs.Entries.{entry_with, irq_entry, irq_key, stack_of}
 use Rattle.cfg_recover.proofs.EntryLaws.{entry_length}
 use Rattle.cfg_recover.proofs.Members.{contains_filter, contains_map}
 use Rattle.depth_maker.specs.Growth.{IsProperDuty}
-use Rattle.depth_maker.specs.Hearing.{AreEntered, AsksNoMore, HeardEntered, IsEntered, IsHeardAt, heard_stack}
+use Rattle.depth_maker.specs.Hearing.{AreEntered, AsksNoMore, HeardEntered, IsHeardAt, heard_stack}
 use Rattle.depth_maker.specs.Proper.{AllProper, AreLawful}
 use Rattle.depth_maker.specs.Tables.{Settled, Table}
 use Rattle.depth_maker.specs.declared.heard.Heard.{Heard}

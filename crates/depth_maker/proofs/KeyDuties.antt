@@ -1,12 +1,12 @@
 -- The frames that a point enters have keys.
-use Rattle.std.proofs.Common.{◌≡◌, ℕ, zero, suc, ◌+◌, ◌-◌, ◌*◌, ◌/◌, ◌%◌, ◌^◌, ◌<◌, ◌≤◌, ◌⊎◌, inl, inr, Bool, true, false, List, [], ◌∷◌, ◌++◌, length, map, get_or, refl, sym, ap, ◌∙◌, subst, arith, Option, Some, None, Contains, eqb, ltb}
+use Rattle.std.proofs.Common.{◌≡◌, ℕ, zero, suc, ◌+◌, ◌-◌, ◌*◌, ◌/◌, ◌%◌, ◌^◌, ◌<◌, inl, inr, Bool, true, false, List, [], ◌∷◌, ◌++◌, map, get_or, subst, arith, Option, Some, None, Contains, eqb, ltb}
 use Rattle.std.specs.Prelude.{filter, unwrap_or, bit_or, ◌&&◌, if◌then◌else◌}
 use Rattle.std.specs.List.{flat_map, list_all}
 use Rattle.std.proofs.lemmas.Bool.{cases_Bool, ltb-true, and_parts}
 use Rattle.std.proofs.lemmas.Nat.{or_of_32}
 use Rattle.std.proofs.lemmas.List.Elements.{Contains-append_cases}
 use Rattle.elf_image.specs.Images.{ImageData}
-use Rattle.tcd_plan.specs.PlanData.{PlanData, IsPlan}
+use Rattle.tcd_plan.specs.PlanData.{PlanData}
 use Rattle.tc_isa.specs.declared.shapes.Target.{Target}
 use Rattle.tc_isa.specs.declared.shapes.Target.TheVariants as target
 use Rattle.tc_isa.specs.declared.shapes.Shape.{Shape}
@@ -17,7 +17,7 @@ use Rattle.value_domain.specs.declared.values.Val.{Val}
 use Rattle.value_domain.specs.declared.values.Val.TheVariants.{Set, Span}
 use Rattle.value_domain.specs.declared.states.State.{State}
 use Rattle.value_domain.specs.Limits.{Limits}
-use Rattle.value_domain.specs.Sets.{Among, distinct}
+use Rattle.value_domain.specs.Sets.{Among}
 use Rattle.value_domain.specs.Values.{IsWell}
 use Rattle.value_domain.proofs.SetLaws.{among_distinct}
 use Rattle.vd_transfer.specs.Effects.{address_of}
@@ -28,10 +28,9 @@ use Rattle.vd_transfer.proofs.HoldLaws.{reg_value}
 use Rattle.store_ranges.proofs.Covers.{among_map}
 use Rattle.depth_cert.specs.declared.keys.Key.{Key}
 use Rattle.depth_cert.specs.Keys.{IsKey}
-use Rattle.cfg_recover.specs.Entries.{call_key, call_entry, irq_key, irq_entry, sys_key, sys_entry, aln_key, aln_entry}
-use Rattle.depth_cert.specs.Exits.{exit_of}
+use Rattle.cfg_recover.specs.Entries.{call_key, call_entry, irq_key, sys_key, sys_entry, aln_key}
 use Rattle.cfg_recover.specs.Local.{named_by, targets_of, are_aligned}
-use Rattle.cfg_recover.specs.Duties.{Duty, jump, enter, resume, leave, Owed, owed, loaded_at, jumps_to, jump_on, next_of, successors_of, entered_and_back, entries_of, misaligned_at, misaligned_of, irqs_of, interrupts_of, leavings_of, duties_of}
+use Rattle.cfg_recover.specs.Duties.{Duty, jump, enter, resume, leave, Owed, owed, jump_on, successors_of, entered_and_back, entries_of, misaligned_at, misaligned_of, leavings_of, duties_of}
 use Rattle.depth_maker.proofs.OwnGrowth.{among_contained}
 use Rattle.depth_maker.proofs.DutyGrowth.{contained_map, contained_flat, contained_filter}
 

@@ -1,19 +1,19 @@
 -- The laws hold of every plan and image.
-use Rattle.std.proofs.Common.{◌≡◌, ℕ, zero, suc, ◌<◌, ◌≤◌, Bool, true, false, List, [], ◌∷◌, length, get_or, Option, Some, None, refl, sym, ap, ◌∙◌, subst, inl, inr, arith, eqb, IsTrue, eq-eqb}
-use Rattle.std.specs.Prelude.{if◌then◌else◌, option_map, replicate}
+use Rattle.std.proofs.Common.{◌≡◌, ℕ, zero, suc, ◌<◌, false, List, [], ◌∷◌, length, get_or, Option, Some, None, refl, sym, ap, ◌∙◌, subst, inl, inr, arith, eqb, eq-eqb}
+use Rattle.std.specs.Prelude.{option_map, replicate}
 use Rattle.std.proofs.lemmas.Bool.{cases_Bool, eqb-true, or_left, or_right, or_cases}
 use Rattle.elf_image.specs.Images.{ImageData}
 use Rattle.tcd_plan.specs.PlanData.{PlanData}
 use Rattle.value_domain.specs.declared.values.Val.{Val}
 use Rattle.value_domain.specs.declared.states.State.{State}
 use Rattle.value_domain.specs.Limits.{Limits, AreLimits}
-use Rattle.value_domain.specs.Values.{IsValue, IsBelow, any_val}
-use Rattle.value_domain.specs.State.{Covers, AreBelow, AreValues, joined_states, joined_of, joined_regs, join_of}
+use Rattle.value_domain.specs.Values.{any_val}
+use Rattle.value_domain.specs.State.{Covers, joined_states, joined_of, joined_regs, join_of}
 use Rattle.value_domain.proofs.JoinLaws.{join_least, joined_least}
-use Rattle.value_domain.proofs.RegLaws.{get_or-joined, length-joined, length-and, implied_length}
+use Rattle.value_domain.proofs.RegLaws.{get_or-joined, length-joined, length-and}
 use Rattle.vd_transfer.specs.Registers.{word_val}
 use Rattle.depth_cert.specs.declared.points.Exit.{Exit}
-use Rattle.cfg_recover.specs.Entries.{entry_with, start_state}
+use Rattle.cfg_recover.specs.Entries.{start_state}
 use Rattle.depth_cert.specs.Exits.{ExitCovers}
 use Rattle.depth_cert.specs.Known.{Known, state, leaving, CoversKnown, joined_known, joined_exit, IsProper, IsProperExit, IsProperKnown}
 use Rattle.cfg_recover.proofs.EntryLaws.{entry_length}

@@ -1,5 +1,5 @@
 -- The certificate that is written out is the one to be made.
-use Rattle.std.proofs.Common.{◌≡◌, ℕ, ◌≤◌, ◌<◌, ◌-◌, ◌^◌, refl, sym, ap, subst, arith, Contains, Some, IsSome}
+use Rattle.std.proofs.Common.{◌≡◌, ℕ, ◌<◌, ◌-◌, ◌^◌, refl, sym, ap, subst, arith, Some}
 use Rattle.elf_image.specs.Images.{ImageData}
 use Rattle.tcd_plan.specs.PlanData.{PlanData}
 use Rattle.value_domain.specs.Thresholds.{limits_for}
@@ -11,13 +11,12 @@ use Rattle.depth_cert.specs.Certs.{CertData, IsCert, find_node}
 use Rattle.cfg_recover.specs.Duties.{enter}
 use Rattle.cfg_recover.specs.Entries.{start_key}
 use Rattle.cfg_recover.specs.Accepting.{Accepts, limits_in, need_of}
-use Rattle.cfg_recover.specs.Assignments.{Place, point, exit, Assignment, frame_of, Derived, Closed, IsBelowAt, known_in}
+use Rattle.cfg_recover.specs.Assignments.{Place, point, exit, Assignment, frame_of, Derived, Closed, known_in}
 use Rattle.depth_cert.specs.Known.{Known, state}
-use Rattle.cfg_recover.specs.Refusals.{MeetsNeeds, IsTooLarge, IsRefusal, IsRefusalWith}
+use Rattle.cfg_recover.specs.Refusals.{MeetsNeeds, IsRefusal}
 use Rattle.depth_maker.specs.Growth.{IsGround}
-use Rattle.depth_maker.specs.Proper.{AllFaultless}
 use Rattle.depth_maker.specs.Laws.{IsSolution}
-use Rattle.depth_maker.specs.Making.{needs_in, IsNoWorse, IsMade, NoneAccepted, IsWritten, WrittenIsMade, RefusedIsNone}
+use Rattle.depth_maker.specs.Making.{needs_in, IsNoWorse, IsMade, IsWritten, WrittenIsMade, RefusedIsNone}
 use Rattle.depth_maker.proofs.Lawful.{lawful}
 use Rattle.depth_maker.proofs.Below.{derived_below}
 use Rattle.depth_maker.proofs.TableLaws.{derived_proper}

@@ -1,5 +1,5 @@
 -- From the bytes that are written and the faults that are met to what the maker answers.
-use Rattle.std.proofs.Common.{◌≡◌, ◌⊎◌, ℕ, ◌<◌, ◌≤◌, ◌^◌, List, length, Option, Some, None, refl, sym, ap, ◌∙◌, subst, arith}
+use Rattle.std.proofs.Common.{◌≡◌, ℕ, ◌≤◌, ◌^◌, List, length, Some, None, sym, ap, ◌∙◌, subst}
 use Rattle.std.specs.Prelude.{map, Result, Ok, Err}
 use Rattle.std.specs.declared.alloc.Global.{Global}
 use Rattle.std.specs.declared.vec.Vec.{Vec}
@@ -7,15 +7,13 @@ use Rattle.tcd_base.specs.declared.errors.FormErr.{FormErr}
 use Rattle.elf_image.specs.Images.{ImageData}
 use Rattle.tcd_plan.specs.PlanData.{PlanData}
 use Rattle.value_domain.specs.Limits.{Limits}
-use Rattle.value_domain.specs.Thresholds.{limits_for}
 use Rattle.depth_cert.specs.declared.keys.Key.{Key}
-use Rattle.depth_cert.specs.Certs.{CertData, IsCert}
-use Rattle.depth_cert.specs.Spelling.{bytes_of}
+use Rattle.depth_cert.specs.Certs.{CertData}
 use Rattle.depth_cert.specs.Grammar.{certificate_of}
 use Rattle.depth_cert.proofs.BackLaws.{written_is_read}
 use Rattle.depth_cert.proofs.SizeLaws.{cert_most}
 use Rattle.cfg_recover.specs.Entries.{start_key}
-use Rattle.cfg_recover.specs.Assignments.{Place, point, exit}
+use Rattle.cfg_recover.specs.Assignments.{point, exit}
 use Rattle.cfg_recover.specs.Refusals.{IsFault, IsLeast, IsRefusal, IsRefusalWith, fault, recursion, need}
 use Rattle.depth_maker.specs.Growth.{IsGround}
 use Rattle.depth_maker.specs.Made.{AreMade, AreWritten, IsGroundOf, IsRefused, Refuses}
@@ -25,13 +23,11 @@ use Rattle.depth_maker.specs.Recursing.{IsRecursion}
 use Rattle.depth_maker.specs.RowsBy.{IsSource}
 use Rattle.depth_maker.specs.Spelled.{NeedsAre}
 use Rattle.depth_maker.specs.Spots.{place_of}
-use Rattle.depth_maker.specs.View.{Answered, AnsweredOn, seen}
+use Rattle.depth_maker.specs.View.{AnsweredOn, seen}
 use Rattle.depth_maker.specs.declared.ground.Ground.{Ground}
 use Rattle.depth_maker.specs.declared.answering.MakeErr.{MakeErr}
 use Rattle.depth_maker.specs.declared.answering.MakeErr.TheVariants.{Refused, NoMemory}
-use Rattle.frame_places.specs.declared.places.Spot.{Spot}
 use Rattle.frame_places.specs.declared.places.Spot.TheVariants.{Point, Exit}
-use Rattle.frame_places.specs.declared.refusals.Refusal.{Refusal}
 use Rattle.frame_places.specs.declared.refusals.Refusal.TheVariants.{Fault}
 use Rattle.depth_maker.specs.declared.rows.Source.{Source}
 use Rattle.depth_maker.proofs.CountLaws.{counted_within}

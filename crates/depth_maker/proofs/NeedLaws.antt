@@ -1,19 +1,16 @@
 -- Needs of a closed assignment meet those of each one below it; where some do, no frame is reached from itself.
-use Rattle.std.proofs.Common.{◌≡◌, ℕ, ◌+◌, ◌-◌, ◌^◌, ◌<◌, ◌≤◌, length, refl, sym, ap, ◌∙◌, subst, arith, Option, Some, None}
+use Rattle.std.proofs.Common.{◌≡◌, ℕ, ◌^◌, ◌<◌, ◌≤◌, length, sym, ap, ◌∙◌, subst, arith, Some}
 use Rattle.elf_image.specs.Images.{ImageData}
 use Rattle.tcd_plan.specs.PlanData.{PlanData}
 use Rattle.value_domain.specs.declared.states.State.{State}
 use Rattle.value_domain.specs.Limits.{Limits}
-use Rattle.value_domain.specs.State.{Covers}
-use Rattle.value_domain.specs.Thresholds.{limits_for}
 use Rattle.depth_cert.specs.declared.keys.Key.{Key}
 use Rattle.depth_cert.specs.Certs.{CertData, IsCert}
-use Rattle.cfg_recover.specs.Entries.{start_key}
 use Rattle.cfg_recover.specs.Duties.{Duty, jump, enter, resume, leave}
 use Rattle.cfg_recover.specs.Accepting.{limits_in, Accepts}
 use Rattle.cfg_recover.specs.Assignments.{point, Assignment, known_in, IsBelowAt, Derived, Closed, HasDuty}
-use Rattle.depth_cert.specs.Known.{Known, state, IsProper}
-use Rattle.cfg_recover.specs.Refusals.{IsTooLarge, Enters, MeetsNeeds, Reaches, here, by_entry, Recurs, NeedsTooMany, IsRefusalWith, fault, recursion, need, IsFault, IsLeast, RecursFirst}
+use Rattle.depth_cert.specs.Known.{Known, state}
+use Rattle.cfg_recover.specs.Refusals.{Enters, MeetsNeeds, Reaches, here, by_entry, Recurs, IsRefusalWith, fault, recursion, need, IsFault}
 use Rattle.depth_maker.specs.Growth.{IsGround, IsDutyBelow}
 use Rattle.depth_maker.proofs.StateGrowth.{same_locals}
 use Rattle.depth_maker.specs.Proper.{AllProper, AllFaultless, AreLawful}

@@ -1,6 +1,6 @@
 -- From rows to the needs of a table.
-use Rattle.std.proofs.Common.{◌≡◌, ℕ, ◌+◌, ◌-◌, ◌<◌, ◌≤◌, List, length, Option, Some, None, refl, sym, subst, arith}
-use Rattle.std.specs.Prelude.{map, slice_index, Result, Ok, Err}
+use Rattle.std.proofs.Common.{◌≡◌, ℕ, ◌-◌, ◌<◌, ◌≤◌, List, length, Option, Some, None, subst}
+use Rattle.std.specs.Prelude.{map, slice_index, Result, Ok}
 use Rattle.std.specs.declared.vec.Vec.{Vec}
 use Rattle.std.specs.declared.alloc.Global.{Global}
 use Rattle.depth_cert.specs.declared.keys.Key.{Key}
@@ -16,7 +16,6 @@ use Rattle.depth_maker.specs.View.{seen}
 use Rattle.depth_maker.proofs.Lawful.{lawful}
 use Rattle.depth_maker.proofs.TableLaws.{derived_proper}
 use Rattle.depth_maker.proofs.RowLaws.{above_by, least_by, rows_within}
-use Rattle.frame_places.specs.declared.refusals.Refusal.{Refusal}
 use Rattle.call_needs.specs.declared.row.Row.{Row}
 use Rattle.depth_maker.specs.declared.rows.Source.{Source}
 use Rattle.std.specs.declared.alloc.AllocError.{AllocError}

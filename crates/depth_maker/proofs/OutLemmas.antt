@@ -1,5 +1,5 @@
 -- The parts of a certificate, as they are added.
-use Rattle.std.proofs.Common.{◌≡◌, inl, inr, ℕ, ◌+◌, ◌^◌, ◌<◌, ◌≤◌, List, [], ◌∷◌, ◌++◌, length, map, get_or, take, refl, sym, ap, ◌∙◌, subst, arith, append-nil, append_assoc, Option, Some, None, IsSome, Contains, All, ◌⊎◌}
+use Rattle.std.proofs.Common.{◌≡◌, ℕ, ◌+◌, ◌^◌, ◌<◌, ◌≤◌, List, [], ◌++◌, length, map, get_or, take, sym, ap, ◌∙◌, subst, arith, append-nil, append_assoc, Option, Some, None, All, ◌⊎◌}
 use Rattle.std.specs.Prelude.{filter, IfSome}
 use Rattle.std.specs.List.{flat_map}
 use Rattle.std.specs.List.Sorted.{IsPermutation, IsNonDecreasingBy}
@@ -8,38 +8,32 @@ use Rattle.std.proofs.lemmas.List.Elements.{All-map, All-more, All-nil}
 use Rattle.std.proofs.lemmas.List.Sorted.{length_permutation, IsPermutation-refl}
 use Rattle.indexmap.specs.IndexMap.{get}
 use Rattle.tcd_base.specs.Bytes.{bytes_of_half, bytes_of_word}
-use Rattle.tcd_plan.specs.PlanData.{PlanData, IsPlan}
 use Rattle.value_domain.specs.declared.values.Val.{Val}
 use Rattle.value_domain.specs.declared.states.State.{State}
 use Rattle.value_domain.specs.Limits.{Limits}
-use Rattle.value_domain.specs.Thresholds.{limits_for}
 use Rattle.value_domain.specs.Values.{IsWell, any_val}
 use Rattle.value_domain.specs.State.{AreValues}
 use Rattle.depth_cert.specs.declared.keys.Key.{Key}
 use Rattle.depth_cert.specs.declared.points.Exit as exits
 use Rattle.depth_cert.specs.declared.points.Point as located
 use Rattle.depth_cert.specs.Keys.{IsKey, number_of_key}
-use Rattle.depth_cert.specs.Nodes.{NodeData}
-use Rattle.depth_cert.specs.Certs.{CertData}
 use Rattle.depth_cert.specs.Spelling.{bytes_of, bytes_of_exit, bytes_of_key, bytes_of_node, bytes_of_point, bytes_of_state}
 use Rattle.cfg_recover.proofs.Members.{contains_map}
-use Rattle.cfg_recover.specs.Assignments.{Place, point, exit}
-use Rattle.depth_cert.specs.Known.{Known, state, leaving, IsProper, IsProperExit, IsProperKnown}
+use Rattle.cfg_recover.specs.Assignments.{point, exit}
+use Rattle.depth_cert.specs.Known.{Known, state, leaving, IsProperExit}
 use Rattle.small_states.specs.Kept.{IsNoExit, IsStateAt}
-use Rattle.depth_maker.specs.Making.{IsWritten}
 use Rattle.depth_maker.specs.RowsAt.{need_by}
 use Rattle.depth_maker.specs.RowsBy.{IsSource}
-use Rattle.depth_maker.specs.Spelled.{AreFrames, AreKnown, IsFrameOf, WritesCert, HasBytes, IsOfVersion, IsOrdered, IsSpelledOn, NeedsAre, WritesPoint, WritesPoints, WritesExit, WritesNode, WritesNodes, addresses_in, cert_on, exit_at, exit_on, known_on, node_on, point_on, state_at}
-use Rattle.frame_places.specs.Spots.{AreRanged, is_point_of, spot_address, spot_number, spot_eq}
-use Rattle.depth_maker.specs.View.{seen, IsDone}
+use Rattle.depth_maker.specs.Spelled.{AreFrames, AreKnown, IsFrameOf, WritesCert, HasBytes, IsOfVersion, IsOrdered, IsSpelledOn, NeedsAre, WritesPoint, WritesPoints, WritesExit, WritesNode, WritesNodes, cert_on, exit_at, exit_on, known_on, node_on, point_on, state_at}
+use Rattle.frame_places.specs.Spots.{AreRanged, is_point_of, spot_address, spot_eq}
+use Rattle.depth_maker.specs.View.{seen}
 use Rattle.frame_places.specs.declared.places.Spot.{Spot}
 use Rattle.frame_places.specs.declared.places.Spot.TheVariants.{Point, Exit}
 use Rattle.depth_maker.specs.declared.rows.Source.{Source}
 use Rattle.depth_maker.specs.declared.spelling.Ordered.{Ordered}
 use Rattle.depth_maker.proofs.CountedLemmas.{few_spots}
-use Rattle.depth_maker.proofs.FindLemmas.{flat_twice, has_filter, length_kept}
+use Rattle.depth_maker.proofs.FindLemmas.{flat_twice, length_kept}
 use Rattle.depth_maker.proofs.PlaceKinds.{IsOfKind, derived_kinds}
-use Rattle.frame_places.proofs.KeyLaws.{key_tells}
 use Rattle.depth_maker.proofs.PlaceRanges.{derived_in_range}
 use Rattle.depth_maker.proofs.RowSteps.{done_proper, done_state}
 use Rattle.depth_maker.proofs.SpelledLaws.{address_known, are_ranged, is_written, value_in}

@@ -1,5 +1,5 @@
 -- The own parts of the rules fall with the state.
-use Rattle.std.proofs.Common.{◌≡◌, ℕ, zero, suc, ◌+◌, ◌-◌, ◌*◌, ◌/◌, ◌%◌, ◌^◌, ◌<◌, ◌≤◌, ◌⊎◌, inl, inr, Bool, true, false, IsTrue, List, [], ◌∷◌, length, map, get_or, refl, sym, ap, ◌∙◌, subst, arith, Option, Some, None, IsSome, Contains}
+use Rattle.std.proofs.Common.{◌≡◌, ℕ, zero, suc, ◌-◌, ◌*◌, ◌/◌, ◌<◌, ◌⊎◌, inl, inr, Bool, true, false, List, [], ◌∷◌, length, map, get_or, refl, sym, ◌∙◌, subst, arith, IsSome, Contains}
 use Rattle.std.specs.Prelude.{unwrap_or}
 use Rattle.elf_image.specs.Images.{ImageData}
 use Rattle.tcd_plan.specs.PlanData.{PlanData}
@@ -8,7 +8,6 @@ use Rattle.tc_isa.specs.declared.shapes.Target.TheVariants as target
 use Rattle.tc_isa.specs.declared.shapes.Shape.{Shape}
 use Rattle.tc_isa.specs.declared.shapes.Shape.TheVariants.{Compute, Scaled, Load, Store, Branch, Jump, Call, Ret, Rfe, Svlcx, Rslcx, Bisr, Enable, Disable, Syscall, Mfcr, Mtcr, Nothing}
 use Rattle.tc_isa.specs.Bounded.{IsShape}
-use Rattle.tc_machine.specs.Machine.{moved}
 use Rattle.value_domain.specs.declared.values.Val.{Val}
 use Rattle.value_domain.specs.declared.values.Val.TheVariants.{Set, Span}
 use Rattle.value_domain.specs.declared.states.State.{State}
@@ -17,17 +16,15 @@ use Rattle.value_domain.specs.Sets.{Among, Within, distinct}
 use Rattle.value_domain.specs.Values.{IsValue, IsBelow}
 use Rattle.value_domain.specs.State.{Covers}
 use Rattle.value_domain.proofs.SetLaws.{among_distinct, distinct_has}
-use Rattle.value_domain.proofs.Loops.{among_get}
 use Rattle.vd_transfer.specs.Effects.{address_of, HasRoom}
 use Rattle.vd_transfer.specs.Registers.{reg_of}
 use Rattle.vd_transfer.specs.Soundness.{IsSetting}
 use Rattle.vd_transfer.proofs.HoldLaws.{reg_value}
 use Rattle.vd_transfer.proofs.OpLaws.{span_not_below}
-use Rattle.store_ranges.specs.Stores.{AreAligned}
 use Rattle.store_ranges.proofs.Covers.{map_has, among_map}
 use Rattle.depth_cert.specs.declared.keys.Key.{Key}
 use Rattle.cfg_recover.specs.Code.{IsCode}
-use Rattle.cfg_recover.specs.Local.{named_by, targets_of, are_aligned, KnowsTargets, MayReturn, MayReturnFromException, StoresInRange, MayAccess, LocalRule, LocalHolds, IsFaultless}
+use Rattle.cfg_recover.specs.Local.{named_by, targets_of, are_aligned, KnowsTargets, MayReturn, MayReturnFromException, StoresInRange, MayAccess, LocalRule}
 use Rattle.cfg_recover.proofs.CodeLaws.{IsCode-bounded}
 use Rattle.cfg_recover.proofs.Members.{contains_among}
 use Rattle.cfg_recover.proofs.LocalLaws.{are_aligned-is}

@@ -1,5 +1,5 @@
 -- Entries of interrupts that are paid for by what was heard, and what is heard of those that were paid for.
-use Rattle.std.proofs.Common.{◌≡◌, ℕ, Bool, false, IsTrue, Some, Contains}
+use Rattle.std.proofs.Common.{◌≡◌, ℕ, false, IsTrue, Some, Contains}
 use Rattle.indexmap.specs.IndexMap.{get}
 use Rattle.elf_image.specs.Images.{ImageData}
 use Rattle.tcd_plan.specs.PlanData.{PlanData}

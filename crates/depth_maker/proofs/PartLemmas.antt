@@ -1,5 +1,5 @@
 -- A visit, part by part: what a point owes is joined in the order in which it is listed, and never built as a list.
-use Rattle.std.proofs.Common.{◌+◌, take, drop, get_or, map, ◌≡◌, ℕ, ◌<◌, Bool, true, false, cond, ◌⊎◌, inl, inr, List, [], ◌∷◌, ◌++◌, Option, Some, None, IsSome, refl, sym, ap, subst, ◌∙◌, arith, length, Contains}
+use Rattle.std.proofs.Common.{◌+◌, take, drop, get_or, map, ◌≡◌, ℕ, ◌<◌, true, false, inl, inr, List, [], ◌∷◌, ◌++◌, Option, Some, None, IsSome, refl, sym, ap, subst, ◌∙◌, arith, length, Contains}
 use Rattle.std.specs.Prelude.{Result, Ok, Err, OnOk}
 use Rattle.frame_places.specs.declared.refusals.Refusal.{Refusal}
 use Rattle.indexmap.specs.IndexMap.{IndexMap, get}
@@ -21,25 +21,24 @@ use Rattle.cfg_recover.specs.Duties.{Duty, jump, enter, resume, leave, Owed, owe
 use Rattle.cfg_recover.specs.declared.local.Located.{Located}
 use Rattle.cfg_recover.specs.Changes.{StandsFaultless}
 use Rattle.cfg_recover.proofs.Members.{contains_map, contains_flat}
-use Rattle.cfg_recover.specs.Assignments.{Place, point, exit, CoversAt, HasDuty, Asks, Derived, asked, resumed}
-use Rattle.depth_cert.specs.Known.{Known, state, leaving, IsProper}
+use Rattle.cfg_recover.specs.Assignments.{point, exit, HasDuty, Asks, Derived, resumed}
+use Rattle.depth_cert.specs.Known.{state, leaving, IsProper}
 use Rattle.cfg_recover.proofs.CodeLaws.{IsCode-one}
 use Rattle.depth_maker.specs.Growth.{IsProperDuty}
 use Rattle.depth_maker.specs.Hearing.{HeardEntered}
 use Rattle.depth_maker.specs.Proper.{AreLawful}
-use Rattle.depth_maker.specs.Tables.{Table, IsTable, Settled, IsResumed}
+use Rattle.depth_maker.specs.Tables.{Table, Settled, IsResumed}
 use Rattle.depth_maker.proofs.PlaceLaws.{one_state}
-use Rattle.depth_maker.proofs.TableLaws.{derived_proper, table_marked, settled_again}
+use Rattle.depth_maker.proofs.TableLaws.{table_marked, settled_again}
 use Rattle.frame_places.specs.declared.places.Spot.{Spot}
 use Rattle.frame_places.specs.declared.places.Spot.TheVariants as spots
 use Rattle.frame_places.specs.declared.places.Mark.{Mark}
-use Rattle.frame_places.specs.declared.places.Mark.TheVariants.{Plain}
 use Rattle.std.specs.declared.vec.Vec.{Vec}
 use Rattle.std.specs.declared.alloc.Global.{Global}
 use Rattle.depth_maker.specs.declared.table.Table as made
 use Rattle.frame_places.specs.Spots.{spot_eq}
 use Rattle.depth_maker.specs.Spots.{spot_of, place_of}
-use Rattle.depth_maker.proofs.SpotLemmas.{back, forth}
+use Rattle.depth_maker.proofs.SpotLemmas.{back}
 use Rattle.depth_maker.proofs.CountedLemmas.{counted_again}
 use Rattle.depth_maker.proofs.HearingLaws.{heard_again}
 use Rattle.depth_maker.proofs.LevelSteps.{rises_then, same_level}

@@ -1,19 +1,18 @@
 -- Points have states and exits have exits.
-use Rattle.std.proofs.Common.{◌≡◌, ◌⊎◌, inl, inr, ℕ, Bool, true, false, Option, Some, None, refl, sym, ap, ◌∙◌, subst, length, eqb}
-use Rattle.std.specs.Prelude.{if◌then◌else◌, option_map}
+use Rattle.std.proofs.Common.{◌≡◌, inl, inr, ℕ, Option, Some, None, refl, sym, ap, ◌∙◌, subst}
+use Rattle.std.specs.Prelude.{option_map}
 use Rattle.elf_image.specs.Images.{ImageData}
 use Rattle.tcd_plan.specs.PlanData.{PlanData}
 use Rattle.value_domain.specs.declared.states.State.{State}
 use Rattle.value_domain.specs.Limits.{Limits}
 use Rattle.value_domain.specs.State.{joined_states}
 use Rattle.depth_cert.specs.declared.keys.Key.{Key}
-use Rattle.depth_cert.specs.declared.points.Exit.{Exit}
-use Rattle.cfg_recover.specs.Entries.{start_key, start_state}
+use Rattle.cfg_recover.specs.Entries.{start_state}
 use Rattle.depth_cert.specs.Exits.{after_of}
 use Rattle.cfg_recover.specs.Duties.{Duty, jump, enter, resume, leave}
-use Rattle.cfg_recover.specs.Assignments.{Place, point, exit, Assignment, same_place, raised, asked, Asks, Joins, Derived, begins, joins, first_place}
+use Rattle.cfg_recover.specs.Assignments.{Place, point, exit, Assignment, same_place, raised, asked, Asks, Derived, begins, joins, first_place}
 use Rattle.depth_cert.specs.Known.{Known, state, leaving, joined_known, joined_exit}
-use Rattle.cfg_recover.specs.Refusals.{HasFault, own, locals}
+use Rattle.cfg_recover.specs.Refusals.{HasFault, locals}
 use Rattle.depth_maker.proofs.PlaceLaws.{place_tells, from_if, resumed_some}
 
 -- what is known fits the place

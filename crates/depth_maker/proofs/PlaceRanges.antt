@@ -1,7 +1,7 @@
 -- The places of a derived assignment are places that a certificate may have: keys are keys, addresses are words, and only
 -- called functions and handlers of system calls have exits.
-use Rattle.std.proofs.Common.{◌≡◌, ℕ, zero, suc, ◌+◌, ◌%◌, ◌^◌, ◌<◌, ◌≤◌, ◌⊎◌, inl, inr, Bool, true, false, List, [], ◌∷◌, ◌++◌, length, map, get_or, refl, sym, ap, ◌∙◌, subst, arith, Option, Some, None, Contains, eqb}
-use Rattle.std.specs.Prelude.{unwrap_or, if◌then◌else◌}
+use Rattle.std.proofs.Common.{◌≡◌, ℕ, zero, suc, ◌+◌, ◌^◌, ◌<◌, ◌⊎◌, inl, inr, true, false, List, [], ◌∷◌, ◌++◌, map, get_or, refl, sym, subst, arith, Option, Some, None, Contains, eqb}
+use Rattle.std.specs.Prelude.{unwrap_or}
 use Rattle.std.specs.List.{flat_map}
 use Rattle.std.proofs.lemmas.Bool.{cases_Bool, eqb-true}
 use Rattle.std.proofs.lemmas.List.Elements.{Contains-append_cases}
@@ -18,15 +18,14 @@ use Rattle.vd_transfer.specs.Effects.{address_of}
 use Rattle.vd_transfer.specs.Branches.{refine_of}
 use Rattle.depth_cert.specs.declared.keys.Key.{Key}
 use Rattle.depth_cert.specs.Keys.{IsKey}
-use Rattle.cfg_recover.specs.Entries.{start_key, start_state, call_key, irq_key, sys_key, aln_key, call_entry, irq_entry, sys_entry, aln_entry}
-use Rattle.depth_cert.specs.Exits.{exit_of}
-use Rattle.cfg_recover.specs.Local.{targets_of, are_aligned, IsFaultless, LocalRule}
-use Rattle.cfg_recover.specs.Duties.{Duty, jump, enter, resume, leave, Owed, owed, jump_on, successors_of, entered_and_back, entries_of, misaligned_at, misaligned_of, irqs_of, interrupts_of, leavings_of, duties_of}
-use Rattle.cfg_recover.specs.Assignments.{Place, point, exit, Assignment, same_place, asked, HasDuty, Asks, Joins, Derived, begins, joins, first_place}
+use Rattle.cfg_recover.specs.Entries.{start_state, call_key, sys_key, call_entry, sys_entry}
+use Rattle.cfg_recover.specs.Local.{targets_of, are_aligned, LocalRule}
+use Rattle.cfg_recover.specs.Duties.{Duty, jump, enter, resume, leave, Owed, owed, jump_on, successors_of, entered_and_back, entries_of, misaligned_at, misaligned_of, leavings_of, duties_of}
+use Rattle.cfg_recover.specs.Assignments.{Place, point, exit, Assignment, same_place, asked, Asks, Derived, begins, joins, first_place}
 use Rattle.depth_cert.specs.Known.{Known, state, leaving, IsProper}
 use Rattle.cfg_recover.proofs.CodeLaws.{IsCode-bounded}
 use Rattle.depth_maker.specs.Growth.{IsGround}
-use Rattle.depth_maker.specs.Proper.{AllProper, AreLawful}
+use Rattle.depth_maker.specs.Proper.{AllProper}
 use Rattle.depth_maker.proofs.PlaceLaws.{place_tells, from_if, resumed_some}
 use Rattle.depth_maker.proofs.OwnGrowth.{setting_of}
 use Rattle.depth_maker.proofs.DutyGrowth.{contained_map, contained_flat}

@@ -1,7 +1,6 @@
 -- The row of a point that enters no frame.
 use Rattle.std.proofs.Common.{◌≡◌, ◌⊎◌, inl, inr, ℕ, Bool, true, false, not, List, [], ◌∷◌, ◌++◌, length, Some, refl, sym, ap, ◌∙◌, subst, Contains}
 use Rattle.std.specs.Prelude.{map, filter, nat_lt, if◌then◌else◌, Ok}
-use Rattle.tc_isa.specs.Bounded.{IsShape}
 use Rattle.tc_isa.specs.declared.shapes.Arg.{Arg}
 use Rattle.tc_isa.specs.declared.shapes.Shape.{Shape}
 use Rattle.tc_isa.specs.declared.shapes.Shape.TheVariants.{Load, Store}
@@ -14,16 +13,13 @@ use Rattle.vd_transfer.specs.Effects.{address_of}
 use Rattle.depth_cert.specs.declared.keys.Key.{Key}
 use Rattle.depth_cert.specs.Known.{IsProper, Known, state}
 use Rattle.cfg_recover.specs.Assignments.{point}
-use Rattle.cfg_recover.specs.Code.{IsCode}
 use Rattle.cfg_recover.specs.Duties.{duties_of, enter, entries_of, interrupts_of, irqs_of, leavings_of, misaligned_at, misaligned_of, owed, successors_of}
 use Rattle.cfg_recover.specs.Changes.{StandsFaultless}
 use Rattle.cfg_recover.specs.Local.{IsFaultless, are_aligned}
 use Rattle.cfg_recover.specs.declared.local.Located.{Located}
 use Rattle.cfg_recover.specs.Entries.{aln_entry, aln_key, irq_key}
 use Rattle.frame_places.specs.Numbers.{AreNumbers, number_in}
-use Rattle.frame_places.specs.Spots.{spot_eq}
 use Rattle.frame_places.specs.declared.places.Spot.TheVariants.{Point}
-use Rattle.indexmap.specs.IndexMap.{get}
 use Rattle.small_states.specs.Kept.{IsQuiet}
 use Rattle.call_needs.specs.declared.row.Row.{Row}
 use Rattle.depth_maker.specs.Entered.{EntersNone, IsPlainAt, entered_in}
@@ -31,9 +27,8 @@ use Rattle.depth_maker.specs.Handlers.{AreHandlers, nodes_taken}
 use Rattle.depth_maker.specs.declared.handlers.Handler.{Handler}
 use Rattle.depth_maker.proofs.HandlerLaws.{nodes_taken-is}
 use Rattle.depth_maker.specs.Spots.{place_of}
-use Rattle.depth_maker.specs.RowsAt.{IsRowAt}
 use Rattle.depth_maker.specs.RowsBy.{AllKnownBy, IsRowBy, IsSource, PointHasRow}
-use Rattle.depth_maker.specs.View.{IsDone, IsPlainBy, seen}
+use Rattle.depth_maker.specs.View.{IsPlainBy, seen}
 use Rattle.depth_maker.specs.declared.ground.Ground.{Ground}
 use Rattle.depth_maker.specs.declared.ground.Visit.{Visit}
 use Rattle.depth_maker.specs.declared.rows.Source.{Source}

@@ -1,50 +1,47 @@
 -- What a point owes is of the plan and the version.
-use Rattle.std.proofs.Common.{◌≡◌, ℕ, zero, suc, ◌+◌, ◌-◌, ◌*◌, ◌^◌, ◌<◌, ◌≤◌, ◌⊎◌, inl, inr, Bool, true, false, cond, IsTrue, List, [], ◌∷◌, ◌++◌, length, map, get_or, take, drop, replicate, refl, sym, ap, ◌∙◌, subst, arith, Option, Some, None, IsSome, Contains, eqb, length-append, length-take-le}
-use Rattle.std.specs.Prelude.{filter, unwrap_or, IfSome, bit_or}
-use Rattle.std.specs.List.{flat_map, list_all}
-use Rattle.std.proofs.lemmas.Bool.{cases_Bool, cases_lt, cond_both, ltb-true, and_parts}
-use Rattle.std.proofs.lemmas.List.{length-replicate, get_or-replicate}
+use Rattle.std.proofs.Common.{◌≡◌, ℕ, zero, suc, ◌+◌, ◌-◌, ◌<◌, ◌≤◌, inl, inr, Bool, true, false, List, [], ◌∷◌, ◌++◌, length, map, get_or, replicate, refl, sym, ap, ◌∙◌, subst, arith, Option, Some, None, Contains, eqb, length-append, length-take-le}
+use Rattle.std.specs.Prelude.{unwrap_or, IfSome}
+use Rattle.std.specs.List.{flat_map}
+use Rattle.std.proofs.lemmas.Bool.{cases_Bool, cond_both}
 use Rattle.std.proofs.lemmas.List.Elements.{Contains-append_cases}
 use Rattle.elf_image.specs.Images.{ImageData}
 use Rattle.tcd_plan.specs.PlanData.{PlanData}
 use Rattle.tc_isa.specs.declared.shapes.Arg.{Arg}
 use Rattle.tc_isa.specs.declared.shapes.Arg.TheVariants.{Reg, Word}
 use Rattle.tc_isa.specs.declared.shapes.Cond.{Cond}
-use Rattle.tc_isa.specs.declared.shapes.Op.TheVariants.{Add, Sub, Sh}
-use Rattle.tc_isa.specs.declared.shapes.Target.{Target}
+use Rattle.tc_isa.specs.declared.shapes.Op.TheVariants.{Add, Sh}
 use Rattle.tc_isa.specs.declared.shapes.Shape.{Shape}
 use Rattle.tc_isa.specs.declared.shapes.Shape.TheVariants.{Compute, Scaled, Load, Store, Branch, Jump, Call, Ret, Rfe, Svlcx, Rslcx, Bisr, Enable, Disable, Syscall, Mfcr, Mtcr, Nothing}
 use Rattle.tc_isa.specs.Bounded.{IsShape}
 use Rattle.tc_machine.specs.Machine.{moved}
 use Rattle.value_domain.specs.declared.values.Val.{Val}
 use Rattle.value_domain.specs.declared.states.State.{State}
-use Rattle.value_domain.specs.Limits.{Limits, AreLimits}
+use Rattle.value_domain.specs.Limits.{Limits}
 use Rattle.value_domain.specs.Values.{IsValue, any_val}
-use Rattle.value_domain.specs.State.{AreValues, Covers, is_lower_slot}
-use Rattle.value_domain.proofs.RangeLaws.{one_value, any_value}
+use Rattle.value_domain.specs.State.{AreValues, is_lower_slot}
+use Rattle.value_domain.proofs.RangeLaws.{any_value}
 use Rattle.vd_transfer.specs.Operations.{value_of}
 use Rattle.vd_transfer.specs.Effects.{address_of, transfer_of, with_base, HasRoom}
 use Rattle.vd_transfer.specs.Branches.{set_arg, with_one, with_two, state_on_side, with_lowered_counter, refine_of, is_reg}
 use Rattle.vd_transfer.specs.Registers.{reg_of, arg_of, set_reg, word_val, slot}
 use Rattle.vd_transfer.specs.Soundness.{IsSetting}
 use Rattle.vd_transfer.proofs.HoldLaws.{reg_value, arg_value, same_length, set_values_at}
-use Rattle.vd_transfer.proofs.RegisterLaws.{length-forgotten, forgotten_values, at_is_value}
+use Rattle.vd_transfer.proofs.RegisterLaws.{length-forgotten, forgotten_values}
 use Rattle.vd_transfer.proofs.ValueLaws.{value_of_value}
 use Rattle.elf_image.proofs.ReadBytes.{byte_lt}
 use Rattle.depth_cert.specs.declared.keys.Key.{Key}
-use Rattle.depth_cert.specs.declared.points.Exit.{Exit}
 use Rattle.cfg_recover.specs.Code.{IsCode}
-use Rattle.cfg_recover.specs.Entries.{call_key, irq_key, sys_key, aln_key, stack_of, entry_with, call_entry, irq_entry, aln_entry, sys_entry}
-use Rattle.depth_cert.specs.Exits.{lower_values, exit_of, with_lower_from, after_of}
-use Rattle.cfg_recover.specs.Local.{targets_of, are_aligned, IsFaultless}
-use Rattle.cfg_recover.specs.Duties.{Duty, jump, enter, resume, leave, Owed, owed, loaded_at, jumps_to, jump_on, next_of, successors_of, entered_and_back, entries_of, misaligned_at, misaligned_of, irqs_of, interrupts_of, leavings_of, duties_of}
+use Rattle.cfg_recover.specs.Entries.{call_key, sys_key, stack_of, entry_with, call_entry, aln_entry, sys_entry}
+use Rattle.depth_cert.specs.Exits.{lower_values, exit_of}
+use Rattle.cfg_recover.specs.Local.{targets_of, are_aligned}
+use Rattle.cfg_recover.specs.Duties.{jump, enter, resume, Owed, owed, loaded_at, jump_on, next_of, successors_of, entered_and_back, entries_of, misaligned_at, misaligned_of, leavings_of, duties_of}
 use Rattle.cfg_recover.proofs.CodeLaws.{IsCode-bounded}
-use Rattle.cfg_recover.proofs.EntryLaws.{lower_length, entry_length, aln_length, sys_length, transfer_length}
+use Rattle.cfg_recover.proofs.EntryLaws.{lower_length, entry_length, sys_length}
 use Rattle.depth_cert.proofs.ExitValues.{after-at, with_lower_length}
-use Rattle.cfg_recover.proofs.FlowStates.{set_values, entry_values}
+use Rattle.cfg_recover.proofs.FlowStates.{entry_values}
 use Rattle.depth_maker.specs.Growth.{IsGround, IsProperDuty, DutiesAreProper, AfterIsProper}
 use Rattle.depth_cert.specs.Known.{IsProper, IsProperExit}
-use Rattle.depth_maker.proofs.StateGrowth.{covers_same, setting_set, setting_write, set_locals}
+use Rattle.depth_maker.proofs.StateGrowth.{covers_same, setting_write, set_locals}
 use Rattle.depth_maker.proofs.EffectGrowth.{base_setting, address_value, branch_grows, word_value}
 use Rattle.depth_maker.proofs.LoadedValues.{loaded_value}
 use Rattle.depth_maker.proofs.OwnGrowth.{setting_of}

@@ -1,5 +1,5 @@
 -- In a derived assignment each frame has its entry point, and each is entered from the start.
-use Rattle.std.proofs.Common.{◌≡◌, ◌⊎◌, inl, inr, ℕ, ◌+◌, ◌≤◌, Bool, true, false, Option, Some, None, IsSome, refl, sym, ap, ◌∙◌, subst, arith}
+use Rattle.std.proofs.Common.{◌≡◌, ◌⊎◌, inl, inr, ℕ, ◌≤◌, Bool, true, false, Option, Some, None, IsSome, refl, sym, ap, ◌∙◌, subst}
 use Rattle.std.specs.Prelude.{if◌then◌else◌}
 use Rattle.elf_image.specs.Images.{ImageData}
 use Rattle.tcd_plan.specs.PlanData.{PlanData}
@@ -7,9 +7,8 @@ use Rattle.value_domain.specs.declared.states.State.{State}
 use Rattle.value_domain.specs.Limits.{Limits}
 use Rattle.depth_cert.specs.declared.keys.Key.{Key}
 use Rattle.cfg_recover.specs.Entries.{start_key, start_state}
-use Rattle.depth_cert.specs.Exits.{after_of}
 use Rattle.cfg_recover.specs.Duties.{Duty, jump, enter, resume, leave}
-use Rattle.cfg_recover.specs.Assignments.{Place, point, exit, Assignment, same_place, frame_of, asked, HasDuty, Asks, Joins, Derived, begins, joins, Closed, first_place}
+use Rattle.cfg_recover.specs.Assignments.{Place, point, exit, Assignment, same_place, frame_of, asked, HasDuty, Joins, Derived, begins, joins, Closed, first_place}
 use Rattle.depth_cert.specs.Known.{Known, state, leaving}
 use Rattle.cfg_recover.specs.Refusals.{Enters, MeetsNeeds, Reaches, here, by_entry}
 use Rattle.depth_maker.specs.Proper.{AllProper, AllFaultless, AreLawful}

@@ -1,7 +1,7 @@
 -- Entries of frames and the edges of their numbers: which points recur.
-use Rattle.std.proofs.Common.{◌≡◌, ◌⊎◌, inl, inr, ℕ, ◌+◌, ◌*◌, ◌^◌, ◌<◌, ◌≤◌, Bool, List, length, get_or, Option, Some, None, refl, sym, ap, ◌∙◌, subst, arith, Contains}
+use Rattle.std.proofs.Common.{◌≡◌, inl, inr, ℕ, ◌+◌, ◌*◌, ◌^◌, ◌<◌, ◌≤◌, Bool, List, length, get_or, Some, refl, sym, ap, ◌∙◌, subst, arith, Contains}
 use Rattle.std.specs.Prelude.{map, slice_index}
-use Rattle.std.proofs.lemmas.Bool.{cases_lt, cases_eq}
+use Rattle.std.proofs.lemmas.Bool.{cases_lt}
 use Rattle.std.proofs.lemmas.List.{get_or-map}
 use Rattle.elf_image.specs.Images.{ImageData}
 use Rattle.tcd_plan.specs.PlanData.{PlanData}
@@ -13,8 +13,8 @@ use Rattle.depth_cert.specs.Keys.{IsKey, number_of_key}
 use Rattle.depth_cert.proofs.KeyLaws.{one_number}
 use Rattle.cfg_recover.specs.Duties.{duties_of}
 use Rattle.cfg_recover.specs.Entries.{start_key}
-use Rattle.cfg_recover.specs.Assignments.{Place, point, Assignment, frame_of, Closed}
-use Rattle.depth_cert.specs.Known.{Known, state}
+use Rattle.cfg_recover.specs.Assignments.{Place, point, Assignment, Closed}
+use Rattle.depth_cert.specs.Known.{state}
 use Rattle.cfg_recover.specs.Refusals.{Enters, Reaches, here, by_entry, Recurs, point_number}
 use Rattle.cfg_recover.proofs.CodeLaws.{IsCode-one}
 use Rattle.cfg_recover.proofs.Members.{contains_map}

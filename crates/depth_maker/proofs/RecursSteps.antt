@@ -1,19 +1,16 @@
 -- The first point that recurs, by the code's table.
-use Rattle.std.proofs.Common.{◌≡◌, ◌⊎◌, inl, inr, ℕ, ◌+◌, ◌^◌, ◌<◌, ◌≤◌, Bool, List, [], ◌∷◌, ◌++◌, length, get_or, Option, Some, None, IsSome, refl, sym, ap, ◌∙◌, subst, arith, Contains}
+use Rattle.std.proofs.Common.{◌≡◌, inl, inr, ℕ, ◌+◌, ◌<◌, ◌≤◌, Bool, List, [], ◌∷◌, ◌++◌, length, get_or, Option, Some, None, IsSome, refl, sym, ap, ◌∙◌, subst, arith, Contains}
 use Rattle.std.specs.Prelude.{map, IsTrue, slice_index}
 use Rattle.std.proofs.lemmas.List.{length-map, get_or_default}
-use Rattle.std.proofs.lemmas.List.Elements.{Contains-get_or, Contains-push_cases}
+use Rattle.std.proofs.lemmas.List.Elements.{Contains-push_cases}
 use Rattle.value_domain.specs.declared.states.State.{State}
 use Rattle.depth_cert.specs.declared.keys.Key.{Key}
-use Rattle.depth_cert.specs.Keys.{number_of_key, same_key}
-use Rattle.cfg_recover.specs.Assignments.{Place, point}
+use Rattle.depth_cert.specs.Keys.{number_of_key}
+use Rattle.cfg_recover.specs.Assignments.{point}
 use Rattle.depth_cert.specs.Known.{Known, state}
-use Rattle.cfg_recover.specs.Refusals.{Recurs}
-use Rattle.depth_maker.specs.Counts.{AreCounted}
 use Rattle.frame_places.specs.Numbers.{number_in}
 use Rattle.call_needs.specs.Reaching.{IsFirstRecurring, IsMarked, IsRecurring, AreReaching, AreBetween}
-use Rattle.depth_maker.specs.Recursing.{EdgesOn, EntersBy, EntersMarked, IsFirstMarked, IsRecursion, RecursBy, RecursFirstBy, orders_in}
-use Rattle.frame_places.specs.Spots.{IsAddressIn}
+use Rattle.depth_maker.specs.Recursing.{EdgesOn, EntersMarked, IsFirstMarked, IsRecursion, RecursBy, RecursFirstBy, orders_in}
 use Rattle.depth_maker.specs.RowsAt.{IsRowAt}
 use Rattle.depth_maker.specs.RowsBy.{IsSource}
 use Rattle.depth_maker.specs.Spots.{place_of}

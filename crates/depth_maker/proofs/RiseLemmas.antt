@@ -1,18 +1,17 @@
 -- A rise, over plain tables.
-use Rattle.std.proofs.Common.{◌≡◌, ℕ, ◌<◌, Bool, true, false, cond, ◌⊎◌, inl, inr, List, [], ◌∷◌, ◌++◌, Option, Some, None, IsSome, refl, sym, ap, subst, ◌∙◌, Contains}
-use Rattle.std.specs.Prelude.{if◌then◌else◌, Ok, Err, is_some, map}
+use Rattle.std.proofs.Common.{◌≡◌, ◌<◌, Bool, true, false, inl, inr, Option, Some, None, IsSome, refl, sym, ap, subst, ◌∙◌}
+use Rattle.std.specs.Prelude.{if◌then◌else◌, Err, is_some, map}
 use Rattle.indexmap.specs.IndexMap.{IndexMap, get}
 use Rattle.std.specs.declared.vec.Vec.{Vec}
 use Rattle.std.specs.declared.alloc.Global.{Global}
 use Rattle.elf_image.specs.Images.{ImageData}
 use Rattle.tcd_plan.specs.PlanData.{PlanData}
 use Rattle.value_domain.specs.Limits.{Limits}
-use Rattle.depth_cert.specs.declared.keys.Key.{Key}
-use Rattle.cfg_recover.specs.Assignments.{Place, point, exit, same_place, CoversAt, Asks, raised, Joins, Derived}
-use Rattle.depth_cert.specs.Known.{Known, state, CoversKnown, joined_known, priority_of, IsProperKnown}
-use Rattle.cfg_recover.specs.Refusals.{IsFault, HasFault, derived}
-use Rattle.depth_maker.specs.Proper.{AllProper, AreLawful}
-use Rattle.depth_maker.specs.Tables.{Table, IsTable, Settled, Marks}
+use Rattle.cfg_recover.specs.Assignments.{Place, same_place, CoversAt, Asks, raised, Joins}
+use Rattle.depth_cert.specs.Known.{Known, CoversKnown, priority_of}
+use Rattle.cfg_recover.specs.Refusals.{HasFault, derived}
+use Rattle.depth_maker.specs.Proper.{AreLawful}
+use Rattle.depth_maker.specs.Tables.{Table, IsTable, Marks}
 use Rattle.depth_maker.proofs.TableLaws.{table_rises, settled_stays, joined_covers, derived_proper}
 use Rattle.depth_maker.proofs.PlaceKinds.{unjoined_fault}
 use Rattle.frame_places.specs.declared.places.Spot.{Spot}
@@ -32,8 +31,8 @@ use Rattle.depth_maker.specs.Hearing.{HeardEntered}
 use Rattle.depth_maker.specs.Levels.{rank_at}
 use Rattle.depth_maker.proofs.HearingLaws.{heard_stays}
 use Rattle.frame_places.proofs.SpotLemmas.{spot_tells}
-use Rattle.depth_maker.proofs.SpotLemmas.{back, forth, agrees}
-use Rattle.frame_places.specs.Marks.{AllListed, Touched, is_idle, is_queued, Reads, Woken}
+use Rattle.depth_maker.proofs.SpotLemmas.{forth, agrees}
+use Rattle.frame_places.specs.Marks.{AllListed, is_idle, is_queued, Reads, Woken}
 use Rattle.depth_maker.specs.Counts.{AreFew}
 use Rattle.depth_maker.specs.View.{IsCountedIn, seen, IsFine, Keeps, Joined, Merges, Answered, CellsProper}
 use Rattle.frame_places.specs.Counting.{points_after, frames_after}

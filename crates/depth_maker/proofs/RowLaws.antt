@@ -1,5 +1,5 @@
 -- Numbers that meet the rows of a closed assignment are needs of it, and needs of it meet the rows.
-use Rattle.std.proofs.Common.{◌≡◌, ◌⊎◌, inl, inr, ℕ, zero, suc, ◌+◌, ◌-◌, ◌<◌, ◌≤◌, Bool, true, false, List, [], ◌∷◌, ◌++◌, length, get_or, Option, Some, None, IsSome, refl, sym, ap, ◌∙◌, subst, arith, Contains}
+use Rattle.std.proofs.Common.{◌≡◌, inl, inr, ℕ, zero, suc, ◌+◌, ◌-◌, ◌<◌, ◌≤◌, true, false, List, [], ◌∷◌, length, get_or, Option, Some, None, IsSome, refl, sym, ap, ◌∙◌, subst, arith, Contains}
 use Rattle.std.specs.Prelude.{map, slice_index}
 use Rattle.std.proofs.lemmas.Bool.{cases_lt}
 use Rattle.std.proofs.lemmas.List.{get_or_past}
@@ -12,7 +12,7 @@ use Rattle.value_domain.specs.Limits.{Limits}
 use Rattle.depth_cert.specs.declared.keys.Key.{Key}
 use Rattle.cfg_recover.specs.declared.local.Located.{Located}
 use Rattle.cfg_recover.specs.Changes.{StandsFaultless}
-use Rattle.cfg_recover.specs.Duties.{Owed, enter, duties_of}
+use Rattle.cfg_recover.specs.Duties.{enter, duties_of}
 use Rattle.cfg_recover.specs.Entries.{start_key}
 use Rattle.cfg_recover.specs.Assignments.{Place, point, Assignment, frame_of, Closed, Derived}
 use Rattle.depth_cert.specs.Known.{Known, state}
@@ -24,8 +24,8 @@ use Rattle.depth_maker.specs.Entered.{entered_in}
 use Rattle.frame_places.specs.Numbers.{number_in}
 use Rattle.value_domain.specs.Limits.{AreLimits}
 use Rattle.depth_maker.specs.Proper.{AllFaultless, AllProper, AreLawful}
-use Rattle.call_needs.specs.Rows.{MeetsRow, Meets, IsLow, IsWithin}
-use Rattle.depth_maker.specs.RowsAt.{IsRowAt, AreRows, need_by}
+use Rattle.call_needs.specs.Rows.{Meets, IsLow, IsWithin}
+use Rattle.depth_maker.specs.RowsAt.{AreRows, need_by}
 use Rattle.call_needs.specs.declared.row.Row.{Row}
 use Rattle.depth_maker.proofs.Reached.{needs_at_most}
 use Rattle.depth_maker.proofs.EnteredLemmas.{entered_owed, owed_entered}

@@ -1,5 +1,5 @@
 -- A certificate that says a solution is accepted.
-use Rattle.std.proofs.Common.{◌≡◌, ℕ, zero, suc, ◌+◌, ◌-◌, ◌^◌, ◌<◌, ◌≤◌, ◌⊎◌, inl, inr, Bool, true, false, cond, List, [], ◌∷◌, length, map, get_or, refl, sym, ap, ◌∙◌, subst, arith, Option, Some, None, IsSome, Contains, All, eqb}
+use Rattle.std.proofs.Common.{◌≡◌, ℕ, zero, suc, ◌+◌, ◌-◌, ◌^◌, ◌<◌, ◌≤◌, inl, inr, cond, List, [], ◌∷◌, length, map, get_or, refl, sym, ap, ◌∙◌, subst, arith, Option, Some, None, IsSome, Contains, eqb}
 use Rattle.std.specs.Prelude.{find, option_map, option_and_then, IsSomeAnd, IfSome}
 use Rattle.std.proofs.lemmas.Bool.{eq-eqb, ne_eqb}
 use Rattle.std.proofs.lemmas.List.{get_or_default}
@@ -22,16 +22,14 @@ use Rattle.cfg_recover.specs.Entries.{start_key, start_state}
 use Rattle.depth_cert.specs.Exits.{after_of, ExitCovers}
 use Rattle.cfg_recover.specs.Local.{IsFaultless}
 use Rattle.cfg_recover.specs.Duties.{Duty, jump, enter, resume, leave, Owed, duties_of}
-use Rattle.cfg_recover.specs.Accepting.{limits_in, HasPoint, IsMet, IsNeedAbove, HasNeed, RuleHolds, HoldsAtStart, HoldsAtEntry, HoldsAtNode, Accepts, need_of}
-use Rattle.cfg_recover.specs.Assignments.{Place, point, exit, known_at, known_in, CoversAt, asked, resumed, HasDuty, Asks}
+use Rattle.cfg_recover.specs.Accepting.{limits_in, HasPoint, IsMet, IsNeedAbove, HasNeed, RuleHolds, HoldsAtNode, Accepts, need_of}
+use Rattle.cfg_recover.specs.Assignments.{Place, point, exit, known_at, known_in, CoversAt, asked, resumed, HasDuty}
 use Rattle.depth_cert.specs.Known.{Known, state, leaving, CoversKnown, IsProper}
 use Rattle.cfg_recover.proofs.CodeLaws.{IsCode-bounded}
 use Rattle.depth_maker.specs.Growth.{IsGround}
-use Rattle.depth_maker.specs.Proper.{AllProper, AllFaultless}
 use Rattle.depth_maker.specs.Laws.{IsSolution}
-use Rattle.depth_maker.proofs.PlaceLaws.{over_state, over_exit, one_state}
 use Rattle.depth_maker.proofs.KeyDuties.{HasKey, duties_keys}
-use Rattle.depth_maker.proofs.Accepted.{found_in, AtPoint, at_point, AtExit, at_exit, find_agrees}
+use Rattle.depth_maker.proofs.Accepted.{at_point, at_exit, find_agrees}
 
 -- ---- what is found
 among_place : {A : Type 0} (f : A → ℕ) (x : A) (xs : List A) (k : ℕ) → k < length xs → get_or xs k x ≡ x → Among (f x) (map f xs)

@@ -1,5 +1,5 @@
 -- The certificate of a table is the one that is to be written.
-use Rattle.std.proofs.Common.{◌≡◌, ◌⊎◌, inl, inr, ℕ, zero, suc, ◌+◌, ◌-◌, ◌*◌, ◌^◌, ◌<◌, ◌≤◌, Bool, true, false, cond, List, [], ◌∷◌, length, map, get_or, refl, sym, ap, ◌∙◌, subst, arith, Option, Some, None, IsSome, Contains, All, eqb}
+use Rattle.std.proofs.Common.{◌≡◌, ◌⊎◌, inl, inr, ℕ, ◌+◌, ◌-◌, ◌*◌, ◌^◌, ◌<◌, ◌≤◌, true, false, List, [], ◌∷◌, length, map, get_or, refl, sym, ap, ◌∙◌, subst, arith, Option, Some, None, IsSome, Contains, All, eqb}
 use Rattle.std.specs.Prelude.{filter, find, sum_by, option_map, option_and_then, IfSome}
 use Rattle.std.specs.List.{IsDistinct, AllPairs}
 use Rattle.std.specs.List.Sorted.{IsPermutation, IsStrictlyIncreasing, IsNonDecreasingBy}
@@ -22,16 +22,16 @@ use Rattle.value_domain.proofs.RangeLaws.{span_count, set_value}
 use Rattle.depth_cert.specs.declared.keys.Key.{Key}
 use Rattle.depth_cert.specs.declared.points.Point as located
 use Rattle.depth_cert.specs.Keys.{IsKey, number_of_key, same_key}
-use Rattle.depth_cert.specs.Points.{IsWellOf, IsState, IsPoint, IsExit, ArePoints, find_point}
+use Rattle.depth_cert.specs.Points.{IsWellOf, IsState, IsPoint, IsExit, find_point}
 use Rattle.depth_cert.specs.Nodes.{NodeData, IsNode}
-use Rattle.depth_cert.specs.Certs.{CertData, IsCert, key_numbers, count_points}
+use Rattle.depth_cert.specs.Certs.{CertData, IsCert, count_points}
 use Rattle.cfg_recover.specs.Entries.{start_key}
 use Rattle.cfg_recover.specs.Accepting.{need_of}
 use Rattle.cfg_recover.specs.Assignments.{Place, point, exit, Assignment, same_place, frame_of, known_at, known_in, Closed, Derived}
 use Rattle.depth_cert.specs.Known.{Known, state, leaving, IsProper, IsProperExit, IsProperKnown}
-use Rattle.cfg_recover.specs.Refusals.{AreLeastNeeds, MeetsNeeds}
+use Rattle.cfg_recover.specs.Refusals.{AreLeastNeeds}
 use Rattle.cfg_recover.proofs.Members.{contains_map}
-use Rattle.depth_maker.specs.Counts.{AreCounted, AreFew}
+use Rattle.depth_maker.specs.Counts.{AreCounted}
 use Rattle.depth_maker.specs.Growth.{IsGround}
 use Rattle.depth_maker.specs.Proper.{AllFaultless}
 use Rattle.depth_maker.specs.Making.{IsWritten, needs_in}
@@ -41,7 +41,6 @@ use Rattle.depth_maker.specs.Spots.{place_of}
 use Rattle.frame_places.specs.declared.places.Spot.{Spot}
 use Rattle.frame_places.specs.declared.places.Spot.TheVariants.{Point, Exit}
 use Rattle.depth_maker.proofs.Accepted.{one_number}
-use Rattle.depth_maker.proofs.CountLaws.{none_some}
 use Rattle.depth_maker.proofs.DutyGrowth.{contained_map}
 use Rattle.depth_maker.proofs.FindLemmas.{map_twice, sum_twice, has_or_not, find_mapped, find_unmapped, filter_has, has_filter, strict, sum_of_filters, one_at_most, one_if}
 use Rattle.depth_maker.proofs.Lawful.{lawful}

@@ -1,10 +1,8 @@
 -- Places, as the code has them, and places.
-use Rattle.std.specs.Prelude.{◌≡◌, ℕ, ◌⊎◌, Bool, refl, true, false, ◌&&◌, nat_eq, List, [], ◌∷◌}
+use Rattle.std.specs.Prelude.{◌≡◌, ◌⊎◌, refl, true, false, List, [], ◌∷◌}
 use Rattle.std.proofs.Common.{ap, sym, subst, ◌∙◌, inl, inr, arith, Contains}
 use Rattle.std.proofs.lemmas.List.Elements.{Contains-append_cases, Contains-push_cases}
-use Rattle.std.proofs.Math.Bool.{beq}
-use Rattle.std.proofs.lemmas.Bool.{cases_Bool, eqb-true, eq-eqb}
-use Rattle.depth_cert.specs.declared.keys.Key.{Key}
+use Rattle.std.proofs.lemmas.Bool.{cases_Bool}
 use Rattle.cfg_recover.specs.Assignments.{Place, point, exit, same_place}
 use Rattle.frame_places.proofs.SpotLemmas.{spot_tells, spot_refl}
 use Rattle.depth_maker.proofs.PlaceLaws.{place_tells, place_same}

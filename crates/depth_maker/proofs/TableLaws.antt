@@ -7,14 +7,13 @@ use Rattle.tc_isa.specs.declared.shapes.Shape.{Shape}
 use Rattle.value_domain.specs.declared.states.State.{State}
 use Rattle.value_domain.specs.Limits.{Limits}
 use Rattle.depth_cert.specs.declared.keys.Key.{Key}
-use Rattle.depth_cert.specs.declared.points.Exit.{Exit}
 use Rattle.cfg_recover.specs.Code.{IsCode}
 use Rattle.cfg_recover.specs.Entries.{start_state}
 use Rattle.depth_cert.specs.Exits.{after_of}
 use Rattle.cfg_recover.specs.Local.{IsFaultless}
 use Rattle.cfg_recover.specs.Duties.{Duty, jump, enter, resume, leave, Owed, duties_of}
-use Rattle.cfg_recover.specs.Assignments.{Place, point, exit, Assignment, same_place, CoversAt, raised, asked, resumed, HasDuty, Asks, Joins, Derived, begins, joins, Closed, first_place}
-use Rattle.depth_cert.specs.Known.{Known, state, leaving, CoversKnown, joined_known, IsProper, IsProperKnown}
+use Rattle.cfg_recover.specs.Assignments.{Place, point, exit, Assignment, same_place, CoversAt, raised, asked, Joins, Derived, begins, joins, Closed, first_place}
+use Rattle.depth_cert.specs.Known.{Known, state, leaving, CoversKnown, IsProper, IsProperKnown}
 use Rattle.depth_maker.specs.Growth.{IsProperDuty}
 use Rattle.depth_maker.specs.Proper.{AllProper, AllFaultless, AreLawful}
 use Rattle.depth_maker.specs.Tables.{Table, Settled, IsResumed, IsTable, Marks}

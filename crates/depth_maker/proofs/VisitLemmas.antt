@@ -1,25 +1,22 @@
 -- A visit, over plain tables.
-use Rattle.std.proofs.Common.{◌≡◌, ℕ, ◌<◌, Bool, true, false, cond, ◌⊎◌, inl, inr, List, [], ◌∷◌, ◌++◌, Option, Some, None, IsSome, refl, sym, ap, subst, ◌∙◌, arith, length, Contains}
+use Rattle.std.proofs.Common.{◌≡◌, ℕ, Bool, true, false, ◌⊎◌, inl, inr, List, [], ◌∷◌, Option, Some, None, IsSome, refl, sym, ap, subst, ◌∙◌, Contains}
 use Rattle.std.specs.Prelude.{if◌then◌else◌}
 use Rattle.std.specs.Map.{lookup}
 use Rattle.indexmap.specs.IndexMap.{IndexMap, get}
-use Rattle.std.proofs.lemmas.List.Elements.{Contains-append_cases, Contains-push, Contains-push_cases}
+use Rattle.std.proofs.lemmas.List.Elements.{Contains-push}
 use Rattle.elf_image.specs.Images.{ImageData}
 use Rattle.tcd_plan.specs.PlanData.{PlanData}
-use Rattle.tc_isa.specs.declared.shapes.Shape.{Shape}
 use Rattle.value_domain.specs.declared.states.State.{State}
 use Rattle.value_domain.specs.Limits.{Limits}
 use Rattle.depth_cert.specs.declared.keys.Key.{Key}
-use Rattle.cfg_recover.specs.Code.{IsCode}
 use Rattle.cfg_recover.specs.Entries.{start_key, start_state}
 use Rattle.cfg_recover.specs.Local.{IsFaultless}
-use Rattle.cfg_recover.specs.Duties.{Owed, duties_of}
 use Rattle.cfg_recover.specs.Assignments.{Place, point, exit, same_place, Derived, begins, Closed, first_place}
 use Rattle.depth_cert.specs.Known.{Known, state, leaving}
 use Rattle.depth_maker.specs.Hearing.{HeardEntered}
 use Rattle.depth_maker.specs.Proper.{AllFaultless, AreLawful}
-use Rattle.depth_maker.specs.Tables.{Table, IsTable, Settled}
-use Rattle.depth_maker.proofs.TableLaws.{derived_proper, table_closed, table_marked, table_settles, settled_again}
+use Rattle.depth_maker.specs.Tables.{Table}
+use Rattle.depth_maker.proofs.TableLaws.{derived_proper, table_closed, table_marked, settled_again}
 use Rattle.depth_maker.proofs.PlaceKinds.{IsOfKind, derived_kinds}
 use Rattle.depth_maker.proofs.HearingLaws.{heard_again}
 use Rattle.depth_maker.proofs.LevelSteps.{rises_then, same_level}
@@ -38,8 +35,8 @@ use Rattle.frame_places.specs.Spots.{spot_eq}
 use Rattle.depth_maker.specs.Spots.{spot_of, place_of}
 use Rattle.depth_maker.proofs.SpotLemmas.{front_cases, back, forth, agrees}
 use Rattle.frame_places.proofs.SpotLemmas.{spot_tells, spot_refl}
-use Rattle.frame_places.specs.Marks.{AllListed, idle_mark, is_idle, is_queued, settled_mark, Reads}
-use Rattle.depth_maker.specs.View.{AreExitsRead, IsCountedIn, seen, IsFine, IsVisited, Keeps, IsOpenAt, NoneOpen, AllSettled, Paid}
+use Rattle.frame_places.specs.Marks.{idle_mark, is_idle, is_queued, settled_mark, Reads}
+use Rattle.depth_maker.specs.View.{AreExitsRead, IsCountedIn, seen, IsFine, IsVisited, IsOpenAt, NoneOpen, AllSettled, Paid}
 use Rattle.frame_places.proofs.MarkLemmas.{sides}
 use Rattle.frame_places.proofs.NearbyLemmas.{queued_mark}
 use Rattle.depth_maker.proofs.CountedLemmas.{counted_again, counted_start}

@@ -6,7 +6,6 @@ use Rattle.value_domain.specs.declared.states.State.{State}
 use Rattle.value_domain.specs.Limits.{Limits}
 use Rattle.value_domain.specs.Values.{IsBelow, IsWell, any_val}
 use Rattle.vd_transfer.specs.Registers.{word_val}
-use Rattle.depth_cert.specs.declared.keys.Key.{Key}
 use Rattle.depth_cert.specs.Known.{IsProper, state}
 use Rattle.cfg_recover.specs.Assignments.{Assignment, CoversAt, point}
 use Rattle.cfg_recover.specs.Entries.{entry_with, irq_key}

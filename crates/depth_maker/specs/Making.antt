@@ -11,7 +11,7 @@ use Rattle.cfg_recover.specs.Entries.{start_key}
 use Rattle.cfg_recover.specs.Accepting.{Accepts, need_of}
 use Rattle.depth_cert.specs.Keys.{same_key}
 use Rattle.cfg_recover.specs.Assignments.{Derived, Closed, IsBelowAt, known_in}
-use Rattle.cfg_recover.specs.Refusals.{AreLeastNeeds, IsLeast, IsRefusal, IsTooLarge}
+use Rattle.cfg_recover.specs.Refusals.{AreLeastNeeds, IsLeast, IsRefusal}
 use Rattle.depth_maker.specs.Growth.{IsGround}
 use Rattle.depth_maker.specs.Proper.{AllFaultless}
 

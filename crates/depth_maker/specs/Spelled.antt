@@ -1,5 +1,5 @@
 -- The certificate of a table: a node for each frame, by ascending key, with the frame's points by ascending address.
-use Rattle.std.specs.Prelude.{◌≡◌, ◌≤◌, ◌<◌, ◌-◌, ◌^◌, ◌++◌, ℕ, Bool, false, List, [], map, filter, Option, Some, None, All, IfSome, IsSome, Contains}
+use Rattle.std.specs.Prelude.{◌≡◌, ◌≤◌, ◌<◌, ◌-◌, ◌^◌, ◌++◌, ℕ, false, List, [], map, filter, Option, Some, None, All, IfSome, IsSome, Contains}
 use Rattle.std.specs.List.{flat_map}
 use Rattle.std.specs.List.Sorted.{IsPermutation, IsNonDecreasingBy}
 use Rattle.elf_image.specs.Images.{ImageData}
@@ -9,13 +9,12 @@ use Rattle.value_domain.specs.Thresholds.{limits_for}
 use Rattle.depth_cert.specs.declared.keys.Key.{Key}
 use Rattle.depth_cert.specs.declared.points.Exit as exits
 use Rattle.depth_cert.specs.declared.points.Point as points
-use Rattle.depth_cert.specs.Keys.{IsKey, same_key}
 use Rattle.depth_cert.specs.Nodes.{NodeData}
 use Rattle.depth_cert.specs.Certs.{CertData}
 use Rattle.depth_cert.specs.Spelling.{bytes_of, bytes_of_exit, bytes_of_node, bytes_of_point}
 use Rattle.cfg_recover.specs.Assignments.{Place, point, exit, Assignment}
 use Rattle.depth_cert.specs.Known.{Known, state, leaving}
-use Rattle.cfg_recover.specs.Refusals.{AreLeastNeeds, point_number}
+use Rattle.cfg_recover.specs.Refusals.{AreLeastNeeds}
 use Rattle.depth_maker.specs.Making.{IsWritten}
 use Rattle.depth_maker.specs.RowsAt.{need_by}
 use Rattle.depth_maker.specs.RowsBy.{IsSource}

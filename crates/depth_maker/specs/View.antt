@@ -1,5 +1,5 @@
 -- The table as the theory sees it.
-use Rattle.std.specs.Prelude.{◌≡◌, ◌<◌, ◌==◌, ◌^◌, ℕ, Bool, true, false, ◌⊎◌, if◌then◌else◌, Option, Some, None, IsSome, List, [], ◌∷◌, ◌++◌, length, map, Contains, Result, Ok, Err}
+use Rattle.std.specs.Prelude.{◌≡◌, ◌<◌, ℕ, Bool, true, false, Option, Some, None, IsSome, List, [], ◌∷◌, map, Contains, Result, Ok, Err}
 use Rattle.std.specs.List.{flat_map}
 use Rattle.indexmap.specs.IndexMap.{IndexMap, get}
 use Rattle.std.specs.declared.vec.Vec.{Vec}
@@ -18,16 +18,16 @@ use Rattle.cfg_recover.specs.Code.{IsCode}
 use Rattle.cfg_recover.specs.Entries.{call_key, sys_key, sys_entry}
 use Rattle.cfg_recover.specs.Local.{IsFaultless}
 use Rattle.cfg_recover.specs.Duties.{Duty, Owed, duties_of, entered_and_back, entries_of, interrupts_of, misaligned_at, misaligned_of, next_of, successors_of}
-use Rattle.cfg_recover.specs.Assignments.{Place, point, same_place, CoversAt, Asks, Closed, Derived, raised}
+use Rattle.cfg_recover.specs.Assignments.{point, CoversAt, Asks, Closed, Derived, raised}
 use Rattle.depth_cert.specs.Known.{Known, state, CoversKnown, joined_known, IsProper, IsProperKnown}
 use Rattle.cfg_recover.specs.Refusals.{IsFault}
 use Rattle.depth_maker.specs.Growth.{IsProperDuty}
 use Rattle.depth_maker.specs.Proper.{AllFaultless}
 use Rattle.depth_maker.specs.Tables.{Table, IsTable, Settled}
 use Rattle.frame_places.specs.declared.places.Spot.{Spot}
-use Rattle.frame_places.specs.declared.places.Spot.TheVariants.{Point, Exit}
+use Rattle.frame_places.specs.declared.places.Spot.TheVariants.{Point}
 use Rattle.frame_places.specs.declared.places.Mark.{Mark}
-use Rattle.frame_places.specs.declared.places.Mark.TheVariants.{Idle, Plain, Queued, Open}
+use Rattle.frame_places.specs.declared.places.Mark.TheVariants.{Plain, Open}
 use Rattle.frame_places.specs.declared.refusals.Refusal.{Refusal}
 use Rattle.frame_places.specs.declared.refusals.Refusal.TheVariants.{Fault, NoMemory}
 use Rattle.depth_maker.specs.declared.table.Table as made

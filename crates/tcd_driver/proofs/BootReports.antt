@@ -1,5 +1,5 @@
 -- What `boot` reports.
-use Rattle.std.proofs.Common.{◌≡◌, ◌≢◌, ◌-◌, ℕ, [], Err, sym, ap, subst, ◌∙◌}
+use Rattle.std.proofs.Common.{◌≡◌, ◌≢◌, ◌-◌, ℕ, [], sym, ap, subst, ◌∙◌}
 use Rattle.elf_image.specs.Images.{ImageData, IsImage}
 use Rattle.tcd_plan.specs.PlanData.{PlanData, IsPlan}
 use Rattle.tc_machine.specs.Safe.{Safe}
@@ -13,7 +13,6 @@ use Rattle.tc_boot.proofs.JudgeOne.{not_both}
 use Rattle.tcd_reading.specs.Reports.{Report, says}
 use Rattle.tcd_forms.specs.Results.{boots_line}
 use Rattle.tcd_driver.specs.Boot.{IsBootVerdict, refused, unbooted, boots}
-use Rattle.tcd_reading.specs.declared.status.Status.{Status}
 use Rattle.tcd_reading.specs.declared.status.Status.TheVariants.{Done, Refused, BadWords}
 use Rattle.tcd_reading.proofs.Decided.{AreAlike, status_is, writes_are}
 

@@ -18,7 +18,6 @@ use Rattle.tcd_reading.specs.Reports.{Report, says}
 use Rattle.tcd_driver.specs.Forms.{cells_form}
 use Rattle.tcd_forms.specs.Results.{certified_cells_line}
 use Rattle.tcd_driver.specs.Cells.{IsCellsVerdict, refused, broken, certified}
-use Rattle.tcd_reading.specs.declared.status.Status.{Status}
 use Rattle.tcd_reading.specs.declared.status.Status.TheVariants.{Done, Refused, BadWords}
 use Rattle.tcd_reading.proofs.Decided.{AreAlike, IsLawful, status_is, writes_are}
 

@@ -3,17 +3,14 @@ use Rattle.std.proofs.Common.{◌≡◌, ◌≢◌, ◌≤◌, ◌<◌, ◌^◌,
 use Rattle.std.specs.Prelude.{IfOk, IsOkAnd}
 use Rattle.elf_image.specs.Images.{ImageData}
 use Rattle.tcd_plan.specs.PlanData.{PlanData, IsPlan}
-use Rattle.tc_machine.specs.Safe.{Safe}
 use Rattle.depth_cert.specs.Certs.{CertData}
 use Rattle.depth_cert.specs.Grammar.{certificate_of}
-use Rattle.cfg_recover.specs.Accepting.{Accepts, certified_need}
 use Rattle.depth_check.proofs.FirstLaws.{fails_refutes}
 use Rattle.depth_check.proofs.Held.{edges_are_owed}
 use Rattle.tcd_report.specs.Graphs.{IsGraph}
-use Rattle.tcd_report.specs.Reports.{IsReport}
 use Rattle.tcd_report.proofs.EdgeProofs.{edges_stand}
 use Rattle.tcd_reading.specs.Reports.{Report, says}
-use Rattle.tcd_driver.specs.Made.{IsCertified, SpellBest, SpellCertified}
+use Rattle.tcd_driver.specs.Made.{IsCertified, SpellBest}
 use Rattle.tcd_driver.specs.Cfg as cfg
 use Rattle.tcd_driver.specs.Cfg.{IsDrawn, IsDrawing, SpellOne}
 use Rattle.tcd_driver.specs.Reporting as reporting

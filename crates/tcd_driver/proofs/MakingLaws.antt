@@ -1,20 +1,19 @@
 -- What the commands that make a certificate report.
-use Rattle.std.proofs.Common.{◌≡◌, ◌≢◌, ◌≤◌, ◌-◌, ◌^◌, ℕ, List, [], length, Result, Ok, Err, refl, sym, ap, subst, ◌∙◌}
+use Rattle.std.proofs.Common.{◌≡◌, ◌≢◌, ◌≤◌, ◌-◌, ◌^◌, ℕ, List, [], length, Result, Ok, sym, ap, subst, ◌∙◌}
 use Rattle.elf_image.specs.Images.{ImageData}
 use Rattle.tcd_plan.specs.PlanData.{PlanData}
 use Rattle.depth_cert.specs.Certs.{CertData, IsCert}
-use Rattle.depth_cert.specs.Spelling.{bytes_of}
 use Rattle.depth_cert.specs.Grammar.{certificate_of}
 use Rattle.depth_cert.proofs.BackLaws.{written_is_read}
 use Rattle.depth_cert.proofs.SizeLaws.{cert_most}
 use Rattle.tcd_base.specs.declared.errors.FormErr.{FormErr}
 use Rattle.tc_machine.specs.Safe.{Safe}
 use Rattle.cfg_recover.specs.Accepting.{Accepts, certified_need}
-use Rattle.depth_maker.specs.Making.{IsMade, NoneAccepted}
+use Rattle.depth_maker.specs.Making.{NoneAccepted}
 use Rattle.tcd_reading.specs.Reports.{Report, writes_file}
 use Rattle.tcd_forms.specs.Lines.{certified_line}
 use Rattle.depth_maker.specs.Made.{AreMade}
-use Rattle.tcd_driver.specs.Made.{IsBest, first, second, IsCertified, AreNone, SpellBest, SpellCertified}
+use Rattle.tcd_driver.specs.Made.{IsBest, first, second, SpellBest, SpellCertified}
 use Rattle.tcd_driver.specs.Cert as made
 use Rattle.tcd_driver.specs.Cert.{IsCertifying}
 use Rattle.tcd_reading.specs.declared.status.Status.TheVariants.{Done, Refused, BadWords}

@@ -1,5 +1,5 @@
 -- What `taskcert` reports.
-use Rattle.std.proofs.Common.{◌≡◌, ◌≢◌, ◌-◌, ◌*◌, ◌+◌, ◌^◌, ◌<◌, ◌≤◌, ◌⊎◌, ◌==◌, inl, inr, Bool, zero, ℕ, suc, refl, List, [], ◌∷◌, ◌++◌, length, get_or, map, Option, Some, None, Result, Ok, Err, sym, ap, subst, ◌∙◌, arith, Contains}
+use Rattle.std.proofs.Common.{◌≡◌, ◌≢◌, ◌-◌, ◌*◌, ◌+◌, ◌^◌, ◌<◌, ◌≤◌, ◌⊎◌, ◌==◌, inl, inr, zero, ℕ, suc, refl, List, [], ◌∷◌, ◌++◌, length, Option, Some, None, Result, Ok, sym, ap, subst, ◌∙◌, arith}
 use Rattle.std.specs.Prelude.{max, if◌then◌else◌, slice_get}
 use Rattle.std.specs.List.{find}
 use Rattle.std.proofs.lemmas.Bool.{cases_lt, eqb-true}
@@ -19,7 +19,7 @@ use Rattle.depth_cert.specs.Grammar.{certificate_of}
 use Rattle.depth_cert.proofs.BackLaws.{written_is_read}
 use Rattle.depth_cert.proofs.SizeLaws.{cert_most}
 use Rattle.depth_cert.proofs.KeyLaws.{found_in}
-use Rattle.cfg_recover.specs.Accepting.{Accepts, certified_need, need_of}
+use Rattle.cfg_recover.specs.Accepting.{certified_need, need_of}
 use Rattle.cfg_recover.specs.Entries.{start_key}
 use Rattle.depth_maker.specs.Making.{IsMade, needs_in}
 use Rattle.depth_maker.specs.Made.{AreMade, IsRefused}
@@ -27,10 +27,9 @@ use Rattle.depth_maker.specs.declared.answering.MakeErr.{MakeErr}
 use Rattle.depth_maker.specs.declared.answering.MakeErr.TheVariants as make_err
 use Rattle.depth_maker.proofs.Accepted.{find_agrees}
 use Rattle.task_chains.specs.Tasks.{TasksData, AreTasks, count}
-use Rattle.task_chains.specs.Routine.{HasRoutine, IsRoutineFault}
+use Rattle.task_chains.specs.Routine.{HasRoutine}
 use Rattle.task_chains.specs.Views.{FitPlan, view_image_of, view_plan_of}
 use Rattle.task_chains.specs.Apart.{KeepsApart, FailsApart, IsTaskFault}
-use Rattle.task_chains.specs.Safe.{IsJudged, need_of_task}
 use Rattle.task_chains.proofs.GrowthLaws.{task_faults_grow, task_faults_refute}
 use Rattle.task_chains.proofs.Together.{tasks_are_safe}
 use Rattle.tcd_reading.specs.Reports.{Report, Written, says}

@@ -1,5 +1,5 @@
 -- What `tasks` reports.
-use Rattle.std.proofs.Common.{◌≡◌, ◌≢◌, ◌-◌, ◌*◌, ◌+◌, ◌^◌, ◌<◌, ◌≤◌, ◌⊎◌, ◌==◌, inl, inr, true, false, ℕ, suc, Bool, refl, List, [], length, get_or, map, Option, Some, Ok, Err, sym, ap, subst, ◌∙◌, arith}
+use Rattle.std.proofs.Common.{◌≡◌, ◌-◌, ◌*◌, ◌+◌, ◌^◌, ◌<◌, ◌≤◌, ◌⊎◌, ◌==◌, inl, inr, true, false, ℕ, suc, Bool, refl, List, [], length, get_or, Option, Some, Ok, Err, sym, ap, subst, ◌∙◌, arith}
 use Rattle.std.specs.Prelude.{max, if◌then◌else◌, slice_get}
 use Rattle.std.proofs.lemmas.Bool.Decides.{eqb_tells}
 use Rattle.std.proofs.lemmas.Bool.{cases_lt}
@@ -15,7 +15,7 @@ use Rattle.cfg_recover.specs.Accepting.{Accepts, IsFirstFault, certified_need}
 use Rattle.depth_check.proofs.FirstLaws.{fails_refutes}
 use Rattle.depth_check.proofs.Held as held
 use Rattle.task_chains.specs.Tasks.{TasksData, AreTasks, count}
-use Rattle.task_chains.specs.Routine.{HasRoutine, IsRoutineFault}
+use Rattle.task_chains.specs.Routine.{HasRoutine}
 use Rattle.task_chains.specs.Views.{FitPlan, view_image_of, view_plan_of}
 use Rattle.task_chains.specs.Apart.{KeepsApart, IsTaskFault}
 use Rattle.task_chains.specs.Safe.{IsJudged}
@@ -24,11 +24,11 @@ use Rattle.task_chains.proofs.ReadOne.{reads_one}
 use Rattle.task_chains.proofs.Together.{tasks_are_safe}
 use Rattle.task_chains.proofs.ViewPlan.{view_is_plan}
 use Rattle.tcd_reading.specs.Reports.{Report, says}
-use Rattle.tcd_reading.specs.Inputs.{Reading, each, answer}
+use Rattle.tcd_reading.specs.Inputs.{Reading}
 use Rattle.tcd_forms.specs.Forms.{cert_form}
 use Rattle.tcd_driver.specs.Forms.{tasks_form}
-use Rattle.tcd_forms.specs.Results.{certified_tasks_line, sum_line, refused_task_line, switch_line}
-use Rattle.tcd_driver.specs.Tasks.{cert_of, IsTaskRefused, unaccepted, not_apart, JudgesTask, needs_of, sum_of_needs, AreJudged, IsFirstRefused, IsTasksVerdict, no_switch, refused, above, certified, if_as_many, with_a_name_each, certs_reading}
+use Rattle.tcd_forms.specs.Results.{certified_tasks_line, sum_line}
+use Rattle.tcd_driver.specs.Tasks.{cert_of, IsTaskRefused, unaccepted, not_apart, needs_of, sum_of_needs, AreJudged, IsTasksVerdict, no_switch, refused, above, certified, if_as_many, with_a_name_each, certs_reading}
 use Rattle.tcd_reading.specs.declared.status.Status.{Status}
 use Rattle.tcd_reading.specs.declared.status.Status.TheVariants.{Done, Refused, BadInput, BadWords}
 use Rattle.tcd_reading.proofs.Decided.{AreAlike, IsLawful, IsDecided, decided_each, decided_answer, status_is, writes_are}

@@ -1,6 +1,5 @@
 use Rattle.std.proofs.Common.{sym, ◌∙◌, ◌≡◌, ap, subst, Some}
 use Rattle.indexmap.specs.IndexMap.{get}
-use Rattle.value_domain.specs.declared.states.State.{State}
 use Rattle.depth_cert.specs.declared.points.Exit.{Exit}
 use Rattle.depth_cert.specs.Exits.{after_of}
 use Rattle.depth_cert.specs.Known.{Known, leaving, state}

@@ -1,7 +1,6 @@
-use Rattle.std.proofs.Common.{subst, arith, Option}
-use Rattle.depth_maker.specs.Hearing.{AreEntered, HeardEntered}
+use Rattle.std.proofs.Common.{subst, arith}
+use Rattle.depth_maker.specs.Hearing.{HeardEntered}
 use Rattle.depth_maker.specs.View.{seen}
-use Rattle.depth_maker.specs.declared.heard.Heard.{Heard}
 use Rattle.depth_maker.proofs.PaidHeard.{paid_already}
 use Rattle.depth_maker.proofs.entries.is_heard.Goals as goal
 

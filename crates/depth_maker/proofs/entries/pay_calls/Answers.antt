@@ -1,4 +1,4 @@
-use Rattle.std.proofs.Common.{sym, subst, ap, ◌∙◌, ℕ, List, take, get_or}
+use Rattle.std.proofs.Common.{sym, subst, ℕ, List, get_or}
 use Rattle.std.proofs.lemmas.List.{take_all}
 use Rattle.vd_transfer.specs.Changes.{state_after}
 use Rattle.depth_cert.specs.declared.keys.Key.{Key}

@@ -1,4 +1,4 @@
-use Rattle.std.proofs.Common.{sym, subst, ap, ◌∙◌, ◌≡◌, refl, ℕ, List, [], ◌∷◌, take, get_or}
+use Rattle.std.proofs.Common.{sym, subst, ap, ◌≡◌, refl, ℕ, List, [], ◌∷◌, get_or}
 use Rattle.std.proofs.lemmas.List.{take_all}
 use Rattle.value_domain.specs.declared.states.State.{State}
 use Rattle.vd_transfer.specs.declared.change.Change.{Change}

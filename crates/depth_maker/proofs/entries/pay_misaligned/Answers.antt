@@ -1,4 +1,4 @@
-use Rattle.std.proofs.Common.{sym, subst, ap, ◌∙◌, ◌≡◌, List, [], ◌∷◌}
+use Rattle.std.proofs.Common.{sym, subst, ◌∙◌, List, [], ◌∷◌}
 use Rattle.std.specs.Prelude.{OnOk}
 use Rattle.value_domain.specs.declared.states.State.{State}
 use Rattle.vd_transfer.specs.Changes.{state_after}

@@ -1,5 +1,4 @@
-use Rattle.std.proofs.Common.{sym, subst, ap, ◌∙◌, refl, ℕ, List, take, get_or, Contains}
-use Rattle.std.specs.Prelude.{◌≡◌}
+use Rattle.std.proofs.Common.{sym, subst, ap, ◌∙◌, refl, ℕ, List, Contains}
 use Rattle.std.proofs.lemmas.List.{take_all}
 use Rattle.depth_cert.specs.declared.keys.Key.{Key}
 use Rattle.frame_places.specs.Numbers.{number_in}

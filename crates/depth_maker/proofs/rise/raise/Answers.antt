@@ -1,4 +1,4 @@
-use Rattle.std.proofs.Common.{Bool, ap, ◌∙◌, subst, sym, refl, arith}
+use Rattle.std.proofs.Common.{Bool, ap, ◌∙◌, subst, refl, arith}
 use Rattle.std.specs.Prelude.{is_some}
 use Rattle.frame_places.specs.Counting.{Passing, frames_after, points_after}
 use Rattle.std.proofs.lemmas.Result.{err_from_is_err_and}

@@ -1,4 +1,4 @@
-use Rattle.std.proofs.Common.{subst, take, List}
+use Rattle.std.proofs.Common.{subst, List}
 use Rattle.std.proofs.lemmas.List.{take_all}
 use Rattle.std.proofs.lemmas.List.Elements.{Contains-get_or}
 use Rattle.std.proofs.lemmas.List.Sorted.{Contains-permutation, IsPermutation-sym}

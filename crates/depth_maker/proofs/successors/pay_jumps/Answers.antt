@@ -1,7 +1,6 @@
-use Rattle.std.proofs.Common.{sym, subst, ℕ, [], ◌∷◌, List, take, get_or}
+use Rattle.std.proofs.Common.{sym, subst, ℕ, [], ◌∷◌, List, get_or}
 use Rattle.std.proofs.lemmas.List.{take_all}
 use Rattle.value_domain.specs.declared.states.State.{State}
-use Rattle.vd_transfer.specs.Changes.{state_after}
 use Rattle.cfg_recover.specs.Duties.{owed, jump, jumps_to}
 use Rattle.depth_maker.specs.View.{OwesDuty, PaidBy}
 use Rattle.depth_maker.proofs.Lawful.{lawful}

@@ -4,7 +4,6 @@ use Rattle.value_domain.specs.declared.values.Val.{Val}
 use Rattle.value_domain.specs.declared.states.State.{State}
 use Rattle.tc_machine.specs.Machine.{moved}
 use Rattle.vd_transfer.specs.Effects.{transfer_of}
-use Rattle.vd_transfer.specs.Changes.{state_after}
 use Rattle.cfg_recover.specs.Duties.{owed, jump, loaded_at}
 use Rattle.depth_maker.specs.View.{OwesDuty, PaidBy}
 use Rattle.depth_maker.proofs.PartLemmas.{owes_one}
