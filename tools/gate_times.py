@@ -114,4 +114,5 @@ def main():
     return table(run(given.command, given.to))
 
 
-sys.exit(main())
+if __name__ == "__main__":
+    sys.exit(main())
