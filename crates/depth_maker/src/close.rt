@@ -78,7 +78,8 @@ fn open_next(_ground: &Ground, table: &mut Table) -> Result<Option<Spot>, Refusa
     }
 }
 
-/// Joins what a point owes, and says whether its instruction enters no frame by itself; its state is written over `scratch`.
+/// Joins what a point owes, and says whether its instruction is seen to enter no frame by itself; its state is written over
+/// `scratch`.
 fn pay_point(
     alloc: Global,
     ground: &Ground,
@@ -106,7 +107,8 @@ fn pay_point(
     pay(alloc, table, &v)
 }
 
-/// Joins what is owed at a place, and says whether an instruction there enters no frame by itself; nothing is owed at an exit.
+/// Joins what is owed at a place, and says whether an instruction there is seen to enter no frame by itself; nothing is owed
+/// at an exit.
 fn pay_place(
     alloc: Global,
     ground: &Ground,

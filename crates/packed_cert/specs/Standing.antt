@@ -29,7 +29,7 @@ abbrev pub Stand : ℕ → List ℕ → ℕ → List Val → ℕ → Type 0
 Stand version bytes place [] end = place ≡ end
 Stand version bytes place (v ∷ vs) end = (value_at version (at bytes place) ≡ Ok (v, at bytes (behind bytes place))) × Stand version bytes (behind bytes place) vs end
 
--- they stand from a place in the bytes on
+-- they stand from a place in the bytes to another
 abbrev pub StandFrom : ℕ → List ℕ → List Val → ℕ → ℕ → Type 0
 StandFrom version bytes vs x end = (x ≤ length bytes) × Stand version bytes x vs end
 
@@ -46,14 +46,14 @@ abbrev pub MovedOver : List ℕ → ℕ → ℕ → Place → Place → Type 0
 MovedOver bytes x n before after =
     (after ≡ record before { place = before.place + n }) × (before.place + n ≤ length bytes) × (take n (drop x bytes) ≡ take n (drop before.place bytes))
 
--- the values that were read anew, of as many as there were before: the others are those of the same places before
+-- a row of values, of as many as there were before: those outside it are those of the same places before
 pub record AreAnew (before after : List Val) (anew : Anew) : Type 0 where
   pub count : length after ≡ length before
   pub order : anew.first ≤ anew.behind
   pub within : anew.behind ≤ length before
   pub kept : (k : ℕ) → k < length before → (k < anew.first) ⊎ (anew.behind ≤ k) → slice_index_or after k any_val ≡ slice_index_or before k any_val
 
--- one more was read, at a place behind them
+-- the row goes on to one more that was read, at a place behind it
 pub record IsWithRead (anew : Anew) (place : ℕ) (more : Anew) : Type 0 where
   pub first : more.first ≤ place
   pub behind : more.behind ≡ place + 1

@@ -10,13 +10,13 @@ use Rattle.packed_cert.specs.declared.state_places.StatePlaces.{StatePlaces}
 use Rattle.packed_cert.specs.declared.state_places.Anew.{Anew}
 use Rattle.packed_cert.specs.Points.{state_in, HasState, StandsAt}
 
--- the state of the point at hand, those of its values that the last step read, and the points behind it
+-- the state of the point at hand, values of it among which are all that the last step read, and the points behind it
 pub record WalkData : Type 0 where
   pub current : State
   pub anew : List Val
   pub left : List Point
 
--- each value at hand stood there before, or was read anew
+-- each value at hand stood there before, or is among those that are told
 abbrev pub KeepsOthers : State → WalkData → Type 0
 KeepsOthers before after =
     (r : ℕ) → r < length (after.current).regs → ((r < length before.regs) × (slice_index_or (after.current).regs r any_val ≡ slice_index_or before.regs r any_val)) ⊎ Contains after.anew (slice_index_or (after.current).regs r any_val)

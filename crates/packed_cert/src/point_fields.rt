@@ -90,7 +90,7 @@ fn read_state_fields(
 }
 
 /// Reads a state into a place, which may hold one whose values stand at places of their own; gives
-/// the places of what was read, and which values were read anew.
+/// the places of what was read, and among which of its values are all that were read anew.
 pub(crate) fn read_state_after(
     c: &mut Cursor<'_>,
     bytes: &[u8],

@@ -8,14 +8,15 @@ pub(crate) struct StatePlaces {
     pub(crate) end: usize,
 }
 
-/// Which of the values were read anew: those from the first on, before the one that is behind them.
+/// A row of values, from the first on and before the one that is behind them, among which are all
+/// that were read anew.
 #[derive(Clone, Copy)]
 pub(crate) struct Anew {
     pub(crate) first: usize,
     pub(crate) behind: usize,
 }
 
-/// Where a state stands that was read, and which of its values were read anew.
+/// Where a state stands that was read, and among which of its values are all that were read anew.
 #[derive(Clone, Copy)]
 pub(crate) struct ReadState {
     pub(crate) at: StatePlaces,

@@ -67,7 +67,7 @@ fn with_read(anew: Anew, place: usize) -> Anew
 }
 
 /// Reads a value for each place; those of `out` stand at places of their own, and one whose bytes
-/// come again isn't read. Tells which were read.
+/// come again isn't read. Tells a row of places outside which none was read.
 // The cursor stays behind until a value is read: `place` is where it would stand, and before `stop`
 // the bytes from `from` on stand there, too.
 pub(crate) fn read_values_after(

@@ -15,8 +15,9 @@ use std::marker::Model;
 use tcd_base::Cursor;
 use value_domain::{State, Val};
 
-/// A walk over the points of a node: the state of the point at hand, which of its values were read
-/// anew, the points behind it, and whether the first of these has that state, too.
+/// A walk over the points of a node: the state of the point at hand, a row of its values among which
+/// are all that were read anew, the points behind it, and whether the first of these has that state,
+/// too.
 #[derive(Drop)]
 pub struct PointWalk<'a> {
     bytes: &'a [u8],
@@ -112,7 +113,8 @@ impl<'a> PointWalk<'a> {
         &self.state
     }
 
-    /// The values that the last step read anew; the others of the state at hand were there before.
+    /// A row of the values at hand, among which are all that the last step read anew; the others of
+    /// the state at hand were there before.
     pub fn anew(&self) -> &[Val]
         ensures { result.now ≡ self.now.anew }
     {
@@ -152,7 +154,7 @@ fn comes_again(bytes: &[u8], points: &[PackedPoint], next: usize, held: Option<S
 }
 
 /// Moves the room for a state on to the one at a place, which may be the same one again, and gives
-/// the places of what it holds then and which of its values were read anew.
+/// the places of what it holds then and a row of its values among which are all that were read anew.
 fn move_on(
     bytes: &[u8],
     version: u8,

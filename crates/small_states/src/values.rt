@@ -37,7 +37,8 @@ fn only_put(c: &Change) -> Option<&Put>
 #[inline(always)]
 fn add_put(alloc: Global, values: &mut Values, regs: &[Val], put: &Put) -> Result<(), AllocError>
     requires { length (all_values values.old) + length regs.now < 2 ^ 32 }
-    ensures { OnOk result (all_values values.new ≡ all_values values.old ++ put_in regs.now put.now) }
+    ensures { OnOk result
+        (all_values values.new ≡ all_values values.old ++ put_in regs.now put.now) }
 {
     let Some(at) = put.at else {
         return values.add_all(alloc, regs);

@@ -10,7 +10,7 @@ pub(crate) const BOL: u8 = 3;
 /// Calls and jumps of 32 bits.
 pub(crate) const B: u8 = 7;
 
-/// An absolute address.
+/// Loads, stores and lea of an absolute address.
 pub(crate) const ABS: u8 = 8;
 
 /// Branches of 16 bits, which only go forwards.
