@@ -1,7 +1,7 @@
 -- Marks along the edges of a graph.
-use Rattle.std.proofs.Common.{◌≡◌, ◌≢◌, ◌⊎◌, inl, inr, ℕ, zero, suc, ◌+◌, ◌*◌, ◌<◌, ◌≤◌, nat_eq, Bool, true, false, List, [], ◌∷◌, ◌++◌, length, get_or, set, take, refl, sym, ap, ◌∙◌, subst, arith, Contains, get_or-set_same, get_or-set_other, eqb, ◌&&◌, below_more, Option, Some, None, length-append, length-set}
+use Rattle.std.proofs.Common.{◌≡◌, ◌⊎◌, inl, inr, ℕ, zero, suc, ◌+◌, ◌<◌, ◌≤◌, nat_eq, Bool, true, false, List, [], ◌∷◌, ◌++◌, length, get_or, set, take, refl, sym, ap, ◌∙◌, subst, arith, Contains, get_or-set_same, get_or-set_other, eqb, below_more, Option, Some, None, length-append, length-set}
 use Rattle.std.specs.Prelude.{if◌then◌else◌, replicate, slice_index, IsTrue}
-use Rattle.std.proofs.lemmas.Bool.{cases_eq, eqb-true, eq-eqb, and_parts}
+use Rattle.std.proofs.lemmas.Bool.{cases_eq, eqb-true, and_parts}
 use Rattle.std.proofs.lemmas.List.{take_more}
 use Rattle.std.proofs.Math.Seq.{take-append_seam}
 use Rattle.std.proofs.lemmas.List.Elements.{Contains-append_left, Contains-append_right, Contains-push_cases, Contains-push}
@@ -10,7 +10,7 @@ use Rattle.std.specs.declared.alloc.Global.{Global}
 use Rattle.indexmap.specs.IndexMap.{IndexMap, get}
 use Rattle.call_needs.specs.declared.reach.Edge.{Edge}
 use Rattle.call_needs.specs.declared.row.Row.{Row}
-use Rattle.call_needs.specs.Reaching.{edge_eq, edge_to, HasEntry, AreEdges, AddsEdges, AreBetween, Leads, here, along, IsRecurring, IsMarked, unmarked, AllLead, HasSource, AreSources, AreBelow, AddsSource, MarksNodes, IsMarking, AreReaching, IsFirstBefore, IsFirstRecurring}
+use Rattle.call_needs.specs.Reaching.{edge_eq, edge_to, AreEdges, AddsEdges, AreBetween, Leads, here, along, IsRecurring, IsMarked, unmarked, HasSource, AreSources, AreBelow, AddsSource, MarksNodes, IsMarking, AreReaching, IsFirstBefore, IsFirstRecurring}
 
 -- ---- one mark more
 marked_set : (marks : List Bool) (i k : ℕ) → IsMarked (set marks i true) k → IsMarked marks k ⊎ (k ≡ i)
@@ -66,18 +66,6 @@ node_new node marks work lt free = record {
       ];
   less = let u = unmarked_less marks node lt free in let l = length-append work (node ∷ []) in omega (arith, u, l);
   same = length-set marks node true;
-}
-
-pub node_old : (node : ℕ) (marks : List Bool) (work : List ℕ) → IsMarked marks node → MarksNodes (node ∷ []) marks marks work work
-node_old node marks work is = record {
-  keeps = λ k m. m;
-  marks = λ k c. subst (IsMarked marks) (one_node node k c) is;
-  only = λ k m. inl m;
-  listed = λ k c. c;
-  each = λ k m. inl m;
-  from_new = λ k c. inl c;
-  less = omega arith;
-  same = refl;
 }
 
 -- ---- several
@@ -233,9 +221,6 @@ first_here orders edges (Some k) n lt h less r = (lt, r, below_more _ n (λ j b 
 pub adds_none : (edges : List Edge) (node : ℕ) → AddsEdges edges edges node []
 adds_none edges node = record { keeps = λ e c. c; sound = λ e c. inl c; complete = λ t c. absurd (omega (arith, c.1)) }
 
-pub edges_none : AreEdges [] []
-edges_none = record { sound = λ k t c. absurd (omega (arith, c.1)); complete = λ k t h. absurd (omega (arith, (h.1).1)) }
-
 pub edges_more : (rows : List Row) (row : Row) (old new : List Edge) → AreEdges rows old → AddsEdges old new row.node row.into.items → AreEdges (rows ++ row ∷ []) new
 edges_more rows row old new are adds = record {
   sound = λ k t c.
@@ -294,12 +279,6 @@ edge_tells e f h =
     λ i. record { node = node i; into = into i }
 
 -- ---- sources
-pub sources_none : {S : Type 0} (sources : IndexMap ℕ (Vec ℕ Global) S) → ((t : ℕ) → get nat_eq sources t ≡ None) → AreSources [] sources
-sources_none sources none = record {
-  sound = λ k t h. absurd (subst (λ (o : Option (Vec ℕ Global)). HasSource o k) (none t) h);
-  complete = λ k t c. absurd (omega (arith, c.1));
-}
-
 pub sources_more : {S T : Type 0} (edges : List Edge) (edge : Edge) (old : IndexMap ℕ (Vec ℕ Global) S) (new : IndexMap ℕ (Vec ℕ Global) T) → AreSources edges old → AddsSource old new edge.node edge.into → AreSources (edges ++ edge ∷ []) new
 sources_more edges edge old new are adds = record {
   sound = λ k t h.
@@ -317,46 +296,3 @@ sources_more edges edge old new are adds = record {
 sides : {V : Type 0} (t : Bool) (x y o : V) → o ≡ (if t then x else y) → ((t ≡ true) × (o ≡ x)) ⊎ ((t ≡ false) × (o ≡ y))
 sides true x y o e = inl (refl, e)
 sides false x y o e = inr (refl, e)
-
--- one source more of a node that has some, and of one that has none
-pub source_more : {S T : Type 0} (old : IndexMap ℕ (Vec ℕ Global) S) (new : IndexMap ℕ (Vec ℕ Global) T) (k t : ℕ) (list more : Vec ℕ Global) → get nat_eq old t ≡ Some list → more.items ≡ list.items ++ k ∷ []
-    → ((q : ℕ) → get nat_eq new q ≡ (if nat_eq t q then Some more else get nat_eq old q)) → AddsSource old new k t
-source_more old new k t list more at items is = record {
-  keeps = λ j u h.
-      elim (sides (nat_eq t u) (Some more) (get nat_eq old u) (get nat_eq new u) (is u)) [
-        | inl l ↦
-            (let here : Contains list.items j = subst (λ (o : Option (Vec ℕ Global)). HasSource o j) (ap (get nat_eq old) (sym (eqb-true t u l.0)) ∙ at) h in
-            subst (λ (o : Option (Vec ℕ Global)). HasSource o j) (sym l.1) (subst (λ (w : List ℕ). Contains w j) (sym items) (Contains-append_left list.items (k ∷ []) j here)))
-        | inr r ↦ subst (λ (o : Option (Vec ℕ Global)). HasSource o j) (sym r.1) h
-      ];
-  there = subst (λ (o : Option (Vec ℕ Global)). HasSource o k) (sym (is t ∙ ap (λ b. if b then Some more else get nat_eq old t) (eq-eqb t t refl))) (subst (λ (w : List ℕ). Contains w k) (sym items) (Contains-push list.items k));
-  sound = λ j u h.
-      elim (sides (nat_eq t u) (Some more) (get nat_eq old u) (get nat_eq new u) (is u)) [
-        | inl l ↦
-            (let now : Contains (list.items ++ k ∷ []) j = subst (λ (w : List ℕ). Contains w j) items (subst (λ (o : Option (Vec ℕ Global)). HasSource o j) l.1 h) in
-            let same : t ≡ u = eqb-true t u l.0 in
-            elim (Contains-push_cases list.items k j now) [
-              | inl i ↦ inl (subst (λ (o : Option (Vec ℕ Global)). HasSource o j) (sym (ap (get nat_eq old) (sym same) ∙ at)) i)
-              | inr e ↦ inr (sym e, sym same)
-            ])
-        | inr r ↦ inl (subst (λ (o : Option (Vec ℕ Global)). HasSource o j) r.1 h)
-      ];
-}
-
-pub source_first : {S T : Type 0} (old : IndexMap ℕ (Vec ℕ Global) S) (new : IndexMap ℕ (Vec ℕ Global) T) (k t : ℕ) (list : Vec ℕ Global) → get nat_eq old t ≡ None → list.items ≡ k ∷ []
-    → ((q : ℕ) → get nat_eq new q ≡ (if nat_eq t q then Some list else get nat_eq old q)) → AddsSource old new k t
-source_first old new k t list none items is = record {
-  keeps = λ j u h.
-      elim (sides (nat_eq t u) (Some list) (get nat_eq old u) (get nat_eq new u) (is u)) [
-        | inl l ↦ absurd (subst (λ (o : Option (Vec ℕ Global)). HasSource o j) (ap (get nat_eq old) (sym (eqb-true t u l.0)) ∙ none) h)
-        | inr r ↦ subst (λ (o : Option (Vec ℕ Global)). HasSource o j) (sym r.1) h
-      ];
-  there = subst (λ (o : Option (Vec ℕ Global)). HasSource o k) (sym (is t ∙ ap (λ b. if b then Some list else get nat_eq old t) (eq-eqb t t refl))) (subst (λ (w : List ℕ). Contains w k) (sym items) (0, omega arith, refl));
-  sound = λ j u h.
-      elim (sides (nat_eq t u) (Some list) (get nat_eq old u) (get nat_eq new u) (is u)) [
-        | inl l ↦
-            (let now : Contains (k ∷ []) j = subst (λ (w : List ℕ). Contains w j) items (subst (λ (o : Option (Vec ℕ Global)). HasSource o j) l.1 h) in
-            inr (sym (one_node k j now), sym (eqb-true t u l.0)))
-        | inr r ↦ inl (subst (λ (o : Option (Vec ℕ Global)). HasSource o j) r.1 h)
-      ];
-}

@@ -1,7 +1,7 @@
 -- One row's need.
-use Rattle.std.proofs.Common.{◌≡◌, ℕ, ◌+◌, ◌<◌, ◌≤◌, ◌⊎◌, inl, inr, length, List, [], ◌∷◌, ◌++◌, min, max, arith, refl, sym, subst, ap, ◌∙◌, Bool, true, false, set, ◌≢◌, zero, suc, ◌*◌, ◌-◌, take, drop, get_or}
-use Rattle.std.specs.Prelude.{slice_index, Contains, sum, if◌then◌else◌, replicate}
-use Rattle.std.proofs.lemmas.List.Elements.{Contains-get_or, Contains-push, Contains-push_cases, Contains-append_cases, Contains-append_left, Contains-append_right}
+use Rattle.std.proofs.Common.{◌≡◌, ℕ, ◌+◌, ◌<◌, ◌≤◌, ◌⊎◌, inl, inr, length, List, [], ◌∷◌, ◌++◌, max, arith, refl, sym, subst, ap, ◌∙◌, Bool, true, false, set, ◌≢◌, zero, suc, ◌*◌, ◌-◌, take, drop, get_or}
+use Rattle.std.specs.Prelude.{slice_index, Contains, sum, if◌then◌else◌}
+use Rattle.std.proofs.lemmas.List.Elements.{Contains-push, Contains-push_cases, Contains-append_cases, Contains-append_left, Contains-append_right}
 use Rattle.std.proofs.lemmas.List.{drop_more, get_or-set_same, get_or-set_other, length-set, get_or_default}
 use Rattle.std.proofs.lemmas.Bool.{cases_eq}
 use Rattle.std.proofs.Math.Seq.{take-append_seam}
@@ -90,9 +90,6 @@ passes_front cap old mid new rows i row changed raised next some few is p r e =
     (sym (drop_more rows (i - 1) row (omega arith) ∙ ap (λ (q : Row). q ∷ drop (i - 1 + 1) rows) (sym is) ∙ ap (λ (n : ℕ). row ∷ drop n rows) (omega arith)))
     (passes_more cap old mid new (drop i rows) row changed raised next p r e)
 
-pub passes_none : (cap : ℕ) (needs : List ℕ) → ((k : ℕ) → slice_index needs k ≤ cap + 1) → Passes cap needs needs [] false
-passes_none cap needs capped = record { low = λ other m low. low; capped = capped; grows = λ e. (let no : false ≡ true = e in cc); same = λ e. refl; met = λ e row has. absurd (omega (arith, has.1)) }
-
 pub sum-le : (xs : List ℕ) (c : ℕ) → ((k : ℕ) → slice_index xs k ≤ c) → sum xs ≤ length xs * c
 sum-le xs c h = sum_by-le (λ (x : ℕ). x) c xs (λ k d lt. subst (λ (v : ℕ). v ≤ c) (get_or_default xs k 0 d lt) (h k))
 
@@ -107,22 +104,6 @@ met_uncapped cap needs row low m = record {
   held = (let a = m.held in let b = low row.node in omega (arith, a, b));
   into = λ t has. (let a = m.into t has in let b = low row.node in omega (arith, a, b));
 }
-
-pub low_zeros : (nodes : ℕ) (rows : List Row) (needs : List ℕ) → needs ≡ replicate nodes 0 → IsLow needs rows
-low_zeros nodes rows needs e = λ other m k lt. (let z = zeros nodes k in subst (λ (l : List ℕ). slice_index l k ≤ other k) (sym e) (omega (arith, z)))
-  where
-    zeros : (n k : ℕ) → slice_index (replicate n 0) k ≡ 0
-    zeros zero k = refl
-    zeros (suc n) zero = refl
-    zeros (suc n) (suc k) = zeros n k
-
-pub zeros_capped : (nodes cap : ℕ) (needs : List ℕ) → needs ≡ replicate nodes 0 → (k : ℕ) → slice_index needs k ≤ cap + 1
-zeros_capped nodes cap needs e k = (let z = zeros nodes k in subst (λ (l : List ℕ). slice_index l k ≤ cap + 1) (sym e) (omega (arith, z)))
-  where
-    zeros : (n k : ℕ) → slice_index (replicate n 0) k ≡ 0
-    zeros zero k = refl
-    zeros (suc n) zero = refl
-    zeros (suc n) (suc k) = zeros n k
 
 -- what stands at no index is 0
 pub each_low : (needs : List ℕ) (cap : ℕ) → ((k : ℕ) → k < length needs → slice_index needs k ≤ cap) → (k : ℕ) → slice_index needs k ≤ cap

@@ -157,10 +157,6 @@ pub by_two : (image : ImageData) (plan : PlanData) (x : ℕ) (bs : List ℕ) (fo
 by_two image plan x bs (Some (inst, n)) even no_four at finds = code_found image plan x 2 bs inst n even at finds
 by_two image plan x bs None even no_four at finds = has_none image plan x (none_in_two image plan x bs no_four at finds)
 
--- there is no code at an odd address
-pub odd_has_none : (image : ImageData) (plan : PlanData) (x : ℕ) → x % 2 ≡ 1 → HasCode image plan x → ⊥
-odd_has_none image plan x odd has = let even = (has.code).even in omega arith
-
 -- ---- one code at an address
 found_same : (i j : InstData) (m n : ℕ) (r : Result (InstData × ℕ) DecodeErr) → r ≡ Ok (i, m) → r ≡ Ok (j, n) → (i ≡ j) × (m ≡ n)
 found_same i j m n r e f = let p : (i, m) ≡ (j, n) = cc in (ap (λ (q : InstData × ℕ). q.0) p, ap (λ (q : InstData × ℕ). q.1) p)

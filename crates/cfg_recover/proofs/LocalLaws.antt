@@ -19,7 +19,7 @@ use Rattle.vd_transfer.specs.Effects.{address_of, HasRoom}
 use Rattle.vd_transfer.specs.Holding.{WritesNoFixedRegister}
 use Rattle.store_ranges.specs.Stores.{AreAligned}
 use Rattle.depth_cert.specs.declared.keys.Key.{Key}
-use Rattle.cfg_recover.specs.Code.{IsCode, HasCode}
+use Rattle.cfg_recover.specs.Code.{IsCode}
 use Rattle.cfg_recover.specs.Local.{are_aligned, KnowsTargets, MayReturn, MayReturnFromException, StoresInRange, MayAccess, MayCallSystem, LocalRule, LocalHolds, IsLocalFault}
 use Rattle.cfg_recover.specs.LocalFaults.{IsLeastBroken, FindsFaultless, StoresInRangeAt, MayAccessAt}
 use Rattle.cfg_recover.proofs.CodeLaws.{IsCode-one}
@@ -92,15 +92,6 @@ broken b plan key p s shape r fails targets returns exceptions room stores acces
 )
 
 -- ---- at an address
-pub IsLocalFault-no_code : (b : Limits) (image : ImageData) (plan : PlanData) (key : Key) (p : ℕ) (s : State) → (HasCode image plan p → ⊥) → IsLocalFault b image plan key p s 3
-IsLocalFault-no_code b image plan key p s none = record {
-  fails = λ holds. none (holds.code refl);
-  least = λ q lt. record {
-    code = λ e. absurd (omega arith);
-    own = λ shape n code. absurd (none (record { shape = shape; size = n; code = code }));
-  };
-}
-
 -- what holds for the shape found there holds
 pub LocalHolds-found : (b : Limits) (image : ImageData) (plan : PlanData) (key : Key) (p : ℕ) (s : State) (shape : Shape) (n r : ℕ) → IsCode image plan p shape n → LocalRule b plan key p s shape r → LocalHolds b image plan key p s r
 LocalHolds-found b image plan key p s shape n r code holds = record {

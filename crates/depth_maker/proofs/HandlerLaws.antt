@@ -1,8 +1,8 @@
 -- The handlers' frames that a point enters, by their numbers.
-use Rattle.std.proofs.Common.{◌≡◌, ℕ, ◌+◌, ◌<◌, ◌≤◌, Bool, true, false, IsTrue, inl, inr, List, [], ◌∷◌, ◌++◌, length, get_or, take, refl, sym, ap, ◌∙◌, subst, arith, Contains}
+use Rattle.std.proofs.Common.{◌≡◌, ℕ, ◌+◌, ◌<◌, Bool, true, false, IsTrue, inl, inr, List, [], ◌∷◌, ◌++◌, length, get_or, take, refl, sym, ap, ◌∙◌, subst, arith, Contains}
 use Rattle.std.specs.Prelude.{map, filter, nat_lt, if◌then◌else◌}
-use Rattle.std.proofs.lemmas.Bool.{cases_Bool, le-ltb, lt-ltb, ltb-true}
-use Rattle.std.proofs.lemmas.List.{append-nil, append_assoc, map-append, take_more}
+use Rattle.std.proofs.lemmas.Bool.{cases_Bool, lt-ltb, ltb-true}
+use Rattle.std.proofs.lemmas.List.{append_assoc, map-append, take_more}
 use Rattle.std.proofs.lemmas.List.Elements.{Contains-append_right, Contains-push_cases}
 use Rattle.tcd_plan.specs.PlanData.{PlanData}
 use Rattle.value_domain.specs.declared.states.State.{State}
@@ -51,11 +51,6 @@ pub above_more : (m : ℕ) (from into new : List ℕ) (hs : List Handler) (i : �
 above_more m from into new hs i d lt so more =
     more ∙ ap (λ (l : List ℕ). l ++ nodes_above m (get_or hs i d ∷ [])) so ∙ append_assoc from (nodes_above m (take i hs)) (nodes_above m (get_or hs i d ∷ []))
     ∙ ap (λ (l : List ℕ). from ++ l) (sym (nodes_one m (take i hs) (get_or hs i d)) ∙ ap (nodes_above m) (sym (take_more hs i d lt)))
-
-pub above_not : (m : ℕ) (from : List ℕ) (h : Handler) → h.prio ≤ m → from ≡ from ++ nodes_above m (h ∷ [])
-above_not m from h le =
-    let none : nodes_above m (h ∷ []) ≡ [] = rw (le-ltb m h.prio le) refl in
-    sym (append-nil from) ∙ ap (λ (l : List ℕ). from ++ l) (sym none)
 
 pub above_one : (m : ℕ) (from new : List ℕ) (h : Handler) → m < h.prio → new ≡ from ++ h.node ∷ [] → new ≡ from ++ nodes_above m (h ∷ [])
 above_one m from new h lt more =

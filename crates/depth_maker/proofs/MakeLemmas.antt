@@ -93,9 +93,3 @@ made_read image plan version bytes c m read =
 -- ---- parts of the code
 pub needs_are : (s : Source) (v : Vec ℕ Global) → NeedsOn s (Ok (Some v)) → NeedsAre s v.items
 needs_are s v h = record { least = h.0; few = h.1 }
-
-pub none_refuses : (g : Ground) (e : MakeErr) → e ≡ NoMemory → Refuses g e
-none_refuses g e is = subst (Refuses g) (sym is) tt
-
-pub none_refused : (image : ImageData) (plan : PlanData) (version : ℕ) (e : MakeErr) → e ≡ NoMemory → IsRefused image plan version e
-none_refused image plan version e is = subst (IsRefused image plan version) (sym is) tt

@@ -24,7 +24,7 @@ use Rattle.depth_cert.specs.Known.{Known, state, leaving, IsProperExit}
 use Rattle.small_states.specs.Kept.{IsNoExit, IsStateAt}
 use Rattle.depth_maker.specs.RowsAt.{need_by}
 use Rattle.depth_maker.specs.RowsBy.{IsSource}
-use Rattle.depth_maker.specs.Spelled.{AreFrames, AreKnown, IsFrameOf, WritesCert, HasBytes, IsOfVersion, IsOrdered, IsSpelledOn, NeedsAre, WritesPoint, WritesPoints, WritesExit, WritesNode, WritesNodes, cert_on, exit_at, exit_on, known_on, node_on, point_on, state_at}
+use Rattle.depth_maker.specs.Spelled.{AreFrames, AreKnown, IsFrameOf, WritesCert, HasBytes, IsOfVersion, IsOrdered, IsSpelledOn, WritesPoint, WritesPoints, WritesExit, WritesNode, WritesNodes, cert_on, exit_at, exit_on, known_on, node_on, point_on, state_at}
 use Rattle.frame_places.specs.Spots.{AreRanged, is_point_of, spot_address, spot_eq}
 use Rattle.depth_maker.specs.View.{seen}
 use Rattle.frame_places.specs.declared.places.Spot.{Spot}
@@ -148,9 +148,6 @@ module _ (o : Ordered) (ordered : IsOrdered o) where
       let t = (o.source.now).table.now in
       let few = few_spots t.points.items t.frames.items (((ordered.source).done).counted).few in
       omega (arith, few.0, length_kept (is_point_of k) o.points.now, length_permutation t.points.items o.points.now ordered.points)
-
-pub few_needs : (s : Source) (needs : List ℕ) → NeedsAre s needs → (k : Key) → need_by (s.table.now).frames.items needs k ≤ 4096
-few_needs s needs are k = let le = are.few k in let most = ((((s.ground.now).sound).is_plan).areas).few in omega (arith, le, most)
 
 five : (o a b c d e : List ℕ) → ((((o ++ a) ++ b) ++ c) ++ d) ++ e ≡ o ++ (a ++ (b ++ (c ++ (d ++ e))))
 five o a b c d e =

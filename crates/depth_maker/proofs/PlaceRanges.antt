@@ -184,9 +184,6 @@ asked_in_range a key s (enter k t) y v is has stays e = let f : (point k k.entry
 asked_in_range a key s (resume k q) y v is has stays e = subst IsInRange (resumed_some key s k q (a (exit k)) y v e).2 (is, stays)
 asked_in_range a key s (leave x) y v is has stays e = let f : (exit key, leaving x) ≡ (y, v) = cc in subst (λ (w : Place × Known). IsInRange w.0) f (is, stays)
 
-key_in_range : (y : Place) → IsInRange y → (k : Key) (p : ℕ) → y ≡ point k p → IsKey k
-key_in_range y h k p e = let g = subst IsInRange e h in g.0
-
 module _ (b : Limits) (image : ImageData) (plan : PlanData) (ground : IsGround b image plan) where
   asks_in_range : (a : Assignment) → AllProper b a → ((x : Place) (v : Known) → a x ≡ Some v → IsInRange x) → (y : Place) (v : Known) → Asks b image plan a y v → IsInRange y
   asks_in_range a proper old y v k =

@@ -1,5 +1,5 @@
 -- Marks: one more place, and all places of a list.
-use Rattle.std.proofs.Common.{arith, ◌≡◌, Bool, true, false, ◌⊎◌, inl, inr, List, [], ◌∷◌, ◌++◌, Option, Some, None, refl, sym, subst, ◌∙◌, Contains}
+use Rattle.std.proofs.Common.{◌≡◌, Bool, true, false, ◌⊎◌, inl, inr, List, [], ◌∷◌, ◌++◌, Option, Some, refl, sym, subst, ◌∙◌, Contains}
 use Rattle.std.specs.Prelude.{if◌then◌else◌}
 use Rattle.std.proofs.lemmas.List.Elements.{Contains-append_left, Contains-push, Contains-push_cases}
 use Rattle.indexmap.specs.IndexMap.{IndexMap, get}
@@ -27,9 +27,6 @@ AllListed-push a b work x is h = record {
       ];
 }
 
-pub Touched-none : {S : Type 0} (a : IndexMap Spot Mark S) → Touched a a []
-Touched-none a = record { each = λ q. inr (refl, (λ h. omega (arith, h.1))) }
-
 pub Touched-push : {S : Type 0} (a b c : IndexMap Spot Mark S) (ps : List Spot) (x : Spot) → Touched a b ps → ((q : Spot) → get spot_eq c q ≡ (if spot_eq x q then Some Queued else get spot_eq b q))
     → Touched a c (ps ++ x ∷ [])
 Touched-push a b c ps x t is = record {
@@ -50,16 +47,6 @@ Touched-push a b c ps x t is = record {
 }
 
 -- ---- waking
-pub Woken-none : {S R : Type 0} (a b : IndexMap Spot Mark S) (readers : IndexMap Spot (Vec Spot Global) R) (y : Spot) → ((q : Spot) → get spot_eq b q ≡ (if spot_eq y q then Some Queued else get spot_eq a q))
-    → get spot_eq readers y ≡ None → Woken a b readers y
-Woken-none a b readers y is none = record {
-  each = λ q.
-      elim (sides (spot_eq y q) (Some Queued) (get spot_eq a q) (get spot_eq b q) (is q)) [
-        | inl l ↦ inl (l.1, inl l.0)
-        | inr r ↦ inr (r.1, r.0, (λ h. subst (λ (o : Option (Vec Spot Global)). Reads o q) none h))
-      ];
-}
-
 pub Woken-some : {S R : Type 0} (a b c : IndexMap Spot Mark S) (readers : IndexMap Spot (Vec Spot Global) R) (y : Spot) (ps : Vec Spot Global)
     → ((q : Spot) → get spot_eq b q ≡ (if spot_eq y q then Some Queued else get spot_eq a q)) → get spot_eq readers y ≡ Some ps → Touched b c ps.items → Woken a c readers y
 Woken-some a b c readers y ps is at t = record {

@@ -13,7 +13,6 @@ use Rattle.frame_places.specs.Spots.{spot_eq}
 use Rattle.frame_places.specs.Marks.{idle_mark, is_queued, settled_mark}
 use Rattle.frame_places.specs.Nearby.{StandsAt}
 use Rattle.frame_places.proofs.SpotLemmas.{spot_refl, spot_tells}
-use Rattle.frame_places.proofs.MarkLemmas.{sides}
 
 turned : (x y : Spot) → spot_eq x y ≡ true → spot_eq y x ≡ true
 turned x y e = subst (λ (k : Spot). spot_eq k x ≡ true) (spot_tells x y e) (spot_refl x)

@@ -1,5 +1,5 @@
 -- Readers: one more.
-use Rattle.std.proofs.Common.{◌≡◌, ◌⊎◌, inl, inr, List, [], ◌∷◌, ◌++◌, Option, Some, None, sym, ap, subst, ◌∙◌, Contains, true, arith}
+use Rattle.std.proofs.Common.{◌≡◌, ◌⊎◌, inl, inr, List, [], ◌∷◌, ◌++◌, Option, Some, sym, ap, subst, ◌∙◌, Contains}
 use Rattle.std.specs.Prelude.{if◌then◌else◌}
 use Rattle.std.proofs.lemmas.List.Elements.{Contains-append_left, Contains-push, Contains-push_cases}
 use Rattle.indexmap.specs.IndexMap.{IndexMap, get}
@@ -41,17 +41,5 @@ registered_more old new z x list more at items is =
     (λ q h.
     elim (Contains-push_cases list.items x q (subst (λ (w : List Spot). Contains w q) items h)) [
       | inl before ↦ inl (subst (λ (o : Option (Vec Spot Global)). Reads o q) (sym at) before)
-      | inr e ↦ inr (sym e)
-    ])
-
--- the first that is told
-pub registered_first : {S : Type 0} (old new : IndexMap Spot (Vec Spot Global) S) (z x : Spot) (more : Vec Spot Global) → get spot_eq old z ≡ None → more.items ≡ [] ++ x ∷ []
-    → ((q : Spot) → get spot_eq new q ≡ (if spot_eq z q then Some more else get spot_eq old q)) → Registered old new z x
-registered_first old new z x more at items is =
-    registered old new z x more is (subst (λ (w : List Spot). Contains w x) (sym items) (Contains-push [] x))
-    (λ q h. absurd (subst (λ (o : Option (Vec Spot Global)). Reads o q) at h))
-    (λ q h.
-    elim (Contains-push_cases [] x q (subst (λ (w : List Spot). Contains w q) items h)) [
-      | inl before ↦ absurd (omega (arith, before.1))
       | inr e ↦ inr (sym e)
     ])

@@ -1,10 +1,9 @@
 -- Nodes found by key.
 use Rattle.std.proofs.Common.{◌≡◌, ℕ, ◌<◌, ◌≤◌, List, [], ◌∷◌, length, map, get_or, true, false, Some, None, refl, sym, ap, ◌∙◌, ltb, eqb, eq-eqb, inl, inr}
 use Rattle.std.specs.Option.{option_map}
-use Rattle.std.specs.List.{find, slice_get}
+use Rattle.std.specs.List.{find}
 use Rattle.std.specs.List.Sorted.{IsStrictlyIncreasing, IsPartitionPoint}
 use Rattle.std.proofs.lemmas.Bool.{cases_Bool, ne_eqb}
-use Rattle.std.proofs.lemmas.Option.{slice_get-map, slice_get_read, slice_get_past}
 use Rattle.depth_cert.specs.declared.keys.Key.{Key}
 use Rattle.depth_cert.specs.Keys.{number_of_key}
 use Rattle.depth_cert.specs.Certs.{find_node}
@@ -42,10 +41,3 @@ pub node_past : (version : ℕ) (bytes : List ℕ) (k : Key) (i : ℕ) (ns : Lis
 node_past version bytes k i ns parts end =
     let number : NodePlaces → ℕ = λ n. number_of_key n.key in
     find_in version bytes k ns ∙ ap (option_map (node_of version bytes)) (missing_end number ns (number_of_key k) i parts end)
-
--- the node at an index
-pub node_here : (version : ℕ) (bytes : List ℕ) (i : ℕ) (n : NodePlaces) (ns : List NodePlaces) → i < length ns → n ≡ get_or ns i n → slice_get (nodes_of version bytes ns) i ≡ Some (node_of version bytes n)
-node_here version bytes i n ns h is = slice_get-map (node_of version bytes) ns i ∙ ap (option_map (node_of version bytes)) (slice_get_read ns (length ns) i n refl h is)
-
-pub node_behind : (version : ℕ) (bytes : List ℕ) (i : ℕ) (ns : List NodePlaces) → length ns ≤ i → slice_get (nodes_of version bytes ns) i ≡ None
-node_behind version bytes i ns h = slice_get-map (node_of version bytes) ns i ∙ ap (option_map (node_of version bytes)) (slice_get_past ns i h)

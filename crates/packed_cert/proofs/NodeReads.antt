@@ -1,5 +1,5 @@
 -- Nodes whose parts are left where they stand.
-use Rattle.std.proofs.Common.{◌≡◌, ℕ, ◌+◌, List, [], ◌∷◌, ◌++◌, length, map, sum_by, true, Result, Ok, Err, OnOk, IfErr, Option, Some, refl, sym, ap, ◌∙◌, arith}
+use Rattle.std.proofs.Common.{◌≡◌, ℕ, ◌+◌, List, [], ◌∷◌, ◌++◌, length, map, sum_by, Result, Ok, Err, OnOk, IfErr, Option, refl, sym, ap, ◌∙◌, arith}
 use Rattle.std.proofs.lemmas.List.{map-append, length-map}
 use Rattle.std.proofs.lemmas.List.Sums.{sum_by-cons, sum_by-append}
 use Rattle.tcd_base.specs.declared.errors.FormErr.{FormErr}
@@ -13,7 +13,7 @@ use Rattle.depth_cert.specs.Keys.{number_of_key}
 use Rattle.depth_cert.specs.Answers.{IsFaultOf}
 use Rattle.depth_cert.specs.Nodes.{NodeData}
 use Rattle.depth_cert.specs.Certs.{key_numbers, count_points}
-use Rattle.depth_cert.specs.Grammar.{has_exit_at, exit_at, exits_at, key_after, need_at, points_at, node_after}
+use Rattle.depth_cert.specs.Grammar.{exit_at, exits_at, key_after, need_at, points_at, node_after}
 use Rattle.packed_cert.specs.declared.node_places.NodePlaces.{NodePlaces}
 use Rattle.packed_cert.specs.Standing.{at}
 use Rattle.packed_cert.specs.Points.{read_or, point_in}
@@ -41,13 +41,6 @@ pub whole_exit : {A : Type 0} (version : ℕ) (bytes : List ℕ) (x : ℕ) (r : 
     → OnOk r (exit_at version c ≡ Ok (e, d)) → IfErr r (λ f. exit_at version c ≡ Err f) → e ≡ exit_in version bytes x
 whole_exit {A} version bytes x (Ok n) e c d there h ok err = exit_whole version bytes x e d c there ok
 whole_exit {A} version bytes x (Err f) e c d there h ok err = absurd (exit_never version bytes x f c there h err)
-
--- a node's exit, left where it stands
-pub exits_some : (version kind : ℕ) (bytes : List ℕ) (p q r : Place) (x : ℕ) (e : Exit) → q.bytes ≡ bytes → x ≡ q.place → has_exit_at kind p ≡ Ok (true, q) → exit_at version q ≡ Ok (e, r)
-    → exits_at version kind p ≡ Ok (Some (exit_in version bytes x), r)
-unfolding exits_at
-exits_some version kind bytes p q r x e b at has h =
-    rw (has, h) (ap (λ (t : Exit). let y : Result (Option Exit × Place) FormErr = Ok (Some t, r) in y) (sym (exit_read version bytes q x e r b at h).0))
 
 pub keys_in : (version : ℕ) (bytes : List ℕ) (ns : List NodePlaces) → key_numbers (nodes_of version bytes ns) ≡ map (λ n. number_of_key n.key) ns
 keys_in version bytes [] = refl

@@ -100,11 +100,3 @@ stands_where version bytes c d s p small b f x e h read =
 pub values_held : (version : ℕ) (bytes : List ℕ) (s : State) (o : Option StatePlaces) → IfSome o (StandsAt version bytes s) → IfSome o (λ p. StandFrom version bytes s.regs p.values p.end)
 values_held version bytes s None h = tt
 values_held version bytes s (Some p) h = h.values
-
-pub order_held : (version : ℕ) (bytes : List ℕ) (s : State) (o : Option StatePlaces) → IfSome o (StandsAt version bytes s) → IfSome o (λ p. p.start ≤ p.end)
-order_held version bytes s None h = tt
-order_held version bytes s (Some p) h = h.order
-
-pub within_held : (version : ℕ) (bytes : List ℕ) (s : State) (o : Option StatePlaces) → IfSome o (StandsAt version bytes s) → IfSome o (λ p. p.end ≤ length bytes)
-within_held version bytes s None h = tt
-within_held version bytes s (Some p) h = h.within

@@ -1,8 +1,7 @@
 // Lists of values in little room: made from what duties ask for, compared with it, joined with it.
-ghost use Rattle.std.specs.Prelude.{◌≡◌, ◌+◌, ◌^◌, ◌<◌, ◌↔◌, ◌++◌, IsTrue, IfOk, IfSome, OnOk, List, length, slice_index_or};
+ghost use Rattle.std.specs.Prelude.{◌≡◌, ◌+◌, ◌^◌, ◌<◌, ◌↔◌, ◌++◌, IsTrue, IfOk, IfSome, OnOk, List, length};
 ghost use Rattle.value_domain.specs.declared.values.Val.{Val};
 ghost use Rattle.value_domain.specs.State.{AreBelow, AreValues, AreWell, joined_regs};
-ghost use Rattle.value_domain.specs.Values.{any_val};
 ghost use Rattle.vd_transfer.specs.Changes.{put_in, state_after};
 ghost use Rattle.vd_transfer.specs.declared.change.Base.TheVariants.{Same};
 ghost use Rattle.small_states.specs.Kept.{values_asked};

@@ -81,9 +81,6 @@ pub record Walked (plan : PlanData) (least last step size x : ℕ) : Type 0 wher
   pub fits : step ≤ alignment_log2 x
   pub before : (y : ℕ) → IsMember y (Span least last step) → y < x → IsStoreInRange plan (y, size)
 
-pub walk_start : (plan : PlanData) (least last step size : ℕ) → step ≤ alignment_log2 least → Walked plan least last step size least
-walk_start plan least last step size fits = record { from = omega arith; fits = fits; before = λ y m h. absurd (let low : least ≤ y = m.0 in omega arith) }
-
 -- from a range to the first member that leaves it
 pub walk_more : (plan : PlanData) (least last step size x end next : ℕ) → Walked plan least last step size x → StaysInRange plan size x end → IsNextMultiple step (end - size) next
     → Walked plan least last step size next
@@ -99,14 +96,6 @@ walk_more plan least last step size x end next w s n = record {
         ]
       ];
 }
-
-pub walk_end : (plan : PlanData) (least last step size x : ℕ) → Walked plan least last step size x → last < x → AreStoresInRange plan (Span least last step) size
-walk_end plan least last step size x w h y m = w.before y m (let high : y ≤ last = m.1 in omega arith)
-
--- a member that no range holds
-pub walk_stops : (plan : PlanData) (least last step size x : ℕ) → Walked plan least last step size x → x ≤ last → (IsStoreInRange plan (x, size) → ⊥)
-    → AreStoresInRange plan (Span least last step) size → ⊥
-walk_stops plan least last step size x w h none all = none (all x (w.from, h, w.fits))
 
 -- ---- the words of a Set
 among_all : (P : ℕ → Type 0) (ws : List ℕ) → All P ws → (x : ℕ) → Among x ws → P x

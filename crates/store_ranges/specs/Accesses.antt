@@ -1,6 +1,5 @@
 -- Accesses to memory, and the ranges that hold them.
-use Rattle.std.specs.Prelude.{◌≡◌, ◌+◌, ◌⊎◌, ◌&&◌, ℕ, Bool, nat_le}
-use Rattle.tcd_base.specs.declared.range.Range.{Range}
+use Rattle.std.specs.Prelude.{◌≡◌, ◌⊎◌, ℕ}
 
 -- an access is to 1, 2 or 4 bytes
 abbrev pub IsSize : ℕ → Type 0

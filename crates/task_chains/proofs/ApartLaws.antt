@@ -1,17 +1,9 @@
 -- Whether an instruction keeps rule 17, part by part.
-use Rattle.std.proofs.Common.{◌≡◌, ℕ, ◌-◌, ◌*◌, ◌/◌, ◌%◌, ◌<◌, ◌≤◌, inl, inr, Bool, true, false, IsTrue, refl, sym, ap, ◌∙◌, subst, arith, nat_le, ◌==◌}
+use Rattle.std.proofs.Common.{◌≡◌, ℕ, ◌-◌, ◌/◌, ◌%◌, ◌<◌, ◌≤◌, inl, inr, Bool, true, false, IsTrue, refl, arith, nat_le, ◌==◌}
 use Rattle.std.proofs.lemmas.Bool.{cases_lt, eqb-true, eq-eqb, leb-true, le-leb}
-use Rattle.tcd_plan.specs.PlanData.{PlanData}
-use Rattle.tc_isa.specs.declared.shapes.Arg.{Arg}
-use Rattle.tc_isa.specs.declared.shapes.Shape.{Shape}
-use Rattle.tc_isa.specs.declared.shapes.Shape.TheVariants.{Load}
-use Rattle.value_domain.specs.declared.states.State.{State}
-use Rattle.value_domain.specs.declared.values.Val.{Val}
-use Rattle.value_domain.specs.Limits.{Limits}
-use Rattle.vd_transfer.specs.Effects.{address_of}
 use Rattle.depth_cert.specs.declared.keys.Key.{Key}
-use Rattle.task_chains.specs.Tasks.{TasksData, routine_size}
-use Rattle.task_chains.specs.Apart.{switch_key, AllMiss, LoadsElsewhere}
+use Rattle.task_chains.specs.Tasks.{TasksData}
+use Rattle.task_chains.specs.Apart.{switch_key}
 use Rattle.task_chains.specs.Faults.{IsRoutineStep, IsPlaceApart}
 
 -- ---- where a point lies
@@ -43,12 +35,3 @@ module _ (tasks : TasksData) (p : ℕ) where
       λ t. record { inside = λ from high. absurd (let le = leb-true 72 (p - tasks.switch) t in omega arith); at = λ e. absurd (other e) },
       λ apart. le-leb 72 (p - tasks.switch) (elim (cases_lt (p - tasks.switch) 72) [ inl near ↦ absurd (other (apart.inside low (omega arith))) | inr far ↦ far ]),
     )
-
--- ---- loads
-pub at_load : (b : Limits) (plan : PlanData) (tasks : TasksData) (s : State) (shape : Shape) (dst : ℕ) (base : Arg) (offset size : ℕ) (signed after : Bool) (at : Val) (r : Bool) → Load dst base offset size signed after ≡ shape → at ≡ address_of b plan shape s
-    → (IsTrue r → AllMiss at size plan.csa_at (64 * plan.areas) × AllMiss at size tasks.switch routine_size) × (AllMiss at size plan.csa_at (64 * plan.areas) × AllMiss at size tasks.switch routine_size → IsTrue r)
-    → (IsTrue r → LoadsElsewhere b plan tasks s shape) × (LoadsElsewhere b plan tasks s shape → IsTrue r)
-at_load b plan tasks s shape dst base offset size signed after at r is a_is both =
-    let a2 : at ≡ address_of b plan (Load dst base offset size signed after) s = a_is ∙ ap (λ t. address_of b plan t s) (sym is) in
-    let Both : Val → Type 0 = λ v. (IsTrue r → AllMiss v size plan.csa_at (64 * plan.areas) × AllMiss v size tasks.switch routine_size) × (AllMiss v size plan.csa_at (64 * plan.areas) × AllMiss v size tasks.switch routine_size → IsTrue r) in
-    subst (λ t. (IsTrue r → LoadsElsewhere b plan tasks s t) × (LoadsElsewhere b plan tasks s t → IsTrue r)) is (subst Both a2 both)

@@ -9,10 +9,9 @@ use Rattle.tcd_text.specs.Lines.{lines_of}
 use Rattle.task_chains.specs.declared.lines.Places.{Places}
 use Rattle.task_chains.specs.declared.drafts.Draft.{Draft}
 use Rattle.task_chains.specs.declared.task_lists.Task.{Task}
-use Rattle.task_chains.specs.declared.task_lists.TasksErr.{TasksErr}
 use Rattle.task_chains.specs.declared.task_lists.TasksErr.TheVariants.{BadLine}
 use Rattle.task_chains.specs.Tasks.{TasksData}
-use Rattle.task_chains.specs.Reading.{places_of, task_of, is_written, written, AreSaid, BreaksForm, IsFirstBad, IsEighth, tasks_with, TellsEighth, IsDraftBy, IsDraft, TakesLine, IsLineBad}
+use Rattle.task_chains.specs.Reading.{places_of, task_of, is_written, written, AreSaid, BreaksForm, IsEighth, tasks_with, TellsEighth, IsDraftBy, IsDraft, TakesLine, IsLineBad}
 
 abbrev some_task : Task → Option Task
 some_task t = Some t
@@ -164,9 +163,6 @@ pub record IsDraftSoFar (bytes rest : List ℕ) (number : ℕ) (d : Draft) : Typ
   pub count : number ≡ length before
   pub made : IsDraft before d
 
-pub drafted_none : (bytes : List ℕ) (d : Draft) → IsDraft [] d → IsDraftSoFar bytes bytes 0 d
-drafted_none bytes d made = record { before = []; split = refl; count = refl; made = made }
-
 behind_one : (xs ys : List (List ℕ)) (x : List ℕ) → xs ++ x ∷ ys ≡ (xs ++ x ∷ []) ++ ys
 behind_one [] ys x = refl
 behind_one (z ∷ zs) ys x = ap (λ l. z ∷ l) (behind_one zs ys x)
@@ -179,14 +175,6 @@ drafted_more bytes rest line behind number d more so cut takes = record {
   count = omega (arith, so.count, length-append so.before (line ∷ []));
   made = takes so.before so.made (ap (λ k. k + 1) so.count);
 }
-
-pub drafted_bad : (bytes rest line behind : List ℕ) (number : ℕ) (d : Draft) (e : TasksErr) → IsDraftSoFar bytes rest number d → lines_of rest ≡ line ∷ lines_of behind
-    → (e ≡ BadLine (number + 1)) × ((before : List (List ℕ)) → IsDraft before d → BreaksForm before line) → (n : ℕ) × (e ≡ BadLine n) × IsFirstBad (lines_of bytes) n
-drafted_bad bytes rest line behind number d e so cut bad = (
-  number + 1,
-  bad.0,
-  record { before = so.before; line = line; behind = lines_of behind; split = so.split ∙ ap (λ l. so.before ++ l) cut; at = ap (λ k. k + 1) so.count; breaks = bad.1 so.before so.made },
-)
 
 pub drafted_all : (bytes rest : List ℕ) (number : ℕ) (d : Draft) → length rest ≡ 0 → IsDraftSoFar bytes rest number d → IsDraft (lines_of bytes) d
 unfolding lines_of

@@ -1,7 +1,6 @@
 -- Each state has an event that fits; and where a save of a view stands, there is room.
 use Rattle.std.proofs.Common.{◌≡◌, ◌≢◌, ℕ, zero, suc, ◌+◌, ◌-◌, ◌^◌, ◌<◌, ◌≤◌, inl, inr, Bool, true, false, cond, List, [], ◌∷◌, ◌++◌, length, map, Option, Some, None, refl, sym, ap, ◌∙◌, arith, append_assoc, ◌&&◌, nat_le, nat_lt, ◌==◌}
 use Rattle.std.proofs.lemmas.Bool.{cases_Bool, and_parts, and_from, le-leb, leb-true, ltb-true, false≢true, eqb-false, cases_lt}
-use Rattle.std.proofs.lemmas.List.Sums.{AllPass-from_list_all}
 use Rattle.std.specs.Prelude.{All}
 use Rattle.std.specs.List.{list_all}
 use Rattle.csa_chain.specs.Chain.{link_in, is_area}
@@ -39,9 +38,6 @@ All-cons P x xs h hs (suc i) d lt = hs i d (omega arith)
 
 All-none : {X : Type 0} (P : X → Type 0) → All P []
 All-none P i d lt = absurd (omega arith)
-
-all_pass : (ds : List Device) → list_all is_device ds ≡ true → All (λ d. is_device d ≡ true) ds
-all_pass ds h = AllPass-from_list_all is_device ds h
 
 -- what a device with this word asks of an input
 abbrev Answered : ℕ → ℕ → Device → Type 0

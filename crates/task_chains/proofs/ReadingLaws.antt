@@ -1,39 +1,19 @@
 -- What a text says of tasks, and what is against it.
-use Rattle.std.proofs.Common.{◌≡◌, ℕ, zero, suc, ◌+◌, ◌%◌, ◌^◌, ◌<◌, ◌≤◌, inl, inr, Bool, true, false, IsTrue, List, [], ◌∷◌, length, get_or, Option, Some, None, Ok, Err, refl, sym, ap, ◌∙◌, subst, arith, ◌==◌, ◌&&◌}
-use Rattle.std.specs.Prelude.{codes}
+use Rattle.std.proofs.Common.{◌≡◌, ℕ, zero, suc, ◌+◌, ◌^◌, ◌<◌, ◌≤◌, inl, inr, Bool, true, false, IsTrue, List, [], ◌∷◌, length, get_or, Option, Some, None, Ok, Err, refl, sym, ap, ◌∙◌, subst, arith}
 use Rattle.std.specs.List.{list_any}
-use Rattle.std.specs.Bool.{then_some}
-use Rattle.std.specs.Option.{option_and_then}
-use Rattle.std.proofs.lemmas.Bool.{cases_lt, and_parts, eqb-true}
+use Rattle.std.proofs.lemmas.Bool.{cases_lt}
 use Rattle.std.proofs.lemmas.List.{take_all}
 use Rattle.tcd_plan.specs.PlanData.{PlanData}
 use Rattle.tcd_base.specs.declared.range.Range.{Range}
 use Rattle.tcd_base.specs.Ranges.{is_within, IsInOne}
 use Rattle.store_ranges.proofs.RomLaws.{any_one, one_any}
-use Rattle.tcd_text.specs.Lines.{words_of}
 use Rattle.task_chains.specs.declared.lines.Places.{Places}
 use Rattle.task_chains.specs.declared.task_lists.Task.{Task}
 use Rattle.task_chains.specs.declared.task_lists.TasksErr.{TasksErr}
 use Rattle.task_chains.specs.declared.task_lists.TasksErr.TheVariants.{BadLine, TooMany, TooFew, NotRam, NoRoom, OnIsp, Count}
 use Rattle.task_chains.specs.Tasks.{TasksData, AreTasks, count}
 use Rattle.task_chains.specs.Views.{FitPlan}
-use Rattle.task_chains.specs.Reading.{pair_of_words, places_of_pair, AreSaid, IsBlockInRam, HaveViewsRoom, IsAgainst, Reads, tasks_with, IsKept, IsDraftBy}
-
--- ---- the addresses are at whole words
-test_pair : (t : Bool) (q p : Places) → then_some t q ≡ Some p → (t ≡ true) × (q ≡ p)
-test_pair true q p e = (refl, cc)
-test_pair false q p e = absurd (let f : None ≡ Some p = e in cc)
-
-pair_even : (o : Option (ℕ × ℕ)) (p : Places) → option_and_then places_of_pair o ≡ Some p → (p.switch % 2 ≡ 0) × (p.block % 4 ≡ 0)
-pair_even None p e = absurd (let f : None ≡ Some p = e in cc)
-pair_even (Some q) p e =
-    let h = test_pair (q.0 % 2 == 0 && q.1 % 4 == 0) (record { switch = q.0; block = q.1 }) p e in
-    let parts = and_parts (q.0 % 2 == 0) (q.1 % 4 == 0) h.0 in
-    let Even : Places → Type 0 = λ r. (r.switch % 2 ≡ 0) × (r.block % 4 ≡ 0) in
-    subst Even h.1 (eqb-true (q.0 % 2) 0 parts.0, eqb-true (q.1 % 4) 0 parts.1)
-
-pub places_even : (lines : List (List ℕ)) (p : Places) (list : List Task) (eighth : Option ℕ) → IsKept lines p list eighth → (p.switch % 2 ≡ 0) × (p.block % 4 ≡ 0)
-places_even lines p list eighth k = pair_even (pair_of_words (codes "switch") (words_of (k.said).first)) p (k.said).places
+use Rattle.task_chains.specs.Reading.{AreSaid, IsBlockInRam, HaveViewsRoom, IsAgainst, Reads, tasks_with, IsKept, IsDraftBy}
 
 -- ---- what a draft says
 module _ (plan : PlanData) (lines : List (List ℕ)) where

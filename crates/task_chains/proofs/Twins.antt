@@ -45,12 +45,6 @@ SameContexts-length m v word word2 (l ∷ ls) (k ∷ ks) h = ap suc (SameContext
 SameContexts-length m v word word2 [] (k ∷ ks) h = absurd h
 SameContexts-length m v word word2 (l ∷ ls) [] h = absurd h
 
-pub SameContexts-high : (m v : Memory) (word word2 : ℕ) (ls ks : List ℕ) → SameContexts m word ls v word2 ks → word / 2 ^ 20 ≡ word2 / 2 ^ 20
-SameContexts-high m v word word2 [] [] h = h
-SameContexts-high m v word word2 (l ∷ ls) (k ∷ ks) h = h.0
-SameContexts-high m v word word2 [] (k ∷ ks) h = absurd h
-SameContexts-high m v word word2 (l ∷ ls) [] h = absurd h
-
 -- the words of PCXI with the same fields differ at most in their links
 pub same_high : (core : Core) (pcpn : ℕ) (pie ul : Bool) (f k : ℕ) → f < 2 ^ 20 → k < 2 ^ 20 → pcxi_word_of core pcpn pie ul f / 2 ^ 20 ≡ pcxi_word_of core pcpn pie ul k / 2 ^ 20
 same_high V13 pcpn false false f k lf lk = omega arith

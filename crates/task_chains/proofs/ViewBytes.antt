@@ -30,9 +30,6 @@ none_written tasks x b =
     by_first true e = ap (λ r. cond r (slice_index_or (view_routine_bytes tasks) (x - tasks.switch) 0) b) e
     by_first false e = refl
 
-pub written_none : (tasks : TasksData) (at : ℕ) (olds : List ℕ) → IsWrittenSoFar tasks at 0 olds olds
-written_none tasks at olds = record { size = refl; each = λ j lt. sym (none_written tasks (at + j) (get_or olds j 0)) }
-
 -- what writing a byte at an address makes of bytes
 abbrev pub put_byte : ℕ → ℕ → ℕ → List ℕ → List ℕ
 put_byte at x byte bytes = cond (nat_le at x && nat_lt (x - at) (length bytes)) (set bytes (x - at) byte) bytes

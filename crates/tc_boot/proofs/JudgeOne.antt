@@ -1,13 +1,12 @@
 -- What stands against a boot sequence is one thing, or nothing.
-use Rattle.std.proofs.Common.{◌≡◌, ℕ, ◌+◌, ◌%◌, ◌<◌, ◌⊎◌, inl, inr, true, false, Some, Result, Ok, Err, refl, sym, ap, ◌∙◌, subst, arith}
-use Rattle.std.specs.Prelude.{IsSome, slice_index}
+use Rattle.std.proofs.Common.{◌≡◌, ℕ, ◌+◌, ◌%◌, ◌⊎◌, inl, inr, true, false, Ok, Err, refl, sym, ap, ◌∙◌, subst, arith}
+use Rattle.std.specs.Prelude.{IsSome}
 use Rattle.std.proofs.lemmas.Bool.{cases_lt}
-use Rattle.elf_image.specs.Images.{ImageData, image_byte}
+use Rattle.elf_image.specs.Images.{ImageData}
 use Rattle.tcd_plan.specs.PlanData.{PlanData}
 use Rattle.store_ranges.specs.Loads.{IsLoadedRom}
 use Rattle.tc_boot.specs.declared.judging.BootErr.{BootErr}
 use Rattle.tc_boot.specs.declared.judging.BootErr.TheVariants.{Enabled, Odd, Outside, Differs}
-use Rattle.tc_boot.specs.Sequence.{boot_bytes_of}
 use Rattle.tc_boot.specs.Reset.{HasBoot, IsInside}
 use Rattle.tc_boot.specs.Judging.{MayBoot, IsFirstDifference, Judges}
 use Rattle.tc_boot.specs.Laws.{JudgesOne}

@@ -125,10 +125,6 @@ abbrev pub AreBelow : ℕ → List PartData → Type 0
 AreBelow n [] = Unit {0}
 AreBelow n (p ∷ ps) = ((k : ℕ) × (k < n) × (p.name ≡ 115 ∷ decimal k)) × AreBelow n ps
 
-below-more : (n m : ℕ) (ps : List PartData) → n ≤ m → AreBelow n ps → AreBelow m ps
-below-more n m [] h e = tt
-below-more n m (p ∷ ps) h e = let less : e.0.0 < n = e.0.1 in ((e.0.0, omega arith, e.0.2), below-more n m ps h e.1)
-
 below-push : (n : ℕ) (ps : List PartData) (bs : List ℕ) → AreBelow n ps → AreBelow (n + 1) (ps ++ part (115 ∷ decimal n) bs [] ∷ [])
 below-push n [] bs e = ((n, omega arith, refl), tt)
 below-push n (p ∷ ps) bs e = let less : e.0.0 < n = e.0.1 in ((e.0.0, omega arith, e.0.2), below-push n ps bs e.1)

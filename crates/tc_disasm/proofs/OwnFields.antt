@@ -1,5 +1,5 @@
 -- Printed operands give a row its own fields.
-use Rattle.std.proofs.Common.{◌≡◌, ◌<◌, ◌≤◌, ◌+◌, ◌*◌, ◌-◌, ◌/◌, ◌%◌, ◌^◌, ◌==◌, ◌&&◌, ◌||◌, ℕ, Bool, true, false, cond, List, [], ◌∷◌, ◌++◌, Option, Some, refl, ap, ◌∙◌, arith, map}
+use Rattle.std.proofs.Common.{◌≡◌, ◌<◌, ◌≤◌, ◌+◌, ◌*◌, ◌-◌, ◌/◌, ◌%◌, ◌^◌, ◌==◌, ◌&&◌, ◌||◌, ℕ, Bool, true, false, cond, List, [], ◌∷◌, ◌++◌, Some, refl, ap, ◌∙◌, arith, map}
 use Rattle.std.specs.Prelude.{codes, nat_le, not, fold, option_and_then}
 use Rattle.std.specs.List.{list_all}
 use Rattle.std.proofs.lemmas.Bool.Decides.{nat_tests}
@@ -131,9 +131,6 @@ fill-printed r f (Memory plus false) acc s h =
     fill-base r plus f.s2 acc (omega arith)
 
 -- ---- all operands
-option_chain : (next : RowFieldsData → Option RowFieldsData) (o : Option RowFieldsData) (x : RowFieldsData) → o ≡ Some x → option_and_then next o ≡ next x
-option_chain next o x e = ap (option_and_then next) e
-
 pub fill_all-printed : (r : RowData) (f : Fields) (ws : List Want) (acc : RowFieldsData) → list_all (suits r.form) ws ≡ true → IsBelow f (bounds r.form)
     → fill_all r ws (map (λ w. operand (operand_tokens r.form f w)) ws) acc ≡ Some (record acc { fields = fold (given f) acc.fields ws })
 unfolding fill_all

@@ -1,8 +1,8 @@
 -- A printed number fits its field and gives its value back.
-use Rattle.std.proofs.Common.{◌≡◌, ◌<◌, ◌*◌, ◌-◌, ◌/◌, ◌%◌, ◌==◌, ◌&&◌, ℕ, Bool, true, false, cond, refl, arith}
+use Rattle.std.proofs.Common.{◌≡◌, ◌<◌, ◌-◌, ◌/◌, ◌%◌, ◌==◌, ◌&&◌, ℕ, Bool, true, false, cond, refl, arith}
 use Rattle.std.specs.Prelude.{nat_lt, nat_le, not}
 use Rattle.std.proofs.lemmas.Bool.Decides.{nat_tests}
-use Rattle.tc_stmt.specs.RowFields.{fits, wrap, is_odd}
+use Rattle.tc_stmt.specs.RowFields.{fits, wrap}
 use Rattle.tc_disasm.specs.Texts.{is_minus, size_of}
 
 pub fits-printed : (signed : Bool) (bound v : ℕ) → v < bound → bound % 2 ≡ 0 → fits signed bound (is_minus signed bound v) (size_of signed bound v) ≡ true
@@ -21,7 +21,3 @@ wrapped-printed true bound v h even = by_sign (nat_le (bound / 2) v)
     by_sign true = grind (arith, nat_tests)
     by_sign false = refl
 wrapped-printed false bound v h even = refl
-
--- twice a displacement is even, and not far
-pub is_odd-twice : (n : ℕ) → is_odd (2 * n) ≡ false
-is_odd-twice n = grind (arith, nat_tests)

@@ -14,7 +14,7 @@ use Rattle.tc_link.specs.Placing.{GlobalData, PlacedData}
 use Rattle.tc_link.specs.Relocated.{with_reloc, relocated_sections}
 use Rattle.tc_asm.specs.Contents.{draft_in, statements_in}
 use Rattle.tc_asm.proofs.Uses.{GoodItems}
-use Rattle.tc_program.proofs.Fields.{finished, finished_at, relocs_written, filled_from, filled_bytes, filled_at, filled_offset, fields_written}
+use Rattle.tc_program.proofs.Fields.{finished_at, relocs_written, filled_from, filled_bytes, filled_at, filled_offset, fields_written}
 use Rattle.tc_program.proofs.Fields as fields
 use Rattle.tc_asm.proofs.SourceParts.{have, part_is}
 

@@ -1,5 +1,5 @@
 -- Where the bytes of sections stand in the segments of an image.
-use Rattle.std.proofs.Common.{◌≡◌, ◌<◌, ◌≤◌, ◌+◌, ◌-◌, ◌⊎◌, ◌&&◌, ◌||◌, inl, inr, ℕ, zero, suc, Bool, true, false, cond, List, [], ◌∷◌, ◌++◌, length, take, map, replicate, Some, None, refl, sym, ap, ◌∙◌, arith, append_assoc}
+use Rattle.std.proofs.Common.{◌≡◌, ◌<◌, ◌≤◌, ◌+◌, ◌-◌, ◌⊎◌, ◌&&◌, ◌||◌, inl, inr, ℕ, zero, suc, Bool, true, false, cond, List, [], ◌∷◌, ◌++◌, length, take, map, replicate, Some, refl, sym, ap, ◌∙◌, arith, append_assoc}
 use Rattle.std.specs.Prelude.{slice_get, fold, find, nat_lt, nat_le}
 use Rattle.std.specs.List.{list_all}
 use Rattle.std.specs.Str.{bytes_eq}
@@ -236,14 +236,6 @@ pub record IsAlone (places : List PlaceData) (p : PlaceData) : Type 0 where
 
 same_name : (bs : List ℕ) → bytes_eq bs bs ≡ true
 same_name bs = (bytes_eq-Decides bs bs).1 refl
-
-none_placed : (ps : List PlaceData) (name : List ℕ) → is_placed ps name ≡ false → find (λ (q : PlaceData). bytes_eq name q.section) ps ≡ None
-none_placed [] name e = refl
-none_placed (p ∷ ps) name e = by (bytes_eq name p.section) e (none_placed ps name)
-  where
-    by : (b : Bool) → (b || is_placed ps name) ≡ false → (is_placed ps name ≡ false → find (λ (q : PlaceData). bytes_eq name q.section) ps ≡ None) → cond b (Some p) (find (λ (q : PlaceData). bytes_eq name q.section) ps) ≡ None
-    by true f rec = cc
-    by false f rec = rec f
 
 find_behind : (before : List PlaceData) (p : PlaceData) (after : List PlaceData) → is_placed before p.section ≡ false → find (λ (q : PlaceData). bytes_eq p.section q.section) (before ++ p ∷ after) ≡ Some p
 find_behind [] p after e = ap (λ b. cond b (Some p) (find (λ (q : PlaceData). bytes_eq p.section q.section) after)) (same_name p.section)

@@ -16,7 +16,7 @@ use Rattle.tc_asm.specs.Kept.{Each, is_among, IsNew, AreNames, symbol_names, IsP
 use Rattle.tc_asm.specs.Objects.{section_of, symbol_at, symbol_of, object_of}
 use Rattle.tc_link.specs.Layouts.{PlaceData}
 use Rattle.tc_link.specs.Linked.{has_symbol, no_place_in}
-use Rattle.tc_link.specs.Placing.{PlacedData, GlobalData, bases_after, placed_after, is_global, global_data, globals_of, global_address, address_in, symbol_address, place_of}
+use Rattle.tc_link.specs.Placing.{PlacedData, GlobalData, bases_after, placed_after, is_global, global_data, globals_of, global_address, address_in}
 use Rattle.tc_link.specs.Placing as placing
 use Rattle.tc_asm.specs.Contents.{draft_in, symbols_in, sections_in}
 use Rattle.tc_program.specs.Addresses.{Begins, HasLabel, HasGlobal}
@@ -28,15 +28,6 @@ use Rattle.tc_program.proofs.Bases.{placed_from, place_for, begins_at}
 -- ---- one entry for a name
 pub same_name : (bs : List ℕ) → bytes_eq bs bs ≡ true
 same_name bs = (bytes_eq-Decides bs bs).1 refl
-
-among_before : (before : List SymbolData) (name : List ℕ) → is_among (symbol_names before) name ≡ false → find (λ (s : SymbolData). bytes_eq name s.name) before ≡ None
-among_before [] name e = refl
-among_before (x ∷ xs) name e = by (bytes_eq name x.name) e (among_before xs name)
-  where
-    by : (b : Bool) → (b || is_among (symbol_names xs) name) ≡ false → (is_among (symbol_names xs) name ≡ false → find (λ (s : SymbolData). bytes_eq name s.name) xs ≡ None)
-        → cond b (Some x) (find (λ (s : SymbolData). bytes_eq name s.name) xs) ≡ None
-    by true f rec = cc
-    by false f rec = rec f
 
 -- the names that are in turn differ from those before
 find_own : (before : List (List ℕ)) (ss : List SymbolData) (i : ℕ) (s : SymbolData) → InTurn IsNew before (symbol_names ss) → slice_get ss i ≡ Some s → (is_among before s.name ≡ false) × (find (λ (t : SymbolData). bytes_eq s.name t.name) ss ≡ Some s)

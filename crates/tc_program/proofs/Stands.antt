@@ -29,7 +29,7 @@ use Rattle.tc_asm.specs.Statements.{StatementData, section_bytes, offset_of, byt
 use Rattle.tc_asm.proofs.LaidLaws.{drafted-bytes, stands}
 use Rattle.tc_asm.proofs.ListLaws.{position_first}
 use Rattle.tc_link.specs.Layouts.{PlaceData, LayoutData, IsLayout}
-use Rattle.tc_link.specs.Placing.{PlacedData, GlobalData, round_up, taken_bytes, place_of, base_of, bases_after, placed_after, globals_of, address_in, symbol_address}
+use Rattle.tc_link.specs.Placing.{PlacedData, GlobalData, round_up, taken_bytes, place_of, bases_after, globals_of, symbol_address}
 use Rattle.tc_link.specs.Placing as placing
 use Rattle.tc_link.specs.Relocated.{relocated_sections, field_place, value_of, reloc_refusal, joined_sections, segment_of, segments_of}
 use Rattle.tc_link.specs.Linked.{Refusal, reloc, missing_in, is_used, has_symbol, refusal_at, reloc_in, first_at, placed_of, contents_of, refused_early}

@@ -1,10 +1,8 @@
 -- How many bytes the generated segments have.
-use Rattle.std.proofs.Common.{◌≡◌, ◌+◌, ◌-◌, ◌*◌, ◌≤◌, ◌<◌, ◌^◌, ◌%◌, ℕ, Bool, true, false, List, [], ◌∷◌, ◌++◌, length, nat_lt, replicate, refl, sym, ap, ◌∙◌, arith, length-append, lit≤}
+use Rattle.std.proofs.Common.{◌≡◌, ◌+◌, ◌-◌, ◌*◌, ◌≤◌, ◌<◌, ℕ, Bool, true, false, List, [], ◌∷◌, ◌++◌, length, nat_lt, replicate, refl, ap, arith, length-append, lit≤}
 use Rattle.std.specs.Prelude.{if◌then◌else◌}
 use Rattle.std.specs.List.{flat_map, range_with_len}
 use Rattle.std.proofs.lemmas.List.{length-replicate}
-use Rattle.tc_isa.specs.Words.{word}
-use Rattle.tcd_base.specs.Bytes.{bytes_of_word}
 use Rattle.tcd_generate.specs.Generated.{code, call_from, call_if_below, filled, function_at, function_code, functions, handler, table, vectors}
 use Rattle.tcd_generate.proofs.Instructions.{function_bytes}
 use Rattle.tcd_generate.proofs.Ranges.{length-pieces}

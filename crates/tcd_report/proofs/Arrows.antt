@@ -1,5 +1,5 @@
 -- What owed duties give is among the arrows of a point.
-use Rattle.std.proofs.Common.{◌≡◌, ◌==◌, ℕ, zero, suc, ◌<◌, Bool, true, false, not, List, [], ◌∷◌, ◌++◌, map, length, get_or, inl, inr, refl, sym, ap, ◌∙◌, subst, arith}
+use Rattle.std.proofs.Common.{◌≡◌, ◌==◌, ℕ, zero, suc, ◌<◌, Bool, true, not, List, [], ◌∷◌, ◌++◌, map, length, get_or, inl, inr, refl, sym, ap, subst, arith}
 use Rattle.std.specs.Prelude.{filter, Contains, if◌then◌else◌}
 use Rattle.std.specs.List.{flat_map}
 use Rattle.std.proofs.lemmas.Bool.{cases_Bool, eqb-true}
@@ -11,7 +11,7 @@ use Rattle.value_domain.proofs.SetLaws.{distinct_has}
 use Rattle.depth_cert.specs.declared.keys.Key.{Key}
 use Rattle.depth_cert.specs.Certs.{CertData}
 use Rattle.cfg_recover.specs.Duties.{Owed, owed, jump, enter}
-use Rattle.cfg_recover.specs.Frames.{to, call, irq, sys, aln, ret, rfe, OwesJump, OwesEntry}
+use Rattle.cfg_recover.specs.Frames.{to, call, irq, sys, aln, OwesJump, OwesEntry}
 use Rattle.cfg_recover.proofs.Members.{contains_first, contains_among, contains_map, contains_flat, contains_filter}
 use Rattle.tcd_report.specs.Graphs.{Arrow, goes, back, jump_by, entry_by, entries_in, each_once, leaves_by, jumps_in, calls_in, backs_in, systems_in, misaligned_in, interrupts_in, arrows_of}
 

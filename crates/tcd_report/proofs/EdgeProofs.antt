@@ -1,7 +1,6 @@
 -- Edges of steps stand on the graph's lines.
-use Rattle.std.proofs.Common.{◌≡◌, ◌==◌, ℕ, zero, suc, ◌+◌, ◌%◌, ◌^◌, ◌<◌, ◌≤◌, Bool, true, false, cond, List, [], ◌∷◌, ◌++◌, map, length, get_or, Result, Ok, Err, Some, inl, inr, refl, sym, ap, ◌∙◌, subst, arith, lit≤, lit<}
+use Rattle.std.proofs.Common.{◌≡◌, ◌==◌, ℕ, zero, suc, ◌+◌, ◌%◌, ◌^◌, ◌<◌, ◌≤◌, true, false, cond, List, [], ◌∷◌, ◌++◌, map, length, get_or, Result, Ok, Err, inl, inr, refl, sym, ap, ◌∙◌, subst, arith, lit≤, lit<}
 use Rattle.std.specs.Prelude.{Contains, if◌then◌else◌}
-use Rattle.std.specs.List.{flat_map}
 use Rattle.std.proofs.lemmas.Bool.{cases_Bool, eqb-true, eq-eqb}
 use Rattle.std.proofs.lemmas.List.Elements.{Contains-append_right}
 use Rattle.elf_image.specs.Images.{ImageData}
@@ -19,11 +18,10 @@ use Rattle.tc_machine.specs.declared.state.Machine.{Machine}
 use Rattle.tc_machine.specs.Machine.{moved}
 use Rattle.tc_machine.specs.Fetching.{mapped_bytes, shaped, fetched}
 use Rattle.tc_machine.specs.Stepping.{is_taken, step, run}
-use Rattle.tc_machine.specs.Safe.{IsMachine, Fits, AllFit, IsAtCode}
+use Rattle.tc_machine.specs.Safe.{IsMachine, AllFit, IsAtCode}
 use Rattle.tc_machine.proofs.Fetched.{mapped_bytes-front}
-use Rattle.tc_machine.proofs.Stays.{irq_lt, stays_step, stays_run}
+use Rattle.tc_machine.proofs.Stays.{irq_lt, stays_step}
 use Rattle.value_domain.specs.declared.states.State.{State}
-use Rattle.value_domain.specs.Limits.{Limits}
 use Rattle.depth_cert.specs.declared.keys.Key.{Key}
 use Rattle.depth_cert.specs.declared.points.Point.{Point}
 use Rattle.depth_cert.specs.Keys.{IsKey, number_of_key}

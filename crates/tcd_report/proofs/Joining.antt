@@ -1,8 +1,8 @@
 -- Text that grows by the lines of one element after another.
-use Rattle.std.proofs.Common.{◌≡◌, ℕ, ◌+◌, ◌<◌, ◌≤◌, List, [], ◌∷◌, ◌++◌, length, get_or, take, refl, sym, ap, ◌∙◌, subst, append_assoc, append-nil}
+use Rattle.std.proofs.Common.{◌≡◌, ℕ, ◌+◌, ◌<◌, List, [], ◌∷◌, ◌++◌, length, get_or, take, sym, ap, ◌∙◌, subst, append_assoc, append-nil}
 use Rattle.std.specs.List.{flat_map}
 use Rattle.std.proofs.lemmas.Grind.{flat_map-append}
-use Rattle.std.proofs.lemmas.List.{take_all, take_more}
+use Rattle.std.proofs.lemmas.List.{take_more}
 use Rattle.tcd_report.specs.Graphs.{AreParts, AreJoined}
 use Rattle.tcd_report.specs.Judging.{GrowsBy}
 
@@ -20,10 +20,6 @@ joined_more Has xs lines x p j at =
       are = ap (λ l. l ++ p) j.are ∙ ap (λ l. flat_map (λ q. q) j.parts ++ l) (sym (append-nil p)) ∙ sym (flat_map-append (λ q. q) j.parts (p ∷ []));
     }
 
--- nothing has grown yet
-pub grown_none : {A : Type 0} (Has : A → List (List ℕ) → Type 0) (text : List ℕ) → GrowsBy (AreJoined Has []) text text
-grown_none Has text = record { lines = []; are = record { parts = []; each = tt; are = refl }; grown = sym (append-nil text) }
-
 -- one element more
 pub grown_more : {A : Type 0} (Has : A → List (List ℕ) → Type 0) (xs : List A) (i : ℕ) (x : A) (before text after : List ℕ) → i < length xs → x ≡ get_or xs i x → GrowsBy (AreJoined Has (take i xs)) before text → GrowsBy (Has x) text after
     → GrowsBy (AreJoined Has (take (i + 1) xs)) before after
@@ -39,7 +35,3 @@ grown_more Has xs i x before text after lt at g h =
           ∙ append_assoc before (flat_map (λ q. q) g.lines) (flat_map (λ q. q) h.lines)
           ∙ ap (λ l. before ++ l) (sym (flat_map-append (λ q. q) g.lines h.lines));
     }
-
--- all of them
-pub grown_all : {A : Type 0} (Has : A → List (List ℕ) → Type 0) (xs : List A) (i : ℕ) (before text : List ℕ) → length xs ≤ i → GrowsBy (AreJoined Has (take i xs)) before text → GrowsBy (AreJoined Has xs) before text
-grown_all Has xs i before text ge g = subst (λ ys. GrowsBy (AreJoined Has ys) before text) (take_all i xs ge) g

@@ -12,7 +12,7 @@ use Rattle.depth_cert.specs.declared.keys.Key.{Key}
 use Rattle.depth_cert.specs.Nodes.{NodeData}
 use Rattle.depth_cert.specs.Certs.{CertData, IsCert}
 use Rattle.cfg_recover.proofs.Members.{contains_first}
-use Rattle.tcd_report.specs.Calls.{CallsInARow, IsLongest, prios_below, priorities}
+use Rattle.tcd_report.specs.Calls.{IsLongest, prios_below}
 use Rattle.tcd_report.specs.Heights.{key_eq, IsHeight, TellsHeights}
 use Rattle.tcd_report.specs.Longest.{IsGreatest, AtPrio, greater, row_of, rows_below}
 use Rattle.tcd_report.specs.declared.longest.Row.{Row}
@@ -57,9 +57,6 @@ module _ {S : Type 0} (heights : HashMap Key ℕ S) (nodes : List NodeData) (nod
         | inl before ↦ inl (a.0, (before, (a.1).1))
         | inr last ↦ inr (let f : Some h ≡ Some m = sym told ∙ ap (λ (n : NodeData). get key_eq heights n.key) last ∙ ((a.1).1).1 in cc)
       ]) g
-
-pub longest_none : {S : Type 0} (heights : HashMap Key ℕ S) (p : ℕ) → IsGreatest (AtPrio heights [] p) None
-longest_none heights p = λ m a. absurd (let lt = ((a.1).0).1 in omega (arith, lt))
 
 pub longest_more : {S T : Type 0} (heights : HashMap Key ℕ S) (rows more : HashMap ℕ ℕ T) (nodes : List NodeData) (i : ℕ) (node : NodeData) (h n : ℕ) → i < length nodes → node ≡ get_or nodes i node → get key_eq heights node.key ≡ Some h
     → n ≡ greater (get nat_eq rows (node.key).prio) h → ((q : ℕ) → get nat_eq more q ≡ cond (nat_eq (node.key).prio q) (Some n) (get nat_eq rows q))
@@ -111,10 +108,6 @@ rows_all : (P : Row → Type 0) (row : ℕ → Option ℕ) → ((p n : ℕ) → 
 unfolding rows_below
 rows_all P row h zero = All-nil P
 rows_all P row h (suc n) = All-append P (rows_below row n) (row_of n (row n)) (rows_all P row h n) (row_all P n (row n) (h n))
-
-pub priorities_are : priorities ≡ 256
-unfolding priorities
-priorities_are = refl
 
 pub rows_none : (row : ℕ → Option ℕ) → rows_below row 0 ≡ []
 unfolding rows_below

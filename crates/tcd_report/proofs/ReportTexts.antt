@@ -5,10 +5,7 @@ use Rattle.std.proofs.lemmas.Bool.{or_from}
 use Rattle.serde_json.specs.Data.{Data, object, Members, no_members, put}
 use Rattle.serde_json.specs.Written.{has_float, items_have_float}
 use Rattle.serde_json.specs.View.{items_of}
-use Rattle.elf_image.specs.Images.{ImageData}
-use Rattle.tcd_plan.specs.PlanData.{PlanData}
 use Rattle.depth_cert.specs.Nodes.{NodeData}
-use Rattle.depth_cert.specs.Certs.{CertData}
 use Rattle.tcd_report.specs.declared.longest.Row.{Row}
 use Rattle.tcd_report.specs.Reports.{count, node_data, nodes_data, row_data, rows_data, whole_data}
 

@@ -1,6 +1,6 @@
 -- The graph of a certificate: its lines, by key and address, one for each way on from a point.
-use Rattle.std.specs.Prelude.{◌≡◌, ◌==◌, ℕ, false, not, List, [], ◌∷◌, ◌++◌, map, filter, codes, Option, Some, None, is_some, if◌then◌else◌}
-use Rattle.std.specs.List.{flat_map, list_any}
+use Rattle.std.specs.Prelude.{◌≡◌, ◌==◌, ℕ, false, not, List, [], ◌∷◌, ◌++◌, map, filter, codes, is_some, if◌then◌else◌}
+use Rattle.std.specs.List.{flat_map}
 use Rattle.std.specs.Option.{option_map_or}
 use Rattle.elf_image.specs.Images.{ImageData}
 use Rattle.tcd_plan.specs.PlanData.{PlanData}

@@ -1,5 +1,5 @@
 -- The greatest number of calls in a row from each node on, in a map by keys.
-use Rattle.std.specs.Prelude.{◌≡◌, ◌≤◌, ◌⊎◌, ℕ, suc, Bool, List, Option, Some, None, Contains}
+use Rattle.std.specs.Prelude.{◌≡◌, ◌≤◌, ◌⊎◌, ℕ, suc, Bool, List, Some, Contains}
 use Rattle.std.specs.declared.cmp.Ordering.{Ordering}
 use Rattle.std.specs.HashMap.{HashMap, get}
 use Rattle.elf_image.specs.Images.{ImageData}

@@ -4,12 +4,12 @@ use Rattle.std.proofs.lemmas.Bool.{cases_lt}
 use Rattle.std.proofs.lemmas.List.{take_more}
 use Rattle.value_domain.specs.declared.values.Val.{Val}
 use Rattle.value_domain.specs.declared.values.Val.TheVariants.{Set, Span}
-use Rattle.value_domain.specs.Sets.{Among, Within, Rising, AreWords, distinct, multiples, alignment_log2}
+use Rattle.value_domain.specs.Sets.{Among, Within, Rising, AreWords, distinct, multiples}
 use Rattle.value_domain.specs.Limits.{Limits, AreLimits}
 use Rattle.value_domain.specs.Floors.{floor, above}
 use Rattle.value_domain.specs.Values.{IsWell, IsValue, IsBelow, IsExtent, cover, value_of, members, range, first_in, count_in, any_val}
 use Rattle.value_domain.proofs.SetLaws.{distinct-rising, length-distinct}
-use Rattle.value_domain.proofs.CoverLaws.{cover-few, cover-many, span_of, cover-same, cover_least, among_member, member_among, has_step, multiples_among, among_multiples, rising_multiples, length-multiples, unit_some, step_cases, among_range}
+use Rattle.value_domain.proofs.CoverLaws.{cover-few, cover-many, span_of, cover-same, cover_least, among_member, member_among, has_step, multiples_among, among_multiples, rising_multiples, length-multiples, unit_some, step_cases}
 use Rattle.value_domain.proofs.LimitLaws.{floor_le, above_lt, above_le}
 use Rattle.value_domain.proofs.ExtentLaws.{cover_span, extent_append, many_span, some_length, cover-more, among_append, append_left, append_right, extent_range, extent_only}
 use Rattle.value_domain.proofs.Loops.{among_get}
@@ -189,12 +189,6 @@ range_step words start unit k j before here low high =
       | inl lt ↦ before j low lt
       | inr ge ↦ let e : k ≡ j = omega arith in subst (λ (n : ℕ). Among (n * unit) words) e here
     ]
-
--- a range that begins with a multiple isn't empty
-pub count_some : (lo last s : ℕ) → s ≤ 2 → lo ≤ last → s ≤ alignment_log2 lo → 1 ≤ count_in lo last s
-count_some lo last s small low fits =
-    let i = among_range lo lo last s small (omega arith, low, fits) in
-    omega (arith, some_length (range lo last s) lo i, length-multiples (count_in lo last s) (first_in lo s) (2 ^ s))
 
 -- the value of all words
 pub any_cover : (b : Limits) → AreLimits b → cover b (range 0 (2 ^ 32 - 1) 0) ≡ any_val

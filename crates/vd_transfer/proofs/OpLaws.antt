@@ -403,9 +403,6 @@ same_bounds e v w h =
     ∙ ap (λ n. record { least = low v; greatest = n; step = e.step }) only.1
     ∙ ap (λ n. record { least = low v; greatest = high v; step = n }) only.2
 
-by_count-bounds : (shift : Shifts) (e : Extent) (v w : Val) → e ≡ bounds v → by_count shift e.least e.greatest e.step w ≡ by_count shift (low v) (high v) (step v) w
-by_count-bounds shift e v w same = ap (λ (x : Extent). by_count shift x.least x.greatest x.step w) same
-
 pub row_runs : (op : Op) (v w : Val) (e f : Extent) → (op ≡ Second → ⊥) → gives_truth op ≡ false → e ≡ bounds v → f ≡ bounds w → range_of (runs op e f w) ≡ row op v w
 unfolding row gives_truth
 row_runs Second v w e f n t a c = absurd (n refl)

@@ -55,12 +55,6 @@ before_half =
 unit_small : (s : ℕ) → s ≤ 2 → (2 ^ s ≤ 4) × (1 ≤ 2 ^ s)
 unit_small = step_cases (λ s. (2 ^ s ≤ 4) × (1 ≤ 2 ^ s)) (omega arith, omega arith) (omega arith, omega arith) (omega arith, omega arith)
 
-signed_low : (z : ℕ) → z < 2 ^ 31 → signed_place z ≡ z + 2 ^ 31
-signed_low z h = omega arith
-
-signed_high : (z : ℕ) → 2 ^ 31 ≤ z → z < 2 ^ 32 → signed_place z ≡ z - 2 ^ 31
-signed_high z h k = omega arith
-
 pub across : {least greatest t : ℕ} (lo last s : ℕ) → IsWell (Span lo last s) → IsExtent (range lo last s) least greatest t → least < 2 ^ 31 → 2 ^ 31 ≤ greatest
     → IsSignedRange (range lo last s) (2 ^ 31) (2 ^ 31 - 2 ^ s)
 across {least} {greatest} lo last s well e low high =

@@ -1,6 +1,6 @@
 // Refinement of two values by a comparison.
 ghost use Rattle.std.specs.Prelude.{◌≡◌, ◌==◌, ◌<◌, ◌≤◌, ◌+◌, ◌-◌, ◌^◌, ℕ, IfSome, ◌↔◌, ◌⊎◌, ◌≢◌};
-ghost use Rattle.value_domain.specs.Values.{IsValue, cover, members};
+ghost use Rattle.value_domain.specs.Values.{IsValue, members};
 ghost use Rattle.value_domain.specs.declared.values.Val.TheVariants.{Set, Span};
 ghost use Rattle.value_domain.specs.Meets.{cover_some};
 ghost use Rattle.tc_isa.specs.Arithmetic.{signed_place};

@@ -1,7 +1,7 @@
-use Rattle.std.proofs.Common.{sym, refl, subst, ℕ, ◌+◌, ◌<◌, ◌≤◌, ◌≡◌, length, arith, take, drop, ◌++◌, ◌∙◌, ap}
+use Rattle.std.proofs.Common.{sym, subst, ℕ, ◌+◌, ◌<◌, ◌≤◌, ◌≡◌, length, arith, take, drop, ◌++◌, ◌∙◌}
 use Rattle.std.specs.Prelude.{slice_index, List}
-use Rattle.call_needs.specs.Rows.{LeastNeeds, Meets, IsLow, IsWithin, MeetsCapped}
-use Rattle.call_needs.proofs.RowLemmas.{answered_none, answered_some, take_front, low_zeros, zeros_capped}
+use Rattle.call_needs.specs.Rows.{Meets, IsLow}
+use Rattle.call_needs.proofs.RowLemmas.{answered_none, answered_some, take_front}
 use Rattle.call_needs.proofs.least.least_needs.Goals as goal
 
 pub returns-in-None : goal.returns-in-None

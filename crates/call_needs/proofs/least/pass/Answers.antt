@@ -1,5 +1,4 @@
 use Rattle.std.proofs.Common.{◌<◌, ◌-◌, ℕ, sym, subst, refl, arith, true, false}
-use Rattle.std.specs.Prelude.{Contains}
 use Rattle.call_needs.proofs.RowLemmas.{passes_front}
 use Rattle.call_needs.proofs.least.pass.Goals as goal
 

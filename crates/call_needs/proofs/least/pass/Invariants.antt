@@ -1,4 +1,4 @@
-use Rattle.std.proofs.Common.{drop, ◌≡◌, length}
+use Rattle.std.proofs.Common.{drop}
 use Rattle.call_needs.specs.Rows.{Passes}
 use Rattle.call_needs.proofs.least.pass.Given as goal
 

@@ -1,4 +1,4 @@
-use Rattle.std.proofs.Common.{sym, refl, subst, ℕ, ◌*◌, ◌+◌, ◌-◌, ◌<◌, ◌≤◌, length, arith}
+use Rattle.std.proofs.Common.{subst, ℕ, ◌*◌, ◌+◌, ◌-◌, ◌<◌, length}
 use Rattle.std.specs.Prelude.{sum}
 use Rattle.call_needs.proofs.RowLemmas.{sum-le, falls}
 use Rattle.call_needs.proofs.least.settle.Goals as goal

@@ -1,4 +1,4 @@
-use Rattle.std.proofs.Common.{◌≡◌, refl, Contains, subst, sym, List, get_or}
+use Rattle.std.proofs.Common.{refl, Contains, subst, sym, List, get_or}
 use Rattle.std.specs.List.{list_any}
 use Rattle.indexmap.proofs.CallerLemmas.{Contains-insert_key}
 use Rattle.call_needs.specs.declared.reach.Edge.{Edge}

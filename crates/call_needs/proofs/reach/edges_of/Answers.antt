@@ -1,4 +1,4 @@
-use Rattle.std.proofs.Common.{◌≡◌, List, take, subst, sym, ◌++◌, ◌∷◌, []}
+use Rattle.std.proofs.Common.{List, take, subst, sym, ◌++◌, ◌∷◌, []}
 use Rattle.std.proofs.lemmas.List.{take_more}
 use Rattle.call_needs.specs.declared.row.Row.{Row}
 use Rattle.call_needs.specs.Reaching.{AreEdges, AddsEdges}

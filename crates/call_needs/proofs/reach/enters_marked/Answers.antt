@@ -1,8 +1,8 @@
-use Rattle.std.proofs.Common.{◌≡◌, ℕ, List, Contains, subst, sym, ◌≤◌, arith, refl}
+use Rattle.std.proofs.Common.{List, Contains, subst, sym, refl}
 use Rattle.std.proofs.lemmas.List.{take_all}
 use Rattle.std.proofs.lemmas.List.Elements.{Contains-get_or}
 use Rattle.call_needs.specs.declared.reach.Edge.{Edge}
-use Rattle.call_needs.specs.Reaching.{edge_to, IsMarked}
+use Rattle.call_needs.specs.Reaching.{edge_to}
 use Rattle.call_needs.proofs.reach.enters_marked.Goals as goal
 
 pub bounds-marks-edge : goal.bounds-marks-edge

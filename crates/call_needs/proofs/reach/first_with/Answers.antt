@@ -1,4 +1,4 @@
-use Rattle.std.proofs.Common.{◌≡◌, ◌∙◌, ℕ, ◌+◌, ◌<◌, Bool, true, false, Option, Some, None, subst, sym, refl, ap, arith}
+use Rattle.std.proofs.Common.{◌≡◌, ◌∙◌, ℕ, ◌+◌, ◌<◌, true, false, Some, None, subst, sym}
 use Rattle.std.specs.Prelude.{slice_index}
 use Rattle.call_needs.specs.Reaching.{IsFirstBefore, IsRecurring}
 use Rattle.call_needs.proofs.ReachLemmas.{first_here, first_not}

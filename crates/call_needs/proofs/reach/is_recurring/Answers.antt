@@ -1,4 +1,4 @@
-use Rattle.std.proofs.Common.{◌≡◌, ◌∙◌, ℕ, List, Bool, subst, sym, ap, length}
+use Rattle.std.proofs.Common.{◌∙◌, List, Bool, subst, sym, ap, length}
 use Rattle.call_needs.specs.Reaching.{AreBetween, AreReaching}
 use Rattle.call_needs.proofs.ReachLemmas.{recurring_marks, sources_below}
 use Rattle.call_needs.proofs.reach.is_recurring.Goals as goal

@@ -1,5 +1,5 @@
 use Rattle.std.proofs.Common.{sym, subst, refl, IsSome}
-use Rattle.frame_places.proofs.ReaderLemmas.{registered_first, registered_more}
+use Rattle.frame_places.proofs.ReaderLemmas.{registered_more}
 use Rattle.frame_places.proofs.readers.register.Goals as goal
 
 pub returns-in-Some : goal.returns-in-Some

@@ -1,4 +1,4 @@
-use Rattle.std.proofs.Common.{◌≡◌, ◌∙◌, sym, ap}
+use Rattle.std.proofs.Common.{◌∙◌, ap}
 use Rattle.tc_object.specs.Faults.{reloc_fault}
 use Rattle.tc_object.proofs.RecordLaws.{reloc_in, whole_reloc, taken, none_told, fault_told}
 use Rattle.tc_object.proofs.reloc_fields.read_reloc.Goals as goal

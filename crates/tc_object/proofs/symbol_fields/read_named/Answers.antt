@@ -1,4 +1,4 @@
-use Rattle.std.proofs.Common.{◌≡◌, ◌∙◌, sym, ap}
+use Rattle.std.proofs.Common.{◌∙◌, ap}
 use Rattle.std.specs.Prelude.{string_bytes}
 use Rattle.tc_object.specs.Faults.{symbol_fault}
 use Rattle.tc_object.proofs.RecordLaws.{symbol_in, whole_symbol, taken, none_told, fault_told}

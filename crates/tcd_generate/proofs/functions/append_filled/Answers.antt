@@ -1,4 +1,4 @@
-use Rattle.std.proofs.Common.{◌≡◌, ◌+◌, ◌≤◌, length, arith, length-append, ap, ◌∙◌}
+use Rattle.std.proofs.Common.{◌≡◌, ◌+◌, length, arith, length-append, ap, ◌∙◌}
 use Rattle.tcd_generate.specs.Generated.{function_code}
 use Rattle.tcd_generate.proofs.Lengths.{function_short}
 use Rattle.tcd_generate.proofs.functions.append_filled.Goals as goal

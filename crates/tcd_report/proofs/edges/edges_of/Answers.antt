@@ -1,4 +1,4 @@
-use Rattle.std.proofs.Common.{◌≡◌, ◌++◌, ◌∙◌, ap, sym}
+use Rattle.std.proofs.Common.{◌++◌, ◌∙◌, ap, sym}
 use Rattle.value_domain.specs.Sets.{distinct}
 use Rattle.tcd_report.specs.Graphs.{each_once}
 use Rattle.tcd_report.specs.Told.{returns_in, vectors_in}

@@ -1,4 +1,4 @@
-use Rattle.std.proofs.Common.{◌≡◌, true, false, ltb-true, arith}
+use Rattle.std.proofs.Common.{◌≡◌, true, false, ltb-true}
 use Rattle.value_domain.proofs.Places.{below_last}
 use Rattle.value_domain.proofs.values.is_past.Goals as goal
 

@@ -1,6 +1,5 @@
-use Rattle.std.proofs.Common.{◌≡◌, ◌+◌, ◌<◌, ◌≤◌, ◌∙◌, List, length, take, get_or, sym, ap, arith}
+use Rattle.std.proofs.Common.{◌∙◌, List, length, sym, ap, arith}
 use Rattle.std.proofs.lemmas.List.{take_all}
-use Rattle.value_domain.specs.Values.{any_val}
 use Rattle.small_states.specs.declared.sparse.SpacedValue.{SpacedValue}
 use Rattle.small_states.proofs.SparseLemmas.{any_behind, found_any, found_further, found_value, front}
 use Rattle.small_states.proofs.sparse.Values.given_at.Goals as goal
