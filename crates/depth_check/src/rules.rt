@@ -1,6 +1,5 @@
 // The least rule that fails at a point.
-ghost use Rattle.std.specs.Prelude.{◌≡◌, ◌↔◌, IsTrue, All, IfOk, IfErr, IfSome, Some};
-ghost use Rattle.elf_image.specs.Images.{image_byte};
+ghost use Rattle.std.specs.Prelude.{◌≡◌, ◌↔◌, IsTrue, All, IfOk, IfErr, IfSome};
 ghost use Rattle.value_domain.specs.State.{AreValues};
 ghost use Rattle.tc_isa.specs.declared.shapes.Shape.TheVariants.{Nothing};
 ghost use Rattle.tc_isa.specs.Shapes.{shape_of};
@@ -115,13 +114,6 @@ fn is_idle(inst: &Inst) -> bool
     }
 }
 
-/// Whether this byte stands at an address.
-fn is_byte(image: &Image, addr: u32, byte: u8) -> bool
-    ensures { IsTrue result ↔ (image_byte image.now addr ≡ Some byte) }
-{
-    image.byte(addr) == Some(byte)
-}
-
 /// Whether nop16 stands at an address: 00 00, at an even one and in one rom range.
 fn is_nop16(image: &Image, plan: &Plan, addr: u32) -> bool
     ensures { IsTrue result → IsCode image.now plan.now addr Nothing 2 }
@@ -132,7 +124,7 @@ fn is_nop16(image: &Image, plan: &Plan, addr: u32) -> bool
     if !any_holds(plan.rom.as_slice(), addr, 2) {
         return false;
     }
-    is_byte(image, addr, 0) && is_byte(image, addr + 1, 0)
+    image.has_byte(addr, 0) && image.has_byte(addr + 1, 0)
 }
 
 /// The size of the instruction of a point, where it changes nothing and the next point has the same state.
@@ -146,8 +138,9 @@ fn idle_size(at: &At<'_>) -> Option<u32>
     if is_nop16(at.image, at.plan, at.point.addr) {
         return Some(2);
     }
+    let image = at.image;
     // The others that change nothing, nop, dsync and isync, begin with 0D.
-    if !is_byte(at.image, at.point.addr, 0x0D) {
+    if !image.has_byte(at.point.addr, 0x0D) {
         return None;
     }
     let Some(found) = code_at(at.image, at.plan, at.point.addr) else {

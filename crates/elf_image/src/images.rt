@@ -26,7 +26,7 @@ impl Model for Image {
 }
 
 impl Image {
-    ghost use Rattle.std.specs.Prelude.{◌≡◌, ◌≤◌, ◌^◌, length, Ok, IfOk, IfErr};
+    ghost use Rattle.std.specs.Prelude.{◌≡◌, ◌≤◌, ◌^◌, ◌↔◌, IsTrue, length, Some, Ok, IfOk, IfErr};
     ghost use Rattle.elf_image.specs.Images.{image_byte};
     ghost use Rattle.elf_image.specs.Elf.{Gives, image_of};
     ghost use Rattle.elf_image.specs.Written.{file_of};
@@ -69,5 +69,12 @@ impl Image {
             }
         }
         None
+    }
+
+    /// Whether this byte stands at an address.
+    pub fn has_byte(&self, addr: u32, byte: u8) -> bool
+        ensures { IsTrue result ↔ (image_byte self.now addr ≡ Some byte) }
+    {
+        self.byte(addr) == Some(byte)
     }
 }

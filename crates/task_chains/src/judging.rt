@@ -1,6 +1,5 @@
 // Whether the switch routine stands in an image.
-ghost use Rattle.std.specs.Prelude.{◌≡◌, ◌≤◌, ◌<◌, ◌+◌, ◌^◌, ◌↔◌, IsTrue, IfNone, IfSome, Some, slice_index};
-ghost use Rattle.elf_image.specs.Images.{image_byte};
+ghost use Rattle.std.specs.Prelude.{◌≡◌, ◌≤◌, ◌<◌, ◌+◌, ◌^◌, ◌↔◌, IsTrue, IfNone, IfSome, slice_index};
 ghost use Rattle.tcd_base.specs.Ranges.{IsInOne};
 ghost use Rattle.task_chains.specs.Routine.{HasRoutineByte, HasRoutine, IsRoutineFault, routine_bytes};
 
@@ -18,13 +17,6 @@ fn is_in_rom(plan: &Plan, x: u32, n: u32) -> bool
     any_holds(plan.rom.as_slice(), x, n)
 }
 
-/// Whether this byte stands at an address.
-fn is_byte(image: &Image, addr: u32, byte: u8) -> bool
-    ensures { IsTrue result ↔ (image_byte image.now addr ≡ Some byte) }
-{
-    image.byte(addr) == Some(byte)
-}
-
 /// Whether byte `i` of the routine, which is `byte`, stands at its address, in the rom range that holds all up to it.
 fn has_byte(image: &Image, plan: &Plan, tasks: &Tasks, i: u32, byte: u8) -> bool
     requires within { i < 72 }
@@ -34,7 +26,7 @@ fn has_byte(image: &Image, plan: &Plan, tasks: &Tasks, i: u32, byte: u8) -> bool
     if !is_in_rom(plan, tasks.switch, i + 1) {
         return false;
     }
-    is_byte(image, tasks.switch + i, byte)
+    image.has_byte(tasks.switch + i, byte)
 }
 
 /// The first address at which the switch routine doesn't stand: its bytes lie in one rom range, and segments hold them.
