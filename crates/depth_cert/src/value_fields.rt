@@ -1,14 +1,13 @@
 // The fields of values, read.
 ghost use Rattle.std.specs.Prelude.{◌≡◌, ◌≤◌, ◌<◌, ◌^◌, ◌-◌, ◌∷◌, [], IsTrue, ℕ, length, Ok, Err, OnOk, IfOk, IfErr, true};
 ghost use Rattle.tcd_base.specs.Reading.{Reads};
-ghost use Rattle.value_domain.specs.Values.{any_val};
 ghost use Rattle.value_domain.specs.declared.values.Val.TheVariants.{Set, Span};
 ghost use Rattle.std.specs.List.Sorted.{IsStrictlyIncreasing};
 ghost use Rattle.depth_cert.specs.Grammar.{flag_at, word_after, set_at, span_at, value_at, values_at, is_above, is_span};
 
 use arrayvec::ArrayVec;
 use tcd_base::{Cursor, FormErr, read_u8, read_u32};
-use value_domain::{Val, Words, count_of};
+use value_domain::{Val, Words, count_of, write_any};
 
 /// A fault of a kind at a place.
 pub fn fault(kind: u8, at: usize) -> FormErr
@@ -101,21 +100,6 @@ fn is_span(version: u8, lo: u32, last: u32, step: u8) -> bool
     width < count_of(lo, last, step) && !(lo == 0 && last == u32::MAX && step == 0)
 }
 
-/// Makes a value any word; one that is so already isn't written again.
-fn forget(out: &mut Val)
-    ensures { out.new ≡ any_val }
-{
-    if let Val::Span {
-        lo: 0,
-        last: u32::MAX,
-        step: 0,
-    } = out
-    {
-        return;
-    }
-    *out = Val::any();
-}
-
 /// Reads a value of a version into a place, or tells its first fault.
 #[tactic(auto, unfolding(crate::specs::Grammar::value_at))]
 pub fn read_value(c: &mut Cursor<'_>, version: u8, out: &mut Val) -> Result<(), FormErr>
@@ -127,7 +111,7 @@ pub fn read_value(c: &mut Cursor<'_>, version: u8, out: &mut Val) -> Result<(), 
     let start = c.place();
     let byte = read_u8(c)?;
     if byte == 0 {
-        forget(out);
+        write_any(out);
         return Ok(());
     }
     let width = if version == 1 { 64 } else { 128 };

@@ -105,24 +105,6 @@ pub(crate) fn holds_all(v: &Val) -> bool
     is_the_range(v, 0, u32::MAX, 0)
 }
 
-/// Writes the value that holds all words over another.
-#[inline(never)]
-fn replace_by_any(out: &mut Val)
-    ensures { out.new ≡ any_val }
-{
-    *out = Val::any();
-}
-
-/// Writes the value that holds all words over another, unless it stands there already.
-#[inline(always)]
-pub(crate) fn write_any(out: &mut Val)
-    ensures { out.new ≡ any_val }
-{
-    if !holds_all(out) {
-        replace_by_any(out);
-    }
-}
-
 /// A range that isn't all words. The call keeps the test before it a jump, where all words are most of what is tested.
 #[inline(never)]
 fn range_of(lo: u32, last: u32, step: u8) -> Form

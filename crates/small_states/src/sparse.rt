@@ -5,9 +5,9 @@ ghost use Rattle.small_states.specs.Kept.{given_of};
 ghost use Rattle.small_states.specs.Wholes.{all_values};
 
 use crate::asked::Given;
-use crate::small::{Small, holds_all, write_any};
+use crate::small::{Small, holds_all};
 use std::alloc::{AllocError, Global};
-use value_domain::Val;
+use value_domain::{Val, write_any};
 
 /// A value behind so many of which nothing is known.
 #[derive(Drop)]

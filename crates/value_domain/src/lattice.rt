@@ -5,11 +5,11 @@ ghost use Rattle.value_domain.specs.Sets.{AreWords, Among, Within, Rising, least
 ghost use Rattle.value_domain.specs.Sets as sets;
 ghost use Rattle.value_domain.specs.Floors.{floor, above};
 ghost use Rattle.value_domain.specs.Limits.{AreLimits};
-ghost use Rattle.value_domain.specs.Values.{IsMember, IsWell, IsValue, IsBelow, IsExtent, cover, members, range, count_in, first_in, words_of};
+ghost use Rattle.value_domain.specs.Values.{IsMember, IsWell, IsValue, IsBelow, IsExtent, cover, members, range, count_in, first_in, any_val, words_of};
 ghost use Rattle.value_domain.specs.declared.values.Val.TheVariants.{Set, Span};
 
 use crate::merging::merged;
-use crate::values::has;
+use crate::values::{has, set_span};
 use crate::{Bounds, Val, Words};
 use arrayvec::ArrayVec;
 
@@ -183,6 +183,14 @@ pub fn is_set(v: &Val) -> bool
     ensures { IsTrue result ↔ IsSome (words_of v.now) }
 {
     v.words().is_some()
+}
+
+/// Writes the value that holds all words over another.
+#[inline(always)]
+pub fn write_any(out: &mut Val)
+    ensures { out.new ≡ any_val }
+{
+    set_span(out, 0, u32::MAX, 0);
 }
 
 /// Adds words to a Span.

@@ -11,10 +11,10 @@ mod values;
 
 pub use lattice::{
     Extent, add_word, add_words, alignment_log2, count_of, cover, cover_words, extent_of,
-    extent_with, is_set, is_value, join, leq, member, span, with_word,
+    extent_with, is_set, is_value, join, leq, member, span, with_word, write_any,
 };
 pub use laws::{state_laws, value_laws};
 pub use limits::Bounds;
-pub use meets::{join_some, meet, words_of};
+pub use meets::{cover_of_words, join_some, meet};
 pub use states::{State, are_implied, covers, covers_context, join_states};
 pub use values::{Val, Words};

@@ -87,7 +87,7 @@ fn is_in(lo: u32, last: u32, step: u8, x: u32) -> bool
 }
 
 /// The cover of the words that are members of `v`.
-pub fn words_of(b: &Bounds, words: &[u32], v: &Val) -> Option<Val>
+pub fn cover_of_words(b: &Bounds, words: &[u32], v: &Val) -> Option<Val>
     requires { IsWell v.now }
     ensures kept { result ≡ cover_some b.now (filter (λ x. is_member x v.now) words.now) }
     ensures value { IfSome result (IsValue b.now) }

@@ -234,7 +234,7 @@ fn set_words(out: &mut Val, words: &Words)
 }
 
 /// Makes a value a Span; where it is one only its ends and step are written.
-fn set_span(out: &mut Val, lo: u32, last: u32, step: u8)
+pub(crate) fn set_span(out: &mut Val, lo: u32, last: u32, step: u8)
     ensures { out.new ≡ Span lo last step }
 {
     match out {

@@ -7,7 +7,7 @@ ghost use Rattle.tc_isa.specs.Arithmetic.{signed_place};
 ghost use Rattle.vd_transfer.specs.Intervals.{IsIn, Reaches, kept_by};
 ghost use Rattle.vd_transfer.specs.declared.refinement.Relation.TheVariants.{Same};
 
-use value_domain::{Bounds, Val, extent_of, join_some, meet, words_of};
+use value_domain::{Bounds, Val, cover_of_words, extent_of, join_some, meet};
 
 /// Relations of words.
 #[derive(Clone, Copy, PartialEq, Eq)]
@@ -124,7 +124,7 @@ fn common(b: &Bounds, v: &Val, w: &Val) -> Option<Val>
     ensures value { IfSome result (IsValue b.now) }
 {
     match w {
-        Val::Set(words) => words_of(b, words.as_slice(), v),
+        Val::Set(words) => cover_of_words(b, words.as_slice(), v),
         Val::Span { lo, last, step } => meet(b, v, *lo, *last, *step),
     }
 }

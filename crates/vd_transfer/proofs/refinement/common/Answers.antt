@@ -7,7 +7,7 @@ use Rattle.vd_transfer.proofs.refinement.common.Goals as goal
 
 pub returns-in-Set-clause-kept : goal.returns-in-Set-clause-kept
 returns-in-Set-clause-kept c =
-    c.words_of.ensures.kept
+    c.cover_of_words.ensures.kept
     ∙ rw (c.in-Set.is, c.as_slice.ensures.items)
     (kept_common c.args.b.now (members c.args.v.now) c.in-Set.words (λ x. is_member x c.args.v.now) (λ x. is_member_parts x c.args.v.now c.requires.left.well))
 
