@@ -6,7 +6,7 @@ use Rattle.value_domain.specs.declared.values.Val.{Val}
 use Rattle.value_domain.specs.Values.{any_val, IsBelow, IsWell}
 use Rattle.value_domain.specs.State.{AreBelow, AreWell}
 use Rattle.depth_cert.specs.Exits.{lower_values}
-use Rattle.packed_cert.proofs.LowerLaws.{lower_front, lower_back, length_lower}
+use Rattle.depth_cert.proofs.ExitValues.{lower_front, lower_back, length_lower}
 
 -- a part of well-formed values
 pub well_part : (vs : List Val) (i n : ℕ) → AreWell vs → AreWell (take n (drop i vs))

@@ -1,39 +1,17 @@
 -- The values of the lower registers, by their numbers among them and by their places in a state.
-use Rattle.std.proofs.Common.{◌≡◌, ℕ, ◌≤◌, ◌<◌, ◌+◌, ◌-◌, List, length, get_or, take, drop, true, false, cond, ltb, refl, sym, ◌∙◌, ap, arith, inl, inr, subst}
+use Rattle.std.proofs.Common.{◌≡◌, ℕ, ◌≤◌, ◌<◌, ◌+◌, ◌-◌, List, length, get_or, drop, true, false, cond, ltb, refl, sym, ◌∙◌, ap, arith, inl, inr, subst}
 use Rattle.std.specs.Prelude.{IsTrue}
 use Rattle.std.proofs.lemmas.Bool.{cases_lt, cases_Bool}
-use Rattle.std.proofs.lemmas.List.{get_or-take, get_or-drop, get_or_append_left, get_or-append_right, length-take, length-drop, length-append}
 use Rattle.value_domain.specs.declared.values.Val.{Val}
 use Rattle.value_domain.specs.Values.{any_val, IsWell}
 use Rattle.value_domain.specs.State.{AreWell, is_lower_slot}
 use Rattle.depth_cert.specs.Exits.{lower_values, with_lower_from}
-use Rattle.depth_cert.proofs.ExitValues.{restored_at, after-at}
+use Rattle.depth_cert.proofs.ExitValues.{restored_at, after-at, lower_low, lower_high}
 use Rattle.packed_cert.specs.Standing.{behind}
 use Rattle.packed_cert.specs.Below.{value_in, values_in, HasValue, HaveValues}
 use Rattle.packed_cert.proofs.ValueShapes.{left_first, length-values_in}
 
 -- ---- where they stand in a list of their own
-pub lower_front : (regs : List Val) (r : ℕ) → 22 ≤ length regs → r < 8 → get_or (lower_values regs) r any_val ≡ get_or (take 8 regs) r any_val
-lower_front regs r len h = get_or_append_left (take 8 regs) (take 6 (drop 16 regs)) any_val r (omega (arith, length-take 8 regs))
-
-pub lower_back : (regs : List Val) (r : ℕ) → 22 ≤ length regs → 8 ≤ r → get_or (lower_values regs) r any_val ≡ get_or (take 6 (drop 16 regs)) (r - 8) any_val
-lower_back regs r len h = get_or-append_right (take 8 regs) (take 6 (drop 16 regs)) 8 r any_val (omega (arith, length-take 8 regs)) h
-
-pub length_lower : (regs : List Val) → 22 ≤ length regs → length (lower_values regs) ≡ 14
-length_lower regs len = omega (arith, length-append (take 8 regs) (take 6 (drop 16 regs)), length-take 8 regs, length-take 6 (drop 16 regs), length-drop 16 regs)
-
--- by the place in a state
-pub lower_low : (regs : List Val) (i : ℕ) → 22 ≤ length regs → i < 8 → get_or (lower_values regs) i any_val ≡ get_or regs i any_val
-lower_low regs i len h = lower_front regs i len h ∙ get_or-take 8 regs i any_val h
-
-pub lower_high : (regs : List Val) (i : ℕ) → 22 ≤ length regs → 8 ≤ i → i < 14 → get_or (lower_values regs) i any_val ≡ get_or regs (i + 8) any_val
-lower_high regs i len h k =
-    let e : 16 + (i - 8) ≡ i + 8 = omega arith in
-    lower_back regs i len h
-    ∙ get_or-take 6 (drop 16 regs) (i - 8) any_val (omega arith)
-    ∙ get_or-drop 16 regs (i - 8) any_val
-    ∙ ap (λ (n : ℕ). get_or regs n any_val) e
-
 pub lower_well : (regs : List Val) (i : ℕ) → 22 ≤ length regs → i < 14 → AreWell regs → IsWell (get_or (lower_values regs) i any_val)
 lower_well regs i len h well =
     elim (cases_lt i 8) [

@@ -10,7 +10,9 @@ ghost use Rattle.packed_cert.specs.Below.{value_in, HasValue, values_in, HaveVal
 use crate::below::{is_below_at, value};
 use crate::certs::are_bytes;
 use crate::values_after::length_by;
+use depth_cert::lower_value;
 use value_domain::{State, Val};
+use vd_transfer::is_lower_slot;
 
 /// Values that stand in bytes, by the place of the first.
 #[derive(Clone, Copy)]
@@ -18,14 +20,6 @@ pub(crate) struct ValuesAt<'a> {
     pub(crate) bytes: &'a [u8],
     pub(crate) version: u8,
     pub(crate) place: usize,
-}
-
-/// The value of a lower register, by its number among them.
-fn lower_value(regs: &[Val; 27], i: usize) -> &Val
-    requires { i < 14 }
-    ensures { result.now ≡ slice_index_or (lower_values regs.now) i any_val }
-{
-    if i < 8 { &regs[i] } else { &regs[i + 8] }
 }
 
 /// Whether each value of the lower registers of a state is below the one that stands in its turn.
@@ -45,13 +39,6 @@ pub(crate) fn are_lower_below_at(s: &State, bytes: &[u8], version: u8, place: us
         at += length_by(bytes[at]);
     }
     true
-}
-
-/// Whether a place of a state is that of a lower register.
-fn is_lower_slot(i: usize) -> bool
-    ensures { result ≡ states.is_lower_slot i }
-{
-    i < 8 || (16 <= i && i < 22)
 }
 
 /// Whether each member of the value that stands at a place is one of the value that stands at

@@ -1,10 +1,9 @@
 -- Values that duties ask for.
-use Rattle.std.proofs.Common.{◌≡◌, ℕ, ◌+◌, ◌-◌, ◌<◌, ◌≤◌, Bool, true, false, List, length, get_or, take, drop, sym, ap, ◌∙◌, arith}
+use Rattle.std.proofs.Common.{◌≡◌, ◌-◌, Bool, true, false, List, length, take, drop, sym, ap, ◌∙◌, arith}
 use Rattle.std.specs.Prelude.{if◌then◌else◌}
-use Rattle.std.proofs.lemmas.List.{get_or-append_right, get_or-take, get_or-drop, length-append, length-take-le, length-drop}
+use Rattle.std.proofs.lemmas.List.{length-append, length-take-le, length-drop}
 use Rattle.value_domain.specs.declared.values.Val.{Val}
 use Rattle.value_domain.specs.Limits.{Limits}
-use Rattle.value_domain.specs.Values.{any_val}
 use Rattle.value_domain.specs.State.{AreWell, AreValues}
 use Rattle.depth_cert.specs.Exits.{lower_values}
 use Rattle.depth_cert.specs.Known.{Known, state, leaving}
@@ -22,14 +21,6 @@ module _ (regs : List Val) (len : length regs ≡ 27) where
 
   pub lower_count : length (lower_values regs) ≡ 14
   lower_count = omega (arith, length-append (take 8 regs) (take 6 (drop 16 regs)), front_length, back_length)
-
-  pub lower_back : (i : ℕ) → i < 14 → 8 ≤ i → get_or (lower_values regs) i any_val ≡ get_or regs (i + 8) any_val
-  lower_back i h ge =
-      let from : 16 + (i - 8) ≡ i + 8 = omega arith in
-      get_or-append_right (take 8 regs) (take 6 (drop 16 regs)) 8 i any_val front_length (omega arith)
-      ∙ get_or-take 6 (drop 16 regs) (i - 8) any_val (omega arith)
-      ∙ get_or-drop 16 regs (i - 8) any_val
-      ∙ ap (λ n. get_or regs n any_val) from
 
 -- ---- values
 pub values_well : (b : Limits) (vs : List Val) → AreValues b vs → AreWell vs

@@ -9,6 +9,7 @@ ghost use Rattle.depth_cert.specs.Known.{priority_of};
 
 use crate::{Small, SmallExit};
 use arrayvec::ArrayVec;
+use depth_cert::lower_value;
 use value_domain::{State, Val};
 use vd_transfer::{Change, changed_value};
 
@@ -152,16 +153,6 @@ fn value_after<'a>(s: &'a State, exit: &'a SmallExit, any: &'a Val, i: usize) ->
     restored(i, exit, any, &s.regs[i])
 }
 
-/// The value of a lower register.
-#[inline(always)]
-fn lower_value(s: &State, i: usize) -> &Val
-    requires { i < 14 }
-    ensures { result.now ≡ slice_index_or (lower_values s.now.regs) i any_val }
-{
-    let _regs = &s.regs[..];
-    if i < 8 { &s.regs[i] } else { &s.regs[i + 8] }
-}
-
 /// The value that is asked for at a place; `any` stands for each of which nothing is known.
 #[inline(always)]
 pub(crate) fn asked_value<'a>(asked: &'a Asked, any: &'a Val, i: usize) -> Given<'a>
@@ -178,6 +169,9 @@ pub(crate) fn asked_value<'a>(asked: &'a Asked, any: &'a Val, i: usize) -> Given
             let _regs = &s.regs[..];
             value_after(s, exit, any, i)
         }
-        Asked::Leaving(s) => Given::Whole(lower_value(s, i)),
+        Asked::Leaving(s) => {
+            let _regs = &s.regs[..];
+            Given::Whole(lower_value(&s.regs, i))
+        }
     }
 }

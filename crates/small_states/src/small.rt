@@ -1,5 +1,5 @@
 // A value in little room.
-ghost use Rattle.std.specs.Prelude.{◌≡◌, ◌↔◌, IsTrue, IfOk, IfSome, OnOk, ◌∷◌, ◌++◌, []};
+ghost use Rattle.std.specs.Prelude.{◌≡◌, ◌↔◌, IsTrue, IfOk, OnOk, ◌∷◌, ◌++◌, []};
 ghost use Rattle.depth_cert.specs.Spelling.{bytes_of_value};
 ghost use Rattle.value_domain.specs.declared.values.Val.TheVariants.{Set, Span};
 ghost use Rattle.value_domain.specs.Values.{IsWell, IsValue, IsBelow, IsMember, any_val};
@@ -14,6 +14,7 @@ use std::alloc::{AllocError, Global};
 use std::marker::Model;
 use tcd_base::NoMemory;
 use value_domain::{Bounds, Val, Words, alignment_log2, join, leq};
+use vd_transfer::only_word;
 
 /// All words, one word, more words, or another range.
 #[derive(Drop)]
@@ -80,20 +81,6 @@ fn is_the_word(v: &Val, x: u32) -> bool
     match v {
         Val::Set(words) => is_one(words, x),
         Val::Span { .. } => false,
-    }
-}
-
-/// The word of a value that has no other.
-#[inline(always)]
-fn only_word(v: &Val) -> Option<u32>
-    ensures { IfSome result (λ x. v.now ≡ Set (x ∷ [])) }
-{
-    match v {
-        Val::Set(words) => {
-            let all = words.as_slice();
-            if all.len() == 1 { Some(all[0]) } else { None }
-        }
-        Val::Span { .. } => None,
     }
 }
 

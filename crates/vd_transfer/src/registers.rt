@@ -42,7 +42,7 @@ pub(crate) fn operand_slot(a: Arg) -> Option<usize>
 
 /// The word of a value that has only one.
 #[inline(always)]
-pub(crate) fn only_word(v: &Val) -> Option<u32>
+pub fn only_word(v: &Val) -> Option<u32>
     ensures { IfSome result (λ w. v.now ≡ word_val w) }
 {
     match v {
@@ -180,7 +180,8 @@ pub(crate) fn is_lower(r: u8) -> bool
     r < 8 || 18 <= r && r <= 23
 }
 
-pub(crate) fn is_lower_slot(i: usize) -> bool
+/// Whether a place of a state is that of a lower register.
+pub fn is_lower_slot(i: usize) -> bool
     ensures { result ≡ is_lower_slot i }
 {
     i < 8 || 16 <= i && i < 22

@@ -6,7 +6,8 @@ use Rattle.depth_cert.specs.Exits.{lower_values}
 use Rattle.packed_cert.specs.Standing.{behind}
 use Rattle.packed_cert.specs.Below.{value_in, values_in}
 use Rattle.packed_cert.proofs.ValueShapes.{left_first, length-values_in, stands_at}
-use Rattle.packed_cert.proofs.LowerLaws.{lower_well, length_lower}
+use Rattle.packed_cert.proofs.LowerLaws.{lower_well}
+use Rattle.depth_cert.proofs.ExitValues.{length_lower}
 use Rattle.packed_cert.proofs.restored.are_lower_below_at.Goals as goal
 
 pub is_below_at-requires-clause-well : goal.is_below_at-requires-clause-well

@@ -1,0 +1,15 @@
+// The lower registers of a state.
+ghost use Rattle.std.specs.Prelude.{◌≡◌, ◌<◌, slice_index_or};
+ghost use Rattle.value_domain.specs.Values.{any_val};
+ghost use Rattle.depth_cert.specs.Exits.{lower_values};
+
+use value_domain::Val;
+
+/// The value of a lower register, by its number among them.
+#[inline(always)]
+pub fn lower_value(regs: &[Val; 27], i: usize) -> &Val
+    requires { i < 14 }
+    ensures { result.now ≡ slice_index_or (lower_values regs.now) i any_val }
+{
+    if i < 8 { &regs[i] } else { &regs[i + 8] }
+}
