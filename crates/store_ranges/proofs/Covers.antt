@@ -1,5 +1,5 @@
 -- Covers of what loads give.
-use Rattle.std.proofs.Common.{◌≡◌, ℕ, ◌-◌, ◌*◌, ◌^◌, ◌<◌, ◌≤◌, inl, inr, Bool, true, false, List, [], ◌∷◌, ◌++◌, map, length, refl, sym, ap, ◌∙◌, subst, arith}
+use Rattle.std.proofs.Common.{◌≡◌, ℕ, ◌-◌, ◌*◌, ◌^◌, ◌<◌, ◌≤◌, inl, inr, Bool, true, false, List, [], ◌∷◌, map, length, refl, sym, ap, ◌∙◌, subst, arith}
 use Rattle.std.proofs.lemmas.Bool.{lt-ltb}
 use Rattle.std.proofs.lemmas.Bool.Decides.{nat_tests}
 use Rattle.tcd_base.specs.Fields.{sext_of}
@@ -7,25 +7,13 @@ use Rattle.csa_chain.specs.Memory.{extend}
 use Rattle.value_domain.specs.Sets.{Among, Within, distinct, alignment_log2}
 use Rattle.value_domain.specs.Limits.{Limits, AreLimits}
 use Rattle.value_domain.specs.Floors.{floor, above}
-use Rattle.value_domain.specs.Values.{IsExtent, cover, members, range, any_val, count_in, first_in}
+use Rattle.value_domain.specs.Values.{IsExtent, cover, range, any_val, count_in, first_in}
 use Rattle.value_domain.proofs.SetLaws.{length-put_new, distinct-rising, length-distinct}
-use Rattle.value_domain.proofs.CoverLaws.{cover-same, among_range, range_among, length-multiples, rising_multiples, unit_some}
-use Rattle.value_domain.proofs.ExtentLaws.{among_append, append_left, append_right, cover-part, cover_span}
+use Rattle.value_domain.proofs.CoverLaws.{among_range, range_among, length-multiples, rising_multiples, unit_some}
+use Rattle.value_domain.proofs.ExtentLaws.{cover_span}
 use Rattle.value_domain.proofs.LimitLaws.{floor_le, above_lt, above_le}
 use Rattle.store_ranges.specs.Accesses.{IsSize}
 use Rattle.store_ranges.specs.Loads.{all_extended}
-
--- ---- joined covers
-cover-swap : (b : Limits) (xs ys : List ℕ) → cover b (xs ++ ys) ≡ cover b (ys ++ xs)
-cover-swap b xs ys = cover-same b (xs ++ ys) (ys ++ xs) (there xs ys) (there ys xs)
-  where
-    there : (xs ys : List ℕ) → Within (xs ++ ys) (ys ++ xs)
-    there xs ys z i = elim (among_append z xs ys i) [ inl j ↦ append_right z ys xs j | inr j ↦ append_left z ys xs j ]
-
--- two covers may stand for their sets
-pub cover-join : (b : Limits) (xs ys : List ℕ) → 1 ≤ length xs → 1 ≤ length ys → cover b (members (cover b xs) ++ members (cover b ys)) ≡ cover b (xs ++ ys)
-cover-join b xs ys some_x some_y =
-    cover-part b xs (members (cover b ys)) some_x ∙ cover-swap b xs (members (cover b ys)) ∙ cover-part b ys xs some_y ∙ cover-swap b ys xs
 
 -- ---- mapped lists
 pub map_has : (f : ℕ → ℕ) (x : ℕ) (xs : List ℕ) → Among x xs → Among (f x) (map f xs)

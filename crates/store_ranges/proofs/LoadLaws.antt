@@ -16,7 +16,7 @@ use Rattle.value_domain.proofs.ExtentLaws.{among_append, append_left, append_rig
 use Rattle.value_domain.proofs.Loops.{among_get}
 use Rattle.tcd_base.specs.Ranges.{is_within}
 use Rattle.store_ranges.specs.Loads.{answers, device_of}
-use Rattle.store_ranges.proofs.Covers.{cover-join}
+use Rattle.value_domain.proofs.MeetLaws.{cover-parts}
 use Rattle.store_ranges.proofs.Finds.{found_all}
 use Rattle.tcd_base.proofs.RangeLaws.{within_true, true_within}
 
@@ -82,7 +82,7 @@ pub flat_more : (b : Limits) (f : ℕ → List ℕ) (ws : List ℕ) (i : ℕ) (f
 flat_more b f ws i first out v lt some_first some e g =
     ap (λ (o : Val). cover b (members o ++ members v)) e
     ∙ ap (λ (o : Val). cover b (members (cover b (first ++ flat_map f (take i ws))) ++ members o)) g
-    ∙ cover-join b (first ++ flat_map f (take i ws)) (f (get_or ws i 0)) (omega (arith, length-append first (flat_map f (take i ws)))) some
+    ∙ cover-parts b (first ++ flat_map f (take i ws)) (f (get_or ws i 0)) (omega (arith, length-append first (flat_map f (take i ws)))) some
     ∙ ap (cover b) (flat_map_more f first (take i ws) (get_or ws i 0) ∙ ap (λ (l : List ℕ). first ++ flat_map f l) (sym (take_more ws i 0 lt)))
 
 pub flat_all : (b : Limits) (f : ℕ → List ℕ) (ws : List ℕ) (i : ℕ) (out : Val) → length ws ≤ i → 1 ≤ length ws → out ≡ cover b (f (get_or ws 0 0) ++ flat_map f (take i ws)) → out ≡ cover b (flat_map f ws)

@@ -16,7 +16,7 @@ use Rattle.tc_object.specs.Grammar.{name_length_at, name_bytes_at, name_after, s
 use Rattle.tc_object.specs.Spelling.{bytes_of_name, bytes_of_section, bytes_of_symbol, bytes_of_reloc, bytes_of_header, bytes_of}
 
 -- a reading that goes well, and what follows it
-then_ok : {A B : Type 0} (r : Result A FormErr) (f : A → Result B FormErr) (x : A) (y : Result B FormErr) → r ≡ Ok x → f x ≡ y → r >>= f ≡ y
+pub then_ok : {A B : Type 0} (r : Result A FormErr) (f : A → Result B FormErr) (x : A) (y : Result B FormErr) → r ≡ Ok x → f x ≡ y → r >>= f ≡ y
 then_ok {A} r f x y h k = ap (λ (v : Result A FormErr). v >>= f) h ∙ k
 
 -- a test that holds lets the value pass

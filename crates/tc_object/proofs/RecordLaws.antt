@@ -1,5 +1,5 @@
 -- What stands in a fixed number of bytes, read at once: a relocation, and what follows a symbol's name.
-use Rattle.std.proofs.Common.{◌≡◌, ◌+◌, ◌<◌, ◌≤◌, ℕ, List, length, take, drop, get_or, Bool, true, false, cond, ◌&&◌, Result, Ok, Err, refl, sym, ap, ◌∙◌, arith}
+use Rattle.std.proofs.Common.{◌≡◌, ◌+◌, ◌<◌, ◌≤◌, ℕ, List, length, take, drop, get_or, Bool, true, false, ◌&&◌, Result, Ok, Err, refl, sym, ap, ◌∙◌, arith}
 use Rattle.std.specs.Prelude.{nat_le, nat_lt, Option, Some, None, IsSome, ◌↔◌}
 use Rattle.std.proofs.lemmas.Bool.{le-leb}
 use Rattle.std.proofs.lemmas.List.{get_or-take, get_or-drop}
@@ -10,6 +10,8 @@ use Rattle.tcd_base.specs.Reading.{◌>>=◌, u8_at, u16_at, u32_at}
 use Rattle.tc_object.specs.declared.relocs.Reloc.{Reloc}
 use Rattle.tc_object.specs.Objects.{SectionData, SymbolData, is_section_of, is_offset_of, last_of, is_not_below, is_behind, size_at}
 use Rattle.tc_object.specs.Faults.{unless_good, reloc_fault, symbol_fault}
+use Rattle.tcd_base.proofs.FieldReads.{chosen}
+use Rattle.tc_object.proofs.BackLaws.{then_ok}
 use Rattle.tc_object.specs.Grammar.{checked, kind_at, symbol_section_at, symbol_offset_at, symbol_named, reloc_section_at, reloc_offset_at, reloc_symbol_at, reloc_after}
 
 -- ---- fields of bytes that were taken
@@ -31,9 +33,6 @@ word_in bytes place n i j h e =
     omega arith
 
 -- ---- fields that are there
-chosen : {A : Type 0} (b : Bool) (x y : A) → b ≡ true → cond b x y ≡ x
-chosen b x y e = rw e refl
-
 -- a place further on in the same bytes
 abbrev pub further : Place → ℕ → Place
 further p n = record { bytes = p.bytes; place = n }
@@ -65,10 +64,6 @@ two_tests : {A B : Type 0} (a : Bool) (b : A × Place → Bool) (k l : ℕ) (p q
     → ((checked k a p x >>= λ v. checked l (b v) q v) >>= f) ≡ told (unless_good a k p.place (unless_good (b x) l q.place next)) y
 two_tests true b k l p q x f next y h = one_test (b x) l q x f next y h
 two_tests false b k l p q x f next y h = refl
-
--- a reading, then what follows it
-then_is : {A B : Type 0} (r : Result A FormErr) (f : A → Result B FormErr) (x : A) (y : Result B FormErr) → r ≡ Ok x → f x ≡ y → r >>= f ≡ y
-then_is {A} r f x y h k = ap (λ (v : Result A FormErr). v >>= f) h ∙ k
 
 kind_then : {B : Type 0} (low high : ℕ) (p : Place) (n x : ℕ) (f : ℕ × Place → Result B FormErr) (next : Option FormErr) (y : B) → u8_at p ≡ Ok (x, further p n) → f (x, further p n) ≡ told next y
     → (kind_at low high p >>= f) ≡ told (unless_good (nat_le low x && nat_le x high) 4 p.place next) y
@@ -110,7 +105,7 @@ whole_reloc sections symbols before p h =
     (offset_then sections before r.section p (further p (p.place + 2)) (p.place + 6) r.offset _ _ _ e1
     (kind_then 1 7 (further p (p.place + 6)) (p.place + 7) r.kind _ _ _ e2
     (symbol_then symbols (further p (p.place + 7)) (p.place + 9) r.symbol _ _ _ e3
-    (then_is _ _ _ _ e4 refl))))
+    (then_ok _ _ _ _ e4 refl))))
 
 -- ---- symbols
 abbrev pub symbol_in : List ℕ → List ℕ → SymbolData

@@ -17,7 +17,7 @@ found_same : {A : Type 0} (x y : A) (p q : Place) → x ≡ y → p ≡ q → fo
 found_same x y p q e f = cc
 
 -- a test that holds chooses the first
-chosen : {A : Type 0} (b : Bool) (x y : A) → b ≡ true → cond b x y ≡ x
+pub chosen : {A : Type 0} (b : Bool) (x y : A) → b ≡ true → cond b x y ≡ x
 chosen b x y e = rw e refl
 
 -- a part in the middle is all there

@@ -1,5 +1,5 @@
 -- The ranges of a plan fit in memory and share no address.
-use Rattle.std.proofs.Common.{◌≡◌, ℕ, ◌+◌, ◌<◌, ◌≤◌, ◌^◌, inl, inr, true, ◌&&◌, List, [], ◌∷◌, ◌++◌, map, sym, ◌∙◌, arith, nat_le, nat_lt, ◌==◌, ◌%◌}
+use Rattle.std.proofs.Common.{◌≡◌, ℕ, ◌+◌, ◌≤◌, ◌^◌, inl, inr, true, ◌&&◌, List, [], ◌∷◌, ◌++◌, map, sym, ◌∙◌, arith, nat_le, nat_lt, ◌==◌, ◌%◌}
 use Rattle.std.proofs.lemmas.Bool.{and_parts, or_cases, leb-true}
 use Rattle.std.proofs.lemmas.List.Folds.{list_all-append}
 use Rattle.std.specs.List.{list_all}

@@ -7,7 +7,7 @@ use Rattle.tcd_reading.specs.Reports.{Written, Report, with_written, Stopped}
 use Rattle.tcd_reading.specs.Inputs.{Reading, Says, AreSureOf}
 use Rattle.tcd_reading.specs.Outcomes.{Comes, HasNotRead, IsQuiet, whole, cut, IsReported, printed, unwritten, no_memory, Finishes}
 use Rattle.tcd_reading.specs.Endings as ending
-use Rattle.tcd_reading.specs.Endings.{HasRoom, HasEnded, Ends}
+use Rattle.tcd_reading.specs.Endings.{HasRoom, Ends}
 use Rattle.tcd_reading.specs.declared.status.Status.{Status}
 use Rattle.tcd_reading.specs.declared.status.Status.TheVariants.{Done, Refused, BadInput, Fault, NoMemory, BadWords}
 use Rattle.tcd_reading.specs.declared.outcome.Outcome.{Outcome}

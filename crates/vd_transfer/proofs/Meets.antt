@@ -1,5 +1,5 @@
 -- What members stand in a relation to some of another value.
-use Rattle.std.proofs.Common.{◌≡◌, ℕ, ◌^◌, ◌<◌, ◌≤◌, ◌⊎◌, inl, inr, Bool, true, false, not, List, [], ◌∷◌, ◌++◌, append-nil, refl, sym, ap, ◌∙◌, subst, arith, leb, ltb, eqb}
+use Rattle.std.proofs.Common.{◌≡◌, ℕ, ◌^◌, ◌<◌, ◌≤◌, ◌⊎◌, inl, inr, Bool, true, false, not, List, ◌++◌, append-nil, refl, sym, ap, ◌∙◌, subst, arith, leb, ltb, eqb}
 use Rattle.std.specs.List.{filter, list_any}
 use Rattle.std.proofs.lemmas.Bool.{cases_Bool, leb-true, le-leb, cases_order, eqb-true, eqb-false, eq-eqb, ne_eqb, lt-ltb, ltb-true, not-true, not_from_false}
 use Rattle.value_domain.specs.Sets.{Among}
@@ -13,6 +13,7 @@ use Rattle.vd_transfer.specs.Intervals.{is_related, Reaches, kept_by, IsIn}
 use Rattle.vd_transfer.specs.declared.refinement.Relation.{Relation}
 use Rattle.vd_transfer.specs.declared.refinement.Relation.TheVariants.{Same, Other, Less, AtLeast, More, AtMost}
 use Rattle.vd_transfer.specs.declared.refinement.Interval.{Interval}
+use Rattle.vd_transfer.proofs.RelationLaws.{filter_none}
 
 -- ---- some word of a set in a relation
 pub reaches : (rel : Relation) (x low high s : ℕ) (ws : List ℕ) → (rel ≡ Same → ⊥) → IsExtent ws low high s
@@ -51,10 +52,6 @@ reaches AtMost x low high s ws order e = (
 )
 
 -- no word lies in an empty interval
-filter_empty : (p : ℕ → Bool) (zs : List ℕ) → ((z : ℕ) → p z ≡ false) → filter p zs ≡ []
-filter_empty p [] h = refl
-filter_empty p (z ∷ zs) h = rw (h z) (filter_empty p zs h)
-
 not_in : (lo last z : ℕ) → last < lo → in_span lo last 0 z ≡ false
 not_in lo last z lt =
     elim (cases_Bool (in_span lo last 0 z)) [
@@ -67,7 +64,7 @@ pub first_alone : (b : Limits) (i j : Interval) (vs : List ℕ) → j.last < j.l
 first_alone b i j vs lt =
     ap (cover_some b)
     (sym (append-nil (filter (in_span i.lo i.last 0) vs))
-    ∙ ap (λ (l : List ℕ). filter (in_span i.lo i.last 0) vs ++ l) (sym (filter_empty (in_span j.lo j.last 0) vs (λ z. not_in j.lo j.last z lt))))
+    ∙ ap (λ (l : List ℕ). filter (in_span i.lo i.last 0) vs ++ l) (sym (filter_none (in_span j.lo j.last 0) vs (λ z. not_in j.lo j.last z lt))))
 
 -- the members of two intervals
 pub kept_intervals : (b : Limits) (rel : Relation) (vs ws : List ℕ) (i j : Interval) (low high s : ℕ) → (rel ≡ Same → ⊥) → IsExtent ws low high s

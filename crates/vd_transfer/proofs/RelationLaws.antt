@@ -142,7 +142,7 @@ filter_all : (p : ℕ → Bool) (zs : List ℕ) → ((z : ℕ) → p z ≡ true)
 filter_all p [] h = refl
 filter_all p (z ∷ zs) h = rw (h z) (ap (λ (l : List ℕ). z ∷ l) (filter_all p zs h))
 
-filter_none : (p : ℕ → Bool) (zs : List ℕ) → ((z : ℕ) → p z ≡ false) → filter p zs ≡ []
+pub filter_none : (p : ℕ → Bool) (zs : List ℕ) → ((z : ℕ) → p z ≡ false) → filter p zs ≡ []
 filter_none p [] h = refl
 filter_none p (z ∷ zs) h = rw (h z) (filter_none p zs h)
 
