@@ -88,8 +88,7 @@ pub(crate) fn read_values_after(
     let mut anew = none_anew();
     let mut from = before.values;
     let mut place = c.place();
-    let alike = count_same_before(bytes, from, place, before.end);
-    let mut stop = from + alike;
+    let mut stop = from + count_same_before(bytes, from, place, before.end);
     for i in 0..out.len() {
         if stop == before.end {
             move_to(c, place + (stop - from));
@@ -104,8 +103,7 @@ pub(crate) fn read_values_after(
             read_value(c, version, &mut out[i])?;
             anew = with_read(anew, i);
             place = c.place();
-            let alike = count_same_before(bytes, next, place, before.end);
-            stop = next + alike;
+            stop = next + count_same_before(bytes, next, place, before.end);
         }
         from = next;
     }

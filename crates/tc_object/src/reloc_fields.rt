@@ -196,9 +196,7 @@ fn read_reloc(
         return read_reloc_fields(c, sections, symbols, before);
     };
     let reloc = reloc_of(bytes);
-    if let Err(err) = check_reloc(sections, symbols, before, &reloc, start) {
-        return Err(err);
-    }
+    check_reloc(sections, symbols, before, &reloc, start)?;
     Ok(reloc)
 }
 

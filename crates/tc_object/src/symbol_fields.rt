@@ -154,9 +154,7 @@ fn read_named(c: &mut Cursor<'_>, sections: &[Section], name: String) -> Result<
         return read_named_fields(c, sections, name);
     };
     let symbol = symbol_of(bytes, name);
-    if let Err(err) = check_symbol(sections, &symbol, start) {
-        return Err(err);
-    }
+    check_symbol(sections, &symbol, start)?;
     Ok(symbol)
 }
 

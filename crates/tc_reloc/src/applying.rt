@@ -39,6 +39,5 @@ fn filled(kind: u8, word: u32, place: u32, value: u32) -> u32
     if kind == 7 {
         return value;
     }
-    let filled = rest(kind, word) + spread(kind, content(kind, place, value));
-    filled
+    rest(kind, word) + spread(kind, content(kind, place, value))
 }

@@ -6,8 +6,8 @@ use Rattle.tc_reloc.proofs.applying.filled.Goals as goal
 pub spread-requires : goal.spread-requires
 spread-requires c = content_below c.args.place c.args.value (omega arith) (omega arith) c.args.kind c.content.result c.content.ensures c.requires.some c.requires.most
 
-pub overflow_add-filled : goal.overflow_add-filled
-overflow_add-filled c =
+pub overflow_add-result : goal.overflow_add-result
+overflow_add-result c =
     let below = written_below c.args.word c.content.result (omega arith) c.args.kind c.requires.some c.requires.most (content_below c.args.place c.args.value (omega arith) (omega arith) c.args.kind c.content.result c.content.ensures c.requires.some c.requires.most) in
     let same : c.rest.result + c.spread.result ≡ rest_of c.args.kind c.args.word + spread_of c.args.kind c.content.result = cc in
     omega arith
