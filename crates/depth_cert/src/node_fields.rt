@@ -1,8 +1,8 @@
 // The fields of nodes, read.
-ghost use Rattle.std.specs.Prelude.{◌≡◌, ◌≤◌, ◌<◌, ◌+◌, ◌^◌, ◌-◌, [], length, true, Ok, Err, IfOk, IfErr};
+ghost use Rattle.std.specs.Prelude.{◌≡◌, ◌≤◌, ◌<◌, ◌+◌, ◌^◌, ◌-◌, [], length, true, Ok, Err, OnOk, IfOk, IfErr};
 ghost use Rattle.tcd_base.specs.Reading.{Reads};
 ghost use Rattle.depth_cert.specs.Answers.{IsFaultOf};
-ghost use Rattle.depth_cert.specs.Grammar.{values_at, key_after, need_at, has_exit_at, exit_at, exits_at, node_after, is_above};
+ghost use Rattle.depth_cert.specs.Grammar.{key_after, need_at, has_exit_at, exit_at, exits_at, node_after, is_above};
 ghost use Rattle.depth_cert.specs.Keys.{key_number, number_of_key};
 ghost use Rattle.depth_cert.specs.Certs.{key_numbers, count_points};
 
@@ -98,27 +98,18 @@ pub fn read_has_exit(c: &mut Cursor<'_>, kind: u8) -> Result<bool, FormErr>
     Ok(exit)
 }
 
-fn read_lower(c: &mut Cursor<'_>, version: u8) -> Result<[Val; 14], FormErr>
-    requires { length c.old.bytes ≤ 2 ^ 30 }
-    ensures read { Reads result c.new (values_at version 14 c.old) }
-    ensures bytes { c.new.bytes ≡ c.old.bytes }
-{
-    let mut lower: [Val; 14] = std::array::from_fn(|_| Val::any());
-    read_values(c, version, &mut lower)?;
-    Ok(lower)
-}
-
-/// What an exit says: IE, CCPN, and the values of the lower context.
+/// Reads an exit into its place: IE, CCPN, and the values of the lower context.
 #[tactic(auto, unfolding(crate::specs::Grammar::exit_at))]
-pub fn read_exit(c: &mut Cursor<'_>, version: u8) -> Result<Exit, FormErr>
+pub fn read_exit(c: &mut Cursor<'_>, version: u8, out: &mut Exit) -> Result<(), FormErr>
     requires { length c.old.bytes ≤ 2 ^ 30 }
-    ensures read { Reads result c.new (exit_at version c.old) }
+    ensures ok { OnOk result (exit_at version c.old ≡ Ok (out.new, c.new)) }
+    ensures err { IfErr result (λ e. exit_at version c.old ≡ Err e) }
     ensures bytes { c.new.bytes ≡ c.old.bytes }
 {
-    let ie = read_flag(c)?;
-    let ccpn = read_u8(c)?;
-    let lower = read_lower(c, version)?;
-    Ok(Exit { ie, ccpn, lower })
+    out.ie = read_flag(c)?;
+    out.ccpn = read_u8(c)?;
+    read_values(c, version, &mut out.lower)?;
+    Ok(())
 }
 
 #[tactic(auto, unfolding(crate::specs::Grammar::exits_at))]
@@ -130,7 +121,12 @@ fn read_exits(c: &mut Cursor<'_>, version: u8, kind: u8) -> Result<Option<Exit>,
     if !read_has_exit(c, kind)? {
         return Ok(None);
     }
-    let exit = read_exit(c, version)?;
+    let mut exit = Exit {
+        ie: false,
+        ccpn: 0,
+        lower: std::array::from_fn(|_| Val::any()),
+    };
+    read_exit(c, version, &mut exit)?;
     Ok(Some(exit))
 }
 

@@ -1,14 +1,13 @@
 // Exits where they stand in bytes.
-ghost use Rattle.std.specs.Prelude.{◌≡◌, ◌≤◌, ◌^◌, ◌↔◌, IsTrue, length, Ok, Err, OnOk, IfErr};
-ghost use Rattle.depth_cert.specs.Grammar.{exit_at};
+ghost use Rattle.std.specs.Prelude.{◌≡◌, ◌≤◌, ◌^◌, ◌↔◌, IsTrue, length};
 ghost use Rattle.packed_cert.specs.Nodes.{exit_in, HasExit};
 
 use crate::below::are_values_at;
 use crate::certs::are_bytes;
 use crate::restored::{ValuesAt, are_lower_below_at};
-use depth_cert::{Exit, read_flag, read_values};
+use depth_cert::{Exit, read_exit};
 use std::marker::Model;
-use tcd_base::{Cursor, FormErr, read_u8};
+use tcd_base::Cursor;
 use value_domain::{Bounds, State, Val};
 
 /// An exit where it stands in bytes.
@@ -107,23 +106,9 @@ impl<'a> ExitAt<'a> {
         let mut c = Cursor::new(self.bytes);
         let _front = c.take(self.place);
         let mut exit = no_exit();
-        let _read = read_into(&mut c, self.version, &mut exit);
+        let _read = read_exit(&mut c, self.version, &mut exit);
         exit
     }
-}
-
-/// Reads an exit into its place.
-#[tactic(auto, unfolding(depth_cert::specs::Grammar::exit_at))]
-pub(crate) fn read_into(c: &mut Cursor<'_>, version: u8, out: &mut Exit) -> Result<(), FormErr>
-    requires { length c.old.bytes ≤ 2 ^ 30 }
-    ensures ok { OnOk result (exit_at version c.old ≡ Ok (out.new, c.new)) }
-    ensures err { IfErr result (λ e. exit_at version c.old ≡ Err e) }
-    ensures bytes { c.new.bytes ≡ c.old.bytes }
-{
-    out.ie = read_flag(c)?;
-    out.ccpn = read_u8(c)?;
-    read_values(c, version, &mut out.lower)?;
-    Ok(())
 }
 
 /// An exit of which nothing is known.

@@ -8,10 +8,9 @@ ghost use Rattle.depth_cert.specs.Keys.{key_number, number_of_key};
 ghost use Rattle.depth_cert.specs.Certs.{count_points};
 ghost use Rattle.packed_cert.specs.Nodes.{exit_in, HasExit, node_of, nodes_of, HasPlaces};
 
-use crate::exits::read_into;
 use crate::node_places::NodePlaces;
 use crate::point_fields::{Room, read_points};
-use depth_cert::{CertErr, Exit, Key, fault, number_of, read_has_exit, read_need};
+use depth_cert::{CertErr, Exit, Key, fault, number_of, read_exit, read_has_exit, read_need};
 use std::alloc::Global;
 use tcd_base::{Cursor, FormErr, read_u8, read_u32};
 
@@ -85,7 +84,7 @@ fn read_exits(
         return Ok(None);
     }
     let place = c.place() as u32;
-    let _read = read_into(c, version, room)?;
+    let _read = read_exit(c, version, room)?;
     Ok(Some(place))
 }
 
