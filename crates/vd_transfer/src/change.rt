@@ -1,11 +1,11 @@
 // What an instruction changes of a state.
-ghost use Rattle.std.specs.Prelude.{◌≡◌};
+ghost use Rattle.std.specs.Prelude.{◌≡◌, ◌&&◌, not};
 ghost use Rattle.value_domain.specs.Values.{IsValue};
 ghost use Rattle.value_domain.specs.State.{AreValues};
-ghost use Rattle.vd_transfer.specs.Registers.{write_reg};
+ghost use Rattle.vd_transfer.specs.Registers.{slot, is_lower, write_reg};
 ghost use Rattle.vd_transfer.specs.Changes.{state_after, no_put, reg_put, kept_of};
 
-use crate::registers::{is_lower, slot_of};
+use crate::registers::slot_of;
 use arrayvec::ArrayVec;
 use value_domain::{Bounds, State, Val};
 
@@ -86,6 +86,18 @@ pub fn unchanged(s: &State) -> Change
     }
 }
 
+/// Puts a value where a state has the value of a register, and tells what is left of the mark that
+/// the lower registers are the entry's.
+#[inline(always)]
+pub(crate) fn put_for(put: &mut Put, mark: &mut bool, r: u8)
+    ensures put { put.new ≡ record put.old { at = slot r } }
+    ensures mark { mark.new ≡ (mark.old && not (is_lower r)) }
+{
+    let lower = r < 8 || 18 <= r && r <= 23;
+    put.at = slot_of(r);
+    *mark = *mark && !lower;
+}
+
 /// Writes a register last.
 #[inline(always)]
 pub(crate) fn write_last(b: &Bounds, s: &State, c: &mut Change, r: u8, v: Val)
@@ -95,8 +107,6 @@ pub(crate) fn write_last(b: &Bounds, s: &State, c: &mut Change, r: u8, v: Val)
     ensures written { state_after s.now c.new ≡ write_reg (state_after s.now c.old) r v }
     ensures values { AreValues b.now (state_after s.now c.new).regs }
 {
-    let kept = !is_lower(r);
-    c.third.at = slot_of(r);
+    put_for(&mut c.third, &mut c.lower, r);
     c.third.value = v;
-    c.lower = c.lower && kept;
 }

@@ -10,10 +10,10 @@ ghost use Rattle.vd_transfer.specs.Effects.{HasRoom, with_base, saved_lower, res
 ghost use Rattle.vd_transfer.specs.Changes.{state_after, no_put, kept_of};
 
 use crate::access::Addressing;
-use crate::change::{Base, Change, unchanged, write_last};
+use crate::change::{Base, Change, put_for, unchanged, write_last};
 use crate::operands::{Operands, operate};
 use crate::operations::operation;
-use crate::registers::{constant, is_lower, reg_value, slot_of};
+use crate::registers::{constant, reg_value};
 use tc_isa::{Arg, Op, Shape};
 use tcd_plan::Plan;
 use value_domain::{Bounds, State, Val};
@@ -47,11 +47,9 @@ fn compute(b: &Bounds, plan: &Plan, s: &State, op: Op, dst: u8, of: Operands) ->
         (value_of b.now op (arg_of plan.now s.now of.x) (arg_of plan.now s.now of.y)) }
     ensures values { AreValues b.now (state_after s.now result).regs }
 {
-    let kept = !is_lower(dst);
     let mut c = unchanged(s);
-    c.second.at = slot_of(dst);
+    put_for(&mut c.second, &mut c.lower, dst);
     c.second.value = operate(b, plan, s, op, of);
-    c.lower = c.lower && kept;
     c
 }
 
@@ -71,11 +69,9 @@ fn scale(b: &Bounds, plan: &Plan, s: &State, dst: u8, at: ScaledAddress) -> Chan
         &reg_value(b, plan, s, at.index),
         &constant(b, u32::from(at.n)),
     );
-    let kept = !is_lower(dst);
     let mut c = unchanged(s);
-    c.second.at = slot_of(dst);
+    put_for(&mut c.second, &mut c.lower, dst);
     c.second.value = operation(b, Op::Add, &reg_value(b, plan, s, at.base), &by);
-    c.lower = c.lower && kept;
     c
 }
 
@@ -94,10 +90,8 @@ fn increase(b: &Bounds, plan: &Plan, s: &State, r: u8, offset: u32, c: &mut Chan
         x: Arg::Reg(r),
         y: Arg::Word(offset),
     };
-    let kept = !is_lower(r);
-    c.second.at = slot_of(r);
+    put_for(&mut c.second, &mut c.lower, r);
     c.second.value = operate(b, plan, s, Op::Add, of);
-    c.lower = c.lower && kept;
 }
 
 /// Increases the base register by the offset, where the access says so.
@@ -155,10 +149,8 @@ fn write_any(b: &Bounds, s: &State, dst: u8) -> Change
     ensures values { AreValues b.now (state_after s.now result).regs }
 {
     let _most_words = b.most_words();
-    let kept = !is_lower(dst);
     let mut c = unchanged(s);
-    c.second.at = slot_of(dst);
-    c.lower = c.lower && kept;
+    put_for(&mut c.second, &mut c.lower, dst);
     c
 }
 

@@ -4,7 +4,7 @@ ghost use Rattle.value_domain.specs.Values.{IsValue, any_val};
 ghost use Rattle.value_domain.specs.State.{AreValues, is_lower_slot};
 ghost use Rattle.tc_isa.specs.Bounded.{IsArg};
 ghost use Rattle.vd_transfer.specs.Changes.{arg_slot};
-ghost use Rattle.vd_transfer.specs.Registers.{slot, reg_of, arg_of, fixed_of, is_lower, word_val};
+ghost use Rattle.vd_transfer.specs.Registers.{slot, reg_of, arg_of, fixed_of, word_val};
 
 use tc_isa::Arg;
 use tcd_plan::Plan;
@@ -172,12 +172,6 @@ pub(crate) fn arg(b: &Bounds, plan: &Plan, s: &State, a: Arg) -> Val
         Arg::Reg(r) => reg_value(b, plan, s, r),
         Arg::Word(w) => constant(b, w),
     }
-}
-
-pub(crate) fn is_lower(r: u8) -> bool
-    ensures { result ≡ is_lower r }
-{
-    r < 8 || 18 <= r && r <= 23
 }
 
 /// Whether a place of a state is that of a lower register.

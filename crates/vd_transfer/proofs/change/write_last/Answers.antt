@@ -3,4 +3,4 @@ use Rattle.vd_transfer.proofs.change.write_last.Goals as goal
 
 pub returns-clause-values : goal.returns-clause-values
 returns-clause-values c =
-    rw c.slot_of-c.ensures.slot (written_last-values c.args.b.now c.args.s.now c.args.c.now c.args.r c.args.v c.requires.values c.requires.free c.requires.value)
+    rw c.put_for.ensures.put (written_last-values c.args.b.now c.args.s.now c.args.c.now c.args.r c.args.v c.requires.values c.requires.free c.requires.value)
