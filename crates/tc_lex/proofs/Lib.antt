@@ -8,3 +8,4 @@ pub mod Mapped
 pub mod Parted
 pub mod NumberTokens
 pub mod SameBytes
+pub mod SmallTimes

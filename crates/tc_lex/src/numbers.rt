@@ -1,38 +1,52 @@
 // The numbers that tokens spell.
-ghost use Rattle.std.specs.Prelude.{◌≡◌, ◌<◌, ◌≤◌, ◌^◌, length, fold, true};
+ghost use Rattle.std.specs.Prelude.{◌≡◌, ◌<◌, Some, length, fold, true};
 ghost use Rattle.tc_lex.specs.Cut.{has_hex_front};
 ghost use Rattle.tc_lex.specs.Numbers.{digit_of, add_digit, digits_of, number_of};
 
 use crate::is_hex;
 
 #[tactic(auto, unfolding(crate::specs::Numbers::digit_of, crate::specs::Bytes::is_digit))]
-fn digit_of(c: u8) -> u128
-    ensures value { result ≡ digit_of c }
-    ensures small { result < 256 }
+fn digit_of(c: u8) -> u8
+    ensures { result ≡ digit_of c }
 {
     if 48 <= c && c <= 57 {
-        u128::from(c) - 48
+        c - 48
     } else if 97 <= c {
-        u128::from(c) - 87
+        c - 87
     } else {
-        u128::from(c).saturating_sub(55)
+        c.saturating_sub(55)
     }
 }
 
-#[tactic(auto, unfolding(crate::specs::Numbers::add_digit))]
-fn add_digit(base: u128, so_far: Option<u128>, c: u8) -> Option<u128>
+#[tactic(auto, unfolding(crate::specs::Numbers::add_digit), using(crate::proofs::SmallTimes::small_times))]
+fn add_digit(base: u8, so_far: Option<u128>, c: u8) -> Option<u128>
     ensures { result ≡ add_digit base so_far c }
 {
     match so_far {
         None => None,
-        Some(n) => match n.checked_mul(base) {
-            None => None,
-            Some(shifted) => shifted.checked_add(digit_of(c)),
-        },
+        Some(n) => {
+            if n < 0x1_0000_0000_0000_0000 {
+                Some(n * u128::from(base) + u128::from(digit_of(c)))
+            } else {
+                add_far_digit(base, n, c)
+            }
+        }
     }
 }
 
-fn digits(base: u128, text: &[u8]) -> Option<u128>
+// A digit more behind a number that may be too great for it.
+#[inline(never)]
+#[tactic(auto, unfolding(crate::specs::Numbers::add_digit))]
+fn add_far_digit(base: u8, n: u128, c: u8) -> Option<u128>
+    ensures { result ≡ add_digit base (Some n) c }
+{
+    match n.checked_mul(u128::from(base)) {
+        None => None,
+        Some(shifted) => shifted.checked_add(u128::from(digit_of(c))),
+    }
+}
+
+fn digits(base: u8, text: &[u8]) -> Option<u128>
     ensures { result ≡ digits_of base text.now }
 {
     let mut so_far = Some(0);

@@ -1,10 +1,10 @@
 // The operands, parted by commas.
-ghost use Rattle.std.specs.Prelude.{◌≡◌, ◌≤◌, ◌<◌, map, length, position, IfSome, take, drop, ◌+◌};
+ghost use Rattle.std.specs.Prelude.{◌≡◌, ◌≤◌, ◌<◌, map, length, position, IfSome, take, drop, ◌+◌, ◌++◌, ◌∷◌, []};
 ghost use Rattle.tc_lex.specs.Pieces.{piece_of, kind_index};
 ghost use Rattle.tc_lex.specs.Operands.{operand_of, operands, is_comma, operand};
 
 use crate::operand::Operand;
-use crate::operand_tokens::operand;
+use crate::operand_tokens::put_operand;
 use crate::pieces::{Piece, kind_index};
 use arrayvec::ArrayVec;
 
@@ -15,12 +15,15 @@ fn find_comma(ps: &[Piece]) -> Option<usize>
     ps.iter().position(|p| kind_index(p.kind) == 2)
 }
 
-// The operand before this place.
-fn operand_before<'a>(ps: &[Piece<'a>], i: usize) -> Operand<'a>
-    requires { i ≤ length ps.now }
-    ensures { operand_of result ≡ operand (take i (map piece_of ps.now)) }
+// Puts the operand before this place behind the others.
+fn put_before<'a>(ps: &[Piece<'a>], i: usize, out: &mut ArrayVec<Operand<'a>, 65>)
+    requires place { i ≤ length ps.now }
+    requires room { length out.old.items < 65 }
+    ensures operands { map operand_of out.new.items
+        ≡ map operand_of out.old.items ++ operand (take i (map piece_of ps.now)) ∷ [] }
+    ensures one_more { length out.new.items ≡ length out.old.items + 1 }
 {
-    operand(&ps[..i])
+    put_operand(&ps[..i], out);
 }
 
 // What follows the comma at this place.
@@ -42,8 +45,8 @@ pub fn operands<'a>(ps: &[Piece<'a>], out: &mut ArrayVec<Operand<'a>, 65>)
     }
     let mut rest = ps;
     'parts: while let Some(i) = find_comma(rest) {
-        out.push(operand_before(rest, i));
+        put_before(rest, i, out);
         rest = after(rest, i);
     }
-    out.push(operand(rest));
+    put_operand(rest, out);
 }

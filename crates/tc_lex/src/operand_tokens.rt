@@ -1,5 +1,5 @@
 // The forms of operands.
-ghost use Rattle.std.specs.Prelude.{◌≡◌, ◌≢◌, ◌<◌, ◌≤◌, ◌+◌, map, length, not, true};
+ghost use Rattle.std.specs.Prelude.{◌≡◌, ◌≢◌, ◌<◌, ◌≤◌, ◌+◌, ◌++◌, ◌∷◌, [], map, length, not, true};
 ghost use Rattle.tc_lex.specs.declared.kinds.TokenKind.TheVariants.{Word, Number, Colon, Open};
 ghost use Rattle.tc_lex.specs.Pieces.{piece_of, is_kind as is_kind_at};
 ghost use Rattle.tc_lex.specs.Operands.{value_of, operand_of, number_at, sum_at, named_at, value_at, operand, value as data_of, plain as plain_of, memory as memory_of, plain_number as number_value, with_number as sum_value};
@@ -8,6 +8,7 @@ use crate::TokenKind;
 use crate::numbers::number_of;
 use crate::operand::{Operand, Shape, Value};
 use crate::pieces::{Piece, is_kind, is_text, text_at};
+use arrayvec::ArrayVec;
 
 fn make_value(shape: Shape, name: &[u8], minus: bool, size: u128) -> Value<'_>
     ensures { value_of result ≡ data_of shape name.now minus size }
@@ -190,16 +191,29 @@ fn bracketed<'a>(ps: &[Piece<'a>]) -> Operand<'a>
     }
 }
 
+// Puts an operand behind the others.
+fn put<'a>(operand: Operand<'a>, out: &mut ArrayVec<Operand<'a>, 65>)
+    requires { length out.old.items < 65 }
+    ensures operands { map operand_of out.new.items
+        ≡ map operand_of out.old.items ++ operand_of operand.entry ∷ [] }
+    ensures one_more { length out.new.items ≡ length out.old.items + 1 }
+{
+    out.push(operand);
+}
+
 // An operand of more than one token, or of none, or of one that is no value.
 #[inline(never)]
 #[tactic(auto, unfolding(crate::specs::Operands::operand))]
-fn longer_operand<'a>(ps: &[Piece<'a>]) -> Operand<'a>
-    ensures { operand_of result ≡ operand (map piece_of ps.now) }
+fn put_longer<'a>(ps: &[Piece<'a>], out: &mut ArrayVec<Operand<'a>, 65>)
+    requires { length out.old.items < 65 }
+    ensures operands { map operand_of out.new.items
+        ≡ map operand_of out.old.items ++ operand (map piece_of ps.now) ∷ [] }
+    ensures one_more { length out.new.items ≡ length out.old.items + 1 }
 {
     if is_kind(ps, 0, TokenKind::Open) {
-        bracketed(ps)
+        put(bracketed(ps), out);
     } else {
-        plain(value_at(ps, 0))
+        put(plain(value_at(ps, 0)), out);
     }
 }
 
@@ -221,17 +235,20 @@ fn lone_number<'a>(ps: &[Piece<'a>]) -> Operand<'a>
     plain(plain_number(false, number_of(text_at(ps, 0))))
 }
 
-/// The operand that these tokens are.
-pub(crate) fn operand<'a>(ps: &[Piece<'a>]) -> Operand<'a>
-    ensures { operand_of result ≡ operand (map piece_of ps.now) }
+/// Puts the operand that these tokens are behind the others; what is one token is written where it stays.
+pub(crate) fn put_operand<'a>(ps: &[Piece<'a>], out: &mut ArrayVec<Operand<'a>, 65>)
+    requires { length out.old.items < 65 }
+    ensures operands { map operand_of out.new.items
+        ≡ map operand_of out.old.items ++ operand (map piece_of ps.now) ∷ [] }
+    ensures one_more { length out.new.items ≡ length out.old.items + 1 }
 {
     if ps.len() != 1 {
-        longer_operand(ps)
+        put_longer(ps, out);
     } else if is_kind(ps, 0, TokenKind::Word) {
-        lone_word(ps)
+        put(lone_word(ps), out);
     } else if is_kind(ps, 0, TokenKind::Number) {
-        lone_number(ps)
+        put(lone_number(ps), out);
     } else {
-        longer_operand(ps)
+        put_longer(ps, out);
     }
 }

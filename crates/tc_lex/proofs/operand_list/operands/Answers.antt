@@ -1,7 +1,6 @@
 use Rattle.std.proofs.Common.{◌≡◌, ◌<◌, ◌+◌, ◌++◌, ◌∷◌, [], List, length, take, Option, Some, map, ap, sym, subst, ◌∙◌, ℕ, arith, length-drop}
 use Rattle.std.specs.Prelude.{IfSome}
 use Rattle.std.specs.List.{slice_split}
-use Rattle.std.proofs.lemmas.List.{map_push, length_push}
 use Rattle.std.proofs.lemmas.Bool.Decides.{nat_tests}
 use Rattle.tc_lex.specs.Pieces.{piece_of}
 use Rattle.tc_lex.specs.Operands.{operand_of, operand, is_comma}
@@ -17,11 +16,8 @@ returns-then-is_empty c =
 pub returns : goal.returns
 returns c =
     let some : 0 < length c.args.ps.now = grind (arith, nat_tests) in
-    let out = map operand_of c.parts.out.items in
-    ap (map operand_of) c.push-2.ensures.items
-    ∙ map_push operand_of c.parts.out.items c.operand.result
-    ∙ ap (λ q. out ++ q ∷ []) c.operand.ensures
-    ∙ parted_end out c.parts.rest.now (sym c.find_comma.ensures.value ∙ c.in_default.is)
+    c.put_operand.ensures.operands
+    ∙ parted_end (map operand_of c.parts.out.items) c.parts.rest.now (sym c.find_comma.ensures.value ∙ c.in_default.is)
     ∙ c.parts.invariant.parts
     ∙ operands-some c.args.ps.now some
 
@@ -32,13 +28,11 @@ parts-preserved c =
     let found : c.find_comma.result ≡ Some i = c.in-Some.is in
     record {
       parts =
-          ap (λ os. map operand_of os ++ map operand (slice_split is_comma (map piece_of c.after-rest.result.now))) c.push.ensures.items
-          ∙ ap (λ os. os ++ map operand (slice_split is_comma (map piece_of c.after-rest.result.now))) (map_push operand_of c.parts.out.items c.operand_before.result)
-          ∙ ap (λ q. (out ++ q ∷ []) ++ map operand (slice_split is_comma (map piece_of c.after-rest.result.now))) c.operand_before.ensures
+          ap (λ os. os ++ map operand (slice_split is_comma (map piece_of c.after-rest.result.now))) c.put_before.ensures.operands
           ∙ ap (λ (ps : List Piece). (out ++ operand (take i (map piece_of c.parts.rest.now)) ∷ []) ++ map operand (slice_split is_comma (map piece_of ps))) c.after-rest.ensures
           ∙ parted_more out c.parts.rest.now i (sym c.find_comma.ensures.value ∙ found)
           ∙ c.parts.invariant.parts;
       few =
           let within : i < length c.parts.rest.now = subst (λ (o : Option ℕ). IfSome o (λ j. j < length c.parts.rest.now)) found c.find_comma.ensures.within in
-          omega (arith, ap length c.push.ensures.items, length_push c.parts.out.items c.operand_before.result, ap length c.after-rest.ensures, length-drop (i + 1) c.parts.rest.now, within);
+          omega (arith, c.put_before.ensures.one_more, ap length c.after-rest.ensures, length-drop (i + 1) c.parts.rest.now, within);
     }
