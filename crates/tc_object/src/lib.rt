@@ -1,6 +1,7 @@
 //! Object files: sections with their bytes, symbols, and relocations.
 #![tactic(auto)]
 
+mod borrowed;
 mod errors;
 mod fields;
 mod names;
@@ -15,9 +16,10 @@ mod symbols;
 mod used_names;
 mod writing;
 
+pub use borrowed::ObjectRef;
 pub use errors::ObjErr;
 pub use names::name_of;
 pub use objects::Object;
 pub use relocs::Reloc;
-pub use sections::Section;
-pub use symbols::Symbol;
+pub use sections::{Section, SectionRef};
+pub use symbols::{Symbol, SymbolRef};

@@ -1,7 +1,6 @@
 // Objects, with the facts that they always keep.
-use crate::reading::read_parts;
 use crate::writing::{put_u16, write_relocs, write_sections, write_symbols};
-use crate::{ObjErr, Reloc, Section, Symbol};
+use crate::{ObjErr, ObjectRef, Reloc, Section, Symbol};
 use std::alloc::Global;
 use std::marker::Model;
 use tcd_base::put_u32;
@@ -41,12 +40,8 @@ impl Object {
         // An object has one spelling.
         ensures one { IfOk result (λ o. bytes_of o ≡ bytes.now) }
     {
-        let parts = read_parts(alloc, bytes)?;
-        Ok(Object {
-            sections: parts.sections,
-            symbols: parts.symbols,
-            relocs: parts.relocs,
-        })
+        let object = ObjectRef::read(alloc, bytes)?;
+        Ok(object.into_object(alloc)?)
     }
 
     /// The bytes that spell the object. `read` gives the object again.

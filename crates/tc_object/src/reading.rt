@@ -7,21 +7,21 @@ use crate::fields::{fault, read_magic, read_section_count};
 use crate::reloc_fields::read_relocs;
 use crate::section_fields::read_sections;
 use crate::symbol_fields::read_symbols;
-use crate::{ObjErr, Reloc, Section, Symbol};
+use crate::{ObjErr, Reloc, SectionRef, SymbolRef};
 use std::alloc::Global;
 use tcd_base::{Cursor, read_u16};
 
 /// The parts of an object.
 #[derive(Drop)]
-pub(crate) struct Parts {
-    pub(crate) sections: Vec<Section>,
-    pub(crate) symbols: Vec<Symbol>,
+pub(crate) struct Parts<'a> {
+    pub(crate) sections: Vec<SectionRef<'a>>,
+    pub(crate) symbols: Vec<SymbolRef<'a>>,
     pub(crate) relocs: Vec<Reloc>,
 }
 
 /// The parts of the object that the bytes spell, or their first fault.
 #[tactic(auto, unfolding(crate::specs::Grammar::object_of, crate::specs::Grammar::object_at, crate::specs::Grammar::parts_at))]
-pub(crate) fn read_parts(alloc: Global, bytes: &[u8]) -> Result<Parts, ObjErr>
+pub(crate) fn read_parts(alloc: Global, bytes: &[u8]) -> Result<Parts<'_>, ObjErr>
     requires { length bytes.now ≤ 2 ^ 30 }
     ensures ok { IfOk result
         (λ o. object_of bytes.now ≡ Ok (record {

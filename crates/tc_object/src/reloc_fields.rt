@@ -9,7 +9,7 @@ ghost use Rattle.tc_object.specs.Faults.{reloc_fault};
 
 use crate::fields::{fault, is_kind, read_kind};
 use crate::symbol_fields::size_at;
-use crate::{ObjErr, Reloc, Section};
+use crate::{ObjErr, Reloc, SectionRef};
 use std::alloc::Global;
 use tcd_base::{Cursor, FormErr, read_u16, read_u32};
 
@@ -37,7 +37,7 @@ fn is_behind(before: &[Reloc], section: u16, offset: u32) -> bool
 #[tactic(auto, unfolding(crate::specs::Grammar::reloc_section_at))]
 fn read_section_number(
     c: &mut Cursor<'_>,
-    sections: &[Section],
+    sections: &[SectionRef<'_>],
     before: &[Reloc],
 ) -> Result<u16, FormErr>
     requires { length c.old.bytes ≤ 2 ^ 30 }
@@ -59,7 +59,7 @@ fn read_section_number(
 #[tactic(auto, unfolding(crate::specs::Grammar::reloc_offset_at))]
 fn read_offset(
     c: &mut Cursor<'_>,
-    sections: &[Section],
+    sections: &[SectionRef<'_>],
     before: &[Reloc],
     section: u16,
     section_at: usize,
@@ -102,7 +102,7 @@ fn read_symbol_number(c: &mut Cursor<'_>, symbols: u16) -> Result<u16, FormErr>
 #[tactic(auto, unfolding(crate::specs::Grammar::reloc_after))]
 fn read_reloc_fields(
     c: &mut Cursor<'_>,
-    sections: &[Section],
+    sections: &[SectionRef<'_>],
     symbols: u16,
     before: &[Reloc],
 ) -> Result<Reloc, FormErr>
@@ -148,7 +148,7 @@ fn reloc_of(bytes: &[u8]) -> Reloc
 // The first fault of a relocation behind these, whose bytes begin at `start`.
 #[tactic(auto, unfolding(crate::specs::Faults::reloc_fault))]
 fn check_reloc(
-    sections: &[Section],
+    sections: &[SectionRef<'_>],
     symbols: u16,
     before: &[Reloc],
     reloc: &Reloc,
@@ -183,7 +183,7 @@ fn check_reloc(
 /// A relocation behind these: its bytes at once, where they are there.
 fn read_reloc(
     c: &mut Cursor<'_>,
-    sections: &[Section],
+    sections: &[SectionRef<'_>],
     symbols: u16,
     before: &[Reloc],
 ) -> Result<Reloc, FormErr>
@@ -201,10 +201,11 @@ fn read_reloc(
 }
 
 /// So many relocations.
+#[inline(never)]
 pub(crate) fn read_relocs(
     alloc: Global,
     c: &mut Cursor<'_>,
-    sections: &[Section],
+    sections: &[SectionRef<'_>],
     symbols: u16,
     count: u16,
 ) -> Result<Vec<Reloc>, ObjErr>

@@ -1,26 +1,26 @@
 // Sections, read.
 ghost use Rattle.std.specs.Prelude.{◌≡◌, ◌≤◌, ◌^◌, ◌-◌, [], length, Ok, Err, IfOk, IfErr, MatchResult};
 ghost use Rattle.tc_object.specs.Answers.{IsFaultOf};
-ghost use Rattle.tcd_base.specs.Reading.{many_at};
+ghost use Rattle.tcd_base.specs.Reading.{Reads, many_at};
 ghost use Rattle.tc_object.specs.Objects.{is_section_name};
 ghost use Rattle.tc_object.specs.Grammar.{name_after, section_after};
 
 use crate::fields::fault;
 use crate::names::{read_name_bytes, read_name_length};
-use crate::{ObjErr, Section};
+use crate::{ObjErr, SectionRef};
 use std::alloc::Global;
 use tcd_base::{Cursor, FormErr, read_bytes, read_u32};
 
 // Whether one of these sections, which are few, has the name.
-fn is_section_name(sections: &[Section], name: &str) -> bool
+fn is_section_name(sections: &[SectionRef<'_>], name: &str) -> bool
     ensures { result ≡ is_section_name sections.now name.now }
 {
-    sections.iter().any(|section| name == section.name.as_str())
+    sections.iter().any(|section| name == section.name)
 }
 
 /// A name that none of these sections has.
 #[tactic(auto, unfolding(crate::specs::Grammar::name_after))]
-fn read_section_name<'a>(c: &mut Cursor<'a>, before: &[Section]) -> Result<&'a str, FormErr>
+fn read_section_name<'a>(c: &mut Cursor<'a>, before: &[SectionRef<'_>]) -> Result<&'a str, FormErr>
     requires { length c.old.bytes ≤ 2 ^ 30 }
     ensures read { MatchResult result
         (λ name. name_after (is_section_name before.now) c.old ≡ Ok (name.now, c.new))
@@ -38,26 +38,26 @@ fn read_section_name<'a>(c: &mut Cursor<'a>, before: &[Section]) -> Result<&'a s
 
 /// A section behind these.
 #[tactic(auto, unfolding(crate::specs::Grammar::section_after, crate::specs::Grammar::section_with))]
-fn read_section(alloc: Global, c: &mut Cursor<'_>, before: &[Section]) -> Result<Section, ObjErr>
+fn read_section<'a>(
+    c: &mut Cursor<'a>,
+    before: &[SectionRef<'_>],
+) -> Result<SectionRef<'a>, FormErr>
     requires { length c.old.bytes ≤ 2 ^ 30 }
-    ensures ok { IfOk result (λ s. section_after before.now c.old ≡ Ok (s, c.new)) }
-    ensures err { IfErr result (IsFaultOf (section_after before.now c.old)) }
+    ensures read { Reads result c.new (section_after before.now c.old) }
     ensures bytes { c.new.bytes ≡ c.old.bytes }
 {
-    let text = read_section_name(c, before)?;
+    let name = read_section_name(c, before)?;
     let size = read_u32(c)?;
-    let part = read_bytes(c, size as usize)?;
-    let name = String::from_str(alloc, text)?;
-    let bytes = Vec::from_slice(alloc, part)?;
-    Ok(Section { name, bytes })
+    let bytes = read_bytes(c, size as usize)?;
+    Ok(SectionRef { name, bytes })
 }
 
 /// So many sections.
-pub(crate) fn read_sections(
+pub(crate) fn read_sections<'a>(
     alloc: Global,
-    c: &mut Cursor<'_>,
+    c: &mut Cursor<'a>,
     count: u16,
-) -> Result<Vec<Section>, ObjErr>
+) -> Result<Vec<SectionRef<'a>>, ObjErr>
     requires { length c.old.bytes ≤ 2 ^ 30 }
     ensures ok { IfOk result (λ ss. many_at section_after count [] c.old ≡ Ok (ss.items, c.new)) }
     ensures err { IfErr result (IsFaultOf (many_at section_after count [] c.old)) }
@@ -65,7 +65,7 @@ pub(crate) fn read_sections(
 {
     let mut sections = Vec::with_capacity(alloc, count as usize)?;
     for _i in 0..count {
-        let section = read_section(alloc, c, &sections)?;
+        let section = read_section(c, &sections)?;
         sections.push(section)?;
     }
     Ok(sections)

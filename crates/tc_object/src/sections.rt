@@ -16,3 +16,18 @@ impl Model for Section {
 
     ghost view = { λ s. record { name = string_bytes s.name; bytes = s.bytes.items } };
 }
+
+/// A section whose name and bytes stay where they lie.
+#[derive(Drop)]
+pub struct SectionRef<'a> {
+    pub name: &'a str,
+    pub bytes: &'a [u8],
+}
+
+impl<'a> Model for SectionRef<'a> {
+    ghost use Rattle.tc_object.specs.Objects.{SectionData};
+
+    ghost Value = { SectionData };
+
+    ghost view = { λ s. record { name = s.name.now; bytes = s.bytes.now } };
+}

@@ -1,5 +1,5 @@
 // Symbols, read.
-ghost use Rattle.std.specs.Prelude.{◌≡◌, ◌≤◌, ◌+◌, ◌^◌, ◌-◌, ◌||◌, [], ℕ, List, length, slice_index, string_bytes, Ok, Err, Some, None, IfOk, IfErr, MatchResult};
+ghost use Rattle.std.specs.Prelude.{◌≡◌, ◌≤◌, ◌+◌, ◌^◌, ◌-◌, ◌||◌, [], ℕ, List, length, slice_index, Ok, Err, Some, None, IfOk, IfErr, MatchResult};
 ghost use Rattle.tcd_base.specs.Bytes.{half_at, word_at};
 ghost use Rattle.std.specs.Str.{bytes_eq};
 ghost use Rattle.tcd_base.specs.Reading.{Reads, many_at};
@@ -11,13 +11,13 @@ ghost use Rattle.tc_object.specs.Used.{is_among};
 
 use crate::fields::{fault, is_kind, read_kind};
 use crate::used_names::{no_names, read_new_name};
-use crate::{ObjErr, Section, Symbol};
+use crate::{ObjErr, SectionRef, SymbolRef};
 use std::alloc::Global;
 use std::collections::HashMap;
 use tcd_base::{Cursor, FormErr, read_u16, read_u32};
 
 /// The length of a section in bytes; 0 where there is none of this number.
-pub(crate) fn size_at(sections: &[Section], number: u16) -> usize
+pub(crate) fn size_at(sections: &[SectionRef<'_>], number: u16) -> usize
     ensures { result ≡ size_at sections.now number }
 {
     match sections.get(number as usize) {
@@ -27,7 +27,7 @@ pub(crate) fn size_at(sections: &[Section], number: u16) -> usize
 }
 
 // Whether a symbol of this kind may have this section.
-fn is_section_of(sections: &[Section], kind: u8, section: u16) -> bool
+fn is_section_of(sections: &[SectionRef<'_>], kind: u8, section: u16) -> bool
     ensures { result ≡ is_section_of sections.now kind section }
 {
     match kind {
@@ -37,7 +37,7 @@ fn is_section_of(sections: &[Section], kind: u8, section: u16) -> bool
 }
 
 // Whether a symbol of this kind may have this offset in the section.
-fn is_offset_of(sections: &[Section], kind: u8, section: u16, offset: u32) -> bool
+fn is_offset_of(sections: &[SectionRef<'_>], kind: u8, section: u16, offset: u32) -> bool
     ensures { result ≡ is_offset_of sections.now kind section offset }
 {
     match kind {
@@ -48,7 +48,11 @@ fn is_offset_of(sections: &[Section], kind: u8, section: u16, offset: u32) -> bo
 
 /// The section of a symbol of this kind.
 #[tactic(auto, unfolding(crate::specs::Grammar::symbol_section_at))]
-fn read_section_number(c: &mut Cursor<'_>, sections: &[Section], kind: u8) -> Result<u16, FormErr>
+fn read_section_number(
+    c: &mut Cursor<'_>,
+    sections: &[SectionRef<'_>],
+    kind: u8,
+) -> Result<u16, FormErr>
     requires { length c.old.bytes ≤ 2 ^ 30 }
     ensures read { Reads result c.new (symbol_section_at sections.now kind c.old) }
     ensures bytes { c.new.bytes ≡ c.old.bytes }
@@ -65,7 +69,7 @@ fn read_section_number(c: &mut Cursor<'_>, sections: &[Section], kind: u8) -> Re
 #[tactic(auto, unfolding(crate::specs::Grammar::symbol_offset_at))]
 fn read_offset(
     c: &mut Cursor<'_>,
-    sections: &[Section],
+    sections: &[SectionRef<'_>],
     kind: u8,
     section: u16,
 ) -> Result<u32, FormErr>
@@ -84,20 +88,20 @@ fn read_offset(
 /// A symbol of this name, field by field: the first fault where its bytes end early.
 #[inline(never)]
 #[tactic(auto, unfolding(crate::specs::Grammar::symbol_named))]
-fn read_named_fields(
+fn read_named_fields<'a>(
     c: &mut Cursor<'_>,
-    sections: &[Section],
-    name: String,
-) -> Result<Symbol, FormErr>
+    sections: &[SectionRef<'_>],
+    name: &'a str,
+) -> Result<SymbolRef<'a>, FormErr>
     requires { length c.old.bytes ≤ 2 ^ 30 }
-    ensures read { Reads result c.new (symbol_named sections.now (string_bytes name) c.old) }
-    ensures name { IfOk result (λ s. s.name ≡ string_bytes name) }
+    ensures read { Reads result c.new (symbol_named sections.now name.now c.old) }
+    ensures name { IfOk result (λ s. s.name ≡ name.now) }
     ensures bytes { c.new.bytes ≡ c.old.bytes }
 {
     let kind = read_kind(c, 0, 2)?;
     let section = read_section_number(c, sections, kind)?;
     let offset = read_offset(c, sections, kind, section)?;
-    Ok(Symbol {
+    Ok(SymbolRef {
         name,
         kind,
         section,
@@ -106,16 +110,16 @@ fn read_named_fields(
 }
 
 // The symbol of this name whose kind, section and offset stand in these bytes.
-fn symbol_of(bytes: &[u8], name: String) -> Symbol
+fn symbol_of<'a>(bytes: &[u8], name: &'a str) -> SymbolRef<'a>
     requires { length bytes.now ≡ 7 }
     ensures { result ≡ record {
-      name = string_bytes name;
+      name = name.now;
       kind = slice_index bytes.now 0;
       section = half_at bytes.now 1;
       offset = word_at bytes.now 3;
     } }
 {
-    Symbol {
+    SymbolRef {
         name,
         kind: bytes[0],
         section: u16::from_le_bytes([bytes[1], bytes[2]]),
@@ -125,7 +129,11 @@ fn symbol_of(bytes: &[u8], name: String) -> Symbol
 
 // The first fault of a symbol whose bytes behind its name begin at `start`.
 #[tactic(auto, unfolding(crate::specs::Faults::symbol_fault))]
-fn check_symbol(sections: &[Section], symbol: &Symbol, start: usize) -> Result<(), FormErr>
+fn check_symbol(
+    sections: &[SectionRef<'_>],
+    symbol: &SymbolRef<'_>,
+    start: usize,
+) -> Result<(), FormErr>
     requires { start + 7 ≤ 2 ^ 30 }
     ensures { MatchResult result (λ _. symbol_fault sections.now symbol.now start ≡ None)
         (λ e. symbol_fault sections.now symbol.now start ≡ Some e) }
@@ -143,10 +151,14 @@ fn check_symbol(sections: &[Section], symbol: &Symbol, start: usize) -> Result<(
 }
 
 /// A symbol of this name: the bytes of its kind, section and offset at once, where they are there.
-fn read_named(c: &mut Cursor<'_>, sections: &[Section], name: String) -> Result<Symbol, FormErr>
+fn read_named<'a>(
+    c: &mut Cursor<'_>,
+    sections: &[SectionRef<'_>],
+    name: &'a str,
+) -> Result<SymbolRef<'a>, FormErr>
     requires { length c.old.bytes ≤ 2 ^ 30 }
-    ensures read { Reads result c.new (symbol_named sections.now (string_bytes name) c.old) }
-    ensures name { IfOk result (λ s. s.name ≡ string_bytes name) }
+    ensures read { Reads result c.new (symbol_named sections.now name.now c.old) }
+    ensures name { IfOk result (λ s. s.name ≡ name.now) }
     ensures bytes { c.new.bytes ≡ c.old.bytes }
 {
     let start = c.place();
@@ -161,11 +173,10 @@ fn read_named(c: &mut Cursor<'_>, sections: &[Section], name: String) -> Result<
 /// A symbol with a name that isn't used yet.
 #[tactic(auto, unfolding(crate::specs::Grammar::symbol_with))]
 fn read_symbol<'a>(
-    alloc: Global,
     c: &mut Cursor<'a>,
-    sections: &[Section],
+    sections: &[SectionRef<'_>],
     names: &mut HashMap<&'a str, ()>,
-) -> Result<Symbol, ObjErr>
+) -> Result<SymbolRef<'a>, ObjErr>
     requires { length c.old.bytes ≤ 2 ^ 30 }
     ensures ok { IfOk result
         (λ s. symbol_with sections.now (is_among names.old) c.old ≡ Ok (s, c.new)) }
@@ -174,18 +185,19 @@ fn read_symbol<'a>(
     ensures names { IfOk result (λ s. (q : List ℕ) → is_among names.new q
         ≡ (bytes_eq s.name q || is_among names.old q)) }
 {
-    let name = read_new_name(alloc, c, names)?;
+    let name = read_new_name(c, names)?;
     let symbol = read_named(c, sections, name)?;
     Ok(symbol)
 }
 
 /// So many symbols.
+#[inline(never)]
 pub(crate) fn read_symbols<'a>(
     alloc: Global,
     c: &mut Cursor<'a>,
-    sections: &[Section],
+    sections: &[SectionRef<'_>],
     count: u16,
-) -> Result<Vec<Symbol>, ObjErr>
+) -> Result<Vec<SymbolRef<'a>>, ObjErr>
     requires { length c.old.bytes ≤ 2 ^ 30 }
     ensures ok { IfOk result
         (λ ss. many_at (symbol_after sections.now) count [] c.old ≡ Ok (ss.items, c.new)) }
@@ -195,7 +207,7 @@ pub(crate) fn read_symbols<'a>(
     let mut names = no_names(alloc, count)?;
     let mut symbols = Vec::with_capacity(alloc, count as usize)?;
     for _i in 0..count {
-        let symbol = read_symbol(alloc, c, sections, &mut names)?;
+        let symbol = read_symbol(c, sections, &mut names)?;
         symbols.push(symbol)?;
     }
     Ok(symbols)

@@ -18,3 +18,20 @@ impl Model for Symbol {
 
     ghost view = { λ s. record { name = string_bytes s.name; kind = s.kind; section = s.section; offset = s.offset } };
 }
+
+/// A symbol whose name stays where it lies.
+#[derive(Drop)]
+pub struct SymbolRef<'a> {
+    pub name: &'a str,
+    pub kind: u8,
+    pub section: u16,
+    pub offset: u32,
+}
+
+impl<'a> Model for SymbolRef<'a> {
+    ghost use Rattle.tc_object.specs.Objects.{SymbolData};
+
+    ghost Value = { SymbolData };
+
+    ghost view = { λ s. record { name = s.name.now; kind = s.kind; section = s.section; offset = s.offset } };
+}

@@ -1,5 +1,5 @@
 // Names that aren't used yet, read. The names that are used stand in a map, so that each is looked up in few steps.
-ghost use Rattle.std.specs.Prelude.{◌≡◌, ◌≤◌, ◌^◌, ◌||◌, not, false, true, ℕ, List, length, string_bytes, Ok, Err, OnOk, IfOk, IfErr};
+ghost use Rattle.std.specs.Prelude.{◌≡◌, ◌≤◌, ◌^◌, ◌||◌, not, false, true, ℕ, List, length, Ok, Err, OnOk, IfOk, IfErr};
 ghost use Rattle.std.specs.Str.{bytes_eq};
 ghost use Rattle.tc_object.specs.Answers.{IsFaultOf};
 ghost use Rattle.tc_object.specs.Grammar.{name_after};
@@ -36,17 +36,16 @@ fn add_name<'a>(
 /// A name that isn't among those used, and then is.
 #[tactic(auto, unfolding(crate::specs::Grammar::name_after))]
 pub(crate) fn read_new_name<'a>(
-    alloc: Global,
     c: &mut Cursor<'a>,
     names: &mut HashMap<&'a str, ()>,
-) -> Result<String, ObjErr>
+) -> Result<&'a str, ObjErr>
     requires { length c.old.bytes ≤ 2 ^ 30 }
     ensures ok { IfOk result (λ name. name_after (is_among names.old) c.old
-        ≡ Ok (string_bytes name, c.new)) }
+        ≡ Ok (name.now, c.new)) }
     ensures err { IfErr result (IsFaultOf (name_after (is_among names.old) c.old)) }
     ensures bytes { c.new.bytes ≡ c.old.bytes }
     ensures names { IfOk result (λ name. (q : List ℕ) → is_among names.new q
-        ≡ (bytes_eq (string_bytes name) q || is_among names.old q)) }
+        ≡ (bytes_eq name.now q || is_among names.old q)) }
 {
     let count = read_name_length(c)?;
     let start = c.place();
@@ -55,5 +54,5 @@ pub(crate) fn read_new_name<'a>(
     if !is_new {
         return Err(ObjErr::Bad(fault(4, start)));
     }
-    Ok(String::from_str(alloc, name)?)
+    Ok(name)
 }

@@ -1,5 +1,5 @@
 use Rattle.tc_object.proofs.FromLaws.{read_is_object}
-use Rattle.tc_object.proofs.objects.Object.read.Goals as goal
+use Rattle.tc_object.proofs.borrowed.ObjectRef.read.Goals as goal
 
 pub invariant_of-result : goal.invariant_of-result
 invariant_of-result c = (read_is_object c.args.bytes.now _ (λ k. (c.type_inv.bytes k).fits) c.in_ok-parts.ensures.ok).1

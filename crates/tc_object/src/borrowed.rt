@@ -1,0 +1,142 @@
+// Objects whose names and bytes stay where they lie.
+ghost use Rattle.std.specs.Prelude.{◌≡◌, IfOk};
+
+use crate::reading::read_parts;
+use crate::{ObjErr, Object, Reloc, Section, SectionRef, Symbol, SymbolRef};
+use std::alloc::Global;
+use std::marker::Model;
+use tcd_base::NoMemory;
+
+/// An object whose names and bytes stay where they lie: in another object, or in the bytes that spell it.
+#[derive(Drop)]
+pub struct ObjectRef<'a> {
+    pub sections: Vec<SectionRef<'a>>,
+    pub symbols: Vec<SymbolRef<'a>>,
+    pub relocs: Vec<Reloc>,
+}
+
+impl<'a> Model for ObjectRef<'a> {
+    ghost use Rattle.tc_object.specs.Objects.{ObjectData, IsObject};
+
+    ghost Value = { ObjectData };
+
+    ghost view = { λ o. record { sections = o.sections.items; symbols = o.symbols.items; relocs = o.relocs.items } };
+
+    ghost invariant = { λ o. IsObject (record { sections = o.sections.items; symbols = o.symbols.items; relocs = o.relocs.items }) };
+}
+
+impl<'a> ObjectRef<'a> {
+    ghost use Rattle.std.specs.Prelude.{◌≡◌, ◌≤◌, ◌^◌, length, Ok, IfOk, IfErr};
+    ghost use Rattle.tc_object.specs.Answers.{IsFaultOf};
+    ghost use Rattle.tc_object.specs.Grammar.{object_of};
+    ghost use Rattle.tc_object.specs.Spelling.{bytes_of};
+
+    /// The object that the bytes spell, or their first fault.
+    pub fn read(alloc: Global, bytes: &'a [u8]) -> Result<ObjectRef<'a>, ObjErr>
+        requires { length bytes.now ≤ 2 ^ 30 }
+        ensures ok { IfOk result (λ o. object_of bytes.now ≡ Ok o) }
+        ensures err { IfErr result (IsFaultOf (object_of bytes.now)) }
+
+        // An object has one spelling.
+        ensures one { IfOk result (λ o. bytes_of o ≡ bytes.now) }
+    {
+        let parts = read_parts(alloc, bytes)?;
+        Ok(ObjectRef {
+            sections: parts.sections,
+            symbols: parts.symbols,
+            relocs: parts.relocs,
+        })
+    }
+
+    /// An object in its place.
+    pub fn of(alloc: Global, object: &'a Object) -> Result<ObjectRef<'a>, NoMemory>
+        ensures { IfOk result (λ o. o ≡ object.now) }
+    {
+        let sections = borrow_sections(alloc, &object.sections)?;
+        let symbols = borrow_symbols(alloc, &object.symbols)?;
+        let relocs = Vec::from_slice(alloc, &object.relocs)?;
+        Ok(ObjectRef {
+            sections,
+            symbols,
+            relocs,
+        })
+    }
+
+    /// The object, with names and bytes of its own.
+    pub(crate) fn into_object(self, alloc: Global) -> Result<Object, NoMemory>
+        ensures { IfOk result (λ o. o ≡ self.entry) }
+    {
+        let ObjectRef {
+            sections,
+            symbols,
+            relocs,
+        } = self;
+        let own_sections = copy_sections(alloc, &sections)?;
+        let own_symbols = copy_symbols(alloc, &symbols)?;
+        Ok(Object {
+            sections: own_sections,
+            symbols: own_symbols,
+            relocs,
+        })
+    }
+}
+
+// Sections in their places.
+fn borrow_sections(alloc: Global, sections: &[Section]) -> Result<Vec<SectionRef<'_>>, NoMemory>
+    ensures { IfOk result (λ parts. parts.items ≡ sections.now) }
+{
+    let mut parts = Vec::with_capacity(alloc, sections.len())?;
+    for section in sections {
+        parts.push(SectionRef {
+            name: section.name.as_str(),
+            bytes: section.bytes.as_slice(),
+        })?;
+    }
+    Ok(parts)
+}
+
+// Symbols in their places.
+fn borrow_symbols(alloc: Global, symbols: &[Symbol]) -> Result<Vec<SymbolRef<'_>>, NoMemory>
+    ensures { IfOk result (λ parts. parts.items ≡ symbols.now) }
+{
+    let mut parts = Vec::with_capacity(alloc, symbols.len())?;
+    for symbol in symbols {
+        parts.push(SymbolRef {
+            name: symbol.name.as_str(),
+            kind: symbol.kind,
+            section: symbol.section,
+            offset: symbol.offset,
+        })?;
+    }
+    Ok(parts)
+}
+
+// Copies of sections.
+fn copy_sections(alloc: Global, sections: &[SectionRef<'_>]) -> Result<Vec<Section>, NoMemory>
+    ensures { IfOk result (λ copies. copies.items ≡ sections.now) }
+{
+    let mut copies = Vec::with_capacity(alloc, sections.len())?;
+    for section in sections {
+        let name = String::from_str(alloc, section.name)?;
+        let bytes = Vec::from_slice(alloc, section.bytes)?;
+        copies.push(Section { name, bytes })?;
+    }
+    Ok(copies)
+}
+
+// Copies of symbols.
+fn copy_symbols(alloc: Global, symbols: &[SymbolRef<'_>]) -> Result<Vec<Symbol>, NoMemory>
+    ensures { IfOk result (λ copies. copies.items ≡ symbols.now) }
+{
+    let mut copies = Vec::with_capacity(alloc, symbols.len())?;
+    for symbol in symbols {
+        let name = String::from_str(alloc, symbol.name)?;
+        copies.push(Symbol {
+            name,
+            kind: symbol.kind,
+            section: symbol.section,
+            offset: symbol.offset,
+        })?;
+    }
+    Ok(copies)
+}
