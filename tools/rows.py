@@ -89,13 +89,13 @@ def index(all_rows):
 
 def name_key(name):
     """As tc_stmt/specs/RowIndex.antt has it."""
-    first, second, third = (name.encode() + bytes(3))[:3]
-    return (first + 7 * second + third + len(name)) % 64
+    first, second, third, fourth = (name.encode() + bytes(4))[:4]
+    return (first + 2 * second + 9 * third + 7 * fourth + len(name)) % 256
 
 
 def index_of_names(all_rows):
     count, keys = len(all_rows), [name_key(r[0]) for r in all_rows]
-    first = [keys.index(k) if k in keys else count for k in range(64)]
+    first = [keys.index(k) if k in keys else count for k in range(256)]
     later = [next((j for j in range(i + 1, count) if keys[j] == k), count) for i, k in enumerate(keys)]
     return {"static FIRST": items("static FIRST", "u8", first), "static NEXT": items("static NEXT", "u8", later)}
 

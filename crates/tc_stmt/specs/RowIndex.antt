@@ -2,9 +2,9 @@
 use Rattle.std.specs.Prelude.{ℕ, zero, suc, ◌+◌, ◌-◌, ◌*◌, ◌%◌, ◌==◌, ◌&&◌, not, nat_lt, Bool, true, false, List, [], ◌∷◌, length, slice_index}
 use Rattle.tc_isa.specs.Rows.{RowData}
 
--- a number below 64 that few names of rows share: of their first three bytes, 0 where there are fewer, and their length
+-- a number below 256 that few names of rows share: of their first four bytes, 0 where there are fewer, and their length
 unfoldable pub name_key : List ℕ → ℕ
-name_key name = (slice_index name 0 + 7 * slice_index name 1 + slice_index name 2 + length name) % 64
+name_key name = (slice_index name 0 + 2 * slice_index name 1 + 9 * slice_index name 2 + 7 * slice_index name 3 + length name) % 256
 
 -- none of the first so many rows has this key
 abbrev pub none_has : ℕ → ℕ → List RowData → Bool

@@ -7,6 +7,7 @@ ghost use Rattle.tc_stmt.specs.Readings.{lines_of, AreRead};
 use crate::item::Item;
 use crate::parse::read_line;
 use arrayvec::ArrayVec;
+use memchr::memchr;
 use std::alloc::{AllocError, Global};
 use tc_lex::{Operand, Piece};
 
@@ -29,7 +30,7 @@ fn find_feed(rest: &[u8]) -> Option<usize>
     ensures value { result ≡ position (λ c. c == 10) rest.now }
     ensures within { IfSome result (λ i. i < length rest.now) }
 {
-    rest.iter().position(|c| *c == b'\n')
+    memchr(b'\n', rest)
 }
 
 // The bytes before this place.
