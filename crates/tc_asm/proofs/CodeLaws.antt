@@ -1,5 +1,5 @@
 -- Which fields fit a row, as a test.
-use Rattle.std.proofs.Common.{◌≡◌, ◌<◌, ◌≤◌, ◌&&◌, ◌∷◌, zero, suc, length, get_or, map, ℕ, Bool, true, false, cond, List, [], Option, None, Some, refl, ap, sym, subst, ◌∙◌, arith}
+use Rattle.std.proofs.Common.{◌≡◌, ◌<◌, ◌≤◌, ◌==◌, ◌&&◌, ◌∷◌, zero, suc, length, get_or, map, ℕ, Bool, true, false, cond, List, [], Option, None, Some, refl, ap, sym, subst, ◌∙◌, arith}
 use Rattle.std.specs.Prelude.{slice_get, option_map}
 use Rattle.std.proofs.lemmas.List.{length-map}
 use Rattle.std.proofs.lemmas.Option.{slice_get-map, slice_get-get_or}
@@ -13,7 +13,9 @@ use Rattle.tc_isa.specs.Words.{IsBelow, bounds}
 use Rattle.tc_isa.specs.Codec.{Fits, is_below_test, spelling}
 use Rattle.tc_isa.specs.Insts.{InstData, IsInst}
 use Rattle.tc_isa.specs.Spelling.{Spells}
-use Rattle.tc_asm.specs.Drafts.{is_fit, spelled_code, bytes_of}
+use Rattle.tc_stmt.specs.RowFields.{ReferenceData}
+use Rattle.tc_asm.specs.Symbols.{SymbolData}
+use Rattle.tc_asm.specs.Drafts.{DraftData, is_fit, spelled_code, bytes_of, found, targeted, resolved}
 
 below_true : (f b : Fields) → IsBelow f b → is_below_test f b ≡ true
 below_true f b h =
@@ -78,3 +80,16 @@ past (x ∷ xs) (suc k) h = past xs k (omega arith)
 
 pub row_unlisted : (rows : List Row) (k : ℕ) → map row_of rows ≡ listed → length rows ≤ k → slice_get listed k ≡ None
 row_unlisted rows k e h = ap (λ (ls : List RowData). slice_get ls k) (sym e) ∙ past (map row_of rows) k (rw (length-map rows row_of) h)
+
+-- ---- instructions without a target that is resolved at once
+pub found_far : (labels : List SymbolData) (d : DraftData) (k : ℕ) (f : Fields) (o : Option ReferenceData) → option_map_or (λ (q : ReferenceData). q.kind == 0) o false ≡ false
+    → resolved labels d k f o ≡ found f
+found_far labels d k f o far = by (slice_get listed k)
+  where
+    plain : (row : RowData) (p : Option ReferenceData) → option_map_or (λ (q : ReferenceData). q.kind == 0) p false ≡ false → targeted labels d row f p ≡ found f
+    plain row None h = refl
+    plain row (Some q) h = rw h refl
+
+    by : (q : Option RowData) → option_map_or (λ row. targeted labels d row f o) q (found f) ≡ found f
+    by None = refl
+    by (Some row) = plain row o far

@@ -30,7 +30,7 @@ fn count_items<'a>(
 {
     let none = Symbols::new(alloc);
     for item in items {
-        draft.count(alloc, &none, *item)?;
+        draft.count(alloc, &none, item)?;
     }
     Ok(())
 }
@@ -59,7 +59,7 @@ fn add_items<'a>(
 {
     let mut rule = NO_RULE;
     for item in items {
-        rule = draft.put(alloc, labels, *item)?.min(rule);
+        rule = draft.put(alloc, labels, item)?.min(rule);
     }
     Ok(rule)
 }

@@ -157,16 +157,16 @@ impl<'a> Draft<'a> {
     }
 
     #[tactic(auto, unfolding(crate::specs::Drafts::with_reference))]
-    fn add_reference(&mut self, size: usize, r: Option<Reference<'a>>) -> Result<(), AllocError>
+    fn add_reference(&mut self, size: usize, r: &Option<Reference<'a>>) -> Result<(), AllocError>
         ensures { OnOk result
-            (self.new ≡ with_reference self.old size (option_map reference_of r.entry)) }
+            (self.new ≡ with_reference self.old size (option_map reference_of r.now)) }
     {
         match r {
             None => Ok(()),
             Some(r) => {
                 if is_name(r.name) {
                     self.symbols.see(r.name)?;
-                    self.add_use(size, r)?;
+                    self.add_use(size, *r)?;
                 }
                 Ok(())
             }
@@ -176,10 +176,10 @@ impl<'a> Draft<'a> {
     pub(crate) fn add_content(
         &mut self,
         bytes: &[u8],
-        r: Option<Reference<'a>>,
+        r: &Option<Reference<'a>>,
     ) -> Result<(), AllocError>
         ensures { OnOk result
-            (self.new ≡ with_content self.old bytes.now (option_map reference_of r.entry)) }
+            (self.new ≡ with_content self.old bytes.now (option_map reference_of r.now)) }
     {
         self.add_reference(bytes.len(), r)?;
         self.add_bytes(bytes)
@@ -203,20 +203,20 @@ impl<'a> Draft<'a> {
         &mut self,
         alloc: Global,
         labels: &Symbols<'a>,
-        item: Item<'a>,
+        item: &Item<'a>,
     ) -> Result<(), AllocError>
-        ensures { OnOk result (self.new ≡ stepped labels.now self.old (item_of item.entry)) }
+        ensures { OnOk result (self.new ≡ stepped labels.now self.old (item_of item.now)) }
     {
         match item {
-            Item::Label(name) => self.add_label(name),
-            Item::Section(name) => self.enter(alloc, name),
-            Item::Global(name) => self.make_global(name),
+            Item::Label(name) => self.add_label(*name),
+            Item::Section(name) => self.enter(alloc, *name),
+            Item::Global(name) => self.make_global(*name),
             Item::Code(row, fields, r) => {
-                let code = self.code(labels, row, fields, r);
+                let code = self.code(labels, *row, fields, r);
                 self.add_content(first_bytes(&code.bytes, code.len), r)
             }
-            Item::Data(len, bytes, r) => self.add_content(first_bytes(&bytes, len), r),
-            Item::Zeros(n) => self.add_zeros(alloc, n as usize),
+            Item::Data(len, bytes, r) => self.add_content(first_bytes(bytes, *len), r),
+            Item::Zeros(n) => self.add_zeros(alloc, *n as usize),
         }
     }
 
@@ -224,12 +224,12 @@ impl<'a> Draft<'a> {
     fn count_code(
         &mut self,
         row: u8,
-        fields: Fields,
-        r: Option<Reference<'a>>,
+        fields: &Fields,
+        r: &Option<Reference<'a>>,
     ) -> Result<(), AllocError>
-        requires { IsCode row fields (option_map reference_of r) }
+        requires { IsCode row fields.now (option_map reference_of r.now) }
         ensures { OnOk result ((d : DraftData) → Alike self.old d
-            → Alike self.new (stepped [] d (code row fields (option_map reference_of r.entry)))) }
+            → Alike self.new (stepped [] d (code row fields.now (option_map reference_of r.now)))) }
     {
         self.add_reference(0, r)?;
         self.add_bytes(first_bytes(&[0; 4], code_size(row)))?;
@@ -241,12 +241,12 @@ impl<'a> Draft<'a> {
         &mut self,
         alloc: Global,
         none: &Symbols<'a>,
-        item: Item<'a>,
+        item: &Item<'a>,
     ) -> Result<(), AllocError>
         requires none { none.now ≡ [] }
-        requires added { IsItem (item_of item) }
+        requires added { IsItem (item_of item.now) }
         ensures { OnOk result ((d : DraftData) → Alike self.old d
-            → Alike self.new (stepped [] d (item_of item.entry))) }
+            → Alike self.new (stepped [] d (item_of item.now))) }
     {
         self.step(alloc, none, item)?;
         Ok(())
@@ -257,15 +257,15 @@ impl<'a> Draft<'a> {
         &mut self,
         alloc: Global,
         none: &Symbols<'a>,
-        item: Item<'a>,
+        item: &Item<'a>,
     ) -> Result<(), AllocError>
         requires none { none.now ≡ [] }
-        requires added { IsItem (item_of item) }
+        requires added { IsItem (item_of item.now) }
         ensures { OnOk result ((d : DraftData) → Alike self.old d
-            → Alike self.new (stepped [] d (item_of item.entry))) }
+            → Alike self.new (stepped [] d (item_of item.now))) }
     {
         match item {
-            Item::Code(row, fields, r) => self.count_code(row, fields, r),
+            Item::Code(row, fields, r) => self.count_code(*row, fields, r),
             _ => self.count_other(alloc, none, item),
         }
     }

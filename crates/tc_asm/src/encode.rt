@@ -100,19 +100,19 @@ impl<'a> Draft<'a> {
         &self,
         labels: &Symbols<'a>,
         row: &Row,
-        fields: Fields,
+        fields: &Fields,
         r: Reference<'a>,
     ) -> RowFields<'a>
         ensures { row_fields_of result
-            ≡ jumped labels.now self.now (row_of row.now) fields (reference_of r.entry) }
+            ≡ jumped labels.now self.now (row_of row.now) fields.now (reference_of r.entry) }
     {
         match self.distance(labels, r) {
             None => RowFields {
-                fields,
+                fields: *fields,
                 rule: 10,
                 reference: None,
             },
-            Some((minus, size)) => displaced(row, minus, size, found(fields)),
+            Some((minus, size)) => displaced(row, minus, size, found(*fields)),
         }
     }
 
@@ -121,20 +121,20 @@ impl<'a> Draft<'a> {
         &self,
         labels: &Symbols<'a>,
         row: &Row,
-        fields: Fields,
-        r: Option<Reference<'a>>,
+        fields: &Fields,
+        r: &Option<Reference<'a>>,
     ) -> RowFields<'a>
         ensures { row_fields_of result
-            ≡ targeted labels.now self.now (row_of row.now) fields
-            (option_map reference_of r.entry) }
+            ≡ targeted labels.now self.now (row_of row.now) fields.now
+            (option_map reference_of r.now) }
     {
         match r {
-            None => found(fields),
+            None => found(*fields),
             Some(r) => {
                 if r.kind == 0 {
-                    self.jumped(labels, row, fields, r)
+                    self.jumped(labels, row, fields, *r)
                 } else {
-                    found(fields)
+                    found(*fields)
                 }
             }
         }
@@ -146,18 +146,18 @@ impl<'a> Draft<'a> {
         &self,
         labels: &Symbols<'a>,
         row: u8,
-        fields: Fields,
-        r: Option<Reference<'a>>,
+        fields: &Fields,
+        r: &Option<Reference<'a>>,
     ) -> RowFields<'a>
         ensures { row_fields_of result
-            ≡ resolved labels.now self.now row fields (option_map reference_of r.entry) }
+            ≡ resolved labels.now self.now row fields.now (option_map reference_of r.now) }
     {
         let rows = rows();
         let place = usize::from(row);
         if place < rows.len() {
             self.targeted(labels, &rows[place], fields, r)
         } else {
-            found(fields)
+            found(*fields)
         }
     }
 
@@ -167,11 +167,11 @@ impl<'a> Draft<'a> {
         &self,
         labels: &Symbols<'a>,
         row: u8,
-        fields: Fields,
-        r: Option<Reference<'a>>,
+        fields: &Fields,
+        r: &Option<Reference<'a>>,
     ) -> Code
         ensures { take result.len result.bytes
-            ≡ code_bytes labels.now self.now row fields (option_map reference_of r.entry) }
+            ≡ code_bytes labels.now self.now row fields.now (option_map reference_of r.now) }
     {
         let found = self.resolved(labels, row, fields, r);
         code_of(row, &found.fields)

@@ -3,4 +3,4 @@ use Rattle.tc_asm.proofs.AlikeDrafts.{step_counted}
 use Rattle.tc_asm.proofs.draft.Draft.count_other.Goals as goal
 
 pub returns : goal.returns
-returns c = λ d h. step_counted c.args.self.now d _ c.args.none.now (item_of c.args.item) c.requires.added c.requires.none c.in_ok-step.ensures h
+returns c = λ d h. step_counted c.args.self.now d _ c.args.none.now (item_of c.args.item.now) c.requires.added c.requires.none c.in_ok-step.ensures h

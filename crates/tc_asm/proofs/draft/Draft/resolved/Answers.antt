@@ -10,13 +10,13 @@ use Rattle.tc_asm.proofs.draft.Draft.resolved.Goals as goal
 pub returns-then-place-rows : goal.returns-then-place-rows
 returns-then-place-rows c =
     c.targeted.ensures
-    ∙ ap (λ o. option_map_or (λ row. targeted c.args.labels.now c.args.self.now row c.args.fields (option_map reference_of c.args.r)) o (found c.args.fields))
+    ∙ ap (λ o. option_map_or (λ row. targeted c.args.labels.now c.args.self.now row c.args.fields.now (option_map reference_of c.args.r.now)) o (found c.args.fields.now))
     (sym (row_listed c.rows-rows.result.now c.from-place.result _ c.rows-rows.ensures.rows (omega arith)))
-    ∙ ap (λ n. option_map_or (λ row. targeted c.args.labels.now c.args.self.now row c.args.fields (option_map reference_of c.args.r)) (slice_get listed n) (found c.args.fields))
+    ∙ ap (λ n. option_map_or (λ row. targeted c.args.labels.now c.args.self.now row c.args.fields.now (option_map reference_of c.args.r.now)) (slice_get listed n) (found c.args.fields.now))
     c.from-place.ensures
 
 pub returns-else-place-rows : goal.returns-else-place-rows
 returns-else-place-rows c =
     c.found.ensures
-    ∙ ap (λ o. option_map_or (λ row. targeted c.args.labels.now c.args.self.now row c.args.fields (option_map reference_of c.args.r)) o (found c.args.fields))
+    ∙ ap (λ o. option_map_or (λ row. targeted c.args.labels.now c.args.self.now row c.args.fields.now (option_map reference_of c.args.r.now)) o (found c.args.fields.now))
     (sym (row_unlisted c.rows-rows.result.now c.args.row c.rows-rows.ensures.rows (omega arith)))
