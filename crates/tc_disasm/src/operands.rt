@@ -13,16 +13,28 @@ use tc_isa::{Fields, Form, bounds_of};
 use tc_stmt::{Field, Want};
 use tcd_base::NoMemory;
 
-/// Puts a number there, in decimal.
-#[tactic(auto, using(crate::proofs::SmallNumbers::one_digit, crate::proofs::SmallNumbers::two_digits))]
-pub(crate) fn append_decimal(text: &mut String, n: u32) -> Result<(), NoMemory>
+// Puts a number below 100 there, digit by digit.
+#[tactic(auto, using(crate::proofs::SmallNumbers::one_digit))]
+fn append_small(text: &mut String, n: u32) -> Result<(), NoMemory>
+    requires { n < 100 }
     ensures { OnOk result (string_bytes text.new ≡ string_bytes text.old ++ decimal n) }
 {
     if n < 10 {
         return append_digit(text, n);
     }
+    append_digit(text, n / 10)?;
+    append_digit(text, n % 10)
+}
+
+/// Puts a number there, in decimal.
+pub(crate) fn append_decimal(text: &mut String, n: u32) -> Result<(), NoMemory>
+    ensures { OnOk result (string_bytes text.new ≡ string_bytes text.old ++ decimal n) }
+{
     if n < 100 {
-        append_digit(text, n / 10)?;
+        return append_small(text, n);
+    }
+    if n < 1000 {
+        append_small(text, n / 10)?;
         return append_digit(text, n % 10);
     }
     write!(text, "{n}")?;
