@@ -10,7 +10,7 @@ use crate::definitions::Definition;
 use crate::placed::Placed;
 use std::alloc::Global;
 use std::collections::HashMap;
-use tc_object::{Reloc, Symbol};
+use tc_object::{Reloc, SymbolRef};
 
 /// The address of an offset in a section of this number.
 pub(crate) fn address_in(bases: &[u64], section: u16, offset: u32) -> u32
@@ -24,7 +24,7 @@ pub(crate) fn address_in(bases: &[u64], section: u16, offset: u32) -> u32
 }
 
 // The address of what is defined in one of these objects.
-fn address_of(placed: &[Placed<'_>], definition: Definition) -> u32
+fn address_of(placed: &[Placed<'_, '_>], definition: Definition) -> u32
     ensures { result ≡ address_of placed.now definition }
 {
     match placed.get(definition.object) {
@@ -36,7 +36,7 @@ fn address_of(placed: &[Placed<'_>], definition: Definition) -> u32
 /// The address of a global symbol of these objects, if one has the name.
 pub(crate) fn address_named(
     names: &HashMap<&str, Definition>,
-    placed: &[Placed<'_>],
+    placed: &[Placed<'_, '_>],
     name: &str,
 ) -> Option<u32>
     ensures { result ≡ address_named names.now placed.now name.now }
@@ -50,9 +50,9 @@ pub(crate) fn address_named(
 // The address of a symbol of an object whose sections begin there; 0 where it has none.
 fn symbol_address(
     names: &HashMap<&str, Definition>,
-    placed: &[Placed<'_>],
+    placed: &[Placed<'_, '_>],
     bases: &[u64],
-    symbol: &Symbol,
+    symbol: &SymbolRef<'_>,
 ) -> u32
     ensures { (all : List GlobalData) → AreGlobals names.now placed.now all
         → result ≡ symbol_address all bases.now symbol.now }
@@ -60,7 +60,7 @@ fn symbol_address(
     if symbol.kind != 0 {
         return address_in(bases, symbol.section, symbol.offset);
     }
-    match address_named(names, placed, symbol.name.as_str()) {
+    match address_named(names, placed, symbol.name) {
         Some(address) => address,
         None => 0,
     }
@@ -70,9 +70,9 @@ fn symbol_address(
 fn addresses_in(
     alloc: Global,
     names: &HashMap<&str, Definition>,
-    placed: &[Placed<'_>],
+    placed: &[Placed<'_, '_>],
     bases: &[u64],
-    symbols: &[Symbol],
+    symbols: &[SymbolRef<'_>],
 ) -> Result<Vec<u32>, LinkErr>
     ensures ok { IfOk result (λ addresses. (all : List GlobalData)
         → AreGlobals names.now placed.now all
@@ -90,8 +90,8 @@ fn addresses_in(
 pub(crate) fn symbol_addresses(
     alloc: Global,
     names: &HashMap<&str, Definition>,
-    placed: &[Placed<'_>],
-    each: &Placed<'_>,
+    placed: &[Placed<'_, '_>],
+    each: &Placed<'_, '_>,
 ) -> Result<Vec<u32>, LinkErr>
     ensures ok { IfOk result (λ addresses. (all : List GlobalData)
         → AreGlobals names.now placed.now all

@@ -46,3 +46,11 @@ impl<T: Drop> From<AllocFailed<T>> for LinkErr {
         LinkErr::NoMemory
     }
 }
+
+impl From<tcd_base::NoMemory> for LinkErr {
+    ghost from_gives = { λ _ e. e ≡ NoMemory };
+
+    fn from(_e: tcd_base::NoMemory) -> LinkErr {
+        LinkErr::NoMemory
+    }
+}

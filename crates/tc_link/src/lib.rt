@@ -17,8 +17,9 @@ mod section_checks;
 mod segments;
 mod symbol_checks;
 mod text;
+mod written_sections;
 
 pub use errors::LinkErr;
 pub use layout_errors::LayoutErr;
 pub use layouts::{Layout, Place};
-pub use link_objects::link;
+pub use link_objects::{link, link_borrowed};

@@ -21,15 +21,16 @@ use crate::{Layout, LinkErr};
 use elf_image::{Image, read_segments};
 use std::alloc::Global;
 use std::collections::HashMap;
-use tc_object::Object;
+use tc_object::{Object, ObjectRef};
+use tcd_base::NoMemory;
 
 // The objects with the addresses of their sections, or what is refused before anything is relocated.
-fn place_all<'a>(
+fn place_all<'a, 'b>(
     alloc: Global,
     names: &HashMap<&str, Definition>,
-    objects: &'a [Object],
+    objects: &'a [ObjectRef<'b>],
     layout: &Layout,
-) -> Result<Vec<Placed<'a>>, LinkErr>
+) -> Result<Vec<Placed<'a, 'b>>, LinkErr>
     requires { CountsGlobals names.now objects.now }
     ensures placed { IfOk result (λ placed. placed.items ≡ placed_of layout.now objects.now) }
     ensures good { IfOk result (λ _. (k : ℕ) (d : ObjectData) → k < length objects.now
@@ -47,7 +48,7 @@ fn place_all<'a>(
 fn make(
     alloc: Global,
     names: &HashMap<&str, Definition>,
-    placed: &[Placed<'_>],
+    placed: &[Placed<'_, '_>],
     layout: &Layout,
 ) -> Result<Image, LinkErr>
     requires globals { AreGlobals names.now placed.now (globals_of placed.now) }
@@ -68,6 +69,34 @@ fn make(
     Ok(Image { entry, segments })
 }
 
+/// The image of objects that stay where they lie, as `link` makes it.
+pub fn link_borrowed(
+    alloc: Global,
+    objects: &[ObjectRef<'_>],
+    layout: &Layout,
+) -> Result<Image, LinkErr>
+    requires { length objects.now ≤ 65535 }
+    ensures ok { IfOk result (λ image. image_of_objects objects.now layout.now ≡ Ok image) }
+    ensures err { IfErr result (λ e. IfSome (refusal_of e)
+        (λ r. image_of_objects objects.now layout.now ≡ Err r)) }
+{
+    let names = names_of(alloc, objects)?;
+    let placed = place_all(alloc, &names, objects, layout)?;
+    make(alloc, &names, &placed, layout)
+}
+
+// Objects in their places.
+fn borrow_objects(alloc: Global, objects: &[Object]) -> Result<Vec<ObjectRef<'_>>, NoMemory>
+    ensures { IfOk result (λ parts. parts.items ≡ objects.now) }
+{
+    let mut parts = Vec::with_capacity(alloc, objects.len())?;
+    for object in objects {
+        let part = ObjectRef::of(alloc, object)?;
+        parts.push(part)?;
+    }
+    Ok(parts)
+}
+
 /// The image of objects that are laid out this way, or the first refusal. The sections of one name stand in their place
 /// one after another, in the order of the objects, each at a multiple of 4, the gaps zero; each place with bytes gives
 /// one segment, in the order of the layout.
@@ -77,7 +106,6 @@ pub fn link(alloc: Global, objects: &[Object], layout: &Layout) -> Result<Image,
     ensures err { IfErr result (λ e. IfSome (refusal_of e)
         (λ r. image_of_objects objects.now layout.now ≡ Err r)) }
 {
-    let names = names_of(alloc, objects)?;
-    let placed = place_all(alloc, &names, objects, layout)?;
-    make(alloc, &names, &placed, layout)
+    let parts = borrow_objects(alloc, objects)?;
+    link_borrowed(alloc, &parts, layout)
 }

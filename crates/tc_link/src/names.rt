@@ -11,7 +11,7 @@ use crate::LinkErr;
 use crate::definitions::Definition;
 use std::alloc::Global;
 use std::collections::HashMap;
-use tc_object::{Object, Symbol};
+use tc_object::{ObjectRef, SymbolRef};
 
 // One more symbol of this name; the first one stays.
 fn add_name<'a>(
@@ -45,7 +45,7 @@ fn add_name<'a>(
 fn add_symbol<'a>(
     names: &mut HashMap<&'a str, Definition>,
     object: usize,
-    symbol: &'a Symbol,
+    symbol: &SymbolRef<'a>,
 ) -> Result<(), LinkErr>
     ensures counts { OnOk result ((q : List ℕ) (n : ℕ) → twice_at names.old q ≡ twice_of_count n
         → twice_at names.new q
@@ -66,14 +66,14 @@ fn add_symbol<'a>(
         offset: symbol.offset,
         is_twice: false,
     };
-    add_name(names, symbol.name.as_str(), definition)
+    add_name(names, symbol.name, definition)
 }
 
 // The global ones of these symbols of the object of this number more.
 fn add_symbols<'a>(
     names: &mut HashMap<&'a str, Definition>,
     object: usize,
-    symbols: &'a [Symbol],
+    symbols: &[SymbolRef<'a>],
 ) -> Result<(), LinkErr>
     ensures counts { OnOk result ((q : List ℕ) (n : ℕ) → twice_at names.old q ≡ twice_of_count n
         → twice_at names.new q ≡ twice_of_count (n + count_by (has_global_name q) symbols.now)) }
@@ -90,7 +90,7 @@ fn add_symbols<'a>(
 }
 
 // How many symbols of objects are global: no more names than these.
-fn count_globals(objects: &[Object]) -> usize {
+fn count_globals(objects: &[ObjectRef<'_>]) -> usize {
     let mut count = 0usize;
     for object in objects {
         for symbol in &object.symbols {
@@ -112,10 +112,10 @@ fn no_names<'a>(alloc: Global, count: usize) -> Result<HashMap<&'a str, Definiti
 }
 
 /// The global symbols of objects by name.
-pub(crate) fn names_of(
+pub(crate) fn names_of<'a>(
     alloc: Global,
-    objects: &[Object],
-) -> Result<HashMap<&str, Definition>, LinkErr>
+    objects: &[ObjectRef<'a>],
+) -> Result<HashMap<&'a str, Definition>, LinkErr>
     ensures counts { IfOk result (λ names. CountsGlobals names objects.now) }
     ensures globals { IfOk result (λ names. DefinesGlobals names objects.now) }
     ensures err { IfErr result (λ e. e ≡ NoMemory) }

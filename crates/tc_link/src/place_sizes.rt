@@ -9,7 +9,7 @@ ghost use Rattle.tc_link.specs.Errors.{IsRefusal};
 
 use crate::{LinkErr, Place};
 use std::alloc::Global;
-use tc_object::{Object, Section};
+use tc_object::{ObjectRef, SectionRef};
 
 /// The least multiple of 4 that isn't below.
 pub(crate) fn round_up(size: u64) -> u64
@@ -20,11 +20,11 @@ pub(crate) fn round_up(size: u64) -> u64
 }
 
 /// How many bytes of a place are taken, with this section.
-fn with_size(place: &Place, size: u64, section: &Section) -> u64
+fn with_size(place: &Place, size: u64, section: &SectionRef<'_>) -> u64
     requires { size ≤ 2 ^ 32 }
     ensures { result ≡ with_size place.now.section size section.now }
 {
-    if place.section.as_str() == section.name.as_str() {
+    if place.section.as_str() == section.name {
         round_up(size) + section.bytes.len() as u64
     } else {
         size
@@ -32,7 +32,7 @@ fn with_size(place: &Place, size: u64, section: &Section) -> u64
 }
 
 // How many bytes of each place are taken, with one section more.
-fn add_size(places: &[Place], sizes: &mut [u64], section: &Section)
+fn add_size(places: &[Place], sizes: &mut [u64], section: &SectionRef<'_>)
     requires count { length sizes.old ≡ length places.now }
     requires small { AreSmall sizes.old }
     ensures taken { (before : List SectionData) → AreTaken places.now before sizes.old
@@ -72,13 +72,13 @@ fn find_place(places: &[Place], name: &str) -> Option<usize>
 }
 
 // Where a section begins behind those that take so many bytes of each place.
-fn base_of(places: &[Place], sizes: &[u64], section: &Section) -> u64
+fn base_of(places: &[Place], sizes: &[u64], section: &SectionRef<'_>) -> u64
     requires count { length sizes.now ≡ length places.now }
     requires small { AreSmall sizes.now }
     ensures { (before : List SectionData) → AreTaken places.now before sizes.now
         → result ≡ base_of places.now before section.now }
 {
-    match find_place(places, section.name.as_str()) {
+    match find_place(places, section.name) {
         None => 0,
         Some(i) => {
             let place = &places[i];
@@ -92,7 +92,7 @@ pub(crate) fn bases_of(
     alloc: Global,
     places: &[Place],
     sizes: &mut [u64],
-    sections: &[Section],
+    sections: &[SectionRef<'_>],
 ) -> Result<Vec<u64>, LinkErr>
     requires count { length sizes.old ≡ length places.now }
     requires few { length places.now ≤ 64 }
@@ -114,7 +114,7 @@ pub(crate) fn bases_of(
         bases.push(base_of(places, sizes, section))?;
         add_size(places, sizes, section);
         if is_over(places, sizes) {
-            return Err(LinkErr::NoRoom(String::from_str(alloc, section.name.as_str())?));
+            return Err(LinkErr::NoRoom(String::from_str(alloc, section.name)?));
         }
     }
     Ok(bases)

@@ -11,16 +11,16 @@ use crate::place_sizes::bases_of;
 use crate::{LinkErr, Place};
 use std::alloc::Global;
 use std::marker::Model;
-use tc_object::Object;
+use tc_object::ObjectRef;
 
 /// An object, and where each of its sections begins.
 #[derive(Drop)]
-pub(crate) struct Placed<'a> {
-    pub(crate) object: &'a Object,
+pub(crate) struct Placed<'a, 'b> {
+    pub(crate) object: &'a ObjectRef<'b>,
     pub(crate) bases: Vec<u64>,
 }
 
-impl<'a> Model for Placed<'a> {
+impl<'a, 'b> Model for Placed<'a, 'b> {
     ghost use Rattle.tc_link.specs.Placing.{PlacedData};
 
     ghost Value = { PlacedData };
@@ -39,12 +39,12 @@ fn none_taken(alloc: Global, places: &[Place]) -> Result<Vec<u64>, LinkErr>
 }
 
 // The same for places of which so many bytes are taken by no section.
-fn place_objects<'a>(
+fn place_objects<'a, 'b>(
     alloc: Global,
     places: &[Place],
     sizes: &mut [u64],
-    objects: &'a [Object],
-) -> Result<Vec<Placed<'a>>, LinkErr>
+    objects: &'a [ObjectRef<'b>],
+) -> Result<Vec<Placed<'a, 'b>>, LinkErr>
     requires few { length places.now ≤ 64 }
     requires count { length sizes.old ≡ length places.now }
     requires none { AreTaken places.now [] sizes.old }
@@ -64,11 +64,11 @@ fn place_objects<'a>(
 }
 
 /// The objects with the addresses of their sections, or the first section with which there is no room.
-pub(crate) fn placed_of<'a>(
+pub(crate) fn placed_of<'a, 'b>(
     alloc: Global,
     places: &[Place],
-    objects: &'a [Object],
-) -> Result<Vec<Placed<'a>>, LinkErr>
+    objects: &'a [ObjectRef<'b>],
+) -> Result<Vec<Placed<'a, 'b>>, LinkErr>
     requires { length places.now ≤ 64 }
     ensures placed { IfOk result (λ placed. placed.items ≡ placed_after places.now [] objects.now) }
     ensures good { IfOk result (λ _. (k : ℕ) (d : ObjectData) → k < length objects.now

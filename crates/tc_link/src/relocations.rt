@@ -14,23 +14,29 @@ use crate::LinkErr;
 use crate::addresses::{address_in, symbol_addresses, value_of};
 use crate::definitions::Definition;
 use crate::placed::Placed;
+use crate::written_sections::WrittenSection;
 use std::alloc::Global;
 use std::collections::HashMap;
-use tc_object::{Reloc, Section};
+use tc_object::{Reloc, SectionRef};
 use tc_reloc::{RelocErr, apply};
 
 // A copy of a section.
-fn copy_of(alloc: Global, section: &Section) -> Result<Section, LinkErr>
+fn copy_of<'a>(alloc: Global, section: &SectionRef<'a>) -> Result<WrittenSection<'a>, LinkErr>
     ensures ok { IfOk result (λ copy. copy ≡ section.now) }
     ensures err { IfErr result (λ e. e ≡ NoMemory) }
 {
-    let name = String::from_str(alloc, section.name.as_str())?;
-    let bytes = Vec::from_slice(alloc, &section.bytes)?;
-    Ok(Section { name, bytes })
+    let bytes = Vec::from_slice(alloc, section.bytes)?;
+    Ok(WrittenSection {
+        name: section.name,
+        bytes,
+    })
 }
 
 // Copies of sections.
-fn copies_of(alloc: Global, sections: &[Section]) -> Result<Vec<Section>, LinkErr>
+fn copies_of<'a>(
+    alloc: Global,
+    sections: &[SectionRef<'a>],
+) -> Result<Vec<WrittenSection<'a>>, LinkErr>
     ensures ok { IfOk result (λ copies. copies.items ≡ sections.now) }
     ensures err { IfErr result (λ e. e ≡ NoMemory) }
 {
@@ -58,7 +64,12 @@ fn put_field(bytes: &mut [u8], at: usize, field: [u8; 4])
 }
 
 // One relocation of a section, written.
-fn write_reloc(section: &mut Section, reloc: &Reloc, place: u32, value: u32) -> Result<(), RelocErr>
+fn write_reloc(
+    section: &mut WrittenSection<'_>,
+    reloc: &Reloc,
+    place: u32,
+    value: u32,
+) -> Result<(), RelocErr>
     requires some { 1 ≤ reloc.now.kind }
     requires most { reloc.now.kind ≤ 7 }
     requires room { reloc.now.offset + 4 ≤ length section.old.bytes }
@@ -76,9 +87,9 @@ fn write_reloc(section: &mut Section, reloc: &Reloc, place: u32, value: u32) -> 
 // One relocation of the sections of an object, written.
 fn write_in(
     addresses: &[u32],
-    placed: &Placed<'_>,
+    placed: &Placed<'_, '_>,
     reloc: &Reloc,
-    sections: &mut [Section],
+    sections: &mut [WrittenSection<'_>],
 ) -> Result<(), RelocErr>
     requires some { 1 ≤ reloc.now.kind }
     requires most { reloc.now.kind ≤ 7 }
@@ -98,11 +109,12 @@ fn write_in(
 }
 
 // The relocations of an object, written in its sections, or the first that can't be written.
+#[inline(never)]
 fn write_all(
     addresses: &[u32],
     number: u32,
-    placed: &Placed<'_>,
-    sections: &mut [Section],
+    placed: &Placed<'_, '_>,
+    sections: &mut [WrittenSection<'_>],
 ) -> Result<(), LinkErr>
     requires { sections.old ≡ placed.now.object.sections }
     ensures sections { OnOk result ((all : List GlobalData)
@@ -130,13 +142,13 @@ fn write_all(
 }
 
 // The sections of an object with its relocations written, or the first that can't be written.
-fn relocate(
+fn relocate<'a>(
     alloc: Global,
     names: &HashMap<&str, Definition>,
-    placed: &[Placed<'_>],
+    placed: &[Placed<'_, '_>],
     number: u32,
-    each: &Placed<'_>,
-) -> Result<Vec<Section>, LinkErr>
+    each: &Placed<'_, 'a>,
+) -> Result<Vec<WrittenSection<'a>>, LinkErr>
     ensures sections { IfOk result (λ ss. (all : List GlobalData)
         → AreGlobals names.now placed.now all → ss.items ≡ relocated_sections all each.now) }
     ensures none { OnOk result ((all : List GlobalData) → AreGlobals names.now placed.now all
@@ -152,8 +164,11 @@ fn relocate(
 }
 
 // More sections.
-fn append(contents: &mut Vec<Section>, more: Vec<Section>) -> Result<(), LinkErr>
-    ensures ok { OnOk result (contents.new.items ≡ contents.old.items ++ more.items) }
+fn append<'a>(
+    contents: &mut Vec<WrittenSection<'a>>,
+    more: Vec<WrittenSection<'a>>,
+) -> Result<(), LinkErr>
+    ensures ok { OnOk result (contents.new.items ≡ contents.old.items ++ more.entry.items) }
     ensures err { IfErr result (λ e. e ≡ NoMemory) }
 {
     for section in more {
@@ -164,11 +179,11 @@ fn append(contents: &mut Vec<Section>, more: Vec<Section>) -> Result<(), LinkErr
 
 /// All sections with their relocations written, or the first relocation that can't be written.
 #[tactic(auto, unfolding(crate::specs::Linked::contents_of, crate::specs::Linked::reloc_in))]
-pub(crate) fn contents_of(
+pub(crate) fn contents_of<'a>(
     alloc: Global,
     names: &HashMap<&str, Definition>,
-    placed: &[Placed<'_>],
-) -> Result<Vec<Section>, LinkErr>
+    placed: &[Placed<'_, 'a>],
+) -> Result<Vec<WrittenSection<'a>>, LinkErr>
     requires few { length placed.now ≤ 65535 }
     requires globals { AreGlobals names.now placed.now (globals_of placed.now) }
     ensures sections { IfOk result (λ ss. ss.items ≡ contents_of placed.now) }

@@ -10,7 +10,7 @@ ghost use Rattle.tc_link.specs.declared.errors.LinkErr.TheVariants.{NoMemory};
 use crate::symbol_checks::mark;
 use crate::{LinkErr, Place};
 use std::alloc::Global;
-use tc_object::{Object, Section};
+use tc_object::{ObjectRef, SectionRef};
 
 /// Whether there is a place for sections of this name.
 pub(crate) fn is_placed(places: &[Place], name: &str) -> bool
@@ -20,7 +20,7 @@ pub(crate) fn is_placed(places: &[Place], name: &str) -> bool
 }
 
 // In which sections of an object a symbol is defined.
-fn sections_with_symbols(alloc: Global, object: &Object) -> Result<Vec<bool>, LinkErr>
+fn sections_with_symbols(alloc: Global, object: &ObjectRef<'_>) -> Result<Vec<bool>, LinkErr>
     ensures held { IfOk result (λ held. (k : ℕ) (d : Bool) → k < length object.now.sections
         → slice_index_or held.items k d ≡ has_symbol object.now.symbols k) }
     ensures count { IfOk result (λ held. length held.items ≡ length object.now.sections) }
@@ -36,16 +36,20 @@ fn sections_with_symbols(alloc: Global, object: &Object) -> Result<Vec<bool>, Li
 }
 
 // Whether a section in which a symbol is defined or not needs a place and has none.
-fn is_unplaced(places: &[Place], held: bool, section: &Section) -> bool
+fn is_unplaced(places: &[Place], held: bool, section: &SectionRef<'_>) -> bool
     ensures { result
         ≡ ((nat_lt 0 (length section.now.bytes) || held)
         && not (is_placed places.now section.now.name)) }
 {
-    (!section.bytes.is_empty() || held) && !is_placed(places, section.name.as_str())
+    (!section.bytes.is_empty() || held) && !is_placed(places, section.name)
 }
 
 // The name of the first of these sections that needs a place and has none.
-fn first_unplaced<'a>(places: &[Place], held: &[bool], sections: &'a [Section]) -> Option<&'a str>
+fn first_unplaced<'a>(
+    places: &[Place],
+    held: &[bool],
+    sections: &[SectionRef<'a>],
+) -> Option<&'a str>
     requires { length held.now ≡ length sections.now }
     ensures { (symbols : List SymbolData)
         → ((k : ℕ) (d : Bool) → k < length sections.now
@@ -55,7 +59,7 @@ fn first_unplaced<'a>(places: &[Place], held: &[bool], sections: &'a [Section]) 
 {
     for (number, section) in sections.iter().enumerate() {
         if is_unplaced(places, held[number], section) {
-            return Some(section.name.as_str());
+            return Some(section.name);
         }
     }
     None
@@ -65,7 +69,7 @@ fn first_unplaced<'a>(places: &[Place], held: &[bool], sections: &'a [Section]) 
 pub(crate) fn check_places(
     alloc: Global,
     places: &[Place],
-    objects: &[Object],
+    objects: &[ObjectRef<'_>],
 ) -> Result<(), LinkErr>
     ensures ok { OnOk result (no_place_in places.now objects.now ≡ None) }
     ensures err { IfErr result (IsRefusal (no_place_in places.now objects.now)) }

@@ -5,10 +5,10 @@ ghost use Rattle.tc_link.specs.Placing.{round_up};
 ghost use Rattle.tc_link.specs.Relocated.{with_padding, joined_sections, segments_of, with_section};
 ghost use Rattle.tc_link.specs.declared.errors.LinkErr.TheVariants.{NoMemory};
 
+use crate::written_sections::WrittenSection;
 use crate::{LinkErr, Place};
 use elf_image::Segment;
 use std::alloc::Global;
-use tc_object::Section;
 
 static ZEROS: [u8; 4] = [0, 0, 0, 0];
 
@@ -31,11 +31,11 @@ fn pad(bytes: &mut Vec<u8>) -> Result<(), LinkErr>
 }
 
 // One section more, where it has the name.
-fn add_section(bytes: &mut Vec<u8>, name: &str, section: &Section) -> Result<(), LinkErr>
+fn add_section(bytes: &mut Vec<u8>, name: &str, section: &WrittenSection<'_>) -> Result<(), LinkErr>
     ensures ok { OnOk result (bytes.new.items ≡ with_section name.now bytes.old.items section.now) }
     ensures err { IfErr result (λ e. e ≡ NoMemory) }
 {
-    if name == section.name.as_str() {
+    if name == section.name {
         pad(bytes)?;
         bytes.extend_from_slice(&section.bytes)?;
     }
@@ -44,7 +44,11 @@ fn add_section(bytes: &mut Vec<u8>, name: &str, section: &Section) -> Result<(),
 
 // The sections of one name, each at a multiple of 4.
 #[tactic(auto, unfolding(crate::specs::Relocated::joined_sections))]
-fn join_sections(alloc: Global, name: &str, sections: &[Section]) -> Result<Vec<u8>, LinkErr>
+fn join_sections(
+    alloc: Global,
+    name: &str,
+    sections: &[WrittenSection<'_>],
+) -> Result<Vec<u8>, LinkErr>
     ensures ok { IfOk result (λ bytes. bytes.items ≡ joined_sections name.now sections.now) }
     ensures err { IfErr result (λ e. e ≡ NoMemory) }
 {
@@ -75,7 +79,7 @@ fn add_segment(segments: &mut Vec<Segment>, at: u32, bytes: Vec<u8>) -> Result<(
 pub(crate) fn segments_of(
     alloc: Global,
     places: &[Place],
-    sections: &[Section],
+    sections: &[WrittenSection<'_>],
 ) -> Result<Vec<Segment>, LinkErr>
     ensures ok { IfOk result (λ segments. map segment_data segments.items
         ≡ segments_of places.now sections.now) }

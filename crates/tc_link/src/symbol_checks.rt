@@ -14,24 +14,27 @@ use crate::definitions::Definition;
 use crate::names::{are_single, is_missing, is_twice};
 use std::alloc::Global;
 use std::collections::HashMap;
-use tc_object::{Object, Symbol};
+use tc_object::{ObjectRef, SymbolRef};
 
 // Whether a symbol is global, and another one too under its name.
-fn is_repeated(names: &HashMap<&str, Definition>, symbol: &Symbol) -> bool
+fn is_repeated(names: &HashMap<&str, Definition>, symbol: &SymbolRef<'_>) -> bool
     ensures { (objects : List ObjectData) → CountsGlobals names.now objects
         → result ≡ (is_global symbol.now && nat_lt 1 (globals_named objects symbol.now.name)) }
 {
-    symbol.kind == 2 && is_twice(names, symbol.name.as_str())
+    symbol.kind == 2 && is_twice(names, symbol.name)
 }
 
 // The name of the first of these symbols that is defined in two objects.
-fn first_repeated<'a>(names: &HashMap<&str, Definition>, symbols: &'a [Symbol]) -> Option<&'a str>
+fn first_repeated<'a>(
+    names: &HashMap<&str, Definition>,
+    symbols: &[SymbolRef<'a>],
+) -> Option<&'a str>
     ensures { (objects : List ObjectData) → CountsGlobals names.now objects
         → first_some (twice_of objects) symbols.now ≡ option_map (λ name. twice name.now) result }
 {
     for symbol in symbols {
         if is_repeated(names, symbol) {
-            return Some(symbol.name.as_str());
+            return Some(symbol.name);
         }
     }
     None
@@ -41,7 +44,7 @@ fn first_repeated<'a>(names: &HashMap<&str, Definition>, symbols: &'a [Symbol]) 
 pub(crate) fn check_repeated(
     alloc: Global,
     names: &HashMap<&str, Definition>,
-    objects: &[Object],
+    objects: &[ObjectRef<'_>],
 ) -> Result<(), LinkErr>
     requires { CountsGlobals names.now objects.now }
     ensures ok { OnOk result (twice_in objects.now ≡ None) }
@@ -68,7 +71,7 @@ pub(crate) fn mark(marks: &mut Vec<bool>, number: usize)
 }
 
 // Which symbols of an object its relocations use.
-fn used_symbols(alloc: Global, object: &Object) -> Result<Vec<bool>, LinkErr>
+fn used_symbols(alloc: Global, object: &ObjectRef<'_>) -> Result<Vec<bool>, LinkErr>
     ensures used { IfOk result (λ used. (k : ℕ) (d : Bool) → k < length object.now.symbols
         → slice_index_or used.items k d ≡ is_used object.now.relocs k) }
     ensures count { IfOk result (λ used. length used.items ≡ length object.now.symbols) }
@@ -82,18 +85,18 @@ fn used_symbols(alloc: Global, object: &Object) -> Result<Vec<bool>, LinkErr>
 }
 
 // Whether a symbol that is used or not is undefined here and in all objects.
-fn is_lost(names: &HashMap<&str, Definition>, used: bool, symbol: &Symbol) -> bool
+fn is_lost(names: &HashMap<&str, Definition>, used: bool, symbol: &SymbolRef<'_>) -> bool
     ensures { (objects : List ObjectData) → CountsGlobals names.now objects
         → result ≡ (symbol.now.kind == 0 && used && globals_named objects symbol.now.name == 0) }
 {
-    symbol.kind == 0 && used && is_missing(names, symbol.name.as_str())
+    symbol.kind == 0 && used && is_missing(names, symbol.name)
 }
 
 // The name of the first of these symbols that is used, and undefined here and in all objects.
 fn first_missing<'a>(
     names: &HashMap<&str, Definition>,
     used: &[bool],
-    symbols: &'a [Symbol],
+    symbols: &[SymbolRef<'a>],
 ) -> Option<&'a str>
     requires { length used.now ≡ length symbols.now }
     ensures { (objects : List ObjectData) → CountsGlobals names.now objects
@@ -105,7 +108,7 @@ fn first_missing<'a>(
 {
     for (number, symbol) in symbols.iter().enumerate() {
         if is_lost(names, used[number], symbol) {
-            return Some(symbol.name.as_str());
+            return Some(symbol.name);
         }
     }
     None
@@ -115,7 +118,7 @@ fn first_missing<'a>(
 pub(crate) fn check_missing(
     alloc: Global,
     names: &HashMap<&str, Definition>,
-    objects: &[Object],
+    objects: &[ObjectRef<'_>],
 ) -> Result<(), LinkErr>
     requires { CountsGlobals names.now objects.now }
     ensures ok { OnOk result (missing_in objects.now ≡ None) }

@@ -8,13 +8,13 @@ use Rattle.tc_link.proofs.place_sizes.base_of.Goals as goal
 
 pub returns-in-None : goal.returns-in-None
 returns-in-None c = λ before t.
-    let name : c.as_str.result.now ≡ c.args.section.now.name = c.as_str.ensures.value ∙ ap (λ (s : SectionData). s.name) c.section.view_is in
+    let name : c.section.inside.name.now ≡ c.args.section.now.name = ap (λ (s : SectionData). s.name) c.section.view_is in
     base_none c.args.places.now before c.args.section.now
     (ap (λ (n : List ℕ). position (λ (p : PlaceData). bytes_eq n p.section) c.args.places.now) (sym name) ∙ sym c.find_place.ensures.value ∙ c.in-None.is)
 
 pub returns-in-Some : goal.returns-in-Some
 returns-in-Some c = λ before t.
-    let name : c.as_str.result.now ≡ c.args.section.now.name = c.as_str.ensures.value ∙ ap (λ (s : SectionData). s.name) c.section.view_is in
+    let name : c.section.inside.name.now ≡ c.args.section.now.name = ap (λ (s : SectionData). s.name) c.section.view_is in
     let p : PlaceData = c.index-places-i.result in
     ap (λ a. a + c.round_up.result) (c.from.ensures ∙ ap (λ (q : PlaceData). q.at) c.place.view_is)
     ∙ ap (λ k. p.at + k) c.round_up.ensures

@@ -38,7 +38,7 @@ returns-then-is_over-clause-err c = λ before t.
     let next : take (i + 1) all ≡ take i all ++ s ∷ [] = take_next all i s c.loop-section-test.true c.section-item.is in
     let inv = c.loop-section.invariant in
     room_fault c.args.places.now before all i s c.is_over.result next (inv.room before t) (c.is_over.ensures.over ((before ++ take i all) ++ s ∷ []) (c.add_size.ensures.taken (before ++ take i all) (inv.taken before t))) c.if-is_over.true
-    ∙ ap (λ (n : List ℕ). Some (no_room n)) (sym (c.in_ok-from_str.ensures.ok ∙ c.as_str.ensures.value ∙ ap (λ (x : SectionData). x.name) c.section.view_is))
+    ∙ ap (λ (n : List ℕ). Some (no_room n)) (sym (c.in_ok-from_str.ensures.ok ∙ ap (λ (x : SectionData). x.name) c.section.view_is))
 
 pub returns-clause-taken : goal.returns-clause-taken
 returns-clause-taken c = λ before t.

@@ -16,7 +16,7 @@ returns-then-is_unplaced c = λ symbols held.
     found_item (no_place_of c.args.places.now symbols) c.args.sections.now i x (no_place x.name) c.loop-number-test.true c.index-sections-number.is (c.loop-number.invariant symbols held)
     (then_yes ((ltb 0 (length x.bytes) || has_symbol symbols i) && not (is_placed c.args.places.now x.name)) c.is_unplaced.result (no_place x.name)
     (c.is_unplaced.ensures ∙ ap (λ (b : Bool). (ltb 0 (length x.bytes) || b) && not (is_placed c.args.places.now x.name)) (held i _ c.loop-number-test.true)) c.if-is_unplaced.true)
-    ∙ ap (λ (n : List ℕ). Some (no_place n)) (sym (c.as_str.ensures.value ∙ ap (λ (s : SectionData). s.name) c.section.view_is))
+    ∙ ap (λ (n : List ℕ). Some (no_place n)) (sym (ap (λ (s : SectionData). s.name) c.section.view_is))
 
 pub loop-number-preserved : goal.loop-number-preserved
 loop-number-preserved c = λ symbols held.

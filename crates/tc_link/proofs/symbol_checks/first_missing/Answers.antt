@@ -15,7 +15,7 @@ returns-then-is_lost c = λ objects h relocs used.
     found_item (missing_of objects relocs) c.args.symbols.now i x (missing x.name) c.loop-number-test.true c.index-symbols-number.is (c.loop-number.invariant objects h relocs used)
     (then_yes (eqb x.kind 0 && is_used relocs i && eqb (globals_named objects x.name) 0) c.is_lost.result (missing x.name)
     (c.is_lost.ensures objects h ∙ ap (λ (b : Bool). eqb x.kind 0 && b && eqb (globals_named objects x.name) 0) (used i _ c.loop-number-test.true)) c.if-is_lost.true)
-    ∙ ap (λ (n : List ℕ). Some (missing n)) (sym (c.as_str.ensures.value ∙ ap (λ (s : SymbolData). s.name) c.symbol.view_is))
+    ∙ ap (λ (n : List ℕ). Some (missing n)) (sym (ap (λ (s : SymbolData). s.name) c.symbol.view_is))
 
 pub loop-number-preserved : goal.loop-number-preserved
 loop-number-preserved c = λ objects h relocs used.

@@ -13,7 +13,7 @@ returns-then-is_repeated c = λ objects h.
     let x : SymbolData = c.symbol-item.result in
     found_item (twice_of objects) c.args.symbols.now c.loop-symbol.symbol-index x (twice x.name) c.loop-symbol-test.true c.symbol-item.is (c.loop-symbol.invariant objects h)
     (then_yes _ c.is_repeated.result (twice x.name) (c.is_repeated.ensures objects h) c.if-is_repeated.true)
-    ∙ ap (λ (n : List ℕ). Some (twice n)) (sym (c.as_str.ensures.value ∙ ap (λ (s : SymbolData). s.name) c.symbol.view_is))
+    ∙ ap (λ (n : List ℕ). Some (twice n)) (sym (ap (λ (s : SymbolData). s.name) c.symbol.view_is))
 
 pub loop-symbol-preserved : goal.loop-symbol-preserved
 loop-symbol-preserved c = λ objects h.

@@ -8,7 +8,7 @@ use Rattle.tc_link.specs.Errors.{refusal_of}
 use Rattle.tc_link.proofs.ImageLaws.{image_of_bytes}
 use Rattle.tc_link.proofs.PlacedLaws.{placed_objects}
 use Rattle.tc_link.proofs.LinkLaws.{linked_told, linked_made, linked_image, placed_length}
-use Rattle.tc_link.proofs.link_objects.link.Goals as goal
+use Rattle.tc_link.proofs.link_objects.link_borrowed.Goals as goal
 
 pub returns-in_err-placed-clause-err : goal.returns-in_err-placed-clause-err
 returns-in_err-placed-clause-err c =

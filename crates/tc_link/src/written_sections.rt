@@ -1,0 +1,17 @@
+// Sections whose relocations are written.
+use std::marker::Model;
+
+/// A section with bytes of its own, under a name that stays where it lies.
+#[derive(Drop)]
+pub(crate) struct WrittenSection<'a> {
+    pub(crate) name: &'a str,
+    pub(crate) bytes: Vec<u8>,
+}
+
+impl<'a> Model for WrittenSection<'a> {
+    ghost use Rattle.tc_object.specs.Objects.{SectionData};
+
+    ghost Value = { SectionData };
+
+    ghost view = { λ s. record { name = s.name.now; bytes = s.bytes.items } };
+}
