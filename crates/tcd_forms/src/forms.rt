@@ -4,6 +4,7 @@ use crate::lines::{
     long_object_line, long_plan_line, long_script_line, long_source_line, object_line, plan_line,
     script_line, source_line,
 };
+use bumpalo::Bump;
 use depth_cert::CertErr;
 use elf_image::Image;
 use packed_cert::PackedCert;
@@ -11,7 +12,7 @@ use std::alloc::Global;
 use std::marker::Model;
 use tc_asm::{AsmErr, assemble};
 use tc_link::Layout;
-use tc_object::{ObjErr, Object};
+use tc_object::{ObjErr, Object, ObjectRef};
 use tc_script::Script;
 use tcd_base::NoMemory;
 use tcd_plan::Plan;
@@ -258,16 +259,17 @@ impl Form for LayoutFile {
     }
 }
 
-/// The object at this place among the objects.
+/// The object at this place among the objects. Its bytes stay in the arena.
 #[derive(Clone, Copy)]
-pub struct ObjectFile {
+pub struct ObjectFile<'a> {
     pub place: u32,
+    pub arena: &'a Bump,
 }
 
-impl Form for ObjectFile {
+impl<'a> Form for ObjectFile<'a> {
     ghost use Rattle.tcd_forms.specs.Forms.{object_form};
 
-    type Out = Object;
+    type Out = ObjectRef<'a>;
 
     ghost form = { λ f. object_form f.place };
 
@@ -281,8 +283,11 @@ impl Form for ObjectFile {
         long_object_line(alloc, self.place)
     }
 
-    fn value(&self, alloc: Global, bytes: Vec<u8>) -> Result<Object, Outcome> {
-        match Object::read(alloc, &bytes) {
+    fn value(&self, alloc: Global, bytes: Vec<u8>) -> Result<ObjectRef<'a>, Outcome> {
+        let Ok(kept) = self.arena.try_alloc_slice_copy(&bytes) else {
+            return Err(Outcome::NoMemory);
+        };
+        match ObjectRef::read(alloc, kept) {
             Ok(object) => Ok(object),
             Err(ObjErr::Bad(e)) => Err(bad_input(alloc, object_line(alloc, self.place, e))),
             Err(ObjErr::NoMemory) => Err(Outcome::NoMemory),

@@ -6,10 +6,11 @@ ghost use Rattle.tcd_reading.specs.Inputs.{each, answer};
 ghost use Rattle.tcd_driver.specs.Link.{IsLinked, WritesImage, link_reading};
 ghost use Rattle.tcd_reading.specs.Outcomes.{Comes, IsTold};
 
+use bumpalo::Bump;
 use elf_image::Image;
 use std::alloc::Global;
-use tc_link::{Layout, link};
-use tc_object::Object;
+use tc_link::{Layout, link_borrowed};
+use tc_object::ObjectRef;
 use tcd_base::Files;
 use tcd_forms::{LayoutFile, ObjectFile, link_line, linked_line};
 use tcd_reading::{Outcome, Status, read_input, report, report_file};
@@ -51,9 +52,13 @@ fn link_by<F: Files>(
         (λ os. answer (IsLinked name.now layout.now os)))
         (F.seen files.old) (F.seen files.new) result }
 {
+    let arena = Bump::new(alloc);
     let mut parts = Vec::new(alloc);
     for i in 0..objects.len() {
-        let form = ObjectFile { place: i as u32 };
+        let form = ObjectFile {
+            place: i as u32,
+            arena: &arena,
+        };
         let part = match read_input(&form, alloc, objects[i].as_str(), files) {
             Ok(part) => part,
             Err(outcome) => return outcome,
@@ -67,11 +72,11 @@ fn link_by<F: Files>(
 }
 
 // Links objects, and makes the line.
-fn linked(alloc: Global, name: &str, layout: &Layout, objects: &[Object]) -> Outcome
+fn linked(alloc: Global, name: &str, layout: &Layout, objects: &[ObjectRef<'_>]) -> Outcome
     requires { length objects.now ≤ 65535 }
     ensures { IsTold (IsLinked name.now layout.now objects.now) ⊥ result }
 {
-    match link(alloc, objects, layout) {
+    match link_borrowed(alloc, objects, layout) {
         Ok(image) => written(alloc, name, &image),
         Err(e) => report(alloc, Status::BadInput, link_line(alloc, e)),
     }
