@@ -35,20 +35,9 @@ fn read_values_like(
     ensures anew { IfOk result (AreAnew out.old out.new) }
     ensures bytes { c.new.bytes ≡ c.old.bytes }
 {
-    match before {
-        Some(at) => read_values_after(c, bytes, version, at, out),
-        None => read_all(c, version, out),
+    if let Some(at) = before {
+        return read_values_after(c, bytes, version, at, out);
     }
-}
-
-/// Reads values, all anew.
-fn read_all(c: &mut Cursor<'_>, version: u8, out: &mut [Val]) -> Result<Anew, FormErr>
-    requires { length c.old.bytes ≤ 2 ^ 30 }
-    ensures ok { OnOk result (values_at version (length out.old) c.old ≡ Ok (out.new, c.new)) }
-    ensures err { IfErr result (λ e. values_at version (length out.old) c.old ≡ Err e) }
-    ensures anew { IfOk result (AreAnew out.old out.new) }
-    ensures bytes { c.new.bytes ≡ c.old.bytes }
-{
     let count = out.len();
     match read_values(c, version, out) {
         Ok(_) => Ok(Anew {

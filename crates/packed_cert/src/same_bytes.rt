@@ -29,15 +29,7 @@ fn is_same_eight(bytes: &[u8], x: usize, y: usize) -> bool
     eight(bytes, x) == eight(bytes, y)
 }
 
-fn is_same_byte(bytes: &[u8], x: usize, y: usize) -> bool
-    requires first { x < length bytes.now }
-    requires second { y < length bytes.now }
-    ensures { IsTrue result → slice_index bytes.now x ≡ slice_index bytes.now y }
-{
-    bytes[x] == bytes[y]
-}
-
-/// How many of these bytes stand alike at two places, as far as eight at a time do.
+/// How many of these bytes stand alike at two places, as far as eight at a time do; sixteen are looked at in a turn.
 #[inline(always)]
 fn same_eights(bytes: &[u8], x: usize, y: usize, n: usize) -> usize
     requires first { x + n ≤ length bytes.now }
@@ -46,11 +38,18 @@ fn same_eights(bytes: &[u8], x: usize, y: usize, n: usize) -> usize
     ensures same { StandAlike bytes.now x y result }
 {
     let mut i = 0;
-    while i + 8 <= n {
+    while i + 16 <= n {
         if !is_same_eight(bytes, x + i, y + i) {
             return i;
         }
-        i += 8;
+        let k = i + 8;
+        if !is_same_eight(bytes, x + k, y + k) {
+            return k;
+        }
+        i = k + 8;
+    }
+    if i + 8 <= n && is_same_eight(bytes, x + i, y + i) {
+        return i + 8;
     }
     i
 }
@@ -67,7 +66,7 @@ fn same_from(bytes: &[u8], x: usize, y: usize, from: usize, n: usize) -> usize
 {
     let mut i = from;
     while i < n {
-        if !is_same_byte(bytes, x + i, y + i) {
+        if bytes[x + i] != bytes[y + i] {
             return i;
         }
         i += 1;

@@ -123,18 +123,6 @@ impl<'a> PointWalk<'a> {
     }
 }
 
-/// Whether the bytes of a state stand at a place, too.
-fn stands_again(bytes: &[u8], held: StatePlaces, place: usize) -> bool
-    requires order { held.start ≤ held.end }
-    requires within { held.end ≤ length bytes.now }
-    requires place { place ≤ length bytes.now }
-    ensures { IsTrue result → (version : ℕ) (s : State)
-        → StandsAt version bytes.now s held → state_in version bytes.now place ≡ s }
-{
-    let n = held.end - held.start;
-    n <= bytes.len() - place && are_same(bytes, held.start, place, n)
-}
-
 /// Whether the bytes of the state that is held stand at the next point, too.
 fn comes_again(bytes: &[u8], points: &[PackedPoint], next: usize, held: Option<StatePlaces>) -> bool
     requires inside { All (λ p. p.place ≤ length bytes.now) points.now }
@@ -150,7 +138,9 @@ fn comes_again(bytes: &[u8], points: &[PackedPoint], next: usize, held: Option<S
     if next >= points.len() {
         return false;
     }
-    stands_again(bytes, held, points[next].place as usize)
+    let place = points[next].place as usize;
+    let n = held.end - held.start;
+    n <= bytes.len() - place && are_same(bytes, held.start, place, n)
 }
 
 /// Moves the room for a state on to the one at a place, which may be the same one again, and gives
