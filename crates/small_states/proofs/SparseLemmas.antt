@@ -2,8 +2,9 @@
 use Rattle.std.proofs.Common.{◌≡◌, ◌∙◌, ℕ, zero, suc, ◌+◌, ◌-◌, ◌<◌, ◌≤◌, inl, inr, List, [], ◌∷◌, ◌++◌, length, take, drop, get_or, replicate, set, All, refl, subst, sym, ap, arith}
 use Rattle.std.specs.List.{flat_map}
 use Rattle.std.proofs.lemmas.Bool.{cases_lt}
+use Rattle.std.specs.List.{insert}
 use Rattle.std.proofs.lemmas.List.Concat.{flat_map-append}
-use Rattle.std.proofs.lemmas.List.{append-nil, append_assoc, drop_more, get_or-append-add, get_or-append_right, get_or-replicate, get_or_append_left, get_or_at, get_or_past, get_or_default, length-append, length-replicate, length-take-le, length_push, replicate-append-replicate, replicate_more, set_split, take-append-drop, take_all, take_more, take_rest}
+use Rattle.std.proofs.lemmas.List.{append-nil, append_assoc, drop-set, drop_more, get_or-append-add, get_or-append_right, get_or-replicate, get_or_append_left, get_or_at, get_or_past, get_or_default, length-append, length-replicate, length-take-le, length_push, replicate-append-replicate, replicate_more, set-get_or, set_at, set_past, set_split, take-append-drop, take-set, take_all, take_more}
 use Rattle.value_domain.specs.declared.values.Val.{Val}
 use Rattle.value_domain.specs.Limits.{Limits}
 use Rattle.value_domain.specs.State.{AreBelow, AreValues, AreWell, join_of, joined_regs}
@@ -12,12 +13,8 @@ use Rattle.value_domain.proofs.RangeLaws.{below_any}
 use Rattle.value_domain.proofs.RegLaws.{get_or-joined, length-joined}
 use Rattle.depth_cert.specs.Spelling.{bytes_of_value}
 use Rattle.small_states.specs.declared.sparse.SpacedValue.{SpacedValue}
-use Rattle.small_states.specs.Wholes.{spaced_values}
+use Rattle.small_states.specs.Wholes.{front, spaced_values}
 use Rattle.small_states.proofs.SameValues.{join_all}
-
--- the values up to the last known one
-abbrev pub front : List SpacedValue → List Val
-front known = flat_map spaced_values known
 
 -- all values
 abbrev pub all : List SpacedValue → ℕ → List Val
@@ -30,6 +27,14 @@ pub more_anys : (known : List SpacedValue) (rest count : ℕ) → all known (res
 more_anys known rest count =
     ap (λ (l : List Val). front known ++ l) (sym (replicate-append-replicate rest count any_val))
     ∙ sym (append_assoc (front known) (replicate rest any_val) (replicate count any_val))
+
+-- behind some known values stands one more
+all_parts : (xs ys : List SpacedValue) (s : SpacedValue) (rest : ℕ) → all (xs ++ s ∷ ys) rest ≡ front xs ++ (replicate s.anys any_val ++ s.value ∷ (front ys ++ replicate rest any_val))
+all_parts xs ys s rest =
+    ap (λ (l : List Val). l ++ replicate rest any_val) (flat_map-append spaced_values xs (s ∷ ys))
+    ∙ append_assoc (front xs) (spaced_values s ++ front ys) (replicate rest any_val)
+    ∙ ap (λ (l : List Val). front xs ++ l)
+    (append_assoc (spaced_values s) (front ys) (replicate rest any_val) ∙ append_assoc (replicate s.anys any_val) (s.value ∷ []) (front ys ++ replicate rest any_val))
 
 -- ---- a value that is known
 module _ (known : List SpacedValue) (rest n : ℕ) (here : SpacedValue) (lt : n < length known) (is : here ≡ get_or known n here) where
@@ -48,12 +53,7 @@ module _ (known : List SpacedValue) (rest n : ℕ) (here : SpacedValue) (lt : n 
       ∙ ap (λ (l : List SpacedValue). take n known ++ l) (drop_more known n here lt ∙ ap (λ (s : SpacedValue). s ∷ drop (n + 1) known) (sym is))
 
   all-split : all known rest ≡ before ++ (anys ++ here.value ∷ after)
-  all-split =
-      ap (λ (l : List SpacedValue). all l rest) split
-      ∙ ap (λ (l : List Val). l ++ replicate rest any_val) (flat_map-append spaced_values (take n known) (here ∷ drop (n + 1) known))
-      ∙ append_assoc before (spaced_values here ++ front (drop (n + 1) known)) (replicate rest any_val)
-      ∙ ap (λ (l : List Val). before ++ l)
-      (append_assoc (spaced_values here) (front (drop (n + 1) known)) (replicate rest any_val) ∙ append_assoc anys (here.value ∷ []) after)
+  all-split = ap (λ (l : List SpacedValue). all l rest) split ∙ all_parts (take n known) (drop (n + 1) known) here rest
 
   pub front_more : front (take (n + 1) known) ≡ before ++ (anys ++ here.value ∷ [])
   front_more =
@@ -206,29 +206,88 @@ unfolding bytes_of_value
 bytes_of_anys zero = refl
 bytes_of_anys (suc n) = ap (λ (l : List ℕ). 0 ∷ l) (bytes_of_anys n)
 
--- ---- a value put between others, of which parts are added one after another
-pub put_between : (old vs : List Val) (at : ℕ) (v : Val) → at < length vs → ((old ++ take at vs) ++ v ∷ []) ++ take (length vs - (at + 1)) (drop (at + 1) vs) ≡ old ++ set vs at v
-put_between old vs at v lt =
-    let f : suc at ≡ at + 1 = omega arith in
-    ap (λ (l : List Val). ((old ++ take at vs) ++ v ∷ []) ++ l) (take_rest vs (at + 1))
-    ∙ append_assoc (old ++ take at vs) (v ∷ []) (drop (at + 1) vs)
-    ∙ append_assoc old (take at vs) (v ∷ drop (at + 1) vs)
-    ∙ ap (λ (l : List Val). old ++ l) (ap (λ (m : ℕ). take at vs ++ v ∷ drop m vs) (sym f) ∙ sym (set_split vs at v lt))
+-- ---- a value put at a place
+-- among values of which nothing is known
+put_anys : (xs ys : List Val) (k p m : ℕ) (v : Val) → m ≡ k + 1 + p → set (xs ++ (replicate m any_val ++ ys)) (length xs + k) v ≡ xs ++ (replicate k any_val ++ v ∷ (replicate p any_val ++ ys))
+put_anys xs ys k p m v e =
+    let f : m ≡ k + suc p = omega (arith, e) in
+    let anys = replicate k any_val in
+    let more = replicate p any_val ++ ys in
+    ap (λ (l : List Val). set (xs ++ (l ++ ys)) (length xs + k) v) (ap (λ (i : ℕ). replicate i any_val) f ∙ sym (replicate-append-replicate k (suc p) any_val))
+    ∙ ap (λ (l : List Val). set (xs ++ l) (length xs + k) v) (append_assoc anys (any_val ∷ replicate p any_val) ys)
+    ∙ ap (λ (l : List Val). set l (length xs + k) v) (sym (append_assoc xs anys (any_val ∷ more)))
+    ∙ set_at (xs ++ anys) any_val more v (length xs + k) (length-append xs anys ∙ ap (λ (i : ℕ). length xs + i) (length-replicate k any_val))
+    ∙ append_assoc xs anys (v ∷ more)
+
+-- behind the last known value
+pub put_last : (known : List SpacedValue) (rest k p : ℕ) (s : SpacedValue) → s.anys ≡ k → rest ≡ k + 1 + p → all (known ++ s ∷ []) p ≡ set (all known rest) (length (front known) + k) s.value
+put_last known rest k p s e f =
+    all_parts known [] s p
+    ∙ ap (λ (i : ℕ). front known ++ (replicate i any_val ++ s.value ∷ replicate p any_val)) e
+    ∙ ap (λ (l : List Val). front known ++ (replicate k any_val ++ s.value ∷ l)) (sym (append-nil (replicate p any_val)))
+    ∙ sym (put_anys (front known) [] k p rest s.value f)
+    ∙ ap (λ (l : List Val). set (front known ++ l) (length (front known) + k) s.value) (append-nil (replicate rest any_val))
+
+-- behind all places
+pub put_past : (known : List SpacedValue) (rest k : ℕ) (v : Val) → rest ≤ k → set (all known rest) (length (front known) + k) v ≡ all known rest
+put_past known rest k v h = set_past (all known rest) (length (front known) + k) v (omega (arith, all_few known rest))
+
+-- any over any
+pub put_any_last : (known : List SpacedValue) (rest k : ℕ) (v : Val) → v ≡ any_val → set (all known rest) (length (front known) + k) v ≡ all known rest
+put_any_last known rest k v e =
+    let i = length (front known) + k in
+    ap (λ (u : Val). set (all known rest) i u) (e ∙ sym (any_behind known rest i (omega arith))) ∙ set-get_or (all known rest) i any_val
+
+module _ (known : List SpacedValue) (rest n : ℕ) (here : SpacedValue) (lt : n < length known) (is : here ≡ get_or known n here) where
+  -- over a known value
+  pub put_known : (k : ℕ) (s : SpacedValue) → s.anys ≡ here.anys → k ≡ here.anys → all (set known n s) rest ≡ set (all known rest) (length (front (take n known)) + k) s.value
+  put_known k s e f =
+      let xs = front (take n known) in
+      let ys = drop (n + 1) known in
+      let anys = replicate here.anys any_val in
+      let after = front ys ++ replicate rest any_val in
+      let g : suc n ≡ n + 1 = omega arith in
+      ap (λ (l : List SpacedValue). all l rest) (set_split known n s lt ∙ ap (λ (m : ℕ). take n known ++ s ∷ drop m known) g)
+      ∙ all_parts (take n known) ys s rest
+      ∙ ap (λ (m : ℕ). xs ++ (replicate m any_val ++ s.value ∷ after)) e
+      ∙ sym (append_assoc xs anys (s.value ∷ after))
+      ∙ sym (set_at (xs ++ anys) here.value after s.value (length xs + k) (length-append xs anys ∙ ap (λ (m : ℕ). length xs + m) (length-replicate here.anys any_val ∙ sym f)))
+      ∙ ap (λ (l : List Val). set l (length xs + k) s.value) (append_assoc xs anys (here.value ∷ after) ∙ sym (all-split known rest n here lt is))
+
+  -- between the known value and those before it
+  pub put_gap :
+      (k p : ℕ) (s t : SpacedValue) → s.anys ≡ k → t.anys ≡ p → t.value ≡ here.value → here.anys ≡ k + 1 + p
+      → all (insert (set known n t) n s) rest ≡ set (all known rest) (length (front (take n known)) + k) s.value
+  put_gap k p s t e f g h =
+      let xs = front (take n known) in
+      let ys = drop (n + 1) known in
+      let after = front ys ++ replicate rest any_val in
+      ap (λ (l : List SpacedValue). all l rest)
+      (ap (λ (l : List SpacedValue). l ++ s ∷ drop n (set known n t)) (take-set known n t) ∙ ap (λ (l : List SpacedValue). take n known ++ s ∷ l) (drop-set known n t lt))
+      ∙ all_parts (take n known) (t ∷ ys) s rest
+      ∙ ap (λ (m : ℕ). xs ++ (replicate m any_val ++ s.value ∷ (front (t ∷ ys) ++ replicate rest any_val))) e
+      ∙ ap (λ (l : List Val). xs ++ (replicate k any_val ++ s.value ∷ l))
+      (all_parts [] ys t rest ∙ ap (λ (m : ℕ). replicate m any_val ++ t.value ∷ after) f ∙ ap (λ (u : Val). replicate p any_val ++ u ∷ after) g)
+      ∙ sym (put_anys xs (here.value ∷ after) k p here.anys s.value h)
+      ∙ ap (λ (l : List Val). set l (length xs + k) s.value) (sym (all-split known rest n here lt is))
+
+  pub put_any_gap : (k : ℕ) (v : Val) → v ≡ any_val → k < here.anys → set (all known rest) (length (front (take n known)) + k) v ≡ all known rest
+  put_any_gap k v e h =
+      let i = length (front (take n known)) + k in
+      ap (λ (u : Val). set (all known rest) i u) (e ∙ sym (any_there known rest n here lt is i (omega arith) (omega arith))) ∙ set-get_or (all known rest) i any_val
 
 -- ---- a place that is looked for
 module _ (known : List SpacedValue) (rest n : ℕ) (here : SpacedValue) (lt : n < length known) (is : here ≡ get_or known n here) (i left : ℕ) (up_to : i ≡ length (front (take n known)) + left) where
   pub found_any : left < here.anys → get_or (all known rest) i any_val ≡ any_val
   found_any h = any_there known rest n here lt is i (omega (arith, up_to)) (omega (arith, up_to))
 
-  pub found_value : here.anys ≤ left → left - here.anys ≡ 0 → here.value ≡ get_or (all known rest) i any_val
-  found_value ge h =
+  pub found_value : here.anys ≡ left → here.value ≡ get_or (all known rest) i any_val
+  found_value h =
       let e : length (front (take n known)) + here.anys ≡ i = omega (arith, up_to) in
       sym (value_there known rest n here lt is) ∙ ap (λ (m : ℕ). get_or (all known rest) m any_val) e
 
-  pub found_further : here.anys ≤ left → (left - here.anys ≡ 0 → ⊥) → i ≡ length (front (take (n + 1) known)) + (left - here.anys - 1)
-  found_further ge some =
-      let further : here.anys < left = elim (cases_lt here.anys left) [ inl lt2 ↦ lt2 | inr le ↦ absurd (some (omega arith)) ] in
-      omega (arith, up_to, further, length-front known rest n here lt is)
+  pub found_further : here.anys < left → i ≡ length (front (take (n + 1) known)) + (left - here.anys - 1)
+  found_further further = omega (arith, up_to, further, length-front known rest n here lt is)
 
 -- ---- a known value that is written or spelled behind those before it
 module _ (known : List SpacedValue) (rest n : ℕ) (here : SpacedValue) (lt : n < length known) (is : here ≡ get_or known n here) where

@@ -27,6 +27,12 @@ asked_for (Changed s c) = state (state_after s.now c.now)
 asked_for (After s x kind) = state (after_of s.now (exit_in x.now) kind)
 asked_for (Leaving s) = leaving (exit_of s.now)
 
+-- the state of the point that owes the duty
+abbrev pub asking : Asked → State
+asking (Changed s c) = s.now
+asking (After s x kind) = s.now
+asking (Leaving s) = s.now
+
 -- the state that is known; nothing is said where it is an exit
 abbrev pub IsStateAt : Known → State → Type 0
 IsStateAt (state s) u = u ≡ s

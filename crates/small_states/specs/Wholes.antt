@@ -1,5 +1,5 @@
 -- Values, states and exits in little room, as those that they stand for.
-use Rattle.std.specs.Prelude.{List, [], ◌∷◌, ◌++◌, replicate}
+use Rattle.std.specs.Prelude.{◌≡◌, ◌+◌, ◌<◌, ◌≤◌, ℕ, List, [], ◌∷◌, ◌++◌, length, replicate, slice_index_or, take}
 use Rattle.std.specs.List.{flat_map}
 use Rattle.value_domain.specs.declared.values.Val.{Val}
 use Rattle.value_domain.specs.declared.states.State.{State}
@@ -14,9 +14,19 @@ use Rattle.small_states.specs.declared.states.SmallExit.{SmallExit}
 abbrev pub spaced_values : SpacedValue → List Val
 spaced_values s = replicate s.anys any_val ++ s.value ∷ []
 
+-- the values up to the last known one
+abbrev pub front : List SpacedValue → List Val
+front known = flat_map spaced_values known
+
 -- the values in their order
 abbrev pub all_values : Values → List Val
-all_values v = flat_map spaced_values v.known.items ++ replicate v.rest any_val
+all_values v = front v.known.items ++ replicate v.rest any_val
+
+-- the place i lies behind n known values and so many others, which stand before the next known one if there is one
+pub record IsFoundIn (v : Values) (i n others : ℕ) : Type 0 where
+  pub within : n ≤ length v.known.items
+  pub at : i ≡ length (front (take n v.known.items)) + others
+  pub before : n < length v.known.items → (d : SpacedValue) → others ≤ (slice_index_or v.known.items n d).anys
 
 -- the state with these values
 abbrev pub state_in : SmallState → State

@@ -5,10 +5,10 @@ ghost use Rattle.value_domain.specs.State.{AreValues, AreWell, Covers, joined_st
 ghost use Rattle.small_states.specs.Wholes.{all_values, exit_in, state_in};
 ghost use Rattle.depth_cert.specs.Exits.{ExitCovers};
 ghost use Rattle.depth_cert.specs.Known.{CoversKnown, joined_exit, joined_known, state, leaving, IsProperKnown};
-ghost use Rattle.small_states.specs.Kept.{AddsState, IsNoExit, IsQuiet, IsStateAt, asked_for, exit_with, known_of, state_with, values_asked};
+ghost use Rattle.small_states.specs.Kept.{AddsState, IsNoExit, IsQuiet, IsStateAt, asked_for, asking, exit_with, known_of, state_with, values_asked};
 
 use crate::asked::{Asked, Context, context_of, is_leaving};
-use crate::values::{are_covered, joined, packed};
+use crate::values::{are_covered, joined, packed, packed_by};
 use crate::{SmallExit, SmallState, Values, copy_of, join_locals};
 use std::alloc::{AllocError, Global};
 use std::marker::Model;
@@ -37,20 +37,20 @@ impl Model for Cell {
     ghost view = { λ c. known_of c.kept };
 }
 
-/// What a duty asks for.
-fn kept_for(alloc: Global, asked: &Asked) -> Result<Kept, AllocError>
-    ensures { IfOk result (λ kept. known_of kept ≡ asked_for asked.now) }
+/// What a duty asks for, by its values.
+fn kept_with(values: Values, asked: &Asked) -> Kept
+    requires { all_values values ≡ values_asked asked.now }
+    ensures { known_of result ≡ asked_for asked.now }
 {
-    let values = packed(alloc, asked)?;
     let k = context_of(asked);
     if is_leaving(asked) {
-        return Ok(Kept::Leaves(SmallExit {
+        return Kept::Leaves(SmallExit {
             ie: k.ie,
             ccpn: k.ccpn,
             lower: values,
-        }));
+        });
     }
-    Ok(kept_state(values, &k))
+    kept_state(values, &k)
 }
 
 fn kept_state(values: Values, k: &Context) -> Kept
@@ -156,7 +156,21 @@ impl Cell {
         requires { IsProperKnown _b.now (asked_for asked.now) }
         ensures { IfOk result (λ c. c ≡ asked_for asked.now) }
     {
-        let kept = kept_for(alloc, asked)?;
+        let values = packed(alloc, asked)?;
+        let kept = kept_with(values, asked);
+        Ok(Cell { kept })
+    }
+
+    /// What a duty asks for of a point that has this state: as `new`, but what the state keeps is copied.
+    pub fn changed(&self, alloc: Global, _b: &Bounds, asked: &Asked) -> Result<Cell, AllocError>
+        requires { self.now ≡ state (asking asked.now) }
+        ensures { IfOk result (λ c. c ≡ asked_for asked.now) }
+    {
+        let values = match &self.kept {
+            Kept::Point(own) => packed_by(alloc, &own.regs, asked)?,
+            Kept::Leaves(_) => packed(alloc, asked)?,
+        };
+        let kept = kept_with(values, asked);
         Ok(Cell { kept })
     }
 

@@ -84,14 +84,6 @@ fn is_the_word(v: &Val, x: u32) -> bool
     }
 }
 
-/// Whether a value is seen at once to hold all words.
-#[inline(always)]
-pub(crate) fn holds_all(v: &Val) -> bool
-    ensures { IsTrue result → v.now ≡ any_val }
-{
-    is_the_range(v, 0, u32::MAX, 0)
-}
-
 /// A range that isn't all words. The call keeps the test before it a jump, where all words are most of what is tested.
 #[inline(never)]
 fn range_of(lo: u32, last: u32, step: u8) -> Form

@@ -1,11 +1,12 @@
 // Values one after another, of which only those take room of which something is known.
-ghost use Rattle.std.specs.Prelude.{◌≡◌, ◌+◌, ◌-◌, ◌^◌, ◌<◌, ◌≤◌, ◌++◌, ◌∷◌, [], IfOk, OnOk, length, replicate, take, slice_index_or};
+ghost use Rattle.std.specs.Prelude.{◌≡◌, ◌+◌, ◌-◌, ◌^◌, ◌<◌, ◌≤◌, ◌++◌, ◌∷◌, [], IfOk, OnOk, length, replicate, take, slice_index_or, slice_set};
 ghost use Rattle.value_domain.specs.Values.{any_val};
 ghost use Rattle.small_states.specs.Kept.{given_of};
-ghost use Rattle.small_states.specs.Wholes.{all_values};
+ghost use Rattle.small_states.specs.declared.sparse.SpacedValue as spaced;
+ghost use Rattle.small_states.specs.Wholes.{IsFoundIn, all_values, front};
 
 use crate::asked::Given;
-use crate::small::{Small, holds_all};
+use crate::small::Small;
 use std::alloc::{AllocError, Global};
 use value_domain::{Val, write_any};
 
@@ -90,20 +91,6 @@ impl Values {
         self.add_small(value)
     }
 
-    /// Adds a value.
-    #[inline(always)]
-    fn add_value(&mut self, alloc: Global, v: &Val) -> Result<(), AllocError>
-        requires { length (all_values self.old) + 1 < 2 ^ 32 }
-        ensures { OnOk result (all_values self.new ≡ all_values self.old ++ v.now ∷ []) }
-    {
-        if holds_all(v) {
-            self.rest += 1;
-            return Ok(());
-        }
-        let value = Small::of(alloc, v)?;
-        self.add_known(value)
-    }
-
     /// Adds a value as it is at hand.
     #[inline(always)]
     pub(crate) fn add(&mut self, alloc: Global, v: &Given) -> Result<(), AllocError>
@@ -114,15 +101,21 @@ impl Values {
         self.add_small(value)
     }
 
-    /// Adds values.
-    pub(crate) fn add_all(&mut self, alloc: Global, values: &[Val]) -> Result<(), AllocError>
-        requires { length (all_values self.old) + length values.now < 2 ^ 32 }
-        ensures { OnOk result (all_values self.new ≡ all_values self.old ++ values.now) }
+    /// Where a place lies: behind how many known values, and behind how many others of which nothing is known before the next.
+    #[inline(always)]
+    fn find(&self, i: usize) -> (usize, usize)
+        ensures { IsFoundIn self.now i result.0 result.1 }
     {
-        for i in 0..values.len() {
-            self.add_value(alloc, &values[i])?;
+        let known = self.known.as_slice();
+        let mut left = i;
+        for n in 0..known.len() {
+            let anys = known[n].anys as usize;
+            if left <= anys {
+                return (n, left);
+            }
+            left = left - anys - 1;
         }
-        Ok(())
+        (known.len(), left)
     }
 
     /// The value at a place; `any` stands for each of which nothing is known.
@@ -130,21 +123,73 @@ impl Values {
         requires { any.now ≡ any_val }
         ensures { given_of result ≡ slice_index_or (all_values self.now) i any_val }
     {
-        let known = self.known.as_slice();
-        let mut left = i;
-        for n in 0..known.len() {
-            let here = &known[n];
-            let anys = here.anys as usize;
-            if left < anys {
-                return Given::Whole(any);
-            }
-            let further = left - anys;
-            if further == 0 {
+        let (n, anys) = self.find(i);
+        if n < self.known.len() {
+            let here = &self.known[n];
+            if here.anys as usize == anys {
                 return Given::Packed(&here.value);
             }
-            left = further - 1;
         }
         Given::Whole(any)
+    }
+
+    /// Puts a value behind the last known one and so many others, if there is a place; nothing changes where it holds all words.
+    fn put_behind(&mut self, anys: usize, value: Small) -> Result<(), AllocError>
+        ensures { OnOk result
+            (all_values self.new
+            ≡ slice_set (all_values self.old) (length (front self.old.known.items) + anys) value) }
+    {
+        let rest = self.rest as usize;
+        if rest <= anys || value.is_any() {
+            return Ok(());
+        }
+        self.rest = (rest - anys - 1) as u32;
+        self.known.push(SpacedValue {
+            anys: anys as u32,
+            value,
+        })?;
+        Ok(())
+    }
+
+    /// Puts a value behind so many known ones and so many others: over the next known one, or before it.
+    fn put_before(&mut self, n: usize, anys: usize, value: Small) -> Result<(), AllocError>
+        requires within { n < length self.old.known.items }
+        requires before { (d : spaced.SpacedValue)
+            → anys ≤ (slice_index_or self.old.known.items n d).anys }
+        ensures { OnOk result
+            (all_values self.new
+            ≡ slice_set (all_values self.old)
+            (length (front (take n self.old.known.items)) + anys) value) }
+    {
+        let past = self.known[n].anys as usize - anys;
+        if past == 0 {
+            self.known[n].value = value;
+            return Ok(());
+        }
+        if value.is_any() {
+            return Ok(());
+        }
+        self.known[n].anys = (past - 1) as u32;
+        self.known.insert(
+            n,
+            SpacedValue {
+                anys: anys as u32,
+                value,
+            },
+        )?;
+        Ok(())
+    }
+
+    /// Puts a value at a place, if there is one.
+    pub(crate) fn put(&mut self, i: usize, value: Small) -> Result<(), AllocError>
+        ensures { OnOk result
+            (all_values self.new ≡ slice_set (all_values self.old) i value) }
+    {
+        let (n, anys) = self.find(i);
+        if n < self.known.len() {
+            return self.put_before(n, anys, value);
+        }
+        self.put_behind(anys, value)
     }
 
     /// Writes the values of a state over others.
@@ -164,11 +209,11 @@ impl Values {
         write_anys(out, at, 27);
     }
 
-    /// A copy.
+    /// A copy, with room for one known value more.
     pub(crate) fn copy(&self, alloc: Global) -> Result<Values, AllocError>
         ensures { IfOk result (λ copy. all_values copy ≡ all_values self.now) }
     {
-        let mut known = Vec::with_capacity(alloc, self.known.len())?;
+        let mut known = Vec::with_capacity(alloc, self.known.len() + 1)?;
         for spaced in self.known.as_slice() {
             let anys = spaced.anys;
             let value = spaced.value.copy(alloc)?;

@@ -1,10 +1,8 @@
 // Lists of values in little room: made from what duties ask for, compared with it, joined with it.
-ghost use Rattle.std.specs.Prelude.{◌≡◌, ◌+◌, ◌^◌, ◌<◌, ◌↔◌, ◌++◌, IsTrue, IfOk, IfSome, OnOk, List, length};
-ghost use Rattle.value_domain.specs.declared.values.Val.{Val};
+ghost use Rattle.std.specs.Prelude.{◌≡◌, ◌↔◌, IsTrue, IfOk, OnOk, length};
 ghost use Rattle.value_domain.specs.State.{AreBelow, AreValues, AreWell, joined_regs};
 ghost use Rattle.vd_transfer.specs.Changes.{put_in, state_after};
-ghost use Rattle.vd_transfer.specs.declared.change.Base.TheVariants.{Same};
-ghost use Rattle.small_states.specs.Kept.{values_asked};
+ghost use Rattle.small_states.specs.Kept.{asking, values_asked};
 ghost use Rattle.small_states.specs.Wholes.{all_values};
 
 use crate::Small;
@@ -14,46 +12,9 @@ use std::alloc::{AllocError, Global};
 use value_domain::{Bounds, State, Val};
 use vd_transfer::{Base, Change, Put};
 
-/// The value that a change puts, if it puts no other.
-#[inline(always)]
-fn only_put(c: &Change) -> Option<&Put>
-    ensures { IfSome result (λ put. (vs : List Val)
-        → put_in (put_in (put_in vs c.now.first) c.now.second) c.now.third ≡ put_in vs put.now) }
-{
-    if c.first.at.is_some() {
-        return None;
-    }
-    if c.second.at.is_none() {
-        return Some(&c.third);
-    }
-    if c.third.at.is_none() {
-        return Some(&c.second);
-    }
-    None
-}
-
-/// Adds values of which one is put at its place, if it has one.
-#[inline(always)]
-fn add_put(alloc: Global, values: &mut Values, regs: &[Val], put: &Put) -> Result<(), AllocError>
-    requires { length (all_values values.old) + length regs.now < 2 ^ 32 }
-    ensures { OnOk result
-        (all_values values.new ≡ all_values values.old ++ put_in regs.now put.now) }
-{
-    let Some(at) = put.at else {
-        return values.add_all(alloc, regs);
-    };
-    if regs.len() <= at {
-        return values.add_all(alloc, regs);
-    }
-    values.add_all(alloc, &regs[..at])?;
-    let value = Small::of(alloc, &put.value)?;
-    values.add_small(value)?;
-    values.add_all(alloc, &regs[at + 1..])
-}
-
 /// The values that are asked for, place by place; by itself, as it has room for a whole value.
 #[inline(never)]
-fn packed_each(alloc: Global, asked: &Asked) -> Result<Values, AllocError>
+pub(crate) fn packed(alloc: Global, asked: &Asked) -> Result<Values, AllocError>
     ensures { IfOk result (λ values. all_values values ≡ values_asked asked.now) }
 {
     let any = Val::any();
@@ -65,36 +26,50 @@ fn packed_each(alloc: Global, asked: &Asked) -> Result<Values, AllocError>
     Ok(values)
 }
 
-/// The values of a state into which a change puts some.
-fn packed_same(alloc: Global, s: &State, c: &Change) -> Result<Values, AllocError>
-    requires { c.now.base ≡ Same }
-    ensures { IfOk result (λ values. all_values values ≡ (state_after s.now c.now).regs) }
+/// Puts what a change puts over values, if it puts something.
+#[inline(always)]
+fn put_over(alloc: Global, values: &mut Values, put: &Put) -> Result<(), AllocError>
+    ensures { OnOk result (all_values values.new ≡ put_in (all_values values.old) put.now) }
 {
-    let Some(put) = only_put(c) else {
-        return packed_each(alloc, &Asked::Changed(s, c));
+    let Some(at) = put.at else {
+        return Ok(());
     };
-    let mut values = Values::with_room(alloc, 0)?;
-    add_put(alloc, &mut values, &s.regs[..], put)?;
+    let value = Small::of(alloc, &put.value)?;
+    values.put(at, value)
+}
+
+/// These values, and over them what a change puts.
+fn packed_over(alloc: Global, own: &Values, c: &Change) -> Result<Values, AllocError>
+    ensures { IfOk result
+        (λ values. all_values values
+        ≡ put_in (put_in (put_in (all_values own.now) c.now.first) c.now.second) c.now.third) }
+{
+    let mut values = own.copy(alloc)?;
+    put_over(alloc, &mut values, &c.first)?;
+    put_over(alloc, &mut values, &c.second)?;
+    put_over(alloc, &mut values, &c.third)?;
     Ok(values)
 }
 
-/// The values of a changed state.
-fn packed_change(alloc: Global, s: &State, c: &Change) -> Result<Values, AllocError>
+/// The values of a changed state, which has these.
+fn packed_change(alloc: Global, own: &Values, s: &State, c: &Change) -> Result<Values, AllocError>
+    requires { all_values own.now ≡ s.now.regs }
     ensures { IfOk result (λ values. all_values values ≡ (state_after s.now c.now).regs) }
 {
     match c.base {
-        Base::Same => packed_same(alloc, s, c),
-        _ => packed_each(alloc, &Asked::Changed(s, c)),
+        Base::Same => packed_over(alloc, own, c),
+        _ => packed(alloc, &Asked::Changed(s, c)),
     }
 }
 
-/// The values that are asked for.
-pub(crate) fn packed(alloc: Global, asked: &Asked) -> Result<Values, AllocError>
+/// The values that are asked for by a point whose state has these.
+pub(crate) fn packed_by(alloc: Global, own: &Values, asked: &Asked) -> Result<Values, AllocError>
+    requires { all_values own.now ≡ (asking asked.now).regs }
     ensures { IfOk result (λ values. all_values values ≡ values_asked asked.now) }
 {
     match asked {
-        Asked::Changed(s, c) => packed_change(alloc, s, c),
-        _ => packed_each(alloc, asked),
+        Asked::Changed(s, c) => packed_change(alloc, own, s, c),
+        _ => packed(alloc, asked),
     }
 }
 

@@ -4,7 +4,8 @@ use Rattle.std.proofs.lemmas.Result.{on_ok_weaker}
 use Rattle.std.specs.List.{flat_map}
 use Rattle.depth_cert.specs.Spelling.{bytes_of_value}
 use Rattle.small_states.specs.declared.sparse.SpacedValue.{SpacedValue}
-use Rattle.small_states.proofs.SparseLemmas.{front, known_well, spelled_all, spelled_more}
+use Rattle.small_states.specs.Wholes.{front}
+use Rattle.small_states.proofs.SparseLemmas.{known_well, spelled_all, spelled_more}
 use Rattle.small_states.proofs.spelling.put_values.Goals as goal
 
 pub spell-requires : goal.spell-requires

@@ -3,7 +3,8 @@ use Rattle.std.proofs.lemmas.List.{take_all}
 use Rattle.value_domain.specs.Values.{IsWell}
 use Rattle.small_states.specs.Kept.{values_asked}
 use Rattle.small_states.specs.declared.sparse.SpacedValue.{SpacedValue}
-use Rattle.small_states.proofs.SparseLemmas.{covered_all, covered_here, covered_more, front, length-front, place_there, place_within}
+use Rattle.small_states.specs.Wholes.{front}
+use Rattle.small_states.proofs.SparseLemmas.{covered_all, covered_here, covered_more, length-front, place_there, place_within}
 use Rattle.small_states.proofs.values.are_covered.Goals as goal
 
 pub overflow_add-place : goal.overflow_add-place

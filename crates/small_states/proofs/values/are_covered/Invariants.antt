@@ -1,8 +1,7 @@
 use Rattle.std.proofs.Common.{◌≡◌, ℕ, ◌<◌, get_or, length, take}
 use Rattle.value_domain.specs.Values.{IsBelow, any_val}
 use Rattle.small_states.specs.Kept.{values_asked}
-use Rattle.small_states.specs.Wholes.{all_values}
-use Rattle.small_states.proofs.SparseLemmas.{front}
+use Rattle.small_states.specs.Wholes.{all_values, front}
 use Rattle.small_states.proofs.values.are_covered.Given as goal
 
 abbrev pub invariant-loop-n : goal.invariant-loop-n

@@ -4,9 +4,9 @@ use Rattle.value_domain.specs.declared.values.Val.{Val}
 use Rattle.value_domain.specs.State.{join_of, joined_regs}
 use Rattle.value_domain.specs.Values.{IsValue, any_val}
 use Rattle.small_states.specs.Kept.{values_asked}
-use Rattle.small_states.specs.Wholes.{all_values}
+use Rattle.small_states.specs.Wholes.{all_values, front}
 use Rattle.small_states.specs.declared.sparse.SpacedValue.{SpacedValue}
-use Rattle.small_states.proofs.SparseLemmas.{all_few, front, is_within, joined_few, joined_more, joined_rest, known_place, length-front}
+use Rattle.small_states.proofs.SparseLemmas.{all_few, is_within, joined_few, joined_more, joined_rest, known_place, length-front}
 use Rattle.small_states.proofs.values.joined.Goals as goal
 
 pub overflow_add-place : goal.overflow_add-place

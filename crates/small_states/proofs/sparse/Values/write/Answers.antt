@@ -4,7 +4,8 @@ use Rattle.std.proofs.Math.ListN.{length-set}
 use Rattle.value_domain.specs.declared.values.Val.{Val}
 use Rattle.value_domain.specs.Values.{any_val}
 use Rattle.small_states.specs.declared.sparse.SpacedValue.{SpacedValue}
-use Rattle.small_states.proofs.SparseLemmas.{all_few, front, is_within, length-front, written_more}
+use Rattle.small_states.specs.Wholes.{front}
+use Rattle.small_states.proofs.SparseLemmas.{all_few, is_within, length-front, written_more}
 use Rattle.small_states.proofs.sparse.Values.write.Goals as goal
 
 pub write_anys-requires-clause-within : goal.write_anys-requires-clause-within

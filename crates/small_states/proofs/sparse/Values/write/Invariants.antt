@@ -1,5 +1,5 @@
 use Rattle.std.proofs.Common.{◌≡◌, take, length}
-use Rattle.small_states.proofs.SparseLemmas.{front}
+use Rattle.small_states.specs.Wholes.{front}
 use Rattle.small_states.proofs.sparse.Values.write.Given as goal
 
 abbrev pub invariant-loop-n : goal.invariant-loop-n

@@ -3,7 +3,7 @@ use Rattle.std.proofs.lemmas.List.{length-take-le, take_all, take_more}
 use Rattle.value_domain.specs.declared.values.Val.{Val}
 use Rattle.value_domain.specs.Values.{any_val}
 use Rattle.small_states.specs.Kept.{given_of, values_asked}
-use Rattle.small_states.proofs.values.packed_each.Goals as goal
+use Rattle.small_states.proofs.values.packed.Goals as goal
 
 pub add-requires : goal.add-requires
 add-requires c =

@@ -3,15 +3,15 @@ use Rattle.value_domain.specs.declared.values.Val.{Val}
 use Rattle.depth_cert.specs.Known.{state, leaving}
 use Rattle.small_states.specs.Kept.{exit_with, state_with}
 use Rattle.small_states.proofs.AskedLemmas.{asked_exit, asked_state}
-use Rattle.small_states.proofs.cells.kept_for.Goals as goal
+use Rattle.small_states.proofs.cells.kept_with.Goals as goal
 
 pub returns-then-is_leaving : goal.returns-then-is_leaving
 returns-then-is_leaving c =
-    ap (λ (vs : List Val). leaving (exit_with vs c.context_of-k.result)) c.in_ok-values.ensures
+    ap (λ (vs : List Val). leaving (exit_with vs c.context_of-k.result)) c.requires
     ∙ sym (asked_exit c.args.asked.now c.context_of-k.result c.is_leaving.result c.is_leaving.ensures c.context_of-k.ensures c.if-is_leaving.true)
 
 pub returns : goal.returns
 returns c =
     c.kept_state.ensures
-    ∙ ap (λ (vs : List Val). state (state_with vs c.context_of-k.result)) c.in_ok-values.ensures
+    ∙ ap (λ (vs : List Val). state (state_with vs c.context_of-k.result)) c.requires
     ∙ sym (asked_state c.args.asked.now c.context_of-k.result c.is_leaving.result c.is_leaving.ensures c.context_of-k.ensures c.if-is_leaving.false)
