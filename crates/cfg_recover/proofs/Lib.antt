@@ -19,3 +19,4 @@ pub mod FlowTargets
 pub mod LocalLaws
 pub mod RomTests
 pub mod EntryChanges
+pub mod StepChanges

@@ -21,7 +21,7 @@ use Rattle.store_ranges.specs.Stores.{AreAligned}
 use Rattle.depth_cert.specs.declared.keys.Key.{Key}
 use Rattle.cfg_recover.specs.Code.{IsCode}
 use Rattle.cfg_recover.specs.Local.{are_aligned, KnowsTargets, MayReturn, MayReturnFromException, StoresInRange, MayAccess, MayCallSystem, LocalRule, LocalHolds, IsLocalFault}
-use Rattle.cfg_recover.specs.LocalFaults.{IsLeastBroken, FindsFaultless, StoresInRangeAt, MayAccessAt}
+use Rattle.cfg_recover.specs.LocalFaults.{IsLeastBroken, IsAccessFault, FindsFaultless, StoresInRangeAt, MayAccessAt}
 use Rattle.cfg_recover.proofs.CodeLaws.{IsCode-one}
 
 -- ---- alignment
@@ -90,6 +90,19 @@ broken b plan key p s shape r fails targets returns exceptions room stores acces
     writes = λ e. writes (omega arith);
   },
 )
+
+-- rule 9 or 10 fails, and each lower rule holds
+pub access_broken : (b : Limits) (plan : PlanData) (key : Key) (p : ℕ) (s : State) (shape : Shape) (r : ℕ) → IsAccessFault b plan s shape (Some r) →
+    KnowsTargets plan s p shape → MayReturn key s shape → MayReturnFromException key s shape → HasRoom b shape s → IsLeastBroken b plan key p s shape (Some r)
+access_broken b plan key p s shape r fault targets returns exceptions room =
+    elim fault [
+      | inl nine ↦ subst (λ (n : ℕ). IsLeastBroken b plan key p s shape (Some n)) (sym nine.0)
+          (broken b plan key p s shape 9 (λ rule. nine.1 (rule.stores refl)) (λ lt. targets) (λ lt. returns) (λ lt. exceptions) (λ lt. room)
+          (λ lt. absurd (omega arith)) (λ lt. absurd (omega arith)) (λ lt. absurd (omega arith)) (λ lt. absurd (omega arith)))
+      | inr ten ↦ subst (λ (n : ℕ). IsLeastBroken b plan key p s shape (Some n)) (sym ten.0)
+          (broken b plan key p s shape 10 (λ rule. ten.2 (rule.accesses refl)) (λ lt. targets) (λ lt. returns) (λ lt. exceptions) (λ lt. room)
+          (λ lt. ten.1) (λ lt. absurd (omega arith)) (λ lt. absurd (omega arith)) (λ lt. absurd (omega arith)))
+    ]
 
 -- ---- at an address
 -- what holds for the shape found there holds

@@ -1,16 +1,14 @@
 -- What the entries of frames change of the state of the point that enters them, and what stands at a point without a fault.
-use Rattle.std.specs.Prelude.{◌≡◌, ℕ, false, true, []}
+use Rattle.std.specs.Prelude.{ℕ, false, true, []}
 use Rattle.elf_image.specs.Images.{ImageData}
 use Rattle.tcd_plan.specs.PlanData.{PlanData}
 use Rattle.tc_isa.specs.Bounded.{IsShape}
 use Rattle.value_domain.specs.declared.values.Val.{Val}
 use Rattle.value_domain.specs.declared.states.State.{State}
 use Rattle.value_domain.specs.Limits.{Limits}
-use Rattle.value_domain.specs.Values.{IsValue}
 use Rattle.vd_transfer.specs.declared.change.Base.TheVariants.{Any}
 use Rattle.vd_transfer.specs.declared.change.Change.{Change}
 use Rattle.vd_transfer.specs.Registers.{word_val}
-use Rattle.vd_transfer.specs.Effects.{address_of}
 use Rattle.vd_transfer.specs.Changes.{kept_of, no_put, reg_put}
 use Rattle.depth_cert.specs.declared.keys.Key.{Key}
 use Rattle.cfg_recover.specs.declared.local.Located.{Located}
@@ -42,10 +40,8 @@ handler_change sp ccpn = record {
 abbrev pub misaligned_change : Val → ℕ → Change
 misaligned_change sp ccpn = record (handler_change sp ccpn) { second = reg_put 15 (word_val 4) }
 
--- an instruction of this shape, size and address of its access is at p, and no rule's own part fails there
+-- an instruction of this shape and size is at p, and no rule's own part fails there
 pub record StandsFaultless (b : Limits) (image : ImageData) (plan : PlanData) (key : Key) (p : ℕ) (s : State) (found : Located) : Type 0 where
   pub faultless : IsFaultless b image plan key p s
   pub code : IsCode image plan p found.shape found.size
   pub shape : IsShape found.shape
-  pub access : found.at ≡ address_of b plan found.shape s
-  pub value : IsValue b found.at

@@ -12,7 +12,7 @@ use Rattle.value_domain.specs.Limits.{Limits}
 use Rattle.store_ranges.specs.Stores.{AreStoresInRange}
 use Rattle.depth_cert.specs.declared.keys.Key.{Key}
 use Rattle.cfg_recover.specs.Code.{IsCode}
-use Rattle.cfg_recover.specs.Local.{are_aligned, LocalRule, IsFaultless}
+use Rattle.cfg_recover.specs.Local.{are_aligned, StoresInRange, MayAccess, LocalRule, IsFaultless}
 
 -- the own part of this rule fails for the shape, and that of each lower one holds; all hold where there is none
 abbrev pub IsLeastBroken : Limits → PlanData → Key → ℕ → State → Shape → Option ℕ → Type 0
@@ -24,7 +24,14 @@ pub record FindsFaultless (b : Limits) (image : ImageData) (plan : PlanData) (ke
   pub faultless : IsFaultless b image plan key p s
   pub code : IsCode image plan p (shape_of found.0) found.1
 
--- ---- rules 9 and 10, where the address of the access is one of these
+-- ---- rules 9 and 10
+-- the lesser of them that an instruction of this shape breaks; both hold where there is none
+abbrev pub IsAccessFault : Limits → PlanData → State → Shape → Option ℕ → Type 0
+IsAccessFault b plan s shape (Some r) =
+    ((r ≡ 9) × (StoresInRange b plan s shape → ⊥)) ⊎ ((r ≡ 10) × StoresInRange b plan s shape × (MayAccess b plan s shape → ⊥))
+IsAccessFault b plan s shape None = StoresInRange b plan s shape × MayAccess b plan s shape
+
+-- ---- the same, where the address of the access is one of these
 -- rule 9: each possible store lies wholly in one ram range or one device range
 abbrev pub StoresInRangeAt : PlanData → Val → Shape → Type 0
 StoresInRangeAt plan at (Store src base offset size after) = AreStoresInRange plan at size

@@ -11,7 +11,7 @@ use crate::flow_after::copy_of;
 use tc_isa::{Inst, shape};
 use tcd_plan::Plan;
 use value_domain::{Bounds, State, Val};
-use vd_transfer::{Change, address_by, change_of, change_on, changed_value};
+use vd_transfer::{Change, address_by, change_of, change_on, changed_value, unchanged};
 
 /// The addresses of a load or a store.
 pub fn address(b: &Bounds, plan: &Plan, inst: &Inst, s: &State) -> Val
@@ -28,9 +28,11 @@ pub fn refine(b: &Bounds, plan: &Plan, inst: &Inst, s: &State, side: bool) -> Op
     ensures refine { result ≡ refine_of b.now plan.now (shape_of inst.now) s.now side }
     ensures values { IfSome result (λ t. AreValues b.now t.regs) }
 {
-    match change_on(b, plan, shape(inst), s, side) {
-        Some(c) => Some(changed_state(s, &c)),
-        None => None,
+    let mut c = unchanged(s);
+    if change_on(b, plan, shape(inst), s, side, &mut c) {
+        Some(changed_state(s, &c))
+    } else {
+        None
     }
 }
 
@@ -43,7 +45,10 @@ pub fn transfer(b: &Bounds, plan: &Plan, inst: &Inst, s: &State, loaded: &Val) -
     ensures transfer { result ≡ transfer_of b.now plan.now (shape_of inst.now) s.now loaded.now }
     ensures values { AreValues b.now result.regs }
 {
-    changed_state(s, &change_of(b, plan, shape(inst), s, loaded.copy()))
+    let mut c = unchanged(s);
+    c.third.value = loaded.copy();
+    change_of(b, plan, shape(inst), s, &mut c);
+    changed_state(s, &c)
 }
 
 fn changed_regs(s: &State, c: &Change) -> [Val; 27]

@@ -1,5 +1,5 @@
 // The state in which a frame goes on after one that it entered came back.
-ghost use Rattle.std.specs.Prelude.{◌≡◌, ◌==◌, ◌-◌, ◌<◌, ◌↔◌, ℕ, nat_lt, if◌then◌else◌, slice_index_or, IsTrue};
+ghost use Rattle.std.specs.Prelude.{◌≡◌, ◌==◌, ◌-◌, ◌<◌, ◌↔◌, nat_lt, if◌then◌else◌, slice_index_or, IsTrue};
 ghost use Rattle.value_domain.specs.Values.{any_val};
 ghost use Rattle.value_domain.specs.State.{AreWell, AreBelow, Covers};
 ghost use Rattle.value_domain.specs.State as states;

@@ -3,23 +3,25 @@ ghost use Rattle.std.specs.Prelude.{◌≡◌, All, Some};
 ghost use Rattle.tc_isa.specs.Bounded.{IsShape};
 ghost use Rattle.tc_isa.specs.Shapes.{shape_of};
 ghost use Rattle.value_domain.specs.declared.states.State.{State};
-ghost use Rattle.value_domain.specs.Values.{IsValue, any_val};
+ghost use Rattle.value_domain.specs.Values.{IsValue};
 ghost use Rattle.value_domain.specs.State.{AreValues};
-ghost use Rattle.vd_transfer.specs.Effects.{HasRoom, address_of};
+ghost use Rattle.vd_transfer.specs.Changes.{state_after};
+ghost use Rattle.vd_transfer.specs.Effects.{HasRoom, address_of, transfer_of};
 ghost use Rattle.vd_transfer.specs.Branches.{refine_of};
 ghost use Rattle.cfg_recover.specs.Duties.{jump_on, loaded_at, next_of, successors_of};
 ghost use Rattle.cfg_recover.specs.FlowValues.{JumpsWithValues};
 ghost use Rattle.cfg_recover.specs.Flows.{told_jump, told_jumps};
 
 use crate::Jump;
-use crate::built_states::{address, refine, transfer};
+use crate::built_states::{changed_state, refine};
 use crate::flow_targets::{one, targets};
 use crate::inst_at::InstAt;
 use elf_image::Image;
 use store_ranges::load_of;
 use tc_isa::{Inst, Shape, shape};
 use tcd_plan::Plan;
-use value_domain::{Bounds, State, Val};
+use value_domain::{Bounds, State, Val, write_any};
+use vd_transfer::{Change, change_of, unchanged, write_address};
 
 /// Where the instruction may go on in its frame, without what follows a call or a system call.
 pub(crate) fn successors(
@@ -78,45 +80,49 @@ fn step(b: &Bounds, image: &Image, plan: &Plan, s: &State, at: InstAt<'_>) -> Ju
         ≡ next_of b.now image.now plan.now at.entry.addr s.now
         (shape_of at.entry.inst.now) at.entry.size }
 {
-    let value = loaded(b, image, plan, s, at.inst);
+    let mut c = unchanged(s);
+    step_change(b, image, plan, shape(at.inst), s, &mut c);
     Jump {
         targets: one(at.addr.wrapping_add(at.size)),
-        state: transfer(b, plan, at.inst, s, &value),
+        state: changed_state(s, &c),
     }
 }
 
-/// What the instruction loads.
-fn loaded(b: &Bounds, image: &Image, plan: &Plan, s: &State, inst: &Inst) -> Val
-    requires { AreValues b.now s.now.regs }
-    ensures loaded { result ≡ loaded_at b.now image.now plan.now s.now (shape_of inst.now) }
-    ensures value { IsValue b.now result }
-{
-    match shape(inst) {
-        Shape::Load { size, signed, .. } => {
-            load_of(b, image, plan, &address(b, plan, inst, s), size, signed)
-        }
-        _ => any(b),
-    }
-}
-
-/// What an instruction of this shape loads from these addresses.
-pub fn loaded_from(b: &Bounds, image: &Image, plan: &Plan, shape: Shape, at: &Val) -> Val
+/// Writes what an instruction of this shape loads from these addresses over a value; by itself, so that steps without a load
+/// have no room of a value to fill.
+#[inline(never)]
+fn write_loaded(b: &Bounds, image: &Image, plan: &Plan, shape: Shape, at: &Val, out: &mut Val)
     requires shape { IsShape shape }
     requires value { IsValue b.now at.now }
     ensures loaded { (s : State) → at.now ≡ address_of b.now plan.now shape s
-        → result ≡ loaded_at b.now image.now plan.now s shape }
-    ensures value { IsValue b.now result }
+        → out.new ≡ loaded_at b.now image.now plan.now s shape }
+    ensures value { IsValue b.now out.new }
 {
+    let _most_words = b.most_words();
     match shape {
-        Shape::Load { size, signed, .. } => load_of(b, image, plan, at, size, signed),
-        _ => any(b),
+        Shape::Load { size, signed, .. } => *out = load_of(b, image, plan, at, size, signed),
+        _ => write_any(out),
     }
 }
 
-fn any(b: &Bounds) -> Val
-    ensures any { result ≡ any_val }
-    ensures value { IsValue b.now result }
+/// What the step over an instruction of this shape makes of the state, where it stays in its frame and isn't a branch or a
+/// jump, written into `c`, whatever that was. There is room where it saves a lower context, and one to restore where it
+/// restores one.
+pub fn step_change(b: &Bounds, image: &Image, plan: &Plan, shape: Shape, s: &State, c: &mut Change)
+    requires shape { IsShape shape }
+    requires values { AreValues b.now s.now.regs }
+    requires room { HasRoom b.now shape s.now }
+    ensures change { state_after s.now c.new
+        ≡ transfer_of b.now plan.now shape s.now
+        (loaded_at b.now image.now plan.now s.now shape) }
+    ensures values { AreValues b.now (state_after s.now c.new).regs }
 {
-    let _most_words = b.most_words();
-    Val::any()
+    match shape {
+        Shape::Load { .. } => {
+            write_address(b, plan, shape, s, &mut c.second.value);
+            write_loaded(b, image, plan, shape, &c.second.value, &mut c.third.value);
+            change_of(b, plan, shape, s, c);
+        }
+        _ => change_of(b, plan, shape, s, c),
+    }
 }

@@ -2,6 +2,7 @@
 ghost use Rattle.std.specs.Prelude.{◌≡◌, ◌<◌, ◌≤◌, ◌-◌, ◌*◌, ◌/◌, ◌↔◌, [], ◌∷◌, ℕ, IsTrue, Some, length, map, slice_get, unwrap_or};
 ghost use Rattle.tc_isa.specs.Bounded.{IsTarget};
 ghost use Rattle.value_domain.specs.Sets.{Among, AreWords, Rising, distinct, sorted_insert};
+ghost use Rattle.vd_transfer.specs.Registers.{reg_of};
 ghost use Rattle.cfg_recover.specs.Local.{named_by, targets_of};
 
 use arrayvec::ArrayVec;
@@ -18,8 +19,17 @@ pub fn targets(plan: &Plan, s: &State, addr: u32, to: Target) -> ArrayVec<u32, 1
     match to {
         Target::Rel(by) => one(addr.wrapping_add(by)),
         Target::Abs(x) => one(x),
-        Target::Reg(r) => named(&reg(plan, s, r)),
+        Target::Reg(r) => named_in(plan, s, r),
     }
+}
+
+/// The addresses that a register names; by itself, so that where none is read there is no value to fill.
+#[inline(never)]
+fn named_in(plan: &Plan, s: &State, r: u8) -> ArrayVec<u32, 128>
+    requires { r < 32 }
+    ensures { result.items ≡ unwrap_or (named_by (reg_of plan.now s.now r)) [] }
+{
+    named(&reg(plan, s, r))
 }
 
 /// One address.

@@ -25,7 +25,7 @@ pub use flow_after::{after, covers_after};
 pub use flow_entries::is_aligned;
 pub use flow_interrupts::interrupts;
 pub use flow_point::flow;
-pub use flow_successors::loaded_from;
+pub use flow_successors::step_change;
 pub use flow_targets::targets;
 pub use flows::{Enter, Flow, Jump, Leave};
 pub use keys::{aln_key, entered_key, irq_key, start_key, sys_key};

@@ -1,13 +1,11 @@
 // The first rule whose own part fails at a point.
-ghost use Rattle.std.specs.Prelude.{◌≡◌, ℕ, IfErr, IfOk, MatchResult};
+ghost use Rattle.std.specs.Prelude.{ℕ, IfErr, IfOk, MatchResult};
 ghost use Rattle.tc_isa.specs.Bounded.{IsShape};
 ghost use Rattle.tc_isa.specs.Shapes.{shape_of};
-ghost use Rattle.value_domain.specs.Values.{IsWell};
 ghost use Rattle.value_domain.specs.State.{AreValues};
-ghost use Rattle.vd_transfer.specs.Effects.{address_of};
 ghost use Rattle.cfg_recover.specs.Local.{IsLocalFault};
 ghost use Rattle.cfg_recover.specs.Changes.{StandsFaultless};
-ghost use Rattle.cfg_recover.specs.LocalFaults.{IsLeastBroken, FindsFaultless};
+ghost use Rattle.cfg_recover.specs.LocalFaults.{IsLeastBroken, IsAccessFault, FindsFaultless};
 
 use crate::code::code_at;
 use crate::local_rules::{
@@ -18,15 +16,14 @@ use depth_cert::Key;
 use elf_image::Image;
 use tc_isa::{Inst, Shape, shape};
 use tcd_plan::Plan;
-use value_domain::{Bounds, State, Val};
+use value_domain::{Bounds, State};
 use vd_transfer::address_by;
 
-/// What stands at a point: the shape of its instruction, that one's size in bytes, and the addresses of its access.
-#[derive(Drop)]
+/// What stands at a point: the shape of its instruction, and that one's size in bytes.
+#[derive(Clone, Copy)]
 pub struct Located {
     pub shape: Shape,
     pub size: u32,
-    pub at: Val,
 }
 
 /// What stands at a point, where no rule's own part fails there; else the least that fails.
@@ -46,13 +43,11 @@ pub fn local_check(
         return Err(3);
     };
     let shape = shape(&found.0);
-    let at = address_by(b, plan, shape, s);
-    match first_fault(b, plan, key, s, shape, &at) {
+    match first_fault(b, plan, key, s, shape) {
         Some(rule) => Err(rule),
         None => Ok(Located {
             shape,
             size: found.1,
-            at,
         }),
     }
 }
@@ -85,16 +80,44 @@ pub(crate) fn local_fault(b: &Bounds, plan: &Plan, key: &Key, s: &State, inst: &
     requires { AreValues b.now s.now.regs }
     ensures { (p : ℕ) → IsLeastBroken b.now plan.now key.now p s.now (shape_of inst.now) result }
 {
-    let shape = shape(inst);
-    let at = address_by(b, plan, shape, s);
-    first_fault(b, plan, key, s, shape, &at)
+    first_fault(b, plan, key, s, shape(inst))
 }
 
-/// Tries the rules in their order, for an instruction of this shape whose access is at these addresses.
-fn first_fault(b: &Bounds, plan: &Plan, key: &Key, s: &State, shape: Shape, at: &Val) -> Option<u8>
+/// Tries rules 9 and 10 in this order, for an access. The address is worked out here, so that where there is no access no
+/// value is made.
+#[inline(never)]
+fn broken_by_access(b: &Bounds, plan: &Plan, s: &State, shape: Shape) -> Option<u8>
     requires shape { IsShape shape }
-    requires address { at.now ≡ address_of b.now plan.now shape s.now }
-    requires well { IsWell at.now }
+    requires values { AreValues b.now s.now.regs }
+    ensures { IsAccessFault b.now plan.now s.now shape result }
+{
+    let at = address_by(b, plan, shape, s);
+    if !stores_in_range(plan, &at, shape) {
+        return Some(9);
+    }
+    if !may_access(plan, &at, shape) {
+        return Some(10);
+    }
+    None
+}
+
+/// The same for any shape.
+fn access_fault(b: &Bounds, plan: &Plan, s: &State, shape: Shape) -> Option<u8>
+    requires shape { IsShape shape }
+    requires values { AreValues b.now s.now.regs }
+    ensures { IsAccessFault b.now plan.now s.now shape result }
+{
+    match shape {
+        Shape::Load { .. } => broken_by_access(b, plan, s, shape),
+        Shape::Store { .. } => broken_by_access(b, plan, s, shape),
+        _ => None,
+    }
+}
+
+/// Tries the rules in their order, for an instruction of this shape.
+fn first_fault(b: &Bounds, plan: &Plan, key: &Key, s: &State, shape: Shape) -> Option<u8>
+    requires shape { IsShape shape }
+    requires values { AreValues b.now s.now.regs }
     ensures { (p : ℕ) → IsLeastBroken b.now plan.now key.now p s.now shape result }
 {
     if !knows_targets(plan, s, shape) {
@@ -109,11 +132,8 @@ fn first_fault(b: &Bounds, plan: &Plan, key: &Key, s: &State, shape: Shape, at: 
     if !has_room(b, s, shape) {
         return Some(8);
     }
-    if !stores_in_range(plan, at, shape) {
-        return Some(9);
-    }
-    if !may_access(plan, at, shape) {
-        return Some(10);
+    if let Some(rule) = access_fault(b, plan, s, shape) {
+        return Some(rule);
     }
     if !may_call_system(plan, shape) {
         return Some(12);

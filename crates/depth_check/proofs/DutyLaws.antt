@@ -20,12 +20,12 @@ use Rattle.depth_cert.specs.Certs.{CertData, find_node}
 use Rattle.cfg_recover.specs.declared.flows.Enter.{Enter}
 use Rattle.cfg_recover.specs.declared.flows.Leave.{Leave}
 use Rattle.cfg_recover.specs.declared.flows.Leave.TheVariants.{Stays, Ret, Rfe}
-use Rattle.vd_transfer.specs.Effects.{HasRoom}
+use Rattle.vd_transfer.specs.Effects.{HasRoom, address_of}
 use Rattle.cfg_recover.specs.declared.local.Located.{Located}
 use Rattle.cfg_recover.specs.Changes.{StandsFaultless}
 use Rattle.cfg_recover.specs.Entries.{irq_key, irq_entry, aln_key, aln_entry}
 use Rattle.depth_cert.specs.Exits.{exit_of}
-use Rattle.cfg_recover.specs.Local.{are_aligned}
+use Rattle.cfg_recover.specs.Local.{are_aligned, MayAccess}
 use Rattle.cfg_recover.specs.Duties.{Owed, owed, jump, enter, resume, leave, jumps_to, successors_of, entries_of, misaligned_at, misaligned_of, irqs_of, interrupts_of, leavings_of, duties_of}
 use Rattle.cfg_recover.specs.Flows.{entered_key, told_back, told_irqs, told_leaving, leave_of}
 use Rattle.cfg_recover.specs.Accepting.{HasPoint}
@@ -268,6 +268,17 @@ disabled_none plan key s e = rw e refl
 -- addresses that are all multiples of the size, and others
 pub aligned_none : (plan : PlanData) (key : Key) (s : State) (at : Val) (size : ℕ) → are_aligned at size ≡ true → [] ≡ misaligned_at plan key s at size
 aligned_none plan key s at size e = rw e refl
+
+-- where the trap isn't stated, rule 10 has each address aligned
+access_none : (b : Limits) (plan : PlanData) (key : Key) (s : State) (shape : Shape) → plan.aln ≡ false → MayAccess b plan s shape → [] ≡ misaligned_of b plan key s shape
+access_none b plan key s (Load dst base offset size signed after) off may =
+    elim may [ inl a ↦ aligned_none plan key s (address_of b plan (Load dst base offset size signed after) s) size a | inr on ↦ absurd (let f : false ≡ true = sym off ∙ on in cc) ]
+access_none b plan key s (Store src base offset size after) off may =
+    elim may [ inl a ↦ aligned_none plan key s (address_of b plan (Store src base offset size after) s) size a | inr on ↦ absurd (let f : false ≡ true = sym off ∙ on in cc) ]
+access_none b plan key s _ off may = refl
+
+pub untrapped_none : (b : Limits) (image : ImageData) (plan : PlanData) (key : Key) (p : ℕ) (s : State) (found : Located) → StandsFaultless b image plan key p s found → plan.aln ≡ false → [] ≡ misaligned_of b plan key s found.shape
+untrapped_none b image plan key p s found f off = access_none b plan key s found.shape off (((f.faultless 10).own found.shape found.size f.code).accesses refl)
 
 pub misaligned_one : (plan : PlanData) (key : Key) (s : State) (at : Val) (size : ℕ) → are_aligned at size ≡ false → owed 10 (enter (aln_key plan key) (aln_entry plan key s)) ∷ [] ≡ misaligned_at plan key s at size
 misaligned_one plan key s at size e = rw e refl

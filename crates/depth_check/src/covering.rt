@@ -5,8 +5,10 @@ ghost use Rattle.vd_transfer.specs.Changes.{state_after};
 ghost use Rattle.depth_cert.specs.Exits.{after_of, exit_of, lower_values, ExitCovers};
 ghost use Rattle.cfg_recover.specs.Accepting.{HasPoint};
 ghost use Rattle.depth_check.specs.Finding.{IsWellNode, HasPoints, HasExit};
+ghost use Rattle.depth_check.specs.Points.{IsAt};
 
 use crate::forms::{Frame, NodeForm};
+use crate::point_at::At;
 use crate::put_cover::stays_covered;
 use cfg_recover::{after, covers_after};
 use depth_cert::{Exit, Node};
@@ -132,26 +134,21 @@ pub(crate) fn has_changed(node: &Frame<'_>, addr: u32, s: &State, c: &Change) ->
     }
 }
 
-/// The same, where one that covers the state is known at an address.
-pub(crate) fn has_changed_next(
-    node: &Frame<'_>,
-    addr: u32,
-    s: &State,
-    c: &Change,
-    known: Option<u32>,
-) -> bool
-    requires node { IsWellNode node.now }
-    requires state { AreWell s.now.regs }
-    requires changed { AreWell (state_after s.now c.now).regs }
-    requires known { IfSome known (λ a. HasPoint node.now a s.now) }
-    ensures { IsTrue result ↔ HasPoint node.now addr (state_after s.now c.now) }
+/// Whether the node of a point has a point at this address that covers the changed state; what is known of the next one is
+/// asked for first.
+pub(crate) fn has_changed_next(at: &At<'_>, addr: u32, c: &Change) -> bool
+    requires point { IsAt at.now }
+    requires changed { AreWell (state_after at.now.point.state.now c.now).regs }
+    ensures { IsTrue result
+        ↔ HasPoint at.now.node.now addr (state_after at.now.point.state.now c.now) }
 {
-    if is_known(known, addr) {
+    let s = at.point.state;
+    if is_known(at.point.next, addr) {
         if stays_covered(s, c) {
             return true;
         }
     }
-    has_changed(node, addr, s, c)
+    has_changed(at.node, addr, s, c)
 }
 
 /// Whether it has one that covers the state after an entered frame came back by this exit.

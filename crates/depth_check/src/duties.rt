@@ -3,7 +3,6 @@ ghost use Rattle.std.specs.Prelude.{◌≡◌, ◌≤◌, ◌+◌, ◌↔◌, []
 ghost use Rattle.value_domain.specs.State.{AreWell};
 ghost use Rattle.cfg_recover.specs.Entries as entries;
 ghost use Rattle.std.specs.List.{flat_map};
-ghost use Rattle.value_domain.specs.Values.{IsValue};
 ghost use Rattle.tc_isa.specs.Bounded.{IsShape, IsSize, IsTarget};
 ghost use Rattle.vd_transfer.specs.Effects.{address_of};
 ghost use Rattle.vd_transfer.specs.Changes.{state_after};
@@ -27,8 +26,8 @@ use cfg_recover::{
 };
 use depth_cert::Key;
 use tc_isa::{Shape, Target};
-use value_domain::{State, Val};
-use vd_transfer::Change;
+use value_domain::State;
+use vd_transfer::{Change, address_by};
 
 /// The lesser of two rules that were found.
 pub(crate) fn least(a: Option<u8>, b: Option<u8>) -> Option<u8>
@@ -161,16 +160,19 @@ fn broken_by_entries(at: &At<'_>, shape: Shape, size: u32) -> Option<u8>
     }
 }
 
-/// The least rule broken by the entry of the handler of misaligned accesses, where one of these addresses may be so.
-fn broken_by_misaligned(at: &At<'_>, accessed: &Val, size: u8) -> Option<u8>
+/// The least rule broken by the entry of the handler of misaligned accesses, where an address of this access may be one. The
+/// address is worked out here, so that where there is no access no value is made.
+#[inline(never)]
+fn broken_by_misaligned(at: &At<'_>, shape: Shape, size: u8) -> Option<u8>
     requires point { IsAt at.now }
-    requires accessed { IsValue at.now.bounds.now accessed.now }
+    requires shape { IsShape shape }
     requires size { IsSize size }
     ensures { Breaks at.now
-        (misaligned_at at.now.plan.now at.now.node.now.key at.now.point.state.now accessed.now size)
-        result }
+        (misaligned_at at.now.plan.now at.now.node.now.key at.now.point.state.now
+        (address_of at.now.bounds.now at.now.plan.now shape at.now.point.state.now) size) result }
 {
-    if is_aligned(at.bounds, accessed, size) {
+    let accessed = address_by(at.bounds, at.plan, shape, at.point.state);
+    if is_aligned(at.bounds, &accessed, size) {
         return None;
     }
     broken_by_trap(at)
@@ -191,20 +193,24 @@ fn broken_by_trap(at: &At<'_>) -> Option<u8>
     broken_by_entry(at, 10, &key, &entry, None)
 }
 
-/// The same for the access of an instruction.
-fn broken_by_access(at: &At<'_>, shape: Shape, accessed: &Val) -> Option<u8>
+/// The same for the access of an instruction. Where the trap of misaligned accesses isn't stated none is owed, since rule 10
+/// holds.
+fn broken_by_access(at: &At<'_>, found: &Located) -> Option<u8>
     requires point { IsAt at.now }
-    requires shape { IsShape shape }
-    requires accessed { IsValue at.now.bounds.now accessed.now }
-    requires access { accessed.now
-        ≡ address_of at.now.bounds.now at.now.plan.now shape at.now.point.state.now }
+    requires found { StandsFaultless at.now.bounds.now at.now.image.now at.now.plan.now
+        at.now.node.now.key at.now.point.addr at.now.point.state.now found.now }
     ensures { Breaks at.now
         (misaligned_of at.now.bounds.now at.now.plan.now at.now.node.now.key at.now.point.state.now
-        shape) result }
+        found.now.shape) result }
 {
+    let plan = at.plan;
+    if !plan.aln {
+        return None;
+    }
+    let shape = found.shape;
     match shape {
-        Shape::Load { size, .. } => broken_by_misaligned(at, accessed, size),
-        Shape::Store { size, .. } => broken_by_misaligned(at, accessed, size),
+        Shape::Load { size, .. } => broken_by_misaligned(at, shape, size),
+        Shape::Store { size, .. } => broken_by_misaligned(at, shape, size),
         _ => None,
     }
 }
@@ -293,7 +299,7 @@ fn broken_by_leaving(node: &Frame<'_>, s: &State, leave: Leave) -> Option<u8>
 }
 
 /// The least rule that the duties of a point of the node break, where no rule's own part fails.
-pub(crate) fn broken_by_duties(at: &At<'_>, found: &Located) -> Option<u8>
+pub(crate) fn broken_by_duties(at: &At<'_>, found: &Located, c: &mut Change) -> Option<u8>
     requires point { IsAt at.now }
     requires found { StandsFaultless at.now.bounds.now at.now.image.now at.now.plan.now
         at.now.node.now.key at.now.point.addr at.now.point.state.now found.now }
@@ -301,9 +307,9 @@ pub(crate) fn broken_by_duties(at: &At<'_>, found: &Located) -> Option<u8>
         (duties_of at.now.bounds.now at.now.image.now at.now.plan.now at.now.node.now.key
         at.now.point.addr at.now.point.state.now found.now.shape found.now.size) result }
 {
-    let jumps = broken_by_successors(at, found);
+    let jumps = broken_by_successors(at, found, c);
     let entered = broken_by_entries(at, found.shape, found.size);
-    let misaligned = broken_by_access(at, found.shape, &found.at);
+    let misaligned = broken_by_access(at, found);
     let irqs = broken_by_interrupts(at);
     let leave = broken_by_leaving(at.node, at.point.state, leave_by(found.shape));
     least(least(least(least(jumps, entered), misaligned), irqs), leave)

@@ -2,7 +2,6 @@
 ghost use Rattle.std.specs.Prelude.{◌≡◌, ◌↔◌, IsTrue, All, IfOk, IfErr, IfSome};
 ghost use Rattle.value_domain.specs.State.{AreValues};
 ghost use Rattle.tc_isa.specs.declared.shapes.Shape.TheVariants.{Nothing};
-ghost use Rattle.tc_isa.specs.Shapes.{shape_of};
 ghost use Rattle.cfg_recover.specs.Accepting.{limits_in, RuleHolds, HasPoint};
 ghost use Rattle.cfg_recover.specs.Changes.{StandsFaultless};
 ghost use Rattle.cfg_recover.specs.Code.{IsCode};
@@ -20,10 +19,11 @@ use crate::point_at::At;
 use crate::successors::broken_by_pass;
 use cfg_recover::{Located, code_at, local_check, start_key};
 use elf_image::Image;
-use tc_isa::{Inst, Shape, shape};
+use tc_isa::{Shape, shape};
 use tcd_base::any_holds;
 use tcd_plan::Plan;
 use value_domain::Bounds;
+use vd_transfer::{Change, unchanged};
 
 /// Whether the need of the node has room for the locals of a point, and at the start's entry leaves the reserve free.
 fn has_own_need(at: &At<'_>) -> bool
@@ -54,7 +54,7 @@ fn has_values(b: &Bounds, point: Here<'_>) -> bool
 }
 
 /// The least rule that fails at a point whose values are the plan's, by what stands there.
-fn broken_by_located(at: &At<'_>, found: &Result<Located, u8>) -> Option<u8>
+fn broken_by_located(at: &At<'_>, found: &Result<Located, u8>, c: &mut Change) -> Option<u8>
     requires point { IsAt at.now }
     requires fault { IfErr found.now
         (IsLocalFault at.now.bounds.now at.now.image.now at.now.plan.now at.now.node.now.key
@@ -68,7 +68,7 @@ fn broken_by_located(at: &At<'_>, found: &Result<Located, u8>) -> Option<u8>
     match found {
         Err(rule) => Some(*rule),
         Ok(found) => {
-            let duties = broken_by_duties(at, found);
+            let duties = broken_by_duties(at, found, c);
             let need = unless(has_own_need(at), 14);
             least(duties, need)
         }
@@ -84,9 +84,11 @@ fn broken_by_any(at: &At<'_>) -> Option<u8>
 {
     let node = at.node;
     let s = at.point.state;
+    let mut change = unchanged(s);
     broken_by_located(
         at,
         &local_check(at.bounds, at.image, at.plan, &node.key, at.point.addr, s),
+        &mut change,
     )
 }
 
@@ -101,17 +103,6 @@ fn broken_by_idle(at: &At<'_>, size: u32) -> Option<u8>
     let irqs = broken_by_interrupts(at);
     let need = unless(has_own_need(at), 14);
     least(least(jump, irqs), need)
-}
-
-/// Whether an instruction changes nothing.
-fn is_idle(inst: &Inst) -> bool
-    ensures { IsTrue result → shape_of inst.now ≡ Nothing }
-{
-    let found = shape(inst);
-    match found {
-        Shape::Nothing => true,
-        _ => false,
-    }
 }
 
 /// Whether nop16 stands at an address: 00 00, at an even one and in one rom range.
@@ -146,10 +137,9 @@ fn idle_size(at: &At<'_>) -> Option<u32>
     let Some(found) = code_at(at.image, at.plan, at.point.addr) else {
         return None;
     };
-    if is_idle(&found.0) {
-        Some(found.1)
-    } else {
-        None
+    match shape(&found.0) {
+        Shape::Nothing => Some(found.1),
+        _ => None,
     }
 }
 

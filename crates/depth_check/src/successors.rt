@@ -16,27 +16,23 @@ ghost use Rattle.depth_check.specs.Points.{IsAt, Breaks};
 use crate::covering::{has_changed_next, has_next, has_points};
 use crate::duties::{least, unless};
 use crate::point_at::At;
-use cfg_recover::{Located, loaded_from, targets};
+use cfg_recover::{Located, step_change, targets};
 use tc_isa::{Shape, Target};
-use vd_transfer::{change_of, change_on};
+use vd_transfer::{Change, change_on};
 
 /// A jump with what a side of a branch changes, if that side is possible.
 #[inline(never)]
-fn broken_by_change(at: &At<'_>, shape: Shape, taken: bool, to: u32) -> Option<u8>
+fn broken_by_change(at: &At<'_>, shape: Shape, taken: bool, to: u32, c: &mut Change) -> Option<u8>
     requires point { IsAt at.now }
     requires shape { IsShape shape }
     ensures { Breaks at.now
         (jump_on to
         (refine_of at.now.bounds.now at.now.plan.now shape at.now.point.state.now taken)) result }
 {
-    let change = change_on(at.bounds, at.plan, shape, at.point.state, taken);
-    match &change {
-        Some(c) => {
-            let holds = has_changed_next(at.node, to, at.point.state, c, at.point.next);
-            unless(holds, 4)
-        }
-        None => None,
+    if !change_on(at.bounds, at.plan, shape, at.point.state, taken, c) {
+        return None;
     }
+    unless(has_changed_next(at, to, c), 4)
 }
 
 /// Whether a side of this branch allows no more than the state before it: all that lower no counter.
@@ -52,7 +48,7 @@ fn only_narrows(shape: Shape) -> bool
 
 /// A jump on a side of a branch, if that side is possible. A point that covers the state before it is enough, where the side
 /// allows no more.
-fn broken_by_side(at: &At<'_>, shape: Shape, taken: bool, to: u32) -> Option<u8>
+fn broken_by_side(at: &At<'_>, shape: Shape, taken: bool, to: u32, c: &mut Change) -> Option<u8>
     requires point { IsAt at.now }
     requires shape { IsShape shape }
     ensures { Breaks at.now
@@ -64,12 +60,12 @@ fn broken_by_side(at: &At<'_>, shape: Shape, taken: bool, to: u32) -> Option<u8>
             return None;
         }
     }
-    broken_by_change(at, shape, taken, to)
+    broken_by_change(at, shape, taken, to, c)
 }
 
 /// Both sides of a branch.
 #[inline(never)]
-fn broken_by_sides(at: &At<'_>, shape: Shape, next: u32, to: u32) -> Option<u8>
+fn broken_by_sides(at: &At<'_>, shape: Shape, next: u32, to: u32, c: &mut Change) -> Option<u8>
     requires point { IsAt at.now }
     requires shape { IsShape shape }
     ensures { Breaks at.now
@@ -78,8 +74,8 @@ fn broken_by_sides(at: &At<'_>, shape: Shape, next: u32, to: u32) -> Option<u8>
         ++ jump_on to
         (refine_of at.now.bounds.now at.now.plan.now shape at.now.point.state.now true)) result }
 {
-    let on = broken_by_side(at, shape, false, next);
-    let off = broken_by_side(at, shape, true, to);
+    let on = broken_by_side(at, shape, false, next, c);
+    let off = broken_by_side(at, shape, true, to, c);
     least(on, off)
 }
 
@@ -108,7 +104,7 @@ pub(crate) fn broken_by_pass(at: &At<'_>, next: u32) -> Option<u8>
 
 /// The step to the next instruction.
 #[inline(never)]
-fn broken_by_step(at: &At<'_>, found: &Located) -> Option<u8>
+fn broken_by_step(at: &At<'_>, found: &Located, c: &mut Change) -> Option<u8>
     requires point { IsAt at.now }
     requires found { StandsFaultless at.now.bounds.now at.now.image.now at.now.plan.now
         at.now.node.now.key at.now.point.addr at.now.point.state.now found.now }
@@ -117,10 +113,9 @@ fn broken_by_step(at: &At<'_>, found: &Located) -> Option<u8>
         at.now.point.state.now found.now.shape found.now.size) result }
 {
     let s = at.point.state;
-    let value = loaded_from(at.bounds, at.image, at.plan, found.shape, &found.at);
-    let c = change_of(at.bounds, at.plan, found.shape, s, value);
+    step_change(at.bounds, at.image, at.plan, found.shape, s, c);
     let next = at.point.addr.wrapping_add(found.size);
-    unless(has_changed_next(at.node, next, s, &c, at.point.next), 4)
+    unless(has_changed_next(at, next, c), 4)
 }
 
 /// Whether an instruction of this shape leaves a state as it is: one that changes nothing, and a store that doesn't increase
@@ -137,7 +132,7 @@ fn keeps_state(shape: Shape) -> bool
 }
 
 /// The step over an instruction that only goes on to the next one.
-fn broken_by_next(at: &At<'_>, found: &Located) -> Option<u8>
+fn broken_by_next(at: &At<'_>, found: &Located, c: &mut Change) -> Option<u8>
     requires point { IsAt at.now }
     requires found { StandsFaultless at.now.bounds.now at.now.image.now at.now.plan.now
         at.now.node.now.key at.now.point.addr at.now.point.state.now found.now }
@@ -148,12 +143,12 @@ fn broken_by_next(at: &At<'_>, found: &Located) -> Option<u8>
     if keeps_state(found.shape) {
         broken_by_pass(at, at.point.addr.wrapping_add(found.size))
     } else {
-        broken_by_step(at, found)
+        broken_by_step(at, found, c)
     }
 }
 
 /// The least rule broken by the successors in the same frame, without those after a call or a system call.
-pub(crate) fn broken_by_successors(at: &At<'_>, found: &Located) -> Option<u8>
+pub(crate) fn broken_by_successors(at: &At<'_>, found: &Located, c: &mut Change) -> Option<u8>
     requires point { IsAt at.now }
     requires found { StandsFaultless at.now.bounds.now at.now.image.now at.now.plan.now
         at.now.node.now.key at.now.point.addr at.now.point.state.now found.now }
@@ -165,10 +160,10 @@ pub(crate) fn broken_by_successors(at: &At<'_>, found: &Located) -> Option<u8>
     let next = addr.wrapping_add(found.size);
     let shape = found.shape;
     match shape {
-        Shape::Branch { by, .. } => broken_by_sides(at, shape, next, addr.wrapping_add(by)),
+        Shape::Branch { by, .. } => broken_by_sides(at, shape, next, addr.wrapping_add(by), c),
         Shape::Jump { to } => broken_by_jump(at, to),
         Shape::Call { .. } | Shape::Ret | Shape::Rfe | Shape::Syscall { .. } | Shape::Mtcr { .. } =>
             None,
-        _ => broken_by_next(at, found),
+        _ => broken_by_next(at, found, c),
     }
 }

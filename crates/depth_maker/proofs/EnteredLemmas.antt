@@ -1,5 +1,5 @@
 -- The frames that parts of a point's duties enter.
-use Rattle.std.proofs.Common.{◌≡◌, ℕ, ◌+◌, ◌<◌, Bool, true, false, inl, inr, not, List, [], ◌∷◌, ◌++◌, length, get_or, take, refl, sym, ap, ◌∙◌, subst, arith}
+use Rattle.std.proofs.Common.{◌≡◌, ◌⊎◌, ℕ, ◌+◌, ◌<◌, Bool, true, false, inl, inr, not, List, [], ◌∷◌, ◌++◌, length, get_or, take, refl, sym, ap, ◌∙◌, subst, arith}
 use Rattle.std.specs.Prelude.{map, if◌then◌else◌, Option, Some, None, unwrap_or, Contains}
 use Rattle.std.specs.List.{flat_map}
 use Rattle.std.proofs.lemmas.List.{append-nil, map-append, take_more, append_assoc}
@@ -16,9 +16,10 @@ use Rattle.value_domain.specs.declared.values.Val.{Val}
 use Rattle.value_domain.specs.declared.states.State.{State}
 use Rattle.value_domain.specs.Limits.{Limits}
 use Rattle.vd_transfer.specs.Branches.{refine_of}
+use Rattle.vd_transfer.specs.Effects.{address_of}
 use Rattle.depth_cert.specs.declared.keys.Key.{Key}
-use Rattle.cfg_recover.specs.Entries.{call_key, irq_key, aln_key, irq_entry}
-use Rattle.cfg_recover.specs.Local.{are_aligned, targets_of}
+use Rattle.cfg_recover.specs.Entries.{call_key, irq_key, aln_entry, aln_key, irq_entry}
+use Rattle.cfg_recover.specs.Local.{MayAccess, are_aligned, targets_of}
 use Rattle.cfg_recover.specs.Duties.{Duty, jump, enter, resume, leave, Owed, owed, entered_and_back, entries_of, jump_on, jumps_to, leavings_of, misaligned_at, misaligned_of, interrupts_of, successors_of, duties_of}
 use Rattle.cfg_recover.proofs.Members.{contains_flat}
 use Rattle.depth_maker.specs.Entered.{entered_by, entered_in}
@@ -88,11 +89,6 @@ entered_leavings key s (Mfcr dst number) = refl
 entered_leavings key s (Mtcr src number) = refl
 entered_leavings key s Nothing = refl
 
--- an access that may be misaligned enters one frame
-pub entered_misaligned : (plan : PlanData) (key : Key) (s : State) (at : Val) (size : ℕ) (t : Bool) → are_aligned at size ≡ t → entered_in (misaligned_at plan key s at size) ≡ (if t then [] else aln_key plan key ∷ [])
-entered_misaligned plan key s at size true e = rw e refl
-entered_misaligned plan key s at size false e = rw e refl
-
 -- all parts
 pub entered_parts : (js bs ds es ls : List Owed) → entered_in js ≡ [] → entered_in ls ≡ [] → entered_in (js ++ bs ++ ds ++ es ++ ls) ≡ (entered_in bs ++ entered_in ds) ++ entered_in es
 entered_parts js bs ds es ls none last =
@@ -149,31 +145,83 @@ entries_none plan key p s (Mtcr src number) n call sys = refl
 entries_none plan key p s Nothing n call sys = refl
 
 -- other instructions than loads and stores have no access
+pub owes_no_access : (b : Limits) (plan : PlanData) (key : Key) (s : State) (shape : Shape) → ((dst : ℕ) (base : Arg) (offset size : ℕ) (signed after : Bool) → shape ≡ Load dst base offset size signed after → ⊥)
+    → ((src : ℕ) (base : Arg) (offset size : ℕ) (after : Bool) → shape ≡ Store src base offset size after → ⊥) → misaligned_of b plan key s shape ≡ []
+owes_no_access b plan key s (Compute op dst x y) load store = refl
+owes_no_access b plan key s (Scaled dst base index k) load store = refl
+owes_no_access b plan key s (Load dst base offset size signed after) load store = absurd (load dst base offset size signed after refl)
+owes_no_access b plan key s (Store src base offset size after) load store = absurd (store src base offset size after refl)
+owes_no_access b plan key s (Branch cond x y by lowers) load store = refl
+owes_no_access b plan key s (Jump to) load store = refl
+owes_no_access b plan key s (Call to) load store = refl
+owes_no_access b plan key s Ret load store = refl
+owes_no_access b plan key s Rfe load store = refl
+owes_no_access b plan key s Svlcx load store = refl
+owes_no_access b plan key s Rslcx load store = refl
+owes_no_access b plan key s (Bisr c) load store = refl
+owes_no_access b plan key s Enable load store = refl
+owes_no_access b plan key s Disable load store = refl
+owes_no_access b plan key s (Syscall tin) load store = refl
+owes_no_access b plan key s (Mfcr dst number) load store = refl
+owes_no_access b plan key s (Mtcr src number) load store = refl
+owes_no_access b plan key s Nothing load store = refl
+
 pub access_none : (b : Limits) (plan : PlanData) (key : Key) (s : State) (shape : Shape) → ((dst : ℕ) (base : Arg) (offset size : ℕ) (signed after : Bool) → shape ≡ Load dst base offset size signed after → ⊥)
     → ((src : ℕ) (base : Arg) (offset size : ℕ) (after : Bool) → shape ≡ Store src base offset size after → ⊥) → entered_in (misaligned_of b plan key s shape) ≡ []
-access_none b plan key s (Compute op dst x y) load store = refl
-access_none b plan key s (Scaled dst base index k) load store = refl
-access_none b plan key s (Load dst base offset size signed after) load store = absurd (load dst base offset size signed after refl)
-access_none b plan key s (Store src base offset size after) load store = absurd (store src base offset size after refl)
-access_none b plan key s (Branch cond x y by lowers) load store = refl
-access_none b plan key s (Jump to) load store = refl
-access_none b plan key s (Call to) load store = refl
-access_none b plan key s Ret load store = refl
-access_none b plan key s Rfe load store = refl
-access_none b plan key s Svlcx load store = refl
-access_none b plan key s Rslcx load store = refl
-access_none b plan key s (Bisr c) load store = refl
-access_none b plan key s Enable load store = refl
-access_none b plan key s Disable load store = refl
-access_none b plan key s (Syscall tin) load store = refl
-access_none b plan key s (Mfcr dst number) load store = refl
-access_none b plan key s (Mtcr src number) load store = refl
-access_none b plan key s Nothing load store = refl
+access_none b plan key s shape load store = ap entered_in (owes_no_access b plan key s shape load store)
 
--- the same with the test turned
-pub entered_turned : (plan : PlanData) (key : Key) (s : State) (at : Val) (size : ℕ) (t r : Bool) → t ≡ are_aligned at size → r ≡ not t → entered_in (misaligned_at plan key s at size) ≡ (if r then aln_key plan key ∷ [] else [])
-entered_turned plan key s at size true r e f = entered_misaligned plan key s at size true (sym e) ∙ sym (ap (λ (t : Bool). if t then aln_key plan key ∷ [] else []) f)
-entered_turned plan key s at size false r e f = entered_misaligned plan key s at size false (sym e) ∙ sym (ap (λ (t : Bool). if t then aln_key plan key ∷ [] else []) f)
+-- where each address is aligned nothing is owed, else the entry of the handler
+misaligned_turned : (plan : PlanData) (key : Key) (s : State) (at : Val) (size : ℕ) (r : Bool) → r ≡ not (are_aligned at size)
+    → misaligned_at plan key s at size ≡ (if r then owed 10 (enter (aln_key plan key) (aln_entry plan key s)) ∷ [] else [])
+misaligned_turned plan key s at size r e = turned (are_aligned at size) ∙ sym (ap (λ (t : Bool). if t then entry ∷ [] else []) e) where
+  entry : Owed
+  entry = owed 10 (enter (aln_key plan key) (aln_entry plan key s))
+
+  turned : (t : Bool) → (if t then [] else entry ∷ []) ≡ (if not t then entry ∷ [] else [])
+  turned true = refl
+  turned false = refl
+
+pub load_turned : (b : Limits) (plan : PlanData) (key : Key) (s : State) (shape : Shape) (dst : ℕ) (base : Arg) (offset size : ℕ) (signed after : Bool) (r : Bool)
+    → shape ≡ Load dst base offset size signed after → r ≡ not (are_aligned (address_of b plan shape s) size)
+    → misaligned_of b plan key s shape ≡ (if r then owed 10 (enter (aln_key plan key) (aln_entry plan key s)) ∷ [] else [])
+load_turned b plan key s shape dst base offset size signed after r is =
+    subst (λ (x : Shape). r ≡ not (are_aligned (address_of b plan x s) size) → misaligned_of b plan key s x ≡ (if r then owed 10 (enter (aln_key plan key) (aln_entry plan key s)) ∷ [] else [])) (sym is)
+    (misaligned_turned plan key s (address_of b plan (Load dst base offset size signed after) s) size r)
+
+pub store_turned : (b : Limits) (plan : PlanData) (key : Key) (s : State) (shape : Shape) (src : ℕ) (base : Arg) (offset size : ℕ) (after : Bool) (r : Bool)
+    → shape ≡ Store src base offset size after → r ≡ not (are_aligned (address_of b plan shape s) size)
+    → misaligned_of b plan key s shape ≡ (if r then owed 10 (enter (aln_key plan key) (aln_entry plan key s)) ∷ [] else [])
+store_turned b plan key s shape src base offset size after r is =
+    subst (λ (x : Shape). r ≡ not (are_aligned (address_of b plan x s) size) → misaligned_of b plan key s x ≡ (if r then owed 10 (enter (aln_key plan key) (aln_entry plan key s)) ∷ [] else [])) (sym is)
+    (misaligned_turned plan key s (address_of b plan (Store src base offset size after) s) size r)
+
+either : (a : Bool) (b : Bool) → (a ≡ true) ⊎ (b ≡ true) → b ≡ false → a ≡ true
+either a b (inl e) off = e
+either a b (inr e) off = absurd (let no : true ≡ false = sym e ∙ off in cc)
+
+aligned_none : (plan : PlanData) (key : Key) (s : State) (at : Val) (size : ℕ) → are_aligned at size ≡ true → misaligned_at plan key s at size ≡ []
+aligned_none plan key s at size e = rw e refl
+
+-- where no trap of misaligned accesses is stated, rule 10 leaves none
+pub aligned_owes_none : (b : Limits) (plan : PlanData) (key : Key) (s : State) (shape : Shape) → MayAccess b plan s shape → plan.aln ≡ false → misaligned_of b plan key s shape ≡ []
+aligned_owes_none b plan key s (Compute op dst x y) may off = refl
+aligned_owes_none b plan key s (Scaled dst base index k) may off = refl
+aligned_owes_none b plan key s (Load dst base offset size signed after) may off = aligned_none plan key s (address_of b plan (Load dst base offset size signed after) s) size (either _ _ may off)
+aligned_owes_none b plan key s (Store src base offset size after) may off = aligned_none plan key s (address_of b plan (Store src base offset size after) s) size (either _ _ may off)
+aligned_owes_none b plan key s (Branch cond x y by lowers) may off = refl
+aligned_owes_none b plan key s (Jump to) may off = refl
+aligned_owes_none b plan key s (Call to) may off = refl
+aligned_owes_none b plan key s Ret may off = refl
+aligned_owes_none b plan key s Rfe may off = refl
+aligned_owes_none b plan key s Svlcx may off = refl
+aligned_owes_none b plan key s Rslcx may off = refl
+aligned_owes_none b plan key s (Bisr c) may off = refl
+aligned_owes_none b plan key s Enable may off = refl
+aligned_owes_none b plan key s Disable may off = refl
+aligned_owes_none b plan key s (Syscall tin) may off = refl
+aligned_owes_none b plan key s (Mfcr dst number) may off = refl
+aligned_owes_none b plan key s (Mtcr src number) may off = refl
+aligned_owes_none b plan key s Nothing may off = refl
 
 -- ---- a list that grows by one more
 pub map_step : (g : ℕ → Key) (from ks new : List Key) (ts : List ℕ) (i : ℕ) (x : Key) → i < length ts → ks ≡ from ++ map g (take i ts) → new ≡ ks ++ x ∷ [] → x ≡ g (get_or ts i 0) → new ≡ from ++ map g (take (i + 1) ts)

@@ -1,5 +1,5 @@
 -- The row of a point that enters no frame.
-use Rattle.std.proofs.Common.{◌≡◌, ◌⊎◌, inl, inr, ℕ, Bool, true, false, not, List, [], ◌∷◌, ◌++◌, length, Some, refl, sym, ap, ◌∙◌, subst, Contains}
+use Rattle.std.proofs.Common.{◌≡◌, ℕ, Bool, true, false, not, List, [], ◌++◌, length, Some, refl, sym, ap, ◌∙◌, subst, Contains}
 use Rattle.std.specs.Prelude.{map, filter, nat_lt, if◌then◌else◌, Ok}
 use Rattle.tc_isa.specs.declared.shapes.Arg.{Arg}
 use Rattle.tc_isa.specs.declared.shapes.Shape.{Shape}
@@ -7,19 +7,16 @@ use Rattle.tc_isa.specs.declared.shapes.Shape.TheVariants.{Load, Store}
 use Rattle.elf_image.specs.Images.{ImageData}
 use Rattle.tcd_plan.specs.PlanData.{PlanData}
 use Rattle.value_domain.specs.Limits.{Limits}
-use Rattle.value_domain.specs.declared.values.Val.{Val}
 use Rattle.value_domain.specs.declared.states.State.{State}
-use Rattle.vd_transfer.specs.Effects.{address_of}
 use Rattle.depth_cert.specs.declared.keys.Key.{Key}
-use Rattle.depth_cert.specs.Known.{IsProper, Known, state}
+use Rattle.depth_cert.specs.Known.{Known, state}
 use Rattle.cfg_recover.specs.Assignments.{point}
-use Rattle.cfg_recover.specs.Duties.{duties_of, enter, entries_of, interrupts_of, irqs_of, leavings_of, misaligned_at, misaligned_of, owed, successors_of}
+use Rattle.cfg_recover.specs.Duties.{duties_of, entries_of, interrupts_of, irqs_of, leavings_of, misaligned_of, successors_of}
 use Rattle.cfg_recover.specs.Changes.{StandsFaultless}
-use Rattle.cfg_recover.specs.Local.{IsFaultless, are_aligned}
+use Rattle.cfg_recover.specs.Local.{IsFaultless}
 use Rattle.cfg_recover.specs.declared.local.Located.{Located}
-use Rattle.cfg_recover.specs.Entries.{aln_entry, aln_key, irq_key}
+use Rattle.cfg_recover.specs.Entries.{irq_key}
 use Rattle.frame_places.specs.Numbers.{AreNumbers, number_in}
-use Rattle.frame_places.specs.declared.places.Spot.TheVariants.{Point}
 use Rattle.small_states.specs.Kept.{IsQuiet}
 use Rattle.call_needs.specs.declared.row.Row.{Row}
 use Rattle.depth_maker.specs.Entered.{EntersNone, IsPlainAt, entered_in}
@@ -33,33 +30,23 @@ use Rattle.depth_maker.specs.declared.ground.Ground.{Ground}
 use Rattle.depth_maker.specs.declared.ground.Visit.{Visit}
 use Rattle.depth_maker.specs.declared.rows.Source.{Source}
 use Rattle.depth_maker.specs.declared.table.Table as made
-use Rattle.depth_maker.proofs.EffectGrowth.{address_value}
-use Rattle.depth_maker.proofs.EnteredLemmas.{entered_irqs, entered_leavings, entered_parts, entered_successors}
-use Rattle.depth_maker.proofs.OwnGrowth.{setting_of}
+use Rattle.depth_maker.proofs.EnteredLemmas.{aligned_owes_none, entered_irqs, entered_leavings, entered_parts, entered_successors}
 use Rattle.depth_maker.proofs.RowLaws.{known_frame}
-use Rattle.depth_maker.proofs.RowSteps.{done_proper, done_state}
+use Rattle.depth_maker.proofs.RowSteps.{done_state}
 
 pub off_of : (t : Bool) → not t ≡ true → t ≡ false
 off_of true e = cc
 off_of false e = refl
 
--- an access that is aligned enters none
-aligned_none : (plan : PlanData) (k : Key) (u : State) (at : Val) (size : ℕ) → are_aligned at size ≡ true → entered_in (misaligned_at plan k u at size) ≡ []
-aligned_none plan k u at size e = ap (λ (t : Bool). entered_in (if t then [] else owed 10 (enter (aln_key plan k) (aln_entry plan k u)) ∷ [])) e
-
-either : (a : Bool) (b : Bool) → (a ≡ true) ⊎ (b ≡ true) → b ≡ false → a ≡ true
-either a b (inl e) off = e
-either a b (inr e) off = absurd (let no : true ≡ false = sym e ∙ off in cc)
-
 pub load_enters_none : (plan : PlanData) (shape : Shape) → plan.aln ≡ false → (dst : ℕ) (base : Arg) (offset size : ℕ) (signed after : Bool) → shape ≡ Load dst base offset size signed after → EntersNone plan shape
 load_enters_none plan shape off dst base offset size signed after is = subst (EntersNone plan) (sym is) at where
   at : EntersNone plan (Load dst base offset size signed after)
-  at b k p u n rule = (refl, aligned_none plan k u (address_of b plan (Load dst base offset size signed after) u) size (either _ _ (rule.accesses refl) off))
+  at b k p u n rule = (refl, ap entered_in (aligned_owes_none b plan k u (Load dst base offset size signed after) (rule.accesses refl) off))
 
 pub store_enters_none : (plan : PlanData) (shape : Shape) → plan.aln ≡ false → (src : ℕ) (base : Arg) (offset size : ℕ) (after : Bool) → shape ≡ Store src base offset size after → EntersNone plan shape
 store_enters_none plan shape off src base offset size after is = subst (EntersNone plan) (sym is) at where
   at : EntersNone plan (Store src base offset size after)
-  at b k p u n rule = (refl, aligned_none plan k u (address_of b plan (Store src base offset size after) u) size (either _ _ (rule.accesses refl) off))
+  at b k p u n rule = (refl, ap entered_in (aligned_owes_none b plan k u (Store src base offset size after) (rule.accesses refl) off))
 
 -- where interrupts are off none is taken
 no_irqs : (plan : PlanData) (k : Key) (u : State) → u.ie ≡ false → entered_in (interrupts_of plan k u) ≡ []
@@ -82,19 +69,13 @@ entered_plain b image plan k p u faultless at =
     ∙ ap (λ (l : List Key). l ++ es) entered.1
 
 -- what stands there
-pub plain_found : (b : Limits) (plan : PlanData) (image : ImageData) (p : ℕ) (u : State) → IsPlainAt image plan p → Located
-plain_found b plan image p u at = record { shape = at.shape; size = at.size; at = address_of b plan at.shape u }
+pub plain_found : (image : ImageData) (plan : PlanData) (p : ℕ) → IsPlainAt image plan p → Located
+plain_found image plan p at = record { shape = at.shape; size = at.size }
 
-pub plain_stands : (g : Ground) (k : Key) (p : ℕ) (u : State) → IsFaultless g.bounds.now g.image.now g.plan.now k p u → IsProper g.bounds.now u → (at : IsPlainAt g.image.now g.plan.now p)
-    → StandsFaultless g.bounds.now g.image.now g.plan.now k p u (plain_found g.bounds.now g.plan.now g.image.now p u at)
+pub plain_stands : (g : Ground) (k : Key) (p : ℕ) (u : State) → IsFaultless g.bounds.now g.image.now g.plan.now k p u → (at : IsPlainAt g.image.now g.plan.now p)
+    → StandsFaultless g.bounds.now g.image.now g.plan.now k p u (plain_found g.image.now g.plan.now p at)
 unfolding plain_found
-plain_stands g k p u faultless proper at = record {
-  faultless = faultless;
-  code = at.code;
-  shape = at.shaped;
-  access = refl;
-  value = address_value g.bounds.now g.plan.now at.shape u (setting_of g.bounds.now g.image.now g.plan.now u g.sound proper) at.shaped;
-}
+plain_stands g k p u faultless at = record { faultless = faultless; code = at.code; shape = at.shaped }
 
 -- the row has no frame that is entered
 pub quiet_row_is : (s : Source) → IsSource s → (k : Key) (p : ℕ) (w : Known) (row : Row) → (seen s.table.now).cells (point k p) ≡ Some w → IsQuiet w row.held → IsPlainAt (s.ground.now).image.now (s.ground.now).plan.now p
@@ -114,8 +95,8 @@ quiet_row_is s source k p w row at is_quiet plain_at node none =
       u,
       there,
       record {
-        found = plain_found g.bounds.now g.plan.now g.image.now p u plain_at;
-        stands = plain_stands g k p u faultless (done_proper g t done (Point k p) (state u) there) plain_at;
+        found = plain_found g.image.now g.plan.now p plain_at;
+        stands = plain_stands g k p u faultless plain_at;
         node = node frames source.numbers (known_frame _ _ _ (seen t).cells done.closed (map place_of t.points.items) frames (done.counted).each (point k p) (state u) there);
         held = sym quiet.1;
         into = none ∙ sym (ap (λ (l : List Key). map (number_in frames) l) parts);
@@ -124,13 +105,13 @@ quiet_row_is s source k p w row at is_quiet plain_at node none =
 
 -- the row has the handlers of the interrupts that may be taken
 pub plain_row_is : (v : Visit) (frames : List Key) (handlers : List Handler) (row : Row) → IsFaultless (v.ground.now).bounds.now (v.ground.now).image.now (v.ground.now).plan.now v.key v.addr v.state.now
-    → IsProper (v.ground.now).bounds.now v.state.now → IsPlainBy v → AreHandlers (v.ground.now).plan.now frames ((v.ground.now).plan.now).irqs handlers → AllKnownBy v frames → row.node ≡ number_in frames v.key
+    → IsPlainBy v → AreHandlers (v.ground.now).plan.now frames ((v.ground.now).plan.now).irqs handlers → AllKnownBy v frames → row.node ≡ number_in frames v.key
     → row.held ≡ length (v.state.now).locals.items → row.into.items ≡ nodes_taken v.state.now handlers → IsRowBy v frames row
 unfolding plain_found
-plain_row_is v frames handlers row faultless proper plain_at taken all node held into =
+plain_row_is v frames handlers row faultless plain_at taken all node held into =
     let g = v.ground.now in
-    let stands = plain_stands g v.key v.addr v.state.now faultless proper plain_at in
-    let f = plain_found g.bounds.now g.plan.now g.image.now v.addr v.state.now plain_at in
+    let stands = plain_stands g v.key v.addr v.state.now faultless plain_at in
+    let f = plain_found g.image.now g.plan.now v.addr plain_at in
     let own = entered_plain g.bounds.now g.image.now g.plan.now v.key v.addr v.state.now faultless plain_at in
     record {
       found = f;

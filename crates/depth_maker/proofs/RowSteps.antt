@@ -9,7 +9,7 @@ use Rattle.depth_cert.specs.declared.keys.Key.{Key}
 use Rattle.cfg_recover.specs.Assignments.{point, exit}
 use Rattle.depth_cert.specs.Known.{Known, state, leaving, IsProperKnown}
 use Rattle.depth_maker.specs.RowsAt.{IsRowAt}
-use Rattle.depth_maker.specs.RowsBy.{AddsRow, AllKnownBy, IsSource, RowsOn, RowsSoFar}
+use Rattle.depth_maker.specs.RowsBy.{AddsRow, AllKnownBy, HasSame, IsSource, RowsOn, RowsSoFar}
 use Rattle.depth_maker.specs.View.{seen, IsDone}
 use Rattle.frame_places.specs.Spots.{spot_eq}
 use Rattle.depth_maker.specs.Spots.{place_of}
@@ -55,6 +55,17 @@ all_known v t done at =
 pub adds_none : (s : Source) (rows : List Row) (place : Spot) → ((k : Key) (p : ℕ) (u : State) → place ≡ Point k p → (seen s.table.now).cells (point k p) ≡ Some (state u) → ⊥) → AddsRow s rows rows place
 adds_none s rows place out = record { keeps = λ row c. c; sound = λ row c. inl c; complete = λ k p u e at. absurd (out k p u e at) }
 
+-- one place has one state, so its row is one of that place by any of its names
+row_moves : (s : Source) (row : Row) (k : Key) (p : ℕ) (u : State) → (seen s.table.now).cells (point k p) ≡ Some (state u) → IsRowAt (s.ground.now).bounds.now (s.ground.now).image.now (s.ground.now).plan.now (s.table.now).frames.items k p u row
+    → (j : Key) (q : ℕ) (w : State) → Point k p ≡ Point j q → (seen s.table.now).cells (point j q) ≡ Some (state w) → IsRowAt (s.ground.now).bounds.now (s.ground.now).image.now (s.ground.now).plan.now (s.table.now).frames.items j q w row
+row_moves s row k p u at r j q w e there =
+    let key : k ≡ j = cc in
+    let addr : p ≡ q = cc in
+    let same : u ≡ w = one_state u w (let f : Some (state u) ≡ Some (state w) = sym at ∙ (λ i. (seen s.table.now).cells (point (key i) (addr i))) ∙ there in cc) in
+    subst (λ (z : State). IsRowAt (s.ground.now).bounds.now (s.ground.now).image.now (s.ground.now).plan.now (s.table.now).frames.items j q z row) same
+    (subst (λ (n : ℕ). IsRowAt (s.ground.now).bounds.now (s.ground.now).image.now (s.ground.now).plan.now (s.table.now).frames.items j n u row) addr
+    (subst (λ (z : Key). IsRowAt (s.ground.now).bounds.now (s.ground.now).image.now (s.ground.now).plan.now (s.table.now).frames.items z p u row) key r))
+
 pub adds_one : (s : Source) (rows new : List Row) (row : Row) (k : Key) (p : ℕ) (u : State) → new ≡ rows ++ row ∷ [] → (seen s.table.now).cells (point k p) ≡ Some (state u)
     → IsRowAt (s.ground.now).bounds.now (s.ground.now).image.now (s.ground.now).plan.now (s.table.now).frames.items k p u row → AddsRow s rows new (Point k p)
 adds_one s rows new row k p u is at r = record {
@@ -64,17 +75,8 @@ adds_one s rows new row k p u is at r = record {
         | inl old ↦ inl old
         | inr e ↦ inr (k, p, u, at, subst (λ (z : Row). IsRowAt (s.ground.now).bounds.now (s.ground.now).image.now (s.ground.now).plan.now (s.table.now).frames.items k p u z) e r)
       ];
-  complete = λ j q w e there. (row, subst (λ (l : List Row). Contains l row) (sym is) (Contains-push rows row), moved j q w e there);
-} where
-  moved : (j : Key) (q : ℕ) (w : State) → Point k p ≡ Point j q → (seen s.table.now).cells (point j q) ≡ Some (state w)
-      → IsRowAt (s.ground.now).bounds.now (s.ground.now).image.now (s.ground.now).plan.now (s.table.now).frames.items j q w row
-  moved j q w e there =
-      let key : k ≡ j = cc in
-      let addr : p ≡ q = cc in
-      let same : u ≡ w = one_state u w (let f : Some (state u) ≡ Some (state w) = sym at ∙ (λ i. (seen s.table.now).cells (point (key i) (addr i))) ∙ there in cc) in
-      subst (λ (z : State). IsRowAt (s.ground.now).bounds.now (s.ground.now).image.now (s.ground.now).plan.now (s.table.now).frames.items j q z row) same
-      (subst (λ (n : ℕ). IsRowAt (s.ground.now).bounds.now (s.ground.now).image.now (s.ground.now).plan.now (s.table.now).frames.items j n u row) addr
-      (subst (λ (z : Key). IsRowAt (s.ground.now).bounds.now (s.ground.now).image.now (s.ground.now).plan.now (s.table.now).frames.items z p u row) key r))
+  complete = λ j q w e there. (row, subst (λ (l : List Row). Contains l row) (sym is) (Contains-push rows row), row_moves s row k p u at r j q w e there);
+}
 
 -- of a place that is known to be a point
 pub adds_unknown : (s : Source) (rows : List Row) (place : Spot) (k : Key) (p : ℕ) → place ≡ Point k p → (seen s.table.now).cells (point k p) ≡ None → AddsRow s rows rows place
@@ -89,6 +91,21 @@ adds_unknown s rows place k p is none = adds_none s rows place (λ j q u e at. o
 pub adds_known : (s : Source) (rows new : List Row) (row : Row) (place : Spot) (k : Key) (p : ℕ) → place ≡ Point k p → new ≡ rows ++ row ∷ []
     → ((u : State) × ((seen s.table.now).cells (point k p) ≡ Some (state u)) × IsRowAt (s.ground.now).bounds.now (s.ground.now).image.now (s.ground.now).plan.now (s.table.now).frames.items k p u row) → AddsRow s rows new place
 adds_known s rows new row place k p is more h = subst (AddsRow s rows new) (sym is) (adds_one s rows new row k p h.0 more h.1 h.2)
+
+-- a row that stands there says it already
+pub adds_same : (s : Source) (rows : List Row) (row : Row) (place : Spot) (k : Key) (p : ℕ) → place ≡ Point k p → HasSame rows row
+    → ((u : State) × ((seen s.table.now).cells (point k p) ≡ Some (state u)) × IsRowAt (s.ground.now).bounds.now (s.ground.now).image.now (s.ground.now).plan.now (s.table.now).frames.items k p u row) → AddsRow s rows rows place
+adds_same s rows row place k p is h r =
+    let e = h.2 in
+    let at = r.2 in
+    let same : IsRowAt (s.ground.now).bounds.now (s.ground.now).image.now (s.ground.now).plan.now (s.table.now).frames.items k p r.0 h.0 = record {
+      found = at.found;
+      stands = at.stands;
+      node = e.node ∙ at.node;
+      held = e.held ∙ at.held;
+      into = e.into ∙ at.into;
+    } in
+    subst (AddsRow s rows rows) (sym is) (record { keeps = λ x c. c; sound = λ x c. inl c; complete = λ j q w f there. (h.0, h.1, row_moves s h.0 k p r.0 r.1 same j q w f there) })
 
 pub rows_none : (g : Ground) (t : made.Table) → RowsSoFar g t [] 0
 rows_none g t = record { sound = λ row c. absurd (omega (arith, c.1)); complete = λ k p u c at. absurd (omega (arith, c.1)) }

@@ -33,6 +33,16 @@ pub record AllKnownBy (v : Visit) (frames : List Key) : Type 0 where
   pub own : Contains frames v.key
   pub entered : (found : Located) → StandsBy v found → (k : Key) → Contains (entered_in (duties_by v found)) k → Contains frames k
 
+-- two rows that say the same
+pub record SaysSame (a b : Row) : Type 0 where
+  pub node : a.node ≡ b.node
+  pub held : a.held ≡ b.held
+  pub into : a.into.items ≡ b.into.items
+
+-- one of these rows says what this one says
+abbrev pub HasSame : List Row → Row → Type 0
+HasSame rows row = (other : Row) × Contains rows other × SaysSame other row
+
 -- the rows of the first i points of the table
 pub record RowsSoFar (g : Ground) (t : made.Table) (rows : List Row) (i : ℕ) : Type 0 where
   pub sound :

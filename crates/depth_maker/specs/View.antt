@@ -6,7 +6,6 @@ use Rattle.std.specs.declared.vec.Vec.{Vec}
 use Rattle.std.specs.declared.alloc.Global.{Global}
 use Rattle.elf_image.specs.Images.{ImageData}
 use Rattle.tcd_plan.specs.PlanData.{PlanData}
-use Rattle.value_domain.specs.declared.values.Val.{Val}
 use Rattle.value_domain.specs.declared.states.State.{State}
 use Rattle.value_domain.specs.Limits.{Limits}
 use Rattle.depth_cert.specs.declared.keys.Key.{Key}
@@ -15,9 +14,9 @@ use Rattle.vd_transfer.specs.Branches.{refine_of}
 use Rattle.cfg_recover.specs.declared.local.Located.{Located}
 use Rattle.cfg_recover.specs.Changes.{StandsFaultless}
 use Rattle.cfg_recover.specs.Code.{IsCode}
-use Rattle.cfg_recover.specs.Entries.{call_key, sys_key, sys_entry}
+use Rattle.cfg_recover.specs.Entries.{aln_entry, aln_key, call_key, sys_key, sys_entry}
 use Rattle.cfg_recover.specs.Local.{IsFaultless}
-use Rattle.cfg_recover.specs.Duties.{Duty, Owed, duties_of, entered_and_back, entries_of, interrupts_of, misaligned_at, misaligned_of, next_of, successors_of}
+use Rattle.cfg_recover.specs.Duties.{Duty, Owed, duties_of, enter, entered_and_back, entries_of, interrupts_of, misaligned_of, next_of, owed, successors_of}
 use Rattle.cfg_recover.specs.Assignments.{point, CoversAt, Asks, Closed, Derived, raised}
 use Rattle.depth_cert.specs.Known.{Known, state, CoversKnown, joined_known, IsProper, IsProperKnown}
 use Rattle.cfg_recover.specs.Refusals.{IsFault}
@@ -249,11 +248,11 @@ system_by v tin back = entered_and_back 12 (sys_key (v.ground.now).plan.now v.ke
 abbrev pub entries_by : Visit → Shape → ℕ → List Owed
 entries_by v shape size = entries_of (v.ground.now).plan.now v.key v.addr v.state.now shape size
 
--- to enter the handler of misaligned accesses, where an access to these addresses may be one
-abbrev pub misaligned_by : Visit → Val → ℕ → List Owed
-misaligned_by v at size = misaligned_at (v.ground.now).plan.now v.key v.state.now at size
+-- to enter the handler of misaligned accesses
+abbrev pub misaligned_by : Visit → Owed
+misaligned_by v = owed 10 (enter (aln_key (v.ground.now).plan.now v.key) (aln_entry (v.ground.now).plan.now v.key v.state.now))
 
--- the same for the address that the instruction accesses
+-- the same, where an address that the instruction accesses may be misaligned
 abbrev pub access_by : Visit → Located → List Owed
 access_by v found = misaligned_of (v.ground.now).bounds.now (v.ground.now).plan.now v.key v.state.now found.shape
 

@@ -38,8 +38,7 @@ pub(crate) fn pay_jump(
     if has_work(&table.marks, table.near, Spot::Point(v.key, v.addr)) {
         return Ok(());
     }
-    let asked = Asked::Changed(v.state, c);
-    raise(alloc, v.ground, table, Spot::Point(v.key, to), &asked)
+    pay_first(alloc, table, v, to, c)
 }
 
 /// The same before anything else is joined, while the point has the state that it is visited with.
@@ -60,7 +59,7 @@ pub(crate) fn pay_first(
     ensures err { IfErr result (AnsweredOn v.now.ground.now) }
 {
     let asked = Asked::Changed(v.state, c);
-    raise(alloc, v.ground, table, Spot::Point(v.key, to), &asked)
+    raise(alloc, table, v, Spot::Point(v.key, to), &asked)
 }
 
 /// An entry of a frame, with a changed state.
@@ -87,7 +86,7 @@ pub(crate) fn pay_enter(
     if has_work(&table.marks, table.near, Spot::Point(v.key, v.addr)) {
         return Ok(());
     }
-    raise(alloc, v.ground, table, entry, &asked)
+    raise(alloc, table, v, entry, &asked)
 }
 
 /// The point's frame is left.
@@ -103,7 +102,7 @@ pub(crate) fn pay_leave(alloc: Global, table: &mut Table, v: &Visit) -> Result<(
         return Ok(());
     }
     let asked = Asked::Leaving(v.state);
-    raise(alloc, v.ground, table, Spot::Exit(v.key), &asked)
+    raise(alloc, table, v, Spot::Exit(v.key), &asked)
 }
 
 /// Where a frame of this key has an exit, the point's frame goes on at `back`.
@@ -130,7 +129,7 @@ fn pay_back(alloc: Global, table: &mut Table, v: &Visit, key: Key, back: u32) ->
     }
     let copy = exit.copy(alloc)?;
     let asked = Asked::After(v.state, &copy, key.kind);
-    raise(alloc, v.ground, table, to, &asked)
+    raise(alloc, table, v, to, &asked)
 }
 
 /// The point is told of the exit of the frame that it enters, and goes on at `back` where there is one.

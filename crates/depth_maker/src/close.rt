@@ -1,8 +1,7 @@
 // The visits of all points that have work.
-ghost use Rattle.std.specs.Prelude.{◌≡◌, ◌↔◌, IsTrue, OnOk, IfOk, IfErr, None, Some};
+ghost use Rattle.std.specs.Prelude.{◌≡◌, IsTrue, OnOk, IfOk, IfErr, None, Some};
 ghost use Rattle.indexmap.specs.IndexMap.{get};
 ghost use Rattle.cfg_recover.specs.Entries as entries;
-ghost use Rattle.frame_places.specs.declared.places.Mark.TheVariants.{Open};
 ghost use Rattle.frame_places.specs.declared.places.Spot as spots;
 ghost use Rattle.frame_places.specs.declared.places.Spot.TheVariants.{Point};
 ghost use Rattle.frame_places.specs.Spots.{spot_eq};
@@ -14,13 +13,20 @@ use crate::paying::pay;
 use crate::table::Table;
 use cfg_recover::{start_key, start_state};
 use depth_cert::Key;
-use frame_places::{Mark, Refusal, Spot, get_near, index_after, set_mark, settle};
+use frame_places::{Mark, Refusal, Spot, get_near, open_after, settle};
 use indexmap::IndexMap;
 use small_states::{Asked, Cell};
 use std::alloc::Global;
 use std::collections::VecDeque;
 use value_domain::State;
-use vd_transfer::unchanged;
+use vd_transfer::{Change, unchanged};
+
+/// What visits write over: the state of the point, and what its instruction changes.
+#[derive(Drop)]
+struct Scratch {
+    state: State,
+    change: Change,
+}
 
 /// Nothing is read.
 fn no_readers(alloc: Global) -> IndexMap<Spot, Vec<Spot>>
@@ -71,8 +77,7 @@ fn open_next(_ground: &Ground, table: &mut Table) -> Result<Option<Spot>, Refusa
     match table.work.pop_front() {
         None => Ok(None),
         Some(x) => {
-            table.near = index_after(&table.marks, table.near, x);
-            set_mark(&mut table.marks, table.near, x, Mark::Open)?;
+            table.near = open_after(&mut table.marks, table.near, x)?;
             Ok(Some(x))
         }
     }
@@ -84,7 +89,7 @@ fn pay_point(
     alloc: Global,
     ground: &Ground,
     table: &mut Table,
-    scratch: &mut State,
+    scratch: &mut Scratch,
     key: Key,
     addr: u32,
 ) -> Result<bool, Refusal>
@@ -97,14 +102,14 @@ fn pay_point(
     let Some(cell) = get_near(&table.cells, table.near, Spot::Point(key, addr)) else {
         return Ok(false);
     };
-    cell.read_state(ground.bounds, scratch);
+    cell.read_state(ground.bounds, &mut scratch.state);
     let v = Visit {
         ground,
         key,
         addr,
-        state: &*scratch,
+        state: &scratch.state,
     };
-    pay(alloc, table, &v)
+    pay(alloc, table, &v, &mut scratch.change)
 }
 
 /// Joins what is owed at a place, and says whether an instruction there is seen to enter no frame by itself; nothing is owed
@@ -113,7 +118,7 @@ fn pay_place(
     alloc: Global,
     ground: &Ground,
     table: &mut Table,
-    scratch: &mut State,
+    scratch: &mut Scratch,
     x: Spot,
 ) -> Result<bool, Refusal>
     requires fine { FineOn ground.now table.old }
@@ -133,7 +138,7 @@ fn visit(
     alloc: Global,
     ground: &Ground,
     table: &mut Table,
-    scratch: &mut State,
+    scratch: &mut Scratch,
     x: Spot,
 ) -> Result<(), Refusal>
     requires fine { FineOn ground.now table.old }
@@ -151,7 +156,7 @@ fn turn(
     alloc: Global,
     ground: &Ground,
     table: &mut Table,
-    scratch: &mut State,
+    scratch: &mut Scratch,
 ) -> Result<bool, Refusal>
     requires fine { FineOn ground.now table.old }
     requires none { NoneOpen table.old }
@@ -173,7 +178,9 @@ pub(crate) fn close(alloc: Global, ground: &Ground) -> Result<Table, Refusal>
     ensures err { IfErr result (AnsweredOn ground.now) }
 {
     let mut table = begin(alloc, ground)?;
-    let mut scratch = start_state(ground.plan);
+    let state = start_state(ground.plan);
+    let change = unchanged(&state);
+    let mut scratch = Scratch { state, change };
     while turn(alloc, ground, &mut table, &mut scratch)? {}
     Ok(table)
 }

@@ -1,15 +1,19 @@
 // The frames that an instruction enters.
-ghost use Rattle.std.specs.Prelude.{◌≡◌, ◌++◌, [], ◌∷◌, OnOk, IfOk, map, if◌then◌else◌};
-ghost use Rattle.tc_isa.specs.Bounded.{IsShape};
+ghost use Rattle.std.specs.Prelude.{◌≡◌, ◌++◌, [], ◌∷◌, OnOk, IfOk, map, if◌then◌else◌, not};
+ghost use Rattle.tc_isa.specs.Bounded.{IsShape, IsSize};
+ghost use Rattle.vd_transfer.specs.Effects.{address_of};
+ghost use Rattle.depth_cert.specs.Known.{IsProper};
+ghost use Rattle.cfg_recover.specs.Local.{are_aligned};
 ghost use Rattle.cfg_recover.specs.Entries as frames;
 ghost use Rattle.depth_maker.specs.Entered.{entered_in};
-ghost use Rattle.depth_maker.specs.View.{StandsBy, access_by, entries_by};
+ghost use Rattle.depth_maker.specs.View.{StandsBy, access_by, entries_by, misaligned_by};
 
 use crate::ground::Visit;
 use cfg_recover::{Located, aln_key, entered_key, is_aligned, sys_key, targets};
 use depth_cert::Key;
 use std::alloc::{AllocError, Global};
 use tc_isa::Shape;
+use vd_transfer::address_by;
 
 fn add_calls(keys: &mut Vec<Key>, key: Key, targets: &[u32]) -> Result<(), AllocError>
     ensures { OnOk result
@@ -40,21 +44,40 @@ fn add_entries(keys: &mut Vec<Key>, v: &Visit, found: &Located) -> Result<(), Al
     }
 }
 
-/// Whether an access of the instruction may be misaligned.
-fn is_misaligned(v: &Visit, found: &Located) -> bool
-    requires { StandsBy v.now found.now }
-    ensures { entered_in (access_by v.now found.now)
-        ≡ (if result then frames.aln_key v.now.ground.now.plan.now v.now.key ∷ [] else []) }
+/// Whether an address of an access of this shape and size may be misaligned; by itself, as it has room for a value.
+#[inline(never)]
+fn accesses_misaligned(v: &Visit, shape: Shape, size: u8) -> bool
+    requires proper { IsProper v.now.ground.now.bounds.now v.now.state.now }
+    requires shape { IsShape shape }
+    requires size { IsSize size }
+    ensures { result ≡ not (are_aligned (address_of v.now.ground.now.bounds.now
+        v.now.ground.now.plan.now shape v.now.state.now) size) }
 {
+    let g = v.ground;
+    let at = address_by(g.bounds, g.plan, shape, v.state);
+    !is_aligned(g.bounds, &at, size)
+}
+
+/// Whether an access of the instruction may be misaligned; none is where no trap of those is stated.
+pub(crate) fn is_misaligned(v: &Visit, found: &Located) -> bool
+    requires proper { IsProper v.now.ground.now.bounds.now v.now.state.now }
+    requires stands { StandsBy v.now found.now }
+    ensures { access_by v.now found.now ≡ (if result then misaligned_by v.now ∷ [] else []) }
+{
+    let plan = v.ground.plan;
+    if !plan.aln {
+        return false;
+    }
     match found.shape {
-        Shape::Load { size, .. } => !is_aligned(v.ground.bounds, &found.at, size),
-        Shape::Store { size, .. } => !is_aligned(v.ground.bounds, &found.at, size),
+        Shape::Load { size, .. } => accesses_misaligned(v, found.shape, size),
+        Shape::Store { size, .. } => accesses_misaligned(v, found.shape, size),
         _ => false,
     }
 }
 
 fn add_access(keys: &mut Vec<Key>, v: &Visit, found: &Located) -> Result<(), AllocError>
-    requires { StandsBy v.now found.now }
+    requires proper { IsProper v.now.ground.now.bounds.now v.now.state.now }
+    requires stands { StandsBy v.now found.now }
     ensures { OnOk result
         (keys.new.items ≡ keys.old.items ++ entered_in (access_by v.now found.now)) }
 {
@@ -66,7 +89,8 @@ fn add_access(keys: &mut Vec<Key>, v: &Visit, found: &Located) -> Result<(), All
 
 /// The frames that the instruction at the point enters, in the order of its duties.
 pub(crate) fn entered(alloc: Global, v: &Visit, found: &Located) -> Result<Vec<Key>, AllocError>
-    requires { StandsBy v.now found.now }
+    requires proper { IsProper v.now.ground.now.bounds.now v.now.state.now }
+    requires stands { StandsBy v.now found.now }
     ensures { IfOk result (λ keys. keys.items
         ≡ entered_in (entries_by v.now found.now.shape found.now.size)
         ++ entered_in (access_by v.now found.now)) }

@@ -1,28 +1,27 @@
 // The frames that a point enters.
-ghost use Rattle.std.specs.Prelude.{◌≡◌, OnOk, IfErr, IsTrue, [], unwrap_or};
-ghost use Rattle.tc_isa.specs.Bounded.{IsShape, IsSize, IsTarget};
-ghost use Rattle.value_domain.specs.Values.{IsValue};
+ghost use Rattle.std.specs.Prelude.{◌≡◌, OnOk, IfErr, IsTrue, [], ◌∷◌, unwrap_or};
+ghost use Rattle.tc_isa.specs.Bounded.{IsShape, IsTarget};
 ghost use Rattle.vd_transfer.specs.Changes.{state_after};
 ghost use Rattle.depth_cert.specs.Known.{IsProper};
 ghost use Rattle.cfg_recover.specs.Entries as entries;
 ghost use Rattle.cfg_recover.specs.Local.{targets_of};
-ghost use Rattle.cfg_recover.specs.Duties.{entered_and_back, irqs_of};
+ghost use Rattle.cfg_recover.specs.Duties.{irqs_of};
 ghost use Rattle.cfg_recover.specs.Flows as flows;
 ghost use Rattle.cfg_recover.specs.Flows.{told_irqs};
 ghost use Rattle.depth_maker.specs.View.{AnsweredOn, OwesAll, PaidBy, StandsBy, StayPaid, VisitedBy, access_by, calls_by, entries_by, interrupts_by, misaligned_by, system_by};
 
 use crate::asking::{pay_enter, pay_entry};
+use crate::entered::is_misaligned;
 use crate::ground::Visit;
 use crate::heard::Heard;
 use crate::table::Table;
 use cfg_recover::{
-    Located, aln_key, call_change, entered_key, handler_change, interrupts, irq_key, is_aligned,
+    Located, aln_key, call_change, entered_key, handler_change, interrupts, irq_key,
     misaligned_change, sys_key, system_change, targets,
 };
 use frame_places::{Refusal, Spot, has_work};
 use std::alloc::Global;
 use tc_isa::{Shape, Target};
-use value_domain::Val;
 use vd_transfer::Change;
 
 /// Calls of these targets, which come back to `back`.
@@ -112,30 +111,20 @@ pub(crate) fn pay_entries(
     }
 }
 
-/// The entry of the handler of misaligned accesses, where one of these addresses may be so.
-fn pay_misaligned(
-    alloc: Global,
-    table: &mut Table,
-    v: &Visit,
-    at: &Val,
-    size: u8,
-) -> Result<(), Refusal>
+/// The entry of the handler of misaligned accesses; by itself, as it has room for a change.
+#[inline(never)]
+fn pay_misaligned(alloc: Global, table: &mut Table, v: &Visit) -> Result<(), Refusal>
     requires visited { VisitedBy v.now table.old }
-    requires at { IsValue v.now.ground.now.bounds.now at.now }
-    requires size { IsSize size }
-    requires owes { OwesAll v.now (misaligned_by v.now at.now size) }
-    ensures ok { OnOk result (PaidBy v.now table.old table.new (misaligned_by v.now at.now size)) }
+    requires owes { OwesAll v.now (misaligned_by v.now ∷ []) }
+    ensures ok { OnOk result (PaidBy v.now table.old table.new (misaligned_by v.now ∷ [])) }
     ensures err { IfErr result (AnsweredOn v.now.ground.now) }
 {
     let g = v.ground;
-    if is_aligned(g.bounds, at, size) {
-        return Ok(());
-    }
     let entry = misaligned_change(g.bounds, g.plan, &v.key, v.state);
     pay_enter(alloc, table, v, aln_key(g.plan, &v.key), &entry)
 }
 
-/// The same for the access of an instruction.
+/// The same, where an access of the instruction may be misaligned.
 pub(crate) fn pay_access(
     alloc: Global,
     table: &mut Table,
@@ -148,11 +137,10 @@ pub(crate) fn pay_access(
     ensures ok { OnOk result (PaidBy v.now table.old table.new (access_by v.now found.now)) }
     ensures err { IfErr result (AnsweredOn v.now.ground.now) }
 {
-    match found.shape {
-        Shape::Load { size, .. } => pay_misaligned(alloc, table, v, &found.at, size),
-        Shape::Store { size, .. } => pay_misaligned(alloc, table, v, &found.at, size),
-        _ => Ok(()),
+    if !is_misaligned(v, found) {
+        return Ok(());
     }
+    pay_misaligned(alloc, table, v)
 }
 
 /// The entries of these interrupts; `entry` is the change there but for its CCPN.

@@ -1,5 +1,5 @@
 // A visit: all that a point owes is joined, in the order in which its duties are listed.
-ghost use Rattle.std.specs.Prelude.{◌≡◌, IsTrue, OnOk, IfErr, IfOk, Some, not};
+ghost use Rattle.std.specs.Prelude.{◌≡◌, IsTrue, OnOk, IfErr, IfOk, Some};
 ghost use Rattle.cfg_recover.specs.Assignments.{point};
 ghost use Rattle.depth_cert.specs.Known.{state};
 ghost use Rattle.cfg_recover.specs.Duties.{leavings_of};
@@ -17,6 +17,7 @@ use frame_places::{Refusal, Spot};
 use std::alloc::Global;
 use tc_isa::Shape;
 use tcd_plan::Plan;
+use vd_transfer::Change;
 
 /// The frame is left by RET, or by RFE of a system call's handler.
 fn pay_leavings(alloc: Global, table: &mut Table, v: &Visit, shape: Shape) -> Result<(), Refusal>
@@ -38,8 +39,14 @@ fn pay_leavings(alloc: Global, table: &mut Table, v: &Visit, shape: Shape) -> Re
     }
 }
 
-/// All that the point owes, by what stands there.
-fn pay_duties(alloc: Global, table: &mut Table, v: &Visit, found: &Located) -> Result<(), Refusal>
+/// All that the point owes, by what stands there; what its instruction changes is written over `c`.
+fn pay_duties(
+    alloc: Global,
+    table: &mut Table,
+    v: &Visit,
+    found: &Located,
+    c: &mut Change,
+) -> Result<(), Refusal>
     requires visited { VisitedBy v.now table.old }
     requires at { (seen table.old).cells (point v.now.key v.now.addr)
         ≡ Some (state v.now.state.now) }
@@ -47,36 +54,36 @@ fn pay_duties(alloc: Global, table: &mut Table, v: &Visit, found: &Located) -> R
     ensures ok { OnOk result (PaidBy v.now table.old table.new (duties_by v.now found.now)) }
     ensures err { IfErr result (AnsweredOn v.now.ground.now) }
 {
-    pay_successors(alloc, table, v, found)?;
+    pay_successors(alloc, table, v, found, c)?;
     pay_entries(alloc, table, v, found.shape, found.size)?;
     pay_access(alloc, table, v, found)?;
     pay_interrupts(alloc, table, v)?;
     pay_leavings(alloc, table, v, found.shape)
 }
 
-/// Whether the trap of misaligned accesses isn't stated, so that all accesses are aligned.
-fn is_without_trap(plan: &Plan) -> bool
-    ensures { result ≡ not plan.now.aln }
-{
-    !plan.aln
-}
-
-/// Whether an instruction of this shape is seen to enter no frame by itself.
+/// Whether an instruction of this shape is seen to enter no frame by itself; an access is aligned where no trap of misaligned
+/// ones is stated.
 fn enters_none(plan: &Plan, shape: Shape) -> bool
     ensures { IsTrue result → EntersNone plan.now shape }
 {
+    let trapped = plan.aln;
     match shape {
         Shape::Call { .. } => false,
         Shape::Syscall { .. } => false,
-        Shape::Load { .. } => is_without_trap(plan),
-        Shape::Store { .. } => is_without_trap(plan),
+        Shape::Load { .. } => !trapped,
+        Shape::Store { .. } => !trapped,
         _ => true,
     }
 }
 
 /// Joins what the point owes, or some of it where it has work again; says whether its instruction is seen to enter no frame by
-/// itself.
-pub(crate) fn pay(alloc: Global, table: &mut Table, v: &Visit) -> Result<bool, Refusal>
+/// itself. What the instruction changes is written over `c`.
+pub(crate) fn pay(
+    alloc: Global,
+    table: &mut Table,
+    v: &Visit,
+    c: &mut Change,
+) -> Result<bool, Refusal>
     requires visited { VisitedBy v.now table.old }
     requires at { (seen table.old).cells (point v.now.key v.now.addr)
         ≡ Some (state v.now.state.now) }
@@ -88,7 +95,7 @@ pub(crate) fn pay(alloc: Global, table: &mut Table, v: &Visit) -> Result<bool, R
     let g = v.ground;
     match &local_check(g.bounds, g.image, g.plan, &v.key, v.addr, v.state) {
         Ok(found) => {
-            pay_duties(alloc, table, v, found)?;
+            pay_duties(alloc, table, v, found, c)?;
             Ok(enters_none(g.plan, found.shape))
         }
         Err(rule) => Err(Refusal::Fault(*rule, Spot::Point(v.key, v.addr))),

@@ -1,12 +1,12 @@
 // The rows of all points: which frames each enters, by numbers, and with how many locals.
-ghost use Rattle.std.specs.Prelude.{◌≡◌, List, Contains, IfOk, IfSome, IsTrue, OnOk, Ok, Some, map};
+ghost use Rattle.std.specs.Prelude.{◌≡◌, List, IfOk, IfSome, IsTrue, OnOk, Ok, Some};
 ghost use Rattle.depth_cert.specs.declared.keys.Key as keys;
 ghost use Rattle.depth_cert.specs.Known.{IsProper};
-ghost use Rattle.frame_places.specs.Numbers.{number_in};
 ghost use Rattle.cfg_recover.specs.Assignments.{point};
 ghost use Rattle.depth_maker.specs.Handlers.{AreNumbered};
+ghost use Rattle.depth_maker.specs.Entered.{IsPlainAt};
 ghost use Rattle.depth_maker.specs.View.{IsPlainBy, StandsBy, seen};
-ghost use Rattle.depth_maker.specs.RowsBy.{AddsRow, AllKnownBy, FaultlessBy, IsRowBy, IsSource, PointHasRow, RowsOn};
+ghost use Rattle.depth_maker.specs.RowsBy.{AddsRow, AllKnownBy, FaultlessBy, HasSame, IsRowBy, IsSource, PointHasRow, RowsOn};
 
 use crate::entered::entered;
 use crate::ground::{Ground, Visit};
@@ -15,9 +15,7 @@ use crate::table::Table;
 use call_needs::Row;
 use cfg_recover::{Located, local_check, start_state};
 use depth_cert::Key;
-use frame_places::{
-    Refusal, Spot, get_near, index_after, is_plain, number_near, number_of, numbers_of,
-};
+use frame_places::{Refusal, Spot, get_after, is_plain, number_near, number_of, numbers_of};
 use indexmap::IndexMap;
 use small_states::Cell;
 use std::alloc::{AllocError, Global};
@@ -71,7 +69,8 @@ fn plain_row(
     })
 }
 
-/// The row of a point without a fault of its own.
+/// The row of a point without a fault of its own; by itself, as it is seldom asked for.
+#[inline(never)]
 fn row_at(
     alloc: Global,
     v: &Visit,
@@ -125,7 +124,8 @@ impl Scratch {
     }
 }
 
-/// The row of a point where no interrupt may be taken, if its instruction enters no frame by itself.
+/// The row of a point whose instruction enters no frame by itself, if no interrupt may be taken there.
+#[inline(always)]
 fn quiet_row(
     alloc: Global,
     source: &Source,
@@ -136,14 +136,10 @@ fn quiet_row(
 ) -> Option<Row>
     requires source { IsSource source.now }
     requires at { (seen source.now.table.now).cells (point key addr) ≡ Some cell.now }
+    requires plain { IsPlainAt source.now.ground.now.image.now source.now.ground.now.plan.now addr }
     ensures { IfSome result (λ row. PointHasRow source.now key addr (Ok (Some row))) }
 {
-    if !is_plain(&source.table.marks, scratch.near, Spot::Point(key, addr)) {
-        return None;
-    }
-    let Some(held) = cell.quiet_locals() else {
-        return None;
-    };
+    let held = cell.quiet_locals()?;
     let node = number_near(source.numbers, scratch.node, key);
     scratch.node = node;
     Some(Row {
@@ -154,6 +150,7 @@ fn quiet_row(
 }
 
 /// The row of a point, or `None` where nothing is known there; its state is written over `scratch`.
+#[inline(always)]
 pub(crate) fn point_row(
     alloc: Global,
     source: &Source,
@@ -165,14 +162,15 @@ pub(crate) fn point_row(
     ensures { PointHasRow source.now key addr result }
 {
     let place = Spot::Point(key, addr);
-    scratch.near = index_after(&source.table.cells, scratch.near, place);
-    let Some(cell) = get_near(&source.table.cells, scratch.near, place) else {
+    let Some(cell) = get_after(&source.table.cells, &mut scratch.near, place) else {
         return Ok(None);
     };
-    if let Some(row) = quiet_row(alloc, source, scratch, cell, key, addr) {
-        return Ok(Some(row));
-    }
     let plain = is_plain(&source.table.marks, scratch.near, place);
+    if plain {
+        if let Some(row) = quiet_row(alloc, source, scratch, cell, key, addr) {
+            return Ok(Some(row));
+        }
+    }
     cell.read_state(source.ground.bounds, &mut scratch.state);
     let v = Visit {
         ground: source.ground,
@@ -184,11 +182,34 @@ pub(crate) fn point_row(
     Ok(Some(row))
 }
 
-/// Adds the row of a place, if it is a point that is known.
+/// Whether the last row of the same frame, which has the number in `last`, says what this one says.
+fn is_said(rows: &[Row], last: &[usize], row: &Row) -> bool
+    ensures { IsTrue result → HasSame rows.now row.now }
+{
+    let Some(number) = last.get(row.node) else {
+        return false;
+    };
+    match rows.get(*number) {
+        Some(other) => {
+            if other.node == row.node {
+                if other.held == row.held {
+                    return other.into.as_slice() == row.into.as_slice();
+                }
+            }
+            false
+        }
+        None => false,
+    }
+}
+
+/// Adds the row of a place, if it is a point that is known and the last row of its frame, by its number in `last`, doesn't say
+/// the same.
+#[inline(always)]
 fn add_row(
     alloc: Global,
     source: &Source,
     rows: &mut Vec<Row>,
+    last: &mut [usize],
     scratch: &mut Scratch,
     place: Spot,
 ) -> Result<(), Refusal>
@@ -201,24 +222,16 @@ fn add_row(
     match point_row(alloc, source, scratch, key, addr)? {
         None => Ok(()),
         Some(row) => {
+            if is_said(rows.as_slice(), &*last, &row) {
+                return Ok(());
+            }
+            if row.node < last.len() {
+                last[row.node] = rows.len();
+            }
             rows.push(row)?;
             Ok(())
         }
     }
-}
-
-/// The rows of these points, which are all of the table.
-fn rows_of(alloc: Global, source: &Source, points: &[Spot]) -> Result<Vec<Row>, Refusal>
-    requires source { IsSource source.now }
-    requires points { points.now ≡ source.now.table.now.points.items }
-    ensures { IfOk result (λ rows. RowsOn source.now.ground.now source.now.table.now rows.items) }
-{
-    let mut rows = Vec::new(alloc);
-    let mut scratch = Scratch::new(source.ground.plan);
-    for p in points {
-        add_row(alloc, source, &mut rows, &mut scratch, *p)?;
-    }
-    Ok(rows)
 }
 
 /// The rows of all points.
@@ -226,5 +239,12 @@ pub(crate) fn rows(alloc: Global, source: &Source) -> Result<Vec<Row>, Refusal>
     requires { IsSource source.now }
     ensures { IfOk result (λ rows. RowsOn source.now.ground.now source.now.table.now rows.items) }
 {
-    rows_of(alloc, source, source.table.points.as_slice())
+    let points = source.table.points.as_slice();
+    let mut rows = Vec::new(alloc);
+    let mut last = vec![in alloc; 0usize; source.table.frames.len()]?;
+    let mut scratch = Scratch::new(source.ground.plan);
+    for p in points {
+        add_row(alloc, source, &mut rows, &mut last, &mut scratch, *p)?;
+    }
+    Ok(rows)
 }

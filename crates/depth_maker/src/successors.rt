@@ -10,32 +10,41 @@ ghost use Rattle.depth_maker.specs.View.{AnsweredOn, OwesAll, PaidBy, StandsBy, 
 use crate::asking::{pay_first, pay_jump};
 use crate::ground::Visit;
 use crate::table::Table;
-use cfg_recover::{Located, loaded_from, targets};
+use cfg_recover::{Located, step_change, targets};
 use frame_places::Refusal;
 use std::alloc::Global;
 use tc_isa::{Shape, Target};
-use vd_transfer::{change_of, change_on, unchanged};
+use vd_transfer::{Change, change_on};
+
+/// A side of a branch: its shape, whether it is taken there, and where it runs on.
+#[derive(Clone, Copy)]
+struct Side {
+    shape: Shape,
+    taken: bool,
+    to: u32,
+}
 
 /// A jump on a side of a branch, if that side is possible.
 fn pay_side(
     alloc: Global,
     table: &mut Table,
     v: &Visit,
-    shape: Shape,
-    taken: bool,
-    to: u32,
+    side: Side,
+    c: &mut Change,
 ) -> Result<(), Refusal>
     requires visited { VisitedBy v.now table.old }
-    requires shape { IsShape shape }
-    requires owes { OwesAll v.now (jump_on to (side_by v.now shape taken)) }
+    requires shape { IsShape side.shape }
+    requires owes { OwesAll v.now (jump_on side.to (side_by v.now side.shape side.taken)) }
     ensures ok { OnOk result
-        (PaidBy v.now table.old table.new (jump_on to (side_by v.now shape taken))) }
+        (PaidBy v.now table.old table.new
+        (jump_on side.to (side_by v.now side.shape side.taken))) }
     ensures err { IfErr result (AnsweredOn v.now.ground.now) }
 {
-    match change_on(v.ground.bounds, v.ground.plan, shape, v.state, taken) {
-        Some(c) => pay_jump(alloc, table, v, to, &c),
-        None => Ok(()),
+    let g = v.ground;
+    if !change_on(g.bounds, g.plan, side.shape, v.state, side.taken, c) {
+        return Ok(());
     }
+    pay_jump(alloc, table, v, side.to, &*c)
 }
 
 /// Both sides of a branch.
@@ -43,40 +52,55 @@ fn pay_sides(
     alloc: Global,
     table: &mut Table,
     v: &Visit,
-    shape: Shape,
-    next: u32,
-    to: u32,
+    next: Side,
+    taken: Side,
+    c: &mut Change,
 ) -> Result<(), Refusal>
     requires visited { VisitedBy v.now table.old }
-    requires shape { IsShape shape }
+    requires next { IsShape next.shape }
+    requires taken { IsShape taken.shape }
     requires owes { OwesAll v.now
-        (jump_on next (side_by v.now shape false) ++ jump_on to (side_by v.now shape true)) }
+        (jump_on next.to (side_by v.now next.shape next.taken)
+        ++ jump_on taken.to (side_by v.now taken.shape taken.taken)) }
     ensures ok { OnOk result
         (PaidBy v.now table.old table.new
-        (jump_on next (side_by v.now shape false) ++ jump_on to (side_by v.now shape true))) }
+        (jump_on next.to (side_by v.now next.shape next.taken)
+        ++ jump_on taken.to (side_by v.now taken.shape taken.taken))) }
     ensures err { IfErr result (AnsweredOn v.now.ground.now) }
 {
-    pay_side(alloc, table, v, shape, false, next)?;
-    pay_side(alloc, table, v, shape, true, to)
+    pay_side(alloc, table, v, next, c)?;
+    pay_side(alloc, table, v, taken, c)
 }
 
 /// A jump to each of these addresses, with the state as it is.
-fn pay_jumps(alloc: Global, table: &mut Table, v: &Visit, targets: &[u32]) -> Result<(), Refusal>
+fn pay_jumps(
+    alloc: Global,
+    table: &mut Table,
+    v: &Visit,
+    targets: &[u32],
+    c: &mut Change,
+) -> Result<(), Refusal>
     requires visited { VisitedBy v.now table.old }
     requires owes { OwesAll v.now (jumps_to v.now.state.now targets.now) }
     ensures ok { OnOk result
         (PaidBy v.now table.old table.new (jumps_to v.now.state.now targets.now)) }
     ensures err { IfErr result (AnsweredOn v.now.ground.now) }
 {
-    let same = unchanged(v.state);
+    c.keep(v.state);
     for t in targets {
-        pay_jump(alloc, table, v, *t, &same)?;
+        pay_jump(alloc, table, v, *t, &*c)?;
     }
     Ok(())
 }
 
 /// A jump with the state as it is.
-fn pay_targets(alloc: Global, table: &mut Table, v: &Visit, to: Target) -> Result<(), Refusal>
+fn pay_targets(
+    alloc: Global,
+    table: &mut Table,
+    v: &Visit,
+    to: Target,
+    c: &mut Change,
+) -> Result<(), Refusal>
     requires visited { VisitedBy v.now table.old }
     requires target { IsTarget to }
     requires owes { OwesAll v.now
@@ -88,11 +112,17 @@ fn pay_targets(alloc: Global, table: &mut Table, v: &Visit, to: Target) -> Resul
     ensures err { IfErr result (AnsweredOn v.now.ground.now) }
 {
     let targets = targets(v.ground.plan, v.state, v.addr, to);
-    pay_jumps(alloc, table, v, targets.as_slice())
+    pay_jumps(alloc, table, v, targets.as_slice(), c)
 }
 
 /// The step to the next instruction, before anything else is joined.
-fn pay_step(alloc: Global, table: &mut Table, v: &Visit, found: &Located) -> Result<(), Refusal>
+fn pay_step(
+    alloc: Global,
+    table: &mut Table,
+    v: &Visit,
+    found: &Located,
+    c: &mut Change,
+) -> Result<(), Refusal>
     requires visited { VisitedBy v.now table.old }
     requires at { (seen table.old).cells (point v.now.key v.now.addr)
         ≡ Some (state v.now.state.now) }
@@ -102,23 +132,18 @@ fn pay_step(alloc: Global, table: &mut Table, v: &Visit, found: &Located) -> Res
     ensures err { IfErr result (AnsweredOn v.now.ground.now) }
 {
     let g = v.ground;
-    let value = loaded_from(g.bounds, g.image, g.plan, found.shape, &found.at);
-    let next = v.addr.wrapping_add(found.size);
-    pay_first(
-        alloc,
-        table,
-        v,
-        next,
-        &change_of(g.bounds, g.plan, found.shape, v.state, value),
-    )
+    step_change(g.bounds, g.image, g.plan, found.shape, v.state, c);
+    pay_first(alloc, table, v, v.addr.wrapping_add(found.size), &*c)
 }
 
 /// The successors in the same frame, without those after a call or a system call; they are joined before anything else.
+/// What the instruction changes is written over `c`.
 pub(crate) fn pay_successors(
     alloc: Global,
     table: &mut Table,
     v: &Visit,
     found: &Located,
+    c: &mut Change,
 ) -> Result<(), Refusal>
     requires visited { VisitedBy v.now table.old }
     requires at { (seen table.old).cells (point v.now.key v.now.addr)
@@ -128,15 +153,24 @@ pub(crate) fn pay_successors(
     ensures ok { OnOk result (PaidBy v.now table.old table.new (successors_by v.now found.now)) }
     ensures err { IfErr result (AnsweredOn v.now.ground.now) }
 {
-    let next = v.addr.wrapping_add(found.size);
     let shape = found.shape;
     match shape {
         Shape::Branch { by, .. } => {
-            pay_sides(alloc, table, v, shape, next, v.addr.wrapping_add(by))
+            let straight = Side {
+                shape,
+                taken: false,
+                to: v.addr.wrapping_add(found.size),
+            };
+            let taken = Side {
+                shape,
+                taken: true,
+                to: v.addr.wrapping_add(by),
+            };
+            pay_sides(alloc, table, v, straight, taken, c)
         }
-        Shape::Jump { to } => pay_targets(alloc, table, v, to),
+        Shape::Jump { to } => pay_targets(alloc, table, v, to, c),
         Shape::Call { .. } | Shape::Ret | Shape::Rfe | Shape::Syscall { .. } | Shape::Mtcr { .. } =>
             Ok(()),
-        _ => pay_step(alloc, table, v, found),
+        _ => pay_step(alloc, table, v, found, c),
     }
 }

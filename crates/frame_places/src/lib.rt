@@ -11,8 +11,8 @@ mod readers;
 mod refusals;
 
 pub use counting::count;
-pub use marks::{has_work, is_plain, set_mark, settle, touch, touch_all, wake};
-pub use nearby::{get_near, index_after};
+pub use marks::{has_work, is_plain, open_after, settle, touch, touch_all, wake};
+pub use nearby::{get_after, get_near, index_after};
 pub use numbers::{number_near, number_of, numbered, numbers_of};
 pub use ordering::{
     address_at, address_in, frames_in_order, orders_of, points_in_order, points_of,

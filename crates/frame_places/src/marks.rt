@@ -2,11 +2,11 @@
 ghost use Rattle.std.specs.Prelude.{◌≡◌, ◌↔◌, IsTrue, OnOk, Some, if◌then◌else◌};
 ghost use Rattle.indexmap.specs.IndexMap.{get};
 ghost use Rattle.frame_places.specs.declared.places.Spot.{Spot};
-ghost use Rattle.frame_places.specs.declared.places.Mark.TheVariants.{Plain, Queued};
+ghost use Rattle.frame_places.specs.declared.places.Mark.TheVariants.{Open, Plain, Queued};
 ghost use Rattle.frame_places.specs.Spots.{spot_eq};
 ghost use Rattle.frame_places.specs.Marks.{AllListed, Touched, Woken, idle_mark, is_queued, settled_mark};
 
-use crate::nearby::{get_near, stands_at};
+use crate::nearby::{get_near, index_after, stands_at};
 use crate::places::{Mark, Spot};
 use indexmap::IndexMap;
 use std::alloc::AllocError;
@@ -69,14 +69,36 @@ pub fn wake(
 }
 
 /// Whether x, whose number is likely to be `near`, is on the list.
+#[inline(always)]
 pub fn has_work(marks: &IndexMap<Spot, Mark>, near: usize, x: Spot) -> bool
     ensures { result ≡ is_queued (get spot_eq marks.now x) }
 {
     matches!(get_near(marks, near, x), Some(Mark::Queued))
 }
 
+/// Begins the visit of x, whose number is likely to follow `last`: marks it as open, and gives its number.
+#[inline(always)]
+pub fn open_after(
+    marks: &mut IndexMap<Spot, Mark>,
+    last: usize,
+    x: Spot,
+) -> Result<usize, AllocError>
+    ensures { OnOk result
+        ((q : Spot) → get spot_eq marks.new q
+        ≡ (if spot_eq x q then Some Open else get spot_eq marks.old q)) }
+{
+    let next = last.wrapping_add(1);
+    if stands_at(&*marks, next, x) {
+        marks[next] = Mark::Open;
+        return Ok(next);
+    }
+    let near = index_after(&*marks, last, x);
+    set_mark(marks, near, x, Mark::Open)?;
+    Ok(near)
+}
+
 /// Marks x, whose number is likely to be `near`.
-pub fn set_mark(
+fn set_mark(
     marks: &mut IndexMap<Spot, Mark>,
     near: usize,
     x: Spot,
@@ -95,10 +117,21 @@ pub fn set_mark(
 }
 
 /// Whether x, whose number is likely to be `near`, has no work and is plain.
+#[inline(always)]
 pub fn is_plain(marks: &IndexMap<Spot, Mark>, near: usize, x: Spot) -> bool
     ensures { IsTrue result ↔ (get spot_eq marks.now x ≡ Some Plain) }
 {
     matches!(get_near(marks, near, x), Some(Mark::Plain))
+}
+
+/// What a place is marked as when its visit is over.
+fn mark_after(mark: Mark, plain: bool) -> Mark
+    ensures { result ≡ settled_mark plain (Some mark) }
+{
+    match mark {
+        Mark::Queued => Mark::Queued,
+        _ => mark_without_work(plain),
+    }
 }
 
 /// What a place without work is marked as.
@@ -110,6 +143,7 @@ fn mark_without_work(plain: bool) -> Mark
 
 /// Ends the visit of x, whose number is likely to be `near` and which may be plain: it has no work, unless it was put on the list
 /// meanwhile.
+#[inline(always)]
 pub fn settle(
     marks: &mut IndexMap<Spot, Mark>,
     near: usize,
@@ -121,6 +155,14 @@ pub fn settle(
         ≡ (if spot_eq x q then Some (settled_mark plain (get spot_eq marks.old x))
         else get spot_eq marks.old q)) }
 {
+    let _len = marks.len();
+    if let Some((key, mark)) = marks.get_index(near) {
+        if *key == x {
+            let after = mark_after(*mark, plain);
+            marks[near] = after;
+            return Ok(());
+        }
+    }
     if has_work(&*marks, near, x) {
         return Ok(());
     }

@@ -46,3 +46,20 @@ pub fn get_near<V>(map: &IndexMap<Spot, V>, near: usize, x: Spot) -> Option<&V>
     }
     map.get(&x)
 }
+
+/// What the map has for x, whose number is likely to follow `last`, which becomes x's number where the map has x.
+#[inline(always)]
+pub fn get_after<'a, V>(map: &'a IndexMap<Spot, V>, last: &mut usize, x: Spot) -> Option<&'a V>
+    ensures value { option_copied result ≡ get spot_eq map.now x }
+{
+    let next = last.wrapping_add(1);
+    if let Some((key, value)) = map.get_index(next) {
+        if *key == x {
+            *last = next;
+            return Some(value);
+        }
+    }
+    let (number, _, value) = map.get_full(&x)?;
+    *last = number;
+    Some(value)
+}

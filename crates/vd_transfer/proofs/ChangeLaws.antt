@@ -17,7 +17,7 @@ use Rattle.vd_transfer.specs.declared.change.Change.{Change}
 use Rattle.vd_transfer.specs.Registers.{slot, set_at, set_reg, write_reg, is_lower}
 use Rattle.vd_transfer.specs.Effects.{forgotten_from}
 use Rattle.vd_transfer.specs.Branches.{set_arg}
-use Rattle.vd_transfer.specs.Changes.{base_of, value_put, put_in, state_after, no_put, reg_put, arg_slot, kept_of}
+use Rattle.vd_transfer.specs.Changes.{base_of, value_put, put_in, state_after, reg_put, arg_slot, kept_in}
 use Rattle.vd_transfer.proofs.HoldLaws.{set_values_at}
 use Rattle.vd_transfer.proofs.RegisterLaws.{length-forgotten, get_or-forgotten}
 
@@ -27,42 +27,52 @@ set_at-is s v None = refl
 set_at-is s v (Some i) = refl
 
 -- ---- writes
-pub written-is : (s : State) (r : ℕ) (v : Val) → state_after s (record (kept_of s) { second = reg_put r v; lower = s.lower && not (is_lower r) }) ≡ write_reg s r v
-written-is s r v = ap (λ (t : State). record t { lower = s.lower && not (is_lower r) }) (sym (set_at-is s v (slot r)))
+pub written-is : (s : State) (c : Change) (r : ℕ) (v : Val) → state_after s (record (kept_in c s) { second = reg_put r v; lower = s.lower && not (is_lower r) }) ≡ write_reg s r v
+written-is s c r v = ap (λ (t : State). record t { lower = s.lower && not (is_lower r) }) (sym (set_at-is s v (slot r)))
 
-pub written-values : (b : Limits) (s : State) (r : ℕ) (v : Val) → AreValues b s.regs → IsValue b v → AreValues b (state_after s (record (kept_of s) { second = reg_put r v; lower = s.lower && not (is_lower r) })).regs
-written-values b s r v values value = subst (λ (t : State). AreValues b t.regs) (sym (written-is s r v)) (set_values_at b s v (slot r) values value)
+pub written-values : (b : Limits) (s : State) (c : Change) (r : ℕ) (v : Val) → AreValues b s.regs → IsValue b v
+    → AreValues b (state_after s (record (kept_in c s) { second = reg_put r v; lower = s.lower && not (is_lower r) })).regs
+written-values b s c r v values value = subst (λ (t : State). AreValues b t.regs) (sym (written-is s c r v)) (set_values_at b s v (slot r) values value)
 
 -- before the third value is put
 abbrev two_put : State → Change → List Val
 two_put s c = put_in (put_in (base_of c.base s.regs) c.first) c.second
 
-free-regs : (s : State) (c : Change) → c.third ≡ no_put → (state_after s c).regs ≡ two_put s c
-free-regs s c free = ap (λ (p : Put). put_in (two_put s c) p) free
+free-regs : (s : State) (c : Change) → c.third.at ≡ None → (state_after s c).regs ≡ two_put s c
+free-regs s c free = ap (λ (o : Option ℕ). value_put (two_put s c) c.third.value o) free
 
-pub written_last-is : (s : State) (c : Change) (r : ℕ) (v : Val) → c.third ≡ no_put → state_after s (record c { third = reg_put r v; lower = c.lower && not (is_lower r) }) ≡ write_reg (state_after s c) r v
-written_last-is s c r v free =
+-- a third value that is put nowhere is of no account
+pub third-free : (s : State) (c : Change) (v : Val) → c.third.at ≡ None → state_after s (record c { third = record c.third { value = v } }) ≡ state_after s c
+third-free s c v free =
+    ap (λ (o : Option ℕ). record (state_after s c) { regs = value_put (two_put s c) v o }) free
+    ∙ sym (ap (λ (o : Option ℕ). record (state_after s c) { regs = value_put (two_put s c) c.third.value o }) free)
+
+pub written_last-is : (s : State) (c : Change) (r : ℕ) → c.third.at ≡ None
+    → state_after s (record c { third = record c.third { at = slot r }; lower = c.lower && not (is_lower r) }) ≡ write_reg (state_after s c) r c.third.value
+written_last-is s c r free =
     sym
-    (ap (λ (t : State). record t { lower = c.lower && not (is_lower r) }) (set_at-is (state_after s c) v (slot r))
-    ∙ ap (λ (vs : List Val). record (state_after s c) { regs = value_put vs v (slot r); lower = c.lower && not (is_lower r) }) (free-regs s c free))
+    (ap (λ (t : State). record t { lower = c.lower && not (is_lower r) }) (set_at-is (state_after s c) c.third.value (slot r))
+    ∙ ap (λ (vs : List Val). record (state_after s c) { regs = value_put vs c.third.value (slot r); lower = c.lower && not (is_lower r) }) (free-regs s c free))
 
-pub written_last-values : (b : Limits) (s : State) (c : Change) (r : ℕ) (v : Val) → AreValues b (state_after s c).regs → c.third ≡ no_put → IsValue b v
-    → AreValues b (state_after s (record c { third = reg_put r v; lower = c.lower && not (is_lower r) })).regs
-written_last-values b s c r v values free value =
-    subst (λ (t : State). AreValues b t.regs) (sym (written_last-is s c r v free)) (set_values_at b (state_after s c) v (slot r) values value)
+pub written_last-values : (b : Limits) (s : State) (c : Change) (r : ℕ) → AreValues b (state_after s c).regs → c.third.at ≡ None → IsValue b c.third.value
+    → AreValues b (state_after s (record c { third = record c.third { at = slot r }; lower = c.lower && not (is_lower r) })).regs
+written_last-values b s c r values free value =
+    subst (λ (t : State). AreValues b t.regs) (sym (written_last-is s c r free)) (set_values_at b (state_after s c) c.third.value (slot r) values value)
 
 -- ---- sides of branches
-bare-regs : (s : State) (c : Change) → c.second ≡ no_put → c.third ≡ no_put → (state_after s c).regs ≡ put_in (base_of c.base s.regs) c.first
-bare-regs s c none free = free-regs s c free ∙ ap (λ (p : Put). put_in (put_in (base_of c.base s.regs) c.first) p) none
+bare-regs : (s : State) (c : Change) → c.second.at ≡ None → c.third.at ≡ None → (state_after s c).regs ≡ put_in (base_of c.base s.regs) c.first
+bare-regs s c none free = free-regs s c free ∙ ap (λ (o : Option ℕ). value_put (put_in (base_of c.base s.regs) c.first) c.second.value o) none
 
-pub one-is : (s : State) (x : ℕ) (v : Val) → state_after s (record (kept_of s) { first = reg_put x v }) ≡ set_reg s x v
-one-is s x v = sym (set_at-is s v (slot x))
+pub one-is : (s : State) (c : Change) (x : ℕ) (v : Val) → state_after s (record (kept_in c s) { first = reg_put x v }) ≡ set_reg s x v
+one-is s c x v = sym (set_at-is s v (slot x))
 
 -- a second value, where none stands behind the first
-pub second-is : (s : State) (c : Change) (y : Arg) (w : Val) → c.second ≡ no_put → c.third ≡ no_put → state_after s (record c { second = record { at = arg_slot y; value = w } }) ≡ set_arg (state_after s c) y w
-second-is s c (Word z) w none free = sym (ap (λ (p : Put). record (state_after s c) { regs = put_in (put_in (put_in (base_of c.base s.regs) c.first) p) c.third }) none)
+pub second-is : (s : State) (c : Change) (y : Arg) (w : Val) → c.second.at ≡ None → c.third.at ≡ None
+    → state_after s (record c { second = record { at = arg_slot y; value = w } }) ≡ set_arg (state_after s c) y w
+second-is s c (Word z) w none free =
+    sym (ap (λ (o : Option ℕ). record (state_after s c) { regs = put_in (value_put (put_in (base_of c.base s.regs) c.first) c.second.value o) c.third }) none)
 second-is s c (Reg r) w none free =
-    ap (λ (p : Put). record (state_after s c) { regs = put_in (value_put (put_in (base_of c.base s.regs) c.first) w (slot r)) p }) free
+    ap (λ (o : Option ℕ). record (state_after s c) { regs = value_put (value_put (put_in (base_of c.base s.regs) c.first) w (slot r)) c.third.value o }) free
     ∙ ap (λ (vs : List Val). record (state_after s c) { regs = value_put vs w (slot r) }) (sym (bare-regs s c none free))
     ∙ sym (set_at-is (state_after s c) w (slot r))
 
@@ -70,11 +80,12 @@ arg_values : (b : Limits) (s : State) (y : Arg) (v : Val) → AreValues b s.regs
 arg_values b s (Reg r) v values value = set_values_at b s v (slot r) values value
 arg_values b s (Word w) v values value = values
 
-pub second_values : (b : Limits) (s : State) (c : Change) (y : Arg) (w : Val) → c.second ≡ no_put → c.third ≡ no_put → AreValues b (state_after s c).regs → IsValue b w → AreValues b (state_after s (record c { second = record { at = arg_slot y; value = w } })).regs
+pub second_values : (b : Limits) (s : State) (c : Change) (y : Arg) (w : Val) → c.second.at ≡ None → c.third.at ≡ None → AreValues b (state_after s c).regs → IsValue b w
+    → AreValues b (state_after s (record c { second = record { at = arg_slot y; value = w } })).regs
 second_values b s c y w none free values value = subst (λ (t : State). AreValues b t.regs) (sym (second-is s c y w none free)) (arg_values b (state_after s c) y w values value)
 
-pub one_values : (b : Limits) (s : State) (x : ℕ) (v : Val) → AreValues b s.regs → IsValue b v → AreValues b (state_after s (record (kept_of s) { first = reg_put x v })).regs
-one_values b s x v values value = subst (λ (t : State). AreValues b t.regs) (sym (one-is s x v)) (set_values_at b s v (slot x) values value)
+pub one_values : (b : Limits) (s : State) (c : Change) (x : ℕ) (v : Val) → AreValues b s.regs → IsValue b v → AreValues b (state_after s (record (kept_in c s) { first = reg_put x v })).regs
+one_values b s c x v values value = subst (λ (t : State). AreValues b t.regs) (sym (one-is s c x v)) (set_values_at b s v (slot x) values value)
 
 -- ---- places
 -- a test that fails refutes what it decides

@@ -4,13 +4,21 @@ use Rattle.tc_isa.specs.declared.shapes.Arg.{Arg}
 use Rattle.tc_isa.specs.declared.shapes.Arg.TheVariants.{Reg, Word}
 use Rattle.value_domain.specs.declared.values.Val.{Val}
 use Rattle.value_domain.specs.declared.states.State.{State}
-use Rattle.value_domain.specs.Values.{any_val}
+use Rattle.tc_isa.specs.declared.shapes.Shape.{Shape}
+use Rattle.tc_isa.specs.declared.shapes.Shape.TheVariants.{Load}
+use Rattle.value_domain.specs.Limits.{Limits}
+use Rattle.value_domain.specs.Values.{IsValue, any_val}
 use Rattle.vd_transfer.specs.declared.change.Base.{Base}
 use Rattle.vd_transfer.specs.declared.change.Base.TheVariants.{Same, Forgotten, Any}
 use Rattle.vd_transfer.specs.declared.change.Put.{Put}
 use Rattle.vd_transfer.specs.declared.change.Change.{Change}
 use Rattle.vd_transfer.specs.Registers.{slot}
 use Rattle.vd_transfer.specs.Effects.{forgotten_from}
+
+-- what was loaded is a value of the limits, where an instruction of this shape writes it
+abbrev pub HasLoaded : Limits → Shape → Val → Type 0
+HasLoaded b (Load dst base offset size signed after) loaded = IsValue b loaded
+HasLoaded b _ loaded = Unit {0}
 
 -- the values that a change starts from: the state's own, those with the lower registers any, or any at each place
 abbrev pub base_of : Base → List Val → List Val
@@ -49,6 +57,19 @@ reg_put r v = record { at = slot r; value = v }
 abbrev pub arg_slot : Arg → Option ℕ
 arg_slot (Reg r) = slot r
 arg_slot (Word w) = None
+
+-- the change that keeps all of a state, with another's values at no place
+abbrev pub kept_in : Change → State → Change
+kept_in c s = record {
+  base = Same;
+  first = record c.first { at = None };
+  second = record c.second { at = None };
+  third = record c.third { at = None };
+  ie = s.ie;
+  ccpn = s.ccpn;
+  lower = s.lower;
+  locals = s.locals;
+}
 
 -- the change that keeps all of a state
 abbrev pub kept_of : State → Change

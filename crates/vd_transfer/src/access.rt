@@ -5,12 +5,13 @@ ghost use Rattle.value_domain.specs.State.{AreValues};
 ghost use Rattle.tc_isa.specs.Bounded.{IsShape, IsArg};
 ghost use Rattle.vd_transfer.specs.Effects.{address_of, access_of};
 ghost use Rattle.tc_isa.specs.declared.shapes.Op.TheVariants.{Add};
+ghost use Rattle.tc_isa.specs.declared.shapes.Arg.TheVariants.{Word};
 
-use crate::operands::{Operands, operate};
-use crate::registers::{any, arg};
+use crate::operands::{Operation, operate};
+use crate::registers::write_arg;
 use tc_isa::{Arg, Op, Shape};
 use tcd_plan::Plan;
-use value_domain::{Bounds, State, Val};
+use value_domain::{Bounds, State, Val, write_any};
 
 /// How an access comes to its address: by a base and an offset, or by the base alone, which is increased afterwards.
 #[derive(Clone, Copy)]
@@ -21,20 +22,65 @@ pub(crate) struct Addressing {
 }
 
 impl Addressing {
-    /// The addressing by this base and offset.
-    pub(crate) fn by(base: Arg, offset: u32, after: bool) -> Addressing
-        ensures { result ≡ record { base = base; offset = offset; after = after } }
+    /// The sum of the base and the offset.
+    pub(crate) fn sum(self) -> Operation
+        ensures { result ≡ record { op = Add; x = self.base; y = Word self.offset } }
     {
-        Addressing {
-            base,
-            offset,
-            after,
+        Operation {
+            op: Op::Add,
+            x: self.base,
+            y: Arg::Word(self.offset),
         }
     }
 }
 
-/// The addresses of an access of this shape.
+/// Writes the addresses of an access of this shape over another value.
 #[tactic(auto, unfolding(crate::specs::Effects::address_of))]
+pub fn write_address(b: &Bounds, plan: &Plan, shape: Shape, s: &State, out: &mut Val)
+    requires shape { IsShape shape }
+    requires values { AreValues b.now s.now.regs }
+    ensures address { out.new ≡ address_of b.now plan.now shape s.now }
+    ensures value { IsValue b.now out.new }
+{
+    let _most_words = b.most_words();
+    match shape {
+        Shape::Load {
+            base,
+            offset,
+            after,
+            ..
+        } => access(
+            b,
+            plan,
+            s,
+            Addressing {
+                base,
+                offset,
+                after,
+            },
+            out,
+        ),
+        Shape::Store {
+            base,
+            offset,
+            after,
+            ..
+        } => access(
+            b,
+            plan,
+            s,
+            Addressing {
+                base,
+                offset,
+                after,
+            },
+            out,
+        ),
+        _ => write_any(out),
+    }
+}
+
+/// The addresses of an access of this shape.
 #[inline(always)]
 pub fn address_by(b: &Bounds, plan: &Plan, shape: Shape, s: &State) -> Val
     requires shape { IsShape shape }
@@ -42,37 +88,20 @@ pub fn address_by(b: &Bounds, plan: &Plan, shape: Shape, s: &State) -> Val
     ensures address { result ≡ address_of b.now plan.now shape s.now }
     ensures value { IsValue b.now result }
 {
-    match shape {
-        Shape::Load {
-            base,
-            offset,
-            after,
-            ..
-        } => access(b, plan, s, Addressing::by(base, offset, after)),
-        Shape::Store {
-            base,
-            offset,
-            after,
-            ..
-        } => access(b, plan, s, Addressing::by(base, offset, after)),
-        _ => any(b),
-    }
+    let mut out = Val::any();
+    write_address(b, plan, shape, s, &mut out);
+    out
 }
 
-/// The address of an access; by itself, so that its caller has no values to fill where there is no access.
-#[inline(never)]
-pub(crate) fn access(b: &Bounds, plan: &Plan, s: &State, at: Addressing) -> Val
+fn access(b: &Bounds, plan: &Plan, s: &State, at: Addressing, out: &mut Val)
     requires base { IsArg at.base }
     requires values { AreValues b.now s.now.regs }
-    ensures access { result ≡ access_of b.now plan.now s.now at.base at.offset at.after }
-    ensures value { IsValue b.now result }
+    ensures access { out.new ≡ access_of b.now plan.now s.now at.base at.offset at.after }
+    ensures value { IsValue b.now out.new }
 {
     if at.after {
-        return arg(b, plan, s, at.base);
+        write_arg(b, plan, s, at.base, out);
+        return;
     }
-    let of = Operands {
-        x: at.base,
-        y: Arg::Word(at.offset),
-    };
-    operate(b, plan, s, Op::Add, of)
+    operate(b, plan, s, at.sum(), out);
 }

@@ -1,5 +1,5 @@
 // What a side of a branch changes.
-ghost use Rattle.std.specs.Prelude.{◌≡◌, ◌<◌, ◌∷◌, [], IfSome, Some, option_map};
+ghost use Rattle.std.specs.Prelude.{◌≡◌, ◌<◌, ◌∷◌, [], IfSome, Some, None};
 ghost use Rattle.value_domain.specs.Values.{IsValue, members};
 ghost use Rattle.value_domain.specs.State.{AreValues};
 ghost use Rattle.tc_isa.specs.Bounded.{IsArg, IsShape};
@@ -11,9 +11,9 @@ ghost use Rattle.vd_transfer.specs.Relations.{relation_of, is_signed, converse, 
 ghost use Rattle.vd_transfer.specs.Registers.{reg_of, arg_of, write_reg, word_val};
 ghost use Rattle.vd_transfer.specs.Operations.{value_of};
 ghost use Rattle.vd_transfer.specs.Branches.{is_reg, refine_of, possible, with_one, with_two, state_on_side, with_lowered_counter};
-ghost use Rattle.vd_transfer.specs.Changes.{state_after, no_put, kept_of};
+ghost use Rattle.vd_transfer.specs.Changes.{state_after};
 
-use crate::change::{Change, unchanged, write_last};
+use crate::change::{Change, write_last};
 use crate::cover::changed_reg;
 use crate::operations::operation;
 use crate::refinement::{Relation, narrow};
@@ -157,8 +157,8 @@ pub(crate) fn is_same(x: u8, y: Arg) -> bool
     }
 }
 
-// What a side changes is written into a change that keeps all, in its place. Whatever has a value of its own to fill stands
-// in a function of its own.
+// What a side changes is written into the change that the caller has, whatever that was. Whatever has a value of its own to
+// fill stands in a function of its own.
 
 /// The register takes what is left of its value, if anything is.
 #[inline(never)]
@@ -166,13 +166,13 @@ fn narrow_one(b: &Bounds, test: Comparison, s: &State, v: &Val, w: &Val, c: &mut
     requires values { AreValues b.now s.now.regs }
     requires left { IsValue b.now v.now }
     requires right { IsValue b.now w.now }
-    requires kept { c.old ≡ kept_of s.now }
     ensures one { possible result (state_after s.now c.new)
         ≡ with_one s.now test.x
         (cover_some b.now (kept_left test.cond test.side (members v.now) (members w.now))) }
     ensures values { AreValues b.now (state_after s.now c.new).regs }
-    ensures free { (c.new.second ≡ no_put) × (c.new.third ≡ no_put) }
+    ensures free { (c.new.second.at ≡ None) × (c.new.third.at ≡ None) }
 {
+    c.keep(s);
     match narrow_left(b, test.cond, test.side, v, w) {
         Some(kept) => {
             c.first.at = slot_of(test.x);
@@ -189,13 +189,12 @@ fn narrow_two(b: &Bounds, test: Comparison, s: &State, v: &Val, w: &Val, c: &mut
     requires values { AreValues b.now s.now.regs }
     requires left { IsValue b.now v.now }
     requires right { IsValue b.now w.now }
-    requires kept { c.old ≡ kept_of s.now }
     ensures two { possible result (state_after s.now c.new)
         ≡ with_two s.now test.x test.y
         (cover_some b.now (kept_left test.cond test.side (members v.now) (members w.now)))
         (cover_some b.now (kept_right test.cond test.side (members v.now) (members w.now))) }
     ensures values { AreValues b.now (state_after s.now c.new).regs }
-    ensures free { c.new.third ≡ no_put }
+    ensures free { c.new.third.at ≡ None }
 {
     if !narrow_one(b, test, s, v, w, c) {
         return false;
@@ -215,13 +214,12 @@ fn narrow_two(b: &Bounds, test: Comparison, s: &State, v: &Val, w: &Val, c: &mut
 fn narrow_constant(b: &Bounds, test: Comparison, s: &State, v: &Val, z: u32, c: &mut Change) -> bool
     requires values { AreValues b.now s.now.regs }
     requires left { IsValue b.now v.now }
-    requires kept { c.old ≡ kept_of s.now }
     ensures two { possible result (state_after s.now c.new)
         ≡ with_two s.now test.x (Word z)
         (cover_some b.now (kept_left test.cond test.side (members v.now) (z ∷ [])))
         (cover_some b.now (kept_right test.cond test.side (members v.now) (z ∷ []))) }
     ensures values { AreValues b.now (state_after s.now c.new).regs }
-    ensures free { c.new.third ≡ no_put }
+    ensures free { c.new.third.at ≡ None }
 {
     narrow_one(b, test, s, v, &constant(b, z), c)
 }
@@ -231,7 +229,6 @@ fn narrow_constant(b: &Bounds, test: Comparison, s: &State, v: &Val, z: u32, c: 
 fn narrow_made(b: &Bounds, plan: &Plan, test: Comparison, s: &State, c: &mut Change) -> bool
     requires operands { (test.x < 32) × IsArg test.y }
     requires values { AreValues b.now s.now.regs }
-    requires kept { c.old ≡ kept_of s.now }
     ensures two { possible result (state_after s.now c.new)
         ≡ with_two s.now test.x test.y
         (cover_some b.now (kept_left test.cond test.side (members (reg_of plan.now s.now test.x))
@@ -239,7 +236,7 @@ fn narrow_made(b: &Bounds, plan: &Plan, test: Comparison, s: &State, c: &mut Cha
         (cover_some b.now (kept_right test.cond test.side (members (reg_of plan.now s.now test.x))
         (members (arg_of plan.now s.now test.y)))) }
     ensures values { AreValues b.now (state_after s.now c.new).regs }
-    ensures free { c.new.third ≡ no_put }
+    ensures free { c.new.third.at ≡ None }
 {
     let v = reg_value(b, plan, s, test.x);
     narrow_two(b, test, s, &v, &arg(b, plan, s, test.y), c)
@@ -249,7 +246,6 @@ fn narrow_made(b: &Bounds, plan: &Plan, test: Comparison, s: &State, c: &mut Cha
 fn narrow_values(b: &Bounds, plan: &Plan, test: Comparison, s: &State, c: &mut Change) -> bool
     requires operands { (test.x < 32) × IsArg test.y }
     requires values { AreValues b.now s.now.regs }
-    requires kept { c.old ≡ kept_of s.now }
     ensures two { possible result (state_after s.now c.new)
         ≡ with_two s.now test.x test.y
         (cover_some b.now (kept_left test.cond test.side (members (reg_of plan.now s.now test.x))
@@ -257,7 +253,7 @@ fn narrow_values(b: &Bounds, plan: &Plan, test: Comparison, s: &State, c: &mut C
         (cover_some b.now (kept_right test.cond test.side (members (reg_of plan.now s.now test.x))
         (members (arg_of plan.now s.now test.y)))) }
     ensures values { AreValues b.now (state_after s.now c.new).regs }
-    ensures free { c.new.third ≡ no_put }
+    ensures free { c.new.third.at ≡ None }
 {
     match reg_in(b, plan, s, test.x) {
         Some(v) => match test.y {
@@ -275,20 +271,23 @@ fn narrow_values(b: &Bounds, plan: &Plan, test: Comparison, s: &State, c: &mut C
 fn narrow_by(b: &Bounds, plan: &Plan, test: Comparison, s: &State, c: &mut Change) -> bool
     requires operands { (test.x < 32) × IsArg test.y }
     requires values { AreValues b.now s.now.regs }
-    requires kept { c.old ≡ kept_of s.now }
     ensures refined { possible result (state_after s.now c.new)
         ≡ state_on_side b.now plan.now test.cond test.x test.y s.now test.side }
     ensures values { AreValues b.now (state_after s.now c.new).regs }
-    ensures free { c.new.third ≡ no_put }
+    ensures free { c.new.third.at ≡ None }
 {
     let _most_words = b.most_words();
     let _globals = &plan.globals;
     if is_same(test.x, test.y) {
+        c.keep(s);
         return holds_itself(test.cond, test.side);
     }
     match arg_word(b, plan, s, Arg::Reg(test.x)) {
         Some(x) => match arg_word(b, plan, s, test.y) {
-            Some(y) => goes(test.cond, test.side, x, y),
+            Some(y) => {
+                c.keep(s);
+                goes(test.cond, test.side, x, y)
+            }
             None => narrow_values(b, plan, test, s, c),
         },
         None => narrow_values(b, plan, test, s, c),
@@ -300,21 +299,22 @@ fn narrow_by(b: &Bounds, plan: &Plan, test: Comparison, s: &State, c: &mut Chang
 fn lower(b: &Bounds, plan: &Plan, x: u8, s: &State, c: &mut Change)
     requires register { x < 32 }
     requires values { AreValues b.now (state_after s.now c.old).regs }
-    requires free { c.old.third ≡ no_put }
+    requires free { c.old.third.at ≡ None }
     ensures lowered { state_after s.now c.new
         ≡ write_reg (state_after s.now c.old) x
         (value_of b.now Sub (reg_of plan.now (state_after s.now c.old) x) (word_val 1)) }
     ensures values { AreValues b.now (state_after s.now c.new).regs }
 {
-    let v = operation(b, Op::Sub, &changed_reg(b, plan, s, c, x), &constant(b, 1));
-    write_last(b, s, c, x, v);
+    let v = changed_reg(b, plan, s, c, x);
+    operation(b, Op::Sub, &v, &constant(b, 1), &mut c.third.value);
+    write_last(b, s, c, x);
 }
 
 /// A loop lowers its register by 1.
 fn lower_counter(b: &Bounds, plan: &Plan, x: u8, lowers: bool, s: &State, c: &mut Change)
     requires register { x < 32 }
     requires values { AreValues b.now (state_after s.now c.old).regs }
-    requires free { c.old.third ≡ no_put }
+    requires free { c.old.third.at ≡ None }
     ensures lowered { Some (state_after s.now c.new)
         ≡ with_lowered_counter b.now plan.now x lowers (Some (state_after s.now c.old)) }
     ensures values { AreValues b.now (state_after s.now c.new).regs }
@@ -324,32 +324,44 @@ fn lower_counter(b: &Bounds, plan: &Plan, x: u8, lowers: bool, s: &State, c: &mu
     }
 }
 
-/// What a side of a branch changes, made in one place.
-#[inline(never)]
-fn change_by(b: &Bounds, plan: &Plan, test: Comparison, lowers: bool, s: &State) -> Option<Change>
+/// What a side of a branch changes, if the side is possible.
+fn change_by(
+    b: &Bounds,
+    plan: &Plan,
+    test: Comparison,
+    lowers: bool,
+    s: &State,
+    c: &mut Change,
+) -> bool
     requires operands { (test.x < 32) × IsArg test.y }
     requires values { AreValues b.now s.now.regs }
-    ensures refine { option_map (λ c. state_after s.now c) result
+    ensures refine { possible result (state_after s.now c.new)
         ≡ with_lowered_counter b.now plan.now test.x lowers
         (state_on_side b.now plan.now test.cond test.x test.y s.now test.side) }
-    ensures values { IfSome result (λ c. AreValues b.now (state_after s.now c).regs) }
+    ensures values { AreValues b.now (state_after s.now c.new).regs }
 {
-    let mut c = unchanged(s);
-    if !narrow_by(b, plan, test, s, &mut c) {
-        return None;
+    if !narrow_by(b, plan, test, s, c) {
+        return false;
     }
-    lower_counter(b, plan, test.x, lowers, s, &mut c);
-    Some(c)
+    lower_counter(b, plan, test.x, lowers, s, c);
+    true
 }
 
-/// What a side of a branch changes, or nothing where the side isn't possible.
+/// What a side of a branch changes, written into `c`, whatever that was. False where the side isn't possible.
 #[tactic(auto, unfolding(crate::specs::Branches::refine_of))]
-pub fn change_on(b: &Bounds, plan: &Plan, shape: Shape, s: &State, side: bool) -> Option<Change>
+pub fn change_on(
+    b: &Bounds,
+    plan: &Plan,
+    shape: Shape,
+    s: &State,
+    side: bool,
+    c: &mut Change,
+) -> bool
     requires shape { IsShape shape }
     requires values { AreValues b.now s.now.regs }
-    ensures refine { option_map (λ c. state_after s.now c) result
+    ensures refine { possible result (state_after s.now c.new)
         ≡ refine_of b.now plan.now shape s.now side }
-    ensures values { IfSome result (λ c. AreValues b.now (state_after s.now c).regs) }
+    ensures values { AreValues b.now (state_after s.now c.new).regs }
 {
     match shape {
         Shape::Branch {
@@ -358,7 +370,10 @@ pub fn change_on(b: &Bounds, plan: &Plan, shape: Shape, s: &State, side: bool) -
             y,
             lowers,
             ..
-        } => change_by(b, plan, Comparison { cond, side, x, y }, lowers, s),
-        _ => None,
+        } => change_by(b, plan, Comparison { cond, side, x, y }, lowers, s, c),
+        _ => {
+            c.keep(s);
+            false
+        }
     }
 }

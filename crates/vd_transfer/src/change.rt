@@ -1,5 +1,5 @@
 // What an instruction changes of a state.
-ghost use Rattle.std.specs.Prelude.{◌≡◌, ◌&&◌, not};
+ghost use Rattle.std.specs.Prelude.{◌≡◌, ◌&&◌, not, None};
 ghost use Rattle.value_domain.specs.Values.{IsValue};
 ghost use Rattle.value_domain.specs.State.{AreValues};
 ghost use Rattle.vd_transfer.specs.Registers.{slot, is_lower, write_reg};
@@ -86,6 +86,26 @@ pub fn unchanged(s: &State) -> Change
     }
 }
 
+impl Change {
+    ghost use Rattle.std.specs.Prelude.{◌≡◌};
+    ghost use Rattle.vd_transfer.specs.Changes.{kept_in, state_after};
+
+    /// Keeps all of a state: nothing is put any more, whatever values were.
+    pub fn keep(&mut self, s: &State)
+        ensures kept { self.new ≡ kept_in self.old s.now }
+        ensures same { state_after s.now self.new ≡ s.now }
+    {
+        self.base = Base::Same;
+        self.first.at = None;
+        self.second.at = None;
+        self.third.at = None;
+        self.ie = s.ie;
+        self.ccpn = s.ccpn;
+        self.lower = s.lower;
+        self.locals = copy_of(&s.locals);
+    }
+}
+
 /// Puts a value where a state has the value of a register, and tells what is left of the mark that
 /// the lower registers are the entry's.
 #[inline(always)]
@@ -98,15 +118,15 @@ pub(crate) fn put_for(put: &mut Put, mark: &mut bool, r: u8)
     *mark = *mark && !lower;
 }
 
-/// Writes a register last.
+/// Writes a register last, with the third value.
 #[inline(always)]
-pub(crate) fn write_last(b: &Bounds, s: &State, c: &mut Change, r: u8, v: Val)
+pub(crate) fn write_last(b: &Bounds, s: &State, c: &mut Change, r: u8)
     requires values { AreValues b.now (state_after s.now c.old).regs }
-    requires free { c.old.third ≡ no_put }
-    requires value { IsValue b.now v }
-    ensures written { state_after s.now c.new ≡ write_reg (state_after s.now c.old) r v }
+    requires free { c.old.third.at ≡ None }
+    requires value { IsValue b.now c.old.third.value }
+    ensures written { state_after s.now c.new
+        ≡ write_reg (state_after s.now c.old) r c.old.third.value }
     ensures values { AreValues b.now (state_after s.now c.new).regs }
 {
     put_for(&mut c.third, &mut c.lower, r);
-    c.third.value = v;
 }

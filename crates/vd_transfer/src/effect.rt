@@ -1,5 +1,5 @@
 // What each instruction changes.
-ghost use Rattle.std.specs.Prelude.{◌≡◌, ◌<◌, ◌≤◌, length, true};
+ghost use Rattle.std.specs.Prelude.{◌≡◌, ◌<◌, ◌≤◌, length, true, None};
 ghost use Rattle.value_domain.specs.Values.{IsValue, any_val};
 ghost use Rattle.value_domain.specs.State.{AreValues};
 ghost use Rattle.tc_isa.specs.Bounded.{IsArg, IsShape};
@@ -7,16 +7,16 @@ ghost use Rattle.tc_isa.specs.declared.shapes.Op.TheVariants.{Add, Sh};
 ghost use Rattle.vd_transfer.specs.Operations.{value_of};
 ghost use Rattle.vd_transfer.specs.Registers.{reg_of, arg_of, write_reg, word_val};
 ghost use Rattle.vd_transfer.specs.Effects.{HasRoom, with_base, saved_lower, restored_lower, transfer_of};
-ghost use Rattle.vd_transfer.specs.Changes.{state_after, no_put, kept_of};
+ghost use Rattle.vd_transfer.specs.Changes.{HasLoaded, state_after};
 
 use crate::access::Addressing;
-use crate::change::{Base, Change, put_for, unchanged, write_last};
-use crate::operands::{Operands, operate};
+use crate::change::{Base, Change, put_for, write_last};
+use crate::operands::{Operation, operate};
 use crate::operations::operation;
-use crate::registers::{constant, reg_value};
+use crate::registers::reg_value;
 use tc_isa::{Arg, Op, Shape};
 use tcd_plan::Plan;
-use value_domain::{Bounds, State, Val};
+use value_domain::{Bounds, State, write_any};
 
 /// The registers of a scaled address, a base plus an index shifted left by n.
 #[derive(Clone, Copy)]
@@ -26,228 +26,204 @@ struct ScaledAddress {
     n: u8,
 }
 
-// What makes values stands in functions of its own, so that `change_of` has none to fill where nothing is computed. Each
-// writes into the change that is returned.
+// Each writes into the change that its caller has, where it stays.
 
-#[inline(never)]
-fn keep_all(b: &Bounds, s: &State) -> Change
-    requires { AreValues b.now s.now.regs }
-    ensures same { state_after s.now result ≡ s.now }
-    ensures values { AreValues b.now (state_after s.now result).regs }
-{
-    unchanged(s)
-}
-
-#[inline(never)]
-fn compute(b: &Bounds, plan: &Plan, s: &State, op: Op, dst: u8, of: Operands) -> Change
+fn compute(b: &Bounds, plan: &Plan, s: &State, dst: u8, of: Operation, c: &mut Change)
     requires operands { IsArg of.x × IsArg of.y }
     requires values { AreValues b.now s.now.regs }
-    ensures write { state_after s.now result
+    ensures write { state_after s.now c.new
         ≡ write_reg s.now dst
-        (value_of b.now op (arg_of plan.now s.now of.x) (arg_of plan.now s.now of.y)) }
-    ensures values { AreValues b.now (state_after s.now result).regs }
+        (value_of b.now of.op (arg_of plan.now s.now of.x) (arg_of plan.now s.now of.y)) }
+    ensures values { AreValues b.now (state_after s.now c.new).regs }
+    ensures third { c.new.third ≡ record c.old.third { at = None } }
 {
-    let mut c = unchanged(s);
+    c.keep(s);
     put_for(&mut c.second, &mut c.lower, dst);
-    c.second.value = operate(b, plan, s, op, of);
-    c
+    operate(b, plan, s, of, &mut c.second.value);
 }
 
+/// A register takes a base plus an index shifted left.
 #[inline(never)]
-fn scale(b: &Bounds, plan: &Plan, s: &State, dst: u8, at: ScaledAddress) -> Change
+fn scale(b: &Bounds, plan: &Plan, s: &State, dst: u8, at: ScaledAddress, c: &mut Change)
     requires registers { (at.base < 32) × (at.index < 32) }
     requires values { AreValues b.now s.now.regs }
-    ensures write { state_after s.now result
+    ensures write { state_after s.now c.new
         ≡ write_reg s.now dst
         (value_of b.now Add (reg_of plan.now s.now at.base)
         (value_of b.now Sh (reg_of plan.now s.now at.index) (word_val at.n))) }
-    ensures values { AreValues b.now (state_after s.now result).regs }
-{
-    let by = operation(
-        b,
-        Op::Sh,
-        &reg_value(b, plan, s, at.index),
-        &constant(b, u32::from(at.n)),
-    );
-    let mut c = unchanged(s);
-    put_for(&mut c.second, &mut c.lower, dst);
-    c.second.value = operation(b, Op::Add, &reg_value(b, plan, s, at.base), &by);
-    c
-}
-
-/// Increases a register by the offset of an access.
-#[inline(never)]
-fn increase(b: &Bounds, plan: &Plan, s: &State, r: u8, offset: u32, c: &mut Change)
-    requires register { r < 32 }
-    requires values { AreValues b.now s.now.regs }
-    requires kept { c.old ≡ kept_of s.now }
-    ensures write { state_after s.now c.new
-        ≡ write_reg s.now r (value_of b.now Add (reg_of plan.now s.now r) (word_val offset)) }
     ensures values { AreValues b.now (state_after s.now c.new).regs }
-    ensures free { c.new.third ≡ no_put }
 {
-    let of = Operands {
-        x: Arg::Reg(r),
-        y: Arg::Word(offset),
+    let by = Operation {
+        op: Op::Sh,
+        x: Arg::Reg(at.index),
+        y: Arg::Word(u32::from(at.n)),
     };
-    put_for(&mut c.second, &mut c.lower, r);
-    c.second.value = operate(b, plan, s, Op::Add, of);
+    c.keep(s);
+    put_for(&mut c.second, &mut c.lower, dst);
+    operate(b, plan, s, by, &mut c.third.value);
+    operation(
+        b,
+        Op::Add,
+        &reg_value(b, plan, s, at.base),
+        &c.third.value,
+        &mut c.second.value,
+    );
 }
 
 /// Increases the base register by the offset, where the access says so.
 fn increase_base(b: &Bounds, plan: &Plan, s: &State, at: Addressing, c: &mut Change)
     requires base { IsArg at.base }
     requires values { AreValues b.now s.now.regs }
-    requires kept { c.old ≡ kept_of s.now }
     ensures base { state_after s.now c.new
         ≡ with_base b.now plan.now s.now at.base at.offset at.after }
     ensures values { AreValues b.now (state_after s.now c.new).regs }
-    ensures free { c.new.third ≡ no_put }
+    ensures third { c.new.third ≡ record c.old.third { at = None } }
 {
     if !at.after {
+        c.keep(s);
         return;
     }
     match at.base {
-        Arg::Reg(r) => increase(b, plan, s, r, at.offset, c),
-        Arg::Word(_) => {}
+        Arg::Reg(r) => compute(b, plan, s, r, at.sum(), c),
+        Arg::Word(_) => c.keep(s),
     }
 }
 
-#[inline(never)]
-fn store(b: &Bounds, plan: &Plan, s: &State, at: Addressing) -> Change
+/// A register takes what was loaded, the third value.
+fn load_into(b: &Bounds, plan: &Plan, s: &State, at: Addressing, dst: u8, c: &mut Change)
     requires base { IsArg at.base }
     requires values { AreValues b.now s.now.regs }
-    ensures base { state_after s.now result
-        ≡ with_base b.now plan.now s.now at.base at.offset at.after }
-    ensures values { AreValues b.now (state_after s.now result).regs }
+    requires loaded { IsValue b.now c.old.third.value }
+    ensures write { state_after s.now c.new
+        ≡ write_reg (with_base b.now plan.now s.now at.base at.offset at.after) dst
+        c.old.third.value }
+    ensures values { AreValues b.now (state_after s.now c.new).regs }
 {
-    let mut c = unchanged(s);
-    increase_base(b, plan, s, at, &mut c);
-    c
-}
-
-#[inline(never)]
-fn load_into(b: &Bounds, plan: &Plan, s: &State, at: Addressing, dst: u8, v: Val) -> Change
-    requires base { IsArg at.base }
-    requires values { AreValues b.now s.now.regs }
-    requires loaded { IsValue b.now v }
-    ensures write { state_after s.now result
-        ≡ write_reg (with_base b.now plan.now s.now at.base at.offset at.after) dst v }
-    ensures values { AreValues b.now (state_after s.now result).regs }
-{
-    let mut c = unchanged(s);
-    increase_base(b, plan, s, at, &mut c);
-    write_last(b, s, &mut c, dst, v);
-    c
+    increase_base(b, plan, s, at, c);
+    write_last(b, s, c, dst);
 }
 
 /// A register takes any value.
-#[inline(never)]
-fn write_any(b: &Bounds, s: &State, dst: u8) -> Change
+fn put_any(b: &Bounds, s: &State, dst: u8, c: &mut Change)
     requires { AreValues b.now s.now.regs }
-    ensures write { state_after s.now result ≡ write_reg s.now dst any_val }
-    ensures values { AreValues b.now (state_after s.now result).regs }
+    ensures write { state_after s.now c.new ≡ write_reg s.now dst any_val }
+    ensures values { AreValues b.now (state_after s.now c.new).regs }
 {
     let _most_words = b.most_words();
-    let mut c = unchanged(s);
+    c.keep(s);
     put_for(&mut c.second, &mut c.lower, dst);
-    c
+    write_any(&mut c.second.value);
 }
 
 /// Saves a lower context: whether the lower registers are the entry's becomes a local.
-#[inline(never)]
-fn save_lower(s: &State) -> Change
+fn save_lower(s: &State, c: &mut Change)
     requires { length s.now.locals.items < 8 }
-    ensures { state_after s.now result ≡ saved_lower s.now }
+    ensures { state_after s.now c.new ≡ saved_lower s.now }
 {
-    let mut c = unchanged(s);
+    c.keep(s);
     c.locals.push(s.lower);
-    c
 }
 
-#[inline(never)]
-fn begin_isr(s: &State, number: u8) -> Change
+fn begin_isr(s: &State, number: u8, c: &mut Change)
     requires { length s.now.locals.items < 8 }
-    ensures { state_after s.now result ≡ record (saved_lower s.now) { ie = true; ccpn = number } }
+    ensures { state_after s.now c.new ≡ record (saved_lower s.now) { ie = true; ccpn = number } }
 {
-    let mut c = save_lower(s);
+    save_lower(s, c);
     c.ie = true;
     c.ccpn = number;
-    c
 }
 
 /// Restores the last lower context.
-#[inline(never)]
-fn restore_lower(b: &Bounds, s: &State) -> Change
+fn restore_lower(b: &Bounds, s: &State, c: &mut Change)
     requires some { 1 ≤ length s.now.locals.items }
     requires values { AreValues b.now s.now.regs }
-    ensures restored { state_after s.now result ≡ restored_lower s.now }
-    ensures values { AreValues b.now (state_after s.now result).regs }
+    ensures restored { state_after s.now c.new ≡ restored_lower s.now }
+    ensures values { AreValues b.now (state_after s.now c.new).regs }
 {
     let _most_words = b.most_words();
-    let mut c = unchanged(s);
+    c.keep(s);
     let last = c.locals.len() - 1;
     c.lower = c.locals.as_slice()[last];
     c.locals.truncate(last);
     c.base = Base::Forgotten;
-    c
 }
 
-#[inline(never)]
-fn set_enable(s: &State, ie: bool) -> Change
-    ensures { state_after s.now result ≡ record s.now { ie = ie } }
+fn set_enable(s: &State, ie: bool, c: &mut Change)
+    ensures { state_after s.now c.new ≡ record s.now { ie = ie } }
 {
-    let mut c = unchanged(s);
+    c.keep(s);
     c.ie = ie;
-    c
 }
 
-/// What an instruction of this shape changes, where it stays in its frame and isn't a branch or a jump. A load writes
-/// `loaded`, which nothing else uses. There is room where it saves a lower context, and one to restore where it restores one.
+/// What an instruction of this shape changes, where it stays in its frame and isn't a branch or a jump, written into `c`. A
+/// load writes what `c` has as its third value; all else that `c` had is of no account. There is room where it saves a lower
+/// context, and one to restore where it restores one.
 #[tactic(auto, unfolding(crate::specs::Effects::transfer_of))]
-pub fn change_of(b: &Bounds, plan: &Plan, shape: Shape, s: &State, loaded: Val) -> Change
+pub fn change_of(b: &Bounds, plan: &Plan, shape: Shape, s: &State, c: &mut Change)
     requires shape { IsShape shape }
     requires values { AreValues b.now s.now.regs }
-    requires loaded { IsValue b.now loaded }
+    requires loaded { HasLoaded b.now shape c.old.third.value }
     requires room { HasRoom b.now shape s.now }
-    ensures change { state_after s.now result ≡ transfer_of b.now plan.now shape s.now loaded }
-    ensures values { AreValues b.now (state_after s.now result).regs }
+    ensures change { state_after s.now c.new
+        ≡ transfer_of b.now plan.now shape s.now c.old.third.value }
+    ensures values { AreValues b.now (state_after s.now c.new).regs }
 {
     let _most_locals = b.most_locals();
     match shape {
-        Shape::Compute { op, dst, x, y } => compute(b, plan, s, op, dst, Operands { x, y }),
+        Shape::Compute { op, dst, x, y } => compute(b, plan, s, dst, Operation { op, x, y }, c),
         Shape::Scaled {
             dst,
             base,
             index,
             n,
-        } => scale(b, plan, s, dst, ScaledAddress { base, index, n }),
+        } => scale(b, plan, s, dst, ScaledAddress { base, index, n }, c),
         Shape::Load {
             dst,
             base,
             offset,
             after,
             ..
-        } => load_into(b, plan, s, Addressing::by(base, offset, after), dst, loaded),
+        } => load_into(
+            b,
+            plan,
+            s,
+            Addressing {
+                base,
+                offset,
+                after,
+            },
+            dst,
+            c,
+        ),
         Shape::Store {
             base,
             offset,
             after,
             ..
-        } => store(b, plan, s, Addressing::by(base, offset, after)),
-        Shape::Svlcx => save_lower(s),
-        Shape::Rslcx => restore_lower(b, s),
-        Shape::Bisr { c } => begin_isr(s, c),
-        Shape::Enable => set_enable(s, true),
-        Shape::Disable => set_enable(s, false),
-        Shape::Mfcr { dst, .. } => write_any(b, s, dst),
-        Shape::Branch { .. } => keep_all(b, s),
-        Shape::Jump { .. } => keep_all(b, s),
-        Shape::Call { .. } => keep_all(b, s),
-        Shape::Ret => keep_all(b, s),
-        Shape::Rfe => keep_all(b, s),
-        Shape::Syscall { .. } => keep_all(b, s),
-        Shape::Mtcr { .. } => keep_all(b, s),
-        Shape::Nothing => keep_all(b, s),
+        } => increase_base(
+            b,
+            plan,
+            s,
+            Addressing {
+                base,
+                offset,
+                after,
+            },
+            c,
+        ),
+        Shape::Svlcx => save_lower(s, c),
+        Shape::Rslcx => restore_lower(b, s, c),
+        Shape::Bisr { c: number } => begin_isr(s, number, c),
+        Shape::Enable => set_enable(s, true, c),
+        Shape::Disable => set_enable(s, false, c),
+        Shape::Mfcr { dst, .. } => put_any(b, s, dst, c),
+        Shape::Branch { .. } => c.keep(s),
+        Shape::Jump { .. } => c.keep(s),
+        Shape::Call { .. } => c.keep(s),
+        Shape::Ret => c.keep(s),
+        Shape::Rfe => c.keep(s),
+        Shape::Syscall { .. } => c.keep(s),
+        Shape::Mtcr { .. } => c.keep(s),
+        Shape::Nothing => c.keep(s),
     }
 }

@@ -14,7 +14,7 @@ mod registers;
 mod signed_refinement;
 mod strided_interval;
 
-pub use access::address_by;
+pub use access::{address_by, write_address};
 pub use branch::change_on;
 pub use change::{Base, Change, Put, put_register, unchanged};
 pub use cover::{changed_value, covers_changed};

@@ -6,73 +6,74 @@ ghost use Rattle.tc_isa.specs.Bounded.{IsArg};
 ghost use Rattle.vd_transfer.specs.Operations.{value_of};
 ghost use Rattle.vd_transfer.specs.Registers.{arg_of};
 
-use crate::operations::operation;
+use crate::operations::{operation, write_word};
 use crate::registers::{arg, arg_in, arg_word};
 use tc_isa::{Arg, Op, alu};
 use tcd_plan::Plan;
 use value_domain::{Bounds, State, Val};
 
-/// The operands of an operation.
+/// An operation and its operands.
 #[derive(Clone, Copy)]
-pub(crate) struct Operands {
+pub(crate) struct Operation {
+    pub(crate) op: Op,
     pub(crate) x: Arg,
     pub(crate) y: Arg,
 }
 
-/// The value of an operation on operands: at once where they are one word each, else on the state's own values where it
-/// has them. What is made stands in functions of its own.
-#[inline(never)]
-pub(crate) fn operate(b: &Bounds, plan: &Plan, s: &State, op: Op, of: Operands) -> Val
+/// Writes the value of an operation over another: at once where the operands are one word each, else by the state's own values
+/// where it has them. What is made stands in functions of its own.
+pub(crate) fn operate(b: &Bounds, plan: &Plan, s: &State, of: Operation, out: &mut Val)
     requires operands { IsArg of.x × IsArg of.y }
     requires values { AreValues b.now s.now.regs }
-    ensures of { result
-        ≡ value_of b.now op (arg_of plan.now s.now of.x) (arg_of plan.now s.now of.y) }
-    ensures value { IsValue b.now result }
+    ensures of { out.new
+        ≡ value_of b.now of.op (arg_of plan.now s.now of.x) (arg_of plan.now s.now of.y) }
+    ensures value { IsValue b.now out.new }
 {
     let _most_words = b.most_words();
     match arg_word(b, plan, s, of.x) {
         Some(x) => match arg_word(b, plan, s, of.y) {
-            Some(y) => Val::one(alu(op, x, y)),
-            None => on_values(b, plan, s, op, of),
+            Some(y) => write_word(b, alu(of.op, x, y), out),
+            None => on_values(b, plan, s, of, out),
         },
-        None => on_values(b, plan, s, op, of),
+        None => on_values(b, plan, s, of, out),
     }
 }
 
-fn on_values(b: &Bounds, plan: &Plan, s: &State, op: Op, of: Operands) -> Val
+fn on_values(b: &Bounds, plan: &Plan, s: &State, of: Operation, out: &mut Val)
     requires operands { IsArg of.x × IsArg of.y }
     requires values { AreValues b.now s.now.regs }
-    ensures of { result
-        ≡ value_of b.now op (arg_of plan.now s.now of.x) (arg_of plan.now s.now of.y) }
-    ensures value { IsValue b.now result }
+    ensures of { out.new
+        ≡ value_of b.now of.op (arg_of plan.now s.now of.x) (arg_of plan.now s.now of.y) }
+    ensures value { IsValue b.now out.new }
 {
     match arg_in(b, plan, s, of.x) {
         Some(v) => match arg_in(b, plan, s, of.y) {
-            Some(w) => operation(b, op, v, w),
-            None => with_made(b, plan, s, op, v, of.y),
+            Some(w) => operation(b, of.op, v, w, out),
+            None => with_made(b, plan, s, of, v, out),
         },
-        None => on_made(b, plan, s, op, of),
+        None => on_made(b, plan, s, of, out),
     }
 }
 
 #[inline(never)]
-fn on_made(b: &Bounds, plan: &Plan, s: &State, op: Op, of: Operands) -> Val
+fn on_made(b: &Bounds, plan: &Plan, s: &State, of: Operation, out: &mut Val)
     requires operands { IsArg of.x × IsArg of.y }
     requires values { AreValues b.now s.now.regs }
-    ensures of { result
-        ≡ value_of b.now op (arg_of plan.now s.now of.x) (arg_of plan.now s.now of.y) }
-    ensures value { IsValue b.now result }
+    ensures of { out.new
+        ≡ value_of b.now of.op (arg_of plan.now s.now of.x) (arg_of plan.now s.now of.y) }
+    ensures value { IsValue b.now out.new }
 {
-    operation(b, op, &arg(b, plan, s, of.x), &arg(b, plan, s, of.y))
+    let v = arg(b, plan, s, of.x);
+    with_made(b, plan, s, of, &v, out);
 }
 
 #[inline(never)]
-fn with_made(b: &Bounds, plan: &Plan, s: &State, op: Op, v: &Val, y: Arg) -> Val
-    requires operand { IsArg y }
+fn with_made(b: &Bounds, plan: &Plan, s: &State, of: Operation, v: &Val, out: &mut Val)
+    requires operand { IsArg of.y }
     requires values { AreValues b.now s.now.regs }
     requires left { IsValue b.now v.now }
-    ensures of { result ≡ value_of b.now op v.now (arg_of plan.now s.now y) }
-    ensures value { IsValue b.now result }
+    ensures of { out.new ≡ value_of b.now of.op v.now (arg_of plan.now s.now of.y) }
+    ensures value { IsValue b.now out.new }
 {
-    operation(b, op, v, &arg(b, plan, s, y))
+    operation(b, of.op, v, &arg(b, plan, s, of.y), out);
 }

@@ -3,61 +3,72 @@ ghost use Rattle.std.specs.Prelude.{◌≡◌, ◌≤◌, ◌<◌, length, ◌++
 ghost use Rattle.value_domain.specs.Values.{IsValue, cover, members, words_of};
 ghost use Rattle.tc_isa.specs.Arithmetic.{alu_of};
 ghost use Rattle.vd_transfer.specs.Operations.{results, row, pairs, HasMet};
+ghost use Rattle.vd_transfer.specs.Registers.{word_val};
 
+use crate::registers::constant;
 use crate::strided_interval::{gives_truth, interval_of_row};
 use tc_isa::{Op, alu};
 use value_domain::{
     Bounds, Val, add_word, add_words, cover, cover_words, extent_of, extent_with, is_set, span,
 };
 
-/// The value of an operation.
-pub fn operation(b: &Bounds, op: Op, v: &Val, w: &Val) -> Val
+/// Writes a word over a value; by itself, so that the others have no room of a value to fill.
+#[inline(never)]
+pub(crate) fn write_word(b: &Bounds, x: u32, out: &mut Val)
+    ensures word { out.new ≡ word_val x }
+    ensures value { IsValue b.now out.new }
+{
+    *out = constant(b, x);
+}
+
+/// Writes the value of an operation over another.
+pub fn operation(b: &Bounds, op: Op, v: &Val, w: &Val, out: &mut Val)
     requires left { IsValue b.now v.now }
     requires right { IsValue b.now w.now }
-    ensures cover { result ≡ cover b.now (results op v.now w.now) }
-    ensures value { IsValue b.now result }
+    ensures cover { out.new ≡ cover b.now (results op v.now w.now) }
+    ensures value { IsValue b.now out.new }
 {
     match v {
         Val::Set(xs) => match w {
-            Val::Set(ys) => all_pairs(b, op, xs.as_slice(), ys.as_slice()),
-            Val::Span { .. } => from_row(b, op, v, w),
+            Val::Set(ys) => all_pairs(b, op, xs.as_slice(), ys.as_slice(), out),
+            Val::Span { .. } => from_row(b, op, v, w, out),
         },
-        Val::Span { .. } => from_row(b, op, v, w),
+        Val::Span { .. } => from_row(b, op, v, w, out),
     }
 }
 
-/// The results of all pairs: at once where there is one, one by one where there are few.
-fn all_pairs(b: &Bounds, op: Op, xs: &[u32], ys: &[u32]) -> Val
+/// Writes the results of all pairs: at once where there is one, one by one where there are few.
+fn all_pairs(b: &Bounds, op: Op, xs: &[u32], ys: &[u32], out: &mut Val)
     requires left { 1 ≤ length xs.now }
     requires right { 1 ≤ length ys.now }
     requires few { length ys.now ≤ 128 }
-    ensures cover { result ≡ cover b.now (pairs op xs.now ys.now) }
-    ensures value { IsValue b.now result }
+    ensures cover { out.new ≡ cover b.now (pairs op xs.now ys.now) }
+    ensures value { IsValue b.now out.new }
 {
     let _most_words = b.most_words();
     if xs.len() == 1 && ys.len() == 1 {
-        return Val::one(alu(op, xs[0], ys[0]));
+        write_word(b, alu(op, xs[0], ys[0]), out);
+        return;
     }
     if ys.len() <= 64 / xs.len() {
-        return few_pairs(b, op, xs, ys);
+        few_pairs(b, op, xs, ys, out);
+        return;
     }
-    many_pairs(b, op, xs, ys)
+    many_pairs(b, op, xs, ys, out);
 }
 
-/// The results of all pairs, added one by one.
-#[inline(never)]
-fn few_pairs(b: &Bounds, op: Op, xs: &[u32], ys: &[u32]) -> Val
+/// Writes the results of all pairs, added one by one.
+fn few_pairs(b: &Bounds, op: Op, xs: &[u32], ys: &[u32], out: &mut Val)
     requires left { 1 ≤ length xs.now }
     requires right { 1 ≤ length ys.now }
-    ensures cover { result ≡ cover b.now (pairs op xs.now ys.now) }
-    ensures value { IsValue b.now result }
+    ensures cover { out.new ≡ cover b.now (pairs op xs.now ys.now) }
+    ensures value { IsValue b.now out.new }
 {
     let _most_words = b.most_words();
-    let mut out = Val::one(alu(op, xs[0], ys[0]));
+    write_word(b, alu(op, xs[0], ys[0]), out);
     for x in xs {
-        add_few(b, &mut out, op, *x, ys);
+        add_few(b, out, op, *x, ys);
     }
-    out
 }
 
 /// Adds the results of a word and each of the others to a value.
@@ -71,33 +82,31 @@ fn add_few(b: &Bounds, v: &mut Val, op: Op, x: u32, ys: &[u32])
     }
 }
 
-/// The results of all pairs, collected row by row: looked at one by one while they are a Set, else by their extent. The
+/// Writes the results of all pairs, collected row by row: looked at one by one while they are a Set, else by their extent. The
 /// words that were met lately have a table, which is to be filled.
 #[inline(never)]
-fn many_pairs(b: &Bounds, op: Op, xs: &[u32], ys: &[u32]) -> Val
+fn many_pairs(b: &Bounds, op: Op, xs: &[u32], ys: &[u32], out: &mut Val)
     requires left { 1 ≤ length xs.now }
     requires right { 1 ≤ length ys.now }
     requires few { length ys.now ≤ 128 }
-    ensures cover { result ≡ cover b.now (pairs op xs.now ys.now) }
-    ensures value { IsValue b.now result }
+    ensures cover { out.new ≡ cover b.now (pairs op xs.now ys.now) }
+    ensures value { IsValue b.now out.new }
 {
     let _most_words = b.most_words();
     let first = alu(op, xs[0], ys[0]);
     let mut met = [first; 1024];
     let mut room = [0u32; 128];
-    let mut out = Val::one(first);
+    write_word(b, first, out);
     let mut i = 0;
-    while i < xs.len() && is_set(&out) {
+    while i < xs.len() && is_set(out) {
         let row = &mut room[..ys.len()];
         fill(op, xs[i], ys, row);
-        add_row(b, &mut out, &mut met, row);
+        add_row(b, out, &mut met, row);
         i += 1;
     }
-    if xs.len() <= i {
-        return out;
+    if i < xs.len() {
+        widen(b, out, op, &xs[i..], ys, &mut room[..ys.len()]);
     }
-    widen(b, &mut out, op, &xs[i..], ys, &mut room[..ys.len()]);
-    out
 }
 
 /// Adds the results of all pairs to a Span, by the extent of all.
@@ -117,8 +126,7 @@ fn widen(b: &Bounds, v: &mut Val, op: Op, xs: &[u32], ys: &[u32], row: &mut [u32
     *v = span(b, e.least, e.greatest, e.step);
 }
 
-/// Adds words to a value, eight at a time while it is a Set. Of the words that the value has, `met` holds those that were
-/// met lately.
+/// Adds words to a value, eight at a time. Of the words that the value has, `met` holds those that were met lately.
 fn add_row(b: &Bounds, v: &mut Val, met: &mut [u32; 1024], words: &[u32])
     requires value { IsValue b.now v.old }
     requires met { HasMet v.old met.old }
@@ -127,7 +135,7 @@ fn add_row(b: &Bounds, v: &mut Val, met: &mut [u32; 1024], words: &[u32])
     ensures met { HasMet v.new met.new }
 {
     let mut i = 0;
-    while 8 <= words.len() - i && is_set(v) {
+    while 8 <= words.len() - i {
         add_some(b, v, met, &words[i..i + 8]);
         i += 8;
     }
@@ -160,7 +168,8 @@ fn add_some(b: &Bounds, v: &mut Val, met: &mut [u32; 1024], words: &[u32])
     }
 }
 
-/// Adds a word, unless it was met lately.
+/// Adds a word, unless it was met lately. By itself, so that its callers keep nothing at hand for it.
+#[inline(never)]
 fn add_result(b: &Bounds, v: &mut Val, met: &mut [u32; 1024], z: u32)
     requires value { IsValue b.now v.old }
     requires met { HasMet v.old met.old }
@@ -221,22 +230,24 @@ fn fill_by(op: Op, x: u32, ys: &[u32], row: &mut [u32])
     }
 }
 
-/// The row of an operation.
-fn from_row(b: &Bounds, op: Op, v: &Val, w: &Val) -> Val
+/// Writes the row of an operation.
+#[inline(never)]
+fn from_row(b: &Bounds, op: Op, v: &Val, w: &Val, out: &mut Val)
     requires left { IsValue b.now v.now }
     requires right { IsValue b.now w.now }
-    ensures cover { result ≡ cover b.now (row op v.now w.now) }
-    ensures value { IsValue b.now result }
+    ensures cover { out.new ≡ cover b.now (row op v.now w.now) }
+    ensures value { IsValue b.now out.new }
 {
     let _most_words = b.most_words();
     if gives_truth(op) {
-        return cover_words(b, &[0, 1]);
+        *out = cover_words(b, &[0, 1]);
+        return;
     }
     match op {
-        Op::Second => w.copy(),
+        Op::Second => *out = w.copy(),
         _ => {
             let run = interval_of_row(op, &extent_of(v), &extent_of(w), w);
-            cover(b, run.first, run.last, run.step)
+            *out = cover(b, run.first, run.last, run.step);
         }
     }
 }

@@ -1,6 +1,6 @@
 // The registers of a state.
 ghost use Rattle.std.specs.Prelude.{◌≡◌, ◌<◌, IfSome};
-ghost use Rattle.value_domain.specs.Values.{IsValue, any_val};
+ghost use Rattle.value_domain.specs.Values.{IsValue};
 ghost use Rattle.value_domain.specs.State.{AreValues, is_lower_slot};
 ghost use Rattle.tc_isa.specs.Bounded.{IsArg};
 ghost use Rattle.vd_transfer.specs.Changes.{arg_slot};
@@ -174,18 +174,20 @@ pub(crate) fn arg(b: &Bounds, plan: &Plan, s: &State, a: Arg) -> Val
     }
 }
 
+/// Writes the value of an operand over another; by itself for the same reason.
+#[inline(never)]
+pub(crate) fn write_arg(b: &Bounds, plan: &Plan, s: &State, a: Arg, out: &mut Val)
+    requires operand { IsArg a }
+    requires values { AreValues b.now s.now.regs }
+    ensures arg { out.new ≡ arg_of plan.now s.now a }
+    ensures value { IsValue b.now out.new }
+{
+    *out = arg(b, plan, s, a);
+}
+
 /// Whether a place of a state is that of a lower register.
 pub fn is_lower_slot(i: usize) -> bool
     ensures { result ≡ is_lower_slot i }
 {
     i < 8 || 16 <= i && i < 22
-}
-
-#[inline(always)]
-pub(crate) fn any(b: &Bounds) -> Val
-    ensures any { result ≡ any_val }
-    ensures value { IsValue b.now result }
-{
-    let _most_words = b.most_words();
-    Val::any()
 }

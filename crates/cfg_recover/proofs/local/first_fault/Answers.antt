@@ -1,5 +1,5 @@
 use Rattle.std.proofs.Common.{arith, refl}
-use Rattle.cfg_recover.proofs.LocalLaws.{StoresInRange-at, MayAccess-at, ruled_out, broken}
+use Rattle.cfg_recover.proofs.LocalLaws.{ruled_out, broken, access_broken}
 use Rattle.cfg_recover.proofs.local.first_fault.Goals as goal
 
 pub returns-then-not-knows_targets : goal.returns-then-not-knows_targets
@@ -15,31 +15,14 @@ returns-then-not-knows_targets c p =
     (λ lt. absurd (omega arith))
     (λ lt. absurd (omega arith))
 
-pub returns-then-not-stores_in_range : goal.returns-then-not-stores_in_range
-returns-then-not-stores_in_range c p =
-    broken c.args.b.now c.args.plan.now c.args.key.now p c.args.s.now c.args.shape 9
-    (λ rule. ruled_out c.stores_in_range.result (StoresInRange-at c.args.b.now c.args.plan.now c.args.s.now c.args.shape c.args.at.now c.stores_in_range.result c.requires.address c.stores_in_range.ensures) c.if-not-stores_in_range.true (rule.stores refl))
-    (λ lt. (c.knows_targets.ensures p).0 c.if-not-knows_targets.false)
-    (λ lt. c.may_return.ensures.0 c.if-not-may_return.false)
-    (λ lt. c.may_return_from_exception.ensures.0 c.if-not-may_return_from_exception.false)
-    (λ lt. c.has_room.ensures.0 c.if-not-has_room.false)
-    (λ lt. absurd (omega arith))
-    (λ lt. absurd (omega arith))
-    (λ lt. absurd (omega arith))
-    (λ lt. absurd (omega arith))
-
-pub returns-then-not-may_access : goal.returns-then-not-may_access
-returns-then-not-may_access c p =
-    broken c.args.b.now c.args.plan.now c.args.key.now p c.args.s.now c.args.shape 10
-    (λ rule. ruled_out c.may_access.result (MayAccess-at c.args.b.now c.args.plan.now c.args.s.now c.args.shape c.args.at.now c.may_access.result c.requires.address c.may_access.ensures) c.if-not-may_access.true (rule.accesses refl))
-    (λ lt. (c.knows_targets.ensures p).0 c.if-not-knows_targets.false)
-    (λ lt. c.may_return.ensures.0 c.if-not-may_return.false)
-    (λ lt. c.may_return_from_exception.ensures.0 c.if-not-may_return_from_exception.false)
-    (λ lt. c.has_room.ensures.0 c.if-not-has_room.false)
-    (λ lt. (StoresInRange-at c.args.b.now c.args.plan.now c.args.s.now c.args.shape c.args.at.now c.stores_in_range.result c.requires.address c.stores_in_range.ensures).0 c.if-not-stores_in_range.false)
-    (λ lt. absurd (omega arith))
-    (λ lt. absurd (omega arith))
-    (λ lt. absurd (omega arith))
+pub returns-in-Some : goal.returns-in-Some
+returns-in-Some c p =
+    access_broken c.args.b.now c.args.plan.now c.args.key.now p c.args.s.now c.args.shape c.in-Some.rule
+    (rw c.in-Some.is at c.access_fault.ensures)
+    ((c.knows_targets.ensures p).0 c.if-not-knows_targets.false)
+    (c.may_return.ensures.0 c.if-not-may_return.false)
+    (c.may_return_from_exception.ensures.0 c.if-not-may_return_from_exception.false)
+    (c.has_room.ensures.0 c.if-not-has_room.false)
 
 pub returns-then-not-writes_no_fixed_register : goal.returns-then-not-writes_no_fixed_register
 returns-then-not-writes_no_fixed_register c p =
@@ -49,8 +32,8 @@ returns-then-not-writes_no_fixed_register c p =
     (λ lt. c.may_return.ensures.0 c.if-not-may_return.false)
     (λ lt. c.may_return_from_exception.ensures.0 c.if-not-may_return_from_exception.false)
     (λ lt. c.has_room.ensures.0 c.if-not-has_room.false)
-    (λ lt. (StoresInRange-at c.args.b.now c.args.plan.now c.args.s.now c.args.shape c.args.at.now c.stores_in_range.result c.requires.address c.stores_in_range.ensures).0 c.if-not-stores_in_range.false)
-    (λ lt. (MayAccess-at c.args.b.now c.args.plan.now c.args.s.now c.args.shape c.args.at.now c.may_access.result c.requires.address c.may_access.ensures).0 c.if-not-may_access.false)
+    (λ lt. (rw c.in_default.is at c.access_fault.ensures).0)
+    (λ lt. (rw c.in_default.is at c.access_fault.ensures).1)
     (λ lt. c.may_call_system.ensures.0 c.if-not-may_call_system.false)
     (λ lt. absurd (omega arith))
 
@@ -60,8 +43,8 @@ returns c p r = record {
   returns = λ e. c.may_return.ensures.0 c.if-not-may_return.false;
   exceptions = λ e. c.may_return_from_exception.ensures.0 c.if-not-may_return_from_exception.false;
   room = λ e. c.has_room.ensures.0 c.if-not-has_room.false;
-  stores = λ e. (StoresInRange-at c.args.b.now c.args.plan.now c.args.s.now c.args.shape c.args.at.now c.stores_in_range.result c.requires.address c.stores_in_range.ensures).0 c.if-not-stores_in_range.false;
-  accesses = λ e. (MayAccess-at c.args.b.now c.args.plan.now c.args.s.now c.args.shape c.args.at.now c.may_access.result c.requires.address c.may_access.ensures).0 c.if-not-may_access.false;
+  stores = λ e. (rw c.in_default.is at c.access_fault.ensures).0;
+  accesses = λ e. (rw c.in_default.is at c.access_fault.ensures).1;
   system = λ e. c.may_call_system.ensures.0 c.if-not-may_call_system.false;
   writes = λ e. c.writes_no_fixed_register.ensures.0 c.if-not-writes_no_fixed_register.false;
 }

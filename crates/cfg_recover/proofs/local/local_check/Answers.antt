@@ -16,6 +16,4 @@ returns-in-None-clause-found c =
       faultless = λ r. LocalHolds-found c.args.b.now c.args.image.now c.args.plan.now c.args.key.now c.args.addr c.args.s.now _ _ r code (c.in-None.ensures c.args.addr r);
       code = code;
       shape = c.shape-shape.ensures.bounded;
-      access = c.address_by-at.ensures.address;
-      value = c.address_by-at.ensures.value;
     }

@@ -65,6 +65,9 @@ raise-requires-clause-asked c =
     resume_asks _ _ _ v.key v.addr v.state.now c.args.table.now c.args.key c.args.back x there
     (has_duty _ _ _ v.key v.addr v.state.now c.args.table.now (resume c.args.key c.args.back) c.requires.visited (sym c.has_work.ensures ∙ c.if-has_work.false) c.requires.owes)
 
+pub raise-requires-clause-at : goal.raise-requires-clause-at
+raise-requires-clause-at c = c.requires.visited.at (sym c.has_work.ensures ∙ c.if-has_work.false)
+
 pub returns-clause-ok : goal.returns-clause-ok
 returns-clause-ok c =
     let v = c.args.v.now in

@@ -37,5 +37,8 @@ raise-requires-clause-asked c =
     enter_asks _ _ _ v.key v.addr v.state.now c.args.table.now c.args.key (state_after v.state.now c.args.c.now)
     (has_duty _ _ _ v.key v.addr v.state.now c.args.table.now (enter c.args.key (state_after v.state.now c.args.c.now)) c.requires.visited (sym c.has_work.ensures ∙ c.if-has_work.false) c.requires.owes)
 
+pub raise-requires-clause-at : goal.raise-requires-clause-at
+raise-requires-clause-at c = c.requires.visited.at (sym c.has_work.ensures ∙ c.if-has_work.false)
+
 pub returns-clause-ok : goal.returns-clause-ok
 returns-clause-ok c rule = on_enter _ _ _ c.args.v.now.key c.args.v.now.addr c.args.v.now.state.now c.args.table.now c.raise.new.table rule c.args.key (state_after c.args.v.now.state.now c.args.c.now) c.raise.result c.raise.ensures.ok

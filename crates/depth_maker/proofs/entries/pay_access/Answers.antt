@@ -1,13 +1,24 @@
+use Rattle.std.proofs.Common.{◌≡◌, ◌∙◌, sym, ap, subst, Bool, List, [], ◌∷◌}
+use Rattle.std.specs.Prelude.{OnOk, if◌then◌else◌}
+use Rattle.cfg_recover.specs.Duties.{Owed}
+use Rattle.depth_maker.specs.View.{OwesAll, PaidBy, access_by, misaligned_by}
+use Rattle.depth_maker.proofs.PartLemmas.{paid_none}
 use Rattle.depth_maker.proofs.entries.pay_access.Goals as goal
 
+pub returns-then-not-is_misaligned-clause-ok : goal.returns-then-not-is_misaligned-clause-ok
+returns-then-not-is_misaligned-clause-ok c =
+    let v = c.args.v.now in
+    let e : access_by v c.args.found.now ≡ [] = c.is_misaligned.ensures ∙ ap (λ (t : Bool). if t then misaligned_by v ∷ [] else []) c.if-not-is_misaligned.true in
+    subst (λ (l : List Owed). PaidBy v c.args.table.now c.args.table.now l) (sym e) (paid_none _ _ _ v.key v.addr v.state.now c.args.table.now c.requires.visited.fine)
+
 pub pay_misaligned-requires-clause-owes : goal.pay_misaligned-requires-clause-owes
-pay_misaligned-requires-clause-owes c = rw c.requires.found.access (rw c.in-Load.is (rw c.in-Load.is at c.requires.owes))
+pay_misaligned-requires-clause-owes c =
+    let v = c.args.v.now in
+    let e : access_by v c.args.found.now ≡ misaligned_by v ∷ [] = c.is_misaligned.ensures ∙ ap (λ (t : Bool). if t then misaligned_by v ∷ [] else []) c.if-not-is_misaligned.false in
+    subst (λ (l : List Owed). OwesAll v l) e c.requires.owes
 
-pub returns-in-Load-clause-ok : goal.returns-in-Load-clause-ok
-returns-in-Load-clause-ok c = rw c.in-Load.is (rw (rw c.in-Load.is at c.requires.found.access) at c.pay_misaligned.ensures.ok)
-
-pub pay_misaligned-requires-in-Store-clause-owes : goal.pay_misaligned-requires-in-Store-clause-owes
-pay_misaligned-requires-in-Store-clause-owes c = rw c.requires.found.access (rw c.in-Store.is (rw c.in-Store.is at c.requires.owes))
-
-pub returns-in-Store-clause-ok : goal.returns-in-Store-clause-ok
-returns-in-Store-clause-ok c = rw c.in-Store.is (rw (rw c.in-Store.is at c.requires.found.access) at c.pay_misaligned-in-Store.ensures.ok)
+pub returns-clause-ok : goal.returns-clause-ok
+returns-clause-ok c =
+    let v = c.args.v.now in
+    let e : access_by v c.args.found.now ≡ misaligned_by v ∷ [] = c.is_misaligned.ensures ∙ ap (λ (t : Bool). if t then misaligned_by v ∷ [] else []) c.if-not-is_misaligned.false in
+    subst (λ (l : List Owed). OnOk c.pay_misaligned.result (PaidBy v c.args.table.now c.pay_misaligned.new.table l)) (sym e) c.pay_misaligned.ensures.ok

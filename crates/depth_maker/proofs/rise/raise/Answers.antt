@@ -13,11 +13,11 @@ use Rattle.depth_maker.proofs.RiseLemmas.{cells_proper, the_joined, the_answer, 
 use Rattle.depth_maker.proofs.rise.raise.Goals as goal
 
 pub merged-requires-clause-cells : goal.merged-requires-clause-cells
-merged-requires-clause-cells c = cells_proper _ _ _ (lawful _ _ _ c.args.ground.now.sound) c.args.table.now c.requires.fine
+merged-requires-clause-cells c = cells_proper _ _ _ (lawful _ _ _ c.args.v.now.ground.now.sound) c.args.table.now c.requires.fine
 
 pub merged-requires-clause-value : goal.merged-requires-clause-value
 merged-requires-clause-value c =
-    let laws = lawful _ _ _ c.args.ground.now.sound in
+    let laws = lawful _ _ _ c.args.v.now.ground.now.sound in
     asks_proper _ _ _ laws (seen c.args.table.now).cells (place_of c.args.y) (asked_for c.args.asked.now)
     (derived_proper _ _ _ laws (seen c.args.table.now).cells (c.requires.fine.table).derived) c.requires.asked
 
@@ -43,7 +43,7 @@ returns-in_err-count-clause-err c =
 
 pub returns-clause-ok : goal.returns-clause-ok
 returns-clause-ok c =
-    the_joined _ _ _ (lawful _ _ _ c.args.ground.now.sound) c.args.table.now _ c.args.y (asked_for c.args.asked.now) c.in-Ok-Some.cell
+    the_joined _ _ _ (lawful _ _ _ c.args.v.now.ground.now.sound) c.args.table.now _ c.args.y (asked_for c.args.asked.now) c.in-Ok-Some.cell
     c.requires.asked (rw c.in-Ok-Some.field-0-is at c.in-Ok-Some.ensures).0 (λ q. c.in_ok-before.ensures.updates.0 q) refl refl
     (c.in_ok-count.ensures.points ∙ ap (λ (k : Bool). points_after k c.args.table.now.points.items c.args.y) (c.is_some-known.ensures ∙ ap is_some c.in_ok-before.ensures.old))
     (c.in_ok-count.ensures.frames ∙ ap (λ (k : Bool). frames_after k c.args.table.now.frames.items c.args.y) (c.is_some-known.ensures ∙ ap is_some c.in_ok-before.ensures.old)) (are_few _ _ c.in_ok-count.ensures.few_points c.in_ok-count.ensures.few_frames)

@@ -47,3 +47,6 @@ quiet_row-requires-clause-at c = sym c.in-Some.ensures.value
 
 pub row_at-requires-clause-plain : goal.row_at-requires-clause-plain
 row_at-requires-clause-plain c t = (c.requires.done).plain (Point c.args.key c.args.addr) (c.is_plain-plain.ensures.0 t)
+
+pub quiet_row-requires-clause-plain : goal.quiet_row-requires-clause-plain
+quiet_row-requires-clause-plain c = (c.requires.done).plain (Point c.args.key c.args.addr) (c.is_plain-plain.ensures.0 c.if-plain.true)

@@ -19,7 +19,7 @@ pub pay_jump-requires-clause-owes : goal.pay_jump-requires-clause-owes
 pay_jump-requires-clause-owes c =
     let v = c.args.v.now in
     let t = get_or c.args.targets.now c.loop-t.t-index 0 in
-    subst (λ (s : State). OwesDuty v (jump t s)) (sym c.unchanged-same.ensures.same)
+    subst (λ (s : State). OwesDuty v (jump t s)) (sym c.keep.ensures.same)
     (owes_at_map _ _ _ v.key v.addr v.state.now (λ (n : ℕ). owed 4 (jump n v.state.now)) c.args.targets.now c.loop-t.t-index c.loop-t-test.true c.requires.owes)
 
 pub loop-t-preserved : goal.loop-t-preserved
@@ -28,7 +28,7 @@ loop-t-preserved c =
     let t = get_or c.args.targets.now c.loop-t.t-index 0 in
     paid_more_map _ _ _ v.key v.addr v.state.now (lawful _ _ _ v.ground.now.sound) c.args.table.now c.loop-t.table c.pay_jump.new.table (λ (n : ℕ). owed 4 (jump n v.state.now)) c.args.targets.now c.loop-t.t-index c.loop-t-test.true
     c.requires.visited c.requires.owes c.loop-t.invariant
-    (subst (λ (s : State). PaidBy v c.loop-t.table c.pay_jump.new.table (owed 4 (jump t s) ∷ [])) c.unchanged-same.ensures.same c.in_ok-pay_jump.ensures.ok)
+    (subst (λ (s : State). PaidBy v c.loop-t.table c.pay_jump.new.table (owed 4 (jump t s) ∷ [])) c.keep.ensures.same c.in_ok-pay_jump.ensures.ok)
 
 pub returns-clause-ok : goal.returns-clause-ok
 returns-clause-ok c =

@@ -1,4 +1,3 @@
-use Rattle.std.proofs.Common.{true, false}
 use Rattle.cfg_recover.specs.Duties.{jump_on}
 use Rattle.depth_maker.specs.View.{side_by}
 use Rattle.depth_maker.proofs.Lawful.{lawful}
@@ -8,7 +7,7 @@ use Rattle.depth_maker.proofs.successors.pay_sides.Goals as goal
 pub pay_side-requires-clause-owes : goal.pay_side-requires-clause-owes
 pay_side-requires-clause-owes c =
     let v = c.args.v.now in
-    owes_front _ _ _ v.key v.addr v.state.now (jump_on c.args.next (side_by v c.args.shape false)) (jump_on c.args.to (side_by v c.args.shape true)) c.requires.owes
+    owes_front _ _ _ v.key v.addr v.state.now (jump_on c.args.next.to (side_by v c.args.next.shape c.args.next.taken)) (jump_on c.args.taken.to (side_by v c.args.taken.shape c.args.taken.taken)) c.requires.owes
 
 pub pay_side-requires-2-clause-visited : goal.pay_side-requires-2-clause-visited
 pay_side-requires-2-clause-visited c =
@@ -18,12 +17,12 @@ pay_side-requires-2-clause-visited c =
 pub pay_side-requires-2-clause-owes : goal.pay_side-requires-2-clause-owes
 pay_side-requires-2-clause-owes c =
     let v = c.args.v.now in
-    owes_back _ _ _ v.key v.addr v.state.now (jump_on c.args.next (side_by v c.args.shape false)) (jump_on c.args.to (side_by v c.args.shape true)) c.requires.owes
+    owes_back _ _ _ v.key v.addr v.state.now (jump_on c.args.next.to (side_by v c.args.next.shape c.args.next.taken)) (jump_on c.args.taken.to (side_by v c.args.taken.shape c.args.taken.taken)) c.requires.owes
 
 pub returns-clause-ok : goal.returns-clause-ok
 returns-clause-ok c =
     let v = c.args.v.now in
-    let ds = jump_on c.args.next (side_by v c.args.shape false) in
-    let es = jump_on c.args.to (side_by v c.args.shape true) in
+    let ds = jump_on c.args.next.to (side_by v c.args.next.shape c.args.next.taken) in
+    let es = jump_on c.args.taken.to (side_by v c.args.taken.shape c.args.taken.taken) in
     on_both _ _ _ v.key v.addr v.state.now (lawful _ _ _ v.ground.now.sound) c.args.table.now c.pay_side.new.table _ ds es _ c.requires.visited
     (owes_front _ _ _ v.key v.addr v.state.now ds es c.requires.owes) c.in_ok-pay_side.ensures.ok c.pay_side-2.ensures.ok

@@ -6,10 +6,10 @@ use Rattle.vd_transfer.proofs.branch.narrow_one.Goals as goal
 
 pub returns-in-Some-clause-one : goal.returns-in-Some-clause-one
 returns-in-Some-clause-one c =
-    rw (c.requires.kept, c.slot_of-c.ensures.slot)
-    (ap (λ (t : State). Some t) (one-is c.args.s.now c.args.test.x c.in-Some.kept) ∙ ap (with_one c.args.s.now c.args.test.x) (rw c.in-Some.is at c.narrow_left.ensures.kept))
+    rw (c.keep.ensures.kept, c.slot_of-c.ensures.slot)
+    (ap (λ (t : State). Some t) (one-is c.args.s.now c.args.c.now c.args.test.x c.in-Some.kept) ∙ ap (with_one c.args.s.now c.args.test.x) (rw c.in-Some.is at c.narrow_left.ensures.kept))
 
 pub returns-in-Some-clause-values : goal.returns-in-Some-clause-values
 returns-in-Some-clause-values c =
-    rw (c.requires.kept, c.slot_of-c.ensures.slot)
-    (one_values c.args.b.now c.args.s.now c.args.test.x c.in-Some.kept c.requires.values (rw c.in-Some.is at c.narrow_left.ensures.value))
+    rw (c.keep.ensures.kept, c.slot_of-c.ensures.slot)
+    (one_values c.args.b.now c.args.s.now c.args.c.now c.args.test.x c.in-Some.kept c.requires.values (rw c.in-Some.is at c.narrow_left.ensures.value))

@@ -1,13 +1,9 @@
 use Rattle.std.proofs.Common.{◌<◌, ◌^◌, arith}
-use Rattle.value_domain.proofs.RangeLaws.{one_value}
 use Rattle.vd_transfer.proofs.OpLaws.{pair_one}
 use Rattle.vd_transfer.proofs.operations.all_pairs.Goals as goal
 
 pub returns-then-ys-eq1-clause-cover : goal.returns-then-ys-eq1-clause-cover
 returns-then-ys-eq1-clause-cover c =
     let small : c.alu.result < 2 ^ 32 = c.alu.type_inv in
-    rw (c.one.ensures, c.alu.ensures)
+    rw (c.write_word.ensures.word, c.alu.ensures)
     (pair_one c.args.b.now c.args.op c.args.xs.now c.args.ys.now c.most_words-most_words.ensures.limits (omega arith) (omega arith) (rw c.alu.ensures at small))
-
-pub returns-then-ys-eq1-clause-value : goal.returns-then-ys-eq1-clause-value
-returns-then-ys-eq1-clause-value c = rw c.one.ensures (one_value c.args.b.now c.alu.result c.most_words-most_words.ensures.limits c.alu.type_inv)

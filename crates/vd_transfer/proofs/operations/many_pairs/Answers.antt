@@ -8,7 +8,7 @@ use Rattle.vd_transfer.proofs.operations.many_pairs.Goals as goal
 pub loop-i-init : goal.loop-i-init
 loop-i-init c =
     let small : c.alu-first.result < 2 ^ 32 = c.alu-first.type_inv in
-    rw (c.one-out.ensures, ← c.alu-first.ensures)
+    rw (c.write_word.ensures.word, ← c.alu-first.ensures)
     (record {
       within = omega arith;
       cover = cover-one c.args.b.now c.alu-first.result c.most_words-most_words.ensures.limits small ∙ ap (cover c.args.b.now) (pairs-none c.args.op c.alu-first.result c.args.ys.now);
@@ -26,12 +26,12 @@ loop-i-preserved c = record {
   met = c.add_row.ensures.met;
 }
 
-pub returns-then-xs-i-clause-cover : goal.returns-then-xs-i-clause-cover
-returns-then-xs-i-clause-cover c =
-    rw (take_all c.loop-i.i c.args.xs.now c.if-xs-i.true) at c.loop-i.invariant.cover
+pub returns-else-i-xs-clause-cover : goal.returns-else-i-xs-clause-cover
+returns-else-i-xs-clause-cover c =
+    rw (take_all c.loop-i.i c.args.xs.now c.if-i-xs.false) at c.loop-i.invariant.cover
     ∙ pairs_first c.args.b.now c.args.op c.args.xs.now c.args.ys.now c.requires.left c.requires.right
 
-pub returns-clause-cover : goal.returns-clause-cover
-returns-clause-cover c =
+pub returns-then-i-xs-clause-cover : goal.returns-then-i-xs-clause-cover
+returns-then-i-xs-clause-cover c =
     c.widen.ensures.cover ∙ pairs_rest c.args.b.now c.loop-i.out c.args.op _ c.loop-i.i c.args.xs.now c.args.ys.now c.loop-i.invariant.cover
     ∙ pairs_first c.args.b.now c.args.op c.args.xs.now c.args.ys.now c.requires.left c.requires.right
