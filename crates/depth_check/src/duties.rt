@@ -160,8 +160,8 @@ fn broken_by_entries(at: &At<'_>, shape: Shape, size: u32) -> Option<u8>
     }
 }
 
-/// The least rule broken by the entry of the handler of misaligned accesses, where an address of this access may be one. The
-/// address is worked out here, so that where there is no access no value is made.
+/// The least rule broken by the entry of the handler of misaligned accesses, where an address of this access may be
+/// misaligned. The address is worked out here, so that where there is no access no value is made.
 #[inline(never)]
 fn broken_by_misaligned(at: &At<'_>, shape: Shape, size: u8) -> Option<u8>
     requires point { IsAt at.now }

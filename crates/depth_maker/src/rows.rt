@@ -234,7 +234,7 @@ fn add_row(
     }
 }
 
-/// The rows of all points.
+/// The rows of all points; one that says what the last of its frame says stands there once.
 pub(crate) fn rows(alloc: Global, source: &Source) -> Result<Vec<Row>, Refusal>
     requires { IsSource source.now }
     ensures { IfOk result (λ rows. RowsOn source.now.ground.now source.now.table.now rows.items) }

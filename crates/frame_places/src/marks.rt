@@ -76,7 +76,7 @@ pub fn has_work(marks: &IndexMap<Spot, Mark>, near: usize, x: Spot) -> bool
     matches!(get_near(marks, near, x), Some(Mark::Queued))
 }
 
-/// Begins the visit of x, whose number is likely to follow `last`: marks it as open, and gives its number.
+/// Begins the visit of x, whose number is likely to follow `last`: marks it as open, and gives its likely number.
 #[inline(always)]
 pub fn open_after(
     marks: &mut IndexMap<Spot, Mark>,

@@ -47,7 +47,7 @@ pub fn get_near<V>(map: &IndexMap<Spot, V>, near: usize, x: Spot) -> Option<&V>
     map.get(&x)
 }
 
-/// What the map has for x, whose number is likely to follow `last`, which becomes x's number where the map has x.
+/// What the map has for x, whose number is likely to follow `last`, which becomes x's likely number where the map has x.
 #[inline(always)]
 pub fn get_after<'a, V>(map: &'a IndexMap<Spot, V>, last: &mut usize, x: Spot) -> Option<&'a V>
     ensures value { option_copied result ≡ get spot_eq map.now x }

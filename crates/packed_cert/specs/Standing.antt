@@ -46,7 +46,7 @@ abbrev pub MovedOver : List ℕ → ℕ → ℕ → Place → Place → Type 0
 MovedOver bytes x n before after =
     (after ≡ record before { place = before.place + n }) × (before.place + n ≤ length bytes) × (take n (drop x bytes) ≡ take n (drop before.place bytes))
 
--- a row of values, of as many as there were before: those outside it are those of the same places before
+-- as many values as before; each outside a row of them is the one that stood at its place before
 pub record AreAnew (before after : List Val) (anew : Anew) : Type 0 where
   pub count : length after ≡ length before
   pub order : anew.first ≤ anew.behind

@@ -116,6 +116,7 @@ impl<'a> Draft<'a> {
         }
     }
 
+    // What a target makes of the fields; `item_rule` asks for it of any symbol, so what is resolved at once is told here too.
     #[inline(always)]
     fn targeted(
         &self,

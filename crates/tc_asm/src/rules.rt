@@ -217,6 +217,7 @@ impl<'a> Draft<'a> {
         }
         let code = code_of(row, fields);
         let rule = self.put_bytes(first_bytes(&code.bytes, code.len), r)?;
+        // The target breaks no rule.
         Ok(NO_RULE.min(rule))
     }
 

@@ -1,5 +1,5 @@
 // The numbers that tokens spell.
-ghost use Rattle.std.specs.Prelude.{◌≡◌, ◌<◌, Some, length, fold, true};
+ghost use Rattle.std.specs.Prelude.{◌≡◌, ◌<◌, Some, length, true};
 ghost use Rattle.tc_lex.specs.Cut.{has_hex_front};
 ghost use Rattle.tc_lex.specs.Numbers.{digit_of, add_digit, digits_of, number_of};
 

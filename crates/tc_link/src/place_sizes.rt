@@ -9,7 +9,7 @@ ghost use Rattle.tc_link.specs.Errors.{IsRefusal};
 
 use crate::{LinkErr, Place};
 use std::alloc::Global;
-use tc_object::{ObjectRef, SectionRef};
+use tc_object::SectionRef;
 
 /// The least multiple of 4 that isn't below.
 pub(crate) fn round_up(size: u64) -> u64

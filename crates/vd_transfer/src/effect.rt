@@ -26,7 +26,7 @@ struct ScaledAddress {
     n: u8,
 }
 
-// Each writes into the change that its caller has, where it stays.
+// Each function below writes into the change that its caller has, where it stays.
 
 fn compute(b: &Bounds, plan: &Plan, s: &State, dst: u8, of: Operation, c: &mut Change)
     requires operands { IsArg of.x × IsArg of.y }

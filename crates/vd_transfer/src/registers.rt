@@ -174,7 +174,7 @@ pub(crate) fn arg(b: &Bounds, plan: &Plan, s: &State, a: Arg) -> Val
     }
 }
 
-/// Writes the value of an operand over another; by itself for the same reason.
+/// Writes the value of an operand over another; by itself, so that its caller has no value to fill.
 #[inline(never)]
 pub(crate) fn write_arg(b: &Bounds, plan: &Plan, s: &State, a: Arg, out: &mut Val)
     requires operand { IsArg a }
