@@ -74,9 +74,9 @@ fn broken_by_sides(at: &At<'_>, shape: Shape, next: u32, to: u32, c: &mut Change
         ++ jump_on to
         (refine_of at.now.bounds.now at.now.plan.now shape at.now.point.state.now true)) result }
 {
-    let on = broken_by_side(at, shape, false, next, c);
-    let off = broken_by_side(at, shape, true, to, c);
-    least(on, off)
+    let straight = broken_by_side(at, shape, false, next, c);
+    let taken = broken_by_side(at, shape, true, to, c);
+    least(straight, taken)
 }
 
 /// A jump with the state as it is.
