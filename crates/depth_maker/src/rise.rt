@@ -26,7 +26,7 @@ fn new_cell(alloc: Global, table: &Table, v: &Visit, asked: &Asked) -> Result<Ce
     let b = v.ground.bounds;
     match get_near(&table.cells, table.near, Spot::Point(v.key, v.addr)) {
         None => Cell::new(alloc, b, asked),
-        Some(own) => own.changed(alloc, b, asked),
+        Some(own) => own.changed(alloc, asked),
     }
 }
 

@@ -162,7 +162,7 @@ impl Cell {
     }
 
     /// What a duty asks for of a point that has this state: as `new`, but what the state keeps is copied.
-    pub fn changed(&self, alloc: Global, _b: &Bounds, asked: &Asked) -> Result<Cell, AllocError>
+    pub fn changed(&self, alloc: Global, asked: &Asked) -> Result<Cell, AllocError>
         requires { self.now ≡ state (asking asked.now) }
         ensures { IfOk result (λ c. c ≡ asked_for asked.now) }
     {
