@@ -19,7 +19,7 @@ pub use certs::Cert;
 pub use errors::CertErr;
 pub use keys::{ALN, CALL, IRQ, Key, START, SYS};
 pub use lower_registers::lower_value;
-pub use node_fields::{number_of, read_exit, read_has_exit, read_need};
+pub use node_fields::{no_exit, number_of, read_exit, read_has_exit, read_need};
 pub use nodes::Node;
 pub use point_fields::{read_locals, read_point_count, read_state};
 pub use points::{Exit, Point};

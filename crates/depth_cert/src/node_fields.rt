@@ -1,5 +1,5 @@
 // The fields of nodes, read.
-ghost use Rattle.std.specs.Prelude.{◌≡◌, ◌≤◌, ◌<◌, ◌+◌, ◌^◌, ◌-◌, [], length, true, Ok, Err, OnOk, IfOk, IfErr};
+ghost use Rattle.std.specs.Prelude.{◌≡◌, ◌≤◌, ◌<◌, ◌+◌, ◌^◌, ◌-◌, [], length, false, true, Ok, Err, OnOk, IfOk, IfErr};
 ghost use Rattle.tcd_base.specs.Reading.{Reads};
 ghost use Rattle.depth_cert.specs.Answers.{IsFaultOf};
 ghost use Rattle.depth_cert.specs.Grammar.{key_after, need_at, has_exit_at, exit_at, exits_at, node_after, is_above};
@@ -112,6 +112,18 @@ pub fn read_exit(c: &mut Cursor<'_>, version: u8, out: &mut Exit) -> Result<(), 
     Ok(())
 }
 
+/// An exit of which nothing is known.
+pub fn no_exit() -> Exit
+    ensures ie { result.ie ≡ false }
+    ensures ccpn { result.ccpn ≡ 0 }
+{
+    Exit {
+        ie: false,
+        ccpn: 0,
+        lower: std::array::from_fn(|_| Val::any()),
+    }
+}
+
 #[tactic(auto, unfolding(crate::specs::Grammar::exits_at))]
 fn read_exits(c: &mut Cursor<'_>, version: u8, kind: u8) -> Result<Option<Exit>, FormErr>
     requires { length c.old.bytes ≤ 2 ^ 30 }
@@ -121,11 +133,7 @@ fn read_exits(c: &mut Cursor<'_>, version: u8, kind: u8) -> Result<Option<Exit>,
     if !read_has_exit(c, kind)? {
         return Ok(None);
     }
-    let mut exit = Exit {
-        ie: false,
-        ccpn: 0,
-        lower: std::array::from_fn(|_| Val::any()),
-    };
+    let mut exit = no_exit();
     read_exit(c, version, &mut exit)?;
     Ok(Some(exit))
 }

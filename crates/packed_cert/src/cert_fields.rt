@@ -6,11 +6,10 @@ ghost use Rattle.tcd_base.specs.Reading.{many_at};
 ghost use Rattle.depth_cert.specs.Grammar.{node_after, certificate_of};
 ghost use Rattle.packed_cert.specs.Nodes.{nodes_of, cert_of, HasPlaces};
 
-use crate::exits::no_exit;
 use crate::node_fields::read_node;
 use crate::node_places::NodePlaces;
 use crate::point_fields::{Room, blank};
-use depth_cert::{CertErr, fault, read_magic, read_node_count, read_version};
+use depth_cert::{CertErr, fault, no_exit, read_magic, read_node_count, read_version};
 use std::alloc::Global;
 use tcd_base::Cursor;
 

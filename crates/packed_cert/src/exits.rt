@@ -5,10 +5,10 @@ ghost use Rattle.packed_cert.specs.Nodes.{exit_in, HasExit};
 use crate::below::are_values_at;
 use crate::certs::are_bytes;
 use crate::restored::{ValuesAt, are_lower_below_at};
-use depth_cert::{Exit, read_exit};
+use depth_cert::{Exit, no_exit, read_exit};
 use std::marker::Model;
 use tcd_base::Cursor;
-use value_domain::{Bounds, State, Val};
+use value_domain::{Bounds, State};
 
 /// An exit where it stands in bytes.
 #[derive(Drop)]
@@ -108,14 +108,5 @@ impl<'a> ExitAt<'a> {
         let mut exit = no_exit();
         let _read = read_exit(&mut c, self.version, &mut exit);
         exit
-    }
-}
-
-/// An exit of which nothing is known.
-pub(crate) fn no_exit() -> Exit {
-    Exit {
-        ie: false,
-        ccpn: 0,
-        lower: std::array::from_fn(|_| Val::any()),
     }
 }
