@@ -80,9 +80,13 @@ entries_of plan key p s (Call to) n = flat_map (λ t. entered_and_back 5 (call_k
 entries_of plan key p s (Syscall tin) n = entered_and_back 12 (sys_key plan key) (sys_entry plan key s tin) (moved p n)
 entries_of plan key p s _ n = []
 
--- the entry of the handler of misaligned accesses, where an address may be no multiple of the size (rule 10)
+-- the entry of the handler of misaligned accesses (rule 10)
+abbrev pub misaligned_entry : PlanData → Key → State → Owed
+misaligned_entry plan key s = owed 10 (enter (aln_key plan key) (aln_entry plan key s))
+
+-- that entry, where an address may be no multiple of the size
 abbrev pub misaligned_at : PlanData → Key → State → Val → ℕ → List Owed
-misaligned_at plan key s at size = if are_aligned at size then [] else owed 10 (enter (aln_key plan key) (aln_entry plan key s)) ∷ []
+misaligned_at plan key s at size = if are_aligned at size then [] else misaligned_entry plan key s ∷ []
 
 -- the same for an instruction: only loads and stores have an address
 abbrev pub misaligned_of : Limits → PlanData → Key → State → Shape → List Owed

@@ -14,9 +14,9 @@ use Rattle.vd_transfer.specs.Branches.{refine_of}
 use Rattle.cfg_recover.specs.declared.local.Located.{Located}
 use Rattle.cfg_recover.specs.Changes.{StandsFaultless}
 use Rattle.cfg_recover.specs.Code.{IsCode}
-use Rattle.cfg_recover.specs.Entries.{aln_entry, aln_key, call_key, sys_key, sys_entry}
+use Rattle.cfg_recover.specs.Entries.{call_key, sys_key, sys_entry}
 use Rattle.cfg_recover.specs.Local.{IsFaultless}
-use Rattle.cfg_recover.specs.Duties.{Duty, Owed, duties_of, enter, entered_and_back, entries_of, interrupts_of, misaligned_of, next_of, owed, successors_of}
+use Rattle.cfg_recover.specs.Duties.{Duty, Owed, duties_of, entered_and_back, entries_of, interrupts_of, misaligned_entry, misaligned_of, next_of, owed, successors_of}
 use Rattle.cfg_recover.specs.Assignments.{point, CoversAt, Asks, Closed, Derived, raised}
 use Rattle.depth_cert.specs.Known.{Known, state, CoversKnown, joined_known, IsProper, IsProperKnown}
 use Rattle.cfg_recover.specs.Refusals.{IsFault}
@@ -250,7 +250,7 @@ entries_by v shape size = entries_of (v.ground.now).plan.now v.key v.addr v.stat
 
 -- to enter the handler of misaligned accesses
 abbrev pub misaligned_by : Visit → Owed
-misaligned_by v = owed 10 (enter (aln_key (v.ground.now).plan.now v.key) (aln_entry (v.ground.now).plan.now v.key v.state.now))
+misaligned_by v = misaligned_entry (v.ground.now).plan.now v.key v.state.now
 
 -- the same, where an address that the instruction accesses may be misaligned
 abbrev pub access_by : Visit → Located → List Owed

@@ -58,19 +58,6 @@ abbrev pub arg_slot : Arg → Option ℕ
 arg_slot (Reg r) = slot r
 arg_slot (Word w) = None
 
--- the change that keeps all of a state, with another's values at no place
-abbrev pub kept_in : Change → State → Change
-kept_in c s = record {
-  base = Same;
-  first = record c.first { at = None };
-  second = record c.second { at = None };
-  third = record c.third { at = None };
-  ie = s.ie;
-  ccpn = s.ccpn;
-  lower = s.lower;
-  locals = s.locals;
-}
-
 -- the change that keeps all of a state
 abbrev pub kept_of : State → Change
 kept_of s = record {
@@ -83,3 +70,7 @@ kept_of s = record {
   lower = s.lower;
   locals = s.locals;
 }
+
+-- the same, with another's values at no place
+abbrev pub kept_in : Change → State → Change
+kept_in c s = record (kept_of s) { first = record c.first { at = None }; second = record c.second { at = None }; third = record c.third { at = None } }
