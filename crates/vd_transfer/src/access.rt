@@ -4,8 +4,6 @@ ghost use Rattle.value_domain.specs.Values.{IsValue};
 ghost use Rattle.value_domain.specs.State.{AreValues};
 ghost use Rattle.tc_isa.specs.Bounded.{IsShape, IsArg};
 ghost use Rattle.vd_transfer.specs.Effects.{address_of, access_of};
-ghost use Rattle.tc_isa.specs.declared.shapes.Op.TheVariants.{Add};
-ghost use Rattle.tc_isa.specs.declared.shapes.Arg.TheVariants.{Word};
 
 use crate::operands::{Operation, operate};
 use crate::registers::write_arg;
@@ -22,14 +20,14 @@ pub(crate) struct Addressing {
 }
 
 impl Addressing {
-    /// The sum of the base and the offset.
-    pub(crate) fn sum(self) -> Operation
-        ensures { result ≡ record { op = Add; x = self.base; y = Word self.offset } }
+    /// The addressing by this base and offset.
+    pub(crate) fn by(base: Arg, offset: u32, after: bool) -> Addressing
+        ensures { result ≡ record { base = base; offset = offset; after = after } }
     {
-        Operation {
-            op: Op::Add,
-            x: self.base,
-            y: Arg::Word(self.offset),
+        Addressing {
+            base,
+            offset,
+            after,
         }
     }
 }
@@ -49,33 +47,13 @@ pub fn write_address(b: &Bounds, plan: &Plan, shape: Shape, s: &State, out: &mut
             offset,
             after,
             ..
-        } => access(
-            b,
-            plan,
-            s,
-            Addressing {
-                base,
-                offset,
-                after,
-            },
-            out,
-        ),
+        } => access(b, plan, s, Addressing::by(base, offset, after), out),
         Shape::Store {
             base,
             offset,
             after,
             ..
-        } => access(
-            b,
-            plan,
-            s,
-            Addressing {
-                base,
-                offset,
-                after,
-            },
-            out,
-        ),
+        } => access(b, plan, s, Addressing::by(base, offset, after), out),
         _ => write_any(out),
     }
 }
@@ -103,5 +81,10 @@ fn access(b: &Bounds, plan: &Plan, s: &State, at: Addressing, out: &mut Val)
         write_arg(b, plan, s, at.base, out);
         return;
     }
-    operate(b, plan, s, at.sum(), out);
+    let of = Operation {
+        op: Op::Add,
+        x: at.base,
+        y: Arg::Word(at.offset),
+    };
+    operate(b, plan, s, of, out);
 }

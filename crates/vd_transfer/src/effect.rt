@@ -83,8 +83,13 @@ fn increase_base(b: &Bounds, plan: &Plan, s: &State, at: Addressing, c: &mut Cha
         c.keep(s);
         return;
     }
+    let of = Operation {
+        op: Op::Add,
+        x: at.base,
+        y: Arg::Word(at.offset),
+    };
     match at.base {
-        Arg::Reg(r) => compute(b, plan, s, r, at.sum(), c),
+        Arg::Reg(r) => compute(b, plan, s, r, of, c),
         Arg::Word(_) => c.keep(s),
     }
 }
@@ -183,34 +188,13 @@ pub fn change_of(b: &Bounds, plan: &Plan, shape: Shape, s: &State, c: &mut Chang
             offset,
             after,
             ..
-        } => load_into(
-            b,
-            plan,
-            s,
-            Addressing {
-                base,
-                offset,
-                after,
-            },
-            dst,
-            c,
-        ),
+        } => load_into(b, plan, s, Addressing::by(base, offset, after), dst, c),
         Shape::Store {
             base,
             offset,
             after,
             ..
-        } => increase_base(
-            b,
-            plan,
-            s,
-            Addressing {
-                base,
-                offset,
-                after,
-            },
-            c,
-        ),
+        } => increase_base(b, plan, s, Addressing::by(base, offset, after), c),
         Shape::Svlcx => save_lower(s, c),
         Shape::Rslcx => restore_lower(b, s, c),
         Shape::Bisr { c: number } => begin_isr(s, number, c),
