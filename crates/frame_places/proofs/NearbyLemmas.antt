@@ -1,5 +1,5 @@
 -- Places by their numbers.
-use Rattle.std.proofs.Common.{◌≡◌, ℕ, Bool, true, false, Option, Some, None, refl, sym, ap, subst, ◌∙◌}
+use Rattle.std.proofs.Common.{◌≡◌, ℕ, true, Option, Some, None, refl, sym, ap, subst}
 use Rattle.std.specs.Prelude.{if◌then◌else◌}
 use Rattle.std.specs.Cmp.{IsEquivalence, both_ways}
 use Rattle.indexmap.specs.IndexMap.{IndexMap, IsUnique, get, index_of, with_value_at}
@@ -10,7 +10,7 @@ use Rattle.frame_places.specs.declared.places.Spot.{Spot}
 use Rattle.frame_places.specs.declared.places.Mark.{Mark}
 use Rattle.frame_places.specs.declared.places.Mark.TheVariants.{Idle, Plain, Queued, Open}
 use Rattle.frame_places.specs.Spots.{spot_eq}
-use Rattle.frame_places.specs.Marks.{idle_mark, is_queued, settled_mark}
+use Rattle.frame_places.specs.Marks.{is_queued}
 use Rattle.frame_places.specs.Nearby.{StandsAt}
 use Rattle.frame_places.proofs.SpotLemmas.{spot_refl, spot_tells}
 
@@ -33,28 +33,10 @@ module _ {X S : Type 0} (m : IndexMap Spot X S) (number : ℕ) (x : Spot) where
   pub written_there : (w : X) → IsUnique spot_eq m → StandsAt m number x → (q : Spot) → get spot_eq (with_value_at m number w) q ≡ (if spot_eq x q then Some w else get spot_eq m q)
   written_there w unique h q = (updates-with_value_at m number w spot_equiv unique x h.value h.there).0 q
 
--- ---- the end of a visit
+-- a place that is marked as having work
 pub queued_mark : (o : Option Mark) → is_queued o ≡ true → o ≡ Some Queued
 queued_mark None e = cc
 queued_mark (Some Idle) e = cc
 queued_mark (Some Plain) e = cc
 queued_mark (Some Queued) e = refl
 queued_mark (Some Open) e = cc
-
--- where it has work its mark stays
-pub stays_queued : {S : Type 0} (plain : Bool) (m : IndexMap Spot Mark S) (x q : Spot) → is_queued (get spot_eq m x) ≡ true
-    → get spot_eq m q ≡ (if spot_eq x q then Some (settled_mark plain (get spot_eq m x)) else get spot_eq m q)
-stays_queued plain m x q e = at (spot_eq x q) refl where
-  here : get spot_eq m x ≡ Some Queued
-  here = queued_mark (get spot_eq m x) e
-
-  at : (b : Bool) → spot_eq x q ≡ b → get spot_eq m q ≡ (if b then Some (settled_mark plain (get spot_eq m x)) else get spot_eq m q)
-  at true t = ap (get spot_eq m) (sym (spot_tells x q t)) ∙ here ∙ sym (ap (λ (o : Option Mark). Some (settled_mark plain o)) here)
-  at false t = refl
-
--- else it is idle
-pub settles : {S : Type 0} (plain : Bool) (m n : IndexMap Spot Mark S) (x q : Spot) → is_queued (get spot_eq m x) ≡ false
-    → get spot_eq n q ≡ (if spot_eq x q then Some (idle_mark plain) else get spot_eq m q)
-    → get spot_eq n q ≡ (if spot_eq x q then Some (settled_mark plain (get spot_eq m x)) else get spot_eq m q)
-settles plain m n x q e is =
-    is ∙ ap (λ (k : Mark). if spot_eq x q then Some k else get spot_eq m q) (sym (ap (λ (b : Bool). if b then Queued else idle_mark plain) e))

@@ -1,12 +1,12 @@
 // Which places have work.
-ghost use Rattle.std.specs.Prelude.{◌≡◌, ◌↔◌, IsTrue, OnOk, Some, if◌then◌else◌};
-ghost use Rattle.indexmap.specs.IndexMap.{get};
+ghost use Rattle.std.specs.Prelude.{◌≡◌, ◌↔◌, IfOk, IsTrue, OnOk, Some, if◌then◌else◌, unwrap_or};
+ghost use Rattle.indexmap.specs.IndexMap.{get, index_of};
 ghost use Rattle.frame_places.specs.declared.places.Spot.{Spot};
 ghost use Rattle.frame_places.specs.declared.places.Mark.TheVariants.{Open, Plain, Queued};
 ghost use Rattle.frame_places.specs.Spots.{spot_eq};
 ghost use Rattle.frame_places.specs.Marks.{AllListed, Touched, Woken, idle_mark, is_queued, settled_mark};
 
-use crate::nearby::{get_near, index_after, stands_at};
+use crate::nearby::{get_near, index_after, stands_at, value_at};
 use crate::places::{Mark, Spot};
 use indexmap::IndexMap;
 use std::alloc::AllocError;
@@ -76,16 +76,18 @@ pub fn has_work(marks: &IndexMap<Spot, Mark>, near: usize, x: Spot) -> bool
     matches!(get_near(marks, near, x), Some(Mark::Queued))
 }
 
-/// Begins the visit of x, whose number is likely to follow `last`: marks it as open, and gives its likely number.
+/// Begins the visit of x, whose number is likely to follow `last`: marks it as open, and gives the number that it had, or 0.
 #[inline(always)]
 pub fn open_after(
     marks: &mut IndexMap<Spot, Mark>,
     last: usize,
     x: Spot,
 ) -> Result<usize, AllocError>
-    ensures { OnOk result
+    ensures marks { OnOk result
         ((q : Spot) → get spot_eq marks.new q
         ≡ (if spot_eq x q then Some Open else get spot_eq marks.old q)) }
+    ensures number { IfOk result
+        (λ number. number ≡ unwrap_or (index_of spot_eq marks.old x) 0) }
 {
     let next = last.wrapping_add(1);
     if stands_at(&*marks, next, x) {
@@ -141,6 +143,16 @@ fn mark_without_work(plain: bool) -> Mark
     if plain { Mark::Plain } else { Mark::Idle }
 }
 
+/// What x is marked as when its visit is over.
+fn mark_of(marks: &IndexMap<Spot, Mark>, x: Spot, plain: bool) -> Mark
+    ensures { result ≡ settled_mark plain (get spot_eq marks.now x) }
+{
+    match marks.get(&x) {
+        Some(mark) => mark_after(*mark, plain),
+        None => mark_without_work(plain),
+    }
+}
+
 /// Ends the visit of x, whose number is likely to be `near` and which may be plain: it has no work, unless it was put on the list
 /// meanwhile.
 #[inline(always)]
@@ -155,17 +167,12 @@ pub fn settle(
         ≡ (if spot_eq x q then Some (settled_mark plain (get spot_eq marks.old x))
         else get spot_eq marks.old q)) }
 {
-    let _len = marks.len();
-    if let Some((key, mark)) = marks.get_index(near) {
-        if *key == x {
-            let after = mark_after(*mark, plain);
-            marks[near] = after;
-            return Ok(());
-        }
-    }
-    if has_work(&*marks, near, x) {
+    if let Some(mark) = value_at(&*marks, near, x) {
+        let after = mark_after(*mark, plain);
+        marks[near] = after;
         return Ok(());
     }
-    set_mark(marks, near, x, mark_without_work(plain))?;
+    let after = mark_of(&*marks, x, plain);
+    marks.insert(x, after)?;
     Ok(())
 }

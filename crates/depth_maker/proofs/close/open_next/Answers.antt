@@ -16,5 +16,5 @@ pub returns-in_ok-table-in-Some : goal.returns-in_ok-table-in-Some
 returns-in_ok-table-in-Some c =
     let h =
     opened _ _ _ (lawful _ _ _ c.args._ground.now.sound) c.args.table.now _ c.in-Some.x refl refl refl refl refl c.requires.fine c.requires.none
-    c.in-Some.ensures.items (λ q. c.in_ok-table-in-Some.ensures q) in
+    c.in-Some.ensures.items (λ q. c.in_ok-table-in-Some.ensures.marks q) in
     (h.0, h.1, same_level c.args.table.now _ refl refl refl, c.in-Some.ensures.items)
