@@ -13,8 +13,6 @@ mod mem_sink;
 mod name_bytes;
 mod range;
 mod sink;
-#[cfg(test)]
-mod tests;
 
 pub use core_version::Core;
 pub use cursor::Cursor;

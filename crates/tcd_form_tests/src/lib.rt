@@ -1,4 +1,4 @@
-//! Tests of single forms, tables, words and sources, by public calls alone.
+//! Tests of single forms, tables, words and sources, and of files and sinks in memory, by public calls alone.
 #![tactic(auto)]
 
 #[cfg(test)]
@@ -15,6 +15,8 @@ mod instructions;
 mod memory;
 #[cfg(test)]
 mod objects;
+#[cfg(test)]
+mod seams;
 #[cfg(test)]
 mod sources;
 #[cfg(test)]

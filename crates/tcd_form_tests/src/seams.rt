@@ -1,7 +1,7 @@
-// Files and sinks in memory, also through their bounds, and calls that are to fail.
-use crate::{FileErr, Files, MemFiles, MemSink, Sink, SinkErr};
+//! Files and sinks in memory, also through their bounds, and calls that are to fail.
 use std::alloc::Global;
 use std::test::Fail;
+use tcd_base::{FileErr, Files, MemFiles, MemSink, Sink, SinkErr};
 
 // Through the bound.
 fn read_through<F: Files>(
