@@ -27,7 +27,7 @@ impl State {
             ie: self.ie,
             ccpn: self.ccpn,
             lower: self.lower,
-            locals: copy_of(&self.locals),
+            locals: copy_of(self.locals.as_slice()),
         }
     }
 }

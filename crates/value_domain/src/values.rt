@@ -43,7 +43,7 @@ impl Words {
         if words.is_empty() || words.len() > 128 || !are_ascending(words) {
             return None;
         }
-        let copy = vec_of(words);
+        let copy = copy_of(words);
         Some(Words { words: copy })
     }
 
@@ -53,7 +53,7 @@ impl Words {
         ensures { result ≡ words.now }
     {
         Words {
-            words: vec_of(words),
+            words: copy_of(words),
         }
     }
 
@@ -79,8 +79,17 @@ impl Words {
         ensures { result ≡ self.now }
     {
         Words {
-            words: copy_of(&self.words),
+            words: copy_of(self.words.as_slice()),
         }
+    }
+
+    /// Becomes these words, where it stands.
+    fn set(&mut self, words: &[u32])
+        requires { AreWords words.now }
+        ensures { self.new ≡ words.now }
+    {
+        self.words.clear();
+        self.words.try_extend_from_slice(words).unwrap();
     }
 
     /// Puts a word in its place.
@@ -146,21 +155,13 @@ pub(crate) fn has(words: &[u32], x: u32) -> bool
     at < words.len() && words[at] == x
 }
 
-fn vec_of(words: &[u32]) -> ArrayVec<u32, 128>
-    requires { length words.now ≤ 128 }
-    ensures { result.items ≡ words.now }
+/// A vector of these elements.
+pub(crate) fn copy_of<T: Copy + Default, const N: usize>(items: &[T]) -> ArrayVec<T, N>
+    requires { length items.now ≤ N }
+    ensures { result.items ≡ items.now }
 {
     let mut copy = ArrayVec::new();
-    copy.try_extend_from_slice(words).unwrap();
-    copy
-}
-
-/// A vector with the same elements.
-pub(crate) fn copy_of<T: Copy + Default, const N: usize>(v: &ArrayVec<T, N>) -> ArrayVec<T, N>
-    ensures { result.items ≡ v.now.items }
-{
-    let mut copy = ArrayVec::new();
-    copy.try_extend_from_slice(v.as_slice()).unwrap();
+    copy.try_extend_from_slice(items).unwrap();
     copy
 }
 
@@ -220,21 +221,33 @@ pub(crate) fn copy_to(v: &Val, out: &mut Val)
     ensures { out.new ≡ v.now }
 {
     match v {
-        Val::Set(words) => set_words(out, words),
+        Val::Set(words) => set_words(out, words.as_slice()),
         Val::Span { lo, last, step } => set_span(out, *lo, *last, *step),
+    }
+}
+
+/// Makes a value a Set of these words; where it is one only its words are written.
+pub fn set_words(out: &mut Val, words: &[u32])
+    requires { AreWords words.now }
+    ensures { out.new ≡ Set words.now }
+{
+    match out {
+        Val::Set(own) => own.set(words),
+        Val::Span { .. } => set_from_span(out, words),
     }
 }
 
 // A function of its own, so that the others have no room of a value to fill.
 #[inline(never)]
-fn set_words(out: &mut Val, words: &Words)
+fn set_from_span(out: &mut Val, words: &[u32])
+    requires { AreWords words.now }
     ensures { out.new ≡ Set words.now }
 {
-    *out = Val::Set(words.copy());
+    *out = Val::Set(Words::held(words));
 }
 
 /// Makes a value a Span; where it is one only its ends and step are written.
-pub(crate) fn set_span(out: &mut Val, lo: u32, last: u32, step: u8)
+pub fn set_span(out: &mut Val, lo: u32, last: u32, step: u8)
     ensures { out.new ≡ Span lo last step }
 {
     match out {
