@@ -1,7 +1,7 @@
 -- Operations are sound and monotone.
 use Rattle.std.proofs.Common.{◌≡◌, ℕ, zero, suc, ◌+◌, ◌-◌, ◌*◌, ◌%◌, ◌^◌, ◌<◌, ◌≤◌, inl, inr, List, [], ◌∷◌, ◌++◌, length, refl, sym, ap, ◌∙◌, subst, arith, min, map, ltb, leb, take, drop, set, replicate, get_or, length-drop, length-append, append_assoc, append-nil, Bool, true, false, not, ◌||◌, eqb, bit_and, bit_or, bit_xor, ◌⊎◌}
 use Rattle.std.proofs.lemmas.Bool.{cases_lt, cases_eq, lt-ltb, le-ltb, cases_Bool}
-use Rattle.std.proofs.lemmas.List.{take_more, take_more_set, take_all, take-append-drop, get_or-set_same, get_or-set_other, get_or-replicate, length-replicate}
+use Rattle.std.proofs.lemmas.List.{take_more, take_more_set, take_all, take-append-drop, get_or-set_same, get_or-set_other, get_or-replicate, length-replicate, length-take, get_or-take, get_or-drop}
 use Rattle.std.proofs.Math.ListN.{length-set}
 use Rattle.std.proofs.Math.Seq.{take-add}
 use Rattle.std.proofs.Math.Nat.{mul-le-mul_right}
@@ -550,42 +550,35 @@ met_more b v ms k z well h met i lt =
           rw there (stays b v (z ∷ members v) (get_or ms i 0) well (λ y j. inr j) (met i (simp length-set at lt)))
     ]
 
-pub met_kept : (b : Limits) (v : Val) (ms xs : List ℕ) → IsWell v → HasMet v ms → HasMet (cover b (members v ++ xs)) ms
-met_kept b v ms xs well met i lt = stays b v (members v ++ xs) (get_or ms i 0) well (λ y j. append_left y (members v) xs j) (met i lt)
+pub met_kept : (b : Limits) (v : Val) (ms : List ℕ) (x : ℕ) → IsWell v → HasMet v ms → HasMet (cover b (x ∷ members v)) ms
+met_kept b v ms x well met i lt = stays b v (x ∷ members v) (get_or ms i 0) well (λ y j. inr j) (met i lt)
 
 pub met_one : (n x : ℕ) → HasMet (Set (x ∷ [])) (replicate n x)
 met_one n x i lt = inl (get_or-replicate n i x 0 (omega (arith, length-replicate n x)))
-
--- words that are all among those that were met
-pub met_none : (ms ws : List ℕ) → Within (take 0 ws) ms
-met_none ms [] z i = absurd i
-met_none ms (w ∷ ws) z i = absurd i
 
 -- where no bit differs, two words are the same
 no_bits : (x y : ℕ) → bit_xor x y ≡ 0 → x ≡ y
 no_bits x y e = omega (arith, xor_add_and x y, and_le_l x y, and_le_r x y)
 
-pub met_next : (ms ws : List ℕ) (i k missed : ℕ) → i < length ws → k < length ms → (missed ≡ 0 → Within (take i ws) ms)
-    → bit_or missed (bit_xor (get_or ms k 0) (get_or ws i 0)) ≡ 0 → Within (take (i + 1) ws) ms
-met_next ms ws i k missed h lt before none z j =
-    let low : missed ≡ 0 = omega (arith, le_or_l missed (bit_xor (get_or ms k 0) (get_or ws i 0))) in
-    let same : get_or ms k 0 ≡ get_or ws i 0 = no_bits (get_or ms k 0) (get_or ws i 0) (omega (arith, le_or_r missed (bit_xor (get_or ms k 0) (get_or ws i 0)))) in
-    elim (among_append z (take i ws) (get_or ws i 0 ∷ []) (rw (take_more ws i 0 h) at j)) [
-      | inl a ↦ before low z a
-      | inr a ↦ elim a [ inl e ↦ subst (λ (y : ℕ). Among y ms) (same ∙ sym e) (among_get ms k lt) | inr n ↦ absurd n ]
+-- one more word of eight that are the same at both places
+pub same_next : (ms ws : List ℕ) (k i j missed : ℕ) → (missed ≡ 0 → (n : ℕ) → n < j → get_or ms (k + n) 0 ≡ get_or ws (i + n) 0)
+    → bit_or missed (bit_xor (get_or ms (k + j) 0) (get_or ws (i + j) 0)) ≡ 0 → (n : ℕ) → n < j + 1 → get_or ms (k + n) 0 ≡ get_or ws (i + n) 0
+same_next ms ws k i j missed before none n lt =
+    let low : missed ≡ 0 = omega (arith, le_or_l missed (bit_xor (get_or ms (k + j) 0) (get_or ws (i + j) 0))) in
+    let same : get_or ms (k + j) 0 ≡ get_or ws (i + j) 0 =
+    no_bits (get_or ms (k + j) 0) (get_or ws (i + j) 0) (omega (arith, le_or_r missed (bit_xor (get_or ms (k + j) 0) (get_or ws (i + j) 0)))) in
+    elim (cases_lt n j) [
+      | inl l ↦ before low n l
+      | inr g ↦ let e : j ≡ n = omega arith in subst (λ (m : ℕ). get_or ms (k + m) 0 ≡ get_or ws (i + m) 0) e same
     ]
 
-pub met_all : (b : Limits) (v : Val) (ms ws : List ℕ) (i : ℕ) → IsValue b v → HasMet v ms → length ws ≤ i → Within (take i ws) ms → v ≡ cover b (members v ++ ws)
-met_all b v ms ws i value met all within =
-    sym value.own
-    ∙ cover-same b (members v) (members v ++ ws)
-    (λ z j. append_left z (members v) ws j)
-    (λ z j. elim (among_append z (members v) ws j) [
-      | inl k ↦ k
-      | inr k ↦
-          let p = among_place ms z (within z (subst (λ (l : List ℕ). Among z l) (sym (take_all i ws all)) k)) in
-          among_member v z (has_step v value.well) (subst (λ (y : ℕ). IsMember y v) p.2 (met p.0 p.1))
-    ])
+-- words that are the same as some that were met are among these
+same_within : (ms ws : List ℕ) (k i n : ℕ) → k + n ≤ length ms → ((m : ℕ) → m < n → get_or ms (k + m) 0 ≡ get_or ws (i + m) 0) → Within (take n (drop i ws)) ms
+same_within ms ws k i n fits same z a =
+    let p = among_place (take n (drop i ws)) z a in
+    let lt : p.0 < n = omega (arith, p.1, length-take n (drop i ws)) in
+    let at : get_or (take n (drop i ws)) p.0 0 ≡ get_or ws (i + p.0) 0 = get_or-take n (drop i ws) p.0 0 lt ∙ get_or-drop i ws p.0 0 in
+    subst (λ (y : ℕ). Among y ms) (same p.0 lt ∙ sym at ∙ p.2) (among_get ms (k + p.0) (omega arith))
 
 -- some of the words after some of them
 pub words_next : (b : Limits) (v out : Val) (words : List ℕ) (i j n : ℕ) → IsWell v → j ≡ i + n → out ≡ cover b (members v ++ take i words)
@@ -594,6 +587,24 @@ words_next b v out words i j n well e same =
     ap (λ (o : Val). cover b (members o ++ take n (drop i words))) same
     ∙ cover-part b (members v ++ take i words) (take n (drop i words)) (omega (arith, length-append (members v) (take i words), some_members v well))
     ∙ ap (cover b) (append_assoc (members v) (take i words) (take n (drop i words)) ∙ ap (λ (l : List ℕ). members v ++ l) (sym (take-add i n words) ∙ ap (λ (k : ℕ). take k words) (sym e)))
+
+pub met_all : (b : Limits) (v : Val) (ms ws : List ℕ) → IsValue b v → HasMet v ms → Within ws ms → v ≡ cover b (members v ++ ws)
+met_all b v ms ws value met within =
+    sym value.own
+    ∙ cover-same b (members v) (members v ++ ws)
+    (λ z j. append_left z (members v) ws j)
+    (λ z j. elim (among_append z (members v) ws j) [
+      | inl k ↦ k
+      | inr k ↦
+          let p = among_place ms z (within z k) in
+          among_member v z (has_step v value.well) (subst (λ (y : ℕ). IsMember y v) p.2 (met p.0 p.1))
+    ])
+
+-- eight words that were met together add nothing
+pub met_eight : (b : Limits) (v out : Val) (ms ws : List ℕ) (k i : ℕ) → IsWell v → IsValue b out → HasMet out ms → k + 8 ≤ length ms
+    → ((n : ℕ) → n < 8 → get_or ms (k + n) 0 ≡ get_or ws (i + n) 0) → out ≡ cover b (members v ++ take i ws) → out ≡ cover b (members v ++ take (i + 8) ws)
+met_eight b v out ms ws k i well value met fits same e =
+    met_all b out ms (take 8 (drop i ws)) value met (same_within ms ws k i 8 fits same) ∙ words_next b v out ws i (i + 8) 8 well refl e
 
 -- the results of many words with many
 pairs-push : (op : Op) (x : ℕ) (xs ys : List ℕ) → pairs op (xs ++ x ∷ []) ys ≡ pairs op xs ys ++ map (alu_of op x) ys

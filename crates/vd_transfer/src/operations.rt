@@ -1,5 +1,5 @@
 // The value of an operation on two values.
-ghost use Rattle.std.specs.Prelude.{◌≡◌, ◌≤◌, ◌<◌, length, ◌++◌, ◌∷◌, map, IsNone};
+ghost use Rattle.std.specs.Prelude.{◌≡◌, ◌≤◌, ◌<◌, ◌+◌, length, ◌++◌, ◌∷◌, map, IsNone};
 ghost use Rattle.value_domain.specs.Values.{IsValue, cover, members, words_of};
 ghost use Rattle.tc_isa.specs.Arithmetic.{alu_of};
 ghost use Rattle.vd_transfer.specs.Operations.{results, row, pairs, HasMet};
@@ -94,14 +94,15 @@ fn many_pairs(b: &Bounds, op: Op, xs: &[u32], ys: &[u32], out: &mut Val)
 {
     let _most_words = b.most_words();
     let first = alu(op, xs[0], ys[0]);
-    let mut met = [first; 1024];
+    let mut met = [first; 512];
+    let mut eights = [first; 2048];
     let mut room = [0u32; 128];
     write_word(b, first, out);
     let mut i = 0;
     while i < xs.len() && is_set(out) {
         let row = &mut room[..ys.len()];
         fill(op, xs[i], ys, row);
-        add_row(b, out, &mut met, row);
+        add_row(b, out, &mut met, &mut eights, row);
         i += 1;
     }
     if i < xs.len() {
@@ -126,51 +127,64 @@ fn widen(b: &Bounds, v: &mut Val, op: Op, xs: &[u32], ys: &[u32], row: &mut [u32
     *v = span(b, e.least, e.greatest, e.step);
 }
 
-/// Adds words to a value, eight at a time. Of the words that the value has, `met` holds those that were met lately.
-fn add_row(b: &Bounds, v: &mut Val, met: &mut [u32; 1024], words: &[u32])
+/// Adds words to a value, eight at a time, and none of eight that were met together lately. Of the words that the value has,
+/// `met` holds those that were met lately, and `eights` those that were met eight at a time.
+fn add_row(b: &Bounds, v: &mut Val, met: &mut [u32; 512], eights: &mut [u32; 2048], words: &[u32])
     requires value { IsValue b.now v.old }
     requires met { HasMet v.old met.old }
+    requires eights { HasMet v.old eights.old }
     ensures cover { v.new ≡ cover b.now (members v.old ++ words.now) }
     ensures value { IsValue b.now v.new }
     ensures met { HasMet v.new met.new }
+    ensures eights { HasMet v.new eights.new }
 {
-    let mut i = 0;
-    while 8 <= words.len() - i {
-        add_some(b, v, met, &words[i..i + 8]);
-        i += 8;
+    for e in 0..words.len() / 8 {
+        let at = 8 * e;
+        let k = slot_of(words[at].wrapping_mul(2).wrapping_add(words[at + 7])) / 2 * 8;
+        let mut missed = 0;
+        for j in 0..8 {
+            missed |= eights[k + j] ^ words[at + j];
+        }
+        if missed != 0 {
+            add_eight(b, v, met, eights, k, &words[at..at + 8]);
+        }
     }
-    add_some(b, v, met, &words[i..]);
-}
-
-/// Adds words to a value: one by one while it is a Set, then at once, and none where all of them were met lately.
-#[inline(always)]
-fn add_some(b: &Bounds, v: &mut Val, met: &mut [u32; 1024], words: &[u32])
-    requires value { IsValue b.now v.old }
-    requires met { HasMet v.old met.old }
-    ensures cover { v.new ≡ cover b.now (members v.old ++ words.now) }
-    ensures value { IsValue b.now v.new }
-    ensures met { HasMet v.new met.new }
-{
-    let mut missed = 0;
-    for z in words {
-        missed |= met[slot_of(*z)] ^ *z;
-    }
-    if missed == 0 {
-        return;
-    }
-    let mut i = 0;
-    while i < words.len() && is_set(v) {
+    let mut i = words.len() / 8 * 8;
+    while i < words.len() {
         add_result(b, v, met, words[i]);
         i += 1;
     }
-    if i < words.len() {
-        add_words(b, v, &words[i..]);
+}
+
+/// Adds eight words to a value, which are met together now. By itself, so that its callers keep nothing at hand for it.
+#[inline(never)]
+fn add_eight(
+    b: &Bounds,
+    v: &mut Val,
+    met: &mut [u32; 512],
+    eights: &mut [u32; 2048],
+    k: usize,
+    words: &[u32],
+)
+    requires value { IsValue b.now v.old }
+    requires met { HasMet v.old met.old }
+    requires eights { HasMet v.old eights.old }
+    requires place { k + 8 ≤ 2048 }
+    requires eight { length words.now ≡ 8 }
+    ensures cover { v.new ≡ cover b.now (members v.old ++ words.now) }
+    ensures value { IsValue b.now v.new }
+    ensures met { HasMet v.new met.new }
+    ensures eights { HasMet v.new eights.new }
+{
+    for j in 0..8 {
+        add_result(b, v, met, words[j]);
+        eights[k + j] = words[j];
     }
 }
 
-/// Adds a word, unless it was met lately. By itself, so that its callers keep nothing at hand for it.
-#[inline(never)]
-fn add_result(b: &Bounds, v: &mut Val, met: &mut [u32; 1024], z: u32)
+/// Adds a word, unless it was met lately.
+#[inline(always)]
+fn add_result(b: &Bounds, v: &mut Val, met: &mut [u32; 512], z: u32)
     requires value { IsValue b.now v.old }
     requires met { HasMet v.old met.old }
     ensures cover { v.new ≡ cover b.now (z ∷ members v.old) }
@@ -185,11 +199,11 @@ fn add_result(b: &Bounds, v: &mut Val, met: &mut [u32; 1024], z: u32)
     met[k] = z;
 }
 
-/// Where a word that was met is kept: the highest bits of its product with 2^32 by the golden ratio.
+/// Where a word that was met is kept: the highest bits of its product with a number that tells words at even steps apart.
 fn slot_of(z: u32) -> usize
-    ensures { result < 1024 }
+    ensures { result < 512 }
 {
-    (z.wrapping_mul(0x9E37_79B1) >> 22) as usize
+    (z.wrapping_mul(0x9683_8B77) >> 23) as usize
 }
 
 /// The results of a word and each of the others: a loop of its own for each operation, so that none asks which it is.

@@ -1,14 +1,26 @@
-use Rattle.std.proofs.Common.{◌≡◌, ◌≤◌, ◌++◌, ◌-◌, take, length}
+use Rattle.std.proofs.Common.{◌≡◌, ◌≤◌, ◌<◌, ◌+◌, ◌*◌, ◌++◌, ◌-◌, ℕ, take, length, get_or}
 use Rattle.value_domain.specs.Values.{cover, members, IsValue}
 use Rattle.vd_transfer.specs.Operations.{HasMet}
 use Rattle.vd_transfer.proofs.operations.add_row.Given as goal
 
+abbrev pub invariant-loop-e : goal.invariant-loop-e
+invariant-loop-e l = record {
+  cover : l.v ≡ cover l.b (members l.initial.v ++ take (8 * l.e) l.words);
+  value : IsValue l.b l.v;
+  met : HasMet l.v l.met;
+  eights : HasMet l.v l.eights;
+}
+
+abbrev pub invariant-loop-j : goal.invariant-loop-j
+invariant-loop-j l = l.missed ≡ 0 → (n : ℕ) → n < l.j → get_or l.eights (l.k + n) 0 ≡ get_or l.words (8 * l.e + n) 0
+
 abbrev pub invariant-loop-i : goal.invariant-loop-i
 invariant-loop-i l = record {
   within : l.i ≤ length l.words;
-  cover : l.v ≡ cover l.b (members l.initial.v ++ take l.i l.words);
+  cover : l.v ≡ cover l.b (members l.fn.v ++ take l.i l.words);
   value : IsValue l.b l.v;
   met : HasMet l.v l.met;
+  eights : HasMet l.v l.eights;
 }
 
 abbrev pub decreases-loop-i : goal.decreases-loop-i

@@ -13,7 +13,8 @@ loop-i-init c =
       within = omega arith;
       cover = cover-one c.args.b.now c.alu-first.result c.most_words-most_words.ensures.limits small ∙ ap (cover c.args.b.now) (pairs-none c.args.op c.alu-first.result c.args.ys.now);
       value = one_value c.args.b.now c.alu-first.result c.most_words-most_words.ensures.limits small;
-      met = met_one 1024 c.alu-first.result;
+      met = met_one 512 c.alu-first.result;
+      eights = met_one 2048 c.alu-first.result;
     })
 
 pub loop-i-preserved : goal.loop-i-preserved
@@ -24,6 +25,7 @@ loop-i-preserved c = record {
       ∙ pairs_more c.args.b.now c.loop-i.out c.args.op _ c.loop-i.i c.args.xs.now c.args.ys.now c.loop-i-test.true c.loop-i.invariant.cover;
   value = c.add_row.ensures.value;
   met = c.add_row.ensures.met;
+  eights = c.add_row.ensures.eights;
 }
 
 pub returns-else-i-xs-clause-cover : goal.returns-else-i-xs-clause-cover

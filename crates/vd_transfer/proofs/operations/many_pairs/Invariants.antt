@@ -10,6 +10,7 @@ invariant-loop-i l = record {
   cover : l.out ≡ cover l.b (alu_of l.op (get_or l.xs 0 0) (get_or l.ys 0 0) ∷ pairs l.op (take l.i l.xs) l.ys);
   value : IsValue l.b l.out;
   met : HasMet l.out l.met;
+  eights : HasMet l.out l.eights;
 }
 
 abbrev pub decreases-loop-i : goal.decreases-loop-i
