@@ -1,7 +1,7 @@
 -- What is found at an address of an image.
-use Rattle.std.specs.Prelude.{◌≡◌, ℕ, zero, suc, ◌+◌, List, [], ◌∷◌, Option, Some, None, Ok, option_and_then}
+use Rattle.std.specs.Prelude.{◌≡◌, ◌≤◌, ℕ, zero, suc, ◌+◌, ◌-◌, List, [], ◌∷◌, slice_get, Option, Some, None, Ok, option_and_then}
 use Rattle.std.specs.Option.{option_map}
-use Rattle.elf_image.specs.Images.{ImageData, image_byte}
+use Rattle.elf_image.specs.Images.{ImageData, SegmentData, image_byte}
 use Rattle.tcd_plan.specs.PlanData.{PlanData}
 use Rattle.tc_isa.specs.Insts.{InstData}
 use Rattle.tc_isa.specs.Shapes.{shape_of}
@@ -13,6 +13,11 @@ use Rattle.cfg_recover.specs.Code.{IsCode, HasCode}
 abbrev pub held_bytes : ImageData → ℕ → ℕ → Option (List ℕ)
 held_bytes image x zero = Some []
 held_bytes image x (suc n) = option_and_then (λ b. option_map (λ bs. b ∷ bs) (held_bytes image (x + 1) n)) (image_byte image x)
+
+-- these bytes stand in the segment from x on
+abbrev pub StandIn : SegmentData → ℕ → List ℕ → Type 0
+StandIn s x [] = Unit {0}
+StandIn s x (b ∷ bs) = (s.at ≤ x) × (slice_get s.bytes (x - s.at) ≡ Some b) × StandIn s (x + 1) bs
 
 -- n bytes in one rom range and held by segments, or none
 abbrev pub FindsInRom : ImageData → PlanData → ℕ → ℕ → Option (List ℕ) → Type 0

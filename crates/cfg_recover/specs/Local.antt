@@ -34,6 +34,12 @@ targets_of plan s p (target.Rel by) = Some (moved p by ∷ [])
 targets_of plan s p (target.Abs x) = Some (x ∷ [])
 targets_of plan s p (target.Reg r) = named_by (reg_of plan s r)
 
+-- the one address to which a jump or a call at p goes whatever the registers hold, or none where it goes by a register
+abbrev pub direct_target : ℕ → Target → Option ℕ
+direct_target p (target.Rel by) = Some (moved p by)
+direct_target p (target.Abs x) = Some x
+direct_target p (target.Reg r) = None
+
 -- ---- accesses
 -- each address is a multiple of the size
 abbrev pub are_aligned : Val → ℕ → Bool

@@ -1,9 +1,10 @@
 // The instruction at an address of an image.
-ghost use Rattle.std.specs.Prelude.{◌≡◌, ◌≤◌, ◌+◌, ◌^◌, ◌↔◌, IsTrue};
+ghost use Rattle.std.specs.Prelude.{◌≡◌, ◌≤◌, ◌+◌, ◌^◌, ◌↔◌, IsTrue, IfSome};
 ghost use Rattle.tcd_base.specs.Ranges.{IsInOne};
-ghost use Rattle.cfg_recover.specs.Finding.{held_bytes, FindsInRom, FindsBytes, FindsCode};
+ghost use Rattle.elf_image.specs.Images.{segment_data};
+ghost use Rattle.cfg_recover.specs.Finding.{held_bytes, StandIn, FindsInRom, FindsBytes, FindsCode};
 
-use elf_image::Image;
+use elf_image::{Image, Segment};
 use tc_encode::decode;
 use tc_isa::Inst;
 use tcd_base::any_holds;
@@ -29,9 +30,25 @@ fn two_bytes(image: &Image, addr: u32) -> Option<[u8; 2]>
     Some([first, second])
 }
 
-/// Four bytes of the image, where segments hold them.
+/// Four bytes of a segment from an address on, where it holds them all.
 #[inline(always)]
-fn four_bytes(image: &Image, addr: u32) -> Option<[u8; 4]>
+fn four_of(segment: &Segment, addr: u32) -> Option<[u8; 4]>
+    ensures { IfSome result (StandIn (segment_data segment.now) addr) }
+{
+    if addr < segment.at {
+        return None;
+    }
+    let at = (addr - segment.at) as usize;
+    let bytes = segment.bytes.as_slice();
+    if bytes.len() < 4 || bytes.len() - 4 < at {
+        return None;
+    }
+    Some([bytes[at], bytes[at + 1], bytes[at + 2], bytes[at + 3]])
+}
+
+/// Four bytes of the image, where segments hold them, each looked for by itself.
+#[inline(never)]
+fn four_apart(image: &Image, addr: u32) -> Option<[u8; 4]>
     requires { addr + 4 ≤ 2 ^ 32 }
     ensures { result ≡ held_bytes image.now addr 4 }
 {
@@ -40,6 +57,20 @@ fn four_bytes(image: &Image, addr: u32) -> Option<[u8; 4]>
     let third = image.byte(addr + 2)?;
     let fourth = image.byte(addr + 3)?;
     Some([first, second, third, fourth])
+}
+
+/// Four bytes of the image, where segments hold them. Mostly one segment has them all: that is asked first.
+#[inline(always)]
+fn four_bytes(image: &Image, addr: u32) -> Option<[u8; 4]>
+    requires { addr + 4 ≤ 2 ^ 32 }
+    ensures { result ≡ held_bytes image.now addr 4 }
+{
+    for segment in &image.segments {
+        if let Some(bytes) = four_of(segment, addr) {
+            return Some(bytes);
+        }
+    }
+    four_apart(image, addr)
 }
 
 /// The instruction with which the bytes begin, and its length.

@@ -1,8 +1,11 @@
 // Where jumps and calls may go.
-ghost use Rattle.std.specs.Prelude.{◌≡◌, ◌<◌, ◌≤◌, ◌-◌, ◌*◌, ◌/◌, ◌↔◌, [], ◌∷◌, ℕ, IsTrue, Some, length, map, slice_get, unwrap_or};
+ghost use Rattle.std.specs.Prelude.{◌≡◌, ◌<◌, ◌≤◌, ◌-◌, ◌*◌, ◌/◌, ◌↔◌, [], ◌∷◌, ℕ, IsTrue, Some, length, map, slice_get, unwrap_or, IfSome};
+ghost use Rattle.tcd_plan.specs.PlanData.{PlanData};
 ghost use Rattle.tc_isa.specs.Bounded.{IsTarget};
+ghost use Rattle.value_domain.specs.declared.states.State.{State};
 ghost use Rattle.value_domain.specs.Sets.{Among, AreWords, Rising, distinct, sorted_insert};
 ghost use Rattle.vd_transfer.specs.Registers.{reg_of};
+ghost use Rattle.cfg_recover.specs.Local as rules;
 ghost use Rattle.cfg_recover.specs.Local.{named_by, targets_of};
 
 use arrayvec::ArrayVec;
@@ -10,6 +13,20 @@ use tc_isa::Target;
 use tcd_plan::Plan;
 use value_domain::{State, Val};
 use vd_transfer::reg;
+
+/// The one address to which a jump or a call at `addr` goes whatever the registers hold; nothing where it goes by a register.
+#[inline(always)]
+pub fn direct_target(addr: u32, to: Target) -> Option<u32>
+    ensures target { result ≡ rules.direct_target addr to }
+    ensures one { IfSome result
+        (λ t. (plan : PlanData) (s : State) → targets_of plan s addr to ≡ Some (t ∷ [])) }
+{
+    match to {
+        Target::Rel(by) => Some(addr.wrapping_add(by)),
+        Target::Abs(x) => Some(x),
+        Target::Reg(_) => None,
+    }
+}
 
 /// The addresses to which a jump or a call at `addr` may go, as far as they are known.
 pub fn targets(plan: &Plan, s: &State, addr: u32, to: Target) -> ArrayVec<u32, 128>

@@ -26,7 +26,7 @@ pub use flow_entries::is_aligned;
 pub use flow_interrupts::interrupts;
 pub use flow_point::flow;
 pub use flow_successors::step_change;
-pub use flow_targets::targets;
+pub use flow_targets::{direct_target, targets};
 pub use flows::{Enter, Flow, Jump, Leave};
 pub use keys::{aln_key, entered_key, irq_key, start_key, sys_key};
 pub use laws::{fault_laws, frame_laws, move_laws};

@@ -1,0 +1,75 @@
+-- Bytes of an image that one segment holds.
+use Rattle.std.proofs.Common.{◌≡◌, ◌<◌, ◌≤◌, ◌+◌, ◌-◌, ◌⊎◌, ◌&&◌, ◌||◌, inl, inr, ℕ, zero, suc, Bool, true, false, cond, List, [], ◌∷◌, length, map, get_or, Some, refl, sym, ap, ◌∙◌, arith}
+use Rattle.std.specs.Prelude.{slice_get, nat_lt, nat_le, IsTrue}
+use Rattle.std.specs.List.{list_all}
+use Rattle.std.proofs.lemmas.Bool.{ltb-true, leb-true, lt-ltb, le-leb, and_parts}
+use Rattle.std.proofs.lemmas.Option.{slice_get_within}
+use Rattle.elf_image.specs.declared.segment.Segment.{Segment}
+use Rattle.elf_image.specs.Images.{ImageData, SegmentData, segment_data, holds, byte_in, image_byte, are_apart, all_apart}
+use Rattle.cfg_recover.specs.Finding.{held_bytes, StandIn}
+
+or_cases : (a b : Bool) → (a || b) ≡ true → (a ≡ true) ⊎ (b ≡ true)
+or_cases true b e = inl refl
+or_cases false b e = inr e
+
+-- a segment shares no address with any behind it
+apart_one : (s : SegmentData) (ss : List SegmentData) (i : ℕ) (t : SegmentData) → list_all (are_apart s) ss ≡ true → slice_get ss i ≡ Some t → (nat_le (s.at + length s.bytes) t.at ≡ true) ⊎ (nat_le (t.at + length t.bytes) s.at ≡ true)
+apart_one s [] i t h e = cc
+apart_one s (u ∷ us) zero t h e =
+    let same : u ≡ t = cc in
+    let p = and_parts (are_apart s u) (list_all (are_apart s) us) h in
+    or_cases (nat_le (s.at + length s.bytes) t.at) (nat_le (t.at + length t.bytes) s.at) (ap (λ (x : SegmentData). are_apart s x) (sym same) ∙ p.0)
+apart_one s (u ∷ us) (suc i) t h e = apart_one s us i t (and_parts (are_apart s u) (list_all (are_apart s) us) h).1 e
+
+-- it doesn't hold an address that another one has
+not_both : (s t : SegmentData) (x : ℕ) → (nat_le (s.at + length s.bytes) t.at ≡ true) ⊎ (nat_le (t.at + length t.bytes) s.at ≡ true) → t.at ≤ x → x < t.at + length t.bytes → holds s x ≡ false
+not_both s t x o low high = by (holds s x) refl o
+  where
+    by : (b : Bool) → holds s x ≡ b → (nat_le (s.at + length s.bytes) t.at ≡ true) ⊎ (nat_le (t.at + length t.bytes) s.at ≡ true) → b ≡ false
+    by false h o = refl
+    by true h (inl l) =
+        let p = and_parts (nat_le s.at x) (nat_lt x (s.at + length s.bytes)) h in
+        let above = ltb-true x (s.at + length s.bytes) p.1 in
+        let less = leb-true (s.at + length s.bytes) t.at l in
+        absurd (omega arith)
+    by true h (inr l) =
+        let p = and_parts (nat_le s.at x) (nat_lt x (s.at + length s.bytes)) h in
+        let below = leb-true s.at x p.0 in
+        let less = leb-true (t.at + length t.bytes) s.at l in
+        absurd (omega arith)
+
+both : (a b : Bool) → a ≡ true → b ≡ true → (a && b) ≡ true
+both a b p q = rw (p, q) refl
+
+-- the byte at an address is that of a segment which has it there
+byte_there : (ss : List SegmentData) (i : ℕ) (t : SegmentData) (x b : ℕ) → all_apart ss ≡ true → slice_get ss i ≡ Some t → t.at ≤ x → slice_get t.bytes (x - t.at) ≡ Some b → byte_in ss x ≡ Some b
+byte_there [] i t x b apart e low h = cc
+byte_there (s ∷ ss) zero t x b apart e low h =
+    let same : s ≡ t = cc in
+    let within = slice_get_within t.bytes (x - t.at) b h in
+    let l : nat_le t.at x ≡ true = le-leb t.at x (omega arith) in
+    let g : nat_lt x (t.at + length t.bytes) ≡ true = lt-ltb x (t.at + length t.bytes) (omega arith) in
+    let there : holds t x ≡ true = both (nat_le t.at x) (nat_lt x (t.at + length t.bytes)) l g in
+    ap (λ (u : SegmentData). cond (holds u x) (slice_get u.bytes (x - u.at)) (byte_in ss x)) same
+    ∙ ap (λ b. cond b (slice_get t.bytes (x - t.at)) (byte_in ss x)) there
+    ∙ h
+byte_there (s ∷ ss) (suc i) t x b apart e low h =
+    let p = and_parts (list_all (are_apart s) ss) (all_apart ss) apart in
+    let within = slice_get_within t.bytes (x - t.at) b h in
+    let not_here = not_both s t x (apart_one s ss i t p.0 e) low (omega arith) in
+    ap (λ b. cond b (slice_get s.bytes (x - s.at)) (byte_in ss x)) not_here
+    ∙ byte_there ss i t x b p.1 e low h
+
+-- bytes that stand in one segment are those of the image
+pub held_in : (image : ImageData) (i : ℕ) (t : SegmentData) (bs : List ℕ) (x : ℕ) → all_apart image.segments ≡ true → slice_get image.segments i ≡ Some t → StandIn t x bs → held_bytes image x (length bs) ≡ Some bs
+held_in image i t [] x apart e h = refl
+held_in image i t (b ∷ bs) x apart e h =
+    let here : image_byte image x ≡ Some b = byte_there image.segments i t x b apart e h.0 h.1 in
+    let rest : held_bytes image (x + 1) (length bs) ≡ Some bs = held_in image i t bs (x + 1) apart e h.2 in
+    rw (here, rest) refl
+
+-- a segment of the code among those of the image
+pub segment_there : (ss : List Segment) (i : ℕ) (t : Segment) → i < length ss → t ≡ get_or ss i t → slice_get (map segment_data ss) i ≡ Some (segment_data t)
+segment_there [] i t h e = absurd (omega arith)
+segment_there (s ∷ ss) zero t h e = ap (λ (u : Segment). Some (segment_data u)) (sym e)
+segment_there (s ∷ ss) (suc i) t h e = segment_there ss i t (omega arith) e
