@@ -1,6 +1,6 @@
 -- What covers a state covers it on a side of a branch, too, where the branch lowers no counter.
 use Rattle.std.proofs.Common.{◌≡◌, ℕ, ◌<◌, ◌∷◌, [], Bool, true, false, List, length, set, get_or, Option, Some, None, inl, inr, arith, refl, sym, subst, ◌∙◌, eq-eqb, ◌==◌}
-use Rattle.std.specs.Prelude.{IfSome}
+use Rattle.std.specs.Prelude.{IfSome, IsSomeAnd}
 use Rattle.std.specs.List.{list_any}
 use Rattle.std.proofs.lemmas.Bool.{cases_Bool, eqb-true}
 use Rattle.std.proofs.lemmas.List.{get_or-set_same, get_or-set_other}
@@ -22,6 +22,7 @@ use Rattle.value_domain.specs.Meets.{cover_some}
 use Rattle.vd_transfer.specs.Registers.{slot, set_at, value_at, reg_of, arg_of}
 use Rattle.vd_transfer.specs.Branches.{is_reg, with_one, with_two, state_on_side, with_lowered_counter, refine_of}
 use Rattle.value_domain.proofs.MeetLaws.{among_filter}
+use Rattle.depth_cert.specs.declared.points.Point.{Point}
 use Rattle.depth_cert.specs.Points.{find_point}
 use Rattle.depth_cert.specs.Nodes.{NodeData}
 use Rattle.depth_cert.specs.Certs.{CertData}
@@ -30,8 +31,22 @@ use Rattle.cfg_recover.specs.Accepting.{HasPoint}
 use Rattle.depth_check.specs.Finding.{Finds, DutiesHold}
 use Rattle.depth_check.proofs.Deciding.{yes}
 use Rattle.depth_check.proofs.DutyLaws.{nothing_found, point_found}
-use Rattle.depth_check.proofs.PutLaws.{covers_trans, found_more}
+use Rattle.depth_check.proofs.Frames.{ImpliedBy-trans}
 use Rattle.depth_check.proofs.RepeatLaws.{covers_same}
+
+-- ---- covering
+-- what covers a state that covers another covers that one, too
+covers_trans : (upper s t : State) → length t.regs ≡ length s.regs → Covers upper s → Covers s t → Covers upper t
+covers_trans upper s t len c d = record {
+  regs = λ r h x m. c.regs r (omega arith) x (d.regs r h x m);
+  context = ((λ i. (c.context).0 ((d.context).0 i)), omega (arith, (c.context).1, (d.context).1), (λ l. (d.context).2 ((c.context).2 l)));
+  locals = ImpliedBy-trans upper.locals.items s.locals.items t.locals.items c.locals d.locals;
+}
+
+-- so a point that covers the one covers the other
+found_more : (o : Option Point) (s t : State) → ((upper : State) → Covers upper s → Covers upper t) → IsSomeAnd o (λ (p : Point). Covers p.state s) → IsSomeAnd o (λ (p : Point). Covers p.state t)
+found_more None s t f h = absurd h
+found_more (Some p) s t f h = f p.state h
 
 -- ---- values
 -- the cover of some of a value's members is below it

@@ -7,4 +7,3 @@ pub mod Headline
 pub mod Judging
 pub mod NodeFaults
 pub mod Points
-pub mod Puts

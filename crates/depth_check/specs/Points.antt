@@ -1,14 +1,23 @@
 -- A point of a check, and the least rule that some of its duties break.
 use Rattle.std.specs.Prelude.{◌≡◌, ℕ, List, Option, IsTrue, IfSome, All}
 use Rattle.value_domain.specs.State.{AreValues}
+use Rattle.value_domain.specs.declared.states.State.{State}
+use Rattle.depth_cert.specs.Nodes.{NodeData}
+use Rattle.packed_cert.specs.Walks.{WalkData, CoversNext}
 use Rattle.cfg_recover.specs.Duties.{Owed}
 use Rattle.cfg_recover.specs.Accepting.{limits_in, HasPoint}
 use Rattle.depth_check.specs.declared.point_at.At.{At}
 use Rattle.depth_check.specs.Finding.{IsWellNode, Finds, DutiesHold}
 use Rattle.depth_check.specs.Asking.{InterruptsHold}
 
+-- a walk has this state at hand, and where its next point covers a state, the node does there
+pub record LooksAhead (node : NodeData) (s : State) (w : WalkData) : Type 0 where
+  pub current : w.current ≡ s
+  pub ahead : (addr : ℕ) (t : State) → CoversNext w addr t → HasPoint node addr t
+
 -- the limits are the certificate's, all its values are well-formed, those of the point are the plan's, and what is said of the
--- point is so: what its interrupts ask for was found to hold, and at the next address the node covers its state
+-- point is so: what its interrupts ask for was found to hold, at the next address the node covers its state, and the walk
+-- stands there
 pub record IsAt (at : At) : Type 0 where
   pub limits : at.bounds.now ≡ limits_in at.plan.now at.cert.now
   pub nodes : All IsWellNode (at.cert.now).nodes
@@ -16,6 +25,7 @@ pub record IsAt (at : At) : Type 0 where
   pub values : AreValues at.bounds.now (at.point.state.now).regs
   pub again : IsTrue at.point.again → InterruptsHold at.plan.now at.cert.now at.node.now at.point.state.now
   pub next : IfSome at.point.next (λ a. HasPoint at.node.now a at.point.state.now)
+  pub walk : IfSome at.point.walk (λ w. LooksAhead at.node.now at.point.state.now w.now)
 
 -- the least rule that these duties of the point break
 abbrev pub Breaks : At → List Owed → Option ℕ → Type 0

@@ -9,7 +9,6 @@ ghost use Rattle.depth_check.specs.Points.{IsAt};
 
 use crate::forms::{Frame, NodeForm};
 use crate::point_at::At;
-use crate::put_cover::stays_covered;
 use cfg_recover::{after, covers_after};
 use depth_cert::{Exit, Node};
 use packed_cert::{ExitAt, PackedNode};
@@ -134,21 +133,32 @@ pub(crate) fn has_changed(node: &Frame<'_>, addr: u32, s: &State, c: &Change) ->
     }
 }
 
-/// Whether the node of a point has a point at this address that covers the changed state; what is known of the next one is
-/// asked for first.
+/// Whether the node of a point has a point at this address that covers the changed state; the next one of the walk is asked
+/// for first.
 pub(crate) fn has_changed_next(at: &At<'_>, addr: u32, c: &Change) -> bool
     requires point { IsAt at.now }
     requires changed { AreWell (state_after at.now.point.state.now c.now).regs }
     ensures { IsTrue result
         ↔ HasPoint at.now.node.now addr (state_after at.now.point.state.now c.now) }
 {
-    let s = at.point.state;
-    if is_known(at.point.next, addr) {
-        if stays_covered(s, c) {
+    if let Some(walk) = at.point.walk {
+        if walk.covers_next(addr, c) {
             return true;
         }
     }
-    has_changed(at.node, addr, s, c)
+    has_changed(at.node, addr, at.point.state, c)
+}
+
+/// The same of the state as it is, which the change is made to keep.
+pub(crate) fn has_kept_next(at: &At<'_>, addr: u32, c: &mut Change) -> bool
+    requires { IsAt at.now }
+    ensures { IsTrue result ↔ HasPoint at.now.node.now addr at.now.point.state.now }
+{
+    if is_known(at.point.next, addr) {
+        return true;
+    }
+    c.keep(at.point.state);
+    has_changed_next(at, addr, c)
 }
 
 /// Whether it has one that covers the state after an entered frame came back by this exit.

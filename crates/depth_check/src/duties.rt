@@ -21,8 +21,8 @@ use crate::forms::Frame;
 use crate::point_at::At;
 use crate::successors::broken_by_successors;
 use cfg_recover::{
-    Leave, Located, aln_key, call_change, entered_key, handler_change, interrupts, irq_key,
-    is_aligned, misaligned_change, sys_key, system_change, targets,
+    Leave, Located, aln_key, call_change, direct_target, entered_key, handler_change, interrupts,
+    irq_key, is_aligned, misaligned_change, sys_key, system_change, targets,
 };
 use depth_cert::Key;
 use tc_isa::{Shape, Target};
@@ -123,10 +123,27 @@ fn broken_by_call(at: &At<'_>, to: Target, back: u32) -> Option<u8>
         (unwrap_or (targets_of at.now.plan.now at.now.point.state.now at.now.point.addr to) []))
         result }
 {
-    let s = at.point.state;
-    let entry = call_change(at.bounds, s);
-    let targets = targets(at.plan, s, at.point.addr, to);
-    broken_by_calls(at, &entry, targets.as_slice(), back)
+    let entry = call_change(at.bounds, at.point.state);
+    match direct_target(at.point.addr, to) {
+        Some(target) => broken_by_calls(at, &entry, &[target], back),
+        None => broken_by_listed_calls(at, &entry, to, back),
+    }
+}
+
+/// The same where a register tells the targets.
+#[inline(never)]
+fn broken_by_listed_calls(at: &At<'_>, entry: &Change, to: Target, back: u32) -> Option<u8>
+    requires point { IsAt at.now }
+    requires target { IsTarget to }
+    requires entry { AreWell (state_after at.now.point.state.now entry.now).regs }
+    ensures { Breaks at.now
+        (flat_map (λ t. entered_and_back 5 (call_key at.now.node.now.key t)
+        (state_after at.now.point.state.now entry.now) back)
+        (unwrap_or (targets_of at.now.plan.now at.now.point.state.now at.now.point.addr to) []))
+        result }
+{
+    let targets = targets(at.plan, at.point.state, at.point.addr, to);
+    broken_by_calls(at, entry, targets.as_slice(), back)
 }
 
 /// The least rule broken by the system call `tin`.

@@ -2,20 +2,22 @@
 ghost use Rattle.std.specs.Prelude.{◌≡◌};
 
 use depth_cert::{Key, Node};
-use packed_cert::PackedNode;
+use packed_cert::{PackedNode, PointWalk};
 use std::marker::Model;
 use value_domain::State;
 
-/// The point at hand: its address, the state before its instruction, whether the entries of interrupts hold there by what was
-/// asked for already, whether its values are known to be the plan's, and an address at which the node is known to have a
-/// point that covers the state.
+/// The point at hand: its node and its address, the state before its instruction, whether the entries of interrupts hold there
+/// by what was asked for already, whether its values are known to be the plan's, an address at which the node is known to have
+/// a point that covers the state, and the walk over the node's points that stands there, if there is one.
 #[derive(Clone, Copy)]
 pub(crate) struct Here<'a> {
+    pub(crate) node: &'a Frame<'a>,
     pub(crate) addr: u32,
     pub(crate) state: &'a State,
     pub(crate) again: bool,
     pub(crate) known: bool,
     pub(crate) next: Option<u32>,
+    pub(crate) walk: Option<&'a PointWalk<'a>>,
 }
 
 /// Where the node lies.

@@ -12,7 +12,6 @@ mod judging;
 mod laws;
 mod nodes;
 mod point_at;
-mod put_cover;
 mod rules;
 mod successors;
 mod verdicts;

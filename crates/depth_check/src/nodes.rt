@@ -16,6 +16,7 @@ use elf_image::Image;
 use packed_cert::PackedNode;
 use tcd_plan::Plan;
 use value_domain::{Bounds, State, Val};
+use vd_transfer::unchanged;
 
 /// A rule that fails in a node, and the address of its place.
 #[derive(Clone, Copy)]
@@ -77,13 +78,13 @@ fn entry_fault(entry: u32) -> Fault
 }
 
 /// The first fault of a node in memory, which `frame` is, by address and then by rule.
-fn plain_fault(
+fn plain_fault<'a>(
     b: &Bounds,
     image: &Image,
     plan: &Plan,
     cert: &AnyCert<'_>,
-    frame: &Frame<'_>,
-    node: &Node,
+    frame: &'a Frame<'a>,
+    node: &'a Node,
 ) -> Option<Fault>
     requires limits { b.now ≡ limits_in plan.now cert.now }
     requires nodes { All IsWellNode cert.now.nodes }
@@ -95,14 +96,17 @@ fn plain_fault(
     let entry = node.key.entry;
     let good = plain_holds_at_entry(b, node);
     for point in &node.points {
+        let mut change = unchanged(&point.state);
         let here = Here {
+            node: frame,
             addr: point.addr,
             state: &point.state,
             again: false,
             known: false,
             next: None,
+            walk: None,
         };
-        let found = broken_by_point(b, image, plan, cert, frame, here);
+        let found = broken_by_point(b, image, plan, cert, here, &mut change);
         if let Some(fault) = first_of(good, entry, point.addr, found) {
             return Some(fault);
         }
@@ -147,6 +151,7 @@ fn packed_fault(
     let entry = node.key.entry;
     let good = packed_holds_at_entry(b, node);
     let mut walk = node.points();
+    let mut change = unchanged(walk.state());
     let mut next = 0usize;
     let mut asked = None;
     let mut known = false;
@@ -158,17 +163,20 @@ fn packed_fault(
         let again = is_asked(&asked, s);
         let repeats = walk.repeats_at();
         let here = Here {
+            node: &frame,
             addr,
             state: s,
             again,
             known: are_known(b, known, walk.anew()),
             next: repeats,
+            walk: Some(&walk),
         };
-        let found = broken_by_point(b, image, plan, cert, &frame, here);
+        let found = broken_by_point(b, image, plan, cert, here, &mut change);
         if let Some(fault) = first_of(good, entry, addr, found) {
             return Some(fault);
         }
         known = true;
+        let s = walk.state();
         if is_worth_keeping(plan, s, again) {
             asked = Some(Asked::at(s));
         }

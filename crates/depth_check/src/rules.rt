@@ -1,5 +1,6 @@
 // The least rule that fails at a point.
-ghost use Rattle.std.specs.Prelude.{◌≡◌, ◌↔◌, IsTrue, All, IfOk, IfErr, IfSome};
+ghost use Rattle.std.specs.Prelude.{◌≡◌, ◌↔◌, IsTrue, All, IfOk, IfErr, IfSome, Some};
+ghost use Rattle.elf_image.specs.Images.{image_byte};
 ghost use Rattle.value_domain.specs.State.{AreValues};
 ghost use Rattle.tc_isa.specs.declared.shapes.Shape.TheVariants.{Nothing};
 ghost use Rattle.cfg_recover.specs.Accepting.{limits_in, RuleHolds, HasPoint};
@@ -9,12 +10,12 @@ ghost use Rattle.cfg_recover.specs.Local.{IsLocalFault};
 ghost use Rattle.depth_check.specs.Finding.{IsWellNode, Finds, HasOwnNeed};
 ghost use Rattle.depth_check.specs.Forms.{point_here};
 ghost use Rattle.depth_check.specs.Asking.{InterruptsHold};
-ghost use Rattle.depth_check.specs.Points.{IsAt};
+ghost use Rattle.depth_check.specs.Points.{IsAt, LooksAhead};
 
 use crate::any_certs::AnyCert;
 use crate::covering::are_values;
 use crate::duties::{broken_by_duties, broken_by_interrupts, least, unless};
-use crate::forms::{Frame, Here};
+use crate::forms::Here;
 use crate::point_at::At;
 use crate::successors::broken_by_pass;
 use cfg_recover::{Located, code_at, local_check, start_key};
@@ -23,7 +24,7 @@ use tc_isa::{Shape, shape};
 use tcd_base::any_holds;
 use tcd_plan::Plan;
 use value_domain::Bounds;
-use vd_transfer::{Change, unchanged};
+use vd_transfer::Change;
 
 /// Whether the need of the node has room for the locals of a point, and at the start's entry leaves the reserve free.
 fn has_own_need(at: &At<'_>) -> bool
@@ -53,43 +54,32 @@ fn has_values(b: &Bounds, point: Here<'_>) -> bool
     are_values(b, &point.state.regs)
 }
 
-/// The least rule that fails at a point whose values are the plan's, by what stands there.
-fn broken_by_located(at: &At<'_>, found: &Result<Located, u8>, c: &mut Change) -> Option<u8>
+/// The least rule that fails at a point whose values are the plan's, and at which no rule's own part fails.
+fn broken_by_located(at: &At<'_>, found: &Located, c: &mut Change) -> Option<u8>
     requires point { IsAt at.now }
-    requires fault { IfErr found.now
-        (IsLocalFault at.now.bounds.now at.now.image.now at.now.plan.now at.now.node.now.key
-        at.now.point.addr at.now.point.state.now) }
-    requires duties { IfOk found.now
-        (StandsFaultless at.now.bounds.now at.now.image.now at.now.plan.now at.now.node.now.key
-        at.now.point.addr at.now.point.state.now) }
+    requires found { StandsFaultless at.now.bounds.now at.now.image.now at.now.plan.now
+        at.now.node.now.key at.now.point.addr at.now.point.state.now found.now }
     ensures { Finds (RuleHolds at.now.image.now at.now.plan.now at.now.cert.now at.now.node.now
         (point_here at.now.point)) result }
 {
-    match found {
-        Err(rule) => Some(*rule),
-        Ok(found) => {
-            let duties = broken_by_duties(at, found, c);
-            let need = unless(has_own_need(at), 14);
-            least(duties, need)
-        }
-    }
+    let duties = broken_by_duties(at, found, c);
+    let need = unless(has_own_need(at), 14);
+    least(duties, need)
 }
 
 /// The least rule that fails at a point whose values are the plan's.
 #[inline(never)]
-fn broken_by_any(at: &At<'_>) -> Option<u8>
+fn broken_by_any(at: &At<'_>, c: &mut Change) -> Option<u8>
     requires { IsAt at.now }
     ensures { Finds (RuleHolds at.now.image.now at.now.plan.now at.now.cert.now at.now.node.now
         (point_here at.now.point)) result }
 {
     let node = at.node;
     let s = at.point.state;
-    let mut change = unchanged(s);
-    broken_by_located(
-        at,
-        &local_check(at.bounds, at.image, at.plan, &node.key, at.point.addr, s),
-        &mut change,
-    )
+    match local_check(at.bounds, at.image, at.plan, &node.key, at.point.addr, s) {
+        Err(rule) => Some(rule),
+        Ok(found) => broken_by_located(at, &found, c),
+    }
 }
 
 /// The least rule that fails at a point where an instruction of this size stands that changes nothing.
@@ -105,8 +95,9 @@ fn broken_by_idle(at: &At<'_>, size: u32) -> Option<u8>
     least(least(jump, irqs), need)
 }
 
-/// Whether nop16 stands at an address: 00 00, at an even one and in one rom range.
+/// Whether nop16 stands at an address where 00 stands: 00 00, at an even one and in one rom range.
 fn is_nop16(image: &Image, plan: &Plan, addr: u32) -> bool
+    requires { image_byte image.now addr ≡ Some 0 }
     ensures { IsTrue result → IsCode image.now plan.now addr Nothing 2 }
 {
     if addr % 2 == 1 {
@@ -115,7 +106,7 @@ fn is_nop16(image: &Image, plan: &Plan, addr: u32) -> bool
     if !any_holds(plan.rom.as_slice(), addr, 2) {
         return false;
     }
-    image.has_byte(addr, 0) && image.has_byte(addr + 1, 0)
+    image.has_byte(addr + 1, 0)
 }
 
 /// The size of the instruction of a point, where it changes nothing and the next point has the same state.
@@ -126,12 +117,17 @@ fn idle_size(at: &At<'_>) -> Option<u32>
     if at.point.next.is_none() {
         return None;
     }
-    if is_nop16(at.image, at.plan, at.point.addr) {
-        return Some(2);
-    }
     let image = at.image;
+    let first = image.byte(at.point.addr);
+    if first == Some(0) {
+        return if is_nop16(image, at.plan, at.point.addr) {
+            Some(2)
+        } else {
+            None
+        };
+    }
     // The others that change nothing, nop, dsync and isync, begin with 0D.
-    if !image.has_byte(at.point.addr, 0x0D) {
+    if first != Some(0x0D) {
         return None;
     }
     let Some(found) = code_at(at.image, at.plan, at.point.addr) else {
@@ -143,23 +139,25 @@ fn idle_size(at: &At<'_>) -> Option<u32>
     }
 }
 
-/// The least rule that fails at a point of a node.
+/// The least rule that fails at a point of a node. What the point's instruction changes is written over the change.
 pub(crate) fn broken_by_point(
     b: &Bounds,
     image: &Image,
     plan: &Plan,
     cert: &AnyCert<'_>,
-    node: &Frame<'_>,
     point: Here<'_>,
+    c: &mut Change,
 ) -> Option<u8>
     requires limits { b.now ≡ limits_in plan.now cert.now }
     requires nodes { All IsWellNode cert.now.nodes }
-    requires node { IsWellNode node.now }
+    requires node { IsWellNode point.node.now }
     requires again { IsTrue point.again
-        → InterruptsHold plan.now cert.now node.now point.state.now }
+        → InterruptsHold plan.now cert.now point.node.now point.state.now }
     requires known { IsTrue point.known → AreValues b.now point.state.now.regs }
-    requires next { IfSome point.next (λ a. HasPoint node.now a point.state.now) }
-    ensures { Finds (RuleHolds image.now plan.now cert.now node.now
+    requires next { IfSome point.next (λ a. HasPoint point.node.now a point.state.now) }
+    requires walk { IfSome point.walk
+        (λ w. LooksAhead point.node.now point.state.now w.now) }
+    ensures { Finds (RuleHolds image.now plan.now cert.now point.entry.node.now
         (point_here point.entry)) result }
 {
     if !has_values(b, point) {
@@ -170,11 +168,11 @@ pub(crate) fn broken_by_point(
         image,
         plan,
         cert,
-        node,
+        node: point.node,
         point,
     };
     match idle_size(&at) {
         Some(size) => broken_by_idle(&at, size),
-        None => broken_by_any(&at),
+        None => broken_by_any(&at, c),
     }
 }

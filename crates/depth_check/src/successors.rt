@@ -13,10 +13,10 @@ ghost use Rattle.cfg_recover.specs.Local.{targets_of};
 ghost use Rattle.cfg_recover.specs.Duties.{owed, jump, jumps_to, jump_on, next_of, successors_of};
 ghost use Rattle.depth_check.specs.Points.{IsAt, Breaks};
 
-use crate::covering::{has_changed_next, has_next, has_points};
+use crate::covering::{has_changed_next, has_kept_next, has_next, has_points};
 use crate::duties::{least, unless};
 use crate::point_at::At;
-use cfg_recover::{Located, step_change, targets};
+use cfg_recover::{Located, direct_target, step_change, targets};
 use tc_isa::{Shape, Target};
 use vd_transfer::{Change, change_on};
 
@@ -56,7 +56,7 @@ fn broken_by_side(at: &At<'_>, shape: Shape, taken: bool, to: u32, c: &mut Chang
         (refine_of at.now.bounds.now at.now.plan.now shape at.now.point.state.now taken)) result }
 {
     if only_narrows(shape) {
-        if has_next(at.node, to, at.point.state, at.point.next) {
+        if has_kept_next(at, to, c) {
             return None;
         }
     }
@@ -79,9 +79,9 @@ fn broken_by_sides(at: &At<'_>, shape: Shape, next: u32, to: u32, c: &mut Change
     least(straight, taken)
 }
 
-/// A jump with the state as it is.
+/// A jump with the state as it is, to one of the targets that are listed.
 #[inline(never)]
-fn broken_by_jump(at: &At<'_>, to: Target) -> Option<u8>
+fn broken_by_listed_jumps(at: &At<'_>, to: Target) -> Option<u8>
     requires point { IsAt at.now }
     requires target { IsTarget to }
     ensures { Breaks at.now
@@ -92,6 +92,21 @@ fn broken_by_jump(at: &At<'_>, to: Target) -> Option<u8>
     let s = at.point.state;
     let targets = targets(at.plan, s, at.point.addr, to);
     unless(has_points(at.node, targets.as_slice(), s), 4)
+}
+
+/// A jump with the state as it is; a list of targets is filled only where a register tells them.
+fn broken_by_jump(at: &At<'_>, to: Target) -> Option<u8>
+    requires point { IsAt at.now }
+    requires target { IsTarget to }
+    ensures { Breaks at.now
+        (jumps_to at.now.point.state.now
+        (unwrap_or (targets_of at.now.plan.now at.now.point.state.now at.now.point.addr to) []))
+        result }
+{
+    match direct_target(at.point.addr, to) {
+        Some(target) => broken_by_pass(at, target),
+        None => broken_by_listed_jumps(at, to),
+    }
 }
 
 /// The step over an instruction that changes nothing.

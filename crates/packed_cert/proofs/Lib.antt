@@ -4,7 +4,9 @@ pub mod LowerLaws
 pub mod NodeFinds
 pub mod NodeReads
 pub mod PointPlaces
+pub mod PutLaws
 pub mod ReadAnew
+pub mod RowLaws
 pub mod SameBytes
 pub mod SameStates
 pub mod SameWords

@@ -38,13 +38,13 @@ addresses_in version bytes [] = refl
 addresses_in version bytes (p ∷ ps) = ap (λ (l : List ℕ). p.addr ∷ l) (addresses_in version bytes ps)
 
 -- one point more
-pub point_more : (version : ℕ) (bytes : List ℕ) (ps : List PackedPoint) (addr place : ℕ) (c q r : Place) (s : State) → q.bytes ≡ bytes → place ≡ q.place
-    → address_after (map (λ p. p.addr) ps) c ≡ Ok (addr, q) → state_at version q ≡ Ok (s, r)
-    → point_after version (points_in version bytes ps) c ≡ Ok (point_in version bytes (record { addr = addr; place = place }), r)
-point_more version bytes ps addr place c q r s b p a e =
-    let h = state_read version bytes q place s r b p e in
-    point_reads version (points_in version bytes ps) c q r addr s (ap (λ (l : List ℕ). address_after l c) (addresses_in version bytes ps) ∙ a) e
-    ∙ ap (λ (t : State). let x : Result (Point × Place) FormErr = Ok (record { addr = addr; state = t }, r) in x) (sym h.0)
+pub point_more : (version : ℕ) (bytes : List ℕ) (ps : List PackedPoint) (item : PackedPoint) (c q r : Place) (s : State) → q.bytes ≡ bytes → item.place ≡ q.place
+    → address_after (map (λ p. p.addr) ps) c ≡ Ok (item.addr, q) → state_at version q ≡ Ok (s, r)
+    → point_after version (points_in version bytes ps) c ≡ Ok (point_in version bytes item, r)
+point_more version bytes ps item c q r s b p a e =
+    let h = state_read version bytes q item.place s r b p e in
+    point_reads version (points_in version bytes ps) c q r item.addr s (ap (λ (l : List ℕ). address_after l c) (addresses_in version bytes ps) ∙ a) e
+    ∙ ap (λ (t : State). let x : Result (Point × Place) FormErr = Ok (record { addr = item.addr; state = t }, r) in x) (sym h.0)
 
 pub points_push : (version : ℕ) (bytes : List ℕ) (ps : List PackedPoint) (p : PackedPoint) → points_in version bytes (ps ++ p ∷ []) ≡ points_in version bytes ps ++ point_in version bytes p ∷ []
 points_push version bytes ps p = map-append (point_in version bytes) ps (p ∷ [])

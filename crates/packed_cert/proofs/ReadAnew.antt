@@ -4,19 +4,19 @@ use Rattle.std.proofs.lemmas.List.{length-set, get_or-set_other}
 use Rattle.value_domain.specs.declared.values.Val.{Val}
 use Rattle.value_domain.specs.Values.{any_val}
 use Rattle.packed_cert.specs.declared.state_places.Anew.{Anew}
-use Rattle.packed_cert.specs.Standing.{AreAnew, IsWithRead}
+use Rattle.packed_cert.specs.Standing.{AreAnew, IsWhole, IsWithRead}
 
 -- none
-pub nothing_anew : (vs : List Val) → AreAnew vs vs (record { first = 0; behind = 0 })
+pub nothing_anew : (vs : List Val) → AreAnew vs vs (record { first = 0; behind = 0; from = 0 })
 nothing_anew vs = record { count = refl; order = omega arith; within = omega arith; kept = λ k h s. refl }
 
 -- all
-pub all_anew : (before after : List Val) (n : ℕ) → length after ≡ length before → n ≡ length before → AreAnew before after (record { first = 0; behind = n })
-all_anew before after n count e = record {
+pub all_anew : (before after : List Val) (anew : Anew) → length after ≡ length before → IsWhole (length before) anew → AreAnew before after anew
+all_anew before after anew count e = record {
   count = count;
-  order = omega arith;
-  within = omega arith;
-  kept = λ k h s. elim s [ inl low ↦ absurd (omega arith) | inr high ↦ absurd (omega arith) ];
+  order = omega (arith, e.0, e.1);
+  within = omega (arith, e.1);
+  kept = λ k h s. elim s [ inl low ↦ absurd (omega (arith, e.0)) | inr high ↦ absurd (omega (arith, e.1)) ];
 }
 
 -- one more
@@ -31,14 +31,14 @@ more_anew before out i v anew more lt h w = record {
 }
 
 -- where none was before, and where some were
-pub first_anew : (anew : Anew) (place : ℕ) → anew.behind ≡ 0 → IsWithRead anew place (record { first = place; behind = place + 1 })
-first_anew anew place none = record {
+pub first_anew : (anew : Anew) (place from : ℕ) → anew.behind ≡ 0 → IsWithRead anew place (record { first = place; behind = place + 1; from = from })
+first_anew anew place from none = record {
   first = omega arith;
   behind = refl;
   others = λ k outside. elim outside [ inl low ↦ (inr (omega arith), (λ e. omega arith)) | inr high ↦ (inr (omega arith), (λ e. omega arith)) ];
 }
 
-pub next_anew : (anew : Anew) (place : ℕ) → anew.first ≤ place → anew.behind ≤ place → IsWithRead anew place (record { first = anew.first; behind = place + 1 })
+pub next_anew : (anew : Anew) (place : ℕ) → anew.first ≤ place → anew.behind ≤ place → IsWithRead anew place (record { first = anew.first; behind = place + 1; from = anew.from })
 next_anew anew place order before = record {
   first = order;
   behind = refl;

@@ -79,13 +79,6 @@ state_again version n bytes s p c d small h b len m =
     ∙ from.same c.place n len m.1 m.2
     ∙ ap (λ (q : Place). let r : Result (State × Place) FormErr = Ok (s, q) in r) after
 
--- it is the one that stands there
-pub state_there : (version n : ℕ) (bytes : List ℕ) (s : State) (p : StatePlaces) (y : ℕ) → Small bytes → StandsAt version bytes s p → p.start + n ≡ p.end → y + n ≤ length bytes → take n (drop p.start bytes) ≡ take n (drop y bytes)
-    → state_in version bytes y ≡ s
-state_there version n bytes s p y small h len room same =
-    let from = state_stands version bytes p.start p.end s small (omega (arith, h.order, h.within)) h.read in
-    ap (read_or no_state) (from.same y n len room same)
-
 -- what was read stands where it was read
 pub stands_where : (version : ℕ) (bytes : List ℕ) (c d : Place) (s : State) (p : StatePlaces) → Small bytes → c.bytes ≡ bytes → d.bytes ≡ bytes → p.start ≡ c.place → p.end ≡ d.place → p.start ≤ length bytes
     → state_at version c ≡ Ok (s, d) → (state_at version (at bytes p.start) ≡ Ok (s, at bytes p.end)) × (p.start ≤ p.end) × (p.end ≤ length bytes)

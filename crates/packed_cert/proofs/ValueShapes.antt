@@ -174,3 +174,19 @@ left_first version bytes at n i vs h len have same =
     let now : HaveValues version bytes at (suc (n - (i + 1))) = subst (HaveValues version bytes at) left have in
     let all : get_or vs i any_val ∷ drop (i + 1) vs ≡ values_in version bytes at (suc (n - (i + 1))) = sym (drop_more vs i any_val (omega arith)) ∙ same ∙ ap (values_in version bytes at) left in
     (now.0, now.1, ap (λ (l : List Val). get_or l 0 any_val) all, ap (drop 1) all)
+
+-- ---- a single word
+one_word : (bytes : List ℕ) (x : ℕ) → words_at bytes x 1 ≡ word_at bytes x ∷ []
+unfolding words_at
+one_word bytes x = refl
+
+pub one_value : (version : ℕ) (bytes : List ℕ) (x : ℕ) → get_or bytes x 0 ≡ 1 → StandsAt version bytes x → value_in version bytes x ≡ Set (word_at bytes (x + 1) ∷ [])
+one_value version bytes x e s =
+    s.shape.set (omega (arith, e)) (omega (arith, e))
+    ∙ ap (λ (n : ℕ). Set (words_at bytes (x + 1) n)) e
+    ∙ ap (λ (ws : List ℕ). Set ws) (one_word bytes (x + 1))
+
+pub one_inside : (bytes : List ℕ) (x : ℕ) → get_or bytes x 0 ≡ 1 → behind bytes x ≤ length bytes → x + 1 + 4 ≤ length bytes
+one_inside bytes x e h =
+    let long : length_by (get_or bytes x 0) ≡ 5 = ap length_by e in
+    omega (arith, long)

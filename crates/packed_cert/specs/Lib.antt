@@ -1,5 +1,6 @@
 -- Certificates on the bytes of their file.
 pub mod Below
+pub mod Moves
 pub mod Nodes
 pub mod Points
 pub mod Standing

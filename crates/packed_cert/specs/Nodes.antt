@@ -14,6 +14,7 @@ use Rattle.packed_cert.specs.declared.node_places.NodePlaces.{NodePlaces}
 use Rattle.packed_cert.specs.declared.packed_points.PackedPoint.{PackedPoint}
 use Rattle.packed_cert.specs.Standing.{at}
 use Rattle.packed_cert.specs.Points.{read_or, points_in, HasState}
+use Rattle.packed_cert.specs.Moves.{AreMoves}
 
 -- an exit of which nothing is known
 abbrev pub no_exit : Exit
@@ -42,6 +43,7 @@ pub record IsPackedNode (version : ℕ) (bytes : List ℕ) (exit_place : Option 
   pub rising : IsStrictlyIncreasing (map (λ p. p.addr) points)
   pub states : All (λ p. HasState version bytes p.place) points
   pub exit : IfSome exit_place (HasExit version bytes)
+  pub moves : AreMoves version bytes points
 
 -- the node of which the places are kept
 abbrev pub node_of : ℕ → List ℕ → NodePlaces → NodeData

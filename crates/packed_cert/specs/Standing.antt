@@ -53,6 +53,19 @@ pub record AreAnew (before after : List Val) (anew : Anew) : Type 0 where
   pub within : anew.behind ≤ length before
   pub kept : (k : ℕ) → k < length before → (k < anew.first) ⊎ (anew.behind ≤ k) → slice_index_or after k any_val ≡ slice_index_or before k any_val
 
+-- the place behind n values that stand one after another from a place on
+abbrev pub place_after : List ℕ → ℕ → ℕ → ℕ
+place_after bytes place zero = place
+place_after bytes place (suc n) = place_after bytes (behind bytes place) n
+
+-- the first value of the row stands where it says, if the row has one and the values stand from x on
+abbrev pub IsFrom : List ℕ → ℕ → Anew → Type 0
+IsFrom bytes x anew = 0 < anew.behind → anew.from ≡ place_after bytes x anew.first
+
+-- the row has all n values
+abbrev pub IsWhole : ℕ → Anew → Type 0
+IsWhole n anew = (anew.first ≡ 0) × (anew.behind ≡ n)
+
 -- the row goes on to one more that was read, at a place behind it
 pub record IsWithRead (anew : Anew) (place : ℕ) (more : Anew) : Type 0 where
   pub first : more.first ≤ place

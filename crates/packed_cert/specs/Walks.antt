@@ -1,14 +1,15 @@
 -- Walking over points one after another.
-use Rattle.std.specs.Prelude.{◌≡◌, ◌≤◌, ◌<◌, ◌^◌, ◌⊎◌, ℕ, Bool, IsTrue, slice_index_or, List, [], ◌∷◌, Option, Some, None, IfSome, length, drop}
+use Rattle.std.specs.Prelude.{◌≡◌, ◌≤◌, ◌<◌, ◌^◌, ◌⊎◌, ℕ, slice_index_or, List, [], ◌∷◌, Option, Some, None, length, drop}
 use Rattle.std.specs.List.{All, Contains}
 use Rattle.value_domain.specs.declared.values.Val.{Val}
 use Rattle.value_domain.specs.declared.states.State.{State}
 use Rattle.value_domain.specs.Values.{any_val}
+use Rattle.value_domain.specs.State.{Covers}
 use Rattle.depth_cert.specs.declared.points.Point.{Point}
 use Rattle.packed_cert.specs.declared.packed_points.PackedPoint.{PackedPoint}
-use Rattle.packed_cert.specs.declared.state_places.StatePlaces.{StatePlaces}
 use Rattle.packed_cert.specs.declared.state_places.Anew.{Anew}
-use Rattle.packed_cert.specs.Points.{state_in, HasState, StandsAt}
+use Rattle.packed_cert.specs.Points.{HasState}
+use Rattle.packed_cert.specs.Moves.{StandsBefore, AreMoves}
 
 -- the state of the point at hand, values of it among which are all that the last step read, and the points behind it
 pub record WalkData : Type 0 where
@@ -30,17 +31,16 @@ StepsTo before (Some addr) after = (before.left ≡ record { addr = addr; state 
 abbrev pub RepeatsAt : WalkData → ℕ → Type 0
 RepeatsAt w addr = w.left ≡ record { addr = addr; state = w.current } ∷ drop 1 w.left
 
--- the state stands at the next point
-pub record StandsNext (version : ℕ) (bytes : List ℕ) (points : List PackedPoint) (next : ℕ) (state : State) : Type 0 where
-  pub within : next < length points
-  pub same : (d : PackedPoint) → state_in version bytes (slice_index_or points next d).place ≡ state
+-- the next point has this address, and its state covers this one
+abbrev pub CoversNext : WalkData → ℕ → State → Type 0
+CoversNext w addr s = (t : State) × (w.left ≡ record { addr = addr; state = t } ∷ drop 1 w.left) × Covers t s
 
--- what a walk keeps: states stand where it says, the state at hand stands where it says, and at the next point, too, where it says so
-pub record IsWalk (version : ℕ) (bytes : List ℕ) (points : List PackedPoint) (next : ℕ) (held : Option StatePlaces) (again : Bool) (read : Anew) (state : State) : Type 0 where
+-- what a walk keeps: states stand where it says, each point keeps what it says of the state before it, and the state at hand is
+-- the one before the next point
+pub record IsWalk (version : ℕ) (bytes : List ℕ) (points : List PackedPoint) (next : ℕ) (read : Anew) (state : State) : Type 0 where
   pub short : length bytes ≤ 2 ^ 30
   pub states : All (λ p. HasState version bytes p.place) points
-  pub inside : All (λ p. p.place ≤ length bytes) points
-  pub here : IfSome held (StandsAt version bytes state)
-  pub ahead : IsTrue again → StandsNext version bytes points next state
+  pub moves : AreMoves version bytes points
+  pub here : StandsBefore version bytes points next state
   pub order : read.first ≤ read.behind
   pub few : read.behind ≤ 27

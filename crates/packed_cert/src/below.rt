@@ -66,6 +66,21 @@ fn are_among(own: &[u32], bytes: &[u8], place: usize, n: usize) -> bool
     true
 }
 
+/// Reads the value that stands at a place over another one; a single word is written where it stays.
+pub(crate) fn read_at(bytes: &[u8], version: u8, place: usize, out: &mut Val)
+    requires short { length bytes.now ≤ 2 ^ 30 }
+    requires stands { HasValue version bytes.now place }
+    ensures { out.new ≡ value_in version bytes.now place }
+{
+    if bytes[place] == 1 {
+        *out = Val::one(word(bytes, place + 1));
+        return;
+    }
+    let mut c = Cursor::new(bytes);
+    let _front = c.take(place);
+    let _read = read_value(&mut c, version, out);
+}
+
 /// A value of which the words are listed in bytes, read.
 #[inline(never)]
 pub(crate) fn value(bytes: &[u8], version: u8, place: usize) -> Val
@@ -73,10 +88,8 @@ pub(crate) fn value(bytes: &[u8], version: u8, place: usize) -> Val
     requires stands { HasValue version bytes.now place }
     ensures { result ≡ value_in version bytes.now place }
 {
-    let mut c = Cursor::new(bytes);
-    let _front = c.take(place);
     let mut out = Val::any();
-    let _read = read_value(&mut c, version, &mut out);
+    read_at(bytes, version, place, &mut out);
     out
 }
 

@@ -1,12 +1,18 @@
 // The values of a changed state, compared with those that stand in bytes.
-ghost use Rattle.std.specs.Prelude.{◌≡◌, ◌≤◌, ◌<◌, ◌^◌, ◌↔◌, IsTrue, length};
+ghost use Rattle.std.specs.Prelude.{◌≡◌, ◌≤◌, ◌<◌, ◌-◌, ◌⊎◌, ◌^◌, ◌↔◌, ℕ, IsTrue, Some, length, slice_index_or};
+ghost use Rattle.value_domain.specs.Values.{IsBelow, any_val};
 ghost use Rattle.value_domain.specs.State.{AreBelow, AreWell};
 ghost use Rattle.vd_transfer.specs.Changes.{state_after};
+ghost use Rattle.vd_transfer.specs.declared.change.Base.TheVariants.{Same};
 ghost use Rattle.packed_cert.specs.Below.{values_in, HaveValues};
+ghost use Rattle.packed_cert.specs.Points.{state_in};
+ghost use Rattle.packed_cert.specs.Moves.{IsMoved};
 
 use crate::below::is_below_at;
+use crate::packed_points::PackedPoint;
+use crate::state_places::Anew;
 use crate::values_after::length_by;
-use value_domain::{State, Val};
+use value_domain::{State, Val, leq};
 use vd_transfer::{Change, changed_value};
 
 /// Whether each value of a changed state, which is never built, is below the one that stands in its
@@ -28,6 +34,74 @@ pub(crate) fn is_changed_below_at(
     let any = Val::any();
     let mut at = place;
     for i in 0..27 {
+        let tag = bytes[at];
+        // Below any value is each: it isn't looked for.
+        if tag != 0 && !is_below_at(changed_value(s, c, &any, i), bytes, version, at) {
+            return false;
+        }
+        at += length_by(tag);
+    }
+    true
+}
+
+/// Whether the changed value at a place, if there is one and it lies outside a row, is below the
+/// state's own there.
+fn is_put_below(s: &State, c: &Change, row: Anew, place: Option<usize>) -> bool
+    requires hand { AreWell s.now.regs }
+    requires well { AreWell (state_after s.now c.now).regs }
+    ensures { IsTrue result → (i : ℕ) → place ≡ Some i → i < 27
+        → (i < row.first) ⊎ (row.behind ≤ i)
+        → IsBelow (slice_index_or (state_after s.now c.now).regs i any_val)
+        (slice_index_or s.now.regs i any_val) }
+{
+    let Some(i) = place else {
+        return true;
+    };
+    if i >= 27 || row.first <= i && i < row.behind {
+        return true;
+    }
+    let regs = &s.regs[..];
+    leq(changed_value(s, c, &Val::any(), i), &regs[i])
+}
+
+/// Whether each value that is put outside a row is below the state's own there.
+pub(crate) fn are_puts_below(s: &State, c: &Change, row: Anew) -> bool
+    requires base { c.now.base ≡ Same }
+    requires hand { AreWell s.now.regs }
+    requires well { AreWell (state_after s.now c.now).regs }
+    ensures { IsTrue result → (i : ℕ) → i < 27 → (i < row.first) ⊎ (row.behind ≤ i)
+        → IsBelow (slice_index_or (state_after s.now c.now).regs i any_val)
+        (slice_index_or s.now.regs i any_val) }
+{
+    let _regs = &s.regs[..];
+    if !is_put_below(s, c, row, c.first.at) {
+        return false;
+    }
+    if !is_put_below(s, c, row, c.second.at) {
+        return false;
+    }
+    is_put_below(s, c, row, c.third.at)
+}
+
+/// Whether each changed value of a point's row is below the one that stands there.
+pub(crate) fn is_row_below(
+    s: &State,
+    c: &Change,
+    bytes: &[u8],
+    version: u8,
+    point: PackedPoint,
+) -> bool
+    requires short { length bytes.now ≤ 2 ^ 30 }
+    requires well { AreWell (state_after s.now c.now).regs }
+    requires moved { IsMoved version bytes.now s.now point }
+    ensures { IsTrue result → (i : ℕ) → point.anew.first ≤ i → i < point.anew.behind
+        → IsBelow (slice_index_or (state_after s.now c.now).regs i any_val)
+        (slice_index_or (state_in version bytes.now point.place).regs i any_val) }
+{
+    let _regs = &s.regs[..];
+    let any = Val::any();
+    let mut at = point.anew.from;
+    for i in point.anew.first..point.anew.behind {
         let tag = bytes[at];
         // Below any value is each: it isn't looked for.
         if tag != 0 && !is_below_at(changed_value(s, c, &any, i), bytes, version, at) {

@@ -91,7 +91,8 @@ fn is_below(point: &PackedPoint, addr: u32) -> bool
     point.addr < addr
 }
 
-/// The place before which all addresses are below: `near`, where that is the address, else by halves.
+/// The place before which all addresses are below: `near` or the one behind it, where that is the
+/// address, else by halves.
 fn place_of(points: &[PackedPoint], addr: u32, near: usize) -> usize
     requires { IsStrictlyIncreasing (map (λ p. p.addr) points.now) }
     ensures { IsPartitionPoint (λ p. nat_lt p.addr addr ≡ true) (λ p. nat_lt p.addr addr ≡ false)
@@ -99,6 +100,10 @@ fn place_of(points: &[PackedPoint], addr: u32, near: usize) -> usize
 {
     if near < points.len() && points[near].addr == addr {
         return near;
+    }
+    let after = near.wrapping_add(1);
+    if after < points.len() && points[after].addr == addr {
+        return after;
     }
     points.partition_point(|p| is_below(p, addr))
 }

@@ -1,16 +1,17 @@
 // The fields of points, read; what stands again is passed over.
-ghost use Rattle.std.specs.Prelude.{◌≡◌, ◌≤◌, ◌+◌, ◌^◌, length, map, vec_len, true, Ok, Err, OnOk, IfOk, IfErr, IfSome};
+ghost use Rattle.std.specs.Prelude.{◌≡◌, ◌≤◌, ◌+◌, ◌^◌, length, map, vec_len, true, false, None, Ok, Err, OnOk, IfOk, IfErr, IfSome, IsTrue};
 ghost use Rattle.std.specs.List.{All};
 ghost use Rattle.tcd_base.specs.Reading.{Reads};
 ghost use Rattle.depth_cert.specs.Grammar.{values_at, state_at, address_after, points_at, is_above};
 ghost use Rattle.depth_cert.specs.Answers.{IsFaultOf};
 ghost use Rattle.std.specs.List.Sorted.{IsStrictlyIncreasing};
-ghost use Rattle.packed_cert.specs.Standing.{StandFrom, AreAnew};
+ghost use Rattle.packed_cert.specs.Standing.{StandFrom, AreAnew, IsFrom, IsWhole};
 ghost use Rattle.packed_cert.specs.Points.{HasState, StandsAt, points_in};
+ghost use Rattle.packed_cert.specs.Moves.{AreMoves};
 
 use crate::packed_points::PackedPoint;
 use crate::state_places::{Anew, ReadState, StatePlaces};
-use crate::values_after::{passes, read_values_after};
+use crate::values_after::{none_anew, passes, read_values_after};
 use arrayvec::ArrayVec;
 use depth_cert::{CertErr, Exit, fault, read_flag, read_locals, read_point_count, read_values};
 use std::alloc::Global;
@@ -33,16 +34,20 @@ fn read_values_like(
     ensures ok { OnOk result (values_at version (length out.old) c.old ≡ Ok (out.new, c.new)) }
     ensures err { IfErr result (λ e. values_at version (length out.old) c.old ≡ Err e) }
     ensures anew { IfOk result (AreAnew out.old out.new) }
+    ensures from { IfOk result (IsFrom bytes.now c.old.place) }
+    ensures whole { IfOk result (λ a. before ≡ None → IsWhole (length out.old) a) }
     ensures bytes { c.new.bytes ≡ c.old.bytes }
 {
     if let Some(at) = before {
         return read_values_after(c, bytes, version, at, out);
     }
     let count = out.len();
+    let from = c.place();
     match read_values(c, version, out) {
         Ok(_) => Ok(Anew {
             first: 0,
             behind: count,
+            from,
         }),
         Err(e) => Err(e),
     }
@@ -67,6 +72,8 @@ fn read_state_fields(
     ensures held { IfOk result
         (λ r. StandFrom version bytes.now out.new.regs r.0 c.new.place) }
     ensures anew { IfOk result (λ r. AreAnew out.old.regs out.new.regs r.1) }
+    ensures from { IfOk result (λ r. IsFrom bytes.now r.0 r.1) }
+    ensures whole { IfOk result (λ r. before ≡ None → IsWhole 27 r.1) }
     ensures bytes { c.new.bytes ≡ c.old.bytes }
 {
     out.ie = read_flag(c)?;
@@ -95,6 +102,8 @@ pub(crate) fn read_state_after(
     ensures err { IfErr result (λ e. state_at version c.old ≡ Err e) }
     ensures held { IfOk result (λ r. StandsAt version bytes.now out.new r.at) }
     ensures anew { IfOk result (λ r. AreAnew out.old.regs out.new.regs r.anew) }
+    ensures from { IfOk result (λ r. IsFrom bytes.now r.at.values r.anew) }
+    ensures whole { IfOk result (λ r. before ≡ None → IsWhole 27 r.anew) }
     ensures bytes { c.new.bytes ≡ c.old.bytes }
 {
     let start = c.place();
@@ -108,53 +117,38 @@ pub(crate) fn read_state_after(
     Ok(ReadState { at, anew: fields.1 })
 }
 
-/// The same, where only the places are asked for.
-fn read_state_at(
-    c: &mut Cursor<'_>,
-    bytes: &[u8],
-    version: u8,
-    before: Option<StatePlaces>,
-    out: &mut State,
-) -> Result<StatePlaces, FormErr>
-    requires short { length c.old.bytes ≤ 2 ^ 30 }
-    requires same { c.old.bytes ≡ bytes.now }
-    requires held { IfSome before
-        (λ p. StandFrom version bytes.now out.old.regs p.values p.end) }
-    ensures ok { OnOk result (state_at version c.old ≡ Ok (out.new, c.new)) }
-    ensures err { IfErr result (λ e. state_at version c.old ≡ Err e) }
-    ensures held { IfOk result (StandsAt version bytes.now out.new) }
-    ensures bytes { c.new.bytes ≡ c.old.bytes }
-{
-    match read_state_after(c, bytes, version, before, out) {
-        Ok(read) => Ok(read.at),
-        Err(e) => Err(e),
-    }
-}
-
 /// Reads a state into a place, which may hold one that stands elsewhere: where the same bytes come
-/// again, they are passed over at once.
+/// again, they are passed over at once. Tells whether they do.
 pub(crate) fn read_state_like(
     c: &mut Cursor<'_>,
     bytes: &[u8],
     version: u8,
     before: Option<StatePlaces>,
     out: &mut State,
-) -> Result<StatePlaces, FormErr>
+) -> Result<(ReadState, bool), FormErr>
     requires short { length c.old.bytes ≤ 2 ^ 30 }
     requires same { c.old.bytes ≡ bytes.now }
     requires before { IfSome before (StandsAt version bytes.now out.old) }
     ensures ok { OnOk result (state_at version c.old ≡ Ok (out.new, c.new)) }
     ensures err { IfErr result (λ e. state_at version c.old ≡ Err e) }
-    ensures held { IfOk result (StandsAt version bytes.now out.new) }
+    ensures held { IfOk result (λ r. StandsAt version bytes.now out.new r.0.at) }
+    ensures anew { IfOk result (λ r. AreAnew out.old.regs out.new.regs r.0.anew) }
+    ensures from { IfOk result (λ r. IsFrom bytes.now r.0.at.values r.0.anew) }
+    ensures whole { IfOk result
+        (λ r. before ≡ None → IsWhole 27 r.0.anew × (r.1 ≡ false)) }
+    ensures again { IfOk result (λ r. IsTrue r.1 → out.new ≡ out.old) }
     ensures bytes { c.new.bytes ≡ c.old.bytes }
 {
-    let Some(at) = before else {
-        return read_state_at(c, bytes, version, None, out);
-    };
-    if passes(c, bytes, at.start, at.end - at.start) {
-        return Ok(at);
+    if let Some(at) = before {
+        if passes(c, bytes, at.start, at.end - at.start) {
+            let anew = none_anew();
+            return Ok((ReadState { at, anew }, true));
+        }
     }
-    read_state_at(c, bytes, version, Some(at), out)
+    match read_state_after(c, bytes, version, before, out) {
+        Ok(read) => Ok((read, false)),
+        Err(e) => Err(e),
+    }
 }
 
 /// A state of which nothing is known.
@@ -216,6 +210,7 @@ pub(crate) fn read_points(
     ensures err { IfErr result (IsFaultOf (points_at version room.old.used c.old)) }
     ensures states { IfOk result (λ ps. All (λ p. HasState version bytes.now p.place) ps.items) }
     ensures rising { IfOk result (λ ps. IsStrictlyIncreasing (map (λ p. p.addr) ps.items)) }
+    ensures moves { IfOk result (λ ps. AreMoves version bytes.now ps.items) }
     ensures used { IfOk result (λ ps. room.new.used ≡ room.old.used + vec_len ps) }
     ensures few { OnOk result (room.new.used ≤ 2 ^ 16) }
     ensures bytes { c.new.bytes ≡ c.old.bytes }
@@ -226,8 +221,15 @@ pub(crate) fn read_points(
     for _i in 0..count {
         let addr = read_address(c, &points)?;
         let place = c.place() as u32;
-        held = Some(read_state_like(c, bytes, version, held, &mut room.state)?);
-        points.push(PackedPoint { addr, place })?;
+        let (read, same) = read_state_like(c, bytes, version, held, &mut room.state)?;
+        held = Some(read.at);
+        let anew = read.anew;
+        points.push(PackedPoint {
+            addr,
+            place,
+            anew,
+            same,
+        })?;
     }
     room.used += points.len();
     Ok(points)

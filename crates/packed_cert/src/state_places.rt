@@ -9,11 +9,12 @@ pub(crate) struct StatePlaces {
 }
 
 /// A row of values, from the first on and before the one that is behind them, among which are all
-/// that were read anew.
+/// that were read anew; and where the first of them stands, if there is one.
 #[derive(Clone, Copy)]
-pub(crate) struct Anew {
+pub struct Anew {
     pub(crate) first: usize,
     pub(crate) behind: usize,
+    pub(crate) from: usize,
 }
 
 /// Where a state stands that was read, and among which of its values are all that were read anew.

@@ -1,12 +1,17 @@
 // States where they stand in bytes.
 ghost use Rattle.std.specs.Prelude.{◌≡◌, ◌≤◌, ◌+◌, ◌^◌, ◌↔◌, ◌==◌, if◌then◌else◌, IsTrue, length};
+ghost use Rattle.value_domain.specs.State.{AreWell, Covers};
+ghost use Rattle.vd_transfer.specs.declared.change.Base.TheVariants.{Same};
+ghost use Rattle.vd_transfer.specs.Changes.{state_after};
+ghost use Rattle.packed_cert.specs.Moves.{IsMoved};
 ghost use Rattle.packed_cert.specs.Standing.{flags_in};
 ghost use Rattle.packed_cert.specs.Points.{state_in, HasState};
 ghost use Rattle.packed_cert.specs.Below.{values_in, HaveValues};
 
 use crate::below::are_below_at;
-use crate::changed::is_changed_below_at;
+use crate::changed::{are_puts_below, is_changed_below_at, is_row_below};
 use crate::exits::ExitAt;
+use crate::packed_points::PackedPoint;
 use crate::point_fields::{blank, read_state_after};
 use crate::restored::{ValuesAt, are_restored_below};
 use arrayvec::ArrayVec;
@@ -163,6 +168,35 @@ impl<'a> StateAt<'a> {
         };
         are_restored_below(&s.regs, exit.lower(), high)
     }
+}
+
+/// Whether the state of a point covers the one before it, changed by what is put alone: the values
+/// that are put are looked at, and those of its row.
+pub(crate) fn covers_moved(
+    s: &State,
+    c: &Change,
+    bytes: &[u8],
+    version: u8,
+    point: PackedPoint,
+) -> bool
+    requires short { length bytes.now ≤ 2 ^ 30 }
+    requires base { c.now.base ≡ Same }
+    requires hand { AreWell s.now.regs }
+    requires well { AreWell (state_after s.now c.now).regs }
+    requires state { HasState version bytes.now point.place }
+    requires moved { IsMoved version bytes.now s.now point }
+    ensures { IsTrue result
+        → Covers (state_in version bytes.now point.place) (state_after s.now c.now) }
+{
+    let _regs = &s.regs[..];
+    let upper = StateAt::at(bytes, version, point.place as usize);
+    if !upper.covers_context(c.ie, c.ccpn, c.lower) {
+        return false;
+    }
+    if !are_implied(upper.locals().as_slice(), c.locals.as_slice()) {
+        return false;
+    }
+    are_puts_below(s, c, point.anew) && is_row_below(s, c, bytes, version, point)
 }
 
 /// IE and CCPN after a call, which are its exit's, or after a system call, which are its caller's.

@@ -1,6 +1,6 @@
 // Values read where others like them were read before.
-ghost use Rattle.std.specs.Prelude.{◌≡◌, ◌≤◌, ◌<◌, ◌+◌, ◌^◌, IsTrue, IsFalse, length, Ok, Err, OnOk, IfOk, IfErr};
-ghost use Rattle.packed_cert.specs.Standing.{StandFrom, MovedOver, AreAnew, IsWithRead};
+ghost use Rattle.std.specs.Prelude.{◌≡◌, ◌≤◌, ◌<◌, ◌+◌, ◌^◌, ℕ, List, IsTrue, IsFalse, length, Ok, Err, OnOk, IfOk, IfErr};
+ghost use Rattle.packed_cert.specs.Standing.{StandFrom, MovedOver, AreAnew, IsFrom, IsWithRead, place_after};
 ghost use Rattle.packed_cert.specs.Standing as standing;
 ghost use Rattle.depth_cert.specs.Grammar.{values_at};
 
@@ -45,24 +45,35 @@ fn move_to(c: &mut Cursor<'_>, place: usize)
 
 /// No value was read anew.
 pub(crate) fn none_anew() -> Anew
-    ensures { result ≡ record { first = 0; behind = 0 } }
+    ensures { result ≡ record { first = 0; behind = 0; from = 0 } }
 {
     Anew {
         first: 0,
         behind: 0,
+        from: 0,
     }
 }
 
-/// With the value at a place that is behind those that were read anew.
-fn with_read(anew: Anew, place: usize) -> Anew
+/// With value number `i`, behind those that were read anew, which stands from `place` on.
+fn with_read(anew: Anew, i: usize, place: usize) -> Anew
     requires order { anew.first ≤ anew.behind }
-    requires behind { anew.behind ≤ place }
-    requires place { place + 1 < 2 ^ 64 }
-    ensures { IsWithRead anew place result }
+    requires behind { anew.behind ≤ i }
+    requires number { i + 1 < 2 ^ 64 }
+    ensures read { IsWithRead anew i result }
+    ensures from { (bytes : List ℕ) (x : ℕ) → IsFrom bytes x anew
+        → place ≡ place_after bytes x i → IsFrom bytes x result }
 {
+    if anew.behind == 0 {
+        return Anew {
+            first: i,
+            behind: i + 1,
+            from: place,
+        };
+    }
     Anew {
-        first: if anew.behind == 0 { place } else { anew.first },
-        behind: place + 1,
+        first: anew.first,
+        behind: i + 1,
+        from: anew.from,
     }
 }
 
@@ -83,6 +94,7 @@ pub(crate) fn read_values_after(
     ensures ok { OnOk result (values_at version (length out.old) c.old ≡ Ok (out.new, c.new)) }
     ensures err { IfErr result (λ e. values_at version (length out.old) c.old ≡ Err e) }
     ensures anew { IfOk result (AreAnew out.old out.new) }
+    ensures from { IfOk result (IsFrom bytes.now c.old.place) }
     ensures bytes { c.new.bytes ≡ c.old.bytes }
 {
     let mut anew = none_anew();
@@ -101,7 +113,7 @@ pub(crate) fn read_values_after(
         } else {
             move_to(c, place);
             read_value(c, version, &mut out[i])?;
-            anew = with_read(anew, i);
+            anew = with_read(anew, i, place);
             place = c.place();
             stop = next + count_same_before(bytes, next, place, before.end);
         }

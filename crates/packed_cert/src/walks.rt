@@ -1,31 +1,28 @@
 // Points of a node one after another, with room for one state.
-ghost use Rattle.std.specs.Prelude.{◌≡◌, ◌≤◌, ◌<◌, ◌^◌, ℕ, length, IfSome, IsTrue};
-ghost use Rattle.std.specs.List.{All};
-ghost use Rattle.value_domain.specs.declared.states.State.{State};
-ghost use Rattle.packed_cert.specs.Points.{state_in, HasState, StandsAt};
+ghost use Rattle.std.specs.Prelude.{◌≡◌, ◌≤◌, ◌<◌, ◌-◌, ◌^◌, length, drop, IfSome, IsTrue};
+ghost use Rattle.packed_cert.specs.Points.{state_in, HasState};
 ghost use Rattle.packed_cert.specs.Standing.{AreAnew};
-ghost use Rattle.packed_cert.specs.Walks.{StandsNext};
+ghost use Rattle.packed_cert.specs.Below.{values_in, HaveValues};
+ghost use Rattle.packed_cert.specs.Moves.{IsMoved};
 
+use crate::below::read_at;
 use crate::packed_points::PackedPoint;
-use crate::point_fields::{blank, read_state_after};
-use crate::same_bytes::are_same;
-use crate::state_places::{Anew, StatePlaces};
-use crate::values_after::none_anew;
+use crate::point_fields::blank;
+use crate::state_places::Anew;
+use crate::states::{StateAt, covers_moved};
+use crate::values_after::{length_by, none_anew};
 use std::marker::Model;
-use tcd_base::Cursor;
 use value_domain::{State, Val};
+use vd_transfer::{Base, Change};
 
 /// A walk over the points of a node: the state of the point at hand, a row of its values among which
-/// are all that were read anew, the points behind it, and whether the first of these has that state,
-/// too.
+/// are all that were read anew, and the points behind it.
 #[derive(Drop)]
 pub struct PointWalk<'a> {
     bytes: &'a [u8],
     version: u8,
     points: &'a [PackedPoint],
     next: usize,
-    held: Option<StatePlaces>,
-    again: bool,
     anew: Anew,
     state: State,
 }
@@ -44,18 +41,22 @@ impl<'a> Model for PointWalk<'a> {
     } };
 
     ghost invariant = { λ w.
-        IsWalk w.version w.bytes.now w.points.now w.next w.held w.again w.anew w.state };
+        IsWalk w.version w.bytes.now w.points.now w.next w.anew w.state };
 }
 
 impl<'a> PointWalk<'a> {
     ghost use Rattle.std.specs.List.{All};
     ghost use Rattle.packed_cert.specs.Points.{points_in, HasState};
-    ghost use Rattle.packed_cert.specs.Walks.{StepsTo, RepeatsAt};
+    ghost use Rattle.value_domain.specs.State.{AreWell};
+    ghost use Rattle.vd_transfer.specs.Changes.{state_after};
+    ghost use Rattle.packed_cert.specs.Moves.{AreMoves};
+    ghost use Rattle.packed_cert.specs.Walks.{StepsTo, RepeatsAt, CoversNext};
 
     /// A walk before the first of the points.
     pub(crate) fn over(bytes: &'a [u8], version: u8, points: &'a [PackedPoint]) -> PointWalk<'a>
         requires short { length bytes.now ≤ 2 ^ 30 }
         requires states { All (λ p. HasState version bytes.now p.place) points.now }
+        requires moves { AreMoves version bytes.now points.now }
         ensures { result.left ≡ points_in version bytes.now points.now }
     {
         PointWalk {
@@ -63,8 +64,6 @@ impl<'a> PointWalk<'a> {
             version,
             points,
             next: 0,
-            held: None,
-            again: false,
             anew: none_anew(),
             state: blank(),
         }
@@ -78,31 +77,40 @@ impl<'a> PointWalk<'a> {
             return None;
         }
         let point = self.points[self.next];
-        let place = point.place as usize;
-        let (again, held) = (self.again, self.held);
-        let moved = move_on(
-            self.bytes,
-            self.version,
-            place,
-            again,
-            held,
-            &mut self.state,
-        );
-        self.held = moved.0;
-        self.anew = moved.1;
+        self.anew = move_on(self.bytes, self.version, point, &mut self.state);
         self.next += 1;
-        self.again = comes_again(self.bytes, self.points, self.next, self.held);
         Some(point.addr)
     }
 
-    /// The address of the next point, where its state stands in the bytes of the one at hand.
+    /// The address of the next point, where its state is the one at hand.
     pub fn repeats_at(&self) -> Option<u32>
         ensures { IfSome result (RepeatsAt self.now) }
     {
-        if self.again {
-            Some(self.points[self.next].addr)
-        } else {
-            None
+        if self.next >= self.points.len() {
+            return None;
+        }
+        let point = self.points[self.next];
+        if point.same { Some(point.addr) } else { None }
+    }
+
+    /// Whether the next point has this address, and its state covers the one at hand, changed. Only
+    /// values that are put, and those of the next point's row, are looked at; where the change doesn't
+    /// begin with the values at hand it isn't told.
+    pub fn covers_next(&self, addr: u32, c: &Change) -> bool
+        requires hand { AreWell self.now.current.regs }
+        requires changed { AreWell (state_after self.now.current c.now).regs }
+        ensures { IsTrue result → CoversNext self.now addr (state_after self.now.current c.now) }
+    {
+        if self.next >= self.points.len() {
+            return false;
+        }
+        let point = self.points[self.next];
+        if point.addr != addr {
+            return false;
+        }
+        match c.base {
+            Base::Same => covers_moved(&self.state, c, self.bytes, self.version, point),
+            _ => false,
         }
     }
 
@@ -123,60 +131,44 @@ impl<'a> PointWalk<'a> {
     }
 }
 
-/// Whether the bytes of the state that is held stand at the next point, too.
-fn comes_again(bytes: &[u8], points: &[PackedPoint], next: usize, held: Option<StatePlaces>) -> bool
-    requires inside { All (λ p. p.place ≤ length bytes.now) points.now }
-    requires order { IfSome held (λ p. p.start ≤ p.end) }
-    requires within { IfSome held (λ p. p.end ≤ length bytes.now) }
-    ensures { IsTrue result → (version : ℕ) (s : State)
-        → IfSome held (StandsAt version bytes.now s)
-        → StandsNext version bytes.now points.now next s }
+/// Moves the room for a state on to that of a point which keeps of it what it says: only the values
+/// of its row are read. Gives the row.
+fn move_on(bytes: &[u8], version: u8, point: PackedPoint, room: &mut State) -> Anew
+    requires short { length bytes.now ≤ 2 ^ 30 }
+    requires state { HasState version bytes.now point.place }
+    requires moved { IsMoved version bytes.now room.old point }
+    ensures state { room.new ≡ state_in version bytes.now point.place }
+    ensures anew { AreAnew room.old.regs room.new.regs result }
+    ensures few { result.behind ≤ 27 }
 {
-    let Some(held) = held else {
-        return false;
-    };
-    if next >= points.len() {
-        return false;
+    if point.same {
+        return none_anew();
     }
-    let place = points[next].place as usize;
-    let n = held.end - held.start;
-    n <= bytes.len() - place && are_same(bytes, held.start, place, n)
+    let at = StateAt::at(bytes, version, point.place as usize);
+    room.ie = at.ie();
+    room.ccpn = at.ccpn();
+    room.lower = at.lower();
+    room.locals = at.locals();
+    read_row(bytes, version, point, &mut room.regs);
+    point.anew
 }
 
-/// Moves the room for a state on to the one at a place, which may be the same one again, and gives
-/// the places of what it holds then and a row of its values among which are all that were read anew.
-fn move_on(
-    bytes: &[u8],
-    version: u8,
-    place: usize,
-    again: bool,
-    held: Option<StatePlaces>,
-    room: &mut State,
-) -> (Option<StatePlaces>, Anew)
+/// Reads the values of a point's row over those of the state before it.
+fn read_row(bytes: &[u8], version: u8, point: PackedPoint, out: &mut [Val; 27])
     requires short { length bytes.now ≤ 2 ^ 30 }
-    requires state { HasState version bytes.now place }
-    requires again { IsTrue again → state_in version bytes.now place ≡ room.old }
-    requires held { IfSome held (StandsAt version bytes.now room.old) }
-    ensures state { room.new ≡ state_in version bytes.now place }
-    ensures held { IfSome result.0 (StandsAt version bytes.now room.new) }
-    ensures anew { AreAnew room.old.regs room.new.regs result.1 }
-    ensures few { result.1.behind ≤ 27 }
+    requires row { AreAnew out.old (state_in version bytes.now point.place).regs point.anew }
+    requires few { point.anew.behind ≤ 27 }
+    requires have { 0 < point.anew.behind
+        → HaveValues version bytes.now point.anew.from (27 - point.anew.first) }
+    requires stand { 0 < point.anew.behind
+        → drop point.anew.first (state_in version bytes.now point.place).regs
+        ≡ values_in version bytes.now point.anew.from (27 - point.anew.first) }
+    ensures { out.new ≡ (state_in version bytes.now point.place).regs }
 {
-    let _regs = &room.regs[..];
-    if again {
-        return (held, none_anew());
-    }
-    let mut c = Cursor::new(bytes);
-    let _front = c.take(place);
-    match read_state_after(&mut c, bytes, version, held, room) {
-        Ok(read) => (Some(read.at), read.anew),
-        Err(_) => {
-            let _read = &room.regs[..];
-            let all = Anew {
-                first: 0,
-                behind: 27,
-            };
-            (None, all)
-        }
+    let _regs = &out[..];
+    let mut at = point.anew.from;
+    for i in point.anew.first..point.anew.behind {
+        read_at(bytes, version, at, &mut out[i]);
+        at += length_by(bytes[at]);
     }
 }

@@ -15,7 +15,7 @@ use Rattle.depth_check.specs.NodeFaults.{IsNodeFault, first_of}
 use Rattle.depth_check.specs.Asking.{AsksSame}
 use Rattle.depth_check.proofs.AskedLaws.{interrupts_at, asked_no_more, again_holds}
 use Rattle.depth_check.proofs.Deciding.{refuted}
-use Rattle.depth_check.proofs.RepeatLaws.{repeats_covers, known_values}
+use Rattle.depth_check.proofs.RepeatLaws.{looks_ahead, repeats_covers, known_values}
 use Rattle.depth_check.proofs.NodeLaws.{fault_at, none_at, entry_alone}
 use Rattle.depth_check.proofs.WalkLaws.{stands_behind, split_more}
 use Rattle.depth_check.proofs.nodes.packed_fault.Goals as goal
@@ -60,6 +60,12 @@ broken_by_point-found-requires-clause-next c =
     rw c.near-frame.ensures
     (repeats_covers c.args.node.now c.loop-addr.invariant.done c.loop-addr.walk.left c.step.new.self p c.repeats_at-repeats.result c.state-s.result.now c.points-walk.ensures.rising c.loop-addr.invariant.split c.in-Some.ensures.0 c.state-s.ensures c.repeats_at-repeats.ensures)
 
+pub broken_by_point-found-requires-clause-walk : goal.broken_by_point-found-requires-clause-walk
+broken_by_point-found-requires-clause-walk c =
+    let p : Point = record { addr = c.in-Some.addr; state = c.step.new.self.current } in
+    rw c.near-frame.ensures
+    (looks_ahead c.args.node.now c.loop-addr.invariant.done c.loop-addr.walk.left c.step.new.self p c.state-s.result.now c.points-walk.ensures.rising c.loop-addr.invariant.split c.in-Some.ensures.0 c.state-s.ensures)
+
 pub loop-addr-preserved : goal.loop-addr-preserved
 loop-addr-preserved c =
     let inv = c.loop-addr.invariant in
@@ -97,7 +103,7 @@ loop-addr-preserved-then-is_worth_keeping c =
       known = λ t. (holds 2).values refl;
       asked = λ (t : State) fewer.
           asked_no_more c.args.plan.now c.args.cert.now c.args.node.now c.at.result c.step.new.self.current t
-          (subst (λ (s : State). AsksSame c.at.result s) c.state-s.ensures c.at.ensures) fewer
+          (subst (λ (s : State). AsksSame c.at.result s) c.state-s-in-Some.ensures c.at.ensures) fewer
           (interrupts_at c.args.image.now c.args.plan.now c.args.cert.now c.args.node.now p holds);
     }
 

@@ -8,6 +8,7 @@ broken_by_idle-requires-clause-point c = record {
   values = c.has_values.ensures.0 c.if-not-has_values.false;
   again = c.requires.again;
   next = c.requires.next;
+  walk = c.requires.walk;
 }
 
 pub broken_by_any-requires : goal.broken_by_any-requires
@@ -18,4 +19,5 @@ broken_by_any-requires c = record {
   values = c.has_values.ensures.0 c.if-not-has_values.false;
   again = c.requires.again;
   next = c.requires.next;
+  walk = c.requires.walk;
 }

@@ -4,7 +4,7 @@ use Rattle.cfg_recover.proofs.RomTests.{rom_decides}
 use Rattle.depth_check.proofs.NopLaws.{nop16_there}
 use Rattle.depth_check.proofs.rules.is_nop16.Goals as goal
 
-pub returns-then-has_byte : goal.returns-then-has_byte
-returns-then-has_byte c = λ t.
+pub returns : goal.returns
+returns c = λ t.
     let rom = rom_decides (plan_data c.plan.inside) c.args.plan.now c.any_holds.result c.args.addr 2 c.plan.view_is (cc) in
-    nop16_there c.args.image.now c.args.plan.now c.args.addr (omega arith) (rom.0 c.if-not-any_holds.false) (c.has_byte.ensures.0 c.if-has_byte.true) (c.has_byte-then-has_byte.ensures.0 t)
+    nop16_there c.args.image.now c.args.plan.now c.args.addr (omega arith) (rom.0 c.if-not-any_holds.false) c.requires (c.has_byte.ensures.0 t)

@@ -1,15 +1,12 @@
-use Rattle.std.proofs.Common.{List, ℕ, ◌∙◌, subst}
+use Rattle.std.proofs.Common.{List, [], ℕ, Option, sym, subst}
+use Rattle.std.specs.Prelude.{unwrap_or}
 use Rattle.cfg_recover.specs.Duties.{jumps_to}
-use Rattle.depth_check.specs.Finding.{Finds, DutiesHold, unless}
-use Rattle.depth_check.proofs.DutyLaws.{points_found}
-use Rattle.depth_check.proofs.RuleLaws.{values_well}
+use Rattle.depth_check.specs.Points.{Breaks}
 use Rattle.depth_check.proofs.successors.broken_by_jump.Goals as goal
 
-pub has_points-requires-clause-state : goal.has_points-requires-clause-state
-has_points-requires-clause-state c = values_well c.args.at.now.bounds.now _ c.requires.point.values
-
-pub returns : goal.returns
-returns c =
-    rw c.unless.ensures
-    (subst (λ (l : List ℕ). Finds (DutiesHold c.args.at.now.cert.now c.args.at.now.node.now c.args.at.now.point.state.now (jumps_to c.args.at.now.point.state.now l)) (unless c.has_points.result 4)) (c.as_slice.ensures.value ∙ c.targets-targets.ensures)
-    (points_found c.args.at.now.cert.now c.args.at.now.node.now c.args.at.now.point.state.now c.args.at.now.point.state.now c.as_slice.result.now c.has_points.result c.has_points.ensures))
+pub returns-in-Some : goal.returns-in-Some
+returns-in-Some c =
+    let t = c.args.at.now in
+    let s = t.point.state.now in
+    let one = (rw c.in-Some.is at c.direct_target.ensures.one) t.plan.now s in
+    subst (λ (o : Option (List ℕ)). Breaks t (jumps_to s (unwrap_or o [])) c.broken_by_pass.result) (sym one) c.broken_by_pass.ensures

@@ -10,6 +10,11 @@ returns-then-points-near c =
     let number : PackedPoint → ℕ = λ p. p.addr in
     parts_at number c.args.points.now c.args.addr c.args.near _ c.requires c.if-near-points.true c.if-points-near.true
 
+pub returns-then-points-after : goal.returns-then-points-after
+returns-then-points-after c =
+    let number : PackedPoint → ℕ = λ p. p.addr in
+    parts_at number c.args.points.now c.args.addr _ _ c.requires c.if-after-points.true c.if-points-after.true
+
 pub returns : goal.returns
 returns c =
     let number : PackedPoint → ℕ = λ p. p.addr in

@@ -1,4 +1,5 @@
-use Rattle.std.proofs.Common.{◌≡◌, ◌∙◌, ◌++◌, ◌∷◌, [], ℕ, ap, arith}
+use Rattle.std.proofs.Common.{◌≡◌, ◌∙◌, ◌++◌, ◌∷◌, [], ℕ, length, get_or, ap, sym, arith}
+use Rattle.std.proofs.Math.Seq.{get_or-append_seam}
 use Rattle.std.proofs.lemmas.Result.{err_from_is_err_and}
 use Rattle.std.proofs.lemmas.List.Elements.{All-push}
 use Rattle.depth_cert.specs.Grammar.{points_at, point_after, address_after}
@@ -6,7 +7,10 @@ use Rattle.tcd_base.proofs.ManyLaws.{many_more, many_fail, many_end}
 use Rattle.depth_cert.proofs.ManyLaws.{rising_map_push}
 use Rattle.depth_cert.proofs.PointReads.{address_fails, state_fails}
 use Rattle.packed_cert.specs.declared.packed_points.PackedPoint.{PackedPoint}
-use Rattle.packed_cert.specs.Points.{points_in, HasState}
+use Rattle.value_domain.specs.declared.states.State.{State}
+use Rattle.packed_cert.specs.Points.{state_in, points_in, HasState}
+use Rattle.packed_cert.specs.Moves.{StandsBefore, IsMoved}
+use Rattle.packed_cert.proofs.RowLaws.{moves_push, moved_next}
 use Rattle.packed_cert.proofs.PointPlaces.{addresses_in, point_more, points_push, state_read}
 use Rattle.packed_cert.proofs.point_fields.read_points.Goals as goal
 
@@ -20,14 +24,14 @@ returns-in_err-addr-clause-err c =
     (address_fails c.args.version before c.loop-i.c _ (ap (λ (l : _). address_after l c.loop-i.c) (addresses_in c.args.version c.args.bytes.now c.loop-i.points.items) ∙ e)) in
     rw (p.1, p.2, c.in_ok-count.ensures.read) fault
 
-pub returns-in_err-read_state_like-clause-err : goal.returns-in_err-read_state_like-clause-err
+pub returns-in_err-read-clause-err : goal.returns-in_err-read-clause-err
 unfolding points_at
-returns-in_err-read_state_like-clause-err c =
-    let p = err_from_is_err_and c.from_residual-in_err-read_state_like.result c.from_residual-in_err-read_state_like.ensures.1 in
+returns-in_err-read-clause-err c =
+    let p = err_from_is_err_and c.from_residual-in_err-read.result c.from_residual-in_err-read.ensures.1 in
     let before = points_in c.args.version c.args.bytes.now c.loop-i.points.items in
     let e = rw c.deref.ensures.value at c.in_ok-addr.ensures.read in
     let fault = many_fail (point_after c.args.version) c.in_ok-count.count c.loop-i._i before c.read_point_count.new.c c.loop-i.c _ c.loop-i-test.true c.loop-i.invariant.read
-    (state_fails c.args.version before c.loop-i.c _ _ _ (ap (λ (l : _). address_after l c.loop-i.c) (addresses_in c.args.version c.args.bytes.now c.loop-i.points.items) ∙ e) c.in_err-read_state_like.ensures.err) in
+    (state_fails c.args.version before c.loop-i.c _ _ _ (ap (λ (l : _). address_after l c.loop-i.c) (addresses_in c.args.version c.args.bytes.now c.loop-i.points.items) ∙ e) c.in_err-read.ensures.err) in
     rw (p.1, p.2, c.in_ok-count.ensures.read) fault
 
 pub loop-i-preserved : goal.loop-i-preserved
@@ -39,11 +43,15 @@ loop-i-preserved c =
     let next = rw c.deref.ensures.value at c.in_ok-addr.ensures.next in
     let same = c.read_address.ensures.bytes ∙ c.loop-i.invariant.bytes ∙ c.read_point_count.ensures.bytes ∙ c.requires.same in
     let q = c.read_address.new.c in
-    let item : PackedPoint = record { addr = c.in_ok-addr.addr; place = q.place } in
-    let h = state_read version bytes q q.place _ _ same (omega arith) c.in_ok-read_state_like.ensures.ok in
-    let more = point_more version bytes ps c.in_ok-addr.addr q.place c.loop-i.c q _ _ same (omega arith) e c.in_ok-read_state_like.ensures.ok in
+    let item : PackedPoint = record { addr = c.in_ok-addr.addr; place = q.place; anew = c.in_ok-read.read.anew; same = c.in_ok-read.same } in
+    let h = state_read version bytes q q.place _ _ same (omega arith) c.in_ok-read.ensures.ok in
+    let more = point_more version bytes ps item c.loop-i.c q _ _ same (omega arith) e c.in_ok-read.ensures.ok in
     let place : c.place-place.result ≡ q.place = c.place-place.ensures.place in
-    let pushed : c.push.new.self.items ≡ ps ++ item ∷ [] = c.in_ok-push.ensures.items ∙ ap (λ (k : ℕ). ps ++ record { addr = c.in_ok-addr.addr; place = k } ∷ []) place in
+    let pushed : c.push.new.self.items ≡ ps ++ item ∷ [] = c.in_ok-push.ensures.items ∙ ap (λ (k : ℕ). ps ++ record { addr = c.in_ok-addr.addr; place = k; anew = c.in_ok-read.read.anew; same = c.in_ok-read.same } ∷ []) place in
+    let stands = c.in_ok-read.ensures.held in
+    let one : (t : State) → StandsBefore version bytes ps (length ps) t → IsMoved version bytes t item = λ t b.
+    moved_next version bytes ps t c.loop-i.room.state c.read_state_like.new.out item c.in_ok-read.read.at.values c.in_ok-read.read.at.end c.loop-i._i c.loop-i.held (λ k. (c.type_inv.bytes k).fits) h.0 h.1 stands.values.0 stands.values.1 c.in_ok-read.ensures.anew c.in_ok-read.ensures.from c.in_ok-read.ensures.whole c.in_ok-read.ensures.again c.loop-i.invariant.count c.loop-i.invariant.none c.loop-i.invariant.before b
+    in
     record {
       read =
           rw (pushed, points_push version bytes ps item)
@@ -53,7 +61,12 @@ loop-i-preserved c =
       states = rw pushed (All-push (λ (p : PackedPoint). HasState version bytes p.place) ps item c.loop-i.invariant.states h.1);
       rising = rw pushed (rising_map_push (λ (p : PackedPoint). p.addr) ps item c.loop-i.invariant.rising next);
       used = c.loop-i.invariant.used;
-      held = c.in_ok-read_state_like.ensures.held;
+      held = stands;
+      none = λ z. absurd (omega arith);
+      before = λ j d next.
+          let here : get_or (ps ++ item ∷ []) j d ≡ item = ap (λ (n : ℕ). get_or (ps ++ item ∷ []) n d) (omega (arith, c.loop-i.invariant.count)) ∙ get_or-append_seam ps item [] d in
+          rw pushed (sym h.0 ∙ ap (λ (p : PackedPoint). state_in version bytes p.place) (sym here));
+      moves = rw pushed (moves_push version bytes ps item c.loop-i.invariant.moves one);
     }
 
 pub returns-clause-ok : goal.returns-clause-ok

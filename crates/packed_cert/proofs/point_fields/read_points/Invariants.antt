@@ -1,10 +1,12 @@
-use Rattle.std.proofs.Common.{◌≡◌, ◌-◌, length, map, []}
+use Rattle.std.proofs.Common.{◌≡◌, ◌+◌, ◌-◌, ℕ, length, get_or, map, [], None}
 use Rattle.std.specs.Prelude.{IfSome}
 use Rattle.std.specs.List.{All}
 use Rattle.std.specs.List.Sorted.{IsStrictlyIncreasing}
 use Rattle.tcd_base.specs.Reading.{many_at}
 use Rattle.depth_cert.specs.Grammar.{point_after}
-use Rattle.packed_cert.specs.Points.{points_in, HasState, StandsAt}
+use Rattle.packed_cert.specs.declared.packed_points.PackedPoint.{PackedPoint}
+use Rattle.packed_cert.specs.Points.{state_in, points_in, HasState, StandsAt}
+use Rattle.packed_cert.specs.Moves.{AreMoves}
 use Rattle.packed_cert.proofs.point_fields.read_points.Given as goal
 
 abbrev pub invariant-loop-i : goal.invariant-loop-i
@@ -16,4 +18,7 @@ invariant-loop-i l = record {
   rising : IsStrictlyIncreasing (map (λ p. p.addr) l.points.items);
   used : l.room.used ≡ l.initial.room.used;
   held : IfSome l.held (StandsAt l.version l.bytes l.room.state);
+  none : l._i ≡ 0 → l.held ≡ None;
+  before : (j : ℕ) (d : PackedPoint) → j + 1 ≡ l._i → l.room.state ≡ state_in l.version l.bytes (get_or l.points.items j d).place;
+  moves : AreMoves l.version l.bytes l.points.items;
 }

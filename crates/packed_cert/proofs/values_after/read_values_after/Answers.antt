@@ -5,9 +5,10 @@ use Rattle.tcd_base.specs.Place.{Place}
 use Rattle.value_domain.specs.Values.{any_val}
 use Rattle.depth_cert.specs.Grammar.{value_at, values_at}
 use Rattle.tcd_base.proofs.ManyLaws.{many_more, many_fail, many_end}
-use Rattle.packed_cert.specs.Standing.{at, StandAlike}
+use Rattle.packed_cert.specs.Standing.{at, behind, StandAlike}
 use Rattle.packed_cert.proofs.SameBytes.{stand_next, value_stands, alike_read, alike_behind, all_read}
 use Rattle.packed_cert.proofs.ReadAnew.{more_anew}
+use Rattle.packed_cert.proofs.RowLaws.{place_after-more}
 use Rattle.packed_cert.proofs.values_after.read_values_after.Goals as goal
 use Rattle.packed_cert.proofs.values_after.read_values_after.Goals.{then-next-stop, else-next-stop+in_ok-read_value}
 
@@ -82,6 +83,10 @@ loop-i-preserved c =
             same = rw (w2.stop-is, w2.place-is) (subst (λ (m : ℕ). StandAlike bytes (x + n) (y + n) m) left (alike_behind bytes x y n k fits inv.same));
             anew = rw (w2.out-is, w2.anew-is) inv.anew;
             few = rw w2.anew-is (omega (arith, inv.few));
+            placed =
+                let there = value_stands version bytes y _ _ (λ k. (c.type_inv.bytes k).fits) (omega (arith, inv.second)) one in
+                rw w2.place-is (place_after-more bytes c.args.c.now.place c.loop-i.i ∙ ap (behind bytes) inv.placed ∙ ap (λ (p : Place). p.place) (sym there.end));
+            from = rw w2.anew-is inv.from;
           }
       | else-next-stop+in_ok-read_value w2 ↦
           let moved : w2.move_to-else-next-stop.new.c ≡ at bytes y = w2.move_to-else-next-stop.ensures ∙ ap (λ (l : List ℕ). at l y) inv.bytes in
@@ -101,7 +106,12 @@ loop-i-preserved c =
             first = rw w2.stop-is w2.count_same_before-else-next-stop.ensures.first;
             second = rw (w2.stop-is, w2.place-is) (omega (arith, w2.count_same_before-else-next-stop.ensures.second));
             same = rw (w2.stop-is, w2.place-is) (subst (λ (m : ℕ). StandAlike bytes (x + n) w2.place-place-else-next-stop.result m) ahead w2.count_same_before-else-next-stop.ensures.same);
-            anew = rw (w2.out-is, w2.anew-is) (more_anew c.args.out.now c.loop-i.out c.loop-i.i w2.read_value.new.out c.loop-i.anew _ (omega arith) inv.anew w2.with_read-anew.ensures);
-            few = rw w2.anew-is (omega (arith, w2.with_read-anew.ensures.behind));
+            anew = rw (w2.out-is, w2.anew-is) (more_anew c.args.out.now c.loop-i.out c.loop-i.i w2.read_value.new.out c.loop-i.anew _ (omega arith) inv.anew w2.with_read-anew.ensures.read);
+            few = rw w2.anew-is (omega (arith, w2.with_read-anew.ensures.read.behind));
+            placed =
+                let read = ap (value_at version) (sym moved) ∙ w2.in_ok-read_value.ensures.ok in
+                let stood = value_stands version bytes y _ _ (λ k. (c.type_inv.bytes k).fits) (omega (arith, inv.second)) read in
+                rw w2.place-is (place_after-more bytes c.args.c.now.place c.loop-i.i ∙ ap (behind bytes) inv.placed ∙ sym (ap (λ (p : Place). p.place) stood.end) ∙ sym w2.place-place-else-next-stop.ensures.place);
+            from = rw w2.anew-is (w2.with_read-anew.ensures.from bytes c.args.c.now.place inv.from (sym inv.placed));
           }
     ]

@@ -1,7 +1,7 @@
 use Rattle.std.proofs.Common.{◌≡◌, ◌≤◌, ◌+◌, ◌-◌, length, [], take, drop}
 use Rattle.tcd_base.specs.Reading.{many_at}
 use Rattle.depth_cert.specs.Grammar.{value_at}
-use Rattle.packed_cert.specs.Standing.{at, Stand, StandAlike, AreAnew}
+use Rattle.packed_cert.specs.Standing.{at, Stand, StandAlike, AreAnew, IsFrom, place_after}
 use Rattle.packed_cert.proofs.values_after.read_values_after.Given as goal
 
 abbrev pub invariant-loop-i : goal.invariant-loop-i
@@ -16,4 +16,6 @@ invariant-loop-i l = record {
   same : StandAlike l.bytes l.from l.place (l.stop - l.from);
   anew : AreAnew l.initial.out l.out l.anew;
   few : (l.anew).behind ≤ l.i;
+  placed : place_after l.bytes l.initial.c.place l.i ≡ l.place;
+  from : IsFrom l.bytes l.initial.c.place l.anew;
 }

@@ -8,10 +8,13 @@ use Rattle.packed_cert.proofs.walks.PointWalk.step.Goals as goal
 pub returns : goal.returns
 returns c =
     let own = c.self.inside in
-    let s = c.move_on-moved.new.room in
-    let anew = c.move_on-moved.result.1 in
+    let s = c.move_on-self-inside.new.room in
+    let anew = c.move_on-self-inside.result in
     let left = points_in own.version own.bytes.now (drop (own.next + 1) own.points.now) in (
-      ap (λ (w : WalkData). w.left) (sym c.self.view_is) ∙ first_left own.version own.bytes.now own.points.now own.next _ s c.if-self.false c.move_on-moved.ensures.state,
+      ap (λ (w : WalkData). w.left) (sym c.self.view_is) ∙ first_left own.version own.bytes.now own.points.now own.next _ s c.if-self.false c.move_on-self-inside.ensures.state,
       subst (λ (u : State). KeepsOthers u (record { current = s; anew = take (anew.behind - anew.first) (drop anew.first s.regs); left = left })) (ap (λ (w : WalkData). w.current) c.self.view_is)
-          (keeps_others own.state s anew left c.move_on-moved.ensures.anew),
+          (keeps_others own.state s anew left c.move_on-self-inside.ensures.anew),
     )
+
+pub move_on-self-inside-requires-clause-moved : goal.move_on-self-inside-requires-clause-moved
+move_on-self-inside-requires-clause-moved c = c.self.invariant.moves c.self.inside.next _ c.self.inside.state c.if-self.false c.self.invariant.here

@@ -1,0 +1,22 @@
+use Rattle.std.proofs.Common.{Option, ℕ, sym, subst}
+use Rattle.std.specs.Prelude.{IfSome, IsTrue, ◌↔◌}
+use Rattle.value_domain.specs.declared.states.State.{State}
+use Rattle.value_domain.specs.State.{AreWell}
+use Rattle.cfg_recover.specs.Accepting.{HasPoint}
+use Rattle.depth_check.proofs.Deciding.{yes}
+use Rattle.depth_check.proofs.RuleLaws.{values_well}
+use Rattle.depth_check.proofs.covering.has_kept_next.Goals as goal
+
+pub returns-then-is_known : goal.returns-then-is_known
+returns-then-is_known c =
+    let t = c.args.at.now in
+    yes _ (subst (λ (o : Option ℕ). IfSome o (λ a. HasPoint t.node.now a t.point.state.now)) (c.is_known.ensures c.if-is_known.true) c.requires.next)
+
+pub has_changed_next-requires-clause-changed : goal.has_changed_next-requires-clause-changed
+has_changed_next-requires-clause-changed c =
+    subst (λ (s : State). AreWell s.regs) (sym c.keep.ensures.same) (values_well c.args.at.now.bounds.now _ c.requires.values)
+
+pub returns : goal.returns
+returns c =
+    let t = c.args.at.now in
+    subst (λ (s : State). IsTrue c.has_changed_next.result ↔ HasPoint t.node.now c.args.addr s) c.keep.ensures.same c.has_changed_next.ensures

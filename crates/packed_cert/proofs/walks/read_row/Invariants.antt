@@ -1,0 +1,13 @@
+use Rattle.std.proofs.Common.{◌≡◌, ◌<◌, ◌≤◌, ◌-◌, ◌⊎◌, ℕ, get_or, drop, length}
+use Rattle.value_domain.specs.Values.{any_val}
+use Rattle.packed_cert.specs.Points.{state_in}
+use Rattle.packed_cert.specs.Below.{values_in, HaveValues}
+use Rattle.packed_cert.proofs.walks.read_row.Given as goal
+
+abbrev pub invariant-loop-i : goal.invariant-loop-i
+invariant-loop-i l = record {
+  count : length l.out ≡ 27;
+  have : 0 < l.fn.point.anew.behind → HaveValues l.version l.bytes l.at (27 - l.i);
+  left : 0 < l.fn.point.anew.behind → drop l.i (state_in l.version l.bytes l.fn.point.place).regs ≡ values_in l.version l.bytes l.at (27 - l.i);
+  done : (k : ℕ) → k < 27 → (k < l.i) ⊎ (l.fn.point.anew.behind ≤ k) → get_or l.out k any_val ≡ get_or (state_in l.version l.bytes l.fn.point.place).regs k any_val;
+}

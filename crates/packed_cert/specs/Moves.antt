@@ -1,0 +1,25 @@
+-- What the states of points keep of those of the points before them.
+use Rattle.std.specs.Prelude.{◌≡◌, ◌≤◌, ◌<◌, ◌+◌, ◌-◌, ℕ, IsTrue, slice_index_or, List, length, drop}
+use Rattle.value_domain.specs.declared.states.State.{State}
+use Rattle.packed_cert.specs.declared.packed_points.PackedPoint.{PackedPoint}
+use Rattle.packed_cert.specs.Standing.{AreAnew}
+use Rattle.packed_cert.specs.Points.{state_in}
+use Rattle.packed_cert.specs.Below.{values_in, HaveValues}
+
+-- The state of a point against one before it: outside a row it has the same values, the row's values and those behind it
+-- stand where the point says, and where it says so all of the state is the same.
+pub record IsMoved (version : ℕ) (bytes : List ℕ) (before : State) (p : PackedPoint) : Type 0 where
+  pub row : AreAnew before.regs (state_in version bytes p.place).regs p.anew
+  pub few : (p.anew).behind ≤ 27
+  pub have : 0 < (p.anew).behind → HaveValues version bytes (p.anew).from (27 - (p.anew).first)
+  pub stand : 0 < (p.anew).behind → drop (p.anew).first (state_in version bytes p.place).regs ≡ values_in version bytes (p.anew).from (27 - (p.anew).first)
+  pub same : IsTrue p.same → state_in version bytes p.place ≡ before
+
+-- the state stands before point k: that of the point before it, or any state where it is the first
+pub record StandsBefore (version : ℕ) (bytes : List ℕ) (ps : List PackedPoint) (k : ℕ) (s : State) : Type 0 where
+  pub count : length s.regs ≡ 27
+  pub last : (j : ℕ) (d : PackedPoint) → j + 1 ≡ k → s ≡ state_in version bytes (slice_index_or ps j d).place
+
+-- each point keeps of the state before it what it says
+abbrev pub AreMoves : ℕ → List ℕ → List PackedPoint → Type 0
+AreMoves version bytes ps = (k : ℕ) (d : PackedPoint) (s : State) → k < length ps → StandsBefore version bytes ps k s → IsMoved version bytes s (slice_index_or ps k d)
