@@ -1,5 +1,5 @@
 -- Values that duties ask for.
-use Rattle.std.proofs.Common.{◌≡◌, ◌-◌, Bool, true, false, List, length, take, drop, sym, ap, ◌∙◌, arith}
+use Rattle.std.proofs.Common.{◌≡◌, Bool, true, false, List, length, take, drop, sym, ap, ◌∙◌, arith}
 use Rattle.std.specs.Prelude.{if◌then◌else◌}
 use Rattle.std.proofs.lemmas.List.{length-append, length-take-le, length-drop}
 use Rattle.value_domain.specs.declared.values.Val.{Val}

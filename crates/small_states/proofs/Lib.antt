@@ -2,3 +2,4 @@ pub mod SameValues
 pub mod WordTests
 pub mod AskedLemmas
 pub mod SparseLemmas
+pub mod GapLemmas

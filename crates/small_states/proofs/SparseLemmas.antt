@@ -29,7 +29,7 @@ more_anys known rest count =
     ∙ sym (append_assoc (front known) (replicate rest any_val) (replicate count any_val))
 
 -- behind some known values stands one more
-all_parts : (xs ys : List SpacedValue) (s : SpacedValue) (rest : ℕ) → all (xs ++ s ∷ ys) rest ≡ front xs ++ (replicate s.anys any_val ++ s.value ∷ (front ys ++ replicate rest any_val))
+pub all_parts : (xs ys : List SpacedValue) (s : SpacedValue) (rest : ℕ) → all (xs ++ s ∷ ys) rest ≡ front xs ++ (replicate s.anys any_val ++ s.value ∷ (front ys ++ replicate rest any_val))
 all_parts xs ys s rest =
     ap (λ (l : List Val). l ++ replicate rest any_val) (flat_map-append spaced_values xs (s ∷ ys))
     ∙ append_assoc (front xs) (spaced_values s ++ front ys) (replicate rest any_val)

@@ -10,5 +10,5 @@ use Rattle.small_states.specs.declared.small.Form.TheVariants.{Any, One, Many, R
 abbrev pub val_of : Form → Val
 val_of Any = any_val
 val_of (One x) = Set (x ∷ [])
-val_of (Many words) = Set words.value
+val_of (Many own) = own.value
 val_of (Range lo last step) = Span lo last step

@@ -9,6 +9,7 @@ use Rattle.depth_cert.specs.Spelling.{bytes_of_state}
 use Rattle.depth_cert.specs.Known.{Known, state, leaving}
 use Rattle.small_states.specs.declared.cells.Kept.{Kept}
 use Rattle.small_states.specs.declared.cells.Kept.TheVariants.{Point, Leaves}
+use Rattle.small_states.specs.declared.cells.Outline.{Outline}
 use Rattle.small_states.specs.Wholes.{exit_in, state_in}
 use Rattle.small_states.specs.declared.asked.Asked.{Asked}
 use Rattle.small_states.specs.declared.asked.Context.{Context}
@@ -67,10 +68,10 @@ exit_with values k = record { ie = k.ie; ccpn = k.ccpn; lower = values }
 abbrev pub known_by : Asked → Context → Known
 known_by asked k = if is_exit asked then leaving (exit_with (values_asked asked) k) else state (state_with (values_asked asked) k)
 
--- a state with so many locals in which interrupts are off
-abbrev pub IsQuiet : Known → ℕ → Type 0
-IsQuiet (state s) count = (s.ie ≡ false) × (length s.locals.items ≡ count)
-IsQuiet (leaving x) count = ⊥
+-- what a row of needs asks of a state
+abbrev pub IsOutline : Known → Outline → Type 0
+IsOutline (state s) o = (s.ie ≡ o.ie) × (s.ccpn ≡ o.ccpn) × (length s.locals.items ≡ o.held)
+IsOutline (leaving x) o = ⊥
 
 -- what is known is no exit
 abbrev pub IsNoExit : Known → Type 0

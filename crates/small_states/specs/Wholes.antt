@@ -30,8 +30,8 @@ pub record IsFoundIn (v : Values) (i n others : ℕ) : Type 0 where
 
 -- the state with these values
 abbrev pub state_in : SmallState → State
-state_in s = record { regs = all_values s.regs; ie = s.ie; ccpn = s.ccpn; lower = s.lower; locals = s.locals }
+state_in s = record { regs = all_values s.regs.value; ie = s.ie; ccpn = s.ccpn; lower = s.lower; locals = s.locals }
 
 -- the exit with these values
 abbrev pub exit_in : SmallExit → Exit
-exit_in x = record { ie = x.ie; ccpn = x.ccpn; lower = all_values x.lower }
+exit_in x = record { ie = x.ie; ccpn = x.ccpn; lower = all_values x.lower.value }

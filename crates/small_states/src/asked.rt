@@ -129,13 +129,14 @@ fn restored<'a>(i: usize, exit: &'a SmallExit, any: &'a Val, v: &'a Val) -> Give
     requires { any.now ≡ any_val }
     ensures { given_of result
         ≡ (if states.is_lower_slot i
-        then slice_index_or (all_values exit.now.lower) (if nat_lt i 8 then i else i - 8) any_val
+        then slice_index_or (all_values exit.now.lower.value)
+        (if nat_lt i 8 then i else i - 8) any_val
         else v.now) }
 {
     if i < 8 {
-        exit.lower.given_at(any, i)
+        exit.lower.as_ref().given_at(any, i)
     } else if 16 <= i && i < 22 {
-        exit.lower.given_at(any, i - 8)
+        exit.lower.as_ref().given_at(any, i - 8)
     } else {
         Given::Whole(v)
     }
@@ -147,7 +148,8 @@ fn value_after<'a>(s: &'a State, exit: &'a SmallExit, any: &'a Val, i: usize) ->
     requires place { i < 27 }
     requires any { any.now ≡ any_val }
     ensures { given_of result
-        ≡ slice_index_or (with_lower_from 0 (all_values exit.now.lower) s.now.regs) i any_val }
+        ≡ slice_index_or (with_lower_from 0 (all_values exit.now.lower.value) s.now.regs) i
+        any_val }
 {
     let _regs = &s.regs[..];
     restored(i, exit, any, &s.regs[i])

@@ -5,21 +5,30 @@ ghost use Rattle.value_domain.specs.State.{AreValues, AreWell, Covers, joined_st
 ghost use Rattle.small_states.specs.Wholes.{all_values, exit_in, state_in};
 ghost use Rattle.depth_cert.specs.Exits.{ExitCovers};
 ghost use Rattle.depth_cert.specs.Known.{CoversKnown, joined_exit, joined_known, state, leaving, IsProperKnown};
-ghost use Rattle.small_states.specs.Kept.{AddsState, IsNoExit, IsQuiet, IsStateAt, asked_for, asking, exit_with, known_of, state_with, values_asked};
+ghost use Rattle.small_states.specs.Kept.{AddsState, IsNoExit, IsOutline, IsStateAt, asked_for, asking, exit_with, known_of, state_with, values_asked};
 
 use crate::asked::{Asked, Context, context_of, is_leaving};
 use crate::values::{are_covered, joined, packed, packed_by};
-use crate::{SmallExit, SmallState, Values, copy_of, join_locals};
+use crate::{ScratchState, SmallExit, SmallState, Values, copy_of, join_locals};
 use std::alloc::{AllocError, Global};
 use std::marker::Model;
+use std::rc::Rc;
 use tcd_base::NoMemory;
-use value_domain::{Bounds, State, are_implied};
+use value_domain::{Bounds, are_implied};
 
 /// A state at a point, or the exit of a frame.
 #[derive(Drop)]
 pub(crate) enum Kept {
     Point(SmallState),
     Leaves(SmallExit),
+}
+
+/// Whether interrupts may come in a state, above which priority, and how many locals it has.
+#[derive(Clone, Copy, Debug, PartialEq, Eq)]
+pub struct Outline {
+    pub ie: bool,
+    pub ccpn: u8,
+    pub held: u8,
 }
 
 /// What is known at a place; contracts see the state or the exit, however it is kept.
@@ -38,8 +47,8 @@ impl Model for Cell {
 }
 
 /// What a duty asks for, by its values.
-fn kept_with(values: Values, asked: &Asked) -> Kept
-    requires { all_values values ≡ values_asked asked.now }
+fn kept_with(values: Rc<Values>, asked: &Asked) -> Kept
+    requires { all_values values.value ≡ values_asked asked.now }
     ensures { known_of result ≡ asked_for asked.now }
 {
     let k = context_of(asked);
@@ -50,12 +59,6 @@ fn kept_with(values: Values, asked: &Asked) -> Kept
             lower: values,
         });
     }
-    kept_state(values, &k)
-}
-
-fn kept_state(values: Values, k: &Context) -> Kept
-    ensures { known_of result ≡ state (state_with (all_values values) k.now) }
-{
     Kept::Point(SmallState {
         regs: values,
         ie: k.ie,
@@ -67,9 +70,9 @@ fn kept_state(values: Values, k: &Context) -> Kept
 
 /// Whether a state covers what a duty asks for of one.
 fn covers_state(upper: &SmallState, asked: &Asked, k: &Context) -> bool
-    requires upper { AreWell (all_values upper.now.regs) }
+    requires upper { AreWell (all_values upper.now.regs.value) }
     requires asked { AreWell (values_asked asked.now) }
-    requires long { length (all_values upper.now.regs) ≡ length (values_asked asked.now) }
+    requires long { length (all_values upper.now.regs.value) ≡ length (values_asked asked.now) }
     ensures { IsTrue result
         ↔ Covers (state_in upper.now) (state_with (values_asked asked.now) k.now) }
 {
@@ -79,21 +82,21 @@ fn covers_state(upper: &SmallState, asked: &Asked, k: &Context) -> bool
     if !are_implied(upper.locals.as_slice(), k.locals.as_slice()) {
         return false;
     }
-    are_covered(&upper.regs, asked)
+    are_covered(upper.regs.as_ref(), asked)
 }
 
 /// Whether an exit covers what a duty asks for of one.
 fn covers_exit(upper: &SmallExit, asked: &Asked, k: &Context) -> bool
-    requires upper { AreWell (all_values upper.now.lower) }
+    requires upper { AreWell (all_values upper.now.lower.value) }
     requires asked { AreWell (values_asked asked.now) }
-    requires long { length (all_values upper.now.lower) ≡ length (values_asked asked.now) }
+    requires long { length (all_values upper.now.lower.value) ≡ length (values_asked asked.now) }
     ensures { IsTrue result
         ↔ ExitCovers (exit_in upper.now) (exit_with (values_asked asked.now) k.now) }
 {
     if !upper.covers_context(k.ie, k.ccpn) {
         return false;
     }
-    are_covered(&upper.lower, asked)
+    are_covered(upper.lower.as_ref(), asked)
 }
 
 /// The least state that covers both; `None` for unequal numbers of locals.
@@ -104,9 +107,9 @@ fn join_state(
     asked: &Asked,
     k: &Context,
 ) -> Result<Option<Cell>, AllocError>
-    requires left { AreValues b.now (all_values left.now.regs) }
+    requires left { AreValues b.now (all_values left.now.regs.value) }
     requires asked { AreValues b.now (values_asked asked.now) }
-    requires long { length (all_values left.now.regs) ≡ length (values_asked asked.now) }
+    requires long { length (all_values left.now.regs.value) ≡ length (values_asked asked.now) }
     ensures { IfOk result
         (λ r. r ≡ option_map state
         (joined_states b.now (state_in left.now) (state_with (values_asked asked.now) k.now))) }
@@ -114,7 +117,7 @@ fn join_state(
     if left.locals.len() != k.locals.len() {
         return Ok(None);
     }
-    let regs = joined(alloc, b, &left.regs, asked)?;
+    let regs = Rc::new(alloc, joined(alloc, b, left.regs.as_ref(), asked)?)?;
     let kept = Kept::Point(SmallState {
         regs,
         ie: left.ie || k.ie,
@@ -133,15 +136,15 @@ fn join_exit(
     asked: &Asked,
     k: &Context,
 ) -> Result<Option<Cell>, AllocError>
-    requires exit { AreValues b.now (all_values exit.now.lower) }
+    requires exit { AreValues b.now (all_values exit.now.lower.value) }
     requires asked { AreValues b.now (values_asked asked.now) }
-    requires long { length (all_values exit.now.lower) ≡ length (values_asked asked.now) }
+    requires long { length (all_values exit.now.lower.value) ≡ length (values_asked asked.now) }
     ensures { IfOk result
         (λ r. r ≡ Some
         (leaving (joined_exit b.now (exit_in exit.now)
         (exit_with (values_asked asked.now) k.now)))) }
 {
-    let lower = joined(alloc, b, &exit.lower, asked)?;
+    let lower = Rc::new(alloc, joined(alloc, b, exit.lower.as_ref(), asked)?)?;
     let kept = Kept::Leaves(SmallExit {
         ie: exit.ie || k.ie,
         ccpn: exit.ccpn.min(k.ccpn),
@@ -156,19 +159,20 @@ impl Cell {
         requires { IsProperKnown _b.now (asked_for asked.now) }
         ensures { IfOk result (λ c. c ≡ asked_for asked.now) }
     {
-        let values = packed(alloc, asked)?;
+        let values = Rc::new(alloc, packed(alloc, asked)?)?;
         let kept = kept_with(values, asked);
         Ok(Cell { kept })
     }
 
-    /// What a duty asks for of a point that has this state: as `new`, but what the state keeps is copied.
+    /// What a duty asks for of a point that has this state: as `new`, but what the state keeps is copied, or shared where no
+    /// value is put.
     pub fn changed(&self, alloc: Global, asked: &Asked) -> Result<Cell, AllocError>
         requires { self.now ≡ state (asking asked.now) }
         ensures { IfOk result (λ c. c ≡ asked_for asked.now) }
     {
         let values = match &self.kept {
             Kept::Point(own) => packed_by(alloc, &own.regs, asked)?,
-            Kept::Leaves(_) => packed(alloc, asked)?,
+            Kept::Leaves(_) => Rc::new(alloc, packed(alloc, asked)?)?,
         };
         let kept = kept_with(values, asked);
         Ok(Cell { kept })
@@ -220,29 +224,27 @@ impl Cell {
         }
     }
 
-    /// How many locals a state has in which interrupts are off; `None` where they may be on, and of an exit.
-    pub fn quiet_locals(&self) -> Option<u8>
-        ensures { IfSome result (IsQuiet self.now) }
+    /// What a row of needs asks of a state; `None` of an exit.
+    pub fn outline(&self) -> Option<Outline>
+        ensures { IfSome result (IsOutline self.now) }
     {
         match &self.kept {
-            Kept::Point(s) => {
-                if s.ie {
-                    None
-                } else {
-                    Some(s.locals.len() as u8)
-                }
-            }
+            Kept::Point(s) => Some(Outline {
+                ie: s.ie,
+                ccpn: s.ccpn,
+                held: s.locals.len() as u8,
+            }),
             Kept::Leaves(_) => None,
         }
     }
 
     /// Writes the state over another.
-    pub fn read_state(&self, _b: &Bounds, into: &mut State)
+    pub fn read_state(&self, _b: &Bounds, into: &mut ScratchState)
         requires { IsProperKnown _b.now self.now }
         ensures { IsStateAt self.now into.new }
     {
         if let Kept::Point(s) = &self.kept {
-            s.write(into);
+            into.write(s);
         }
     }
 

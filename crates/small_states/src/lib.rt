@@ -3,6 +3,7 @@
 
 mod asked;
 mod cells;
+mod scratch;
 mod small;
 mod sparse;
 mod spelling;
@@ -10,7 +11,8 @@ mod states;
 mod values;
 
 pub use asked::{Asked, priority};
-pub use cells::Cell;
+pub use cells::{Cell, Outline};
+pub use scratch::ScratchState;
 pub use small::Small;
 pub use sparse::{SpacedValue, Values};
 pub use states::{SmallExit, SmallState, copy_of, join_locals};

@@ -12,16 +12,19 @@ use crate::spelling::{put_any, put_one};
 use depth_cert::write_value;
 use std::alloc::{AllocError, Global};
 use std::marker::Model;
+use std::rc::Rc;
 use tcd_base::NoMemory;
-use value_domain::{Bounds, Val, Words, alignment_log2, join, leq};
+use value_domain::{
+    Bounds, Val, Words, alignment_log2, is_set, join, leq, set_span, set_words, write_any,
+};
 use vd_transfer::only_word;
 
-/// All words, one word, more words, or another range.
+/// All words, one word, a whole value that copies share (a set of more words), or another range.
 #[derive(Drop)]
 pub(crate) enum Form {
     Any,
     One(u32),
-    Many(Box<Words>),
+    Many(Rc<Val>),
     Range { lo: u32, last: u32, step: u8 },
 }
 
@@ -74,6 +77,16 @@ fn are_the_words(v: &Val, words: &Words) -> bool
     }
 }
 
+/// Whether two values are sets of the same words.
+fn have_same_words(v: &Val, w: &Val) -> bool
+    ensures { IsTrue result → v.now ≡ w.now }
+{
+    match w {
+        Val::Set(words) => are_the_words(v, words),
+        Val::Span { .. } => false,
+    }
+}
+
 #[inline(always)]
 fn is_the_word(v: &Val, x: u32) -> bool
     ensures { IsTrue result → v.now ≡ Set (x ∷ []) }
@@ -105,26 +118,25 @@ fn form_of(lo: u32, last: u32, step: u8) -> Form
 
 // What needs room for a whole value stands in functions of its own, so that the others have no such room to fill.
 impl Small {
-    /// A copy of words.
+    /// A copy of a whole value.
     #[inline(never)]
-    fn of_many(alloc: Global, words: &Words) -> Result<Small, AllocError>
-        ensures { IfOk result (λ s. s ≡ Set words.now) }
+    fn of_many(alloc: Global, v: &Val) -> Result<Small, AllocError>
+        ensures { IfOk result (λ s. s ≡ v.now) }
     {
-        let form = Form::Many(Box::new(alloc, words.copy())?);
+        let form = Form::Many(Rc::new(alloc, v.copy())?);
         Ok(Small { form })
     }
 
-    /// The words of a set.
-    #[inline(always)]
-    fn of_words(alloc: Global, words: &Words) -> Result<Small, AllocError>
-        ensures { IfOk result (λ s. s ≡ Set words.now) }
+    /// A value, which isn't copied where it has several words.
+    #[inline(never)]
+    fn of_own(alloc: Global, v: Val) -> Result<Small, AllocError>
+        ensures { IfOk result (λ s. s ≡ v) }
     {
-        let first = words.as_slice()[0];
-        if is_one(words, first) {
-            let form = Form::One(first);
+        if only_word(&v).is_none() && is_set(&v) {
+            let form = Form::Many(Rc::new(alloc, v)?);
             return Ok(Small { form });
         }
-        Small::of_many(alloc, words)
+        Small::of(alloc, &v)
     }
 
     /// A value.
@@ -133,7 +145,14 @@ impl Small {
         ensures { IfOk result (λ s. s ≡ v.now) }
     {
         match v {
-            Val::Set(words) => Small::of_words(alloc, words),
+            Val::Set(words) => {
+                let first = words.as_slice()[0];
+                if is_one(words, first) {
+                    let form = Form::One(first);
+                    return Ok(Small { form });
+                }
+                Small::of_many(alloc, v)
+            }
             Val::Span { lo, last, step } => {
                 let form = form_of(*lo, *last, *step);
                 Ok(Small { form })
@@ -149,7 +168,7 @@ impl Small {
         match &self.form {
             Form::Any => Val::any(),
             Form::One(x) => Val::one(*x),
-            Form::Many(words) => Val::Set(words.copy()),
+            Form::Many(own) => own.as_ref().copy(),
             Form::Range { lo, last, step } => Val::Span {
                 lo: *lo,
                 last: *last,
@@ -166,7 +185,10 @@ impl Small {
         match &self.form {
             Form::Any => true,
             Form::One(_) => false,
-            Form::Many(_) => false,
+            Form::Many(own) => match own.as_ref() {
+                Val::Set(_) => false,
+                Val::Span { lo, last, step } => *lo == 0 && *last == u32::MAX && *step == 0,
+            },
             Form::Range { lo, last, step } => *lo == 0 && *last == u32::MAX && *step == 0,
         }
     }
@@ -179,7 +201,7 @@ impl Small {
         match &self.form {
             Form::Any => is_the_range(v, 0, u32::MAX, 0),
             Form::One(x) => is_the_word(v, *x),
-            Form::Many(words) => are_the_words(v, words),
+            Form::Many(own) => have_same_words(v, own.as_ref()),
             Form::Range { lo, last, step } => is_the_range(v, *lo, *last, *step),
         }
     }
@@ -195,12 +217,12 @@ impl Small {
         }
     }
 
-    /// Whether it is these words, in this form.
-    fn has_words(&self, words: &Words) -> bool
-        ensures { IsTrue result → self.now ≡ Set words.now }
+    /// Whether it has the words of this value, in this form.
+    fn has_words(&self, v: &Val) -> bool
+        ensures { IsTrue result → self.now ≡ v.now }
     {
         match &self.form {
-            Form::Many(own) => own.as_slice() == words.as_slice(),
+            Form::Many(own) => have_same_words(own.as_ref(), v),
             _ => false,
         }
     }
@@ -228,14 +250,14 @@ impl Small {
         match &v.form {
             Form::Any => self.is_any(),
             Form::One(x) => self.is_word(*x),
-            Form::Many(words) => self.has_words(words),
+            Form::Many(own) => self.has_words(own.as_ref()),
             Form::Range { lo, last, step } => self.is_range(*lo, *last, *step),
         }
     }
 
-    /// A copy.
-    #[inline(always)]
-    pub(crate) fn copy(&self, alloc: Global) -> Result<Small, AllocError>
+    /// A copy, whatever it holds; of a word it is told before the call.
+    #[inline(never)]
+    fn copy_any(&self) -> Result<Small, AllocError>
         ensures { IfOk result (λ s. s ≡ self.now) }
     {
         match &self.form {
@@ -243,7 +265,9 @@ impl Small {
             Form::One(x) => Ok(Small {
                 form: Form::One(*x),
             }),
-            Form::Many(words) => Small::of_many(alloc, words),
+            Form::Many(own) => Ok(Small {
+                form: Form::Many(own.clone()?),
+            }),
             Form::Range { lo, last, step } => Ok(Small {
                 form: Form::Range {
                     lo: *lo,
@@ -254,6 +278,19 @@ impl Small {
         }
     }
 
+    /// A copy.
+    #[inline(always)]
+    pub(crate) fn copy(&self) -> Result<Small, AllocError>
+        ensures { IfOk result (λ s. s ≡ self.now) }
+    {
+        if let Form::One(x) = &self.form {
+            return Ok(Small {
+                form: Form::One(*x),
+            });
+        }
+        self.copy_any()
+    }
+
     /// What is given, in little room.
     #[inline(always)]
     pub(crate) fn of_given(alloc: Global, v: &Given) -> Result<Small, AllocError>
@@ -261,7 +298,7 @@ impl Small {
     {
         match v {
             Given::Whole(v) => Small::of(alloc, v),
-            Given::Packed(v) => v.copy(alloc),
+            Given::Packed(v) => v.copy(),
         }
     }
 
@@ -270,7 +307,15 @@ impl Small {
     fn replace(&self, out: &mut Val)
         ensures { out.new ≡ self.now }
     {
-        *out = self.value();
+        match &self.form {
+            Form::Any => write_any(out),
+            Form::One(x) => set_words(out, &[*x]),
+            Form::Many(own) => match own.as_ref() {
+                Val::Set(words) => set_words(out, words.as_slice()),
+                Val::Span { lo, last, step } => set_span(out, *lo, *last, *step),
+            },
+            Form::Range { lo, last, step } => set_span(out, *lo, *last, *step),
+        }
     }
 
     /// Writes the value over another, unless it stands there already.
@@ -301,7 +346,7 @@ impl Small {
         match &self.form {
             Form::Any => put_any(out),
             Form::One(x) => put_one(out, *x),
-            Form::Many(_) => self.spell_whole(out),
+            Form::Many(own) => write_value(out, own.as_ref()),
             Form::Range { .. } => self.spell_whole(out),
         }
     }
@@ -314,7 +359,12 @@ impl Small {
         match &self.form {
             Form::Any => true,
             Form::One(own) => x == *own,
-            Form::Many(words) => words.as_slice().contains(&x),
+            Form::Many(own) => match own.as_ref() {
+                Val::Set(words) => words.as_slice().contains(&x),
+                Val::Span { lo, last, step } => {
+                    *lo <= x && x <= *last && *step <= alignment_log2(x)
+                }
+            },
             Form::Range { lo, last, step } => {
                 *lo <= x && x <= *last && *step <= alignment_log2(x)
             }
@@ -329,6 +379,19 @@ impl Small {
         ensures { IsTrue result ↔ IsBelow v.now self.now }
     {
         leq(v, &self.value())
+    }
+
+    /// Whether each member of a value is one of its own, by both values.
+    #[inline(always)]
+    fn covers_both(&self, v: &Val) -> bool
+        requires own { IsWell self.now }
+        requires value { IsWell v.now }
+        ensures { IsTrue result ↔ IsBelow v.now self.now }
+    {
+        match &self.form {
+            Form::Many(own) => leq(v, own.as_ref()),
+            _ => self.covers_whole(v),
+        }
     }
 
     /// Whether each member of a value is one of its own.
@@ -347,7 +410,7 @@ impl Small {
         if let Some(x) = only_word(v) {
             return self.has(x);
         }
-        self.covers_whole(v)
+        self.covers_both(v)
     }
 
     /// Whether each member of a value in little room is one of its own, by that value whole.
@@ -393,7 +456,10 @@ impl Small {
         requires value { IsValue b.now v.now }
         ensures { IfOk result (λ s. s ≡ join_of b.now self.now v.now) }
     {
-        Small::of(alloc, &join(b, &self.value(), v))
+        match &self.form {
+            Form::Many(own) => Small::of_own(alloc, join(b, own.as_ref(), v)),
+            _ => Small::of_own(alloc, join(b, &self.value(), v)),
+        }
     }
 
     /// The least value that holds both.
@@ -403,11 +469,11 @@ impl Small {
         ensures { IfOk result (λ s. s ≡ join_of b.now self.now v.now) }
     {
         if self.is_same(v) {
-            return Small::of(alloc, v);
+            return self.copy();
         }
         if let Some(x) = only_word(v) {
             if self.has(x) {
-                return self.copy(alloc);
+                return self.copy();
             }
         }
         self.join_whole(alloc, b, v)
@@ -430,7 +496,7 @@ impl Small {
         ensures { IfOk result (λ s. s ≡ join_of b.now self.now v.now) }
     {
         if self.is_equal(v) {
-            return v.copy(alloc);
+            return v.copy();
         }
         self.join_packed(alloc, b, v)
     }

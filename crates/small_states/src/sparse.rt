@@ -56,17 +56,6 @@ impl Values {
         self.rest += count;
     }
 
-    /// Adds a value of which something is known.
-    #[inline(always)]
-    fn add_known(&mut self, value: Small) -> Result<(), AllocError>
-        ensures { OnOk result (all_values self.new ≡ all_values self.old ++ value ∷ []) }
-    {
-        let anys = self.rest;
-        self.known.push(SpacedValue { anys, value })?;
-        self.rest = 0;
-        Ok(())
-    }
-
     /// Adds a value in little room.
     #[inline(always)]
     pub(crate) fn add_small(&mut self, value: Small) -> Result<(), AllocError>
@@ -77,7 +66,10 @@ impl Values {
             self.rest += 1;
             return Ok(());
         }
-        self.add_known(value)
+        let anys = self.rest;
+        self.known.push(SpacedValue { anys, value })?;
+        self.rest = 0;
+        Ok(())
     }
 
     /// Adds so many values of which nothing is known, and one behind them.
@@ -216,7 +208,7 @@ impl Values {
         let mut known = Vec::with_capacity(alloc, self.known.len() + 1)?;
         for spaced in self.known.as_slice() {
             let anys = spaced.anys;
-            let value = spaced.value.copy(alloc)?;
+            let value = spaced.value.copy()?;
             known.push(SpacedValue { anys, value })?;
         }
         let rest = self.rest;

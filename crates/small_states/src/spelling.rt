@@ -3,7 +3,7 @@ ghost use Rattle.std.specs.Prelude.{◌≡◌, ◌∷◌, [], ◌++◌, All, OnO
 ghost use Rattle.std.specs.List.{flat_map};
 ghost use Rattle.value_domain.specs.declared.values.Val.TheVariants.{Set};
 ghost use Rattle.value_domain.specs.Values.{IsWell, any_val};
-ghost use Rattle.depth_cert.specs.Keys.{byte_of};
+ghost use Rattle.depth_cert.specs.Keys as keys;
 ghost use Rattle.depth_cert.specs.Spelling.{bytes_of_exit, bytes_of_state, bytes_of_value};
 ghost use Rattle.small_states.specs.Wholes.{all_values, exit_in, state_in};
 
@@ -20,10 +20,10 @@ fn put_byte(out: &mut Vec<u8>, x: u8) -> Result<(), NoMemory>
 }
 
 #[inline(always)]
-fn put_flag(out: &mut Vec<u8>, x: bool) -> Result<(), NoMemory>
-    ensures { OnOk result (out.new.items ≡ out.old.items ++ byte_of x ∷ []) }
+fn byte_of(x: bool) -> u8
+    ensures { result ≡ keys.byte_of x }
 {
-    put_byte(out, if x { 1 } else { 0 })
+    if x { 1 } else { 0 }
 }
 
 /// Adds the value that holds all words.
@@ -46,10 +46,10 @@ pub(crate) fn put_one(out: &mut Vec<u8>, x: u32) -> Result<(), NoMemory>
 }
 
 fn put_flags(out: &mut Vec<u8>, flags: &[bool]) -> Result<(), NoMemory>
-    ensures { OnOk result (out.new.items ≡ out.old.items ++ map byte_of flags.now) }
+    ensures { OnOk result (out.new.items ≡ out.old.items ++ map keys.byte_of flags.now) }
 {
     for f in flags {
-        put_flag(out, *f)?;
+        put_byte(out, byte_of(*f))?;
     }
     Ok(())
 }
@@ -84,17 +84,20 @@ impl SmallState {
     /// Adds the bytes that spell the state to `out`.
     #[tactic(auto, unfolding(depth_cert::specs::Spelling::bytes_of_state))]
     pub(crate) fn spell(&self, out: &mut Vec<u8>) -> Result<(), NoMemory>
-        requires { All IsWell (all_values self.now.regs) }
+        requires { All IsWell (all_values self.now.regs.value) }
         ensures { OnOk result
             (out.new.items ≡ out.old.items ++ bytes_of_state (state_in self.now)) }
     {
-        put_flag(out, self.ie)?;
-        put_byte(out, self.ccpn)?;
-        put_flag(out, self.lower)?;
         let locals = self.locals.as_slice();
-        put_byte(out, locals.len() as u8)?;
+        let head = [
+            byte_of(self.ie),
+            self.ccpn,
+            byte_of(self.lower),
+            locals.len() as u8,
+        ];
+        out.extend_from_slice(&head)?;
         put_flags(out, locals)?;
-        put_values(out, &self.regs)
+        put_values(out, self.regs.as_ref())
     }
 }
 
@@ -102,13 +105,11 @@ impl SmallExit {
     /// Adds the bytes that spell the exit to `out`.
     #[tactic(auto, unfolding(depth_cert::specs::Spelling::bytes_of_exit))]
     pub fn spell(&self, out: &mut Vec<u8>) -> Result<(), NoMemory>
-        requires { All IsWell (all_values self.now.lower) }
+        requires { All IsWell (all_values self.now.lower.value) }
         ensures { OnOk result
             (out.new.items ≡ out.old.items ++ bytes_of_exit (Some (exit_in self.now))) }
     {
-        put_byte(out, 1)?;
-        put_flag(out, self.ie)?;
-        put_byte(out, self.ccpn)?;
-        put_values(out, &self.lower)
+        out.extend_from_slice(&[1, byte_of(self.ie), self.ccpn])?;
+        put_values(out, self.lower.as_ref())
     }
 }

@@ -1,29 +1,29 @@
 // States and exits whose values are in little room.
 ghost use Rattle.std.specs.Prelude.{◌≡◌, ◌≤◌, ◌&&◌, ◌↔◌, IsTrue, IfOk, length};
 ghost use Rattle.value_domain.specs.State.{joined_locals};
-ghost use Rattle.small_states.specs.Wholes.{all_values, exit_in, state_in};
+ghost use Rattle.small_states.specs.Wholes.{exit_in};
 
 use crate::sparse::Values;
 use arrayvec::ArrayVec;
-use std::alloc::{AllocError, Global};
-use value_domain::State;
+use std::alloc::AllocError;
+use std::rc::Rc;
 
-/// A state.
+/// A state. Its values may be those of other states too.
 #[derive(Drop)]
 pub struct SmallState {
-    pub regs: Values,
+    pub regs: Rc<Values>,
     pub ie: bool,
     pub ccpn: u8,
     pub lower: bool,
     pub locals: ArrayVec<bool, 8>,
 }
 
-/// An exit.
+/// An exit. Its values may be those of its copies too.
 #[derive(Drop)]
 pub struct SmallExit {
     pub ie: bool,
     pub ccpn: u8,
-    pub lower: Values,
+    pub lower: Rc<Values>,
 }
 
 /// A copy of flags.
@@ -56,18 +56,6 @@ pub fn join_locals(s: &[bool], t: &[bool]) -> ArrayVec<bool, 8>
 }
 
 impl SmallState {
-    /// Writes the state over another.
-    pub fn write(&self, into: &mut State)
-        requires { length (all_values self.now.regs) ≡ 27 }
-        ensures { into.new ≡ state_in self.now }
-    {
-        self.regs.write(&mut into.regs);
-        into.ie = self.ie;
-        into.ccpn = self.ccpn;
-        into.lower = self.lower;
-        into.locals = copy_of(&self.locals);
-    }
-
     /// Whether its context covers this one.
     pub fn covers_context(&self, ie: bool, ccpn: u8, lower: bool) -> bool
         ensures { IsTrue result
@@ -80,10 +68,10 @@ impl SmallState {
 
 impl SmallExit {
     /// A copy.
-    pub fn copy(&self, alloc: Global) -> Result<SmallExit, AllocError>
+    pub fn copy(&self) -> Result<SmallExit, AllocError>
         ensures { IfOk result (λ x. exit_in x ≡ exit_in self.now) }
     {
-        let lower = self.lower.copy(alloc)?;
+        let lower = self.lower.clone()?;
         Ok(SmallExit {
             ie: self.ie,
             ccpn: self.ccpn,

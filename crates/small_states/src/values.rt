@@ -1,5 +1,5 @@
 // Lists of values in little room: made from what duties ask for, compared with it, joined with it.
-ghost use Rattle.std.specs.Prelude.{◌≡◌, ◌↔◌, IsTrue, IfOk, OnOk, length};
+ghost use Rattle.std.specs.Prelude.{◌≡◌, ◌↔◌, IsNone, IsTrue, IfOk, OnOk, length};
 ghost use Rattle.value_domain.specs.State.{AreBelow, AreValues, AreWell, joined_regs};
 ghost use Rattle.vd_transfer.specs.Changes.{put_in, state_after};
 ghost use Rattle.small_states.specs.Kept.{asking, values_asked};
@@ -9,6 +9,7 @@ use crate::Small;
 use crate::asked::{Asked, asked_value, count_asked};
 use crate::sparse::Values;
 use std::alloc::{AllocError, Global};
+use std::rc::Rc;
 use value_domain::{Bounds, State, Val};
 use vd_transfer::{Base, Change, Put};
 
@@ -51,25 +52,64 @@ fn packed_over(alloc: Global, own: &Values, c: &Change) -> Result<Values, AllocE
     Ok(values)
 }
 
+/// Whether a change puts nothing.
+#[inline(always)]
+fn puts_nothing(c: &Change) -> bool
+    ensures { IsTrue result
+        → IsNone c.now.first.at × IsNone c.now.second.at × IsNone c.now.third.at }
+{
+    c.first.at.is_none() && c.second.at.is_none() && c.third.at.is_none()
+}
+
+/// The values of a state, and over them what a change puts; where it puts nothing they are shared.
+#[inline(always)]
+fn shared_over(alloc: Global, own: &Rc<Values>, c: &Change) -> Result<Rc<Values>, AllocError>
+    ensures { IfOk result
+        (λ values. all_values values.value
+        ≡ put_in (put_in (put_in (all_values own.now.value) c.now.first) c.now.second)
+        c.now.third) }
+{
+    if puts_nothing(c) {
+        return own.clone();
+    }
+    let values = packed_over(alloc, own.as_ref(), c)?;
+    Ok(Rc::new(alloc, values)?)
+}
+
 /// The values of a changed state, which has these.
-fn packed_change(alloc: Global, own: &Values, s: &State, c: &Change) -> Result<Values, AllocError>
-    requires { all_values own.now ≡ s.now.regs }
-    ensures { IfOk result (λ values. all_values values ≡ (state_after s.now c.now).regs) }
+fn packed_change(
+    alloc: Global,
+    own: &Rc<Values>,
+    s: &State,
+    c: &Change,
+) -> Result<Rc<Values>, AllocError>
+    requires { all_values own.now.value ≡ s.now.regs }
+    ensures { IfOk result (λ values. all_values values.value ≡ (state_after s.now c.now).regs) }
 {
     match c.base {
-        Base::Same => packed_over(alloc, own, c),
-        _ => packed(alloc, &Asked::Changed(s, c)),
+        Base::Same => shared_over(alloc, own, c),
+        _ => {
+            let values = packed(alloc, &Asked::Changed(s, c))?;
+            Ok(Rc::new(alloc, values)?)
+        }
     }
 }
 
 /// The values that are asked for by a point whose state has these.
-pub(crate) fn packed_by(alloc: Global, own: &Values, asked: &Asked) -> Result<Values, AllocError>
-    requires { all_values own.now ≡ (asking asked.now).regs }
-    ensures { IfOk result (λ values. all_values values ≡ values_asked asked.now) }
+pub(crate) fn packed_by(
+    alloc: Global,
+    own: &Rc<Values>,
+    asked: &Asked,
+) -> Result<Rc<Values>, AllocError>
+    requires { all_values own.now.value ≡ (asking asked.now).regs }
+    ensures { IfOk result (λ values. all_values values.value ≡ values_asked asked.now) }
 {
     match asked {
         Asked::Changed(s, c) => packed_change(alloc, own, s, c),
-        _ => packed(alloc, asked),
+        _ => {
+            let values = packed(alloc, asked)?;
+            Ok(Rc::new(alloc, values)?)
+        }
     }
 }
 

@@ -12,4 +12,4 @@ changed_value-requires-clause-place c =
 pub value_after-requires-clause-place : goal.value_after-requires-clause-place
 value_after-requires-clause-place c =
     let h = rw c.in-After.is at c.requires.place in
-    omega (arith, h, with_lower_length (all_values c.in-After.exit.now.lower) c.in-After.s.now.regs)
+    omega (arith, h, with_lower_length (all_values c.in-After.exit.now.lower.value) c.in-After.s.now.regs)

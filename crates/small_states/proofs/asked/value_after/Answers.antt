@@ -9,5 +9,5 @@ use Rattle.small_states.proofs.asked.value_after.Goals as goal
 pub returns : goal.returns
 returns c =
     c.restored.ensures
-    ∙ ap (λ (u : Val). restored_at c.args.i (all_values c.args.exit.now.lower) u) (get_or_default c.args.s.now.regs c.args.i c.index-s-i.result any_val (omega arith))
-    ∙ sym (after-at (all_values c.args.exit.now.lower) c.args.s.now.regs c.args.i (omega arith))
+    ∙ ap (λ (u : Val). restored_at c.args.i (all_values c.args.exit.now.lower.value) u) (get_or_default c.args.s.now.regs c.args.i c.index-s-i.result any_val (omega arith))
+    ∙ sym (after-at (all_values c.args.exit.now.lower.value) c.args.s.now.regs c.args.i (omega arith))

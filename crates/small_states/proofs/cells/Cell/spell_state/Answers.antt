@@ -7,6 +7,6 @@ use Rattle.small_states.proofs.cells.Cell.spell_state.Goals as goal
 
 pub spell-requires : goal.spell-requires
 spell-requires c k d lt =
-    let values = all_values c.in-Point.s.regs in
+    let values = all_values c.in-Point.s.regs.value in
     let proper : IsProper c.args._b.now (state_in c.in-Point.s) = rw (← c.self.view_is, c.in-Point.is) at c.requires in
     subst IsWell (sym (get_or_default values k d any_val lt)) (proper.values k lt).well
