@@ -1,11 +1,11 @@
 -- The counts of a table: one joining keeps them, or passes a limit.
-use Rattle.std.proofs.Common.{◌≡◌, ◌⊎◌, inl, inr, ℕ, suc, ◌+◌, ◌^◌, ◌≤◌, Bool, true, false, eqb, List, [], ◌∷◌, ◌++◌, length, Option, Some, None, IsSome, refl, sym, ap, ◌∙◌, subst, arith, Contains}
+use Rattle.std.proofs.Common.{◌≡◌, ◌⊎◌, inl, inr, ℕ, suc, ◌^◌, ◌≤◌, Bool, true, false, List, [], ◌∷◌, ◌++◌, length, Option, Some, None, IsSome, refl, sym, ap, ◌∙◌, subst, arith, Contains}
 use Rattle.std.specs.Prelude.{if◌then◌else◌, is_some, map, ◌==◌}
 use Rattle.std.specs.List.{IsDistinct}
 use Rattle.std.proofs.lemmas.Bool.{cases_Bool, eqb-true, eq-eqb}
 use Rattle.std.proofs.lemmas.List.{map-append}
 use Rattle.std.proofs.lemmas.List.Elements.{Contains-push, Contains-push_cases}
-use Rattle.indexmap.specs.IndexMap.{IndexMap, get}
+use Rattle.indexmap.specs.IndexMap.{IndexMap}
 use Rattle.elf_image.specs.Images.{ImageData}
 use Rattle.tcd_plan.specs.PlanData.{PlanData}
 use Rattle.value_domain.specs.Limits.{Limits}
@@ -23,7 +23,8 @@ use Rattle.frame_places.specs.declared.places.Spot.{Spot}
 use Rattle.frame_places.specs.declared.places.Spot.TheVariants.{Point, Exit}
 use Rattle.frame_places.specs.declared.refusals.Refusal.{Refusal}
 use Rattle.frame_places.specs.declared.refusals.Refusal.TheVariants.{Fault, NoMemory}
-use Rattle.frame_places.specs.Spots.{spot_eq}
+use Rattle.frame_places.specs.Marks.{value_for}
+use Rattle.frame_places.specs.declared.places.Marked.{Marked}
 use Rattle.depth_maker.specs.Spots.{spot_of, place_of}
 use Rattle.frame_places.specs.Counting.{points_after, frames_after, Passing}
 use Rattle.depth_maker.specs.View.{IsCountedIn, Answered}
@@ -40,11 +41,11 @@ pub few_spots : (ps : List Spot) (ks : List Key) → AreFew (map place_of ps) ks
 few_spots ps ks few = (let h = few.points in omega (arith, h, places_length ps), few.frames)
 
 -- the same table still
-pub counted_again : {S T : Type 0} (cells : IndexMap Spot Known S) (after : IndexMap Spot Known T) (ps qs : List Spot) (ks js : List Key)
-    → ((q : Place) → get spot_eq after (spot_of q) ≡ get spot_eq cells (spot_of q)) → qs ≡ ps → js ≡ ks → IsCountedIn cells ps ks → IsCountedIn after qs js
+pub counted_again : {S T : Type 0} (cells : IndexMap Spot (Marked Known) S) (after : IndexMap Spot (Marked Known) T) (ps qs : List Spot) (ks js : List Key)
+    → ((q : Place) → value_for after (spot_of q) ≡ value_for cells (spot_of q)) → qs ≡ ps → js ≡ ks → IsCountedIn cells ps ks → IsCountedIn after qs js
 counted_again cells after ps qs ks js same p k c = record {
   each = subst (λ (a : Assignment). AreCounted a (map place_of qs) js) (λ i q. sym (same q) i)
-      (subst (λ (l : List Spot). AreCounted (λ q. get spot_eq cells (spot_of q)) (map place_of l) js) (sym p) (subst (λ (l : List Key). AreCounted (λ q. get spot_eq cells (spot_of q)) (map place_of ps) l) (sym k) c.each));
+      (subst (λ (l : List Spot). AreCounted (λ q. value_for cells (spot_of q)) (map place_of l) js) (sym p) (subst (λ (l : List Key). AreCounted (λ q. value_for cells (spot_of q)) (map place_of ps) l) (sym k) c.each));
   few = subst (λ (l : List Spot). AreFew (map place_of l) js) (sym p) (subst (λ (l : List Key). AreFew (map place_of ps) l) (sym k) c.few);
 }
 
@@ -81,24 +82,24 @@ none_of None e = refl
 none_of (Some v) e = cc
 
 -- ---- one joining
-module _ {S T : Type 0} (b : Limits) (image : ImageData) (plan : PlanData) (cells : IndexMap Spot Known S) (after : IndexMap Spot Known T) where
-  at_spot : (t : Bool) (y : Spot) (ps : List Spot) (ks : List Key) → Joins b image plan (λ q. get spot_eq cells (spot_of q)) (λ q. get spot_eq after (spot_of q)) (place_of y)
-      → AreCounted (λ q. get spot_eq cells (spot_of q)) (map place_of ps) ks → is_some (get spot_eq cells y) ≡ t
-      → AreCounted (λ q. get spot_eq after (spot_of q)) (map place_of (points_after t ps y)) (frames_after t ks y)
-  at_spot true (Point k p) ps ks j c e = counted_rises b image plan (λ q. get spot_eq cells (spot_of q)) (λ q. get spot_eq after (spot_of q)) (point k p) j (map place_of ps) ks c e
-  at_spot true (Exit k) ps ks j c e = counted_rises b image plan (λ q. get spot_eq cells (spot_of q)) (λ q. get spot_eq after (spot_of q)) (exit k) j (map place_of ps) ks c e
-  at_spot false (Exit k) ps ks j c e = counted_exit b image plan (λ q. get spot_eq cells (spot_of q)) (λ q. get spot_eq after (spot_of q)) (exit k) j (map place_of ps) ks k c refl
+module _ {S T : Type 0} (b : Limits) (image : ImageData) (plan : PlanData) (cells : IndexMap Spot (Marked Known) S) (after : IndexMap Spot (Marked Known) T) where
+  at_spot : (t : Bool) (y : Spot) (ps : List Spot) (ks : List Key) → Joins b image plan (λ q. value_for cells (spot_of q)) (λ q. value_for after (spot_of q)) (place_of y)
+      → AreCounted (λ q. value_for cells (spot_of q)) (map place_of ps) ks → is_some (value_for cells y) ≡ t
+      → AreCounted (λ q. value_for after (spot_of q)) (map place_of (points_after t ps y)) (frames_after t ks y)
+  at_spot true (Point k p) ps ks j c e = counted_rises b image plan (λ q. value_for cells (spot_of q)) (λ q. value_for after (spot_of q)) (point k p) j (map place_of ps) ks c e
+  at_spot true (Exit k) ps ks j c e = counted_rises b image plan (λ q. value_for cells (spot_of q)) (λ q. value_for after (spot_of q)) (exit k) j (map place_of ps) ks c e
+  at_spot false (Exit k) ps ks j c e = counted_exit b image plan (λ q. value_for cells (spot_of q)) (λ q. value_for after (spot_of q)) (exit k) j (map place_of ps) ks k c refl
   at_spot false (Point k p) ps ks j c e =
-      subst (λ (l : List Place). AreCounted (λ q. get spot_eq after (spot_of q)) l (if p == k.entry then ks ++ k ∷ [] else ks)) (sym (map-append place_of ps (Point k p ∷ [])))
-      (counted_more b image plan (λ q. get spot_eq cells (spot_of q)) (λ q. get spot_eq after (spot_of q)) k p j (map place_of ps) ks c (none_of (get spot_eq cells (Point k p)) e))
+      subst (λ (l : List Place). AreCounted (λ q. value_for after (spot_of q)) l (if p == k.entry then ks ++ k ∷ [] else ks)) (sym (map-append place_of ps (Point k p ∷ [])))
+      (counted_more b image plan (λ q. value_for cells (spot_of q)) (λ q. value_for after (spot_of q)) k p j (map place_of ps) ks c (none_of (value_for cells (Point k p)) e))
 
-pub counted_after : {S T : Type 0} (b : Limits) (image : ImageData) (plan : PlanData) (cells : IndexMap Spot Known S) (after : IndexMap Spot Known T) (ps qs : List Spot) (ks js : List Key) (y : Spot)
-    → Joins b image plan (λ q. get spot_eq cells (spot_of q)) (λ q. get spot_eq after (spot_of q)) (place_of y) → qs ≡ points_after (is_some (get spot_eq cells y)) ps y
-    → js ≡ frames_after (is_some (get spot_eq cells y)) ks y → AreFew (map place_of qs) js → IsCountedIn cells ps ks → IsCountedIn after qs js
+pub counted_after : {S T : Type 0} (b : Limits) (image : ImageData) (plan : PlanData) (cells : IndexMap Spot (Marked Known) S) (after : IndexMap Spot (Marked Known) T) (ps qs : List Spot) (ks js : List Key) (y : Spot)
+    → Joins b image plan (λ q. value_for cells (spot_of q)) (λ q. value_for after (spot_of q)) (place_of y) → qs ≡ points_after (is_some (value_for cells y)) ps y
+    → js ≡ frames_after (is_some (value_for cells y)) ks y → AreFew (map place_of qs) js → IsCountedIn cells ps ks → IsCountedIn after qs js
 counted_after b image plan cells after ps qs ks js y j p k few c = record {
-  each = subst (λ (l : List Spot). AreCounted (λ q. get spot_eq after (spot_of q)) (map place_of l) js) (sym p)
-      (subst (λ (l : List Key). AreCounted (λ q. get spot_eq after (spot_of q)) (map place_of (points_after (is_some (get spot_eq cells y)) ps y)) l) (sym k)
-      (at_spot b image plan cells after (is_some (get spot_eq cells y)) y ps ks j c.each refl));
+  each = subst (λ (l : List Spot). AreCounted (λ q. value_for after (spot_of q)) (map place_of l) js) (sym p)
+      (subst (λ (l : List Key). AreCounted (λ q. value_for after (spot_of q)) (map place_of (points_after (is_some (value_for cells y)) ps y)) l) (sym k)
+      (at_spot b image plan cells after (is_some (value_for cells y)) y ps ks j c.each refl));
   few = few;
 }
 
@@ -107,14 +108,14 @@ full_places ps n P (inl e) = inl (places_length ps ∙ e)
 full_places ps n P (inr h) = inr h
 
 -- a limit is passed
-pub limit_passed : {S : Type 0} (b : Limits) (image : ImageData) (plan : PlanData) (cells : IndexMap Spot Known S) (ps : List Spot) (ks : List Key) (y : Spot) (v : Known)
-    → Derived b image plan (λ q. get spot_eq cells (spot_of q)) → Asks b image plan (λ q. get spot_eq cells (spot_of q)) (place_of y) v → IsCountedIn cells ps ks
-    → (e : Refusal) → Passing (is_some (get spot_eq cells y)) ps ks y e → Answered b image plan e
+pub limit_passed : {S : Type 0} (b : Limits) (image : ImageData) (plan : PlanData) (cells : IndexMap Spot (Marked Known) S) (ps : List Spot) (ks : List Key) (y : Spot) (v : Known)
+    → Derived b image plan (λ q. value_for cells (spot_of q)) → Asks b image plan (λ q. value_for cells (spot_of q)) (place_of y) v → IsCountedIn cells ps ks
+    → (e : Refusal) → Passing (is_some (value_for cells y)) ps ks y e → Answered b image plan e
 limit_passed b image plan cells ps ks y v d asks c NoMemory h = tt
 limit_passed b image plan cells ps ks (Exit k) v d asks c (Fault rule x) h = absurd h.3
 limit_passed b image plan cells ps ks (Point k p) v d asks c (Fault rule x) h =
-    let new = none_of (get spot_eq cells (Point k p)) h.2 in
-    let a : Assignment = λ q. get spot_eq cells (spot_of q) in
+    let new = none_of (value_for cells (Point k p)) h.2 in
+    let a : Assignment = λ q. value_for cells (spot_of q) in
     let j : Joins b image plan a (λ z. if same_place z (point k p) then Some v else a z) (point k p) = record { value = v; asks = asks; known = v; raises = ap (λ o. raised b o v) new; is = λ z. refl } in
     (k, p, ap place_of h.1, subst (λ (n : ℕ). IsFault b image plan n k p) (sym h.0) (passing b image plan a (λ z. if same_place z (point k p) then Some v else a z) k p j (map place_of ps) ks c.each new d c.few (full_places ps _ _ h.3)))
 
@@ -147,10 +148,10 @@ module _ (a : Assignment) (k : Key) (v : Known) (is : (x : Place) → a x ≡ (i
     once_each = distinct_more same_key key_tells key_same [] k (none_once same_key) (λ i. absurd (omega (arith, i.1)));
   }
 
-pub counted_start : {S : Type 0} (cells : IndexMap Spot Known S) (ps : List Spot) (ks : List Key) (k : Key) (v : Known)
-    → ((q : Place) → get spot_eq cells (spot_of q) ≡ (if same_place q (point k k.entry) then Some v else None)) → ps ≡ Point k k.entry ∷ [] → ks ≡ k ∷ [] → IsCountedIn cells ps ks
+pub counted_start : {S : Type 0} (cells : IndexMap Spot (Marked Known) S) (ps : List Spot) (ks : List Key) (k : Key) (v : Known)
+    → ((q : Place) → value_for cells (spot_of q) ≡ (if same_place q (point k k.entry) then Some v else None)) → ps ≡ Point k k.entry ∷ [] → ks ≡ k ∷ [] → IsCountedIn cells ps ks
 counted_start cells ps ks k v is p e = record {
-  each = subst (λ (l : List Spot). AreCounted (λ q. get spot_eq cells (spot_of q)) (map place_of l) ks) (sym p)
-      (subst (λ (l : List Key). AreCounted (λ q. get spot_eq cells (spot_of q)) (point k k.entry ∷ []) l) (sym e) (start_counted (λ q. get spot_eq cells (spot_of q)) k v is));
+  each = subst (λ (l : List Spot). AreCounted (λ q. value_for cells (spot_of q)) (map place_of l) ks) (sym p)
+      (subst (λ (l : List Key). AreCounted (λ q. value_for cells (spot_of q)) (point k k.entry ∷ []) l) (sym e) (start_counted (λ q. value_for cells (spot_of q)) k v is));
   few = are_few ps ks (rw p (omega arith)) (rw e (omega arith));
 }

@@ -78,7 +78,7 @@ taken_by true m number hs irqs is agree = numbers_above m number hs (λ h c lt. 
 taken_by false m number hs irqs is agree = refl
 
 pub nodes_taken-is : (plan : PlanData) (frames : List Key) (key : Key) (s : State) (hs : List Handler) → AreHandlers plan frames plan.irqs hs → ((k : Key) → Contains (entered_in (interrupts_of plan key s)) k → Contains frames k)
-    → nodes_taken s hs ≡ map (number_in frames) (entered_in (interrupts_of plan key s))
+    → nodes_taken s.ie s.ccpn hs ≡ map (number_in frames) (entered_in (interrupts_of plan key s))
 nodes_taken-is plan frames key s hs are known =
     let keys = entered_irqs plan key s (irqs_of plan s) in
     let member : (h : Handler) → Contains hs h → IsTrue s.ie → nat_lt s.ccpn h.prio ≡ true → Contains frames (irq_key plan h.prio) =

@@ -4,17 +4,17 @@ use Rattle.std.specs.Prelude.{if◌then◌else◌, ◌==◌}
 use Rattle.std.specs.List.{sum_by}
 use Rattle.std.proofs.lemmas.Bool.{eq-eqb, eqb-true}
 use Rattle.std.proofs.lemmas.List.Sums.{sum_by-cons, sum_by-le, sum_by-le-sum_by, sum_by_push}
-use Rattle.indexmap.specs.IndexMap.{IndexMap, get}
+use Rattle.indexmap.specs.IndexMap.{IndexMap}
 use Rattle.value_domain.specs.Limits.{Limits, AreLimits}
 use Rattle.depth_cert.specs.declared.keys.Key.{Key}
 use Rattle.cfg_recover.specs.Assignments.{exit}
 use Rattle.depth_cert.specs.Known.{Known}
 use Rattle.frame_places.specs.declared.places.Spot.{Spot}
 use Rattle.frame_places.specs.declared.places.Spot.TheVariants.{Point, Exit}
-use Rattle.frame_places.specs.declared.places.Mark.{Mark}
+use Rattle.frame_places.specs.declared.places.Marked.{Marked}
 use Rattle.frame_places.specs.declared.places.Mark.TheVariants.{Queued}
 use Rattle.depth_maker.specs.declared.table.Table as made
-use Rattle.frame_places.specs.Marks.{AllListed}
+use Rattle.frame_places.specs.Marks.{AllListed, mark_for, value_for}
 use Rattle.depth_maker.specs.Levels.{level, rank_at, Rises}
 use Rattle.frame_places.specs.Spots.{spot_eq}
 use Rattle.depth_maker.specs.View.{CellsProper, IsCountedIn}
@@ -22,7 +22,7 @@ use Rattle.frame_places.specs.Counting.{frames_after, points_after}
 use Rattle.depth_maker.proofs.CountedLemmas.{few_spots}
 use Rattle.depth_maker.proofs.LevelLaws.{at_most, most_rank}
 use Rattle.frame_places.proofs.MarkLemmas.{sides}
-use Rattle.depth_maker.proofs.RowSteps.{placed}
+use Rattle.depth_maker.proofs.PointEntries.{placed}
 use Rattle.depth_maker.proofs.SpotLemmas.{front_cases}
 use Rattle.frame_places.proofs.SpotLemmas.{spot_refl, spot_tells}
 
@@ -50,24 +50,24 @@ frames_more f false ks (Point k p) = at (p == k.entry) where
   at false = omega arith
 
 -- ---- a joining
-module _ (s t : made.Table) (y : Spot) (u : Known) (known : Bool) (after : (q : Spot) → get spot_eq t.cells q ≡ (if spot_eq y q then Some u else get spot_eq s.cells q))
-    (points : t.points.items ≡ points_after known s.points.items y) (frames : t.frames.items ≡ frames_after known s.frames.items y) (counted : IsCountedIn t.cells t.points.items t.frames.items)
-    (higher : rank_at (get spot_eq s.cells y) < rank_at (Some u)) where
+module _ (s t : made.Table) (y : Spot) (u : Known) (known : Bool) (after : (q : Spot) → value_for t.places q ≡ (if spot_eq y q then Some u else value_for s.places q))
+    (points : t.points.items ≡ points_after known s.points.items y) (frames : t.frames.items ≡ frames_after known s.frames.items y) (counted : IsCountedIn t.places t.points.items t.frames.items)
+    (higher : rank_at (value_for s.places y) < rank_at (Some u)) where
   abbrev old : Spot → ℕ
-  old q = rank_at (get spot_eq s.cells q)
+  old q = rank_at (value_for s.places q)
 
   abbrev new : Spot → ℕ
-  new q = rank_at (get spot_eq t.cells q)
+  new q = rank_at (value_for t.places q)
 
-  there : get spot_eq t.cells y ≡ Some u
-  there = after y ∙ ap (λ e. if e then Some u else get spot_eq s.cells y) (spot_refl y)
+  there : value_for t.places y ≡ Some u
+  there = after y ∙ ap (λ e. if e then Some u else value_for s.places y) (spot_refl y)
 
   at_y : old y < new y
   at_y = subst (λ (o : Option Known). old y < rank_at o) (sym there) higher
 
   each : (q : Spot) → old q ≤ new q
   each q =
-      elim (sides (spot_eq y q) (Some u) (get spot_eq s.cells q) (get spot_eq t.cells q) (after q)) [
+      elim (sides (spot_eq y q) (Some u) (value_for s.places q) (value_for t.places q) (after q)) [
         | inl l ↦ subst (λ (z : Spot). old z ≤ new z) (spot_tells y q l.0) (omega (arith, at_y))
         | inr r ↦ subst (λ (o : Option Known). old q ≤ rank_at o) (sym r.1) (omega arith)
       ]
@@ -84,8 +84,8 @@ module _ (s t : made.Table) (y : Spot) (u : Known) (known : Bool) (after : (q : 
   no_frame_lost : sum_by old_exit s.frames.items ≤ sum_by old_exit t.frames.items
   no_frame_lost = subst (λ (l : List Key). sum_by old_exit s.frames.items ≤ sum_by old_exit l) (sym frames) (frames_more old_exit known s.frames.items y)
 
-  is_some : (q : Spot) → y ≡ q → IsSome (get spot_eq t.cells q)
-  is_some q e = subst (λ (z : Spot). IsSome (get spot_eq t.cells z)) e (subst (λ (o : Option Known). IsSome o) (sym there) refl)
+  is_some : (q : Spot) → y ≡ q → IsSome (value_for t.places q)
+  is_some q e = subst (λ (z : Spot). IsSome (value_for t.places z)) e (subst (λ (o : Option Known). IsSome o) (sym there) refl)
 
   higher_at : (q : Spot) → y ≡ q → sum_by old t.points.items + sum_by old_exit t.frames.items < sum_by new t.points.items + sum_by new_exit t.frames.items
   higher_at (Point k p) e =
@@ -102,10 +102,10 @@ module _ (s t : made.Table) (y : Spot) (u : Known) (known : Bool) (after : (q : 
   level_rises = omega (arith, no_point_lost, no_frame_lost, higher_at y refl)
 
 -- the same cells
-pub same_level : (s t : made.Table) → t.cells ≡ s.cells → t.points.items ≡ s.points.items → t.frames.items ≡ s.frames.items → level t ≡ level s
+pub same_level : (s t : made.Table) → ((q : Spot) → value_for t.places q ≡ value_for s.places q) → t.points.items ≡ s.points.items → t.frames.items ≡ s.frames.items → level t ≡ level s
 unfolding level
 same_level s t cells points frames =
-    λ i. sum_by (λ q. rank_at (get spot_eq (cells i) q)) (points i) + sum_by (λ k. rank_at (get spot_eq (cells i) (Exit k))) (frames i)
+    λ i. sum_by (λ q. rank_at (cells q i)) (points i) + sum_by (λ k. rank_at (cells (Exit k) i)) (frames i)
 
 pub rises_then : (s m t : made.Table) → Rises s m → Rises m t → Rises s t
 rises_then s m t (inl a) (inl b) = inl (omega (arith, a, b))
@@ -117,12 +117,12 @@ rises_then s m t (inr a) (inr b) = inr (b.0 ∙ a.0, b.1 ∙ a.1)
 abbrev pub most_level : ℕ
 most_level = 2 ^ 55
 
-pub level_most : (b : Limits) (t : made.Table) → AreLimits b → CellsProper b t.cells → IsCountedIn t.cells t.points.items t.frames.items → level t ≤ most_level
+pub level_most : (b : Limits) (t : made.Table) → AreLimits b → CellsProper b t.places → IsCountedIn t.places t.points.items t.frames.items → level t ≤ most_level
 unfolding level
 level_most b t limits proper counted =
     let few = few_spots t.points.items t.frames.items counted.few in
-    let ps = sum_by-le (λ (q : Spot). rank_at (get spot_eq t.cells q)) (1 + most_rank) t.points.items (λ k d lt. at_most b (get spot_eq t.cells _) limits (proper _)) in
-    let ks = sum_by-le (λ (k : Key). rank_at (get spot_eq t.cells (Exit k))) (1 + most_rank) t.frames.items (λ k d lt. at_most b (get spot_eq t.cells (Exit _)) limits (proper (Exit _))) in
+    let ps = sum_by-le (λ (q : Spot). rank_at (value_for t.places q)) (1 + most_rank) t.points.items (λ k d lt. at_most b (value_for t.places _) limits (proper _)) in
+    let ks = sum_by-le (λ (k : Key). rank_at (value_for t.places (Exit k))) (1 + most_rank) t.frames.items (λ k d lt. at_most b (value_for t.places (Exit _)) limits (proper (Exit _))) in
     omega (arith, few.0, few.1, ps, ks)
 
 -- ---- turns
@@ -132,7 +132,7 @@ pub turns_more : (s m o t : made.Table) (i : ℕ) (n : ℕ) → (level s < level
 turns_more s m o t i n (inl a) e len (inl b) = inl (omega (arith, a, e, b))
 turns_more s m o t i n (inl a) e len (inr b) = inl (omega (arith, a, e, b.0))
 turns_more s m o t i n (inr a) e len (inl b) = inl (omega (arith, a.0, e, b))
-turns_more s m o t i n (inr a) e len (inr b) = inr (b.0 ∙ e ∙ a.0, (let l = ap (λ (w : List Spot). length w) b.1 in omega (arith, a.1, len, l)))
+turns_more s m o t i n (inr a) e len (inr b) = inr (b.0 ∙ e ∙ a.0, (let l = ap (λ (w : List ℕ). length w) b.1 in omega (arith, a.1, len, l)))
 
 pub empty_list : {X : Type 0} (xs : List X) → length xs ≡ 0 → xs ≡ []
 empty_list [] e = refl
@@ -149,5 +149,5 @@ pub level_falls : (l m : ℕ) → l < m → m ≤ most_level → most_level - m 
 level_falls l m lt most = omega (arith, lt, most)
 
 -- no work is on an empty list
-pub none_queued : {S : Type 0} (marks : IndexMap Spot Mark S) (work : List Spot) → AllListed marks work → work ≡ [] → (q : Spot) → get spot_eq marks q ≡ Some Queued → ⊥
-none_queued marks work listed e q at = let i = listed.listed q at in let z = ap (λ (w : List Spot). length w) e in omega (arith, i.1, z)
+pub none_queued : {V S : Type 0} (places : IndexMap Spot (Marked V) S) (work : List ℕ) → AllListed places work → work ≡ [] → (q : Spot) → mark_for places q ≡ Some Queued → ⊥
+none_queued places work listed e q at = let i = listed.listed q at in let z = ap (λ (w : List ℕ). length w) e in omega (arith, i.1.1, z)

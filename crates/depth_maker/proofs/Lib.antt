@@ -39,6 +39,7 @@ pub mod OutLemmas
 pub mod SpelledLaws
 pub mod MakeLemmas
 pub mod PlainRows
+pub mod PointEntries
 pub mod HearingLaws
 pub mod PaidHeard
 pub mod HandlerLaws

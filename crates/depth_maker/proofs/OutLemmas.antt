@@ -1,12 +1,11 @@
 -- The parts of a certificate, as they are added.
-use Rattle.std.proofs.Common.{◌≡◌, ℕ, ◌+◌, ◌^◌, ◌<◌, ◌≤◌, List, [], ◌++◌, length, map, get_or, take, sym, ap, ◌∙◌, subst, arith, append-nil, append_assoc, Option, Some, None, All, ◌⊎◌}
+use Rattle.std.proofs.Common.{◌≡◌, true, ℕ, ◌+◌, ◌^◌, ◌<◌, ◌≤◌, List, [], ◌++◌, length, map, get_or, take, sym, ap, ◌∙◌, subst, arith, append-nil, append_assoc, Option, Some, None, All, ◌⊎◌}
 use Rattle.std.specs.Prelude.{filter, IfSome}
 use Rattle.std.specs.List.{flat_map}
-use Rattle.std.specs.List.Sorted.{IsPermutation, IsNonDecreasingBy}
+use Rattle.std.specs.List.Sorted.{IsNonDecreasingBy}
 use Rattle.std.proofs.lemmas.List.{take_more, flat_map_more, length-map, get_or_default}
 use Rattle.std.proofs.lemmas.List.Elements.{All-map, All-more, All-nil}
 use Rattle.std.proofs.lemmas.List.Sorted.{length_permutation, IsPermutation-refl}
-use Rattle.indexmap.specs.IndexMap.{get}
 use Rattle.tcd_base.specs.Bytes.{bytes_of_half, bytes_of_word}
 use Rattle.value_domain.specs.declared.values.Val.{Val}
 use Rattle.value_domain.specs.declared.states.State.{State}
@@ -21,36 +20,35 @@ use Rattle.depth_cert.specs.Spelling.{bytes_of, bytes_of_exit, bytes_of_key, byt
 use Rattle.cfg_recover.proofs.Members.{contains_map}
 use Rattle.cfg_recover.specs.Assignments.{point, exit}
 use Rattle.depth_cert.specs.Known.{Known, state, leaving, IsProperExit}
-use Rattle.small_states.specs.Kept.{IsNoExit, IsStateAt}
+use Rattle.small_states.specs.Kept.{IsNoExit}
 use Rattle.depth_maker.specs.RowsAt.{need_by}
 use Rattle.depth_maker.specs.RowsBy.{IsSource}
-use Rattle.depth_maker.specs.Spelled.{AreFrames, AreKnown, IsFrameOf, WritesCert, HasBytes, IsOfVersion, IsOrdered, IsSpelledOn, WritesPoint, WritesPoints, WritesExit, WritesNode, WritesNodes, cert_on, exit_at, exit_on, known_on, node_on, point_on, state_at}
-use Rattle.frame_places.specs.Spots.{AreRanged, is_point_of, spot_address, spot_eq}
+use Rattle.depth_maker.specs.Spelled.{AreFrames, ArePointsOf, IsFrameOf, WritesCert, HasBytes, IsOfVersion, IsOrdered, IsSpelledOn, WritesPoint, WritesPoints, WritesExit, WritesNode, WritesNodes, cert_on, exit_at, exit_on, known_on, node_on, point_on, spots_of, spots_on, state_at}
+use Rattle.frame_places.specs.Spots.{AreRanged, is_point_of, spot_address}
+use Rattle.frame_places.specs.Entries.{is_in_frame, place_at, points_in}
+use Rattle.frame_places.specs.Marks.{value_for}
+use Rattle.frame_places.proofs.OrderLemmas.{frame_entries, in_frame_is}
+use Rattle.depth_maker.specs.Counts.{AreCounted}
+use Rattle.depth_maker.specs.Spots.{place_of, spot_of}
+use Rattle.depth_maker.specs.declared.table.Table as made
+use Rattle.depth_maker.proofs.PointEntries.{entries_counted, entries_few, rising_spots}
 use Rattle.depth_maker.specs.View.{seen}
 use Rattle.frame_places.specs.declared.places.Spot.{Spot}
-use Rattle.frame_places.specs.declared.places.Spot.TheVariants.{Point, Exit}
+use Rattle.frame_places.specs.declared.places.Spot.TheVariants.{Exit}
 use Rattle.depth_maker.specs.declared.rows.Source.{Source}
 use Rattle.depth_maker.specs.declared.spelling.Ordered.{Ordered}
 use Rattle.depth_maker.proofs.CountedLemmas.{few_spots}
-use Rattle.depth_maker.proofs.FindLemmas.{flat_twice, length_kept}
+use Rattle.depth_maker.proofs.FindLemmas.{flat_twice, has_filter, length_kept}
 use Rattle.depth_maker.proofs.PlaceKinds.{IsOfKind, derived_kinds}
 use Rattle.depth_maker.proofs.PlaceRanges.{derived_in_range}
-use Rattle.depth_maker.proofs.RowSteps.{done_proper, done_state}
-use Rattle.depth_maker.proofs.SpelledLaws.{address_known, are_ranged, is_written, value_in}
+use Rattle.depth_maker.proofs.RowSteps.{done_proper}
+use Rattle.depth_maker.proofs.SpelledLaws.{are_ranged, is_written, point_here, value_in}
 
 -- values of the plan are well-formed
 well_values : (b : Limits) (vs : List Val) → AreValues b vs → All IsWell vs
 well_values b vs are k d lt = subst IsWell (sym (get_or_default vs k d any_val lt)) (are k lt).well
 
 -- ---- points
--- a state that was read is what is known at the point
-pub state_there : (s : Source) → IsSource s → (k : Key) (p : ℕ) (w : Known) (u : State) → get spot_eq (s.table.now).cells (Point k p) ≡ Some w → IsStateAt w u → known_on s (point k p) ≡ Some (state u)
-unfolding seen
-state_there s source k p w u at is =
-    let e = done_state s.ground.now s.table.now source.done k p w at in
-    let same : u ≡ e.0 = subst (λ (w : Known). IsStateAt w u) e.1 is in
-    at ∙ ap (λ (w : Known). Some w) (e.1 ∙ ap state (sym same))
-
 pub writes_point : (s : Source) (k : Key) (p : ℕ) (u : State) (old mid new : List ℕ) → known_on s (point k p) ≡ Some (state u) → u.ccpn < 2 ^ 8 → mid ≡ old ++ bytes_of_word p → new ≡ mid ++ bytes_of_state u
     → WritesPoint s k p old new
 unfolding bytes_of_point
@@ -77,11 +75,11 @@ points_more s k qs i d old mid new lt so one = record {
 }
 
 -- ---- exits
-pub exit_there : (s : Source) (k : Key) (w : Known) (x : exits.Exit) → get spot_eq (s.table.now).cells (Exit k) ≡ Some w → w ≡ leaving x → known_on s (exit k) ≡ Some (leaving x)
+pub exit_there : (s : Source) (k : Key) (w : Known) (x : exits.Exit) → value_for (s.table.now).places (Exit k) ≡ Some w → w ≡ leaving x → known_on s (exit k) ≡ Some (leaving x)
 unfolding seen
 exit_there s k w x at is = at ∙ ap (λ (v : Known). Some v) is
 
-pub no_exit_there : (s : Source) → IsSource s → (k : Key) (w : Known) → get spot_eq (s.table.now).cells (Exit k) ≡ Some w → IsNoExit w → ⊥
+pub no_exit_there : (s : Source) → IsSource s → (k : Key) (w : Known) → value_for (s.table.now).places (Exit k) ≡ Some w → IsNoExit w → ⊥
 unfolding seen
 no_exit_there s source k w at none = of_kind w (derived_kinds _ _ _ (seen s.table.now).cells (source.done).derived (exit k) w at) none where
   of_kind : (v : Known) → IsOfKind (exit k) v → IsNoExit v → ⊥
@@ -112,42 +110,46 @@ writes_no_exit s k old new at is =
 
 -- ---- nodes
 module _ (o : Ordered) (ordered : IsOrdered o) where
-  -- the points of a frame, by the places that the list has
-  pub points_known : (k : Key) → AreKnown o.source.now k (filter (is_point_of k) o.points.now)
-  unfolding seen
-  points_known k q c =
-      let s = o.source.now in
-      let done = (ordered.source).done in
-      let t = s.table.now in
-      let few = few_spots t.points.items t.frames.items (done.counted).few in
-      address_known _ _ _ (s.ground.now).sound (seen t).cells done.derived done.closed done.faultless t.frames.items t.points.items (done.counted).each few.0 few.1
-      t.frames.items o.points.now (IsPermutation-refl t.frames.items) ordered.points ordered.rising k (spot_address q)
-      (contains_map spot_address (filter (is_point_of k) o.points.now) q c)
+  abbrev table : made.Table
+  table = (o.source.now).table.now
 
-  pub points_ranged : AreRanged o.points.now
+  counted : AreCounted (λ q. value_for table.places (spot_of q)) (map place_of (points_in table.places)) table.frames.items
+  counted = entries_counted table.places table.points.items table.frames.items ordered.unique ((ordered.source).done).counted
+
+  few : length (points_in table.places) ≤ 2 ^ 16
+  few = entries_few table.places table.points.items table.frames.items ordered.unique ((ordered.source).done).counted
+
+  pub spots_ranged : AreRanged (spots_of o)
   unfolding seen
-  points_ranged =
+  spots_ranged =
       let s = o.source.now in
       let done = (ordered.source).done in
-      let t = s.table.now in
-      let few = few_spots t.points.items t.frames.items (done.counted).few in
-      are_ranged _ _ _ (s.ground.now).sound (seen t).cells done.derived done.closed done.faultless t.frames.items t.points.items (done.counted).each few.0 few.1
-      t.frames.items o.points.now (IsPermutation-refl t.frames.items) ordered.points ordered.rising
+      are_ranged _ _ _ (s.ground.now).sound (seen table).cells done.derived done.closed done.faultless table.frames.items (points_in table.places) counted few (few_spots table.points.items table.frames.items (done.counted).few).1
+      table.frames.items (spots_of o) (IsPermutation-refl table.frames.items) ordered.points (rising_spots table.places o.points.now ordered.entries ordered.rising)
 
   pub key_is : (k : Key) → IsFrameOf o.source.now k → IsKey k
   unfolding seen
   key_is k c =
       let s = o.source.now in
       let done = (ordered.source).done in
-      let t = s.table.now in
-      let v = value_in ((seen t).cells (point k k.entry)) (((done.counted).each).entered k c) in
-      (derived_in_range _ _ _ (s.ground.now).sound (seen t).cells done.derived (point k k.entry) v.0 v.1).0
+      let v = value_in ((seen table).cells (point k k.entry)) (((done.counted).each).entered k c) in
+      (derived_in_range _ _ _ (s.ground.now).sound (seen table).cells done.derived (point k k.entry) v.0 v.1).0
 
-  pub few_of : (k : Key) → length (filter (is_point_of k) o.points.now) ≤ 2 ^ 16
+  -- the entries of a frame's points
+  pub points_are : (k : Key) → IsFrameOf o.source.now k → ArePointsOf o.source.now k (filter (is_in_frame k) o.points.now)
+  points_are k c x has =
+      let f = has_filter (is_in_frame k) o.points.now x has in
+      let q = place_at table.places x in
+      let own : is_point_of k q ≡ true =
+      sym (in_frame_is k (key_is k c) x q (spots_ranged q (contains_map (place_at table.places) o.points.now x f.0)) ((ordered.entries).order x f.0)) ∙ f.1 in
+      record { within = (ordered.entries).within x f.0; is = point_here k q own }
+
+  pub spots_are : (k : Key) → IsFrameOf o.source.now k → spots_on o.source.now (filter (is_in_frame k) o.points.now) ≡ filter (is_point_of k) (spots_of o)
+  spots_are k c = frame_entries table.places k (key_is k c) o.points.now ordered.entries spots_ranged
+
+  pub few_of : (k : Key) → length (filter (is_in_frame k) o.points.now) ≤ 2 ^ 16
   few_of k =
-      let t = (o.source.now).table.now in
-      let few = few_spots t.points.items t.frames.items (((ordered.source).done).counted).few in
-      omega (arith, few.0, length_kept (is_point_of k) o.points.now, length_permutation t.points.items o.points.now ordered.points)
+      omega (arith, few, length_kept (is_in_frame k) o.points.now, length-map o.points.now (place_at table.places), length_permutation (points_in table.places) (spots_of o) ordered.points)
 
 five : (o a b c d e : List ℕ) → ((((o ++ a) ++ b) ++ c) ++ d) ++ e ≡ o ++ (a ++ (b ++ (c ++ (d ++ e))))
 five o a b c d e =
@@ -167,7 +169,7 @@ spelled_count s k qs = length-map (map spot_address qs) (point_on s k) ∙ lengt
 abbrev own_need : Ordered → Key → ℕ
 own_need o k = need_by ((o.source.now).table.now).frames.items o.needs.now k
 
-pub writes_node : (o : Ordered) (k : Key) (need n : ℕ) (qs : List Spot) (old a b c d new : List ℕ) → qs ≡ filter (is_point_of k) o.points.now → need ≡ own_need o k → n ≡ length qs
+pub writes_node : (o : Ordered) (k : Key) (need n : ℕ) (qs : List Spot) (old a b c d new : List ℕ) → qs ≡ filter (is_point_of k) (spots_of o) → need ≡ own_need o k → n ≡ length qs
     → a ≡ old ++ bytes_of_key k → b ≡ a ++ bytes_of_half need → WritesExit o.source.now k b c → d ≡ c ++ bytes_of_word n → WritesPoints o.source.now k qs d new → WritesNode o k old new
 unfolding bytes_of_node
 writes_node o k need n qs old a b c d new is needs count one two left four so = record {
@@ -191,15 +193,15 @@ nodes_none o out = record { bytes = sym (append-nil out); ccpn = All-nil _ }
 pub nodes_more : (o : Ordered) (ks : List Key) (i : ℕ) (d : Key) (old mid new : List ℕ) → i < length ks → WritesNodes o (take i ks) old mid → WritesNode o (get_or ks i d) mid new → WritesNodes o (take (i + 1) ks) old new
 nodes_more o ks i d old mid new lt so one = record {
   bytes =
-      one.bytes ∙ ap (λ (l : List ℕ). l ++ bytes_of_node (node_on o.source.now o.needs.now o.points.now (get_or ks i d))) so.bytes
-      ∙ flat_map_more (λ k. bytes_of_node (node_on o.source.now o.needs.now o.points.now k)) old (take i ks) (get_or ks i d)
-      ∙ ap (λ (l : List Key). old ++ flat_map (λ k. bytes_of_node (node_on o.source.now o.needs.now o.points.now k)) l) (sym (take_more ks i d lt));
-  ccpn = All-more (λ k. HasBytes (node_on o.source.now o.needs.now o.points.now k)) ks i d lt so.ccpn one.ccpn;
+      one.bytes ∙ ap (λ (l : List ℕ). l ++ bytes_of_node (node_on o.source.now o.needs.now (spots_of o) (get_or ks i d))) so.bytes
+      ∙ flat_map_more (λ k. bytes_of_node (node_on o.source.now o.needs.now (spots_of o) k)) old (take i ks) (get_or ks i d)
+      ∙ ap (λ (l : List Key). old ++ flat_map (λ k. bytes_of_node (node_on o.source.now o.needs.now (spots_of o) k)) l) (sym (take_more ks i d lt));
+  ccpn = All-more (λ k. HasBytes (node_on o.source.now o.needs.now (spots_of o) k)) ks i d lt so.ccpn one.ccpn;
 }
 
 -- ---- the certificate
 abbrev all_nodes : Ordered → List Key → List ℕ
-all_nodes o ks = flat_map (λ k. bytes_of_node (node_on o.source.now o.needs.now o.points.now k)) ks
+all_nodes o ks = flat_map (λ k. bytes_of_node (node_on o.source.now o.needs.now (spots_of o) k)) ks
 
 pub writes_cert : (o : Ordered) (version count : ℕ) (ks : List Key) (out a b c new : List ℕ) → out ≡ [] → count ≡ length ks → a ≡ out ++ bytes_of_word 1128547156 → b ≡ a ++ bytes_of_half version → c ≡ b ++ bytes_of_half count
     → WritesNodes o ks c new → WritesCert o version ks new
@@ -208,8 +210,8 @@ writes_cert o version count ks out a b c new empty is one two three so = record 
   bytes =
       so.bytes ∙ ap (λ (x : List ℕ). x ++ all_nodes o ks) (three ∙ ap (λ (x : List ℕ). x ++ bytes_of_half count) (two ∙ ap (λ (x : List ℕ). x ++ bytes_of_half version) (one ∙ ap (λ (x : List ℕ). x ++ bytes_of_word 1128547156) empty)))
       ∙ append_assoc (bytes_of_word 1128547156 ++ bytes_of_half version) (bytes_of_half count) (all_nodes o ks) ∙ append_assoc (bytes_of_word 1128547156) (bytes_of_half version) (bytes_of_half count ++ all_nodes o ks)
-      ∙ ap (λ (m : ℕ). bytes_of_word 1128547156 ++ (bytes_of_half version ++ (bytes_of_half m ++ all_nodes o ks))) (is ∙ sym (length-map ks (node_on o.source.now o.needs.now o.points.now)))
-      ∙ ap (λ (l : List ℕ). bytes_of_word 1128547156 ++ (bytes_of_half version ++ (bytes_of_half (length (map (node_on o.source.now o.needs.now o.points.now) ks)) ++ l))) (sym (flat_twice bytes_of_node (node_on o.source.now o.needs.now o.points.now) ks));
+      ∙ ap (λ (m : ℕ). bytes_of_word 1128547156 ++ (bytes_of_half version ++ (bytes_of_half m ++ all_nodes o ks))) (is ∙ sym (length-map ks (node_on o.source.now o.needs.now (spots_of o))))
+      ∙ ap (λ (l : List ℕ). bytes_of_word 1128547156 ++ (bytes_of_half version ++ (bytes_of_half (length (map (node_on o.source.now o.needs.now (spots_of o)) ks)) ++ l))) (sym (flat_twice bytes_of_node (node_on o.source.now o.needs.now (spots_of o)) ks));
   ccpn = so.ccpn;
 }
 
@@ -221,8 +223,9 @@ spelled_is o version ks out ordered frames rising known limits w =
     let done = (ordered.source).done in
     let t = s.table.now in
     let few = few_spots t.points.items t.frames.items (done.counted).few in (
-      cert_on s version o.needs.now ks o.points.now,
+      cert_on s version o.needs.now ks (spots_of o),
       w.bytes,
-      is_written _ _ _ (s.ground.now).sound (seen t).cells done.derived done.closed done.faultless t.frames.items t.points.items (done.counted).each few.0 few.1 ks o.points.now frames ordered.points ordered.rising rising version
+      is_written _ _ _ (s.ground.now).sound (seen t).cells done.derived done.closed done.faultless t.frames.items (points_in t.places) (entries_counted t.places t.points.items t.frames.items ordered.unique done.counted)
+          (entries_few t.places t.points.items t.frames.items ordered.unique done.counted) few.1 ks (spots_of o) frames ordered.points (rising_spots t.places o.points.now ordered.entries ordered.rising) rising version
           known limits (need_by t.frames.items o.needs.now) (ordered.needs).least (ordered.needs).few ((((s.ground.now).sound).is_plan).areas).few w.ccpn,
     )

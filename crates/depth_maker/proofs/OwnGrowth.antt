@@ -1,5 +1,5 @@
 -- The own parts of the rules fall with the state.
-use Rattle.std.proofs.Common.{◌≡◌, ℕ, zero, suc, ◌-◌, ◌*◌, ◌/◌, ◌<◌, ◌⊎◌, inl, inr, Bool, true, false, List, [], ◌∷◌, length, map, get_or, refl, sym, ◌∙◌, subst, arith, IsSome, Contains}
+use Rattle.std.proofs.Common.{◌≡◌, ℕ, zero, suc, ◌*◌, ◌/◌, ◌<◌, ◌⊎◌, inl, inr, Bool, true, false, List, [], ◌∷◌, length, map, get_or, refl, sym, ◌∙◌, subst, arith, IsSome, Contains}
 use Rattle.std.specs.Prelude.{unwrap_or}
 use Rattle.elf_image.specs.Images.{ImageData}
 use Rattle.tcd_plan.specs.PlanData.{PlanData}
@@ -23,7 +23,6 @@ use Rattle.vd_transfer.proofs.HoldLaws.{reg_value}
 use Rattle.vd_transfer.proofs.OpLaws.{span_not_below}
 use Rattle.store_ranges.proofs.Covers.{map_has, among_map}
 use Rattle.depth_cert.specs.declared.keys.Key.{Key}
-use Rattle.cfg_recover.specs.Code.{IsCode}
 use Rattle.cfg_recover.specs.Local.{named_by, targets_of, are_aligned, KnowsTargets, MayReturn, MayReturnFromException, StoresInRange, MayAccess, LocalRule}
 use Rattle.cfg_recover.proofs.CodeLaws.{IsCode-bounded}
 use Rattle.cfg_recover.proofs.Members.{contains_among}

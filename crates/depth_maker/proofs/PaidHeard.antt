@@ -1,6 +1,5 @@
 -- Entries of interrupts that are paid for by what was heard, and what is heard of those that were paid for.
 use Rattle.std.proofs.Common.{◌≡◌, ℕ, false, IsTrue, Some, Contains}
-use Rattle.indexmap.specs.IndexMap.{get}
 use Rattle.elf_image.specs.Images.{ImageData}
 use Rattle.tcd_plan.specs.PlanData.{PlanData}
 use Rattle.value_domain.specs.declared.states.State.{State}
@@ -9,8 +8,7 @@ use Rattle.depth_cert.specs.declared.keys.Key.{Key}
 use Rattle.depth_cert.specs.Known.{IsProper}
 use Rattle.cfg_recover.specs.Assignments.{point}
 use Rattle.cfg_recover.specs.Duties.{Owed, interrupts_of}
-use Rattle.frame_places.specs.Marks.{is_queued}
-use Rattle.frame_places.specs.Spots.{spot_eq}
+use Rattle.frame_places.specs.Marks.{is_queued, mark_for}
 use Rattle.depth_maker.specs.Hearing.{AreEntered, AsksNoMore, IsHeardAt}
 use Rattle.depth_maker.specs.Levels.{level}
 use Rattle.depth_maker.specs.Proper.{AreLawful}
@@ -32,17 +30,17 @@ module _ (b : Limits) (image : ImageData) (plan : PlanData) (k : Key) (p : ℕ) 
 
   -- what the point asked for is heard
   pub paid_and_heard : (laws : AreLawful b image plan) (s m : made.Table) (h : Heard) → IsHeardAt h k.is u → IsProper b u → IsTrue u.ie
-      → ((d : Owed) → Contains (interrupts_of plan k u) d → Owes b image plan k p u d.duty) → is_queued (get spot_eq m.marks (spot_of (point k p))) ≡ false
+      → ((d : Owed) → Contains (interrupts_of plan k u) d → Owes b image plan k p u d.duty) → is_queued (mark_for m.places (spot_of (point k p))) ≡ false
       → PaidFor b image plan s m k p u (interrupts_of plan k u) → PaidFor b image plan s (record m { heard = Some h }) k p u (interrupts_of plan k u)
   unfolding seen level
   paid_and_heard laws s m h from pu on owes free paid = record {
     fine = record {
       table = (paid.fine).table;
       listed = (paid.fine).listed;
-      marked = (paid.fine).marked;
       counted = (paid.fine).counted;
       heard = heard_new b plan (seen m) k p u h from pu on (λ d c. owed_proper b image plan k p u laws d.duty pu (owes d c)) (λ d c. paid.settled free d c);
       exits = (paid.fine).exits;
+      readers = (paid.fine).readers;
       plain = (paid.fine).plain;
     };
     keeps = record {
@@ -51,6 +49,8 @@ module _ (b : Limits) (image : ImageData) (plan : PlanData) (k : Key) (p : ℕ) 
       read = (paid.keeps).read;
       settled = (paid.keeps).settled;
       rises = (paid.keeps).rises;
+      near = (paid.keeps).near;
+      numbers = (paid.keeps).numbers;
     };
     settled = paid.settled;
   }

@@ -1,5 +1,5 @@
 -- A visit, part by part: what a point owes is joined in the order in which it is listed, and never built as a list.
-use Rattle.std.proofs.Common.{◌+◌, take, drop, get_or, map, ◌≡◌, ℕ, ◌<◌, true, false, inl, inr, List, [], ◌∷◌, ◌++◌, Option, Some, None, IsSome, refl, sym, ap, subst, ◌∙◌, arith, length, Contains}
+use Rattle.std.proofs.Common.{◌+◌, take, drop, get_or, map, ◌≡◌, ℕ, ◌<◌, Bool, true, false, inl, inr, List, [], ◌∷◌, ◌++◌, Option, Some, None, IsSome, refl, sym, ap, subst, ◌∙◌, arith, length, Contains}
 use Rattle.std.specs.Prelude.{Result, Ok, Err, OnOk}
 use Rattle.frame_places.specs.declared.refusals.Refusal.{Refusal}
 use Rattle.indexmap.specs.IndexMap.{IndexMap, get}
@@ -27,12 +27,14 @@ use Rattle.cfg_recover.proofs.CodeLaws.{IsCode-one}
 use Rattle.depth_maker.specs.Growth.{IsProperDuty}
 use Rattle.depth_maker.specs.Hearing.{HeardEntered}
 use Rattle.depth_maker.specs.Proper.{AreLawful}
-use Rattle.depth_maker.specs.Tables.{Table, Settled, IsResumed}
+use Rattle.depth_maker.specs.Tables.{Settled, IsResumed}
 use Rattle.depth_maker.proofs.PlaceLaws.{one_state}
 use Rattle.depth_maker.proofs.TableLaws.{table_marked, settled_again}
 use Rattle.frame_places.specs.declared.places.Spot.{Spot}
 use Rattle.frame_places.specs.declared.places.Spot.TheVariants as spots
-use Rattle.frame_places.specs.declared.places.Mark.{Mark}
+use Rattle.frame_places.specs.declared.places.Marked.{Marked}
+use Rattle.frame_places.specs.Nearby.{StandsAt}
+use Rattle.std.specs.Option.{option_map}
 use Rattle.std.specs.declared.vec.Vec.{Vec}
 use Rattle.std.specs.declared.alloc.Global.{Global}
 use Rattle.depth_maker.specs.declared.table.Table as made
@@ -43,20 +45,22 @@ use Rattle.depth_maker.proofs.CountedLemmas.{counted_again}
 use Rattle.depth_maker.proofs.HearingLaws.{heard_again}
 use Rattle.depth_maker.proofs.LevelSteps.{rises_then, same_level}
 use Rattle.depth_maker.specs.View.{AreExitsRead, seen, IsFine, Keeps, Joined, Paid, PaidFor, AllSettled, Owes, IsVisited}
-use Rattle.frame_places.specs.Marks.{is_idle, is_queued, Reads, Registered}
+use Rattle.frame_places.specs.Marks.{is_idle, is_queued, Reads, Registered, mark_for, value_for, AreKnown, AllListed}
 
 pub keeps_all : (b : Limits) (image : ImageData) (plan : PlanData) (s : made.Table) → Keeps b image plan s s
-keeps_all b image plan s = record { each = λ x free. (refl, refl); readers = λ z x h. h; read = λ z x h free. refl; settled = λ k p u d free pu pd h. h; rises = inr (refl, refl) }
+keeps_all b image plan s = record { each = λ x free. (refl, refl); readers = λ z x h. h; read = λ z x h free. refl; settled = λ k p u d free pu pd h. h; rises = inr (refl, refl); near = refl; numbers = λ n q h. h }
 
 pub Keeps-trans : (b : Limits) (image : ImageData) (plan : PlanData) (s m t : made.Table) → Keeps b image plan s m → Keeps b image plan m t → Keeps b image plan s t
 Keeps-trans b image plan s m t k l =
-    let free : (x : Spot) → is_queued (get spot_eq t.marks x) ≡ false → is_queued (get spot_eq m.marks x) ≡ false = λ x f. sym (ap is_queued (l.each x f).0) ∙ f in
+    let free : (x : Spot) → is_queued (mark_for t.places x) ≡ false → is_queued (mark_for m.places x) ≡ false = λ x f. sym (ap is_queued (l.each x f).0) ∙ f in
     record {
       each = λ x f. ((l.each x f).0 ∙ (k.each x (free x f)).0, (l.each x f).1 ∙ (k.each x (free x f)).1);
       readers = λ z x h. l.readers z x (k.readers z x h);
       read = λ z x h f. l.read z x (k.readers z x h) f ∙ k.read z x h (free x f);
       settled = λ j p u d f pu pd h. l.settled j p u d f pu pd (k.settled j p u d (free (spot_of (point j p)) f) pu pd h);
       rises = rises_then s m t k.rises l.rises;
+      near = l.near ∙ k.near;
+      numbers = λ n q h. l.numbers n q (k.numbers n q h);
     }
 
 module _ (b : Limits) (image : ImageData) (plan : PlanData) (k : Key) (p : ℕ) (u : State) where
@@ -72,14 +76,14 @@ module _ (b : Limits) (image : ImageData) (plan : PlanData) (k : Key) (p : ℕ) 
     settled = λ free d c.
         elim (Contains-append_cases ds es d c) [
           | inl i ↦
-              (let before : is_queued (get spot_eq m.marks (spot_of (point k p))) ≡ false = sym (ap is_queued ((then_.keeps).each (spot_of (point k p)) free).0) ∙ free in
+              (let before : is_queued (mark_for m.places (spot_of (point k p))) ≡ false = sym (ap is_queued ((then_.keeps).each (spot_of (point k p)) free).0) ∙ free in
               (then_.keeps).settled k p u d.duty free pu (pd d i) (first.settled before d i))
           | inr i ↦ then_.settled free d i
         ];
   }
 
   -- the point has work again: nothing more is owed now
-  pub paid_again : (s t : made.Table) (ds es : List Owed) → PaidFor b image plan s t k p u ds → is_queued (get spot_eq t.marks (spot_of (point k p))) ≡ true → PaidFor b image plan s t k p u (ds ++ es)
+  pub paid_again : (s t : made.Table) (ds es : List Owed) → PaidFor b image plan s t k p u ds → is_queued (mark_for t.places (spot_of (point k p))) ≡ true → PaidFor b image plan s t k p u (ds ++ es)
   paid_again s t ds es first queued = record {
     fine = first.fine;
     keeps = first.keeps;
@@ -113,7 +117,7 @@ module _ (b : Limits) (image : ImageData) (plan : PlanData) (k : Key) (p : ℕ) 
   }
 
   -- a coming back: the point is told of the exit, and where there is one, what comes after it is joined
-  pub paid_resume_none : (s : made.Table) (rule : ℕ) (l : Key) (q : ℕ) → IsFine b image plan s → get spot_eq s.cells (spot_of (exit l)) ≡ None → Reads (get spot_eq s.readers (spot_of (exit l))) (spot_of (point k p))
+  pub paid_resume_none : (s : made.Table) (rule : ℕ) (l : Key) (q : ℕ) → IsFine b image plan s → value_for s.places (spot_of (exit l)) ≡ None → Reads (get spot_eq s.readers (spot_of (exit l))) (spot_of (point k p))
       → PaidFor b image plan s s k p u (owed rule (resume l q) ∷ [])
   unfolding seen
   paid_resume_none s rule l q fine none told = record {
@@ -124,7 +128,7 @@ module _ (b : Limits) (image : ImageData) (plan : PlanData) (k : Key) (p : ℕ) 
         ((λ x at. absurd (let no : None ≡ Some x = sym none ∙ at in cc)), told);
   }
 
-  pub paid_resume : (s t : made.Table) (rule : ℕ) (l : Key) (q : ℕ) (x : Exit) → get spot_eq s.cells (spot_of (exit l)) ≡ Some (leaving x) → Reads (get spot_eq s.readers (spot_of (exit l))) (spot_of (point k p))
+  pub paid_resume : (s t : made.Table) (rule : ℕ) (l : Key) (q : ℕ) (x : Exit) → value_for s.places (spot_of (exit l)) ≡ Some (leaving x) → Reads (get spot_eq s.readers (spot_of (exit l))) (spot_of (point k p))
       → Joined b image plan s t (spot_of (point k q)) (state (after_of u x l.kind)) → PaidFor b image plan s t k p u (owed rule (resume l q) ∷ [])
   unfolding seen
   paid_resume s t rule l q x there told j = record {
@@ -149,13 +153,13 @@ module _ (b : Limits) (image : ImageData) (plan : PlanData) (k : Key) (p : ℕ) 
   pub leave_asks : (t : made.Table) (x : Exit) → HasDuty b image plan (seen t).cells k p u (leave x) → Asks b image plan (seen t).cells (place_of (spot_of (exit k))) (leaving x)
   leave_asks t x h = record { key = k; addr = p; before = u; duty = leave x; has = h; asks = refl }
 
-  pub resume_asks : (t : made.Table) (l : Key) (q : ℕ) (x : Exit) → get spot_eq t.cells (spot_of (exit l)) ≡ Some (leaving x) → HasDuty b image plan (seen t).cells k p u (resume l q)
+  pub resume_asks : (t : made.Table) (l : Key) (q : ℕ) (x : Exit) → value_for t.places (spot_of (exit l)) ≡ Some (leaving x) → HasDuty b image plan (seen t).cells k p u (resume l q)
       → Asks b image plan (seen t).cells (place_of (spot_of (point k q))) (state (after_of u x l.kind))
   unfolding seen
   resume_asks t l q x at h = record { key = k; addr = p; before = u; duty = resume l q; has = h; asks = ap (resumed k u l q) at }
 
   -- a duty of the point is one still, while the point has no new work
-  pub duty_stays : (s t : made.Table) (d : Duty) → Keeps b image plan s t → is_queued (get spot_eq t.marks (spot_of (point k p))) ≡ false → HasDuty b image plan (seen s).cells k p u d → HasDuty b image plan (seen t).cells k p u d
+  pub duty_stays : (s t : made.Table) (d : Duty) → Keeps b image plan s t → is_queued (mark_for t.places (spot_of (point k p))) ≡ false → HasDuty b image plan (seen s).cells k p u d → HasDuty b image plan (seen t).cells k p u d
   unfolding seen
   duty_stays s t d keeps free h = record {
     at = (keeps.each (spot_of (point k p)) free).1 ∙ h.at;
@@ -172,16 +176,19 @@ module _ (b : Limits) (image : ImageData) (plan : PlanData) (k : Key) (p : ℕ) 
   pub has_duty_at : (t : made.Table) (d : Duty) → (seen t).cells (point k p) ≡ Some (state u) → Owes b image plan k p u d → HasDuty b image plan (seen t).cells k p u d
   has_duty_at t d at o = record { at = at; faultless = o.faultless; shape = o.shape; size = o.size; code = o.code; owed = o.owed; listed = o.listed; is = o.is }
 
-  pub has_duty : (t : made.Table) (d : Duty) → IsVisited b image plan t k p u → is_queued (get spot_eq t.marks (spot_of (point k p))) ≡ false → Owes b image plan k p u d → HasDuty b image plan (seen t).cells k p u d
+  pub has_duty : (t : made.Table) (d : Duty) → IsVisited b image plan t k p u → is_queued (mark_for t.places (spot_of (point k p))) ≡ false → Owes b image plan k p u d → HasDuty b image plan (seen t).cells k p u d
   has_duty t d v free o = has_duty_at t d (v.at free) o
 
   -- the point has work already
-  pub paid_queued : (s : made.Table) (ds : List Owed) → IsVisited b image plan s k p u → is_queued (get spot_eq s.marks (spot_of (point k p))) ≡ true → PaidFor b image plan s s k p u ds
+  pub paid_queued : (s : made.Table) (ds : List Owed) → IsVisited b image plan s k p u → is_queued (mark_for s.places (spot_of (point k p))) ≡ true → PaidFor b image plan s s k p u ds
   paid_queued s ds v queued = record {
     fine = v.fine;
     keeps = keeps_all b image plan s;
     settled = λ free d c. absurd (let no : true ≡ false = sym queued ∙ free in cc);
   }
+
+  pub stands_kept : (s t : made.Table) → Keeps b image plan s t → StandsAt s.places s.near (spot_of (point k p)) → StandsAt t.places t.near (spot_of (point k p))
+  stands_kept s t keeps h = subst (λ (n : ℕ). StandsAt t.places n (spot_of (point k p))) (sym keeps.near) (keeps.numbers s.near (spot_of (point k p)) h)
 
   pub visited_kept : (s t : made.Table) → IsVisited b image plan s k p u → IsFine b image plan t → Keeps b image plan s t → IsVisited b image plan t k p u
   unfolding seen
@@ -189,6 +196,7 @@ module _ (b : Limits) (image : ImageData) (plan : PlanData) (k : Key) (p : ℕ) 
     fine = fine;
     proper = v.proper;
     at = λ free. (keeps.each (spot_of (point k p)) free).1 ∙ v.at (sym (ap is_queued (keeps.each (spot_of (point k p)) free).0) ∙ free);
+    stands = stands_kept s t keeps v.stands;
   }
 
   pub visited_after : (s t : made.Table) (ds : List Owed) → IsVisited b image plan s k p u → PaidFor b image plan s t k p u ds → IsVisited b image plan t k p u
@@ -291,7 +299,7 @@ module _ (b : Limits) (image : ImageData) (plan : PlanData) (k : Key) (p : ℕ) 
   on_leave s t rule x (Ok _) h = paid_leave s t rule x h
   on_leave s t rule x (Err e) h = tt
 
-  pub on_resume : (s t : made.Table) (rule : ℕ) (l : Key) (q : ℕ) (x : Exit) (r : Result (Unit {0}) Refusal) → get spot_eq s.cells (spot_of (exit l)) ≡ Some (leaving x)
+  pub on_resume : (s t : made.Table) (rule : ℕ) (l : Key) (q : ℕ) (x : Exit) (r : Result (Unit {0}) Refusal) → value_for s.places (spot_of (exit l)) ≡ Some (leaving x)
       → Reads (get spot_eq s.readers (spot_of (exit l))) (spot_of (point k p)) → OnOk r (Joined b image plan s t (spot_of (point k q)) (state (after_of u x l.kind))) → OnOk r (PaidFor b image plan s t k p u (owed rule (resume l q) ∷ []))
   on_resume s t rule l q x (Ok _) there told h = paid_resume s t rule l q x there told h
   on_resume s t rule l q x (Err e) there told h = tt
@@ -327,21 +335,47 @@ exits_registered a b k x more exits j p q h =
       | inr e ↦ (let no : false ≡ true = e.0 in cc)
     ]
 
--- the point was written down among the readers of an exit
-pub registered_fine : (b : Limits) (image : ImageData) (plan : PlanData) (laws : AreLawful b image plan) (s t : made.Table) → t.cells ≡ s.cells → t.marks ≡ s.marks → t.work.items ≡ s.work.items
-    → t.points.items ≡ s.points.items → t.frames.items ≡ s.frames.items → t.heard ≡ s.heard → ((z q : Spot) → Reads (get spot_eq s.readers z) q → Reads (get spot_eq t.readers z) q) → AreExitsRead t.readers → IsFine b image plan s → IsFine b image plan t × Keeps b image plan s t
+-- those that read are known still, where one more does that is known
+pub readers_registered : {V S R : Type 0} (places : IndexMap Spot (Marked V) S) (a b : IndexMap Spot (Vec Spot Global) R) (z x : Spot) → Registered a b z x → IsSome (value_for places x)
+    → ((y : Spot) → AreKnown places (Reads (get spot_eq a y))) → (y : Spot) → AreKnown places (Reads (get spot_eq b y))
+readers_registered {V} places a b z x more known before y q h =
+    elim (more.alone y q h) [
+      | inl i ↦ before y q i
+      | inr e ↦ subst (λ (k : Spot). IsSome (value_for places k)) (sym e.1) known
+    ]
+
+-- a place that is marked is known
+known_marked : {V : Type 0} (o : Option (Marked V)) → is_queued (option_map (λ m. m.mark) o) ≡ true → IsSome (option_map (λ m. m.value) o)
+known_marked None e = cc
+known_marked (Some m) e = refl
+
+some_known : {V : Type 0} (o : Option V) (v : V) → o ≡ Some v → IsSome o
+some_known {V} o v e = subst (λ (x : Option V). IsSome x) (sym e) refl
+
+-- a point that is visited is known
+pub visited_known : (b : Limits) (image : ImageData) (plan : PlanData) (t : made.Table) (k : Key) (p : ℕ) (u : State) → IsVisited b image plan t k p u → IsSome (value_for t.places (spot_of (point k p)))
 unfolding seen
-registered_fine b image plan laws s t cells marks work points frames heard readers exits fine =
-    let same : (q : Spot) → get spot_eq t.cells q ≡ get spot_eq s.cells q = λ q. ap (λ m. get spot_eq m q) cells in
-    let marked : (q : Spot) → get spot_eq t.marks q ≡ get spot_eq s.marks q = λ q. ap (λ m. get spot_eq m q) marks in (
+visited_known b image plan t k p u v = by (is_queued (mark_for t.places (spot_of (point k p)))) refl where
+  by : (e : Bool) → is_queued (mark_for t.places (spot_of (point k p))) ≡ e → IsSome (value_for t.places (spot_of (point k p)))
+  by true e = known_marked (get spot_eq t.places (spot_of (point k p))) e
+  by false e = some_known (value_for t.places (spot_of (point k p))) (state u) (v.at e)
+
+-- the point was written down among the readers of an exit
+pub registered_fine : (b : Limits) (image : ImageData) (plan : PlanData) (laws : AreLawful b image plan) (s t : made.Table) → t.places ≡ s.places → t.near ≡ s.near → t.work.items ≡ s.work.items
+    → t.points.items ≡ s.points.items → t.frames.items ≡ s.frames.items → t.heard ≡ s.heard → ((z q : Spot) → Reads (get spot_eq s.readers z) q → Reads (get spot_eq t.readers z) q) → AreExitsRead t.readers
+    → ((y : Spot) → AreKnown s.places (Reads (get spot_eq t.readers y))) → IsFine b image plan s → IsFine b image plan t × Keeps b image plan s t
+unfolding seen
+registered_fine b image plan laws s t places near work points frames heard readers exits told fine =
+    let same : (q : Spot) → value_for t.places q ≡ value_for s.places q = λ q. ap (λ m. value_for m q) places in
+    let marked : (q : Spot) → mark_for t.places q ≡ mark_for s.places q = λ q. ap (λ m. mark_for m q) places in (
       record {
         table = table_marked b image plan laws (seen s) (seen t) (λ q. same (spot_of q)) (λ z q h. readers (spot_of z) (spot_of q) h) fine.table
-            (λ q h. sym (ap is_idle (marked (spot_of q))) ∙ h) (subst (λ m. Derived b image plan (λ q. get spot_eq m (spot_of q))) (sym cells) (fine.table).derived);
-        listed = record { listed = λ q at. subst (λ (w : List Spot). Contains w q) (sym work) (fine.listed.listed q (sym (marked q) ∙ at)) };
-        marked = λ q w at. subst (λ (o : Option Mark). IsSome o) (sym (marked q)) (fine.marked q w (sym (same q) ∙ at));
-        counted = counted_again s.cells t.cells s.points.items t.points.items s.frames.items t.frames.items (λ q. same (spot_of q)) points frames fine.counted;
+            (λ q h. sym (ap is_idle (marked (spot_of q))) ∙ h) (subst (λ m. Derived b image plan (λ q. value_for m (spot_of q))) (sym places) (fine.table).derived);
+        listed = subst (λ m. AllListed m t.work.items) (sym places) (subst (λ (w : List ℕ). AllListed s.places w) (sym work) fine.listed);
+        counted = counted_again s.places t.places s.points.items t.points.items s.frames.items t.frames.items (λ q. same (spot_of q)) points frames fine.counted;
         heard = heard_again b plan (seen s).cells (seen t).cells (λ q. same (spot_of q)) t.heard (subst (HeardEntered b plan (seen s).cells) (sym heard) fine.heard);
         exits = exits;
+        readers = subst (λ m. (y : Spot) → AreKnown m (Reads (get spot_eq t.readers y))) (sym places) told;
         plain = λ q at. fine.plain q (sym (marked q) ∙ at);
       },
       record {
@@ -349,6 +383,8 @@ registered_fine b image plan laws s t cells marks work points frames heard reade
         readers = readers;
         read = λ z x h free. same z;
         settled = λ k p u d free pu pd h. settled_again b image plan laws (seen s) (seen t) (λ q. same (spot_of q)) (λ z q i. readers (spot_of z) (spot_of q) i) k p u d h;
-        rises = inr (same_level s t cells points frames, work);
+        rises = inr (same_level s t same points frames, work);
+        near = near;
+        numbers = λ n q h. subst (λ m. StandsAt m n q) (sym places) h;
       },
     )

@@ -1,6 +1,10 @@
 -- The row of a point that enters no frame.
-use Rattle.std.proofs.Common.{◌≡◌, ℕ, Bool, true, false, not, List, [], ◌++◌, length, Some, refl, sym, ap, ◌∙◌, subst, Contains}
-use Rattle.std.specs.Prelude.{map, filter, nat_lt, if◌then◌else◌, Ok}
+use Rattle.std.proofs.Common.{◌≡◌, ℕ, Bool, true, false, not, ◌&&◌, List, ◌++◌, length, Some, refl, sym, ap, ◌∙◌, subst, Contains, nat_eq}
+use Rattle.std.specs.Prelude.{map}
+use Rattle.std.specs.Option.{option_map}
+use Rattle.std.proofs.Math.Bool.{beq}
+use Rattle.std.proofs.lemmas.Bool.{and_parts, eqb-true}
+use Rattle.indexmap.specs.IndexMap.{get}
 use Rattle.tc_isa.specs.declared.shapes.Arg.{Arg}
 use Rattle.tc_isa.specs.declared.shapes.Shape.{Shape}
 use Rattle.tc_isa.specs.declared.shapes.Shape.TheVariants.{Load, Store}
@@ -10,28 +14,30 @@ use Rattle.value_domain.specs.Limits.{Limits}
 use Rattle.value_domain.specs.declared.states.State.{State}
 use Rattle.depth_cert.specs.declared.keys.Key.{Key}
 use Rattle.depth_cert.specs.Known.{Known, state}
-use Rattle.cfg_recover.specs.Assignments.{point}
-use Rattle.cfg_recover.specs.Duties.{duties_of, entries_of, interrupts_of, irqs_of, leavings_of, misaligned_of, successors_of}
+use Rattle.cfg_recover.specs.Duties.{duties_of, entries_of, interrupts_of, leavings_of, misaligned_of, successors_of}
 use Rattle.cfg_recover.specs.Changes.{StandsFaultless}
 use Rattle.cfg_recover.specs.Local.{IsFaultless}
 use Rattle.cfg_recover.specs.declared.local.Located.{Located}
-use Rattle.cfg_recover.specs.Entries.{irq_key}
-use Rattle.frame_places.specs.Numbers.{AreNumbers, number_in}
-use Rattle.small_states.specs.Kept.{IsQuiet}
+use Rattle.frame_places.specs.Marks.{value_for}
+use Rattle.frame_places.specs.Numbers.{number_in}
+use Rattle.frame_places.specs.Spots.{spot_eq}
+use Rattle.frame_places.specs.declared.places.Mark.{Mark}
+use Rattle.frame_places.specs.declared.places.Mark.TheVariants.{Plain}
+use Rattle.frame_places.specs.declared.places.Marked.{Marked}
+use Rattle.frame_places.specs.declared.places.Spot.TheVariants.{Point}
+use Rattle.small_states.specs.Kept.{IsOutline}
+use Rattle.small_states.specs.declared.cells.Outline.{Outline}
 use Rattle.call_needs.specs.declared.row.Row.{Row}
 use Rattle.depth_maker.specs.Entered.{EntersNone, IsPlainAt, entered_in}
-use Rattle.depth_maker.specs.Handlers.{AreHandlers, nodes_taken}
-use Rattle.depth_maker.specs.declared.handlers.Handler.{Handler}
+use Rattle.depth_maker.specs.Handlers.{nodes_taken}
 use Rattle.depth_maker.proofs.HandlerLaws.{nodes_taken-is}
 use Rattle.depth_maker.specs.Spots.{place_of}
-use Rattle.depth_maker.specs.RowsBy.{AllKnownBy, IsRowBy, IsSource, PointHasRow}
-use Rattle.depth_maker.specs.View.{IsPlainBy, seen}
+use Rattle.depth_maker.specs.RowsBy.{IsPlainRow, IsPointRow, IsSource}
+use Rattle.depth_maker.specs.View.{seen}
 use Rattle.depth_maker.specs.declared.ground.Ground.{Ground}
-use Rattle.depth_maker.specs.declared.ground.Visit.{Visit}
 use Rattle.depth_maker.specs.declared.rows.Source.{Source}
-use Rattle.depth_maker.specs.declared.table.Table as made
-use Rattle.depth_maker.proofs.EnteredLemmas.{aligned_owes_none, entered_irqs, entered_leavings, entered_parts, entered_successors}
-use Rattle.depth_maker.proofs.RowLaws.{known_frame}
+use Rattle.depth_maker.proofs.EnteredLemmas.{aligned_owes_none, entered_leavings, entered_parts, entered_successors}
+use Rattle.depth_maker.proofs.RowLaws.{enters_of, entered_frame}
 use Rattle.depth_maker.proofs.RowSteps.{done_state}
 
 pub off_of : (t : Bool) → not t ≡ true → t ≡ false
@@ -47,11 +53,6 @@ pub store_enters_none : (plan : PlanData) (shape : Shape) → plan.aln ≡ false
 store_enters_none plan shape off src base offset size after is = subst (EntersNone plan) (sym is) at where
   at : EntersNone plan (Store src base offset size after)
   at b k p u n rule = (refl, ap entered_in (aligned_owes_none b plan k u (Store src base offset size after) (rule.accesses refl) off))
-
--- where interrupts are off none is taken
-no_irqs : (plan : PlanData) (k : Key) (u : State) → u.ie ≡ false → entered_in (interrupts_of plan k u) ≡ []
-no_irqs plan k u off =
-    entered_irqs plan k u (irqs_of plan u) ∙ ap (λ (l : List ℕ). map (irq_key plan) l) (ap (λ (t : Bool). if t then filter (λ p. nat_lt u.ccpn p) plan.irqs else []) off)
 
 -- where no instruction enters a frame only interrupts do
 pub entered_plain : (b : Limits) (image : ImageData) (plan : PlanData) (k : Key) (p : ℕ) (u : State) → IsFaultless b image plan k p u → (at : IsPlainAt image plan p)
@@ -77,49 +78,55 @@ pub plain_stands : (g : Ground) (k : Key) (p : ℕ) (u : State) → IsFaultless 
 unfolding plain_found
 plain_stands g k p u faultless at = record { faultless = faultless; code = at.code; shape = at.shaped }
 
--- the row has no frame that is entered
-pub quiet_row_is : (s : Source) → IsSource s → (k : Key) (p : ℕ) (w : Known) (row : Row) → (seen s.table.now).cells (point k p) ≡ Some w → IsQuiet w row.held → IsPlainAt (s.ground.now).image.now (s.ground.now).plan.now p
-    → ((frames : List Key) → AreNumbers s.numbers.now frames frames → Contains frames k → row.node ≡ number_in frames k) → row.into.items ≡ [] → PointHasRow s k p (Ok (Some row))
+-- the row of a plain point has the handlers of the interrupts that may be taken
+pub plain_point : (s : Source) → IsSource s → (k : Key) (p : ℕ) (m : Marked Known) (o : Outline) (row : Row) → get spot_eq (s.table.now).places (Point k p) ≡ Some m → m.mark ≡ Plain → IsOutline m.value o
+    → IsPlainRow s (number_in (s.table.now).frames.items k) o row → IsPointRow s k p row
 unfolding seen plain_found
-quiet_row_is s source k p w row at is_quiet plain_at node none =
+plain_point s source k p m o row at mark is plain =
     let g = s.ground.now in
     let t = s.table.now in
     let done = source.done in
     let frames = t.frames.items in
-    let e = done_state g t done k p w at in
+    let value : value_for t.places (Point k p) ≡ Some m.value = ap (option_map (λ (m : Marked Known). m.value)) at in
+    let plain_at : IsPlainAt g.image.now g.plan.now p = done.plain (Point k p) (ap (option_map (λ (m : Marked Known). m.mark)) at ∙ ap (λ (z : Mark). Some z) mark) in
+    let e = done_state g t done k p m.value value in
     let u = e.0 in
-    let there : (seen t).cells (point k p) ≡ Some (state u) = at ∙ ap (λ (z : Known). Some z) e.1 in
-    let quiet : (u.ie ≡ false) × (length u.locals.items ≡ row.held) = subst (λ (z : Known). IsQuiet z row.held) e.1 is_quiet in
+    let there : value_for t.places (Point k p) ≡ Some (state u) = value ∙ ap (λ (z : Known). Some z) e.1 in
+    let own : (u.ie ≡ o.ie) × (u.ccpn ≡ o.ccpn) × (length u.locals.items ≡ o.held) = subst (λ (z : Known). IsOutline z o) e.1 is in
     let faultless = done.faultless k p u there in
-    let parts = entered_plain g.bounds.now g.image.now g.plan.now k p u faultless plain_at ∙ no_irqs g.plan.now k u quiet.0 in (
+    let found = plain_found g.image.now g.plan.now p plain_at in
+    let stands = plain_stands g k p u faultless plain_at in
+    let parts = entered_plain g.bounds.now g.image.now g.plan.now k p u faultless plain_at in
+    let counted = (done.counted).each in
+    let known = λ (l : Key) (i : Contains (entered_in (interrupts_of g.plan.now k u)) l).
+    entered_frame _ _ _ (seen t).cells done.closed (map place_of t.points.items) frames counted k p u l
+    (enters_of _ _ _ (seen t).cells done.closed (map place_of t.points.items) frames counted k p u found l there stands (subst (λ (z : List Key). Contains z l) (sym parts) i)) in (
       u,
       there,
       record {
-        found = plain_found g.image.now g.plan.now p plain_at;
-        stands = plain_stands g k p u faultless plain_at;
-        node = node frames source.numbers (known_frame _ _ _ (seen t).cells done.closed (map place_of t.points.items) frames (done.counted).each (point k p) (state u) there);
-        held = sym quiet.1;
-        into = none ∙ sym (ap (λ (l : List Key). map (number_in frames) l) parts);
+        found = found;
+        stands = stands;
+        node = plain.node;
+        held = plain.held ∙ sym own.2;
+        into =
+            plain.into ∙ sym (λ i. nodes_taken (own.0 i) (own.1 i) s.handlers.now)
+            ∙ nodes_taken-is g.plan.now frames k u s.handlers.now source.handlers known
+            ∙ sym (ap (λ (l : List Key). map (number_in frames) l) parts);
       },
     )
 
--- the row has the handlers of the interrupts that may be taken
-pub plain_row_is : (v : Visit) (frames : List Key) (handlers : List Handler) (row : Row) → IsFaultless (v.ground.now).bounds.now (v.ground.now).image.now (v.ground.now).plan.now v.key v.addr v.state.now
-    → IsPlainBy v → AreHandlers (v.ground.now).plan.now frames ((v.ground.now).plan.now).irqs handlers → AllKnownBy v frames → row.node ≡ number_in frames v.key
-    → row.held ≡ length (v.state.now).locals.items → row.into.items ≡ nodes_taken v.state.now handlers → IsRowBy v frames row
-unfolding plain_found
-plain_row_is v frames handlers row faultless plain_at taken all node held into =
-    let g = v.ground.now in
-    let stands = plain_stands g v.key v.addr v.state.now faultless plain_at in
-    let f = plain_found g.image.now g.plan.now v.addr plain_at in
-    let own = entered_plain g.bounds.now g.image.now g.plan.now v.key v.addr v.state.now faultless plain_at in
-    record {
-      found = f;
-      stands = stands;
-      node = node;
-      held = held;
-      into =
-          into
-          ∙ nodes_taken-is g.plan.now frames v.key v.state.now handlers taken (λ k i. all.entered f stands k (subst (λ (l : List Key). Contains l k) (sym own) i))
-          ∙ sym (ap (λ (l : List Key). map (number_in frames) l) own);
-    }
+-- outlines that are told to be one are one
+flags : (a b : Bool) → beq a b ≡ true → a ≡ b
+flags true true e = refl
+flags false false e = refl
+flags true false e = cc
+flags false true e = cc
+
+pub outline_tells : (a b : Outline) → (beq a.ie b.ie && (nat_eq a.ccpn b.ccpn && nat_eq a.held b.held)) ≡ true → a ≡ b
+outline_tells a b e =
+    let h = and_parts _ _ e in
+    let t = and_parts _ _ h.1 in
+    let ie = flags a.ie b.ie h.0 in
+    let ccpn = eqb-true a.ccpn b.ccpn t.0 in
+    let held = eqb-true a.held b.held t.1 in
+    λ i. record { ie = ie i; ccpn = ccpn i; held = held i }

@@ -1,5 +1,5 @@
 -- The first point that recurs, by the code's table.
-use Rattle.std.proofs.Common.{◌≡◌, inl, inr, ℕ, ◌+◌, ◌<◌, ◌≤◌, Bool, List, [], ◌∷◌, ◌++◌, length, get_or, Option, Some, None, IsSome, refl, sym, ap, ◌∙◌, subst, arith, Contains}
+use Rattle.std.proofs.Common.{◌≡◌, inl, inr, ℕ, ◌<◌, ◌≤◌, Bool, List, [], ◌∷◌, ◌++◌, length, get_or, Option, Some, None, IsSome, refl, sym, ap, ◌∙◌, subst, arith, Contains}
 use Rattle.std.specs.Prelude.{map, IsTrue, slice_index}
 use Rattle.std.proofs.lemmas.List.{length-map, get_or_default}
 use Rattle.std.proofs.lemmas.List.Elements.{Contains-push_cases}
@@ -23,7 +23,7 @@ use Rattle.depth_maker.specs.declared.rows.Source.{Source}
 use Rattle.frame_places.proofs.NumberLemmas.{number_at}
 use Rattle.depth_maker.proofs.PlaceRanges.{derived_in_range}
 use Rattle.depth_maker.proofs.RecursLaws.{row_enters, row_entered, owner, edges_between, recurs_ring, ring_recurs, marked_recurs, recurs_marked, point_first}
-use Rattle.depth_maker.proofs.RowSteps.{placed}
+use Rattle.depth_maker.proofs.PointEntries.{placed}
 
 -- ---- one point
 module _ (s : Source) (source : IsSource s) (marks : List Bool) (k : Key) (p : ℕ) where

@@ -1,6 +1,6 @@
 -- A rise, over plain tables.
-use Rattle.std.proofs.Common.{◌≡◌, ◌<◌, Bool, true, false, inl, inr, Option, Some, None, IsSome, refl, sym, ap, subst, ◌∙◌}
-use Rattle.std.specs.Prelude.{if◌then◌else◌, Err, is_some, map}
+use Rattle.std.proofs.Common.{◌≡◌, ◌<◌, ◌⊎◌, Bool, true, false, inl, inr, List, Option, Some, None, IsSome, refl, sym, ap, subst, ◌∙◌}
+use Rattle.std.specs.Prelude.{if◌then◌else◌, is_some, map}
 use Rattle.indexmap.specs.IndexMap.{IndexMap, get}
 use Rattle.std.specs.declared.vec.Vec.{Vec}
 use Rattle.std.specs.declared.alloc.Global.{Global}
@@ -8,18 +8,18 @@ use Rattle.elf_image.specs.Images.{ImageData}
 use Rattle.tcd_plan.specs.PlanData.{PlanData}
 use Rattle.value_domain.specs.Limits.{Limits}
 use Rattle.cfg_recover.specs.Assignments.{Place, same_place, CoversAt, Asks, raised, Joins}
-use Rattle.depth_cert.specs.Known.{Known, CoversKnown, priority_of}
-use Rattle.cfg_recover.specs.Refusals.{HasFault, derived}
+use Rattle.depth_cert.specs.declared.keys.Key.{Key}
+use Rattle.depth_cert.specs.Known.{Known, priority_of, joined_known}
+use Rattle.cfg_recover.specs.Refusals.{derived}
 use Rattle.depth_maker.specs.Proper.{AreLawful}
-use Rattle.depth_maker.specs.Tables.{Table, IsTable, Marks}
+use Rattle.depth_maker.specs.Tables.{IsTable, Marks}
 use Rattle.depth_maker.proofs.TableLaws.{table_rises, settled_stays, joined_covers, derived_proper}
 use Rattle.depth_maker.proofs.PlaceKinds.{unjoined_fault}
 use Rattle.frame_places.specs.declared.places.Spot.{Spot}
 use Rattle.frame_places.specs.declared.places.Mark.{Mark}
 use Rattle.frame_places.specs.declared.places.Spot.TheVariants.{Point}
 use Rattle.frame_places.specs.declared.places.Mark.TheVariants.{Idle, Plain, Queued, Open}
-use Rattle.frame_places.specs.declared.refusals.Refusal.{Refusal}
-use Rattle.frame_places.specs.declared.refusals.Refusal.TheVariants.{Fault, NoMemory}
+use Rattle.frame_places.specs.declared.refusals.Refusal.TheVariants.{Fault}
 use Rattle.depth_maker.specs.declared.table.Table as made
 use Rattle.frame_places.specs.Spots.{spot_eq}
 use Rattle.depth_maker.specs.Spots.{spot_of, place_of}
@@ -32,10 +32,9 @@ use Rattle.depth_maker.specs.Levels.{rank_at}
 use Rattle.depth_maker.proofs.HearingLaws.{heard_stays}
 use Rattle.frame_places.proofs.SpotLemmas.{spot_tells}
 use Rattle.depth_maker.proofs.SpotLemmas.{forth, agrees}
-use Rattle.frame_places.specs.Marks.{AllListed, is_idle, is_queued, Reads, Woken}
+use Rattle.frame_places.specs.Marks.{AllListed, is_idle, is_queued, mark_for, value_for, AreKnown, Reads, Tells}
 use Rattle.depth_maker.specs.Counts.{AreFew}
-use Rattle.depth_maker.specs.View.{IsCountedIn, seen, IsFine, Keeps, Joined, Merges, Answered, CellsProper}
-use Rattle.frame_places.specs.Counting.{points_after, frames_after}
+use Rattle.depth_maker.specs.View.{IsCountedIn, seen, IsFine, Keeps, Joined, Raised, Answered, AreExitsRead, CellsProper}
 use Rattle.frame_places.proofs.MarkLemmas.{sides}
 
 pub idle_not_queued : (o : Option Mark) → is_idle o ≡ true → is_queued o ≡ false
@@ -46,18 +45,37 @@ idle_not_queued (Some Queued) e = cc
 idle_not_queued (Some Open) e = refl
 
 -- ---- the cells of a table
-pub cells_proper : (b : Limits) (image : ImageData) (plan : PlanData) (laws : AreLawful b image plan) (t : made.Table) → IsFine b image plan t → CellsProper b t.cells
+pub cells_proper : (b : Limits) (image : ImageData) (plan : PlanData) (laws : AreLawful b image plan) (t : made.Table) → IsFine b image plan t → CellsProper b t.places
 unfolding seen
 cells_proper b image plan laws t fine q v at =
-    derived_proper b image plan laws (seen t).cells (fine.table).derived (place_of q) v (ap (get spot_eq t.cells) (forth q) ∙ at)
+    derived_proper b image plan laws (seen t).cells (fine.table).derived (place_of q) v (ap (value_for t.places) (forth q) ∙ at)
 
-module _ (b : Limits) (image : ImageData) (plan : PlanData) (laws : AreLawful b image plan) (s t : made.Table) (y : Spot) (v u : Known)
-    (asks : Asks b image plan (seen s).cells (place_of y) v) (raises : raised b (get spot_eq s.cells y) v ≡ Some u)
-    (after : (q : Spot) → get spot_eq t.cells q ≡ (if spot_eq y q then Some u else get spot_eq s.cells q))
-    (readers : t.readers ≡ s.readers) (heard : t.heard ≡ s.heard) (points : t.points.items ≡ points_after (is_some (get spot_eq s.cells y)) s.points.items y)
-    (frames : t.frames.items ≡ frames_after (is_some (get spot_eq s.cells y)) s.frames.items y)
-    (few : AreFew (map place_of t.points.items) t.frames.items) (woken : Woken s.marks t.marks s.readers y) (listed : AllListed t.marks t.work.items) (fine : IsFine b image plan s)
-    (new : (w : Known) → get spot_eq s.cells y ≡ Some w → CoversKnown w v → ⊥) (small : priority_of v < 256) where
+-- v was joined at y alone, and then those that read y were told
+module _ (b : Limits) (image : ImageData) (plan : PlanData) (laws : AreLawful b image plan) (s m t : made.Table) (y : Spot) (v : Known)
+    (asks : Asks b image plan (seen s).cells (place_of y) v) (rose : Raised b s m y v) (tells : Tells m.places t.places (Reads (get spot_eq s.readers y)))
+    (listed : AllListed t.places t.work.items) (near : t.near ≡ m.near) (readers : t.readers ≡ m.readers) (heard : t.heard ≡ m.heard) (points : t.points.items ≡ m.points.items)
+    (frames : t.frames.items ≡ m.frames.items) (fine : IsFine b image plan s) (small : priority_of v < 256) where
+  abbrev u : Known
+  u = rose.known
+
+  -- as after one step
+  after : (q : Spot) → value_for t.places q ≡ (if spot_eq y q then Some u else value_for s.places q)
+  after q = tells.values q ∙ (rose.puts).values q
+
+  readers_stay : t.readers ≡ s.readers
+  readers_stay = readers ∙ rose.readers
+
+  marks_by : (q : Spot) → ((mark_for t.places q ≡ Some Queued) × ((spot_eq y q ≡ true) ⊎ Reads (get spot_eq s.readers y) q))
+      ⊎ ((mark_for t.places q ≡ mark_for s.places q) × (spot_eq y q ≡ false) × (Reads (get spot_eq s.readers y) q → ⊥))
+  marks_by q =
+      elim (tells.marks q) [
+        | inl l ↦ inl (l.0, inr l.1)
+        | inr r ↦ elim (sides (spot_eq y q) (Some Queued) (mark_for s.places q) (mark_for m.places q) ((rose.puts).marks q)) [
+          | inl l ↦ inl (r.0 ∙ l.1, inl l.0)
+          | inr n ↦ inr (r.0 ∙ n.1, n.0, r.1)
+        ]
+      ]
+
   -- the map's test at a place
   test : (q : Place) → spot_eq y (spot_of q) ≡ same_place q (place_of y)
   test q = ap (λ (z : Spot). spot_eq z (spot_of q)) (sym (forth y)) ∙ agrees q (place_of y)
@@ -68,70 +86,75 @@ module _ (b : Limits) (image : ImageData) (plan : PlanData) (laws : AreLawful b 
     value = v;
     asks = asks;
     known = u;
-    raises = ap (λ (z : Spot). raised b (get spot_eq s.cells z) v) (forth y) ∙ raises;
-    is = λ q. after (spot_of q) ∙ ap (λ x. if x then Some u else get spot_eq s.cells (spot_of q)) (test q);
+    raises = ap (λ (z : Spot). raised b (value_for s.places z) v) (forth y) ∙ rose.raises;
+    is = λ q. after (spot_of q) ∙ ap (λ x. if x then Some u else value_for s.places (spot_of q)) (test q);
   }
 
   the_marks : Marks (seen s) (seen t) (place_of y)
   unfolding seen
   the_marks = record {
     each = λ q.
-        elim (woken.each (spot_of q)) [
+        elim (marks_by (spot_of q)) [
           | inl l ↦ inl (ap is_queued l.0, ap is_idle l.0)
           | inr r ↦ inr (ap is_idle r.0, ap is_queued r.0, sym (test q) ∙ r.1, (λ h. r.2 (subst (λ (z : Spot). Reads (get spot_eq s.readers z) (spot_of q)) (forth y) h)))
         ];
-    reads = λ z x h. subst (λ m. Reads (get spot_eq m (spot_of z)) (spot_of x)) (sym readers) h;
+    reads = λ z x h. subst (λ m. Reads (get spot_eq m (spot_of z)) (spot_of x)) (sym readers_stay) h;
   }
 
-  not_same : (q : Spot) → spot_eq y q ≡ false → get spot_eq t.cells q ≡ get spot_eq s.cells q
-  not_same q e = after q ∙ ap (λ x. if x then Some u else get spot_eq s.cells q) e
+  not_same : (q : Spot) → spot_eq y q ≡ false → value_for t.places q ≡ value_for s.places q
+  not_same q e = after q ∙ ap (λ x. if x then Some u else value_for s.places q) e
 
-  the_marked : (q : Spot) (w : Known) → get spot_eq t.cells q ≡ Some w → IsSome (get spot_eq t.marks q)
-  the_marked q w at =
-      elim (woken.each q) [
-        | inl l ↦ subst (λ (o : Option Mark). IsSome o) (sym l.0) refl
-        | inr r ↦ subst (λ (o : Option Mark). IsSome o) (sym r.0) (fine.marked q w (sym (not_same q r.1) ∙ at))
+  known_stays : (q : Spot) → IsSome (value_for s.places q) → IsSome (value_for t.places q)
+  known_stays q h =
+      elim (sides (spot_eq y q) (Some u) (value_for s.places q) (value_for t.places q) (after q)) [
+        | inl l ↦ subst (λ (o : Option Known). IsSome o) (sym l.1) refl
+        | inr r ↦ subst (λ (o : Option Known). IsSome o) (sym r.1) h
       ]
 
   the_table : IsTable b image plan (seen t)
   unfolding seen
-  the_table = table_rises b image plan laws (seen s) (seen t) (place_of y) fine.table the_joining the_marks (λ x e. idle_not_queued (get spot_eq t.marks (spot_of x)) e)
+  the_table = table_rises b image plan laws (seen s) (seen t) (place_of y) fine.table the_joining the_marks (λ x e. idle_not_queued (mark_for t.places (spot_of x)) e)
 
-  read_case : (z x : Spot) → Reads (get spot_eq s.readers z) x → (Reads (get spot_eq s.readers y) x → ⊥) → (e : Bool) → spot_eq y z ≡ e → get spot_eq t.cells z ≡ get spot_eq s.cells z
+  read_case : (z x : Spot) → Reads (get spot_eq s.readers z) x → (Reads (get spot_eq s.readers y) x → ⊥) → (e : Bool) → spot_eq y z ≡ e → value_for t.places z ≡ value_for s.places z
   read_case z x h none true e = absurd (none (subst (λ (k : Spot). Reads (get spot_eq s.readers k) x) (sym (spot_tells y z e)) h))
   read_case z x h none false e = not_same z e
 
-  the_counted : IsCountedIn t.cells t.points.items t.frames.items
-  unfolding seen the_joining
-  the_counted = counted_after b image plan s.cells t.cells s.points.items t.points.items s.frames.items t.frames.items y the_joining points frames few fine.counted
+  few : AreFew (map place_of t.points.items) t.frames.items
+  few = subst (λ (l : List Spot). AreFew (map place_of l) t.frames.items) (sym points) (subst (λ (l : List Key). AreFew (map place_of m.points.items) l) (sym frames) rose.few)
 
-  higher : rank_at (get spot_eq s.cells y) < rank_at (Some u)
+  the_counted : IsCountedIn t.places t.points.items t.frames.items
+  unfolding seen the_joining
+  the_counted = counted_after b image plan s.places t.places s.points.items t.points.items s.frames.items t.frames.items y the_joining (points ∙ rose.points) (frames ∙ rose.frames) few fine.counted
+
+  higher : rank_at (value_for s.places y) < rank_at (Some u)
   higher =
-      rank_rises b image plan laws (get spot_eq s.cells y) v u (cells_proper b image plan laws s fine y)
-      (asks_proper b image plan laws (seen s).cells (place_of y) v (derived_proper b image plan laws (seen s).cells (fine.table).derived) asks) raises new small
+      rank_rises b image plan laws (value_for s.places y) v u (cells_proper b image plan laws s fine y)
+      (asks_proper b image plan laws (seen s).cells (place_of y) v (derived_proper b image plan laws (seen s).cells (fine.table).derived) asks) rose.raises rose.new small
 
   the_keeping : Keeps b image plan s t
   unfolding seen
   the_keeping = record {
     each = λ x free.
-        elim (woken.each x) [
+        elim (marks_by x) [
           | inl l ↦ (let no : true ≡ false = sym (ap is_queued l.0) ∙ free in cc)
           | inr r ↦ (r.0, not_same x r.1)
         ];
-    readers = λ z x h. subst (λ m. Reads (get spot_eq m z) x) (sym readers) h;
+    readers = λ z x h. subst (λ m. Reads (get spot_eq m z) x) (sym readers_stay) h;
     read = λ z x h free.
-        elim (woken.each x) [
+        elim (marks_by x) [
           | inl l ↦ (let no : true ≡ false = sym (ap is_queued l.0) ∙ free in cc)
           | inr r ↦ read_case z x h r.2 (spot_eq y z) refl
         ];
     settled = λ k p w d free ps pd h. settled_stays b image plan laws (seen s) (seen t) (place_of y) fine.table the_joining the_marks k p w d free ps pd h;
-    rises = inl (level_rises s t y u (is_some (get spot_eq s.cells y)) after points frames the_counted higher);
+    rises = inl (level_rises s t y u (is_some (value_for s.places y)) after (points ∙ rose.points) (frames ∙ rose.frames) the_counted higher);
+    near = near ∙ rose.near;
+    numbers = λ n q h. tells.numbers n q ((rose.puts).numbers n q h);
   }
 
   the_heard : HeardEntered b plan (seen t).cells t.heard
   the_heard =
       heard_stays b image plan laws (seen s).cells (seen t).cells (place_of y) (derived_proper b image plan laws (seen s).cells (fine.table).derived) the_joining t.heard
-      (subst (HeardEntered b plan (seen s).cells) (sym heard) fine.heard)
+      (subst (HeardEntered b plan (seen s).cells) (sym (heard ∙ rose.heard)) fine.heard)
 
   pub the_joined : Joined b image plan s t y v
   unfolding seen the_joining
@@ -139,12 +162,12 @@ module _ (b : Limits) (image : ImageData) (plan : PlanData) (laws : AreLawful b 
     fine = record {
       table = the_table;
       listed = listed;
-      marked = the_marked;
       counted = the_counted;
       heard = the_heard;
-      exits = λ k p q h. fine.exits k p q (subst (λ m. Reads (get spot_eq m (Point k p)) q) readers h);
+      exits = λ k p q h. fine.exits k p q (subst (λ m. Reads (get spot_eq m (Point k p)) q) readers_stay h);
+      readers = λ z q h. known_stays q (fine.readers z q (subst (λ (r : IndexMap Spot (Vec Spot Global) _). Reads (get spot_eq r z) q) readers_stay h));
       plain = λ q at.
-          elim (woken.each q) [
+          elim (marks_by q) [
             | inl l ↦ (let no : Some Queued ≡ Some Plain = sym l.0 ∙ at in cc)
             | inr r ↦ fine.plain q (sym r.0 ∙ at)
           ];
@@ -153,30 +176,31 @@ module _ (b : Limits) (image : ImageData) (plan : PlanData) (laws : AreLawful b 
     keeps = the_keeping;
   }
 
--- it is told of alone, where nothing reads it
-pub woken_alone : {S R : Type 0} (a b : IndexMap Spot Mark S) (readers : IndexMap Spot (Vec Spot Global) R) (y : Spot) → ((q : Spot) → get spot_eq b q ≡ (if spot_eq y q then Some Queued else get spot_eq a q))
-    → ((q : Spot) → Reads (get spot_eq readers y) q → ⊥) → Woken a b readers y
-woken_alone a b readers y is none = record {
-  each = λ q.
-      elim (sides (spot_eq y q) (Some Queued) (get spot_eq a q) (get spot_eq b q) (is q)) [
-        | inl l ↦ inl (l.1, inl l.0)
-        | inr r ↦ inr (r.1, r.0, (λ h. none q h))
-      ];
-}
+-- who reads y is known still, and only exits are read
+pub told_known : (b : Limits) (image : ImageData) (plan : PlanData) (s m : made.Table) (y : Spot) (v : Known) → IsFine b image plan s → Raised b s m y v → AreKnown m.places (Reads (get spot_eq m.readers y))
+told_known b image plan s m y v fine rose q h =
+    let before : IsSome (value_for s.places q) = fine.readers y q (subst (λ r. Reads (get spot_eq r y) q) rose.readers h) in
+    elim (sides (spot_eq y q) (Some rose.known) (value_for s.places q) (value_for m.places q) ((rose.puts).values q)) [
+      | inl l ↦ subst (λ (o : Option Known). IsSome o) (sym l.1) refl
+      | inr r ↦ subst (λ (o : Option Known). IsSome o) (sym r.1) before
+    ]
+
+pub exits_after : (b : Limits) (image : ImageData) (plan : PlanData) (s m : made.Table) (y : Spot) (v : Known) → IsFine b image plan s → Raised b s m y v → AreExitsRead m.readers
+exits_after b image plan s m y v fine rose k p q h = fine.exits k p q (subst (λ r. Reads (get spot_eq r (Point k p)) q) rose.readers h)
 
 -- nothing was to be done
-pub stays_joined : (b : Limits) (image : ImageData) (plan : PlanData) (s : made.Table) (y : Spot) (v : Known) → IsFine b image plan s → CoversAt (λ q. get spot_eq s.cells (spot_of q)) (place_of y) v → Joined b image plan s s y v
+pub stays_joined : (b : Limits) (image : ImageData) (plan : PlanData) (s : made.Table) (y : Spot) (v : Known) → IsFine b image plan s → CoversAt (λ q. value_for s.places (spot_of q)) (place_of y) v → Joined b image plan s s y v
 unfolding seen
 stays_joined b image plan s y v fine covers = record {
   fine = fine;
   covers = covers;
-  keeps = record { each = λ x free. (refl, refl); readers = λ z x h. h; read = λ z x h free. refl; settled = λ k p w d free ps pd h. h; rises = inr (refl, refl) };
+  keeps = record { each = λ x free. (refl, refl); readers = λ z x h. h; read = λ z x h free. refl; settled = λ k p w d free ps pd h. h; rises = inr (refl, refl); near = refl; numbers = λ n q h. h };
 }
 
-pub the_answer : (b : Limits) (image : ImageData) (plan : PlanData) (s : made.Table) (y : Spot) (v : Known) (e : Refusal) → IsFine b image plan s → Asks b image plan (seen s).cells (place_of y) v → Merges b s.cells y v (Err e)
-    → Answered b image plan e
+-- what can't be joined is a fault
+pub the_answer : (b : Limits) (image : ImageData) (plan : PlanData) (s : made.Table) (y : Spot) (w v : Known) → IsFine b image plan s → Asks b image plan (seen s).cells (place_of y) v → value_for s.places y ≡ Some w
+    → joined_known b w v ≡ None → Answered b image plan (Fault 8 y)
 unfolding seen
-the_answer b image plan s y v (Fault rule x) fine asks h =
-    let f = unjoined_fault b image plan (seen s).cells (fine.table).derived (place_of y) v h.2.0 asks (ap (get spot_eq s.cells) (forth y) ∙ h.2.1) h.2.2 in
-    (f.0, f.1, ap place_of h.1 ∙ f.2, derived (seen s).cells rule f.0 f.1 (fine.table).derived (subst (λ n. HasFault b image plan (seen s).cells n f.0 f.1) (sym h.0) f.3))
-the_answer b image plan s y v NoMemory fine asks h = tt
+the_answer b image plan s y w v fine asks at none =
+    let f = unjoined_fault b image plan (seen s).cells (fine.table).derived (place_of y) v w asks (ap (value_for s.places) (forth y) ∙ at) none in
+    (f.0, f.1, f.2, derived (seen s).cells 8 f.0 f.1 (fine.table).derived f.3)

@@ -1,21 +1,33 @@
 -- Rows of points, one after another.
-use Rattle.std.proofs.Common.{◌≡◌, inl, inr, ℕ, zero, suc, ◌+◌, ◌<◌, ◌≤◌, List, [], ◌∷◌, ◌++◌, length, get_or, take, Option, Some, None, IsSome, refl, sym, ap, ◌∙◌, subst, arith, Contains}
+use Rattle.std.proofs.Common.{◌≡◌, ◌⊎◌, inl, inr, ℕ, zero, suc, ◌+◌, ◌<◌, ◌≤◌, List, [], ◌∷◌, ◌++◌, length, take, set, replicate, Option, Some, None, IsSome, refl, sym, ap, ◌∙◌, subst, arith, Contains, IsPermutation, slice_get}
 use Rattle.std.specs.Prelude.{map}
-use Rattle.std.proofs.lemmas.List.{take_all, take_more}
+use Rattle.std.specs.Option.{option_map}
+use Rattle.std.specs.declared.alloc.Global.{Global}
+use Rattle.std.specs.declared.vec.Vec.{Vec}
+use Rattle.std.proofs.lemmas.Bool.{cases_eq}
+use Rattle.std.proofs.lemmas.List.{get_or-set_other, get_or-set_same, length-set, take_all, take_more}
 use Rattle.std.proofs.lemmas.List.Elements.{Contains-append_left, Contains-push, Contains-push_cases}
-use Rattle.indexmap.specs.IndexMap.{get}
+use Rattle.std.proofs.lemmas.List.Sorted.{Contains-permutation, IsPermutation-sym}
+use Rattle.std.proofs.lemmas.Option.{get_or_from_slice_get, slice_get-get_or, slice_get-map, slice_get_within}
+use Rattle.indexmap.specs.IndexMap.{IndexMap, get, keys}
+use Rattle.small_states.specs.Kept.{IsStateAt}
+use Rattle.small_states.specs.declared.cells.Outline.{Outline}
+use Rattle.frame_places.specs.Marks.{value_for}
+use Rattle.frame_places.specs.Numbers.{AreNumbers, number_in}
+use Rattle.frame_places.specs.declared.places.Marked.{Marked}
 use Rattle.value_domain.specs.declared.states.State.{State}
 use Rattle.depth_cert.specs.declared.keys.Key.{Key}
 use Rattle.cfg_recover.specs.Assignments.{point, exit}
 use Rattle.depth_cert.specs.Known.{Known, state, leaving, IsProperKnown}
 use Rattle.depth_maker.specs.RowsAt.{IsRowAt}
-use Rattle.depth_maker.specs.RowsBy.{AddsRow, AllKnownBy, HasSame, IsSource, RowsOn, RowsSoFar}
+use Rattle.depth_maker.specs.RowsBy.{AddsPoint, AllKnownBy, AreSaid, IsDraft, IsKnownPoint, IsPlainRow, IsPointRow, IsSource, RowsOn}
 use Rattle.depth_maker.specs.View.{seen, IsDone}
 use Rattle.frame_places.specs.Spots.{spot_eq}
 use Rattle.depth_maker.specs.Spots.{place_of}
 use Rattle.depth_maker.proofs.Lawful.{lawful}
 use Rattle.depth_maker.proofs.PlaceKinds.{IsOfKind, derived_kinds}
 use Rattle.depth_maker.proofs.PlaceLaws.{one_state}
+use Rattle.depth_maker.proofs.PointEntries.{has_entry}
 use Rattle.depth_maker.proofs.RowLaws.{known_frame, enters_of, entered_frame}
 use Rattle.depth_maker.proofs.TableLaws.{derived_proper}
 use Rattle.depth_maker.specs.declared.ground.Ground.{Ground}
@@ -23,21 +35,30 @@ use Rattle.depth_maker.specs.declared.ground.Visit.{Visit}
 use Rattle.frame_places.specs.declared.places.Spot.{Spot}
 use Rattle.frame_places.specs.declared.places.Spot.TheVariants.{Point, Exit}
 use Rattle.call_needs.specs.declared.row.Row.{Row}
+use Rattle.depth_maker.specs.declared.rows.Draft.{Draft}
+use Rattle.depth_maker.specs.declared.rows.KnownPoint.{KnownPoint}
 use Rattle.depth_maker.specs.declared.rows.Source.{Source}
 use Rattle.depth_maker.specs.declared.table.Table as made
 
 -- what is known in a table without work is of the plan and the version, and at a point it is a state
-pub done_proper : (g : Ground) (t : made.Table) → IsDone g t → (q : Spot) (v : Known) → get spot_eq t.cells q ≡ Some v → IsProperKnown g.bounds.now v
+pub done_proper : (g : Ground) (t : made.Table) → IsDone g t → (q : Spot) (v : Known) → value_for t.places q ≡ Some v → IsProperKnown g.bounds.now v
 unfolding seen
 done_proper g t done (Point k p) v at = derived_proper _ _ _ (lawful _ _ _ g.sound) (seen t).cells done.derived (point k p) v at
 done_proper g t done (Exit k) v at = derived_proper _ _ _ (lawful _ _ _ g.sound) (seen t).cells done.derived (exit k) v at
 
-pub done_state : (g : Ground) (t : made.Table) → IsDone g t → (k : Key) (p : ℕ) (w : Known) → get spot_eq t.cells (Point k p) ≡ Some w → (u : State) × (w ≡ state u)
+pub done_state : (g : Ground) (t : made.Table) → IsDone g t → (k : Key) (p : ℕ) (w : Known) → value_for t.places (Point k p) ≡ Some w → (u : State) × (w ≡ state u)
 unfolding seen
 done_state g t done k p w at = of_kind w (derived_kinds _ _ _ (seen t).cells done.derived (point k p) w at) where
   of_kind : (v : Known) → IsOfKind (point k p) v → (u : State) × (v ≡ state u)
   of_kind (state s) h = (s, refl)
   of_kind (leaving x) h = absurd h
+
+-- a state that was read is what is known at the point
+pub read_there : (g : Ground) (t : made.Table) → IsDone g t → (k : Key) (p : ℕ) (w : Known) (u : State) → value_for t.places (Point k p) ≡ Some w → IsStateAt w u → value_for t.places (Point k p) ≡ Some (state u)
+read_there g t done k p w u at is =
+    let e = done_state g t done k p w at in
+    let same : u ≡ e.0 = subst (λ (v : Known). IsStateAt v u) e.1 is in
+    at ∙ ap (λ (v : Known). Some v) (e.1 ∙ ap state (sym same))
 
 -- the frames of a point, and those that it enters, are known
 pub all_known : (v : Visit) (t : made.Table) → IsDone v.ground.now t → (seen t).cells (point v.key v.addr) ≡ Some (state v.state.now) → AllKnownBy v t.frames.items
@@ -51,97 +72,122 @@ all_known v t done at =
           (enters_of _ _ _ (seen t).cells done.closed (map place_of t.points.items) t.frames.items c v.key v.addr v.state.now found k at stands i);
     }
 
--- ---- steps
-pub adds_none : (s : Source) (rows : List Row) (place : Spot) → ((k : Key) (p : ℕ) (u : State) → place ≡ Point k p → (seen s.table.now).cells (point k p) ≡ Some (state u) → ⊥) → AddsRow s rows rows place
-adds_none s rows place out = record { keeps = λ row c. c; sound = λ row c. inl c; complete = λ k p u e at. absurd (out k p u e at) }
+-- ---- one point
+-- what is known at a point of the table
+pub known_there : (s : Source) (at : KnownPoint) → IsKnownPoint s at → value_for (s.table.now).places (Point at.key at.addr) ≡ Some (at.known.now).value
+known_there s at is = ap (option_map (λ (m : Marked Known). m.value)) is.known
 
 -- one place has one state, so its row is one of that place by any of its names
-row_moves : (s : Source) (row : Row) (k : Key) (p : ℕ) (u : State) → (seen s.table.now).cells (point k p) ≡ Some (state u) → IsRowAt (s.ground.now).bounds.now (s.ground.now).image.now (s.ground.now).plan.now (s.table.now).frames.items k p u row
-    → (j : Key) (q : ℕ) (w : State) → Point k p ≡ Point j q → (seen s.table.now).cells (point j q) ≡ Some (state w) → IsRowAt (s.ground.now).bounds.now (s.ground.now).image.now (s.ground.now).plan.now (s.table.now).frames.items j q w row
-row_moves s row k p u at r j q w e there =
-    let key : k ≡ j = cc in
-    let addr : p ≡ q = cc in
-    let same : u ≡ w = one_state u w (let f : Some (state u) ≡ Some (state w) = sym at ∙ (λ i. (seen s.table.now).cells (point (key i) (addr i))) ∙ there in cc) in
-    subst (λ (z : State). IsRowAt (s.ground.now).bounds.now (s.ground.now).image.now (s.ground.now).plan.now (s.table.now).frames.items j q z row) same
-    (subst (λ (n : ℕ). IsRowAt (s.ground.now).bounds.now (s.ground.now).image.now (s.ground.now).plan.now (s.table.now).frames.items j n u row) addr
-    (subst (λ (z : Key). IsRowAt (s.ground.now).bounds.now (s.ground.now).image.now (s.ground.now).plan.now (s.table.now).frames.items z p u row) key r))
+pub row_of_state : (s : Source) (row : Row) (k : Key) (p : ℕ) (w : State) → IsPointRow s k p row → (seen s.table.now).cells (point k p) ≡ Some (state w)
+    → IsRowAt (s.ground.now).bounds.now (s.ground.now).image.now (s.ground.now).plan.now (s.table.now).frames.items k p w row
+row_of_state s row k p w r there =
+    let same : r.0 ≡ w = one_state r.0 w (let f : Some (state r.0) ≡ Some (state w) = sym r.1 ∙ there in cc) in
+    subst (λ (z : State). IsRowAt (s.ground.now).bounds.now (s.ground.now).image.now (s.ground.now).plan.now (s.table.now).frames.items k p z row) same r.2
 
-pub adds_one : (s : Source) (rows new : List Row) (row : Row) (k : Key) (p : ℕ) (u : State) → new ≡ rows ++ row ∷ [] → (seen s.table.now).cells (point k p) ≡ Some (state u)
-    → IsRowAt (s.ground.now).bounds.now (s.ground.now).image.now (s.ground.now).plan.now (s.table.now).frames.items k p u row → AddsRow s rows new (Point k p)
-adds_one s rows new row k p u is at r = record {
-  keeps = λ x c. subst (λ (l : List Row). Contains l x) (sym is) (Contains-append_left rows (row ∷ []) x c);
-  sound = λ x c.
-      elim (Contains-push_cases rows row x (subst (λ (l : List Row). Contains l x) is c)) [
-        | inl old ↦ inl old
-        | inr e ↦ inr (k, p, u, at, subst (λ (z : Row). IsRowAt (s.ground.now).bounds.now (s.ground.now).image.now (s.ground.now).plan.now (s.table.now).frames.items k p u z) e r)
-      ];
-  complete = λ j q w e there. (row, subst (λ (l : List Row). Contains l row) (sym is) (Contains-push rows row), row_moves s row k p u at r j q w e there);
+pub row_moves : (s : Source) (row : Row) (k j : Key) (p q : ℕ) → Point k p ≡ Point j q → IsPointRow s k p row → IsPointRow s j q row
+row_moves s row k j p q e r = let key : k ≡ j = cc in let addr : p ≡ q = cc in subst (λ (n : ℕ). IsPointRow s j n row) addr (subst (λ (z : Key). IsPointRow s z p row) key r)
+
+-- ---- one after another
+-- the place of an entry that was looked up
+pub index_there : {X S : Type 0} (m : IndexMap Spot X S) (i : ℕ) (q : Spot) (v : X) → Some (q, v) ≡ slice_get m.entries i → slice_get (keys m) i ≡ Some q
+index_there {X} m i q v at = slice_get-map (λ (e : Spot × X). e.0) m.entries i ∙ ap (option_map (λ (e : Spot × X). e.0)) (sym at)
+
+-- the number of a frame that was looked up
+pub number_there : (s : Source) → IsSource s → (k : Key) (p : ℕ) (m : Marked Known) (n : ℕ) → get spot_eq (s.table.now).places (Point k p) ≡ Some m
+    → ((frames : List Key) → AreNumbers s.numbers.now frames frames → Contains frames k → n ≡ number_in frames k) → n ≡ number_in (s.table.now).frames.items k
+unfolding seen
+number_there s source k p m n at is =
+    let done = source.done in
+    let t = s.table.now in
+    is t.frames.items source.numbers
+    (known_frame _ _ _ (seen t).cells done.closed (map place_of t.points.items) t.frames.items (done.counted).each (point k p) m.value (ap (option_map (λ (m : Marked Known). m.value)) at))
+
+no_outline : (n i : ℕ) (o : Outline) → slice_get (replicate n None) i ≡ Some (Some o) → ⊥
+no_outline zero i o e = let f : None ≡ Some (Some o) = e in cc
+no_outline (suc n) zero o e = let f : Some None ≡ Some (Some o) = e in cc
+no_outline (suc n) (suc i) o e = no_outline n i o e
+
+pub draft_none : (s : Source) (d : Draft) (n : ℕ) → d.rows.items ≡ [] → d.said.items ≡ replicate n None → IsDraft s 0 d
+draft_none s d n empty none = record {
+  sound = λ row c. absurd (let n = ap (λ (l : List Row). length l) empty in omega (arith, c.1, n));
+  complete = λ k p c. absurd (omega (arith, c.1));
+  said = λ node o e. absurd (no_outline n node o (ap (λ (l : List (Option Outline)). slice_get l node) (sym none) ∙ e));
 }
 
--- of a place that is known to be a point
-pub adds_unknown : (s : Source) (rows : List Row) (place : Spot) (k : Key) (p : ℕ) → place ≡ Point k p → (seen s.table.now).cells (point k p) ≡ None → AddsRow s rows rows place
-adds_unknown s rows place k p is none = adds_none s rows place (λ j q u e at. other j q u (sym is ∙ e) at) where
-  other : (j : Key) (q : ℕ) (u : State) → Point k p ≡ Point j q → (seen s.table.now).cells (point j q) ≡ Some (state u) → ⊥
-  other j q u e at =
-      let key : k ≡ j = cc in
-      let addr : p ≡ q = cc in
-      let f : None ≡ Some (state u) = sym none ∙ (λ i. (seen s.table.now).cells (point (key i) (addr i))) ∙ at in
-      cc
-
-pub adds_known : (s : Source) (rows new : List Row) (row : Row) (place : Spot) (k : Key) (p : ℕ) → place ≡ Point k p → new ≡ rows ++ row ∷ []
-    → ((u : State) × ((seen s.table.now).cells (point k p) ≡ Some (state u)) × IsRowAt (s.ground.now).bounds.now (s.ground.now).image.now (s.ground.now).plan.now (s.table.now).frames.items k p u row) → AddsRow s rows new place
-adds_known s rows new row place k p is more h = subst (AddsRow s rows new) (sym is) (adds_one s rows new row k p h.0 more h.1 h.2)
-
--- a row that stands there says it already
-pub adds_same : (s : Source) (rows : List Row) (row : Row) (place : Spot) (k : Key) (p : ℕ) → place ≡ Point k p → HasSame rows row
-    → ((u : State) × ((seen s.table.now).cells (point k p) ≡ Some (state u)) × IsRowAt (s.ground.now).bounds.now (s.ground.now).image.now (s.ground.now).plan.now (s.table.now).frames.items k p u row) → AddsRow s rows rows place
-adds_same s rows row place k p is h r =
-    let e = h.2 in
-    let at = r.2 in
-    let same : IsRowAt (s.ground.now).bounds.now (s.ground.now).image.now (s.ground.now).plan.now (s.table.now).frames.items k p r.0 h.0 = record {
-      found = at.found;
-      stands = at.stands;
-      node = e.node ∙ at.node;
-      held = e.held ∙ at.held;
-      into = e.into ∙ at.into;
-    } in
-    subst (AddsRow s rows rows) (sym is) (record { keeps = λ x c. c; sound = λ x c. inl c; complete = λ j q w f there. (h.0, h.1, row_moves s h.0 k p r.0 r.1 same j q w f there) })
-
-pub rows_none : (g : Ground) (t : made.Table) → RowsSoFar g t [] 0
-rows_none g t = record { sound = λ row c. absurd (omega (arith, c.1)); complete = λ k p u c at. absurd (omega (arith, c.1)) }
-
-pub rows_more : (s : Source) (old new : List Row) (qs : List Spot) (i : ℕ) (d : Spot) → qs ≡ (s.table.now).points.items → i < length qs → RowsSoFar s.ground.now s.table.now old i → AddsRow s old new (get_or qs i d)
-    → RowsSoFar s.ground.now s.table.now new (i + 1)
-rows_more s old new qs i d is lt so add = record {
-  sound = λ row c. elim (add.sound row c) [ inl before ↦ so.sound row before | inr now ↦ now ];
-  complete = λ k p u c at.
-      elim (Contains-push_cases (take i qs) (get_or qs i d) (Point k p)
-      (subst (λ (l : List Spot). Contains l (Point k p)) (ap (take (i + 1)) (sym is) ∙ take_more qs i d lt) c)) [
-        | inl before ↦ (let r = so.complete k p u (subst (λ (l : List Spot). Contains (take i l) (Point k p)) is before) at in (r.0, add.keeps r.0 r.1, r.2))
-        | inr e ↦ add.complete k p u e at
+-- one entry more
+pub draft_step : (s : Source) (i : ℕ) (q : Spot) (old new : Draft) → slice_get (keys (s.table.now).places) i ≡ Some q → IsDraft s i old → ((row : Row) → Contains old.rows.items row → Contains new.rows.items row)
+    → ((row : Row) → Contains new.rows.items row → Contains old.rows.items row ⊎ ((k : Key) × (p : ℕ) × IsPointRow s k p row))
+    → ((k : Key) (p : ℕ) → q ≡ Point k p → (row : Row) × Contains new.rows.items row × IsPointRow s k p row) → AreSaid s new.rows.items new.said.items → IsDraft s (i + 1) new
+draft_step s i q old new there so keeps only here said = record {
+  sound = λ row c. elim (only row c) [ inl before ↦ so.sound row before | inr now ↦ now ];
+  complete = λ k p c.
+      let ks = keys (s.table.now).places in
+      let lt = slice_get_within ks i q there in
+      elim (Contains-push_cases (take i ks) q (Point k p) (subst (λ (l : List Spot). Contains l (Point k p)) (take_more ks i q lt ∙ ap (λ (z : Spot). take i ks ++ z ∷ []) (get_or_from_slice_get ks i q q there)) c)) [
+        | inl before ↦ (let r = so.complete k p before in (r.0, keeps r.0 r.1, r.2))
+        | inr e ↦ here k p e
       ];
+  said = said;
 }
 
--- a point that is counted is in the list
-pub placed : (ps : List Spot) (k : Key) (p : ℕ) → Contains (map place_of ps) (point k p) → Contains ps (Point k p)
-placed [] k p c = absurd (omega (arith, c.1))
-placed (x ∷ xs) k p c = at (λ h. placed xs k p h) c.0 c.1 c.2 where
-  spot : (y : Spot) → place_of y ≡ point k p → y ≡ Point k p
-  spot (Point j q) e = let key : j ≡ k = cc in let addr : q ≡ p = cc in λ i. Point (key i) (addr i)
-  spot (Exit j) e = absurd (let no : exit j ≡ point k p = e in cc)
+-- of an exit, or of a point whose row is said, nothing is added
+pub draft_same : (s : Source) (i : ℕ) (q : Spot) (old new : Draft) → slice_get (keys (s.table.now).places) i ≡ Some q → IsDraft s i old → new.rows ≡ old.rows → new.said ≡ old.said
+    → ((k : Key) (p : ℕ) → q ≡ Point k p → (row : Row) × Contains old.rows.items row × IsPointRow s k p row) → IsDraft s (i + 1) new
+draft_same s i q old new there so rows said here =
+    draft_step s i q old new there so (λ row c. subst (λ (v : Vec Row Global). Contains v.items row) (sym rows) c) (λ row c. inl (subst (λ (v : Vec Row Global). Contains v.items row) rows c))
+    (λ k p e. let r = here k p e in (r.0, subst (λ (v : Vec Row Global). Contains v.items r.0) (sym rows) r.1, r.2))
+    (subst (λ (v : Vec (Option Outline) Global). AreSaid s new.rows.items v.items) (sym said) (subst (λ (v : Vec Row Global). AreSaid s v.items old.said.items) (sym rows) so.said))
 
-  at : (Contains (map place_of xs) (point k p) → Contains xs (Point k p)) → (i : ℕ) → i < length (map place_of (x ∷ xs)) → get_or (map place_of (x ∷ xs)) i (point k p) ≡ point k p → Contains (x ∷ xs) (Point k p)
-  at more zero lt e = (0, omega arith, spot x e)
-  at more (suc i) lt e = let r = more (i, omega arith, e) in (suc r.0, omega (arith, r.1), r.2)
+-- the row of a point is added
+pub draft_more : (s : Source) (i : ℕ) (q : Spot) (old mid new : Draft) (at : KnownPoint) → slice_get (keys (s.table.now).places) i ≡ Some q → IsDraft s i old → mid.rows ≡ old.rows → mid.said ≡ old.said
+    → q ≡ Point at.key at.addr → AddsPoint s mid new at → IsDraft s (i + 1) new
+draft_more s i q old mid new at there so rows said is add =
+    let row = add.0 in
+    let r = add.1 in
+    let more : new.rows.items ≡ old.rows.items ++ row ∷ [] = (add.2).rows ∙ ap (λ (v : Vec Row Global). v.items ++ row ∷ []) rows in
+    draft_step s i q old new there so (λ x c. subst (λ (l : List Row). Contains l x) (sym more) (Contains-append_left old.rows.items (row ∷ []) x c))
+    (λ x c. elim (Contains-push_cases old.rows.items row x (subst (λ (l : List Row). Contains l x) more c)) [
+      | inl before ↦ inl before
+      | inr e ↦ inr (at.key, at.addr, subst (IsPointRow s at.key at.addr) e r)
+    ])
+    (λ k p e. (row, subst (λ (l : List Row). Contains l row) (sym more) (Contains-push old.rows.items row), row_moves s row at.key k at.addr p (sym is ∙ e) r))
+    ((add.2).said (subst (λ (v : Vec (Option Outline) Global). AreSaid s mid.rows.items v.items) (sym said) (subst (λ (v : Vec Row Global). AreSaid s v.items old.said.items) (sym rows) so.said)))
+
+-- what was said is said still
+pub said_still : (s : Source) (rows : List Row) (row : Row) (said : List (Option Outline)) → AreSaid s rows said → AreSaid s (rows ++ row ∷ []) said
+said_still s rows row said so node o e = let r = so node o e in (r.0, Contains-append_left rows (row ∷ []) r.0 r.1, r.2)
+
+-- an outline more is said
+pub said_more : (s : Source) (rows : List Row) (row : Row) (said : List (Option Outline)) (node : ℕ) (o : Outline) → IsPlainRow s node o row → node < length said → AreSaid s rows said → AreSaid s (rows ++ row ∷ []) (set said node (Some o))
+said_more s rows row said node o plain lt so i x e =
+    elim (cases_eq i node) [
+      | inl same ↦
+          let at : slice_get (set said node (Some o)) node ≡ Some (Some o) = slice_get-get_or (set said node (Some o)) node None (omega (arith, lt, length-set said node (Some o))) ∙ ap (λ (z : Option Outline). Some z) (get_or-set_same said node (Some o) None lt) in
+          let is : o ≡ x = let f : Some (Some o) ≡ Some (Some x) = sym at ∙ ap (slice_get (set said node (Some o))) (sym same) ∙ e in cc in
+          (row, Contains-push rows row, subst (λ (n : ℕ). IsPlainRow s n x row) (sym same) (subst (λ (z : Outline). IsPlainRow s node z row) is plain))
+      | inr other ↦
+          let within : i < length said = omega (arith, slice_get_within (set said node (Some o)) i (Some x) e, length-set said node (Some o)) in
+          let before : slice_get said i ≡ Some (Some x) =
+          slice_get-get_or said i None within ∙ ap (λ (z : Option Outline). Some z) (sym (get_or-set_other said node i (Some o) None other))
+          ∙ sym (slice_get-get_or (set said node (Some o)) i None (omega (arith, within, length-set said node (Some o)))) ∙ e in
+          said_still s rows row said so i x before
+    ]
 
 -- all points have rows
-pub rows_done : (s : Source) (rows : List Row) (i : ℕ) → IsSource s → length (s.table.now).points.items ≤ i → RowsSoFar s.ground.now s.table.now rows i → RowsOn s.ground.now s.table.now rows
+pub rows_done : (s : Source) (d : Draft) (i : ℕ) → length (keys (s.table.now).places) ≤ i → IsDraft s i d → RowsOn s.ground.now s.table.now d.rows.items
 unfolding seen
-rows_done s rows i source le so = record {
-  sound = so.sound;
+rows_done s d i le so = record {
+  sound = λ row c. let r = so.sound row c in (r.0, r.1, (r.2).0, (r.2).1, (r.2).2);
   complete = λ k p u at.
-      so.complete k p u
-      (subst (λ (l : List Spot). Contains l (Point k p)) (sym (take_all i (s.table.now).points.items le))
-      (placed (s.table.now).points.items k p ((((source.done).counted).each).points k p (subst (λ (o : Option Known). IsSome o) (sym at) refl))))
-      at;
+      let ks = keys (s.table.now).places in
+      let c = has_entry (s.table.now).places (Point k p) (subst (λ (o : Option Known). IsSome o) (sym at) refl) in
+      let r = so.complete k p (subst (λ (l : List Spot). Contains l (Point k p)) (sym (take_all i ks le)) c) in
+      (r.0, r.1, row_of_state s r.0 k p u r.2 at);
+}
+
+-- the order of rows is of no account
+pub rows_again : (s : Source) (rows new : List Row) → IsPermutation rows new → RowsOn s.ground.now s.table.now rows → RowsOn s.ground.now s.table.now new
+rows_again s rows new same are = record {
+  sound = λ row c. are.sound row (Contains-permutation new rows row (IsPermutation-sym rows new same) c);
+  complete = λ k p u at. let r = are.complete k p u at in (r.0, Contains-permutation rows new r.0 same r.1, r.2);
 }

@@ -49,7 +49,7 @@ use Rattle.depth_maker.proofs.PlaceKinds.{IsOfKind, derived_kinds}
 use Rattle.frame_places.proofs.KeyLaws.{key_tells, key_same}
 use Rattle.depth_maker.proofs.PlaceLaws.{place_tells, place_same}
 use Rattle.depth_maker.proofs.PlaceRanges.{IsInRange, derived_in_range}
-use Rattle.depth_maker.proofs.RowSteps.{placed}
+use Rattle.depth_maker.proofs.PointEntries.{placed}
 use Rattle.depth_maker.proofs.Sizes.{decides}
 use Rattle.depth_maker.proofs.TableLaws.{derived_proper}
 
@@ -74,7 +74,7 @@ no_key : Key
 no_key = record { kind = 0; entry = 0; prio = 0; is = false }
 
 -- a point of the frame, by its address
-point_here : (k : Key) (q : Spot) → is_point_of k q ≡ true → q ≡ Point k (spot_address q)
+pub point_here : (k : Key) (q : Spot) → is_point_of k q ≡ true → q ≡ Point k (spot_address q)
 point_here k (Point j p) e = ap (λ (z : Key). Point z p) (key_tells j k e)
 point_here k (Exit j) e = cc
 

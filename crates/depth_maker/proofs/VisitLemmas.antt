@@ -1,9 +1,10 @@
 -- A visit, over plain tables.
-use Rattle.std.proofs.Common.{◌≡◌, ℕ, Bool, true, false, ◌⊎◌, inl, inr, List, [], ◌∷◌, Option, Some, None, IsSome, refl, sym, ap, subst, ◌∙◌, Contains}
+use Rattle.std.proofs.Common.{◌≡◌, ℕ, Bool, true, false, ◌⊎◌, inl, inr, List, [], ◌∷◌, Option, Some, None, IsSome, refl, sym, ap, subst, ◌∙◌, arith, length, Contains}
 use Rattle.std.specs.Prelude.{if◌then◌else◌}
 use Rattle.std.specs.Map.{lookup}
 use Rattle.indexmap.specs.IndexMap.{IndexMap, get}
-use Rattle.std.proofs.lemmas.List.Elements.{Contains-push}
+use Rattle.std.proofs.lemmas.List.Elements.{Contains-append_right}
+use Rattle.std.proofs.lemmas.Option.{same_Some}
 use Rattle.elf_image.specs.Images.{ImageData}
 use Rattle.tcd_plan.specs.PlanData.{PlanData}
 use Rattle.value_domain.specs.declared.states.State.{State}
@@ -11,11 +12,10 @@ use Rattle.value_domain.specs.Limits.{Limits}
 use Rattle.depth_cert.specs.declared.keys.Key.{Key}
 use Rattle.cfg_recover.specs.Entries.{start_key, start_state}
 use Rattle.cfg_recover.specs.Local.{IsFaultless}
-use Rattle.cfg_recover.specs.Assignments.{Place, point, exit, same_place, Derived, begins, Closed, first_place}
+use Rattle.cfg_recover.specs.Assignments.{Assignment, Place, point, exit, same_place, Derived, begins, Closed, first_place}
 use Rattle.depth_cert.specs.Known.{Known, state, leaving}
 use Rattle.depth_maker.specs.Hearing.{HeardEntered}
 use Rattle.depth_maker.specs.Proper.{AllFaultless, AreLawful}
-use Rattle.depth_maker.specs.Tables.{Table}
 use Rattle.depth_maker.proofs.TableLaws.{derived_proper, table_closed, table_marked, settled_again}
 use Rattle.depth_maker.proofs.PlaceKinds.{IsOfKind, derived_kinds}
 use Rattle.depth_maker.proofs.HearingLaws.{heard_again}
@@ -26,6 +26,9 @@ use Rattle.frame_places.specs.declared.places.Spot.{Spot}
 use Rattle.frame_places.specs.declared.places.Spot.TheVariants.{Point, Exit}
 use Rattle.depth_cert.specs.declared.points.Exit as exits
 use Rattle.frame_places.specs.declared.places.Mark.{Mark}
+use Rattle.frame_places.specs.declared.places.Marked.{Marked}
+use Rattle.frame_places.specs.Nearby.{StandsAt}
+use Rattle.std.specs.Option.{option_map}
 use Rattle.frame_places.specs.declared.places.Mark.TheVariants.{Idle, Plain, Queued, Open}
 use Rattle.std.specs.declared.vec.Vec.{Vec}
 use Rattle.std.specs.declared.alloc.Global.{Global}
@@ -35,27 +38,27 @@ use Rattle.frame_places.specs.Spots.{spot_eq}
 use Rattle.depth_maker.specs.Spots.{spot_of, place_of}
 use Rattle.depth_maker.proofs.SpotLemmas.{front_cases, back, forth, agrees}
 use Rattle.frame_places.proofs.SpotLemmas.{spot_tells, spot_refl}
-use Rattle.frame_places.specs.Marks.{idle_mark, is_idle, is_queued, settled_mark, Reads}
+use Rattle.frame_places.specs.Marks.{idle_mark, is_idle, is_queued, settled_mark, Reads, mark_for, value_for, AllListed, AreKnown, MarksAs}
 use Rattle.depth_maker.specs.View.{AreExitsRead, IsCountedIn, seen, IsFine, IsVisited, IsOpenAt, NoneOpen, AllSettled, Paid}
 use Rattle.frame_places.proofs.MarkLemmas.{sides}
 use Rattle.frame_places.proofs.NearbyLemmas.{queued_mark}
 use Rattle.depth_maker.proofs.CountedLemmas.{counted_again, counted_start}
 
 -- ---- one place gets a mark
-module _ (b : Limits) (image : ImageData) (plan : PlanData) (laws : AreLawful b image plan) (s t : made.Table) (x : Spot) (cells : t.cells ≡ s.cells) (readers : t.readers ≡ s.readers) (points : t.points.items ≡ s.points.items)
-    (frames : t.frames.items ≡ s.frames.items) (heard : t.heard ≡ s.heard) where
-  the_cells : (q : Spot) → get spot_eq t.cells q ≡ get spot_eq s.cells q
-  the_cells q = ap (λ m. get spot_eq m q) cells
+module _ (b : Limits) (image : ImageData) (plan : PlanData) (laws : AreLawful b image plan) (s t : made.Table) (x : Spot) (w : Mark) (marks_as : MarksAs s.places t.places x w) (readers : t.readers ≡ s.readers)
+    (points : t.points.items ≡ s.points.items) (frames : t.frames.items ≡ s.frames.items) (heard : t.heard ≡ s.heard) where
+  the_cells : (q : Spot) → value_for t.places q ≡ value_for s.places q
+  the_cells q = marks_as.values q
 
   the_derived : Derived b image plan (seen s).cells → Derived b image plan (seen t).cells
   unfolding seen
-  the_derived d = subst (λ m. Derived b image plan (λ q. get spot_eq m (spot_of q))) (sym cells) d
+  the_derived d = subst (λ (a : Assignment). Derived b image plan a) (λ i q. sym (the_cells (spot_of q)) i) d
 
   the_readers : (z q : Spot) → Reads (get spot_eq s.readers z) q → Reads (get spot_eq t.readers z) q
   the_readers z q h = subst (λ m. Reads (get spot_eq m z) q) (sym readers) h
 
-  the_counts : IsCountedIn s.cells s.points.items s.frames.items → IsCountedIn t.cells t.points.items t.frames.items
-  the_counts c = counted_again s.cells t.cells s.points.items t.points.items s.frames.items t.frames.items (λ q. the_cells (spot_of q)) points frames c
+  the_counts : IsCountedIn s.places s.points.items s.frames.items → IsCountedIn t.places t.points.items t.frames.items
+  the_counts c = counted_again s.places t.places s.points.items t.points.items s.frames.items t.frames.items (λ q. the_cells (spot_of q)) points frames c
 
   the_heard : HeardEntered b plan (seen s).cells s.heard → HeardEntered b plan (seen t).cells t.heard
   unfolding seen
@@ -64,62 +67,89 @@ module _ (b : Limits) (image : ImageData) (plan : PlanData) (laws : AreLawful b 
   the_exits : AreExitsRead s.readers → AreExitsRead t.readers
   the_exits h k p q reads = h k p q (subst (λ m. Reads (get spot_eq m (Point k p)) q) readers reads)
 
+  the_known : ((z : Spot) → AreKnown s.places (Reads (get spot_eq s.readers z))) → (z : Spot) → AreKnown t.places (Reads (get spot_eq t.readers z))
+  the_known h z q reads = subst (λ (o : Option Known). IsSome o) (sym (the_cells q)) (h z q (subst (λ m. Reads (get spot_eq m z) q) readers reads))
+
+  side : (q : Spot) → ((spot_eq x q ≡ true) × (mark_for t.places q ≡ Some w)) ⊎ ((spot_eq x q ≡ false) × (mark_for t.places q ≡ mark_for s.places q))
+  side q = sides (spot_eq x q) (Some w) (mark_for s.places q) (mark_for t.places q) (marks_as.marks q)
+
   -- a place taken off the list
-  pub opened : IsFine b image plan s → NoneOpen s → s.work.items ≡ x ∷ t.work.items → ((q : Spot) → get spot_eq t.marks q ≡ (if spot_eq x q then Some Open else get spot_eq s.marks q)) → IsFine b image plan t × IsOpenAt t x
+  pub opened : w ≡ Open → IsFine b image plan s → NoneOpen s → (work : List ℕ) → s.work.items ≡ t.near ∷ work → work ≡ t.work.items → StandsAt s.places t.near x → IsFine b image plan t × IsOpenAt t x
   unfolding seen
-  opened fine none work marks =
-      let side : (q : Spot) → ((spot_eq x q ≡ true) × (get spot_eq t.marks q ≡ Some Open)) ⊎ ((spot_eq x q ≡ false) × (get spot_eq t.marks q ≡ get spot_eq s.marks q)) =
-      λ q. sides (spot_eq x q) (Some Open) (get spot_eq s.marks q) (get spot_eq t.marks q) (marks q) in
-      let idle : (q : Place) → is_idle (get spot_eq t.marks (spot_of q)) ≡ true → is_idle (get spot_eq s.marks (spot_of q)) ≡ true =
-      λ q h. elim (side (spot_of q)) [
+  opened open_ fine none rest work same_work stands =
+      let here : (q : Spot) → ((spot_eq x q ≡ true) × (mark_for t.places q ≡ Some Open)) ⊎ ((spot_eq x q ≡ false) × (mark_for t.places q ≡ mark_for s.places q)) =
+      λ q. subst (λ (m : Mark). ((spot_eq x q ≡ true) × (mark_for t.places q ≡ Some m)) ⊎ ((spot_eq x q ≡ false) × (mark_for t.places q ≡ mark_for s.places q))) open_ (side q) in
+      let idle : (q : Place) → is_idle (mark_for t.places (spot_of q)) ≡ true → is_idle (mark_for s.places (spot_of q)) ≡ true =
+      λ q h. elim (here (spot_of q)) [
         | inl l ↦ (let no : true ≡ false = sym h ∙ ap is_idle l.1 in cc)
         | inr r ↦ sym (ap is_idle r.1) ∙ h
-      ] in (
+      ] in
+      let taken : s.work.items ≡ t.near ∷ t.work.items = work ∙ ap (λ (l : List ℕ). t.near ∷ l) same_work in (
         record {
           table = table_marked b image plan laws (seen s) (seen t) (λ q. the_cells (spot_of q)) (λ z q h. the_readers (spot_of z) (spot_of q) h) fine.table idle (the_derived (fine.table).derived);
           listed = record {
             listed = λ q at.
-                elim (side q) [
+                elim (here q) [
                   | inl l ↦ (let no : Some Queued ≡ Some Open = sym at ∙ l.1 in cc)
-                  | inr r ↦ elim (front_cases x t.work.items q (subst (λ (w : List Spot). Contains w q) work (fine.listed.listed q (sym r.1 ∙ at)))) [
-                    | inl e ↦ (let no : true ≡ false = sym (subst (λ (k : Spot). spot_eq x k ≡ true) e (spot_refl x)) ∙ r.0 in cc)
-                    | inr has ↦ has
-                  ]
+                  | inr r ↦ (let f = (fine.listed).listed q (sym r.1 ∙ at) in
+                      elim (front_cases t.near t.work.items f.0 (subst (λ (l : List ℕ). Contains l f.0) taken f.1)) [
+                        | inl e ↦
+                            (let one : x ≡ q = same_Some x q (sym stands ∙ subst (λ (n : ℕ). StandsAt s.places n q) (sym e) f.2) in
+                            let no : true ≡ false = sym (subst (λ (k : Spot). spot_eq x k ≡ true) one (spot_refl x)) ∙ r.0 in cc)
+                        | inr has ↦ (f.0, has, marks_as.numbers f.0 q f.2)
+                      ])
                 ];
+            known = λ n c.
+                (let f = (fine.listed).known n (subst (λ (l : List ℕ). Contains l n) (sym taken) (Contains-append_right (t.near ∷ []) t.work.items n c)) in (f.0, marks_as.numbers n f.0 f.1));
           };
-          marked = λ q w at.
-              elim (side q) [
-                | inl l ↦ subst (λ (o : Option Mark). IsSome o) (sym l.1) refl
-                | inr r ↦ subst (λ (o : Option Mark). IsSome o) (sym r.1) (fine.marked q w (sym (the_cells q) ∙ at))
-              ];
           counted = the_counts fine.counted;
           heard = the_heard fine.heard;
           exits = the_exits fine.exits;
+          readers = the_known fine.readers;
           plain = λ q at.
-              elim (side q) [
+              elim (here q) [
                 | inl l ↦ (let no : Some Open ≡ Some Plain = sym l.1 ∙ at in cc)
                 | inr r ↦ fine.plain q (sym r.1 ∙ at)
               ];
         },
         record {
-          at = marks x ∙ ap (λ e. if e then Some Open else get spot_eq s.marks x) (spot_refl x);
+          at = marks_as.marks x ∙ ap (λ e. if e then Some w else mark_for s.places x) (spot_refl x) ∙ ap (λ (m : Mark). Some m) open_;
           only = λ q at.
-              elim (side q) [
+              elim (here q) [
                 | inl l ↦ sym (spot_tells x q l.0)
                 | inr r ↦ absurd (none q (sym r.1 ∙ at))
               ];
+          stands = marks_as.numbers t.near x stands;
         },
       )
 
+  -- the same marks
+  pub again_fine : ((q : Spot) → mark_for t.places q ≡ mark_for s.places q) → t.work.items ≡ s.work.items → IsFine b image plan s → IsFine b image plan t
+  unfolding seen
+  again_fine marked work fine =
+      record {
+        table = table_marked b image plan laws (seen s) (seen t) (λ q. the_cells (spot_of q)) (λ z q h. the_readers (spot_of z) (spot_of q) h) fine.table
+            (λ q h. sym (ap is_idle (marked (spot_of q))) ∙ h) (the_derived (fine.table).derived);
+        listed = the_list marked work fine.listed;
+        counted = the_counts fine.counted;
+        heard = the_heard fine.heard;
+        exits = the_exits fine.exits;
+        readers = the_known fine.readers;
+        plain = λ q at. fine.plain q (sym (marked q) ∙ at);
+      }
+    where
+      the_list : ((q : Spot) → mark_for t.places q ≡ mark_for s.places q) → t.work.items ≡ s.work.items → AllListed s.places s.work.items → AllListed t.places t.work.items
+      the_list marked work h = record {
+        listed = λ q at. (let f = h.listed q (sym (marked q) ∙ at) in (f.0, subst (λ (l : List ℕ). Contains l f.0) (sym work) f.1, marks_as.numbers f.0 q f.2));
+        known = λ n c. (let f = h.known n (subst (λ (l : List ℕ). Contains l n) work c) in (f.0, marks_as.numbers n f.0 f.1));
+      }
+
   -- the end of a visit: the point is idle now, where all that it owes is settled
-  pub finished : (w : Mark) → is_idle (Some w) ≡ true → (Some w ≡ Some Plain → IsPlainIn image plan x) → IsFine b image plan s → IsOpenAt s x → t.work.items ≡ s.work.items
-      → ((q : Spot) → get spot_eq t.marks q ≡ (if spot_eq x q then Some w else get spot_eq s.marks q))
+  pub finished : is_idle (Some w) ≡ true → (Some w ≡ Some Plain → IsPlainIn image plan x) → IsFine b image plan s → IsOpenAt s x → t.work.items ≡ s.work.items
       → ((k : Key) (p : ℕ) (u : State) → place_of x ≡ point k p → (seen s).cells (point k p) ≡ Some (state u) → IsFaultless b image plan k p u × AllSettled b image plan s k p u) → IsFine b image plan t × NoneOpen t
   unfolding seen
-  finished w idles told fine opening work marks paid =
-      let side : (q : Spot) → ((spot_eq x q ≡ true) × (get spot_eq t.marks q ≡ Some w)) ⊎ ((spot_eq x q ≡ false) × (get spot_eq t.marks q ≡ get spot_eq s.marks q)) =
-      λ q. sides (spot_eq x q) (Some w) (get spot_eq s.marks q) (get spot_eq t.marks q) (marks q) in
-      let idle : (q : Place) → is_idle (get spot_eq t.marks (spot_of q)) ≡ true → (is_idle (get spot_eq s.marks (spot_of q)) ≡ true) ⊎ (place_of x ≡ q) =
+  finished idles told fine opening work paid =
+      let idle : (q : Place) → is_idle (mark_for t.places (spot_of q)) ≡ true → (is_idle (mark_for s.places (spot_of q)) ≡ true) ⊎ (place_of x ≡ q) =
       λ q h. elim (side (spot_of q)) [
         | inl l ↦ inr (ap place_of (spot_tells x (spot_of q) l.0) ∙ back q)
         | inr r ↦ inl (sym (ap is_idle r.1) ∙ h)
@@ -143,17 +173,14 @@ module _ (b : Limits) (image : ImageData) (plan : PlanData) (laws : AreLawful b 
             listed = λ q at.
                 elim (side q) [
                   | inl l ↦ (let no : false ≡ true = ap is_idle (sym at ∙ l.1) ∙ idles in cc)
-                  | inr r ↦ subst (λ (w : List Spot). Contains w q) (sym work) (fine.listed.listed q (sym r.1 ∙ at))
+                  | inr r ↦ (let f = (fine.listed).listed q (sym r.1 ∙ at) in (f.0, subst (λ (l : List ℕ). Contains l f.0) (sym work) f.1, marks_as.numbers f.0 q f.2))
                 ];
+            known = λ n c. (let f = (fine.listed).known n (subst (λ (l : List ℕ). Contains l n) work c) in (f.0, marks_as.numbers n f.0 f.1));
           };
-          marked = λ q v at.
-              elim (side q) [
-                | inl l ↦ subst (λ (o : Option Mark). IsSome o) (sym l.1) refl
-                | inr r ↦ subst (λ (o : Option Mark). IsSome o) (sym r.1) (fine.marked q v (sym (the_cells q) ∙ at))
-              ];
           counted = the_counts fine.counted;
           heard = the_heard fine.heard;
           exits = the_exits fine.exits;
+          readers = the_known fine.readers;
           plain = λ q at.
               elim (side q) [
                 | inl l ↦ subst (λ (k : Spot). IsPlainIn image plan k) (spot_tells x q l.0) (told (sym l.1 ∙ at))
@@ -168,37 +195,42 @@ module _ (b : Limits) (image : ImageData) (plan : PlanData) (laws : AreLawful b 
 
 -- ---- what was paid
 -- the point has the state that it had, and is still the open one
-pub paid_open : (b : Limits) (image : ImageData) (plan : PlanData) (s t : made.Table) (x : Spot) → IsOpenAt s x → Paid b image plan s t x → get spot_eq t.marks x ≡ Some Open → IsOpenAt t x
-paid_open b image plan s t x opening paid at = record { at = at; only = λ q here. opening.only q (sym ((paid.keeps).each q (ap is_queued here)).0 ∙ here) }
+pub paid_open : (b : Limits) (image : ImageData) (plan : PlanData) (s t : made.Table) (x : Spot) → IsOpenAt s x → Paid b image plan s t x → mark_for t.places x ≡ Some Open → IsOpenAt t x
+paid_open b image plan s t x opening paid at = record {
+  at = at;
+  only = λ q here. opening.only q (sym ((paid.keeps).each q (ap is_queued here)).0 ∙ here);
+  stands = subst (λ (n : ℕ). StandsAt t.places n x) (sym (paid.keeps).near) ((paid.keeps).numbers s.near x opening.stands);
+}
 
-pub paid_closed : (b : Limits) (image : ImageData) (plan : PlanData) (s t : made.Table) (x : Spot) → IsOpenAt s x → Paid b image plan s t x → (get spot_eq t.marks x ≡ Some Open → ⊥) → NoneOpen t
+pub paid_closed : (b : Limits) (image : ImageData) (plan : PlanData) (s t : made.Table) (x : Spot) → IsOpenAt s x → Paid b image plan s t x → (mark_for t.places x ≡ Some Open → ⊥) → NoneOpen t
 paid_closed b image plan s t x opening paid not q at =
-    not (subst (λ (k : Spot). get spot_eq t.marks k ≡ Some Open) (opening.only q (sym ((paid.keeps).each q (ap is_queued at)).0 ∙ at)) at)
+    not (subst (λ (k : Spot). mark_for t.places k ≡ Some Open) (opening.only q (sym ((paid.keeps).each q (ap is_queued at)).0 ∙ at)) at)
 
-pub paid_settled : (b : Limits) (image : ImageData) (plan : PlanData) (s t : made.Table) (x : Spot) → Paid b image plan s t x → get spot_eq t.marks x ≡ Some Open
+pub paid_settled : (b : Limits) (image : ImageData) (plan : PlanData) (s t : made.Table) (x : Spot) → Paid b image plan s t x → mark_for t.places x ≡ Some Open
     → (k : Key) (p : ℕ) (u : State) → place_of x ≡ point k p → (seen t).cells (point k p) ≡ Some (state u) → IsFaultless b image plan k p u × AllSettled b image plan t k p u
 unfolding seen
 paid_settled b image plan s t x paid opening k p u e at =
     let is : spot_of (point k p) ≡ x = sym (ap spot_of e) ∙ forth x in
-    let free : is_queued (get spot_eq t.marks x) ≡ false = ap is_queued opening in
-    let before : get spot_eq s.cells (spot_of (point k p)) ≡ Some (state u) =
-    ap (get spot_eq s.cells) is ∙ sym ((paid.keeps).each x free).1 ∙ sym (ap (get spot_eq t.cells) is) ∙ at in
+    let free : is_queued (mark_for t.places x) ≡ false = ap is_queued opening in
+    let before : value_for s.places (spot_of (point k p)) ≡ Some (state u) =
+    ap (value_for s.places) is ∙ sym ((paid.keeps).each x free).1 ∙ sym (ap (value_for t.places) is) ∙ at in
     (paid.faultless k p u e before, paid.settled k p u e before free)
 
 -- ---- the start, and the end
 pub begun_table : (b : Limits) (image : ImageData) (plan : PlanData) (t : made.Table) (x : Spot) (v : Known) → x ≡ spot_of (first_place image plan) → v ≡ state (start_state plan)
-    → ((q : Spot) → get spot_eq t.cells q ≡ (if spot_eq x q then Some v else None)) → ((q : Spot) → get spot_eq t.marks q ≡ (if spot_eq x q then Some Queued else None)) → t.work.items ≡ x ∷ []
+    → ((q : Spot) → value_for t.places q ≡ (if spot_eq x q then Some v else None)) → ((q : Spot) → mark_for t.places q ≡ (if spot_eq x q then Some Queued else None)) → AllListed t.places t.work.items
     → t.points.items ≡ x ∷ [] → t.frames.items ≡ start_key image plan ∷ [] → t.heard ≡ None → ((z : Spot) → get spot_eq t.readers z ≡ None) → IsFine b image plan t × NoneOpen t
 unfolding seen
-begun_table b image plan t x v place known cells marks work points frames none unread =
-    let side : (q : Spot) → ((spot_eq x q ≡ true) × (get spot_eq t.marks q ≡ Some Queued)) ⊎ ((spot_eq x q ≡ false) × (get spot_eq t.marks q ≡ None)) =
-    λ q. sides (spot_eq x q) (Some Queued) None (get spot_eq t.marks q) (marks q) in
-    let never : (q : Spot) → is_idle (get spot_eq t.marks q) ≡ true → ⊥ =
+begun_table b image plan t x v place known cells marks listed points frames none unread =
+    let side : (q : Spot) → ((spot_eq x q ≡ true) × (mark_for t.places q ≡ Some Queued)) ⊎ ((spot_eq x q ≡ false) × (mark_for t.places q ≡ None)) =
+    λ q. sides (spot_eq x q) (Some Queued) None (mark_for t.places q) (marks q) in
+    let never : (q : Spot) → is_idle (mark_for t.places q) ≡ true → ⊥ =
     λ q h. elim (side q) [
       | inl l ↦ (let no : true ≡ false = sym h ∙ ap is_idle l.1 in cc)
       | inr r ↦ (let no : true ≡ false = sym h ∙ ap is_idle r.1 in cc)
     ] in
-    let test : (q : Place) → spot_eq x (spot_of q) ≡ same_place q (first_place image plan) = λ q. ap (λ (z : Spot). spot_eq z (spot_of q)) place ∙ agrees q (first_place image plan) in (
+    let test : (q : Place) → spot_eq x (spot_of q) ≡ same_place q (first_place image plan) = λ q. ap (λ (z : Spot). spot_eq z (spot_of q)) place ∙ agrees q (first_place image plan) in
+    let unread_by : (z q : Spot) → Reads (get spot_eq t.readers z) q → ⊥ = λ z q h. subst (λ (o : Option (Vec Spot Global)). Reads o q) (unread z) h in (
       record {
         table = record {
           derived = begins (seen t).cells
@@ -206,22 +238,12 @@ begun_table b image plan t x v place known cells marks work points frames none u
           own = λ k p u at h. absurd (never (spot_of (point k p)) h);
           settled = λ k p u shape n d at h code c. absurd (never (spot_of (point k p)) h);
         };
-        listed = record {
-          listed = λ q at.
-              elim (side q) [
-                | inl l ↦ subst (λ (w : List Spot). Contains w q) (sym work) (subst (λ (k : Spot). Contains (x ∷ []) k) (spot_tells x q l.0) (Contains-push [] x))
-                | inr r ↦ (let no : Some Queued ≡ None = sym at ∙ r.1 in cc)
-              ];
-        };
-        marked = λ q w at.
-            elim (side q) [
-              | inl l ↦ subst (λ (o : Option Mark). IsSome o) (sym l.1) refl
-              | inr n ↦ (let no : None ≡ Some w = sym (cells q ∙ ap (λ e. if e then Some v else None) n.0) ∙ at in cc)
-            ];
-        counted = counted_start t.cells t.points.items t.frames.items (start_key image plan) v
+        listed = listed;
+        counted = counted_start t.places t.points.items t.frames.items (start_key image plan) v
             (λ q. cells (spot_of q) ∙ ap (λ e. if e then Some v else None) (test q)) (points ∙ ap (λ (z : Spot). z ∷ []) place) frames;
         heard = subst (HeardEntered b plan (seen t).cells) (sym none) tt;
-        exits = λ k p q h. subst (λ (o : Option (Vec Spot Global)). Reads o q) (unread (Point k p)) h;
+        exits = λ k p q h. unread_by (Point k p) q h;
+        readers = λ z q h. absurd (unread_by z q h);
         plain = λ q at.
             elim (side q) [
               | inl l ↦ (let no : Some Queued ≡ Some Plain = sym l.1 ∙ at in cc)
@@ -242,24 +264,29 @@ all_idle (Some Plain) is a b = refl
 all_idle (Some Queued) is a b = absurd (a refl)
 all_idle (Some Open) is a b = absurd (b refl)
 
-pub closed_table : (b : Limits) (image : ImageData) (plan : PlanData) (laws : AreLawful b image plan) (t : made.Table) → IsFine b image plan t → NoneOpen t → ((q : Spot) → get spot_eq t.marks q ≡ Some Queued → ⊥)
+-- what is known is marked
+marked_known : (o : Option (Marked Known)) (v : Known) → option_map (λ m. m.value) o ≡ Some v → IsSome (option_map (λ m. m.mark) o)
+marked_known None v e = (let no : None ≡ Some v = e in cc)
+marked_known (Some m) v e = refl
+
+pub closed_table : (b : Limits) (image : ImageData) (plan : PlanData) (laws : AreLawful b image plan) (t : made.Table) → IsFine b image plan t → NoneOpen t → ((q : Spot) → mark_for t.places q ≡ Some Queued → ⊥)
     → Derived b image plan (seen t).cells × Closed b image plan (seen t).cells × AllFaultless b image plan (seen t).cells
 unfolding seen
 closed_table b image plan laws t fine none left =
     let h = table_closed b image plan laws (seen t) fine.table
-    (λ k p u at. all_idle (get spot_eq t.marks (spot_of (point k p))) (fine.marked (spot_of (point k p)) (state u) at) (left (spot_of (point k p))) (none (spot_of (point k p)))) in
+    (λ k p u at. all_idle (mark_for t.places (spot_of (point k p))) (marked_known (get spot_eq t.places (spot_of (point k p))) (state u) at) (left (spot_of (point k p))) (none (spot_of (point k p)))) in
     ((fine.table).derived, h.0, h.1)
 
 -- ---- what is known at places
 -- at a point it is a state, at an exit an exit
-pub point_state : (b : Limits) (image : ImageData) (plan : PlanData) (t : made.Table) (k : Key) (p : ℕ) (w : Known) → IsFine b image plan t → get spot_eq t.cells (Point k p) ≡ Some w → (u : State) × (w ≡ state u)
+pub point_state : (b : Limits) (image : ImageData) (plan : PlanData) (t : made.Table) (k : Key) (p : ℕ) (w : Known) → IsFine b image plan t → value_for t.places (Point k p) ≡ Some w → (u : State) × (w ≡ state u)
 unfolding seen
 point_state b image plan t k p w fine at = of_kind w (derived_kinds b image plan (seen t).cells (fine.table).derived (point k p) w at) where
   of_kind : (v : Known) → IsOfKind (point k p) v → (u : State) × (v ≡ state u)
   of_kind (state s) h = (s, refl)
   of_kind (leaving x) h = absurd h
 
-pub exit_known : (b : Limits) (image : ImageData) (plan : PlanData) (t : made.Table) (k : Key) (w : Known) → IsFine b image plan t → get spot_eq t.cells (Exit k) ≡ Some w → (x : exits.Exit) × (w ≡ leaving x)
+pub exit_known : (b : Limits) (image : ImageData) (plan : PlanData) (t : made.Table) (k : Key) (w : Known) → IsFine b image plan t → value_for t.places (Exit k) ≡ Some w → (x : exits.Exit) × (w ≡ leaving x)
 unfolding seen
 exit_known b image plan t k w fine at = of_kind w (derived_kinds b image plan (seen t).cells (fine.table).derived (exit k) w at) where
   of_kind : (v : Known) → IsOfKind (exit k) v → (x : exits.Exit) × (v ≡ leaving x)
@@ -267,10 +294,10 @@ exit_known b image plan t k w fine at = of_kind w (derived_kinds b image plan (s
   of_kind (leaving x) h = (x, refl)
 
 -- the state at a point is visited
-pub visited_at : (b : Limits) (image : ImageData) (plan : PlanData) (laws : AreLawful b image plan) (t : made.Table) (k : Key) (p : ℕ) (u : State) → IsFine b image plan t → get spot_eq t.cells (Point k p) ≡ Some (state u)
-    → IsVisited b image plan t k p u
+pub visited_at : (b : Limits) (image : ImageData) (plan : PlanData) (laws : AreLawful b image plan) (t : made.Table) (k : Key) (p : ℕ) (u : State) → IsFine b image plan t → StandsAt t.places t.near (Point k p)
+    → value_for t.places (Point k p) ≡ Some (state u) → IsVisited b image plan t k p u
 unfolding seen
-visited_at b image plan laws t k p u fine at = record { fine = fine; proper = derived_proper b image plan laws (seen t).cells (fine.table).derived (point k p) (state u) at; at = λ free. at }
+visited_at b image plan laws t k p u fine stands at = record { fine = fine; proper = derived_proper b image plan laws (seen t).cells (fine.table).derived (point k p) (state u) at; at = λ free. at; stands = stands }
 
 -- nothing is owed at an exit, nor where nothing is known
 pub paid_exit : (b : Limits) (image : ImageData) (plan : PlanData) (s : made.Table) (k : Key) → IsFine b image plan s → Paid b image plan s s (Exit k)
@@ -281,7 +308,7 @@ paid_exit b image plan s k fine = record {
   settled = λ l p u e at free. absurd (let no : exit k ≡ point l p = e in cc);
 }
 
-pub paid_unknown : (b : Limits) (image : ImageData) (plan : PlanData) (s : made.Table) (k : Key) (p : ℕ) → IsFine b image plan s → get spot_eq s.cells (Point k p) ≡ None → Paid b image plan s s (Point k p)
+pub paid_unknown : (b : Limits) (image : ImageData) (plan : PlanData) (s : made.Table) (k : Key) (p : ℕ) → IsFine b image plan s → value_for s.places (Point k p) ≡ None → Paid b image plan s s (Point k p)
 unfolding seen
 paid_unknown b image plan s k p fine none = record {
   fine = fine;
@@ -289,31 +316,21 @@ paid_unknown b image plan s k p fine none = record {
   faultless = λ l q u e at. absurd (nothing l q u e at);
   settled = λ l q u e at free. absurd (nothing l q u e at);
 } where
-  nothing : (l : Key) (q : ℕ) (u : State) → point k p ≡ point l q → get spot_eq s.cells (Point l q) ≡ Some (state u) → ⊥
-  nothing l q u e at = let f : None ≡ Some (state u) = sym none ∙ ap (λ (y : Place). get spot_eq s.cells (spot_of y)) e ∙ at in cc
+  nothing : (l : Key) (q : ℕ) (u : State) → point k p ≡ point l q → value_for s.places (Point l q) ≡ Some (state u) → ⊥
+  nothing l q u e at = let f : None ≡ Some (state u) = sym none ∙ ap (λ (y : Place). value_for s.places (spot_of y)) e ∙ at in cc
 
--- the same marks
-pub again_fine : (b : Limits) (image : ImageData) (plan : PlanData) (laws : AreLawful b image plan) (s t : made.Table) → t.cells ≡ s.cells → ((q : Spot) → get spot_eq t.marks q ≡ get spot_eq s.marks q) → t.readers ≡ s.readers
-    → t.work.items ≡ s.work.items → t.points.items ≡ s.points.items → t.frames.items ≡ s.frames.items → t.heard ≡ s.heard → IsFine b image plan s → IsFine b image plan t
+-- no work is left: the list is as it was, whatever the table has for it
+pub same_fine : (b : Limits) (image : ImageData) (plan : PlanData) (s t : made.Table) → t ≡ (record s { work = t.work }) → t.work.items ≡ s.work.items → IsFine b image plan s → IsFine b image plan t
 unfolding seen
-again_fine b image plan laws s t cells marked readers work points frames heard fine =
-    let same : (q : Spot) → get spot_eq t.cells q ≡ get spot_eq s.cells q = λ q. ap (λ m. get spot_eq m q) cells in
-    record {
-      table = table_marked b image plan laws (seen s) (seen t) (λ q. same (spot_of q)) (λ z q h. subst (λ m. Reads (get spot_eq m (spot_of z)) (spot_of q)) (sym readers) h) fine.table
-          (λ q h. sym (ap is_idle (marked (spot_of q))) ∙ h) (subst (λ m. Derived b image plan (λ q. get spot_eq m (spot_of q))) (sym cells) (fine.table).derived);
-      listed = record { listed = λ q at. subst (λ (w : List Spot). Contains w q) (sym work) (fine.listed.listed q (sym (marked q) ∙ at)) };
-      marked = λ q w at. subst (λ (o : Option Mark). IsSome o) (sym (marked q)) (fine.marked q w (sym (same q) ∙ at));
-      counted = counted_again s.cells t.cells s.points.items t.points.items s.frames.items t.frames.items (λ q. same (spot_of q)) points frames fine.counted;
-      heard = heard_again b plan (seen s).cells (seen t).cells (λ q. same (spot_of q)) t.heard (subst (HeardEntered b plan (seen s).cells) (sym heard) fine.heard);
-      exits = λ k p q h. fine.exits k p q (subst (λ m. Reads (get spot_eq m (Point k p)) q) readers h);
-      plain = λ q at. fine.plain q (sym (marked q) ∙ at);
-    }
-
--- work that is taken off alone
-pub same_fine : (b : Limits) (image : ImageData) (plan : PlanData) (laws : AreLawful b image plan) (s t : made.Table) → t.cells ≡ s.cells → t.marks ≡ s.marks → t.readers ≡ s.readers → t.work.items ≡ s.work.items
-    → t.points.items ≡ s.points.items → t.frames.items ≡ s.frames.items → t.heard ≡ s.heard → IsFine b image plan s → IsFine b image plan t
-same_fine b image plan laws s t cells marks readers work points frames heard fine =
-    again_fine b image plan laws s t cells (λ q. ap (λ m. get spot_eq m q) marks) readers work points frames heard fine
+same_fine b image plan s t is work fine = subst (IsFine b image plan) (sym is) (record {
+  table = fine.table;
+  listed = subst (λ (l : List ℕ). AllListed s.places l) (sym work) fine.listed;
+  counted = fine.counted;
+  heard = fine.heard;
+  exits = fine.exits;
+  readers = fine.readers;
+  plain = fine.plain;
+})
 
 -- ---- the end of a visit
 idle_marked : (plain : Bool) → is_idle (Some (idle_mark plain)) ≡ true
@@ -325,32 +342,44 @@ plain_marked true told e = told refl
 plain_marked false told e = (let no : Some Idle ≡ Some Plain = e in cc)
 
 -- what the point owes was joined, and it is idle now, unless it has new work
-pub ended : (b : Limits) (image : ImageData) (plan : PlanData) (laws : AreLawful b image plan) (s m t : made.Table) (x : Spot) (plain : Bool) → (plain ≡ true → IsPlainIn image plan x) → t.cells ≡ m.cells → t.readers ≡ m.readers → t.points.items ≡ m.points.items → t.frames.items ≡ m.frames.items
-    → t.heard ≡ m.heard → t.work.items ≡ m.work.items → ((q : Spot) → get spot_eq t.marks q ≡ (if spot_eq x q then Some (settled_mark plain (get spot_eq m.marks x)) else get spot_eq m.marks q)) → IsOpenAt s x → Paid b image plan s m x
-    → IsFine b image plan t × NoneOpen t × Rises s t
-ended b image plan laws s m t x plain told cells readers points frames heard work marks opening paid = by_mark (is_queued (get spot_eq m.marks x)) refl where
+pub ended : (b : Limits) (image : ImageData) (plan : PlanData) (laws : AreLawful b image plan) (s m t : made.Table) (x : Spot) (plain : Bool) → (plain ≡ true → IsPlainIn image plan x) → t.readers ≡ m.readers
+    → t.points.items ≡ m.points.items → t.frames.items ≡ m.frames.items → t.heard ≡ m.heard → t.work.items ≡ m.work.items → MarksAs m.places t.places x (settled_mark plain (mark_for m.places x)) → IsOpenAt s x
+    → Paid b image plan s m x → IsFine b image plan t × NoneOpen t × Rises s t
+ended b image plan laws s m t x plain told readers points frames heard work marks opening paid = by_mark (is_queued (mark_for m.places x)) refl where
   higher : Rises s t
-  higher = rises_then s m t (paid.keeps).rises (inr (same_level m t cells points frames, work))
+  higher = rises_then s m t (paid.keeps).rises (inr (same_level m t marks.values points frames, work))
 
-  by_mark : (e : Bool) → is_queued (get spot_eq m.marks x) ≡ e → IsFine b image plan t × NoneOpen t × Rises s t
+  by_mark : (e : Bool) → is_queued (mark_for m.places x) ≡ e → IsFine b image plan t × NoneOpen t × Rises s t
   by_mark true e =
-      let at : get spot_eq m.marks x ≡ Some Queued = queued_mark (get spot_eq m.marks x) e in
-      let same : (q : Spot) → get spot_eq t.marks q ≡ get spot_eq m.marks q =
-      λ q. elim (sides (spot_eq x q) (Some (settled_mark plain (get spot_eq m.marks x))) (get spot_eq m.marks q) (get spot_eq t.marks q) (marks q)) [
-        | inl l ↦ l.1 ∙ ap (λ (o : Option Mark). Some (settled_mark plain o)) at ∙ sym at ∙ ap (get spot_eq m.marks) (spot_tells x q l.0)
+      let at : mark_for m.places x ≡ Some Queued = queued_mark (mark_for m.places x) e in
+      let same : (q : Spot) → mark_for t.places q ≡ mark_for m.places q =
+      λ q. elim (sides (spot_eq x q) (Some (settled_mark plain (mark_for m.places x))) (mark_for m.places q) (mark_for t.places q) (marks.marks q)) [
+        | inl l ↦ l.1 ∙ ap (λ (o : Option Mark). Some (settled_mark plain o)) at ∙ sym at ∙ ap (mark_for m.places) (spot_tells x q l.0)
         | inr r ↦ r.1
       ] in (
-        again_fine b image plan laws m t cells same readers work points frames heard paid.fine,
+        again_fine b image plan laws m t x (settled_mark plain (mark_for m.places x)) marks readers points frames heard same work paid.fine,
         (λ q here. paid_closed b image plan s m x opening paid (λ open_. let no : Some Queued ≡ Some Open = sym at ∙ open_ in cc) q (sym (same q) ∙ here)),
         higher,
       )
   by_mark false e =
-      let at : get spot_eq m.marks x ≡ Some Open = ((paid.keeps).each x e).0 ∙ opening.at in
+      let at : mark_for m.places x ≡ Some Open = ((paid.keeps).each x e).0 ∙ opening.at in
+      let idle_ : settled_mark plain (mark_for m.places x) ≡ idle_mark plain = ap (settled_mark plain) at in
       let h =
-      finished b image plan laws m t x cells readers points frames heard (idle_mark plain) (idle_marked plain) (plain_marked plain told) paid.fine (paid_open b image plan s m x opening paid at) work
-      (λ q. marks q ∙ ap (λ (o : Option Mark). if spot_eq x q then Some (settled_mark plain o) else get spot_eq m.marks q) at) (paid_settled b image plan s m x paid at) in
+      finished b image plan laws m t x (idle_mark plain) (subst (λ (k : Mark). MarksAs m.places t.places x k) idle_ marks) readers points frames heard (idle_marked plain) (plain_marked plain told) paid.fine
+      (paid_open b image plan s m x opening paid at) work (paid_settled b image plan s m x paid at) in
       (h.0, h.1, higher)
 
 -- a map without entries
 pub get_none : {X S : Type 0} (m : IndexMap Spot X S) (q : Spot) → m.entries ≡ [] → get spot_eq m q ≡ None
 get_none m q e = ap (λ es. lookup (spot_eq q) es) e
+
+pub none_listed : {V S : Type 0} (m : IndexMap Spot (Marked V) S) (work : List ℕ) → m.entries ≡ [] → work ≡ [] → AllListed m work
+none_listed {V} m work bare empty = record {
+  listed = λ q at. absurd (let no : None ≡ Some Queued = sym (ap (option_map (λ (k : Marked V). k.mark)) (get_none m q bare)) ∙ at in cc);
+  known = λ n c. absurd (let z = ap (λ (l : List ℕ). length l) empty in omega (arith, c.1, z));
+}
+
+-- nothing is owed where no point stands
+pub paid_no_point : (b : Limits) (image : ImageData) (plan : PlanData) (s : made.Table) (x : Spot) → ((k : Key) (p : ℕ) → x ≡ Point k p → ⊥) → IsFine b image plan s → Paid b image plan s s x
+paid_no_point b image plan s (Exit k) other fine = paid_exit b image plan s k fine
+paid_no_point b image plan s (Point k p) other fine = absurd (other k p refl)

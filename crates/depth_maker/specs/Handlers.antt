@@ -1,8 +1,7 @@
 -- The frames of the handlers of interrupts, by their numbers.
-use Rattle.std.specs.Prelude.{◌≡◌, ℕ, List, [], map, filter, nat_lt, if◌then◌else◌, Contains}
+use Rattle.std.specs.Prelude.{◌≡◌, ℕ, Bool, List, [], map, filter, nat_lt, if◌then◌else◌, Contains}
 use Rattle.indexmap.specs.IndexMap.{IndexMap}
 use Rattle.tcd_plan.specs.PlanData.{PlanData}
-use Rattle.value_domain.specs.declared.states.State.{State}
 use Rattle.depth_cert.specs.declared.keys.Key.{Key}
 use Rattle.cfg_recover.specs.Entries.{irq_key}
 use Rattle.frame_places.specs.Numbers.{AreNumbers, number_in}
@@ -17,9 +16,9 @@ pub record AreHandlers (plan : PlanData) (frames : List Key) (irqs : List ℕ) (
 abbrev pub nodes_above : ℕ → List Handler → List ℕ
 nodes_above m handlers = map (λ h. h.node) (filter (λ h. nat_lt m h.prio) handlers)
 
--- those of the interrupts that may be taken in a state
-abbrev pub nodes_taken : State → List Handler → List ℕ
-nodes_taken s handlers = if s.ie then nodes_above s.ccpn handlers else []
+-- those of the interrupts that may be taken, where they may come, above a priority
+abbrev pub nodes_taken : Bool → ℕ → List Handler → List ℕ
+nodes_taken ie m handlers = if ie then nodes_above m handlers else []
 
 -- frames by their numbers, and the handlers of all stated interrupts with theirs
 pub record AreNumbered {S : Type 0} (plan : PlanData) (numbers : IndexMap Key ℕ S) (handlers : List Handler) (frames : List Key) : Type 0 where

@@ -1,14 +1,13 @@
 -- How far a table has risen: each joining that changes it takes it higher, and there is a greatest level.
 use Rattle.std.specs.Prelude.{◌≡◌, ◌+◌, ◌-◌, ◌<◌, ◌⊎◌, ℕ, not, List, length, Option, Some, None}
 use Rattle.std.specs.List.{count_by, sum_by}
-use Rattle.indexmap.specs.IndexMap.{get}
 use Rattle.value_domain.specs.declared.values.Val.{Val}
 use Rattle.value_domain.specs.Values.{members}
 use Rattle.depth_cert.specs.Keys.{byte_of}
 use Rattle.depth_cert.specs.Known.{Known, state, leaving}
 use Rattle.frame_places.specs.declared.places.Spot.TheVariants as spots
 use Rattle.depth_maker.specs.declared.table.Table as made
-use Rattle.frame_places.specs.Spots.{spot_eq}
+use Rattle.frame_places.specs.Marks.{value_for}
 
 -- the members of all these values
 abbrev pub size_of : List Val → ℕ
@@ -26,7 +25,7 @@ rank_at (Some v) = 1 + rank_of v
 
 -- the ranks of all points and exits
 unfoldable pub level : made.Table → ℕ
-level t = sum_by (λ q. rank_at (get spot_eq t.cells q)) t.points.items + sum_by (λ k. rank_at (get spot_eq t.cells (spots.Exit k))) t.frames.items
+level t = sum_by (λ q. rank_at (value_for t.places q)) t.points.items + sum_by (λ k. rank_at (value_for t.places (spots.Exit k))) t.frames.items
 
 -- the table rose, or its list of work is as it was
 abbrev pub Rises : made.Table → made.Table → Type 0

@@ -1,28 +1,29 @@
 -- Rows, by what the code has.
-use Rattle.std.specs.Prelude.{◌≡◌, ◌⊎◌, ℕ, List, take, Option, Some, None, Result, Ok, Err, Contains}
+use Rattle.std.specs.Prelude.{◌≡◌, ◌++◌, ℕ, List, [], ◌∷◌, take, Option, Some, Contains, slice_get}
+use Rattle.indexmap.specs.IndexMap.{get, keys}
 use Rattle.value_domain.specs.declared.states.State.{State}
 use Rattle.depth_cert.specs.declared.keys.Key.{Key}
 use Rattle.cfg_recover.specs.declared.local.Located.{Located}
-use Rattle.cfg_recover.specs.Local.{IsFaultless}
 use Rattle.cfg_recover.specs.Assignments.{point}
-use Rattle.depth_cert.specs.Known.{state}
+use Rattle.depth_cert.specs.Known.{Known, state}
+use Rattle.small_states.specs.Kept.{IsOutline}
+use Rattle.small_states.specs.declared.cells.Outline.{Outline}
 use Rattle.depth_maker.specs.Entered.{entered_in}
-use Rattle.depth_maker.specs.Handlers.{AreHandlers}
+use Rattle.depth_maker.specs.Handlers.{AreHandlers, nodes_taken}
 use Rattle.depth_maker.specs.RowsAt.{IsRowAt, AreRows}
-use Rattle.frame_places.specs.Numbers.{AreNumbers}
+use Rattle.frame_places.specs.Numbers.{AreNumbers, number_in}
+use Rattle.frame_places.specs.Spots.{spot_eq}
 use Rattle.depth_maker.specs.View.{seen, IsDone, StandsBy, duties_by}
 use Rattle.depth_maker.specs.declared.ground.Ground.{Ground}
 use Rattle.depth_maker.specs.declared.ground.Visit.{Visit}
-use Rattle.frame_places.specs.declared.places.Spot.{Spot}
 use Rattle.frame_places.specs.declared.places.Spot.TheVariants.{Point}
-use Rattle.frame_places.specs.declared.refusals.Refusal.{Refusal}
+use Rattle.frame_places.specs.declared.places.Mark.TheVariants.{Plain}
+use Rattle.frame_places.specs.declared.places.Marked.{Marked}
 use Rattle.call_needs.specs.declared.row.Row.{Row}
+use Rattle.depth_maker.specs.declared.rows.Draft.{Draft}
+use Rattle.depth_maker.specs.declared.rows.KnownPoint.{KnownPoint}
 use Rattle.depth_maker.specs.declared.rows.Source.{Source}
 use Rattle.depth_maker.specs.declared.table.Table as made
-
--- no rule's own part fails at the point
-abbrev pub FaultlessBy : Visit → Type 0
-FaultlessBy v = IsFaultless (v.ground.now).bounds.now (v.ground.now).image.now (v.ground.now).plan.now v.key v.addr v.state.now
 
 -- the point's row
 abbrev pub IsRowBy : Visit → List Key → Row → Type 0
@@ -33,26 +34,7 @@ pub record AllKnownBy (v : Visit) (frames : List Key) : Type 0 where
   pub own : Contains frames v.key
   pub entered : (found : Located) → StandsBy v found → (k : Key) → Contains (entered_in (duties_by v found)) k → Contains frames k
 
--- two rows that say the same
-pub record SaysSame (a b : Row) : Type 0 where
-  pub node : a.node ≡ b.node
-  pub held : a.held ≡ b.held
-  pub into : a.into.items ≡ b.into.items
-
--- one of these rows says what this one says
-abbrev pub HasSame : List Row → Row → Type 0
-HasSame rows row = (other : Row) × Contains rows other × SaysSame other row
-
--- the rows of the first i points of the table
-pub record RowsSoFar (g : Ground) (t : made.Table) (rows : List Row) (i : ℕ) : Type 0 where
-  pub sound :
-      (row : Row) → Contains rows row
-      → (k : Key) × (p : ℕ) × (u : State) × ((seen t).cells (point k p) ≡ Some (state u)) × IsRowAt g.bounds.now g.image.now g.plan.now t.frames.items k p u row
-  pub complete :
-      (k : Key) (p : ℕ) (u : State) → Contains (take i t.points.items) (Point k p) → (seen t).cells (point k p) ≡ Some (state u)
-      → (row : Row) × Contains rows row × IsRowAt g.bounds.now g.image.now g.plan.now t.frames.items k p u row
-
--- the rows of all its points
+-- the rows of all points of a table
 abbrev pub RowsOn : Ground → made.Table → List Row → Type 0
 RowsOn g t rows = AreRows g.bounds.now g.image.now g.plan.now (seen t).cells t.frames.items rows
 
@@ -63,21 +45,52 @@ pub record IsSource (s : Source) : Type 0 where
   pub handlers : AreHandlers (s.ground.now).plan.now (s.table.now).frames.items ((s.ground.now).plan.now).irqs s.handlers.now
 
 -- the row of a point that is known
-abbrev pub PointHasRow : Source → Key → ℕ → Result (Option Row) Refusal → Type 0
-PointHasRow s k p (Ok None) = (seen s.table.now).cells (point k p) ≡ None
-PointHasRow s k p (Ok (Some row)) =
+abbrev pub IsPointRow : Source → Key → ℕ → Row → Type 0
+IsPointRow s k p row =
     (u : State) × ((seen s.table.now).cells (point k p) ≡ Some (state u))
     × IsRowAt (s.ground.now).bounds.now (s.ground.now).image.now (s.ground.now).plan.now (s.table.now).frames.items k p u row
-PointHasRow s k p (Err e) = Unit {0}
 
--- a place's row was added, if it is a point that is known
-pub record AddsRow (s : Source) (old new : List Row) (place : Spot) : Type 0 where
-  pub keeps : (row : Row) → Contains old row → Contains new row
-  pub sound :
-      (row : Row) → Contains new row
-      → Contains old row
-      ⊎ ((k : Key) × (p : ℕ) × (u : State) × ((seen s.table.now).cells (point k p) ≡ Some (state u))
-      × IsRowAt (s.ground.now).bounds.now (s.ground.now).image.now (s.ground.now).plan.now (s.table.now).frames.items k p u row)
+-- what is told of a point is so: what is known there with its mark, and the number of its frame
+pub record IsKnownPoint (s : Source) (at : KnownPoint) : Type 0 where
+  pub known : get spot_eq (s.table.now).places (Point at.key at.addr) ≡ Some at.known.now
+  pub node : at.node ≡ number_in (s.table.now).frames.items at.key
+
+-- ---- rows that say the same
+-- the row of a point of this frame whose instruction enters no frame by itself, and whose state has this outline
+pub record IsPlainRow (s : Source) (number : ℕ) (o : Outline) (row : Row) : Type 0 where
+  pub node : row.node ≡ number
+  pub held : row.held ≡ o.held
+  pub into : row.into.items ≡ nodes_taken o.ie o.ccpn s.handlers.now
+
+-- where the list has an outline for a frame, the row that it gives is one of these
+abbrev pub AreSaid : Source → List Row → List (Option Outline) → Type 0
+AreSaid s rows said = (number : ℕ) (o : Outline) → slice_get said number ≡ Some (Some o) → (row : Row) × Contains rows row × IsPlainRow s number o row
+
+-- a point is plain, and its outline is the one that the list has for its frame
+pub record IsSaidBy (said : List (Option Outline)) (node : ℕ) (known : Marked Known) : Type 0 where
+  pub outline : Outline
+  pub there : slice_get said node ≡ Some (Some outline)
+  pub is : IsOutline known.value outline
+  pub plain : known.mark ≡ Plain
+
+-- ---- one after another
+-- the rows of the first entries of the table
+pub record IsDraft (s : Source) (count : ℕ) (draft : Draft) : Type 0 where
+  pub sound : (row : Row) → Contains draft.rows.items row → (k : Key) × (p : ℕ) × IsPointRow s k p row
   pub complete :
-      (k : Key) (p : ℕ) (u : State) → place ≡ Point k p → (seen s.table.now).cells (point k p) ≡ Some (state u)
-      → (row : Row) × Contains new row × IsRowAt (s.ground.now).bounds.now (s.ground.now).image.now (s.ground.now).plan.now (s.table.now).frames.items k p u row
+      (k : Key) (p : ℕ) → Contains (take count (keys (s.table.now).places)) (Point k p)
+      → (row : Row) × Contains draft.rows.items row × IsPointRow s k p row
+  pub said : AreSaid s draft.rows.items draft.said.items
+
+-- a row was put behind the others
+pub record AddsRow (s : Source) (old new : Draft) (row : Row) : Type 0 where
+  pub rows : new.rows.items ≡ old.rows.items ++ row ∷ []
+  pub said : AreSaid s old.rows.items old.said.items → AreSaid s new.rows.items new.said.items
+
+-- the row of a plain point
+abbrev pub AddsPlain : Source → Draft → Draft → ℕ → Outline → Type 0
+AddsPlain s old new node o = (row : Row) × IsPlainRow s node o row × AddsRow s old new row
+
+-- the row of a point
+abbrev pub AddsPoint : Source → Draft → Draft → KnownPoint → Type 0
+AddsPoint s old new at = (row : Row) × IsPointRow s at.key at.addr row × AddsRow s old new row

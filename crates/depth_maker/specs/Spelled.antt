@@ -1,7 +1,8 @@
 -- The certificate of a table: a node for each frame, by ascending key, with the frame's points by ascending address.
-use Rattle.std.specs.Prelude.{◌≡◌, ◌≤◌, ◌<◌, ◌-◌, ◌^◌, ◌++◌, ℕ, false, List, [], map, filter, Option, Some, None, All, IfSome, IsSome, Contains}
+use Rattle.std.specs.Prelude.{◌≡◌, ◌≤◌, ◌<◌, ◌-◌, ◌^◌, ◌++◌, ℕ, false, List, [], length, map, filter, Option, Some, None, All, IfSome, Contains}
 use Rattle.std.specs.List.{flat_map}
 use Rattle.std.specs.List.Sorted.{IsPermutation, IsNonDecreasingBy}
+use Rattle.indexmap.specs.IndexMap.{IsUnique, keys}
 use Rattle.elf_image.specs.Images.{ImageData}
 use Rattle.tcd_plan.specs.PlanData.{PlanData}
 use Rattle.value_domain.specs.declared.states.State.{State}
@@ -19,9 +20,11 @@ use Rattle.depth_maker.specs.Making.{IsWritten}
 use Rattle.depth_maker.specs.RowsAt.{need_by}
 use Rattle.depth_maker.specs.RowsBy.{IsSource}
 use Rattle.depth_maker.specs.View.{seen}
-use Rattle.frame_places.specs.Spots.{is_point_of, spot_address, spot_number}
+use Rattle.frame_places.specs.Entries.{AreEntries, place_at, places_at, points_in}
+use Rattle.frame_places.specs.Spots.{is_point_of, spot_address, spot_eq}
+use Rattle.frame_places.specs.declared.ordering.PointEntry.{PointEntry}
 use Rattle.frame_places.specs.declared.places.Spot.{Spot}
-use Rattle.frame_places.specs.declared.places.Spot.TheVariants.{Point, Exit}
+use Rattle.frame_places.specs.declared.places.Spot.TheVariants.{Point}
 use Rattle.depth_maker.specs.declared.rows.Source.{Source}
 use Rattle.depth_maker.specs.declared.spelling.Ordered.{Ordered}
 
@@ -94,12 +97,22 @@ node_on s needs ps k = node_at (seen s.table.now).cells (need_by (s.table.now).f
 abbrev pub cert_on : Source → ℕ → List ℕ → List Key → List Spot → CertData
 cert_on s version needs ks ps = cert_with version (seen s.table.now).cells (need_by (s.table.now).frames.items needs) (addresses_in ps) ks
 
+-- the places of these entries of the table
+abbrev pub spots_on : Source → List PointEntry → List Spot
+spots_on s xs = places_at (s.table.now).places xs
+
+-- the places of all points, in order
+abbrev pub spots_of : Ordered → List Spot
+spots_of o = spots_on o.source.now o.points.now
+
 -- a table without work, the least needs of its frames, and its points in order
 pub record IsOrdered (o : Ordered) : Type 0 where
   pub source : IsSource o.source.now
   pub needs : NeedsAre o.source.now o.needs.now
-  pub points : IsPermutation ((o.source.now).table.now).points.items o.points.now
-  pub rising : IsNonDecreasingBy spot_number o.points.now
+  pub unique : IsUnique spot_eq ((o.source.now).table.now).places
+  pub points : IsPermutation (points_in ((o.source.now).table.now).places) (spots_of o)
+  pub rising : IsNonDecreasingBy (λ x. x.order) o.points.now
+  pub entries : AreEntries ((o.source.now).table.now).places o.points.now
 
 -- ---- what is added
 -- to the bytes old a point, and its CCPN is a byte
@@ -119,26 +132,31 @@ pub record WritesExit (s : Source) (k : Key) (old new : List ℕ) : Type 0 where
 
 -- the node of frame k
 pub record WritesNode (o : Ordered) (k : Key) (old new : List ℕ) : Type 0 where
-  pub bytes : new ≡ old ++ bytes_of_node (node_on o.source.now o.needs.now o.points.now k)
-  pub ccpn : HasBytes (node_on o.source.now o.needs.now o.points.now k)
+  pub bytes : new ≡ old ++ bytes_of_node (node_on o.source.now o.needs.now (spots_of o) k)
+  pub ccpn : HasBytes (node_on o.source.now o.needs.now (spots_of o) k)
 
 -- the nodes of these frames
 pub record WritesNodes (o : Ordered) (ks : List Key) (old new : List ℕ) : Type 0 where
-  pub bytes : new ≡ old ++ flat_map (λ k. bytes_of_node (node_on o.source.now o.needs.now o.points.now k)) ks
-  pub ccpn : All (λ k. HasBytes (node_on o.source.now o.needs.now o.points.now k)) ks
+  pub bytes : new ≡ old ++ flat_map (λ k. bytes_of_node (node_on o.source.now o.needs.now (spots_of o) k)) ks
+  pub ccpn : All (λ k. HasBytes (node_on o.source.now o.needs.now (spots_of o) k)) ks
 
 -- all of the certificate
 pub record WritesCert (o : Ordered) (version : ℕ) (ks : List Key) (out : List ℕ) : Type 0 where
-  pub bytes : out ≡ bytes_of (cert_on o.source.now version o.needs.now ks o.points.now)
-  pub ccpn : All (λ k. HasBytes (node_on o.source.now o.needs.now o.points.now k)) ks
+  pub bytes : out ≡ bytes_of (cert_on o.source.now version o.needs.now ks (spots_of o))
+  pub ccpn : All (λ k. HasBytes (node_on o.source.now o.needs.now (spots_of o) k)) ks
 
 -- these frames are the table's
 abbrev pub AreFrames : Ordered → List Key → Type 0
 AreFrames o ks = IsPermutation ((o.source.now).table.now).frames.items ks
 
--- these points of frame k are known
-abbrev pub AreKnown : Source → Key → List Spot → Type 0
-AreKnown s k qs = (q : Spot) → Contains qs q → IsSome (known_on s (point k (spot_address q)))
+-- the entry of a point of frame k
+pub record IsPointOf (s : Source) (k : Key) (x : PointEntry) : Type 0 where
+  pub within : x.entry < length (keys (s.table.now).places)
+  pub is : place_at (s.table.now).places x ≡ Point k (spot_address (place_at (s.table.now).places x))
+
+-- so are these
+abbrev pub ArePointsOf : Source → Key → List PointEntry → Type 0
+ArePointsOf s k xs = (x : PointEntry) → Contains xs x → IsPointOf s k x
 
 -- this one is one of them
 abbrev pub IsFrameOf : Source → Key → Type 0

@@ -1,5 +1,5 @@
 -- The table as the theory sees it.
-use Rattle.std.specs.Prelude.{◌≡◌, ◌<◌, ℕ, Bool, true, false, Option, Some, None, IsSome, List, [], ◌∷◌, map, Contains, Result, Ok, Err}
+use Rattle.std.specs.Prelude.{◌≡◌, ◌<◌, ℕ, Bool, true, false, Option, Some, is_some, List, [], ◌∷◌, map, Contains, Result, Ok, Err}
 use Rattle.std.specs.List.{flat_map}
 use Rattle.indexmap.specs.IndexMap.{IndexMap, get}
 use Rattle.std.specs.declared.vec.Vec.{Vec}
@@ -16,23 +16,25 @@ use Rattle.cfg_recover.specs.Changes.{StandsFaultless}
 use Rattle.cfg_recover.specs.Code.{IsCode}
 use Rattle.cfg_recover.specs.Entries.{call_key, sys_key, sys_entry}
 use Rattle.cfg_recover.specs.Local.{IsFaultless}
-use Rattle.cfg_recover.specs.Duties.{Duty, Owed, duties_of, entered_and_back, entries_of, interrupts_of, misaligned_entry, misaligned_of, next_of, owed, successors_of}
+use Rattle.cfg_recover.specs.Duties.{Duty, Owed, duties_of, entered_and_back, entries_of, interrupts_of, misaligned_entry, misaligned_of, next_of, successors_of}
 use Rattle.cfg_recover.specs.Assignments.{point, CoversAt, Asks, Closed, Derived, raised}
-use Rattle.depth_cert.specs.Known.{Known, state, CoversKnown, joined_known, IsProper, IsProperKnown}
+use Rattle.depth_cert.specs.Known.{Known, state, CoversKnown, IsProper, IsProperKnown}
 use Rattle.cfg_recover.specs.Refusals.{IsFault}
 use Rattle.depth_maker.specs.Growth.{IsProperDuty}
 use Rattle.depth_maker.specs.Proper.{AllFaultless}
 use Rattle.depth_maker.specs.Tables.{Table, IsTable, Settled}
 use Rattle.frame_places.specs.declared.places.Spot.{Spot}
 use Rattle.frame_places.specs.declared.places.Spot.TheVariants.{Point}
-use Rattle.frame_places.specs.declared.places.Mark.{Mark}
+use Rattle.frame_places.specs.declared.places.Marked.{Marked}
 use Rattle.frame_places.specs.declared.places.Mark.TheVariants.{Plain, Open}
 use Rattle.frame_places.specs.declared.refusals.Refusal.{Refusal}
 use Rattle.frame_places.specs.declared.refusals.Refusal.TheVariants.{Fault, NoMemory}
 use Rattle.depth_maker.specs.declared.table.Table as made
 use Rattle.frame_places.specs.Spots.{spot_eq}
 use Rattle.depth_maker.specs.Spots.{spot_of, place_of}
-use Rattle.frame_places.specs.Marks.{is_idle, is_queued, Reads, AllListed}
+use Rattle.frame_places.specs.Counting.{frames_after, points_after}
+use Rattle.frame_places.specs.Marks.{is_idle, is_queued, mark_for, value_for, AllListed, AreKnown, KeepsNumbers, Puts, Reads}
+use Rattle.frame_places.specs.Nearby.{StandsAt}
 use Rattle.depth_maker.specs.Counts.{AreCounted, AreFew}
 use Rattle.depth_maker.specs.Entered.{IsPlainAt, IsPlainIn}
 use Rattle.depth_maker.specs.Levels.{level, Rises}
@@ -42,66 +44,75 @@ use Rattle.depth_maker.specs.declared.ground.Visit.{Visit}
 
 -- ---- counts
 -- each point and each frame that is known is counted once, and no limit is passed
-pub record IsCountedIn {S : Type 0} (cells : IndexMap Spot Known S) (ps : List Spot) (ks : List Key) : Type 0 where
-  pub each : AreCounted (λ q. get spot_eq cells (spot_of q)) (map place_of ps) ks
+pub record IsCountedIn {S : Type 0} (places : IndexMap Spot (Marked Known) S) (ps : List Spot) (ks : List Key) : Type 0 where
+  pub each : AreCounted (λ q. value_for places (spot_of q)) (map place_of ps) ks
   pub few : AreFew (map place_of ps) ks
 
 -- ---- the table
 -- the table as assignment and marks
 unfoldable pub seen : made.Table → Table
 seen t = record {
-  cells = λ q. get spot_eq t.cells (spot_of q);
-  idle = λ q. is_idle (get spot_eq t.marks (spot_of q));
-  queued = λ q. is_queued (get spot_eq t.marks (spot_of q));
+  cells = λ q. value_for t.places (spot_of q);
+  idle = λ q. is_idle (mark_for t.places (spot_of q));
+  queued = λ q. is_queued (mark_for t.places (spot_of q));
   reads = λ z x. Reads (get spot_eq t.readers (spot_of z)) (spot_of x);
 }
 
 -- all that is known is of the plan and the version
-abbrev pub CellsProper : {S : Type 0} → Limits → IndexMap Spot Known S → Type 0
-CellsProper b cells = (q : Spot) (v : Known) → get spot_eq cells q ≡ Some v → IsProperKnown b v
+abbrev pub CellsProper : {S : Type 0} → Limits → IndexMap Spot (Marked Known) S → Type 0
+CellsProper b places = (q : Spot) (v : Known) → value_for places q ≡ Some v → IsProperKnown b v
 
 -- only exits are read
 abbrev pub AreExitsRead : {S : Type 0} → IndexMap Spot (Vec Spot Global) S → Type 0
 AreExitsRead readers = (k : Key) (p : ℕ) (q : Spot) → Reads (get spot_eq readers (Point k p)) q → ⊥
 
 -- where a place is marked as plain, the instruction there enters no frame by itself
-abbrev pub ArePlain : {S : Type 0} → ImageData → PlanData → IndexMap Spot Mark S → Type 0
-ArePlain image plan marks = (q : Spot) → get spot_eq marks q ≡ Some Plain → IsPlainIn image plan q
+abbrev pub ArePlain : {S : Type 0} → ImageData → PlanData → IndexMap Spot (Marked Known) S → Type 0
+ArePlain image plan places = (q : Spot) → mark_for places q ≡ Some Plain → IsPlainIn image plan q
 
 -- the table between two steps
 pub record IsFine (b : Limits) (image : ImageData) (plan : PlanData) (t : made.Table) : Type 0 where
   pub table : IsTable b image plan (seen t)
-  pub listed : AllListed t.marks t.work.items
-  pub marked : (q : Spot) (s : Known) → get spot_eq t.cells q ≡ Some s → IsSome (get spot_eq t.marks q)
-  pub counted : IsCountedIn t.cells t.points.items t.frames.items
+  pub listed : AllListed t.places t.work.items
+  pub counted : IsCountedIn t.places t.points.items t.frames.items
   pub heard : HeardEntered b plan (seen t).cells t.heard
   pub exits : AreExitsRead t.readers
-  pub plain : ArePlain image plan t.marks
+  pub readers : (z : Spot) → AreKnown t.places (Reads (get spot_eq t.readers z))
+  pub plain : ArePlain image plan t.places
 
 -- a fault that is answered is one
 abbrev pub Answered : Limits → ImageData → PlanData → Refusal → Type 0
 Answered b image plan (Fault rule x) = (k : Key) × (p : ℕ) × (place_of x ≡ point k p) × IsFault b image plan rule k p
 Answered b image plan NoMemory = Unit {0}
 
--- what joining v to what is known at y gives: nothing where v is covered, else what is known then; only what isn't covered is joined
-abbrev pub Merges : {S : Type 0} → Limits → IndexMap Spot Known S → Spot → Known → Result (Option Known) Refusal → Type 0
-Merges b cells y v (Ok None) = CoversAt (λ q. get spot_eq cells (spot_of q)) (place_of y) v
-Merges b cells y v (Ok (Some u)) = (raised b (get spot_eq cells y) v ≡ Some u) × ((w : Known) → get spot_eq cells y ≡ Some w → CoversKnown w v → ⊥)
-Merges b cells y v (Err (Fault rule x)) = (rule ≡ 8) × (x ≡ y) × ((w : Known) × (get spot_eq cells y ≡ Some w) × (joined_known b w v ≡ None))
-Merges b cells y v (Err NoMemory) = Unit {0}
+-- v, which wasn't covered, was joined at y alone: y has work now, and is counted
+pub record Raised (b : Limits) (s t : made.Table) (y : Spot) (v : Known) : Type 0 where
+  pub known : Known
+  pub raises : raised b (value_for s.places y) v ≡ Some known
+  pub new : (w : Known) → value_for s.places y ≡ Some w → CoversKnown w v → ⊥
+  pub puts : Puts s.places t.places y known
+  pub listed : AllListed t.places t.work.items
+  pub near : t.near ≡ s.near
+  pub readers : t.readers ≡ s.readers
+  pub heard : t.heard ≡ s.heard
+  pub points : t.points.items ≡ points_after (is_some (value_for s.places y)) s.points.items y
+  pub frames : t.frames.items ≡ frames_after (is_some (value_for s.places y)) s.frames.items y
+  pub few : AreFew (map place_of t.points.items) t.frames.items
 
 -- a rise keeps what has no new work
 pub record Keeps (b : Limits) (image : ImageData) (plan : PlanData) (s t : made.Table) : Type 0 where
   pub each :
-      (x : Spot) → is_queued (get spot_eq t.marks x) ≡ false
-      → (get spot_eq t.marks x ≡ get spot_eq s.marks x) × (get spot_eq t.cells x ≡ get spot_eq s.cells x)
+      (x : Spot) → is_queued (mark_for t.places x) ≡ false
+      → (mark_for t.places x ≡ mark_for s.places x) × (value_for t.places x ≡ value_for s.places x)
   pub readers : (z x : Spot) → Reads (get spot_eq s.readers z) x → Reads (get spot_eq t.readers z) x
   pub read :
-      (z x : Spot) → Reads (get spot_eq s.readers z) x → is_queued (get spot_eq t.marks x) ≡ false → get spot_eq t.cells z ≡ get spot_eq s.cells z
+      (z x : Spot) → Reads (get spot_eq s.readers z) x → is_queued (mark_for t.places x) ≡ false → value_for t.places z ≡ value_for s.places z
   pub settled :
-      (k : Key) (p : ℕ) (u : State) (d : Duty) → is_queued (get spot_eq t.marks (spot_of (point k p))) ≡ false → IsProper b u → IsProperDuty b d
+      (k : Key) (p : ℕ) (u : State) (d : Duty) → is_queued (mark_for t.places (spot_of (point k p))) ≡ false → IsProper b u → IsProperDuty b d
       → Settled (seen s) k p u d → Settled (seen t) k p u d
   pub rises : Rises s t
+  pub near : t.near ≡ s.near
+  pub numbers : KeepsNumbers s.places t.places
 
 -- v was joined at y
 pub record Joined (b : Limits) (image : ImageData) (plan : PlanData) (s t : made.Table) (y : Spot) (v : Known) : Type 0 where
@@ -112,12 +123,17 @@ pub record Joined (b : Limits) (image : ImageData) (plan : PlanData) (s t : made
 -- ---- visits
 -- x is visited now, and no other place is
 pub record IsOpenAt (t : made.Table) (x : Spot) : Type 0 where
-  pub at : get spot_eq t.marks x ≡ Some Open
-  pub only : (q : Spot) → get spot_eq t.marks q ≡ Some Open → q ≡ x
+  pub at : mark_for t.places x ≡ Some Open
+  pub only : (q : Spot) → mark_for t.places q ≡ Some Open → q ≡ x
+  pub stands : StandsAt t.places t.near x
+
+-- some place is
+abbrev pub IsOpen : made.Table → Type 0
+IsOpen t = (x : Spot) × IsOpenAt t x
 
 -- no place is
 abbrev pub NoneOpen : made.Table → Type 0
-NoneOpen t = (q : Spot) → get spot_eq t.marks q ≡ Some Open → ⊥
+NoneOpen t = (q : Spot) → mark_for t.places q ≡ Some Open → ⊥
 
 -- all that the point owes is covered
 pub record AllSettled (b : Limits) (image : ImageData) (plan : PlanData) (t : made.Table) (k : Key) (p : ℕ) (u : State) : Type 0 where
@@ -130,28 +146,27 @@ pub record Paid (b : Limits) (image : ImageData) (plan : PlanData) (s t : made.T
   pub faultless : (k : Key) (p : ℕ) (u : State) → place_of x ≡ point k p → (seen s).cells (point k p) ≡ Some (state u) → IsFaultless b image plan k p u
   pub settled :
       (k : Key) (p : ℕ) (u : State) → place_of x ≡ point k p → (seen s).cells (point k p) ≡ Some (state u)
-      → is_queued (get spot_eq t.marks x) ≡ false → AllSettled b image plan t k p u
+      → is_queued (mark_for t.places x) ≡ false → AllSettled b image plan t k p u
 
 -- the next place is taken off the list, if there is one
-abbrev pub Opens : Limits → ImageData → PlanData → made.Table → made.Table → Result (Option Spot) Refusal → Type 0
-Opens b image plan s t (Ok None) = IsFine b image plan t × NoneOpen t × (level t ≡ level s) × (t.work.items ≡ [])
-Opens b image plan s t (Ok (Some x)) = IsFine b image plan t × IsOpenAt t x × (level t ≡ level s) × (s.work.items ≡ x ∷ t.work.items)
-Opens b image plan s t (Err e) = Answered b image plan e
+abbrev pub Opens : Limits → ImageData → PlanData → made.Table → made.Table → Bool → Type 0
+Opens b image plan s t false = IsFine b image plan t × NoneOpen t × (level t ≡ level s) × (t.work.items ≡ [])
+Opens b image plan s t true = IsFine b image plan t × IsOpen t × (level t ≡ level s) × (s.work.items ≡ t.near ∷ t.work.items)
 
 -- the least closed assignment: no place has work
 pub record IsDone (g : Ground) (t : made.Table) : Type 0 where
   pub derived : Derived g.bounds.now g.image.now g.plan.now (seen t).cells
   pub closed : Closed g.bounds.now g.image.now g.plan.now (seen t).cells
   pub faultless : AllFaultless g.bounds.now g.image.now g.plan.now (seen t).cells
-  pub plain : ArePlain g.image.now g.plan.now t.marks
-  pub counted : IsCountedIn t.cells t.points.items t.frames.items
+  pub plain : ArePlain g.image.now g.plan.now t.places
+  pub counted : IsCountedIn t.places t.points.items t.frames.items
 
 -- ---- parts of a visit
 -- these duties of the point p of frame k, which has the state u, were joined, as far as the point has no new work
 pub record PaidFor (b : Limits) (image : ImageData) (plan : PlanData) (s t : made.Table) (k : Key) (p : ℕ) (u : State) (ds : List Owed) : Type 0 where
   pub fine : IsFine b image plan t
   pub keeps : Keeps b image plan s t
-  pub settled : is_queued (get spot_eq t.marks (spot_of (point k p))) ≡ false → (d : Owed) → Contains ds d → Settled (seen t) k p u d.duty
+  pub settled : is_queued (mark_for t.places (spot_of (point k p))) ≡ false → (d : Owed) → Contains ds d → Settled (seen t) k p u d.duty
 
 -- the point owes this duty by its state u, and has no fault of its own
 pub record Owes (b : Limits) (image : ImageData) (plan : PlanData) (k : Key) (p : ℕ) (u : State) (d : Duty) : Type 0 where
@@ -167,7 +182,8 @@ pub record Owes (b : Limits) (image : ImageData) (plan : PlanData) (k : Key) (p 
 pub record IsVisited (b : Limits) (image : ImageData) (plan : PlanData) (t : made.Table) (k : Key) (p : ℕ) (u : State) : Type 0 where
   pub fine : IsFine b image plan t
   pub proper : IsProper b u
-  pub at : is_queued (get spot_eq t.marks (spot_of (point k p))) ≡ false → (seen t).cells (point k p) ≡ Some (state u)
+  pub at : is_queued (mark_for t.places (spot_of (point k p))) ≡ false → (seen t).cells (point k p) ≡ Some (state u)
+  pub stands : StandsAt t.places t.near (spot_of (point k p))
 
 -- ---- by what the code has
 -- the table between two steps
@@ -182,6 +198,16 @@ AnsweredOn g e = Answered g.bounds.now g.image.now g.plan.now e
 abbrev pub AsksOn : Ground → made.Table → Spot → Known → Type 0
 AsksOn g t y v = Asks g.bounds.now g.image.now g.plan.now (seen t).cells (place_of y) v
 
+-- v was joined at y alone
+abbrev pub RaisedOn : Ground → made.Table → made.Table → Spot → Known → Type 0
+RaisedOn g s t y v = Raised g.bounds.now s t y v
+
+-- v was joined at y alone, or was covered there already, and then the table is as it was
+abbrev pub RaisesOn : Ground → made.Table → made.Table → Spot → Known → Result Bool Refusal → Type 0
+RaisesOn g s t y v (Ok true) = RaisedOn g s t y v
+RaisesOn g s t y v (Ok false) = CoversAt (seen s).cells (place_of y) v × (t ≡ s)
+RaisesOn g s t y v (Err e) = AnsweredOn g e
+
 -- v was joined at y
 abbrev pub JoinedOn : Ground → made.Table → made.Table → Spot → Known → Type 0
 JoinedOn g s t y v = Joined g.bounds.now g.image.now g.plan.now s t y v
@@ -191,7 +217,7 @@ abbrev pub PaidOn : Ground → made.Table → made.Table → Spot → Type 0
 PaidOn g s t x = Paid g.bounds.now g.image.now g.plan.now s t x
 
 -- the next place is taken off the list, if there is one
-abbrev pub OpensOn : Ground → made.Table → made.Table → Result (Option Spot) Refusal → Type 0
+abbrev pub OpensOn : Ground → made.Table → made.Table → Bool → Type 0
 OpensOn g s t r = Opens g.bounds.now g.image.now g.plan.now s t r
 
 -- a visit is over: no place is open, and nothing was put on the list unless the table rose

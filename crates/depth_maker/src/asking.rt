@@ -35,7 +35,7 @@ pub(crate) fn pay_jump(
         (owed 4 (jump to (state_after v.now.state.now c.now)) ∷ [])) }
     ensures err { IfErr result (AnsweredOn v.now.ground.now) }
 {
-    if has_work(&table.marks, table.near, Spot::Point(v.key, v.addr)) {
+    if has_work(&table.places, table.near) {
         return Ok(());
     }
     pay_first(alloc, table, v, to, c)
@@ -83,7 +83,7 @@ pub(crate) fn pay_enter(
     if is_covered(v.ground, &*table, entry, &asked) {
         return Ok(());
     }
-    if has_work(&table.marks, table.near, Spot::Point(v.key, v.addr)) {
+    if has_work(&table.places, table.near) {
         return Ok(());
     }
     raise(alloc, table, v, entry, &asked)
@@ -98,7 +98,7 @@ pub(crate) fn pay_leave(alloc: Global, table: &mut Table, v: &Visit) -> Result<(
         (PaidBy v.now table.old table.new (owed rule (leave (exit_of v.now.state.now)) ∷ [])) }
     ensures err { IfErr result (AnsweredOn v.now.ground.now) }
 {
-    if has_work(&table.marks, table.near, Spot::Point(v.key, v.addr)) {
+    if has_work(&table.places, table.near) {
         return Ok(());
     }
     let asked = Asked::Leaving(v.state);
@@ -113,13 +113,13 @@ fn pay_back(alloc: Global, table: &mut Table, v: &Visit, key: Key, back: u32) ->
     ensures ok { OnOk result (PaidBy v.now table.old table.new (owed 4 (resume key back) ∷ [])) }
     ensures err { IfErr result (AnsweredOn v.now.ground.now) }
 {
-    if has_work(&table.marks, table.near, Spot::Point(v.key, v.addr)) {
+    if has_work(&table.places, table.near) {
         return Ok(());
     }
-    let Some(cell) = table.cells.get(&Spot::Exit(key)) else {
+    let Some(place) = table.places.get(&Spot::Exit(key)) else {
         return Ok(());
     };
-    let Some(exit) = cell.exit() else {
+    let Some(exit) = place.value.exit() else {
         return Ok(());
     };
     let to = Spot::Point(v.key, back);
@@ -127,7 +127,7 @@ fn pay_back(alloc: Global, table: &mut Table, v: &Visit, key: Key, back: u32) ->
     if is_covered(v.ground, &*table, to, &asked) {
         return Ok(());
     }
-    let copy = exit.copy(alloc)?;
+    let copy = exit.copy()?;
     let asked = Asked::After(v.state, &copy, key.kind);
     raise(alloc, table, v, to, &asked)
 }

@@ -1,30 +1,27 @@
 // The visits of all points that have work.
-ghost use Rattle.std.specs.Prelude.{◌≡◌, IsTrue, OnOk, IfOk, IfErr, None, Some};
+ghost use Rattle.std.specs.Prelude.{◌≡◌, IsTrue, OnOk, IfOk, IfErr, None};
 ghost use Rattle.indexmap.specs.IndexMap.{get};
-ghost use Rattle.cfg_recover.specs.Entries as entries;
 ghost use Rattle.frame_places.specs.declared.places.Spot as spots;
-ghost use Rattle.frame_places.specs.declared.places.Spot.TheVariants.{Point};
+ghost use Rattle.frame_places.specs.Nearby.{StandsAt};
 ghost use Rattle.frame_places.specs.Spots.{spot_eq};
 ghost use Rattle.depth_maker.specs.Entered.{IsPlainIn};
-ghost use Rattle.depth_maker.specs.View.{AnsweredOn, EndsOn, FineOn, IsDone, IsOpenAt, NoneOpen, OpensOn, PaidOn, TurnsOn};
+ghost use Rattle.depth_maker.specs.View.{AnsweredOn, EndsOn, FineOn, IsDone, IsOpen, NoneOpen, OpensOn, PaidOn, TurnsOn};
 
 use crate::ground::{Ground, Visit};
 use crate::paying::pay;
 use crate::table::Table;
 use cfg_recover::{start_key, start_state};
-use depth_cert::Key;
-use frame_places::{Mark, Refusal, Spot, get_near, open_after, settle};
+use frame_places::{Refusal, Spot, add, open, settle};
 use indexmap::IndexMap;
-use small_states::{Asked, Cell};
+use small_states::{Asked, Cell, ScratchState};
 use std::alloc::Global;
 use std::collections::VecDeque;
-use value_domain::State;
 use vd_transfer::{Change, unchanged};
 
 /// What visits write over: the state of the point, and what its instruction changes.
 #[derive(Drop)]
 struct Scratch {
-    state: State,
+    state: ScratchState,
     change: Change,
 }
 
@@ -46,19 +43,15 @@ fn begin(alloc: Global, ground: &Ground) -> Result<Table, Refusal>
     let same = unchanged(&start);
     let asked = Asked::Changed(&start, &same);
     let cell = Cell::new(alloc, ground.bounds, &asked)?;
-    let mut cells = IndexMap::new(alloc);
-    let mut marks = IndexMap::new(alloc);
+    let mut places = IndexMap::new(alloc);
     let mut work = VecDeque::new(alloc);
     let mut points = Vec::new(alloc);
     let mut frames = Vec::new(alloc);
     points.push(place)?;
     frames.push(key)?;
-    work.push_back(place)?;
-    marks.insert(place, Mark::Queued)?;
-    cells.insert(place, cell)?;
+    add(&mut places, &mut work, place, cell)?;
     Ok(Table {
-        cells,
-        marks,
+        places,
         readers: no_readers(alloc),
         work,
         points,
@@ -68,86 +61,69 @@ fn begin(alloc: Global, ground: &Ground) -> Result<Table, Refusal>
     })
 }
 
-/// Takes the next place off the list.
-fn open_next(_ground: &Ground, table: &mut Table) -> Result<Option<Spot>, Refusal>
+/// Takes the next place off the list and marks it as open; says whether there was one.
+#[inline(always)]
+fn open_next(_ground: &Ground, table: &mut Table) -> bool
     requires fine { FineOn _ground.now table.old }
     requires none { NoneOpen table.old }
     ensures { OpensOn _ground.now table.old table.new result }
 {
     match table.work.pop_front() {
-        None => Ok(None),
-        Some(x) => {
-            table.near = open_after(&mut table.marks, table.near, x)?;
-            Ok(Some(x))
+        None => false,
+        Some(number) => {
+            table.near = number;
+            open(&mut table.places, number);
+            true
         }
     }
 }
 
-/// Joins what a point owes, and says whether its instruction is seen to enter no frame by itself; its state is written over
-/// `scratch`.
-fn pay_point(
-    alloc: Global,
-    ground: &Ground,
-    table: &mut Table,
-    scratch: &mut Scratch,
-    key: Key,
-    addr: u32,
-) -> Result<bool, Refusal>
-    requires fine { FineOn ground.now table.old }
-    ensures ok { OnOk result (PaidOn ground.now table.old table.new (Point key addr)) }
-    ensures plain { IfOk result (λ plain. IsTrue plain
-        → IsPlainIn ground.now.image.now ground.now.plan.now (Point key addr)) }
-    ensures err { IfErr result (AnsweredOn ground.now) }
-{
-    let Some(cell) = get_near(&table.cells, table.near, Spot::Point(key, addr)) else {
-        return Ok(false);
-    };
-    cell.read_state(ground.bounds, &mut scratch.state);
-    let v = Visit {
-        ground,
-        key,
-        addr,
-        state: &scratch.state,
-    };
-    pay(alloc, table, &v, &mut scratch.change)
-}
-
-/// Joins what is owed at a place, and says whether an instruction there is seen to enter no frame by itself; nothing is owed
-/// at an exit.
+/// Joins what is owed at the place that is visited, and says whether an instruction there is seen to enter no frame by itself;
+/// nothing is owed at an exit. The state of a point is written over `scratch`.
 fn pay_place(
     alloc: Global,
     ground: &Ground,
     table: &mut Table,
     scratch: &mut Scratch,
-    x: Spot,
 ) -> Result<bool, Refusal>
     requires fine { FineOn ground.now table.old }
-    ensures ok { OnOk result (PaidOn ground.now table.old table.new x) }
-    ensures plain { IfOk result (λ plain. IsTrue plain
+    ensures ok { (x : spots.Spot) → StandsAt table.old.places table.old.near x
+        → OnOk result (PaidOn ground.now table.old table.new x) }
+    ensures plain { (x : spots.Spot) → StandsAt table.old.places table.old.near x
+        → IfOk result (λ plain. IsTrue plain
         → IsPlainIn ground.now.image.now ground.now.plan.now x) }
     ensures err { IfErr result (AnsweredOn ground.now) }
 {
-    match x {
-        Spot::Exit(_) => Ok(false),
-        Spot::Point(key, addr) => pay_point(alloc, ground, table, scratch, key, addr),
-    }
+    let Some((at, place)) = table.places.get_index(table.near) else {
+        return Ok(false);
+    };
+    let Spot::Point(key, addr) = *at else {
+        return Ok(false);
+    };
+    place.value.read_state(ground.bounds, &mut scratch.state);
+    let v = Visit {
+        ground,
+        key,
+        addr,
+        state: scratch.state.state(),
+    };
+    pay(alloc, table, &v, &mut scratch.change)
 }
 
-/// Visits one place.
+/// Visits the place that was taken off the list.
 fn visit(
     alloc: Global,
     ground: &Ground,
     table: &mut Table,
     scratch: &mut Scratch,
-    x: Spot,
 ) -> Result<(), Refusal>
     requires fine { FineOn ground.now table.old }
-    requires opened { IsOpenAt table.old x }
+    requires opened { IsOpen table.old }
     ensures ok { OnOk result (EndsOn ground.now table.old table.new) }
     ensures err { IfErr result (AnsweredOn ground.now) }
 {
-    let plain = pay_place(alloc, ground, table, scratch, x)?;
-    settle(&mut table.marks, table.near, x, plain)?;
+    let plain = pay_place(alloc, ground, table, scratch)?;
+    settle(&mut table.places, table.near, plain);
     Ok(())
 }
 
@@ -163,11 +139,10 @@ fn turn(
     ensures { TurnsOn ground.now table.old table.new result }
 {
     for _done in 0..table.work.len() {
-        match open_next(ground, table) {
-            Ok(None) => return Ok(false),
-            Ok(Some(x)) => visit(alloc, ground, table, scratch, x)?,
-            Err(refusal) => return Err(refusal),
+        if !open_next(ground, table) {
+            return Ok(false);
         }
+        visit(alloc, ground, table, scratch)?;
     }
     Ok(!table.work.is_empty())
 }
@@ -180,6 +155,7 @@ pub(crate) fn close(alloc: Global, ground: &Ground) -> Result<Table, Refusal>
     let mut table = begin(alloc, ground)?;
     let state = start_state(ground.plan);
     let change = unchanged(&state);
+    let state = ScratchState::new(state);
     let mut scratch = Scratch { state, change };
     while turn(alloc, ground, &mut table, &mut scratch)? {}
     Ok(table)

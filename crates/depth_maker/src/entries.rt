@@ -8,6 +8,8 @@ ghost use Rattle.cfg_recover.specs.Local.{targets_of};
 ghost use Rattle.cfg_recover.specs.Duties.{irqs_of};
 ghost use Rattle.cfg_recover.specs.Flows as flows;
 ghost use Rattle.cfg_recover.specs.Flows.{told_irqs};
+ghost use Rattle.frame_places.specs.declared.places.Spot.TheVariants.{Point};
+ghost use Rattle.frame_places.specs.Nearby.{StandsAt};
 ghost use Rattle.depth_maker.specs.View.{AnsweredOn, OwesAll, PaidBy, StandsBy, StayPaid, VisitedBy, access_by, calls_by, entries_by, interrupts_by, misaligned_by, system_by};
 
 use crate::asking::{pay_enter, pay_entry};
@@ -19,7 +21,7 @@ use cfg_recover::{
     Located, aln_key, call_change, entered_key, handler_change, interrupts, irq_key,
     misaligned_change, sys_key, system_change, targets,
 };
-use frame_places::{Refusal, Spot, has_work};
+use frame_places::{Refusal, has_work};
 use std::alloc::Global;
 use tc_isa::{Shape, Target};
 use vd_transfer::Change;
@@ -195,12 +197,13 @@ fn is_heard(table: &Table, v: &Visit) -> bool
 /// itself, as it has room for a value.
 #[inline(never)]
 fn hear(table: &mut Table, v: &Visit)
+    requires near { StandsAt table.old.places table.old.near (Point v.now.key v.now.addr) }
     requires proper { IsProper v.now.ground.now.bounds.now v.now.state.now }
     requires on { IsTrue v.now.state.now.ie }
     requires owes { OwesAll v.now (interrupts_by v.now) }
     ensures { StayPaid v.now table.old table.new }
 {
-    if has_work(&table.marks, table.near, Spot::Point(v.key, v.addr)) {
+    if has_work(&table.places, table.near) {
         return;
     }
     table.heard = Some(Heard::at(v.key.is, v.state));

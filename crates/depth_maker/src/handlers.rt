@@ -10,7 +10,6 @@ use frame_places::number_of;
 use indexmap::IndexMap;
 use std::alloc::{AllocError, Global};
 use tcd_plan::Plan;
-use value_domain::State;
 
 /// The priority of an interrupt, and the number of its handler's frame.
 #[derive(Drop)]
@@ -73,16 +72,18 @@ fn add_all_above(into: &mut Vec<usize>, ccpn: u8, handlers: &[Handler]) -> Resul
     Ok(())
 }
 
-/// Adds those of the interrupts that may be taken in a state.
+/// Adds the frames of the interrupts that may be taken: none where they may not come, else those above this priority.
 pub(crate) fn add_taken(
     into: &mut Vec<usize>,
-    s: &State,
+    ie: bool,
+    ccpn: u8,
     handlers: &[Handler],
 ) -> Result<(), AllocError>
-    ensures { OnOk result (into.new.items ≡ into.old.items ++ nodes_taken s.now handlers.now) }
+    ensures { OnOk result (into.new.items ≡ into.old.items ++ nodes_taken ie ccpn handlers.now) }
 {
-    if !s.ie {
+    if !ie {
         return Ok(());
     }
-    add_all_above(into, s.ccpn, handlers)
+    into.reserve(handlers.len())?;
+    add_all_above(into, ccpn, handlers)
 }

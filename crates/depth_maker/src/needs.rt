@@ -36,11 +36,16 @@ fn needs_by(
 }
 
 /// The least needs of the frames, by their numbers; `None` where the start needs more than the areas without the reserve.
+/// Needs are raised from the last row on, and interrupts enter frames of higher priority: their rows stand last.
 pub(crate) fn frame_needs(alloc: Global, source: &Source) -> Result<Option<Vec<u32>>, Refusal>
     requires { IsSource source.now }
     ensures { NeedsOn source.now result }
 {
-    let rows = rows(alloc, source)?;
+    let mut rows = rows(alloc, source)?;
     let frames = source.table.frames.as_slice();
+    rows.sort_by_key(|row| match frames.get(row.node) {
+        Some(key) => key.prio,
+        None => 0,
+    })?;
     needs_by(alloc, source, rows.as_slice(), frames)
 }

@@ -7,10 +7,12 @@ ghost use Rattle.frame_places.specs.Spots.{IsAddressIn};
 ghost use Rattle.depth_maker.specs.RowsBy.{IsSource};
 ghost use Rattle.frame_places.specs.declared.places.Spot.TheVariants.{Point};
 
-use crate::rows::{Scratch, Source, point_row, rows};
+use crate::rows::{KnownPoint, Source, point_row, rows};
 use call_needs::{Edge, edges_of, first_recurring, has_marked, reaching};
+use cfg_recover::start_state;
 use depth_cert::Key;
-use frame_places::{Spot, address_in, orders_of};
+use frame_places::{Spot, address_in, number_of, orders_of};
+use small_states::ScratchState;
 use std::alloc::{AllocError, Global};
 
 /// Whether the point enters a marked frame.
@@ -24,10 +26,19 @@ fn enters_marked(
     requires { IsSource source.now }
     ensures { IfOk result (λ enters. IsTrue enters ↔ EntersMarked source.now marks.now key addr) }
 {
-    let mut scratch = Scratch::new(source.ground.plan);
-    match point_row(alloc, source, &mut scratch, key, addr) {
-        Ok(Some(row)) => Ok(has_marked(marks, row.into.as_slice())),
-        Ok(None) => Ok(false),
+    let place = Spot::Point(key, addr);
+    let Some(known) = source.table.places.get(&place) else {
+        return Ok(false);
+    };
+    let at = KnownPoint {
+        key,
+        addr,
+        node: number_of(source.numbers, key),
+        known,
+    };
+    let mut state = ScratchState::new(start_state(source.ground.plan));
+    match point_row(alloc, source, &mut state, &at) {
+        Ok(row) => Ok(has_marked(marks, row.into.as_slice())),
         Err(_) => Err(AllocError),
     }
 }

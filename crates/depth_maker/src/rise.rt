@@ -1,65 +1,103 @@
 // One joining.
-ghost use Rattle.std.specs.Prelude.{◌≡◌, IfErr, IfOk, IsTrue, OnOk, Some};
+ghost use Rattle.std.specs.Prelude.{◌≡◌, IfErr, IfOk, IsTrue, None, OnOk, Some};
+ghost use Rattle.indexmap.specs.IndexMap.{get};
 ghost use Rattle.cfg_recover.specs.Assignments.{CoversAt, point};
 ghost use Rattle.depth_cert.specs.Known.{IsProperKnown, state};
 ghost use Rattle.small_states.specs.Kept.{asked_for, asking};
-ghost use Rattle.frame_places.specs.Marks.{AllListed, Woken};
+ghost use Rattle.frame_places.specs.declared.places.Spot.TheVariants.{Point};
+ghost use Rattle.frame_places.specs.Marks.{AllListed, AreKnown, Reads, Tells, value_for};
+ghost use Rattle.frame_places.specs.Nearby.{StandsAt};
+ghost use Rattle.frame_places.specs.Spots.{spot_eq};
 ghost use Rattle.depth_maker.specs.Spots.{place_of};
-ghost use Rattle.depth_maker.specs.View.{seen, AnsweredOn, AreExitsRead, AsksOn, CellsProper, FineOn, JoinedOn, Merges};
+ghost use Rattle.depth_maker.specs.View.{seen, AnsweredOn, AreExitsRead, AsksOn, FineOn, JoinedOn, RaisedOn, RaisesOn};
 
 use crate::ground::{Ground, Visit};
 use crate::table::Table;
-use frame_places::{Mark, Refusal, Spot, count, get_near, touch, wake};
+use frame_places::{Marked, Refusal, Spot, add, count, put, wake};
 use indexmap::IndexMap;
 use small_states::{Asked, Cell, priority};
 use std::alloc::{AllocError, Global};
 use std::collections::VecDeque;
 
-/// What is asked where nothing is known yet, made from what is known at the point that asks.
-fn new_cell(alloc: Global, table: &Table, v: &Visit, asked: &Asked) -> Result<Cell, AllocError>
-    requires at { (seen table.now).cells (point v.now.key v.now.addr)
-        ≡ Some (state v.now.state.now) }
-    requires own { asking asked.now ≡ v.now.state.now }
-    requires value { IsProperKnown v.now.ground.now.bounds.now (asked_for asked.now) }
-    ensures { IfOk result (λ c. c ≡ asked_for asked.now) }
-{
-    let b = v.ground.bounds;
-    match get_near(&table.cells, table.near, Spot::Point(v.key, v.addr)) {
-        None => Cell::new(alloc, b, asked),
-        Some(own) => own.changed(alloc, asked),
-    }
-}
-
-/// What is known at y with what is asked joined, or `None` where it is covered already.
-fn merged(
+/// Adds y, of which nothing is known, with what is asked, made from what is known at the point that asks, and counts it.
+fn add_place(
     alloc: Global,
-    table: &Table,
+    table: &mut Table,
     v: &Visit,
     y: Spot,
     asked: &Asked,
-) -> Result<Option<Cell>, Refusal>
-    requires cells { CellsProper v.now.ground.now.bounds.now table.now.cells }
-    requires at { (seen table.now).cells (point v.now.key v.now.addr)
+) -> Result<(), Refusal>
+    requires fine { FineOn v.now.ground.now table.old }
+    requires near { StandsAt table.old.places table.old.near (Point v.now.key v.now.addr) }
+    requires at { (seen table.old).cells (point v.now.key v.now.addr)
         ≡ Some (state v.now.state.now) }
     requires own { asking asked.now ≡ v.now.state.now }
-    requires value { IsProperKnown v.now.ground.now.bounds.now (asked_for asked.now) }
-    ensures { Merges v.now.ground.now.bounds.now table.now.cells y (asked_for asked.now) result }
+    requires asked { AsksOn v.now.ground.now table.old y (asked_for asked.now) }
+    requires new { value_for table.old.places y ≡ None }
+    ensures ok { OnOk result
+        (RaisedOn v.now.ground.now table.old table.new y (asked_for asked.now)) }
+    ensures err { IfErr result (AnsweredOn v.now.ground.now) }
 {
+    let Some((_, own)) = table.places.get_index(table.near) else {
+        return Err(Refusal::NoMemory);
+    };
+    let value = own.value.changed(alloc, asked)?;
+    count(false, &mut table.points, &mut table.frames, y)?;
+    add(&mut table.places, &mut table.work, y, value)?;
+    Ok(())
+}
+
+/// Joins what is asked into what is known at y, which has this number, and puts y on the list, unless it is covered; says whether
+/// it was not.
+fn raise_place(
+    alloc: Global,
+    table: &mut Table,
+    v: &Visit,
+    number: usize,
+    y: Spot,
+    asked: &Asked,
+) -> Result<bool, Refusal>
+    requires fine { FineOn v.now.ground.now table.old }
+    requires there { StandsAt table.old.places number y }
+    requires asked { AsksOn v.now.ground.now table.old y (asked_for asked.now) }
+    ensures { RaisesOn v.now.ground.now table.old table.new y (asked_for asked.now) result }
+{
+    let Some((_, place)) = table.places.get_index(number) else {
+        return Err(Refusal::NoMemory);
+    };
     let b = v.ground.bounds;
-    match table.cells.get(&y) {
+    if place.value.covers(b, asked) {
+        return Ok(false);
+    }
+    let Some(cell) = place.value.join(alloc, b, asked)? else {
+        return Err(Refusal::Fault(8, y));
+    };
+    put(&mut table.places, &mut table.work, number, cell)?;
+    Ok(true)
+}
+
+/// Joins what is asked at y alone, unless it is covered; says whether it was not.
+fn rise(
+    alloc: Global,
+    table: &mut Table,
+    v: &Visit,
+    y: Spot,
+    asked: &Asked,
+) -> Result<bool, Refusal>
+    requires fine { FineOn v.now.ground.now table.old }
+    requires near { StandsAt table.old.places table.old.near (Point v.now.key v.now.addr) }
+    requires at { (seen table.old).cells (point v.now.key v.now.addr)
+        ≡ Some (state v.now.state.now) }
+    requires own { asking asked.now ≡ v.now.state.now }
+    requires asked { AsksOn v.now.ground.now table.old y (asked_for asked.now) }
+    ensures { RaisesOn v.now.ground.now table.old table.new y (asked_for asked.now) result }
+{
+    match table.places.get_index_of(&y) {
         None => {
-            let cell = new_cell(alloc, table, v, asked)?;
-            Ok(Some(cell))
+            add_place(alloc, table, v, y, asked)?;
+            Ok(true)
         }
-        Some(old) => {
-            if old.covers(b, asked) {
-                return Ok(None);
-            }
-            match old.join(alloc, b, asked)? {
-                None => Err(Refusal::Fault(8, y)),
-                Some(cell) => Ok(Some(cell)),
-            }
-        }
+        Some(number) => raise_place(alloc, table, v, number, y, asked),
     }
 }
 
@@ -69,29 +107,29 @@ pub(crate) fn is_covered(ground: &Ground, table: &Table, y: Spot, asked: &Asked)
     requires value { IsProperKnown (ground.now).bounds.now (asked_for asked.now) }
     ensures { IsTrue result → CoversAt (seen table.now).cells (place_of y) (asked_for asked.now) }
 {
-    match table.cells.get(&y) {
+    match table.places.get(&y) {
         None => false,
-        Some(cell) => cell.covers(ground.bounds, asked),
+        Some(place) => place.value.covers(ground.bounds, asked),
     }
 }
 
-/// Puts y on the list, and all that read it; no point is read.
+/// Puts all that read y on the list; no point is read.
 fn tell(
-    marks: &mut IndexMap<Spot, Mark>,
-    work: &mut VecDeque<Spot>,
+    places: &mut IndexMap<Spot, Marked<Cell>>,
+    work: &mut VecDeque<usize>,
     readers: &IndexMap<Spot, Vec<Spot>>,
     y: Spot,
 ) -> Result<(), AllocError>
-    requires listed { AllListed marks.old work.old.items }
+    requires listed { AllListed places.old work.old.items }
     requires exits { AreExitsRead readers.now }
-    ensures marks { OnOk result (Woken marks.old marks.new readers.now y) }
-    ensures work { OnOk result (AllListed marks.new work.new.items) }
+    requires known { AreKnown places.old (Reads (get spot_eq readers.now y)) }
+    ensures marks { OnOk result (Tells places.old places.new (Reads (get spot_eq readers.now y))) }
+    ensures work { OnOk result (AllListed places.new work.new.items) }
 {
     if let Spot::Point(_, _) = y {
-        touch(marks, work, y)?;
         return Ok(());
     }
-    wake(marks, work, readers, y)
+    wake(places, work, readers, y)
 }
 
 /// Joins what is asked by a point, which has the state that it is visited with, into what is known at y.
@@ -103,6 +141,7 @@ pub(crate) fn raise(
     asked: &Asked,
 ) -> Result<(), Refusal>
     requires fine { FineOn v.now.ground.now table.old }
+    requires near { StandsAt table.old.places table.old.near (Point v.now.key v.now.addr) }
     requires at { (seen table.old).cells (point v.now.key v.now.addr)
         ≡ Some (state v.now.state.now) }
     requires own { asking asked.now ≡ v.now.state.now }
@@ -112,14 +151,8 @@ pub(crate) fn raise(
     ensures err { IfErr result (AnsweredOn v.now.ground.now) }
 {
     let _byte = priority(asked);
-    let new = match merged(alloc, &*table, v, y, asked) {
-        Ok(None) => return Ok(()),
-        Ok(Some(cell)) => cell,
-        Err(refusal) => return Err(refusal),
-    };
-    let before = table.cells.insert(y, new)?;
-    let known = before.is_some();
-    count(known, &mut table.points, &mut table.frames, y)?;
-    tell(&mut table.marks, &mut table.work, &table.readers, y)?;
+    if rise(alloc, table, v, y, asked)? {
+        tell(&mut table.places, &mut table.work, &table.readers, y)?;
+    }
     Ok(())
 }

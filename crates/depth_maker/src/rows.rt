@@ -1,12 +1,12 @@
 // The rows of all points: which frames each enters, by numbers, and with how many locals.
-ghost use Rattle.std.specs.Prelude.{◌≡◌, List, IfOk, IfSome, IsTrue, OnOk, Ok, Some};
+ghost use Rattle.std.specs.Prelude.{◌≡◌, ◌+◌, ◌<◌, List, IfOk, IsTrue, OnOk};
+ghost use Rattle.indexmap.specs.IndexMap.{index_map_len};
 ghost use Rattle.depth_cert.specs.declared.keys.Key as keys;
 ghost use Rattle.depth_cert.specs.Known.{IsProper};
-ghost use Rattle.cfg_recover.specs.Assignments.{point};
+ghost use Rattle.frame_places.specs.Numbers.{number_in};
 ghost use Rattle.depth_maker.specs.Handlers.{AreNumbered};
-ghost use Rattle.depth_maker.specs.Entered.{IsPlainAt};
-ghost use Rattle.depth_maker.specs.View.{IsPlainBy, StandsBy, seen};
-ghost use Rattle.depth_maker.specs.RowsBy.{AddsRow, AllKnownBy, FaultlessBy, HasSame, IsRowBy, IsSource, PointHasRow, RowsOn};
+ghost use Rattle.depth_maker.specs.View.{StandsBy};
+ghost use Rattle.depth_maker.specs.RowsBy.{AddsPlain, AddsPoint, AllKnownBy, IsDraft, IsKnownPoint, IsPointRow, IsRowBy, IsSaidBy, IsSource, RowsOn};
 
 use crate::entered::entered;
 use crate::ground::{Ground, Visit};
@@ -15,85 +15,10 @@ use crate::table::Table;
 use call_needs::Row;
 use cfg_recover::{Located, local_check, start_state};
 use depth_cert::Key;
-use frame_places::{Refusal, Spot, get_after, is_plain, number_near, number_of, numbers_of};
+use frame_places::{Marked, Refusal, Spot, is_plain, number_near, numbers_of};
 use indexmap::IndexMap;
-use small_states::Cell;
+use small_states::{Cell, Outline, ScratchState};
 use std::alloc::{AllocError, Global};
-use tcd_plan::Plan;
-use value_domain::State;
-
-/// The row of a point, by what stands there.
-fn row_with(
-    alloc: Global,
-    v: &Visit,
-    numbers: &IndexMap<Key, usize>,
-    handlers: &[Handler],
-    found: &Located,
-) -> Result<Row, AllocError>
-    requires found { StandsBy v.now found.now }
-    requires proper { IsProper v.now.ground.now.bounds.now v.now.state.now }
-    ensures { IfOk result (λ row. (frames : List keys.Key)
-        → AreNumbered v.now.ground.now.plan.now numbers.now handlers.now frames
-        → AllKnownBy v.now frames → IsRowBy v.now frames row) }
-{
-    let keys = entered(alloc, v, found)?;
-    let mut into = numbers_of(alloc, numbers, keys.as_slice())?;
-    add_taken(&mut into, v.state, handlers)?;
-    Ok(Row {
-        node: number_of(numbers, v.key),
-        held: v.state.locals.len() as u8,
-        into,
-    })
-}
-
-/// The row of a point whose instruction enters no frame by itself.
-fn plain_row(
-    alloc: Global,
-    v: &Visit,
-    numbers: &IndexMap<Key, usize>,
-    handlers: &[Handler],
-) -> Result<Row, AllocError>
-    requires local_check { FaultlessBy v.now }
-    requires proper { IsProper v.now.ground.now.bounds.now v.now.state.now }
-    requires plain { IsPlainBy v.now }
-    ensures { IfOk result (λ row. (frames : List keys.Key)
-        → AreNumbered v.now.ground.now.plan.now numbers.now handlers.now frames
-        → AllKnownBy v.now frames → IsRowBy v.now frames row) }
-{
-    let mut into = Vec::new(alloc);
-    add_taken(&mut into, v.state, handlers)?;
-    Ok(Row {
-        node: number_of(numbers, v.key),
-        held: v.state.locals.len() as u8,
-        into,
-    })
-}
-
-/// The row of a point without a fault of its own; by itself, as it is seldom asked for.
-#[inline(never)]
-fn row_at(
-    alloc: Global,
-    v: &Visit,
-    numbers: &IndexMap<Key, usize>,
-    handlers: &[Handler],
-    plain: bool,
-) -> Result<Row, Refusal>
-    requires local_check { FaultlessBy v.now }
-    requires proper { IsProper v.now.ground.now.bounds.now v.now.state.now }
-    requires plain { IsTrue plain → IsPlainBy v.now }
-    ensures { IfOk result (λ row. (frames : List keys.Key)
-        → AreNumbered v.now.ground.now.plan.now numbers.now handlers.now frames
-        → AllKnownBy v.now frames → IsRowBy v.now frames row) }
-{
-    if plain {
-        return Ok(plain_row(alloc, v, numbers, handlers)?);
-    }
-    let g = v.ground;
-    match local_check(g.bounds, g.image, g.plan, &v.key, v.addr, v.state) {
-        Ok(found) => Ok(row_with(alloc, v, numbers, handlers, &found)?),
-        Err(_) => Err(Refusal::NoMemory),
-    }
-}
 
 /// What rows are made from: a table without work, the numbers of its frames, and the handlers of interrupts with theirs.
 #[derive(Drop)]
@@ -104,147 +29,184 @@ pub(crate) struct Source<'a> {
     pub(crate) handlers: &'a [Handler],
 }
 
-/// What rows are read over: a state; and for speed alone the number of the place that was read last, in the order of the table's
-/// cells, and that of its frame.
+/// A point of a table, the number of its frame, and what is known there with its mark.
 #[derive(Drop)]
-pub(crate) struct Scratch {
-    state: State,
-    near: usize,
-    node: usize,
+pub(crate) struct KnownPoint<'a> {
+    pub(crate) key: Key,
+    pub(crate) addr: u32,
+    pub(crate) node: usize,
+    pub(crate) known: &'a Marked<Cell>,
 }
 
-impl Scratch {
-    /// Before anything was read.
-    pub(crate) fn new(plan: &Plan) -> Scratch {
-        Scratch {
-            state: start_state(plan),
-            near: 0,
-            node: 0,
-        }
-    }
-}
-
-/// The row of a point whose instruction enters no frame by itself, if no interrupt may be taken there.
-#[inline(always)]
-fn quiet_row(
+/// The row of a point, by what stands there.
+fn row_with(
     alloc: Global,
+    v: &Visit,
     source: &Source,
-    scratch: &mut Scratch,
-    cell: &Cell,
-    key: Key,
-    addr: u32,
-) -> Option<Row>
-    requires source { IsSource source.now }
-    requires at { (seen source.now.table.now).cells (point key addr) ≡ Some cell.now }
-    requires plain { IsPlainAt source.now.ground.now.image.now source.now.ground.now.plan.now addr }
-    ensures { IfSome result (λ row. PointHasRow source.now key addr (Ok (Some row))) }
+    node: usize,
+    found: &Located,
+) -> Result<Row, AllocError>
+    requires found { StandsBy v.now found.now }
+    requires proper { IsProper v.now.ground.now.bounds.now v.now.state.now }
+    ensures { IfOk result (λ row. (frames : List keys.Key)
+        → AreNumbered v.now.ground.now.plan.now source.now.numbers.now
+        source.now.handlers.now frames
+        → AllKnownBy v.now frames → node ≡ number_in frames v.now.key → IsRowBy v.now frames row) }
 {
-    let held = cell.quiet_locals()?;
-    let node = number_near(source.numbers, scratch.node, key);
-    scratch.node = node;
-    Some(Row {
+    let keys = entered(alloc, v, found)?;
+    let mut into = numbers_of(alloc, source.numbers, keys.as_slice())?;
+    add_taken(&mut into, v.state.ie, v.state.ccpn, source.handlers)?;
+    Ok(Row {
         node,
-        held,
-        into: Vec::new(alloc),
+        held: v.state.locals.len() as u8,
+        into,
     })
 }
 
-/// The row of a point, or `None` where nothing is known there; its state is written over `scratch`.
-#[inline(always)]
+/// The row of a point, whose state is written over `state`.
 pub(crate) fn point_row(
     alloc: Global,
     source: &Source,
-    scratch: &mut Scratch,
-    key: Key,
-    addr: u32,
-) -> Result<Option<Row>, Refusal>
-    requires { IsSource source.now }
-    ensures { PointHasRow source.now key addr result }
+    state: &mut ScratchState,
+    at: &KnownPoint,
+) -> Result<Row, Refusal>
+    requires source { IsSource source.now }
+    requires at { IsKnownPoint source.now at.now }
+    ensures { IfOk result (IsPointRow source.now at.now.key at.now.addr) }
 {
-    let place = Spot::Point(key, addr);
-    let Some(cell) = get_after(&source.table.cells, &mut scratch.near, place) else {
-        return Ok(None);
-    };
-    let plain = is_plain(&source.table.marks, scratch.near, place);
-    if plain {
-        if let Some(row) = quiet_row(alloc, source, scratch, cell, key, addr) {
-            return Ok(Some(row));
-        }
-    }
-    cell.read_state(source.ground.bounds, &mut scratch.state);
+    let g = source.ground;
+    let cell = &at.known.value;
+    cell.read_state(g.bounds, state);
     let v = Visit {
-        ground: source.ground,
-        key,
-        addr,
-        state: &scratch.state,
+        ground: g,
+        key: at.key,
+        addr: at.addr,
+        state: state.state(),
     };
-    let row = row_at(alloc, &v, source.numbers, source.handlers, plain)?;
-    Ok(Some(row))
+    match local_check(g.bounds, g.image, g.plan, &v.key, v.addr, v.state) {
+        Ok(found) => Ok(row_with(alloc, &v, source, at.node, &found)?),
+        Err(_) => Err(Refusal::NoMemory),
+    }
 }
 
-/// Whether the last row of the same frame, which has the number in `last`, says what this one says.
-fn is_said(rows: &[Row], last: &[usize], row: &Row) -> bool
-    ensures { IsTrue result → HasSame rows.now row.now }
+/// Rows as they are made: `said` has for frames, by their numbers, the outline of a point that enters no frame by itself and whose
+/// row stands there; `node` is the number of the frame that was met last. States are read over `state`.
+#[derive(Drop)]
+pub(crate) struct Draft {
+    rows: Vec<Row>,
+    said: Vec<Option<Outline>>,
+    state: ScratchState,
+    node: usize,
+}
+
+/// Whether a row of the frame says what that of a point says at which this is known.
+#[inline(always)]
+fn is_said(said: &[Option<Outline>], node: usize, known: &Marked<Cell>) -> bool
+    ensures { IsTrue result → IsSaidBy said.now node known.now }
 {
-    let Some(number) = last.get(row.node) else {
+    if !is_plain(known.mark) {
+        return false;
+    }
+    let Some(Some(other)) = said.get(node) else {
         return false;
     };
-    match rows.get(*number) {
-        Some(other) => {
-            if other.node == row.node {
-                if other.held == row.held {
-                    return other.into.as_slice() == row.into.as_slice();
-                }
-            }
-            false
-        }
+    let cell = &known.value;
+    match cell.outline() {
+        Some(outline) => *other == outline,
         None => false,
     }
 }
 
-/// Adds the row of a place, if it is a point that is known and the last row of its frame, by its number in `last`, doesn't say
-/// the same.
-#[inline(always)]
-fn add_row(
+/// Adds the row of a point whose instruction enters no frame by itself.
+fn add_plain(
     alloc: Global,
     source: &Source,
-    rows: &mut Vec<Row>,
-    last: &mut [usize],
-    scratch: &mut Scratch,
-    place: Spot,
-) -> Result<(), Refusal>
-    requires { IsSource source.now }
-    ensures { OnOk result (AddsRow source.now rows.old.items rows.new.items place) }
+    draft: &mut Draft,
+    node: usize,
+    outline: Outline,
+) -> Result<(), AllocError>
+    ensures { OnOk result (AddsPlain source.now draft.old draft.new node outline) }
 {
+    let mut into = Vec::new(alloc);
+    add_taken(&mut into, outline.ie, outline.ccpn, source.handlers)?;
+    draft.rows.push(Row {
+        node,
+        held: outline.held,
+        into,
+    })?;
+    if node < draft.said.len() {
+        draft.said[node] = Some(outline);
+    }
+    Ok(())
+}
+
+/// Adds the row of a point; by itself, as it is seldom asked for.
+#[inline(never)]
+fn add_point(
+    alloc: Global,
+    source: &Source,
+    draft: &mut Draft,
+    at: &KnownPoint,
+) -> Result<(), Refusal>
+    requires source { IsSource source.now }
+    requires at { IsKnownPoint source.now at.now }
+    ensures { OnOk result (AddsPoint source.now draft.old draft.new at.now) }
+{
+    if is_plain(at.known.mark) {
+        let cell = &at.known.value;
+        if let Some(outline) = cell.outline() {
+            add_plain(alloc, source, draft, at.node, outline)?;
+            return Ok(());
+        }
+    }
+    let row = point_row(alloc, source, &mut draft.state, at)?;
+    draft.rows.push(row)?;
+    Ok(())
+}
+
+/// Adds the row of the place that has this number, if it is a point and no row says what its would say.
+#[inline(always)]
+fn add_row(alloc: Global, source: &Source, draft: &mut Draft, entry: usize) -> Result<(), Refusal>
+    requires source { IsSource source.now }
+    requires entry { entry < index_map_len source.now.table.now.places }
+    requires draft { IsDraft source.now entry draft.old }
+    ensures { OnOk result (IsDraft source.now (entry + 1) draft.new) }
+{
+    let Some((place, known)) = source.table.places.get_index(entry) else {
+        return Ok(());
+    };
     let Spot::Point(key, addr) = place else {
         return Ok(());
     };
-    match point_row(alloc, source, scratch, key, addr)? {
-        None => Ok(()),
-        Some(row) => {
-            if is_said(rows.as_slice(), &*last, &row) {
-                return Ok(());
-            }
-            if row.node < last.len() {
-                last[row.node] = rows.len();
-            }
-            rows.push(row)?;
-            Ok(())
-        }
+    let node = number_near(source.numbers, draft.node, key);
+    draft.node = node;
+    if is_said(draft.said.as_slice(), node, known) {
+        return Ok(());
     }
+    let at = KnownPoint {
+        key: *key,
+        addr: *addr,
+        node,
+        known,
+    };
+    add_point(alloc, source, draft, &at)?;
+    Ok(())
 }
 
-/// The rows of all points; one that says what the last of its frame says stands there once.
+/// The rows of all points; a plain point's with the outline that was met last at one of its frame isn't put in again.
 pub(crate) fn rows(alloc: Global, source: &Source) -> Result<Vec<Row>, Refusal>
     requires { IsSource source.now }
     ensures { IfOk result (λ rows. RowsOn source.now.ground.now source.now.table.now rows.items) }
 {
-    let points = source.table.points.as_slice();
-    let mut rows = Vec::new(alloc);
-    let mut last = vec![in alloc; 0usize; source.table.frames.len()]?;
-    let mut scratch = Scratch::new(source.ground.plan);
-    for p in points {
-        add_row(alloc, source, &mut rows, &mut last, &mut scratch, *p)?;
+    let mut draft = Draft {
+        rows: Vec::new(alloc),
+        said: vec![in alloc; None; source.table.frames.len()]?,
+        state: ScratchState::new(start_state(source.ground.plan)),
+        node: 0,
+    };
+    for entry in 0..source.table.places.len() {
+        add_row(alloc, source, &mut draft, entry)?;
     }
+    let Draft { rows, .. } = draft;
     Ok(rows)
 }

@@ -1,14 +1,15 @@
 // The certificate of a table, written point by point.
-ghost use Rattle.std.specs.Prelude.{◌≡◌, ◌<◌, ◌^◌, ◌⊎◌, OnOk, IfOk, IsSome};
-ghost use Rattle.cfg_recover.specs.Assignments.{point};
+ghost use Rattle.std.specs.Prelude.{◌≡◌, ◌<◌, ◌^◌, ◌⊎◌, OnOk, IfOk};
+ghost use Rattle.frame_places.specs.Entries.{place_at};
+ghost use Rattle.frame_places.specs.Spots.{spot_address};
 ghost use Rattle.depth_maker.specs.RowsAt.{need_by};
 ghost use Rattle.depth_maker.specs.RowsBy.{IsSource};
-ghost use Rattle.depth_maker.specs.Spelled.{AreFrames, AreKnown, IsFrameOf, IsOfVersion, IsOrdered, IsSpelledOn, NeedsAre, WritesCert, WritesExit, WritesNode, WritesNodes, WritesPoint, WritesPoints, known_on};
+ghost use Rattle.depth_maker.specs.Spelled.{AreFrames, ArePointsOf, IsFrameOf, IsOfVersion, IsOrdered, IsPointOf, IsSpelledOn, NeedsAre, WritesCert, WritesExit, WritesNode, WritesNodes, WritesPoint, WritesPoints, spots_on};
 
 use crate::rows::Source;
 use depth_cert::{Key, put_u16, write_exit, write_key};
 use frame_places::{
-    Spot, address_at, frames_in_order, get_near, index_after, number_of, points_in_order, points_of,
+    PointEntry, Spot, address_at, frames_in_order, number_of, points_in_order, points_of,
 };
 use std::alloc::Global;
 use tcd_base::{NoMemory, put_u32};
@@ -18,22 +19,24 @@ fn is_byte(_byte: u8)
     ensures { _byte < 2 ^ 8 }
 {}
 
-/// Adds a point, whose number in the order of the table's cells is likely to be `near`: its address and its state.
+/// Adds a point: its address and its state.
 fn write_point(
     out: &mut Vec<u8>,
     source: &Source,
-    near: usize,
-    key: Key,
-    addr: u32,
+    _key: Key,
+    point: &PointEntry,
 ) -> Result<(), NoMemory>
     requires source { IsSource source.now }
-    requires known { IsSome (known_on source.now (point key addr)) }
-    ensures { OnOk result (WritesPoint source.now key addr out.old.items out.new.items) }
+    requires point { IsPointOf source.now _key point.now }
+    ensures { OnOk result (WritesPoint source.now _key
+        (spot_address (place_at source.now.table.now.places point.now))
+        out.old.items out.new.items) }
 {
-    let Some(cell) = get_near(&source.table.cells, near, Spot::Point(key, addr)) else {
+    let Some((place, known)) = source.table.places.get_index(point.entry) else {
         return Ok(());
     };
-    put_u32(out, addr)?;
+    put_u32(out, address_at(place))?;
+    let cell = &known.value;
     cell.spell_state(source.ground.bounds, out)?;
     Ok(())
 }
@@ -43,16 +46,15 @@ fn write_points(
     out: &mut Vec<u8>,
     source: &Source,
     key: Key,
-    points: &[Spot],
+    points: &[PointEntry],
 ) -> Result<(), NoMemory>
     requires source { IsSource source.now }
-    requires known { AreKnown source.now key points.now }
-    ensures { OnOk result (WritesPoints source.now key points.now out.old.items out.new.items) }
+    requires points { ArePointsOf source.now key points.now }
+    ensures { OnOk result (WritesPoints source.now key (spots_on source.now points.now)
+        out.old.items out.new.items) }
 {
-    let mut near = 0;
     for p in points {
-        near = index_after(&source.table.cells, near, *p);
-        write_point(out, source, near, key, address_at(p))?;
+        write_point(out, source, key, p)?;
     }
     Ok(())
 }
@@ -62,10 +64,11 @@ fn write_exit_of(out: &mut Vec<u8>, source: &Source, key: Key) -> Result<(), NoM
     requires source { IsSource source.now }
     ensures { OnOk result (WritesExit source.now key out.old.items out.new.items) }
 {
-    let Some(cell) = source.table.cells.get(&Spot::Exit(key)) else {
+    let Some(known) = source.table.places.get(&Spot::Exit(key)) else {
         write_exit(out, &None)?;
         return Ok(());
     };
+    let cell = &known.value;
     let Some(exit) = cell.exit() else {
         return Ok(());
     };
@@ -93,7 +96,7 @@ fn need_at(source: &Source, needs: &[u32], key: Key) -> u16
 pub(crate) struct Ordered<'a> {
     pub(crate) source: &'a Source<'a>,
     pub(crate) needs: &'a [u32],
-    pub(crate) points: &'a [Spot],
+    pub(crate) points: &'a [PointEntry],
 }
 
 /// Adds the node of a frame.
@@ -152,7 +155,7 @@ pub(crate) fn spelled(
     ensures { IfOk result (λ out. IsSpelledOn source.now version out.items) }
 {
     let frames = frames_in_order(alloc, source.table.frames.as_slice())?;
-    let points = points_in_order(alloc, source.table.points.as_slice())?;
+    let points = points_in_order(alloc, &source.table.places)?;
     let ordered = Ordered {
         source,
         needs,

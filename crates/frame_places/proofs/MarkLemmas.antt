@@ -1,39 +1,105 @@
 -- Marks: one more place, and all places of a list.
-use Rattle.std.proofs.Common.{◌≡◌, Bool, true, false, ◌⊎◌, inl, inr, List, [], ◌∷◌, ◌++◌, Option, Some, refl, sym, subst, ◌∙◌, Contains}
-use Rattle.std.specs.Prelude.{if◌then◌else◌}
+use Rattle.std.proofs.Common.{◌≡◌, ℕ, Bool, true, false, ◌⊎◌, inl, inr, List, [], ◌∷◌, ◌++◌, Option, Some, None, IsSome, refl, sym, ap, subst, ◌∙◌, Contains}
+use Rattle.std.specs.Prelude.{if◌then◌else◌, is_some}
+use Rattle.std.specs.Option.{option_map}
 use Rattle.std.proofs.lemmas.List.Elements.{Contains-append_left, Contains-push, Contains-push_cases}
 use Rattle.indexmap.specs.IndexMap.{IndexMap, get}
 use Rattle.frame_places.specs.declared.places.Spot.{Spot}
 use Rattle.frame_places.specs.declared.places.Mark.{Mark}
-use Rattle.frame_places.specs.declared.places.Mark.TheVariants.{Queued}
+use Rattle.frame_places.specs.declared.places.Marked.{Marked}
+use Rattle.frame_places.specs.declared.places.Mark.TheVariants.{Idle, Plain, Queued, Open}
+use Rattle.frame_places.specs.Nearby.{StandsAt}
 use Rattle.frame_places.specs.Spots.{spot_eq}
 use Rattle.frame_places.proofs.SpotLemmas.{spot_tells, spot_refl}
-use Rattle.std.specs.declared.vec.Vec.{Vec}
-use Rattle.std.specs.declared.alloc.Global.{Global}
-use Rattle.frame_places.specs.Marks.{AllListed, Reads, Touched, Woken}
+use Rattle.frame_places.specs.Marks.{AllListed, AreKnown, KeepsNumbers, MarksAs, Puts, Tells, is_queued, mark_for, value_for}
 
 -- which side of an if
 pub sides : {X : Type 0} (b : Bool) (x y o : X) → o ≡ (if b then x else y) → ((b ≡ true) × (o ≡ x)) ⊎ ((b ≡ false) × (o ≡ y))
 sides true x y o e = inl (refl, e)
 sides false x y o e = inr (refl, e)
 
-pub AllListed-push : {S : Type 0} (a b : IndexMap Spot Mark S) (work : List Spot) (x : Spot) → ((q : Spot) → get spot_eq b q ≡ (if spot_eq x q then Some Queued else get spot_eq a q)) → AllListed a work
-    → AllListed b (work ++ x ∷ [])
-AllListed-push a b work x is h = record {
-  listed = λ q at.
-      elim (sides (spot_eq x q) (Some Queued) (get spot_eq a q) (get spot_eq b q) (is q)) [
-        | inl l ↦ subst (λ (k : Spot). Contains (work ++ x ∷ []) k) (spot_tells x q l.0) (Contains-push work x)
-        | inr r ↦ Contains-append_left work (x ∷ []) q (h.listed q (sym r.1 ∙ at))
-      ];
+-- ---- one place
+picked : {X Y : Type 0} (f : X → Y) (t : Bool) (w : X) (o : Option X) → option_map f (if t then Some w else o) ≡ (if t then Some (f w) else option_map f o)
+picked f true w o = refl
+picked f false w o = refl
+
+module _ {V S : Type 0} (a b : IndexMap Spot (Marked V) S) (x : Spot) (w : Marked V) (is : (q : Spot) → get spot_eq b q ≡ (if spot_eq x q then Some w else get spot_eq a q)) where
+  pub values_after : (q : Spot) → value_for b q ≡ (if spot_eq x q then Some w.value else value_for a q)
+  values_after q = ap (option_map (λ (m : Marked V). m.value)) (is q) ∙ picked (λ (m : Marked V). m.value) (spot_eq x q) w (get spot_eq a q)
+
+  pub marks_after : (q : Spot) → mark_for b q ≡ (if spot_eq x q then Some w.mark else mark_for a q)
+  marks_after q = ap (option_map (λ (m : Marked V). m.mark)) (is q) ∙ picked (λ (m : Marked V). m.mark) (spot_eq x q) w (get spot_eq a q)
+
+  -- it has another mark alone
+  pub marks_as : value_for a x ≡ Some w.value → KeepsNumbers a b → MarksAs a b x w.mark
+  marks_as had numbers = record {
+    values = λ q.
+        elim (sides (spot_eq x q) (Some w.value) (value_for a q) (value_for b q) (values_after q)) [
+          | inl l ↦ l.1 ∙ sym had ∙ ap (value_for a) (spot_tells x q l.0)
+          | inr r ↦ r.1
+        ];
+    marks = marks_after;
+    numbers = numbers;
+  }
+
+  -- or another value
+  pub puts_as : w.mark ≡ Queued → KeepsNumbers a b → Puts a b x w.value
+  puts_as queued numbers = record {
+    values = values_after;
+    marks = λ q. marks_after q ∙ ap (λ (m : Mark). if spot_eq x q then Some m else mark_for a q) queued;
+    numbers = numbers;
+  }
+
+-- it has that mark already
+marked_there : (t : Bool) (o p : Option Mark) → (t ≡ true → o ≡ p) → o ≡ (if t then p else o)
+marked_there true o p same = same refl
+marked_there false o p same = refl
+
+pub marked_already : {V S : Type 0} (a : IndexMap Spot (Marked V) S) (x : Spot) (mark : Mark) → mark_for a x ≡ Some mark → MarksAs a a x mark
+marked_already a x mark at = record {
+  values = λ q. refl;
+  marks = λ q. marked_there (spot_eq x q) (mark_for a q) (Some mark) (λ e. ap (mark_for a) (sym (spot_tells x q e)) ∙ at);
+  numbers = λ n q h. h;
 }
 
-pub Touched-push : {S : Type 0} (a b c : IndexMap Spot Mark S) (ps : List Spot) (x : Spot) → Touched a b ps → ((q : Spot) → get spot_eq c q ≡ (if spot_eq x q then Some Queued else get spot_eq b q))
-    → Touched a c (ps ++ x ∷ [])
-Touched-push a b c ps x t is = record {
-  each = λ q.
-      elim (sides (spot_eq x q) (Some Queued) (get spot_eq b q) (get spot_eq c q) (is q)) [
+-- ---- the list
+module _ {V S : Type 0} (a b : IndexMap Spot (Marked V) S) (work : List ℕ) (number : ℕ) (x : Spot) (is : (q : Spot) → mark_for b q ≡ (if spot_eq x q then Some Queued else mark_for a q)) (numbers : KeepsNumbers a b) where
+  pub AllListed-push : StandsAt b number x → AllListed a work → AllListed b (work ++ number ∷ [])
+  AllListed-push stands h = record {
+    listed = λ q at.
+        elim (sides (spot_eq x q) (Some Queued) (mark_for a q) (mark_for b q) (is q)) [
+          | inl l ↦ (number, Contains-push work number, subst (λ (k : Spot). StandsAt b number k) (spot_tells x q l.0) stands)
+          | inr r ↦ (let f = h.listed q (sym r.1 ∙ at) in (f.0, Contains-append_left work (number ∷ []) f.0 f.1, numbers f.0 q f.2))
+        ];
+    known = λ n c.
+        elim (Contains-push_cases work number n c) [
+          | inl before ↦ (let f = h.known n before in (f.0, numbers n f.0 f.1))
+          | inr e ↦ (x, subst (λ (k : ℕ). StandsAt b k x) e stands)
+        ];
+  }
+
+  -- it was there already
+  pub AllListed-again : mark_for a x ≡ Some Queued → AllListed a work → AllListed b work
+  AllListed-again before h = record {
+    listed = λ q at.
+        elim (sides (spot_eq x q) (Some Queued) (mark_for a q) (mark_for b q) (is q)) [
+          | inl l ↦ (let f = h.listed q (ap (mark_for a) (sym (spot_tells x q l.0)) ∙ before) in (f.0, f.1, numbers f.0 q f.2))
+          | inr r ↦ (let f = h.listed q (sym r.1 ∙ at) in (f.0, f.1, numbers f.0 q f.2))
+        ];
+    known = λ n c. (let f = h.known n c in (f.0, numbers n f.0 f.1));
+  }
+
+-- ---- telling
+pub Tells-none : {V S : Type 0} (a : IndexMap Spot (Marked V) S) (these : Spot → Type 0) → ((q : Spot) → these q → ⊥) → Tells a a these
+Tells-none a these none = record { values = λ q. refl; marks = λ q. inr (refl, none q); numbers = λ n q h. h }
+
+pub Tells-push : {V S : Type 0} (a b c : IndexMap Spot (Marked V) S) (ps : List Spot) (x : Spot) → Tells a b (Contains ps) → MarksAs b c x Queued → Tells a c (Contains (ps ++ x ∷ []))
+Tells-push a b c ps x t is = record {
+  values = λ q. is.values q ∙ t.values q;
+  marks = λ q.
+      elim (sides (spot_eq x q) (Some Queued) (mark_for b q) (mark_for c q) (is.marks q)) [
         | inl l ↦ inl (l.1, subst (λ (k : Spot). Contains (ps ++ x ∷ []) k) (spot_tells x q l.0) (Contains-push ps x))
-        | inr r ↦ elim (t.each q) [
+        | inr r ↦ elim (t.marks q) [
           | inl u ↦ inl (r.1 ∙ u.0, Contains-append_left ps (x ∷ []) q u.1)
           | inr u ↦ inr (
             r.1 ∙ u.0,
@@ -44,18 +110,31 @@ Touched-push a b c ps x t is = record {
           )
         ]
       ];
+  numbers = λ n q h. is.numbers n q (t.numbers n q h);
 }
 
--- ---- waking
-pub Woken-some : {S R : Type 0} (a b c : IndexMap Spot Mark S) (readers : IndexMap Spot (Vec Spot Global) R) (y : Spot) (ps : Vec Spot Global)
-    → ((q : Spot) → get spot_eq b q ≡ (if spot_eq y q then Some Queued else get spot_eq a q)) → get spot_eq readers y ≡ Some ps → Touched b c ps.items → Woken a c readers y
-Woken-some a b c readers y ps is at t = record {
-  each = λ q.
-      elim (t.each q) [
-        | inl u ↦ inl (u.0, inr (subst (λ (o : Option (Vec Spot Global)). Reads o q) (sym at) u.1))
-        | inr u ↦ elim (sides (spot_eq y q) (Some Queued) (get spot_eq a q) (get spot_eq b q) (is q)) [
-          | inl l ↦ inl (u.0 ∙ l.1, inl l.0)
-          | inr r ↦ inr (u.0 ∙ r.1, r.0, (λ h. u.1 (subst (λ (o : Option (Vec Spot Global)). Reads o q) at h)))
-        ]
-      ];
-}
+-- what is known stays so
+pub known_told : {V S : Type 0} (a b : IndexMap Spot (Marked V) S) (these all : Spot → Type 0) → Tells a b these → AreKnown a all → AreKnown b all
+known_told {V} a b these all t h q i = subst (λ (o : Option V). IsSome o) (sym (t.values q)) (h q i)
+
+-- nothing is known where a place isn't found
+nothing : {V : Type 0} (o : Option (Marked V)) → is_some o ≡ false → option_map (λ m. m.value) o ≡ None
+nothing None e = refl
+nothing (Some m) e = cc
+
+pub unknown_place : {V : Type 0} (o : Option (Marked V)) → option_map (λ m. m.value) o ≡ None → o ≡ None
+unknown_place None e = refl
+unknown_place (Some m) e = (let no : Some m.value ≡ None = e in cc)
+
+-- by what is had for a place
+pub work_had : {V S : Type 0} (places : IndexMap Spot (Marked V) S) (q : Spot) (m : Marked V) → get spot_eq places q ≡ Some m → is_queued (mark_for places q) ≡ is_queued (Some m.mark)
+work_had places q m e = ap (λ o. is_queued (option_map (λ k. k.mark) o)) e
+
+pub not_queued : (m : Mark) → (m ≡ Queued → ⊥) → is_queued (Some m) ≡ false
+not_queued Idle other = refl
+not_queued Plain other = refl
+not_queued Queued other = absurd (other refl)
+not_queued Open other = refl
+
+pub unknown_value : {V S : Type 0} (places : IndexMap Spot (Marked V) S) (q : Spot) → is_some (get spot_eq places q) ≡ false → value_for places q ≡ None
+unknown_value places q e = nothing (get spot_eq places q) e

@@ -1,11 +1,15 @@
 -- Places by their numbers.
-use Rattle.std.proofs.Common.{◌≡◌, ℕ, true, Option, Some, None, refl, sym, ap, subst}
-use Rattle.std.specs.Prelude.{if◌then◌else◌}
+use Rattle.std.proofs.Common.{◌≡◌, ℕ, zero, suc, true, false, List, [], ◌∷◌, ◌++◌, get_or, Option, Some, None, refl, sym, ap, subst, ◌∙◌}
+use Rattle.std.specs.Prelude.{if◌then◌else◌, slice_get, length, is_some}
 use Rattle.std.specs.Cmp.{IsEquivalence, both_ways}
-use Rattle.indexmap.specs.IndexMap.{IndexMap, IsUnique, get, index_of, with_value_at}
-use Rattle.indexmap.proofs.CallerLemmas.{updates-with_value_at}
-use Rattle.indexmap.proofs.MapLemmas.{index-first}
-use Rattle.indexmap.proofs.RemoveLemmas.{own_first}
+use Rattle.std.specs.Option.{option_map}
+use Rattle.std.specs.Map.{keys_of}
+use Rattle.std.proofs.lemmas.List.{length-map, map-append}
+use Rattle.std.proofs.lemmas.List.Quantifiers.{position-Some}
+use Rattle.std.proofs.lemmas.Map.Entries.{hash_map_get_place}
+use Rattle.std.proofs.lemmas.Option.{same_Some, slice_get-get_or, slice_get-map}
+use Rattle.indexmap.specs.IndexMap.{IndexMap, IsUnique, get, index_of, insert_entry, keys, values, with_value_at}
+use Rattle.indexmap.proofs.CallerLemmas.{insert_entry-new, keys-with_value_at, updates-with_value_at}
 use Rattle.frame_places.specs.declared.places.Spot.{Spot}
 use Rattle.frame_places.specs.declared.places.Mark.{Mark}
 use Rattle.frame_places.specs.declared.places.Mark.TheVariants.{Idle, Plain, Queued, Open}
@@ -25,13 +29,78 @@ spot_equiv = record {
 }
 
 module _ {X S : Type 0} (m : IndexMap Spot X S) (number : ℕ) (x : Spot) where
-  -- no other place is equal, so that is where it is found
-  pub number_there : IsUnique spot_eq m → StandsAt m number x → Some number ≡ index_of spot_eq m x
-  number_there unique h = sym (index-first (spot_eq x) m.entries number (own_first spot_eq spot_equiv m.entries number x h.value unique h.there))
+  -- an entry of the map, and the place of its number
+  pub there : (v : X) → slice_get m.entries number ≡ Some (x, v) → StandsAt m number x
+  there v e = slice_get-map (λ (p : Spot × X). p.0) m.entries number ∙ ap (option_map (λ (p : Spot × X). p.0)) e
+
+  entry_of : (o : Option (Spot × X)) → slice_get m.entries number ≡ o → StandsAt m number x → (v : X) × (slice_get m.entries number ≡ Some (x, v))
+  entry_of None e h = absurd (let no : None ≡ Some x = sym (slice_get-map (λ (p : Spot × X). p.0) m.entries number ∙ ap (option_map (λ (p : Spot × X). p.0)) e) ∙ h in cc)
+  entry_of (Some p) e h =
+      let same : p.0 ≡ x = same_Some p.0 x (sym (slice_get-map (λ (p : Spot × X). p.0) m.entries number ∙ ap (option_map (λ (p : Spot × X). p.0)) e) ∙ h) in
+      (p.1, e ∙ ap (λ (k : Spot). Some (k, p.1)) same)
+
+  pub entry_at : StandsAt m number x → (v : X) × (slice_get m.entries number ≡ Some (x, v))
+  entry_at h = entry_of (slice_get m.entries number) refl h
+
+  -- no place has a number past the end
+  pub nowhere : slice_get m.entries number ≡ None → StandsAt m number x → ⊥
+  nowhere none h = let e = entry_at h in (let no : false ≡ true = ap (λ (o : Option (Spot × X)). is_some o) (sym none ∙ e.1) in cc)
+
+  -- the place of an entry
+  pub one_there : (k : Spot) (v : X) → slice_get m.entries number ≡ Some (k, v) → StandsAt m number x → k ≡ x
+  one_there k v e h = same_Some k x (sym (slice_get-map (λ (p : Spot × X). p.0) m.entries number ∙ ap (option_map (λ (p : Spot × X). p.0)) e) ∙ h)
+
+  -- what stands there is had for x
+  pub had_at : (k : Spot) (v : X) → slice_get m.entries number ≡ Some (k, v) → get spot_eq m k ≡ Some v → StandsAt m number x → get spot_eq m x ≡ Some v
+  had_at k v e had h = subst (λ (z : Spot). get spot_eq m z ≡ Some v) (one_there k v e h) had
+
+  -- where x is found it stands
+  pub index_there : index_of spot_eq m x ≡ Some number → StandsAt m number x
+  index_there e =
+      let h = position-Some (spot_eq x) (keys m) number x e in
+      slice_get-get_or (keys m) number x h.0 ∙ ap (λ (k : Spot). Some k) (sym (spot_tells x (get_or (keys m) number x) h.1))
 
   -- what is written there is had for x, and the others stay
   pub written_there : (w : X) → IsUnique spot_eq m → StandsAt m number x → (q : Spot) → get spot_eq (with_value_at m number w) q ≡ (if spot_eq x q then Some w else get spot_eq m q)
-  written_there w unique h q = (updates-with_value_at m number w spot_equiv unique x h.value h.there).0 q
+  written_there w unique h q = let e = entry_at h in (updates-with_value_at m number w spot_equiv unique x e.0 e.1).0 q
+
+  -- what is among the values at the number is had for x
+  pub value_had : IsUnique spot_eq m → (v : X) → Some v ≡ slice_get (values m) number → StandsAt m number x → get spot_eq m x ≡ Some v
+  value_had unique v at h =
+      let e = entry_at h in
+      hash_map_get_place spot_equiv m number x e.0 unique e.1 ∙ sym (slice_get-map (λ (p : Spot × X). p.1) m.entries number ∙ ap (option_map (λ (p : Spot × X). p.1)) e.1) ∙ sym at
+
+  pub no_value : None ≡ slice_get (values m) number → StandsAt m number x → ⊥
+  no_value none h =
+      let e = entry_at h in
+      let no : None ≡ Some e.0 = none ∙ slice_get-map (λ (p : Spot × X). p.1) m.entries number ∙ ap (option_map (λ (p : Spot × X). p.1)) e.1 in cc
+
+-- ---- one place more
+slice_left : {X : Type 0} (xs ys : List X) (n : ℕ) (x : X) → slice_get xs n ≡ Some x → slice_get (xs ++ ys) n ≡ Some x
+slice_left [] ys n x e = (let no : None ≡ Some x = e in cc)
+slice_left (y ∷ xs) ys zero x e = e
+slice_left (y ∷ xs) ys (suc n) x e = slice_left xs ys n x e
+
+slice_end : {X : Type 0} (xs : List X) (y : X) → slice_get (xs ++ y ∷ []) (length xs) ≡ Some y
+slice_end [] y = refl
+slice_end (x ∷ xs) y = slice_end xs y
+
+module _ {X S : Type 0} (m new : IndexMap Spot X S) (y : Spot) (w : X) (none : get spot_eq m y ≡ None) (entries : new.entries ≡ insert_entry spot_eq m.entries y w) where
+  keys_more : keys new ≡ keys m ++ y ∷ []
+  keys_more = ap (λ (es : List (Spot × X)). keys_of es) (entries ∙ insert_entry-new spot_eq m y w none) ∙ map-append (λ (p : Spot × X). p.0) m.entries ((y, w) ∷ [])
+
+  -- it stands last, and the others where they stood
+  pub added_last : StandsAt new (length m.entries) y
+  added_last =
+      subst (λ (n : ℕ). slice_get (keys new) n ≡ Some y) (length-map m.entries (λ (p : Spot × X). p.0))
+      (ap (λ (ks : List Spot). slice_get ks (length (keys m))) keys_more ∙ slice_end (keys m) y)
+
+  pub added_numbers : (n : ℕ) (q : Spot) → StandsAt m n q → StandsAt new n q
+  added_numbers n q h = ap (λ (ks : List Spot). slice_get ks n) keys_more ∙ slice_left (keys m) (y ∷ []) n q h
+
+-- places have the numbers that they had
+pub written_numbers : {X S : Type 0} (m : IndexMap Spot X S) (number : ℕ) (w : X) → (n : ℕ) (q : Spot) → StandsAt m n q → StandsAt (with_value_at m number w) n q
+written_numbers m number w n q h = ap (λ (ks : List Spot). slice_get ks n) (keys-with_value_at m number w) ∙ h
 
 -- a place that is marked as having work
 pub queued_mark : (o : Option Mark) → is_queued o ≡ true → o ≡ Some Queued

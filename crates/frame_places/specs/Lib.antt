@@ -1,7 +1,8 @@
 -- Places of frames in a table.
 pub mod Spots
+pub mod Entries
 pub mod Hashed
-pub mod Marks
 pub mod Nearby
+pub mod Marks
 pub mod Numbers
 pub mod Counting

@@ -1,20 +1,54 @@
 -- Which places have work, and who is told of a rise.
-use Rattle.std.specs.Prelude.{◌≡◌, ◌⊎◌, Option, Some, None, List, Contains, Bool, true, false, if◌then◌else◌}
+use Rattle.std.specs.Prelude.{◌≡◌, ◌⊎◌, ℕ, Option, Some, None, IsSome, List, Contains, Bool, true, false, if◌then◌else◌}
 use Rattle.std.specs.declared.vec.Vec.{Vec}
 use Rattle.std.specs.declared.alloc.Global.{Global}
+use Rattle.std.specs.Option.{option_map}
 use Rattle.indexmap.specs.IndexMap.{IndexMap, get}
 use Rattle.frame_places.specs.declared.places.Spot.{Spot}
 use Rattle.frame_places.specs.declared.places.Mark.{Mark}
+use Rattle.frame_places.specs.declared.places.Marked.{Marked}
 use Rattle.frame_places.specs.declared.places.Mark.TheVariants.{Idle, Plain, Queued, Open}
+use Rattle.frame_places.specs.Nearby.{StandsAt}
 use Rattle.frame_places.specs.Spots.{spot_eq}
 
--- each place that is marked as having work is on the list of work
-pub record AllListed {S : Type 0} (marks : IndexMap Spot Mark S) (work : List Spot) : Type 0 where
-  pub listed : (q : Spot) → get spot_eq marks q ≡ Some Queued → Contains work q
+-- what is known at a place
+abbrev pub value_for : {V S : Type 0} → IndexMap Spot (Marked V) S → Spot → Option V
+value_for places q = option_map (λ m. m.value) (get spot_eq places q)
 
--- these have work now, and the others' marks stay
-pub record Touched {S : Type 0} (old new : IndexMap Spot Mark S) (places : List Spot) : Type 0 where
-  pub each : (q : Spot) → ((get spot_eq new q ≡ Some Queued) × Contains places q) ⊎ ((get spot_eq new q ≡ get spot_eq old q) × (Contains places q → ⊥))
+-- what a known place is marked as
+abbrev pub mark_for : {V S : Type 0} → IndexMap Spot (Marked V) S → Spot → Option Mark
+mark_for places q = option_map (λ m. m.mark) (get spot_eq places q)
+
+-- each place has the number that it had
+abbrev pub KeepsNumbers : {V S : Type 0} → IndexMap Spot (Marked V) S → IndexMap Spot (Marked V) S → Type 0
+KeepsNumbers old new = (number : ℕ) (q : Spot) → StandsAt old number q → StandsAt new number q
+
+-- something is known at each of these places
+abbrev pub AreKnown : {V S : Type 0} → IndexMap Spot (Marked V) S → (Spot → Type 0) → Type 0
+AreKnown places these = (q : Spot) → these q → IsSome (value_for places q)
+
+-- each place that is marked as having work is on the list of work, by its number, and the list has numbers of places
+pub record AllListed {V S : Type 0} (places : IndexMap Spot (Marked V) S) (work : List ℕ) : Type 0 where
+  pub listed : (q : Spot) → mark_for places q ≡ Some Queued → (number : ℕ) × Contains work number × StandsAt places number q
+  pub known : (number : ℕ) → Contains work number → (q : Spot) × StandsAt places number q
+
+-- x is marked so, and nothing else changes
+pub record MarksAs {V S : Type 0} (old new : IndexMap Spot (Marked V) S) (x : Spot) (mark : Mark) : Type 0 where
+  pub values : (q : Spot) → value_for new q ≡ value_for old q
+  pub marks : (q : Spot) → mark_for new q ≡ (if spot_eq x q then Some mark else mark_for old q)
+  pub numbers : KeepsNumbers old new
+
+-- this is known at y, which has work, and nothing else changes
+pub record Puts {V S : Type 0} (old new : IndexMap Spot (Marked V) S) (y : Spot) (value : V) : Type 0 where
+  pub values : (q : Spot) → value_for new q ≡ (if spot_eq y q then Some value else value_for old q)
+  pub marks : (q : Spot) → mark_for new q ≡ (if spot_eq y q then Some Queued else mark_for old q)
+  pub numbers : KeepsNumbers old new
+
+-- these have work now, and nothing else changes
+pub record Tells {V S : Type 0} (old new : IndexMap Spot (Marked V) S) (these : Spot → Type 0) : Type 0 where
+  pub values : (q : Spot) → value_for new q ≡ value_for old q
+  pub marks : (q : Spot) → ((mark_for new q ≡ Some Queued) × these q) ⊎ ((mark_for new q ≡ mark_for old q) × (these q → ⊥))
+  pub numbers : KeepsNumbers old new
 
 -- a place is marked as having no work
 abbrev pub is_idle : Option Mark → Bool
@@ -44,14 +78,6 @@ settled_mark plain o = if is_queued o then Queued else idle_mark plain
 abbrev pub Reads : Option (Vec Spot Global) → Spot → Type 0
 Reads None x = ⊥
 Reads (Some ps) x = Contains ps.items x
-
--- a place has work when y rises: y itself, and what is told of it
-abbrev pub IsTold : Spot → Option (Vec Spot Global) → Spot → Type 0
-IsTold y told q = (spot_eq y q ≡ true) ⊎ Reads told q
-
--- y and all that read it have work, and the other marks stay
-pub record Woken {S : Type 0} {R : Type 0} (old new : IndexMap Spot Mark S) (readers : IndexMap Spot (Vec Spot Global) R) (y : Spot) : Type 0 where
-  pub each : (q : Spot) → ((get spot_eq new q ≡ Some Queued) × IsTold y (get spot_eq readers y) q) ⊎ ((get spot_eq new q ≡ get spot_eq old q) × (spot_eq y q ≡ false) × (Reads (get spot_eq readers y) q → ⊥))
 
 -- x is told of z too, and nobody else of anything else
 pub record Registered {R : Type 0} (old new : IndexMap Spot (Vec Spot Global) R) (z x : Spot) : Type 0 where

@@ -1,9 +1,8 @@
 -- Places by their numbers in a map's order.
 use Rattle.std.specs.Prelude.{◌≡◌, ℕ, Some, slice_get}
-use Rattle.indexmap.specs.IndexMap.{IndexMap}
+use Rattle.indexmap.specs.IndexMap.{IndexMap, keys}
 use Rattle.frame_places.specs.declared.places.Spot.{Spot}
 
 -- x is the place of this number
-pub record StandsAt {X S : Type 0} (m : IndexMap Spot X S) (number : ℕ) (x : Spot) : Type 0 where
-  pub value : X
-  pub there : slice_get m.entries number ≡ Some (x, value)
+abbrev pub StandsAt : {X S : Type 0} → IndexMap Spot X S → ℕ → Spot → Type 0
+StandsAt m number x = slice_get (keys m) number ≡ Some x

@@ -3,7 +3,6 @@
 
 mod counting;
 mod marks;
-mod nearby;
 mod numbers;
 mod ordering;
 mod places;
@@ -11,12 +10,11 @@ mod readers;
 mod refusals;
 
 pub use counting::count;
-pub use marks::{has_work, is_plain, open_after, settle, touch, touch_all, wake};
-pub use nearby::{get_after, get_near, index_after};
+pub use marks::{add, has_work, is_plain, open, put, settle, wake};
 pub use numbers::{number_near, number_of, numbered, numbers_of};
 pub use ordering::{
-    address_at, address_in, frames_in_order, orders_of, points_in_order, points_of,
+    PointEntry, address_at, address_in, frames_in_order, orders_of, points_in_order, points_of,
 };
-pub use places::{Mark, Spot};
+pub use places::{Mark, Marked, Spot};
 pub use readers::register;
 pub use refusals::Refusal;

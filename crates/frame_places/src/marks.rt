@@ -1,132 +1,162 @@
-// Which places have work.
-ghost use Rattle.std.specs.Prelude.{◌≡◌, ◌↔◌, IfOk, IsTrue, OnOk, Some, if◌then◌else◌, unwrap_or};
-ghost use Rattle.indexmap.specs.IndexMap.{get, index_of};
+// Which places have work. A place is listed by its number in the order of the map.
+ghost use Rattle.std.specs.Prelude.{◌≡◌, ◌↔◌, IsSome, IsTrue, None, OnOk, Contains, Some};
+ghost use Rattle.indexmap.specs.IndexMap.{get};
 ghost use Rattle.frame_places.specs.declared.places.Spot.{Spot};
 ghost use Rattle.frame_places.specs.declared.places.Mark.TheVariants.{Open, Plain, Queued};
+ghost use Rattle.frame_places.specs.Nearby.{StandsAt};
 ghost use Rattle.frame_places.specs.Spots.{spot_eq};
-ghost use Rattle.frame_places.specs.Marks.{AllListed, Touched, Woken, idle_mark, is_queued, settled_mark};
+ghost use Rattle.frame_places.specs.Marks.{AllListed, AreKnown, MarksAs, Puts, Reads, Tells, idle_mark, is_queued, mark_for, settled_mark, value_for};
 
-use crate::nearby::{get_near, index_after, stands_at, value_at};
-use crate::places::{Mark, Spot};
+use crate::places::{Mark, Marked, Spot};
 use indexmap::IndexMap;
 use std::alloc::AllocError;
 use std::collections::VecDeque;
 
-/// Puts x on the list, unless it is there.
-pub fn touch(
-    marks: &mut IndexMap<Spot, Mark>,
-    work: &mut VecDeque<Spot>,
-    x: Spot,
+/// Adds y, of which nothing is known, with work.
+#[inline(always)]
+pub fn add<V: Drop>(
+    places: &mut IndexMap<Spot, Marked<V>>,
+    work: &mut VecDeque<usize>,
+    y: Spot,
+    value: V,
 ) -> Result<(), AllocError>
-    requires { AllListed marks.old work.old.items }
-    ensures marks { OnOk result
-        ((q : Spot) → get spot_eq marks.new q
-        ≡ (if spot_eq x q then Some Queued else get spot_eq marks.old q)) }
-    ensures work { OnOk result (AllListed marks.new work.new.items) }
+    requires listed { AllListed places.old work.old.items }
+    requires new { value_for places.old y ≡ None }
+    ensures puts { OnOk result (Puts places.old places.new y value) }
+    ensures work { OnOk result (AllListed places.new work.new.items) }
 {
-    if let Some(Mark::Queued) = marks.insert(x, Mark::Queued)? {
+    let number = places.len();
+    let place = Marked {
+        value,
+        mark: Mark::Queued,
+    };
+    places.insert(y, place)?;
+    work.push_back(number)?;
+    Ok(())
+}
+
+/// Sets what is known at the place of this number, and puts it on the list, unless it is there.
+#[inline(always)]
+pub fn put<V: Drop>(
+    places: &mut IndexMap<Spot, Marked<V>>,
+    work: &mut VecDeque<usize>,
+    number: usize,
+    value: V,
+) -> Result<(), AllocError>
+    requires listed { AllListed places.old work.old.items }
+    ensures puts { (y : Spot) → StandsAt places.old number y
+        → OnOk result (Puts places.old places.new y value) }
+    ensures work { (y : Spot) → StandsAt places.old number y
+        → OnOk result (AllListed places.new work.new.items) }
+{
+    let Some(place) = places.get_index_mut(number) else {
+        return Ok(());
+    };
+    place.value = value;
+    if let Mark::Queued = place.mark {
         return Ok(());
     }
-    work.push_back(x)?;
+    place.mark = Mark::Queued;
+    work.push_back(number)?;
     Ok(())
 }
 
-/// Puts each of them on the list.
-pub fn touch_all(
-    marks: &mut IndexMap<Spot, Mark>,
-    work: &mut VecDeque<Spot>,
-    places: &[Spot],
-) -> Result<(), AllocError>
-    requires { AllListed marks.old work.old.items }
-    ensures marks { OnOk result (Touched marks.old marks.new places.now) }
-    ensures work { OnOk result (AllListed marks.new work.new.items) }
+/// Marks the place of this number.
+#[inline(always)]
+fn mark_at<V>(places: &mut IndexMap<Spot, Marked<V>>, number: usize, mark: Mark)
+    ensures { (x : Spot) → StandsAt places.old number x → MarksAs places.old places.new x mark }
 {
-    for x in places {
-        touch(marks, work, *x)?;
+    if let Some(place) = places.get_index_mut(number) {
+        place.mark = mark;
+    }
+}
+
+/// Puts x, which is known, on the list, unless it is there.
+fn touch<V>(
+    places: &mut IndexMap<Spot, Marked<V>>,
+    work: &mut VecDeque<usize>,
+    x: Spot,
+) -> Result<(), AllocError>
+    requires listed { AllListed places.old work.old.items }
+    requires known { IsSome (value_for places.old x) }
+    ensures marks { OnOk result (MarksAs places.old places.new x Queued) }
+    ensures work { OnOk result (AllListed places.new work.new.items) }
+{
+    let Some(number) = places.get_index_of(&x) else {
+        return Ok(());
+    };
+    if !has_work(&*places, number) {
+        mark_at(places, number, Mark::Queued);
+        work.push_back(number)?;
     }
     Ok(())
 }
 
-/// Puts y and all that read it on the list.
-pub fn wake(
-    marks: &mut IndexMap<Spot, Mark>,
-    work: &mut VecDeque<Spot>,
+/// Puts each of them, which are known, on the list.
+fn touch_all<V>(
+    places: &mut IndexMap<Spot, Marked<V>>,
+    work: &mut VecDeque<usize>,
+    told: &[Spot],
+) -> Result<(), AllocError>
+    requires listed { AllListed places.old work.old.items }
+    requires known { AreKnown places.old (Contains told.now) }
+    ensures marks { OnOk result (Tells places.old places.new (Contains told.now)) }
+    ensures work { OnOk result (AllListed places.new work.new.items) }
+{
+    for x in told {
+        touch(places, work, *x)?;
+    }
+    Ok(())
+}
+
+/// Puts all that read y, which are known, on the list.
+pub fn wake<V>(
+    places: &mut IndexMap<Spot, Marked<V>>,
+    work: &mut VecDeque<usize>,
     readers: &IndexMap<Spot, Vec<Spot>>,
     y: Spot,
 ) -> Result<(), AllocError>
-    requires { AllListed marks.old work.old.items }
-    ensures marks { OnOk result (Woken marks.old marks.new readers.now y) }
-    ensures work { OnOk result (AllListed marks.new work.new.items) }
+    requires listed { AllListed places.old work.old.items }
+    requires known { AreKnown places.old (Reads (get spot_eq readers.now y)) }
+    ensures marks { OnOk result (Tells places.old places.new (Reads (get spot_eq readers.now y))) }
+    ensures work { OnOk result (AllListed places.new work.new.items) }
 {
-    touch(marks, work, y)?;
     match readers.get(&y) {
         None => Ok(()),
-        Some(places) => {
-            touch_all(marks, work, places.as_slice())?;
-            Ok(())
-        }
+        Some(told) => touch_all(places, work, told.as_slice()),
     }
 }
 
-/// Whether x, whose number is likely to be `near`, is on the list.
+/// Whether the place of this number is on the list.
 #[inline(always)]
-pub fn has_work(marks: &IndexMap<Spot, Mark>, near: usize, x: Spot) -> bool
-    ensures { result ≡ is_queued (get spot_eq marks.now x) }
+pub fn has_work<V>(places: &IndexMap<Spot, Marked<V>>, number: usize) -> bool
+    ensures { (x : Spot) → StandsAt places.now number x
+        → result ≡ is_queued (mark_for places.now x) }
 {
-    matches!(get_near(marks, near, x), Some(Mark::Queued))
-}
-
-/// Begins the visit of x, whose number is likely to follow `last`: marks it as open, and gives the number that it had, or 0.
-#[inline(always)]
-pub fn open_after(
-    marks: &mut IndexMap<Spot, Mark>,
-    last: usize,
-    x: Spot,
-) -> Result<usize, AllocError>
-    ensures marks { OnOk result
-        ((q : Spot) → get spot_eq marks.new q
-        ≡ (if spot_eq x q then Some Open else get spot_eq marks.old q)) }
-    ensures number { IfOk result
-        (λ number. number ≡ unwrap_or (index_of spot_eq marks.old x) 0) }
-{
-    let next = last.wrapping_add(1);
-    if stands_at(&*marks, next, x) {
-        marks[next] = Mark::Open;
-        return Ok(next);
+    match places.get_index(number) {
+        None => false,
+        Some((_, place)) => matches!(place.mark, Mark::Queued),
     }
-    let near = index_after(&*marks, last, x);
-    set_mark(marks, near, x, Mark::Open)?;
-    Ok(near)
 }
 
-/// Marks x, whose number is likely to be `near`.
-fn set_mark(
-    marks: &mut IndexMap<Spot, Mark>,
-    near: usize,
-    x: Spot,
-    mark: Mark,
-) -> Result<(), AllocError>
-    ensures { OnOk result
-        ((q : Spot) → get spot_eq marks.new q
-        ≡ (if spot_eq x q then Some mark else get spot_eq marks.old q)) }
-{
-    if stands_at(&*marks, near, x) {
-        marks[near] = mark;
-        return Ok(());
-    }
-    marks.insert(x, mark)?;
-    Ok(())
-}
-
-/// Whether x, whose number is likely to be `near`, has no work and is plain.
+/// Begins the visit of the place of this number.
 #[inline(always)]
-pub fn is_plain(marks: &IndexMap<Spot, Mark>, near: usize, x: Spot) -> bool
-    ensures { IsTrue result ↔ (get spot_eq marks.now x ≡ Some Plain) }
+pub fn open<V>(places: &mut IndexMap<Spot, Marked<V>>, number: usize)
+    ensures { (x : Spot) → StandsAt places.old number x → MarksAs places.old places.new x Open }
 {
-    matches!(get_near(marks, near, x), Some(Mark::Plain))
+    mark_at(places, number, Mark::Open);
+}
+
+/// Whether a mark is that of a place without work that is plain.
+#[inline(always)]
+pub fn is_plain(mark: Mark) -> bool
+    ensures { IsTrue result ↔ (mark ≡ Plain) }
+{
+    matches!(mark, Mark::Plain)
 }
 
 /// What a place is marked as when its visit is over.
+#[inline(always)]
 fn mark_after(mark: Mark, plain: bool) -> Mark
     ensures { result ≡ settled_mark plain (Some mark) }
 {
@@ -137,42 +167,20 @@ fn mark_after(mark: Mark, plain: bool) -> Mark
 }
 
 /// What a place without work is marked as.
+#[inline(always)]
 fn mark_without_work(plain: bool) -> Mark
     ensures { result ≡ idle_mark plain }
 {
     if plain { Mark::Plain } else { Mark::Idle }
 }
 
-/// What x is marked as when its visit is over.
-fn mark_of(marks: &IndexMap<Spot, Mark>, x: Spot, plain: bool) -> Mark
-    ensures { result ≡ settled_mark plain (get spot_eq marks.now x) }
-{
-    match marks.get(&x) {
-        Some(mark) => mark_after(*mark, plain),
-        None => mark_without_work(plain),
-    }
-}
-
-/// Ends the visit of x, whose number is likely to be `near` and which may be plain: it has no work, unless it was put on the list
-/// meanwhile.
+/// Ends the visit of the place of this number, which may be plain: it has no work, unless it was put on the list meanwhile.
 #[inline(always)]
-pub fn settle(
-    marks: &mut IndexMap<Spot, Mark>,
-    near: usize,
-    x: Spot,
-    plain: bool,
-) -> Result<(), AllocError>
-    ensures { OnOk result
-        ((q : Spot) → get spot_eq marks.new q
-        ≡ (if spot_eq x q then Some (settled_mark plain (get spot_eq marks.old x))
-        else get spot_eq marks.old q)) }
+pub fn settle<V>(places: &mut IndexMap<Spot, Marked<V>>, number: usize, plain: bool)
+    ensures { (x : Spot) → StandsAt places.old number x
+        → MarksAs places.old places.new x (settled_mark plain (mark_for places.old x)) }
 {
-    if let Some(mark) = value_at(&*marks, near, x) {
-        let after = mark_after(*mark, plain);
-        marks[near] = after;
-        return Ok(());
+    if let Some(place) = places.get_index_mut(number) {
+        place.mark = mark_after(place.mark, plain);
     }
-    let after = mark_of(&*marks, x, plain);
-    marks.insert(x, after)?;
-    Ok(())
 }

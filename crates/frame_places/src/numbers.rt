@@ -36,16 +36,17 @@ pub fn number_of(numbers: &IndexMap<Key, usize>, key: Key) -> usize
 }
 
 /// The number of a frame, which is likely to be `near`; 0 where it has none.
-pub fn number_near(numbers: &IndexMap<Key, usize>, near: usize, key: Key) -> usize
-    ensures { (frames : List keys.Key) → AreNumbers numbers.now frames frames → Contains frames key
-        → result ≡ number_in frames key }
+#[inline(always)]
+pub fn number_near(numbers: &IndexMap<Key, usize>, near: usize, key: &Key) -> usize
+    ensures { (frames : List keys.Key) → AreNumbers numbers.now frames frames
+        → Contains frames key.now → result ≡ number_in frames key.now }
 {
     if let Some((other, number)) = numbers.get_index(near) {
-        if *other == key {
+        if other == key {
             return *number;
         }
     }
-    number_of(numbers, key)
+    number_of(numbers, *key)
 }
 
 /// The numbers of these frames.

@@ -55,6 +55,13 @@ impl Hash for Spot {
     }
 }
 
+/// What is known at a place, and the place's mark.
+#[derive(Drop)]
+pub struct Marked<V> {
+    pub value: V,
+    pub mark: Mark,
+}
+
 /// What a place is for the list of work: all that it owes is covered; the same, and the instruction there enters no frame by
 /// itself; it is on the list; it is visited now.
 #[derive(Clone, Copy, Debug, PartialEq, Eq)]

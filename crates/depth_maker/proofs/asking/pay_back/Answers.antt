@@ -1,11 +1,11 @@
 use Rattle.std.proofs.Common.{sym, ◌∙◌, ◌≡◌, ap, subst, Some}
-use Rattle.indexmap.specs.IndexMap.{get}
-use Rattle.depth_cert.specs.declared.points.Exit.{Exit}
+use Rattle.std.specs.Option.{option_map}
+use Rattle.frame_places.specs.declared.places.Marked.{Marked}
+use Rattle.frame_places.specs.Marks.{value_for}
 use Rattle.depth_cert.specs.Exits.{after_of}
 use Rattle.depth_cert.specs.Known.{Known, leaving, state}
 use Rattle.cfg_recover.specs.Duties.{resume}
 use Rattle.frame_places.specs.declared.places.Spot.TheVariants as spots
-use Rattle.frame_places.specs.Spots.{spot_eq}
 use Rattle.small_states.specs.Kept.{IsNoExit}
 use Rattle.small_states.specs.Wholes.{exit_in}
 use Rattle.depth_maker.specs.Spots.{place_of}
@@ -19,15 +19,15 @@ use Rattle.depth_maker.proofs.PartLemmas.{has_duty, resume_asks, on_resume, paid
 use Rattle.depth_maker.proofs.asking.pay_back.Goals as goal
 
 pub returns-then-has_work-clause-ok : goal.returns-then-has_work-clause-ok
-returns-then-has_work-clause-ok c = paid_queued _ _ _ _ _ _ c.args.table.now _ c.requires.visited (sym c.has_work.ensures ∙ c.if-has_work.true)
+returns-then-has_work-clause-ok c = paid_queued _ _ _ _ _ _ c.args.table.now _ c.requires.visited (sym (c.has_work.ensures _ c.requires.visited.stands) ∙ c.if-has_work.true)
 
 pub returns-in_default-clause-ok : goal.returns-in_default-clause-ok
 returns-in_default-clause-ok c =
-    paid_resume_none _ _ _ c.args.v.now.key c.args.v.now.addr c.args.v.now.state.now c.args.table.now 4 c.args.key c.args.back c.requires.visited.fine (sym c.in_default.ensures.value) c.requires.told
+    paid_resume_none _ _ _ c.args.v.now.key c.args.v.now.addr c.args.v.now.state.now c.args.table.now 4 c.args.key c.args.back c.requires.visited.fine (sym (ap (option_map (λ (m : Marked Known). m.value)) c.in_default.ensures.value)) c.requires.told
 
 pub returns-in_default-exit-clause-ok : goal.returns-in_default-exit-clause-ok
 returns-in_default-exit-clause-ok c =
-    let e = exit_known _ _ _ c.args.table.now c.args.key c.in-Some.cell.now c.requires.visited.fine (sym c.in-Some.ensures.value) in
+    let e = exit_known _ _ _ c.args.table.now c.args.key c.in-Some.place.now.value c.requires.visited.fine (sym (ap (option_map (λ (m : Marked Known). m.value)) c.in-Some.ensures.value)) in
     absurd (subst (λ (w : Known). IsNoExit w) e.1 c.in_default-exit.ensures.none)
 
 pub is_covered-requires-clause-fine : goal.is_covered-requires-clause-fine
@@ -38,40 +38,43 @@ is_covered-requires-clause-value c =
     let v = c.args.v.now in
     let laws = lawful _ _ _ v.ground.now.sound in
     let x = exit_in c.in-Some-exit.exit.now in
-    let there : get spot_eq c.args.table.now.cells (spots.Exit c.args.key) ≡ Some (leaving x) = sym c.in-Some.ensures.value ∙ ap (λ (w : Known). Some w) c.in-Some-exit.ensures.some in
+    let there : value_for c.args.table.now.places (spots.Exit c.args.key) ≡ Some (leaving x) = sym (ap (option_map (λ (m : Marked Known). m.value)) c.in-Some.ensures.value) ∙ ap (λ (w : Known). Some w) c.in-Some-exit.ensures.some in
     asks_proper _ _ _ laws (seen c.args.table.now).cells (place_of (spots.Point v.key c.args.back)) (state (after_of v.state.now x c.args.key.kind))
     (derived_proper _ _ _ laws (seen c.args.table.now).cells (c.requires.visited.fine.table).derived)
     (resume_asks _ _ _ v.key v.addr v.state.now c.args.table.now c.args.key c.args.back x there
-    (has_duty _ _ _ v.key v.addr v.state.now c.args.table.now (resume c.args.key c.args.back) c.requires.visited (sym c.has_work.ensures ∙ c.if-has_work.false) c.requires.owes))
+    (has_duty _ _ _ v.key v.addr v.state.now c.args.table.now (resume c.args.key c.args.back) c.requires.visited (sym (c.has_work.ensures _ c.requires.visited.stands) ∙ c.if-has_work.false) c.requires.owes))
 
 pub returns-then-is_covered-clause-ok : goal.returns-then-is_covered-clause-ok
 unfolding seen
 returns-then-is_covered-clause-ok c =
     let v = c.args.v.now in
     let x = exit_in c.in-Some-exit.exit.now in
-    let there : get spot_eq c.args.table.now.cells (spots.Exit c.args.key) ≡ Some (leaving x) = sym c.in-Some.ensures.value ∙ ap (λ (w : Known). Some w) c.in-Some-exit.ensures.some in
+    let there : value_for c.args.table.now.places (spots.Exit c.args.key) ≡ Some (leaving x) = sym (ap (option_map (λ (m : Marked Known). m.value)) c.in-Some.ensures.value) ∙ ap (λ (w : Known). Some w) c.in-Some-exit.ensures.some in
     paid_resume _ _ _ v.key v.addr v.state.now c.args.table.now c.args.table.now 4 c.args.key c.args.back x there c.requires.told
     (stays_joined _ _ _ c.args.table.now (spots.Point v.key c.args.back) (state (after_of v.state.now x c.args.key.kind)) c.requires.visited.fine (c.is_covered.ensures c.if-is_covered.true))
 
 pub raise-requires-clause-fine : goal.raise-requires-clause-fine
 raise-requires-clause-fine c = c.requires.visited.fine
 
+pub raise-requires-clause-near : goal.raise-requires-clause-near
+raise-requires-clause-near c = c.requires.visited.stands
+
 pub raise-requires-clause-asked : goal.raise-requires-clause-asked
 raise-requires-clause-asked c =
     let v = c.args.v.now in
     let x = exit_in c.in_ok-copy.copy in
-    let there : get spot_eq c.args.table.now.cells (spots.Exit c.args.key) ≡ Some (leaving x) =
-    sym c.in-Some.ensures.value ∙ ap (λ (w : Known). Some w) (c.in-Some-exit.ensures.some ∙ ap leaving (sym c.in_ok-copy.ensures)) in
+    let there : value_for c.args.table.now.places (spots.Exit c.args.key) ≡ Some (leaving x) =
+    sym (ap (option_map (λ (m : Marked Known). m.value)) c.in-Some.ensures.value) ∙ ap (λ (w : Known). Some w) (c.in-Some-exit.ensures.some ∙ ap leaving (sym c.in_ok-copy.ensures)) in
     resume_asks _ _ _ v.key v.addr v.state.now c.args.table.now c.args.key c.args.back x there
-    (has_duty _ _ _ v.key v.addr v.state.now c.args.table.now (resume c.args.key c.args.back) c.requires.visited (sym c.has_work.ensures ∙ c.if-has_work.false) c.requires.owes)
+    (has_duty _ _ _ v.key v.addr v.state.now c.args.table.now (resume c.args.key c.args.back) c.requires.visited (sym (c.has_work.ensures _ c.requires.visited.stands) ∙ c.if-has_work.false) c.requires.owes)
 
 pub raise-requires-clause-at : goal.raise-requires-clause-at
-raise-requires-clause-at c = c.requires.visited.at (sym c.has_work.ensures ∙ c.if-has_work.false)
+raise-requires-clause-at c = c.requires.visited.at (sym (c.has_work.ensures _ c.requires.visited.stands) ∙ c.if-has_work.false)
 
 pub returns-clause-ok : goal.returns-clause-ok
 returns-clause-ok c =
     let v = c.args.v.now in
     let x = exit_in c.in_ok-copy.copy in
-    let there : get spot_eq c.args.table.now.cells (spots.Exit c.args.key) ≡ Some (leaving x) =
-    sym c.in-Some.ensures.value ∙ ap (λ (w : Known). Some w) (c.in-Some-exit.ensures.some ∙ ap leaving (sym c.in_ok-copy.ensures)) in
+    let there : value_for c.args.table.now.places (spots.Exit c.args.key) ≡ Some (leaving x) =
+    sym (ap (option_map (λ (m : Marked Known). m.value)) c.in-Some.ensures.value) ∙ ap (λ (w : Known). Some w) (c.in-Some-exit.ensures.some ∙ ap leaving (sym c.in_ok-copy.ensures)) in
     on_resume _ _ _ v.key v.addr v.state.now c.args.table.now c.raise.new.table 4 c.args.key c.args.back x c.raise.result there c.requires.told c.raise.ensures.ok

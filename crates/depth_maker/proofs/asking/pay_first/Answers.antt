@@ -6,6 +6,9 @@ use Rattle.depth_maker.proofs.asking.pay_first.Goals as goal
 pub raise-requires-clause-fine : goal.raise-requires-clause-fine
 raise-requires-clause-fine c = c.requires.visited.fine
 
+pub raise-requires-clause-near : goal.raise-requires-clause-near
+raise-requires-clause-near c = c.requires.visited.stands
+
 pub raise-requires-clause-asked : goal.raise-requires-clause-asked
 raise-requires-clause-asked c =
     let v = c.args.v.now in

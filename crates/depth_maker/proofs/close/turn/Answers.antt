@@ -1,6 +1,5 @@
-use Rattle.std.proofs.Common.{refl, sym, ◌∙◌, ◌≡◌, inr, arith, ap, length, deque_len, List, true, false}
+use Rattle.std.proofs.Common.{refl, sym, ◌∙◌, ◌≡◌, inr, arith, ap, length, deque_len, ℕ, List, true, false}
 use Rattle.std.specs.Prelude.{◌==◌}
-use Rattle.frame_places.specs.declared.places.Spot.{Spot}
 use Rattle.depth_maker.proofs.LevelSteps.{left_over, turns_more}
 use Rattle.depth_maker.proofs.close.turn.Goals as goal
 
@@ -9,12 +8,12 @@ loop-done-init c = (c.requires.fine, c.requires.none, inr (refl, omega (arith, c
 
 pub loop-done-preserved : goal.loop-done-preserved
 loop-done-preserved c =
-    let h = rw c.in-Ok-Some.field-0-is at c.in-Ok-Some.ensures in
-    let v = c.in_ok-visit-in-Ok-Some.ensures.ok in (
+    let h = rw c.if-not-open_next.false at c.open_next.ensures in
+    let v = c.in_ok-visit.ensures.ok in (
       v.0,
       v.1,
       turns_more c.args.table.now c.loop-done.table c.open_next.new.table c.visit.new.table c.loop-done._done c.len-done-end.result c.loop-done.invariant.2 h.2
-          (let e = ap (λ (l : List Spot). length l) h.3 in omega (arith, e)) v.2,
+          (let e = ap (λ (l : List ℕ). length l) h.3 in omega (arith, e)) v.2,
     )
 
 pub open_next-requires-clause-fine : goal.open_next-requires-clause-fine
@@ -23,9 +22,15 @@ open_next-requires-clause-fine c = c.loop-done.invariant.0
 pub open_next-requires-clause-none : goal.open_next-requires-clause-none
 open_next-requires-clause-none c = c.loop-done.invariant.1
 
-pub returns-in-Ok-None : goal.returns-in-Ok-None
-returns-in-Ok-None c =
-    let h = rw c.in-Ok-None.field-0-is at c.in-Ok-None.ensures in
+pub visit-requires-clause-fine : goal.visit-requires-clause-fine
+visit-requires-clause-fine c = let h = rw c.if-not-open_next.false at c.open_next.ensures in h.0
+
+pub visit-requires-clause-opened : goal.visit-requires-clause-opened
+visit-requires-clause-opened c = let h = rw c.if-not-open_next.false at c.open_next.ensures in h.1
+
+pub returns-then-not-open_next : goal.returns-then-not-open_next
+returns-then-not-open_next c =
+    let h = rw c.if-not-open_next.true at c.open_next.ensures in
     (h.0, h.1, (λ e. absurd (let no : false ≡ true = e in cc)), (λ e. h.3))
 
 pub returns : goal.returns

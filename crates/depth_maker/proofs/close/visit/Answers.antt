@@ -1,9 +1,14 @@
-use Rattle.std.proofs.Common.{refl}
+use Rattle.std.proofs.Common.{refl, sym, subst, ℕ}
+use Rattle.frame_places.specs.Nearby.{StandsAt}
 use Rattle.depth_maker.proofs.Lawful.{lawful}
 use Rattle.depth_maker.proofs.VisitLemmas.{ended}
 use Rattle.depth_maker.proofs.close.visit.Goals as goal
 
 pub returns-clause-ok : goal.returns-clause-ok
 returns-clause-ok c =
-    ended _ _ _ (lawful _ _ _ c.args.ground.now.sound) c.args.table.now c.pay_place.new.table _ c.args.x c.in_ok-plain.plain c.in_ok-plain.ensures.plain refl refl refl refl refl refl
-    (λ q. c.in_ok-settle.ensures q) c.requires.opened c.in_ok-plain.ensures.ok
+    let o = c.requires.opened in
+    let m = c.pay_place.new.table in
+    let paid = c.in_ok-plain.ensures.ok o.0 o.1.stands in
+    let stands = subst (λ (n : ℕ). StandsAt m.places n o.0) (sym paid.keeps.near) (paid.keeps.numbers c.args.table.now.near o.0 o.1.stands) in
+    ended _ _ _ (lawful _ _ _ c.args.ground.now.sound) c.args.table.now m _ o.0 c.in_ok-plain.plain (c.in_ok-plain.ensures.plain o.0 o.1.stands) refl refl refl refl refl
+    (c.settle.ensures o.0 stands) o.1 paid

@@ -9,4 +9,4 @@ returns-then-has_work c before paid = paid
 pub returns : goal.returns
 returns c before paid =
     let v = c.args.v.now in
-    paid_and_heard _ _ _ v.key v.addr v.state.now (lawful _ _ _ v.ground.now.sound) before c.args.table.now c.at.result c.at.ensures c.requires.proper c.requires.on c.requires.owes (sym c.has_work.ensures ∙ c.if-has_work.false) paid
+    paid_and_heard _ _ _ v.key v.addr v.state.now (lawful _ _ _ v.ground.now.sound) before c.args.table.now c.at.result c.at.ensures c.requires.proper c.requires.on c.requires.owes (sym (c.has_work.ensures _ c.requires.near) ∙ c.if-has_work.false) paid

@@ -1,13 +1,28 @@
-use Rattle.std.proofs.Common.{ℕ, Bool, List, Contains, subst}
+use Rattle.std.proofs.Common.{◌≡◌, ℕ, Bool, true, false, List, Contains, ap, sym, subst}
 use Rattle.std.specs.Prelude.{IsTrue}
+use Rattle.std.specs.Option.{option_map}
 use Rattle.call_needs.specs.Reaching.{IsMarked}
-use Rattle.depth_maker.proofs.RecursSteps.{row_marked}
+use Rattle.depth_maker.specs.View.{seen}
+use Rattle.depth_maker.proofs.RecursSteps.{none_marked, row_marked}
+use Rattle.depth_maker.proofs.RowSteps.{number_there}
 use Rattle.depth_maker.proofs.recursion.enters_marked.Goals as goal
 
 abbrev Tells : List Bool → Bool → List ℕ → Type 0
 Tells marks r l = (IsTrue r → (t : ℕ) × Contains l t × IsMarked marks t) × (((t : ℕ) × Contains l t × IsMarked marks t) → IsTrue r)
 
-pub returns-in-Ok-Some : goal.returns-in-Ok-Some
-returns-in-Ok-Some c =
-    row_marked c.args.source.now c.requires c.args.marks.now c.args.key c.args.addr c.in-Ok-Some.row (rw c.in-Ok-Some.field-0-is at c.in-Ok-Some.ensures) c.has_marked.result
+pub returns-in_default : goal.returns-in_default
+unfolding seen
+returns-in_default c = (
+  (λ y. absurd (let f : false ≡ true = y in cc)),
+  (λ e. absurd (none_marked c.args.source.now c.requires c.args.marks.now c.args.key c.args.addr (ap (option_map (λ m. m.value)) (sym c.in_default.ensures.value)) e)),
+)
+
+pub point_row-requires-clause-at : goal.point_row-requires-clause-at
+point_row-requires-clause-at c =
+    let at = sym c.in-Some.ensures.value in
+    record { known = at; node = number_there c.args.source.now c.requires c.args.key c.args.addr c.in-Some.known.now _ at c.number_of.ensures }
+
+pub returns-in-Ok : goal.returns-in-Ok
+returns-in-Ok c =
+    row_marked c.args.source.now c.requires c.args.marks.now c.args.key c.args.addr c.in-Ok.row c.in-Ok.ensures c.has_marked.result
     (subst (Tells c.args.marks.now c.has_marked.result) c.as_slice.ensures.value c.has_marked.ensures)

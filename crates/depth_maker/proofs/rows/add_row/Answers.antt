@@ -1,20 +1,47 @@
-use Rattle.std.proofs.Common.{subst, List}
-use Rattle.call_needs.specs.declared.row.Row.{Row}
-use Rattle.depth_maker.specs.RowsBy.{HasSame}
-use Rattle.depth_maker.proofs.RowSteps.{adds_none, adds_unknown, adds_known, adds_same}
+use Rattle.std.proofs.Common.{refl, sym, ap, subst, ◌∙◌, ◌≡◌, ℕ, List, Option, Some}
+use Rattle.indexmap.specs.IndexMap.{get}
+use Rattle.frame_places.specs.Spots.{spot_eq}
+use Rattle.frame_places.specs.declared.places.Spot.TheVariants.{Point}
+use Rattle.small_states.specs.declared.cells.Outline.{Outline}
+use Rattle.depth_maker.specs.RowsBy.{IsPlainRow, IsSaidBy}
+use Rattle.depth_maker.specs.declared.rows.KnownPoint.{KnownPoint}
+use Rattle.depth_maker.proofs.PlainRows.{plain_point}
+use Rattle.depth_maker.proofs.RowSteps.{draft_more, draft_same, index_there, number_there, row_moves}
 use Rattle.depth_maker.proofs.rows.add_row.Goals as goal
 
-pub returns-in_default : goal.returns-in_default
-returns-in_default c = adds_none c.args.source.now c.args.rows.now.items c.args.place (λ k p u e at. c.in_default.not-Point k p e)
-
-pub returns-in-None : goal.returns-in-None
-returns-in-None c = adds_unknown c.args.source.now c.args.rows.now.items c.args.place c.in-Point.key c.in-Point.addr c.in-Point.is (rw c.in-None.is at c.in_ok-point_row.ensures)
-
-pub returns-in_ok-push-in-Some : goal.returns-in_ok-push-in-Some
-returns-in_ok-push-in-Some c =
-    adds_known c.args.source.now c.args.rows.now.items _ c.in-Some.row c.args.place c.in-Point.key c.in-Point.addr c.in-Point.is c.in_ok-push-in-Some.ensures.items (rw c.in-Some.is at c.in_ok-point_row.ensures)
+pub returns-in_default-place : goal.returns-in_default-place
+returns-in_default-place c =
+    let s = c.args.source.now in
+    draft_same s c.args.entry c.in-Some.place.now c.args.draft.now c.args.draft.now (index_there s.table.now.places c.args.entry c.in-Some.place.now c.in-Some.known.now c.in-Some.ensures.entry) c.requires.draft refl refl
+    (λ k p e. absurd (c.in_default-place.not-Point k p e))
 
 pub returns-then-is_said : goal.returns-then-is_said
 returns-then-is_said c =
-    adds_same c.args.source.now c.args.rows.now.items c.in-Some.row c.args.place c.in-Point.key c.in-Point.addr c.in-Point.is
-    (subst (λ (l : List Row). HasSame l c.in-Some.row) c.as_slice.ensures.value (c.is_said.ensures c.if-is_said.true)) (rw c.in-Some.is at c.in_ok-point_row.ensures)
+    let s = c.args.source.now in
+    let k = c.in-Point.key in
+    let p = c.in-Point.addr in
+    let known = c.in-Some.known.now in
+    let node = c.number_near-node.result in
+    let b = subst (λ (l : List (Option Outline)). IsSaidBy l node known) c.as_slice.ensures.value (c.is_said.ensures c.if-is_said.true) in
+    let at : get spot_eq s.table.now.places (Point k p) ≡ Some known = ap (get spot_eq s.table.now.places) (sym c.in-Point.is) ∙ c.in-Some.ensures.value in
+    let number = number_there s c.requires.source k p known node at c.number_near-node.ensures in
+    let r = (c.requires.draft).said node b.outline b.there in
+    let row = plain_point s c.requires.source k p known b.outline r.0 at b.plain b.is (subst (λ (n : ℕ). IsPlainRow s n b.outline r.0) number r.2) in
+    draft_same s c.args.entry c.in-Some.place.now c.args.draft.now _ (index_there s.table.now.places c.args.entry c.in-Some.place.now known c.in-Some.ensures.entry) c.requires.draft refl refl
+    (λ j q e. (r.0, r.1, row_moves s r.0 k j p q (sym c.in-Point.is ∙ e) row))
+
+pub add_point-requires-clause-at : goal.add_point-requires-clause-at
+add_point-requires-clause-at c =
+    let s = c.args.source.now in
+    let k = c.in-Point.key in
+    let p = c.in-Point.addr in
+    let known = c.in-Some.known.now in
+    let at : get spot_eq s.table.now.places (Point k p) ≡ Some known = ap (get spot_eq s.table.now.places) (sym c.in-Point.is) ∙ c.in-Some.ensures.value in
+    record { known = at; node = number_there s c.requires.source k p known c.number_near-node.result at c.number_near-node.ensures }
+
+pub returns : goal.returns
+returns c =
+    let s = c.args.source.now in
+    let at : KnownPoint = record { key = c.in-Point.key; addr = c.in-Point.addr; node = c.number_near-node.result; known = c.in-Some.known } in
+    draft_more s c.args.entry c.in-Some.place.now c.args.draft.now _ c.add_point.new.draft at (index_there s.table.now.places c.args.entry c.in-Some.place.now c.in-Some.known.now c.in-Some.ensures.entry) c.requires.draft refl refl
+    c.in-Point.is c.in_ok-add_point.ensures

@@ -1,52 +1,38 @@
-use Rattle.std.proofs.Common.{sym, ◌∙◌, ◌≡◌, ap, subst, Some}
-use Rattle.indexmap.specs.IndexMap.{get}
-use Rattle.depth_cert.specs.Known.{Known, state}
-use Rattle.frame_places.specs.declared.places.Spot.TheVariants.{Point}
+use Rattle.std.proofs.Common.{subst, sym}
+use Rattle.depth_cert.specs.Known.{state}
 use Rattle.small_states.specs.Kept.{IsStateAt}
-use Rattle.frame_places.specs.Spots.{spot_eq}
+use Rattle.frame_places.specs.declared.places.Spot.TheVariants.{Point}
 use Rattle.depth_maker.specs.View.{seen}
-use Rattle.depth_maker.proofs.RowSteps.{all_known, done_proper, done_state}
+use Rattle.depth_maker.proofs.RowSteps.{all_known, done_proper, known_there, read_there}
 use Rattle.depth_maker.proofs.rows.point_row.Goals as goal
 
-pub returns-in_default : goal.returns-in_default
-unfolding seen
-returns-in_default c = sym c.in_default.ensures.value
-
 pub read_state-requires : goal.read_state-requires
-read_state-requires c = done_proper c.args.source.now.ground.now c.args.source.now.table.now c.requires.done (Point c.args.key c.args.addr) _ (sym c.in-Some.ensures.value)
+read_state-requires c =
+    let s = c.args.source.now in
+    let at = c.args.at.now in
+    done_proper s.ground.now s.table.now (c.requires.source).done (Point at.key at.addr) _ (known_there s at c.requires.at)
 
-pub row_at-requires-clause-local_check : goal.row_at-requires-clause-local_check
+pub local_check-requires : goal.local_check-requires
+local_check-requires c =
+    let s = c.args.source.now in
+    let at = c.args.at.now in
+    let done = (c.requires.source).done in
+    let there = read_there s.ground.now s.table.now done at.key at.addr _ c.state.result.now (known_there s at c.requires.at) (subst (IsStateAt at.known.now.value) (sym c.state.ensures) c.read_state.ensures) in
+    (done_proper s.ground.now s.table.now done (Point at.key at.addr) (state c.state.result.now) there).values
+
+pub row_with-requires-clause-proper : goal.row_with-requires-clause-proper
+row_with-requires-clause-proper c =
+    let s = c.args.source.now in
+    let at = c.args.at.now in
+    let done = (c.requires.source).done in
+    let there = read_there s.ground.now s.table.now done at.key at.addr _ c.state.result.now (known_there s at c.requires.at) (subst (IsStateAt at.known.now.value) (sym c.state.ensures) c.read_state.ensures) in
+    done_proper s.ground.now s.table.now done (Point at.key at.addr) (state c.state.result.now) there
+
+pub returns-in_ok-row_with-in-Ok : goal.returns-in_ok-row_with-in-Ok
 unfolding seen
-row_at-requires-clause-local_check c =
-    let at = sym c.in-Some.ensures.value in
-    let e = done_state c.args.source.now.ground.now c.args.source.now.table.now c.requires.done c.args.key c.args.addr c.in-Some.cell.now at in
-    let is : c.read_state.new.into ≡ e.0 = subst (λ (w : Known). IsStateAt w c.read_state.new.into) e.1 c.read_state.ensures in
-    let there : get spot_eq c.args.source.now.table.now.cells (Point c.args.key c.args.addr) ≡ Some (state c.read_state.new.into) = at ∙ ap (λ (w : Known). Some w) (e.1 ∙ ap state (sym is)) in
-    (c.requires.done).faultless c.args.key c.args.addr c.read_state.new.into there
-
-pub row_at-requires-clause-proper : goal.row_at-requires-clause-proper
-row_at-requires-clause-proper c =
-    let at = sym c.in-Some.ensures.value in
-    let e = done_state c.args.source.now.ground.now c.args.source.now.table.now c.requires.done c.args.key c.args.addr c.in-Some.cell.now at in
-    let is : c.read_state.new.into ≡ e.0 = subst (λ (w : Known). IsStateAt w c.read_state.new.into) e.1 c.read_state.ensures in
-    let there : get spot_eq c.args.source.now.table.now.cells (Point c.args.key c.args.addr) ≡ Some (state c.read_state.new.into) = at ∙ ap (λ (w : Known). Some w) (e.1 ∙ ap state (sym is)) in
-    done_proper c.args.source.now.ground.now c.args.source.now.table.now c.requires.done (Point c.args.key c.args.addr) (state c.read_state.new.into) there
-
-pub returns : goal.returns
-unfolding seen
-returns c =
-    let at = sym c.in-Some.ensures.value in
-    let e = done_state c.args.source.now.ground.now c.args.source.now.table.now c.requires.done c.args.key c.args.addr c.in-Some.cell.now at in
-    let is : c.read_state.new.into ≡ e.0 = subst (λ (w : Known). IsStateAt w c.read_state.new.into) e.1 c.read_state.ensures in
-    let there : get spot_eq c.args.source.now.table.now.cells (Point c.args.key c.args.addr) ≡ Some (state c.read_state.new.into) = at ∙ ap (λ (w : Known). Some w) (e.1 ∙ ap state (sym is)) in
-    (c.read_state.new.into, there, c.in_ok-row.ensures c.args.source.now.table.now.frames.items (record { all = c.requires.numbers; taken = c.requires.handlers }) (all_known _ c.args.source.now.table.now c.requires.done there))
-
-pub quiet_row-requires-clause-at : goal.quiet_row-requires-clause-at
-unfolding seen
-quiet_row-requires-clause-at c = sym c.in-Some.ensures.value
-
-pub row_at-requires-clause-plain : goal.row_at-requires-clause-plain
-row_at-requires-clause-plain c t = (c.requires.done).plain (Point c.args.key c.args.addr) (c.is_plain-plain.ensures.0 t)
-
-pub quiet_row-requires-clause-plain : goal.quiet_row-requires-clause-plain
-quiet_row-requires-clause-plain c = (c.requires.done).plain (Point c.args.key c.args.addr) (c.is_plain-plain.ensures.0 c.if-plain.true)
+returns-in_ok-row_with-in-Ok c =
+    let s = c.args.source.now in
+    let at = c.args.at.now in
+    let source = c.requires.source in
+    let there = read_there s.ground.now s.table.now source.done at.key at.addr _ c.state.result.now (known_there s at c.requires.at) (subst (IsStateAt at.known.now.value) (sym c.state.ensures) c.read_state.ensures) in
+    (c.state.result.now, there, c.in_ok-row_with-in-Ok.ensures s.table.now.frames.items (record { all = source.numbers; taken = source.handlers }) (all_known _ s.table.now source.done there) (c.requires.at).node)

@@ -12,7 +12,7 @@ use Rattle.depth_maker.proofs.HandlerLaws.{nodes_taken-is}
 use Rattle.depth_maker.proofs.rows.row_with.Goals as goal
 
 pub returns : goal.returns
-returns c frames are all =
+returns c frames are all node =
     let v = c.args.v.now in
     let f = c.args.found.now in
     let g = v.ground.now in
@@ -24,15 +24,15 @@ returns c frames are all =
     c.in_ok-into.ensures frames are.all
     (λ k i. all.entered f c.requires.found k (subst (λ (l : List Key). Contains l k) (sym whole) (Contains-append_left own irqs k (subst (λ (l : List Key). Contains l k) keys i))))
     ∙ ap (λ (l : List Key). map (number_in frames) l) keys in
-    let second = nodes_taken-is g.plan.now frames v.key v.state.now c.args.handlers.now are.taken (λ k i. all.entered f c.requires.found k (subst (λ (l : List Key). Contains l k) (sym whole) (Contains-append_right own irqs k i))) in
+    let second = nodes_taken-is g.plan.now frames v.key v.state.now c.args.source.now.handlers.now are.taken (λ k i. all.entered f c.requires.found k (subst (λ (l : List Key). Contains l k) (sym whole) (Contains-append_right own irqs k i))) in
     record {
       found = f;
       stands = c.requires.found;
-      node = c.number_of.ensures frames are.all all.own;
+      node = node;
       held = c.len.ensures.value;
       into =
           c.in_ok-add_taken.ensures
-          ∙ ap (λ (l : List ℕ). l ++ nodes_taken v.state.now c.args.handlers.now) first
+          ∙ ap (λ (l : List ℕ). l ++ nodes_taken (v.state.now).ie (v.state.now).ccpn c.args.source.now.handlers.now) first
           ∙ ap (λ (l : List ℕ). map (number_in frames) own ++ l) second
           ∙ sym (ap (map (number_in frames)) whole ∙ map-append (number_in frames) own irqs);
     }

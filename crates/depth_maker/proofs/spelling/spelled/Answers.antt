@@ -3,26 +3,27 @@ use Rattle.std.specs.List.Sorted.{IsPermutation, IsNonDecreasingBy}
 use Rattle.depth_cert.specs.declared.keys.Key.{Key}
 use Rattle.depth_cert.specs.Keys.{number_of_key}
 use Rattle.depth_maker.specs.Spelled.{IsOrdered}
-use Rattle.frame_places.specs.Spots.{spot_number}
-use Rattle.frame_places.specs.declared.places.Spot.{Spot}
+use Rattle.frame_places.specs.Entries.{AreEntries, places_at, points_in}
+use Rattle.frame_places.specs.declared.ordering.PointEntry.{PointEntry}
 use Rattle.depth_maker.specs.declared.spelling.Ordered.{Ordered}
 use Rattle.depth_maker.proofs.OutLemmas.{spelled_is}
 use Rattle.depth_maker.proofs.spelling.spelled.Goals as goal
 
 pub returns : goal.returns
 returns c =
-    let o : Ordered = record { source = c.args.source; needs = c.args.needs; points = c.as_slice-3.result } in
+    let o : Ordered = record { source = c.args.source; needs = c.args.needs; points = c.as_slice-2.result } in
+    let places = c.args.source.now.table.now.places in
     let ordered : IsOrdered o = record {
       source = c.requires.source;
       needs = c.requires.needs;
-      points =
-          subst (λ (l : List Spot). IsPermutation l c.as_slice-3.result.now) c.as_slice-2.ensures.value
-          (subst (IsPermutation c.as_slice-2.result.now) (sym c.as_slice-3.ensures.value) c.in_ok-points.ensures.same);
-      rising = subst (IsNonDecreasingBy spot_number) (sym c.as_slice-3.ensures.value) c.in_ok-points.ensures.rising;
+      unique = c.points_in_order.ensures.unique;
+      points = subst (λ (l : List PointEntry). IsPermutation (points_in places) (places_at places l)) (sym c.as_slice-2.ensures.value) c.in_ok-points.ensures.same;
+      rising = subst (λ (l : List PointEntry). IsNonDecreasingBy (λ (x : PointEntry). x.order) l) (sym c.as_slice-2.ensures.value) c.in_ok-points.ensures.rising;
+      entries = subst (AreEntries places) (sym c.as_slice-2.ensures.value) c.in_ok-points.ensures.entries;
     } in
     let frames =
-    subst (λ (l : List Key). IsPermutation l c.as_slice-4.result.now) c.as_slice.ensures.value
-    (subst (IsPermutation c.as_slice.result.now) (sym c.as_slice-4.ensures.value) c.in_ok-frames.ensures.same)
+    subst (λ (l : List Key). IsPermutation l c.as_slice-3.result.now) c.as_slice.ensures.value
+    (subst (IsPermutation c.as_slice.result.now) (sym c.as_slice-3.ensures.value) c.in_ok-frames.ensures.same)
     in
-    let rising = subst (IsNonDecreasingBy (λ (k : Key). number_of_key k)) (sym c.as_slice-4.ensures.value) c.in_ok-frames.ensures.rising in
-    spelled_is o c.args.version c.as_slice-4.result.now c.in_ok-out.out.items ordered frames rising c.requires.known c.requires.limits c.in_ok-out.ensures
+    let rising = subst (IsNonDecreasingBy (λ (k : Key). number_of_key k)) (sym c.as_slice-3.ensures.value) c.in_ok-frames.ensures.rising in
+    spelled_is o c.args.version c.as_slice-3.result.now c.in_ok-out.out.items ordered frames rising c.requires.known c.requires.limits c.in_ok-out.ensures

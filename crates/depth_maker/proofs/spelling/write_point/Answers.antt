@@ -1,26 +1,44 @@
-use Rattle.std.proofs.Common.{refl, subst, sym}
+use Rattle.std.proofs.Common.{refl, sym, ap, ◌≡◌, ◌∙◌, ◌++◌, ◌<◌, subst, ℕ, Some, true, false}
+use Rattle.std.specs.Option.{option_map}
+use Rattle.std.proofs.lemmas.Map.Entries.{length-keys_of}
+use Rattle.tcd_base.specs.Bytes.{bytes_of_word}
 use Rattle.depth_cert.specs.Known.{Known}
-use Rattle.depth_maker.specs.View.{seen}
-use Rattle.frame_places.specs.declared.places.Spot.TheVariants.{Point}
 use Rattle.small_states.specs.Kept.{AddsState, IsStateAt}
-use Rattle.depth_maker.proofs.CountLaws.{none_some}
-use Rattle.depth_maker.proofs.OutLemmas.{state_there, writes_point}
-use Rattle.depth_maker.proofs.RowSteps.{done_proper, done_state}
+use Rattle.frame_places.specs.Entries.{place_at}
+use Rattle.frame_places.specs.Marks.{value_for}
+use Rattle.frame_places.specs.Spots.{spot_address}
+use Rattle.frame_places.specs.declared.places.Spot.TheVariants.{Point}
+use Rattle.depth_maker.specs.View.{seen}
+use Rattle.depth_maker.proofs.OutLemmas.{writes_point}
+use Rattle.depth_maker.proofs.PointEntries.{entry_place}
+use Rattle.depth_maker.proofs.RowSteps.{done_proper, done_state, read_there}
 use Rattle.depth_maker.proofs.spelling.write_point.Goals as goal
 
-pub returns-in_default : goal.returns-in_default
-unfolding seen
-returns-in_default c = absurd (none_some _ (sym c.in_default.ensures.value) c.requires.known)
-
 pub spell_state-requires : goal.spell_state-requires
-spell_state-requires c = done_proper c.args.source.now.ground.now c.args.source.now.table.now (c.requires.source).done (Point c.args.key c.args.addr) _ (sym c.in-Some.ensures.value)
+spell_state-requires c =
+    let s = c.args.source.now in
+    done_proper s.ground.now s.table.now (c.requires.source).done c.in-Some.place.now _ (ap (option_map (λ m. m.value)) c.in-Some.ensures.value)
 
 pub returns : goal.returns
+unfolding seen
 returns c =
     let s = c.args.source.now in
-    let w = c.in-Some.cell.now in
-    let at = sym c.in-Some.ensures.value in
-    let e = done_state s.ground.now s.table.now (c.requires.source).done c.args.key c.args.addr w at in
-    let there = state_there s c.requires.source c.args.key c.args.addr w e.0 at (subst (λ (v : Known). IsStateAt v e.0) (sym e.1) refl) in
+    let t = s.table.now in
+    let x = c.args.point.now in
+    let k = c.args._key in
+    let p = spot_address (place_at t.places x) in
+    let place : place_at t.places x ≡ c.in-Some.place.now = entry_place t.places x c.in-Some.place.now c.in-Some.known.now c.in-Some.ensures.entry in
+    let is : c.in-Some.place.now ≡ Point k p = sym place ∙ (c.requires.point).is in
+    let w = c.in-Some.known.now.value in
+    let at : value_for t.places (Point k p) ≡ Some w = ap (value_for t.places) (sym is) ∙ ap (option_map (λ m. m.value)) c.in-Some.ensures.value in
+    let done = (c.requires.source).done in
+    let e = done_state s.ground.now t done k p w at in
+    let there = read_there s.ground.now t done k p w e.0 at (subst (λ (v : Known). IsStateAt v e.0) (sym e.1) refl) in
     let adds = subst (λ (v : Known). AddsState v c.put_u32.new.out.items c.spell_state.new.out.items) e.1 c.in_ok-spell_state.ensures in
-    writes_point s c.args.key c.args.addr e.0 c.args.out.now.items c.put_u32.new.out.items c.spell_state.new.out.items there adds.1 c.in_ok-put_u32.ensures.ok adds.0
+    let address = c.address_at.ensures ∙ ap spot_address (sym place) in
+    writes_point s k p e.0 c.args.out.now.items c.put_u32.new.out.items c.spell_state.new.out.items there adds.1
+    (c.in_ok-put_u32.ensures.ok ∙ ap (λ (n : ℕ). c.args.out.now.items ++ bytes_of_word n) address) adds.0
+
+pub returns-in_default : goal.returns-in_default
+returns-in_default c =
+    absurd (let f : false ≡ true = c.in_default.ensures.found.1 (subst (λ (n : ℕ). c.args.point.now.entry < n) (length-keys_of c.args.source.now.table.now.places.entries) (c.requires.point).within) in cc)

@@ -1,23 +1,30 @@
-use Rattle.std.proofs.Common.{sym, subst, List, ℕ, IsSome}
-use Rattle.std.proofs.lemmas.List.{take_all}
+use Rattle.std.proofs.Common.{sym, subst, List, ℕ, ◌<◌, ◌≤◌}
+use Rattle.std.proofs.lemmas.List.{get_or-map, length-map, take_all}
 use Rattle.std.proofs.lemmas.List.Elements.{Contains-get_or}
-use Rattle.cfg_recover.specs.Assignments.{point}
-use Rattle.depth_maker.specs.Spelled.{WritesPoint, WritesPoints, known_on}
+use Rattle.frame_places.specs.Entries.{nowhere, place_at}
+use Rattle.frame_places.specs.Spots.{spot_address}
 use Rattle.frame_places.specs.declared.places.Spot.{Spot}
+use Rattle.depth_maker.specs.Spelled.{WritesPoint, WritesPoints, spots_on}
 use Rattle.depth_maker.proofs.OutLemmas.{points_none, points_more}
 use Rattle.depth_maker.proofs.spelling.write_points.Goals as goal
 
 pub loop-p-init : goal.loop-p-init
 loop-p-init c = points_none c.args.source.now c.args.key c.args.out.now.items
 
-pub write_point-requires-clause-known : goal.write_point-requires-clause-known
-write_point-requires-clause-known c =
-    subst (λ (n : ℕ). IsSome (known_on c.args.source.now (point c.args.key n))) (sym c.address_at.ensures) (c.requires.known _ (Contains-get_or c.args.points.now c.loop-p.p-index _ c.loop-p-test.true))
+pub write_point-requires-clause-point : goal.write_point-requires-clause-point
+write_point-requires-clause-point c = c.requires.points _ (Contains-get_or c.args.points.now c.loop-p.p-index _ c.loop-p-test.true)
 
 pub loop-p-preserved : goal.loop-p-preserved
 loop-p-preserved c =
-    points_more c.args.source.now c.args.key c.args.points.now c.loop-p.p-index _ c.args.out.now.items c.loop-p.out.items c.write_point.new.out.items c.loop-p-test.true c.loop-p.invariant
-    (subst (λ (n : ℕ). WritesPoint c.args.source.now c.args.key n c.loop-p.out.items c.write_point.new.out.items) c.address_at.ensures c.in_ok-write_point.ensures)
+    let s = c.args.source.now in
+    let xs = c.args.points.now in
+    let places = s.table.now.places in
+    points_more s c.args.key (spots_on s xs) c.loop-p.p-index nowhere c.args.out.now.items c.loop-p.out.items c.write_point.new.out.items
+    (subst (λ (n : ℕ). c.loop-p.p-index < n) (sym (length-map xs (place_at places))) c.loop-p-test.true) c.loop-p.invariant
+    (subst (λ (q : Spot). WritesPoint s c.args.key (spot_address q) c.loop-p.out.items c.write_point.new.out.items) (sym (get_or-map (place_at places) xs c.loop-p.p-index _ nowhere c.loop-p-test.true)) c.in_ok-write_point.ensures)
 
 pub returns : goal.returns
-returns c = subst (λ (l : List Spot). WritesPoints c.args.source.now c.args.key l c.args.out.now.items c.loop-p.out.items) (take_all c.loop-p.p-index c.args.points.now c.loop-p-test.false) c.loop-p.invariant
+returns c =
+    let s = c.args.source.now in
+    subst (λ (l : List Spot). WritesPoints s c.args.key l c.args.out.now.items c.loop-p.out.items)
+    (take_all c.loop-p.p-index (spots_on s c.args.points.now) (subst (λ (n : ℕ). n ≤ c.loop-p.p-index) (sym (length-map c.args.points.now (place_at s.table.now.places))) c.loop-p-test.false)) c.loop-p.invariant

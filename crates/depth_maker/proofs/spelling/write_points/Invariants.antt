@@ -1,6 +1,6 @@
 use Rattle.std.proofs.Common.{take}
-use Rattle.depth_maker.specs.Spelled.{WritesPoints}
+use Rattle.depth_maker.specs.Spelled.{WritesPoints, spots_on}
 use Rattle.depth_maker.proofs.spelling.write_points.Given as goal
 
 abbrev pub invariant-loop-p : goal.invariant-loop-p
-invariant-loop-p l = WritesPoints l.source l.key (take l.p-index l.points) l.initial.out.items l.out.items
+invariant-loop-p l = WritesPoints l.source l.key (take l.p-index (spots_on l.source l.points)) l.initial.out.items l.out.items

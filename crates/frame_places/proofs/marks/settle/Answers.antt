@@ -1,19 +1,22 @@
-use Rattle.std.proofs.Common.{ap, ◌∙◌, Some}
-use Rattle.std.specs.Prelude.{if◌then◌else◌}
-use Rattle.indexmap.specs.IndexMap.{get}
+use Rattle.std.proofs.Common.{ap, sym, subst, ◌∙◌}
+use Rattle.std.specs.Option.{option_map}
+use Rattle.indexmap.specs.IndexMap.{with_value_at}
 use Rattle.frame_places.specs.declared.places.Mark.{Mark}
-use Rattle.frame_places.specs.Marks.{settled_mark}
-use Rattle.frame_places.specs.Spots.{spot_eq}
-use Rattle.frame_places.proofs.NearbyLemmas.{written_there}
+use Rattle.frame_places.specs.declared.places.Marked.{Marked}
+use Rattle.frame_places.specs.Marks.{MarksAs, settled_mark}
+use Rattle.frame_places.proofs.MarkLemmas.{marks_as}
+use Rattle.frame_places.proofs.NearbyLemmas.{no_value, value_had, written_numbers, written_there}
 use Rattle.frame_places.proofs.marks.settle.Goals as goal
 
-pub returns : goal.returns
-returns c q =
-    c.in_ok-insert.ensures.updates.0 q ∙ ap (λ (k : Mark). if spot_eq c.args.x q then Some k else get spot_eq c.args.marks.now q) c.mark_of-after.ensures
-
 pub returns-in-Some : goal.returns-in-Some
-returns-in-Some c q =
-    let m = c.args.marks.now in
-    let x = c.args.x in
-    written_there m c.args.near x c.mark_after-after.result c.in-Some.ensures.unique (record { value = c.in-Some.mark.now; there = c.in-Some.ensures.there }) q
-    ∙ ap (λ (k : Mark). if spot_eq x q then Some k else get spot_eq m q) (c.mark_after-after.ensures ∙ ap (settled_mark c.args.plain) c.in-Some.ensures.value)
+returns-in-Some g c x stands =
+    let m = c.args.places.now in
+    let old = c.in-Some.place.now in
+    let w : Marked g.row.V.Denot = record old { mark = c.mark_after-place.result } in
+    let unique = c.in-Some.ensures.unique in
+    let had = value_had m c.args.number x unique old c.in-Some.ensures.value stands in
+    subst (λ (k : Mark). MarksAs m (with_value_at m c.args.number w) x k) (c.mark_after-place.ensures ∙ ap (settled_mark c.args.plain) (sym (ap (option_map (λ k. k.mark)) had)))
+    (marks_as m (with_value_at m c.args.number w) x w (written_there m c.args.number x w unique stands) (ap (option_map (λ k. k.value)) had) (written_numbers m c.args.number w))
+
+pub returns-in_default : goal.returns-in_default
+returns-in_default g c x stands = absurd (no_value c.args.places.now c.args.number x c.in_default.ensures.value stands)

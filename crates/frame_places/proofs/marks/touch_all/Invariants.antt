@@ -1,6 +1,6 @@
-use Rattle.std.proofs.Common.{take}
-use Rattle.frame_places.specs.Marks.{AllListed, Touched}
+use Rattle.std.proofs.Common.{take, Contains}
+use Rattle.frame_places.specs.Marks.{AllListed, Tells}
 use Rattle.frame_places.proofs.marks.touch_all.Given as goal
 
 abbrev pub invariant-loop-x : goal.invariant-loop-x
-invariant-loop-x l = AllListed l.marks l.work.items × Touched l.initial.marks l.marks (take l.x-index l.places)
+invariant-loop-x g l = AllListed l.places l.work.items × Tells l.initial.places l.places (Contains (take l.x-index l.told))

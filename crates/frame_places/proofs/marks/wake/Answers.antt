@@ -1,10 +1,12 @@
-use Rattle.std.proofs.Common.{subst, sym, List}
+use Rattle.std.proofs.Common.{subst, List, Option, Contains}
+use Rattle.std.specs.Prelude.{OnOk}
+use Rattle.std.specs.declared.vec.Vec.{Vec}
+use Rattle.std.specs.declared.alloc.Global.{Global}
 use Rattle.frame_places.specs.declared.places.Spot.{Spot}
-use Rattle.frame_places.specs.Marks.{Touched}
-use Rattle.frame_places.proofs.MarkLemmas.{Woken-some}
+use Rattle.frame_places.specs.Marks.{Reads, Tells}
 use Rattle.frame_places.proofs.marks.wake.Goals as goal
 
-pub returns-in_ok-touch_all-in-Some-clause-marks : goal.returns-in_ok-touch_all-in-Some-clause-marks
-returns-in_ok-touch_all-in-Some-clause-marks c =
-    Woken-some c.args.marks.now c.touch.new.marks c.touch_all.new.marks c.args.readers.now c.args.y c.in-Some.places.now c.in_ok-touch.ensures.marks (sym c.in-Some.ensures.value)
-    (subst (λ (ps : List Spot). Touched c.touch.new.marks c.touch_all.new.marks ps) c.as_slice.ensures.value c.in_ok-touch_all-in-Some.ensures.marks)
+pub returns-in-Some-clause-marks : goal.returns-in-Some-clause-marks
+returns-in-Some-clause-marks g c =
+    subst (λ (o : Option (Vec Spot Global)). OnOk c.touch_all.result (Tells c.args.places.now c.touch_all.new.places (Reads o))) c.in-Some.ensures.value
+    (subst (λ (ps : List Spot). OnOk c.touch_all.result (Tells c.args.places.now c.touch_all.new.places (Contains ps))) c.as_slice.ensures.value c.touch_all.ensures.marks)

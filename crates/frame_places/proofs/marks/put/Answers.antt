@@ -1,0 +1,38 @@
+use Rattle.std.proofs.Common.{ap, sym, subst, refl, ◌∙◌, Some}
+use Rattle.std.specs.Option.{option_map}
+use Rattle.indexmap.specs.IndexMap.{with_value_at}
+use Rattle.frame_places.specs.declared.places.Mark.{Mark}
+use Rattle.frame_places.specs.declared.places.Marked.{Marked}
+use Rattle.std.proofs.Common.{List, ℕ}
+use Rattle.frame_places.specs.Marks.{AllListed}
+use Rattle.frame_places.specs.declared.places.Mark.TheVariants.{Queued}
+use Rattle.frame_places.proofs.MarkLemmas.{AllListed-again, AllListed-push, puts_as}
+use Rattle.frame_places.proofs.NearbyLemmas.{value_had, written_numbers, written_there}
+use Rattle.frame_places.proofs.marks.put.Goals as goal
+
+pub returns-in-Queued-clause-puts : goal.returns-in-Queued-clause-puts
+returns-in-Queued-clause-puts g c y stands =
+    let m = c.args.places.now in
+    let w : Marked g.row.V.Denot = record c.in-Some.place.now { value = c.args.value } in
+    puts_as m (with_value_at m c.args.number w) y w (written_there m c.args.number y w c.in-Some.ensures.unique stands) c.in-Queued.is (written_numbers m c.args.number w)
+
+pub returns-in-Queued-clause-work : goal.returns-in-Queued-clause-work
+returns-in-Queued-clause-work g c y stands =
+    let m = c.args.places.now in
+    let old = c.in-Some.place.now in
+    let w : Marked g.row.V.Denot = record old { value = c.args.value } in
+    let unique = c.in-Some.ensures.unique in
+    let p = puts_as m (with_value_at m c.args.number w) y w (written_there m c.args.number y w unique stands) c.in-Queued.is (written_numbers m c.args.number w) in
+    AllListed-again m (with_value_at m c.args.number w) c.args.work.now.items c.args.number y p.marks p.numbers
+    (ap (option_map (λ k. k.mark)) (value_had m c.args.number y unique old c.in-Some.ensures.value stands) ∙ ap (λ (k : Mark). Some k) c.in-Queued.is) c.requires.listed
+
+pub returns : goal.returns
+returns g c =
+    let m = c.args.places.now in
+    let w : Marked g.row.V.Denot = record c.in-Some.place.now { value = c.args.value; mark = Queued } in record {
+      puts = (λ y stands. puts_as m (with_value_at m c.args.number w) y w (written_there m c.args.number y w c.in-Some.ensures.unique stands) refl (written_numbers m c.args.number w));
+      work = (λ y stands.
+          let p = puts_as m (with_value_at m c.args.number w) y w (written_there m c.args.number y w c.in-Some.ensures.unique stands) refl (written_numbers m c.args.number w) in
+          subst (λ (l : List ℕ). AllListed (with_value_at m c.args.number w) l) (sym c.in_ok-push_back.ensures.items)
+          (AllListed-push m (with_value_at m c.args.number w) c.args.work.now.items c.args.number y p.marks p.numbers (p.numbers c.args.number y stands) c.requires.listed));
+    }
