@@ -9,3 +9,4 @@ pub mod Words
 pub mod Answered
 pub mod Bounded
 pub mod AreaLaws
+pub mod KnownLaws

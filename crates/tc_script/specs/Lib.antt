@@ -9,3 +9,4 @@ pub mod Ports
 pub mod Runs
 pub mod ScriptRuns
 pub mod AreaRows
+pub mod KnownWords

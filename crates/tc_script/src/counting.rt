@@ -297,40 +297,26 @@ pub(crate) fn effect_of_event(
     }
 }
 
-/// The areas in use after an event with this effect; counted anew where it isn't known.
-fn used_by_effect(m: &Machine, used: AreasUsed, effect: Effect) -> AreasUsed
-    requires { Tells effect used m.now }
-    ensures { IsCounted result m.now }
+/// Makes the areas in use those after an event with this effect; they are counted anew where it isn't known.
+fn used_by_effect(m: &Machine, used: &mut AreasUsed, effect: Effect)
+    requires { Tells effect used.old m.now }
+    ensures { IsCounted used.new m.now }
 {
     match effect {
-        Effect::Stays => used,
-        Effect::Saves => {
-            let count = used.count + 1;
-            AreasUsed {
-                count,
-                in_row: used.in_row,
-                first: used.first,
-            }
-        }
-        Effect::Restores => {
-            let count = used.count - 1;
-            AreasUsed {
-                count,
-                in_row: used.in_row,
-                first: used.first,
-            }
-        }
-        Effect::Unknown => count_areas(m),
+        Effect::Stays => {}
+        Effect::Saves => used.count += 1,
+        Effect::Restores => used.count -= 1,
+        Effect::Unknown => *used = count_areas(m),
     }
 }
 
-/// The areas in use after an event that has this effect where the machine still runs.
-pub(crate) fn used_after(m: &Machine, used: AreasUsed, effect: Effect) -> AreasUsed
-    requires { m.now.end ≡ End.Running → Tells effect used m.now }
-    ensures { IsCounted result m.now }
+/// Makes the areas in use those after an event that has this effect where the machine still runs.
+pub(crate) fn used_after(m: &Machine, used: &mut AreasUsed, effect: Effect)
+    requires { m.now.end ≡ End.Running → Tells effect used.old m.now }
+    ensures { IsCounted used.new m.now }
 {
     match m.end {
         End::Running => used_by_effect(m, used, effect),
-        End::Dead(_) => count_areas(m),
+        End::Dead(_) => *used = count_areas(m),
     }
 }

@@ -10,6 +10,7 @@ ghost use Rattle.tc_script.specs.Runs.{IsInput, IsEventOf, IsDead, IsDriven};
 
 use crate::asking::Ports;
 use crate::counting::{count_areas, effect_of_event, used_after};
+use crate::known_words::KnownWords;
 use crate::{Script, Turn};
 use tc_isa::Shape;
 use tc_machine::{Cause, End, Event, Machine};
@@ -97,6 +98,7 @@ pub fn drive<F: Fn(u32, u32) -> u32>(
     ensures { IsDriven plan.now (F.post ports.now.answer) script.now.turns m.old m.new result }
 {
     let mut areas = count_areas(m);
+    let mut words = KnownWords::new();
     let mut done = Peak {
         events: 0,
         peak: areas.count,
@@ -105,15 +107,14 @@ pub fn drive<F: Fn(u32, u32) -> u32>(
         if !is_running(m) {
             return done;
         }
-        let found = m.shape_at_pc();
+        let found = words.shape_at_pc(m);
         let event = event(ports, m, &found, script.turn(t), t);
         let effect = effect_of_event(m, &event, &found, areas);
         m.step_by(&event, found);
-        let counted = used_after(m, areas, effect);
-        areas = counted;
+        used_after(m, &mut areas, effect);
         done = Peak {
             events: t + 1,
-            peak: done.peak.max(counted.count),
+            peak: done.peak.max(areas.count),
         };
     }
     done

@@ -5,6 +5,7 @@ mod asking;
 mod counting;
 mod driving;
 mod errors;
+mod known_words;
 mod laws;
 mod numbers;
 mod parts;

@@ -3,16 +3,16 @@ use Rattle.tc_script.proofs.AreaLaws.{as_told}
 use Rattle.tc_script.proofs.counting.used_by_effect.Goals as goal
 
 pub returns-in-Stays : goal.returns-in-Stays
-returns-in-Stays c = as_told _ _ c.args.used c.args.m.now c.in-Stays.is c.requires
+returns-in-Stays c = as_told _ _ c.args.used.now c.args.m.now c.in-Stays.is c.requires
 
-pub overflow_add-count : goal.overflow_add-count
-overflow_add-count c = let few = (as_told _ _ c.args.used c.args.m.now c.in-Saves.is c.requires).0 in omega arith
+pub overflow_add-used : goal.overflow_add-used
+overflow_add-used c = let few = (as_told _ _ c.args.used.now c.args.m.now c.in-Saves.is c.requires).0 in omega arith
 
 pub returns-in-Saves : goal.returns-in-Saves
-returns-in-Saves c = (as_told _ _ c.args.used c.args.m.now c.in-Saves.is c.requires).1
+returns-in-Saves c = (as_told _ _ c.args.used.now c.args.m.now c.in-Saves.is c.requires).1
 
-pub overflow_sub-count : goal.overflow_sub-count
-overflow_sub-count c = let some = (as_told _ _ c.args.used c.args.m.now c.in-Restores.is c.requires).0 in omega arith
+pub overflow_sub-used : goal.overflow_sub-used
+overflow_sub-used c = let some = (as_told _ _ c.args.used.now c.args.m.now c.in-Restores.is c.requires).0 in omega arith
 
 pub returns-in-Restores : goal.returns-in-Restores
-returns-in-Restores c = (as_told _ _ c.args.used c.args.m.now c.in-Restores.is c.requires).1
+returns-in-Restores c = (as_told _ _ c.args.used.now c.args.m.now c.in-Restores.is c.requires).1

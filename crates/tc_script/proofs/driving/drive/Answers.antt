@@ -12,8 +12,8 @@ use Rattle.tc_script.proofs.driving.drive.Goals as goal
 pub returns-then-not-is_running : goal.returns-then-not-is_running
 returns-then-not-is_running g c = ended c.loop-t.t c.loop-t.m c.loop-t.done c.loop-t.invariant.so_far (inr c.if-not-is_running.ensures)
 
-pub used_after-counted-requires : goal.used_after-counted-requires
-used_after-counted-requires g c =
+pub used_after-requires : goal.used_after-requires
+used_after-requires g c =
     subst (λ (k : Machine). k.end ≡ Running → Tells c.effect_of_event-effect.result c.loop-t.areas k) (sym c.step_by.ensures) c.effect_of_event-effect.ensures
 
 pub loop-t-preserved : goal.loop-t-preserved
@@ -31,8 +31,9 @@ loop-t-preserved g c =
       so_far =
           one_more c.loop-t.t m c.loop-t.done turn e c.step_by.new.self _ c.loop-t.invariant.so_far running (drop_at c.args.script.now.turns c.loop-t.t turn c.turn.ensures) event
           (fits_event plan answers c.loop-t.t turn m e running event c.requires.bounded source early c.event-event.ensures.word) c.step_by.ensures refl
-          (c.max.ensures ∙ ap (λ n. max c.loop-t.done.peak n) c.used_after-counted.ensures.count);
-      areas = c.used_after-counted.ensures;
+          (c.max.ensures ∙ ap (λ n. max c.loop-t.done.peak n) c.used_after.ensures.count);
+      areas = c.used_after.ensures;
+      words = c.shape_at_pc-found.ensures.known;
     }
 
 pub returns : goal.returns
