@@ -3,3 +3,4 @@ pub mod WordTests
 pub mod AskedLemmas
 pub mod SparseLemmas
 pub mod GapLemmas
+pub mod HeldWords

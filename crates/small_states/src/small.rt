@@ -1,8 +1,9 @@
 // A value in little room.
-ghost use Rattle.std.specs.Prelude.{◌≡◌, ◌↔◌, IsTrue, IfOk, OnOk, ◌∷◌, ◌++◌, []};
+ghost use Rattle.std.specs.Prelude.{◌≡◌, ◌↔◌, ◌≤◌, ◌<◌, ℕ, IsTrue, IfOk, IfSome, OnOk, ◌∷◌, ◌++◌, [], length, slice_index};
 ghost use Rattle.depth_cert.specs.Spelling.{bytes_of_value};
 ghost use Rattle.value_domain.specs.declared.values.Val.TheVariants.{Set, Span};
-ghost use Rattle.value_domain.specs.Values.{IsWell, IsValue, IsBelow, IsMember, any_val};
+ghost use Rattle.value_domain.specs.Sets.{Among, Rising};
+ghost use Rattle.value_domain.specs.Values.{IsWell, IsValue, IsBelow, IsMember, any_val, cover, members};
 ghost use Rattle.value_domain.specs.State.{join_of};
 ghost use Rattle.small_states.specs.Forms.{val_of};
 ghost use Rattle.small_states.specs.Kept.{given_of};
@@ -15,7 +16,8 @@ use std::marker::Model;
 use std::rc::Rc;
 use tcd_base::NoMemory;
 use value_domain::{
-    Bounds, Val, Words, alignment_log2, is_set, join, leq, set_span, set_words, write_any,
+    Bounds, Val, Words, add_words, alignment_log2, is_set, join, leq, set_span, set_words,
+    write_any,
 };
 use vd_transfer::only_word;
 
@@ -31,7 +33,7 @@ pub(crate) enum Form {
 /// A value that takes no more room than its words need.
 #[derive(Drop)]
 pub struct Small {
-    form: Form,
+    pub(crate) form: Form,
 }
 
 impl Model for Small {
@@ -68,33 +70,57 @@ fn is_the_range(v: &Val, lo: u32, last: u32, step: u8) -> bool
     }
 }
 
-fn are_the_words(v: &Val, words: &Words) -> bool
-    ensures { IsTrue result → v.now ≡ Set words.now }
-{
-    match v {
-        Val::Set(own) => own.as_slice() == words.as_slice(),
-        Val::Span { .. } => false,
-    }
-}
-
 /// Whether two values are sets of the same words.
 fn have_same_words(v: &Val, w: &Val) -> bool
     ensures { IsTrue result → v.now ≡ w.now }
 {
+    let Val::Set(own) = v else {
+        return false;
+    };
     match w {
-        Val::Set(words) => are_the_words(v, words),
+        Val::Set(words) => own.as_slice() == words.as_slice(),
         Val::Span { .. } => false,
     }
 }
 
-#[inline(always)]
-fn is_the_word(v: &Val, x: u32) -> bool
-    ensures { IsTrue result → v.now ≡ Set (x ∷ []) }
+/// How many of the words are among others, up to the first that isn't. Both ascend and are walked once.
+fn held_before(own: &[u32], words: &[u32]) -> usize
+    requires own { Rising own.now }
+    requires words { Rising words.now }
+    ensures within { result ≤ length words.now }
+    ensures held { (j : ℕ) → j < result → Among (slice_index words.now j) own.now }
+    ensures missing { result < length words.now → ¬ Among (slice_index words.now result) own.now }
 {
-    match v {
-        Val::Set(words) => is_one(words, x),
-        Val::Span { .. } => false,
+    let mut k = 0;
+    let mut n = 0;
+    while n < words.len() && k < own.len() {
+        if own[k] > words[n] {
+            return n;
+        }
+        if own[k] == words[n] {
+            n += 1;
+        }
+        k += 1;
     }
+    n
+}
+
+/// Whether each member of a value is one of another; of two sets the greatest words are compared first.
+fn are_below(v: &Val, own: &Val) -> bool
+    requires value { IsWell v.now }
+    requires own { IsWell own.now }
+    ensures { IsTrue result ↔ IsBelow v.now own.now }
+{
+    let Some(words) = v.words() else {
+        return leq(v, own);
+    };
+    let Some(held) = own.words() else {
+        return leq(v, own);
+    };
+    if words[words.len() - 1] > held[held.len() - 1] {
+        return false;
+    }
+    held_before(held, words) == words.len()
 }
 
 /// A range that isn't all words. The call keeps the test before it a jump, where all words are most of what is tested.
@@ -200,30 +226,23 @@ impl Small {
     {
         match &self.form {
             Form::Any => is_the_range(v, 0, u32::MAX, 0),
-            Form::One(x) => is_the_word(v, *x),
+            Form::One(x) => match v {
+                Val::Set(words) => is_one(words, *x),
+                Val::Span { .. } => false,
+            },
             Form::Many(own) => have_same_words(v, own.as_ref()),
             Form::Range { lo, last, step } => is_the_range(v, *lo, *last, *step),
         }
     }
 
-    /// Whether it is this word, in this form.
+    /// The word that it is, in this form.
     #[inline(always)]
-    fn is_word(&self, x: u32) -> bool
-        ensures { IsTrue result → self.now ≡ Set (x ∷ []) }
+    pub(crate) fn word(&self) -> Option<u32>
+        ensures { IfSome result (λ x. self.now ≡ Set (x ∷ [])) }
     {
         match &self.form {
-            Form::One(own) => *own == x,
-            _ => false,
-        }
-    }
-
-    /// Whether it has the words of this value, in this form.
-    fn has_words(&self, v: &Val) -> bool
-        ensures { IsTrue result → self.now ≡ v.now }
-    {
-        match &self.form {
-            Form::Many(own) => have_same_words(own.as_ref(), v),
-            _ => false,
+            Form::One(x) => Some(*x),
+            _ => None,
         }
     }
 
@@ -249,8 +268,8 @@ impl Small {
     {
         match &v.form {
             Form::Any => self.is_any(),
-            Form::One(x) => self.is_word(*x),
-            Form::Many(own) => self.has_words(own.as_ref()),
+            Form::One(x) => self.word() == Some(*x),
+            Form::Many(own) => self.is_same(own.as_ref()),
             Form::Range { lo, last, step } => self.is_range(*lo, *last, *step),
         }
     }
@@ -381,19 +400,6 @@ impl Small {
         leq(v, &self.value())
     }
 
-    /// Whether each member of a value is one of its own, by both values.
-    #[inline(always)]
-    fn covers_both(&self, v: &Val) -> bool
-        requires own { IsWell self.now }
-        requires value { IsWell v.now }
-        ensures { IsTrue result ↔ IsBelow v.now self.now }
-    {
-        match &self.form {
-            Form::Many(own) => leq(v, own.as_ref()),
-            _ => self.covers_whole(v),
-        }
-    }
-
     /// Whether each member of a value is one of its own.
     #[inline(always)]
     pub fn covers(&self, v: &Val) -> bool
@@ -410,17 +416,24 @@ impl Small {
         if let Some(x) = only_word(v) {
             return self.has(x);
         }
-        self.covers_both(v)
+        match &self.form {
+            Form::Many(own) => are_below(v, own.as_ref()),
+            _ => self.covers_whole(v),
+        }
     }
 
-    /// Whether each member of a value in little room is one of its own, by that value whole.
+    /// Whether each member of a value in little room is one of its own, by the form of that value. Equal ones are told before.
     #[inline(never)]
     fn covers_packed(&self, v: &Small) -> bool
         requires own { IsWell self.now }
         requires value { IsWell v.now }
         ensures { IsTrue result ↔ IsBelow v.now self.now }
     {
-        self.covers(&v.value())
+        match &v.form {
+            Form::One(x) => self.has(*x),
+            Form::Many(words) => self.covers(words.as_ref()),
+            _ => self.covers(&v.value()),
+        }
     }
 
     /// Whether each member of a value in little room is one of its own.
@@ -462,7 +475,55 @@ impl Small {
         }
     }
 
+    /// The least value that holds it and these words. They are added to a copy of it.
+    #[inline(never)]
+    fn with_words(&self, alloc: Global, b: &Bounds, words: &[u32]) -> Result<Small, AllocError>
+        requires own { IsValue b.now self.now }
+        ensures { IfOk result (λ s. s ≡ cover b.now (members self.now ++ words.now)) }
+    {
+        let mut out = Val::one(0);
+        self.replace(&mut out);
+        add_words(b, &mut out, words);
+        if is_set(&out) {
+            let form = Form::Many(Rc::new(alloc, out)?);
+            return Ok(Small { form });
+        }
+        Small::of(alloc, &out)
+    }
+
+    /// The least value that holds it and these words, a set's. Of two sets only the words from the first that it hasn't on are
+    /// added; where these are more than four, both are joined whole.
+    #[inline(never)]
+    fn join_words(
+        &self,
+        alloc: Global,
+        b: &Bounds,
+        v: &Val,
+        words: &[u32],
+    ) -> Result<Small, AllocError>
+        requires own { IsValue b.now self.now }
+        requires value { IsValue b.now v.now }
+        requires words { v.now ≡ Set words.now }
+        ensures { IfOk result (λ s. s ≡ join_of b.now self.now v.now) }
+    {
+        let Form::Many(own) = &self.form else {
+            return self.with_words(alloc, b, words);
+        };
+        let Some(held) = own.as_ref().words() else {
+            return self.with_words(alloc, b, words);
+        };
+        let n = held_before(held, words);
+        if n == words.len() {
+            return self.copy_any();
+        }
+        if words.len() - n > 4 {
+            return self.join_whole(alloc, b, v);
+        }
+        self.with_words(alloc, b, &words[n..])
+    }
+
     /// The least value that holds both.
+    #[inline(always)]
     pub fn join(&self, alloc: Global, b: &Bounds, v: &Val) -> Result<Small, AllocError>
         requires own { IsValue b.now self.now }
         requires value { IsValue b.now v.now }
@@ -476,17 +537,29 @@ impl Small {
                 return self.copy();
             }
         }
-        self.join_whole(alloc, b, v)
+        match v {
+            Val::Set(words) => self.join_words(alloc, b, v, words.as_slice()),
+            Val::Span { .. } => self.join_whole(alloc, b, v),
+        }
     }
 
-    /// The least value that holds both, by a value in little room whole.
+    /// The least value that holds both, by the form of the other. Equal ones are told before.
     #[inline(never)]
     fn join_packed(&self, alloc: Global, b: &Bounds, v: &Small) -> Result<Small, AllocError>
         requires own { IsValue b.now self.now }
         requires value { IsValue b.now v.now }
         ensures { IfOk result (λ s. s ≡ join_of b.now self.now v.now) }
     {
-        self.join(alloc, b, &v.value())
+        match &v.form {
+            Form::One(x) => {
+                if self.has(*x) {
+                    return self.copy();
+                }
+                self.with_words(alloc, b, &[*x])
+            }
+            Form::Many(words) => self.join(alloc, b, words.as_ref()),
+            _ => self.join(alloc, b, &v.value()),
+        }
     }
 
     /// The least value that holds both.

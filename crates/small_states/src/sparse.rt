@@ -6,7 +6,7 @@ ghost use Rattle.small_states.specs.declared.sparse.SpacedValue as spaced;
 ghost use Rattle.small_states.specs.Wholes.{IsFoundIn, all_values, front};
 
 use crate::asked::Given;
-use crate::small::Small;
+use crate::small::{Form, Small};
 use std::alloc::{AllocError, Global};
 use value_domain::{Val, write_any};
 
@@ -205,10 +205,24 @@ impl Values {
     pub(crate) fn copy(&self, alloc: Global) -> Result<Values, AllocError>
         ensures { IfOk result (λ copy. all_values copy ≡ all_values self.now) }
     {
-        let mut known = Vec::with_capacity(alloc, self.known.len() + 1)?;
-        for spaced in self.known.as_slice() {
-            let anys = spaced.anys;
-            let value = spaced.value.copy()?;
+        let own = self.known.as_slice();
+        let mut known = Vec::with_capacity(alloc, own.len() + 1)?;
+
+        // Values that are one word come first as a rule, and are copied without a look at the other forms.
+        let mut n = 0;
+        while n < own.len() {
+            let here = &own[n];
+            let anys = here.anys;
+            let Some(x) = here.value.word() else {
+                break;
+            };
+            let value = Small { form: Form::One(x) };
+            known.push(SpacedValue { anys, value })?;
+            n += 1;
+        }
+        for k in n..own.len() {
+            let anys = own[k].anys;
+            let value = own[k].value.copy()?;
             known.push(SpacedValue { anys, value })?;
         }
         let rest = self.rest;

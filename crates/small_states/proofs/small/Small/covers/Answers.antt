@@ -17,3 +17,6 @@ returns-in-Some c =
       (λ t z m. elim m [ inl e ↦ subst (λ (y : ℕ). IsMember y c.args.self.now) (sym e) (c.has.ensures.0 t) | inr none ↦ absurd none ]),
       (λ below. c.has.ensures.1 (below c.in-Some.x (inl refl))),
     )
+
+pub returns-in-Many : goal.returns-in-Many
+returns-in-Many c = rw (← c.self.view_is, c.in-Many.is) (rw c.as_ref.ensures at c.are_below.ensures)
