@@ -46,6 +46,7 @@ use Rattle.depth_maker.proofs.HearingLaws.{heard_again}
 use Rattle.depth_maker.proofs.LevelSteps.{rises_then, same_level}
 use Rattle.depth_maker.specs.View.{AreExitsRead, seen, IsFine, Keeps, Joined, Paid, PaidFor, AllSettled, Owes, IsVisited}
 use Rattle.frame_places.specs.Marks.{is_idle, is_queued, Reads, Registered, mark_for, value_for, AreKnown, AllListed}
+use Rattle.frame_places.specs.Work.{all_work}
 
 pub keeps_all : (b : Limits) (image : ImageData) (plan : PlanData) (s : made.Table) → Keeps b image plan s s
 keeps_all b image plan s = record { each = λ x free. (refl, refl); readers = λ z x h. h; read = λ z x h free. refl; settled = λ k p u d free pu pd h. h; rises = inr (refl, refl); near = refl; numbers = λ n q h. h }
@@ -361,7 +362,7 @@ visited_known b image plan t k p u v = by (is_queued (mark_for t.places (spot_of
   by false e = some_known (value_for t.places (spot_of (point k p))) (state u) (v.at e)
 
 -- the point was written down among the readers of an exit
-pub registered_fine : (b : Limits) (image : ImageData) (plan : PlanData) (laws : AreLawful b image plan) (s t : made.Table) → t.places ≡ s.places → t.near ≡ s.near → t.work.items ≡ s.work.items
+pub registered_fine : (b : Limits) (image : ImageData) (plan : PlanData) (laws : AreLawful b image plan) (s t : made.Table) → t.places ≡ s.places → t.near ≡ s.near → all_work t.work ≡ all_work s.work
     → t.points.items ≡ s.points.items → t.frames.items ≡ s.frames.items → t.heard ≡ s.heard → ((z q : Spot) → Reads (get spot_eq s.readers z) q → Reads (get spot_eq t.readers z) q) → AreExitsRead t.readers
     → ((y : Spot) → AreKnown s.places (Reads (get spot_eq t.readers y))) → IsFine b image plan s → IsFine b image plan t × Keeps b image plan s t
 unfolding seen
@@ -371,7 +372,7 @@ registered_fine b image plan laws s t places near work points frames heard reade
       record {
         table = table_marked b image plan laws (seen s) (seen t) (λ q. same (spot_of q)) (λ z q h. readers (spot_of z) (spot_of q) h) fine.table
             (λ q h. sym (ap is_idle (marked (spot_of q))) ∙ h) (subst (λ m. Derived b image plan (λ q. value_for m (spot_of q))) (sym places) (fine.table).derived);
-        listed = subst (λ m. AllListed m t.work.items) (sym places) (subst (λ (w : List ℕ). AllListed s.places w) (sym work) fine.listed);
+        listed = subst (λ m. AllListed m (all_work t.work)) (sym places) (subst (λ (w : List ℕ). AllListed s.places w) (sym work) fine.listed);
         counted = counted_again s.places t.places s.points.items t.points.items s.frames.items t.frames.items (λ q. same (spot_of q)) points frames fine.counted;
         heard = heard_again b plan (seen s).cells (seen t).cells (λ q. same (spot_of q)) t.heard (subst (HeardEntered b plan (seen s).cells) (sym heard) fine.heard);
         exits = exits;

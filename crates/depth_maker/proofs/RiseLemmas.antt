@@ -36,6 +36,7 @@ use Rattle.frame_places.specs.Marks.{AllListed, is_idle, is_queued, mark_for, va
 use Rattle.depth_maker.specs.Counts.{AreFew}
 use Rattle.depth_maker.specs.View.{IsCountedIn, seen, IsFine, Keeps, Joined, Raised, Answered, AreExitsRead, CellsProper}
 use Rattle.frame_places.proofs.MarkLemmas.{sides}
+use Rattle.frame_places.specs.Work.{all_work}
 
 pub idle_not_queued : (o : Option Mark) → is_idle o ≡ true → is_queued o ≡ false
 idle_not_queued None e = refl
@@ -53,7 +54,7 @@ cells_proper b image plan laws t fine q v at =
 -- v was joined at y alone, and then those that read y were told
 module _ (b : Limits) (image : ImageData) (plan : PlanData) (laws : AreLawful b image plan) (s m t : made.Table) (y : Spot) (v : Known)
     (asks : Asks b image plan (seen s).cells (place_of y) v) (rose : Raised b s m y v) (tells : Tells m.places t.places (Reads (get spot_eq s.readers y)))
-    (listed : AllListed t.places t.work.items) (near : t.near ≡ m.near) (readers : t.readers ≡ m.readers) (heard : t.heard ≡ m.heard) (points : t.points.items ≡ m.points.items)
+    (listed : AllListed t.places (all_work t.work)) (near : t.near ≡ m.near) (readers : t.readers ≡ m.readers) (heard : t.heard ≡ m.heard) (points : t.points.items ≡ m.points.items)
     (frames : t.frames.items ≡ m.frames.items) (fine : IsFine b image plan s) (small : priority_of v < 256) where
   abbrev u : Known
   u = rose.known

@@ -42,6 +42,8 @@ use Rattle.frame_places.specs.Marks.{idle_mark, is_idle, is_queued, settled_mark
 use Rattle.depth_maker.specs.View.{AreExitsRead, IsCountedIn, seen, IsFine, IsVisited, IsOpenAt, NoneOpen, AllSettled, Paid}
 use Rattle.frame_places.proofs.MarkLemmas.{sides}
 use Rattle.frame_places.proofs.NearbyLemmas.{queued_mark}
+use Rattle.frame_places.specs.Work.{Takes, all_work}
+use Rattle.frame_places.proofs.WorkLemmas.{takes_left, takes_only}
 use Rattle.depth_maker.proofs.CountedLemmas.{counted_again, counted_start}
 
 -- ---- one place gets a mark
@@ -74,17 +76,16 @@ module _ (b : Limits) (image : ImageData) (plan : PlanData) (laws : AreLawful b 
   side q = sides (spot_eq x q) (Some w) (mark_for s.places q) (mark_for t.places q) (marks_as.marks q)
 
   -- a place taken off the list
-  pub opened : w ≡ Open → IsFine b image plan s → NoneOpen s → (work : List ℕ) → s.work.items ≡ t.near ∷ work → work ≡ t.work.items → StandsAt s.places t.near x → IsFine b image plan t × IsOpenAt t x
+  pub opened : w ≡ Open → IsFine b image plan s → NoneOpen s → Takes s.work t.work t.near → StandsAt s.places t.near x → IsFine b image plan t × IsOpenAt t x
   unfolding seen
-  opened open_ fine none rest work same_work stands =
+  opened open_ fine none takes stands =
       let here : (q : Spot) → ((spot_eq x q ≡ true) × (mark_for t.places q ≡ Some Open)) ⊎ ((spot_eq x q ≡ false) × (mark_for t.places q ≡ mark_for s.places q)) =
       λ q. subst (λ (m : Mark). ((spot_eq x q ≡ true) × (mark_for t.places q ≡ Some m)) ⊎ ((spot_eq x q ≡ false) × (mark_for t.places q ≡ mark_for s.places q))) open_ (side q) in
       let idle : (q : Place) → is_idle (mark_for t.places (spot_of q)) ≡ true → is_idle (mark_for s.places (spot_of q)) ≡ true =
       λ q h. elim (here (spot_of q)) [
         | inl l ↦ (let no : true ≡ false = sym h ∙ ap is_idle l.1 in cc)
         | inr r ↦ sym (ap is_idle r.1) ∙ h
-      ] in
-      let taken : s.work.items ≡ t.near ∷ t.work.items = work ∙ ap (λ (l : List ℕ). t.near ∷ l) same_work in (
+      ] in (
         record {
           table = table_marked b image plan laws (seen s) (seen t) (λ q. the_cells (spot_of q)) (λ z q h. the_readers (spot_of z) (spot_of q) h) fine.table idle (the_derived (fine.table).derived);
           listed = record {
@@ -92,15 +93,15 @@ module _ (b : Limits) (image : ImageData) (plan : PlanData) (laws : AreLawful b 
                 elim (here q) [
                   | inl l ↦ (let no : Some Queued ≡ Some Open = sym at ∙ l.1 in cc)
                   | inr r ↦ (let f = (fine.listed).listed q (sym r.1 ∙ at) in
-                      elim (front_cases t.near t.work.items f.0 (subst (λ (l : List ℕ). Contains l f.0) taken f.1)) [
-                        | inl e ↦
+                      elim (takes_only s.work t.work t.near f.0 takes f.1) [
+                        | inl has ↦ (f.0, has, marks_as.numbers f.0 q f.2)
+                        | inr e ↦
                             (let one : x ≡ q = same_Some x q (sym stands ∙ subst (λ (n : ℕ). StandsAt s.places n q) (sym e) f.2) in
                             let no : true ≡ false = sym (subst (λ (k : Spot). spot_eq x k ≡ true) one (spot_refl x)) ∙ r.0 in cc)
-                        | inr has ↦ (f.0, has, marks_as.numbers f.0 q f.2)
                       ])
                 ];
             known = λ n c.
-                (let f = (fine.listed).known n (subst (λ (l : List ℕ). Contains l n) (sym taken) (Contains-append_right (t.near ∷ []) t.work.items n c)) in (f.0, marks_as.numbers n f.0 f.1));
+                (let f = (fine.listed).known n (takes_left s.work t.work t.near n takes c) in (f.0, marks_as.numbers n f.0 f.1));
           };
           counted = the_counts fine.counted;
           heard = the_heard fine.heard;
@@ -124,7 +125,7 @@ module _ (b : Limits) (image : ImageData) (plan : PlanData) (laws : AreLawful b 
       )
 
   -- the same marks
-  pub again_fine : ((q : Spot) → mark_for t.places q ≡ mark_for s.places q) → t.work.items ≡ s.work.items → IsFine b image plan s → IsFine b image plan t
+  pub again_fine : ((q : Spot) → mark_for t.places q ≡ mark_for s.places q) → all_work t.work ≡ all_work s.work → IsFine b image plan s → IsFine b image plan t
   unfolding seen
   again_fine marked work fine =
       record {
@@ -138,14 +139,14 @@ module _ (b : Limits) (image : ImageData) (plan : PlanData) (laws : AreLawful b 
         plain = λ q at. fine.plain q (sym (marked q) ∙ at);
       }
     where
-      the_list : ((q : Spot) → mark_for t.places q ≡ mark_for s.places q) → t.work.items ≡ s.work.items → AllListed s.places s.work.items → AllListed t.places t.work.items
+      the_list : ((q : Spot) → mark_for t.places q ≡ mark_for s.places q) → all_work t.work ≡ all_work s.work → AllListed s.places (all_work s.work) → AllListed t.places (all_work t.work)
       the_list marked work h = record {
         listed = λ q at. (let f = h.listed q (sym (marked q) ∙ at) in (f.0, subst (λ (l : List ℕ). Contains l f.0) (sym work) f.1, marks_as.numbers f.0 q f.2));
         known = λ n c. (let f = h.known n (subst (λ (l : List ℕ). Contains l n) work c) in (f.0, marks_as.numbers n f.0 f.1));
       }
 
   -- the end of a visit: the point is idle now, where all that it owes is settled
-  pub finished : is_idle (Some w) ≡ true → (Some w ≡ Some Plain → IsPlainIn image plan x) → IsFine b image plan s → IsOpenAt s x → t.work.items ≡ s.work.items
+  pub finished : is_idle (Some w) ≡ true → (Some w ≡ Some Plain → IsPlainIn image plan x) → IsFine b image plan s → IsOpenAt s x → all_work t.work ≡ all_work s.work
       → ((k : Key) (p : ℕ) (u : State) → place_of x ≡ point k p → (seen s).cells (point k p) ≡ Some (state u) → IsFaultless b image plan k p u × AllSettled b image plan s k p u) → IsFine b image plan t × NoneOpen t
   unfolding seen
   finished idles told fine opening work paid =
@@ -218,7 +219,7 @@ paid_settled b image plan s t x paid opening k p u e at =
 
 -- ---- the start, and the end
 pub begun_table : (b : Limits) (image : ImageData) (plan : PlanData) (t : made.Table) (x : Spot) (v : Known) → x ≡ spot_of (first_place image plan) → v ≡ state (start_state plan)
-    → ((q : Spot) → value_for t.places q ≡ (if spot_eq x q then Some v else None)) → ((q : Spot) → mark_for t.places q ≡ (if spot_eq x q then Some Queued else None)) → AllListed t.places t.work.items
+    → ((q : Spot) → value_for t.places q ≡ (if spot_eq x q then Some v else None)) → ((q : Spot) → mark_for t.places q ≡ (if spot_eq x q then Some Queued else None)) → AllListed t.places (all_work t.work)
     → t.points.items ≡ x ∷ [] → t.frames.items ≡ start_key image plan ∷ [] → t.heard ≡ None → ((z : Spot) → get spot_eq t.readers z ≡ None) → IsFine b image plan t × NoneOpen t
 unfolding seen
 begun_table b image plan t x v place known cells marks listed points frames none unread =
@@ -320,7 +321,7 @@ paid_unknown b image plan s k p fine none = record {
   nothing l q u e at = let f : None ≡ Some (state u) = sym none ∙ ap (λ (y : Place). value_for s.places (spot_of y)) e ∙ at in cc
 
 -- no work is left: the list is as it was, whatever the table has for it
-pub same_fine : (b : Limits) (image : ImageData) (plan : PlanData) (s t : made.Table) → t ≡ (record s { work = t.work }) → t.work.items ≡ s.work.items → IsFine b image plan s → IsFine b image plan t
+pub same_fine : (b : Limits) (image : ImageData) (plan : PlanData) (s t : made.Table) → t ≡ (record s { work = t.work }) → all_work t.work ≡ all_work s.work → IsFine b image plan s → IsFine b image plan t
 unfolding seen
 same_fine b image plan s t is work fine = subst (IsFine b image plan) (sym is) (record {
   table = fine.table;
@@ -343,7 +344,7 @@ plain_marked false told e = (let no : Some Idle ≡ Some Plain = e in cc)
 
 -- what the point owes was joined, and it is idle now, unless it has new work
 pub ended : (b : Limits) (image : ImageData) (plan : PlanData) (laws : AreLawful b image plan) (s m t : made.Table) (x : Spot) (plain : Bool) → (plain ≡ true → IsPlainIn image plan x) → t.readers ≡ m.readers
-    → t.points.items ≡ m.points.items → t.frames.items ≡ m.frames.items → t.heard ≡ m.heard → t.work.items ≡ m.work.items → MarksAs m.places t.places x (settled_mark plain (mark_for m.places x)) → IsOpenAt s x
+    → t.points.items ≡ m.points.items → t.frames.items ≡ m.frames.items → t.heard ≡ m.heard → all_work t.work ≡ all_work m.work → MarksAs m.places t.places x (settled_mark plain (mark_for m.places x)) → IsOpenAt s x
     → Paid b image plan s m x → IsFine b image plan t × NoneOpen t × Rises s t
 ended b image plan laws s m t x plain told readers points frames heard work marks opening paid = by_mark (is_queued (mark_for m.places x)) refl where
   higher : Rises s t

@@ -8,6 +8,7 @@ use Rattle.depth_cert.specs.Known.{Known, state, leaving}
 use Rattle.frame_places.specs.declared.places.Spot.TheVariants as spots
 use Rattle.depth_maker.specs.declared.table.Table as made
 use Rattle.frame_places.specs.Marks.{value_for}
+use Rattle.frame_places.specs.Work.{all_work}
 
 -- the members of all these values
 abbrev pub size_of : List Val → ℕ
@@ -29,4 +30,4 @@ level t = sum_by (λ q. rank_at (value_for t.places q)) t.points.items + sum_by 
 
 -- the table rose, or its list of work is as it was
 abbrev pub Rises : made.Table → made.Table → Type 0
-Rises s t = (level s < level t) ⊎ ((level t ≡ level s) × (t.work.items ≡ s.work.items))
+Rises s t = (level s < level t) ⊎ ((level t ≡ level s) × (all_work t.work ≡ all_work s.work))

@@ -35,6 +35,7 @@ use Rattle.depth_maker.specs.Spots.{spot_of, place_of}
 use Rattle.frame_places.specs.Counting.{frames_after, points_after}
 use Rattle.frame_places.specs.Marks.{is_idle, is_queued, mark_for, value_for, AllListed, AreKnown, KeepsNumbers, Puts, Reads}
 use Rattle.frame_places.specs.Nearby.{StandsAt}
+use Rattle.frame_places.specs.Work.{Takes, all_work}
 use Rattle.depth_maker.specs.Counts.{AreCounted, AreFew}
 use Rattle.depth_maker.specs.Entered.{IsPlainAt, IsPlainIn}
 use Rattle.depth_maker.specs.Levels.{level, Rises}
@@ -73,7 +74,7 @@ ArePlain image plan places = (q : Spot) → mark_for places q ≡ Some Plain →
 -- the table between two steps
 pub record IsFine (b : Limits) (image : ImageData) (plan : PlanData) (t : made.Table) : Type 0 where
   pub table : IsTable b image plan (seen t)
-  pub listed : AllListed t.places t.work.items
+  pub listed : AllListed t.places (all_work t.work)
   pub counted : IsCountedIn t.places t.points.items t.frames.items
   pub heard : HeardEntered b plan (seen t).cells t.heard
   pub exits : AreExitsRead t.readers
@@ -91,7 +92,7 @@ pub record Raised (b : Limits) (s t : made.Table) (y : Spot) (v : Known) : Type 
   pub raises : raised b (value_for s.places y) v ≡ Some known
   pub new : (w : Known) → value_for s.places y ≡ Some w → CoversKnown w v → ⊥
   pub puts : Puts s.places t.places y known
-  pub listed : AllListed t.places t.work.items
+  pub listed : AllListed t.places (all_work t.work)
   pub near : t.near ≡ s.near
   pub readers : t.readers ≡ s.readers
   pub heard : t.heard ≡ s.heard
@@ -150,8 +151,8 @@ pub record Paid (b : Limits) (image : ImageData) (plan : PlanData) (s t : made.T
 
 -- the next place is taken off the list, if there is one
 abbrev pub Opens : Limits → ImageData → PlanData → made.Table → made.Table → Bool → Type 0
-Opens b image plan s t false = IsFine b image plan t × NoneOpen t × (level t ≡ level s) × (t.work.items ≡ [])
-Opens b image plan s t true = IsFine b image plan t × IsOpen t × (level t ≡ level s) × (s.work.items ≡ t.near ∷ t.work.items)
+Opens b image plan s t false = IsFine b image plan t × NoneOpen t × (level t ≡ level s) × (all_work t.work ≡ [])
+Opens b image plan s t true = IsFine b image plan t × IsOpen t × (level t ≡ level s) × Takes s.work t.work t.near
 
 -- the least closed assignment: no place has work
 pub record IsDone (g : Ground) (t : made.Table) : Type 0 where
@@ -226,7 +227,7 @@ EndsOn g s t = FineOn g t × NoneOpen t × Rises s t
 
 -- a turn over the list of work: where some is left the table rose
 abbrev pub TurnsOn : Ground → made.Table → made.Table → Result Bool Refusal → Type 0
-TurnsOn g s t (Ok more) = FineOn g t × NoneOpen t × (more ≡ true → level s < level t) × (more ≡ false → t.work.items ≡ [])
+TurnsOn g s t (Ok more) = FineOn g t × NoneOpen t × (more ≡ true → level s < level t) × (more ≡ false → all_work t.work ≡ [])
 TurnsOn g s t (Err e) = AnsweredOn g e
 
 -- ---- of a visit

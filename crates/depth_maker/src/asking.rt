@@ -78,15 +78,11 @@ pub(crate) fn pay_enter(
         (owed rule (enter key (state_after v.now.state.now c.now)) ∷ [])) }
     ensures err { IfErr result (AnsweredOn v.now.ground.now) }
 {
-    let asked = Asked::Changed(v.state, c);
-    let entry = Spot::Point(key, key.entry);
-    if is_covered(v.ground, &*table, entry, &asked) {
-        return Ok(());
-    }
     if has_work(&table.places, table.near) {
         return Ok(());
     }
-    raise(alloc, table, v, entry, &asked)
+    let asked = Asked::Changed(v.state, c);
+    raise(alloc, table, v, Spot::Point(key, key.entry), &asked)
 }
 
 /// The point's frame is left.

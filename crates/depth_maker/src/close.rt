@@ -11,11 +11,10 @@ use crate::ground::{Ground, Visit};
 use crate::paying::pay;
 use crate::table::Table;
 use cfg_recover::{start_key, start_state};
-use frame_places::{Refusal, Spot, add, open, settle};
+use frame_places::{Refusal, Spot, Work, add, open, settle};
 use indexmap::IndexMap;
 use small_states::{Asked, Cell, ScratchState};
 use std::alloc::Global;
-use std::collections::VecDeque;
 use vd_transfer::{Change, unchanged};
 
 /// What visits write over: the state of the point, and what its instruction changes.
@@ -44,7 +43,7 @@ fn begin(alloc: Global, ground: &Ground) -> Result<Table, Refusal>
     let asked = Asked::Changed(&start, &same);
     let cell = Cell::new(alloc, ground.bounds, &asked)?;
     let mut places = IndexMap::new(alloc);
-    let mut work = VecDeque::new(alloc);
+    let mut work = Work::new(alloc);
     let mut points = Vec::new(alloc);
     let mut frames = Vec::new(alloc);
     points.push(place)?;
@@ -68,7 +67,7 @@ fn open_next(_ground: &Ground, table: &mut Table) -> bool
     requires none { NoneOpen table.old }
     ensures { OpensOn _ground.now table.old table.new result }
 {
-    match table.work.pop_front() {
+    match table.work.pop() {
         None => false,
         Some(number) => {
             table.near = number;

@@ -6,6 +6,7 @@ ghost use Rattle.depth_cert.specs.Known.{IsProperKnown, state};
 ghost use Rattle.small_states.specs.Kept.{asked_for, asking};
 ghost use Rattle.frame_places.specs.declared.places.Spot.TheVariants.{Point};
 ghost use Rattle.frame_places.specs.Marks.{AllListed, AreKnown, Reads, Tells, value_for};
+ghost use Rattle.frame_places.specs.Work.{all_work};
 ghost use Rattle.frame_places.specs.Nearby.{StandsAt};
 ghost use Rattle.frame_places.specs.Spots.{spot_eq};
 ghost use Rattle.depth_maker.specs.Spots.{place_of};
@@ -13,11 +14,10 @@ ghost use Rattle.depth_maker.specs.View.{seen, AnsweredOn, AreExitsRead, AsksOn,
 
 use crate::ground::{Ground, Visit};
 use crate::table::Table;
-use frame_places::{Marked, Refusal, Spot, add, count, put, wake};
+use frame_places::{Marked, Refusal, Spot, Work, add, count, put, wake};
 use indexmap::IndexMap;
 use small_states::{Asked, Cell, priority};
 use std::alloc::{AllocError, Global};
-use std::collections::VecDeque;
 
 /// Adds y, of which nothing is known, with what is asked, made from what is known at the point that asks, and counts it.
 fn add_place(
@@ -48,7 +48,7 @@ fn add_place(
 }
 
 /// Joins what is asked into what is known at y, which has this number, and puts y on the list, unless it is covered; says whether
-/// it was not.
+/// it was not. The entry point of a frame waits.
 fn raise_place(
     alloc: Global,
     table: &mut Table,
@@ -72,7 +72,13 @@ fn raise_place(
     let Some(cell) = place.value.join(alloc, b, asked)? else {
         return Err(Refusal::Fault(8, y));
     };
-    put(&mut table.places, &mut table.work, number, cell)?;
+    put(
+        &mut table.places,
+        &mut table.work,
+        number,
+        cell,
+        y.is_entry(),
+    )?;
     Ok(true)
 }
 
@@ -113,26 +119,28 @@ pub(crate) fn is_covered(ground: &Ground, table: &Table, y: Spot, asked: &Asked)
     }
 }
 
-/// Puts all that read y on the list; no point is read.
+/// Puts all that read y on the list, where they wait or are next; no point is read.
 fn tell(
     places: &mut IndexMap<Spot, Marked<Cell>>,
-    work: &mut VecDeque<usize>,
+    work: &mut Work,
     readers: &IndexMap<Spot, Vec<Spot>>,
     y: Spot,
+    waits: bool,
 ) -> Result<(), AllocError>
-    requires listed { AllListed places.old work.old.items }
+    requires listed { AllListed places.old (all_work work.old) }
     requires exits { AreExitsRead readers.now }
     requires known { AreKnown places.old (Reads (get spot_eq readers.now y)) }
     ensures marks { OnOk result (Tells places.old places.new (Reads (get spot_eq readers.now y))) }
-    ensures work { OnOk result (AllListed places.new work.new.items) }
+    ensures work { OnOk result (AllListed places.new (all_work work.new)) }
 {
     if let Spot::Point(_, _) = y {
         return Ok(());
     }
-    wake(places, work, readers, y)
+    wake(places, work, readers, y, waits)
 }
 
-/// Joins what is asked by a point, which has the state that it is visited with, into what is known at y.
+/// Joins what is asked by a point, which has the state that it is visited with, into what is known at y. Those that read an exit
+/// which was known and rises again wait.
 pub(crate) fn raise(
     alloc: Global,
     table: &mut Table,
@@ -151,8 +159,10 @@ pub(crate) fn raise(
     ensures err { IfErr result (AnsweredOn v.now.ground.now) }
 {
     let _byte = priority(asked);
+    let known = table.places.len();
     if rise(alloc, table, v, y, asked)? {
-        tell(&mut table.places, &mut table.work, &table.readers, y)?;
+        let again = table.places.len() == known;
+        tell(&mut table.places, &mut table.work, &table.readers, y, again)?;
     }
     Ok(())
 }

@@ -1,10 +1,9 @@
 // The table: what is known, which places have work, who reads which exit, the list of work, and what is counted.
 use crate::heard::Heard;
 use depth_cert::Key;
-use frame_places::{Marked, Spot};
+use frame_places::{Marked, Spot, Work};
 use indexmap::IndexMap;
 use small_states::Cell;
-use std::collections::VecDeque;
 
 /// What is known at each place, and its mark, with the list of the places that have work, by their numbers in the order of
 /// `places`. `points` has each point that is known, and `frames` each frame that has one, in the order in which they came; the
@@ -13,7 +12,7 @@ use std::collections::VecDeque;
 pub(crate) struct Table {
     pub(crate) places: IndexMap<Spot, Marked<Cell>>,
     pub(crate) readers: IndexMap<Spot, Vec<Spot>>,
-    pub(crate) work: VecDeque<usize>,
+    pub(crate) work: Work,
     pub(crate) points: Vec<Spot>,
     pub(crate) frames: Vec<Key>,
     pub(crate) heard: Option<Heard>,

@@ -5,3 +5,4 @@ pub mod NumberLemmas
 pub mod OrderLemmas
 pub mod ReaderLemmas
 pub mod SpotLemmas
+pub mod WorkLemmas

@@ -3,6 +3,7 @@ use Rattle.std.proofs.Common.{◌≡◌, ℕ, Bool, true, false, ◌⊎◌, inl,
 use Rattle.std.specs.Prelude.{if◌then◌else◌, is_some}
 use Rattle.std.specs.Option.{option_map}
 use Rattle.std.proofs.lemmas.List.Elements.{Contains-append_left, Contains-push, Contains-push_cases}
+use Rattle.frame_places.proofs.WorkLemmas.{Adds, adds_kept, adds_only, adds_there}
 use Rattle.indexmap.specs.IndexMap.{IndexMap, get}
 use Rattle.frame_places.specs.declared.places.Spot.{Spot}
 use Rattle.frame_places.specs.declared.places.Mark.{Mark}
@@ -64,15 +65,15 @@ marked_already a x mark at = record {
 
 -- ---- the list
 module _ {V S : Type 0} (a b : IndexMap Spot (Marked V) S) (work : List ℕ) (number : ℕ) (x : Spot) (is : (q : Spot) → mark_for b q ≡ (if spot_eq x q then Some Queued else mark_for a q)) (numbers : KeepsNumbers a b) where
-  pub AllListed-push : StandsAt b number x → AllListed a work → AllListed b (work ++ number ∷ [])
-  AllListed-push stands h = record {
+  pub AllListed-adds : (more : List ℕ) → Adds work more number → StandsAt b number x → AllListed a work → AllListed b more
+  AllListed-adds more adds stands h = record {
     listed = λ q at.
         elim (sides (spot_eq x q) (Some Queued) (mark_for a q) (mark_for b q) (is q)) [
-          | inl l ↦ (number, Contains-push work number, subst (λ (k : Spot). StandsAt b number k) (spot_tells x q l.0) stands)
-          | inr r ↦ (let f = h.listed q (sym r.1 ∙ at) in (f.0, Contains-append_left work (number ∷ []) f.0 f.1, numbers f.0 q f.2))
+          | inl l ↦ (number, adds_there work more number adds, subst (λ (k : Spot). StandsAt b number k) (spot_tells x q l.0) stands)
+          | inr r ↦ (let f = h.listed q (sym r.1 ∙ at) in (f.0, adds_kept work more number f.0 adds f.1, numbers f.0 q f.2))
         ];
     known = λ n c.
-        elim (Contains-push_cases work number n c) [
+        elim (adds_only work more number n adds c) [
           | inl before ↦ (let f = h.known n before in (f.0, numbers n f.0 f.1))
           | inr e ↦ (x, subst (λ (k : ℕ). StandsAt b k x) e stands)
         ];

@@ -3,6 +3,7 @@ pub mod Spots
 pub mod Entries
 pub mod Hashed
 pub mod Nearby
+pub mod Work
 pub mod Marks
 pub mod Numbers
 pub mod Counting

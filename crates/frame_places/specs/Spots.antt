@@ -1,5 +1,5 @@
 -- Places of frames: which are the same, and how they are ordered.
-use Rattle.std.specs.Prelude.{◌≡◌, ◌<◌, ◌+◌, ◌*◌, ◌^◌, ℕ, Bool, false, List, Option, Some, None, Contains}
+use Rattle.std.specs.Prelude.{◌≡◌, ◌<◌, ◌+◌, ◌*◌, ◌^◌, ◌==◌, ℕ, Bool, false, List, Option, Some, None, Contains}
 use Rattle.depth_cert.specs.declared.keys.Key.{Key}
 use Rattle.depth_cert.specs.Keys.{IsKey, number_of_key, same_key}
 use Rattle.frame_places.specs.contracts.places.SpotPartialEq.TheImpl as block
@@ -19,6 +19,11 @@ spot_number (Exit k) = number_of_key k * 2 ^ 32 + 0
 abbrev pub spot_address : Spot → ℕ
 spot_address (Point k p) = p
 spot_address (Exit k) = 0
+
+-- the entry point of a frame
+abbrev pub is_entry_point : Spot → Bool
+is_entry_point (Point k p) = p == k.entry
+is_entry_point (Exit k) = false
 
 -- a point of frame k
 abbrev pub is_point_of : Key → Spot → Bool

@@ -8,6 +8,7 @@ mod ordering;
 mod places;
 mod readers;
 mod refusals;
+mod work;
 
 pub use counting::count;
 pub use marks::{add, has_work, is_plain, open, put, settle, wake};
@@ -18,3 +19,4 @@ pub use ordering::{
 pub use places::{Mark, Marked, Spot};
 pub use readers::register;
 pub use refusals::Refusal;
+pub use work::Work;

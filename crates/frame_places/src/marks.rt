@@ -5,25 +5,26 @@ ghost use Rattle.frame_places.specs.declared.places.Spot.{Spot};
 ghost use Rattle.frame_places.specs.declared.places.Mark.TheVariants.{Open, Plain, Queued};
 ghost use Rattle.frame_places.specs.Nearby.{StandsAt};
 ghost use Rattle.frame_places.specs.Spots.{spot_eq};
+ghost use Rattle.frame_places.specs.Work.{PutsAs, all_work};
 ghost use Rattle.frame_places.specs.Marks.{AllListed, AreKnown, MarksAs, Puts, Reads, Tells, idle_mark, is_queued, mark_for, settled_mark, value_for};
 
 use crate::places::{Mark, Marked, Spot};
+use crate::work::Work;
 use indexmap::IndexMap;
 use std::alloc::AllocError;
-use std::collections::VecDeque;
 
-/// Adds y, of which nothing is known, with work.
+/// Adds y, of which nothing is known, with work; it is next.
 #[inline(always)]
 pub fn add<V: Drop>(
     places: &mut IndexMap<Spot, Marked<V>>,
-    work: &mut VecDeque<usize>,
+    work: &mut Work,
     y: Spot,
     value: V,
 ) -> Result<(), AllocError>
-    requires listed { AllListed places.old work.old.items }
+    requires listed { AllListed places.old (all_work work.old) }
     requires new { value_for places.old y ≡ None }
     ensures puts { OnOk result (Puts places.old places.new y value) }
-    ensures work { OnOk result (AllListed places.new work.new.items) }
+    ensures work { OnOk result (AllListed places.new (all_work work.new)) }
 {
     let number = places.len();
     let place = Marked {
@@ -31,23 +32,36 @@ pub fn add<V: Drop>(
         mark: Mark::Queued,
     };
     places.insert(y, place)?;
-    work.push_back(number)?;
+    work.push(number)?;
     Ok(())
 }
 
-/// Sets what is known at the place of this number, and puts it on the list, unless it is there.
+/// Puts a place on the list, where it waits or is next.
+#[inline(always)]
+fn list(work: &mut Work, number: usize, waits: bool) -> Result<(), AllocError>
+    ensures { OnOk result (PutsAs waits work.old work.new number) }
+{
+    if waits {
+        work.push_waiting(number)
+    } else {
+        work.push(number)
+    }
+}
+
+/// Sets what is known at the place of this number, and puts it on the list, unless it is there; it waits or is next.
 #[inline(always)]
 pub fn put<V: Drop>(
     places: &mut IndexMap<Spot, Marked<V>>,
-    work: &mut VecDeque<usize>,
+    work: &mut Work,
     number: usize,
     value: V,
+    waits: bool,
 ) -> Result<(), AllocError>
-    requires listed { AllListed places.old work.old.items }
+    requires listed { AllListed places.old (all_work work.old) }
     ensures puts { (y : Spot) → StandsAt places.old number y
         → OnOk result (Puts places.old places.new y value) }
     ensures work { (y : Spot) → StandsAt places.old number y
-        → OnOk result (AllListed places.new work.new.items) }
+        → OnOk result (AllListed places.new (all_work work.new)) }
 {
     let Some(place) = places.get_index_mut(number) else {
         return Ok(());
@@ -57,7 +71,7 @@ pub fn put<V: Drop>(
         return Ok(());
     }
     place.mark = Mark::Queued;
-    work.push_back(number)?;
+    list(work, number, waits)?;
     Ok(())
 }
 
@@ -71,59 +85,62 @@ fn mark_at<V>(places: &mut IndexMap<Spot, Marked<V>>, number: usize, mark: Mark)
     }
 }
 
-/// Puts x, which is known, on the list, unless it is there.
+/// Puts x, which is known, on the list, unless it is there; it waits or is next.
 fn touch<V>(
     places: &mut IndexMap<Spot, Marked<V>>,
-    work: &mut VecDeque<usize>,
+    work: &mut Work,
     x: Spot,
+    waits: bool,
 ) -> Result<(), AllocError>
-    requires listed { AllListed places.old work.old.items }
+    requires listed { AllListed places.old (all_work work.old) }
     requires known { IsSome (value_for places.old x) }
     ensures marks { OnOk result (MarksAs places.old places.new x Queued) }
-    ensures work { OnOk result (AllListed places.new work.new.items) }
+    ensures work { OnOk result (AllListed places.new (all_work work.new)) }
 {
     let Some(number) = places.get_index_of(&x) else {
         return Ok(());
     };
     if !has_work(&*places, number) {
         mark_at(places, number, Mark::Queued);
-        work.push_back(number)?;
+        list(work, number, waits)?;
     }
     Ok(())
 }
 
-/// Puts each of them, which are known, on the list.
+/// Puts each of them, which are known, on the list; they wait or are next.
 fn touch_all<V>(
     places: &mut IndexMap<Spot, Marked<V>>,
-    work: &mut VecDeque<usize>,
+    work: &mut Work,
     told: &[Spot],
+    waits: bool,
 ) -> Result<(), AllocError>
-    requires listed { AllListed places.old work.old.items }
+    requires listed { AllListed places.old (all_work work.old) }
     requires known { AreKnown places.old (Contains told.now) }
     ensures marks { OnOk result (Tells places.old places.new (Contains told.now)) }
-    ensures work { OnOk result (AllListed places.new work.new.items) }
+    ensures work { OnOk result (AllListed places.new (all_work work.new)) }
 {
     for x in told {
-        touch(places, work, *x)?;
+        touch(places, work, *x, waits)?;
     }
     Ok(())
 }
 
-/// Puts all that read y, which are known, on the list.
+/// Puts all that read y, which are known, on the list; they wait or are next.
 pub fn wake<V>(
     places: &mut IndexMap<Spot, Marked<V>>,
-    work: &mut VecDeque<usize>,
+    work: &mut Work,
     readers: &IndexMap<Spot, Vec<Spot>>,
     y: Spot,
+    waits: bool,
 ) -> Result<(), AllocError>
-    requires listed { AllListed places.old work.old.items }
+    requires listed { AllListed places.old (all_work work.old) }
     requires known { AreKnown places.old (Reads (get spot_eq readers.now y)) }
     ensures marks { OnOk result (Tells places.old places.new (Reads (get spot_eq readers.now y))) }
-    ensures work { OnOk result (AllListed places.new work.new.items) }
+    ensures work { OnOk result (AllListed places.new (all_work work.new)) }
 {
     match readers.get(&y) {
         None => Ok(()),
-        Some(told) => touch_all(places, work, told.as_slice()),
+        Some(told) => touch_all(places, work, told.as_slice(), waits),
     }
 }
 

@@ -1,7 +1,7 @@
 // Places of frames, and what they are for the list of work.
 ghost use Rattle.std.specs.Prelude.{◌≡◌};
 ghost use Rattle.std.specs.Hash as fed;
-ghost use Rattle.frame_places.specs.Spots.{spot_number};
+ghost use Rattle.frame_places.specs.Spots.{is_entry_point, spot_number};
 ghost use Rattle.frame_places.specs.Hashed.{word_of};
 
 use depth_cert::{Key, number_of};
@@ -26,6 +26,16 @@ impl Spot {
         match self {
             Spot::Point(key, addr) => u128::from(number_of(key)) * ADDRESSES + u128::from(*addr),
             Spot::Exit(key) => u128::from(number_of(key)) * ADDRESSES,
+        }
+    }
+
+    /// Whether it is the entry point of its frame.
+    pub fn is_entry(&self) -> bool
+        ensures { result ≡ is_entry_point self.now }
+    {
+        match self {
+            Spot::Point(key, addr) => *addr == key.entry,
+            Spot::Exit(_) => false,
         }
     }
 

@@ -1,29 +1,8 @@
 use Rattle.std.proofs.Common.{sym, ◌∙◌}
 use Rattle.vd_transfer.specs.Changes.{state_after}
-use Rattle.depth_cert.specs.Known.{state}
 use Rattle.cfg_recover.specs.Duties.{enter}
-use Rattle.frame_places.specs.declared.places.Spot.TheVariants.{Point}
-use Rattle.depth_maker.specs.View.{seen}
-use Rattle.depth_maker.proofs.Lawful.{lawful}
-use Rattle.depth_maker.proofs.PartLemmas.{has_duty, enter_asks, on_enter, owed_proper, paid_enter, paid_queued}
-use Rattle.depth_maker.proofs.RiseLemmas.{stays_joined}
+use Rattle.depth_maker.proofs.PartLemmas.{has_duty, enter_asks, on_enter, paid_queued}
 use Rattle.depth_maker.proofs.asking.pay_enter.Goals as goal
-
-pub is_covered-requires-clause-fine : goal.is_covered-requires-clause-fine
-is_covered-requires-clause-fine c = c.requires.visited.fine
-
-pub is_covered-requires-clause-value : goal.is_covered-requires-clause-value
-is_covered-requires-clause-value c =
-    let v = c.args.v.now in
-    owed_proper _ _ _ v.key v.addr v.state.now (lawful _ _ _ v.ground.now.sound) (enter c.args.key (state_after v.state.now c.args.c.now)) c.requires.visited.proper c.requires.owes
-
-pub returns-then-is_covered-clause-ok : goal.returns-then-is_covered-clause-ok
-unfolding seen
-returns-then-is_covered-clause-ok c rule =
-    let v = c.args.v.now in
-    let u = state_after v.state.now c.args.c.now in
-    paid_enter _ _ _ v.key v.addr v.state.now c.args.table.now c.args.table.now rule c.args.key u
-    (stays_joined _ _ _ c.args.table.now (Point c.args.key c.args.key.entry) (state u) c.requires.visited.fine (c.is_covered.ensures c.if-is_covered.true))
 
 pub returns-then-has_work-clause-ok : goal.returns-then-has_work-clause-ok
 returns-then-has_work-clause-ok c rule = paid_queued _ _ _ _ _ _ c.args.table.now _ c.requires.visited (sym (c.has_work.ensures _ c.requires.visited.stands) ∙ c.if-has_work.true)

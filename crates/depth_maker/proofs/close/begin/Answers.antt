@@ -10,6 +10,7 @@ use Rattle.frame_places.specs.declared.places.Mark.{Mark}
 use Rattle.frame_places.specs.declared.places.Mark.TheVariants.{Queued}
 use Rattle.frame_places.specs.declared.places.Marked.{Marked}
 use Rattle.frame_places.specs.Spots.{spot_eq}
+use Rattle.frame_places.specs.Work.{all_work}
 use Rattle.depth_maker.proofs.Lawful.{lawful}
 use Rattle.depth_maker.proofs.VisitLemmas.{begun_table, get_none, none_listed}
 use Rattle.depth_maker.proofs.close.begin.Goals as goal
@@ -20,7 +21,7 @@ new-requires c =
     subst (λ (s : State). IsProper g.bounds.now s) (sym (c.unchanged-same.ensures.same ∙ c.start_state-start.ensures)) (lawful g.bounds.now g.image.now g.plan.now g.sound).start_proper
 
 pub add-requires-clause-listed : goal.add-requires-clause-listed
-add-requires-clause-listed c = none_listed c.new-places.result c.new-work.result.items c.new-places.ensures.empty c.new-work.ensures.items
+add-requires-clause-listed c = none_listed c.new-places.result (all_work c.new-work.result) c.new-places.ensures.empty c.new-work.ensures
 
 pub add-requires-clause-new : goal.add-requires-clause-new
 add-requires-clause-new c =

@@ -1,5 +1,5 @@
-use Rattle.std.proofs.Common.{refl, sym, ◌∙◌, ◌≡◌, inr, arith, ap, length, deque_len, ℕ, List, true, false}
-use Rattle.std.specs.Prelude.{◌==◌}
+use Rattle.std.proofs.Common.{refl, ◌≡◌, inr, arith, true, false}
+use Rattle.std.proofs.lemmas.List.Sorted.{length_permutation}
 use Rattle.depth_maker.proofs.LevelSteps.{left_over, turns_more}
 use Rattle.depth_maker.proofs.close.turn.Goals as goal
 
@@ -13,7 +13,7 @@ loop-done-preserved c =
       v.0,
       v.1,
       turns_more c.args.table.now c.loop-done.table c.open_next.new.table c.visit.new.table c.loop-done._done c.len-done-end.result c.loop-done.invariant.2 h.2
-          (let e = ap (λ (l : List ℕ). length l) h.3 in omega (arith, e)) v.2,
+          (let e = length_permutation _ _ h.3 in omega (arith, e)) v.2,
     )
 
 pub open_next-requires-clause-fine : goal.open_next-requires-clause-fine
@@ -35,8 +35,7 @@ returns-then-not-open_next c =
 
 pub returns : goal.returns
 returns c =
-    let len : length c.loop-done.table.work.items ≡ deque_len c.loop-done.table.work = omega arith in
     let h =
     left_over c.args.table.now c.loop-done.table c.loop-done._done c.len-done-end.result c.is_empty.result c.loop-done-test.false c.loop-done.invariant.2
-    (c.is_empty.ensures ∙ ap (λ n. n == 0) (sym len)) in
+    c.is_empty.ensures in
     (c.loop-done.invariant.0, c.loop-done.invariant.1, h.0, h.1)

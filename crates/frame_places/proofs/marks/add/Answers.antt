@@ -1,10 +1,11 @@
 use Rattle.std.proofs.Common.{sym, subst, refl}
 use Rattle.frame_places.specs.declared.places.Marked.{Marked}
-use Rattle.std.proofs.Common.{List, ℕ}
-use Rattle.frame_places.specs.Marks.{AllListed}
+use Rattle.std.proofs.Common.{ℕ}
+use Rattle.frame_places.specs.Work.{all_work}
+use Rattle.frame_places.proofs.WorkLemmas.{adds_next}
 use Rattle.frame_places.specs.Nearby.{StandsAt}
 use Rattle.frame_places.specs.declared.places.Mark.TheVariants.{Queued}
-use Rattle.frame_places.proofs.MarkLemmas.{AllListed-push, puts_as, unknown_place}
+use Rattle.frame_places.proofs.MarkLemmas.{AllListed-adds, puts_as, unknown_place}
 use Rattle.frame_places.proofs.NearbyLemmas.{added_last, added_numbers}
 use Rattle.frame_places.proofs.marks.add.Goals as goal
 
@@ -23,4 +24,4 @@ returns-clause-work g c =
     let none = unknown_place _ c.requires.new in
     let p = puts_as m new c.args.y w (λ q. c.in_ok-insert.ensures.updates.0 q) refl (added_numbers m new c.args.y w none c.in_ok-insert.ensures.entries) in
     let last = subst (λ (n : ℕ). StandsAt new n c.args.y) (sym c.len-number.ensures.len) (added_last m new c.args.y w none c.in_ok-insert.ensures.entries) in
-    subst (λ (l : List ℕ). AllListed new l) (sym c.in_ok-push_back.ensures.items) (AllListed-push m new c.args.work.now.items c.len-number.result c.args.y p.marks p.numbers last c.requires.listed)
+    AllListed-adds m new (all_work c.args.work.now) c.len-number.result c.args.y p.marks p.numbers (all_work c.push.new.self) (adds_next c.args.work.now c.push.new.self c.len-number.result c.in_ok-push.ensures) last c.requires.listed

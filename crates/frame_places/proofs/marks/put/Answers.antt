@@ -1,12 +1,12 @@
-use Rattle.std.proofs.Common.{ap, sym, subst, refl, ◌∙◌, Some}
+use Rattle.std.proofs.Common.{ap, refl, ◌∙◌, Some}
 use Rattle.std.specs.Option.{option_map}
 use Rattle.indexmap.specs.IndexMap.{with_value_at}
 use Rattle.frame_places.specs.declared.places.Mark.{Mark}
 use Rattle.frame_places.specs.declared.places.Marked.{Marked}
-use Rattle.std.proofs.Common.{List, ℕ}
-use Rattle.frame_places.specs.Marks.{AllListed}
+use Rattle.frame_places.specs.Work.{all_work}
+use Rattle.frame_places.proofs.WorkLemmas.{adds_either}
 use Rattle.frame_places.specs.declared.places.Mark.TheVariants.{Queued}
-use Rattle.frame_places.proofs.MarkLemmas.{AllListed-again, AllListed-push, puts_as}
+use Rattle.frame_places.proofs.MarkLemmas.{AllListed-again, AllListed-adds, puts_as}
 use Rattle.frame_places.proofs.NearbyLemmas.{value_had, written_numbers, written_there}
 use Rattle.frame_places.proofs.marks.put.Goals as goal
 
@@ -23,7 +23,7 @@ returns-in-Queued-clause-work g c y stands =
     let w : Marked g.row.V.Denot = record old { value = c.args.value } in
     let unique = c.in-Some.ensures.unique in
     let p = puts_as m (with_value_at m c.args.number w) y w (written_there m c.args.number y w unique stands) c.in-Queued.is (written_numbers m c.args.number w) in
-    AllListed-again m (with_value_at m c.args.number w) c.args.work.now.items c.args.number y p.marks p.numbers
+    AllListed-again m (with_value_at m c.args.number w) (all_work c.args.work.now) c.args.number y p.marks p.numbers
     (ap (option_map (λ k. k.mark)) (value_had m c.args.number y unique old c.in-Some.ensures.value stands) ∙ ap (λ (k : Mark). Some k) c.in-Queued.is) c.requires.listed
 
 pub returns : goal.returns
@@ -33,6 +33,6 @@ returns g c =
       puts = (λ y stands. puts_as m (with_value_at m c.args.number w) y w (written_there m c.args.number y w c.in-Some.ensures.unique stands) refl (written_numbers m c.args.number w));
       work = (λ y stands.
           let p = puts_as m (with_value_at m c.args.number w) y w (written_there m c.args.number y w c.in-Some.ensures.unique stands) refl (written_numbers m c.args.number w) in
-          subst (λ (l : List ℕ). AllListed (with_value_at m c.args.number w) l) (sym c.in_ok-push_back.ensures.items)
-          (AllListed-push m (with_value_at m c.args.number w) c.args.work.now.items c.args.number y p.marks p.numbers (p.numbers c.args.number y stands) c.requires.listed));
+          AllListed-adds m (with_value_at m c.args.number w) (all_work c.args.work.now) c.args.number y p.marks p.numbers (all_work c.list.new.work)
+          (adds_either c.args.waits c.args.work.now c.list.new.work c.args.number c.in_ok-list.ensures) (p.numbers c.args.number y stands) c.requires.listed);
     }

@@ -1,0 +1,46 @@
+-- The list of work: places by their numbers, in three parts.
+use Rattle.std.specs.Prelude.{◌≡◌, ℕ, Bool, true, false, List, [], ◌∷◌, ◌++◌}
+use Rattle.std.specs.List.Sorted.{IsPermutation}
+
+-- the places that are next, those of this round, which come when none is next, and those that wait for the next round
+pub record Lists : Type 0 where
+  pub next : List ℕ
+  pub round : List ℕ
+  pub waiting : List ℕ
+
+-- all places that have work
+abbrev pub all_work : Lists → List ℕ
+all_work work = work.next ++ (work.round ++ work.waiting)
+
+-- this place is next too
+pub record PutsNext (old new : Lists) (number : ℕ) : Type 0 where
+  pub next : new.next ≡ old.next ++ number ∷ []
+  pub round : new.round ≡ old.round
+  pub waiting : new.waiting ≡ old.waiting
+
+-- this place waits too
+pub record PutsWaiting (old new : Lists) (number : ℕ) : Type 0 where
+  pub next : new.next ≡ old.next
+  pub round : new.round ≡ old.round
+  pub waiting : new.waiting ≡ old.waiting ++ number ∷ []
+
+-- this place waits too, or is next too
+abbrev pub PutsAs : Bool → Lists → Lists → ℕ → Type 0
+PutsAs true old new number = PutsWaiting old new number
+PutsAs false old new number = PutsNext old new number
+
+-- those that wait come in this round, of which none is left
+pub record BeginsRound (old new : Lists) : Type 0 where
+  pub next : new.next ≡ old.next
+  pub round : IsPermutation old.waiting new.round
+  pub waiting : new.waiting ≡ old.round
+
+-- this place of the round is taken off the list
+pub record TakesRound (old new : Lists) (number : ℕ) : Type 0 where
+  pub next : new.next ≡ old.next
+  pub round : old.round ≡ new.round ++ number ∷ []
+  pub waiting : new.waiting ≡ old.waiting
+
+-- this place is taken off the list
+abbrev pub Takes : Lists → Lists → ℕ → Type 0
+Takes old new number = IsPermutation (all_work old) (number ∷ all_work new)
