@@ -135,7 +135,7 @@ pub(crate) fn has_changed(node: &Frame<'_>, addr: u32, s: &State, c: &Change) ->
 
 /// Whether the node of a point has a point at this address that covers the changed state; the next one of the walk is asked
 /// for first.
-pub(crate) fn has_changed_next(at: &At<'_>, addr: u32, c: &Change) -> bool
+pub(crate) fn has_changed_next(at: &At<'_, '_>, addr: u32, c: &Change) -> bool
     requires point { IsAt at.now }
     requires changed { AreWell (state_after at.now.point.state.now c.now).regs }
     ensures { IsTrue result
@@ -150,7 +150,7 @@ pub(crate) fn has_changed_next(at: &At<'_>, addr: u32, c: &Change) -> bool
 }
 
 /// The same of the state as it is, which the change is made to keep.
-pub(crate) fn has_kept_next(at: &At<'_>, addr: u32, c: &mut Change) -> bool
+pub(crate) fn has_kept_next(at: &At<'_, '_>, addr: u32, c: &mut Change) -> bool
     requires { IsAt at.now }
     ensures { IsTrue result ↔ HasPoint at.now.node.now addr at.now.point.state.now }
 {

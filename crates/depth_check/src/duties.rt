@@ -69,7 +69,7 @@ fn goes_on(node: &Frame<'_>, s: &State, entered: &Frame<'_>, kind: u8, back: Opt
 
 /// The least rule broken where a node of the key is entered with a changed state, as `rule` asks, and comes back to `back`.
 fn broken_by_entry(
-    at: &At<'_>,
+    at: &At<'_, '_>,
     rule: u8,
     key: &Key,
     entry: &Change,
@@ -95,7 +95,7 @@ fn broken_by_entry(
 }
 
 /// The least rule broken by calls of these targets, which come back to `back`.
-fn broken_by_calls(at: &At<'_>, entry: &Change, targets: &[u32], back: u32) -> Option<u8>
+fn broken_by_calls(at: &At<'_, '_>, entry: &Change, targets: &[u32], back: u32) -> Option<u8>
     requires point { IsAt at.now }
     requires entry { AreWell (state_after at.now.point.state.now entry.now).regs }
     ensures { Breaks at.now
@@ -114,7 +114,7 @@ fn broken_by_calls(at: &At<'_>, entry: &Change, targets: &[u32], back: u32) -> O
 
 /// The least rule broken by a call.
 #[inline(never)]
-fn broken_by_call(at: &At<'_>, to: Target, back: u32) -> Option<u8>
+fn broken_by_call(at: &At<'_, '_>, to: Target, back: u32) -> Option<u8>
     requires point { IsAt at.now }
     requires target { IsTarget to }
     ensures { Breaks at.now
@@ -132,7 +132,7 @@ fn broken_by_call(at: &At<'_>, to: Target, back: u32) -> Option<u8>
 
 /// The same where a register tells the targets.
 #[inline(never)]
-fn broken_by_listed_calls(at: &At<'_>, entry: &Change, to: Target, back: u32) -> Option<u8>
+fn broken_by_listed_calls(at: &At<'_, '_>, entry: &Change, to: Target, back: u32) -> Option<u8>
     requires point { IsAt at.now }
     requires target { IsTarget to }
     requires entry { AreWell (state_after at.now.point.state.now entry.now).regs }
@@ -148,7 +148,7 @@ fn broken_by_listed_calls(at: &At<'_>, entry: &Change, to: Target, back: u32) ->
 
 /// The least rule broken by the system call `tin`.
 #[inline(never)]
-fn broken_by_system(at: &At<'_>, tin: u8, back: u32) -> Option<u8>
+fn broken_by_system(at: &At<'_, '_>, tin: u8, back: u32) -> Option<u8>
     requires { IsAt at.now }
     ensures { Breaks at.now
         (entered_and_back 12 (entries.sys_key at.now.plan.now at.now.node.now.key)
@@ -162,7 +162,7 @@ fn broken_by_system(at: &At<'_>, tin: u8, back: u32) -> Option<u8>
 }
 
 /// The least rule broken by the entries of a call or a system call.
-fn broken_by_entries(at: &At<'_>, shape: Shape, size: u32) -> Option<u8>
+fn broken_by_entries(at: &At<'_, '_>, shape: Shape, size: u32) -> Option<u8>
     requires point { IsAt at.now }
     requires shape { IsShape shape }
     ensures { Breaks at.now
@@ -180,7 +180,7 @@ fn broken_by_entries(at: &At<'_>, shape: Shape, size: u32) -> Option<u8>
 /// The least rule broken by the entry of the handler of misaligned accesses, where an address of this access may be
 /// misaligned. The address is worked out here, so that where there is no access no value is made.
 #[inline(never)]
-fn broken_by_misaligned(at: &At<'_>, shape: Shape, size: u8) -> Option<u8>
+fn broken_by_misaligned(at: &At<'_, '_>, shape: Shape, size: u8) -> Option<u8>
     requires point { IsAt at.now }
     requires shape { IsShape shape }
     requires size { IsSize size }
@@ -197,7 +197,7 @@ fn broken_by_misaligned(at: &At<'_>, shape: Shape, size: u8) -> Option<u8>
 
 /// The least rule broken by the entry of that handler.
 #[inline(never)]
-fn broken_by_trap(at: &At<'_>) -> Option<u8>
+fn broken_by_trap(at: &At<'_, '_>) -> Option<u8>
     requires { IsAt at.now }
     ensures { Breaks at.now
         (owed 10 (enter (entries.aln_key at.now.plan.now at.now.node.now.key)
@@ -212,7 +212,7 @@ fn broken_by_trap(at: &At<'_>) -> Option<u8>
 
 /// The same for the access of an instruction. Where the trap of misaligned accesses isn't stated none is owed, since rule 10
 /// holds.
-fn broken_by_access(at: &At<'_>, found: &Located) -> Option<u8>
+fn broken_by_access(at: &At<'_, '_>, found: &Located) -> Option<u8>
     requires point { IsAt at.now }
     requires found { StandsFaultless at.now.bounds.now at.now.image.now at.now.plan.now
         at.now.node.now.key at.now.point.addr at.now.point.state.now found.now }
@@ -233,7 +233,7 @@ fn broken_by_access(at: &At<'_>, found: &Located) -> Option<u8>
 }
 
 /// The least rule broken by the entries of these interrupts; `entry` is the change there but for its CCPN.
-fn broken_by_irqs(at: &At<'_>, irqs: &[u8], entry: Change) -> Option<u8>
+fn broken_by_irqs(at: &At<'_, '_>, irqs: &[u8], entry: Change) -> Option<u8>
     requires point { IsAt at.now }
     requires entry { AreWell (state_after at.now.point.state.now entry).regs }
     ensures { Breaks at.now
@@ -251,7 +251,7 @@ fn broken_by_irqs(at: &At<'_>, irqs: &[u8], entry: Change) -> Option<u8>
 
 /// The least rule broken by the entries of the interrupts that may be taken; none, where what these depend on was asked for
 /// already.
-pub(crate) fn broken_by_interrupts(at: &At<'_>) -> Option<u8>
+pub(crate) fn broken_by_interrupts(at: &At<'_, '_>) -> Option<u8>
     requires { IsAt at.now }
     ensures { Breaks at.now
         (interrupts_of at.now.plan.now at.now.node.now.key at.now.point.state.now) result }
@@ -273,7 +273,7 @@ pub(crate) fn broken_by_interrupts(at: &At<'_>) -> Option<u8>
 
 /// The same, where these are the interrupts that may be taken.
 #[inline(never)]
-fn broken_by_taken(at: &At<'_>, irqs: &[u8]) -> Option<u8>
+fn broken_by_taken(at: &At<'_, '_>, irqs: &[u8]) -> Option<u8>
     requires point { IsAt at.now }
     requires irqs { irqs.now ≡ irqs_of at.now.plan.now at.now.point.state.now }
     ensures { Breaks at.now
@@ -316,7 +316,7 @@ fn broken_by_leaving(node: &Frame<'_>, s: &State, leave: Leave) -> Option<u8>
 }
 
 /// The least rule that the duties of a point of the node break, where no rule's own part fails.
-pub(crate) fn broken_by_duties(at: &At<'_>, found: &Located, c: &mut Change) -> Option<u8>
+pub(crate) fn broken_by_duties(at: &At<'_, '_>, found: &Located, c: &mut Change) -> Option<u8>
     requires point { IsAt at.now }
     requires found { StandsFaultless at.now.bounds.now at.now.image.now at.now.plan.now
         at.now.node.now.key at.now.point.addr at.now.point.state.now found.now }

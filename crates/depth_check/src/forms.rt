@@ -10,14 +10,14 @@ use value_domain::State;
 /// by what was asked for already, whether its values are known to be the plan's, an address at which the node is known to have
 /// a point that covers the state, and the walk over the node's points that stands there, if there is one.
 #[derive(Clone, Copy)]
-pub(crate) struct Here<'a> {
+pub(crate) struct Here<'a, 'b> {
     pub(crate) node: &'a Frame<'a>,
     pub(crate) addr: u32,
-    pub(crate) state: &'a State,
+    pub(crate) state: &'b State,
     pub(crate) again: bool,
     pub(crate) known: bool,
     pub(crate) next: Option<u32>,
-    pub(crate) walk: Option<&'a PointWalk<'a>>,
+    pub(crate) walk: Option<&'b PointWalk<'b>>,
 }
 
 /// Where the node lies.

@@ -2,27 +2,37 @@
 ghost use Rattle.std.specs.Prelude.{◌≡◌, ◌<◌, ◌^◌, ◌↔◌, IsTrue, All, Contains, MatchOption};
 ghost use Rattle.value_domain.specs.State.{AreValues};
 ghost use Rattle.cfg_recover.specs.Accepting.{limits_in, HoldsAtEntry, HoldsAtNode};
+ghost use Rattle.depth_check.specs.Asking.{AreAsked};
 ghost use Rattle.depth_check.specs.Finding.{IsWellNode};
 ghost use Rattle.depth_check.specs.NodeFaults as nodes;
 ghost use Rattle.depth_check.specs.NodeFaults.{IsNodeFault};
 
 use crate::any_certs::AnyCert;
-use crate::asked::{Asked, is_asked};
+use crate::asked::Asks;
 use crate::covering::are_values;
 use crate::forms::{Frame, Here, NodeForm};
 use crate::rules::broken_by_point;
 use depth_cert::Node;
 use elf_image::Image;
-use packed_cert::PackedNode;
+use packed_cert::{PackedNode, PointWalk};
 use tcd_plan::Plan;
 use value_domain::{Bounds, State, Val};
-use vd_transfer::unchanged;
+use vd_transfer::{Change, unchanged};
 
 /// A rule that fails in a node, and the address of its place.
 #[derive(Clone, Copy)]
 pub(crate) struct Fault {
     pub rule: u8,
     pub addr: u32,
+}
+
+/// What the check of a node takes over from those before: room for a change, what the entries of interrupts were asked for
+/// with, and a walk over points, which has room for a state.
+#[derive(Drop)]
+pub(crate) struct Scratch<'a> {
+    pub(crate) change: Change,
+    pub(crate) asks: Asks,
+    pub(crate) walk: PointWalk<'a>,
 }
 
 /// Whether a node has a point at its entry, and an exit with values of the plan if it has one.
@@ -135,72 +145,76 @@ fn is_worth_keeping(plan: &Plan, s: &State, again: bool) -> bool {
 /// The same of a node on bytes: behind each point the next one is tried first, the entries of interrupts are asked for where
 /// more is asked than was asked for already, only values that differ from those there are asked for, and where the next point
 /// has the same state it covers the one at hand.
-fn packed_fault(
+fn packed_fault<'a>(
     b: &Bounds,
     image: &Image,
     plan: &Plan,
     cert: &AnyCert<'_>,
-    node: &PackedNode<'_>,
+    node: &PackedNode<'a>,
+    scratch: &mut Scratch<'a>,
 ) -> Option<Fault>
     requires limits { b.now ≡ limits_in plan.now cert.now }
     requires nodes { All IsWellNode cert.now.nodes }
     requires member { Contains cert.now.nodes node.now }
-    ensures { MatchOption result (HoldsAtNode image.now plan.now cert.now node.now)
+    requires asked { AreAsked plan.now cert.now scratch.old.asks }
+    ensures fault { MatchOption result (HoldsAtNode image.now plan.now cert.now node.now)
         (λ f. IsNodeFault image.now plan.now cert.now node.now f.rule f.addr) }
+    ensures asked { AreAsked plan.now cert.now scratch.new.asks }
 {
     let entry = node.key.entry;
     let good = packed_holds_at_entry(b, node);
-    let mut walk = node.points();
-    let mut change = unchanged(walk.state());
+    node.walk(&mut scratch.walk);
     let mut next = 0usize;
-    let mut asked = None;
     let mut known = false;
-    while let Some(addr) = walk.step() {
+    while let Some(addr) = scratch.walk.step() {
         is_word(addr);
         next = next.wrapping_add(1);
         let frame = Frame::near(&*node, next);
-        let s = walk.state();
-        let again = is_asked(&asked, s);
-        let repeats = walk.repeats_at();
+        let s = scratch.walk.state();
+        let again = scratch.asks.have(node, s);
+        let repeats = scratch.walk.repeats_at();
         let here = Here {
             node: &frame,
             addr,
             state: s,
             again,
-            known: are_known(b, known, walk.anew()),
+            known: are_known(b, known, scratch.walk.anew()),
             next: repeats,
-            walk: Some(&walk),
+            walk: Some(&scratch.walk),
         };
-        let found = broken_by_point(b, image, plan, cert, here, &mut change);
+        let found = broken_by_point(b, image, plan, cert, here, &mut scratch.change);
         if let Some(fault) = first_of(good, entry, addr, found) {
             return Some(fault);
         }
         known = true;
-        let s = walk.state();
+        let s = scratch.walk.state();
         if is_worth_keeping(plan, s, again) {
-            asked = Some(Asked::at(s));
+            scratch.asks.add(node, s);
         }
     }
     if good { None } else { Some(entry_fault(entry)) }
 }
 
 /// The first fault of a node, by address and then by rule.
-pub(crate) fn node_fault(
+pub(crate) fn node_fault<'a>(
     b: &Bounds,
     image: &Image,
     plan: &Plan,
     cert: &AnyCert<'_>,
-    frame: &Frame<'_>,
+    frame: &Frame<'a>,
+    scratch: &mut Scratch<'a>,
 ) -> Option<Fault>
     requires limits { b.now ≡ limits_in plan.now cert.now }
     requires nodes { All IsWellNode cert.now.nodes }
     requires member { Contains cert.now.nodes frame.now }
-    ensures { MatchOption result (HoldsAtNode image.now plan.now cert.now frame.now)
+    requires asked { AreAsked plan.now cert.now scratch.old.asks }
+    ensures fault { MatchOption result (HoldsAtNode image.now plan.now cert.now frame.now)
         (λ f. IsNodeFault image.now plan.now cert.now frame.now f.rule f.addr) }
+    ensures asked { AreAsked plan.now cert.now scratch.new.asks }
 {
     match &frame.form {
         NodeForm::Plain(node) => plain_fault(b, image, plan, cert, frame, node),
-        NodeForm::Packed(node) => packed_fault(b, image, plan, cert, node),
-        NodeForm::Near(node, _) => packed_fault(b, image, plan, cert, node),
+        NodeForm::Packed(node) => packed_fault(b, image, plan, cert, node, scratch),
+        NodeForm::Near(node, _) => packed_fault(b, image, plan, cert, node, scratch),
     }
 }

@@ -27,7 +27,7 @@ use value_domain::Bounds;
 use vd_transfer::Change;
 
 /// Whether the need of the node has room for the locals of a point, and at the start's entry leaves the reserve free.
-fn has_own_need(at: &At<'_>) -> bool
+fn has_own_need(at: &At<'_, '_>) -> bool
     ensures { IsTrue result
         ↔ HasOwnNeed at.now.image.now at.now.plan.now at.now.node.now (point_here at.now.point) }
 {
@@ -44,7 +44,7 @@ fn has_own_need(at: &At<'_>) -> bool
 }
 
 /// Whether the values of a point are the plan's.
-fn has_values(b: &Bounds, point: Here<'_>) -> bool
+fn has_values(b: &Bounds, point: Here<'_, '_>) -> bool
     requires { IsTrue point.known → AreValues b.now point.state.now.regs }
     ensures { IsTrue result ↔ AreValues b.now point.entry.state.now.regs }
 {
@@ -55,7 +55,7 @@ fn has_values(b: &Bounds, point: Here<'_>) -> bool
 }
 
 /// The least rule that fails at a point whose values are the plan's, and at which no rule's own part fails.
-fn broken_by_located(at: &At<'_>, found: &Located, c: &mut Change) -> Option<u8>
+fn broken_by_located(at: &At<'_, '_>, found: &Located, c: &mut Change) -> Option<u8>
     requires point { IsAt at.now }
     requires found { StandsFaultless at.now.bounds.now at.now.image.now at.now.plan.now
         at.now.node.now.key at.now.point.addr at.now.point.state.now found.now }
@@ -69,7 +69,7 @@ fn broken_by_located(at: &At<'_>, found: &Located, c: &mut Change) -> Option<u8>
 
 /// The least rule that fails at a point whose values are the plan's.
 #[inline(never)]
-fn broken_by_any(at: &At<'_>, c: &mut Change) -> Option<u8>
+fn broken_by_any(at: &At<'_, '_>, c: &mut Change) -> Option<u8>
     requires { IsAt at.now }
     ensures { Finds (RuleHolds at.now.image.now at.now.plan.now at.now.cert.now at.now.node.now
         (point_here at.now.point)) result }
@@ -83,7 +83,7 @@ fn broken_by_any(at: &At<'_>, c: &mut Change) -> Option<u8>
 }
 
 /// The least rule that fails at a point where an instruction of this size stands that changes nothing.
-fn broken_by_idle(at: &At<'_>, size: u32) -> Option<u8>
+fn broken_by_idle(at: &At<'_, '_>, size: u32) -> Option<u8>
     requires point { IsAt at.now }
     requires code { IsCode at.now.image.now at.now.plan.now at.now.point.addr Nothing size }
     ensures { Finds (RuleHolds at.now.image.now at.now.plan.now at.now.cert.now at.now.node.now
@@ -110,7 +110,7 @@ fn is_nop16(image: &Image, plan: &Plan, addr: u32) -> bool
 }
 
 /// The size of the instruction of a point, where it changes nothing and the next point has the same state.
-fn idle_size(at: &At<'_>) -> Option<u32>
+fn idle_size(at: &At<'_, '_>) -> Option<u32>
     ensures { IfSome result
         (IsCode at.now.image.now at.now.plan.now at.now.point.addr Nothing) }
 {
@@ -145,7 +145,7 @@ pub(crate) fn broken_by_point(
     image: &Image,
     plan: &Plan,
     cert: &AnyCert<'_>,
-    point: Here<'_>,
+    point: Here<'_, '_>,
     c: &mut Change,
 ) -> Option<u8>
     requires limits { b.now ≡ limits_in plan.now cert.now }

@@ -22,7 +22,13 @@ use vd_transfer::{Change, change_on};
 
 /// A jump with what a side of a branch changes, if that side is possible.
 #[inline(never)]
-fn broken_by_change(at: &At<'_>, shape: Shape, taken: bool, to: u32, c: &mut Change) -> Option<u8>
+fn broken_by_change(
+    at: &At<'_, '_>,
+    shape: Shape,
+    taken: bool,
+    to: u32,
+    c: &mut Change,
+) -> Option<u8>
     requires point { IsAt at.now }
     requires shape { IsShape shape }
     ensures { Breaks at.now
@@ -48,7 +54,7 @@ fn only_narrows(shape: Shape) -> bool
 
 /// A jump on a side of a branch, if that side is possible. A point that covers the state before it is enough, where the side
 /// allows no more.
-fn broken_by_side(at: &At<'_>, shape: Shape, taken: bool, to: u32, c: &mut Change) -> Option<u8>
+fn broken_by_side(at: &At<'_, '_>, shape: Shape, taken: bool, to: u32, c: &mut Change) -> Option<u8>
     requires point { IsAt at.now }
     requires shape { IsShape shape }
     ensures { Breaks at.now
@@ -65,7 +71,7 @@ fn broken_by_side(at: &At<'_>, shape: Shape, taken: bool, to: u32, c: &mut Chang
 
 /// Both sides of a branch.
 #[inline(never)]
-fn broken_by_sides(at: &At<'_>, shape: Shape, next: u32, to: u32, c: &mut Change) -> Option<u8>
+fn broken_by_sides(at: &At<'_, '_>, shape: Shape, next: u32, to: u32, c: &mut Change) -> Option<u8>
     requires point { IsAt at.now }
     requires shape { IsShape shape }
     ensures { Breaks at.now
@@ -81,7 +87,7 @@ fn broken_by_sides(at: &At<'_>, shape: Shape, next: u32, to: u32, c: &mut Change
 
 /// A jump with the state as it is, to one of the targets that are listed.
 #[inline(never)]
-fn broken_by_listed_jumps(at: &At<'_>, to: Target) -> Option<u8>
+fn broken_by_listed_jumps(at: &At<'_, '_>, to: Target) -> Option<u8>
     requires point { IsAt at.now }
     requires target { IsTarget to }
     ensures { Breaks at.now
@@ -95,7 +101,7 @@ fn broken_by_listed_jumps(at: &At<'_>, to: Target) -> Option<u8>
 }
 
 /// A jump with the state as it is; a list of targets is filled only where a register tells them.
-fn broken_by_jump(at: &At<'_>, to: Target) -> Option<u8>
+fn broken_by_jump(at: &At<'_, '_>, to: Target) -> Option<u8>
     requires point { IsAt at.now }
     requires target { IsTarget to }
     ensures { Breaks at.now
@@ -110,7 +116,7 @@ fn broken_by_jump(at: &At<'_>, to: Target) -> Option<u8>
 }
 
 /// The step over an instruction that changes nothing.
-pub(crate) fn broken_by_pass(at: &At<'_>, next: u32) -> Option<u8>
+pub(crate) fn broken_by_pass(at: &At<'_, '_>, next: u32) -> Option<u8>
     requires { IsAt at.now }
     ensures { Breaks at.now (owed 4 (jump next at.now.point.state.now) ∷ []) result }
 {
@@ -119,7 +125,7 @@ pub(crate) fn broken_by_pass(at: &At<'_>, next: u32) -> Option<u8>
 
 /// The step to the next instruction.
 #[inline(never)]
-fn broken_by_step(at: &At<'_>, found: &Located, c: &mut Change) -> Option<u8>
+fn broken_by_step(at: &At<'_, '_>, found: &Located, c: &mut Change) -> Option<u8>
     requires point { IsAt at.now }
     requires found { StandsFaultless at.now.bounds.now at.now.image.now at.now.plan.now
         at.now.node.now.key at.now.point.addr at.now.point.state.now found.now }
@@ -147,7 +153,7 @@ fn keeps_state(shape: Shape) -> bool
 }
 
 /// The step over an instruction that only goes on to the next one.
-fn broken_by_next(at: &At<'_>, found: &Located, c: &mut Change) -> Option<u8>
+fn broken_by_next(at: &At<'_, '_>, found: &Located, c: &mut Change) -> Option<u8>
     requires point { IsAt at.now }
     requires found { StandsFaultless at.now.bounds.now at.now.image.now at.now.plan.now
         at.now.node.now.key at.now.point.addr at.now.point.state.now found.now }
@@ -163,7 +169,7 @@ fn broken_by_next(at: &At<'_>, found: &Located, c: &mut Change) -> Option<u8>
 }
 
 /// The least rule broken by the successors in the same frame, without those after a call or a system call.
-pub(crate) fn broken_by_successors(at: &At<'_>, found: &Located, c: &mut Change) -> Option<u8>
+pub(crate) fn broken_by_successors(at: &At<'_, '_>, found: &Located, c: &mut Change) -> Option<u8>
     requires point { IsAt at.now }
     requires found { StandsFaultless at.now.bounds.now at.now.image.now at.now.plan.now
         at.now.node.now.key at.now.point.addr at.now.point.state.now found.now }

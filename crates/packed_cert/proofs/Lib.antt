@@ -8,6 +8,7 @@ pub mod PutLaws
 pub mod ReadAnew
 pub mod RowLaws
 pub mod SameBytes
+pub mod SameExits
 pub mod SameStates
 pub mod SameWords
 pub mod StateShapes

@@ -1,15 +1,17 @@
 -- The values of the lower registers, by their numbers among them and by their places in a state.
 use Rattle.std.proofs.Common.{◌≡◌, ℕ, ◌≤◌, ◌<◌, ◌+◌, ◌-◌, List, length, get_or, drop, true, false, cond, ltb, refl, sym, ◌∙◌, ap, arith, inl, inr, subst}
-use Rattle.std.specs.Prelude.{IsTrue}
+use Rattle.std.specs.Prelude.{IsTrue, ◌↔◌}
 use Rattle.std.proofs.lemmas.Bool.{cases_lt, cases_Bool}
 use Rattle.value_domain.specs.declared.values.Val.{Val}
-use Rattle.value_domain.specs.Values.{any_val, IsWell}
+use Rattle.value_domain.specs.Values.{any_val, IsWell, IsBelow}
+use Rattle.value_domain.proofs.RangeLaws.{below_any}
 use Rattle.value_domain.specs.State.{AreWell, is_lower_slot}
 use Rattle.depth_cert.specs.Exits.{lower_values, with_lower_from}
 use Rattle.depth_cert.proofs.ExitValues.{restored_at, after-at, lower_low, lower_high}
 use Rattle.packed_cert.specs.Standing.{behind}
 use Rattle.packed_cert.specs.Below.{value_in, values_in, HasValue, HaveValues}
-use Rattle.packed_cert.proofs.ValueShapes.{left_first, length-values_in}
+use Rattle.packed_cert.proofs.SameBytes.{Small}
+use Rattle.packed_cert.proofs.ValueShapes.{left_first, length-values_in, stands_at, well_of}
 
 -- ---- where they stand in a list of their own
 pub lower_well : (regs : List Val) (i : ℕ) → 22 ≤ length regs → i < 14 → AreWell regs → IsWell (get_or (lower_values regs) i any_val)
@@ -67,4 +69,20 @@ lower_step version bytes place i from regs h len l =
             is = at ∙ same;
             next = rw f (subst (λ (n : ℕ). LeftBehind version bytes place n from) (sym (other_before i h f)) l);
           }
+    ]
+
+-- below a value that holds all words is each of them
+pub any_above : (i : ℕ) (regs : List Val) (version : ℕ) (bytes : List ℕ) (from : ℕ) (high : Val) → Small bytes → i < 27 → length regs ≡ 27 → AreWell regs → (IsTrue (is_lower_slot i) → HasValue version bytes from) → high ≡ any_val
+    → IsTrue true ↔ IsBelow (restored_in version bytes from i regs) high
+any_above i regs version bytes from high small h len well has any =
+    elim (cases_Bool (is_lower_slot i)) [
+      | inl t ↦
+          let v : Val = value_in version bytes from in
+          let there = stands_at version bytes from small (has t) in
+          let below : IsBelow v high = subst (λ (w : Val). IsBelow v w) (sym any) (below_any v (well_of version v there.well)) in
+          rw t (λ y. below, λ b. refl)
+      | inr f ↦
+          let v : Val = get_or regs i any_val in
+          let below : IsBelow v high = subst (λ (w : Val). IsBelow v w) (sym any) (below_any v (well i (omega arith))) in
+          rw f (λ y. below, λ b. refl)
     ]

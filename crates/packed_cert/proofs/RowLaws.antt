@@ -1,7 +1,6 @@
 -- Rows of values that stand one after another, and the moves from point to point.
 use Rattle.std.proofs.Common.{◌≡◌, ℕ, zero, suc, ◌+◌, ◌-◌, ◌≤◌, inl, inr, List, [], ◌∷◌, ◌++◌, length, get_or, drop, true, false, refl, sym, ap, ◌∙◌, subst, arith}
-use Rattle.std.specs.Prelude.{IsTrue, Option, None}
-use Rattle.packed_cert.specs.declared.state_places.StatePlaces.{StatePlaces}
+use Rattle.std.specs.Prelude.{IsTrue}
 use Rattle.std.proofs.lemmas.Bool.{cases_lt}
 use Rattle.std.proofs.lemmas.List.{get_or_append_left, length-append}
 use Rattle.std.proofs.Math.Seq.{get_or-append_seam}
@@ -100,18 +99,20 @@ moves_push version bytes ps p moves one k d s lt before =
           subst (λ (q : PackedPoint). IsMoved version bytes s q) (sym here) (one s front)
     ]
 
--- what is read behind the points keeps what it says of any state that stands before it
-pub moved_next : (version : ℕ) (bytes : List ℕ) (ps : List PackedPoint) (t before after : State) (p : PackedPoint) (x e i : ℕ) (held : Option StatePlaces) → Small bytes → state_in version bytes p.place ≡ after → HasState version bytes p.place
-    → x ≤ length bytes → Stand version bytes x after.regs e → AreAnew before.regs after.regs p.anew → IsFrom bytes x p.anew → (held ≡ None → IsWhole 27 p.anew × (p.same ≡ false)) → (IsTrue p.same → after ≡ before)
-    → length ps ≡ i → (i ≡ 0 → held ≡ None) → ((j : ℕ) (d : PackedPoint) → j + 1 ≡ i → before ≡ state_in version bytes (get_or ps j d).place) → StandsBefore version bytes ps (length ps) t → IsMoved version bytes t p
-moved_next version bytes ps t before after p x e zero held small is there h s row from whole same size none last b =
-    let w = whole (none refl) in
+-- what is read behind the points keeps what it says of any state that stands before it; a first point says of all values
+-- that they were read
+pub moved_next : (version : ℕ) (bytes : List ℕ) (ps : List PackedPoint) (t before after : State) (p : PackedPoint) (x e i : ℕ) → Small bytes → state_in version bytes p.place ≡ after → HasState version bytes p.place
+    → x ≤ length bytes → Stand version bytes x after.regs e → IsFrom bytes x p.anew → (i ≡ 0 → IsWhole 27 p.anew × (p.same ≡ false)) → (1 ≤ i → AreAnew before.regs after.regs p.anew) → (1 ≤ i → IsTrue p.same → after ≡ before)
+    → length ps ≡ i → ((j : ℕ) (d : PackedPoint) → j + 1 ≡ i → before ≡ state_in version bytes (get_or ps j d).place) → StandsBefore version bytes ps (length ps) t → IsMoved version bytes t p
+moved_next version bytes ps t before after p x e zero small is there h s from whole row same size last b =
+    let w = whole refl in
     let count : length after.regs ≡ 27 = ap (λ (u : State). length u.regs) (sym is) ∙ state_length version bytes p.place small there in
     moved_by version bytes t after p x e small is count b.count h s
     (all_anew t.regs after.regs p.anew (omega (arith, b.count)) (w.0.0, omega (arith, w.0.1, b.count))) from
     (λ y. absurd (let f : false ≡ true = sym w.1 ∙ y in cc))
-moved_next version bytes ps t before after p x e (suc j) held small is there h s row from whole same size none last b =
+moved_next version bytes ps t before after p x e (suc j) small is there h s from whole row same size last b =
+    let some : 1 ≤ suc j = omega arith in
     let count : length after.regs ≡ 27 = ap (λ (u : State). length u.regs) (sym is) ∙ state_length version bytes p.place small there in
     let own : before ≡ t = last j p (omega arith) ∙ sym (b.last j p (omega arith)) in
     let len : length before.regs ≡ 27 = ap (λ (u : State). length u.regs) own ∙ b.count in
-    subst (λ (u : State). IsMoved version bytes u p) own (moved_by version bytes before after p x e small is count len h s row from same)
+    subst (λ (u : State). IsMoved version bytes u p) own (moved_by version bytes before after p x e small is count len h s (row some) from (same some))

@@ -18,7 +18,7 @@ use Rattle.depth_cert.proofs.CertLaws.{state_passed}
 use Rattle.depth_cert.proofs.WrittenLaws.{IsRead, done, seq, test, byte, many_read, flag, values_read}
 use Rattle.packed_cert.specs.declared.state_places.StatePlaces.{StatePlaces}
 use Rattle.packed_cert.specs.Standing.{at, MovedOver, StandFrom}
-use Rattle.packed_cert.specs.Points.{read_or, no_state, state_in, StandsAt}
+use Rattle.packed_cert.specs.Points.{StandsAt}
 use Rattle.packed_cert.proofs.SameBytes.{Small, split, moved}
 
 -- ---- the spelling of a state is read wherever it stands

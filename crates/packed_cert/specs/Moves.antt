@@ -1,10 +1,17 @@
 -- What the states of points keep of those of the points before them.
 use Rattle.std.specs.Prelude.{◌≡◌, ◌≤◌, ◌<◌, ◌+◌, ◌-◌, ℕ, IsTrue, slice_index_or, List, length, drop}
 use Rattle.value_domain.specs.declared.states.State.{State}
+use Rattle.value_domain.specs.Values.{any_val, IsBelow}
+use Rattle.vd_transfer.specs.declared.change.Change.{Change}
+use Rattle.vd_transfer.specs.Changes.{state_after}
 use Rattle.packed_cert.specs.declared.packed_points.PackedPoint.{PackedPoint}
 use Rattle.packed_cert.specs.Standing.{AreAnew}
 use Rattle.packed_cert.specs.Points.{state_in}
 use Rattle.packed_cert.specs.Below.{values_in, HaveValues}
+
+-- the changed value at a place is below the state's own there
+abbrev pub IsBelowOwn : State → Change → ℕ → Type 0
+IsBelowOwn s c i = IsBelow (slice_index_or (state_after s c).regs i any_val) (slice_index_or s.regs i any_val)
 
 -- The state of a point against one before it: outside a row it has the same values, the row's values and those behind it
 -- stand where the point says, and where it says so all of the state is the same.

@@ -10,6 +10,7 @@ use Rattle.depth_cert.specs.Nodes.{NodeData}
 use Rattle.depth_cert.specs.Certs.{CertData, IsCert}
 use Rattle.depth_cert.specs.Grammar.{exit_at, certificate_of}
 use Rattle.depth_cert.specs.Spelling.{bytes_of}
+use Rattle.packed_cert.specs.declared.state_places.ExitPlaces.{ExitPlaces}
 use Rattle.packed_cert.specs.declared.node_places.NodePlaces.{NodePlaces}
 use Rattle.packed_cert.specs.declared.packed_points.PackedPoint.{PackedPoint}
 use Rattle.packed_cert.specs.Standing.{at}
@@ -27,6 +28,16 @@ exit_in version bytes place = read_or no_exit (exit_at version (at bytes place))
 -- an exit stands at a place
 abbrev pub HasExit : ℕ → List ℕ → ℕ → Type 0
 HasExit version bytes place = (x : Exit × Place) × (exit_at version (at bytes place) ≡ Ok x)
+
+-- an exit is read from one place to another
+abbrev pub ReadsExit : ℕ → Place → Place → Type 0
+ReadsExit version c d = (x : Exit) × (exit_at version c ≡ Ok (x, d))
+
+-- an exit stands at these places
+pub record ExitStands (version : ℕ) (bytes : List ℕ) (p : ExitPlaces) : Type 0 where
+  pub order : p.start ≤ p.end
+  pub within : p.end ≤ length bytes
+  pub read : ReadsExit version (at bytes p.start) (at bytes p.end)
 
 -- what a handle on an exit keeps
 pub record IsExitAt (version : ℕ) (bytes : List ℕ) (place : ℕ) : Type 0 where

@@ -46,12 +46,16 @@ abbrev pub MovedOver : List ℕ → ℕ → ℕ → Place → Place → Type 0
 MovedOver bytes x n before after =
     (after ≡ record before { place = before.place + n }) × (before.place + n ≤ length bytes) × (take n (drop x bytes) ≡ take n (drop before.place bytes))
 
+-- a place lies before a row or behind it
+abbrev pub IsOutside : Anew → ℕ → Type 0
+IsOutside anew k = (k < anew.first) ⊎ (anew.behind ≤ k)
+
 -- as many values as before; each outside a row of them is the one that stood at its place before
 pub record AreAnew (before after : List Val) (anew : Anew) : Type 0 where
   pub count : length after ≡ length before
   pub order : anew.first ≤ anew.behind
   pub within : anew.behind ≤ length before
-  pub kept : (k : ℕ) → k < length before → (k < anew.first) ⊎ (anew.behind ≤ k) → slice_index_or after k any_val ≡ slice_index_or before k any_val
+  pub kept : (k : ℕ) → k < length before → IsOutside anew k → slice_index_or after k any_val ≡ slice_index_or before k any_val
 
 -- the place behind n values that stand one after another from a place on
 abbrev pub place_after : List ℕ → ℕ → ℕ → ℕ
@@ -70,4 +74,4 @@ IsWhole n anew = (anew.first ≡ 0) × (anew.behind ≡ n)
 pub record IsWithRead (anew : Anew) (place : ℕ) (more : Anew) : Type 0 where
   pub first : more.first ≤ place
   pub behind : more.behind ≡ place + 1
-  pub others : (k : ℕ) → (k < more.first) ⊎ (more.behind ≤ k) → ((k < anew.first) ⊎ (anew.behind ≤ k)) × (k ≡ place → ⊥)
+  pub others : (k : ℕ) → IsOutside more k → IsOutside anew k × (k ≡ place → ⊥)

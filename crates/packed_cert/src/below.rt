@@ -3,6 +3,7 @@ ghost use Rattle.std.specs.Prelude.{◌≡◌, ◌≤◌, ◌<◌, ◌+◌, ◌*
 ghost use Rattle.tcd_base.specs.Bytes.{word_at};
 ghost use Rattle.tcd_base.specs.Place.{Place};
 ghost use Rattle.value_domain.specs.declared.values.Val.{Val};
+ghost use Rattle.value_domain.specs.declared.values.Val.TheVariants.{Set};
 ghost use Rattle.value_domain.specs.Sets.{Rising, Within, AreWords};
 ghost use Rattle.value_domain.specs.Values.{IsWell, IsBelow, IsValue};
 ghost use Rattle.packed_cert.specs.Below.{words_at, value_in, HasValue, values_in, HaveValues};
@@ -13,7 +14,7 @@ ghost use Rattle.depth_cert.specs.Grammar.{value_at};
 use crate::values_after::length_by;
 use depth_cert::read_value;
 use tcd_base::Cursor;
-use value_domain::{Bounds, Val, extent_of, is_value, leq};
+use value_domain::{Bounds, Val, extent_of, is_value, leq, set_span, set_words, write_any};
 
 /// The word at a place.
 pub(crate) fn word(bytes: &[u8], place: usize) -> u32
@@ -66,14 +67,49 @@ fn are_among(own: &[u32], bytes: &[u8], place: usize, n: usize) -> bool
     true
 }
 
-/// Reads the value that stands at a place over another one; a single word is written where it stays.
+/// Whether a value has just the `n` words that stand at a place.
+fn has_words_at(v: &Val, bytes: &[u8], place: usize, n: usize) -> bool
+    requires within { place + 4 * n ≤ length bytes.now }
+    ensures { IsTrue result → v.now ≡ Set (words_at bytes.now place n) }
+{
+    let Val::Set(words) = v else {
+        return false;
+    };
+    let own = words.as_slice();
+    if own.len() != n {
+        return false;
+    }
+    for i in 0..n {
+        if own[i] != word(bytes, place + 4 * i) {
+            return false;
+        }
+    }
+    true
+}
+
+/// Reads the value that stands at a place over another one. One that is short is written where it
+/// stays; a set that is there already isn't written.
 pub(crate) fn read_at(bytes: &[u8], version: u8, place: usize, out: &mut Val)
     requires short { length bytes.now ≤ 2 ^ 30 }
     requires stands { HasValue version bytes.now place }
     ensures { out.new ≡ value_in version bytes.now place }
 {
-    if bytes[place] == 1 {
-        *out = Val::one(word(bytes, place + 1));
+    let tag = bytes[place];
+    if tag == 0 {
+        write_any(out);
+        return;
+    }
+    if tag == 1 {
+        set_words(out, &[word(bytes, place + 1)]);
+        return;
+    }
+    if tag > 128 {
+        let lo = word(bytes, place + 1);
+        let last = word(bytes, place + 5);
+        set_span(out, lo, last, tag - 240);
+        return;
+    }
+    if has_words_at(out, bytes, place + 1, tag as usize) {
         return;
     }
     let mut c = Cursor::new(bytes);
@@ -136,6 +172,9 @@ pub(crate) fn is_below_at(v: &Val, bytes: &[u8], version: u8, place: usize) -> b
     }
     if tag > 128 {
         return is_below_span_at(v, bytes, version, place);
+    }
+    if has_words_at(v, bytes, place + 1, tag as usize) {
+        return true;
     }
     match v {
         Val::Set(words) => are_among(words.as_slice(), bytes, place + 1, tag as usize),

@@ -8,7 +8,7 @@ ghost use Rattle.packed_cert.specs.Nodes.{nodes_of, cert_of, HasPlaces};
 
 use crate::node_fields::read_node;
 use crate::node_places::NodePlaces;
-use crate::point_fields::{Room, blank};
+use crate::point_fields::{ExitRoom, Room, blank};
 use depth_cert::{CertErr, fault, no_exit, read_magic, read_node_count, read_version};
 use std::alloc::Global;
 use tcd_base::Cursor;
@@ -31,8 +31,12 @@ fn read_nodes(
 {
     let mut nodes = Vec::new(alloc);
     let mut room = Room {
-        exit: no_exit(),
+        exit: ExitRoom {
+            exit: no_exit(),
+            last: None,
+        },
         state: blank(),
+        last: None,
         used: 0,
     };
     for _i in 0..count {

@@ -1,12 +1,13 @@
 // The values of a changed state, compared with those that stand in bytes.
-ghost use Rattle.std.specs.Prelude.{◌≡◌, ◌≤◌, ◌<◌, ◌-◌, ◌⊎◌, ◌^◌, ◌↔◌, ℕ, IsTrue, Some, length, slice_index_or};
+ghost use Rattle.std.specs.Prelude.{◌≡◌, ◌≤◌, ◌<◌, ◌-◌, ◌^◌, ◌↔◌, ℕ, IsTrue, Some, length, slice_index_or};
 ghost use Rattle.value_domain.specs.Values.{IsBelow, any_val};
 ghost use Rattle.value_domain.specs.State.{AreBelow, AreWell};
 ghost use Rattle.vd_transfer.specs.Changes.{state_after};
 ghost use Rattle.vd_transfer.specs.declared.change.Base.TheVariants.{Same};
 ghost use Rattle.packed_cert.specs.Below.{values_in, HaveValues};
 ghost use Rattle.packed_cert.specs.Points.{state_in};
-ghost use Rattle.packed_cert.specs.Moves.{IsMoved};
+ghost use Rattle.packed_cert.specs.Moves.{IsMoved, IsBelowOwn};
+ghost use Rattle.packed_cert.specs.Standing.{IsOutside};
 
 use crate::below::is_below_at;
 use crate::packed_points::PackedPoint;
@@ -49,10 +50,8 @@ pub(crate) fn is_changed_below_at(
 fn is_put_below(s: &State, c: &Change, row: Anew, place: Option<usize>) -> bool
     requires hand { AreWell s.now.regs }
     requires well { AreWell (state_after s.now c.now).regs }
-    ensures { IsTrue result → (i : ℕ) → place ≡ Some i → i < 27
-        → (i < row.first) ⊎ (row.behind ≤ i)
-        → IsBelow (slice_index_or (state_after s.now c.now).regs i any_val)
-        (slice_index_or s.now.regs i any_val) }
+    ensures { IsTrue result → (i : ℕ) → place ≡ Some i → i < 27 → IsOutside row i
+        → IsBelowOwn s.now c.now i }
 {
     let Some(i) = place else {
         return true;
@@ -69,9 +68,7 @@ pub(crate) fn are_puts_below(s: &State, c: &Change, row: Anew) -> bool
     requires base { c.now.base ≡ Same }
     requires hand { AreWell s.now.regs }
     requires well { AreWell (state_after s.now c.now).regs }
-    ensures { IsTrue result → (i : ℕ) → i < 27 → (i < row.first) ⊎ (row.behind ≤ i)
-        → IsBelow (slice_index_or (state_after s.now c.now).regs i any_val)
-        (slice_index_or s.now.regs i any_val) }
+    ensures { IsTrue result → (i : ℕ) → i < 27 → IsOutside row i → IsBelowOwn s.now c.now i }
 {
     let _regs = &s.regs[..];
     if !is_put_below(s, c, row, c.first.at) {

@@ -3,14 +3,17 @@ ghost use Rattle.std.specs.Prelude.{◌≡◌, ◌≤◌, ◌+◌, ◌^◌, leng
 ghost use Rattle.std.specs.Option.{option_map};
 ghost use Rattle.tcd_base.specs.Reading.{Reads};
 ghost use Rattle.depth_cert.specs.Answers.{IsFaultOf};
-ghost use Rattle.depth_cert.specs.Grammar.{key_after, exits_at, node_after, is_above};
+ghost use Rattle.depth_cert.specs.Grammar.{key_after, exit_at, exits_at, node_after, is_above};
 ghost use Rattle.depth_cert.specs.Keys.{key_number, number_of_key};
 ghost use Rattle.depth_cert.specs.Certs.{count_points};
-ghost use Rattle.packed_cert.specs.Nodes.{exit_in, HasExit, node_of, nodes_of, HasPlaces};
+ghost use Rattle.packed_cert.specs.Nodes.{exit_in, HasExit, node_of, nodes_of, HasPlaces, ExitStands, ReadsExit};
+ghost use Rattle.packed_cert.specs.Points.{StandsAt};
 
 use crate::node_places::NodePlaces;
-use crate::point_fields::{Room, read_points};
-use depth_cert::{CertErr, Exit, Key, fault, number_of, read_exit, read_has_exit, read_need};
+use crate::point_fields::{ExitRoom, Room, read_points};
+use crate::state_places::ExitPlaces;
+use crate::values_after::passes;
+use depth_cert::{CertErr, Key, fault, number_of, read_exit, read_has_exit, read_need};
 use std::alloc::Global;
 use tcd_base::{Cursor, FormErr, read_u8, read_u32};
 
@@ -63,6 +66,34 @@ fn read_key(c: &mut Cursor<'_>, before: &[NodePlaces]) -> Result<Key, FormErr>
     })
 }
 
+/// Reads an exit into its room, or passes over it where the bytes of the one that was read last come
+/// again.
+fn read_exit_like(
+    c: &mut Cursor<'_>,
+    bytes: &[u8],
+    version: u8,
+    room: &mut ExitRoom,
+) -> Result<(), FormErr>
+    requires short { length c.old.bytes ≤ 2 ^ 30 }
+    requires same { c.old.bytes ≡ bytes.now }
+    requires last { IfSome room.old.last (ExitStands version bytes.now) }
+    ensures ok { OnOk result (ReadsExit version c.old c.new) }
+    ensures err { IfErr result (λ e. exit_at version c.old ≡ Err e) }
+    ensures last { OnOk result (IfSome room.new.last (ExitStands version bytes.now)) }
+    ensures bytes { c.new.bytes ≡ c.old.bytes }
+{
+    if let Some(at) = room.last {
+        if passes(c, bytes, at.start, at.end - at.start) {
+            return Ok(());
+        }
+    }
+    let start = c.place();
+    read_exit(c, version, &mut room.exit)?;
+    let end = c.place();
+    room.last = Some(ExitPlaces { start, end });
+    Ok(())
+}
+
 /// The place of a node's exit, if it has one; it is read into its room.
 #[tactic(auto, unfolding(depth_cert::specs::Grammar::exits_at))]
 fn read_exits(
@@ -70,21 +101,23 @@ fn read_exits(
     bytes: &[u8],
     version: u8,
     kind: u8,
-    room: &mut Exit,
+    room: &mut ExitRoom,
 ) -> Result<Option<u32>, FormErr>
     requires short { length c.old.bytes ≤ 2 ^ 30 }
     requires same { c.old.bytes ≡ bytes.now }
+    requires last { IfSome room.old.last (ExitStands version bytes.now) }
     ensures ok { IfOk result (λ e.
         exits_at version kind c.old ≡ Ok (option_map (exit_in version bytes.now) e, c.new)) }
     ensures err { IfErr result (λ e. exits_at version kind c.old ≡ Err e) }
     ensures exit { IfOk result (λ e. IfSome e (HasExit version bytes.now)) }
+    ensures last { OnOk result (IfSome room.new.last (ExitStands version bytes.now)) }
     ensures bytes { c.new.bytes ≡ c.old.bytes }
 {
     if !read_has_exit(c, kind)? {
         return Ok(None);
     }
     let place = c.place() as u32;
-    let _read = read_exit(c, version, room)?;
+    read_exit_like(c, bytes, version, room)?;
     Ok(Some(place))
 }
 
@@ -102,6 +135,8 @@ pub(crate) fn read_node(
     requires same { c.old.bytes ≡ bytes.now }
     requires used { room.old.used ≡ count_points (nodes_of version bytes.now before.now) }
     requires few { room.old.used ≤ 2 ^ 16 }
+    requires exit { IfSome room.old.exit.last (ExitStands version bytes.now) }
+    requires state { IfSome room.old.last (StandsAt version bytes.now room.old.state) }
     ensures ok { IfOk result (λ n.
         node_after version (nodes_of version bytes.now before.now) c.old
         ≡ Ok (node_of version bytes.now n, c.new)) }
@@ -110,6 +145,9 @@ pub(crate) fn read_node(
     ensures places { IfOk result (HasPlaces version bytes.now) }
     ensures used { IfOk result (λ n. room.new.used ≡ room.old.used + length n.points.items) }
     ensures few { OnOk result (room.new.used ≤ 2 ^ 16) }
+    ensures exit { OnOk result (IfSome room.new.exit.last (ExitStands version bytes.now)) }
+    ensures state { OnOk result
+        (IfSome room.new.last (StandsAt version bytes.now room.new.state)) }
     ensures bytes { c.new.bytes ≡ c.old.bytes }
 {
     let key = read_key(c, before)?;

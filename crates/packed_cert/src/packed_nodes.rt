@@ -62,12 +62,12 @@ impl<'a> PackedNode<'a> {
         }
     }
 
-    /// A walk over the points, which stand by ascending address.
-    pub fn points(&self) -> PointWalk<'a>
-        ensures all { result.left ≡ self.now.points }
+    /// Puts a walk before the first of the points, which stand by ascending address.
+    pub fn walk(&self, walk: &mut PointWalk<'a>)
+        ensures all { walk.new.left ≡ self.now.points }
         ensures rising { ArePoints self.now.points }
     {
-        PointWalk::over(self.bytes, self.version, self.points)
+        walk.go_before(self.bytes, self.version, self.points);
     }
 
     /// The state at the address of a point, or nothing where there is none; point number `near` is

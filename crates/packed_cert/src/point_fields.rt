@@ -1,5 +1,5 @@
 // The fields of points, read; what stands again is passed over.
-ghost use Rattle.std.specs.Prelude.{◌≡◌, ◌≤◌, ◌+◌, ◌^◌, length, map, vec_len, true, false, None, Ok, Err, OnOk, IfOk, IfErr, IfSome, IsTrue};
+ghost use Rattle.std.specs.Prelude.{◌≡◌, ◌≤◌, ◌+◌, ◌^◌, ℕ, List, length, map, vec_len, true, false, Ok, Err, OnOk, IfOk, IfErr, IfSome, IsTrue, IsFalse};
 ghost use Rattle.std.specs.List.{All};
 ghost use Rattle.tcd_base.specs.Reading.{Reads};
 ghost use Rattle.depth_cert.specs.Grammar.{values_at, state_at, address_after, points_at, is_above};
@@ -10,7 +10,7 @@ ghost use Rattle.packed_cert.specs.Points.{HasState, StandsAt, points_in};
 ghost use Rattle.packed_cert.specs.Moves.{AreMoves};
 
 use crate::packed_points::PackedPoint;
-use crate::state_places::{Anew, ReadState, StatePlaces};
+use crate::state_places::{Anew, ExitPlaces, ReadState, StatePlaces};
 use crate::values_after::{none_anew, passes, read_values_after};
 use arrayvec::ArrayVec;
 use depth_cert::{CertErr, Exit, fault, read_flag, read_locals, read_point_count, read_values};
@@ -35,7 +35,6 @@ fn read_values_like(
     ensures err { IfErr result (λ e. values_at version (length out.old) c.old ≡ Err e) }
     ensures anew { IfOk result (AreAnew out.old out.new) }
     ensures from { IfOk result (IsFrom bytes.now c.old.place) }
-    ensures whole { IfOk result (λ a. before ≡ None → IsWhole (length out.old) a) }
     ensures bytes { c.new.bytes ≡ c.old.bytes }
 {
     if let Some(at) = before {
@@ -73,7 +72,6 @@ fn read_state_fields(
         (λ r. StandFrom version bytes.now out.new.regs r.0 c.new.place) }
     ensures anew { IfOk result (λ r. AreAnew out.old.regs out.new.regs r.1) }
     ensures from { IfOk result (λ r. IsFrom bytes.now r.0 r.1) }
-    ensures whole { IfOk result (λ r. before ≡ None → IsWhole 27 r.1) }
     ensures bytes { c.new.bytes ≡ c.old.bytes }
 {
     out.ie = read_flag(c)?;
@@ -103,7 +101,7 @@ pub(crate) fn read_state_after(
     ensures held { IfOk result (λ r. StandsAt version bytes.now out.new r.at) }
     ensures anew { IfOk result (λ r. AreAnew out.old.regs out.new.regs r.anew) }
     ensures from { IfOk result (λ r. IsFrom bytes.now r.at.values r.anew) }
-    ensures whole { IfOk result (λ r. before ≡ None → IsWhole 27 r.anew) }
+    ensures other { IfOk result (λ r. r.same ≡ false) }
     ensures bytes { c.new.bytes ≡ c.old.bytes }
 {
     let start = c.place();
@@ -114,40 +112,64 @@ pub(crate) fn read_state_after(
         values: fields.0,
         end,
     };
-    Ok(ReadState { at, anew: fields.1 })
+    Ok(ReadState {
+        at,
+        anew: fields.1,
+        same: false,
+    })
 }
 
 /// Reads a state into a place, which may hold one that stands elsewhere: where the same bytes come
-/// again, they are passed over at once. Tells whether they do.
+/// again, they are passed over at once.
 pub(crate) fn read_state_like(
     c: &mut Cursor<'_>,
     bytes: &[u8],
     version: u8,
     before: Option<StatePlaces>,
     out: &mut State,
-) -> Result<(ReadState, bool), FormErr>
+) -> Result<ReadState, FormErr>
     requires short { length c.old.bytes ≤ 2 ^ 30 }
     requires same { c.old.bytes ≡ bytes.now }
     requires before { IfSome before (StandsAt version bytes.now out.old) }
     ensures ok { OnOk result (state_at version c.old ≡ Ok (out.new, c.new)) }
     ensures err { IfErr result (λ e. state_at version c.old ≡ Err e) }
-    ensures held { IfOk result (λ r. StandsAt version bytes.now out.new r.0.at) }
-    ensures anew { IfOk result (λ r. AreAnew out.old.regs out.new.regs r.0.anew) }
-    ensures from { IfOk result (λ r. IsFrom bytes.now r.0.at.values r.0.anew) }
-    ensures whole { IfOk result
-        (λ r. before ≡ None → IsWhole 27 r.0.anew × (r.1 ≡ false)) }
-    ensures again { IfOk result (λ r. IsTrue r.1 → out.new ≡ out.old) }
+    ensures held { IfOk result (λ r. StandsAt version bytes.now out.new r.at) }
+    ensures anew { IfOk result (λ r. AreAnew out.old.regs out.new.regs r.anew) }
+    ensures from { IfOk result (λ r. IsFrom bytes.now r.at.values r.anew) }
+    ensures again { IfOk result (λ r. IsTrue r.same → out.new ≡ out.old) }
     ensures bytes { c.new.bytes ≡ c.old.bytes }
 {
     if let Some(at) = before {
         if passes(c, bytes, at.start, at.end - at.start) {
-            let anew = none_anew();
-            return Ok((ReadState { at, anew }, true));
+            return Ok(ReadState {
+                at,
+                anew: none_anew(),
+                same: true,
+            });
         }
     }
-    match read_state_after(c, bytes, version, before, out) {
-        Ok(read) => Ok((read, false)),
-        Err(e) => Err(e),
+    read_state_after(c, bytes, version, before, out)
+}
+
+/// What a point keeps of the state that was read. Of a node's first point all values count as read
+/// anew, since any state may stand before it.
+fn told(read: ReadState, first: bool) -> ReadState
+    ensures first { IsTrue first → IsWhole 27 result.anew × (result.same ≡ false) }
+    ensures later { IsFalse first → result ≡ read }
+    ensures from { (bytes : List ℕ) → IsFrom bytes read.at.values read.anew
+        → IsFrom bytes read.at.values result.anew }
+{
+    if !first {
+        return read;
+    }
+    ReadState {
+        at: read.at,
+        anew: Anew {
+            first: 0,
+            behind: 27,
+            from: read.at.values,
+        },
+        same: false,
     }
 }
 
@@ -184,12 +206,20 @@ fn read_address(c: &mut Cursor<'_>, before: &[PackedPoint]) -> Result<u32, FormE
     Ok(addr)
 }
 
+/// Room for an exit, and where the one that was read there last stands.
+#[derive(Drop)]
+pub(crate) struct ExitRoom {
+    pub(crate) exit: Exit,
+    pub(crate) last: Option<ExitPlaces>,
+}
+
 /// What the reading of a certificate carries from node to node: room for an exit and for a state,
-/// and how many points were read.
+/// where the state that was read last stands, and how many points were read.
 #[derive(Drop)]
 pub(crate) struct Room {
-    pub(crate) exit: Exit,
+    pub(crate) exit: ExitRoom,
     pub(crate) state: State,
+    pub(crate) last: Option<StatePlaces>,
     pub(crate) used: usize,
 }
 
@@ -205,6 +235,7 @@ pub(crate) fn read_points(
     requires short { length c.old.bytes ≤ 2 ^ 30 }
     requires same { c.old.bytes ≡ bytes.now }
     requires used { room.old.used ≤ 2 ^ 16 }
+    requires state { IfSome room.old.last (StandsAt version bytes.now room.old.state) }
     ensures ok { IfOk result (λ ps.
         points_at version room.old.used c.old ≡ Ok (points_in version bytes.now ps.items, c.new)) }
     ensures err { IfErr result (IsFaultOf (points_at version room.old.used c.old)) }
@@ -213,22 +244,24 @@ pub(crate) fn read_points(
     ensures moves { IfOk result (λ ps. AreMoves version bytes.now ps.items) }
     ensures used { IfOk result (λ ps. room.new.used ≡ room.old.used + vec_len ps) }
     ensures few { OnOk result (room.new.used ≤ 2 ^ 16) }
+    ensures exit { room.new.exit ≡ room.old.exit }
+    ensures state { OnOk result
+        (IfSome room.new.last (StandsAt version bytes.now room.new.state)) }
     ensures bytes { c.new.bytes ≡ c.old.bytes }
 {
     let count = read_point_count(c, room.used)?;
     let mut points = Vec::new(alloc);
-    let mut held = None;
-    for _i in 0..count {
+    for i in 0..count {
         let addr = read_address(c, &points)?;
         let place = c.place() as u32;
-        let (read, same) = read_state_like(c, bytes, version, held, &mut room.state)?;
-        held = Some(read.at);
-        let anew = read.anew;
+        let read = read_state_like(c, bytes, version, room.last, &mut room.state)?;
+        room.last = Some(read.at);
+        let kept = told(read, i == 0);
         points.push(PackedPoint {
             addr,
             place,
-            anew,
-            same,
+            anew: kept.anew,
+            same: kept.same,
         })?;
     }
     room.used += points.len();

@@ -33,10 +33,12 @@ pub(crate) fn are_lower_below_at(s: &State, bytes: &[u8], version: u8, place: us
     let _regs = &s.regs[..];
     let mut at = place;
     for i in 0..14 {
-        if !is_below_at(lower_value(&s.regs, i), bytes, version, at) {
+        let tag = bytes[at];
+        // Below any value is each: it isn't looked for.
+        if tag != 0 && !is_below_at(lower_value(&s.regs, i), bytes, version, at) {
             return false;
         }
-        at += length_by(bytes[at]);
+        at += length_by(tag);
     }
     true
 }
@@ -76,11 +78,11 @@ fn is_restored_below(regs: &[Val; 27], i: usize, low: ValuesAt<'_>, high: Values
 {
     are_bytes(low.bytes);
     are_bytes(high.bytes);
+    // Below any value is each.
+    if high.bytes[high.place] == 0 {
+        return true;
+    }
     if is_lower_slot(i) {
-        // Below any value is each.
-        if high.bytes[high.place] == 0 {
-            return true;
-        }
         return is_read_below(low, high);
     }
     is_below_at(&regs[i], high.bytes, high.version, high.place)

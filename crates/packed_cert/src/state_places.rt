@@ -17,9 +17,18 @@ pub struct Anew {
     pub(crate) from: usize,
 }
 
-/// Where a state stands that was read, and among which of its values are all that were read anew.
+/// Where a state stands that was read, among which of its values are all that were read anew, and
+/// whether all of it stood before.
 #[derive(Clone, Copy)]
 pub(crate) struct ReadState {
     pub(crate) at: StatePlaces,
     pub(crate) anew: Anew,
+    pub(crate) same: bool,
+}
+
+/// The place of an exit's first byte, and the place behind it.
+#[derive(Clone, Copy)]
+pub(crate) struct ExitPlaces {
+    pub(crate) start: usize,
+    pub(crate) end: usize,
 }

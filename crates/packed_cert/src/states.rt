@@ -12,11 +12,9 @@ use crate::below::are_below_at;
 use crate::changed::{are_puts_below, is_changed_below_at, is_row_below};
 use crate::exits::ExitAt;
 use crate::packed_points::PackedPoint;
-use crate::point_fields::{blank, read_state_after};
 use crate::restored::{ValuesAt, are_restored_below};
 use arrayvec::ArrayVec;
 use std::marker::Model;
-use tcd_base::Cursor;
 use value_domain::{State, Val, are_implied};
 use vd_transfer::Change;
 
@@ -51,17 +49,6 @@ impl<'a> StateAt<'a> {
             version,
             place,
         }
-    }
-
-    /// The state, read.
-    pub fn read(&self) -> State
-        ensures { result ≡ self.now }
-    {
-        let mut c = Cursor::new(self.bytes);
-        let _front = c.take(self.place);
-        let mut out = blank();
-        let _read = read_state_after(&mut c, self.bytes, self.version, None, &mut out);
-        out
     }
 }
 
@@ -101,15 +88,6 @@ impl<'a> StateAt<'a> {
     ghost use Rattle.depth_cert.specs.Exits.{after_of};
     ghost use Rattle.vd_transfer.specs.Changes.{state_after};
 
-    /// Whether each value is below that of the same register, compared where these stand.
-    pub fn is_above(&self, low: &[Val; 27]) -> bool
-        requires { AreWell low.now }
-        ensures { IsTrue result ↔ AreBelow low.now self.now.regs }
-    {
-        let place = place_of_values(self.bytes, self.version, self.place);
-        are_below_at(low, self.bytes, self.version, place)
-    }
-
     /// Whether this context covers another.
     pub fn covers_context(&self, ie: bool, ccpn: u8, lower: bool) -> bool
         ensures { IsTrue result
@@ -130,7 +108,8 @@ impl<'a> StateAt<'a> {
         if !are_implied(self.locals().as_slice(), s.locals.as_slice()) {
             return false;
         }
-        self.is_above(&s.regs)
+        let place = place_of_values(self.bytes, self.version, self.place);
+        are_below_at(&s.regs, self.bytes, self.version, place)
     }
 
     /// Whether this state covers a changed one, which is never built.

@@ -1,5 +1,5 @@
 // Points of a node one after another, with room for one state.
-ghost use Rattle.std.specs.Prelude.{◌≡◌, ◌≤◌, ◌<◌, ◌-◌, ◌^◌, length, drop, IfSome, IsTrue};
+ghost use Rattle.std.specs.Prelude.{◌≡◌, ◌≤◌, ◌<◌, ◌-◌, ◌^◌, [], length, drop, IfSome, IsTrue};
 ghost use Rattle.packed_cert.specs.Points.{state_in, HasState};
 ghost use Rattle.packed_cert.specs.Standing.{AreAnew};
 ghost use Rattle.packed_cert.specs.Below.{values_in, HaveValues};
@@ -52,21 +52,32 @@ impl<'a> PointWalk<'a> {
     ghost use Rattle.packed_cert.specs.Moves.{AreMoves};
     ghost use Rattle.packed_cert.specs.Walks.{StepsTo, RepeatsAt, CoversNext};
 
-    /// A walk before the first of the points.
-    pub(crate) fn over(bytes: &'a [u8], version: u8, points: &'a [PackedPoint]) -> PointWalk<'a>
-        requires short { length bytes.now ≤ 2 ^ 30 }
-        requires states { All (λ p. HasState version bytes.now p.place) points.now }
-        requires moves { AreMoves version bytes.now points.now }
-        ensures { result.left ≡ points_in version bytes.now points.now }
+    /// A walk over no points.
+    pub fn none() -> PointWalk<'a>
+        ensures { result.left ≡ [] }
     {
         PointWalk {
-            bytes,
-            version,
-            points,
+            bytes: &[],
+            version: 1,
+            points: &[],
             next: 0,
             anew: none_anew(),
             state: blank(),
         }
+    }
+
+    /// Goes before the first of these points; the state at hand is room for theirs.
+    pub(crate) fn go_before(&mut self, bytes: &'a [u8], version: u8, points: &'a [PackedPoint])
+        requires short { length bytes.now ≤ 2 ^ 30 }
+        requires states { All (λ p. HasState version bytes.now p.place) points.now }
+        requires moves { AreMoves version bytes.now points.now }
+        ensures { self.new.left ≡ points_in version bytes.now points.now }
+    {
+        self.bytes = bytes;
+        self.version = version;
+        self.points = points;
+        self.next = 0;
+        self.anew = none_anew();
     }
 
     /// Goes on to the next point and gives its address, or nothing behind the last.

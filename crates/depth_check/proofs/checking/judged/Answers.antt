@@ -1,4 +1,5 @@
-use Rattle.std.proofs.Common.{◌≡◌, ◌^◌, ◌<◌, length, get_or, Some, None, sym, ap, ◌∙◌, subst, refl, arith}
+use Rattle.std.proofs.Common.{◌≡◌, ◌^◌, ◌<◌, ◌+◌, take, length, get_or, Some, None, sym, ap, ◌∙◌, subst, refl, arith}
+use Rattle.std.specs.Prelude.{All}
 use Rattle.std.proofs.lemmas.Option.{slice_get_within, get_or_from_slice_get, slice_get-get_or, none-some}
 use Rattle.elf_image.specs.Images.{ImageData}
 use Rattle.depth_cert.specs.declared.keys.Key.{Key}
@@ -25,7 +26,7 @@ returns-in-Some-node_fault c =
     subst (λ (k : Key). IsFirstFault c.args.image.now c.args.plan.now c.args.cert.now c.in-Some-node_fault.fault.rule k c.in-Some-node_fault.fault.addr)
     (sym (c.node.invariant.same_key ∙ ap (λ (n : NodeData). n.key) c.node.view_is))
     (node_first c.args.image.now c.args.plan.now c.args.cert.now (subst IsCert c.cert.view_is c.cert.invariant.limits) c.in-Some.ensures.holds nodes refl c.loop-i.i node c.in-Some-node_fault.fault.rule
-    c.in-Some-node_fault.fault.addr (slice_get_within nodes c.loop-i.i node found) (sym (get_or_from_slice_get nodes c.loop-i.i node node found)) c.loop-i.invariant c.in-Some-node_fault.ensures)
+    c.in-Some-node_fault.fault.addr (slice_get_within nodes c.loop-i.i node found) (sym (get_or_from_slice_get nodes c.loop-i.i node node found)) c.loop-i.invariant.before c.in-Some-node_fault.ensures.fault)
 
 pub loop-i-preserved : goal.loop-i-preserved
 loop-i-preserved c =
@@ -33,13 +34,20 @@ loop-i-preserved c =
     elim c.match-get.branch [
       | in-Some-get+in_default-node_fault w ↦
           let found = sym w.in-Some-get.ensures in
-          all_more (HoldsAtNode c.args.image.now c.args.plan.now c.args.cert.now) nodes c.loop-i.i w.in-Some-get.node (slice_get_within nodes c.loop-i.i w.in-Some-get.node found)
-          (sym (get_or_from_slice_get nodes c.loop-i.i w.in-Some-get.node w.in-Some-get.node found)) c.loop-i.invariant w.in_default-node_fault.ensures
+          record {
+            before =
+                all_more (HoldsAtNode c.args.image.now c.args.plan.now c.args.cert.now) nodes c.loop-i.i w.in-Some-get.node (slice_get_within nodes c.loop-i.i w.in-Some-get.node found)
+                (sym (get_or_from_slice_get nodes c.loop-i.i w.in-Some-get.node w.in-Some-get.node found)) c.loop-i.invariant.before w.in_default-node_fault.ensures.fault;
+            asked = rw w.scratch-is w.node_fault.ensures.asked;
+          }
       | in_default-get w ↦
+          let none : All (HoldsAtNode c.args.image.now c.args.plan.now c.args.cert.now) (take (c.loop-i.i + 1) nodes) =
           (λ k d h.
           let within : c.loop-i.i < length nodes = omega (arith, c.loop-i-test.true, c.len-i-end.ensures) in
           let e : None ≡ Some (get_or nodes c.loop-i.i d) = w.in_default-get.ensures ∙ slice_get-get_or nodes c.loop-i.i d within in
           absurd (none-some _ e))
+          in
+          record { before = none; asked = rw w.scratch-is c.loop-i.invariant.asked }
     ]
 
 pub returns : goal.returns
@@ -47,7 +55,7 @@ returns c =
     let accepts : Accepts c.args.image.now c.args.plan.now c.args.cert.now = record {
       start = c.in-Some.ensures.holds;
       nodes =
-          all_done (HoldsAtNode c.args.image.now c.args.plan.now c.args.cert.now) (c.args.cert.now).nodes c.loop-i.i (omega (arith, c.len-i-end.ensures, c.loop-i-test.false)) c.loop-i.invariant;
+          all_done (HoldsAtNode c.args.image.now c.args.plan.now c.args.cert.now) (c.args.cert.now).nodes c.loop-i.i (omega (arith, c.len-i-end.ensures, c.loop-i-test.false)) c.loop-i.invariant.before;
     } in
     let found : find_node (start_key c.args.image.now c.args.plan.now) (c.args.cert.now).nodes ≡ Some c.in-Some.start = c.in-Some.ensures.node in
     let need : c.from.result ≡ (c.in-Some.start).need = c.from.ensures ∙ c.start.invariant.same_need ∙ ap (λ (n : NodeData). n.need) c.start.view_is in

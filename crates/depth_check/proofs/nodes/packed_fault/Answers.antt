@@ -12,16 +12,16 @@ use Rattle.value_domain.specs.State.{AreValues}
 use Rattle.depth_check.specs.declared.nodes.Fault.{Fault}
 use Rattle.depth_check.specs.Finding.{Finds}
 use Rattle.depth_check.specs.NodeFaults.{IsNodeFault, first_of}
-use Rattle.depth_check.specs.Asking.{AsksSame}
-use Rattle.depth_check.proofs.AskedLaws.{interrupts_at, asked_no_more, again_holds}
+use Rattle.depth_check.specs.Asking.{InterruptsHold}
+use Rattle.depth_check.proofs.AskedLaws.{interrupts_at}
 use Rattle.depth_check.proofs.Deciding.{refuted}
 use Rattle.depth_check.proofs.RepeatLaws.{looks_ahead, repeats_covers, known_values}
 use Rattle.depth_check.proofs.NodeLaws.{fault_at, none_at, entry_alone}
 use Rattle.depth_check.proofs.WalkLaws.{stands_behind, split_more}
 use Rattle.depth_check.proofs.nodes.packed_fault.Goals as goal
 
-pub returns-in-Some-first_of : goal.returns-in-Some-first_of
-returns-in-Some-first_of c =
+pub returns-in-Some-first_of-clause-fault : goal.returns-in-Some-first_of-clause-fault
+returns-in-Some-first_of-clause-fault c =
     let inv = c.loop-addr.invariant in
     let points = c.args.node.now.points in
     let p : Point = record { addr = c.in-Some.addr; state = c.step.new.self.current } in
@@ -31,7 +31,7 @@ returns-in-Some-first_of c =
     subst (λ (s : State). let q : Point = record { addr = c.in-Some.addr; state = s } in Finds (RuleHolds c.args.image.now c.args.plan.now c.args.cert.now c.args.node.now q) c.broken_by_point-found.result) c.state-s.ensures
     (rw c.near-frame.ensures at c.broken_by_point-found.ensures)
     in
-    fault_at c.args.image.now c.args.plan.now c.args.cert.now c.args.node.now c.requires.member points refl c.points-walk.ensures.rising (length inv.done) p c.packed_holds_at_entry-good.result c.broken_by_point-found.result c.in-Some-first_of.fault b.within b.here
+    fault_at c.args.image.now c.args.plan.now c.args.cert.now c.args.node.now c.requires.member points refl c.walk.ensures.rising (length inv.done) p c.packed_holds_at_entry-good.result c.broken_by_point-found.result c.in-Some-first_of.fault b.within b.here
     (subst (λ (l : List Point). All (λ (q : Point). (r : ℕ) → RuleHolds c.args.image.now c.args.plan.now c.args.cert.now c.args.node.now q r) l) (sym b.before) inv.all)
     finds c.is_word.ensures
     (subst (λ (n : NodeData). (n.key).entry < 2 ^ 32) c.node.view_is (omega arith))
@@ -41,7 +41,7 @@ returns-in-Some-first_of c =
 pub broken_by_point-found-requires-clause-again : goal.broken_by_point-found-requires-clause-again
 broken_by_point-found-requires-clause-again c = λ again.
     rw c.near-frame.ensures
-    (again_holds c.args.plan.now c.args.cert.now c.args.node.now c.loop-addr.asked c.state-s.result.now c.loop-addr.invariant.asked (c.is_asked-again.ensures again))
+    (c.have-again.ensures again c.args.plan.now c.args.cert.now c.loop-addr.invariant.asked)
 
 pub broken_by_point-found-requires-clause-known : goal.broken_by_point-found-requires-clause-known
 broken_by_point-found-requires-clause-known c = λ known.
@@ -52,19 +52,19 @@ broken_by_point-found-requires-clause-known c = λ known.
     in
     subst (λ (l : Limits). AreValues l (c.state-s.result.now).regs) (sym c.requires.limits)
     (subst (λ (s : State). AreValues b s.regs) (sym c.state-s.ensures)
-    (known_values b (c.loop-addr.walk).current c.step.new.self c.in-Some.ensures.1 (c.loop-addr.invariant.known here.0) anew))
+    (known_values b (c.loop-addr.scratch.walk).current c.step.new.self c.in-Some.ensures.1 (c.loop-addr.invariant.known here.0) anew))
 
 pub broken_by_point-found-requires-clause-next : goal.broken_by_point-found-requires-clause-next
 broken_by_point-found-requires-clause-next c =
     let p : Point = record { addr = c.in-Some.addr; state = c.step.new.self.current } in
     rw c.near-frame.ensures
-    (repeats_covers c.args.node.now c.loop-addr.invariant.done c.loop-addr.walk.left c.step.new.self p c.repeats_at-repeats.result c.state-s.result.now c.points-walk.ensures.rising c.loop-addr.invariant.split c.in-Some.ensures.0 c.state-s.ensures c.repeats_at-repeats.ensures)
+    (repeats_covers c.args.node.now c.loop-addr.invariant.done c.loop-addr.scratch.walk.left c.step.new.self p c.repeats_at-repeats.result c.state-s.result.now c.walk.ensures.rising c.loop-addr.invariant.split c.in-Some.ensures.0 c.state-s.ensures c.repeats_at-repeats.ensures)
 
 pub broken_by_point-found-requires-clause-walk : goal.broken_by_point-found-requires-clause-walk
 broken_by_point-found-requires-clause-walk c =
     let p : Point = record { addr = c.in-Some.addr; state = c.step.new.self.current } in
     rw c.near-frame.ensures
-    (looks_ahead c.args.node.now c.loop-addr.invariant.done c.loop-addr.walk.left c.step.new.self p c.state-s.result.now c.points-walk.ensures.rising c.loop-addr.invariant.split c.in-Some.ensures.0 c.state-s.ensures)
+    (looks_ahead c.args.node.now c.loop-addr.invariant.done c.loop-addr.scratch.walk.left c.step.new.self p c.state-s.result.now c.walk.ensures.rising c.loop-addr.invariant.split c.in-Some.ensures.0 c.state-s.ensures)
 
 pub loop-addr-preserved : goal.loop-addr-preserved
 loop-addr-preserved c =
@@ -76,10 +76,10 @@ loop-addr-preserved c =
     (rw c.near-frame.ensures at c.broken_by_point-found.ensures)
     in
     let told = ap (λ (n : NodeData). first_of c.packed_holds_at_entry-good.result (n.key).entry c.in-Some.addr c.broken_by_point-found.result) (sym c.node.view_is) ∙ sym c.first_of.ensures ∙ c.in_default-first_of.is in
-    let holds = none_at c.args.image.now c.args.plan.now c.args.cert.now c.args.node.now c.requires.member points refl c.points-walk.ensures.rising p c.packed_holds_at_entry-good.result c.broken_by_point-found.result told finds in
+    let holds = none_at c.args.image.now c.args.plan.now c.args.cert.now c.args.node.now c.requires.member points refl c.walk.ensures.rising p c.packed_holds_at_entry-good.result c.broken_by_point-found.result told finds in
     record {
       done = inv.done ++ p ∷ [];
-      split = split_more points inv.done c.loop-addr.walk.left c.step.new.self.left p inv.split c.in-Some.ensures.0;
+      split = split_more points inv.done c.loop-addr.scratch.walk.left c.step.new.self.left p inv.split c.in-Some.ensures.0;
       all = All-push (λ (q : Point). (r : ℕ) → RuleHolds c.args.image.now c.args.plan.now c.args.cert.now c.args.node.now q r) inv.done p inv.all holds;
       known = λ t. (holds 2).values refl;
       asked = inv.asked;
@@ -95,26 +95,26 @@ loop-addr-preserved-then-is_worth_keeping c =
     (rw c.near-frame.ensures at c.broken_by_point-found.ensures)
     in
     let told = ap (λ (n : NodeData). first_of c.packed_holds_at_entry-good.result (n.key).entry c.in-Some.addr c.broken_by_point-found.result) (sym c.node.view_is) ∙ sym c.first_of.ensures ∙ c.in_default-first_of.is in
-    let holds = none_at c.args.image.now c.args.plan.now c.args.cert.now c.args.node.now c.requires.member points refl c.points-walk.ensures.rising p c.packed_holds_at_entry-good.result c.broken_by_point-found.result told finds in
+    let holds = none_at c.args.image.now c.args.plan.now c.args.cert.now c.args.node.now c.requires.member points refl c.walk.ensures.rising p c.packed_holds_at_entry-good.result c.broken_by_point-found.result told finds in
     record {
       done = inv.done ++ p ∷ [];
-      split = split_more points inv.done c.loop-addr.walk.left c.step.new.self.left p inv.split c.in-Some.ensures.0;
+      split = split_more points inv.done c.loop-addr.scratch.walk.left c.step.new.self.left p inv.split c.in-Some.ensures.0;
       all = All-push (λ (q : Point). (r : ℕ) → RuleHolds c.args.image.now c.args.plan.now c.args.cert.now c.args.node.now q r) inv.done p inv.all holds;
       known = λ t. (holds 2).values refl;
-      asked = λ (t : State) fewer.
-          asked_no_more c.args.plan.now c.args.cert.now c.args.node.now c.at.result c.step.new.self.current t
-          (subst (λ (s : State). AsksSame c.at.result s) c.state-s-in-Some.ensures c.at.ensures) fewer
-          (interrupts_at c.args.image.now c.args.plan.now c.args.cert.now c.args.node.now p holds);
+      asked =
+          c.add.ensures c.args.plan.now c.args.cert.now inv.asked
+          (subst (λ (s : State). InterruptsHold c.args.plan.now c.args.cert.now c.args.node.now s) (sym c.state-s-in-Some.ensures)
+          (interrupts_at c.args.image.now c.args.plan.now c.args.cert.now c.args.node.now p holds));
     }
 
-pub returns-else-good : goal.returns-else-good
-returns-else-good c =
+pub returns-else-good-clause-fault : goal.returns-else-good-clause-fault
+returns-else-good-clause-fault c =
     let inv = c.loop-addr.invariant in
     let points = c.args.node.now.points in
     let whole : points ≡ inv.done = inv.split ∙ ap (λ (l : List Point). inv.done ++ l) c.in_default.ensures.0 ∙ append-nil inv.done in
     subst (λ (f : Fault). IsNodeFault c.args.image.now c.args.plan.now c.args.cert.now c.args.node.now f.rule f.addr) (sym c.entry_fault.ensures)
     (subst (λ (n : NodeData). IsNodeFault c.args.image.now c.args.plan.now c.args.cert.now c.args.node.now 2 (n.key).entry) (sym c.node.view_is)
-    (entry_alone c.args.image.now c.args.plan.now c.args.cert.now c.args.node.now c.requires.member points refl c.points-walk.ensures.rising
+    (entry_alone c.args.image.now c.args.plan.now c.args.cert.now c.args.node.now c.requires.member points refl c.walk.ensures.rising
     (subst (λ (l : List Point). All (λ (q : Point). (r : ℕ) → RuleHolds c.args.image.now c.args.plan.now c.args.cert.now c.args.node.now q r) l) (sym whole) inv.all)
     (refuted _ _ c.if-good.false (subst (λ (l : Limits). IsTrue c.packed_holds_at_entry-good.result ↔ HoldsAtEntry l c.args.node.now) c.requires.limits c.packed_holds_at_entry-good.ensures))
     (subst (λ (n : NodeData). (n.key).entry < 2 ^ 32) c.node.view_is (omega arith))))

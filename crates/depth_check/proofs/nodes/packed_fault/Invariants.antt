@@ -1,20 +1,19 @@
 use Rattle.std.proofs.Common.{◌≡◌, ◌++◌, ℕ, List, length}
-use Rattle.std.specs.Prelude.{All, IsTrue, IfSome}
-use Rattle.value_domain.specs.declared.states.State.{State}
+use Rattle.std.specs.Prelude.{All, IsTrue}
 use Rattle.value_domain.specs.State.{AreValues}
 use Rattle.cfg_recover.specs.Accepting.{limits_in, RuleHolds}
 use Rattle.depth_cert.specs.declared.points.Point.{Point}
-use Rattle.depth_check.specs.Asking.{AsksNoMore, InterruptsHold}
+use Rattle.depth_check.specs.Asking.{AreAsked}
 use Rattle.depth_check.proofs.nodes.packed_fault.Given as goal
 
 abbrev pub invariant-loop-addr : goal.invariant-loop-addr
 invariant-loop-addr l = record {
   done : List Point;
-  split : (l.node).points ≡ done ++ (l.walk).left;
+  split : (l.node).points ≡ done ++ (l.scratch.walk).left;
   all : All (λ (p : Point). (r : ℕ) → RuleHolds l.image l.plan l.cert l.node p r) done;
-  known : IsTrue l.known → AreValues (limits_in l.plan l.cert) ((l.walk).current).regs;
-  asked : IfSome l.asked (λ a. (t : State) → AsksNoMore a t → InterruptsHold l.plan l.cert l.node t);
+  known : IsTrue l.known → AreValues (limits_in l.plan l.cert) ((l.scratch.walk).current).regs;
+  asked : AreAsked l.plan l.cert l.scratch.asks;
 }
 
 abbrev pub decreases-loop-addr : goal.decreases-loop-addr
-decreases-loop-addr l = length (l.walk).left
+decreases-loop-addr l = length (l.scratch.walk).left

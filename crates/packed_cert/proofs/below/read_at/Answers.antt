@@ -1,17 +1,50 @@
-use Rattle.std.proofs.Common.{◌∙◌, ◌∷◌, [], ℕ, sym, ap, arith}
+use Rattle.std.proofs.Common.{◌∙◌, ◌∷◌, [], ℕ, get_or, sym, ap, arith}
 use Rattle.value_domain.specs.declared.values.Val.TheVariants.{Set}
-use Rattle.packed_cert.proofs.ValueShapes.{stands_at, one_inside, one_value}
+use Rattle.packed_cert.proofs.ValueShapes.{stands_at, one_inside, one_value, long_set, long_span}
 use Rattle.packed_cert.proofs.below.read_at.Goals as goal
 
 pub bounds-bytes-place : goal.bounds-bytes-place
 bounds-bytes-place c = (stands_at c.args.version c.args.bytes.now c.args.place (λ k. (c.type_inv.bytes k).fits) c.requires.stands).inside
 
+pub returns-then-tag-eq0 : goal.returns-then-tag-eq0
+returns-then-tag-eq0 c =
+    let s = stands_at c.args.version c.args.bytes.now c.args.place (λ k. (c.type_inv.bytes k).fits) c.requires.stands in
+    c.write_any.ensures ∙ sym (s.shape.any (omega (arith, c.if-tag-eq0.true)))
+
 pub word-requires : goal.word-requires
 word-requires c =
     let s = stands_at c.args.version c.args.bytes.now c.args.place (λ k. (c.type_inv.bytes k).fits) c.requires.stands in
-    one_inside c.args.bytes.now c.args.place (omega (arith, c.if-bytes-place-eq1.true)) s.within
+    one_inside c.args.bytes.now c.args.place (omega (arith, c.if-tag-eq1.true)) s.within
 
-pub returns-then-bytes-place-eq1 : goal.returns-then-bytes-place-eq1
-returns-then-bytes-place-eq1 c =
+pub returns-then-tag-eq1 : goal.returns-then-tag-eq1
+returns-then-tag-eq1 c =
     let s = stands_at c.args.version c.args.bytes.now c.args.place (λ k. (c.type_inv.bytes k).fits) c.requires.stands in
-    c.one.ensures ∙ ap (λ (x : ℕ). Set (x ∷ [])) c.word.ensures ∙ sym (one_value c.args.version c.args.bytes.now c.args.place (omega (arith, c.if-bytes-place-eq1.true)) s)
+    c.set_words.ensures ∙ ap (λ (x : ℕ). Set (x ∷ [])) c.word.ensures ∙ sym (one_value c.args.version c.args.bytes.now c.args.place (omega (arith, c.if-tag-eq1.true)) s)
+
+pub word-lo-requires : goal.word-lo-requires
+word-lo-requires c =
+    let s = stands_at c.args.version c.args.bytes.now c.args.place (λ k. (c.type_inv.bytes k).fits) c.requires.stands in
+    omega (arith, s.within, long_span (get_or c.args.bytes.now c.args.place 0) (omega (arith, c.if-tag-gt128.true)))
+
+pub word-last-requires : goal.word-last-requires
+word-last-requires c =
+    let s = stands_at c.args.version c.args.bytes.now c.args.place (λ k. (c.type_inv.bytes k).fits) c.requires.stands in
+    omega (arith, s.within, long_span (get_or c.args.bytes.now c.args.place 0) (omega (arith, c.if-tag-gt128.true)))
+
+pub overflow_sub-tag : goal.overflow_sub-tag
+overflow_sub-tag c = ((stands_at c.args.version c.args.bytes.now c.args.place (λ k. (c.type_inv.bytes k).fits) c.requires.stands).shape.span (omega (arith, c.if-tag-gt128.true))).0
+
+pub returns-then-tag-gt128 : goal.returns-then-tag-gt128
+returns-then-tag-gt128 c =
+    let s = stands_at c.args.version c.args.bytes.now c.args.place (λ k. (c.type_inv.bytes k).fits) c.requires.stands in
+    (rw (c.word-lo.ensures, c.word-last.ensures) at c.set_span.ensures) ∙ sym (s.shape.span (omega (arith, c.if-tag-gt128.true))).1
+
+pub has_words_at-requires : goal.has_words_at-requires
+has_words_at-requires c =
+    let s = stands_at c.args.version c.args.bytes.now c.args.place (λ k. (c.type_inv.bytes k).fits) c.requires.stands in
+    omega (arith, s.within, long_set (get_or c.args.bytes.now c.args.place 0) (omega (arith, c.if-tag-eq0.false)) (omega (arith, c.if-tag-gt128.false)))
+
+pub returns-then-has_words_at : goal.returns-then-has_words_at
+returns-then-has_words_at c =
+    let s = stands_at c.args.version c.args.bytes.now c.args.place (λ k. (c.type_inv.bytes k).fits) c.requires.stands in
+    c.has_words_at.ensures c.if-has_words_at.true ∙ sym (s.shape.set (omega (arith, c.if-tag-eq0.false)) (omega (arith, c.if-tag-gt128.false)))

@@ -33,6 +33,8 @@ loop-i-preserved c =
           (let more = count_push version bytes ns n in
           omega (arith, more, c.loop-i.invariant.used, c.in_ok-node.ensures.used));
       few = c.in_ok-node.ensures.few;
+      exit = c.in_ok-node.ensures.exit;
+      state = c.in_ok-node.ensures.state;
     }
 
 pub returns-clause-ok : goal.returns-clause-ok

@@ -1,4 +1,4 @@
-use Rattle.std.proofs.Common.{◌≡◌, ◌+◌, ◌-◌, ℕ, length, get_or, map, [], None}
+use Rattle.std.proofs.Common.{◌≡◌, ◌+◌, ◌-◌, ℕ, length, get_or, map, []}
 use Rattle.std.specs.Prelude.{IfSome}
 use Rattle.std.specs.List.{All}
 use Rattle.std.specs.List.Sorted.{IsStrictlyIncreasing}
@@ -11,14 +11,14 @@ use Rattle.packed_cert.proofs.point_fields.read_points.Given as goal
 
 abbrev pub invariant-loop-i : goal.invariant-loop-i
 invariant-loop-i l = record {
-  read : many_at (point_after l.version) l.count [] l.initial.c ≡ many_at (point_after l.version) (l.count - l._i) (points_in l.version l.bytes l.points.items) l.c;
+  read : many_at (point_after l.version) l.count [] l.initial.c ≡ many_at (point_after l.version) (l.count - l.i) (points_in l.version l.bytes l.points.items) l.c;
   bytes : l.c.bytes ≡ l.initial.c.bytes;
-  count : length l.points.items ≡ l._i;
+  count : length l.points.items ≡ l.i;
   states : All (λ p. HasState l.version l.bytes p.place) l.points.items;
   rising : IsStrictlyIncreasing (map (λ p. p.addr) l.points.items);
   used : l.room.used ≡ l.initial.room.used;
-  held : IfSome l.held (StandsAt l.version l.bytes l.room.state);
-  none : l._i ≡ 0 → l.held ≡ None;
-  before : (j : ℕ) (d : PackedPoint) → j + 1 ≡ l._i → l.room.state ≡ state_in l.version l.bytes (get_or l.points.items j d).place;
+  exit : l.room.exit ≡ l.initial.room.exit;
+  state : IfSome l.room.last (StandsAt l.version l.bytes l.room.state);
+  before : (j : ℕ) (d : PackedPoint) → j + 1 ≡ l.i → l.room.state ≡ state_in l.version l.bytes (get_or l.points.items j d).place;
   moves : AreMoves l.version l.bytes l.points.items;
 }

@@ -9,4 +9,4 @@ returns-then-passes-clause-ok c =
     state_again c.args.version (c.in-Some.at.end - c.in-Some.at.start) c.args.bytes.now c.args.out.now c.in-Some.at c.args.c.now c.passes.new.c (λ k. (c.type_inv.bytes k).fits) stands c.requires.same (omega (arith, stands.order)) (c.passes.ensures.moved c.if-passes.true)
 
 pub returns-then-passes-clause-anew : goal.returns-then-passes-clause-anew
-returns-then-passes-clause-anew c = rw c.none_anew-anew.ensures (nothing_anew c.args.out.now.regs)
+returns-then-passes-clause-anew c = rw c.none_anew.ensures (nothing_anew c.args.out.now.regs)

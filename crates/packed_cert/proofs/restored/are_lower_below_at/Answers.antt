@@ -1,6 +1,7 @@
 use Rattle.std.proofs.Common.{◌≡◌, ◌≤◌, ◌∙◌, ◌+◌, ℕ, true, false, length, get_or, refl, sym, ap, subst, arith}
 use Rattle.value_domain.specs.declared.values.Val.{Val}
 use Rattle.value_domain.specs.Values.{IsBelow, any_val}
+use Rattle.value_domain.proofs.RangeLaws.{below_any}
 use Rattle.value_domain.proofs.RegLaws.{below_more}
 use Rattle.depth_cert.specs.Exits.{lower_values}
 use Rattle.packed_cert.specs.Standing.{behind}
@@ -9,6 +10,7 @@ use Rattle.packed_cert.proofs.ValueShapes.{left_first, length-values_in, stands_
 use Rattle.packed_cert.proofs.LowerLaws.{lower_well}
 use Rattle.depth_cert.proofs.ExitValues.{length_lower}
 use Rattle.packed_cert.proofs.restored.are_lower_below_at.Goals as goal
+use Rattle.packed_cert.proofs.restored.are_lower_below_at.Goals.{else-tag-ne0-via-then-tag-ne0+else-not-is_below_at, else-tag-ne0-via-else-tag-ne0}
 
 pub is_below_at-requires-clause-well : goal.is_below_at-requires-clause-well
 is_below_at-requires-clause-well c = rw c.lower_value.ensures (lower_well c.args.s.now.regs c.loop-i.i (omega arith) (omega arith) c.requires.well)
@@ -44,8 +46,14 @@ loop-i-preserved c =
     let low = lower_values c.args.s.now.regs in
     let l = left_first c.args.version c.args.bytes.now c.loop-i.at 14 c.loop-i.i vs (omega arith) (length-values_in c.args.version c.args.bytes.now c.args.place 14) c.loop-i.invariant.have c.loop-i.invariant.left in
     let next : c.loop-i.at + c.length_by-at.result ≡ behind c.args.bytes.now c.loop-i.at = ap (λ (k : ℕ). c.loop-i.at + k) c.length_by-at.ensures in
+    let s = stands_at c.args.version c.args.bytes.now c.loop-i.at (λ k. (c.type_inv.bytes k).fits) l.0 in
     let here : IsBelow (get_or low c.loop-i.i any_val) (value_in c.args.version c.args.bytes.now c.loop-i.at) =
-    subst (λ (v : Val). IsBelow v (value_in c.args.version c.args.bytes.now c.loop-i.at)) c.lower_value.ensures (c.is_below_at.ensures.0 c.if-not-is_below_at.false)
+    elim c.else-tag-ne0.branch [
+      | else-tag-ne0-via-then-tag-ne0+else-not-is_below_at w ↦
+          subst (λ (v : Val). IsBelow v (value_in c.args.version c.args.bytes.now c.loop-i.at)) w.lower_value.ensures (w.is_below_at.ensures.0 w.if-not-is_below_at.false)
+      | else-tag-ne0-via-else-tag-ne0 w ↦
+          subst (λ (v : Val). IsBelow (get_or low c.loop-i.i any_val) v) (sym (s.shape.any (omega (arith, w.if-tag-ne0.false)))) (below_any (get_or low c.loop-i.i any_val) (lower_well c.args.s.now.regs c.loop-i.i (omega arith) (omega arith) c.requires.well))
+    ]
     in
     record {
       have = rw next l.1;

@@ -1,11 +1,11 @@
-use Rattle.std.proofs.Common.{◌∙◌, refl, sym, subst, arith}
+use Rattle.std.proofs.Common.{◌∙◌, sym, subst, arith}
 use Rattle.std.specs.Prelude.{IsTrue, ◌↔◌}
 use Rattle.std.proofs.lemmas.List.{get_or_default}
 use Rattle.value_domain.specs.declared.values.Val.{Val}
 use Rattle.value_domain.specs.Values.{IsBelow, IsWell, any_val}
-use Rattle.value_domain.proofs.RangeLaws.{below_any}
 use Rattle.packed_cert.specs.Below.{value_in}
-use Rattle.packed_cert.proofs.ValueShapes.{stands_at, well_of}
+use Rattle.packed_cert.proofs.ValueShapes.{stands_at}
+use Rattle.packed_cert.proofs.LowerLaws.{any_above}
 use Rattle.packed_cert.proofs.restored.is_restored_below.Goals as goal
 
 pub bounds-high-high : goal.bounds-high-high
@@ -13,14 +13,9 @@ bounds-high-high c = (stands_at c.args.high.version c.args.high.bytes.now c.args
 
 pub returns-then-high-eq0 : goal.returns-then-high-eq0
 returns-then-high-eq0 c =
-    let slot = sym c.is_lower_slot.ensures ∙ c.if-is_lower_slot.true in
     let high = stands_at c.args.high.version c.args.high.bytes.now c.args.high.place c.are_bytes-2.ensures c.requires.high in
-    let low = stands_at c.args.low.version c.args.low.bytes.now c.args.low.place c.are_bytes.ensures (c.requires.low slot) in
-    let v = value_in c.args.low.version c.args.low.bytes.now c.args.low.place in
-    rw slot (
-      (λ t. subst (λ (w : Val). IsBelow v w) (sym (high.shape.any (omega arith))) (below_any v (well_of c.args.low.version v low.well))),
-      (λ below. refl),
-    )
+    any_above c.args.i c.args.regs.now c.args.low.version c.args.low.bytes.now c.args.low.place (value_in c.args.high.version c.args.high.bytes.now c.args.high.place) c.are_bytes.ensures (omega arith) (omega arith) c.requires.well c.requires.low
+    (high.shape.any (omega arith))
 
 pub is_read_below-requires-clause-low : goal.is_read_below-requires-clause-low
 is_read_below-requires-clause-low c = c.requires.low (sym c.is_lower_slot.ensures ∙ c.if-is_lower_slot.true)

@@ -3,7 +3,7 @@ use Rattle.std.specs.List.Sorted.{IsStrictlyIncreasing}
 use Rattle.depth_cert.specs.Nodes.{NodeData}
 use Rattle.depth_cert.specs.Points.{addresses}
 use Rattle.packed_cert.proofs.PointPlaces.{addresses_in}
-use Rattle.packed_cert.proofs.packed_nodes.PackedNode.points.Goals as goal
+use Rattle.packed_cert.proofs.packed_nodes.PackedNode.walk.Goals as goal
 
 pub returns-clause-rising : goal.returns-clause-rising
 returns-clause-rising c =
