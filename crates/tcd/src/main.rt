@@ -1,13 +1,11 @@
 // The program: the words of the command line, real files and standard output, around the tool.
 #![tactic(auto)]
 
-mod real;
-
-use real::{RealFiles, Stdout};
 use std::process::ExitCode;
 use std::{env, io};
 use tcd_driver::tool;
 use tcd_reading::Status;
+use tcd_real::{RealFiles, Stdout};
 
 fn main(rt: HostRuntime) -> ExitCode {
     match words(&rt) {

@@ -1,4 +1,5 @@
 //! Worked addresses on the board; with devices, one at F0000000 that answers 0 to 15, and one that begins where ram ends.
+use crate::asserts::{is_so, same};
 use crate::boards::{Edit, board};
 use crate::programs::{Program, image};
 use std::test::Fail;
@@ -25,12 +26,12 @@ static TABLE: Program<'static> = Program {
 #[test]
 fn stores_at_the_end_of_ram(rt: HostRuntime) -> Result<(), Fail> {
     for plan in [board(&rt, &[])?, board(&rt, &DEVICES)?] {
-        assert!(rt; store_ok(&plan, &Val::one(0xD000_8FFC), 4));
-        assert!(rt; !store_ok(&plan, &Val::one(0xD000_8FFE), 4));
-        assert!(rt; store_ok(&plan, &Val::one(0xD000_8FFE), 2));
-        assert!(rt; !store_ok(&plan, &Val::one(0x8000_0000), 4));
-        assert!(rt; !store_ok(&plan, &Val::one(0xFFFF_FFFF), 2));
-        assert!(rt; !store_ok(&plan, &Val::any(), 1));
+        is_so(&rt, store_ok(&plan, &Val::one(0xD000_8FFC), 4));
+        is_so(&rt, !store_ok(&plan, &Val::one(0xD000_8FFE), 4));
+        is_so(&rt, store_ok(&plan, &Val::one(0xD000_8FFE), 2));
+        is_so(&rt, !store_ok(&plan, &Val::one(0x8000_0000), 4));
+        is_so(&rt, !store_ok(&plan, &Val::one(0xFFFF_FFFF), 2));
+        is_so(&rt, !store_ok(&plan, &Val::any(), 1));
     }
     Ok(())
 }
@@ -41,14 +42,14 @@ fn stores_over_two_ranges(rt: HostRuntime) -> Result<(), Fail> {
     let plan = board(&rt, &DEVICES)?;
     let b = Bounds::of(&plan, 1);
     let words = cover(&b, 0xD000_8000, 0xD000_90FC, 2);
-    assert!(rt; words.words().is_none());
-    assert!(rt; store_ok(&plan, &words, 4));
-    assert!(rt; !store_ok(&board(&rt, &[])?, &words, 4));
+    is_so(&rt, words.words().is_none());
+    is_so(&rt, store_ok(&plan, &words, 4));
+    is_so(&rt, !store_ok(&board(&rt, &[])?, &words, 4));
     let halves = cover(&b, 0xD000_8000, 0xD000_90FE, 1);
-    assert!(rt; store_ok(&plan, &halves, 2));
-    assert!(rt; !store_ok(&plan, &halves, 4));
-    assert!(rt; aligned(&halves, 2));
-    assert!(rt; !aligned(&halves, 4));
+    is_so(&rt, store_ok(&plan, &halves, 2));
+    is_so(&rt, !store_ok(&plan, &halves, 4));
+    is_so(&rt, aligned(&halves, 2));
+    is_so(&rt, !aligned(&halves, 4));
     Ok(())
 }
 
@@ -57,16 +58,21 @@ fn loads_from_rom(rt: HostRuntime) -> Result<(), Fail> {
     let plan = board(&rt, &DEVICES)?;
     let b = Bounds::of(&plan, 1);
     let image = image(&rt, &TABLE)?;
-    assert!(rt; loaded_rom(&image, &plan, 0x8000_002C, 4));
-    assert!(rt; !loaded_rom(&image, &plan, 0x8000_002D, 4));
+    is_so(&rt, loaded_rom(&image, &plan, 0x8000_002C, 4));
+    is_so(&rt, !loaded_rom(&image, &plan, 0x8000_002D, 4));
     let places = cover_words(&b, &[0x8000_0020, 0x8000_0024, 0x8000_0028, 0x8000_002C]);
     let words = load_of(&b, &image, &plan, &places, 4, false);
-    assert_eq!(rt;
-        words.words().ok_or("a Span")?,
-        [0, 0x8000_0030, 0x8000_0032, 0x8000_0034].as_slice()
+    same(
+        &rt,
+        &words.words().ok_or("a Span")?,
+        &[0, 0x8000_0030, 0x8000_0032, 0x8000_0034].as_slice(),
     );
     let byte = load_of(&b, &image, &plan, &cover_words(&b, &[0x8000_0023]), 1, true);
-    assert_eq!(rt; byte.words().ok_or("a Span")?, [0xFFFF_FF80].as_slice());
+    same(
+        &rt,
+        &byte.words().ok_or("a Span")?,
+        &[0xFFFF_FF80].as_slice(),
+    );
     Ok(())
 }
 
@@ -83,7 +89,7 @@ fn loads_from_elsewhere(rt: HostRuntime) -> Result<(), Fail> {
         4,
         false,
     );
-    assert_eq!(rt; port.words().ok_or("a Span")?.len(), 16);
+    same(&rt, &port.words().ok_or("a Span")?.len(), &16);
     for (at, size, signed, last) in [
         (0xD000_8000, 4, false, u32::MAX),
         (0x8000_002D, 4, false, u32::MAX),
@@ -92,9 +98,9 @@ fn loads_from_elsewhere(rt: HostRuntime) -> Result<(), Fail> {
         (0xD000_8000, 1, true, u32::MAX),
     ] {
         let loaded = load_of(&b, &image, &plan, &cover_words(&b, &[at]), size, signed);
-        assert!(rt;
+        is_so(
+            &rt,
             matches!(loaded, Val::Span { lo: 0, last: l, step: 0 } if l == last),
-            "at {at} size {size}"
         );
     }
     Ok(())

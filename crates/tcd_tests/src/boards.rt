@@ -3,7 +3,10 @@ use std::alloc::AllocGlobal;
 use std::process::Abort;
 use std::test::Fail;
 use tcd_plan::Plan;
-use tcd_samples::BOARD;
+
+// The plain board.
+const BOARD: &str =
+    r#"{"rom":[{"at":"0x80000000","len":"0x1000"}],"ram":[{"at":"0xD0008000","len":"0x1000"}],"devices":[],"csa":{"at":"0xD0000000","areas":4,"reserve":2},"sp":"0xD0009000","isp":"0xD0008800","biv":"0x80000400","btv":"0x80000100","irqs":[],"traps":[],"start":{"ie":0,"ccpn":0,"is":0},"globals":{"a0":0,"a1":0,"a8":0,"a9":0}}"#;
 
 /// What stands on a board in place of a text of the plain one.
 pub type Edit = (&'static str, &'static str);
@@ -11,8 +14,6 @@ pub type Edit = (&'static str, &'static str);
 pub const CORE_16: Edit = (r#""traps":[]"#, r#""traps":[],"core":"1.6""#);
 
 pub const BOTH_TRAPS: Edit = (r#""traps":[]"#, r#""traps":["sys","aln"]"#);
-
-pub const SEVEN_AREAS: Edit = (r#""areas":4"#, r#""areas":7"#);
 
 pub const EIGHT_AREAS: Edit = (r#""areas":4"#, r#""areas":8"#);
 

@@ -1,42 +1,14 @@
-//! Worked certificates, written out by hand, with what the check answers.
-use crate::boards::{Edit, INTERRUPTS, board};
-use crate::programs::{CALLER, NESTED, Program, SAVER, image};
+//! The verdict on a certificate in memory, which is that on its bytes.
+use crate::asserts::{is_so, same};
+use crate::boards::board;
+use crate::certificates::CALLER_CERT;
+use crate::programs::{CALLER, image};
 use depth_cert::{Cert, Key};
-use depth_check::{Verdict, check, check_packed, first_fault_laws};
+use depth_check::{Verdict, check, check_packed};
 use packed_cert::PackedCert;
 use std::alloc::AllocGlobal;
 use std::process::Abort;
 use std::test::Fail;
-use tcd_samples::{CALLER_CERT, NESTED_CERT};
-
-// With all areas in reserve.
-const RESERVED: [Edit; 1] = [(r#""reserve":2"#, r#""reserve":4"#)];
-
-// Three points, the second with one local.
-static SAVER_CERT: [u8; 140] = [
-    0x54, 0x43, 0x44, 0x43, 0x01, 0x00, 0x01, 0x00, 0x00, 0x00, 0x00, 0x00, 0x80, 0x00, 0x00, 0x01,
-    0x00, 0x00, 0x03, 0x00, 0x00, 0x00, 0x00, 0x00, 0x00, 0x80, 0x00, 0x00, 0x00, 0x00, 0x00, 0x00,
-    0x00, 0x00, 0x00, 0x00, 0x00, 0x00, 0x00, 0x00, 0x00, 0x00, 0x00, 0x00, 0x00, 0x00, 0x00, 0x00,
-    0x00, 0x00, 0x00, 0x00, 0x01, 0x00, 0x90, 0x00, 0xd0, 0x00, 0x00, 0x00, 0x00, 0x04, 0x00, 0x00,
-    0x80, 0x00, 0x00, 0x00, 0x01, 0x00, 0x00, 0x00, 0x00, 0x00, 0x00, 0x00, 0x00, 0x00, 0x00, 0x00,
-    0x00, 0x00, 0x00, 0x00, 0x00, 0x00, 0x00, 0x00, 0x00, 0x00, 0x00, 0x00, 0x01, 0x00, 0x90, 0x00,
-    0xd0, 0x00, 0x00, 0x00, 0x00, 0x08, 0x00, 0x00, 0x80, 0x00, 0x00, 0x00, 0x00, 0x00, 0x00, 0x00,
-    0x00, 0x00, 0x00, 0x00, 0x00, 0x00, 0x00, 0x00, 0x00, 0x00, 0x00, 0x00, 0x00, 0x00, 0x00, 0x00,
-    0x00, 0x00, 0x00, 0x01, 0x00, 0x90, 0x00, 0xd0, 0x00, 0x00, 0x00, 0x00,
-];
-
-// The same without the local.
-static SAVER_CERT_WITHOUT_LOCAL: [u8; 139] = [
-    0x54, 0x43, 0x44, 0x43, 0x01, 0x00, 0x01, 0x00, 0x00, 0x00, 0x00, 0x00, 0x80, 0x00, 0x00, 0x01,
-    0x00, 0x00, 0x03, 0x00, 0x00, 0x00, 0x00, 0x00, 0x00, 0x80, 0x00, 0x00, 0x00, 0x00, 0x00, 0x00,
-    0x00, 0x00, 0x00, 0x00, 0x00, 0x00, 0x00, 0x00, 0x00, 0x00, 0x00, 0x00, 0x00, 0x00, 0x00, 0x00,
-    0x00, 0x00, 0x00, 0x00, 0x01, 0x00, 0x90, 0x00, 0xd0, 0x00, 0x00, 0x00, 0x00, 0x04, 0x00, 0x00,
-    0x80, 0x00, 0x00, 0x00, 0x00, 0x00, 0x00, 0x00, 0x00, 0x00, 0x00, 0x00, 0x00, 0x00, 0x00, 0x00,
-    0x00, 0x00, 0x00, 0x00, 0x00, 0x00, 0x00, 0x00, 0x00, 0x00, 0x00, 0x01, 0x00, 0x90, 0x00, 0xd0,
-    0x00, 0x00, 0x00, 0x00, 0x08, 0x00, 0x00, 0x80, 0x00, 0x00, 0x00, 0x00, 0x00, 0x00, 0x00, 0x00,
-    0x00, 0x00, 0x00, 0x00, 0x00, 0x00, 0x00, 0x00, 0x00, 0x00, 0x00, 0x00, 0x00, 0x00, 0x00, 0x00,
-    0x00, 0x00, 0x01, 0x00, 0x90, 0x00, 0xd0, 0x00, 0x00, 0x00, 0x00,
-];
 
 const START: Key = Key {
     kind: 0,
@@ -45,92 +17,29 @@ const START: Key = Key {
     is: false,
 };
 
-const HANDLER: Key = Key {
-    kind: 2,
-    entry: 0x8000_0540,
-    prio: 10,
-    is: true,
-};
-
-// The verdict on a certificate in memory, which is that on its bytes.
-fn answer<R: Abort + AllocGlobal>(
-    rt: &R,
-    program: &Program,
-    edits: &[Edit],
-    cert: &[u8],
-) -> Result<Verdict, Fail> {
+fn answer<R: Abort + AllocGlobal>(rt: &R, cert: &[u8]) -> Result<Verdict, Fail> {
     assert!(rt; cert.len() < 1000);
-    let image = image(rt, program)?;
-    let plan = board(rt, edits)?;
+    let image = image(rt, &CALLER)?;
+    let plan = board(rt, &[])?;
     let mut bytes = Vec::new(rt.alloc());
     bytes.extend_from_slice(cert)?;
     let read = Cert::read(rt.alloc(), cert)?;
     let verdict = check(&image, &plan, &read);
     let packed = PackedCert::read(rt.alloc(), bytes)?;
-    assert!(rt; check_packed(&image, &plan, &packed) == verdict);
+    is_so(rt, check_packed(&image, &plan, &packed) == verdict);
     Ok(verdict)
 }
 
-fn refused(rule: u8, key: Key, addr: u32) -> Verdict {
-    Verdict::No { rule, key, addr }
-}
-
 #[test]
-fn a_need_is_enough_and_leaves_the_reserve(rt: HostRuntime) -> Result<(), Fail> {
+fn a_need_is_enough(rt: HostRuntime) -> Result<(), Fail> {
     let mut cert = CALLER_CERT;
-    assert_eq!(rt; answer(&rt, &CALLER, &[], &cert)?, Verdict::Yes(1));
-    assert_eq!(rt;
-        answer(&rt, &CALLER, &RESERVED, &cert)?,
-        refused(14, START, 0x8000_0000)
-    );
-    cert[15] = 2;
-    assert_eq!(rt; answer(&rt, &CALLER, &[], &cert)?, Verdict::Yes(2));
+    same(&rt, &answer(&rt, &cert)?, &Verdict::Yes(1));
     cert[15] = 0;
-    assert_eq!(rt;
-        answer(&rt, &CALLER, &[], &cert)?,
-        refused(14, START, 0x8000_0000)
-    );
-    first_fault_laws();
-    Ok(())
-}
-
-#[test]
-fn a_lower_context_is_counted(rt: HostRuntime) -> Result<(), Fail> {
-    let mut cert = SAVER_CERT;
-    assert_eq!(rt; answer(&rt, &SAVER, &[], &cert)?, Verdict::Yes(1));
-    cert[15] = 0;
-    assert_eq!(rt;
-        answer(&rt, &SAVER, &[], &cert)?,
-        refused(14, START, 0x8000_0004)
-    );
-    assert_eq!(rt;
-        answer(&rt, &SAVER, &[], &SAVER_CERT_WITHOUT_LOCAL)?,
-        refused(4, START, 0x8000_0000)
-    );
-    Ok(())
-}
-
-#[test]
-fn nested_interrupts_are_judged(rt: HostRuntime) -> Result<(), Fail> {
-    let mut cert = NESTED_CERT;
-    assert_eq!(rt; answer(&rt, &NESTED, &INTERRUPTS, &cert)?, Verdict::Yes(6));
-
-    // Interrupts are masked up to 5 in place of 10.
-    let masked = NESTED.source.replace(rt.alloc(), "bisr16 10", "bisr16 5")?;
-    let masked = Program {
-        source: masked.as_str(),
-        layout: NESTED.layout,
+    let none = Verdict::No {
+        rule: 14,
+        key: START,
+        addr: 0x8000_0000,
     };
-    assert_eq!(rt;
-        answer(&rt, &masked, &INTERRUPTS, &cert)?,
-        refused(4, HANDLER, 0x8000_0540)
-    );
-
-    // Without the node of interrupt 20.
-    cert[6] = 5;
-    assert_eq!(rt;
-        answer(&rt, &NESTED, &INTERRUPTS, &cert[..518])?,
-        refused(11, START, 0x8000_0000)
-    );
+    same(&rt, &answer(&rt, &cert)?, &none);
     Ok(())
 }

@@ -5,6 +5,7 @@ ghost use Rattle.value_domain.specs.State.{AreValues};
 ghost use Rattle.value_domain.specs.Values.{IsValue};
 ghost use Rattle.vd_transfer.specs.Effects.{HasRoom};
 
+use crate::asserts::{is_so, same};
 use crate::boards::board;
 use crate::states::{open, with};
 use cfg_recover::{address, refine, transfer};
@@ -47,9 +48,13 @@ fn adds_with_a_wrap(rt: HostRuntime) -> Result<(), Fail> {
     // add d2, d0, d1
     let add = inst(9, 2, 0, 1, 0, 0).ok_or("not listed")?;
     let t = after(&b, &plan, &add, &s, &cover_words(&b, &[0])).ok_or("another shape")?;
-    assert_eq!(&rt; t.regs[2].words().ok_or("a span")?, [0].as_slice());
-    assert!(&rt; !t.lower);
-    assert_eq!(&rt; reg(&plan, &t, 16).words().ok_or("a span")?, [0].as_slice());
+    same(&rt, &t.regs[2].words().ok_or("a span")?, &[0].as_slice());
+    is_so(&rt, !t.lower);
+    same(
+        &rt,
+        &reg(&plan, &t, 16).words().ok_or("a span")?,
+        &[0].as_slice(),
+    );
     Ok(())
 }
 
@@ -63,11 +68,11 @@ fn keeps_the_smaller_words(rt: HostRuntime) -> Result<(), Fail> {
     let jump = inst(95, 0, 0, 1, 0, 0).ok_or("not listed")?;
     let t = refine(&b, &plan, &jump, &s, false).ok_or("impossible")?;
     let words = t.regs[0].words().ok_or("a span")?;
-    assert_eq!(&rt; words.len(), 64);
-    assert_eq!(&rt; words[0], 0);
-    assert_eq!(&rt; words[63], 63);
+    assert!(rt; words.len() == 64);
+    same(&rt, &words[0], &0);
+    same(&rt, &words[63], &63);
     let none = with(&b, s, 1, &[0]);
-    assert!(&rt; refine(&b, &plan, &jump, &none, false).is_none());
+    is_so(&rt, refine(&b, &plan, &jump, &none, false).is_none());
     Ok(())
 }
 
@@ -80,8 +85,8 @@ fn loads_from_an_offset(rt: HostRuntime) -> Result<(), Fail> {
     // ld.w.l d1, [a2]-4
     let load = inst(81, 0, 1, 2, 0, 0xfffc).ok_or("not listed")?;
     let at = address(&b, &plan, &load, &s);
-    assert_eq!(&rt; at.words().ok_or("a span")?, [0xD000_8000].as_slice());
+    same(&rt, &at.words().ok_or("a span")?, &[0xD000_8000].as_slice());
     let t = after(&b, &plan, &load, &s, &cover_words(&b, &[7])).ok_or("another shape")?;
-    assert_eq!(&rt; t.regs[1].words().ok_or("a span")?, [7].as_slice());
+    same(&rt, &t.regs[1].words().ok_or("a span")?, &[7].as_slice());
     Ok(())
 }

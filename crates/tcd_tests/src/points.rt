@@ -1,6 +1,7 @@
 //! What points of a small program owe, on the board with interrupts 10 and 20 and both traps.
 ghost use Rattle.value_domain.specs.State.{AreValues};
 
+use crate::asserts::{is_so, same};
 use crate::boards::{BOTH_TRAPS, Edit, TWO_INTERRUPTS, board};
 use crate::programs::{POINTS, image};
 use crate::states::{open, with};
@@ -74,13 +75,16 @@ fn jumps(rt: HostRuntime) -> Result<(), Fail> {
     let plan = board(&rt, &BUSY)?;
     let image = image(&rt, &POINTS)?;
     let moved = flow_at(&plan, &image, 0, 0).ok().ok_or("refused")?;
-    assert!(rt; goes_to(&moved.jumps[0], &[0x8000_0002]));
-    assert!(rt; goes_to(&moved.jumps[1], &[]));
+    is_so(&rt, goes_to(&moved.jumps[0], &[0x8000_0002]));
+    is_so(&rt, goes_to(&moved.jumps[1], &[]));
     let branch = flow_at(&plan, &image, 0, 2).ok().ok_or("refused")?;
-    assert!(rt; goes_to(&branch.jumps[0], &[0x8000_0004]));
-    assert!(rt; goes_to(&branch.jumps[1], &[0x8000_000A]));
+    is_so(&rt, goes_to(&branch.jumps[0], &[0x8000_0004]));
+    is_so(&rt, goes_to(&branch.jumps[1], &[0x8000_000A]));
     let indirect = flow_at(&plan, &image, 0, 4).ok().ok_or("refused")?;
-    assert!(rt; goes_to(&indirect.jumps[0], &[0x8000_0000, 0x8000_0010]));
+    is_so(
+        &rt,
+        goes_to(&indirect.jumps[0], &[0x8000_0000, 0x8000_0010]),
+    );
     Ok(())
 }
 
@@ -89,13 +93,16 @@ fn entries(rt: HostRuntime) -> Result<(), Fail> {
     let plan = board(&rt, &BUSY)?;
     let image = image(&rt, &POINTS)?;
     let call = flow_at(&plan, &image, 0, 6).ok().ok_or("refused")?;
-    assert!(rt; enters(&call.enter, 1, 0x8000_000A, Some(0x8000_0008)));
-    assert!(rt; goes_to(&call.jumps[0], &[]));
+    is_so(&rt, enters(&call.enter, 1, 0x8000_000A, Some(0x8000_0008)));
+    is_so(&rt, goes_to(&call.jumps[0], &[]));
     let system = flow_at(&plan, &image, 0, 18).ok().ok_or("refused")?;
-    assert!(rt; enters(&system.enter, 3, 0x8000_01C0, Some(0x8000_0016)));
+    is_so(
+        &rt,
+        enters(&system.enter, 3, 0x8000_01C0, Some(0x8000_0016)),
+    );
     for at in [12, 14] {
         let access = flow_at(&plan, &image, 0, at).ok().ok_or("refused")?;
-        assert!(rt; enters(&access.aln, 4, 0x8000_0140, None));
+        is_so(&rt, enters(&access.aln, 4, 0x8000_0140, None));
     }
     Ok(())
 }
@@ -105,10 +112,10 @@ fn interrupts(rt: HostRuntime) -> Result<(), Fail> {
     let plan = board(&rt, &BUSY)?;
     let image = image(&rt, &POINTS)?;
     let mask = flow_at(&plan, &image, 0, 16).ok().ok_or("refused")?;
-    assert_eq!(rt; mask.irqs.as_slice(), [20].as_slice());
-    assert_eq!(rt; mask.irq_entry.ccpn, 0);
+    same(&rt, &mask.irqs.as_slice(), &[20].as_slice());
+    same(&rt, &mask.irq_entry.ccpn, &0);
     let regs = &mask.irq_entry.regs[..];
-    assert!(rt; has_words(&regs[22], &[0xD000_8800]));
+    is_so(&rt, has_words(&regs[22], &[0xD000_8800]));
     Ok(())
 }
 
@@ -118,12 +125,12 @@ fn leavings(rt: HostRuntime) -> Result<(), Fail> {
     let plan = board(&rt, &BUSY)?;
     let image = image(&rt, &POINTS)?;
     let ret = flow_at(&plan, &image, 1, 8).ok().ok_or("refused")?;
-    assert_eq!(rt; ret.leave, Leave::Ret);
+    same(&rt, &ret.leave, &Leave::Ret);
     let rfe = flow_at(&plan, &image, 2, 10).ok().ok_or("refused")?;
-    assert_eq!(rt; rfe.leave, Leave::Rfe);
-    assert_eq!(rt; flow_at(&plan, &image, 0, 8).err(), Some(6));
-    assert_eq!(rt; flow_at(&plan, &image, 1, 10).err(), Some(7));
-    assert_eq!(rt; flow_at(&plan, &image, 0, 32).err(), Some(3));
+    same(&rt, &rfe.leave, &Leave::Rfe);
+    same(&rt, &flow_at(&plan, &image, 0, 8).err(), &Some(6));
+    same(&rt, &flow_at(&plan, &image, 1, 10).err(), &Some(7));
+    same(&rt, &flow_at(&plan, &image, 0, 32).err(), &Some(3));
     Ok(())
 }
 
@@ -138,11 +145,11 @@ fn coming_back(rt: HostRuntime) -> Result<(), Fail> {
         lower: std::array::from_fn(|i| Val::one(i as u32)),
     };
     let called = after(&s, &exit, 1);
-    assert!(rt; called.ie && called.ccpn == 9);
-    assert!(rt; has_words(&called.regs[7], &[7]));
-    assert!(rt; has_words(&called.regs[16], &[8]));
-    assert!(rt; has_words(&called.regs[22], &[0xD000_9000]));
+    is_so(&rt, called.ie && called.ccpn == 9);
+    is_so(&rt, has_words(&called.regs[7], &[7]));
+    is_so(&rt, has_words(&called.regs[16], &[8]));
+    is_so(&rt, has_words(&called.regs[22], &[0xD000_9000]));
     let system = after(&s, &exit, 3);
-    assert!(rt; !system.ie && system.ccpn == 7);
+    is_so(&rt, !system.ie && system.ccpn == 7);
     Ok(())
 }

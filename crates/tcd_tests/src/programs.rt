@@ -6,7 +6,6 @@ use std::test::Fail;
 use tc_asm::assemble;
 use tc_link::{Layout, link};
 use tc_object::Object;
-use tcd_samples::CALLER_SOURCE;
 
 /// A source and the layout of its sections.
 #[derive(Clone, Copy)]
@@ -17,17 +16,11 @@ pub struct Program<'a> {
 
 /// Calls a function and stands still.
 pub static CALLER: Program<'static> = Program {
-    source: CALLER_SOURCE,
-    layout: "entry main\nplace text 80000000 00000400\n",
-};
-
-/// Saves a lower context, restores it and stands still.
-pub static SAVER: Program<'static> = Program {
     source: ".section text\n\
         .global main\n\
-        main: svlcx\n\
-        rslcx\n\
-        j16 .+0\n",
+        main: call f\n\
+        j .+0\n\
+        f: ret16\n",
     layout: "entry main\nplace text 80000000 00000400\n",
 };
 

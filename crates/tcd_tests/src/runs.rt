@@ -1,4 +1,5 @@
 //! The machine on worked programs.
+use crate::asserts::same;
 use crate::boards::{BOTH_TRAPS, CORE_16, ENABLED, Edit, board};
 use crate::programs::{CALLER, LIMIT_TO_ZERO, LOADS, image};
 use std::alloc::AllocGlobal;
@@ -21,18 +22,18 @@ fn a_call_goes_and_comes_back(rt: HostRuntime) -> Result<(), Fail> {
         (board(&rt, &[CORE_16])?, 0x001d_0000),
     ] {
         let mut machine = Machine::start(rt.alloc(), &image, &plan)?;
-        assert_eq!(rt; machine.used(), Some(0));
-        assert_eq!(rt; machine.next_load(), None);
+        same(&rt, &machine.used(), &Some(0));
+        same(&rt, &machine.next_load(), &None);
         machine.step(&QUIET);
-        assert_eq!(rt; machine.pcxi, pcxi);
-        assert_eq!(rt; machine.fcx, 0x000d_0001);
-        assert_eq!(rt; machine.pc, 0x8000_0008);
-        assert_eq!(rt; machine.a[11], 0x8000_0004);
-        assert_eq!(rt; machine.used(), Some(1));
+        same(&rt, &machine.pcxi, &pcxi);
+        same(&rt, &machine.fcx, &0x000d_0001);
+        same(&rt, &machine.pc, &0x8000_0008);
+        same(&rt, &machine.a[11], &0x8000_0004);
+        same(&rt, &machine.used(), &Some(1));
         machine.run(&[QUIET, QUIET]);
-        assert_eq!(rt; machine.pc, 0x8000_0004);
-        assert_eq!(rt; machine.used(), Some(0));
-        assert_eq!(rt; machine.end, End::Running);
+        same(&rt, &machine.pc, &0x8000_0004);
+        same(&rt, &machine.used(), &Some(0));
+        same(&rt, &machine.end, &End::Running);
     }
     Ok(())
 }
@@ -60,13 +61,13 @@ fn busy_machine<R: Abort + AllocGlobal>(rt: &R) -> Result<Machine, Fail> {
 #[test]
 fn halfwords_with_and_without_sign(rt: HostRuntime) -> Result<(), Fail> {
     let mut machine = busy_machine(&rt)?;
-    assert_eq!(rt; machine.next_load(), None);
+    same(&rt, &machine.next_load(), &None);
     machine.step(&ANSWERED);
-    assert_eq!(rt; machine.next_load(), Some((0xf000_0000, 2)));
+    same(&rt, &machine.next_load(), &Some((0xf000_0000, 2)));
     machine.run(&[ANSWERED, ANSWERED]);
-    assert_eq!(rt; machine.d[1], 0x8001);
-    assert_eq!(rt; machine.d[2], 0xffff_8001);
-    assert_eq!(rt; machine.next_load(), Some((0xf000_0001, 2)));
+    same(&rt, &machine.d[1], &0x8001);
+    same(&rt, &machine.d[2], &0xffff_8001);
+    same(&rt, &machine.next_load(), &Some((0xf000_0001, 2)));
     Ok(())
 }
 
@@ -74,14 +75,16 @@ fn halfwords_with_and_without_sign(rt: HostRuntime) -> Result<(), Fail> {
 fn misaligned_access_traps(rt: HostRuntime) -> Result<(), Fail> {
     let mut machine = busy_machine(&rt)?;
     machine.run(&[ANSWERED, ANSWERED, ANSWERED, ANSWERED]);
-    assert_eq!(rt; machine.pc, 0x8000_0140);
-    assert_eq!(rt;
-        (machine.d[15], machine.a[11], machine.a[10]),
-        (4, 0x8000_000c, 0xd000_8800)
+    same(&rt, &machine.pc, &0x8000_0140);
+    same(
+        &rt,
+        &(machine.d[15], machine.a[11], machine.a[10]),
+        &(4, 0x8000_000c, 0xd000_8800),
     );
-    assert_eq!(rt;
-        (machine.ccpn, machine.ie, machine.used()),
-        (5, false, Some(1))
+    same(
+        &rt,
+        &(machine.ccpn, machine.ie, machine.used()),
+        &(5, false, Some(1)),
     );
     Ok(())
 }
@@ -90,10 +93,11 @@ fn misaligned_access_traps(rt: HostRuntime) -> Result<(), Fail> {
 fn system_call_traps(rt: HostRuntime) -> Result<(), Fail> {
     let mut machine = busy_machine(&rt)?;
     machine.run(&[QUIET, QUIET, QUIET, QUIET, QUIET]);
-    assert_eq!(rt; machine.pc, 0x8000_01c0);
-    assert_eq!(rt;
-        (machine.d[15], machine.a[11], machine.a[10]),
-        (3, 0x8000_0014, 0xd000_8800)
+    same(&rt, &machine.pc, &0x8000_01c0);
+    same(
+        &rt,
+        &(machine.d[15], machine.a[11], machine.a[10]),
+        &(3, 0x8000_0014, 0xd000_8800),
     );
     Ok(())
 }
@@ -102,22 +106,29 @@ fn system_call_traps(rt: HostRuntime) -> Result<(), Fail> {
 fn interrupt_and_back(rt: HostRuntime) -> Result<(), Fail> {
     let mut machine = busy_machine(&rt)?;
     machine.step(&Event { irq: 5, ..QUIET });
-    assert_eq!(rt; machine.pc, 0x8000_0004);
+    same(&rt, &machine.pc, &0x8000_0004);
     machine.step(&Event { irq: 10, ..QUIET });
-    assert_eq!(rt; machine.pc, 0x8000_0540);
-    assert_eq!(rt;
-        (machine.pcxi, machine.psw, machine.a[11]),
-        (0x05cd_0000, 0xa00, 0x8000_0004)
+    same(&rt, &machine.pc, &0x8000_0540);
+    same(
+        &rt,
+        &(machine.pcxi, machine.psw, machine.a[11]),
+        &(0x05cd_0000, 0xa00, 0x8000_0004),
     );
-    assert_eq!(rt;
-        (machine.a[10], machine.ccpn, machine.ie),
-        (0xd000_8800, 10, false)
+    same(
+        &rt,
+        &(machine.a[10], machine.ccpn, machine.ie),
+        &(0xd000_8800, 10, false),
     );
     machine.step(&QUIET);
-    assert_eq!(rt; (machine.pc, machine.a[10]), (0x8000_0004, 0xd000_9000));
-    assert_eq!(rt;
-        (machine.ccpn, machine.ie, machine.used()),
-        (5, true, Some(0))
+    same(
+        &rt,
+        &(machine.pc, machine.a[10]),
+        &(0x8000_0004, 0xd000_9000),
+    );
+    same(
+        &rt,
+        &(machine.ccpn, machine.ie, machine.used()),
+        &(5, true, Some(0)),
     );
     Ok(())
 }
@@ -130,9 +141,9 @@ fn a_task_can_move_the_limit(rt: HostRuntime) -> Result<(), Fail> {
     let plan = board(&rt, &[])?;
     let mut machine = Machine::start(rt.alloc(), &image, &plan)?;
     machine.fcx = 0x000d_0002;
-    assert_eq!(rt; machine.fcx, machine.lcx);
+    same(&rt, &machine.fcx, &machine.lcx);
     machine.run(&[QUIET, QUIET]);
-    assert_eq!(rt; machine.end, End::Running);
-    assert_eq!(rt; (machine.fcx, machine.lcx), (0x000d_0002, 0));
+    same(&rt, &machine.end, &End::Running);
+    same(&rt, &(machine.fcx, machine.lcx), &(0x000d_0002, 0));
     Ok(())
 }

@@ -1,331 +1,174 @@
-// Worked cells, from the files' bytes to what is printed.
-use crate::boot::LOOP_CERT;
-use std::alloc::Global;
-use std::process::Abort;
+// Worked cells.
+use crate::stage::play;
 use std::test::Fail;
-use tcd_base::{MemFiles, MemSink};
-use tcd_driver::tool;
-use tcd_reading::Status;
-use tcd_samples::{BOARD, BYTE_STORE, COUNTER, COUNTER_CERT, CROWDED, edited, words_of};
 
-// A15 is D0008000 and D0 is 1 at the store.
-static BYTE_STORE_CERT: [u8; 241] = [
-    0x54, 0x43, 0x44, 0x43, 0x01, 0x00, 0x01, 0x00, 0x00, 0x00, 0x00, 0x00, 0x80, 0x00, 0x00, 0x00,
-    0x00, 0x00, 0x05, 0x00, 0x00, 0x00, 0x00, 0x00, 0x00, 0x80, 0x00, 0x00, 0x00, 0x00, 0x00, 0x00,
-    0x00, 0x00, 0x00, 0x00, 0x00, 0x00, 0x00, 0x00, 0x00, 0x00, 0x00, 0x00, 0x00, 0x00, 0x00, 0x00,
-    0x00, 0x00, 0x00, 0x00, 0x01, 0x00, 0x90, 0x00, 0xd0, 0x00, 0x00, 0x00, 0x00, 0x04, 0x00, 0x00,
-    0x80, 0x00, 0x00, 0x00, 0x00, 0x00, 0x00, 0x00, 0x00, 0x00, 0x00, 0x00, 0x00, 0x00, 0x00, 0x00,
-    0x00, 0x00, 0x00, 0x00, 0x00, 0x00, 0x00, 0x00, 0x00, 0x00, 0x00, 0x01, 0x00, 0x90, 0x00, 0xd0,
-    0x00, 0x00, 0x00, 0x01, 0x00, 0x00, 0x01, 0xd0, 0x08, 0x00, 0x00, 0x80, 0x00, 0x00, 0x00, 0x00,
-    0x00, 0x00, 0x00, 0x00, 0x00, 0x00, 0x00, 0x00, 0x00, 0x00, 0x00, 0x00, 0x00, 0x00, 0x00, 0x00,
-    0x00, 0x00, 0x00, 0x00, 0x00, 0x00, 0x01, 0x00, 0x90, 0x00, 0xd0, 0x00, 0x00, 0x00, 0x01, 0x00,
-    0x80, 0x00, 0xd0, 0x0c, 0x00, 0x00, 0x80, 0x00, 0x00, 0x00, 0x00, 0x01, 0x01, 0x00, 0x00, 0x00,
-    0x00, 0x00, 0x00, 0x00, 0x00, 0x00, 0x00, 0x00, 0x00, 0x00, 0x00, 0x00, 0x00, 0x00, 0x00, 0x00,
-    0x00, 0x00, 0x00, 0x00, 0x00, 0x01, 0x00, 0x90, 0x00, 0xd0, 0x00, 0x00, 0x00, 0x01, 0x00, 0x80,
-    0x00, 0xd0, 0x10, 0x00, 0x00, 0x80, 0x00, 0x00, 0x00, 0x00, 0x01, 0x01, 0x00, 0x00, 0x00, 0x00,
-    0x00, 0x00, 0x00, 0x00, 0x00, 0x00, 0x00, 0x00, 0x00, 0x00, 0x00, 0x00, 0x00, 0x00, 0x00, 0x00,
-    0x00, 0x00, 0x00, 0x00, 0x01, 0x00, 0x90, 0x00, 0xd0, 0x00, 0x00, 0x00, 0x01, 0x00, 0x80, 0x00,
-    0xd0,
-];
+const CASES: &str = r#"
+text COUNTED
+    cell D0008000 00000000 00000003
 
-// At 80000000: `movh.a a15, 53249`, `ld.w.l d15, [a15]-32768`, `addsc.a a14, a15, d15, 2`, `mov d0, 1`,
-// `st.w.l [a14]-32768, d0`, `j16 .+0`.
-static EITHER_CELL: [u8; 106] = [
-    0x7f, 0x45, 0x4c, 0x46, 0x01, 0x01, 0x01, 0x00, 0x00, 0x00, 0x00, 0x00, 0x00, 0x00, 0x00, 0x00,
-    0x02, 0x00, 0x2c, 0x00, 0x01, 0x00, 0x00, 0x00, 0x00, 0x00, 0x00, 0x80, 0x34, 0x00, 0x00, 0x00,
-    0x00, 0x00, 0x00, 0x00, 0x00, 0x00, 0x00, 0x00, 0x34, 0x00, 0x20, 0x00, 0x01, 0x00, 0x00, 0x00,
-    0x00, 0x00, 0x00, 0x00, 0x01, 0x00, 0x00, 0x00, 0x54, 0x00, 0x00, 0x00, 0x00, 0x00, 0x00, 0x80,
-    0x00, 0x00, 0x00, 0x80, 0x16, 0x00, 0x00, 0x00, 0x16, 0x00, 0x00, 0x00, 0x05, 0x00, 0x00, 0x00,
-    0x01, 0x00, 0x00, 0x00, 0x91, 0x10, 0x00, 0xfd, 0x19, 0xff, 0x00, 0x08, 0x01, 0xff, 0x02, 0xe6,
-    0x3b, 0x10, 0x00, 0x00, 0x59, 0xe0, 0x00, 0x08, 0x3c, 0x00,
-];
+case a counter keeps its bounds
+put e COUNTER
+put p BOARD
+put q COUNTED
+put c COUNTER_CERT
+run done cells e p q c
+    certified 0 of 2 areas with 1 cells
+# With the mask 7 the value is 1 to 4.
+put e COUNTER 5f=7f
+put c COUNTER_CERT f6=01 fa=02 fe=03 102=04 131=01 135=02 139=03 13d=04
+run refused cells e p q c
+    refused K16 at 8000000E in start 80000000 prio 0 is 0
+# The certificate is judged under the plan in which the cell is a device.
+text TO_FOUR
+    cell D0008000 00000000 00000004
+put e COUNTER
+put q TO_FOUR
+put c COUNTER_CERT
+run refused cells e p q c
+    refused K4 at 80000004 in start 80000000 prio 0 is 0
 
-// D15 is 0 or 1, so that D0008000 or D0008004 is written.
-static EITHER_CELL_CERT: [u8; 340] = [
-    0x54, 0x43, 0x44, 0x43, 0x01, 0x00, 0x01, 0x00, 0x00, 0x00, 0x00, 0x00, 0x80, 0x00, 0x00, 0x00,
-    0x00, 0x00, 0x06, 0x00, 0x00, 0x00, 0x00, 0x00, 0x00, 0x80, 0x00, 0x00, 0x00, 0x00, 0x00, 0x00,
-    0x00, 0x00, 0x00, 0x00, 0x00, 0x00, 0x00, 0x00, 0x00, 0x00, 0x00, 0x00, 0x00, 0x00, 0x00, 0x00,
-    0x00, 0x00, 0x00, 0x00, 0x01, 0x00, 0x90, 0x00, 0xd0, 0x00, 0x00, 0x00, 0x00, 0x04, 0x00, 0x00,
-    0x80, 0x00, 0x00, 0x00, 0x00, 0x00, 0x00, 0x00, 0x00, 0x00, 0x00, 0x00, 0x00, 0x00, 0x00, 0x00,
-    0x00, 0x00, 0x00, 0x00, 0x00, 0x00, 0x00, 0x00, 0x00, 0x00, 0x00, 0x01, 0x00, 0x90, 0x00, 0xd0,
-    0x00, 0x00, 0x00, 0x01, 0x00, 0x00, 0x01, 0xd0, 0x08, 0x00, 0x00, 0x80, 0x00, 0x00, 0x00, 0x00,
-    0x00, 0x00, 0x00, 0x00, 0x00, 0x00, 0x00, 0x00, 0x00, 0x00, 0x00, 0x00, 0x00, 0x00, 0x00, 0x02,
-    0x00, 0x00, 0x00, 0x00, 0x01, 0x00, 0x00, 0x00, 0x00, 0x00, 0x00, 0x00, 0x00, 0x00, 0x01, 0x00,
-    0x90, 0x00, 0xd0, 0x00, 0x00, 0x00, 0x01, 0x00, 0x00, 0x01, 0xd0, 0x0c, 0x00, 0x00, 0x80, 0x00,
-    0x00, 0x00, 0x00, 0x00, 0x00, 0x00, 0x00, 0x00, 0x00, 0x00, 0x00, 0x00, 0x00, 0x00, 0x00, 0x00,
-    0x00, 0x00, 0x02, 0x00, 0x00, 0x00, 0x00, 0x01, 0x00, 0x00, 0x00, 0x00, 0x00, 0x00, 0x00, 0x00,
-    0x00, 0x01, 0x00, 0x90, 0x00, 0xd0, 0x00, 0x00, 0x02, 0x00, 0x00, 0x01, 0xd0, 0x04, 0x00, 0x01,
-    0xd0, 0x01, 0x00, 0x00, 0x01, 0xd0, 0x10, 0x00, 0x00, 0x80, 0x00, 0x00, 0x00, 0x00, 0x01, 0x01,
-    0x00, 0x00, 0x00, 0x00, 0x00, 0x00, 0x00, 0x00, 0x00, 0x00, 0x00, 0x00, 0x00, 0x00, 0x00, 0x00,
-    0x00, 0x02, 0x00, 0x00, 0x00, 0x00, 0x01, 0x00, 0x00, 0x00, 0x00, 0x00, 0x00, 0x00, 0x00, 0x00,
-    0x01, 0x00, 0x90, 0x00, 0xd0, 0x00, 0x00, 0x02, 0x00, 0x00, 0x01, 0xd0, 0x04, 0x00, 0x01, 0xd0,
-    0x01, 0x00, 0x00, 0x01, 0xd0, 0x14, 0x00, 0x00, 0x80, 0x00, 0x00, 0x00, 0x00, 0x01, 0x01, 0x00,
-    0x00, 0x00, 0x00, 0x00, 0x00, 0x00, 0x00, 0x00, 0x00, 0x00, 0x00, 0x00, 0x00, 0x00, 0x00, 0x00,
-    0x02, 0x00, 0x00, 0x00, 0x00, 0x01, 0x00, 0x00, 0x00, 0x00, 0x00, 0x00, 0x00, 0x00, 0x00, 0x01,
-    0x00, 0x90, 0x00, 0xd0, 0x00, 0x00, 0x02, 0x00, 0x00, 0x01, 0xd0, 0x04, 0x00, 0x01, 0xd0, 0x01,
-    0x00, 0x00, 0x01, 0xd0,
-];
+case cells lie in ram, apart
+put e COUNTER
+put p BOARD
+put c COUNTER_CERT
+text IN_ROM
+    cell 80000000 00000000 00000001
+put q IN_ROM
+run bad-input cells e p q c
+    bad cells 2 at 1
+text BEHIND_RAM
+    cell D0009000 00000000 00000001
+put q BEHIND_RAM
+run bad-input cells e p q c
+    bad cells 2 at 1
+# The last word of ram.
+text LAST_OF_RAM
+    cell D0008000 00000000 00000003
+    cell D0008FFC 00000000 00000001
+put q LAST_OF_RAM
+run done cells e p q c
+    certified 0 of 2 areas with 2 cells
+text SIDE_BY_SIDE
+    cell D0008000 00000000 00000003
+    cell D0008004 00000000 00000000
+put q SIDE_BY_SIDE
+run done cells e p q c
+    certified 0 of 2 areas with 2 cells
+text AGAIN
+    cell D0008000 00000000 00000003
+    cell D0008004 00000000 00000000
+    cell D0008000 00000000 00000003
+put q AGAIN
+run bad-input cells e p q c
+    bad cells 3 at 3
 
-// A worked image and its certificate.
-#[derive(Clone, Copy)]
-enum Program {
-    Counter,
-    ByteStore,
-    EitherCell,
-    Jump,
-}
+case cells are no more than a plan has devices for
+bytes LOOP_CERT
+    54434443 01000100 00000000 80000000 00000100 00000000 00800000 00000000
+    00000000 00000000 00000000 00000000 00000000 01009000 d0000000 00
+put e BYTE_STORE 54=3c 55=00
+put p CROWDED
+put c LOOP_CERT
+put q NOTHING
+run done cells e p q c
+    certified 0 of 2 areas with 0 cells
+text ONE_MORE
+    .
+    cell D0008000 00000000 00000003
+put q ONE_MORE
+run bad-input cells e p q c
+    bad cells 4 at 2
 
-fn files_of(program: Program) -> (&'static [u8], &'static [u8]) {
-    match program {
-        Program::Counter => (&COUNTER, &COUNTER_CERT),
-        Program::ByteStore => (&BYTE_STORE, &BYTE_STORE_CERT),
-        Program::EitherCell => (&EITHER_CELL, &EITHER_CELL_CERT),
-        Program::Jump => (&BYTE_STORE, &LOOP_CERT),
-    }
-}
+case a byte of a cell is not stored
+# A15 is D0008000 and D0 is 1 at the store.
+bytes BYTE_STORE_CERT
+    54434443 01000100 00000000 80000000 00000500 00000000 00800000 00000000
+    00000000 00000000 00000000 00000000 00000000 01009000 d0000000 00040000
+    80000000 00000000 00000000 00000000 00000000 00000000 00000001 009000d0
+    00000001 000001d0 08000080 00000000 00000000 00000000 00000000 00000000
+    00000000 00000100 9000d000 00000100 8000d00c 00008000 00000001 01000000
+    00000000 00000000 00000000 00000000 00000000 00010090 00d00000 00010080
+    00d01000 00800000 00000101 00000000 00000000 00000000 00000000 00000000
+    00000000 01009000 d0000000 01008000 d0
+put e BYTE_STORE
+put p BOARD
+put c BYTE_STORE_CERT
+put q COUNTED
+run refused cells e p q c
+    refused K16 at 8000000C in start 80000000 prio 0 is 0
+text BESIDE
+    cell D0008004 00000000 00000003
+put q BESIDE
+run done cells e p q c
+    certified 0 of 2 areas with 1 cells
 
-// A program with some bytes of its image and of its certificate changed, on a board and with cells, and what `cells`
-// answers and prints.
-struct Case {
-    program: Program,
-    edits: &'static [u32],
-    plan: &'static str,
-    cells: &'static str,
-    changes: &'static [u32],
-    status: Status,
-    line: &'static str,
-}
+case a word across two cells lies in no one range
+text BOTH
+    cell D0008000 00000000 00000003
+    cell D0008004 00000000 00000003
+put e BYTE_STORE 62=02 63=09
+put p BOARD
+put c BYTE_STORE_CERT
+put q BOTH
+run refused cells e p q c
+    refused K9 at 8000000C in start 80000000 prio 0 is 0
 
-// A counter keeps its bounds.
-static COUNTERS: [Case; 3] = [
-    Case {
-        program: Program::Counter,
-        edits: &[],
-        plan: BOARD,
-        cells: "cell D0008000 00000000 00000003\n",
-        changes: &[],
-        status: Status::Done,
-        line: "certified 0 of 2 areas with 1 cells\n",
-    },
-    // With the mask 7 the value is 1 to 4.
-    Case {
-        program: Program::Counter,
-        edits: &[0x05f_7f],
-        plan: BOARD,
-        cells: "cell D0008000 00000000 00000003\n",
-        changes: &[
-            0x0f6_01, 0x0fa_02, 0x0fe_03, 0x102_04, 0x131_01, 0x135_02, 0x139_03, 0x13d_04,
-        ],
-        status: Status::Refused,
-        line: "refused K16 at 8000000E in start 80000000 prio 0 is 0\n",
-    },
-    // The certificate is judged under the plan in which the cell is a device.
-    Case {
-        program: Program::Counter,
-        edits: &[],
-        plan: BOARD,
-        cells: "cell D0008000 00000000 00000004\n",
-        changes: &[],
-        status: Status::Refused,
-        line: "refused K4 at 80000004 in start 80000000 prio 0 is 0\n",
-    },
-];
+case a store that may touch two cells keeps both
+# At 80000000: `movh.a a15, 53249`, `ld.w.l d15, [a15]-32768`, `addsc.a a14, a15, d15, 2`, `mov d0, 1`,
+# `st.w.l [a14]-32768, d0`, `j16 .+0`.
+bytes EITHER_CELL
+    7f454c46 01010100 00000000 00000000 02002c00 01000000 00000080 34000000
+    00000000 00000000 34002000 01000000 00000000 01000000 54000000 00000080
+    00000080 16000000 16000000 05000000 01000000 911000fd 19ff0008 01ff02e6
+    3b100000 59e00008 3c00
+# D15 is 0 or 1, so that D0008000 or D0008004 is written.
+bytes EITHER_CELL_CERT
+    54434443 01000100 00000000 80000000 00000600 00000000 00800000 00000000
+    00000000 00000000 00000000 00000000 00000000 01009000 d0000000 00040000
+    80000000 00000000 00000000 00000000 00000000 00000000 00000001 009000d0
+    00000001 000001d0 08000080 00000000 00000000 00000000 00000000 00000002
+    00000000 01000000 00000000 00000100 9000d000 00000100 0001d00c 00008000
+    00000000 00000000 00000000 00000000 00000200 00000001 00000000 00000000
+    00010090 00d00000 02000001 d0040001 d0010000 01d01000 00800000 00000101
+    00000000 00000000 00000000 00000000 00020000 00000100 00000000 00000000
+    01009000 d0000002 000001d0 040001d0 01000001 d0140000 80000000 00010100
+    00000000 00000000 00000000 00000000 02000000 00010000 00000000 00000001
+    009000d0 00000200 0001d004 0001d001 000001d0
+put e EITHER_CELL
+put p BOARD
+put c EITHER_CELL_CERT
+text ONE_IN_BOTH
+    cell D0008000 00000000 00000001
+    cell D0008004 00000001 00000002
+put q ONE_IN_BOTH
+run done cells e p q c
+    certified 0 of 2 areas with 2 cells
+text ONE_IN_THE_FIRST
+    cell D0008000 00000000 00000001
+    cell D0008004 00000002 00000003
+put q ONE_IN_THE_FIRST
+run refused cells e p q c
+    refused K16 at 80000010 in start 80000000 prio 0 is 0
 
-// Cells lie in ram, apart, and are no more than a plan has devices for.
-static PLACES: [Case; 7] = [
-    Case {
-        program: Program::Counter,
-        edits: &[],
-        plan: BOARD,
-        cells: "cell 80000000 00000000 00000001\n",
-        changes: &[],
-        status: Status::BadInput,
-        line: "bad cells 2 at 1\n",
-    },
-    Case {
-        program: Program::Counter,
-        edits: &[],
-        plan: BOARD,
-        cells: "cell D0009000 00000000 00000001\n",
-        changes: &[],
-        status: Status::BadInput,
-        line: "bad cells 2 at 1\n",
-    },
-    // The last word of ram.
-    Case {
-        program: Program::Counter,
-        edits: &[],
-        plan: BOARD,
-        cells: "cell D0008000 00000000 00000003\ncell D0008FFC 00000000 00000001\n",
-        changes: &[],
-        status: Status::Done,
-        line: "certified 0 of 2 areas with 2 cells\n",
-    },
-    // Two cells side by side.
-    Case {
-        program: Program::Counter,
-        edits: &[],
-        plan: BOARD,
-        cells: "cell D0008000 00000000 00000003\ncell D0008004 00000000 00000000\n",
-        changes: &[],
-        status: Status::Done,
-        line: "certified 0 of 2 areas with 2 cells\n",
-    },
-    Case {
-        program: Program::Counter,
-        edits: &[],
-        plan: BOARD,
-        cells: "cell D0008000 00000000 00000003\ncell D0008004 00000000 00000000\ncell D0008000 00000000 00000003\n",
-        changes: &[],
-        status: Status::BadInput,
-        line: "bad cells 3 at 3\n",
-    },
-    // As many devices as a plan may have, and then one more.
-    Case {
-        program: Program::Jump,
-        edits: &[0x054_3c, 0x055_00],
-        plan: CROWDED,
-        cells: "",
-        changes: &[],
-        status: Status::Done,
-        line: "certified 0 of 2 areas with 0 cells\n",
-    },
-    Case {
-        program: Program::Jump,
-        edits: &[0x054_3c, 0x055_00],
-        plan: CROWDED,
-        cells: "\ncell D0008000 00000000 00000003\n",
-        changes: &[],
-        status: Status::BadInput,
-        line: "bad cells 4 at 2\n",
-    },
-];
-
-// What stores may touch.
-static STORES: [Case; 5] = [
-    // A byte of a cell is not stored.
-    Case {
-        program: Program::ByteStore,
-        edits: &[],
-        plan: BOARD,
-        cells: "cell D0008000 00000000 00000003\n",
-        changes: &[],
-        status: Status::Refused,
-        line: "refused K16 at 8000000C in start 80000000 prio 0 is 0\n",
-    },
-    Case {
-        program: Program::ByteStore,
-        edits: &[],
-        plan: BOARD,
-        cells: "cell D0008004 00000000 00000003\n",
-        changes: &[],
-        status: Status::Done,
-        line: "certified 0 of 2 areas with 1 cells\n",
-    },
-    // A word across two cells lies in no one range.
-    Case {
-        program: Program::ByteStore,
-        edits: &[0x062_02, 0x063_09],
-        plan: BOARD,
-        cells: "cell D0008000 00000000 00000003\ncell D0008004 00000000 00000003\n",
-        changes: &[],
-        status: Status::Refused,
-        line: "refused K9 at 8000000C in start 80000000 prio 0 is 0\n",
-    },
-    // A store that may touch two cells keeps both.
-    Case {
-        program: Program::EitherCell,
-        edits: &[],
-        plan: BOARD,
-        cells: "cell D0008000 00000000 00000001\ncell D0008004 00000001 00000002\n",
-        changes: &[],
-        status: Status::Done,
-        line: "certified 0 of 2 areas with 2 cells\n",
-    },
-    Case {
-        program: Program::EitherCell,
-        edits: &[],
-        plan: BOARD,
-        cells: "cell D0008000 00000000 00000001\ncell D0008004 00000002 00000003\n",
-        changes: &[],
-        status: Status::Refused,
-        line: "refused K16 at 80000010 in start 80000000 prio 0 is 0\n",
-    },
-];
-
-// The status and the text of `cells` on four files.
-fn celled(
-    alloc: Global,
-    elf: &[u8],
-    plan: &str,
-    cells: &str,
-    cert: &[u8],
-) -> Result<(Status, Vec<u8>), Fail> {
-    let mut files = MemFiles::sure(alloc);
-    files.put("e", elf)?;
-    files.put("p", plan.as_bytes())?;
-    files.put("q", cells.as_bytes())?;
-    files.put("c", cert)?;
-    let mut out = MemSink::sure(alloc, 100)?;
-    let words = words_of(alloc, &["cells", "e", "p", "q", "c"])?;
-    let status = tool(alloc, &words, &mut files, &mut out);
-    Ok((status, Vec::from_slice(alloc, out.text())?))
-}
-
-fn answers(rt: &impl Abort, alloc: Global, case: &Case) -> Result<(), Fail> {
-    let (image, proof) = files_of(case.program);
-    let elf = edited(alloc, image, case.edits)?.ok_or("no such byte")?;
-    let cert = edited(alloc, proof, case.changes)?.ok_or("no such byte")?;
-    let (status, text) = celled(alloc, &elf, case.plan, case.cells, &cert)?;
-    assert_eq!(rt; text.as_slice(), case.line.as_bytes());
-    assert_eq!(rt; status, case.status);
-    Ok(())
-}
+case inputs are refused in their order
+put e COUNTER ..51
+put p LIST
+put q COUNTED ..4
+put c COUNTER_CERT ..7
+run bad-input cells e p q c
+    bad elf 1
+put e COUNTER
+run bad-input cells e p q c
+    bad plan 1
+put p BOARD
+run bad-input cells e p q c
+    bad cells 1 at 1
+put q NOTHING
+run bad-input cells e p q c
+    bad cert 1 at 6
+"#;
 
 #[test]
-fn a_counter_keeps_its_bounds(rt: HostRuntime) -> Result<(), Fail> {
-    for case in &COUNTERS {
-        answers(&rt, rt.alloc(), case)?;
-    }
-    Ok(())
-}
-
-#[test]
-fn cells_lie_in_ram_and_are_few(rt: HostRuntime) -> Result<(), Fail> {
-    for case in &PLACES {
-        answers(&rt, rt.alloc(), case)?;
-    }
-    Ok(())
-}
-
-#[test]
-fn stores_keep_the_cells_that_they_may_touch(rt: HostRuntime) -> Result<(), Fail> {
-    for case in &STORES {
-        answers(&rt, rt.alloc(), case)?;
-    }
-    Ok(())
-}
-
-// What `cells` prints of files of other forms.
-fn refused(
-    rt: &impl Abort,
-    alloc: Global,
-    elf: &[u8],
-    plan: &str,
-    cells: &str,
-    line: &str,
-) -> Result<(), Fail> {
-    let (status, text) = celled(alloc, elf, plan, cells, &COUNTER_CERT[..7])?;
-    assert_eq!(rt; text.as_slice(), line.as_bytes());
-    assert_eq!(rt; status, Status::BadInput);
-    Ok(())
-}
-
-#[test]
-fn inputs_are_refused_in_their_order(rt: HostRuntime) -> Result<(), Fail> {
-    let alloc = rt.alloc();
-    refused(&rt, alloc, &COUNTER[..51], "[]", "cell", "bad elf 1\n")?;
-    refused(&rt, alloc, &COUNTER, "[]", "cell", "bad plan 1\n")?;
-    refused(&rt, alloc, &COUNTER, BOARD, "cell", "bad cells 1 at 1\n")?;
-    refused(&rt, alloc, &COUNTER, BOARD, "", "bad cert 1 at 6\n")
+fn cells_keep_their_bounds(rt: HostRuntime) -> Result<(), Fail> {
+    play(&rt, CASES)
 }

@@ -1,15 +1,43 @@
-//! Tests of the commands that check, run, boot, assemble, link and list, by files in memory and `tool` alone.
+//! Tests of the commands, by files in memory and `tool` alone: texts of cases that are played.
 #![tactic(auto)]
 
 #[cfg(test)]
-mod boards;
-#[cfg(test)]
 mod boot;
+#[cfg(test)]
+mod building;
+#[cfg(test)]
+mod cellcert;
 #[cfg(test)]
 mod cells;
 #[cfg(test)]
-mod commands;
+mod checking;
+#[cfg(test)]
+mod executables;
+#[cfg(test)]
+mod files;
+#[cfg(test)]
+mod generating;
+#[cfg(test)]
+mod graphs;
 #[cfg(test)]
 mod inputs;
 #[cfg(test)]
-mod rows;
+mod linking;
+#[cfg(test)]
+mod listings;
+#[cfg(test)]
+mod making;
+#[cfg(test)]
+mod plans;
+#[cfg(test)]
+mod samples;
+#[cfg(test)]
+mod scripts;
+#[cfg(test)]
+mod ship;
+#[cfg(test)]
+mod sources;
+#[cfg(test)]
+mod stage;
+#[cfg(test)]
+mod tasks;

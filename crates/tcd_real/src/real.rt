@@ -1,0 +1,95 @@
+// The files of the system and standard output.
+ghost use Rattle.std.specs.Prelude.{◌≡◌, ◌≤◌, length, vec_len};
+
+use std::alloc::Global;
+use std::io::{Read, Write};
+use std::{fs, io, rt};
+use tcd_base::{FileErr, Files, Sink, SinkErr};
+
+/// The files of the system.
+#[derive(Drop)]
+pub struct RealFiles<'a, R> {
+    pub rt: &'a R,
+    pub failed: u64,
+}
+
+/// Standard output.
+#[derive(Drop)]
+pub struct Stdout<'a, R> {
+    pub rt: &'a R,
+    pub failed: u64,
+}
+
+impl<'a, R: rt::Files> Files for RealFiles<'a, R> {
+    ghost use Rattle.std.specs.Prelude.{None, false};
+
+    ghost seen = { λ f. record { held = None; steady = false; faults = f.failed } };
+
+    ghost tells = { λ f h. Prim.cc };
+
+    fn read(&mut self, alloc: Global, name: &str, limit: u32) -> Result<Vec<u8>, FileErr> {
+        let Ok(mut file) = fs::open(self.rt, name) else {
+            self.failed = self.failed.saturating_add(1);
+            return Err(FileErr::Failed);
+        };
+        let mut bytes = Vec::new(alloc);
+        let mut buf = [0u8; 4096];
+        for _ in 0..=limit {
+            let Ok(count) = file.read(&mut buf) else {
+                self.failed = self.failed.saturating_add(1);
+                return Err(FileErr::Failed);
+            };
+            if count == 0 {
+                return Ok(bytes);
+            }
+            if count > limit as usize - bytes.len() {
+                return Err(FileErr::TooLong);
+            }
+            if bytes.extend_from_slice(&buf[..count]).is_err() {
+                return Err(FileErr::NoMemory);
+            }
+        }
+        Err(FileErr::TooLong)
+    }
+
+    fn write(&mut self, _alloc: Global, name: &str, bytes: &[u8]) -> Result<(), FileErr> {
+        let Ok(mut file) = fs::create(self.rt, name) else {
+            self.failed = self.failed.saturating_add(1);
+            return Err(FileErr::Failed);
+        };
+        if write_whole(&mut file, bytes) {
+            Ok(())
+        } else {
+            self.failed = self.failed.saturating_add(1);
+            Err(FileErr::Failed)
+        }
+    }
+}
+
+impl<'a, R: Print> Sink for Stdout<'a, R> {
+    ghost use Rattle.std.specs.Prelude.{None};
+
+    ghost seen = { λ s. record { written = None; room = None; faults = s.failed } };
+
+    fn write(&mut self, bytes: &[u8]) -> Result<(), SinkErr> {
+        let mut out = io::writer(self.rt);
+        if write_whole(&mut out, bytes) {
+            Ok(())
+        } else {
+            self.failed = self.failed.saturating_add(1);
+            Err(SinkErr::Failed)
+        }
+    }
+}
+
+// Writes all of the bytes, or stops at an error or at a write that takes none.
+fn write_whole<W: Write>(out: &mut W, bytes: &[u8]) -> bool {
+    let mut rest = bytes;
+    while !rest.is_empty() {
+        match out.write(rest) {
+            Ok(0) | Err(_) => return false,
+            Ok(count) => rest = &rest[count..],
+        }
+    }
+    true
+}

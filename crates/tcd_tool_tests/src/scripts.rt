@@ -1,0 +1,144 @@
+// Scripts that are refused, and the peaks of those that drive the machine.
+use crate::stage::play;
+use std::test::Fail;
+
+const CASES: &str = r#"
+case scripts of a plan with interrupts and no device
+put e NESTED
+put p INTERRUPTS
+text TURNS
+    irq 30
+put s TURNS ..6
+run bad-input run e p s
+    bad script 2 at 1
+text TURNS
+    step 1
+    .
+    irq 0
+put s TURNS
+run bad-input run e p s
+    bad script 2 at 3
+text TURNS
+    in 0 0 5
+put s TURNS ..8
+run bad-input run e p s
+    bad script 3 at 1
+text TURNS
+    step 100000
+    irq 10
+put s TURNS ..18
+run bad-input run e p s
+    bad script 4 at 2
+text TURNS
+    step 99999
+    step 2
+put s TURNS ..17
+run bad-input run e p s
+    bad script 4 at 2
+text TURNS
+    irq 256
+put s TURNS ..7
+run bad-input run e p s
+    bad script 1 at 1
+text TURNS
+    step 0
+put s TURNS ..6
+run bad-input run e p s
+    bad script 1 at 1
+text TURNS
+    step 100001
+put s TURNS ..11
+run bad-input run e p s
+    bad script 1 at 1
+text TURNS
+    step 01
+put s TURNS ..7
+run bad-input run e p s
+    bad script 1 at 1
+text TURNS
+    step +1
+put s TURNS ..7
+run bad-input run e p s
+    bad script 1 at 1
+text TURNS
+    step  1
+put s TURNS ..7
+run bad-input run e p s
+    bad script 1 at 1
+bytes TURNS
+    73746570 20310d0a
+put s TURNS
+run bad-input run e p s
+    bad script 1 at 1
+bytes TURNS
+    73746570 203120
+put s TURNS
+run bad-input run e p s
+    bad script 1 at 1
+bytes TURNS
+    20
+put s TURNS
+run bad-input run e p s
+    bad script 1 at 1
+text TURNS
+    aln 2
+put s TURNS ..5
+run bad-input run e p s
+    bad script 1 at 1
+text TURNS
+    Step 1
+put s TURNS ..6
+run bad-input run e p s
+    bad script 1 at 1
+
+case scripts of a plan with a device
+replace DEVICE BOARD
+    "devices":[]
+    "devices":[{"at":"0xF0000000","len":4,"lo":3,"hi":5}]
+put e CALLER
+put p DEVICE
+text TURNS
+    in 0 3 6
+put s TURNS ..8
+run bad-input run e p s
+    bad script 3 at 1
+text TURNS
+    in 0 2 5
+put s TURNS ..8
+run bad-input run e p s
+    bad script 3 at 1
+text TURNS
+    in 0 5 4
+put s TURNS ..8
+run bad-input run e p s
+    bad script 1 at 1
+text TURNS
+    in 4294967296 3 5
+put s TURNS ..17
+run bad-input run e p s
+    bad script 1 at 1
+
+case nested interrupts, and an area too few
+text NESTING
+    step 2
+    irq 10
+    step 2
+    irq 20
+    step 7
+replace SEVEN INTERRUPTS
+    "areas":8
+    "areas":7
+put e NESTED
+put p INTERRUPTS
+put s NESTING
+run done run e p s
+    events 13 peak 6 running
+put p SEVEN
+run done run e p s
+    events 6 peak 6 dead fcd at 8000000E
+"#;
+
+#[test]
+fn scripts_are_refused_or_drive(rt: HostRuntime) -> Result<(), Fail> {
+    play(&rt, CASES)
+}
