@@ -7,6 +7,7 @@ pub mod Points
 pub mod PointLaws
 pub mod MoveLaws
 pub mod CodeLaws
+pub mod KnownCodeLaws
 pub mod HeldLaws
 pub mod AccessGrowth
 pub mod FirstFault

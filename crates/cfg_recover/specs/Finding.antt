@@ -7,6 +7,7 @@ use Rattle.tc_isa.specs.Insts.{InstData}
 use Rattle.tc_isa.specs.Shapes.{shape_of}
 use Rattle.tc_encode.specs.Decoding.{decoded_of}
 use Rattle.tcd_base.specs.Ranges.{IsInOne}
+use Rattle.cfg_recover.specs.declared.local.Located.{Located}
 use Rattle.cfg_recover.specs.Code.{IsCode, HasCode}
 
 -- the n bytes from x on, where segments hold them all
@@ -33,3 +34,8 @@ FindsBytes bytes None = (inst : InstData) (n : ℕ) → decoded_of bytes ≡ Ok 
 abbrev pub FindsCode : ImageData → PlanData → ℕ → Option (InstData × ℕ) → Type 0
 FindsCode image plan p (Some (inst, n)) = IsCode image plan p (shape_of inst) n
 FindsCode image plan p None = HasCode image plan p → ⊥
+
+-- the shape and the size of the instruction at an address, or none
+abbrev pub LocatesCode : ImageData → PlanData → ℕ → Option Located → Type 0
+LocatesCode image plan p (Some found) = IsCode image plan p found.shape found.size
+LocatesCode image plan p None = HasCode image plan p → ⊥

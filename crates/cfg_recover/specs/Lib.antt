@@ -10,6 +10,7 @@ pub mod Finding
 pub mod Flows
 pub mod FrameLaws
 pub mod Frames
+pub mod KnownCodes
 pub mod Moves
 pub mod Local
 pub mod LocalFaults

@@ -102,7 +102,7 @@ pub fn code_at(image: &Image, plan: &Plan, addr: u32) -> Option<(Inst, u32)>
 
 /// Four bytes of the image in one rom range.
 #[inline(always)]
-fn four_in_rom(image: &Image, plan: &Plan, addr: u32) -> Option<[u8; 4]>
+pub(crate) fn four_in_rom(image: &Image, plan: &Plan, addr: u32) -> Option<[u8; 4]>
     ensures { FindsInRom image.now plan.now addr 4 result }
 {
     if is_in_rom(plan, addr, 4) {

@@ -1,10 +1,12 @@
 // The first rule whose own part fails at a point.
-ghost use Rattle.std.specs.Prelude.{ℕ, IfErr, IfOk, MatchResult};
+ghost use Rattle.std.specs.Prelude.{ℕ, IfErr, IfOk, IfSome, MatchResult};
+ghost use Rattle.elf_image.specs.Images.{ImageData};
 ghost use Rattle.tc_isa.specs.Bounded.{IsShape};
 ghost use Rattle.tc_isa.specs.Shapes.{shape_of};
 ghost use Rattle.value_domain.specs.State.{AreValues};
 ghost use Rattle.cfg_recover.specs.Local.{IsLocalFault};
 ghost use Rattle.cfg_recover.specs.Changes.{StandsFaultless};
+ghost use Rattle.cfg_recover.specs.Finding.{LocatesCode};
 ghost use Rattle.cfg_recover.specs.LocalFaults.{IsLeastBroken, IsAccessFault, FindsFaultless};
 
 use crate::code::code_at;
@@ -49,6 +51,30 @@ pub fn local_check(
             shape,
             size: found.1,
         }),
+    }
+}
+
+/// The same for what stands at a point, found before, whichever image and address that is.
+pub fn check_located(
+    b: &Bounds,
+    plan: &Plan,
+    key: &Key,
+    s: &State,
+    located: Option<Located>,
+) -> Result<Located, u8>
+    requires values { AreValues b.now s.now.regs }
+    requires shape { IfSome located (λ found. IsShape found.shape) }
+    ensures found { (image : ImageData) (p : ℕ) → LocatesCode image plan.now p located
+        → IfOk result (StandsFaultless b.now image plan.now key.now p s.now) }
+    ensures fault { (image : ImageData) (p : ℕ) → LocatesCode image plan.now p located
+        → IfErr result (IsLocalFault b.now image plan.now key.now p s.now) }
+{
+    let Some(found) = located else {
+        return Err(3);
+    };
+    match first_fault(b, plan, key, s, found.shape) {
+        Some(rule) => Err(rule),
+        None => Ok(found),
     }
 }
 

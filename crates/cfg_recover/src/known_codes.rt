@@ -1,0 +1,112 @@
+// What words of code are, kept from point to point.
+ghost use Rattle.std.specs.Prelude.{◌≡◌, ◌<◌, ◌^◌, ℕ, IfSome, slice_index};
+ghost use Rattle.std.specs.Coded.{Coded-set};
+ghost use Rattle.tc_isa.specs.Bounded.{IsShape};
+ghost use Rattle.tc_encode.specs.Decoding.{decoded_of};
+ghost use Rattle.cfg_recover.specs.Finding.{LocatesCode};
+ghost use Rattle.cfg_recover.specs.KnownCodes.{located_of, located_in, IsKnown};
+
+use crate::code::{code_at, four_in_rom};
+use crate::local::Located;
+use elf_image::Image;
+use tc_encode::decode;
+use tc_isa::shape;
+use tcd_plan::Plan;
+
+/// A word of code, and what its bytes are.
+#[derive(Clone, Copy)]
+pub(crate) struct KnownCode {
+    word: u32,
+    found: Option<Located>,
+    ghost known: { IsKnown word found } by { Coded-set found-code found (located_in word) },
+}
+
+/// Words of code that were met lately, wherever they stand, each at a place that the word gives; one that is met later takes
+/// the place of one before it.
+#[derive(Drop)]
+pub struct KnownCodes {
+    codes: [KnownCode; 256],
+}
+
+/// The place of a word: the highest byte of its product with 01010101, which is the sum of its bytes but for what is carried.
+#[inline(always)]
+fn place_of(word: u32) -> usize
+    ensures { result < 256 }
+{
+    (word.wrapping_mul(0x0101_0101) / 0x100_0000) as usize
+}
+
+/// Bytes are below 256, as their type says.
+fn are_bytes(bytes: &[u8])
+    ensures { (k : ℕ) → slice_index bytes.now k < 2 ^ 8 }
+{}
+
+/// The word of the instruction with which four bytes begin: all of them, or the first two alone, as it has only these where the
+/// first is even.
+#[inline(always)]
+fn code_word(bytes: [u8; 4]) -> u32
+    ensures { located_in result ≡ located_of (decoded_of bytes) }
+{
+    are_bytes(&bytes);
+    let word = u32::from_le_bytes(bytes);
+    if word % 2 == 1 { word } else { word % 0x1_0000 }
+}
+
+/// What the bytes of a word are, decoded.
+#[inline(never)]
+fn known_code(word: u32) -> KnownCode
+    ensures { result.word ≡ word }
+{
+    let found = match decode(&word.to_le_bytes()) {
+        Ok(found) => Some(Located {
+            shape: shape(&found.0),
+            size: found.1 as u32,
+        }),
+        Err(_) => None,
+    };
+    KnownCode { word, found }
+}
+
+/// What stands at an address, decoded.
+#[inline(never)]
+fn decoded_at(image: &Image, plan: &Plan, addr: u32) -> Option<Located>
+    ensures code { LocatesCode image.now plan.now addr result }
+    ensures shape { IfSome result (λ found. IsShape found.shape) }
+{
+    let (inst, size) = code_at(image, plan, addr)?;
+    Some(Located {
+        shape: shape(&inst),
+        size,
+    })
+}
+
+impl KnownCodes {
+    /// Nothing is known but what 00 00 is.
+    pub fn new() -> KnownCodes {
+        KnownCodes {
+            codes: [known_code(0); 256],
+        }
+    }
+
+    /// What stands at an address: as it is known of the word there, else decoded, and known from then on.
+    pub fn located(&mut self, image: &Image, plan: &Plan, addr: u32) -> Option<Located>
+        ensures code { LocatesCode image.now plan.now addr result }
+        ensures shape { IfSome result (λ found. IsShape found.shape) }
+    {
+        if addr % 2 == 1 {
+            return None;
+        }
+        let Some(bytes) = four_in_rom(image, plan, addr) else {
+            return decoded_at(image, plan, addr);
+        };
+        let word = code_word(bytes);
+        let place = place_of(word);
+        let known = self.codes[place];
+        if known.word == word {
+            return known.found;
+        }
+        let code = known_code(word);
+        self.codes[place] = code;
+        code.found
+    }
+}
