@@ -1,6 +1,8 @@
 -- Values that duties ask for.
-use Rattle.std.proofs.Common.{◌≡◌, Bool, true, false, List, length, take, drop, sym, ap, ◌∙◌, arith}
+use Rattle.std.proofs.Common.{◌≡◌, ℕ, Bool, true, false, Option, Some, None, List, length, nat_eq, take, drop, refl, subst, sym, ap, ◌∙◌, arith}
 use Rattle.std.specs.Prelude.{if◌then◌else◌}
+use Rattle.std.specs.Option.{option_eq}
+use Rattle.std.proofs.lemmas.Bool.{eq-eqb, eqb-true}
 use Rattle.std.proofs.lemmas.List.{length-append, length-take-le, length-drop}
 use Rattle.value_domain.specs.declared.values.Val.{Val}
 use Rattle.value_domain.specs.Limits.{Limits}
@@ -36,3 +38,14 @@ module _ (asked : Asked) (k : Context) (t : Bool) (is : t ≡ is_exit asked) (by
 
   pub asked_state : t ≡ false → asked_for asked ≡ state (state_with (values_asked asked) k)
   asked_state e = by ∙ ap known_if (sym is ∙ e)
+
+-- ---- a place that is told by a test
+pub is_place : (at : Option ℕ) (i : ℕ) → option_eq nat_eq at (Some i) ≡ true → at ≡ Some i
+is_place None i e = absurd (let f : false ≡ true = e in cc)
+is_place (Some k) i e = ap Some (eqb-true k i e)
+
+pub other_place : (at : Option ℕ) (i : ℕ) → option_eq nat_eq at (Some i) ≡ false → at ≡ Some i → ⊥
+other_place at i e is =
+    let same : nat_eq i i ≡ true = eq-eqb i i refl in
+    let none : nat_eq i i ≡ false = subst (λ (a : Option ℕ). option_eq nat_eq a (Some i) ≡ false) is e in
+    cc

@@ -133,3 +133,16 @@ join_rest b v w held words n ve we have =
         | inr rest ↦ append_right z (members v) (drop n words) rest
       ]
     ])
+
+-- a word joined with a set is added to it
+pub join_one : (b : Limits) (v w : Val) (words : List ℕ) (x : ℕ) → v ≡ Set (x ∷ []) → w ≡ Set words → cover b (words ++ x ∷ []) ≡ join_of b v w
+join_one b v w words x ve we =
+    cover-same b (words ++ x ∷ []) (members v ++ members w)
+    (λ z i. elim (among_append z words (x ∷ []) i) [
+      | inl j ↦ append_right z (members v) (members w) (subst (λ (u : Val). Among z (members u)) (sym we) j)
+      | inr j ↦ append_left z (members v) (members w) (subst (λ (u : Val). Among z (members u)) (sym ve) j)
+    ])
+    (λ z i. elim (among_append z (members v) (members w) i) [
+      | inl j ↦ append_right z words (x ∷ []) (subst (λ (u : Val). Among z (members u)) ve j)
+      | inr j ↦ append_left z words (x ∷ []) (subst (λ (u : Val). Among z (members u)) we j)
+    ])

@@ -2,5 +2,6 @@ pub mod SameValues
 pub mod WordTests
 pub mod AskedLemmas
 pub mod SparseLemmas
-pub mod GapLemmas
+pub mod WrittenOver
 pub mod HeldWords
+pub mod ZeroLemmas

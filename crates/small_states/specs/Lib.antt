@@ -2,4 +2,4 @@
 pub mod Forms
 pub mod Wholes
 pub mod Kept
-pub mod Gaps
+pub mod Zeros

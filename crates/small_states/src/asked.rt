@@ -2,16 +2,17 @@
 ghost use Rattle.std.specs.Prelude.{◌≡◌, ◌≤◌, ◌<◌, ◌-◌, ◌==◌, length, nat_lt, slice_index_or, if◌then◌else◌};
 ghost use Rattle.value_domain.specs.Values.{any_val};
 ghost use Rattle.value_domain.specs.State as states;
-ghost use Rattle.depth_cert.specs.Exits.{lower_values, with_lower_from};
-ghost use Rattle.small_states.specs.Kept.{asked_for, given_of, is_exit, known_by, values_asked};
+ghost use Rattle.depth_cert.specs.Exits.{with_lower_from};
+ghost use Rattle.vd_transfer.specs.Changes.{base_of, state_after};
+ghost use Rattle.small_states.specs.Kept.{asked_for, asking, given_of, is_exit, known_by, values_asked};
 ghost use Rattle.small_states.specs.Wholes.{all_values};
 ghost use Rattle.depth_cert.specs.Known.{priority_of};
 
-use crate::{Small, SmallExit};
+use crate::{Small, SmallExit, Values};
 use arrayvec::ArrayVec;
 use depth_cert::lower_value;
 use value_domain::{State, Val};
-use vd_transfer::{Change, changed_value};
+use vd_transfer::{Base, Change, is_lower_slot};
 
 /// What a duty asks for at a place, told by the state of the point that owes it, so that nothing is built where it is
 /// covered: the changed state; the state after an entered frame of a kind (1 call, 3 system call) that came back by an exit;
@@ -63,13 +64,6 @@ pub(crate) fn is_leaving(asked: &Asked) -> bool
     }
 }
 
-/// A call comes back with its exit's IE, a system call with its caller's.
-fn ie_after(s: &State, exit: &SmallExit, kind: u8) -> bool
-    ensures { result ≡ (if kind == 1 then exit.now.ie else s.now.ie) }
-{
-    if kind == 1 { exit.ie } else { s.ie }
-}
-
 /// What is asked for beside values.
 pub(crate) fn context_of<'a>(asked: &Asked<'a>) -> Context<'a>
     ensures { asked_for asked.now ≡ known_by asked.now result }
@@ -83,7 +77,8 @@ pub(crate) fn context_of<'a>(asked: &Asked<'a>) -> Context<'a>
             locals: &c.locals,
         },
         Asked::After(s, exit, kind) => Context {
-            ie: ie_after(s, exit, *kind),
+            // a call comes back with its exit's IE, a system call with its caller's
+            ie: if *kind == 1 { exit.ie } else { s.ie },
             ccpn,
             lower: false,
             locals: &s.locals,
@@ -111,21 +106,57 @@ pub(crate) fn count_asked(asked: &Asked) -> usize
             let _regs = &s.regs[..];
             27
         }
-        Asked::Leaving(s) => lower_count(s),
+        Asked::Leaving(s) => {
+            let _regs = &s.regs[..];
+            14
+        }
     }
 }
 
-fn lower_count(s: &State) -> usize
-    ensures long { result ≡ length (lower_values s.now.regs) }
-    ensures few { result ≤ 27 }
+/// The value that a change starts from at a place.
+#[inline(always)]
+fn base_given<'a>(s: &'a State, base: Base, any: &'a Small, i: usize) -> Given<'a>
+    requires place { i < 27 }
+    requires any { any.now ≡ any_val }
+    ensures { given_of result ≡ slice_index_or (base_of base s.now.regs) i any_val }
 {
     let _regs = &s.regs[..];
-    14
+    match base {
+        Base::Same => Given::Whole(&s.regs[i]),
+        Base::Forgotten => {
+            if is_lower_slot(i) {
+                Given::Packed(any)
+            } else {
+                Given::Whole(&s.regs[i])
+            }
+        }
+        Base::Any => Given::Packed(any),
+    }
+}
+
+/// The value of a changed state at a place.
+#[inline(always)]
+fn changed_given<'a>(s: &'a State, c: &'a Change, any: &'a Small, i: usize) -> Given<'a>
+    requires place { i < 27 }
+    requires any { any.now ≡ any_val }
+    ensures { given_of result ≡ slice_index_or (state_after s.now c.now).regs i any_val }
+{
+    let _regs = &s.regs[..];
+    if c.third.at == Some(i) {
+        return Given::Whole(&c.third.value);
+    }
+    if c.second.at == Some(i) {
+        return Given::Whole(&c.second.value);
+    }
+    if c.first.at == Some(i) {
+        return Given::Whole(&c.first.value);
+    }
+    base_given(s, c.base, any, i)
 }
 
 /// The value of a place after a frame came back: the exit's for a lower register, else the one that it had.
 #[inline(always)]
-fn restored<'a>(i: usize, exit: &'a SmallExit, any: &'a Val, v: &'a Val) -> Given<'a>
+fn restored<'a>(i: usize, exit: &'a SmallExit, any: &'a Small, v: &'a Val) -> Given<'a>
     requires { any.now ≡ any_val }
     ensures { given_of result
         ≡ (if states.is_lower_slot i
@@ -144,7 +175,7 @@ fn restored<'a>(i: usize, exit: &'a SmallExit, any: &'a Val, v: &'a Val) -> Give
 
 /// The value after a frame came back by an exit.
 #[inline(always)]
-fn value_after<'a>(s: &'a State, exit: &'a SmallExit, any: &'a Val, i: usize) -> Given<'a>
+fn value_after<'a>(s: &'a State, exit: &'a SmallExit, any: &'a Small, i: usize) -> Given<'a>
     requires place { i < 27 }
     requires any { any.now ≡ any_val }
     ensures { given_of result
@@ -157,7 +188,7 @@ fn value_after<'a>(s: &'a State, exit: &'a SmallExit, any: &'a Val, i: usize) ->
 
 /// The value that is asked for at a place; `any` stands for each of which nothing is known.
 #[inline(always)]
-pub(crate) fn asked_value<'a>(asked: &'a Asked, any: &'a Val, i: usize) -> Given<'a>
+pub(crate) fn asked_value<'a>(asked: &'a Asked, any: &'a Small, i: usize) -> Given<'a>
     requires place { i < length (values_asked asked.now) }
     requires any { any.now ≡ any_val }
     ensures { given_of result ≡ slice_index_or (values_asked asked.now) i any_val }
@@ -165,7 +196,7 @@ pub(crate) fn asked_value<'a>(asked: &'a Asked, any: &'a Val, i: usize) -> Given
     match asked {
         Asked::Changed(s, c) => {
             let _regs = &s.regs[..];
-            Given::Whole(changed_value(s, c, any, i))
+            changed_given(s, c, any, i)
         }
         Asked::After(s, exit, _) => {
             let _regs = &s.regs[..];
@@ -174,6 +205,41 @@ pub(crate) fn asked_value<'a>(asked: &'a Asked, any: &'a Val, i: usize) -> Given
         Asked::Leaving(s) => {
             let _regs = &s.regs[..];
             Given::Whole(lower_value(&s.regs, i))
+        }
+    }
+}
+
+/// The same, for a point whose values are at hand in little room, which are copied as they are.
+#[inline(always)]
+pub(crate) fn own_value<'a>(
+    asked: &'a Asked,
+    own: &'a Values,
+    any: &'a Small,
+    i: usize,
+) -> Given<'a>
+    requires place { i < length (values_asked asked.now) }
+    requires own { all_values own.now ≡ (asking asked.now).regs }
+    requires any { any.now ≡ any_val }
+    ensures { given_of result ≡ slice_index_or (values_asked asked.now) i any_val }
+{
+    match asked {
+        Asked::Changed(s, c) => {
+            let _regs = &s.regs[..];
+            changed_given(s, c, any, i)
+        }
+        Asked::After(s, exit, _) => {
+            let _regs = &s.regs[..];
+            if is_lower_slot(i) {
+                return value_after(s, exit, any, i);
+            }
+            own.given_at(any, i)
+        }
+        Asked::Leaving(s) => {
+            let _regs = &s.regs[..];
+            if i < 8 {
+                return own.given_at(any, i);
+            }
+            own.given_at(any, i + 8)
         }
     }
 }

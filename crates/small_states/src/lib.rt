@@ -3,6 +3,7 @@
 
 mod asked;
 mod cells;
+mod gathered;
 mod scratch;
 mod small;
 mod sparse;

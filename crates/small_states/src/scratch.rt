@@ -1,71 +1,86 @@
 // A state that is written over again and again.
-ghost use Rattle.std.specs.Prelude.{◌≡◌, length};
-ghost use Rattle.small_states.specs.Gaps.{HasGaps, gaps_of};
+ghost use Rattle.std.specs.Prelude.{◌≡◌, IfSome, IsTrue, length};
 ghost use Rattle.small_states.specs.Wholes.{all_values, state_in};
 
 use crate::sparse::Values;
 use crate::states::{SmallState, copy_of};
-use arrayvec::ArrayVec;
 use std::marker::Model;
+use std::rc::Rc;
 use value_domain::{State, Val};
 
-/// A state to write others over, and how many values of which nothing is known stand before each other one: a state in little
-/// room with the same numbers is written by the values alone of which something is known.
+/// A state to write others over, and the values in little room that were written last, if they are at hand: of values with the
+/// same gaps only those are written that differ.
 #[derive(Drop)]
 pub struct ScratchState {
     state: State,
-    gaps: ArrayVec<u32, 27>,
+    last: Option<Rc<Values>>,
 }
 
 impl Model for ScratchState {
+    ghost use Rattle.std.specs.Prelude.{◌≡◌, IfSome};
     ghost use Rattle.value_domain.specs.declared.states.State.{State};
-    ghost use Rattle.small_states.specs.Gaps.{HasGaps};
+    ghost use Rattle.small_states.specs.Wholes.{all_values};
 
     ghost Value = { State };
 
     ghost view = { λ s. s.state };
 
-    ghost invariant = { λ s. HasGaps s.gaps.items s.state.regs };
+    ghost invariant = { λ s. IfSome s.last (λ last. s.state.regs ≡ all_values last.value) };
 }
 
-/// Writes values over others, and keeps how many of which nothing is known stand before each of the others.
-#[inline(never)]
-fn write_anew(values: &Values, regs: &mut [Val; 27], gaps: &mut ArrayVec<u32, 27>)
-    requires { length (all_values values.now) ≡ 27 }
-    ensures regs { regs.new ≡ all_values values.now }
-    ensures gaps { gaps.new.items ≡ gaps_of values.now.known.items }
-{
-    values.write(regs);
-    gaps.clear();
-    for spaced in values.known.as_slice() {
-        gaps.push(spaced.anys);
-    }
-}
-
-/// Writes values over others: where these have the same gaps, those alone of which something is known.
+/// Writes values over others, the last ones: where these have the same gaps, only those that differ. Says whether none was written.
 #[inline(always)]
-fn write_over(values: &Values, regs: &mut [Val; 27], gaps: &mut ArrayVec<u32, 27>)
+fn write_over(values: &Values, last: &Values, regs: &mut [Val; 27]) -> bool
     requires long { length (all_values values.now) ≡ 27 }
-    requires gaps { HasGaps gaps.old.items regs.old }
+    requires last { regs.old ≡ all_values last.now }
     ensures regs { regs.new ≡ all_values values.now }
-    ensures gaps { gaps.new.items ≡ gaps_of values.now.known.items }
+    ensures kept { IsTrue result → regs.new ≡ regs.old }
 {
     let known = values.known.as_slice();
-    if gaps.len() != known.len() {
-        write_anew(values, regs, gaps);
-        return;
+    let old = last.known.as_slice();
+    if old.len() != known.len() {
+        values.write(regs);
+        return false;
     }
+    let mut same = true;
     let mut at = 0;
     for n in 0..known.len() {
         let here = &known[n];
-        if gaps.as_slice()[n] != here.anys {
-            write_anew(values, regs, gaps);
-            return;
+        let before = &old[n];
+        if before.anys != here.anys {
+            values.write(regs);
+            return false;
         }
         let place = at + here.anys as usize;
-        here.value.write(&mut regs[place]);
+        if !here.value.is_equal(&before.value) {
+            here.value.replace(&mut regs[place]);
+            same = false;
+        }
         at = place + 1;
     }
+    same
+}
+
+/// Writes values over those that were written last, and keeps them as the last ones.
+#[inline(always)]
+fn write_values(values: &Rc<Values>, last: &mut Option<Rc<Values>>, regs: &mut [Val; 27])
+    requires long { length (all_values values.now.value) ≡ 27 }
+    requires last { IfSome last.old (λ v. regs.old ≡ all_values v.value) }
+    ensures regs { regs.new ≡ all_values values.now.value }
+    ensures last { IfSome last.new (λ v. regs.new ≡ all_values v.value) }
+{
+    match &*last {
+        Some(own) => {
+            if write_over(values.as_ref(), own.as_ref(), regs) {
+                return;
+            }
+        }
+        None => values.as_ref().write(regs),
+    }
+    *last = match values.clone() {
+        Ok(own) => Some(own),
+        Err(_) => None,
+    };
 }
 
 impl ScratchState {
@@ -73,9 +88,7 @@ impl ScratchState {
     pub fn new(state: State) -> ScratchState
         ensures { result ≡ state }
     {
-        let _regs = &state.regs[..];
-        let gaps = ArrayVec::from_array_in((), [0; 27]);
-        ScratchState { state, gaps }
+        ScratchState { state, last: None }
     }
 
     /// The state.
@@ -91,7 +104,7 @@ impl ScratchState {
         requires { length (all_values s.now.regs.value) ≡ 27 }
         ensures { self.new ≡ state_in s.now }
     {
-        write_over(s.regs.as_ref(), &mut self.state.regs, &mut self.gaps);
+        write_values(&s.regs, &mut self.last, &mut self.state.regs);
         self.state.ie = s.ie;
         self.state.ccpn = s.ccpn;
         self.state.lower = s.lower;

@@ -9,7 +9,6 @@ ghost use Rattle.small_states.specs.Forms.{val_of};
 ghost use Rattle.small_states.specs.Kept.{given_of};
 
 use crate::asked::Given;
-use crate::spelling::{put_any, put_one};
 use depth_cert::write_value;
 use std::alloc::{AllocError, Global};
 use std::marker::Model;
@@ -70,17 +69,27 @@ fn is_the_range(v: &Val, lo: u32, last: u32, step: u8) -> bool
     }
 }
 
-/// Whether two values are sets of the same words.
+/// Whether two values are sets of the same words. Of sets of the same length all words are compared, several at once.
+#[inline(never)]
 fn have_same_words(v: &Val, w: &Val) -> bool
     ensures { IsTrue result → v.now ≡ w.now }
 {
-    let Val::Set(own) = v else {
+    let Some(own) = v.words() else {
         return false;
     };
-    match w {
-        Val::Set(words) => own.as_slice() == words.as_slice(),
-        Val::Span { .. } => false,
+    let Some(words) = w.words() else {
+        return false;
+    };
+    if own.len() != words.len() {
+        return false;
     }
+    let mut same = true;
+    for n in 0..own.len() {
+        if own[n] != words[n] {
+            same = false;
+        }
+    }
+    same
 }
 
 /// How many of the words are among others, up to the first that isn't. Both ascend and are walked once.
@@ -131,17 +140,6 @@ fn range_of(lo: u32, last: u32, step: u8) -> Form
     Form::Range { lo, last, step }
 }
 
-/// A range in the form in which it is kept: all words have one of their own, which is told at once.
-#[inline(always)]
-fn form_of(lo: u32, last: u32, step: u8) -> Form
-    ensures { val_of result ≡ Span lo last step }
-{
-    if lo == 0 && last == u32::MAX && step == 0 {
-        return Form::Any;
-    }
-    range_of(lo, last, step)
-}
-
 // What needs room for a whole value stands in functions of its own, so that the others have no such room to fill.
 impl Small {
     /// A copy of a whole value.
@@ -180,7 +178,11 @@ impl Small {
                 Small::of_many(alloc, v)
             }
             Val::Span { lo, last, step } => {
-                let form = form_of(*lo, *last, *step);
+                // all words have a form of their own, which is told at once
+                if *lo == 0 && *last == u32::MAX && *step == 0 {
+                    return Ok(Small { form: Form::Any });
+                }
+                let form = range_of(*lo, *last, *step);
                 Ok(Small { form })
             }
         }
@@ -246,55 +248,53 @@ impl Small {
         }
     }
 
-    /// Whether it is this range, in this form.
-    #[inline(always)]
-    fn is_range(&self, lo: u32, last: u32, step: u8) -> bool
-        ensures { IsTrue result → self.now ≡ Span lo last step }
-    {
-        match &self.form {
-            Form::Range {
-                lo: own_lo,
-                last: own_last,
-                step: own_step,
-            } => *own_lo == lo && *own_last == last && *own_step == step,
-            _ => false,
-        }
-    }
-
-    /// Whether it is seen at once to be this value in little room.
-    #[inline(always)]
-    fn is_equal(&self, v: &Small) -> bool
+    /// Whether it is seen at once to be this value in little room, by its form; of a word it is told before the call.
+    #[inline(never)]
+    fn is_equal_form(&self, v: &Small) -> bool
         ensures { IsTrue result → v.now ≡ self.now }
     {
         match &v.form {
             Form::Any => self.is_any(),
             Form::One(x) => self.word() == Some(*x),
             Form::Many(own) => self.is_same(own.as_ref()),
-            Form::Range { lo, last, step } => self.is_range(*lo, *last, *step),
+            Form::Range { lo, last, step } => match &self.form {
+                Form::Range {
+                    lo: own_lo,
+                    last: own_last,
+                    step: own_step,
+                } => *own_lo == *lo && *own_last == *last && *own_step == *step,
+                _ => false,
+            },
         }
     }
 
-    /// A copy, whatever it holds; of a word it is told before the call.
+    /// Whether it is seen at once to be this value in little room.
+    #[inline(always)]
+    pub(crate) fn is_equal(&self, v: &Small) -> bool
+        ensures { IsTrue result → v.now ≡ self.now }
+    {
+        if let Form::One(x) = &v.form {
+            return self.word() == Some(*x);
+        }
+        self.is_equal_form(v)
+    }
+
+    /// A copy, whatever it holds; of all words and of one it is told before the call.
     #[inline(never)]
     fn copy_any(&self) -> Result<Small, AllocError>
         ensures { IfOk result (λ s. s ≡ self.now) }
     {
-        match &self.form {
-            Form::Any => Ok(Small { form: Form::Any }),
-            Form::One(x) => Ok(Small {
-                form: Form::One(*x),
-            }),
-            Form::Many(own) => Ok(Small {
-                form: Form::Many(own.clone()?),
-            }),
-            Form::Range { lo, last, step } => Ok(Small {
-                form: Form::Range {
-                    lo: *lo,
-                    last: *last,
-                    step: *step,
-                },
-            }),
-        }
+        let form = match &self.form {
+            Form::Any => Form::Any,
+            Form::One(x) => Form::One(*x),
+            Form::Many(own) => Form::Many(own.clone()?),
+            Form::Range { lo, last, step } => Form::Range {
+                lo: *lo,
+                last: *last,
+                step: *step,
+            },
+        };
+        Ok(Small { form })
     }
 
     /// A copy.
@@ -302,12 +302,13 @@ impl Small {
     pub(crate) fn copy(&self) -> Result<Small, AllocError>
         ensures { IfOk result (λ s. s ≡ self.now) }
     {
-        if let Form::One(x) = &self.form {
-            return Ok(Small {
+        match &self.form {
+            Form::Any => Ok(Small { form: Form::Any }),
+            Form::One(x) => Ok(Small {
                 form: Form::One(*x),
-            });
+            }),
+            _ => self.copy_any(),
         }
-        self.copy_any()
     }
 
     /// What is given, in little room.
@@ -323,7 +324,7 @@ impl Small {
 
     /// Writes the value over another.
     #[inline(never)]
-    fn replace(&self, out: &mut Val)
+    pub(crate) fn replace(&self, out: &mut Val)
         ensures { out.new ≡ self.now }
     {
         match &self.form {
@@ -337,37 +338,13 @@ impl Small {
         }
     }
 
-    /// Writes the value over another, unless it stands there already.
-    #[inline(always)]
-    pub fn write(&self, out: &mut Val)
-        ensures { out.new ≡ self.now }
-    {
-        if !self.is_same(out) {
-            self.replace(out);
-        }
-    }
-
     /// Adds the value's one spelling to `out`, by the whole value.
     #[inline(never)]
-    fn spell_whole(&self, out: &mut Vec<u8>) -> Result<(), NoMemory>
-        requires { IsWell self.now }
-        ensures { OnOk result (out.new.items ≡ out.old.items ++ bytes_of_value self.now) }
-    {
-        write_value(out, &self.value())
-    }
-
-    /// Adds the value's one spelling to `out`.
-    #[inline(always)]
     pub(crate) fn spell(&self, out: &mut Vec<u8>) -> Result<(), NoMemory>
         requires { IsWell self.now }
         ensures { OnOk result (out.new.items ≡ out.old.items ++ bytes_of_value self.now) }
     {
-        match &self.form {
-            Form::Any => put_any(out),
-            Form::One(x) => put_one(out, *x),
-            Form::Many(own) => write_value(out, own.as_ref()),
-            Form::Range { .. } => self.spell_whole(out),
-        }
+        write_value(out, &self.value())
     }
 
     /// Whether a word is one of its own.
@@ -418,6 +395,10 @@ impl Small {
         }
         match &self.form {
             Form::Many(own) => are_below(v, own.as_ref()),
+            Form::One(x) => match v.words() {
+                Some(words) => held_before(&[*x], words) == words.len(),
+                None => self.covers_whole(v),
+            },
             _ => self.covers_whole(v),
         }
     }
@@ -491,8 +472,24 @@ impl Small {
         Small::of(alloc, &out)
     }
 
-    /// The least value that holds it and these words, a set's. Of two sets only the words from the first that it hasn't on are
-    /// added; where these are more than four, both are joined whole.
+    /// The least value that holds these words, a set's, and one more.
+    #[inline(never)]
+    fn with_word(alloc: Global, b: &Bounds, words: &[u32], x: u32) -> Result<Small, AllocError>
+        requires { IsValue b.now (Set words.now) }
+        ensures { IfOk result (λ s. s ≡ cover b.now (words.now ++ x ∷ [])) }
+    {
+        let mut out = Val::one(0);
+        set_words(&mut out, words);
+        add_words(b, &mut out, &[x]);
+        if is_set(&out) {
+            let form = Form::Many(Rc::new(alloc, out)?);
+            return Ok(Small { form });
+        }
+        Small::of(alloc, &out)
+    }
+
+    /// The least value that holds it and these words, a set's. A word is added to them. Of two sets only the words from the first
+    /// that it hasn't on are added; where these are more than four, both are joined whole.
     #[inline(never)]
     fn join_words(
         &self,
@@ -506,6 +503,9 @@ impl Small {
         requires words { v.now ≡ Set words.now }
         ensures { IfOk result (λ s. s ≡ join_of b.now self.now v.now) }
     {
+        if let Form::One(x) = &self.form {
+            return Small::with_word(alloc, b, words, *x);
+        }
         let Form::Many(own) = &self.form else {
             return self.with_words(alloc, b, words);
         };
@@ -563,18 +563,6 @@ impl Small {
     }
 
     /// The least value that holds both.
-    fn join_small(&self, alloc: Global, b: &Bounds, v: &Small) -> Result<Small, AllocError>
-        requires own { IsValue b.now self.now }
-        requires value { IsValue b.now v.now }
-        ensures { IfOk result (λ s. s ≡ join_of b.now self.now v.now) }
-    {
-        if self.is_equal(v) {
-            return v.copy();
-        }
-        self.join_packed(alloc, b, v)
-    }
-
-    /// The least value that holds both.
     #[inline(always)]
     pub(crate) fn join_given(
         &self,
@@ -588,7 +576,12 @@ impl Small {
     {
         match v {
             Given::Whole(v) => self.join(alloc, b, v),
-            Given::Packed(v) => self.join_small(alloc, b, v),
+            Given::Packed(v) => {
+                if self.is_equal(v) {
+                    return v.copy();
+                }
+                self.join_packed(alloc, b, v)
+            }
         }
     }
 }

@@ -38,15 +38,6 @@ fn write_anys(out: &mut [Val; 27], from: usize, to: usize)
 }
 
 impl Values {
-    /// No values, with room for so many that are known.
-    #[inline(always)]
-    pub(crate) fn with_room(alloc: Global, count: usize) -> Result<Values, AllocError>
-        ensures { IfOk result (λ v. all_values v ≡ []) }
-    {
-        let known = Vec::with_capacity(alloc, count)?;
-        Ok(Values { known, rest: 0 })
-    }
-
     /// Adds so many values of which nothing is known.
     #[inline(always)]
     pub(crate) fn add_anys(&mut self, count: u32)
@@ -83,16 +74,6 @@ impl Values {
         self.add_small(value)
     }
 
-    /// Adds a value as it is at hand.
-    #[inline(always)]
-    pub(crate) fn add(&mut self, alloc: Global, v: &Given) -> Result<(), AllocError>
-        requires { length (all_values self.old) + 1 < 2 ^ 32 }
-        ensures { OnOk result (all_values self.new ≡ all_values self.old ++ given_of v.now ∷ []) }
-    {
-        let value = Small::of_given(alloc, v)?;
-        self.add_small(value)
-    }
-
     /// Where a place lies: behind how many known values, and behind how many others of which nothing is known before the next.
     #[inline(always)]
     fn find(&self, i: usize) -> (usize, usize)
@@ -111,7 +92,7 @@ impl Values {
     }
 
     /// The value at a place; `any` stands for each of which nothing is known.
-    pub(crate) fn given_at<'a>(&'a self, any: &'a Val, i: usize) -> Given<'a>
+    pub(crate) fn given_at<'a>(&'a self, any: &'a Small, i: usize) -> Given<'a>
         requires { any.now ≡ any_val }
         ensures { given_of result ≡ slice_index_or (all_values self.now) i any_val }
     {
@@ -122,7 +103,7 @@ impl Values {
                 return Given::Packed(&here.value);
             }
         }
-        Given::Whole(any)
+        Given::Packed(any)
     }
 
     /// Puts a value behind the last known one and so many others, if there is a place; nothing changes where it holds all words.
@@ -185,6 +166,7 @@ impl Values {
     }
 
     /// Writes the values of a state over others.
+    #[inline(never)]
     pub(crate) fn write(&self, out: &mut [Val; 27])
         requires { length (all_values self.now) ≡ 27 }
         ensures { out.new ≡ all_values self.now }
@@ -195,7 +177,7 @@ impl Values {
             let here = &known[n];
             let place = at + here.anys as usize;
             write_anys(out, at, place);
-            here.value.write(&mut out[place]);
+            here.value.replace(&mut out[place]);
             at = place + 1;
         }
         write_anys(out, at, 27);

@@ -1,23 +1,16 @@
 // The one spelling of values and states in little room, as certificates have it.
-ghost use Rattle.std.specs.Prelude.{◌≡◌, ◌∷◌, [], ◌++◌, All, OnOk, Some, map, replicate};
+ghost use Rattle.std.specs.Prelude.{◌≡◌, ◌++◌, All, OnOk, Some, replicate};
 ghost use Rattle.std.specs.List.{flat_map};
-ghost use Rattle.value_domain.specs.declared.values.Val.TheVariants.{Set};
-ghost use Rattle.value_domain.specs.Values.{IsWell, any_val};
+ghost use Rattle.value_domain.specs.Values.{IsWell};
 ghost use Rattle.depth_cert.specs.Keys as keys;
 ghost use Rattle.depth_cert.specs.Spelling.{bytes_of_exit, bytes_of_state, bytes_of_value};
 ghost use Rattle.small_states.specs.Wholes.{all_values, exit_in, state_in};
 
+use crate::gathered::Gathered;
+use crate::small::{Form, Small};
 use crate::sparse::Values;
 use crate::states::{SmallExit, SmallState};
-use tcd_base::{NoMemory, put_u32};
-
-#[inline(always)]
-fn put_byte(out: &mut Vec<u8>, x: u8) -> Result<(), NoMemory>
-    ensures { OnOk result (out.new.items ≡ out.old.items ++ x ∷ []) }
-{
-    out.push(x)?;
-    Ok(())
-}
+use tcd_base::NoMemory;
 
 #[inline(always)]
 fn byte_of(x: bool) -> u8
@@ -26,58 +19,44 @@ fn byte_of(x: bool) -> u8
     if x { 1 } else { 0 }
 }
 
-/// Adds the value that holds all words.
-#[inline(always)]
-#[tactic(auto, unfolding(depth_cert::specs::Spelling::bytes_of_value))]
-pub(crate) fn put_any(out: &mut Vec<u8>) -> Result<(), NoMemory>
-    ensures { OnOk result (out.new.items ≡ out.old.items ++ bytes_of_value any_val) }
+/// Adds the bytes of a value behind so many that hold all words and behind those that were put together, and puts a set's
+/// together with them; by itself, as words are put before the call.
+#[inline(never)]
+fn put_spaced(
+    out: &mut Vec<u8>,
+    gathered: &mut Gathered,
+    anys: u32,
+    v: &Small,
+) -> Result<(), NoMemory>
+    requires { IsWell v.now }
+    ensures { OnOk result (out.new.items ++ gathered.new
+        ≡ ((out.old.items ++ gathered.old) ++ replicate anys 0) ++ bytes_of_value v.now) }
 {
-    put_byte(out, 0)
-}
-
-/// Adds the value that holds one word.
-#[inline(always)]
-#[tactic(auto, unfolding(depth_cert::specs::Spelling::bytes_of_value))]
-pub(crate) fn put_one(out: &mut Vec<u8>, x: u32) -> Result<(), NoMemory>
-    ensures { OnOk result (out.new.items ≡ out.old.items ++ bytes_of_value (Set (x ∷ []))) }
-{
-    put_byte(out, 1)?;
-    put_u32(out, x)
-}
-
-fn put_flags(out: &mut Vec<u8>, flags: &[bool]) -> Result<(), NoMemory>
-    ensures { OnOk result (out.new.items ≡ out.old.items ++ map keys.byte_of flags.now) }
-{
-    for f in flags {
-        put_byte(out, byte_of(*f))?;
+    gathered.put_anys(out, anys)?;
+    if let Form::Many(own) = &v.form {
+        if let Some(words) = own.as_ref().words() {
+            return gathered.put_set(out, words);
+        }
     }
-    Ok(())
+    gathered.flush(out)?;
+    v.spell(out)
 }
 
-/// Adds so many values that hold all words: each is a byte, 0.
+/// Adds the bytes of values, one after another, behind those that were put together.
 #[inline(always)]
-fn put_anys(out: &mut Vec<u8>, count: u32) -> Result<(), NoMemory>
-    ensures { OnOk result (out.new.items ≡ out.old.items ++ replicate count 0) }
-{
-    if count == 0 {
-        return Ok(());
-    }
-    out.resize(out.len() + count as usize, 0)?;
-    Ok(())
-}
-
-fn put_values(out: &mut Vec<u8>, values: &Values) -> Result<(), NoMemory>
+fn put_values(out: &mut Vec<u8>, gathered: &mut Gathered, values: &Values) -> Result<(), NoMemory>
     requires { All IsWell (all_values values.now) }
-    ensures { OnOk result
-        (out.new.items ≡ out.old.items ++ flat_map bytes_of_value (all_values values.now)) }
+    ensures { OnOk result (out.new.items ++ gathered.new
+        ≡ (out.old.items ++ gathered.old) ++ flat_map bytes_of_value (all_values values.now)) }
 {
     let known = values.known.as_slice();
     for n in 0..known.len() {
         let here = &known[n];
-        put_anys(out, here.anys)?;
-        here.value.spell(out)?;
+        if !gathered.put_one(here) {
+            put_spaced(out, gathered, here.anys, &here.value)?;
+        }
     }
-    put_anys(out, values.rest)
+    gathered.put_anys(out, values.rest)
 }
 
 impl SmallState {
@@ -89,15 +68,16 @@ impl SmallState {
             (out.new.items ≡ out.old.items ++ bytes_of_state (state_in self.now)) }
     {
         let locals = self.locals.as_slice();
-        let head = [
-            byte_of(self.ie),
-            self.ccpn,
-            byte_of(self.lower),
-            locals.len() as u8,
-        ];
-        out.extend_from_slice(&head)?;
-        put_flags(out, locals)?;
-        put_values(out, self.regs.as_ref())
+        let mut gathered = Gathered::new();
+        gathered.push(byte_of(self.ie));
+        gathered.push(self.ccpn);
+        gathered.push(byte_of(self.lower));
+        gathered.push(locals.len() as u8);
+        for flag in locals {
+            gathered.push(byte_of(*flag));
+        }
+        put_values(out, &mut gathered, self.regs.as_ref())?;
+        gathered.add_to(out)
     }
 }
 
@@ -109,7 +89,11 @@ impl SmallExit {
         ensures { OnOk result
             (out.new.items ≡ out.old.items ++ bytes_of_exit (Some (exit_in self.now))) }
     {
-        out.extend_from_slice(&[1, byte_of(self.ie), self.ccpn])?;
-        put_values(out, self.lower.as_ref())
+        let mut gathered = Gathered::new();
+        gathered.push(1);
+        gathered.push(byte_of(self.ie));
+        gathered.push(self.ccpn);
+        put_values(out, &mut gathered, self.lower.as_ref())?;
+        gathered.add_to(out)
     }
 }

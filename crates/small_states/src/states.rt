@@ -26,12 +26,14 @@ pub struct SmallExit {
     pub lower: Rc<Values>,
 }
 
-/// A copy of flags.
+/// A copy of flags; as a rule there are none.
 pub fn copy_of(locals: &ArrayVec<bool, 8>) -> ArrayVec<bool, 8>
     ensures { result ≡ locals.now }
 {
     let mut copy = ArrayVec::new();
-    copy.try_extend_from_slice(locals.as_slice()).unwrap();
+    if !locals.is_empty() {
+        copy.try_extend_from_slice(locals.as_slice()).unwrap();
+    }
     copy
 }
 

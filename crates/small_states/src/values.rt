@@ -1,16 +1,16 @@
 // Lists of values in little room: made from what duties ask for, compared with it, joined with it.
-ghost use Rattle.std.specs.Prelude.{◌≡◌, ◌↔◌, IsNone, IsTrue, IfOk, OnOk, length};
+ghost use Rattle.std.specs.Prelude.{◌≡◌, ◌↔◌, IsTrue, IfOk, OnOk, length};
 ghost use Rattle.value_domain.specs.State.{AreBelow, AreValues, AreWell, joined_regs};
 ghost use Rattle.vd_transfer.specs.Changes.{put_in, state_after};
 ghost use Rattle.small_states.specs.Kept.{asking, values_asked};
 ghost use Rattle.small_states.specs.Wholes.{all_values};
 
-use crate::Small;
-use crate::asked::{Asked, asked_value, count_asked};
+use crate::asked::{Asked, asked_value, count_asked, own_value};
+use crate::small::{Form, Small};
 use crate::sparse::Values;
 use std::alloc::{AllocError, Global};
 use std::rc::Rc;
-use value_domain::{Bounds, State, Val};
+use value_domain::{Bounds, State};
 use vd_transfer::{Base, Change, Put};
 
 /// The values that are asked for, place by place; by itself, as it has room for a whole value.
@@ -18,11 +18,34 @@ use vd_transfer::{Base, Change, Put};
 pub(crate) fn packed(alloc: Global, asked: &Asked) -> Result<Values, AllocError>
     ensures { IfOk result (λ values. all_values values ≡ values_asked asked.now) }
 {
-    let any = Val::any();
+    let any = Small { form: Form::Any };
     let count = count_asked(asked);
-    let mut values = Values::with_room(alloc, 0)?;
+    let mut values = Values {
+        known: Vec::with_capacity(alloc, 0)?,
+        rest: 0,
+    };
     for i in 0..count {
-        values.add(alloc, &asked_value(&*asked, &any, i))?;
+        let value = Small::of_given(alloc, &asked_value(&*asked, &any, i))?;
+        values.add_small(value)?;
+    }
+    Ok(values)
+}
+
+/// The same for a point whose values are at hand in little room.
+#[inline(never)]
+fn packed_own(alloc: Global, own: &Values, asked: &Asked) -> Result<Values, AllocError>
+    requires { all_values own.now ≡ (asking asked.now).regs }
+    ensures { IfOk result (λ values. all_values values ≡ values_asked asked.now) }
+{
+    let any = Small { form: Form::Any };
+    let count = count_asked(asked);
+    let mut values = Values {
+        known: Vec::with_capacity(alloc, own.known.len())?,
+        rest: 0,
+    };
+    for i in 0..count {
+        let value = Small::of_given(alloc, &own_value(&*asked, own, &any, i))?;
+        values.add_small(value)?;
     }
     Ok(values)
 }
@@ -39,28 +62,6 @@ fn put_over(alloc: Global, values: &mut Values, put: &Put) -> Result<(), AllocEr
     values.put(at, value)
 }
 
-/// These values, and over them what a change puts.
-fn packed_over(alloc: Global, own: &Values, c: &Change) -> Result<Values, AllocError>
-    ensures { IfOk result
-        (λ values. all_values values
-        ≡ put_in (put_in (put_in (all_values own.now) c.now.first) c.now.second) c.now.third) }
-{
-    let mut values = own.copy(alloc)?;
-    put_over(alloc, &mut values, &c.first)?;
-    put_over(alloc, &mut values, &c.second)?;
-    put_over(alloc, &mut values, &c.third)?;
-    Ok(values)
-}
-
-/// Whether a change puts nothing.
-#[inline(always)]
-fn puts_nothing(c: &Change) -> bool
-    ensures { IsTrue result
-        → IsNone c.now.first.at × IsNone c.now.second.at × IsNone c.now.third.at }
-{
-    c.first.at.is_none() && c.second.at.is_none() && c.third.at.is_none()
-}
-
 /// The values of a state, and over them what a change puts; where it puts nothing they are shared.
 #[inline(always)]
 fn shared_over(alloc: Global, own: &Rc<Values>, c: &Change) -> Result<Rc<Values>, AllocError>
@@ -69,10 +70,13 @@ fn shared_over(alloc: Global, own: &Rc<Values>, c: &Change) -> Result<Rc<Values>
         ≡ put_in (put_in (put_in (all_values own.now.value) c.now.first) c.now.second)
         c.now.third) }
 {
-    if puts_nothing(c) {
+    if c.first.at.is_none() && c.second.at.is_none() && c.third.at.is_none() {
         return own.clone();
     }
-    let values = packed_over(alloc, own.as_ref(), c)?;
+    let mut values = own.as_ref().copy(alloc)?;
+    put_over(alloc, &mut values, &c.first)?;
+    put_over(alloc, &mut values, &c.second)?;
+    put_over(alloc, &mut values, &c.third)?;
     Ok(Rc::new(alloc, values)?)
 }
 
@@ -107,7 +111,7 @@ pub(crate) fn packed_by(
     match asked {
         Asked::Changed(s, c) => packed_change(alloc, own, s, c),
         _ => {
-            let values = packed(alloc, asked)?;
+            let values = packed_own(alloc, own.as_ref(), asked)?;
             Ok(Rc::new(alloc, values)?)
         }
     }
@@ -121,7 +125,7 @@ pub(crate) fn are_covered(upper: &Values, asked: &Asked) -> bool
     ensures { IsTrue result ↔ AreBelow (values_asked asked.now) (all_values upper.now) }
 {
     let _count = count_asked(asked);
-    let any = Val::any();
+    let any = Small { form: Form::Any };
     let known = upper.known.as_slice();
     let mut at = 0;
     for n in 0..known.len() {
@@ -150,9 +154,12 @@ pub(crate) fn joined(
         ≡ joined_regs b.now (all_values left.now) (values_asked asked.now)) }
 {
     let _count = count_asked(asked);
-    let any = Val::any();
+    let any = Small { form: Form::Any };
     let known = left.known.as_slice();
-    let mut values = Values::with_room(alloc, known.len())?;
+    let mut values = Values {
+        known: Vec::with_capacity(alloc, known.len())?,
+        rest: 0,
+    };
     let mut at = 0;
     for n in 0..known.len() {
         let here = &known[n];

@@ -4,8 +4,8 @@ use Rattle.depth_cert.proofs.ExitValues.{with_lower_length}
 use Rattle.small_states.specs.Wholes.{all_values}
 use Rattle.small_states.proofs.asked.asked_value.Goals as goal
 
-pub changed_value-requires-clause-place : goal.changed_value-requires-clause-place
-changed_value-requires-clause-place c =
+pub changed_given-requires-clause-place : goal.changed_given-requires-clause-place
+changed_given-requires-clause-place c =
     let h = rw c.in-Changed.is at c.requires.place in
     omega (arith, h, length-changed c.in-Changed.s.now c.in-Changed.c.now (omega arith))
 

@@ -4,8 +4,5 @@ use Rattle.small_states.proofs.asked.context_of.Goals as goal
 pub returns-in-Changed : goal.returns-in-Changed
 returns-in-Changed c = rw (c.priority-ccpn.ensures, c.in-Changed.is) refl
 
-pub returns-in-After : goal.returns-in-After
-returns-in-After c = rw (c.priority-ccpn.ensures, c.ie_after.ensures, c.in-After.is) refl
-
 pub returns-in-Leaving : goal.returns-in-Leaving
 returns-in-Leaving c = rw (c.priority-ccpn.ensures, c.in-Leaving.is) refl

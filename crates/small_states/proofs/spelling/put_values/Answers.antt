@@ -1,5 +1,5 @@
-use Rattle.std.proofs.Common.{◌∙◌, ◌++◌, ℕ, List, replicate, ap}
-use Rattle.std.proofs.lemmas.List.{take_all}
+use Rattle.std.proofs.Common.{◌∙◌, ◌++◌, ℕ, List, replicate, ap, sym}
+use Rattle.std.proofs.lemmas.List.{append_assoc, take_all}
 use Rattle.std.proofs.lemmas.Result.{on_ok_weaker}
 use Rattle.std.specs.List.{flat_map}
 use Rattle.depth_cert.specs.Spelling.{bytes_of_value}
@@ -7,9 +7,10 @@ use Rattle.small_states.specs.declared.sparse.SpacedValue.{SpacedValue}
 use Rattle.small_states.specs.Wholes.{front}
 use Rattle.small_states.proofs.SparseLemmas.{known_well, spelled_all, spelled_more}
 use Rattle.small_states.proofs.spelling.put_values.Goals as goal
+use Rattle.small_states.proofs.spelling.put_values.Goals.{then-not-put_one+in_ok-put_spaced, else-not-put_one}
 
-pub spell-requires : goal.spell-requires
-spell-requires c =
+pub put_spaced-requires : goal.put_spaced-requires
+put_spaced-requires c =
     let v = c.as_slice-known.ensures.value in
     known_well c.args.values.now.known.items c.args.values.now.rest c.loop-n.n c.index-known-n.result (rw v at c.loop-n-test.true) (rw v at c.index-known-n.is) c.requires
 
@@ -17,16 +18,30 @@ pub loop-n-preserved : goal.loop-n-preserved
 loop-n-preserved c =
     let v = c.as_slice-known.ensures.value in
     let here = c.index-known-n.result in
-    c.in_ok-spell.ensures
-    ∙ ap (λ (l : List ℕ). l ++ bytes_of_value here.value) (c.in_ok-put_anys.ensures ∙ ap (λ (l : List ℕ). l ++ replicate here.anys 0) c.loop-n.invariant)
-    ∙ spelled_more c.args.values.now.known.items c.args.values.now.rest c.loop-n.n here (rw v at c.loop-n-test.true) (rw v at c.index-known-n.is) c.args.out.now.items
+    let zeros : List ℕ = replicate here.anys 0 in
+    let bytes = bytes_of_value here.value in
+    let out = c.loop-n.out.items in
+    let old = c.loop-n.gathered in
+    let more = spelled_more c.args.values.now.known.items c.args.values.now.rest c.loop-n.n here (rw v at c.loop-n-test.true) (rw v at c.index-known-n.is) (c.args.out.now.items ++ c.args.gathered.now) in
+    let next = ap (λ (l : List ℕ). (l ++ zeros) ++ bytes) c.loop-n.invariant ∙ more in
+    elim c.if-not-put_one.branch [
+      | then-not-put_one+in_ok-put_spaced w ↦
+          rw (w.out-is, w.gathered-is)
+          (w.in_ok-put_spaced.ensures ∙ ap (λ (l : List ℕ). ((out ++ l) ++ zeros) ++ bytes) (c.put_one.ensures.kept w.if-not-put_one.true) ∙ next)
+      | else-not-put_one w ↦
+          rw (w.out-is, w.gathered-is)
+          (ap (λ (l : List ℕ). out ++ l) (c.put_one.ensures.put w.if-not-put_one.false)
+          ∙ sym (append_assoc out (old ++ zeros) bytes)
+          ∙ ap (λ (l : List ℕ). l ++ bytes) (sym (append_assoc out old zeros))
+          ∙ next)
+    ]
 
 pub returns : goal.returns
 returns c =
     let v = c.as_slice-known.ensures.value in
     let known = c.args.values.now.known.items in
-    let old = c.args.out.now.items in
+    let old = c.args.out.now.items ++ c.args.gathered.now in
     let whole =
     c.loop-n.invariant ∙ ap (λ (l : List SpacedValue). old ++ flat_map bytes_of_value (front l)) (take_all c.loop-n.n known (rw v at c.loop-n-test.false))
     in
-    on_ok_weaker c.put_anys-2.result (λ e. e ∙ ap (λ (l : List ℕ). l ++ replicate c.args.values.now.rest 0) whole ∙ spelled_all known c.args.values.now.rest old) c.put_anys-2.ensures
+    on_ok_weaker c.put_anys.result (λ e. e ∙ ap (λ (l : List ℕ). l ++ replicate c.args.values.now.rest 0) whole ∙ spelled_all known c.args.values.now.rest old) c.put_anys.ensures

@@ -5,4 +5,4 @@ use Rattle.small_states.specs.Wholes.{front}
 use Rattle.small_states.proofs.spelling.put_values.Given as goal
 
 abbrev pub invariant-loop-n : goal.invariant-loop-n
-invariant-loop-n l = l.out.items ≡ l.initial.out.items ++ flat_map bytes_of_value (front (take l.n l.values.known.items))
+invariant-loop-n l = l.out.items ++ l.gathered ≡ (l.initial.out.items ++ l.initial.gathered) ++ flat_map bytes_of_value (front (take l.n l.values.known.items))

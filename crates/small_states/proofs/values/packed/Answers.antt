@@ -2,11 +2,11 @@ use Rattle.std.proofs.Common.{◌∙◌, ◌++◌, ◌∷◌, [], List, length, 
 use Rattle.std.proofs.lemmas.List.{length-take-le, take_all, take_more}
 use Rattle.value_domain.specs.declared.values.Val.{Val}
 use Rattle.value_domain.specs.Values.{any_val}
-use Rattle.small_states.specs.Kept.{given_of, values_asked}
+use Rattle.small_states.specs.Kept.{values_asked}
 use Rattle.small_states.proofs.values.packed.Goals as goal
 
-pub add-requires : goal.add-requires
-add-requires c =
+pub add_small-requires : goal.add_small-requires
+add_small-requires c =
     let ws = values_asked c.args.asked.now in
     omega (
       arith,
@@ -19,9 +19,9 @@ add-requires c =
 pub loop-i-preserved : goal.loop-i-preserved
 loop-i-preserved c =
     let ws = values_asked c.args.asked.now in
-    c.in_ok-add.ensures
-    ∙ ap (λ (l : List Val). l ++ given_of c.asked_value.result ∷ []) c.loop-i.invariant
-    ∙ ap (λ (u : Val). take c.loop-i.i ws ++ u ∷ []) c.asked_value.ensures
+    c.in_ok-add_small.ensures
+    ∙ ap (λ (l : List Val). l ++ c.in_ok-value.value ∷ []) c.loop-i.invariant
+    ∙ ap (λ (u : Val). take c.loop-i.i ws ++ u ∷ []) (c.in_ok-value.ensures ∙ c.asked_value.ensures)
     ∙ sym (take_more ws c.loop-i.i any_val (omega (arith, c.count_asked-count.ensures.long)))
 
 pub returns : goal.returns

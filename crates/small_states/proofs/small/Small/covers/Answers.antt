@@ -1,7 +1,10 @@
-use Rattle.std.proofs.Common.{◌↔◌, ℕ, IsTrue, inl, inr, refl, subst, sym}
+use Rattle.std.proofs.Common.{◌∙◌, ◌↔◌, ◌∷◌, [], ℕ, IsTrue, length, nat_eq, inl, inr, ap, refl, subst, sym}
 use Rattle.value_domain.specs.declared.values.Val.{Val}
+use Rattle.value_domain.specs.declared.values.Val.TheVariants.{Set}
 use Rattle.value_domain.specs.Values.{IsBelow, IsMember}
 use Rattle.value_domain.proofs.RangeLaws.{below_any}
+use Rattle.small_states.specs.Forms.{val_of}
+use Rattle.small_states.proofs.HeldWords.{held_all, set_of}
 use Rattle.small_states.proofs.small.Small.covers.Goals as goal
 
 pub returns-then-is_any : goal.returns-then-is_any
@@ -20,3 +23,12 @@ returns-in-Some c =
 
 pub returns-in-Many : goal.returns-in-Many
 returns-in-Many c = rw (← c.self.view_is, c.in-Many.is) (rw c.as_ref.ensures at c.are_below.ensures)
+
+pub returns-in-Some-words : goal.returns-in-Some-words
+returns-in-Some-words c =
+    let words = c.in-Some-words.words.now in
+    let ve = set_of c.args.v.now words c.in-Some-words.ensures in
+    let oe = sym c.self.view_is ∙ ap val_of c.in-One.is in
+    subst (λ (u : Val). IsTrue (nat_eq c.held_before.result (length words)) ↔ IsBelow u c.args.self.now) (sym ve)
+    (subst (λ (u : Val). IsTrue (nat_eq c.held_before.result (length words)) ↔ IsBelow (Set words) u) (sym oe)
+    (held_all (c.in-One.x ∷ []) words c.held_before.result c.held_before.ensures.within c.held_before.ensures.held c.held_before.ensures.missing))

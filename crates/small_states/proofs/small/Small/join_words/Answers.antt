@@ -1,8 +1,13 @@
 use Rattle.std.proofs.Common.{◌∙◌, ap, sym, arith}
 use Rattle.std.proofs.lemmas.Result.{IfOk-weaker}
 use Rattle.small_states.specs.Forms.{val_of}
-use Rattle.small_states.proofs.HeldWords.{all_held, join_rest, join_words, set_of}
+use Rattle.small_states.proofs.HeldWords.{all_held, join_one, join_rest, join_words, set_of}
 use Rattle.small_states.proofs.small.Small.join_words.Goals as goal
+
+pub returns-in-One : goal.returns-in-One
+returns-in-One c =
+    let own = sym c.self.view_is ∙ ap val_of c.in-One.is in
+    IfOk-weaker c.with_word.result _ _ (λ s e. e ∙ join_one c.args.b.now c.args.self.now c.args.v.now c.args.words.now c.in-One.x own c.requires.words) c.with_word.ensures
 
 pub returns-then-n-words : goal.returns-then-n-words
 returns-then-n-words c =

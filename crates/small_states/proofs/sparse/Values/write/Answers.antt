@@ -53,7 +53,7 @@ loop-n-preserved c =
     let out = c.write_anys.new.out in
     let run : at + here.anys - at ≡ here.anys = omega arith in (
       take_more_set out (at + here.anys) _ (omega (arith, c.requires, c.loop-n.invariant.1, c.write_anys.ensures.long, within))
-          ∙ ap (λ (u : Val). take (at + here.anys) out ++ u ∷ []) c.write.ensures
+          ∙ ap (λ (u : Val). take (at + here.anys) out ++ u ∷ []) c.replace.ensures
           ∙ ap (λ (l : List Val). l ++ here.value ∷ [])
           (c.write_anys.ensures.written
           ∙ ap (λ (l : List Val). l ++ replicate (at + here.anys - at) any_val) c.loop-n.invariant.0

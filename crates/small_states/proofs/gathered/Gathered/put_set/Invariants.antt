@@ -1,0 +1,7 @@
+use Rattle.std.proofs.Common.{◌≡◌, ◌++◌, ◌∷◌, length, take}
+use Rattle.std.specs.List.{flat_map}
+use Rattle.tcd_base.specs.Bytes.{bytes_of_word}
+use Rattle.small_states.proofs.gathered.Gathered.put_set.Given as goal
+
+abbrev pub invariant-loop-n : goal.invariant-loop-n
+invariant-loop-n l = l.out.items ++ l.self ≡ (l.fn.out.items ++ l.fn.self) ++ length l.words ∷ flat_map bytes_of_word (take l.n l.words)

@@ -1,0 +1,153 @@
+// Bytes that are put together before they are added to others.
+ghost use Rattle.std.specs.Prelude.{◌≡◌, ◌≤◌, ◌<◌, ◌+◌, ◌∷◌, [], ◌++◌, false, IsTrue, OnOk, length, replicate};
+ghost use Rattle.value_domain.specs.declared.values.Val.TheVariants.{Set};
+ghost use Rattle.tcd_base.specs.Bytes.{bytes_of_word};
+ghost use Rattle.depth_cert.specs.Spelling.{bytes_of_value};
+
+use crate::sparse::SpacedValue;
+use std::marker::Model;
+use tcd_base::NoMemory;
+
+/// Bytes that will be added to others at once. All behind those that were put are 0, so zeros are put by passing them.
+#[derive(Drop)]
+pub(crate) struct Gathered {
+    bytes: [u8; 160],
+    len: usize,
+}
+
+impl Model for Gathered {
+    ghost use Rattle.std.specs.Prelude.{ℕ, List, take};
+    ghost use Rattle.small_states.specs.Zeros.{AreZerosBehind};
+
+    ghost Value = { List ℕ };
+
+    ghost view = { λ g. take g.len g.bytes };
+
+    ghost invariant = { λ g. AreZerosBehind g.len g.bytes };
+}
+
+impl Gathered {
+    /// No bytes.
+    #[inline(always)]
+    pub(crate) fn new() -> Gathered
+        ensures { result ≡ [] }
+    {
+        Gathered {
+            bytes: [0; 160],
+            len: 0,
+        }
+    }
+
+    /// Adds them to `out`.
+    #[inline(always)]
+    pub(crate) fn add_to(&self, out: &mut Vec<u8>) -> Result<(), NoMemory>
+        ensures { OnOk result (out.new.items ≡ out.old.items ++ self.now) }
+    {
+        out.extend_from_slice(&self.bytes[..self.len])?;
+        Ok(())
+    }
+
+    /// Adds them to `out` and begins anew; by itself, as few states are so long.
+    #[inline(never)]
+    pub(crate) fn flush(&mut self, out: &mut Vec<u8>) -> Result<(), NoMemory>
+        ensures added { OnOk result (out.new.items ≡ out.old.items ++ self.old) }
+        ensures none { OnOk result (self.new ≡ []) }
+    {
+        self.add_to(out)?;
+        *self = Gathered::new();
+        Ok(())
+    }
+
+    /// Makes room for so many bytes.
+    #[inline(always)]
+    pub(crate) fn make_room(&mut self, out: &mut Vec<u8>, count: usize) -> Result<(), NoMemory>
+        requires { count ≤ 160 }
+        ensures same { OnOk result (out.new.items ++ self.new ≡ out.old.items ++ self.old) }
+        ensures room { OnOk result (length self.new + count ≤ 160) }
+    {
+        if self.len + count > 160 {
+            self.flush(out)?;
+        }
+        Ok(())
+    }
+
+    /// Puts a byte, for which there is room.
+    #[inline(always)]
+    pub(crate) fn push(&mut self, x: u8)
+        requires { length self.old < 160 }
+        ensures { self.new ≡ self.old ++ x ∷ [] }
+    {
+        self.bytes[self.len] = x;
+        self.len += 1;
+    }
+
+    /// Puts the bytes of a word, for which there is room.
+    #[inline(always)]
+    pub(crate) fn push_word(&mut self, x: u32)
+        requires { length self.old + 4 ≤ 160 }
+        ensures { self.new ≡ self.old ++ bytes_of_word x }
+    {
+        let at = self.len;
+        let word = x.to_le_bytes();
+        self.bytes[at] = word[0];
+        self.bytes[at + 1] = word[1];
+        self.bytes[at + 2] = word[2];
+        self.bytes[at + 3] = word[3];
+        self.len = at + 4;
+    }
+
+    /// Puts the value that holds these words.
+    #[tactic(auto, unfolding(depth_cert::specs::Spelling::bytes_of_value))]
+    pub(crate) fn put_set(&mut self, out: &mut Vec<u8>, words: &[u32]) -> Result<(), NoMemory>
+        requires { length words.now ≤ 128 }
+        ensures { OnOk result (out.new.items ++ self.new
+            ≡ (out.old.items ++ self.old) ++ bytes_of_value (Set words.now)) }
+    {
+        self.make_room(out, 1)?;
+        self.push(words.len() as u8);
+        for n in 0..words.len() {
+            self.make_room(out, 4)?;
+            self.push_word(words[n]);
+        }
+        Ok(())
+    }
+
+    /// Puts a word behind so many values that hold all words; says whether it was one and there was room.
+    #[inline(always)]
+    pub(crate) fn put_one(&mut self, here: &SpacedValue) -> bool
+        ensures put { IsTrue result
+            → self.new ≡ (self.old ++ replicate here.now.anys 0) ++ bytes_of_value here.now.value }
+        ensures kept { result ≡ false → self.new ≡ self.old }
+    {
+        let Some(x) = here.value.word() else {
+            return false;
+        };
+        let at = self.len + here.anys as usize;
+        if at > 155 {
+            return false;
+        }
+        let word = x.to_le_bytes();
+        self.bytes[at] = 1;
+        self.bytes[at + 1] = word[0];
+        self.bytes[at + 2] = word[1];
+        self.bytes[at + 3] = word[2];
+        self.bytes[at + 4] = word[3];
+        self.len = at + 5;
+        true
+    }
+
+    /// Puts so many values that hold all words: each is a byte, 0.
+    #[inline(always)]
+    pub(crate) fn put_anys(&mut self, out: &mut Vec<u8>, count: u32) -> Result<(), NoMemory>
+        ensures { OnOk result
+            (out.new.items ++ self.new ≡ (out.old.items ++ self.old) ++ replicate count 0) }
+    {
+        if count as usize > 160 - self.len {
+            self.flush(out)?;
+            out.resize(out.len() + count as usize, 0)?;
+            return Ok(());
+        }
+        self.len += count as usize;
+        Ok(())
+    }
+}
