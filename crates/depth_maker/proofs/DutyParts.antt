@@ -1,6 +1,6 @@
 -- Parts of what a point owes that are empty.
-use Rattle.std.proofs.Common.{◌≡◌, ℕ, List, [], ◌∷◌, length, ap, arith}
-use Rattle.std.specs.Prelude.{map}
+use Rattle.std.proofs.Common.{◌≡◌, ℕ, Bool, false, List, [], ◌∷◌, length, ap, arith, refl, sym}
+use Rattle.std.specs.Prelude.{filter, if◌then◌else◌, map, nat_lt}
 use Rattle.tcd_plan.specs.PlanData.{PlanData}
 use Rattle.value_domain.specs.declared.states.State.{State}
 use Rattle.depth_cert.specs.declared.keys.Key.{Key}
@@ -11,3 +11,7 @@ use Rattle.cfg_recover.specs.Duties.{owed, enter, irqs_of, interrupts_of}
 pub interrupts_none : (plan : PlanData) (key : Key) (s : State) (irqs : List ℕ) → irqs ≡ irqs_of plan s → length irqs ≡ 0 → [] ≡ interrupts_of plan key s
 interrupts_none plan key s [] e len = ap (λ (l : List ℕ). map (λ p. owed 11 (enter (irq_key plan p) (irq_entry plan key s p))) l) e
 interrupts_none plan key s (p ∷ ps) e len = absurd (omega arith)
+
+-- nor where they are off
+pub interrupts_off : (plan : PlanData) (key : Key) (s : State) → s.ie ≡ false → [] ≡ interrupts_of plan key s
+interrupts_off plan key s off = interrupts_none plan key s [] (sym (ap (λ (on : Bool). if on then filter (λ p. nat_lt s.ccpn p) plan.irqs else []) off)) refl

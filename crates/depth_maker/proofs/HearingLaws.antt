@@ -18,20 +18,21 @@ use Rattle.cfg_recover.specs.Entries.{entry_with, irq_entry, irq_key, stack_of}
 use Rattle.cfg_recover.proofs.EntryLaws.{entry_length}
 use Rattle.cfg_recover.proofs.Members.{contains_filter, contains_map}
 use Rattle.depth_maker.specs.Growth.{IsProperDuty}
-use Rattle.depth_maker.specs.Hearing.{AreEntered, AsksNoMore, HeardEntered, IsHeardAt, heard_stack}
+use Rattle.depth_maker.specs.Hearing.{AreEntered, AsksNoMore, HeardEntered, IsHeardAt, IsHeardEntered, heard_stack}
 use Rattle.depth_maker.specs.Proper.{AllProper, AreLawful}
 use Rattle.depth_maker.specs.Tables.{Settled, Table}
 use Rattle.depth_maker.specs.declared.heard.Heard.{Heard}
+use Rattle.depth_maker.specs.declared.heard.Hearings.{Hearings}
 use Rattle.depth_maker.proofs.DutyGrowth.{contained_filter, contained_map, entry_covers}
 use Rattle.depth_maker.proofs.StateGrowth.{covers_through}
 use Rattle.depth_maker.proofs.TableLaws.{covers_stays}
 
 -- ---- as the table rises
 -- cells only grow
-pub heard_stays : (b : Limits) (image : ImageData) (plan : PlanData) (laws : AreLawful b image plan) (a after : Assignment) (y : Place) (proper : AllProper b a) (j : Joins b image plan a after y) (heard : Option Heard)
-    → HeardEntered b plan a heard → HeardEntered b plan after heard
-heard_stays b image plan laws a after y proper j None h = tt
-heard_stays b image plan laws a after y proper j (Some x) h = record {
+one_stays : (b : Limits) (image : ImageData) (plan : PlanData) (laws : AreLawful b image plan) (a after : Assignment) (y : Place) (proper : AllProper b a) (j : Joins b image plan a after y) (heard : Option Heard)
+    → IsHeardEntered b plan a heard → IsHeardEntered b plan after heard
+one_stays b image plan laws a after y proper j None h = tt
+one_stays b image plan laws a after y proper j (Some x) h = record {
   stack = h.stack;
   each = λ p c lt.
       let e = h.each p c lt in
@@ -41,10 +42,14 @@ heard_stays b image plan laws a after y proper j (Some x) h = record {
       };
 }
 
+pub heard_stays : (b : Limits) (image : ImageData) (plan : PlanData) (laws : AreLawful b image plan) (a after : Assignment) (y : Place) (proper : AllProper b a) (j : Joins b image plan a after y) (heard : Hearings)
+    → HeardEntered b plan a heard → HeardEntered b plan after heard
+heard_stays b image plan laws a after y proper j heard h = (one_stays b image plan laws a after y proper j heard.last h.0, one_stays b image plan laws a after y proper j heard.before h.1)
+
 -- the same cells
-pub heard_again : (b : Limits) (plan : PlanData) (a after : Assignment) → ((q : Place) → after q ≡ a q) → (heard : Option Heard) → HeardEntered b plan a heard → HeardEntered b plan after heard
-heard_again b plan a after same None h = tt
-heard_again b plan a after same (Some x) h = record {
+one_again : (b : Limits) (plan : PlanData) (a after : Assignment) → ((q : Place) → after q ≡ a q) → (heard : Option Heard) → IsHeardEntered b plan a heard → IsHeardEntered b plan after heard
+one_again b plan a after same None h = tt
+one_again b plan a after same (Some x) h = record {
   stack = h.stack;
   each = λ p c lt.
       let e = h.each p c lt in
@@ -53,6 +58,9 @@ heard_again b plan a after same (Some x) h = record {
         covers = record { known = (e.covers).known; at = same (point (irq_key plan p) (irq_key plan p).entry) ∙ (e.covers).at; covers = (e.covers).covers };
       };
 }
+
+pub heard_again : (b : Limits) (plan : PlanData) (a after : Assignment) → ((q : Place) → after q ≡ a q) → (heard : Hearings) → HeardEntered b plan a heard → HeardEntered b plan after heard
+heard_again b plan a after same heard h = (one_again b plan a after same heard.last h.0, one_again b plan a after same heard.before h.1)
 
 -- ---- what asks for no more
 -- the interrupts that may be taken

@@ -128,8 +128,8 @@ level_most b t limits proper counted =
 
 -- ---- turns
 -- a visit of one place that was taken off the list
-pub turns_more : (s m o t : made.Table) (i : ℕ) (n : ℕ) → (level s < level m) ⊎ ((level m ≡ level s) × (length (all_work m.work) + i ≡ n)) → level o ≡ level m → length (all_work m.work) ≡ length (all_work o.work) + 1 → Rises o t
-    → (level s < level t) ⊎ ((level t ≡ level s) × (length (all_work t.work) + (i + 1) ≡ n))
+pub turns_more : (s m o t : made.Table) (i : ℕ) (n : ℕ) → (level s < level m) ⊎ ((level m ≡ level s) × (length (all_work m.work) + i ≤ n)) → level o ≡ level m → length (all_work m.work) ≡ length (all_work o.work) + 1 → Rises o t
+    → (level s < level t) ⊎ ((level t ≡ level s) × (length (all_work t.work) + (i + 1) ≤ n))
 turns_more s m o t i n (inl a) e len (inl b) = inl (omega (arith, a, e, b))
 turns_more s m o t i n (inl a) e len (inr b) = inl (omega (arith, a, e, b.0))
 turns_more s m o t i n (inr a) e len (inl b) = inl (omega (arith, a.0, e, b))
@@ -139,7 +139,7 @@ pub empty_list : {X : Type 0} (xs : List X) → length xs ≡ 0 → xs ≡ []
 empty_list [] e = refl
 empty_list (x ∷ xs) e = absurd (omega arith)
 
-pub left_over : (s t : made.Table) (i n : ℕ) (empty : Bool) → n ≤ i → (level s < level t) ⊎ ((level t ≡ level s) × (length (all_work t.work) + i ≡ n)) → empty ≡ (length (all_work t.work) == 0)
+pub left_over : (s t : made.Table) (i n : ℕ) (empty : Bool) → n ≤ i → (level s < level t) ⊎ ((level t ≡ level s) × (length (all_work t.work) + i ≤ n)) → empty ≡ (length (all_work t.work) == 0)
     → (not empty ≡ true → level s < level t) × (not empty ≡ false → all_work t.work ≡ [])
 left_over s t i n true le so is = ((λ e. absurd (let no : false ≡ true = e in cc)), (λ e. empty_list (all_work t.work) (eqb-true (length (all_work t.work)) 0 (sym is))))
 left_over s t i n false le (inl lt) is = ((λ e. lt), (λ e. absurd (let no : true ≡ false = e in cc)))

@@ -31,14 +31,14 @@ module _ (b : Limits) (image : ImageData) (plan : PlanData) (k : Key) (p : ℕ) 
   -- what the point asked for is heard
   pub paid_and_heard : (laws : AreLawful b image plan) (s m : made.Table) (h : Heard) → IsHeardAt h k.is u → IsProper b u → IsTrue u.ie
       → ((d : Owed) → Contains (interrupts_of plan k u) d → Owes b image plan k p u d.duty) → is_queued (mark_for m.places (spot_of (point k p))) ≡ false
-      → PaidFor b image plan s m k p u (interrupts_of plan k u) → PaidFor b image plan s (record m { heard = Some h }) k p u (interrupts_of plan k u)
+      → PaidFor b image plan s m k p u (interrupts_of plan k u) → PaidFor b image plan s (record m { heard = record { last = Some h; before = m.heard.last } }) k p u (interrupts_of plan k u)
   unfolding seen level
   paid_and_heard laws s m h from pu on owes free paid = record {
     fine = record {
       table = (paid.fine).table;
       listed = (paid.fine).listed;
       counted = (paid.fine).counted;
-      heard = heard_new b plan (seen m) k p u h from pu on (λ d c. owed_proper b image plan k p u laws d.duty pu (owes d c)) (λ d c. paid.settled free d c);
+      heard = (heard_new b plan (seen m) k p u h from pu on (λ d c. owed_proper b image plan k p u laws d.duty pu (owes d c)) (λ d c. paid.settled free d c), (paid.fine).heard.0);
       exits = (paid.fine).exits;
       readers = (paid.fine).readers;
       plain = (paid.fine).plain;

@@ -1,6 +1,6 @@
 -- A visit, part by part: what a point owes is joined in the order in which it is listed, and never built as a list.
 use Rattle.std.proofs.Common.{◌+◌, take, drop, get_or, map, ◌≡◌, ℕ, ◌<◌, Bool, true, false, inl, inr, List, [], ◌∷◌, ◌++◌, Option, Some, None, IsSome, refl, sym, ap, subst, ◌∙◌, arith, length, Contains}
-use Rattle.std.specs.Prelude.{Result, Ok, Err, OnOk}
+use Rattle.std.specs.Prelude.{Result, Ok, Err, OnOk, is_some, if◌then◌else◌}
 use Rattle.frame_places.specs.declared.refusals.Refusal.{Refusal}
 use Rattle.indexmap.specs.IndexMap.{IndexMap, get}
 use Rattle.std.specs.List.{flat_map}
@@ -21,8 +21,8 @@ use Rattle.cfg_recover.specs.Duties.{Duty, jump, enter, resume, leave, Owed, owe
 use Rattle.cfg_recover.specs.declared.local.Located.{Located}
 use Rattle.cfg_recover.specs.Changes.{StandsFaultless}
 use Rattle.cfg_recover.proofs.Members.{contains_map, contains_flat}
-use Rattle.cfg_recover.specs.Assignments.{point, exit, HasDuty, Asks, Derived, resumed}
-use Rattle.depth_cert.specs.Known.{state, leaving, IsProper}
+use Rattle.cfg_recover.specs.Assignments.{Assignment, point, exit, HasDuty, Asks, Derived, raised, resumed}
+use Rattle.depth_cert.specs.Known.{Known, state, leaving, IsProper}
 use Rattle.cfg_recover.proofs.CodeLaws.{IsCode-one}
 use Rattle.depth_maker.specs.Growth.{IsProperDuty}
 use Rattle.depth_maker.specs.Hearing.{HeardEntered}
@@ -32,7 +32,12 @@ use Rattle.depth_maker.proofs.PlaceLaws.{one_state}
 use Rattle.depth_maker.proofs.TableLaws.{table_marked, settled_again}
 use Rattle.frame_places.specs.declared.places.Spot.{Spot}
 use Rattle.frame_places.specs.declared.places.Spot.TheVariants as spots
+use Rattle.frame_places.specs.declared.places.Mark.{Mark}
+use Rattle.frame_places.specs.declared.places.Mark.TheVariants.{Queued}
 use Rattle.frame_places.specs.declared.places.Marked.{Marked}
+use Rattle.frame_places.specs.Counting.{frames_after, points_after}
+use Rattle.frame_places.proofs.MarkLemmas.{same_mark, same_number, same_value}
+use Rattle.depth_maker.specs.declared.ground.Ground.{Ground}
 use Rattle.frame_places.specs.Nearby.{StandsAt}
 use Rattle.std.specs.Option.{option_map}
 use Rattle.std.specs.declared.vec.Vec.{Vec}
@@ -44,8 +49,8 @@ use Rattle.depth_maker.proofs.SpotLemmas.{back}
 use Rattle.depth_maker.proofs.CountedLemmas.{counted_again}
 use Rattle.depth_maker.proofs.HearingLaws.{heard_again}
 use Rattle.depth_maker.proofs.LevelSteps.{rises_then, same_level}
-use Rattle.depth_maker.specs.View.{AreExitsRead, seen, IsFine, Keeps, Joined, Paid, PaidFor, AllSettled, Owes, IsVisited}
-use Rattle.frame_places.specs.Marks.{is_idle, is_queued, Reads, Registered, mark_for, value_for, AreKnown, AllListed}
+use Rattle.depth_maker.specs.View.{AreExitsRead, seen, IsFine, Keeps, Joined, Paid, PaidFor, AllSettled, Owes, IsVisited, Raised, RaisesOn}
+use Rattle.frame_places.specs.Marks.{is_idle, is_queued, Reads, Registered, mark_for, value_for, AreKnown}
 use Rattle.frame_places.specs.Work.{all_work}
 
 pub keeps_all : (b : Limits) (image : ImageData) (plan : PlanData) (s : made.Table) → Keeps b image plan s s
@@ -361,22 +366,29 @@ visited_known b image plan t k p u v = by (is_queued (mark_for t.places (spot_of
   by true e = known_marked (get spot_eq t.places (spot_of (point k p))) e
   by false e = some_known (value_for t.places (spot_of (point k p))) (state u) (v.at e)
 
--- the point was written down among the readers of an exit
-pub registered_fine : (b : Limits) (image : ImageData) (plan : PlanData) (laws : AreLawful b image plan) (s t : made.Table) → t.places ≡ s.places → t.near ≡ s.near → all_work t.work ≡ all_work s.work
+-- the same places, with what is known there and their marks: what an exit's readers are told may be more
+pub registered_fine : (b : Limits) (image : ImageData) (plan : PlanData) (laws : AreLawful b image plan) (s t : made.Table) → t.places.entries ≡ s.places.entries → t.near ≡ s.near → all_work t.work ≡ all_work s.work
     → t.points.items ≡ s.points.items → t.frames.items ≡ s.frames.items → t.heard ≡ s.heard → ((z q : Spot) → Reads (get spot_eq s.readers z) q → Reads (get spot_eq t.readers z) q) → AreExitsRead t.readers
     → ((y : Spot) → AreKnown s.places (Reads (get spot_eq t.readers y))) → IsFine b image plan s → IsFine b image plan t × Keeps b image plan s t
 unfolding seen
 registered_fine b image plan laws s t places near work points frames heard readers exits told fine =
-    let same : (q : Spot) → value_for t.places q ≡ value_for s.places q = λ q. ap (λ m. value_for m q) places in
-    let marked : (q : Spot) → mark_for t.places q ≡ mark_for s.places q = λ q. ap (λ m. mark_for m q) places in (
+    let same : (q : Spot) → value_for t.places q ≡ value_for s.places q = λ q. same_value s.places t.places places q in
+    let marked : (q : Spot) → mark_for t.places q ≡ mark_for s.places q = λ q. same_mark s.places t.places places q in (
       record {
         table = table_marked b image plan laws (seen s) (seen t) (λ q. same (spot_of q)) (λ z q h. readers (spot_of z) (spot_of q) h) fine.table
-            (λ q h. sym (ap is_idle (marked (spot_of q))) ∙ h) (subst (λ m. Derived b image plan (λ q. value_for m (spot_of q))) (sym places) (fine.table).derived);
-        listed = subst (λ m. AllListed m (all_work t.work)) (sym places) (subst (λ (w : List ℕ). AllListed s.places w) (sym work) fine.listed);
+            (λ q h. sym (ap is_idle (marked (spot_of q))) ∙ h) (subst (λ (a : Assignment). Derived b image plan a) (λ i q. sym (same (spot_of q)) i) (fine.table).derived);
+        listed = record {
+          listed = λ q at.
+              let f = (fine.listed).listed q (sym (marked q) ∙ at) in
+              (f.0, subst (λ (w : List ℕ). Contains w f.0) (sym work) f.1, same_number s.places t.places places f.0 q f.2);
+          known = λ n c.
+              let f = (fine.listed).known n (subst (λ (w : List ℕ). Contains w n) work c) in
+              (f.0, same_number s.places t.places places n f.0 f.1);
+        };
         counted = counted_again s.places t.places s.points.items t.points.items s.frames.items t.frames.items (λ q. same (spot_of q)) points frames fine.counted;
         heard = heard_again b plan (seen s).cells (seen t).cells (λ q. same (spot_of q)) t.heard (subst (HeardEntered b plan (seen s).cells) (sym heard) fine.heard);
         exits = exits;
-        readers = subst (λ m. (y : Spot) → AreKnown m (Reads (get spot_eq t.readers y))) (sym places) told;
+        readers = λ y q h. subst (λ (o : Option Known). IsSome o) (sym (same q)) (told y q h);
         plain = λ q at. fine.plain q (sym (marked q) ∙ at);
       },
       record {
@@ -386,6 +398,47 @@ registered_fine b image plan laws s t places near work points frames heard reade
         settled = λ k p u d free pu pd h. settled_again b image plan laws (seen s) (seen t) (λ q. same (spot_of q)) (λ z q i. readers (spot_of z) (spot_of q) i) k p u d h;
         rises = inr (same_level s t same points frames, work);
         near = near;
-        numbers = λ n q h. subst (λ m. StandsAt m n q) (sym places) h;
+        numbers = λ n q h. same_number s.places t.places places n q h;
       },
     )
+
+-- ---- a place that was found
+-- what is asked is asked still
+pub asks_again : (b : Limits) (image : ImageData) (plan : PlanData) (s m : made.Table) (y : Spot) (v : Known) → m.places.entries ≡ s.places.entries → Asks b image plan (seen s).cells (place_of y) v
+    → Asks b image plan (seen m).cells (place_of y) v
+unfolding seen
+asks_again b image plan s m y v places asks = subst (λ (a : Assignment). Asks b image plan a (place_of y) v) (λ i q. sym (same_value s.places m.places places (spot_of q)) i) asks
+
+-- a rise from the same places, with what is known there
+raised_again : (b : Limits) (s m t : made.Table) (y : Spot) (v : Known) → m.places.entries ≡ s.places.entries → m.near ≡ s.near → m.readers ≡ s.readers → m.heard ≡ s.heard → m.points.items ≡ s.points.items
+    → m.frames.items ≡ s.frames.items → Raised b m t y v → Raised b s t y v
+raised_again b s m t y v places near readers heard points frames rose =
+    let same : (q : Spot) → value_for m.places q ≡ value_for s.places q = λ q. same_value s.places m.places places q in
+    let known = is_some (value_for s.places y) in
+    record {
+      known = rose.known;
+      raises = ap (λ (o : Option Known). raised b o v) (sym (same y)) ∙ rose.raises;
+      new = λ w at covers. rose.new w (same y ∙ at) covers;
+      puts = record {
+        values = λ q. (rose.puts).values q ∙ ap (λ (o : Option Known). if spot_eq y q then Some rose.known else o) (same q);
+        marks = λ q. (rose.puts).marks q ∙ ap (λ (o : Option Mark). if spot_eq y q then Some Queued else o) (same_mark s.places m.places places q);
+        numbers = λ n q h. (rose.puts).numbers n q (same_number s.places m.places places n q h);
+      };
+      listed = rose.listed;
+      near = rose.near ∙ near;
+      readers = rose.readers ∙ readers;
+      heard = rose.heard ∙ heard;
+      points = rose.points ∙ ap (λ (o : Option Known). points_after (is_some o) m.points.items y) (same y) ∙ ap (λ (ps : List Spot). points_after known ps y) points;
+      frames = rose.frames ∙ ap (λ (o : Option Known). frames_after (is_some o) m.frames.items y) (same y) ∙ ap (λ (ks : List Key). frames_after known ks y) frames;
+      few = rose.few;
+    }
+
+pub raises_again : (g : Ground) (s m t : made.Table) (y : Spot) (v : Known) (r : Result Bool Refusal) → m.places.entries ≡ s.places.entries → m.near ≡ s.near → m.readers ≡ s.readers → m.heard ≡ s.heard
+    → m.points.items ≡ s.points.items → m.frames.items ≡ s.frames.items → Keeps g.bounds.now g.image.now g.plan.now s m → RaisesOn g m t y v r → RaisesOn g s t y v r
+raises_again g s m t y v (Ok true) places near readers heard points frames keeps h = raised_again g.bounds.now s m t y v places near readers heard points frames h
+raises_again g s m t y v (Ok false) places near readers heard points frames keeps h = record {
+  fine = h.fine;
+  covers = h.covers;
+  keeps = Keeps-trans g.bounds.now g.image.now g.plan.now s m t keeps h.keeps;
+}
+raises_again g s m t y v (Err e) places near readers heard points frames keeps h = h

@@ -3,7 +3,6 @@ use Rattle.std.proofs.Common.{◌≡◌, ℕ, Bool, true, false, ◌⊎◌, inl,
 use Rattle.std.specs.Prelude.{if◌then◌else◌}
 use Rattle.std.specs.Map.{lookup}
 use Rattle.indexmap.specs.IndexMap.{IndexMap, get}
-use Rattle.std.proofs.lemmas.List.Elements.{Contains-append_right}
 use Rattle.std.proofs.lemmas.Option.{same_Some}
 use Rattle.elf_image.specs.Images.{ImageData}
 use Rattle.tcd_plan.specs.PlanData.{PlanData}
@@ -36,7 +35,7 @@ use Rattle.depth_maker.specs.Entered.{IsPlainIn}
 use Rattle.depth_maker.specs.declared.table.Table as made
 use Rattle.frame_places.specs.Spots.{spot_eq}
 use Rattle.depth_maker.specs.Spots.{spot_of, place_of}
-use Rattle.depth_maker.proofs.SpotLemmas.{front_cases, back, forth, agrees}
+use Rattle.depth_maker.proofs.SpotLemmas.{back, forth, agrees}
 use Rattle.frame_places.proofs.SpotLemmas.{spot_tells, spot_refl}
 use Rattle.frame_places.specs.Marks.{idle_mark, is_idle, is_queued, settled_mark, Reads, mark_for, value_for, AllListed, AreKnown, MarksAs}
 use Rattle.depth_maker.specs.View.{AreExitsRead, IsCountedIn, seen, IsFine, IsVisited, IsOpenAt, NoneOpen, AllSettled, Paid}
@@ -220,7 +219,7 @@ paid_settled b image plan s t x paid opening k p u e at =
 -- ---- the start, and the end
 pub begun_table : (b : Limits) (image : ImageData) (plan : PlanData) (t : made.Table) (x : Spot) (v : Known) → x ≡ spot_of (first_place image plan) → v ≡ state (start_state plan)
     → ((q : Spot) → value_for t.places q ≡ (if spot_eq x q then Some v else None)) → ((q : Spot) → mark_for t.places q ≡ (if spot_eq x q then Some Queued else None)) → AllListed t.places (all_work t.work)
-    → t.points.items ≡ x ∷ [] → t.frames.items ≡ start_key image plan ∷ [] → t.heard ≡ None → ((z : Spot) → get spot_eq t.readers z ≡ None) → IsFine b image plan t × NoneOpen t
+    → t.points.items ≡ x ∷ [] → t.frames.items ≡ start_key image plan ∷ [] → t.heard ≡ record { last = None; before = None } → ((z : Spot) → get spot_eq t.readers z ≡ None) → IsFine b image plan t × NoneOpen t
 unfolding seen
 begun_table b image plan t x v place known cells marks listed points frames none unread =
     let side : (q : Spot) → ((spot_eq x q ≡ true) × (mark_for t.places q ≡ Some Queued)) ⊎ ((spot_eq x q ≡ false) × (mark_for t.places q ≡ None)) =
@@ -242,7 +241,7 @@ begun_table b image plan t x v place known cells marks listed points frames none
         listed = listed;
         counted = counted_start t.places t.points.items t.frames.items (start_key image plan) v
             (λ q. cells (spot_of q) ∙ ap (λ e. if e then Some v else None) (test q)) (points ∙ ap (λ (z : Spot). z ∷ []) place) frames;
-        heard = subst (HeardEntered b plan (seen t).cells) (sym none) tt;
+        heard = subst (HeardEntered b plan (seen t).cells) (sym none) (tt, tt);
         exits = λ k p q h. unread_by (Point k p) q h;
         readers = λ z q h. absurd (unread_by z q h);
         plain = λ q at.

@@ -10,6 +10,7 @@ use Rattle.depth_cert.specs.Known.{IsProper, state}
 use Rattle.cfg_recover.specs.Assignments.{Assignment, CoversAt, point}
 use Rattle.cfg_recover.specs.Entries.{entry_with, irq_key}
 use Rattle.depth_maker.specs.declared.heard.Heard.{Heard}
+use Rattle.depth_maker.specs.declared.heard.Hearings.{Hearings}
 
 -- the stack pointer at the handlers' entries
 abbrev pub heard_stack : PlanData → Heard → Val
@@ -25,9 +26,13 @@ pub record AreEntered (b : Limits) (plan : PlanData) (a : Assignment) (h : Heard
   pub stack : IsWell h.sp
   pub each : (p : ℕ) → Contains plan.irqs p → h.ccpn < p → IsEntered b plan a h p
 
--- where anything was heard
-abbrev pub HeardEntered : Limits → PlanData → Assignment → Option Heard → Type 0
-HeardEntered b plan a heard = IfSome heard (AreEntered b plan a)
+-- where anything was heard, its entries are entered
+abbrev pub IsHeardEntered : Limits → PlanData → Assignment → Option Heard → Type 0
+IsHeardEntered b plan a heard = IfSome heard (AreEntered b plan a)
+
+-- the same of the two that were heard last
+abbrev pub HeardEntered : Limits → PlanData → Assignment → Hearings → Type 0
+HeardEntered b plan a heard = IsHeardEntered b plan a heard.last × IsHeardEntered b plan a heard.before
 
 -- this was heard of a frame that runs on the interrupt stack or on another, with this state (A10 is the value at place 22)
 pub record IsHeardAt (h : Heard) (inner : Bool) (s : State) : Type 0 where

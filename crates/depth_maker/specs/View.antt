@@ -1,5 +1,5 @@
 -- The table as the theory sees it.
-use Rattle.std.specs.Prelude.{◌≡◌, ◌<◌, ℕ, Bool, true, false, Option, Some, is_some, List, [], ◌∷◌, map, Contains, Result, Ok, Err}
+use Rattle.std.specs.Prelude.{◌≡◌, ◌<◌, ℕ, Bool, true, false, Option, Some, is_some, List, [], map, Contains, Result, Ok, Err}
 use Rattle.std.specs.List.{flat_map}
 use Rattle.indexmap.specs.IndexMap.{IndexMap, get}
 use Rattle.std.specs.declared.vec.Vec.{Vec}
@@ -203,10 +203,10 @@ AsksOn g t y v = Asks g.bounds.now g.image.now g.plan.now (seen t).cells (place_
 abbrev pub RaisedOn : Ground → made.Table → made.Table → Spot → Known → Type 0
 RaisedOn g s t y v = Raised g.bounds.now s t y v
 
--- v was joined at y alone, or was covered there already, and then the table is as it was
+-- v was joined at y: alone where this says so, else it was covered there already or more rose too
 abbrev pub RaisesOn : Ground → made.Table → made.Table → Spot → Known → Result Bool Refusal → Type 0
 RaisesOn g s t y v (Ok true) = RaisedOn g s t y v
-RaisesOn g s t y v (Ok false) = CoversAt (seen s).cells (place_of y) v × (t ≡ s)
+RaisesOn g s t y v (Ok false) = Joined g.bounds.now g.image.now g.plan.now s t y v
 RaisesOn g s t y v (Err e) = AnsweredOn g e
 
 -- v was joined at y

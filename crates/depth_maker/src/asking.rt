@@ -12,7 +12,7 @@ ghost use Rattle.depth_maker.specs.View.{AnsweredOn, OwesDuty, PaidBy, VisitedBy
 ghost use Rattle.frame_places.specs.Marks.{Reads, is_queued};
 
 use crate::ground::Visit;
-use crate::rise::{is_covered, raise};
+use crate::rise::raise;
 use crate::table::Table;
 use depth_cert::Key;
 use frame_places::{Refusal, Spot, has_work, register};
@@ -118,14 +118,9 @@ fn pay_back(alloc: Global, table: &mut Table, v: &Visit, key: Key, back: u32) ->
     let Some(exit) = place.value.exit() else {
         return Ok(());
     };
-    let to = Spot::Point(v.key, back);
-    let asked = Asked::After(v.state, exit, key.kind);
-    if is_covered(v.ground, &*table, to, &asked) {
-        return Ok(());
-    }
     let copy = exit.copy()?;
     let asked = Asked::After(v.state, &copy, key.kind);
-    raise(alloc, table, v, to, &asked)
+    raise(alloc, table, v, Spot::Point(v.key, back), &asked)
 }
 
 /// The point is told of the exit of the frame that it enters, and goes on at `back` where there is one.

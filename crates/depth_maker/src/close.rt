@@ -8,20 +8,32 @@ ghost use Rattle.depth_maker.specs.Entered.{IsPlainIn};
 ghost use Rattle.depth_maker.specs.View.{AnsweredOn, EndsOn, FineOn, IsDone, IsOpen, NoneOpen, OpensOn, PaidOn, TurnsOn};
 
 use crate::ground::{Ground, Visit};
+use crate::heard::Hearings;
 use crate::paying::pay;
 use crate::table::Table;
-use cfg_recover::{start_key, start_state};
+use cfg_recover::{KnownCodes, start_key, start_state};
+use elf_image::Image;
 use frame_places::{Refusal, Spot, Work, add, open, settle};
 use indexmap::IndexMap;
 use small_states::{Asked, Cell, ScratchState};
 use std::alloc::Global;
 use vd_transfer::{Change, unchanged};
 
-/// What visits write over: the state of the point, and what its instruction changes.
+/// What visits write over: the state of the point, what its instruction changes, and what is known of words of code.
 #[derive(Drop)]
 struct Scratch {
     state: ScratchState,
     change: Change,
+    codes: KnownCodes,
+}
+
+/// For how many places there is room at first: as many as the first segment may have instructions, of two bytes each, but 8,192
+/// at most.
+fn first_room(image: &Image) -> usize {
+    match image.segments.first() {
+        Some(segment) => (segment.bytes.len() / 2).min(8192),
+        None => 0,
+    }
 }
 
 /// Nothing is read.
@@ -42,7 +54,7 @@ fn begin(alloc: Global, ground: &Ground) -> Result<Table, Refusal>
     let same = unchanged(&start);
     let asked = Asked::Changed(&start, &same);
     let cell = Cell::new(alloc, ground.bounds, &asked)?;
-    let mut places = IndexMap::new(alloc);
+    let mut places = IndexMap::with_capacity(alloc, first_room(ground.image))?;
     let mut work = Work::new(alloc);
     let mut points = Vec::new(alloc);
     let mut frames = Vec::new(alloc);
@@ -55,7 +67,10 @@ fn begin(alloc: Global, ground: &Ground) -> Result<Table, Refusal>
         work,
         points,
         frames,
-        heard: None,
+        heard: Hearings {
+            last: None,
+            before: None,
+        },
         near: 0,
     })
 }
@@ -106,7 +121,7 @@ fn pay_place(
         addr,
         state: scratch.state.state(),
     };
-    pay(alloc, table, &v, &mut scratch.change)
+    pay(alloc, table, &v, &mut scratch.change, &mut scratch.codes)
 }
 
 /// Visits the place that was taken off the list.
@@ -126,7 +141,7 @@ fn visit(
     Ok(())
 }
 
-/// Visits as many places as are on the list now, and says whether work is left.
+/// Visits as many places as are on the list now, and some more, as long as there is work; says whether some is left.
 fn turn(
     alloc: Global,
     ground: &Ground,
@@ -137,7 +152,7 @@ fn turn(
     requires none { NoneOpen table.old }
     ensures { TurnsOn ground.now table.old table.new result }
 {
-    for _done in 0..table.work.len() {
+    for _done in 0..table.work.len() + 1024 {
         if !open_next(ground, table) {
             return Ok(false);
         }
@@ -147,6 +162,8 @@ fn turn(
 }
 
 /// The least closed assignment, or a fault of a derived one.
+// A function of its own, so that its room is let go before the rows are made.
+#[inline(never)]
 pub(crate) fn close(alloc: Global, ground: &Ground) -> Result<Table, Refusal>
     ensures ok { IfOk result (IsDone ground.now) }
     ensures err { IfErr result (AnsweredOn ground.now) }
@@ -155,7 +172,11 @@ pub(crate) fn close(alloc: Global, ground: &Ground) -> Result<Table, Refusal>
     let state = start_state(ground.plan);
     let change = unchanged(&state);
     let state = ScratchState::new(state);
-    let mut scratch = Scratch { state, change };
+    let mut scratch = Scratch {
+        state,
+        change,
+        codes: KnownCodes::new(),
+    };
     while turn(alloc, ground, &mut table, &mut scratch)? {}
     Ok(table)
 }

@@ -15,15 +15,17 @@ ghost use Rattle.depth_maker.specs.View.{AnsweredOn, OwesAll, PaidBy, StandsBy, 
 use crate::asking::{pay_enter, pay_entry};
 use crate::entered::is_misaligned;
 use crate::ground::Visit;
-use crate::heard::Heard;
+use crate::heard::{Heard, Hearings};
 use crate::table::Table;
+use arrayvec::ArrayVec;
 use cfg_recover::{
-    Located, aln_key, call_change, entered_key, handler_change, interrupts, irq_key,
+    Located, aln_key, direct_target, entered_key, handler_change, interrupts, irq_key,
     misaligned_change, sys_key, system_change, targets,
 };
 use frame_places::{Refusal, has_work};
 use std::alloc::Global;
 use tc_isa::{Shape, Target};
+use value_domain::State;
 use vd_transfer::Change;
 
 /// Calls of these targets, which come back to `back`.
@@ -50,13 +52,48 @@ fn pay_calls(
     Ok(())
 }
 
-/// A call.
+/// Calls of the targets that a register tells.
+#[inline(never)]
+fn pay_listed_calls(
+    alloc: Global,
+    table: &mut Table,
+    v: &Visit,
+    entry: &Change,
+    to: Target,
+    back: u32,
+) -> Result<(), Refusal>
+    requires visited { VisitedBy v.now table.old }
+    requires target { IsTarget to }
+    requires owes { OwesAll v.now
+        (calls_by v.now (state_after v.now.state.now entry.now) back
+        (unwrap_or (targets_of v.now.ground.now.plan.now v.now.state.now v.now.addr to) [])) }
+    ensures ok { OnOk result (PaidBy v.now table.old table.new
+        (calls_by v.now (state_after v.now.state.now entry.now) back
+        (unwrap_or (targets_of v.now.ground.now.plan.now v.now.state.now v.now.addr to) []))) }
+    ensures err { IfErr result (AnsweredOn v.now.ground.now) }
+{
+    let targets = targets(v.ground.plan, v.state, v.addr, to);
+    pay_calls(alloc, table, v, entry, targets.as_slice(), back)
+}
+
+/// Writes over a change what a call makes of a state.
+#[inline(always)]
+fn enter_by_call(c: &mut Change, s: &State)
+    ensures { state_after s.now c.new ≡ entries.call_entry s.now }
+{
+    c.keep(s);
+    c.lower = false;
+    c.locals = ArrayVec::new();
+}
+
+/// A call; a list of targets is filled only where a register tells them. The entry is written over `c`.
 fn pay_call(
     alloc: Global,
     table: &mut Table,
     v: &Visit,
     to: Target,
     back: u32,
+    c: &mut Change,
 ) -> Result<(), Refusal>
     requires visited { VisitedBy v.now table.old }
     requires target { IsTarget to }
@@ -68,12 +105,15 @@ fn pay_call(
         (unwrap_or (targets_of v.now.ground.now.plan.now v.now.state.now v.now.addr to) []))) }
     ensures err { IfErr result (AnsweredOn v.now.ground.now) }
 {
-    let entry = call_change(v.ground.bounds, v.state);
-    let targets = targets(v.ground.plan, v.state, v.addr, to);
-    pay_calls(alloc, table, v, &entry, targets.as_slice(), back)
+    enter_by_call(c, v.state);
+    match direct_target(v.addr, to) {
+        Some(target) => pay_calls(alloc, table, v, &*c, &[target], back),
+        None => pay_listed_calls(alloc, table, v, &*c, to, back),
+    }
 }
 
-/// The system call `tin`.
+/// The system call `tin`; by itself, as it has room for a change.
+#[inline(never)]
 fn pay_system(
     alloc: Global,
     table: &mut Table,
@@ -91,13 +131,14 @@ fn pay_system(
     pay_entry(alloc, table, v, sys_key(g.plan, &v.key), &entry, back)
 }
 
-/// The entries by a call or a system call.
+/// The entries by a call or a system call; what a call makes of the state is written over `c`.
 pub(crate) fn pay_entries(
     alloc: Global,
     table: &mut Table,
     v: &Visit,
     shape: Shape,
     size: u32,
+    c: &mut Change,
 ) -> Result<(), Refusal>
     requires visited { VisitedBy v.now table.old }
     requires shape { IsShape shape }
@@ -107,7 +148,7 @@ pub(crate) fn pay_entries(
 {
     let back = v.addr.wrapping_add(size);
     match shape {
-        Shape::Call { to } => pay_call(alloc, table, v, to, back),
+        Shape::Call { to } => pay_call(alloc, table, v, to, back, c),
         Shape::Syscall { tin } => pay_system(alloc, table, v, tin, back),
         _ => Ok(()),
     }
@@ -187,7 +228,12 @@ fn is_heard(table: &Table, v: &Visit) -> bool
     requires { VisitedBy v.now table.now }
     ensures { IsTrue result → PaidBy v.now table.now table.now (interrupts_by v.now) }
 {
-    match &table.heard {
+    if let Some(last) = &table.heard.last {
+        if last.has(v.key.is, v.state) {
+            return true;
+        }
+    }
+    match &table.heard.before {
         Some(heard) => heard.has(v.key.is, v.state),
         None => false,
     }
@@ -206,16 +252,24 @@ fn hear(table: &mut Table, v: &Visit)
     if has_work(&table.places, table.near) {
         return;
     }
-    table.heard = Some(Heard::at(v.key.is, v.state));
+    let heard = Heard::at(v.key.is, v.state);
+    let before = table.heard.last.take();
+    table.heard = Hearings {
+        last: Some(heard),
+        before,
+    };
 }
 
-/// The entries of the interrupts that may be taken.
+/// The entries of the interrupts that may be taken; none where they are off.
 pub(crate) fn pay_interrupts(alloc: Global, table: &mut Table, v: &Visit) -> Result<(), Refusal>
     requires visited { VisitedBy v.now table.old }
     requires owes { OwesAll v.now (interrupts_by v.now) }
     ensures ok { OnOk result (PaidBy v.now table.old table.new (interrupts_by v.now)) }
     ensures err { IfErr result (AnsweredOn v.now.ground.now) }
 {
+    if !v.state.ie {
+        return Ok(());
+    }
     if is_heard(&*table, v) {
         return Ok(());
     }

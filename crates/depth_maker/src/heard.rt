@@ -1,5 +1,5 @@
 // With what the entries of interrupts are covered already.
-ghost use Rattle.std.specs.Prelude.{◌≡◌, ◌≤◌, IsTrue, slice_index_or};
+ghost use Rattle.std.specs.Prelude.{◌≡◌, IsTrue, slice_index_or};
 ghost use Rattle.value_domain.specs.Values.{IsBelow, IsWell, any_val};
 ghost use Rattle.depth_maker.specs.Hearing.{AsksNoMore, IsHeardAt};
 
@@ -11,6 +11,13 @@ pub(crate) struct Heard {
     is: bool,
     sp: Val,
     ccpn: u8,
+}
+
+/// The two that were heard last.
+#[derive(Drop)]
+pub(crate) struct Hearings {
+    pub(crate) last: Option<Heard>,
+    pub(crate) before: Option<Heard>,
 }
 
 impl Heard {
@@ -35,19 +42,12 @@ impl Heard {
         !self.is || leq(&s.regs[22], &self.sp)
     }
 
-    /// Whether it was heard at as low a priority, and of a frame on the interrupt stack just where this one is.
-    fn is_as_low(&self, is: bool, s: &State) -> bool
-        ensures { IsTrue result → (self.now.is ≡ is) × (self.now.ccpn ≤ s.now.ccpn) }
-    {
-        self.is == is && self.ccpn <= s.ccpn
-    }
-
     /// Whether no more of them may be taken from this state, nor with more stack pointers.
     pub(crate) fn has(&self, is: bool, s: &State) -> bool
         requires own { IsWell self.now.sp }
         requires other { IsWell (slice_index_or s.now.regs 22 any_val) }
         ensures { IsTrue result → AsksNoMore self.now is s.now }
     {
-        self.is_as_low(is, s) && self.has_stack(s)
+        self.is == is && self.ccpn <= s.ccpn && self.has_stack(s)
     }
 }

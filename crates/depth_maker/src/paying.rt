@@ -12,7 +12,7 @@ use crate::entries::{pay_access, pay_entries, pay_interrupts};
 use crate::ground::Visit;
 use crate::successors::pay_successors;
 use crate::table::Table;
-use cfg_recover::{Located, local_check};
+use cfg_recover::{KnownCodes, Located, check_located};
 use frame_places::{Refusal, Spot};
 use std::alloc::Global;
 use tc_isa::Shape;
@@ -55,7 +55,7 @@ fn pay_duties(
     ensures err { IfErr result (AnsweredOn v.now.ground.now) }
 {
     pay_successors(alloc, table, v, found, c)?;
-    pay_entries(alloc, table, v, found.shape, found.size)?;
+    pay_entries(alloc, table, v, found.shape, found.size, c)?;
     pay_access(alloc, table, v, found)?;
     pay_interrupts(alloc, table, v)?;
     pay_leavings(alloc, table, v, found.shape)
@@ -77,12 +77,13 @@ fn enters_none(plan: &Plan, shape: Shape) -> bool
 }
 
 /// Joins what the point owes, or some of it where it has work again; says whether its instruction is seen to enter no frame by
-/// itself. What the instruction changes is written over `c`.
+/// itself. What the instruction changes is written over `c`, and what it is is known from then on.
 pub(crate) fn pay(
     alloc: Global,
     table: &mut Table,
     v: &Visit,
     c: &mut Change,
+    codes: &mut KnownCodes,
 ) -> Result<bool, Refusal>
     requires visited { VisitedBy v.now table.old }
     requires at { (seen table.old).cells (point v.now.key v.now.addr)
@@ -93,7 +94,8 @@ pub(crate) fn pay(
     ensures err { IfErr result (AnsweredOn v.now.ground.now) }
 {
     let g = v.ground;
-    match &local_check(g.bounds, g.image, g.plan, &v.key, v.addr, v.state) {
+    let located = codes.located(g.image, g.plan, v.addr);
+    match &check_located(g.bounds, g.plan, &v.key, v.state, located) {
         Ok(found) => {
             pay_duties(alloc, table, v, found, c)?;
             Ok(enters_none(g.plan, found.shape))

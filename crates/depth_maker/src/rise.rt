@@ -1,51 +1,22 @@
 // One joining.
-ghost use Rattle.std.specs.Prelude.{◌≡◌, IfErr, IfOk, IsTrue, None, OnOk, Some};
+ghost use Rattle.std.specs.Prelude.{◌≡◌, IfErr, None, OnOk, Some};
 ghost use Rattle.indexmap.specs.IndexMap.{get};
-ghost use Rattle.cfg_recover.specs.Assignments.{CoversAt, point};
-ghost use Rattle.depth_cert.specs.Known.{IsProperKnown, state};
+ghost use Rattle.cfg_recover.specs.Assignments.{point};
+ghost use Rattle.depth_cert.specs.Known.{state};
 ghost use Rattle.small_states.specs.Kept.{asked_for, asking};
 ghost use Rattle.frame_places.specs.declared.places.Spot.TheVariants.{Point};
 ghost use Rattle.frame_places.specs.Marks.{AllListed, AreKnown, Reads, Tells, value_for};
 ghost use Rattle.frame_places.specs.Work.{all_work};
 ghost use Rattle.frame_places.specs.Nearby.{StandsAt};
 ghost use Rattle.frame_places.specs.Spots.{spot_eq};
-ghost use Rattle.depth_maker.specs.Spots.{place_of};
 ghost use Rattle.depth_maker.specs.View.{seen, AnsweredOn, AreExitsRead, AsksOn, FineOn, JoinedOn, RaisedOn, RaisesOn};
 
-use crate::ground::{Ground, Visit};
+use crate::ground::Visit;
 use crate::table::Table;
-use frame_places::{Marked, Refusal, Spot, Work, add, count, put, wake};
+use frame_places::{Marked, Refusal, Spot, Work, add_or_find, count, put, wake};
 use indexmap::IndexMap;
 use small_states::{Asked, Cell, priority};
 use std::alloc::{AllocError, Global};
-
-/// Adds y, of which nothing is known, with what is asked, made from what is known at the point that asks, and counts it.
-fn add_place(
-    alloc: Global,
-    table: &mut Table,
-    v: &Visit,
-    y: Spot,
-    asked: &Asked,
-) -> Result<(), Refusal>
-    requires fine { FineOn v.now.ground.now table.old }
-    requires near { StandsAt table.old.places table.old.near (Point v.now.key v.now.addr) }
-    requires at { (seen table.old).cells (point v.now.key v.now.addr)
-        ≡ Some (state v.now.state.now) }
-    requires own { asking asked.now ≡ v.now.state.now }
-    requires asked { AsksOn v.now.ground.now table.old y (asked_for asked.now) }
-    requires new { value_for table.old.places y ≡ None }
-    ensures ok { OnOk result
-        (RaisedOn v.now.ground.now table.old table.new y (asked_for asked.now)) }
-    ensures err { IfErr result (AnsweredOn v.now.ground.now) }
-{
-    let Some((_, own)) = table.places.get_index(table.near) else {
-        return Err(Refusal::NoMemory);
-    };
-    let value = own.value.changed(alloc, asked)?;
-    count(false, &mut table.points, &mut table.frames, y)?;
-    add(&mut table.places, &mut table.work, y, value)?;
-    Ok(())
-}
 
 /// Joins what is asked into what is known at y, which has this number, and puts y on the list, unless it is covered; says whether
 /// it was not. The entry point of a frame waits.
@@ -82,7 +53,38 @@ fn raise_place(
     Ok(true)
 }
 
-/// Joins what is asked at y alone, unless it is covered; says whether it was not.
+/// Adds y with what is asked, made from what is known at the point that asks, and counts it, where nothing is known there; else
+/// joins what is asked there, unless it is covered. Says whether it was not.
+fn rise_anew(
+    alloc: Global,
+    table: &mut Table,
+    v: &Visit,
+    y: Spot,
+    asked: &Asked,
+) -> Result<bool, Refusal>
+    requires fine { FineOn v.now.ground.now table.old }
+    requires near { StandsAt table.old.places table.old.near (Point v.now.key v.now.addr) }
+    requires at { (seen table.old).cells (point v.now.key v.now.addr)
+        ≡ Some (state v.now.state.now) }
+    requires own { asking asked.now ≡ v.now.state.now }
+    requires asked { AsksOn v.now.ground.now table.old y (asked_for asked.now) }
+    ensures { RaisesOn v.now.ground.now table.old table.new y (asked_for asked.now) result }
+{
+    let Some((_, own)) = table.places.get_index(table.near) else {
+        return Err(Refusal::NoMemory);
+    };
+    let value = own.value.changed(alloc, asked)?;
+    match add_or_find(&mut table.places, &mut table.work, y, value)? {
+        None => {
+            count(false, &mut table.points, &mut table.frames, y)?;
+            Ok(true)
+        }
+        Some(number) => raise_place(alloc, table, v, number, y, asked),
+    }
+}
+
+/// Joins what is asked at y alone, unless it is covered; says whether it was not. Behind the last place that was found mostly
+/// nothing is known, so there y is looked up as it is added.
 fn rise(
     alloc: Global,
     table: &mut Table,
@@ -98,25 +100,12 @@ fn rise(
     requires asked { AsksOn v.now.ground.now table.old y (asked_for asked.now) }
     ensures { RaisesOn v.now.ground.now table.old table.new y (asked_for asked.now) result }
 {
-    match table.places.get_index_of(&y) {
-        None => {
-            add_place(alloc, table, v, y, asked)?;
-            Ok(true)
+    if table.near < table.places.len().saturating_sub(1) {
+        if let Some(number) = table.places.get_index_of(&y) {
+            return raise_place(alloc, table, v, number, y, asked);
         }
-        Some(number) => raise_place(alloc, table, v, number, y, asked),
     }
-}
-
-/// Whether what is asked is seen to be covered by what is known at y.
-pub(crate) fn is_covered(ground: &Ground, table: &Table, y: Spot, asked: &Asked) -> bool
-    requires fine { FineOn ground.now table.now }
-    requires value { IsProperKnown (ground.now).bounds.now (asked_for asked.now) }
-    ensures { IsTrue result → CoversAt (seen table.now).cells (place_of y) (asked_for asked.now) }
-{
-    match table.places.get(&y) {
-        None => false,
-        Some(place) => place.value.covers(ground.bounds, asked),
-    }
+    rise_anew(alloc, table, v, y, asked)
 }
 
 /// Puts all that read y on the list, where they wait or are next; no point is read.

@@ -10,7 +10,7 @@ ghost use Rattle.depth_maker.specs.View.{AnsweredOn, OwesAll, PaidBy, StandsBy, 
 use crate::asking::{pay_first, pay_jump};
 use crate::ground::Visit;
 use crate::table::Table;
-use cfg_recover::{Located, step_change, targets};
+use cfg_recover::{Located, direct_target, step_change, targets};
 use frame_places::Refusal;
 use std::alloc::Global;
 use tc_isa::{Shape, Target};
@@ -93,8 +93,9 @@ fn pay_jumps(
     Ok(())
 }
 
-/// A jump with the state as it is.
-fn pay_targets(
+/// A jump with the state as it is, to one of the targets that are listed.
+#[inline(never)]
+fn pay_listed_jumps(
     alloc: Global,
     table: &mut Table,
     v: &Visit,
@@ -113,6 +114,35 @@ fn pay_targets(
 {
     let targets = targets(v.ground.plan, v.state, v.addr, to);
     pay_jumps(alloc, table, v, targets.as_slice(), c)
+}
+
+/// A jump with the state as it is, before anything else is joined; a list of targets is filled only where a register tells them.
+fn pay_targets(
+    alloc: Global,
+    table: &mut Table,
+    v: &Visit,
+    to: Target,
+    c: &mut Change,
+) -> Result<(), Refusal>
+    requires visited { VisitedBy v.now table.old }
+    requires at { (seen table.old).cells (point v.now.key v.now.addr)
+        ≡ Some (state v.now.state.now) }
+    requires target { IsTarget to }
+    requires owes { OwesAll v.now
+        (jumps_to v.now.state.now
+        (unwrap_or (targets_of v.now.ground.now.plan.now v.now.state.now v.now.addr to) [])) }
+    ensures ok { OnOk result (PaidBy v.now table.old table.new
+        (jumps_to v.now.state.now
+        (unwrap_or (targets_of v.now.ground.now.plan.now v.now.state.now v.now.addr to) []))) }
+    ensures err { IfErr result (AnsweredOn v.now.ground.now) }
+{
+    match direct_target(v.addr, to) {
+        Some(target) => {
+            c.keep(v.state);
+            pay_first(alloc, table, v, target, &*c)
+        }
+        None => pay_listed_jumps(alloc, table, v, to, c),
+    }
 }
 
 /// The step to the next instruction, before anything else is joined.

@@ -1,5 +1,5 @@
 // The table: what is known, which places have work, who reads which exit, the list of work, and what is counted.
-use crate::heard::Heard;
+use crate::heard::Hearings;
 use depth_cert::Key;
 use frame_places::{Marked, Spot, Work};
 use indexmap::IndexMap;
@@ -15,6 +15,6 @@ pub(crate) struct Table {
     pub(crate) work: Work,
     pub(crate) points: Vec<Spot>,
     pub(crate) frames: Vec<Key>,
-    pub(crate) heard: Option<Heard>,
+    pub(crate) heard: Hearings,
     pub(crate) near: usize,
 }

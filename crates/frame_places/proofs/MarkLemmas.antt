@@ -1,6 +1,7 @@
 -- Marks: one more place, and all places of a list.
 use Rattle.std.proofs.Common.{◌≡◌, ℕ, Bool, true, false, ◌⊎◌, inl, inr, List, [], ◌∷◌, ◌++◌, Option, Some, None, IsSome, refl, sym, ap, subst, ◌∙◌, Contains}
-use Rattle.std.specs.Prelude.{if◌then◌else◌, is_some}
+use Rattle.std.specs.Prelude.{if◌then◌else◌, is_some, slice_get}
+use Rattle.std.specs.Map.{keys_of, lookup}
 use Rattle.std.specs.Option.{option_map}
 use Rattle.std.proofs.lemmas.List.Elements.{Contains-append_left, Contains-push, Contains-push_cases}
 use Rattle.frame_places.proofs.WorkLemmas.{Adds, adds_kept, adds_only, adds_there}
@@ -139,3 +140,14 @@ not_queued Open other = refl
 
 pub unknown_value : {V S : Type 0} (places : IndexMap Spot (Marked V) S) (q : Spot) → is_some (get spot_eq places q) ≡ false → value_for places q ≡ None
 unknown_value places q e = nothing (get spot_eq places q) e
+
+-- ---- the same entries
+module _ {V S : Type 0} (a b : IndexMap Spot (Marked V) S) (same : b.entries ≡ a.entries) where
+  pub same_value : (q : Spot) → value_for b q ≡ value_for a q
+  same_value q = ap (λ (es : List (Spot × Marked V)). option_map (λ (m : Marked V). m.value) (lookup (spot_eq q) es)) same
+
+  pub same_mark : (q : Spot) → mark_for b q ≡ mark_for a q
+  same_mark q = ap (λ (es : List (Spot × Marked V)). option_map (λ (m : Marked V). m.mark) (lookup (spot_eq q) es)) same
+
+  pub same_number : (number : ℕ) (q : Spot) → StandsAt a number q → StandsAt b number q
+  same_number number q h = ap (λ (es : List (Spot × Marked V)). slice_get (keys_of es) number) same ∙ h

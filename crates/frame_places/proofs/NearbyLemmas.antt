@@ -1,14 +1,15 @@
 -- Places by their numbers.
-use Rattle.std.proofs.Common.{◌≡◌, ℕ, zero, suc, true, false, List, [], ◌∷◌, ◌++◌, get_or, Option, Some, None, refl, sym, ap, subst, ◌∙◌}
+use Rattle.std.proofs.Common.{◌≡◌, ◌+◌, ℕ, zero, suc, Bool, true, false, not, List, [], ◌∷◌, ◌++◌, get_or, Option, Some, None, IsSome, refl, sym, ap, subst, ◌∙◌, arith}
 use Rattle.std.specs.Prelude.{if◌then◌else◌, slice_get, length, is_some}
+use Rattle.std.specs.List.{position_or_len}
 use Rattle.std.specs.Cmp.{IsEquivalence, both_ways}
 use Rattle.std.specs.Option.{option_map}
-use Rattle.std.specs.Map.{keys_of}
+use Rattle.std.specs.Map.{keys_of, lookup}
 use Rattle.std.proofs.lemmas.List.{length-map, map-append}
 use Rattle.std.proofs.lemmas.List.Quantifiers.{position-Some}
 use Rattle.std.proofs.lemmas.Map.Entries.{hash_map_get_place}
 use Rattle.std.proofs.lemmas.Option.{same_Some, slice_get-get_or, slice_get-map}
-use Rattle.indexmap.specs.IndexMap.{IndexMap, IsUnique, get, index_of, insert_entry, keys, values, with_value_at}
+use Rattle.indexmap.specs.IndexMap.{IndexMap, IsUnique, get, index_of, insert_entry, insert_index, keys, values, with_value_at}
 use Rattle.indexmap.proofs.CallerLemmas.{insert_entry-new, keys-with_value_at, updates-with_value_at}
 use Rattle.frame_places.specs.declared.places.Spot.{Spot}
 use Rattle.frame_places.specs.declared.places.Mark.{Mark}
@@ -74,6 +75,23 @@ module _ {X S : Type 0} (m : IndexMap Spot X S) (number : ℕ) (x : Spot) where
   no_value none h =
       let e = entry_at h in
       let no : None ≡ Some e.0 = none ∙ slice_get-map (λ (p : Spot × X). p.1) m.entries number ∙ ap (option_map (λ (p : Spot × X). p.1)) e.1 in cc
+
+-- where a place is that something is known at
+first_there : {X : Type 0} (y : Spot) (es : List (Spot × X)) → IsSome (lookup (spot_eq y) es) → slice_get (keys_of es) (position_or_len (spot_eq y) (keys_of es)) ≡ Some y
+first_there y [] h = cc
+first_there {X} y (e ∷ es) h = by (spot_eq y e.0) refl (λ i. first_there y es i) where
+  rest : ℕ
+  rest = position_or_len (spot_eq y) (keys_of es)
+
+  by : (t : Bool) → spot_eq y e.0 ≡ t → (IsSome (lookup (spot_eq y) es) → slice_get (keys_of es) rest ≡ Some y) → slice_get (keys_of (e ∷ es)) (position_or_len (spot_eq y) (keys_of (e ∷ es))) ≡ Some y
+  by true t next = ap (λ (b : Bool). slice_get (e.0 ∷ keys_of es) (if not b then 1 + rest else 0)) t ∙ ap (λ (k : Spot). Some k) (sym (spot_tells y e.0 t))
+  by false t next =
+      let one : 1 + rest ≡ suc rest = omega arith in
+      ap (λ (b : Bool). slice_get (e.0 ∷ keys_of es) (if not b then 1 + rest else 0)) t ∙ ap (λ (n : ℕ). slice_get (e.0 ∷ keys_of es) n) one
+      ∙ next (subst (λ (b : Bool). IsSome (if b then Some e.1 else lookup (spot_eq y) es)) t h)
+
+pub found_there : {X S : Type 0} (m : IndexMap Spot X S) (y : Spot) (number : ℕ) → number ≡ insert_index spot_eq m y → IsSome (get spot_eq m y) → StandsAt m number y
+found_there m y number is h = subst (λ (n : ℕ). StandsAt m n y) (sym is) (first_there y m.entries h)
 
 -- ---- one place more
 slice_left : {X : Type 0} (xs ys : List X) (n : ℕ) (x : X) → slice_get xs n ≡ Some x → slice_get (xs ++ ys) n ≡ Some x

@@ -5,7 +5,7 @@ use Rattle.std.proofs.lemmas.List.{append_assoc, append-nil}
 use Rattle.std.proofs.lemmas.List.Elements.{Contains-append_cases, Contains-append_left, Contains-append_right, Contains-push, Contains-push_cases}
 use Rattle.std.proofs.lemmas.List.Sorted.{Contains-permutation, IsPermutation-append_left, IsPermutation-refl, IsPermutation-sym, IsPermutation-to_front, IsPermutation-trans, length_permutation}
 use Rattle.std.specs.List.Sorted.{IsPermutation}
-use Rattle.frame_places.specs.Work.{BeginsRound, Lists, PutsAs, PutsNext, PutsWaiting, Takes, TakesRound, all_work}
+use Rattle.frame_places.specs.Work.{BeginsRound, HasNoNext, Lists, PutsAs, PutsNext, PutsWaiting, Takes, TakesFirst, TakesLast, TakesRound, Turns, all_work}
 
 -- a list has what another has, and one number
 abbrev pub Adds : List ℕ → List ℕ → ℕ → Type 0
@@ -38,86 +38,152 @@ adds_only old new number n adds c = first_or_not number n old (Contains-permutat
 at_end : (xs : List ℕ) (number : ℕ) → IsPermutation (number ∷ xs) (xs ++ number ∷ [])
 at_end xs number = IsPermutation-sym (xs ++ number ∷ []) (number ∷ xs) (IsPermutation-to_front xs number)
 
+-- all of a list, by its parts
+parts : (w : Lists) (first next round waiting : List ℕ) → w.first ≡ first → w.next ≡ next → w.round ≡ round → w.waiting ≡ waiting → all_work w ≡ first ++ (next ++ (round ++ waiting))
+parts w first next round waiting a b c d =
+    ap (λ (xs : List ℕ). xs ++ (w.next ++ (w.round ++ w.waiting))) a ∙ ap (λ (xs : List ℕ). first ++ (xs ++ (w.round ++ w.waiting))) b
+    ∙ ap (λ (xs : List ℕ). first ++ (next ++ (xs ++ w.waiting))) c ∙ ap (λ (xs : List ℕ). first ++ (next ++ (round ++ xs))) d
+
+-- one more behind some lists, and before others
+more_between : (xs ys zs : List ℕ) (number : ℕ) → IsPermutation (number ∷ (xs ++ (ys ++ zs))) (xs ++ ((ys ++ number ∷ []) ++ zs))
+more_between xs ys zs number =
+    subst (λ (l : List ℕ). IsPermutation (number ∷ l) (xs ++ ((ys ++ number ∷ []) ++ zs))) (append_assoc xs ys zs)
+    (subst (λ (l : List ℕ). IsPermutation (number ∷ ((xs ++ ys) ++ zs)) l) (append_assoc xs (ys ++ number ∷ []) zs)
+    (subst (λ (l : List ℕ). IsPermutation (number ∷ ((xs ++ ys) ++ zs)) (l ++ zs)) (append_assoc xs ys (number ∷ []))
+    (IsPermutation-append_left zs (number ∷ (xs ++ ys)) ((xs ++ ys) ++ number ∷ []) (at_end (xs ++ ys) number))))
+
 pub adds_next : (old new : Lists) (number : ℕ) → PutsNext old new number → Adds (all_work old) (all_work new) number
 adds_next old new number puts =
-    subst (λ (xs : List ℕ). Adds (all_work old) (xs ++ (new.round ++ new.waiting)) number) (sym puts.next)
-    (subst (λ (ys : List ℕ). Adds (all_work old) ((old.next ++ number ∷ []) ++ (ys ++ new.waiting)) number) (sym puts.round)
-    (subst (λ (ys : List ℕ). Adds (all_work old) ((old.next ++ number ∷ []) ++ (old.round ++ ys)) number) (sym puts.waiting)
-    (IsPermutation-append_left (old.round ++ old.waiting) (number ∷ old.next) (old.next ++ number ∷ []) (at_end old.next number))))
+    subst (λ (l : List ℕ). Adds (all_work old) l number) (sym (parts new old.first (old.next ++ number ∷ []) old.round old.waiting puts.first puts.next puts.round puts.waiting))
+    (more_between old.first old.next (old.round ++ old.waiting) number)
 
 pub adds_waiting : (old new : Lists) (number : ℕ) → PutsWaiting old new number → Adds (all_work old) (all_work new) number
 adds_waiting old new number puts =
-    let all = old.next ++ (old.round ++ old.waiting) in
-    let behind : IsPermutation (number ∷ all) (old.next ++ (old.round ++ (old.waiting ++ number ∷ []))) =
-    subst (λ (ys : List ℕ). IsPermutation (number ∷ all) (old.next ++ ys)) (append_assoc old.round old.waiting (number ∷ []))
-    (subst (λ (ys : List ℕ). IsPermutation (number ∷ all) ys) (append_assoc old.next (old.round ++ old.waiting) (number ∷ [])) (at_end all number)) in
-    subst (λ (xs : List ℕ). Adds (all_work old) (xs ++ (new.round ++ new.waiting)) number) (sym puts.next)
-    (subst (λ (ys : List ℕ). Adds (all_work old) (old.next ++ (ys ++ new.waiting)) number) (sym puts.round)
-    (subst (λ (ys : List ℕ). Adds (all_work old) (old.next ++ (old.round ++ ys)) number) (sym puts.waiting) behind))
+    let all = all_work old in
+    let behind : IsPermutation (number ∷ all) (old.first ++ (old.next ++ (old.round ++ (old.waiting ++ number ∷ [])))) =
+    subst (λ (l : List ℕ). IsPermutation (number ∷ all) (old.first ++ (old.next ++ l))) (append_assoc old.round old.waiting (number ∷ []))
+    (subst (λ (l : List ℕ). IsPermutation (number ∷ all) (old.first ++ l)) (append_assoc old.next (old.round ++ old.waiting) (number ∷ []))
+    (subst (λ (l : List ℕ). IsPermutation (number ∷ all) l) (append_assoc old.first (old.next ++ (old.round ++ old.waiting)) (number ∷ [])) (at_end all number))) in
+    subst (λ (l : List ℕ). Adds all l number) (sym (parts new old.first old.next old.round (old.waiting ++ number ∷ []) puts.first puts.next puts.round puts.waiting)) behind
 
 pub adds_either : (waits : Bool) (old new : Lists) (number : ℕ) → PutsAs waits old new number → Adds (all_work old) (all_work new) number
 adds_either true old new number puts = adds_waiting old new number puts
 adds_either false old new number puts = adds_next old new number puts
 
--- one that is next is taken
-pub takes_next : (old new : Lists) (number : ℕ) → old.next ≡ number ∷ new.next → new.round ≡ old.round → new.waiting ≡ old.waiting → Takes old new number
-takes_next old new number next round waiting =
-    subst (λ (xs : List ℕ). IsPermutation (xs ++ (old.round ++ old.waiting)) (number ∷ all_work new)) (sym next)
-    (subst (λ (ys : List ℕ). IsPermutation (number ∷ (new.next ++ (old.round ++ old.waiting))) (number ∷ (new.next ++ (ys ++ new.waiting)))) (sym round)
-    (subst (λ (ys : List ℕ). IsPermutation (number ∷ (new.next ++ (old.round ++ old.waiting))) (number ∷ (new.next ++ (old.round ++ ys)))) (sym waiting)
-    (IsPermutation-refl (number ∷ (new.next ++ (old.round ++ old.waiting))))))
+-- ---- what is taken
+-- the last of a list comes to its front
+from_end : (xs ys : List ℕ) (number : ℕ) → IsPermutation ((xs ++ number ∷ []) ++ ys) (number ∷ (xs ++ ys))
+from_end xs ys number = IsPermutation-append_left ys (xs ++ number ∷ []) (number ∷ xs) (IsPermutation-to_front xs number)
 
--- one of this round is
-pub takes_round : (old mid new : Lists) (number : ℕ) → all_work mid ≡ all_work old → mid.next ≡ [] → TakesRound mid new number → Takes old new number
-takes_round old mid new number same none takes =
-    subst (λ (xs : List ℕ). IsPermutation xs (number ∷ all_work new)) same
-    (subst (λ (xs : List ℕ). IsPermutation (xs ++ (mid.round ++ mid.waiting)) (number ∷ all_work new)) (sym none)
-    (subst (λ (xs : List ℕ). IsPermutation (mid.round ++ mid.waiting) (number ∷ (xs ++ (new.round ++ new.waiting)))) (sym (takes.next ∙ none))
-    (subst (λ (ys : List ℕ). IsPermutation (mid.round ++ mid.waiting) (number ∷ (new.round ++ ys))) (sym takes.waiting)
-    (subst (λ (ys : List ℕ). IsPermutation (ys ++ mid.waiting) (number ∷ (new.round ++ mid.waiting))) (sym takes.round)
-    (IsPermutation-append_left mid.waiting (new.round ++ number ∷ []) (number ∷ new.round) (IsPermutation-to_front new.round number))))))
+-- by all that there is
+taken_of : (old new : Lists) (number : ℕ) (before after : List ℕ) → all_work old ≡ before → all_work new ≡ after → IsPermutation before (number ∷ after) → Takes old new number
+taken_of old new number before after a b h =
+    subst (λ (l : List ℕ). IsPermutation l (number ∷ all_work new)) (sym a) (subst (λ (l : List ℕ). IsPermutation before (number ∷ l)) (sym b) h)
+
+same_of : (old new : Lists) (before after : List ℕ) → all_work old ≡ before → all_work new ≡ after → IsPermutation before after → IsPermutation (all_work old) (all_work new)
+same_of old new before after a b h = subst (λ (l : List ℕ). IsPermutation l (all_work new)) (sym a) (subst (λ (l : List ℕ). IsPermutation before l) (sym b) h)
+
+takes_same : (old mid new : Lists) (number : ℕ) → IsPermutation (all_work old) (all_work mid) → Takes mid new number → Takes old new number
+takes_same old mid new number same takes = IsPermutation-trans (all_work old) (all_work mid) (number ∷ all_work new) same takes
+
+-- the first one
+pub takes_first : (old new : Lists) (number : ℕ) → TakesFirst old new number → Takes old new number
+takes_first old new number takes =
+    let rest = new.next ++ (new.round ++ new.waiting) in
+    taken_of old new number ((new.first ++ number ∷ []) ++ rest) (new.first ++ rest)
+    (parts old (new.first ++ number ∷ []) new.next new.round new.waiting takes.first (sym takes.next) (sym takes.round) (sym takes.waiting)) refl (from_end new.first rest number)
+
+-- the last of those that are next
+pub takes_last : (old new : Lists) (number : ℕ) → old.first ≡ [] → TakesLast old new number → Takes old new number
+takes_last old new number none takes =
+    let rest = new.round ++ new.waiting in
+    taken_of old new number ((new.next ++ number ∷ []) ++ rest) (new.next ++ rest)
+    (parts old [] (new.next ++ number ∷ []) new.round new.waiting none takes.next (sym takes.round) (sym takes.waiting))
+    (parts new [] new.next new.round new.waiting (takes.first ∙ none) refl refl refl) (from_end new.next rest number)
+
+-- those that are next were turned
+turned_all : (old mid : Lists) → old.first ≡ [] → Turns old mid → IsPermutation (all_work old) (all_work mid)
+turned_all old mid none turns =
+    let rest = old.round ++ old.waiting in
+    same_of old mid (old.next ++ rest) (mid.first ++ rest) (parts old [] old.next old.round old.waiting none refl refl refl)
+    (parts mid mid.first [] old.round old.waiting refl (turns.next ∙ none) turns.round turns.waiting) (IsPermutation-append_left rest old.next mid.first turns.first)
+
+-- as a call answers
+pub first_some : (old new : Lists) (r : Option ℕ) → IfSome r (TakesFirst old new) → IfSome r (Takes old new)
+first_some old new None takes = takes
+first_some old new (Some number) takes = takes_first old new number takes
+
+pub last_some : (old mid new : Lists) (r : Option ℕ) → mid ≡ old → old.first ≡ [] → IfSome r (TakesLast mid new) → IfSome r (Takes old new)
+last_some old mid new None same none takes = takes
+last_some old mid new (Some number) same none takes =
+    subst (λ (w : Lists). Takes w new number) same (takes_last mid new number (ap (λ (w : Lists). w.first) same ∙ none) takes)
+
+pub last_none : (old mid new : Lists) (r : Option ℕ) → mid ≡ old → old.first ≡ [] → IfNone r ((mid.next ≡ []) × (new ≡ mid)) → IfNone r (HasNoNext old new)
+last_none old mid new None same none left =
+    let all = left.1 ∙ same in
+    record {
+      first = ap (λ (w : Lists). w.first) all ∙ none;
+      next = ap (λ (w : Lists). w.next) left.1 ∙ left.0;
+      same = subst (λ (w : Lists). IsPermutation (all_work old) (all_work w)) (sym all) (IsPermutation-refl (all_work old));
+    }
+last_none old mid new (Some number) same none left = left
+
+pub turned_some : (old mid turned new : Lists) (r : Option ℕ) → mid ≡ old → old.first ≡ [] → Turns mid turned → IfSome r (TakesFirst turned new) → IfSome r (Takes old new)
+turned_some old mid turned new None same none turns takes = takes
+turned_some old mid turned new (Some number) same none turns takes =
+    subst (λ (w : Lists). Takes w new number) same
+    (takes_same mid turned new number (turned_all mid turned (ap (λ (w : Lists). w.first) same ∙ none) turns) (takes_first turned new number takes))
+
+pub turned_none : (old mid turned new : Lists) (r : Option ℕ) → mid ≡ old → old.first ≡ [] → Turns mid turned → IfNone r ((turned.first ≡ []) × (new ≡ turned)) → IfNone r (HasNoNext old new)
+turned_none old mid turned new None same none turns left =
+    let empty = ap (λ (w : Lists). w.first) same ∙ none in
+    record {
+      first = ap (λ (w : Lists). w.first) left.1 ∙ left.0;
+      next = ap (λ (w : Lists). w.next) left.1 ∙ turns.next ∙ empty;
+      same = subst (λ (w : Lists). IsPermutation (all_work w) (all_work new)) same
+          (subst (λ (w : Lists). IsPermutation (all_work mid) (all_work w)) (sym left.1) (turned_all mid turned empty turns));
+    }
+turned_none old mid turned new (Some number) same none turns left = left
+
+-- one of this round
+pub takes_round : (old mid new : Lists) (number : ℕ) → HasNoNext old mid → TakesRound mid new number → Takes old new number
+takes_round old mid new number has takes =
+    takes_same old mid new number has.same
+    (taken_of mid new number ((new.round ++ number ∷ []) ++ new.waiting) (new.round ++ new.waiting)
+    (parts mid [] [] (new.round ++ number ∷ []) new.waiting has.first has.next takes.round (sym takes.waiting))
+    (parts new [] [] new.round new.waiting (takes.first ∙ has.first) (takes.next ∙ has.next) refl refl) (from_end new.round new.waiting number))
 
 -- or of a new round
-begun_all : (old mid : Lists) → old.next ≡ [] → old.round ≡ [] → BeginsRound old mid → IsPermutation (all_work old) (all_work mid)
-begun_all old mid none over begins =
-    subst (λ (xs : List ℕ). IsPermutation (xs ++ (old.round ++ old.waiting)) (all_work mid)) (sym none)
-    (subst (λ (xs : List ℕ). IsPermutation (xs ++ old.waiting) (all_work mid)) (sym over)
-    (subst (λ (xs : List ℕ). IsPermutation old.waiting (xs ++ (mid.round ++ mid.waiting))) (sym (begins.next ∙ none))
-    (subst (λ (ys : List ℕ). IsPermutation old.waiting (mid.round ++ ys)) (sym (begins.waiting ∙ over))
-    (subst (λ (ys : List ℕ). IsPermutation old.waiting ys) (sym (append-nil mid.round)) begins.round))))
+begun_all : (old mid begun : Lists) → HasNoNext old mid → mid.round ≡ [] → BeginsRound mid begun → HasNoNext old begun
+begun_all old mid begun has over begins = record {
+  first = begins.first ∙ has.first;
+  next = begins.next ∙ has.next;
+  same = IsPermutation-trans (all_work old) (all_work mid) (all_work begun) has.same
+      (same_of mid begun mid.waiting begun.round (parts mid [] [] [] mid.waiting has.first has.next over refl)
+      (parts begun [] [] begun.round [] (begins.first ∙ has.first) (begins.next ∙ has.next) refl (begins.waiting ∙ over) ∙ append-nil begun.round) begins.round);
+}
 
-pub begun_some : (old mid new : Lists) (r : Option ℕ) → old.next ≡ [] → old.round ≡ [] → BeginsRound old mid → IfSome r (TakesRound mid new) → IfSome r (Takes old new)
-begun_some old mid new None none over begins takes = takes
-begun_some old mid new (Some number) none over begins takes =
-    IsPermutation-trans (all_work old) (all_work mid) (number ∷ all_work new) (begun_all old mid none over begins) (takes_round mid mid new number refl (begins.next ∙ none) takes)
+pub begun_some : (old mid begun new : Lists) (r : Option ℕ) → HasNoNext old mid → mid.round ≡ [] → BeginsRound mid begun → IfSome r (TakesRound begun new) → IfSome r (Takes old new)
+begun_some old mid begun new None has over begins takes = takes
+begun_some old mid begun new (Some number) has over begins takes = takes_round old begun new number (begun_all old mid begun has over begins) takes
 
 pub empty_list : (xs : List ℕ) → length xs ≡ 0 → xs ≡ []
 empty_list [] e = refl
 empty_list (x ∷ xs) e = absurd (omega arith)
 
--- by all that there is
-pub some_same : (a b new : Lists) (r : Option ℕ) → all_work a ≡ all_work b → IfSome r (Takes a new) → IfSome r (Takes b new)
-some_same a b new r e takes = subst (λ (l : List ℕ). IfSome r (λ (n : ℕ). IsPermutation l (n ∷ all_work new))) e takes
-
-pub none_same : (a b : Lists) (r : Option ℕ) → all_work a ≡ all_work b → IfNone r (all_work a ≡ []) → IfNone r (all_work b ≡ [])
-none_same a b r e none = subst (λ (l : List ℕ). IfNone r (l ≡ [])) e none
-
 -- none is left
-bare : (mid : Lists) → mid.next ≡ [] → mid.round ≡ [] → mid.waiting ≡ [] → all_work mid ≡ []
-bare mid none over still =
-    ap (λ (xs : List ℕ). xs ++ (mid.round ++ mid.waiting)) none ∙ ap (λ (xs : List ℕ). xs ++ mid.waiting) over ∙ still
+pub begun_empty : (old mid begun new : Lists) (r : Option ℕ) → HasNoNext old mid → mid.round ≡ [] → BeginsRound mid begun → IfNone r ((begun.round ≡ []) × (new ≡ begun)) → IfNone r (all_work new ≡ [])
+begun_empty old mid begun new None has over begins left =
+    ap all_work left.1 ∙ parts begun [] [] [] [] (begins.first ∙ has.first) (begins.next ∙ has.next) left.0 (begins.waiting ∙ over)
+begun_empty old mid begun new (Some number) has over begins left = left
 
-pub begun_none : (old mid new : Lists) (r : Option ℕ) → old.next ≡ [] → old.round ≡ [] → BeginsRound old mid → IfNone r ((mid.round ≡ []) × (new ≡ mid)) → IfNone r (all_work old ≡ [])
-begun_none old mid new None none over begins left =
-    let waits = length_permutation old.waiting mid.round begins.round in
-    let gone = ap (λ (xs : List ℕ). length xs) left.0 in
-    bare old none over (empty_list old.waiting (omega (arith, waits, gone)))
-begun_none old mid new (Some number) none over begins left = left
-
-pub begun_empty : (old mid new : Lists) (r : Option ℕ) → old.next ≡ [] → old.round ≡ [] → BeginsRound old mid → IfNone r ((mid.round ≡ []) × (new ≡ mid)) → IfNone r (all_work new ≡ [])
-begun_empty old mid new None none over begins left =
-    ap all_work left.1 ∙ bare mid (begins.next ∙ none) left.0 (begins.waiting ∙ over)
-begun_empty old mid new (Some number) none over begins left = left
+-- nor was any
+pub begun_none : (old mid begun new : Lists) (r : Option ℕ) → HasNoNext old mid → mid.round ≡ [] → BeginsRound mid begun → IfNone r ((begun.round ≡ []) × (new ≡ begun)) → IfNone r (all_work old ≡ [])
+begun_none old mid begun new None has over begins left =
+    let same = length_permutation (all_work old) (all_work begun) (begun_all old mid begun has over begins).same in
+    let gone = ap (λ (xs : List ℕ). length xs) (parts begun [] [] [] [] (begins.first ∙ has.first) (begins.next ∙ has.next) left.0 (begins.waiting ∙ over)) in
+    empty_list (all_work old) (omega (arith, same, gone))
+begun_none old mid begun new (Some number) has over begins left = left
 
 -- what was taken was there
 pub takes_there : (old new : Lists) (number : ℕ) → Takes old new number → Contains (all_work old) number

@@ -10,6 +10,7 @@ use Rattle.frame_places.specs.declared.places.Marked.{Marked}
 use Rattle.frame_places.specs.declared.places.Mark.TheVariants.{Idle, Plain, Queued, Open}
 use Rattle.frame_places.specs.Nearby.{StandsAt}
 use Rattle.frame_places.specs.Spots.{spot_eq}
+use Rattle.frame_places.specs.Work.{Lists, all_work}
 
 -- what is known at a place
 abbrev pub value_for : {V S : Type 0} → IndexMap Spot (Marked V) S → Spot → Option V
@@ -43,6 +44,11 @@ pub record Puts {V S : Type 0} (old new : IndexMap Spot (Marked V) S) (y : Spot)
   pub values : (q : Spot) → value_for new q ≡ (if spot_eq y q then Some value else value_for old q)
   pub marks : (q : Spot) → mark_for new q ≡ (if spot_eq y q then Some Queued else mark_for old q)
   pub numbers : KeepsNumbers old new
+
+-- nothing was known at y, and now this value is, and y is on the list; or y has this number already, and nothing changes
+abbrev pub AddsOrFinds : {V S : Type 0} → IndexMap Spot (Marked V) S → IndexMap Spot (Marked V) S → Lists → Lists → Spot → V → Option ℕ → Type 0
+AddsOrFinds old new before after y value None = (value_for old y ≡ None) × Puts old new y value × AllListed new (all_work after)
+AddsOrFinds old new before after y value (Some number) = StandsAt old number y × (new.entries ≡ old.entries) × (after ≡ before)
 
 -- these have work now, and nothing else changes
 pub record Tells {V S : Type 0} (old new : IndexMap Spot (Marked V) S) (these : Spot → Type 0) : Type 0 where

@@ -1,25 +1,28 @@
--- The list of work: places by their numbers, in three parts.
+-- The list of work: places by their numbers, in four parts.
 use Rattle.std.specs.Prelude.{◌≡◌, ℕ, Bool, true, false, List, [], ◌∷◌, ◌++◌}
 use Rattle.std.specs.List.Sorted.{IsPermutation}
 
--- the places that are next, those of this round, which come when none is next, and those that wait for the next round
+-- the first places, those that are next behind them, those of this round, which come when none is next, and those that wait for the next round
 pub record Lists : Type 0 where
+  pub first : List ℕ
   pub next : List ℕ
   pub round : List ℕ
   pub waiting : List ℕ
 
 -- all places that have work
 abbrev pub all_work : Lists → List ℕ
-all_work work = work.next ++ (work.round ++ work.waiting)
+all_work work = work.first ++ (work.next ++ (work.round ++ work.waiting))
 
 -- this place is next too
 pub record PutsNext (old new : Lists) (number : ℕ) : Type 0 where
+  pub first : new.first ≡ old.first
   pub next : new.next ≡ old.next ++ number ∷ []
   pub round : new.round ≡ old.round
   pub waiting : new.waiting ≡ old.waiting
 
 -- this place waits too
 pub record PutsWaiting (old new : Lists) (number : ℕ) : Type 0 where
+  pub first : new.first ≡ old.first
   pub next : new.next ≡ old.next
   pub round : new.round ≡ old.round
   pub waiting : new.waiting ≡ old.waiting ++ number ∷ []
@@ -31,12 +34,35 @@ PutsAs false old new number = PutsNext old new number
 
 -- those that wait come in this round, of which none is left
 pub record BeginsRound (old new : Lists) : Type 0 where
+  pub first : new.first ≡ old.first
   pub next : new.next ≡ old.next
   pub round : IsPermutation old.waiting new.round
   pub waiting : new.waiting ≡ old.round
 
+-- those that are next are the first now, in some order, and the first ones are next
+pub record Turns (old new : Lists) : Type 0 where
+  pub first : IsPermutation old.next new.first
+  pub next : new.next ≡ old.first
+  pub round : new.round ≡ old.round
+  pub waiting : new.waiting ≡ old.waiting
+
+-- this place is taken off the first ones
+pub record TakesFirst (old new : Lists) (number : ℕ) : Type 0 where
+  pub first : old.first ≡ new.first ++ number ∷ []
+  pub next : new.next ≡ old.next
+  pub round : new.round ≡ old.round
+  pub waiting : new.waiting ≡ old.waiting
+
+-- this place, the last of those that are next, is taken off the list
+pub record TakesLast (old new : Lists) (number : ℕ) : Type 0 where
+  pub first : new.first ≡ old.first
+  pub next : old.next ≡ new.next ++ number ∷ []
+  pub round : new.round ≡ old.round
+  pub waiting : new.waiting ≡ old.waiting
+
 -- this place of the round is taken off the list
 pub record TakesRound (old new : Lists) (number : ℕ) : Type 0 where
+  pub first : new.first ≡ old.first
   pub next : new.next ≡ old.next
   pub round : old.round ≡ new.round ++ number ∷ []
   pub waiting : new.waiting ≡ old.waiting
@@ -44,3 +70,9 @@ pub record TakesRound (old new : Lists) (number : ℕ) : Type 0 where
 -- this place is taken off the list
 abbrev pub Takes : Lists → Lists → ℕ → Type 0
 Takes old new number = IsPermutation (all_work old) (number ∷ all_work new)
+
+-- no place is the first nor next, and none was taken off the list
+pub record HasNoNext (old new : Lists) : Type 0 where
+  pub first : new.first ≡ []
+  pub next : new.next ≡ []
+  pub same : IsPermutation (all_work old) (all_work new)

@@ -11,7 +11,7 @@ mod refusals;
 mod work;
 
 pub use counting::count;
-pub use marks::{add, has_work, is_plain, open, put, settle, wake};
+pub use marks::{add, add_or_find, has_work, is_plain, open, put, settle, wake};
 pub use numbers::{number_near, number_of, numbered, numbers_of};
 pub use ordering::{
     PointEntry, address_at, address_in, frames_in_order, orders_of, points_in_order, points_of,

@@ -1,16 +1,17 @@
 // Which places have work. A place is listed by its number in the order of the map.
-ghost use Rattle.std.specs.Prelude.{◌≡◌, ◌↔◌, IsSome, IsTrue, None, OnOk, Contains, Some};
+ghost use Rattle.std.specs.Prelude.{◌≡◌, ◌↔◌, IfOk, IsSome, IsTrue, None, OnOk, Contains, Some};
 ghost use Rattle.indexmap.specs.IndexMap.{get};
 ghost use Rattle.frame_places.specs.declared.places.Spot.{Spot};
 ghost use Rattle.frame_places.specs.declared.places.Mark.TheVariants.{Open, Plain, Queued};
 ghost use Rattle.frame_places.specs.Nearby.{StandsAt};
 ghost use Rattle.frame_places.specs.Spots.{spot_eq};
 ghost use Rattle.frame_places.specs.Work.{PutsAs, all_work};
-ghost use Rattle.frame_places.specs.Marks.{AllListed, AreKnown, MarksAs, Puts, Reads, Tells, idle_mark, is_queued, mark_for, settled_mark, value_for};
+ghost use Rattle.frame_places.specs.Marks.{AddsOrFinds, AllListed, AreKnown, MarksAs, Puts, Reads, Tells, idle_mark, is_queued, mark_for, settled_mark, value_for};
 
 use crate::places::{Mark, Marked, Spot};
 use crate::work::Work;
 use indexmap::IndexMap;
+use indexmap::map::Entry;
 use std::alloc::AllocError;
 
 /// Adds y, of which nothing is known, with work; it is next.
@@ -34,6 +35,31 @@ pub fn add<V: Drop>(
     places.insert(y, place)?;
     work.push(number)?;
     Ok(())
+}
+
+/// Adds y with this value and work, where nothing is known there; it is next. Else tells the number that it has.
+#[inline(always)]
+pub fn add_or_find<V: Drop>(
+    places: &mut IndexMap<Spot, Marked<V>>,
+    work: &mut Work,
+    y: Spot,
+    value: V,
+) -> Result<Option<usize>, AllocError>
+    requires listed { AllListed places.old (all_work work.old) }
+    ensures { IfOk result (AddsOrFinds places.old places.new work.old work.new y value) }
+{
+    let number = places.len();
+    match places.entry(y)? {
+        Entry::Occupied(known) => Ok(Some(known.index())),
+        Entry::Vacant(place) => {
+            place.insert(Marked {
+                value,
+                mark: Mark::Queued,
+            });
+            work.push(number)?;
+            Ok(None)
+        }
+    }
 }
 
 /// Puts a place on the list, where it waits or is next.

@@ -1,19 +1,20 @@
 // The list of work.
-ghost use Rattle.std.specs.Prelude.{◌≡◌, ◌==◌, IfSome, IfNone, OnOk, [], length};
-ghost use Rattle.frame_places.specs.Work.{BeginsRound, PutsNext, PutsWaiting, Takes, TakesRound, all_work};
+ghost use Rattle.std.specs.Prelude.{◌≡◌, ◌<◌, ◌^◌, ◌==◌, IfSome, IfNone, OnOk, [], length};
+ghost use Rattle.frame_places.specs.Work.{BeginsRound, HasNoNext, PutsNext, PutsWaiting, Takes, TakesFirst, TakesLast, TakesRound, Turns, all_work};
 
 use std::alloc::{AllocError, Global};
-use std::collections::VecDeque;
 use std::marker::Model;
 use std::mem::swap;
 
-/// The numbers of the places that have work. Most are next, first in, first out. Some wait for the next round: it begins when all
+/// The numbers of the places that have work. Most are next, first in, first out: `first` has the first of them, the least last,
+/// from where they are taken, and `next` those behind them. Some wait for the next round: it begins when all
 /// others are done, and takes the places in the order of their numbers, in which they were found. So what an exit that rises again
 /// wakes goes on once, when that exit has risen as far as it does for now; and a frame that is entered anew is walked through when
 /// those found before it, which may enter it too, were.
 #[derive(Drop)]
 pub struct Work {
-    next: VecDeque<usize>,
+    first: Vec<usize>,
+    next: Vec<usize>,
     round: Vec<usize>,
     waiting: Vec<usize>,
 }
@@ -23,7 +24,7 @@ impl Model for Work {
 
     ghost Value = { Lists };
 
-    ghost view = { λ w. record { next = w.next.items; round = w.round.items; waiting = w.waiting.items } };
+    ghost view = { λ w. record { first = w.first.items; next = w.next.items; round = w.round.items; waiting = w.waiting.items } };
 }
 
 impl Work {
@@ -32,7 +33,8 @@ impl Work {
         ensures { all_work result ≡ [] }
     {
         Work {
-            next: VecDeque::new(alloc),
+            first: Vec::new(alloc),
+            next: Vec::new(alloc),
             round: Vec::new(alloc),
             waiting: Vec::new(alloc),
         }
@@ -40,16 +42,21 @@ impl Work {
 
     /// How many places are listed.
     pub fn len(&self) -> u128
-        ensures { result ≡ length (all_work self.now) }
+        ensures listed { result ≡ length (all_work self.now) }
+        ensures few { result < 2 ^ 66 }
     {
-        self.next.len() as u128 + (self.round.len() as u128 + self.waiting.len() as u128)
+        let next = self.first.len() as u128 + self.next.len() as u128;
+        next + (self.round.len() as u128 + self.waiting.len() as u128)
     }
 
     /// Whether no place is listed.
     pub fn is_empty(&self) -> bool
         ensures { result ≡ (length (all_work self.now) == 0) }
     {
-        self.next.is_empty() && self.round.is_empty() && self.waiting.is_empty()
+        self.first.is_empty()
+            && self.next.is_empty()
+            && self.round.is_empty()
+            && self.waiting.is_empty()
     }
 
     /// Puts a place behind those that are next.
@@ -57,7 +64,7 @@ impl Work {
     pub(crate) fn push(&mut self, number: usize) -> Result<(), AllocError>
         ensures { OnOk result (PutsNext self.old self.new number) }
     {
-        self.next.push_back(number)?;
+        self.next.push(number)?;
         Ok(())
     }
 
@@ -88,6 +95,49 @@ impl Work {
         self.round.pop()
     }
 
+    /// Makes those that are next the first ones, and these, of which none is left, next; the first of them last, from where they
+    /// are taken.
+    fn turn(&mut self)
+        ensures { Turns self.old self.new }
+    {
+        swap(&mut self.first, &mut self.next);
+        self.first.reverse();
+    }
+
+    /// Takes the first one off the list.
+    #[inline(always)]
+    fn pop_first(&mut self) -> Option<usize>
+        ensures some { IfSome result (TakesFirst self.old self.new) }
+        ensures none { IfNone result ((self.old.first ≡ []) × (self.new ≡ self.old)) }
+    {
+        self.first.pop()
+    }
+
+    /// Takes the last of those that are next off the list.
+    #[inline(always)]
+    fn pop_last(&mut self) -> Option<usize>
+        ensures some { IfSome result (TakesLast self.old self.new) }
+        ensures none { IfNone result ((self.old.next ≡ []) × (self.new ≡ self.old)) }
+    {
+        self.next.pop()
+    }
+
+    /// Takes the first of all that are next off the list; where there is but one, it is the last too.
+    #[inline(always)]
+    fn pop_next(&mut self) -> Option<usize>
+        ensures some { IfSome result (Takes self.old self.new) }
+        ensures none { IfNone result (HasNoNext self.old self.new) }
+    {
+        if let Some(number) = self.pop_first() {
+            return Some(number);
+        }
+        if self.next.len() > 1 {
+            self.turn();
+            return self.pop_first();
+        }
+        self.pop_last()
+    }
+
     /// Takes a place off the list.
     #[inline(always)]
     pub fn pop(&mut self) -> Option<usize>
@@ -95,7 +145,7 @@ impl Work {
         ensures none { IfNone result (all_work self.old ≡ []) }
         ensures empty { IfNone result (all_work self.new ≡ []) }
     {
-        if let Some(number) = self.next.pop_front() {
+        if let Some(number) = self.pop_next() {
             return Some(number);
         }
         if let Some(number) = self.pop_round() {

@@ -2,20 +2,13 @@ use Rattle.std.proofs.Common.{sym, ◌∙◌, ◌≡◌, ap, subst, Some}
 use Rattle.std.specs.Option.{option_map}
 use Rattle.frame_places.specs.declared.places.Marked.{Marked}
 use Rattle.frame_places.specs.Marks.{value_for}
-use Rattle.depth_cert.specs.Exits.{after_of}
-use Rattle.depth_cert.specs.Known.{Known, leaving, state}
+use Rattle.depth_cert.specs.Known.{Known, leaving}
 use Rattle.cfg_recover.specs.Duties.{resume}
 use Rattle.frame_places.specs.declared.places.Spot.TheVariants as spots
 use Rattle.small_states.specs.Kept.{IsNoExit}
 use Rattle.small_states.specs.Wholes.{exit_in}
-use Rattle.depth_maker.specs.Spots.{place_of}
-use Rattle.depth_maker.specs.View.{seen}
-use Rattle.depth_maker.proofs.Below.{asks_proper}
-use Rattle.depth_maker.proofs.Lawful.{lawful}
-use Rattle.depth_maker.proofs.RiseLemmas.{stays_joined}
-use Rattle.depth_maker.proofs.TableLaws.{derived_proper}
 use Rattle.depth_maker.proofs.VisitLemmas.{exit_known}
-use Rattle.depth_maker.proofs.PartLemmas.{has_duty, resume_asks, on_resume, paid_queued, paid_resume, paid_resume_none}
+use Rattle.depth_maker.proofs.PartLemmas.{has_duty, resume_asks, on_resume, paid_queued, paid_resume_none}
 use Rattle.depth_maker.proofs.asking.pay_back.Goals as goal
 
 pub returns-then-has_work-clause-ok : goal.returns-then-has_work-clause-ok
@@ -29,29 +22,6 @@ pub returns-in_default-exit-clause-ok : goal.returns-in_default-exit-clause-ok
 returns-in_default-exit-clause-ok c =
     let e = exit_known _ _ _ c.args.table.now c.args.key c.in-Some.place.now.value c.requires.visited.fine (sym (ap (option_map (λ (m : Marked Known). m.value)) c.in-Some.ensures.value)) in
     absurd (subst (λ (w : Known). IsNoExit w) e.1 c.in_default-exit.ensures.none)
-
-pub is_covered-requires-clause-fine : goal.is_covered-requires-clause-fine
-is_covered-requires-clause-fine c = c.requires.visited.fine
-
-pub is_covered-requires-clause-value : goal.is_covered-requires-clause-value
-is_covered-requires-clause-value c =
-    let v = c.args.v.now in
-    let laws = lawful _ _ _ v.ground.now.sound in
-    let x = exit_in c.in-Some-exit.exit.now in
-    let there : value_for c.args.table.now.places (spots.Exit c.args.key) ≡ Some (leaving x) = sym (ap (option_map (λ (m : Marked Known). m.value)) c.in-Some.ensures.value) ∙ ap (λ (w : Known). Some w) c.in-Some-exit.ensures.some in
-    asks_proper _ _ _ laws (seen c.args.table.now).cells (place_of (spots.Point v.key c.args.back)) (state (after_of v.state.now x c.args.key.kind))
-    (derived_proper _ _ _ laws (seen c.args.table.now).cells (c.requires.visited.fine.table).derived)
-    (resume_asks _ _ _ v.key v.addr v.state.now c.args.table.now c.args.key c.args.back x there
-    (has_duty _ _ _ v.key v.addr v.state.now c.args.table.now (resume c.args.key c.args.back) c.requires.visited (sym (c.has_work.ensures _ c.requires.visited.stands) ∙ c.if-has_work.false) c.requires.owes))
-
-pub returns-then-is_covered-clause-ok : goal.returns-then-is_covered-clause-ok
-unfolding seen
-returns-then-is_covered-clause-ok c =
-    let v = c.args.v.now in
-    let x = exit_in c.in-Some-exit.exit.now in
-    let there : value_for c.args.table.now.places (spots.Exit c.args.key) ≡ Some (leaving x) = sym (ap (option_map (λ (m : Marked Known). m.value)) c.in-Some.ensures.value) ∙ ap (λ (w : Known). Some w) c.in-Some-exit.ensures.some in
-    paid_resume _ _ _ v.key v.addr v.state.now c.args.table.now c.args.table.now 4 c.args.key c.args.back x there c.requires.told
-    (stays_joined _ _ _ c.args.table.now (spots.Point v.key c.args.back) (state (after_of v.state.now x c.args.key.kind)) c.requires.visited.fine (c.is_covered.ensures c.if-is_covered.true))
 
 pub raise-requires-clause-fine : goal.raise-requires-clause-fine
 raise-requires-clause-fine c = c.requires.visited.fine

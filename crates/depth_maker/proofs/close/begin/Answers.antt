@@ -21,12 +21,12 @@ new-requires c =
     subst (λ (s : State). IsProper g.bounds.now s) (sym (c.unchanged-same.ensures.same ∙ c.start_state-start.ensures)) (lawful g.bounds.now g.image.now g.plan.now g.sound).start_proper
 
 pub add-requires-clause-listed : goal.add-requires-clause-listed
-add-requires-clause-listed c = none_listed c.new-places.result (all_work c.new-work.result) c.new-places.ensures.empty c.new-work.ensures
+add-requires-clause-listed c = none_listed c.in_ok-places.places (all_work c.new-work.result) c.in_ok-places.ensures.empty c.new-work.ensures
 
 pub add-requires-clause-new : goal.add-requires-clause-new
 add-requires-clause-new c =
     let k = c.start_key-key.result in
-    ap (option_map (λ (m : Marked Known). m.value)) (get_none c.new-places.result (Point k k.entry) c.new-places.ensures.empty)
+    ap (option_map (λ (m : Marked Known). m.value)) (get_none c.in_ok-places.places (Point k k.entry) c.in_ok-places.ensures.empty)
 
 pub returns-clause-ok : goal.returns-clause-ok
 returns-clause-ok c =
@@ -38,8 +38,8 @@ returns-clause-ok c =
     let known = c.in_ok-cell.ensures ∙ ap state (c.unchanged-same.ensures.same ∙ c.start_state-start.ensures) in
     let puts = c.in_ok-add.ensures.puts in
     begun_table g.bounds.now g.image.now g.plan.now _ x v place known
-    (λ q. puts.values q ∙ ap (λ (o : Option Known). (if spot_eq x q then Some v else o)) (ap (option_map (λ (m : Marked Known). m.value)) (get_none c.new-places.result q c.new-places.ensures.empty)))
-    (λ q. puts.marks q ∙ ap (λ (o : Option Mark). (if spot_eq x q then Some Queued else o)) (ap (option_map (λ (m : Marked Known). m.mark)) (get_none c.new-places.result q c.new-places.ensures.empty)))
+    (λ q. puts.values q ∙ ap (λ (o : Option Known). (if spot_eq x q then Some v else o)) (ap (option_map (λ (m : Marked Known). m.value)) (get_none c.in_ok-places.places q c.in_ok-places.ensures.empty)))
+    (λ q. puts.marks q ∙ ap (λ (o : Option Mark). (if spot_eq x q then Some Queued else o)) (ap (option_map (λ (m : Marked Known). m.mark)) (get_none c.in_ok-places.places q c.in_ok-places.ensures.empty)))
     c.in_ok-add.ensures.work
     (c.in_ok-push.ensures.items ∙ ap (λ (w : List Spot). w ++ x ∷ []) c.new-points.ensures.items)
     (c.in_ok-push-2.ensures.items ∙ ap (λ (w : List Key). w ++ k ∷ []) c.new-frames.ensures.items ∙ ap (λ (z : Key). z ∷ []) c.start_key-key.ensures) refl

@@ -6,11 +6,11 @@ use Rattle.depth_maker.proofs.RiseLemmas.{cells_proper}
 use Rattle.depth_maker.proofs.VisitLemmas.{closed_table}
 use Rattle.depth_maker.proofs.close.close.Goals as goal
 
-pub loop-table-smaller : goal.loop-table-smaller
-loop-table-smaller c =
+pub loop-scratch-smaller : goal.loop-scratch-smaller
+loop-scratch-smaller c =
     let h = c.in_ok-turn.ensures in
     let sound = c.args.ground.now.sound in
-    level_falls (level c.loop-table.table) (level c.turn.new.table) (h.2 c.if-branch.true)
+    level_falls (level c.loop-scratch.table) (level c.turn.new.table) (h.2 c.if-branch.true)
     (level_most _ c.turn.new.table sound.limits (cells_proper _ _ _ (lawful _ _ _ sound) c.turn.new.table h.0) h.0.counted)
 
 pub returns-clause-ok : goal.returns-clause-ok

@@ -4,7 +4,7 @@ use Rattle.depth_maker.proofs.LevelSteps.{left_over, turns_more}
 use Rattle.depth_maker.proofs.close.turn.Goals as goal
 
 pub loop-done-init : goal.loop-done-init
-loop-done-init c = (c.requires.fine, c.requires.none, inr (refl, omega (arith, c.len-done-end.ensures)))
+loop-done-init c = (c.requires.fine, c.requires.none, inr (refl, omega (arith, c.len-done-end.ensures.listed)))
 
 pub loop-done-preserved : goal.loop-done-preserved
 loop-done-preserved c =
@@ -12,7 +12,7 @@ loop-done-preserved c =
     let v = c.in_ok-visit.ensures.ok in (
       v.0,
       v.1,
-      turns_more c.args.table.now c.loop-done.table c.open_next.new.table c.visit.new.table c.loop-done._done c.len-done-end.result c.loop-done.invariant.2 h.2
+      turns_more c.args.table.now c.loop-done.table c.open_next.new.table c.visit.new.table c.loop-done._done _ c.loop-done.invariant.2 h.2
           (let e = length_permutation _ _ h.3 in omega (arith, e)) v.2,
     )
 
@@ -36,6 +36,6 @@ returns-then-not-open_next c =
 pub returns : goal.returns
 returns c =
     let h =
-    left_over c.args.table.now c.loop-done.table c.loop-done._done c.len-done-end.result c.is_empty.result c.loop-done-test.false c.loop-done.invariant.2
+    left_over c.args.table.now c.loop-done.table c.loop-done._done _ c.is_empty.result c.loop-done-test.false c.loop-done.invariant.2
     c.is_empty.ensures in
     (c.loop-done.invariant.0, c.loop-done.invariant.1, h.0, h.1)

@@ -1,4 +1,4 @@
-use Rattle.std.proofs.Common.{◌≡◌, ◌<◌, ◌+◌, ◌⊎◌, length}
+use Rattle.std.proofs.Common.{◌≡◌, ◌<◌, ◌≤◌, ◌+◌, ◌⊎◌, length}
 use Rattle.frame_places.specs.Work.{all_work}
 use Rattle.depth_maker.specs.Levels.{level}
 use Rattle.depth_maker.specs.View.{FineOn, NoneOpen}
@@ -7,4 +7,4 @@ use Rattle.depth_maker.proofs.close.turn.Given as goal
 abbrev pub invariant-loop-done : goal.invariant-loop-done
 invariant-loop-done l =
     FineOn l.ground l.table × NoneOpen l.table
-    × ((level l.initial.table < level l.table) ⊎ ((level l.table ≡ level l.initial.table) × (length (all_work l.table.work) + l._done ≡ l._done-end)))
+    × ((level l.initial.table < level l.table) ⊎ ((level l.table ≡ level l.initial.table) × (length (all_work l.table.work) + l._done ≤ l._done-end)))

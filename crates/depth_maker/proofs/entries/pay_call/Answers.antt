@@ -1,18 +1,32 @@
-use Rattle.std.proofs.Common.{sym, subst, ℕ, List, ◌∙◌}
-use Rattle.std.specs.Prelude.{OnOk}
+use Rattle.std.proofs.Common.{sym, subst, ℕ, List, [], ◌∷◌, Option}
+use Rattle.std.specs.Prelude.{OnOk, unwrap_or}
 use Rattle.value_domain.specs.declared.states.State.{State}
 use Rattle.cfg_recover.specs.Entries.{call_entry}
+use Rattle.cfg_recover.specs.Local.{targets_of}
 use Rattle.depth_maker.specs.View.{OwesAll, PaidBy, calls_by}
 use Rattle.depth_maker.proofs.entries.pay_call.Goals as goal
 
 pub pay_calls-requires-clause-owes : goal.pay_calls-requires-clause-owes
 pay_calls-requires-clause-owes c =
     let v = c.args.v.now in
-    subst (λ (s : State). OwesAll v (calls_by v s c.args.back c.as_slice.result.now)) (sym c.call_change-entry.ensures.entry)
-    (subst (λ (l : List ℕ). OwesAll v (calls_by v (call_entry v.state.now) c.args.back l)) (sym (c.as_slice.ensures.value ∙ c.targets-targets.ensures)) c.requires.owes)
+    let one = (rw c.in-Some.is at c.direct_target.ensures.one) v.ground.now.plan.now v.state.now in
+    subst (λ (s : State). OwesAll v (calls_by v s c.args.back (c.in-Some.target ∷ []))) (sym c.enter_by_call.ensures)
+    (subst (λ (o : Option (List ℕ)). OwesAll v (calls_by v (call_entry v.state.now) c.args.back (unwrap_or o []))) one c.requires.owes)
 
-pub returns-clause-ok : goal.returns-clause-ok
-returns-clause-ok c =
+pub returns-in-Some-clause-ok : goal.returns-in-Some-clause-ok
+returns-in-Some-clause-ok c =
     let v = c.args.v.now in
-    subst (λ (l : List ℕ). OnOk c.pay_calls.result (PaidBy v c.args.table.now c.pay_calls.new.table (calls_by v (call_entry v.state.now) c.args.back l))) (c.as_slice.ensures.value ∙ c.targets-targets.ensures)
-    (subst (λ (s : State). OnOk c.pay_calls.result (PaidBy v c.args.table.now c.pay_calls.new.table (calls_by v s c.args.back c.as_slice.result.now))) c.call_change-entry.ensures.entry c.pay_calls.ensures.ok)
+    let one = (rw c.in-Some.is at c.direct_target.ensures.one) v.ground.now.plan.now v.state.now in
+    subst (λ (o : Option (List ℕ)). OnOk c.pay_calls.result (PaidBy v c.args.table.now c.pay_calls.new.table (calls_by v (call_entry v.state.now) c.args.back (unwrap_or o [])))) (sym one)
+    (subst (λ (s : State). OnOk c.pay_calls.result (PaidBy v c.args.table.now c.pay_calls.new.table (calls_by v s c.args.back (c.in-Some.target ∷ [])))) c.enter_by_call.ensures c.pay_calls.ensures.ok)
+
+pub pay_listed_calls-requires-clause-owes : goal.pay_listed_calls-requires-clause-owes
+pay_listed_calls-requires-clause-owes c =
+    let v = c.args.v.now in
+    subst (λ (s : State). OwesAll v (calls_by v s c.args.back (unwrap_or (targets_of v.ground.now.plan.now v.state.now v.addr c.args.to) []))) (sym c.enter_by_call.ensures) c.requires.owes
+
+pub returns-in-None-clause-ok : goal.returns-in-None-clause-ok
+returns-in-None-clause-ok c =
+    let v = c.args.v.now in
+    subst (λ (s : State). OnOk c.pay_listed_calls.result (PaidBy v c.args.table.now c.pay_listed_calls.new.table (calls_by v s c.args.back (unwrap_or (targets_of v.ground.now.plan.now v.state.now v.addr c.args.to) []))))
+    c.enter_by_call.ensures c.pay_listed_calls.ensures.ok

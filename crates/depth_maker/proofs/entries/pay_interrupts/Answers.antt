@@ -2,10 +2,16 @@ use Rattle.std.proofs.Common.{sym, subst, ◌∙◌, List}
 use Rattle.std.proofs.lemmas.Bool.{eqb-true}
 use Rattle.cfg_recover.specs.Duties.{Owed}
 use Rattle.depth_maker.specs.View.{PaidBy}
-use Rattle.depth_maker.proofs.DutyParts.{interrupts_none}
+use Rattle.depth_maker.proofs.DutyParts.{interrupts_none, interrupts_off}
 use Rattle.depth_maker.proofs.HearingLaws.{taken_on}
 use Rattle.depth_maker.proofs.PartLemmas.{paid_none}
 use Rattle.depth_maker.proofs.entries.pay_interrupts.Goals as goal
+
+pub returns-then-not-v-clause-ok : goal.returns-then-not-v-clause-ok
+returns-then-not-v-clause-ok c =
+    let v = c.args.v.now in
+    subst (λ (l : List Owed). PaidBy v c.args.table.now c.args.table.now l) (interrupts_off v.ground.now.plan.now v.key v.state.now c.if-not-v.true)
+    (paid_none _ _ _ v.key v.addr v.state.now c.args.table.now c.requires.visited.fine)
 
 pub returns-then-is_heard-clause-ok : goal.returns-then-is_heard-clause-ok
 returns-then-is_heard-clause-ok c = c.is_heard.ensures c.if-is_heard.true

@@ -1,12 +1,10 @@
-use Rattle.std.proofs.Common.{sym, subst, refl, arith}
+use Rattle.std.proofs.Common.{subst, refl, arith}
 use Rattle.small_states.specs.Kept.{asked_for}
-use Rattle.depth_maker.specs.declared.table.Table as made
-use Rattle.depth_maker.specs.View.{JoinedOn, seen}
 use Rattle.indexmap.specs.IndexMap.{get}
 use Rattle.frame_places.specs.Marks.{Reads, Tells}
 use Rattle.frame_places.specs.Spots.{spot_eq}
 use Rattle.depth_maker.proofs.Lawful.{lawful}
-use Rattle.depth_maker.proofs.RiseLemmas.{exits_after, stays_joined, the_joined, told_known}
+use Rattle.depth_maker.proofs.RiseLemmas.{exits_after, the_joined, told_known}
 use Rattle.depth_maker.proofs.rise.raise.Goals as goal
 
 pub tell-requires-clause-listed : goal.tell-requires-clause-listed
@@ -32,9 +30,4 @@ returns-in_ok-tell-clause-ok c =
     (let e = c.priority-byte.ensures in let t = c.priority-byte.type_inv in omega (arith, e, t))
 
 pub returns-else-branch-clause-ok : goal.returns-else-branch-clause-ok
-unfolding seen
-returns-else-branch-clause-ok c =
-    let h = rw c.if-branch.false at c.in_ok-rise.ensures in
-    let g = c.args.v.now.ground.now in
-    subst (λ (t : made.Table). JoinedOn g c.args.table.now t c.args.y (asked_for c.args.asked.now)) (sym h.1)
-    (stays_joined _ _ _ c.args.table.now c.args.y (asked_for c.args.asked.now) c.requires.fine h.0)
+returns-else-branch-clause-ok c = rw c.if-branch.false at c.in_ok-rise.ensures

@@ -15,7 +15,7 @@ use Rattle.depth_maker.proofs.Below.{asks_proper}
 use Rattle.depth_maker.proofs.Lawful.{lawful}
 use Rattle.depth_maker.proofs.SpotLemmas.{forth}
 use Rattle.depth_maker.proofs.TableLaws.{derived_proper}
-use Rattle.depth_maker.proofs.RiseLemmas.{cells_proper, the_answer}
+use Rattle.depth_maker.proofs.RiseLemmas.{cells_proper, stays_joined, the_answer}
 use Rattle.depth_maker.proofs.rise.raise_place.Goals as goal
 
 pub covers-requires-clause-known : goal.covers-requires-clause-known
@@ -49,14 +49,13 @@ pub returns-then-covers : goal.returns-then-covers
 unfolding seen
 returns-then-covers c =
     let s = c.args.table.now in
-    let at = ap (option_map (λ (m : Marked Known). m.value)) (had_at s.places c.args.number c.args.y _ c.in-Some.place.now (sym c.in-Some.ensures.entry) c.in-Some.ensures.value c.requires.there) in (
-      record {
-        known = c.in-Some.place.now.value;
-        at = ap (value_for s.places) (forth c.args.y) ∙ at;
-        covers = c.covers.ensures.0 c.if-covers.true;
-      },
-      refl,
-    )
+    let at = ap (option_map (λ (m : Marked Known). m.value)) (had_at s.places c.args.number c.args.y _ c.in-Some.place.now (sym c.in-Some.ensures.entry) c.in-Some.ensures.value c.requires.there) in
+    stays_joined _ _ _ s c.args.y (asked_for c.args.asked.now) c.requires.fine
+    (record {
+      known = c.in-Some.place.now.value;
+      at = ap (value_for s.places) (forth c.args.y) ∙ at;
+      covers = c.covers.ensures.0 c.if-covers.true;
+    })
 
 pub returns-in_default-2 : goal.returns-in_default-2
 returns-in_default-2 c =

@@ -1,12 +1,23 @@
-use Rattle.std.proofs.Common.{sym, subst, ℕ, List, ◌∙◌}
-use Rattle.std.specs.Prelude.{OnOk}
-use Rattle.cfg_recover.specs.Duties.{jumps_to}
-use Rattle.depth_maker.specs.View.{OwesAll, PaidBy}
+use Rattle.std.proofs.Common.{List, [], ◌∷◌, ℕ, Option, sym, subst}
+use Rattle.std.specs.Prelude.{OnOk, unwrap_or}
+use Rattle.value_domain.specs.declared.states.State.{State}
+use Rattle.cfg_recover.specs.Duties.{owed, jump, jumps_to}
+use Rattle.depth_maker.specs.View.{OwesAll, OwesDuty, PaidBy}
+use Rattle.depth_maker.proofs.PartLemmas.{owes_one}
 use Rattle.depth_maker.proofs.successors.pay_targets.Goals as goal
 
-pub pay_jumps-requires-clause-owes : goal.pay_jumps-requires-clause-owes
-pay_jumps-requires-clause-owes c = subst (λ (l : List ℕ). OwesAll c.args.v.now (jumps_to c.args.v.now.state.now l)) (sym (c.as_slice.ensures.value ∙ c.targets-targets.ensures)) c.requires.owes
+pub pay_first-requires-clause-owes : goal.pay_first-requires-clause-owes
+pay_first-requires-clause-owes c =
+    let v = c.args.v.now in
+    let to = c.in-Some.target in
+    let one = (rw c.in-Some.is at c.direct_target.ensures.one) v.ground.now.plan.now v.state.now in
+    subst (λ (s : State). OwesDuty v (jump to s)) (sym c.keep.ensures.same)
+    (owes_one _ _ _ v.key v.addr v.state.now (owed 4 (jump to v.state.now)) (subst (λ (o : Option (List ℕ)). OwesAll v (jumps_to v.state.now (unwrap_or o []))) one c.requires.owes))
 
-pub returns-clause-ok : goal.returns-clause-ok
-returns-clause-ok c =
-    subst (λ (l : List ℕ). OnOk c.pay_jumps.result (PaidBy c.args.v.now c.args.table.now c.pay_jumps.new.table (jumps_to c.args.v.now.state.now l))) (c.as_slice.ensures.value ∙ c.targets-targets.ensures) c.pay_jumps.ensures.ok
+pub returns-in-Some-clause-ok : goal.returns-in-Some-clause-ok
+returns-in-Some-clause-ok c =
+    let v = c.args.v.now in
+    let to = c.in-Some.target in
+    let one = (rw c.in-Some.is at c.direct_target.ensures.one) v.ground.now.plan.now v.state.now in
+    subst (λ (o : Option (List ℕ)). OnOk c.pay_first.result (PaidBy v c.args.table.now c.pay_first.new.table (jumps_to v.state.now (unwrap_or o [])))) (sym one)
+    (subst (λ (s : State). OnOk c.pay_first.result (PaidBy v c.args.table.now c.pay_first.new.table (owed 4 (jump to s) ∷ []))) c.keep.ensures.same c.pay_first.ensures.ok)
