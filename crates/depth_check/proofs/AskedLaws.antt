@@ -19,9 +19,8 @@ use Rattle.cfg_recover.specs.Local.{IsFaultless}
 use Rattle.cfg_recover.specs.Duties.{Owed, owed, enter, successors_of, entries_of, misaligned_of, irqs_of, interrupts_of, leavings_of, duties_of}
 use Rattle.cfg_recover.specs.Accepting.{limits_in, RuleHolds}
 use Rattle.depth_check.specs.declared.asked.Asked.{Asked}
-use Rattle.depth_check.specs.declared.asked.Asks.{Asks}
 use Rattle.depth_check.specs.Finding.{DutyHolds, DutiesHold}
-use Rattle.depth_check.specs.Asking.{AsksSame, AsksNoMore, InterruptsHold, HoldsFor, AreAsked}
+use Rattle.depth_check.specs.Asking.{AsksSame, AsksNoMore, InterruptsHold, HoldsFor}
 use Rattle.depth_check.proofs.DutyLaws.{All-left, All-right}
 use Rattle.depth_check.proofs.RuleLaws.{holds_from}
 

@@ -1,7 +1,9 @@
 -- Tests that decide a fact, and what is found in a list.
-use Rattle.std.proofs.Common.{◌≡◌, ℕ, Bool, true, false, ◌≤◌, ◌<◌, ◌+◌, List, length, get_or, take, subst, sym, refl, Some}
+use Rattle.std.proofs.Common.{◌≡◌, ◌∙◌, ℕ, Bool, true, false, not, ◌≤◌, ◌<◌, ◌+◌, List, length, get_or, take, subst, sym, ap, refl, eqb, Option, Some, None}
 use Rattle.std.specs.Prelude.{IsTrue, ◌↔◌, All}
 use Rattle.std.specs.List.{find}
+use Rattle.std.specs.Option.{is_some, option_eq}
+use Rattle.std.proofs.lemmas.Bool.{eqb-true}
 use Rattle.std.proofs.lemmas.List.{take_all}
 use Rattle.depth_cert.proofs.KeyLaws.{found_in}
 use Rattle.std.proofs.lemmas.List.Elements.{All-same, All-more, All-contains}
@@ -31,3 +33,12 @@ all_more P xs i x lt is h p = All-more P xs i x lt h (subst P is p)
 -- what holds of all holds of what is found
 pub found_holds : {X : Type 0} (P : X → Type 0) (test : X → Bool) (xs : List X) (x : X) → find test xs ≡ Some x → All P xs → P x
 found_holds P test xs x e all = All-contains P xs x all (found_in test xs x e).0
+
+-- an option that a test tells to be a word, or to be none
+pub same_word : (o : Option ℕ) (x : ℕ) (b : Bool) → b ≡ option_eq eqb o (Some x) → b ≡ true → o ≡ Some x
+same_word None x b e t = absurd (let f : false ≡ true = sym e ∙ t in cc)
+same_word (Some y) x b e t = ap (λ (n : ℕ). Some n) (eqb-true y x (sym e ∙ t))
+
+pub is_nothing : (o : Option ℕ) (b : Bool) → is_some o ≡ not b → b ≡ true → o ≡ None
+is_nothing None b e t = refl
+is_nothing (Some x) b e t = absurd (let f : true ≡ false = e ∙ ap not t in cc)

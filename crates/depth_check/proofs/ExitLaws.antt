@@ -1,6 +1,7 @@
--- The lower registers of a state against those of an exit.
-use Rattle.std.proofs.Common.{◌≡◌, ℕ, ◌≤◌, ◌<◌, ◌+◌, ◌-◌, List, length, get_or, take, drop, sym, ◌∙◌, ap, arith, inl, inr, subst}
-use Rattle.std.proofs.lemmas.Bool.{cases_lt}
+-- The lower registers and the status of a state against those of an exit.
+use Rattle.std.proofs.Common.{◌≡◌, ℕ, Bool, true, false, not, ◌&&◌, ◌||◌, leb, refl, ◌≤◌, ◌<◌, ◌+◌, ◌-◌, List, length, get_or, take, drop, sym, ◌∙◌, ap, arith, inl, inr, subst}
+use Rattle.std.specs.Prelude.{IsTrue, ◌↔◌}
+use Rattle.std.proofs.lemmas.Bool.{cases_lt, leb-true, le-leb}
 use Rattle.std.proofs.lemmas.List.{get_or-take, get_or-drop, length-take, length-drop}
 use Rattle.value_domain.specs.declared.values.Val.{Val}
 use Rattle.value_domain.specs.Values.{any_val, IsBelow, IsWell}
@@ -52,3 +53,12 @@ back_below regs lower len below r h =
     (lower_back regs (r + 8) len (omega arith) ∙ ap (λ n. get_or (take 6 (drop 16 regs)) n any_val) e)
     (sym (ap (λ n. get_or (take 6 (drop 8 lower)) n any_val) (sym e) ∙ exit_back lower (r + 8) (omega arith) (omega arith)))
     (below (r + 8) (omega (arith, length_lower regs len)))
+
+-- whether IE and CCPN are covered, by tests one after another
+status_decides : (e s : Bool) (x y : ℕ) → IsTrue ((e || not s) && leb x y) ↔ ((IsTrue s → IsTrue e) × (x ≤ y))
+status_decides true s x y = (λ t. ((λ i. refl), leb-true x y t), λ h. le-leb x y h.1)
+status_decides false false x y = (λ t. ((λ i. i), leb-true x y t), λ h. le-leb x y h.1)
+status_decides false true x y = (λ t. absurd (let f : false ≡ true = t in cc), λ h. absurd (let f : false ≡ true = h.0 refl in cc))
+
+pub status_test : (e s : Bool) (x y : ℕ) (v w : Bool) → v ≡ (e || not s) → w ≡ (v && leb x y) → IsTrue w ↔ ((IsTrue s → IsTrue e) × (x ≤ y))
+status_test e s x y v w f g = subst (λ (t : Bool). IsTrue t ↔ ((IsTrue s → IsTrue e) × (x ≤ y))) (sym (g ∙ ap (λ (t : Bool). t && leb x y) f)) (status_decides e s x y)

@@ -5,5 +5,6 @@ pub mod FirstFaults
 pub mod Forms
 pub mod Headline
 pub mod Judging
+pub mod Keeping
 pub mod NodeFaults
 pub mod Points

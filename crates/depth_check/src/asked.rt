@@ -1,7 +1,7 @@
 // What the entries of interrupts were asked for with.
 ghost use Rattle.std.specs.Prelude.{◌≡◌, ◌↔◌, IsTrue, IsSomeAnd, length, slice_index_or};
 ghost use Rattle.value_domain.specs.Values.{any_val};
-ghost use Rattle.value_domain.specs.declared.values.Val.TheVariants.{Span};
+ghost use Rattle.value_domain.specs.declared.values.Val.TheVariants.{Set, Span};
 ghost use Rattle.tcd_plan.specs.PlanData.{PlanData};
 ghost use Rattle.depth_cert.specs.Certs.{CertData};
 ghost use Rattle.depth_check.specs.Asking.{AsksSame, AsksNoMore, InterruptsHold, AreAsked};
@@ -104,11 +104,18 @@ fn are_same(v: &Val, w: &Val) -> bool
     ensures { IsTrue result ↔ (v.now ≡ w.now) }
 {
     match v {
-        Val::Set(own) => match w {
-            Val::Set(words) => own.as_slice() == words.as_slice(),
-            Val::Span { .. } => false,
-        },
+        Val::Set(own) => is_the_set(w, own.as_slice()),
         Val::Span { lo, last, step } => is_the_span(w, *lo, *last, *step),
+    }
+}
+
+/// Whether a value is the set of these words.
+pub(crate) fn is_the_set(v: &Val, words: &[u32]) -> bool
+    ensures { IsTrue result ↔ (v.now ≡ Set words.now) }
+{
+    match v {
+        Val::Set(own) => own.as_slice() == words,
+        Val::Span { .. } => false,
     }
 }
 

@@ -11,8 +11,9 @@ use crate::any_certs::AnyCert;
 use crate::asked::Asks;
 use crate::covering::has_point;
 use crate::forms::Frame;
+use crate::kept::{Kept, Room};
 use crate::nodes::{Scratch, node_fault};
-use cfg_recover::{start_key, start_state};
+use cfg_recover::{KnownCodes, start_key, start_state};
 use elf_image::Image;
 use packed_cert::PointWalk;
 use tcd_plan::Plan;
@@ -51,7 +52,12 @@ pub(crate) fn judged(image: &Image, plan: &Plan, cert: &AnyCert<'_>) -> Verdict
         };
     };
     let mut scratch = Scratch {
-        change: unchanged(&s),
+        room: Room {
+            change: unchanged(&s),
+            even: Kept::none(&s),
+            odd: Kept::none(&s),
+            codes: KnownCodes::new(),
+        },
         asks: Asks::none(),
         walk: PointWalk::none(),
     };

@@ -98,15 +98,6 @@ pub(crate) fn has_point(node: &Frame<'_>, addr: u32, s: &State) -> bool
     }
 }
 
-fn is_known(known: Option<u32>, addr: u32) -> bool
-    ensures { IsTrue result → known ≡ Some addr }
-{
-    match known {
-        Some(at) => at == addr,
-        None => false,
-    }
-}
-
 /// Whether the node has a point at this address that covers the state; it has one at the address that is known.
 pub(crate) fn has_next(node: &Frame<'_>, addr: u32, s: &State, known: Option<u32>) -> bool
     requires node { IsWellNode node.now }
@@ -114,7 +105,7 @@ pub(crate) fn has_next(node: &Frame<'_>, addr: u32, s: &State, known: Option<u32
     requires known { IfSome known (λ a. HasPoint node.now a s.now) }
     ensures { IsTrue result ↔ HasPoint node.now addr s.now }
 {
-    if is_known(known, addr) {
+    if known == Some(addr) {
         return true;
     }
     has_point(node, addr, s)
@@ -154,26 +145,14 @@ pub(crate) fn has_kept_next(at: &At<'_, '_>, addr: u32, c: &mut Change) -> bool
     requires { IsAt at.now }
     ensures { IsTrue result ↔ HasPoint at.now.node.now addr at.now.point.state.now }
 {
-    if is_known(at.point.next, addr) {
+    if at.point.next == Some(addr) {
         return true;
     }
     c.keep(at.point.state);
     has_changed_next(at, addr, c)
 }
 
-/// Whether it has one that covers the state after an entered frame came back by this exit.
-fn has_after(node: &Frame<'_>, addr: u32, s: &State, exit: &Exit, kind: u8) -> bool
-    requires node { IsWellNode node.now }
-    requires state { AreWell (after_of s.now exit.now kind).regs }
-    ensures { IsTrue result ↔ HasPoint node.now addr (after_of s.now exit.now kind) }
-{
-    match &node.form {
-        NodeForm::Plain(node) => plain_has_after(node, addr, s, exit, kind),
-        _ => has_built(node, addr, s, exit, kind),
-    }
-}
-
-/// The same, where the state is built.
+/// Whether it has one that covers the state after an entered frame came back by this exit; the state is built.
 // A function of its own, as the next one, so that the others have no room of a state to fill.
 #[inline(never)]
 fn has_built(node: &Frame<'_>, addr: u32, s: &State, exit: &Exit, kind: u8) -> bool
@@ -206,19 +185,6 @@ fn has_after_at(node: &Frame<'_>, addr: u32, s: &State, exit: &ExitAt<'_>, kind:
         NodeForm::Plain(node) => plain_has_read(node, addr, s, exit, kind),
         NodeForm::Packed(node) => packed_has_after(node, 0, addr, s, exit, kind),
         NodeForm::Near(node, near) => packed_has_after(node, *near, addr, s, exit, kind),
-    }
-}
-
-fn plain_comes_back(node: &Frame<'_>, at: u32, s: &State, entered: &Node, kind: u8) -> bool
-    requires node { IsWellNode node.now }
-    requires entered { IsWellNode entered.now }
-    requires state { AreWell s.now.regs }
-    ensures { IsTrue result
-        ↔ IfSome entered.now.exit (λ x. HasPoint node.now at (after_of s.now x kind)) }
-{
-    match &entered.exit {
-        Some(exit) => has_after(node, at, s, exit, kind),
-        None => true,
     }
 }
 
@@ -256,7 +222,10 @@ pub(crate) fn comes_back(
         ↔ IfSome entered.now.exit (λ x. HasPoint node.now at (after_of s.now x kind)) }
 {
     match &entered.form {
-        NodeForm::Plain(entered) => plain_comes_back(node, at, s, entered, kind),
+        NodeForm::Plain(entered) => match &entered.exit {
+            Some(exit) => has_built(node, at, s, exit, kind),
+            None => true,
+        },
         NodeForm::Packed(entered) => packed_comes_back(node, at, s, entered, kind),
         NodeForm::Near(entered, _) => packed_comes_back(node, at, s, entered, kind),
     }
@@ -312,30 +281,12 @@ fn are_lower_below(s: &State, exit: &Exit) -> bool
     are_below(&regs[0..8], &lower[0..8]) && are_below(&regs[16..22], &lower[8..14])
 }
 
-fn is_status_covered(exit: &Exit, s: &State) -> bool
-    ensures { IsTrue result
-        ↔ ((IsTrue s.now.ie → IsTrue exit.now.ie) × (exit.now.ccpn ≤ s.now.ccpn)) }
-{
-    (exit.ie || !s.ie) && exit.ccpn <= s.ccpn
-}
-
 fn is_exit_covered(exit: &Exit, s: &State) -> bool
     requires exit { AreWell exit.now.lower }
     requires state { AreWell s.now.regs }
     ensures { IsTrue result ↔ ExitCovers exit.now (exit_of s.now) }
 {
-    is_status_covered(exit, s) && are_lower_below(s, exit)
-}
-
-fn plain_has_exit(node: &Node, s: &State) -> bool
-    requires node { IsWellNode node.now }
-    requires state { AreWell s.now.regs }
-    ensures { IsTrue result ↔ HasExit node.now s.now }
-{
-    match &node.exit {
-        Some(exit) => is_exit_covered(exit, s),
-        None => false,
-    }
+    (exit.ie || !s.ie) && exit.ccpn <= s.ccpn && are_lower_below(s, exit)
 }
 
 fn packed_has_exit(node: &PackedNode<'_>, s: &State) -> bool
@@ -356,7 +307,10 @@ pub(crate) fn has_exit(node: &Frame<'_>, s: &State) -> bool
     ensures { IsTrue result ↔ HasExit node.now s.now }
 {
     match &node.form {
-        NodeForm::Plain(node) => plain_has_exit(node, s),
+        NodeForm::Plain(node) => match &node.exit {
+            Some(exit) => is_exit_covered(exit, s),
+            None => false,
+        },
         NodeForm::Packed(node) => packed_has_exit(node, s),
         NodeForm::Near(node, _) => packed_has_exit(node, s),
     }

@@ -14,15 +14,17 @@ ghost use Rattle.cfg_recover.specs.Flows as flows;
 ghost use Rattle.cfg_recover.specs.Flows.{told_back, told_irqs};
 ghost use Rattle.depth_check.specs.Finding.{IsWellNode, Finds, GoesOn, LeavingHolds};
 ghost use Rattle.depth_check.specs.Finding as finding;
+ghost use Rattle.depth_check.specs.Keeping.{AreKept};
 ghost use Rattle.depth_check.specs.Points.{IsAt, Breaks};
 
 use crate::covering::{comes_back, has_changed, has_exit};
 use crate::forms::Frame;
+use crate::kept::Room;
 use crate::point_at::At;
 use crate::successors::broken_by_successors;
 use cfg_recover::{
-    Leave, Located, aln_key, call_change, direct_target, entered_key, handler_change, interrupts,
-    irq_key, is_aligned, misaligned_change, sys_key, system_change, targets,
+    Located, aln_key, call_change, direct_target, entered_key, handler_change, interrupts, irq_key,
+    is_aligned, misaligned_change, sys_key, system_change, targets,
 };
 use depth_cert::Key;
 use tc_isa::{Shape, Target};
@@ -284,50 +286,41 @@ fn broken_by_taken(at: &At<'_, '_>, irqs: &[u8]) -> Option<u8>
     broken_by_irqs(at, irqs, entry)
 }
 
-/// How an instruction of this shape leaves its frame.
+/// The least rule broken where an instruction of this shape leaves the node.
 #[tactic(auto, unfolding(cfg_recover::specs::Flows::leave_of))]
-fn leave_by(shape: Shape) -> Leave
-    ensures { result ≡ flows.leave_of shape }
-{
-    match shape {
-        Shape::Ret => Leave::Ret,
-        Shape::Rfe => Leave::Rfe,
-        _ => Leave::Stays,
-    }
-}
-
-/// The least rule broken where the node is left.
-fn broken_by_leaving(node: &Frame<'_>, s: &State, leave: Leave) -> Option<u8>
+fn broken_by_leaving(node: &Frame<'_>, s: &State, shape: Shape) -> Option<u8>
     requires node { IsWellNode node.now }
     requires state { AreWell s.now.regs }
-    ensures { Finds (LeavingHolds node.now s.now leave) result }
+    ensures { Finds (LeavingHolds node.now s.now (flows.leave_of shape)) result }
 {
-    match leave {
-        Leave::Stays => None,
-        Leave::Ret => unless(has_exit(node, s), 6),
-        Leave::Rfe => {
+    match shape {
+        Shape::Ret => unless(has_exit(node, s), 6),
+        Shape::Rfe => {
             if node.key.kind == 3 {
                 unless(has_exit(node, s), 7)
             } else {
                 None
             }
         }
+        _ => None,
     }
 }
 
 /// The least rule that the duties of a point of the node break, where no rule's own part fails.
-pub(crate) fn broken_by_duties(at: &At<'_, '_>, found: &Located, c: &mut Change) -> Option<u8>
+pub(crate) fn broken_by_duties(at: &At<'_, '_>, found: &Located, room: &mut Room) -> Option<u8>
     requires point { IsAt at.now }
     requires found { StandsFaultless at.now.bounds.now at.now.image.now at.now.plan.now
         at.now.node.now.key at.now.point.addr at.now.point.state.now found.now }
-    ensures { Breaks at.now
+    requires kept { AreKept at.now.bounds.now room.old }
+    ensures found { Breaks at.now
         (duties_of at.now.bounds.now at.now.image.now at.now.plan.now at.now.node.now.key
         at.now.point.addr at.now.point.state.now found.now.shape found.now.size) result }
+    ensures kept { AreKept at.now.bounds.now room.new }
 {
-    let jumps = broken_by_successors(at, found, c);
+    let jumps = broken_by_successors(at, found, room);
     let entered = broken_by_entries(at, found.shape, found.size);
     let misaligned = broken_by_access(at, found);
     let irqs = broken_by_interrupts(at);
-    let leave = broken_by_leaving(at.node, at.point.state, leave_by(found.shape));
+    let leave = broken_by_leaving(at.node, at.point.state, found.shape);
     least(least(least(least(jumps, entered), misaligned), irqs), leave)
 }

@@ -9,6 +9,7 @@ mod duties;
 mod first_faults;
 mod forms;
 mod judging;
+mod kept;
 mod laws;
 mod nodes;
 mod point_at;

@@ -4,6 +4,7 @@ ghost use Rattle.value_domain.specs.State.{AreValues};
 ghost use Rattle.cfg_recover.specs.Accepting.{limits_in, HoldsAtEntry, HoldsAtNode};
 ghost use Rattle.depth_check.specs.Asking.{AreAsked};
 ghost use Rattle.depth_check.specs.Finding.{IsWellNode};
+ghost use Rattle.depth_check.specs.Keeping.{AreKept};
 ghost use Rattle.depth_check.specs.NodeFaults as nodes;
 ghost use Rattle.depth_check.specs.NodeFaults.{IsNodeFault};
 
@@ -11,13 +12,13 @@ use crate::any_certs::AnyCert;
 use crate::asked::Asks;
 use crate::covering::are_values;
 use crate::forms::{Frame, Here, NodeForm};
+use crate::kept::Room;
 use crate::rules::broken_by_point;
 use depth_cert::Node;
 use elf_image::Image;
 use packed_cert::{PackedNode, PointWalk};
 use tcd_plan::Plan;
-use value_domain::{Bounds, State, Val};
-use vd_transfer::{Change, unchanged};
+use value_domain::{Bounds, State};
 
 /// A rule that fails in a node, and the address of its place.
 #[derive(Clone, Copy)]
@@ -26,11 +27,11 @@ pub(crate) struct Fault {
     pub addr: u32,
 }
 
-/// What the check of a node takes over from those before: room for a change, what the entries of interrupts were asked for
+/// What the check of a node takes over from those before: room for changes, what the entries of interrupts were asked for
 /// with, and a walk over points, which has room for a state.
 #[derive(Drop)]
 pub(crate) struct Scratch<'a> {
-    pub(crate) change: Change,
+    pub(crate) room: Room,
     pub(crate) asks: Asks,
     pub(crate) walk: PointWalk<'a>,
 }
@@ -87,28 +88,29 @@ fn entry_fault(entry: u32) -> Fault
     }
 }
 
-/// The first fault of a node in memory, which `frame` is, by address and then by rule.
+/// The first fault of a node in memory, by address and then by rule.
 fn plain_fault<'a>(
     b: &Bounds,
     image: &Image,
     plan: &Plan,
     cert: &AnyCert<'_>,
-    frame: &'a Frame<'a>,
     node: &'a Node,
+    room: &mut Room,
 ) -> Option<Fault>
     requires limits { b.now ≡ limits_in plan.now cert.now }
     requires nodes { All IsWellNode cert.now.nodes }
     requires member { Contains cert.now.nodes node.now }
-    requires same { frame.now ≡ node.now }
-    ensures { MatchOption result (HoldsAtNode image.now plan.now cert.now node.now)
+    requires kept { AreKept b.now room.old }
+    ensures fault { MatchOption result (HoldsAtNode image.now plan.now cert.now node.now)
         (λ f. IsNodeFault image.now plan.now cert.now node.now f.rule f.addr) }
+    ensures kept { AreKept b.now room.new }
 {
     let entry = node.key.entry;
     let good = plain_holds_at_entry(b, node);
+    let frame = Frame::plain(&*node);
     for point in &node.points {
-        let mut change = unchanged(&point.state);
         let here = Here {
-            node: frame,
+            node: &frame,
             addr: point.addr,
             state: &point.state,
             again: false,
@@ -116,7 +118,7 @@ fn plain_fault<'a>(
             next: None,
             walk: None,
         };
-        let found = broken_by_point(b, image, plan, cert, here, &mut change);
+        let found = broken_by_point(b, image, plan, cert, here, room);
         if let Some(fault) = first_of(good, entry, point.addr, found) {
             return Some(fault);
         }
@@ -128,13 +130,6 @@ fn plain_fault<'a>(
 fn is_word(addr: u32)
     ensures { addr < 2 ^ 32 }
 {}
-
-/// Whether values are known to be the plan's: those of the point before are, and so are those that were read anew.
-fn are_known(b: &Bounds, before: bool, anew: &[Val]) -> bool
-    ensures { IsTrue result → IsTrue before × AreValues b.now anew.now }
-{
-    before && are_values(b, anew)
-}
 
 /// Whether the entries of some interrupts were asked for anew, so that what they depend on is worth keeping; where it isn't
 /// kept they are only asked for once more.
@@ -157,9 +152,11 @@ fn packed_fault<'a>(
     requires nodes { All IsWellNode cert.now.nodes }
     requires member { Contains cert.now.nodes node.now }
     requires asked { AreAsked plan.now cert.now scratch.old.asks }
+    requires kept { AreKept b.now scratch.old.room }
     ensures fault { MatchOption result (HoldsAtNode image.now plan.now cert.now node.now)
         (λ f. IsNodeFault image.now plan.now cert.now node.now f.rule f.addr) }
     ensures asked { AreAsked plan.now cert.now scratch.new.asks }
+    ensures kept { AreKept b.now scratch.new.room }
 {
     let entry = node.key.entry;
     let good = packed_holds_at_entry(b, node);
@@ -178,11 +175,11 @@ fn packed_fault<'a>(
             addr,
             state: s,
             again,
-            known: are_known(b, known, scratch.walk.anew()),
+            known: known && are_values(b, scratch.walk.anew()),
             next: repeats,
             walk: Some(&scratch.walk),
         };
-        let found = broken_by_point(b, image, plan, cert, here, &mut scratch.change);
+        let found = broken_by_point(b, image, plan, cert, here, &mut scratch.room);
         if let Some(fault) = first_of(good, entry, addr, found) {
             return Some(fault);
         }
@@ -208,12 +205,14 @@ pub(crate) fn node_fault<'a>(
     requires nodes { All IsWellNode cert.now.nodes }
     requires member { Contains cert.now.nodes frame.now }
     requires asked { AreAsked plan.now cert.now scratch.old.asks }
+    requires kept { AreKept b.now scratch.old.room }
     ensures fault { MatchOption result (HoldsAtNode image.now plan.now cert.now frame.now)
         (λ f. IsNodeFault image.now plan.now cert.now frame.now f.rule f.addr) }
     ensures asked { AreAsked plan.now cert.now scratch.new.asks }
+    ensures kept { AreKept b.now scratch.new.room }
 {
     match &frame.form {
-        NodeForm::Plain(node) => plain_fault(b, image, plan, cert, frame, node),
+        NodeForm::Plain(node) => plain_fault(b, image, plan, cert, node, &mut scratch.room),
         NodeForm::Packed(node) => packed_fault(b, image, plan, cert, node, scratch),
         NodeForm::Near(node, _) => packed_fault(b, image, plan, cert, node, scratch),
     }

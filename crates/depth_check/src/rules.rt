@@ -10,21 +10,22 @@ ghost use Rattle.cfg_recover.specs.Local.{IsLocalFault};
 ghost use Rattle.depth_check.specs.Finding.{IsWellNode, Finds, HasOwnNeed};
 ghost use Rattle.depth_check.specs.Forms.{point_here};
 ghost use Rattle.depth_check.specs.Asking.{InterruptsHold};
+ghost use Rattle.depth_check.specs.Keeping.{AreKept};
 ghost use Rattle.depth_check.specs.Points.{IsAt, LooksAhead};
 
 use crate::any_certs::AnyCert;
 use crate::covering::are_values;
 use crate::duties::{broken_by_duties, broken_by_interrupts, least, unless};
 use crate::forms::Here;
+use crate::kept::Room;
 use crate::point_at::At;
 use crate::successors::broken_by_pass;
-use cfg_recover::{Located, code_at, local_check, start_key};
+use cfg_recover::{KnownCodes, Located, check_located, start_key};
 use elf_image::Image;
-use tc_isa::{Shape, shape};
+use tc_isa::Shape;
 use tcd_base::any_holds;
 use tcd_plan::Plan;
 use value_domain::Bounds;
-use vd_transfer::Change;
 
 /// Whether the need of the node has room for the locals of a point, and at the start's entry leaves the reserve free.
 fn has_own_need(at: &At<'_, '_>) -> bool
@@ -55,30 +56,35 @@ fn has_values(b: &Bounds, point: Here<'_, '_>) -> bool
 }
 
 /// The least rule that fails at a point whose values are the plan's, and at which no rule's own part fails.
-fn broken_by_located(at: &At<'_, '_>, found: &Located, c: &mut Change) -> Option<u8>
+fn broken_by_located(at: &At<'_, '_>, found: &Located, room: &mut Room) -> Option<u8>
     requires point { IsAt at.now }
     requires found { StandsFaultless at.now.bounds.now at.now.image.now at.now.plan.now
         at.now.node.now.key at.now.point.addr at.now.point.state.now found.now }
-    ensures { Finds (RuleHolds at.now.image.now at.now.plan.now at.now.cert.now at.now.node.now
-        (point_here at.now.point)) result }
+    requires kept { AreKept at.now.bounds.now room.old }
+    ensures found { Finds (RuleHolds at.now.image.now at.now.plan.now at.now.cert.now
+        at.now.node.now (point_here at.now.point)) result }
+    ensures kept { AreKept at.now.bounds.now room.new }
 {
-    let duties = broken_by_duties(at, found, c);
+    let duties = broken_by_duties(at, found, room);
     let need = unless(has_own_need(at), 14);
     least(duties, need)
 }
 
 /// The least rule that fails at a point whose values are the plan's.
 #[inline(never)]
-fn broken_by_any(at: &At<'_, '_>, c: &mut Change) -> Option<u8>
-    requires { IsAt at.now }
-    ensures { Finds (RuleHolds at.now.image.now at.now.plan.now at.now.cert.now at.now.node.now
-        (point_here at.now.point)) result }
+fn broken_by_any(at: &At<'_, '_>, room: &mut Room) -> Option<u8>
+    requires point { IsAt at.now }
+    requires kept { AreKept at.now.bounds.now room.old }
+    ensures found { Finds (RuleHolds at.now.image.now at.now.plan.now at.now.cert.now
+        at.now.node.now (point_here at.now.point)) result }
+    ensures kept { AreKept at.now.bounds.now room.new }
 {
     let node = at.node;
     let s = at.point.state;
-    match local_check(at.bounds, at.image, at.plan, &node.key, at.point.addr, s) {
+    let located = room.codes.located(at.image, at.plan, at.point.addr);
+    match check_located(at.bounds, at.plan, &node.key, s, located) {
         Err(rule) => Some(rule),
-        Ok(found) => broken_by_located(at, &found, c),
+        Ok(found) => broken_by_located(at, &found, room),
     }
 }
 
@@ -110,7 +116,7 @@ fn is_nop16(image: &Image, plan: &Plan, addr: u32) -> bool
 }
 
 /// The size of the instruction of a point, where it changes nothing and the next point has the same state.
-fn idle_size(at: &At<'_, '_>) -> Option<u32>
+fn idle_size(at: &At<'_, '_>, codes: &mut KnownCodes) -> Option<u32>
     ensures { IfSome result
         (IsCode at.now.image.now at.now.plan.now at.now.point.addr Nothing) }
 {
@@ -130,23 +136,23 @@ fn idle_size(at: &At<'_, '_>) -> Option<u32>
     if first != Some(0x0D) {
         return None;
     }
-    let Some(found) = code_at(at.image, at.plan, at.point.addr) else {
+    let Some(found) = codes.located(at.image, at.plan, at.point.addr) else {
         return None;
     };
-    match shape(&found.0) {
-        Shape::Nothing => Some(found.1),
+    match found.shape {
+        Shape::Nothing => Some(found.size),
         _ => None,
     }
 }
 
-/// The least rule that fails at a point of a node. What the point's instruction changes is written over the change.
+/// The least rule that fails at a point of a node. What the point's instruction changes is written over a change of the room.
 pub(crate) fn broken_by_point(
     b: &Bounds,
     image: &Image,
     plan: &Plan,
     cert: &AnyCert<'_>,
     point: Here<'_, '_>,
-    c: &mut Change,
+    room: &mut Room,
 ) -> Option<u8>
     requires limits { b.now ≡ limits_in plan.now cert.now }
     requires nodes { All IsWellNode cert.now.nodes }
@@ -157,8 +163,10 @@ pub(crate) fn broken_by_point(
     requires next { IfSome point.next (λ a. HasPoint point.node.now a point.state.now) }
     requires walk { IfSome point.walk
         (λ w. LooksAhead point.node.now point.state.now w.now) }
-    ensures { Finds (RuleHolds image.now plan.now cert.now point.entry.node.now
+    requires kept { AreKept b.now room.old }
+    ensures found { Finds (RuleHolds image.now plan.now cert.now point.entry.node.now
         (point_here point.entry)) result }
+    ensures kept { AreKept b.now room.new }
 {
     if !has_values(b, point) {
         return Some(2);
@@ -171,8 +179,8 @@ pub(crate) fn broken_by_point(
         node: point.node,
         point,
     };
-    match idle_size(&at) {
+    match idle_size(&at, &mut room.codes) {
         Some(size) => broken_by_idle(&at, size),
-        None => broken_by_any(&at, c),
+        None => broken_by_any(&at, room),
     }
 }

@@ -11,10 +11,12 @@ ghost use Rattle.vd_transfer.specs.Effects.{transfer_of};
 ghost use Rattle.cfg_recover.specs.Changes.{StandsFaultless};
 ghost use Rattle.cfg_recover.specs.Local.{targets_of};
 ghost use Rattle.cfg_recover.specs.Duties.{owed, jump, jumps_to, jump_on, next_of, successors_of};
+ghost use Rattle.depth_check.specs.Keeping.{IsPair, IsKept, AreKept};
 ghost use Rattle.depth_check.specs.Points.{IsAt, Breaks};
 
 use crate::covering::{has_changed_next, has_kept_next, has_next, has_points};
 use crate::duties::{least, unless};
+use crate::kept::{Kept, Pair, Room, change_kept, pair_of};
 use crate::point_at::At;
 use cfg_recover::{Located, direct_target, step_change, targets};
 use tc_isa::{Shape, Target};
@@ -152,39 +154,76 @@ fn keeps_state(shape: Shape) -> bool
     }
 }
 
-/// The step over an instruction that only goes on to the next one.
-fn broken_by_next(at: &At<'_, '_>, found: &Located, c: &mut Change) -> Option<u8>
+/// The step over an operation on two sets of many words, which may be the one that is kept.
+#[inline(never)]
+fn broken_by_pair(at: &At<'_, '_>, found: &Located, pair: Pair<'_>, kept: &mut Kept) -> Option<u8>
     requires point { IsAt at.now }
     requires found { StandsFaultless at.now.bounds.now at.now.image.now at.now.plan.now
         at.now.node.now.key at.now.point.addr at.now.point.state.now found.now }
-    ensures { Breaks at.now
+    requires pair { IsPair found.now.shape at.now.point.state.now pair }
+    requires kept { IsKept at.now.bounds.now kept.old }
+    ensures found { Breaks at.now
         (next_of at.now.bounds.now at.now.image.now at.now.plan.now at.now.point.addr
         at.now.point.state.now found.now.shape found.now.size) result }
+    ensures kept { IsKept at.now.bounds.now kept.new }
+{
+    change_kept(at, found.shape, pair, kept);
+    let next = at.point.addr.wrapping_add(found.size);
+    unless(has_changed_next(at, next, &kept.change), 4)
+}
+
+/// The step over an instruction that only goes on to the next one.
+fn broken_by_next(at: &At<'_, '_>, found: &Located, room: &mut Room) -> Option<u8>
+    requires point { IsAt at.now }
+    requires found { StandsFaultless at.now.bounds.now at.now.image.now at.now.plan.now
+        at.now.node.now.key at.now.point.addr at.now.point.state.now found.now }
+    requires kept { AreKept at.now.bounds.now room.old }
+    ensures found { Breaks at.now
+        (next_of at.now.bounds.now at.now.image.now at.now.plan.now at.now.point.addr
+        at.now.point.state.now found.now.shape found.now.size) result }
+    ensures kept { AreKept at.now.bounds.now room.new }
 {
     if keeps_state(found.shape) {
-        broken_by_pass(at, at.point.addr.wrapping_add(found.size))
-    } else {
-        broken_by_step(at, found, c)
+        return broken_by_pass(at, at.point.addr.wrapping_add(found.size));
+    }
+    let s = at.point.state;
+    match pair_of(found.shape, s) {
+        Some(pair) => {
+            if pair.dst % 2 == 0 {
+                broken_by_pair(at, found, pair, &mut room.even)
+            } else {
+                broken_by_pair(at, found, pair, &mut room.odd)
+            }
+        }
+        None => broken_by_step(at, found, &mut room.change),
     }
 }
 
 /// The least rule broken by the successors in the same frame, without those after a call or a system call.
-pub(crate) fn broken_by_successors(at: &At<'_, '_>, found: &Located, c: &mut Change) -> Option<u8>
+pub(crate) fn broken_by_successors(at: &At<'_, '_>, found: &Located, room: &mut Room) -> Option<u8>
     requires point { IsAt at.now }
     requires found { StandsFaultless at.now.bounds.now at.now.image.now at.now.plan.now
         at.now.node.now.key at.now.point.addr at.now.point.state.now found.now }
-    ensures { Breaks at.now
+    requires kept { AreKept at.now.bounds.now room.old }
+    ensures found { Breaks at.now
         (successors_of at.now.bounds.now at.now.image.now at.now.plan.now at.now.point.addr
         at.now.point.state.now found.now.shape found.now.size) result }
+    ensures kept { AreKept at.now.bounds.now room.new }
 {
     let addr = at.point.addr;
     let next = addr.wrapping_add(found.size);
     let shape = found.shape;
     match shape {
-        Shape::Branch { by, .. } => broken_by_sides(at, shape, next, addr.wrapping_add(by), c),
+        Shape::Branch { by, .. } => broken_by_sides(
+            at,
+            shape,
+            next,
+            addr.wrapping_add(by),
+            &mut room.change,
+        ),
         Shape::Jump { to } => broken_by_jump(at, to),
         Shape::Call { .. } | Shape::Ret | Shape::Rfe | Shape::Syscall { .. } | Shape::Mtcr { .. } =>
             None,
-        _ => broken_by_next(at, found, c),
+        _ => broken_by_next(at, found, room),
     }
 }

@@ -1,6 +1,7 @@
 -- Words that stand in bytes, walked along others.
-use Rattle.std.proofs.Common.{◌≡◌, ℕ, zero, suc, ◌+◌, ◌*◌, ◌<◌, ◌≤◌, inl, inr, List, [], ◌∷◌, length, get_or, refl, sym, ap, ◌∙◌, subst, arith}
+use Rattle.std.proofs.Common.{◌≡◌, ℕ, zero, suc, ◌+◌, ◌*◌, ◌<◌, ◌≤◌, inl, inr, List, [], ◌∷◌, length, get_or, take, refl, sym, ap, ◌∙◌, subst, arith}
 use Rattle.std.proofs.lemmas.Bool.{cases_lt, cases_eq}
+use Rattle.std.proofs.lemmas.List.{length-take-le, get_or-take, ext_get_or}
 use Rattle.tcd_base.specs.Bytes.{word_at}
 use Rattle.value_domain.specs.Sets.{Among, Rising}
 use Rattle.value_domain.proofs.Loops.{among_get}
@@ -32,6 +33,15 @@ abbrev pub Below : List ℕ → ℕ → ℕ → ℕ → Type 0
 Below bytes place k x = (j : ℕ) → j < k → word_at bytes (place + 4 * j) < x
 
 -- where the word that is reached isn't x, x is none of them
+-- the first of some words, which are those that stand at a place
+pub front_words : (ws bytes : List ℕ) (place n : ℕ) → n ≤ length ws → ((j : ℕ) → j < n → get_or ws j 0 ≡ word_at bytes (place + 4 * j)) → take n ws ≡ words_at bytes place n
+front_words ws bytes place n few each =
+    let size = length-take-le n ws few in
+    ext_get_or 0 (take n ws) (words_at bytes place n) (size ∙ sym (length-words_at bytes place n))
+    (λ k lt.
+    let within : k < n = omega (arith, size) in
+    get_or-take n ws k 0 within ∙ each k within ∙ sym (get-words_at bytes place n k within))
+
 pub not_among : (bytes : List ℕ) (place n k x : ℕ) → Rising (words_at bytes place n) → Below bytes place k x → k ≤ n → (k < n → x ≤ word_at bytes (place + 4 * k))
     → (k < n → word_at bytes (place + 4 * k) ≡ x → ⊥) → Among x (words_at bytes place n) → ⊥
 not_among bytes place n k x rising below end reached other i =

@@ -1,6 +1,6 @@
 -- Points whose states are left where they stand.
 use Rattle.std.proofs.Common.{◌≡◌, ℕ, ◌+◌, ◌≤◌, List, [], ◌∷◌, ◌++◌, length, map, true, false, Result, Ok, Err, refl, sym, ap, ◌∙◌, subst, arith}
-use Rattle.std.specs.Prelude.{Option, Some, None, IsSome, OnSome, OnOk, IfErr, ◌↔◌}
+use Rattle.std.specs.Prelude.{Option, Some, None, IsSome, OnSome, ◌↔◌}
 use Rattle.std.proofs.lemmas.List.{map-append}
 use Rattle.tcd_base.specs.declared.errors.FormErr.{FormErr}
 use Rattle.tcd_base.specs.Place.{Place}
@@ -57,17 +57,6 @@ state_inside version bytes x h =
     let b = bind_ok (u8_at (at bytes x)) _ _ f.1 in
     let k = u8_at_ok (at bytes x) b.0.0 b.0.1 b.1 in
     omega (arith, k.0.within)
-
--- the state that is read at a place is the one that stands there
-pub whole_read : {A : Type 0} (version : ℕ) (bytes : List ℕ) (x : ℕ) (r : Result A FormErr) (s : State) (c d : Place) → c ≡ at bytes x → HasState version bytes x
-    → OnOk r (state_at version c ≡ Ok (s, d)) → IfErr r (λ e. state_at version c ≡ Err e) → s ≡ state_in version bytes x
-whole_read {A} version bytes x (Ok n) s c d e h ok err = sym (ap (read_or no_state) (ap (state_at version) (sym e) ∙ ok))
-whole_read {A} version bytes x (Err f) s c d e h ok err =
-    let a : state_at version (at bytes x) ≡ Err f = ap (state_at version) (sym e) ∙ err in
-    absurd (never _ _ (sym a ∙ h.1))
-  where
-    never : (f : FormErr) (y : State × Place) → ◌≡◌ {A = Result (State × Place) FormErr} (Err f) (Ok y) → ⊥
-    never f y g = cc
 
 pub took : {A : Type 0} (r : Option A) (P : Type 0) (n len : ℕ) → (IsSome r ↔ (0 + n ≤ len)) → OnSome r P → n ≤ len → P
 took (Some x) P n len there moved h = moved

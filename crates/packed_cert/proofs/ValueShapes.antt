@@ -9,7 +9,7 @@ use Rattle.tcd_base.specs.Reading.{u8_at, u32_at, many_at}
 use Rattle.tcd_base.proofs.FieldReads.{bind_ok, u8_at_ok, u32_at_ok}
 use Rattle.value_domain.specs.declared.values.Val.{Val}
 use Rattle.value_domain.specs.declared.values.Val.TheVariants.{Set, Span}
-use Rattle.value_domain.specs.Sets.{Rising}
+use Rattle.value_domain.specs.Sets.{Rising, AreWords}
 use Rattle.value_domain.specs.Values.{any_val, members, IsWell, IsBelow, IsExtent}
 use Rattle.value_domain.proofs.RangeLaws.{below_span}
 use Rattle.value_domain.specs.Versions.{most_words_of}
@@ -150,6 +150,9 @@ long_span n many =
 
 pub set_rising : (version : ℕ) (ws : List ℕ) → IsWellOf version (Set ws) → Rising ws
 set_rising version ws h = h.0.rising
+
+pub set_good : (version : ℕ) (ws : List ℕ) → IsWellOf version (Set ws) → AreWords ws
+set_good version ws h = h.0
 
 pub well_as : (version : ℕ) (v w : Val) → v ≡ w → IsWellOf version v → IsWell w
 well_as version v w e h = subst IsWell e (well_of version v h)

@@ -12,8 +12,6 @@ ghost use Rattle.packed_cert.specs.Standing.{at};
 ghost use Rattle.depth_cert.specs.Grammar.{value_at};
 
 use crate::values_after::length_by;
-use depth_cert::read_value;
-use tcd_base::Cursor;
 use value_domain::{Bounds, Val, extent_of, is_value, leq, set_span, set_words, write_any};
 
 /// The word at a place.
@@ -87,8 +85,23 @@ fn has_words_at(v: &Val, bytes: &[u8], place: usize, n: usize) -> bool
     true
 }
 
-/// Reads the value that stands at a place over another one. One that is short is written where it
-/// stays; a set that is there already isn't written.
+/// Makes a value the Set of the words that stand at a place, at most `N`.
+fn set_at<const N: usize>(out: &mut Val, bytes: &[u8], place: usize, n: usize)
+    requires within { place + 4 * n ≤ length bytes.now }
+    requires few { n ≤ N }
+    requires small { N ≤ 128 }
+    requires words { AreWords (words_at bytes.now place n) }
+    ensures { out.new ≡ Set (words_at bytes.now place n) }
+{
+    let mut words = [0u32; N];
+    for i in 0..n {
+        words[i] = word(bytes, place + 4 * i);
+    }
+    set_words(out, &words[..n]);
+}
+
+/// Reads the value that stands at a place over another one, which is written where it stays; a set
+/// that is there already isn't written.
 pub(crate) fn read_at(bytes: &[u8], version: u8, place: usize, out: &mut Val)
     requires short { length bytes.now ≤ 2 ^ 30 }
     requires stands { HasValue version bytes.now place }
@@ -112,9 +125,11 @@ pub(crate) fn read_at(bytes: &[u8], version: u8, place: usize, out: &mut Val)
     if has_words_at(out, bytes, place + 1, tag as usize) {
         return;
     }
-    let mut c = Cursor::new(bytes);
-    let _front = c.take(place);
-    let _read = read_value(&mut c, version, out);
+    if tag <= 8 {
+        set_at::<8>(out, bytes, place + 1, tag as usize);
+    } else {
+        set_at::<128>(out, bytes, place + 1, tag as usize);
+    }
 }
 
 /// A value of which the words are listed in bytes, read.

@@ -45,6 +45,19 @@ pub(crate) fn is_changed_below_at(
     true
 }
 
+/// Whether two values are the same set: that is told sooner than whether one is below the other.
+fn is_same_set(v: &Val, w: &Val) -> bool
+    ensures { IsTrue result → v.now ≡ w.now }
+{
+    let Val::Set(own) = v else {
+        return false;
+    };
+    let Val::Set(words) = w else {
+        return false;
+    };
+    own.as_slice() == words.as_slice()
+}
+
 /// Whether the changed value at a place, if there is one and it lies outside a row, is below the
 /// state's own there.
 fn is_put_below(s: &State, c: &Change, row: Anew, place: Option<usize>) -> bool
@@ -60,7 +73,13 @@ fn is_put_below(s: &State, c: &Change, row: Anew, place: Option<usize>) -> bool
         return true;
     }
     let regs = &s.regs[..];
-    leq(changed_value(s, c, &Val::any(), i), &regs[i])
+    let any = Val::any();
+    let low = changed_value(s, c, &any, i);
+    let high = &regs[i];
+    if is_same_set(low, high) {
+        return true;
+    }
+    leq(low, high)
 }
 
 /// Whether each value that is put outside a row is below the state's own there.

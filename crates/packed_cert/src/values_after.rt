@@ -4,7 +4,7 @@ ghost use Rattle.packed_cert.specs.Standing.{StandFrom, MovedOver, AreAnew, IsFr
 ghost use Rattle.packed_cert.specs.Standing as standing;
 ghost use Rattle.depth_cert.specs.Grammar.{values_at};
 
-use crate::same_bytes::{are_same, count_same_before};
+use crate::same_bytes::count_same_before;
 use crate::state_places::{Anew, StatePlaces};
 use depth_cert::read_value;
 use tcd_base::{Cursor, FormErr};
@@ -26,7 +26,12 @@ pub(crate) fn passes(c: &mut Cursor<'_>, bytes: &[u8], x: usize, n: usize) -> bo
     ensures kept { IsFalse result → c.new ≡ c.old }
 {
     let y = c.place();
-    if n > bytes.len() - y || !are_same(bytes, x, y, n) {
+    if n > bytes.len() - y {
+        return false;
+    }
+    let before = &bytes[x..x + n];
+    let here = &bytes[y..y + n];
+    if before != here {
         return false;
     }
     c.take(n).is_some()

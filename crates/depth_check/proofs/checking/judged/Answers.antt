@@ -8,6 +8,7 @@ use Rattle.depth_cert.specs.Certs.{IsCert, find_node}
 use Rattle.cfg_recover.specs.Entries.{start_key}
 use Rattle.cfg_recover.specs.Accepting.{HoldsAtNode, IsFirstFault, Accepts, need_of}
 use Rattle.depth_check.proofs.Deciding.{all_more, all_done}
+use Rattle.depth_check.proofs.WellLaws.{well_nodes}
 use Rattle.depth_check.proofs.FirstLaws.{start_first, node_first, need_small}
 use Rattle.depth_check.proofs.checking.judged.Goals as goal
 use Rattle.depth_check.proofs.checking.judged.Goals.{in-Some-get+in_default-node_fault, in_default-get}
@@ -39,6 +40,7 @@ loop-i-preserved c =
                 all_more (HoldsAtNode c.args.image.now c.args.plan.now c.args.cert.now) nodes c.loop-i.i w.in-Some-get.node (slice_get_within nodes c.loop-i.i w.in-Some-get.node found)
                 (sym (get_or_from_slice_get nodes c.loop-i.i w.in-Some-get.node w.in-Some-get.node found)) c.loop-i.invariant.before w.in_default-node_fault.ensures.fault;
             asked = rw w.scratch-is w.node_fault.ensures.asked;
+            kept = rw w.scratch-is w.node_fault.ensures.kept;
           }
       | in_default-get w ↦
           let none : All (HoldsAtNode c.args.image.now c.args.plan.now c.args.cert.now) (take (c.loop-i.i + 1) nodes) =
@@ -47,7 +49,7 @@ loop-i-preserved c =
           let e : None ≡ Some (get_or nodes c.loop-i.i d) = w.in_default-get.ensures ∙ slice_get-get_or nodes c.loop-i.i d within in
           absurd (none-some _ e))
           in
-          record { before = none; asked = rw w.scratch-is c.loop-i.invariant.asked }
+          record { before = none; asked = rw w.scratch-is c.loop-i.invariant.asked; kept = rw w.scratch-is c.loop-i.invariant.kept }
     ]
 
 pub returns : goal.returns
@@ -61,3 +63,13 @@ returns c =
     let need : c.from.result ≡ (c.in-Some.start).need = c.from.ensures ∙ c.start.invariant.same_need ∙ ap (λ (n : NodeData). n.need) c.start.view_is in
     let entry : (c.args.image.now).entry < 2 ^ 32 = subst (λ (i : ImageData). i.entry < 2 ^ 32) c.image.view_is c.image.invariant.entry in
     (accepts, need ∙ ap need_of (sym found), rw need (need_small c.args.image.now c.args.plan.now c.args.cert.now c.in-Some.start entry (subst IsCert c.cert.view_is c.cert.invariant.limits) accepts found))
+
+pub node_fault-requires-clause-nodes : goal.node_fault-requires-clause-nodes
+node_fault-requires-clause-nodes c = well_nodes c.args.cert.now (subst IsCert c.cert.view_is c.cert.invariant.limits)
+
+pub node_fault-requires-clause-member : goal.node_fault-requires-clause-member
+node_fault-requires-clause-member c =
+    let nodes = (c.args.cert.now).nodes in
+    let node = c.in-Some-get.node in
+    let found = sym c.in-Some-get.ensures in
+    (c.loop-i.i, slice_get_within nodes c.loop-i.i node found, get_or_from_slice_get nodes c.loop-i.i node node found)

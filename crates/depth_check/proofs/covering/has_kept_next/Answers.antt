@@ -3,14 +3,14 @@ use Rattle.std.specs.Prelude.{IfSome, IsTrue, ◌↔◌}
 use Rattle.value_domain.specs.declared.states.State.{State}
 use Rattle.value_domain.specs.State.{AreWell}
 use Rattle.cfg_recover.specs.Accepting.{HasPoint}
-use Rattle.depth_check.proofs.Deciding.{yes}
+use Rattle.depth_check.proofs.Deciding.{yes, same_word}
 use Rattle.depth_check.proofs.RuleLaws.{values_well}
 use Rattle.depth_check.proofs.covering.has_kept_next.Goals as goal
 
-pub returns-then-is_known : goal.returns-then-is_known
-returns-then-is_known c =
+pub returns-then-eq : goal.returns-then-eq
+returns-then-eq c =
     let t = c.args.at.now in
-    yes _ (subst (λ (o : Option ℕ). IfSome o (λ a. HasPoint t.node.now a t.point.state.now)) (c.is_known.ensures c.if-is_known.true) c.requires.next)
+    yes _ (subst (λ (o : Option ℕ). IfSome o (λ a. HasPoint t.node.now a t.point.state.now)) (same_word t.point.next c.args.addr c.eq.result c.eq.ensures c.if-eq.true) c.requires.next)
 
 pub has_changed_next-requires-clause-changed : goal.has_changed_next-requires-clause-changed
 has_changed_next-requires-clause-changed c =

@@ -1,4 +1,4 @@
-use Rattle.std.proofs.Common.{◌^◌, ◌<◌, ◌≡◌, ◌++◌, ◌∷◌, [], ◌∙◌, length, sym, ap, subst, refl, arith, List, ℕ}
+use Rattle.std.proofs.Common.{true, false, ◌^◌, ◌<◌, ◌≡◌, ◌++◌, ◌∷◌, [], ◌∙◌, length, sym, ap, subst, refl, arith, List, ℕ}
 use Rattle.std.specs.Prelude.{IsTrue, ◌↔◌, All}
 use Rattle.std.proofs.lemmas.List.Elements.{All-push}
 use Rattle.std.proofs.lemmas.List.{append-nil}
@@ -19,6 +19,7 @@ use Rattle.depth_check.proofs.RepeatLaws.{looks_ahead, repeats_covers, known_val
 use Rattle.depth_check.proofs.NodeLaws.{fault_at, none_at, entry_alone}
 use Rattle.depth_check.proofs.WalkLaws.{stands_behind, split_more}
 use Rattle.depth_check.proofs.nodes.packed_fault.Goals as goal
+use Rattle.depth_check.proofs.nodes.packed_fault.Goals.{then-known, else-known}
 
 pub returns-in-Some-first_of-clause-fault : goal.returns-in-Some-first_of-clause-fault
 returns-in-Some-first_of-clause-fault c =
@@ -29,7 +30,7 @@ returns-in-Some-first_of-clause-fault c =
     let b = stands_behind points inv.done c.step.new.self.left p split in
     let finds =
     subst (λ (s : State). let q : Point = record { addr = c.in-Some.addr; state = s } in Finds (RuleHolds c.args.image.now c.args.plan.now c.args.cert.now c.args.node.now q) c.broken_by_point-found.result) c.state-s.ensures
-    (rw c.near-frame.ensures at c.broken_by_point-found.ensures)
+    (rw c.near-frame.ensures at c.broken_by_point-found.ensures.found)
     in
     fault_at c.args.image.now c.args.plan.now c.args.cert.now c.args.node.now c.requires.member points refl c.walk.ensures.rising (length inv.done) p c.packed_holds_at_entry-good.result c.broken_by_point-found.result c.in-Some-first_of.fault b.within b.here
     (subst (λ (l : List Point). All (λ (q : Point). (r : ℕ) → RuleHolds c.args.image.now c.args.plan.now c.args.cert.now c.args.node.now q r) l) (sym b.before) inv.all)
@@ -45,14 +46,18 @@ broken_by_point-found-requires-clause-again c = λ again.
 
 pub broken_by_point-found-requires-clause-known : goal.broken_by_point-found-requires-clause-known
 broken_by_point-found-requires-clause-known c = λ known.
-    let here = c.are_known.ensures known in
-    let b = limits_in c.args.plan.now c.args.cert.now in
-    let anew : AreValues b c.step.new.self.anew =
-    subst (λ (l : Limits). AreValues l c.step.new.self.anew) c.requires.limits (subst (λ (vs : List Val). AreValues c.args.b.now vs) c.anew.ensures here.1)
-    in
-    subst (λ (l : Limits). AreValues l (c.state-s.result.now).regs) (sym c.requires.limits)
-    (subst (λ (s : State). AreValues b s.regs) (sym c.state-s.ensures)
-    (known_values b (c.loop-addr.scratch.walk).current c.step.new.self c.in-Some.ensures.1 (c.loop-addr.invariant.known here.0) anew))
+    elim c.if-known.branch [
+      | then-known w ↦
+          let b = limits_in c.args.plan.now c.args.cert.now in
+          let here : AreValues c.args.b.now w.anew.result.now = w.are_values.ensures.0 (sym w.here-is ∙ known) in
+          let anew : AreValues b c.step.new.self.anew =
+          subst (λ (l : Limits). AreValues l c.step.new.self.anew) c.requires.limits (subst (λ (vs : List Val). AreValues c.args.b.now vs) w.anew.ensures here)
+          in
+          subst (λ (l : Limits). AreValues l (c.state-s.result.now).regs) (sym c.requires.limits)
+          (subst (λ (s : State). AreValues b s.regs) (sym c.state-s.ensures)
+          (known_values b (c.loop-addr.scratch.walk).current c.step.new.self c.in-Some.ensures.1 (c.loop-addr.invariant.known w.if-known.true) anew))
+      | else-known w ↦ absurd (let f : true ≡ false = sym known ∙ w.here-is ∙ w.if-known.false in cc)
+    ]
 
 pub broken_by_point-found-requires-clause-next : goal.broken_by_point-found-requires-clause-next
 broken_by_point-found-requires-clause-next c =
@@ -73,7 +78,7 @@ loop-addr-preserved c =
     let p : Point = record { addr = c.in-Some.addr; state = c.step.new.self.current } in
     let finds =
     subst (λ (s : State). let q : Point = record { addr = c.in-Some.addr; state = s } in Finds (RuleHolds c.args.image.now c.args.plan.now c.args.cert.now c.args.node.now q) c.broken_by_point-found.result) c.state-s.ensures
-    (rw c.near-frame.ensures at c.broken_by_point-found.ensures)
+    (rw c.near-frame.ensures at c.broken_by_point-found.ensures.found)
     in
     let told = ap (λ (n : NodeData). first_of c.packed_holds_at_entry-good.result (n.key).entry c.in-Some.addr c.broken_by_point-found.result) (sym c.node.view_is) ∙ sym c.first_of.ensures ∙ c.in_default-first_of.is in
     let holds = none_at c.args.image.now c.args.plan.now c.args.cert.now c.args.node.now c.requires.member points refl c.walk.ensures.rising p c.packed_holds_at_entry-good.result c.broken_by_point-found.result told finds in
@@ -83,6 +88,7 @@ loop-addr-preserved c =
       all = All-push (λ (q : Point). (r : ℕ) → RuleHolds c.args.image.now c.args.plan.now c.args.cert.now c.args.node.now q r) inv.done p inv.all holds;
       known = λ t. (holds 2).values refl;
       asked = inv.asked;
+      kept = c.broken_by_point-found.ensures.kept;
     }
 
 pub loop-addr-preserved-then-is_worth_keeping : goal.loop-addr-preserved-then-is_worth_keeping
@@ -92,7 +98,7 @@ loop-addr-preserved-then-is_worth_keeping c =
     let p : Point = record { addr = c.in-Some.addr; state = c.step.new.self.current } in
     let finds =
     subst (λ (s : State). let q : Point = record { addr = c.in-Some.addr; state = s } in Finds (RuleHolds c.args.image.now c.args.plan.now c.args.cert.now c.args.node.now q) c.broken_by_point-found.result) c.state-s.ensures
-    (rw c.near-frame.ensures at c.broken_by_point-found.ensures)
+    (rw c.near-frame.ensures at c.broken_by_point-found.ensures.found)
     in
     let told = ap (λ (n : NodeData). first_of c.packed_holds_at_entry-good.result (n.key).entry c.in-Some.addr c.broken_by_point-found.result) (sym c.node.view_is) ∙ sym c.first_of.ensures ∙ c.in_default-first_of.is in
     let holds = none_at c.args.image.now c.args.plan.now c.args.cert.now c.args.node.now c.requires.member points refl c.walk.ensures.rising p c.packed_holds_at_entry-good.result c.broken_by_point-found.result told finds in
@@ -105,6 +111,7 @@ loop-addr-preserved-then-is_worth_keeping c =
           c.add.ensures c.args.plan.now c.args.cert.now inv.asked
           (subst (λ (s : State). InterruptsHold c.args.plan.now c.args.cert.now c.args.node.now s) (sym c.state-s-in-Some.ensures)
           (interrupts_at c.args.image.now c.args.plan.now c.args.cert.now c.args.node.now p holds));
+      kept = c.broken_by_point-found.ensures.kept;
     }
 
 pub returns-else-good-clause-fault : goal.returns-else-good-clause-fault

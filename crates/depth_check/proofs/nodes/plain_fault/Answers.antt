@@ -11,39 +11,42 @@ use Rattle.depth_check.proofs.Deciding.{all_more, all_done, refuted}
 use Rattle.depth_check.proofs.NodeLaws.{fault_at, none_at, entry_alone}
 use Rattle.depth_check.proofs.nodes.plain_fault.Goals as goal
 
-pub returns-in-Some : goal.returns-in-Some
-returns-in-Some c =
+pub returns-in-Some-clause-fault : goal.returns-in-Some-clause-fault
+returns-in-Some-clause-fault c =
     fault_at c.args.image.now c.args.plan.now c.args.cert.now c.args.node.now c.requires.member c.deref-point-items.result.now
     (c.deref-point-items.ensures.value ∙ ap (λ (n : NodeData). n.points) c.node.view_is)
     (subst (λ (n : NodeData). ArePoints n.points) c.node.view_is c.node.invariant)
-    c.loop-point.point-index c.point-item.result c.plain_holds_at_entry-good.result c.broken_by_point-found.result c.in-Some.fault c.loop-point-test.true c.point-item.is c.loop-point.invariant (rw c.requires.same at c.broken_by_point-found.ensures)
+    c.loop-point.point-index c.point-item.result c.plain_holds_at_entry-good.result c.broken_by_point-found.result c.in-Some.fault c.loop-point-test.true c.point-item.is c.loop-point.invariant.all (rw c.plain-frame.ensures at c.broken_by_point-found.ensures.found)
     (omega arith)
     (subst (λ (n : NodeData). (n.key).entry < 2 ^ 32) c.node.view_is (omega arith))
     (subst (λ (b : Limits). IsTrue c.plain_holds_at_entry-good.result ↔ HoldsAtEntry b c.args.node.now) c.requires.limits c.plain_holds_at_entry-good.ensures)
     (ap (λ (n : NodeData). first_of c.plain_holds_at_entry-good.result (n.key).entry c.point-item.result.addr c.broken_by_point-found.result) (sym c.node.view_is) ∙ sym c.first_of.ensures ∙ c.in-Some.is)
 
 pub loop-point-preserved : goal.loop-point-preserved
-loop-point-preserved c =
-    all_more (λ (p : Point). (r : ℕ) → RuleHolds c.args.image.now c.args.plan.now c.args.cert.now c.args.node.now p r) c.deref-point-items.result.now c.loop-point.point-index c.point-item.result c.loop-point-test.true c.point-item.is
-    c.loop-point.invariant
-    (none_at c.args.image.now c.args.plan.now c.args.cert.now c.args.node.now c.requires.member c.deref-point-items.result.now
-    (c.deref-point-items.ensures.value ∙ ap (λ (n : NodeData). n.points) c.node.view_is)
-    (subst (λ (n : NodeData). ArePoints n.points) c.node.view_is c.node.invariant)
-    c.point-item.result c.plain_holds_at_entry-good.result c.broken_by_point-found.result
-    (ap (λ (n : NodeData). first_of c.plain_holds_at_entry-good.result (n.key).entry c.point-item.result.addr c.broken_by_point-found.result) (sym c.node.view_is) ∙ sym c.first_of.ensures ∙ c.in_default.is)
-    (rw c.requires.same at c.broken_by_point-found.ensures))
+loop-point-preserved c = record {
+  all =
+      all_more (λ (p : Point). (r : ℕ) → RuleHolds c.args.image.now c.args.plan.now c.args.cert.now c.args.node.now p r) c.deref-point-items.result.now c.loop-point.point-index c.point-item.result c.loop-point-test.true c.point-item.is
+      c.loop-point.invariant.all
+      (none_at c.args.image.now c.args.plan.now c.args.cert.now c.args.node.now c.requires.member c.deref-point-items.result.now
+      (c.deref-point-items.ensures.value ∙ ap (λ (n : NodeData). n.points) c.node.view_is)
+      (subst (λ (n : NodeData). ArePoints n.points) c.node.view_is c.node.invariant)
+      c.point-item.result c.plain_holds_at_entry-good.result c.broken_by_point-found.result
+      (ap (λ (n : NodeData). first_of c.plain_holds_at_entry-good.result (n.key).entry c.point-item.result.addr c.broken_by_point-found.result) (sym c.node.view_is) ∙ sym c.first_of.ensures ∙ c.in_default.is)
+      (rw c.plain-frame.ensures at c.broken_by_point-found.ensures.found));
+  kept = c.broken_by_point-found.ensures.kept;
+}
 
-pub returns-then-good : goal.returns-then-good
-returns-then-good c = record {
+pub returns-then-good-clause-fault : goal.returns-then-good-clause-fault
+returns-then-good-clause-fault c = record {
   entry = (subst (λ (b : Limits). IsTrue c.plain_holds_at_entry-good.result ↔ HoldsAtEntry b c.args.node.now) c.requires.limits c.plain_holds_at_entry-good.ensures).0 c.if-good.true;
   points =
       subst (λ (l : List Point). All (λ (p : Point). (r : ℕ) → RuleHolds c.args.image.now c.args.plan.now c.args.cert.now c.args.node.now p r) l)
       (c.deref-point-items.ensures.value ∙ ap (λ (n : NodeData). n.points) c.node.view_is)
-      (all_done (λ (p : Point). (r : ℕ) → RuleHolds c.args.image.now c.args.plan.now c.args.cert.now c.args.node.now p r) c.deref-point-items.result.now c.loop-point.point-index c.loop-point-test.false c.loop-point.invariant);
+      (all_done (λ (p : Point). (r : ℕ) → RuleHolds c.args.image.now c.args.plan.now c.args.cert.now c.args.node.now p r) c.deref-point-items.result.now c.loop-point.point-index c.loop-point-test.false c.loop-point.invariant.all);
 }
 
-pub returns-else-good : goal.returns-else-good
-returns-else-good c =
+pub returns-else-good-clause-fault : goal.returns-else-good-clause-fault
+returns-else-good-clause-fault c =
     subst (λ (f : Fault). IsNodeFault c.args.image.now c.args.plan.now c.args.cert.now c.args.node.now f.rule f.addr) (sym c.entry_fault.ensures)
     (subst (λ (n : NodeData). IsNodeFault c.args.image.now c.args.plan.now c.args.cert.now c.args.node.now 2 (n.key).entry) (sym c.node.view_is)
     (entry_alone c.args.image.now c.args.plan.now c.args.cert.now c.args.node.now c.requires.member c.deref-point-items.result.now
@@ -51,6 +54,6 @@ returns-else-good c =
     (subst (λ (n : NodeData). ArePoints n.points) c.node.view_is c.node.invariant)
     (subst (λ (l : List Point). All (λ (p : Point). (r : ℕ) → RuleHolds c.args.image.now c.args.plan.now c.args.cert.now c.args.node.now p r) l)
     (c.deref-point-items.ensures.value ∙ ap (λ (n : NodeData). n.points) c.node.view_is)
-    (all_done (λ (p : Point). (r : ℕ) → RuleHolds c.args.image.now c.args.plan.now c.args.cert.now c.args.node.now p r) c.deref-point-items.result.now c.loop-point.point-index c.loop-point-test.false c.loop-point.invariant))
+    (all_done (λ (p : Point). (r : ℕ) → RuleHolds c.args.image.now c.args.plan.now c.args.cert.now c.args.node.now p r) c.deref-point-items.result.now c.loop-point.point-index c.loop-point-test.false c.loop-point.invariant.all))
     (refuted _ _ c.if-good.false (subst (λ (b : Limits). IsTrue c.plain_holds_at_entry-good.result ↔ HoldsAtEntry b c.args.node.now) c.requires.limits c.plain_holds_at_entry-good.ensures))
     (subst (λ (n : NodeData). (n.key).entry < 2 ^ 32) c.node.view_is (omega arith))))

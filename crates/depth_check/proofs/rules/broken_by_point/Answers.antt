@@ -11,8 +11,8 @@ broken_by_idle-requires-clause-point c = record {
   walk = c.requires.walk;
 }
 
-pub broken_by_any-requires : goal.broken_by_any-requires
-broken_by_any-requires c = record {
+pub broken_by_any-requires-clause-point : goal.broken_by_any-requires-clause-point
+broken_by_any-requires-clause-point c = record {
   limits = c.requires.limits;
   nodes = c.requires.nodes;
   node = c.requires.node;

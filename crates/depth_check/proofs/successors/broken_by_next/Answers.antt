@@ -5,8 +5,8 @@ use Rattle.cfg_recover.specs.Duties.{owed, jump, loaded_at}
 use Rattle.depth_check.specs.Points.{Breaks}
 use Rattle.depth_check.proofs.successors.broken_by_next.Goals as goal
 
-pub returns-then-keeps_state : goal.returns-then-keeps_state
-returns-then-keeps_state c =
+pub returns-then-keeps_state-clause-found : goal.returns-then-keeps_state-clause-found
+returns-then-keeps_state-clause-found c =
     let t = c.args.at.now in
     let s = t.point.state.now in
     let shape = c.args.found.now.shape in

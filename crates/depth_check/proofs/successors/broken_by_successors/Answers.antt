@@ -1,15 +1,15 @@
 use Rattle.depth_check.proofs.NextLaws.{next_alone}
 use Rattle.depth_check.proofs.successors.broken_by_successors.Goals as goal
 
-pub returns-in-Branch : goal.returns-in-Branch
-returns-in-Branch c = rw c.in-Branch.is c.broken_by_sides.ensures
+pub returns-in-Branch-clause-found : goal.returns-in-Branch-clause-found
+returns-in-Branch-clause-found c = rw c.in-Branch.is c.broken_by_sides.ensures
 
-pub returns-in-Jump : goal.returns-in-Jump
-returns-in-Jump c = rw c.in-Jump.is c.broken_by_jump.ensures
+pub returns-in-Jump-clause-found : goal.returns-in-Jump-clause-found
+returns-in-Jump-clause-found c = rw c.in-Jump.is c.broken_by_jump.ensures
 
-pub returns-in_default : goal.returns-in_default
-returns-in_default c =
+pub returns-in_default-clause-found : goal.returns-in_default-clause-found
+returns-in_default-clause-found c =
     let d = c.in_default in
     rw (next_alone c.args.at.now.bounds.now c.args.at.now.image.now c.args.at.now.plan.now c.args.at.now.point.addr c.args.at.now.point.state.now c.args.found.now.shape c.args.found.now.size
     d.not-Branch d.not-Jump d.not-Call d.not-Ret d.not-Rfe d.not-Syscall d.not-Mtcr)
-    c.broken_by_next.ensures
+    c.broken_by_next.ensures.found

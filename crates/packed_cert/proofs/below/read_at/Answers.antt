@@ -1,6 +1,7 @@
-use Rattle.std.proofs.Common.{◌∙◌, ◌∷◌, [], ℕ, get_or, sym, ap, arith}
+use Rattle.std.proofs.Common.{◌∙◌, ◌∷◌, [], ℕ, get_or, sym, ap, subst, arith}
 use Rattle.value_domain.specs.declared.values.Val.TheVariants.{Set}
-use Rattle.packed_cert.proofs.ValueShapes.{stands_at, one_inside, one_value, long_set, long_span}
+use Rattle.depth_cert.specs.Points.{IsWellOf}
+use Rattle.packed_cert.proofs.ValueShapes.{stands_at, one_inside, one_value, long_set, long_span, set_good}
 use Rattle.packed_cert.proofs.below.read_at.Goals as goal
 
 pub bounds-bytes-place : goal.bounds-bytes-place
@@ -48,3 +49,33 @@ pub returns-then-has_words_at : goal.returns-then-has_words_at
 returns-then-has_words_at c =
     let s = stands_at c.args.version c.args.bytes.now c.args.place (λ k. (c.type_inv.bytes k).fits) c.requires.stands in
     c.has_words_at.ensures c.if-has_words_at.true ∙ sym (s.shape.set (omega (arith, c.if-tag-eq0.false)) (omega (arith, c.if-tag-gt128.false)))
+
+pub set_at-requires-clause-within : goal.set_at-requires-clause-within
+set_at-requires-clause-within c =
+    let s = stands_at c.args.version c.args.bytes.now c.args.place (λ k. (c.type_inv.bytes k).fits) c.requires.stands in
+    omega (arith, s.within, long_set (get_or c.args.bytes.now c.args.place 0) (omega (arith, c.if-tag-eq0.false)) (omega (arith, c.if-tag-gt128.false)))
+
+pub set_at-requires-clause-words : goal.set_at-requires-clause-words
+set_at-requires-clause-words c =
+    let s = stands_at c.args.version c.args.bytes.now c.args.place (λ k. (c.type_inv.bytes k).fits) c.requires.stands in
+    set_good c.args.version _ (subst (IsWellOf c.args.version) (s.shape.set (omega (arith, c.if-tag-eq0.false)) (omega (arith, c.if-tag-gt128.false))) s.well)
+
+pub set_at-requires-else-tag-le8-clause-within : goal.set_at-requires-else-tag-le8-clause-within
+set_at-requires-else-tag-le8-clause-within c =
+    let s = stands_at c.args.version c.args.bytes.now c.args.place (λ k. (c.type_inv.bytes k).fits) c.requires.stands in
+    omega (arith, s.within, long_set (get_or c.args.bytes.now c.args.place 0) (omega (arith, c.if-tag-eq0.false)) (omega (arith, c.if-tag-gt128.false)))
+
+pub set_at-requires-else-tag-le8-clause-words : goal.set_at-requires-else-tag-le8-clause-words
+set_at-requires-else-tag-le8-clause-words c =
+    let s = stands_at c.args.version c.args.bytes.now c.args.place (λ k. (c.type_inv.bytes k).fits) c.requires.stands in
+    set_good c.args.version _ (subst (IsWellOf c.args.version) (s.shape.set (omega (arith, c.if-tag-eq0.false)) (omega (arith, c.if-tag-gt128.false))) s.well)
+
+pub returns-then-tag-le8 : goal.returns-then-tag-le8
+returns-then-tag-le8 c =
+    let s = stands_at c.args.version c.args.bytes.now c.args.place (λ k. (c.type_inv.bytes k).fits) c.requires.stands in
+    c.set_at.ensures ∙ sym (s.shape.set (omega (arith, c.if-tag-eq0.false)) (omega (arith, c.if-tag-gt128.false)))
+
+pub returns-else-tag-le8 : goal.returns-else-tag-le8
+returns-else-tag-le8 c =
+    let s = stands_at c.args.version c.args.bytes.now c.args.place (λ k. (c.type_inv.bytes k).fits) c.requires.stands in
+    c.set_at-else-tag-le8.ensures ∙ sym (s.shape.set (omega (arith, c.if-tag-eq0.false)) (omega (arith, c.if-tag-gt128.false)))
