@@ -11,9 +11,8 @@ use Rattle.value_domain.specs.Limits.{Limits}
 use Rattle.depth_cert.specs.declared.keys.Key.{Key}
 use Rattle.depth_cert.specs.declared.points.Point.{Point}
 use Rattle.depth_cert.specs.Certs.{CertData}
-use Rattle.cfg_recover.specs.declared.flows.Flow.{Flow}
 use Rattle.cfg_recover.specs.Duties.{Owed, duties_of}
-use Rattle.cfg_recover.specs.Flows.{told_by, leave_of, Tells}
+use Rattle.cfg_recover.specs.Code.{IsCode}
 use Rattle.cfg_recover.specs.Accepting.{limits_in}
 use Rattle.cfg_recover.specs.Frames.{to, call, irq, sys, aln, ret, rfe}
 use Rattle.tcd_report.specs.declared.edges.Edges.{Edges}
@@ -31,8 +30,7 @@ lines_with : (key : Key) (p : ℕ) (word : List ℕ) (arrow : ℕ → Arrow) →
 lines_with key p word arrow e [] = refl
 lines_with key p word arrow e (q ∷ qs) = ap (λ l. l ++ flat_map (line_text key p) (map arrow qs)) (e q) ∙ ap (λ l. line_to key p word q ++ l) (lines_with key p word arrow e qs)
 
-leaving_is : (key : Key) (p : ℕ) (s : Shape) → flat_map (line_text key p) (leaves_by s) ≡ leaving_text key p (leave_of s)
-unfolding leave_of
+leaving_is : (key : Key) (p : ℕ) (s : Shape) → flat_map (line_text key p) (leaves_by s) ≡ leaving_text key p s
 leaving_is key p shape.Ret = append-nil (line_text key p (goes ret))
 leaving_is key p shape.Rfe = append-nil (line_text key p (goes rfe))
 leaving_is key p s = refl
@@ -45,7 +43,7 @@ joined_six a b c d e f g =
     )
 
 module _ (key : Key) (p : ℕ) (cert : CertData) (ds : List Owed) (s : Shape) (w : Edges) where
-  pub point_text : AreEdges cert ds w → flat_map (λ l. l) (map (line_text key p) (arrows_of cert ds s)) ≡ ways_text key p w ++ leaving_text key p (leave_of s)
+  pub point_text : AreEdges cert ds w → flat_map (λ l. l) (map (line_text key p) (arrows_of cert ds s)) ≡ ways_text key p w ++ leaving_text key p s
   unfolding arrows_of
   point_text h =
       let g : Arrow → List ℕ = line_text key p in
@@ -68,7 +66,7 @@ module _ (key : Key) (p : ℕ) (cert : CertData) (ds : List Owed) (s : Shape) (w
       let l4 : flat_map g a4 ≡ lines_to key p (codes "sys ") w.sys.items = lines_with key p (codes "sys ") (λ q. goes (sys q)) (λ q. refl) (systems_in ds) ∙ ap (lines_to key p (codes "sys ")) (sym h.sys) in
       let l5 : flat_map g a5 ≡ lines_to key p (codes "aln ") w.aln.items = lines_with key p (codes "aln ") (λ q. goes (aln q)) (λ q. refl) (misaligned_in ds) ∙ ap (lines_to key p (codes "aln ")) (sym h.aln) in
       let l6 : flat_map g a6 ≡ lines_to key p (codes "irq ") w.irq.items = lines_with key p (codes "irq ") (λ q. goes (irq q)) (λ q. refl) (interrupts_in ds) ∙ ap (lines_to key p (codes "irq ")) (sym h.irq) in
-      let l7 : flat_map g a7 ≡ leaving_text key p (leave_of s) = leaving_is key p s in
+      let l7 : flat_map g a7 ≡ leaving_text key p s = leaving_is key p s in
       lines_joined g (arrows_of cert ds s)
       ∙ split
       ∙ ap (λ l. l ++ (flat_map g a2 ++ (flat_map g a3 ++ (flat_map g a4 ++ (flat_map g a5 ++ (flat_map g a6 ++ flat_map g a7)))))) l1
@@ -79,24 +77,21 @@ module _ (key : Key) (p : ℕ) (cert : CertData) (ds : List Owed) (s : Shape) (w
       ∙ ap (λ l. lines_to key p (codes "to ") w.to.items ++ (lines_to key p (codes "call ") w.call.items ++ (lines_to key p (codes "back ") w.back.items ++ (lines_to key p (codes "sys ") w.sys.items ++ (lines_to key p (codes "aln ") w.aln.items ++ (l ++ flat_map g a7)))))) l6
       ∙ ap (λ l. lines_to key p (codes "to ") w.to.items ++ (lines_to key p (codes "call ") w.call.items ++ (lines_to key p (codes "back ") w.back.items ++ (lines_to key p (codes "sys ") w.sys.items ++ (lines_to key p (codes "aln ") w.aln.items ++ (lines_to key p (codes "irq ") w.irq.items ++ l)))))) l7
       ∙ joined_six (lines_to key p (codes "to ") w.to.items) (lines_to key p (codes "call ") w.call.items) (lines_to key p (codes "back ") w.back.items) (lines_to key p (codes "sys ") w.sys.items)
-      (lines_to key p (codes "aln ") w.aln.items) (lines_to key p (codes "irq ") w.irq.items) (leaving_text key p (leave_of s))
+      (lines_to key p (codes "aln ") w.aln.items) (lines_to key p (codes "irq ") w.irq.items) (leaving_text key p s)
 
 -- a text that grew by these is that of the point's lines
 pub point_lines :
-    (image : ImageData) (plan : PlanData) (cert : CertData) (key : Key) (point : Point) (b : Limits) (f : Flow) (w : Edges) (before text after : List ℕ) → b ≡ limits_in plan cert → Tells b image plan key point.addr point.state f
-    → AreEdges cert (told_by plan key point.state f) w → text ≡ before ++ ways_text key point.addr w → after ≡ text ++ leaving_text key point.addr f.leave → GrowsBy (ArePointLines image plan cert key point) before after
-point_lines image plan cert key point b f w before text after same told are front whole =
-    let ds : List Owed = duties_of (limits_in plan cert) image plan key point.addr point.state told.shape told.size in
-    let owes : told_by plan key point.state f ≡ ds = told.told ∙ ap (λ x. duties_of x image plan key point.addr point.state told.shape told.size) same in
-    let ways : AreEdges cert ds w = subst (λ ds. AreEdges cert ds w) owes are in
-    let text_is = point_text key point.addr cert ds told.shape w ways in
+    (image : ImageData) (plan : PlanData) (cert : CertData) (key : Key) (point : Point) (shape : Shape) (size : ℕ) (b : Limits) (w : Edges) (before text after : List ℕ) → b ≡ limits_in plan cert → IsCode image plan point.addr shape size
+    → AreEdges cert (duties_of b image plan key point.addr point.state shape size) w → text ≡ before ++ ways_text key point.addr w → after ≡ text ++ leaving_text key point.addr shape → GrowsBy (ArePointLines image plan cert key point) before after
+point_lines image plan cert key point shape size b w before text after same code are front whole =
+    let ds : List Owed = duties_of (limits_in plan cert) image plan key point.addr point.state shape size in
+    let ways : AreEdges cert ds w = subst (λ x. AreEdges cert (duties_of x image plan key point.addr point.state shape size) w) same are in
     record {
-      lines = map (line_text key point.addr) (arrows_of cert ds told.shape);
-      are = record { shape = told.shape; size = told.size; code = told.code; are = refl };
+      lines = map (line_text key point.addr) (arrows_of cert ds shape);
+      are = record { shape = shape; size = size; code = code; are = refl };
       grown =
           whole
-          ∙ ap (λ l. l ++ leaving_text key point.addr f.leave) front
-          ∙ append_assoc before (ways_text key point.addr w) (leaving_text key point.addr f.leave)
-          ∙ ap (λ l. before ++ (ways_text key point.addr w ++ leaving_text key point.addr l)) told.leaves
-          ∙ ap (λ l. before ++ l) (sym text_is);
+          ∙ ap (λ l. l ++ leaving_text key point.addr shape) front
+          ∙ append_assoc before (ways_text key point.addr w) (leaving_text key point.addr shape)
+          ∙ ap (λ l. before ++ l) (sym (point_text key point.addr cert ds shape w ways));
     }

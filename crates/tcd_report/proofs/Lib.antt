@@ -1,6 +1,6 @@
 -- Lists of addresses, the text of lines, arrows of points, edges on lines, and rows of calls.
 pub mod Lists
-pub mod ToldLists
+pub mod DutyLists
 pub mod GraphTexts
 pub mod Joining
 pub mod JudgedPoints

@@ -1,6 +1,10 @@
--- An accepted certificate, and text that grows by what it says.
+-- An accepted certificate, what its points owe, and text that grows by what it says.
 use Rattle.std.specs.Prelude.{◌≡◌, ℕ, List, ◌++◌}
 use Rattle.std.specs.List.{flat_map}
+use Rattle.depth_cert.specs.declared.keys.Key.{Key}
+use Rattle.depth_cert.specs.declared.points.Point.{Point}
+use Rattle.cfg_recover.specs.declared.local.Located.{Located}
+use Rattle.cfg_recover.specs.Duties.{Owed, duties_of, entries_of, successors_of}
 use Rattle.cfg_recover.specs.Accepting.{Accepts, limits_in}
 use Rattle.tcd_report.specs.declared.judged.Judged.{Judged}
 
@@ -8,6 +12,18 @@ use Rattle.tcd_report.specs.declared.judged.Judged.{Judged}
 pub record IsJudged (j : Judged) : Type 0 where
   pub limits : j.bounds.now ≡ limits_in j.plan.now j.cert.now
   pub accepted : Accepts j.image.now j.plan.now j.cert.now
+
+-- the successors of a point in its frame, by what stands there
+abbrev pub successors_at : Judged → Point → Located → List Owed
+successors_at j point found = successors_of j.bounds.now j.image.now j.plan.now point.addr point.state found.shape found.size
+
+-- the frames that its instruction enters, and their coming back
+abbrev pub entries_at : Judged → Key → Point → Located → List Owed
+entries_at j key point found = entries_of j.plan.now key point.addr point.state found.shape found.size
+
+-- all that it owes
+abbrev pub duties_at : Judged → Key → Point → Located → List Owed
+duties_at j key point found = duties_of j.bounds.now j.image.now j.plan.now key point.addr point.state found.shape found.size
 
 -- a text grows by lines that are those of something
 pub record GrowsBy (Are : List (List ℕ) → Type 0) (old new : List ℕ) : Type 0 where

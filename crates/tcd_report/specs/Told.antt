@@ -1,53 +1,39 @@
--- The lists of addresses behind the words of a point's lines, as a flow tells them.
-use Rattle.std.specs.Prelude.{◌≡◌, ◌==◌, ℕ, List, [], ◌∷◌, ◌++◌, map, codes, Option, Some, None, if◌then◌else◌}
+-- The lists of addresses behind the words of a point's lines, as the code makes them.
+use Rattle.std.specs.Prelude.{◌≡◌, ◌==◌, ℕ, List, [], ◌∷◌, ◌++◌, map, codes, unwrap_or, if◌then◌else◌}
 use Rattle.std.specs.List.{flat_map, list_any}
-use Rattle.depth_cert.specs.Keys.{call_kind}
 use Rattle.tcd_plan.specs.PlanData.{PlanData}
+use Rattle.tc_isa.specs.declared.shapes.Shape.{Shape}
+use Rattle.tc_isa.specs.declared.shapes.Shape.TheVariants.{Call, Ret, Rfe, Syscall}
+use Rattle.value_domain.specs.declared.states.State.{State}
 use Rattle.depth_cert.specs.declared.keys.Key.{Key}
 use Rattle.depth_cert.specs.Certs.{CertData}
-use Rattle.cfg_recover.specs.declared.flows.Jump.{Jump}
-use Rattle.cfg_recover.specs.declared.flows.Enter.{Enter}
-use Rattle.cfg_recover.specs.declared.flows.Leave.{Leave}
-use Rattle.cfg_recover.specs.declared.flows.Leave.TheVariants.{Stays, Ret, Rfe}
-use Rattle.cfg_recover.specs.Entries.{irq_key}
-use Rattle.cfg_recover.specs.Duties.{Owed, resume}
-use Rattle.cfg_recover.specs.Flows.{entered_key}
+use Rattle.cfg_recover.specs.Entries.{irq_key, sys_key}
+use Rattle.cfg_recover.specs.Local.{targets_of}
+use Rattle.cfg_recover.specs.Duties.{Owed}
 use Rattle.tcd_report.specs.declared.edges.Edges.{Edges}
-use Rattle.tcd_report.specs.Graphs.{back_by, jumps_in, calls_in, backs_in, systems_in, misaligned_in, interrupts_in, line_front, line_to}
+use Rattle.tcd_report.specs.Graphs.{jump_by, back_by, jumps_in, calls_in, backs_in, systems_in, misaligned_in, interrupts_in, line_front, line_to}
 
 -- a number more behind those that are there, unless it is one of them
 abbrev pub once_more : List ℕ → ℕ → List ℕ
 once_more xs x = if list_any (λ y. y == x) xs then xs else xs ++ x ∷ []
 
--- where a told jump goes
-abbrev pub targets_in : Option Jump → List ℕ
-targets_in None = []
-targets_in (Some j) = j.targets.items
+-- where duties jump in the frame, in their order
+abbrev pub jumped_in : List Owed → List ℕ
+jumped_in ds = flat_map (λ d. jump_by d.duty) ds
 
--- what is entered
-abbrev pub entered_in : Option Enter → List ℕ
-entered_in None = []
-entered_in (Some e) = e.targets.items
+-- where the frame goes on once what duties enter comes back, once for each node with an exit
+abbrev pub returned_in : CertData → List Owed → List ℕ
+returned_in cert ds = flat_map (λ d. back_by cert d.duty) ds
 
--- what is entered by a call
-abbrev pub called_in : Option Enter → List ℕ
-called_in None = []
-called_in (Some e) = if e.kind == call_kind then e.targets.items else []
+-- the functions that an instruction of this shape calls
+abbrev pub called_of : PlanData → State → ℕ → Shape → List ℕ
+called_of plan s p (Call to) = unwrap_or (targets_of plan s p to) []
+called_of plan s p _ = []
 
--- what is entered otherwise
-abbrev pub trapped_in : Option Enter → List ℕ
-trapped_in None = []
-trapped_in (Some e) = if e.kind == call_kind then [] else e.targets.items
-
--- where frames of a kind, entered at these addresses, come back, once for each whose node has an exit
-abbrev pub returns_from : CertData → Key → ℕ → List ℕ → Option ℕ → List ℕ
-returns_from cert key kind targets None = []
-returns_from cert key kind targets (Some q) = flat_map (λ t. back_by cert (resume (entered_key key kind t) q)) targets
-
--- the same for what is entered
-abbrev pub returns_in : CertData → Key → Option Enter → List ℕ
-returns_in cert key None = []
-returns_in cert key (Some e) = returns_from cert key e.kind e.targets.items e.resume
+-- the entry of the handler of system calls, where the instruction is one
+abbrev pub systems_of : PlanData → Key → Shape → List ℕ
+systems_of plan key (Syscall tin) = (sys_key plan key).entry ∷ []
+systems_of plan key _ = []
 
 -- where the handlers of interrupts begin
 abbrev pub vectors_in : PlanData → List ℕ → List ℕ
@@ -77,7 +63,7 @@ ways_text key p w =
     ++ lines_to key p (codes "irq ") w.irq.items))))
 
 -- the line of a return
-abbrev pub leaving_text : Key → ℕ → Leave → List ℕ
-leaving_text key p Stays = []
+abbrev pub leaving_text : Key → ℕ → Shape → List ℕ
 leaving_text key p Ret = line_front key p ++ (codes "ret" ++ 10 ∷ [])
 leaving_text key p Rfe = line_front key p ++ (codes "rfe" ++ 10 ∷ [])
+leaving_text key p _ = []

@@ -6,9 +6,9 @@ ghost use Rattle.cfg_recover.specs.Local.{IsFaultless};
 ghost use Rattle.tcd_report.specs.Heights.{IsMost, IsMostOf, HasRow, HasRowAt, AreLow};
 ghost use Rattle.tcd_report.specs.Judging.{IsJudged};
 
-use crate::edges::called_by;
+use crate::entered::called;
 use crate::judged::Judged;
-use cfg_recover::{entered_key, flow};
+use cfg_recover::{entered_key, local_check};
 use depth_cert::{Key, Node, Point};
 use std::collections::HashMap;
 
@@ -46,7 +46,7 @@ fn rows_at(judged: &Judged, heights: &HashMap<Key, u32>, key: &Key, point: &Poin
     ensures { let j = judged.now in
         IsMost (HasRowAt j.image.now j.plan.now j.cert.now heights.now key.now point.now) result }
 {
-    let Ok(told) = flow(
+    let Ok(found) = local_check(
         judged.bounds,
         judged.image,
         judged.plan,
@@ -56,7 +56,8 @@ fn rows_at(judged: &Judged, heights: &HashMap<Key, u32>, key: &Key, point: &Poin
     ) else {
         unreachable!()
     };
-    rows_into(heights, key, called_by(&told.enter))
+    let functions = called(judged.plan, point, found.shape);
+    rows_into(heights, key, functions.as_slice())
 }
 
 /// The greatest number of calls in a row from a node on.

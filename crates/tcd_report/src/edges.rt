@@ -1,16 +1,24 @@
 // The addresses behind the words of a point's lines.
-ghost use Rattle.std.specs.Prelude.{◌≡◌, ◌++◌, OnOk, IfOk, Some, false, is_some};
+ghost use Rattle.std.specs.Prelude.{◌≡◌, ◌++◌, OnOk, IfOk, false, is_some};
 ghost use Rattle.std.specs.List.{flat_map};
 ghost use Rattle.std.specs.Option.{option_map_or};
-ghost use Rattle.value_domain.specs.declared.states.State.{State};
+ghost use Rattle.tc_isa.specs.Bounded.{IsShape};
+ghost use Rattle.value_domain.specs.State.{AreValues};
 ghost use Rattle.depth_cert.specs.Certs.{find_node};
-ghost use Rattle.cfg_recover.specs.Flows.{told_by};
-ghost use Rattle.tcd_report.specs.Told.{targets_in, entered_in, called_in, trapped_in, returns_from, returns_in, vectors_in, AreEdges};
+ghost use Rattle.cfg_recover.specs.Duties.{resume};
+ghost use Rattle.cfg_recover.specs.Flows as flows;
+ghost use Rattle.tcd_report.specs.Graphs.{back_by};
+ghost use Rattle.tcd_report.specs.Judging.{duties_at, entries_at};
+ghost use Rattle.tcd_report.specs.Told.{returned_in, vectors_in, AreEdges};
 
 use crate::addresses::{ascending, each_once};
-use cfg_recover::{Enter, Flow, Jump, entered_key, irq_key};
-use depth_cert::{Cert, Key};
+use crate::entered::{called, misaligned, trapped};
+use crate::judged::Judged;
+use crate::successors::push_successors;
+use cfg_recover::{Located, entered_key, interrupts, irq_key, sys_key, targets};
+use depth_cert::{Cert, Key, Point};
 use std::alloc::Global;
+use tc_isa::Shape;
 use tcd_base::NoMemory;
 use tcd_plan::Plan;
 
@@ -25,68 +33,6 @@ pub(crate) struct Edges {
     pub(crate) irq: Vec<u32>,
 }
 
-// Where a jump goes.
-fn targets(jump: &Option<Jump>) -> &[u32]
-    ensures { result.now ≡ targets_in jump.now }
-{
-    match jump {
-        None => &[],
-        Some(jump) => jump.targets.as_slice(),
-    }
-}
-
-// What is entered.
-fn entered_by(enter: &Option<Enter>) -> &[u32]
-    ensures { result.now ≡ entered_in enter.now }
-{
-    match enter {
-        None => &[],
-        Some(enter) => enter.targets.as_slice(),
-    }
-}
-
-/// What is entered by a call.
-pub(crate) fn called_by(enter: &Option<Enter>) -> &[u32]
-    ensures { result.now ≡ called_in enter.now }
-{
-    match enter {
-        None => &[],
-        Some(enter) => {
-            if enter.kind == 1 {
-                enter.targets.as_slice()
-            } else {
-                &[]
-            }
-        }
-    }
-}
-
-// What is entered otherwise.
-fn trapped_by(enter: &Option<Enter>) -> &[u32]
-    ensures { result.now ≡ trapped_in enter.now }
-{
-    match enter {
-        None => &[],
-        Some(enter) => {
-            if enter.kind == 1 {
-                &[]
-            } else {
-                enter.targets.as_slice()
-            }
-        }
-    }
-}
-
-// Where the jumps go.
-fn jump_targets(alloc: Global, jumps: &[Option<Jump>; 2]) -> Result<Vec<u32>, NoMemory>
-    ensures { IfOk result (λ v. v.items ≡ flat_map targets_in jumps.now) }
-{
-    let mut all = Vec::new(alloc);
-    all.extend_from_slice(targets(&jumps[0]))?;
-    all.extend_from_slice(targets(&jumps[1]))?;
-    Ok(all)
-}
-
 // Whether the node of a key has an exit.
 fn has_exit(cert: &Cert, key: &Key) -> bool
     ensures { result
@@ -98,42 +44,56 @@ fn has_exit(cert: &Cert, key: &Key) -> bool
     }
 }
 
-// Adds where an entered frame comes back, for each node that it may be and that has an exit.
-fn push_returns(
-    all: &mut Vec<u32>,
-    cert: &Cert,
-    key: &Key,
-    enter: &Enter,
-    back: u32,
-) -> Result<(), NoMemory>
-    ensures { let e = enter.now in
-        OnOk result (all.new.items ≡ all.old.items
-        ++ returns_from cert.now key.now e.kind e.targets.items (Some back)) }
+// Adds where an entered frame comes back, if its node has an exit.
+fn push_return(all: &mut Vec<u32>, cert: &Cert, key: &Key, back: u32) -> Result<(), NoMemory>
+    ensures { OnOk result
+        (all.new.items ≡ all.old.items ++ back_by cert.now (resume key.now back)) }
 {
-    for target in enter.targets.as_slice() {
-        if has_exit(cert, &entered_key(key, enter.kind, *target)) {
-            all.push(back)?;
-        }
+    if has_exit(cert, key) {
+        all.push(back)?;
     }
     Ok(())
 }
 
-// The same for what may be entered.
-fn add_returns(
+// The same for each of the called functions.
+fn push_returns(
     all: &mut Vec<u32>,
     cert: &Cert,
     key: &Key,
-    enter: &Option<Enter>,
+    targets: &[u32],
+    back: u32,
 ) -> Result<(), NoMemory>
-    ensures { OnOk result
-        (all.new.items ≡ all.old.items ++ returns_in cert.now key.now enter.now) }
+    ensures { OnOk result (all.new.items ≡ all.old.items
+        ++ flat_map (λ t. back_by cert.now (resume (flows.entered_key key.now 1 t) back))
+        targets.now) }
 {
-    if let Some(enter) = enter {
-        if let Some(back) = enter.resume {
-            push_returns(all, cert, key, enter, back)?;
-        }
+    for target in targets {
+        push_return(all, cert, &entered_key(key, 1, *target), back)?;
     }
     Ok(())
+}
+
+// The same for what the instruction enters.
+fn add_returns(
+    all: &mut Vec<u32>,
+    judged: &Judged,
+    key: &Key,
+    point: &Point,
+    found: &Located,
+) -> Result<(), NoMemory>
+    requires { IsShape found.now.shape }
+    ensures { let j = judged.now in OnOk result (all.new.items ≡ all.old.items
+        ++ returned_in j.cert.now (entries_at j key.now point.now found.now)) }
+{
+    let back = point.addr.wrapping_add(found.size);
+    match found.shape {
+        Shape::Call { to } => {
+            let targets = targets(judged.plan, &point.state, point.addr, to);
+            push_returns(all, judged.cert, key, targets.as_slice(), back)
+        }
+        Shape::Syscall { .. } => push_return(all, judged.cert, &sys_key(judged.plan, key), back),
+        _ => Ok(()),
+    }
 }
 
 // Where the handlers of interrupts begin.
@@ -147,28 +107,32 @@ fn vectors(alloc: Global, plan: &Plan, irqs: &[u8]) -> Result<Vec<u32>, NoMemory
     Ok(all)
 }
 
-/// Where a point goes on, by its flow.
+/// Where a point goes on, by what stands there.
 pub(crate) fn edges_of(
     alloc: Global,
-    plan: &Plan,
-    cert: &Cert,
+    judged: &Judged,
     key: &Key,
-    told: &Flow,
+    point: &Point,
+    found: &Located,
 ) -> Result<Edges, NoMemory>
-    ensures { IfOk result
-        (λ w. (s : State) → AreEdges cert.now (told_by plan.now key.now s told.now) w) }
+    requires shape { IsShape found.now.shape }
+    requires values { AreValues judged.now.bounds.now point.now.state.regs }
+    ensures { let j = judged.now in IfOk result
+        (λ w. AreEdges j.cert.now (duties_at j key.now point.now found.now) w) }
 {
-    let jumps = jump_targets(alloc, &told.jumps)?;
+    let mut jumps = Vec::new(alloc);
+    push_successors(&mut jumps, judged, point, found)?;
+    let functions = called(judged.plan, point, found.shape);
     let mut returns = Vec::new(alloc);
-    add_returns(&mut returns, cert, key, &told.enter)?;
-    add_returns(&mut returns, cert, key, &told.aln)?;
-    let handlers = vectors(alloc, plan, told.irqs.as_slice())?;
+    add_returns(&mut returns, judged, key, point, found)?;
+    let irqs = interrupts(judged.plan, &point.state);
+    let handlers = vectors(alloc, judged.plan, irqs.as_slice())?;
     Ok(Edges {
         to: ascending(alloc, &jumps)?,
-        call: ascending(alloc, called_by(&told.enter))?,
+        call: ascending(alloc, functions.as_slice())?,
         back: each_once(alloc, &returns)?,
-        sys: each_once(alloc, trapped_by(&told.enter))?,
-        aln: each_once(alloc, entered_by(&told.aln))?,
+        sys: trapped(alloc, judged.plan, key, found.shape)?,
+        aln: misaligned(alloc, judged, key, point, found.shape)?,
         irq: each_once(alloc, &handlers)?,
     })
 }

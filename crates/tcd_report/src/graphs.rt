@@ -9,7 +9,7 @@ ghost use Rattle.tcd_report.specs.Judging.{IsJudged, GrowsBy};
 use crate::edges::edges_of;
 use crate::judged::Judged;
 use crate::lines::{append_edges, append_leaving};
-use cfg_recover::flow;
+use cfg_recover::local_check;
 use depth_cert::{Cert, Key, Node, Point};
 use elf_image::Image;
 use std::alloc::Global;
@@ -33,7 +33,7 @@ fn append_point(
         OnOk result (GrowsBy (ArePointLines j.image.now j.plan.now j.cert.now key.now point.now)
         (string_bytes text.old) (string_bytes text.new)) }
 {
-    let Ok(told) = flow(
+    let Ok(found) = local_check(
         judged.bounds,
         judged.image,
         judged.plan,
@@ -43,9 +43,9 @@ fn append_point(
     ) else {
         unreachable!()
     };
-    let ways = edges_of(alloc, judged.plan, judged.cert, key, &told)?;
+    let ways = edges_of(alloc, judged, key, point, &found)?;
     append_edges(text, key, point.addr, &ways)?;
-    append_leaving(text, key, point.addr, told.leave)
+    append_leaving(text, key, point.addr, found.shape)
 }
 
 // The lines of a node's points.

@@ -4,6 +4,7 @@
 mod addresses;
 mod calls_in_a_row;
 mod edges;
+mod entered;
 mod graphs;
 mod heights;
 mod judged;
@@ -11,6 +12,7 @@ mod laws;
 mod lines;
 mod longest;
 mod reports;
+mod successors;
 mod texts;
 
 pub use graphs::graph;

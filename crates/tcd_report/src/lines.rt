@@ -5,9 +5,9 @@ ghost use Rattle.tcd_report.specs.Told.{lines_to, ways_text, leaving_text};
 
 use crate::edges::Edges;
 use crate::texts::{append, append_key};
-use cfg_recover::Leave;
 use depth_cert::Key;
 use hex_text::append_hex_word;
+use tc_isa::Shape;
 use tcd_base::NoMemory;
 
 // What each line of a point begins with.
@@ -72,20 +72,20 @@ pub(crate) fn append_leaving(
     text: &mut String,
     key: &Key,
     addr: u32,
-    leave: Leave,
+    shape: Shape,
 ) -> Result<(), NoMemory>
     ensures { OnOk result (string_bytes text.new
-        ≡ string_bytes text.old ++ leaving_text key.now addr leave) }
+        ≡ string_bytes text.old ++ leaving_text key.now addr shape) }
 {
-    match leave {
-        Leave::Stays => Ok(()),
-        Leave::Ret => {
+    match shape {
+        Shape::Ret => {
             append_front(text, key, addr)?;
             append(text, "ret\n")
         }
-        Leave::Rfe => {
+        Shape::Rfe => {
             append_front(text, key, addr)?;
             append(text, "rfe\n")
         }
+        _ => Ok(()),
     }
 }

@@ -1,28 +1,48 @@
 use Rattle.std.proofs.Common.{◌++◌, ◌∙◌, ap, sym}
 use Rattle.value_domain.specs.Sets.{distinct}
 use Rattle.tcd_report.specs.Graphs.{each_once}
-use Rattle.tcd_report.specs.Told.{returns_in, vectors_in}
-use Rattle.tcd_report.proofs.ToldLists.{jumps_told, calls_told, systems_told, misaligned_told, interrupts_told, returns_told}
+use Rattle.tcd_report.specs.Judging.{entries_at, successors_at}
+use Rattle.tcd_report.specs.Told.{jumped_in, returned_in, vectors_in}
+use Rattle.tcd_report.proofs.DutyLists.{jumps_told, calls_told, systems_told, misaligned_told, interrupts_told, returns_told, systems_once, misaligned_once}
 use Rattle.tcd_report.proofs.edges.edges_of.Goals as goal
 
 pub returns : goal.returns
-returns c s =
-    let plan = c.args.plan.now in
-    let cert = c.args.cert.now in
+returns c =
+    let j = c.args.judged.now in
+    let b = j.bounds.now in
+    let image = j.image.now in
+    let plan = j.plan.now in
+    let cert = j.cert.now in
     let key = c.args.key.now in
-    let told = c.args.told.now in
+    let point = c.args.point.now in
+    let found = c.args.found.now in
+    let s = point.state in
     record {
-      to = c.in_ok-ascending.ensures ∙ ap distinct (c.deref.ensures.value ∙ c.in_ok-jumps.ensures ∙ sym (jumps_told plan cert key s told));
-      call = c.in_ok-ascending-2.ensures ∙ ap distinct (c.called_by.ensures ∙ sym (calls_told plan cert key s told));
+      to =
+          c.in_ok-ascending.ensures
+          ∙ ap distinct (
+          c.deref.ensures.value
+          ∙ c.in_ok-push_successors.ensures
+          ∙ ap (λ l. l ++ jumped_in (successors_at j point found)) c.new-jumps.ensures.items
+          ∙ sym (jumps_told b image plan cert key point.addr s found.shape found.size)
+          );
+      call = c.in_ok-ascending-2.ensures ∙ ap distinct (c.as_slice-2.ensures.value ∙ c.called-functions.ensures ∙ sym (calls_told b image plan cert key point.addr s found.shape found.size));
       back =
           c.in_ok-each_once.ensures
           ∙ ap each_once (
           c.deref-2.ensures.value
-          ∙ c.in_ok-add_returns-2.ensures
-          ∙ ap (λ l. l ++ returns_in cert key told.aln) (c.in_ok-add_returns.ensures ∙ ap (λ l. l ++ returns_in cert key told.enter) c.new-returns.ensures.items)
-          ∙ sym (returns_told plan cert key s told)
+          ∙ c.in_ok-add_returns.ensures
+          ∙ ap (λ l. l ++ returned_in cert (entries_at j key point found)) c.new-returns.ensures.items
+          ∙ sym (returns_told b image plan cert key point.addr s found.shape found.size)
           );
-      sys = c.in_ok-each_once-2.ensures ∙ ap each_once (c.trapped_by.ensures ∙ sym (systems_told plan cert key s told));
-      aln = c.in_ok-each_once-3.ensures ∙ ap each_once (c.entered_by.ensures ∙ sym (misaligned_told plan cert key s told));
-      irq = c.in_ok-each_once-4.ensures ∙ ap each_once (c.deref-3.ensures.value ∙ c.in_ok-handlers.ensures ∙ ap (λ l. vectors_in plan l) c.as_slice.ensures.value ∙ sym (interrupts_told plan cert key s told));
+      sys = c.in_ok-trapped.ensures ∙ sym (systems_once plan key found.shape) ∙ ap each_once (sym (systems_told b image plan cert key point.addr s found.shape found.size));
+      aln = c.in_ok-misaligned.ensures ∙ sym (misaligned_once b plan key s found.shape) ∙ ap each_once (sym (misaligned_told b image plan cert key point.addr s found.shape found.size));
+      irq =
+          c.in_ok-each_once-2.ensures
+          ∙ ap each_once (
+          c.deref-3.ensures.value
+          ∙ c.in_ok-handlers.ensures
+          ∙ ap (λ l. vectors_in plan l) (c.as_slice.ensures.value ∙ c.interrupts-irqs.ensures)
+          ∙ sym (interrupts_told b image plan cert key point.addr s found.shape found.size)
+          );
     }

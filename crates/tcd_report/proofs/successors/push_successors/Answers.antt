@@ -1,0 +1,21 @@
+use Rattle.std.proofs.Common.{◌≡◌, ◌∙◌, ◌++◌, ap, subst, sym}
+use Rattle.std.specs.Prelude.{OnOk}
+use Rattle.tcd_report.proofs.DutyLists.{jumps_are, next_alone}
+use Rattle.tcd_report.proofs.successors.push_successors.Goals as goal
+
+pub returns-in-Branch : goal.returns-in-Branch
+returns-in-Branch c = rw c.in-Branch.is c.push_sides.ensures
+
+pub returns-in-Jump : goal.returns-in-Jump
+returns-in-Jump c =
+    rw c.in-Jump.is
+    (subst (λ l. OnOk c.push_targets.result (c.push_targets.new.all.items ≡ c.args.all.now.items ++ l)) (sym (jumps_are c.args.point.now.state _)) c.push_targets.ensures)
+
+pub returns-in_ok-push-in_default : goal.returns-in_ok-push-in_default
+returns-in_ok-push-in_default c =
+    let j = c.args.judged.now in
+    let d = c.in_default in
+    c.in_ok-push-in_default.ensures.items
+    ∙ ap (λ l. c.args.all.now.items ++ l)
+    (sym (next_alone j.bounds.now j.image.now j.plan.now c.args.point.now.addr c.args.point.now.state c.args.found.now.shape c.args.found.now.size
+    d.not-Branch d.not-Jump d.not-Call d.not-Ret d.not-Rfe d.not-Syscall d.not-Mtcr))
