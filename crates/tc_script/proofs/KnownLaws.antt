@@ -1,30 +1,40 @@
 -- What is known of the word at an address.
-use Rattle.std.proofs.Common.{◌≡◌, ℕ, ◌<◌, ◌^◌, true, nat_eq, Option, Some, None, sym, ap, subst, ◌∙◌}
-use Rattle.std.specs.Prelude.{IfSome, IfOk}
+use Rattle.std.proofs.Common.{◌≡◌, ℕ, ◌<◌, ◌^◌, true, nat_eq, List, length, get_or, set, All, Option, Some, None, Result, refl, sym, ap, subst}
+use Rattle.std.specs.Prelude.{IfSome}
 use Rattle.std.specs.Option.{option_eq}
 use Rattle.std.proofs.lemmas.Bool.{eqb-true, false≢true}
+use Rattle.std.proofs.lemmas.List.{get_or_default}
+use Rattle.std.proofs.lemmas.Grind.{get_or-set_at}
 use Rattle.csa_chain.specs.Memory.{Memory}
 use Rattle.csa_chain.specs.MemoryChanges.{HasBytes}
 use Rattle.tcd_base.specs.Bytes.{bytes_of_word}
-use Rattle.tc_isa.specs.Bounded.{IsShape}
-use Rattle.tc_encode.specs.Decoding.{decoded_of}
+use Rattle.tc_isa.specs.declared.shapes.Shape.{Shape}
 use Rattle.tc_mem.specs.Blocks.{word_of}
-use Rattle.tc_machine.specs.Fetching.{mapped_bytes, shaped}
+use Rattle.tc_machine.specs.declared.events.Cause.{Cause}
+use Rattle.tc_machine.specs.Fetching.{mapped_bytes}
 use Rattle.tc_machine.proofs.WholeAccesses.{mapped_word}
 use Rattle.tc_script.specs.declared.known_words.KnownWord.{KnownWord}
-use Rattle.tc_script.specs.KnownWords.{IsKnown}
-
--- the word at an address does what the bytes there do
-pub same_there : (m : Memory) (x w : ℕ) → HasBytes m → x < 2 ^ 32 → Some w ≡ word_of m x → shaped (decoded_of (bytes_of_word w)) ≡ shaped (decoded_of (mapped_bytes 4 m x))
-same_there m x w bytes small there = ap (λ bs. shaped (decoded_of bs)) (mapped_word m x w bytes small there)
+use Rattle.tc_script.specs.KnownWords.{Does, IsKnown, StandsAt}
 
 -- what is the same as some word is it
 pub named : (o : Option ℕ) (w : ℕ) → true ≡ option_eq nat_eq o (Some w) → o ≡ Some w
 named None w is = absurd (false≢true (sym is))
 named (Some v) w is = ap Some (eqb-true v w (sym is))
 
--- what is known of it, too
-pub known_there : (k : KnownWord) (m : Memory) (x w : ℕ) → IsKnown k → k.word ≡ Some w → HasBytes m → x < 2 ^ 32 → Some w ≡ word_of m x → k.found ≡ shaped (decoded_of (mapped_bytes 4 m x))
-known_there k m x w is named bytes small there =
-    let known = subst (λ o. IfSome o (λ v. (k.found ≡ shaped (decoded_of (bytes_of_word v))) × IfOk k.found (λ it. IsShape it.0))) named is in
-    known.0 ∙ same_there m x w bytes small there
+-- what bytes do is known of the word that they are
+pub known_of : (word : Option ℕ) (found : Result (Shape × ℕ) Cause) (bytes : List ℕ) → IfSome word (λ w. bytes_of_word w ≡ bytes) → Does found bytes → IfSome word (λ w. Does found (bytes_of_word w))
+known_of None found bytes is does = tt
+known_of (Some w) found bytes is does = subst (λ bs. Does found bs) (sym is) does
+
+-- what is put at a place stands there
+pub put_stands : (words : List KnownWord) (place : ℕ) (k : KnownWord) (bytes : List ℕ) → place < length words → Does k.found bytes → StandsAt (set words place k) place bytes
+put_stands words place k bytes within does behind = subst (λ (it : KnownWord). Does it.found bytes) (sym (get_or-set_at words place place k behind refl within)) does
+
+-- the word at an address is known at a place, so what the bytes there do stands at it
+pub known_there : (words : List KnownWord) (place : ℕ) (d : KnownWord) (m : Memory) (x w : ℕ) → All IsKnown words → place < length words → (get_or words place d).word ≡ Some w → HasBytes m → x < 2 ^ 32 →
+    Some w ≡ word_of m x → StandsAt words place (mapped_bytes 4 m x)
+known_there words place d m x w known within is bytes small there behind =
+    let k = get_or words place d in
+    let does = subst (λ o. IfSome o (λ v. Does k.found (bytes_of_word v))) is (known place d within) in
+    subst (λ (it : KnownWord). Does it.found (mapped_bytes 4 m x)) (get_or_default words place d behind within)
+    (subst (λ bs. Does k.found bs) (mapped_word m x w bytes small there) does)

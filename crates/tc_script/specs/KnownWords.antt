@@ -1,11 +1,21 @@
 -- What is known of a word of code.
-use Rattle.std.specs.Prelude.{◌≡◌, IfSome, IfOk}
+use Rattle.std.specs.Prelude.{◌≡◌, ℕ, List, Result, IfSome, IfOk, slice_index_or}
 use Rattle.tcd_base.specs.Bytes.{bytes_of_word}
 use Rattle.tc_isa.specs.Bounded.{IsShape}
+use Rattle.tc_isa.specs.declared.shapes.Shape.{Shape}
+use Rattle.tc_machine.specs.declared.events.Cause.{Cause}
 use Rattle.tc_encode.specs.Decoding.{decoded_of}
 use Rattle.tc_machine.specs.Fetching.{shaped}
 use Rattle.tc_script.specs.declared.known_words.KnownWord.{KnownWord}
 
--- where a word is named, this is what its four bytes do, and the shape's registers and numbers are such
+-- this is what these bytes do, and the shape's registers and numbers are such
+abbrev pub Does : Result (Shape × ℕ) Cause → List ℕ → Type 0
+Does found bytes = (found ≡ shaped (decoded_of bytes)) × IfOk found (λ it. IsShape it.0)
+
+-- where a word is named, this is what its four bytes do
 abbrev pub IsKnown : KnownWord → Type 0
-IsKnown k = IfSome k.word (λ w. (k.found ≡ shaped (decoded_of (bytes_of_word w))) × IfOk k.found (λ it. IsShape it.0))
+IsKnown k = IfSome k.word (λ w. Does k.found (bytes_of_word w))
+
+-- at a place of a table stands what these bytes do, whatever is read behind the table's end
+abbrev pub StandsAt : List KnownWord → ℕ → List ℕ → Type 0
+StandsAt words place bytes = (behind : KnownWord) → Does (slice_index_or words place behind).found bytes

@@ -107,10 +107,11 @@ pub fn drive<F: Fn(u32, u32) -> u32>(
         if !is_running(m) {
             return done;
         }
-        let found = words.shape_at_pc(m);
-        let event = event(ports, m, &found, script.turn(t), t);
-        let effect = effect_of_event(m, &event, &found, areas);
-        m.step_by(&event, found);
+        let place = words.place_at_pc(m);
+        let found = &words.words[place].found;
+        let event = event(ports, m, found, script.turn(t), t);
+        let effect = effect_of_event(m, &event, found, areas);
+        m.step_by(&event, *found);
         used_after(m, &mut areas, effect);
         done = Peak {
             events: t + 1,

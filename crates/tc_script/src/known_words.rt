@@ -1,32 +1,48 @@
 // What words of code do, kept from event to event.
-ghost use Rattle.std.specs.Prelude.{◌≡◌, ◌<◌, All, IfOk};
-ghost use Rattle.tc_isa.specs.Bounded.{IsShape};
-ghost use Rattle.tc_encode.specs.Decoding.{decoded_of};
-ghost use Rattle.tc_machine.specs.Fetching.{mapped_bytes, shaped};
-ghost use Rattle.tc_script.specs.KnownWords.{IsKnown};
+ghost use Rattle.std.specs.Prelude.{◌≡◌, ◌<◌, All, IfSome};
+ghost use Rattle.tcd_base.specs.Bytes.{bytes_of_word};
+ghost use Rattle.tc_machine.specs.Fetching.{mapped_bytes};
+ghost use Rattle.tc_script.specs.KnownWords.{IsKnown, StandsAt};
 
-use tc_isa::Shape;
+use tc_isa::{Arg, Op, Shape};
 use tc_machine::{Cause, Machine};
 
-/// A word, and what its four bytes do; with no word it says nothing.
+/// A word, and what its four bytes do; with no word it says nothing of any.
 #[derive(Clone, Copy)]
 pub(crate) struct KnownWord {
     pub word: Option<u32>,
     pub found: Result<(Shape, u32), Cause>,
 }
 
-/// Words that were met lately, each at a place that its address gives; one that is met later takes the place of one
+/// Words that were met lately, each at a place that it gives itself; one that is met later takes the place of one
 /// before it.
 #[derive(Drop)]
 pub(crate) struct KnownWords {
-    pub words: [KnownWord; 256],
+    pub words: [KnownWord; 1024],
 }
 
-/// The place of the word at an address: the highest eight bits of the address's product with an odd number.
-fn place_of(addr: u32) -> usize
-    ensures { result < 256 }
+/// The place of a word: the highest ten bits of its product with 2^32 by the golden ratio, which tells words that differ
+/// by equal steps apart.
+fn place_of(word: u32) -> usize
+    ensures { result < 1024 }
 {
-    (addr.wrapping_mul(0x9E37_79B1) / 0x100_0000) as usize
+    (word.wrapping_mul(0x9E37_79B9) / 0x40_0000) as usize
+}
+
+/// No word. All of it is zeros, so that a table of it is filled at once.
+fn no_word() -> KnownWord
+    ensures { IsKnown result }
+{
+    let shape = Shape::Compute {
+        op: Op::Second,
+        dst: 0,
+        x: Arg::Reg(0),
+        y: Arg::Reg(0),
+    };
+    KnownWord {
+        word: None,
+        found: Ok((shape, 0)),
+    }
 }
 
 impl KnownWords {
@@ -34,34 +50,41 @@ impl KnownWords {
     pub(crate) fn new() -> KnownWords
         ensures { All IsKnown result.words }
     {
-        let none = KnownWord {
-            word: None,
-            found: Err(Cause::NoCode),
-        };
-        KnownWords { words: [none; 256] }
+        KnownWords {
+            words: [no_word(); 1024],
+        }
     }
 
-    /// What the bytes at pc do, and how many bytes that instruction has: as it is known of the word there, else decoded,
-    /// and known from then on.
-    pub(crate) fn shape_at_pc(&mut self, m: &Machine) -> Result<(Shape, u32), Cause>
-        requires { All IsKnown self.old.words }
+    /// Puts what the bytes at pc do at a place, as known of the word that they are, or of none.
+    #[inline(never)]
+    fn learn(&mut self, m: &Machine, place: usize, word: Option<u32>)
+        requires place { place < 1024 }
+        requires known { All IsKnown self.old.words }
+        requires word { IfSome word (λ w. bytes_of_word w ≡ mapped_bytes 4 m.now.mem m.now.pc) }
         ensures known { All IsKnown self.new.words }
-        ensures shape { result ≡ shaped (decoded_of (mapped_bytes 4 m.now.mem m.now.pc)) }
-        ensures bounded { IfOk result (λ it. IsShape it.0) }
+        ensures stands { StandsAt self.new.words place (mapped_bytes 4 m.now.mem m.now.pc) }
+    {
+        let found = m.shape_at_pc();
+        self.words[place] = KnownWord { word, found };
+    }
+
+    /// The place at which stands what the bytes at pc do, and how many bytes that instruction has: as it is known of the
+    /// word there, else decoded, and known from then on.
+    pub(crate) fn place_at_pc(&mut self, m: &Machine) -> usize
+        requires { All IsKnown self.old.words }
+        ensures place { result < 1024 }
+        ensures known { All IsKnown self.new.words }
+        ensures stands { StandsAt self.new.words result (mapped_bytes 4 m.now.mem m.now.pc) }
     {
         let Some(word) = m.mem.word(m.pc) else {
-            return m.shape_at_pc();
+            self.learn(m, 0, None);
+            return 0;
         };
-        let place = place_of(m.pc);
-        let known = self.words[place];
-        if known.word == Some(word) {
-            return known.found;
+        let place = place_of(word);
+        if self.words[place].word == Some(word) {
+            return place;
         }
-        let found = m.shape_at_pc();
-        self.words[place] = KnownWord {
-            word: Some(word),
-            found,
-        };
-        found
+        self.learn(m, place, Some(word));
+        place
     }
 }

@@ -33,7 +33,7 @@ loop-t-preserved g c =
           (fits_event plan answers c.loop-t.t turn m e running event c.requires.bounded source early c.event-event.ensures.word) c.step_by.ensures refl
           (c.max.ensures ∙ ap (λ n. max c.loop-t.done.peak n) c.used_after.ensures.count);
       areas = c.used_after.ensures;
-      words = c.shape_at_pc-found.ensures.known;
+      words = c.place_at_pc-place.ensures.known;
     }
 
 pub returns : goal.returns
