@@ -423,6 +423,7 @@ fn bootgen_command<'a>(plan: &'a str, entry: &str, at: &str, source: &'a str) ->
 
 impl<'a> Command<'a> {
     /// Reads the inputs of the command, and comes to its outcome.
+    // None of the commands is put into this function, so that the stack holds the room of one of them.
     pub(crate) fn outcome<F: Files>(self, alloc: Global, files: &mut F) -> Outcome
         requires { KeepsLimits self }
         ensures { Comes (reading_of (asked self.entry)) (F.seen files.old) (F.seen files.new)

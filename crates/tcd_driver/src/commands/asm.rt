@@ -9,6 +9,7 @@ use tcd_forms::{SourceFile, assembled_line};
 use tcd_reading::{Outcome, read_input, report_file};
 
 /// Reads a source, and makes its object.
+#[inline(never)]
 pub(crate) fn assemble_file<F: Files>(
     alloc: Global,
     source: &str,

@@ -14,6 +14,7 @@ use tcd_plan::Plan;
 use tcd_reading::{Outcome, Status, read_input, report};
 
 /// Reads the three files, and tells whether the certificate is accepted and the boot sequence stands at an address.
+#[inline(never)]
 pub(crate) fn boot_files<F: Files>(
     alloc: Global,
     elf: &str,

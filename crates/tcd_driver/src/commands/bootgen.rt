@@ -11,6 +11,7 @@ use tcd_plan::Plan;
 use tcd_reading::{Outcome, read_input, report_file};
 
 /// Reads a plan, and makes the source of the boot sequence of an entry at an address.
+#[inline(never)]
 pub(crate) fn generate_boot<F: Files>(
     alloc: Global,
     plan: &str,

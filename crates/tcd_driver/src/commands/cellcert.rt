@@ -18,6 +18,7 @@ use tcd_reading::{Outcome, Status, read_input, report, report_file};
 use value_cells::{Cells, cells_fault, with_cells};
 
 /// Reads an executable, a plan and its cells, and makes their certificate.
+#[inline(never)]
 pub(crate) fn certify_cells<F: Files>(
     alloc: Global,
     elf: &str,

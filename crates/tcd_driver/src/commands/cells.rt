@@ -16,6 +16,7 @@ use value_cells::{Cells, cells_fault, with_cells};
 
 /// Reads the four files, and tells whether the certificate is accepted under the plan in which the cells are devices, and keeps
 /// the cells.
+#[inline(never)]
 pub(crate) fn check_cells<F: Files>(
     alloc: Global,
     elf: &str,

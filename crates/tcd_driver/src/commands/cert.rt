@@ -11,6 +11,7 @@ use tcd_plan::Plan;
 use tcd_reading::{Outcome, Status, read_input, report, report_file};
 
 /// Reads an executable and a plan, and makes their certificate.
+#[inline(never)]
 pub(crate) fn certify_files<F: Files>(
     alloc: Global,
     elf: &str,

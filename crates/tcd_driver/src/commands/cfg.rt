@@ -14,6 +14,7 @@ use tcd_reading::{Outcome, Status, read_input, report};
 use tcd_report::graph;
 
 /// Reads an executable and a plan, and draws the graph of their certificate.
+#[inline(never)]
 pub(crate) fn draw_files<F: Files>(alloc: Global, elf: &str, plan: &str, files: &mut F) -> Outcome
     ensures { Comes (cfg_reading (record { elf = elf.now; plan = plan.now }))
         (F.seen files.old) (F.seen files.new) result }

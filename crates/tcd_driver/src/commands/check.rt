@@ -12,6 +12,7 @@ use tcd_plan::Plan;
 use tcd_reading::{Outcome, Status, read_input, report};
 
 /// Reads the three files, and tells whether the certificate is accepted.
+#[inline(never)]
 pub(crate) fn check_files<F: Files>(
     alloc: Global,
     elf: &str,

@@ -10,6 +10,7 @@ use tcd_forms::ElfFile;
 use tcd_reading::{Outcome, Status, read_input};
 
 /// Reads an executable, and tells its listing.
+#[inline(never)]
 pub(crate) fn list_file<F: Files>(alloc: Global, elf: &str, files: &mut F) -> Outcome
     ensures { Comes (dis_reading elf.now) (F.seen files.old) (F.seen files.new) result }
 {

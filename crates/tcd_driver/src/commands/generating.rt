@@ -17,6 +17,7 @@ use tcd_plan::Plan;
 use tcd_reading::{Outcome, Status, report};
 
 /// Generates the image of so many functions and its plan, and makes their certificate.
+#[inline(never)]
 pub(crate) fn generate_image(alloc: Global, functions: u32) -> Outcome
     requires { (1 ≤ functions) × (functions ≤ 500) }
     ensures { IsTold (IsSummary functions (generated_image functions) generated_plan) ⊥ result }

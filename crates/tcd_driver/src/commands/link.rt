@@ -16,6 +16,7 @@ use tcd_forms::{LayoutFile, ObjectFile, link_line, linked_line};
 use tcd_reading::{Outcome, Status, read_input, report, report_file};
 
 /// Reads a layout and objects, and makes the image of the objects that are laid out this way.
+#[inline(never)]
 pub(crate) fn link_files<F: Files>(
     alloc: Global,
     layout: &str,

@@ -15,6 +15,7 @@ use tcd_plan::Plan;
 use tcd_reading::{Outcome, Status, read_input, report};
 
 /// Reads the three files, and tells the certificate's report, where it is accepted.
+#[inline(never)]
 pub(crate) fn report_files<F: Files>(
     alloc: Global,
     elf: &str,

@@ -13,6 +13,7 @@ use tcd_plan::Plan;
 use tcd_reading::{Outcome, Status, read_input, report};
 
 /// Reads the three files, drives the machine by the script, and tells what it came to.
+#[inline(never)]
 pub(crate) fn run_files<F: Files>(
     alloc: Global,
     elf: &str,

@@ -26,6 +26,7 @@ pub(crate) struct Shipment<'a> {
 }
 
 /// Reads a plan, a layout and sources, and makes their image and its certificate.
+#[inline(never)]
 pub(crate) fn ship_files<F: Files>(alloc: Global, names: &Shipment<'_>, files: &mut F) -> Outcome
     requires { length names.now.sources.now ≤ 65535 }
     ensures { Comes (ship_reading (ship_names names.now)) (F.seen files.old) (F.seen files.new)

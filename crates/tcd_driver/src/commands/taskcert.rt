@@ -43,6 +43,7 @@ pub(crate) enum TasksMaking {
 }
 
 /// Reads an executable, a plan and its tasks, and makes a certificate for each task.
+#[inline(never)]
 pub(crate) fn certify_tasks<F: Files>(
     alloc: Global,
     elf: &str,

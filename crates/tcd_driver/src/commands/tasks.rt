@@ -36,6 +36,7 @@ pub(crate) enum Tally {
 }
 
 /// Reads an executable, a plan, its tasks and a certificate for each, and tells whether all runs of the tasks are certified.
+#[inline(never)]
 pub(crate) fn check_tasks<F: Files>(
     alloc: Global,
     elf: &str,
