@@ -73,37 +73,6 @@ MayAccess-at b plan s shape at t e is =
 pub ruled_out : {P : Type 0} (t : Bool) → IsTrue t ↔ P → t ≡ false → P → ⊥
 ruled_out t is off h = let on : t ≡ true = is.1 h in cc
 
--- a rule fails, and each part of a lower rule holds
-pub broken : (b : Limits) (plan : PlanData) (key : Key) (p : ℕ) (s : State) (shape : Shape) (r : ℕ) → (LocalRule b plan key p s shape r → ⊥) →
-    (5 < r → KnowsTargets plan s p shape) → (6 < r → MayReturn key s shape) → (7 < r → MayReturnFromException key s shape) → (8 < r → HasRoom b shape s) →
-    (9 < r → StoresInRange b plan s shape) → (10 < r → MayAccess b plan s shape) → (12 < r → MayCallSystem plan shape) → (13 < r → WritesNoFixedRegister shape) → IsLeastBroken b plan key p s shape (Some r)
-broken b plan key p s shape r fails targets returns exceptions room stores accesses system writes = (
-  fails,
-  λ q lt. record {
-    targets = λ e. targets (omega arith);
-    returns = λ e. returns (omega arith);
-    exceptions = λ e. exceptions (omega arith);
-    room = λ e. room (omega arith);
-    stores = λ e. stores (omega arith);
-    accesses = λ e. accesses (omega arith);
-    system = λ e. system (omega arith);
-    writes = λ e. writes (omega arith);
-  },
-)
-
--- rule 9 or 10 fails, and each lower rule holds
-pub access_broken : (b : Limits) (plan : PlanData) (key : Key) (p : ℕ) (s : State) (shape : Shape) (r : ℕ) → IsAccessFault b plan s shape (Some r) →
-    KnowsTargets plan s p shape → MayReturn key s shape → MayReturnFromException key s shape → HasRoom b shape s → IsLeastBroken b plan key p s shape (Some r)
-access_broken b plan key p s shape r fault targets returns exceptions room =
-    elim fault [
-      | inl nine ↦ subst (λ (n : ℕ). IsLeastBroken b plan key p s shape (Some n)) (sym nine.0)
-          (broken b plan key p s shape 9 (λ rule. nine.1 (rule.stores refl)) (λ lt. targets) (λ lt. returns) (λ lt. exceptions) (λ lt. room)
-          (λ lt. absurd (omega arith)) (λ lt. absurd (omega arith)) (λ lt. absurd (omega arith)) (λ lt. absurd (omega arith)))
-      | inr ten ↦ subst (λ (n : ℕ). IsLeastBroken b plan key p s shape (Some n)) (sym ten.0)
-          (broken b plan key p s shape 10 (λ rule. ten.2 (rule.accesses refl)) (λ lt. targets) (λ lt. returns) (λ lt. exceptions) (λ lt. room)
-          (λ lt. ten.1) (λ lt. absurd (omega arith)) (λ lt. absurd (omega arith)) (λ lt. absurd (omega arith)))
-    ]
-
 -- ---- at an address
 -- what holds for the shape found there holds
 pub LocalHolds-found : (b : Limits) (image : ImageData) (plan : PlanData) (key : Key) (p : ℕ) (s : State) (shape : Shape) (n r : ℕ) → IsCode image plan p shape n → LocalRule b plan key p s shape r → LocalHolds b image plan key p s r

@@ -1,5 +1,5 @@
 -- What the step over an instruction needs of what was loaded.
-use Rattle.std.proofs.Common.{◌≡◌, ℕ, Bool, refl}
+use Rattle.std.proofs.Common.{◌≡◌, ℕ, Bool, refl, sym, subst}
 use Rattle.elf_image.specs.Images.{ImageData}
 use Rattle.tcd_plan.specs.PlanData.{PlanData}
 use Rattle.tc_isa.specs.declared.shapes.Arg.{Arg}
@@ -79,3 +79,8 @@ any_loaded b image p s (Syscall tin) other = refl
 any_loaded b image p s (Mfcr dst number) other = refl
 any_loaded b image p s (Mtcr src number) other = refl
 any_loaded b image p s Nothing other = refl
+
+-- an instruction that changes nothing keeps the state
+pub nothing_keeps : (b : Limits) (image : ImageData) (p : PlanData) (s : State) (shape : Shape) → shape ≡ Nothing → s ≡ transfer_of b p shape s (loaded_at b image p s shape)
+unfolding transfer_of
+nothing_keeps b image p s shape is = subst (λ (x : Shape). s ≡ transfer_of b p x s (loaded_at b image p s x)) (sym is) refl

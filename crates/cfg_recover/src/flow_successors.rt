@@ -16,12 +16,13 @@ use crate::Jump;
 use crate::built_states::{changed_state, refine};
 use crate::flow_targets::{one, targets};
 use crate::inst_at::InstAt;
+use arrayvec::ArrayVec;
 use elf_image::Image;
 use store_ranges::load_of;
 use tc_isa::{Inst, Shape, shape};
 use tcd_plan::Plan;
 use value_domain::{Bounds, State, Val, write_any};
-use vd_transfer::{Change, change_of, unchanged, write_address};
+use vd_transfer::{Base, Change, change_of, unchanged, write_address};
 
 /// Where the instruction may go on in its frame, without what follows a call or a system call.
 pub(crate) fn successors(
@@ -105,6 +106,25 @@ fn write_loaded(b: &Bounds, image: &Image, plan: &Plan, shape: Shape, at: &Val, 
     }
 }
 
+/// Keeps all of a state. Where it has no locals, as mostly, none are copied.
+#[inline(always)]
+fn keep_all(s: &State, c: &mut Change)
+    ensures { state_after s.now c.new ≡ s.now }
+{
+    if !s.locals.is_empty() {
+        c.keep(s);
+        return;
+    }
+    c.base = Base::Same;
+    c.first.at = None;
+    c.second.at = None;
+    c.third.at = None;
+    c.ie = s.ie;
+    c.ccpn = s.ccpn;
+    c.lower = s.lower;
+    c.locals = ArrayVec::new();
+}
+
 /// What the step over an instruction of this shape makes of the state, where it stays in its frame and isn't a branch or a
 /// jump, written into `c`, whatever that was. There is room where it saves a lower context, and one to restore where it
 /// restores one.
@@ -118,6 +138,7 @@ pub fn step_change(b: &Bounds, image: &Image, plan: &Plan, shape: Shape, s: &Sta
     ensures values { AreValues b.now (state_after s.now c.new).regs }
 {
     match shape {
+        Shape::Nothing => keep_all(s, c),
         Shape::Load { .. } => {
             write_address(b, plan, shape, s, &mut c.second.value);
             write_loaded(b, image, plan, shape, &c.second.value, &mut c.third.value);

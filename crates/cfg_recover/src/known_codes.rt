@@ -82,6 +82,7 @@ fn decoded_at(image: &Image, plan: &Plan, addr: u32) -> Option<Located>
 
 impl KnownCodes {
     /// Nothing is known but what 00 00 is.
+    #[inline(never)]
     pub fn new() -> KnownCodes {
         KnownCodes {
             codes: [known_code(0); 256],
@@ -89,6 +90,7 @@ impl KnownCodes {
     }
 
     /// What stands at an address: as it is known of the word there, else decoded, and known from then on.
+    #[inline(always)]
     pub fn located(&mut self, image: &Image, plan: &Plan, addr: u32) -> Option<Located>
         ensures code { LocatesCode image.now plan.now addr result }
         ensures shape { IfSome result (λ found. IsShape found.shape) }

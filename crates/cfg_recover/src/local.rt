@@ -1,5 +1,5 @@
 // The first rule whose own part fails at a point.
-ghost use Rattle.std.specs.Prelude.{ℕ, IfErr, IfOk, IfSome, MatchResult};
+ghost use Rattle.std.specs.Prelude.{◌≡◌, ℕ, IfErr, IfOk, IfSome, MatchResult, None, Some, if◌then◌else◌};
 ghost use Rattle.elf_image.specs.Images.{ImageData};
 ghost use Rattle.tc_isa.specs.Bounded.{IsShape};
 ghost use Rattle.tc_isa.specs.Shapes.{shape_of};
@@ -11,8 +11,8 @@ ghost use Rattle.cfg_recover.specs.LocalFaults.{IsLeastBroken, IsAccessFault, Fi
 
 use crate::code::code_at;
 use crate::local_rules::{
-    has_room, knows_targets, may_access, may_call_system, may_return, may_return_from_exception,
-    stores_in_range, writes_no_fixed_register,
+    has_base_value, has_value, knows_target, loads_into_values, lowers_a_value, may_access,
+    may_call_system, may_restore, may_return, may_return_from_exception, may_save, stores_in_range,
 };
 use depth_cert::Key;
 use elf_image::Image;
@@ -45,7 +45,7 @@ pub fn local_check(
         return Err(3);
     };
     let shape = shape(&found.0);
-    match first_fault(b, plan, key, s, shape) {
+    match first_fault(b, plan, key, s, &shape) {
         Some(rule) => Err(rule),
         None => Ok(Located {
             shape,
@@ -55,24 +55,24 @@ pub fn local_check(
 }
 
 /// The same for what stands at a point, found before, whichever image and address that is.
-pub fn check_located(
+pub fn check_located<'a>(
     b: &Bounds,
     plan: &Plan,
     key: &Key,
     s: &State,
-    located: Option<Located>,
-) -> Result<Located, u8>
+    located: &'a Option<Located>,
+) -> Result<&'a Located, u8>
     requires values { AreValues b.now s.now.regs }
-    requires shape { IfSome located (λ found. IsShape found.shape) }
-    ensures found { (image : ImageData) (p : ℕ) → LocatesCode image plan.now p located
-        → IfOk result (StandsFaultless b.now image plan.now key.now p s.now) }
-    ensures fault { (image : ImageData) (p : ℕ) → LocatesCode image plan.now p located
+    requires shape { IfSome located.now (λ found. IsShape found.shape) }
+    ensures found { (image : ImageData) (p : ℕ) → LocatesCode image plan.now p located.now
+        → IfOk result (λ found. StandsFaultless b.now image plan.now key.now p s.now found.now) }
+    ensures fault { (image : ImageData) (p : ℕ) → LocatesCode image plan.now p located.now
         → IfErr result (IsLocalFault b.now image plan.now key.now p s.now) }
 {
     let Some(found) = located else {
         return Err(3);
     };
-    match first_fault(b, plan, key, s, found.shape) {
+    match first_fault(b, plan, key, s, &found.shape) {
         Some(rule) => Err(rule),
         None => Ok(found),
     }
@@ -106,7 +106,15 @@ pub(crate) fn local_fault(b: &Bounds, plan: &Plan, key: &Key, s: &State, inst: &
     requires { AreValues b.now s.now.regs }
     ensures { (p : ℕ) → IsLeastBroken b.now plan.now key.now p s.now (shape_of inst.now) result }
 {
-    first_fault(b, plan, key, s, shape(inst))
+    first_fault(b, plan, key, s, &shape(inst))
+}
+
+/// The rule, unless what it asks holds.
+#[inline(always)]
+fn unless(holds: bool, rule: u8) -> Option<u8>
+    ensures { result ≡ (if holds then None else Some rule) }
+{
+    if holds { None } else { Some(rule) }
 }
 
 /// Tries rules 9 and 10 in this order, for an access. The address is worked out here, so that where there is no access no
@@ -127,45 +135,42 @@ fn broken_by_access(b: &Bounds, plan: &Plan, s: &State, shape: Shape) -> Option<
     None
 }
 
-/// The same for any shape.
-fn access_fault(b: &Bounds, plan: &Plan, s: &State, shape: Shape) -> Option<u8>
-    requires shape { IsShape shape }
+/// The least rule that fails, for an instruction of this shape. Its shape tells which rule may fail: for a store three may, for a
+/// load two, for any other one at most.
+fn first_fault(b: &Bounds, plan: &Plan, key: &Key, s: &State, shape: &Shape) -> Option<u8>
+    requires shape { IsShape shape.now }
     requires values { AreValues b.now s.now.regs }
-    ensures { IsAccessFault b.now plan.now s.now shape result }
+    ensures { (p : ℕ) → IsLeastBroken b.now plan.now key.now p s.now shape.now result }
 {
-    match shape {
-        Shape::Load { .. } => broken_by_access(b, plan, s, shape),
-        Shape::Store { .. } => broken_by_access(b, plan, s, shape),
-        _ => None,
+    match *shape {
+        Shape::Compute { dst, .. } => unless(has_value(dst), 13),
+        Shape::Scaled { dst, .. } => unless(has_value(dst), 13),
+        Shape::Load {
+            dst,
+            base,
+            after,
+            ..
+        } => {
+            let loading = broken_by_access(b, plan, s, *shape);
+            loading.or(unless(loads_into_values(dst, base, after), 13))
+        }
+        Shape::Store { base, after, .. } => {
+            let storing = broken_by_access(b, plan, s, *shape);
+            storing.or(unless(has_base_value(base, after), 13))
+        }
+        Shape::Branch { x, lowers, .. } => unless(lowers_a_value(x, lowers), 13),
+        Shape::Jump { to } => unless(knows_target(plan, s, to), 5),
+        Shape::Call { to } => unless(knows_target(plan, s, to), 5),
+        Shape::Ret => unless(may_return(key, s), 6),
+        Shape::Rfe => unless(may_return_from_exception(key, s), 7),
+        Shape::Svlcx => unless(may_save(b, s), 8),
+        Shape::Rslcx => unless(may_restore(s), 8),
+        Shape::Bisr { .. } => unless(may_save(b, s), 8),
+        Shape::Enable => None,
+        Shape::Disable => None,
+        Shape::Syscall { .. } => unless(may_call_system(plan), 12),
+        Shape::Mfcr { dst, .. } => unless(has_value(dst), 13),
+        Shape::Mtcr { .. } => Some(13),
+        Shape::Nothing => None,
     }
-}
-
-/// Tries the rules in their order, for an instruction of this shape.
-fn first_fault(b: &Bounds, plan: &Plan, key: &Key, s: &State, shape: Shape) -> Option<u8>
-    requires shape { IsShape shape }
-    requires values { AreValues b.now s.now.regs }
-    ensures { (p : ℕ) → IsLeastBroken b.now plan.now key.now p s.now shape result }
-{
-    if !knows_targets(plan, s, shape) {
-        return Some(5);
-    }
-    if !may_return(key, s, shape) {
-        return Some(6);
-    }
-    if !may_return_from_exception(key, s, shape) {
-        return Some(7);
-    }
-    if !has_room(b, s, shape) {
-        return Some(8);
-    }
-    if let Some(rule) = access_fault(b, plan, s, shape) {
-        return Some(rule);
-    }
-    if !may_call_system(plan, shape) {
-        return Some(12);
-    }
-    if !writes_no_fixed_register(shape) {
-        return Some(13);
-    }
-    None
 }

@@ -1,10 +1,10 @@
-// The own parts of rules at an instruction, each by the instruction's shape.
-ghost use Rattle.std.specs.Prelude.{◌≡◌, ◌⊎◌, ◌↔◌, ℕ, true, length, IsTrue, IsSome};
+// The own parts of rules at an instruction, each where the instruction's shape lets it fail.
+ghost use Rattle.std.specs.Prelude.{◌≡◌, ◌<◌, ◌≤◌, ◌⊎◌, ◌↔◌, ℕ, true, length, IsTrue, IsSome};
 ghost use Rattle.tc_isa.specs.Bounded.{IsShape, IsSize, IsTarget};
+ghost use Rattle.tc_isa.specs.declared.shapes.Shape.TheVariants.{Ret, Rfe};
 ghost use Rattle.value_domain.specs.Values.{IsWell};
-ghost use Rattle.vd_transfer.specs.Effects.{HasRoom};
-ghost use Rattle.vd_transfer.specs.Holding.{HasValue, HasBaseValue, WritesNoFixedRegister};
-ghost use Rattle.cfg_recover.specs.Local.{are_aligned, named_by, targets_of, KnowsTargets, MayReturn, MayReturnFromException, MayCallSystem};
+ghost use Rattle.vd_transfer.specs.Holding.{HasValue, HasBaseValue};
+ghost use Rattle.cfg_recover.specs.Local.{are_aligned, named_by, targets_of, MayReturn, MayReturnFromException};
 ghost use Rattle.cfg_recover.specs.LocalFaults.{StoresInRangeAt, MayAccessAt};
 
 use depth_cert::Key;
@@ -15,17 +15,7 @@ use value_domain::{Bounds, State, Val};
 use vd_transfer::reg;
 
 /// Rule 5: where a jump or a call goes is a known list of addresses.
-pub(crate) fn knows_targets(plan: &Plan, s: &State, shape: Shape) -> bool
-    requires { IsShape shape }
-    ensures { (p : ℕ) → IsTrue result ↔ KnowsTargets plan.now s.now p shape }
-{
-    match shape {
-        Shape::Jump { to } | Shape::Call { to } => is_known(plan, s, to),
-        _ => true,
-    }
-}
-
-fn is_known(plan: &Plan, s: &State, to: Target) -> bool
+pub(crate) fn knows_target(plan: &Plan, s: &State, to: Target) -> bool
     requires { IsTarget to }
     ensures { (p : ℕ) → IsTrue result ↔ IsSome (targets_of plan.now s.now p to) }
 {
@@ -44,24 +34,18 @@ fn is_list(v: &Val) -> bool
     }
 }
 
-/// Rule 6: only a called function returns, and has restored all lower contexts.
-pub(crate) fn may_return(key: &Key, s: &State, shape: Shape) -> bool
-    ensures { IsTrue result ↔ MayReturn key.now s.now shape }
+/// Rule 6, at RET: only a called function returns, and has restored all lower contexts.
+pub(crate) fn may_return(key: &Key, s: &State) -> bool
+    ensures { IsTrue result ↔ MayReturn key.now s.now Ret }
 {
-    match shape {
-        Shape::Ret => key.kind == 1 && has_no_locals(s),
-        _ => true,
-    }
+    key.kind == 1 && has_no_locals(s)
 }
 
-/// Rule 7: only a handler returns from an exception, and has restored all lower contexts.
-pub(crate) fn may_return_from_exception(key: &Key, s: &State, shape: Shape) -> bool
-    ensures { IsTrue result ↔ MayReturnFromException key.now s.now shape }
+/// Rule 7, at RFE: only a handler returns from an exception, and has restored all lower contexts.
+pub(crate) fn may_return_from_exception(key: &Key, s: &State) -> bool
+    ensures { IsTrue result ↔ MayReturnFromException key.now s.now Rfe }
 {
-    match shape {
-        Shape::Rfe => has_no_locals(s) && is_done(key, s),
-        _ => true,
-    }
+    has_no_locals(s) && is_done(key, s)
 }
 
 fn has_no_locals(s: &State) -> bool
@@ -84,15 +68,18 @@ fn is_done(key: &Key, s: &State) -> bool
     }
 }
 
-/// Rule 8: a lower context is saved only where there is room for a local, and restored only where there is one.
-pub(crate) fn has_room(b: &Bounds, s: &State, shape: Shape) -> bool
-    ensures { IsTrue result ↔ HasRoom b.now shape s.now }
+/// Rule 8, where a lower context is saved: there is room for a local.
+pub(crate) fn may_save(b: &Bounds, s: &State) -> bool
+    ensures { IsTrue result ↔ (length s.now.locals.items < b.now.most_locals) }
 {
-    match shape {
-        Shape::Svlcx | Shape::Bisr { .. } => s.locals.len() < b.most_locals(),
-        Shape::Rslcx => 1 <= s.locals.len(),
-        _ => true,
-    }
+    s.locals.len() < b.most_locals()
+}
+
+/// Rule 8, where a lower context is restored: there is one.
+pub(crate) fn may_restore(s: &State) -> bool
+    ensures { IsTrue result ↔ (1 ≤ length s.now.locals.items) }
+{
+    1 <= s.locals.len()
 }
 
 /// Rule 9: each possible store lies wholly in one ram range or one device range, without passing 2^32.
@@ -128,37 +115,31 @@ fn is_allowed(plan: &Plan, at: &Val, size: u8) -> bool
     plan.aln || aligned(at, size)
 }
 
-/// Rule 12: the trap of system calls is stated.
-pub(crate) fn may_call_system(plan: &Plan, shape: Shape) -> bool
-    ensures { IsTrue result ↔ MayCallSystem plan.now shape }
+/// Rule 12, at SYSCALL: the trap of system calls is stated.
+pub(crate) fn may_call_system(plan: &Plan) -> bool
+    ensures { IsTrue result ↔ (plan.now.sys ≡ true) }
 {
-    match shape {
-        Shape::Syscall { .. } => plan.sys,
-        _ => true,
-    }
+    plan.sys
 }
 
-/// Rule 13: the instruction isn't MTCR, and writes none of A0, A1, A8, A9 and A11.
-pub(crate) fn writes_no_fixed_register(shape: Shape) -> bool
-    ensures { IsTrue result ↔ WritesNoFixedRegister shape }
+// Rule 13: the instruction isn't MTCR, and writes none of A0, A1, A8, A9 and A11.
+
+/// Whether a load writes only registers of which a state has values.
+pub(crate) fn loads_into_values(dst: u8, base: Arg, after: bool) -> bool
+    ensures { IsTrue result ↔ (HasValue dst × HasBaseValue base after) }
 {
-    match shape {
-        Shape::Compute { dst, .. } | Shape::Scaled { dst, .. } | Shape::Mfcr { dst, .. } =>
-            has_value(dst),
-        Shape::Load {
-            dst,
-            base,
-            after,
-            ..
-        } => has_value(dst) && has_base_value(base, after),
-        Shape::Store { base, after, .. } => has_base_value(base, after),
-        Shape::Branch { x, lowers, .. } => !lowers || has_value(x),
-        Shape::Mtcr { .. } => false,
-        _ => true,
-    }
+    has_value(dst) && has_base_value(base, after)
 }
 
-fn has_base_value(base: Arg, after: bool) -> bool
+/// Whether a state has a value for the register that a branch lowers, if it lowers one.
+pub(crate) fn lowers_a_value(x: u8, lowers: bool) -> bool
+    ensures { IsTrue result ↔ (IsTrue lowers → HasValue x) }
+{
+    !lowers || has_value(x)
+}
+
+/// Whether a state has a value for the base register, if the access increases it.
+pub(crate) fn has_base_value(base: Arg, after: bool) -> bool
     ensures { IsTrue result ↔ HasBaseValue base after }
 {
     match base {
@@ -169,7 +150,7 @@ fn has_base_value(base: Arg, after: bool) -> bool
 
 /// Whether a state has a value for the register.
 #[tactic(auto, unfolding(vd_transfer::specs::Registers::slot))]
-fn has_value(r: u8) -> bool
+pub(crate) fn has_value(r: u8) -> bool
     ensures { IsTrue result ↔ HasValue r }
 {
     r < 16 || 18 <= r && r <= 23 || r == 26 || 28 <= r && r <= 31

@@ -1,7 +1,7 @@
 use Rattle.std.proofs.Common.{ap, ◌∙◌}
 use Rattle.value_domain.specs.declared.values.Val.{Val}
 use Rattle.vd_transfer.specs.Effects.{transfer_of}
-use Rattle.cfg_recover.proofs.StepChanges.{loaded_is, writes_none}
+use Rattle.cfg_recover.proofs.StepChanges.{loaded_is, nothing_keeps, writes_none}
 use Rattle.cfg_recover.proofs.flow_successors.step_change.Goals as goal
 
 pub change_of-requires-clause-loaded : goal.change_of-requires-clause-loaded
@@ -16,3 +16,6 @@ returns-in-Load-clause-change c =
 pub returns-in_default-clause-change : goal.returns-in_default-clause-change
 returns-in_default-clause-change c =
     c.change_of-in_default.ensures.change ∙ writes_none c.args.b.now c.args.plan.now c.args.s.now c.args.shape _ _ c.in_default.not-Load
+
+pub returns-in-Nothing-clause-change : goal.returns-in-Nothing-clause-change
+returns-in-Nothing-clause-change c = c.keep_all.ensures ∙ nothing_keeps c.args.b.now c.args.image.now c.args.plan.now c.args.s.now c.args.shape c.in-Nothing.is
