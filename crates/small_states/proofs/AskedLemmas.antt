@@ -1,14 +1,18 @@
 -- Values that duties ask for.
-use Rattle.std.proofs.Common.{◌≡◌, ℕ, Bool, true, false, Option, Some, None, List, length, nat_eq, take, drop, refl, subst, sym, ap, ◌∙◌, arith}
+use Rattle.std.proofs.Common.{◌≡◌, ℕ, Bool, true, false, Option, Some, None, List, length, nat_eq, ◌+◌, ◌-◌, ◌++◌, ◌<◌, ◌≤◌, get_or, take, drop, refl, subst, sym, ap, ◌∙◌, arith}
 use Rattle.std.specs.Prelude.{if◌then◌else◌}
 use Rattle.std.specs.Option.{option_eq}
-use Rattle.std.proofs.lemmas.Bool.{eq-eqb, eqb-true}
-use Rattle.std.proofs.lemmas.List.{length-append, length-take-le, length-drop}
+use Rattle.std.proofs.lemmas.Bool.{eq-eqb, eqb-true, le-leb, le-ltb, lt-leb, lt-ltb}
+use Rattle.std.proofs.lemmas.List.{length-append, length-take-le, length-drop, take_all}
 use Rattle.value_domain.specs.declared.values.Val.{Val}
 use Rattle.value_domain.specs.Limits.{Limits}
 use Rattle.value_domain.specs.State.{AreWell, AreValues}
-use Rattle.depth_cert.specs.Exits.{lower_values}
+use Rattle.value_domain.specs.Values.{any_val}
+use Rattle.depth_cert.specs.Exits.{lower_values, with_lower_from}
+use Rattle.depth_cert.proofs.ExitValues.{after-at, lower_high, lower_low, with_lower_length}
 use Rattle.depth_cert.specs.Known.{Known, state, leaving}
+use Rattle.small_states.specs.Wholes.{values_from}
+use Rattle.small_states.proofs.SparseLemmas.{part_joins}
 use Rattle.small_states.specs.Kept.{asked_for, exit_with, is_exit, known_by, state_with, values_asked}
 use Rattle.small_states.specs.declared.asked.Asked.{Asked}
 use Rattle.small_states.specs.declared.asked.Context.{Context}
@@ -49,3 +53,49 @@ other_place at i e is =
     let same : nat_eq i i ≡ true = eq-eqb i i refl in
     let none : nat_eq i i ≡ false = subst (λ (a : Option ℕ). option_eq nat_eq a (Some i) ≡ false) is e in
     cc
+
+-- ---- the values after a frame came back
+module _ (lower regs : List Val) (i : ℕ) (lt : i < length regs) where
+  pub after_low : i < 8 → get_or (with_lower_from 0 lower regs) i any_val ≡ get_or lower i any_val
+  after_low h = after-at lower regs i lt ∙ (let e = lt-ltb i 8 h in rw e refl)
+
+  pub after_high : 16 ≤ i → i < 22 → get_or (with_lower_from 0 lower regs) i any_val ≡ get_or lower (i - 8) any_val
+  after_high h k =
+      after-at lower regs i lt ∙ (let e = le-ltb i 8 (omega arith) in let f = le-leb 16 i h in let g = lt-ltb i 22 k in rw (e, f, g) refl)
+
+  pub after_middle : 8 ≤ i → i < 16 → get_or (with_lower_from 0 lower regs) i any_val ≡ get_or regs i any_val
+  after_middle h k = after-at lower regs i lt ∙ (let e = le-ltb i 8 h in let f = lt-leb 16 i k in rw (e, f) refl)
+
+  pub after_last : 22 ≤ i → get_or (with_lower_from 0 lower regs) i any_val ≡ get_or regs i any_val
+  after_last h =
+      after-at lower regs i lt ∙ (let e = le-ltb i 8 (omega arith) in let f = le-leb 16 i (omega arith) in let g = le-ltb i 22 h in rw (e, f, g) refl)
+
+-- ---- by parts
+pub after_parts : (lower regs : List Val) → length regs ≡ 27
+    → ((values_from lower 0 8 ++ values_from regs 8 8) ++ values_from lower 8 6) ++ values_from regs 22 5 ≡ with_lower_from 0 lower regs
+after_parts lower regs long =
+    let ws = with_lower_from 0 lower regs in
+    let len : length ws ≡ 27 = with_lower_length lower regs ∙ long in
+    ap (λ (l : List Val). ((l ++ values_from regs 8 8) ++ values_from lower 8 6) ++ values_from regs 22 5)
+    (part_joins ws lower 0 0 8 (omega arith) (λ r h. after_low lower regs (0 + r) (omega arith) (omega arith)))
+    ∙ ap (λ (l : List Val). (l ++ values_from lower 8 6) ++ values_from regs 22 5)
+    (part_joins ws regs 8 8 8 (omega arith) (λ r h. after_middle lower regs (8 + r) (omega arith) (omega arith) (omega arith)))
+    ∙ ap (λ (l : List Val). l ++ values_from regs 22 5)
+    (part_joins ws lower 16 8 6 (omega arith)
+    (λ r h.
+    let e : 16 + r - 8 ≡ 8 + r = omega arith in
+    after_high lower regs (16 + r) (omega arith) (omega arith) (omega arith) ∙ ap (λ (m : ℕ). get_or lower m any_val) e))
+    ∙ part_joins ws regs 22 22 5 (omega arith) (λ r h. after_last lower regs (22 + r) (omega arith) (omega arith))
+    ∙ take_all 27 ws (omega arith)
+
+pub leaving_parts : (regs : List Val) → length regs ≡ 27 → values_from regs 0 8 ++ values_from regs 16 6 ≡ lower_values regs
+leaving_parts regs long =
+    let ws = lower_values regs in
+    let len : length ws ≡ 14 = lower_count regs long in
+    ap (λ (l : List Val). l ++ values_from regs 16 6)
+    (part_joins ws regs 0 0 8 (omega arith) (λ r h. lower_low regs (0 + r) (omega arith) (omega arith)))
+    ∙ part_joins ws regs 8 16 6 (omega arith)
+    (λ r h.
+    let e : 8 + r + 8 ≡ 16 + r = omega arith in
+    lower_high regs (8 + r) (omega arith) (omega arith) (omega arith) ∙ ap (λ (m : ℕ). get_or regs m any_val) e)
+    ∙ take_all 14 ws (omega arith)

@@ -134,15 +134,15 @@ join_rest b v w held words n ve we have =
       ]
     ])
 
--- a word joined with a set is added to it
-pub join_one : (b : Limits) (v w : Val) (words : List ℕ) (x : ℕ) → v ≡ Set (x ∷ []) → w ≡ Set words → cover b (words ++ x ∷ []) ≡ join_of b v w
-join_one b v w words x ve we =
-    cover-same b (words ++ x ∷ []) (members v ++ members w)
-    (λ z i. elim (among_append z words (x ∷ []) i) [
+-- a set joined with another is added to it
+pub join_others : (b : Limits) (v w : Val) (words held : List ℕ) → v ≡ Set held → w ≡ Set words → cover b (words ++ held) ≡ join_of b v w
+join_others b v w words held ve we =
+    cover-same b (words ++ held) (members v ++ members w)
+    (λ z i. elim (among_append z words held i) [
       | inl j ↦ append_right z (members v) (members w) (subst (λ (u : Val). Among z (members u)) (sym we) j)
       | inr j ↦ append_left z (members v) (members w) (subst (λ (u : Val). Among z (members u)) (sym ve) j)
     ])
     (λ z i. elim (among_append z (members v) (members w) i) [
-      | inl j ↦ append_right z words (x ∷ []) (subst (λ (u : Val). Among z (members u)) ve j)
-      | inr j ↦ append_left z words (x ∷ []) (subst (λ (u : Val). Among z (members u)) we j)
+      | inl j ↦ append_right z words held (subst (λ (u : Val). Among z (members u)) ve j)
+      | inr j ↦ append_left z words held (subst (λ (u : Val). Among z (members u)) we j)
     ])

@@ -13,7 +13,7 @@ use Rattle.value_domain.proofs.RangeLaws.{below_any}
 use Rattle.value_domain.proofs.RegLaws.{get_or-joined, length-joined}
 use Rattle.depth_cert.specs.Spelling.{bytes_of_value}
 use Rattle.small_states.specs.declared.sparse.SpacedValue.{SpacedValue}
-use Rattle.small_states.specs.Wholes.{front, spaced_values}
+use Rattle.small_states.specs.Wholes.{front, spaced_values, values_from}
 use Rattle.small_states.proofs.SameValues.{join_all}
 
 -- all values
@@ -103,6 +103,96 @@ any_behind known rest r ge =
 -- a known value, where the number of those before it and of their places is at hand
 pub known_place : (known : List SpacedValue) (rest n : ℕ) (here : SpacedValue) → n < length known → here ≡ get_or known n here → (at : ℕ) → at ≡ length (front (take n known)) → get_or (all known rest) (at + here.anys) any_val ≡ here.value
 known_place known rest n here lt is at up_to = ap (λ (m : ℕ). get_or (all known rest) (m + here.anys) any_val) up_to ∙ value_there known rest n here lt is
+
+-- ---- parts
+pub length-values_from : (vs : List Val) (from count : ℕ) → length (values_from vs from count) ≡ count
+unfolding values_from
+length-values_from vs from zero = refl
+length-values_from vs from (suc count) = ap suc (length-values_from vs (from + 1) count)
+
+-- no value yet
+pub none_yet : (vs old : List Val) (from : ℕ) → old ≡ old ++ values_from vs from (from - from)
+unfolding values_from
+none_yet vs old from = let e : 0 ≡ from - from = omega arith in sym (append-nil old) ∙ ap (λ (m : ℕ). old ++ values_from vs from m) e
+
+-- so many values and one behind them
+pub part_behind : (old part anys : List Val) (v : Val) → ((old ++ part) ++ anys) ++ v ∷ [] ≡ old ++ ((part ++ anys) ++ v ∷ [])
+part_behind old part anys v =
+    append_assoc (old ++ part) anys (v ∷ [])
+    ∙ append_assoc old part (anys ++ v ∷ [])
+    ∙ ap (λ (l : List Val). old ++ l) (sym (append_assoc part anys (v ∷ [])))
+
+-- one value more
+values_more : (vs : List Val) (from count : ℕ) → values_from vs from (suc count) ≡ values_from vs from count ++ get_or vs (from + count) any_val ∷ []
+unfolding values_from
+values_more vs from zero = let e : from ≡ from + zero = omega arith in ap (λ (m : ℕ). get_or vs m any_val ∷ []) e
+values_more vs from (suc count) =
+    let e : from + 1 + count ≡ from + suc count = omega arith in
+    ap (λ (l : List Val). get_or vs from any_val ∷ l) (values_more vs (from + 1) count)
+    ∙ ap (λ (m : ℕ). get_or vs from any_val ∷ (values_from vs (from + 1) count ++ get_or vs m any_val ∷ [])) e
+
+-- more values of which nothing is known
+values_anys : (vs : List Val) (from k count : ℕ) → ((r : ℕ) → from + k ≤ r → r < from + k + count → get_or vs r any_val ≡ any_val)
+    → values_from vs from (k + count) ≡ values_from vs from k ++ replicate count any_val
+values_anys vs from k zero none = let e : k + zero ≡ k = omega arith in ap (λ (m : ℕ). values_from vs from m) e ∙ sym (append-nil (values_from vs from k))
+values_anys vs from k (suc count) none =
+    let e : k + suc count ≡ suc (k + count) = omega arith in
+    let f : count + 1 ≡ suc count = omega arith in
+    ap (λ (m : ℕ). values_from vs from m) e
+    ∙ values_more vs from (k + count)
+    ∙ ap (λ (v : Val). values_from vs from (k + count) ++ v ∷ []) (none (from + (k + count)) (omega arith) (omega arith))
+    ∙ ap (λ (l : List Val). l ++ any_val ∷ []) (values_anys vs from k count (λ r ge lt. none r ge (omega arith)))
+    ∙ append_assoc (values_from vs from k) (replicate count any_val) (any_val ∷ [])
+    ∙ ap (λ (l : List Val). values_from vs from k ++ l) (replicate_more count any_val ∙ ap (λ (m : ℕ). replicate m any_val) f)
+
+-- a part of which nothing more is known from a place on
+anys_from : (vs : List Val) (from done end : ℕ) → from ≤ done → done ≤ end → ((r : ℕ) → done ≤ r → r < end → get_or vs r any_val ≡ any_val)
+    → values_from vs from (done - from) ++ replicate (end - done) any_val ≡ values_from vs from (end - from)
+anys_from vs from done end h k none =
+    let e : (done - from) + (end - done) ≡ end - from = omega arith in
+    sym (values_anys vs from (done - from) (end - done) (λ r ge lt. none r (omega arith) (omega arith))) ∙ ap (λ (m : ℕ). values_from vs from m) e
+
+pub part_rest : (known : List SpacedValue) (rest from done end : ℕ) → length (front known) ≤ done → from ≤ done → done ≤ end
+    → values_from (all known rest) from (done - from) ++ replicate (end - done) any_val ≡ values_from (all known rest) from (end - from)
+part_rest known rest from done end past h k = anys_from (all known rest) from done end h k (λ r ge lt. any_behind known rest r (omega arith))
+
+module _ (known : List SpacedValue) (rest n : ℕ) (here : SpacedValue) (lt : n < length known) (is : here ≡ get_or known n here) (at : ℕ) (up_to : at ≡ length (front (take n known))) (from done : ℕ) (past : at ≤ done) (begun : from ≤ done) where
+  -- up to before the known value
+  pub part_gap : (end : ℕ) → done ≤ end → end ≤ at + here.anys → values_from (all known rest) from (done - from) ++ replicate (end - done) any_val ≡ values_from (all known rest) from (end - from)
+  part_gap end h k = anys_from (all known rest) from done end begun h (λ r ge lt2. any_there known rest n here lt is r (omega (arith, up_to)) (omega (arith, up_to)))
+
+  -- and it
+  pub part_more : done ≤ at + here.anys
+      → (values_from (all known rest) from (done - from) ++ replicate (at + here.anys - done) any_val) ++ here.value ∷ [] ≡ values_from (all known rest) from (at + here.anys + 1 - from)
+  part_more h =
+      let vs = all known rest in
+      let place : ℕ = at + here.anys in
+      let e : suc (place - from) ≡ place + 1 - from = omega arith in
+      let f : place ≡ from + (place - from) = omega arith in
+      ap (λ (l : List Val). l ++ here.value ∷ []) (part_gap place h (omega arith))
+      ∙ ap (λ (v : Val). values_from vs from (place - from) ++ v ∷ []) (sym (known_place known rest n here lt is at up_to) ∙ ap (λ (m : ℕ). get_or vs m any_val) f)
+      ∙ sym (values_more vs from (place - from))
+      ∙ ap (λ (m : ℕ). values_from vs from m) e
+
+-- a part behind the first values, where it goes on as they do
+pub part_joins : (ws vs : List Val) (k from count : ℕ) → k + count ≤ length ws → ((r : ℕ) → r < count → get_or ws (k + r) any_val ≡ get_or vs (from + r) any_val)
+    → take k ws ++ values_from vs from count ≡ take (k + count) ws
+unfolding values_from
+part_joins ws vs k from zero h same = let e : k ≡ k + zero = omega arith in append-nil (take k ws) ∙ ap (λ (m : ℕ). take m ws) e
+part_joins ws vs k from (suc count) h same =
+    let e : k + 1 + count ≡ k + suc count = omega arith in
+    let f : k ≡ k + 0 = omega arith in
+    let g : from + 0 ≡ from = omega arith in
+    let first : get_or ws k any_val ≡ get_or vs from any_val = ap (λ (m : ℕ). get_or ws m any_val) f ∙ same 0 (omega arith) ∙ ap (λ (m : ℕ). get_or vs m any_val) g in
+    sym (append_assoc (take k ws) (get_or vs from any_val ∷ []) (values_from vs (from + 1) count))
+    ∙ ap (λ (l : List Val). l ++ values_from vs (from + 1) count)
+    (ap (λ (v : Val). take k ws ++ v ∷ []) (sym first) ∙ sym (take_more ws k any_val (omega arith)))
+    ∙ part_joins ws vs (k + 1) (from + 1) count (omega arith)
+    (λ r lt.
+    let i : k + 1 + r ≡ k + suc r = omega arith in
+    let j : from + suc r ≡ from + 1 + r = omega arith in
+    ap (λ (m : ℕ). get_or ws m any_val) i ∙ same (suc r) (omega arith) ∙ ap (λ (m : ℕ). get_or vs m any_val) j)
+    ∙ ap (λ (m : ℕ). take m ws) e
 
 -- ---- comparing
 module _ (known : List SpacedValue) (rest : ℕ) (ws : List Val) (long : length (all known rest) ≡ length ws) (well : AreWell ws) where

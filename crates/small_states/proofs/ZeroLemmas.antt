@@ -1,8 +1,8 @@
 -- Bytes written over zeros.
-use Rattle.std.proofs.Common.{◌≡◌, ◌∙◌, ◌≤◌, ◌+◌, ◌-◌, ◌/◌, ◌%◌, ◌++◌, ◌∷◌, [], ◌<◌, ℕ, suc, List, get_or, length, replicate, set, take, ap, sym, refl, arith}
+use Rattle.std.proofs.Common.{◌≡◌, ◌∙◌, ◌≤◌, ◌+◌, ◌-◌, ◌/◌, ◌%◌, ◌++◌, ◌∷◌, [], ◌<◌, ℕ, suc, List, get_or, length, replicate, set, take, drop, ap, sym, refl, arith}
 use Rattle.std.specs.List.{flat_map}
 use Rattle.std.proofs.lemmas.List.Concat.{flat_map-append}
-use Rattle.std.proofs.lemmas.List.{append_assoc, length-append, length-replicate, replicate-append-replicate, set-append_right, take_more}
+use Rattle.std.proofs.lemmas.List.{append_assoc, length-append, length-replicate, replicate-append-replicate, set-append_right, drop-take, take-append-drop, take-take, take_more}
 use Rattle.std.proofs.Math.Seq.{take-append_seam}
 use Rattle.tcd_base.specs.Bytes.{bytes_of_word}
 use Rattle.value_domain.specs.declared.values.Val.TheVariants.{Set}
@@ -51,19 +51,19 @@ one_written front rest n x is =
     ∙ append_assoc front (1 ∷ x % 256 ∷ x / 256 % 256 ∷ x / 65536 % 256 ∷ x / 16777216 % 256 ∷ []) rest)
 
 -- bytes that are so many and then zeros
-taken : (front bytes : List ℕ) (n : ℕ) → length front ≡ n → bytes ≡ front ++ replicate (160 - n) 0 → take n bytes ≡ front
+taken : (front bytes : List ℕ) (n : ℕ) → length front ≡ n → bytes ≡ front ++ replicate (192 - n) 0 → take n bytes ≡ front
 taken front bytes n long is =
     ap (λ (l : List ℕ). take n l) is
-    ∙ ap (λ (m : ℕ). take m (front ++ replicate (160 - n) 0)) (sym long)
-    ∙ take-append_seam front (replicate (160 - n) 0)
+    ∙ ap (λ (m : ℕ). take m (front ++ replicate (192 - n) 0)) (sym long)
+    ∙ take-append_seam front (replicate (192 - n) 0)
 
-behind : (front bytes : List ℕ) (n : ℕ) → n ≤ 160 → length front ≡ n → bytes ≡ front ++ replicate (160 - n) 0 → AreZerosBehind n bytes
+behind : (front bytes : List ℕ) (n : ℕ) → n ≤ 192 → length front ≡ n → bytes ≡ front ++ replicate (192 - n) 0 → AreZerosBehind n bytes
 behind front bytes n within long is =
     let same : take n bytes ≡ front = taken front bytes n long is in
     record {
       within = within;
       long = ap (λ (l : List ℕ). length l) same ∙ long;
-      zeros = is ∙ ap (λ (l : List ℕ). l ++ replicate (160 - n) 0) (sym same);
+      zeros = is ∙ ap (λ (l : List ℕ). l ++ replicate (192 - n) 0) (sym same);
     }
 
 -- ---- a byte, a word, zeros behind n bytes
@@ -71,11 +71,11 @@ module _ (bytes : List ℕ) (n : ℕ) (so_far : AreZerosBehind n bytes) where
   abbrev front : List ℕ
   front = take n bytes
 
-  module _ (x : ℕ) (room : n + 1 ≤ 160) where
-    byte_is : set bytes n x ≡ (front ++ x ∷ []) ++ replicate (160 - (n + 1)) 0
+  module _ (x : ℕ) (room : n + 1 ≤ 192) where
+    byte_is : set bytes n x ≡ (front ++ x ∷ []) ++ replicate (192 - (n + 1)) 0
     byte_is =
-        let k : ℕ = 160 - (n + 1) in
-        let count : 160 - n ≡ suc k = omega arith in
+        let k : ℕ = 192 - (n + 1) in
+        let count : 192 - n ≡ suc k = omega arith in
         ap (λ (l : List ℕ). set l n x) (so_far.zeros ∙ ap (λ (m : ℕ). front ++ replicate m 0) count)
         ∙ set_first front (0 ∷ replicate k 0) n x so_far.long
         ∙ sym (append_assoc front (x ∷ []) (replicate k 0))
@@ -89,14 +89,14 @@ module _ (bytes : List ℕ) (n : ℕ) (so_far : AreZerosBehind n bytes) where
     pub byte_taken : take (n + 1) (set bytes n x) ≡ front ++ x ∷ []
     byte_taken = taken (front ++ x ∷ []) (set bytes n x) (n + 1) byte_long byte_is
 
-  module _ (x : ℕ) (room : n + 4 ≤ 160) where
+  module _ (x : ℕ) (room : n + 4 ≤ 192) where
     abbrev word_set : List ℕ
     word_set = set (set (set (set bytes n (x % 256)) (n + 1) (x / 256 % 256)) (n + 2) (x / 65536 % 256)) (n + 3) (x / 16777216 % 256)
 
-    word_is : word_set ≡ (front ++ bytes_of_word x) ++ replicate (160 - (n + 4)) 0
+    word_is : word_set ≡ (front ++ bytes_of_word x) ++ replicate (192 - (n + 4)) 0
     word_is =
-        let k : ℕ = 160 - (n + 4) in
-        let count : 160 - n ≡ suc (suc (suc (suc k))) = omega arith in
+        let k : ℕ = 192 - (n + 4) in
+        let count : 192 - n ≡ suc (suc (suc (suc k))) = omega arith in
         ap (λ (l : List ℕ). set (set (set (set l n (x % 256)) (n + 1) (x / 256 % 256)) (n + 2) (x / 65536 % 256)) (n + 3) (x / 16777216 % 256))
         (so_far.zeros ∙ ap (λ (m : ℕ). front ++ replicate m 0) count)
         ∙ four_set front (replicate k 0) n (x % 256) (x / 256 % 256) (x / 65536 % 256) (x / 16777216 % 256) so_far.long
@@ -111,11 +111,11 @@ module _ (bytes : List ℕ) (n : ℕ) (so_far : AreZerosBehind n bytes) where
     pub word_taken : take (n + 4) word_set ≡ front ++ bytes_of_word x
     word_taken = taken (front ++ bytes_of_word x) word_set (n + 4) word_long word_is
 
-  module _ (more : ℕ) (room : n + more ≤ 160) where
-    zeros_are : bytes ≡ (front ++ replicate more 0) ++ replicate (160 - (n + more)) 0
+  module _ (more : ℕ) (room : n + more ≤ 192) where
+    zeros_are : bytes ≡ (front ++ replicate more 0) ++ replicate (192 - (n + more)) 0
     zeros_are =
-        let k : ℕ = 160 - (n + more) in
-        let count : 160 - n ≡ more + k = omega arith in
+        let k : ℕ = 192 - (n + more) in
+        let count : 192 - n ≡ more + k = omega arith in
         so_far.zeros
         ∙ ap (λ (m : ℕ). front ++ replicate m 0) count
         ∙ ap (λ (l : List ℕ). front ++ l) (sym (replicate-append-replicate more k 0))
@@ -133,7 +133,7 @@ module _ (bytes : List ℕ) (n : ℕ) (so_far : AreZerosBehind n bytes) where
     zeros_taken = taken (front ++ replicate more 0) bytes (n + more) zeros_long zeros_are
 
   -- a word's value behind zeros
-  module _ (anys x : ℕ) (room : n + anys + 5 ≤ 160) where
+  module _ (anys x : ℕ) (room : n + anys + 5 ≤ 192) where
     abbrev one_set : List ℕ
     one_set =
         set (set (set (set (set bytes (n + anys) 1) (n + anys + 1) (x % 256)) (n + anys + 2) (x / 256 % 256)) (n + anys + 3) (x / 65536 % 256)) (n + anys + 4) (x / 16777216 % 256)
@@ -141,10 +141,10 @@ module _ (bytes : List ℕ) (n : ℕ) (so_far : AreZerosBehind n bytes) where
     abbrev one_front : List ℕ
     one_front = front ++ replicate anys 0
 
-    one_is : one_set ≡ (one_front ++ bytes_of_value (Set (x ∷ []))) ++ replicate (160 - (n + anys + 5)) 0
+    one_is : one_set ≡ (one_front ++ bytes_of_value (Set (x ∷ []))) ++ replicate (192 - (n + anys + 5)) 0
     one_is =
-        let k : ℕ = 160 - (n + anys + 5) in
-        let count : 160 - (n + anys) ≡ suc (suc (suc (suc (suc k)))) = omega arith in
+        let k : ℕ = 192 - (n + anys + 5) in
+        let count : 192 - (n + anys) ≡ suc (suc (suc (suc (suc k)))) = omega arith in
         ap (λ (l : List ℕ). set (set (set (set (set l (n + anys) 1) (n + anys + 1) (x % 256)) (n + anys + 2) (x / 256 % 256)) (n + anys + 3) (x / 65536 % 256)) (n + anys + 4) (x / 16777216 % 256))
         (zeros_are anys (omega arith) ∙ ap (λ (m : ℕ). one_front ++ replicate m 0) count)
         ∙ one_written one_front (replicate k 0) (n + anys) x (zeros_long anys (omega arith))
@@ -161,12 +161,18 @@ module _ (bytes : List ℕ) (n : ℕ) (so_far : AreZerosBehind n bytes) where
     pub one_taken : take (n + anys + 5) one_set ≡ one_front ++ bytes_of_value (Set (x ∷ []))
     one_taken = taken (one_front ++ bytes_of_value (Set (x ∷ []))) one_set (n + anys + 5) one_long one_is
 
--- one word more of a set
-pub set_more : (words : List ℕ) (i : ℕ) → i < length words → (old : List ℕ)
-    → (old ++ length words ∷ flat_map bytes_of_word (take i words)) ++ bytes_of_word (get_or words i 0) ≡ old ++ length words ∷ flat_map bytes_of_word (take (i + 1) words)
-set_more words i lt old =
+-- ---- words one after another
+-- one word more
+pub words_more : (words : List ℕ) (i : ℕ) → i < length words → flat_map bytes_of_word (take i words) ++ bytes_of_word (get_or words i 0) ≡ flat_map bytes_of_word (take (i + 1) words)
+words_more words i lt =
     let x : ℕ = get_or words i 0 in
-    append_assoc old (length words ∷ flat_map bytes_of_word (take i words)) (bytes_of_word x)
-    ∙ ap (λ (l : List ℕ). old ++ length words ∷ l)
-    (sym (flat_map-append bytes_of_word (take i words) (x ∷ []))
-    ∙ ap (λ (l : List ℕ). flat_map bytes_of_word l) (sym (take_more words i 0 lt)))
+    sym (flat_map-append bytes_of_word (take i words) (x ∷ [])) ∙ ap (λ (l : List ℕ). flat_map bytes_of_word l) (sym (take_more words i 0 lt))
+
+-- so many words more
+pub words_further : (words : List ℕ) (i k : ℕ) → flat_map bytes_of_word (take i words) ++ flat_map bytes_of_word (take k (drop i words)) ≡ flat_map bytes_of_word (take (i + k) words)
+words_further words i k =
+    sym (flat_map-append bytes_of_word (take i words) (take k (drop i words)))
+    ∙ ap (λ (l : List ℕ). flat_map bytes_of_word l)
+    (ap (λ (l : List ℕ). l ++ take k (drop i words)) (sym (take-take i (i + k) words (omega arith)))
+    ∙ ap (λ (l : List ℕ). take i (take (i + k) words) ++ l) (sym (drop-take i k words))
+    ∙ take-append-drop i (take (i + k) words))

@@ -1,5 +1,5 @@
 -- Values, states and exits in little room, as those that they stand for.
-use Rattle.std.specs.Prelude.{◌≡◌, ◌+◌, ◌<◌, ◌≤◌, ℕ, List, [], ◌∷◌, ◌++◌, length, replicate, slice_index_or, take}
+use Rattle.std.specs.Prelude.{◌≡◌, ◌+◌, ◌<◌, ◌≤◌, ℕ, zero, suc, List, [], ◌∷◌, ◌++◌, length, replicate, slice_index_or, take}
 use Rattle.std.specs.List.{flat_map}
 use Rattle.value_domain.specs.declared.values.Val.{Val}
 use Rattle.value_domain.specs.declared.states.State.{State}
@@ -27,6 +27,11 @@ pub record IsFoundIn (v : Values) (i n others : ℕ) : Type 0 where
   pub within : n ≤ length v.known.items
   pub at : i ≡ length (front (take n v.known.items)) + others
   pub before : n < length v.known.items → (d : SpacedValue) → others ≤ (slice_index_or v.known.items n d).anys
+
+-- so many values from a place on; any_val where there is none
+unfoldable pub values_from : List Val → ℕ → ℕ → List Val
+values_from vs from zero = []
+values_from vs from (suc count) = slice_index_or vs from any_val ∷ values_from vs (from + 1) count
 
 -- the state with these values
 abbrev pub state_in : SmallState → State

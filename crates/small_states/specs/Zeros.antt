@@ -1,8 +1,8 @@
 -- Bytes behind which zeros stand.
 use Rattle.std.specs.Prelude.{◌≡◌, ◌≤◌, ◌-◌, ◌++◌, ℕ, List, length, replicate, take}
 
--- the first n bytes are any, and those behind them, up to 160, are zeros
+-- the first n bytes are any, and those behind them, up to 192, are zeros
 pub record AreZerosBehind (n : ℕ) (bytes : List ℕ) : Type 0 where
-  pub within : n ≤ 160
+  pub within : n ≤ 192
   pub long : length (take n bytes) ≡ n
-  pub zeros : bytes ≡ take n bytes ++ replicate (160 - n) 0
+  pub zeros : bytes ≡ take n bytes ++ replicate (192 - n) 0

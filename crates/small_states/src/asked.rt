@@ -4,11 +4,11 @@ ghost use Rattle.value_domain.specs.Values.{any_val};
 ghost use Rattle.value_domain.specs.State as states;
 ghost use Rattle.depth_cert.specs.Exits.{with_lower_from};
 ghost use Rattle.vd_transfer.specs.Changes.{base_of, state_after};
-ghost use Rattle.small_states.specs.Kept.{asked_for, asking, given_of, is_exit, known_by, values_asked};
+ghost use Rattle.small_states.specs.Kept.{asked_for, given_of, is_exit, known_by, values_asked};
 ghost use Rattle.small_states.specs.Wholes.{all_values};
 ghost use Rattle.depth_cert.specs.Known.{priority_of};
 
-use crate::{Small, SmallExit, Values};
+use crate::{Small, SmallExit};
 use arrayvec::ArrayVec;
 use depth_cert::lower_value;
 use value_domain::{State, Val};
@@ -205,41 +205,6 @@ pub(crate) fn asked_value<'a>(asked: &'a Asked, any: &'a Small, i: usize) -> Giv
         Asked::Leaving(s) => {
             let _regs = &s.regs[..];
             Given::Whole(lower_value(&s.regs, i))
-        }
-    }
-}
-
-/// The same, for a point whose values are at hand in little room, which are copied as they are.
-#[inline(always)]
-pub(crate) fn own_value<'a>(
-    asked: &'a Asked,
-    own: &'a Values,
-    any: &'a Small,
-    i: usize,
-) -> Given<'a>
-    requires place { i < length (values_asked asked.now) }
-    requires own { all_values own.now ≡ (asking asked.now).regs }
-    requires any { any.now ≡ any_val }
-    ensures { given_of result ≡ slice_index_or (values_asked asked.now) i any_val }
-{
-    match asked {
-        Asked::Changed(s, c) => {
-            let _regs = &s.regs[..];
-            changed_given(s, c, any, i)
-        }
-        Asked::After(s, exit, _) => {
-            let _regs = &s.regs[..];
-            if is_lower_slot(i) {
-                return value_after(s, exit, any, i);
-            }
-            own.given_at(any, i)
-        }
-        Asked::Leaving(s) => {
-            let _regs = &s.regs[..];
-            if i < 8 {
-                return own.given_at(any, i);
-            }
-            own.given_at(any, i + 8)
         }
     }
 }

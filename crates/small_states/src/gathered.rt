@@ -1,5 +1,6 @@
 // Bytes that are put together before they are added to others.
-ghost use Rattle.std.specs.Prelude.{◌≡◌, ◌≤◌, ◌<◌, ◌+◌, ◌∷◌, [], ◌++◌, false, IsTrue, OnOk, length, replicate};
+ghost use Rattle.std.specs.Prelude.{◌≡◌, ◌≤◌, ◌<◌, ◌+◌, ◌*◌, ◌∷◌, [], ◌++◌, false, IsTrue, OnOk, length, replicate};
+ghost use Rattle.std.specs.List.{flat_map};
 ghost use Rattle.value_domain.specs.declared.values.Val.TheVariants.{Set};
 ghost use Rattle.tcd_base.specs.Bytes.{bytes_of_word};
 ghost use Rattle.depth_cert.specs.Spelling.{bytes_of_value};
@@ -11,7 +12,7 @@ use tcd_base::NoMemory;
 /// Bytes that will be added to others at once. All behind those that were put are 0, so zeros are put by passing them.
 #[derive(Drop)]
 pub(crate) struct Gathered {
-    bytes: [u8; 160],
+    bytes: [u8; 192],
     len: usize,
 }
 
@@ -33,7 +34,7 @@ impl Gathered {
         ensures { result ≡ [] }
     {
         Gathered {
-            bytes: [0; 160],
+            bytes: [0; 192],
             len: 0,
         }
     }
@@ -61,11 +62,11 @@ impl Gathered {
     /// Makes room for so many bytes.
     #[inline(always)]
     pub(crate) fn make_room(&mut self, out: &mut Vec<u8>, count: usize) -> Result<(), NoMemory>
-        requires { count ≤ 160 }
+        requires { count ≤ 192 }
         ensures same { OnOk result (out.new.items ++ self.new ≡ out.old.items ++ self.old) }
-        ensures room { OnOk result (length self.new + count ≤ 160) }
+        ensures room { OnOk result (length self.new + count ≤ 192) }
     {
-        if self.len + count > 160 {
+        if self.len + count > 192 {
             self.flush(out)?;
         }
         Ok(())
@@ -74,29 +75,32 @@ impl Gathered {
     /// Puts a byte, for which there is room.
     #[inline(always)]
     pub(crate) fn push(&mut self, x: u8)
-        requires { length self.old < 160 }
+        requires { length self.old < 192 }
         ensures { self.new ≡ self.old ++ x ∷ [] }
     {
         self.bytes[self.len] = x;
         self.len += 1;
     }
 
-    /// Puts the bytes of a word, for which there is room.
+    /// Puts the bytes of words, for which there is room.
     #[inline(always)]
-    pub(crate) fn push_word(&mut self, x: u32)
-        requires { length self.old + 4 ≤ 160 }
-        ensures { self.new ≡ self.old ++ bytes_of_word x }
+    fn push_words(&mut self, words: &[u32])
+        requires { length self.old + 4 * length words.now ≤ 192 }
+        ensures { self.new ≡ self.old ++ flat_map bytes_of_word words.now }
     {
-        let at = self.len;
-        let word = x.to_le_bytes();
-        self.bytes[at] = word[0];
-        self.bytes[at + 1] = word[1];
-        self.bytes[at + 2] = word[2];
-        self.bytes[at + 3] = word[3];
-        self.len = at + 4;
+        let mut at = self.len;
+        for n in 0..words.len() {
+            let word = words[n].to_le_bytes();
+            self.bytes[at] = word[0];
+            self.bytes[at + 1] = word[1];
+            self.bytes[at + 2] = word[2];
+            self.bytes[at + 3] = word[3];
+            at += 4;
+        }
+        self.len = at;
     }
 
-    /// Puts the value that holds these words.
+    /// Puts the value that holds these words, of which 32 at most are put at once.
     #[tactic(auto, unfolding(depth_cert::specs::Spelling::bytes_of_value))]
     pub(crate) fn put_set(&mut self, out: &mut Vec<u8>, words: &[u32]) -> Result<(), NoMemory>
         requires { length words.now ≤ 128 }
@@ -105,9 +109,12 @@ impl Gathered {
     {
         self.make_room(out, 1)?;
         self.push(words.len() as u8);
-        for n in 0..words.len() {
-            self.make_room(out, 4)?;
-            self.push_word(words[n]);
+        let mut n = 0;
+        while n < words.len() {
+            let count = (words.len() - n).min(32);
+            self.make_room(out, 4 * count)?;
+            self.push_words(&words[n..n + count]);
+            n += count;
         }
         Ok(())
     }
@@ -123,7 +130,7 @@ impl Gathered {
             return false;
         };
         let at = self.len + here.anys as usize;
-        if at > 155 {
+        if at > 187 {
             return false;
         }
         let word = x.to_le_bytes();
@@ -142,7 +149,7 @@ impl Gathered {
         ensures { OnOk result
             (out.new.items ++ self.new ≡ (out.old.items ++ self.old) ++ replicate count 0) }
     {
-        if count as usize > 160 - self.len {
+        if count as usize > 192 - self.len {
             self.flush(out)?;
             out.resize(out.len() + count as usize, 0)?;
             return Ok(());

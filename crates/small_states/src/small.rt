@@ -472,15 +472,20 @@ impl Small {
         Small::of(alloc, &out)
     }
 
-    /// The least value that holds these words, a set's, and one more.
+    /// The least value that holds these words, a set's, and others.
     #[inline(never)]
-    fn with_word(alloc: Global, b: &Bounds, words: &[u32], x: u32) -> Result<Small, AllocError>
+    fn with_others(
+        alloc: Global,
+        b: &Bounds,
+        words: &[u32],
+        others: &[u32],
+    ) -> Result<Small, AllocError>
         requires { IsValue b.now (Set words.now) }
-        ensures { IfOk result (λ s. s ≡ cover b.now (words.now ++ x ∷ [])) }
+        ensures { IfOk result (λ s. s ≡ cover b.now (words.now ++ others.now)) }
     {
         let mut out = Val::one(0);
         set_words(&mut out, words);
-        add_words(b, &mut out, &[x]);
+        add_words(b, &mut out, others);
         if is_set(&out) {
             let form = Form::Many(Rc::new(alloc, out)?);
             return Ok(Small { form });
@@ -488,8 +493,9 @@ impl Small {
         Small::of(alloc, &out)
     }
 
-    /// The least value that holds it and these words, a set's. A word is added to them. Of two sets only the words from the first
-    /// that it hasn't on are added; where these are more than four, both are joined whole.
+    /// The least value that holds it and these words, a set's. A word is added to them. Of two sets the fewer words are added to the
+    /// others: its own, or those of these from the first on that it hasn't; but where its own aren't fewer and more than sixteen are
+    /// missing, both are joined whole.
     #[inline(never)]
     fn join_words(
         &self,
@@ -504,7 +510,7 @@ impl Small {
         ensures { IfOk result (λ s. s ≡ join_of b.now self.now v.now) }
     {
         if let Form::One(x) = &self.form {
-            return Small::with_word(alloc, b, words, *x);
+            return Small::with_others(alloc, b, words, &[*x]);
         }
         let Form::Many(own) = &self.form else {
             return self.with_words(alloc, b, words);
@@ -516,7 +522,11 @@ impl Small {
         if n == words.len() {
             return self.copy_any();
         }
-        if words.len() - n > 4 {
+        let missing = words.len() - n;
+        if held.len() < missing {
+            return Small::with_others(alloc, b, words, held);
+        }
+        if missing > 16 {
             return self.join_whole(alloc, b, v);
         }
         self.with_words(alloc, b, &words[n..])

@@ -3,7 +3,7 @@ ghost use Rattle.std.specs.Prelude.{◌≡◌, ◌+◌, ◌-◌, ◌^◌, ◌<�
 ghost use Rattle.value_domain.specs.Values.{any_val};
 ghost use Rattle.small_states.specs.Kept.{given_of};
 ghost use Rattle.small_states.specs.declared.sparse.SpacedValue as spaced;
-ghost use Rattle.small_states.specs.Wholes.{IsFoundIn, all_values, front};
+ghost use Rattle.small_states.specs.Wholes.{IsFoundIn, all_values, front, values_from};
 
 use crate::asked::Given;
 use crate::small::{Form, Small};
@@ -209,5 +209,41 @@ impl Values {
         }
         let rest = self.rest;
         Ok(Values { known, rest })
+    }
+
+    /// Adds so many values of others, from a place on.
+    #[inline(always)]
+    pub(crate) fn add_part(
+        &mut self,
+        others: &Values,
+        from: usize,
+        count: usize,
+    ) -> Result<(), AllocError>
+        requires few { length (all_values self.old) + count < 2 ^ 32 }
+        requires near { from < 2 ^ 32 }
+        ensures { OnOk result
+            (all_values self.new
+            ≡ all_values self.old ++ values_from (all_values others.now) from count) }
+    {
+        let known = others.known.as_slice();
+        let to = from + count;
+        let mut at = 0;
+        let mut done = from;
+        for n in 0..known.len() {
+            let here = &known[n];
+            let place = at + here.anys as usize;
+            if place >= to {
+                self.add_anys((to - done) as u32);
+                return Ok(());
+            }
+            at = place + 1;
+            if place >= from {
+                let value = here.value.copy()?;
+                self.add_spaced((place - done) as u32, value)?;
+                done = at;
+            }
+        }
+        self.add_anys((to - done) as u32);
+        Ok(())
     }
 }

@@ -5,7 +5,7 @@ ghost use Rattle.vd_transfer.specs.Changes.{put_in, state_after};
 ghost use Rattle.small_states.specs.Kept.{asking, values_asked};
 ghost use Rattle.small_states.specs.Wholes.{all_values};
 
-use crate::asked::{Asked, asked_value, count_asked, own_value};
+use crate::asked::{Asked, asked_value, count_asked};
 use crate::small::{Form, Small};
 use crate::sparse::Values;
 use std::alloc::{AllocError, Global};
@@ -37,17 +37,28 @@ fn packed_own(alloc: Global, own: &Values, asked: &Asked) -> Result<Values, Allo
     requires { all_values own.now ≡ (asking asked.now).regs }
     ensures { IfOk result (λ values. all_values values ≡ values_asked asked.now) }
 {
-    let any = Small { form: Form::Any };
-    let count = count_asked(asked);
     let mut values = Values {
         known: Vec::with_capacity(alloc, own.known.len())?,
         rest: 0,
     };
-    for i in 0..count {
-        let value = Small::of_given(alloc, &own_value(&*asked, own, &any, i))?;
-        values.add_small(value)?;
+    match asked {
+        Asked::Changed(_, _) => packed(alloc, asked),
+        Asked::After(s, exit, _) => {
+            let _regs = &s.regs[..];
+            let lower = exit.lower.as_ref();
+            values.add_part(lower, 0, 8)?;
+            values.add_part(own, 8, 8)?;
+            values.add_part(lower, 8, 6)?;
+            values.add_part(own, 22, 5)?;
+            Ok(values)
+        }
+        Asked::Leaving(s) => {
+            let _regs = &s.regs[..];
+            values.add_part(own, 0, 8)?;
+            values.add_part(own, 16, 6)?;
+            Ok(values)
+        }
     }
-    Ok(values)
 }
 
 /// Puts what a change puts over values, if it puts something.

@@ -1,28 +1,80 @@
-use Rattle.std.proofs.Common.{◌∙◌, ◌++◌, ◌∷◌, [], List, length, take, ap, sym, arith}
-use Rattle.std.proofs.lemmas.List.{length-take-le, take_all, take_more}
+use Rattle.std.proofs.Common.{◌≡◌, ◌∙◌, ◌+◌, ◌++◌, [], ℕ, List, length, replicate, ap, arith}
+use Rattle.std.proofs.lemmas.List.{length-append}
 use Rattle.value_domain.specs.declared.values.Val.{Val}
 use Rattle.value_domain.specs.Values.{any_val}
-use Rattle.small_states.specs.Kept.{values_asked}
+use Rattle.small_states.specs.Wholes.{all_values, front, values_from}
+use Rattle.small_states.specs.declared.sparse.SpacedValue.{SpacedValue}
+use Rattle.small_states.specs.declared.sparse.Values.{Values}
+use Rattle.small_states.proofs.AskedLemmas.{after_parts, leaving_parts}
+use Rattle.small_states.proofs.SparseLemmas.{length-values_from}
 use Rattle.small_states.proofs.values.packed_own.Goals as goal
 
-pub add_small-requires : goal.add_small-requires
-add_small-requires c =
-    let ws = values_asked c.args.asked.now in
-    omega (
-      arith,
-      c.count_asked-count.ensures.long,
-      c.count_asked-count.ensures.few,
-      ap (λ (l : List Val). length l) c.loop-i.invariant,
-      length-take-le c.loop-i.i ws (omega (arith, c.count_asked-count.ensures.long)),
-    )
+-- no values at first
+begun : (known : List SpacedValue) → known ≡ [] → front known ++ replicate 0 any_val ≡ []
+begun known none = ap (λ (l : List SpacedValue). front l ++ replicate 0 any_val) none
 
-pub loop-i-preserved : goal.loop-i-preserved
-loop-i-preserved c =
-    let ws = values_asked c.args.asked.now in
-    c.in_ok-add_small.ensures
-    ∙ ap (λ (l : List Val). l ++ c.in_ok-value.value ∷ []) c.loop-i.invariant
-    ∙ ap (λ (u : Val). take c.loop-i.i ws ++ u ∷ []) (c.in_ok-value.ensures ∙ c.own_value.ensures)
-    ∙ sym (take_more ws c.loop-i.i any_val (omega (arith, c.count_asked-count.ensures.long)))
+-- so many values more
+more : (old new vs : List Val) (from count n : ℕ) → new ≡ old ++ values_from vs from count → length old ≡ n → length new ≡ n + count
+more old new vs from count n e long =
+    ap (λ (l : List Val). length l) e ∙ length-append old (values_from vs from count) ∙ ap (λ (m : ℕ). m + length (values_from vs from count)) long
+    ∙ ap (λ (m : ℕ). n + m) (length-values_from vs from count)
 
-pub returns : goal.returns
-returns c = c.loop-i.invariant ∙ take_all c.loop-i.i (values_asked c.args.asked.now) (omega (arith, c.count_asked-count.ensures.long))
+-- a state's values after a call, by their parts
+abbrev parts : List Val → List Val → List Val
+parts lower own = ((values_from lower 0 8 ++ values_from own 8 8) ++ values_from lower 8 6) ++ values_from own 22 5
+
+pub add_part-requires-in-After-clause-few : goal.add_part-requires-in-After-clause-few
+add_part-requires-in-After-clause-few c =
+    let none = begun _ c.in_ok-with_capacity.ensures.items in
+    let one = more _ _ _ _ _ _ c.in_ok-add_part-in-After.ensures (ap (λ (l : List Val). length l) none) in
+    omega (arith, one)
+
+pub add_part-requires-in-After-2-clause-few : goal.add_part-requires-in-After-2-clause-few
+add_part-requires-in-After-2-clause-few c =
+    let none = begun _ c.in_ok-with_capacity.ensures.items in
+    let one = more _ _ _ _ _ _ c.in_ok-add_part-in-After.ensures (ap (λ (l : List Val). length l) none) in
+    let two = more _ _ _ _ _ _ c.in_ok-add_part-in-After-2.ensures one in
+    omega (arith, two)
+
+pub add_part-requires-in-After-3-clause-few : goal.add_part-requires-in-After-3-clause-few
+add_part-requires-in-After-3-clause-few c =
+    let none = begun _ c.in_ok-with_capacity.ensures.items in
+    let one = more _ _ _ _ _ _ c.in_ok-add_part-in-After.ensures (ap (λ (l : List Val). length l) none) in
+    let two = more _ _ _ _ _ _ c.in_ok-add_part-in-After-2.ensures one in
+    let three = more _ _ _ _ _ _ c.in_ok-add_part-in-After-3.ensures two in
+    omega (arith, three)
+
+pub add_part-requires-in-Leaving-2-clause-few : goal.add_part-requires-in-Leaving-2-clause-few
+add_part-requires-in-Leaving-2-clause-few c =
+    let none = begun _ c.in_ok-with_capacity.ensures.items in
+    let one = more _ _ _ _ _ _ c.in_ok-add_part-in-Leaving.ensures (ap (λ (l : List Val). length l) none) in
+    omega (arith, one)
+
+pub returns-in_ok-add_part-in-After-4 : goal.returns-in_ok-add_part-in-After-4
+returns-in_ok-add_part-in-After-4 c =
+    let own = rw c.in-After.is at c.requires in
+    let mine = all_values c.args.own.now in
+    let lower = all_values c.as_ref-lower.result.now in
+    let regs = c.in-After.s.now.regs in
+    let none = begun _ c.in_ok-with_capacity.ensures.items in
+    rw c.in-After.is
+    (c.in_ok-add_part-in-After-4.ensures
+    ∙ ap (λ (l : List Val). l ++ values_from mine 22 5)
+    (c.in_ok-add_part-in-After-3.ensures
+    ∙ ap (λ (l : List Val). l ++ values_from lower 8 6)
+    (c.in_ok-add_part-in-After-2.ensures
+    ∙ ap (λ (l : List Val). l ++ values_from mine 8 8) (c.in_ok-add_part-in-After.ensures ∙ ap (λ (l : List Val). l ++ values_from lower 0 8) none)))
+    ∙ ap (λ (l : List Val). parts lower l) own
+    ∙ ap (λ (v : Values). parts (all_values v) regs) c.as_ref-lower.ensures
+    ∙ after_parts (all_values c.in-After.exit.now.lower.value) regs (omega arith))
+
+pub returns-in_ok-add_part-in-Leaving-2 : goal.returns-in_ok-add_part-in-Leaving-2
+returns-in_ok-add_part-in-Leaving-2 c =
+    let own = rw c.in-Leaving.is at c.requires in
+    let mine = all_values c.args.own.now in
+    let none = begun _ c.in_ok-with_capacity.ensures.items in
+    rw c.in-Leaving.is
+    (c.in_ok-add_part-in-Leaving-2.ensures
+    ∙ ap (λ (l : List Val). l ++ values_from mine 16 6) (c.in_ok-add_part-in-Leaving.ensures ∙ ap (λ (l : List Val). l ++ values_from mine 0 8) none)
+    ∙ ap (λ (l : List Val). values_from l 0 8 ++ values_from l 16 6) own
+    ∙ leaving_parts c.in-Leaving.s.now.regs (omega arith))

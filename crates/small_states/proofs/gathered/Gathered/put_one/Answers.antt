@@ -7,13 +7,13 @@ use Rattle.small_states.proofs.gathered.Gathered.put_one.Goals as goal
 pub invariant_of-self : goal.invariant_of-self
 invariant_of-self c =
     let q = c.self.inside in
-    let few = c.if-at-gt155.false in
+    let few = c.if-at-gt187.false in
     rw c.to_le_bytes-word.ensures (one_behind q.bytes q.len c.self.invariant c.args.here.now.anys c.in-Some.x (omega (arith, few)))
 
 pub returns-clause-put : goal.returns-clause-put
 returns-clause-put c = λ t.
     let q = c.self.inside in
-    let few = c.if-at-gt155.false in
+    let few = c.if-at-gt187.false in
     let anys = c.args.here.now.anys in
     let value = rw c.in-Some.is at c.word.ensures in
     rw c.to_le_bytes-word.ensures
