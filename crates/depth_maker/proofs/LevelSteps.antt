@@ -3,6 +3,7 @@ use Rattle.std.proofs.Common.{◌≡◌, ◌⊎◌, inl, inr, ℕ, ◌+◌, ◌-
 use Rattle.std.specs.Prelude.{if◌then◌else◌, ◌==◌}
 use Rattle.std.specs.List.{sum_by}
 use Rattle.std.proofs.lemmas.Bool.{eq-eqb, eqb-true}
+use Rattle.std.proofs.lemmas.List.Sorted.{length_permutation}
 use Rattle.std.proofs.lemmas.List.Sums.{sum_by-cons, sum_by-le, sum_by-le-sum_by, sum_by_push}
 use Rattle.indexmap.specs.IndexMap.{IndexMap}
 use Rattle.value_domain.specs.Limits.{Limits, AreLimits}
@@ -25,7 +26,7 @@ use Rattle.frame_places.proofs.MarkLemmas.{sides}
 use Rattle.depth_maker.proofs.PointEntries.{placed}
 use Rattle.depth_maker.proofs.SpotLemmas.{front_cases}
 use Rattle.frame_places.proofs.SpotLemmas.{spot_refl, spot_tells}
-use Rattle.frame_places.specs.Work.{all_work}
+use Rattle.frame_places.specs.Work.{Lists, Takes, all_work}
 
 -- ---- sums
 -- where no term is lower, and one is higher
@@ -127,13 +128,24 @@ level_most b t limits proper counted =
     omega (arith, few.0, few.1, ps, ks)
 
 -- ---- turns
+-- the table rose, or the list is shorter by one place
+abbrev pub Steps : made.Table → made.Table → Type 0
+Steps s t = (level s < level t) ⊎ ((level t ≡ level s) × (length (all_work s.work) ≡ length (all_work t.work) + 1))
+
+-- the list without one place
+pub shorter : (old new : Lists) (number : ℕ) → Takes old new number → length (all_work old) ≡ length (all_work new) + 1
+shorter old new number takes = let e = length_permutation (all_work old) (number ∷ all_work new) takes in omega (arith, e)
+
 -- a visit of one place that was taken off the list
-pub turns_more : (s m o t : made.Table) (i : ℕ) (n : ℕ) → (level s < level m) ⊎ ((level m ≡ level s) × (length (all_work m.work) + i ≤ n)) → level o ≡ level m → length (all_work m.work) ≡ length (all_work o.work) + 1 → Rises o t
-    → (level s < level t) ⊎ ((level t ≡ level s) × (length (all_work t.work) + (i + 1) ≤ n))
-turns_more s m o t i n (inl a) e len (inl b) = inl (omega (arith, a, e, b))
-turns_more s m o t i n (inl a) e len (inr b) = inl (omega (arith, a, e, b.0))
-turns_more s m o t i n (inr a) e len (inl b) = inl (omega (arith, a.0, e, b))
-turns_more s m o t i n (inr a) e len (inr b) = inr (b.0 ∙ e ∙ a.0, (let l = ap (λ (w : List ℕ). length w) b.1 in omega (arith, a.1, len, l)))
+pub visited_one : (s m t : made.Table) → level m ≡ level s → length (all_work s.work) ≡ length (all_work m.work) + 1 → Rises m t → Steps s t
+visited_one s m t e len (inl b) = inl (omega (arith, e, b))
+visited_one s m t e len (inr b) = inr (b.0 ∙ e, (let l = ap (λ (w : List ℕ). length w) b.1 in omega (arith, len, l)))
+
+pub turns_more : (s m t : made.Table) (i : ℕ) (n : ℕ) → (level s < level m) ⊎ ((level m ≡ level s) × (length (all_work m.work) + i ≤ n)) → Steps m t → (level s < level t) ⊎ ((level t ≡ level s) × (length (all_work t.work) + (i + 1) ≤ n))
+turns_more s m t i n (inl a) (inl b) = inl (omega (arith, a, b))
+turns_more s m t i n (inl a) (inr b) = inl (omega (arith, a, b.0))
+turns_more s m t i n (inr a) (inl b) = inl (omega (arith, a.0, b))
+turns_more s m t i n (inr a) (inr b) = inr (b.0 ∙ a.0, omega (arith, a.1, b.1))
 
 pub empty_list : {X : Type 0} (xs : List X) → length xs ≡ 0 → xs ≡ []
 empty_list [] e = refl

@@ -332,6 +332,30 @@ same_fine b image plan s t is work fine = subst (IsFine b image plan) (sym is) (
   plain = fine.plain;
 })
 
+-- a place without work was taken off the list
+pub passed_over : (b : Limits) (image : ImageData) (plan : PlanData) (s t : made.Table) (x : Spot) (number : ℕ) → t ≡ (record s { work = t.work }) → Takes s.work t.work number → StandsAt s.places number x
+    → is_queued (mark_for s.places x) ≡ false → IsFine b image plan s → IsFine b image plan t
+unfolding seen
+passed_over b image plan s t x number is takes stands idle fine = subst (IsFine b image plan) (sym is) (record {
+  table = fine.table;
+  listed = record {
+    listed = λ q at.
+        (let f = (fine.listed).listed q at in
+        elim (takes_only s.work t.work number f.0 takes f.1) [
+          | inl has ↦ (f.0, has, f.2)
+          | inr e ↦
+              (let one : x ≡ q = same_Some x q (sym stands ∙ subst (λ (n : ℕ). StandsAt s.places n q) (sym e) f.2) in
+              let no : false ≡ true = sym idle ∙ ap (λ (k : Spot). is_queued (mark_for s.places k)) one ∙ ap is_queued at in cc)
+        ]);
+    known = λ n c. (fine.listed).known n (takes_left s.work t.work number n takes c);
+  };
+  counted = fine.counted;
+  heard = fine.heard;
+  exits = fine.exits;
+  readers = fine.readers;
+  plain = fine.plain;
+})
+
 -- ---- the end of a visit
 idle_marked : (plain : Bool) → is_idle (Some (idle_mark plain)) ≡ true
 idle_marked true = refl

@@ -1,5 +1,5 @@
 -- The table as the theory sees it.
-use Rattle.std.specs.Prelude.{◌≡◌, ◌<◌, ℕ, Bool, true, false, Option, Some, is_some, List, [], map, Contains, Result, Ok, Err}
+use Rattle.std.specs.Prelude.{◌≡◌, ◌<◌, ◌+◌, ◌⊎◌, ℕ, Bool, true, false, Option, Some, is_some, List, [], length, map, Contains, Result, Ok, Err}
 use Rattle.std.specs.List.{flat_map}
 use Rattle.indexmap.specs.IndexMap.{IndexMap, get}
 use Rattle.std.specs.declared.vec.Vec.{Vec}
@@ -35,7 +35,7 @@ use Rattle.depth_maker.specs.Spots.{spot_of, place_of}
 use Rattle.frame_places.specs.Counting.{frames_after, points_after}
 use Rattle.frame_places.specs.Marks.{is_idle, is_queued, mark_for, value_for, AllListed, AreKnown, KeepsNumbers, Puts, Reads}
 use Rattle.frame_places.specs.Nearby.{StandsAt}
-use Rattle.frame_places.specs.Work.{Takes, all_work}
+use Rattle.frame_places.specs.Work.{all_work}
 use Rattle.depth_maker.specs.Counts.{AreCounted, AreFew}
 use Rattle.depth_maker.specs.Entered.{IsPlainAt, IsPlainIn}
 use Rattle.depth_maker.specs.Levels.{level, Rises}
@@ -149,11 +149,6 @@ pub record Paid (b : Limits) (image : ImageData) (plan : PlanData) (s t : made.T
       (k : Key) (p : ℕ) (u : State) → place_of x ≡ point k p → (seen s).cells (point k p) ≡ Some (state u)
       → is_queued (mark_for t.places x) ≡ false → AllSettled b image plan t k p u
 
--- the next place is taken off the list, if there is one
-abbrev pub Opens : Limits → ImageData → PlanData → made.Table → made.Table → Bool → Type 0
-Opens b image plan s t false = IsFine b image plan t × NoneOpen t × (level t ≡ level s) × (all_work t.work ≡ [])
-Opens b image plan s t true = IsFine b image plan t × IsOpen t × (level t ≡ level s) × Takes s.work t.work t.near
-
 -- the least closed assignment: no place has work
 pub record IsDone (g : Ground) (t : made.Table) : Type 0 where
   pub derived : Derived g.bounds.now g.image.now g.plan.now (seen t).cells
@@ -217,13 +212,15 @@ JoinedOn g s t y v = Joined g.bounds.now g.image.now g.plan.now s t y v
 abbrev pub PaidOn : Ground → made.Table → made.Table → Spot → Type 0
 PaidOn g s t x = Paid g.bounds.now g.image.now g.plan.now s t x
 
--- the next place is taken off the list, if there is one
-abbrev pub OpensOn : Ground → made.Table → made.Table → Bool → Type 0
-OpensOn g s t r = Opens g.bounds.now g.image.now g.plan.now s t r
-
 -- a visit is over: no place is open, and nothing was put on the list unless the table rose
 abbrev pub EndsOn : Ground → made.Table → made.Table → Type 0
 EndsOn g s t = FineOn g t × NoneOpen t × Rises s t
+
+-- a step: the table rose, or its list of work is shorter by one; false where nothing was listed
+abbrev pub StepsOn : Ground → made.Table → made.Table → Result Bool Refusal → Type 0
+StepsOn g s t (Ok false) = FineOn g t × NoneOpen t × (level t ≡ level s) × (all_work t.work ≡ [])
+StepsOn g s t (Ok true) = FineOn g t × NoneOpen t × ((level s < level t) ⊎ ((level t ≡ level s) × (length (all_work s.work) ≡ length (all_work t.work) + 1)))
+StepsOn g s t (Err e) = AnsweredOn g e
 
 -- a turn over the list of work: where some is left the table rose
 abbrev pub TurnsOn : Ground → made.Table → made.Table → Result Bool Refusal → Type 0

@@ -59,7 +59,7 @@ pub(crate) fn pay_first(
     ensures err { IfErr result (AnsweredOn v.now.ground.now) }
 {
     let asked = Asked::Changed(v.state, c);
-    raise(alloc, table, v, Spot::Point(v.key, to), &asked)
+    raise(alloc, table, v, &Spot::Point(v.key, to), &asked)
 }
 
 /// An entry of a frame, with a changed state.
@@ -82,7 +82,7 @@ pub(crate) fn pay_enter(
         return Ok(());
     }
     let asked = Asked::Changed(v.state, c);
-    raise(alloc, table, v, Spot::Point(key, key.entry), &asked)
+    raise(alloc, table, v, &Spot::Point(key, key.entry), &asked)
 }
 
 /// The point's frame is left.
@@ -98,7 +98,7 @@ pub(crate) fn pay_leave(alloc: Global, table: &mut Table, v: &Visit) -> Result<(
         return Ok(());
     }
     let asked = Asked::Leaving(v.state);
-    raise(alloc, table, v, Spot::Exit(v.key), &asked)
+    raise(alloc, table, v, &Spot::Exit(v.key), &asked)
 }
 
 /// Where a frame of this key has an exit, the point's frame goes on at `back`.
@@ -120,7 +120,7 @@ fn pay_back(alloc: Global, table: &mut Table, v: &Visit, key: Key, back: u32) ->
     };
     let copy = exit.copy()?;
     let asked = Asked::After(v.state, &copy, key.kind);
-    raise(alloc, table, v, Spot::Point(v.key, back), &asked)
+    raise(alloc, table, v, &Spot::Point(v.key, back), &asked)
 }
 
 /// The point is told of the exit of the frame that it enters, and goes on at `back` where there is one.

@@ -5,7 +5,7 @@ ghost use Rattle.frame_places.specs.declared.places.Spot as spots;
 ghost use Rattle.frame_places.specs.Nearby.{StandsAt};
 ghost use Rattle.frame_places.specs.Spots.{spot_eq};
 ghost use Rattle.depth_maker.specs.Entered.{IsPlainIn};
-ghost use Rattle.depth_maker.specs.View.{AnsweredOn, EndsOn, FineOn, IsDone, IsOpen, NoneOpen, OpensOn, PaidOn, TurnsOn};
+ghost use Rattle.depth_maker.specs.View.{AnsweredOn, EndsOn, FineOn, IsDone, IsOpen, NoneOpen, PaidOn, StepsOn, TurnsOn};
 
 use crate::ground::{Ground, Visit};
 use crate::heard::Hearings;
@@ -13,17 +13,16 @@ use crate::paying::pay;
 use crate::table::Table;
 use cfg_recover::{KnownCodes, start_key, start_state};
 use elf_image::Image;
-use frame_places::{Refusal, Spot, Work, add, open, settle};
+use frame_places::{Refusal, Spot, Work, add, has_work, open, settle};
 use indexmap::IndexMap;
 use small_states::{Asked, Cell, ScratchState};
 use std::alloc::Global;
 use vd_transfer::{Change, unchanged};
 
-/// What visits write over: the state of the point, what its instruction changes, and what is known of words of code.
+/// What visits write over: the state of the point, and what is known of words of code.
 #[derive(Drop)]
 struct Scratch {
     state: ScratchState,
-    change: Change,
     codes: KnownCodes,
 }
 
@@ -44,6 +43,7 @@ fn no_readers(alloc: Global) -> IndexMap<Spot, Vec<Spot>>
 }
 
 /// The table of the start alone.
+#[inline(never)]
 fn begin(alloc: Global, ground: &Ground) -> Result<Table, Refusal>
     ensures ok { IfOk result (λ t. FineOn ground.now t × NoneOpen t) }
     ensures err { IfErr result (AnsweredOn ground.now) }
@@ -75,30 +75,14 @@ fn begin(alloc: Global, ground: &Ground) -> Result<Table, Refusal>
     })
 }
 
-/// Takes the next place off the list and marks it as open; says whether there was one.
-#[inline(always)]
-fn open_next(_ground: &Ground, table: &mut Table) -> bool
-    requires fine { FineOn _ground.now table.old }
-    requires none { NoneOpen table.old }
-    ensures { OpensOn _ground.now table.old table.new result }
-{
-    match table.work.pop() {
-        None => false,
-        Some(number) => {
-            table.near = number;
-            open(&mut table.places, number);
-            true
-        }
-    }
-}
-
 /// Joins what is owed at the place that is visited, and says whether an instruction there is seen to enter no frame by itself;
-/// nothing is owed at an exit. The state of a point is written over `scratch`.
+/// nothing is owed at an exit. The state of a point is written over `scratch`, what its instruction changes over `change`.
 fn pay_place(
     alloc: Global,
     ground: &Ground,
     table: &mut Table,
     scratch: &mut Scratch,
+    change: &mut Change,
 ) -> Result<bool, Refusal>
     requires fine { FineOn ground.now table.old }
     ensures ok { (x : spots.Spot) → StandsAt table.old.places table.old.near x
@@ -121,7 +105,7 @@ fn pay_place(
         addr,
         state: scratch.state.state(),
     };
-    pay(alloc, table, &v, &mut scratch.change, &mut scratch.codes)
+    pay(alloc, table, &v, change, &mut scratch.codes)
 }
 
 /// Visits the place that was taken off the list.
@@ -130,18 +114,45 @@ fn visit(
     ground: &Ground,
     table: &mut Table,
     scratch: &mut Scratch,
+    change: &mut Change,
 ) -> Result<(), Refusal>
     requires fine { FineOn ground.now table.old }
     requires opened { IsOpen table.old }
     ensures ok { OnOk result (EndsOn ground.now table.old table.new) }
     ensures err { IfErr result (AnsweredOn ground.now) }
 {
-    let plain = pay_place(alloc, ground, table, scratch)?;
+    let plain = pay_place(alloc, ground, table, scratch, change)?;
     settle(&mut table.places, table.near, plain);
     Ok(())
 }
 
-/// Visits as many places as are on the list now, and some more, as long as there is work; says whether some is left.
+/// Takes the next place off the list, and visits it if it has work still; says whether there was one.
+fn step(
+    alloc: Global,
+    ground: &Ground,
+    table: &mut Table,
+    scratch: &mut Scratch,
+    change: &mut Change,
+) -> Result<bool, Refusal>
+    requires fine { FineOn ground.now table.old }
+    requires none { NoneOpen table.old }
+    ensures { StepsOn ground.now table.old table.new result }
+{
+    let Some(number) = table.work.pop() else {
+        return Ok(false);
+    };
+    if !has_work(&table.places, number) {
+        return Ok(true);
+    }
+    table.near = number;
+    open(&mut table.places, number);
+    visit(alloc, ground, table, scratch, change)?;
+    Ok(true)
+}
+
+/// Takes as many places off the list as it has now, and some more, as long as there are any, and visits those that have work; says
+/// whether some are left.
+#[inline(never)]
 fn turn(
     alloc: Global,
     ground: &Ground,
@@ -152,11 +163,11 @@ fn turn(
     requires none { NoneOpen table.old }
     ensures { TurnsOn ground.now table.old table.new result }
 {
+    let mut change = unchanged(scratch.state.state());
     for _done in 0..table.work.len() + 1024 {
-        if !open_next(ground, table) {
+        if !step(alloc, ground, table, scratch, &mut change)? {
             return Ok(false);
         }
-        visit(alloc, ground, table, scratch)?;
     }
     Ok(!table.work.is_empty())
 }
@@ -169,12 +180,8 @@ pub(crate) fn close(alloc: Global, ground: &Ground) -> Result<Table, Refusal>
     ensures err { IfErr result (AnsweredOn ground.now) }
 {
     let mut table = begin(alloc, ground)?;
-    let state = start_state(ground.plan);
-    let change = unchanged(&state);
-    let state = ScratchState::new(state);
     let mut scratch = Scratch {
-        state,
-        change,
+        state: ScratchState::new(start_state(ground.plan)),
         codes: KnownCodes::new(),
     };
     while turn(alloc, ground, &mut table, &mut scratch)? {}

@@ -1,5 +1,5 @@
 // The frames of the handlers of interrupts, by their numbers.
-ghost use Rattle.std.specs.Prelude.{◌≡◌, ◌++◌, ◌∷◌, [], List, IfOk, OnOk};
+ghost use Rattle.std.specs.Prelude.{◌≡◌, ◌≤◌, ◌<◌, ◌+◌, ◌++◌, ◌∷◌, [], List, IfOk, OnOk, length, vec_len, vec_capacity};
 ghost use Rattle.depth_cert.specs.declared.keys.Key as keys;
 ghost use Rattle.frame_places.specs.Numbers.{AreNumbers};
 ghost use Rattle.depth_maker.specs.Handlers.{AreHandlers, nodes_above, nodes_taken};
@@ -50,26 +50,29 @@ pub(crate) fn handlers(
     handlers_of(alloc, plan, numbers, plan.irqs.as_slice())
 }
 
-/// Adds the frame of a handler, if the interrupt is above this priority.
-fn add_above(into: &mut Vec<usize>, ccpn: u8, handler: &Handler) -> Result<(), AllocError>
-    ensures { OnOk result
-        (into.new.items ≡ into.old.items ++ nodes_above ccpn (handler.now ∷ [])) }
+/// Adds the frame of a handler, for which there is room, if the interrupt is above this priority.
+#[inline(always)]
+fn add_above(into: &mut Vec<usize>, ccpn: u8, handler: &Handler)
+    requires { vec_len into.old < vec_capacity into.old }
+    ensures items { into.new.items ≡ into.old.items ++ nodes_above ccpn (handler.now ∷ []) }
+    ensures few { vec_len into.new ≤ vec_len into.old + 1 }
+    ensures capacity { vec_capacity into.new ≡ vec_capacity into.old }
 {
     if handler.prio <= ccpn {
-        return Ok(());
+        return;
     }
-    into.push(handler.node)?;
-    Ok(())
+    into.push_reserved(handler.node);
 }
 
-/// Adds those of all interrupts above this priority.
-fn add_all_above(into: &mut Vec<usize>, ccpn: u8, handlers: &[Handler]) -> Result<(), AllocError>
-    ensures { OnOk result (into.new.items ≡ into.old.items ++ nodes_above ccpn handlers.now) }
+/// Adds those of all interrupts above this priority, for which there is room.
+#[inline(always)]
+fn add_all_above(into: &mut Vec<usize>, ccpn: u8, handlers: &[Handler])
+    requires { vec_len into.old + length handlers.now ≤ vec_capacity into.old }
+    ensures { into.new.items ≡ into.old.items ++ nodes_above ccpn handlers.now }
 {
     for h in handlers {
-        add_above(into, ccpn, h)?;
+        add_above(into, ccpn, h);
     }
-    Ok(())
 }
 
 /// Adds the frames of the interrupts that may be taken: none where they may not come, else those above this priority.
@@ -85,5 +88,6 @@ pub(crate) fn add_taken(
         return Ok(());
     }
     into.reserve(handlers.len())?;
-    add_all_above(into, ccpn, handlers)
+    add_all_above(into, ccpn, handlers);
+    Ok(())
 }

@@ -95,11 +95,11 @@ pub(crate) fn pay(
 {
     let g = v.ground;
     let located = codes.located(g.image, g.plan, v.addr);
-    match &check_located(g.bounds, g.plan, &v.key, v.state, located) {
+    match check_located(g.bounds, g.plan, &v.key, v.state, &located) {
         Ok(found) => {
             pay_duties(alloc, table, v, found, c)?;
             Ok(enters_none(g.plan, found.shape))
         }
-        Err(rule) => Err(Refusal::Fault(*rule, Spot::Point(v.key, v.addr))),
+        Err(rule) => Err(Refusal::Fault(rule, Spot::Point(v.key, v.addr))),
     }
 }

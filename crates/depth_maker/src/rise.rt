@@ -19,19 +19,19 @@ use small_states::{Asked, Cell, priority};
 use std::alloc::{AllocError, Global};
 
 /// Joins what is asked into what is known at y, which has this number, and puts y on the list, unless it is covered; says whether
-/// it was not. The entry point of a frame waits.
+/// it was not. The entry point of a frame waits if it was visited.
 fn raise_place(
     alloc: Global,
     table: &mut Table,
     v: &Visit,
     number: usize,
-    y: Spot,
+    y: &Spot,
     asked: &Asked,
 ) -> Result<bool, Refusal>
     requires fine { FineOn v.now.ground.now table.old }
-    requires there { StandsAt table.old.places number y }
-    requires asked { AsksOn v.now.ground.now table.old y (asked_for asked.now) }
-    ensures { RaisesOn v.now.ground.now table.old table.new y (asked_for asked.now) result }
+    requires there { StandsAt table.old.places number y.now }
+    requires asked { AsksOn v.now.ground.now table.old y.now (asked_for asked.now) }
+    ensures { RaisesOn v.now.ground.now table.old table.new y.now (asked_for asked.now) result }
 {
     let Some((_, place)) = table.places.get_index(number) else {
         return Err(Refusal::NoMemory);
@@ -41,7 +41,7 @@ fn raise_place(
         return Ok(false);
     }
     let Some(cell) = place.value.join(alloc, b, asked)? else {
-        return Err(Refusal::Fault(8, y));
+        return Err(Refusal::Fault(8, *y));
     };
     put(
         &mut table.places,
@@ -59,7 +59,7 @@ fn rise_anew(
     alloc: Global,
     table: &mut Table,
     v: &Visit,
-    y: Spot,
+    y: &Spot,
     asked: &Asked,
 ) -> Result<bool, Refusal>
     requires fine { FineOn v.now.ground.now table.old }
@@ -67,16 +67,16 @@ fn rise_anew(
     requires at { (seen table.old).cells (point v.now.key v.now.addr)
         ≡ Some (state v.now.state.now) }
     requires own { asking asked.now ≡ v.now.state.now }
-    requires asked { AsksOn v.now.ground.now table.old y (asked_for asked.now) }
-    ensures { RaisesOn v.now.ground.now table.old table.new y (asked_for asked.now) result }
+    requires asked { AsksOn v.now.ground.now table.old y.now (asked_for asked.now) }
+    ensures { RaisesOn v.now.ground.now table.old table.new y.now (asked_for asked.now) result }
 {
     let Some((_, own)) = table.places.get_index(table.near) else {
         return Err(Refusal::NoMemory);
     };
     let value = own.value.changed(alloc, asked)?;
-    match add_or_find(&mut table.places, &mut table.work, y, value)? {
+    match add_or_find(&mut table.places, &mut table.work, *y, value)? {
         None => {
-            count(false, &mut table.points, &mut table.frames, y)?;
+            count(false, &mut table.points, &mut table.frames, *y)?;
             Ok(true)
         }
         Some(number) => raise_place(alloc, table, v, number, y, asked),
@@ -89,7 +89,7 @@ fn rise(
     alloc: Global,
     table: &mut Table,
     v: &Visit,
-    y: Spot,
+    y: &Spot,
     asked: &Asked,
 ) -> Result<bool, Refusal>
     requires fine { FineOn v.now.ground.now table.old }
@@ -97,11 +97,11 @@ fn rise(
     requires at { (seen table.old).cells (point v.now.key v.now.addr)
         ≡ Some (state v.now.state.now) }
     requires own { asking asked.now ≡ v.now.state.now }
-    requires asked { AsksOn v.now.ground.now table.old y (asked_for asked.now) }
-    ensures { RaisesOn v.now.ground.now table.old table.new y (asked_for asked.now) result }
+    requires asked { AsksOn v.now.ground.now table.old y.now (asked_for asked.now) }
+    ensures { RaisesOn v.now.ground.now table.old table.new y.now (asked_for asked.now) result }
 {
     if table.near < table.places.len().saturating_sub(1) {
-        if let Some(number) = table.places.get_index_of(&y) {
+        if let Some(number) = table.places.get_index_of(y) {
             return raise_place(alloc, table, v, number, y, asked);
         }
     }
@@ -113,19 +113,20 @@ fn tell(
     places: &mut IndexMap<Spot, Marked<Cell>>,
     work: &mut Work,
     readers: &IndexMap<Spot, Vec<Spot>>,
-    y: Spot,
+    y: &Spot,
     waits: bool,
 ) -> Result<(), AllocError>
     requires listed { AllListed places.old (all_work work.old) }
     requires exits { AreExitsRead readers.now }
-    requires known { AreKnown places.old (Reads (get spot_eq readers.now y)) }
-    ensures marks { OnOk result (Tells places.old places.new (Reads (get spot_eq readers.now y))) }
+    requires known { AreKnown places.old (Reads (get spot_eq readers.now y.now)) }
+    ensures marks { OnOk result
+        (Tells places.old places.new (Reads (get spot_eq readers.now y.now))) }
     ensures work { OnOk result (AllListed places.new (all_work work.new)) }
 {
-    if let Spot::Point(_, _) = y {
+    if let Spot::Point(_, _) = *y {
         return Ok(());
     }
-    wake(places, work, readers, y, waits)
+    wake(places, work, readers, *y, waits)
 }
 
 /// Joins what is asked by a point, which has the state that it is visited with, into what is known at y. Those that read an exit
@@ -134,7 +135,7 @@ pub(crate) fn raise(
     alloc: Global,
     table: &mut Table,
     v: &Visit,
-    y: Spot,
+    y: &Spot,
     asked: &Asked,
 ) -> Result<(), Refusal>
     requires fine { FineOn v.now.ground.now table.old }
@@ -142,9 +143,9 @@ pub(crate) fn raise(
     requires at { (seen table.old).cells (point v.now.key v.now.addr)
         ≡ Some (state v.now.state.now) }
     requires own { asking asked.now ≡ v.now.state.now }
-    requires asked { AsksOn v.now.ground.now table.old y (asked_for asked.now) }
+    requires asked { AsksOn v.now.ground.now table.old y.now (asked_for asked.now) }
     ensures ok { OnOk result
-        (JoinedOn v.now.ground.now table.old table.new y (asked_for asked.now)) }
+        (JoinedOn v.now.ground.now table.old table.new y.now (asked_for asked.now)) }
     ensures err { IfErr result (AnsweredOn v.now.ground.now) }
 {
     let _byte = priority(asked);

@@ -54,7 +54,8 @@ fn row_with(
         → AllKnownBy v.now frames → node ≡ number_in frames v.now.key → IsRowBy v.now frames row) }
 {
     let keys = entered(alloc, v, found)?;
-    let mut into = numbers_of(alloc, source.numbers, keys.as_slice())?;
+    let more = source.handlers.len();
+    let mut into = numbers_of(alloc, source.numbers, keys.as_slice(), more)?;
     add_taken(&mut into, v.state.ie, v.state.ccpn, source.handlers)?;
     Ok(Row {
         node,

@@ -5,7 +5,7 @@ use frame_places::{Marked, Spot, Work};
 use indexmap::IndexMap;
 use small_states::Cell;
 
-/// What is known at each place, and its mark, with the list of the places that have work, by their numbers in the order of
+/// What is known at each place, and its mark, with the list of work, which has all places that have some, by their numbers in the order of
 /// `places`. `points` has each point that is known, and `frames` each frame that has one, in the order in which they came; the
 /// entries of the interrupts that were `heard` are covered. `near` is the number of the place that is visited.
 #[derive(Drop)]

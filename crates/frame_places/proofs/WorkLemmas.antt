@@ -3,9 +3,9 @@ use Rattle.std.proofs.Common.{◌≡◌, ◌⊎◌, inl, inr, arith, ℕ, Bool, 
 use Rattle.std.specs.Prelude.{IfSome, IfNone}
 use Rattle.std.proofs.lemmas.List.{append_assoc, append-nil}
 use Rattle.std.proofs.lemmas.List.Elements.{Contains-append_cases, Contains-append_left, Contains-append_right, Contains-push, Contains-push_cases}
-use Rattle.std.proofs.lemmas.List.Sorted.{Contains-permutation, IsPermutation-append_left, IsPermutation-refl, IsPermutation-sym, IsPermutation-to_front, IsPermutation-trans, length_permutation}
+use Rattle.std.proofs.lemmas.List.Sorted.{Contains-permutation, IsPermutation-append_comm, IsPermutation-append_left, IsPermutation-refl, IsPermutation-sym, IsPermutation-to_front, IsPermutation-trans, length_permutation}
 use Rattle.std.specs.List.Sorted.{IsPermutation}
-use Rattle.frame_places.specs.Work.{BeginsRound, HasNoNext, Lists, PutsAs, PutsNext, PutsWaiting, Takes, TakesFirst, TakesLast, TakesRound, Turns, all_work}
+use Rattle.frame_places.specs.Work.{BeginsRound, HasNoNext, Lists, PutsAs, PutsEntry, PutsNew, PutsNext, PutsWaiting, Takes, TakesFirst, TakesLast, TakesRound, Turns, all_work}
 
 -- a list has what another has, and one number
 abbrev pub Adds : List ℕ → List ℕ → ℕ → Type 0
@@ -69,6 +69,29 @@ adds_waiting old new number puts =
 pub adds_either : (waits : Bool) (old new : Lists) (number : ℕ) → PutsAs waits old new number → Adds (all_work old) (all_work new) number
 adds_either true old new number puts = adds_waiting old new number puts
 adds_either false old new number puts = adds_next old new number puts
+
+-- others in the midst of lists
+between_same : (front xs ys back : List ℕ) → IsPermutation xs ys → IsPermutation (front ++ (xs ++ back)) (front ++ (ys ++ back))
+between_same front xs ys back h =
+    IsPermutation-trans (front ++ (xs ++ back)) ((xs ++ back) ++ front) (front ++ (ys ++ back)) (IsPermutation-append_comm front (xs ++ back))
+    (IsPermutation-trans ((xs ++ back) ++ front) ((ys ++ back) ++ front) (front ++ (ys ++ back))
+    (IsPermutation-append_left front (xs ++ back) (ys ++ back) (IsPermutation-append_left back xs ys h)) (IsPermutation-append_comm (ys ++ back) front))
+
+pub adds_entry : (old new : Lists) (number : ℕ) → PutsEntry old new number → Adds (all_work old) (all_work new) number
+adds_entry old new number puts =
+    let front = old.first ++ old.next in
+    let more = old.round ++ number ∷ [] in
+    let turned : IsPermutation more new.round = IsPermutation-trans more (number ∷ old.round) new.round (IsPermutation-to_front old.round number) puts.round in
+    let put : IsPermutation (number ∷ (front ++ (old.round ++ old.waiting))) (front ++ (new.round ++ old.waiting)) =
+    IsPermutation-trans (number ∷ (front ++ (old.round ++ old.waiting))) (front ++ (more ++ old.waiting)) (front ++ (new.round ++ old.waiting))
+    (more_between front old.round old.waiting number) (between_same front more new.round old.waiting turned) in
+    subst (λ (l : List ℕ). Adds (all_work old) l number) (sym (parts new old.first old.next new.round old.waiting puts.first puts.next refl puts.waiting))
+    (subst (λ (l : List ℕ). IsPermutation (number ∷ l) (old.first ++ (old.next ++ (new.round ++ old.waiting)))) (append_assoc old.first old.next (old.round ++ old.waiting))
+    (subst (λ (l : List ℕ). IsPermutation (number ∷ (front ++ (old.round ++ old.waiting))) l) (append_assoc old.first old.next (new.round ++ old.waiting)) put))
+
+pub adds_new : (entry : Bool) (old new : Lists) (number : ℕ) → PutsNew entry old new number → Adds (all_work old) (all_work new) number
+adds_new true old new number puts = adds_entry old new number puts
+adds_new false old new number puts = adds_next old new number puts
 
 -- ---- what is taken
 -- the last of a list comes to its front

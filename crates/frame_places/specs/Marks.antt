@@ -33,7 +33,7 @@ pub record AllListed {V S : Type 0} (places : IndexMap Spot (Marked V) S) (work 
   pub listed : (q : Spot) → mark_for places q ≡ Some Queued → (number : ℕ) × Contains work number × StandsAt places number q
   pub known : (number : ℕ) → Contains work number → (q : Spot) × StandsAt places number q
 
--- x is marked so, and nothing else changes
+-- x is marked so, and no other mark, no value and no number changes
 pub record MarksAs {V S : Type 0} (old new : IndexMap Spot (Marked V) S) (x : Spot) (mark : Mark) : Type 0 where
   pub values : (q : Spot) → value_for new q ≡ value_for old q
   pub marks : (q : Spot) → mark_for new q ≡ (if spot_eq x q then Some mark else mark_for old q)

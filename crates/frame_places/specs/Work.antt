@@ -9,7 +9,7 @@ pub record Lists : Type 0 where
   pub round : List ℕ
   pub waiting : List ℕ
 
--- all places that have work
+-- all numbers that are listed: those of places that have work, and maybe others, or the same again
 abbrev pub all_work : Lists → List ℕ
 all_work work = work.first ++ (work.next ++ (work.round ++ work.waiting))
 
@@ -26,6 +26,18 @@ pub record PutsWaiting (old new : Lists) (number : ℕ) : Type 0 where
   pub next : new.next ≡ old.next
   pub round : new.round ≡ old.round
   pub waiting : new.waiting ≡ old.waiting ++ number ∷ []
+
+-- this place comes in this round too, whatever its place there
+pub record PutsEntry (old new : Lists) (number : ℕ) : Type 0 where
+  pub first : new.first ≡ old.first
+  pub next : new.next ≡ old.next
+  pub round : IsPermutation (number ∷ old.round) new.round
+  pub waiting : new.waiting ≡ old.waiting
+
+-- this place comes in this round too, if it is an entry point, or is next too
+abbrev pub PutsNew : Bool → Lists → Lists → ℕ → Type 0
+PutsNew true old new number = PutsEntry old new number
+PutsNew false old new number = PutsNext old new number
 
 -- this place waits too, or is next too
 abbrev pub PutsAs : Bool → Lists → Lists → ℕ → Type 0

@@ -5,7 +5,7 @@ ghost use Rattle.frame_places.specs.declared.places.Spot.{Spot};
 ghost use Rattle.frame_places.specs.declared.places.Mark.TheVariants.{Open, Plain, Queued};
 ghost use Rattle.frame_places.specs.Nearby.{StandsAt};
 ghost use Rattle.frame_places.specs.Spots.{spot_eq};
-ghost use Rattle.frame_places.specs.Work.{PutsAs, all_work};
+ghost use Rattle.frame_places.specs.Work.{PutsAs, PutsNew, all_work};
 ghost use Rattle.frame_places.specs.Marks.{AddsOrFinds, AllListed, AreKnown, MarksAs, Puts, Reads, Tells, idle_mark, is_queued, mark_for, settled_mark, value_for};
 
 use crate::places::{Mark, Marked, Spot};
@@ -14,7 +14,20 @@ use indexmap::IndexMap;
 use indexmap::map::Entry;
 use std::alloc::AllocError;
 
-/// Adds y, of which nothing is known, with work; it is next.
+/// Puts a place that was found just now on the list: it is next, or comes before all that was found before if it is the entry
+/// point of a frame.
+#[inline(always)]
+fn list_new(work: &mut Work, number: usize, entry: bool) -> Result<(), AllocError>
+    ensures { OnOk result (PutsNew entry work.old work.new number) }
+{
+    if entry {
+        work.push_entry(number)
+    } else {
+        work.push(number)
+    }
+}
+
+/// Adds y, of which nothing is known, with work.
 #[inline(always)]
 pub fn add<V: Drop>(
     places: &mut IndexMap<Spot, Marked<V>>,
@@ -28,16 +41,18 @@ pub fn add<V: Drop>(
     ensures work { OnOk result (AllListed places.new (all_work work.new)) }
 {
     let number = places.len();
+    let entry = y.is_entry();
     let place = Marked {
         value,
         mark: Mark::Queued,
+        visited: false,
     };
     places.insert(y, place)?;
-    work.push(number)?;
+    list_new(work, number, entry)?;
     Ok(())
 }
 
-/// Adds y with this value and work, where nothing is known there; it is next. Else tells the number that it has.
+/// Adds y with this value and work, where nothing is known there. Else tells the number that it has.
 #[inline(always)]
 pub fn add_or_find<V: Drop>(
     places: &mut IndexMap<Spot, Marked<V>>,
@@ -49,14 +64,16 @@ pub fn add_or_find<V: Drop>(
     ensures { IfOk result (AddsOrFinds places.old places.new work.old work.new y value) }
 {
     let number = places.len();
+    let entry = y.is_entry();
     match places.entry(y)? {
         Entry::Occupied(known) => Ok(Some(known.index())),
         Entry::Vacant(place) => {
             place.insert(Marked {
                 value,
                 mark: Mark::Queued,
+                visited: false,
             });
-            work.push(number)?;
+            list_new(work, number, entry)?;
             Ok(None)
         }
     }
@@ -74,14 +91,21 @@ fn list(work: &mut Work, number: usize, waits: bool) -> Result<(), AllocError>
     }
 }
 
-/// Sets what is known at the place of this number, and puts it on the list, unless it is there; it waits or is next.
+/// Whether a place on the list comes to the front where it is raised: an entry point of a frame that wasn't visited yet.
+#[inline(always)]
+fn is_front(entry: bool, visited: bool) -> bool {
+    entry && !visited
+}
+
+/// Sets what is known at the place of this number, and puts it on the list, unless it is there. It waits, if it is the entry point
+/// of a frame, or is next; an entry point on the list that wasn't visited yet comes before all that was found before, once more.
 #[inline(always)]
 pub fn put<V: Drop>(
     places: &mut IndexMap<Spot, Marked<V>>,
     work: &mut Work,
     number: usize,
     value: V,
-    waits: bool,
+    entry: bool,
 ) -> Result<(), AllocError>
     requires listed { AllListed places.old (all_work work.old) }
     ensures puts { (y : Spot) → StandsAt places.old number y
@@ -94,10 +118,13 @@ pub fn put<V: Drop>(
     };
     place.value = value;
     if let Mark::Queued = place.mark {
+        if is_front(entry, place.visited) {
+            work.push_entry(number)?;
+        }
         return Ok(());
     }
     place.mark = Mark::Queued;
-    list(work, number, waits)?;
+    list(work, number, entry)?;
     Ok(())
 }
 
@@ -187,7 +214,10 @@ pub fn has_work<V>(places: &IndexMap<Spot, Marked<V>>, number: usize) -> bool
 pub fn open<V>(places: &mut IndexMap<Spot, Marked<V>>, number: usize)
     ensures { (x : Spot) → StandsAt places.old number x → MarksAs places.old places.new x Open }
 {
-    mark_at(places, number, Mark::Open);
+    if let Some(place) = places.get_index_mut(number) {
+        place.mark = Mark::Open;
+        place.visited = true;
+    }
 }
 
 /// Whether a mark is that of a place without work that is plain.

@@ -49,17 +49,18 @@ pub fn number_near(numbers: &IndexMap<Key, usize>, near: usize, key: &Key) -> us
     number_of(numbers, *key)
 }
 
-/// The numbers of these frames.
+/// The numbers of these frames, with room for so many more.
 pub fn numbers_of(
     alloc: Global,
     numbers: &IndexMap<Key, usize>,
     entered: &[Key],
+    more: usize,
 ) -> Result<Vec<usize>, AllocError>
     ensures { IfOk result (λ into. (frames : List keys.Key) → AreNumbers numbers.now frames frames
         → ((k : keys.Key) → Contains entered.now k → Contains frames k)
         → into.items ≡ map (number_in frames) entered.now) }
 {
-    let mut into = Vec::new(alloc);
+    let mut into = Vec::with_capacity(alloc, entered.len().saturating_add(more))?;
     for key in entered {
         into.push(number_of(numbers, *key))?;
     }

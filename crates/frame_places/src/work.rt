@@ -1,22 +1,29 @@
 // The list of work.
 ghost use Rattle.std.specs.Prelude.{◌≡◌, ◌<◌, ◌^◌, ◌==◌, IfSome, IfNone, OnOk, [], length};
-ghost use Rattle.frame_places.specs.Work.{BeginsRound, HasNoNext, PutsNext, PutsWaiting, Takes, TakesFirst, TakesLast, TakesRound, Turns, all_work};
+ghost use Rattle.frame_places.specs.Work.{BeginsRound, HasNoNext, PutsEntry, PutsNext, PutsWaiting, Takes, TakesFirst, TakesLast, TakesRound, Turns, all_work};
 
 use std::alloc::{AllocError, Global};
 use std::marker::Model;
 use std::mem::swap;
 
-/// The numbers of the places that have work. Most are next, first in, first out: `first` has the first of them, the least last,
-/// from where they are taken, and `next` those behind them. Some wait for the next round: it begins when all
-/// others are done, and takes the places in the order of their numbers, in which they were found. So what an exit that rises again
-/// wakes goes on once, when that exit has risen as far as it does for now; and a frame that is entered anew is walked through when
-/// those found before it, which may enter it too, were.
+/// How many places are shifted at most where one is put behind them.
+const MOST_SHIFTED: usize = 64;
+
+/// Numbers of places. Each place that has work is listed; some are listed twice or have no work any more, and are passed over then.
+/// Most are next, first in, first out: `first` has the first of them, the least last, from where they are taken, and `next` those
+/// behind them. When none is next the last one of `round` is taken, and when that is empty those that wait are the round, in the
+/// order of their numbers, in which they were found. So what an exit that rises again wakes goes on once, when that exit has risen
+/// as far as it does for now; and a frame that is entered anew is walked through when those found before it, which may enter it
+/// too, were. Entry points that weren't visited yet are put into `round` above its first `base` places, which were left when one
+/// of it was taken last: so the frame that was found last is walked through first, with all that it enters, and of those found
+/// since then the first one, as long as they are 64 at most.
 #[derive(Drop)]
 pub struct Work {
     first: Vec<usize>,
     next: Vec<usize>,
     round: Vec<usize>,
     waiting: Vec<usize>,
+    base: usize,
 }
 
 impl Model for Work {
@@ -37,6 +44,7 @@ impl Work {
             next: Vec::new(alloc),
             round: Vec::new(alloc),
             waiting: Vec::new(alloc),
+            base: 0,
         }
     }
 
@@ -77,6 +85,19 @@ impl Work {
         Ok(())
     }
 
+    /// Puts an entry point that wasn't visited yet before what is left of the round, behind those that were found since a place of
+    /// it was taken, or behind 64 of them. Where it is listed already it is listed once more: each time its state rose, so that
+    /// the list never has more places than there were rises.
+    #[inline(always)]
+    pub(crate) fn push_entry(&mut self, number: usize) -> Result<(), AllocError>
+        ensures { OnOk result (PutsEntry self.old self.new number) }
+    {
+        let len = self.round.len();
+        let at = self.base.max(len.saturating_sub(MOST_SHIFTED)).min(len);
+        self.round.insert(at, number)?;
+        Ok(())
+    }
+
     /// Those that wait come in this round, of which none is left; the least number last, from where they are taken.
     fn begin_round(&mut self)
         ensures { BeginsRound self.old self.new }
@@ -92,7 +113,9 @@ impl Work {
         ensures some { IfSome result (TakesRound self.old self.new) }
         ensures none { IfNone result ((self.old.round ≡ []) × (self.new ≡ self.old)) }
     {
-        self.round.pop()
+        let number = self.round.pop();
+        self.base = self.round.len();
+        number
     }
 
     /// Makes those that are next the first ones, and these, of which none is left, next; the first of them last, from where they

@@ -21,25 +21,25 @@ use Rattle.depth_maker.proofs.rise.raise_place.Goals as goal
 pub covers-requires-clause-known : goal.covers-requires-clause-known
 covers-requires-clause-known c =
     let s = c.args.table.now in
-    cells_proper _ _ _ (lawful _ _ _ c.args.v.now.ground.now.sound) s c.requires.fine c.args.y c.in-Some.place.now.value
-    (ap (option_map (λ (m : Marked Known). m.value)) (had_at s.places c.args.number c.args.y _ c.in-Some.place.now (sym c.in-Some.ensures.entry) c.in-Some.ensures.value c.requires.there))
+    cells_proper _ _ _ (lawful _ _ _ c.args.v.now.ground.now.sound) s c.requires.fine c.args.y.now c.in-Some.place.now.value
+    (ap (option_map (λ (m : Marked Known). m.value)) (had_at s.places c.args.number c.args.y.now _ c.in-Some.place.now (sym c.in-Some.ensures.entry) c.in-Some.ensures.value c.requires.there))
 
 pub covers-requires-clause-asked : goal.covers-requires-clause-asked
 covers-requires-clause-asked c =
     let laws = lawful _ _ _ c.args.v.now.ground.now.sound in
-    asks_proper _ _ _ laws (seen c.args.table.now).cells (place_of c.args.y) (asked_for c.args.asked.now)
+    asks_proper _ _ _ laws (seen c.args.table.now).cells (place_of c.args.y.now) (asked_for c.args.asked.now)
     (derived_proper _ _ _ laws (seen c.args.table.now).cells (c.requires.fine.table).derived) c.requires.asked
 
 pub join-requires-clause-known : goal.join-requires-clause-known
 join-requires-clause-known c =
     let s = c.args.table.now in
-    cells_proper _ _ _ (lawful _ _ _ c.args.v.now.ground.now.sound) s c.requires.fine c.args.y c.in-Some.place.now.value
-    (ap (option_map (λ (m : Marked Known). m.value)) (had_at s.places c.args.number c.args.y _ c.in-Some.place.now (sym c.in-Some.ensures.entry) c.in-Some.ensures.value c.requires.there))
+    cells_proper _ _ _ (lawful _ _ _ c.args.v.now.ground.now.sound) s c.requires.fine c.args.y.now c.in-Some.place.now.value
+    (ap (option_map (λ (m : Marked Known). m.value)) (had_at s.places c.args.number c.args.y.now _ c.in-Some.place.now (sym c.in-Some.ensures.entry) c.in-Some.ensures.value c.requires.there))
 
 pub join-requires-clause-asked : goal.join-requires-clause-asked
 join-requires-clause-asked c =
     let laws = lawful _ _ _ c.args.v.now.ground.now.sound in
-    asks_proper _ _ _ laws (seen c.args.table.now).cells (place_of c.args.y) (asked_for c.args.asked.now)
+    asks_proper _ _ _ laws (seen c.args.table.now).cells (place_of c.args.y.now) (asked_for c.args.asked.now)
     (derived_proper _ _ _ laws (seen c.args.table.now).cells (c.requires.fine.table).derived) c.requires.asked
 
 pub put-requires : goal.put-requires
@@ -49,37 +49,37 @@ pub returns-then-covers : goal.returns-then-covers
 unfolding seen
 returns-then-covers c =
     let s = c.args.table.now in
-    let at = ap (option_map (λ (m : Marked Known). m.value)) (had_at s.places c.args.number c.args.y _ c.in-Some.place.now (sym c.in-Some.ensures.entry) c.in-Some.ensures.value c.requires.there) in
-    stays_joined _ _ _ s c.args.y (asked_for c.args.asked.now) c.requires.fine
+    let at = ap (option_map (λ (m : Marked Known). m.value)) (had_at s.places c.args.number c.args.y.now _ c.in-Some.place.now (sym c.in-Some.ensures.entry) c.in-Some.ensures.value c.requires.there) in
+    stays_joined _ _ _ s c.args.y.now (asked_for c.args.asked.now) c.requires.fine
     (record {
       known = c.in-Some.place.now.value;
-      at = ap (value_for s.places) (forth c.args.y) ∙ at;
+      at = ap (value_for s.places) (forth c.args.y.now) ∙ at;
       covers = c.covers.ensures.0 c.if-covers.true;
     })
 
 pub returns-in_default-2 : goal.returns-in_default-2
 returns-in_default-2 c =
     let s = c.args.table.now in
-    let at = ap (option_map (λ (m : Marked Known). m.value)) (had_at s.places c.args.number c.args.y _ c.in-Some.place.now (sym c.in-Some.ensures.entry) c.in-Some.ensures.value c.requires.there) in
-    the_answer _ _ _ s c.args.y c.in-Some.place.now.value (asked_for c.args.asked.now) c.requires.fine c.requires.asked at (sym c.in_ok-cell.ensures ∙ c.in_default-2.is)
+    let at = ap (option_map (λ (m : Marked Known). m.value)) (had_at s.places c.args.number c.args.y.now _ c.in-Some.place.now (sym c.in-Some.ensures.entry) c.in-Some.ensures.value c.requires.there) in
+    the_answer _ _ _ s c.args.y.now c.in-Some.place.now.value (asked_for c.args.asked.now) c.requires.fine c.requires.asked at (sym c.in_ok-cell.ensures ∙ c.in_default-2.is)
 
 pub returns : goal.returns
 returns c =
     let s = c.args.table.now in
     let v = asked_for c.args.asked.now in
-    let at = ap (option_map (λ (m : Marked Known). m.value)) (had_at s.places c.args.number c.args.y _ c.in-Some.place.now (sym c.in-Some.ensures.entry) c.in-Some.ensures.value c.requires.there) in
+    let at = ap (option_map (λ (m : Marked Known). m.value)) (had_at s.places c.args.number c.args.y.now _ c.in-Some.place.now (sym c.in-Some.ensures.entry) c.in-Some.ensures.value c.requires.there) in
     record {
       known = c.in-Some-2.cell;
       raises = ap (λ (o : Option Known). raised c.args.v.now.ground.now.bounds.now o v) at ∙ sym c.in_ok-cell.ensures ∙ c.in-Some-2.is;
       new = λ w there covers.
           (let no : true ≡ false =
           sym (c.covers.ensures.1 (subst (λ (z : Known). CoversKnown z v) (same_Some w c.in-Some.place.now.value (sym there ∙ at)) covers)) ∙ c.if-covers.false in cc);
-      puts = c.in_ok-put.ensures.puts c.args.y c.requires.there;
-      listed = c.in_ok-put.ensures.work c.args.y c.requires.there;
+      puts = c.in_ok-put.ensures.puts c.args.y.now c.requires.there;
+      listed = c.in_ok-put.ensures.work c.args.y.now c.requires.there;
       near = refl;
       readers = refl;
       heard = refl;
-      points = ap (λ (k : Bool). points_after k s.points.items c.args.y) (sym (ap is_some at));
-      frames = ap (λ (k : Bool). frames_after k s.frames.items c.args.y) (sym (ap is_some at));
+      points = ap (λ (k : Bool). points_after k s.points.items c.args.y.now) (sym (ap is_some at));
+      frames = ap (λ (k : Bool). frames_after k s.frames.items c.args.y.now) (sym (ap is_some at));
       few = (c.requires.fine.counted).few;
     }

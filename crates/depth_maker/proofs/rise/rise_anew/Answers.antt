@@ -44,8 +44,8 @@ returns-in_err-count-in-None c =
     let new = (rw c.in-None.is at c.in_ok-add_or_find.ensures).0 in
     let p = err_from_is_err_and c.from_residual-in_err-count-in-None.result c.from_residual-in_err-count-in-None.ensures.1 in
     rw (p.1, p.2)
-    (limit_passed _ _ _ s.places s.points.items s.frames.items c.args.y (asked_for c.args.asked.now) (c.requires.fine.table).derived c.requires.asked c.requires.fine.counted _
-    (subst (λ (k : Bool). Passing k s.points.items s.frames.items c.args.y c.in_err-count-in-None.field-0.0) (sym (ap is_some new)) c.in_err-count-in-None.ensures.err))
+    (limit_passed _ _ _ s.places s.points.items s.frames.items c.args.y.now (asked_for c.args.asked.now) (c.requires.fine.table).derived c.requires.asked c.requires.fine.counted _
+    (subst (λ (k : Bool). Passing k s.points.items s.frames.items c.args.y.now c.in_err-count-in-None.field-0.0) (sym (ap is_some new)) c.in_err-count-in-None.ensures.err))
 
 pub returns-in_ok-count-in-None : goal.returns-in_ok-count-in-None
 returns-in_ok-count-in-None c =
@@ -62,8 +62,8 @@ returns-in_ok-count-in-None c =
       near = refl;
       readers = refl;
       heard = refl;
-      points = c.in_ok-count-in-None.ensures.points ∙ ap (λ (k : Bool). points_after k s.points.items c.args.y) (sym (ap is_some new));
-      frames = c.in_ok-count-in-None.ensures.frames ∙ ap (λ (k : Bool). frames_after k s.frames.items c.args.y) (sym (ap is_some new));
+      points = c.in_ok-count-in-None.ensures.points ∙ ap (λ (k : Bool). points_after k s.points.items c.args.y.now) (sym (ap is_some new));
+      frames = c.in_ok-count-in-None.ensures.frames ∙ ap (λ (k : Bool). frames_after k s.frames.items c.args.y.now) (sym (ap is_some new));
       few = are_few _ _ c.in_ok-count-in-None.ensures.few_points c.in_ok-count-in-None.ensures.few_frames;
     }
 
@@ -78,14 +78,14 @@ raise_place-requires-clause-fine c =
 pub raise_place-requires-clause-there : goal.raise_place-requires-clause-there
 raise_place-requires-clause-there c =
     let found = rw c.in-Some-2.is at c.in_ok-add_or_find.ensures in
-    same_number c.args.table.now.places c.add_or_find.new.places found.1 c.in-Some-2.number c.args.y found.0
+    same_number c.args.table.now.places c.add_or_find.new.places found.1 c.in-Some-2.number c.args.y.now found.0
 
 pub raise_place-requires-clause-asked : goal.raise_place-requires-clause-asked
 raise_place-requires-clause-asked c =
     let s = c.args.table.now in
     let m = record s { places = c.add_or_find.new.places; work = c.add_or_find.new.work } in
     let found = rw c.in-Some-2.is at c.in_ok-add_or_find.ensures in
-    asks_again _ _ _ s m c.args.y (asked_for c.args.asked.now) found.1 c.requires.asked
+    asks_again _ _ _ s m c.args.y.now (asked_for c.args.asked.now) found.1 c.requires.asked
 
 pub returns-in-Some-2 : goal.returns-in-Some-2
 returns-in-Some-2 c =
@@ -94,4 +94,4 @@ returns-in-Some-2 c =
     let found = rw c.in-Some-2.is at c.in_ok-add_or_find.ensures in
     let fine = c.requires.fine in
     let kept = registered_fine _ _ _ (lawful _ _ _ c.args.v.now.ground.now.sound) s m found.1 refl (ap all_work found.2) refl refl refl (λ z q h. h) fine.exits fine.readers fine in
-    raises_again c.args.v.now.ground.now s m c.raise_place.new.table c.args.y (asked_for c.args.asked.now) c.raise_place.result found.1 refl refl refl refl refl kept.1 c.raise_place.ensures
+    raises_again c.args.v.now.ground.now s m c.raise_place.new.table c.args.y.now (asked_for c.args.asked.now) c.raise_place.result found.1 refl refl refl refl refl kept.1 c.raise_place.ensures

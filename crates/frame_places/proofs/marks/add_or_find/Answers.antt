@@ -1,15 +1,15 @@
-use Rattle.std.proofs.Common.{rules, sym, subst, ap, ◌∙◌, ◌≡◌, refl, ℕ, None}
+use Rattle.std.proofs.Common.{rules, sym, subst, ap, ◌∙◌, ◌≡◌, refl, ℕ, false}
 use Rattle.std.specs.Option.{option_map}
 use Rattle.indexmap.specs.Entry.{entry_index, map_with_value}
 use Rattle.indexmap.specs.declared.map.entry.Entry.TheVariants.{Vacant}
 use Rattle.frame_places.specs.declared.places.Marked.{Marked}
 use Rattle.frame_places.specs.declared.places.Mark.TheVariants.{Queued}
-use Rattle.frame_places.specs.Marks.{AllListed, Puts, value_for}
+use Rattle.frame_places.specs.Marks.{AllListed, Puts}
 use Rattle.frame_places.specs.Nearby.{StandsAt}
 use Rattle.frame_places.specs.Work.{all_work}
 use Rattle.frame_places.proofs.MarkLemmas.{AllListed-adds, puts_as}
 use Rattle.frame_places.proofs.NearbyLemmas.{added_last, added_numbers, found_there}
-use Rattle.frame_places.proofs.WorkLemmas.{adds_next}
+use Rattle.frame_places.proofs.WorkLemmas.{adds_new}
 use Rattle.frame_places.proofs.marks.add_or_find.Goals as goal
 
 pub returns-in-Occupied : goal.returns-in-Occupied
@@ -22,19 +22,19 @@ returns-in-Occupied g c =
       refl,
     )
 
-pub returns-in_ok-push-in-Vacant : goal.returns-in_ok-push-in-Vacant
-returns-in_ok-push-in-Vacant g c =
+pub returns-in_ok-list_new-in-Vacant : goal.returns-in_ok-list_new-in-Vacant
+returns-in_ok-list_new-in-Vacant g c =
     let m = c.args.places.now in
     let y = c.args.y in
-    let w : Marked g.row.V.Denot = record { value = c.args.value; mark = Queued } in
+    let w : Marked g.row.V.Denot = record { value = c.args.value; mark = Queued; visited = false } in
     let new = map_with_value (Vacant c.in-Vacant.place) w in
     let end : new ≡ c.places-in-Vacant-2-1.given.0 = search rules in
     let update = rw c.in-Vacant.is at c.in_ok-known.ensures.update in
     let absent = rw c.in-Vacant.is at c.in_ok-known.ensures.found in
     let p = puts_as m new y w (λ q. (update.0 w).0 q) refl (added_numbers m new y w absent (update.1 w)) in
     let last = subst (λ (n : ℕ). StandsAt new n y) (sym c.len-number.ensures.len) (added_last m new y w absent (update.1 w)) in
-    let listed = AllListed-adds m new (all_work c.args.work.now) c.len-number.result y p.marks p.numbers (all_work c.push.new.self) (adds_next c.args.work.now c.push.new.self c.len-number.result c.in_ok-push-in-Vacant.ensures) last c.requires.listed in (
+    let listed = AllListed-adds m new (all_work c.args.work.now) c.len-number.result y p.marks p.numbers (all_work c.list_new.new.work) (adds_new c.is_entry-entry.result c.args.work.now c.list_new.new.work c.len-number.result c.in_ok-list_new-in-Vacant.ensures) last c.requires.listed in (
       ap (option_map (λ (k : Marked g.row.V.Denot). k.value)) absent,
       subst (λ z. Puts m z y c.args.value) end p,
-      subst (λ z. AllListed z (all_work c.push.new.self)) end listed,
+      subst (λ z. AllListed z (all_work c.list_new.new.work)) end listed,
     )
