@@ -12,7 +12,7 @@ use Rattle.depth_cert.specs.Exits.{with_lower_from, after_of}
 pub any_well : IsWell any_val
 any_well = (omega arith, omega arith, omega arith)
 
-at_well : (vs : List Val) (i : ℕ) → AreWell vs → IsWell (get_or vs i any_val)
+pub at_well : (vs : List Val) (i : ℕ) → AreWell vs → IsWell (get_or vs i any_val)
 at_well vs i w =
     elim (cases_lt i (length vs)) [
       | inl h ↦ w i h

@@ -36,7 +36,7 @@ use Rattle.depth_check.proofs.RepeatLaws.{covers_same}
 
 -- ---- covering
 -- what covers a state that covers another covers that one, too
-covers_trans : (upper s t : State) → length t.regs ≡ length s.regs → Covers upper s → Covers s t → Covers upper t
+pub covers_trans : (upper s t : State) → length t.regs ≡ length s.regs → Covers upper s → Covers s t → Covers upper t
 covers_trans upper s t len c d = record {
   regs = λ r h x m. c.regs r (omega arith) x (d.regs r h x m);
   context = ((λ i. (c.context).0 ((d.context).0 i)), omega (arith, (c.context).1, (d.context).1), (λ l. (d.context).2 ((c.context).2 l)));
@@ -44,7 +44,7 @@ covers_trans upper s t len c d = record {
 }
 
 -- so a point that covers the one covers the other
-found_more : (o : Option Point) (s t : State) → ((upper : State) → Covers upper s → Covers upper t) → IsSomeAnd o (λ (p : Point). Covers p.state s) → IsSomeAnd o (λ (p : Point). Covers p.state t)
+pub found_more : (o : Option Point) (s t : State) → ((upper : State) → Covers upper s → Covers upper t) → IsSomeAnd o (λ (p : Point). Covers p.state s) → IsSomeAnd o (λ (p : Point). Covers p.state t)
 found_more None s t f h = absurd h
 found_more (Some p) s t f h = f p.state h
 
@@ -67,7 +67,7 @@ length_set_at : (t : State) (v : Val) (o : Option ℕ) → length (set_at t v o)
 length_set_at t v None = refl
 length_set_at t v (Some i) = length-set t.regs i v
 
-apart : (r i : ℕ) → (r == i) ≡ false → r ≡ i → ⊥
+pub apart : (r i : ℕ) → (r == i) ≡ false → r ≡ i → ⊥
 apart r i n e =
     let same : (r == i) ≡ true = eq-eqb r i e in
     let no : false ≡ true = sym n ∙ same in

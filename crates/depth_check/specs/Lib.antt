@@ -7,4 +7,5 @@ pub mod Headline
 pub mod Judging
 pub mod Keeping
 pub mod NodeFaults
+pub mod Passing
 pub mod Points

@@ -1,16 +1,19 @@
 // What the entries of interrupts were asked for with.
-ghost use Rattle.std.specs.Prelude.{◌≡◌, ◌↔◌, IsTrue, IsSomeAnd, length, slice_index_or};
-ghost use Rattle.value_domain.specs.Values.{any_val};
-ghost use Rattle.value_domain.specs.declared.values.Val.TheVariants.{Set, Span};
+ghost use Rattle.std.specs.Prelude.{◌≡◌, ◌↔◌, IsTrue, IfSome, IsSomeAnd, length, slice_index_or};
+ghost use Rattle.value_domain.specs.Values.{IsWell, IsValue, any_val};
+ghost use Rattle.value_domain.specs.State.{AreValues};
+ghost use Rattle.value_domain.specs.declared.values.Val.TheVariants.{Set};
 ghost use Rattle.tcd_plan.specs.PlanData.{PlanData};
 ghost use Rattle.depth_cert.specs.Certs.{CertData};
-ghost use Rattle.depth_check.specs.Asking.{AsksSame, AsksNoMore, InterruptsHold, AreAsked};
+ghost use Rattle.cfg_recover.specs.Accepting.{limits_in};
+ghost use Rattle.depth_check.specs.Asking.{AsksSame, AsksLike, AsksNoMore, InterruptsHold, HoldsWith, AreStacks, AreAsked};
 
+use crate::forms::{Frame, NodeForm};
 use packed_cert::PackedNode;
-use value_domain::{State, Val};
+use value_domain::{Bounds, State, Val, join, leq};
 
-/// What the entries of interrupts depend on at a point of a node: whether it uses the interrupt stack, and A10, on which they
-/// depend if so; IE, CCPN, and how many areas the node's need leaves beside the local ones.
+/// What the entries of interrupts were asked for with: whether the point's node uses the interrupt stack, and an A10 with which
+/// they hold, on which they depend if so; IE, CCPN, and how many areas the node's need leaves beside the local ones.
 #[derive(Drop)]
 pub(crate) struct Asked {
     is: bool,
@@ -21,28 +24,28 @@ pub(crate) struct Asked {
 }
 
 impl Asked {
-    /// What they depend on in this state of a point of the node.
-    fn at(node: &PackedNode<'_>, s: &State) -> Asked
-        ensures { AsksSame result node.now s.now }
+    /// What they depend on in this state of a point of the node, but for A10, which is told.
+    fn at(node: &PackedNode<'_>, s: &State, sp: Val) -> Asked
+        ensures same { AsksSame result node.now s.now }
+        ensures sp { result.sp ≡ sp }
     {
         Asked {
             is: node.key.is,
-            sp: s.regs[22].copy(),
+            sp,
             ie: s.ie,
             ccpn: s.ccpn,
             room: node.need.saturating_sub(s.locals.len() as u16),
         }
     }
 
-    /// Whether they depend on the same in this state, but for the room that is left, which is no less.
-    fn is_at(&self, node: &PackedNode<'_>, s: &State) -> bool
-        ensures { IsTrue result → AsksNoMore self.now node.now s.now }
+    /// Whether they depend on the same in this state, but for A10, and for the room that is left, which is no less.
+    fn is_like(&self, node: &PackedNode<'_>, s: &State) -> bool
+        ensures { IsTrue result → AsksLike self.now node.now s.now }
     {
         self.ie == s.ie
             && self.ccpn == s.ccpn
             && self.is == node.key.is
             && usize::from(self.room) + s.locals.len() <= usize::from(node.need)
-            && (!self.is || are_same(&self.sp, &s.regs[22]))
     }
 }
 
@@ -67,6 +70,8 @@ impl Asks {
     /// Whether a state of a point of the node asks for no more than what was asked for; where interrupts are off it isn't
     /// looked for.
     pub(crate) fn have(&self, node: &PackedNode<'_>, s: &State) -> bool
+        requires stacks { AreStacks self.now }
+        requires other { IsWell (slice_index_or s.now.regs 22 any_val) }
         ensures { IsTrue result → (plan : PlanData) (cert : CertData)
             → AreAsked plan cert self.now → InterruptsHold plan cert node.now s.now }
     {
@@ -79,33 +84,48 @@ impl Asks {
         is_asked(&self.other, node, s)
     }
 
-    /// Adds what such a state asks for, where the entries hold; what was asked for before the last is let go.
-    pub(crate) fn add(&mut self, node: &PackedNode<'_>, s: &State)
+    /// A10 of what was asked for last and of a state together, where only A10 has the state ask for more.
+    pub(crate) fn joined(&self, b: &Bounds, frame: &Frame<'_>, s: &State) -> Option<Val>
+        requires last { IfSome self.now.last (λ a. IsValue b.now a.sp) }
+        requires values { AreValues b.now s.now.regs }
+        ensures value { IfSome result (IsValue b.now) }
+        ensures stack { IfSome result (λ v. IsTrue frame.now.key.is) }
+    {
+        let NodeForm::Near(node, _) = &frame.form else {
+            return None;
+        };
+        match &self.last {
+            Some(asked) => {
+                if asked.is && asked.is_like(node, s) {
+                    Some(join(b, &asked.sp, &s.regs[22]))
+                } else {
+                    None
+                }
+            }
+            None => None,
+        }
+    }
+
+    /// Adds what such a state asks for with an A10 with which the entries hold; what was asked for before the last is let go.
+    pub(crate) fn add(&mut self, node: &PackedNode<'_>, s: &State, sp: Val)
         ensures { (plan : PlanData) (cert : CertData) → AreAsked plan cert self.old
-            → InterruptsHold plan cert node.now s.now → AreAsked plan cert self.new }
+            → IsValue (limits_in plan cert) sp → HoldsWith plan cert node.now s.now sp
+            → AreAsked plan cert self.new }
     {
         self.other = self.last.take();
-        self.last = Some(Asked::at(node, s));
+        self.last = Some(Asked::at(node, s, sp));
     }
 }
 
-/// Whether this state asks for no more than what was asked for then.
+/// Whether this state asks for no more than what was asked for then: the entries that hold with an A10 hold with one below it.
 fn is_asked(asked: &Option<Asked>, node: &PackedNode<'_>, s: &State) -> bool
+    requires own { IfSome asked.now (λ a. IsWell a.sp) }
+    requires other { IsWell (slice_index_or s.now.regs 22 any_val) }
     ensures { IsTrue result → IsSomeAnd asked.now (λ a. AsksNoMore a node.now s.now) }
 {
     match asked {
-        Some(asked) => asked.is_at(node, s),
+        Some(asked) => asked.is_like(node, s) && (!asked.is || leq(&s.regs[22], &asked.sp)),
         None => false,
-    }
-}
-
-/// Whether two values are the same.
-fn are_same(v: &Val, w: &Val) -> bool
-    ensures { IsTrue result ↔ (v.now ≡ w.now) }
-{
-    match v {
-        Val::Set(own) => is_the_set(w, own.as_slice()),
-        Val::Span { lo, last, step } => is_the_span(w, *lo, *last, *step),
     }
 }
 
@@ -116,18 +136,5 @@ pub(crate) fn is_the_set(v: &Val, words: &[u32]) -> bool
     match v {
         Val::Set(own) => own.as_slice() == words,
         Val::Span { .. } => false,
-    }
-}
-
-fn is_the_span(v: &Val, lo: u32, last: u32, step: u8) -> bool
-    ensures { IsTrue result ↔ (v.now ≡ Span lo last step) }
-{
-    match v {
-        Val::Set(_) => false,
-        Val::Span {
-            lo: own_lo,
-            last: own_last,
-            step: own_step,
-        } => *own_lo == lo && *own_last == last && *own_step == step,
     }
 }

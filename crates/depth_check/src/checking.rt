@@ -11,19 +11,19 @@ use crate::any_certs::AnyCert;
 use crate::asked::Asks;
 use crate::covering::has_point;
 use crate::forms::Frame;
-use crate::kept::{Kept, Room};
+use crate::kept::{Kept, Room, no_change};
 use crate::nodes::{Scratch, node_fault};
 use cfg_recover::{KnownCodes, start_key, start_state};
 use elf_image::Image;
 use packed_cert::PointWalk;
 use tcd_plan::Plan;
-use value_domain::{Bounds, State};
-use vd_transfer::unchanged;
+use value_domain::Bounds;
 
 /// The node of the start, where its point at the entry covers the start state.
-fn start_node<'a>(image: &Image, plan: &Plan, cert: &AnyCert<'a>, s: &State) -> Option<Frame<'a>>
+// A function of its own, so that the room of that state is let go before the nodes are checked.
+#[inline(never)]
+fn start_node<'a>(image: &Image, plan: &Plan, cert: &AnyCert<'a>) -> Option<Frame<'a>>
     requires nodes { All IsWellNode cert.now.nodes }
-    requires state { s.now ≡ entries.start_state plan.now }
     ensures none { IsNone result → HoldsAtStart image.now plan.now cert.now → ⊥ }
     ensures holds { IfSome result (λ n. HoldsAtStart image.now plan.now cert.now) }
     ensures node { IfSome result
@@ -31,7 +31,7 @@ fn start_node<'a>(image: &Image, plan: &Plan, cert: &AnyCert<'a>, s: &State) -> 
 {
     let _sp = plan.sp;
     let node = cert.node(&start_key(image, plan))?;
-    if has_point(&node, image.entry, s) {
+    if has_point(&node, image.entry, &start_state(plan)) {
         Some(node)
     } else {
         None
@@ -43,8 +43,7 @@ pub(crate) fn judged(image: &Image, plan: &Plan, cert: &AnyCert<'_>) -> Verdict
     ensures { Judges image.now plan.now cert.now result }
 {
     let b = Bounds::of(plan, cert.version);
-    let s = start_state(plan);
-    let Some(start) = start_node(image, plan, cert, &s) else {
+    let Some(start) = start_node(image, plan, cert) else {
         return Verdict::No {
             rule: 1,
             key: start_key(image, plan),
@@ -53,9 +52,9 @@ pub(crate) fn judged(image: &Image, plan: &Plan, cert: &AnyCert<'_>) -> Verdict
     };
     let mut scratch = Scratch {
         room: Room {
-            change: unchanged(&s),
-            even: Kept::none(&s),
-            odd: Kept::none(&s),
+            change: no_change(),
+            even: Kept::none(),
+            odd: Kept::none(),
             codes: KnownCodes::new(),
         },
         asks: Asks::none(),

@@ -226,16 +226,15 @@ fn broken_by_access(at: &At<'_, '_>, found: &Located) -> Option<u8>
     if !plan.aln {
         return None;
     }
-    let shape = found.shape;
-    match shape {
-        Shape::Load { size, .. } => broken_by_misaligned(at, shape, size),
-        Shape::Store { size, .. } => broken_by_misaligned(at, shape, size),
+    match found.shape {
+        Shape::Load { size, .. } => broken_by_misaligned(at, found.shape, size),
+        Shape::Store { size, .. } => broken_by_misaligned(at, found.shape, size),
         _ => None,
     }
 }
 
 /// The least rule broken by the entries of these interrupts; `entry` is the change there but for its CCPN.
-fn broken_by_irqs(at: &At<'_, '_>, irqs: &[u8], entry: Change) -> Option<u8>
+pub(crate) fn broken_by_irqs(at: &At<'_, '_>, irqs: &[u8], entry: Change) -> Option<u8>
     requires point { IsAt at.now }
     requires entry { AreWell (state_after at.now.point.state.now entry).regs }
     ensures { Breaks at.now

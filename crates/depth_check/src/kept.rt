@@ -12,10 +12,11 @@ ghost use Rattle.depth_check.specs.Points.{IsAt};
 
 use crate::asked::is_the_set;
 use crate::point_at::At;
+use arrayvec::ArrayVec;
 use cfg_recover::{KnownCodes, step_change};
 use tc_isa::{Arg, Op, Shape};
 use value_domain::{State, Val, set_words};
-use vd_transfer::{Change, unchanged};
+use vd_transfer::{Base, Change, Put};
 
 /// Sets of at least so many words are many: to keep them costs little beside an operation on them.
 const MANY: usize = 8;
@@ -48,16 +49,41 @@ pub(crate) struct Room {
     pub(crate) codes: KnownCodes,
 }
 
+/// A change that puts nothing: room for others.
+#[inline(always)]
+pub(crate) fn no_change() -> Change {
+    Change {
+        base: Base::Same,
+        first: Put {
+            at: None,
+            value: Val::any(),
+        },
+        second: Put {
+            at: None,
+            value: Val::any(),
+        },
+        third: Put {
+            at: None,
+            value: Val::any(),
+        },
+        ie: false,
+        ccpn: 0,
+        lower: false,
+        locals: ArrayVec::new(),
+    }
+}
+
 impl Kept {
     /// Nothing is kept; there is room.
-    pub(crate) fn none(s: &State) -> Kept
+    #[inline(never)]
+    pub(crate) fn none() -> Kept
         ensures { (b : Limits) → IsKept b result }
     {
         Kept {
             op: None,
             x: Val::any(),
             y: Val::any(),
-            change: unchanged(s),
+            change: no_change(),
         }
     }
 

@@ -1,8 +1,9 @@
 // The first fault of a node.
 ghost use Rattle.std.specs.Prelude.{◌≡◌, ◌<◌, ◌^◌, ◌↔◌, IsTrue, All, Contains, MatchOption};
+ghost use Rattle.value_domain.specs.Values.{IsValue};
 ghost use Rattle.value_domain.specs.State.{AreValues};
 ghost use Rattle.cfg_recover.specs.Accepting.{limits_in, HoldsAtEntry, HoldsAtNode};
-ghost use Rattle.depth_check.specs.Asking.{AreAsked};
+ghost use Rattle.depth_check.specs.Asking.{InterruptsHold, HoldsWith, AreAsked};
 ghost use Rattle.depth_check.specs.Finding.{IsWellNode};
 ghost use Rattle.depth_check.specs.Keeping.{AreKept};
 ghost use Rattle.depth_check.specs.NodeFaults as nodes;
@@ -11,14 +12,18 @@ ghost use Rattle.depth_check.specs.NodeFaults.{IsNodeFault};
 use crate::any_certs::AnyCert;
 use crate::asked::Asks;
 use crate::covering::are_values;
+use crate::duties::broken_by_irqs;
 use crate::forms::{Frame, Here, NodeForm};
 use crate::kept::Room;
+use crate::point_at::At;
 use crate::rules::broken_by_point;
+use cfg_recover::interrupts;
 use depth_cert::Node;
 use elf_image::Image;
 use packed_cert::{PackedNode, PointWalk};
 use tcd_plan::Plan;
-use value_domain::{Bounds, State};
+use value_domain::{Bounds, State, Val};
+use vd_transfer::{Base, put_register, unchanged};
 
 /// A rule that fails in a node, and the address of its place.
 #[derive(Clone, Copy)]
@@ -137,6 +142,60 @@ fn is_worth_keeping(plan: &Plan, s: &State, again: bool) -> bool {
     s.ie && !again && !plan.irqs.is_empty()
 }
 
+/// An A10 with which the entries of interrupts hold at the point where the walk stands, if they hold with its own: that of what was
+/// asked for last and its own together, where only A10 has the point ask for more, and they hold with both; else its own.
+#[inline(never)]
+fn held_stack(
+    b: &Bounds,
+    image: &Image,
+    plan: &Plan,
+    cert: &AnyCert<'_>,
+    frame: &Frame<'_>,
+    scratch: &Scratch<'_>,
+) -> Val
+    requires limits { b.now ≡ limits_in plan.now cert.now }
+    requires nodes { All IsWellNode cert.now.nodes }
+    requires node { IsWellNode frame.now }
+    requires values { AreValues b.now scratch.now.walk.current.regs }
+    requires holds { InterruptsHold plan.now cert.now frame.now scratch.now.walk.current }
+    requires asked { AreAsked plan.now cert.now scratch.now.asks }
+    ensures value { IsValue b.now result }
+    ensures holds { HoldsWith plan.now cert.now frame.now scratch.now.walk.current result }
+{
+    let s = scratch.walk.state();
+    let own = s.regs[22].copy();
+    let Some(sp) = scratch.asks.joined(b, frame, s) else {
+        return own;
+    };
+    let _most_words = b.most_words();
+    let mut entry = unchanged(s);
+    entry.base = Base::Any;
+    entry.first = put_register(26, sp.copy());
+    entry.ie = false;
+    entry.lower = true;
+    entry.locals.clear();
+    let at = At {
+        bounds: b,
+        image,
+        plan,
+        cert,
+        node: frame,
+        point: Here {
+            node: frame,
+            addr: 0,
+            state: s,
+            again: false,
+            known: false,
+            next: None,
+            walk: None,
+        },
+    };
+    match broken_by_irqs(&at, interrupts(plan, s).as_slice(), entry) {
+        Some(_) => own,
+        None => sp,
+    }
+}
+
 /// The same of a node on bytes: behind each point the next one is tried first, the entries of interrupts are asked for where
 /// more is asked than was asked for already, only values that differ from those there are asked for, and where the next point
 /// has the same state it covers the one at hand.
@@ -186,13 +245,16 @@ fn packed_fault<'a>(
         known = true;
         let s = scratch.walk.state();
         if is_worth_keeping(plan, s, again) {
-            scratch.asks.add(node, s);
+            let sp = held_stack(b, image, plan, cert, &frame, &*scratch);
+            let t = scratch.walk.state();
+            scratch.asks.add(node, t, sp);
         }
     }
     if good { None } else { Some(entry_fault(entry)) }
 }
 
 /// The first fault of a node, by address and then by rule.
+#[inline(never)]
 pub(crate) fn node_fault<'a>(
     b: &Bounds,
     image: &Image,

@@ -4,13 +4,13 @@ ghost use Rattle.elf_image.specs.Images.{image_byte};
 ghost use Rattle.value_domain.specs.State.{AreValues};
 ghost use Rattle.tc_isa.specs.declared.shapes.Shape.TheVariants.{Nothing};
 ghost use Rattle.cfg_recover.specs.Accepting.{limits_in, RuleHolds, HasPoint};
-ghost use Rattle.cfg_recover.specs.Changes.{StandsFaultless};
 ghost use Rattle.cfg_recover.specs.Code.{IsCode};
 ghost use Rattle.cfg_recover.specs.Local.{IsLocalFault};
 ghost use Rattle.depth_check.specs.Finding.{IsWellNode, Finds, HasOwnNeed};
 ghost use Rattle.depth_check.specs.Forms.{point_here};
 ghost use Rattle.depth_check.specs.Asking.{InterruptsHold};
 ghost use Rattle.depth_check.specs.Keeping.{AreKept};
+ghost use Rattle.depth_check.specs.Passing.{PassesOn};
 ghost use Rattle.depth_check.specs.Points.{IsAt, LooksAhead};
 
 use crate::any_certs::AnyCert;
@@ -20,7 +20,7 @@ use crate::forms::Here;
 use crate::kept::Room;
 use crate::point_at::At;
 use crate::successors::broken_by_pass;
-use cfg_recover::{KnownCodes, Located, check_located, start_key};
+use cfg_recover::{KnownCodes, check_located, direct_target, start_key};
 use elf_image::Image;
 use tc_isa::Shape;
 use tcd_base::any_holds;
@@ -55,21 +55,6 @@ fn has_values(b: &Bounds, point: Here<'_, '_>) -> bool
     are_values(b, &point.state.regs)
 }
 
-/// The least rule that fails at a point whose values are the plan's, and at which no rule's own part fails.
-fn broken_by_located(at: &At<'_, '_>, found: &Located, room: &mut Room) -> Option<u8>
-    requires point { IsAt at.now }
-    requires found { StandsFaultless at.now.bounds.now at.now.image.now at.now.plan.now
-        at.now.node.now.key at.now.point.addr at.now.point.state.now found.now }
-    requires kept { AreKept at.now.bounds.now room.old }
-    ensures found { Finds (RuleHolds at.now.image.now at.now.plan.now at.now.cert.now
-        at.now.node.now (point_here at.now.point)) result }
-    ensures kept { AreKept at.now.bounds.now room.new }
-{
-    let duties = broken_by_duties(at, found, room);
-    let need = unless(has_own_need(at), 14);
-    least(duties, need)
-}
-
 /// The least rule that fails at a point whose values are the plan's.
 #[inline(never)]
 fn broken_by_any(at: &At<'_, '_>, room: &mut Room) -> Option<u8>
@@ -82,20 +67,24 @@ fn broken_by_any(at: &At<'_, '_>, room: &mut Room) -> Option<u8>
     let node = at.node;
     let s = at.point.state;
     let located = room.codes.located(at.image, at.plan, at.point.addr);
-    match check_located(at.bounds, at.plan, &node.key, s, located) {
+    match check_located(at.bounds, at.plan, &node.key, s, &located) {
         Err(rule) => Some(rule),
-        Ok(found) => broken_by_located(at, &found, room),
+        Ok(found) => {
+            let duties = broken_by_duties(at, found, room);
+            let need = unless(has_own_need(at), 14);
+            least(duties, need)
+        }
     }
 }
 
-/// The least rule that fails at a point where an instruction of this size stands that changes nothing.
-fn broken_by_idle(at: &At<'_, '_>, size: u32) -> Option<u8>
+/// The least rule that fails at a point whose instruction only passes the state on, to this address alone.
+fn broken_by_idle(at: &At<'_, '_>, next: u32) -> Option<u8>
     requires point { IsAt at.now }
-    requires code { IsCode at.now.image.now at.now.plan.now at.now.point.addr Nothing size }
+    requires passes { PassesOn at.now.image.now at.now.plan.now at.now.point.addr next }
     ensures { Finds (RuleHolds at.now.image.now at.now.plan.now at.now.cert.now at.now.node.now
         (point_here at.now.point)) result }
 {
-    let jump = broken_by_pass(at, at.point.addr.wrapping_add(size));
+    let jump = broken_by_pass(at, next);
     let irqs = broken_by_interrupts(at);
     let need = unless(has_own_need(at), 14);
     least(least(jump, irqs), need)
@@ -115,32 +104,33 @@ fn is_nop16(image: &Image, plan: &Plan, addr: u32) -> bool
     image.has_byte(addr + 1, 0)
 }
 
-/// The size of the instruction of a point, where it changes nothing and the next point has the same state.
-fn idle_size(at: &At<'_, '_>, codes: &mut KnownCodes) -> Option<u32>
-    ensures { IfSome result
-        (IsCode at.now.image.now at.now.plan.now at.now.point.addr Nothing) }
+/// Where the instruction of a point passes the state on, if that is all it does and the next point has the same state.
+fn idle_next(at: &At<'_, '_>, codes: &mut KnownCodes) -> Option<u32>
+    ensures { IfSome result (PassesOn at.now.image.now at.now.plan.now at.now.point.addr) }
 {
     if at.point.next.is_none() {
         return None;
     }
     let image = at.image;
-    let first = image.byte(at.point.addr);
+    let addr = at.point.addr;
+    let first = image.byte(addr);
     if first == Some(0) {
-        return if is_nop16(image, at.plan, at.point.addr) {
-            Some(2)
+        return if is_nop16(image, at.plan, addr) {
+            Some(addr.wrapping_add(2))
         } else {
             None
         };
     }
-    // The others that change nothing, nop, dsync and isync, begin with 0D.
-    if first != Some(0x0D) {
+    // The others that change nothing, nop, dsync and isync, begin with 0D, and jumps to one address with 1D, 3C or 9D.
+    if first != Some(0x0D) && first != Some(0x1D) && first != Some(0x3C) && first != Some(0x9D) {
         return None;
     }
-    let Some(found) = codes.located(at.image, at.plan, at.point.addr) else {
+    let Some(found) = codes.located(image, at.plan, addr) else {
         return None;
     };
     match found.shape {
-        Shape::Nothing => Some(found.size),
+        Shape::Nothing => Some(addr.wrapping_add(found.size)),
+        Shape::Jump { to } => direct_target(addr, to),
         _ => None,
     }
 }
@@ -179,8 +169,8 @@ pub(crate) fn broken_by_point(
         node: point.node,
         point,
     };
-    match idle_size(&at, &mut room.codes) {
-        Some(size) => broken_by_idle(&at, size),
+    match idle_next(&at, &mut room.codes) {
+        Some(next) => broken_by_idle(&at, next),
         None => broken_by_any(&at, room),
     }
 }

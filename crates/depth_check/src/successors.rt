@@ -212,11 +212,10 @@ pub(crate) fn broken_by_successors(at: &At<'_, '_>, found: &Located, room: &mut 
 {
     let addr = at.point.addr;
     let next = addr.wrapping_add(found.size);
-    let shape = found.shape;
-    match shape {
+    match found.shape {
         Shape::Branch { by, .. } => broken_by_sides(
             at,
-            shape,
+            found.shape,
             next,
             addr.wrapping_add(by),
             &mut room.change,

@@ -45,19 +45,6 @@ pub(crate) fn is_changed_below_at(
     true
 }
 
-/// Whether two values are the same set: that is told sooner than whether one is below the other.
-fn is_same_set(v: &Val, w: &Val) -> bool
-    ensures { IsTrue result → v.now ≡ w.now }
-{
-    let Val::Set(own) = v else {
-        return false;
-    };
-    let Val::Set(words) = w else {
-        return false;
-    };
-    own.as_slice() == words.as_slice()
-}
-
 /// Whether the changed value at a place, if there is one and it lies outside a row, is below the
 /// state's own there.
 fn is_put_below(s: &State, c: &Change, row: Anew, place: Option<usize>) -> bool
@@ -76,8 +63,13 @@ fn is_put_below(s: &State, c: &Change, row: Anew, place: Option<usize>) -> bool
     let any = Val::any();
     let low = changed_value(s, c, &any, i);
     let high = &regs[i];
-    if is_same_set(low, high) {
-        return true;
+    // That two sets are the same is told sooner than that one is below the other.
+    if let Val::Set(own) = low {
+        if let Val::Set(words) = high {
+            if own.as_slice() == words.as_slice() {
+                return true;
+            }
+        }
     }
     leq(low, high)
 }

@@ -88,7 +88,21 @@ fn ends_alike(bytes: &[u8], x: usize, y: usize, from: usize, n: usize) -> bool
     is_same_eight(bytes, x + (n - 8), y + (n - 8))
 }
 
-/// How many bytes stand alike at two places, of those before `end` at the first: eight at a time, then byte by byte.
+/// How many of these bytes stand alike at two places: eight at a time, then byte by byte.
+pub(crate) fn count_same(bytes: &[u8], x: usize, y: usize, n: usize) -> usize
+    requires first { x + n ≤ length bytes.now }
+    requires second { y + n ≤ length bytes.now }
+    ensures within { result ≤ n }
+    ensures same { StandAlike bytes.now x y result }
+{
+    let from = same_eights(bytes, x, y, n);
+    if ends_alike(bytes, x, y, from, n) {
+        return n;
+    }
+    same_from(bytes, x, y, from, n)
+}
+
+/// How many bytes stand alike at two places, of those before `end` at the first.
 pub(crate) fn count_same_before(bytes: &[u8], x: usize, y: usize, end: usize) -> usize
     requires first { x ≤ length bytes.now }
     requires second { y ≤ length bytes.now }
@@ -97,9 +111,5 @@ pub(crate) fn count_same_before(bytes: &[u8], x: usize, y: usize, end: usize) ->
     ensures same { StandAlike bytes.now x y result }
 {
     let n = end.min(bytes.len()).saturating_sub(x).min(bytes.len() - y);
-    let from = same_eights(bytes, x, y, n);
-    if ends_alike(bytes, x, y, from, n) {
-        return n;
-    }
-    same_from(bytes, x, y, from, n)
+    count_same(bytes, x, y, n)
 }

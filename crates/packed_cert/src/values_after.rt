@@ -4,7 +4,7 @@ ghost use Rattle.packed_cert.specs.Standing.{StandFrom, MovedOver, AreAnew, IsFr
 ghost use Rattle.packed_cert.specs.Standing as standing;
 ghost use Rattle.depth_cert.specs.Grammar.{values_at};
 
-use crate::same_bytes::count_same_before;
+use crate::same_bytes::{count_same, count_same_before};
 use crate::state_places::{Anew, StatePlaces};
 use depth_cert::read_value;
 use tcd_base::{Cursor, FormErr};
@@ -19,6 +19,7 @@ pub(crate) fn length_by(tag: u8) -> usize
 }
 
 /// Whether the bytes from `x` on stand at the cursor, too, which then moves past them.
+#[inline(always)]
 pub(crate) fn passes(c: &mut Cursor<'_>, bytes: &[u8], x: usize, n: usize) -> bool
     requires same { c.old.bytes ≡ bytes.now }
     requires within { x + n ≤ length bytes.now }
@@ -29,12 +30,13 @@ pub(crate) fn passes(c: &mut Cursor<'_>, bytes: &[u8], x: usize, n: usize) -> bo
     if n > bytes.len() - y {
         return false;
     }
+    // A few bytes are compared here, many by std, which takes longer to begin.
+    if n < 64 {
+        return count_same(bytes, x, y, n) == n && c.take(n).is_some();
+    }
     let before = &bytes[x..x + n];
     let here = &bytes[y..y + n];
-    if before != here {
-        return false;
-    }
-    c.take(n).is_some()
+    before == here && c.take(n).is_some()
 }
 
 /// Moves a cursor on to a place.

@@ -14,4 +14,4 @@ has_point-requires-clause-node c =
     found_holds IsWellNode (λ (n : NodeData). number_of_key n.key == number_of_key c.start_key.result) (c.args.cert.now).nodes c.in_ok-node.node (sym c.in_ok-node.ensures) c.requires.nodes
 
 pub has_point-requires-clause-state : goal.has_point-requires-clause-state
-has_point-requires-clause-state c = subst (λ (t : State). AreWell t.regs) (sym c.requires.state) (well_start c.args.plan.now (subst IsPlan c.plan.view_is c.plan.invariant))
+has_point-requires-clause-state c = subst (λ (t : State). AreWell t.regs) (sym c.start_state.ensures) (well_start c.args.plan.now (subst IsPlan c.plan.view_is c.plan.invariant))

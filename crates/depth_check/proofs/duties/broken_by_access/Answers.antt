@@ -14,7 +14,7 @@ returns-then-not-plan c =
     (nothing_found t.cert.now t.node.now t.point.state.now)
 
 pub returns-in-Load : goal.returns-in-Load
-returns-in-Load c = rw c.in-Load.is c.broken_by_misaligned.ensures
+returns-in-Load c = rw c.in-Load.is (rw c.in-Load.is at c.broken_by_misaligned.ensures)
 
 pub returns-in-Store : goal.returns-in-Store
-returns-in-Store c = rw c.in-Store.is c.broken_by_misaligned-in-Store.ensures
+returns-in-Store c = rw c.in-Store.is (rw c.in-Store.is at c.broken_by_misaligned-in-Store.ensures)

@@ -1,6 +1,6 @@
 use Rattle.std.proofs.Common.{true, false, ◌^◌, ◌<◌, ◌≡◌, ◌++◌, ◌∷◌, [], ◌∙◌, length, sym, ap, subst, refl, arith, List, ℕ}
-use Rattle.std.specs.Prelude.{IsTrue, ◌↔◌, All}
-use Rattle.std.proofs.lemmas.List.Elements.{All-push}
+use Rattle.std.specs.Prelude.{IsTrue, ◌↔◌, All, slice_index_or}
+use Rattle.std.proofs.lemmas.List.Elements.{All-push, All-contains}
 use Rattle.std.proofs.lemmas.List.{append-nil}
 use Rattle.value_domain.specs.declared.values.Val.{Val}
 use Rattle.value_domain.specs.declared.states.State.{State}
@@ -9,11 +9,12 @@ use Rattle.depth_cert.specs.declared.points.Point.{Point}
 use Rattle.depth_cert.specs.Nodes.{NodeData}
 use Rattle.cfg_recover.specs.Accepting.{limits_in, HoldsAtEntry, RuleHolds}
 use Rattle.value_domain.specs.State.{AreValues}
+use Rattle.value_domain.specs.Values.{IsWell, IsValue, any_val}
 use Rattle.depth_check.specs.declared.nodes.Fault.{Fault}
-use Rattle.depth_check.specs.Finding.{Finds}
+use Rattle.depth_check.specs.Finding.{Finds, IsWellNode}
 use Rattle.depth_check.specs.NodeFaults.{IsNodeFault, first_of}
-use Rattle.depth_check.specs.Asking.{InterruptsHold}
-use Rattle.depth_check.proofs.AskedLaws.{interrupts_at}
+use Rattle.depth_check.specs.Asking.{HoldsWith}
+use Rattle.depth_check.proofs.AskedLaws.{interrupts_at, stack_well, stacks_well}
 use Rattle.depth_check.proofs.Deciding.{refuted}
 use Rattle.depth_check.proofs.RepeatLaws.{looks_ahead, repeats_covers, known_values}
 use Rattle.depth_check.proofs.NodeLaws.{fault_at, none_at, entry_alone}
@@ -38,6 +39,16 @@ returns-in-Some-first_of-clause-fault c =
     (subst (λ (n : NodeData). (n.key).entry < 2 ^ 32) c.node.view_is (omega arith))
     (subst (λ (l : Limits). IsTrue c.packed_holds_at_entry-good.result ↔ HoldsAtEntry l c.args.node.now) c.requires.limits c.packed_holds_at_entry-good.ensures)
     (ap (λ (n : NodeData). first_of c.packed_holds_at_entry-good.result (n.key).entry c.in-Some.addr c.broken_by_point-found.result) (sym c.node.view_is) ∙ sym c.first_of.ensures ∙ c.in-Some-first_of.is)
+
+pub have-again-requires-clause-stacks : goal.have-again-requires-clause-stacks
+have-again-requires-clause-stacks c = stacks_well c.args.plan.now c.args.cert.now c.loop-addr.scratch.asks c.loop-addr.invariant.asked
+
+pub have-again-requires-clause-other : goal.have-again-requires-clause-other
+have-again-requires-clause-other c =
+    let p : Point = record { addr = c.in-Some.addr; state = c.step.new.self.current } in
+    let well : IsWellNode c.args.node.now = All-contains IsWellNode (c.args.cert.now).nodes c.args.node.now c.requires.nodes c.requires.member in
+    subst (λ (s : State). IsWell (slice_index_or s.regs 22 any_val)) (sym c.state-s.ensures)
+    (stack_well c.args.node.now c.loop-addr.invariant.done c.loop-addr.scratch.walk.left c.step.new.self.left p well c.loop-addr.invariant.split c.in-Some.ensures.0)
 
 pub broken_by_point-found-requires-clause-again : goal.broken_by_point-found-requires-clause-again
 broken_by_point-found-requires-clause-again c = λ again.
@@ -91,6 +102,35 @@ loop-addr-preserved c =
       kept = c.broken_by_point-found.ensures.kept;
     }
 
+pub held_stack-sp-requires-clause-node : goal.held_stack-sp-requires-clause-node
+held_stack-sp-requires-clause-node c = rw c.near-frame.ensures (All-contains IsWellNode (c.args.cert.now).nodes c.args.node.now c.requires.nodes c.requires.member)
+
+pub held_stack-sp-requires-clause-values : goal.held_stack-sp-requires-clause-values
+held_stack-sp-requires-clause-values c =
+    let inv = c.loop-addr.invariant in
+    let points = c.args.node.now.points in
+    let p : Point = record { addr = c.in-Some.addr; state = c.step.new.self.current } in
+    let finds =
+    subst (λ (s : State). let q : Point = record { addr = c.in-Some.addr; state = s } in Finds (RuleHolds c.args.image.now c.args.plan.now c.args.cert.now c.args.node.now q) c.broken_by_point-found.result) c.state-s.ensures
+    (rw c.near-frame.ensures at c.broken_by_point-found.ensures.found)
+    in
+    let told = ap (λ (n : NodeData). first_of c.packed_holds_at_entry-good.result (n.key).entry c.in-Some.addr c.broken_by_point-found.result) (sym c.node.view_is) ∙ sym c.first_of.ensures ∙ c.in_default-first_of.is in
+    let holds = none_at c.args.image.now c.args.plan.now c.args.cert.now c.args.node.now c.requires.member points refl c.walk.ensures.rising p c.packed_holds_at_entry-good.result c.broken_by_point-found.result told finds in
+    subst (λ (l : Limits). AreValues l p.state.regs) (sym c.requires.limits) ((holds 2).values refl)
+
+pub held_stack-sp-requires-clause-holds : goal.held_stack-sp-requires-clause-holds
+held_stack-sp-requires-clause-holds c =
+    let inv = c.loop-addr.invariant in
+    let points = c.args.node.now.points in
+    let p : Point = record { addr = c.in-Some.addr; state = c.step.new.self.current } in
+    let finds =
+    subst (λ (s : State). let q : Point = record { addr = c.in-Some.addr; state = s } in Finds (RuleHolds c.args.image.now c.args.plan.now c.args.cert.now c.args.node.now q) c.broken_by_point-found.result) c.state-s.ensures
+    (rw c.near-frame.ensures at c.broken_by_point-found.ensures.found)
+    in
+    let told = ap (λ (n : NodeData). first_of c.packed_holds_at_entry-good.result (n.key).entry c.in-Some.addr c.broken_by_point-found.result) (sym c.node.view_is) ∙ sym c.first_of.ensures ∙ c.in_default-first_of.is in
+    let holds = none_at c.args.image.now c.args.plan.now c.args.cert.now c.args.node.now c.requires.member points refl c.walk.ensures.rising p c.packed_holds_at_entry-good.result c.broken_by_point-found.result told finds in
+    rw c.near-frame.ensures (interrupts_at c.args.image.now c.args.plan.now c.args.cert.now c.args.node.now p holds)
+
 pub loop-addr-preserved-then-is_worth_keeping : goal.loop-addr-preserved-then-is_worth_keeping
 loop-addr-preserved-then-is_worth_keeping c =
     let inv = c.loop-addr.invariant in
@@ -109,8 +149,8 @@ loop-addr-preserved-then-is_worth_keeping c =
       known = λ t. (holds 2).values refl;
       asked =
           c.add.ensures c.args.plan.now c.args.cert.now inv.asked
-          (subst (λ (s : State). InterruptsHold c.args.plan.now c.args.cert.now c.args.node.now s) (sym c.state-s-in-Some.ensures)
-          (interrupts_at c.args.image.now c.args.plan.now c.args.cert.now c.args.node.now p holds));
+          (subst (λ (l : Limits). IsValue l c.held_stack-sp.result) c.requires.limits c.held_stack-sp.ensures.value)
+          (subst (λ (s : State). HoldsWith c.args.plan.now c.args.cert.now c.args.node.now s c.held_stack-sp.result) (sym c.state-t.ensures) (rw c.near-frame.ensures at c.held_stack-sp.ensures.holds));
       kept = c.broken_by_point-found.ensures.kept;
     }
 

@@ -2,7 +2,7 @@ use Rattle.depth_check.proofs.NextLaws.{next_alone}
 use Rattle.depth_check.proofs.successors.broken_by_successors.Goals as goal
 
 pub returns-in-Branch-clause-found : goal.returns-in-Branch-clause-found
-returns-in-Branch-clause-found c = rw c.in-Branch.is c.broken_by_sides.ensures
+returns-in-Branch-clause-found c = rw c.in-Branch.is (rw c.in-Branch.is at c.broken_by_sides.ensures)
 
 pub returns-in-Jump-clause-found : goal.returns-in-Jump-clause-found
 returns-in-Jump-clause-found c = rw c.in-Jump.is c.broken_by_jump.ensures

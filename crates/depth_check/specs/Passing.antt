@@ -1,0 +1,22 @@
+-- Instructions that only pass the state on.
+use Rattle.std.specs.Prelude.{◌≡◌, ℕ, Some}
+use Rattle.elf_image.specs.Images.{ImageData}
+use Rattle.tcd_plan.specs.PlanData.{PlanData}
+use Rattle.tc_isa.specs.declared.shapes.Shape.{Shape}
+use Rattle.tc_isa.specs.declared.shapes.Shape.TheVariants.{Jump, Nothing}
+use Rattle.tc_machine.specs.Machine.{moved}
+use Rattle.cfg_recover.specs.Code.{IsCode}
+use Rattle.cfg_recover.specs.Local.{direct_target}
+
+-- an instruction of this shape and size at p changes nothing, and goes on at this address alone
+abbrev pub Passes : ℕ → Shape → ℕ → ℕ → Type 0
+Passes p Nothing n next = moved p n ≡ next
+Passes p (Jump to) n next = direct_target p to ≡ Some next
+Passes p _ n next = ⊥
+
+-- such an instruction is at p
+pub record PassesOn (image : ImageData) (plan : PlanData) (p next : ℕ) : Type 0 where
+  pub shape : Shape
+  pub size : ℕ
+  pub code : IsCode image plan p shape size
+  pub passes : Passes p shape size next
