@@ -16,7 +16,7 @@ use Rattle.tc_stmt.specs.RowFields.{shape_index}
 use Rattle.tc_stmt.specs.Items.{bytes, section}
 use Rattle.tc_stmt.specs.Values.{value_rule, value_item}
 use Rattle.tc_stmt.specs.Lines.{line_data, pieces_line, stated_line, values_line, values_rule, named_line, word_of, is_word_operand}
-use Rattle.hex_text.specs.Digits.{hex_byte}
+use Rattle.tcd_text.specs.Digits.{hex_byte}
 use Rattle.tc_disasm.specs.Tokens.{piece}
 use Rattle.tc_disasm.specs.Lexed.{IsStop}
 use Rattle.tc_disasm.proofs.Decimals.{decimal_is}

@@ -3,8 +3,8 @@ use Rattle.std.proofs.Common.{◌≡◌, ◌<◌, ◌^◌, ◌∷◌, ◌++◌, 
 use Rattle.std.specs.Prelude.{codes, OnOk}
 use Rattle.std.specs.Str.{IsAscii}
 use Rattle.std.proofs.lemmas.Str.Ascii.{IsAscii-nil, IsAscii-cons}
-use Rattle.hex_text.specs.Digits.{hex_byte, hex_word}
-use Rattle.hex_text.proofs.DigitLaws.{hex_byte-front, hex_word-front}
+use Rattle.tcd_text.specs.Digits.{hex_byte, hex_word}
+use Rattle.tcd_text.proofs.DigitLaws.{hex_byte-front, hex_word-front}
 
 -- an address behind its mark
 pub address_line : (x : ℕ) (w : List ℕ) → w ≡ hex_word x

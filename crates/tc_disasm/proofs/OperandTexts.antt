@@ -13,7 +13,7 @@ use Rattle.tc_stmt.specs.declared.want.Want.{Want}
 use Rattle.tc_stmt.specs.declared.want.Want.TheVariants.{Reg, A10, Number, Target, Absolute, Memory}
 use Rattle.tc_stmt.specs.RowFields.{field_of}
 use Rattle.tc_lex.specs.Pieces.{PieceData}
-use Rattle.hex_text.specs.Digits.{hex_word}
+use Rattle.tcd_text.specs.Digits.{hex_word}
 use Rattle.tc_disasm.specs.Texts.{is_minus, size_of, number_text, target_text, register_text, base_text, absolute_text, address_in, is_two_way, operand_text, operands_text}
 use Rattle.tc_disasm.specs.Tokens.{piece, number, field_number, target, base, operand_tokens}
 use Rattle.tc_disasm.specs.Lexed.{IsStop}

@@ -13,7 +13,7 @@ use Rattle.tc_stmt.specs.declared.want.Want.{Want}
 use Rattle.tc_stmt.specs.declared.want.Want.TheVariants.{Reg, A10, Number, Target, Absolute, Memory}
 use Rattle.tc_lex.specs.Operands.{operand, value, plain, memory, plain_number}
 use Rattle.tc_stmt.specs.RowFields.{RowFieldsData, fill, fill_all, fill_plain, fill_a10, fill_value, fill_memory, fill_absolute, put_absolute, shape_index, with_value, put_register, put_number, with_rule, field_of}
-use Rattle.hex_text.specs.Digits.{hex_word}
+use Rattle.tcd_text.specs.Digits.{hex_word}
 use Rattle.tc_disasm.specs.Texts.{register_text, is_minus, size_of, is_two_way, absolute_text, address_in}
 use Rattle.tc_disasm.specs.Tokens.{operand_tokens, base, number}
 use Rattle.tc_disasm.specs.Puts.{given}

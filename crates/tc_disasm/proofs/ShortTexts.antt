@@ -17,7 +17,7 @@ use Rattle.tc_stmt.specs.declared.want.Want.{Want}
 use Rattle.tc_stmt.specs.declared.want.Want.TheVariants.{Reg, A10, Number, Target, Absolute, Memory}
 use Rattle.tc_stmt.specs.Wants.{wants_of}
 use Rattle.tc_stmt.specs.RowFields.{field_of}
-use Rattle.hex_text.specs.Digits.{hex_byte, hex_word}
+use Rattle.tcd_text.specs.Digits.{hex_byte, hex_word}
 use Rattle.tc_disasm.specs.Texts.{is_minus, register_text, number_text, target_text, is_two_way, absolute_text, base_text, operand_text, operands_text, row_text, text_of}
 use Rattle.tc_disasm.specs.Listing.{text_at, size_at, remark, line_at, lines_from, section_line, section_text, sections_from}
 use Rattle.tc_disasm.proofs.Appending.{lines-front}

@@ -10,7 +10,7 @@ use Rattle.tcd_base.specs.NameBytes.{is_name_byte, is_name_first}
 use Rattle.tc_lex.specs.Bytes.{is_digit, is_hex}
 use Rattle.tc_lex.specs.Cut.{front_of, front_at, number_len, has_hex_front}
 use Rattle.tc_lex.specs.Pieces.{PieceData}
-use Rattle.hex_text.specs.Digits.{hex_byte, hex_word}
+use Rattle.tcd_text.specs.Digits.{hex_byte, hex_word}
 use Rattle.tc_disasm.specs.Texts.{register_text}
 use Rattle.tc_disasm.specs.Tokens.{piece}
 use Rattle.tc_disasm.specs.Lexed.{IsStop}

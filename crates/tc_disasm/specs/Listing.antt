@@ -6,7 +6,7 @@ use Rattle.elf_image.specs.Images.{ImageData, SegmentData}
 use Rattle.tc_isa.specs.Insts.{InstData}
 use Rattle.tc_encode.specs.declared.errors.DecodeErr.{DecodeErr}
 use Rattle.tc_encode.specs.Decoding.{decoded_of}
-use Rattle.hex_text.specs.Digits.{hex_byte, hex_word}
+use Rattle.tcd_text.specs.Digits.{hex_byte, hex_word}
 use Rattle.tc_disasm.specs.Texts.{text_of}
 
 -- two bytes as a number, the first one lowest, or a last byte

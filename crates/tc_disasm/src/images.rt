@@ -10,9 +10,9 @@ use crate::ordering::by_address;
 use crate::pieces::append_lines;
 use crate::texts::append;
 use elf_image::{Image, Segment};
-use hex_text::append_hex_word;
 use std::alloc::Global;
 use tcd_base::NoMemory;
+use tcd_text::append_hex_word;
 
 // The line that begins a section.
 #[tactic(auto, unfolding(crate::specs::Listing::section_line))]

@@ -12,7 +12,7 @@ ghost use Rattle.tc_isa.specs.Insts.{InstData, IsInst, fields_in};
 ghost use Rattle.tc_lex.specs.Numbers.{number_of};
 ghost use Rattle.tc_stmt.specs.RowFields.{register_of, no_fields};
 ghost use Rattle.tc_stmt.specs.StatementRow.{statement};
-ghost use Rattle.hex_text.specs.Digits.{hex_word};
+ghost use Rattle.tcd_text.specs.Digits.{hex_word};
 ghost use Rattle.tc_disasm.specs.Texts.{register_text};
 ghost use Rattle.tc_disasm.specs.Tokens.{piece, printed_operands};
 ghost use Rattle.tc_disasm.specs.Lexed.{IsStop, lexed};

@@ -8,10 +8,10 @@ ghost use Rattle.tc_stmt.specs.RowFields.{field_of};
 ghost use Rattle.tc_disasm.specs.Texts.{register_text, number_text, is_two_way, target_text, address_in, absolute_text, base_text, operand_text};
 
 use crate::texts::{append, append_digit};
-use hex_text::append_hex_word;
 use tc_isa::{Fields, Form, bounds_of};
 use tc_stmt::{Field, Want};
 use tcd_base::NoMemory;
+use tcd_text::append_hex_word;
 
 // Puts a number below 100 there, digit by digit.
 #[tactic(auto, using(crate::proofs::SmallNumbers::one_digit))]

@@ -1,14 +1,14 @@
 // The lines of the bytes from an address on.
 ghost use Rattle.std.specs.Prelude.{◌≡◌, ◌<◌, ◌≤◌, ◌+◌, ◌^◌, ◌++◌, ◌∷◌, [], OnOk, IfOk, string_bytes, codes, length, min, drop};
 ghost use Rattle.std.specs.List.{flat_map};
-ghost use Rattle.hex_text.specs.Digits.{hex_byte, hex_word};
+ghost use Rattle.tcd_text.specs.Digits.{hex_byte, hex_word};
 ghost use Rattle.tc_disasm.specs.Listing.{data_text, text_at, size_at, remark, line_at, lines_from};
 
 use crate::instructions::append_instruction;
 use crate::texts::{append, append_address};
-use hex_text::{append_ascii, append_hex_byte, hex_byte, hex_word};
 use tc_encode::decode;
 use tcd_base::NoMemory;
+use tcd_text::{append_ascii, append_hex_byte, hex_byte, hex_word};
 
 // The data that bytes begin with, which are no instruction.
 fn append_data(text: &mut String, bytes: &[u8]) -> Result<(), NoMemory>

@@ -1,9 +1,9 @@
 // Texts, put behind one another.
 ghost use Rattle.std.specs.Prelude.{◌≡◌, ◌<◌, ◌+◌, ◌++◌, ◌∷◌, [], OnOk, string_bytes, codes};
-ghost use Rattle.hex_text.specs.Digits.{hex_word};
+ghost use Rattle.tcd_text.specs.Digits.{hex_word};
 
-use hex_text::{append_ascii, hex_word};
 use tcd_base::NoMemory;
+use tcd_text::{append_ascii, hex_word};
 
 /// Puts a text behind what stands there.
 pub(crate) fn append(text: &mut String, more: &str) -> Result<(), NoMemory>

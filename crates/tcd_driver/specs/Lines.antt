@@ -6,7 +6,7 @@ use Rattle.value_cells.specs.declared.errors.CellsErr.{CellsErr}
 use Rattle.value_cells.specs.declared.errors.CellsErr.TheVariants as cells
 use Rattle.task_chains.specs.declared.task_lists.TasksErr.{TasksErr}
 use Rattle.task_chains.specs.declared.task_lists.TasksErr.TheVariants as tasks
-use Rattle.hex_text.specs.Digits.{hex_word}
+use Rattle.tcd_text.specs.Digits.{hex_word}
 use Rattle.tcd_forms.specs.Lines.{at_one}
 
 -- the words of no form

@@ -1,14 +1,14 @@
 // The printed lines of words that are no command, and of what is against boot sequences, cells and tasks.
 ghost use Rattle.std.specs.Prelude.{◌≡◌, ◌++◌, ◌∷◌, [], codes, IfOk};
-ghost use Rattle.hex_text.specs.Digits.{hex_word};
+ghost use Rattle.tcd_text.specs.Digits.{hex_word};
 ghost use Rattle.tcd_driver.specs.Lines.{bad_words_line, unbooted_line, cells_line, tasks_line};
 
-use hex_text::hex_word;
 use std::alloc::Global;
 use task_chains::TasksErr;
 use tc_boot::BootErr;
 use tcd_base::NoMemory;
 use tcd_forms::{append, line_of};
+use tcd_text::hex_word;
 use value_cells::CellsErr;
 
 // The words of no form.

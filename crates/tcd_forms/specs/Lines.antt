@@ -1,7 +1,7 @@
 -- The printed lines.
 use Rattle.std.specs.Prelude.{ℕ, ◌==◌, if◌then◌else◌, List, [], ◌∷◌, ◌++◌, codes, slice_get, unwrap_or}
 use Rattle.std.specs.Fmt.{decimal}
-use Rattle.hex_text.specs.Digits.{hex_word}
+use Rattle.tcd_text.specs.Digits.{hex_word}
 use Rattle.depth_cert.specs.Keys.{start_kind, call_kind, irq_kind, sys_kind}
 use Rattle.elf_image.specs.declared.errors.ImageErr.{ImageErr}
 use Rattle.elf_image.specs.declared.errors.ImageErr.TheVariants as elf

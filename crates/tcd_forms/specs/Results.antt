@@ -1,7 +1,7 @@
 -- The printed lines of what boot sequences, cells, tasks and generated images come to.
 use Rattle.std.specs.Prelude.{ℕ, ◌-◌, List, [], ◌∷◌, ◌++◌, codes, length, take}
 use Rattle.std.specs.Fmt.{decimal}
-use Rattle.hex_text.specs.Digits.{hex_word}
+use Rattle.tcd_text.specs.Digits.{hex_word}
 use Rattle.depth_cert.specs.declared.keys.Key.{Key}
 use Rattle.tcd_forms.specs.Lines.{refused_line}
 

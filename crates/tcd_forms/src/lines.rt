@@ -2,14 +2,13 @@
 ghost use Rattle.std.specs.Prelude.{◌≡◌, ◌≢◌, ◌<◌, ◌++◌, ◌∷◌, [], if◌then◌else◌, length, codes, IsErr, IfOk, IfSome, OnOk};
 ghost use Rattle.std.specs.Fmt.{decimal};
 ghost use Rattle.tcd_forms.specs.Lines.{long_elf_line, long_plan_line, long_cert_line, long_script_line, long_source_line, kind_text, key_line, at_key, elf_line, plan_line, cert_line, script_line, source_line, assembled_line, long_layout_line, long_cells_line, long_tasks_line, layout_line, long_object_line, object_line, at_name, field_fault, link_line, linked_line, cause_text, end_text, run_line, refused_line, certified_line};
-ghost use Rattle.hex_text.specs.Digits.{hex_word};
+ghost use Rattle.tcd_text.specs.Digits.{hex_word};
 ghost use Rattle.tcd_plan.specs.Plans.{HasText};
 ghost use Rattle.tc_link.specs.Errors.{refusal_of};
 ghost use Rattle.tcd_plan.specs.Keys.{key_texts};
 
 use depth_cert::Key;
 use elf_image::ImageErr;
-use hex_text::hex_word;
 use std::alloc::Global;
 use tc_link::{LayoutErr, LinkErr};
 use tc_machine::{Cause, End, Machine};
@@ -17,6 +16,7 @@ use tc_reloc::RelocErr;
 use tc_script::ScriptErr;
 use tcd_base::{FormErr, NoMemory};
 use tcd_plan::{PlanErr, PlanKey, key_text};
+use tcd_text::hex_word;
 
 /// The bytes, behind what stands there.
 pub fn append(line: &mut Vec<u8>, bytes: &[u8]) -> Result<(), NoMemory>

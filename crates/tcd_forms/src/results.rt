@@ -6,10 +6,10 @@ ghost use Rattle.tcd_forms.specs.Results.{boots_line, generated_boot_line, certi
 
 use crate::lines::{append, line_of, refused_line};
 use depth_cert::Key;
-use hex_text::hex_word;
 use packed_cert::PackedCert;
 use std::alloc::Global;
 use tcd_base::NoMemory;
+use tcd_text::hex_word;
 
 /// So many events of a boot sequence, and the areas that are needed then.
 #[tactic(auto, unfolding(crate::specs::Results::boots_line))]

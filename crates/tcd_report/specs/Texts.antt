@@ -1,7 +1,7 @@
 -- Printed keys.
 use Rattle.std.specs.Prelude.{ℕ, ◌==◌, if◌then◌else◌, List, [], ◌∷◌, ◌++◌, codes}
 use Rattle.std.specs.Fmt.{decimal}
-use Rattle.hex_text.specs.Digits.{hex_word}
+use Rattle.tcd_text.specs.Digits.{hex_word}
 use Rattle.depth_cert.specs.Keys.{start_kind, call_kind, irq_kind, sys_kind}
 use Rattle.depth_cert.specs.declared.keys.Key.{Key}
 

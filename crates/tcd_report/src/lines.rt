@@ -6,9 +6,9 @@ ghost use Rattle.tcd_report.specs.Told.{lines_to, ways_text, leaving_text};
 use crate::edges::Edges;
 use crate::texts::{append, append_key};
 use depth_cert::Key;
-use hex_text::append_hex_word;
 use tc_isa::Shape;
 use tcd_base::NoMemory;
+use tcd_text::append_hex_word;
 
 // What each line of a point begins with.
 fn append_front(text: &mut String, key: &Key, addr: u32) -> Result<(), NoMemory>

@@ -4,8 +4,8 @@ ghost use Rattle.std.specs.Fmt.{decimal};
 ghost use Rattle.tcd_report.specs.Texts.{kind_text, key_text};
 
 use depth_cert::Key;
-use hex_text::append_hex_word;
 use tcd_base::NoMemory;
+use tcd_text::append_hex_word;
 
 /// Puts a text behind what stands there.
 pub(crate) fn append(text: &mut String, more: &str) -> Result<(), NoMemory>

@@ -1,2 +1,3 @@
 mod LineLaws
 mod HexLaws
+pub mod DigitLaws

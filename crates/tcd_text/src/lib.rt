@@ -1,11 +1,13 @@
-//! What the readers of texts share: a text cut into lines, a line into words, and numbers of eight hex digits.
+//! Texts, read and written: lines, their words, and numbers of eight hex digits; bytes and words of 32 bits as hex digits.
 #![tactic(auto)]
 
 mod cuts;
+mod digits;
 mod hex_numbers;
 mod lines;
 mod words;
 
+pub use digits::{append_ascii, append_hex_byte, append_hex_word, hex_byte, hex_word};
 pub use hex_numbers::hex_number;
 pub use lines::cut_line;
 pub use words::cut_word;

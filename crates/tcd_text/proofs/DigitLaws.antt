@@ -4,7 +4,7 @@ use Rattle.std.specs.Prelude.{MatchResult, IsOk}
 use Rattle.std.specs.Str.{IsAscii}
 use Rattle.std.proofs.lemmas.Bool.Decides.{nat_tests}
 use Rattle.std.proofs.lemmas.Str.Ascii.{IsAscii-nil, IsAscii-cons}
-use Rattle.hex_text.specs.Digits.{hex_digit, hex_byte, hex_word}
+use Rattle.tcd_text.specs.Digits.{hex_digit, hex_byte, hex_word}
 
 digit_below : (n : ℕ) → n < 16 → hex_digit n < 128
 unfolding hex_digit

@@ -1,7 +1,7 @@
 // Bytes and words as upper-case hex digits.
 ghost use Rattle.std.specs.Prelude.{◌≡◌, ◌<◌, ◌++◌, OnOk, string_bytes};
 ghost use Rattle.std.specs.Str.{IsAscii};
-ghost use Rattle.hex_text.specs.Digits.{hex_digit, hex_byte, hex_word};
+ghost use Rattle.tcd_text.specs.Digits.{hex_digit, hex_byte, hex_word};
 
 use tcd_base::NoMemory;
 

@@ -1,2 +1,0 @@
--- Bytes and words, written as hex digits.
-pub mod Digits
