@@ -1,4 +1,5 @@
--- Lists of addresses, the text of lines, arrows of points, edges on lines, and rows of calls.
+-- Lists of addresses, the text of lines, arrows of points, edges on lines, and rows of calls. Of generated images: bytes of
+-- instructions, pieces of bytes, and their lengths.
 pub mod Lists
 pub mod DutyLists
 pub mod GraphTexts
@@ -13,3 +14,8 @@ pub mod HeightLaws
 pub mod RowLaws
 pub mod LongestLaws
 pub mod ReportTexts
+pub mod Instructions
+pub mod Ranges
+pub mod Lengths
+pub mod PlanText
+pub mod Wholes

@@ -1,4 +1,4 @@
--- What people look at: the graph of a certificate and its report.
+-- What people look at: the graph of a certificate and its report. Generated images, and their plan.
 pub mod Texts
 pub mod Calls
 pub mod Reports
@@ -8,3 +8,5 @@ pub mod Judging
 pub mod Heights
 pub mod Longest
 pub mod EdgeLaws
+pub mod Generated
+pub mod Planned

@@ -2,8 +2,8 @@
 use crate::asserts::same;
 use elf_image::Image;
 use std::test::Fail;
-use tcd_generate::generate;
 use tcd_plan::Plan;
+use tcd_report::generate;
 
 #[test]
 fn one_function(rt: HostRuntime) -> Result<(), Fail> {

@@ -1,8 +1,8 @@
 // The command `gen`.
 ghost use Rattle.std.specs.Prelude.{◌≤◌};
 ghost use Rattle.depth_maker.specs.Made.{AreMade};
-ghost use Rattle.tcd_generate.specs.Generated.{generated_image};
-ghost use Rattle.tcd_generate.specs.Planned.{generated_plan};
+ghost use Rattle.tcd_report.specs.Generated.{generated_image};
+ghost use Rattle.tcd_report.specs.Planned.{generated_plan};
 ghost use Rattle.tcd_driver.specs.Gen.{IsSummary};
 ghost use Rattle.tcd_reading.specs.Outcomes.{IsTold};
 
@@ -12,9 +12,9 @@ use elf_image::Image;
 use packed_cert::PackedCert;
 use std::alloc::Global;
 use tcd_forms::{generated_line, refused_line};
-use tcd_generate::generate;
 use tcd_plan::Plan;
 use tcd_reading::{Outcome, Status, report};
+use tcd_report::generate;
 
 /// Generates the image of so many functions and its plan, and makes their certificate.
 #[inline(never)]

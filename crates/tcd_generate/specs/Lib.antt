@@ -1,3 +1,0 @@
--- Generated images, and their plan.
-pub mod Generated
-pub mod Planned
