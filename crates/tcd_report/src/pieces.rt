@@ -1,4 +1,4 @@
-// Bytes and calls, put behind the bytes that stand there.
+// Bytes and calls of a generated image, put behind the bytes that stand there.
 ghost use Rattle.std.specs.Prelude.{◌≡◌, ◌≤◌, ◌<◌, ◌+◌, ◌-◌, ◌/◌, ◌^◌, ◌++◌, OnOk, replicate};
 ghost use Rattle.tc_isa.specs.declared.table.Form.TheVariants.{B};
 ghost use Rattle.tc_isa.specs.Words.{fields, word};
