@@ -8,7 +8,7 @@ use Rattle.cfg_recover.specs.Entries.{start_key}
 use Rattle.cfg_recover.specs.Refusals.{MeetsNeeds}
 use Rattle.frame_places.specs.Numbers.{number_in}
 use Rattle.depth_maker.specs.Proper.{AllProper}
-use Rattle.call_needs.specs.Rows.{IsWithin, LeastNeeds}
+use Rattle.frame_places.specs.Rows.{IsWithin, LeastNeeds}
 use Rattle.depth_maker.specs.RowsBy.{IsSource, RowsOn}
 use Rattle.depth_maker.specs.NeedsBy.{NeedsOn}
 use Rattle.depth_maker.specs.Spots.{place_of}
@@ -16,7 +16,7 @@ use Rattle.depth_maker.specs.View.{seen}
 use Rattle.depth_maker.proofs.Lawful.{lawful}
 use Rattle.depth_maker.proofs.TableLaws.{derived_proper}
 use Rattle.depth_maker.proofs.RowLaws.{above_by, least_by, rows_within}
-use Rattle.call_needs.specs.declared.row.Row.{Row}
+use Rattle.frame_places.specs.declared.needs.row.Row.{Row}
 use Rattle.depth_maker.specs.declared.rows.Source.{Source}
 use Rattle.std.specs.declared.alloc.AllocError.{AllocError}
 

@@ -27,7 +27,7 @@ use Rattle.frame_places.specs.declared.places.Marked.{Marked}
 use Rattle.frame_places.specs.declared.places.Spot.TheVariants.{Point}
 use Rattle.small_states.specs.Kept.{IsOutline}
 use Rattle.small_states.specs.declared.cells.Outline.{Outline}
-use Rattle.call_needs.specs.declared.row.Row.{Row}
+use Rattle.frame_places.specs.declared.needs.row.Row.{Row}
 use Rattle.depth_maker.specs.Entered.{EntersNone, IsPlainAt, entered_in}
 use Rattle.depth_maker.specs.Handlers.{nodes_taken}
 use Rattle.depth_maker.proofs.HandlerLaws.{nodes_taken-is}

@@ -21,11 +21,11 @@ use Rattle.cfg_recover.proofs.Members.{contains_map}
 use Rattle.depth_maker.specs.Counts.{AreCounted}
 use Rattle.depth_maker.specs.Entered.{entered_in}
 use Rattle.frame_places.specs.Numbers.{number_in}
-use Rattle.call_needs.specs.Reaching as graph
-use Rattle.call_needs.specs.Reaching.{edge_to, AreEdges, Leads, along, IsRecurring, IsMarked, AreReaching, AreBetween}
+use Rattle.frame_places.specs.Reaching as graph
+use Rattle.frame_places.specs.Reaching.{edge_to, AreEdges, Leads, along, IsRecurring, IsMarked, AreReaching, AreBetween}
 use Rattle.depth_maker.specs.RowsAt.{IsRowAt, AreRows}
-use Rattle.call_needs.specs.declared.reach.Edge.{Edge}
-use Rattle.call_needs.specs.declared.row.Row.{Row}
+use Rattle.frame_places.specs.declared.needs.reach.Edge.{Edge}
+use Rattle.frame_places.specs.declared.needs.row.Row.{Row}
 use Rattle.depth_maker.proofs.DutyGrowth.{contained_map}
 use Rattle.depth_maker.proofs.EnteredLemmas.{owed_entered}
 use Rattle.frame_places.proofs.NumberLemmas.{numbered_at}

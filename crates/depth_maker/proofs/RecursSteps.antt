@@ -9,7 +9,7 @@ use Rattle.depth_cert.specs.Keys.{number_of_key}
 use Rattle.cfg_recover.specs.Assignments.{point}
 use Rattle.depth_cert.specs.Known.{Known, state}
 use Rattle.frame_places.specs.Numbers.{number_in}
-use Rattle.call_needs.specs.Reaching.{IsFirstRecurring, IsMarked, IsRecurring, AreReaching, AreBetween}
+use Rattle.frame_places.specs.Reaching.{IsFirstRecurring, IsMarked, IsRecurring, AreReaching, AreBetween}
 use Rattle.depth_maker.specs.Recursing.{EdgesOn, EntersMarked, IsFirstMarked, IsRecursion, RecursBy, RecursFirstBy, orders_in}
 use Rattle.depth_maker.specs.RowsAt.{IsRowAt}
 use Rattle.depth_maker.specs.RowsBy.{IsSource}
@@ -17,8 +17,8 @@ use Rattle.depth_maker.specs.Spots.{place_of}
 use Rattle.depth_maker.specs.View.{seen}
 use Rattle.frame_places.specs.declared.places.Spot.{Spot}
 use Rattle.frame_places.specs.declared.places.Spot.TheVariants.{Point}
-use Rattle.call_needs.specs.declared.reach.Edge.{Edge}
-use Rattle.call_needs.specs.declared.row.Row.{Row}
+use Rattle.frame_places.specs.declared.needs.reach.Edge.{Edge}
+use Rattle.frame_places.specs.declared.needs.row.Row.{Row}
 use Rattle.depth_maker.specs.declared.rows.Source.{Source}
 use Rattle.frame_places.proofs.NumberLemmas.{number_at}
 use Rattle.depth_maker.proofs.PlaceRanges.{derived_in_range}

@@ -24,9 +24,9 @@ use Rattle.depth_maker.specs.Entered.{entered_in}
 use Rattle.frame_places.specs.Numbers.{number_in}
 use Rattle.value_domain.specs.Limits.{AreLimits}
 use Rattle.depth_maker.specs.Proper.{AllFaultless, AllProper, AreLawful}
-use Rattle.call_needs.specs.Rows.{Meets, IsLow, IsWithin}
+use Rattle.frame_places.specs.Rows.{Meets, IsLow, IsWithin}
 use Rattle.depth_maker.specs.RowsAt.{AreRows, need_by}
-use Rattle.call_needs.specs.declared.row.Row.{Row}
+use Rattle.frame_places.specs.declared.needs.row.Row.{Row}
 use Rattle.depth_maker.proofs.Reached.{needs_at_most}
 use Rattle.depth_maker.proofs.EnteredLemmas.{entered_owed, owed_entered}
 use Rattle.frame_places.proofs.NumberLemmas.{numbered_at, number_below}

@@ -5,13 +5,13 @@ use Rattle.depth_cert.specs.declared.keys.Key.{Key}
 use Rattle.depth_cert.specs.Keys.{number_of_key}
 use Rattle.cfg_recover.specs.Refusals.{Enters, Recurs, RecursFirst}
 use Rattle.frame_places.specs.Numbers.{number_in}
-use Rattle.call_needs.specs.Reaching.{AreEdges, IsMarked}
+use Rattle.frame_places.specs.Reaching.{AreEdges, IsMarked}
 use Rattle.depth_maker.specs.RowsBy.{RowsOn}
 use Rattle.depth_maker.specs.View.{seen}
 use Rattle.frame_places.specs.declared.places.Spot.{Spot}
 use Rattle.frame_places.specs.declared.places.Spot.TheVariants.{Point}
-use Rattle.call_needs.specs.declared.reach.Edge.{Edge}
-use Rattle.call_needs.specs.declared.row.Row.{Row}
+use Rattle.frame_places.specs.declared.needs.reach.Edge.{Edge}
+use Rattle.frame_places.specs.declared.needs.row.Row.{Row}
 use Rattle.depth_maker.specs.declared.rows.Source.{Source}
 
 -- the point p of the frame k enters t

@@ -19,7 +19,7 @@ use Rattle.depth_maker.specs.declared.ground.Visit.{Visit}
 use Rattle.frame_places.specs.declared.places.Spot.TheVariants.{Point}
 use Rattle.frame_places.specs.declared.places.Mark.TheVariants.{Plain}
 use Rattle.frame_places.specs.declared.places.Marked.{Marked}
-use Rattle.call_needs.specs.declared.row.Row.{Row}
+use Rattle.frame_places.specs.declared.needs.row.Row.{Row}
 use Rattle.depth_maker.specs.declared.rows.Draft.{Draft}
 use Rattle.depth_maker.specs.declared.rows.KnownPoint.{KnownPoint}
 use Rattle.depth_maker.specs.declared.rows.Source.{Source}

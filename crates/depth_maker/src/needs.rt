@@ -4,9 +4,8 @@ ghost use Rattle.depth_maker.specs.RowsBy.{IsSource, RowsOn};
 ghost use Rattle.depth_maker.specs.NeedsBy.{NeedsOn};
 
 use crate::rows::{Source, rows};
-use call_needs::{Row, least_needs};
 use depth_cert::Key;
-use frame_places::Refusal;
+use frame_places::{Refusal, Row, least_needs};
 use std::alloc::Global;
 use tcd_plan::Plan;
 

@@ -1,17 +1,18 @@
 // The first point that enters a frame from which its own is reached again.
 ghost use Rattle.std.specs.Prelude.{◌≡◌, ◌↔◌, IsTrue, IfOk, Some, map};
 ghost use Rattle.depth_cert.specs.Keys.{number_of_key};
-ghost use Rattle.call_needs.specs.Reaching.{IsFirstRecurring};
+ghost use Rattle.frame_places.specs.Reaching.{IsFirstRecurring};
 ghost use Rattle.depth_maker.specs.Recursing.{EdgesOn, EntersMarked, IsFirstMarked, IsFirstWith, IsRecursion, orders_in};
 ghost use Rattle.frame_places.specs.Spots.{IsAddressIn};
 ghost use Rattle.depth_maker.specs.RowsBy.{IsSource};
 ghost use Rattle.frame_places.specs.declared.places.Spot.TheVariants.{Point};
 
 use crate::rows::{KnownPoint, Source, point_row, rows};
-use call_needs::{Edge, edges_of, first_recurring, has_marked, reaching};
 use cfg_recover::start_state;
 use depth_cert::Key;
-use frame_places::{Spot, address_in, number_of, orders_of};
+use frame_places::{
+    Edge, Spot, address_in, edges_of, first_recurring, has_marked, number_of, orders_of, reaching,
+};
 use small_states::ScratchState;
 use std::alloc::{AllocError, Global};
 

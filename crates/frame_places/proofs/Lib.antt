@@ -3,6 +3,8 @@ pub mod MarkLemmas
 pub mod NearbyLemmas
 pub mod NumberLemmas
 pub mod OrderLemmas
+pub mod ReachLemmas
 pub mod ReaderLemmas
+pub mod RowLemmas
 pub mod SpotLemmas
 pub mod WorkLemmas

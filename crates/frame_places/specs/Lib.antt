@@ -1,4 +1,4 @@
--- Places of frames in a table.
+-- Places of frames in a table; rows of needs, and the graph of their entries.
 pub mod Spots
 pub mod Entries
 pub mod Hashed
@@ -7,3 +7,5 @@ pub mod Work
 pub mod Marks
 pub mod Numbers
 pub mod Counting
+pub mod Reaching
+pub mod Rows

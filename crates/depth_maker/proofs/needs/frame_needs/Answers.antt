@@ -1,5 +1,5 @@
 use Rattle.std.proofs.Common.{subst, sym, List}
-use Rattle.call_needs.specs.declared.row.Row.{Row}
+use Rattle.frame_places.specs.declared.needs.row.Row.{Row}
 use Rattle.depth_maker.specs.RowsBy.{RowsOn}
 use Rattle.depth_maker.proofs.RowSteps.{rows_again}
 use Rattle.depth_maker.proofs.needs.frame_needs.Goals as goal

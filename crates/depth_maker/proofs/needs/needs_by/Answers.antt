@@ -1,6 +1,6 @@
 use Rattle.std.proofs.Common.{subst, sym, refl, ap, List, length, Ok, arith}
 use Rattle.depth_cert.specs.declared.keys.Key.{Key}
-use Rattle.call_needs.specs.Rows.{IsWithin, LeastNeeds}
+use Rattle.frame_places.specs.Rows.{IsWithin, LeastNeeds}
 use Rattle.depth_maker.proofs.CountedLemmas.{few_spots}
 use Rattle.depth_maker.proofs.NeedSteps.{source_within, source_needs}
 use Rattle.depth_maker.proofs.needs.needs_by.Goals as goal

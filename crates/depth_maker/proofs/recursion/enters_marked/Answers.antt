@@ -1,7 +1,7 @@
 use Rattle.std.proofs.Common.{◌≡◌, ℕ, Bool, true, false, List, Contains, ap, sym, subst}
 use Rattle.std.specs.Prelude.{IsTrue}
 use Rattle.std.specs.Option.{option_map}
-use Rattle.call_needs.specs.Reaching.{IsMarked}
+use Rattle.frame_places.specs.Reaching.{IsMarked}
 use Rattle.depth_maker.specs.View.{seen}
 use Rattle.depth_maker.proofs.RecursSteps.{none_marked, row_marked}
 use Rattle.depth_maker.proofs.RowSteps.{number_there}

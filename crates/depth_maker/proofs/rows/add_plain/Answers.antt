@@ -1,5 +1,5 @@
 use Rattle.std.proofs.Common.{refl, sym, ap, subst, arith, ◌∙◌, ◌<◌, ◌++◌, ℕ, List, length, Some, set}
-use Rattle.call_needs.specs.declared.row.Row.{Row}
+use Rattle.frame_places.specs.declared.needs.row.Row.{Row}
 use Rattle.depth_maker.specs.Handlers.{nodes_taken}
 use Rattle.depth_maker.specs.RowsBy.{AreSaid, IsPlainRow}
 use Rattle.depth_maker.proofs.RowSteps.{said_more, said_still}

@@ -1,6 +1,0 @@
-use Rattle.std.proofs.Common.{take}
-use Rattle.call_needs.specs.Reaching.{AreEdges}
-use Rattle.call_needs.proofs.reach.edges_of.Given as goal
-
-abbrev pub invariant-loop-row : goal.invariant-loop-row
-invariant-loop-row l = AreEdges (take l.row-index l.rows) l.edges.keys

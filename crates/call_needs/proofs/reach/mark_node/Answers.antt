@@ -1,9 +1,0 @@
-use Rattle.std.proofs.Common.{true, set, subst, sym, ◌∷◌, []}
-use Rattle.call_needs.specs.Reaching.{MarksNodes}
-use Rattle.call_needs.proofs.ReachLemmas.{node_new}
-use Rattle.call_needs.proofs.reach.mark_node.Goals as goal
-
-pub returns-in_ok-push : goal.returns-in_ok-push
-returns-in_ok-push c =
-    subst (MarksNodes (c.args.node ∷ []) c.args.marks.now (set c.args.marks.now c.args.node true) c.args.work.now.items) (sym c.in_ok-push.ensures.items)
-    (node_new c.args.node c.args.marks.now c.args.work.now.items c.requires c.if-not-marks-node.true)

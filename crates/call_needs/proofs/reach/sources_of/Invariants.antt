@@ -1,6 +1,0 @@
-use Rattle.std.proofs.Common.{take}
-use Rattle.call_needs.specs.Reaching.{AreSources}
-use Rattle.call_needs.proofs.reach.sources_of.Given as goal
-
-abbrev pub invariant-loop-edge : goal.invariant-loop-edge
-invariant-loop-edge l = AreSources (take l.edge-index l.edges) l.sources

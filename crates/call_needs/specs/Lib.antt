@@ -1,3 +1,0 @@
--- Rows of needs, and the graph of their entries.
-pub mod Reaching
-pub mod Rows

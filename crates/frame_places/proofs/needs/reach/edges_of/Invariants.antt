@@ -1,0 +1,6 @@
+use Rattle.std.proofs.Common.{take}
+use Rattle.frame_places.specs.Reaching.{AreEdges}
+use Rattle.frame_places.proofs.needs.reach.edges_of.Given as goal
+
+abbrev pub invariant-loop-row : goal.invariant-loop-row
+invariant-loop-row l = AreEdges (take l.row-index l.rows) l.edges.keys

@@ -1,0 +1,17 @@
+use Rattle.std.proofs.Common.{◌∙◌, List, Bool, subst, sym, ap, length}
+use Rattle.frame_places.specs.Reaching.{AreBetween, AreReaching}
+use Rattle.frame_places.proofs.ReachLemmas.{recurring_marks, sources_below}
+use Rattle.frame_places.proofs.needs.reach.is_recurring.Goals as goal
+
+pub reaching_by-requires-clause-sources : goal.reaching_by-requires-clause-sources
+reaching_by-requires-clause-sources c = sources_below c.args.edges.now c.args.sources.now c.args.nodes c.requires.sources c.requires.edges
+
+pub enters_marked-requires : goal.enters_marked-requires
+enters_marked-requires c =
+    let are = c.in_ok-marks.ensures c.args.edges.now c.requires.sources in
+    subst (AreBetween c.args.edges.now) (sym (ap (λ (l : List Bool). length l) c.as_slice.ensures.value ∙ are.each)) c.requires.edges
+
+pub returns : goal.returns
+returns c =
+    recurring_marks c.args.edges.now c.args.nodes c.args.node c.as_slice.result.now c.enters_marked.result
+    (subst (AreReaching c.args.edges.now c.args.nodes c.args.node) (sym c.as_slice.ensures.value) (c.in_ok-marks.ensures c.args.edges.now c.requires.sources)) c.enters_marked.ensures

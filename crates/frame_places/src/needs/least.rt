@@ -1,0 +1,109 @@
+// The least needs.
+
+ghost use Rattle.std.specs.Prelude.{◌≡◌, ℕ, ◌+◌, ◌<◌, ◌≤◌, ◌^◌, OnOk, IfErr, IfOk, Some, None, IsTrue, Contains, length, slice_index, min, List, sum, false, MatchOption, EachIndex};
+ghost use Rattle.frame_places.specs.Rows.{Meets, MeetsRow, IsWithin, IsLow, MeetsCapped, PassesRow, Passes, LeastNeeds};
+ghost use Rattle.frame_places.specs.declared.needs.row.Row.{Row};
+
+use crate::needs::row::Row;
+use std::alloc::{AllocError, Global};
+
+/// The need that one row asks for, at most one more than the cap.
+fn need_of(needs: &[u32], row: &Row, cap: u32) -> u32
+    requires cap { cap < 2 ^ 16 }
+    requires held { row.now.held < 2 ^ 8 }
+    requires low { (k : ℕ) → slice_index needs.now k ≤ cap + 1 }
+    requires nodes { length needs.now < 2 ^ 16 }
+    requires into { (t : ℕ) → Contains row.now.into.items t → t < length needs.now }
+    ensures held { min row.now.held (cap + 1) ≤ result }
+    ensures into { (t : ℕ) → Contains row.now.into.items t
+        → min (row.now.held + 1 + slice_index needs.now t) (cap + 1) ≤ result }
+    ensures least { (other : ℕ → ℕ) → MeetsRow other row.now
+        → ((t : ℕ) → t < length needs.now → slice_index needs.now t ≤ other t)
+        → result ≤ other row.now.node }
+    ensures capped { result ≤ cap + 1 }
+{
+    let mut need = u32::from(row.held);
+    for t in &row.into {
+        let asked = u32::from(row.held) + 1 + needs[*t];
+        need = need.max(asked);
+    }
+    need.min(cap + 1)
+}
+
+/// Raises the need of one row's node, and says whether it was too low.
+fn raise_row(needs: &mut [u32], row: &Row, cap: u32) -> bool
+    requires cap { cap < 2 ^ 16 }
+    requires nodes { length needs.old < 2 ^ 16 }
+    requires node { row.now.node < length needs.old }
+    requires into { (t : ℕ) → Contains row.now.into.items t → t < length needs.old }
+    requires held { row.now.held < 2 ^ 8 }
+    requires capped { (k : ℕ) → slice_index needs.old k ≤ cap + 1 }
+    ensures pass { PassesRow cap needs.old needs.new row.now result }
+{
+    let need = need_of(needs, row, cap);
+    if needs[row.node] < need {
+        needs[row.node] = need;
+        return true;
+    }
+    false
+}
+
+/// One pass over the rows, the last one first, as rows of what is entered mostly stand behind those of what enters it: raises
+/// needs that are too low, and says whether there were any.
+fn pass(needs: &mut [u32], rows: &[Row], cap: u32) -> bool
+    requires cap { cap < 2 ^ 16 }
+    requires nodes { length needs.old < 2 ^ 16 }
+    requires within { IsWithin rows.now (length needs.old) }
+    requires capped { (k : ℕ) → slice_index needs.old k ≤ cap + 1 }
+    ensures pass { Passes cap needs.old needs.new rows.now result }
+{
+    let mut changed = false;
+    for i in (0..rows.len()).rev() {
+        if raise_row(needs, &rows[i], cap) {
+            changed = true;
+        }
+    }
+    changed
+}
+
+/// Passes until nothing changes.
+fn settle(needs: &mut [u32], rows: &[Row], cap: u32)
+    requires cap { cap < 2 ^ 16 }
+    requires nodes { length needs.old < 2 ^ 16 }
+    requires within { IsWithin rows.now (length needs.old) }
+    requires capped { (k : ℕ) → slice_index needs.old k ≤ cap + 1 }
+    requires low { IsLow needs.old rows.now }
+    ensures low { IsLow needs.new rows.now }
+    ensures met { (row : Row) → Contains rows.now row → MeetsCapped cap needs.new row }
+{
+    while pass(needs, rows, cap) {}
+}
+
+/// The first need above the cap.
+fn above(needs: &[u32], cap: u32) -> Option<usize>
+    ensures { MatchOption result
+        (EachIndex needs.now (λ k. slice_index needs.now k ≤ cap))
+        (λ k. (k < length needs.now) × (cap < slice_index needs.now k)) }
+{
+    needs.iter().position(|need| *need > cap)
+}
+
+/// The least needs, or `None` where some need has to be above the cap.
+pub fn least_needs(
+    alloc: Global,
+    nodes: usize,
+    rows: &[Row],
+    cap: u32,
+) -> Result<Option<Vec<u32>>, AllocError>
+    requires cap { cap < 2 ^ 16 }
+    requires nodes { nodes < 2 ^ 16 }
+    requires within { IsWithin rows.now nodes }
+    ensures { LeastNeeds nodes rows.now cap result }
+{
+    let mut needs = vec![in alloc; 0u32; nodes]?;
+    settle(&mut needs, rows, cap);
+    match above(&needs, cap) {
+        None => Ok(Some(needs)),
+        Some(_) => Ok(None),
+    }
+}
