@@ -16,7 +16,7 @@ use Rattle.frame_places.specs.declared.places.Marked.{Marked}
 use Rattle.frame_places.specs.declared.places.Mark.TheVariants.{Queued}
 use Rattle.depth_maker.specs.declared.table.Table as made
 use Rattle.frame_places.specs.Marks.{AllListed, mark_for, value_for}
-use Rattle.depth_maker.specs.Levels.{level, rank_at, Rises}
+use Rattle.depth_maker.specs.Levels.{level, rank_at, Rises, Steps}
 use Rattle.frame_places.specs.Spots.{spot_eq}
 use Rattle.depth_maker.specs.View.{CellsProper, IsCountedIn}
 use Rattle.frame_places.specs.Counting.{frames_after, points_after}
@@ -128,10 +128,6 @@ level_most b t limits proper counted =
     omega (arith, few.0, few.1, ps, ks)
 
 -- ---- turns
--- the table rose, or the list is shorter by one place
-abbrev pub Steps : made.Table → made.Table → Type 0
-Steps s t = (level s < level t) ⊎ ((level t ≡ level s) × (length (all_work s.work) ≡ length (all_work t.work) + 1))
-
 -- the list without one place
 pub shorter : (old new : Lists) (number : ℕ) → Takes old new number → length (all_work old) ≡ length (all_work new) + 1
 shorter old new number takes = let e = length_permutation (all_work old) (number ∷ all_work new) takes in omega (arith, e)

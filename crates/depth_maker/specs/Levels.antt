@@ -31,3 +31,7 @@ level t = sum_by (λ q. rank_at (value_for t.places q)) t.points.items + sum_by 
 -- the table rose, or its list of work is as it was
 abbrev pub Rises : made.Table → made.Table → Type 0
 Rises s t = (level s < level t) ⊎ ((level t ≡ level s) × (all_work t.work ≡ all_work s.work))
+
+-- the table rose, or its list of work is shorter by one place
+abbrev pub Steps : made.Table → made.Table → Type 0
+Steps s t = (level s < level t) ⊎ ((level t ≡ level s) × (length (all_work s.work) ≡ length (all_work t.work) + 1))

@@ -1,5 +1,5 @@
 -- The table as the theory sees it.
-use Rattle.std.specs.Prelude.{◌≡◌, ◌<◌, ◌+◌, ◌⊎◌, ℕ, Bool, true, false, Option, Some, is_some, List, [], length, map, Contains, Result, Ok, Err}
+use Rattle.std.specs.Prelude.{◌≡◌, ◌<◌, ℕ, Bool, true, false, Option, Some, is_some, List, [], map, Contains, Result, Ok, Err}
 use Rattle.std.specs.List.{flat_map}
 use Rattle.indexmap.specs.IndexMap.{IndexMap, get}
 use Rattle.std.specs.declared.vec.Vec.{Vec}
@@ -38,7 +38,7 @@ use Rattle.frame_places.specs.Nearby.{StandsAt}
 use Rattle.frame_places.specs.Work.{all_work}
 use Rattle.depth_maker.specs.Counts.{AreCounted, AreFew}
 use Rattle.depth_maker.specs.Entered.{IsPlainAt, IsPlainIn}
-use Rattle.depth_maker.specs.Levels.{level, Rises}
+use Rattle.depth_maker.specs.Levels.{level, Rises, Steps}
 use Rattle.depth_maker.specs.Hearing.{HeardEntered}
 use Rattle.depth_maker.specs.declared.ground.Ground.{Ground}
 use Rattle.depth_maker.specs.declared.ground.Visit.{Visit}
@@ -219,7 +219,7 @@ EndsOn g s t = FineOn g t × NoneOpen t × Rises s t
 -- a step: the table rose, or its list of work is shorter by one; false where nothing was listed
 abbrev pub StepsOn : Ground → made.Table → made.Table → Result Bool Refusal → Type 0
 StepsOn g s t (Ok false) = FineOn g t × NoneOpen t × (level t ≡ level s) × (all_work t.work ≡ [])
-StepsOn g s t (Ok true) = FineOn g t × NoneOpen t × ((level s < level t) ⊎ ((level t ≡ level s) × (length (all_work s.work) ≡ length (all_work t.work) + 1)))
+StepsOn g s t (Ok true) = FineOn g t × NoneOpen t × Steps s t
 StepsOn g s t (Err e) = AnsweredOn g e
 
 -- a turn over the list of work: where some is left the table rose
