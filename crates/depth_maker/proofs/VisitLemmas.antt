@@ -299,7 +299,7 @@ pub visited_at : (b : Limits) (image : ImageData) (plan : PlanData) (laws : AreL
 unfolding seen
 visited_at b image plan laws t k p u fine stands at = record { fine = fine; proper = derived_proper b image plan laws (seen t).cells (fine.table).derived (point k p) (state u) at; at = λ free. at; stands = stands }
 
--- nothing is owed at an exit, nor where nothing is known
+-- nothing is owed at an exit
 pub paid_exit : (b : Limits) (image : ImageData) (plan : PlanData) (s : made.Table) (k : Key) → IsFine b image plan s → Paid b image plan s s (Exit k)
 paid_exit b image plan s k fine = record {
   fine = fine;
@@ -307,17 +307,6 @@ paid_exit b image plan s k fine = record {
   faultless = λ l p u e at. absurd (let no : exit k ≡ point l p = e in cc);
   settled = λ l p u e at free. absurd (let no : exit k ≡ point l p = e in cc);
 }
-
-pub paid_unknown : (b : Limits) (image : ImageData) (plan : PlanData) (s : made.Table) (k : Key) (p : ℕ) → IsFine b image plan s → value_for s.places (Point k p) ≡ None → Paid b image plan s s (Point k p)
-unfolding seen
-paid_unknown b image plan s k p fine none = record {
-  fine = fine;
-  keeps = keeps_all b image plan s;
-  faultless = λ l q u e at. absurd (nothing l q u e at);
-  settled = λ l q u e at free. absurd (nothing l q u e at);
-} where
-  nothing : (l : Key) (q : ℕ) (u : State) → point k p ≡ point l q → value_for s.places (Point l q) ≡ Some (state u) → ⊥
-  nothing l q u e at = let f : None ≡ Some (state u) = sym none ∙ ap (λ (y : Place). value_for s.places (spot_of y)) e ∙ at in cc
 
 -- no work is left: the list is as it was, whatever the table has for it
 pub same_fine : (b : Limits) (image : ImageData) (plan : PlanData) (s t : made.Table) → t ≡ (record s { work = t.work }) → all_work t.work ≡ all_work s.work → IsFine b image plan s → IsFine b image plan t
@@ -402,8 +391,3 @@ none_listed {V} m work bare empty = record {
   listed = λ q at. absurd (let no : None ≡ Some Queued = sym (ap (option_map (λ (k : Marked V). k.mark)) (get_none m q bare)) ∙ at in cc);
   known = λ n c. absurd (let z = ap (λ (l : List ℕ). length l) empty in omega (arith, c.1, z));
 }
-
--- nothing is owed where no point stands
-pub paid_no_point : (b : Limits) (image : ImageData) (plan : PlanData) (s : made.Table) (x : Spot) → ((k : Key) (p : ℕ) → x ≡ Point k p → ⊥) → IsFine b image plan s → Paid b image plan s s x
-paid_no_point b image plan s (Exit k) other fine = paid_exit b image plan s k fine
-paid_no_point b image plan s (Point k p) other fine = absurd (other k p refl)

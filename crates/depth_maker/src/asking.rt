@@ -9,7 +9,7 @@ ghost use Rattle.depth_cert.specs.Known.{state};
 ghost use Rattle.frame_places.specs.declared.places.Spot.TheVariants.{Exit, Point};
 ghost use Rattle.frame_places.specs.Spots.{spot_eq};
 ghost use Rattle.depth_maker.specs.View.{AnsweredOn, OwesDuty, PaidBy, VisitedBy, seen};
-ghost use Rattle.frame_places.specs.Marks.{Reads, is_queued};
+ghost use Rattle.frame_places.specs.Marks.{Reads};
 
 use crate::ground::Visit;
 use crate::rise::raise;

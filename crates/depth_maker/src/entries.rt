@@ -6,7 +6,6 @@ ghost use Rattle.depth_cert.specs.Known.{IsProper};
 ghost use Rattle.cfg_recover.specs.Entries as entries;
 ghost use Rattle.cfg_recover.specs.Local.{targets_of};
 ghost use Rattle.cfg_recover.specs.Duties.{irqs_of};
-ghost use Rattle.cfg_recover.specs.Flows as flows;
 ghost use Rattle.cfg_recover.specs.Flows.{told_irqs};
 ghost use Rattle.frame_places.specs.declared.places.Spot.TheVariants.{Point};
 ghost use Rattle.frame_places.specs.Nearby.{StandsAt};

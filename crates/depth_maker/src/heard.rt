@@ -1,5 +1,5 @@
 // With what the entries of interrupts are covered already.
-ghost use Rattle.std.specs.Prelude.{◌≡◌, IsTrue, slice_index_or};
+ghost use Rattle.std.specs.Prelude.{IsTrue, slice_index_or};
 ghost use Rattle.value_domain.specs.Values.{IsBelow, IsWell, any_val};
 ghost use Rattle.depth_maker.specs.Hearing.{AsksNoMore, IsHeardAt};
 

@@ -1,9 +1,7 @@
 // The first point that enters a frame from which its own is reached again.
-ghost use Rattle.std.specs.Prelude.{◌≡◌, ◌↔◌, IsTrue, IfOk, Some, map};
-ghost use Rattle.depth_cert.specs.Keys.{number_of_key};
+ghost use Rattle.std.specs.Prelude.{◌≡◌, ◌↔◌, IsTrue, IfOk, Some};
 ghost use Rattle.frame_places.specs.Reaching.{IsFirstRecurring};
 ghost use Rattle.depth_maker.specs.Recursing.{EdgesOn, EntersMarked, IsFirstMarked, IsFirstWith, IsRecursion, orders_in};
-ghost use Rattle.frame_places.specs.Spots.{IsAddressIn};
 ghost use Rattle.depth_maker.specs.RowsBy.{IsSource};
 ghost use Rattle.frame_places.specs.declared.places.Spot.TheVariants.{Point};
 

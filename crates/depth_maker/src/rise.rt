@@ -5,11 +5,11 @@ ghost use Rattle.cfg_recover.specs.Assignments.{point};
 ghost use Rattle.depth_cert.specs.Known.{state};
 ghost use Rattle.small_states.specs.Kept.{asked_for, asking};
 ghost use Rattle.frame_places.specs.declared.places.Spot.TheVariants.{Point};
-ghost use Rattle.frame_places.specs.Marks.{AllListed, AreKnown, Reads, Tells, value_for};
+ghost use Rattle.frame_places.specs.Marks.{AllListed, AreKnown, Reads, Tells};
 ghost use Rattle.frame_places.specs.Work.{all_work};
 ghost use Rattle.frame_places.specs.Nearby.{StandsAt};
 ghost use Rattle.frame_places.specs.Spots.{spot_eq};
-ghost use Rattle.depth_maker.specs.View.{seen, AnsweredOn, AreExitsRead, AsksOn, FineOn, JoinedOn, RaisedOn, RaisesOn};
+ghost use Rattle.depth_maker.specs.View.{seen, AnsweredOn, AreExitsRead, AsksOn, FineOn, JoinedOn, RaisesOn};
 
 use crate::ground::Visit;
 use crate::table::Table;

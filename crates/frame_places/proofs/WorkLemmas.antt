@@ -132,10 +132,6 @@ turned_all old mid none turns =
     (parts mid mid.first [] old.round old.waiting refl (turns.next ∙ none) turns.round turns.waiting) (IsPermutation-append_left rest old.next mid.first turns.first)
 
 -- as a call answers
-pub first_some : (old new : Lists) (r : Option ℕ) → IfSome r (TakesFirst old new) → IfSome r (Takes old new)
-first_some old new None takes = takes
-first_some old new (Some number) takes = takes_first old new number takes
-
 pub last_some : (old mid new : Lists) (r : Option ℕ) → mid ≡ old → old.first ≡ [] → IfSome r (TakesLast mid new) → IfSome r (Takes old new)
 last_some old mid new None same none takes = takes
 last_some old mid new (Some number) same none takes =

@@ -1,5 +1,5 @@
 // Frames by numbers: their places in the list of frames.
-ghost use Rattle.std.specs.Prelude.{◌≡◌, ℕ, List, Contains, IfOk, map, All};
+ghost use Rattle.std.specs.Prelude.{◌≡◌, List, Contains, IfOk, map};
 ghost use Rattle.std.specs.List.{IsDistinct};
 ghost use Rattle.depth_cert.specs.Keys.{same_key};
 ghost use Rattle.depth_cert.specs.declared.keys.Key as keys;

@@ -1,7 +1,7 @@
 // The least needs.
 
-ghost use Rattle.std.specs.Prelude.{◌≡◌, ℕ, ◌+◌, ◌<◌, ◌≤◌, ◌^◌, OnOk, IfErr, IfOk, Some, None, IsTrue, Contains, length, slice_index, min, List, sum, false, MatchOption, EachIndex};
-ghost use Rattle.frame_places.specs.Rows.{Meets, MeetsRow, IsWithin, IsLow, MeetsCapped, PassesRow, Passes, LeastNeeds};
+ghost use Rattle.std.specs.Prelude.{ℕ, ◌+◌, ◌<◌, ◌≤◌, ◌^◌, Contains, length, slice_index, min, MatchOption, EachIndex};
+ghost use Rattle.frame_places.specs.Rows.{MeetsRow, IsWithin, IsLow, MeetsCapped, PassesRow, Passes, LeastNeeds};
 ghost use Rattle.frame_places.specs.declared.needs.row.Row.{Row};
 
 use crate::needs::row::Row;

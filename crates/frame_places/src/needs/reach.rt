@@ -1,5 +1,5 @@
 // A graph by the numbers of its nodes: which nodes are reached from which.
-ghost use Rattle.std.specs.Prelude.{◌≡◌, ◌<◌, ◌≤◌, ◌↔◌, ℕ, IsTrue, IfOk, OnOk, length, slice_index_or, false, Contains, [], ◌∷◌, ◌+◌};
+ghost use Rattle.std.specs.Prelude.{◌≡◌, ◌<◌, ◌↔◌, ℕ, IsTrue, IfOk, OnOk, length, slice_index_or, false, Contains, [], ◌∷◌, ◌+◌};
 ghost use Rattle.frame_places.specs.Reaching.{AddsEdges, AddsSource, AreBelow, AreBetween, AreEdges, AreReaching, AreReachingBy, AreSources, HasMarkedNext, IsFirstBefore, IsFirstRecurring, IsMarked, IsRecurring, MarksNodes, SettlesMarks};
 
 use crate::needs::row::Row;

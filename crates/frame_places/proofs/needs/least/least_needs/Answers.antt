@@ -1,4 +1,4 @@
-use Rattle.std.proofs.Common.{sym, subst, ℕ, ◌+◌, ◌<◌, ◌≤◌, ◌≡◌, length, arith, take, drop, ◌++◌, ◌∙◌}
+use Rattle.std.proofs.Common.{sym, subst, ℕ, ◌<◌, ◌≤◌, ◌≡◌, length, arith, take, drop, ◌++◌, ◌∙◌}
 use Rattle.std.specs.Prelude.{slice_index, List}
 use Rattle.frame_places.specs.Rows.{Meets, IsLow}
 use Rattle.frame_places.proofs.RowLemmas.{answered_none, answered_some, take_front}

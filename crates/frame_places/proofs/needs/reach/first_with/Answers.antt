@@ -1,4 +1,4 @@
-use Rattle.std.proofs.Common.{◌≡◌, ◌∙◌, ℕ, ◌+◌, ◌<◌, true, false, Some, None, subst, sym}
+use Rattle.std.proofs.Common.{◌≡◌, ◌∙◌, ℕ, ◌<◌, true, false, Some, None, subst, sym}
 use Rattle.std.specs.Prelude.{slice_index}
 use Rattle.frame_places.specs.Reaching.{IsFirstBefore, IsRecurring}
 use Rattle.frame_places.proofs.ReachLemmas.{first_here, first_not}

@@ -1,4 +1,4 @@
-use Rattle.frame_places.proofs.WorkLemmas.{first_some, last_none, last_some, takes_first, turned_none, turned_some}
+use Rattle.frame_places.proofs.WorkLemmas.{last_none, last_some, takes_first, turned_none, turned_some}
 use Rattle.frame_places.proofs.work.Work.pop_next.Goals as goal
 
 pub returns-in-Some-clause-some : goal.returns-in-Some-clause-some
