@@ -19,7 +19,7 @@ pub struct Draft {
     pub eighth: Option<u32>,
 }
 
-/// Before the first line.
+/// A draft of a list of tasks, before its first line.
 fn new_draft() -> Draft
     ensures { IsDraft [] result }
 {
