@@ -4,11 +4,14 @@
     tools/gate_times.py                        runs `rt ci --anew` at the top of the repository (an hour or more), and prints the table
     tools/gate_times.py -- rt must-fail tc_lex      the same of another command
     tools/gate_times.py --from gate.times      prints the table of an earlier run again
+    tools/gate_times.py --edits 20 --from gate.times      and the 20 edits that took most
 
 A run writes what the command says to gate.log and the seconds to gate.times, in the folder that --to names (/tmp where
 it isn't given). rt's log has no times, so the processes below the command are looked at
 twice a second: one that ends is counted to its last look, so up to half a second of each is missed. What is no proof
 (compilers, the tests and programs as they run, rt itself) is in the line "rest", from what the system counted.
+Where a host shares its processors among several machines the same work takes more of their seconds while others work. So a
+fixed sum is done twice a minute, and the last line says how many it took on the mean and at least.
 """
 import argparse
 import json
@@ -36,6 +39,12 @@ def kind_of(words):
     return crate, "edits"
 
 
+def edit_of(words):
+    """The number of the edit that a prover's process tries, in the order of their names; none where it tries none."""
+    found = re.search(r"/rt-edits-[^/]*/(\d+)$", words[words.index("--incremental") + 1]) if "--incremental" in words[:-1] else None
+    return int(found[1]) if found else None
+
+
 def processes():
     """Each process: its number and start, its parent, its processor seconds, and its words."""
     for number in filter(str.isdigit, os.listdir("/proc")):
@@ -50,24 +59,36 @@ def processes():
 
 
 def look(top, seen):
-    """Notes the seconds of each process below the command, at the crate and kind of the nearest prover above it."""
+    """Notes the seconds of each process below the command, at the crate, the kind and the edit of the nearest prover above it."""
     found = {p[0]: p for p in processes()}
     for number, parent, start, seconds, words in found.values():
-        at, what = number, None
+        at, what, edit = number, None, None
         while at in found and at != top:
-            what = what or kind_of(found[at][4])
+            if not what:
+                what, edit = kind_of(found[at][4]), edit_of(found[at][4])
             at = found[at][1]
         if at == top and what:
-            seen[f"{number}.{start}"] = (*what, seconds)
+            seen[f"{number}.{start}"] = (*what, seconds, edit)
+
+
+def fixed_sum():
+    """The processor seconds that a fixed sum takes."""
+    began, x = time.process_time(), 0
+    for _ in range(1_000_000):
+        x = (x * 1103515245 + 12345) & 0x7FFFFFFF
+    return time.process_time() - began
 
 
 def run(command, folder):
-    seen = {}
+    seen, sums, at = {}, [], 0
     began = time.time()
     with open(f"{folder}/gate.log", "w", encoding="utf-8") as log:
         child = subprocess.Popen(command, stdout=log, stderr=subprocess.STDOUT)
         while child.poll() is None:
             look(child.pid, seen)
+            if time.time() - at > 30:
+                at = time.time()
+                sums.append(fixed_sum())
             time.sleep(0.5)
     used = resource.getrusage(resource.RUSAGE_CHILDREN)
     with open(f"{folder}/gate.log", encoding="utf-8", errors="replace") as log:
@@ -79,6 +100,7 @@ def run(command, folder):
         "edits": dict(re.findall(r"^rt: (\w+): trying its must-fail edits \((\d+)\)", text, flags=re.M)),
         "last": text.rstrip().rpartition("\n")[2],
         "seen": list(seen.values()),
+        "fixed sums": sums,
     }
     with open(f"{folder}/gate.times", "w", encoding="utf-8") as f:
         json.dump(times, f)
@@ -87,7 +109,7 @@ def run(command, folder):
 
 def table(times):
     sums = {}
-    for crate, kind, seconds in times["seen"]:
+    for crate, kind, seconds, _ in times["seen"]:
         row = sums.setdefault(crate, dict.fromkeys(KINDS, 0))
         row[kind] += seconds
     print("| Crate | Proof, s | Tests, s | Edits, s | Number of edits | All, s |\n|---|---|---|---|---|---|")
@@ -99,19 +121,40 @@ def table(times):
     print(f"| all crates | {' | '.join(f'{x:.0f}' for x in all_of)} | {count} | {sum(all_of):.0f} |")
     print(f"| rest | | | | | {max(0, times['processor'] - sum(all_of)):.0f} |")
     print(f"\n{times['command']}: {times['processor'] / 60:.0f} processor minutes in {times['wall'] / 60:.0f} minutes. {times['last']}")
+    if fixed := times.get("fixed sums"):
+        print(f"A fixed sum took {sum(fixed) / len(fixed):.3f} s of a processor on the mean, {min(fixed):.3f} s at least.")
+
+
+def edits(times, count):
+    sums = {}
+    for crate, kind, seconds, edit in times["seen"]:
+        if kind == "edits":
+            sums[crate, edit] = sums.get((crate, edit), 0) + seconds
+    print("\n| Crate | Edit | s |\n|---|---|---|")
+    tried = [it for it in sums if it[1] is not None]
+    for crate, edit in sorted(tried, key=lambda it: -sums[it])[:count]:
+        names = sorted(it for it in os.listdir(f"crates/{crate}/must-fail") if it.endswith(".edit"))
+        print(f"| {crate} | {names[edit].removesuffix('.edit')} | {sums[crate, edit]:.0f} |")
+    print(f"| all crates | each of {len(tried)} | {sum(sums[it] for it in tried):.0f} |")
+    print(f"| all crates | proofs that edits begin and end with | {sum(sums[it] for it in sums if it[1] is None):.0f} |")
 
 
 def main():
     options = argparse.ArgumentParser(description=__doc__, formatter_class=argparse.RawDescriptionHelpFormatter)
     options.add_argument("--to", default="/tmp")
     options.add_argument("--from", dest="earlier")
+    options.add_argument("--edits", type=int, default=0)
     options.add_argument("command", nargs="*", default=["rt", "ci", "--anew"])
     given = options.parse_args()
+    times = None
     if given.earlier:
         with open(given.earlier, encoding="utf-8") as f:
-            return table(json.load(f))
+            times = json.load(f)
     os.chdir(os.path.join(os.path.dirname(os.path.abspath(__file__)), ".."))
-    return table(run(given.command, given.to))
+    times = times or run(given.command, given.to)
+    table(times)
+    if given.edits:
+        edits(times, given.edits)
 
 
 if __name__ == "__main__":
