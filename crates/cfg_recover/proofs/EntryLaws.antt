@@ -364,20 +364,9 @@ transfer_length b plan (Compute op dst x y) s loaded = same_length s _ (slot dst
 transfer_length b plan (Scaled dst base index n) s loaded = same_length s _ (slot dst)
 transfer_length b plan (Load dst base offset size signed after) s loaded = same_length (with_base b plan s base offset after) loaded (slot dst) ∙ base_length b plan s base offset after
 transfer_length b plan (Store src base offset size after) s loaded = base_length b plan s base offset after
-transfer_length b plan (Branch test x y by lowers) s loaded = refl
-transfer_length b plan (Jump to) s loaded = refl
-transfer_length b plan (Call to) s loaded = refl
-transfer_length b plan Ret s loaded = refl
-transfer_length b plan Rfe s loaded = refl
-transfer_length b plan Svlcx s loaded = refl
 transfer_length b plan Rslcx s loaded = length-forgotten 0 s.regs
-transfer_length b plan (Bisr c) s loaded = refl
-transfer_length b plan Enable s loaded = refl
-transfer_length b plan Disable s loaded = refl
-transfer_length b plan (Syscall tin) s loaded = refl
 transfer_length b plan (Mfcr dst number) s loaded = same_length s any_val (slot dst)
-transfer_length b plan (Mtcr src number) s loaded = refl
-transfer_length b plan Nothing s loaded = refl
+transfer_length b plan _ s loaded = refl
 
 -- a branch's state has as many as the one before
 with_arg_length : (s : State) (y : Arg) (v : Val) → length (set_arg s y v).regs ≡ length s.regs
@@ -404,21 +393,5 @@ refined_length b plan s test x y side =
 
 pub refine_length : (b : Limits) (plan : PlanData) (shape : Shape) (s : State) (side : Bool) → IfSome (refine_of b plan shape s side) (λ t. length t.regs ≡ length s.regs)
 unfolding refine_of
-refine_length b plan (Compute op dst x y) s side = tt
-refine_length b plan (Scaled dst base index n) s side = tt
-refine_length b plan (Load dst base offset size signed after) s side = tt
-refine_length b plan (Store src base offset size after) s side = tt
 refine_length b plan (Branch test x y by lowers) s side = lowered_length b plan s x lowers (state_on_side b plan test x y s side) (refined_length b plan s test x y side)
-refine_length b plan (Jump to) s side = tt
-refine_length b plan (Call to) s side = tt
-refine_length b plan Ret s side = tt
-refine_length b plan Rfe s side = tt
-refine_length b plan Svlcx s side = tt
-refine_length b plan Rslcx s side = tt
-refine_length b plan (Bisr c) s side = tt
-refine_length b plan Enable s side = tt
-refine_length b plan Disable s side = tt
-refine_length b plan (Syscall tin) s side = tt
-refine_length b plan (Mfcr dst number) s side = tt
-refine_length b plan (Mtcr src number) s side = tt
-refine_length b plan Nothing s side = tt
+refine_length b plan _ s side = tt

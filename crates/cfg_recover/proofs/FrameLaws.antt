@@ -26,24 +26,11 @@ use Rattle.cfg_recover.specs.FrameLaws.{Meets, KeepsFrame, EdgeIs, EdgesAre, Fra
 
 -- ---- edges
 stays_to : (shape : Shape) (q : ℕ) → KeepsFrame shape → way_of_shape shape q ≡ to q
-stays_to (Compute op dst x y) q keeps = refl
-stays_to (Scaled dst base index k) q keeps = refl
-stays_to (Load dst base offset size signed after) q keeps = refl
-stays_to (Store src base offset size after) q keeps = refl
-stays_to (Branch test x y by lowers) q keeps = refl
-stays_to (Jump x) q keeps = refl
 stays_to (Call x) q keeps = absurd keeps
 stays_to Ret q keeps = absurd keeps
 stays_to Rfe q keeps = absurd keeps
-stays_to Svlcx q keeps = refl
-stays_to Rslcx q keeps = refl
-stays_to (Bisr c) q keeps = refl
-stays_to Enable q keeps = refl
-stays_to Disable q keeps = refl
 stays_to (Syscall tin) q keeps = absurd keeps
-stays_to (Mfcr dst number) q keeps = refl
-stays_to (Mtcr src number) q keeps = refl
-stays_to Nothing q keeps = refl
+stays_to _ q keeps = refl
 
 module _ (m : Machine) (e : Event) where
   interrupted : is_taken m e ≡ true → way_of_step m e ≡ irq (step m e).pc

@@ -80,20 +80,14 @@ keeps_lower b plan (Scaled dst base index n) s loaded word input goes = keeps_wr
 keeps_lower b plan (Load dst base offset size signed after) s loaded word input goes =
     keeps_write word (with_base_word word base offset after) s (with_base b plan s base offset after) dst input loaded (keeps_base b plan s word base offset after)
 keeps_lower b plan (Store src base offset size after) s loaded word input goes = keeps_base b plan s word base offset after
-keeps_lower b plan (Branch test x y by lowers) s loaded word input goes = absurd goes.1
-keeps_lower b plan (Jump to) s loaded word input goes = absurd goes.1
-keeps_lower b plan (Call to) s loaded word input goes = absurd goes.1
-keeps_lower b plan Ret s loaded word input goes = absurd goes.1
-keeps_lower b plan Rfe s loaded word input goes = absurd goes.1
 keeps_lower b plan Svlcx s loaded word input goes = absurd goes.0
-keeps_lower b plan Rslcx s loaded word input goes = absurd goes.1
 keeps_lower b plan (Bisr c) s loaded word input goes = absurd goes.0
 keeps_lower b plan Enable s loaded word input goes = same_keeps word s
 keeps_lower b plan Disable s loaded word input goes = same_keeps word s
-keeps_lower b plan (Syscall tin) s loaded word input goes = absurd goes.1
 keeps_lower b plan (Mfcr dst number) s loaded word input goes = keeps_write word word s s dst input any_val (same_keeps word s)
 keeps_lower b plan (Mtcr src number) s loaded word input goes = absurd goes.0
 keeps_lower b plan Nothing s loaded word input goes = same_keeps word s
+keeps_lower b plan _ s loaded word input goes = absurd goes.1
 
 pub keeps_valueless : (shape : Shape) (word : ℕ → ℕ) (input r : ℕ) → WritesNoFixedRegister shape → slot r ≡ None → words_after shape input word r ≡ word r
 unfolding words_after
@@ -124,20 +118,11 @@ keeps_locals b plan (Compute op dst x y) s loaded goes = written_locals s _ (slo
 keeps_locals b plan (Scaled dst base index n) s loaded goes = written_locals s _ (slot dst)
 keeps_locals b plan (Load dst base offset size signed after) s loaded goes = written_locals (with_base b plan s base offset after) loaded (slot dst) ∙ base_locals b plan s base offset after
 keeps_locals b plan (Store src base offset size after) s loaded goes = base_locals b plan s base offset after
-keeps_locals b plan (Branch test x y by lowers) s loaded goes = refl
-keeps_locals b plan (Jump to) s loaded goes = refl
-keeps_locals b plan (Call to) s loaded goes = refl
-keeps_locals b plan Ret s loaded goes = refl
-keeps_locals b plan Rfe s loaded goes = refl
 keeps_locals b plan Svlcx s loaded goes = absurd goes.0
 keeps_locals b plan Rslcx s loaded goes = absurd goes.0
 keeps_locals b plan (Bisr c) s loaded goes = absurd goes.0
-keeps_locals b plan Enable s loaded goes = refl
-keeps_locals b plan Disable s loaded goes = refl
-keeps_locals b plan (Syscall tin) s loaded goes = refl
 keeps_locals b plan (Mfcr dst number) s loaded goes = written_locals s any_val (slot dst)
-keeps_locals b plan (Mtcr src number) s loaded goes = refl
-keeps_locals b plan Nothing s loaded goes = refl
+keeps_locals b plan _ s loaded goes = refl
 
 -- ---- branches
 -- only values differ

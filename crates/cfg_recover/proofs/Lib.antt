@@ -4,6 +4,7 @@ pub mod Went
 pub mod Keeps
 pub mod Writes
 pub mod Points
+pub mod DutyView
 pub mod PointLaws
 pub mod MoveLaws
 pub mod CodeLaws

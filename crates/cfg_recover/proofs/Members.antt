@@ -4,7 +4,7 @@ use Rattle.std.specs.Prelude.{filter, Contains}
 use Rattle.std.specs.List.{flat_map, list_all}
 use Rattle.std.proofs.lemmas.Bool.{cases_Bool, and_parts}
 use Rattle.std.proofs.lemmas.List.{length-map, get_or-map, get_or_default}
-use Rattle.std.proofs.lemmas.List.Elements.{Contains-append_left, Contains-append_right}
+use Rattle.std.proofs.lemmas.List.Elements.{Contains-append_cases, Contains-append_left, Contains-append_right}
 use Rattle.elf_image.specs.Images.{ImageData}
 use Rattle.tcd_plan.specs.PlanData.{PlanData}
 use Rattle.tc_isa.specs.declared.shapes.Shape.{Shape}
@@ -45,6 +45,37 @@ contains_filter_at p x (y ∷ ys) (suc k) lt e t =
 pub contains_filter : (p : ℕ → Bool) (x : ℕ) (xs : List ℕ) → Contains xs x → p x ≡ true → Contains (filter p xs) x
 contains_filter p x xs at t = contains_filter_at p x xs at.0 at.1 at.2 t
 
+pub only_one : {X : Type 0} (x y : X) (k : ℕ) → k < 1 → get_or (x ∷ []) k y ≡ y → x ≡ y
+only_one x y zero lt e = e
+only_one x y (suc k) lt e = absurd (omega arith)
+
+mapped_at : {X Y : Type 0} (f : X → Y) (xs : List X) (y : Y) (k : ℕ) → k < length (map f xs) → get_or (map f xs) k y ≡ y → (x : X) × Contains xs x × (f x ≡ y)
+mapped_at f [] y k lt e = absurd (omega arith)
+mapped_at f (x ∷ xs) y zero lt e = (x, contains_first x xs, e)
+mapped_at f (x ∷ xs) y (suc k) lt e = let r = mapped_at f xs y k (omega arith) e in (r.0, Contains-append_right (x ∷ []) xs r.0 r.1, r.2)
+
+pub contained_map : {X Y : Type 0} (f : X → Y) (xs : List X) (y : Y) → Contains (map f xs) y → (x : X) × Contains xs x × (f x ≡ y)
+contained_map f xs y c = mapped_at f xs y c.0 c.1 c.2
+
+pub contained_flat : {X Y : Type 0} (f : X → List Y) (xs : List X) (y : Y) → Contains (flat_map f xs) y → (x : X) × Contains xs x × Contains (f x) y
+contained_flat f [] y c = absurd (omega (arith, c.1))
+contained_flat f (x ∷ xs) y c =
+    elim (Contains-append_cases (f x) (flat_map f xs) y c) [
+      | inl i ↦ (x, contains_first x xs, i)
+      | inr i ↦ let r = contained_flat f xs y i in (r.0, Contains-append_right (x ∷ []) xs r.0 r.1, r.2)
+    ]
+
+pub contained_filter : (p : ℕ → Bool) (xs : List ℕ) (x : ℕ) → Contains (filter p xs) x → Contains xs x × (p x ≡ true)
+contained_filter p [] x c = absurd (omega (arith, c.1))
+contained_filter p (y ∷ ys) x c =
+    elim (cases_Bool (p y)) [
+      | inl t ↦ elim (Contains-append_cases (y ∷ []) (filter p ys) x (rw t at c)) [
+        | inl i ↦ let e = only_one y x i.0 i.1 i.2 in (subst (λ (u : ℕ). Contains (y ∷ ys) u) e (contains_first y ys), subst (λ (u : ℕ). p u ≡ true) e t)
+        | inr i ↦ let r = contained_filter p ys x i in (Contains-append_right (y ∷ []) ys x r.0, r.1)
+      ]
+      | inr f ↦ let r = contained_filter p ys x (rw f at c) in (Contains-append_right (y ∷ []) ys x r.0, r.1)
+    ]
+
 -- what all elements pass, each does
 pub passes_each : (p : ℕ → Bool) (x : ℕ) (xs : List ℕ) → list_all p xs ≡ true → Among x xs → p x ≡ true
 passes_each p x [] all i = absurd i
@@ -74,3 +105,8 @@ module _ (b : Limits) (image : ImageData) (plan : PlanData) (key : Key) (p : ℕ
   unfolding duties_of
   owes_interrupt c =
       Contains-append_left _ (leavings_of key s shape) d (Contains-append_right (successors_of b image plan p s shape n ++ entries_of plan key p s shape n ++ misaligned_of b plan key s shape) _ d c)
+
+  pub owes_leaving : Contains (leavings_of key s shape) d → Contains (duties_of b image plan key p s shape n) d
+  unfolding duties_of
+  owes_leaving c =
+      Contains-append_right (successors_of b image plan p s shape n ++ entries_of plan key p s shape n ++ misaligned_of b plan key s shape ++ interrupts_of plan key s) _ d c

@@ -260,14 +260,7 @@ moves_in_frame b image plan key m e s Disable n at fits none stays quiet = moved
 moves_in_frame b image plan key m e s (Mfcr dst number) n at fits none stays quiet =
     moved_on e at (core_register m e number) m.mem (tt, tt) (core_small b image plan key m e s dst number n at fits none) tt refl (same_memory e at) (contains_first _ []) (does-mfcr m at.machine e n dst number (bounded at).0)
 moves_in_frame b image plan key m e s Nothing n at fits none stays quiet = moved_on e at 0 m.mem (tt, tt) (omega arith) tt refl (same_memory e at) (contains_first _ []) (does-nop m at.machine e n 0)
-moves_in_frame b image plan key m e s (Call to) n at fits none stays quiet = absurd stays
-moves_in_frame b image plan key m e s Ret n at fits none stays quiet = absurd stays
-moves_in_frame b image plan key m e s Rfe n at fits none stays quiet = absurd stays
-moves_in_frame b image plan key m e s Svlcx n at fits none stays quiet = absurd stays
-moves_in_frame b image plan key m e s Rslcx n at fits none stays quiet = absurd stays
-moves_in_frame b image plan key m e s (Bisr c) n at fits none stays quiet = absurd stays
-moves_in_frame b image plan key m e s (Syscall tin) n at fits none stays quiet = absurd stays
-moves_in_frame b image plan key m e s (Mtcr src number) n at fits none stays quiet = absurd stays
+moves_in_frame b image plan key m e s _ n at fits none stays quiet = absurd stays
 
 -- ---- traps
 -- where an access from a member traps, not all members are aligned

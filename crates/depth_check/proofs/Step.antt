@@ -95,24 +95,15 @@ return_standing q pc frame suspended (s ∷ below) e = e
 
 -- an instruction that stays in its frame
 pub stays_to : (shape : Shape) → StaysInFrame shape → (q : ℕ) → way_of_shape shape q ≡ to q
-stays_to (Compute op dst x y) stays q = refl
-stays_to (Scaled dst base index c) stays q = refl
-stays_to (Load dst base offset size signed after) stays q = refl
-stays_to (Store src base offset size after) stays q = refl
-stays_to (Branch test x y by lowers) stays q = refl
-stays_to (Jump x) stays q = refl
 stays_to (Call x) stays q = absurd stays
 stays_to Ret stays q = absurd stays
 stays_to Rfe stays q = absurd stays
 stays_to Svlcx stays q = absurd stays
 stays_to Rslcx stays q = absurd stays
 stays_to (Bisr c) stays q = absurd stays
-stays_to Enable stays q = refl
-stays_to Disable stays q = refl
 stays_to (Syscall tin) stays q = absurd stays
-stays_to (Mfcr dst number) stays q = refl
 stays_to (Mtcr src number) stays q = absurd stays
-stays_to Nothing stays q = refl
+stays_to _ stays q = refl
 
 -- ---- shapes
 shape_is : (image : ImageData) (plan : PlanData) (p : ℕ) (shape : Shape) (n : ℕ) → IsCode image plan p shape n → IsShape shape
@@ -402,12 +393,6 @@ module _ (image : ImageData) (plan : PlanData) (ok : IsPlan plan) (cert : CertDa
           ]
 
       pub follows : (shape : Shape) (n : ℕ) → PointHolds image plan cert frame.node m.pc (k.point).state shape n → Steps image plan cert most m frame below (duties_at image plan cert frame.node m.pc (k.point).state shape n) e n (way_by m e shape (does m e shape n).pc) (does m e shape n)
-      follows (Compute op dst x y) n h = accesses (Compute op dst x y) n h tt
-      follows (Scaled dst base index c) n h = accesses (Scaled dst base index c) n h tt
-      follows (Load dst base offset size signed after) n h = accesses (Load dst base offset size signed after) n h tt
-      follows (Store src base offset size after) n h = accesses (Store src base offset size after) n h tt
-      follows (Branch test x y by lowers) n h = accesses (Branch test x y by lowers) n h tt
-      follows (Jump x) n h = accesses (Jump x) n h tt
       follows (Call x) n h = calls m words frame below k e x n h
       follows Ret n h = let l = returns e n h in record { goes = l.goes; owes = l.owes }
       follows Rfe n h = let l = comes_from e n h in record { goes = l.goes; owes = l.owes }
@@ -418,12 +403,9 @@ module _ (image : ImageData) (plan : PlanData) (ok : IsPlan plan) (cert : CertDa
       follows (Bisr c) n h =
           saves_lower e (Bisr c) n h (moved m.pc n) true c (owes-bisr (limits_in plan cert) image plan (frame.node).key m.pc (k.point).state n c) true c
           (λ t. t) (omega arith) (does m e (Bisr c) n) (λ is. bisr-is m k.running is e c n)
-      follows Enable n h = accesses Enable n h tt
-      follows Disable n h = accesses Disable n h tt
       follows (Syscall tin) n h = system m words frame below k e tin n h
-      follows (Mfcr dst number) n h = accesses (Mfcr dst number) n h tt
       follows (Mtcr src number) n h = absurd ((h.own 13).writes refl)
-      follows Nothing n h = accesses Nothing n h tt
+      follows shape n h = accesses shape n h tt
 
   -- ---- one event
   -- the frames of m after a step of an event to q, by what is fetched

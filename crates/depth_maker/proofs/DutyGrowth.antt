@@ -7,6 +7,8 @@ use Rattle.std.proofs.lemmas.List.{length-replicate, get_or_append_left, get_or-
 use Rattle.std.proofs.lemmas.List.Elements.{Contains-append_left, Contains-append_right, Contains-append_cases}
 use Rattle.elf_image.specs.Images.{ImageData, IsImage}
 use Rattle.tcd_plan.specs.PlanData.{PlanData}
+use Rattle.tc_isa.specs.declared.shapes.Arg.{Arg}
+use Rattle.tc_isa.specs.declared.shapes.Cond.{Cond}
 use Rattle.tc_isa.specs.declared.shapes.Target.{Target}
 use Rattle.tc_isa.specs.declared.shapes.Shape.{Shape}
 use Rattle.tc_isa.specs.declared.shapes.Shape.TheVariants.{Compute, Scaled, Load, Store, Branch, Jump, Call, Ret, Rfe, Svlcx, Rslcx, Bisr, Enable, Disable, Syscall, Mfcr, Mtcr, Nothing}
@@ -17,6 +19,7 @@ use Rattle.value_domain.specs.declared.states.State.{State}
 use Rattle.value_domain.specs.Limits.{Limits}
 use Rattle.value_domain.specs.Values.{IsValue, IsBelow, any_val}
 use Rattle.value_domain.specs.State.{Covers, AreBelow, is_lower_slot}
+use Rattle.vd_transfer.specs.Branches.{refine_of}
 use Rattle.vd_transfer.specs.Effects.{address_of}
 use Rattle.vd_transfer.specs.Registers.{set_reg, word_val}
 use Rattle.vd_transfer.specs.Soundness.{IsSetting}
@@ -31,71 +34,13 @@ use Rattle.cfg_recover.specs.Duties.{jump, enter, resume, leave, Owed, owed, loa
 use Rattle.cfg_recover.proofs.CodeLaws.{IsCode-bounded}
 use Rattle.cfg_recover.proofs.EntryLaws.{lower_length, entry_length}
 use Rattle.depth_cert.proofs.ExitValues.{after-at, with_lower_length}
-use Rattle.cfg_recover.proofs.Members.{contains_first, contains_map, contains_flat, contains_filter}
-use Rattle.depth_maker.specs.Growth.{IsOwedBelow, DutiesGrow, AfterGrows}
+use Rattle.cfg_recover.proofs.DutyView.{DutyAt, next, straight, taken, target, called, called_back, system, system_back, misaligned, interrupt, returns, resumes, duty_at, duty_listed}
+pub use Rattle.cfg_recover.proofs.Members.{contained_map, contained_flat, contained_filter}
+use Rattle.cfg_recover.proofs.Members.{only_one, contains_first, contains_map, contains_flat, contains_filter}
+use Rattle.depth_maker.specs.Growth.{IsDutyBelow, IsOwedBelow, DutiesGrow, AfterGrows}
 use Rattle.depth_maker.proofs.StateGrowth.{reg_grows, set_covers}
 use Rattle.depth_maker.proofs.EffectGrowth.{transfer_covers, address_grows, address_value, branch_grows, GrowsTo}
 use Rattle.depth_maker.proofs.OwnGrowth.{targets_within, aligned_falls, setting_of}
-
--- ---- lists of duties
--- each duty of the first list asks no more than one of the second
-abbrev pub AreBelowIn : List Owed → List Owed → Type 0
-AreBelowIn ds es = (d : Owed) → Contains ds d → (e : Owed) × Contains es e × IsOwedBelow d e
-
-none_below : (es : List Owed) → AreBelowIn [] es
-none_below es d c = absurd (omega (arith, c.1))
-
-only_one : {X : Type 0} (x y : X) (k : ℕ) → k < 1 → get_or (x ∷ []) k y ≡ y → x ≡ y
-only_one x y zero lt e = e
-only_one x y (suc k) lt e = absurd (omega arith)
-
-one_below : (d e : Owed) → IsOwedBelow d e → AreBelowIn (d ∷ []) (e ∷ [])
-one_below d e h x c = (e, contains_first e [], subst (λ (u : Owed). IsOwedBelow u e) (only_one d x c.0 c.1 c.2) h)
-
-both_below : (ds es ds2 es2 : List Owed) → AreBelowIn ds es → AreBelowIn ds2 es2 → AreBelowIn (ds ++ ds2) (es ++ es2)
-both_below ds es ds2 es2 h k d c =
-    elim (Contains-append_cases ds ds2 d c) [
-      | inl i ↦ let r = h d i in (r.0, Contains-append_left es es2 r.0 r.1, r.2)
-      | inr i ↦ let r = k d i in (r.0, Contains-append_right es es2 r.0 r.1, r.2)
-    ]
-
-mapped_at : {X Y : Type 0} (f : X → Y) (xs : List X) (y : Y) (k : ℕ) → k < length (map f xs) → get_or (map f xs) k y ≡ y → (x : X) × Contains xs x × (f x ≡ y)
-mapped_at f [] y k lt e = absurd (omega arith)
-mapped_at f (x ∷ xs) y zero lt e = (x, contains_first x xs, e)
-mapped_at f (x ∷ xs) y (suc k) lt e = let r = mapped_at f xs y k (omega arith) e in (r.0, Contains-append_right (x ∷ []) xs r.0 r.1, r.2)
-
-pub contained_map : {X Y : Type 0} (f : X → Y) (xs : List X) (y : Y) → Contains (map f xs) y → (x : X) × Contains xs x × (f x ≡ y)
-contained_map f xs y c = mapped_at f xs y c.0 c.1 c.2
-
-pub contained_flat : {X Y : Type 0} (f : X → List Y) (xs : List X) (y : Y) → Contains (flat_map f xs) y → (x : X) × Contains xs x × Contains (f x) y
-contained_flat f [] y c = absurd (omega (arith, c.1))
-contained_flat f (x ∷ xs) y c =
-    elim (Contains-append_cases (f x) (flat_map f xs) y c) [
-      | inl i ↦ (x, contains_first x xs, i)
-      | inr i ↦ let r = contained_flat f xs y i in (r.0, Contains-append_right (x ∷ []) xs r.0 r.1, r.2)
-    ]
-
-pub contained_filter : (p : ℕ → Bool) (xs : List ℕ) (x : ℕ) → Contains (filter p xs) x → Contains xs x × (p x ≡ true)
-contained_filter p [] x c = absurd (omega (arith, c.1))
-contained_filter p (y ∷ ys) x c =
-    elim (cases_Bool (p y)) [
-      | inl t ↦ elim (Contains-append_cases (y ∷ []) (filter p ys) x (rw t at c)) [
-        | inl i ↦ let e = only_one y x i.0 i.1 i.2 in (subst (λ (u : ℕ). Contains (y ∷ ys) u) e (contains_first y ys), subst (λ (u : ℕ). p u ≡ true) e t)
-        | inr i ↦ let r = contained_filter p ys x i in (Contains-append_right (y ∷ []) ys x r.0, r.1)
-      ]
-      | inr f ↦ let r = contained_filter p ys x (rw f at c) in (Contains-append_right (y ∷ []) ys x r.0, r.1)
-    ]
-
-map_below : {X : Type 0} (f g : X → Owed) (xs ys : List X) → ((x : X) → Contains xs x → Contains ys x) → ((x : X) → IsOwedBelow (f x) (g x)) → AreBelowIn (map f xs) (map g ys)
-map_below f g xs ys there each d c =
-    let r = contained_map f xs d c in
-    (g r.0, contains_map g ys r.0 (there r.0 r.1), subst (λ (u : Owed). IsOwedBelow u (g r.0)) r.2 (each r.0))
-
-flat_below : {X : Type 0} (f g : X → List Owed) (xs ys : List X) → ((x : X) → Contains xs x → Contains ys x) → ((x : X) → AreBelowIn (f x) (g x)) → AreBelowIn (flat_map f xs) (flat_map g ys)
-flat_below f g xs ys there each d c =
-    let r = contained_flat f xs d c in
-    let k = each r.0 d r.2 in
-    (k.0, contains_flat g k.0 r.0 ys (there r.0 r.1) k.1, k.2)
 
 -- ---- the values of the lower registers
 lower-d : (regs : List Val) (r : ℕ) → length regs ≡ 27 → r < 8 → get_or (lower_values regs) r any_val ≡ get_or regs r any_val
@@ -184,115 +129,9 @@ module _ (b : Limits) (image : ImageData) (plan : PlanData) (key : Key) (p : ℕ
   -- ---- the parts
   loaded_grows : (shape : Shape) → IsShape shape → IsBelow (loaded_at b image plan s shape) (loaded_at b image plan t shape)
   loaded_grows (Compute op dst x y) is = λ x m. m
-  loaded_grows (Scaled dst base index k) is = λ x m. m
   loaded_grows (Load dst base offset size signed after) is = loads_grow b image plan (address_of b plan (Load dst base offset size signed after) s) (address_of b plan (Load dst base offset size signed after) t) size signed low.plan whole is.3 (address_value b plan (Load dst base offset size signed after) s low is) (address_value b plan (Load dst base offset size signed after) t high is) (address_grows b plan s t low high c (Load dst base offset size signed after) is)
-  loaded_grows (Store src base offset size after) is = λ x m. m
   loaded_grows (Branch test x y by lowers) is = λ x m. m
-  loaded_grows (Jump to) is = λ x m. m
-  loaded_grows (Call to) is = λ x m. m
-  loaded_grows Ret is = λ x m. m
-  loaded_grows Rfe is = λ x m. m
-  loaded_grows Svlcx is = λ x m. m
-  loaded_grows Rslcx is = λ x m. m
-  loaded_grows (Bisr mask) is = λ x m. m
-  loaded_grows Enable is = λ x m. m
-  loaded_grows Disable is = λ x m. m
-  loaded_grows (Syscall tin) is = λ x m. m
-  loaded_grows (Mfcr dst number) is = λ x m. m
-  loaded_grows (Mtcr src number) is = λ x m. m
-  loaded_grows Nothing is = λ x m. m
-
-  next_below : (shape : Shape) (n : ℕ) → IsShape shape → AreBelowIn (next_of b image plan p s shape n) (next_of b image plan p t shape n)
-  next_below shape n is =
-      one_below _ _ (record { rule = refl; duty = (refl, transfer_covers b plan s t low high c shape (loaded_at b image plan s shape) (loaded_at b image plan t shape) is (loaded_grows shape is)) })
-
-  side_below : (q : ℕ) (o o2 : Option State) → GrowsTo b plan o o2 → AreBelowIn (jump_on q o) (jump_on q o2)
-  side_below q None o2 h = none_below (jump_on q o2)
-  side_below q (Some u) o2 h = let k = h u refl in rw k.1.1 (one_below (owed 4 (jump q u)) (owed 4 (jump q k.1.0)) (record { rule = refl; duty = (refl, k.1.3) }))
-
-  jumps_below : (to : Target) → IsSome (targets_of plan t p to) → AreBelowIn (jumps_to s (unwrap_or (targets_of plan s p to) [])) (jumps_to t (unwrap_or (targets_of plan t p to) []))
-  jumps_below to known = map_below (λ q. owed 4 (jump q s)) (λ q. owed 4 (jump q t)) _ _ (targets_within b plan s t low high c p to known) (λ q. record { rule = refl; duty = (refl, c) })
-
-  back_below : (rule : ℕ) (k : Key) (u1 u2 : State) (q : ℕ) → Covers u2 u1 → AreBelowIn (entered_and_back rule k u1 q) (entered_and_back rule k u2 q)
-  back_below rule k u1 u2 q d =
-      both_below (owed rule (enter k u1) ∷ []) (owed rule (enter k u2) ∷ []) (owed 4 (resume k q) ∷ []) (owed 4 (resume k q) ∷ [])
-      (one_below _ _ (record { rule = refl; duty = (refl, d) })) (one_below _ _ (record { rule = refl; duty = (refl, refl) }))
-
-  calls_below : (to : Target) (n : ℕ) → IsSome (targets_of plan t p to) → AreBelowIn (entries_of plan key p s (Call to) n) (entries_of plan key p t (Call to) n)
-  calls_below to n known =
-      flat_below (λ q. entered_and_back 5 (call_key key q) (call_entry s) (moved p n)) (λ q. entered_and_back 5 (call_key key q) (call_entry t) (moved p n)) _ _
-      (targets_within b plan s t low high c p to known) (λ q. back_below 5 (call_key key q) (call_entry s) (call_entry t) (moved p n) call_covers)
-
-  module _ (faultless : IsFaultless b image plan key p t) (n : ℕ) where
-    successors_below : (shape : Shape) → IsCode image plan p shape n → AreBelowIn (successors_of b image plan p s shape n) (successors_of b image plan p t shape n)
-    successors_below (Compute op dst x y) code = next_below (Compute op dst x y) n (IsCode-bounded image plan p (Compute op dst x y) n code)
-    successors_below (Scaled dst base index k) code = next_below (Scaled dst base index k) n (IsCode-bounded image plan p (Scaled dst base index k) n code)
-    successors_below (Load dst base offset size signed after) code = next_below (Load dst base offset size signed after) n (IsCode-bounded image plan p (Load dst base offset size signed after) n code)
-    successors_below (Store src base offset size after) code = next_below (Store src base offset size after) n (IsCode-bounded image plan p (Store src base offset size after) n code)
-    successors_below (Branch test x y by lowers) code = both_below _ _ _ _ (side_below (moved p n) _ _ (branch_grows b plan s t test x y by lowers false low high c (IsCode-bounded image plan p (Branch test x y by lowers) n code))) (side_below (moved p by) _ _ (branch_grows b plan s t test x y by lowers true low high c (IsCode-bounded image plan p (Branch test x y by lowers) n code)))
-    successors_below (Jump to) code = jumps_below to (((faultless 5).own (Jump to) n code).targets refl)
-    successors_below (Call to) code = none_below []
-    successors_below Ret code = none_below []
-    successors_below Rfe code = none_below []
-    successors_below Svlcx code = next_below Svlcx n (IsCode-bounded image plan p Svlcx n code)
-    successors_below Rslcx code = next_below Rslcx n (IsCode-bounded image plan p Rslcx n code)
-    successors_below (Bisr mask) code = next_below (Bisr mask) n (IsCode-bounded image plan p (Bisr mask) n code)
-    successors_below Enable code = next_below Enable n (IsCode-bounded image plan p Enable n code)
-    successors_below Disable code = next_below Disable n (IsCode-bounded image plan p Disable n code)
-    successors_below (Syscall tin) code = none_below []
-    successors_below (Mfcr dst number) code = next_below (Mfcr dst number) n (IsCode-bounded image plan p (Mfcr dst number) n code)
-    successors_below (Mtcr src number) code = none_below []
-    successors_below Nothing code = next_below Nothing n (IsCode-bounded image plan p Nothing n code)
-
-    entries_below : (shape : Shape) → IsCode image plan p shape n → AreBelowIn (entries_of plan key p s shape n) (entries_of plan key p t shape n)
-    entries_below (Compute op dst x y) code = none_below []
-    entries_below (Scaled dst base index k) code = none_below []
-    entries_below (Load dst base offset size signed after) code = none_below []
-    entries_below (Store src base offset size after) code = none_below []
-    entries_below (Branch test x y by lowers) code = none_below []
-    entries_below (Jump to) code = none_below []
-    entries_below (Call to) code = calls_below to n (((faultless 5).own (Call to) n code).targets refl)
-    entries_below Ret code = none_below []
-    entries_below Rfe code = none_below []
-    entries_below Svlcx code = none_below []
-    entries_below Rslcx code = none_below []
-    entries_below (Bisr mask) code = none_below []
-    entries_below Enable code = none_below []
-    entries_below Disable code = none_below []
-    entries_below (Syscall tin) code = back_below 12 (sys_key plan key) (sys_entry plan key s tin) (sys_entry plan key t tin) (moved p n) (sys_covers tin)
-    entries_below (Mfcr dst number) code = none_below []
-    entries_below (Mtcr src number) code = none_below []
-    entries_below Nothing code = none_below []
-
-  aligned_below : (v w : Val) (size : ℕ) → IsValue b v → IsValue b w → IsBelow v w → AreBelowIn (misaligned_at plan key s v size) (misaligned_at plan key t w size)
-  aligned_below v w size vv vw below =
-      elim (cases_Bool (are_aligned v size)) [
-        | inl e ↦ rw e (none_below (misaligned_at plan key t w size))
-        | inr f ↦ elim (cases_Bool (are_aligned w size)) [
-          | inl g ↦ absurd (let k = aligned_falls b plan s t low high c v w size vv vw below g in let h : true ≡ false = sym k ∙ f in cc)
-          | inr g ↦ rw (f, g) (one_below _ _ (record { rule = refl; duty = (refl, aln_covers) }))
-        ]
-      ]
-
-  misaligned_below : (shape : Shape) → IsShape shape → AreBelowIn (misaligned_of b plan key s shape) (misaligned_of b plan key t shape)
-  misaligned_below (Compute op dst x y) is = none_below []
-  misaligned_below (Scaled dst base index k) is = none_below []
-  misaligned_below (Load dst base offset size signed after) is = aligned_below (address_of b plan (Load dst base offset size signed after) s) (address_of b plan (Load dst base offset size signed after) t) size (address_value b plan (Load dst base offset size signed after) s low is) (address_value b plan (Load dst base offset size signed after) t high is) (address_grows b plan s t low high c (Load dst base offset size signed after) is)
-  misaligned_below (Store src base offset size after) is = aligned_below (address_of b plan (Store src base offset size after) s) (address_of b plan (Store src base offset size after) t) size (address_value b plan (Store src base offset size after) s low is) (address_value b plan (Store src base offset size after) t high is) (address_grows b plan s t low high c (Store src base offset size after) is)
-  misaligned_below (Branch test x y by lowers) is = none_below []
-  misaligned_below (Jump to) is = none_below []
-  misaligned_below (Call to) is = none_below []
-  misaligned_below Ret is = none_below []
-  misaligned_below Rfe is = none_below []
-  misaligned_below Svlcx is = none_below []
-  misaligned_below Rslcx is = none_below []
-  misaligned_below (Bisr mask) is = none_below []
-  misaligned_below Enable is = none_below []
-  misaligned_below Disable is = none_below []
-  misaligned_below (Syscall tin) is = none_below []
-  misaligned_below (Mfcr dst number) is = none_below []
-  misaligned_below (Mtcr src number) is = none_below []
-  misaligned_below Nothing is = none_below []
+  loaded_grows _ is = λ x m. m
 
   irqs_at : (v w : Bool) (x : ℕ) → (IsTrue v → IsTrue w) → Contains (if v then filter (λ q. ltb s.ccpn q) plan.irqs else []) x → Contains (if w then filter (λ q. ltb t.ccpn q) plan.irqs else []) x
   irqs_at false w x h i = absurd (omega (arith, i.1))
@@ -301,44 +140,46 @@ module _ (b : Limits) (image : ImageData) (plan : PlanData) (key : Key) (p : ℕ
       let lt = ltb-true s.ccpn x k.1 in
       rw (h refl) (contains_filter (λ q. ltb t.ccpn q) x plan.irqs k.0 (lt-ltb t.ccpn x (omega (arith, c.context.1))))
 
-  interrupts_below : AreBelowIn (interrupts_of plan key s) (interrupts_of plan key t)
-  interrupts_below =
-      map_below (λ q. owed 11 (enter (irq_key plan q) (irq_entry plan key s q))) (λ q. owed 11 (enter (irq_key plan q) (irq_entry plan key t q))) _ _
-      (λ x i. irqs_at s.ie t.ie x c.context.0 i)
-      (λ q. record { rule = refl; duty = (refl, entry_covers (stack_of plan key s) (stack_of plan key t) false q q true stack_grows (omega arith)) })
+  module _ (faultless : IsFaultless b image plan key p t) (n : ℕ) where
+    -- what the greater state owes, in the same place
+    abbrev Above : Shape → Owed → Type 0
+    Above shape d = (e : Owed) × Contains (duties_of b image plan key p t shape n) e × IsOwedBelow d e
 
-  leave_below : (rule : ℕ) → AreBelowIn (owed rule (leave (exit_of s)) ∷ []) (owed rule (leave (exit_of t)) ∷ [])
-  leave_below rule = one_below _ _ (record { rule = refl; duty = exit_covers s t low.regs high.regs c })
+    above : (shape : Shape) (d e : Owed) → DutyAt b image plan key p t n shape e → d.rule ≡ e.rule → IsDutyBelow d.duty e.duty → Above shape d
+    above shape d e at rule below = (e, duty_listed b image plan key p t n shape e at, record { rule = rule; duty = below })
 
-  leavings_below : (shape : Shape) → AreBelowIn (leavings_of key s shape) (leavings_of key t shape)
-  leavings_below (Compute op dst x y) = none_below []
-  leavings_below (Scaled dst base index k) = none_below []
-  leavings_below (Load dst base offset size signed after) = none_below []
-  leavings_below (Store src base offset size after) = none_below []
-  leavings_below (Branch test x y by lowers) = none_below []
-  leavings_below (Jump to) = none_below []
-  leavings_below (Call to) = none_below []
-  leavings_below Ret = leave_below 6
-  leavings_below Rfe = elim (cases_Bool (eqb key.kind 3)) [ inl e ↦ rw e (leave_below 7) | inr e ↦ rw e (none_below []) ]
-  leavings_below Svlcx = none_below []
-  leavings_below Rslcx = none_below []
-  leavings_below (Bisr mask) = none_below []
-  leavings_below Enable = none_below []
-  leavings_below Disable = none_below []
-  leavings_below (Syscall tin) = none_below []
-  leavings_below (Mfcr dst number) = none_below []
-  leavings_below (Mtcr src number) = none_below []
-  leavings_below Nothing = none_below []
+    side_above : (test : Cond) (x : ℕ) (y : Arg) (by : ℕ) (lowers side : Bool) (q : ℕ) (u : State) → IsShape (Branch test x y by lowers) → refine_of b plan (Branch test x y by lowers) s side ≡ Some u
+        → ((v : State) → refine_of b plan (Branch test x y by lowers) t side ≡ Some v → DutyAt b image plan key p t n (Branch test x y by lowers) (owed 4 (jump q v))) → Above (Branch test x y by lowers) (owed 4 (jump q u))
+    side_above test x y by lowers side q u is e at =
+        let k = (branch_grows b plan s t test x y by lowers side low high c is u e).1 in
+        above (Branch test x y by lowers) (owed 4 (jump q u)) (owed 4 (jump q k.0)) (at k.0 k.1) refl (refl, k.3)
 
-  pub duties_below : (faultless : IsFaultless b image plan key p t) (shape : Shape) (n : ℕ) → IsCode image plan p shape n → AreBelowIn (duties_of b image plan key p s shape n) (duties_of b image plan key p t shape n)
-  unfolding duties_of
-  duties_below faultless shape n code =
-      let is = IsCode-bounded image plan p shape n code in
-      both_below _ _ _ _
-      (both_below _ _ _ _
-      (both_below _ _ _ _ (both_below _ _ _ _ (successors_below faultless n shape code) (entries_below faultless n shape code)) (misaligned_below shape is))
-      interrupts_below) (leavings_below shape)
+    not_aligned : (shape : Shape) (size : ℕ) → IsShape shape → are_aligned (address_of b plan shape s) size ≡ false → are_aligned (address_of b plan shape t) size ≡ false
+    not_aligned shape size is f =
+        elim (cases_Bool (are_aligned (address_of b plan shape t) size)) [
+          | inl g ↦
+              let k = aligned_falls b plan s t low high c (address_of b plan shape s) (address_of b plan shape t) size (address_value b plan shape s low is) (address_value b plan shape t high is) (address_grows b plan s t low high c shape is) g in
+              absurd (let h : true ≡ false = sym k ∙ f in cc)
+          | inr g ↦ g
+        ]
+
+    above_by : (shape : Shape) (d : Owed) → IsCode image plan p shape n → DutyAt b image plan key p s n shape d → Above shape d
+    above_by _ d code (next shape e) =
+        let is = IsCode-bounded image plan p shape n code in
+        above shape d _ (next shape e) refl (refl, transfer_covers b plan s t low high c shape (loaded_at b image plan s shape) (loaded_at b image plan t shape) is (loaded_grows shape is))
+    above_by _ d code (straight test x y by lowers u e) = side_above test x y by lowers false (moved p n) u (IsCode-bounded image plan p _ n code) e (straight test x y by lowers)
+    above_by _ d code (taken test x y by lowers u e) = side_above test x y by lowers true (moved p by) u (IsCode-bounded image plan p _ n code) e (taken test x y by lowers)
+    above_by _ d code (target to q i) = above (Jump to) d _ (target to q (targets_within b plan s t low high c p to (((faultless 5).own (Jump to) n code).targets refl) q i)) refl (refl, c)
+    above_by _ d code (called to q i) = above (Call to) d _ (called to q (targets_within b plan s t low high c p to (((faultless 5).own (Call to) n code).targets refl) q i)) refl (refl, call_covers)
+    above_by _ d code (called_back to q i) = above (Call to) d d (called_back to q (targets_within b plan s t low high c p to (((faultless 5).own (Call to) n code).targets refl) q i)) refl (refl, refl)
+    above_by _ d code (system tin) = above (Syscall tin) d _ (system tin) refl (refl, sys_covers tin)
+    above_by _ d code (system_back tin) = above (Syscall tin) d d (system_back tin) refl (refl, refl)
+    above_by _ d code (misaligned shape size e f) = above shape d _ (misaligned shape size e (not_aligned shape size (IsCode-bounded image plan p shape n code) f)) refl (refl, aln_covers)
+    above_by _ d code (interrupt shape q i) =
+        above shape d _ (interrupt shape q (irqs_at s.ie t.ie q c.context.0 i)) refl (refl, entry_covers (stack_of plan key s) (stack_of plan key t) false q q true stack_grows (omega arith))
+    above_by _ d code returns = above Ret d _ returns refl (exit_covers s t low.regs high.regs c)
+    above_by _ d code (resumes e) = above Rfe d _ (resumes e) refl (exit_covers s t low.regs high.regs c)
 
 pub duties_grow : DutiesGrow
 duties_grow b image plan key p s t shape n d ground ps pt c faultless code i =
-    duties_below b image plan key p s t ground.is_image (setting_of b image plan s ground ps) (setting_of b image plan t ground pt) c faultless shape n code d i
+    (above_by b image plan key p s t ground.is_image (setting_of b image plan s ground ps) (setting_of b image plan t ground pt) c faultless n shape d code (duty_at b image plan key p s n shape d i))

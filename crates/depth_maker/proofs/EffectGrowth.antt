@@ -107,62 +107,27 @@ module _ (b : Limits) (p : PlanData) (s t : State) (low : IsSetting b p s) (high
       write_covers (with_base b p s base offset after) (with_base b p t base offset after) dst v w (base_setting b p s base offset after low is.1 is.2).regs (base_setting b p t base offset after high is.1 is.2).regs
       (base_covers b p s t low high c base offset after is.1 is.2) here
   transfer_covers (Store src base offset size after) v w is here = base_covers b p s t low high c base offset after is.1 is.2
-  transfer_covers (Branch test x y by lowers) v w is here = c
-  transfer_covers (Jump to) v w is here = c
-  transfer_covers (Call to) v w is here = c
-  transfer_covers Ret v w is here = c
-  transfer_covers Rfe v w is here = c
   transfer_covers Svlcx v w is here = saved_covers
   transfer_covers Rslcx v w is here = restored_covers
   transfer_covers (Bisr n) v w is here = record { regs = c.regs; context = ((λ e. refl), omega arith, c.context.2); locals = saved_covers.locals }
   transfer_covers Enable v w is here = record { regs = c.regs; context = ((λ e. refl), c.context.1, c.context.2); locals = c.locals }
   transfer_covers Disable v w is here = record { regs = c.regs; context = ((λ e. e), c.context.1, c.context.2); locals = c.locals }
-  transfer_covers (Syscall tin) v w is here = c
   transfer_covers (Mfcr dst number) v w is here = write_covers s t dst any_val any_val low.regs high.regs c (λ x m. m)
-  transfer_covers (Mtcr src number) v w is here = c
-  transfer_covers Nothing v w is here = c
+  transfer_covers _ v w is here = c
 
   pub address_grows : (shape : Shape) → IsShape shape → IsBelow (address_of b p shape s) (address_of b p shape t)
   unfolding address_of
   address_grows (Compute op dst x y) is = λ x m. m
-  address_grows (Scaled dst base index n) is = λ x m. m
   address_grows (Load dst base offset size signed after) is = access_grows b p s t low high c base offset after is.1 is.2
   address_grows (Store src base offset size after) is = access_grows b p s t low high c base offset after is.1 is.2
   address_grows (Branch test x y by lowers) is = λ x m. m
-  address_grows (Jump to) is = λ x m. m
-  address_grows (Call to) is = λ x m. m
-  address_grows Ret is = λ x m. m
-  address_grows Rfe is = λ x m. m
-  address_grows Svlcx is = λ x m. m
-  address_grows Rslcx is = λ x m. m
-  address_grows (Bisr n) is = λ x m. m
-  address_grows Enable is = λ x m. m
-  address_grows Disable is = λ x m. m
-  address_grows (Syscall tin) is = λ x m. m
-  address_grows (Mfcr dst number) is = λ x m. m
-  address_grows (Mtcr src number) is = λ x m. m
-  address_grows Nothing is = λ x m. m
+  address_grows _ is = λ x m. m
 
 pub address_value : (b : Limits) (p : PlanData) (shape : Shape) (s : State) → IsSetting b p s → IsShape shape → IsValue b (address_of b p shape s)
 unfolding address_of
-address_value b p (Compute op dst x y) s h is = any_value b h.limits
-address_value b p (Scaled dst base index n) s h is = any_value b h.limits
 address_value b p (Load dst base offset size signed after) s h is = access_value b p s base offset after h is.1 is.2
 address_value b p (Store src base offset size after) s h is = access_value b p s base offset after h is.1 is.2
-address_value b p (Branch test x y by lowers) s h is = any_value b h.limits
-address_value b p (Jump to) s h is = any_value b h.limits
-address_value b p (Call to) s h is = any_value b h.limits
-address_value b p Ret s h is = any_value b h.limits
-address_value b p Rfe s h is = any_value b h.limits
-address_value b p Svlcx s h is = any_value b h.limits
-address_value b p Rslcx s h is = any_value b h.limits
-address_value b p (Bisr n) s h is = any_value b h.limits
-address_value b p Enable s h is = any_value b h.limits
-address_value b p Disable s h is = any_value b h.limits
-address_value b p (Syscall tin) s h is = any_value b h.limits
-address_value b p (Mfcr dst number) s h is = any_value b h.limits
-address_value b p (Mtcr src number) s h is = any_value b h.limits
-address_value b p Nothing s h is = any_value b h.limits
+address_value b p _ s h is = any_value b h.limits
 
 -- ---- refinement
 -- what is kept of a larger set has a larger cover

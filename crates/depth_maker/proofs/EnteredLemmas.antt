@@ -42,27 +42,12 @@ entered_jump_on q (Some s) = refl
 
 -- jumps in the frame enter none
 pub entered_successors : (b : Limits) (image : ImageData) (plan : PlanData) (p : ℕ) (s : State) (shape : Shape) (n : ℕ) → entered_in (successors_of b image plan p s shape n) ≡ []
-entered_successors b image plan p s (Compute op dst x y) n = refl
-entered_successors b image plan p s (Scaled dst base index k) n = refl
-entered_successors b image plan p s (Load dst base offset size signed after) n = refl
-entered_successors b image plan p s (Store src base offset size after) n = refl
 entered_successors b image plan p s (Branch cond x y by lowers) n =
     flat_map-append (λ d. entered_by d.duty) (jump_on (moved p n) (refine_of b plan (Branch cond x y by lowers) s false)) (jump_on (moved p by) (refine_of b plan (Branch cond x y by lowers) s true))
     ∙ ap (λ (l : List Key). l ++ entered_in (jump_on (moved p by) (refine_of b plan (Branch cond x y by lowers) s true))) (entered_jump_on (moved p n) (refine_of b plan (Branch cond x y by lowers) s false))
     ∙ entered_jump_on (moved p by) (refine_of b plan (Branch cond x y by lowers) s true)
 entered_successors b image plan p s (Jump to) n = entered_jumps s (unwrap_or (targets_of plan s p to) [])
-entered_successors b image plan p s (Call to) n = refl
-entered_successors b image plan p s Ret n = refl
-entered_successors b image plan p s Rfe n = refl
-entered_successors b image plan p s Svlcx n = refl
-entered_successors b image plan p s Rslcx n = refl
-entered_successors b image plan p s (Bisr c) n = refl
-entered_successors b image plan p s Enable n = refl
-entered_successors b image plan p s Disable n = refl
-entered_successors b image plan p s (Syscall tin) n = refl
-entered_successors b image plan p s (Mfcr dst number) n = refl
-entered_successors b image plan p s (Mtcr src number) n = refl
-entered_successors b image plan p s Nothing n = refl
+entered_successors b image plan p s _ n = refl
 
 -- nor do leavings
 entered_left : (t : Bool) (d : Owed) → entered_by d.duty ≡ [] → entered_in (if t then d ∷ [] else []) ≡ []
@@ -70,24 +55,8 @@ entered_left true d e = ap (λ (l : List Key). l ++ []) e
 entered_left false d e = refl
 
 pub entered_leavings : (key : Key) (s : State) (shape : Shape) → entered_in (leavings_of key s shape) ≡ []
-entered_leavings key s (Compute op dst x y) = refl
-entered_leavings key s (Scaled dst base index k) = refl
-entered_leavings key s (Load dst base offset size signed after) = refl
-entered_leavings key s (Store src base offset size after) = refl
-entered_leavings key s (Branch cond x y by lowers) = refl
-entered_leavings key s (Jump to) = refl
-entered_leavings key s (Call to) = refl
-entered_leavings key s Ret = refl
 entered_leavings key s Rfe = entered_left _ _ refl
-entered_leavings key s Svlcx = refl
-entered_leavings key s Rslcx = refl
-entered_leavings key s (Bisr c) = refl
-entered_leavings key s Enable = refl
-entered_leavings key s Disable = refl
-entered_leavings key s (Syscall tin) = refl
-entered_leavings key s (Mfcr dst number) = refl
-entered_leavings key s (Mtcr src number) = refl
-entered_leavings key s Nothing = refl
+entered_leavings key s _ = refl
 
 -- all parts
 pub entered_parts : (js bs ds es ls : List Owed) → entered_in js ≡ [] → entered_in ls ≡ [] → entered_in (js ++ bs ++ ds ++ es ++ ls) ≡ (entered_in bs ++ entered_in ds) ++ entered_in es
@@ -125,46 +94,16 @@ owed_entered ds d k t c e = contains_flat (λ (o : Owed). entered_by o.duty) k d
 
 -- other instructions than calls and system calls enter no frame themselves
 pub entries_none : (plan : PlanData) (key : Key) (p : ℕ) (s : State) (shape : Shape) (n : ℕ) → ((to : Target) → shape ≡ Call to → ⊥) → ((tin : ℕ) → shape ≡ Syscall tin → ⊥) → entered_in (entries_of plan key p s shape n) ≡ []
-entries_none plan key p s (Compute op dst x y) n call sys = refl
-entries_none plan key p s (Scaled dst base index k) n call sys = refl
-entries_none plan key p s (Load dst base offset size signed after) n call sys = refl
-entries_none plan key p s (Store src base offset size after) n call sys = refl
-entries_none plan key p s (Branch cond x y by lowers) n call sys = refl
-entries_none plan key p s (Jump to) n call sys = refl
 entries_none plan key p s (Call to) n call sys = absurd (call to refl)
-entries_none plan key p s Ret n call sys = refl
-entries_none plan key p s Rfe n call sys = refl
-entries_none plan key p s Svlcx n call sys = refl
-entries_none plan key p s Rslcx n call sys = refl
-entries_none plan key p s (Bisr c) n call sys = refl
-entries_none plan key p s Enable n call sys = refl
-entries_none plan key p s Disable n call sys = refl
 entries_none plan key p s (Syscall tin) n call sys = absurd (sys tin refl)
-entries_none plan key p s (Mfcr dst number) n call sys = refl
-entries_none plan key p s (Mtcr src number) n call sys = refl
-entries_none plan key p s Nothing n call sys = refl
+entries_none plan key p s _ n call sys = refl
 
 -- other instructions than loads and stores have no access
 pub owes_no_access : (b : Limits) (plan : PlanData) (key : Key) (s : State) (shape : Shape) → ((dst : ℕ) (base : Arg) (offset size : ℕ) (signed after : Bool) → shape ≡ Load dst base offset size signed after → ⊥)
     → ((src : ℕ) (base : Arg) (offset size : ℕ) (after : Bool) → shape ≡ Store src base offset size after → ⊥) → misaligned_of b plan key s shape ≡ []
-owes_no_access b plan key s (Compute op dst x y) load store = refl
-owes_no_access b plan key s (Scaled dst base index k) load store = refl
 owes_no_access b plan key s (Load dst base offset size signed after) load store = absurd (load dst base offset size signed after refl)
 owes_no_access b plan key s (Store src base offset size after) load store = absurd (store src base offset size after refl)
-owes_no_access b plan key s (Branch cond x y by lowers) load store = refl
-owes_no_access b plan key s (Jump to) load store = refl
-owes_no_access b plan key s (Call to) load store = refl
-owes_no_access b plan key s Ret load store = refl
-owes_no_access b plan key s Rfe load store = refl
-owes_no_access b plan key s Svlcx load store = refl
-owes_no_access b plan key s Rslcx load store = refl
-owes_no_access b plan key s (Bisr c) load store = refl
-owes_no_access b plan key s Enable load store = refl
-owes_no_access b plan key s Disable load store = refl
-owes_no_access b plan key s (Syscall tin) load store = refl
-owes_no_access b plan key s (Mfcr dst number) load store = refl
-owes_no_access b plan key s (Mtcr src number) load store = refl
-owes_no_access b plan key s Nothing load store = refl
+owes_no_access b plan key s _ load store = refl
 
 pub access_none : (b : Limits) (plan : PlanData) (key : Key) (s : State) (shape : Shape) → ((dst : ℕ) (base : Arg) (offset size : ℕ) (signed after : Bool) → shape ≡ Load dst base offset size signed after → ⊥)
     → ((src : ℕ) (base : Arg) (offset size : ℕ) (after : Bool) → shape ≡ Store src base offset size after → ⊥) → entered_in (misaligned_of b plan key s shape) ≡ []
@@ -204,24 +143,9 @@ aligned_none plan key s at size e = rw e refl
 
 -- where no trap of misaligned accesses is stated, rule 10 leaves none
 pub aligned_owes_none : (b : Limits) (plan : PlanData) (key : Key) (s : State) (shape : Shape) → MayAccess b plan s shape → plan.aln ≡ false → misaligned_of b plan key s shape ≡ []
-aligned_owes_none b plan key s (Compute op dst x y) may off = refl
-aligned_owes_none b plan key s (Scaled dst base index k) may off = refl
 aligned_owes_none b plan key s (Load dst base offset size signed after) may off = aligned_none plan key s (address_of b plan (Load dst base offset size signed after) s) size (either _ _ may off)
 aligned_owes_none b plan key s (Store src base offset size after) may off = aligned_none plan key s (address_of b plan (Store src base offset size after) s) size (either _ _ may off)
-aligned_owes_none b plan key s (Branch cond x y by lowers) may off = refl
-aligned_owes_none b plan key s (Jump to) may off = refl
-aligned_owes_none b plan key s (Call to) may off = refl
-aligned_owes_none b plan key s Ret may off = refl
-aligned_owes_none b plan key s Rfe may off = refl
-aligned_owes_none b plan key s Svlcx may off = refl
-aligned_owes_none b plan key s Rslcx may off = refl
-aligned_owes_none b plan key s (Bisr c) may off = refl
-aligned_owes_none b plan key s Enable may off = refl
-aligned_owes_none b plan key s Disable may off = refl
-aligned_owes_none b plan key s (Syscall tin) may off = refl
-aligned_owes_none b plan key s (Mfcr dst number) may off = refl
-aligned_owes_none b plan key s (Mtcr src number) may off = refl
-aligned_owes_none b plan key s Nothing may off = refl
+aligned_owes_none b plan key s _ may off = refl
 
 -- ---- a list that grows by one more
 pub map_step : (g : ℕ → Key) (from ks new : List Key) (ts : List ℕ) (i : ℕ) (x : Key) → i < length ts → ks ≡ from ++ map g (take i ts) → new ≡ ks ++ x ∷ [] → x ≡ g (get_or ts i 0) → new ≡ from ++ map g (take (i + 1) ts)

@@ -16,21 +16,11 @@ pub next_alone : (b : Limits) (image : ImageData) (plan : PlanData) (p : ℕ) (s
     → ((cond : Cond) (x : ℕ) (y : Arg) (by : ℕ) (lowers : Bool) → shape ≡ Branch cond x y by lowers → ⊥) → ((to : Target) → shape ≡ Jump to → ⊥)
     → ((to : Target) → shape ≡ Call to → ⊥) → (shape ≡ Ret → ⊥) → (shape ≡ Rfe → ⊥) → ((tin : ℕ) → shape ≡ Syscall tin → ⊥)
     → ((src number : ℕ) → shape ≡ Mtcr src number → ⊥) → successors_of b image plan p s shape n ≡ next_of b image plan p s shape n
-next_alone b image plan p s (Compute op dst x y) n branch jump call ret rfe sys mtcr = refl
-next_alone b image plan p s (Scaled dst base index k) n branch jump call ret rfe sys mtcr = refl
-next_alone b image plan p s (Load dst base offset size signed after) n branch jump call ret rfe sys mtcr = refl
-next_alone b image plan p s (Store src base offset size after) n branch jump call ret rfe sys mtcr = refl
 next_alone b image plan p s (Branch cond x y by lowers) n branch jump call ret rfe sys mtcr = absurd (branch cond x y by lowers refl)
 next_alone b image plan p s (Jump to) n branch jump call ret rfe sys mtcr = absurd (jump to refl)
 next_alone b image plan p s (Call to) n branch jump call ret rfe sys mtcr = absurd (call to refl)
 next_alone b image plan p s Ret n branch jump call ret rfe sys mtcr = absurd (ret refl)
 next_alone b image plan p s Rfe n branch jump call ret rfe sys mtcr = absurd (rfe refl)
-next_alone b image plan p s Svlcx n branch jump call ret rfe sys mtcr = refl
-next_alone b image plan p s Rslcx n branch jump call ret rfe sys mtcr = refl
-next_alone b image plan p s (Bisr c) n branch jump call ret rfe sys mtcr = refl
-next_alone b image plan p s Enable n branch jump call ret rfe sys mtcr = refl
-next_alone b image plan p s Disable n branch jump call ret rfe sys mtcr = refl
 next_alone b image plan p s (Syscall tin) n branch jump call ret rfe sys mtcr = absurd (sys tin refl)
-next_alone b image plan p s (Mfcr dst number) n branch jump call ret rfe sys mtcr = refl
 next_alone b image plan p s (Mtcr src number) n branch jump call ret rfe sys mtcr = absurd (mtcr src number refl)
-next_alone b image plan p s Nothing n branch jump call ret rfe sys mtcr = refl
+next_alone b image plan p s _ n branch jump call ret rfe sys mtcr = refl

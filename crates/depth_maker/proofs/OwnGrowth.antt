@@ -79,124 +79,32 @@ module _ (b : Limits) (plan : PlanData) (s t : State) (low : IsSetting b plan s)
 
   -- ---- the rules
   targets_known : (p : ℕ) (shape : Shape) → KnowsTargets plan t p shape → KnowsTargets plan s p shape
-  targets_known p (Compute op dst x y) h = h
-  targets_known p (Scaled dst base index k) h = h
-  targets_known p (Load dst base offset size signed after) h = h
-  targets_known p (Store src base offset size after) h = h
-  targets_known p (Branch test x y by lowers) h = h
   targets_known p (Jump to) h = targets_fall p to h
   targets_known p (Call to) h = targets_fall p to h
-  targets_known p Ret h = h
-  targets_known p Rfe h = h
-  targets_known p Svlcx h = h
-  targets_known p Rslcx h = h
-  targets_known p (Bisr mask) h = h
-  targets_known p Enable h = h
-  targets_known p Disable h = h
-  targets_known p (Syscall tin) h = h
-  targets_known p (Mfcr dst number) h = h
-  targets_known p (Mtcr src number) h = h
-  targets_known p Nothing h = h
+  targets_known p _ h = h
 
   returns : (key : Key) (shape : Shape) → MayReturn key t shape → MayReturn key s shape
-  returns key (Compute op dst x y) h = h
-  returns key (Scaled dst base index k) h = h
-  returns key (Load dst base offset size signed after) h = h
-  returns key (Store src base offset size after) h = h
-  returns key (Branch test x y by lowers) h = h
-  returns key (Jump to) h = h
-  returns key (Call to) h = h
   returns key Ret h = (h.0, sym (same_locals t s c) ∙ h.1)
-  returns key Rfe h = h
-  returns key Svlcx h = h
-  returns key Rslcx h = h
-  returns key (Bisr mask) h = h
-  returns key Enable h = h
-  returns key Disable h = h
-  returns key (Syscall tin) h = h
-  returns key (Mfcr dst number) h = h
-  returns key (Mtcr src number) h = h
-  returns key Nothing h = h
+  returns key _ h = h
 
   returns_from_exception : (key : Key) (shape : Shape) → MayReturnFromException key t shape → MayReturnFromException key s shape
-  returns_from_exception key (Compute op dst x y) h = h
-  returns_from_exception key (Scaled dst base index k) h = h
-  returns_from_exception key (Load dst base offset size signed after) h = h
-  returns_from_exception key (Store src base offset size after) h = h
-  returns_from_exception key (Branch test x y by lowers) h = h
-  returns_from_exception key (Jump to) h = h
-  returns_from_exception key (Call to) h = h
-  returns_from_exception key Ret h = h
   returns_from_exception key Rfe h = (sym (same_locals t s c) ∙ h.0, elim h.1 [ inl e ↦ inl (e.0, c.context.2 e.1) | inr e ↦ inr e ])
-  returns_from_exception key Svlcx h = h
-  returns_from_exception key Rslcx h = h
-  returns_from_exception key (Bisr mask) h = h
-  returns_from_exception key Enable h = h
-  returns_from_exception key Disable h = h
-  returns_from_exception key (Syscall tin) h = h
-  returns_from_exception key (Mfcr dst number) h = h
-  returns_from_exception key (Mtcr src number) h = h
-  returns_from_exception key Nothing h = h
+  returns_from_exception key _ h = h
 
   has_room : (shape : Shape) → HasRoom b shape t → HasRoom b shape s
-  has_room (Compute op dst x y) h = h
-  has_room (Scaled dst base index k) h = h
-  has_room (Load dst base offset size signed after) h = h
-  has_room (Store src base offset size after) h = h
-  has_room (Branch test x y by lowers) h = h
-  has_room (Jump to) h = h
-  has_room (Call to) h = h
-  has_room Ret h = h
-  has_room Rfe h = h
   has_room Svlcx h = omega (arith, same_locals t s c, h)
   has_room Rslcx h = omega (arith, same_locals t s c, h)
   has_room (Bisr mask) h = omega (arith, same_locals t s c, h)
-  has_room Enable h = h
-  has_room Disable h = h
-  has_room (Syscall tin) h = h
-  has_room (Mfcr dst number) h = h
-  has_room (Mtcr src number) h = h
-  has_room Nothing h = h
+  has_room _ h = h
 
   stores : (shape : Shape) → IsShape shape → StoresInRange b plan t shape → StoresInRange b plan s shape
-  stores (Compute op dst x y) is h = h
-  stores (Scaled dst base index k) is h = h
-  stores (Load dst base offset size signed after) is h = h
   stores (Store src base offset size after) is h = λ x m. h x (address_grows b plan s t low high c (Store src base offset size after) is x m)
-  stores (Branch test x y by lowers) is h = h
-  stores (Jump to) is h = h
-  stores (Call to) is h = h
-  stores Ret is h = h
-  stores Rfe is h = h
-  stores Svlcx is h = h
-  stores Rslcx is h = h
-  stores (Bisr mask) is h = h
-  stores Enable is h = h
-  stores Disable is h = h
-  stores (Syscall tin) is h = h
-  stores (Mfcr dst number) is h = h
-  stores (Mtcr src number) is h = h
-  stores Nothing is h = h
+  stores _ is h = h
 
   accesses : (shape : Shape) → IsShape shape → MayAccess b plan t shape → MayAccess b plan s shape
-  accesses (Compute op dst x y) is h = h
-  accesses (Scaled dst base index k) is h = h
   accesses (Load dst base offset size signed after) is h = may_access (address_of b plan (Load dst base offset size signed after) s) (address_of b plan (Load dst base offset size signed after) t) size plan.aln (address_value b plan (Load dst base offset size signed after) s low is) (address_value b plan (Load dst base offset size signed after) t high is) (address_grows b plan s t low high c (Load dst base offset size signed after) is) h
   accesses (Store src base offset size after) is h = may_access (address_of b plan (Store src base offset size after) s) (address_of b plan (Store src base offset size after) t) size plan.aln (address_value b plan (Store src base offset size after) s low is) (address_value b plan (Store src base offset size after) t high is) (address_grows b plan s t low high c (Store src base offset size after) is) h
-  accesses (Branch test x y by lowers) is h = h
-  accesses (Jump to) is h = h
-  accesses (Call to) is h = h
-  accesses Ret is h = h
-  accesses Rfe is h = h
-  accesses Svlcx is h = h
-  accesses Rslcx is h = h
-  accesses (Bisr mask) is h = h
-  accesses Enable is h = h
-  accesses Disable is h = h
-  accesses (Syscall tin) is h = h
-  accesses (Mfcr dst number) is h = h
-  accesses (Mtcr src number) is h = h
-  accesses Nothing is h = h
+  accesses _ is h = h
 
   pub own_falls : (key : Key) (p : ℕ) (shape : Shape) (r : ℕ) → IsShape shape → LocalRule b plan key p t shape r → LocalRule b plan key p s shape r
   own_falls key p shape r is h = record {

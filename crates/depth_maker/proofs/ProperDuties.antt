@@ -44,7 +44,8 @@ use Rattle.depth_maker.proofs.StateGrowth.{covers_same, setting_write, set_local
 use Rattle.depth_maker.proofs.EffectGrowth.{base_setting, address_value, branch_grows, word_value}
 use Rattle.depth_maker.proofs.LoadedValues.{loaded_value}
 use Rattle.depth_maker.proofs.OwnGrowth.{setting_of}
-use Rattle.depth_maker.proofs.DutyGrowth.{contained_map, contained_flat, lower-at, lower_place}
+use Rattle.cfg_recover.proofs.DutyView.{DutyAt, next, straight, taken, target, called, called_back, system, system_back, misaligned, interrupt, duty_at}
+use Rattle.depth_maker.proofs.DutyGrowth.{lower-at, lower_place}
 
 -- ---- transfers
 module _ (b : Limits) (p : PlanData) (s : State) (h : IsSetting b p s) where
@@ -57,20 +58,9 @@ module _ (b : Limits) (p : PlanData) (s : State) (h : IsSetting b p s) where
   transfer_setting (Scaled dst base index k) v is vv = setting_write b p s dst _ h (value_of_value b Add (reg_of p s base) (value_of b Sh (reg_of p s index) (word_val k)) h.limits (reg_value b p s base h) (value_of_value b Sh (reg_of p s index) (word_val k) h.limits (reg_value b p s index h) (word_value b k h.limits (omega (arith, is.3)))))
   transfer_setting (Load dst base offset size signed after) v is vv = setting_write b p (with_base b p s base offset after) dst v (base_setting b p s base offset after h is.1 is.2) vv
   transfer_setting (Store src base offset size after) v is vv = base_setting b p s base offset after h is.1 is.2
-  transfer_setting (Branch test x y by lowers) v is vv = same_setting _ refl
-  transfer_setting (Jump to) v is vv = same_setting _ refl
-  transfer_setting (Call to) v is vv = same_setting _ refl
-  transfer_setting Ret v is vv = same_setting _ refl
-  transfer_setting Rfe v is vv = same_setting _ refl
-  transfer_setting Svlcx v is vv = same_setting _ refl
   transfer_setting Rslcx v is vv = record { limits = h.limits; plan = h.plan; regs = length-forgotten 0 s.regs ∙ h.regs; values = forgotten_values b s.regs h.limits h.values }
-  transfer_setting (Bisr mask) v is vv = same_setting _ refl
-  transfer_setting Enable v is vv = same_setting _ refl
-  transfer_setting Disable v is vv = same_setting _ refl
-  transfer_setting (Syscall tin) v is vv = same_setting _ refl
   transfer_setting (Mfcr dst number) v is vv = setting_write b p s dst any_val h (any_value b h.limits)
-  transfer_setting (Mtcr src number) v is vv = same_setting _ refl
-  transfer_setting Nothing v is vv = same_setting _ refl
+  transfer_setting _ v is vv = same_setting _ refl
 
   base_locals : (base : Arg) (offset : ℕ) (after : Bool) → (with_base b p s base offset after).locals.items ≡ s.locals.items
   base_locals (Word w) offset after = refl
@@ -83,20 +73,11 @@ module _ (b : Limits) (p : PlanData) (s : State) (h : IsSetting b p s) where
   transfer_locals (Scaled dst base index k) v room few = omega (arith, ap length (set_locals s dst (value_of b Add (reg_of p s base) (value_of b Sh (reg_of p s index) (word_val k)))), few)
   transfer_locals (Load dst base offset size signed after) v room few = omega (arith, ap length (set_locals (with_base b p s base offset after) dst v), ap length (base_locals base offset after), few)
   transfer_locals (Store src base offset size after) v room few = omega (arith, ap length (base_locals base offset after), few)
-  transfer_locals (Branch test x y by lowers) v room few = few
-  transfer_locals (Jump to) v room few = few
-  transfer_locals (Call to) v room few = few
-  transfer_locals Ret v room few = few
-  transfer_locals Rfe v room few = few
   transfer_locals Svlcx v room few = omega (arith, length-append s.locals.items (s.lower ∷ []), room)
   transfer_locals Rslcx v room few = omega (arith, length-take-le (length s.locals.items - 1) s.locals.items (omega arith), few)
   transfer_locals (Bisr mask) v room few = omega (arith, length-append s.locals.items (s.lower ∷ []), room)
-  transfer_locals Enable v room few = few
-  transfer_locals Disable v room few = few
-  transfer_locals (Syscall tin) v room few = few
   transfer_locals (Mfcr dst number) v room few = omega (arith, ap length (set_locals s dst any_val), few)
-  transfer_locals (Mtcr src number) v room few = few
-  transfer_locals Nothing v room few = few
+  transfer_locals _ v room few = few
 
 -- ---- branches
 -- the state has the locals of another
@@ -131,28 +112,6 @@ branch_locals b p s test x y by lowers side = lowered_locals b p s x lowers (sta
 kept_locals : (s t : State) (o : Option State) → KeepsLocals s o → o ≡ Some t → t.locals.items ≡ s.locals.items
 kept_locals s t None h e = absurd (let f : None ≡ Some t = e in cc)
 kept_locals s t (Some u) h e = let f : u ≡ t = (let g : Some u ≡ Some t = e in cc) in subst (λ (k : State). k.locals.items ≡ s.locals.items) f h
-
--- ---- lists of duties
-abbrev pub AreProperIn : Limits → List Owed → Type 0
-AreProperIn b ds = (d : Owed) → Contains ds d → IsProperDuty b d.duty
-
-none_proper : (b : Limits) → AreProperIn b []
-none_proper b d c = absurd (omega (arith, c.1))
-
-one_proper : (b : Limits) (e : Owed) → IsProperDuty b e.duty → AreProperIn b (e ∷ [])
-one_proper b e h d c = at c.0 c.1 c.2 where
-  at : (k : ℕ) → k < 1 → get_or (e ∷ []) k d ≡ d → IsProperDuty b d.duty
-  at zero lt same = subst (λ (u : Owed). IsProperDuty b u.duty) same h
-  at (suc k) lt same = absurd (omega arith)
-
-both_proper : (b : Limits) (ds es : List Owed) → AreProperIn b ds → AreProperIn b es → AreProperIn b (ds ++ es)
-both_proper b ds es h k d c = elim (Contains-append_cases ds es d c) [ inl i ↦ h d i | inr i ↦ k d i ]
-
-map_proper : {X : Type 0} (b : Limits) (f : X → Owed) (xs : List X) → ((x : X) → Contains xs x → IsProperDuty b (f x).duty) → AreProperIn b (map f xs)
-map_proper b f xs each d c = let r = contained_map f xs d c in subst (λ (u : Owed). IsProperDuty b u.duty) r.2 (each r.0 r.1)
-
-flat_proper : {X : Type 0} (b : Limits) (f : X → List Owed) (xs : List X) → ((x : X) → AreProperIn b (f x)) → AreProperIn b (flat_map f xs)
-flat_proper b f xs each d c = let r = contained_flat f xs d c in each r.0 d r.2
 
 -- ---- exits and what comes after them
 lower_values_are : (b : Limits) (vs : List Val) → length vs ≡ 27 → AreValues b vs → AreValues b (lower_values vs)
@@ -214,133 +173,32 @@ module _ (b : Limits) (image : ImageData) (plan : PlanData) (key : Key) (p : ℕ
   call_proper = record { regs = proper.regs; values = proper.values; few = omega arith }
 
   loaded_is : (shape : Shape) → IsShape shape → IsValue b (loaded_at b image plan s shape)
-  loaded_is (Compute op dst x y) is = any_value b (ground.limits)
-  loaded_is (Scaled dst base index k) is = any_value b (ground.limits)
   loaded_is (Load dst base offset size signed after) is = loaded_value image plan size signed ground.is_plan (λ x y. byte_lt image.segments x y ground.is_image.bytes) is.3 b (address_of b plan (Load dst base offset size signed after) s) ground.limits (address_value b plan (Load dst base offset size signed after) s set is)
-  loaded_is (Store src base offset size after) is = any_value b (ground.limits)
-  loaded_is (Branch test x y by lowers) is = any_value b (ground.limits)
-  loaded_is (Jump to) is = any_value b (ground.limits)
-  loaded_is (Call to) is = any_value b (ground.limits)
-  loaded_is Ret is = any_value b (ground.limits)
-  loaded_is Rfe is = any_value b (ground.limits)
-  loaded_is Svlcx is = any_value b (ground.limits)
-  loaded_is Rslcx is = any_value b (ground.limits)
-  loaded_is (Bisr mask) is = any_value b (ground.limits)
-  loaded_is Enable is = any_value b (ground.limits)
-  loaded_is Disable is = any_value b (ground.limits)
-  loaded_is (Syscall tin) is = any_value b (ground.limits)
-  loaded_is (Mfcr dst number) is = any_value b (ground.limits)
-  loaded_is (Mtcr src number) is = any_value b (ground.limits)
-  loaded_is Nothing is = any_value b (ground.limits)
+  loaded_is _ is = any_value b (ground.limits)
 
-  next_proper : (shape : Shape) (n : ℕ) → IsShape shape → HasRoom b shape s → AreProperIn b (next_of b image plan p s shape n)
-  next_proper shape n is room =
+  next_proper : (shape : Shape) → IsShape shape → HasRoom b shape s → IsProper b (transfer_of b plan shape s (loaded_at b image plan s shape))
+  next_proper shape is room =
       let h = transfer_setting b plan s set shape (loaded_at b image plan s shape) is (loaded_is shape is) in
-      one_proper b _ (record { regs = h.regs; values = h.values; few = transfer_locals b plan s set shape (loaded_at b image plan s shape) room proper.few })
-
-  side_proper : (q : ℕ) (o : Option State) → ((t : State) → o ≡ Some t → IsProper b t) → AreProperIn b (jump_on q o)
-  side_proper q None h = none_proper b
-  side_proper q (Some t) h = one_proper b (owed 4 (jump q t)) (h t refl)
+      record { regs = h.regs; values = h.values; few = transfer_locals b plan s set shape (loaded_at b image plan s shape) room proper.few }
 
   branch_proper : (test : Cond) (x : ℕ) (y : Arg) (by : ℕ) (lowers side : Bool) → IsShape (Branch test x y by lowers) → (t : State) → refine_of b plan (Branch test x y by lowers) s side ≡ Some t → IsProper b t
   branch_proper test x y by lowers side is t e =
       let h = (branch_grows b plan s s test x y by lowers side set set (covers_same s) is t e).0 in
       record { regs = h.regs; values = h.values; few = omega (arith, ap length (kept_locals s t _ (branch_locals b plan s test x y by lowers side) e), proper.few) }
 
-  back_proper : (rule : ℕ) (k : Key) (u : State) (q : ℕ) → IsProper b u → AreProperIn b (entered_and_back rule k u q)
-  back_proper rule k u q h = both_proper b (owed rule (enter k u) ∷ []) (owed 4 (resume k q) ∷ []) (one_proper b _ h) (one_proper b _ tt)
-
-  successors_proper : (shape : Shape) (n : ℕ) → IsShape shape → HasRoom b shape s → AreProperIn b (successors_of b image plan p s shape n)
-  successors_proper (Compute op dst x y) n is room = next_proper (Compute op dst x y) n is room
-  successors_proper (Scaled dst base index k) n is room = next_proper (Scaled dst base index k) n is room
-  successors_proper (Load dst base offset size signed after) n is room = next_proper (Load dst base offset size signed after) n is room
-  successors_proper (Store src base offset size after) n is room = next_proper (Store src base offset size after) n is room
-  successors_proper (Branch test x y by lowers) n is room = both_proper b _ _ (side_proper (moved p n) _ (branch_proper test x y by lowers false is)) (side_proper (moved p by) _ (branch_proper test x y by lowers true is))
-  successors_proper (Jump to) n is room = map_proper b _ _ (λ q i. proper)
-  successors_proper (Call to) n is room = none_proper b
-  successors_proper Ret n is room = none_proper b
-  successors_proper Rfe n is room = none_proper b
-  successors_proper Svlcx n is room = next_proper Svlcx n is room
-  successors_proper Rslcx n is room = next_proper Rslcx n is room
-  successors_proper (Bisr mask) n is room = next_proper (Bisr mask) n is room
-  successors_proper Enable n is room = next_proper Enable n is room
-  successors_proper Disable n is room = next_proper Disable n is room
-  successors_proper (Syscall tin) n is room = none_proper b
-  successors_proper (Mfcr dst number) n is room = next_proper (Mfcr dst number) n is room
-  successors_proper (Mtcr src number) n is room = none_proper b
-  successors_proper Nothing n is room = next_proper Nothing n is room
-
-  entries_proper : (shape : Shape) (n : ℕ) → IsShape shape → AreProperIn b (entries_of plan key p s shape n)
-  entries_proper (Compute op dst x y) n is = none_proper b
-  entries_proper (Scaled dst base index k) n is = none_proper b
-  entries_proper (Load dst base offset size signed after) n is = none_proper b
-  entries_proper (Store src base offset size after) n is = none_proper b
-  entries_proper (Branch test x y by lowers) n is = none_proper b
-  entries_proper (Jump to) n is = none_proper b
-  entries_proper (Call to) n is = flat_proper b (λ q. entered_and_back 5 (call_key key q) (call_entry s) (moved p n)) (unwrap_or (targets_of plan s p to) []) (λ q. back_proper 5 (call_key key q) (call_entry s) (moved p n) call_proper)
-  entries_proper Ret n is = none_proper b
-  entries_proper Rfe n is = none_proper b
-  entries_proper Svlcx n is = none_proper b
-  entries_proper Rslcx n is = none_proper b
-  entries_proper (Bisr mask) n is = none_proper b
-  entries_proper Enable n is = none_proper b
-  entries_proper Disable n is = none_proper b
-  entries_proper (Syscall tin) n is = back_proper 12 (sys_key plan key) (sys_entry plan key s tin) (moved p n) (sys_proper tin is)
-  entries_proper (Mfcr dst number) n is = none_proper b
-  entries_proper (Mtcr src number) n is = none_proper b
-  entries_proper Nothing n is = none_proper b
-
-  access_proper : (v : Val) (size : ℕ) → AreProperIn b (misaligned_at plan key s v size)
-  access_proper v size = elim (cases_Bool (are_aligned v size)) [ inl e ↦ rw e (none_proper b) | inr e ↦ rw e (one_proper b _ aln_proper) ]
-
-  misaligned_proper : (shape : Shape) → AreProperIn b (misaligned_of b plan key s shape)
-  misaligned_proper (Compute op dst x y) = none_proper b
-  misaligned_proper (Scaled dst base index k) = none_proper b
-  misaligned_proper (Load dst base offset size signed after) = access_proper (address_of b plan (Load dst base offset size signed after) s) size
-  misaligned_proper (Store src base offset size after) = access_proper (address_of b plan (Store src base offset size after) s) size
-  misaligned_proper (Branch test x y by lowers) = none_proper b
-  misaligned_proper (Jump to) = none_proper b
-  misaligned_proper (Call to) = none_proper b
-  misaligned_proper Ret = none_proper b
-  misaligned_proper Rfe = none_proper b
-  misaligned_proper Svlcx = none_proper b
-  misaligned_proper Rslcx = none_proper b
-  misaligned_proper (Bisr mask) = none_proper b
-  misaligned_proper Enable = none_proper b
-  misaligned_proper Disable = none_proper b
-  misaligned_proper (Syscall tin) = none_proper b
-  misaligned_proper (Mfcr dst number) = none_proper b
-  misaligned_proper (Mtcr src number) = none_proper b
-  misaligned_proper Nothing = none_proper b
-
-  leavings_proper : (shape : Shape) → AreProperIn b (leavings_of key s shape)
-  leavings_proper (Compute op dst x y) = none_proper b
-  leavings_proper (Scaled dst base index k) = none_proper b
-  leavings_proper (Load dst base offset size signed after) = none_proper b
-  leavings_proper (Store src base offset size after) = none_proper b
-  leavings_proper (Branch test x y by lowers) = none_proper b
-  leavings_proper (Jump to) = none_proper b
-  leavings_proper (Call to) = none_proper b
-  leavings_proper Ret = one_proper b _ (exit_proper b s proper)
-  leavings_proper Rfe = elim (cases_Bool (eqb key.kind 3)) [ inl e ↦ rw e (one_proper b _ (exit_proper b s proper)) | inr e ↦ rw e (none_proper b) ]
-  leavings_proper Svlcx = none_proper b
-  leavings_proper Rslcx = none_proper b
-  leavings_proper (Bisr mask) = none_proper b
-  leavings_proper Enable = none_proper b
-  leavings_proper Disable = none_proper b
-  leavings_proper (Syscall tin) = none_proper b
-  leavings_proper (Mfcr dst number) = none_proper b
-  leavings_proper (Mtcr src number) = none_proper b
-  leavings_proper Nothing = none_proper b
-
-  pub duties_proper_of : (shape : Shape) (n : ℕ) → IsShape shape → HasRoom b shape s → AreProperIn b (duties_of b image plan key p s shape n)
-  unfolding duties_of
-  duties_proper_of shape n is room =
-      both_proper b _ _
-      (both_proper b _ _ (both_proper b _ _ (both_proper b _ _ (successors_proper shape n is room) (entries_proper shape n is)) (misaligned_proper shape))
-      (map_proper b _ _ (λ q i. handler_proper q)))
-      (leavings_proper shape)
+  proper_by : (shape : Shape) (n : ℕ) (d : Owed) → IsShape shape → HasRoom b shape s → DutyAt b image plan key p s n shape d → IsProperDuty b d.duty
+  proper_by _ n _ is room (next shape e) = next_proper shape is room
+  proper_by _ n _ is room (straight test x y by lowers t e) = branch_proper test x y by lowers false is t e
+  proper_by _ n _ is room (taken test x y by lowers t e) = branch_proper test x y by lowers true is t e
+  proper_by _ n _ is room (target to q c) = proper
+  proper_by _ n _ is room (called to q c) = call_proper
+  proper_by _ n _ is room (called_back to q c) = tt
+  proper_by _ n _ is room (system tin) = sys_proper tin is
+  proper_by _ n _ is room (system_back tin) = tt
+  proper_by _ n _ is room (misaligned shape size e f) = aln_proper
+  proper_by _ n _ is room (interrupt shape q c) = handler_proper q
+  proper_by _ n _ is room _ = exit_proper b s proper
 
 pub duties_proper : DutiesAreProper
 duties_proper b image plan key p s shape n d ground proper faultless code c =
-    duties_proper_of b image plan key p s ground proper shape n (IsCode-bounded image plan p shape n code) (((faultless 8).own shape n code).room refl) d c
+    proper_by b image plan key p s ground proper shape n d (IsCode-bounded image plan p shape n code) (((faultless 8).own shape n code).room refl) (duty_at b image plan key p s n shape d c)

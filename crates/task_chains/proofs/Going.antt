@@ -164,23 +164,7 @@ module _ {image : ImageData} {plan : PlanData} {tasks : TasksData} {certs : ℕ 
         view_store_gone wd.ok tasks wd.are wd.fit u mem of.memory (access_address m base offset after) width (reg m src) some range,
         store_keeps wd.ok tasks wd.are wd.fit u m.mem (access_address m base offset after) width (reg m src) some range,
       )
-  store_is (Compute op dst x y) size h = tt
-  store_is (Scaled dst base index j) size h = tt
-  store_is (Load dst base offset width signed after) size h = tt
-  store_is (Branch test x y by lowers) size h = tt
-  store_is (Jump target) size h = tt
-  store_is (Call target) size h = tt
-  store_is Ret size h = tt
-  store_is Rfe size h = tt
-  store_is Svlcx size h = tt
-  store_is Rslcx size h = tt
-  store_is (Bisr c) size h = tt
-  store_is Enable size h = tt
-  store_is Disable size h = tt
-  store_is (Syscall tin) size h = tt
-  store_is (Mfcr dst number) size h = tt
-  store_is (Mtcr src number) size h = tt
-  store_is Nothing size h = tt
+  store_is _ size h = tt
 
   module _ (none : is_taken m e ≡ false) (same : HasCodeOf image (view_image_of image tasks u) m.pc p.size) where
     here : fetched m ≡ Ok (p.shape, p.size)
@@ -333,23 +317,7 @@ module _ {image : ImageData} {plan : PlanData} {tasks : TasksData} {certs : ℕ 
             let s = view_store wd.ok tasks wd.are wd.fit u x width some range in
             subst (λ t. IfSome (cond t None (Some (x, width))) (IsTaskStore plan tasks m.pc)) (sym none) (s.0, λ out. s.1)
       ]
-  store_by (Compute op dst x y) size h = tt
-  store_by (Scaled dst base index j) size h = tt
-  store_by (Load dst base offset width signed after) size h = tt
-  store_by (Branch test x y by lowers) size h = tt
-  store_by (Jump target) size h = tt
-  store_by (Call target) size h = tt
-  store_by Ret size h = tt
-  store_by Rfe size h = tt
-  store_by Svlcx size h = tt
-  store_by Rslcx size h = tt
-  store_by (Bisr c) size h = tt
-  store_by Enable size h = tt
-  store_by Disable size h = tt
-  store_by (Syscall tin) size h = tt
-  store_by (Mfcr dst number) size h = tt
-  store_by (Mtcr src number) size h = tt
-  store_by Nothing size h = tt
+  store_by _ size h = tt
 
   -- they are in range and miss the block
   pub goes_store : (IsInRoutine tasks m.pc → m.pc ≤ tasks.switch + 4) → IfSome (stored m e) (IsTaskStore plan tasks m.pc)

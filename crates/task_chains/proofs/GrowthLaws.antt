@@ -35,23 +35,7 @@ module _ (b : Limits) (p : PlanData) (s t : State) (low : IsSetting b p s) (high
   loads_shrink tasks (Load dst base offset size signed after) is h =
       let below = access_grows b p s t low high c base offset after is.1 is.2 in
       ((λ x m. h.0 x (below x m)), (λ x m. h.1 x (below x m)))
-  loads_shrink tasks (Compute op dst x y) is h = h
-  loads_shrink tasks (Scaled dst base index n) is h = h
-  loads_shrink tasks (Store src base offset size after) is h = h
-  loads_shrink tasks (Branch test x y by lowers) is h = h
-  loads_shrink tasks (Jump to) is h = h
-  loads_shrink tasks (Call to) is h = h
-  loads_shrink tasks Ret is h = h
-  loads_shrink tasks Rfe is h = h
-  loads_shrink tasks Svlcx is h = h
-  loads_shrink tasks Rslcx is h = h
-  loads_shrink tasks (Bisr n) is h = h
-  loads_shrink tasks Enable is h = h
-  loads_shrink tasks Disable is h = h
-  loads_shrink tasks (Syscall tin) is h = h
-  loads_shrink tasks (Mfcr dst number) is h = h
-  loads_shrink tasks (Mtcr src number) is h = h
-  loads_shrink tasks Nothing is h = h
+  loads_shrink tasks _ is h = h
 
   apart_shrinks : (tasks : TasksData) (key : Key) (at : ℕ) (shape : Shape) → IsShape shape → StaysApart b p tasks key at t shape → StaysApart b p tasks key at s shape
   apart_shrinks tasks key at shape is h = record { inside = h.inside; at = h.at; loads = loads_shrink tasks shape is h.loads; links = h.links; level = h.level }

@@ -108,23 +108,7 @@ module _ (image : ImageData) (plan : PlanData) (ok : IsPlan plan) (cert : CertDa
       let bounded = IsCode-bounded image plan v.pc (Load dst base offset size signed after) n code in
       let setting : IsSetting (limits_in plan cert) plan s = record { limits = limits_are plan cert.version; plan = ok; regs = regs; values = values } in
       rw (address-is v base offset after) (address_holds.load (limits_in plan cert) plan dst base offset size signed after s (reg v) v.ie v.ccpn setting bounded.1 bounded.2 inside)
-  load_at v s (Compute op dst x y) n code regs values inside = tt
-  load_at v s (Scaled dst base index j) n code regs values inside = tt
-  load_at v s (Store src base offset size after) n code regs values inside = tt
-  load_at v s (Branch test x y by lowers) n code regs values inside = tt
-  load_at v s (Jump target) n code regs values inside = tt
-  load_at v s (Call target) n code regs values inside = tt
-  load_at v s Ret n code regs values inside = tt
-  load_at v s Rfe n code regs values inside = tt
-  load_at v s Svlcx n code regs values inside = tt
-  load_at v s Rslcx n code regs values inside = tt
-  load_at v s (Bisr c) n code regs values inside = tt
-  load_at v s Enable n code regs values inside = tt
-  load_at v s Disable n code regs values inside = tt
-  load_at v s (Syscall tin) n code regs values inside = tt
-  load_at v s (Mfcr dst number) n code regs values inside = tt
-  load_at v s (Mtcr src number) n code regs values inside = tt
-  load_at v s Nothing n code regs values inside = tt
+  load_at v s _ n code regs values inside = tt
 
   by_point : (v : Machine) (key : Key) (node : NodeData) (point : Point) → find_node key cert.nodes ≡ Some node → find_point v.pc node.points ≡ Some point → InState plan v point.state → PointOf plan image cert tasks v key
   by_point v key node point found at inside =

@@ -199,42 +199,10 @@ module _ {plan : PlanData} (ok : IsPlan plan) (tasks : TasksData) (are : AreTask
       where
         input_lt : (shape : Shape) → IsShape shape → input_for m e shape < 2 ^ 32
         input_lt (Load dst base offset width signed after) is = load_lt m.mem (k.words).bytes false e.input (access_address m base offset after) width is
-        input_lt (Compute op dst x y) is = fits.input
-        input_lt (Scaled dst base index j) is = fits.input
-        input_lt (Store src base offset width after) is = fits.input
-        input_lt (Branch test x y by lowers) is = fits.input
-        input_lt (Jump target) is = fits.input
-        input_lt (Call target) is = fits.input
-        input_lt Ret is = fits.input
-        input_lt Rfe is = fits.input
-        input_lt Svlcx is = fits.input
-        input_lt Rslcx is = fits.input
-        input_lt (Bisr c) is = fits.input
-        input_lt Enable is = fits.input
-        input_lt Disable is = fits.input
-        input_lt (Syscall tin) is = fits.input
-        input_lt (Mfcr dst number) is = fits.input
-        input_lt (Mtcr src number) is = fits.input
-        input_lt Nothing is = fits.input
+        input_lt _ is = fits.input
 
         by_shape : (shape : Shape) → AnswersLoad plan e.input (load_in m (Ok (shape, size))) → AnswersLoad (view_plan_of plan tasks u) (input_for m e shape) (load_in v (Ok (shape, size)))
         by_shape (Load dst base offset width signed after) own =
             λ four. subst (λ w. AnswersAt (access_address v base offset after) (load_number m.mem e.input (access_address m base offset after) w) (view_devices plan tasks)) (sym four)
             (subst (λ x. AnswersAt x (load_number m.mem e.input (access_address m base offset after) 4) (view_devices plan tasks)) (sym (address-same m mem pcxi fcx e e base offset after)) (answered (access_address m base offset after) (own four)))
-        by_shape (Compute op dst x y) own = tt
-        by_shape (Scaled dst base index j) own = tt
-        by_shape (Store src base offset width after) own = tt
-        by_shape (Branch test x y by lowers) own = tt
-        by_shape (Jump target) own = tt
-        by_shape (Call target) own = tt
-        by_shape Ret own = tt
-        by_shape Rfe own = tt
-        by_shape Svlcx own = tt
-        by_shape Rslcx own = tt
-        by_shape (Bisr c) own = tt
-        by_shape Enable own = tt
-        by_shape Disable own = tt
-        by_shape (Syscall tin) own = tt
-        by_shape (Mfcr dst number) own = tt
-        by_shape (Mtcr src number) own = tt
-        by_shape Nothing own = tt
+        by_shape _ own = tt

@@ -295,22 +295,7 @@ module _ {image : ImageData} {plan : PlanData} (ok : IsPlan plan) {tasks : Tasks
       ends_by : (shape : Shape) → LocalRule (limits_in plan2 cert) plan2 (r.frame).key v.pc view_point.state shape 6 → LocalRule (limits_in plan2 cert) plan2 (r.frame).key v.pc view_point.state shape 7 → EndsBy (r.frame).key shape
       ends_by Ret o6 o7 = (o6.returns refl).0
       ends_by Rfe o6 o7 = λ is. elim (o7.exceptions refl).1 [ inl k ↦ elim k.0 [ inl two ↦ absurd (omega arith) | inr four ↦ absurd (omega arith) ] | inr three ↦ absurd (omega arith) ]
-      ends_by (Compute op dst x y) o6 o7 = tt
-      ends_by (Scaled dst base index j) o6 o7 = tt
-      ends_by (Load dst base offset width signed after) o6 o7 = tt
-      ends_by (Store src base offset width after) o6 o7 = tt
-      ends_by (Branch test x y by lowers) o6 o7 = tt
-      ends_by (Jump target) o6 o7 = tt
-      ends_by (Call target) o6 o7 = tt
-      ends_by Svlcx o6 o7 = tt
-      ends_by Rslcx o6 o7 = tt
-      ends_by (Bisr c) o6 o7 = tt
-      ends_by Enable o6 o7 = tt
-      ends_by Disable o6 o7 = tt
-      ends_by (Syscall tin) o6 o7 = tt
-      ends_by (Mfcr dst number) o6 o7 = tt
-      ends_by (Mtcr src number) o6 o7 = tt
-      ends_by Nothing o6 o7 = tt
+      ends_by _ o6 o7 = tt
 
       -- by its instruction
       pub view_run_step : IsPlanMemory (view_plan_of plan tasks u) v.mem → is_taken v e ≡ false → AreFirst tasks (frames_left (frames_after v e (r.frame ∷ r.behind))) → NextRun image plan tasks u (step v e) (frames_after v e (r.frame ∷ r.behind))

@@ -86,23 +86,7 @@ fetched_there image ok m even c =
 -- ---- what a step stores
 store_hidden : (cells : List Cell) (m : Machine) (e : Event) (shape : Shape) (n : ℕ) → store_in (hidden cells m) (heard_in cells m e (load_in m (Ok (shape, n)))) (Ok (shape, n)) ≡ store_in m e (Ok (shape, n))
 store_hidden cells m e (Store src base offset size after) n = ap (λ x. cond (traps_at e x size) None (Some (x, size))) (address-hidden cells m base offset after)
-store_hidden cells m e (Load dst base offset size signed after) n = refl
-store_hidden cells m e (Compute op dst x y) n = refl
-store_hidden cells m e (Scaled dst base index k) n = refl
-store_hidden cells m e (Branch c x y by lowers) n = refl
-store_hidden cells m e (Jump to) n = refl
-store_hidden cells m e (Call to) n = refl
-store_hidden cells m e Ret n = refl
-store_hidden cells m e Rfe n = refl
-store_hidden cells m e Svlcx n = refl
-store_hidden cells m e Rslcx n = refl
-store_hidden cells m e (Bisr c) n = refl
-store_hidden cells m e Enable n = refl
-store_hidden cells m e Disable n = refl
-store_hidden cells m e (Syscall tin) n = refl
-store_hidden cells m e (Mfcr dst number) n = refl
-store_hidden cells m e (Mtcr src number) n = refl
-store_hidden cells m e Nothing n = refl
+store_hidden cells m e _ n = refl
 
 stored_same : (cells : List Cell) (m : Machine) (e : Event) (shape : Shape) (n : ℕ) → fetched m ≡ Ok (shape, n) → fetched (hidden cells m) ≡ Ok (shape, n) → stored (hidden cells m) (heard_event cells m e) ≡ stored m e
 unfolding stored
@@ -224,23 +208,7 @@ module _ (image : ImageData) {plan : PlanData} (ok : IsPlan plan) (cells : List 
         let range : IfSome (stored m e) (IsStoreInRange other) = subst (λ o. IfSome o (IsStoreInRange other)) (stored_same cells m e (Store src base offset size after) n h t) (safe2).stores_in_range in
         let range2 : IsStoreInRange other (x, size) = subst (λ o. IfSome o (IsStoreInRange other)) there_is range in
         (range2.0, reg_lt m b.words src, written_keeps (reg_of other s src) size x (reg m src) cells (((point).inside).regs src is.0) (keeps (point).node (point).point (point).in_cert (point).in_node (Store src base offset size after) n c x in_it))
-    store_keeps (Load dst base offset size signed after) n none h t is c = tt
-    store_keeps (Compute op dst x y) n none h t is c = tt
-    store_keeps (Scaled dst base index k) n none h t is c = tt
-    store_keeps (Branch q x y by lowers) n none h t is c = tt
-    store_keeps (Jump to) n none h t is c = tt
-    store_keeps (Call to) n none h t is c = tt
-    store_keeps Ret n none h t is c = tt
-    store_keeps Rfe n none h t is c = tt
-    store_keeps Svlcx n none h t is c = tt
-    store_keeps Rslcx n none h t is c = tt
-    store_keeps (Bisr q) n none h t is c = tt
-    store_keeps Enable n none h t is c = tt
-    store_keeps Disable n none h t is c = tt
-    store_keeps (Syscall tin) n none h t is c = tt
-    store_keeps (Mfcr dst number) n none h t is c = tt
-    store_keeps (Mtcr src number) n none h t is c = tt
-    store_keeps Nothing n none h t is c = tt
+    store_keeps _ n none h t is c = tt
 
     -- the machines go on beside each other
     pub beside_next : GoesBeside (step m e) (frames_after (hidden cells m) (heard_event cells m e) fs)

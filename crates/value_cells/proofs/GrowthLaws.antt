@@ -36,23 +36,7 @@ module _ (b : Limits) (p : PlanData) (s t : State) (low : IsSetting b p s) (high
       λ x m i d lt touches.
       let kept = h x (access_grows b p s t low high c base offset after is.1 is.2 x m) i d lt touches in
       record { word = kept.word; at = kept.at; bounds = λ w in_it. kept.bounds w (value_grows b p s t low high c src (slot src) refl w in_it) }
-  keeps_shrinks cells (Compute op dst x y) is h = h
-  keeps_shrinks cells (Scaled dst base index n) is h = h
-  keeps_shrinks cells (Load dst base offset size signed after) is h = h
-  keeps_shrinks cells (Branch test x y by lowers) is h = h
-  keeps_shrinks cells (Jump to) is h = h
-  keeps_shrinks cells (Call to) is h = h
-  keeps_shrinks cells Ret is h = h
-  keeps_shrinks cells Rfe is h = h
-  keeps_shrinks cells Svlcx is h = h
-  keeps_shrinks cells Rslcx is h = h
-  keeps_shrinks cells (Bisr n) is h = h
-  keeps_shrinks cells Enable is h = h
-  keeps_shrinks cells Disable is h = h
-  keeps_shrinks cells (Syscall tin) is h = h
-  keeps_shrinks cells (Mfcr dst number) is h = h
-  keeps_shrinks cells (Mtcr src number) is h = h
-  keeps_shrinks cells Nothing is h = h
+  keeps_shrinks cells _ is h = h
 
 -- ---- the law
 module _ (image : ImageData) (plan : PlanData) (cells : List Cell) (lower upper : CertData) (ok : IsPlan plan) (low_cert : IsCert lower) (up_cert : IsCert upper) (same : lower.version ≡ upper.version)
