@@ -23,3 +23,4 @@ pub mod LocalLaws
 pub mod RomTests
 pub mod EntryChanges
 pub mod StepChanges
+pub mod RefusalLaws

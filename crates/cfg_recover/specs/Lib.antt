@@ -15,3 +15,4 @@ pub mod Moves
 pub mod Local
 pub mod LocalFaults
 pub mod Refusals
+pub mod RefusalLaws

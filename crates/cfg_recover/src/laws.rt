@@ -2,6 +2,7 @@
 ghost use Rattle.cfg_recover.specs.FaultLaws.{FirstFaultsSay, NeedSays};
 ghost use Rattle.cfg_recover.specs.FrameLaws.{EdgesAre, FramesAre, HeldFramesSay, OwedEdgesSay};
 ghost use Rattle.cfg_recover.specs.Moves.{CallsOwed, InterruptsOwed, MovesInFrame, StoresHeld, TrapsOwed};
+ghost use Rattle.cfg_recover.specs.RefusalLaws.{RefusalsSay};
 
 /// A machine at a point without a fault of its own, whose registers lie in the point's state, goes where the point owes a jump
 /// (and its registers lie in that state), a call's entry, an interrupt's or a trap's, and its stores are in range.
@@ -27,4 +28,9 @@ pub fn frame_laws()
 pub fn fault_laws()
     ensures first { FirstFaultsSay }
     ensures need { NeedSays }
+{}
+
+/// What a refusal to make a certificate names: a rule and the very place where it fails.
+pub fn refusal_laws()
+    ensures { RefusalsSay }
 {}

@@ -31,6 +31,6 @@ pub use flow_targets::{direct_target, targets};
 pub use flows::{Enter, Flow, Jump, Leave};
 pub use keys::{aln_key, entered_key, irq_key, start_key, sys_key};
 pub use known_codes::KnownCodes;
-pub use laws::{fault_laws, frame_laws, move_laws};
+pub use laws::{fault_laws, frame_laws, move_laws, refusal_laws};
 pub use local::{Located, check_located, local_check};
 pub use start::start_state;
