@@ -12,3 +12,4 @@ pub mod MakingLaws
 pub mod GraphReports
 pub mod TasksReports
 pub mod TaskcertReports
+pub mod Headlines

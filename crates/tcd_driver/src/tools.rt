@@ -1,6 +1,7 @@
 // The tool.
 ghost use Rattle.std.specs.Prelude.{map, string_bytes, IsNone, IfSome, IfNone, ◌≡◌};
 ghost use Rattle.tcd_driver.specs.Commands.{command, reading_of};
+ghost use Rattle.tcd_driver.specs.Headlines.{ToolSays};
 ghost use Rattle.tcd_driver.specs.Tool.{EndsWithBadWords};
 ghost use Rattle.tcd_reading.specs.Endings.{Ends};
 
@@ -36,6 +37,8 @@ pub fn tool<F: Files, S: Sink>(
     ensures command { IfSome (command (map string_bytes words.now))
         (λ c. Ends (reading_of c) (F.seen files.old) (F.seen files.new) (S.seen out.old)
         (S.seen out.new) result) }
+    ensures says { ToolSays (map string_bytes words.now) (F.seen files.old) (F.seen files.new)
+        (S.seen out.old) (S.seen out.new) result }
 {
     match asked_command(alloc, words) {
         Some(command) => {

@@ -2,6 +2,7 @@ use Rattle.std.proofs.Common.{sym}
 use Rattle.tcd_driver.specs.Commands.{asked}
 use Rattle.tcd_driver.proofs.Words.{if_some_by}
 use Rattle.tcd_reading.proofs.Endings.{ends}
+use Rattle.tcd_driver.proofs.Headlines.{tool_says}
 use Rattle.tcd_driver.proofs.CommandLaws.{command_decided}
 use Rattle.tcd_driver.proofs.tools.tool.Goals as goal
 
@@ -10,3 +11,7 @@ returns-in-Some-clause-bad_words g c = λ e. absurd ((ends _ _ _ _ _ _ _ _ (comm
 
 pub returns-in-Some-clause-command : goal.returns-in-Some-clause-command
 returns-in-Some-clause-command g c = if_some_by _ _ _ (sym c.in-Some.ensures.is) (ends _ _ _ _ _ _ _ _ (command_decided (asked c.in-Some.command)) c.outcome-outcome.ensures c.finish.ensures)
+
+pub returns-in-Some-clause-says : goal.returns-in-Some-clause-says
+returns-in-Some-clause-says g c =
+    tool_says _ _ _ _ _ _ (if_some_by _ _ _ (sym c.in-Some.ensures.is) (ends _ _ _ _ _ _ _ _ (command_decided (asked c.in-Some.command)) c.outcome-outcome.ensures c.finish.ensures))
