@@ -1,5 +1,5 @@
 -- What the commands that make a certificate report.
-use Rattle.std.proofs.Common.{◌≡◌, ◌≢◌, ◌≤◌, ◌-◌, ◌^◌, ℕ, List, [], length, Result, Ok, sym, ap, subst, ◌∙◌}
+use Rattle.std.proofs.Common.{◌≡◌, ◌≢◌, ◌≤◌, ◌-◌, ◌^◌, ℕ, List, [], length, Result, Ok, Err, sym, ap, subst, ◌∙◌}
 use Rattle.elf_image.specs.Images.{ImageData}
 use Rattle.tcd_plan.specs.PlanData.{PlanData}
 use Rattle.depth_cert.specs.Certs.{CertData, IsCert}
@@ -8,7 +8,9 @@ use Rattle.depth_cert.proofs.BackLaws.{written_is_read}
 use Rattle.depth_cert.proofs.SizeLaws.{cert_most}
 use Rattle.tcd_base.specs.declared.errors.FormErr.{FormErr}
 use Rattle.tc_machine.specs.Safe.{Safe}
-use Rattle.cfg_recover.specs.Accepting.{Accepts, certified_need}
+use Rattle.cfg_recover.specs.Accepting.{Accepts, IsFirstFault, certified_need}
+use Rattle.cfg_recover.proofs.FaultLaws.{fails_refutes}
+use Rattle.depth_cert.specs.declared.keys.Key.{Key}
 use Rattle.depth_maker.specs.Making.{NoneAccepted}
 use Rattle.tcd_reading.specs.Reports.{Report, writes_file}
 use Rattle.tcd_forms.specs.Lines.{certified_line}
@@ -70,6 +72,18 @@ certifying_report name i fields p bytes need r same s e =
 pub best_accepted : (i : ImageData) (p : PlanData) (c : CertData) → IsBest i p c → Accepts i p c
 best_accepted i p c (first m) = m.accepted
 best_accepted i p c (second none m) = m.accepted
+
+ok_or_err : (r : Result CertData FormErr) (x : CertData) (f : FormErr) → r ≡ Ok x → r ≡ Err f → ⊥
+ok_or_err r x f e g = cc
+
+-- bytes that spell a certificate are read
+pub best_is_read : (i : ImageData) (p : PlanData) (bytes : List ℕ) (f : FormErr) → SpellBest i p bytes → certificate_of bytes ≡ Err f → ⊥
+best_is_read i p bytes f s bad = ok_or_err (certificate_of bytes) s.cert f (ap certificate_of s.spell ∙ written_is_read s.cert s.is_cert) bad
+
+-- and the one that is read isn't refused
+pub best_has_no_fault : (i : ImageData) (p : PlanData) (bytes : List ℕ) (c : CertData) (rule : ℕ) (key : Key) (addr : ℕ) → SpellBest i p bytes → certificate_of bytes ≡ Ok c → IsFirstFault i p c rule key addr → ⊥
+best_has_no_fault i p bytes c rule key addr s read told =
+    fails_refutes i p c rule key addr told.fails (subst (Accepts i p) (same_cert (certificate_of bytes) s.cert c (ap certificate_of s.spell ∙ written_is_read s.cert s.is_cert) read) (best_accepted i p s.cert s.best))
 
 module _ (name : List ℕ) (i : ImageData) (p : PlanData) where
   certifying_words : (r : Report) → IsCertifying name i p r → r.status ≡ BadWords → ⊥

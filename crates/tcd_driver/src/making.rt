@@ -2,7 +2,7 @@
 ghost use Rattle.depth_maker.specs.Making.{NoneAccepted};
 ghost use Rattle.tcd_driver.specs.Made.{Makes, SpellBest};
 
-use depth_cert::Key;
+use depth_cert::{CertErr, Key};
 use depth_check::{Verdict, check_packed};
 use depth_maker::{MakeErr, make_bytes};
 use elf_image::Image;
@@ -27,14 +27,15 @@ fn checked(alloc: Global, image: &Image, plan: &Plan, bytes: Vec<u8>) -> Making
 {
     let cert = match PackedCert::read(alloc, bytes) {
         Ok(cert) => cert,
-        Err(_) => return Making::NoMemory,
+        Err(CertErr::NoMemory) => return Making::NoMemory,
+        Err(CertErr::Bad(_)) => unreachable!(),
     };
     match check_packed(image, plan, &cert) {
         Verdict::Yes(need) => Making::Certified {
             bytes: cert.into_bytes(),
             need,
         },
-        Verdict::No { .. } => Making::NoMemory,
+        Verdict::No { .. } => unreachable!(),
     }
 }
 
