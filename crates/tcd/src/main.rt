@@ -2,24 +2,29 @@
 #![tactic(auto)]
 
 use std::process::ExitCode;
-use std::{env, io};
+use std::{env, io, rt};
 use tcd_driver::tool;
 use tcd_reading::Status;
 use tcd_real::{RealFiles, Stdout};
 
+#[cfg(test)]
+mod tests;
+
 fn main(rt: HostRuntime) -> ExitCode {
     match words(&rt) {
-        Ok(words) => {
-            let mut files = RealFiles { rt: &rt, failed: 0 };
-            let mut out = Stdout { rt: &rt, failed: 0 };
-            let status = tool(rt.alloc(), &words, &mut files, &mut out);
-            ExitCode::from(u8::from(status))
-        }
+        Ok(words) => ExitCode::from(number_of(&rt, &words)),
         Err(e) => match e.kind() {
             io::ErrorKind::OutOfMemory => ExitCode::from(u8::from(Status::NoMemory)),
             _ => ExitCode::from(u8::from(Status::Fault)),
         },
     }
+}
+
+// The exit status of the words behind the program's name, over the system's files and standard output.
+fn number_of<R: rt::Files + Print + AllocGlobal>(rt: &R, words: &[String]) -> u8 {
+    let mut files = RealFiles { rt, failed: 0 };
+    let mut out = Stdout { rt, failed: 0 };
+    u8::from(tool(rt.alloc(), words, &mut files, &mut out))
 }
 
 // The words after the program's name.

@@ -51,3 +51,28 @@ fn standard_output_takes_a_text(rt: HostRuntime) -> Result<(), Fail> {
     same(&rt, &out.failed, &0);
     Ok(())
 }
+
+// A file of more bytes than one call of the system gives, none of whose blocks is like another, and one of exactly two such blocks.
+#[test]
+fn a_long_file_is_read_back(rt: HostRuntime) -> Result<(), Fail> {
+    let name = "tcd_adapter_long_test";
+    let mut files = RealFiles { rt: &rt, failed: 0 };
+    let mut bytes = Vec::new(rt.alloc());
+    for i in 0..10000u32 {
+        bytes.push(((i + i / 251) % 256) as u8)?;
+    }
+    files.write(rt.alloc(), name, &bytes)?;
+    let whole = files.read(rt.alloc(), name, 10000);
+    let cut = files.read(rt.alloc(), name, 9999);
+    let far_cut = files.read(rt.alloc(), name, 4096);
+    let front = bytes.get(..8192).ok_or("too few")?;
+    files.write(rt.alloc(), name, front)?;
+    let blocks = files.read(rt.alloc(), name, 8192);
+    fs::remove_file(&rt, name)?;
+    same(&rt, &whole?.as_slice(), &bytes.as_slice());
+    same(&rt, &cut.err(), &Some(FileErr::TooLong));
+    same(&rt, &far_cut.err(), &Some(FileErr::TooLong));
+    same(&rt, &blocks?.as_slice(), &front);
+    same(&rt, &files.failed, &0);
+    Ok(())
+}
