@@ -1,7 +1,9 @@
 -- Readers: one more.
-use Rattle.std.proofs.Common.{◌≡◌, ◌⊎◌, inl, inr, List, [], ◌∷◌, ◌++◌, Option, Some, sym, ap, subst, ◌∙◌, Contains}
-use Rattle.std.specs.Prelude.{if◌then◌else◌}
+use Rattle.std.proofs.Common.{◌≡◌, ◌⊎◌, inl, inr, List, [], ◌∷◌, ◌++◌, Option, Some, refl, sym, ap, subst, ◌∙◌, Contains}
+use Rattle.std.specs.Prelude.{if◌then◌else◌, ◌↔◌}
 use Rattle.std.proofs.lemmas.List.Elements.{Contains-append_left, Contains-push, Contains-push_cases}
+use Rattle.std.specs.List.Sorted.{IsPermutation}
+use Rattle.std.proofs.lemmas.List.Sorted.{Contains-permutation, IsPermutation-sym}
 use Rattle.indexmap.specs.IndexMap.{IndexMap, get}
 use Rattle.std.specs.declared.vec.Vec.{Vec}
 use Rattle.std.specs.declared.alloc.Global.{Global}
@@ -32,14 +34,58 @@ registered old new z x more is has keeps from = record {
       ];
 }
 
--- one more behind those that are told already
-pub registered_more : {S : Type 0} (old new : IndexMap Spot (Vec Spot Global) S) (z x : Spot) (list more : Vec Spot Global) → get spot_eq old z ≡ Some list → more.items ≡ list.items ++ x ∷ []
-    → ((q : Spot) → get spot_eq new q ≡ (if spot_eq z q then Some more else get spot_eq old q)) → Registered old new z x
-registered_more old new z x list more at items is =
-    registered old new z x more is (subst (λ (w : List Spot). Contains w x) (sym items) (Contains-push list.items x))
-    (λ q h. subst (λ (w : List Spot). Contains w q) (sym items) (Contains-append_left list.items (x ∷ []) q (subst (λ (o : Option (Vec Spot Global)). Reads o q) at h)))
+-- x is told besides those that are told already
+pub registered_by : {S : Type 0} (old new : IndexMap Spot (Vec Spot Global) S) (z x : Spot) (list more : Vec Spot Global) → get spot_eq old z ≡ Some list
+    → ((q : Spot) → Contains more.items q ↔ (Contains list.items q ⊎ (q ≡ x))) → ((q : Spot) → get spot_eq new q ≡ (if spot_eq z q then Some more else get spot_eq old q)) → Registered old new z x
+registered_by old new z x list more at adds is =
+    registered old new z x more is ((adds x).1 (inr refl)) (λ q h. (adds q).1 (inl (subst (λ (o : Option (Vec Spot Global)). Reads o q) at h)))
     (λ q h.
-    elim (Contains-push_cases list.items x q (subst (λ (w : List Spot). Contains w q) items h)) [
-      | inl before ↦ inl (subst (λ (o : Option (Vec Spot Global)). Reads o q) (sym at) before)
-      | inr e ↦ inr (sym e)
+    elim ((adds q).0 h) [
+      | inl b ↦ inl (subst (λ (o : Option (Vec Spot Global)). Reads o q) (sym at) b)
+      | inr e ↦ inr e
     ])
+
+-- ---- doubles
+-- where x was put behind, or stood there already, these are all places up to it
+pub one_more : (out new list : List Spot) (x : Spot) → ((q : Spot) → Contains new q ↔ (Contains out q ⊎ (q ≡ x))) → ((q : Spot) → Contains out q ↔ Contains list q) → (q : Spot) → Contains new q ↔ Contains (list ++ x ∷ []) q
+one_more out new list x step before q = (
+  (λ h.
+      elim ((step q).0 h) [
+        | inl o ↦ Contains-append_left list (x ∷ []) q ((before q).0 o)
+        | inr e ↦ subst (λ (y : Spot). Contains (list ++ x ∷ []) y) (sym e) (Contains-push list x)
+      ]),
+  (λ h.
+      (step q).1
+      (elim (Contains-push_cases list x q h) [
+        | inl b ↦ inl ((before q).1 b)
+        | inr e ↦ inr (sym e)
+      ])),
+)
+
+-- x was put behind, and then doubles were dropped
+pub pushed_more : (old pushed new : List Spot) (x : Spot) → pushed ≡ old ++ x ∷ [] → ((q : Spot) → Contains new q ↔ Contains pushed q) → (q : Spot) → Contains new q ↔ (Contains old q ⊎ (q ≡ x))
+pushed_more old pushed new x e same q = (
+  (λ h.
+      elim (Contains-push_cases old x q (subst (λ (l : List Spot). Contains l q) e ((same q).0 h))) [
+        | inl b ↦ inl b
+        | inr f ↦ inr (sym f)
+      ]),
+  (λ h.
+      (same q).1
+      (subst (λ (l : List Spot). Contains l q) (sym e)
+      (elim h [
+        | inl b ↦ Contains-append_left old (x ∷ []) q b
+        | inr f ↦ subst (λ (y : Spot). Contains (old ++ x ∷ []) y) (sym f) (Contains-push old x)
+      ]))),
+)
+
+-- the same in another order
+pub ordered_same : (old new : List Spot) → IsPermutation old new → (q : Spot) → Contains new q ↔ Contains old q
+ordered_same old new p q = (Contains-permutation new old q (IsPermutation-sym old new p), Contains-permutation old new q p)
+
+-- the same in another order, without doubles
+pub fewer_same : (old sorted seen out : List Spot) → IsPermutation old sorted → seen ≡ sorted → ((q : Spot) → Contains out q ↔ Contains seen q) → (q : Spot) → Contains out q ↔ Contains old q
+fewer_same old sorted seen out p e same q = (
+  (λ h. (ordered_same old sorted p q).0 (subst (λ (l : List Spot). Contains l q) e ((same q).0 h))),
+  (λ h. (same q).1 (subst (λ (l : List Spot). Contains l q) (sym e) ((ordered_same old sorted p q).1 h))),
+)
