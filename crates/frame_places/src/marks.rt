@@ -45,7 +45,7 @@ pub fn add<V: Drop>(
     let place = Marked {
         value,
         mark: Mark::Queued,
-        visited: false,
+        visits: 0,
     };
     places.insert(y, place)?;
     list_new(work, number, entry)?;
@@ -71,7 +71,7 @@ pub fn add_or_find<V: Drop>(
             place.insert(Marked {
                 value,
                 mark: Mark::Queued,
-                visited: false,
+                visits: 0,
             });
             list_new(work, number, entry)?;
             Ok(None)
@@ -93,8 +93,8 @@ fn list(work: &mut Work, number: usize, waits: bool) -> Result<(), AllocError>
 
 /// Whether a place on the list comes to the front where it is raised: an entry point of a frame that wasn't visited yet.
 #[inline(always)]
-fn is_front(entry: bool, visited: bool) -> bool {
-    entry && !visited
+fn is_front(entry: bool, visits: u8) -> bool {
+    entry && visits == 0
 }
 
 /// Sets what is known at the place of this number, and puts it on the list, unless it is there. It waits, if it is the entry point
@@ -118,7 +118,7 @@ pub fn put<V: Drop>(
     };
     place.value = value;
     if let Mark::Queued = place.mark {
-        if is_front(entry, place.visited) {
+        if is_front(entry, place.visits) {
             work.push_entry(number)?;
         }
         return Ok(());
@@ -138,6 +138,19 @@ fn mark_at<V>(places: &mut IndexMap<Spot, Marked<V>>, number: usize, mark: Mark)
     }
 }
 
+/// How often a place is visited before it waits wherever it is told of a rise.
+const PATIENT: u8 = 4;
+
+/// Whether the place of this number waits where it is told of a rise: it is to wait, or was visited often. So a call of many
+/// functions, each of whose exits tells it, goes on when all of them have risen as far as they do for now.
+#[inline(always)]
+fn waits_there<V>(places: &IndexMap<Spot, Marked<V>>, number: usize, waits: bool) -> bool {
+    match places.get_index(number) {
+        None => waits,
+        Some((_, place)) => waits || place.visits >= PATIENT,
+    }
+}
+
 /// Puts x, which is known, on the list, unless it is there; it waits or is next.
 fn touch<V>(
     places: &mut IndexMap<Spot, Marked<V>>,
@@ -154,8 +167,9 @@ fn touch<V>(
         return Ok(());
     };
     if !has_work(&*places, number) {
+        let later = waits_there(&*places, number, waits);
         mark_at(places, number, Mark::Queued);
-        list(work, number, waits)?;
+        list(work, number, later)?;
     }
     Ok(())
 }
@@ -216,7 +230,7 @@ pub fn open<V>(places: &mut IndexMap<Spot, Marked<V>>, number: usize)
 {
     if let Some(place) = places.get_index_mut(number) {
         place.mark = Mark::Open;
-        place.visited = true;
+        place.visits = place.visits.saturating_add(1);
     }
 }
 

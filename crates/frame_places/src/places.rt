@@ -65,12 +65,12 @@ impl Hash for Spot {
     }
 }
 
-/// What is known at a place, the place's mark, and whether the place was visited.
+/// What is known at a place, the place's mark, and how often the place was visited, as far as it is counted.
 #[derive(Drop)]
 pub struct Marked<V> {
     pub value: V,
     pub mark: Mark,
-    pub visited: bool,
+    pub visits: u8,
 }
 
 /// What a place is for the list of work: all that it owes is covered; the same, and the instruction there enters no frame by

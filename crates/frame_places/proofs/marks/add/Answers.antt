@@ -13,14 +13,14 @@ pub returns-clause-puts : goal.returns-clause-puts
 returns-clause-puts g c =
     let m = c.args.places.now in
     let new = c.insert.new.self in
-    let w : Marked g.row.V.Denot = record { value = c.args.value; mark = Queued; visited = false } in
+    let w : Marked g.row.V.Denot = record { value = c.args.value; mark = Queued; visits = 0 } in
     puts_as m new c.args.y w (λ q. c.in_ok-insert.ensures.updates.0 q) refl (added_numbers m new c.args.y w (unknown_place _ c.requires.new) c.in_ok-insert.ensures.entries)
 
 pub returns-clause-work : goal.returns-clause-work
 returns-clause-work g c =
     let m = c.args.places.now in
     let new = c.insert.new.self in
-    let w : Marked g.row.V.Denot = record { value = c.args.value; mark = Queued; visited = false } in
+    let w : Marked g.row.V.Denot = record { value = c.args.value; mark = Queued; visits = 0 } in
     let none = unknown_place _ c.requires.new in
     let p = puts_as m new c.args.y w (λ q. c.in_ok-insert.ensures.updates.0 q) refl (added_numbers m new c.args.y w none c.in_ok-insert.ensures.entries) in
     let last = subst (λ (n : ℕ). StandsAt new n c.args.y) (sym c.len-number.ensures.len) (added_last m new c.args.y w none c.in_ok-insert.ensures.entries) in

@@ -26,7 +26,7 @@ pub returns-in_ok-list_new-in-Vacant : goal.returns-in_ok-list_new-in-Vacant
 returns-in_ok-list_new-in-Vacant g c =
     let m = c.args.places.now in
     let y = c.args.y in
-    let w : Marked g.row.V.Denot = record { value = c.args.value; mark = Queued; visited = false } in
+    let w : Marked g.row.V.Denot = record { value = c.args.value; mark = Queued; visits = 0 } in
     let new = map_with_value (Vacant c.in-Vacant.place) w in
     let end : new ≡ c.places-in-Vacant-2-1.given.0 = search rules in
     let update = rw c.in-Vacant.is at c.in_ok-known.ensures.update in

@@ -10,7 +10,7 @@ pub returns-in-Some : goal.returns-in-Some
 returns-in-Some g c x stands =
     let m = c.args.places.now in
     let old = c.in-Some.place.now in
-    let w : Marked g.row.V.Denot = record old { mark = Open; visited = true } in
+    let w : Marked g.row.V.Denot = record old { mark = Open; visits = c.saturating_add-place.result } in
     let unique = c.in-Some.ensures.unique in
     marks_as m _ x w (written_there m c.args.number x w unique stands) (ap (option_map (λ k. k.value)) (value_had m c.args.number x unique old c.in-Some.ensures.value stands)) (written_numbers m c.args.number w)
 

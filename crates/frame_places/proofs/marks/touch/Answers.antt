@@ -16,7 +16,7 @@ returns-in_ok-list-clause-work g c =
     let stands = index_there m c.in-Some.number c.args.x (sym c.in-Some.ensures.index) in
     let marks = c.mark_at.ensures c.args.x stands in
     AllListed-adds m c.mark_at.new.places (all_work c.args.work.now) c.in-Some.number c.args.x marks.marks marks.numbers (all_work c.list.new.work)
-    (adds_either c.args.waits c.args.work.now c.list.new.work c.in-Some.number c.in_ok-list.ensures) (marks.numbers c.in-Some.number c.args.x stands) c.requires.listed
+    (adds_either c.waits_there-later.result c.args.work.now c.list.new.work c.in-Some.number c.in_ok-list.ensures) (marks.numbers c.in-Some.number c.args.x stands) c.requires.listed
 
 pub returns-else-not-has_work-clause-marks : goal.returns-else-not-has_work-clause-marks
 returns-else-not-has_work-clause-marks g c =
