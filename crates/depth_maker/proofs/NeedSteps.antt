@@ -11,9 +11,11 @@ use Rattle.depth_maker.specs.Proper.{AllProper}
 use Rattle.frame_places.specs.Rows.{IsWithin, LeastNeeds}
 use Rattle.depth_maker.specs.RowsBy.{IsSource, RowsOn}
 use Rattle.depth_maker.specs.NeedsBy.{NeedsOn}
+use Rattle.depth_maker.specs.Recursing.{IsRecursion}
 use Rattle.depth_maker.specs.Spots.{place_of}
 use Rattle.depth_maker.specs.View.{seen}
 use Rattle.depth_maker.proofs.Lawful.{lawful}
+use Rattle.depth_maker.proofs.NeedLaws.{no_recursion}
 use Rattle.depth_maker.proofs.TableLaws.{derived_proper}
 use Rattle.depth_maker.proofs.RowLaws.{above_by, least_by, rows_within}
 use Rattle.frame_places.specs.declared.needs.row.Row.{Row}
@@ -41,3 +43,8 @@ source_needs s rows cap source are is r o e h = at o (subst (LeastNeeds (length 
     least_by _ _ _ (seen s.table.now).cells (source.done).closed (map place_of (s.table.now).points.items) (s.table.now).frames.items ((source.done).counted).each rows are needs.items some.0 some.1 some.2,
     (λ k. subst (λ (n : ℕ). slice_index needs.items (number_in (s.table.now).frames.items k) ≤ n) is (some.3 (number_in (s.table.now).frames.items k))),
   )
+
+-- where a frame recurs no needs are met
+pub recursion_above : (s : Source) (x : Key × ℕ) → IsRecursion s (Some x) → NeedsOn s (Ok None)
+recursion_above s x first need m =
+    absurd (no_recursion (s.ground.now).bounds.now (s.ground.now).image.now (s.ground.now).plan.now (seen s.table.now).cells need m x.0 x.1 first.recurs)

@@ -3,9 +3,10 @@ ghost use Rattle.std.specs.Prelude.{◌≡◌, ◌≤◌, ◌-◌};
 ghost use Rattle.depth_maker.specs.RowsBy.{IsSource, RowsOn};
 ghost use Rattle.depth_maker.specs.NeedsBy.{NeedsOn};
 
+use crate::recursion::recursion;
 use crate::rows::{Source, rows};
 use depth_cert::Key;
-use frame_places::{Refusal, Row, least_needs};
+use frame_places::{Refusal, Row, least_needs, soon_needs};
 use std::alloc::Global;
 use tcd_plan::Plan;
 
@@ -17,7 +18,8 @@ pub(crate) fn usable(plan: &Plan) -> u32
     plan.areas - plan.reserve
 }
 
-/// The least needs that meet these rows, which are all of the table.
+/// The least needs that meet these rows, which are all of the table. Where a few passes don't tell them, recursion is asked before
+/// more are made: up to as many as there are areas.
 fn needs_by(
     alloc: Global,
     source: &Source,
@@ -30,6 +32,14 @@ fn needs_by(
     ensures { NeedsOn source.now result }
 {
     let cap = usable(source.ground.plan);
+    let soon = soon_needs(alloc, frames.len(), rows, cap)?;
+    if let Some(found) = soon {
+        return Ok(Some(found));
+    }
+    let recurs = recursion(alloc, source)?;
+    if let Some(_place) = recurs {
+        return Ok(None);
+    }
     let needs = least_needs(alloc, frames.len(), rows, cap)?;
     Ok(needs)
 }

@@ -14,7 +14,7 @@ mod work;
 
 pub use counting::count;
 pub use marks::{add, add_or_find, has_work, is_plain, open, put, settle, wake};
-pub use needs::least::least_needs;
+pub use needs::least::{least_needs, soon_needs};
 pub use needs::reach::{Edge, edges_of, first_recurring, has_marked, reaching};
 pub use needs::row::Row;
 pub use numbers::{number_near, number_of, numbered, numbers_of};

@@ -1,6 +1,6 @@
 // The least needs.
 
-ghost use Rattle.std.specs.Prelude.{ℕ, ◌+◌, ◌<◌, ◌≤◌, ◌^◌, Contains, length, slice_index, min, MatchOption, EachIndex};
+ghost use Rattle.std.specs.Prelude.{Ok, IfOk, IfSome, IsTrue, Some, ℕ, ◌+◌, ◌<◌, ◌≤◌, ◌^◌, Contains, length, slice_index, min, MatchOption, EachIndex};
 ghost use Rattle.frame_places.specs.Rows.{MeetsRow, IsWithin, IsLow, MeetsCapped, PassesRow, Passes, LeastNeeds};
 ghost use Rattle.frame_places.specs.declared.needs.row.Row.{Row};
 
@@ -79,6 +79,28 @@ fn settle(needs: &mut [u32], rows: &[Row], cap: u32)
     while pass(needs, rows, cap) {}
 }
 
+/// How many passes mostly do: one or two for frames that were found before what they enter.
+const FEW: u32 = 64;
+
+/// A few passes; says whether nothing changes any more.
+fn settle_soon(needs: &mut [u32], rows: &[Row], cap: u32) -> bool
+    requires cap { cap < 2 ^ 16 }
+    requires nodes { length needs.old < 2 ^ 16 }
+    requires within { IsWithin rows.now (length needs.old) }
+    requires capped { (k : ℕ) → slice_index needs.old k ≤ cap + 1 }
+    requires low { IsLow needs.old rows.now }
+    ensures low { IsLow needs.new rows.now }
+    ensures met { IsTrue result → (row : Row) → Contains rows.now row
+        → MeetsCapped cap needs.new row }
+{
+    for _done in 0..FEW {
+        if !pass(needs, rows, cap) {
+            return true;
+        }
+    }
+    false
+}
+
 /// The first need above the cap.
 fn above(needs: &[u32], cap: u32) -> Option<usize>
     ensures { MatchOption result
@@ -102,6 +124,28 @@ pub fn least_needs(
 {
     let mut needs = vec![in alloc; 0u32; nodes]?;
     settle(&mut needs, rows, cap);
+    match above(&needs, cap) {
+        None => Ok(Some(needs)),
+        Some(_) => Ok(None),
+    }
+}
+
+/// The same where a few passes tell, else `None`. Where a frame recurs needs rise to the cap, by one or some in a pass.
+pub fn soon_needs(
+    alloc: Global,
+    nodes: usize,
+    rows: &[Row],
+    cap: u32,
+) -> Result<Option<Vec<u32>>, AllocError>
+    requires cap { cap < 2 ^ 16 }
+    requires nodes { nodes < 2 ^ 16 }
+    requires within { IsWithin rows.now nodes }
+    ensures { IfOk result (λ o. IfSome o (λ needs. LeastNeeds nodes rows.now cap (Ok (Some needs)))) }
+{
+    let mut needs = vec![in alloc; 0u32; nodes]?;
+    if !settle_soon(&mut needs, rows, cap) {
+        return Ok(None);
+    }
     match above(&needs, cap) {
         None => Ok(Some(needs)),
         Some(_) => Ok(None),

@@ -1,8 +1,12 @@
-use Rattle.std.proofs.Common.{subst, sym, refl, ap, List, length, Ok, arith}
+use Rattle.std.proofs.Common.{subst, sym, refl, ap, ℕ, List, length, Ok, Option, Some, arith}
+use Rattle.std.specs.Prelude.{IfSome}
+use Rattle.std.specs.declared.alloc.Global.{Global}
+use Rattle.std.specs.declared.vec.Vec.{Vec}
+use Rattle.depth_maker.specs.Recursing.{IsRecursion}
 use Rattle.depth_cert.specs.declared.keys.Key.{Key}
 use Rattle.frame_places.specs.Rows.{IsWithin, LeastNeeds}
 use Rattle.depth_maker.proofs.CountedLemmas.{few_spots}
-use Rattle.depth_maker.proofs.NeedSteps.{source_within, source_needs}
+use Rattle.depth_maker.proofs.NeedSteps.{recursion_above, source_within, source_needs}
 use Rattle.depth_maker.proofs.needs.needs_by.Goals as goal
 
 pub least_needs-requires-clause-nodes : goal.least_needs-requires-clause-nodes
@@ -15,7 +19,26 @@ pub least_needs-requires-clause-within : goal.least_needs-requires-clause-within
 least_needs-requires-clause-within c =
     subst (λ (l : List Key). IsWithin c.args.rows.now (length l)) (sym c.requires.frames) (source_within c.args.source.now c.args.rows.now c.requires.source c.requires.rows)
 
+pub soon_needs-requires-clause-nodes : goal.soon_needs-requires-clause-nodes
+soon_needs-requires-clause-nodes c =
+    let h = (few_spots _ _ (((c.requires.source).done).counted).few).1 in
+    let e = ap (λ (l : List Key). length l) c.requires.frames in
+    omega (arith, h, e)
+
+pub soon_needs-requires-clause-within : goal.soon_needs-requires-clause-within
+soon_needs-requires-clause-within c =
+    subst (λ (l : List Key). IsWithin c.args.rows.now (length l)) (sym c.requires.frames) (source_within c.args.source.now c.args.rows.now c.requires.source c.requires.rows)
+
 pub returns : goal.returns
 returns c =
     source_needs c.args.source.now c.args.rows.now c.usable-cap.result c.requires.source c.requires.rows c.usable-cap.ensures.areas (Ok c.in_ok-needs.needs) c.in_ok-needs.needs refl
     (subst (λ (l : List Key). LeastNeeds (length l) c.args.rows.now c.usable-cap.result (Ok c.in_ok-needs.needs)) c.requires.frames c.in_ok-needs.ensures)
+
+pub returns-in-Some : goal.returns-in-Some
+returns-in-Some c =
+    let h = subst (λ (o : Option (Vec ℕ Global)). IfSome o (λ needs. LeastNeeds (length c.args.frames.now) c.args.rows.now c.usable-cap.result (Ok (Some needs)))) c.in-Some.is c.in_ok-soon.ensures in
+    source_needs c.args.source.now c.args.rows.now c.usable-cap.result c.requires.source c.requires.rows c.usable-cap.ensures.areas (Ok (Some c.in-Some.found)) (Some c.in-Some.found) refl
+    (subst (λ (l : List Key). LeastNeeds (length l) c.args.rows.now c.usable-cap.result (Ok (Some c.in-Some.found))) c.requires.frames h)
+
+pub returns-in-Some-recurs : goal.returns-in-Some-recurs
+returns-in-Some-recurs c = recursion_above c.args.source.now c.in-Some-recurs._place (subst (IsRecursion c.args.source.now) c.in-Some-recurs.is c.in_ok-recurs.ensures)

@@ -1,0 +1,11 @@
+use Rattle.std.proofs.Common.{ℕ, ◌<◌, length}
+use Rattle.frame_places.proofs.needs.least.settle_soon.Goals as goal
+
+pub loop-done-preserved : goal.loop-done-preserved
+loop-done-preserved c = let p = c.pass.ensures.pass in (λ other m k lt. p.low other m (c.loop-done.invariant.0 other m) k lt, p.capped)
+
+pub returns-then-not-pass-clause-low : goal.returns-then-not-pass-clause-low
+returns-then-not-pass-clause-low c = let p = c.pass.ensures.pass in λ other m k lt. p.low other m (c.loop-done.invariant.0 other m) k lt
+
+pub returns-clause-low : goal.returns-clause-low
+returns-clause-low c = c.loop-done.invariant.0
