@@ -1,5 +1,5 @@
 // Nodes of which the points stand in bytes.
-ghost use Rattle.std.specs.Prelude.{◌≡◌, ◌<◌, nat_lt, ◌==◌, true, false, map, find};
+ghost use Rattle.std.specs.Prelude.{◌≡◌, ◌<◌, nat_lt, ◌==◌, true, false, map, find, length};
 ghost use Rattle.std.specs.Option.{option_map};
 ghost use Rattle.std.specs.List.Sorted.{IsStrictlyIncreasing, IsPartitionPoint};
 ghost use Rattle.packed_cert.specs.Nodes.{node_of, HasPlaces};
@@ -60,6 +60,13 @@ impl<'a> PackedNode<'a> {
             Some(place) => Some(ExitAt::at(self.bytes, self.version, place as usize)),
             None => None,
         }
+    }
+
+    /// How many points the node has.
+    pub fn len(&self) -> usize
+        ensures { result ≡ length self.now.points }
+    {
+        self.points.len()
     }
 
     /// Puts a walk before the first of the points, which stand by ascending address.

@@ -19,3 +19,4 @@ pub mod Ranges
 pub mod Lengths
 pub mod PlanText
 pub mod Wholes
+pub mod WalkedPoints

@@ -5,7 +5,8 @@ use Rattle.std.proofs.lemmas.List.{take_all, take_more}
 use Rattle.std.proofs.lemmas.List.Elements.{Contains-append_left, Contains-push, Contains-push_cases}
 use Rattle.tcd_report.specs.Heights.{IsMost, IsMostOf}
 
-most_with : {A : Type 0} (Has : A → ℕ → Type 0) (xs : List A) (x : A) (a b n : ℕ) → IsMostOf Has xs a → IsMost (Has x) b → n ≡ max b a → IsMostOf Has (xs ++ x ∷ []) n
+-- one element more, behind those before
+pub most_with : {A : Type 0} (Has : A → ℕ → Type 0) (xs : List A) (x : A) (a b n : ℕ) → IsMostOf Has xs a → IsMost (Has x) b → n ≡ max b a → IsMostOf Has (xs ++ x ∷ []) n
 most_with Has xs x a b n first second e =
     record {
       reached =

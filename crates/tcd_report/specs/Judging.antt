@@ -2,6 +2,7 @@
 use Rattle.std.specs.Prelude.{◌≡◌, ℕ, List, ◌++◌}
 use Rattle.std.specs.List.{flat_map}
 use Rattle.depth_cert.specs.declared.keys.Key.{Key}
+use Rattle.value_domain.specs.declared.states.State.{State}
 use Rattle.depth_cert.specs.declared.points.Point.{Point}
 use Rattle.cfg_recover.specs.declared.local.Located.{Located}
 use Rattle.cfg_recover.specs.Duties.{Owed, duties_of, entries_of, successors_of}
@@ -12,6 +13,10 @@ use Rattle.tcd_report.specs.declared.judged.Judged.{Judged}
 pub record IsJudged (j : Judged) : Type 0 where
   pub limits : j.bounds.now ≡ limits_in j.plan.now j.cert.now
   pub accepted : Accepts j.image.now j.plan.now j.cert.now
+
+-- the point of an address, with the state before its instruction
+abbrev pub point_of : ℕ → State → Point
+point_of addr s = record { addr = addr; state = s }
 
 -- the successors of a point in its frame, by what stands there
 abbrev pub successors_at : Judged → Point → Located → List Owed

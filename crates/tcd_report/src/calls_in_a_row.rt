@@ -1,16 +1,17 @@
 // The longest rows of calls from a node on, where those of the nodes that it calls are known.
 ghost use Rattle.std.specs.Prelude.{◌≡◌, ◌≤◌, Contains};
-ghost use Rattle.value_domain.specs.State.{AreValues};
 ghost use Rattle.cfg_recover.specs.Flows as flows;
 ghost use Rattle.cfg_recover.specs.Local.{IsFaultless};
 ghost use Rattle.tcd_report.specs.Heights.{IsMost, IsMostOf, HasRow, HasRowAt, AreLow};
-ghost use Rattle.tcd_report.specs.Judging.{IsJudged};
+ghost use Rattle.tcd_report.specs.Judging.{point_of, IsJudged};
 
 use crate::entered::called;
 use crate::judged::Judged;
-use cfg_recover::{entered_key, local_check};
-use depth_cert::{Key, Node, Point};
+use cfg_recover::{KnownCodes, entered_key};
+use depth_cert::Key;
+use packed_cert::{PackedNode, PointWalk};
 use std::collections::HashMap;
+use value_domain::State;
 
 // One call more than from a function on.
 fn row_into(heights: &HashMap<Key, u32>, key: &Key, target: u32) -> u32
@@ -37,31 +38,36 @@ fn rows_into(heights: &HashMap<Key, u32>, key: &Key, targets: &[u32]) -> u32
 }
 
 // The same, whose first one is that at a point.
-fn rows_at(judged: &Judged, heights: &HashMap<Key, u32>, key: &Key, point: &Point) -> u32
+fn rows_at(
+    judged: &Judged,
+    heights: &HashMap<Key, u32>,
+    codes: &mut KnownCodes,
+    key: &Key,
+    addr: u32,
+    s: &State,
+) -> u32
     requires judged { IsJudged judged.now }
     requires low { AreLow heights.now }
-    requires values { AreValues judged.now.bounds.now point.now.state.regs }
     requires faultless { let j = judged.now in
-        IsFaultless j.bounds.now j.image.now j.plan.now key.now point.now.addr point.now.state }
+        IsFaultless j.bounds.now j.image.now j.plan.now key.now addr s.now }
     ensures { let j = judged.now in
-        IsMost (HasRowAt j.image.now j.plan.now j.cert.now heights.now key.now point.now) result }
+        IsMost (HasRowAt j.image.now j.plan.now j.cert.now heights.now key.now (point_of addr s.now)) result }
 {
-    let Ok(found) = local_check(
-        judged.bounds,
-        judged.image,
-        judged.plan,
-        key,
-        point.addr,
-        &point.state,
-    ) else {
+    let Some(found) = codes.located(judged.image, judged.plan, addr) else {
         unreachable!()
     };
-    let functions = called(judged.plan, point, found.shape);
+    let functions = called(judged.plan, addr, s, found.shape);
     rows_into(heights, key, functions.as_slice())
 }
 
 /// The greatest number of calls in a row from a node on.
-pub(crate) fn rows_from(judged: &Judged, heights: &HashMap<Key, u32>, node: &Node) -> u32
+pub(crate) fn rows_from<'a>(
+    judged: &Judged,
+    heights: &HashMap<Key, u32>,
+    codes: &mut KnownCodes,
+    node: &PackedNode<'a>,
+    walk: &mut PointWalk<'a>,
+) -> u32
     requires judged { IsJudged judged.now }
     requires low { AreLow heights.now }
     requires stands { Contains judged.now.cert.now.nodes node.now }
@@ -70,8 +76,9 @@ pub(crate) fn rows_from(judged: &Judged, heights: &HashMap<Key, u32>, node: &Nod
         node.now.points result }
 {
     let mut most = 0;
-    for point in &node.points {
-        most = rows_at(judged, heights, &node.key, point).max(most);
+    node.walk(walk);
+    while let Some(addr) = walk.step() {
+        most = rows_at(judged, heights, codes, &node.key, addr, walk.state()).max(most);
     }
     most
 }

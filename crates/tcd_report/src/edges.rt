@@ -8,7 +8,7 @@ ghost use Rattle.depth_cert.specs.Certs.{find_node};
 ghost use Rattle.cfg_recover.specs.Duties.{resume};
 ghost use Rattle.cfg_recover.specs.Flows as flows;
 ghost use Rattle.tcd_report.specs.Graphs.{back_by};
-ghost use Rattle.tcd_report.specs.Judging.{duties_at, entries_at};
+ghost use Rattle.tcd_report.specs.Judging.{point_of, duties_at, entries_at};
 ghost use Rattle.tcd_report.specs.Told.{returned_in, vectors_in, AreEdges};
 
 use crate::addresses::{ascending, each_once};
@@ -16,11 +16,13 @@ use crate::entered::{called, misaligned, trapped};
 use crate::judged::Judged;
 use crate::successors::push_successors;
 use cfg_recover::{Located, entered_key, interrupts, irq_key, sys_key, targets};
-use depth_cert::{Cert, Key, Point};
+use depth_cert::Key;
+use packed_cert::PackedCert;
 use std::alloc::Global;
 use tc_isa::Shape;
 use tcd_base::NoMemory;
 use tcd_plan::Plan;
+use value_domain::State;
 
 /// Where a point goes on, by the words of its lines.
 #[derive(Drop)]
@@ -34,18 +36,18 @@ pub(crate) struct Edges {
 }
 
 // Whether the node of a key has an exit.
-fn has_exit(cert: &Cert, key: &Key) -> bool
+fn has_exit(cert: &PackedCert, key: &Key) -> bool
     ensures { result
         ≡ option_map_or (λ n. is_some n.exit) (find_node key.now cert.now.nodes) false }
 {
     match cert.node(key) {
         None => false,
-        Some(node) => node.exit.is_some(),
+        Some(node) => node.exit().is_some(),
     }
 }
 
 // Adds where an entered frame comes back, if its node has an exit.
-fn push_return(all: &mut Vec<u32>, cert: &Cert, key: &Key, back: u32) -> Result<(), NoMemory>
+fn push_return(all: &mut Vec<u32>, cert: &PackedCert, key: &Key, back: u32) -> Result<(), NoMemory>
     ensures { OnOk result
         (all.new.items ≡ all.old.items ++ back_by cert.now (resume key.now back)) }
 {
@@ -58,7 +60,7 @@ fn push_return(all: &mut Vec<u32>, cert: &Cert, key: &Key, back: u32) -> Result<
 // The same for each of the called functions.
 fn push_returns(
     all: &mut Vec<u32>,
-    cert: &Cert,
+    cert: &PackedCert,
     key: &Key,
     targets: &[u32],
     back: u32,
@@ -78,17 +80,18 @@ fn add_returns(
     all: &mut Vec<u32>,
     judged: &Judged,
     key: &Key,
-    point: &Point,
+    addr: u32,
+    s: &State,
     found: &Located,
 ) -> Result<(), NoMemory>
     requires { IsShape found.now.shape }
     ensures { let j = judged.now in OnOk result (all.new.items ≡ all.old.items
-        ++ returned_in j.cert.now (entries_at j key.now point.now found.now)) }
+        ++ returned_in j.cert.now (entries_at j key.now (point_of addr s.now) found.now)) }
 {
-    let back = point.addr.wrapping_add(found.size);
+    let back = addr.wrapping_add(found.size);
     match found.shape {
         Shape::Call { to } => {
-            let targets = targets(judged.plan, &point.state, point.addr, to);
+            let targets = targets(judged.plan, s, addr, to);
             push_returns(all, judged.cert, key, targets.as_slice(), back)
         }
         Shape::Syscall { .. } => push_return(all, judged.cert, &sys_key(judged.plan, key), back),
@@ -112,27 +115,28 @@ pub(crate) fn edges_of(
     alloc: Global,
     judged: &Judged,
     key: &Key,
-    point: &Point,
+    addr: u32,
+    s: &State,
     found: &Located,
 ) -> Result<Edges, NoMemory>
     requires shape { IsShape found.now.shape }
-    requires values { AreValues judged.now.bounds.now point.now.state.regs }
+    requires values { AreValues judged.now.bounds.now s.now.regs }
     ensures { let j = judged.now in IfOk result
-        (λ w. AreEdges j.cert.now (duties_at j key.now point.now found.now) w) }
+        (λ w. AreEdges j.cert.now (duties_at j key.now (point_of addr s.now) found.now) w) }
 {
     let mut jumps = Vec::new(alloc);
-    push_successors(&mut jumps, judged, point, found)?;
-    let functions = called(judged.plan, point, found.shape);
+    push_successors(&mut jumps, judged, addr, s, found)?;
+    let functions = called(judged.plan, addr, s, found.shape);
     let mut returns = Vec::new(alloc);
-    add_returns(&mut returns, judged, key, point, found)?;
-    let irqs = interrupts(judged.plan, &point.state);
+    add_returns(&mut returns, judged, key, addr, s, found)?;
+    let irqs = interrupts(judged.plan, s);
     let handlers = vectors(alloc, judged.plan, irqs.as_slice())?;
     Ok(Edges {
         to: ascending(alloc, &jumps)?,
         call: ascending(alloc, functions.as_slice())?,
         back: each_once(alloc, &returns)?,
         sys: trapped(alloc, judged.plan, key, found.shape)?,
-        aln: misaligned(alloc, judged, key, point, found.shape)?,
+        aln: misaligned(alloc, judged, key, s, found.shape)?,
         irq: each_once(alloc, &handlers)?,
     })
 }

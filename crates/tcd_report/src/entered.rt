@@ -12,7 +12,7 @@ ghost use Rattle.tcd_report.specs.Told.{called_of, systems_of};
 use crate::judged::Judged;
 use arrayvec::ArrayVec;
 use cfg_recover::{aln_key, is_aligned, sys_key, targets};
-use depth_cert::{Key, Point};
+use depth_cert::Key;
 use std::alloc::Global;
 use tc_isa::Shape;
 use tcd_base::NoMemory;
@@ -21,12 +21,12 @@ use value_domain::State;
 use vd_transfer::address_by;
 
 /// The functions that an instruction of this shape calls.
-pub(crate) fn called(plan: &Plan, point: &Point, shape: Shape) -> ArrayVec<u32, 128>
+pub(crate) fn called(plan: &Plan, addr: u32, s: &State, shape: Shape) -> ArrayVec<u32, 128>
     requires { IsShape shape }
-    ensures { result.items ≡ called_of plan.now point.now.state point.now.addr shape }
+    ensures { result.items ≡ called_of plan.now s.now addr shape }
 {
     match shape {
-        Shape::Call { to } => targets(plan, &point.state, point.addr, to),
+        Shape::Call { to } => targets(plan, s, addr, to),
         _ => ArrayVec::new(),
     }
 }
@@ -80,16 +80,16 @@ pub(crate) fn misaligned(
     alloc: Global,
     judged: &Judged,
     key: &Key,
-    point: &Point,
+    s: &State,
     shape: Shape,
 ) -> Result<Vec<u32>, NoMemory>
-    requires values { AreValues judged.now.bounds.now point.now.state.regs }
+    requires values { AreValues judged.now.bounds.now s.now.regs }
     requires shape { IsShape shape }
     ensures { let j = judged.now in IfOk result (λ v. v.items
-        ≡ entries_in 10 (misaligned_of j.bounds.now j.plan.now key.now point.now.state shape)) }
+        ≡ entries_in 10 (misaligned_of j.bounds.now j.plan.now key.now s.now shape)) }
 {
     let mut all = Vec::new(alloc);
-    if !is_misaligned(judged, &point.state, shape) {
+    if !is_misaligned(judged, s, shape) {
         return Ok(all);
     }
     all.push(aln_key(judged.plan, key).entry)?;

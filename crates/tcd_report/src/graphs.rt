@@ -4,56 +4,55 @@ ghost use Rattle.value_domain.specs.State.{AreValues};
 ghost use Rattle.cfg_recover.specs.Accepting.{Accepts};
 ghost use Rattle.cfg_recover.specs.Local.{IsFaultless};
 ghost use Rattle.tcd_report.specs.Graphs.{ArePointLines, AreNodeLines, IsGraph};
-ghost use Rattle.tcd_report.specs.Judging.{IsJudged, GrowsBy};
+ghost use Rattle.tcd_report.specs.Judging.{point_of, IsJudged, GrowsBy};
 
 use crate::edges::edges_of;
 use crate::judged::Judged;
 use crate::lines::{append_edges, append_leaving};
-use cfg_recover::local_check;
-use depth_cert::{Cert, Key, Node, Point};
+use crate::packing::packed;
+use cfg_recover::KnownCodes;
+use depth_cert::{Cert, Key};
 use elf_image::Image;
+use packed_cert::{PackedCert, PackedNode, PointWalk};
 use std::alloc::Global;
 use tcd_base::NoMemory;
 use tcd_plan::Plan;
-use value_domain::Bounds;
+use value_domain::{Bounds, State};
 
 // The lines of a point.
 fn append_point(
     alloc: Global,
     text: &mut String,
     judged: &Judged,
+    codes: &mut KnownCodes,
     key: &Key,
-    point: &Point,
+    addr: u32,
+    s: &State,
 ) -> Result<(), NoMemory>
     requires judged { IsJudged judged.now }
-    requires values { AreValues judged.now.bounds.now point.now.state.regs }
+    requires values { AreValues judged.now.bounds.now s.now.regs }
     requires faultless { let j = judged.now in
-        IsFaultless j.bounds.now j.image.now j.plan.now key.now point.now.addr point.now.state }
+        IsFaultless j.bounds.now j.image.now j.plan.now key.now addr s.now }
     ensures { let j = judged.now in
-        OnOk result (GrowsBy (ArePointLines j.image.now j.plan.now j.cert.now key.now point.now)
+        OnOk result (GrowsBy (ArePointLines j.image.now j.plan.now j.cert.now key.now (point_of addr s.now))
         (string_bytes text.old) (string_bytes text.new)) }
 {
-    let Ok(found) = local_check(
-        judged.bounds,
-        judged.image,
-        judged.plan,
-        key,
-        point.addr,
-        &point.state,
-    ) else {
+    let Some(found) = codes.located(judged.image, judged.plan, addr) else {
         unreachable!()
     };
-    let ways = edges_of(alloc, judged, key, point, &found)?;
-    append_edges(text, key, point.addr, &ways)?;
-    append_leaving(text, key, point.addr, found.shape)
+    let ways = edges_of(alloc, judged, key, addr, s, &found)?;
+    append_edges(text, key, addr, &ways)?;
+    append_leaving(text, key, addr, found.shape)
 }
 
 // The lines of a node's points.
-fn append_node(
+fn append_node<'a>(
     alloc: Global,
     text: &mut String,
     judged: &Judged,
-    node: &Node,
+    codes: &mut KnownCodes,
+    node: &PackedNode<'a>,
+    walk: &mut PointWalk<'a>,
 ) -> Result<(), NoMemory>
     requires judged { IsJudged judged.now }
     requires stands { Contains judged.now.cert.now.nodes node.now }
@@ -61,8 +60,9 @@ fn append_node(
         OnOk result (GrowsBy (AreNodeLines j.image.now j.plan.now j.cert.now node.now)
         (string_bytes text.old) (string_bytes text.new)) }
 {
-    for point in &node.points {
-        append_point(alloc, text, judged, &node.key, point)?;
+    node.walk(walk);
+    while let Some(addr) = walk.step() {
+        append_point(alloc, text, judged, codes, &node.key, addr, walk.state())?;
     }
     Ok(())
 }
@@ -70,20 +70,39 @@ fn append_node(
 /// The graph of an accepted certificate: a line for each way on from each point, by key and address, and then jumps and
 /// calls by ascending address, coming back, system call, misaligned access, interrupts by ascending priority, and return.
 /// Each line once, and with a line feed at its end.
-pub fn graph(alloc: Global, image: &Image, plan: &Plan, cert: &Cert) -> Result<String, NoMemory>
+pub fn graph_packed(
+    alloc: Global,
+    image: &Image,
+    plan: &Plan,
+    cert: &PackedCert,
+) -> Result<String, NoMemory>
     requires { Accepts image.now plan.now cert.now }
     ensures { IfOk result (λ text. IsGraph image.now plan.now cert.now (string_bytes text)) }
 {
     let mut text = String::new(alloc);
-    let bounds = Bounds::of(plan, cert.version);
+    let bounds = Bounds::of(plan, cert.version());
     let judged = Judged {
         bounds: &bounds,
         image,
         plan,
         cert,
     };
-    for node in &cert.nodes {
-        append_node(alloc, &mut text, &judged, node)?;
+    let mut codes = KnownCodes::new();
+    let mut walk = PointWalk::none();
+    for i in 0..cert.len() {
+        let Some(node) = cert.get(i) else {
+            unreachable!()
+        };
+        append_node(alloc, &mut text, &judged, &mut codes, &node, &mut walk)?;
     }
     Ok(text)
+}
+
+/// The graph of an accepted certificate in memory, which is made of the bytes that spell it.
+pub fn graph(alloc: Global, image: &Image, plan: &Plan, cert: &Cert) -> Result<String, NoMemory>
+    requires { Accepts image.now plan.now cert.now }
+    ensures { IfOk result (λ text. IsGraph image.now plan.now cert.now (string_bytes text)) }
+{
+    let cert = packed(alloc, cert)?;
+    graph_packed(alloc, image, plan, &cert)
 }

@@ -7,17 +7,22 @@ ghost use Rattle.tcd_report.specs.Judging.{IsJudged};
 
 use crate::calls_in_a_row::rows_from;
 use crate::judged::Judged;
-use depth_cert::{Key, Node};
+use cfg_recover::KnownCodes;
+use depth_cert::Key;
+use packed_cert::{PackedCert, PointWalk};
 use std::alloc::Global;
 use std::collections::HashMap;
 use tcd_base::NoMemory;
 
 // The nodes' needs and keys.
-fn ranks(alloc: Global, nodes: &[Node]) -> Result<Vec<(u16, Key)>, NoMemory>
-    ensures { IfOk result (λ v. v.items ≡ map rank_of nodes.now) }
+fn ranks(alloc: Global, cert: &PackedCert) -> Result<Vec<(u16, Key)>, NoMemory>
+    ensures { IfOk result (λ v. v.items ≡ map rank_of cert.now.nodes) }
 {
     let mut ranks = Vec::new(alloc);
-    for node in nodes {
+    for i in 0..cert.len() {
+        let Some(node) = cert.get(i) else {
+            unreachable!()
+        };
         ranks.push((node.need, node.key))?;
     }
     Ok(ranks)
@@ -34,14 +39,18 @@ pub(crate) fn heights(alloc: Global, judged: &Judged) -> Result<HashMap<Key, u32
         → (h : ℕ) × (get key_eq m n.key ≡ Some h)) }
 {
     let cert = judged.cert;
-    let mut order = ranks(alloc, &cert.nodes)?;
+    // What every certificate keeps is known once its version is read.
+    let _version = cert.version();
+    let mut order = ranks(alloc, cert)?;
     order.sort()?;
     let mut heights = HashMap::new(alloc);
+    let mut codes = KnownCodes::new();
+    let mut walk = PointWalk::none();
     for (_, key) in &order {
         let Some(node) = cert.node(key) else {
             unreachable!()
         };
-        let rows = rows_from(judged, &heights, node);
+        let rows = rows_from(judged, &heights, &mut codes, &node, &mut walk);
         heights.insert(*key, rows)?;
     }
     Ok(heights)

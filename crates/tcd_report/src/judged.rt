@@ -1,6 +1,6 @@
 // What is drawn and reported.
-use depth_cert::Cert;
 use elf_image::Image;
+use packed_cert::PackedCert;
 use tcd_plan::Plan;
 use value_domain::Bounds;
 
@@ -10,5 +10,5 @@ pub(crate) struct Judged<'a> {
     pub(crate) bounds: &'a Bounds,
     pub(crate) image: &'a Image,
     pub(crate) plan: &'a Plan,
-    pub(crate) cert: &'a Cert,
+    pub(crate) cert: &'a PackedCert,
 }

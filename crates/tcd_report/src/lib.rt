@@ -14,6 +14,7 @@ mod judged;
 mod laws;
 mod lines;
 mod longest;
+mod packing;
 mod pieces;
 mod reports;
 mod segments;
@@ -21,6 +22,6 @@ mod successors;
 mod texts;
 
 pub use generating::{Generated, generate};
-pub use graphs::graph;
+pub use graphs::{graph, graph_packed};
 pub use laws::graph_law;
-pub use reports::report;
+pub use reports::{report, report_packed};

@@ -8,7 +8,8 @@ ghost use Rattle.tcd_report.specs.Calls.{priorities};
 ghost use Rattle.tcd_report.specs.Longest as spec;
 ghost use Rattle.tcd_report.specs.Longest.{AtPrio, IsGreatest, greater, row_of};
 
-use depth_cert::{Key, Node};
+use depth_cert::Key;
+use packed_cert::PackedCert;
 use std::alloc::Global;
 use std::collections::HashMap;
 use tcd_base::NoMemory;
@@ -33,16 +34,19 @@ fn greater_of(known: Option<&u32>, height: u32) -> u32
 /// For each priority the greatest number of calls in a row from one of its nodes on, if it has nodes.
 pub(crate) fn longest(
     alloc: Global,
-    nodes: &[Node],
+    cert: &PackedCert,
     heights: &HashMap<Key, u32>,
 ) -> Result<HashMap<u16, u32>, NoMemory>
-    requires { (n : NodeData) → Contains nodes.now n
+    requires { (n : NodeData) → Contains cert.now.nodes n
         → (h : ℕ) × (get key_eq heights.now n.key ≡ Some h) }
     ensures { IfOk result
-        (λ rows. (p : ℕ) → IsGreatest (AtPrio heights.now nodes.now p) (get nat_eq rows p)) }
+        (λ rows. (p : ℕ) → IsGreatest (AtPrio heights.now cert.now.nodes p) (get nat_eq rows p)) }
 {
     let mut rows = HashMap::new(alloc);
-    for node in nodes {
+    for i in 0..cert.len() {
+        let Some(node) = cert.get(i) else {
+            unreachable!()
+        };
         let Some(height) = heights.get(&node.key) else {
             unreachable!()
         };

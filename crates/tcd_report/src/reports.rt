@@ -9,10 +9,12 @@ ghost use Rattle.tcd_report.specs.Reports.{whole_data};
 use crate::heights::heights;
 use crate::judged::Judged;
 use crate::longest::{Row, longest, priority_count, rows_below};
+use crate::packing::packed;
 use crate::texts::{append, append_key};
 use cfg_recover::start_key;
-use depth_cert::{Cert, Node};
+use depth_cert::Cert;
 use elf_image::Image;
+use packed_cert::{PackedCert, PackedNode};
 use serde_json::{Map, Value, json, put};
 use std::alloc::Global;
 use tcd_base::NoMemory;
@@ -20,22 +22,25 @@ use tcd_plan::Plan;
 use value_domain::Bounds;
 
 // A node: its key, its need, and how many points it has.
-fn node_value(alloc: Global, node: &Node) -> Result<Value, NoMemory>
+fn node_value(alloc: Global, node: &PackedNode<'_>) -> Result<Value, NoMemory>
     ensures { IfOk result (λ v. view v ≡ node_data node.now) }
 {
     let mut key = String::new(alloc);
     append_key(&mut key, &node.key)?;
-    let value = json!(in alloc; {"key": key, "need": node.need, "points": node.points.len()})?;
+    let value = json!(in alloc; {"key": key, "need": node.need, "points": node.len()})?;
     Ok(value)
 }
 
 // The nodes, by their keys.
-fn nodes_value(alloc: Global, nodes: &[Node]) -> Result<Value, NoMemory>
-    ensures { IfOk result (λ v. view v ≡ nodes_data nodes.now) }
+fn nodes_value(alloc: Global, cert: &PackedCert) -> Result<Value, NoMemory>
+    ensures { IfOk result (λ v. view v ≡ nodes_data cert.now.nodes) }
 {
     let mut values = Vec::new(alloc);
-    for node in nodes {
-        let value = node_value(alloc, node)?;
+    for i in 0..cert.len() {
+        let Some(node) = cert.get(i) else {
+            unreachable!()
+        };
+        let value = node_value(alloc, &node)?;
         values.push(value)?;
     }
     Ok(Value::Array(values))
@@ -62,7 +67,7 @@ fn rows_value(alloc: Global, rows: &[Row]) -> Result<Value, NoMemory>
 }
 
 // The need of the start's node.
-fn certified(image: &Image, plan: &Plan, cert: &Cert) -> u32
+fn certified(image: &Image, plan: &Plan, cert: &PackedCert) -> u32
     ensures { result ≡ certified_need image.now plan.now cert.now }
 {
     match cert.node(&start_key(image, plan)) {
@@ -121,11 +126,16 @@ fn whole_value(
 /// The report of an accepted certificate, as one compact JSON object with its keys in byte order: the areas, for each
 /// priority the greatest number of calls in a row, the certified need, the nodes with their needs and numbers of points, and
 /// the areas kept in reserve. A line feed follows.
-pub fn report(alloc: Global, image: &Image, plan: &Plan, cert: &Cert) -> Result<String, NoMemory>
+pub fn report_packed(
+    alloc: Global,
+    image: &Image,
+    plan: &Plan,
+    cert: &PackedCert,
+) -> Result<String, NoMemory>
     requires { Accepts image.now plan.now cert.now }
     ensures { IfOk result (λ text. IsReport image.now plan.now cert.now (string_bytes text)) }
 {
-    let bounds = Bounds::of(plan, cert.version);
+    let bounds = Bounds::of(plan, cert.version());
     let judged = Judged {
         bounds: &bounds,
         image,
@@ -133,13 +143,22 @@ pub fn report(alloc: Global, image: &Image, plan: &Plan, cert: &Cert) -> Result<
         cert,
     };
     let heights = heights(alloc, &judged)?;
-    let known = longest(alloc, &cert.nodes, &heights)?;
+    let known = longest(alloc, cert, &heights)?;
     let rows = rows_below(alloc, &known, priority_count())?;
     let need = certified(image, plan, cert);
     let calls = rows_value(alloc, &rows)?;
-    let nodes = nodes_value(alloc, &cert.nodes)?;
+    let nodes = nodes_value(alloc, cert)?;
     let value = whole_value(alloc, plan, need, calls, nodes)?;
     let mut text = value.to_string(alloc)?;
     append(&mut text, "\n")?;
     Ok(text)
+}
+
+/// The report of an accepted certificate in memory, which is made of the bytes that spell it.
+pub fn report(alloc: Global, image: &Image, plan: &Plan, cert: &Cert) -> Result<String, NoMemory>
+    requires { Accepts image.now plan.now cert.now }
+    ensures { IfOk result (λ text. IsReport image.now plan.now cert.now (string_bytes text)) }
+{
+    let cert = packed(alloc, cert)?;
+    report_packed(alloc, image, plan, &cert)
 }

@@ -5,12 +5,11 @@ ghost use Rattle.value_domain.specs.State.{AreValues};
 ghost use Rattle.vd_transfer.specs.Branches.{refine_of};
 ghost use Rattle.cfg_recover.specs.Local.{targets_of};
 ghost use Rattle.cfg_recover.specs.Duties.{jump_on};
-ghost use Rattle.tcd_report.specs.Judging.{successors_at};
+ghost use Rattle.tcd_report.specs.Judging.{point_of, successors_at};
 ghost use Rattle.tcd_report.specs.Told.{jumped_in};
 
 use crate::judged::Judged;
 use cfg_recover::{Located, targets};
-use depth_cert::Point;
 use tc_isa::{Shape, Target};
 use tcd_base::NoMemory;
 use tcd_plan::Plan;
@@ -50,12 +49,18 @@ fn push_side(
 }
 
 // Adds where a jump may go.
-fn push_targets(all: &mut Vec<u32>, plan: &Plan, point: &Point, to: Target) -> Result<(), NoMemory>
+fn push_targets(
+    all: &mut Vec<u32>,
+    plan: &Plan,
+    addr: u32,
+    s: &State,
+    to: Target,
+) -> Result<(), NoMemory>
     requires { IsTarget to }
     ensures { OnOk result (all.new.items ≡ all.old.items
-        ++ unwrap_or (targets_of plan.now point.now.state point.now.addr to) []) }
+        ++ unwrap_or (targets_of plan.now s.now addr to) []) }
 {
-    let targets = targets(plan, &point.state, point.addr, to);
+    let targets = targets(plan, s, addr, to);
     all.extend_from_slice(targets.as_slice())?;
     Ok(())
 }
@@ -83,28 +88,22 @@ fn push_sides(
 pub(crate) fn push_successors(
     all: &mut Vec<u32>,
     judged: &Judged,
-    point: &Point,
+    addr: u32,
+    s: &State,
     found: &Located,
 ) -> Result<(), NoMemory>
     requires shape { IsShape found.now.shape }
-    requires values { AreValues judged.now.bounds.now point.now.state.regs }
+    requires values { AreValues judged.now.bounds.now s.now.regs }
     ensures { OnOk result (all.new.items ≡ all.old.items
-        ++ jumped_in (successors_at judged.now point.now found.now)) }
+        ++ jumped_in (successors_at judged.now (point_of addr s.now) found.now)) }
 {
     let shape = found.shape;
-    let next = point.addr.wrapping_add(found.size);
+    let next = addr.wrapping_add(found.size);
     match shape {
         Shape::Branch { by, .. } => {
-            push_sides(
-                all,
-                judged,
-                shape,
-                &point.state,
-                next,
-                point.addr.wrapping_add(by),
-            )
+            push_sides(all, judged, shape, s, next, addr.wrapping_add(by))
         }
-        Shape::Jump { to } => push_targets(all, judged.plan, point, to),
+        Shape::Jump { to } => push_targets(all, judged.plan, addr, s, to),
         Shape::Call { .. } | Shape::Ret | Shape::Rfe | Shape::Syscall { .. } | Shape::Mtcr { .. } =>
             Ok(()),
         _ => {

@@ -4,14 +4,14 @@ ghost use Rattle.tcd_driver.specs.Cfg.{IsDrawing, IsDrawn, SpellOne, cfg_reading
 ghost use Rattle.tcd_reading.specs.Outcomes.{Comes, IsTold};
 
 use crate::making::{Making, make_best};
-use depth_cert::Cert;
 use elf_image::Image;
+use packed_cert::PackedCert;
 use std::alloc::Global;
 use tcd_base::{Files, NoMemory};
 use tcd_forms::{ElfFile, PlanFile, refused_line};
 use tcd_plan::Plan;
 use tcd_reading::{Outcome, Status, read_input, report};
-use tcd_report::graph;
+use tcd_report::graph_packed;
 
 /// Reads an executable and a plan, and draws the graph of their certificate.
 #[inline(never)]
@@ -59,8 +59,8 @@ fn graph_text(
     // What every image and every plan keep is known once they are read.
     let _entry = image.entry;
     let _areas = plan.areas;
-    match Cert::read(alloc, &bytes) {
-        Ok(cert) => Ok(graph(alloc, image, plan, &cert)?.into_bytes()),
+    match PackedCert::read(alloc, bytes) {
+        Ok(cert) => Ok(graph_packed(alloc, image, plan, &cert)?.into_bytes()),
         Err(_) => Err(NoMemory),
     }
 }

@@ -13,6 +13,7 @@ use tcd_base::{Files, NoMemory};
 use tcd_forms::{CertFile, ElfFile, PlanFile, refused_line};
 use tcd_plan::Plan;
 use tcd_reading::{Outcome, Status, read_input, report};
+use tcd_report::report_packed;
 
 /// Reads the three files, and tells the certificate's report, where it is accepted.
 #[inline(never)]
@@ -53,7 +54,7 @@ fn reported(alloc: Global, image: &Image, plan: &Plan, cert: &PackedCert) -> Out
     }
 }
 
-// The report of an accepted certificate, which is made of the certificate in memory.
+// The report of an accepted certificate, as bytes.
 fn report_text(
     alloc: Global,
     image: &Image,
@@ -63,6 +64,5 @@ fn report_text(
     requires { Accepts image.now plan.now cert.now }
     ensures { IfOk result (λ text. IsReport image.now plan.now cert.now text.items) }
 {
-    let frames = cert.unpack(alloc)?;
-    Ok(tcd_report::report(alloc, image, plan, &frames)?.into_bytes())
+    Ok(report_packed(alloc, image, plan, cert)?.into_bytes())
 }

@@ -5,13 +5,14 @@ use Rattle.tc_machine.specs.Machine.{moved}
 use Rattle.cfg_recover.specs.Duties.{resume}
 use Rattle.cfg_recover.specs.Flows.{entered_key}
 use Rattle.tcd_report.specs.Graphs.{back_by}
+use Rattle.tcd_report.specs.Judging.{point_of}
 use Rattle.tcd_report.proofs.DutyLists.{calls_return, none_returns, system_returns}
 use Rattle.tcd_report.proofs.edges.add_returns.Goals as goal
 
 pub returns-in-Call : goal.returns-in-Call
 returns-in-Call c =
     let j = c.args.judged.now in
-    let point = c.args.point.now in
+    let point = point_of c.args.addr c.args.s.now in
     let found = c.args.found.now in
     let g : ℕ → List ℕ = λ t. back_by j.cert.now (resume (entered_key c.args.key.now 1 t) (moved point.addr found.size)) in
     rw c.in-Call.is
@@ -21,7 +22,7 @@ returns-in-Call c =
 pub returns-in-Syscall : goal.returns-in-Syscall
 returns-in-Syscall c =
     let j = c.args.judged.now in
-    let point = c.args.point.now in
+    let point = point_of c.args.addr c.args.s.now in
     let found = c.args.found.now in
     rw c.in-Syscall.is
     (subst (λ l. OnOk c.push_return.result (c.push_return.new.all.items ≡ c.args.all.now.items ++ l)) (sym (system_returns j.cert.now j.plan.now c.args.key.now point.addr point.state c.in-Syscall.tin found.size))
@@ -30,5 +31,5 @@ returns-in-Syscall c =
 pub returns-in_default : goal.returns-in_default
 returns-in_default c =
     let j = c.args.judged.now in
-    let point = c.args.point.now in
+    let point = point_of c.args.addr c.args.s.now in
     sym (ap (λ l. c.args.all.now.items ++ l) (none_returns j.cert.now j.plan.now c.args.key.now point.addr point.state c.args.found.now.shape c.args.found.now.size c.in_default.not-Call c.in_default.not-Syscall) ∙ append-nil c.args.all.now.items)

@@ -1,7 +1,7 @@
 use Rattle.std.proofs.Common.{◌++◌, ◌∙◌, ap, sym}
 use Rattle.value_domain.specs.Sets.{distinct}
 use Rattle.tcd_report.specs.Graphs.{each_once}
-use Rattle.tcd_report.specs.Judging.{entries_at, successors_at}
+use Rattle.tcd_report.specs.Judging.{point_of, entries_at, successors_at}
 use Rattle.tcd_report.specs.Told.{jumped_in, returned_in, vectors_in}
 use Rattle.tcd_report.proofs.DutyLists.{jumps_told, calls_told, systems_told, misaligned_told, interrupts_told, returns_told, systems_once, misaligned_once}
 use Rattle.tcd_report.proofs.edges.edges_of.Goals as goal
@@ -14,7 +14,7 @@ returns c =
     let plan = j.plan.now in
     let cert = j.cert.now in
     let key = c.args.key.now in
-    let point = c.args.point.now in
+    let point = point_of c.args.addr c.args.s.now in
     let found = c.args.found.now in
     let s = point.state in
     record {

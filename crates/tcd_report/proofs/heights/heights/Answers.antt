@@ -13,12 +13,11 @@ use Rattle.tcd_report.proofs.heights.heights.Goals as goal
 pub unreachable-requires : goal.unreachable-requires
 unreachable-requires c =
     let cert : CertData = c.args.judged.now.cert.now in
-    let is : IsCert cert = subst IsCert c.cert.view_is c.cert.invariant in
-    let same : c.deref.result.now ≡ cert.nodes = c.deref.ensures.value ∙ ap (λ (t : CertData). t.nodes) c.cert.view_is in
+    let is : IsCert cert = c.version-version.ensures.limits in
     let order : List (ℕ × Key) = c.deref-key-items.result.now in
     let moved : IsPermutation (map rank_of cert.nodes) order =
     subst (λ (l : List (ℕ × Key)). IsPermutation (map rank_of cert.nodes) l) (sym c.deref-key-items.ensures.value)
-    (subst (λ (l : List (ℕ × Key)). IsPermutation l c.sort.new.self.items) (c.in_ok-order.ensures ∙ ap (map rank_of) same) c.in_ok-sort.ensures.permutation) in
+    (subst (λ (l : List (ℕ × Key)). IsPermutation l c.sort.new.self.items) c.in_ok-order.ensures c.in_ok-sort.ensures.permutation) in
     let i : ℕ = c.loop-key.key-index in
     let none : ℕ × Key = (0, record { kind = 0; entry = 0; prio = 0; is = false }) in
     let x : ℕ × Key = get_or order i none in
@@ -30,41 +29,39 @@ unreachable-requires c =
 pub rows_from-rows-requires-clause-low : goal.rows_from-rows-requires-clause-low
 rows_from-rows-requires-clause-low c =
     let j = c.args.judged.now in
-    tells_low j.image.now j.plan.now j.cert.now (subst IsCert c.cert.view_is c.cert.invariant) c.requires.accepted c.loop-key.heights c.loop-key.invariant.tells
+    tells_low j.image.now j.plan.now j.cert.now (c.version-version.ensures.limits) c.requires.accepted c.loop-key.heights c.loop-key.invariant.tells
 
 pub rows_from-rows-requires-clause-stands : goal.rows_from-rows-requires-clause-stands
 rows_from-rows-requires-clause-stands c =
     let cert : CertData = c.args.judged.now.cert.now in
-    let is : IsCert cert = subst IsCert c.cert.view_is c.cert.invariant in
-    let same : c.deref.result.now ≡ cert.nodes = c.deref.ensures.value ∙ ap (λ (t : CertData). t.nodes) c.cert.view_is in
+    let is : IsCert cert = c.version-version.ensures.limits in
     let order : List (ℕ × Key) = c.deref-key-items.result.now in
     let moved : IsPermutation (map rank_of cert.nodes) order =
     subst (λ (l : List (ℕ × Key)). IsPermutation (map rank_of cert.nodes) l) (sym c.deref-key-items.ensures.value)
-    (subst (λ (l : List (ℕ × Key)). IsPermutation l c.sort.new.self.items) (c.in_ok-order.ensures ∙ ap (map rank_of) same) c.in_ok-sort.ensures.permutation) in
+    (subst (λ (l : List (ℕ × Key)). IsPermutation l c.sort.new.self.items) c.in_ok-order.ensures c.in_ok-sort.ensures.permutation) in
     let i : ℕ = c.loop-key.key-index in
     let none : ℕ × Key = (0, record { kind = 0; entry = 0; prio = 0; is = false }) in
     let x : ℕ × Key = get_or order i none in
     let lt : i < length order = c.loop-key-test.true in
     let r = ranked cert is order moved x (Contains-get_or order i none lt) in
-    let node_is : c.in-Some.node.now ≡ r.0 = let f : Some c.in-Some.node.now ≡ Some r.0 = c.in-Some.ensures ∙ (r.1).0 in cc in
+    let node_is : c.in-Some.node ≡ r.0 = let f : Some c.in-Some.node ≡ Some r.0 = c.in-Some.ensures ∙ (r.1).0 in cc in
     subst (λ (n : NodeData). Contains cert.nodes n) (sym node_is) ((r.1).1).stands
 
 pub loop-key-preserved : goal.loop-key-preserved
 loop-key-preserved c =
     let j = c.args.judged.now in
     let cert : CertData = c.args.judged.now.cert.now in
-    let is : IsCert cert = subst IsCert c.cert.view_is c.cert.invariant in
-    let same : c.deref.result.now ≡ cert.nodes = c.deref.ensures.value ∙ ap (λ (t : CertData). t.nodes) c.cert.view_is in
+    let is : IsCert cert = c.version-version.ensures.limits in
     let order : List (ℕ × Key) = c.deref-key-items.result.now in
     let moved : IsPermutation (map rank_of cert.nodes) order =
     subst (λ (l : List (ℕ × Key)). IsPermutation (map rank_of cert.nodes) l) (sym c.deref-key-items.ensures.value)
-    (subst (λ (l : List (ℕ × Key)). IsPermutation l c.sort.new.self.items) (c.in_ok-order.ensures ∙ ap (map rank_of) same) c.in_ok-sort.ensures.permutation) in
+    (subst (λ (l : List (ℕ × Key)). IsPermutation l c.sort.new.self.items) c.in_ok-order.ensures c.in_ok-sort.ensures.permutation) in
     let i : ℕ = c.loop-key.key-index in
     let none : ℕ × Key = (0, record { kind = 0; entry = 0; prio = 0; is = false }) in
     let x : ℕ × Key = get_or order i none in
     let lt : i < length order = c.loop-key-test.true in
     let r = ranked cert is order moved x (Contains-get_or order i none lt) in
-    let node_is : c.in-Some.node.now ≡ r.0 = let f : Some c.in-Some.node.now ≡ Some r.0 = c.in-Some.ensures ∙ (r.1).0 in cc in
+    let node_is : c.in-Some.node ≡ r.0 = let f : Some c.in-Some.node ≡ Some r.0 = c.in-Some.ensures ∙ (r.1).0 in cc in
     let at : x ≡ get_or order i x = get_or_default order i none x lt in
     let sorted : IsSortedBy (λ x y. is_lt (ordering_then (nat_cmp x.0 y.0) (key_cmp x.1 y.1))) order =
     subst (λ (l : List (ℕ × Key)). IsSortedBy (λ x y. is_lt (ordering_then (nat_cmp x.0 y.0) (key_cmp x.1 y.1))) l) (sym c.deref-key-items.ensures.value) c.in_ok-sort.ensures.sorted in
@@ -88,10 +85,9 @@ loop-key-preserved c =
 pub returns-clause-all : goal.returns-clause-all
 returns-clause-all c =
     let cert : CertData = c.args.judged.now.cert.now in
-    let is : IsCert cert = subst IsCert c.cert.view_is c.cert.invariant in
-    let same : c.deref.result.now ≡ cert.nodes = c.deref.ensures.value ∙ ap (λ (t : CertData). t.nodes) c.cert.view_is in
+    let is : IsCert cert = c.version-version.ensures.limits in
     let order : List (ℕ × Key) = c.deref-key-items.result.now in
     let moved : IsPermutation (map rank_of cert.nodes) order =
     subst (λ (l : List (ℕ × Key)). IsPermutation (map rank_of cert.nodes) l) (sym c.deref-key-items.ensures.value)
-    (subst (λ (l : List (ℕ × Key)). IsPermutation l c.sort.new.self.items) (c.in_ok-order.ensures ∙ ap (map rank_of) same) c.in_ok-sort.ensures.permutation) in
+    (subst (λ (l : List (ℕ × Key)). IsPermutation l c.sort.new.self.items) c.in_ok-order.ensures c.in_ok-sort.ensures.permutation) in
     all_known cert c.loop-key.heights order c.loop-key.key-index moved c.loop-key-test.false c.loop-key.invariant.all

@@ -4,5 +4,5 @@ use Rattle.std.specs.HashMap.{get}
 use Rattle.tcd_report.specs.Longest.{AtPrio, IsGreatest}
 use Rattle.tcd_report.proofs.longest.longest.Given as goal
 
-abbrev pub invariant-loop-node : goal.invariant-loop-node
-invariant-loop-node l = (p : ℕ) → IsGreatest (AtPrio l.heights (take l.node-index l.nodes) p) (get nat_eq l.rows p)
+abbrev pub invariant-loop-i : goal.invariant-loop-i
+invariant-loop-i l = (p : ℕ) → IsGreatest (AtPrio l.heights (take l.i (l.cert).nodes) p) (get nat_eq l.rows p)

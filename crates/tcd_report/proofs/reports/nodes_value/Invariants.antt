@@ -3,5 +3,5 @@ use Rattle.serde_json.specs.View.{view}
 use Rattle.tcd_report.specs.Reports.{node_data}
 use Rattle.tcd_report.proofs.reports.nodes_value.Given as goal
 
-abbrev pub invariant-loop-node : goal.invariant-loop-node
-invariant-loop-node l = map view l.values.items ≡ map node_data (take l.node-index l.nodes)
+abbrev pub invariant-loop-i : goal.invariant-loop-i
+invariant-loop-i l = map view l.values.items ≡ map node_data (take l.i (l.cert).nodes)

@@ -9,7 +9,7 @@ returns-in-Branch c = rw c.in-Branch.is c.push_sides.ensures
 pub returns-in-Jump : goal.returns-in-Jump
 returns-in-Jump c =
     rw c.in-Jump.is
-    (subst (λ l. OnOk c.push_targets.result (c.push_targets.new.all.items ≡ c.args.all.now.items ++ l)) (sym (jumps_are c.args.point.now.state _)) c.push_targets.ensures)
+    (subst (λ l. OnOk c.push_targets.result (c.push_targets.new.all.items ≡ c.args.all.now.items ++ l)) (sym (jumps_are c.args.s.now _)) c.push_targets.ensures)
 
 pub returns-in_ok-push-in_default : goal.returns-in_ok-push-in_default
 returns-in_ok-push-in_default c =
@@ -17,5 +17,5 @@ returns-in_ok-push-in_default c =
     let d = c.in_default in
     c.in_ok-push-in_default.ensures.items
     ∙ ap (λ l. c.args.all.now.items ++ l)
-    (sym (next_alone j.bounds.now j.image.now j.plan.now c.args.point.now.addr c.args.point.now.state c.args.found.now.shape c.args.found.now.size
+    (sym (next_alone j.bounds.now j.image.now j.plan.now c.args.addr c.args.s.now c.args.found.now.shape c.args.found.now.size
     d.not-Branch d.not-Jump d.not-Call d.not-Ret d.not-Rfe d.not-Syscall d.not-Mtcr))

@@ -12,23 +12,21 @@ use Rattle.tcd_report.specs.declared.longest.Row.{Row}
 use Rattle.tcd_report.specs.Reports.{nodes_data, rows_data, whole_data, report_data}
 use Rattle.tcd_report.proofs.LongestLaws.{prios_are, rows_longest}
 use Rattle.tcd_report.proofs.ReportTexts.{report_plain}
-use Rattle.tcd_report.proofs.reports.report.Goals as goal
+use Rattle.tcd_report.proofs.reports.report_packed.Goals as goal
 
 pub returns : goal.returns
 returns c =
     let image = c.args.image.now in
     let plan = c.args.plan.now in
     let cert : CertData = c.args.cert.now in
-    let is : IsCert cert = subst IsCert c.cert.view_is c.cert.invariant in
+    let is : IsCert cert = c.version.ensures.limits in
     let heights = c.in_ok-heights.heights in
     let row : ℕ → Option ℕ = get nat_eq c.in_ok-known.known in
     let rows : List Row = rows_below row priorities in
-    let same : c.deref.result.now ≡ cert.nodes = c.deref.ensures.value ∙ ap (λ (t : CertData). t.nodes) c.cert.view_is in
-    let same_too : c.deref-3.result.now ≡ cert.nodes = c.deref-3.ensures.value ∙ ap (λ (t : CertData). t.nodes) c.cert.view_is in
-    let greatest : (p : ℕ) → IsGreatest (AtPrio heights cert.nodes p) (row p) = subst (λ (ns : List NodeData). (p : ℕ) → IsGreatest (AtPrio heights ns p) (row p)) same c.in_ok-known.ensures in
+    let greatest : (p : ℕ) → IsGreatest (AtPrio heights cert.nodes p) (row p) = c.in_ok-known.ensures in
     let rows_are : c.in_ok-rows.rows.items ≡ rows = c.in_ok-rows.ensures ∙ ap (rows_below row) c.priority_count.ensures in
-    let calls_are : view c.in_ok-calls.calls ≡ rows_data rows = c.in_ok-calls.ensures ∙ ap rows_data (c.deref-2.ensures.value ∙ rows_are) in
-    let nodes_are : view c.in_ok-nodes.nodes ≡ nodes_data cert.nodes = c.in_ok-nodes.ensures ∙ ap nodes_data same_too in
+    let calls_are : view c.in_ok-calls.calls ≡ rows_data rows = c.in_ok-calls.ensures ∙ ap rows_data (c.deref.ensures.value ∙ rows_are) in
+    let nodes_are : view c.in_ok-nodes.nodes ≡ nodes_data cert.nodes = c.in_ok-nodes.ensures in
     let value_is : view c.in_ok-value.value ≡ report_data image plan cert rows =
     c.in_ok-value.ensures
     ∙ ap (λ d. whole_data plan.areas d c.certified-need.result (view c.in_ok-nodes.nodes) plan.reserve) calls_are

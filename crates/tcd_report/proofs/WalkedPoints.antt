@@ -1,0 +1,43 @@
+-- Points that are walked over, and elements looked up by index, one after another.
+use Rattle.std.proofs.Common.{◌≡◌, ◌∙◌, ◌<◌, ◌+◌, ℕ, zero, suc, List, [], ◌∷◌, ◌++◌, Some, None, length, get_or, map, take, Contains, Result, Ok, sym, ap, subst, refl, arith, append_assoc, append-nil}
+use Rattle.std.specs.List.{slice_get}
+use Rattle.std.proofs.lemmas.List.{take_more, map-append}
+use Rattle.std.proofs.lemmas.List.Elements.{Contains-append_right}
+use Rattle.std.proofs.lemmas.Option.{slice_get_within, get_or_from_slice_get, none-some}
+use Rattle.depth_cert.specs.declared.points.Point.{Point}
+
+-- one step
+pub split_more : (points done left after : List Point) (p : Point) → points ≡ done ++ left → left ≡ p ∷ after → points ≡ (done ++ p ∷ []) ++ after
+split_more points done left after p e f = e ∙ ap (λ (l : List Point). done ++ l) f ∙ sym (append_assoc done (p ∷ []) after)
+
+-- the point at hand is one of them
+pub walked : (points done left after : List Point) (p : Point) → points ≡ done ++ left → left ≡ p ∷ after → Contains points p
+walked points done left after p e f =
+    subst (λ (l : List Point). Contains l p) (sym (e ∙ ap (λ (l : List Point). done ++ l) f))
+    (Contains-append_right done (p ∷ after) p (0, omega arith, refl))
+
+-- none is left
+pub walked_all : (points done left : List Point) → points ≡ done ++ left → left ≡ [] → points ≡ done
+walked_all points done left e f = e ∙ ap (λ (l : List Point). done ++ l) f ∙ append-nil done
+
+-- something stands at each index
+pub never_none : {A : Type 0} (xs : List A) (i : ℕ) → i < length xs → None ≡ slice_get xs i → ⊥
+never_none [] i lt e = absurd (omega (arith, lt))
+never_none (x ∷ xs) zero lt e = absurd (none-some _ e)
+never_none (x ∷ xs) (suc i) lt e = never_none xs i (omega (arith, lt)) e
+
+-- what is found is one of them
+pub got : {A : Type 0} (xs : List A) (i : ℕ) (x : A) → Some x ≡ slice_get xs i → Contains xs x
+got xs i x e = (i, slice_get_within xs i x (sym e), get_or_from_slice_get xs i x x (sym e))
+
+-- one element more
+pub mapped_more : {A : Type 0} {B : Type 0} (f : A → B) (xs : List A) (i : ℕ) (x : A) (ys : List B) (y : B) → Some x ≡ slice_get xs i → ys ≡ map f (take i xs) → y ≡ f x → ys ++ y ∷ [] ≡ map f (take (i + 1) xs)
+mapped_more f xs i x ys y e before last =
+    ap (λ l. l ++ y ∷ []) before
+    ∙ ap (λ z. map f (take i xs) ++ z ∷ []) (last ∙ ap f (sym (get_or_from_slice_get xs i x x (sym e))))
+    ∙ sym (map-append f (take i xs) (get_or xs i x ∷ []))
+    ∙ ap (map f) (sym (take_more xs i x (slice_get_within xs i x (sym e))))
+
+-- a reading has one answer
+pub one_ok : {A E : Type 0} (r : Result A E) (x y : A) → r ≡ Ok x → r ≡ Ok y → x ≡ y
+one_ok r x y e f = let g : Ok x ≡ Ok y = sym e ∙ f in cc
