@@ -8,7 +8,7 @@ use Rattle.tc_isa.specs.declared.shapes.Arg.TheVariants.{Reg, Word}
 use Rattle.tc_isa.specs.declared.shapes.Cond.{Cond}
 use Rattle.tc_isa.specs.declared.shapes.Op.TheVariants.{Add, Sub}
 use Rattle.tc_isa.specs.declared.shapes.Shape.{Shape}
-use Rattle.tc_isa.specs.declared.shapes.Shape.TheVariants.{Compute, Scaled, Load, Store, Branch, Jump, Call, Ret, Rfe, Svlcx, Rslcx, Bisr, Enable, Disable, Syscall, Mfcr, Mtcr, Nothing}
+use Rattle.tc_isa.specs.declared.shapes.Shape.TheVariants.{Compute, Scaled, Load, Store, Branch, Svlcx, Rslcx, Bisr, Enable, Disable, Mfcr, Mtcr, Nothing}
 use Rattle.value_domain.specs.declared.values.Val.{Val}
 use Rattle.value_domain.specs.declared.states.State.{State}
 use Rattle.value_domain.specs.Limits.{Limits}
@@ -96,21 +96,9 @@ keeps_valueless (Scaled dst base index n) word input r writes none = valueless_s
 keeps_valueless (Load dst base offset size signed after) word input r writes none =
     valueless_set (with_base_word word base offset after) dst input r writes.0 none ∙ valueless_base word base offset after r writes.1 none
 keeps_valueless (Store src base offset size after) word input r writes none = valueless_base word base offset after r writes none
-keeps_valueless (Branch test x y by false) word input r writes none = refl
 keeps_valueless (Branch test x y by true) word input r writes none = valueless_set word x _ r (writes refl) none
-keeps_valueless (Jump to) word input r writes none = refl
-keeps_valueless (Call to) word input r writes none = refl
-keeps_valueless Ret word input r writes none = refl
-keeps_valueless Rfe word input r writes none = refl
-keeps_valueless Svlcx word input r writes none = refl
-keeps_valueless Rslcx word input r writes none = refl
-keeps_valueless (Bisr c) word input r writes none = refl
-keeps_valueless Enable word input r writes none = refl
-keeps_valueless Disable word input r writes none = refl
-keeps_valueless (Syscall tin) word input r writes none = refl
 keeps_valueless (Mfcr dst number) word input r writes none = valueless_set word dst input r writes none
-keeps_valueless (Mtcr src number) word input r writes none = refl
-keeps_valueless Nothing word input r writes none = refl
+keeps_valueless _ word input r writes none = refl
 
 pub keeps_locals : (b : Limits) (plan : PlanData) (shape : Shape) (s : State) (loaded : Val) → GoesOn shape → (transfer_of b plan shape s loaded).locals.items ≡ s.locals.items
 unfolding transfer_of

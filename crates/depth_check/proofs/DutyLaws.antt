@@ -10,7 +10,7 @@ use Rattle.tcd_plan.specs.PlanData.{PlanData}
 use Rattle.elf_image.specs.Images.{ImageData}
 use Rattle.tc_isa.specs.declared.shapes.Shape.{Shape}
 use Rattle.tc_isa.specs.declared.shapes.Shape.TheVariants as form
-use Rattle.tc_isa.specs.declared.shapes.Shape.TheVariants.{Compute, Scaled, Load, Store, Branch, Call, Svlcx, Rslcx, Bisr, Enable, Disable, Syscall, Mfcr, Mtcr, Nothing}
+use Rattle.tc_isa.specs.declared.shapes.Shape.TheVariants.{Compute, Load, Store}
 use Rattle.value_domain.specs.declared.values.Val.{Val}
 use Rattle.value_domain.specs.declared.states.State.{State}
 use Rattle.value_domain.specs.Limits.{Limits}
@@ -215,23 +215,7 @@ leaving_found cert node s l o f =
 leavings-is : (key : Key) (s : State) (shape : Shape) → told_leaving key s (leave_of shape) ≡ leavings_of key s shape
 unfolding leave_of
 leavings-is key s (Compute op dst x y) = refl
-leavings-is key s (Scaled dst base index n) = refl
-leavings-is key s (Load dst base offset size signed after) = refl
-leavings-is key s (Store src base offset size after) = refl
-leavings-is key s (Branch cond x y by lowers) = refl
-leavings-is key s (form.Jump to) = refl
-leavings-is key s (Call to) = refl
-leavings-is key s form.Ret = refl
-leavings-is key s form.Rfe = refl
-leavings-is key s Svlcx = refl
-leavings-is key s Rslcx = refl
-leavings-is key s (Bisr c) = refl
-leavings-is key s Enable = refl
-leavings-is key s Disable = refl
-leavings-is key s (Syscall tin) = refl
-leavings-is key s (Mfcr dst number) = refl
-leavings-is key s (Mtcr src number) = refl
-leavings-is key s Nothing = refl
+leavings-is key s _ = refl
 
 pub shape_found : (cert : CertData) (node : NodeData) (s : State) (shape : Shape) (o : Option ℕ) → Finds (LeavingHolds node s (leave_of shape)) o → Finds (DutiesHold cert node s (leavings_of node.key s shape)) o
 shape_found cert node s shape o f =

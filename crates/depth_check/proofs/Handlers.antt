@@ -76,10 +76,10 @@ module _ (image : ImageData) (plan : PlanData) (cert : CertData) (most : ℕ) (i
 
     -- a handler that leaves the lower registers goes back to the point
     goes_back : (node : NodeData) → ((node.key).kind ≡ 2) ⊎ ((node.key).kind ≡ 4) → (word : ℕ → ℕ) (ie : Bool) (ccpn : ℕ) → UpperSame (reg m) word → word 27 < 2 ^ 32 → Leaves m.ie m.ccpn node (reg m) word ie ccpn → Resumed plan frame m.pc word ie ccpn
-    goes_back node kind word ie ccpn upper a11_small (by_return x is one h) = elim kind [ inl two ↦ absurd (omega arith) | inr four ↦ absurd (omega arith) ]
-    goes_back node kind word ie ccpn upper a11_small (from_system x ie2 ccpn2 is three h enabled priority) = elim kind [ inl two ↦ absurd (omega arith) | inr four ↦ absurd (omega arith) ]
     goes_back node kind word ie ccpn upper a11_small (from_handler which lower enabled priority) =
         again image plan cert most is_cert accepted m words frame below k regs word ie ccpn upper a11_small lower enabled priority
+    goes_back node kind word ie ccpn upper a11_small (by_return x is one h) = elim kind [ inl two ↦ absurd (omega arith) | inr four ↦ absurd (omega arith) ]
+    goes_back node kind word ie ccpn upper a11_small (from_system x ie2 ccpn2 is three h enabled priority) = elim kind [ inl two ↦ absurd (omega arith) | inr four ↦ absurd (omega arith) ]
 
     -- ---- an interrupt
     module _ (irq : ℕ) (node : NodeData) (found : Found image plan cert is_cert accepted (irq_key plan irq) node)

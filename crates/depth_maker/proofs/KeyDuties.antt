@@ -30,17 +30,16 @@ use Rattle.depth_cert.specs.declared.keys.Key.{Key}
 use Rattle.depth_cert.specs.Keys.{IsKey}
 use Rattle.cfg_recover.specs.Entries.{call_key, call_entry, irq_key, sys_key, sys_entry, aln_key}
 use Rattle.cfg_recover.specs.Local.{named_by, targets_of, are_aligned}
-use Rattle.cfg_recover.specs.Duties.{Duty, jump, enter, resume, leave, Owed, owed, jump_on, successors_of, entered_and_back, entries_of, misaligned_at, misaligned_of, leavings_of, duties_of}
+use Rattle.cfg_recover.specs.Duties.{Duty, enter, resume, Owed, owed, jump_on, successors_of, entered_and_back, entries_of, misaligned_at, misaligned_of, leavings_of, duties_of}
 use Rattle.cfg_recover.proofs.DutyView.{DutyAt, called, called_back, system, system_back, misaligned, interrupt, duty_at}
 use Rattle.depth_maker.proofs.OwnGrowth.{among_contained}
 use Rattle.depth_maker.proofs.DutyGrowth.{contained_map, contained_flat, contained_filter}
 
 -- a frame that is entered, or comes back, has a key
 abbrev pub HasKey : Duty → Type 0
-HasKey (jump q t) = Unit {0}
 HasKey (enter k t) = IsKey k
 HasKey (resume k q) = IsKey k
-HasKey (leave x) = Unit {0}
+HasKey _ = Unit {0}
 
 -- ---- addresses
 named_small : (v : Val) → IsWell v → (x : ℕ) → Among x (unwrap_or (named_by v) []) → x < 2 ^ 32

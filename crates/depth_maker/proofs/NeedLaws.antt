@@ -6,7 +6,7 @@ use Rattle.value_domain.specs.declared.states.State.{State}
 use Rattle.value_domain.specs.Limits.{Limits}
 use Rattle.depth_cert.specs.declared.keys.Key.{Key}
 use Rattle.depth_cert.specs.Certs.{CertData, IsCert}
-use Rattle.cfg_recover.specs.Duties.{Duty, jump, enter, resume, leave}
+use Rattle.cfg_recover.specs.Duties.{Duty, enter}
 use Rattle.cfg_recover.specs.Accepting.{limits_in, Accepts}
 use Rattle.cfg_recover.specs.Assignments.{point, Assignment, known_in, IsBelowAt, Derived, Closed, HasDuty}
 use Rattle.depth_cert.specs.Known.{Known, state}
@@ -22,10 +22,8 @@ use Rattle.depth_maker.proofs.Sizes.{accepted_within}
 
 -- what asks no less than an entry is an entry of the same frame
 enters_above : (t : Key) (u : State) (e : Duty) → IsDutyBelow (enter t u) e → (w : State) × (e ≡ enter t w)
-enters_above t u (jump q w) h = absurd h
 enters_above t u (enter j w) h = (w, ap (λ (k : Key). enter k w) (sym h.0))
-enters_above t u (resume j q) h = absurd h
-enters_above t u (leave x) h = absurd h
+enters_above t u _ h = absurd h
 
 module _ (b : Limits) (image : ImageData) (plan : PlanData) (laws : AreLawful b image plan) (c : Assignment) (closed : Closed b image plan c) (faultless : AllFaultless b image plan c) (pc : AllProper b c) where
   -- an entry of a smaller assignment is one of the closed one, with as many locals

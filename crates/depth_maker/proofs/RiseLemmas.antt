@@ -18,7 +18,7 @@ use Rattle.depth_maker.proofs.PlaceKinds.{unjoined_fault}
 use Rattle.frame_places.specs.declared.places.Spot.{Spot}
 use Rattle.frame_places.specs.declared.places.Mark.{Mark}
 use Rattle.frame_places.specs.declared.places.Spot.TheVariants.{Point}
-use Rattle.frame_places.specs.declared.places.Mark.TheVariants.{Idle, Plain, Queued, Open}
+use Rattle.frame_places.specs.declared.places.Mark.TheVariants.{Plain, Queued}
 use Rattle.frame_places.specs.declared.refusals.Refusal.TheVariants.{Fault}
 use Rattle.depth_maker.specs.declared.table.Table as made
 use Rattle.frame_places.specs.Spots.{spot_eq}
@@ -39,11 +39,8 @@ use Rattle.frame_places.proofs.MarkLemmas.{sides}
 use Rattle.frame_places.specs.Work.{all_work}
 
 pub idle_not_queued : (o : Option Mark) → is_idle o ≡ true → is_queued o ≡ false
-idle_not_queued None e = refl
-idle_not_queued (Some Idle) e = refl
-idle_not_queued (Some Plain) e = refl
 idle_not_queued (Some Queued) e = cc
-idle_not_queued (Some Open) e = refl
+idle_not_queued _ e = refl
 
 -- ---- the cells of a table
 pub cells_proper : (b : Limits) (image : ImageData) (plan : PlanData) (laws : AreLawful b image plan) (t : made.Table) → IsFine b image plan t → CellsProper b t.places

@@ -131,15 +131,13 @@ module _ (image : ImageData) (plan : PlanData) (cert : CertData) (ground : IsGro
           subst (λ (o : Option Exit). IsSomeAnd o (λ y. ExitCovers y x)) (sym (ap (λ (m : NodeData). m.exit) same ∙ (a.2).is)) over
 
       needed : (d : Duty) → HasDuty (limits_in plan cert) image plan (known_in cert) n.key q.addr q.state d → IsNeedAbove cert n q.state d
-      needed (jump p t) h = tt
       needed (enter j t) h = at (find_node j cert.nodes) refl where
         at : (o : Option NodeData) → find_node j cert.nodes ≡ o → IfSome o (λ m. length q.state.locals.items + 1 + m.need ≤ n.need)
         at None e = tt
         at (Some m) e =
             let le = solution.needs.entered n.key q.addr q.state j (record { entered = t; has = h }) in
             omega (arith, le, ap need_of e, ap need_of (node_found n member))
-      needed (resume j p) h = tt
-      needed (leave x) h = tt
+      needed _ h = tt
 
       has_need : HasNeed image plan cert n q (duties_of (limits_in plan cert) image plan n.key q.addr q.state shape size)
       has_need = record {

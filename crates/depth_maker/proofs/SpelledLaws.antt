@@ -271,11 +271,10 @@ module _ (b : Limits) (image : ImageData) (plan : PlanData) (ground : IsGround b
           record { addr = (in_range (point k p) (state s) e).1; state = subst (IsState version) is same }
 
     exits_are : (k : Key) (o : Option Known) → a (exit k) ≡ o → IfSome (exit_at o) (λ e. e.ccpn < 2 ^ 8) → IfSome (exit_at o) (λ e. ((k.kind ≡ 1) ⊎ (k.kind ≡ 3)) × IsExit version e)
-    exits_are k None e byte = tt
-    exits_are k (Some (state s)) e byte = tt
     exits_are k (Some (leaving x)) e byte =
         let good : IsProperExit b x = proper (exit k) (leaving x) e in
         ((in_range (exit k) (leaving x) e).1, record { lower = good.regs; values = values_well plan version x.lower (subst (λ (b : Limits). AreValues b x.lower) of_version good.values); ccpn = byte })
+    exits_are k _ e byte = tt
 
     node_is : (k : Key) → Contains ks k → IsNode version (node k)
     node_is k c =

@@ -259,10 +259,9 @@ begun_table b image plan t x v place known cells marks listed points frames none
 -- without work
 all_idle : (o : Option Mark) → IsSome o → (o ≡ Some Queued → ⊥) → (o ≡ Some Open → ⊥) → is_idle o ≡ true
 all_idle None is a b = cc
-all_idle (Some Idle) is a b = refl
-all_idle (Some Plain) is a b = refl
 all_idle (Some Queued) is a b = absurd (a refl)
 all_idle (Some Open) is a b = absurd (b refl)
+all_idle _ is a b = refl
 
 -- what is known is marked
 marked_known : (o : Option (Marked Known)) (v : Known) → option_map (λ m. m.value) o ≡ Some v → IsSome (option_map (λ m. m.mark) o)

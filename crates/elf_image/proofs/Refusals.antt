@@ -3,7 +3,7 @@ use Rattle.std.proofs.Common.{◌≡◌, ◌⊎◌, inl, inr, ℕ, true, false, 
 use Rattle.std.specs.Bool.{then_some}
 use Rattle.std.specs.Option.{option_or}
 use Rattle.elf_image.specs.declared.errors.ImageErr.{ImageErr}
-use Rattle.elf_image.specs.declared.errors.ImageErr.TheVariants.{Short, NotElf32Le, NotTriCore, NotExec, BadSegment, TooLarge, Overlap, NoMemory}
+use Rattle.elf_image.specs.declared.errors.ImageErr.TheVariants.{TooLarge, NoMemory}
 use Rattle.elf_image.specs.declared.headers.Header.{Header}
 use Rattle.elf_image.specs.Images.{SegmentData}
 use Rattle.elf_image.specs.Elf.{e_entry, loads_of, start_refusal, segment_refusal, is_large, overlap_refusal, refusal_of, segment_of, image_of_loads, unless, image_of, Gives}
@@ -11,14 +11,8 @@ use Rattle.elf_image.specs.Elf.{e_entry, loads_of, start_refusal, segment_refusa
 -- the answer with a refusal
 pub refused : (bytes : List ℕ) (e : ImageErr) → refusal_of bytes ≡ Some e → Gives (Err e) (image_of bytes)
 unfolding image_of
-refused bytes Short h = ap (λ o. unless o (image_of_loads bytes)) h
-refused bytes NotElf32Le h = ap (λ o. unless o (image_of_loads bytes)) h
-refused bytes NotTriCore h = ap (λ o. unless o (image_of_loads bytes)) h
-refused bytes NotExec h = ap (λ o. unless o (image_of_loads bytes)) h
-refused bytes (BadSegment i) h = ap (λ o. unless o (image_of_loads bytes)) h
-refused bytes TooLarge h = ap (λ o. unless o (image_of_loads bytes)) h
-refused bytes (Overlap i j) h = ap (λ o. unless o (image_of_loads bytes)) h
 refused bytes NoMemory h = tt
+refused bytes _ h = ap (λ o. unless o (image_of_loads bytes)) h
 
 first : (a b c d : Option ImageErr) (e : ImageErr) → Some e ≡ a → option_or a (option_or b (option_or c d)) ≡ Some e
 first a b c d e h = rw (← h) refl

@@ -9,7 +9,7 @@ use Rattle.indexmap.specs.IndexMap.{IndexMap, get}
 use Rattle.frame_places.specs.declared.places.Spot.{Spot}
 use Rattle.frame_places.specs.declared.places.Mark.{Mark}
 use Rattle.frame_places.specs.declared.places.Marked.{Marked}
-use Rattle.frame_places.specs.declared.places.Mark.TheVariants.{Idle, Plain, Queued, Open}
+use Rattle.frame_places.specs.declared.places.Mark.TheVariants.{Queued}
 use Rattle.frame_places.specs.Nearby.{StandsAt}
 use Rattle.frame_places.specs.Spots.{spot_eq}
 use Rattle.frame_places.proofs.SpotLemmas.{spot_tells, spot_refl}
@@ -133,10 +133,8 @@ pub work_had : {V S : Type 0} (places : IndexMap Spot (Marked V) S) (q : Spot) (
 work_had places q m e = ap (λ o. is_queued (option_map (λ k. k.mark) o)) e
 
 pub not_queued : (m : Mark) → (m ≡ Queued → ⊥) → is_queued (Some m) ≡ false
-not_queued Idle other = refl
-not_queued Plain other = refl
 not_queued Queued other = absurd (other refl)
-not_queued Open other = refl
+not_queued _ other = refl
 
 pub unknown_value : {V S : Type 0} (places : IndexMap Spot (Marked V) S) (q : Spot) → is_some (get spot_eq places q) ≡ false → value_for places q ≡ None
 unknown_value places q e = nothing (get spot_eq places q) e

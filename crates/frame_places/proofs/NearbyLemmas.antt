@@ -13,7 +13,7 @@ use Rattle.indexmap.specs.IndexMap.{IndexMap, IsUnique, get, index_of, insert_en
 use Rattle.indexmap.proofs.CallerLemmas.{insert_entry-new, keys-with_value_at, updates-with_value_at}
 use Rattle.frame_places.specs.declared.places.Spot.{Spot}
 use Rattle.frame_places.specs.declared.places.Mark.{Mark}
-use Rattle.frame_places.specs.declared.places.Mark.TheVariants.{Idle, Plain, Queued, Open}
+use Rattle.frame_places.specs.declared.places.Mark.TheVariants.{Queued}
 use Rattle.frame_places.specs.Spots.{spot_eq}
 use Rattle.frame_places.specs.Marks.{is_queued}
 use Rattle.frame_places.specs.Nearby.{StandsAt}
@@ -122,8 +122,5 @@ written_numbers m number w n q h = ap (λ (ks : List Spot). slice_get ks n) (key
 
 -- a place that is marked as having work
 pub queued_mark : (o : Option Mark) → is_queued o ≡ true → o ≡ Some Queued
-queued_mark None e = cc
-queued_mark (Some Idle) e = cc
-queued_mark (Some Plain) e = cc
 queued_mark (Some Queued) e = refl
-queued_mark (Some Open) e = cc
+queued_mark _ e = cc

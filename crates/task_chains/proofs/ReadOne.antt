@@ -206,12 +206,7 @@ module _ (plan : PlanData) (lines : List (List ℕ)) (t : TasksData) (said : Are
 module _ (plan : PlanData) (lines : List (List ℕ)) where
   refusal : (e : TasksErr) → IsRefused plan lines e → ((n : ℕ) × (e ≡ BadLine n) × IsBadLine lines n) ⊎ ((t : TasksData) × AreSaid lines t × IsAgainst plan lines t e)
   refusal (BadLine n) bad = inl (n, refl, bad)
-  refusal (TooMany n) bad = inr bad
-  refusal TooFew bad = inr bad
-  refusal NotRam bad = inr bad
-  refusal NoRoom bad = inr bad
-  refusal OnIsp bad = inr bad
-  refusal Count bad = inr bad
+  refusal _ bad = inr bad
 
   one_refusal : (e f : TasksErr) → IsRefused plan lines e → IsRefused plan lines f → e ≡ f
   one_refusal e f a b =

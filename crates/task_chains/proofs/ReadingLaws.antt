@@ -34,12 +34,8 @@ module _ (plan : PlanData) (lines : List (List ℕ)) where
 
   pub against : (tasks : TasksData) (e : TasksErr) → AreSaid lines tasks → IsAgainst plan lines tasks e → Reads plan lines (Err e)
   against tasks (BadLine n) said bad = absurd bad
-  against tasks (TooMany n) said bad = (tasks, said, bad)
-  against tasks TooFew said bad = (tasks, said, bad)
-  against tasks NotRam said bad = (tasks, said, bad)
-  against tasks NoRoom said bad = (tasks, said, bad)
-  against tasks OnIsp said bad = (tasks, said, bad)
   against tasks Count said bad = absurd bad
+  against tasks _ said bad = (tasks, said, bad)
 
   pub all_read : (tasks : TasksData) → AreSaid lines tasks → AreTasks tasks → FitPlan plan tasks → Reads plan lines (Ok tasks)
   all_read tasks said are fit = record { said = said; are = are; fit = fit }

@@ -8,7 +8,7 @@ use Rattle.tc_isa.specs.Rows.{RowData, listed}
 use Rattle.tc_isa.specs.Words.{IsBelow, bounds}
 use Rattle.tc_isa.specs.Codec.{Fits, is_below_test, uses_of, is_apart, is_long, spelling_of, spelling, word_of}
 use Rattle.tc_stmt.specs.RowFields.{ReferenceData, RowFieldsData, set_field, with_rule, displacement_rule, with_displacement}
-use Rattle.tc_stmt.specs.Items.{ItemData, label, section, global, code, bytes, zeros}
+use Rattle.tc_stmt.specs.Items.{ItemData, code, bytes}
 use Rattle.tc_asm.specs.Symbols.{SymbolData}
 use Rattle.tc_asm.specs.Drafts.{DraftData, start, distance, found, jumped, targeted, is_fit, spelled_code, resolved, code_bytes, stepped}
 use Rattle.tc_asm.specs.Kept.{Each}
@@ -85,15 +85,12 @@ open_long row None s e = cc
 open_long row (Some r) s e = ((s.some r refl).long e).0
 
 item_good : (labels : List SymbolData) (d : DraftData) (i : ItemData) → IsItem i → GoodItem labels d i
-item_good labels d (label name) h = tt
-item_good labels d (section name) h = tt
-item_good labels d (global name) h = tt
 item_good labels d (code k f o) h = record {
   named = λ r e reloc. (h.symbols.some r e).named;
   four = λ e. code_length labels d k f o h ∙ ap (λ b. cond b 4 2) (open_long h.row o h.symbols e);
 }
 item_good labels d (bytes bs o) h = h.good
-item_good labels d (zeros n) h = tt
+item_good labels d _ h = tt
 
 items_good : (labels : List SymbolData) (d : DraftData) (is : List ItemData) → Each IsItem is → GoodItems labels d is
 items_good labels d [] h = tt

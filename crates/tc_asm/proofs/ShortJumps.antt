@@ -6,7 +6,7 @@ use Rattle.std.proofs.lemmas.Bool.{ltb-false, leb-true, leb-false, and_parts}
 use Rattle.std.proofs.lemmas.Bool.Decides.{Decides-eqb, nat_tests}
 use Rattle.tc_isa.specs.declared.fields.Fields.{Fields}
 use Rattle.tc_isa.specs.declared.table.Form.{Form}
-use Rattle.tc_isa.specs.declared.table.Form.TheVariants.{Rlc, Rr, Rc, Bol, Bo, Brr, Brc, B, Abs, Sys, Sr, Sc, Sb, Sbr, Src, Srr, Slr, Ssr}
+use Rattle.tc_isa.specs.declared.table.Form.TheVariants.{Sb, Sbr}
 use Rattle.tc_isa.specs.Rows.{RowData, listed}
 use Rattle.tc_isa.specs.Words.{bounds, form_index}
 use Rattle.tc_isa.specs.Codec.{is_long}
@@ -16,7 +16,7 @@ use Rattle.tc_stmt.specs.declared.want.Field.TheVariants.{K}
 use Rattle.tc_stmt.specs.RowFields.{ReferenceData, RowFieldsData, with_rule, with_value, set_field, wrap, is_far, is_odd, displacement_rule, with_displacement}
 use Rattle.tc_stmt.specs.Stated.{is_short_jump}
 use Rattle.tc_asm.specs.declared.symbols.Place.{Place}
-use Rattle.tc_stmt.specs.Items.{ItemData, label, section, global, code, bytes, zeros}
+use Rattle.tc_stmt.specs.Items.{ItemData, label, section, code, bytes}
 use Rattle.tc_stmt.specs.Lines.{lines_in, items_in}
 use Rattle.tc_asm.specs.Symbols.{SymbolData, place_in}
 use Rattle.tc_asm.specs.Drafts.{DraftData, start, has_section, place_of, distance, found, targeted, jumped, resolved, code_bytes, stepped}
@@ -85,22 +85,7 @@ displacement_is : (form : Form) (f : Fields) (minus : Bool) (s : ℕ) → is_sho
 unfolding bounds form_index
 displacement_is Sb f minus s short far odd = both_ways minus s far odd
 displacement_is Sbr f minus s short far odd = forwards minus s far odd
-displacement_is Rlc f minus s short far odd = cc
-displacement_is Rr f minus s short far odd = cc
-displacement_is Rc f minus s short far odd = cc
-displacement_is Bol f minus s short far odd = cc
-displacement_is Bo f minus s short far odd = cc
-displacement_is Brr f minus s short far odd = cc
-displacement_is Brc f minus s short far odd = cc
-displacement_is B f minus s short far odd = cc
-displacement_is Abs f minus s short far odd = cc
-displacement_is Sys f minus s short far odd = cc
-displacement_is Sr f minus s short far odd = cc
-displacement_is Sc f minus s short far odd = cc
-displacement_is Src f minus s short far odd = cc
-displacement_is Srr f minus s short far odd = cc
-displacement_is Slr f minus s short far odd = cc
-displacement_is Ssr f minus s short far odd = cc
+displacement_is _ f minus s short far odd = cc
 
 near_even : (row : RowData) (minus : Bool) (s : ℕ) → (displacement_rule row minus s == 15) ≡ true → (is_far row.form (bounds row.form).k minus s ≡ false) × (is_odd s ≡ false)
 unfolding displacement_rule
@@ -227,22 +212,7 @@ back_small Sbr s short far = let none : s ≡ 0 = by (s == 0) refl far in omega 
     by : (b : Bool) → (s == 0) ≡ b → not b ≡ false → s ≡ 0
     by true e h = (Decides-eqb s 0).0 e
     by false e h = cc
-back_small Rlc s short far = cc
-back_small Rr s short far = cc
-back_small Rc s short far = cc
-back_small Bol s short far = cc
-back_small Bo s short far = cc
-back_small Brr s short far = cc
-back_small Brc s short far = cc
-back_small B s short far = cc
-back_small Abs s short far = cc
-back_small Sys s short far = cc
-back_small Sr s short far = cc
-back_small Sc s short far = cc
-back_small Src s short far = cc
-back_small Srr s short far = cc
-back_small Slr s short far = cc
-back_small Ssr s short far = cc
+back_small _ s short far = cc
 
 -- ---- an instruction
 record Jumps (labels : List SymbolData) (d : DraftData) (r : ReferenceData) (row : RowData) (f : Fields) : Type 0 where
@@ -288,9 +258,6 @@ record StatementJumps (labels : List SymbolData) (d : DraftData) (t : StatementD
 
 statement_jumps : (labels : List SymbolData) (d : DraftData) (i : ItemData) (t : StatementData) (r : ReferenceData) → IsItem i → 15 ≤ item_rule labels d i → content_of labels d i ≡ Some t → t.reference ≡ Some r → r.kind ≡ 0 → StatementJumps labels d t r
 unfolding item_rule code_spells
-statement_jumps labels d (label name) t r h rule e is zero = cc
-statement_jumps labels d (section name) t r h rule e is zero = cc
-statement_jumps labels d (global name) t r h rule e is zero = cc
 statement_jumps labels d (code k f o) t r h rule e is zero =
     let same : statement d.section (code_bytes labels d k f o) o ≡ t = cc in
     let given : o ≡ Some r = ap (λ (x : StatementData). x.reference) same ∙ is in
@@ -304,7 +271,7 @@ statement_jumps labels d (bytes bs o) t r h rule e is zero =
     let given : o ≡ Some r = ap (λ (x : StatementData). x.reference) same ∙ is in
     let seven : r.kind ≡ 7 = h.kind r given in
     absurd (omega arith)
-statement_jumps labels d (zeros n) t r h rule e is zero = cc
+statement_jumps labels d _ t r h rule e is zero = cc
 
 pub short_jumps_law : ShortJumpsLaw
 short_jumps_law source index t r keeps at is zero =

@@ -3,7 +3,7 @@ use Rattle.std.proofs.Common.{◌≡◌, ◌≤◌, ◌+◌, ℕ, zero, suc, Boo
 use Rattle.std.specs.Prelude.{slice_get, fold}
 use Rattle.std.proofs.lemmas.List.Sums.{fold-append}
 use Rattle.tc_object.specs.Objects.{SectionData}
-use Rattle.tc_stmt.specs.Items.{ItemData, label, section, global, code, bytes, zeros}
+use Rattle.tc_stmt.specs.Items.{ItemData, code, bytes, zeros}
 use Rattle.tc_stmt.specs.Lines.{LineData, lines_in, items_in}
 use Rattle.tc_asm.specs.Symbols.{SymbolData}
 use Rattle.tc_asm.specs.Drafts.{PartData, DraftData, start, stepped}
@@ -42,12 +42,10 @@ standing_field true t h = (h, tt)
 standing_field false t h = tt
 
 good_field : (labels : List SymbolData) (d : DraftData) (i : ItemData) → GoodItem labels d i → HaveFields (standing d (content_of labels d i))
-good_field labels d (label name) g = tt
-good_field labels d (section name) g = tt
-good_field labels d (global name) g = tt
 good_field labels d (code k f r) g = standing_field _ _ (record { four = g.four })
 good_field labels d (bytes bs r) g = standing_field _ _ (record { four = g.four })
 good_field labels d (zeros n) g = standing_field _ _ (record { four = λ e. cc })
+good_field labels d _ g = tt
 
 good_fields : (labels : List SymbolData) (is : List ItemData) (d : DraftData) → GoodItems labels d is → HaveFields (statements_from labels d is)
 good_fields labels [] d good = tt

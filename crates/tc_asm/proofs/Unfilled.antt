@@ -12,7 +12,7 @@ use Rattle.tc_reloc.specs.Applied.{with_field}
 use Rattle.tc_reloc.proofs.FilledRows.{written_law}
 use Rattle.tc_stmt.specs.RowFields.{ReferenceData}
 use Rattle.tc_stmt.proofs.Cases.{by_test}
-use Rattle.tc_stmt.specs.Items.{ItemData, label, section, global, code, bytes, zeros}
+use Rattle.tc_stmt.specs.Items.{ItemData, section, code, bytes}
 use Rattle.tc_stmt.specs.Lines.{lines_in, items_in}
 use Rattle.tc_asm.specs.Symbols.{SymbolData}
 use Rattle.tc_asm.specs.Drafts.{DraftData, start, found, targeted, jumped, spelled_code, resolved, code_bytes, stepped}
@@ -73,9 +73,6 @@ data_zero : (kind : ℕ) (bs : List ℕ) → kind ≡ 7 → bs ≡ 0 ∷ 0 ∷ 0
 data_zero kind bs e h = ap (λ n. with_field n bs 0) e ∙ ap (λ (xs : List ℕ). with_field 7 xs 0) h ∙ word_zero ∙ sym h
 
 content_zero : (labels : List SymbolData) (d : DraftData) (i : ItemData) (t : StatementData) (r : ReferenceData) → IsItem i → content_of labels d i ≡ Some t → t.reference ≡ Some r → is_reloc r.kind ≡ true → with_field r.kind t.bytes 0 ≡ t.bytes
-content_zero labels d (label name) t r h e is waits = cc
-content_zero labels d (section name) t r h e is waits = cc
-content_zero labels d (global name) t r h e is waits = cc
 content_zero labels d (code k f o) t r h e is waits =
     let same : statement d.section (code_bytes labels d k f o) o ≡ t = cc in
     let given : o ≡ Some r = ap (λ (x : StatementData). x.reference) same ∙ is in
@@ -87,7 +84,7 @@ content_zero labels d (bytes bs o) t r h e is waits =
     let given : o ≡ Some r = ap (λ (x : StatementData). x.reference) same ∙ is in
     let Q : List ℕ → Type 0 = λ xs. with_field r.kind xs 0 ≡ xs in
     subst Q (ap (λ (x : StatementData). x.bytes) same) (data_zero r.kind bs (h.kind r given) (h.zero r given))
-content_zero labels d (zeros n) t r h e is waits = cc
+content_zero labels d _ t r h e is waits = cc
 
 pub unfilled_law : UnfilledLaw
 unfilled_law source index t r at is waits =

@@ -80,12 +80,9 @@ place_bytes d = size_at-get d.parts d.section ∙ size_bytes d.parts d.section
 
 -- ---- what an item has to be
 abbrev pub GoodItem : List SymbolData → DraftData → ItemData → Type 0
-GoodItem labels d (label name) = Unit {0}
-GoodItem labels d (section name) = Unit {0}
-GoodItem labels d (global name) = Unit {0}
 GoodItem labels d (code k f r) = IsGood (code_bytes labels d k f r) r
 GoodItem labels d (bytes bs r) = IsGood bs r
-GoodItem labels d (zeros n) = Unit {0}
+GoodItem labels d _ = Unit {0}
 
 abbrev pub GoodItems : List SymbolData → DraftData → List ItemData → Type 0
 GoodItems labels d [] = Unit {0}

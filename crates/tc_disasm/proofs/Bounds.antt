@@ -1,7 +1,7 @@
 -- The bounds of fields.
 use Rattle.std.proofs.Common.{◌<◌, ◌≤◌, ◌^◌, arith}
 use Rattle.tc_isa.specs.declared.table.Form.{Form}
-use Rattle.tc_isa.specs.declared.table.Form.TheVariants.{Rlc, Rr, Rc, Bol, Bo, Brr, Brc, B, Abs, Sys, Sr, Sc, Sb, Sbr, Src, Srr, Slr, Ssr}
+use Rattle.tc_isa.specs.declared.table.Form.TheVariants.{Rlc}
 use Rattle.tc_isa.specs.declared.fields.Fields.{Fields}
 use Rattle.tc_isa.specs.Words.{IsBelow, bounds}
 use Rattle.tc_stmt.specs.declared.want.Field.{Field}
@@ -21,20 +21,4 @@ field_of-below K f b h = h.k
 pub bounds-k : (form : Form) → (bounds form).k ≤ 2 ^ 24
 unfolding bounds
 bounds-k Rlc = omega arith
-bounds-k Rr = omega arith
-bounds-k Rc = omega arith
-bounds-k Bol = omega arith
-bounds-k Bo = omega arith
-bounds-k Brr = omega arith
-bounds-k Brc = omega arith
-bounds-k B = omega arith
-bounds-k Abs = omega arith
-bounds-k Sys = omega arith
-bounds-k Sr = omega arith
-bounds-k Sc = omega arith
-bounds-k Sb = omega arith
-bounds-k Sbr = omega arith
-bounds-k Src = omega arith
-bounds-k Srr = omega arith
-bounds-k Slr = omega arith
-bounds-k Ssr = omega arith
+bounds-k _ = omega arith

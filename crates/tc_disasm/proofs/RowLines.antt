@@ -13,7 +13,7 @@ use Rattle.tc_isa.specs.declared.fields.Fields.{Fields}
 use Rattle.tc_isa.specs.Words.{bounds}
 use Rattle.tc_isa.specs.Insts.{InstData, IsInst, fields_in}
 use Rattle.tc_stmt.specs.declared.want.Want.{Want}
-use Rattle.tc_stmt.specs.declared.want.Want.TheVariants.{Reg, A10, Number, Target, Absolute, Memory}
+use Rattle.tc_stmt.specs.declared.want.Want.TheVariants.{Number, Target, Memory}
 use Rattle.tc_stmt.specs.Wants.{wants_of}
 use Rattle.tc_stmt.specs.RowFields.{field_of}
 use Rattle.tc_lex.specs.Pieces.{PieceData, is_kind, text_at, kind_index}
@@ -47,12 +47,8 @@ begins-number false n = record { first = _; others = _; is = refl; other = refl 
 
 begins-operand : (form : Form) (f : Fields) (w : Want) → Begins (operand_tokens form f w)
 unfolding operand_tokens kind_index
-begins-operand form f (Reg bank field) = record { first = _; others = _; is = refl; other = refl }
-begins-operand form f A10 = record { first = _; others = _; is = refl; other = refl }
 begins-operand form f (Number signed field) = begins-number (is_minus signed (field_of field (bounds form)) (field_of field f)) _
-begins-operand form f Target = record { first = _; others = _; is = refl; other = refl }
-begins-operand form f Absolute = record { first = _; others = _; is = refl; other = refl }
-begins-operand form f (Memory plus offset) = record { first = _; others = _; is = refl; other = refl }
+begins-operand form f _ = record { first = _; others = _; is = refl; other = refl }
 
 -- ---- no comma inside an operand, and few tokens
 abbrev is_inner : PieceData → Bool
@@ -82,13 +78,11 @@ wider ps h = record { none = h.none; few = let two = h.few in omega arith }
 
 inner-operand : (form : Form) (f : Fields) (w : Want) → Inner (operand_tokens form f w) 6
 unfolding operand_tokens kind_index
-inner-operand form f (Reg bank field) = record { none = refl; few = omega arith }
-inner-operand form f A10 = record { none = refl; few = omega arith }
 inner-operand form f (Number signed field) = wider _ (inner-number (is_minus signed (field_of field (bounds form)) (field_of field f)) _)
 inner-operand form f Target = inner-target (is_minus (is_two_way form) (bounds form).k f.k) _ _
-inner-operand form f Absolute = record { none = refl; few = omega arith }
 inner-operand form f (Memory plus true) = inner-base plus f.s2 (field_number true (bounds form).k f.k) (inner-number (is_minus true (bounds form).k f.k) _)
 inner-operand form f (Memory plus false) = inner-base plus f.s2 [] (record { none = refl; few = omega arith })
+inner-operand form f _ = record { none = refl; few = omega arith }
 
 few-others : (r : RowData) (f : Fields) (ws : List Want) → length (other_tokens r f ws) ≤ 7 * length ws
 few-others r f [] = omega arith

@@ -36,23 +36,7 @@ form_at (suc (suc (suc (suc (suc (suc (suc (suc (suc (suc (suc (suc (suc (suc (s
 form_back : (f : Form) → form_at (form_index f) ≡ f
 unfolding form_at form_index
 form_back Rlc = refl
-form_back Rr = refl
-form_back Rc = refl
-form_back Bol = refl
-form_back Bo = refl
-form_back Brr = refl
-form_back Brc = refl
-form_back B = refl
-form_back Abs = refl
-form_back Sys = refl
-form_back Sr = refl
-form_back Sc = refl
-form_back Sb = refl
-form_back Sbr = refl
-form_back Src = refl
-form_back Srr = refl
-form_back Slr = refl
-form_back Ssr = refl
+form_back _ = refl
 
 pub same_form : (f g : Form) → form_index f ≡ form_index g → f ≡ g
 same_form f g e = sym (form_back f) ∙ ap form_at e ∙ form_back g

@@ -2,43 +2,17 @@
 use Rattle.std.proofs.Common.{◌≡◌, ◌^◌, ◌<◌, ℕ, false, arith}
 use Rattle.tc_isa.specs.declared.fields.Fields.{Fields}
 use Rattle.tc_isa.specs.declared.table.Form.{Form}
-use Rattle.tc_isa.specs.declared.table.Form.TheVariants.{Rlc, Rr, Rc, Bol, Bo, Brr, Brc, B, Abs, Sys, Sr, Sc, Sb, Sbr, Src, Srr, Slr, Ssr}
+use Rattle.tc_isa.specs.declared.table.Form.TheVariants.{Rlc, Sr, Sc, Sb, Sbr, Src, Srr, Slr, Ssr}
 use Rattle.tc_isa.specs.Words.{IsBelow, bounds, second_bound, word, is_long_form}
 
 -- a word of 32 bits, and one of 16
 pub word-lt : (form : Form) (op1 op2 : ℕ) (f : Fields) → op1 < 256 → op2 < second_bound form → IsBelow f (bounds form) → word form op1 op2 f < 2 ^ 32
 unfolding word bounds second_bound
 word-lt Rlc op1 op2 f first second below = omega arith
-word-lt Rr op1 op2 f first second below = omega arith
-word-lt Rc op1 op2 f first second below = omega arith
-word-lt Bol op1 op2 f first second below = omega arith
-word-lt Bo op1 op2 f first second below = omega arith
-word-lt Brr op1 op2 f first second below = omega arith
-word-lt Brc op1 op2 f first second below = omega arith
-word-lt B op1 op2 f first second below = omega arith
-word-lt Abs op1 op2 f first second below = omega arith
-word-lt Sys op1 op2 f first second below = omega arith
-word-lt Sr op1 op2 f first second below = omega arith
-word-lt Sc op1 op2 f first second below = omega arith
-word-lt Sb op1 op2 f first second below = omega arith
-word-lt Sbr op1 op2 f first second below = omega arith
-word-lt Src op1 op2 f first second below = omega arith
-word-lt Srr op1 op2 f first second below = omega arith
-word-lt Slr op1 op2 f first second below = omega arith
-word-lt Ssr op1 op2 f first second below = omega arith
+word-lt _ op1 op2 f first second below = omega arith
 
 pub short-lt : (form : Form) (op1 op2 : ℕ) (f : Fields) → op1 < 256 → op2 < second_bound form → IsBelow f (bounds form) → is_long_form form ≡ false → word form op1 op2 f < 2 ^ 16
 unfolding word bounds second_bound is_long_form
-short-lt Rlc op1 op2 f first second below short = cc
-short-lt Rr op1 op2 f first second below short = cc
-short-lt Rc op1 op2 f first second below short = cc
-short-lt Bol op1 op2 f first second below short = cc
-short-lt Bo op1 op2 f first second below short = cc
-short-lt Brr op1 op2 f first second below short = cc
-short-lt Brc op1 op2 f first second below short = cc
-short-lt B op1 op2 f first second below short = cc
-short-lt Abs op1 op2 f first second below short = cc
-short-lt Sys op1 op2 f first second below short = cc
 short-lt Sr op1 op2 f first second below short = omega arith
 short-lt Sc op1 op2 f first second below short = omega arith
 short-lt Sb op1 op2 f first second below short = omega arith
@@ -47,3 +21,4 @@ short-lt Src op1 op2 f first second below short = omega arith
 short-lt Srr op1 op2 f first second below short = omega arith
 short-lt Slr op1 op2 f first second below short = omega arith
 short-lt Ssr op1 op2 f first second below short = omega arith
+short-lt _ op1 op2 f first second below short = cc

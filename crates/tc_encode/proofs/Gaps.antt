@@ -3,42 +3,18 @@ use Rattle.std.proofs.Common.{◌≡◌, ◌/◌, ◌%◌, ◌^◌, ◌<◌, ℕ
 use Rattle.std.proofs.lemmas.Bool.{and_parts, and_from, eqb-true, eq-eqb}
 use Rattle.tc_isa.specs.declared.fields.Fields.{Fields}
 use Rattle.tc_isa.specs.declared.table.Form.{Form}
-use Rattle.tc_isa.specs.declared.table.Form.TheVariants.{Rlc, Rr, Rc, Bol, Bo, Brr, Brc, B, Abs, Sys, Sr, Sc, Sb, Sbr, Src, Srr, Slr, Ssr}
+use Rattle.tc_isa.specs.declared.table.Form.TheVariants.{Rlc, Rr, Sys, Sr, Sc, Sb, Sbr, Src, Srr, Slr, Ssr}
 use Rattle.tc_isa.specs.Words.{IsBelow, bounds, second_bound, word, fields_of, second_of, is_long_form}
 use Rattle.tc_encode.specs.WordSearch.{has_no_gap}
 
 pub fields_below : (form : Form) (w : ℕ) → w < 2 ^ 32 → IsBelow (fields_of form w) (bounds form)
 unfolding fields_of bounds
 fields_below Rlc w h = record { c = omega arith; s1 = omega arith; s2 = omega arith; n = omega arith; k = omega arith }
-fields_below Rr w h = record { c = omega arith; s1 = omega arith; s2 = omega arith; n = omega arith; k = omega arith }
-fields_below Rc w h = record { c = omega arith; s1 = omega arith; s2 = omega arith; n = omega arith; k = omega arith }
-fields_below Bol w h = record { c = omega arith; s1 = omega arith; s2 = omega arith; n = omega arith; k = omega arith }
-fields_below Bo w h = record { c = omega arith; s1 = omega arith; s2 = omega arith; n = omega arith; k = omega arith }
-fields_below Brr w h = record { c = omega arith; s1 = omega arith; s2 = omega arith; n = omega arith; k = omega arith }
-fields_below Brc w h = record { c = omega arith; s1 = omega arith; s2 = omega arith; n = omega arith; k = omega arith }
-fields_below B w h = record { c = omega arith; s1 = omega arith; s2 = omega arith; n = omega arith; k = omega arith }
-fields_below Abs w h = record { c = omega arith; s1 = omega arith; s2 = omega arith; n = omega arith; k = omega arith }
-fields_below Sys w h = record { c = omega arith; s1 = omega arith; s2 = omega arith; n = omega arith; k = omega arith }
-fields_below Sr w h = record { c = omega arith; s1 = omega arith; s2 = omega arith; n = omega arith; k = omega arith }
-fields_below Sc w h = record { c = omega arith; s1 = omega arith; s2 = omega arith; n = omega arith; k = omega arith }
-fields_below Sb w h = record { c = omega arith; s1 = omega arith; s2 = omega arith; n = omega arith; k = omega arith }
-fields_below Sbr w h = record { c = omega arith; s1 = omega arith; s2 = omega arith; n = omega arith; k = omega arith }
-fields_below Src w h = record { c = omega arith; s1 = omega arith; s2 = omega arith; n = omega arith; k = omega arith }
-fields_below Srr w h = record { c = omega arith; s1 = omega arith; s2 = omega arith; n = omega arith; k = omega arith }
-fields_below Slr w h = record { c = omega arith; s1 = omega arith; s2 = omega arith; n = omega arith; k = omega arith }
-fields_below Ssr w h = record { c = omega arith; s1 = omega arith; s2 = omega arith; n = omega arith; k = omega arith }
+fields_below _ w h = record { c = omega arith; s1 = omega arith; s2 = omega arith; n = omega arith; k = omega arith }
 
 pub word_back : (form : Form) (op1 op2 w : ℕ) → w < 2 ^ 32 → (is_long_form form ≡ false → w < 2 ^ 16) → op1 ≡ w % 256 → op2 ≡ second_of form w → has_no_gap form w ≡ true → word form op1 op2 (fields_of form w) ≡ w
 unfolding word fields_of second_of has_no_gap is_long_form
-word_back Rlc op1 op2 w h short first second full = omega arith
 word_back Rr op1 op2 w h short first second full = let gap : w / 2 ^ 18 % 4 ≡ 0 = eqb-true _ _ full in omega arith
-word_back Rc op1 op2 w h short first second full = omega arith
-word_back Bol op1 op2 w h short first second full = omega arith
-word_back Bo op1 op2 w h short first second full = omega arith
-word_back Brr op1 op2 w h short first second full = omega arith
-word_back Brc op1 op2 w h short first second full = omega arith
-word_back B op1 op2 w h short first second full = omega arith
-word_back Abs op1 op2 w h short first second full = omega arith
 word_back Sys op1 op2 w h short first second full = let p = and_parts _ _ full in let high : w / 2 ^ 28 ≡ 0 = eqb-true _ _ p.0 in let low : w / 2 ^ 8 % 2 ^ 14 ≡ 0 = eqb-true _ _ p.1 in omega arith
 word_back Sr op1 op2 w h short first second full = let small = short refl in omega arith
 word_back Sc op1 op2 w h short first second full = let small = short refl in omega arith
@@ -48,24 +24,10 @@ word_back Src op1 op2 w h short first second full = let small = short refl in om
 word_back Srr op1 op2 w h short first second full = let small = short refl in omega arith
 word_back Slr op1 op2 w h short first second full = let small = short refl in omega arith
 word_back Ssr op1 op2 w h short first second full = let small = short refl in omega arith
+word_back _ op1 op2 w h short first second full = omega arith
 
 pub full_word : (form : Form) (op1 op2 : ℕ) (f : Fields) → op1 < 256 → op2 < second_bound form → IsBelow f (bounds form) → has_no_gap form (word form op1 op2 f) ≡ true
 unfolding word bounds second_bound has_no_gap
-full_word Rlc op1 op2 f first second below = refl
 full_word Rr op1 op2 f first second below = let w = word Rr op1 op2 f in eq-eqb (w / 2 ^ 18 % 4) 0 (omega arith)
-full_word Rc op1 op2 f first second below = refl
-full_word Bol op1 op2 f first second below = refl
-full_word Bo op1 op2 f first second below = refl
-full_word Brr op1 op2 f first second below = refl
-full_word Brc op1 op2 f first second below = refl
-full_word B op1 op2 f first second below = refl
-full_word Abs op1 op2 f first second below = refl
 full_word Sys op1 op2 f first second below = let w = word Sys op1 op2 f in and_from _ _ (eq-eqb (w / 2 ^ 28) 0 (omega arith)) (eq-eqb (w / 2 ^ 8 % 2 ^ 14) 0 (omega arith))
-full_word Sr op1 op2 f first second below = refl
-full_word Sc op1 op2 f first second below = refl
-full_word Sb op1 op2 f first second below = refl
-full_word Sbr op1 op2 f first second below = refl
-full_word Src op1 op2 f first second below = refl
-full_word Srr op1 op2 f first second below = refl
-full_word Slr op1 op2 f first second below = refl
-full_word Ssr op1 op2 f first second below = refl
+full_word _ op1 op2 f first second below = refl

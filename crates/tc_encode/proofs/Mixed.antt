@@ -2,7 +2,7 @@
 use Rattle.std.proofs.Common.{◌≡◌, ◌⊎◌, inl, inr, ◌<◌, ℕ, arith}
 use Rattle.tc_isa.specs.declared.fields.Fields.{Fields}
 use Rattle.tc_isa.specs.declared.table.Form.{Form}
-use Rattle.tc_isa.specs.declared.table.Form.TheVariants.{Rlc, Rr, Rc, Bol, Bo, Brr, Brc, B, Abs, Sys, Sr, Sc, Sb, Sbr, Src, Srr, Slr, Ssr}
+use Rattle.tc_isa.specs.declared.table.Form.TheVariants.{Rlc}
 use Rattle.tc_isa.specs.Words.{IsBelow, bounds, second_bound, word, fields_of}
 use Rattle.tc_encode.specs.WordSearch.{mix1, mix2, mix3}
 
@@ -19,62 +19,14 @@ pub record Mixed (form : Form) (op1 op2 : ℕ) (f g : Fields) (m : ℕ) : Type 0
 pub mixed1 : (form : Form) (op1 op2 : ℕ) (f g : Fields) → op1 < 256 → op2 < second_bound form → IsBelow f (bounds form) → IsBelow g (bounds form) → Mixed form op1 op2 f g (mix1 (word form op1 op2 f) (word form op1 op2 g))
 unfolding word fields_of bounds second_bound
 mixed1 Rlc op1 op2 f g first second below under = record { below = record { c = omega arith; s1 = omega arith; s2 = omega arith; n = omega arith; k = omega arith }; is = omega arith; c = λ a b. omega arith; s1 = λ a b. omega arith; s2 = λ a b. omega arith; n = λ a b. omega arith; k = λ a b. omega arith; registers = inl (omega arith, omega arith) }
-mixed1 Rr op1 op2 f g first second below under = record { below = record { c = omega arith; s1 = omega arith; s2 = omega arith; n = omega arith; k = omega arith }; is = omega arith; c = λ a b. omega arith; s1 = λ a b. omega arith; s2 = λ a b. omega arith; n = λ a b. omega arith; k = λ a b. omega arith; registers = inl (omega arith, omega arith) }
-mixed1 Rc op1 op2 f g first second below under = record { below = record { c = omega arith; s1 = omega arith; s2 = omega arith; n = omega arith; k = omega arith }; is = omega arith; c = λ a b. omega arith; s1 = λ a b. omega arith; s2 = λ a b. omega arith; n = λ a b. omega arith; k = λ a b. omega arith; registers = inl (omega arith, omega arith) }
-mixed1 Bol op1 op2 f g first second below under = record { below = record { c = omega arith; s1 = omega arith; s2 = omega arith; n = omega arith; k = omega arith }; is = omega arith; c = λ a b. omega arith; s1 = λ a b. omega arith; s2 = λ a b. omega arith; n = λ a b. omega arith; k = λ a b. omega arith; registers = inl (omega arith, omega arith) }
-mixed1 Bo op1 op2 f g first second below under = record { below = record { c = omega arith; s1 = omega arith; s2 = omega arith; n = omega arith; k = omega arith }; is = omega arith; c = λ a b. omega arith; s1 = λ a b. omega arith; s2 = λ a b. omega arith; n = λ a b. omega arith; k = λ a b. omega arith; registers = inl (omega arith, omega arith) }
-mixed1 Brr op1 op2 f g first second below under = record { below = record { c = omega arith; s1 = omega arith; s2 = omega arith; n = omega arith; k = omega arith }; is = omega arith; c = λ a b. omega arith; s1 = λ a b. omega arith; s2 = λ a b. omega arith; n = λ a b. omega arith; k = λ a b. omega arith; registers = inl (omega arith, omega arith) }
-mixed1 Brc op1 op2 f g first second below under = record { below = record { c = omega arith; s1 = omega arith; s2 = omega arith; n = omega arith; k = omega arith }; is = omega arith; c = λ a b. omega arith; s1 = λ a b. omega arith; s2 = λ a b. omega arith; n = λ a b. omega arith; k = λ a b. omega arith; registers = inl (omega arith, omega arith) }
-mixed1 B op1 op2 f g first second below under = record { below = record { c = omega arith; s1 = omega arith; s2 = omega arith; n = omega arith; k = omega arith }; is = omega arith; c = λ a b. omega arith; s1 = λ a b. omega arith; s2 = λ a b. omega arith; n = λ a b. omega arith; k = λ a b. omega arith; registers = inl (omega arith, omega arith) }
-mixed1 Abs op1 op2 f g first second below under = record { below = record { c = omega arith; s1 = omega arith; s2 = omega arith; n = omega arith; k = omega arith }; is = omega arith; c = λ a b. omega arith; s1 = λ a b. omega arith; s2 = λ a b. omega arith; n = λ a b. omega arith; k = λ a b. omega arith; registers = inl (omega arith, omega arith) }
-mixed1 Sys op1 op2 f g first second below under = record { below = record { c = omega arith; s1 = omega arith; s2 = omega arith; n = omega arith; k = omega arith }; is = omega arith; c = λ a b. omega arith; s1 = λ a b. omega arith; s2 = λ a b. omega arith; n = λ a b. omega arith; k = λ a b. omega arith; registers = inl (omega arith, omega arith) }
-mixed1 Sr op1 op2 f g first second below under = record { below = record { c = omega arith; s1 = omega arith; s2 = omega arith; n = omega arith; k = omega arith }; is = omega arith; c = λ a b. omega arith; s1 = λ a b. omega arith; s2 = λ a b. omega arith; n = λ a b. omega arith; k = λ a b. omega arith; registers = inl (omega arith, omega arith) }
-mixed1 Sc op1 op2 f g first second below under = record { below = record { c = omega arith; s1 = omega arith; s2 = omega arith; n = omega arith; k = omega arith }; is = omega arith; c = λ a b. omega arith; s1 = λ a b. omega arith; s2 = λ a b. omega arith; n = λ a b. omega arith; k = λ a b. omega arith; registers = inl (omega arith, omega arith) }
-mixed1 Sb op1 op2 f g first second below under = record { below = record { c = omega arith; s1 = omega arith; s2 = omega arith; n = omega arith; k = omega arith }; is = omega arith; c = λ a b. omega arith; s1 = λ a b. omega arith; s2 = λ a b. omega arith; n = λ a b. omega arith; k = λ a b. omega arith; registers = inl (omega arith, omega arith) }
-mixed1 Sbr op1 op2 f g first second below under = record { below = record { c = omega arith; s1 = omega arith; s2 = omega arith; n = omega arith; k = omega arith }; is = omega arith; c = λ a b. omega arith; s1 = λ a b. omega arith; s2 = λ a b. omega arith; n = λ a b. omega arith; k = λ a b. omega arith; registers = inl (omega arith, omega arith) }
-mixed1 Src op1 op2 f g first second below under = record { below = record { c = omega arith; s1 = omega arith; s2 = omega arith; n = omega arith; k = omega arith }; is = omega arith; c = λ a b. omega arith; s1 = λ a b. omega arith; s2 = λ a b. omega arith; n = λ a b. omega arith; k = λ a b. omega arith; registers = inl (omega arith, omega arith) }
-mixed1 Srr op1 op2 f g first second below under = record { below = record { c = omega arith; s1 = omega arith; s2 = omega arith; n = omega arith; k = omega arith }; is = omega arith; c = λ a b. omega arith; s1 = λ a b. omega arith; s2 = λ a b. omega arith; n = λ a b. omega arith; k = λ a b. omega arith; registers = inl (omega arith, omega arith) }
-mixed1 Slr op1 op2 f g first second below under = record { below = record { c = omega arith; s1 = omega arith; s2 = omega arith; n = omega arith; k = omega arith }; is = omega arith; c = λ a b. omega arith; s1 = λ a b. omega arith; s2 = λ a b. omega arith; n = λ a b. omega arith; k = λ a b. omega arith; registers = inl (omega arith, omega arith) }
-mixed1 Ssr op1 op2 f g first second below under = record { below = record { c = omega arith; s1 = omega arith; s2 = omega arith; n = omega arith; k = omega arith }; is = omega arith; c = λ a b. omega arith; s1 = λ a b. omega arith; s2 = λ a b. omega arith; n = λ a b. omega arith; k = λ a b. omega arith; registers = inl (omega arith, omega arith) }
+mixed1 _ op1 op2 f g first second below under = record { below = record { c = omega arith; s1 = omega arith; s2 = omega arith; n = omega arith; k = omega arith }; is = omega arith; c = λ a b. omega arith; s1 = λ a b. omega arith; s2 = λ a b. omega arith; n = λ a b. omega arith; k = λ a b. omega arith; registers = inl (omega arith, omega arith) }
 
 pub mixed2 : (form : Form) (op1 op2 : ℕ) (f g : Fields) → op1 < 256 → op2 < second_bound form → IsBelow f (bounds form) → IsBelow g (bounds form) → Mixed form op1 op2 f g (mix2 (word form op1 op2 f) (word form op1 op2 g))
 unfolding word fields_of bounds second_bound
 mixed2 Rlc op1 op2 f g first second below under = record { below = record { c = omega arith; s1 = omega arith; s2 = omega arith; n = omega arith; k = omega arith }; is = omega arith; c = λ a b. omega arith; s1 = λ a b. omega arith; s2 = λ a b. omega arith; n = λ a b. omega arith; k = λ a b. omega arith; registers = inr (omega arith, omega arith) }
-mixed2 Rr op1 op2 f g first second below under = record { below = record { c = omega arith; s1 = omega arith; s2 = omega arith; n = omega arith; k = omega arith }; is = omega arith; c = λ a b. omega arith; s1 = λ a b. omega arith; s2 = λ a b. omega arith; n = λ a b. omega arith; k = λ a b. omega arith; registers = inr (omega arith, omega arith) }
-mixed2 Rc op1 op2 f g first second below under = record { below = record { c = omega arith; s1 = omega arith; s2 = omega arith; n = omega arith; k = omega arith }; is = omega arith; c = λ a b. omega arith; s1 = λ a b. omega arith; s2 = λ a b. omega arith; n = λ a b. omega arith; k = λ a b. omega arith; registers = inr (omega arith, omega arith) }
-mixed2 Bol op1 op2 f g first second below under = record { below = record { c = omega arith; s1 = omega arith; s2 = omega arith; n = omega arith; k = omega arith }; is = omega arith; c = λ a b. omega arith; s1 = λ a b. omega arith; s2 = λ a b. omega arith; n = λ a b. omega arith; k = λ a b. omega arith; registers = inr (omega arith, omega arith) }
-mixed2 Bo op1 op2 f g first second below under = record { below = record { c = omega arith; s1 = omega arith; s2 = omega arith; n = omega arith; k = omega arith }; is = omega arith; c = λ a b. omega arith; s1 = λ a b. omega arith; s2 = λ a b. omega arith; n = λ a b. omega arith; k = λ a b. omega arith; registers = inr (omega arith, omega arith) }
-mixed2 Brr op1 op2 f g first second below under = record { below = record { c = omega arith; s1 = omega arith; s2 = omega arith; n = omega arith; k = omega arith }; is = omega arith; c = λ a b. omega arith; s1 = λ a b. omega arith; s2 = λ a b. omega arith; n = λ a b. omega arith; k = λ a b. omega arith; registers = inr (omega arith, omega arith) }
-mixed2 Brc op1 op2 f g first second below under = record { below = record { c = omega arith; s1 = omega arith; s2 = omega arith; n = omega arith; k = omega arith }; is = omega arith; c = λ a b. omega arith; s1 = λ a b. omega arith; s2 = λ a b. omega arith; n = λ a b. omega arith; k = λ a b. omega arith; registers = inr (omega arith, omega arith) }
-mixed2 B op1 op2 f g first second below under = record { below = record { c = omega arith; s1 = omega arith; s2 = omega arith; n = omega arith; k = omega arith }; is = omega arith; c = λ a b. omega arith; s1 = λ a b. omega arith; s2 = λ a b. omega arith; n = λ a b. omega arith; k = λ a b. omega arith; registers = inr (omega arith, omega arith) }
-mixed2 Abs op1 op2 f g first second below under = record { below = record { c = omega arith; s1 = omega arith; s2 = omega arith; n = omega arith; k = omega arith }; is = omega arith; c = λ a b. omega arith; s1 = λ a b. omega arith; s2 = λ a b. omega arith; n = λ a b. omega arith; k = λ a b. omega arith; registers = inr (omega arith, omega arith) }
-mixed2 Sys op1 op2 f g first second below under = record { below = record { c = omega arith; s1 = omega arith; s2 = omega arith; n = omega arith; k = omega arith }; is = omega arith; c = λ a b. omega arith; s1 = λ a b. omega arith; s2 = λ a b. omega arith; n = λ a b. omega arith; k = λ a b. omega arith; registers = inr (omega arith, omega arith) }
-mixed2 Sr op1 op2 f g first second below under = record { below = record { c = omega arith; s1 = omega arith; s2 = omega arith; n = omega arith; k = omega arith }; is = omega arith; c = λ a b. omega arith; s1 = λ a b. omega arith; s2 = λ a b. omega arith; n = λ a b. omega arith; k = λ a b. omega arith; registers = inr (omega arith, omega arith) }
-mixed2 Sc op1 op2 f g first second below under = record { below = record { c = omega arith; s1 = omega arith; s2 = omega arith; n = omega arith; k = omega arith }; is = omega arith; c = λ a b. omega arith; s1 = λ a b. omega arith; s2 = λ a b. omega arith; n = λ a b. omega arith; k = λ a b. omega arith; registers = inr (omega arith, omega arith) }
-mixed2 Sb op1 op2 f g first second below under = record { below = record { c = omega arith; s1 = omega arith; s2 = omega arith; n = omega arith; k = omega arith }; is = omega arith; c = λ a b. omega arith; s1 = λ a b. omega arith; s2 = λ a b. omega arith; n = λ a b. omega arith; k = λ a b. omega arith; registers = inr (omega arith, omega arith) }
-mixed2 Sbr op1 op2 f g first second below under = record { below = record { c = omega arith; s1 = omega arith; s2 = omega arith; n = omega arith; k = omega arith }; is = omega arith; c = λ a b. omega arith; s1 = λ a b. omega arith; s2 = λ a b. omega arith; n = λ a b. omega arith; k = λ a b. omega arith; registers = inr (omega arith, omega arith) }
-mixed2 Src op1 op2 f g first second below under = record { below = record { c = omega arith; s1 = omega arith; s2 = omega arith; n = omega arith; k = omega arith }; is = omega arith; c = λ a b. omega arith; s1 = λ a b. omega arith; s2 = λ a b. omega arith; n = λ a b. omega arith; k = λ a b. omega arith; registers = inr (omega arith, omega arith) }
-mixed2 Srr op1 op2 f g first second below under = record { below = record { c = omega arith; s1 = omega arith; s2 = omega arith; n = omega arith; k = omega arith }; is = omega arith; c = λ a b. omega arith; s1 = λ a b. omega arith; s2 = λ a b. omega arith; n = λ a b. omega arith; k = λ a b. omega arith; registers = inr (omega arith, omega arith) }
-mixed2 Slr op1 op2 f g first second below under = record { below = record { c = omega arith; s1 = omega arith; s2 = omega arith; n = omega arith; k = omega arith }; is = omega arith; c = λ a b. omega arith; s1 = λ a b. omega arith; s2 = λ a b. omega arith; n = λ a b. omega arith; k = λ a b. omega arith; registers = inr (omega arith, omega arith) }
-mixed2 Ssr op1 op2 f g first second below under = record { below = record { c = omega arith; s1 = omega arith; s2 = omega arith; n = omega arith; k = omega arith }; is = omega arith; c = λ a b. omega arith; s1 = λ a b. omega arith; s2 = λ a b. omega arith; n = λ a b. omega arith; k = λ a b. omega arith; registers = inr (omega arith, omega arith) }
+mixed2 _ op1 op2 f g first second below under = record { below = record { c = omega arith; s1 = omega arith; s2 = omega arith; n = omega arith; k = omega arith }; is = omega arith; c = λ a b. omega arith; s1 = λ a b. omega arith; s2 = λ a b. omega arith; n = λ a b. omega arith; k = λ a b. omega arith; registers = inr (omega arith, omega arith) }
 
 pub mixed3 : (form : Form) (op1 op2 : ℕ) (f g : Fields) → op1 < 256 → op2 < second_bound form → IsBelow f (bounds form) → IsBelow g (bounds form) → Mixed form op1 op2 f g (mix3 (word form op1 op2 f) (word form op1 op2 g))
 unfolding word fields_of bounds second_bound
 mixed3 Rlc op1 op2 f g first second below under = record { below = record { c = omega arith; s1 = omega arith; s2 = omega arith; n = omega arith; k = omega arith }; is = omega arith; c = λ a b. omega arith; s1 = λ a b. omega arith; s2 = λ a b. omega arith; n = λ a b. omega arith; k = λ a b. omega arith; registers = inr (omega arith, omega arith) }
-mixed3 Rr op1 op2 f g first second below under = record { below = record { c = omega arith; s1 = omega arith; s2 = omega arith; n = omega arith; k = omega arith }; is = omega arith; c = λ a b. omega arith; s1 = λ a b. omega arith; s2 = λ a b. omega arith; n = λ a b. omega arith; k = λ a b. omega arith; registers = inr (omega arith, omega arith) }
-mixed3 Rc op1 op2 f g first second below under = record { below = record { c = omega arith; s1 = omega arith; s2 = omega arith; n = omega arith; k = omega arith }; is = omega arith; c = λ a b. omega arith; s1 = λ a b. omega arith; s2 = λ a b. omega arith; n = λ a b. omega arith; k = λ a b. omega arith; registers = inr (omega arith, omega arith) }
-mixed3 Bol op1 op2 f g first second below under = record { below = record { c = omega arith; s1 = omega arith; s2 = omega arith; n = omega arith; k = omega arith }; is = omega arith; c = λ a b. omega arith; s1 = λ a b. omega arith; s2 = λ a b. omega arith; n = λ a b. omega arith; k = λ a b. omega arith; registers = inr (omega arith, omega arith) }
-mixed3 Bo op1 op2 f g first second below under = record { below = record { c = omega arith; s1 = omega arith; s2 = omega arith; n = omega arith; k = omega arith }; is = omega arith; c = λ a b. omega arith; s1 = λ a b. omega arith; s2 = λ a b. omega arith; n = λ a b. omega arith; k = λ a b. omega arith; registers = inr (omega arith, omega arith) }
-mixed3 Brr op1 op2 f g first second below under = record { below = record { c = omega arith; s1 = omega arith; s2 = omega arith; n = omega arith; k = omega arith }; is = omega arith; c = λ a b. omega arith; s1 = λ a b. omega arith; s2 = λ a b. omega arith; n = λ a b. omega arith; k = λ a b. omega arith; registers = inr (omega arith, omega arith) }
-mixed3 Brc op1 op2 f g first second below under = record { below = record { c = omega arith; s1 = omega arith; s2 = omega arith; n = omega arith; k = omega arith }; is = omega arith; c = λ a b. omega arith; s1 = λ a b. omega arith; s2 = λ a b. omega arith; n = λ a b. omega arith; k = λ a b. omega arith; registers = inr (omega arith, omega arith) }
-mixed3 B op1 op2 f g first second below under = record { below = record { c = omega arith; s1 = omega arith; s2 = omega arith; n = omega arith; k = omega arith }; is = omega arith; c = λ a b. omega arith; s1 = λ a b. omega arith; s2 = λ a b. omega arith; n = λ a b. omega arith; k = λ a b. omega arith; registers = inr (omega arith, omega arith) }
-mixed3 Abs op1 op2 f g first second below under = record { below = record { c = omega arith; s1 = omega arith; s2 = omega arith; n = omega arith; k = omega arith }; is = omega arith; c = λ a b. omega arith; s1 = λ a b. omega arith; s2 = λ a b. omega arith; n = λ a b. omega arith; k = λ a b. omega arith; registers = inr (omega arith, omega arith) }
-mixed3 Sys op1 op2 f g first second below under = record { below = record { c = omega arith; s1 = omega arith; s2 = omega arith; n = omega arith; k = omega arith }; is = omega arith; c = λ a b. omega arith; s1 = λ a b. omega arith; s2 = λ a b. omega arith; n = λ a b. omega arith; k = λ a b. omega arith; registers = inr (omega arith, omega arith) }
-mixed3 Sr op1 op2 f g first second below under = record { below = record { c = omega arith; s1 = omega arith; s2 = omega arith; n = omega arith; k = omega arith }; is = omega arith; c = λ a b. omega arith; s1 = λ a b. omega arith; s2 = λ a b. omega arith; n = λ a b. omega arith; k = λ a b. omega arith; registers = inr (omega arith, omega arith) }
-mixed3 Sc op1 op2 f g first second below under = record { below = record { c = omega arith; s1 = omega arith; s2 = omega arith; n = omega arith; k = omega arith }; is = omega arith; c = λ a b. omega arith; s1 = λ a b. omega arith; s2 = λ a b. omega arith; n = λ a b. omega arith; k = λ a b. omega arith; registers = inr (omega arith, omega arith) }
-mixed3 Sb op1 op2 f g first second below under = record { below = record { c = omega arith; s1 = omega arith; s2 = omega arith; n = omega arith; k = omega arith }; is = omega arith; c = λ a b. omega arith; s1 = λ a b. omega arith; s2 = λ a b. omega arith; n = λ a b. omega arith; k = λ a b. omega arith; registers = inr (omega arith, omega arith) }
-mixed3 Sbr op1 op2 f g first second below under = record { below = record { c = omega arith; s1 = omega arith; s2 = omega arith; n = omega arith; k = omega arith }; is = omega arith; c = λ a b. omega arith; s1 = λ a b. omega arith; s2 = λ a b. omega arith; n = λ a b. omega arith; k = λ a b. omega arith; registers = inr (omega arith, omega arith) }
-mixed3 Src op1 op2 f g first second below under = record { below = record { c = omega arith; s1 = omega arith; s2 = omega arith; n = omega arith; k = omega arith }; is = omega arith; c = λ a b. omega arith; s1 = λ a b. omega arith; s2 = λ a b. omega arith; n = λ a b. omega arith; k = λ a b. omega arith; registers = inr (omega arith, omega arith) }
-mixed3 Srr op1 op2 f g first second below under = record { below = record { c = omega arith; s1 = omega arith; s2 = omega arith; n = omega arith; k = omega arith }; is = omega arith; c = λ a b. omega arith; s1 = λ a b. omega arith; s2 = λ a b. omega arith; n = λ a b. omega arith; k = λ a b. omega arith; registers = inr (omega arith, omega arith) }
-mixed3 Slr op1 op2 f g first second below under = record { below = record { c = omega arith; s1 = omega arith; s2 = omega arith; n = omega arith; k = omega arith }; is = omega arith; c = λ a b. omega arith; s1 = λ a b. omega arith; s2 = λ a b. omega arith; n = λ a b. omega arith; k = λ a b. omega arith; registers = inr (omega arith, omega arith) }
-mixed3 Ssr op1 op2 f g first second below under = record { below = record { c = omega arith; s1 = omega arith; s2 = omega arith; n = omega arith; k = omega arith }; is = omega arith; c = λ a b. omega arith; s1 = λ a b. omega arith; s2 = λ a b. omega arith; n = λ a b. omega arith; k = λ a b. omega arith; registers = inr (omega arith, omega arith) }
+mixed3 _ op1 op2 f g first second below under = record { below = record { c = omega arith; s1 = omega arith; s2 = omega arith; n = omega arith; k = omega arith }; is = omega arith; c = λ a b. omega arith; s1 = λ a b. omega arith; s2 = λ a b. omega arith; n = λ a b. omega arith; k = λ a b. omega arith; registers = inr (omega arith, omega arith) }

@@ -7,20 +7,20 @@ use Rattle.std.proofs.lemmas.List.Sums.{AllPass-from_list_all}
 use Rattle.tcd_base.specs.Fields.{sext_of}
 use Rattle.tc_isa.specs.declared.fields.Fields.{Fields}
 use Rattle.tc_isa.specs.declared.meaning.RegField.{RegField}
-use Rattle.tc_isa.specs.declared.meaning.RegField.TheVariants.{Dc, Ds1, Ds2, D15, Ac, As1, As2, A10}
+use Rattle.tc_isa.specs.declared.meaning.RegField.TheVariants.{Dc}
 use Rattle.tc_isa.specs.declared.meaning.Immediate.{Immediate}
-use Rattle.tc_isa.specs.declared.meaning.Immediate.TheVariants.{Zero, Signed4, Signed9, Signed10, Signed16, Unsigned, High, Address, SignedS2, UnsignedS2}
+use Rattle.tc_isa.specs.declared.meaning.Immediate.TheVariants.{Signed4, Signed9, Signed10, Signed16, SignedS2}
 use Rattle.tc_isa.specs.declared.meaning.Operand.{Operand}
 use Rattle.tc_isa.specs.declared.meaning.Operand.TheVariants.{At, Of}
 use Rattle.tc_isa.specs.declared.meaning.Displacement.{Displacement}
-use Rattle.tc_isa.specs.declared.meaning.Displacement.TheVariants.{Ahead8, Ahead15, Ahead24, AheadOnly}
+use Rattle.tc_isa.specs.declared.meaning.Displacement.TheVariants.{Ahead8}
 use Rattle.tc_isa.specs.declared.meaning.Destination.{Destination}
 use Rattle.tc_isa.specs.declared.meaning.Destination.TheVariants.{By, Code, In}
 use Rattle.tc_isa.specs.declared.meaning.Meaning.{Meaning}
-use Rattle.tc_isa.specs.declared.meaning.Meaning.TheVariants.{Computes, Scales, Loads, Stores, Branches, Jumps, Calls, Masks, Traps, ReadsCore, WritesCore, Always}
+use Rattle.tc_isa.specs.declared.meaning.Meaning.TheVariants.{Computes, Scales, Loads, Stores, Branches, Jumps, Calls, Masks, ReadsCore, WritesCore, Always}
 use Rattle.tc_isa.specs.declared.row_meanings.TheConstants.{MEANINGS}
 use Rattle.tc_isa.specs.declared.shapes.Shape.{Shape}
-use Rattle.tc_isa.specs.declared.shapes.Shape.TheVariants.{Compute, Scaled, Load, Store, Branch, Jump, Call, Ret, Rfe, Svlcx, Rslcx, Bisr, Enable, Disable, Syscall, Mfcr, Mtcr, Nothing}
+use Rattle.tc_isa.specs.declared.shapes.Shape.TheVariants.{Ret, Rfe, Svlcx, Rslcx, Enable, Disable, Nothing}
 use Rattle.tc_isa.specs.Insts.{InstData, IsInst, fields_in}
 use Rattle.tc_isa.specs.Rows.{listed}
 use Rattle.tc_isa.specs.Shapes.{meanings, shape_of}
@@ -36,25 +36,15 @@ sext_lt x n low word = elim (cases_lt x (2 ^ (n - 1))) [
 
 register_is : (p : RegField) (f : Fields) → AreSmall f → IsRegister (register_of p f)
 register_is Dc f s = omega arith
-register_is Ds1 f s = omega arith
-register_is Ds2 f s = omega arith
-register_is D15 f s = omega arith
-register_is Ac f s = omega arith
-register_is As1 f s = omega arith
-register_is As2 f s = omega arith
-register_is A10 f s = omega arith
+register_is _ f s = omega arith
 
 word_is : (c : Immediate) (f : Fields) → AreSmall f → IsWord (word_at c f)
-word_is Zero f s = omega arith
 word_is Signed4 f s = sext_lt (f.k % 2 ^ 4) 4 (omega arith) (omega arith)
 word_is Signed9 f s = sext_lt (f.k % 2 ^ 9) 9 (omega arith) (omega arith)
 word_is Signed10 f s = sext_lt (f.k % 2 ^ 10) 10 (omega arith) (omega arith)
 word_is Signed16 f s = sext_lt (f.k % 2 ^ 16) 16 (omega arith) (omega arith)
-word_is Unsigned f s = omega arith
-word_is High f s = omega arith
-word_is Address f s = omega arith
 word_is SignedS2 f s = sext_lt (f.s2 % 2 ^ 4) 4 (omega arith) (omega arith)
-word_is UnsignedS2 f s = omega arith
+word_is _ f s = omega arith
 
 operand_is : (o : Operand) (f : Fields) → AreSmall f → IsArg (operand_of o f)
 operand_is (At p) f s = register_is p f s
@@ -62,9 +52,7 @@ operand_is (Of c) f s = word_is c f s
 
 distance_is : (b : Displacement) (f : Fields) → AreSmall f → IsWord (distance_of b f)
 distance_is Ahead8 f s = omega arith
-distance_is Ahead15 f s = omega arith
-distance_is Ahead24 f s = omega arith
-distance_is AheadOnly f s = omega arith
+distance_is _ f s = omega arith
 
 target_is : (g : Destination) (f : Fields) → AreSmall f → IsTarget (goal_of g f)
 target_is (By b) f s = distance_is b f s
@@ -76,38 +64,20 @@ is_size : ℕ → Bool
 is_size n = n == 1 || (n == 2 || n == 4)
 
 has_no_parts : Shape → Bool
-has_no_parts (Compute op dst x y) = false
-has_no_parts (Scaled dst base index n) = false
-has_no_parts (Load dst base offset size sign after) = false
-has_no_parts (Store src base offset size after) = false
-has_no_parts (Branch cond x y by lowers) = false
-has_no_parts (Jump to) = false
-has_no_parts (Call to) = false
 has_no_parts Ret = true
 has_no_parts Rfe = true
 has_no_parts Svlcx = true
 has_no_parts Rslcx = true
-has_no_parts (Bisr c) = false
 has_no_parts Enable = true
 has_no_parts Disable = true
-has_no_parts (Syscall tin) = false
-has_no_parts (Mfcr dst number) = false
-has_no_parts (Mtcr src number) = false
 has_no_parts Nothing = true
+has_no_parts _ = false
 
 is_sound : Meaning → Bool
-is_sound (Computes op dst x y) = true
-is_sound (Scales dst base index) = true
 is_sound (Loads dst base offset size sign after) = is_size size
 is_sound (Stores src base offset size after) = is_size size
-is_sound (Branches cond x y by lowers) = true
-is_sound (Jumps to) = true
-is_sound (Calls to) = true
-is_sound Masks = true
-is_sound Traps = true
-is_sound (ReadsCore dst) = true
-is_sound (WritesCore src) = true
 is_sound (Always s) = has_no_parts s
+is_sound _ = true
 
 size_is : (n : ℕ) → is_size n ≡ true → IsSize n
 unfolding is_size
@@ -118,24 +88,14 @@ size_is n e = elim (or_cases (n == 1) (n == 2 || n == 4) e) [
 
 plain_is : (s : Shape) → has_no_parts s ≡ true → IsShape s
 unfolding has_no_parts
-plain_is (Compute op dst x y) e = cc
-plain_is (Scaled dst base index n) e = cc
-plain_is (Load dst base offset size sign after) e = cc
-plain_is (Store src base offset size after) e = cc
-plain_is (Branch cond x y by lowers) e = cc
-plain_is (Jump to) e = cc
-plain_is (Call to) e = cc
 plain_is Ret e = tt
 plain_is Rfe e = tt
 plain_is Svlcx e = tt
 plain_is Rslcx e = tt
-plain_is (Bisr c) e = cc
 plain_is Enable e = tt
 plain_is Disable e = tt
-plain_is (Syscall tin) e = cc
-plain_is (Mfcr dst number) e = cc
-plain_is (Mtcr src number) e = cc
 plain_is Nothing e = tt
+plain_is _ e = cc
 
 meant_is : (m : Meaning) (f : Fields) → AreSmall f → is_sound m ≡ true → IsShape (meant m f)
 unfolding is_sound
@@ -146,11 +106,10 @@ meant_is (Stores src base offset size after) f s e = (register_is src f s, opera
 meant_is (Branches cond x y by lowers) f s e = (register_is x f s, operand_is y f s, distance_is by f s)
 meant_is (Jumps to) f s e = target_is to f s
 meant_is (Calls to) f s e = target_is to f s
-meant_is Masks f s e = omega arith
-meant_is Traps f s e = omega arith
 meant_is (ReadsCore dst) f s e = (register_is dst f s, omega arith)
 meant_is (WritesCore src) f s e = (register_is src f s, omega arith)
 meant_is (Always shape) f s e = plain_is shape e
+meant_is _ f s e = omega arith
 
 all_sound : list_all is_sound MEANINGS ≡ true
 unfolding is_sound is_size has_no_parts

@@ -7,7 +7,7 @@ use Rattle.tc_isa.specs.declared.fields.Fields.{Fields}
 use Rattle.tc_isa.specs.declared.meaning.Meaning.{Meaning}
 use Rattle.tc_isa.specs.declared.shapes.Shape.{Shape}
 use Rattle.tc_isa.specs.declared.table.Form.{Form}
-use Rattle.tc_isa.specs.declared.table.Form.TheVariants.{Rlc, Rr, Rc, Bol, Bo, Brr, Brc, B, Abs, Sys, Sr, Sc, Sb, Sbr, Src, Srr, Slr, Ssr}
+use Rattle.tc_isa.specs.declared.table.Form.TheVariants.{Rlc}
 use Rattle.tc_isa.specs.Rows.{listed}
 use Rattle.tc_isa.specs.Words.{IsBelow, bounds}
 use Rattle.tc_isa.specs.Insts.{InstData, IsInst, fields_in}
@@ -18,23 +18,7 @@ use Rattle.tc_isa.specs.Meanings.{AreSmall, meant}
 small_in : (form : Form) (f : Fields) → IsBelow f (bounds form) → AreSmall f
 unfolding bounds
 small_in Rlc f b = record { c = omega arith; s1 = omega arith; s2 = omega arith; n = omega arith; k = omega arith }
-small_in Rr f b = record { c = omega arith; s1 = omega arith; s2 = omega arith; n = omega arith; k = omega arith }
-small_in Rc f b = record { c = omega arith; s1 = omega arith; s2 = omega arith; n = omega arith; k = omega arith }
-small_in Bol f b = record { c = omega arith; s1 = omega arith; s2 = omega arith; n = omega arith; k = omega arith }
-small_in Bo f b = record { c = omega arith; s1 = omega arith; s2 = omega arith; n = omega arith; k = omega arith }
-small_in Brr f b = record { c = omega arith; s1 = omega arith; s2 = omega arith; n = omega arith; k = omega arith }
-small_in Brc f b = record { c = omega arith; s1 = omega arith; s2 = omega arith; n = omega arith; k = omega arith }
-small_in B f b = record { c = omega arith; s1 = omega arith; s2 = omega arith; n = omega arith; k = omega arith }
-small_in Abs f b = record { c = omega arith; s1 = omega arith; s2 = omega arith; n = omega arith; k = omega arith }
-small_in Sys f b = record { c = omega arith; s1 = omega arith; s2 = omega arith; n = omega arith; k = omega arith }
-small_in Sr f b = record { c = omega arith; s1 = omega arith; s2 = omega arith; n = omega arith; k = omega arith }
-small_in Sc f b = record { c = omega arith; s1 = omega arith; s2 = omega arith; n = omega arith; k = omega arith }
-small_in Sb f b = record { c = omega arith; s1 = omega arith; s2 = omega arith; n = omega arith; k = omega arith }
-small_in Sbr f b = record { c = omega arith; s1 = omega arith; s2 = omega arith; n = omega arith; k = omega arith }
-small_in Src f b = record { c = omega arith; s1 = omega arith; s2 = omega arith; n = omega arith; k = omega arith }
-small_in Srr f b = record { c = omega arith; s1 = omega arith; s2 = omega arith; n = omega arith; k = omega arith }
-small_in Slr f b = record { c = omega arith; s1 = omega arith; s2 = omega arith; n = omega arith; k = omega arith }
-small_in Ssr f b = record { c = omega arith; s1 = omega arith; s2 = omega arith; n = omega arith; k = omega arith }
+small_in _ f b = record { c = omega arith; s1 = omega arith; s2 = omega arith; n = omega arith; k = omega arith }
 
 pub small : (i : InstData) → IsInst i → AreSmall (fields_in i)
 small i is = small_in is.row.form (fields_in i) is.fits.below

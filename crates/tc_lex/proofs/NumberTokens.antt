@@ -3,7 +3,7 @@ use Rattle.std.proofs.Common.{◌≡◌, ◌≢◌, ℕ, ◌==◌, Bool, true, f
 use Rattle.std.specs.Prelude.{slice_get}
 use Rattle.std.specs.Option.{option_map_or}
 use Rattle.tc_lex.specs.declared.kinds.TokenKind.{TokenKind}
-use Rattle.tc_lex.specs.declared.kinds.TokenKind.TheVariants.{Word, Number, Comma, Colon, Open, Close, Plus, Minus}
+use Rattle.tc_lex.specs.declared.kinds.TokenKind.TheVariants.{Word, Number, Minus}
 use Rattle.tc_lex.specs.Numbers.{number_of}
 use Rattle.tc_lex.specs.Pieces.{PieceData, is_kind, kind_index, text_at}
 use Rattle.tc_lex.specs.declared.operand.Shape.TheVariants as shape
@@ -13,24 +13,12 @@ use Rattle.tc_lex.specs.Operands.{ValueData, value, plain_number, number_at, sum
 other : (k : TokenKind) (i : ℕ) → (kind_index k == 0) ≡ true → i ≡ 1 → (kind_index k == i) ≡ false
 unfolding kind_index
 other Word i e h = rw h refl
-other Number i e h = cc
-other Comma i e h = cc
-other Colon i e h = cc
-other Open i e h = cc
-other Close i e h = cc
-other Plus i e h = cc
-other Minus i e h = cc
+other _ i e h = cc
 
 seven : (k : TokenKind) (i : ℕ) → (kind_index k == 0) ≡ true → i ≡ 7 → (kind_index k == i) ≡ false
 unfolding kind_index
 seven Word i e h = rw h refl
-seven Number i e h = cc
-seven Comma i e h = cc
-seven Colon i e h = cc
-seven Open i e h = cc
-seven Close i e h = cc
-seven Plus i e h = cc
-seven Minus i e h = cc
+seven _ i e h = cc
 
 of_kind : (o : Option PieceData) (i : ℕ) (other_kind : (p : PieceData) → (kind_index p.kind == 0) ≡ true → (kind_index p.kind == i) ≡ false)
     → option_map_or (λ p. kind_index p.kind == 0) o false ≡ true → option_map_or (λ p. kind_index p.kind == i) o false ≡ false
@@ -68,24 +56,12 @@ token_with k text = record { kind = k; text = text }
 lone_word_of : (k : TokenKind) (text : List ℕ) → is_kind (token_with k text ∷ []) 0 Word ≡ true → plain (value shape.Word text false 0) ≡ operand (token_with k text ∷ [])
 unfolding operand value_at number_at named_at sum_at is_kind kind_index text_at
 lone_word_of Word text e = refl
-lone_word_of Number text e = cc
-lone_word_of Comma text e = cc
-lone_word_of Colon text e = cc
-lone_word_of Open text e = cc
-lone_word_of Close text e = cc
-lone_word_of Plus text e = cc
-lone_word_of Minus text e = cc
+lone_word_of _ text e = cc
 
 lone_number_of : (k : TokenKind) (text : List ℕ) → is_kind (token_with k text ∷ []) 0 Number ≡ true → plain (plain_number false (number_of text)) ≡ operand (token_with k text ∷ [])
 unfolding operand value_at number_at is_kind kind_index text_at
-lone_number_of Word text e = cc
 lone_number_of Number text e = refl
-lone_number_of Comma text e = cc
-lone_number_of Colon text e = cc
-lone_number_of Open text e = cc
-lone_number_of Close text e = cc
-lone_number_of Plus text e = cc
-lone_number_of Minus text e = cc
+lone_number_of _ text e = cc
 
 pub lone_word : (ps : List PieceData) → length ps ≡ 1 → is_kind ps 0 Word ≡ true → plain (value shape.Word (text_at ps 0) false 0) ≡ operand ps
 unfolding text_at

@@ -95,10 +95,4 @@ hex_text z x (h ∷ hs) some = refl
 pub empty_none : (kind : TokenKind) → is_token kind [] ≡ false
 unfolding is_token
 empty_none Word = refl
-empty_none Number = refl
-empty_none Comma = refl
-empty_none Colon = refl
-empty_none Open = refl
-empty_none Close = refl
-empty_none Plus = refl
-empty_none Minus = refl
+empty_none _ = refl

@@ -5,7 +5,7 @@ use Rattle.csa_chain.specs.Chain.{link_in, is_area}
 use Rattle.tc_isa.specs.declared.shapes.Arg.{Arg}
 use Rattle.tc_isa.specs.declared.shapes.Arg.TheVariants.{Reg, Word}
 use Rattle.tc_isa.specs.declared.shapes.Shape.{Shape}
-use Rattle.tc_isa.specs.declared.shapes.Shape.TheVariants.{Compute, Scaled, Load, Store, Branch, Jump, Call, Ret, Rfe, Svlcx, Rslcx, Bisr, Enable, Disable, Syscall, Mfcr, Mtcr, Nothing}
+use Rattle.tc_isa.specs.declared.shapes.Shape.TheVariants.{Compute, Scaled, Load, Store, Branch, Call, Ret, Rfe, Svlcx, Rslcx, Bisr, Syscall, Mfcr, Mtcr}
 use Rattle.tc_machine.specs.declared.events.Cause.{Cause}
 use Rattle.tc_machine.specs.declared.events.Cause.TheVariants.{Fcd, Fcu, Csu, Ctyp, NoArea}
 use Rattle.tc_machine.specs.declared.events.Event.{Event}
@@ -104,19 +104,16 @@ module _ (m : Machine) (runs : m.end ≡ Running) where
       cond_both (traps_at e (access_address m base offset after) size) _ _ (OnlyEnd m) (λ _. only_trap 2 4 m.pc)
       (λ _. only_running m _ (end_base m base offset after ∙ runs))
   only_does e (Branch c x y by lowers) n = only_running m _ (end_lowered m x lowers ∙ runs)
-  only_does e (Jump to) n = only_running m _ runs
   only_does e (Call to) n = only_then m (save m true) _ (λ s. refl) (only_save m runs true)
   only_does e Ret n = only_then m (restore m true) _ (λ s. refl) (only_restore m runs true)
   only_does e Rfe n = only_then m (restore m true) _ (λ s. refl) (only_restore m runs true)
   only_does e Svlcx n = only_then m (save m false) _ (λ s. refl) (only_save m runs false)
   only_does e Rslcx n = only_then m (restore m false) _ (λ s. refl) (only_restore m runs false)
   only_does e (Bisr c) n = only_then m (save m false) _ (λ s. refl) (only_save m runs false)
-  only_does e Enable n = only_running m _ runs
-  only_does e Disable n = only_running m _ runs
   only_does e (Syscall tin) n = only_trap 6 tin _
   only_does e (Mfcr dst number) n = only_running m _ (end_reg m dst _ ∙ runs)
   only_does e (Mtcr src number) n = only_running m _ (end_core_register m number _ ∙ runs)
-  only_does e Nothing n = only_running m _ runs
+  only_does e _ n = only_running m _ runs
 
   only_executed : (e : Event) (found : Result (Shape × ℕ) Cause) → OnlyEnd m (executed m e found)
   only_executed e (Ok found) = only_does e found.0 found.1

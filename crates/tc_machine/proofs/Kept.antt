@@ -9,7 +9,7 @@ use Rattle.csa_chain.specs.Chain.{chain}
 use Rattle.tc_isa.specs.declared.shapes.Arg.{Arg}
 use Rattle.tc_isa.specs.declared.shapes.Arg.TheVariants.{Reg, Word}
 use Rattle.tc_isa.specs.declared.shapes.Shape.{Shape}
-use Rattle.tc_isa.specs.declared.shapes.Shape.TheVariants.{Compute, Scaled, Load, Store, Branch, Jump, Call, Ret, Rfe, Svlcx, Rslcx, Bisr, Enable, Disable, Syscall, Mfcr, Mtcr, Nothing}
+use Rattle.tc_isa.specs.declared.shapes.Shape.TheVariants.{Compute, Scaled, Load, Branch, Jump, Enable, Disable, Mfcr, Nothing}
 use Rattle.tc_encode.specs.Decoding.{decoded_of}
 use Rattle.tc_machine.specs.declared.events.Cause.TheVariants.{NoCode}
 use Rattle.tc_machine.specs.declared.events.Event.{Event}
@@ -72,15 +72,7 @@ same_does e (Mfcr dst number) k m n = same_pc m _ _ (same_reg m dst _)
 same_does e Enable k m n = record { mem = refl; pcxi = refl }
 same_does e Disable k m n = record { mem = refl; pcxi = refl }
 same_does e Nothing k m n = record { mem = refl; pcxi = refl }
-same_does e (Store src base offset size after) k m n = cc
-same_does e (Call to) k m n = cc
-same_does e Ret k m n = cc
-same_does e Rfe k m n = cc
-same_does e Svlcx k m n = cc
-same_does e Rslcx k m n = cc
-same_does e (Bisr c) k m n = cc
-same_does e (Syscall tin) k m n = cc
-same_does e (Mtcr src number) k m n = cc
+same_does e _ k m n = cc
 
 -- ---- an event that does it
 same_executed : (m : Machine) (e : Event) (shape : Shape) (n : ℕ) (even : Bool) → keeps_of e shape ≡ true → Same m (executed m e (cond even (Ok (shape, n)) (Err NoCode)))

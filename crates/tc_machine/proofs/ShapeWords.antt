@@ -5,7 +5,7 @@ use Rattle.tc_isa.specs.declared.shapes.Arg.TheVariants.{Reg, Word}
 use Rattle.tc_isa.specs.declared.shapes.Target.{Target}
 use Rattle.tc_isa.specs.declared.shapes.Target.TheVariants as target
 use Rattle.tc_isa.specs.declared.shapes.Shape.{Shape}
-use Rattle.tc_isa.specs.declared.shapes.Shape.TheVariants.{Compute, Scaled, Load, Store, Branch, Jump, Call, Ret, Rfe, Svlcx, Rslcx, Bisr, Enable, Disable, Syscall, Mfcr, Mtcr, Nothing}
+use Rattle.tc_isa.specs.declared.shapes.Shape.TheVariants.{Compute, Load, Jump, Call, Bisr, Syscall}
 use Rattle.tc_isa.specs.Insts.{InstData, IsInst}
 use Rattle.tc_isa.specs.Shapes.{shape_of}
 use Rattle.tc_isa.specs.Bounded as bounded
@@ -49,23 +49,12 @@ target_word (target.Reg r) h = tt
 
 shape_words : (s : Shape) → bounded.IsShape s → IsShape s
 shape_words (Compute op dst x y) h = (arg_word x h.1, arg_word y h.2)
-shape_words (Scaled dst base index n) h = tt
 shape_words (Load dst base offset size signed after) h = h.3
-shape_words (Store src base offset size after) h = tt
-shape_words (Branch c x y by lowers) h = tt
 shape_words (Jump to) h = target_word to h
 shape_words (Call to) h = target_word to h
-shape_words Ret h = tt
-shape_words Rfe h = tt
-shape_words Svlcx h = tt
-shape_words Rslcx h = tt
 shape_words (Bisr c) h = h
-shape_words Enable h = tt
-shape_words Disable h = tt
 shape_words (Syscall tin) h = omega arith
-shape_words (Mfcr dst number) h = tt
-shape_words (Mtcr src number) h = tt
-shape_words Nothing h = tt
+shape_words _ h = tt
 
 -- what an instruction of the table does
 pub shape_of-suits : (i : InstData) → IsInst i → IsShape (shape_of i)

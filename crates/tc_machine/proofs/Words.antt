@@ -51,8 +51,6 @@ shifted_signed_lt x n h =
 pub alu_lt : (o : Op) (x y : ℕ) → x < 2 ^ 32 → y < 2 ^ 32 → alu_of o x y < 2 ^ 32
 unfolding alu_of
 alu_lt op.Second x y h g = g
-alu_lt op.Add x y h g = omega arith
-alu_lt op.Sub x y h g = omega arith
 alu_lt op.And x y h g = and_lt x y h
 alu_lt op.Nand x y h g = complement_lt (bit_and x y)
 alu_lt op.Or x y h g = or_lt 32 x y h g
@@ -69,6 +67,7 @@ alu_lt op.Ge x y h g = one_if_lt (nat_le (signed_place y) (signed_place x))
 alu_lt op.GeU x y h g = one_if_lt (nat_le y x)
 alu_lt op.Sh x y h g = shifted_lt x (y % 64) h
 alu_lt op.Sha x y h g = shifted_signed_lt x (y % 64) h
+alu_lt _ x y h g = omega arith
 
 -- ---- loads and stores
 byte_lt : (o : Option ℕ) (d : ℕ) → ((b : ℕ) → o ≡ Some b → b < 2 ^ 8) → d < 2 ^ 8 → unwrap_or o d < 2 ^ 8

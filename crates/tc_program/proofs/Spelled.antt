@@ -8,7 +8,7 @@ use Rattle.tc_isa.specs.Codec.{spelling}
 use Rattle.tc_isa.proofs.TableFacts.{row_at}
 use Rattle.tc_stmt.specs.RowFields.{ReferenceData}
 use Rattle.tc_reloc.specs.Applied.{with_field}
-use Rattle.tc_stmt.specs.Items.{ItemData, label, section, global, code, bytes, zeros}
+use Rattle.tc_stmt.specs.Items.{ItemData, code, bytes, zeros}
 use Rattle.tc_stmt.specs.Lines.{lines_in, items_in}
 use Rattle.tc_asm.specs.Symbols.{SymbolData}
 use Rattle.tc_asm.specs.Drafts.{DraftData, start, spelled_code, resolved, code_bytes, stepped}
@@ -52,12 +52,10 @@ standing_waits true t h (suc j) x e = cc
 standing_waits false t h j x e = cc
 
 item_waits : (labels : List SymbolData) (d : DraftData) (i : ItemData) → IsItem i → (j : ℕ) (x : StatementData) → slice_get (standing d (content_of labels d i)) j ≡ Some x → Waits x
-item_waits labels d (label name) h j x e = cc
-item_waits labels d (section name) h j x e = cc
-item_waits labels d (global name) h j x e = cc
 item_waits labels d (code k f o) h j x e = standing_waits _ _ (record { so = λ r is waits. inr (code_fills labels d k f o r h is waits) }) j x e
 item_waits labels d (bytes bs o) h j x e = standing_waits _ _ (record { so = λ r is waits. inl (h.kind r is) }) j x e
 item_waits labels d (zeros n) h j x e = standing_waits _ _ (record { so = λ r is waits. cc }) j x e
+item_waits labels d _ h j x e = cc
 
 items_wait : (labels : List SymbolData) (is : List ItemData) (d : DraftData) → Each IsItem is → (j : ℕ) (x : StatementData) → slice_get (statements_from labels d is) j ≡ Some x → Waits x
 items_wait labels [] d h j x e = cc

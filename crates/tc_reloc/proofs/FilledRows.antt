@@ -7,7 +7,7 @@ use Rattle.std.proofs.lemmas.Bool.Decides.{Decides-eqb}
 use Rattle.tcd_base.specs.Bytes.{word_at, bytes_of_word}
 use Rattle.tc_isa.specs.declared.fields.Fields.{Fields}
 use Rattle.tc_isa.specs.declared.table.Form.{Form}
-use Rattle.tc_isa.specs.declared.table.Form.TheVariants.{Rlc, Rr, Rc, Bol, Bo, Brr, Brc, B, Abs, Sys, Sr, Sc, Sb, Sbr, Src, Srr, Slr, Ssr}
+use Rattle.tc_isa.specs.declared.table.Form.TheVariants.{Rlc, Bol, Brr, Brc, B}
 use Rattle.tc_isa.specs.Rows.{RowData, listed}
 use Rattle.tc_isa.specs.Words.{IsBelow, bounds, second_bound, word}
 use Rattle.tc_isa.specs.declared.fields.Uses.{Uses}
@@ -62,19 +62,7 @@ filled_word Bol kind op1 op2 n f e less small below =
     let s2 = below.s2 in
     let P : ℕ → Type 0 = λ i. rest_of i (word Bol op1 op2 f) + spread_of i n ≡ word Bol op1 op2 (record f { k = n }) in
     subst P (sym ((Decides-eqb kind 6).0 e)) (omega arith)
-filled_word Rr kind op1 op2 n f e less small below = cc
-filled_word Rc kind op1 op2 n f e less small below = cc
-filled_word Bo kind op1 op2 n f e less small below = cc
-filled_word Abs kind op1 op2 n f e less small below = cc
-filled_word Sys kind op1 op2 n f e less small below = cc
-filled_word Sr kind op1 op2 n f e less small below = cc
-filled_word Sc kind op1 op2 n f e less small below = cc
-filled_word Sb kind op1 op2 n f e less small below = cc
-filled_word Sbr kind op1 op2 n f e less small below = cc
-filled_word Src kind op1 op2 n f e less small below = cc
-filled_word Srr kind op1 op2 n f e less small below = cc
-filled_word Slr kind op1 op2 n f e less small below = cc
-filled_word Ssr kind op1 op2 n f e less small below = cc
+filled_word _ kind op1 op2 n f e less small below = cc
 
 -- four bytes are their word
 word_back : (w : ℕ) → word_at (four_bytes w) 0 ≡ w
@@ -119,19 +107,7 @@ room_below Bol kind op1 op2 n f e less small below room =
     let s2 = below.s2 in
     let P : ℕ → Type 0 = λ i. n < room_of i → word Bol op1 op2 (record f { k = n }) < 2 ^ 32 in
     subst P (sym ((Decides-eqb kind 6).0 e)) (λ r. omega arith) room
-room_below Rr kind op1 op2 n f e less small below room = cc
-room_below Rc kind op1 op2 n f e less small below room = cc
-room_below Bo kind op1 op2 n f e less small below room = cc
-room_below Abs kind op1 op2 n f e less small below room = cc
-room_below Sys kind op1 op2 n f e less small below room = cc
-room_below Sr kind op1 op2 n f e less small below room = cc
-room_below Sc kind op1 op2 n f e less small below room = cc
-room_below Sb kind op1 op2 n f e less small below room = cc
-room_below Sbr kind op1 op2 n f e less small below room = cc
-room_below Src kind op1 op2 n f e less small below room = cc
-room_below Srr kind op1 op2 n f e less small below room = cc
-room_below Slr kind op1 op2 n f e less small below room = cc
-room_below Ssr kind op1 op2 n f e less small below room = cc
+room_below _ kind op1 op2 n f e less small below room = cc
 
 -- ---- rows
 filled_bytes : (kind w v n : ℕ) → rest_of kind w + spread_of kind n ≡ v → v < 2 ^ 32 → with_field kind (four_bytes w) n ≡ four_bytes v
@@ -167,19 +143,7 @@ field_taken Brr kind e = refl
 field_taken Brc kind e = refl
 field_taken Rlc kind e = refl
 field_taken Bol kind e = refl
-field_taken Rr kind e = cc
-field_taken Rc kind e = cc
-field_taken Bo kind e = cc
-field_taken Abs kind e = cc
-field_taken Sys kind e = cc
-field_taken Sr kind e = cc
-field_taken Sc kind e = cc
-field_taken Sb kind e = cc
-field_taken Sbr kind e = cc
-field_taken Src kind e = cc
-field_taken Srr kind e = cc
-field_taken Slr kind e = cc
-field_taken Ssr kind e = cc
+field_taken _ kind e = cc
 
 passes_at : {A : Type 0} (p : A → Bool) (xs : List A) (k : ℕ) (x : A) → list_all p xs ≡ true → slice_get xs k ≡ Some x → p x ≡ true
 passes_at p [] k x all e = cc
@@ -215,19 +179,7 @@ constant_fits Rlc kind n e room = by (or_cases (kind == 4) (kind == 5) e)
     by (inl h) = subst P (sym ((Decides-eqb kind 4).0 h)) (λ r. omega arith) room
     by (inr h) = subst P (sym ((Decides-eqb kind 5).0 h)) (λ r. omega arith) room
 constant_fits Bol kind n e room = let P : ℕ → Type 0 = λ i. n < room_of i → n < (bounds Bol).k in subst P (sym ((Decides-eqb kind 6).0 e)) (λ r. omega arith) room
-constant_fits Rr kind n e room = cc
-constant_fits Rc kind n e room = cc
-constant_fits Bo kind n e room = cc
-constant_fits Abs kind n e room = cc
-constant_fits Sys kind n e room = cc
-constant_fits Sr kind n e room = cc
-constant_fits Sc kind n e room = cc
-constant_fits Sb kind n e room = cc
-constant_fits Sbr kind n e room = cc
-constant_fits Src kind n e room = cc
-constant_fits Srr kind n e room = cc
-constant_fits Slr kind n e room = cc
-constant_fits Ssr kind n e room = cc
+constant_fits _ kind n e room = cc
 
 -- a constant that the row has may be any number
 zero_with : (u : Uses) (f : Fields) (n : ℕ) → u.k ≡ true → rest_is_zero u f ≡ true → rest_is_zero u (record f { k = n }) ≡ true

@@ -87,9 +87,8 @@ counted_same u m n s h =
 
 pub told_same : (effect : Effect) (u : AreasUsed) (m n : Machine) → Same m n → Tells effect u m → Tells effect u n
 told_same Stays u m n s h = counted_same u m n s h
-told_same Saves u m n s h = (h.0, counted_same _ m n s h.1)
-told_same Restores u m n s h = (h.0, counted_same _ m n s h.1)
 told_same Unknown u m n s h = tt
+told_same _ u m n s h = (h.0, counted_same _ m n s h.1)
 
 pub as_told : (effect other : Effect) (u : AreasUsed) (n : Machine) → effect ≡ other → Tells effect u n → Tells other u n
 as_told effect other u n is h = subst (λ x. Tells x u n) is h

@@ -14,7 +14,7 @@ use Rattle.tc_script.specs.declared.errors.ScriptErr.TheVariants.{OutOfRange}
 use Rattle.tc_script.specs.declared.reading.Draft.{Draft}
 use Rattle.tc_script.specs.declared.scripts.AnswerRange.{AnswerRange}
 use Rattle.tc_script.specs.declared.statements.Statement.{Statement}
-use Rattle.tc_script.specs.declared.statements.Statement.TheVariants.{Blank, Step, Irq, Aln, In}
+use Rattle.tc_script.specs.declared.statements.Statement.TheVariants.{Step, Irq, Aln, In}
 use Rattle.tc_script.specs.Numbers.{number_of}
 use Rattle.tc_script.specs.Statements.{some_if, of_one_number, of_three_numbers, words_of, statement_of, is_blank, IsOrdered}
 use Rattle.tc_script.specs.Fitting.{AreInside, FitsPlan}
@@ -94,15 +94,14 @@ bounds_set (d ∷ ds) (b ∷ bs) (suc i) lo hi ordered holds h = (h.0, bounds_se
 
 stated_fits : (plan : PlanData) (line : ℕ) (said : Statement) (d : Draft) → IsOrdered said → Fits plan d → FitsIf plan (stated plan line said d)
 unfolding stated
-stated_fits plan line Blank d ordered h = h
 stated_fits plan line (Step n) d ordered h = turns_fit plan line n 0 d (inl refl) h
 stated_fits plan line (Irq irq) d ordered h =
     cond_both (is_source plan irq) _ _ (FitsIf plan) (λ is. turns_fit plan line 1 irq d (inr (source_contained irq plan.irqs is)) h) (λ _. tt)
-stated_fits plan line (Aln aln) d ordered h = h
 stated_fits plan line (In device lo hi) d ordered h =
     cond_both (holds_bounds (slice_get plan.devices device) lo hi) (Ok (with_bounds device lo hi d)) (Err (OutOfRange line)) (FitsIf plan)
     (λ is. record { sources = h.sources; devices = length-set d.script.bounds device (record { lo = lo; hi = hi }) ∙ h.devices; bounds = bounds_set plan.devices d.script.bounds device lo hi ordered is h.bounds })
     (λ _. tt)
+stated_fits plan line _ d ordered h = h
 
 said_fits : (plan : PlanData) (line : ℕ) (o : Option Statement) (d : Draft) → IsOrderedIf o → Fits plan d → FitsIf plan (if_said plan line o d)
 said_fits plan line None d ordered h = tt

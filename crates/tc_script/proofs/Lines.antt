@@ -2,7 +2,7 @@
 use Rattle.std.proofs.Common.{◌≡◌, ℕ, ◌+◌, List, [], ◌∷◌, Result, Ok, Err, refl, sym, ap, ◌∙◌}
 use Rattle.tcd_plan.specs.PlanData.{PlanData}
 use Rattle.tc_script.specs.declared.errors.ScriptErr.{ScriptErr}
-use Rattle.tc_script.specs.declared.errors.ScriptErr.TheVariants.{BadLine, NoSource, OutOfRange, TooMany, NoMemory}
+use Rattle.tc_script.specs.declared.errors.ScriptErr.TheVariants.{NoMemory}
 use Rattle.tc_script.specs.declared.reading.Draft.{Draft}
 use Rattle.tc_script.specs.Reading.{line_read, then_read, lines_read, script_in, Refuses, Gives}
 
@@ -23,11 +23,8 @@ module _ (plan : PlanData) (n : ℕ) (parts : List (List ℕ)) (line : List ℕ)
 
   -- a line that is refused
   pub refused : (e : ScriptErr) → Refuses e (line_read plan n line d) → Gives (Err e) (script_in all)
-  refused (BadLine k) is = refusal (BadLine k) is
-  refused (NoSource k) is = refusal (NoSource k) is
-  refused (OutOfRange k) is = refusal (OutOfRange k) is
-  refused (TooMany k) is = refusal (TooMany k) is
   refused NoMemory is = tt
+  refused it is = refusal it is
 
 -- all lines are read
 pub all_read : (plan : PlanData) (n : ℕ) (d : Draft) (all : Result Draft ScriptErr) → lines_read plan n [] d ≡ all → all ≡ Ok d

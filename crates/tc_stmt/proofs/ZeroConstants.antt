@@ -11,7 +11,7 @@ use Rattle.tc_isa.specs.Codec.{is_apart}
 use Rattle.tc_lex.specs.declared.operand.Shape.{Shape}
 use Rattle.tc_lex.specs.declared.operand.Shape.TheVariants as shape
 use Rattle.tc_stmt.specs.declared.want.Field.{Field}
-use Rattle.tc_stmt.specs.declared.want.Field.TheVariants.{C, S1, S2, N, K}
+use Rattle.tc_stmt.specs.declared.want.Field.TheVariants.{S2, K}
 use Rattle.tc_stmt.specs.declared.want.Want.{Want}
 use Rattle.tc_stmt.specs.declared.want.Want.TheVariants.{Reg, A10, Number, Target, Absolute, Memory}
 use Rattle.tc_lex.specs.Operands.{ValueData, OperandData}
@@ -21,20 +21,16 @@ use Rattle.tc_stmt.proofs.Cases.{by_test, one_passes}
 
 -- ---- rows
 abbrev is_constant : Field → Bool
-is_constant C = false
-is_constant S1 = false
-is_constant S2 = false
-is_constant N = false
 is_constant K = true
+is_constant _ = false
 
 -- an operand here may set the row's constant or its symbol
 abbrev takes : RowData → Want → Bool
 takes r (Reg bank field) = is_constant field
 takes r A10 = false
 takes r (Number signed field) = is_constant field || not (half_kind r shape.High == 0 && half_kind r shape.Low == 0)
-takes r Target = true
-takes r Absolute = true
 takes r (Memory plus offset) = offset
+takes r _ = true
 
 abbrev none_takes : RowData → List Want → Bool
 none_takes r ws = list_all (λ w. not (takes r w)) ws
@@ -99,11 +95,8 @@ kept_broken n f = record { reference = refl; constant = refl }
 
 kept_put : (field : Field) (v : ℕ) (f : RowFieldsData) → is_constant field ≡ false → IsKept f (with_value field v f)
 unfolding set_field
-kept_put C v f h = record { reference = refl; constant = refl }
-kept_put S1 v f h = record { reference = refl; constant = refl }
-kept_put S2 v f h = record { reference = refl; constant = refl }
-kept_put N v f h = record { reference = refl; constant = refl }
 kept_put K v f h = cc
+kept_put _ v f h = record { reference = refl; constant = refl }
 
 kept_register : (bank : Bool) (field : Field) (name : List ℕ) (f : RowFieldsData) → is_constant field ≡ false → IsKept f (put_register bank field name f)
 unfolding put_register
@@ -161,9 +154,8 @@ kept_fill r A10 o f h =
     by_test (IfSo (IsKept f)) o.is_memory _ _ (λ e. if_none (IsKept f))
     (λ e. by_test (IfSo (IsKept f)) (shape_index o.value.shape == 2) _ _ (λ e. by_test (IfSo (IsKept f)) _ _ _ (λ e. if_some (IsKept f) _ (kept_same f)) (λ e. if_some (IsKept f) _ (kept_broken 4 f))) (λ e. if_none (IsKept f)))
 kept_fill r (Number signed field) o f h = by_test (IfSo (IsKept f)) o.is_memory _ _ (λ e. if_none (IsKept f)) (λ e. kept_value r signed field o.value f h)
-kept_fill r Target o f h = cc
-kept_fill r Absolute o f h = cc
 kept_fill r (Memory plus offset) o f h = kept_memory r plus offset o f h
+kept_fill r _ o f h = cc
 
 -- ---- operands that set one of both
 none_put : (field : Field) (v : ℕ) (f : RowFieldsData) → IsFree f → IsZero (with_value field v f)

@@ -10,13 +10,8 @@ use Rattle.tcd_forms.specs.Lines.{link_line}
 use Rattle.tcd_reading.specs.declared.status.Status.TheVariants.{BadInput}
 
 pub none_memory : (e : LinkErr) → refusal_of e ≡ None → e ≡ error.NoMemory
-none_memory (error.Twice name) h = cc
-none_memory (error.Missing name) h = cc
-none_memory (error.NoPlace name) h = cc
-none_memory (error.NoRoom name) h = cc
-none_memory (error.Reloc object section offset err) h = cc
-none_memory error.NoEntry h = cc
 none_memory error.NoMemory h = refl
+none_memory _ h = cc
 
 pub line_told : {V E : Type 0} (items : V → List ℕ) (line : Result V E) (r : Report) (o : Option Refusal) → IfOk line (λ l. IfSome o (λ q. items l ≡ link_line q)) → IsOkAnd line (λ l. r ≡ says BadInput (items l)) → IfSome o (λ q. r ≡ says BadInput (link_line q))
 line_told items (Ok l) r None made said = tt

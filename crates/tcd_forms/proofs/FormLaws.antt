@@ -38,14 +38,8 @@ plan_err bytes p e h k = let same = gives_same bytes (Ok p) (Err e) h k in cc
 -- what gives a plan isn't refused
 not_refused : (bytes : List ℕ) (p : PlanData) (e : PlanErr) → Gives bytes (Ok p) → Answers bytes (Err e) → (e ≡ plan.NoMemory → ⊥) → ⊥
 not_refused bytes p plan.NotJson h k some = let e = sym h.3 ∙ k h.0 h.1 h.2 in cc
-not_refused bytes p (plan.Missing key) h k some = plan_err bytes p _ h k
-not_refused bytes p (plan.Unknown key) h k some = plan_err bytes p _ h k
-not_refused bytes p (plan.BadValue key) h k some = plan_err bytes p _ h k
-not_refused bytes p (plan.TooMany key) h k some = plan_err bytes p _ h k
-not_refused bytes p plan.BadCsa h k some = plan_err bytes p _ h k
-not_refused bytes p plan.BadVector h k some = plan_err bytes p _ h k
-not_refused bytes p (plan.Overlap i j) h k some = plan_err bytes p _ h k
 not_refused bytes p plan.NoMemory h k some = some refl
+not_refused bytes p _ h k some = plan_err bytes p _ h k
 
 -- ---- no source keeps the rules and breaks one
 no_least : (lines : List LineData) (line rule : ℕ) (d : LineData) → KeepsRules lines (length lines) → IsLeast lines line rule → ⊥

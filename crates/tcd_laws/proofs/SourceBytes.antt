@@ -83,12 +83,8 @@ code_small labels d k f r = row_small (slice_get listed k) k (resolved labels d 
 -- ---- what lines add
 -- a thing that adds bytes
 GoodItem : ItemData → Type 0
-GoodItem (label name) = Unit {0}
-GoodItem (section name) = Unit {0}
-GoodItem (global name) = Unit {0}
-GoodItem (code k f r) = Unit {0}
 GoodItem (bytes bs r) = All IsByte bs
-GoodItem (zeros n) = Unit {0}
+GoodItem _ = Unit {0}
 
 GoodLine : LineData → Type 0
 GoodLine l = Each GoodItem l.items
@@ -222,12 +218,10 @@ GoodStatement t = All IsByte t.bytes
 
 content_good : (labels : List SymbolData) (d : DraftData) (i : ItemData) → GoodItem i → IfSome (content_of labels d i) GoodStatement
 unfolding GoodItem
-content_good labels d (label name) h = tt
-content_good labels d (section name) h = tt
-content_good labels d (global name) h = tt
 content_good labels d (code k f r) h = code_small labels d k f r
 content_good labels d (bytes bs r) h = h
 content_good labels d (zeros n) h = zeros_small n
+content_good labels d _ h = tt
 
 standing_good : (d : DraftData) (o : Option StatementData) → IfSome o GoodStatement → Each GoodStatement (standing d o)
 standing_good d None h = tt

@@ -14,7 +14,7 @@ use Rattle.tcd_plan.specs.declared.plans.PlanErr.{PlanErr}
 use Rattle.tcd_plan.specs.declared.plans.PlanErr.TheVariants.{NotJson, Missing, Unknown, BadValue, TooMany, BadCsa, BadVector, Overlap}
 use Rattle.tcd_plan.specs.declared.plans.PlanKey.{PlanKey}
 use Rattle.tcd_plan.specs.declared.rows.Holder.{Holder}
-use Rattle.tcd_plan.specs.declared.rows.Holder.TheVariants.{Root, Rom, Ram, Devices, Csa, Start, Globals}
+use Rattle.tcd_plan.specs.declared.rows.Holder.TheVariants.{Root}
 
 abbrev IsKey : PlanKey → Type 0
 IsKey key = key.0 < 32
@@ -50,12 +50,7 @@ bad_value-small d = first_key-small is_bad d
 
 holder_small : (h : Holder) → holder_key h < 32
 holder_small Root = lit< tt
-holder_small Rom = lit< tt
-holder_small Ram = lit< tt
-holder_small Devices = lit< tt
-holder_small Csa = lit< tt
-holder_small Start = lit< tt
-holder_small Globals = lit< tt
+holder_small _ = lit< tt
 
 held : (o : Option Holder) → IfSome (option_map (λ h. numbered (holder_key h)) o) IsKey
 held None = tt

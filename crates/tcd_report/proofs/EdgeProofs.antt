@@ -42,44 +42,18 @@ use Rattle.depth_cert.proofs.KeyLaws.{found_in, one_number}
 
 -- ---- returns are of returning instructions
 shape_ret : (s : Shape) (q : ℕ) → way_of_shape s q ≡ ret → s ≡ shape.Ret
-shape_ret (shape.Compute op dst x y) q e = absurd (let f : to q ≡ ret = e in cc)
-shape_ret (shape.Scaled dst base index c) q e = absurd (let f : to q ≡ ret = e in cc)
-shape_ret (shape.Load dst base offset size signed after) q e = absurd (let f : to q ≡ ret = e in cc)
-shape_ret (shape.Store src base offset size after) q e = absurd (let f : to q ≡ ret = e in cc)
-shape_ret (shape.Branch c x y by lowers) q e = absurd (let f : to q ≡ ret = e in cc)
-shape_ret (shape.Jump t) q e = absurd (let f : to q ≡ ret = e in cc)
 shape_ret (shape.Call t) q e = absurd (let f : call q ≡ ret = e in cc)
 shape_ret shape.Ret q e = refl
 shape_ret shape.Rfe q e = absurd (let f : rfe ≡ ret = e in cc)
-shape_ret shape.Svlcx q e = absurd (let f : to q ≡ ret = e in cc)
-shape_ret shape.Rslcx q e = absurd (let f : to q ≡ ret = e in cc)
-shape_ret (shape.Bisr c) q e = absurd (let f : to q ≡ ret = e in cc)
-shape_ret shape.Enable q e = absurd (let f : to q ≡ ret = e in cc)
-shape_ret shape.Disable q e = absurd (let f : to q ≡ ret = e in cc)
 shape_ret (shape.Syscall tin) q e = absurd (let f : sys q ≡ ret = e in cc)
-shape_ret (shape.Mfcr dst number) q e = absurd (let f : to q ≡ ret = e in cc)
-shape_ret (shape.Mtcr src number) q e = absurd (let f : to q ≡ ret = e in cc)
-shape_ret shape.Nothing q e = absurd (let f : to q ≡ ret = e in cc)
+shape_ret _ q e = absurd (let f : to q ≡ ret = e in cc)
 
 shape_rfe : (s : Shape) (q : ℕ) → way_of_shape s q ≡ rfe → s ≡ shape.Rfe
-shape_rfe (shape.Compute op dst x y) q e = absurd (let f : to q ≡ rfe = e in cc)
-shape_rfe (shape.Scaled dst base index c) q e = absurd (let f : to q ≡ rfe = e in cc)
-shape_rfe (shape.Load dst base offset size signed after) q e = absurd (let f : to q ≡ rfe = e in cc)
-shape_rfe (shape.Store src base offset size after) q e = absurd (let f : to q ≡ rfe = e in cc)
-shape_rfe (shape.Branch c x y by lowers) q e = absurd (let f : to q ≡ rfe = e in cc)
-shape_rfe (shape.Jump t) q e = absurd (let f : to q ≡ rfe = e in cc)
 shape_rfe (shape.Call t) q e = absurd (let f : call q ≡ rfe = e in cc)
 shape_rfe shape.Ret q e = absurd (let f : ret ≡ rfe = e in cc)
 shape_rfe shape.Rfe q e = refl
-shape_rfe shape.Svlcx q e = absurd (let f : to q ≡ rfe = e in cc)
-shape_rfe shape.Rslcx q e = absurd (let f : to q ≡ rfe = e in cc)
-shape_rfe (shape.Bisr c) q e = absurd (let f : to q ≡ rfe = e in cc)
-shape_rfe shape.Enable q e = absurd (let f : to q ≡ rfe = e in cc)
-shape_rfe shape.Disable q e = absurd (let f : to q ≡ rfe = e in cc)
 shape_rfe (shape.Syscall tin) q e = absurd (let f : sys q ≡ rfe = e in cc)
-shape_rfe (shape.Mfcr dst number) q e = absurd (let f : to q ≡ rfe = e in cc)
-shape_rfe (shape.Mtcr src number) q e = absurd (let f : to q ≡ rfe = e in cc)
-shape_rfe shape.Nothing q e = absurd (let f : to q ≡ rfe = e in cc)
+shape_rfe _ q e = absurd (let f : to q ≡ rfe = e in cc)
 
 -- where no interrupt is taken and no misaligned trap met, the way is the instruction's
 way_ret : (m : Machine) (e : Event) (s : Shape) (n : ℕ) → fetched m ≡ Ok (s, n) → way_of_step m e ≡ ret → s ≡ shape.Ret
@@ -112,34 +86,17 @@ AllKeys [] = Unit {0}
 AllKeys (f ∷ fs) = IsKey f.key × AllKeys fs
 
 IsBelow : Way → Type 0
-IsBelow (to q) = Unit {0}
 IsBelow (call q) = q < 2 ^ 32
 IsBelow (irq q) = q < 2 ^ 32
 IsBelow (sys q) = q < 2 ^ 32
 IsBelow (aln q) = q < 2 ^ 32
-IsBelow ret = Unit {0}
-IsBelow rfe = Unit {0}
+IsBelow _ = Unit {0}
 
 shape_below : (s : Shape) (q : ℕ) → q < 2 ^ 32 → IsBelow (way_of_shape s q)
 unfolding IsBelow
-shape_below (shape.Compute op dst x y) q h = tt
-shape_below (shape.Scaled dst base index c) q h = tt
-shape_below (shape.Load dst base offset size signed after) q h = tt
-shape_below (shape.Store src base offset size after) q h = tt
-shape_below (shape.Branch c x y by lowers) q h = tt
-shape_below (shape.Jump t) q h = tt
 shape_below (shape.Call t) q h = h
-shape_below shape.Ret q h = tt
-shape_below shape.Rfe q h = tt
-shape_below shape.Svlcx q h = tt
-shape_below shape.Rslcx q h = tt
-shape_below (shape.Bisr c) q h = tt
-shape_below shape.Enable q h = tt
-shape_below shape.Disable q h = tt
 shape_below (shape.Syscall tin) q h = h
-shape_below (shape.Mfcr dst number) q h = tt
-shape_below (shape.Mtcr src number) q h = tt
-shape_below shape.Nothing q h = tt
+shape_below _ q h = tt
 
 in_below : (m : Machine) (e : Event) (r : Result (Shape × ℕ) Cause) (q : ℕ) → q < 2 ^ 32 → IsBelow (way_in m e r q)
 unfolding IsBelow

@@ -16,7 +16,7 @@ use Rattle.depth_cert.specs.Keys.{number_of_key}
 use Rattle.depth_cert.specs.Nodes.{NodeData}
 use Rattle.depth_cert.specs.Certs.{CertData, IsCert, find_node, key_numbers}
 use Rattle.cfg_recover.specs.Local.{IsFaultless}
-use Rattle.cfg_recover.specs.Duties.{Duty, jump, enter, resume, leave, Owed, owed, duties_of}
+use Rattle.cfg_recover.specs.Duties.{Duty, enter, Owed, owed, duties_of}
 use Rattle.cfg_recover.specs.Accepting.{limits_in, RuleHolds, HasNeed, IsNeedAbove, Accepts}
 use Rattle.cfg_recover.proofs.Members.{contains_first}
 use Rattle.tcd_report.specs.Calls.{key_by, called_by, Calls}
@@ -52,10 +52,8 @@ contains_nothing y c = let lt = c.1 in omega (arith, lt)
 
 -- ---- the duty of a call
 duty_calls : (r : ℕ) (d : Duty) (k : Key) → r ≡ 5 → Contains (key_by d) k → (t : State) × (owed r d ≡ owed 5 (enter k t))
-duty_calls r (jump q t) k e c = absurd (contains_nothing k c)
 duty_calls r (enter j t) k e c = (t, ap (λ x. owed x (enter j t)) e ∙ ap (λ x. owed 5 (enter x t)) (contains_one j k c))
-duty_calls r (resume j q) k e c = absurd (contains_nothing k c)
-duty_calls r (leave x) k e c = absurd (contains_nothing k c)
+duty_calls r _ k e c = absurd (contains_nothing k c)
 
 called_duty : (ds : List Owed) (k : Key) → Contains (called_by ds) k → (t : State) × Contains ds (owed 5 (enter k t))
 called_duty ds k c =

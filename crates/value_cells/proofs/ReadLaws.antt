@@ -13,7 +13,7 @@ use Rattle.tcd_plan.specs.PlanData.{PlanData, IsPlan}
 use Rattle.tcd_text.specs.Lines.{lines_of}
 use Rattle.value_cells.specs.declared.cells.Cell.{Cell}
 use Rattle.value_cells.specs.declared.errors.CellsErr.{CellsErr}
-use Rattle.value_cells.specs.declared.errors.CellsErr.TheVariants.{BadLine, NotRam, Twice, TooMany}
+use Rattle.value_cells.specs.declared.errors.CellsErr.TheVariants.{BadLine}
 use Rattle.value_cells.specs.Cells.{cell_device, ranges_without, ram_without, with_cells, IsCell, AreCells}
 use Rattle.value_cells.specs.Reading.{cell_of, cell_of_words, IsLine, AreRead, HasRoom, IsRefused, IsBadLine, IsFirstBad, TakesLine}
 use Rattle.value_cells.proofs.CellPlan.{ram_behind, take_whole}
@@ -102,9 +102,7 @@ all_other (c ∷ cs) at none (suc k) d lt = all_other cs at (λ any. none (suc a
 
 pub bad_cell : (plan : PlanData) (cells : List Cell) (line : List ℕ) (n : ℕ) (c : Cell) (e : CellsErr) → cell_of line ≡ Some c → IsRefused plan cells c n e → IsBadLine plan cells line n e
 bad_cell plan cells line n c (BadLine k) is bad = absurd bad
-bad_cell plan cells line n c (NotRam k) is bad = subst (λ o. IsSomeAnd o (λ d. IsRefused plan cells d n (NotRam k))) (sym is) bad
-bad_cell plan cells line n c (Twice k) is bad = subst (λ o. IsSomeAnd o (λ d. IsRefused plan cells d n (Twice k))) (sym is) bad
-bad_cell plan cells line n c (TooMany k) is bad = subst (λ o. IsSomeAnd o (λ d. IsRefused plan cells d n (TooMany k))) (sym is) bad
+bad_cell plan cells line n c it is bad = subst (λ o. IsSomeAnd o (λ d. IsRefused plan cells d n it)) (sym is) bad
 
 no_line : (line : List ℕ) (lt : 0 < length line) → cell_of line ≡ None → IsLine line → ⊥
 no_line line lt none (inl e) = absurd (let z : length line ≡ 0 = ap length e in omega arith)

@@ -60,9 +60,7 @@ module _ (plan : PlanData) (cells : List Cell) where
 
   not_bad : (n : ℕ) (line : List ℕ) (e : CellsErr) → IsLine line → ((c : Cell) → cell_of line ≡ Some c → AreCells plan (cells ++ c ∷ [])) → IsBadLine plan cells line n e → ⊥
   not_bad n line (BadLine k) form are bad = bad.1 form
-  not_bad n line (NotRam k) form are bad = of_option n (NotRam k) (cell_of line) are bad
-  not_bad n line (Twice k) form are bad = of_option n (Twice k) (cell_of line) are bad
-  not_bad n line (TooMany k) form are bad = of_option n (TooMany k) (cell_of line) are bad
+  not_bad n line it form are bad = of_option n it (cell_of line) are bad
 
 -- ---- a line among lines that are read
 one_more : (before behind : List (List ℕ)) (line : List ℕ) (c : Cell) → cell_of line ≡ Some c → filter_map cell_of (before ++ line ∷ behind) ≡ (filter_map cell_of before ++ c ∷ []) ++ filter_map cell_of behind

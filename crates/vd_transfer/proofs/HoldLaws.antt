@@ -10,7 +10,7 @@ use Rattle.tc_isa.specs.declared.shapes.Arg.{Arg}
 use Rattle.tc_isa.specs.declared.shapes.Arg.TheVariants.{Reg, Word}
 use Rattle.tc_isa.specs.declared.shapes.Cond.{Cond}
 use Rattle.tc_isa.specs.declared.shapes.Op.TheVariants.{Add, Sub, Sh}
-use Rattle.tc_isa.specs.declared.shapes.Shape.TheVariants.{Compute, Scaled, Load, Store, Branch, Jump, Call, Ret, Rfe, Svlcx, Rslcx, Bisr, Enable, Disable, Syscall, Mfcr, Mtcr, Nothing}
+use Rattle.tc_isa.specs.declared.shapes.Shape.TheVariants.{Compute, Scaled, Load, Store, Svlcx, Bisr, Enable, Disable, Mfcr, Mtcr, Nothing}
 use Rattle.tc_isa.specs.Arithmetic.{alu_of, taken_of, shift_by}
 use Rattle.tc_isa.specs.Bounded.{IsArg}
 use Rattle.value_domain.specs.declared.values.Val.{Val}
@@ -192,22 +192,16 @@ transfer_holds b p (Load dst base offset size signed after) s loaded word ie ccp
     (base_holds b p s word ie ccpn base offset after set is.1 is.2 writes.1 h)
 transfer_holds b p (Store src base offset size after) s loaded word ie ccpn input set is writes stays small reads h =
     base_holds b p s word ie ccpn base offset after set is.1 is.2 writes h
-transfer_holds b p (Branch cond x y by lowers) s loaded word ie ccpn input set is writes stays small reads h = absurd stays
-transfer_holds b p (Jump to) s loaded word ie ccpn input set is writes stays small reads h = absurd stays
-transfer_holds b p (Call to) s loaded word ie ccpn input set is writes stays small reads h = absurd stays
-transfer_holds b p Ret s loaded word ie ccpn input set is writes stays small reads h = absurd stays
-transfer_holds b p Rfe s loaded word ie ccpn input set is writes stays small reads h = absurd stays
 transfer_holds b p Svlcx s loaded word ie ccpn input set is writes stays small reads h = moved p s (saved_lower s) word ie ie ccpn ccpn refl h.enabled h.priority h
-transfer_holds b p Rslcx s loaded word ie ccpn input set is writes stays small reads h = absurd stays
 transfer_holds b p (Bisr c) s loaded word ie ccpn input set is writes stays small reads h =
     moved p s (record (saved_lower s) { ie = true; ccpn = c }) word ie true ccpn c refl (λ t. refl) (omega arith) h
 transfer_holds b p Enable s loaded word ie ccpn input set is writes stays small reads h = moved p s (record s { ie = true }) word ie true ccpn ccpn refl (λ t. refl) h.priority h
 transfer_holds b p Disable s loaded word ie ccpn input set is writes stays small reads h = moved p s (record s { ie = false }) word ie false ccpn ccpn refl (λ t. t) h.priority h
-transfer_holds b p (Syscall tin) s loaded word ie ccpn input set is writes stays small reads h = absurd stays
 transfer_holds b p (Mfcr dst number) s loaded word ie ccpn input set is writes stays small reads h =
     holds_write p s word ie ccpn dst input any_val set.regs writes (any_member input small) h
 transfer_holds b p (Mtcr src number) s loaded word ie ccpn input set is writes stays small reads h = absurd writes
 transfer_holds b p Nothing s loaded word ie ccpn input set is writes stays small reads h = h
+transfer_holds b p _ s loaded word ie ccpn input set is writes stays small reads h = absurd stays
 
 -- ---- restoring
 restored_at : (p : PlanData) (s : State) (word word2 : ℕ → ℕ) (q : ℕ) (o : Option ℕ) → length s.regs ≡ 27 → o ≡ slot q → word2 q < 2 ^ 32 → (is_lower q ≡ false → word2 q ≡ word q) → (o ≡ None → word2 q ≡ word q)

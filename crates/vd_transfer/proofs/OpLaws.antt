@@ -290,10 +290,8 @@ all_below : (z s : ℕ) → s ≤ 2 → Among z (all_of s) → z < 2 ^ 32
 all_below z s small i = let m = range_among z 0 (2 ^ 32 - 1) s small i in omega (arith, m.1)
 
 pub by_below : {shift : Shifts} {by : ℕ → ℕ → ℕ} (are : AreShifts shift by) (v w : Val) → IsWell v → (z : ℕ) → Among z (range_of (by_count shift (low v) (high v) (step v) w)) → z < 2 ^ 32
-by_below are v (Set []) wv z i = all_below z 0 (omega arith) i
 by_below are v (Set (y ∷ [])) wv z i = are.below (low v) (high v) (step v) (y % 64) z (bounds_of v wv).small (high_below v wv) i
-by_below are v (Set (y ∷ u ∷ ys)) wv z i = all_below z 0 (omega arith) i
-by_below are v (Span lo last s) wv z i = all_below z 0 (omega arith) i
+by_below are v _ wv z i = all_below z 0 (omega arith) i
 
 by_one : {shift : Shifts} {by : ℕ → ℕ → ℕ} (are : AreShifts shift by) (b : Limits) (v w v2 : Val) (y : ℕ) → IsValue b v → IsValue b w → IsValue b v2 → IsValue b (Set (y ∷ []))
     → Within (members v) (members v2) → Within (members w) (y ∷ [])
@@ -339,21 +337,9 @@ row_grows b And v w v2 w2 vv vw vv2 vw2 there here =
     let n = narrower v v2 vv.well vv2.well there in
     let m = narrower w w2 vw.well vw2.well here in
     ands_grow (high v) (high w) (step v) (step w) (high v2) (high w2) (step v2) (step w2) (bounds_of v vv.well).small (bounds_of w vw.well).small n.high_in m.high_in n.step_in m.step_in
-row_grows b Nand v w v2 w2 vv vw vv2 vw2 there here = λ z i. i
-row_grows b Or v w v2 w2 vv vw vv2 vw2 there here = λ z i. i
-row_grows b Nor v w v2 w2 vv vw vv2 vw2 there here = λ z i. i
-row_grows b Xor v w v2 w2 vv vw vv2 vw2 there here = λ z i. i
-row_grows b Xnor v w v2 w2 vv vw vv2 vw2 there here = λ z i. i
-row_grows b Andn v w v2 w2 vv vw vv2 vw2 there here = λ z i. i
-row_grows b Orn v w v2 w2 vv vw vv2 vw2 there here = λ z i. i
-row_grows b Eq v w v2 w2 vv vw vv2 vw2 there here = λ z i. i
-row_grows b Ne v w v2 w2 vv vw vv2 vw2 there here = λ z i. i
-row_grows b Lt v w v2 w2 vv vw vv2 vw2 there here = λ z i. i
-row_grows b LtU v w v2 w2 vv vw vv2 vw2 there here = λ z i. i
-row_grows b Ge v w v2 w2 vv vw vv2 vw2 there here = λ z i. i
-row_grows b GeU v w v2 w2 vv vw vv2 vw2 there here = λ z i. i
 row_grows b Sh v w v2 w2 vv vw vv2 vw2 there here = by_grows logical b v w v2 w2 vv vw vv2 vw2 there here
 row_grows b Sha v w v2 w2 vv vw vv2 vw2 there here = by_grows arithmetic b v w v2 w2 vv vw vv2 vw2 there here
+row_grows b _ v w v2 w2 vv vw vv2 vw2 there here = λ z i. i
 
 -- the results aren't none
 pub some_results : (op : Op) (v w : Val) → IsWell v → IsWell w → 1 ≤ length (results op v w)
@@ -406,24 +392,13 @@ same_bounds e v w h =
 pub row_runs : (op : Op) (v w : Val) (e f : Extent) → (op ≡ Second → ⊥) → gives_truth op ≡ false → e ≡ bounds v → f ≡ bounds w → range_of (runs op e f w) ≡ row op v w
 unfolding row gives_truth
 row_runs Second v w e f n t a c = absurd (n refl)
-row_runs Add v w e f n t a c = rw (a, c) refl
-row_runs Sub v w e f n t a c = rw (a, c) refl
-row_runs And v w e f n t a c = rw (a, c) refl
-row_runs Nand v w e f n t a c = rw (a, c) refl
-row_runs Or v w e f n t a c = rw (a, c) refl
-row_runs Nor v w e f n t a c = rw (a, c) refl
-row_runs Xor v w e f n t a c = rw (a, c) refl
-row_runs Xnor v w e f n t a c = rw (a, c) refl
-row_runs Andn v w e f n t a c = rw (a, c) refl
-row_runs Orn v w e f n t a c = rw (a, c) refl
 row_runs Eq v w e f n t a c = cc
 row_runs Ne v w e f n t a c = cc
 row_runs Lt v w e f n t a c = cc
 row_runs LtU v w e f n t a c = cc
 row_runs Ge v w e f n t a c = cc
 row_runs GeU v w e f n t a c = cc
-row_runs Sh v w e f n t a c = rw (a, c) refl
-row_runs Sha v w e f n t a c = rw (a, c) refl
+row_runs _ v w e f n t a c = rw (a, c) refl
 
 sums_step : (a b c d m : ℕ) → (sums a b c d m).step ≡ m
 unfolding sums
@@ -442,32 +417,16 @@ differences_step a b c d m =
     ]
 
 by_count_step : {shift : Shifts} {by : ℕ → ℕ → ℕ} (are : AreShifts shift by) (a b p : ℕ) (w : Val) → (by_count shift a b p w).step ≤ 2
-by_count_step are a b p (Set []) = omega arith
 by_count_step are a b p (Set (y ∷ [])) = are.small a b p (y % 64)
-by_count_step are a b p (Set (x ∷ y ∷ ys)) = omega arith
-by_count_step are a b p (Span lo last s) = omega arith
+by_count_step are a b p _ = omega arith
 
 pub runs_step : (op : Op) (e f : Extent) (w : Val) → e.step ≤ 2 → f.step ≤ 2 → (runs op e f w).step ≤ 2
 unfolding runs
 runs_step Add e f w a b = omega (arith, sums_step e.least e.greatest f.least f.greatest (min e.step f.step))
 runs_step Sub e f w a b = omega (arith, differences_step e.least e.greatest f.least f.greatest (min e.step f.step))
-runs_step And e f w a b = omega arith
 runs_step Sh e f w a b = by_count_step logical e.least e.greatest e.step w
 runs_step Sha e f w a b = by_count_step arithmetic e.least e.greatest e.step w
-runs_step Second e f w a b = omega arith
-runs_step Nand e f w a b = omega arith
-runs_step Or e f w a b = omega arith
-runs_step Nor e f w a b = omega arith
-runs_step Xor e f w a b = omega arith
-runs_step Xnor e f w a b = omega arith
-runs_step Andn e f w a b = omega arith
-runs_step Orn e f w a b = omega arith
-runs_step Eq e f w a b = omega arith
-runs_step Ne e f w a b = omega arith
-runs_step Lt e f w a b = omega arith
-runs_step LtU e f w a b = omega arith
-runs_step Ge e f w a b = omega arith
-runs_step GeU e f w a b = omega arith
+runs_step _ e f w a b = omega arith
 
 -- a run that a row covers isn't empty
 pub run_some : (r : StridedInterval) (op : Op) (v w : Val) → IsWell v → IsWell w → range_of r ≡ row op v w → 1 ≤ count_in r.first r.last r.step
@@ -482,25 +441,13 @@ row-Second b v w value = sym value.own
 
 pub row-truth : (b : Limits) (op : Op) (v w : Val) → gives_truth op ≡ true → cover b (0 ∷ 1 ∷ []) ≡ cover b (row op v w)
 unfolding row gives_truth
-row-truth b Second v w t = cc
-row-truth b Add v w t = cc
-row-truth b Sub v w t = cc
-row-truth b And v w t = cc
-row-truth b Nand v w t = cc
-row-truth b Or v w t = cc
-row-truth b Nor v w t = cc
-row-truth b Xor v w t = cc
-row-truth b Xnor v w t = cc
-row-truth b Andn v w t = cc
-row-truth b Orn v w t = cc
 row-truth b Eq v w t = refl
 row-truth b Ne v w t = refl
 row-truth b Lt v w t = refl
 row-truth b LtU v w t = refl
 row-truth b Ge v w t = refl
 row-truth b GeU v w t = refl
-row-truth b Sh v w t = cc
-row-truth b Sha v w t = cc
+row-truth b _ v w t = cc
 
 map_at : (op : Op) (x i : ℕ) (ys : List ℕ) → i < length ys → get_or (map (alu_of op x) ys) i 0 ≡ alu_of op x (get_or ys i 0)
 map_at op x i [] h = absurd (omega arith)

@@ -10,7 +10,7 @@ use Rattle.value_domain.specs.Limits.{Limits}
 use Rattle.value_domain.specs.Values.{IsValue, members}
 use Rattle.value_domain.proofs.RangeLaws.{some_members}
 use Rattle.vd_transfer.specs.declared.refinement.Relation.{Relation}
-use Rattle.vd_transfer.specs.declared.refinement.Relation.TheVariants.{Same, Other, Less, AtLeast, More, AtMost}
+use Rattle.vd_transfer.specs.declared.refinement.Relation.TheVariants.{Same, Other}
 use Rattle.vd_transfer.specs.Intervals.{is_related, kept_by}
 use Rattle.vd_transfer.specs.Refinement.{holds, kept_left, kept_right, kept_both}
 use Rattle.value_domain.specs.Meets.{cover_some}
@@ -65,10 +65,7 @@ pub converse_related : (rel : Relation) (x y : ℕ) → is_related (converse rel
 unfolding is_related converse
 converse_related Same x y = eqb_swapped x y
 converse_related Other x y = ap not (eqb_swapped x y)
-converse_related Less x y = refl
-converse_related AtLeast x y = refl
-converse_related More x y = refl
-converse_related AtMost x y = refl
+converse_related _ x y = refl
 
 -- a signed condition isn't equality
 pub signed_order : (c : Cond) (side : Bool) → is_signed c ≡ true → relation_of c side ≡ Same → ⊥
@@ -85,11 +82,7 @@ signed_order cond.GeU side e f = absurd (let g : false ≡ true = e in cc)
 pub converse_order : (rel : Relation) → (rel ≡ Same → ⊥) → converse rel ≡ Same → ⊥
 unfolding converse
 converse_order Same n f = n refl
-converse_order Other n f = cc
-converse_order Less n f = cc
-converse_order AtLeast n f = cc
-converse_order More n f = cc
-converse_order AtMost n f = cc
+converse_order _ n f = cc
 
 -- ---- tests that are alike
 any_same : (p q : ℕ → Bool) (ws : List ℕ) → ((y : ℕ) → p y ≡ q y) → list_any p ws ≡ list_any q ws

@@ -26,8 +26,6 @@ truth_below false = omega arith
 pub alu_below : (op : Op) (x y : ℕ) → x < 2 ^ 32 → y < 2 ^ 32 → alu_of op x y < 2 ^ 32
 unfolding alu_of
 alu_below Second x y h k = k
-alu_below Add x y h k = omega arith
-alu_below Sub x y h k = omega arith
 alu_below And x y h k = and_below x y h
 alu_below Nand x y h k = complement_below (bit_and x y)
 alu_below Or x y h k = or_of_32 x y h k
@@ -44,6 +42,7 @@ alu_below Ge x y h k = truth_below (leb (signed_place y) (signed_place x))
 alu_below GeU x y h k = truth_below (leb y x)
 alu_below Sh x y h k = logical.word x (y % 64) h
 alu_below Sha x y h k = arithmetic.word x (y % 64) h
+alu_below _ x y h k = omega arith
 
 sums_last : (a b c d m : ℕ) → b < 2 ^ 32 → d < 2 ^ 32 → (sums a b c d m).last < 2 ^ 32
 unfolding sums
@@ -89,13 +88,6 @@ row_below Sub v w wv ww z i =
     (differences_last (low v) (high v) (low w) (high w) (min (step v) (step w)) (high_below v wv)) i
 row_below And v w wv ww z i =
     run_below (run 0 (min (high v) (high w)) (max (step v) (step w))) z (runs_step And (bounds v) (bounds w) w (bounds_of v wv).small (bounds_of w ww).small) (omega (arith, high_below v wv)) i
-row_below Nand v w wv ww z i = all_words z i
-row_below Or v w wv ww z i = all_words z i
-row_below Nor v w wv ww z i = all_words z i
-row_below Xor v w wv ww z i = all_words z i
-row_below Xnor v w wv ww z i = all_words z i
-row_below Andn v w wv ww z i = all_words z i
-row_below Orn v w wv ww z i = all_words z i
 row_below Eq v w wv ww z i = bit_word z i
 row_below Ne v w wv ww z i = bit_word z i
 row_below Lt v w wv ww z i = bit_word z i
@@ -104,6 +96,7 @@ row_below Ge v w wv ww z i = bit_word z i
 row_below GeU v w wv ww z i = bit_word z i
 row_below Sh v w wv ww z i = by_below logical v w wv z i
 row_below Sha v w wv ww z i = by_below arithmetic v w wv z i
+row_below _ v w wv ww z i = all_words z i
 
 pub results_below : (op : Op) (v w : Val) → IsWell v → IsWell w → (z : ℕ) → Among z (results op v w) → z < 2 ^ 32
 unfolding results
