@@ -197,24 +197,6 @@ pub(crate) fn is_below_at(v: &Val, bytes: &[u8], version: u8, place: usize) -> b
     }
 }
 
-/// Whether each value is below the one that stands in its turn from a place on.
-pub(crate) fn are_below_at(low: &[Val], bytes: &[u8], version: u8, place: usize) -> bool
-    requires short { length bytes.now ≤ 2 ^ 30 }
-    requires well { AreWell low.now }
-    requires stand { HaveValues version bytes.now place (length low.now) }
-    ensures { IsTrue result
-        ↔ AreBelow low.now (values_in version bytes.now place (length low.now)) }
-{
-    let mut at = place;
-    for i in 0..low.len() {
-        if !is_below_at(&low[i], bytes, version, at) {
-            return false;
-        }
-        at += length_by(bytes[at]);
-    }
-    true
-}
-
 /// Whether the value that stands at a place is one of the plan and the version.
 #[inline(never)]
 fn is_value_at(b: &Bounds, bytes: &[u8], version: u8, place: usize) -> bool

@@ -2,9 +2,10 @@
 ghost use Rattle.std.specs.Prelude.{◌≡◌, ◌≤◌, ◌^◌, ◌↔◌, IsTrue, length};
 ghost use Rattle.packed_cert.specs.Nodes.{exit_in, HasExit};
 
+use crate::asked::{Asked, are_asked_below_at};
 use crate::below::are_values_at;
 use crate::certs::are_bytes;
-use crate::restored::{ValuesAt, are_lower_below_at};
+use crate::restored::ValuesAt;
 use depth_cert::{Exit, no_exit, read_exit};
 use std::marker::Model;
 use tcd_base::Cursor;
@@ -89,6 +90,7 @@ impl<'a> ExitAt<'a> {
         requires { AreWell s.now.regs }
         ensures { IsTrue result ↔ ExitCovers self.now (exit_of s.now) }
     {
+        let _regs = &s.regs[..];
         if s.ie && !self.ie() {
             return false;
         }
@@ -96,7 +98,13 @@ impl<'a> ExitAt<'a> {
             return false;
         }
         let lower = self.lower();
-        are_lower_below_at(s, lower.bytes, lower.version, lower.place)
+        are_asked_below_at(
+            &Asked::Leaving(s),
+            14,
+            lower.bytes,
+            lower.version,
+            lower.place,
+        )
     }
 
     /// The exit, read.

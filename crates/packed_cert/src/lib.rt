@@ -1,6 +1,7 @@
 //! Certificates on the bytes of their file.
 #![tactic(auto)]
 
+mod asked;
 mod below;
 mod cert_fields;
 mod certs;

@@ -22,27 +22,6 @@ pub(crate) struct ValuesAt<'a> {
     pub(crate) place: usize,
 }
 
-/// Whether each value of the lower registers of a state is below the one that stands in its turn.
-pub(crate) fn are_lower_below_at(s: &State, bytes: &[u8], version: u8, place: usize) -> bool
-    requires short { length bytes.now ≤ 2 ^ 30 }
-    requires well { AreWell s.now.regs }
-    requires stand { HaveValues version bytes.now place 14 }
-    ensures { IsTrue result
-        ↔ AreBelow (lower_values s.now.regs) (values_in version bytes.now place 14) }
-{
-    let _regs = &s.regs[..];
-    let mut at = place;
-    for i in 0..14 {
-        let tag = bytes[at];
-        // Below any value is each: it isn't looked for.
-        if tag != 0 && !is_below_at(lower_value(&s.regs, i), bytes, version, at) {
-            return false;
-        }
-        at += length_by(tag);
-    }
-    true
-}
-
 /// Whether each member of the value that stands at a place is one of the value that stands at
 /// another; the first is read.
 #[inline(never)]

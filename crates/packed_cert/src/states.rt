@@ -8,8 +8,8 @@ ghost use Rattle.packed_cert.specs.Standing.{flags_in};
 ghost use Rattle.packed_cert.specs.Points.{state_in, HasState};
 ghost use Rattle.packed_cert.specs.Below.{values_in, HaveValues};
 
-use crate::below::are_below_at;
-use crate::changed::{are_puts_below, is_changed_below_at, is_row_below};
+use crate::asked::{Asked, are_asked_below_at};
+use crate::changed::{are_puts_below, is_row_below};
 use crate::exits::ExitAt;
 use crate::packed_points::PackedPoint;
 use crate::restored::{ValuesAt, are_restored_below};
@@ -102,6 +102,7 @@ impl<'a> StateAt<'a> {
         requires { AreWell s.now.regs }
         ensures { IsTrue result ↔ Covers self.now s.now }
     {
+        let _regs = &s.regs[..];
         if !self.covers_context(s.ie, s.ccpn, s.lower) {
             return false;
         }
@@ -109,7 +110,7 @@ impl<'a> StateAt<'a> {
             return false;
         }
         let place = place_of_values(self.bytes, self.version, self.place);
-        are_below_at(&s.regs, self.bytes, self.version, place)
+        are_asked_below_at(&Asked::Same(s), 27, self.bytes, self.version, place)
     }
 
     /// Whether this state covers a changed one, which is never built.
@@ -117,6 +118,7 @@ impl<'a> StateAt<'a> {
         requires { AreWell (state_after s.now c.now).regs }
         ensures { IsTrue result ↔ Covers self.now (state_after s.now c.now) }
     {
+        let _regs = &s.regs[..];
         if !self.covers_context(c.ie, c.ccpn, c.lower) {
             return false;
         }
@@ -124,7 +126,7 @@ impl<'a> StateAt<'a> {
             return false;
         }
         let place = place_of_values(self.bytes, self.version, self.place);
-        is_changed_below_at(s, c, self.bytes, self.version, place)
+        are_asked_below_at(&Asked::Changed(s, c), 27, self.bytes, self.version, place)
     }
 
     /// Whether this state covers the one after a call (`kind` 1) or a system call (`kind` 3) that came
