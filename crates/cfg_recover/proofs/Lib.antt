@@ -24,3 +24,4 @@ pub mod RomTests
 pub mod EntryChanges
 pub mod StepChanges
 pub mod RefusalLaws
+pub mod NextLaws

@@ -15,7 +15,6 @@ pub mod LoadedValues
 pub mod MadeLaws
 pub mod NeedLaws
 pub mod NeedSteps
-pub mod NextLaws
 pub mod OwnGrowth
 pub mod PartLemmas
 pub mod PlaceKinds

@@ -81,6 +81,7 @@ impl<'a> PointWalk<'a> {
     }
 
     /// Goes on to the next point and gives its address, or nothing behind the last.
+    #[inline(always)]
     pub fn step(&mut self) -> Option<u32>
         ensures { StepsTo self.old result self.new }
     {

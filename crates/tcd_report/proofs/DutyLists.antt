@@ -6,7 +6,6 @@ use Rattle.std.proofs.lemmas.Grind.{flat_map-append}
 use Rattle.elf_image.specs.Images.{ImageData}
 use Rattle.tcd_plan.specs.PlanData.{PlanData}
 use Rattle.tc_isa.specs.declared.shapes.Arg.{Arg}
-use Rattle.tc_isa.specs.declared.shapes.Cond.{Cond}
 use Rattle.tc_isa.specs.declared.shapes.Target.{Target}
 use Rattle.tc_isa.specs.declared.shapes.Shape.{Shape}
 use Rattle.tc_isa.specs.declared.shapes.Shape.TheVariants.{Branch, Call, Jump, Load, Mtcr, Ret, Rfe, Store, Syscall}
@@ -154,20 +153,6 @@ sides_are a c old mid new e g =
 
 pub jumps_are : (s : State) (ts : List ℕ) → jumped_in (jumps_to s ts) ≡ ts
 jumps_are s ts = flat_mapped (λ d. jump_by d.duty) (λ t. owed 4 (jump t s)) (λ t. t ∷ []) (λ t. refl) ts ∙ flat_self ts
-
--- all but branches, jumps, calls, returns, system calls and MTCR run on at the next instruction
-pub next_alone :
-    (b : Limits) (image : ImageData) (plan : PlanData) (p : ℕ) (s : State) (shape : Shape) (n : ℕ) → ((cond : Cond) (x : ℕ) (y : Arg) (by : ℕ) (lowers : Bool) → shape ≡ Branch cond x y by lowers → ⊥)
-    → ((to : Target) → shape ≡ Jump to → ⊥) → ((to : Target) → shape ≡ Call to → ⊥) → (shape ≡ Ret → ⊥) → (shape ≡ Rfe → ⊥) → ((tin : ℕ) → shape ≡ Syscall tin → ⊥)
-    → ((src number : ℕ) → shape ≡ Mtcr src number → ⊥) → jumped_in (successors_of b image plan p s shape n) ≡ moved p n ∷ []
-next_alone b image plan p s (Branch cond x y by lowers) n branches jumps calls ret rfe sys mtcr = absurd (branches cond x y by lowers refl)
-next_alone b image plan p s (Jump to) n branches jumps calls ret rfe sys mtcr = absurd (jumps to refl)
-next_alone b image plan p s (Call to) n branches jumps calls ret rfe sys mtcr = absurd (calls to refl)
-next_alone b image plan p s Ret n branches jumps calls ret rfe sys mtcr = absurd (ret refl)
-next_alone b image plan p s Rfe n branches jumps calls ret rfe sys mtcr = absurd (rfe refl)
-next_alone b image plan p s (Syscall tin) n branches jumps calls ret rfe sys mtcr = absurd (sys tin refl)
-next_alone b image plan p s (Mtcr src number) n branches jumps calls ret rfe sys mtcr = absurd (mtcr src number refl)
-next_alone b image plan p s shape n branches jumps calls ret rfe sys mtcr = refl
 
 -- ---- entries
 entry_in : ℕ → Owed → List ℕ

@@ -1,4 +1,4 @@
-use Rattle.depth_check.proofs.NextLaws.{next_alone}
+use Rattle.cfg_recover.proofs.NextLaws.{next_alone}
 use Rattle.depth_check.proofs.successors.broken_by_successors.Goals as goal
 
 pub returns-in-Branch-clause-found : goal.returns-in-Branch-clause-found

@@ -1,4 +1,4 @@
-use Rattle.depth_maker.proofs.NextLaws.{next_alone}
+use Rattle.cfg_recover.proofs.NextLaws.{next_alone}
 use Rattle.depth_maker.proofs.successors.pay_successors.Goals as goal
 
 pub pay_sides-requires-clause-owes : goal.pay_sides-requires-clause-owes

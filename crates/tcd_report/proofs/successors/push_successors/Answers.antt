@@ -1,6 +1,8 @@
 use Rattle.std.proofs.Common.{◌≡◌, ◌∙◌, ◌++◌, ap, subst, sym}
 use Rattle.std.specs.Prelude.{OnOk}
-use Rattle.tcd_report.proofs.DutyLists.{jumps_are, next_alone}
+use Rattle.cfg_recover.proofs.NextLaws.{next_alone}
+use Rattle.tcd_report.specs.Told.{jumped_in}
+use Rattle.tcd_report.proofs.DutyLists.{jumps_are}
 use Rattle.tcd_report.proofs.successors.push_successors.Goals as goal
 
 pub returns-in-Branch : goal.returns-in-Branch
@@ -17,5 +19,5 @@ returns-in_ok-push-in_default c =
     let d = c.in_default in
     c.in_ok-push-in_default.ensures.items
     ∙ ap (λ l. c.args.all.now.items ++ l)
-    (sym (next_alone j.bounds.now j.image.now j.plan.now c.args.addr c.args.s.now c.args.found.now.shape c.args.found.now.size
-    d.not-Branch d.not-Jump d.not-Call d.not-Ret d.not-Rfe d.not-Syscall d.not-Mtcr))
+    (sym (ap jumped_in (next_alone j.bounds.now j.image.now j.plan.now c.args.addr c.args.s.now c.args.found.now.shape c.args.found.now.size
+    d.not-Branch d.not-Jump d.not-Call d.not-Ret d.not-Rfe d.not-Syscall d.not-Mtcr)))
