@@ -72,13 +72,29 @@ impl PackedCert {
         self.bytes
     }
 
+    /// A certificate in memory, put on the bytes that spell it.
+    pub fn of(alloc: Global, cert: &Cert) -> Result<PackedCert, NoMemory>
+        ensures { IfOk result (λ c. c ≡ cert.now) }
+    {
+        let bytes = match cert.write(alloc) {
+            Ok(bytes) => bytes,
+            Err(_) => return Err(NoMemory),
+        };
+        match PackedCert::read(alloc, bytes) {
+            Ok(packed) => Ok(packed),
+            Err(CertErr::NoMemory) => Err(NoMemory),
+            Err(CertErr::Bad(_)) => unreachable!(),
+        }
+    }
+
     /// The same certificate in memory, where each point has a place of its own.
     pub fn unpack(&self, alloc: Global) -> Result<Cert, NoMemory>
         ensures { IfOk result (λ c. c ≡ self.now) }
     {
         match Cert::read(alloc, self.bytes()) {
             Ok(cert) => Ok(cert),
-            Err(_) => Err(NoMemory),
+            Err(CertErr::NoMemory) => Err(NoMemory),
+            Err(CertErr::Bad(_)) => unreachable!(),
         }
     }
 

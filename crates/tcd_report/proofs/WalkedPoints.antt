@@ -37,7 +37,3 @@ mapped_more f xs i x ys y e before last =
     ∙ ap (λ z. map f (take i xs) ++ z ∷ []) (last ∙ ap f (sym (get_or_from_slice_get xs i x x (sym e))))
     ∙ sym (map-append f (take i xs) (get_or xs i x ∷ []))
     ∙ ap (map f) (sym (take_more xs i x (slice_get_within xs i x (sym e))))
-
--- a reading has one answer
-pub one_ok : {A E : Type 0} (r : Result A E) (x y : A) → r ≡ Ok x → r ≡ Ok y → x ≡ y
-one_ok r x y e f = let g : Ok x ≡ Ok y = sym e ∙ f in cc

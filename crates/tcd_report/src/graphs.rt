@@ -9,7 +9,6 @@ ghost use Rattle.tcd_report.specs.Judging.{point_of, IsJudged, GrowsBy};
 use crate::edges::edges_of;
 use crate::judged::Judged;
 use crate::lines::{append_edges, append_leaving};
-use crate::packing::packed;
 use cfg_recover::KnownCodes;
 use depth_cert::{Cert, Key};
 use elf_image::Image;
@@ -103,6 +102,6 @@ pub fn graph(alloc: Global, image: &Image, plan: &Plan, cert: &Cert) -> Result<S
     requires { Accepts image.now plan.now cert.now }
     ensures { IfOk result (λ text. IsGraph image.now plan.now cert.now (string_bytes text)) }
 {
-    let cert = packed(alloc, cert)?;
+    let cert = PackedCert::of(alloc, cert)?;
     graph_packed(alloc, image, plan, &cert)
 }

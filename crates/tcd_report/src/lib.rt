@@ -14,7 +14,6 @@ mod judged;
 mod laws;
 mod lines;
 mod longest;
-mod packing;
 mod pieces;
 mod reports;
 mod segments;

@@ -9,7 +9,6 @@ ghost use Rattle.tcd_report.specs.Reports.{whole_data};
 use crate::heights::heights;
 use crate::judged::Judged;
 use crate::longest::{Row, longest, priority_count, rows_below};
-use crate::packing::packed;
 use crate::texts::{append, append_key};
 use cfg_recover::start_key;
 use depth_cert::Cert;
@@ -159,6 +158,6 @@ pub fn report(alloc: Global, image: &Image, plan: &Plan, cert: &Cert) -> Result<
     requires { Accepts image.now plan.now cert.now }
     ensures { IfOk result (λ text. IsReport image.now plan.now cert.now (string_bytes text)) }
 {
-    let cert = packed(alloc, cert)?;
+    let cert = PackedCert::of(alloc, cert)?;
     report_packed(alloc, image, plan, &cert)
 }

@@ -1,6 +1,5 @@
 use Rattle.std.proofs.Common.{arith}
 use Rattle.vd_transfer.proofs.ChangeLaws.{length-changed}
-use Rattle.depth_cert.proofs.ExitValues.{length_lower}
 use Rattle.packed_cert.proofs.asked.asked_value.Goals as goal
 
 pub changed_value-requires-clause-place : goal.changed_value-requires-clause-place
