@@ -37,16 +37,19 @@ PAIRS_PLAN = """{"rom": [{"at": "0x80000000", "len": "0x1000"}], "ram": [{"at": 
 
 
 def blocks(text):
-    """Each indented block of code: the last line of text before it, and its lines."""
-    before, held = "", []
+    """Each indented block of code: the paragraph before it, and its lines."""
+    before, held, ended = "", [], True
     for line in [*text.split("\n"), "end"]:
         if line.startswith("    ") or (held and not line.strip()):
             held.append(line[4:])
             continue
         if held:
             yield before, [line for line in held if line.strip()]
+        if line.strip():
+            before, ended = line.strip() if held or ended else f"{before} {line.strip()}", False
+        else:
+            ended = True
         held = []
-        before = line.strip() or before
 
 
 def code(text):
