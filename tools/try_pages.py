@@ -3,9 +3,10 @@
 
 PROGRAM is the built tcd (crates/tcd/out/tcd). Read are README.md, docs/*.md and examples/README.md.
 
-Commands  In a block of code, a line `COMMAND  # LINE` that begins with `tcd ` has to print LINE. The lines of such a
-          block run in order, in one shell folder for each page; `cp -rT examples/..` begins at the top of the
-          repository. /tmp stands for a scratch folder.
+Commands  A line `COMMAND  # LINE` that begins with `tcd `, or a line `$ COMMAND` before LINE, has to print LINE. The
+          lines of such a block run in order, and a folder is kept from one block of a page to the next.
+          `cp -rT examples/..` begins at the top of the repository. /tmp is a scratch folder. Blocks with `$`
+          before any such `cp` show how it looks and aren't run.
 Files     A block after a line that ends with "`NAME` of `examples/EXAMPLE`:" has to be that file, comments aside.
 Pairs     A block that begins `# refused ..    # certified ..` holds two programs side by side. `cert` has to print
           the line above each. docs/known.md says what each program gets added.
@@ -73,16 +74,26 @@ class Page:
         done = subprocess.run([self.program, *words], cwd=self.folder, capture_output=True, text=True)
         return done.stdout.strip()
 
+    def command(self, shell, wanted):
+        """Runs one line of a block and goes to the folder that it leaves."""
+        shell = shell.replace("/tmp/", f"{self.scratch}/")
+        start = TOP if shell.startswith("cp -rT examples/") else self.folder
+        words = f'export PATH="{self.scratch}/bin:$PATH"; cd "{start}"; {shell}\npwd >&2'
+        done = subprocess.run(["bash", "-c", words], capture_output=True, text=True)
+        self.folder = pathlib.Path(done.stderr.splitlines()[-1])
+        if wanted:
+            self.compare(shell, done.stdout.strip(), wanted)
+
     def commands(self, lines):
         for line in lines:
-            line = line.replace("/tmp/", f"{self.scratch}/")
             shell, _, wanted = (part.strip() for part in line.partition("  # "))
-            start = TOP if shell.startswith("cp -rT examples/") else self.folder
-            words = f'export PATH="{self.scratch}/bin:$PATH"; cd "{start}"; {shell}\nstatus=$?; pwd >&2; exit $status'
-            done = subprocess.run(["bash", "-c", words], capture_output=True, text=True)
-            self.folder = pathlib.Path(done.stderr.splitlines()[-1])
-            if wanted and not wanted.startswith("("):
-                self.compare(shell, done.stdout.strip(), wanted)
+            self.command(shell, wanted)
+
+    def session(self, lines):
+        """A block of lines `$ COMMAND`, each before what it prints."""
+        parts = "\n".join(lines).removeprefix("$ ").split("\n$ ")
+        for shell, _, wanted in (part.partition("\n") for part in parts):
+            self.command(shell, wanted)
 
     def pair(self, lines):
         left = PAIR.fullmatch(lines[0])
@@ -106,6 +117,8 @@ class Page:
                 self.pair(lines)
             elif lines[0].startswith("dispatch:"):
                 self.tail = lines
+            elif lines[0].startswith("$ cp -rT ") or (lines[0].startswith("$ ") and self.folder != self.scratch):
+                self.session(lines)
             elif any(line.startswith("tcd ") and "  # " in line for line in lines):
                 self.commands(lines)
 
