@@ -28,6 +28,8 @@ def names(text):
 def stands(name, document):
     if "/out" in name:
         return True
+    if name.startswith("../"):
+        return (document.parent / name).exists()
     if "/" not in name:
         return any((TOP / folder / name).exists() for folder in (".", document.parent, "docs", "tools", "bench"))
     return any(glob.glob(str(folder / name.replace("..", "*"))) for folder in (TOP, document.parent))
