@@ -11,7 +11,7 @@ next_mode:
     movh.a a15, hi:mode
     ld.w.l d0, [a15]lo:mode
     add    d0, d0, 1
-    and    d0, d0, 3                # back to 0 behind 3
+    and    d0, d0, 3                # back to 0 after 3
     st.w.l [a15]lo:mode, d0
     ret16
 

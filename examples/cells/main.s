@@ -1,5 +1,5 @@
-# A lamp with four modes. The mode is kept in ram, and a key's interrupt moves it on; the main loop calls the mode's function by a
-# table. The mode is a cell: every store keeps it from 0 to 3, so the table's index is known.
+# A lamp with four modes, whose functions are called by a table. A key's interrupt moves the mode
+# on, which is kept in RAM. It is a cell: every store keeps it from 0 to 3, so the index is known.
 
 .section text
 .global main

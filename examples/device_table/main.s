@@ -1,4 +1,4 @@
-# A panel with a selector of six positions: for each a function, whose address stands in a table in rom.
+# A panel with a selector of six positions, and a table in ROM with a function for each.
 
 .section text
 .global main

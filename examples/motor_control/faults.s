@@ -1,5 +1,5 @@
-# The fault trap: `syscall 1` overcurrent, `syscall 2` stall, `syscall 3` clears. It enters at BTV | C0 with interrupts off from
-# whatever frame asked, and no service asks again: a service that did would be entered from itself (broken has that).
+# The fault trap: `syscall 1` overcurrent, `syscall 2` stall, `syscall 3` clears. It enters at BTV |
+# C0 with interrupts off. No service asks for a service: the trap would enter itself (see broken).
 
 .section trap_6
     jge.u  d15, 4, no_service

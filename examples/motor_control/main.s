@@ -1,5 +1,5 @@
-# The background of a motor controller: a state for what the drive does, chosen by a table in rom. All that has a deadline is in
-# interrupts (current.s, speed.s, serial.s). The variables are described in memory.s.
+# The background of a motor controller: one of four states, chosen by a table in ROM. What has a
+# deadline is in interrupts (current.s, speed.s, serial.s). memory.s describes the variables.
 
 .section text
 .global main
@@ -30,7 +30,7 @@ stopped:                            # state 0: until the start switch is on
     j      again
 
 .global aligning
-aligning:                           # state 1: some turns with current, so that the rotor stands at a known angle
+aligning:                           # state 1: some turns with current, to a known rotor angle
     call   gates_on
     ld.w   d0, [a12]28
     add    d0, d0, 1
@@ -57,8 +57,8 @@ faulted:                            # state 3: until the fault is cleared by ser
     call   report_fault
     j      again
 
-# Sets the drive's 16 words to 0. The address is made anew from the index, which the branch bounds: of a pointer that the loop
-# raises beside a counter nothing but its alignment is known in the end, and the store is refused (broken_clear has that).
+# Sets the drive's 16 words to 0. The address is computed from the index, which the branch bounds. A
+# pointer that the loop raises would be refused (broken_clear has that).
 clear:
     movh.a a4, hi:drive
     lea.l  a4, [a4]lo:drive

@@ -1,4 +1,4 @@
-# Interrupt 20: a byte came. A frame is a mark 5A, a command, a value, and the low byte of the sum of these two.
+# Interrupt 20: a byte came. A frame is 5A, a command, a value, and the low byte of their sum.
 
 .section vector_20
     bisr16 20

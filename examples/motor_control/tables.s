@@ -1,4 +1,4 @@
-# What stands in rom besides code. The linker fills in the addresses.
+# What is in ROM besides code. The linker fills in the addresses.
 
 .section tables
 .global states
@@ -17,7 +17,7 @@ services:                           # of the fault trap
 commutations:                       # by sector
     .word sector_0, sector_1, sector_2, sector_3, sector_4, sector_5
 .global ramps
-ramps:                              # steps of the demanded speed a millisecond, by bands of 128 counts: gentle where it is fast
+ramps:                              # steps a millisecond, by bands of 128 counts: gentle at speed
     .word 16, 16, 12, 8, 6, 4, 3, 2
 .global sectors
 sectors:                            # by the upper five bits of the angle

@@ -1,5 +1,5 @@
-# A main loop that three interrupts may interrupt at each instruction, the higher ones the lower ones too.
-# The plan says that interrupts are on when main begins (start.ie is 1).
+# A main loop that three interrupts may interrupt at each instruction, and each of them the lower
+# ones. The plan says that interrupts are on when main begins (start.ie is 1).
 
 .section text
 .global main

@@ -15,6 +15,6 @@ main:
 samples:
     .word 1, 20, 300, 4000, 50000
 
-# A section without bytes: the label has an address in ram, and the executable has nothing to load there.
+# A section without bytes: the label has an address in RAM, and nothing is loaded there.
 .section data
 total:

@@ -1,4 +1,4 @@
-# Firmware without interrupts: it asks two devices in turn. A selector chooses one of four valves, a knob says how far it opens.
+# Firmware without interrupts. A selector chooses one of four valves, a knob says how far it opens.
 
 .section text
 .global main
@@ -29,7 +29,7 @@ again:
     ret16
 
 set_valve:                          # valve D2 to D8
-    and    d0, d2, 3                # four valves: with it all possible stores lie in the device
+    and    d0, d2, 3                # four valves: so all possible stores are in the device
     movh.a a4, hi:valves
     lea.l  a4, [a4]lo:valves
     addsc.a a4, a4, d0, 2           # one of four registers

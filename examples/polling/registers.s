@@ -1,5 +1,5 @@
-# The devices' registers by name: sections without bytes, which the layout places where the board has them. `hi:` and `lo:` take
-# the addresses apart, so that no source holds one.
+# The devices' registers by name: sections without bytes, which the layout places at the board's
+# addresses. `hi:` and `lo:` take these apart, so that no source holds one.
 
 .section knob_register
 .global knob

@@ -1,5 +1,5 @@
-# A counter of pulses, with the code that runs from reset on: `tcd bootgen` writes it, for this plan, and it ends with a jump to
-# `main`. It leaves interrupts off, so that none comes before the stack and the areas are there.
+# A counter of pulses, with the code from reset on: `tcd bootgen` writes it for this plan. It leaves
+# interrupts off until the stack and the areas are there, and ends with a jump to `main`.
 
 .section text
 .global main

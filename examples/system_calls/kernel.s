@@ -1,5 +1,5 @@
-# The trap of class 6 enters at BTV | C0 with interrupts off, on the interrupt stack, with the number of the system call in D15.
-# `rfe` goes back behind the `syscall` and turns interrupts on again where they were.
+# The trap of class 6 enters at BTV | C0 with interrupts off, on the interrupt stack, its number in
+# D15. `rfe` returns after the `syscall`, and turns interrupts on again if they were on.
 
 .section trap_6
     jge.u  d15, 3, unknown          # a number without a service
@@ -35,7 +35,7 @@ put_done:
     ret16
 ready:
     movh.a a4, 0xF050
-    ld.w   d2, [a4]4                # 1 where the transmitter takes a character
+    ld.w   d2, [a4]4                # 1 if the transmitter takes a character
     and    d2, d2, 1
     ret16
 

@@ -8,7 +8,7 @@ main:
 blink:
     mov    d4, 1
     syscall 0                       # lamp D4; the number reaches the kernel in D15
-    syscall 1                       # the time, in D2: the kernel changes the lower registers, as a called function does
+    syscall 1                       # the time, in D2: the kernel may change D0 to D7, A2 to A7
     add    d9, d2, 5                # D8 to D15 stay
 wait:
     syscall 1

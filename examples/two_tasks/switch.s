@@ -1,5 +1,5 @@
-# The routine by which a task gives way: exactly these 18 instructions of four bytes, for two tasks. It keeps no area itself: `call
-# switch` and `svlcx` take two of the task's, the task waits in them, and `rslcx` and `ret` give back the two of the task that goes on.
+# By this routine a task gives way: exactly these 18 instructions, for two tasks. The task waits in
+# the two areas of `call switch` and `svlcx`; `rslcx` and `ret` give back those of the next one.
 
 .section switch
 .global switch
@@ -10,10 +10,10 @@ switch:
     lea.l  a2, [a2]lo:waiting
     ld.w.l d0, [a2]8                # the number of the current task
     addsc.a a3, a2, d0, 2
-    mfcr   d1, 0xFE00               # PCXI, where this task's chain begins
+    mfcr   d1, 0xFE00               # PCXI, the beginning of this task's chain
     st.w.l [a3]0, d1
     addi   d0, d0, 1
-    jne    d0, 2, .+8               # behind the last task comes the first
+    jne    d0, 2, .+8               # after the last task comes the first
     mov    d0, 0
     st.w.l [a2]8, d0
     addsc.a a3, a2, d0, 2

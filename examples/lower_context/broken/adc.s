@@ -1,5 +1,5 @@
-# Interrupt 12: a sample is there. Where interrupted code can stand anywhere, a handler has to leave all registers as they were.
-# The entry saved D8 to D15, A10 to A15; D0 to D7 and A2 to A7 are saved by `svlcx`, which leaves interrupts off.
+# Interrupt 12: a sample is there. A handler has to leave all registers as they were. The entry
+# saved D8 to D15 and A10 to A15. `svlcx` and `rslcx` are missing, so D0 to D7 and A2 to A7 change.
 
 .section vector_12
     call   filter

@@ -1,5 +1,5 @@
-# The fault trap: `syscall 1` overcurrent, `syscall 2` stall, `syscall 3` clears. It enters at BTV | C0 with interrupts off from
-# whatever frame asked.
+# The fault trap: `syscall 1` overcurrent, `syscall 2` stall, `syscall 3` clears. It enters at BTV |
+# C0 with interrupts off, from whatever frame asked.
 
 .section trap_6
     jge.u  d15, 4, no_service
@@ -38,7 +38,7 @@ gates_off:
     movh.a a4, 0xF014
     mov    d0, 0
     st.w   [a4]0, d0
-    ld.w   d0, [a4]0                # are they off? Where they aren't, that is a fault, and its service calls gates_off again ..
+    ld.w   d0, [a4]0                # still on? A fault, whose service calls gates_off again
     jeq    d0, 0, gates_are_off
     syscall 1
 gates_are_off:

@@ -47,7 +47,7 @@ speed_lags:
 speed_done:
     ret16
 
-# The demanded speed goes to the wanted one by a step of the ramp at most. A5 is at the drive. D2 = the demanded speed.
+# The demanded speed D2 goes to the wanted one by a step of the ramp at most. A5 is at the drive.
 ramp:
     ld.w   d4, [a5]4                # wanted
     ld.w   d1, [a5]8                # demanded so far

@@ -1,4 +1,4 @@
-# Interrupt 40, each 50 microseconds: the current loop. Nothing is above it, so interrupts stay off (`svlcx`, not `bisr`).
+# Interrupt 40, each 50 microseconds: the current loop. It is the highest: `svlcx`, not `bisr`.
 
 .section vector_40
     svlcx
@@ -90,7 +90,7 @@ set_phases:
     st.w   [a4]8, d2
     ret16
 overcurrent:
-    syscall 1                       # the fault trap, from an interrupt: it takes an area like any entry
+    syscall 1                       # the fault trap, from an interrupt: it takes an area too
     ret16
 
 # D2 = D4, but at least -D5 and at most D5. Changes D0.

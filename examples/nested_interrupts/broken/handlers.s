@@ -1,10 +1,10 @@
-# The vectors: the core enters interrupt p at BIV | p << 5, so a vector has 32 bytes and each is a section of its own, placed
-# there by the layout. The entry took an area for the upper context and turned interrupts off. `bisr16 p` takes another one for
-# the lower context (D0 to D7, A2 to A7), sets CCPN to p and turns interrupts on, so that only those above p come from here on.
-# `rslcx` gives that area back and `rfe16` the entry's. With the called function a handler takes 3 areas.
+# The vectors: interrupt p enters at BIV | p << 5, so each has 32 bytes and a section of its own.
+# The entry took an area and turned interrupts off. `bisr16 p` takes one more for D0 to D7 and A2 to
+# A7, sets CCPN to p and turns interrupts on, so that only those above p come. `rslcx` gives that
+# area back, `rfe16` the entry's. With the called function a handler takes 3 areas.
 
 .section vector_10
-    bisr16 5                        # below 10: interrupt 10 can come again before its own handler ended
+    bisr16 5                        # below 10: interrupt 10 can come again in its own handler
     call   count_slow
     rslcx
     rfe16
@@ -21,7 +21,7 @@
     rslcx
     rfe16
 
-# Each counts its interrupts in ram. They may use any register: the lower ones are saved by `bisr16`, the upper ones by `call`.
+# Each counts in RAM, in any register: `bisr16` saved the lower ones, `call` the upper ones.
 .section text
 count_slow:
     mov    d4, 0

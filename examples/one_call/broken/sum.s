@@ -1,4 +1,4 @@
-# D2 = the sum of D4 words from A4 on. The line `.global sum` is missing, so that no other source sees the label.
+# D2 = the sum of D4 words from A4 on. `.global sum` is missing: no other source sees the label.
 
 .section text
 sum:

@@ -1,4 +1,4 @@
-# Firmware without interrupts: it asks two devices in turn. A selector chooses one of four valves, a knob says how far it opens.
+# Firmware without interrupts. A selector chooses one of four valves, a knob says how far it opens.
 
 .section text
 .global main

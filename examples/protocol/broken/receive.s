@@ -1,5 +1,5 @@
-# Interrupt 16: a byte of a frame is there. A frame is a mark 5A, a length, so many bytes, and the low byte of their sum.
-# The state stands in ram, so that nothing is known of it: `and` bounds it to the four entries of the table before the jump.
+# Interrupt 16: a byte of a frame, which is 5A, a length, that many bytes, the low byte of their
+# sum. The state is in RAM, so it may be any word, and nothing bounds it before the jump.
 
 .section vector_16
     svlcx
@@ -74,8 +74,8 @@ count:
 states:
     .word mark, length, data, check
 
-# Where the variables lie says the layout: sections without bytes, since what a section of ram holds would be in the executable,
-# where nothing loads it.
+# The layout says where the variables are. Their sections have no bytes: what a section of RAM holds
+# would be in the executable, and nothing would load it.
 .section payload_in_ram
 .global payload
 payload:

@@ -2,7 +2,7 @@
 
 .section task_1
 show:
-    enable                          # as main does: so the interrupt can come on top of this task's calls too
+    enable                          # as main does: the interrupt can come in this task too
     movh.a a15, hi:level
     ld.w.l d4, [a15]lo:level
     call   put_level
@@ -26,7 +26,7 @@ put_digit:                          # digit D4 at place D5 of the display
     st.w   [a15]0, d2               # F0400010 or F0400014
     ret16
 segments_of:
-    and    d4, d4, 15               # what comes from ram is any word: within the table, so that no load reads an area or the routine
+    and    d4, d4, 15               # RAM may hold any word: keep the load within the table
     movh.a a15, hi:segments
     lea.l  a15, [a15]lo:segments
     addsc.a a15, a15, d4, 0

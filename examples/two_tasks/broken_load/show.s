@@ -25,7 +25,7 @@ put_digit:                          # digit D4 at place D5 of the display
     st.w   [a15]0, d2               # F0400010 or F0400014
     ret16
 segments_of:
-    # `and d4, d4, 15` is missing: what comes from ram is any word, so the load below may read anything
+    # `and d4, d4, 15` is missing: RAM may hold any word, so the load may read anything
     movh.a a15, hi:segments
     lea.l  a15, [a15]lo:segments
     addsc.a a15, a15, d4, 0

@@ -1,5 +1,5 @@
-# The routine by which a task gives way: exactly these 18 instructions of four bytes, for two tasks. It keeps no area itself: `call
-# switch` and `svlcx` take two of the task's, the task waits in them, and `rslcx` and `ret` give back the two of the task that goes on.
+# By this routine a task gives way: these 18 instructions, here for three tasks. The task waits in
+# the two areas of `call switch` and `svlcx`; `rslcx` and `ret` give back those of the next one.
 
 .section switch
 .global switch
@@ -10,7 +10,7 @@ switch:
     lea.l  a2, [a2]lo:waiting
     ld.w.l d0, [a2]8                # the number of the current task
     addsc.a a3, a2, d0, 2
-    mfcr   d1, 0xFE00               # PCXI, where this task's chain begins
+    mfcr   d1, 0xFE00               # PCXI, the beginning of this task's chain
     st.w.l [a3]0, d1
     addi   d0, d0, 1
     jne    d0, 3, .+8               # of three tasks: the file of tasks names two
