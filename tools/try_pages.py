@@ -112,7 +112,9 @@ class Page:
     def run(self):
         for before, lines in blocks(self.path.read_text()):
             if shown := SHOWN_FILE.search(before):
-                self.compare(f"{shown[1]} of {shown[2]}", code(lines), code((TOP / shown[2] / shown[1]).read_text().split("\n")))
+                file = TOP / shown[2] / shown[1]
+                held = code(file.read_text().split("\n")) if file.exists() else "no such file"
+                self.compare(f"{shown[1]} of {shown[2]}", held, code(lines))
             elif PAIR.fullmatch(lines[0]):
                 self.pair(lines)
             elif lines[0].startswith("dispatch:"):
