@@ -1,0 +1,555 @@
+#!/usr/bin/env python3
+"""Prints what has to be read to know what a command claims, and nothing else.
+
+    tools/claim.py                              the counts for `check`
+    tools/claim.py check --page claim.html      a page for `check`, in HTML
+    tools/claim.py cert --page claim.md         a page for `cert`, in Markdown
+    tools/claim.py --root tc_machine.specs.Safe.Safe        what one definition rests on
+
+The statement of a command is a record `HeadlineOf..` of crates/tcd_driver/specs/Headlines.antt.
+The page shows the definitions below it, each once, with its file and line and the comment above
+it. A definition comes before those that it uses. The page has two parts:
+
+1. What a Done means: the record and all that it rests on.
+2. When it comes: which files are taken, and which certificates are accepted. Part 1 names these
+   definitions and doesn't follow them.
+
+A type of src/ is shown as it is declared there. The rows of the instruction table are shown beside
+their meanings. A word of the kit is counted and not followed.
+
+The script reads the text of the sources and knows no types. A name counts if it is in a definition
+and isn't bound there. So the page may have a definition too many. It lacks a definition that no
+text names.
+
+Ends with 0, with 2 if a file can't be read or written, and with 5 if the words are wrong.
+"""
+import argparse
+import collections
+import dataclasses
+import html
+import pathlib
+import re
+import sys
+
+TOP = pathlib.Path(__file__).resolve().parent.parent
+HEADLINES = "tcd_driver.specs.Headlines"
+#: What part 2 begins with: which certificates are accepted, and which files are taken.
+LATER = (
+    "IsAcceptedWith", "CertData", "certificate_of", "bytes_of", "IsLeastOfItsVersion", "KeepsCells",
+    "refusal_of", "ImageErr", "PlanErr",
+)
+#: Two lists of one table, which are shown row by row beside each other.
+BESIDE = ("listed", "meanings")
+
+STYLE = """
+body { max-width: 60em; margin: 2em auto; font-family: sans-serif }
+pre { background: #f4f4f4; padding: .6em; overflow-x: auto }
+a { color: #035; text-decoration: none; border-bottom: 1px dotted }
+.note { color: #060 }
+"""
+
+NAME = r"[A-Za-zℕ_][A-Za-z0-9_'₀-₉-]*"
+USE = re.compile(r"use (Rattle\.[\w.«»-]+?)(?:\.\{(.*)\}| as (" + NAME + r"))?\s*$")
+HEAD = re.compile(
+    r"(?:abbrev |unfoldable |inline )*(?:pub )?(?:(record|data) )?(◌\S+|" + NAME + r")(?= |$)"
+)
+OPERATOR = re.compile(r"◌(\S+?)◌")
+ROW = re.compile(r'    row \(codes "(.*?)"\) (?:\(codes "(.*?)"\)|\[\]) (.*?) ∷')
+MEANING = re.compile(r'    line \(codes "(.*?)"\) (.*?) ∷$')
+TOKEN = re.compile(r"(?<![.\w])" + NAME + r"(?:\." + NAME + r")*")
+
+
+class Wrong(Exception):
+    """Words that name nothing."""
+
+
+@dataclasses.dataclass(eq=False)
+class Item:
+    """A definition of specs/, or a type of src/."""
+
+    module: str
+    name: str
+    path: pathlib.Path
+    line: int
+    comment: list
+    text: list
+    kind: str
+    #: of a type: the names that its file brings in
+    brought: frozenset = frozenset()
+
+    @property
+    def key(self):
+        return f"{self.module}.{self.name}"
+
+
+class Module:
+    """One file of specs/: its definitions, and the names that it brings in."""
+
+    def __init__(self, name, path):
+        self.name, self.path = name, path
+        self.items, self.scope, self.aliases, self.constructors = {}, {}, {}, {}
+        self.comment, self.current = [], None
+        for number, line in enumerate(path.read_text(encoding="utf-8").split("\n"), 1):
+            self.read_line(number, line)
+        for item in self.items.values():
+            if item.kind == "data":
+                self.read_constructors(item)
+
+    def read_line(self, number, line):
+        """Adds one line to what was read so far."""
+        if line.startswith("use "):
+            self.read_use(line)
+        elif line.startswith("--"):
+            self.comment = [] if line.startswith("-- ----") else self.comment + [line]
+            self.current = None
+        elif not line.strip():
+            self.comment, self.current = [], None
+        elif line.startswith((" ", "unfolding", "infix")):
+            if self.current:
+                self.current.text.append(line)
+        else:
+            self.read_head(number, line)
+
+    def read_use(self, line):
+        self.comment, self.current = [], None
+        found = USE.match(line)
+        if found and found[2] is not None:
+            for part in filter(None, map(str.strip, found[2].split(","))):
+                name, _, other = part.partition(" as ")
+                self.scope[(other or name).strip()] = (found[1], name.strip())
+        elif found and found[3]:
+            self.aliases[found[3]] = found[1]
+
+    def read_head(self, number, line):
+        """A line that begins a definition, or an equation of one."""
+        found = HEAD.match(line)
+        if not found:
+            return
+        name = found[2]
+        is_equation = " : " not in line.split("=")[0] and not found[1]
+        if name in self.items:
+            self.items[name].text.append(line)
+        elif self.current and is_equation:
+            self.current.text.append(line)
+        else:
+            kind = found[1] or "function"
+            item = Item(self.name, name, self.path, number, self.comment, [line], kind)
+            self.current = self.items[name] = item
+            self.comment = []
+
+    def read_constructors(self, item):
+        for line in item.text[1:]:
+            found = re.match(r"  (?:pub )?(" + NAME + r") :", line)
+            if found:
+                self.constructors[found[1]] = item
+
+
+class Sources:
+    """All definitions of specs/, and all public types of src/."""
+
+    def __init__(self, top):
+        self.top, self.modules, self.types = top, {}, {}
+        for crate in sorted((top / "crates").iterdir()):
+            specs = crate / "specs"
+            for path in sorted(specs.rglob("*.antt")):
+                if path.name != "Lib.antt":
+                    parts = path.relative_to(specs).with_suffix("").parts
+                    name = ".".join([crate.name, "specs", *parts])
+                    self.modules[name] = Module(name, path)
+            for path in sorted((crate / "src").rglob("*.rt")):
+                self.read_types(crate.name, path)
+
+    def read_types(self, crate, path):
+        """The public types that a file of src/ declares."""
+        text = path.read_text(encoding="utf-8")
+        lines = text.split("\n")
+        uses = re.findall(r"^use [\w:]+::(\{[^}]*\}|\w+);", text, re.M)
+        brought = frozenset(re.findall(r"\w+", " ".join(uses)))
+        for at, line in enumerate(lines):
+            found = re.match(r"pub (?:struct|enum) (\w+)", line)
+            if found:
+                shown = [*folded(declaration(lines, at)), *model_value(text, found[1])]
+                notes = notes_above(lines, at)
+                item = Item(f"{crate}.src", found[1], path, at + 1, notes, shown, "type", brought)
+                self.types.setdefault(found[1], []).append(item)
+
+    def type_named(self, crate, name):
+        """A type of this crate, else of another one."""
+        found = self.types.get(name, [])
+        own = [it for it in found if it.module == f"{crate}.src"]
+        return (own or found or [None])[0]
+
+    def find(self, module, name):
+        """The definition of this name in a module, or the kit's word for it."""
+        path = module.removeprefix("Rattle.")
+        parts = path.split(".")
+        if "declared" in parts:
+            kind = parts[-2] if parts[-1] == "TheVariants" else parts[-1]
+            return self.type_named(parts[0], kind) or f"{path}.{name}"
+        if path in self.modules:
+            at = self.modules[path]
+            return at.items.get(name) or at.constructors.get(name) or f"{path}.{name}"
+        if ".".join(parts[:-1]) in self.modules:
+            return self.find(".".join(parts[:-1]), parts[-1])
+        return f"{path}.{name}"
+
+    def root(self, dotted):
+        """The definition of these words: a module and a name."""
+        module, _, name = dotted.rpartition(".")
+        item = self.find(module, name)
+        if not isinstance(item, Item):
+            raise Wrong(f"no definition {dotted}")
+        return item
+
+    def headlines(self):
+        """The records of the commands, by the commands' words."""
+        if HEADLINES not in self.modules:
+            path = "crates/" + HEADLINES.replace(".", "/") + ".antt"
+            raise FileNotFoundError(2, "no such file", path)
+        items = self.modules[HEADLINES].items
+        begin = "HeadlineOf"
+        return {it[len(begin):].lower(): items[it] for it in items if it.startswith(begin)}
+
+    def resolve(self, item, token, is_left=False):
+        """What a token of a definition means; None if it is a name of the definition's own."""
+        if item.kind == "type":
+            it = self.type_named(item.module.split(".")[0], token)
+            return it if it and (it.path == item.path or token in item.brought) else None
+        at = self.modules[item.module]
+        first, _, rest = token.partition(".")
+        if rest and first in at.aliases:
+            return self.find(at.aliases[first], rest.split(".")[0])
+        if first in at.constructors:
+            return at.constructors[first]
+        if first in at.items:
+            return None if is_left else at.items[first]
+        if first not in at.scope:
+            return None
+        found = self.find(*at.scope[first])
+        is_function = isinstance(found, Item) and found.kind == "function"
+        return None if is_left and is_function else found
+
+    def operators(self, item, text):
+        """What the operators of a line mean."""
+        for name, place in self.modules[item.module].scope.items():
+            symbol = OPERATOR.fullmatch(name)
+            if symbol and f" {symbol[1]} " in f" {text} ":
+                yield self.find(*place)
+
+
+def notes_above(lines, at):
+    first = at
+    while first and lines[first - 1].startswith(("///", "#[")):
+        first -= 1
+    return [line for line in lines[first:at] if line.startswith("///")]
+
+
+def declaration(lines, at):
+    """The lines of the type that begins at this one."""
+    if "{" not in lines[at] or lines[at].rstrip().endswith(("}", ";")):
+        return [lines[at]]
+    last = next(i for i in range(at, len(lines)) if lines[i].startswith("}"))
+    return lines[at : last + 1]
+
+
+def folded(lines):
+    """A declaration with each case on one line, if it has room there."""
+    result, at = [], 0
+    while at < len(lines):
+        if lines[at].startswith("    ") and lines[at].endswith("{") and "    }," in lines[at:]:
+            last = lines.index("    },", at)
+            fields = " ".join(it.strip() for it in lines[at + 1 : last]).rstrip(",")
+            line = f"{lines[at]} {fields} }},"
+            if len(line) <= 100 and "//" not in line:
+                result.append(line)
+                at = last + 1
+                continue
+        result.append(lines[at])
+        at += 1
+    return result
+
+
+def model_value(text, name):
+    """What a type is to the definitions."""
+    model = re.search(rf"^impl(?:<.*?>)? Model for {name}\b.*?^}}", text, re.M | re.S)
+    return re.findall(r"^    ghost Value = .*$", model[0], re.M) if model else []
+
+
+def bound_names(item):
+    """Names that are values inside a definition."""
+    text, bound = "\n".join(item.text), set()
+    for group in re.findall(r"[({]((?:" + NAME + r" )+):", text):
+        bound.update(group.split())
+    for group in re.findall(r"λ ((?:" + NAME + r" ?|_ ?|\([^)]*\) ?)+)\.", text):
+        bound.update(re.findall(NAME, group))
+    bound.update(re.findall(r"let (" + NAME + r")", text))
+    if item.kind == "record":
+        bound.update(re.findall(r"^  (?:pub )?(" + NAME + r") :", text, re.M))
+    bound.update(re.findall(r"[{;] ?(" + NAME + r") =", text))
+    bound.update(re.findall(r"^ +(" + NAME + r") = .*;$", text, re.M))
+    return bound
+
+
+def two_sides(item, line):
+    """The left side of an equation, and the rest; the left one is empty in other lines."""
+    begins = line.startswith((item.name + " ", "◌")) and not line.startswith(item.name + " :")
+    if item.kind == "function" and begins and " = " in line:
+        left, _, right = line.partition(" = ")
+        return left, right
+    return "", line
+
+
+def used_by_type(sources, item):
+    body = "\n".join(re.sub(r"//.*", "", line) for line in item.text)
+    for token in re.findall(r"\w+", body):
+        yield sources.resolve(item, token)
+
+
+def used_by_line(sources, item, line, bound):
+    """What one line of a definition uses."""
+    left, right = two_sides(item, line)
+    patterns = set()
+    for token in TOKEN.findall(left):
+        it = sources.resolve(item, token, is_left=True)
+        if it is None:
+            patterns.add(token)
+        elif isinstance(it, Item) and token not in bound:
+            yield it
+    aliases = sources.modules[item.module].aliases
+    for token in TOKEN.findall(right):
+        first = token.split(".")[0]
+        if first not in patterns and (first not in bound or first in aliases):
+            yield sources.resolve(item, token)
+    yield from sources.operators(item, right)
+
+
+def uses(sources, item):
+    """What a definition uses: definitions, and the words of the kit."""
+    if item.kind == "type":
+        found = list(used_by_type(sources, item))
+    else:
+        bound = bound_names(item)
+        found = [it for line in item.text for it in used_by_line(sources, item, line, bound)]
+    return [it for it in found if it is not None and it is not item]
+
+
+class Part:
+    """The definitions below some roots, in reading order."""
+
+    def __init__(self, sources, roots, stops, known=()):
+        self.stopped, self.kit, self.edges = [], collections.Counter(), {}
+        self.items = in_reading_order(self.reach(sources, roots, stops, set(known)), self.edges)
+        self.rows = rows_beside(self.items)
+
+    def reach(self, sources, roots, stops, seen):
+        """All definitions below the roots; what is seen or stopped at is left out."""
+        order, todo = [], list(roots)
+        while todo:
+            item = todo.pop(0)
+            if item.key in seen:
+                continue
+            seen.add(item.key)
+            if item.name in stops or item.key in stops:
+                self.stopped.append(item)
+                continue
+            order.append(item)
+            found = uses(sources, item)
+            self.kit.update(it for it in found if not isinstance(it, Item))
+            self.edges[item.key] = [it for it in found if isinstance(it, Item)]
+            todo = self.edges[item.key] + todo
+        return order
+
+    def shown(self, item):
+        """The lines of a definition as the page has them."""
+        if item.name not in BESIDE or not self.rows:
+            return item.text
+        if item.name == BESIDE[1]:
+            return [f"{item.name}: at the end of each row of {BESIDE[0]}"]
+        return [*(line for line in item.text if line[0] != " "), *self.rows]
+
+    @property
+    def lines(self):
+        """How many lines of definitions the page has, without comments."""
+        return sum(len(self.shown(it)) for it in self.items)
+
+    @property
+    def notes(self):
+        return sum(len(it.comment) for it in self.items)
+
+    def users(self, item):
+        return [it.name for it in self.items if any(used is item for used in self.edges[it.key])]
+
+
+def in_reading_order(items, edges):
+    """A definition comes once all that use it have come, if there is such an order."""
+    among = {it.key for it in items}
+    waits = collections.Counter(
+        key for it in items for key in {used.key for used in edges[it.key]}
+    )
+    ready = [it for it in items if not waits[it.key]] or items[:1]
+    done, result = set(), []
+    while len(result) < len(items):
+        item = ready.pop(0) if ready else next(it for it in items if it.key not in done)
+        if item.key in done:
+            continue
+        done.add(item.key)
+        result.append(item)
+        follow = []
+        for it in dict.fromkeys(edges[item.key]):
+            if it.key in among and it.key not in done:
+                waits[it.key] -= 1
+                if waits[it.key] <= 0:
+                    follow.append(it)
+        ready = follow + ready
+    return result
+
+
+def rows_beside(items):
+    """The rows of both lists, one line each; none if they don't name the same rows."""
+    lines = [[it for item in items if item.name == name for it in item.text] for name in BESIDE]
+    left = [it for it in map(ROW.match, lines[0]) if it]
+    right = [it for it in map(MEANING.match, lines[1]) if it]
+    if [it[1] for it in left] != [it[1] for it in right]:
+        return []
+    return [f"{a[1]:9} {a[2] or '':18} {a[3]:16} {b[2]}" for a, b in zip(left, right)]
+
+
+def source_of(item):
+    return f"{item.path.relative_to(TOP)}:{item.line}"
+
+
+def said_by(sources, root):
+    """Where a record is said of its command: the definitions of its file that name it."""
+    if root.module not in sources.modules:
+        return []
+    word = re.compile(rf"\b{root.name}\b")
+    items = sources.modules[root.module].items.values()
+    return [it for it in items if it is not root and word.search("\n".join(it.text))]
+
+
+def as_markdown(title, parts, said):
+    """The page in Markdown."""
+    page = [f"# {title}", ""]
+    if said:
+        page += ["Said by " + ", ".join(f"`{it.name}` ({source_of(it)})" for it in said) + ".", ""]
+    for name, part in parts:
+        page += [f"## {name}", "", count_of(part) + ".", ""]
+        if part.stopped:
+            stopped = dict.fromkeys(f"`{it.name}`" for it in part.stopped)
+            page += ["Not followed here: " + ", ".join(stopped) + ".", ""]
+        for item in part.items:
+            users = ", ".join(f"`{it}`" for it in part.users(item)[:4])
+            place = source_of(item) + (f", used by {users}" if users else "")
+            page.append(f"**{item.name}** ({place})")
+            page += ["", "```", *item.comment, *part.shown(item), "```", ""]
+        page += ["Words of the kit: " + ", ".join(f"`{it}`" for it in sorted(part.kit)) + ".", ""]
+    return "\n".join(page)
+
+
+def linked(text, targets):
+    """A text of a definition in HTML; the names of other definitions are links."""
+    def link(found):
+        name = found[0].split(".")[0]
+        return f'<a href="#{targets[name]}">{found[0]}</a>' if name in targets else found[0]
+    return TOKEN.sub(link, html.escape(text, quote=False))
+
+
+def as_html(title, parts, said):
+    """The page in HTML, which needs no network."""
+    page = [f'<!doctype html><meta charset="utf-8"><title>{html.escape(title)}</title>']
+    page.append(f"<style>{STYLE}</style><h1>{html.escape(title)}</h1>")
+    if said:
+        names = ", ".join(f"{it.name} ({source_of(it)})" for it in said)
+        page.append(f"<p>Said by {names}.</p>")
+    shown = {it.key for _, part in parts for it in part.items}
+    for name, part in parts:
+        page.append(f"<h2>{html.escape(name)}</h2><p>{count_of(part)}.</p>")
+        for item in part.items:
+            targets = {it.name: it.key for it in part.edges[item.key] if it.key in shown}
+            note = "".join(html.escape(line, quote=False) + "\n" for line in item.comment)
+            body = "\n".join(linked(line, targets) for line in part.shown(item))
+            page.append(f'<h4 id="{item.key}">{item.name} <small>{source_of(item)}</small></h4>')
+            page.append(f'<pre><span class="note">{note}</span>{body}</pre>')
+    return "\n".join(page) + "\n"
+
+
+def count_of(part):
+    lines = f"{part.lines} lines, {part.notes} lines of comments"
+    return f"{len(part.items)} definitions, {lines}, {len(part.kit)} words of the kit"
+
+
+def parts_of(sources, roots, stops):
+    """Both parts of a page: what is claimed, and what was not followed in it."""
+    first = Part(sources, roots, stops)
+    parts = [("What a Done means", first)]
+    if first.stopped:
+        known = [it.key for it in first.items]
+        parts.append(("When it comes", Part(sources, first.stopped, (), known)))
+    return parts
+
+
+def print_counts(parts):
+    for name, part in parts:
+        print(f"{name.lower()}: {count_of(part)}")
+        lines, count = collections.Counter(), collections.Counter()
+        for item in part.items:
+            crate = item.module.split(".")[0]
+            lines[crate] += len(part.shown(item))
+            count[crate] += 1
+        for crate, number in lines.most_common():
+            print(f"  {crate:14} {count[crate]:4} definitions {number:5} lines")
+
+
+class Words(argparse.ArgumentParser):
+    """Words that are wrong end with one line and status 5."""
+
+    def error(self, message):
+        print(f"claim.py: {message}", file=sys.stderr)
+        sys.exit(5)
+
+
+def asked(words):
+    parser = Words(description=__doc__, formatter_class=argparse.RawDescriptionHelpFormatter)
+    add = parser.add_argument
+    add("command", nargs="?", help="a command of tcd; `check` if none is given")
+    add("--root", action="append", default=[], metavar="NAME", help="a module and a name in it")
+    add("--stop", action="append", default=[], metavar="NAME", help="isn't followed in part 1")
+    add("--page", metavar="FILE", help="where the page goes: .html, else Markdown")
+    return parser.parse_args(words)
+
+
+def roots_of(sources, wanted):
+    if wanted.root and wanted.command:
+        raise Wrong("a command or --root, not both")
+    if wanted.root:
+        return [sources.root(it) for it in wanted.root]
+    headlines = sources.headlines()
+    command = wanted.command or "check"
+    if command not in headlines:
+        raise Wrong(f"no headline of {command}; there are {', '.join(sorted(headlines))}")
+    return [headlines[command]]
+
+
+def main(words):
+    wanted = asked(words)
+    try:
+        sources = Sources(TOP)
+        roots = roots_of(sources, wanted)
+        parts = parts_of(sources, roots, set(wanted.stop or (() if wanted.root else LATER)))
+        if wanted.page:
+            title = "What is claimed: " + ", ".join(it.name for it in roots)
+            make = as_html if wanted.page.endswith(".html") else as_markdown
+            said = [it for root in roots for it in said_by(sources, root)]
+            pathlib.Path(wanted.page).write_text(make(title, parts, said), encoding="utf-8")
+    except Wrong as wrong:
+        print(f"claim.py: {wrong}", file=sys.stderr)
+        return 5
+    except OSError as fault:
+        print(f"claim.py: {fault.filename}: {fault.strerror}", file=sys.stderr)
+        return 2
+    print_counts(parts)
+    return 0
+
+
+if __name__ == "__main__":
+    sys.exit(main(sys.argv[1:]))

@@ -1,0 +1,165 @@
+"""Tests of tools/claim.py. At the top of the repository:
+
+    python3 -m unittest discover -s tools/tests
+"""
+import contextlib
+import io
+import pathlib
+import sys
+import tempfile
+import unittest
+
+sys.path.insert(0, str(pathlib.Path(__file__).resolve().parents[1]))
+import claim  # noqa: E402 (the script is beside the tests' folder)
+
+SMALL = """-- What is tried here.
+use Rattle.std.specs.Prelude.{◌+◌, ℕ}
+use Rattle.b.specs.Lower.{twice}
+use Rattle.b.specs.declared.kinds.Kind.{Kind}
+
+-- a statement
+pub record Top (n : ℕ) : Type 0 where
+  pub kind : Kind
+  pub four : IsFour n
+
+-- it is four
+abbrev pub IsFour : ℕ → Type 0
+IsFour n = n ≡ twice 2
+
+-- it is in no statement
+abbrev pub unused : ℕ → ℕ
+unused n = n + 1
+"""
+LOWER = """use Rattle.std.specs.Prelude.{◌+◌, ℕ}
+
+-- two times n; the local name `unused` is no definition
+abbrev pub twice : ℕ → ℕ
+twice unused = unused + unused
+"""
+KINDS = """/// A kind.
+#[derive(Clone)]
+pub enum Kind {
+    One {
+        place: u32,
+        size: u8,
+    },
+    Two,
+}
+
+impl Model for Kind {
+    ghost Value = Kind
+}
+"""
+
+
+def written(top, path, text):
+    (top / path).parent.mkdir(parents=True, exist_ok=True)
+    (top / path).write_text(text, encoding="utf-8")
+
+
+def run(*words):
+    """The status, and what was printed on both outputs."""
+    out, err = io.StringIO(), io.StringIO()
+    with contextlib.redirect_stdout(out), contextlib.redirect_stderr(err):
+        try:
+            status = claim.main(list(words))
+        except SystemExit as end:
+            status = end.code
+    return status, out.getvalue(), err.getvalue()
+
+
+class SmallSources(unittest.TestCase):
+    def setUp(self):
+        folder = tempfile.TemporaryDirectory()
+        self.addCleanup(folder.cleanup)
+        self.top = pathlib.Path(folder.name)
+        written(self.top, "crates/a/specs/Small.antt", SMALL)
+        written(self.top, "crates/b/specs/Lower.antt", LOWER)
+        written(self.top, "crates/b/src/kinds.rt", KINDS)
+        self.sources = claim.Sources(self.top)
+
+    def part(self, stops=()):
+        return claim.Part(self.sources, [self.sources.root("a.specs.Small.Top")], set(stops))
+
+    def test_users_come_first(self):
+        self.assertEqual([it.name for it in self.part().items], ["Top", "Kind", "IsFour", "twice"])
+
+    def test_the_kit_is_counted(self):
+        self.assertIn("std.specs.Prelude.◌+◌", self.part().kit)
+
+    def test_a_stop_is_not_followed(self):
+        part = self.part(["IsFour"])
+        self.assertEqual([it.name for it in part.items], ["Top", "Kind"])
+        self.assertEqual([it.name for it in part.stopped], ["IsFour"])
+
+    def test_a_comment_stands_above(self):
+        self.assertEqual(self.part().items[0].comment, ["-- a statement"])
+
+    def test_a_type_is_shown_short(self):
+        kind = self.part().items[1]
+        self.assertEqual(kind.text[1], "    One { place: u32, size: u8 },")
+        self.assertEqual(kind.text[-1], "    ghost Value = Kind")
+
+    def test_an_unknown_root(self):
+        with self.assertRaises(claim.Wrong):
+            self.sources.root("a.specs.Small.Nothing")
+
+
+class Repository(unittest.TestCase):
+    @classmethod
+    def setUpClass(cls):
+        cls.sources = claim.Sources(claim.TOP)
+        root = cls.sources.headlines()["check"]
+        cls.parts = claim.parts_of(cls.sources, [root], set(claim.LATER))
+
+    def test_all_below_safe_is_in_the_first_part(self):
+        shown = {it.key for it in self.parts[0][1].items}
+        for name in ("Safe.Safe", "Safe.Starts", "Safe.Fits", "Safe.AllFit", "Stepping.step"):
+            self.assertIn(f"tc_machine.specs.{name}", shown)
+        below = claim.Part(self.sources, [self.sources.root("tc_machine.specs.Safe.Safe")], set())
+        self.assertGreater(len(below.items), 150)
+        self.assertLessEqual({it.key for it in below.items}, shown)
+
+    def test_both_parts_are_all(self):
+        root = self.sources.headlines()["check"]
+        whole = claim.Part(self.sources, [root], set())
+        apart = [it.key for _, part in self.parts for it in part.items]
+        self.assertEqual(sorted(apart), sorted(it.key for it in whole.items))
+
+    def test_each_row_is_beside_its_meaning(self):
+        part = self.parts[0][1]
+        self.assertEqual(len(part.rows), 142)
+        shown = "\n".join(part.rows)
+        self.assertIn("movh.a    Ac, uk             Rlc 0x91 0x00", shown)
+
+    def test_a_done_means_at_most_1200_lines(self):
+        self.assertLessEqual(self.parts[0][1].lines, 1200)
+
+    def test_pages(self):
+        with tempfile.TemporaryDirectory() as folder:
+            for end, begin in (("md", "# What is claimed: Headline"), ("html", "<!doctype html>")):
+                page = pathlib.Path(folder) / f"claim.{end}"
+                status, out, _ = run("check", "--page", str(page))
+                self.assertEqual(status, 0)
+                self.assertIn("what a done means: ", out)
+                text = page.read_text(encoding="utf-8")
+                self.assertTrue(text.startswith(begin))
+                self.assertIn("Said by ", text)
+
+    def test_statuses(self):
+        for status, words in (
+            (0, ["tasks"]),
+            (2, ["--page", "/nowhere/claim.md"]),
+            (5, ["nothing"]),
+            (5, ["--nothing"]),
+            (5, ["check", "--root", "tc_machine.specs.Safe.Safe"]),
+            (5, ["--root", "tc_machine.specs.Safe.Nothing"]),
+        ):
+            with self.subTest(words=words):
+                found, _, err = run(*words)
+                self.assertEqual(found, status)
+                self.assertEqual(err.count("\n"), 0 if status == 0 else 1)
+
+
+if __name__ == "__main__":
+    unittest.main()
