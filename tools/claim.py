@@ -6,7 +6,8 @@
     tools/claim.py cert --page claim.md         a page for `cert`, in Markdown
     tools/claim.py --root tc_machine.specs.Safe.Safe        what one definition rests on
 
-The statement of a command is a record `HeadlineOf..` of crates/tcd_driver/specs/Headlines.antt.
+The statement of a command is a record `HeadlineOf..` of crates/tcd_driver/specs/Headlines.antt,
+or of a file of the folder of that name.
 The page shows the definitions below it, each once, with its file and line and the comment above
 it. A definition comes before those that it uses. The page has two parts:
 
@@ -35,7 +36,8 @@ TOP = pathlib.Path(__file__).resolve().parent.parent
 HEADLINES = "tcd_driver.specs.Headlines"
 #: What part 2 begins with: which certificates are accepted, and which files are taken.
 LATER = (
-    "IsAcceptedWith", "CertData", "certificate_of", "bytes_of", "IsLeastOfItsVersion", "KeepsCells",
+    "Accepts", "IsAcceptedWith", "IsAcceptedForTask", "IsLeastOfItsVersion", "EachIsRefused",
+    "KeepsCells", "KeepsApart", "CertData", "certificate_of", "bytes_of",
     "refusal_of", "ImageErr", "PlanErr",
 )
 #: Two lists of one table, which are shown row by row beside each other.
@@ -206,9 +208,12 @@ class Sources:
         if HEADLINES not in self.modules:
             path = "crates/" + HEADLINES.replace(".", "/") + ".antt"
             raise FileNotFoundError(2, "no such file", path)
-        items = self.modules[HEADLINES].items
-        begin = "HeadlineOf"
-        return {it[len(begin):].lower(): items[it] for it in items if it.startswith(begin)}
+        found, begin = {}, "HeadlineOf"
+        for module in self.modules.values():
+            if module.name == HEADLINES or module.name.startswith(HEADLINES + "."):
+                for name in filter(lambda it: it.startswith(begin), module.items):
+                    found[name[len(begin):].lower()] = module.items[name]
+        return found
 
     def resolve(self, item, token, is_left=False):
         """What a token of a definition means; None if it is a name of the definition's own."""
@@ -419,12 +424,15 @@ def source_of(item):
 
 
 def said_by(sources, root):
-    """Where a record is said of its command: the definitions of its file that name it."""
-    if root.module not in sources.modules:
-        return []
-    word = re.compile(rf"\b{root.name}\b")
-    items = sources.modules[root.module].items.values()
-    return [it for it in items if it is not root and word.search("\n".join(it.text))]
+    """The definitions of the root's crate that say a record of its command."""
+    crate, word = root.module.split(".")[0], re.compile(rf"\b{root.name}\b")
+    return [
+        item
+        for module in sources.modules.values()
+        for item in module.items.values()
+        if module.name.startswith(crate + ".") and item is not root
+        and word.search("\n".join(item.text)) and sources.resolve(item, root.name) is root
+    ]
 
 
 def as_markdown(title, parts, said):
