@@ -521,7 +521,7 @@ def asked(words):
     add = parser.add_argument
     add("command", nargs="?", help="a command of tcd; `check` if none is given")
     add("--root", action="append", default=[], metavar="NAME", help="a module and a name in it")
-    add("--stop", action="append", default=[], metavar="NAME", help="part 1 stops here, not at its own list")
+    add("--stop", action="append", default=[], metavar="NAME", help="part 1 stops here instead")
     add("--page", metavar="FILE", help="where the page goes: .html, else Markdown")
     return parser.parse_args(words)
 
