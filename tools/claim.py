@@ -90,6 +90,8 @@ class Module:
     def __init__(self, name, path):
         self.name, self.path = name, path
         self.items, self.scope, self.aliases, self.constructors = {}, {}, {}, {}
+        #: names that other modules may take from here, though they are defined elsewhere
+        self.exported = {}
         self.comment, self.current = [], None
         for number, line in enumerate(path.read_text(encoding="utf-8").split("\n"), 1):
             self.read_line(number, line)
@@ -99,7 +101,7 @@ class Module:
 
     def read_line(self, number, line):
         """Adds one line to what was read so far."""
-        if line.startswith("use "):
+        if line.startswith(("use ", "pub use ")):
             self.read_use(line)
         elif line.startswith("--"):
             self.comment = [] if line.startswith("-- ----") else self.comment + [line]
@@ -114,11 +116,13 @@ class Module:
 
     def read_use(self, line):
         self.comment, self.current = [], None
-        found = USE.match(line)
+        found = USE.match(line.removeprefix("pub "))
         if found and found[2] is not None:
             for part in filter(None, map(str.strip, found[2].split(","))):
                 name, _, other = part.partition(" as ")
                 self.scope[(other or name).strip()] = (found[1], name.strip())
+                if line.startswith("pub "):
+                    self.exported[(other or name).strip()] = (found[1], name.strip())
         elif found and found[3]:
             self.aliases[found[3]] = found[1]
 
@@ -190,6 +194,8 @@ class Sources:
             return self.type_named(parts[0], kind) or f"{path}.{name}"
         if path in self.modules:
             at = self.modules[path]
+            if name in at.exported:
+                return self.find(*at.exported[name])
             return at.items.get(name) or at.constructors.get(name) or f"{path}.{name}"
         if ".".join(parts[:-1]) in self.modules:
             return self.find(".".join(parts[:-1]), parts[-1])
@@ -236,7 +242,9 @@ class Sources:
 
     def operators(self, item, text):
         """What the operators of a line mean."""
-        for name, place in self.modules[item.module].scope.items():
+        at = self.modules[item.module]
+        places = {name: (item.module, name) for name in at.items} | at.scope
+        for name, place in places.items():
             symbol = OPERATOR.fullmatch(name)
             if symbol and f" {symbol[1]} " in f" {text} ":
                 yield self.find(*place)

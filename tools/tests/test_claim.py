@@ -14,8 +14,7 @@ import claim  # noqa: E402 (the script is beside the tests' folder)
 
 SMALL = """-- What is tried here.
 use Rattle.std.specs.Prelude.{◌+◌, ℕ}
-use Rattle.b.specs.Lower.{twice}
-use Rattle.b.specs.declared.kinds.Kind.{Kind}
+use Rattle.b.specs.Lower.{twice, Kind}
 
 -- a statement
 pub record Top (n : ℕ) : Type 0 where
@@ -31,6 +30,7 @@ abbrev pub unused : ℕ → ℕ
 unused n = n + 1
 """
 LOWER = """use Rattle.std.specs.Prelude.{◌+◌, ℕ}
+pub use Rattle.b.specs.declared.kinds.Kind.{Kind}
 
 -- two times n; the local name `unused` is no definition
 abbrev pub twice : ℕ → ℕ
@@ -83,6 +83,9 @@ class SmallSources(unittest.TestCase):
 
     def test_users_come_first(self):
         self.assertEqual([it.name for it in self.part().items], ["Top", "Kind", "IsFour", "twice"])
+
+    def test_a_name_that_is_handed_on_is_found(self):
+        self.assertEqual(self.part().items[1].kind, "type")
 
     def test_the_kit_is_counted(self):
         self.assertIn("std.specs.Prelude.◌+◌", self.part().kit)
