@@ -53,8 +53,7 @@ pub(crate) fn judged(image: &Image, plan: &Plan, cert: &AnyCert<'_>) -> Verdict
     let mut scratch = Scratch {
         room: Room {
             change: no_change(),
-            even: Kept::none(),
-            odd: Kept::none(),
+            pairs: [Kept::none(), Kept::none(), Kept::none(), Kept::none()],
             codes: KnownCodes::new(),
         },
         asks: Asks::none(),

@@ -39,13 +39,15 @@ pub(crate) struct Kept {
     pub(crate) change: Change,
 }
 
-/// What the points of a check take over from those before: room for a change, two operations that are kept, of which one
-/// wrote a register of an even number and one a register of an odd number, and what is known of words of code.
+/// So many operations are kept, each at the place of the number of the register that it writes, modulo this.
+pub(crate) const PLACES: usize = 4;
+
+/// What the points of a check take over from those before: room for a change, operations on two sets that are kept, and what
+/// is known of words of code.
 #[derive(Drop)]
 pub(crate) struct Room {
     pub(crate) change: Change,
-    pub(crate) even: Kept,
-    pub(crate) odd: Kept,
+    pub(crate) pairs: [Kept; PLACES],
     pub(crate) codes: KnownCodes,
 }
 

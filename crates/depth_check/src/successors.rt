@@ -16,7 +16,7 @@ ghost use Rattle.depth_check.specs.Points.{IsAt, Breaks};
 
 use crate::covering::{has_changed_next, has_kept_next, has_next, has_points};
 use crate::duties::{least, unless};
-use crate::kept::{Kept, Pair, Room, change_kept, pair_of};
+use crate::kept::{Kept, PLACES, Pair, Room, change_kept, pair_of};
 use crate::point_at::At;
 use cfg_recover::{Located, direct_target, step_change, targets};
 use tc_isa::{Shape, Target};
@@ -189,11 +189,8 @@ fn broken_by_next(at: &At<'_, '_>, found: &Located, room: &mut Room) -> Option<u
     let s = at.point.state;
     match pair_of(found.shape, s) {
         Some(pair) => {
-            if pair.dst % 2 == 0 {
-                broken_by_pair(at, found, pair, &mut room.even)
-            } else {
-                broken_by_pair(at, found, pair, &mut room.odd)
-            }
+            let place = pair.dst as usize % PLACES;
+            broken_by_pair(at, found, pair, &mut room.pairs[place])
         }
         None => broken_by_step(at, found, &mut room.change),
     }
