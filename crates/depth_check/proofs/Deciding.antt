@@ -39,6 +39,14 @@ pub same_word : (o : Option ℕ) (x : ℕ) (b : Bool) → b ≡ option_eq eqb o 
 same_word None x b e t = absurd (let f : false ≡ true = sym e ∙ t in cc)
 same_word (Some y) x b e t = ap (λ (n : ℕ). Some n) (eqb-true y x (sym e ∙ t))
 
+no_other : (b : Bool) → not b ≡ false → b ≡ true
+no_other true e = refl
+no_other false e = absurd (let t : true ≡ false = e in cc)
+
+-- or not told to be another
+pub not_another : (o : Option ℕ) (x : ℕ) (b : Bool) → b ≡ not (option_eq eqb o (Some x)) → b ≡ false → o ≡ Some x
+not_another o x b e f = same_word o x (option_eq eqb o (Some x)) refl (no_other (option_eq eqb o (Some x)) (sym e ∙ f))
+
 pub is_nothing : (o : Option ℕ) (b : Bool) → is_some o ≡ not b → b ≡ true → o ≡ None
 is_nothing None b e t = refl
 is_nothing (Some x) b e t = absurd (let f : true ≡ false = e ∙ ap not t in cc)

@@ -15,6 +15,7 @@ use Rattle.depth_cert.specs.Nodes.{NodeData}
 use Rattle.depth_cert.proofs.FindLaws.{non_decreasing, found}
 use Rattle.cfg_recover.specs.Accepting.{HasPoint}
 use Rattle.packed_cert.specs.Walks.{WalkData, RepeatsAt, KeepsOthers}
+use Rattle.depth_check.specs.Finding.{StandsAt}
 use Rattle.depth_check.specs.Points.{LooksAhead}
 use Rattle.depth_check.proofs.WalkLaws.{stands_behind, split_more}
 
@@ -44,14 +45,23 @@ find_at f xs i d rising lt =
     )
     (eq-eqb _ _ refl)
 
--- ---- the next point covers what its own state covers
-next_covers : (node : NodeData) (done left rest : List Point) (p q : Point) (t : State) → ArePoints node.points → node.points ≡ done ++ (p ∷ left) → left ≡ q ∷ rest → Covers q.state t → HasPoint node q.addr t
-next_covers node done left rest p q t rising split next covers =
+-- ---- the next point stands at its address
+next_stands : (node : NodeData) (done left rest : List Point) (p q : Point) → ArePoints node.points → node.points ≡ done ++ (p ∷ left) → left ≡ q ∷ rest → find_point q.addr node.points ≡ Some q
+next_stands node done left rest p q rising split next =
     let more : node.points ≡ (done ++ p ∷ []) ++ (q ∷ rest) = split_more node.points done (p ∷ left) left p split refl ∙ ap (λ (l : List Point). (done ++ p ∷ []) ++ l) next in
     let b = stands_behind node.points (done ++ p ∷ []) rest q more in
     let one = find_at (λ (z : Point). z.addr) node.points (length (done ++ p ∷ [])) q rising b.within in
-    let is : find_point q.addr node.points ≡ Some q = subst (λ (z : Point). find_point z.addr node.points ≡ Some z) (sym b.here) one in
-    subst (λ (o : Option Point). IsSomeAnd o (λ z. Covers z.state t)) (sym is) covers
+    subst (λ (z : Point). find_point z.addr node.points ≡ Some z) (sym b.here) one
+
+-- and covers what its own state covers
+stands_covers : (points : List Point) (q : Point) (t : State) → find_point q.addr points ≡ Some q → Covers q.state t → IsSomeAnd (find_point q.addr points) (λ z. Covers z.state t)
+stands_covers points q t is covers = subst (λ (o : Option Point). IsSomeAnd o (λ z. Covers z.state t)) (sym is) covers
+
+pub same_covers : (node : NodeData) (a : ℕ) (s : State) → StandsAt node a s → HasPoint node a s
+same_covers node a s is = stands_covers node.points (record { addr = a; state = s }) s is (covers_same s)
+
+pub known_covers : (node : NodeData) (known : Option ℕ) (a : ℕ) (s : State) → known ≡ Some a → IfSome known (λ x. StandsAt node x s) → HasPoint node a s
+known_covers node known a s e h = same_covers node a s (subst (λ (o : Option ℕ). IfSome o (λ x. StandsAt node x s)) e h)
 
 -- so a walk looks ahead
 pub looks_ahead : (node : NodeData) (done before : List Point) (w : WalkData) (p : Point) (s : State) → ArePoints node.points → node.points ≡ done ++ before → before ≡ p ∷ w.left → s ≡ w.current → LooksAhead node s w
@@ -59,15 +69,15 @@ looks_ahead node done before w p s rising split step same = record {
   current = sym same;
   ahead = λ a t h.
       let q : Point = record { addr = a; state = h.0 } in
-      next_covers node done w.left (drop 1 w.left) p q t rising (split ∙ ap (λ (l : List Point). done ++ l) step) h.1 h.2;
+      stands_covers node.points q t (next_stands node done w.left (drop 1 w.left) p q rising (split ∙ ap (λ (l : List Point). done ++ l) step) h.1) h.2;
 }
 
-pub repeats_covers : (node : NodeData) (done before : List Point) (w : WalkData) (p : Point) (r : Option ℕ) (s : State) → ArePoints node.points → node.points ≡ done ++ before → before ≡ p ∷ w.left → s ≡ w.current → IfSome r (RepeatsAt w)
-    → IfSome r (λ a. HasPoint node a s)
-repeats_covers node done before w p None s rising split step same h = tt
-repeats_covers node done before w p (Some a) s rising split step same h =
+pub repeats_stand : (node : NodeData) (done before : List Point) (w : WalkData) (p : Point) (r : Option ℕ) (s : State) → ArePoints node.points → node.points ≡ done ++ before → before ≡ p ∷ w.left → s ≡ w.current → IfSome r (RepeatsAt w)
+    → IfSome r (λ a. StandsAt node a s)
+repeats_stand node done before w p None s rising split step same h = tt
+repeats_stand node done before w p (Some a) s rising split step same h =
     let q : Point = record { addr = a; state = w.current } in
-    subst (λ (t : State). HasPoint node a t) (sym same) (next_covers node done w.left (drop 1 w.left) p q q.state rising (split ∙ ap (λ (l : List Point). done ++ l) step) h (covers_same q.state))
+    subst (λ (t : State). StandsAt node a t) (sym same) (next_stands node done w.left (drop 1 w.left) p q rising (split ∙ ap (λ (l : List Point). done ++ l) step) h)
 
 -- ---- values that are known
 pub known_values : (b : Limits) (before : State) (w : WalkData) → KeepsOthers before w → AreValues b before.regs → AreValues b w.anew → AreValues b (w.current).regs

@@ -6,6 +6,7 @@ use Rattle.tcd_plan.specs.PlanData.{PlanData}
 use Rattle.value_domain.specs.declared.states.State.{State}
 use Rattle.value_domain.specs.State.{AreWell}
 use Rattle.depth_cert.specs.declared.points.Point.{Point}
+use Rattle.depth_cert.specs.Points.{find_point}
 use Rattle.depth_cert.specs.Nodes.{NodeData}
 use Rattle.depth_cert.specs.Certs.{CertData}
 use Rattle.cfg_recover.specs.declared.flows.Leave.{Leave}
@@ -47,6 +48,10 @@ unless holds rule = if holds then None else Some rule
 pub record DutyHolds (cert : CertData) (node : NodeData) (s : State) (q : ℕ) (d : Owed) : Type 0 where
   pub met : d.rule ≡ q → IsMet cert node s d.duty
   pub need : q ≡ 14 → IsNeedAbove cert node s d.duty
+
+-- the node has a point at this address, with this state
+abbrev pub StandsAt : NodeData → ℕ → State → Type 0
+StandsAt node a s = find_point a node.points ≡ Some (record { addr = a; state = s })
 
 -- what rule q asks of each of these duties
 abbrev pub DutiesHold : CertData → NodeData → State → List Owed → ℕ → Type 0

@@ -1,5 +1,6 @@
 pub mod AnswerLaws
 pub mod Asking
+pub mod Calling
 pub mod Finding
 pub mod FirstFaults
 pub mod Forms

@@ -7,7 +7,7 @@ use Rattle.packed_cert.specs.Walks.{WalkData, CoversNext}
 use Rattle.cfg_recover.specs.Duties.{Owed}
 use Rattle.cfg_recover.specs.Accepting.{limits_in, HasPoint}
 use Rattle.depth_check.specs.declared.point_at.At.{At}
-use Rattle.depth_check.specs.Finding.{IsWellNode, Finds, DutiesHold}
+use Rattle.depth_check.specs.Finding.{IsWellNode, StandsAt, Finds, DutiesHold}
 use Rattle.depth_check.specs.Asking.{InterruptsHold}
 
 -- a walk has this state at hand, and where its next point covers a state, the node does there
@@ -16,7 +16,7 @@ pub record LooksAhead (node : NodeData) (s : State) (w : WalkData) : Type 0 wher
   pub ahead : (addr : ℕ) (t : State) → CoversNext w addr t → HasPoint node addr t
 
 -- the limits are the certificate's, all its values are well-formed, those of the point are the plan's, and what is said of the
--- point is so: what its interrupts ask for was found to hold, at the next address the node covers its state, and the walk
+-- point is so: what its interrupts ask for was found to hold, at the next address the node has its state, too, and the walk
 -- stands there
 pub record IsAt (at : At) : Type 0 where
   pub limits : at.bounds.now ≡ limits_in at.plan.now at.cert.now
@@ -24,7 +24,7 @@ pub record IsAt (at : At) : Type 0 where
   pub node : IsWellNode at.node.now
   pub values : AreValues at.bounds.now (at.point.state.now).regs
   pub again : IsTrue at.point.again → InterruptsHold at.plan.now at.cert.now at.node.now at.point.state.now
-  pub next : IfSome at.point.next (λ a. HasPoint at.node.now a at.point.state.now)
+  pub next : IfSome at.point.next (λ a. StandsAt at.node.now a at.point.state.now)
   pub walk : IfSome at.point.walk (λ w. LooksAhead at.node.now at.point.state.now w.now)
 
 -- the least rule that these duties of the point break

@@ -55,6 +55,7 @@ pub(crate) fn judged(image: &Image, plan: &Plan, cert: &AnyCert<'_>) -> Verdict
             change: no_change(),
             pairs: [Kept::none(), Kept::none(), Kept::none(), Kept::none()],
             codes: KnownCodes::new(),
+            called: None,
         },
         asks: Asks::none(),
         walk: PointWalk::none(),

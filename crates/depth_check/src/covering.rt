@@ -4,7 +4,7 @@ ghost use Rattle.value_domain.specs.State.{AreWell, AreBelow, AreValues};
 ghost use Rattle.vd_transfer.specs.Changes.{state_after};
 ghost use Rattle.depth_cert.specs.Exits.{after_of, exit_of, lower_values, ExitCovers};
 ghost use Rattle.cfg_recover.specs.Accepting.{HasPoint};
-ghost use Rattle.depth_check.specs.Finding.{IsWellNode, HasPoints, HasExit};
+ghost use Rattle.depth_check.specs.Finding.{IsWellNode, StandsAt, HasPoints, HasExit};
 ghost use Rattle.depth_check.specs.Points.{IsAt};
 
 use crate::forms::{Frame, NodeForm};
@@ -98,11 +98,11 @@ pub(crate) fn has_point(node: &Frame<'_>, addr: u32, s: &State) -> bool
     }
 }
 
-/// Whether the node has a point at this address that covers the state; it has one at the address that is known.
+/// Whether the node has a point at this address that covers the state; at the address that is known it has one with the state.
 pub(crate) fn has_next(node: &Frame<'_>, addr: u32, s: &State, known: Option<u32>) -> bool
     requires node { IsWellNode node.now }
     requires state { AreWell s.now.regs }
-    requires known { IfSome known (λ a. HasPoint node.now a s.now) }
+    requires known { IfSome known (λ a. StandsAt node.now a s.now) }
     ensures { IsTrue result ↔ HasPoint node.now addr s.now }
 {
     if known == Some(addr) {

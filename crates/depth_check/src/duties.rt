@@ -12,6 +12,7 @@ ghost use Rattle.cfg_recover.specs.Local.{targets_of};
 ghost use Rattle.cfg_recover.specs.Duties.{owed, enter, entered_and_back, entries_of, misaligned_at, misaligned_of, irqs_of, interrupts_of, duties_of};
 ghost use Rattle.cfg_recover.specs.Flows as flows;
 ghost use Rattle.cfg_recover.specs.Flows.{told_back, told_irqs};
+ghost use Rattle.depth_check.specs.Calling.{IsCalled};
 ghost use Rattle.depth_check.specs.Finding.{IsWellNode, Finds, GoesOn, LeavingHolds};
 ghost use Rattle.depth_check.specs.Finding as finding;
 ghost use Rattle.depth_check.specs.Keeping.{AreKept};
@@ -148,6 +149,41 @@ fn broken_by_listed_calls(at: &At<'_, '_>, entry: &Change, to: Target, back: u32
     broken_by_calls(at, entry, targets.as_slice(), back)
 }
 
+/// The same. Calls by the register that is kept aren't asked for again, where the point that they come back to has the state at
+/// hand, too; where calls by another one hold, that one is kept.
+fn broken_by_call_kept(
+    at: &At<'_, '_>,
+    to: Target,
+    back: u32,
+    called: &mut Option<u8>,
+) -> Option<u8>
+    requires point { IsAt at.now }
+    requires target { IsTarget to }
+    requires called { IsCalled at.now called.old }
+    ensures found { Breaks at.now
+        (flat_map (λ t. entered_and_back 5 (call_key at.now.node.now.key t)
+        (entries.call_entry at.now.point.state.now) back)
+        (unwrap_or (targets_of at.now.plan.now at.now.point.state.now at.now.point.addr to) []))
+        result }
+    ensures called { IsCalled at.now called.new }
+{
+    let Target::Reg(r) = to else {
+        return broken_by_call(at, to, back);
+    };
+    let call = Target::Reg(r);
+    if at.point.next != Some(back) {
+        return broken_by_call(at, call, back);
+    }
+    if *called == Some(r) {
+        return None;
+    }
+    let found = broken_by_call(at, call, back);
+    if found.is_none() {
+        *called = Some(r);
+    }
+    found
+}
+
 /// The least rule broken by the system call `tin`.
 #[inline(never)]
 fn broken_by_system(at: &At<'_, '_>, tin: u8, back: u32) -> Option<u8>
@@ -164,16 +200,23 @@ fn broken_by_system(at: &At<'_, '_>, tin: u8, back: u32) -> Option<u8>
 }
 
 /// The least rule broken by the entries of a call or a system call.
-fn broken_by_entries(at: &At<'_, '_>, shape: Shape, size: u32) -> Option<u8>
+fn broken_by_entries(
+    at: &At<'_, '_>,
+    shape: Shape,
+    size: u32,
+    called: &mut Option<u8>,
+) -> Option<u8>
     requires point { IsAt at.now }
     requires shape { IsShape shape }
-    ensures { Breaks at.now
+    requires called { IsCalled at.now called.old }
+    ensures found { Breaks at.now
         (entries_of at.now.plan.now at.now.node.now.key at.now.point.addr at.now.point.state.now
         shape size) result }
+    ensures called { IsCalled at.now called.new }
 {
     let back = at.point.addr.wrapping_add(size);
     match shape {
-        Shape::Call { to } => broken_by_call(at, to, back),
+        Shape::Call { to } => broken_by_call_kept(at, to, back, called),
         Shape::Syscall { tin } => broken_by_system(at, tin, back),
         _ => None,
     }
@@ -311,13 +354,15 @@ pub(crate) fn broken_by_duties(at: &At<'_, '_>, found: &Located, room: &mut Room
     requires found { StandsFaultless at.now.bounds.now at.now.image.now at.now.plan.now
         at.now.node.now.key at.now.point.addr at.now.point.state.now found.now }
     requires kept { AreKept at.now.bounds.now room.old }
+    requires called { IsCalled at.now room.old.called }
     ensures found { Breaks at.now
         (duties_of at.now.bounds.now at.now.image.now at.now.plan.now at.now.node.now.key
         at.now.point.addr at.now.point.state.now found.now.shape found.now.size) result }
     ensures kept { AreKept at.now.bounds.now room.new }
+    ensures called { IsCalled at.now room.new.called }
 {
     let jumps = broken_by_successors(at, found, room);
-    let entered = broken_by_entries(at, found.shape, found.size);
+    let entered = broken_by_entries(at, found.shape, found.size, &mut room.called);
     let misaligned = broken_by_access(at, found);
     let irqs = broken_by_interrupts(at);
     let leave = broken_by_leaving(at.node, at.point.state, found.shape);

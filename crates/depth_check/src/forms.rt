@@ -8,7 +8,7 @@ use value_domain::State;
 
 /// The point at hand: its node and its address, the state before its instruction, whether the entries of interrupts hold there
 /// by what was asked for already, whether its values are known to be the plan's, an address at which the node is known to have
-/// a point that covers the state, and the walk over the node's points that stands there, if there is one.
+/// a point with the same state, and the walk over the node's points that stands there, if there is one.
 #[derive(Clone, Copy)]
 pub(crate) struct Here<'a, 'b> {
     pub(crate) node: &'a Frame<'a>,

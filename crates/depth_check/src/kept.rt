@@ -42,13 +42,14 @@ pub(crate) struct Kept {
 /// So many operations are kept, each at the place of the number of the register that it writes, modulo this.
 pub(crate) const PLACES: usize = 4;
 
-/// What the points of a check take over from those before: room for a change, operations on two sets that are kept, and what
-/// is known of words of code.
+/// What the points of a check take over from those before: room for a change, operations on two sets that are kept, what is
+/// known of words of code, and a register by which calls hold in the state at hand, if one is known.
 #[derive(Drop)]
 pub(crate) struct Room {
     pub(crate) change: Change,
     pub(crate) pairs: [Kept; PLACES],
     pub(crate) codes: KnownCodes,
+    pub(crate) called: Option<u8>,
 }
 
 /// A change that puts nothing: room for others.

@@ -114,6 +114,7 @@ fn plain_fault<'a>(
     let good = plain_holds_at_entry(b, node);
     let frame = Frame::plain(&*node);
     for point in &node.points {
+        room.called = None;
         let here = Here {
             node: &frame,
             addr: point.addr,
@@ -198,7 +199,7 @@ fn held_stack(
 
 /// The same of a node on bytes: behind each point the next one is tried first, the entries of interrupts are asked for where
 /// more is asked than was asked for already, only values that differ from those there are asked for, and where the next point
-/// has the same state it covers the one at hand.
+/// has the same state it covers the one at hand, and calls by the same register hold there, too.
 fn packed_fault<'a>(
     b: &Bounds,
     image: &Image,
@@ -220,6 +221,7 @@ fn packed_fault<'a>(
     let entry = node.key.entry;
     let good = packed_holds_at_entry(b, node);
     node.walk(&mut scratch.walk);
+    scratch.room.called = None;
     let mut next = 0usize;
     let mut known = false;
     while let Some(addr) = scratch.walk.step() {
@@ -243,6 +245,7 @@ fn packed_fault<'a>(
             return Some(fault);
         }
         known = true;
+        scratch.room.called = repeats.and(scratch.room.called);
         let s = scratch.walk.state();
         if is_worth_keeping(plan, s, again) {
             let sp = held_stack(b, image, plan, cert, &frame, &*scratch);

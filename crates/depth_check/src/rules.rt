@@ -3,12 +3,13 @@ ghost use Rattle.std.specs.Prelude.{◌≡◌, ◌↔◌, IsTrue, All, IfOk, IfE
 ghost use Rattle.elf_image.specs.Images.{image_byte};
 ghost use Rattle.value_domain.specs.State.{AreValues};
 ghost use Rattle.tc_isa.specs.declared.shapes.Shape.TheVariants.{Nothing};
-ghost use Rattle.cfg_recover.specs.Accepting.{limits_in, RuleHolds, HasPoint};
+ghost use Rattle.cfg_recover.specs.Accepting.{limits_in, RuleHolds};
 ghost use Rattle.cfg_recover.specs.Code.{IsCode};
 ghost use Rattle.cfg_recover.specs.Local.{IsLocalFault};
-ghost use Rattle.depth_check.specs.Finding.{IsWellNode, Finds, HasOwnNeed};
+ghost use Rattle.depth_check.specs.Finding.{IsWellNode, StandsAt, Finds, HasOwnNeed};
 ghost use Rattle.depth_check.specs.Forms.{point_here};
 ghost use Rattle.depth_check.specs.Asking.{InterruptsHold};
+ghost use Rattle.depth_check.specs.Calling.{CallsHold, IsCalled};
 ghost use Rattle.depth_check.specs.Keeping.{AreKept};
 ghost use Rattle.depth_check.specs.Passing.{PassesOn};
 ghost use Rattle.depth_check.specs.Points.{IsAt, LooksAhead};
@@ -60,9 +61,11 @@ fn has_values(b: &Bounds, point: Here<'_, '_>) -> bool
 fn broken_by_any(at: &At<'_, '_>, room: &mut Room) -> Option<u8>
     requires point { IsAt at.now }
     requires kept { AreKept at.now.bounds.now room.old }
+    requires called { IsCalled at.now room.old.called }
     ensures found { Finds (RuleHolds at.now.image.now at.now.plan.now at.now.cert.now
         at.now.node.now (point_here at.now.point)) result }
     ensures kept { AreKept at.now.bounds.now room.new }
+    ensures called { IsCalled at.now room.new.called }
 {
     let node = at.node;
     let s = at.point.state;
@@ -150,13 +153,17 @@ pub(crate) fn broken_by_point(
     requires again { IsTrue point.again
         → InterruptsHold plan.now cert.now point.node.now point.state.now }
     requires known { IsTrue point.known → AreValues b.now point.state.now.regs }
-    requires next { IfSome point.next (λ a. HasPoint point.node.now a point.state.now) }
+    requires next { IfSome point.next (λ a. StandsAt point.node.now a point.state.now) }
     requires walk { IfSome point.walk
         (λ w. LooksAhead point.node.now point.state.now w.now) }
     requires kept { AreKept b.now room.old }
+    requires called { IfSome room.old.called
+        (CallsHold plan.now cert.now point.node.now point.state.now) }
     ensures found { Finds (RuleHolds image.now plan.now cert.now point.entry.node.now
         (point_here point.entry)) result }
     ensures kept { AreKept b.now room.new }
+    ensures called { IfSome room.new.called
+        (CallsHold plan.now cert.now point.entry.node.now point.entry.state.now) }
 {
     if !has_values(b, point) {
         return Some(2);

@@ -182,6 +182,7 @@ fn broken_by_next(at: &At<'_, '_>, found: &Located, room: &mut Room) -> Option<u
         (next_of at.now.bounds.now at.now.image.now at.now.plan.now at.now.point.addr
         at.now.point.state.now found.now.shape found.now.size) result }
     ensures kept { AreKept at.now.bounds.now room.new }
+    ensures called { room.new.called ≡ room.old.called }
 {
     if keeps_state(found.shape) {
         return broken_by_pass(at, at.point.addr.wrapping_add(found.size));
@@ -206,6 +207,7 @@ pub(crate) fn broken_by_successors(at: &At<'_, '_>, found: &Located, room: &mut 
         (successors_of at.now.bounds.now at.now.image.now at.now.plan.now at.now.point.addr
         at.now.point.state.now found.now.shape found.now.size) result }
     ensures kept { AreKept at.now.bounds.now room.new }
+    ensures called { room.new.called ≡ room.old.called }
 {
     let addr = at.point.addr;
     let next = addr.wrapping_add(found.size);

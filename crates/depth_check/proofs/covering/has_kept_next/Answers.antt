@@ -1,16 +1,17 @@
-use Rattle.std.proofs.Common.{Option, ℕ, sym, subst}
-use Rattle.std.specs.Prelude.{IfSome, IsTrue, ◌↔◌}
+use Rattle.std.proofs.Common.{sym, subst}
+use Rattle.std.specs.Prelude.{IsTrue, ◌↔◌}
 use Rattle.value_domain.specs.declared.states.State.{State}
 use Rattle.value_domain.specs.State.{AreWell}
 use Rattle.cfg_recover.specs.Accepting.{HasPoint}
 use Rattle.depth_check.proofs.Deciding.{yes, same_word}
+use Rattle.depth_check.proofs.RepeatLaws.{known_covers}
 use Rattle.depth_check.proofs.RuleLaws.{values_well}
 use Rattle.depth_check.proofs.covering.has_kept_next.Goals as goal
 
 pub returns-then-eq : goal.returns-then-eq
 returns-then-eq c =
     let t = c.args.at.now in
-    yes _ (subst (λ (o : Option ℕ). IfSome o (λ a. HasPoint t.node.now a t.point.state.now)) (same_word t.point.next c.args.addr c.eq.result c.eq.ensures c.if-eq.true) c.requires.next)
+    yes _ (known_covers t.node.now t.point.next c.args.addr t.point.state.now (same_word t.point.next c.args.addr c.eq.result c.eq.ensures c.if-eq.true) c.requires.next)
 
 pub has_changed_next-requires-clause-changed : goal.has_changed_next-requires-clause-changed
 has_changed_next-requires-clause-changed c =

@@ -10,5 +10,5 @@ returns-clause-found c =
     rw (c.least-4.ensures, c.least-3.ensures, c.least-2.ensures, c.least.ensures)
     (parts_found c.args.at.now.bounds.now c.args.at.now.image.now c.args.at.now.plan.now c.args.at.now.cert.now c.args.at.now.node.now c.args.at.now.point.addr c.args.at.now.point.state.now c.args.found.now.shape c.args.found.now.size
     c.broken_by_successors-jumps.result c.broken_by_entries-entered.result c.broken_by_access-misaligned.result c.broken_by_interrupts-irqs.result c.broken_by_leaving-leave.result
-    c.broken_by_successors-jumps.ensures.found c.broken_by_entries-entered.ensures c.broken_by_access-misaligned.ensures c.broken_by_interrupts-irqs.ensures
+    c.broken_by_successors-jumps.ensures.found c.broken_by_entries-entered.ensures.found c.broken_by_access-misaligned.ensures c.broken_by_interrupts-irqs.ensures
     (shape_found c.args.at.now.cert.now c.args.at.now.node.now c.args.at.now.point.state.now c.args.found.now.shape c.broken_by_leaving-leave.result c.broken_by_leaving-leave.ensures))

@@ -15,8 +15,9 @@ use Rattle.depth_check.specs.Finding.{Finds, IsWellNode}
 use Rattle.depth_check.specs.NodeFaults.{IsNodeFault, first_of}
 use Rattle.depth_check.specs.Asking.{HoldsWith}
 use Rattle.depth_check.proofs.AskedLaws.{interrupts_at, stack_well, stacks_well}
+use Rattle.depth_check.proofs.CallLaws.{HoldsNext, next_holds, holds_next}
 use Rattle.depth_check.proofs.Deciding.{refuted}
-use Rattle.depth_check.proofs.RepeatLaws.{looks_ahead, repeats_covers, known_values}
+use Rattle.depth_check.proofs.RepeatLaws.{looks_ahead, repeats_stand, known_values}
 use Rattle.depth_check.proofs.NodeLaws.{fault_at, none_at, entry_alone}
 use Rattle.depth_check.proofs.WalkLaws.{stands_behind, split_more}
 use Rattle.depth_check.proofs.nodes.packed_fault.Goals as goal
@@ -74,7 +75,13 @@ pub broken_by_point-found-requires-clause-next : goal.broken_by_point-found-requ
 broken_by_point-found-requires-clause-next c =
     let p : Point = record { addr = c.in-Some.addr; state = c.step.new.self.current } in
     rw c.near-frame.ensures
-    (repeats_covers c.args.node.now c.loop-addr.invariant.done c.loop-addr.scratch.walk.left c.step.new.self p c.repeats_at-repeats.result c.state-s.result.now c.walk.ensures.rising c.loop-addr.invariant.split c.in-Some.ensures.0 c.state-s.ensures c.repeats_at-repeats.ensures)
+    (repeats_stand c.args.node.now c.loop-addr.invariant.done c.loop-addr.scratch.walk.left c.step.new.self p c.repeats_at-repeats.result c.state-s.result.now c.walk.ensures.rising c.loop-addr.invariant.split c.in-Some.ensures.0 c.state-s.ensures c.repeats_at-repeats.ensures)
+
+pub broken_by_point-found-requires-clause-called : goal.broken_by_point-found-requires-clause-called
+broken_by_point-found-requires-clause-called c =
+    let p : Point = record { addr = c.in-Some.addr; state = c.step.new.self.current } in
+    rw c.near-frame.ensures
+    (next_holds c.args.plan.now c.args.cert.now c.args.node.now c.loop-addr.scratch.walk.left c.step.new.self.left p c.state-s.result.now c.loop-addr.scratch.room.called c.loop-addr.invariant.called c.in-Some.ensures.0 c.state-s.ensures)
 
 pub broken_by_point-found-requires-clause-walk : goal.broken_by_point-found-requires-clause-walk
 broken_by_point-found-requires-clause-walk c =
@@ -93,6 +100,9 @@ loop-addr-preserved c =
     in
     let told = ap (λ (n : NodeData). first_of c.packed_holds_at_entry-good.result (n.key).entry c.in-Some.addr c.broken_by_point-found.result) (sym c.node.view_is) ∙ sym c.first_of.ensures ∙ c.in_default-first_of.is in
     let holds = none_at c.args.image.now c.args.plan.now c.args.cert.now c.args.node.now c.requires.member points refl c.walk.ensures.rising p c.packed_holds_at_entry-good.result c.broken_by_point-found.result told finds in
+    let called : HoldsNext c.args.plan.now c.args.cert.now c.args.node.now c.step.new.self.left c.and-scratch.result =
+    rw c.and-scratch.ensures
+    (holds_next c.args.plan.now c.args.cert.now c.args.node.now c.step.new.self c.state-s.result.now c.repeats_at-repeats.result c.broken_by_point-found.new.room.called c.state-s.ensures c.repeats_at-repeats.ensures (rw c.near-frame.ensures at c.broken_by_point-found.ensures.called)) in
     record {
       done = inv.done ++ p ∷ [];
       split = split_more points inv.done c.loop-addr.scratch.walk.left c.step.new.self.left p inv.split c.in-Some.ensures.0;
@@ -100,6 +110,7 @@ loop-addr-preserved c =
       known = λ t. (holds 2).values refl;
       asked = inv.asked;
       kept = c.broken_by_point-found.ensures.kept;
+      called = called;
     }
 
 pub held_stack-sp-requires-clause-node : goal.held_stack-sp-requires-clause-node
@@ -142,6 +153,9 @@ loop-addr-preserved-then-is_worth_keeping c =
     in
     let told = ap (λ (n : NodeData). first_of c.packed_holds_at_entry-good.result (n.key).entry c.in-Some.addr c.broken_by_point-found.result) (sym c.node.view_is) ∙ sym c.first_of.ensures ∙ c.in_default-first_of.is in
     let holds = none_at c.args.image.now c.args.plan.now c.args.cert.now c.args.node.now c.requires.member points refl c.walk.ensures.rising p c.packed_holds_at_entry-good.result c.broken_by_point-found.result told finds in
+    let called : HoldsNext c.args.plan.now c.args.cert.now c.args.node.now c.step.new.self.left c.and-scratch.result =
+    rw c.and-scratch.ensures
+    (holds_next c.args.plan.now c.args.cert.now c.args.node.now c.step.new.self c.state-s.result.now c.repeats_at-repeats.result c.broken_by_point-found.new.room.called c.state-s.ensures c.repeats_at-repeats.ensures (rw c.near-frame.ensures at c.broken_by_point-found.ensures.called)) in
     record {
       done = inv.done ++ p ∷ [];
       split = split_more points inv.done c.loop-addr.scratch.walk.left c.step.new.self.left p inv.split c.in-Some.ensures.0;
@@ -152,6 +166,7 @@ loop-addr-preserved-then-is_worth_keeping c =
           (subst (λ (l : Limits). IsValue l c.held_stack-sp.result) c.requires.limits c.held_stack-sp.ensures.value)
           (subst (λ (s : State). HoldsWith c.args.plan.now c.args.cert.now c.args.node.now s c.held_stack-sp.result) (sym c.state-t.ensures) (rw c.near-frame.ensures at c.held_stack-sp.ensures.holds));
       kept = c.broken_by_point-found.ensures.kept;
+      called = called;
     }
 
 pub returns-else-good-clause-fault : goal.returns-else-good-clause-fault

@@ -5,6 +5,7 @@ use Rattle.cfg_recover.specs.Accepting.{limits_in, RuleHolds}
 use Rattle.depth_cert.specs.declared.points.Point.{Point}
 use Rattle.depth_check.specs.Asking.{AreAsked}
 use Rattle.depth_check.specs.Keeping.{AreKept}
+use Rattle.depth_check.proofs.CallLaws.{HoldsNext}
 use Rattle.depth_check.proofs.nodes.packed_fault.Given as goal
 
 abbrev pub invariant-loop-addr : goal.invariant-loop-addr
@@ -15,6 +16,7 @@ invariant-loop-addr l = record {
   known : IsTrue l.known → AreValues (limits_in l.plan l.cert) ((l.scratch.walk).current).regs;
   asked : AreAsked l.plan l.cert l.scratch.asks;
   kept : AreKept l.b l.scratch.room;
+  called : HoldsNext l.plan l.cert l.node (l.scratch.walk).left (l.scratch.room).called;
 }
 
 abbrev pub decreases-loop-addr : goal.decreases-loop-addr
