@@ -1,4 +1,4 @@
--- Calls that hold in a state, where they come back to another point with that state.
+-- Calls and jumps by a register that hold in a state, where another point has that state.
 use Rattle.std.proofs.Common.{◌≡◌, ℕ, List, [], ◌∷◌, Option, Some, None, drop, ◌∙◌, sym, ap, subst}
 use Rattle.std.specs.Prelude.{IfSome, IsSomeAnd, unwrap_or}
 use Rattle.std.specs.List.{flat_map}
@@ -19,7 +19,8 @@ use Rattle.cfg_recover.specs.Entries.{call_key, call_entry}
 use Rattle.cfg_recover.specs.Local.{named_by}
 use Rattle.cfg_recover.specs.Duties.{Owed, owed, enter, resume, entered_and_back}
 use Rattle.packed_cert.specs.Walks.{WalkData, RepeatsAt}
-use Rattle.depth_check.specs.Calling.{calls_by, CallsHold}
+use Rattle.depth_check.specs.declared.kept.ByRegister.{ByRegister}
+use Rattle.depth_check.specs.Calling.{calls_by, CallsHold, HoldBy}
 use Rattle.depth_check.specs.Finding.{StandsAt, DutyHolds, DutiesHold}
 
 -- points with one state cover the same
@@ -69,20 +70,18 @@ kept_calls plan cert node s r called next back e f h there =
 
 -- ---- from point to point
 -- what is kept holds in the state of the next point
-abbrev pub HoldsNext : PlanData → CertData → NodeData → List Point → Option ℕ → Type 0
-HoldsNext plan cert node left called = IfSome called (λ r. (p : Point) (after : List Point) → left ≡ p ∷ after → CallsHold plan cert node p.state r)
+abbrev pub HoldsNext : PlanData → CertData → NodeData → List Point → ByRegister → Type 0
+HoldsNext plan cert node left by = (p : Point) (after : List Point) → left ≡ p ∷ after → HoldBy plan cert node p.state by
 
-pub next_holds : (plan : PlanData) (cert : CertData) (node : NodeData) (left after : List Point) (p : Point) (s : State) (called : Option ℕ) → HoldsNext plan cert node left called → left ≡ p ∷ after → s ≡ p.state → IfSome called (CallsHold plan cert node s)
-next_holds plan cert node left after p s None h e f = tt
-next_holds plan cert node left after p s (Some r) h e f = subst (λ (t : State). CallsHold plan cert node t r) (sym f) (h p after e)
+pub next_holds : (plan : PlanData) (cert : CertData) (node : NodeData) (left after : List Point) (p : Point) (s : State) (by : ByRegister) → HoldsNext plan cert node left by → left ≡ p ∷ after → s ≡ p.state → HoldBy plan cert node s by
+next_holds plan cert node left after p s by h e f = subst (λ (t : State). HoldBy plan cert node t by) (sym f) (h p after e)
 
 first_same : (p q : Point) (ps qs : List Point) → p ∷ ps ≡ q ∷ qs → p ≡ q
 first_same p q ps qs e = cc
 
 -- it is so where that is the state at hand
-pub holds_next : (plan : PlanData) (cert : CertData) (node : NodeData) (w : WalkData) (s : State) (repeats called : Option ℕ) → s ≡ w.current → IfSome repeats (RepeatsAt w) → IfSome called (CallsHold plan cert node s)
-    → HoldsNext plan cert node w.left (option_and repeats called)
-holds_next plan cert node w s None called e f h = tt
-holds_next plan cert node w s (Some a) None e f h = tt
-holds_next plan cert node w s (Some a) (Some r) e f h = λ p after split.
-    subst (λ (t : State). CallsHold plan cert node t r) (e ∙ ap (λ (q : Point). q.state) (first_same (record { addr = a; state = w.current }) p (drop 1 w.left) after (sym f ∙ split))) h
+pub holds_next : (plan : PlanData) (cert : CertData) (node : NodeData) (w : WalkData) (s : State) (repeats : Option ℕ) (by : ByRegister) → s ≡ w.current → IfSome repeats (RepeatsAt w) → HoldBy plan cert node s by
+    → HoldsNext plan cert node w.left (record { called = option_and repeats by.called; jumped = option_and repeats by.jumped })
+holds_next plan cert node w s None by e f h = λ p after split. record { called = tt; jumped = tt }
+holds_next plan cert node w s (Some a) by e f h = λ p after split.
+    subst (λ (t : State). HoldBy plan cert node t by) (e ∙ ap (λ (q : Point). q.state) (first_same (record { addr = a; state = w.current }) p (drop 1 w.left) after (sym f ∙ split))) h

@@ -11,7 +11,7 @@ use crate::any_certs::AnyCert;
 use crate::asked::Asks;
 use crate::covering::has_point;
 use crate::forms::Frame;
-use crate::kept::{Kept, Room, no_change};
+use crate::kept::{BY_NONE, Kept, Room, no_change};
 use crate::nodes::{Scratch, node_fault};
 use cfg_recover::{KnownCodes, start_key, start_state};
 use elf_image::Image;
@@ -55,7 +55,7 @@ pub(crate) fn judged(image: &Image, plan: &Plan, cert: &AnyCert<'_>) -> Verdict
             change: no_change(),
             pairs: [Kept::none(), Kept::none(), Kept::none(), Kept::none()],
             codes: KnownCodes::new(),
-            called: None,
+            by: BY_NONE,
         },
         asks: Asks::none(),
         walk: PointWalk::none(),

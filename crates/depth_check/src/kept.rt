@@ -42,14 +42,27 @@ pub(crate) struct Kept {
 /// So many operations are kept, each at the place of the number of the register that it writes, modulo this.
 pub(crate) const PLACES: usize = 4;
 
+/// A register by which calls hold in the state at hand, and one by which jumps do, if they are known.
+#[derive(Clone, Copy)]
+pub(crate) struct ByRegister {
+    pub(crate) called: Option<u8>,
+    pub(crate) jumped: Option<u8>,
+}
+
+/// No register is known.
+pub(crate) const BY_NONE: ByRegister = ByRegister {
+    called: None,
+    jumped: None,
+};
+
 /// What the points of a check take over from those before: room for a change, operations on two sets that are kept, what is
-/// known of words of code, and a register by which calls hold in the state at hand, if one is known.
+/// known of words of code, and by which registers calls and jumps hold in the state at hand.
 #[derive(Drop)]
 pub(crate) struct Room {
     pub(crate) change: Change,
     pub(crate) pairs: [Kept; PLACES],
     pub(crate) codes: KnownCodes,
-    pub(crate) called: Option<u8>,
+    pub(crate) by: ByRegister,
 }
 
 /// A change that puts nothing: room for others.

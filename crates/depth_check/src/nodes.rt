@@ -14,7 +14,7 @@ use crate::asked::Asks;
 use crate::covering::are_values;
 use crate::duties::broken_by_irqs;
 use crate::forms::{Frame, Here, NodeForm};
-use crate::kept::Room;
+use crate::kept::{BY_NONE, ByRegister, Room};
 use crate::point_at::At;
 use crate::rules::broken_by_point;
 use cfg_recover::interrupts;
@@ -114,7 +114,7 @@ fn plain_fault<'a>(
     let good = plain_holds_at_entry(b, node);
     let frame = Frame::plain(&*node);
     for point in &node.points {
-        room.called = None;
+        room.by = BY_NONE;
         let here = Here {
             node: &frame,
             addr: point.addr,
@@ -199,7 +199,7 @@ fn held_stack(
 
 /// The same of a node on bytes: behind each point the next one is tried first, the entries of interrupts are asked for where
 /// more is asked than was asked for already, only values that differ from those there are asked for, and where the next point
-/// has the same state it covers the one at hand, and calls by the same register hold there, too.
+/// has the same state it covers the one at hand, and calls and jumps by the same registers hold there, too.
 fn packed_fault<'a>(
     b: &Bounds,
     image: &Image,
@@ -221,7 +221,7 @@ fn packed_fault<'a>(
     let entry = node.key.entry;
     let good = packed_holds_at_entry(b, node);
     node.walk(&mut scratch.walk);
-    scratch.room.called = None;
+    scratch.room.by = BY_NONE;
     let mut next = 0usize;
     let mut known = false;
     while let Some(addr) = scratch.walk.step() {
@@ -245,7 +245,11 @@ fn packed_fault<'a>(
             return Some(fault);
         }
         known = true;
-        scratch.room.called = repeats.and(scratch.room.called);
+        let by = scratch.room.by;
+        scratch.room.by = ByRegister {
+            called: repeats.and(by.called),
+            jumped: repeats.and(by.jumped),
+        };
         let s = scratch.walk.state();
         if is_worth_keeping(plan, s, again) {
             let sp = held_stack(b, image, plan, cert, &frame, &*scratch);

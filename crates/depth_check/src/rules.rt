@@ -8,7 +8,7 @@ ghost use Rattle.cfg_recover.specs.Local.{IsLocalFault};
 ghost use Rattle.depth_check.specs.Finding.{IsWellNode, StandsAt, Finds, HasOwnNeed};
 ghost use Rattle.depth_check.specs.Forms.{point_here};
 ghost use Rattle.depth_check.specs.Asking.{InterruptsHold};
-ghost use Rattle.depth_check.specs.Calling.{CallsHold, IsCalled};
+ghost use Rattle.depth_check.specs.Calling.{HoldBy, AreHeldBy};
 ghost use Rattle.depth_check.specs.Keeping.{AreKept};
 ghost use Rattle.depth_check.specs.Passing.{PassesOn};
 ghost use Rattle.depth_check.specs.Points.{IsAt, LooksAhead};
@@ -61,11 +61,11 @@ fn broken_by_any(at: &At<'_, '_>, located: &Option<Located>, room: &mut Room) ->
     requires code { LocatesCode at.now.image.now at.now.plan.now at.now.point.addr located.now }
     requires shape { IfSome located.now (λ found. IsShape found.shape) }
     requires kept { AreKept at.now.bounds.now room.old }
-    requires called { IsCalled at.now room.old.called }
+    requires by { AreHeldBy at.now room.old.by }
     ensures found { Finds (RuleHolds at.now.image.now at.now.plan.now at.now.cert.now
         at.now.node.now (point_here at.now.point)) result }
     ensures kept { AreKept at.now.bounds.now room.new }
-    ensures called { IsCalled at.now room.new.called }
+    ensures by { AreHeldBy at.now room.new.by }
 {
     let node = at.node;
     let s = at.point.state;
@@ -127,13 +127,12 @@ pub(crate) fn broken_by_point(
     requires walk { IfSome point.walk
         (λ w. LooksAhead point.node.now point.state.now w.now) }
     requires kept { AreKept b.now room.old }
-    requires called { IfSome room.old.called
-        (CallsHold plan.now cert.now point.node.now point.state.now) }
+    requires by { HoldBy plan.now cert.now point.node.now point.state.now room.old.by }
     ensures found { Finds (RuleHolds image.now plan.now cert.now point.entry.node.now
         (point_here point.entry)) result }
     ensures kept { AreKept b.now room.new }
-    ensures called { IfSome room.new.called
-        (CallsHold plan.now cert.now point.entry.node.now point.entry.state.now) }
+    ensures by { HoldBy plan.now cert.now point.entry.node.now point.entry.state.now
+        room.new.by }
 {
     if !has_values(b, point) {
         return Some(2);

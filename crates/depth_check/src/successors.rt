@@ -1,16 +1,18 @@
 // The least rule that the jumps of a point in its frame break: rule 4, or none.
-ghost use Rattle.std.specs.Prelude.{◌≡◌, [], ◌∷◌, ◌++◌, unwrap_or, false, true, IfSome, IsTrue, Bool};
+ghost use Rattle.std.specs.Prelude.{◌≡◌, ◌<◌, [], ◌∷◌, ◌++◌, unwrap_or, false, true, IfSome, IsTrue, Bool};
 ghost use Rattle.tcd_plan.specs.PlanData.{PlanData};
 ghost use Rattle.value_domain.specs.declared.values.Val.{Val};
 ghost use Rattle.value_domain.specs.declared.states.State.{State};
 ghost use Rattle.value_domain.specs.Limits.{Limits};
 ghost use Rattle.value_domain.specs.State.{AreValues, Covers};
 ghost use Rattle.tc_isa.specs.Bounded.{IsShape, IsTarget};
+ghost use Rattle.vd_transfer.specs.Registers.{reg_of};
 ghost use Rattle.vd_transfer.specs.Branches.{refine_of};
 ghost use Rattle.vd_transfer.specs.Effects.{transfer_of};
 ghost use Rattle.cfg_recover.specs.Changes.{StandsFaultless};
-ghost use Rattle.cfg_recover.specs.Local.{targets_of};
+ghost use Rattle.cfg_recover.specs.Local.{named_by, targets_of};
 ghost use Rattle.cfg_recover.specs.Duties.{owed, jump, jumps_to, jump_on, next_of, successors_of};
+ghost use Rattle.depth_check.specs.Calling.{IsJumped, AreHeldBy};
 ghost use Rattle.depth_check.specs.Keeping.{IsPair, IsKept, AreKept};
 ghost use Rattle.depth_check.specs.Points.{IsAt, Breaks};
 
@@ -18,7 +20,7 @@ use crate::covering::{has_changed_next, has_kept_next, has_next, has_points};
 use crate::duties::{least, unless};
 use crate::kept::{Kept, PLACES, Pair, Room, change_kept, pair_of};
 use crate::point_at::At;
-use cfg_recover::{Located, direct_target, step_change, targets};
+use cfg_recover::{Located, step_change, targets};
 use tc_isa::{Shape, Target};
 use vd_transfer::{Change, change_on};
 
@@ -87,33 +89,46 @@ fn broken_by_sides(at: &At<'_, '_>, shape: Shape, next: u32, to: u32, c: &mut Ch
     least(straight, taken)
 }
 
-/// A jump with the state as it is, to one of the targets that are listed.
+/// A jump with the state as it is, to one of the addresses that a register names; those of the register that is kept aren't
+/// asked for again, and where those of another one hold, that one is kept.
 #[inline(never)]
-fn broken_by_listed_jumps(at: &At<'_, '_>, to: Target) -> Option<u8>
+fn broken_by_listed_jumps(at: &At<'_, '_>, r: u8, jumped: &mut Option<u8>) -> Option<u8>
     requires point { IsAt at.now }
-    requires target { IsTarget to }
-    ensures { Breaks at.now
+    requires register { r < 32 }
+    requires jumped { IsJumped at.now jumped.old }
+    ensures found { Breaks at.now
         (jumps_to at.now.point.state.now
-        (unwrap_or (targets_of at.now.plan.now at.now.point.state.now at.now.point.addr to) []))
-        result }
+        (unwrap_or (named_by (reg_of at.now.plan.now at.now.point.state.now r)) [])) result }
+    ensures jumped { IsJumped at.now jumped.new }
 {
+    if *jumped == Some(r) {
+        return None;
+    }
     let s = at.point.state;
-    let targets = targets(at.plan, s, at.point.addr, to);
-    unless(has_points(at.node, targets.as_slice(), s), 4)
+    let targets = targets(at.plan, s, at.point.addr, Target::Reg(r));
+    if has_points(at.node, targets.as_slice(), s) {
+        *jumped = Some(r);
+        None
+    } else {
+        Some(4)
+    }
 }
 
 /// A jump with the state as it is; a list of targets is filled only where a register tells them.
-fn broken_by_jump(at: &At<'_, '_>, to: Target) -> Option<u8>
+fn broken_by_jump(at: &At<'_, '_>, to: Target, jumped: &mut Option<u8>) -> Option<u8>
     requires point { IsAt at.now }
     requires target { IsTarget to }
-    ensures { Breaks at.now
+    requires jumped { IsJumped at.now jumped.old }
+    ensures found { Breaks at.now
         (jumps_to at.now.point.state.now
         (unwrap_or (targets_of at.now.plan.now at.now.point.state.now at.now.point.addr to) []))
         result }
+    ensures jumped { IsJumped at.now jumped.new }
 {
-    match direct_target(at.point.addr, to) {
-        Some(target) => broken_by_pass(at, target),
-        None => broken_by_listed_jumps(at, to),
+    match to {
+        Target::Rel(by) => broken_by_pass(at, at.point.addr.wrapping_add(by)),
+        Target::Abs(x) => broken_by_pass(at, x),
+        Target::Reg(r) => broken_by_listed_jumps(at, r, jumped),
     }
 }
 
@@ -182,7 +197,7 @@ fn broken_by_next(at: &At<'_, '_>, found: &Located, room: &mut Room) -> Option<u
         (next_of at.now.bounds.now at.now.image.now at.now.plan.now at.now.point.addr
         at.now.point.state.now found.now.shape found.now.size) result }
     ensures kept { AreKept at.now.bounds.now room.new }
-    ensures called { room.new.called ≡ room.old.called }
+    ensures by { room.new.by ≡ room.old.by }
 {
     if keeps_state(found.shape) {
         return broken_by_pass(at, at.point.addr.wrapping_add(found.size));
@@ -203,11 +218,12 @@ pub(crate) fn broken_by_successors(at: &At<'_, '_>, found: &Located, room: &mut 
     requires found { StandsFaultless at.now.bounds.now at.now.image.now at.now.plan.now
         at.now.node.now.key at.now.point.addr at.now.point.state.now found.now }
     requires kept { AreKept at.now.bounds.now room.old }
+    requires by { AreHeldBy at.now room.old.by }
     ensures found { Breaks at.now
         (successors_of at.now.bounds.now at.now.image.now at.now.plan.now at.now.point.addr
         at.now.point.state.now found.now.shape found.now.size) result }
     ensures kept { AreKept at.now.bounds.now room.new }
-    ensures called { room.new.called ≡ room.old.called }
+    ensures by { AreHeldBy at.now room.new.by }
 {
     let addr = at.point.addr;
     let next = addr.wrapping_add(found.size);
@@ -219,7 +235,7 @@ pub(crate) fn broken_by_successors(at: &At<'_, '_>, found: &Located, room: &mut 
             addr.wrapping_add(by),
             &mut room.change,
         ),
-        Shape::Jump { to } => broken_by_jump(at, to),
+        Shape::Jump { to } => broken_by_jump(at, to, &mut room.by.jumped),
         Shape::Call { .. } | Shape::Ret | Shape::Rfe | Shape::Syscall { .. } | Shape::Mtcr { .. } =>
             None,
         _ => broken_by_next(at, found, room),

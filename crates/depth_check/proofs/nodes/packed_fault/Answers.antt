@@ -1,6 +1,6 @@
 use Rattle.std.proofs.Common.{true, false, ◌^◌, ◌<◌, ◌≡◌, ◌++◌, ◌∷◌, [], ◌∙◌, length, sym, ap, subst, refl, arith, List, ℕ}
 use Rattle.std.specs.Prelude.{IsTrue, ◌↔◌, All, slice_index_or}
-use Rattle.std.proofs.lemmas.List.Elements.{All-push, All-contains}
+use Rattle.std.proofs.lemmas.List.Elements.{All-nil, All-push, All-contains}
 use Rattle.std.proofs.lemmas.List.{append-nil}
 use Rattle.value_domain.specs.declared.values.Val.{Val}
 use Rattle.value_domain.specs.declared.states.State.{State}
@@ -77,17 +77,28 @@ broken_by_point-found-requires-clause-next c =
     rw c.near-frame.ensures
     (repeats_stand c.args.node.now c.loop-addr.invariant.done c.loop-addr.scratch.walk.left c.step.new.self p c.repeats_at-repeats.result c.state-s.result.now c.walk.ensures.rising c.loop-addr.invariant.split c.in-Some.ensures.0 c.state-s.ensures c.repeats_at-repeats.ensures)
 
-pub broken_by_point-found-requires-clause-called : goal.broken_by_point-found-requires-clause-called
-broken_by_point-found-requires-clause-called c =
+pub broken_by_point-found-requires-clause-by : goal.broken_by_point-found-requires-clause-by
+broken_by_point-found-requires-clause-by c =
     let p : Point = record { addr = c.in-Some.addr; state = c.step.new.self.current } in
     rw c.near-frame.ensures
-    (next_holds c.args.plan.now c.args.cert.now c.args.node.now c.loop-addr.scratch.walk.left c.step.new.self.left p c.state-s.result.now c.loop-addr.scratch.room.called c.loop-addr.invariant.called c.in-Some.ensures.0 c.state-s.ensures)
+    (next_holds c.args.plan.now c.args.cert.now c.args.node.now c.loop-addr.scratch.walk.left c.step.new.self.left p c.state-s.result.now c.loop-addr.scratch.room.by c.loop-addr.invariant.by c.in-Some.ensures.0 c.state-s.ensures)
 
 pub broken_by_point-found-requires-clause-walk : goal.broken_by_point-found-requires-clause-walk
 broken_by_point-found-requires-clause-walk c =
     let p : Point = record { addr = c.in-Some.addr; state = c.step.new.self.current } in
     rw c.near-frame.ensures
     (looks_ahead c.args.node.now c.loop-addr.invariant.done c.loop-addr.scratch.walk.left c.step.new.self p c.state-s.result.now c.walk.ensures.rising c.loop-addr.invariant.split c.in-Some.ensures.0 c.state-s.ensures)
+
+pub loop-addr-init : goal.loop-addr-init
+loop-addr-init c = record {
+  done = [];
+  split = sym c.walk.ensures.all;
+  all = All-nil (λ (q : Point). (r : ℕ) → RuleHolds c.args.image.now c.args.plan.now c.args.cert.now c.args.node.now q r);
+  known = λ t. absurd (let f : false ≡ true = t in cc);
+  asked = c.requires.asked;
+  kept = c.requires.kept;
+  by = λ p after e. record { called = tt; jumped = tt };
+}
 
 pub loop-addr-preserved : goal.loop-addr-preserved
 loop-addr-preserved c =
@@ -100,9 +111,9 @@ loop-addr-preserved c =
     in
     let told = ap (λ (n : NodeData). first_of c.packed_holds_at_entry-good.result (n.key).entry c.in-Some.addr c.broken_by_point-found.result) (sym c.node.view_is) ∙ sym c.first_of.ensures ∙ c.in_default-first_of.is in
     let holds = none_at c.args.image.now c.args.plan.now c.args.cert.now c.args.node.now c.requires.member points refl c.walk.ensures.rising p c.packed_holds_at_entry-good.result c.broken_by_point-found.result told finds in
-    let called : HoldsNext c.args.plan.now c.args.cert.now c.args.node.now c.step.new.self.left c.and-scratch.result =
-    rw c.and-scratch.ensures
-    (holds_next c.args.plan.now c.args.cert.now c.args.node.now c.step.new.self c.state-s.result.now c.repeats_at-repeats.result c.broken_by_point-found.new.room.called c.state-s.ensures c.repeats_at-repeats.ensures (rw c.near-frame.ensures at c.broken_by_point-found.ensures.called)) in
+    let by : HoldsNext c.args.plan.now c.args.cert.now c.args.node.now c.step.new.self.left (record { called = c.and.result; jumped = c.and-in-Some.result }) =
+    rw (c.and.ensures, c.and-in-Some.ensures)
+    (holds_next c.args.plan.now c.args.cert.now c.args.node.now c.step.new.self c.state-s.result.now c.repeats_at-repeats.result c.broken_by_point-found.new.room.by c.state-s.ensures c.repeats_at-repeats.ensures (rw c.near-frame.ensures at c.broken_by_point-found.ensures.by)) in
     record {
       done = inv.done ++ p ∷ [];
       split = split_more points inv.done c.loop-addr.scratch.walk.left c.step.new.self.left p inv.split c.in-Some.ensures.0;
@@ -110,7 +121,7 @@ loop-addr-preserved c =
       known = λ t. (holds 2).values refl;
       asked = inv.asked;
       kept = c.broken_by_point-found.ensures.kept;
-      called = called;
+      by = by;
     }
 
 pub held_stack-sp-requires-clause-node : goal.held_stack-sp-requires-clause-node
@@ -153,9 +164,9 @@ loop-addr-preserved-then-is_worth_keeping c =
     in
     let told = ap (λ (n : NodeData). first_of c.packed_holds_at_entry-good.result (n.key).entry c.in-Some.addr c.broken_by_point-found.result) (sym c.node.view_is) ∙ sym c.first_of.ensures ∙ c.in_default-first_of.is in
     let holds = none_at c.args.image.now c.args.plan.now c.args.cert.now c.args.node.now c.requires.member points refl c.walk.ensures.rising p c.packed_holds_at_entry-good.result c.broken_by_point-found.result told finds in
-    let called : HoldsNext c.args.plan.now c.args.cert.now c.args.node.now c.step.new.self.left c.and-scratch.result =
-    rw c.and-scratch.ensures
-    (holds_next c.args.plan.now c.args.cert.now c.args.node.now c.step.new.self c.state-s.result.now c.repeats_at-repeats.result c.broken_by_point-found.new.room.called c.state-s.ensures c.repeats_at-repeats.ensures (rw c.near-frame.ensures at c.broken_by_point-found.ensures.called)) in
+    let by : HoldsNext c.args.plan.now c.args.cert.now c.args.node.now c.step.new.self.left (record { called = c.and.result; jumped = c.and-in-Some.result }) =
+    rw (c.and.ensures, c.and-in-Some.ensures)
+    (holds_next c.args.plan.now c.args.cert.now c.args.node.now c.step.new.self c.state-s.result.now c.repeats_at-repeats.result c.broken_by_point-found.new.room.by c.state-s.ensures c.repeats_at-repeats.ensures (rw c.near-frame.ensures at c.broken_by_point-found.ensures.by)) in
     record {
       done = inv.done ++ p ∷ [];
       split = split_more points inv.done c.loop-addr.scratch.walk.left c.step.new.self.left p inv.split c.in-Some.ensures.0;
@@ -166,7 +177,7 @@ loop-addr-preserved-then-is_worth_keeping c =
           (subst (λ (l : Limits). IsValue l c.held_stack-sp.result) c.requires.limits c.held_stack-sp.ensures.value)
           (subst (λ (s : State). HoldsWith c.args.plan.now c.args.cert.now c.args.node.now s c.held_stack-sp.result) (sym c.state-t.ensures) (rw c.near-frame.ensures at c.held_stack-sp.ensures.holds));
       kept = c.broken_by_point-found.ensures.kept;
-      called = called;
+      by = by;
     }
 
 pub returns-else-good-clause-fault : goal.returns-else-good-clause-fault

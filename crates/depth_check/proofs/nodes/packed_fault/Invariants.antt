@@ -16,7 +16,7 @@ invariant-loop-addr l = record {
   known : IsTrue l.known → AreValues (limits_in l.plan l.cert) ((l.scratch.walk).current).regs;
   asked : AreAsked l.plan l.cert l.scratch.asks;
   kept : AreKept l.b l.scratch.room;
-  called : HoldsNext l.plan l.cert l.node (l.scratch.walk).left (l.scratch.room).called;
+  by : HoldsNext l.plan l.cert l.node (l.scratch.walk).left (l.scratch.room).by;
 }
 
 abbrev pub decreases-loop-addr : goal.decreases-loop-addr

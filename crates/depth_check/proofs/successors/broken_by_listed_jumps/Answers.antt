@@ -1,15 +1,45 @@
-use Rattle.std.proofs.Common.{List, ℕ, ◌∙◌, subst}
+use Rattle.std.proofs.Common.{◌≡◌, ◌∙◌, List, [], ℕ, Option, Some, true, subst}
+use Rattle.std.specs.Prelude.{IfSome, unwrap_or}
+use Rattle.vd_transfer.specs.Registers.{reg_of}
+use Rattle.cfg_recover.specs.Local.{named_by}
 use Rattle.cfg_recover.specs.Duties.{jumps_to}
-use Rattle.depth_check.specs.Finding.{Finds, DutiesHold, unless}
+use Rattle.depth_check.specs.Calling.{JumpsHold}
+use Rattle.depth_check.specs.Finding.{Finds, DutiesHold, HasPoints}
+use Rattle.depth_check.proofs.Deciding.{yes, same_word}
 use Rattle.depth_check.proofs.DutyLaws.{points_found}
 use Rattle.depth_check.proofs.RuleLaws.{values_well}
 use Rattle.depth_check.proofs.successors.broken_by_listed_jumps.Goals as goal
+use Rattle.depth_check.proofs.successors.broken_by_listed_jumps.Goals.{Then-has_points}
 
 pub has_points-requires-clause-state : goal.has_points-requires-clause-state
 has_points-requires-clause-state c = values_well c.args.at.now.bounds.now _ c.requires.point.values
 
-pub returns : goal.returns
-returns c =
-    rw c.unless.ensures
-    (subst (λ (l : List ℕ). Finds (DutiesHold c.args.at.now.cert.now c.args.at.now.node.now c.args.at.now.point.state.now (jumps_to c.args.at.now.point.state.now l)) (unless c.has_points.result 4)) (c.as_slice.ensures.value ∙ c.targets-targets.ensures)
-    (points_found c.args.at.now.cert.now c.args.at.now.node.now c.args.at.now.point.state.now c.args.at.now.point.state.now c.as_slice.result.now c.has_points.result c.has_points.ensures))
+pub returns-then-eq-clause-found : goal.returns-then-eq-clause-found
+returns-then-eq-clause-found c =
+    let t = c.args.at.now in
+    let s = t.point.state.now in
+    let holds : JumpsHold t.plan.now t.node.now s c.args.r =
+    subst (λ (o : Option ℕ). IfSome o (JumpsHold t.plan.now t.node.now s)) (same_word c.args.jumped.now c.args.r c.eq.result c.eq.ensures c.if-eq.true) c.requires.jumped in
+    points_found t.cert.now t.node.now s s (unwrap_or (named_by (reg_of t.plan.now s c.args.r)) []) true (yes _ holds)
+
+-- where all were found
+found_all : (c : Then-has_points) → JumpsHold c.args.at.now.plan.now c.args.at.now.node.now c.args.at.now.point.state.now c.args.r
+found_all c =
+    let t = c.args.at.now in
+    subst (λ (l : List ℕ). HasPoints t.node.now t.point.state.now l) (c.as_slice.ensures.value ∙ c.targets-targets.ensures) (c.has_points.ensures.0 c.if-has_points.true)
+
+pub returns-then-has_points-clause-found : goal.returns-then-has_points-clause-found
+returns-then-has_points-clause-found c =
+    let t = c.args.at.now in
+    let s = t.point.state.now in
+    points_found t.cert.now t.node.now s s (unwrap_or (named_by (reg_of t.plan.now s c.args.r)) []) true (yes _ (found_all c))
+
+pub returns-then-has_points-clause-jumped : goal.returns-then-has_points-clause-jumped
+returns-then-has_points-clause-jumped c = found_all c
+
+pub returns-else-has_points-clause-found : goal.returns-else-has_points-clause-found
+returns-else-has_points-clause-found c =
+    let t = c.args.at.now in
+    let s = t.point.state.now in
+    subst (λ (l : List ℕ). Finds (DutiesHold t.cert.now t.node.now s (jumps_to s l)) (Some 4)) (c.as_slice.ensures.value ∙ c.targets-targets.ensures)
+    (rw c.if-has_points.false at (points_found t.cert.now t.node.now s s c.as_slice.result.now c.has_points.result c.has_points.ensures))

@@ -5,7 +5,7 @@ pub returns-in-Branch-clause-found : goal.returns-in-Branch-clause-found
 returns-in-Branch-clause-found c = rw c.in-Branch.is (rw c.in-Branch.is at c.broken_by_sides.ensures)
 
 pub returns-in-Jump-clause-found : goal.returns-in-Jump-clause-found
-returns-in-Jump-clause-found c = rw c.in-Jump.is c.broken_by_jump.ensures
+returns-in-Jump-clause-found c = rw c.in-Jump.is c.broken_by_jump.ensures.found
 
 pub returns-in_default-clause-found : goal.returns-in_default-clause-found
 returns-in_default-clause-found c =
