@@ -30,17 +30,24 @@ fn raise_place(
 ) -> Result<bool, Refusal>
     requires fine { FineOn v.now.ground.now table.old }
     requires there { StandsAt table.old.places number y.now }
+    requires near { StandsAt table.old.places table.old.near (Point v.now.key v.now.addr) }
+    requires at { (seen table.old).cells (point v.now.key v.now.addr)
+        ≡ Some (state v.now.state.now) }
+    requires own { asking asked.now ≡ v.now.state.now }
     requires asked { AsksOn v.now.ground.now table.old y.now (asked_for asked.now) }
     ensures { RaisesOn v.now.ground.now table.old table.new y.now (asked_for asked.now) result }
 {
     let Some((_, place)) = table.places.get_index(number) else {
         return Err(Refusal::NoMemory);
     };
+    let Some((_, own)) = table.places.get_index(table.near) else {
+        return Err(Refusal::NoMemory);
+    };
     let b = v.ground.bounds;
     if place.value.covers(b, asked) {
         return Ok(false);
     }
-    let Some(cell) = place.value.join(alloc, b, asked)? else {
+    let Some(cell) = place.value.join_from(alloc, b, &own.value, asked)? else {
         return Err(Refusal::Fault(8, *y));
     };
     put(

@@ -1,4 +1,5 @@
 pub mod SameValues
+pub mod AboveLaws
 pub mod WordTests
 pub mod AskedLemmas
 pub mod SparseLemmas

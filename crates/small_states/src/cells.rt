@@ -8,13 +8,14 @@ ghost use Rattle.depth_cert.specs.Known.{CoversKnown, joined_exit, joined_known,
 ghost use Rattle.small_states.specs.Kept.{AddsState, IsNoExit, IsOutline, IsStateAt, asked_for, asking, exit_with, known_of, state_with, values_asked};
 
 use crate::asked::{Asked, Context, context_of, is_leaving};
-use crate::values::{are_covered, joined, packed, packed_by};
+use crate::values::{are_all_below, are_covered, joined, packed, packed_by};
 use crate::{ScratchState, SmallExit, SmallState, Values, copy_of, join_locals};
 use std::alloc::{AllocError, Global};
 use std::marker::Model;
 use std::rc::Rc;
 use tcd_base::NoMemory;
 use value_domain::{Bounds, are_implied};
+use vd_transfer::Base;
 
 /// A state at a point, or the exit of a frame.
 #[derive(Drop)]
@@ -153,6 +154,18 @@ fn join_exit(
     Ok(Some(Cell { kept }))
 }
 
+/// Whether what a duty asks for has the values of the point that asks.
+#[inline(always)]
+fn keeps_values(asked: &Asked) -> bool {
+    let Asked::Changed(_, c) = asked else {
+        return false;
+    };
+    matches!(c.base, Base::Same)
+        && c.first.at.is_none()
+        && c.second.at.is_none()
+        && c.third.at.is_none()
+}
+
 impl Cell {
     /// What a duty asks for.
     pub fn new(alloc: Global, _b: &Bounds, asked: &Asked) -> Result<Cell, AllocError>
@@ -222,6 +235,51 @@ impl Cell {
                 join_exit(alloc, b, left, asked, &k)
             }
         }
+    }
+
+    /// Whether both are states, and it is seen to cover the other.
+    fn is_above(&self, low: &Cell, _b: &Bounds) -> bool
+        requires own { IsProperKnown _b.now self.now }
+        requires low { IsProperKnown _b.now low.now }
+        ensures { IsTrue result → CoversKnown self.now low.now }
+    {
+        let Kept::Point(upper) = &self.kept else {
+            return false;
+        };
+        let Kept::Point(s) = &low.kept else {
+            return false;
+        };
+        if !upper.covers_context(s.ie, s.ccpn, s.lower) {
+            return false;
+        }
+        if !are_implied(upper.locals.as_slice(), s.locals.as_slice()) {
+            return false;
+        }
+        are_all_below(s.regs.as_ref(), upper.regs.as_ref())
+    }
+
+    /// The least that covers both, where the point that asks has the state `own`: as `join`, but
+    /// where what is asked has the values of that state and covers what is known, it is taken as it
+    /// is, and shares them.
+    pub fn join_from(
+        &self,
+        alloc: Global,
+        b: &Bounds,
+        own: &Cell,
+        asked: &Asked,
+    ) -> Result<Option<Cell>, AllocError>
+        requires known { IsProperKnown b.now self.now }
+        requires asked { IsProperKnown b.now (asked_for asked.now) }
+        requires own { own.now ≡ state (asking asked.now) }
+        ensures { IfOk result (λ r. r ≡ joined_known b.now self.now (asked_for asked.now)) }
+    {
+        if keeps_values(asked) {
+            let above = own.changed(alloc, asked)?;
+            if above.is_above(self, b) {
+                return Ok(Some(above));
+            }
+        }
+        self.join(alloc, b, asked)
     }
 
     /// What a row of needs asks of a state; `None` of an exit.

@@ -403,6 +403,24 @@ impl Small {
         }
     }
 
+    /// Whether both are ranges, and it is seen by their ends and steps to hold the other.
+    #[inline(always)]
+    fn is_range_around(&self, v: &Small) -> bool
+        ensures { IsTrue result → IsBelow v.now self.now }
+    {
+        let Form::Range { lo, last, step } = &v.form else {
+            return false;
+        };
+        match &self.form {
+            Form::Range {
+                lo: own_lo,
+                last: own_last,
+                step: own_step,
+            } => *own_lo <= *lo && *last <= *own_last && *own_step <= *step,
+            _ => false,
+        }
+    }
+
     /// Whether each member of a value in little room is one of its own, by the form of that value. Equal ones are told before.
     #[inline(never)]
     fn covers_packed(&self, v: &Small) -> bool
@@ -413,13 +431,18 @@ impl Small {
         match &v.form {
             Form::One(x) => self.has(*x),
             Form::Many(words) => self.covers(words.as_ref()),
-            _ => self.covers(&v.value()),
+            _ => {
+                if self.is_range_around(v) {
+                    return true;
+                }
+                self.covers(&v.value())
+            }
         }
     }
 
     /// Whether each member of a value in little room is one of its own.
     #[inline(always)]
-    fn covers_small(&self, v: &Small) -> bool
+    pub(crate) fn covers_small(&self, v: &Small) -> bool
         requires own { IsWell self.now }
         requires value { IsWell v.now }
         ensures { IsTrue result ↔ IsBelow v.now self.now }

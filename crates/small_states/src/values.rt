@@ -150,6 +150,32 @@ pub(crate) fn are_covered(upper: &Values, asked: &Asked) -> bool
     true
 }
 
+/// Whether each of these values is seen to be below the one at its place among others, which have
+/// the same gaps.
+pub(crate) fn are_all_below(low: &Values, high: &Values) -> bool
+    requires low { AreWell (all_values low.now) }
+    requires high { AreWell (all_values high.now) }
+    requires long { length (all_values low.now) ≡ length (all_values high.now) }
+    ensures { IsTrue result → AreBelow (all_values low.now) (all_values high.now) }
+{
+    let lows = low.known.as_slice();
+    let highs = high.known.as_slice();
+    if lows.len() != highs.len() {
+        return false;
+    }
+    for n in 0..lows.len() {
+        let here = &lows[n];
+        let above = &highs[n];
+        if here.anys != above.anys {
+            return false;
+        }
+        if !above.value.covers_small(&here.value) {
+            return false;
+        }
+    }
+    true
+}
+
 /// The least values that hold those at each place and those that are asked for there.
 pub(crate) fn joined(
     alloc: Global,

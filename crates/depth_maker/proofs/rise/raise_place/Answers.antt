@@ -3,7 +3,9 @@ use Rattle.std.proofs.lemmas.Option.{same_Some}
 use Rattle.std.specs.Option.{option_map}
 use Rattle.std.specs.Prelude.{is_some}
 use Rattle.cfg_recover.specs.Assignments.{raised}
-use Rattle.depth_cert.specs.Known.{CoversKnown, Known}
+use Rattle.depth_cert.specs.Known.{CoversKnown, Known, state}
+use Rattle.value_domain.specs.declared.states.State.{State}
+use Rattle.frame_places.specs.declared.places.Spot.TheVariants.{Point}
 use Rattle.frame_places.specs.declared.places.Marked.{Marked}
 use Rattle.frame_places.specs.Counting.{frames_after, points_after}
 use Rattle.frame_places.specs.Marks.{value_for}
@@ -30,17 +32,26 @@ covers-requires-clause-asked c =
     asks_proper _ _ _ laws (seen c.args.table.now).cells (place_of c.args.y.now) (asked_for c.args.asked.now)
     (derived_proper _ _ _ laws (seen c.args.table.now).cells (c.requires.fine.table).derived) c.requires.asked
 
-pub join-requires-clause-known : goal.join-requires-clause-known
-join-requires-clause-known c =
+pub join_from-requires-clause-known : goal.join_from-requires-clause-known
+join_from-requires-clause-known c =
     let s = c.args.table.now in
     cells_proper _ _ _ (lawful _ _ _ c.args.v.now.ground.now.sound) s c.requires.fine c.args.y.now c.in-Some.place.now.value
     (ap (option_map (λ (m : Marked Known). m.value)) (had_at s.places c.args.number c.args.y.now _ c.in-Some.place.now (sym c.in-Some.ensures.entry) c.in-Some.ensures.value c.requires.there))
 
-pub join-requires-clause-asked : goal.join-requires-clause-asked
-join-requires-clause-asked c =
+pub join_from-requires-clause-asked : goal.join_from-requires-clause-asked
+join_from-requires-clause-asked c =
     let laws = lawful _ _ _ c.args.v.now.ground.now.sound in
     asks_proper _ _ _ laws (seen c.args.table.now).cells (place_of c.args.y.now) (asked_for c.args.asked.now)
     (derived_proper _ _ _ laws (seen c.args.table.now).cells (c.requires.fine.table).derived) c.requires.asked
+
+pub join_from-requires-clause-own : goal.join_from-requires-clause-own
+unfolding seen
+join_from-requires-clause-own c =
+    let t = c.args.table.now in
+    let x = Point c.args.v.now.key c.args.v.now.addr in
+    let had = had_at t.places t.near x _ c.in-Some-get_index.own.now (sym c.in-Some-get_index.ensures.entry) c.in-Some-get_index.ensures.value c.requires.near in
+    same_Some c.in-Some-get_index.own.now.value (state c.args.v.now.state.now) (sym (ap (option_map (λ (m : Marked Known). m.value)) had) ∙ c.requires.at)
+    ∙ sym (ap (λ (s : State). state s) c.requires.own)
 
 pub put-requires : goal.put-requires
 put-requires c = record { listed = c.requires.fine.listed }

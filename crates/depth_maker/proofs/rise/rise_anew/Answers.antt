@@ -8,7 +8,7 @@ use Rattle.std.specs.Option.{option_map}
 use Rattle.value_domain.specs.declared.states.State.{State}
 use Rattle.frame_places.specs.declared.places.Marked.{Marked}
 use Rattle.frame_places.specs.declared.places.Spot.TheVariants.{Point}
-use Rattle.frame_places.proofs.MarkLemmas.{same_number}
+use Rattle.frame_places.proofs.MarkLemmas.{same_number, same_value}
 use Rattle.frame_places.proofs.NearbyLemmas.{had_at}
 use Rattle.frame_places.specs.Counting.{Passing, frames_after, points_after}
 use Rattle.frame_places.specs.Work.{all_work}
@@ -79,6 +79,17 @@ pub raise_place-requires-clause-there : goal.raise_place-requires-clause-there
 raise_place-requires-clause-there c =
     let found = rw c.in-Some-2.is at c.in_ok-add_or_find.ensures in
     same_number c.args.table.now.places c.add_or_find.new.places found.1 c.in-Some-2.number c.args.y.now found.0
+
+pub raise_place-requires-clause-near : goal.raise_place-requires-clause-near
+raise_place-requires-clause-near c =
+    let found = rw c.in-Some-2.is at c.in_ok-add_or_find.ensures in
+    same_number c.args.table.now.places c.add_or_find.new.places found.1 c.args.table.now.near (Point c.args.v.now.key c.args.v.now.addr) c.requires.near
+
+pub raise_place-requires-clause-at : goal.raise_place-requires-clause-at
+unfolding seen
+raise_place-requires-clause-at c =
+    let found = rw c.in-Some-2.is at c.in_ok-add_or_find.ensures in
+    same_value c.args.table.now.places c.add_or_find.new.places found.1 (Point c.args.v.now.key c.args.v.now.addr) ∙ c.requires.at
 
 pub raise_place-requires-clause-asked : goal.raise_place-requires-clause-asked
 raise_place-requires-clause-asked c =
