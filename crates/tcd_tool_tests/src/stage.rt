@@ -5,6 +5,7 @@
 // `# ..`: a remark; `case ..`: no files from here on; `failing N`: no files, and their Nth call, from 0 on, fails;
 // `bytes NAME`, `text NAME`: a piece of these hex digits, or of these lines;
 // `replace NAME PIECE`: the text of a piece, with the second line below in place of the first one, which stands there;
+// `join NAME PIECE..`: pieces, one after another; `PIECE*N` is N times a piece;
 // `put FILE PIECE EDIT..`: a file of the bytes of a piece, `AT=BYTE` (hex digits) changed and cut to `..LENGTH` (a decimal number);
 // `run STATUS WORD..`: the command ends so, and prints the lines below; STATUS is `done`, `refused`, `bad-input`, `fault`, `no-memory` or
 // `bad-words`; in a WORD `_` is a blank, and `''` is the empty word;
@@ -156,6 +157,18 @@ impl Stage {
         Ok(self.pieces.put(name, text.as_bytes())?)
     }
 
+    fn name_joined(&mut self, name: &str, parts: &[&str]) -> Result<(), Fail> {
+        let mut bytes = Vec::new(self.alloc);
+        for part in parts {
+            let (piece, times) = part.split_once('*').unwrap_or((*part, "1"));
+            let piece = self.piece(piece)?;
+            for _ in 0..times.parse::<u32>()? {
+                bytes.extend_from_slice(piece)?;
+            }
+        }
+        Ok(self.pieces.put(name, &bytes)?)
+    }
+
     fn begin(&mut self) {
         self.files = MemFiles::sure(self.alloc);
     }
@@ -229,6 +242,7 @@ impl Stage {
             ["bytes", name] => self.name_bytes(*name, below)?,
             ["text", name] => self.name_text(*name, below)?,
             ["replace", name, piece] => self.name_replaced(*name, *piece, below)?,
+            ["join", name, parts @ ..] => self.name_joined(*name, parts)?,
             ["put", file, piece, edits @ ..] => self.put(*file, *piece, edits)?,
             _ => return Ok(false),
         }

@@ -503,6 +503,104 @@ run refused taskcert e p t c d
 none c
 none d
 
+# Three mains at 80000000, 80000010 and 80000020, each of which gives way again and again, and the routine for three tasks.
+text THREE_TURNS
+    .section text
+    .global main
+    main: call16 switch
+    j16 main
+    .space 12
+    second: call16 switch
+    j16 second
+    .space 12
+    third: call16 switch
+    j16 third
+    .space 12
+    switch: disable
+    svlcx
+    movh.a a2, 0xD001
+    lea.l a2, [a2]-32512
+    ld.w.l d0, [a2]12
+    addsc.a a3, a2, d0, 2
+    mfcr d1, 0xFE00
+    st.w.l [a3]0, d1
+    addi d0, d0, 1
+    jne d0, 3, .+8
+    mov d0, 0
+    st.w.l [a2]12, d0
+    addsc.a a3, a2, d0, 2
+    ld.w.l d1, [a3]0
+    mtcr 0xFE00, d1
+    isync
+    rslcx
+    ret
+text THREE_TASKS
+    switch 80000030 D0008100
+    task 80000000 D0009000
+    task 80000010 D0008C00
+    task 80000020 D0008800
+# Seven tasks, the most there may be; the last four run the code of the first ones.
+text SEVEN_TASKS
+    switch 80000030 D0008100
+    task 80000000 D0009000
+    task 80000010 D0008E00
+    task 80000020 D0008C00
+    task 80000000 D0008A00
+    task 80000010 D0008800
+    task 80000020 D0008600
+    task 80000000 D0008400
+replace SEVEN_ROOM THREE_TURNS
+    [a2]12
+    [a2]28
+replace SEVEN_TURNS SEVEN_ROOM
+    jne d0, 3
+    jne d0, 7
+replace SEVEN_AREAS BOARD
+    "areas":4
+    "areas":7
+replace SIXTEEN_AREAS BOARD
+    "areas":4
+    "areas":16
+case three tasks share the areas
+# Each calls the routine, which saves its lower context.
+put l CALLER_LAYOUT
+put s THREE_TURNS
+put p EIGHT
+put t THREE_TASKS
+run done asm s o
+    object 192 bytes
+run done link l e o
+    image 204 bytes
+run done taskcert e p t c d f
+    certified 6 of 6 areas in 3 tasks
+run done tasks e p t c d f
+    certified 6 of 6 areas in 3 tasks
+# The certificates of tasks begin at different addresses.
+run refused tasks e p t c f d
+    refused K1 at 80000010 in start 80000010 prio 0 is 0 of task 1
+run bad-input tasks e p t c d
+    bad tasks 7
+put p SEVEN_AREAS
+run refused tasks e p t c d f
+    refused sum 6 of 5 areas
+run refused taskcert e p t x y z
+    refused sum 6 of 5 areas
+none x
+
+case seven tasks share the areas
+put l CALLER_LAYOUT
+put s SEVEN_TURNS
+put p SIXTEEN_AREAS
+put t SEVEN_TASKS
+run done asm s o
+    object 192 bytes
+run done link l e o
+    image 204 bytes
+run done taskcert e p t c0 c1 c2 c3 c4 c5 c6
+    certified 14 of 14 areas in 7 tasks
+run done tasks e p t c0 c1 c2 c3 c4 c5 c6
+    certified 14 of 14 areas in 7 tasks
+
 case certificates of tasks have their own names
 put e TURNS
 put p EIGHT
