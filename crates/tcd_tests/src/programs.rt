@@ -24,6 +24,37 @@ pub static CALLER: Program<'static> = Program {
     layout: "entry main\nplace text 80000000 00000400\n",
 };
 
+/// Calls one of three functions through a table of four addresses.
+pub static DISPATCH: Program<'static> = Program {
+    source: ".section text\n\
+        .global main\n\
+        main: and d15, d15, 3\n\
+        movh.a a15, 0x8000\n\
+        addsc.a a15, a15, d15, 2\n\
+        ld.a.l a15, [a15]32\n\
+        calli a15\n\
+        j16 .+0\n\
+        .space 10\n\
+        .word 0x80000030, 0x80000032, 0x80000034, 0x80000030\n\
+        ret16\n\
+        ret16\n\
+        ret16\n",
+    layout: "entry main\nplace text 80000000 00000400\n",
+};
+
+/// Saves five lower contexts and stands still.
+pub static FIVE_LOCALS: Program<'static> = Program {
+    source: ".section text\n\
+        .global main\n\
+        main: svlcx\n\
+        svlcx\n\
+        svlcx\n\
+        svlcx\n\
+        svlcx\n\
+        j16 .+0\n",
+    layout: "entry main\nplace text 80000000 00000400\n",
+};
+
 /// Sets LCX to 0 and stands still.
 pub static LIMIT_TO_ZERO: Program<'static> = Program {
     source: ".section text\n\

@@ -63,16 +63,22 @@ fn a_long_file_is_read_back(rt: HostRuntime) -> Result<(), Fail> {
     }
     files.write(rt.alloc(), name, &bytes)?;
     let whole = files.read(rt.alloc(), name, 10000);
+    let with_room = files.read(rt.alloc(), name, 10001);
     let cut = files.read(rt.alloc(), name, 9999);
     let far_cut = files.read(rt.alloc(), name, 4096);
     let front = bytes.get(..8192).ok_or("too few")?;
     files.write(rt.alloc(), name, front)?;
     let blocks = files.read(rt.alloc(), name, 8192);
+    let blocks_with_room = files.read(rt.alloc(), name, 8193);
+    let cut_blocks = files.read(rt.alloc(), name, 8191);
     fs::remove_file(&rt, name)?;
     same(&rt, &whole?.as_slice(), &bytes.as_slice());
+    same(&rt, &with_room?.as_slice(), &bytes.as_slice());
     same(&rt, &cut.err(), &Some(FileErr::TooLong));
     same(&rt, &far_cut.err(), &Some(FileErr::TooLong));
     same(&rt, &blocks?.as_slice(), &front);
+    same(&rt, &blocks_with_room?.as_slice(), &front);
+    same(&rt, &cut_blocks.err(), &Some(FileErr::TooLong));
     same(&rt, &files.failed, &0);
     Ok(())
 }
