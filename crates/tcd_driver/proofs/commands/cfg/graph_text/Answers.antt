@@ -11,8 +11,8 @@ read-requires c = one_most c.args.image.now c.args.plan.now c.args.bytes.items c
 pub graph_packed-requires : goal.graph_packed-requires
 graph_packed-requires c = (read_certified c.args.image.now c.args.plan.now c.args.bytes.items c.args.bytes.items _ refl c.requires c.in-Ok.ensures.ok).accepted
 
-pub returns-in-Ok : goal.returns-in-Ok
-returns-in-Ok c =
+pub returns-in_ok-graph_packed-in-Ok : goal.returns-in_ok-graph_packed-in-Ok
+returns-in_ok-graph_packed-in-Ok c =
     let same : c.into_bytes.result.items ≡ string_bytes c.in_ok-graph_packed-in-Ok.field-0 = ap (λ v. v.items) c.into_bytes.ensures.value in
     subst (IsDrawn c.args.image.now c.args.plan.now) (sym same)
     (graph_drawn c.args.image.now c.args.plan.now c.in-Ok.cert _ (subst IsImage c.image.view_is c.image.invariant).entry (subst IsPlan c.plan.view_is c.plan.invariant)
