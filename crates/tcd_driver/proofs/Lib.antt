@@ -13,3 +13,4 @@ pub mod GraphReports
 pub mod TasksReports
 pub mod TaskcertReports
 pub mod Headlines
+pub mod ToolWords

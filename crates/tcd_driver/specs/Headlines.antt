@@ -1,6 +1,12 @@
--- What it means that a command is done, or refuses: one statement for each, which stands by itself. Files held m and text was printed
--- before; what is held and printed after is seen in files' and sink'.
-use Rattle.std.specs.Prelude.{◌≡◌, ◌≢◌, ◌≤◌, ◌+◌, ◌-◌, ◌*◌, ◌^◌, ◌⊎◌, ℕ, List, [], ◌∷◌, ◌++◌, codes, length, Option, Ok, Some}
+-- What it means that a command is done, or refuses: one record each, complete in itself. `before`
+-- maps each name that was held to its bytes, `after` each name that is held at the end. `printed`
+-- is the text that the command printed.
+pub mod Boots
+pub mod Builds
+pub mod Cells
+pub mod Tasks
+pub mod Texts
+use Rattle.std.specs.Prelude.{◌≡◌, ◌≢◌, ◌<◌, ◌≤◌, ◌-◌, ◌^◌, ◌==◌, ◌⊎◌, ℕ, List, [], ◌∷◌, ◌++◌, codes, length, map, Ok, Some, if◌then◌else◌}
 use Rattle.std.specs.Fmt.{decimal}
 use Rattle.std.specs.FinMap.{get}
 use Rattle.elf_image.specs.Images.{ImageData}
@@ -17,25 +23,15 @@ use Rattle.tc_script.specs.ScriptData.{ScriptData}
 use Rattle.tc_script.specs.Reading.{script_of}
 use Rattle.tc_script.specs.Runs.{peak_of}
 use Rattle.tc_script.specs.ScriptRuns.{script_events}
-use Rattle.tc_boot.specs.Reset.{HasBoot, BootsSafely}
-use Rattle.value_cells.specs.declared.cells.Cell.{Cell}
-use Rattle.value_cells.specs.Cells.{with_cells}
-use Rattle.value_cells.specs.Keeping.{KeepsCells}
-use Rattle.value_cells.specs.Reading as cell_texts
-use Rattle.value_cells.specs.Safe.{SafeWithCells}
-use Rattle.task_chains.specs.Tasks.{TasksData, count}
-use Rattle.task_chains.specs.Reading as task_texts
-use Rattle.task_chains.specs.Routine.{HasRoutine}
-use Rattle.task_chains.specs.Safe.{SafeTasks, need_of_task}
-use Rattle.csa_chain.specs.SeveralChains.{sum_below}
-use Rattle.tcd_text.specs.Lines.{lines_of}
+use Rattle.tcd_text.specs.Digits.{hex_word}
 use Rattle.depth_cert.specs.declared.keys.Key.{Key}
+use Rattle.depth_cert.specs.Keys.{start_kind, call_kind, irq_kind, sys_kind}
 use Rattle.depth_cert.specs.Nodes.{NodeData}
 use Rattle.depth_cert.specs.Certs.{CertData, IsCert, find_node}
 use Rattle.depth_cert.specs.Grammar.{certificate_of}
 use Rattle.depth_cert.specs.Spelling.{bytes_of}
 use Rattle.cfg_recover.specs.Entries.{start_key}
-use Rattle.cfg_recover.specs.Accepting.{Accepts, Fails}
+use Rattle.cfg_recover.specs.Accepting.{Accepts, IsFirstFault}
 use Rattle.cfg_recover.specs.Assignments.{IsBelowAt, known_in}
 use Rattle.cfg_recover.specs.Refusals.{IsRefusal}
 use Rattle.depth_maker.specs.Making.{needs_in}
@@ -43,39 +39,63 @@ use Rattle.tc_link.specs.Layouts.{LayoutData}
 use Rattle.tc_link.specs.Faults.{layout_of}
 use Rattle.tc_link.specs.Linked.{image_of_objects}
 use Rattle.tc_program.specs.Placed.{Placed}
-use Rattle.tcd_base.specs.Files.{Map, FilesSeen}
-use Rattle.tcd_base.specs.Sink.{SinkSeen}
-use Rattle.tcd_reading.specs.Inputs.{FormSeen, HoldsInput, Reading}
-use Rattle.tcd_reading.specs.Endings.{Ends}
-use Rattle.tcd_reading.specs.declared.status.Status.{Status}
-use Rattle.tcd_reading.specs.declared.status.Status.TheVariants.{Done, Refused}
-use Rattle.tcd_forms.specs.Forms.{SourceData, cert_form, placed_source_form}
-use Rattle.tcd_forms.specs.Lines.{refused_line, end_text}
-use Rattle.tcd_driver.specs.Check.{CheckNames, check_reading}
-use Rattle.tcd_driver.specs.Cert.{CertNames, cert_reading}
-use Rattle.tcd_driver.specs.Ship.{ShipNames, ship_reading, objects_of, texts_of}
-use Rattle.tcd_driver.specs.Run.{RunNames, run_reading}
-use Rattle.tcd_driver.specs.Boot.{BootNames, boot_reading}
-use Rattle.tcd_driver.specs.Cells.{CellsNames, cells_reading}
-use Rattle.tcd_driver.specs.Tasks.{TasksNames, tasks_reading, cert_of}
-use Rattle.tcd_driver.specs.Commands as asked_for
-use Rattle.tcd_driver.specs.Commands.{command}
+use Rattle.tcd_base.specs.Files.{Map}
+use Rattle.tcd_forms.specs.Forms.{SourceData, IsSource}
+use Rattle.tcd_forms.specs.Lines.{end_text}
 
--- ---- parts
--- the name is held, its bytes are at most so many, and have this form
+-- ---- files
+-- the name was held, and its bytes are at most `most` and of this form
 pub record HoldsFile (m : Map) (name : List ℕ) (most : ℕ) (HasForm : List ℕ → Type 0) : Type 0 where
   pub bytes : List ℕ
   pub held : get m name ≡ Some bytes
   pub short : length bytes ≤ most
   pub form : HasForm bytes
 
--- the files of these names are these values, each in the form of its place in the list
-abbrev pub HoldEach : {A : Type 0} → (ℕ → FormSeen A) → ℕ → Option Map → List (List ℕ) → List A → Type 0
-HoldEach form place held [] [] = Unit {0}
-HoldEach form place held [] (x ∷ xs) = ⊥
-HoldEach form place held (name ∷ names) [] = ⊥
-HoldEach form place held (name ∷ names) (x ∷ xs) = HoldsInput (form place) held name x × HoldEach form (place + 1) held names xs
+-- the name holds this executable, of at most 16,777,216 bytes
+abbrev pub HoldsImage : Map → List ℕ → ImageData → Type 0
+HoldsImage m name image = HoldsFile m name (2 ^ 24) (λ bytes. image_of bytes ≡ Ok image)
 
+-- the name holds this plan
+abbrev pub HoldsPlan : Map → List ℕ → PlanData → Type 0
+HoldsPlan m name plan = HoldsFile m name (2 ^ 24) (λ bytes. Gives bytes (Ok plan))
+
+-- the name holds this certificate, of at most 1,073,741,824 bytes
+abbrev pub HoldsCert : Map → List ℕ → CertData → Type 0
+HoldsCert m name cert = HoldsFile m name (2 ^ 30) (λ bytes. certificate_of bytes ≡ Ok cert)
+
+-- the name holds this layout
+abbrev pub HoldsLayout : Map → List ℕ → LayoutData → Type 0
+HoldsLayout m name layout = HoldsFile m name (2 ^ 24) (λ bytes. layout_of bytes ≡ Ok layout)
+
+-- each name holds the value at its place in the list
+abbrev pub HoldEach : {A : Type 0} → Map → ℕ → (List ℕ → A → Type 0) → List (List ℕ) → List A → Type 0
+HoldEach m most Is [] [] = Unit {0}
+HoldEach m most Is [] (x ∷ xs) = ⊥
+HoldEach m most Is (name ∷ names) [] = ⊥
+HoldEach m most Is (name ∷ names) (x ∷ xs) = HoldsFile m name most (λ bytes. Is bytes x) × HoldEach m most Is names xs
+
+-- The file has more than `most` bytes, or its bytes have a fault. `line` is the line that says so.
+pub data IsBadFile (m : Map) (name : List ℕ) (most : ℕ) (long_line : List ℕ) (HasFault : List ℕ → List ℕ → Type 0) (line : List ℕ) : Type 0 where
+  too_long : (bytes : List ℕ) → get m name ≡ Some bytes → most < length bytes → line ≡ long_line → IsBadFile m name most long_line HasFault line
+  faulty : HoldsFile m name most (λ bytes. HasFault bytes line) → IsBadFile m name most long_line HasFault line
+
+-- an executable and its plan
+pub record AreFirmwareFiles (before : Map) (elf_name plan_name : List ℕ) (image : ImageData) (plan : PlanData) : Type 0 where
+  pub elf_file : HoldsImage before elf_name image
+  pub plan_file : HoldsPlan before plan_name plan
+
+-- an executable, its plan, and a certificate
+pub record AreCheckFiles (before : Map) (elf_name plan_name cert_name : List ℕ) (image : ImageData) (plan : PlanData) (cert : CertData) : Type 0 where
+  pub elf_file : HoldsImage before elf_name image
+  pub plan_file : HoldsPlan before plan_name plan
+  pub cert_file : HoldsCert before cert_name cert
+
+-- at the end the name holds these bytes, and each other name holds what it held before
+pub record IsWritten (before after : Map) (name bytes : List ℕ) : Type 0 where
+  pub written : get after name ≡ Some bytes
+  pub others : (other : List ℕ) → other ≢ name → get after other ≡ get before other
+
+-- ---- certificates
 -- the certificate is accepted, and this is the need of its start's node
 pub record IsAcceptedWith (image : ImageData) (plan : PlanData) (cert : CertData) (need : ℕ) : Type 0 where
   pub accepted : Accepts image plan cert
@@ -87,264 +107,169 @@ pub record IsAcceptedWith (image : ImageData) (plan : PlanData) (cert : CertData
 abbrev pub EachIsRefused : ImageData → PlanData → ℕ → Type 0
 EachIsRefused image plan version = (other : CertData) → IsCert other → other.version ≡ version → Accepts image plan other → ⊥
 
--- of version 1, or of version 2 where each of version 1 is refused; and none of its version that is accepted states a lesser need of a
--- frame, or less of what is known at a point
+-- no certificate of its version that is accepted states a lesser need of a frame, or less of what
+-- is known at a point
 pub record IsLeastOfItsVersion (image : ImageData) (plan : PlanData) (cert : CertData) : Type 0 where
   pub is_cert : IsCert cert
-  pub version : (cert.version ≡ 1) ⊎ ((cert.version ≡ 2) × EachIsRefused image plan 1)
   pub needs : (other : CertData) (frame : Key) → IsCert other → other.version ≡ cert.version → Accepts image plan other → needs_in cert frame ≤ needs_in other frame
   pub states : (other : CertData) → IsCert other → other.version ≡ cert.version → Accepts image plan other → IsBelowAt (known_in cert) (known_in other)
 
--- so many areas are needed, of so many
+-- The certificate that is made: it is accepted, so that every run is safe with its need, and no
+-- other of its version is better. It is of version 2 only if each of version 1 is refused. Its
+-- bytes read back as it.
+pub record IsBestWith (image : ImageData) (plan : PlanData) (cert : CertData) (need : ℕ) : Type 0 where
+  pub accepted : IsAcceptedWith image plan cert need
+  pub safe : Safe image plan need
+  pub version : (cert.version ≡ 1) ⊎ ((cert.version ≡ 2) × EachIsRefused image plan 1)
+  pub least : IsLeastOfItsVersion image plan cert
+  pub reads : certificate_of (bytes_of cert) ≡ Ok cert
+
+-- no certificate of either version is accepted, and this is why none of version 2 is
+pub record IsNone (image : ImageData) (plan : PlanData) (rule : ℕ) (frame : Key) (address : ℕ) : Type 0 where
+  pub each : (cert : CertData) → IsCert cert → Accepts image plan cert → ⊥
+  pub why : IsRefusal image plan 2 rule frame address
+
+-- ---- lines
+-- the line of `check`: the need, and the areas without the reserve
 abbrev pub certified_words : ℕ → ℕ → List ℕ
 certified_words need areas = codes "certified " ++ (decimal need ++ (codes " of " ++ (decimal areas ++ (codes " areas" ++ 10 ∷ []))))
 
+-- how a frame is entered: at the start, or by a call, an interrupt, a system call, or a misaligned
+-- access
+abbrev pub kind_words : ℕ → List ℕ
+kind_words kind =
+    if kind == start_kind then codes "start "
+    else if kind == call_kind then codes "call "
+    else if kind == irq_kind then codes "irq "
+    else if kind == sys_kind then codes "sys "
+    else codes "aln "
+
+-- a frame: its kind, its entry, its interrupt priority, and whether it runs on the interrupt stack
+abbrev pub frame_words : Key → List ℕ
+frame_words frame =
+    kind_words frame.kind ++ (hex_word frame.entry ++ (codes " prio " ++ (decimal frame.prio ++ (codes " is " ++ ((if frame.is then 49 else 48) ∷ 10 ∷ [])))))
+
+-- the line of a refusal: the rule that fails, the address, and the frame
+abbrev pub refused_words : ℕ → Key → ℕ → List ℕ
+refused_words rule frame address = codes "refused K" ++ (decimal rule ++ (codes " at " ++ (hex_word address ++ (codes " in " ++ frame_words frame))))
+
 -- ---- check
--- Done of `check`: the three files were held, and are an image, a plan and a certificate; it is accepted, so that every run is safe with
--- its need; exactly that was printed; and what was held is held still.
-pub record HeadlineOfCheck (names : CheckNames) (m : Map) (text : List ℕ) (files' : FilesSeen) (sink' : SinkSeen) : Type 0 where
+-- `check` is done: the certificate is accepted for the executable and the plan, so that every run
+-- is safe with its need.
+pub record HeadlineOfCheck (elf_name plan_name cert_name : List ℕ) (before after : Map) (printed : List ℕ) : Type 0 where
   pub image : ImageData
   pub plan : PlanData
   pub cert : CertData
   pub need : ℕ
-  pub elf_file : HoldsFile m names.elf (2 ^ 24) (λ bytes. image_of bytes ≡ Ok image)
-  pub plan_file : HoldsFile m names.plan (2 ^ 24) (λ bytes. Gives bytes (Ok plan))
-  pub cert_file : HoldsFile m names.cert (2 ^ 30) (λ bytes. certificate_of bytes ≡ Ok cert)
+  pub files : AreCheckFiles before elf_name plan_name cert_name image plan cert
   pub accepted : IsAcceptedWith image plan cert need
   pub safe : Safe image plan need
-  pub printed : sink'.written ≡ Some (text ++ certified_words need (plan.areas - plan.reserve))
-  pub held : files'.held ≡ Some m
+  pub prints : printed ≡ certified_words need (plan.areas - plan.reserve)
+  pub stays : after ≡ before
 
--- Refused of `check`: such files, but a rule fails at a place, which was printed, so that the certificate isn't accepted.
-pub record RefusalByCheck (names : CheckNames) (m : Map) (text : List ℕ) (files' : FilesSeen) (sink' : SinkSeen) : Type 0 where
+-- `check` refuses: the certificate isn't accepted. This rule fails first, in this frame at this
+-- address. `report` refuses so, too.
+pub record RefusalByCheck (elf_name plan_name cert_name : List ℕ) (before after : Map) (printed : List ℕ) : Type 0 where
   pub image : ImageData
   pub plan : PlanData
   pub cert : CertData
   pub rule : ℕ
   pub frame : Key
   pub address : ℕ
-  pub elf_file : HoldsFile m names.elf (2 ^ 24) (λ bytes. image_of bytes ≡ Ok image)
-  pub plan_file : HoldsFile m names.plan (2 ^ 24) (λ bytes. Gives bytes (Ok plan))
-  pub cert_file : HoldsFile m names.cert (2 ^ 30) (λ bytes. certificate_of bytes ≡ Ok cert)
-  pub fails : Fails image plan cert rule frame address
+  pub files : AreCheckFiles before elf_name plan_name cert_name image plan cert
   pub unaccepted : Accepts image plan cert → ⊥
-  pub printed : sink'.written ≡ Some (text ++ refused_line rule frame address)
-  pub held : files'.held ≡ Some m
+  pub first : IsFirstFault image plan cert rule frame address
+  pub prints : printed ≡ refused_words rule frame address
+  pub stays : after ≡ before
 
 -- ---- cert
--- Done of `cert`: the two files were held, and are an image and a plan; the third now holds exactly the bytes of a certificate, which read as
--- it, and all else is held as before; every run is safe with its need, and no certificate of its version does better; exactly that was printed.
-pub record HeadlineOfCert (names : CertNames) (m : Map) (text : List ℕ) (files' : FilesSeen) (sink' : SinkSeen) : Type 0 where
+-- `cert` is done: CERT now holds the best certificate for the executable and the plan.
+pub record HeadlineOfCert (elf_name plan_name cert_name : List ℕ) (before after : Map) (printed : List ℕ) : Type 0 where
   pub image : ImageData
   pub plan : PlanData
   pub cert : CertData
   pub need : ℕ
-  pub elf_file : HoldsFile m names.elf (2 ^ 24) (λ bytes. image_of bytes ≡ Ok image)
-  pub plan_file : HoldsFile m names.plan (2 ^ 24) (λ bytes. Gives bytes (Ok plan))
-  pub accepted : IsAcceptedWith image plan cert need
-  pub safe : Safe image plan need
-  pub least : IsLeastOfItsVersion image plan cert
-  pub reads : certificate_of (bytes_of cert) ≡ Ok cert
-  pub after : Map
-  pub held : files'.held ≡ Some after
-  pub cert_written : get after names.cert ≡ Some (bytes_of cert)
-  pub others : (name : List ℕ) → name ≢ names.cert → get after name ≡ get m name
-  pub printed : sink'.written ≡ Some (text ++ certified_words need (plan.areas - plan.reserve))
+  pub files : AreFirmwareFiles before elf_name plan_name image plan
+  pub best : IsBestWith image plan cert need
+  pub writes : IsWritten before after cert_name (bytes_of cert)
+  pub prints : printed ≡ certified_words need (plan.areas - plan.reserve)
 
--- Refused of `cert`: such files, but each certificate, of either version, is refused; why it is so of version 2 was printed; and what was held
--- is held still.
-pub record RefusalByCert (names : CertNames) (m : Map) (text : List ℕ) (files' : FilesSeen) (sink' : SinkSeen) : Type 0 where
+-- `cert` refuses: no certificate is accepted. `cfg` refuses so, too.
+pub record RefusalByCert (elf_name plan_name : List ℕ) (before after : Map) (printed : List ℕ) : Type 0 where
   pub image : ImageData
   pub plan : PlanData
   pub rule : ℕ
   pub frame : Key
   pub address : ℕ
-  pub elf_file : HoldsFile m names.elf (2 ^ 24) (λ bytes. image_of bytes ≡ Ok image)
-  pub plan_file : HoldsFile m names.plan (2 ^ 24) (λ bytes. Gives bytes (Ok plan))
-  pub each : (cert : CertData) → IsCert cert → Accepts image plan cert → ⊥
-  pub why : IsRefusal image plan 2 rule frame address
-  pub printed : sink'.written ≡ Some (text ++ refused_line rule frame address)
-  pub held : files'.held ≡ Some m
+  pub files : AreFirmwareFiles before elf_name plan_name image plan
+  pub none : IsNone image plan rule frame address
+  pub prints : printed ≡ refused_words rule frame address
+  pub stays : after ≡ before
 
 -- ---- ship
--- Done of `ship`, where its two outputs have different names: plan, layout and sources were held; the image is linked from the objects of the
--- sources by the layout, and their statements stand in it; ELF holds exactly its bytes, which read as it, and CERT those of a certificate for
--- it, as of `cert`; all else is held as before.
-pub record HeadlineOfShip (names : ShipNames) (m : Map) (text : List ℕ) (files' : FilesSeen) (sink' : SinkSeen) : Type 0 where
-  pub plan : PlanData
+-- the text of a source, and the object that it is assembled to
+pub record IsSourceText (bytes : List ℕ) (source : SourceData) : Type 0 where
+  pub text : source.text ≡ bytes
+  pub object : IsSource bytes source.object
+
+-- a plan, a layout and sources: the objects of the sources are linked to the image by the layout,
+-- and each of their statements has its bytes in the image
+pub record IsImageOfFiles (before : Map) (plan_name layout_name : List ℕ) (source_names : List (List ℕ)) (plan : PlanData) (image : ImageData) : Type 0 where
   pub layout : LayoutData
   pub sources : List SourceData
+  pub plan_file : HoldsPlan before plan_name plan
+  pub layout_file : HoldsLayout before layout_name layout
+  pub source_files : HoldEach before (2 ^ 24) IsSourceText source_names sources
+  pub linked : image_of_objects (map (λ source. source.object) sources) layout ≡ Ok image
+  pub placed : Placed (map (λ source. source.text) sources) layout image
+
+-- `ship` is done: ELF and CERT are different names. ELF now holds the image of the sources, and its
+-- bytes read back as it. CERT now holds the best certificate for this image. Each other name holds
+-- what it held.
+pub record HeadlineOfShip (plan_name layout_name elf_name cert_name : List ℕ) (source_names : List (List ℕ)) (before after : Map) (printed : List ℕ) : Type 0 where
+  pub plan : PlanData
   pub image : ImageData
   pub cert : CertData
   pub need : ℕ
-  pub plan_file : HoldsFile m names.plan (2 ^ 24) (λ bytes. Gives bytes (Ok plan))
-  pub layout_file : HoldsFile m names.layout (2 ^ 24) (λ bytes. layout_of bytes ≡ Ok layout)
-  pub source_files : HoldEach placed_source_form 0 (Some m) names.sources sources
-  pub image_is : image_of_objects (objects_of sources) layout ≡ Ok image
-  pub placed : Placed (texts_of sources) layout image
-  pub accepted : IsAcceptedWith image plan cert need
-  pub safe : Safe image plan need
-  pub least : IsLeastOfItsVersion image plan cert
+  pub apart : elf_name ≢ cert_name
+  pub image_is : IsImageOfFiles before plan_name layout_name source_names plan image
   pub image_reads : image_of (file_of image) ≡ Ok image
-  pub cert_reads : certificate_of (bytes_of cert) ≡ Ok cert
-  pub after : Map
-  pub held : files'.held ≡ Some after
-  pub elf_written : get after names.elf ≡ Some (file_of image)
-  pub cert_written : get after names.cert ≡ Some (bytes_of cert)
-  pub others : (name : List ℕ) → name ≢ names.elf → name ≢ names.cert → get after name ≡ get m name
-  pub printed : sink'.written ≡ Some (text ++ certified_words need (plan.areas - plan.reserve))
+  pub best : IsBestWith image plan cert need
+  pub elf_written : get after elf_name ≡ Some (file_of image)
+  pub cert_written : get after cert_name ≡ Some (bytes_of cert)
+  pub others : (other : List ℕ) → other ≢ elf_name → other ≢ cert_name → get after other ≡ get before other
+  pub prints : printed ≡ certified_words need (plan.areas - plan.reserve)
+
+-- `ship` refuses: no certificate is accepted for the image of the sources.
+pub record RefusalByShip (plan_name layout_name : List ℕ) (source_names : List (List ℕ)) (before after : Map) (printed : List ℕ) : Type 0 where
+  pub plan : PlanData
+  pub image : ImageData
+  pub rule : ℕ
+  pub frame : Key
+  pub address : ℕ
+  pub image_is : IsImageOfFiles before plan_name layout_name source_names plan image
+  pub none : IsNone image plan rule frame address
+  pub prints : printed ≡ refused_words rule frame address
+  pub stays : after ≡ before
 
 -- ---- run
--- Done of `run`: the three files were held, and are an image, a plan and a script for it; from a start state, in which all that the plan leaves
--- open is 0, the script's events were run; how many they are, the greatest number of areas in use, and how the machine ended was printed.
-pub record HeadlineOfRun (names : RunNames) (m : Map) (text : List ℕ) (files' : FilesSeen) (sink' : SinkSeen) : Type 0 where
+-- `run` is done: the script's events were run from a start state in which everything that the plan
+-- leaves open is 0. The line has the number of events, the most areas in use, and how the machine
+-- ended.
+pub record HeadlineOfRun (elf_name plan_name script_name : List ℕ) (before after : Map) (printed : List ℕ) : Type 0 where
   pub image : ImageData
   pub plan : PlanData
   pub script : ScriptData
   pub start : Machine
   pub events : List Event
   pub last : Machine
-  pub elf_file : HoldsFile m names.elf (2 ^ 24) (λ bytes. image_of bytes ≡ Ok image)
-  pub plan_file : HoldsFile m names.plan (2 ^ 24) (λ bytes. Gives bytes (Ok plan))
-  pub script_file : HoldsFile m names.script (2 ^ 24) (λ bytes. script_of plan bytes ≡ Ok script)
+  pub files : AreFirmwareFiles before elf_name plan_name image plan
+  pub script_file : HoldsFile before script_name (2 ^ 24) (λ bytes. script_of plan bytes ≡ Ok script)
   pub starts : Starts image plan start
   pub in_zeros : StartsInZeros image plan start
   pub events_are : events ≡ script_events plan script start
   pub last_is : last ≡ run start events
-  pub printed :
-      sink'.written
-      ≡ Some (text ++ (codes "events " ++ (decimal (length events) ++ (codes " peak " ++ (decimal (peak_of start events) ++ (codes " " ++ end_text last.end last.pc))))))
-  pub held : files'.held ≡ Some m
-
--- ---- boot
--- Done of `boot`: as of `check`, and the boot sequence stands at the address and may run; from every state at reset on it reaches a start
--- state, and each later state is safe.
-pub record HeadlineOfBoot (names : BootNames) (m : Map) (text : List ℕ) (files' : FilesSeen) (sink' : SinkSeen) : Type 0 where
-  pub image : ImageData
-  pub plan : PlanData
-  pub cert : CertData
-  pub need : ℕ
-  pub elf_file : HoldsFile m names.elf (2 ^ 24) (λ bytes. image_of bytes ≡ Ok image)
-  pub plan_file : HoldsFile m names.plan (2 ^ 24) (λ bytes. Gives bytes (Ok plan))
-  pub cert_file : HoldsFile m names.cert (2 ^ 30) (λ bytes. certificate_of bytes ≡ Ok cert)
-  pub accepted : IsAcceptedWith image plan cert need
-  pub stands : HasBoot image plan names.at
-  pub safe : BootsSafely image plan names.at need
-  pub printed :
-      sink'.written
-      ≡ Some (text
-      ++ (codes "boot "
-      ++ (decimal (53 + 3 * plan.areas) ++ (codes " events certified " ++ (decimal need ++ (codes " of " ++ (decimal (plan.areas - plan.reserve) ++ (codes " areas" ++ 10 ∷ []))))))))
-  pub held : files'.held ≡ Some m
-
--- ---- cells
--- Done of `cells`: the four files were held, and are an image, a plan, cells of it and a certificate; it is accepted under the plan in which the
--- cells are devices; every run under the plan itself in which the cells' words start in their bounds is safe with its need, and keeps them there.
-pub record HeadlineOfCells (names : CellsNames) (m : Map) (text : List ℕ) (files' : FilesSeen) (sink' : SinkSeen) : Type 0 where
-  pub image : ImageData
-  pub plan : PlanData
-  pub cells : List Cell
-  pub cert : CertData
-  pub need : ℕ
-  pub elf_file : HoldsFile m names.elf (2 ^ 24) (λ bytes. image_of bytes ≡ Ok image)
-  pub plan_file : HoldsFile m names.plan (2 ^ 24) (λ bytes. Gives bytes (Ok plan))
-  pub cells_file : HoldsFile m names.cells (2 ^ 24) (λ bytes. cell_texts.Reads plan bytes (Ok cells))
-  pub cert_file : HoldsFile m names.cert (2 ^ 30) (λ bytes. certificate_of bytes ≡ Ok cert)
-  pub accepted : IsAcceptedWith image (with_cells plan cells) cert need
-  pub keeps : KeepsCells image (with_cells plan cells) cells cert
-  pub safe : SafeWithCells image plan cells need
-  pub printed :
-      sink'.written
-      ≡ Some (text
-      ++ (codes "certified "
-      ++ (decimal need ++ (codes " of " ++ (decimal (plan.areas - plan.reserve) ++ (codes " areas with " ++ (decimal (length cells) ++ (codes " cells" ++ 10 ∷ []))))))))
-  pub held : files'.held ≡ Some m
-
--- ---- tasks
--- Done of `tasks`: the files were held, and are an image, a plan, its tasks and a certificate for each, as many as tasks; the image has the
--- switch routine; the needs are together at most the areas without the reserve; and every run of all tasks is safe with these needs.
-pub record HeadlineOfTasks (names : TasksNames) (m : Map) (text : List ℕ) (files' : FilesSeen) (sink' : SinkSeen) : Type 0 where
-  pub image : ImageData
-  pub plan : PlanData
-  pub tasks : TasksData
-  pub certs : List CertData
-  pub needs : ℕ → ℕ
-  pub elf_file : HoldsFile m names.elf (2 ^ 24) (λ bytes. image_of bytes ≡ Ok image)
-  pub plan_file : HoldsFile m names.plan (2 ^ 24) (λ bytes. Gives bytes (Ok plan))
-  pub tasks_file : HoldsFile m names.tasks (2 ^ 24) (λ bytes. task_texts.Reads plan (lines_of bytes) (Ok tasks))
-  pub cert_files : HoldEach (λ _. cert_form) 0 (Some m) names.certs certs
-  pub as_many : length names.certs ≡ count tasks
-  pub routine : HasRoutine image plan tasks
-  pub needs_are : (u : ℕ) → needs u ≡ need_of_task image plan tasks (cert_of certs) u
-  pub enough : sum_below (count tasks) needs ≤ plan.areas - plan.reserve
-  pub safe : SafeTasks image plan tasks needs
-  pub printed :
-      sink'.written
-      ≡ Some (text
-      ++ (codes "certified "
-      ++ (decimal (sum_below (count tasks) needs) ++ (codes " of " ++ (decimal (plan.areas - plan.reserve) ++ (codes " areas in " ++ (decimal (count tasks) ++ (codes " tasks" ++ 10 ∷ []))))))))
-  pub held : files'.held ≡ Some m
-
--- ---- the laws
--- A command that reads so ended with this status, over files that held m and a sink to which text was printed: then this holds.
-abbrev pub EndMeans : Reading → Status → (Map → List ℕ → FilesSeen → SinkSeen → Type 0) → Type 0
-EndMeans reading result Means =
-    (files files' : FilesSeen) (sink sink' : SinkSeen) (m : Map) (text : List ℕ) → files.held ≡ Some m → sink.written ≡ Some text
-    → Ends reading files files' sink sink' result → Means m text files' sink'
-
-abbrev pub CheckIsDone : Type 0
-CheckIsDone = (names : CheckNames) → EndMeans (check_reading names) Done (HeadlineOfCheck names)
-
-abbrev pub CheckRefuses : Type 0
-CheckRefuses = (names : CheckNames) → EndMeans (check_reading names) Refused (RefusalByCheck names)
-
-abbrev pub CertIsDone : Type 0
-CertIsDone = (names : CertNames) → EndMeans (cert_reading names) Done (HeadlineOfCert names)
-
-abbrev pub CertRefuses : Type 0
-CertRefuses = (names : CertNames) → EndMeans (cert_reading names) Refused (RefusalByCert names)
-
-abbrev pub ShipIsDone : Type 0
-ShipIsDone = (names : ShipNames) → names.elf ≢ names.cert → EndMeans (ship_reading names) Done (HeadlineOfShip names)
-
-abbrev pub RunIsDone : Type 0
-RunIsDone = (names : RunNames) → EndMeans (run_reading names) Done (HeadlineOfRun names)
-
-abbrev pub BootIsDone : Type 0
-BootIsDone = (names : BootNames) → EndMeans (boot_reading names) Done (HeadlineOfBoot names)
-
-abbrev pub CellsAreDone : Type 0
-CellsAreDone = (names : CellsNames) → EndMeans (cells_reading names) Done (HeadlineOfCells names)
-
-abbrev pub TasksAreDone : Type 0
-TasksAreDone = (names : TasksNames) → EndMeans (tasks_reading names) Done (HeadlineOfTasks names)
-
--- these words are these commands
-pub record WordsAsk : Type 0 where
-  pub of_check : (elf plan cert : List ℕ) → command (codes "check" ∷ elf ∷ plan ∷ cert ∷ []) ≡ Some (asked_for.check (record { elf = elf; plan = plan; cert = cert }))
-  pub of_cert : (elf plan cert : List ℕ) → command (codes "cert" ∷ elf ∷ plan ∷ cert ∷ []) ≡ Some (asked_for.certify (record { elf = elf; plan = plan; cert = cert }))
-  pub of_run : (elf plan script : List ℕ) → command (codes "run" ∷ elf ∷ plan ∷ script ∷ []) ≡ Some (asked_for.run (record { elf = elf; plan = plan; script = script }))
-
--- ---- the tool
--- Where the words are these, and it ended with this status, over files that held m and a sink to which text was printed, this holds.
-abbrev pub Holds : List (List ℕ) → List (List ℕ) → Status → (Map → List ℕ → FilesSeen → SinkSeen → Type 0) → FilesSeen → FilesSeen → SinkSeen → SinkSeen → Status → Type 0
-Holds words these status Means files files' sink sink' result =
-    (m : Map) (text : List ℕ) → words ≡ these → result ≡ status → files.held ≡ Some m → sink.written ≡ Some text → Means m text files' sink'
-
--- What the tool promises of `check`, `cert` and `run`, by their words.
-pub record ToolSays (words : List (List ℕ)) (files files' : FilesSeen) (sink sink' : SinkSeen) (result : Status) : Type 0 where
-  pub check :
-      (elf plan cert : List ℕ)
-      → Holds words (codes "check" ∷ elf ∷ plan ∷ cert ∷ []) Done (HeadlineOfCheck (record { elf = elf; plan = plan; cert = cert })) files files' sink sink' result
-  pub check_refuses :
-      (elf plan cert : List ℕ)
-      → Holds words (codes "check" ∷ elf ∷ plan ∷ cert ∷ []) Refused (RefusalByCheck (record { elf = elf; plan = plan; cert = cert })) files files' sink sink' result
-  pub cert :
-      (elf plan cert : List ℕ)
-      → Holds words (codes "cert" ∷ elf ∷ plan ∷ cert ∷ []) Done (HeadlineOfCert (record { elf = elf; plan = plan; cert = cert })) files files' sink sink' result
-  pub cert_refuses :
-      (elf plan cert : List ℕ)
-      → Holds words (codes "cert" ∷ elf ∷ plan ∷ cert ∷ []) Refused (RefusalByCert (record { elf = elf; plan = plan; cert = cert })) files files' sink sink' result
-  pub run :
-      (elf plan script : List ℕ)
-      → Holds words (codes "run" ∷ elf ∷ plan ∷ script ∷ []) Done (HeadlineOfRun (record { elf = elf; plan = plan; script = script })) files files' sink sink' result
+  pub prints :
+      printed
+      ≡ codes "events " ++ (decimal (length events) ++ (codes " peak " ++ (decimal (peak_of start events) ++ (codes " " ++ end_text last.end last.pc))))
+  pub stays : after ≡ before

@@ -5,10 +5,8 @@ mod command;
 mod commands;
 mod different;
 mod forms;
-mod laws;
 mod lines;
 mod making;
 mod tools;
 
-pub use laws::headline_laws;
 pub use tools::tool;

@@ -1,8 +1,7 @@
 // The tool.
 ghost use Rattle.std.specs.Prelude.{map, string_bytes, IsNone, IfSome, IfNone, ◌≡◌};
 ghost use Rattle.tcd_driver.specs.Commands.{command, reading_of};
-ghost use Rattle.tcd_driver.specs.Headlines.{ToolSays};
-ghost use Rattle.tcd_driver.specs.Tool.{EndsWithBadWords};
+ghost use Rattle.tcd_driver.specs.Tool.{EndsWithBadWords, ToolSays};
 ghost use Rattle.tcd_reading.specs.Endings.{Ends};
 
 use crate::command::asked_command;
@@ -37,8 +36,14 @@ pub fn tool<F: Files, S: Sink>(
     ensures command { IfSome (command (map string_bytes words.now))
         (λ c. Ends (reading_of c) (F.seen files.old) (F.seen files.new) (S.seen out.old)
         (S.seen out.new) result) }
-    ensures says { ToolSays (map string_bytes words.now) (F.seen files.old) (F.seen files.new)
-        (S.seen out.old) (S.seen out.new) result }
+    ensures says { ToolSays (record {
+      words = map string_bytes words.now;
+      files = F.seen files.old;
+      files_after = F.seen files.new;
+      sink = S.seen out.old;
+      sink_after = S.seen out.new;
+      status = result;
+    }) }
 {
     match asked_command(alloc, words) {
         Some(command) => {

@@ -1,0 +1,109 @@
+-- What it means that `cells` and `cellcert` are done.
+use Rattle.std.specs.Prelude.{◌≡◌, ◌-◌, ◌^◌, ◌⊎◌, ℕ, List, [], ◌∷◌, ◌++◌, codes, length, Ok}
+use Rattle.std.specs.Fmt.{decimal}
+use Rattle.elf_image.specs.Images.{ImageData}
+use Rattle.tcd_plan.specs.PlanData.{PlanData}
+use Rattle.depth_cert.specs.declared.keys.Key.{Key}
+use Rattle.depth_cert.specs.Certs.{CertData, IsCert}
+use Rattle.depth_cert.specs.Grammar.{certificate_of}
+use Rattle.depth_cert.specs.Spelling.{bytes_of}
+use Rattle.cfg_recover.specs.Accepting.{Accepts, IsFirstFault}
+use Rattle.cfg_recover.specs.Refusals.{IsRefusal}
+use Rattle.value_cells.specs.declared.cells.Cell.{Cell}
+use Rattle.value_cells.specs.Cells.{with_cells}
+use Rattle.value_cells.specs.Keeping.{KeepsCells, IsFirstBreak}
+use Rattle.value_cells.specs.Reading.{Reads}
+use Rattle.value_cells.specs.Safe.{SafeWithCells}
+use Rattle.tcd_base.specs.Files.{Map}
+use Rattle.tcd_driver.specs.Headlines.{HoldsFile, AreFirmwareFiles, HoldsCert, IsWritten, IsAcceptedWith, EachIsRefused, IsLeastOfItsVersion, refused_words}
+
+-- an executable, a plan, and its cells
+pub record AreCellFiles (before : Map) (elf_name plan_name cells_name : List ℕ) (image : ImageData) (plan : PlanData) (list : List Cell) : Type 0 where
+  pub firmware : AreFirmwareFiles before elf_name plan_name image plan
+  pub cells_file : HoldsFile before cells_name (2 ^ 24) (λ bytes. Reads plan bytes (Ok list))
+
+-- The certificate is accepted under the plan in which the cells are devices, and each store keeps
+-- the cells' bounds. So each run under the plan itself is safe with the certificate's need if each
+-- cell starts in its bounds, and each cell stays in them.
+pub record AreKeptWith (image : ImageData) (plan : PlanData) (list : List Cell) (cert : CertData) (need : ℕ) : Type 0 where
+  pub accepted : IsAcceptedWith image (with_cells plan list) cert need
+  pub keeps : KeepsCells image (with_cells plan list) list cert
+  pub safe : SafeWithCells image plan list need
+
+-- the line of `cells`: the need, the areas without the reserve, and the number of cells
+abbrev pub cells_words : ℕ → ℕ → ℕ → List ℕ
+cells_words need areas n =
+    codes "certified " ++ (decimal need ++ (codes " of " ++ (decimal areas ++ (codes " areas with " ++ (decimal n ++ (codes " cells" ++ 10 ∷ []))))))
+
+-- `cells` is done: by the certificate every run is safe and keeps the cells in their bounds.
+pub record HeadlineOfCells (elf_name plan_name cells_name cert_name : List ℕ) (before after : Map) (printed : List ℕ) : Type 0 where
+  pub image : ImageData
+  pub plan : PlanData
+  pub list : List Cell
+  pub cert : CertData
+  pub need : ℕ
+  pub files : AreCellFiles before elf_name plan_name cells_name image plan list
+  pub cert_file : HoldsCert before cert_name cert
+  pub kept : AreKeptWith image plan list cert need
+  pub prints : printed ≡ cells_words need (plan.areas - plan.reserve) (length list)
+  pub stays : after ≡ before
+
+-- `cells` refuses: the certificate isn't accepted, and this rule fails first. Or it is accepted,
+-- and this is the first store that may leave a cell's bounds (rule 16).
+pub record RefusalByCells (elf_name plan_name cells_name cert_name : List ℕ) (before after : Map) (printed : List ℕ) : Type 0 where
+  pub image : ImageData
+  pub plan : PlanData
+  pub list : List Cell
+  pub cert : CertData
+  pub rule : ℕ
+  pub frame : Key
+  pub address : ℕ
+  pub files : AreCellFiles before elf_name plan_name cells_name image plan list
+  pub cert_file : HoldsCert before cert_name cert
+  pub fails :
+      IsFirstFault image (with_cells plan list) cert rule frame address
+      ⊎ ((rule ≡ 16) × Accepts image (with_cells plan list) cert × IsFirstBreak image (with_cells plan list) list cert frame address)
+  pub prints : printed ≡ refused_words rule frame address
+  pub stays : after ≡ before
+
+-- `cellcert` is done: CERT now holds such a certificate, the least of version 2 under the plan in
+-- which the cells are devices.
+pub record HeadlineOfCellcert (elf_name plan_name cells_name cert_name : List ℕ) (before after : Map) (printed : List ℕ) : Type 0 where
+  pub image : ImageData
+  pub plan : PlanData
+  pub list : List Cell
+  pub cert : CertData
+  pub need : ℕ
+  pub files : AreCellFiles before elf_name plan_name cells_name image plan list
+  pub kept : AreKeptWith image plan list cert need
+  pub version : cert.version ≡ 2
+  pub least : IsLeastOfItsVersion image (with_cells plan list) cert
+  pub reads : certificate_of (bytes_of cert) ≡ Ok cert
+  pub writes : IsWritten before after cert_name (bytes_of cert)
+  pub prints : printed ≡ cells_words need (plan.areas - plan.reserve) (length list)
+
+-- by each certificate of version 2 that is accepted under the plan in which the cells are devices,
+-- a store may leave a cell's bounds; this is the first such store by the least one
+pub record NoneKeeps (image : ImageData) (plan : PlanData) (list : List Cell) (frame : Key) (address : ℕ) : Type 0 where
+  pub each : (other : CertData) → IsCert other → other.version ≡ 2 → Accepts image (with_cells plan list) other → KeepsCells image (with_cells plan list) list other → ⊥
+  pub cert : CertData
+  pub version : cert.version ≡ 2
+  pub accepted : Accepts image (with_cells plan list) cert
+  pub least : IsLeastOfItsVersion image (with_cells plan list) cert
+  pub first : IsFirstBreak image (with_cells plan list) list cert frame address
+
+-- `cellcert` refuses: no certificate of version 2 is accepted, and this is why. Or none that is
+-- accepted keeps the cells' bounds (rule 16).
+pub record RefusalByCellcert (elf_name plan_name cells_name : List ℕ) (before after : Map) (printed : List ℕ) : Type 0 where
+  pub image : ImageData
+  pub plan : PlanData
+  pub list : List Cell
+  pub rule : ℕ
+  pub frame : Key
+  pub address : ℕ
+  pub files : AreCellFiles before elf_name plan_name cells_name image plan list
+  pub fails :
+      (EachIsRefused image (with_cells plan list) 2 × IsRefusal image (with_cells plan list) 2 rule frame address)
+      ⊎ ((rule ≡ 16) × NoneKeeps image plan list frame address)
+  pub prints : printed ≡ refused_words rule frame address
+  pub stays : after ≡ before
