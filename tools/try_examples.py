@@ -1,16 +1,20 @@
 #!/usr/bin/env python3
 """Tries the examples: python3 tools/try_examples.py PROGRAM [EXAMPLE ..]
 
-PROGRAM is the built tcd (crates/tcd/out/tcd). Each folder of examples/ with a file `expected` is copied into a new folder, and each
-line `WORDS => LINE` of that file is run there: the program gets the words, and what it prints has to be the line, its status the
-one that such a line has, with nothing on standard error. Then each folder `broken*` in it is tried the same way: the example's files,
-those of the broken folder over them, and the lines of its own `expected`.
+PROGRAM is tcd (crates/tcd/out/tcd, or `tcd` if it is on the path). Each folder of examples/ with a
+file `expected` is copied into a new folder, and each line `WORDS => LINE` of that file is run
+there: the program gets the words, and it has to print the line, end with the status that such a
+line has, and print nothing on standard error. Then each folder `broken*` in it is tried the same
+way: the example's files, those of the broken folder over them, and the lines of its own `expected`.
 
-A text of several lines is expected as `N lines`. A listing is assembled and linked anew at its own addresses as well, and has to
-give the same executable.
+A text of several lines is expected as `N lines`. A listing is assembled and linked again at its own
+addresses as well, and has to give the same executable.
 
-A command that isn't built yet answers `bad words`: such a line, and a later one that reads a file which isn't there for that reason,
-is counted as not built yet and doesn't fail. Ends with 1 where a line differs, or no line was tried.
+A command that isn't built yet answers `bad words`: such a line, and a later one that reads a file
+which isn't there for that reason, is counted as not built yet and doesn't fail.
+
+Exit status: 0 all lines as expected, 1 a line differs or none was tried, 2 no such program, 5 wrong
+words.
 """
 import pathlib
 import re
@@ -18,6 +22,8 @@ import shutil
 import subprocess
 import sys
 import tempfile
+
+import program as programs
 
 EXAMPLES = pathlib.Path(__file__).resolve().parent.parent / "examples"
 OK, DIFFERS, NOT_BUILT = "ok", "differs", "not built yet"
@@ -98,7 +104,7 @@ def folder_tried(program, sources, counts):
 
 
 def main():
-    program = str(pathlib.Path(sys.argv[1]).resolve())
+    program = programs.of_words(sys.argv[1:], __doc__)
     counts = {OK: 0, DIFFERS: 0, NOT_BUILT: 0}
     for example in sorted(path.parent for path in EXAMPLES.glob("*/expected")):
         if len(sys.argv) > 2 and example.name not in sys.argv[2:]:
@@ -110,4 +116,5 @@ def main():
     sys.exit(1 if counts[DIFFERS] or not counts[OK] else 0)
 
 
-main()
+if __name__ == "__main__":
+    main()

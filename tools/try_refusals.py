@@ -1,23 +1,31 @@
 #!/usr/bin/env python3
 """Tries the examples of docs/refusals.md: python3 tools/try_refusals.py PROGRAM
 
-PROGRAM is the built tcd (crates/tcd/out/tcd). Each row of a table that ends with an example and what is printed for it is run, and
-what is printed is compared. In an example `;` parts lines. By the printed line it is
+PROGRAM is tcd (crates/tcd/out/tcd, or `tcd` if it is on the path). Each row of a table that ends
+with an example and what is printed for it is run, and what is printed is compared. In an example
+`;` parts lines. By the printed line it is
 
 bad source   a source, which `asm` gets
-bad plan     an edit `KEY: VALUE` of the plan below (`nothing` takes the key out), or a whole document, which `run` gets
+bad plan     an edit `KEY: VALUE` of the plan below (`nothing` takes the key out), or a whole
+             document, which `run` gets
 bad script   a script, which `run` gets
 bad layout   a layout, which `link` gets
 bad link     sources and, behind the last ` // `, a layout, which `link` gets
-events ..    a source behind `.section t; .global main; main:`, which `run` gets for 20 turns; a further column is what `cert` prints
+events ..    a source behind `.section t; .global main; main:`, which `run` gets for 20 turns; a
+             further column is what `cert` prints
 
-A `cert` that isn't built yet answers `bad words`, which is counted and doesn't fail. Ends with 1 where one differs.
+A `cert` that isn't built yet answers `bad words`, which is counted and doesn't fail.
+
+Exit status: 0 all as printed there, 1 one differs or none was tried, 2 no such program, 5 wrong
+words.
 """
 import json
 import pathlib
 import subprocess
 import sys
 import tempfile
+
+import program as programs
 
 PLAN = {
     "rom": [{"at": "0x80000000", "len": "0x1000"}],
@@ -113,7 +121,7 @@ def rows(text):
 
 
 def main():
-    program = str(pathlib.Path(sys.argv[1]).resolve())
+    program = programs.of_words(sys.argv[1:], __doc__)
     text = (pathlib.Path(__file__).resolve().parent.parent / "docs" / "refusals.md").read_text()
     tried = wrong = not_built = 0
     for example, line, certified in rows(text):
@@ -133,4 +141,5 @@ def main():
     sys.exit(1 if wrong or not tried else 0)
 
 
-main()
+if __name__ == "__main__":
+    main()

@@ -1,0 +1,440 @@
+#!/usr/bin/env python3
+"""Runs a command of tcd and says what it printed, with names and lines of sources.
+
+    explain.py [LAYOUT SOURCE..] [--json] -- tcd cert firmware.elf board.json firmware.cert
+    explain.py --elf OTHER.elf [--json] -- tcd cert OTHER.elf board.json OTHER.cert
+
+LAYOUT and the SOURCEs are those of the executable, in the order in which they were linked; for
+`ship` they are taken from its own words. --elf reads the symbols of an executable that another
+linker wrote. Without any of these, addresses stay addresses.
+
+What the command printed comes first, as it is. If it refused, named a fault of a file, or printed
+a run that died, standard error gets a line `FILE:LINE: error: ..`, as editors and build logs read
+it, the line of the source, what people change, and for rule 14 the ring of frames or the number of
+areas that would be enough. tcd names the first fault only, so there is one such message at most.
+
+With --json, standard output is one JSON object instead: command, status, printed, and finding,
+which is null or has rule, file, line, text, address, function, frame, message, change, ring and
+needed.
+
+Exit status: that of the command; 2 if there is no such program, 5 if explain.py gets wrong words.
+"""
+import json
+import os
+import pathlib
+import re
+import sys
+import tempfile
+
+import causes
+import meanings
+import names
+import program as tcd
+import sources
+from frames import key_of
+from sources import Unusable, shown
+
+#: the commands that judge one executable under one plan as it is
+JUDGES = ("cert", "check", "report", "cfg", "ship")
+#: a finding has each of these; None if it isn't known
+FIELDS = ("rule", "file", "line", "text", "address", "function", "frame", "message", "change",
+          "ring", "needed")  # fmt: skip
+
+
+def finding(rule, meaning, message="", **more):
+    """What is said of one fault. The message is the meaning unless another one is given."""
+    found = dict.fromkeys(FIELDS)
+    found.update(rule=rule, message=message or meaning.means, change=meaning.change)
+    found.update(more)
+    if found["file"] and found["line"]:
+        found["text"] = sources.line_of(found["file"], found["line"]) or None
+    return found
+
+
+def lines_of(found):
+    """The finding as it is printed."""
+    place = found["address"] or "tcd"
+    if found["file"]:
+        place = found["file"] + (f":{found['line']}" if found["line"] else "")
+    where = f" at {found['function']}" if found["function"] else ""
+    frame = f", in {found['frame']}" if found["frame"] else ""
+    lines = [f"{place}: error: {found['rule']}{where}{frame}: {found['message']}"]
+    for name in ("text", "change", "ring"):
+        if found[name]:
+            told = found[name] if isinstance(found[name], str) else "; ".join(found[name])
+            lines.append(f"    {name}: {told}")
+    return [shown(line) for line in lines]
+
+
+def frame_name(key, known):
+    """What an engineer calls a kind of frame."""
+    during = f" while interrupt {key.prio} is handled" if key.prio else ""
+    if key.kind == "call":
+        return f"a call of {known.name(int(key.entry, 16))}{during}"
+    if key.kind == "irq":
+        return f"the handler of interrupt {key.prio}"
+    traps = {"start": "the background", "sys": "a system call", "aln": "a misaligned access"}
+    return traps[key.kind] + during
+
+
+def place_name(address, known):
+    """An address as a name with its file and line."""
+    at = int(address, 16)
+    place = known.place(at)
+    return known.name(at) + (f" ({place})" if place else "")
+
+
+def step_name(step, known):
+    """One entry of a ring: what is entered, and where."""
+    return f"{frame_name(step.into, known)} from {place_name(step.point, known)}"
+
+
+class Explainer:
+    """Says what one command printed. `known` has the names, `paths` are the sources linked."""
+
+    def __init__(self, command, known, layout=None, paths=()):
+        self.command, self.known, self.layout, self.paths = command, known, layout, list(paths)
+        self.name = command[1] if len(command) > 1 else ""
+        #: if the finding is one of rule 14: the ring of frames, which may have no steps
+        self.ring = causes.Ring()
+        #: what `report` and `cfg` print of the executable with areas enough, if that is the cause
+        self.roomy = None
+
+    # The words of the command
+
+    def words(self, role):
+        """The words of the command in a role of meanings.COMMANDS, such as PLAN or SOURCE."""
+        for place, word in enumerate(meanings.COMMANDS.get(self.name, "").split(" ")):
+            if word == role:
+                return self.command[2 + place : 3 + place]
+            if word == f"{role}..":
+                return self.command[2 + place :]
+        return []
+
+    def word(self, role):
+        """The first word in a role, or None."""
+        return next(iter(self.words(role)), None)
+
+    # Places
+
+    def at(self, address):
+        """Where an address is."""
+        at = int(address, 16)
+        file, line = self.known.line(at) or (None, None)
+        function = self.known.name(at) if self.known else None
+        return {"address": address, "file": file, "line": line, "function": function}
+
+    def find(self, line, status):
+        """The finding of a printed line and a status, or None if there is nothing to explain."""
+        for shape, found in SHAPES:
+            if match := re.fullmatch(shape, line):
+                return found(self, *match.groups())
+        if status == tcd.BAD_WORDS and line == "bad words":
+            return self.bad_words()
+        if status in (tcd.NO_FILE, tcd.NO_MEMORY):
+            return self.without_line(status)
+        return None
+
+    # What the lines say
+
+    # Each of these gets the groups of a shape below and gives the finding.
+
+    def rule(self, rule, address, key, task):
+        key = key_of(key)
+        meaning, more = meanings.RULES.get(rule, UNKNOWN), {}
+        if rule == "3" and address == key.entry and key.kind in meanings.NO_CODE_AT_ENTRY:
+            meaning = meanings.NO_CODE_AT_ENTRY[key.kind]
+        if rule == "14" and not task:
+            meaning, more = self.no_areas(address, key)
+        message = meaning.means
+        if more.get("needed"):
+            message += f": {more['needed']} are needed"
+        if task:
+            message += f" (in task {task}, counted from 0)"
+        frame = frame_name(key, self.known)
+        return finding(f"K{rule}", meaning, message, frame=frame, **self.at(address), **more)
+
+    def no_areas(self, address, key):
+        """Which of the causes of rule 14 it is, with the ring or the number of areas."""
+        self.judge_areas(address, key)
+        if key.kind == "start":
+            needed = json.loads(self.roomy[0])["certified"] if self.roomy else None
+            return meanings.NO_AREAS["areas"], {"needed": needed}
+        if not self.ring.steps:
+            return meanings.RULES["14"], {}
+        has_interrupt = any(step.way == "irq" for step in self.ring.steps)
+        meaning = meanings.NO_AREAS["interrupt" if has_interrupt else "recursion"]
+        steps = [step_name(step, self.known) for step in self.ring.steps]
+        if self.ring.lowering:
+            lowers = place_name(self.ring.lowering, self.known)
+            steps.append(f"because of {lowers}, which lowers the priority below the handler's own")
+        return meaning, {"ring": steps}
+
+    def judge_areas(self, address, key):
+        """Looks for the ring, or for the number of areas that would be enough."""
+        if self.name not in JUDGES:
+            return
+        with tempfile.TemporaryDirectory() as folder:
+            try:
+                elf = self.word("ELF") if self.name != "ship" else self.linked(folder)
+                if key.kind == "start":
+                    self.roomy = causes.needed(self.command[0], elf, self.word("PLAN"))
+                else:
+                    files = self.command[0], elf, self.word("PLAN")
+                    self.ring = causes.ring_of(*files, str(key), address)
+            except Unusable:
+                pass  # the command that refused could read its files: they changed since
+
+    def linked(self, folder):
+        """The executable of `ship`, which it doesn't write if it refuses."""
+        objects = []
+        for number, source in enumerate(self.words("SOURCE")):
+            objects.append(f"{folder}/{number}.o")
+            tcd.printed(self.command[0], "asm", source, objects[-1])
+        elf = f"{folder}/firmware.elf"
+        tcd.printed(self.command[0], "link", self.word("LAYOUT"), elf, *objects)
+        return elf
+
+    def boot(self, number, address):
+        place = self.at(address) if address else {"file": self.word("PLAN")}
+        return finding(f"boot {number}", meanings.BOOTS.get(number, UNKNOWN), **place)
+
+    def switch(self, address):
+        return finding("switch", meanings.TASK_REFUSALS["switch"], **self.at(address))
+
+    def sum(self, taken, areas):
+        meaning = meanings.TASK_REFUSALS["sum"]
+        message = f"{meaning.means}: {taken} of {areas}"
+        return finding("sum", meaning, message, file=self.word("TASKS"), needed=int(taken))
+
+    def source(self, number, file, line):
+        paths = self.words("SOURCE")
+        path = paths[int(file)] if int(file) < len(paths) else None
+        meaning = meanings.SOURCES.get(number, UNKNOWN)
+        return finding(f"source {number}", meaning, file=path, line=int(line) if line else None)
+
+    def lined(self, kind, number, line):
+        """A fault of a script, a layout, a file of cells or one of tasks."""
+        role, table = {
+            "script": ("SCRIPT", meanings.SCRIPTS),
+            "layout": ("LAYOUT", meanings.LAYOUTS),
+            "cells": ("CELLS", meanings.CELLS),
+            "tasks": ("TASKS", meanings.TASKS),
+        }[kind]
+        place = {"file": self.word(role), "line": int(line) if line else None}
+        return finding(f"{kind} {number}", table.get(number, UNKNOWN), **place)
+
+    def link(self, number, name):
+        meaning = meanings.LINKING.get(number, UNKNOWN)
+        place = {"file": self.word("LAYOUT")}
+        message = meaning.means
+        if name:
+            message = f"{name}: {message}"
+            if number == "4":
+                message += self.sizes(name)
+            place = self.first_use(number, name) or place
+        return finding(f"link {number}", meaning, message, **place)
+
+    def first_use(self, number, name):
+        """The line of a source or of the layout that a fault of linking is about, if known."""
+        try:
+            if number == "4" and name in (places := sources.read_places(self.word("LAYOUT"))):
+                return {"file": self.word("LAYOUT"), "line": places[name].line}
+            for path in self.paths or self.words("SOURCE"):
+                lines = sources.uses(path, name)
+                defined = [row.line for row in sources.read_source(path).labels if row.name == name]
+                if number == "1" and defined:
+                    return {"file": path, "line": defined[0]}
+                if number in ("2", "3") and lines:
+                    return {"file": path, "line": lines[0]}
+        except (Unusable, TypeError):
+            pass
+        return None
+
+    def sizes(self, section):
+        """How many bytes a section has and its place takes, if the sources are known."""
+        try:
+            place = sources.read_places(self.word("LAYOUT"))[section]
+            read = [sources.read_source(path) for path in self.paths or self.words("SOURCE")]
+        except (Unusable, KeyError, TypeError):
+            return ""
+        size = sources.linked_size(read, section)
+        return f" (it has {size} bytes, the place takes {place.most})" if read else ""
+
+    def reach(self, file, section, offset, fault):
+        """A distance or an address that its instruction can't hold."""
+        meaning = meanings.LINKING["5"]
+        message = f"{meanings.LINK_FAULTS.get(fault, UNKNOWN.means)}: {meaning.means}"
+        paths, place = self.paths or self.words("SOURCE"), {}
+        if int(file) < len(paths):
+            path = paths[int(file)]
+            place = {"file": path, "line": self.line_at(path, section, offset)}
+        return finding("link 5", meaning, message, **place)
+
+    @staticmethod
+    def line_at(path, section, offset):
+        """The line of the statement at an offset of the section with this number, or None."""
+        try:
+            source = sources.read_source(path)
+            name = list(source.sizes)[int(section)]
+        except (Unusable, IndexError):
+            return None
+        for row in source.statements:
+            if row.section == name and row.offset == int(offset):
+                return row.line
+        return None
+
+    def plan(self, number, key, first, second):
+        meaning, path = meanings.PLANS.get(number, UNKNOWN), self.word("PLAN")
+        message, line = meaning.means, None
+        try:
+            text = sources.bytes_of(path).decode("utf-8")
+            if number == "1":
+                message, line = self.json_fault(text) or (message, None)
+        except (Unusable, TypeError, UnicodeDecodeError):
+            text = ""
+        if key:
+            message = f"{key}: {message}"
+            line = self.key_line(text, key)
+        if first:
+            message += f" (ranges {first} and {second}, from 0 over rom, ram, devices and areas)"
+        return finding(f"plan {number}", meaning, message, file=path, line=line)
+
+    @staticmethod
+    def json_fault(text):
+        """What Python's reader says of a plan that isn't JSON, and its line."""
+        try:
+            json.loads(text)
+        except (json.JSONDecodeError, RecursionError) as e:
+            return f"not JSON: {getattr(e, 'msg', e)}", getattr(e, "lineno", None)
+        return None
+
+    @staticmethod
+    def key_line(text, key):
+        """The line of a plan's key: behind the line of the object that holds it."""
+        line = None
+        for name in key.split("."):
+            later = enumerate(text.split("\n")[line - 1 if line else 0 :], line or 1)
+            found = next((n for n, row in later if f'"{name}"' in row), None)
+            line = found or line
+        return line
+
+    def binary(self, kind, number, rest):
+        roles = {"elf": ("ELF", meanings.EXECUTABLES), "cert": ("CERT", meanings.BINARIES),
+                 "object": ("OBJECT", meanings.BINARIES)}  # fmt: skip
+        role, table = roles[kind]
+        words, meaning = self.words(role), table.get(number, UNKNOWN)
+        if kind == "object" and (place := re.search(r"at (\d+)", rest)):
+            words = words[int(place[1]) :]
+        file = words[0] if words else None
+        return finding(f"{kind} {number}", meaning, meaning.means + rest, file=file)
+
+    def dead(self, cause, address):
+        return finding(f"dead {cause}", meanings.DEATHS.get(cause, UNKNOWN), **self.at(address))
+
+    def bad_words(self):
+        meaning = meanings.STATUSES[tcd.BAD_WORDS]
+        message = f"the words of {self.name} are: {meanings.COMMANDS.get(self.name)}"
+        if self.name not in meanings.COMMANDS:
+            known = ", ".join(meanings.COMMANDS)
+            message = f"there is no command {self.name or '(none)'}; there are: {known}"
+        return finding("words", meaning, message)
+
+    def without_line(self, status):
+        meaning = meanings.STATUSES[status]
+        missing = [w for w in self.command[2:] if "." in w and not pathlib.Path(w).exists()]
+        more = f"; not there: {', '.join(missing)}" if missing and status == tcd.NO_FILE else ""
+        return finding(f"status {status}", meaning, meaning.means + more)
+
+
+UNKNOWN = meanings.Meaning("a fault that explain.py doesn't know; see docs/refusals.md")
+KEY_TEXT = r"(\w+ [0-9A-F]{8} prio \d+ is [01])"
+#: the printed lines of docs/formats.md, and what explains each
+SHAPES = (
+    (rf"refused K(\d+) at ([0-9A-F]{{8}}) in {KEY_TEXT}(?: of task (\d+))?", Explainer.rule),
+    (r"refused boot (\d+)(?: at ([0-9A-F]{8}))?", Explainer.boot),
+    (r"refused switch at ([0-9A-F]{8})", Explainer.switch),
+    (r"refused sum (\d+) of (\d+) areas", Explainer.sum),
+    (r"bad source (\d+) at (\d+)(?: (\d+))?", Explainer.source),
+    (r"bad (script|layout|cells|tasks) (\d+)(?: at (\d+))?", Explainer.lined),
+    (r"bad link ([1-46])(?: name (\S+))?", Explainer.link),
+    (r"bad link 5 at (\d+) (\d+) (\d+) (\d+)", Explainer.reach),
+    (r"bad plan (\d+)(?: key (\S+))?(?: at (\d+) (\d+))?", Explainer.plan),
+    (r"bad (elf|cert|object) (\d+)(.*)", Explainer.binary),
+    (r"events \d+ peak \d+ dead (\w+) at ([0-9A-F]{8})", Explainer.dead),
+)
+
+
+def names_of(words, command):
+    """The map, the layout and the sources that the words before `--` name, or those of `ship`."""
+    if words[:1] == ["--elf"]:
+        return names.read_elf(words[1]), None, []
+    if not words and command[1:2] == ["ship"] and len(command) > 6:
+        words = [command[3], *command[6:]]
+    if words:
+        return names.read(words[0], words[1:]), words[0], words[1:]
+    return names.Map(), None, []
+
+
+def parsed(words):
+    """The words before `--` but --json, whether that is there, and the command; None if wrong."""
+    if "--" not in words or words.index("--") == len(words) - 1:
+        return None
+    command, words = words[words.index("--") + 1 :], words[: words.index("--")]
+    rest = [word for word in words if word != "--json"]
+    is_elf = rest[:1] == ["--elf"]
+    if (is_elf and len(rest) != 2) or (not is_elf and any(word[:1] == "-" for word in rest)):
+        return None
+    return rest, "--json" in words, command
+
+
+def explained(words, command):
+    """Runs the command: how it ended, the finding or None, and why there are no names or None."""
+    known, layout, paths, no_names = names.Map(), None, [], None
+    try:
+        known, layout, paths = names_of(words, command)
+    except Unusable as e:
+        no_names = str(e)
+        paths = words[1:] if words[:1] != ["--elf"] else []
+    done = tcd.run(command[0], *command[1:])
+    explainer = Explainer(command, known, layout, paths)
+    return done, explainer.find(done.stdout.strip(), done.returncode), no_names
+
+
+def main(words):
+    """Reads the words, runs the command, and gives the exit status."""
+    before = words[: words.index("--")] if "--" in words else words
+    if "--help" in before or "-h" in before:
+        print(__doc__)
+        return 0
+    given = parsed(words)
+    if not given:
+        print("explain.py: needed are `--` and a command; see --help", file=sys.stderr)
+        return tcd.BAD_WORDS
+    words, is_json, command = given
+    try:
+        command = [tcd.found(command[0]), *command[1:]]
+        done, found, no_names = explained(words, command)
+    except Unusable as e:
+        print(e, file=sys.stderr)
+        return tcd.BAD_FILE
+    status = done.returncode if done.returncode >= 0 else 128 - done.returncode
+    if is_json:
+        result = {"command": command, "status": status, "printed": done.stdout.strip()}
+        print(json.dumps({**result, "finding": found}))
+        return status
+    sys.stdout.write(done.stdout)
+    sys.stdout.flush()
+    sys.stderr.write(done.stderr)
+    if no_names and found and found["address"]:
+        print(f"explain.py: no names: {no_names}", file=sys.stderr)
+    for line in lines_of(found) if found else []:
+        print(line, file=sys.stderr)
+    return status
+
+
+if __name__ == "__main__":
+    try:
+        sys.exit(main(sys.argv[1:]))
+    except BrokenPipeError:  # the reader, such as `head`, has seen enough
+        os._exit(0)

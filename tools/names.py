@@ -1,0 +1,205 @@
+#!/usr/bin/env python3
+"""Names of functions and lines of sources by address, which `tcd link` doesn't write into a file.
+
+    names.py LAYOUT SOURCE..                      prints the map, a line for each label:
+                                                  ADDRESS NAME FILE:LINE
+    names.py LAYOUT SOURCE.. --at 80000034 ..     prints what is at each address:
+                                                  ADDRESS NAME+OFFSET FILE:LINE
+    names.py --elf FIRMWARE.ELF [--at ADDRESS ..] the same from the symbols (.symtab) of an
+                                                  executable that another linker wrote
+
+Name the sources in the order in which their objects were linked. A section that begins without a
+label, as vectors mostly do, is called by its own name. A source that `asm` refuses has no
+addresses.
+
+Exit status: 0 done, 2 a file that can't be used, 5 wrong words.
+"""
+import bisect
+import re
+import sys
+
+import sources
+from sources import Unusable, shown
+
+#: a label farther before an address than this says nothing about it
+NEAR = 1 << 20
+ELF_HEADER, SECTION_HEADER, SYMBOL = 52, 40, 16
+SYMBOL_TABLE, FIRST_RESERVED, ABSOLUTE = 2, 0xFF00, 0xFFF1
+NO_TYPE, OBJECT, FUNCTION = 0, 1, 2
+GLOBAL = 1
+
+
+class Map:
+    """Names and lines by address.
+
+    `labels` are (address, name, file, line), `rows` are (address, size, file, line).
+    """
+
+    def __init__(self, labels=(), rows=()):
+        # of several labels at one address the first of the source comes first
+        self.labels = sorted(labels, key=lambda row: row[0])
+        self.rows = sorted(rows)
+        self.at = {}
+        for row in self.labels:
+            self.at.setdefault(row[0], []).append(row[1])
+
+    def __bool__(self):
+        return bool(self.labels)
+
+    def label(self, address):
+        """The label at or before an address and the distance to it, or None if none is near."""
+        found = bisect.bisect_right(self.labels, (address, "\U0010ffff")) - 1
+        if found < 0 or address - self.labels[found][0] > NEAR:
+            return None
+        base = self.labels[found][0]
+        return self.at[base][0], address - base
+
+    def name(self, address):
+        """`speed_loop`, `speed_loop+12`, or the address if no label is known."""
+        found = self.label(address)
+        if not found:
+            return f"{address:08X}"
+        return found[0] + (f"+{found[1]}" if found[1] else "")
+
+    def line(self, address):
+        """The file and the line of the statement that covers an address, or None."""
+        found = bisect.bisect_right(self.rows, (address, 1 << 33)) - 1
+        if found >= 0 and address < self.rows[found][0] + self.rows[found][1]:
+            return self.rows[found][2:4]
+        return None
+
+    def place(self, address):
+        """`speed.s:12`, or an empty text."""
+        found = self.line(address)
+        return f"{found[0]}:{found[1]}" if found else ""
+
+
+def read(layout, paths):
+    """The map of an executable of `tcd link`, from its layout and its sources."""
+    places, ends, labels, rows, unnamed = sources.read_places(layout), {}, [], [], []
+    for path in paths:
+        source = sources.read_source(path)
+        bases = {
+            name: places[name].at + sources.rounded_up(ends.get(name, 0))
+            for name in source.sizes
+            if name in places
+        }
+        labels += [
+            (bases[each.section] + each.offset, each.name, path, each.line)
+            for each in source.labels
+            if each.section in bases
+        ]
+        rows += [
+            (bases[each.section] + each.offset, each.size, path, each.line)
+            for each in source.statements
+            if each.section in bases
+        ]
+        unnamed += [(at, name, path, source.first_lines[name]) for name, at in bases.items()]
+        ends.update({name: at - places[name].at + source.sizes[name] for name, at in bases.items()})
+    known = {row[0] for row in labels}
+    return Map(labels + [row for row in unnamed if row[0] not in known], rows)
+
+
+def number(data, at, size):
+    """A little-endian number of a file's bytes."""
+    return int.from_bytes(data[at : at + size], "little")
+
+
+def section_headers(path, data):
+    """The section headers of an ELF32 file, each as its ten words."""
+    if len(data) < ELF_HEADER or data[:6] != b"\x7fELF\x01\x01":
+        raise Unusable(f"{shown(path)}: not a little-endian ELF32 file")
+    at, size, count = number(data, 32, 4), number(data, 46, 2), number(data, 48, 2)
+    if not at or not count:
+        raise Unusable(
+            f"{shown(path)}: it has no section table, so no symbols; `tcd link` writes none: "
+            "give the layout and the sources"
+        )
+    if size < SECTION_HEADER or at + size * count > len(data):
+        raise Unusable(f"{shown(path)}: its section table passes the end of the file")
+    return [[number(data, at + size * i + 4 * f, 4) for f in range(10)] for i in range(count)]
+
+
+def symbol_tables(headers, data):
+    """The symbol tables that lie in the file: the offsets of their entries, and their texts."""
+    for kind, at, length, link, size in [(h[1], h[4], h[5], h[6], h[9]) for h in headers]:
+        if kind != SYMBOL_TABLE or size < SYMBOL or link >= len(headers):
+            continue
+        if at + length <= len(data):
+            texts = data[headers[link][4] : headers[link][4] + headers[link][5]]
+            yield range(at, at + length - SYMBOL + 1, size), texts
+
+
+def symbol(data, at, texts):
+    """The address, the rank and the name of a symbol, or None if it names no place.
+
+    If several symbols have one address, functions come first, then global names.
+    """
+    name, section, info = number(data, at, 4), number(data, at + 14, 2), data[at + 12]
+    end = texts.find(b"\0", name)
+    text = texts[name : end if end >= 0 else None].decode("utf-8", "replace")
+    is_placed = section and (section < FIRST_RESERVED or section == ABSOLUTE)
+    if not text or not is_placed or info & 15 not in (NO_TYPE, OBJECT, FUNCTION):
+        return None
+    return number(data, at + 4, 4), (info & 15 != FUNCTION, info >> 4 != GLOBAL), text
+
+
+def read_elf(path):
+    """The map from the symbols of a little-endian ELF32 file; it has no lines."""
+    data = sources.bytes_of(path)
+    found = set()
+    for entries, texts in symbol_tables(section_headers(path, data), data):
+        found |= {each for at in entries if (each := symbol(data, at, texts))}
+    if not found:
+        raise Unusable(
+            f"{shown(path)}: it has no symbols: link it without -s, "
+            "or give the layout and the sources"
+        )
+    return Map((address, text, "", 0) for address, _, text in sorted(found))
+
+
+def wrong_words(text):
+    """Prints why the words can't be used."""
+    print(f"names.py: {text}; see --help", file=sys.stderr)
+    return 5
+
+
+def print_map(known, asked):
+    """The whole map, or what is at the addresses that were asked for."""
+    rows = [(at, label, source, line) for at, label, source, line in known.labels]
+    if asked:
+        rows = [(at, known.name(at), *(known.line(at) or ("", 0))) for at in asked]
+    for at, label, source, line in rows:
+        place = f" {shown(source)}:{line}" if source else ""
+        print(f"{at:08X} {shown(label)}{place}")
+
+
+def main(words):
+    """Reads the words, prints what is asked for, and gives the exit status."""
+    if words in (["--help"], ["-h"]):
+        print(__doc__)
+        return 0
+    asked = []
+    if "--at" in words:
+        words, asked = words[: words.index("--at")], words[words.index("--at") + 1 :]
+        if not asked or not all(re.fullmatch("(0x)?[0-9A-Fa-f]{1,8}", word) for word in asked):
+            return wrong_words("--at needs hexadecimal addresses after it")
+    is_elf = words[:1] == ["--elf"]
+    if is_elf and len(words) != 2:
+        return wrong_words("--elf needs one executable after it")
+    if not is_elf and (len(words) < 2 or words[0].startswith("-")):
+        return wrong_words("needed are a layout and sources, or --elf and an executable")
+    try:
+        known = read_elf(words[1]) if is_elf else read(words[0], words[1:])
+    except Unusable as e:
+        print(e, file=sys.stderr)
+        return 2
+    print_map(known, [int(word, 16) for word in asked])
+    return 0
+
+
+if __name__ == "__main__":
+    try:
+        sys.exit(main(sys.argv[1:]))
+    except BrokenPipeError:  # the reader, such as `head`, has seen enough
+        sys.exit(0)
