@@ -12,7 +12,7 @@ import re
 import tempfile
 
 import program as tcd
-from frames import TARGET, Key, Listing, Step, hex8, key_of
+from frames import TARGET, WORD, Key, Listing, Step, built_addresses, hex8, key_of
 from sources import Unusable, bytes_of, shown
 
 RETURNS = ("ret", "ret16", "rfe", "rfe16")
@@ -49,9 +49,12 @@ class Tables:
 
     def __init__(self, listing):
         self.listing, self.where, self.memory = listing, {}, []
+        #: addresses that code builds: where a table begins, the one before it ends
+        self.begins = set()
         for number, (at, lines) in enumerate(listing.sections):
             self.memory.append((int(at, 16), bytes.fromhex("".join(line.code for line in lines))))
             self.where.update({line.at: (number, place) for place, line in enumerate(lines)})
+            self.begins.update(built_addresses(lines).values())
 
     def word(self, address):
         """The word of the executable at an address, or None."""
@@ -68,8 +71,10 @@ class Tables:
             return [hex8(address & ~1)]
         found = []
         while kind == "table" and len(found) < TABLE:
-            word = self.word(address + 4 * len(found))
-            if word is None or hex8(word & ~1) not in self.listing.texts:
+            at = address + 4 * len(found)
+            word = self.word(at)
+            is_next = bool(found) and at in self.begins
+            if is_next or word is None or hex8(word & ~1) not in self.listing.texts:
                 break
             found.append(hex8(word & ~1))
         return list(dict.fromkeys(found))
@@ -97,7 +102,7 @@ class Tables:
         if kind != "address":
             return None, 0
         loaded = "table" if word.startswith("ld") else "address"
-        return loaded, address + int(base[2] or 0)
+        return loaded, address + int(base[2] or 0) & WORD
 
 
 class Walk:

@@ -15,6 +15,10 @@ EDGE = re.compile(r"(.*): ([0-9A-F]{8}) (to|call|back|sys|aln|irq|ret|rfe)(?: ([
 CODE = re.compile(r"(.*) # ([0-9A-F]{8}) ([0-9A-F]+)")
 SECTION = re.compile(r"\.section (\S+) # ([0-9A-F]{8})")
 TARGET = re.compile(r"(\.[+-]\d+|0x[0-9A-F]{8})$")
+MOVH_A = re.compile(r"movh\.a (a\d+), (-?\d+)")
+BASE = re.compile(r"\[(a\d+)\](-?\d+)")
+#: how far after `movh.a` the second half of an address is looked for, in bytes
+HALVES = 16
 #: the ways by which a frame takes an area and enters another frame
 ENTRIES = ("call", "sys", "aln", "irq")
 #: what each of these does to the number of lower contexts that a frame holds
@@ -31,6 +35,21 @@ Step = collections.namedtuple("Step", "frame point saved way into")
 def hex8(address):
     """An address as tcd prints it."""
     return f"{address & WORD:08X}"
+
+
+def built_addresses(lines):
+    """By instruction: the address whose two halves `movh.a` and this instruction hold."""
+    halves, found = {}, {}
+    for text, at, _ in lines:
+        if upper := MOVH_A.match(text):
+            halves[upper[1]] = int(upper[2]) << 16, int(at, 16)
+        elif (lower := BASE.search(text)) and lower[1] in halves:
+            half, begun = halves[lower[1]]
+            if int(at, 16) - begun <= HALVES:
+                found[at] = half + int(lower[2]) & WORD
+            if text.startswith(("lea", "ld.a")):
+                halves.pop(text.split(" ")[1].rstrip(","), None)
+    return found
 
 
 class Listing:

@@ -11,14 +11,11 @@ import drawings
 import frames
 
 UPPER_HALF = re.compile(r"(movh|movh\.a|addih|addih\.a) (.*, )(-?\d+)")
-MOVH_A = re.compile(r"movh\.a (a\d+), (-?\d+)")
-BASE = re.compile(r"\[(a\d+)\](-?\d+)")
 #: above so many frames only those of the chain are drawn, and the tables have a filter
 MANY = 100
 COLOURS = 8
-#: how far behind `movh.a` the second half of an address is looked for, and how near a label has
-#: to be to name the address
-HALVES, NEAR = 16, 256
+#: how near a label has to be to name an address that code builds
+NEAR = 256
 BEFORE, AFTER = 8, 4
 #: the width of a bar of all areas, in em
 BAR = 9
@@ -114,20 +111,6 @@ class Page:
         """An instruction of a frame's list, its targets as they are aligned with the others'."""
         text = self.code(at, False)
         return f"<code>{text}</code>" + " " * max(0, CODE_WIDTH - len(html.unescape(text)))
-
-    def whole_addresses(self, lines):
-        """By instruction: the address whose two halves `movh.a` and this instruction hold."""
-        halves, found = {}, {}
-        for text, at, _ in lines:
-            if upper := MOVH_A.fullmatch(text):
-                halves[upper[1]] = int(upper[2]) << 16, at
-            elif (lower := BASE.search(text)) and lower[1] in halves:
-                half, begun = halves[lower[1]]
-                if int(at, 16) - int(begun, 16) <= HALVES:
-                    found[at] = half + int(lower[2]) & frames.WORD
-                if text.startswith(("lea", "ld.a")):
-                    halves.pop(re.match(r"\S+ (a\d+)?", text)[1], None)
-        return found
 
     # The number and the longest chain
 
@@ -305,7 +288,7 @@ class Page:
 
     def code_lines(self, lines):
         """Lines of the listing, with their labels."""
-        built, out = self.whole_addresses(lines), []
+        built, out = frames.built_addresses(lines), []
         for text, at, code in lines:
             look = " class=refused" if at in self.marked else ""
             out += self.label_lines(at)
