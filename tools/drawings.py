@@ -42,8 +42,9 @@ def blocks(frame):
 
 
 def quoted(text):
-    """A text as Graphviz reads it."""
-    text = text.replace("\\", "\\\\").replace('"', '\\"').replace("\n", " ")
+    """A text as Graphviz reads it, which knows `&amp;` and the like."""
+    text = text.replace("&", "&amp;").replace("\\", "\\\\")
+    text = text.replace('"', '\\"').replace("\n", " ")
     return f'"{text}"'
 
 

@@ -100,6 +100,35 @@ class Rings(unittest.TestCase):
             self.assertEqual(told, ("", None))
 
 
+class States(unittest.TestCase):
+    """What a point knows of interrupts (docs/rules.md, "States at entries, and after")."""
+
+    def irqs(self, found, plan=PLAN):
+        """The points at which an interrupt may come, with its priority."""
+        walk = causes.Walk(found, plan, "80000000")
+        steps = (step for steps in walk.steps.values() for step in steps)
+        return sorted((point, into.prio) for point, way, into in steps if way == "irq")
+
+    def test_interrupts_are_off(self):
+        found = listing((0x80000000, "call .+8", "j .+0", "nop16", "ret16"))
+        self.assertEqual(self.irqs(found), [])
+
+    def test_a_function_called_with_interrupts_off_and_on(self):
+        found = listing((0x80000000, "call .+16", "enable", "call .+8", "j .+0", "ret16"))
+        # its one exit has them on, so they may be on after the first call too
+        points = {"80000004", "80000008", "8000000C", "80000010"}
+        self.assertEqual({point for point, _ in self.irqs(found)}, points)
+
+    def test_a_function_that_turns_interrupts_off(self):
+        found = listing((0x80000000, "enable", "call .+8", "j .+0", "disable", "ret16"))
+        self.assertEqual({point for point, _ in self.irqs(found)}, {"80000004", "8000000C"})
+
+    def test_the_current_priority(self):
+        plan = {**PLAN, "start": {"ie": 1, "ccpn": 10, "is": 0}}
+        found = listing((0x80000000, "j .+0"), (VECTOR_20, "rfe16"))
+        self.assertEqual(self.irqs(found, plan), [("80000000", 20)])
+
+
 class Room(unittest.TestCase):
     """Plans with as many areas as there can be."""
 

@@ -4,6 +4,7 @@ import html.parser
 import json
 import os
 import resource
+import shutil
 import unittest
 from unittest import mock
 
@@ -38,6 +39,8 @@ ATTRIBUTES = set(
     "class id href title style colspan scope role aria-label lang charset name content type "
     "placeholder viewbox points x y cx cy rx ry d transform stroke-dasharray width height".split()
 )
+#: a word of ram of the example system_calls
+TICKS = 0xD0008000
 PROGRAM, ELF, PLAN, CERT = "tcd", "f.elf", "board.json", "f.cert"
 
 
@@ -87,7 +90,8 @@ class Reader(html.parser.HTMLParser):
             self.wrong.append(f"</{tag}> at {self.getpos()}")
 
     def handle_data(self, data):
-        (self.scripts if self.open[-1:] == ["script"] else self.texts).append(data)
+        if self.open[-1:] != ["style"]:
+            (self.scripts if self.open[-1:] == ["script"] else self.texts).append(data)
 
     def handle_comment(self, data):
         self.wrong.append(f"a comment: {data[:40]}")
@@ -163,13 +167,35 @@ class Certified(Pages):
         for frame in graph.frames.values():
             self.assertIn(frame.place, page.ids)
 
+    def test_lower_contexts_that_are_restored_are_not_held(self):
+        self.recorded()
+        dis = frames.Listing(beside.recorded("system_calls.dis"))
+        report, cfg = beside.recorded("system_calls.report"), beside.recorded("system_calls.cfg")
+        handler = next(
+            each
+            for each in frames.Graph(report, cfg, dis).frames.values()
+            if each.key.kind == "irq"
+        )
+        held = [handler.saved[at] for at in sorted(handler.saved)]
+        self.assertEqual(held, [0, 1, 1, 1, 1, 1, 0])  # `svlcx` is first, `rslcx` and `rfe` last
+
     def test_hostile_names(self):
         self.recorded()
         rows = [(0x80000000, HOSTILE[0], HOSTILE[1], 1), (0x80000008, HOSTILE[2], HOSTILE[3], 2)]
+        rows.append((TICKS, HOSTILE[1], HOSTILE[0], 3))
         known = names.Map(rows, [(at, 4, file, line) for at, _, file, line in rows])
         page = self.page(known, elf=f"{HOSTILE[1]}\n\udc80.elf")
         for text in HOSTILE[:3]:
             self.assertIn(text, page.text)
+        self.assertIn(f"{TICKS:08X} {HOSTILE[1]}", page.text)
+
+    @unittest.skipUnless(shutil.which("dot"), "no Graphviz")
+    def test_drawings_with_hostile_names(self):
+        self.recorded()
+        known = names.Map([(0x80000008, HOSTILE[2], "", 0), (0x80000000, "main", "", 0)])
+        page = self.page(known)
+        self.assertEqual(page.counts["svg"], 8)  # each frame has more than one point
+        self.assertIn(f"80000000 call {HOSTILE[2]}", page.text)
 
     def test_two_handlers_of_one_vector_and_lower_contexts(self):
         text = beside.recorded("system_calls.cfg")
