@@ -10,12 +10,13 @@ linker wrote. Without any of these, addresses stay addresses.
 
 What the command printed comes first, as it is. If it refused, named a fault of a file, or printed
 a run that died, standard error gets a line `FILE:LINE: error: ..`, as editors and build logs read
-it, the line of the source, what people change, and for rule 14 the ring of frames or the number of
-areas that would be enough. tcd names the first fault only, so there is one such message at most.
+it, the line of the source, and what people change; for rule 14 also the number of areas that would
+be enough, or the ring of frames, a line `FILE:LINE: note: ..` for each entry of it. tcd names the
+first fault only, so there is one such message at most.
 
 With --json, standard output is one JSON object instead: command, status, printed, and finding,
-which is null or has rule, file, line, text, address, function, frame, message, change, ring and
-needed.
+which is null or has rule, file, line, text, address, function, frame, message, change, needed and
+ring (address, file, line, function and message of each entry).
 
 Exit status: that of the command; 2 if there is no such program, 5 if explain.py gets wrong words.
 """
@@ -37,8 +38,9 @@ from sources import Unusable, shown
 #: the commands that judge one executable under one plan as it is
 JUDGES = ("cert", "check", "report", "cfg", "ship")
 #: a finding has each of these; None if it isn't known
-FIELDS = ("rule", "file", "line", "text", "address", "function", "frame", "message", "change",
-          "ring", "needed")  # fmt: skip
+FIELDS = tuple(
+    "rule file line text address function frame message change needed ring".split(" ")
+)
 
 
 def finding(rule, meaning, message="", **more):
@@ -51,18 +53,22 @@ def finding(rule, meaning, message="", **more):
     return found
 
 
+def place_of(found):
+    """Where a finding or an entry of a ring is, as a build log has it."""
+    if found["file"]:
+        return found["file"] + (f":{found['line']}" if found["line"] else "")
+    return found["address"] or "tcd"
+
+
 def lines_of(found):
     """The finding as it is printed."""
-    place = found["address"] or "tcd"
-    if found["file"]:
-        place = found["file"] + (f":{found['line']}" if found["line"] else "")
     where = f" at {found['function']}" if found["function"] else ""
     frame = f", in {found['frame']}" if found["frame"] else ""
-    lines = [f"{place}: error: {found['rule']}{where}{frame}: {found['message']}"]
-    for name in ("text", "change", "ring"):
-        if found[name]:
-            told = found[name] if isinstance(found[name], str) else "; ".join(found[name])
-            lines.append(f"    {name}: {told}")
+    lines = [f"{place_of(found)}: error: {found['rule']}{where}{frame}: {found['message']}"]
+    lines += [f"    {name}: {found[name]}" for name in ("text", "change") if found[name]]
+    for entry in found["ring"] or []:
+        at = f"at {entry['function']} " if entry["function"] else ""
+        lines.append(f"{place_of(entry)}: note: {at}{entry['message']}")
     return [shown(line) for line in lines]
 
 
@@ -77,16 +83,13 @@ def frame_name(key, known):
     return traps[key.kind] + during
 
 
-def place_name(address, known):
-    """An address as a name with its file and line."""
-    at = int(address, 16)
-    place = known.place(at)
-    return known.name(at) + (f" ({place})" if place else "")
-
-
-def step_name(step, known):
-    """One entry of a ring: what is entered, and where."""
-    return f"{frame_name(step.into, known)} from {place_name(step.point, known)}"
+def entry_name(step, known):
+    """What happens at an entry of a ring."""
+    if step.way == "call":
+        return f"{known.name(int(step.into.entry, 16))} is called"
+    if step.way == "irq":
+        return f"interrupt {step.into.prio} comes"
+    return {"sys": "a system call is made", "aln": "a misaligned access is made"}[step.way]
 
 
 class Explainer:
@@ -164,11 +167,14 @@ class Explainer:
             return meanings.RULES["14"], {}
         has_interrupt = any(step.way == "irq" for step in self.ring.steps)
         meaning = meanings.NO_AREAS["interrupt" if has_interrupt else "recursion"]
-        steps = [step_name(step, self.known) for step in self.ring.steps]
+        entries = [
+            {**self.at(step.point), "message": entry_name(step, self.known)}
+            for step in self.ring.steps
+        ]
         if self.ring.lowering:
-            lowers = place_name(self.ring.lowering, self.known)
-            steps.append(f"because of {lowers}, which lowers the priority below the handler's own")
-        return meaning, {"ring": steps}
+            message = "the handler lowers the priority below its own"
+            entries.append({**self.at(self.ring.lowering), "message": message})
+        return meaning, {"ring": entries}
 
     def judge_areas(self, address, key):
         """Looks for the ring, or for the number of areas that would be enough."""
@@ -229,18 +235,33 @@ class Explainer:
         place = {"file": self.word("LAYOUT")}
         message = meaning.means
         if name:
-            message = f"{name}: {message}"
-            if number == "4":
-                message += self.sizes(name)
+            message = f"{name}: {message}{self.more_on(number, name)}"
             place = self.first_use(number, name) or place
         return finding(f"link {number}", meaning, message, **place)
+
+    def more_on(self, number, name):
+        """What the sources say more of a fault of linking: sizes, or a label that isn't global."""
+        if number == "4":
+            return self.sizes(name)
+        try:
+            for path in self.linked_sources() if number == "2" else []:
+                for row in sources.read_source(path).labels:
+                    if row.name == name:
+                        return f" ({path}:{row.line} has a label of this name, which isn't global)"
+        except Unusable:
+            pass
+        return ""
+
+    def linked_sources(self):
+        """The sources that were linked, if they are known."""
+        return self.paths or self.words("SOURCE")
 
     def first_use(self, number, name):
         """The line of a source or of the layout that a fault of linking is about, if known."""
         try:
             if number == "4" and name in (places := sources.read_places(self.word("LAYOUT"))):
                 return {"file": self.word("LAYOUT"), "line": places[name].line}
-            for path in self.paths or self.words("SOURCE"):
+            for path in self.linked_sources():
                 lines = sources.uses(path, name)
                 defined = [row.line for row in sources.read_source(path).labels if row.name == name]
                 if number == "1" and defined:
@@ -255,7 +276,7 @@ class Explainer:
         """How many bytes a section has and its place takes, if the sources are known."""
         try:
             place = sources.read_places(self.word("LAYOUT"))[section]
-            read = [sources.read_source(path) for path in self.paths or self.words("SOURCE")]
+            read = [sources.read_source(path) for path in self.linked_sources()]
         except (Unusable, KeyError, TypeError):
             return ""
         size = sources.linked_size(read, section)
@@ -265,7 +286,7 @@ class Explainer:
         """A distance or an address that its instruction can't hold."""
         meaning = meanings.LINKING["5"]
         message = f"{meanings.LINK_FAULTS.get(fault, UNKNOWN.means)}: {meaning.means}"
-        paths, place = self.paths or self.words("SOURCE"), {}
+        paths, place = self.linked_sources(), {}
         if int(file) < len(paths):
             path = paths[int(file)]
             place = {"file": path, "line": self.line_at(path, section, offset)}

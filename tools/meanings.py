@@ -126,8 +126,8 @@ NO_AREAS = {
     ),
     "interrupt": Meaning(
         "an interrupt here leads back to this frame, so no number of areas suffices",
-        "write `bisr` with the handler's own priority or a higher one, and don't `enable` in a "
-        "handler whose priority was lowered; look at each handler of the ring",
+        "write `bisr` with the handler's own priority or a higher one; look at each handler of "
+        "the ring",
     ),
 }
 

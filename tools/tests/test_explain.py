@@ -151,6 +151,7 @@ class Files(beside.InFolder):
         for line, file, number, words in (
             ("bad link 1 name main", "main.s", 3, "two objects"),
             ("bad link 2 name g", "main.s", 4, "no object"),
+            ("bad link 2 name f", "main.s", 3, "(drive.s:2 has a label of this name"),
             ("bad link 3 name u", "drive.s", 1, "no place"),
             ("bad link 4 name u", "board.layout", 3, "it has 8 bytes, the place takes 4"),
             ("bad link 5 at 0 0 4 2", "main.s", 4, "too far"),
@@ -309,13 +310,16 @@ class WithProgram(beside.InFolder):
         self.assertEqual(told["text"].split(), ["call", "gates_off"])
         self.assertEqual(told["message"], meanings.NO_AREAS["recursion"].means)
         self.assertEqual(len(told["ring"]), 3)
-        for part, words in zip(told["ring"], ("gates_off", "system call", "service_fault")):
-            self.assertIn(words, part)
+        for entry, words in zip(told["ring"], ("gates_off", "system call", "service_fault")):
+            self.assertIn(words, entry["message"])
+            self.assertEqual(entry["file"], "faults.s")
 
     def test_a_handler_that_lowers_its_priority(self):
         told = self.certified("nested_interrupts", "broken")
         self.assertEqual(told["message"], meanings.NO_AREAS["interrupt"].means)
-        self.assertIn("vector_10 (handlers.s:7)", told["ring"][-1])
+        last = told["ring"][-1]
+        self.assertEqual((last["file"], last["line"]), ("handlers.s", 7))
+        self.assertEqual(last["function"], "vector_10")
 
     def test_too_few_areas(self):
         sources = self.example("motor_control")
