@@ -10,13 +10,13 @@ linker wrote. Without any of these, addresses stay addresses.
 
 What the command printed comes first, as it is. If it refused, named a fault of a file, or printed
 a run that died, standard error gets a line `FILE:LINE: error: ..`, as editors and build logs read
-it, the line of the source, and what people change; for rule 14 also the number of areas that would
-be enough, or the ring of frames, a line `FILE:LINE: note: ..` for each entry of it. tcd names the
-first fault only, so there is one such message at most.
+it, the line of the source, and what people change. Lines `FILE:LINE: note: ..` behind it are, for
+rule 14, the entries of the ring of frames, and for rules on addresses, the instructions before the
+place from which the address comes. tcd names the first fault only, so there is one error at most.
 
 With --json, standard output is one JSON object instead: command, status, printed, and finding,
-which is null or has rule, file, line, text, address, function, frame, message, change, needed and
-ring (address, file, line, function and message of each entry).
+which is null or has rule, file, line, text, address, function, frame, message, change, needed (the
+areas that would be enough) and notes (address, file, line, function and message of each).
 
 Exit status: that of the command; 2 if there is no such program, 5 if explain.py gets wrong words.
 """
@@ -30,16 +30,19 @@ import tempfile
 import causes
 import meanings
 import names
+import origins
 import program as tcd
 import sources
-from frames import key_of
+from frames import Listing, key_of
 from sources import Unusable, shown
 
+#: the rules on where a call, a store or a load goes
+ON_ADDRESSES = ("5", "9", "10", "17")
 #: the commands that judge one executable under one plan as it is
 JUDGES = ("cert", "check", "report", "cfg", "ship")
 #: a finding has each of these; None if it isn't known
 FIELDS = tuple(
-    "rule file line text address function frame message change needed ring".split(" ")
+    "rule file line text address function frame message change needed notes".split(" ")
 )
 
 
@@ -54,7 +57,7 @@ def finding(rule, meaning, message="", **more):
 
 
 def place_of(found):
-    """Where a finding or an entry of a ring is, as a build log has it."""
+    """Where a finding or a note is, as a build log has it."""
     if found["file"]:
         return found["file"] + (f":{found['line']}" if found["line"] else "")
     return found["address"] or "tcd"
@@ -66,9 +69,9 @@ def lines_of(found):
     frame = f", in {found['frame']}" if found["frame"] else ""
     lines = [f"{place_of(found)}: error: {found['rule']}{where}{frame}: {found['message']}"]
     lines += [f"    {name}: {found[name]}" for name in ("text", "change") if found[name]]
-    for entry in found["ring"] or []:
-        at = f"at {entry['function']} " if entry["function"] else ""
-        lines.append(f"{place_of(entry)}: note: {at}{entry['message']}")
+    for note in found["notes"] or []:
+        at = f"at {note['function']} " if note["function"] else ""
+        lines.append(f"{place_of(note)}: note: {at}{note['message']}")
     return [shown(line) for line in lines]
 
 
@@ -149,6 +152,8 @@ class Explainer:
             meaning = meanings.NO_CODE_AT_ENTRY[key.kind]
         if rule == "14" and not task:
             meaning, more = self.no_areas(address, key)
+        if rule in ON_ADDRESSES:
+            more = {"notes": self.origins(address)}
         message = meaning.means
         if more.get("needed"):
             message += f": {more['needed']} are needed"
@@ -167,14 +172,29 @@ class Explainer:
             return meanings.RULES["14"], {}
         has_interrupt = any(step.way == "irq" for step in self.ring.steps)
         meaning = meanings.NO_AREAS["interrupt" if has_interrupt else "recursion"]
-        entries = [
-            {**self.at(step.point), "message": entry_name(step, self.known)}
-            for step in self.ring.steps
-        ]
+        notes = [self.note(step.point, entry_name(step, self.known)) for step in self.ring.steps]
         if self.ring.lowering:
             message = "the handler lowers the priority below its own"
-            entries.append({**self.at(self.ring.lowering), "message": message})
-        return meaning, {"ring": entries}
+            notes.append(self.note(self.ring.lowering, message))
+        return meaning, {"notes": notes}
+
+    def note(self, address, message):
+        """What is said of an address beside the fault's own."""
+        return {**self.at(address), "message": message}
+
+    def origins(self, address):
+        """Notes on the instructions from which the address of an access or a call comes."""
+        with tempfile.TemporaryDirectory() as folder:
+            try:
+                listing = Listing(tcd.printed(self.command[0], "dis", self.executable(folder))[0])
+            except Unusable:
+                return None
+        notes = []
+        for register, point in origins.origins(listing, address):
+            file, line = self.known.line(int(point, 16)) or (None, 0)
+            text = (sources.line_of(file, line) if file else "") or listing.texts[point]
+            notes.append(self.note(point, f"{register} comes from `{text}`"))
+        return notes or None
 
     def judge_areas(self, address, key):
         """Looks for the ring, or for the number of areas that would be enough."""
@@ -182,7 +202,7 @@ class Explainer:
             return
         with tempfile.TemporaryDirectory() as folder:
             try:
-                elf = self.word("ELF") if self.name != "ship" else self.linked(folder)
+                elf = self.executable(folder)
                 if key.kind == "start":
                     self.roomy = causes.needed(self.command[0], elf, self.word("PLAN"))
                 else:
@@ -191,8 +211,10 @@ class Explainer:
             except Unusable:
                 pass  # the command that refused could read its files: they changed since
 
-    def linked(self, folder):
-        """The executable of `ship`, which it doesn't write if it refuses."""
+    def executable(self, folder):
+        """The executable that was judged. `ship` writes none if it refuses: it is linked again."""
+        if self.name != "ship":
+            return self.word("ELF")
         objects = []
         for number, source in enumerate(self.words("SOURCE")):
             objects.append(f"{folder}/{number}.o")

@@ -344,6 +344,14 @@ class Page:
                 out.append(f"<p><b>What people change:</b> {self.prose(found['change'])}.</p>")
         return [*out, f"<p class=note>{note}</p>"]
 
+    def origins(self, notes):
+        """The instructions from which the address of an access or a call comes."""
+        out = ["<p>Where the address comes from, backwards:</p><ul>"]
+        for note in notes:
+            message = self.prose(note["message"])
+            out.append(f"<li>{message}, at {self.where(note['address'])}</li>")
+        return [*out, "</ul>"]
+
     def bad_headline(self, found):
         """The headline of a refusal: the number of areas, if that is the cause."""
         if found and found["needed"] and self.graph:

@@ -107,6 +107,8 @@ class View:
             body.append(page.refused_code(found["address"]))
         if explainer.ring.steps:
             return body + page.ring(explainer.ring), {"ring": "The ring"}
+        if found and found["notes"]:
+            body += page.origins(found["notes"])
         return body, {}
 
     @staticmethod

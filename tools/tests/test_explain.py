@@ -309,15 +309,15 @@ class WithProgram(beside.InFolder):
         self.assertEqual((told["rule"], told["file"]), ("K14", "faults.s"))
         self.assertEqual(told["text"].split(), ["call", "gates_off"])
         self.assertEqual(told["message"], meanings.NO_AREAS["recursion"].means)
-        self.assertEqual(len(told["ring"]), 3)
-        for entry, words in zip(told["ring"], ("gates_off", "system call", "service_fault")):
-            self.assertIn(words, entry["message"])
-            self.assertEqual(entry["file"], "faults.s")
+        self.assertEqual(len(told["notes"]), 3)
+        for note, words in zip(told["notes"], ("gates_off", "system call", "service_fault")):
+            self.assertIn(words, note["message"])
+            self.assertEqual(note["file"], "faults.s")
 
     def test_a_handler_that_lowers_its_priority(self):
         told = self.certified("nested_interrupts", "broken")
         self.assertEqual(told["message"], meanings.NO_AREAS["interrupt"].means)
-        last = told["ring"][-1]
+        last = told["notes"][-1]
         self.assertEqual((last["file"], last["line"]), ("handlers.s", 7))
         self.assertEqual(last["function"], "vector_10")
 

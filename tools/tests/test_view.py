@@ -324,6 +324,7 @@ class WithProgram(Pages):
             ("motor_control", "service_fault"),
             ("nested_interrupts", "A handler lowers the priority below its own"),
             ("lower_context", "rfe16"),
+            ("polling", "d0 comes from and    d0, d2, 7"),
         ):
             paths = self.example(name, "broken")
             self.linked(paths)
