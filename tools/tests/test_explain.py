@@ -172,7 +172,7 @@ class Files(beside.InFolder):
             self.assertEqual(found(f"bad plan 4 key {key}", CERT, 2)["line"], number, key)
 
     def test_a_plan_that_is_no_json(self):
-        for text, number in (('{\n "sp": 1,\n}', 3), ('{"sp": 0x10}', 1), ("[" * 100000, None)):
+        for text, number in (('{\n "sp": x\n}', 2), ('{"sp": 0x10}', 1), ("[" * 100000, None)):
             self.put("board.json", text)
             told = found("bad plan 1", CERT, 2)
             self.assertIn("JSON", told["message"])
