@@ -1,7 +1,8 @@
 """Where the address of a store, a load or a call comes from: the instructions before it.
 
-It is read from the listing alone, backwards from the instruction, without branches: what it finds
-is what a reader of the source would look at first, and no proof of anything.
+It is read from the listing alone, backwards from the instruction. Of branches it knows only those
+that go back into the lines it has read, as loops do: what it finds is what a reader of the source
+would look at first, and no proof of anything.
 """
 import collections
 import re
@@ -86,18 +87,37 @@ def asked(text):
     return base[1] if base and not base[2] else None
 
 
+def loop_writers(listing, lines, span, register):
+    """The places at which a loop writes a register again, before it comes back into a span.
+
+    The span is from the last writer before an instruction to that instruction.
+    """
+    first, last = span
+    inside = {lines[place].at for place in range(first + 1, last + 1)}
+    found, since = [], []
+    for place in range(last + 1, len(lines)):
+        text, at, _ = lines[place]
+        if written(text) == register:
+            since.append(place)
+        if text.startswith(("j", "loop")) and listing.target(at) in inside:
+            found, since = found + since, []
+    return found
+
+
 def origins(listing, at):
     """The instructions from which an address comes, the last one first."""
-    lines, found = listing.around(at, LOOK_BACK * MOST, 0), []
-    if not lines:
+    lines, found = listing.around(at, LOOK_BACK * MOST, LOOK_BACK), []
+    place = next((place for place, line in enumerate(lines) if line.at == at), None)
+    if place is None:
         return found
-    place, is_table = len(lines) - 1, lines[-1].text.startswith(("calli", "ji"))
-    registers = [register] if (register := asked(lines[-1].text)) else []
+    is_table = lines[place].text.startswith(("calli", "ji"))
+    registers = [register] if (register := asked(lines[place].text)) else []
     while len(found) < MOST:
         writers = ((each, last_writer(listing, lines, place, each)) for each in registers)
-        register, place = next((pair for pair in writers if pair[1] is not None), (None, None))
+        register, back = next((pair for pair in writers if pair[1] is not None), (None, None))
         if register is None:
             break
-        found.append(Origin(register, lines[place].at))
-        registers, is_table = read_before(lines[place].text, is_table), False
+        for writer in (back, *loop_writers(listing, lines, (back, place), register)):
+            found.append(Origin(register, lines[writer].at))
+        registers, is_table, place = read_before(lines[back].text, is_table), False, back
     return found

@@ -13,7 +13,7 @@ class Origins(unittest.TestCase):
         """The registers and the texts from which the address of the last instruction comes."""
         found = listing((0x80000000, *texts))
         _, lines = found.sections[0]
-        rows = origins.origins(found, lines[-1].at)
+        rows = origins.origins(found, lines[len(texts) - 1].at)
         return [f"{register} {found.texts[point].split(' ')[0]}" for register, point in rows]
 
     def test_a_table_with_an_index_from_ram(self):
@@ -36,6 +36,12 @@ class Origins(unittest.TestCase):
 
     def test_a_pointer_that_a_loop_raises_has_no_origin(self):
         self.assertEqual(self.asked("lea.l a5, [a5]0", "st.w [a5+]4, d0"), [])
+
+    def test_an_index_that_a_loop_counts(self):
+        texts = ["mov d1, 0", "addsc.a a5, a4, d1, 2", "st.w [a5]0, d0", "add d1, d1, 1"]
+        found = listing((0x80000000, *texts, "jlt d1, d2, .-12", "add d1, d1, 2", "ret16"))
+        told = [(each.register, each.point) for each in origins.origins(found, "80000008")]
+        self.assertEqual(told, [("a5", "80000004"), ("d1", "80000000"), ("d1", "8000000C")])
 
     def test_what_a_call_leaves(self):
         self.assertEqual(self.asked("call .+100", "st.w [a4]0, d0"), ["a4 call"])
