@@ -280,6 +280,12 @@ def ring_of(program, elf, plan, key, address):
     return ring(listing, read_plan(plan), entry_of(elf), key, address)
 
 
+def areas_of(path):
+    """How many areas the plan of a file has, and how many of them are the reserve."""
+    csa = read_plan(path)["csa"]
+    return plan_number(csa["areas"]), plan_number(csa["reserve"])
+
+
 def ranges(plan):
     """The ranges of a plan that the save areas may not touch."""
     for name in ("rom", "ram", "devices"):

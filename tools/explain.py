@@ -146,6 +146,7 @@ class Explainer:
     # Each of these gets the groups of a shape below and gives the finding.
 
     def rule(self, rule, address, key, task):
+        """A rule that the certificate breaks, or that no certificate keeps."""
         key = key_of(key)
         meaning, more = meanings.RULES.get(rule, UNKNOWN), {}
         if rule == "3" and address == key.entry and key.kind in meanings.NO_CODE_AT_ENTRY:
@@ -165,11 +166,13 @@ class Explainer:
     def no_areas(self, address, key):
         """Which of the causes of rule 14 it is, with the ring or the number of areas."""
         self.judge_areas(address, key)
-        if key.kind == "start":
-            needed = json.loads(self.roomy[0])["certified"] if self.roomy else None
+        needed = json.loads(self.roomy[0])["certified"] if self.roomy else None
+        is_enough = needed is not None and needed <= self.usable()
+        if key.kind == "start" and not is_enough:
             return meanings.NO_AREAS["areas"], {"needed": needed}
         if not self.ring.steps:
-            return meanings.RULES["14"], {}
+            is_given = self.name in ("check", "report")
+            return meanings.NO_AREAS["certificate"] if is_given else meanings.RULES["14"], {}
         has_interrupt = any(step.way == "irq" for step in self.ring.steps)
         meaning = meanings.NO_AREAS["interrupt" if has_interrupt else "recursion"]
         notes = [self.note(step.point, entry_name(step, self.known)) for step in self.ring.steps]
@@ -177,6 +180,11 @@ class Explainer:
             message = "the handler lowers the priority below its own"
             notes.append(self.note(self.ring.lowering, message))
         return meaning, {"notes": notes}
+
+    def usable(self):
+        """How many areas the plan has without the reserve."""
+        areas, reserve = causes.areas_of(self.word("PLAN"))
+        return areas - reserve
 
     def note(self, address, message):
         """What is said of an address beside the fault's own."""
@@ -224,18 +232,22 @@ class Explainer:
         return elf
 
     def boot(self, number, address):
+        """A sequence of `bootgen` that isn't there."""
         place = self.at(address) if address else {"file": self.word("PLAN")}
         return finding(f"boot {number}", meanings.BOOTS.get(number, UNKNOWN), **place)
 
     def switch(self, address):
+        """A byte of the switch routine that differs."""
         return finding("switch", meanings.TASK_REFUSALS["switch"], **self.at(address))
 
     def sum(self, taken, areas):
+        """Tasks that need too many areas together."""
         meaning = meanings.TASK_REFUSALS["sum"]
         message = f"{meaning.means}: {taken} of {areas}"
         return finding("sum", meaning, message, file=self.word("TASKS"), needed=int(taken))
 
     def source(self, number, file, line):
+        """A line of a source."""
         paths = self.words("SOURCE")
         path = paths[int(file)] if int(file) < len(paths) else None
         meaning = meanings.SOURCES.get(number, UNKNOWN)
@@ -253,6 +265,7 @@ class Explainer:
         return finding(f"{kind} {number}", table.get(number, UNKNOWN), **place)
 
     def link(self, number, name):
+        """A name or a section that can't be linked."""
         meaning = meanings.LINKING.get(number, UNKNOWN)
         place = {"file": self.word("LAYOUT")}
         message = meaning.means
@@ -328,6 +341,7 @@ class Explainer:
         return None
 
     def plan(self, number, key, first, second):
+        """A fault of the plan, with its line if that can be found."""
         meaning, path = meanings.PLANS.get(number, UNKNOWN), self.word("PLAN")
         message, line = meaning.means, None
         try:
@@ -363,6 +377,7 @@ class Explainer:
         return line
 
     def binary(self, kind, number, rest):
+        """An executable, a certificate or an object that isn't in its format."""
         roles = {"elf": ("ELF", meanings.EXECUTABLES), "cert": ("CERT", meanings.BINARIES),
                  "object": ("OBJECT", meanings.BINARIES)}  # fmt: skip
         role, table = roles[kind]
@@ -373,9 +388,11 @@ class Explainer:
         return finding(f"{kind} {number}", meaning, meaning.means + rest, file=file)
 
     def dead(self, cause, address):
+        """What a run died of."""
         return finding(f"dead {cause}", meanings.DEATHS.get(cause, UNKNOWN), **self.at(address))
 
     def bad_words(self):
+        """Words of no command."""
         meaning = meanings.STATUSES[tcd.BAD_WORDS]
         message = f"the words of {self.name} are: {meanings.COMMANDS.get(self.name)}"
         if self.name not in meanings.COMMANDS:
@@ -384,6 +401,7 @@ class Explainer:
         return finding("words", meaning, message)
 
     def without_line(self, status):
+        """A status without a line."""
         meaning = meanings.STATUSES[status]
         missing = [w for w in self.command[2:] if "." in w and not pathlib.Path(w).exists()]
         more = f"; not there: {', '.join(missing)}" if missing and status == tcd.NO_FILE else ""

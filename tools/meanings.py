@@ -114,7 +114,7 @@ NO_CODE_AT_ENTRY = {
     ),
 }
 
-#: the three causes of rule 14
+#: the causes of rule 14
 NO_AREAS = {
     "areas": Meaning(
         "the start needs more areas than there are without the reserve",
@@ -123,6 +123,9 @@ NO_AREAS = {
     "recursion": Meaning(
         "this frame can be entered from itself, so no number of areas suffices",
         "take the recursion out: no function, service or handler may lead back to itself",
+    ),
+    "certificate": Meaning(
+        "the certificate states fewer areas than this frame needs", "make the certificate again"
     ),
     "interrupt": Meaning(
         "an interrupt here leads back to this frame, so no number of areas suffices",

@@ -100,7 +100,7 @@ class View:
         found = explainer.find(line, tcd.REFUSED)
         if explainer.roomy:
             self.read(*explainer.roomy)
-            page.graph.areas, page.graph.reserve = areas_of(self.plan)
+            page.graph.areas, page.graph.reserve = causes.areas_of(self.plan)
             return page.refusal(line, found, note) + page.chain()[0], {"chain": "Longest chain"}
         body = page.refusal(line, found, note)
         if found and found["address"]:
@@ -135,12 +135,6 @@ class View:
             f"<title>{title}</title><style>{style}</style><script>{script}</script>"
             f"<h1>{title}</h1><nav>{nav}</nav>" + "\n".join(body + self.page.listed()) + "</html>\n"
         )
-
-
-def areas_of(plan):
-    """How many areas a plan has, and how many of them are the reserve."""
-    csa = causes.read_plan(plan)["csa"]
-    return tuple(causes.plan_number(csa[name]) for name in ("areas", "reserve"))
 
 
 def main(words):

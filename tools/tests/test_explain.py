@@ -330,6 +330,18 @@ class WithProgram(beside.InFolder):
         self.assertEqual((told["rule"], told["needed"], told["function"]), ("K14", 20, "main"))
         self.assertFalse((self.folder / "f.elf").exists())
 
+    def test_a_certificate_that_states_too_little(self):
+        sources = self.example("one_call")
+        self.linked(sources)
+        words = ("firmware.elf", "board.json", "firmware.cert")
+        self.tcd("cert", *words)
+        data = bytearray((self.folder / "firmware.cert").read_bytes())
+        data[15] = 0  # the need of the first node: docs/formats.md, "Certificates"
+        self.put("firmware.cert", bytes(data))
+        told = self.explained(sources, "check", *words)
+        self.assertEqual(told["rule"], "K14")
+        self.assertEqual(told["message"], meanings.NO_AREAS["certificate"].means)
+
     def test_other_variants(self):
         for example, variant, rule, file, words in (
             ("lower_context", "broken", "K7", "adc.s", "rfe16"),
