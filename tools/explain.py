@@ -403,7 +403,9 @@ class Explainer:
     def without_line(self, status):
         """A status without a line."""
         meaning = meanings.STATUSES[status]
-        missing = [w for w in self.command[2:] if "." in w and not pathlib.Path(w).exists()]
+        roles = [role for role in meanings.READ if role not in meanings.WRITTEN.get(self.name, ())]
+        words = [word for role in roles for word in self.words(role)]
+        missing = [word for word in words if not pathlib.Path(word).exists()]
         more = f"; not there: {', '.join(missing)}" if missing and status == tcd.NO_FILE else ""
         return finding(f"status {status}", meaning, meaning.means + more)
 

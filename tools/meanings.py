@@ -386,6 +386,19 @@ COMMANDS = {
     "gen": "NUMBER (1 to 500)",
 }
 
+#: the words of a command that name files which it reads
+READ = ("SOURCE", "LAYOUT", "ELF", "PLAN", "SCRIPT", "CELLS", "TASKS", "CERT", "OBJECT")
+#: and those that name files which it writes
+WRITTEN = {
+    "asm": ("OBJECT",),
+    "link": ("ELF",),
+    "cert": ("CERT",),
+    "ship": ("ELF", "CERT"),
+    "bootgen": ("SOURCE",),
+    "cellcert": ("CERT",),
+    "taskcert": ("CERT",),
+}
+
 #: statuses that come without a line
 STATUSES = {
     3: Meaning("a file can't be read or written, or the output was closed"),

@@ -9,6 +9,7 @@ import re
 
 import drawings
 import frames
+from sources import shown
 
 UPPER_HALF = re.compile(r"(movh|movh\.a|addih|addih\.a) (.*, )(-?\d+)")
 #: above so many frames only those of the chain are drawn, and the tables have a filter
@@ -37,7 +38,11 @@ RING_HEAD = (
 )
 #: how a frame enters the next one of a ring
 ENTERING = {"call": "calls", "irq": "is interrupted by", "sys": "makes a", "aln": "makes a"}
-esc = html.escape
+
+
+def esc(text):
+    """A text from a file as HTML shows it, without control characters."""
+    return html.escape(shown(text))
 
 
 def table_head(*names):

@@ -62,7 +62,10 @@ class Place:
 
 def shown(text):
     """A text from a file for a terminal, with what could move the cursor or colour it escaped."""
-    return "".join(c if c.isprintable() else c.encode("unicode_escape").decode() for c in str(text))
+    text = str(text)
+    if text.isprintable():
+        return text
+    return "".join(c if c.isprintable() else c.encode("unicode_escape").decode() for c in text)
 
 
 def bytes_of(path):

@@ -18,7 +18,6 @@ The page is a picture and proves nothing: `check` of the certificate does.
 Exit status: 0 written, also if it shows a refusal; 2 a file or a program that can't be used, 5
 wrong words.
 """
-import html
 import pathlib
 import sys
 import tempfile
@@ -28,11 +27,10 @@ import explain
 import names
 import program as tcd
 from frames import Graph, Listing
-from page import Page
+from page import Page, esc
 from sources import Unusable, shown
 
 HERE = pathlib.Path(__file__).resolve().parent
-esc = html.escape
 
 
 def map_of(elf, layout, paths):
@@ -124,7 +122,7 @@ class View:
     def text(self):
         """The page."""
         body, parts = self.body()
-        title = esc(shown(pathlib.Path(self.elf).name))
+        title = esc(pathlib.Path(self.elf).name)
         parts = {**parts, "listing": "Listing"}
         nav = "".join(f"<a href=#{place}>{name}</a>" for place, name in parts.items())
         style = (HERE / "view.css").read_text(encoding="utf-8")

@@ -131,7 +131,12 @@ class Lines(beside.InFolder):
 
     def test_missing_files_are_named(self):
         self.put("f.elf", "")
-        self.assertIn("not there: board.json, f.cert", found("", CERT, 3)["message"])
+        told = found("", CERT, 3)["message"]
+        self.assertTrue(told.endswith("not there: board.json"), told)
+        told = found("", SHIP, 3)["message"]
+        self.assertTrue(told.endswith("not there: main.s, drive.s, board.layout, board.json"), told)
+        check = [PROGRAM, "check", *CERT[2:]]
+        self.assertTrue(found("", check, 3)["message"].endswith("board.json, f.cert"))
 
 
 class Files(beside.InFolder):

@@ -18,7 +18,7 @@ HOSTILE = [
     "</pre><script>alert(1)</script>",
     "\"><img src=x onerror='x()'>",
     "a&amp;b<b>'\\\"",
-    "]]>--><!--",
+    "]]>--><!--\x1b[0m",
 ]
 VOID = {"meta", "input", "br"}
 #: elements that may be left open, and what ends them
@@ -187,6 +187,8 @@ class Certified(Pages):
         page = self.page(known, elf=f"{HOSTILE[1]}\n\udc80.elf")
         for text in HOSTILE[:3]:
             self.assertIn(text, page.text)
+        self.assertIn("]]>--><!--\\x1b[0m", page.text)
+        self.assertNotIn("\x1b", page.text)
         self.assertIn(f"{TICKS:08X} {HOSTILE[1]}", page.text)
 
     @unittest.skipUnless(shutil.which("dot"), "no Graphviz")
