@@ -148,7 +148,8 @@ class Explainer:
     def rule(self, rule, address, key, task):
         """A rule that the certificate breaks, or that no certificate keeps."""
         key = key_of(key)
-        meaning, more = meanings.RULES.get(rule, UNKNOWN), {}
+        meaning = meanings.RULES.get(rule, UNKNOWN)
+        meaning, more = meanings.BY_FRAME.get((rule, key.kind), meaning), {}
         if rule == "3" and address == key.entry and key.kind in meanings.NO_CODE_AT_ENTRY:
             meaning = meanings.NO_CODE_AT_ENTRY[key.kind]
         if rule == "14" and not task:

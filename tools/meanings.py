@@ -93,6 +93,44 @@ RULES = {
     ),
 }
 
+FELL_IN = "if this code isn't at fault, the code above it fell into it: end that with a jump"
+NO_CALL = Meaning(
+    "`ret` in a handler, which was entered by no call",
+    f"end handlers with `rfe`; {FELL_IN}",
+)
+NO_INTERRUPT = Meaning(
+    "`rfe` in code that no interrupt and no trap has entered",
+    f"end a function that is called with `ret`, `rfe` is for handlers; {FELL_IN}",
+)
+NOT_RESTORED = Meaning(
+    "`rfe` with a lower context still saved, or after the handler changed D0 to D7 or A2 to A7 "
+    "without restoring them",
+    "begin the handler with `svlcx` or `bisr` and end it with `rslcx`, `rfe`; or use D8 to D15 "
+    "and A12 to A15 only",
+)
+#: what rules 6 and 7 mean by the kind of frame
+BY_FRAME = {
+    ("6", "start"): Meaning(
+        "`ret` in the background, which nothing has called",
+        f"end the background with a jump; {FELL_IN}",
+    ),
+    ("6", "call"): Meaning(
+        "`ret` with a lower context still saved",
+        "write `rslcx` for each `svlcx` and `bisr` before `ret`, on each path",
+    ),
+    ("6", "irq"): NO_CALL,
+    ("6", "sys"): NO_CALL,
+    ("6", "aln"): NO_CALL,
+    ("7", "start"): NO_INTERRUPT,
+    ("7", "call"): NO_INTERRUPT,
+    ("7", "irq"): NOT_RESTORED,
+    ("7", "aln"): NOT_RESTORED,
+    ("7", "sys"): Meaning(
+        "`rfe` with a lower context still saved",
+        "write `rslcx` for each `svlcx` and `bisr` before `rfe`, on each path",
+    ),
+}
+
 #: what rule 3 means at the entry of a frame, by the frame's kind
 NO_CODE_AT_ENTRY = {
     "call": Meaning(

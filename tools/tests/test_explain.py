@@ -123,6 +123,18 @@ class Lines(beside.InFolder):
         inside = found("refused K3 at 80000544 in irq 80000540 prio 10 is 1")
         self.assertEqual(inside["message"], meanings.RULES["3"].means)
 
+    def test_rules_6_and_7_by_the_kind_of_frame(self):
+        for rule, kind, words in (
+            ("6", "start", "end the background with a jump"),
+            ("6", "call", "`rslcx` for each"),
+            ("6", "irq", "end handlers with `rfe`"),
+            ("7", "call", "with `ret`"),
+            ("7", "irq", "begin the handler with `svlcx`"),
+            ("7", "sys", "`rslcx` for each"),
+        ):
+            line = f"refused K{rule} at 80000544 in {kind} 80000540 prio 0 is 1"
+            self.assertIn(words, found(line)["change"], line)
+
     def test_words_of_a_command(self):
         told = found("bad words", [PROGRAM, "boot", "f.elf"], 5)["message"]
         self.assertIn("ELF PLAN CERT ADDRESS", told)
@@ -221,7 +233,8 @@ class Documents(unittest.TestCase):
 
     def test_meanings_are_plain_sentences(self):
         tables = [table for table, _ in NUMBERS.values()]
-        tables += [meanings.NO_AREAS, meanings.NO_CODE_AT_ENTRY, meanings.DEATHS, meanings.STATUSES]
+        tables += [meanings.NO_AREAS, meanings.NO_CODE_AT_ENTRY, meanings.BY_FRAME]
+        tables += [meanings.DEATHS, meanings.STATUSES]
         for table in tables:
             for number, meaning in table.items():
                 for text in filter(None, meaning):
