@@ -36,6 +36,10 @@ import sources
 from frames import Listing, key_of
 from sources import Unusable, shown
 
+#: the commands that judge a certificate which is given, and what may be wrong with it
+GIVEN = ("check", "report", "boot", "cells", "tasks")
+AGAIN = "make the certificate again"
+OLDER = f"; or {AGAIN}, if it is older than the executable or the plan"
 #: the rules on where a call, a store or a load goes
 ON_ADDRESSES = ("5", "9", "10", "17")
 #: the commands that judge one executable under one plan as it is
@@ -161,6 +165,8 @@ class Explainer:
             message += f": {more['needed']} are needed"
         if task:
             message += f" (in task {task}, counted from 0)"
+        if self.name in GIVEN and meaning.change and AGAIN not in meaning.change:
+            meaning = meanings.Meaning(meaning.means, meaning.change + OLDER)
         frame = frame_name(key, self.known)
         return finding(f"K{rule}", meaning, message, frame=frame, **self.at(address), **more)
 
@@ -172,7 +178,7 @@ class Explainer:
         if key.kind == "start" and not is_enough:
             return meanings.NO_AREAS["areas"], {"needed": needed}
         if not self.ring.steps:
-            is_given = self.name in ("check", "report")
+            is_given = self.name in GIVEN
             return meanings.NO_AREAS["certificate"] if is_given else meanings.RULES["14"], {}
         has_interrupt = any(step.way == "irq" for step in self.ring.steps)
         meaning = meanings.NO_AREAS["interrupt" if has_interrupt else "recursion"]

@@ -135,6 +135,18 @@ class Lines(beside.InFolder):
             line = f"refused K{rule} at 80000544 in {kind} 80000540 prio 0 is 1"
             self.assertIn(words, found(line)["change"], line)
 
+    def test_a_certificate_that_is_given_may_be_an_older_one(self):
+        for rule, name, is_told in (
+            ("9", "check", True),
+            ("9", "cert", False),
+            ("4", "check", False),
+            ("17", "tasks", True),
+        ):
+            line = f"refused K{rule} at 80000004 in {KEY}"
+            change = found(line, [PROGRAM, name, *CERT[2:]])["change"]
+            self.assertEqual(explain.OLDER in change, is_told, (rule, name))
+            self.assertEqual(change.count("again"), int(is_told or rule == "4"))
+
     def test_words_of_a_command(self):
         told = found("bad words", [PROGRAM, "boot", "f.elf"], 5)["message"]
         self.assertIn("ELF PLAN CERT ADDRESS", told)
