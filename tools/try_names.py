@@ -1,7 +1,7 @@
 #!/usr/bin/env python3
 """Looks whether the files that the documents name are there: python3 tools/try_names.py
 
-Read are README.md, docs/*.md, examples/README.md and bench/README.md. A name is what stands between backquotes, or behind a link's
+Read are README.md, docs/*.md, and the README.md of examples/, bench/ and tools/. A name is what stands between backquotes, or behind a link's
 bracket, and is a path (with `/`) whose first part is a folder of the repository, or ends with `.md`, `.py` or `.sh`. It has to be there
 from the top, from its document's folder, or by its last part anywhere below docs/, tools/ and bench/. `*` and `..` stand for anything;
 what `out/` holds is made by a build. Ends with 1 where one isn't there.
@@ -36,7 +36,8 @@ def stands(name, document):
 
 
 def main():
-    documents = [TOP / "README.md", *sorted((TOP / "docs").glob("*.md")), TOP / "examples" / "README.md", TOP / "bench" / "README.md"]
+    documents = [TOP / "README.md", *sorted((TOP / "docs").glob("*.md"))]
+    documents += [path for path in sorted(TOP.glob("*/README.md")) if path not in documents]
     tried, missing = 0, 0
     for document in documents:
         for number, name in names(document.read_text()):

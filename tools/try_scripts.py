@@ -1,0 +1,106 @@
+#!/usr/bin/env python3
+"""Gives the scripts wrong words and files that can't be used: python3 tools/try_scripts.py PROGRAM
+
+PROGRAM is the built tcd (crates/tcd/out/tcd). `--help` has to end with status 0. For all else a script
+has to end with the status that the case names, to print one line on standard error, and never a
+traceback.
+
+Exit status: 0 all do so, 1 one doesn't, 2 no such program, 5 wrong words.
+"""
+import pathlib
+import sys
+import tempfile
+
+import scratch
+
+#: what can't be used in each place of a script's words; P is the program
+FILES = ("P firmware.elf board.json firmware.cert", "firmware.elf board.json firmware.cert --tcd P")
+CASES = {
+    "names.py": {
+        5: ["", "board.layout", "--at 80000000", "board.layout main.s --at xyz", "--elf"],
+        2: ["none.layout main.s", "board.layout none.s", "--elf none.elf", "--elf firmware.elf", "--elf cut.elf"],
+    },
+    "explain.py": {
+        5: ["", "board.layout main.s", "board.layout main.s --"],
+        2: ["board.layout main.s -- none cert firmware.elf board.json x.cert"],
+    },
+    "view.py": {
+        5: ["", "P firmware.elf"],
+        2: ["none firmware.elf board.json firmware.cert page.html", "P none.elf board.json firmware.cert page.html"],
+    },
+    "worst_run.py": {
+        5: ["", "firmware.elf", f"{FILES[1]} --seconds x", f"{FILES[1]} --bogus"],
+        2: [
+            "firmware.elf board.json firmware.cert --tcd none",
+            "none.elf board.json firmware.cert --tcd P",
+            "cut.elf board.json firmware.cert --tcd P",
+            "firmware.elf none.json firmware.cert --tcd P",
+            "firmware.elf cut.json firmware.cert --tcd P",
+            "firmware.elf board.json none.cert --tcd P",
+            "firmware.elf board.json cut.cert --tcd P",
+            f"{FILES[1]} --in 7 0 0",
+            f"{FILES[1]} --cells none.cells",
+            f"{FILES[1]} --cells board.layout",
+            f"{FILES[1]} --names none.layout main.s",
+            f"{FILES[1]} -o none/turns.script",
+        ],
+    },
+    "known.py": {
+        5: ["", "firmware.elf --bogus", "firmware.elf --vectors x y"],
+        2: ["none.elf", "cut.elf", "firmware.elf none.json", "firmware.elf cut.json", "board.json"],
+    },
+    "try_worst.py": {5: [""], 2: ["none", "P none"]},
+    **dict.fromkeys(("try_shown.py", "try_schema.py", "try_page.py", "try_builds.py"), {5: ["", "P P"], 2: ["none"]}),
+    "test.py": {5: [""], 2: ["none"]},
+}
+
+
+def prepared(program, folder):
+    """An example that is built, and cut files beside it."""
+    scratch.built(program, "one_call", folder)
+    for name, cut in (("firmware.elf", "cut.elf"), ("board.json", "cut.json"), ("firmware.cert", "cut.cert")):
+        data = (folder / name).read_bytes()
+        (folder / cut).write_bytes(data[: len(data) // 2])
+
+
+def fault_of(program, script, text, wanted, folder):
+    """What is wrong with how a script ends, or None."""
+    words = [program if word == "P" else word for word in text.split()]
+    out, err, status = scratch.run([sys.executable, str(scratch.TOP / "tools" / script), *words], folder)
+    if "Traceback" in out + err:
+        return f"a traceback: {err.strip().splitlines()[-1]}"
+    if status != wanted:
+        return f"status {status} in place of {wanted}: {(err or out)[:200]!r}"
+    lines = len(err.splitlines())
+    if wanted == 0 and (lines or not out):
+        return f"nothing is printed, or {err[:200]!r}"
+    if wanted == 2 and (lines != 1 or out):
+        return f"{lines} lines of errors: {err[:200]!r}"
+    if wanted == 5 and lines > 1:
+        return f"{lines} lines of errors: {err[:200]!r}"
+    return None
+
+
+def main(words):
+    if len(words) != 1 or words[0] in ("-h", "--help"):
+        print(__doc__)
+        return 0 if words in (["-h"], ["--help"]) else 5
+    program, tried, wrong = scratch.program_of(words[0]), 0, 0
+    if not program:
+        print(f"{words[0]}: no such program", file=sys.stderr)
+        return 2
+    with tempfile.TemporaryDirectory() as room:
+        prepared(program, pathlib.Path(room))
+        for script, cases in CASES.items():
+            for wanted, texts in [*cases.items(), (0, ["--help"])]:
+                for text in texts:
+                    tried += 1
+                    if fault := fault_of(program, script, text, wanted, room):
+                        wrong += 1
+                        print(f"{script} {text}: {fault}")
+    print(f"{tried} cases tried, {wrong} wrong")
+    return 1 if wrong else 0
+
+
+if __name__ == "__main__":
+    sys.exit(main(sys.argv[1:]))

@@ -1,0 +1,67 @@
+#!/usr/bin/env python3
+"""Lets worst_run.py look at the examples: python3 tools/try_worst.py PROGRAM [EXAMPLE ..]
+
+PROGRAM is the built tcd (crates/tcd/out/tcd). Each example is copied and built, and worst_run.py has up
+to a minute to find a script that comes to the certificate's number. A row is printed for each: the
+example, N, what was reached, the seconds. Examples of tasks aren't tried: worst_run.py reads no tasks.
+
+Exit status: 0 each reached N, 1 one didn't, 2 no such program or example, 5 wrong words.
+"""
+import pathlib
+import re
+import sys
+import tempfile
+import time
+
+import scratch
+
+#: what the author of an example knows of its devices
+KNOWN = {"protocol": ["--in", "0", "90", "97"], "cells": ["--cells", "modes.cells"]}
+
+
+def names():
+    """The examples that have a certificate of one program."""
+    every = sorted(path.parent for path in scratch.EXAMPLES.glob("*/expected"))
+    return [path.name for path in every if not (path / "board.tasks").exists()]
+
+
+def tried(program, example):
+    """A row of the table, and whether N was reached."""
+    began = time.monotonic()
+    with tempfile.TemporaryDirectory() as room:
+        scratch.built(program, example, pathlib.Path(room))
+        script = str(scratch.TOP / "tools" / "worst_run.py")
+        words = [sys.executable, script, "firmware.elf", "board.json", "firmware.cert"]
+        words += ["-o", "worst.script", "--tcd", program, *KNOWN.get(example, [])]
+        out, err, status = scratch.run(words, room)
+    found = re.fullmatch(r"reached (\d+) of (\d+)\n", out)
+    if not found or "Traceback" in err:
+        return f"| `{example}` | | {(err or out).strip().splitlines()[-1:]} | |", False
+    seconds = f"{time.monotonic() - began:.1f}"
+    return f"| `{example}` | {found[2]} | {found[1]} | {seconds} |", status == 0
+
+
+def main(words):
+    if not words or words[0] in ("-h", "--help"):
+        print(__doc__)
+        return 0 if words else 5
+    program = scratch.program_of(words[0])
+    if not program:
+        print(f"{words[0]}: no such program", file=sys.stderr)
+        return 2
+    chosen, wrong = words[1:] or names(), 0
+    for example in chosen:
+        if example not in names():
+            print(f"{example}: no such example", file=sys.stderr)
+            return 2
+    print("| Example | N | Reached | Seconds |\n|---|---|---|---|")
+    for example in chosen:
+        row, is_reached = tried(program, example)
+        wrong += not is_reached
+        print(row, flush=True)
+    print(f"{len(chosen)} examples tried, {wrong} wrong")
+    return 1 if wrong else 0
+
+
+if __name__ == "__main__":
+    sys.exit(main(sys.argv[1:]))
