@@ -1,0 +1,287 @@
+#!/usr/bin/env python3
+"""Looks for a run that takes as many context save areas as the certificate says.
+
+    worst_run.py ELF PLAN CERT [-o turns.script] [--seconds 60] [--seed 1] [--tcd PROGRAM]
+                 [--in DEVICE LO HI ..] [--cells FILE | --tasks FILE TASK] [--names LAYOUT SOURCE ..]
+
+No run can pass the certificate's N. This script looks for a run that comes to N, writes it as a script
+for `tcd run`, lets `tcd run` play it, and prints `reached 11 of 11`. If it finds none in the time, it
+prints `reached 10 of 11`, writes the script of the best run, and says which entry of a chain to N no run
+has taken. Then N may be reached by a run that wasn't found, or by none: a certificate joins what is
+known of a function's callers, so it may allow what no run does. Nothing here has to be trusted: what
+counts is the line that `tcd run` prints.
+
+    --in DEVICE LO HI     what a device answers, as in a script: for what you know of it
+    --cells FILE          the certificate is one of `cellcert`, for these cells
+    --tasks FILE TASK     the certificate is that of a task, from 0, of `taskcert`. The task is played
+                          alone, in its view: each word of ram may hold anything when it is read
+    --names LAYOUT ..     the layout and the sources, for names in what is printed
+    --seed N              another choice of what is tried; times differ much
+
+The search is random: it fires interrupts where an entry can still lead to N, others for what their
+handlers change, and lets the devices answer what the code compares with. A state that needs several
+words in a row from a device, or long counting, may not be found in a minute.
+
+Exit status: 0 reached N, 1 not reached, 2 a file or program that can't be used, 5 wrong words.
+"""
+import argparse
+import json
+import pathlib
+import re
+import shutil
+import subprocess
+import sys
+import tempfile
+import time
+
+import hostile_readers as readers
+import names
+import worst_graph
+import worst_machine
+import worst_search
+
+NO_FILE = 3
+MOST_POINTS = 8
+
+
+class Unusable(Exception):
+    """A file or a program that can't be used, and why."""
+
+
+class Firmware:
+    """What is certified, and what `tcd run` plays. They differ where cells are devices."""
+
+    def __init__(self, given, folder):
+        self.program, self.folder = shutil.which(given.tcd), pathlib.Path(folder)
+        if not self.program:
+            raise Unusable(f"{given.tcd}: no such program; name it with --tcd")
+        self.elf, self.plan, self.certified_plan = given.elf, given.plan, given.plan
+        self.image = read(given.elf, readers.elf)
+        self.board = read(given.plan, readers.plan)
+        if given.cells:
+            found = read(given.cells, lambda data: readers.cells(data, self.board))
+            self.certified_plan = self.put("plan", readers.with_cells(self.board, found))
+        elif given.tasks:
+            self.view(*given.tasks)
+
+    def put(self, name, board):
+        path = self.folder / f"{name}.json"
+        path.write_text(json.dumps(board))
+        return str(path)
+
+    def view(self, file, task):
+        """Takes the view of a task in place of the whole."""
+        found = read(file, lambda data: readers.tasks(data, self.board))
+        if task not in [str(u) for u in range(len(found[2]))]:
+            raise Unusable(f"--tasks {file} {task}: it has the tasks 0 to {len(found[2]) - 1}")
+        fault = readers.routine_fault(self.image, self.board, found)
+        if fault is not None:
+            raise Unusable(f"{self.elf}: the switch routine isn't there, see {fault:08X}")
+        elf = readers.view_image(self.image, found, int(task))
+        self.board = readers.view_plan(self.board, found, int(task))
+        self.image, self.elf = readers.elf(elf), str(self.folder / "view.elf")
+        pathlib.Path(self.elf).write_bytes(elf)
+        self.plan = self.certified_plan = self.put("view", self.board)
+
+    def printed(self, *words):
+        """What a command of tcd prints, which has to end with status 0."""
+        done = subprocess.run([self.program, *words], capture_output=True, text=True, errors="replace")
+        if done.returncode:
+            missing = [word for word in words[1:] if not pathlib.Path(word).exists()]
+            why = done.stdout.strip() or done.stderr.strip() or f"status {done.returncode}"
+            if done.returncode == NO_FILE and missing:
+                why = f"not there: {', '.join(missing)}"
+            raise Unusable(f"{' '.join(words)}: {why}")
+        return done.stdout
+
+    def graph(self, cert, name_at):
+        """The graph of the certificate."""
+        report = self.printed("report", self.elf, self.certified_plan, cert)
+        cfg = self.printed("cfg", self.elf, self.certified_plan)
+        try:
+            return worst_graph.Graph(json.loads(report), cfg, self.board, name_at)
+        except (worst_graph.Unreadable, ValueError, KeyError) as e:
+            raise Unusable(f"{cert}: `report` and `cfg` don't fit: {e}") from None
+
+
+def read(path, reader):
+    """A file by its reader."""
+    try:
+        return reader(pathlib.Path(path).read_bytes())
+    except OSError as e:
+        raise Unusable(f"{path}: {e.strerror}") from None
+    except readers.Bad as e:
+        raise Unusable(f"{path}: bad {e} (docs/refusals.md says what it means)") from None
+
+
+def fixed_answers(given, board):
+    """The answers of devices that the words give."""
+    fixed, devices = {}, board["devices"]
+    for n, low, high in given.answers:
+        if not 0 <= n < len(devices) or not devices[n]["lo"] <= low <= high <= devices[n]["hi"]:
+            raise Unusable(f"--in {n} {low} {high}: the plan has no such device, or other bounds")
+        fixed[n] = low, high
+    return fixed
+
+
+# Scripts
+
+
+def script_of(best, board, devices_read):
+    """The script that does what the machine did."""
+    turns, done, answers = best
+    least = [(d["lo"], d["lo"]) for d in board["devices"]]
+    lines = [f"in {n} {a[0]} {a[1]}" for n, a in enumerate(answers) if n in devices_read and a != least[n]]
+    entries, at = [], 0
+    while done:
+        done, t, what = done
+        entries.append((t, what))
+    for t, what in reversed(entries):
+        lines += [f"step {t - at}"] * (t > at)
+        lines += ["aln 1", "step 1", "aln 0"] if what == "aln" else [f"irq {what}"]
+        at = t + 1
+    lines += [f"step {turns - at}"] * (turns > at)
+    return "\n".join(lines) + "\n"
+
+
+def written(path, text):
+    try:
+        pathlib.Path(path).write_text(text)
+    except OSError as e:
+        raise Unusable(f"{path}: {e.strerror}") from None
+
+
+# What no run has done
+
+
+def name_of(given):
+    """A function that names an address."""
+    known = None
+    try:
+        known = names.read(given.names[0], given.names[1:]) if given.names else names.read_elf(given.elf)
+    except names.Unusable as e:
+        if given.names:
+            raise Unusable(str(e)) from None
+    return lambda at: f"{known.name(at)} ({at:08X})" if known else f"{at:08X}"
+
+
+def ways_of(graph, node, point, base, name):
+    """What leads on to N at a point, in words."""
+    out = []
+    for way, to in node.ways[point]:
+        if way not in ("call", "sys", "aln", "irq"):
+            continue
+        for prio, child in graph.entered(node, way, to):
+            if node.saved.get(point, 0) + 1 + child.need >= graph.areas - base:
+                out.append(f"interrupt {prio}" if way == "irq" else f"{way} of {name(to)}")
+    return out or ["a save of its own"]
+
+
+def blocked(search):
+    """How many areas were in use when the deepest frame began from which no run went on, and for each
+    such frame the addresses from which it was entered."""
+    graph = search.w.graph
+    frames = search.w.learned.frames | {(graph.start, 0, None)}
+    frames = {frame for frame in frames if graph.goals(*frame[:2]).fires}
+    deepest = max((base for _, base, _ in frames), default=0)
+    found = {}
+    for node, base, via in frames:
+        if base == deepest:
+            found.setdefault(node, set()).add(via)
+    return deepest, found
+
+
+def taken_from(search, node, ways):
+    """From where the function was called in runs that took one of these ways."""
+    wanted = {(way, to) for way, to in ways if way in ("call", "sys", "aln", "irq")}
+    entries = search.w.learned.entries
+    return {via for n, via, way, to in entries if n.key[:2] == node.key[:2] and (way, to) in wanted}
+
+
+def why_not(search, name):
+    """Which entry of a chain to N no run has taken, and why there may be no such run."""
+    graph, is_joined = search.w.graph, False
+    deepest, frames = blocked(search)
+    yield f"A chain that leads to {graph.areas} was followed to a frame that no run left on it:"
+    for node, vias in frames.items():
+        frame = "{} {:08X} prio {} is {}".format(*node.key)
+        yield f"  {name(node.key[1])}, entered with {deepest} areas in use ({frame})"
+        for point in sorted(graph.goals(node, deepest).fires)[:MOST_POINTS]:
+            ways = ", ".join(ways_of(graph, node, point, deepest, name)[:3])
+            yield f"    no run took, at {name(point)}: {ways}"
+            taken = taken_from(search, node, node.ways[point]) - {None}
+            if node.key[0] == "call" and taken and not taken & vias:
+                is_joined = True
+                yield f"      if it was called at {name(min(taken))}, runs took it;"
+                yield f"      if at {name(min(vias))}, none did"
+    if is_joined:
+        yield "The certificate has one frame for all calls of a function at one priority, in which the"
+        yield "values of all callers are joined: each call counts what another one may do. So it may be"
+        yield "that no run comes to N, or that none was found in this time."
+    else:
+        yield "Either no such run was found in this time, or there is none: N is a bound."
+    yield "More time (--seconds), another --seed or what a device answers (--in) may find a run."
+
+
+# The words
+
+
+def parsed(words):
+    parser = argparse.ArgumentParser(add_help=False, usage=argparse.SUPPRESS)
+    for name in ("elf", "plan", "cert"):
+        parser.add_argument(name)
+    parser.add_argument("-o", "--out", default="turns.script")
+    parser.add_argument("--seconds", type=float, default=60)
+    parser.add_argument("--seed", type=int, default=1)
+    parser.add_argument("--in", dest="answers", nargs=3, type=int, action="append", default=[])
+    parser.add_argument("--names", nargs="+", default=[])
+    parser.add_argument("--tcd", default="tcd")
+    views = parser.add_mutually_exclusive_group()
+    views.add_argument("--cells")
+    views.add_argument("--tasks", nargs=2)
+    parser.error = wrong_words
+    return parser.parse_args(words)
+
+
+def wrong_words(text):
+    print(f"worst_run.py: {text}; see --help", file=sys.stderr)
+    sys.exit(5)
+
+
+def searched(given, folder):
+    """Searches, writes the script, plays it, and prints what was reached. Gives the status."""
+    began, firmware = time.monotonic(), Firmware(given, folder)
+    name, fixed = name_of(given), fixed_answers(given, firmware.board)
+    world = worst_machine.World(firmware.image, firmware.board)
+    world.graph = graph = firmware.graph(given.cert, world.name_at)
+    search = worst_search.Search(world, given.seconds, given.seed, fixed)
+    search.go()
+    nothing = 1, None, tuple((d["lo"], d["lo"]) for d in firmware.board["devices"])
+    written(given.out, script_of(world.best or nothing, firmware.board, world.learned.read))
+    line = firmware.printed("run", firmware.elf, firmware.plan, given.out).strip()
+    peak = int(re.search(r"peak (\d+)", line)[1])
+    print(f"reached {peak} of {graph.areas}")
+    took = time.monotonic() - began
+    print(f"{given.out}: {line}; {took:.1f} s, {search.steps} events tried", file=sys.stderr)
+    if peak != world.peak:
+        print(f"Its own machine counted {world.peak}: a fault of worst_run.py", file=sys.stderr)
+    if peak < graph.areas:
+        print("\n".join(why_not(search, name)), file=sys.stderr)
+    return 0 if peak >= graph.areas else 1
+
+
+def main(words):
+    if words in (["--help"], ["-h"]):
+        print(__doc__)
+        return 0
+    given = parsed(words)
+    try:
+        with tempfile.TemporaryDirectory() as folder:
+            return searched(given, folder)
+    except Unusable as e:
+        print(e, file=sys.stderr)
+        return 2
+
+
+if __name__ == "__main__":
+    sys.exit(main(sys.argv[1:]))
