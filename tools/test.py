@@ -29,7 +29,7 @@ PARTS = {
     "examples": ["try_examples.py", "P"],
     "refusals": ["try_refusals.py", "P"],
     "names": ["try_names.py"],
-    "shown": ["try_shown.py", "P"],
+    "pages": ["try_pages.py", "P"],
     "schema": ["try_schema.py", "P"],
     "scripts": ["try_scripts.py", "P"],
     "page": ["try_page.py", "P"],
@@ -88,7 +88,8 @@ def main(words):
     passed = failed = 0
     for part in parts:
         if missing(part):
-            print(f"{part}: not tried, {missing(part)} isn't there", flush=True)
+            print(f"{part}: 0 passed, 1 failed: {missing(part)} isn't there", flush=True)
+            failed += 1
             continue
         began = time.monotonic()
         printed, good, bad = done(part, program)

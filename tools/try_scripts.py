@@ -50,7 +50,7 @@ CASES = {
         2: ["none.elf", "cut.elf", "firmware.elf none.json", "firmware.elf cut.json", "board.json"],
     },
     "try_worst.py": {5: [""], 2: ["none", "P none"]},
-    **dict.fromkeys(("try_shown.py", "try_schema.py", "try_page.py", "try_builds.py"), {5: ["", "P P"], 2: ["none"]}),
+    **dict.fromkeys(("try_pages.py", "try_schema.py", "try_page.py", "try_builds.py"), {5: ["", "P P"], 2: ["none"]}),
     "test.py": {5: [""], 2: ["none"]},
 }
 
