@@ -11,9 +11,10 @@ import pathlib
 import re
 import tempfile
 
+import plans
 import program as tcd
 from frames import TARGET, WORD, Key, Listing, Step, built_addresses, hex8, key_of
-from sources import Unusable, bytes_of, shown
+from sources import Unusable, bytes_of
 
 RETURNS = ("ret", "ret16", "rfe", "rfe16")
 CALLS = ("call", "call16", "calla", "calli")
@@ -25,23 +26,6 @@ VECTOR_SHIFT = 5
 #: how far before a call through a register its table's address is looked for, and how many
 #: words the table has at most
 LOOK_BACK, TABLE = 24, 128
-MOST_AREAS, AREA, SEGMENT, SEGMENT_AREAS = 4096, 64, 1 << 28, 1 << 22
-
-
-def read_plan(path):
-    """A plan as JSON, or Unusable."""
-    try:
-        plan = json.loads(bytes_of(path))
-    except ValueError as e:
-        raise Unusable(f"{shown(path)}: not JSON: {e}") from None
-    if not isinstance(plan, dict):
-        raise Unusable(f"{shown(path)}: not a JSON object")
-    return plan
-
-
-def plan_number(value):
-    """A number of a plan."""
-    return int(value, 16) if isinstance(value, str) else int(value)
 
 
 class Tables:
@@ -113,9 +97,9 @@ class Walk:
 
     def __init__(self, listing, plan, entry):
         self.listing, self.tables, self.plan = listing, Tables(listing), plan
-        self.biv, self.btv = plan_number(plan["biv"]), plan_number(plan["btv"])
-        self.irqs = [plan_number(p) for p in plan["irqs"]]
-        start = {name: plan_number(value) for name, value in plan["start"].items()}
+        self.biv, self.btv = plans.number(plan["biv"]), plans.number(plan["btv"])
+        self.irqs = [plans.number(p) for p in plan["irqs"]]
+        start = {name: plans.number(value) for name, value in plan["start"].items()}
         self.states, self.exits, self.steps = {}, {}, collections.defaultdict(dict)
         self.returns = collections.defaultdict(set)
         self.work = collections.deque()
@@ -277,38 +261,13 @@ def entry_of(elf):
 def ring_of(program, elf, plan, key, address):
     """The ring of a refusal of rule 14, from the files of the command."""
     listing = Listing(tcd.printed(program, "dis", elf)[0])
-    return ring(listing, read_plan(plan), entry_of(elf), key, address)
-
-
-def areas_of(path):
-    """How many areas the plan of a file has, and how many of them are the reserve."""
-    csa = read_plan(path)["csa"]
-    return plan_number(csa["areas"]), plan_number(csa["reserve"])
-
-
-def ranges(plan):
-    """The ranges of a plan that the save areas may not touch."""
-    for name in ("rom", "ram", "devices"):
-        for each in plan[name]:
-            yield plan_number(each["at"]), plan_number(each["at"]) + plan_number(each["len"])
-
-
-def with_room(plan):
-    """The plan with the most areas that a plan may have, at a place that nothing else uses."""
-    taken = list(ranges(plan))
-    size = MOST_AREAS * AREA
-    for segment in range(0, 16 * SEGMENT, SEGMENT):
-        for at in range(segment + AREA, segment + SEGMENT_AREAS - size, size):
-            if all(at + size <= begin or end <= at for begin, end in taken):
-                csa = {"at": at, "areas": MOST_AREAS, "reserve": plan["csa"]["reserve"]}
-                return {**plan, "csa": csa}
-    return None
+    return ring(listing, plans.read(plan), entry_of(elf), key, address)
 
 
 def needed(program, elf, plan):
     """What `report` and `cfg` print of an executable if there are areas enough, or None."""
     try:
-        roomy = with_room(read_plan(plan))
+        roomy = plans.with_room(plans.read(plan))
     except (Unusable, KeyError, ValueError, TypeError):
         return None
     if not roomy:

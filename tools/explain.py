@@ -31,6 +31,7 @@ import causes
 import meanings
 import names
 import origins
+import plans
 import program as tcd
 import sources
 from frames import Listing, key_of
@@ -102,8 +103,8 @@ def entry_name(step, known):
 class Explainer:
     """Says what one command printed. `known` has the names, `paths` are the sources linked."""
 
-    def __init__(self, command, known, layout=None, paths=()):
-        self.command, self.known, self.layout, self.paths = command, known, layout, list(paths)
+    def __init__(self, command, known, paths=()):
+        self.command, self.known, self.paths = command, known, list(paths)
         self.name = command[1] if len(command) > 1 else ""
         #: if the finding is one of rule 14: the ring of frames, which may have no steps
         self.ring = causes.Ring()
@@ -145,9 +146,7 @@ class Explainer:
             return self.without_line(status)
         return None
 
-    # What the lines say
-
-    # Each of these gets the groups of a shape below and gives the finding.
+    # What the lines say. Those that SHAPES names get the groups of a line and give the finding.
 
     def rule(self, rule, address, key, task):
         """A rule that the certificate breaks, or that no certificate keeps."""
@@ -190,7 +189,7 @@ class Explainer:
 
     def usable(self):
         """How many areas the plan has without the reserve."""
-        areas, reserve = causes.areas_of(self.word("PLAN"))
+        areas, reserve = plans.areas_of(self.word("PLAN"))
         return areas - reserve
 
     def note(self, address, message):
@@ -331,21 +330,8 @@ class Explainer:
         paths, place = self.linked_sources(), {}
         if int(file) < len(paths):
             path = paths[int(file)]
-            place = {"file": path, "line": self.line_at(path, section, offset)}
+            place = {"file": path, "line": sources.line_at(path, section, offset)}
         return finding("link 5", meaning, message, **place)
-
-    @staticmethod
-    def line_at(path, section, offset):
-        """The line of the statement at an offset of the section with this number, or None."""
-        try:
-            source = sources.read_source(path)
-            name = list(source.sizes)[int(section)]
-        except (Unusable, IndexError):
-            return None
-        for row in source.statements:
-            if row.section == name and row.offset == int(offset):
-                return row.line
-        return None
 
     def plan(self, number, key, first, second):
         """A fault of the plan, with its line if that can be found."""
@@ -354,40 +340,23 @@ class Explainer:
         try:
             text = sources.bytes_of(path).decode("utf-8")
             if number == "1":
-                message, line = self.json_fault(text) or (message, None)
+                message, line = plans.json_fault(text) or (message, None)
         except (Unusable, TypeError, UnicodeDecodeError):
             text = ""
         if key:
             message = f"{key}: {message}"
-            line = self.key_line(text, key)
+            line = plans.key_line(text, key)
         if first:
             message += f" (ranges {first} and {second}, from 0 over rom, ram, devices and areas)"
         return finding(f"plan {number}", meaning, message, file=path, line=line)
 
-    @staticmethod
-    def json_fault(text):
-        """What Python's reader says of a plan that isn't JSON, and its line."""
-        try:
-            json.loads(text)
-        except (json.JSONDecodeError, RecursionError) as e:
-            return f"not JSON: {getattr(e, 'msg', e)}", getattr(e, "lineno", None)
-        return None
-
-    @staticmethod
-    def key_line(text, key):
-        """The line of a plan's key: behind the line of the object that holds it."""
-        line = None
-        for name in key.split("."):
-            later = enumerate(text.split("\n")[line - 1 if line else 0 :], line or 1)
-            found = next((n for n, row in later if f'"{name}"' in row), None)
-            line = found or line
-        return line
-
     def binary(self, kind, number, rest):
         """An executable, a certificate or an object that isn't in its format."""
-        roles = {"elf": ("ELF", meanings.EXECUTABLES), "cert": ("CERT", meanings.BINARIES),
-                 "object": ("OBJECT", meanings.BINARIES)}  # fmt: skip
-        role, table = roles[kind]
+        role, table = {
+            "elf": ("ELF", meanings.EXECUTABLES),
+            "cert": ("CERT", meanings.BINARIES),
+            "object": ("OBJECT", meanings.BINARIES),
+        }[kind]
         words, meaning = self.words(role), table.get(number, UNKNOWN)
         if kind == "object" and (place := re.search(r"at (\d+)", rest)):
             words = words[int(place[1]) :]
@@ -436,14 +405,14 @@ SHAPES = (
 
 
 def names_of(words, command):
-    """The map, the layout and the sources that the words before `--` name, or those of `ship`."""
+    """The map and the sources that the words before `--` name, or those of `ship`."""
     if words[:1] == ["--elf"]:
-        return names.read_elf(words[1]), None, []
+        return names.read_elf(words[1]), []
     if not words and command[1:2] == ["ship"] and len(command) > 6:
         words = [command[3], *command[6:]]
     if words:
-        return names.read(words[0], words[1:]), words[0], words[1:]
-    return names.Map(), None, []
+        return names.read(words[0], words[1:]), words[1:]
+    return names.Map(), []
 
 
 def parsed(words):
@@ -460,14 +429,14 @@ def parsed(words):
 
 def explained(words, command):
     """Runs the command: how it ended, the finding or None, and why there are no names or None."""
-    known, layout, paths, no_names = names.Map(), None, [], None
+    known, paths, no_names = names.Map(), [], None
     try:
-        known, layout, paths = names_of(words, command)
+        known, paths = names_of(words, command)
     except Unusable as e:
         no_names = str(e)
         paths = words[1:] if words[:1] != ["--elf"] else []
     done = tcd.run(command[0], *command[1:])
-    explainer = Explainer(command, known, layout, paths)
+    explainer = Explainer(command, known, paths)
     return done, explainer.find(done.stdout.strip(), done.returncode), no_names
 
 

@@ -171,3 +171,16 @@ def uses(path, name):
     """The numbers of the lines that have a name outside of comments."""
     word = re.compile(rf"(?<![\w.$]){re.escape(name)}(?![\w.$])")
     return [n for n, line in enumerate(lines_of(path), 1) if word.search(line.split("#")[0])]
+
+
+def line_at(path, section, offset):
+    """The line of the statement at an offset of the section with this number, or None."""
+    try:
+        source = read_source(path)
+        name = list(source.sizes)[int(section)]
+    except (Unusable, IndexError):
+        return None
+    for row in source.statements:
+        if row.section == name and row.offset == int(offset):
+            return row.line
+    return None

@@ -22,9 +22,9 @@ import pathlib
 import sys
 import tempfile
 
-import causes
 import explain
 import names
+import plans
 import program as tcd
 from frames import Graph, Listing
 from page import Page, esc
@@ -48,9 +48,9 @@ class View:
 
     def __init__(self, program, elf, plan, cert, names_from):
         self.program, self.elf, self.plan, self.cert = program, elf, plan, cert
-        self.layout, self.paths = (names_from[0], names_from[1:]) if names_from else (None, [])
+        layout, self.paths = (names_from[0], names_from[1:]) if names_from else (None, [])
         listing = Listing(tcd.printed(program, "dis", elf)[0])
-        self.page = Page(map_of(elf, self.layout, self.paths), listing)
+        self.page = Page(map_of(elf, layout, self.paths), listing)
 
     def body(self):
         """The parts of the page, and the ids and names of those that the top links to."""
@@ -94,11 +94,11 @@ class View:
     def explained(self, line, note):
         """The refusal of `cert` in words, with its code, the ring, or the chain too long."""
         page, command = self.page, [self.program, "cert", self.elf, self.plan, self.cert]
-        explainer = explain.Explainer(command, page.known, self.layout, self.paths)
+        explainer = explain.Explainer(command, page.known, self.paths)
         found = explainer.find(line, tcd.REFUSED)
         if explainer.roomy:
             self.read(*explainer.roomy)
-            page.graph.areas, page.graph.reserve = causes.areas_of(self.plan)
+            page.graph.areas, page.graph.reserve = plans.areas_of(self.plan)
             return page.refusal(line, found, note) + page.chain()[0], {"chain": "Longest chain"}
         body = page.refusal(line, found, note)
         if found and found["address"]:

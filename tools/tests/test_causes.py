@@ -1,4 +1,4 @@
-"""The causes of rule 14: rings, and areas that are too few."""
+"""The ring of rule 14."""
 import json
 import unittest
 
@@ -127,23 +127,6 @@ class States(unittest.TestCase):
         plan = {**PLAN, "start": {"ie": 1, "ccpn": 10, "is": 0}}
         found = listing((0x80000000, "j .+0"), (VECTOR_20, "rfe16"))
         self.assertEqual(self.irqs(found, plan), [("80000000", 20)])
-
-
-class Room(unittest.TestCase):
-    """Plans with as many areas as there can be."""
-
-    def test_the_areas_touch_nothing(self):
-        roomy = causes.with_room(PLAN)["csa"]
-        self.assertEqual((roomy["areas"], roomy["reserve"]), (4096, 2))
-        self.assertNotEqual(roomy["at"], 0)
-        self.assertEqual(roomy["at"] % 64, 0)
-        self.assertLessEqual(roomy["at"] % (1 << 28) + 4096 * 64, 1 << 22)
-        for begin, end in causes.ranges(PLAN):
-            self.assertTrue(roomy["at"] + 4096 * 64 <= begin or end <= roomy["at"])
-
-    def test_a_full_memory(self):
-        full = {**PLAN, "ram": [{"at": 0, "len": 1 << 32}]}
-        self.assertIsNone(causes.with_room(full))
 
 
 @beside.needs_program

@@ -80,7 +80,7 @@ SILENT = [
 
 def found(line, command=CERT, status=1, known=None, paths=()):
     """The finding of a line."""
-    return explain.Explainer(command, known or names.Map(), None, paths).find(line, status)
+    return explain.Explainer(command, known or names.Map(), paths).find(line, status)
 
 
 class Lines(beside.InFolder):
