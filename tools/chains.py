@@ -20,6 +20,9 @@ def uses(path):
 
 
 def main():
+    if sys.argv[1:] in (['--help'], ['-h']):
+        print(__doc__)
+        return 0
     used = uses(sys.argv[1] if len(sys.argv) > 1 else 'crates.txt')
 
     @lru_cache(None)

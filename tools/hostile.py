@@ -32,6 +32,7 @@ import threading
 import time
 
 import hostile_readers as readers
+import program as programs
 from hostile_answers import COMMANDS, FAULT, answer, driven, read_cert, read_elf, read_plan
 from hostile_beside import beside
 from hostile_readers import Bad
@@ -1189,9 +1190,10 @@ def done(given):
 def main():
     arguments, given = sys.argv[1:], {"--jobs": "2", "--only": ""}
     quick = "--quick" in arguments
-    for name in set(arguments) & set(given):
+    for name in set(arguments[:-1]) & set(given):
         given[name] = arguments.pop(arguments.index(name) + 1)
-    program = str(pathlib.Path(next(a for a in arguments if not a.startswith("--"))).resolve())
+    options = {*given, "--quick"}
+    program = programs.of_words([a for a in arguments if a not in options], __doc__)
     began, whole = time.monotonic(), Bench(program, None, quick)
     chosen = [(program, quick, n) for n, (title, _) in enumerate(jobs()) if given["--only"] in title]
     with multiprocessing.get_context("fork").Pool(int(given["--jobs"])) as pool:

@@ -22,9 +22,9 @@ def of_words(words, doc):
 
     For scripts whose first word is the program: `doc` is what --help prints.
     """
-    if not words or words[0] in ("--help", "-h"):
+    if not words or words[0].startswith("-"):
         print(doc)
-        sys.exit(0 if words else BAD_WORDS)
+        sys.exit(0 if words and words[0] in ("--help", "-h") else BAD_WORDS)
     try:
         return str(pathlib.Path(found(words[0])).resolve())
     except Unusable as e:

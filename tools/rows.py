@@ -118,6 +118,9 @@ def told():
 
 
 def main():
+    if {"--help", "-h"} & set(sys.argv[1:]):
+        print(__doc__)
+        return 0
     all_rows = rows()
     count, uses = len(all_rows), ["_".join(f.upper() for f in named(r)) or "NONE" for r in all_rows]
     wants = ["&[" + ", ".join(f"Want::{OPERANDS[t][1]}" for t in operands(r)) + "]" for r in all_rows]
