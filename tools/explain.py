@@ -45,6 +45,8 @@ OLDER = f"; or {AGAIN}, if it is older than the executable or the plan"
 ON_ADDRESSES = ("5", "9", "10", "17")
 #: the commands that judge one executable under one plan as it is
 JUDGES = ("cert", "check", "report", "cfg", "ship")
+#: so much of a line of a file is printed
+MOST_TEXT = 120
 #: a finding has each of these; None if it isn't known
 FIELDS = tuple(
     "rule file line text address function frame message change needed notes".split(" ")
@@ -73,7 +75,11 @@ def lines_of(found):
     where = f" at {found['function']}" if found["function"] else ""
     frame = f", in {found['frame']}" if found["frame"] else ""
     lines = [f"{place_of(found)}: error: {found['rule']}{where}{frame}: {found['message']}"]
-    lines += [f"    {name}: {found[name]}" for name in ("text", "change") if found[name]]
+    if found["text"]:
+        is_long = len(found["text"]) > MOST_TEXT
+        lines.append(f"    text: {found['text'][:MOST_TEXT]}{' ..' if is_long else ''}")
+    if found["change"]:
+        lines.append(f"    change: {found['change']}")
     for note in found["notes"] or []:
         at = f"at {note['function']} " if note["function"] else ""
         lines.append(f"{place_of(note)}: note: {at}{note['message']}")
@@ -206,7 +212,7 @@ class Explainer:
         notes = []
         for register, point in origins.origins(listing, address):
             file, line = self.known.line(int(point, 16)) or (None, 0)
-            text = (sources.line_of(file, line) if file else "") or listing.texts[point]
+            text = (sources.statement_of(file, line) if file else "") or listing.texts[point]
             notes.append(self.note(point, f"{register} comes from `{text}`"))
         return notes or None
 
@@ -267,8 +273,19 @@ class Explainer:
             "cells": ("CELLS", meanings.CELLS),
             "tasks": ("TASKS", meanings.TASKS),
         }[kind]
-        place = {"file": self.word(role), "line": int(line) if line else None}
-        return finding(f"{kind} {number}", table.get(number, UNKNOWN), **place)
+        meaning, file = table.get(number, UNKNOWN), self.word(role)
+        if kind == "layout" and number == "1" and self.is_after_last(file, int(line or 0)):
+            meaning = meanings.NO_ENTRY
+        return finding(f"{kind} {number}", meaning, file=file, line=int(line) if line else None)
+
+    @staticmethod
+    def is_after_last(path, line):
+        """Whether a line is the one after the last of a file."""
+        try:
+            lines = sources.lines_of(path)
+        except (Unusable, TypeError):
+            return False
+        return line == len(lines) + (lines[-1] != "")
 
     def link(self, number, name):
         """A name or a section that can't be linked."""

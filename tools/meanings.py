@@ -320,12 +320,15 @@ LAYOUTS = {
     "1": Meaning(
         "not a line of a layout",
         "write `entry NAME` and `place SECTION AT MOST` with eight upper-case hex digits, AT a "
-        "multiple of 4; at the line after the last: there is no `entry`",
+        "multiple of 4",
     ),
     "2": Meaning("a second entry, or a section that is placed already"),
     "3": Meaning("more than 64 places"),
     "4": Meaning("the place shares bytes with an earlier one", "move it or make one shorter"),
 }
+
+#: `bad layout 1` at the line after the last
+NO_ENTRY = Meaning("the layout has no line `entry NAME`", "add it, with the name of a global label")
 
 #: `bad cells N at LINE`
 CELLS = {

@@ -84,12 +84,17 @@ def lines_of(path):
 
 
 def line_of(path, number):
-    """Line `number` (from 1) without its comment, or an empty text if there is none."""
+    """Line `number` of a file, from 1, or an empty text if there is none."""
     try:
         lines = lines_of(path)
     except Unusable:
         return ""
-    return lines[number - 1].split("#")[0].strip() if 1 <= number <= len(lines) else ""
+    return lines[number - 1].strip() if 1 <= number <= len(lines) else ""
+
+
+def statement_of(path, number):
+    """Line `number` of a source without its comment, or an empty text if there is none."""
+    return line_of(path, number).split("#")[0].strip()
 
 
 def rounded_up(offset):

@@ -194,6 +194,24 @@ class Files(beside.InFolder):
     def test_the_text_of_a_line(self):
         self.assertEqual(self.finding("bad link 2 name g")["text"], "j g")
 
+    def test_the_line_of_a_script_as_it_is(self):
+        self.put("turns.script", "step 5\nstep 5 # more\n")
+        self.assertEqual(found("bad script 1 at 2", RUN, 2)["text"], "step 5 # more")
+
+    def test_a_long_line_is_cut_where_it_is_printed(self):
+        self.put("turns.script", "x" * 500)
+        told = found("bad script 1 at 1", RUN, 2)
+        self.assertEqual(len(told["text"]), 500)
+        self.assertEqual(explain.lines_of(told)[1], f"    text: {'x' * explain.MOST_TEXT} ..")
+
+    def test_a_layout_without_an_entry(self):
+        for end in ("", "\n"):
+            self.put("board.layout", "place t 80000000 00000100" + end)
+            told = found("bad layout 1 at 2", LINK, 2)
+            self.assertEqual(told["message"], meanings.NO_ENTRY.means)
+            told = found("bad layout 1 at 1", LINK, 2)
+            self.assertEqual(told["message"], meanings.LAYOUTS["1"].means)
+
     def test_a_key_of_a_plan(self):
         lines = ["{", '"rom": [', '{"at": 0}],', '"csa": {', '"at": 64,', '"areas": 0}}']
         self.put("board.json", "\n".join(lines))

@@ -88,7 +88,8 @@ class Reading(beside.InFolder):
 
     def test_line_of(self):
         path = self.put("a.s", SOURCE)
-        self.assertEqual(sources.line_of(path, 4), "main: call f")
+        self.assertEqual(sources.line_of(path, 4), "main: call f            # a comment")
+        self.assertEqual(sources.statement_of(path, 4), "main: call f")
         for number in (0, -1, 99):
             self.assertEqual(sources.line_of(path, number), "")
         self.assertEqual(sources.line_of("none.s", 1), "")
