@@ -83,8 +83,8 @@ class Page(html.parser.HTMLParser):
 
     def close(self):
         super().close()
-        if self.open:
-            self.fault(f"not ended: {' '.join(self.open)}")
+        if left := [tag for tag in self.open if tag not in ENDED_BY]:
+            self.fault(f"not ended: {' '.join(left)}")
 
 
 def faults_of(text, names):

@@ -1,0 +1,109 @@
+"""Unit tests of the scripts that try the rest: test.py, schema.py, try_shown.py, try_page.py."""
+import pathlib
+import sys
+import unittest
+
+TOOLS = pathlib.Path(__file__).resolve().parent.parent
+sys.path.insert(0, str(TOOLS))
+
+import schema
+import test as whole
+import try_page
+import try_shown
+
+
+class Counts(unittest.TestCase):
+    """How many passed and failed, by a script's last line and its status."""
+
+    def test_lines(self):
+        for printed, status, wanted in (
+            ("243 lines tried, 0 differ, 0 not built yet\n", 0, (243, 0)),
+            ("66 tried, 2 differ, 1 not built yet\n", 1, (63, 3)),
+            ("125 names tried, 0 aren't there\n", 0, (125, 0)),
+            ("7161 cases tried, 1 wrong, 34 s\n", 1, (7160, 1)),
+            ("...\nRan 12 tests in 0.1s\n\nOK\n", 0, (12, 0)),
+            ("Ran 12 tests in 0.1s\n\nFAILED (failures=1, errors=2)\n", 1, (9, 3)),
+        ):
+            self.assertEqual(whole.counts(printed, status), wanted, printed)
+
+    def test_a_script_that_breaks(self):
+        self.assertEqual(whole.counts("Traceback\n", 1), (0, 1))
+        self.assertEqual(whole.counts("5 tried, 0 wrong\nTraceback\n", 1), (5, 1))
+        self.assertEqual(whole.counts("0 tried, 0 wrong\n", 0), (0, 1))
+
+
+class Schemas(unittest.TestCase):
+    def fault(self, given, value):
+        return bool(schema.faults(given, value))
+
+    def test_keywords(self):
+        for given, good, bad in (
+            ({"type": "integer"}, 1, True),
+            ({"type": "object"}, {}, []),
+            ({"minimum": 1, "maximum": 4}, 4, 5),
+            ({"multipleOf": 4}, 8, 6),
+            ({"pattern": "^0x[0-9]$"}, "0x1", "0x12"),
+            ({"enum": ["sys", "aln"]}, "aln", "irq"),
+            ({"minItems": 1, "maxItems": 2}, [1], []),
+            ({"uniqueItems": True}, [1, 2], [1, 1]),
+            ({"required": ["at"]}, {"at": 1}, {"len": 1}),
+            ({"properties": {"at": {}}, "additionalProperties": False}, {"at": 1}, {"to": 1}),
+            ({"items": {"type": "string"}}, ["a"], ["a", 1]),
+            ({"anyOf": [{"type": "string"}, {"minimum": 3, "type": "integer"}]}, 3, 2),
+            ({"$ref": "#/$defs/bit", "$defs": {"bit": {"maximum": 1}}}, 1, 2),
+        ):
+            self.assertFalse(self.fault(given, good), (given, good))
+            self.assertTrue(self.fault(given, bad), (given, bad))
+
+    def test_an_unknown_keyword_is_an_error(self):
+        with self.assertRaises(KeyError):
+            schema.faults({"minLength": 1}, "")
+
+
+class Documents(unittest.TestCase):
+    TEXT = """\
+Some text.
+
+    cp -rT examples/one_call /tmp/one && cd /tmp/one
+    tcd asm main.s main.o      # object 203 bytes
+    tcd dis firmware.elf
+
+Other blocks aren't run:
+
+    tcd asm main.s main.o
+"""
+
+    def test_blocks(self):
+        rows = [row for block in try_shown.blocks(self.TEXT) for row in try_shown.shown(block)]
+        words = ["asm", "main.s", "main.o"]
+        wanted = [(3, "copy", "one_call", None), (4, "tcd", words, "object 203 bytes")]
+        self.assertEqual(rows, [*wanted, (5, "tcd", ["dis", "firmware.elf"], None)])
+
+    def test_fences(self):
+        text = "```\ntcd asm a.s a.o # object 1 bytes\n```\ntcd\n"
+        rows = [row for block in try_shown.blocks(text) for row in try_shown.shown(block)]
+        self.assertEqual(rows, [(2, "tcd", ["asm", "a.s", "a.o"], "object 1 bytes")])
+
+
+class Pages(unittest.TestCase):
+    def wrong(self, text):
+        return bool(try_page.faults_of(text, []))
+
+    def test_nesting(self):
+        self.assertFalse(self.wrong("<table><tr><td>a<td>b<tr><td>c</table><p>d<br>"))
+        self.assertTrue(self.wrong("<div><b>a</div></b>"))
+        self.assertTrue(self.wrong("<div>"))
+
+    def test_nothing_from_outside(self):
+        self.assertFalse(self.wrong('<a href="#x">a</a>'))
+        for text in ('<script src="//x/y.js"></script>', '<img src="http://x/y.png">', "<style>@import 'x';</style>"):
+            self.assertTrue(self.wrong(text), text)
+
+    def test_names(self):
+        self.assertEqual(try_page.faults_of("&lt;xy&gt;", ["<xy>"]), [])
+        self.assertTrue(try_page.faults_of("<xy></xy>", []))
+        self.assertTrue(try_page.faults_of("", ["main"]))
+
+
+if __name__ == "__main__":
+    unittest.main()
