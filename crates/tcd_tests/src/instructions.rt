@@ -135,17 +135,18 @@ fn shapes_worked_instructions(rt: HostRuntime) {
 #[test]
 fn spells_worked_instructions(rt: HostRuntime) {
     // addi d1, d2, -1; ld.w.l d1, [a2]-4; svlcx; rslcx; calli a15; movh.a a15, 32768; bisr16 10.
-    for (fields, bytes, len) in [
-        ((0, 1, 2, 0, 0xffff), [0x1b, 0xf2, 0xff, 0x1f], 4),
-        ((81, 0, 1, 2, 0xfffc), [0x19, 0x21, 0xfc, 0xff], 4),
-        ((54, 0, 0, 0, 0), [0x0d, 0x00, 0x00, 0x02], 4),
-        ((55, 0, 0, 0, 0), [0x0d, 0x00, 0x40, 0x02], 4),
-        ((49, 0, 15, 0, 0), [0x2d, 0x0f, 0x00, 0x00], 4),
-        ((6, 15, 0, 0, 0x8000), [0x91, 0x00, 0x00, 0xf8], 4),
-        ((115, 0, 0, 0, 10), [0xe0, 0x0a, 0x00, 0x00], 2),
+    for (fields, (b0, b1, b2, b3), len) in [
+        ((0, 1, 2, 0, 0xffff), (0x1b, 0xf2, 0xff, 0x1f), 4),
+        ((81, 0, 1, 2, 0xfffc), (0x19, 0x21, 0xfc, 0xff), 4),
+        ((54, 0, 0, 0, 0), (0x0d, 0x00, 0x00, 0x02), 4),
+        ((55, 0, 0, 0, 0), (0x0d, 0x00, 0x40, 0x02), 4),
+        ((49, 0, 15, 0, 0), (0x2d, 0x0f, 0x00, 0x00), 4),
+        ((6, 15, 0, 0, 0x8000), (0x91, 0x00, 0x00, 0xf8), 4),
+        ((115, 0, 0, 0, 10), (0xe0, 0x0a, 0x00, 0x00), 2),
     ] {
         let (row, c, s1, s2, k) = fields;
         let listed = inst(row, c, s1, s2, 0, k).expect(&rt, "listed");
+        let bytes = [b0, b1, b2, b3];
         is_so(&rt, encode(&listed) == Code { len, bytes });
         is_so(&rt, decode(&bytes) == Ok((listed, usize::from(len))));
     }
