@@ -1,6 +1,7 @@
 -- What `cfg` and `report` tell.
 use Rattle.std.proofs.Common.{◌≡◌, ◌≢◌, ◌≤◌, ◌<◌, ◌^◌, ℕ, List, [], length, Result, Ok, Err, sym, subst, ◌∙◌}
 use Rattle.std.specs.Prelude.{IfOk, IsOkAnd}
+use Rattle.tcd_base.specs.declared.errors.FormErr.{FormErr}
 use Rattle.elf_image.specs.Images.{ImageData}
 use Rattle.tcd_plan.specs.PlanData.{PlanData, IsPlan}
 use Rattle.depth_cert.specs.Certs.{CertData}
@@ -17,7 +18,7 @@ use Rattle.tcd_driver.specs.Reporting as reporting
 use Rattle.tcd_driver.specs.Reporting.{IsReporting}
 use Rattle.tcd_reading.specs.declared.status.Status.TheVariants.{Done, Refused, BadWords}
 use Rattle.tcd_reading.proofs.Decided.{AreAlike, status_is, writes_are}
-use Rattle.tcd_driver.proofs.MakingLaws.{none_best, best_most, best_read}
+use Rattle.tcd_driver.proofs.MakingLaws.{none_best, best_most, best_read, spelled_is_read}
 
 -- a text that was made, told as it is
 pub told_text : {V E : Type 0} (items : V → List ℕ) (Is : List ℕ → Type 0) (Q : Type 0) (text : Result V E) (r : Report) → IfOk text (λ l. Is (items l)) → IsOkAnd text (λ l. r ≡ says Done (items l))
@@ -32,6 +33,10 @@ best_of i p bytes s = record { cert = (s.1).cert; spell = (s.1).spell; is_cert =
 
 pub one_most : (i : ImageData) (p : PlanData) (lent bytes : List ℕ) → lent ≡ bytes → SpellOne i p bytes → length lent ≤ 2 ^ 30
 one_most i p lent bytes e s = subst (λ (b : List ℕ). length b ≤ 2 ^ 30) (sym e) (best_most i p bytes (best_of i p bytes s))
+
+-- they are read
+pub one_is_read : (i : ImageData) (p : PlanData) (bytes : List ℕ) (f : FormErr) → SpellOne i p bytes → certificate_of bytes ≡ Err f → ⊥
+one_is_read i p bytes f s bad = spelled_is_read (s.1).cert bytes f ((s.1).certified).is_cert (s.1).spell bad
 
 -- the certificate that was read from them is certified
 pub read_certified : (i : ImageData) (p : PlanData) (lent bytes : List ℕ) (c : CertData) → lent ≡ bytes → SpellOne i p bytes → certificate_of lent ≡ Ok c → IsCertified i p c

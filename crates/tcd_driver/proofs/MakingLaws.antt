@@ -4,6 +4,7 @@ use Rattle.elf_image.specs.Images.{ImageData}
 use Rattle.tcd_plan.specs.PlanData.{PlanData}
 use Rattle.depth_cert.specs.Certs.{CertData, IsCert}
 use Rattle.depth_cert.specs.Grammar.{certificate_of}
+use Rattle.depth_cert.specs.Spelling.{bytes_of}
 use Rattle.depth_cert.proofs.BackLaws.{written_is_read}
 use Rattle.depth_cert.proofs.SizeLaws.{cert_most}
 use Rattle.tcd_base.specs.declared.errors.FormErr.{FormErr}
@@ -76,14 +77,25 @@ best_accepted i p c (second none m) = m.accepted
 ok_or_err : (r : Result CertData FormErr) (x : CertData) (f : FormErr) → r ≡ Ok x → r ≡ Err f → ⊥
 ok_or_err r x f e g = cc
 
--- bytes that spell a certificate are read
-pub best_is_read : (i : ImageData) (p : PlanData) (bytes : List ℕ) (f : FormErr) → SpellBest i p bytes → certificate_of bytes ≡ Err f → ⊥
-best_is_read i p bytes f s bad = ok_or_err (certificate_of bytes) s.cert f (ap certificate_of s.spell ∙ written_is_read s.cert s.is_cert) bad
+-- ---- bytes that spell a certificate
+-- they are read
+pub spelled_is_read : (c : CertData) (bytes : List ℕ) (f : FormErr) → IsCert c → bytes ≡ bytes_of c → certificate_of bytes ≡ Err f → ⊥
+spelled_is_read c bytes f is spell bad = ok_or_err (certificate_of bytes) c f (ap certificate_of spell ∙ written_is_read c is) bad
 
--- and the one that is read isn't refused
-pub best_has_no_fault : (i : ImageData) (p : PlanData) (bytes : List ℕ) (c : CertData) (rule : ℕ) (key : Key) (addr : ℕ) → SpellBest i p bytes → certificate_of bytes ≡ Ok c → IsFirstFault i p c rule key addr → ⊥
-best_has_no_fault i p bytes c rule key addr s read told =
-    fails_refutes i p c rule key addr told.fails (subst (Accepts i p) (same_cert (certificate_of bytes) s.cert c (ap certificate_of s.spell ∙ written_is_read s.cert s.is_cert) read) (best_accepted i p s.cert s.best))
+-- and if it is accepted, what is read has no fault
+pub spelled_has_no_fault : (i : ImageData) (p : PlanData) (c read : CertData) (bytes : List ℕ) (rule : ℕ) (key : Key) (addr : ℕ)
+    → IsCert c → bytes ≡ bytes_of c → Accepts i p c → certificate_of bytes ≡ Ok read → IsFirstFault i p read rule key addr → ⊥
+spelled_has_no_fault i p c read bytes rule key addr is spell accepted is_read told =
+    fails_refutes i p read rule key addr told.fails (subst (Accepts i p) (same_cert (certificate_of bytes) c read (ap certificate_of spell ∙ written_is_read c is) is_read) accepted)
+
+-- the same for those that were made
+pub made_is_read : (i : ImageData) (p : PlanData) (version : ℕ) (bytes : List ℕ) (f : FormErr) → AreMade i p version bytes → certificate_of bytes ≡ Err f → ⊥
+made_is_read i p version bytes f m bad = spelled_is_read m.cert bytes f m.is_cert m.spell bad
+
+pub made_has_no_fault : (i : ImageData) (p : PlanData) (version : ℕ) (read : CertData) (bytes : List ℕ) (rule : ℕ) (key : Key) (addr : ℕ)
+    → AreMade i p version bytes → certificate_of bytes ≡ Ok read → IsFirstFault i p read rule key addr → ⊥
+made_has_no_fault i p version read bytes rule key addr m is_read told =
+    spelled_has_no_fault i p m.cert read bytes rule key addr m.is_cert m.spell (m.made).accepted is_read told
 
 module _ (name : List ℕ) (i : ImageData) (p : PlanData) where
   certifying_words : (r : Report) → IsCertifying name i p r → r.status ≡ BadWords → ⊥

@@ -1,6 +1,7 @@
 //! The tool: all that the program does.
 #![tactic(auto)]
 
+mod again;
 mod command;
 mod commands;
 mod different;
@@ -9,4 +10,5 @@ mod lines;
 mod making;
 mod tools;
 
+pub use tcd_reading::Status;
 pub use tools::tool;

@@ -6,6 +6,7 @@ ghost use Rattle.tcd_driver.specs.Cellcert.{IsCertifyingCells, cellcert_reading}
 ghost use Rattle.tcd_reading.specs.Outcomes.{Comes, IsTold};
 
 use crate::forms::CellsFile;
+use depth_cert::CertErr;
 use depth_check::{Verdict, check_packed};
 use depth_maker::{MakeErr, make_bytes};
 use elf_image::Image;
@@ -81,7 +82,8 @@ fn kept_cells(
     let areas = plan.areas - plan.reserve;
     let cert = match PackedCert::read(alloc, bytes) {
         Ok(cert) => cert,
-        Err(_) => return Outcome::NoMemory,
+        Err(CertErr::NoMemory) => return Outcome::NoMemory,
+        Err(CertErr::Bad(_)) => unreachable!(),
     };
     match check_packed(image, &with_cells(plan, cells), &cert) {
         Verdict::Yes(need) => match cert.unpack(alloc) {
@@ -97,6 +99,6 @@ fn kept_cells(
             },
             Err(_) => Outcome::NoMemory,
         },
-        Verdict::No { .. } => Outcome::NoMemory,
+        Verdict::No { .. } => unreachable!(),
     }
 }

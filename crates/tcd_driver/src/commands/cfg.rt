@@ -4,6 +4,7 @@ ghost use Rattle.tcd_driver.specs.Cfg.{IsDrawing, IsDrawn, SpellOne, cfg_reading
 ghost use Rattle.tcd_reading.specs.Outcomes.{Comes, IsTold};
 
 use crate::making::{Making, make_best};
+use depth_cert::CertErr;
 use elf_image::Image;
 use packed_cert::PackedCert;
 use std::alloc::Global;
@@ -61,6 +62,7 @@ fn graph_text(
     let _areas = plan.areas;
     match PackedCert::read(alloc, bytes) {
         Ok(cert) => Ok(graph_packed(alloc, image, plan, &cert)?.into_bytes()),
-        Err(_) => Err(NoMemory),
+        Err(CertErr::NoMemory) => Err(NoMemory),
+        Err(CertErr::Bad(_)) => unreachable!(),
     }
 }

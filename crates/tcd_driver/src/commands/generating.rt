@@ -6,6 +6,8 @@ ghost use Rattle.tcd_report.specs.Planned.{generated_plan};
 ghost use Rattle.tcd_driver.specs.Gen.{IsSummary};
 ghost use Rattle.tcd_reading.specs.Outcomes.{IsTold};
 
+use crate::again::{only_image_memory, only_plan_memory};
+use depth_cert::CertErr;
 use depth_check::{Verdict, check_packed};
 use depth_maker::{MakeErr, make_bytes};
 use elf_image::Image;
@@ -28,11 +30,17 @@ pub(crate) fn generate_image(alloc: Global, functions: u32) -> Outcome
     };
     let image = match Image::read(alloc, &files.elf) {
         Ok(image) => image,
-        Err(_) => return Outcome::NoMemory,
+        Err(e) => {
+            only_image_memory(e);
+            return Outcome::NoMemory;
+        }
     };
     match Plan::read(alloc, &files.plan) {
         Ok(plan) => summary(alloc, functions, &image, &plan),
-        Err(_) => Outcome::NoMemory,
+        Err(e) => {
+            only_plan_memory(e);
+            Outcome::NoMemory
+        }
     }
 }
 
@@ -56,7 +64,8 @@ fn counted(alloc: Global, functions: u32, image: &Image, plan: &Plan, bytes: Vec
 {
     let cert = match PackedCert::read(alloc, bytes) {
         Ok(cert) => cert,
-        Err(_) => return Outcome::NoMemory,
+        Err(CertErr::NoMemory) => return Outcome::NoMemory,
+        Err(CertErr::Bad(_)) => unreachable!(),
     };
     match check_packed(image, plan, &cert) {
         Verdict::Yes(need) => {
@@ -64,6 +73,6 @@ fn counted(alloc: Global, functions: u32, image: &Image, plan: &Plan, bytes: Vec
             let line = generated_line(alloc, functions, &cert, need, areas);
             report(alloc, Status::Done, line)
         }
-        Verdict::No { .. } => Outcome::NoMemory,
+        Verdict::No { .. } => unreachable!(),
     }
 }

@@ -5,6 +5,7 @@ ghost use Rattle.tcd_reading.specs.Inputs.{each, answer};
 ghost use Rattle.tcd_reading.specs.Outcomes.{Comes, IsTold};
 ghost use Rattle.tcd_driver.specs.Ship.{AreSourcesOf, IsShipping, SpellImage, shipped_by, ship_names, ship_reading};
 
+use crate::again::only_image_memory;
 use crate::making::{Making, make_best};
 use elf_image::Image;
 use std::alloc::Global;
@@ -103,7 +104,10 @@ fn spelled(alloc: Global, names: &Shipment<'_>, plan: &Plan, image: &Image) -> O
     };
     match Image::read(alloc, &bytes) {
         Ok(read) => shipped(alloc, names, plan, &read, bytes),
-        Err(_) => Outcome::NoMemory,
+        Err(e) => {
+            only_image_memory(e);
+            Outcome::NoMemory
+        }
     }
 }
 

@@ -10,7 +10,7 @@ use crate::commands::tasks::counted;
 use crate::forms::TasksFile;
 use crate::lines::tasks_line;
 use crate::making::Making;
-use depth_cert::Key;
+use depth_cert::{CertErr, Key};
 use depth_check::{Verdict, check_packed};
 use depth_maker::{MakeErr, make_bytes};
 use elf_image::Image;
@@ -215,7 +215,8 @@ fn apart(alloc: Global, view: &Image, plan: &Plan, tasks: &Tasks, bytes: Vec<u8>
     let _areas = plan.areas;
     let cert = match PackedCert::read(alloc, bytes) {
         Ok(cert) => cert,
-        Err(_) => return Making::NoMemory,
+        Err(CertErr::NoMemory) => return Making::NoMemory,
+        Err(CertErr::Bad(_)) => unreachable!(),
     };
     match check_packed(view, plan, &cert) {
         Verdict::Yes(need) => match cert.unpack(alloc) {
@@ -232,6 +233,6 @@ fn apart(alloc: Global, view: &Image, plan: &Plan, tasks: &Tasks, bytes: Vec<u8>
             },
             Err(_) => Making::NoMemory,
         },
-        Verdict::No { .. } => Making::NoMemory,
+        Verdict::No { .. } => unreachable!(),
     }
 }

@@ -2,7 +2,7 @@ use Rattle.std.proofs.Common.{◌∙◌, sym, subst}
 use Rattle.depth_cert.specs.Answers.{IsFaultOf}
 use Rattle.depth_cert.specs.Grammar.{certificate_of}
 use Rattle.tcd_driver.specs.Made.{SpellBest}
-use Rattle.tcd_driver.proofs.MakingLaws.{best_most, best_is_read, best_has_no_fault, spells_certified}
+use Rattle.tcd_driver.proofs.MakingLaws.{best_most, best_accepted, spelled_is_read, spelled_has_no_fault, spells_certified}
 use Rattle.tcd_driver.proofs.making.checked.Goals as goal
 
 pub read-requires : goal.read-requires
@@ -15,7 +15,9 @@ returns c =
 
 pub unreachable-requires : goal.unreachable-requires
 unreachable-requires c =
-    best_is_read c.args.image.now c.args.plan.now c.args.bytes.items _ c.requires (subst (IsFaultOf (certificate_of c.args.bytes.items)) c.in-Err-Bad.field-0-is c.in-Err-Bad.ensures.err)
+    spelled_is_read c.requires.cert c.args.bytes.items _ c.requires.is_cert c.requires.spell (subst (IsFaultOf (certificate_of c.args.bytes.items)) c.in-Err-Bad.field-0-is c.in-Err-Bad.ensures.err)
 
 pub unreachable-requires-in-No : goal.unreachable-requires-in-No
-unreachable-requires-in-No c = best_has_no_fault c.args.image.now c.args.plan.now c.args.bytes.items _ _ _ _ c.requires c.in-Ok.ensures.ok c.in-No.ensures.judges
+unreachable-requires-in-No c =
+    spelled_has_no_fault c.args.image.now c.args.plan.now c.requires.cert _ c.args.bytes.items _ _ _ c.requires.is_cert c.requires.spell (best_accepted _ _ c.requires.cert c.requires.best)
+    c.in-Ok.ensures.ok c.in-No.ensures.judges

@@ -1,5 +1,8 @@
 use Rattle.std.proofs.Common.{List, length, refl, sym, ap, subst, ◌∙◌}
-use Rattle.tcd_plan.specs.PlanData.{plan_data}
+use Rattle.tcd_plan.specs.PlanData.{PlanData, plan_data}
+use Rattle.depth_cert.specs.Answers.{IsFaultOf}
+use Rattle.depth_cert.specs.Grammar.{certificate_of}
+use Rattle.cfg_recover.specs.Accepting.{IsFirstFault}
 use Rattle.depth_cert.specs.Certs.{CertData}
 use Rattle.depth_maker.specs.Made.{AreMade}
 use Rattle.value_cells.specs.declared.cells.Cell.{Cell}
@@ -10,6 +13,7 @@ use Rattle.tcd_reading.specs.declared.status.Status.TheVariants.{Refused}
 use Rattle.tcd_reading.proofs.Told.{told_more}
 use Rattle.tcd_reading.proofs.ReportLaws.{report_is}
 use Rattle.tcd_driver.proofs.CellcertReports.{made_most, broken_report, kept_report}
+use Rattle.tcd_driver.proofs.MakingLaws.{made_is_read, made_has_no_fault}
 use Rattle.tcd_driver.proofs.commands.cellcert.kept_cells.Goals as goal
 
 pub read-requires : goal.read-requires
@@ -32,3 +36,12 @@ returns-in-None c =
     (subst (λ (d : CertData). KeepsCells c.args.image.now (with_cells c.args.plan.now c.args.cells.now) c.args.cells.now d) c.in-Ok-unpack.ensures c.in-None.ensures.none)
     (ap (λ (l : List Cell). length l) c.list-count.ensures)
     (report_is _ (λ t. writes_file c.args.name.now c.into_bytes.result.items t) c.certified_cells_line-line.result r _ c.certified_cells_line-line.ensures p))
+
+pub unreachable-requires : goal.unreachable-requires
+unreachable-requires c =
+    made_is_read c.args.image.now _ 2 c.args.bytes.items _ c.requires.made (subst (IsFaultOf (certificate_of c.args.bytes.items)) c.in-Err-Bad.field-0-is c.in-Err-Bad.ensures.err)
+
+pub unreachable-requires-in-No : goal.unreachable-requires-in-No
+unreachable-requires-in-No c =
+    made_has_no_fault c.args.image.now _ 2 _ c.args.bytes.items _ _ _ c.requires.made c.in-Ok.ensures.ok
+    (subst (λ (p : PlanData). IsFirstFault c.args.image.now p c.in-Ok.cert c.in-No.rule c.in-No.key c.in-No.addr) c.with_cells.ensures c.in-No.ensures.judges)

@@ -1,8 +1,10 @@
 use Rattle.std.proofs.Common.{◌≡◌, refl, string_bytes, sym, ap, subst}
 use Rattle.elf_image.specs.Images.{IsImage}
+use Rattle.depth_cert.specs.Answers.{IsFaultOf}
+use Rattle.depth_cert.specs.Grammar.{certificate_of}
 use Rattle.tcd_plan.specs.PlanData.{IsPlan}
 use Rattle.tcd_driver.specs.Cfg.{IsDrawn}
-use Rattle.tcd_driver.proofs.GraphReports.{one_most, read_certified, graph_drawn}
+use Rattle.tcd_driver.proofs.GraphReports.{one_most, one_is_read, read_certified, graph_drawn}
 use Rattle.tcd_driver.proofs.commands.cfg.graph_text.Goals as goal
 
 pub read-requires : goal.read-requires
@@ -18,3 +20,7 @@ returns-in_ok-graph_packed-in-Ok c =
     (graph_drawn c.args.image.now c.args.plan.now c.in-Ok.cert _ (subst IsImage c.image.view_is c.image.invariant).entry (subst IsPlan c.plan.view_is c.plan.invariant)
     (read_certified c.args.image.now c.args.plan.now c.args.bytes.items c.args.bytes.items c.in-Ok.cert refl c.requires c.in-Ok.ensures.ok)
     c.in_ok-graph_packed-in-Ok.ensures)
+
+pub unreachable-requires : goal.unreachable-requires
+unreachable-requires c =
+    one_is_read c.args.image.now c.args.plan.now c.args.bytes.items _ c.requires (subst (IsFaultOf (certificate_of c.args.bytes.items)) c.in-Err-Bad.field-0-is c.in-Err-Bad.ensures.err)
