@@ -139,7 +139,7 @@ fn mark_at<V>(places: &mut IndexMap<Spot, Marked<V>>, number: usize, mark: Mark)
 }
 
 /// How often a place is visited before it waits wherever it is told of a rise.
-const PATIENT: u8 = 4;
+const PATIENT: u8 = 2;
 
 /// Whether the place of this number waits where it is told of a rise: it is to wait, or was visited often. So a call of many
 /// functions, each of whose exits tells it, goes on when all of them have risen as far as they do for now.
