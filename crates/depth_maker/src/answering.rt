@@ -3,6 +3,7 @@ ghost use Rattle.std.specs.Prelude.{◌≡◌, ◌⊎◌, IfErr, IfOk, None, Ok}
 ghost use Rattle.depth_maker.specs.Made.{AreMade, AreMadeOn, AreWritten, IsGroundOf, IsRefused, IsRefusedOn, Refuses};
 ghost use Rattle.depth_maker.specs.Making.{IsMade};
 ghost use Rattle.depth_maker.specs.NeedsBy.{NeedsOn};
+ghost use Rattle.depth_maker.specs.Recursing.{IsRecursion};
 ghost use Rattle.depth_maker.specs.RowsBy.{IsSource};
 ghost use Rattle.depth_maker.specs.View.{AnsweredOn, IsDone};
 ghost use Rattle.depth_maker.specs.declared.answering.MakeErr.TheVariants.{NoMemory};
@@ -12,7 +13,6 @@ use crate::close::close;
 use crate::ground::Ground;
 use crate::handlers::handlers;
 use crate::needs::frame_needs;
-use crate::recursion::recursion;
 use crate::rows::Source;
 use crate::spelling::spelled;
 use crate::table::Table;
@@ -74,18 +74,19 @@ fn refused(ground: &Ground, refusal: Refusal) -> MakeErr
 }
 
 /// What is refused where no needs are within the areas: the first recursion, or the start.
-fn needless(alloc: Global, source: &Source) -> MakeErr
+fn needless(source: &Source, place: Option<(Key, u32)>) -> MakeErr
     requires source { IsSource source.now }
     requires none { NeedsOn source.now (Ok None) }
+    requires place { IsRecursion source.now place }
     ensures { Refuses source.now.ground.now result }
 {
-    match recursion(alloc, source) {
-        Ok(Some((key, addr))) => MakeErr::Refused {
+    match place {
+        Some((key, addr)) => MakeErr::Refused {
             rule: 14,
             key,
             addr,
         },
-        Ok(None) => {
+        None => {
             let key = start_key(source.ground.image, source.ground.plan);
             MakeErr::Refused {
                 rule: 14,
@@ -93,7 +94,6 @@ fn needless(alloc: Global, source: &Source) -> MakeErr
                 addr: key.entry,
             }
         }
-        Err(_) => MakeErr::NoMemory,
     }
 }
 
@@ -106,8 +106,8 @@ fn bytes_from(alloc: Global, source: &Source, version: u8) -> Result<Vec<u8>, Ma
     ensures err { IfErr result (Refuses source.now.ground.now) }
 {
     match frame_needs(alloc, source) {
-        Ok(Some(needs)) => Ok(spelled(alloc, source, version, needs.as_slice())?),
-        Ok(None) => Err(needless(alloc, source)),
+        Ok(Ok(needs)) => Ok(spelled(alloc, source, version, needs.as_slice())?),
+        Ok(Err(place)) => Err(needless(source, place)),
         Err(_) => Err(MakeErr::NoMemory),
     }
 }

@@ -1,7 +1,7 @@
 // The least needs of the frames of a closed table.
 ghost use Rattle.std.specs.Prelude.{◌≡◌, ◌≤◌, ◌-◌};
 ghost use Rattle.depth_maker.specs.RowsBy.{IsSource, RowsOn};
-ghost use Rattle.depth_maker.specs.NeedsBy.{NeedsOn};
+ghost use Rattle.depth_maker.specs.NeedsBy.{NeedsOrPlace};
 
 use crate::recursion::recursion;
 use crate::rows::{Source, rows};
@@ -18,37 +18,45 @@ pub(crate) fn usable(plan: &Plan) -> u32
     plan.areas - plan.reserve
 }
 
-/// The least needs that meet these rows, which are all of the table. Where a few passes don't tell them, recursion is asked before
-/// more are made: up to as many as there are areas.
+/// The least needs that meet these rows, which are all of the table; or the first recursion, if there
+/// is one, where no needs are within the areas. Where a few passes don't tell them, recursion is asked
+/// before more are made: up to as many as there are areas.
 fn needs_by(
     alloc: Global,
     source: &Source,
     rows: &[Row],
     frames: &[Key],
-) -> Result<Option<Vec<u32>>, Refusal>
+) -> Result<Result<Vec<u32>, Option<(Key, u32)>>, Refusal>
     requires source { IsSource source.now }
     requires rows { RowsOn source.now.ground.now source.now.table.now rows.now }
     requires frames { frames.now ≡ source.now.table.now.frames.items }
-    ensures { NeedsOn source.now result }
+    ensures { NeedsOrPlace source.now result }
 {
     let cap = usable(source.ground.plan);
     let soon = soon_needs(alloc, frames.len(), rows, cap)?;
     if let Some(found) = soon {
-        return Ok(Some(found));
+        return Ok(Ok(found));
     }
     let recurs = recursion(alloc, source)?;
-    if let Some(_place) = recurs {
-        return Ok(None);
+    if let Some(place) = recurs {
+        return Ok(Err(Some(place)));
     }
     let needs = least_needs(alloc, frames.len(), rows, cap)?;
-    Ok(needs)
+    match needs {
+        Some(found) => Ok(Ok(found)),
+        None => Ok(Err(recurs)),
+    }
 }
 
-/// The least needs of the frames, by their numbers; `None` where the start needs more than the areas without the reserve.
-/// Needs are raised from the last row on, and interrupts enter frames of higher priority: their rows stand last.
-pub(crate) fn frame_needs(alloc: Global, source: &Source) -> Result<Option<Vec<u32>>, Refusal>
+/// The least needs of the frames, by their numbers; where the start needs more than the areas without
+/// the reserve, the first recursion, if there is one. Needs are raised from the last row on, and
+/// interrupts enter frames of higher priority: their rows stand last.
+pub(crate) fn frame_needs(
+    alloc: Global,
+    source: &Source,
+) -> Result<Result<Vec<u32>, Option<(Key, u32)>>, Refusal>
     requires { IsSource source.now }
-    ensures { NeedsOn source.now result }
+    ensures { NeedsOrPlace source.now result }
 {
     let mut rows = rows(alloc, source)?;
     let frames = source.table.frames.as_slice();

@@ -2,6 +2,7 @@ use Rattle.std.proofs.Common.{subst, sym, refl, ap, ℕ, List, length, Ok, Optio
 use Rattle.std.specs.Prelude.{IfSome}
 use Rattle.std.specs.declared.alloc.Global.{Global}
 use Rattle.std.specs.declared.vec.Vec.{Vec}
+use Rattle.depth_maker.specs.NeedsBy.{NeedsOn}
 use Rattle.depth_maker.specs.Recursing.{IsRecursion}
 use Rattle.depth_cert.specs.declared.keys.Key.{Key}
 use Rattle.frame_places.specs.Rows.{IsWithin, LeastNeeds}
@@ -29,10 +30,21 @@ pub soon_needs-requires-clause-within : goal.soon_needs-requires-clause-within
 soon_needs-requires-clause-within c =
     subst (λ (l : List Key). IsWithin c.args.rows.now (length l)) (sym c.requires.frames) (source_within c.args.source.now c.args.rows.now c.requires.source c.requires.rows)
 
-pub returns : goal.returns
-returns c =
+pub returns-in-Some-needs : goal.returns-in-Some-needs
+returns-in-Some-needs c =
+    let h =
     source_needs c.args.source.now c.args.rows.now c.usable-cap.result c.requires.source c.requires.rows c.usable-cap.ensures.areas (Ok c.in_ok-needs.needs) c.in_ok-needs.needs refl
     (subst (λ (l : List Key). LeastNeeds (length l) c.args.rows.now c.usable-cap.result (Ok c.in_ok-needs.needs)) c.requires.frames c.in_ok-needs.ensures)
+    in
+    subst (λ (o : Option (Vec ℕ Global)). NeedsOn c.args.source.now (Ok o)) c.in-Some-needs.is h
+
+pub returns-in-None : goal.returns-in-None
+returns-in-None c =
+    let h =
+    source_needs c.args.source.now c.args.rows.now c.usable-cap.result c.requires.source c.requires.rows c.usable-cap.ensures.areas (Ok c.in_ok-needs.needs) c.in_ok-needs.needs refl
+    (subst (λ (l : List Key). LeastNeeds (length l) c.args.rows.now c.usable-cap.result (Ok c.in_ok-needs.needs)) c.requires.frames c.in_ok-needs.ensures)
+    in
+    (subst (λ (o : Option (Vec ℕ Global)). NeedsOn c.args.source.now (Ok o)) c.in-None.is h, c.in_ok-recurs.ensures)
 
 pub returns-in-Some : goal.returns-in-Some
 returns-in-Some c =
@@ -41,4 +53,6 @@ returns-in-Some c =
     (subst (λ (l : List Key). LeastNeeds (length l) c.args.rows.now c.usable-cap.result (Ok (Some c.in-Some.found))) c.requires.frames h)
 
 pub returns-in-Some-recurs : goal.returns-in-Some-recurs
-returns-in-Some-recurs c = recursion_above c.args.source.now c.in-Some-recurs._place (subst (IsRecursion c.args.source.now) c.in-Some-recurs.is c.in_ok-recurs.ensures)
+returns-in-Some-recurs c =
+    let recurs = subst (IsRecursion c.args.source.now) c.in-Some-recurs.is c.in_ok-recurs.ensures in
+    (recursion_above c.args.source.now c.in-Some-recurs.place recurs, recurs)
