@@ -40,5 +40,6 @@ pub mod MakeLemmas
 pub mod PlainRows
 pub mod PointEntries
 pub mod HearingLaws
+pub mod KeptLaws
 pub mod PaidHeard
 pub mod HandlerLaws

@@ -13,6 +13,7 @@ pub mod RowsBy
 pub mod NeedsBy
 pub mod Levels
 pub mod Hearing
+pub mod Keeping
 pub mod Handlers
 pub mod View
 pub mod Spelled

@@ -11,12 +11,13 @@ use Rattle.value_domain.specs.Limits.{Limits}
 use Rattle.depth_cert.specs.declared.keys.Key.{Key}
 use Rattle.tc_isa.specs.declared.shapes.Shape.{Shape}
 use Rattle.vd_transfer.specs.Branches.{refine_of}
+use Rattle.vd_transfer.specs.Effects.{transfer_of}
 use Rattle.cfg_recover.specs.declared.local.Located.{Located}
 use Rattle.cfg_recover.specs.Changes.{StandsFaultless}
 use Rattle.cfg_recover.specs.Code.{IsCode}
 use Rattle.cfg_recover.specs.Entries.{call_key, sys_key, sys_entry}
 use Rattle.cfg_recover.specs.Local.{IsFaultless}
-use Rattle.cfg_recover.specs.Duties.{Duty, Owed, duties_of, entered_and_back, entries_of, interrupts_of, misaligned_entry, misaligned_of, next_of, successors_of}
+use Rattle.cfg_recover.specs.Duties.{Duty, Owed, duties_of, entered_and_back, entries_of, interrupts_of, loaded_at, misaligned_entry, misaligned_of, next_of, successors_of}
 use Rattle.cfg_recover.specs.Assignments.{point, CoversAt, Asks, Closed, Derived, raised}
 use Rattle.depth_cert.specs.Known.{Known, state, CoversKnown, IsProper, IsProperKnown}
 use Rattle.cfg_recover.specs.Refusals.{IsFault}
@@ -251,6 +252,11 @@ StandsBy v found = StandsFaultless (v.ground.now).bounds.now (v.ground.now).imag
 -- the state on one side of a branch, if that side is possible
 abbrev pub side_by : Visit → Shape → Bool → Option State
 side_by v shape taken = refine_of (v.ground.now).bounds.now (v.ground.now).plan.now shape v.state.now taken
+
+-- the state after the step over an instruction of this shape
+abbrev pub step_by : Visit → Shape → State
+step_by v shape =
+    transfer_of (v.ground.now).bounds.now (v.ground.now).plan.now shape v.state.now (loaded_at (v.ground.now).bounds.now (v.ground.now).image.now (v.ground.now).plan.now v.state.now shape)
 
 -- to run on at the next instruction
 abbrev pub next_by : Visit → Located → List Owed

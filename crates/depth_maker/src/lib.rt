@@ -9,6 +9,7 @@ mod entries;
 mod ground;
 mod handlers;
 mod heard;
+mod kept;
 mod laws;
 mod needs;
 mod paying;

@@ -5,12 +5,14 @@ ghost use Rattle.cfg_recover.specs.Assignments.{point};
 ghost use Rattle.cfg_recover.specs.Local.{targets_of};
 ghost use Rattle.cfg_recover.specs.Duties.{jumps_to, jump_on};
 ghost use Rattle.depth_cert.specs.Known.{state};
+ghost use Rattle.depth_maker.specs.Keeping.{AreKept};
 ghost use Rattle.depth_maker.specs.View.{AnsweredOn, OwesAll, PaidBy, StandsBy, VisitedBy, next_by, seen, side_by, successors_by};
 
 use crate::asking::{pay_first, pay_jump};
 use crate::ground::Visit;
+use crate::kept::Pairs;
 use crate::table::Table;
-use cfg_recover::{Located, direct_target, step_change, targets};
+use cfg_recover::{Located, direct_target, targets};
 use frame_places::Refusal;
 use std::alloc::Global;
 use tc_isa::{Shape, Target};
@@ -152,36 +154,41 @@ fn pay_step(
     v: &Visit,
     found: &Located,
     c: &mut Change,
+    pairs: &mut Pairs,
 ) -> Result<(), Refusal>
     requires visited { VisitedBy v.now table.old }
     requires at { (seen table.old).cells (point v.now.key v.now.addr)
         ≡ Some (state v.now.state.now) }
     requires found { StandsBy v.now found.now }
     requires owes { OwesAll v.now (next_by v.now found.now) }
+    requires kept { AreKept v.now.ground.now.bounds.now pairs.old }
     ensures ok { OnOk result (PaidBy v.now table.old table.new (next_by v.now found.now)) }
     ensures err { IfErr result (AnsweredOn v.now.ground.now) }
+    ensures kept { AreKept v.now.ground.now.bounds.now pairs.new }
 {
-    let g = v.ground;
-    step_change(g.bounds, g.image, g.plan, found.shape, v.state, c);
+    pairs.step(alloc, v, found.shape, c)?;
     pay_first(alloc, table, v, v.addr.wrapping_add(found.size), &*c)
 }
 
 /// The successors in the same frame, without those after a call or a system call; they are joined before anything else.
-/// What the instruction changes is written over `c`.
+/// What the instruction changes is written over `c`; operations on two sets are kept in `pairs`.
 pub(crate) fn pay_successors(
     alloc: Global,
     table: &mut Table,
     v: &Visit,
     found: &Located,
     c: &mut Change,
+    pairs: &mut Pairs,
 ) -> Result<(), Refusal>
     requires visited { VisitedBy v.now table.old }
     requires at { (seen table.old).cells (point v.now.key v.now.addr)
         ≡ Some (state v.now.state.now) }
     requires found { StandsBy v.now found.now }
     requires owes { OwesAll v.now (successors_by v.now found.now) }
+    requires kept { AreKept v.now.ground.now.bounds.now pairs.old }
     ensures ok { OnOk result (PaidBy v.now table.old table.new (successors_by v.now found.now)) }
     ensures err { IfErr result (AnsweredOn v.now.ground.now) }
+    ensures kept { AreKept v.now.ground.now.bounds.now pairs.new }
 {
     let shape = found.shape;
     match shape {
@@ -201,6 +208,6 @@ pub(crate) fn pay_successors(
         Shape::Jump { to } => pay_targets(alloc, table, v, to, c),
         Shape::Call { .. } | Shape::Ret | Shape::Rfe | Shape::Syscall { .. } | Shape::Mtcr { .. } =>
             Ok(()),
-        _ => pay_step(alloc, table, v, found, c),
+        _ => pay_step(alloc, table, v, found, c, pairs),
     }
 }

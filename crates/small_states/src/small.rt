@@ -223,7 +223,7 @@ impl Small {
 
     /// Whether it is seen at once to be this value.
     #[inline(always)]
-    fn is_same(&self, v: &Val) -> bool
+    pub fn is_same(&self, v: &Val) -> bool
         ensures { IsTrue result → v.now ≡ self.now }
     {
         match &self.form {
@@ -324,7 +324,7 @@ impl Small {
 
     /// Writes the value over another.
     #[inline(never)]
-    pub(crate) fn replace(&self, out: &mut Val)
+    pub fn replace(&self, out: &mut Val)
         ensures { out.new ≡ self.now }
     {
         match &self.form {

@@ -8,16 +8,16 @@ use Rattle.depth_maker.proofs.LevelSteps.{same_level, shorter, visited_one}
 use Rattle.depth_maker.proofs.VisitLemmas.{opened, passed_over, same_fine}
 use Rattle.depth_maker.proofs.close.step.Goals as goal
 
-pub returns-in_default : goal.returns-in_default
-returns-in_default c = (
+pub returns-in_default-clause-steps : goal.returns-in_default-clause-steps
+returns-in_default-clause-steps c = (
   same_fine _ _ _ c.args.table.now _ refl (c.in_default.ensures.empty ∙ sym c.in_default.ensures.none) c.requires.fine,
   c.requires.none,
   same_level c.args.table.now _ (λ q. refl) refl refl,
   c.in_default.ensures.empty,
 )
 
-pub returns-then-not-has_work : goal.returns-then-not-has_work
-returns-then-not-has_work c =
+pub returns-then-not-has_work-clause-steps : goal.returns-then-not-has_work-clause-steps
+returns-then-not-has_work-clause-steps c =
     let s = c.args.table.now in
     let number = c.in-Some.number in
     let takes = c.in-Some.ensures.some in
@@ -44,8 +44,8 @@ visit-requires-clause-opened c =
     let x = c.requires.fine.listed.known number (takes_there s.work c.pop.new.self number takes) in
     (x.0, (opened _ _ _ (lawful _ _ _ c.args.ground.now.sound) s _ x.0 Open (c.open.ensures x.0 x.1) refl refl refl refl refl c.requires.fine c.requires.none takes x.1).1)
 
-pub returns : goal.returns
-returns c =
+pub returns-clause-steps : goal.returns-clause-steps
+returns-clause-steps c =
     let s = c.args.table.now in
     let number = c.in-Some.number in
     let takes = c.in-Some.ensures.some in

@@ -3,14 +3,15 @@ use Rattle.depth_maker.proofs.LevelSteps.{left_over, turns_more}
 use Rattle.depth_maker.proofs.close.turn.Goals as goal
 
 pub loop-done-init : goal.loop-done-init
-loop-done-init c = (c.requires.fine, c.requires.none, inr (refl, omega (arith, c.len-done-end.ensures.listed)))
+loop-done-init c = (c.requires.fine, c.requires.none, inr (refl, omega (arith, c.len-done-end.ensures.listed)), c.none-pairs.ensures c.args.ground.now.bounds.now)
 
 pub loop-done-preserved : goal.loop-done-preserved
 loop-done-preserved c =
-    let h = rw c.if-not-branch.false at c.in_ok-step.ensures in (
+    let h = rw c.if-not-branch.false at c.in_ok-step.ensures.steps in (
       h.0,
       h.1,
       turns_more c.args.table.now c.loop-done.table c.step.new.table c.loop-done._done _ c.loop-done.invariant.2 h.2,
+      c.in_ok-step.ensures.kept,
     )
 
 pub step-requires-clause-fine : goal.step-requires-clause-fine
@@ -21,7 +22,7 @@ step-requires-clause-none c = c.loop-done.invariant.1
 
 pub returns-then-not-branch : goal.returns-then-not-branch
 returns-then-not-branch c =
-    let h = rw c.if-not-branch.true at c.in_ok-step.ensures in
+    let h = rw c.if-not-branch.true at c.in_ok-step.ensures.steps in
     (h.0, h.1, (λ e. absurd (let no : false ≡ true = e in cc)), (λ e. h.3))
 
 pub returns : goal.returns
