@@ -7,7 +7,8 @@ ghost use Rattle.depth_cert.specs.Exits.{ExitCovers};
 ghost use Rattle.depth_cert.specs.Known.{CoversKnown, joined_exit, joined_known, state, leaving, IsProperKnown};
 ghost use Rattle.small_states.specs.Kept.{AddsState, IsNoExit, IsOutline, IsStateAt, asked_for, asking, exit_with, known_of, state_with, values_asked};
 
-use crate::asked::{Asked, Context, context_of, is_leaving};
+use crate::asked::{Asked, Context, Given, context_of, is_leaving};
+use crate::small::{Form, Small};
 use crate::values::{are_all_below, are_covered, joined, packed, packed_by};
 use crate::{ScratchState, SmallExit, SmallState, Values, copy_of, join_locals};
 use std::alloc::{AllocError, Global};
@@ -15,7 +16,7 @@ use std::marker::Model;
 use std::rc::Rc;
 use tcd_base::NoMemory;
 use value_domain::{Bounds, are_implied};
-use vd_transfer::Base;
+use vd_transfer::{Base, Put};
 
 /// A state at a point, or the exit of a frame.
 #[derive(Drop)]
@@ -154,16 +155,33 @@ fn join_exit(
     Ok(Some(Cell { kept }))
 }
 
-/// Whether what a duty asks for has the values of the point that asks.
+/// Whether the value that is put, if one is, is seen to be the one that is known at its place, or to
+/// have more words.
+fn has_grown(known: &SmallState, put: &Put) -> bool {
+    let Some(at) = put.at else {
+        return true;
+    };
+    let any = Small { form: Form::Any };
+    match known.regs.as_ref().given_at(&any, at) {
+        Given::Whole(_) => false,
+        Given::Packed(low) => low.is_same(&put.value) || low.has_fewer(&put.value),
+    }
+}
+
+/// Whether what a duty asks for seems to cover what is known, by what is put: if so it is made, and
+/// compared.
 #[inline(always)]
-fn keeps_values(asked: &Asked) -> bool {
+fn seems_above(known: &Kept, asked: &Asked) -> bool {
+    let Kept::Point(known) = known else {
+        return false;
+    };
     let Asked::Changed(_, c) = asked else {
         return false;
     };
     matches!(c.base, Base::Same)
-        && c.first.at.is_none()
-        && c.second.at.is_none()
-        && c.third.at.is_none()
+        && has_grown(known, &c.first)
+        && has_grown(known, &c.second)
+        && has_grown(known, &c.third)
 }
 
 impl Cell {
@@ -259,8 +277,8 @@ impl Cell {
     }
 
     /// The least that covers both, where the point that asks has the state `own`: as `join`, but
-    /// where what is asked has the values of that state and covers what is known, it is taken as it
-    /// is, and shares them.
+    /// where what is asked covers what is known it is taken as it is, and shares the values of that
+    /// state where none is put.
     pub fn join_from(
         &self,
         alloc: Global,
@@ -273,7 +291,7 @@ impl Cell {
         requires own { own.now ≡ state (asking asked.now) }
         ensures { IfOk result (λ r. r ≡ joined_known b.now self.now (asked_for asked.now)) }
     {
-        if keeps_values(asked) {
+        if seems_above(&self.kept, asked) {
             let above = own.changed(alloc, asked)?;
             if above.is_above(self, b) {
                 return Ok(Some(above));

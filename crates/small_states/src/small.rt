@@ -403,6 +403,22 @@ impl Small {
         }
     }
 
+    /// Whether it is a word or a set, and the other has more words.
+    pub(crate) fn has_fewer(&self, v: &Val) -> bool {
+        let most = match v.words() {
+            Some(words) => words.len(),
+            None => usize::MAX,
+        };
+        match &self.form {
+            Form::One(_) => 1 < most,
+            Form::Many(own) => match own.as_ref().words() {
+                Some(words) => words.len() < most,
+                None => false,
+            },
+            _ => false,
+        }
+    }
+
     /// Whether both are ranges, and it is seen by their ends and steps to hold the other.
     #[inline(always)]
     fn is_range_around(&self, v: &Small) -> bool
