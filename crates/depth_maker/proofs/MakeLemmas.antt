@@ -80,6 +80,13 @@ is_refused g version NoMemory limits r = tt
 pub made_small : (image : ImageData) (plan : PlanData) (version : ℕ) (bytes : List ℕ) → AreMade image plan version bytes → length bytes ≤ 2 ^ 30
 made_small image plan version bytes m = subst (λ (l : List ℕ). length l ≤ 2 ^ 30) (sym m.spell) (cert_most m.cert m.is_cert)
 
+ok_or_err : (r : Result CertData FormErr) (c : CertData) (f : FormErr) → r ≡ Ok c → r ≡ Err f → ⊥
+ok_or_err r c f e g = cc
+
+-- and they are read
+pub made_is_read : (image : ImageData) (plan : PlanData) (version : ℕ) (bytes : List ℕ) (f : FormErr) → AreMade image plan version bytes → certificate_of bytes ≡ Err f → ⊥
+made_is_read image plan version bytes f m bad = ok_or_err (certificate_of bytes) m.cert f (ap certificate_of m.spell ∙ written_is_read m.cert m.is_cert) bad
+
 -- what was read
 abbrev value_or : CertData → Result CertData FormErr → CertData
 value_or c (Ok x) = x

@@ -17,7 +17,7 @@ use crate::rows::Source;
 use crate::spelling::spelled;
 use crate::table::Table;
 use cfg_recover::start_key;
-use depth_cert::{Cert, Key};
+use depth_cert::{Cert, CertErr, Key};
 use elf_image::Image;
 use frame_places::{Refusal, Spot, numbered};
 use std::alloc::{AllocFailed, Global};
@@ -177,6 +177,7 @@ pub fn make(alloc: Global, image: &Image, plan: &Plan, version: u8) -> Result<Ce
     let bytes = make_bytes(alloc, image, plan, version)?;
     match Cert::read(alloc, bytes.as_slice()) {
         Ok(cert) => Ok(cert),
-        Err(_) => Err(MakeErr::NoMemory),
+        Err(CertErr::NoMemory) => Err(MakeErr::NoMemory),
+        Err(CertErr::Bad(_)) => unreachable!(),
     }
 }

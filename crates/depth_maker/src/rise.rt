@@ -38,7 +38,7 @@ fn raise_place(
     ensures { RaisesOn v.now.ground.now table.old table.new y.now (asked_for asked.now) result }
 {
     let Some((_, place)) = table.places.get_index(number) else {
-        return Err(Refusal::NoMemory);
+        unreachable!();
     };
     let Some((_, own)) = table.places.get_index(table.near) else {
         return Err(Refusal::NoMemory);
@@ -78,7 +78,7 @@ fn rise_anew(
     ensures { RaisesOn v.now.ground.now table.old table.new y.now (asked_for asked.now) result }
 {
     let Some((_, own)) = table.places.get_index(table.near) else {
-        return Err(Refusal::NoMemory);
+        unreachable!();
     };
     let value = own.value.changed(alloc, asked)?;
     match add_or_find(&mut table.places, &mut table.work, *y, value)? {

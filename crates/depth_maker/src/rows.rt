@@ -85,7 +85,7 @@ pub(crate) fn point_row(
     };
     match local_check(g.bounds, g.image, g.plan, &v.key, v.addr, v.state) {
         Ok(found) => Ok(row_with(alloc, &v, source, at.node, &found)?),
-        Err(_) => Err(Refusal::NoMemory),
+        Err(_) => unreachable!(),
     }
 }
 

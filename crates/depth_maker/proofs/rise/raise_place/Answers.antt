@@ -9,7 +9,7 @@ use Rattle.frame_places.specs.declared.places.Spot.TheVariants.{Point}
 use Rattle.frame_places.specs.declared.places.Marked.{Marked}
 use Rattle.frame_places.specs.Counting.{frames_after, points_after}
 use Rattle.frame_places.specs.Marks.{value_for}
-use Rattle.frame_places.proofs.NearbyLemmas.{had_at}
+use Rattle.frame_places.proofs.NearbyLemmas.{had_at, nowhere}
 use Rattle.small_states.specs.Kept.{asked_for}
 use Rattle.depth_maker.specs.Spots.{place_of}
 use Rattle.depth_maker.specs.View.{seen}
@@ -94,3 +94,6 @@ returns c =
       frames = ap (λ (k : Bool). frames_after k s.frames.items c.args.y.now) (sym (ap is_some at));
       few = (c.requires.fine.counted).few;
     }
+
+pub unreachable-requires : goal.unreachable-requires
+unreachable-requires c = nowhere c.args.table.now.places c.args.number c.args.y.now (sym c.in_default.ensures.entry) c.requires.there

@@ -28,11 +28,20 @@ row_with-requires-clause-proper c =
     let there = read_there s.ground.now s.table.now done at.key at.addr _ c.state.result.now (known_there s at c.requires.at) (subst (IsStateAt at.known.now.value) (sym c.state.ensures) c.read_state.ensures) in
     done_proper s.ground.now s.table.now done (Point at.key at.addr) (state c.state.result.now) there
 
-pub returns-in_ok-row_with-in-Ok : goal.returns-in_ok-row_with-in-Ok
+pub returns : goal.returns
 unfolding seen
-returns-in_ok-row_with-in-Ok c =
+returns c =
     let s = c.args.source.now in
     let at = c.args.at.now in
     let source = c.requires.source in
     let there = read_there s.ground.now s.table.now source.done at.key at.addr _ c.state.result.now (known_there s at c.requires.at) (subst (IsStateAt at.known.now.value) (sym c.state.ensures) c.read_state.ensures) in
     (c.state.result.now, there, c.in_ok-row_with-in-Ok.ensures s.table.now.frames.items (record { all = source.numbers; taken = source.handlers }) (all_known _ s.table.now source.done there) (c.requires.at).node)
+
+pub unreachable-requires : goal.unreachable-requires
+unfolding seen
+unreachable-requires c =
+    let s = c.args.source.now in
+    let at = c.args.at.now in
+    let done = (c.requires.source).done in
+    let there = read_there s.ground.now s.table.now done at.key at.addr _ c.state.result.now (known_there s at c.requires.at) (subst (IsStateAt at.known.now.value) (sym c.state.ensures) c.read_state.ensures) in
+    c.in-Err.ensures.fault.fails (done.faultless at.key at.addr c.state.result.now there _)
