@@ -3,20 +3,20 @@
 
     known.py ELF [PLAN] [--vectors BIV BTV] [--all] [--json]
 
-The code is followed from the entry, from the vectors (those that PLAN states, or with --vectors those at
-which bytes lie), and from each function symbol. An instruction that isn't in tcd's table is taken to go
-on after itself: bit 0 of its first byte tells its length. The counts rest on that and on tcd's own table
-alone. Targets of calls and jumps through registers aren't known: with --all each word of data that names
-an address after a return or a jump is followed, too, which is a guess.
+The code is followed from the entry, from the vectors (those that PLAN states, or with --vectors
+those at which bytes lie), and from each function symbol. An instruction that isn't in tcd's table
+is taken to go on after itself: bit 0 of its first byte tells its length. The counts rest on that
+and on tcd's own table alone. Targets of calls and jumps through registers aren't known: with --all
+each word of data that names an address after a return or a jump is followed, too, which is a guess.
 
-Apart from the counts, what isn't known is listed by name. **The names, and where unknown jumps go, are
-from memory of the manual** (tools/known_rows.py) and were not compared with it.
+Apart from the counts, what isn't known is listed by name. **The names, and where unknown jumps go,
+are from memory of the manual** (tools/known_rows.py) and were not compared with it.
 
-That all instructions are known makes no certificate: `tcd cert` also asks for known targets, bounded
-stores and no recursion (docs/guide.md).
+That all instructions are known makes no certificate: `tcd cert` also asks for known targets,
+bounded stores and no recursion (docs/guide.md).
 
-Exit status: 0 all instructions reached are known, 1 some aren't, 2 a file that can't be used, 5 wrong
-words.
+Exit status: 0 all instructions reached are known, 1 some aren't, 2 a file that can't be used, 5
+wrong words.
 """
 import argparse
 import collections
@@ -229,7 +229,8 @@ def report(given, image, starts, guessed, name):
     if reached.through:
         first = name(min(reached.through))
         hint = "" if given.all else "; --all guesses them here"
-        print(f"  {len(reached.through)} calls and jumps go through registers, the first at {first}:")
+        count = len(reached.through)
+        print(f"  {count} calls and jumps go through registers, the first at {first}:")
         print(f"  tcd has to find their targets in tables (rule 5){hint}")
     if reached.lost:
         first = f"{min(reached.lost):08X}"

@@ -1,11 +1,11 @@
 """Opcodes of the TriCore 1.3.1 and 1.6 manual (volume 2) that aren't in tcd's table, for known.py.
 
-**They were written from memory of the manual and were not compared with it.** known.py uses them for
-names, and for where unknown jumps go; what it counts first doesn't rest on them.
+**They were written from memory of the manual and were not compared with it.** known.py uses them
+for names, and for where unknown jumps go; what it counts first doesn't rest on them.
 
 A row is the first byte, then the name; or the first byte, the lowest bit and the width of a second
-opcode, and for values of that (hexadecimal, ranges with `-`) the names. Several rows may have one first
-byte.
+opcode, and for values of that (hexadecimal, ranges with `-`) the names. Several rows may have one
+first byte.
 """
 
 ROWS = """

@@ -1,7 +1,7 @@
 """A validator for plan.schema.json: the part of JSON Schema (2020-12) that this file uses.
 
-`faults(schema, value)` lists what is wrong with a value. A keyword that isn't known here is an error,
-so that no rule of a schema is left out in silence.
+`faults(schema, value)` lists what is wrong with a value. A keyword that isn't known here is an
+error, so that no rule of a schema is left out in silence.
 """
 
 import re

@@ -1,12 +1,12 @@
 #!/usr/bin/env python3
-"""Tries all that isn't proved: the scripts, the examples, the documents, the program on broken inputs.
+"""Tries all that isn't proved: scripts, examples, documents, the program on broken inputs.
 
     python3 tools/test.py PROGRAM [PART ..]       PROGRAM is the built tcd (crates/tcd/out/tcd)
 
-For each part a line is printed with what was tried and the seconds it took, before it what was wrong;
-with names of parts those alone are done. The last line is `N passed, M failed`. It needs Python 3.9 or
-newer and its standard library alone; what else isn't installed (Make, CMake) isn't tried, which is
-printed. On four idle processors it takes some two minutes.
+For each part a line is printed with what was tried and the seconds it took, before it what was
+wrong; with names of parts those alone are done. The last line is `N passed, M failed`. It needs
+Python 3.9 or newer and its standard library alone; what else isn't installed (Make, CMake) isn't
+tried, which is printed. On four idle processors it takes some two minutes.
 
 Exit status: 0 nothing failed, 1 something did, 2 no such program, 5 wrong words.
 """
@@ -62,7 +62,8 @@ def counts(printed, status):
 def done(part, program):
     """Does a part: what it printed, how many passed and failed."""
     words = [program if word == "P" else word for word in PARTS[part]]
-    settings = {"cwd": TOOLS, "env": {**os.environ, "PYTHONDONTWRITEBYTECODE": "1"}}
+    # the unit tests take the program from TCD
+    settings = {"cwd": TOOLS, "env": {**os.environ, "PYTHONDONTWRITEBYTECODE": "1", "TCD": program}}
     settings |= {"stdout": subprocess.PIPE, "stderr": subprocess.STDOUT}
     ran = subprocess.run([sys.executable, *words], text=True, errors="replace", **settings)
     return ran.stdout, *counts(ran.stdout, ran.returncode)

@@ -1,10 +1,11 @@
 #!/usr/bin/env python3
 """Tries the builds of examples/ in copies: python3 tools/try_builds.py PROGRAM
 
-PROGRAM is the built tcd (crates/tcd/out/tcd). With Make: `all`, `check`, `run`, `page`, `explain` and
-`clean` of motor_control, that a refusal ends the build and leaves no certificate, and `all`, `check`,
-`run` and `clean` of tasks_start_up. With CMake: a build of motor_control and its tests, whose report
-has to hold `certified 20 of 20 areas`. What isn't installed isn't tried, which is printed.
+PROGRAM is the built tcd (crates/tcd/out/tcd). With Make: `all`, `check`, `run`, `page`, `explain`
+and `clean` of motor_control, that a refusal ends the build and leaves no certificate, and `all`,
+`check`, `run` and `clean` of tasks_start_up. With CMake: a build of motor_control and its tests,
+whose report has to hold `certified 20 of 20 areas`. What isn't installed isn't tried, which is
+printed.
 
 Exit status: 0 all is well, 1 something isn't, 2 no such program, 5 wrong words.
 """
@@ -74,7 +75,8 @@ def tasks_start_up(bench):
 def has(tool):
     """Whether a tool of a build is installed; of ctest one that can write a report."""
     if tool == "ctest" and shutil.which("ctest"):
-        return bool(shutil.which("cmake")) and "--output-junit" in scratch.run(["ctest", "--help"], ".")[0]
+        words = scratch.run(["ctest", "--help"], ".")[0]
+        return bool(shutil.which("cmake")) and "--output-junit" in words
     return bool(shutil.which(tool))
 
 

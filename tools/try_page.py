@@ -2,9 +2,9 @@
 """Looks at a page of view.py as an HTML parser does: python3 tools/try_page.py PROGRAM
 
 PROGRAM is the built tcd (crates/tcd/out/tcd). Three pages are made: of examples/motor_control with
-names from its sources, of the same with a refused certificate, and of examples/gnu_ld, in whose symbols
-and file names are characters that HTML gives a meaning. Each has to be nested rightly, to ask for
-nothing from outside, to hold no element that a name has brought in, and to show that name.
+names from its sources, of the same with a refused certificate, and of examples/gnu_ld, in whose
+symbols and file names are characters that HTML gives a meaning. Each has to be nested rightly, to
+ask for nothing from outside, to hold no element that a name has brought in, and to show that name.
 
 Exit status: 0 all is well, 1 something isn't, 2 no such program, 5 wrong words.
 """

@@ -1,13 +1,14 @@
 #!/usr/bin/env python3
 """Compares plan.schema.json with the program: python3 tools/try_schema.py PROGRAM
 
-PROGRAM is the built tcd (crates/tcd/out/tcd). Tried are the plans of examples/, and one with all keys
-with one change each: a key taken out, a key added, a value of another form.
+PROGRAM is the built tcd (crates/tcd/out/tcd). Tried are the plans of examples/, and one with all
+keys with one change each: a key taken out, a key added, a value of another form.
 
-The schema has to accept each plan that tcd takes. If tcd refuses a plan (`bad plan N ..`), the schema
-has to refuse it as well, except for what a schema can't say: that hi isn't below lo, that irqs ascend
-(both 4), how many bytes there are in all (5), the areas' end and their reserve (6), and that two ranges
-share bytes (8). If the package jsonschema is installed, tools/schema.py is compared with it, too.
+The schema has to accept each plan that tcd takes. If tcd refuses a plan (`bad plan N ..`), the
+schema has to refuse it as well, except for what a schema can't say: that hi isn't below lo, that
+irqs ascend (both 4), how many bytes there are in all (5), the areas' end and their reserve (6), and
+that two ranges share bytes (8). If the package jsonschema is installed, tools/schema.py is compared
+with it, too.
 
 Exit status: 0 all agree, 1 one doesn't, 2 no such program, 5 wrong words.
 """
@@ -22,15 +23,16 @@ import schema
 import scratch
 
 #: values that a key may be given in place of its own
-OTHERS = [None, True, 0, 1, -1, 2, 3, 64, 255, 256, 4096, 4097, 1 << 32, 0.5, "", "0x", "0x0", "0x1", "0xD0000040"]
-OTHERS += ["0x123456789", "0xg", " 0x4", "4", "1.6", "1.3", "sys", [], ["sys"], ["sys", "sys"], [1], [5, 4], {}, [{}]]
+OTHERS = [None, True, 0, 1, -1, 2, 3, 64, 255, 256, 4096, 4097, 1 << 32, 0.5, "", "0x", "0x0"]
+OTHERS += ["0x1", "0xD0000040", "0x123456789", "0xg", " 0x4", "4", "1.6", "1.3", "sys"]
+OTHERS += [[], ["sys"], ["sys", "sys"], [1], [5, 4], {}, [{}]]
 SCHEMA_CANT = {4, 5, 6, 8}
 
 
 def paths(value, path=()):
     """The path of each key and each item in a plan."""
-    steps = value.items() if isinstance(value, dict) else enumerate(value) if isinstance(value, list) else ()
-    for step, inner in steps:
+    steps = {dict: dict.items, list: enumerate}.get(type(value), lambda value: ())
+    for step, inner in steps(value):
         yield (*path, step)
         yield from paths(inner, (*path, step))
 
@@ -58,9 +60,9 @@ def plans():
     """What is tried, each with what to call it."""
     for path in sorted(scratch.EXAMPLES.glob("**/board*.json")):
         yield path.relative_to(scratch.TOP), json.loads(path.read_text())
-    plan = json.loads((scratch.EXAMPLES / "motor_control" / "board.json").read_text())
-    for plan in changed({**plan, "core": "1.6"}):
-        yield "motor_control with a change", plan
+    plan = json.loads((scratch.EXAMPLES / "core_16" / "board.json").read_text())
+    for made in changed({**plan, "traps": ["sys", "aln"]}):
+        yield "core_16 with a change", made
 
 
 class Judges:
@@ -75,12 +77,13 @@ class Judges:
 
             self.other = jsonschema.Draft202012Validator(self.schema)
         except (ImportError, AttributeError):
-            print("jsonschema isn't installed: tools/schema.py is not compared with it", file=sys.stderr)
+            print("jsonschema isn't installed: tools/schema.py is not compared with it")
 
     def refused(self, plan):
         """The number of `bad plan N`, or None where tcd takes the plan."""
         (self.folder / "board.json").write_text(json.dumps(plan))
-        line = scratch.run([self.program, "run", "firmware.elf", "board.json", "turns.script"], self.folder)[0]
+        words = ["run", "firmware.elf", "board.json", "turns.script"]
+        line = scratch.run([self.program, *words], self.folder)[0]
         found = re.match(r"bad plan (\d+)", line)
         return int(found[1]) if found else None
 

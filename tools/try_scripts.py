@@ -1,9 +1,9 @@
 #!/usr/bin/env python3
 """Gives the scripts wrong words and files that can't be used: python3 tools/try_scripts.py PROGRAM
 
-PROGRAM is the built tcd (crates/tcd/out/tcd). `--help` has to end with status 0. For all else a script
-has to end with the status that the case names, to print one line on standard error, and never a
-traceback.
+PROGRAM is the built tcd (crates/tcd/out/tcd). `--help` has to end with status 0. For all else a
+script has to end with the status that the case names, to print one line on standard error, and
+never a traceback.
 
 Exit status: 0 all do so, 1 one doesn't, 2 no such program, 5 wrong words.
 """
@@ -13,12 +13,19 @@ import tempfile
 
 import scratch
 
-#: what can't be used in each place of a script's words; P is the program
-FILES = ("P firmware.elf board.json firmware.cert", "firmware.elf board.json firmware.cert --tcd P")
+#: words that worst_run.py can use; P is the program
+FILES = "firmware.elf board.json firmware.cert --tcd P"
+#: for each script and status the words that end with it
 CASES = {
     "names.py": {
         5: ["", "board.layout", "--at 80000000", "board.layout main.s --at xyz", "--elf"],
-        2: ["none.layout main.s", "board.layout none.s", "--elf none.elf", "--elf firmware.elf", "--elf cut.elf"],
+        2: [
+            "none.layout main.s",
+            "board.layout none.s",
+            "--elf none.elf",
+            "--elf firmware.elf",
+            "--elf cut.elf",
+        ],
     },
     "explain.py": {
         5: ["", "board.layout main.s", "board.layout main.s --"],
@@ -26,10 +33,13 @@ CASES = {
     },
     "view.py": {
         5: ["", "P firmware.elf"],
-        2: ["none firmware.elf board.json firmware.cert page.html", "P none.elf board.json firmware.cert page.html"],
+        2: [
+            "none firmware.elf board.json firmware.cert page.html",
+            "P none.elf board.json firmware.cert page.html",
+        ],
     },
     "worst_run.py": {
-        5: ["", "firmware.elf", f"{FILES[1]} --seconds x", f"{FILES[1]} --bogus"],
+        5: ["", "firmware.elf", f"{FILES} --seconds x", f"{FILES} --bogus"],
         2: [
             "firmware.elf board.json firmware.cert --tcd none",
             "none.elf board.json firmware.cert --tcd P",
@@ -38,11 +48,11 @@ CASES = {
             "firmware.elf cut.json firmware.cert --tcd P",
             "firmware.elf board.json none.cert --tcd P",
             "firmware.elf board.json cut.cert --tcd P",
-            f"{FILES[1]} --in 7 0 0",
-            f"{FILES[1]} --cells none.cells",
-            f"{FILES[1]} --cells board.layout",
-            f"{FILES[1]} --names none.layout main.s",
-            f"{FILES[1]} -o none/turns.script",
+            f"{FILES} --in 7 0 0",
+            f"{FILES} --cells none.cells",
+            f"{FILES} --cells board.layout",
+            f"{FILES} --names none.layout main.s",
+            f"{FILES} -o none/turns.script",
         ],
     },
     "known.py": {
@@ -50,7 +60,10 @@ CASES = {
         2: ["none.elf", "cut.elf", "firmware.elf none.json", "firmware.elf cut.json", "board.json"],
     },
     "try_worst.py": {5: [""], 2: ["none", "P none"]},
-    **dict.fromkeys(("try_pages.py", "try_schema.py", "try_page.py", "try_builds.py"), {5: ["", "P P"], 2: ["none"]}),
+    "try_pages.py": {5: ["", "P P"], 2: ["none"]},
+    "try_schema.py": {5: ["", "P P"], 2: ["none"]},
+    "try_page.py": {5: ["", "P P"], 2: ["none"]},
+    "try_builds.py": {5: ["", "P P"], 2: ["none"]},
     "test.py": {5: [""], 2: ["none"]},
 }
 
@@ -58,15 +71,16 @@ CASES = {
 def prepared(program, folder):
     """An example that is built, and cut files beside it."""
     scratch.built(program, "one_call", folder)
-    for name, cut in (("firmware.elf", "cut.elf"), ("board.json", "cut.json"), ("firmware.cert", "cut.cert")):
+    for name in ("firmware.elf", "board.json", "firmware.cert"):
         data = (folder / name).read_bytes()
-        (folder / cut).write_bytes(data[: len(data) // 2])
+        (folder / f"cut.{name.split('.')[1]}").write_bytes(data[: len(data) // 2])
 
 
 def fault_of(program, script, text, wanted, folder):
     """What is wrong with how a script ends, or None."""
     words = [program if word == "P" else word for word in text.split()]
-    out, err, status = scratch.run([sys.executable, str(scratch.TOP / "tools" / script), *words], folder)
+    path = str(scratch.TOP / "tools" / script)
+    out, err, status = scratch.run([sys.executable, path, *words], folder)
     if "Traceback" in out + err:
         return f"a traceback: {err.strip().splitlines()[-1]}"
     if status != wanted:

@@ -1,8 +1,8 @@
 """Instructions as Python: for worst_machine.py each instruction becomes a function of the machine.
 
-`lines(name, operands, pc, after)` gives the body of that function, and whether it is a branch. `r` are
-the registers (D0 to D15, then A0 to A15), `m` the machine, `w` the world (worst_machine.World); what it
-returns is the next address. Names and operands are those of machine.Decoder, without `16`.
+`lines(name, operands, pc, after)` gives the body of that function, and whether it is a branch. `r`
+are the registers (D0 to D15, then A0 to A15), `m` the machine, `w` the world (worst_machine.World);
+what it returns is the next address. Names and operands are those of machine.Decoder, without `16`.
 """
 
 from machine import SIZES, WORD

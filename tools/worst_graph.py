@@ -1,6 +1,7 @@
 """What a certificate allows, for worst_run.py: frames, their ways on, and what can still lead to N.
 
-A frame's kind is (kind, entry, priority, stack), as in the lines of `tcd cfg`: (call, 80000034, 10, 1).
+A frame's kind is (kind, entry, priority, stack), as in the lines of `tcd cfg`: (call, 80000034,
+10, 1).
 """
 
 import collections
@@ -29,7 +30,7 @@ class Node:
 
     def __init__(self, key, need):
         self.key, self.need = key, need
-        # at a point: the ways out, the areas that the frame holds by its own saves, and at most there
+        # at a point: the ways out, the areas of the frame's own saves, and the most of them there
         self.ways, self.saved, self.own = {}, {}, {}
         self.goals, self.callees = {}, {}
 
@@ -42,7 +43,7 @@ class Node:
         return self.callees[kind, to, prio]
 
     def count(self, name_at):
-        """Counts at each point the areas that the frame has saved by `svlcx` and `bisr` and holds."""
+        """Counts at each point the areas that the frame holds by `svlcx` and `bisr`."""
         work = [(self.key[1], 0)]
         while work:
             point, saved = work.pop()

@@ -1,8 +1,9 @@
 """A machine that is fast and can be copied often, for worst_run.py.
 
 It does what tools/machine.py does, for certified code alone: each instruction is made into a Python
-function (worst_code.py), areas are a linked list of what was saved, and the links in them aren't kept. A
-peak that differs from that of `tcd run` is a fault of this machine, which worst_run.py reports.
+function (worst_code.py), areas are a linked list of what was saved, and the links in them aren't
+kept. A peak that differs from that of `tcd run` is a fault of this machine, which worst_run.py
+reports.
 """
 
 import collections
@@ -28,10 +29,10 @@ class Ends(Exception):
 class Machine:
     """The state: registers, status, what was saved, ram, and the frame that it is in.
 
-    `saves` is the last saved context, which holds the one before; `used` counts them. `node` is the kind
-    of frame, `base` the areas that were in use when it began, `via` the address from which it was entered,
-    `held` the areas of its own saves. `t` counts events, `done` is the list of interrupts so far, the last
-    first, and `goals` is what leads on to N.
+    `saves` is the last saved context, which holds the one before; `used` counts them. `node` is the
+    kind of frame, `base` the areas that were in use when it began, `via` the address from which it
+    was entered, `held` the areas of its own saves. `t` counts events, `done` is the list of
+    interrupts so far, the last first, and `goals` is what leads on to N.
     """
 
     __slots__ = ("r", "pc", "psw", "ccpn", "ie", "saves", "used", "node", "base", "via", "held")
@@ -40,8 +41,8 @@ class Machine:
     def copy(self):
         m = Machine.__new__(Machine)
         m.r, m.pc, m.psw, m.ccpn, m.ie = self.r[:], self.pc, self.psw, self.ccpn, self.ie
-        m.saves, m.used, m.node, m.base, m.via = self.saves, self.used, self.node, self.base, self.via
-        m.held = self.held
+        m.saves, m.used, m.node, m.base = self.saves, self.used, self.node, self.base
+        m.via, m.held = self.via, self.held
         m.ram, m.t, m.answers = [part[:] for part in self.ram], self.t, self.answers
         m.done, m.goals = self.done, self.goals
         return m
@@ -58,8 +59,8 @@ class Learned:
         #: what branches wanted of each device; and lately, of which device, how long after an entry
         self.likely = collections.defaultdict(collections.Counter)
         self.wanted = collections.deque(maxlen=48)
-        #: each frame that was entered: its kind, with how many areas in use, from which address; and
-        #: each entry that was made from such a frame
+        #: each frame that was entered: its kind, with how many areas in use, from which address;
+        #: and each entry that was made from such a frame
         self.frames, self.entries = set(), set()
         self.forget()
         self.fired = self.prio = 0

@@ -2,18 +2,19 @@
 """Looks for a run that takes as many context save areas as the certificate says.
 
     worst_run.py ELF PLAN CERT [-o turns.script] [--seconds 60] [--seed 1] [--tcd PROGRAM]
-                 [--in DEVICE LO HI ..] [--cells FILE | --tasks FILE TASK] [--names LAYOUT SOURCE ..]
+                 [--in DEVICE LO HI ..] [--cells FILE | --tasks FILE TASK]
+                 [--names LAYOUT SOURCE ..]
 
-No run can pass the certificate's N. This script looks for a run that comes to N, writes it as a script
-for `tcd run`, lets `tcd run` play it, and prints `reached 11 of 11`. If it finds none in the time, it
-prints `reached 10 of 11`, writes the script of the best run, and says which entry of a chain to N no run
-has taken. Then N may be reached by a run that wasn't found, or by none: a certificate joins what is
-known of a function's callers, so it may allow what no run does. Nothing here has to be trusted: what
-counts is the line that `tcd run` prints.
+No run can pass the certificate's N. This script looks for a run that comes to N, writes it as a
+script for `tcd run`, lets `tcd run` play it, and prints `reached 11 of 11`. If it finds none in the
+time, it prints `reached 10 of 11`, writes the script of the best run, and says which entry of a
+chain to N no run has taken. Then N may be reached by a run that wasn't found, or by none: a
+certificate joins what is known of a function's callers, so it may allow what no run does. Nothing
+here has to be trusted: what counts is the line that `tcd run` prints.
 
     --in DEVICE LO HI     what a device answers, as in a script: for what you know of it
     --cells FILE          the certificate is one of `cellcert`, for these cells
-    --tasks FILE TASK     the certificate is that of a task, from 0, of `taskcert`. The task is played
+    --tasks FILE TASK     the certificate is that of a task, from 0, of `taskcert`; it is played
                           alone, in its view: each word of ram may hold anything when it is read
     --names LAYOUT ..     the layout and the sources, for names in what is printed
     --seed N              another choice of what is tried; times differ much
@@ -85,7 +86,8 @@ class Firmware:
 
     def printed(self, *words):
         """What a command of tcd prints, which has to end with status 0."""
-        done = subprocess.run([self.program, *words], capture_output=True, text=True, errors="replace")
+        settings = {"capture_output": True, "text": True, "errors": "replace"}
+        done = subprocess.run([self.program, *words], **settings)
         if done.returncode:
             missing = [word for word in words[1:] if not pathlib.Path(word).exists()]
             why = done.stdout.strip() or done.stderr.strip() or f"status {done.returncode}"
@@ -131,7 +133,8 @@ def script_of(best, board, devices_read):
     """The script that does what the machine did."""
     turns, done, answers = best
     least = [(d["lo"], d["lo"]) for d in board["devices"]]
-    lines = [f"in {n} {a[0]} {a[1]}" for n, a in enumerate(answers) if n in devices_read and a != least[n]]
+    said = [n for n in range(len(answers)) if n in devices_read and answers[n] != least[n]]
+    lines = [f"in {n} {answers[n][0]} {answers[n][1]}" for n in said]
     entries, at = [], 0
     while done:
         done, t, what = done
@@ -158,7 +161,10 @@ def name_of(given):
     """A function that names an address."""
     known = None
     try:
-        known = names.read(given.names[0], given.names[1:]) if given.names else names.read_elf(given.elf)
+        if given.names:
+            known = names.read(given.names[0], given.names[1:])
+        else:
+            known = names.read_elf(given.elf)
     except names.Unusable as e:
         if given.names:
             raise Unusable(str(e)) from None
@@ -178,8 +184,8 @@ def ways_of(graph, node, point, base, name):
 
 
 def blocked(search):
-    """How many areas were in use when the deepest frame began from which no run went on, and for each
-    such frame the addresses from which it was entered."""
+    """How many areas were in use when the deepest frame began from which no run went on, and for
+    each such frame the addresses from which it was entered."""
     graph = search.w.graph
     frames = search.w.learned.frames | {(graph.start, 0, None)}
     frames = {frame for frame in frames if graph.goals(*frame[:2]).fires}
@@ -215,8 +221,8 @@ def why_not(search, name):
                 yield f"      if it was called at {name(min(taken))}, runs took it;"
                 yield f"      if at {name(min(vias))}, none did"
     if is_joined:
-        yield "The certificate has one frame for all calls of a function at one priority, in which the"
-        yield "values of all callers are joined: each call counts what another one may do. So it may be"
+        yield "The certificate has one frame for all calls of a function at one priority, where the"
+        yield "values of its callers are joined: each call counts what another may do. It may be"
         yield "that no run comes to N, or that none was found in this time."
     else:
         yield "Either no such run was found in this time, or there is none: N is a bound."

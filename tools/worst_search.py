@@ -1,9 +1,10 @@
 """The search of worst_run.py: which interrupts come when, and what the devices answer.
 
-A trial is a search with one choice of the devices' answers, as a script has one line `in` for each. It
-keeps states of the machine and goes on from them at random: at a point whose entry can still lead to N,
-the interrupt is fired on a copy, at once. In between, others are fired for what their handlers change. A
-state is kept if it is at such a point, or shows a branch, a word or a small number that is new.
+A trial is a search with one choice of the devices' answers, as a script has one line `in` for each.
+It keeps states of the machine and goes on from them at random: at a point whose entry can still
+lead to N, the interrupt is fired on a copy, at once. In between, others are fired for what their
+handlers change. A state is kept if it is at such a point, or shows a branch, a word or a small
+number that is new.
 """
 
 import collections
@@ -66,7 +67,8 @@ class Trial:
         self.news, self.kept = collections.defaultdict(list), collections.defaultdict(list)
         self.counts, self.contents, self.covered = collections.Counter(), set(), set()
         self.runs, self.gains = collections.Counter(), collections.Counter()
-        self.tries, self.best, self.gained, self.slices, self.rate = collections.Counter(), 0, 0, 0, 5
+        self.tries, self.best, self.gained = collections.Counter(), 0, 0
+        self.slices, self.rate = 0, 5
         #: kept states by the small numbers in ram, and how often each such group was gone on with
         self.groups, self.visits = collections.defaultdict(list), collections.Counter()
         self.probing = 0
@@ -94,8 +96,9 @@ class Trial:
     # States
 
     def small_words(self, m):
-        """The small numbers in ram: a protocol's state, say. Places are those that ever held one."""
-        words = [(n, x, int.from_bytes(m.ram[n][x : x + 4], "little")) for n, x in self.w.learned.small]
+        """The small numbers in ram, at the places that ever held one: a protocol's state, say."""
+        places = self.w.learned.small
+        words = [(n, x, int.from_bytes(m.ram[n][x : x + 4], "little")) for n, x in places]
         return [word for word in words if word[2] < SMALL]
 
     def is_fresh(self, place, words):
@@ -170,7 +173,8 @@ class Trial:
         elif not self.w.misaligned(child):
             return
         self.forward(child, FOLLOWED)
-        if learned.news > news:  # it did something new, so it counts as one that was fired aside, too
+        # if it did something new, it counts as one that was fired aside, too
+        if learned.news > news:
             self.back(child, m.saves)
             self.keep(child, True)
 
@@ -322,8 +326,8 @@ class Search:
         return draw.choice(near) if near and draw.random() < 0.8 else draw.randint(low, high)
 
     def tried(self, trial, work):
-        """Does some work of a trial. If it came to more areas than any before, the same is done with
-        each device answering otherwise."""
+        """Does some work of a trial. If it came to more areas than any before, the same is done
+        with each device answering otherwise."""
         peak = self.w.peak
         try:
             work()

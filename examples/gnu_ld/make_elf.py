@@ -1,11 +1,11 @@
 #!/usr/bin/env python3
 """Makes firmware.elf of this example by GNU ld: python3 make_elf.py TCD
 
-Only a TriCore assembler makes TriCore objects, and none is needed here: `tcd` assembles main.s, and the
-machine's own GNU `as` gets the finished bytes of each section, with the labels. The machine's own GNU
-`ld` links them by board.ld (as i386, also a little-endian ELF32), and the machine number is set to 44.
-So the file has what GNU ld writes: load addresses, a section table, symbols, a segment without bytes.
-Relocations of TriCore are not tried.
+Only a TriCore assembler makes TriCore objects, and none is needed here: `tcd` assembles main.s, and
+the machine's own GNU `as` gets the finished bytes of each section, with the labels. The machine's
+own GNU `ld` links them by board.ld (as i386, also a little-endian ELF32), and the machine number is
+set to 44. So the file has what GNU ld writes: load addresses, a section table, symbols, a segment
+without bytes. Relocations of TriCore are not tried.
 
 Exit status: 0 firmware.elf is written, 2 a program or a file can't be used, 5 wrong words.
 """

@@ -79,7 +79,7 @@ class Rows(unittest.TestCase):
         self.assertEqual(list(known_rows.numbers("10-12 16")), [16, 17, 18, 22])
 
     def test_known_rows_have_the_names_that_they_have_here(self):
-        """What is in tcd's table isn't looked up here, but shows whether names stand at their bytes."""
+        """They aren't looked up, but show whether names stand at their bytes."""
         for row in readers.ROWS:
             name = known_rows.name_of(row.code, row.length)
             plain = row.name.replace("16", "").replace(".l", "").split(".")[0]

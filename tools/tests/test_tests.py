@@ -96,7 +96,11 @@ class Pages(unittest.TestCase):
 
     def test_nothing_from_outside(self):
         self.assertFalse(self.wrong('<a href="#x">a</a>'))
-        for text in ('<script src="//x/y.js"></script>', '<img src="http://x/y.png">', "<style>@import 'x';</style>"):
+        for text in (
+            '<script src="//x/y.js"></script>',
+            '<img src="http://x/y.png">',
+            "<style>@import 'x';</style>",
+        ):
             self.assertTrue(self.wrong(text), text)
 
     def test_names(self):

@@ -60,7 +60,8 @@ class FastMachine(unittest.TestCase):
 
     def compare(self, code, draw, events=1):
         slow, world, fast = both(code)
-        registers = [draw.choice((0, 1, draw.getrandbits(32), RAM + draw.randrange(512))) for _ in range(32)]
+        values = lambda: (0, 1, draw.getrandbits(32), RAM + draw.randrange(512))
+        registers = [draw.choice(values()) for _ in range(32)]
         slow.d, slow.a, fast.r = registers[:16], registers[16:], registers[:]
         for _ in range(events):
             slow.step(machine.Event())
@@ -89,8 +90,9 @@ class FastMachine(unittest.TestCase):
         self.assertEqual({row.name for row in readers.ROWS} - tried, {"mtcr"})
 
     def test_contexts(self):
-        lines = ["call .+6", "ret16", "svlcx", "mov d0, 7", "bisr 9", "mfcr d1, 0xFE00", "rslcx", "rslcx", "ret"]
-        self.compare(readers.code(lines), random.Random(2), 9)
+        lines = ["call .+6", "ret16", "svlcx", "mov d0, 7", "bisr 9", "mfcr d1, 0xFE00"]
+        lines += ["rslcx", "rslcx", "ret"]
+        self.compare(readers.code(lines), random.Random(2), len(lines))
 
     def test_interrupt(self):
         slow, world, fast = both(readers.code(["nop"]))
@@ -112,7 +114,8 @@ class Scripts(unittest.TestCase):
         board = {"devices": [{"lo": 0, "hi": 9}, {"lo": 3, "hi": 3}]}
         done = (((None, 2, 20), 3, 30), 7, "aln")
         text = worst_run.script_of((9, done, ((4, 5), (3, 3))), board, {0, 1})
-        steps = ["in 0 4 5", "step 2", "irq 20", "irq 30", "step 3", "aln 1", "step 1", "aln 0", "step 1"]
+        steps = ["in 0 4 5", "step 2", "irq 20", "irq 30", "step 3"]
+        steps += ["aln 1", "step 1", "aln 0", "step 1"]
         self.assertEqual(text.splitlines(), steps)
 
 
