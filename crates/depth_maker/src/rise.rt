@@ -41,7 +41,7 @@ fn raise_place(
         unreachable!();
     };
     let Some((_, own)) = table.places.get_index(table.near) else {
-        return Err(Refusal::NoMemory);
+        unreachable!();
     };
     let b = v.ground.bounds;
     if place.value.covers(b, asked) {
@@ -78,7 +78,7 @@ fn rise_anew(
     ensures { RaisesOn v.now.ground.now table.old table.new y.now (asked_for asked.now) result }
 {
     let Some((_, own)) = table.places.get_index(table.near) else {
-        unreachable!();
+        return Err(Refusal::NoMemory);
     };
     let value = own.value.changed(alloc, asked)?;
     match add_or_find(&mut table.places, &mut table.work, *y, value)? {
