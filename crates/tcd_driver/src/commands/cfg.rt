@@ -48,6 +48,7 @@ fn drawn(alloc: Global, image: &Image, plan: &Plan) -> Outcome
 }
 
 // The graph of the certificate that these bytes spell.
+#[inline(never)]
 fn graph_text(
     alloc: Global,
     image: &Image,

@@ -55,6 +55,7 @@ fn reported(alloc: Global, image: &Image, plan: &Plan, cert: &PackedCert) -> Out
 }
 
 // The report of an accepted certificate, as bytes.
+#[inline(never)]
 fn report_text(
     alloc: Global,
     image: &Image,
