@@ -1,5 +1,5 @@
 -- The least rule that fails at a point, from its values, its own fault, its duties and its need.
-use Rattle.std.proofs.Common.{◌≡◌, ℕ, ◌≤◌, Bool, List, get_or, Option, Some, inl, inr, arith, subst, sym, ap, ◌∙◌}
+use Rattle.std.proofs.Common.{◌≡◌, ℕ, ◌≤◌, Bool, List, get_or, Option, Some, inl, inr, arith, refl, subst, sym, ap, ◌∙◌}
 use Rattle.std.specs.Prelude.{IsTrue, ◌↔◌, All, Contains}
 use Rattle.std.proofs.lemmas.Bool.{cases_lt}
 use Rattle.std.proofs.lemmas.List.Elements.{All-contains, All-weaker, Contains-get_or}
@@ -59,6 +59,16 @@ module _ (image : ImageData) (plan : PlanData) (cert : CertData) (node : NodeDat
         broken = λ h. f.fails (h.own v);
         least = λ q lt. record { values = λ e. v; own = λ w. f.least q lt; covered = λ shape n d w faultless. absurd (f.fails (faultless r)); needs = λ shape n e w faultless. absurd (f.fails (faultless r)) };
         known = own_known b r fault;
+      }
+
+  -- a value that isn't the plan's
+  pub values_broken : (b : Limits) → b ≡ limits_in plan cert → (AreValues b (point.state).regs → ⊥) → Finds (RuleHolds image plan cert node point) (Some 2)
+  values_broken b limits not =
+      let none : AreValues (limits_in plan cert) (point.state).regs → ⊥ = λ v. not (subst (λ (c : Limits). AreValues c (point.state).regs) (sym limits) v) in
+      record {
+        broken = λ h. none (h.values refl);
+        least = λ q lt. record { values = λ e. absurd (omega arith); own = λ v. absurd (none v); covered = λ shape n d v. absurd (none v); needs = λ shape n e v. absurd (none v) };
+        known = omega arith;
       }
 
   -- duties and the need

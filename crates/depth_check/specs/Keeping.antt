@@ -1,5 +1,5 @@
 -- Operations on two sets of many words, kept with what they gave.
-use Rattle.std.specs.Prelude.{◌≡◌, ◌<◌, ℕ, List, Some, IfSome, All}
+use Rattle.std.specs.Prelude.{◌≡◌, ◌<◌, ℕ, List, Some, IfSome}
 use Rattle.tcd_plan.specs.PlanData.{PlanData}
 use Rattle.tc_isa.specs.declared.shapes.Op.{Op}
 use Rattle.tc_isa.specs.declared.shapes.Arg.{Arg}
@@ -46,6 +46,9 @@ pub record Gives (b : Limits) (k : Kept) (op : Op) : Type 0 where
 abbrev pub IsKept : Limits → Kept → Type 0
 IsKept b k = IfSome k.op (Gives b k)
 
--- the same of all that are kept
-abbrev pub AreKept : Limits → Room → Type 0
-AreKept b room = All (IsKept b) room.pairs
+-- the same of the four that are kept
+pub record AreKept (b : Limits) (room : Room) : Type 0 where
+  pub zero : IsKept b room.zero
+  pub one : IsKept b room.one
+  pub two : IsKept b room.two
+  pub three : IsKept b room.three

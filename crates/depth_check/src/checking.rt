@@ -53,7 +53,10 @@ pub(crate) fn judged(image: &Image, plan: &Plan, cert: &AnyCert<'_>) -> Verdict
     let mut scratch = Scratch {
         room: Room {
             change: no_change(),
-            pairs: [Kept::none(), Kept::none(), Kept::none(), Kept::none()],
+            zero: Kept::none(),
+            one: Kept::none(),
+            two: Kept::none(),
+            three: Kept::none(),
             codes: KnownCodes::new(),
             by: BY_NONE,
         },

@@ -39,9 +39,6 @@ pub(crate) struct Kept {
     pub(crate) change: Change,
 }
 
-/// So many operations are kept, each at the place of the number of the register that it writes, modulo this.
-pub(crate) const PLACES: usize = 4;
-
 /// A register by which calls hold in the state at hand, and one by which jumps do, if they are known.
 #[derive(Clone, Copy)]
 pub(crate) struct ByRegister {
@@ -55,12 +52,17 @@ pub(crate) const BY_NONE: ByRegister = ByRegister {
     jumped: None,
 };
 
-/// What the points of a check take over from those before: room for a change, operations on two sets that are kept, what is
-/// known of words of code, and by which registers calls and jumps hold in the state at hand.
+/// What the points of a check take over from those before: room for a change, operations on two sets that are kept, each by the
+/// number of the register that it writes, modulo 4, what is known of words of code, and by which registers calls and jumps hold
+/// in the state at hand.
+// The four are fields, since an array of them would be made by itself and moved, which takes 16 KB of stack.
 #[derive(Drop)]
 pub(crate) struct Room {
     pub(crate) change: Change,
-    pub(crate) pairs: [Kept; PLACES],
+    pub(crate) zero: Kept,
+    pub(crate) one: Kept,
+    pub(crate) two: Kept,
+    pub(crate) three: Kept,
     pub(crate) codes: KnownCodes,
     pub(crate) by: ByRegister,
 }

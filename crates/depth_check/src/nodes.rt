@@ -137,12 +137,6 @@ fn is_word(addr: u32)
     ensures { addr < 2 ^ 32 }
 {}
 
-/// Whether the entries of some interrupts were asked for anew, so that what they depend on is worth keeping; where it isn't
-/// kept they are only asked for once more.
-fn is_worth_keeping(plan: &Plan, s: &State, again: bool) -> bool {
-    s.ie && !again && !plan.irqs.is_empty()
-}
-
 /// An A10 with which the entries of interrupts hold at the point where the walk stands, if they hold with its own: that of what was
 /// asked for last and its own together, where only A10 has the point ask for more, and they hold with both; else its own.
 #[inline(never)]
@@ -251,7 +245,9 @@ fn packed_fault<'a>(
             jumped: repeats.and(by.jumped),
         };
         let s = scratch.walk.state();
-        if is_worth_keeping(plan, s, again) {
+        // Where some entries were asked for anew, what they depend on is worth keeping; else they are only asked for once more.
+        let asked = s.ie && !again && !plan.irqs.is_empty();
+        if asked {
             let sp = held_stack(b, image, plan, cert, &frame, &*scratch);
             let t = scratch.walk.state();
             scratch.asks.add(node, t, sp);

@@ -1,9 +1,10 @@
 // The least rule that fails at a point.
-ghost use Rattle.std.specs.Prelude.{◌≡◌, ◌↔◌, IsTrue, All, IfOk, IfErr, IfSome};
+ghost use Rattle.std.specs.Prelude.{◌≡◌, ◌↔◌, IsTrue, All, IfOk, IfErr, IfSome, Some};
+ghost use Rattle.elf_image.specs.Images.{image_byte};
 ghost use Rattle.value_domain.specs.State.{AreValues};
-ghost use Rattle.tc_isa.specs.Bounded.{IsShape};
+ghost use Rattle.tc_isa.specs.declared.shapes.Shape.TheVariants.{Nothing};
 ghost use Rattle.cfg_recover.specs.Accepting.{limits_in, RuleHolds};
-ghost use Rattle.cfg_recover.specs.Finding.{LocatesCode};
+ghost use Rattle.cfg_recover.specs.Code.{IsCode};
 ghost use Rattle.cfg_recover.specs.Local.{IsLocalFault};
 ghost use Rattle.depth_check.specs.Finding.{IsWellNode, StandsAt, Finds, HasOwnNeed};
 ghost use Rattle.depth_check.specs.Forms.{point_here};
@@ -20,9 +21,10 @@ use crate::forms::Here;
 use crate::kept::Room;
 use crate::point_at::At;
 use crate::successors::broken_by_pass;
-use cfg_recover::{Located, check_located, direct_target, start_key};
+use cfg_recover::{KnownCodes, check_located, direct_target, start_key};
 use elf_image::Image;
 use tc_isa::Shape;
+use tcd_base::any_holds;
 use tcd_plan::Plan;
 use value_domain::Bounds;
 
@@ -54,12 +56,10 @@ fn has_values(b: &Bounds, point: Here<'_, '_>) -> bool
     are_values(b, &point.state.regs)
 }
 
-/// The least rule that fails at a point whose values are the plan's, by what stands there.
+/// The least rule that fails at a point whose values are the plan's.
 #[inline(never)]
-fn broken_by_any(at: &At<'_, '_>, located: &Option<Located>, room: &mut Room) -> Option<u8>
+fn broken_by_any(at: &At<'_, '_>, room: &mut Room) -> Option<u8>
     requires point { IsAt at.now }
-    requires code { LocatesCode at.now.image.now at.now.plan.now at.now.point.addr located.now }
-    requires shape { IfSome located.now (λ found. IsShape found.shape) }
     requires kept { AreKept at.now.bounds.now room.old }
     requires by { AreHeldBy at.now room.old.by }
     ensures found { Finds (RuleHolds at.now.image.now at.now.plan.now at.now.cert.now
@@ -69,7 +69,8 @@ fn broken_by_any(at: &At<'_, '_>, located: &Option<Located>, room: &mut Room) ->
 {
     let node = at.node;
     let s = at.point.state;
-    match check_located(at.bounds, at.plan, &node.key, s, located) {
+    let located = room.codes.located(at.image, at.plan, at.point.addr);
+    match check_located(at.bounds, at.plan, &node.key, s, &located) {
         Err(rule) => Some(rule),
         Ok(found) => {
             let duties = broken_by_duties(at, found, room);
@@ -92,15 +93,44 @@ fn broken_by_idle(at: &At<'_, '_>, next: u32) -> Option<u8>
     least(least(jump, irqs), need)
 }
 
-/// Where the instruction of a point passes the state on, if that is all it does.
-fn idle_next(at: &At<'_, '_>, located: &Option<Located>) -> Option<u32>
-    requires { LocatesCode at.now.image.now at.now.plan.now at.now.point.addr located.now }
+/// Whether nop16 stands at an address where 00 stands: 00 00, at an even one and in one rom range.
+fn is_nop16(image: &Image, plan: &Plan, addr: u32) -> bool
+    requires { image_byte image.now addr ≡ Some 0 }
+    ensures { IsTrue result → IsCode image.now plan.now addr Nothing 2 }
+{
+    if addr % 2 == 1 {
+        return false;
+    }
+    if !any_holds(plan.rom.as_slice(), addr, 2) {
+        return false;
+    }
+    image.has_byte(addr + 1, 0)
+}
+
+/// Where the instruction of a point passes the state on, if that is all it does and the next point has the same state.
+fn idle_next(at: &At<'_, '_>, codes: &mut KnownCodes) -> Option<u32>
     ensures { IfSome result (PassesOn at.now.image.now at.now.plan.now at.now.point.addr) }
 {
-    let Some(found) = located else {
+    if at.point.next.is_none() {
+        return None;
+    }
+    let image = at.image;
+    let addr = at.point.addr;
+    let first = image.byte(addr);
+    if first == Some(0) {
+        return if is_nop16(image, at.plan, addr) {
+            Some(addr.wrapping_add(2))
+        } else {
+            None
+        };
+    }
+    // The others that change nothing, nop, dsync and isync, begin with 0D, and jumps to one address with 1D, 3C or 9D.
+    if first != Some(0x0D) && first != Some(0x1D) && first != Some(0x3C) && first != Some(0x9D) {
+        return None;
+    }
+    let Some(found) = codes.located(image, at.plan, addr) else {
         return None;
     };
-    let addr = at.point.addr;
     match found.shape {
         Shape::Nothing => Some(addr.wrapping_add(found.size)),
         Shape::Jump { to } => direct_target(addr, to),
@@ -145,9 +175,8 @@ pub(crate) fn broken_by_point(
         node: point.node,
         point,
     };
-    let located = room.codes.located(image, plan, point.addr);
-    match idle_next(&at, &located) {
+    match idle_next(&at, &mut room.codes) {
         Some(next) => broken_by_idle(&at, next),
-        None => broken_by_any(&at, &located, room),
+        None => broken_by_any(&at, room),
     }
 }

@@ -18,7 +18,7 @@ ghost use Rattle.depth_check.specs.Points.{IsAt, Breaks};
 
 use crate::covering::{has_changed_next, has_kept_next, has_next, has_points};
 use crate::duties::{least, unless};
-use crate::kept::{Kept, PLACES, Pair, Room, change_kept, pair_of};
+use crate::kept::{Kept, Pair, Room, change_kept, pair_of};
 use crate::point_at::At;
 use cfg_recover::{Located, step_change, targets};
 use tc_isa::{Shape, Target};
@@ -204,10 +204,12 @@ fn broken_by_next(at: &At<'_, '_>, found: &Located, room: &mut Room) -> Option<u
     }
     let s = at.point.state;
     match pair_of(found.shape, s) {
-        Some(pair) => {
-            let place = pair.dst as usize % PLACES;
-            broken_by_pair(at, found, pair, &mut room.pairs[place])
-        }
+        Some(pair) => match pair.dst % 4 {
+            0 => broken_by_pair(at, found, pair, &mut room.zero),
+            1 => broken_by_pair(at, found, pair, &mut room.one),
+            2 => broken_by_pair(at, found, pair, &mut room.two),
+            _ => broken_by_pair(at, found, pair, &mut room.three),
+        },
         None => broken_by_step(at, found, &mut room.change),
     }
 }

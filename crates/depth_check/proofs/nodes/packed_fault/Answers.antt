@@ -96,7 +96,7 @@ loop-addr-init c = record {
   all = All-nil (λ (q : Point). (r : ℕ) → RuleHolds c.args.image.now c.args.plan.now c.args.cert.now c.args.node.now q r);
   known = λ t. absurd (let f : false ≡ true = t in cc);
   asked = c.requires.asked;
-  kept = c.requires.kept;
+  kept = let k = c.requires.kept in record { zero = k.zero; one = k.one; two = k.two; three = k.three };
   by = λ p after e. record { called = tt; jumped = tt };
 }
 
@@ -120,7 +120,7 @@ loop-addr-preserved c =
       all = All-push (λ (q : Point). (r : ℕ) → RuleHolds c.args.image.now c.args.plan.now c.args.cert.now c.args.node.now q r) inv.done p inv.all holds;
       known = λ t. (holds 2).values refl;
       asked = inv.asked;
-      kept = c.broken_by_point-found.ensures.kept;
+      kept = let k = c.broken_by_point-found.ensures.kept in record { zero = k.zero; one = k.one; two = k.two; three = k.three };
       by = by;
     }
 
@@ -153,8 +153,8 @@ held_stack-sp-requires-clause-holds c =
     let holds = none_at c.args.image.now c.args.plan.now c.args.cert.now c.args.node.now c.requires.member points refl c.walk.ensures.rising p c.packed_holds_at_entry-good.result c.broken_by_point-found.result told finds in
     rw c.near-frame.ensures (interrupts_at c.args.image.now c.args.plan.now c.args.cert.now c.args.node.now p holds)
 
-pub loop-addr-preserved-then-is_worth_keeping : goal.loop-addr-preserved-then-is_worth_keeping
-loop-addr-preserved-then-is_worth_keeping c =
+pub loop-addr-preserved-then-asked : goal.loop-addr-preserved-then-asked
+loop-addr-preserved-then-asked c =
     let inv = c.loop-addr.invariant in
     let points = c.args.node.now.points in
     let p : Point = record { addr = c.in-Some.addr; state = c.step.new.self.current } in
@@ -176,7 +176,7 @@ loop-addr-preserved-then-is_worth_keeping c =
           c.add.ensures c.args.plan.now c.args.cert.now inv.asked
           (subst (λ (l : Limits). IsValue l c.held_stack-sp.result) c.requires.limits c.held_stack-sp.ensures.value)
           (subst (λ (s : State). HoldsWith c.args.plan.now c.args.cert.now c.args.node.now s c.held_stack-sp.result) (sym c.state-t.ensures) (rw c.near-frame.ensures at c.held_stack-sp.ensures.holds));
-      kept = c.broken_by_point-found.ensures.kept;
+      kept = let k = c.broken_by_point-found.ensures.kept in record { zero = k.zero; one = k.one; two = k.two; three = k.three };
       by = by;
     }
 
