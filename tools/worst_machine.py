@@ -43,7 +43,7 @@ class Machine:
         m.r, m.pc, m.psw, m.ccpn, m.ie = self.r[:], self.pc, self.psw, self.ccpn, self.ie
         m.saves, m.used, m.node, m.base = self.saves, self.used, self.node, self.base
         m.via, m.held = self.via, self.held
-        m.ram, m.t, m.answers = [part[:] for part in self.ram], self.t, self.answers
+        m.ram, m.t, m.answers = [bytearray(part) for part in self.ram], self.t, self.answers
         m.done, m.goals = self.done, self.goals
         return m
 

@@ -15,8 +15,10 @@ from worst_machine import SMALL, Ends, Reached
 
 #: the most turns of a script, and how many before the end nothing is kept any more
 TURNS, LAST = 100000, 2000
-#: states kept of a level that show nothing new, and at one place of a frame
-MOST_KEPT, MOST_AT_PLACE = 1500, 300
+#: states kept of a level, at one place of a frame, and with the same numbers
+MOST_KEPT, MOST_AT_PLACE, MOST_IN_GROUP = 1500, 300, 8
+#: groups of the same numbers, and contents of ram that states share
+MOST_GROUPS, MOST_CONTENTS = 1000, 20000
 #: events that a fired interrupt is followed for, and a handler that is fired for what it changes
 FOLLOWED, RETURNS = 600, 5000
 #: trials that go on side by side
@@ -24,10 +26,12 @@ MOST_TRIALS = 24
 
 
 class Kept:
-    """A state to go on from. `level` counts its areas, `far` the steps to a goal."""
+    """A state to go on from, which isn't changed. `level` counts its areas, `far` the steps to a
+    goal; `ram` is its ram, which other states share."""
 
-    def __init__(self, m, level, far):
-        self.m, self.level, self.far, self.visits, self.wanted = m, level, far, 0, []
+    def __init__(self, m, level, far, ram):
+        self.m, self.level, self.far, self.visits, self.wanted = m.copy(), level, far, 0, []
+        self.m.ram = ram
 
 
 class Asides:
@@ -73,7 +77,7 @@ class Trial:
         self.groups, self.visits = collections.defaultdict(list), collections.Counter()
         self.probing = 0
         m = self.w.begin(answers)
-        self.root = Kept(m, 0, m.goals.far.get(m.pc, 0))
+        self.root = Kept(m, 0, m.goals.far.get(m.pc, 0), self.search.shared(m))
         self.news[0].append(self.root)
 
     @property
@@ -117,7 +121,8 @@ class Trial:
             self.best, fresh = level, True
         if not fresh and self.counts[place] >= MOST_AT_PLACE and self.draw.random() > 0.02:
             return
-        content = hash((place, *map(bytes, m.ram)))
+        ram = self.search.shared(m)
+        content = hash((place, ram))
         # a few at other times, too: devices answer by the time
         if content in self.contents and not fresh and self.draw.random() > 0.03:
             return
@@ -126,16 +131,17 @@ class Trial:
         fresh = self.is_fresh(place, words) or fresh
         self.counts[place] += 1
         self.gained += fresh
-        kept = Kept(m.copy(), level, far)
-        self.put(self.news[level] if fresh else self.kept[level], kept, fresh)
-        group = (level, *sorted(words))
-        self.put(self.groups[group], kept, False)
+        kept = Kept(m, level, far, ram)
+        self.put((self.news if fresh else self.kept)[level], kept, MOST_KEPT)
+        self.put(self.groups[(level, *sorted(words))], kept, MOST_IN_GROUP)
+        if len(self.groups) > MOST_GROUPS:
+            del self.groups[self.draw.choice(list(self.groups))]
 
-    def put(self, group, kept, fresh):
-        if fresh or len(group) < MOST_KEPT:
+    def put(self, group, kept, most):
+        if len(group) < most:
             group.append(kept)
         else:
-            group[self.draw.randrange(MOST_KEPT)] = kept
+            group[self.draw.randrange(most)] = kept
 
     def pick_rare(self):
         """A state whose small numbers were seldom gone on with."""
@@ -292,11 +298,18 @@ class Search:
 
     def __init__(self, world, seconds, seed, fixed):
         self.w, self.fixed, self.until = world, fixed, time.monotonic() + seconds
-        self.draw, self.steps, self.trials = random.Random(seed), 0, []
+        self.draw, self.steps, self.trials, self.contents = random.Random(seed), 0, [], {}
 
     def in_time(self):
         if time.monotonic() > self.until:
             raise TimeoutError
+
+    def shared(self, m):
+        """What the machine's ram holds; equal contents are one object."""
+        if len(self.contents) > MOST_CONTENTS:
+            self.contents.clear()
+        ram = tuple(map(bytes, m.ram))
+        return self.contents.setdefault(ram, ram)
 
     def answers(self, n):
         """Answers for a device: LO and HI of a script's line `in`."""
