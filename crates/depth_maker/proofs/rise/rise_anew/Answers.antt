@@ -9,7 +9,7 @@ use Rattle.value_domain.specs.declared.states.State.{State}
 use Rattle.frame_places.specs.declared.places.Marked.{Marked}
 use Rattle.frame_places.specs.declared.places.Spot.TheVariants.{Point}
 use Rattle.frame_places.proofs.MarkLemmas.{same_number, same_value}
-use Rattle.frame_places.proofs.NearbyLemmas.{had_at, nowhere}
+use Rattle.frame_places.proofs.NearbyLemmas.{had_at}
 use Rattle.frame_places.specs.Counting.{Passing, frames_after, points_after}
 use Rattle.frame_places.specs.Work.{all_work}
 use Rattle.small_states.specs.Kept.{asked_for}
@@ -106,6 +106,3 @@ returns-in-Some-2 c =
     let fine = c.requires.fine in
     let kept = registered_fine _ _ _ (lawful _ _ _ c.args.v.now.ground.now.sound) s m found.1 refl (ap all_work found.2) refl refl refl (λ z q h. h) fine.exits fine.readers fine in
     raises_again c.args.v.now.ground.now s m c.raise_place.new.table c.args.y.now (asked_for c.args.asked.now) c.raise_place.result found.1 refl refl refl refl refl kept.1 c.raise_place.ensures
-
-pub unreachable-requires : goal.unreachable-requires
-unreachable-requires c = nowhere c.args.table.now.places c.args.table.now.near (Point c.args.v.now.key c.args.v.now.addr) (sym c.in_default.ensures.entry) c.requires.near
