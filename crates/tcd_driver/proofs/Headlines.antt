@@ -51,7 +51,7 @@ use Rattle.tcd_driver.specs.Ship as shipping
 use Rattle.tcd_driver.specs.Ship.{ShipNames, IsShipping, IsShipped, IsImageOf, ship_reading}
 use Rattle.tcd_driver.specs.Run as runs
 use Rattle.tcd_driver.specs.Run.{RunNames, IsRun, run_reading}
-use Rattle.tcd_driver.specs.Headlines.{HoldsFile, IsBadFile, too_long, faulty, HoldsImage, HoldsPlan, HoldsCert, HoldsLayout, HoldEach, AreFirmwareFiles, AreCheckFiles, IsWritten, IsAcceptedWith, IsLeastOfItsVersion, IsBestWith, IsNone, certified_words, frame_words, refused_words, HeadlineOfCheck, RefusalByCheck, HeadlineOfCert, RefusalByCert, IsSourceText, IsImageOfFiles, HeadlineOfShip, RefusalByShip, HeadlineOfRun}
+use Rattle.tcd_driver.specs.Headlines.{HoldsFile, IsBadFile, too_long, faulty, HoldsImage, HoldsPlan, HoldsCert, HoldsLayout, HoldEach, AreFirmwareFiles, AreCheckFiles, IsWritten, IsAcceptedWith, IsLeastOfItsVersion, IsBestWith, NoneIsAccepted, certified_words, frame_words, refused_words, HeadlineOfCheck, RefusalByCheck, HeadlineOfCert, RefusalByCert, IsSourceText, IsImageOfFiles, HeadlineOfShip, RefusalByShip, HeadlineOfRun}
 
 -- ---- what a report leaves
 -- what is held once the files of a report are written, and this of it and of the report's text
@@ -186,7 +186,7 @@ best_of i p c is = by_version is.best
 each_refused : (i : ImageData) (p : PlanData) → NoneAccepted i p 1 → NoneAccepted i p 2 → (c : CertData) → IsCert c → Accepts i p c → ⊥
 each_refused i p one two c is accepted = elim is.version [ inl v ↦ one c is v accepted | inr v ↦ two c is v accepted ]
 
-pub none_of : (i : ImageData) (p : PlanData) (rule : ℕ) (key : Key) (addr : ℕ) → AreNone i p rule key addr → IsNone i p rule key addr
+pub none_of : (i : ImageData) (p : PlanData) (rule : ℕ) (key : Key) (addr : ℕ) → AreNone i p rule key addr → NoneIsAccepted i p rule key addr
 none_of i p rule key addr none = record { each = each_refused i p none.first none.second; why = none.why }
 
 -- ---- lines

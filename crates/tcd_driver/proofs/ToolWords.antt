@@ -68,14 +68,15 @@ module _ (reading : Reading) (files files' : FilesSeen) (sink sink' : SinkSeen) 
   told (ending.unread e held quiet counted unsure) = absurd (is_told.no_fault e)
   told (ending.no_memory e held quiet) = absurd (is_told.some_memory e)
 
--- what it left, where the files and the sink tell
-left : (reading : Reading) (files files' : FilesSeen) (sink sink' : SinkSeen) (status : Status) (Holds : Map → Map → List ℕ → Type 0) (m : Map) (text : List ℕ) → IsTold status → files.held ≡ Some m → sink.written ≡ Some text →
-    Reports reading status Holds → Ends reading files files' sink sink' status → (after : Map) × (printed : List ℕ) × (files'.held ≡ Some after) × (sink'.written ≡ Some (text ++ printed)) × Holds m after printed
-left reading files files' sink sink' status Holds m text is_told held written reports ends =
+-- what it left, where the files tell
+left : (reading : Reading) (files files' : FilesSeen) (sink sink' : SinkSeen) (status : Status) (Holds : Map → Map → List ℕ → Type 0) (m : Map) → IsTold status → files.held ≡ Some m →
+    Reports reading status Holds → Ends reading files files' sink sink' status →
+    (after : Map) × (printed : List ℕ) × (files'.held ≡ Some after) × ((text : List ℕ) → sink.written ≡ Some text → sink'.written ≡ Some (text ++ printed)) × Holds m after printed
+left reading files files' sink sink' status Holds m is_told held reports ends =
     let t = told reading files files' sink sink' status is_told ends.ended in
     let r = t.report in
     let l = reports m r (subst (λ (o : Option Map). Says reading o r) held t.said) t.is in
-    (l.after, r.text, t.held ∙ ap (λ (o : Option Map). with_written o r.writes) held ∙ l.held, t.printed ∙ ap (λ (o : Option (List ℕ)). with_appended o r.text) written, l.holds)
+    (l.after, r.text, t.held ∙ ap (λ (o : Option Map). with_written o r.writes) held ∙ l.held, (λ text written. t.printed ∙ ap (λ (o : Option (List ℕ)). with_appended o r.text) written), l.holds)
 
 -- words of no form end with no such status
 by_prints : (text : List ℕ) (sink sink' : SinkSeen) (status : Status) → IsTold status → Prints BadWords text sink sink' status → ⊥
@@ -204,15 +205,15 @@ module _ (call : Call) where
     -- words that are this command, whatever its names
     fixed : (words : List (List ℕ)) (status : Status) (reading : Reading) (Holds : Map → Map → List ℕ → Type 0) → IsTold status → Reports reading status Holds →
         (IfSome (command words) Ended → Ends reading call.files call.files_after call.sink call.sink_after call.status) → Means call words status Holds
-    fixed words status reading Holds is_told reports asks m text are is held written =
-        left reading call.files call.files_after call.sink call.sink_after status Holds m text is_told held written reports (ends_with reading status is (asks (some_by words are)))
+    fixed words status reading Holds is_told reports asks m are is held =
+        left reading call.files call.files_after call.sink call.sink_after status Holds m is_told held reports (ends_with reading status is (asks (some_by words are)))
 
     -- words that are one where a test holds
     tested : (words : List (List ℕ)) (status : Status) (c : Command) (b : Bool) (Holds : Map → Map → List ℕ → Type 0) → IsTold status → command words ≡ (if b then Some c else None) →
         (b ≡ true → Reports (reading_of c) status Holds) → Means call words status Holds
-    tested words status c b Holds is_told asks reports m text are is held written =
+    tested words status c b Holds is_told asks reports m are is held =
         let a = asked_if b c Ended BadEnd (no_bad_end status is_told is) (subst (λ (o : Option Command). IfSome o Ended) asks (some_by words are)) (subst (λ (o : Option Command). IfNone o BadEnd) asks (none_by words are)) in
-        left (reading_of c) call.files call.files_after call.sink call.sink_after status Holds m text is_told held written (reports a.0) (ends_with (reading_of c) status is a.1)
+        left (reading_of c) call.files call.files_after call.sink call.sink_after status Holds m is_told held (reports a.0) (ends_with (reading_of c) status is a.1)
 
     pub tool_says : ToolSays call
     tool_says = record {
@@ -229,25 +230,25 @@ module _ (call : Call) where
       cfg_refuses = λ elf plan. fixed _ Refused _ _ refused_told (cfg_refuses (record { elf = elf; plan = plan })) (λ k. k);
       dis = λ elf. fixed _ Done _ _ done_told (dis_is_done elf) (λ k. k);
       dis_refuses = λ elf. fixed _ BadInput _ _ bad_told (dis_refuses elf) (λ k. k);
-      gen = λ word m text are is held written.
+      gen = λ word m are is held.
           let n = gen_asked Ended BadEnd (no_bad_end Done done_told is) (number_of word) (some_by _ are) (none_by _ are) in
-          left _ call.files call.files_after call.sink call.sink_after Done _ m text done_told held written (gen_is_done word n.0 (record { is = n.1; some = n.2; few = n.3 })) (ends_with _ Done is n.4);
-      gen_refuses = λ word m text are is held written.
+          left _ call.files call.files_after call.sink call.sink_after Done _ m done_told held (gen_is_done word n.0 (record { is = n.1; some = n.2; few = n.3 })) (ends_with _ Done is n.4);
+      gen_refuses = λ word m are is held.
           let n = gen_asked Ended BadEnd (no_bad_end Refused refused_told is) (number_of word) (some_by _ are) (none_by _ are) in
-          left _ call.files call.files_after call.sink call.sink_after Refused _ m text refused_told held written (gen_refuses word n.0 (record { is = n.1; some = n.2; few = n.3 })) (ends_with _ Refused is n.4);
+          left _ call.files call.files_after call.sink call.sink_after Refused _ m refused_told held (gen_refuses word n.0 (record { is = n.1; some = n.2; few = n.3 })) (ends_with _ Refused is n.4);
       asm = λ source object. fixed _ Done _ _ done_told (asm_is_done (record { source = source; object = object })) (λ k. k);
       asm_refuses = λ source object. fixed _ BadInput _ _ bad_told (asm_refuses (record { source = source; object = object })) (λ k. k);
       link = λ layout elf objects. tested _ Done _ _ _ done_told (link_asks layout elf objects) (λ b. link_is_done (record { layout = layout; image = elf; objects = objects }));
       link_refuses = λ layout elf objects. tested _ BadInput _ _ _ bad_told (link_asks layout elf objects) (λ b. link_refuses (record { layout = layout; image = elf; objects = objects }));
-      boot = λ elf plan cert at m text are is held written.
+      boot = λ elf plan cert at m are is held.
           let n = boot_asked Ended BadEnd (no_bad_end Done done_told is) elf plan cert (hex_number_of at) (some_by _ are) (none_by _ are) in
-          left _ call.files call.files_after call.sink call.sink_after Done _ m text done_told held written (boot_is_done (record { elf = elf; plan = plan; cert = cert; at = n.0 }) at n.1) (ends_with _ Done is n.2);
-      boot_refuses = λ elf plan cert at m text are is held written.
+          left _ call.files call.files_after call.sink call.sink_after Done _ m done_told held (boot_is_done (record { elf = elf; plan = plan; cert = cert; at = n.0 }) at n.1) (ends_with _ Done is n.2);
+      boot_refuses = λ elf plan cert at m are is held.
           let n = boot_asked Ended BadEnd (no_bad_end Refused refused_told is) elf plan cert (hex_number_of at) (some_by _ are) (none_by _ are) in
-          left _ call.files call.files_after call.sink call.sink_after Refused _ m text refused_told held written (boot_refuses (record { elf = elf; plan = plan; cert = cert; at = n.0 }) at n.1) (ends_with _ Refused is n.2);
-      bootgen = λ plan entry at source m text are is held written.
+          left _ call.files call.files_after call.sink call.sink_after Refused _ m refused_told held (boot_refuses (record { elf = elf; plan = plan; cert = cert; at = n.0 }) at n.1) (ends_with _ Refused is n.2);
+      bootgen = λ plan entry at source m are is held.
           let n = bootgen_asked Ended BadEnd (no_bad_end Done done_told is) plan source (hex_number_of entry) (hex_number_of at) (some_by _ are) (none_by _ are) in
-          left _ call.files call.files_after call.sink call.sink_after Done _ m text done_told held written (bootgen_is_done (record { plan = plan; entry = n.0; at = n.1; source = source }) entry at n.2 n.3 n.4) (ends_with _ Done is n.5);
+          left _ call.files call.files_after call.sink call.sink_after Done _ m done_told held (bootgen_is_done (record { plan = plan; entry = n.0; at = n.1; source = source }) entry at n.2 n.3 n.4) (ends_with _ Done is n.5);
       cells = λ elf plan list cert. fixed _ Done _ _ done_told (cells_are_done (record { elf = elf; plan = plan; cells = list; cert = cert })) (λ k. k);
       cells_refuse = λ elf plan list cert. fixed _ Refused _ _ refused_told (cells_refuse (record { elf = elf; plan = plan; cells = list; cert = cert })) (λ k. k);
       cellcert = λ elf plan list cert. fixed _ Done _ _ done_told (cellcert_is_done (record { elf = elf; plan = plan; cells = list; cert = cert })) (λ k. k);

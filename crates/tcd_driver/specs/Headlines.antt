@@ -125,7 +125,7 @@ pub record IsBestWith (image : ImageData) (plan : PlanData) (cert : CertData) (n
   pub reads : certificate_of (bytes_of cert) ≡ Ok cert
 
 -- no certificate of either version is accepted, and this is why none of version 2 is
-pub record IsNone (image : ImageData) (plan : PlanData) (rule : ℕ) (frame : Key) (address : ℕ) : Type 0 where
+pub record NoneIsAccepted (image : ImageData) (plan : PlanData) (rule : ℕ) (frame : Key) (address : ℕ) : Type 0 where
   pub each : (cert : CertData) → IsCert cert → Accepts image plan cert → ⊥
   pub why : IsRefusal image plan 2 rule frame address
 
@@ -202,7 +202,7 @@ pub record RefusalByCert (elf_name plan_name : List ℕ) (before after : Map) (p
   pub frame : Key
   pub address : ℕ
   pub files : AreFirmwareFiles before elf_name plan_name image plan
-  pub none : IsNone image plan rule frame address
+  pub none : NoneIsAccepted image plan rule frame address
   pub prints : printed ≡ refused_words rule frame address
   pub stays : after ≡ before
 
@@ -248,7 +248,7 @@ pub record RefusalByShip (plan_name layout_name : List ℕ) (source_names : List
   pub frame : Key
   pub address : ℕ
   pub image_is : IsImageOfFiles before plan_name layout_name source_names plan image
-  pub none : IsNone image plan rule frame address
+  pub none : NoneIsAccepted image plan rule frame address
   pub prints : printed ≡ refused_words rule frame address
   pub stays : after ≡ before
 

@@ -30,14 +30,17 @@ pub record Call : Type 0 where
   pub status : Status
 
 -- If the words were these and the call ended with this status, `Holds` is true of what was held
--- before and after the call, and of what it printed. The files have to tell what they hold, and the
--- sink what was written.
+-- before and after the call, and of what it printed. The files have to tell what they hold; where the
+-- sink tells what was written, that grew by what was printed.
 abbrev pub Means : Call → List (List ℕ) → Status → (Map → Map → List ℕ → Type 0) → Type 0
 Means call words status Holds =
-    (before : Map) (text : List ℕ) → call.words ≡ words → call.status ≡ status → (call.files).held ≡ Some before → (call.sink).written ≡ Some text
-    → (after : Map) × (printed : List ℕ) × ((call.files_after).held ≡ Some after) × ((call.sink_after).written ≡ Some (text ++ printed)) × Holds before after printed
+    (before : Map) → call.words ≡ words → call.status ≡ status → (call.files).held ≡ Some before
+    → (after : Map) × (printed : List ℕ) × ((call.files_after).held ≡ Some after)
+    × ((text : List ℕ) → (call.sink).written ≡ Some text → (call.sink_after).written ≡ Some (text ++ printed)) × Holds before after printed
 
--- What the tool promises of each command, by the words that were typed.
+-- What the tool promises of each command, by the words that were typed: for status 0, for status 1,
+-- and for status 2 of `dis`, `asm` and `link`. All other endings are in `bad_words`, `no_form` and
+-- `command`, the clauses of `tool` beside this one.
 pub record ToolSays (call : Call) : Type 0 where
   pub check : (elf plan cert : List ℕ) → Means call (codes "check" ∷ elf ∷ plan ∷ cert ∷ []) Done (HeadlineOfCheck elf plan cert)
   pub check_refuses : (elf plan cert : List ℕ) → Means call (codes "check" ∷ elf ∷ plan ∷ cert ∷ []) Refused (RefusalByCheck elf plan cert)
@@ -89,4 +92,4 @@ pub record ToolSays (call : Call) : Type 0 where
       → Means call (codes "taskcert" ∷ elf ∷ plan ∷ list ∷ certs) Done (HeadlineOfTaskcert elf plan list certs)
   pub taskcert_refuses :
       (elf plan list : List ℕ) (certs : List (List ℕ))
-      → Means call (codes "taskcert" ∷ elf ∷ plan ∷ list ∷ certs) Refused (RefusalByTaskcert elf plan list)
+      → Means call (codes "taskcert" ∷ elf ∷ plan ∷ list ∷ certs) Refused (RefusalByTaskcert elf plan list certs)

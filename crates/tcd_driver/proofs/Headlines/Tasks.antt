@@ -137,13 +137,13 @@ module _ (i : ImageData) (p : PlanData) (t : TasksData) (cs : List CertData) whe
   first_refused u rule key addr h = record { task = h.task; before = λ w lt. accepted_for i p t w (cert_of cs w) (h.before w lt); fails = task_fails u rule key addr h.refused }
 
 module _ (names : TasksNames) (m : Map) (i : ImageData) (p : PlanData) (t : TasksData) (cs : List CertData) (files : AreTaskFiles m names.elf names.plan names.tasks i p t)
-    (certs : HoldEach m (2 ^ 30) (λ bytes cert. certificate_of bytes ≡ Ok cert) names.certs cs) (r : Report) (is_refused : r.status ≡ Refused) where
+    (certs : HoldEach m (2 ^ 30) (λ bytes cert. certificate_of bytes ≡ Ok cert) names.certs cs) (many : length cs ≡ count t) (r : Report) (is_refused : r.status ≡ Refused) where
   -- what is told of it
   tasks_fault : r.writes ≡ [] → IsTasksFault i p t cs r.text → Leaves m r (RefusalByTasks names.elf names.plan names.tasks names.certs)
   tasks_fault nothing fault = record {
     after = m;
     held = held_nothing m r nothing;
-    holds = record { image = i; plan = p; list = t; certs = cs; files = files; cert_files = certs; fault = fault; stays = refl };
+    holds = record { image = i; plan = p; list = t; certs = cs; files = files; cert_files = certs; as_many = many; fault = fault; stays = refl };
   }
 
   tasks_refused : IsTasksVerdict i p t cs r → Leaves m r (RefusalByTasks names.elf names.plan names.tasks names.certs)
@@ -162,7 +162,8 @@ tasks_refuse names m r said refused =
     let t = read p.2 (λ b. good b.status) in
     let many = as_many (length names.certs == count t.0) (each CertData (λ _. cert_form) 0 names.certs (λ cs. answer (IsTasksVerdict i.0 p.0 t.0 cs))) (Some m) r good t.2 in
     let cs = each_said (λ _. cert_form) (2 ^ 30) (λ bytes cert. certificate_of bytes ≡ Ok cert) cert_told 0 m names.certs (λ cs. answer (IsTasksVerdict i.0 p.0 t.0 cs)) r good many.1 in
-    tasks_refused names m i.0 p.0 t.0 cs.0 (task_files names.elf names.plan names.tasks m i.0 p.0 t.0 i.1 p.1 t.1) cs.1 r refused cs.2
+    let as_certs : length cs.0 ≡ count t.0 = sym (held_many m (2 ^ 30) (λ bytes cert. certificate_of bytes ≡ Ok cert) names.certs cs.0 cs.1) ∙ eqb-true _ _ many.0 in
+    tasks_refused names m i.0 p.0 t.0 cs.0 (task_files names.elf names.plan names.tasks m i.0 p.0 t.0 i.1 p.1 t.1) cs.1 as_certs r refused cs.2
 
 -- ---- taskcert
 -- what is held once the certificates are written, one after another
@@ -260,13 +261,14 @@ module _ (i : ImageData) (p : PlanData) (t : TasksData) where
     none = none_for u rule key addr h.uncertified;
   }
 
-module _ (names : TaskcertNames) (m : Map) (i : ImageData) (p : PlanData) (t : TasksData) (files : AreTaskFiles m names.elf names.plan names.tasks i p t) (r : Report) (is_refused : r.status ≡ Refused) where
+module _ (names : TaskcertNames) (m : Map) (i : ImageData) (p : PlanData) (t : TasksData) (files : AreTaskFiles m names.elf names.plan names.tasks i p t)
+    (many : length names.certs ≡ count t) (r : Report) (is_refused : r.status ≡ Refused) where
   -- what is told of it
-  taskcert_fault : r.writes ≡ [] → IsTaskcertFault i p t r.text → Leaves m r (RefusalByTaskcert names.elf names.plan names.tasks)
+  taskcert_fault : r.writes ≡ [] → IsTaskcertFault i p t r.text → Leaves m r (RefusalByTaskcert names.elf names.plan names.tasks names.certs)
   taskcert_fault nothing fault = record {
     after = m;
     held = held_nothing m r nothing;
-    holds = record { image = i; plan = p; list = t; files = files; fault = fault; stays = refl };
+    holds = record { image = i; plan = p; list = t; files = files; as_many = many; fault = fault; stays = refl };
   }
 
   made_each : (cs : List CertData) → length cs ≡ count t → AreTasksMade i p t cs → (u : ℕ) → u < count t → IsAcceptedForTask i p t u (cert_of cs u) × IsLeastForTask i p t u (cert_of cs u)
@@ -274,7 +276,7 @@ module _ (names : TaskcertNames) (m : Map) (i : ImageData) (p : PlanData) (t : T
       let one : IsTaskMade i p t u (cert_of cs u) = made u (subst (λ (n : ℕ). u < n) (sym as_many) h) in
       (accepted_for i p t u (cert_of cs u) one.judged, least_for i p t u (cert_of cs u) one)
 
-  taskcert_refused : IsTaskcerting names.certs i p t r → Leaves m r (RefusalByTaskcert names.elf names.plan names.tasks)
+  taskcert_refused : IsTaskcerting names.certs i p t r → Leaves m r (RefusalByTaskcert names.elf names.plan names.tasks names.certs)
   taskcert_refused (making.no_switch addr fault e) = taskcert_fault (writes_are r _ e) (switch_missing addr fault (text_of r _ _ e (switch_is addr)))
   taskcert_refused (making.refused u rule key addr routine first e) =
       taskcert_fault (writes_are r _ e) (without u rule key addr routine (first_without i p t u rule key addr first) (text_of r _ _ e (task_is rule key addr u)))
@@ -282,11 +284,11 @@ module _ (names : TaskcertNames) (m : Map) (i : ImageData) (p : PlanData) (t : T
       taskcert_fault (writes_are r _ e) (sum_above cs routine (made_each cs as_many made) more (text_of r _ _ e (sum_is (sum_of i p t cs) (p.areas - p.reserve))))
   taskcert_refused (making.certified cs routine as_many made enough safe e) = absurd (refused_undone r is_refused (status_is r _ e))
 
-pub taskcert_refuses : (names : TaskcertNames) → Reports (taskcert_reading names) Refused (RefusalByTaskcert names.elf names.plan names.tasks)
+pub taskcert_refuses : (names : TaskcertNames) → Reports (taskcert_reading names) Refused (RefusalByTaskcert names.elf names.plan names.tasks names.certs)
 taskcert_refuses names m r said refused =
     let good : r.status ≡ BadInput → ⊥ = λ b. bad_unrefused r b refused in
     let i = read said (λ b. good b.status) in
     let p = read i.2 (λ b. good b.status) in
     let t = read p.2 (λ b. good b.status) in
     let many = as_many (length names.certs == count t.0) (answer (IsTaskcerting names.certs i.0 p.0 t.0)) (Some m) r good t.2 in
-    taskcert_refused names m i.0 p.0 t.0 (task_files names.elf names.plan names.tasks m i.0 p.0 t.0 i.1 p.1 t.1) r refused many.1
+    taskcert_refused names m i.0 p.0 t.0 (task_files names.elf names.plan names.tasks m i.0 p.0 t.0 i.1 p.1 t.1) (eqb-true _ _ many.0) r refused many.1

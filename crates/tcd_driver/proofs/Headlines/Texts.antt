@@ -82,6 +82,7 @@ module _ (names : ReportNames) (m : Map) (i : ImageData) (p : PlanData) (c : Cer
       files = check_files m names.elf names.plan names.cert i p c elf plan cert;
       accepted = accepted_of i p c accepted;
       safe = safe;
+      told = refl;
       prints = record { rows = is.rows; prios = is.prios; longest = is.longest; is = text_of r _ _ e is.is };
       stays = refl;
     };

@@ -104,7 +104,8 @@ pub data IsTasksFault (image : ImageData) (plan : PlanData) (list : TasksData) (
       → plan.areas - plan.reserve < sum_of image plan list certs → line ≡ sum_words (sum_of image plan list certs) (plan.areas - plan.reserve)
       → IsTasksFault image plan list certs line
 
--- `tasks` refuses the image, a certificate, or the sum of the needs.
+-- `tasks` refuses the image, a certificate, or the sum of the needs. There is a certificate for each
+-- task.
 pub record RefusalByTasks (elf_name plan_name tasks_name : List ℕ) (cert_names : List (List ℕ)) (before after : Map) (printed : List ℕ) : Type 0 where
   pub image : ImageData
   pub plan : PlanData
@@ -112,6 +113,7 @@ pub record RefusalByTasks (elf_name plan_name tasks_name : List ℕ) (cert_names
   pub certs : List CertData
   pub files : AreTaskFiles before elf_name plan_name tasks_name image plan list
   pub cert_files : HoldEach before (2 ^ 30) (λ bytes cert. certificate_of bytes ≡ Ok cert) cert_names certs
+  pub as_many : length certs ≡ count list
   pub fault : IsTasksFault image plan list certs printed
   pub stays : after ≡ before
 
@@ -171,11 +173,12 @@ pub data IsTaskcertFault (image : ImageData) (plan : PlanData) (list : TasksData
       → plan.areas - plan.reserve < sum_of image plan list certs → line ≡ sum_words (sum_of image plan list certs) (plan.areas - plan.reserve)
       → IsTaskcertFault image plan list line
 
--- `taskcert` refuses the image, a task, or the sum of the needs.
-pub record RefusalByTaskcert (elf_name plan_name tasks_name : List ℕ) (before after : Map) (printed : List ℕ) : Type 0 where
+-- `taskcert` refuses the image, a task, or the sum of the needs. There is a name for each task.
+pub record RefusalByTaskcert (elf_name plan_name tasks_name : List ℕ) (cert_names : List (List ℕ)) (before after : Map) (printed : List ℕ) : Type 0 where
   pub image : ImageData
   pub plan : PlanData
   pub list : TasksData
   pub files : AreTaskFiles before elf_name plan_name tasks_name image plan list
+  pub as_many : length cert_names ≡ count list
   pub fault : IsTaskcertFault image plan list printed
   pub stays : after ≡ before

@@ -11,6 +11,7 @@ use Rattle.tc_script.specs.Numbers.{number_of}
 use Rattle.tc_disasm.specs.Listing.{listing_of}
 use Rattle.depth_cert.specs.declared.keys.Key.{Key}
 use Rattle.depth_cert.specs.Certs.{CertData, count_points}
+use Rattle.cfg_recover.specs.Accepting.{certified_need}
 use Rattle.cfg_recover.specs.Refusals.{IsRefusal}
 use Rattle.tcd_report.specs.Graphs.{AreGraphLines}
 use Rattle.tcd_report.specs.EdgeLaws.{EdgesStand}
@@ -38,7 +39,8 @@ pub record HeadlineOfCfg (elf_name plan_name : List ℕ) (before after : Map) (p
   pub stays : after ≡ before
 
 -- ---- report
--- `report` is done: the certificate is accepted, as for `check`, and the text is its report.
+-- `report` is done: the certificate is accepted, as for `check`, and the text is its report, with
+-- this need.
 pub record HeadlineOfReport (elf_name plan_name cert_name : List ℕ) (before after : Map) (printed : List ℕ) : Type 0 where
   pub image : ImageData
   pub plan : PlanData
@@ -47,6 +49,7 @@ pub record HeadlineOfReport (elf_name plan_name cert_name : List ℕ) (before af
   pub files : AreCheckFiles before elf_name plan_name cert_name image plan cert
   pub accepted : IsAcceptedWith image plan cert need
   pub safe : Safe image plan need
+  pub told : certified_need image plan cert ≡ need
   pub prints : IsReport image plan cert printed
   pub stays : after ≡ before
 
