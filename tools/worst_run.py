@@ -20,9 +20,9 @@ here has to be trusted: what counts is the line that `tcd run` prints.
     --seed N              another choice of what is tried; times differ much
 
 The search is random: it fires interrupts where an entry can still lead to N, others for what their
-handlers change, and lets the devices answer what the code compares with. What needs several words in
-a row from a device, exact words from it at several places, or long counting, may not be found in a
-minute. A script has 100,000 turns, so a longer start hides all after it.
+handlers change, and lets the devices answer what the code compares with. What needs several words
+in a row from a device, exact words from it at several places, or long counting, may not be found in
+a minute. A script has 100,000 turns, so a longer start hides all after it.
 
 Exit status: 0 reached N, 1 not reached, 2 a file or program that can't be used, 5 wrong words.
 """

@@ -324,7 +324,8 @@ class Search:
         x = self.likely(n, low, high)
         if self.draw.random() < 0.4:  # words that several branches want
             others = [x, *(self.likely(n, low, high) for _ in range(self.draw.choice((1, 1, 2))))]
-            return min(others), max(others)
+            ends = (min(others), max(others)), (min(others), high), (low, max(others))
+            return self.draw.choices(ends, (3, 1, 1))[0]
         count = self.draw.choice((1, 1, 2, 2, 3, 4, 5, 8, 8, 13, 16, 32, 64))
         first = max(low, x - self.draw.randrange(count) if self.draw.random() < 0.5 else x)
         return first, min(high, first + count - 1)
