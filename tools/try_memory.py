@@ -17,8 +17,8 @@ bytes. A run passes if
 - status, printed text and files are those of the run in which nothing was refused. Such runs are
   counted.
 
-Every other end is printed: a signal, another status, a line, a changed file. The exit status is then
-1.
+Every other end is printed: a signal, another status, a line, a changed file. The exit status is
+then 1.
 
 The contracts allow a little more: if memory runs out while `ship` or `taskcert` writes, the files
 before may be written. The program makes all its requests before its first write, so no run showed
