@@ -822,19 +822,28 @@ def given_words():
     return reader.parse_args()
 
 
-def main():
-    given = given_words()
-    with tempfile.TemporaryDirectory() as name:
-        program = given.program or built(pathlib.Path(name), given.keep)
-        bench = Bench(program, given.seed, Stub(pathlib.Path(name)))
+def beside_qemu(given, program, folder):
+    """The rows, the sequences, the memory after them. Returns the bench and the size of memory."""
+    stub = Stub(folder)
+    try:
+        bench = Bench(program, given.seed, stub)
         rows = [row for row in readers.ROWS if given.row in (None, row.name)]
         for row in rows:
             bench.row(row, given.each)
         bench.summary(f"each of {len(rows)} rows")
         runs = bench.sequences(given.sequences)
         size = bench.whole_memory()
-        bench.stub.close()
         bench.summary(f"{runs} sequences")
+    finally:
+        stub.close()
+    return bench, size
+
+
+def main():
+    given = given_words()
+    with tempfile.TemporaryDirectory() as name:
+        program = given.program or built(pathlib.Path(name), given.keep)
+        bench, size = beside_qemu(given, program, pathlib.Path(name))
         alone = Bench(program, given.seed)
         alone.alone(given.alone)
         alone.whole_memory()
