@@ -15,8 +15,9 @@ it. A definition comes before those that it uses. The page has two parts:
 2. When it comes: which files are taken, and which certificates are accepted. Part 1 names these
    definitions and doesn't follow them.
 
-A type of src/ is shown as it is declared there. The rows of the instruction table are shown beside
-their meanings. A word of the kit is counted and not followed.
+Above both parts a table says how definitions are written. A type of src/ is shown as it is declared
+there. The rows of the instruction table are shown beside their meanings. The words of the kit are
+listed after each part and not followed.
 
 The script reads the text of the sources and knows no types. A name counts if it is in a definition
 and isn't bound there. So the page may have a definition too many. It lacks a definition that no
@@ -43,9 +44,33 @@ LATER = (
 #: Two lists of one table, which are shown row by row beside each other.
 BESIDE = ("listed", "meanings")
 
+#: How a definition is read, above both parts.
+NOTATION = (
+    (
+        "record R (x : T) where ..",
+        "R of x holds if all its fields hold. A field may name a value: then there is one",
+    ),
+    ("data R (x : T) where ..", "R of x holds if one of its cases does"),
+    ("(x : T) → P", "P for every x of type T"),
+    ("P → Q", "if P then Q; of types, a function from P to Q"),
+    ("P × Q, (x : T) × P", "P and Q; there is an x of type T with P"),
+    ("P ⊎ Q, P ↔ Q, ⊥", "P or Q; P exactly if Q; what never holds"),
+    ("x ≡ y, x ≢ y", "they are equal; they aren't"),
+    ("x == y, x && y, x || y, not x", "tests: each is true or false"),
+    ("f x y", "the function f of x and y"),
+    ("λ x. e", "the function that gives e of x"),
+    ("m.pc, p.0, p.1", "a field of a record; the parts of a pair"),
+    ("record m { pc = x }", "m with another pc; without m, a new record"),
+    ("[], x ∷ xs, xs ++ ys", "a list: empty, x before xs, ys after xs"),
+    ("None, Some x; Ok x, Err e", "nothing or x; a result or an error"),
+    ("slice_index xs n, codes \"..\"", "the place n of a list, from 0; the bytes of a text"),
+    ("abbrev, unfoldable, pub", "words for the prover"),
+)
+
 STYLE = """
 body { max-width: 60em; margin: 2em auto; font-family: sans-serif }
 pre { background: #f4f4f4; padding: .6em; overflow-x: auto }
+td, th { text-align: left; padding-right: 1em }
 a { color: #035; text-decoration: none; border-bottom: 1px dotted }
 .note { color: #060 }
 """
@@ -166,13 +191,13 @@ class Sources:
                 self.read_types(crate.name, path)
 
     def read_types(self, crate, path):
-        """The public types that a file of src/ declares."""
+        """The types that a file of src/ declares for itself and others."""
         text = path.read_text(encoding="utf-8")
         lines = text.split("\n")
         uses = re.findall(r"^use [\w:]+::(\{[^}]*\}|\w+);", text, re.M)
         brought = frozenset(re.findall(r"\w+", " ".join(uses)))
         for at, line in enumerate(lines):
-            found = re.match(r"pub (?:struct|enum) (\w+)", line)
+            found = re.match(r"pub(?:\(crate\))? (?:struct|enum) (\w+)", line)
             if found:
                 shown = [*folded(declaration(lines, at)), *model_value(text, found[1])]
                 notes = notes_above(lines, at)
@@ -448,6 +473,9 @@ def as_markdown(title, parts, said):
     page = [f"# {title}", ""]
     if said:
         page += ["Said by " + ", ".join(f"`{it.name}` ({source_of(it)})" for it in said) + ".", ""]
+    page += ["| Written | Means |", "|---|---|"]
+    page += ["| `{}` | {} |".format(it.replace("|", "\\|"), means) for it, means in NOTATION]
+    page.append("")
     for name, part in parts:
         page += [f"## {name}", "", count_of(part) + ".", ""]
         if part.stopped:
@@ -477,15 +505,23 @@ def as_html(title, parts, said):
     if said:
         names = ", ".join(f"{it.name} ({source_of(it)})" for it in said)
         page.append(f"<p>Said by {names}.</p>")
+    page.append("<table><tr><th>Written<th>Means")
+    for written, means in NOTATION:
+        page.append(f"<tr><td><code>{html.escape(written)}</code><td>{html.escape(means)}")
+    page.append("</table>")
     shown = {it.key for _, part in parts for it in part.items}
     for name, part in parts:
         page.append(f"<h2>{html.escape(name)}</h2><p>{count_of(part)}.</p>")
+        if part.stopped:
+            stopped = dict.fromkeys(f'<a href="#{it.key}">{it.name}</a>' for it in part.stopped)
+            page.append(f"<p>Not followed here: {', '.join(stopped)}.</p>")
         for item in part.items:
             targets = {it.name: it.key for it in part.edges[item.key] if it.key in shown}
             note = "".join(html.escape(line, quote=False) + "\n" for line in item.comment)
             body = "\n".join(linked(line, targets) for line in part.shown(item))
             page.append(f'<h4 id="{item.key}">{item.name} <small>{source_of(item)}</small></h4>')
             page.append(f'<pre><span class="note">{note}</span>{body}</pre>')
+        page.append(f"<p>Words of the kit: {html.escape(', '.join(sorted(part.kit)))}.</p>")
     return "\n".join(page) + "\n"
 
 
