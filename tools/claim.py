@@ -29,6 +29,7 @@ import argparse
 import collections
 import dataclasses
 import html
+import os
 import pathlib
 import re
 import sys
@@ -599,7 +600,11 @@ def main(words):
     except OSError as fault:
         print(f"claim.py: {fault.filename}: {fault.strerror}", file=sys.stderr)
         return 2
-    print_counts(parts)
+    try:
+        print_counts(parts)
+        sys.stdout.flush()
+    except BrokenPipeError:  # the reader, such as `head`, has seen enough
+        os.dup2(os.open(os.devnull, os.O_WRONLY), sys.stdout.fileno())
     return 0
 
 
