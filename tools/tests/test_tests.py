@@ -1,4 +1,4 @@
-"""Unit tests of the scripts that try the rest: test.py, schema.py, try_shown.py, try_page.py."""
+"""Unit tests of the scripts that try the rest: test.py, schema.py, try_pages.py, try_page.py."""
 import pathlib
 import sys
 import unittest
@@ -9,7 +9,7 @@ sys.path.insert(0, str(TOOLS))
 import schema
 import test as whole
 import try_page
-import try_shown
+import try_pages
 
 
 class Counts(unittest.TestCase):
@@ -62,27 +62,29 @@ class Schemas(unittest.TestCase):
 
 class Documents(unittest.TestCase):
     TEXT = """\
-Some text.
+Some text
+of two lines.
 
     cp -rT examples/one_call /tmp/one && cd /tmp/one
-    tcd asm main.s main.o      # object 203 bytes
+    tcd asm main.s main.o  # object 203 bytes
+
     tcd dis firmware.elf
 
-Other blocks aren't run:
+`main.s` of `examples/one_call`:
 
-    tcd asm main.s main.o
+    main: j .+0
 """
 
     def test_blocks(self):
-        rows = [row for block in try_shown.blocks(self.TEXT) for row in try_shown.shown(block)]
-        words = ["asm", "main.s", "main.o"]
-        wanted = [(3, "copy", "one_call", None), (4, "tcd", words, "object 203 bytes")]
-        self.assertEqual(rows, [*wanted, (5, "tcd", ["dis", "firmware.elf"], None)])
+        first, second = try_pages.blocks(self.TEXT)
+        copy = "cp -rT examples/one_call /tmp/one && cd /tmp/one"
+        lines = [copy, "tcd asm main.s main.o  # object 203 bytes", "tcd dis firmware.elf"]
+        self.assertEqual(first, ("Some text of two lines.", lines))
+        self.assertEqual(second, ("`main.s` of `examples/one_call`:", ["main: j .+0"]))
 
-    def test_fences(self):
-        text = "```\ntcd asm a.s a.o # object 1 bytes\n```\ntcd\n"
-        rows = [row for block in try_shown.blocks(text) for row in try_shown.shown(block)]
-        self.assertEqual(rows, [(2, "tcd", ["asm", "a.s", "a.o"], "object 1 bytes")])
+    def test_comments_are_no_statements(self):
+        lines = ["# a", "mov  d0, 1 # b", "", "j .+0"]
+        self.assertEqual(try_pages.code(lines), ["mov d0, 1", "j .+0"])
 
 
 class Pages(unittest.TestCase):
