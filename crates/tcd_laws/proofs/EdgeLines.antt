@@ -16,7 +16,7 @@ use Rattle.depth_cert.specs.declared.keys.Key.{Key}
 use Rattle.depth_cert.specs.declared.points.Point.{Point}
 use Rattle.depth_cert.specs.Nodes.{NodeData}
 use Rattle.depth_cert.specs.Certs.{CertData, IsCert}
-use Rattle.cfg_recover.specs.Frames.{Way, to, call, irq, sys, aln}
+use Rattle.cfg_recover.specs.Frames.{Way, to, call, irq, sys, aln, ret, rfe}
 use Rattle.depth_check.proofs.Sound.{accepted_is_safe}
 use Rattle.depth_check.proofs.Held.{edges_are_owed}
 use Rattle.tcd_text.specs.Digits.{hex_digit, hex_byte, hex_word}
@@ -109,7 +109,8 @@ way_line (call q) = ended (codes "call ") q (record { none = refl })
 way_line (irq q) = ended (codes "irq ") q (record { none = refl })
 way_line (sys q) = ended (codes "sys ") q (record { none = refl })
 way_line (aln q) = ended (codes "aln ") q (record { none = refl })
-way_line it = record { body = codes "it"; are = refl; plain = record { none = refl } }
+way_line ret = record { body = codes "ret"; are = refl; plain = record { none = refl } }
+way_line rfe = record { body = codes "rfe"; are = refl; plain = record { none = refl } }
 
 arrow_line : (a : Arrow) → IsLine (arrow_end a)
 arrow_line (goes w) = way_line w
