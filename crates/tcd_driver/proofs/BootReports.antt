@@ -1,5 +1,5 @@
 -- What `boot` reports.
-use Rattle.std.proofs.Common.{◌≡◌, ◌≢◌, ◌-◌, ℕ, [], sym, ap, subst, ◌∙◌}
+use Rattle.std.proofs.Common.{◌≡◌, ◌≢◌, ◌-◌, ℕ, [], sym, ap, subst, ◌∙◌, inl, inr}
 use Rattle.elf_image.specs.Images.{ImageData, IsImage}
 use Rattle.tcd_plan.specs.PlanData.{PlanData, IsPlan}
 use Rattle.tc_machine.specs.Safe.{Safe}
@@ -10,17 +10,17 @@ use Rattle.tc_boot.specs.Sequence.{boot_events}
 use Rattle.tc_boot.specs.Reset.{HasBoot}
 use Rattle.tc_boot.proofs.BootWhole.{safe_boots}
 use Rattle.tc_boot.proofs.JudgeOne.{not_both}
-use Rattle.tcd_reading.specs.Reports.{Report, says}
+use Rattle.tcd_reading.specs.Reports.{IsReportStatus, Report, says}
 use Rattle.tcd_forms.specs.Results.{boots_line}
 use Rattle.tcd_driver.specs.Boot.{IsBootVerdict, refused, unbooted, boots}
-use Rattle.tcd_reading.specs.declared.status.Status.TheVariants.{Done, Refused, BadWords}
+use Rattle.tcd_reading.specs.declared.status.Status.TheVariants.{Done, Refused}
 use Rattle.tcd_reading.proofs.Decided.{AreAlike, status_is, writes_are}
 
 module _ (i : ImageData) (p : PlanData) (c : CertData) (at : ℕ) where
-  words : (r : Report) → IsBootVerdict i p c at r → r.status ≡ BadWords → ⊥
-  words r (refused rule key addr first e) b = let f : Refused ≡ BadWords = sym (status_is r _ e) ∙ b in cc
-  words r (unbooted err accepted judged e) b = let f : Refused ≡ BadWords = sym (status_is r _ e) ∙ b in cc
-  words r (boots accepted has safe e) b = let f : Done ≡ BadWords = sym (status_is r _ e) ∙ b in cc
+  told : (r : Report) → IsBootVerdict i p c at r → IsReportStatus r.status
+  told r (refused rule key addr first e) = inr (inl (status_is r _ e))
+  told r (unbooted err accepted judged e) = inr (inl (status_is r _ e))
+  told r (boots accepted has safe e) = inl (status_is r _ e)
 
   done : (r : Report) → IsBootVerdict i p c at r → r.status ≢ Done → r.writes ≡ []
   done r (refused rule key addr first e) undone = writes_are r _ e
@@ -39,7 +39,7 @@ module _ (i : ImageData) (p : PlanData) (c : CertData) (at : ℕ) where
   one r q (boots accepted has safe e) (boots accepted2 has2 safe2 f) = status_is r _ e ∙ sym (status_is q _ f)
 
   pub boot_alike : AreAlike (IsBootVerdict i p c at)
-  boot_alike = record { words = words; done = done; one = one }
+  boot_alike = record { told = told; done = done; one = one }
 
 -- both tests are good
 pub boots_report : (parts i : ImageData) (fields p : PlanData) (c : CertData) (at events need : ℕ) (r : Report) → parts ≡ i → IsImage parts → fields ≡ p → IsPlan fields → Accepts i p c → need ≡ certified_need i p c → Safe i p need

@@ -1,5 +1,5 @@
 -- What `cellcert` reports.
-use Rattle.std.proofs.Common.{◌≡◌, ◌≢◌, ◌≤◌, ◌-◌, ◌^◌, ℕ, List, [], length, Ok, sym, ap, subst, ◌∙◌}
+use Rattle.std.proofs.Common.{◌≡◌, ◌≢◌, ◌≤◌, ◌-◌, ◌^◌, ℕ, List, [], length, Ok, sym, ap, subst, ◌∙◌, inl, inr}
 use Rattle.elf_image.specs.Images.{ImageData}
 use Rattle.tcd_plan.specs.PlanData.{PlanData, IsPlan}
 use Rattle.tc_machine.specs.Safe.{Safe}
@@ -21,11 +21,11 @@ use Rattle.value_cells.specs.Keeping.{KeepsCells, BreaksCells, IsFirstBreak}
 use Rattle.value_cells.proofs.CellPlan.{IsPlan-with_cells}
 use Rattle.value_cells.proofs.CellSafe.{cells_keep}
 use Rattle.value_cells.proofs.GrowthLaws.{cell_faults_grow, cell_faults_refute}
-use Rattle.tcd_reading.specs.Reports.{Report, says, writes_file}
+use Rattle.tcd_reading.specs.Reports.{IsReportStatus, Report, says, writes_file}
 use Rattle.tcd_forms.specs.Lines.{refused_line}
 use Rattle.tcd_forms.specs.Results.{certified_cells_line}
 use Rattle.tcd_driver.specs.Cellcert.{NoneKeepsCells, IsCertifyingCells, refused, broken, certified}
-use Rattle.tcd_reading.specs.declared.status.Status.TheVariants.{Done, Refused, BadWords}
+use Rattle.tcd_reading.specs.declared.status.Status.TheVariants.{Done, Refused}
 use Rattle.tcd_reading.proofs.Decided.{AreAlike, status_is, writes_are}
 use Rattle.tcd_driver.proofs.MakingLaws.{same_cert}
 
@@ -92,10 +92,10 @@ module _ (name : List ℕ) (i : ImageData) (fields p : PlanData) (cells : List C
 
 -- ---- reports are alike
 module _ (name : List ℕ) (i : ImageData) (p : PlanData) (cells : List Cell) where
-  words : (r : Report) → IsCertifyingCells name i p cells r → r.status ≡ BadWords → ⊥
-  words r (refused rule key addr none why e) b = let f : Refused ≡ BadWords = sym (status_is r _ e) ∙ b in cc
-  words r (broken c key addr none is made first e) b = let f : Refused ≡ BadWords = sym (status_is r _ e) ∙ b in cc
-  words r (certified c is made keeps safe e) b = let f : Done ≡ BadWords = sym (status_is r _ e) ∙ b in cc
+  told : (r : Report) → IsCertifyingCells name i p cells r → IsReportStatus r.status
+  told r (refused rule key addr none why e) = inr (inl (status_is r _ e))
+  told r (broken c key addr none is made first e) = inr (inl (status_is r _ e))
+  told r (certified c is made keeps safe e) = inl (status_is r _ e)
 
   done : (r : Report) → IsCertifyingCells name i p cells r → r.status ≢ Done → r.writes ≡ []
   done r (refused rule key addr none why e) undone = writes_are r _ e
@@ -114,4 +114,4 @@ module _ (name : List ℕ) (i : ImageData) (p : PlanData) (cells : List Cell) wh
   one r q (certified c is made keeps safe e) (certified c2 is2 made2 keeps2 safe2 f) = status_is r _ e ∙ sym (status_is q _ f)
 
   pub cellcert_alike : AreAlike (IsCertifyingCells name i p cells)
-  cellcert_alike = record { words = words; done = done; one = one }
+  cellcert_alike = record { told = told; done = done; one = one }

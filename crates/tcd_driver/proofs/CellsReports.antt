@@ -1,5 +1,5 @@
 -- What `cells` reports.
-use Rattle.std.proofs.Common.{◌≡◌, ◌≢◌, ◌-◌, ℕ, List, [], length, Ok, Err, sym, ap, subst, ◌∙◌}
+use Rattle.std.proofs.Common.{◌≡◌, ◌≢◌, ◌-◌, ℕ, List, [], length, Ok, Err, sym, ap, subst, ◌∙◌, inl, inr}
 use Rattle.elf_image.specs.Images.{ImageData}
 use Rattle.tcd_plan.specs.PlanData.{PlanData, IsPlan}
 use Rattle.tc_machine.specs.Safe.{Safe}
@@ -14,11 +14,11 @@ use Rattle.value_cells.specs.Keeping.{KeepsCells, BreaksCells, breaks_at}
 use Rattle.value_cells.proofs.CellPlan.{IsPlan-with_cells}
 use Rattle.value_cells.proofs.CellSafe.{cells_keep}
 use Rattle.value_cells.proofs.ReadOne.{reads_one}
-use Rattle.tcd_reading.specs.Reports.{Report, says}
+use Rattle.tcd_reading.specs.Reports.{IsReportStatus, Report, says}
 use Rattle.tcd_driver.specs.Forms.{cells_form}
 use Rattle.tcd_forms.specs.Results.{certified_cells_line}
 use Rattle.tcd_driver.specs.Cells.{IsCellsVerdict, refused, broken, certified}
-use Rattle.tcd_reading.specs.declared.status.Status.TheVariants.{Done, Refused, BadWords}
+use Rattle.tcd_reading.specs.declared.status.Status.TheVariants.{Done, Refused}
 use Rattle.tcd_reading.proofs.Decided.{AreAlike, IsLawful, status_is, writes_are}
 
 -- a text is cells, or none
@@ -32,10 +32,10 @@ breaks_refute : (i : ImageData) (p : PlanData) (cells : List Cell) (c : CertData
 breaks_refute i p cells c _ _ (breaks_at node point member stands wrong) keeps = wrong (keeps node point member stands)
 
 module _ (i : ImageData) (p : PlanData) (cells : List Cell) (c : CertData) where
-  words : (r : Report) → IsCellsVerdict i p cells c r → r.status ≡ BadWords → ⊥
-  words r (refused rule key addr first e) b = let f : Refused ≡ BadWords = sym (status_is r _ e) ∙ b in cc
-  words r (broken key addr accepted breaks e) b = let f : Refused ≡ BadWords = sym (status_is r _ e) ∙ b in cc
-  words r (certified accepted keeps safe e) b = let f : Done ≡ BadWords = sym (status_is r _ e) ∙ b in cc
+  told : (r : Report) → IsCellsVerdict i p cells c r → IsReportStatus r.status
+  told r (refused rule key addr first e) = inr (inl (status_is r _ e))
+  told r (broken key addr accepted breaks e) = inr (inl (status_is r _ e))
+  told r (certified accepted keeps safe e) = inl (status_is r _ e)
 
   done : (r : Report) → IsCellsVerdict i p cells c r → r.status ≢ Done → r.writes ≡ []
   done r (refused rule key addr first e) undone = writes_are r _ e
@@ -54,7 +54,7 @@ module _ (i : ImageData) (p : PlanData) (cells : List Cell) (c : CertData) where
   one r q (certified accepted keeps safe e) (certified accepted2 keeps2 safe2 f) = status_is r _ e ∙ sym (status_is q _ f)
 
   pub cells_alike : AreAlike (IsCellsVerdict i p cells c)
-  cells_alike = record { words = words; done = done; one = one }
+  cells_alike = record { told = told; done = done; one = one }
 
 -- the rules accept the certificate, and it keeps the cells
 pub cells_report : (i : ImageData) (fields p : PlanData) (cells : List Cell) (parts c : CertData) (need count : ℕ) (r : Report) → fields ≡ p → IsPlan fields → AreCells p cells → parts ≡ c → IsCert parts

@@ -1,5 +1,5 @@
 -- What each command reports, once its inputs are read.
-use Rattle.std.proofs.Common.{◌≡◌, ◌≢◌, ◌-◌, ℕ, List, [], length, Option, Some, None, Result, Ok, Err, refl, sym, ap, subst, ◌∙◌}
+use Rattle.std.proofs.Common.{◌≡◌, ◌≢◌, ◌-◌, ℕ, List, [], length, Option, Some, None, Result, Ok, Err, refl, sym, ap, subst, ◌∙◌, inl, inr}
 use Rattle.std.specs.Prelude.{IfOk, IfSome, IsOkAnd}
 use Rattle.elf_image.specs.Images.{ImageData}
 use Rattle.tcd_plan.specs.PlanData.{PlanData}
@@ -18,7 +18,7 @@ use Rattle.tc_link.specs.Linked.{Refusal, image_of_objects}
 use Rattle.tc_link.specs.Errors.{refusal_of}
 use Rattle.tc_link.specs.declared.errors.LinkErr.{LinkErr}
 use Rattle.tc_link.specs.declared.errors.LinkErr.TheVariants as error
-use Rattle.tcd_reading.specs.Reports.{Report, says, writes_file}
+use Rattle.tcd_reading.specs.Reports.{IsReportStatus, Report, says, writes_file}
 use Rattle.tcd_forms.specs.Lines.{certified_line, run_line, link_line}
 use Rattle.tcd_forms.specs.Forms.{object_form, placed_source_form}
 use Rattle.tcd_driver.specs.Check as verdict
@@ -26,7 +26,7 @@ use Rattle.tcd_driver.specs.Check.{IsVerdict}
 use Rattle.tcd_driver.specs.Run.{IsRun, ran, told_run}
 use Rattle.tcd_driver.specs.Link.{IsLinked, WritesImage, refused, image}
 use Rattle.tcd_driver.specs.Commands.{Command, check, certify, cfg, report, run, dis, asm, link, ship, boot, bootgen, cells, cellcert, tasks, taskcert, generate, reading_of}
-use Rattle.tcd_reading.specs.declared.status.Status.TheVariants.{Done, Refused, BadInput, BadWords}
+use Rattle.tcd_reading.specs.declared.status.Status.TheVariants.{Done, Refused, BadInput}
 use Rattle.tcd_forms.proofs.FormLaws.{elf_lawful, plan_lawful, cert_lawful, script_lawful, source_lawful, layout_lawful, object_lawful, placed_source_lawful, ok_err}
 use Rattle.tcd_driver.proofs.LinkLaws.{none_memory, line_told}
 use Rattle.tcd_driver.proofs.MakingLaws.{certifying_alike}
@@ -43,16 +43,16 @@ use Rattle.tcd_reading.proofs.Decided.{AreAlike, IsDecided, decided_input, decid
 -- one report that is done
 only_one : (q : Report) → q.status ≡ Done → AreAlike (λ r. r ≡ q)
 only_one q done = record {
-  words = λ r e b. let f : Done ≡ BadWords = sym done ∙ sym (status_is r q e) ∙ b in cc;
+  told = λ r e. inl (status_is r q e ∙ done);
   done = λ r e undone. absurd (undone (status_is r q e ∙ done));
   one = λ r p e f. status_is r q e ∙ sym (status_is p q f);
 }
 
 -- ---- check
 module _ (i : ImageData) (p : PlanData) (c : CertData) where
-  verdict_words : (r : Report) → IsVerdict i p c r → r.status ≡ BadWords → ⊥
-  verdict_words r (verdict.refused rule key addr first e) b = let f : Refused ≡ BadWords = sym (status_is r _ e) ∙ b in cc
-  verdict_words r (verdict.certified accepted safe e) b = let f : Done ≡ BadWords = sym (status_is r _ e) ∙ b in cc
+  verdict_told : (r : Report) → IsVerdict i p c r → IsReportStatus r.status
+  verdict_told r (verdict.refused rule key addr first e) = inr (inl (status_is r _ e))
+  verdict_told r (verdict.certified accepted safe e) = inl (status_is r _ e)
 
   verdict_done : (r : Report) → IsVerdict i p c r → r.status ≢ Done → r.writes ≡ []
   verdict_done r (verdict.refused rule key addr first e) undone = writes_are r _ e
@@ -65,7 +65,7 @@ module _ (i : ImageData) (p : PlanData) (c : CertData) where
   verdict_one r q (verdict.certified accepted safe e) (verdict.certified accepted2 safe2 f) = status_is r _ e ∙ sym (status_is q _ f)
 
   verdict_alike : AreAlike (IsVerdict i p c)
-  verdict_alike = record { words = verdict_words; done = verdict_done; one = verdict_one }
+  verdict_alike = record { told = verdict_told; done = verdict_done; one = verdict_one }
 
 pub certified_report : (i : ImageData) (fields p : PlanData) (c : CertData) (need : ℕ) (r : Report) → fields ≡ p → Accepts i p c → need ≡ certified_need i p c → Safe i p need → r ≡ says Done (certified_line need (fields.areas - fields.reserve)) → IsVerdict i p c r
 certified_report i fields p c need r same accepted is safe e =
@@ -81,7 +81,7 @@ run_writes i p s r (ran m starts e) = writes_are r _ e
 
 run_alike : (i : ImageData) (p : PlanData) (s : ScriptData) → AreAlike (IsRun i p s)
 run_alike i p s = record {
-  words = λ r h b. let f : Done ≡ BadWords = sym (run_status i p s r h) ∙ b in cc;
+  told = λ r h. inl (run_status i p s r h);
   done = λ r h undone. run_writes i p s r h;
   one = λ r q h k. run_status i p s r h ∙ sym (run_status i p s q k);
 }
@@ -94,9 +94,9 @@ told_is plan script old new done h =
 
 -- ---- link
 module _ (name : List ℕ) (l : LayoutData) (objects : List ObjectData) where
-  linked_words : (r : Report) → IsLinked name l objects r → r.status ≡ BadWords → ⊥
-  linked_words r (refused q is e) b = let f : BadInput ≡ BadWords = sym (status_is r _ e) ∙ b in cc
-  linked_words r (image i is e) b = let f : Done ≡ BadWords = sym (status_is r _ e) ∙ b in cc
+  linked_told : (r : Report) → IsLinked name l objects r → IsReportStatus r.status
+  linked_told r (refused q is e) = inr (inr (status_is r _ e))
+  linked_told r (image i is e) = inl (status_is r _ e)
 
   linked_done : (r : Report) → IsLinked name l objects r → r.status ≢ Done → r.writes ≡ []
   linked_done r (refused q is e) undone = writes_are r _ e
@@ -109,7 +109,7 @@ module _ (name : List ℕ) (l : LayoutData) (objects : List ObjectData) where
   linked_one r q (image i is e) (image j is2 f) = status_is r _ e ∙ sym (status_is q _ f)
 
   linked_alike : AreAlike (IsLinked name l objects)
-  linked_alike = record { words = linked_words; done = linked_done; one = linked_one }
+  linked_alike = record { told = linked_told; done = linked_done; one = linked_one }
 
 pub linked_image : (name : List ℕ) (l : LayoutData) (objects : List ObjectData) (i : ImageData) (r : Report) → image_of_objects objects l ≡ Ok i → WritesImage name i r → IsLinked name l objects r
 linked_image name l objects i r is writes = image i is writes

@@ -1,5 +1,5 @@
 -- What `gen` reports.
-use Rattle.std.proofs.Common.{◌≡◌, ◌≢◌, ◌≤◌, ◌-◌, ◌^◌, ℕ, List, [], length, Result, Ok, sym, ap, subst, ◌∙◌, arith}
+use Rattle.std.proofs.Common.{◌≡◌, ◌≢◌, ◌≤◌, ◌-◌, ◌^◌, ℕ, List, [], length, Result, Ok, sym, ap, subst, ◌∙◌, arith, inl, inr}
 use Rattle.elf_image.specs.Images.{ImageData}
 use Rattle.elf_image.specs.Elf.{image_of}
 use Rattle.elf_image.specs.declared.errors.ImageErr.{ImageErr}
@@ -27,17 +27,17 @@ use Rattle.depth_maker.specs.Making.{IsMade}
 use Rattle.depth_maker.specs.Made.{AreMade, IsRefused}
 use Rattle.depth_maker.specs.declared.answering.MakeErr.{MakeErr}
 use Rattle.depth_maker.specs.declared.answering.MakeErr.TheVariants as make
-use Rattle.tcd_reading.specs.Reports.{Report, says}
+use Rattle.tcd_reading.specs.Reports.{IsReportStatus, Report, says}
 use Rattle.tcd_forms.specs.Lines.{refused_line}
 use Rattle.tcd_forms.specs.Results.{generated_line}
 use Rattle.tcd_driver.specs.Gen.{IsSummary, refused, certified}
-use Rattle.tcd_reading.specs.declared.status.Status.TheVariants.{Done, Refused, BadWords}
+use Rattle.tcd_reading.specs.declared.status.Status.TheVariants.{Done, Refused}
 use Rattle.tcd_reading.proofs.Decided.{AreAlike, status_is, writes_are}
 
 module _ (n : ℕ) (i : ImageData) (p : PlanData) where
-  summary_words : (r : Report) → IsSummary n i p r → r.status ≡ BadWords → ⊥
-  summary_words r (refused rule key addr none why e) b = let f : Refused ≡ BadWords = sym (status_is r _ e) ∙ b in cc
-  summary_words r (certified c is made safe e) b = let f : Done ≡ BadWords = sym (status_is r _ e) ∙ b in cc
+  summary_told : (r : Report) → IsSummary n i p r → IsReportStatus r.status
+  summary_told r (refused rule key addr none why e) = inr (inl (status_is r _ e))
+  summary_told r (certified c is made safe e) = inl (status_is r _ e)
 
   summary_done : (r : Report) → IsSummary n i p r → r.status ≢ Done → r.writes ≡ []
   summary_done r (refused rule key addr none why e) undone = writes_are r _ e
@@ -50,7 +50,7 @@ module _ (n : ℕ) (i : ImageData) (p : PlanData) where
   summary_one r q (certified c is made safe e) (certified c2 is2 made2 safe2 f) = status_is r _ e ∙ sym (status_is q _ f)
 
   pub summary_alike : AreAlike (IsSummary n i p)
-  summary_alike = record { words = summary_words; done = summary_done; one = summary_one }
+  summary_alike = record { told = summary_told; done = summary_done; one = summary_one }
 
 -- no certificate is accepted, and why
 pub refused_report : (n : ℕ) (i : ImageData) (p : PlanData) (rule : ℕ) (key : Key) (addr : ℕ) (e : MakeErr) (r : Report) → e ≡ make.Refused rule key addr → IsRefused i p 1 e → r ≡ says Refused (refused_line rule key addr) → IsSummary n i p r

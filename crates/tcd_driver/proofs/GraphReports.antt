@@ -1,5 +1,5 @@
 -- What `cfg` and `report` tell.
-use Rattle.std.proofs.Common.{◌≡◌, ◌≢◌, ◌≤◌, ◌<◌, ◌^◌, ℕ, List, [], length, Result, Ok, Err, sym, subst, ◌∙◌}
+use Rattle.std.proofs.Common.{◌≡◌, ◌≢◌, ◌≤◌, ◌<◌, ◌^◌, ℕ, List, [], length, Result, Ok, Err, sym, subst, ◌∙◌, inl, inr}
 use Rattle.std.specs.Prelude.{IfOk, IsOkAnd}
 use Rattle.tcd_base.specs.declared.errors.FormErr.{FormErr}
 use Rattle.elf_image.specs.Images.{ImageData}
@@ -10,13 +10,13 @@ use Rattle.depth_check.proofs.FirstLaws.{fails_refutes}
 use Rattle.depth_check.proofs.Held.{edges_are_owed}
 use Rattle.tcd_report.specs.Graphs.{IsGraph}
 use Rattle.tcd_report.proofs.EdgeProofs.{edges_stand}
-use Rattle.tcd_reading.specs.Reports.{Report, says}
+use Rattle.tcd_reading.specs.Reports.{IsReportStatus, Report, says}
 use Rattle.tcd_driver.specs.Made.{IsCertified, SpellBest}
 use Rattle.tcd_driver.specs.Cfg as cfg
 use Rattle.tcd_driver.specs.Cfg.{IsDrawn, IsDrawing, SpellOne}
 use Rattle.tcd_driver.specs.Reporting as reporting
 use Rattle.tcd_driver.specs.Reporting.{IsReporting}
-use Rattle.tcd_reading.specs.declared.status.Status.TheVariants.{Done, Refused, BadWords}
+use Rattle.tcd_reading.specs.declared.status.Status.TheVariants.{Done, Refused}
 use Rattle.tcd_reading.proofs.Decided.{AreAlike, status_is, writes_are}
 use Rattle.tcd_driver.proofs.MakingLaws.{none_best, best_most, best_read, spelled_is_read}
 
@@ -53,9 +53,9 @@ graph_drawn i p c text entry plan is g = record {
 }
 
 module _ (i : ImageData) (p : PlanData) where
-  drawing_words : (r : Report) → IsDrawing i p r → r.status ≡ BadWords → ⊥
-  drawing_words r (cfg.refused rule key addr none e) b = let f : Refused ≡ BadWords = sym (status_is r _ e) ∙ b in cc
-  drawing_words r (cfg.drawn text is e) b = let f : Done ≡ BadWords = sym (status_is r _ e) ∙ b in cc
+  drawing_told : (r : Report) → IsDrawing i p r → IsReportStatus r.status
+  drawing_told r (cfg.refused rule key addr none e) = inr (inl (status_is r _ e))
+  drawing_told r (cfg.drawn text is e) = inl (status_is r _ e)
 
   drawing_done : (r : Report) → IsDrawing i p r → r.status ≢ Done → r.writes ≡ []
   drawing_done r (cfg.refused rule key addr none e) undone = writes_are r _ e
@@ -68,13 +68,13 @@ module _ (i : ImageData) (p : PlanData) where
   drawing_one r q (cfg.drawn text is e) (cfg.drawn text2 is2 f) = status_is r _ e ∙ sym (status_is q _ f)
 
   pub drawing_alike : AreAlike (IsDrawing i p)
-  drawing_alike = record { words = drawing_words; done = drawing_done; one = drawing_one }
+  drawing_alike = record { told = drawing_told; done = drawing_done; one = drawing_one }
 
 -- ---- report
 module _ (i : ImageData) (p : PlanData) (c : CertData) where
-  reporting_words : (r : Report) → IsReporting i p c r → r.status ≡ BadWords → ⊥
-  reporting_words r (reporting.refused rule key addr first e) b = let f : Refused ≡ BadWords = sym (status_is r _ e) ∙ b in cc
-  reporting_words r (reporting.reported text accepted safe is e) b = let f : Done ≡ BadWords = sym (status_is r _ e) ∙ b in cc
+  reporting_told : (r : Report) → IsReporting i p c r → IsReportStatus r.status
+  reporting_told r (reporting.refused rule key addr first e) = inr (inl (status_is r _ e))
+  reporting_told r (reporting.reported text accepted safe is e) = inl (status_is r _ e)
 
   reporting_done : (r : Report) → IsReporting i p c r → r.status ≢ Done → r.writes ≡ []
   reporting_done r (reporting.refused rule key addr first e) undone = writes_are r _ e
@@ -87,4 +87,4 @@ module _ (i : ImageData) (p : PlanData) (c : CertData) where
   reporting_one r q (reporting.reported text accepted safe is e) (reporting.reported text2 accepted2 safe2 is2 f) = status_is r _ e ∙ sym (status_is q _ f)
 
   pub reporting_alike : AreAlike (IsReporting i p c)
-  reporting_alike = record { words = reporting_words; done = reporting_done; one = reporting_one }
+  reporting_alike = record { told = reporting_told; done = reporting_done; one = reporting_one }

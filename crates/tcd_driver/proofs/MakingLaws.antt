@@ -1,5 +1,5 @@
 -- What the commands that make a certificate report.
-use Rattle.std.proofs.Common.{◌≡◌, ◌≢◌, ◌≤◌, ◌-◌, ◌^◌, ℕ, List, [], length, Result, Ok, Err, sym, ap, subst, ◌∙◌}
+use Rattle.std.proofs.Common.{◌≡◌, ◌≢◌, ◌≤◌, ◌-◌, ◌^◌, ℕ, List, [], length, Result, Ok, Err, sym, ap, subst, ◌∙◌, inl, inr}
 use Rattle.elf_image.specs.Images.{ImageData}
 use Rattle.tcd_plan.specs.PlanData.{PlanData}
 use Rattle.depth_cert.specs.Certs.{CertData, IsCert}
@@ -13,13 +13,13 @@ use Rattle.cfg_recover.specs.Accepting.{Accepts, IsFirstFault, certified_need}
 use Rattle.cfg_recover.proofs.FaultLaws.{fails_refutes}
 use Rattle.depth_cert.specs.declared.keys.Key.{Key}
 use Rattle.depth_maker.specs.Making.{NoneAccepted}
-use Rattle.tcd_reading.specs.Reports.{Report, writes_file}
+use Rattle.tcd_reading.specs.Reports.{IsReportStatus, Report, writes_file}
 use Rattle.tcd_forms.specs.Lines.{certified_line}
 use Rattle.depth_maker.specs.Made.{AreMade}
 use Rattle.tcd_driver.specs.Made.{IsBest, first, second, SpellBest, SpellCertified}
 use Rattle.tcd_driver.specs.Cert as made
 use Rattle.tcd_driver.specs.Cert.{IsCertifying}
-use Rattle.tcd_reading.specs.declared.status.Status.TheVariants.{Done, Refused, BadWords}
+use Rattle.tcd_reading.specs.declared.status.Status.TheVariants.{Done, Refused}
 use Rattle.tcd_reading.proofs.Decided.{AreAlike, status_is, writes_are}
 
 -- a certificate is of one of the versions of which none is accepted, or none is made
@@ -98,9 +98,9 @@ made_has_no_fault i p version read bytes rule key addr m is_read told =
     spelled_has_no_fault i p m.cert read bytes rule key addr m.is_cert m.spell (m.made).accepted is_read told
 
 module _ (name : List ℕ) (i : ImageData) (p : PlanData) where
-  certifying_words : (r : Report) → IsCertifying name i p r → r.status ≡ BadWords → ⊥
-  certifying_words r (made.refused rule key addr none e) b = let f : Refused ≡ BadWords = sym (status_is r _ e) ∙ b in cc
-  certifying_words r (made.certified c is e) b = let f : Done ≡ BadWords = sym (status_is r _ e) ∙ b in cc
+  certifying_told : (r : Report) → IsCertifying name i p r → IsReportStatus r.status
+  certifying_told r (made.refused rule key addr none e) = inr (inl (status_is r _ e))
+  certifying_told r (made.certified c is e) = inl (status_is r _ e)
 
   certifying_done : (r : Report) → IsCertifying name i p r → r.status ≢ Done → r.writes ≡ []
   certifying_done r (made.refused rule key addr none e) undone = writes_are r _ e
@@ -113,4 +113,4 @@ module _ (name : List ℕ) (i : ImageData) (p : PlanData) where
   certifying_one r q (made.certified c is e) (made.certified c2 is2 f) = status_is r _ e ∙ sym (status_is q _ f)
 
   pub certifying_alike : AreAlike (IsCertifying name i p)
-  certifying_alike = record { words = certifying_words; done = certifying_done; one = certifying_one }
+  certifying_alike = record { told = certifying_told; done = certifying_done; one = certifying_one }

@@ -1,5 +1,5 @@
 -- What `ship` reports, and the sources that it reads.
-use Rattle.std.proofs.Common.{◌≡◌, ◌≢◌, ◌≤◌, ◌+◌, ◌-◌, ℕ, List, [], ◌∷◌, ◌++◌, length, Option, Some, None, Result, Ok, Err, refl, sym, ap, subst, ◌∙◌}
+use Rattle.std.proofs.Common.{◌≡◌, ◌≢◌, ◌≤◌, ◌+◌, ◌-◌, ℕ, List, [], ◌∷◌, ◌++◌, length, Option, Some, None, Result, Ok, Err, refl, sym, ap, subst, ◌∙◌, inl, inr}
 use Rattle.std.specs.Prelude.{IfOk, IfSome, IsOkAnd, slice_get}
 use Rattle.std.proofs.lemmas.List.{length-append}
 use Rattle.elf_image.specs.Images.{ImageData}
@@ -18,14 +18,14 @@ use Rattle.tc_link.specs.declared.errors.LinkErr.TheVariants as error
 use Rattle.tc_program.specs.Laws.{AreAssembled}
 use Rattle.tc_program.proofs.Whole.{placed_law}
 use Rattle.tcd_base.specs.Files.{FilesSeen, LeavesFiles}
-use Rattle.tcd_reading.specs.Reports.{Report, Written, says, writes_two}
+use Rattle.tcd_reading.specs.Reports.{IsReportStatus, Report, Written, says, writes_two}
 use Rattle.tcd_reading.specs.Inputs.{HoldsInput, each, answer}
 use Rattle.tcd_forms.specs.Forms.{SourceData, IsSource, placed_source_form}
 use Rattle.tcd_forms.specs.Lines.{link_line, certified_line}
 use Rattle.tcd_forms.proofs.FormLaws.{ok_err}
 use Rattle.tcd_driver.specs.Made.{SpellCertified}
 use Rattle.tcd_driver.specs.Ship.{objects_of, texts_of, AreSourcesOf, IsShipping, IsShipped, SpellImage, refused, shipped, unlinked, of_image}
-use Rattle.tcd_reading.specs.declared.status.Status.TheVariants.{Done, Refused, BadInput, BadWords}
+use Rattle.tcd_reading.specs.declared.status.Status.TheVariants.{Done, Refused, BadInput}
 use Rattle.tcd_reading.proofs.Decided.{AreAlike, status_is, writes_are}
 use Rattle.tcd_reading.proofs.EachReads.{HasReadSome, rest_of, none_read, next_read}
 use Rattle.tcd_driver.proofs.LinkLaws.{none_memory, line_told}
@@ -33,9 +33,9 @@ use Rattle.tcd_driver.proofs.MakingLaws.{none_best}
 
 -- ---- reports
 module _ (elf cert : List ℕ) (p : PlanData) (i : ImageData) where
-  shipping_words : (r : Report) → IsShipping elf cert p i r → r.status ≡ BadWords → ⊥
-  shipping_words r (refused rule key addr none e) b = let f : Refused ≡ BadWords = sym (status_is r _ e) ∙ b in cc
-  shipping_words r (shipped c is reads e) b = let f : Done ≡ BadWords = sym (status_is r _ e) ∙ b in cc
+  shipping_told : (r : Report) → IsShipping elf cert p i r → IsReportStatus r.status
+  shipping_told r (refused rule key addr none e) = inr (inl (status_is r _ e))
+  shipping_told r (shipped c is reads e) = inl (status_is r _ e)
 
   shipping_done : (r : Report) → IsShipping elf cert p i r → r.status ≢ Done → r.writes ≡ []
   shipping_done r (refused rule key addr none e) undone = writes_are r _ e
@@ -51,9 +51,9 @@ same_image : (o : Result ImageData Refusal) (i j : ImageData) → o ≡ Ok i →
 same_image o i j e f = cc
 
 module _ (elf cert : List ℕ) (p : PlanData) (l : LayoutData) (ss : List SourceData) where
-  shipped_words : (r : Report) → IsShipped elf cert p l ss r → r.status ≡ BadWords → ⊥
-  shipped_words r (unlinked q is e) b = let f : BadInput ≡ BadWords = sym (status_is r _ e) ∙ b in cc
-  shipped_words r (of_image i of_sources h) b = shipping_words elf cert p i r h b
+  shipped_told : (r : Report) → IsShipped elf cert p l ss r → IsReportStatus r.status
+  shipped_told r (unlinked q is e) = inr (inr (status_is r _ e))
+  shipped_told r (of_image i of_sources h) = shipping_told elf cert p i r h
 
   shipped_done : (r : Report) → IsShipped elf cert p l ss r → r.status ≢ Done → r.writes ≡ []
   shipped_done r (unlinked q is e) undone = writes_are r _ e
@@ -68,7 +68,7 @@ module _ (elf cert : List ℕ) (p : PlanData) (l : LayoutData) (ss : List Source
       shipping_one elf cert p i r q h (subst (λ (x : ImageData). IsShipping elf cert p x q) same k)
 
   pub shipped_alike : AreAlike (IsShipped elf cert p l ss)
-  shipped_alike = record { words = shipped_words; done = shipped_done; one = shipped_one }
+  shipped_alike = record { told = shipped_told; done = shipped_done; one = shipped_one }
 
 -- the image and its certificate are written
 pub shipping_report : (elf cert bytes made : List ℕ) (i : ImageData) (fields p : PlanData) (need : ℕ) (first second : Written) (r : Report) → fields ≡ p → bytes ≡ file_of i → image_of (file_of i) ≡ Ok i → SpellCertified i p made need →

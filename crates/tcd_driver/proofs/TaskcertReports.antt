@@ -32,7 +32,7 @@ use Rattle.task_chains.specs.Views.{FitPlan, view_image_of, view_plan_of}
 use Rattle.task_chains.specs.Apart.{KeepsApart, FailsApart, IsTaskFault}
 use Rattle.task_chains.proofs.GrowthLaws.{task_faults_grow, task_faults_refute}
 use Rattle.task_chains.proofs.Together.{tasks_are_safe}
-use Rattle.tcd_reading.specs.Reports.{Report, Written, says}
+use Rattle.tcd_reading.specs.Reports.{IsReportStatus, Report, Written, says}
 use Rattle.tcd_base.specs.Files.{FilesSeen}
 use Rattle.task_chains.specs.declared.task_lists.TasksErr.TheVariants.{Count}
 use Rattle.tcd_reading.specs.Inputs.{answer}
@@ -45,7 +45,7 @@ use Rattle.tcd_driver.specs.Tasks.{cert_of, needs_of, sum_of_needs, AreJudged, w
 use Rattle.tcd_driver.specs.Taskcert.{IsTaskMade, NoneApart, IsUncertified, unaccepted, not_apart, AreTasksMade, IsFirstUncertified, cert_files, IsTaskcerting, no_switch, refused, above, certified, SpellApart, MakesApart, SpellTask, MakesTask, AreFiles, writes_files}
 use Rattle.tcd_driver.specs.declared.making.Making.{Making}
 use Rattle.tcd_driver.specs.declared.making.Making.TheVariants as making
-use Rattle.tcd_reading.specs.declared.status.Status.TheVariants.{Done, Refused, BadInput, BadWords}
+use Rattle.tcd_reading.specs.declared.status.Status.TheVariants.{Done, Refused, BadInput}
 use Rattle.tcd_reading.proofs.Decided.{AreAlike, IsDecided, decided_answer, status_is, writes_are}
 use Rattle.tcd_driver.proofs.TasksReports.{judged_well, decided_each_named, sum_next, as_many, not_as_many}
 
@@ -186,9 +186,9 @@ module _ (names : List (List ℕ)) (i : ImageData) (p : PlanData) (t : TasksData
       inl (status_is r _ e, λ w. let s = same_sum certs w.certs many w.many made w.made in let le = w.within in omega arith)
   side r (certified certs has many made within safe e) = inr (status_is r _ e, record { routine = has; certs = certs; many = many; made = made; within = within })
 
-  words : (r : Report) → ((r.status ≡ Refused) × (IsWell → ⊥)) ⊎ ((r.status ≡ Done) × IsWell) → r.status ≡ BadWords → ⊥
-  words r (inl h) b = let f : Refused ≡ BadWords = sym h.0 ∙ b in cc
-  words r (inr h) b = let f : Done ≡ BadWords = sym h.0 ∙ b in cc
+  told : (r : Report) → ((r.status ≡ Refused) × (IsWell → ⊥)) ⊎ ((r.status ≡ Done) × IsWell) → IsReportStatus r.status
+  told r (inl h) = inr (inl h.0)
+  told r (inr h) = inl h.0
 
   nothing : (r : Report) → IsTaskcerting names i p t r → r.status ≢ Done → r.writes ≡ []
   nothing r (no_switch x fault e) undone = writes_are r _ e
@@ -204,7 +204,7 @@ module _ (names : List (List ℕ)) (i : ImageData) (p : PlanData) (t : TasksData
 
   taskcert_alike : AreAlike (IsTaskcerting names i p t)
   taskcert_alike = record {
-    words = λ r h b. words r (side r h) b;
+    told = λ r h. told r (side r h);
     done = λ r h undone. nothing r h undone;
     one = λ r q h k. one r q (side r h) (side q k);
   }

@@ -23,14 +23,14 @@ use Rattle.task_chains.proofs.GrowthLaws.{task_faults_refute}
 use Rattle.task_chains.proofs.ReadOne.{reads_one}
 use Rattle.task_chains.proofs.Together.{tasks_are_safe}
 use Rattle.task_chains.proofs.ViewPlan.{view_is_plan}
-use Rattle.tcd_reading.specs.Reports.{Report, says}
+use Rattle.tcd_reading.specs.Reports.{IsReportStatus, Report, says}
 use Rattle.tcd_reading.specs.Inputs.{Reading}
 use Rattle.tcd_forms.specs.Forms.{cert_form}
 use Rattle.tcd_driver.specs.Forms.{tasks_form}
 use Rattle.tcd_forms.specs.Results.{certified_tasks_line, sum_line}
 use Rattle.tcd_driver.specs.Tasks.{cert_of, IsTaskRefused, unaccepted, not_apart, needs_of, sum_of_needs, AreJudged, IsTasksVerdict, no_switch, refused, above, certified, if_as_many, with_a_name_each, certs_reading}
 use Rattle.tcd_reading.specs.declared.status.Status.{Status}
-use Rattle.tcd_reading.specs.declared.status.Status.TheVariants.{Done, Refused, BadInput, BadWords}
+use Rattle.tcd_reading.specs.declared.status.Status.TheVariants.{Done, Refused, BadInput}
 use Rattle.tcd_reading.proofs.Decided.{AreAlike, IsLawful, IsDecided, decided_each, decided_answer, status_is, writes_are}
 use Rattle.tcd_forms.proofs.FormLaws.{cert_lawful}
 
@@ -108,9 +108,9 @@ module _ (i : ImageData) (p : PlanData) (t : TasksData) (certs : List CertData) 
   nothing r (above has judged more e) = writes_are r _ e
   nothing r (certified has judged within safe e) = writes_are r _ e
 
-  no_bad_words : (s : Status) → ((s ≡ Refused) × (IsWell → ⊥)) ⊎ ((s ≡ Done) × IsWell) → s ≡ BadWords → ⊥
-  no_bad_words s (inl h) b = let f : Refused ≡ BadWords = sym h.0 ∙ b in cc
-  no_bad_words s (inr h) b = let f : Done ≡ BadWords = sym h.0 ∙ b in cc
+  told_so : (s : Status) → ((s ≡ Refused) × (IsWell → ⊥)) ⊎ ((s ≡ Done) × IsWell) → IsReportStatus s
+  told_so s (inl h) = inr (inl h.0)
+  told_so s (inr h) = inl h.0
 
   same : (s s' : Status) → ((s ≡ Refused) × (IsWell → ⊥)) ⊎ ((s ≡ Done) × IsWell) → ((s' ≡ Refused) × (IsWell → ⊥)) ⊎ ((s' ≡ Done) × IsWell) → s ≡ s'
   same s s' (inl h) (inl k) = h.0 ∙ sym k.0
@@ -120,7 +120,7 @@ module _ (i : ImageData) (p : PlanData) (t : TasksData) (certs : List CertData) 
 
   pub tasks_alike : AreAlike (IsTasksVerdict i p t certs)
   tasks_alike = record {
-    words = λ r h b. no_bad_words r.status (side r h) b;
+    told = λ r h. told_so r.status (side r h);
     done = λ r h undone. nothing r h;
     one = λ r q h k. same r.status q.status (side r h) (side q k);
   }
@@ -128,7 +128,7 @@ module _ (i : ImageData) (p : PlanData) (t : TasksData) (certs : List CertData) 
 -- one report of a refusal
 bad_input_alike : (text : List ℕ) → AreAlike (λ r. r ≡ says BadInput text)
 bad_input_alike text = record {
-  words = λ r e b. let f : BadInput ≡ BadWords = sym (status_is r _ e) ∙ b in cc;
+  told = λ r e. inr (inr (status_is r _ e));
   done = λ r e undone. writes_are r _ e;
   one = λ r q e f. status_is r _ e ∙ sym (status_is q _ f);
 }

@@ -3,9 +3,10 @@ use Rattle.std.proofs.Common.{◌≡◌, ◌≢◌, ◌<◌, ◌≤◌, ◌+◌,
 use Rattle.std.specs.Prelude.{IsSomeAnd}
 use Rattle.std.specs.FinMap.{get}
 use Rattle.tcd_base.specs.Files.{Map}
-use Rattle.tcd_reading.specs.Reports.{Report}
+use Rattle.tcd_reading.specs.Reports.{Report, IsReportStatus}
 use Rattle.tcd_reading.specs.Inputs.{FormSeen, HoldsInput, IsRefusal, long, bad, Reading, answer, input, each, Says, HoldsAsked}
-use Rattle.tcd_reading.specs.declared.status.Status.TheVariants.{Done, BadWords}
+use Rattle.tcd_reading.specs.declared.status.Status.{Status}
+use Rattle.tcd_reading.specs.declared.status.Status.TheVariants.{Done, Refused, BadInput, Fault, BadWords}
 
 -- ---- one file has one form
 same_bytes : (o : Option (List ℕ)) (a b : List ℕ) → o ≡ Some a → o ≡ Some b → a ≡ b
@@ -36,9 +37,9 @@ status_is r q e = ap (λ (x : Report). x.status) e
 pub writes_are : (r q : Report) → r ≡ q → r.writes ≡ q.writes
 writes_are r q e = ap (λ (x : Report). x.writes) e
 
--- reports of one status, which is no fault of the words; only what is done writes
+-- reports of one status; only what is done writes
 pub record AreAlike (P : Report → Type 0) : Type 0 where
-  pub words : (r : Report) → P r → r.status ≡ BadWords → ⊥
+  pub told : (r : Report) → P r → IsReportStatus r.status
   pub done : (r : Report) → P r → r.status ≢ Done → r.writes ≡ []
   pub one : (r q : Report) → P r → P q → r.status ≡ q.status
 
@@ -60,11 +61,22 @@ unfolding IsDecided
 decided_each A form place [] next lawful rest = rest []
 decided_each A form place (name ∷ names) next lawful rest = (lawful place, λ x. decided_each A form (place + 1) names (λ xs. next (x ∷ xs)) lawful (λ xs. rest (x ∷ xs)))
 
-pub said_words : (reading : Reading) (held : Option Map) (r : Report) → IsDecided reading → Says reading held r → r.status ≡ BadWords → ⊥
+pub said_told : (reading : Reading) (held : Option Map) (r : Report) → IsDecided reading → Says reading held r → IsReportStatus r.status
 unfolding IsDecided
-said_words (answer P) held r d says e = d.words r says e
-said_words (input A form name next) held r d (inl h) e = let f = sym h.status ∙ e in cc
-said_words (input A form name next) held r d (inr h) e = said_words (next h.0) held r (d.1 h.0) h.2 e
+said_told (answer P) held r d says = d.told r says
+said_told (input A form name next) held r d (inl h) = inr (inr h.status)
+said_told (input A form name next) held r d (inr h) = said_told (next h.0) held r (d.1 h.0) h.2
+
+-- the words are at fault in none, and neither are files or memory
+pub never_words : (s : Status) → IsReportStatus s → s ≡ BadWords → ⊥
+never_words s (inl e) b = let f : Done ≡ BadWords = sym e ∙ b in cc
+never_words s (inr (inl e)) b = let f : Refused ≡ BadWords = sym e ∙ b in cc
+never_words s (inr (inr e)) b = let f : BadInput ≡ BadWords = sym e ∙ b in cc
+
+pub never_fault : (s : Status) → IsReportStatus s → s ≡ Fault → ⊥
+never_fault s (inl e) b = let f : Done ≡ Fault = sym e ∙ b in cc
+never_fault s (inr (inl e)) b = let f : Refused ≡ Fault = sym e ∙ b in cc
+never_fault s (inr (inr e)) b = let f : BadInput ≡ Fault = sym e ∙ b in cc
 
 pub said_done : (reading : Reading) (held : Option Map) (r : Report) → IsDecided reading → Says reading held r → r.status ≢ Done → r.writes ≡ []
 unfolding IsDecided

@@ -10,10 +10,11 @@ use Rattle.std.proofs.lemmas.Map.Text.{is_eq-slice_cmp}
 use Rattle.std.proofs.lemmas.Slice.Eq.{bytes_eq-Decides}
 use Rattle.tcd_base.specs.Files.{Map, FilesSeen, OthersStay}
 use Rattle.tcd_base.specs.Sink.{SinkSeen, HasRoomFor}
-use Rattle.tcd_reading.specs.Reports.{Written, Report, with_written, Stopped}
+use Rattle.tcd_reading.specs.Reports.{Written, Report, IsReportStatus, with_written, Stopped}
 use Rattle.tcd_reading.specs.Inputs.{FormSeen, HoldsInput, IsRefusal, Refuses, Reading, answer, input, Says, HoldsAsked, AreSureOf}
 use Rattle.tcd_reading.specs.Inputs as inputs
 use Rattle.tcd_reading.specs.Outcomes.{whole, cut, IsReported, printed, unwritten, no_memory}
+use Rattle.tcd_reading.proofs.Decided.{never_fault}
 use Rattle.tcd_reading.specs.Endings as ending
 use Rattle.tcd_reading.specs.Endings.{HasEnded, Ends}
 use Rattle.tcd_reading.specs.EndingWords.{HoldsLast, BreaksOff, HasEndedSo, EndsSo, EndsSay, HasRisen, EndsAnyhow, EndsAnyhowSay, IsHeldAs, IsHeldBad, IsLineOf, IsSaidOfTwo, first_bad, second_bad, both, SaysSay, AsksSay}
@@ -180,6 +181,7 @@ module _ (reading : Reading) (files files' : FilesSeen) (sink sink' : SinkSeen) 
         written = e.written;
         ended = e.ended;
         some_words = h.no_bad_words;
+        statuses = λ report s. h.statuses report (here report s);
         only_done = λ report s. h.only_done report (here report s);
         stays = λ r q. ap (λ (n : Map). get n q) (same_map e.after m files'.held e.held (h.stays r ∙ holds));
         steady = h.steady;
@@ -199,14 +201,14 @@ module _ (reading : Reading) (files files' : FilesSeen) (sink sink' : SinkSeen) 
   status_of (ending.unread e held quiet counted unsure) fault memory = absurd (fault e)
   status_of (ending.no_memory e held quiet) fault memory = absurd (memory e)
 
-  fault_of : HasEnded reading files files' sink sink' result → result ≡ Fault
-      → HasRisen files.faults files'.faults ⊎ (HasRisen sink.faults sink'.faults ⊎ ((report : Report) × Says reading files.held report × (report.status ≡ Fault)))
-  fault_of (ending.reported report says (printed is (whole e p))) f = inr (inr (report, says, sym e ∙ f))
-  fault_of (ending.reported report says (printed is (cut e front counted full))) f = inr (inl counted)
-  fault_of (ending.reported report says (unwritten e quiet stopped counted unsteady)) f = inl counted
-  fault_of (ending.reported report says (no_memory e quiet stopped)) f = absurd (let both : NoMemory ≡ Fault = sym e ∙ f in cc)
-  fault_of (ending.unread e held quiet counted unsure) f = inl counted
-  fault_of (ending.no_memory e held quiet) f = absurd (let both : NoMemory ≡ Fault = sym e ∙ f in cc)
+  fault_of : ((report : Report) → Says reading files.held report → IsReportStatus report.status) → HasEnded reading files files' sink sink' result → result ≡ Fault
+      → HasRisen files.faults files'.faults ⊎ HasRisen sink.faults sink'.faults
+  fault_of statuses (ending.reported report says (printed is (whole e p))) f = absurd (never_fault report.status (statuses report says) (sym e ∙ f))
+  fault_of statuses (ending.reported report says (printed is (cut e front counted full))) f = inr counted
+  fault_of statuses (ending.reported report says (unwritten e quiet stopped counted unsteady)) f = inl counted
+  fault_of statuses (ending.reported report says (no_memory e quiet stopped)) f = absurd (let both : NoMemory ≡ Fault = sym e ∙ f in cc)
+  fault_of statuses (ending.unread e held quiet counted unsure) f = inl counted
+  fault_of statuses (ending.no_memory e held quiet) f = absurd (let both : NoMemory ≡ Fault = sym e ∙ f in cc)
 
   untold_of : HasEnded reading files files' sink sink' result → files.held ≡ None → files'.held ≡ None
   untold_of (ending.reported report says (printed is prints)) none = is ∙ ap (λ (o : Option Map). with_written o report.writes) none ∙ none_written report.writes
@@ -226,8 +228,9 @@ module _ (reading : Reading) (files files' : FilesSeen) (sink sink' : SinkSeen) 
   pub ends_anyhow : Ends reading files files' sink sink' result → EndsAnyhow reading files files' sink sink' result
   ends_anyhow h = record {
     some_words = h.no_bad_words;
+    statuses = h.statuses;
     status = status_of h.ended;
-    fault = fault_of h.ended;
+    fault = fault_of h.statuses h.ended;
     untold = untold_of h.ended;
     unseen = unseen_of h.ended;
     only_done = h.only_done;

@@ -13,7 +13,7 @@ use Rattle.tcd_reading.specs.declared.status.Status.TheVariants.{Done, Refused, 
 use Rattle.tcd_reading.specs.declared.outcome.Outcome.{Outcome}
 use Rattle.tcd_reading.specs.declared.outcome.Outcome.TheVariants as outcome
 use Rattle.tcd_reading.proofs.Told.{counted_later}
-use Rattle.tcd_reading.proofs.Decided.{IsDecided, said_words, said_done, said_one}
+use Rattle.tcd_reading.proofs.Decided.{IsDecided, never_words, said_told, said_done, said_one}
 
 -- the files between the reading and the writing are as before
 reported_since : (r : Report) (reading : Reading) (old mid new : FilesSeen) (sink sink' : SinkSeen) (o : Outcome) (result : Status) → Comes reading old mid o → IsReported r mid new sink sink' result → IsReported r old new sink sink' result
@@ -25,7 +25,7 @@ reported_since r reading old mid new sink sink' o result comes (no_memory e quie
 -- ---- a report
 module _ (reading : Reading) (decided : IsDecided reading) (r : Report) (old new : FilesSeen) (sink sink' : SinkSeen) (result : Status) (said : Says reading old.held r) where
   words_here : IsReported r old new sink sink' result → result ≡ BadWords → ⊥
-  words_here (printed is (whole e p)) b = said_words reading old.held r decided said (sym e ∙ b)
+  words_here (printed is (whole e p)) b = never_words r.status (said_told reading old.held r decided said) (sym e ∙ b)
   words_here (printed is (cut e front counted full)) b = let f : Fault ≡ BadWords = sym e ∙ b in cc
   words_here (unwritten e quiet stopped counted unsteady) b = let f : Fault ≡ BadWords = sym e ∙ b in cc
   words_here (no_memory e quiet stopped) b = let f : NoMemory ≡ BadWords = sym e ∙ b in cc
@@ -64,6 +64,7 @@ reported_ends reading old mid new sink sink' o r result decided comes said h lea
     record {
       ended = ending.reported r said here;
       no_bad_words = words_here reading decided r old new sink sink' result said here;
+      statuses = λ q says. said_told reading old.held q decided says;
       only_done = only_done_by reading old.held decided;
       stays = stays_here reading decided r old new sink sink' result said here;
       steady = leaves.steady ∙ comes.steady;
@@ -78,6 +79,7 @@ unread_ends reading old mid new sink sink' o result decided comes failed quiet e
     record {
       ended = ending.unread e held quiet.sink_stays (subst (λ (f : FilesSeen). HasNotRead reading old f) (sym quiet.files_stay) failed).counted failed.unsure;
       no_bad_words = λ f. cc;
+      statuses = λ q says. said_told reading old.held q decided says;
       only_done = only_done_by reading old.held decided;
       stays = λ s. held;
       steady = ap (λ (f : FilesSeen). f.steady) quiet.files_stay ∙ comes.steady;
@@ -92,6 +94,7 @@ memory_ends reading old mid new sink sink' o result decided comes quiet e =
     record {
       ended = ending.no_memory e held quiet.sink_stays;
       no_bad_words = λ f. cc;
+      statuses = λ q says. said_told reading old.held q decided says;
       only_done = only_done_by reading old.held decided;
       stays = λ s. held;
       steady = ap (λ (f : FilesSeen). f.steady) quiet.files_stay ∙ comes.steady;

@@ -68,6 +68,9 @@ pub record EndsSo (reading : Reading) (files files' : FilesSeen) (sink sink' : S
   pub written : sink'.written ≡ Some printed
   pub ended : HasEndedSo reading files files' sink sink' m after text printed result
   pub some_words : result ≢ BadWords
+  pub statuses :
+      (report : Report) → Says reading (Some m) report
+      → (report.status ≡ Done) ⊎ ((report.status ≡ Refused) ⊎ (report.status ≡ BadInput))
   pub only_done : (report : Report) → Says reading (Some m) report → report.status ≢ Done → report.writes ≡ []
   pub stays : (result ≡ Refused) ⊎ (result ≡ BadInput) → AllStay m after
   pub steady : files'.steady ≡ files.steady
@@ -84,10 +87,13 @@ pub record EndsSo (reading : Reading) (files files' : FilesSeen) (sink sink' : S
 -- fault is counted, and the status is the one that is said, or want of memory.
 pub record EndsAnyhow (reading : Reading) (files files' : FilesSeen) (sink sink' : SinkSeen) (result : Status) : Type 0 where
   pub some_words : result ≢ BadWords
+  pub statuses :
+      (report : Report) → Says reading files.held report
+      → (report.status ≡ Done) ⊎ ((report.status ≡ Refused) ⊎ (report.status ≡ BadInput))
   pub status : result ≢ Fault → result ≢ NoMemory → (report : Report) × Says reading files.held report × (result ≡ report.status)
   pub fault :
       result ≡ Fault
-      → HasRisen files.faults files'.faults ⊎ (HasRisen sink.faults sink'.faults ⊎ ((report : Report) × Says reading files.held report × (report.status ≡ Fault)))
+      → HasRisen files.faults files'.faults ⊎ HasRisen sink.faults sink'.faults
   pub untold : files.held ≡ None → files'.held ≡ None
   pub unseen : sink.written ≡ None → sink'.written ≡ None
   pub only_done : (report : Report) → Says reading files.held report → report.status ≢ Done → report.writes ≡ []

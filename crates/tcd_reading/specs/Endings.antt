@@ -2,7 +2,7 @@
 use Rattle.std.specs.Prelude.{◌≡◌, ◌≢◌, ◌⊎◌, [], Option}
 use Rattle.tcd_base.specs.Files.{Map, FilesSeen, FaultCounted}
 use Rattle.tcd_base.specs.Sink.{SinkSeen, HasRoomFor}
-use Rattle.tcd_reading.specs.Reports.{Report}
+use Rattle.tcd_reading.specs.Reports.{Report, IsReportStatus}
 use Rattle.tcd_reading.specs.Inputs.{Reading, Says, AreSureOf}
 use Rattle.tcd_reading.specs.Outcomes.{IsReported}
 use Rattle.tcd_reading.specs.declared.status.Status.{Status}
@@ -23,11 +23,12 @@ pub data HasEnded (reading : Reading) (files files' : FilesSeen) (sink sink' : S
 
 -- How a command ends, by what is seen of the files and of the sink before and after. Whether the files are steady stays. Over
 -- steady files that hold the inputs that are asked for their count of faults stays, over a sink with room its count; over
--- both the status is the one that is said, unless memory ran out. Only a command that is done has files to write, so one that
--- is refused leaves what is held.
+-- both the status is the one that is said, unless memory ran out: done, refused or of a bad input. Only a command that is done
+-- has files to write, so one that is refused leaves what is held.
 pub record Ends (reading : Reading) (files files' : FilesSeen) (sink sink' : SinkSeen) (result : Status) : Type 0 where
   pub ended : HasEnded reading files files' sink sink' result
   pub no_bad_words : result ≢ BadWords
+  pub statuses : (report : Report) → Says reading files.held report → IsReportStatus report.status
   pub only_done : (report : Report) → Says reading files.held report → report.status ≢ Done → report.writes ≡ []
   pub stays : (result ≡ Refused) ⊎ (result ≡ BadInput) → files'.held ≡ files.held
   pub steady : files'.steady ≡ files.steady

@@ -1,8 +1,8 @@
 -- What a command reports: a status, a text, and files that are written before the text is printed.
-use Rattle.std.specs.Prelude.{ℕ, List, [], ◌∷◌, ◌++◌, ◌≡◌, Option}
+use Rattle.std.specs.Prelude.{ℕ, List, [], ◌∷◌, ◌++◌, ◌≡◌, ◌⊎◌, Option}
 use Rattle.tcd_base.specs.Files.{Map, OthersStay, with_file}
 use Rattle.tcd_reading.specs.declared.status.Status.{Status}
-use Rattle.tcd_reading.specs.declared.status.Status.TheVariants.{Done}
+use Rattle.tcd_reading.specs.declared.status.Status.TheVariants.{Done, Refused, BadInput}
 
 -- a file to write: its name and its bytes
 pub record Written : Type 0 where
@@ -14,6 +14,10 @@ pub record Report : Type 0 where
   pub status : Status
   pub text : List ℕ
   pub writes : List Written
+
+-- a status that a report has: neither files nor memory nor the words are at fault
+abbrev pub IsReportStatus : Status → Type 0
+IsReportStatus s = (s ≡ Done) ⊎ ((s ≡ Refused) ⊎ (s ≡ BadInput))
 
 -- a text with its status, and nothing to write
 abbrev pub says : Status → List ℕ → Report
