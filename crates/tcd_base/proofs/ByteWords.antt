@@ -1,20 +1,20 @@
--- Little-endian numbers in lists of bytes: where they stand, how large they are, and that they are read back as they were written.
+-- Little-endian numbers in lists of bytes: their bounds, and reading back what was written.
 use Rattle.std.proofs.Common.{◌≡◌, ◌+◌, ◌*◌, ◌/◌, ◌%◌, ◌^◌, ◌<◌, ◌≤◌, ℕ, List, [], ◌∷◌, ◌++◌, length, get_or, take, drop, refl, sym, ap, ◌∙◌, arith}
 use Rattle.std.proofs.lemmas.List.{get_or-append-add, drop_more}
 use Rattle.tcd_base.specs.Bytes.{half_at, word_at, bytes_of_half, bytes_of_word}
 
--- an element behind a front
+-- an element after a front
 pub get_or-behind : (front xs : List ℕ) (j i : ℕ) → j ≡ length front + i → get_or (front ++ xs) j 0 ≡ get_or xs i 0
 get_or-behind front xs j i e = ap (λ k. get_or (front ++ xs) k 0) e ∙ get_or-append-add front xs i 0
 
--- a number of two bytes behind a front
+-- a number of two bytes after a front
 pub half_at-behind : (front xs : List ℕ) (j i : ℕ) → j ≡ length front + i → half_at (front ++ xs) j ≡ half_at xs i
 half_at-behind front xs j i e =
     let a = get_or-behind front xs j i e in
     let b = get_or-behind front xs (j + 1) (i + 1) (omega arith) in
     omega arith
 
--- a number of four bytes behind a front
+-- a number of four bytes after a front
 pub word_at-behind : (front xs : List ℕ) (j i : ℕ) → j ≡ length front + i → word_at (front ++ xs) j ≡ word_at xs i
 word_at-behind front xs j i e =
     let a = get_or-behind front xs j i e in
@@ -31,21 +31,21 @@ half_at-bytes_of_half x rest h = omega arith
 pub word_at-bytes_of_word : (x : ℕ) (rest : List ℕ) → x < 2 ^ 32 → word_at (bytes_of_word x ++ rest) 0 ≡ x
 word_at-bytes_of_word x rest h = omega arith
 
--- the same behind a front
+-- a number of two bytes, written after a front and read
 pub half_at-written : (front : List ℕ) (x : ℕ) (rest : List ℕ) → x < 2 ^ 16 → half_at (front ++ (bytes_of_half x ++ rest)) (length front) ≡ x
 half_at-written front x rest h = half_at-behind front (bytes_of_half x ++ rest) (length front) 0 (omega arith) ∙ half_at-bytes_of_half x rest h
 
 pub word_at-written : (front : List ℕ) (x : ℕ) (rest : List ℕ) → x < 2 ^ 32 → word_at (front ++ (bytes_of_word x ++ rest)) (length front) ≡ x
 word_at-written front x rest h = word_at-behind front (bytes_of_word x ++ rest) (length front) 0 (omega arith) ∙ word_at-bytes_of_word x rest h
 
--- numbers of bytes fit their types
+-- numbers made of bytes are in the range of their types
 pub half_at_below : (bytes : List ℕ) (place : ℕ) → ((k : ℕ) → get_or bytes k 0 < 256) → half_at bytes place < 2 ^ 16
 half_at_below bytes place h = let a = h place in let b = h (place + 1) in omega arith
 
 pub word_at_below : (bytes : List ℕ) (place : ℕ) → ((k : ℕ) → get_or bytes k 0 < 256) → word_at bytes place < 2 ^ 32
 word_at_below bytes place h = let a = h place in let b = h (place + 1) in let c = h (place + 2) in let d = h (place + 3) in omega arith
 
--- two and four bytes are those of the number that they make
+-- two and four bytes are the bytes of the number they spell
 two_of : (a b : ℕ) → a < 256 → b < 256 → bytes_of_half (a + b * 256) ≡ a ∷ b ∷ []
 two_of a b p q =
     let l : (a + b * 256) % 256 ≡ a = omega arith in

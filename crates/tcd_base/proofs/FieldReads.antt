@@ -1,4 +1,4 @@
--- What readings give: fields that were written are read back, and what is known after a reading that went well.
+-- Laws of readers: fields that were written are read back, and what a reading that succeeded gives.
 use Rattle.std.proofs.Common.{◌≡◌, ◌+◌, ◌^◌, ◌<◌, ◌≤◌, ℕ, List, [], ◌∷◌, ◌++◌, length, take, drop, get_or, Bool, true, false, cond, Result, Ok, Err, refl, sym, ap, ◌∙◌, arith, length-append, append_assoc}
 use Rattle.std.specs.Prelude.{nat_le}
 use Rattle.std.proofs.lemmas.Bool.{leb-true, le-leb}
@@ -24,7 +24,7 @@ chosen b x y e = rw e refl
 in_middle : (front part rest : List ℕ) (n : ℕ) → length part ≡ n → length front + n ≤ length (front ++ (part ++ rest))
 in_middle front part rest n e = simp (length-append) (omega arith)
 
--- what the second part begins with moves over to the first
+-- what the second part begins with, moved to the end of the first
 moved : (front part rest : List ℕ) (n : ℕ) → length part ≡ n → record (place_between front (part ++ rest)) { place = length front + n } ≡ place_between (front ++ part) rest
 moved front part rest n e = rw (append_assoc front part rest, length-append front part, e) refl
 
@@ -55,19 +55,19 @@ pub bytes_at-between : (front part rest : List ℕ) → bytes_at (length part) (
 unfolding bytes_at
 bytes_at-between front part rest = read_middle front part rest (length part) _ _ refl (middle front part rest)
 
--- what a reading that went well did, of a field of n bytes
+-- what a reading of n bytes that succeeded did to the place
 pub record Took (n : ℕ) (p q : Place) : Type 0 where
   pub within : p.place + n ≤ length p.bytes
   pub bytes : q.bytes ≡ p.bytes
   pub place : q.place ≡ p.place + n
 
--- two readings that are one give one value and one place
+-- two equal readings have one value and one place
 same_found : {A : Type 0} (x y : A) (p q : Place) → found x p ≡ found y q → (y ≡ x) × (q ≡ p)
 same_found {A} x y p q h =
     let pairs : ◌≡◌ {A = A × Place} (x, p) (y, q) = cc in
     (sym (ap (λ (v : A × Place). v.0) pairs), sym (ap (λ (v : A × Place). v.1) pairs))
 
--- after a field of n bytes that was there
+-- the place after a field of n bytes that is there
 took : {A : Type 0} (n : ℕ) (p : Place) (x : A) (b : Bool) → nat_le (p.place + n) (length p.bytes) ≡ b → (y : A) (q : Place) → cond b (found x (record p { place = p.place + n })) (fault_at 1 p) ≡ found y q → Took n p q × (y ≡ x)
 took n p x true e y q h =
     let same = same_found x y (record p { place = p.place + n }) q h in
@@ -90,7 +90,7 @@ pub bytes_at_ok : (n : ℕ) (p : Place) (xs : List ℕ) (q : Place) → bytes_at
 unfolding bytes_at
 bytes_at_ok n p xs q h = took n p _ _ refl xs q h
 
--- two readings, one after the other, went well where both did
+-- if two readings one after the other succeed, each of them does
 pub bind_ok : {A B : Type 0} (r : Result A FormErr) (f : A → Result B FormErr) (y : B) → r >>= f ≡ Ok y → (x : A) × (r ≡ Ok x) × (f x ≡ Ok y)
 bind_ok (Ok x) f y e = (x, refl, e)
 bind_ok (Err x) f y e = cc

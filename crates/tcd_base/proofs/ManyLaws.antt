@@ -1,10 +1,10 @@
--- Reading many items, one after another.
+-- Laws of a reader of many items.
 use Rattle.std.proofs.Common.{◌≡◌, ℕ, suc, ◌+◌, ◌-◌, ◌<◌, ◌≤◌, List, [], ◌∷◌, ◌++◌, Result, Ok, Err, ap, ◌∙◌, arith}
 use Rattle.tcd_base.specs.declared.errors.FormErr.{FormErr}
 use Rattle.tcd_base.specs.Place.{Place}
 use Rattle.tcd_base.specs.Reading.{◌>>=◌, many_at}
 
--- one item more of those that are left
+-- one more of the items that are left
 pub many_more : {A : Type 0} (item : List A → Place → Result (A × Place) FormErr) (n i : ℕ) (before : List A) (start p q : Place) (x : A) → i < n
     → many_at item n [] start ≡ many_at item (n - i) before p → item before p ≡ Ok (x, q) → many_at item n [] start ≡ many_at item (n - (i + 1)) (before ++ x ∷ []) q
 unfolding many_at
@@ -14,7 +14,7 @@ many_more {A} item n i before start p q x h inv e =
     ∙ ap (λ k. many_at item k before p) left
     ∙ ap (λ (r : Result (A × Place) FormErr). r >>= λ x. many_at item (n - (i + 1)) (before ++ x.0 ∷ []) x.1) e
 
--- the first fault of an item
+-- the first item with a fault
 pub many_fail : {A : Type 0} (item : List A → Place → Result (A × Place) FormErr) (n i : ℕ) (before : List A) (start p : Place) (e : FormErr) → i < n
     → many_at item n [] start ≡ many_at item (n - i) before p → item before p ≡ Err e → many_at item n [] start ≡ Err e
 unfolding many_at

@@ -1,4 +1,4 @@
--- What a reading that went well passed over: the spelling of what it gives, and a value that is allowed.
+-- What a reading that succeeded passed over: the bytes that spell its value, which is a valid one.
 use Rattle.std.proofs.Common.{◌≡◌, ℕ, zero, suc, ◌+◌, ◌<◌, ◌≤◌, ◌^◌, List, [], ◌∷◌, ◌++◌, length, get_or, take, drop, Bool, true, false, cond, Result, Ok, Err, refl, sym, ap, ◌∙◌, subst, arith, append_assoc, length-append}
 use Rattle.std.proofs.lemmas.List.{append-nil, take-append-drop, length-take}
 use Rattle.std.specs.List.{flat_map}
@@ -9,7 +9,7 @@ use Rattle.tcd_base.specs.Reading.{u8_at, u16_at, u32_at, many_at}
 use Rattle.tcd_base.proofs.ByteWords.{get_or-behind, half_at-behind, word_at-behind, half_at_below, word_at_below, bytes_of_half-half_at, bytes_of_word-word_at}
 use Rattle.tcd_base.proofs.FieldReads.{Took, u8_at_ok, u16_at_ok, u32_at_ok, bind_ok}
 
--- bytes
+-- all are bytes
 abbrev pub AreBytes : List ℕ → Type 0
 AreBytes [] = Unit {0}
 AreBytes (x ∷ xs) = (x < 2 ^ 8) × AreBytes xs
@@ -27,7 +27,7 @@ pub bytes_from : (xs : List ℕ) → ((k : ℕ) → get_or xs k 0 < 2 ^ 8) → A
 bytes_from [] h = tt
 bytes_from (x ∷ xs) h = (h 0, bytes_from xs (λ k. h (suc k)))
 
--- from the place between front and rest to q stand these bytes
+-- the bytes from the end of front up to q are these
 pub record Passed (part front rest : List ℕ) (q : Place) : Type 0 where
   pub after : List ℕ
   pub is : rest ≡ part ++ after
@@ -47,13 +47,13 @@ passed_both {a} {b} {front} {rest} {p} {q} h k = record {
 pub passed_none : (front rest : List ℕ) (q : Place) → place_between front rest ≡ q → Passed [] front rest q
 passed_none front rest q e = record { after = rest; is = refl; at = sym e ∙ ap (λ (l : List ℕ). place_between l rest) (sym (append-nil front)) }
 
--- a pair that was read
+-- the value and the place of a pair that was read
 pub ok_pair : {A : Type 0} (x y : A) (p q : Place) → ◌≡◌ {A = Result (A × Place) FormErr} (Ok (x, p)) (Ok (y, q)) → (x ≡ y) × (p ≡ q)
 ok_pair {A} x y p q h =
     let pairs : ◌≡◌ {A = A × Place} (x, p) (y, q) = cc in
     (ap (λ (v : A × Place). v.0) pairs, ap (λ (v : A × Place). v.1) pairs)
 
--- a test that a field passed
+-- a test that a field passed is true
 pub passed_test : {A : Type 0} (good : Bool) (x y : A) (e : FormErr) → cond good (Ok x) (Err e) ≡ Ok y → (good ≡ true) × (x ≡ y)
 passed_test true x y e h = (refl, cc)
 passed_test false x y e h = cc

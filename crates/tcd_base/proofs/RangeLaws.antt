@@ -1,4 +1,4 @@
--- What lies in a range, and in one of several.
+-- Laws of ranges: inside one range, and inside one of several.
 use Rattle.std.proofs.Common.{◌≡◌, ℕ, ◌+◌, ◌<◌, inl, inr, true, List, [], ◌∷◌, ◌++◌, arith}
 use Rattle.std.proofs.lemmas.Bool.{and_parts, and_from, leb-true, le-leb}
 use Rattle.tcd_base.specs.declared.range.Range.{Range}
@@ -14,7 +14,7 @@ pub true_within : (x n : ℕ) (r : Range) → IsWithin x n r → is_within x n r
 true_within x n r w = and_from _ _ (le-leb r.at x w.0) (le-leb (x + n) (r.at + r.len) w.1)
 
 -- ---- one of several
--- one address of several in a range
+-- one of n addresses that are inside a range
 pub in_one : (x n i : ℕ) (rs : List Range) → i < n → IsInOne x n rs → IsInOne (x + i) 1 rs
 in_one x n i [] lt h = h
 in_one x n i (r ∷ rs) lt (inl h) = inl (omega arith, omega arith)

@@ -1,10 +1,10 @@
--- Faults that are counted.
+-- Counts of failures.
 use Rattle.std.proofs.Common.{◌-◌, ◌^◌, ◌<◌, ◌≤◌, ℕ, ◌⊎◌, inl, inr, arith}
 use Rattle.std.proofs.lemmas.Bool.{cases_lt}
 use Rattle.tcd_base.specs.Files.{FaultCounted}
 use Rattle.tcd_base.specs.FailingCalls.{one_more}
 
--- a fault that was counted in a part of a call was counted in the call
+-- a failure that was counted in a part of a call was counted in the call
 pub counted_within : (a b c d : ℕ) → a ≤ b → b ≤ c → FaultCounted b c → c ≤ d → FaultCounted a d
 counted_within a b c d first later rose last = by (cases_lt a d) rose
   where
@@ -13,7 +13,7 @@ counted_within a b c d first later rose last = by (cases_lt a d) rose
     by (inr g) (inl l) = absurd (omega arith)
     by (inr g) (inr e) = inr (omega arith)
 
--- one more, up to the last value, counts a fault
+-- one more, up to the last value, counts a failure
 pub counted_one_more : (a : ℕ) → FaultCounted a (one_more a)
 counted_one_more a = by (cases_lt a (2 ^ 64 - 1))
   where

@@ -1,8 +1,8 @@
--- Counts of calls and of faults, and the calls that fail by their number.
+-- Counts of calls and of failures, and the calls that fail by their number.
 use Rattle.std.specs.Prelude.{◌+◌, ◌-◌, ◌^◌, ℕ, min, List, Bool, ◌==◌}
 use Rattle.std.specs.List.{list_any}
 
--- one more, up to the last value
+-- one more, up to the last value of 64 bits
 abbrev pub one_more : ℕ → ℕ
 one_more n = min (n + 1) (2 ^ 64 - 1)
 

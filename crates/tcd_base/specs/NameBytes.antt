@@ -1,15 +1,15 @@
--- Which bytes stand in names.
+-- The bytes of names.
 use Rattle.std.specs.Prelude.{ℕ, Bool, true, List, [], ◌∷◌, ◌+◌, not, if◌then◌else◌, nat_le, ◌==◌, ◌&&◌, ◌||◌}
 
--- a letter, `_`, `.` or `$`
+-- a name can begin with this byte: a letter, `_`, `.` or `$`
 unfoldable pub is_name_first : ℕ → Bool
 is_name_first c = (nat_le 65 c && nat_le c 90) || (nat_le 97 c && nat_le c 122) || c == 95 || c == 46 || c == 36
 
--- a letter, `_`, `.`, `$` or a digit
+-- a name can have this byte after its first: a letter, `_`, `.`, `$` or a digit
 unfoldable pub is_name_byte : ℕ → Bool
 is_name_byte c = is_name_first c || (nat_le 48 c && nat_le c 57)
 
--- these answers say, for each byte from this one on, whether it's a letter, `_`, `.`, `$` or a digit
+-- the table agrees with is_name_byte, for each byte from c on
 abbrev pub are_answers : ℕ → List Bool → Bool
 are_answers c [] = true
 are_answers c (b ∷ bs) = (if is_name_byte c then b else not b) && are_answers (c + 1) bs

@@ -1,4 +1,4 @@
--- An answer, or what stands against it.
+-- An answer that a refusal replaces.
 use Rattle.std.specs.Prelude.{Option, Some, None, Result, Err}
 
 -- the refusal, if there is one, else this answer

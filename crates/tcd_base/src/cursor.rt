@@ -1,10 +1,10 @@
-// A place in bytes that moves from left to right.
+// A cursor: a place in a list of bytes that moves from left to right.
 ghost use Rattle.std.specs.Prelude.{◌≡◌, ◌≤◌, ◌+◌, ◌↔◌, length, take, drop, slice_index, IsSome, IfSome, IfNone, OnSome};
 ghost use Rattle.tcd_base.specs.Bytes.{half_at, word_at};
 
 use std::marker::Model;
 
-/// Bytes, and the place of the first that was not taken.
+/// Bytes, and the place of the first byte that wasn't taken yet. The place is at most the length.
 #[derive(Drop)]
 pub struct Cursor<'a> {
     bytes: &'a [u8],
@@ -23,14 +23,14 @@ impl<'a> Model for Cursor<'a> {
 }
 
 impl<'a> Cursor<'a> {
-    /// A cursor before the first byte.
+    /// Returns a cursor before the first byte.
     pub fn new(bytes: &'a [u8]) -> Cursor<'a>
         ensures { result ≡ record { bytes = bytes.now; place = 0 } }
     {
         Cursor { bytes, place: 0 }
     }
 
-    /// How many bytes were taken.
+    /// Returns the number of bytes taken so far.
     pub fn place(&self) -> usize
         ensures place { result ≡ self.now.place }
         ensures within { result ≤ length self.now.bytes }
@@ -38,7 +38,7 @@ impl<'a> Cursor<'a> {
         self.place
     }
 
-    /// The next byte, or nothing where none is left, and then nothing moves.
+    /// Takes the next byte. If no byte is left, the answer is `None` and the cursor doesn't move.
     pub fn take_u8(&mut self) -> Option<u8>
         ensures there { IsSome result ↔ (self.old.place + 1 ≤ length self.old.bytes) }
         ensures some { IfSome result (λ b. b ≡ slice_index self.old.bytes self.old.place) }
@@ -54,7 +54,8 @@ impl<'a> Cursor<'a> {
         Some(bytes[at])
     }
 
-    /// The next two bytes, little-endian, or nothing where fewer are left, and then nothing moves.
+    /// Takes the next two bytes, little-endian. If fewer are left, the answer is `None` and the
+    /// cursor doesn't move.
     pub fn take_u16(&mut self) -> Option<u16>
         ensures there { IsSome result ↔ (self.old.place + 2 ≤ length self.old.bytes) }
         ensures some { IfSome result (λ h. h ≡ half_at self.old.bytes self.old.place) }
@@ -70,7 +71,8 @@ impl<'a> Cursor<'a> {
         Some(u16::from_le_bytes([bytes[at], bytes[at + 1]]))
     }
 
-    /// The next four bytes, little-endian, or nothing where fewer are left, and then nothing moves.
+    /// Takes the next four bytes, little-endian. If fewer are left, the answer is `None` and the
+    /// cursor doesn't move.
     pub fn take_u32(&mut self) -> Option<u32>
         ensures there { IsSome result ↔ (self.old.place + 4 ≤ length self.old.bytes) }
         ensures some { IfSome result (λ w. w ≡ word_at self.old.bytes self.old.place) }
@@ -86,7 +88,8 @@ impl<'a> Cursor<'a> {
         Some(u32::from_le_bytes([bytes[at], bytes[at + 1], bytes[at + 2], bytes[at + 3]]))
     }
 
-    /// The next `n` bytes, or nothing where fewer are left, and then nothing moves.
+    /// Takes the next `n` bytes. If fewer are left, the answer is `None` and the cursor doesn't
+    /// move.
     pub fn take(&mut self, n: usize) -> Option<&'a [u8]>
         ensures there { IsSome result ↔ (self.old.place + n ≤ length self.old.bytes) }
         ensures some { IfSome result (λ r. r.now ≡ take n (drop self.old.place self.old.bytes)) }

@@ -1,7 +1,9 @@
-// Want of memory, and the first fault of a file.
+// The errors that all crates share: out of memory, and the first fault of a file.
+ghost use Rattle.std.specs.Prelude.{◌≡◌, ◌≤◌, ◌^◌};
+
 use std::alloc::{AllocError, AllocFailed};
 
-/// Want of memory.
+/// An allocation failed.
 #[derive(Clone, Copy, Debug, PartialEq, Eq)]
 pub struct NoMemory;
 
@@ -17,10 +19,39 @@ impl<T: Drop> From<AllocFailed<T>> for NoMemory {
     }
 }
 
-/// The first fault of a file: its kind (1 Short, 2 Magic, 3 Order, 4 BadValue, 5 Limit, 6 Trailing) and the place of
-/// its first byte.
+/// The kind of fault: the bytes end inside a field.
+pub const SHORT: u8 = 1;
+
+/// The kind of fault: the magic bytes or the version aren't those of the format.
+pub const BAD_MAGIC: u8 = 2;
+
+/// The kind of fault: records aren't in ascending order.
+pub const BAD_ORDER: u8 = 3;
+
+/// The kind of fault: a field has a value that the format doesn't allow.
+pub const BAD_VALUE: u8 = 4;
+
+/// The kind of fault: a count or a size is above the limit of the format.
+pub const ABOVE_LIMIT: u8 = 5;
+
+/// The kind of fault: bytes follow the end of the format.
+pub const TRAILING: u8 = 6;
+
+/// The first fault of a file: its kind (`SHORT` to `TRAILING`), and the offset of its first byte in
+/// the file.
 #[derive(Clone, Copy, Debug, PartialEq, Eq)]
 pub struct FormErr {
     pub kind: u8,
     pub at: u32,
+}
+
+/// Returns the fault of a kind at an offset.
+pub fn fault(kind: u8, at: usize) -> FormErr
+    requires { at ≤ 2 ^ 30 }
+    ensures { result ≡ record { kind = kind; at = at } }
+{
+    FormErr {
+        kind,
+        at: at as u32,
+    }
 }

@@ -1,8 +1,8 @@
-// Calls that fail by their number.
+// Calls that fail by their number, for the files and the sink that tests use.
 ghost use Rattle.std.specs.Prelude.{◌≡◌};
 ghost use Rattle.tcd_base.specs.FailingCalls.{is_listed as listed};
 
-// Whether the call of this number is one of those that fail.
+// Returns true if the call of this number is one of those that fail.
 pub(crate) fn is_listed(failing: &[u32], call: u64) -> bool
     ensures { result ≡ listed failing.now call }
 {

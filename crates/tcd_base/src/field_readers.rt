@@ -1,21 +1,11 @@
-// Fields read from left to right, each with the fault Short at its first byte.
+// Readers of fields, from left to right. A field that is cut off is `SHORT` at its first byte.
 ghost use Rattle.std.specs.Prelude.{◌≡◌, ◌≤◌, ◌^◌, length, MatchResult};
 ghost use Rattle.tcd_base.specs.Reading.{Reads, u8_at, u16_at, u32_at, bytes_at};
 
+use crate::errors::{SHORT, fault};
 use crate::{Cursor, FormErr};
 
-// The bytes end in the field that begins at this place.
-fn short(at: usize) -> FormErr
-    requires { at ≤ 2 ^ 30 }
-    ensures { result ≡ record { kind = 1; at = at } }
-{
-    FormErr {
-        kind: 1,
-        at: at as u32,
-    }
-}
-
-/// A field of one byte.
+/// Reads a field of one byte.
 #[tactic(auto, unfolding(crate::specs::Reading::u8_at))]
 pub fn read_u8(c: &mut Cursor<'_>) -> Result<u8, FormErr>
     requires { length c.old.bytes ≤ 2 ^ 30 }
@@ -25,11 +15,11 @@ pub fn read_u8(c: &mut Cursor<'_>) -> Result<u8, FormErr>
     let at = c.place();
     match c.take_u8() {
         Some(byte) => Ok(byte),
-        None => Err(short(at)),
+        None => Err(fault(SHORT, at)),
     }
 }
 
-/// A field of two bytes, little-endian.
+/// Reads a field of two bytes, little-endian.
 #[tactic(auto, unfolding(crate::specs::Reading::u16_at))]
 pub fn read_u16(c: &mut Cursor<'_>) -> Result<u16, FormErr>
     requires { length c.old.bytes ≤ 2 ^ 30 }
@@ -39,11 +29,11 @@ pub fn read_u16(c: &mut Cursor<'_>) -> Result<u16, FormErr>
     let at = c.place();
     match c.take_u16() {
         Some(half) => Ok(half),
-        None => Err(short(at)),
+        None => Err(fault(SHORT, at)),
     }
 }
 
-/// A field of four bytes, little-endian.
+/// Reads a field of four bytes, little-endian.
 #[tactic(auto, unfolding(crate::specs::Reading::u32_at))]
 pub fn read_u32(c: &mut Cursor<'_>) -> Result<u32, FormErr>
     requires { length c.old.bytes ≤ 2 ^ 30 }
@@ -53,11 +43,11 @@ pub fn read_u32(c: &mut Cursor<'_>) -> Result<u32, FormErr>
     let at = c.place();
     match c.take_u32() {
         Some(word) => Ok(word),
-        None => Err(short(at)),
+        None => Err(fault(SHORT, at)),
     }
 }
 
-/// A field of `n` bytes.
+/// Reads a field of `n` bytes.
 #[tactic(auto, unfolding(crate::specs::Reading::bytes_at))]
 pub fn read_bytes<'a>(c: &mut Cursor<'a>, n: usize) -> Result<&'a [u8], FormErr>
     requires { length c.old.bytes ≤ 2 ^ 30 }
@@ -68,6 +58,6 @@ pub fn read_bytes<'a>(c: &mut Cursor<'a>, n: usize) -> Result<&'a [u8], FormErr>
     let at = c.place();
     match c.take(n) {
         Some(part) => Ok(part),
-        None => Err(short(at)),
+        None => Err(fault(SHORT, at)),
     }
 }

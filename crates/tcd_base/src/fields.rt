@@ -1,13 +1,13 @@
-// Fields of words, and words as bytes.
+// Bit fields of words, and words as bytes.
 ghost use Rattle.std.specs.Prelude.{◌≡◌, ◌<◌, ◌≤◌, ◌^◌, ◌++◌, ℕ, List, OnOk, OnErr};
-ghost use Rattle.tcd_base.specs.Bytes.{bytes_of_word};
+ghost use Rattle.tcd_base.specs.Bytes.{bytes_of_half, bytes_of_word};
 ghost use Rattle.tcd_base.specs.Place.{place_between};
 ghost use Rattle.tcd_base.specs.Reading.{u32_at};
 ghost use Rattle.tcd_base.specs.Fields.{bits_of, sext_of};
 
 use crate::NoMemory;
 
-/// The bits `hi` down to `lo` of a word.
+/// Returns the bits `hi` down to `lo` of a word, both included.
 pub fn bits(x: u32, hi: u8, lo: u8) -> u32
     requires ordered { lo ≤ hi }
     requires within { hi ≤ 31 }
@@ -17,7 +17,7 @@ pub fn bits(x: u32, hi: u8, lo: u8) -> u32
     (above % (1u64 << (hi - lo + 1))) as u32
 }
 
-/// A number of `n` bits in two's complement, extended by its sign to a word.
+/// Extends a number of `n` bits in two's complement by its sign to 32 bits.
 pub fn sext(x: u32, n: u8) -> u32
     requires some { 1 ≤ n }
     requires most { n ≤ 32 }
@@ -31,12 +31,20 @@ pub fn sext(x: u32, n: u8) -> u32
     }
 }
 
+/// Appends the two bytes of a half-word, little-endian.
+pub fn put_u16(out: &mut Vec<u8>, x: u16) -> Result<(), NoMemory>
+    ensures { OnOk result (out.new.items ≡ out.old.items ++ bytes_of_half x) }
+{
+    out.extend_from_slice(&x.to_le_bytes())?;
+    Ok(())
+}
+
 /// Appends the four bytes of a word, little-endian.
 pub fn put_u32(out: &mut Vec<u8>, x: u32) -> Result<(), NoMemory>
     ensures ok { OnOk result (out.new.items ≡ out.old.items ++ bytes_of_word x) }
     ensures err { OnErr result (out.new.items ≡ out.old.items) }
 
-    // A reader at the word reads it, and then stands before whatever comes after it.
+    // A reader at the first of these bytes reads the word, and is then at the bytes that follow.
     ensures back { OnOk result ((rest : List ℕ)
         → u32_at (place_between out.old.items (bytes_of_word x ++ rest))
         ≡ Ok (x, place_between out.new.items rest)) }

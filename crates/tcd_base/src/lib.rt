@@ -1,4 +1,4 @@
-//! The types that all crates share, and the seams to the outside: files and a sink of text.
+//! The types that all crates share, and the traits for the outside: files, and a sink of text.
 #![tactic(auto)]
 
 mod core_version;
@@ -16,9 +16,11 @@ mod sink;
 
 pub use core_version::Core;
 pub use cursor::Cursor;
-pub use errors::{FormErr, NoMemory};
+pub use errors::{
+    ABOVE_LIMIT, BAD_MAGIC, BAD_ORDER, BAD_VALUE, FormErr, NoMemory, SHORT, TRAILING, fault,
+};
 pub use field_readers::{read_bytes, read_u8, read_u16, read_u32};
-pub use fields::{bits, put_u32, sext};
+pub use fields::{bits, put_u16, put_u32, sext};
 pub use files::{FileErr, Files};
 pub use mem_files::MemFiles;
 pub use mem_sink::MemSink;

@@ -1,9 +1,9 @@
-// Which bytes stand in names.
+// The bytes of names: of symbols, sections and labels.
 ghost use Rattle.std.specs.Prelude.{◌≡◌, length, true};
 ghost use Rattle.std.specs.List.{list_all};
 ghost use Rattle.tcd_base.specs.NameBytes.{is_name_byte, is_name_first, are_answers};
 
-/// Whether a name may begin with this byte: a letter, `_`, `.` or `$`.
+/// Returns true if a name can begin with this byte: a letter, `_`, `.` or `$`.
 #[tactic(auto, unfolding(crate::specs::NameBytes::is_name_first))]
 pub fn is_name_first(c: u8) -> bool
     ensures { result ≡ is_name_first c }
@@ -11,7 +11,7 @@ pub fn is_name_first(c: u8) -> bool
     (b'A' <= c && c <= b'Z') || (b'a' <= c && c <= b'z') || c == b'_' || c == b'.' || c == b'$'
 }
 
-// Whether each byte may stand in a name behind its first.
+// For each byte: whether a name can have it after the first byte.
 static STAND_IN_NAMES: [bool; 256] = [
     false, false, false, false, false, false, false, false, false, false, false, false, false,
     false, false, false, false, false, false, false, false, false, false, false, false, false,
@@ -34,7 +34,7 @@ static STAND_IN_NAMES: [bool; 256] = [
     false, false, false, false, false, false, false, false, false, false,
 ];
 
-// The answers, by the byte.
+// Returns the table with the fact that it agrees with the definition.
 #[tactic(auto, unfolding(crate::specs::NameBytes::is_name_byte, crate::specs::NameBytes::is_name_first))]
 fn name_bytes() -> &'static [bool; 256]
     ensures count { length result.now ≡ 256 }
@@ -43,7 +43,7 @@ fn name_bytes() -> &'static [bool; 256]
     &STAND_IN_NAMES
 }
 
-/// Whether this byte may stand in a name behind its first: a digit too.
+/// Returns true if a name can have this byte after its first: a letter, a digit, `_`, `.` or `$`.
 pub fn is_name_byte(c: u8) -> bool
     ensures { result ≡ is_name_byte c }
 {
@@ -51,7 +51,7 @@ pub fn is_name_byte(c: u8) -> bool
     answers[c as usize]
 }
 
-/// Whether all of these bytes may stand in a name.
+/// Returns true if a name can have all of these bytes after its first.
 pub fn are_name_bytes(bytes: &[u8]) -> bool
     ensures { result ≡ list_all is_name_byte bytes.now }
 {

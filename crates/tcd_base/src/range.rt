@@ -1,9 +1,9 @@
-// A range of addresses: where it ends, and what lies in it.
+// Ranges of addresses: their end, and the tests for what is inside.
 ghost use Rattle.std.specs.Prelude.{◌≡◌};
 ghost use Rattle.std.specs.List.{list_any};
 ghost use Rattle.tcd_base.specs.Ranges.{range_end, is_within};
 
-/// The addresses from `at` on, `len` of them, both in bytes.
+/// The range of `len` bytes from the address `at` on.
 #[derive(Clone, Copy, Debug, Default, PartialEq, Eq)]
 pub struct Range {
     pub at: u32,
@@ -11,14 +11,15 @@ pub struct Range {
 }
 
 impl Range {
-    /// The first address past the range.
+    /// Returns the first address after the range.
     pub fn end(&self) -> u64
         ensures { result ≡ range_end self.now }
     {
         u64::from(self.at) + u64::from(self.len)
     }
 
-    /// Whether the `n` addresses from `addr` on lie in the range. None of them is past 2^32 where the range isn't.
+    /// Returns true if the `n` addresses from `addr` on are inside the range. The sums are of 64
+    /// bits, so no range wraps.
     pub fn holds(&self, addr: u32, n: u32) -> bool
         ensures { result ≡ is_within addr n self.now }
     {
@@ -26,7 +27,7 @@ impl Range {
     }
 }
 
-/// Whether the `n` addresses from `addr` on lie in one of the ranges.
+/// Returns true if the `n` addresses from `addr` on are inside one of the ranges.
 pub fn any_holds(ranges: &[Range], addr: u32, n: u32) -> bool
     ensures { result ≡ list_any (is_within addr n) ranges.now }
 {

@@ -2,6 +2,5 @@ use Rattle.std.proofs.Common.{arith}
 use Rattle.tcd_base.proofs.NameAnswers.{answer_is}
 use Rattle.tcd_base.proofs.name_bytes.is_name_byte.Goals as goal
 
--- src/name_bytes.rt:47:1
 pub returns : goal.returns
 returns c = answer_is 0 c.args.c c.args.c c.name_bytes-answers.result.now c.name_bytes-answers.ensures.answers (omega (arith, c.name_bytes-answers.ensures.count, c.ranges.c)) (omega arith)
