@@ -10,7 +10,7 @@ digit_below : (n : ℕ) → n < 16 → hex_digit n < 128
 unfolding hex_digit
 digit_below n h = grind (arith, nat_tests)
 
--- a byte, and a word, in front of ASCII
+-- two or eight hex digits before an ASCII text
 pub hex_byte-front : (b : ℕ) (rest : List ℕ) → b < 256 → IsAscii rest → IsAscii (hex_byte b ++ rest)
 unfolding hex_byte
 hex_byte-front b rest h is =
@@ -33,7 +33,7 @@ pub hex_word-ascii : (x : ℕ) → x < 2 ^ 32 → IsAscii (hex_word x)
 unfolding hex_byte hex_word
 hex_word-ascii x h = hex_word-front x [] h IsAscii-nil
 
--- a reading of text that text passes
+-- ASCII is read as a text
 pub text_ok : {T E : Type 0} (r : Result T E) (Q : Type 0) (P : T → Type 0) (R : E → Type 0) → MatchResult r P (λ e. ¬ Q × R e) → Q → IsOk r
 text_ok (Ok x) Q P R h q = refl
 text_ok (Err e) Q P R h q = absurd (h.0 q)

@@ -1,4 +1,4 @@
--- Lines and words of a text, one after another.
+-- Laws of lines and words of a text, one after another.
 use Rattle.std.proofs.Common.{◌≡◌, ◌<◌, ◌≤◌, ◌+◌, ◌∷◌, [], ℕ, suc, Bool, true, false, cond, List, length, take, drop, Some, None, refl, ap, sym, ◌∙◌, arith}
 use Rattle.std.specs.Prelude.{position, nat_lt, not, ◌==◌}
 use Rattle.std.specs.List.{slice_split, onto_first, position_or_len}
@@ -31,7 +31,7 @@ split_whole xs e =
 abbrev pub end_of : List ℕ → ℕ
 end_of text = position_or_len (λ c. c == 10) text
 
--- the place that was found, or the length
+-- the end of the first line: the place that was found, or the length
 pub found_end : (text : List ℕ) (i : ℕ) → position (λ c. c == 10) text ≡ Some i → i ≡ end_of text
 found_end text i e = sym (some_from (nat_lt (end_of text) (length text)) (end_of text) i e).1
 
@@ -66,7 +66,7 @@ first_by false c cs ih =
     ∙ ap (λ k. take k (c ∷ cs) ∷ lines_of (drop (end_of cs + 1) cs)) (sym a)
     ∙ ap (λ k. take (1 + end_of cs) (c ∷ cs) ∷ lines_of (drop k (c ∷ cs))) (sym b)
 
--- the first line, and those behind it
+-- the first line, and the lines after it
 pub lines_of-first : (text : List ℕ) → 0 < length text → lines_of text ≡ take (end_of text) text ∷ lines_of (drop (end_of text + 1) text)
 unfolding lines_of
 lines_of-first [] h = absurd (omega arith)

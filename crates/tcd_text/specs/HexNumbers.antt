@@ -5,10 +5,11 @@ use Rattle.std.specs.Char.{digit_value}
 use Rattle.std.specs.List.{list_all}
 use Rattle.std.specs.Str.Parse.{digits_value}
 
--- 0 to 9, A to F, in ASCII
+-- an upper-case hex digit in ASCII: 0 to 9, A to F
 abbrev pub is_upper_hex : ℕ → Bool
 is_upper_hex c = nat_lt (digit_value c) 16 && nat_lt c 97
 
--- the project's own rule for addresses and words in texts: the number that eight upper-case hex digits write, the highest first
+-- the number that eight upper-case hex digits spell, the highest first: this is how texts of the
+-- project write addresses and words
 abbrev pub hex_number_of : List ℕ → Option ℕ
 hex_number_of ds = then_some (length ds == 8 && list_all is_upper_hex ds) (digits_value 16 ds)

@@ -1,4 +1,4 @@
--- Texts: lines, words and hex digits, read and written.
+-- Definitions of texts: lines, words and hex digits.
 pub mod Lines
 pub mod HexNumbers
 pub mod Digits

@@ -1,7 +1,7 @@
-// What stands around a byte of a text.
+// The parts of a text before and after a byte.
 ghost use Rattle.std.specs.Prelude.{◌≡◌, ◌≤◌, ◌+◌, length, take, drop};
 
-// What stands in front of this place.
+// Returns the bytes before this place.
 pub(crate) fn front_of(text: &[u8], place: usize) -> &[u8]
     requires { place ≤ length text.now }
     ensures { result.now ≡ take place text.now }
@@ -9,7 +9,7 @@ pub(crate) fn front_of(text: &[u8], place: usize) -> &[u8]
     &text[..place]
 }
 
-// What stands behind the byte at this place, if there is one.
+// Returns the bytes after the one at this place. At the end of the text there are none.
 pub(crate) fn rest_of(text: &[u8], place: usize) -> &[u8]
     requires { place ≤ length text.now }
     ensures { result.now ≡ drop (place + 1) text.now }

@@ -5,7 +5,7 @@ ghost use Rattle.tcd_text.specs.Digits.{hex_digit, hex_byte, hex_word};
 
 use tcd_base::NoMemory;
 
-// A hex digit, in upper case.
+// Returns the ASCII code of a hex digit, in upper case.
 #[tactic(auto, unfolding(crate::specs::Digits::hex_digit))]
 fn hex_digit(n: u32) -> u8
     requires { n < 16 }
@@ -14,7 +14,7 @@ fn hex_digit(n: u32) -> u8
     if n < 10 { 48 + n as u8 } else { 55 + n as u8 }
 }
 
-/// A byte as two hex digits.
+/// Returns the two hex digits of a byte, the higher one first.
 #[tactic(auto, unfolding(crate::specs::Digits::hex_byte))]
 pub fn hex_byte(byte: u32) -> [u8; 2]
     requires { byte < 256 }
@@ -23,7 +23,7 @@ pub fn hex_byte(byte: u32) -> [u8; 2]
     [hex_digit(byte / 16), hex_digit(byte % 16)]
 }
 
-/// A word as eight hex digits.
+/// Returns the eight hex digits of a word, the highest one first.
 #[tactic(auto, unfolding(crate::specs::Digits::hex_byte, crate::specs::Digits::hex_word))]
 pub fn hex_word(word: u32) -> [u8; 8]
     ensures { result ≡ hex_word word }
@@ -40,7 +40,7 @@ pub fn hex_word(word: u32) -> [u8; 8]
     ]
 }
 
-/// Puts ASCII bytes behind a text.
+/// Appends ASCII bytes to a text.
 pub fn append_ascii(text: &mut String, bytes: &[u8]) -> Result<(), NoMemory>
     requires { IsAscii bytes.now }
     ensures { OnOk result (string_bytes text.new ≡ string_bytes text.old ++ bytes.now) }
@@ -50,7 +50,7 @@ pub fn append_ascii(text: &mut String, bytes: &[u8]) -> Result<(), NoMemory>
     Ok(())
 }
 
-/// Puts a byte behind a text, as two hex digits.
+/// Appends the two hex digits of a byte to a text.
 pub fn append_hex_byte(text: &mut String, byte: u32) -> Result<(), NoMemory>
     requires { byte < 256 }
     ensures { OnOk result (string_bytes text.new ≡ string_bytes text.old ++ hex_byte byte) }
@@ -58,7 +58,7 @@ pub fn append_hex_byte(text: &mut String, byte: u32) -> Result<(), NoMemory>
     append_ascii(text, &hex_byte(byte))
 }
 
-/// Puts a word behind a text, as eight hex digits.
+/// Appends the eight hex digits of a word to a text.
 pub fn append_hex_word(text: &mut String, word: u32) -> Result<(), NoMemory>
     ensures { OnOk result (string_bytes text.new ≡ string_bytes text.old ++ hex_word word) }
 {

@@ -1,4 +1,4 @@
-// Numbers of eight hex digits.
+// Numbers of eight upper-case hex digits, read.
 ghost use Rattle.std.specs.Prelude.{◌≡◌, ◌≤◌, length};
 ghost use Rattle.std.specs.Bool.{then_some};
 ghost use Rattle.std.specs.Char.{digit_value};
@@ -29,7 +29,7 @@ fn digits_of(digits: &[u8]) -> Option<u32>
     Some(value)
 }
 
-/// The number that eight upper-case hex digits write.
+/// Returns the number that eight upper-case hex digits spell, or `None` for any other bytes.
 pub fn hex_number(digits: &[u8]) -> Option<u32>
     ensures { result ≡ hex_number_of digits.now }
 {

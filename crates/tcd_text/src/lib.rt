@@ -1,4 +1,4 @@
-//! Texts, read and written: lines, their words, and numbers of eight hex digits; bytes and words of 32 bits as hex digits.
+//! Texts, read and written: lines, their words, and bytes and 32-bit words as hex digits.
 #![tactic(auto)]
 
 mod cuts;

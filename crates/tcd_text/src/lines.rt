@@ -1,4 +1,4 @@
-// The lines of a text.
+// Cuts a text into its lines.
 ghost use Rattle.std.specs.Prelude.{◌≡◌, ◌≤◌, ◌<◌, ◌+◌, ◌==◌, ◌∷◌, length, drop, IfSome, position};
 ghost use Rattle.std.specs.List.{position_or_len};
 ghost use Rattle.tcd_text.specs.Lines.{lines_of};
@@ -12,7 +12,7 @@ fn find_feed(text: &[u8]) -> Option<usize>
     text.iter().position(|c| *c == b'\n')
 }
 
-// Where the first line ends.
+// Returns the place of the first line feed, or the length of the text.
 fn line_end(text: &[u8]) -> usize
     ensures end { result ≡ position_or_len (λ c. c == 10) text.now }
     ensures within { result ≤ length text.now }
@@ -23,7 +23,7 @@ fn line_end(text: &[u8]) -> usize
     }
 }
 
-/// The first line of a text that has one, and what stands behind its line feed.
+/// Returns the first line of a text that isn't empty, and the text after its line feed.
 pub fn cut_line(text: &[u8]) -> (&[u8], &[u8])
     requires { 0 < length text.now }
     ensures lines { lines_of text.now ≡ result.0.now ∷ lines_of result.1.now }

@@ -1,4 +1,4 @@
-// The words of a line.
+// Cuts a line into its words.
 ghost use Rattle.std.specs.Prelude.{◌≡◌, ◌<◌, length, position, IfSome, MatchOption, ◌∷◌, []};
 ghost use Rattle.tcd_text.specs.Lines.{is_blank, words_of};
 
@@ -11,7 +11,8 @@ fn find_blank(text: &[u8]) -> Option<usize>
     text.iter().position(|c| *c == b' ')
 }
 
-/// The first word of a line and what stands behind its blank; nothing where the line is one word.
+/// Returns the first word of a line, and the line after the blank that ends it. If the line is one
+/// word, the answer is `None`.
 pub fn cut_word(text: &[u8]) -> Option<(&[u8], &[u8])>
     ensures { MatchOption result (words_of text.now ≡ text.now ∷ [])
         (λ p. words_of text.now ≡ p.0.now ∷ words_of p.1.now) }
