@@ -1,4 +1,4 @@
--- What is written is read again.
+-- The file that is written for an image is read as that image.
 use Rattle.std.proofs.Common.{◌≡◌, ℕ, suc, ◌+◌, ◌*◌, ◌^◌, ◌<◌, ◌≤◌, Bool, true, false, cond, ◌&&◌, not, ◌==◌, ltb, List, [], ◌∷◌, ◌++◌, length, map, take, drop, filter, find, sum_by, Option, Some, None, Ok, refl, sym, ap, ◌∙◌, arith, append_assoc}
 use Rattle.std.specs.List.{range_with_len, list_all}
 use Rattle.std.specs.Option.{option_map}
@@ -43,12 +43,13 @@ length-file_of i h = omega (arith, length_is i, h.few, h.small)
 
 -- ---- the program headers
 
--- those of segments whose bytes begin at this place of the file, the first with this number
+-- the program headers of segments whose bytes begin at this offset, the first header with this
+-- number
 unfoldable headers_from : ℕ → ℕ → List SegmentData → List Header
 headers_from number offset [] = []
 headers_from number offset (s ∷ ss) = written_header number offset s.at (len s) ∷ headers_from (number + 1) (offset + len s) ss
 
--- what a segment's test says
+-- what the test of a segment gives
 record IsPart (s : SegmentData) : Type 0 where
   some : 0 < len s
   below : s.at + len s ≤ 2 ^ 32
@@ -64,7 +65,7 @@ both_second : (a b : Bool) → (a && b) ≡ true → b ≡ true
 both_second true b h = h
 both_second false b h = absurd cc
 
--- behind a front they are read
+-- the headers are read back after a front
 headers_again : (file front back : List ℕ) (number offset : ℕ) (ss : List SegmentData) → file ≡ front ++ (program_headers offset ss ++ back) → e_phoff file ≡ 52 → length front ≡ 52 + 32 * number → offset + size ss < 2 ^ 32 → list_all is_segment ss ≡ true → map (header_at file) (range_with_len number (length ss)) ≡ headers_from number offset ss
 unfolding program_headers headers_from
 headers_again file front back number offset [] is first place fits good = refl
@@ -84,7 +85,7 @@ loads_bytes : (number offset at n : ℕ) → 0 < n → has_bytes (written_header
 unfolding has_bytes written_header
 loads_bytes number offset at n h = grind (arith, nat_tests)
 
--- each loads bytes
+-- each of the headers loads bytes
 loads_again : (number offset : ℕ) (ss : List SegmentData) → list_all is_segment ss ≡ true → filter has_bytes (headers_from number offset ss) ≡ headers_from number offset ss
 unfolding headers_from
 loads_again number offset [] good = refl
@@ -93,7 +94,7 @@ loads_again number offset (s ∷ ss) good =
     let tail = loads_again (number + 1) (offset + len s) ss (both_second (is_segment s) (list_all is_segment ss) good) in
     rw (loads_bytes number offset s.at (len s) p.some, tail) refl
 
--- none is bad
+-- none of the headers is bad
 is_fine : (file : List ℕ) (number offset at n : ℕ) → e_phoff file ≡ 52 → 52 + 32 * (number + 1) ≤ length file → offset + n ≤ length file → at + n ≤ 2 ^ 32 → is_bad file (written_header number offset at n) ≡ false
 unfolding is_bad written_header
 is_fine file number offset at n first whole inside below = grind (arith, nat_tests)
@@ -121,7 +122,7 @@ not_large : (hs : List Header) → length hs ≤ 64 → sum_by (λ h. h.file_siz
 unfolding is_large
 not_large hs few small = grind (arith, nat_tests)
 
--- no two share an address
+-- no two of the headers share an address
 not_met : (s t : SegmentData) (number offset other place : ℕ) → are_apart s t ≡ true → meets (written_header number offset s.at (len s)) (written_header other place t.at (len t)) ≡ false
 unfolding meets written_header
 not_met s t number offset other place h = grind (arith, nat_tests)

@@ -1,4 +1,4 @@
--- The fields of a file that was written are read again.
+-- The fields of a file that was written are read back.
 use Rattle.std.proofs.Common.{◌≡◌, ℕ, ◌+◌, ◌*◌, ◌^◌, ◌<◌, List, ◌++◌, length, get_or, None, refl, ap, ◌∙◌, arith}
 use Rattle.std.proofs.lemmas.List.{get_or-append-add}
 use Rattle.std.proofs.lemmas.Bool.{le-ltb}
@@ -9,7 +9,7 @@ use Rattle.elf_image.specs.Written.{elf_header, program_header}
 get_or-behind : (front back : List ℕ) (k at : ℕ) → length front + k ≡ at → get_or (front ++ back) at 0 ≡ get_or back k 0
 get_or-behind front back k at e = rw (← e) (get_or-append-add front back k 0)
 
--- a word behind a front
+-- a word after a front
 word_at-behind : (front back : List ℕ) (k at : ℕ) → length front + k ≡ at → word_at (front ++ back) at ≡ word_at back k
 unfolding word_at
 word_at-behind front back k at e =

@@ -1,4 +1,4 @@
--- What the checks of a file leave: each program header is in the file, and so are the bytes that it loads.
+-- What a file that passes the checks gives: each program header and its bytes are in the file.
 use Rattle.std.proofs.Common.{◌≡◌, ℕ, zero, suc, ◌+◌, ◌^◌, ◌<◌, ◌≤◌, Bool, true, false, cond, List, [], ◌∷◌, length, map, find, filter, Option, Some, None, refl, arith, All}
 use Rattle.std.specs.List.{range_with_len, AllByRecursion}
 use Rattle.std.proofs.lemmas.List.Elements.{All-from_recursion}
@@ -10,7 +10,7 @@ use Rattle.elf_image.specs.declared.errors.ImageErr.TheVariants.{BadSegment}
 use Rattle.elf_image.specs.Elf.{e_phnum, place_of, header_at, headers_of, is_bad, has_bytes, loads_of, segment_refusal}
 use Rattle.elf_image.proofs.Rest.{number-header_at}
 
--- the bytes that it loads are in the file, below the end of memory, and not none
+-- the bytes that a header loads are in the file and below 2^32, and there is at least one
 pub record Good (bytes : List ℕ) (h : Header) : Type 0 where
   pub inside : h.offset + h.file_size ≤ length bytes
   pub below : h.address + h.file_size ≤ 2 ^ 32
@@ -24,7 +24,7 @@ whole : (bytes : List ℕ) (h : Header) → is_bad bytes h ≡ false → place_o
 unfolding is_bad
 whole bytes h fine = grind (arith, nat_tests)
 
--- none is found: none passes
+-- if `find` finds nothing, the first element fails the test
 pub unfound_head : {X : Type 0} (p : X → Bool) (x : X) (xs : List X) → find p (x ∷ xs) ≡ None → p x ≡ false
 unfound_head p x xs e = elim (p x) as (λ b. cond b (Some x) (find p xs) ≡ None → b ≡ false) [ true ↦ λ h. absurd cc | false ↦ λ h. refl ] e
 
@@ -41,7 +41,7 @@ chosen true e o h = absurd cc
 chosen false e None h = refl
 chosen false e (Some x) h = absurd cc
 
--- where no refusal comes, none is bad
+-- if there is no refusal, no header is bad
 none_bad : (bytes : List ℕ) → segment_refusal bytes ≡ None → find (is_bad bytes) (headers_of bytes) ≡ None
 unfolding segment_refusal
 none_bad bytes e = chosen _ _ _ e
@@ -63,7 +63,7 @@ goods : (bytes : List ℕ) (hs : List Header) → find (is_bad bytes) hs ≡ Non
 goods bytes [] e = tt
 goods bytes (h ∷ hs) e = goods_more bytes h hs (has_bytes h) refl (unfound_head (is_bad bytes) h hs e) (goods bytes hs (unfound_tail (is_bad bytes) h hs e))
 
--- what is loaded is good
+-- each header that loads bytes is good
 pub loads_good : (bytes : List ℕ) → segment_refusal bytes ≡ None → All (Good bytes) (loads_of bytes)
 unfolding loads_of
 loads_good bytes e = All-from_recursion (Good bytes) (loads_of bytes) (goods bytes (headers_of bytes) (none_bad bytes e))

@@ -1,4 +1,4 @@
--- What a file without a refusal loads keeps the limits of an image.
+-- What a file that passes the checks loads is within the limits of an image.
 use Rattle.std.proofs.Common.{◌≡◌, ℕ, zero, suc, ◌^◌, ◌<◌, ◌≤◌, Bool, true, false, ◌&&◌, List, [], ◌∷◌, length, map, find, drop, sum_by, Option, Some, None, refl, arith, All, get_or}
 use Rattle.std.specs.List.{list_all, AllByRecursion}
 use Rattle.std.specs.Option.{option_map, option_or}

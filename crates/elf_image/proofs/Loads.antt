@@ -1,4 +1,4 @@
--- The headers that load bytes, as a loop gathers them.
+-- The headers that load bytes, as a loop collects them.
 use Rattle.std.proofs.Common.{◌≡◌, ◌≢◌, ℕ, ◌+◌, ◌-◌, ◌^◌, ◌<◌, ◌≤◌, Bool, true, false, cond, ◌⊎◌, inl, inr, List, [], ◌∷◌, ◌++◌, length, filter, sum_by, refl, sym, ap, ◌∙◌, append_assoc, arith}
 use Rattle.std.proofs.lemmas.List.{append-nil, length-append}
 use Rattle.std.proofs.lemmas.List.Sums.{sum_by-append}
@@ -7,7 +7,7 @@ use Rattle.elf_image.specs.declared.headers.Header.{Header}
 use Rattle.elf_image.specs.Elf.{e_phnum, header_at, has_bytes, loads_of, is_large}
 use Rattle.elf_image.proofs.Rest.{rest_of, rest_of-start, rest_of-more, rest_of-end}
 
--- those so far and those to come are all; no more so far than an image has
+-- the headers so far and those that follow are all; those so far are within the limits of an image
 pub record LoadsSoFar (bytes : List ℕ) (i n : ℕ) (loads : List Header) (total : ℕ) : Type 0 where
   pub all : loads ++ filter has_bytes (rest_of bytes i n) ≡ loads_of bytes
   pub sum : total ≡ sum_by (λ h. h.file_size) loads
@@ -28,7 +28,7 @@ step bytes i n h b lt is e =
     let next = filter has_bytes (rest_of bytes (i + 1) n) in
     ap (filter has_bytes) (rest_of-more bytes i n lt ∙ ap (λ (x : Header). x ∷ rest_of bytes (i + 1) n) (sym is)) ∙ ap (λ t. cond t (h ∷ next) next) e
 
--- one that loads nothing
+-- a header that loads nothing
 pub loads_pass : (bytes : List ℕ) (i n : ℕ) (h : Header) (loads : List Header) (total : ℕ) → LoadsSoFar bytes i n loads total → i < n → h ≡ header_at bytes i → has_bytes h ≡ false → LoadsSoFar bytes (i + 1) n loads total
 loads_pass bytes i n h loads total so_far lt is e = record {
   all = ap (λ (hs : List Header). loads ++ hs) (sym (step bytes i n h false lt is e)) ∙ so_far.all;
@@ -40,7 +40,7 @@ loads_pass bytes i n h loads total so_far lt is e = record {
 taken : (bytes : List ℕ) (i n : ℕ) (h : Header) (loads : List Header) (total : ℕ) → LoadsSoFar bytes i n loads total → i < n → h ≡ header_at bytes i → has_bytes h ≡ true → (loads ++ h ∷ []) ++ filter has_bytes (rest_of bytes (i + 1) n) ≡ loads_of bytes
 taken bytes i n h loads total so_far lt is e = append_assoc loads (h ∷ []) (filter has_bytes (rest_of bytes (i + 1) n)) ∙ ap (λ (hs : List Header). loads ++ hs) (sym (step bytes i n h true lt is e)) ∙ so_far.all
 
--- one more
+-- one more header
 pub loads_more : (bytes : List ℕ) (i n : ℕ) (h : Header) (loads : List Header) (total : ℕ) → LoadsSoFar bytes i n loads total → i < n → h ≡ header_at bytes i → has_bytes h ≡ true → length loads ≢ 64 → total + h.file_size ≤ 2 ^ 24 → LoadsSoFar bytes (i + 1) n (loads ++ h ∷ []) (total + h.file_size)
 loads_more bytes i n h loads total so_far lt is e few small = record {
   all = taken bytes i n h loads total so_far lt is e;
@@ -56,7 +56,7 @@ large loads front back h e much =
     let all : sum_by (λ x. x.file_size) loads ≡ sum_by (λ x. x.file_size) front + h.file_size + sum_by (λ x. x.file_size) back = ap (sum_by (λ (x : Header). x.file_size)) (sym e) ∙ omega (arith, sum_by-append (λ (x : Header). x.file_size) (front ++ h ∷ []) back, sum_by-append (λ (x : Header). x.file_size) front (h ∷ [])) in
     elim much [ inl a ↦ grind (arith, nat_tests) | inr a ↦ grind (arith, nat_tests) ]
 
--- one too many
+-- one header too many
 pub loads_many : (bytes : List ℕ) (i n : ℕ) (h : Header) (loads : List Header) (total : ℕ) → LoadsSoFar bytes i n loads total → i < n → h ≡ header_at bytes i → has_bytes h ≡ true → length loads ≡ 64 → is_large (loads_of bytes) ≡ true
 loads_many bytes i n h loads total so_far lt is e much = large (loads_of bytes) loads (filter has_bytes (rest_of bytes (i + 1) n)) h (taken bytes i n h loads total so_far lt is e) (inl (omega arith))
 
@@ -64,7 +64,7 @@ loads_many bytes i n h loads total so_far lt is e much = large (loads_of bytes) 
 pub loads_long : (bytes : List ℕ) (i n : ℕ) (h : Header) (loads : List Header) (total : ℕ) → LoadsSoFar bytes i n loads total → i < n → h ≡ header_at bytes i → has_bytes h ≡ true → 2 ^ 24 - total < h.file_size → is_large (loads_of bytes) ≡ true
 loads_long bytes i n h loads total so_far lt is e much = large (loads_of bytes) loads (filter has_bytes (rest_of bytes (i + 1) n)) h (taken bytes i n h loads total so_far lt is e) (inr (omega (arith, so_far.sum, so_far.small)))
 
--- all of them
+-- all headers
 pub loads_all : (bytes : List ℕ) (i n : ℕ) (loads : List Header) (total : ℕ) → LoadsSoFar bytes i n loads total → n ≤ i → loads ≡ loads_of bytes
 loads_all bytes i n loads total h le = sym (append-nil loads) ∙ ap (λ (hs : List Header). loads ++ hs) (ap (filter has_bytes) (sym (rest_of-end bytes i n le))) ∙ h.all
 

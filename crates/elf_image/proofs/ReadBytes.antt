@@ -1,4 +1,4 @@
--- The bytes of segments: read one after another, and looked up at an address.
+-- Laws of the bytes of segments: read one after another, and looked up at an address.
 use Rattle.std.proofs.Common.{◌≡◌, ℕ, zero, suc, ◌+◌, ◌-◌, ◌^◌, ◌<◌, ◌∙◌, inl, inr, List, [], ◌∷◌, length, map, get_or, slice_get, Some, sym, ap, subst, arith}
 use Rattle.std.specs.Prelude.{All}
 use Rattle.std.proofs.lemmas.Bool.{cases_lt, cases_Bool}

@@ -1,4 +1,4 @@
--- The first refusal, step by step.
+-- Laws of the first refusal, step by step.
 use Rattle.std.proofs.Common.{◌≡◌, ◌⊎◌, inl, inr, ℕ, true, false, List, map, Option, Some, None, Ok, Err, refl, sym, ap, ◌∙◌}
 use Rattle.std.specs.Bool.{then_some}
 use Rattle.std.specs.Option.{option_or}
@@ -8,7 +8,7 @@ use Rattle.elf_image.specs.declared.headers.Header.{Header}
 use Rattle.elf_image.specs.Images.{SegmentData}
 use Rattle.elf_image.specs.Elf.{e_entry, loads_of, start_refusal, segment_refusal, is_large, overlap_refusal, refusal_of, segment_of, image_of_loads, unless, image_of, Gives}
 
--- the answer with a refusal
+-- the answer if there is a refusal
 pub refused : (bytes : List ℕ) (e : ImageErr) → refusal_of bytes ≡ Some e → Gives (Err e) (image_of bytes)
 unfolding image_of
 refused bytes NoMemory h = tt
@@ -46,7 +46,7 @@ pub refused_overlap : (bytes : List ℕ) (e : ImageErr) → None ≡ start_refus
 unfolding refusal_of
 refused_overlap bytes e h i j loads l k = refused bytes e (fourth (start_refusal bytes) (segment_refusal bytes) (then_some (is_large (loads_of bytes)) TooLarge) (overlap_refusal (loads_of bytes)) (Some e) h i (ap (λ b. then_some b TooLarge) (sym j)) (k ∙ ap overlap_refusal l))
 
--- the image, where there is none
+-- the image if there is no refusal
 pub image_of-loaded : (bytes : List ℕ) (entry : ℕ) (ss : List SegmentData) → None ≡ start_refusal bytes → None ≡ segment_refusal bytes → is_large (loads_of bytes) ≡ false → None ≡ overlap_refusal (loads_of bytes) → entry ≡ e_entry bytes → ss ≡ map (segment_of bytes) (loads_of bytes) → image_of bytes ≡ Ok (record { entry = entry; segments = ss })
 unfolding refusal_of image_of image_of_loads
 image_of-loaded bytes entry ss h i j k e f =

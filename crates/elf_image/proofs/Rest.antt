@@ -1,10 +1,10 @@
--- The program headers of a file that a loop has still to look at.
+-- The program headers that a loop hasn't looked at yet.
 use Rattle.std.proofs.Common.{◌≡◌, ℕ, suc, ◌+◌, ◌-◌, ◌<◌, ◌≤◌, List, [], ◌∷◌, map, find, cond, true, false, Some, refl, ap, ◌∙◌, arith}
 use Rattle.std.specs.List.{range_with_len}
 use Rattle.elf_image.specs.declared.headers.Header.{Header}
 use Rattle.elf_image.specs.Elf.{header_at, headers_of, e_phnum, is_bad}
 
--- from a number on, up to the end
+-- the headers from a number up to the end
 unfoldable pub rest_of : List ℕ → ℕ → ℕ → List Header
 rest_of bytes i n = map (header_at bytes) (range_with_len i (n - i))
 
@@ -30,7 +30,7 @@ pub number-header_at : (bytes : List ℕ) (i : ℕ) → (header_at bytes i).numb
 unfolding header_at
 number-header_at bytes i = refl
 
--- the first bad header of what is left, where the next one is bad and where it isn't
+-- the first bad header of the rest: the next one if it is bad, else the first of those after it
 pub find_bad-now : (bytes : List ℕ) (i n : ℕ) → i < n → is_bad bytes (header_at bytes i) ≡ true → find (is_bad bytes) (rest_of bytes i n) ≡ Some (header_at bytes i)
 find_bad-now bytes i n lt bad = ap (find (is_bad bytes)) (rest_of-more bytes i n lt) ∙ ap (λ b. cond b (Some (header_at bytes i)) (find (is_bad bytes) (rest_of bytes (i + 1) n))) bad
 

@@ -1,4 +1,4 @@
--- Executable files: the ELF specification's 32-bit files, least significant byte first, for this machine.
+-- Executable ELF files for this machine: 32 bits, least significant byte first (ELF specification).
 use Rattle.std.specs.Prelude.{◌≡◌, ℕ, ◌+◌, ◌*◌, ◌^◌, List, [], ◌∷◌, length, map, take, drop, filter, find, sum_by, Bool, not, ◌&&◌, ◌||◌, ◌==◌, nat_lt, nat_eq, if◌then◌else◌, Option, Some, None, Result, Ok, Err, slice_index}
 use Rattle.std.specs.Bool.{then_some}
 use Rattle.std.specs.Option.{option_or, option_map}
@@ -8,11 +8,11 @@ use Rattle.elf_image.specs.declared.headers.Header.{Header}
 use Rattle.elf_image.specs.declared.errors.ImageErr.{ImageErr}
 use Rattle.elf_image.specs.declared.errors.ImageErr.TheVariants.{Short, NotElf32Le, NotTriCore, NotExec, BadSegment, TooLarge, Overlap, NoMemory}
 
--- the two bytes of a file from a place on as a number, the least significant first (ELF's Elf32_Half, in ELFDATA2LSB)
+-- the two bytes of a file from a place on, the least significant first (Elf32_Half in ELFDATA2LSB)
 unfoldable pub half_at : List ℕ → ℕ → ℕ
 half_at bytes at = slice_index bytes at + slice_index bytes (at + 1) * 2 ^ 8
 
--- the four bytes of a file from a place on (ELF's Elf32_Word, Elf32_Addr and Elf32_Off)
+-- the four bytes of a file from a place on (Elf32_Word, Elf32_Addr and Elf32_Off)
 unfoldable pub word_at : List ℕ → ℕ → ℕ
 word_at bytes at =
     slice_index bytes at + slice_index bytes (at + 1) * 2 ^ 8
@@ -28,7 +28,7 @@ ident = 127 ∷ 69 ∷ 76 ∷ 70 ∷ 1 ∷ 1 ∷ []
 abbrev pub e_type : List ℕ → ℕ
 e_type bytes = half_at bytes 16
 
--- the machine that it is for
+-- the machine that the file is for
 abbrev pub e_machine : List ℕ → ℕ
 e_machine bytes = half_at bytes 18
 
@@ -36,25 +36,25 @@ e_machine bytes = half_at bytes 18
 abbrev pub e_entry : List ℕ → ℕ
 e_entry bytes = word_at bytes 24
 
--- where the program headers begin
+-- the offset of the program headers
 abbrev pub e_phoff : List ℕ → ℕ
 e_phoff bytes = word_at bytes 28
 
--- how many bytes a program header has
+-- the size of a program header, in bytes
 abbrev pub e_phentsize : List ℕ → ℕ
 e_phentsize bytes = half_at bytes 42
 
--- how many program headers there are
+-- the number of program headers
 abbrev pub e_phnum : List ℕ → ℕ
 e_phnum bytes = half_at bytes 44
 
 -- ---- program headers, Elf32_Phdr
 
--- where the program header of a number begins
+-- the offset of the program header with this number
 abbrev pub place_of : List ℕ → ℕ → ℕ
 place_of bytes number = e_phoff bytes + 32 * number
 
--- the program header of a number, from 0: p_type, p_offset, p_paddr, p_filesz and p_memsz
+-- the program header with this number, from 0: p_type, p_offset, p_paddr, p_filesz and p_memsz
 unfoldable pub header_at : List ℕ → ℕ → Header
 header_at bytes number = record {
   number = number;
@@ -69,7 +69,7 @@ header_at bytes number = record {
 unfoldable pub headers_of : List ℕ → List Header
 headers_of bytes = map (header_at bytes) (range_with_len 0 (e_phnum bytes))
 
--- it isn't wholly in the file
+-- the program header isn't wholly in the file
 abbrev pub is_cut : List ℕ → ℕ → Bool
 is_cut bytes number = nat_lt (length bytes) (place_of bytes number + 32)
 
@@ -77,18 +77,19 @@ is_cut bytes number = nat_lt (length bytes) (place_of bytes number + 32)
 abbrev pub is_load : Header → Bool
 is_load h = h.kind == 1
 
--- its bytes pass the end of a file of this length, or the last address; or its file part is longer than the whole
+-- the header's bytes pass the end of a file of this length or address 2^32, or p_filesz is above
+-- p_memsz
 abbrev pub passes_bounds : ℕ → Header → Bool
 passes_bounds len h =
     nat_lt len (h.offset + h.file_size)
     || nat_lt (2 ^ 32) (h.address + h.file_size)
     || nat_lt h.memory_size h.file_size
 
--- it isn't wholly in the file, or loads bytes that pass the bounds
+-- the program header isn't wholly in the file, or loads bytes that pass a bound
 unfoldable pub is_bad : List ℕ → Header → Bool
 is_bad bytes h = is_cut bytes h.number || (is_load h && passes_bounds (length bytes) h)
 
--- it loads bytes of the file
+-- the program header loads bytes of the file
 unfoldable pub has_bytes : Header → Bool
 has_bytes h = is_load h && nat_lt 0 h.file_size
 
@@ -96,13 +97,14 @@ has_bytes h = is_load h && nat_lt 0 h.file_size
 unfoldable pub loads_of : List ℕ → List Header
 loads_of bytes = filter has_bytes (headers_of bytes)
 
--- two of these that share an address
+-- two program headers that load bytes share an address
 unfoldable pub meets : Header → Header → Bool
 meets h k = nat_lt h.address (k.address + k.file_size) && nat_lt k.address (h.address + h.file_size)
 
 -- ---- refusals
 
--- what isn't an ELF file, 32 bits, the least significant byte first; for this machine (44); executable (ET_EXEC)
+-- refusals of a file that isn't ELF of 32 bits with the least significant byte first, isn't for
+-- this machine (44), or isn't executable (ET_EXEC)
 unfoldable pub start_refusal : List ℕ → Option ImageErr
 start_refusal bytes =
     if nat_lt (length bytes) 52 then Some Short
@@ -111,23 +113,23 @@ start_refusal bytes =
     else (if not (e_type bytes == 2) then Some NotExec
     else None)))
 
--- program headers that aren't of 32 bytes, or else the first one that is bad
+-- the refusal if program headers aren't of 32 bytes, or else of the first bad one
 unfoldable pub segment_refusal : List ℕ → Option ImageErr
 segment_refusal bytes =
     if nat_lt 0 (e_phnum bytes) && not (e_phentsize bytes == 32) then Some (BadSegment 0)
     else option_map (λ h. BadSegment h.number) (find (is_bad bytes) (headers_of bytes))
 
--- more than an image holds
+-- more segments or bytes than an image can have
 unfoldable pub is_large : List Header → Bool
 is_large loads = nat_lt 64 (length loads) || nat_lt (2 ^ 24) (sum_by (λ h. h.file_size) loads)
 
--- the first header that shares an address with a later one, and the first that it shares one with
+-- the first header that shares an address with a later one, and the first such later one
 unfoldable pub overlap_refusal : List Header → Option ImageErr
 overlap_refusal [] = None
 overlap_refusal (h ∷ hs) =
     option_or (option_map (λ k. Overlap h.number k.number) (find (meets h) hs)) (overlap_refusal hs)
 
--- the first refusal, in their order
+-- the first refusal, in the order of the checks
 unfoldable pub refusal_of : List ℕ → Option ImageErr
 refusal_of bytes =
     option_or (start_refusal bytes)
@@ -141,7 +143,7 @@ refusal_of bytes =
 abbrev pub segment_of : List ℕ → Header → SegmentData
 segment_of bytes h = record { at = h.address; bytes = take h.file_size (drop h.offset bytes) }
 
--- the entry, and a segment for each program header that loads bytes
+-- the entry, and a segment for each program header that loads bytes of the file
 unfoldable pub image_of_loads : List ℕ → ImageData
 image_of_loads bytes = record { entry = e_entry bytes; segments = map (segment_of bytes) (loads_of bytes) }
 
@@ -154,7 +156,7 @@ unless (Some e) i = Err e
 unfoldable pub image_of : List ℕ → Result ImageData ImageErr
 image_of bytes = unless (refusal_of bytes) (image_of_loads bytes)
 
--- a reader's answer is this one, unless memory ran out
+-- a reader's answer is this one, or out of memory
 abbrev pub Gives : Result ImageData ImageErr → Result ImageData ImageErr → Type 0
 Gives (Ok i) answer = answer ≡ Ok i
 Gives (Err Short) answer = answer ≡ Err Short

@@ -4,7 +4,7 @@ use Rattle.std.specs.List.{list_all}
 use Rattle.elf_image.specs.declared.images.Image.TheInside.{Inside}
 use Rattle.elf_image.specs.declared.segment.Segment.{Segment}
 
--- the bytes from an address on
+-- bytes, and the address of the first
 pub record SegmentData : Type 0 where
   pub at : ℕ
   pub bytes : List ℕ
@@ -22,11 +22,11 @@ segment_data s = record { at = s.at; bytes = s.bytes.items }
 abbrev pub image_data : Inside → ImageData
 image_data i = record { entry = i.entry; segments = map segment_data i.segments.items }
 
--- a byte at least, and none past 2^32
+-- a segment has a byte at least, and none at 2^32 or above
 abbrev pub is_segment : SegmentData → Bool
 is_segment s = nat_lt 0 (length s.bytes) && nat_le (s.at + length s.bytes) (2 ^ 32)
 
--- two segments that share no address
+-- two segments share no address
 abbrev pub are_apart : SegmentData → SegmentData → Bool
 are_apart s t = nat_le (s.at + length s.bytes) t.at || nat_le (t.at + length t.bytes) s.at
 
@@ -35,7 +35,7 @@ abbrev pub all_apart : List SegmentData → Bool
 all_apart [] = true
 all_apart (s ∷ ss) = list_all (are_apart s) ss && all_apart ss
 
--- the bytes of the segments are bytes
+-- the bytes of the segments are numbers below 256
 abbrev pub AreBytes : List SegmentData → Type 0
 AreBytes segments = All (λ (s : SegmentData). All (λ b. b < 2 ^ 8) s.bytes) segments
 
@@ -48,7 +48,7 @@ pub record IsImage (i : ImageData) : Type 0 where
   pub apart : IsTrue (all_apart i.segments)
   pub small : sum_by (λ s. length s.bytes) i.segments ≤ 2 ^ 24
 
--- the segment holds the address
+-- the segment holds the address x
 abbrev pub holds : SegmentData → ℕ → Bool
 holds s x = nat_le s.at x && nat_lt x (s.at + length s.bytes)
 
@@ -57,6 +57,6 @@ abbrev pub byte_in : List SegmentData → ℕ → Option ℕ
 byte_in [] x = None
 byte_in (s ∷ ss) x = if holds s x then slice_get s.bytes (x - s.at) else byte_in ss x
 
--- the byte of the image at x, None where no segment holds x
+-- the byte of the image at x, None if no segment holds x
 abbrev pub image_byte : ImageData → ℕ → Option ℕ
 image_byte i x = byte_in i.segments x

@@ -1,4 +1,4 @@
--- Images, and the ELF files that they are read from and written to.
+-- Definitions of images, and of the ELF files that they are read from and written to.
 pub mod Elf
 pub mod Images
 pub mod Written

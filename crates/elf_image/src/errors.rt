@@ -1,28 +1,29 @@
-// What keeps a file from being an image.
+// Why a file isn't an image.
 ghost use Rattle.std.specs.Prelude.{◌≡◌};
 ghost use Rattle.elf_image.specs.declared.errors.ImageErr.TheVariants.{NoMemory};
 
 use std::alloc::{AllocError, AllocFailed};
 
-/// Why a file isn't an image, in the order in which the causes are tried. Program headers are counted from 0.
+/// Why a file isn't an image, in the order in which the causes are checked. Program headers are
+/// numbered from 0.
 #[derive(Clone, Copy, Debug, PartialEq, Eq)]
 pub enum ImageErr {
-    /// Fewer than the 52 bytes of an ELF header.
+    /// The file is shorter than an ELF header (52 bytes).
     Short,
-    /// Not an ELF file of 32 bits with the least significant byte first.
+    /// The file isn't a little-endian ELF file of 32 bits.
     NotElf32Le,
-    /// `e_machine` isn't 44.
+    /// `e_machine` isn't 44 (TriCore).
     NotTriCore,
-    /// `e_type` isn't 2.
+    /// `e_type` isn't 2 (an executable).
     NotExec,
-    /// The first program header that isn't of 32 bytes, isn't wholly in the file, or whose bytes pass the file's end,
-    /// the last address or its own memory size.
+    /// The number of the first bad program header: it isn't of 32 bytes, isn't wholly in the file,
+    /// or its bytes pass the file's end, address 2^32 or its own memory size.
     BadSegment(u32),
-    /// More than 64 segments, or more than 16,777,216 bytes in them.
+    /// The file has more than 64 segments, or more than 16,777,216 bytes in them.
     TooLarge,
-    /// The first two segments that share an address, by the numbers of their program headers.
+    /// The numbers of the first two program headers whose segments share an address.
     Overlap(u32, u32),
-    /// Memory ran out.
+    /// An allocation failed.
     NoMemory,
 }
 

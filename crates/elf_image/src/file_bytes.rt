@@ -1,4 +1,4 @@
-// The file of an image, part by part.
+// Writes the ELF file of an image, part by part.
 ghost use Rattle.std.specs.Prelude.{◌≡◌, ◌++◌, ◌≤◌, ◌^◌, length, map, sum_by, OnOk, IfOk, IfErr};
 ghost use Rattle.elf_image.specs.Images.{segment_data};
 ghost use Rattle.elf_image.specs.Written.{elf_header, program_header, program_headers, contents, contents_place, file_of};
@@ -6,7 +6,7 @@ ghost use Rattle.elf_image.specs.Written.{elf_header, program_header, program_he
 use crate::{ImageErr, Segment};
 use std::alloc::Global;
 
-// The ELF header of an executable with this entry and so many program headers.
+// Returns the ELF header of an executable with this entry and `count` program headers.
 #[tactic(auto, unfolding(crate::specs::Written::elf_header))]
 fn elf_header(entry: u32, count: u16) -> [u8; 52]
     ensures { result ≡ elf_header entry count }
@@ -20,7 +20,8 @@ fn elf_header(entry: u32, count: u16) -> [u8; 52]
     ]
 }
 
-// The program header of a segment at an address, whose bytes begin at this place of the file.
+// Returns the program header of `len` bytes at `offset` of the file, which are loaded at the
+// address `at`.
 #[tactic(auto, unfolding(crate::specs::Written::program_header))]
 fn program_header(offset: u32, at: u32, len: u32) -> [u8; 32]
     ensures { result ≡ program_header offset at len }
@@ -65,7 +66,7 @@ fn put_contents(out: &mut Vec<u8>, segments: &[Segment]) -> Result<(), ImageErr>
     Ok(())
 }
 
-// The file of these segments, with the address at which the program begins.
+// Returns the ELF file of these segments, with the address at which the program begins.
 #[tactic(auto, unfolding(crate::specs::Written::file_of))]
 pub(crate) fn file_of(alloc: Global, entry: u32, segments: &[Segment]) -> Result<Vec<u8>, ImageErr>
     requires few { length segments.now ≤ 64 }

@@ -1,4 +1,4 @@
-// What an image is loaded from: the checks of a file, in their order.
+// The checks of an ELF file, in their order, and the segments that it loads.
 ghost use Rattle.std.specs.Prelude.{◌≡◌, ◌+◌, ◌≤◌, ◌<◌, ◌⊎◌, length, map, find, All, Option, Some, None, OnOk, IfOk, IfErr, true, false};
 ghost use Rattle.std.specs.Result.{result_err};
 ghost use Rattle.std.specs.Option.{option_map};
@@ -9,7 +9,7 @@ use crate::headers::{Header, half_at, has_bytes, header_at, is_bad, meets};
 use crate::{ImageErr, Segment};
 use std::alloc::Global;
 
-// That a file begins as an executable ELF file for this machine.
+// Checks that the file begins with the header of an executable for this machine.
 #[tactic(auto, unfolding(crate::specs::Elf::start_refusal))]
 pub(crate) fn check_start(bytes: &[u8]) -> Result<(), ImageErr>
     ensures refusal { result_err result ≡ start_refusal bytes.now }
@@ -30,7 +30,7 @@ pub(crate) fn check_start(bytes: &[u8]) -> Result<(), ImageErr>
     Ok(())
 }
 
-// The number of the first program header that can't be used.
+// Returns the number of the first bad program header.
 fn first_bad(bytes: &[u8]) -> Option<u32>
     requires { 52 ≤ length bytes.now }
     ensures { result ≡ option_map (λ h. h.number) (find (is_bad bytes.now) (headers_of bytes.now)) }
@@ -44,7 +44,7 @@ fn first_bad(bytes: &[u8]) -> Option<u32>
     None
 }
 
-// That each program header can be used.
+// Checks that no program header is bad.
 #[tactic(auto, unfolding(crate::specs::Elf::segment_refusal))]
 pub(crate) fn check_segments(bytes: &[u8]) -> Result<(), ImageErr>
     requires { 52 ≤ length bytes.now }
@@ -59,7 +59,7 @@ pub(crate) fn check_segments(bytes: &[u8]) -> Result<(), ImageErr>
     }
 }
 
-// The number of the first of these headers that shares an address with the first.
+// Returns the number of the first of `others` that shares an address with `header`.
 fn first_meeting(header: &Header, others: &[Header]) -> Option<u32>
     ensures { result ≡ option_map (λ k. k.number) (find (meets header.now) others.now) }
 {
@@ -71,7 +71,7 @@ fn first_meeting(header: &Header, others: &[Header]) -> Option<u32>
     None
 }
 
-// That no two of the headers that load bytes share an address.
+// Checks that no two of the headers that load bytes share an address.
 #[tactic(auto, unfolding(crate::specs::Elf::overlap_refusal))]
 pub(crate) fn check_apart(loads: &[Header]) -> Result<(), ImageErr>
     ensures { result_err result ≡ overlap_refusal loads.now }
@@ -84,7 +84,7 @@ pub(crate) fn check_apart(loads: &[Header]) -> Result<(), ImageErr>
     Ok(())
 }
 
-// The headers that load bytes, in order; at most 64, with at most 2^24 bytes together.
+// Collects the headers that load bytes, in order: at most 64, with at most 2^24 bytes together.
 pub(crate) fn loads_of(alloc: Global, bytes: &[u8]) -> Result<Vec<Header>, ImageErr>
     requires long { 52 ≤ length bytes.now }
     requires good { segment_refusal bytes.now ≡ None }
@@ -110,7 +110,7 @@ pub(crate) fn loads_of(alloc: Global, bytes: &[u8]) -> Result<Vec<Header>, Image
     Ok(loads)
 }
 
-// The bytes that a header loads, at their address.
+// Copies the bytes that a header loads.
 fn segment_of(alloc: Global, bytes: &[u8], load: &Header) -> Result<Segment, ImageErr>
     requires { load.now.offset + load.now.file_size ≤ length bytes.now }
     ensures ok { IfOk result (λ s. segment_data s ≡ segment_of bytes.now load.now) }
@@ -125,7 +125,7 @@ fn segment_of(alloc: Global, bytes: &[u8], load: &Header) -> Result<Segment, Ima
     })
 }
 
-// The segments of these headers, in order.
+// Copies the segments of these headers, in order.
 pub(crate) fn segments_of(
     alloc: Global,
     bytes: &[u8],

@@ -1,4 +1,4 @@
-// The fields of an ELF file, by their places.
+// Reads the fields of an ELF file by their offsets.
 ghost use Rattle.std.specs.Prelude.{◌≡◌, ◌+◌, ◌*◌, ◌≤◌, ◌<◌, ◌^◌, length};
 ghost use Rattle.elf_image.specs.Elf.{half_at, word_at, place_of, header_at, passes_bounds, is_bad, has_bytes, meets};
 
@@ -29,7 +29,7 @@ pub(crate) fn word_at(bytes: &[u8], at: usize) -> u32
     u32::from_le_bytes([bytes[at], bytes[at + 1], bytes[at + 2], bytes[at + 3]])
 }
 
-// Where the program header of a number begins.
+// Returns the offset of the program header with this number.
 pub(crate) fn place_of(bytes: &[u8], number: u16) -> usize
     requires { 52 ≤ length bytes.now }
     ensures place { result ≡ place_of bytes.now number }
@@ -38,7 +38,7 @@ pub(crate) fn place_of(bytes: &[u8], number: u16) -> usize
     word_at(bytes, 28) as usize + 32 * number as usize
 }
 
-// The program header of a number that is wholly in the file.
+// Reads the program header with this number, which is wholly in the file.
 #[tactic(auto, unfolding(crate::specs::Elf::header_at))]
 pub(crate) fn header_at(bytes: &[u8], number: u16) -> Header
     requires long { 52 ≤ length bytes.now }
@@ -56,7 +56,8 @@ pub(crate) fn header_at(bytes: &[u8], number: u16) -> Header
     }
 }
 
-// Whether the header's bytes pass the end of a file of this length, the last address or its own memory size.
+// Returns true if the header's bytes pass the end of a file of this length, address 2^32 or the
+// header's own memory size.
 pub(crate) fn passes_bounds(len: usize, header: &Header) -> bool
     ensures { result ≡ passes_bounds len header.now }
 {
@@ -66,7 +67,8 @@ pub(crate) fn passes_bounds(len: usize, header: &Header) -> bool
         || header.memory_size < header.file_size
 }
 
-// Whether the program header of a number can't be used.
+// Returns true if the program header with this number can't be used: it isn't wholly in the file,
+// or its bytes pass a bound.
 #[tactic(auto, unfolding(crate::specs::Elf::is_bad, crate::specs::Elf::header_at))]
 pub(crate) fn is_bad(bytes: &[u8], number: u16) -> bool
     requires { 52 ≤ length bytes.now }
@@ -79,7 +81,7 @@ pub(crate) fn is_bad(bytes: &[u8], number: u16) -> bool
     header.kind == 1 && passes_bounds(bytes.len(), &header)
 }
 
-// Whether a program header loads bytes of the file.
+// Returns true if the program header loads bytes of the file (type PT_LOAD).
 #[tactic(auto, unfolding(crate::specs::Elf::has_bytes))]
 pub(crate) fn has_bytes(header: &Header) -> bool
     ensures { result ≡ has_bytes header.now }
@@ -87,7 +89,7 @@ pub(crate) fn has_bytes(header: &Header) -> bool
     header.kind == 1 && header.file_size > 0
 }
 
-// Whether two program headers that load bytes share an address.
+// Returns true if two program headers that load bytes share an address.
 #[tactic(auto, unfolding(crate::specs::Elf::meets))]
 pub(crate) fn meets(header: &Header, other: &Header) -> bool
     ensures { result ≡ meets header.now other.now }

@@ -1,4 +1,4 @@
-// An image: the segments of an executable, with the limits that it always keeps.
+// An image: the segments of an executable, within limits that always hold.
 use crate::ImageErr;
 use crate::file_bytes::file_of;
 use crate::file_checks::{check_apart, check_segments, check_start, loads_of, segments_of};
@@ -7,8 +7,9 @@ use crate::segment::{Segment, byte_of, is_held};
 use std::alloc::Global;
 use std::marker::Model;
 
-/// The segments of an executable, and the address at which it begins. At most 64 segments, each with a byte at least
-/// and none passing 2^32; no two share an address; together at most 16,777,216 bytes.
+/// The segments of an executable, and the address at which the program begins. There are at most 64
+/// segments with at most 16,777,216 bytes together. Each has at least one byte and ends at 2^32 or
+/// below, and no two share an address.
 #[derive(Drop)]
 pub struct Image {
     pub entry: u32,
@@ -31,8 +32,8 @@ impl Image {
     ghost use Rattle.elf_image.specs.Elf.{Gives, image_of};
     ghost use Rattle.elf_image.specs.Written.{file_of};
 
-    /// The image that an executable ELF file of 32 bits for this machine loads: the segments of type PT_LOAD with
-    /// bytes in the file, in the order of their headers, each at its physical address.
+    /// Reads an executable ELF file of 32 bits for this machine. The image has the segments of type
+    /// PT_LOAD with bytes in the file, in the order of their headers, at their physical addresses.
     pub fn read(alloc: Global, bytes: &[u8]) -> Result<Image, ImageErr>
         requires { length bytes.now ≤ 2 ^ 30 }
         ensures { Gives result (image_of bytes.now) }
@@ -48,8 +49,8 @@ impl Image {
         })
     }
 
-    /// The executable file of the image: the ELF header, a program header for each segment, and the segments' bytes
-    /// without gaps. `read` gives the image again.
+    /// Writes the executable file of the image: the ELF header, a program header for each segment,
+    /// and the segments' bytes without gaps. `read` gives the image back.
     pub fn write(&self, alloc: Global) -> Result<Vec<u8>, ImageErr>
         ensures bytes { IfOk result (λ v. v.items ≡ file_of self.now) }
         ensures small { IfOk result (λ v. length v.items ≤ 2 ^ 30) }
@@ -59,7 +60,7 @@ impl Image {
         file_of(alloc, self.entry, &self.segments)
     }
 
-    /// The byte at an address; nothing where no segment holds it. Looks at each segment once, and at one byte.
+    /// Returns the byte at an address, or `None` if no segment holds the address.
     pub fn byte(&self, addr: u32) -> Option<u8>
         ensures byte { result ≡ image_byte self.now addr }
     {
@@ -71,7 +72,7 @@ impl Image {
         None
     }
 
-    /// Whether this byte stands at an address.
+    /// Returns true if the image holds this byte at this address.
     pub fn has_byte(&self, addr: u32, byte: u8) -> bool
         ensures { IsTrue result ↔ (image_byte self.now addr ≡ Some byte) }
     {

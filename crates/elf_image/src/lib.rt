@@ -1,4 +1,4 @@
-//! Executables: ELF32 files, and the image that they load.
+//! Executables: ELF files of 32 bits, and the image that they load.
 #![tactic(auto)]
 
 mod errors;

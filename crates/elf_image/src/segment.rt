@@ -1,8 +1,8 @@
-// The addresses and the bytes of one segment.
+// Segments: bytes from an address on.
 ghost use Rattle.std.specs.Prelude.{◌≡◌, ◌≤◌, ◌<◌, ◌-◌, ◌^◌, All, map, slice_get};
 ghost use Rattle.elf_image.specs.Images.{segment_data, holds, AreBytes};
 
-/// The bytes from `at` on.
+/// The bytes from the address `at` on.
 #[derive(Drop)]
 pub struct Segment {
     pub at: u32,
@@ -22,7 +22,7 @@ pub(crate) fn byte_of(segment: &Segment, addr: u32) -> Option<u8>
     segment.bytes.get((addr - segment.at) as usize).copied()
 }
 
-// Each byte that is read is a number below 256.
+// Establishes that bytes are numbers below 256.
 fn read_bytes(bytes: &[u8])
     ensures { All (λ b. b < 2 ^ 8) bytes.now }
 {
@@ -31,7 +31,8 @@ fn read_bytes(bytes: &[u8])
     }
 }
 
-/// That the bytes of segments are numbers below 256, as an image asks of them. It looks at each of them, and does nothing.
+/// Establishes that the bytes of segments are numbers below 256, which an image requires. It reads
+/// each byte and changes nothing.
 pub fn read_segments(segments: &[Segment])
     ensures { AreBytes (map segment_data segments.now) }
 {

@@ -3,7 +3,7 @@ use Rattle.elf_image.specs.Images.{segment_data}
 use Rattle.elf_image.specs.Written.{program_headers, contents_place}
 use Rattle.elf_image.proofs.file_bytes.put_headers.Given as goal
 
--- those so far and those to come are all; what is to come fits
+-- the segments so far and those that follow are all; those that follow fit
 abbrev pub invariant-loop-segment : goal.invariant-loop-segment
 invariant-loop-segment l =
     let rest = map segment_data (drop l.segment-index l.segments) in

@@ -3,6 +3,6 @@ use Rattle.elf_image.specs.Elf.{is_bad, headers_of}
 use Rattle.elf_image.proofs.Rest.{rest_of}
 use Rattle.elf_image.proofs.file_checks.first_bad.Given as goal
 
--- the first that is bad is among what is left
+-- the first bad header is in the rest
 abbrev pub invariant-loop-number : goal.invariant-loop-number
 invariant-loop-number l = find (is_bad l.bytes) (rest_of l.bytes l.number l.count) ≡ find (is_bad l.bytes) (headers_of l.bytes)

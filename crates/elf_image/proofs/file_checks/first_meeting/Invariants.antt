@@ -2,6 +2,6 @@ use Rattle.std.proofs.Common.{◌≡◌, find, drop}
 use Rattle.elf_image.specs.Elf.{meets}
 use Rattle.elf_image.proofs.file_checks.first_meeting.Given as goal
 
--- the first that meets it is among what is left
+-- the first header that shares an address is in the rest
 abbrev pub invariant-loop-other : goal.invariant-loop-other
 invariant-loop-other l = find (meets l.header) (drop l.other-index l.others) ≡ find (meets l.header) l.others

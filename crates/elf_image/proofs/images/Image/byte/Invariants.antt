@@ -2,6 +2,6 @@ use Rattle.std.proofs.Common.{◌≡◌, map, drop}
 use Rattle.elf_image.specs.Images.{byte_in, segment_data}
 use Rattle.elf_image.proofs.images.Image.byte.Given as goal
 
--- what is left holds the byte that all segments hold
+-- a byte that the segments hold is held by the rest
 abbrev pub invariant-loop-segment : goal.invariant-loop-segment
 invariant-loop-segment l = byte_in l.self.segments l.addr ≡ byte_in (map segment_data (drop l.segment-index l.segment-items)) l.addr
