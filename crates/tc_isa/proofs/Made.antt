@@ -16,7 +16,7 @@ some_same x y e = cc
 pub at_listed : (rows : List Row) (p : ℕ) (d : Row) → map row_of rows ≡ listed → p < length rows → slice_get listed p ≡ Some (row_of (get_or rows p d))
 at_listed rows p d are within = ap (λ rs. slice_get rs p) (sym are) ∙ at_here rows p d within
 
--- the instruction whose row stands at this place in the program's table
+-- the instruction whose row is at this place of the program's table
 pub made : (rows : List Row) (p : ℕ) (d : Row) (i : InstData) → map row_of rows ≡ listed → p ≡ i.row → p < length rows → Fits (row_of (get_or rows p d)) (fields_in i) → IsInst i
 made rows p d i are same within fits = record { row = row_of (get_or rows p d); at = ap (slice_get listed) (sym same) ∙ at_listed rows p d are within; fits = fits }
 

@@ -1,4 +1,4 @@
--- The meaning of a row in the program's table is that of the instruction.
+-- The meaning of a row in the program's table is the meaning of the instruction.
 use Rattle.std.proofs.Common.{◌≡◌, ◌<◌, ℕ, List, [], map, length, get_or, ap, sym, subst, ◌∙◌, arith, refl}
 use Rattle.std.specs.Prelude.{slice_get}
 use Rattle.std.proofs.lemmas.List.{get_or-map, length-map}
@@ -14,7 +14,7 @@ use Rattle.tc_isa.specs.Insts.{InstData, IsInst, fields_in}
 use Rattle.tc_isa.specs.Shapes.{Line, meanings, by_line, shape_of}
 use Rattle.tc_isa.specs.Meanings.{AreSmall, meant}
 
--- how small the fields of a form are
+-- bounds of the fields of a form
 small_in : (form : Form) (f : Fields) → IsBelow f (bounds form) → AreSmall f
 unfolding bounds
 small_in Rlc f b = record { c = omega arith; s1 = omega arith; s2 = omega arith; n = omega arith; k = omega arith }

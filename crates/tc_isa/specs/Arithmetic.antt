@@ -1,4 +1,5 @@
--- Arithmetic on words, by whole numbers modulo 2 ^ 32 (TriCore 1 architecture manual, volume 2, instruction set).
+-- Arithmetic on words, by whole numbers modulo 2 ^ 32.
+-- (TriCore 1 architecture manual, volume 2, instruction set)
 use Rattle.std.specs.Prelude.{◌+◌, ◌-◌, ◌*◌, ◌/◌, ◌%◌, ◌^◌, ℕ, Bool, not, ◌==◌, nat_lt, nat_le, if◌then◌else◌, bit_and, bit_or, bit_xor}
 use Rattle.tcd_base.specs.Fields.{sext_of}
 use Rattle.tc_isa.specs.declared.shapes.Op.{Op}
@@ -10,15 +11,15 @@ use Rattle.tc_isa.specs.declared.shapes.Cond.TheVariants as cond
 abbrev pub sign_extended : ℕ → ℕ → ℕ
 sign_extended n x = sext_of x n
 
--- a word's place in the signed order: words stand in it as these numbers stand in theirs
+-- a word's position in the signed order: positions compare as the signed words do
 abbrev pub signed_place : ℕ → ℕ
 signed_place x = (x + 2 ^ 31) % 2 ^ 32
 
--- all bits of a word turned over
+-- the word with all bits inverted
 abbrev pub complement : ℕ → ℕ
 complement x = 2 ^ 32 - 1 - x
 
--- whether a condition holds of two words; Lt and Ge are signed, LtU and GeU unsigned
+-- a condition holds for two words; Lt and Ge are signed, LtU and GeU unsigned
 unfoldable pub taken_of : Cond → ℕ → ℕ → Bool
 taken_of cond.Eq x y = x == y
 taken_of cond.Ne x y = not (x == y)
@@ -27,16 +28,16 @@ taken_of cond.LtU x y = nat_lt x y
 taken_of cond.Ge x y = nat_le (signed_place y) (signed_place x)
 taken_of cond.GeU x y = nat_le y x
 
--- 1 for what holds, else 0
+-- 1 for true, else 0
 abbrev pub one_if : Bool → ℕ
 one_if b = if b then 1 else 0
 
--- the shift by a count of six bits, which is a signed number: left by it below 32, else right by 64 less it, filled
--- with zeros
+-- the shift by a count of six bits: to the left if it is below 32, else to the right by 64 less the
+-- count, filled with zeros
 abbrev pub shift_by : ℕ → ℕ → ℕ
 shift_by x n = if nat_lt n 32 then x * 2 ^ n % 2 ^ 32 else x / 2 ^ (64 - n)
 
--- the same, but to the right filled with the sign bit
+-- the shift by a count of six bits, to the right filled with the sign bit
 abbrev pub shifted_signed : ℕ → ℕ → ℕ
 shifted_signed x n = if nat_lt n 32 then x * 2 ^ n % 2 ^ 32 else if nat_lt x (2 ^ 31) then x / 2 ^ (64 - n) else complement (complement x / 2 ^ (64 - n))
 

@@ -1,4 +1,4 @@
--- What holds of each shape that an instruction has: its registers and words are registers and words.
+-- Bounds of what instructions do: registers are below 32, words below 2 ^ 32.
 use Rattle.std.specs.Prelude.{◌≡◌, ◌<◌, ◌^◌, ◌⊎◌, ℕ}
 use Rattle.tc_isa.specs.declared.shapes.Arg.{Arg}
 use Rattle.tc_isa.specs.declared.shapes.Arg.TheVariants.{Reg, Word}
@@ -26,11 +26,11 @@ IsTarget (target.Rel w) = IsWord w
 IsTarget (target.Abs w) = IsWord w
 IsTarget (target.Reg r) = IsRegister r
 
--- how many bytes an access has
+-- the size of an access in bytes
 abbrev pub IsSize : ℕ → Type 0
 IsSize n = (n ≡ 1) ⊎ ((n ≡ 2) ⊎ (n ≡ 4))
 
--- the registers, words, sizes and numbers of a shape are such
+-- the registers, words, sizes and numbers of a shape are within their bounds
 abbrev pub IsShape : Shape → Type 0
 IsShape (Compute op dst x y) = IsRegister dst × IsArg x × IsArg y
 IsShape (Scaled dst base index n) = IsRegister dst × IsRegister base × IsRegister index × (n < 4)

@@ -1,4 +1,4 @@
--- Which bytes spell an instruction.
+-- The bytes that spell an instruction.
 use Rattle.std.specs.Prelude.{◌≡◌, ◌/◌, ◌%◌, ◌^◌, ◌<◌, ◌==◌, ◌&&◌, ◌||◌, not, ℕ, List, [], ◌∷◌, Bool, true, false, nat_lt, if◌then◌else◌}
 use Rattle.std.specs.List.{list_any}
 use Rattle.tc_isa.specs.Rows.{RowData}
@@ -6,17 +6,18 @@ use Rattle.tc_isa.specs.declared.fields.Fields.{Fields}
 use Rattle.tc_isa.specs.declared.fields.Uses.{Uses}
 use Rattle.tc_isa.specs.Words.{IsBelow, bounds, second_bound, word, fields, is_long_form, form_index}
 
--- two bytes stand side by side
+-- two bytes are neighbours in the list
 abbrev pub has_pair : ℕ → ℕ → List ℕ → Bool
 has_pair a b [] = false
 has_pair a b (x ∷ []) = false
 has_pair a b (x ∷ y ∷ rest) = x == a && y == b || has_pair a b (y ∷ rest)
 
--- a byte stands among these
+-- the list has this byte
 abbrev pub has_byte : ℕ → List ℕ → Bool
 has_byte a xs = list_any (λ x. x == a) xs
 
--- the fields that a row's text names: c, s1, s2 (or the constant k4 kept there), n, and k or a target
+-- the fields that a row has, by its text: c, s1, s2 (or the constant k4 kept there), n, and k or a
+-- target
 abbrev pub uses_of : RowData → Uses
 uses_of r = record {
   c = has_byte 99 r.operands;
@@ -26,11 +27,11 @@ uses_of r = record {
   k = has_byte 107 r.operands || has_byte 84 r.operands || has_byte 85 r.operands;
 }
 
--- a field that isn't named is 0
+-- a field that the row doesn't have is 0
 abbrev pub rest_is_zero : Uses → Fields → Bool
 rest_is_zero u f = (u.c || f.c == 0) && (u.s1 || f.s1 == 0) && (u.s2 || f.s2 == 0) && (u.n || f.n == 0) && (u.k || f.k == 0)
 
--- a post-increment of an address register isn't of the base itself
+-- an address register that is loaded or stored with post-increment isn't the base too
 abbrev pub is_apart : RowData → Fields → Bool
 is_apart r f = not ((r.op1 == 9 || r.op1 == 137) && r.op2 == 6) || not (f.s1 == f.s2)
 
@@ -40,20 +41,20 @@ pub record Fits (r : RowData) (f : Fields) : Type 0 where
   pub zero : rest_is_zero (uses_of r) f ≡ true
   pub apart : is_apart r f ≡ true
 
--- the number that an instruction of the row is, with these fields
+-- the instruction of a row with these fields, as one number
 abbrev pub word_of : RowData → Fields → ℕ
 word_of r f = word r.form r.op1 r.op2 f
 
--- a word of 32 bits begins with an odd byte
+-- a row of 32 bits: its first byte is odd
 abbrev pub is_long : RowData → Bool
 is_long r = r.op1 % 2 == 1
 
--- both hold, or neither
+-- both tests hold, or neither
 abbrev pub same_test : Bool → Bool → Bool
 same_test true b = b
 same_test false b = not b
 
--- the least fields of a row: 0, but for an address register that may not be the base
+-- the least fields of a row: all 0, except an address register that can't be the base
 abbrev pub least : RowData → Fields
 least r = if is_apart r (fields 0 0 0 0 0) then fields 0 0 0 0 0 else fields 0 1 0 0 0
 
@@ -68,19 +69,19 @@ pub record IsRow (r : RowData) : Type 0 where
 abbrev pub is_below_test : Fields → Fields → Bool
 is_below_test f b = nat_lt f.c b.c && nat_lt f.s1 b.s1 && nat_lt f.s2 b.s2 && nat_lt f.n b.n && nat_lt f.k b.k
 
--- the same as a test
+-- the test of IsRow
 unfoldable pub is_row : RowData → Bool
 is_row r = nat_lt r.op1 256 && nat_lt r.op2 (second_bound r.form) && is_below_test (least r) (bounds r.form) && rest_is_zero (uses_of r) (least r) && is_apart r (least r) && same_test (is_long r) (is_long_form r.form)
 
--- a number as bytes, the lowest first
+-- the two bytes of a number, the lowest first
 abbrev pub two_bytes : ℕ → List ℕ
 two_bytes w = w % 256 ∷ w / 256 ∷ []
 
--- a word as four bytes, the lowest first
+-- the four bytes of a word, the lowest first
 abbrev pub four_bytes : ℕ → List ℕ
 four_bytes w = w % 256 ∷ w / 2 ^ 8 % 256 ∷ w / 2 ^ 16 % 256 ∷ w / 2 ^ 24 ∷ []
 
--- a number as the bytes of an instruction of 32 bits or of 16
+-- the bytes of an instruction of 32 bits or of 16
 abbrev pub spelling_of : Bool → ℕ → List ℕ
 spelling_of true w = four_bytes w
 spelling_of false w = two_bytes w
@@ -89,7 +90,8 @@ spelling_of false w = two_bytes w
 abbrev pub spelling : RowData → Fields → List ℕ
 spelling r f = spelling_of (is_long r) (word_of r f)
 
--- two rows that some word could have both: one first code, and another form or the same second code
+-- two rows clash if some word could be both: they have one first code, and different forms or equal
+-- second codes
 abbrev pub clash : RowData → RowData → Bool
 clash r s = r.op1 == s.op1 && (not (form_index r.form == form_index s.form) || r.op2 == s.op2)
 

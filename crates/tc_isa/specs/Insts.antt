@@ -5,7 +5,7 @@ use Rattle.tc_isa.specs.declared.fields.Fields.{Fields}
 use Rattle.tc_isa.specs.Words.{fields}
 use Rattle.tc_isa.specs.Codec.{Fits}
 
--- the place of a row, and fields
+-- the number of a row, and fields
 pub record InstData : Type 0 where
   pub row : ℕ
   pub c : ℕ
@@ -18,7 +18,7 @@ pub record InstData : Type 0 where
 abbrev pub fields_in : InstData → Fields
 fields_in i = fields i.c i.s1 i.s2 i.n i.k
 
--- it names a row, and the fields fit
+-- the number is that of a row, and the fields fit the row
 pub record IsInst (i : InstData) : Type 0 where
   pub row : RowData
   pub at : slice_get listed i.row ≡ Some row

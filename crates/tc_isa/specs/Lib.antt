@@ -1,4 +1,4 @@
--- The instruction table: rows, forms and fields, what spells an instruction, and what it does.
+-- Definitions of the instruction table: rows, forms, fields, spelling, and what instructions do.
 pub mod Rows
 pub mod Words
 pub mod Codec

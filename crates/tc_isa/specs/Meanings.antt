@@ -1,4 +1,4 @@
--- What an instruction does, by places for what its fields give.
+-- What an instruction does, in terms of its fields.
 use Rattle.std.specs.Prelude.{◌%◌, ◌^◌, ◌<◌, ℕ}
 use Rattle.tc_isa.specs.declared.fields.Fields.{Fields}
 use Rattle.tc_isa.specs.declared.meaning.RegField.{RegField}
@@ -30,7 +30,7 @@ pub record AreSmall (f : Fields) : Type 0 where
   pub n : f.n < 4
   pub k : f.k < 2 ^ 24
 
--- the register at a place
+-- the register that a field names, or a fixed one
 abbrev pub register_of : RegField → Fields → ℕ
 register_of Dc f = d f.c
 register_of Ds1 f = d f.s1
@@ -41,7 +41,7 @@ register_of As1 f = a f.s1
 register_of As2 f = a f.s2
 register_of A10 f = a 10
 
--- the word that a constant is
+-- the word of a constant
 abbrev pub word_at : Immediate → Fields → ℕ
 word_at Zero f = 0
 word_at Signed4 f = sk 4 f
@@ -54,19 +54,19 @@ word_at Address f = place f
 word_at SignedS2 f = sign_extended 4 (f.s2 % 2 ^ 4)
 word_at UnsignedS2 f = f.s2
 
--- the operand: the register at its place, or the word of its constant
+-- the operand: a register, or the word of a constant
 abbrev pub operand_of : Operand → Fields → Arg
 operand_of (At p) f = Reg (register_of p f)
 operand_of (Of c) f = Word (word_at c f)
 
--- how many bytes ahead a target is
+-- a distance in bytes
 abbrev pub distance_of : Displacement → Fields → ℕ
 distance_of Ahead8 f = doubled_displacement 8 f
 distance_of Ahead15 f = doubled_displacement 15 f
 distance_of Ahead24 f = doubled_displacement 24 f
 distance_of AheadOnly f = ahead_only f
 
--- the target
+-- the target of a jump or a call
 abbrev pub goal_of : Destination → Fields → Target
 goal_of (By b) f = target.Rel (distance_of b f)
 goal_of Code f = target.Abs (code_place f)

@@ -1,4 +1,4 @@
--- The kinds of relocations, and the forms of instructions whose constant they fill.
+-- The kinds of relocations, and the forms of instructions whose constants they fill.
 use Rattle.std.specs.Prelude.{◌==◌, ◌&&◌, ◌||◌, nat_le, ℕ, Bool, false}
 use Rattle.tc_isa.specs.declared.table.Form.{Form}
 use Rattle.tc_isa.specs.declared.table.Form.TheVariants.{Rlc, Bol, Brr, Brc, B}
@@ -15,7 +15,7 @@ abs24 = 2
 abbrev pub rel15 : ℕ
 rel15 = 3
 
--- the upper half of an address, one more where its lower half is negative
+-- the upper half of an address, plus 1 if the lower half is negative
 abbrev pub hi16 : ℕ
 hi16 = 4
 
@@ -35,8 +35,8 @@ word32 = 7
 abbrev pub is_reloc : ℕ → Bool
 is_reloc kind = nat_le rel24 kind && nat_le kind word32
 
--- a relocation of this kind fills the constant of an instruction of this form (TriCore 1 architecture manual, volume 2,
--- instruction formats)
+-- a relocation of this kind fills the constant of an instruction of this form (TriCore 1
+-- architecture manual, volume 2, instruction formats)
 unfoldable pub fills : Form → ℕ → Bool
 fills B kind = kind == rel24 || kind == abs24
 fills Brr kind = kind == rel15

@@ -1,10 +1,10 @@
--- The rows of the instruction table, in their order.
+-- The rows of the instruction table, in their order. Printed by tools/rows.py.
 use Rattle.std.specs.Prelude.{ℕ, List, [], ◌∷◌, codes}
 use Rattle.tc_isa.specs.declared.table.Row.{Row}
 use Rattle.tc_isa.specs.declared.table.Form.{Form}
 use Rattle.tc_isa.specs.declared.table.Form.TheVariants.{Rlc, Rr, Rc, Bol, Bo, Brr, Brc, B, Abs, Sys, Sr, Sc, Sb, Sbr, Src, Srr, Slr, Ssr}
 
--- a row without where its texts lie
+-- a row, with its texts as bytes
 pub record RowData : Type 0 where
   pub name : List ℕ
   pub operands : List ℕ
@@ -12,11 +12,11 @@ pub record RowData : Type 0 where
   pub op1 : ℕ
   pub op2 : ℕ
 
--- a row of the code without where its texts lie
+-- a row of the code, with its texts as bytes
 abbrev pub row_of : Row → RowData
 row_of r = record { name = r.name.now; operands = r.operands.now; form = r.form; op1 = r.op1; op2 = r.op2 }
 
--- the row of a name, its operands' text, its form, and its codes
+-- builds a row from its name, its operands' text, its form, and its codes
 abbrev pub row : List ℕ → List ℕ → Form → ℕ → ℕ → RowData
 row name operands form op1 op2 = record { name = name; operands = operands; form = form; op1 = op1; op2 = op2 }
 

@@ -12,7 +12,7 @@ use Rattle.tc_isa.specs.declared.shapes.Shape.TheVariants.{Compute, Scaled, Load
 use Rattle.tc_isa.specs.Arithmetic.{sign_extended}
 use Rattle.tc_isa.specs.Insts.{InstData, fields_in}
 
--- the registers Dn and An, as they are numbered
+-- the register Dn
 abbrev pub d : ℕ → ℕ
 d n = n
 
@@ -20,11 +20,11 @@ d n = n
 abbrev pub a : ℕ → ℕ
 a n = 16 + n
 
--- the constant k: its low n bits sign-extended, as it is, and times 2 ^ 16
+-- the low n bits of the constant k, sign-extended
 abbrev pub sk : ℕ → Fields → ℕ
 sk n f = sign_extended n (f.k % 2 ^ n)
 
--- the constant k as it is
+-- the constant k itself
 abbrev pub uk : Fields → ℕ
 uk f = f.k
 
@@ -32,59 +32,60 @@ uk f = f.k
 abbrev pub high : Fields → ℕ
 high f = f.k * 2 ^ 16 % 2 ^ 32
 
--- the address that the 18 bits of k are: four bits of segment, and 14 of offset
+-- the address that the 18 bits of k encode: four bits of segment, and 14 of offset
 abbrev pub place : Fields → ℕ
 place f = f.k / 2 ^ 14 % 2 ^ 4 * 2 ^ 28 + f.k % 2 ^ 14
 
--- the address that the 24 bits of k are: four bits of segment, and 20 of offset in halfwords
+-- the address that the 24 bits of k encode: four bits of segment, and 20 of offset in halfwords
 abbrev pub code_place : Fields → ℕ
 code_place f = f.k / 2 ^ 20 % 2 ^ 4 * 2 ^ 28 + f.k % 2 ^ 20 * 2
 
--- twice the displacement k of n bits, sign-extended, and zero-extended
+-- twice the displacement k of n bits, sign-extended
 abbrev pub doubled_displacement : ℕ → Fields → ℕ
 doubled_displacement n f = 2 * sk n f % 2 ^ 32
 
--- twice the displacement k, zero-extended
+-- twice the displacement k, not sign-extended
 abbrev pub ahead_only : Fields → ℕ
 ahead_only f = 2 * f.k % 2 ^ 32
 
--- the meanings of the rows that are alike: what an instruction with given fields does
+-- a meaning: what an instruction with given fields does
 abbrev pub Meaning : Type 0
 Meaning = Fields → Shape
 
--- Dc becomes the operation on Ds1 and Ds2, on Ds1 and the signed constant, and on Ds1 and the unsigned one
+-- Dc = the operation on Ds1 and Ds2
 abbrev pub registers : Op → Meaning
 registers op f = Compute op (d f.c) (Reg (d f.s1)) (Reg (d f.s2))
 
--- Dc becomes the operation on Ds1 and the signed constant
+-- Dc = the operation on Ds1 and the signed constant
 abbrev pub signed : Op → Meaning
 signed op f = Compute op (d f.c) (Reg (d f.s1)) (Word (sk 9 f))
 
--- Dc becomes the operation on Ds1 and the unsigned constant
+-- Dc = the operation on Ds1 and the unsigned constant
 abbrev pub unsigned : Op → Meaning
 unsigned op f = Compute op (d f.c) (Reg (d f.s1)) (Word (uk f))
 
--- Ds1 becomes the operation on itself and Ds2
+-- Ds1 = the operation on Ds1 and Ds2
 abbrev pub own : Op → Meaning
 own op f = Compute op (d f.s1) (Reg (d f.s1)) (Reg (d f.s2))
 
--- loads from the base As2, and stores to it; with `after` the base is increased afterwards
+-- a load of `size` bytes, signed or not, from the base As2 to a data register; with `after` the
+-- base is increased afterwards
 abbrev pub load : ℕ → Bool → Bool → Meaning
 load size sign after f = Load (d f.s1) (Reg (a f.s2)) (sk 10 f) size sign after
 
--- an address register is loaded from the base
+-- a load of an address register from the base As2
 abbrev pub load_address : Bool → Meaning
 load_address after f = Load (a f.s1) (Reg (a f.s2)) (sk 10 f) 4 false after
 
--- a data register is stored to the base, so many bytes of it
+-- a store of the low `size` bytes of a data register to the base As2
 abbrev pub store : ℕ → Bool → Meaning
 store size after f = Store (d f.s1) (Reg (a f.s2)) (sk 10 f) size after
 
--- an address register is stored to the base
+-- a store of an address register to the base As2
 abbrev pub store_address : Bool → Meaning
 store_address after f = Store (a f.s1) (Reg (a f.s2)) (sk 10 f) 4 after
 
--- branches on two data registers, and on one and a constant of four bits in the place of s2
+-- a branch on two data registers
 abbrev pub branch : Cond → Meaning
 branch c f = Branch c (d f.s1) (Reg (d f.s2)) (doubled_displacement 15 f) false
 
@@ -252,7 +253,7 @@ meanings =
     line (codes "st16.a") (λ f. Store (a f.s1) (Reg (a f.s2)) 0 4 false) ∷
     []
 
--- the meaning of a line with these fields; nothing where there is no line
+-- the meaning of a line with these fields; Nothing if there is no line
 abbrev pub by_line : Option Line → Fields → Shape
 by_line None f = Nothing
 by_line (Some l) f = l.shape f

@@ -1,4 +1,4 @@
--- The words of instructions, by their form.
+-- The words of instructions, form by form.
 use Rattle.std.specs.Prelude.{◌==◌, ◌+◌, ◌*◌, ◌/◌, ◌%◌, ◌^◌, ◌<◌, ℕ, Bool, true, false}
 use Rattle.tc_isa.specs.declared.fields.Fields.{Fields}
 use Rattle.tc_isa.specs.declared.table.Form.{Form}
@@ -8,7 +8,7 @@ use Rattle.tc_isa.specs.declared.table.Form.TheVariants.{Rlc, Rr, Rc, Bol, Bo, B
 abbrev pub fields : ℕ → ℕ → ℕ → ℕ → ℕ → Fields
 fields c s1 s2 n k = record { c = c; s1 = s1; s2 = s2; n = n; k = k }
 
--- each field is below its bound, which is 1 for a field that the form doesn't have
+-- each field is below its bound; a field that the form doesn't have has the bound 1
 pub record IsBelow (f bounds : Fields) : Type 0 where
   pub c : f.c < bounds.c
   pub s1 : f.s1 < bounds.s1
@@ -58,7 +58,7 @@ second_bound Srr = 1
 second_bound Slr = 1
 second_bound Ssr = 1
 
--- the number that the bytes of an instruction are, the first byte lowest
+-- the bytes of an instruction as one number, the first byte lowest
 unfoldable pub word : Form → ℕ → ℕ → Fields → ℕ
 word Rlc op1 op2 f = f.c * 2 ^ 28 + f.k * 2 ^ 12 + f.s1 * 2 ^ 8 + op1
 word Rr op1 op2 f = f.c * 2 ^ 28 + op2 * 2 ^ 20 + f.n * 2 ^ 16 + f.s2 * 2 ^ 12 + f.s1 * 2 ^ 8 + op1
@@ -79,7 +79,7 @@ word Srr op1 op2 f = f.s2 * 2 ^ 12 + f.s1 * 2 ^ 8 + op1
 word Slr op1 op2 f = f.s2 * 2 ^ 12 + f.s1 * 2 ^ 8 + op1
 word Ssr op1 op2 f = f.s2 * 2 ^ 12 + f.s1 * 2 ^ 8 + op1
 
--- the fields of such a number
+-- the fields of the number of an instruction
 unfoldable pub fields_of : Form → ℕ → Fields
 fields_of Rlc w = fields (w / 2 ^ 28) (w / 2 ^ 8 % 16) (0) (0) (w / 2 ^ 12 % 2 ^ 16)
 fields_of Rr w = fields (w / 2 ^ 28) (w / 2 ^ 8 % 16) (w / 2 ^ 12 % 16) (w / 2 ^ 16 % 4) (0)
@@ -100,7 +100,7 @@ fields_of Srr w = fields (0) (w / 2 ^ 8 % 16) (w / 2 ^ 12 % 16) (0) (0)
 fields_of Slr w = fields (0) (w / 2 ^ 8 % 16) (w / 2 ^ 12 % 16) (0) (0)
 fields_of Ssr w = fields (0) (w / 2 ^ 8 % 16) (w / 2 ^ 12 % 16) (0) (0)
 
--- and its second code
+-- the second code of the number of an instruction
 unfoldable pub second_of : Form → ℕ → ℕ
 second_of Rlc w = 0
 second_of Rr w = w / 2 ^ 20 % 256
@@ -142,7 +142,7 @@ is_long_form Srr = false
 is_long_form Slr = false
 is_long_form Ssr = false
 
--- the forms by their numbers, so that they can be compared
+-- the number of a form, so that forms can be compared
 unfoldable pub form_index : Form → ℕ
 form_index Rlc = 0
 form_index Rr = 1

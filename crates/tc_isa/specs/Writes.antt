@@ -1,4 +1,4 @@
--- The registers that an instruction itself writes.
+-- The registers that an instruction writes by itself.
 use Rattle.std.specs.Prelude.{◌^◌, ℕ, Bool, if◌then◌else◌, bit_or}
 use Rattle.tc_isa.specs.declared.shapes.Arg.{Arg}
 use Rattle.tc_isa.specs.declared.shapes.Arg.TheVariants.{Reg, Word}
@@ -11,12 +11,13 @@ use Rattle.tc_isa.specs.Shapes.{shape_of}
 abbrev pub bit_of : ℕ → ℕ
 bit_of r = 2 ^ r
 
--- the bit of a base that is a register and is increased
+-- the bit of a base register that is increased
 abbrev pub base_bit : Bool → Arg → ℕ
 base_bit after (Reg r) = if after then bit_of r else 0
 base_bit after (Word w) = 0
 
--- the bits of the registers that a shape writes: what saves and restores write, and A11 of calls, aren't among them
+-- the bits of the registers that a shape writes, except what saving and restoring contexts writes
+-- and A11 of calls
 abbrev pub written_by : Shape → ℕ
 written_by (Compute op dst x y) = bit_of dst
 written_by (Scaled dst base index n) = bit_of dst
@@ -37,6 +38,6 @@ written_by (Mfcr dst number) = bit_of dst
 written_by (Mtcr src number) = 0
 written_by Nothing = 0
 
--- bit r is set for each register r that the instruction itself writes
+-- bit r is set for each register r that the instruction writes by itself
 abbrev pub written_registers : InstData → ℕ
 written_registers i = written_by (shape_of i)

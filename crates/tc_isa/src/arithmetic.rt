@@ -1,11 +1,12 @@
-// Arithmetic on words.
+// Arithmetic and comparisons of 32-bit words.
 ghost use Rattle.std.specs.Prelude.{◌≡◌, ◌<◌};
 ghost use Rattle.tc_isa.specs.Arithmetic.{alu_of, taken_of, shift_by, shifted_signed, signed_place, complement, one_if};
 
 use crate::{Cond, Op};
 
-/// The result of an operation on two words, modulo 2^32. A shift takes the low six bits of `y` as a signed count: left
-/// by it, or right by its opposite, filled with zeros (`Sh`) or the sign bit (`Sha`).
+/// Returns the result of an operation on two words, modulo 2^32. A shift takes the low six bits of
+/// `y` as a signed count. A count from 0 on shifts to the left, a negative one to the right, filled
+/// with zeros (`Sh`) or the sign bit (`Sha`).
 #[tactic(auto, unfolding(crate::specs::Arithmetic::alu_of))]
 pub fn alu(op: Op, x: u32, y: u32) -> u32
     ensures { result ≡ alu_of op x y }
@@ -33,7 +34,7 @@ pub fn alu(op: Op, x: u32, y: u32) -> u32
     }
 }
 
-/// Whether the condition holds of two words.
+/// Returns true if the condition holds for the two words.
 #[tactic(auto, unfolding(crate::specs::Arithmetic::taken_of))]
 pub fn taken(cond: Cond, x: u32, y: u32) -> bool
     ensures { result ≡ taken_of cond x y }
@@ -48,28 +49,29 @@ pub fn taken(cond: Cond, x: u32, y: u32) -> bool
     }
 }
 
-/// All bits turned over.
+/// Returns the word with all bits inverted.
 fn turned(x: u32) -> u32
     ensures { result ≡ complement x }
 {
     u32::MAX - x
 }
 
-/// 1 for true, 0 for false.
+/// Returns 1 for true and 0 for false.
 fn word_of_truth(b: bool) -> u32
     ensures { result ≡ one_if b }
 {
     if b { 1 } else { 0 }
 }
 
-/// A word's place in the signed order.
+/// Returns a word's position in the signed order: unsigned comparisons of positions are signed
+/// comparisons of words.
 fn place_of(x: u32) -> u32
     ensures { result ≡ signed_place x }
 {
     x.wrapping_add(0x8000_0000)
 }
 
-/// Left by `n` below 32, else right by 64 less `n`, filled with zeros.
+/// Shifts to the left by `n` if it is below 32, else to the right by 64 - `n`, filled with zeros.
 fn shift(x: u32, n: u8) -> u32
     requires { n < 64 }
     ensures { result ≡ shift_by x n }
@@ -83,7 +85,8 @@ fn shift(x: u32, n: u8) -> u32
     }
 }
 
-/// The same, but to the right filled with the sign bit.
+/// Shifts to the left by `n` if it is below 32, else to the right by 64 - `n`, filled with the sign
+/// bit.
 fn shift_signed(x: u32, n: u8) -> u32
     requires { n < 64 }
     ensures { result ≡ shifted_signed x n }

@@ -4,7 +4,8 @@ ghost use Rattle.tc_isa.specs.Words.{IsBelow, bounds};
 
 use crate::{Fields, Form};
 
-/// The bounds of a form's fields, 1 for those that it doesn't have.
+/// Returns the bounds of a form's fields, all exclusive. A field that the form doesn't have has the
+/// bound 1.
 #[tactic(auto, unfolding(crate::specs::Words::bounds))]
 pub fn bounds_of(form: Form) -> Fields
     ensures { result ≡ bounds form }
@@ -111,6 +112,7 @@ pub fn bounds_of(form: Form) -> Fields
     }
 }
 
+/// Returns true if each field is below its bound.
 pub fn is_below(f: &Fields, bounds: &Fields) -> bool
     ensures { IsTrue result ↔ IsBelow f.now bounds.now }
 {

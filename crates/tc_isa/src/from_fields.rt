@@ -1,4 +1,4 @@
-// Instructions from their fields.
+// Builds instructions from the number of a row and the row's fields.
 ghost use Rattle.std.specs.Prelude.{◌≡◌, ◌↔◌, IsTrue, IsSome, IfSome};
 ghost use Rattle.tc_isa.specs.Rows.{row_of};
 ghost use Rattle.tc_isa.specs.Codec.{Fits, uses_of, rest_is_zero, is_apart};
@@ -8,8 +8,9 @@ use crate::bounds::{bounds_of, is_below};
 use crate::row_uses::uses;
 use crate::{Fields, Inst, Row, Uses, rows};
 
-/// The instruction of the row with this number and with these raw fields; None exactly where there is no such row, the
-/// fields don't fit its form, or a field that the row doesn't use isn't 0.
+/// Returns the instruction of the row with this number and these raw fields. The answer is `None`
+/// exactly if there is no such row, or the fields don't fit it. A field that the row doesn't have
+/// has to be 0.
 pub fn inst(row: u8, c: u8, s1: u8, s2: u8, n: u8, k: u32) -> Option<Inst>
     ensures listed { IsSome result
         ↔ IsInst (record { row = row; c = c; s1 = s1; s2 = s2; n = n; k = k }) }
@@ -35,7 +36,7 @@ pub fn inst(row: u8, c: u8, s1: u8, s2: u8, n: u8, k: u32) -> Option<Inst>
     })
 }
 
-/// Whether the fields fit the row.
+/// Returns true if the fields fit the row.
 fn do_fit(row: &Row, uses: &Uses, fields: &Fields) -> bool
     requires { uses.now ≡ uses_of (row_of row.now) }
     ensures { IsTrue result ↔ Fits (row_of row.now) fields.now }
@@ -45,7 +46,7 @@ fn do_fit(row: &Row, uses: &Uses, fields: &Fields) -> bool
         && parts_differ(row, fields)
 }
 
-/// Whether the fields that aren't used are 0.
+/// Returns true if the fields that the row doesn't have are 0.
 fn is_zero_elsewhere(uses: &Uses, f: &Fields) -> bool
     ensures { result ≡ rest_is_zero uses.now f.now }
 {
@@ -56,7 +57,8 @@ fn is_zero_elsewhere(uses: &Uses, f: &Fields) -> bool
         && (uses.k || f.k == 0)
 }
 
-/// Whether the row may have these registers: a post-increment of an address register isn't of the base itself.
+/// Returns true if the row allows these registers: an address register that is loaded or stored
+/// with post-increment can't be the base too.
 pub fn parts_differ(row: &Row, f: &Fields) -> bool
     ensures { result ≡ is_apart (row_of row.now) f.now }
 {

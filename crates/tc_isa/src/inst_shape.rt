@@ -11,7 +11,7 @@ use crate::row_meanings::row_meanings;
 use crate::{Arg, Fields, Inst, Shape, Target};
 use tcd_base::sext;
 
-/// What the instruction does: the meaning of its row, with its fields.
+/// Returns what the instruction does: the meaning of its row, with its fields.
 pub fn shape(inst: &Inst) -> Shape
     ensures shape { result ≡ shape_of inst.now }
     ensures bounded { IsShape result }
@@ -150,8 +150,8 @@ fn target(goal: Destination, f: &Fields) -> Target
     }
 }
 
-/// What holds of what instructions do: registers and words are registers and words; the table of meanings has the names
-/// of the rows.
+/// A law of `shape`: registers are below 32, words below 2^32, and sizes 1, 2 or 4; and the table
+/// of meanings has the names of the rows.
 pub fn shape_laws()
     ensures bounded { (i : InstData) → IsInst i → IsShape (shape_of i) }
     ensures names { map (λ l. l.name) meanings ≡ map (λ r. r.name) listed }

@@ -1,7 +1,8 @@
-// An instruction, which always names a row that its fields fit.
+// An instruction, whose fields always fit its row.
 use std::marker::Model;
 
-/// An instruction: the number of its row, and the raw fields of its operands. A field that the row doesn't use is 0.
+/// An instruction: the number of its row, and the raw fields of its operands. A field that the row
+/// doesn't have is 0.
 #[derive(Clone, Copy, PartialEq, Eq)]
 pub struct Inst {
     pub row: u8,

@@ -1,7 +1,7 @@
-// How an instruction's fields give what it does.
+// The vocabulary of the table of meanings: how an instruction's fields give what it does.
 use crate::{Cond, Op, Shape};
 
-/// A register that a field names, or one that the row fixes.
+/// A register: the one that a field names, or a fixed one.
 #[derive(Clone, Copy)]
 pub enum RegField {
     Dc,
@@ -14,8 +14,8 @@ pub enum RegField {
     A10,
 }
 
-/// A word that the fields give: 0; the low bits of `k` sign-extended; `k` as it is and times 2^16; the address of the
-/// 18 bits of `k`; the field `s2` sign-extended and as it is.
+/// A constant: 0; the low 4, 9, 10 or 16 bits of `k` sign-extended; `k` itself; `k` times 2^16; the
+/// address that the 18 bits of `k` encode; the field `s2` sign-extended; `s2` itself.
 #[derive(Clone, Copy)]
 pub enum Immediate {
     Zero,
@@ -30,14 +30,14 @@ pub enum Immediate {
     UnsignedS2,
 }
 
-/// A register or a word.
+/// An operand: a register, or a constant.
 #[derive(Clone, Copy)]
 pub enum Operand {
     At(RegField),
     Of(Immediate),
 }
 
-/// Twice the displacement `k`, sign-extended from its bits, or as it is.
+/// A distance in bytes: twice `k`, sign-extended from 8, 15 or 24 bits, or not sign-extended.
 #[derive(Clone, Copy)]
 pub enum Displacement {
     Ahead8,
@@ -46,7 +46,7 @@ pub enum Displacement {
     AheadOnly,
 }
 
-/// Where a jump or a call goes.
+/// The target of a jump or a call.
 #[derive(Clone, Copy)]
 pub enum Destination {
     By(Displacement),
@@ -54,7 +54,7 @@ pub enum Destination {
     In(RegField),
 }
 
-/// What an instruction does, with places for what its fields give.
+/// What a row's instructions do, in terms of their fields.
 #[derive(Clone, Copy)]
 pub enum Meaning {
     Computes(Op, RegField, Operand, Operand),

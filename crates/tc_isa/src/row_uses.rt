@@ -1,4 +1,4 @@
-// Which fields each row names, as its text says.
+// The fields that each row has, as its operands say. Printed by tools/rows.py.
 ghost use Rattle.std.specs.Prelude.{◌≡◌, map};
 ghost use Rattle.tc_isa.specs.Rows.{listed};
 ghost use Rattle.tc_isa.specs.Codec.{uses_of};
@@ -116,7 +116,7 @@ static USES: [Uses; 142] = [
     S1_S2, S1_S2,
 ];
 
-/// The fields that each row names, in the order of the rows.
+/// Returns the fields that each row has, in the order of the rows.
 pub fn uses() -> &'static [Uses]
     ensures { result.now ≡ map uses_of listed }
 {

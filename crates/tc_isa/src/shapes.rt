@@ -1,6 +1,6 @@
-// What an instruction does, by its shape.
+// Shapes: what an instruction does, with its operands filled in.
 
-/// An operation on two words.
+/// An operation on two words; `Second` gives the second one. Comparisons give 1 or 0.
 #[derive(Clone, Copy, Debug, PartialEq, Eq)]
 pub enum Op {
     Second,
@@ -35,14 +35,15 @@ pub enum Cond {
     GeU,
 }
 
-/// An operand: a register (0 to 15 is Dn, 16 to 31 is A(n - 16)) or a word.
+/// An operand: a register (0 to 15 for D0 to D15, 16 to 31 for A0 to A15) or a word.
 #[derive(Clone, Copy, Debug, PartialEq, Eq)]
 pub enum Arg {
     Reg(u8),
     Word(u32),
 }
 
-/// Where a jump or a call goes: so many bytes from the instruction, modulo 2^32; to an address; to a register's value.
+/// The target of a jump or a call: a distance in bytes from the instruction, modulo 2^32; an
+/// address; or the value of a register.
 #[derive(Clone, Copy, Debug, PartialEq, Eq)]
 pub enum Target {
     Rel(u32),
@@ -50,9 +51,11 @@ pub enum Target {
     Reg(u8),
 }
 
-/// What an instruction does. Registers are numbered as in `Arg`, offsets and `by` are in bytes modulo 2^32, sizes in
-/// bytes (1, 2 or 4). With `after` the address of an access is the base register, which is then increased by `offset`;
-/// without it the address is base plus offset. A branch with `lowers` lowers `x` by 1 on both sides.
+/// What an instruction does. Registers are numbered as in `Arg`. Offsets and `by` are in bytes
+/// modulo 2^32, sizes in bytes (1, 2 or 4).
+/// With `after`, the address of an access is the base register, which is increased by `offset`
+/// afterwards. Otherwise it is the base plus the offset.
+/// A branch with `lowers` decrements `x` by 1, whether it is taken or not.
 #[derive(Clone, Copy, Debug, PartialEq, Eq)]
 pub enum Shape {
     Compute {

@@ -1,8 +1,9 @@
-// The rows of the instruction table, in their order.
+// The rows of the instruction table, in their order. Written by hand; other tables follow from it.
 ghost use Rattle.std.specs.Prelude.{◌≡◌, length, map};
 ghost use Rattle.tc_isa.specs.Rows.{listed, row_of};
 
-/// Where an instruction has its codes and fields (TriCore 1 architecture manual, volume 2, instruction formats).
+/// A form: the layout of an instruction's codes and fields (TriCore 1 architecture manual, volume
+/// 2, instruction formats).
 #[derive(Clone, Copy, Debug, PartialEq, Eq)]
 pub enum Form {
     Rlc,
@@ -25,8 +26,8 @@ pub enum Form {
     Ssr,
 }
 
-/// A row of the table: the instruction's name, its operands as they are written, its form, and its codes; `op2` is 0
-/// where the form has no second code.
+/// A row of the table: the name of the instruction, the text of its operands, its form, and its
+/// codes. If the form has no second code, `op2` is 0.
 #[derive(Clone, Copy)]
 pub struct Row {
     pub name: &'static str,
@@ -36,7 +37,7 @@ pub struct Row {
     pub op2: u8,
 }
 
-// A row of the table.
+// Builds a row from its name, operands, form and codes.
 macro_rules! row {
     ($name:literal, $operands:literal, $form:ident, $op1:literal, $op2:literal) => {
         Row {
@@ -49,7 +50,7 @@ macro_rules! row {
     };
 }
 
-// The rows, in their order.
+/// The rows of the table, numbered from 0.
 pub static ROWS: [Row; 142] = [
     row!("addi", "Dc, Ds1, sk", Rlc, 0x1b, 0x00),
     row!("addih", "Dc, Ds1, uk", Rlc, 0x9b, 0x00),
@@ -195,7 +196,7 @@ pub static ROWS: [Row; 142] = [
     row!("st16.a", "[As2], As1", Ssr, 0xf4, 0x00),
 ];
 
-/// All rows, numbered from 0.
+/// Returns all rows, numbered from 0.
 pub fn rows() -> &'static [Row]
     ensures rows { map row_of result.now ≡ listed }
     ensures count { length result.now ≡ 142 }

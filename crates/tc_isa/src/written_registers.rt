@@ -1,4 +1,4 @@
-// The registers that an instruction itself writes.
+// The registers that an instruction writes by itself.
 ghost use Rattle.std.specs.Prelude.{◌≡◌, ◌<◌, ◌^◌, ℕ, ◌↔◌};
 ghost use Rattle.tc_isa.specs.Bounded.{IsArg};
 ghost use Rattle.tc_isa.specs.Writes.{written_registers, written_by, base_bit, bit_of};
@@ -6,8 +6,8 @@ ghost use Rattle.tc_isa.specs.Writes.{written_registers, written_by, base_bit, b
 use crate::inst_shape::shape;
 use crate::{Arg, Inst, Shape};
 
-/// Bit r is set for each register r, as `Arg` numbers them, that the instruction itself writes; what saves and restores
-/// write, and A11 of calls, aren't counted.
+/// Returns a mask of the registers that the instruction writes by itself: bit r for register r,
+/// numbered as in `Arg`. What saving and restoring contexts writes, and A11 of calls, aren't in it.
 pub fn writes(inst: &Inst) -> u32
     ensures { result ≡ written_registers inst.now }
 {
