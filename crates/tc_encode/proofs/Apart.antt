@@ -1,4 +1,4 @@
--- No bytes begin with spellings of two rows.
+-- No bytes begin with instructions of two rows.
 use Rattle.std.proofs.Common.{◌≡◌, inl, inr, ◌/◌, ◌%◌, ◌^◌, ◌<◌, ℕ, zero, suc, Bool, true, false, List, [], ◌∷◌, ◌++◌, refl, sym, ap, subst, ◌∙◌, arith, ◌==◌, Some}
 use Rattle.std.specs.Prelude.{slice_get}
 use Rattle.std.specs.List.{list_any}
@@ -79,7 +79,8 @@ one_row p q r s f g at to fits gits is =
       ]
     ]
 
--- bytes that begin with two spellings have one first byte, so the spellings are as long, and so the same
+-- bytes that begin with two spellings have one first byte, so the spellings are equally long and
+-- equal
 head_of : (l m : Bool) (v w : ℕ) (x y : List ℕ) → spelling_of l v ++ x ≡ spelling_of m w ++ y → v % 256 ≡ w % 256
 head_of true true v w x y e = cc
 head_of true false v w x y e = cc

@@ -1,3 +1,4 @@
+-- Beginnings of instructions are completed by the least fields of their row.
 use Rattle.std.proofs.Common.{eq-eqb, ◌+◌, ◌*◌, ◌/◌, ◌%◌, ◌≡◌, ◌⊎◌, inl, inr, ◌≤◌, ℕ, zero, suc, Bool, true, false, refl, ◌||◌, ◌&&◌, ◌==◌, arith}
 use Rattle.std.proofs.lemmas.Bool.{eqb-true}
 use Rattle.tc_isa.specs.Rows.{RowData}
@@ -40,7 +41,7 @@ apart_of : (r : RowData) (f g x : Fields) → ((x.s1 ≡ g.s1) × (x.s2 ≡ g.s2
 apart_of r f g x (inl e) p q = apart_as r g x e.0 e.1 q
 apart_of r f g x (inr e) p q = apart_as r f x e.0 e.1 p
 
--- a front of a spelling, gone on with as the least one, is a spelling
+-- the beginning of a spelling, completed by the least fields, is a spelling
 pub completed : (r : RowData) (n : ℕ) (f : Fields) → IsRow r → Fits r f → 1 ≤ n → n ≤ 3 → (x : Fields) × Fits r x × (word_of r x ≡ mix n (word_of r f) (word_of r (least r)))
 completed r n f row fits low high =
     let m = mixed r n f row fits low high in

@@ -22,7 +22,7 @@ use Rattle.tc_encode.proofs.FrontFacts.{front_goes_on, goes_on_short, goes_on_be
 ok_err : {A E : Type 0} (x : A) (e : E) → Ok x ≡ Err e → ⊥
 ok_err x e is = cc
 
--- what an answer says of what was found
+-- what an answer says of the row that was found
 ok_answer : (xs : List ℕ) (o : Option (InstData × ℕ)) (p : InstData × ℕ) → answer_of xs o ≡ Ok p → o ≡ Some p
 ok_answer xs (Some q) p e = cc
 ok_answer xs None p e = elim (cases_Bool (list_any (goes_on_as xs) listed)) [
@@ -62,7 +62,7 @@ answer_none : (xs : List ℕ) → first_of xs 0 listed ≡ None → decoded_of x
 unfolding decoded_of
 answer_none xs e = ap (answer_of xs) e
 
--- what was found spells
+-- what was found spells the instruction
 gives_spells : (xs : List ℕ) (i : InstData) (n : ℕ) → Gives xs 0 listed (i, n) → Spells (take n xs) i
 gives_spells xs i n g =
     let inst : i ≡ instruction g.at (fields_at xs g.row) = ap (λ p. p.0) g.is ∙ ap (λ q. instruction q (fields_at xs g.row)) (zero-add g.at) in
@@ -122,7 +122,7 @@ pub more_changes_nothing : MoreChangesNothing
 more_changes_nothing xs ys i e =
     spelled_decodes xs ys i (subst (λ bs. Spells bs i) (take_all (length xs) xs (omega arith)) (decoded_spells xs i (length xs) e))
 
--- what begins is decoded
+-- what the bytes begin with is decoded
 begun_decodes : (xs : List ℕ) (i : InstData) (n : ℕ) → Begins xs i n → decoded_of xs ≡ Ok (i, length (take n xs))
 begun_decodes xs i n b = subst (λ bs. decoded_of bs ≡ Ok (i, length (take n xs))) (take-append-drop n xs) (spelled_decodes (take n xs) (drop n xs) i b.spells)
 
@@ -136,7 +136,7 @@ none_from xs none = cases (first_of xs 0 listed) refl
     cases None e = e
     cases (Some p) e = absurd (none p.0 p.1 (record { within = (lengths_are_right xs p.0 p.1 (found_ok xs p e)).0; spells = decoded_spells xs p.0 p.1 (found_ok xs p e) }))
 
--- fronts
+-- beginnings of instructions
 record Ahead (xs : List ℕ) (rows : List RowData) : Type 0 where
   at : ℕ
   row : RowData
@@ -204,7 +204,7 @@ decode_laws = record {
   not_listed = not_listed_is_rest;
 }
 
--- two answers to one question are one
+-- two answers that are equal give equal values
 one_answer : {A E : Type 0} (r : Result A E) (x y : A) → r ≡ Ok x → r ≡ Ok y → x ≡ y
 one_answer r x y p q = ok_same x y (sym p ∙ q)
   where
@@ -229,7 +229,7 @@ none_is_prefix bytes more i j p q =
 pub spelling_laws : SpellingLaws
 spelling_laws = record { one = none_spells_two; apart = none_is_prefix }
 
--- how many bytes an answer has
+-- the number of bytes of an answer
 pub sized : (xs : List ℕ) (r : Result (InstData × ℕ) DecodeErr) → r ≡ decoded_of xs → IfOk r (λ p. (2 ≤ p.1) × (p.1 ≤ 4) × (p.1 ≤ length xs))
 sized xs (Ok p) e = let h = lengths_are_right xs p.0 p.1 (sym e) in (at_least p.1 h.2, h.1, h.0)
   where

@@ -1,4 +1,4 @@
--- Instructions that have a word, and where they stand.
+-- Instructions that have a word, and the places of their rows.
 use Rattle.std.proofs.Common.{Bool, ◌≡◌, ◌+◌, ◌%◌, ◌<◌, ◌≤◌, ℕ, zero, suc, true, List, [], ◌∷◌, length, get_or, sym, ap, subst, ◌∙◌, arith, Option, Some, None, zero-add, ◌==◌, ◌^◌, false, refl, inl, inr, map, ◌||◌}
 use Rattle.std.specs.Prelude.{slice_get, nat_le, IfNone}
 use Rattle.std.specs.List.{list_all}
@@ -28,7 +28,7 @@ some_same x y e = cc
 pub row_is : (place : ℕ) (r : RowData) (i : InstData) (is : IsInst i) → slice_get listed place ≡ Some r → i.row ≡ place → is.row ≡ r
 row_is place r i is at same = some_same is.row r (sym is.at ∙ ap (slice_get listed) same ∙ at)
 
--- the fields that stand in the word are those of the instruction that has it
+-- the fields of the word are those of the instruction that has it
 pub makes_listed : (place w : ℕ) (r : RowData) (f : Fields) → slice_get listed place ≡ Some r → f ≡ fields_of r.form w → (i : InstData) → Makes w i → i.row ≡ place → IsInst (instruction place f) × (word_of r f ≡ w)
 makes_listed place w r f at is i m same =
     let row = row_is place r i m.inst at same in
@@ -42,7 +42,7 @@ makes_by place w r f i at is inst word =
     let row = row_is place r i inst at (ap (λ (j : InstData). j.row) is) in
     record { inst = inst; is = ap (λ (s : RowData). word_of s (fields_in i)) row ∙ ap (λ (j : InstData). word_of r (fields_in j)) is ∙ word }
 
--- its second code stands in the word
+-- the second code of the instruction is in the word
 pub second_is : (place w : ℕ) (r : RowData) (form : Form) (i : InstData) → slice_get listed place ≡ Some r → (m : Makes w i) → i.row ≡ place → form_index m.inst.row.form ≡ form_index form → second_of form w ≡ r.op2
 second_is place w r form i at m same index =
     let s = m.inst.row in let row = row_at i.row s m.inst.at in
@@ -56,7 +56,7 @@ first_is w i m =
     let s = m.inst.row in let row = row_at i.row s m.inst.at in
     ap (λ x. x % 256) (sym m.is) ∙ first-word s.form s.op1 s.op2 (fields_in i) row.first row.second m.inst.fits.below
 
--- rows stand between the start and the end of their first byte
+-- rows are between the start and the end of their first byte
 held : (starts ends : List ℕ) (place : ℕ) (rows : List RowData) (q : ℕ) (r : RowData) → hold_all starts ends place rows ≡ true → slice_get rows q ≡ Some r → is_between (place + q) r (slice_get starts r.op1) (slice_get ends r.op1) ≡ true
 held starts ends place [] q r all at = cc
 held starts ends place (x ∷ xs) zero r all at =
@@ -67,7 +67,7 @@ held starts ends place (x ∷ xs) (suc q) r all at =
     let z : suc place + q ≡ place + suc q = omega arith in
     subst (λ p. is_between p r (slice_get starts r.op1) (slice_get ends r.op1) ≡ true) z (held starts ends (suc place) xs q r (and_parts _ _ all).1 at)
 
--- what a test of the two says
+-- what the test of start and end gives
 pub record Between (place : ℕ) (r : RowData) (start end : ℕ) : Type 0 where
   pub from : start ≤ place
   pub to : place < end
@@ -106,7 +106,7 @@ pub none_map : {X : Type 0} {P Q : Type 0} (r : Option X) → IfNone r P → (P 
 none_map None p f = f p
 none_map (Some x) p f = tt
 
--- what an instruction's word says of the row at its place, whose fields stand in it
+-- what an instruction's word says of the row at its place and of its fields
 pub record Stands (w : ℕ) (r : RowData) (f : Fields) : Type 0 where
   pub first : r.op1 ≡ w % 256
   pub second : r.op2 ≡ second_of r.form w
@@ -129,7 +129,7 @@ stands place w r at i m same =
 even_of : (op1 w : ℕ) → (op1 % 2 == 1) ≡ false → op1 ≡ w % 256 → w % 2 ≡ 0
 even_of op1 w e is = let odd = eqb-false (op1 % 2) 1 e in elim (cases_eq (op1 % 2) 1) [ inl x ↦ absurd (odd x) | inr y ↦ omega (arith, y) ]
 
--- a word with the row's codes and no gap is the spelling of the fields that stand in it, where they fit
+-- a word with the row's codes and no gap is the spelling of its fields, if they fit
 pub makes_of : (place w : ℕ) (r : RowData) (f : Fields) → slice_get listed place ≡ Some r → f ≡ fields_of r.form w → w < 2 ^ 32 → (w % 2 ≡ 0 → w < 2 ^ 16) → r.op1 ≡ w % 256 → r.op2 ≡ second_of r.form w → has_no_gap r.form w ≡ true → rest_is_zero (uses_of r) f ≡ true → is_apart r f ≡ true → Makes w (instruction place f)
 makes_of place w r f at is word short first second full rest apart =
     let row = row_at place r at in
@@ -139,7 +139,7 @@ makes_of place w r f at is word short first second full rest apart =
       is = ap (word_of r) is ∙ word_back r.form r.op1 r.op2 w word small first second full;
     }
 
--- rows stand past the base of their first byte
+-- rows are after the base of their first byte
 held_at : (bases places : List ℕ) (place : ℕ) (rows : List RowData) (q : ℕ) (r : RowData) → hold_places bases places place rows ≡ true → slice_get rows q ≡ Some r → is_at places (place + q) r (slice_get bases r.op1) ≡ true
 held_at bases places place [] q r all at = cc
 held_at bases places place (x ∷ xs) zero r all at =
@@ -178,7 +178,7 @@ none_some x e = cc
 pub same_some : (x y : ℕ) → Some x ≡ Some y → x ≡ y
 same_some x y e = cc
 
--- the row of two codes stands where the index has it
+-- the row of two codes is where the index has it
 pub place_has : (bases places : List ℕ) (first a b place : ℕ) (r : RowData) → hold_places bases places 0 listed ≡ true → length bases ≡ 256 → first < 256 → a ≡ get_or bases first 0 → slice_get listed place ≡ Some r → r.op1 ≡ first → r.op2 ≡ b → slice_get places (a + b) ≡ Some place
 place_has bases places first a b place r all count small is_a at is_first is_b =
     ap (λ x. slice_get places (x + b)) is_a ∙ ap (λ y. slice_get places (get_or bases first 0 + y)) (sym is_b)
@@ -186,7 +186,7 @@ place_has bases places first a b place r all count small is_a at is_first is_b =
     (subst (λ p. is_at places p r (slice_get bases r.op1) ≡ true) (zero-add place) (held_at bases places 0 listed place r all at))
     (ap (slice_get bases) is_first ∙ slice_get-get_or bases first 0 (omega (arith, count)))
 
--- a row that names all fields of its form leaves none to be 0
+-- a row that has all fields of its form leaves none that has to be 0
 one_plain : (u : Bool) (x b : ℕ) → (u || b == 1) ≡ true → x < b → (u || x == 0) ≡ true
 one_plain true x b e low = refl
 one_plain false x b e low = let one : b ≡ 1 = eqb-true b 1 e in eq-eqb x 0 (omega arith)
@@ -197,7 +197,7 @@ plain_zero u f b e low =
     and_from _ _ (and_from _ _ (and_from _ _ (and_from _ _
     (one_plain u.c f.c b.c s.0 low.c) (one_plain u.s1 f.s1 b.s1 s.1 low.s1)) (one_plain u.s2 f.s2 b.s2 r.1 low.s2)) (one_plain u.n f.n b.n q.1 low.n)) (one_plain u.k f.k b.k p.1 low.k)
 
--- and the list of such rows tells it of a row at its place
+-- the list of such rows is right for the row at a place
 pub plain_at : (plain : List Bool) (place : ℕ) (d : Bool) (r : RowData) → plain ≡ map names_all listed → slice_get listed place ≡ Some r → get_or plain place d ≡ names_all r
 plain_at plain place d r are at =
     ap (λ bs. get_or bs place d) are ∙ get_or-map names_all listed place r d (slice_get_within listed place r at) ∙ ap names_all (get_or_from_slice_get listed place r r at)

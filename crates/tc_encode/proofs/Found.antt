@@ -1,4 +1,4 @@
--- The first row with a spelling at the front of bytes.
+-- The first row with an instruction at the front of bytes.
 use Rattle.std.proofs.Common.{◌≡◌, inl, inr, ◌+◌, ℕ, zero, suc, true, false, List, [], ◌∷◌, refl, sym, ap, subst, ◌∙◌, arith, Option, Some, None, add-zero}
 use Rattle.std.specs.Prelude.{slice_get}
 use Rattle.std.proofs.lemmas.Bool.{cases_Bool, cond-true, cond-false, both_ways}
@@ -6,7 +6,7 @@ use Rattle.tc_isa.specs.Rows.{RowData}
 use Rattle.tc_isa.specs.Insts.{InstData}
 use Rattle.tc_encode.specs.Decoding.{begins_with, size_of, fields_at, instruction, first_of}
 
--- the row at this place, numbered from `place` on, has a spelling at the front of the bytes, and gives this
+-- the row at this place, numbered from `place` on, has an instruction at the front of the bytes
 pub record Gives (bytes : List ℕ) (place : ℕ) (rows : List RowData) (found : InstData × ℕ) : Type 0 where
   pub at : ℕ
   pub row : RowData
@@ -32,7 +32,7 @@ found_gives bytes place (r ∷ rs) found e = elim (cases_Bool (begins_with bytes
       record { at = suc g.at; row = g.row; listed = g.listed; begins = g.begins; is = g.is ∙ ap (λ p. (instruction p (fields_at bytes g.row), size_of g.row)) same }
 ]
 
--- where none is found, no row has one
+-- if no row is found, no row has an instruction there
 pub none_found : (bytes : List ℕ) (place : ℕ) (rows : List RowData) → first_of bytes place rows ≡ None → (q : ℕ) (r : RowData) → slice_get rows q ≡ Some r → begins_with bytes r ≡ false
 none_found bytes place [] e q r at = absurd (some_none r (sym at))
 none_found bytes place (x ∷ xs) e q r at = elim (cases_Bool (begins_with bytes x)) [
@@ -44,7 +44,7 @@ none_found bytes place (x ∷ xs) e q r at = elim (cases_Bool (begins_with bytes
     none_here bytes place x xs zero r lacks more at = subst (λ z. begins_with bytes z ≡ false) (some_same x r at) lacks
     none_here bytes place x xs (suc q) r lacks more at = more q r at
 
--- where the row at q has one, some row has one
+-- if the row at q has one, some row is found
 pub some_found : (bytes : List ℕ) (place : ℕ) (rows : List RowData) (q : ℕ) (r : RowData) → slice_get rows q ≡ Some r → begins_with bytes r ≡ true → (found : InstData × ℕ) × (first_of bytes place rows ≡ Some found)
 some_found bytes place rows q r at has = cases (first_of bytes place rows) refl
   where

@@ -1,4 +1,4 @@
--- Bytes that are the front of a spelling go on as the row's least spelling.
+-- Bytes that are the beginning of an instruction are completed by the row's least fields.
 use Rattle.std.proofs.Common.{◌≡◌, ◌≢◌, ◌+◌, ◌*◌, ◌/◌, ◌%◌, ◌^◌, ◌<◌, ◌≤◌, ℕ, zero, suc, Bool, true, false, List, [], ◌∷◌, ◌++◌, length, take, drop, refl, sym, ap, subst, ◌∙◌, arith, length-append}
 use Rattle.std.specs.Prelude.{if◌then◌else◌}
 use Rattle.std.proofs.lemmas.Bool.{and_parts, and_from, ltb-true, lt-ltb}
@@ -42,7 +42,7 @@ size_small false = omega arith
 least_goes_on : (r : RowData) → IsRow r → begins_with (spelling r (least r)) r ≡ true
 least_goes_on r row = subst (λ bs. begins_with bs r ≡ true) (append-nil (spelling r (least r))) (begins_here r (least r) [] row row.has_least)
 
--- the front of n bytes, gone on with
+-- the first n bytes, completed
 gone_on : (r : RowData) (f : Fields) (n : ℕ) → IsRow r → Fits r f → n < size_of r → begins_with (take n (spelling r f) ++ drop n (spelling r (least r))) r ≡ true
 gone_on r f zero row fits short = least_goes_on r row
 gone_on r f (suc n) row fits short =
@@ -62,7 +62,7 @@ front_goes_on bytes rest r f row fits some is =
     let front : take (length bytes) (spelling r f) ≡ bytes = ap (take (length bytes)) (sym is) ∙ take_at bytes rest (length bytes) refl in
     and_from _ _ (lt-ltb _ _ short) (subst (λ bs. begins_with (bs ++ drop (length bytes) (spelling r (least r))) r ≡ true) front (gone_on r f (length bytes) row fits short))
 
--- and back
+-- bytes that are completed are fewer than the row's
 pub goes_on_short : (bytes : List ℕ) (r : RowData) → goes_on_as bytes r ≡ true → length bytes < size_of r
 goes_on_short bytes r e = ltb-true _ _ (and_parts _ _ e).0
 

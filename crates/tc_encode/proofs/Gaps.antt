@@ -1,4 +1,4 @@
--- A word is what its codes and its fields make of it, where the bits that its form has for no field are 0.
+-- A word is that of its codes and fields, if the bits that its form has for no field are 0.
 use Rattle.std.proofs.Common.{◌≡◌, ◌/◌, ◌%◌, ◌^◌, ◌<◌, ℕ, true, false, refl, arith}
 use Rattle.std.proofs.lemmas.Bool.{and_parts, and_from, eqb-true, eq-eqb}
 use Rattle.tc_isa.specs.declared.fields.Fields.{Fields}

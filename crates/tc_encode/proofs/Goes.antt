@@ -1,4 +1,4 @@
--- Instructions that go on from the front of a word.
+-- Instructions that begin with given bytes.
 use Rattle.std.proofs.Common.{◌≡◌, ◌+◌, ◌*◌, ◌/◌, ◌%◌, ◌<◌, ◌≤◌, ℕ, zero, suc, true, List, length, get_or, refl, sym, ap, subst, ◌∙◌, arith, Option, Some, None}
 use Rattle.std.specs.Prelude.{slice_get, IfSome}
 use Rattle.tc_isa.specs.Rows.{RowData, listed}
@@ -14,7 +14,7 @@ pub some_map : {X : Type 0} {P Q : X → Type 0} (r : Option X) → IfSome r P �
 some_map None p f = tt
 some_map (Some x) p f = f x p
 
--- the low bytes of a number that was put together
+-- the low bytes of a number of two parts
 low_part : (n part rest : ℕ) → part < span n → (part + rest / span n * span n) % span n ≡ part
 low_part zero part rest h = omega arith
 low_part (suc zero) part rest h = omega arith
@@ -30,7 +30,7 @@ goes_from place n part rest s r i at longer small is same m =
       is = ap (λ w. w % span n) (m.is ∙ ap (λ z. part + rest / z * z) is) ∙ low_part n part rest small;
     }
 
--- what goes on can go on as the row's least spelling
+-- bytes that an instruction of the row begins with are completed by the row's least fields
 pub goes_least : (place n part rest s : ℕ) (r : RowData) (i : InstData) → slice_get listed place ≡ Some r → 1 ≤ n → n ≤ 3 → s ≡ span n → rest ≡ word_of r (least r) → i.row ≡ place → GoesOn n part i → (j : InstData) × (j.row ≡ place) × Makes (part + rest / s * s) j
 goes_least place n part rest s r i at low high is least_is same g =
     let row = row_is place r i g.inst at same in
@@ -39,7 +39,7 @@ goes_least place n part rest s r i at low high is least_is same g =
     let x = completed r n (fields_in i) (row_at place r at) fits low high in
     (instruction place x.0, refl, record { inst = record { row = r; at = at; fits = x.1 }; is = x.2 ∙ same_mix n (word_of r (fields_in i)) (word_of r (least r)) part rest s part_is least_is is })
 
--- the first byte of what goes on
+-- the first byte of an instruction
 low_byte : (n w : ℕ) → 1 ≤ n → w % span n % 256 ≡ w % 256
 low_byte zero w h = absurd (omega arith)
 low_byte (suc zero) w h = omega arith

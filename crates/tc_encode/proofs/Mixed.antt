@@ -1,4 +1,4 @@
--- A front of one spelling of a row, gone on with as another spelling of it, is a spelling of it.
+-- The beginning of one spelling of a row, completed from another spelling, is a spelling.
 use Rattle.std.proofs.Common.{◌≡◌, ◌⊎◌, inl, inr, ◌<◌, ℕ, arith}
 use Rattle.tc_isa.specs.declared.fields.Fields.{Fields}
 use Rattle.tc_isa.specs.declared.table.Form.{Form}

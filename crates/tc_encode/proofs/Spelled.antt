@@ -1,4 +1,4 @@
--- What stands at the front of bytes, against a row.
+-- The front of bytes, compared with a row.
 use Rattle.std.proofs.Common.{◌≡◌, ◌^◌, ◌<◌, ℕ, Bool, true, false, List, ◌++◌, length, take, refl, sym, ap, ◌∙◌, arith}
 use Rattle.std.specs.Prelude.{if◌then◌else◌}
 use Rattle.std.proofs.lemmas.Bool.{and_parts, and_from, ltb-true, lt-ltb}
@@ -12,7 +12,7 @@ use Rattle.tc_encode.specs.Decoding.{number_of, size_of, do_fit, fields_at, begi
 use Rattle.tc_encode.proofs.Inverse.{fields-word}
 use Rattle.tc_encode.proofs.Bytes.{word-lt}
 
--- the fields fit where the test says so
+-- fields that pass the test of the bounds
 pub below_from : (f b : Fields) → is_below_test f b ≡ true → IsBelow f b
 below_from f b e =
     let p = and_parts _ _ e in let q = and_parts _ _ p.0 in let r = and_parts _ _ q.0 in let s = and_parts _ _ r.0 in
@@ -37,7 +37,7 @@ size_spelled false w = refl
 pub size_spelling : (r : RowData) (f : Fields) → length (spelling r f) ≡ size_of r
 size_spelling r f = size_spelled (is_long r) (word_of r f)
 
--- the number of a spelling is the word
+-- the number of a spelling is its word
 four_number : (w : ℕ) → w < 2 ^ 32 → number_of (four_bytes w) ≡ w
 four_number w h = omega arith
 
@@ -51,14 +51,14 @@ spelled_number false w h = two_number w
 pub front_is : (r : RowData) (f : Fields) (rest : List ℕ) → take (size_of r) (spelling r f ++ rest) ≡ spelling r f
 front_is r f rest = take_at (spelling r f) rest (size_of r) (size_spelling r f)
 
--- the fields that stand in a spelling are those that it was made of
+-- the fields in a spelling are those that it spells
 pub fields_here : (r : RowData) (f : Fields) (rest : List ℕ) → IsRow r → Fits r f → fields_at (spelling r f ++ rest) r ≡ f
 fields_here r f rest row fits =
     ap (λ bs. fields_of r.form (number_of bs)) (front_is r f rest)
     ∙ ap (fields_of r.form) (spelled_number (is_long r) (word_of r f) (word-lt r.form r.op1 r.op2 f row.first row.second fits.below))
     ∙ fields-word r.form r.op1 r.op2 f row.first row.second fits.below
 
--- bytes that a spelling of the row begins
+-- bytes that begin with a spelling of the row pass the test
 pub begins_here : (r : RowData) (f : Fields) (rest : List ℕ) → IsRow r → Fits r f → begins_with (spelling r f ++ rest) r ≡ true
 begins_here r f rest row fits =
     let same = fields_here r f rest row fits in
@@ -66,7 +66,7 @@ begins_here r f rest row fits =
     (ap (do_fit r) same ∙ fits_true r f fits)
     ((bytes_eq-Decides _ _).1 (front_is r f rest ∙ sym (ap (spelling r) same)))
 
--- and back
+-- bytes that pass the test begin with fields that fit
 pub fits_there : (bytes : List ℕ) (r : RowData) → begins_with bytes r ≡ true → Fits r (fields_at bytes r)
 fits_there bytes r e = fits_from r (fields_at bytes r) (and_parts _ _ e).0
 

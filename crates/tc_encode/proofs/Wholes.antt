@@ -1,4 +1,4 @@
--- What bytes decode as, by the number that they are.
+-- Decoding of bytes by their number.
 use Rattle.std.proofs.Common.{◌≡◌, ◌+◌, ◌*◌, ◌/◌, ◌%◌, ◌^◌, ◌<◌, ◌≤◌, ℕ, Bool, true, false, List, [], ◌∷◌, ◌++◌, length, take, drop, refl, sym, ap, subst, ◌∙◌, arith, ◌==◌, Ok, Err, length-append, length-drop, length-take}
 use Rattle.std.specs.Prelude.{All, if◌then◌else◌}
 use Rattle.std.proofs.lemmas.Bool.{eq-eqb}
@@ -26,7 +26,7 @@ first_of_spelling i is a more rest e =
     let row = row_at i.row is.row is.at in
     sym (head_of (is_long is.row) (word_of is.row (fields_in i)) a more rest e ∙ first-word is.row.form is.row.op1 is.row.op2 (fields_in i) row.first row.second is.fits.below)
 
--- how long what begins with a byte is
+-- the number of bytes by the first byte
 pub odd_need : (a : ℕ) → a % 2 ≡ 1 → need_of a ≡ 4
 odd_need a odd = ap (λ b. if b then 4 else 2) (eq-eqb _ _ odd)
 
@@ -36,11 +36,11 @@ even_need a even = ap (λ m. if m == 1 then 4 else 2) even
 pub length_of_spelling : (i : InstData) (is : IsInst i) (a : ℕ) (more rest : List ℕ) → a ∷ more ≡ spelling is.row (fields_in i) ++ rest → length (spelling is.row (fields_in i)) ≡ need_of a
 length_of_spelling i is a more rest e = size_spelling is.row (fields_in i) ∙ ap need_of (first_of_spelling i is a more rest e)
 
--- a spelling that begins bytes
+-- bytes that begin with an instruction
 begun : (xs : List ℕ) (i : InstData) (n : ℕ) (b : Begins xs i n) → xs ≡ spelling b.spells.inst.row (fields_in i) ++ drop n xs
 begun xs i n b = sym (take-append-drop n xs) ∙ ap (λ front. front ++ drop n xs) b.spells.is
 
--- bytes enough are no front
+-- bytes that are enough are not the beginning of one
 nonempty : (rest : List ℕ) → length rest ≡ 0 → rest ≡ []
 nonempty [] e = refl
 nonempty (x ∷ xs) e = absurd (omega arith)
@@ -56,7 +56,7 @@ no_front a more enough front =
     append_nil [] = refl
     append_nil (y ∷ ys) = ap (λ zs. y ∷ zs) (append_nil ys)
 
--- too few bytes begin with no spelling
+-- too few bytes begin with no instruction
 pub none_begins : (a : ℕ) (more : List ℕ) → length (a ∷ more) < need_of a → (i : InstData) (n : ℕ) → Begins (a ∷ more) i n → ⊥
 none_begins a more few i n b =
     let size = length_of_spelling i b.spells.inst a more (drop n (a ∷ more)) (begun (a ∷ more) i n b) in
@@ -123,7 +123,7 @@ short_none a b w rest even is none =
           none i (record { inst = inst; is = two_parts _ a b rest (drop n xs) bytes ∙ sym is }),
     )
 
--- one to three bytes and the number that they are
+-- one to three bytes and their number
 low_bytes : (long : Bool) (w : ℕ) (bytes : List ℕ) → All (λ b. b < 256) bytes → 1 ≤ length bytes → length bytes < (if long then 4 else 2) → w % span (length bytes) ≡ number_of bytes → take (length bytes) (spelling_of long w) ≡ bytes
 low_bytes long w [] all low high is = absurd (omega arith)
 low_bytes true w (a ∷ []) all low high is = let p : w % 256 ≡ a = omega arith in rw p refl
@@ -146,7 +146,7 @@ low_number true w (a ∷ b ∷ c ∷ d ∷ more) rest low high is = absurd (omeg
 low_number false w (a ∷ []) rest low high is = let p : a ≡ w % 256 = cc in omega arith
 low_number false w (a ∷ b ∷ more) rest low high is = absurd (omega arith)
 
--- what goes on is a front
+-- bytes that can be completed are the beginning of an instruction
 pub goes_front : (bytes : List ℕ) (i : InstData) → All (λ b. b < 256) bytes → 1 ≤ length bytes → GoesOn (length bytes) (number_of bytes) i → IsFront bytes
 goes_front bytes i all low g =
     let s = spelling g.inst.row (fields_in i) in
@@ -187,7 +187,7 @@ front_none (a ∷ more) n part first low high head len all num none =
     (not_listed_is_rest (a ∷ more)).1
     (λ front. none front.inst (subst (λ p. GoesOn n p front.inst) num (subst (λ m. GoesOn m (number_of (a ∷ more)) front.inst) len (front_goes a more few front))), none_begins a more few)
 
--- no byte is a front
+-- no bytes are the beginning of an instruction
 pub empty_short : (xs : List ℕ) → length xs ≡ 0 → Err Short ≡ decoded_of xs
 unfolding decoded_of fields_of bounds word
 empty_short [] e = refl

@@ -1,4 +1,4 @@
--- What holds of spellings, and of decoding, whatever the bytes are.
+-- The laws of spelling, and of decoding, for all bytes.
 use Rattle.std.specs.Prelude.{◌≡◌, ◌≤◌, ◌⊎◌, ◌↔◌, ℕ, List, [], ◌++◌, length, take, Ok, Err}
 use Rattle.tc_isa.specs.Insts.{InstData}
 use Rattle.tc_isa.specs.Spelling.{Spells, Begins, IsFront}
@@ -13,20 +13,20 @@ NoneSpellsTwo = (bytes : List ℕ) (i j : InstData) → Spells bytes i → Spell
 abbrev pub NoneIsPrefix : Type 0
 NoneIsPrefix = (bytes more : List ℕ) (i j : InstData) → Spells bytes i → Spells (bytes ++ more) j → more ≡ []
 
--- the laws of spellings
+-- the laws of spelling
 pub record SpellingLaws : Type 0 where
   pub one : NoneSpellsTwo
   pub apart : NoneIsPrefix
 
--- more bytes behind an instruction change nothing
+-- bytes after an instruction change nothing
 abbrev pub MoreChangesNothing : Type 0
 MoreChangesNothing = (xs ys : List ℕ) (i : InstData) → decoded_of xs ≡ Ok (i, length xs) → decoded_of (xs ++ ys) ≡ Ok (i, length xs)
 
--- an instruction has two or four bytes, all of them there
+-- an instruction has two or four bytes, and the bytes are at least as many
 abbrev pub LengthsAreRight : Type 0
 LengthsAreRight = (xs : List ℕ) (i : InstData) (n : ℕ) → decoded_of xs ≡ Ok (i, n) → (n ≤ length xs) × (n ≤ 4) × ((n ≡ 2) ⊎ (n ≡ 4))
 
--- what is decoded spells the instruction
+-- what is decoded is the instruction that the bytes spell
 abbrev pub DecodedSpells : Type 0
 DecodedSpells = (xs : List ℕ) (i : InstData) (n : ℕ) → decoded_of xs ≡ Ok (i, n) → Spells (take n xs) i
 
@@ -34,15 +34,15 @@ DecodedSpells = (xs : List ℕ) (i : InstData) (n : ℕ) → decoded_of xs ≡ O
 abbrev pub DecodedBegins : Type 0
 DecodedBegins = (xs : List ℕ) (i : InstData) (n : ℕ) → (decoded_of xs ≡ Ok (i, n)) ↔ Begins xs i n
 
--- what spells an instruction is decoded, whatever follows
+-- bytes that spell an instruction are decoded as it, whatever follows
 abbrev pub SpelledDecodes : Type 0
 SpelledDecodes = (bytes rest : List ℕ) (i : InstData) → Spells bytes i → decoded_of (bytes ++ rest) ≡ Ok (i, length bytes)
 
--- Short is the front of a spelling, which no spelling begins
+-- Short: the bytes are the beginning of an instruction, and begin with none
 abbrev pub ShortIsFront : Type 0
 ShortIsFront = (xs : List ℕ) → (decoded_of xs ≡ Err Short) ↔ (IsFront xs × ((i : InstData) (n : ℕ) → Begins xs i n → ⊥))
 
--- NotListed is all else
+-- NotListed: the bytes neither begin with an instruction nor are the beginning of one
 abbrev pub NotListedIsRest : Type 0
 NotListedIsRest = (xs : List ℕ) → (decoded_of xs ≡ Err NotListed) ↔ ((IsFront xs → ⊥) × ((i : InstData) (n : ℕ) → Begins xs i n → ⊥))
 

@@ -1,4 +1,4 @@
--- Decoding: the instruction with whose spelling bytes begin.
+-- Definitions of decoding: the instruction that bytes begin with.
 pub mod Decoding
 pub mod DecodeLaws
 pub mod WordSearch

@@ -1,4 +1,4 @@
--- How an instruction is found: by its word, and by the front of a word.
+-- Search for an instruction by its word, and by the low bytes of its word.
 use Rattle.std.specs.Prelude.{◌≡◌, ◌+◌, ◌*◌, ◌/◌, ◌%◌, ◌^◌, ◌<◌, ℕ, zero, suc, Bool, true, false, ◌==◌, ◌&&◌, ◌||◌, nat_lt, nat_le, List, [], ◌∷◌, Option, Some, None, slice_get}
 use Rattle.tc_isa.specs.declared.table.Form.{Form}
 use Rattle.tc_isa.specs.declared.table.Form.TheVariants.{Rlc, Rr, Rc, Bol, Bo, Brr, Brc, B, Abs, Sys, Sr, Sc, Sb, Sbr, Src, Srr, Slr, Ssr}
@@ -27,7 +27,7 @@ mix2 a b = a % 2 ^ 16 + b / 2 ^ 16 * 2 ^ 16
 abbrev pub mix3 : ℕ → ℕ → ℕ
 mix3 a b = a % 2 ^ 24 + b / 2 ^ 24 * 2 ^ 24
 
--- 256 to the number of bytes kept
+-- 256 to the power of the number of bytes
 abbrev pub span : ℕ → ℕ
 span zero = 1
 span (suc zero) = 2 ^ 8
@@ -38,7 +38,7 @@ span (suc (suc (suc n))) = 2 ^ 24
 abbrev pub mix : ℕ → ℕ → ℕ → ℕ
 mix n a b = a % span n + b / span n * span n
 
--- the instruction's word has these low n bytes, and more
+-- the instruction is longer than n bytes, and these are its low n bytes
 pub record GoesOn (n part : ℕ) (i : InstData) : Type 0 where
   pub inst : IsInst i
   pub longer : n < size_of inst.row
@@ -49,13 +49,14 @@ abbrev pub has_form : RowData → Option RowData → Bool
 has_form r None = false
 has_form r (Some s) = form_index s.form == form_index r.form
 
--- the place stands from the start on and before the end, and the row at the start has the form of this row
+-- the place is from the start on and before the end, and the row at the start has the form of this
+-- row
 abbrev pub is_between : ℕ → RowData → Option ℕ → Option ℕ → Bool
 is_between place r None end = false
 is_between place r (Some start) None = false
 is_between place r (Some start) (Some end) = nat_le start place && nat_lt place end && has_form r (slice_get listed start)
 
--- each row, numbered from here on, stands between the start and the end of its first byte
+-- each row, numbered from here on, is from the start on and before the end of its first byte
 abbrev pub hold_all : List ℕ → List ℕ → ℕ → List RowData → Bool
 hold_all starts ends place [] = true
 hold_all starts ends place (r ∷ rs) = is_between place r (slice_get starts r.op1) (slice_get ends r.op1) && hold_all starts ends (suc place) rs
@@ -65,21 +66,21 @@ abbrev pub is_place : ℕ → Option ℕ → Bool
 is_place place None = false
 is_place place (Some p) = p == place
 
--- the place stands as many places past the base as the row's second code says
+-- the place is after the base by the row's second code
 abbrev pub is_at : List ℕ → ℕ → RowData → Option ℕ → Bool
 is_at places place r None = false
 is_at places place r (Some base) = is_place place (slice_get places (base + r.op2))
 
--- each row, numbered from here on, stands past the base of its first byte
+-- each row, numbered from here on, is where the index has it
 abbrev pub hold_places : List ℕ → List ℕ → ℕ → List RowData → Bool
 hold_places bases places place [] = true
 hold_places bases places place (r ∷ rs) = is_at places place r (slice_get bases r.op1) && hold_places bases places (suc place) rs
 
--- each field is named or is 0 in the form
+-- each field is one that the row has, or is always 0 in the form
 abbrev pub names_or_lacks : Uses → Fields → Bool
 names_or_lacks u b = (u.c || b.c == 1) && (u.s1 || b.s1 == 1) && (u.s2 || b.s2 == 1) && (u.n || b.n == 1) && (u.k || b.k == 1)
 
--- the row names all fields that its form has
+-- the row has all fields of its form
 abbrev pub names_all : RowData → Bool
 names_all r = names_or_lacks (uses_of r) (bounds r.form)
 

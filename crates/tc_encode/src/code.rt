@@ -1,4 +1,4 @@
-// The bytes of an instruction.
+// Encodes an instruction as bytes.
 ghost use Rattle.std.specs.Prelude.{◌≡◌, take, drop, All};
 ghost use Rattle.tc_isa.specs.Spelling.{Spells};
 ghost use Rattle.tc_encode.specs.Decoding.{need_of};
@@ -6,14 +6,14 @@ ghost use Rattle.tc_encode.specs.Decoding.{need_of};
 use crate::forms::join;
 use tc_isa::{Fields, Inst, rows};
 
-/// The bytes of an instruction: the first `len` of them; the others are 0.
+/// The bytes of an instruction: the first `len` of the four; the others are 0.
 #[derive(Clone, Copy, Debug, PartialEq, Eq)]
 pub struct Code {
     pub len: u8,
     pub bytes: [u8; 4],
 }
 
-/// The one spelling of the instruction; bytes past its length are 0.
+/// Returns the only bytes that spell the instruction. Bytes after its length are 0.
 pub fn encode(inst: &Inst) -> Code
     ensures spells { Spells (take result.len result.bytes) inst.now }
     ensures rest { All (λ b. b ≡ 0) (drop result.len result.bytes) }
@@ -33,7 +33,7 @@ pub fn encode(inst: &Inst) -> Code
     }
 }
 
-/// How many bytes what begins with this byte has.
+/// Returns the length of an instruction whose first byte is this one: 4 bytes if it is odd, else 2.
 fn length_by(first: u8) -> u8
     ensures { result ≡ need_of first }
 {

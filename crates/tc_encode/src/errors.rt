@@ -1,9 +1,10 @@
-// Why bytes are no instruction.
+// Why bytes begin with no instruction.
 
-/// Why bytes begin with no instruction: they are the front of one and end too early (1); they are no instruction of the
-/// table (2).
+/// Why bytes begin with no instruction.
 #[derive(Clone, Copy, Debug, PartialEq, Eq)]
 pub enum DecodeErr {
+    /// The bytes are the beginning of an instruction, and end too early.
     Short = 1,
+    /// No instruction of the table begins with these bytes.
     NotListed = 2,
 }

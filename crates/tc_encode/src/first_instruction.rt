@@ -1,4 +1,4 @@
-// The instruction that bytes begin with.
+// Decodes the instruction that bytes begin with.
 ghost use Rattle.std.specs.Prelude.{◌≡◌, ◌↔◌, Ok, ◌<◌, ◌≤◌, ◌%◌, ◌^◌, ℕ, List, [], ◌∷◌, length, Err, All, slice_index, IfOk};
 ghost use Rattle.tc_isa.specs.Insts.{InstData};
 ghost use Rattle.tc_isa.specs.Spelling.{Begins, IsFront};
@@ -9,7 +9,7 @@ use crate::fronts::completed;
 use crate::word_search::find;
 use tc_isa::Inst;
 
-/// What four bytes are, whatever follows.
+/// Decodes four bytes, the first of which is odd.
 fn long_word(a: u8, b: u8, c: u8, d: u8) -> Result<(Inst, usize), DecodeErr>
     requires { a % 2 ≡ 1 }
     ensures { (rest : List ℕ) → decoded_of (a ∷ b ∷ c ∷ d ∷ rest) ≡ result }
@@ -20,7 +20,7 @@ fn long_word(a: u8, b: u8, c: u8, d: u8) -> Result<(Inst, usize), DecodeErr>
     }
 }
 
-/// What two bytes are, whatever follows.
+/// Decodes two bytes, the first of which is even.
 fn short_word(a: u8, b: u8) -> Result<(Inst, usize), DecodeErr>
     requires { a % 2 ≡ 0 }
     ensures { (rest : List ℕ) → decoded_of (a ∷ b ∷ rest) ≡ result }
@@ -31,7 +31,7 @@ fn short_word(a: u8, b: u8) -> Result<(Inst, usize), DecodeErr>
     }
 }
 
-/// Why the n bytes that this number is are no instruction: too few, or none.
+/// Returns why these `n` bytes, as the number `part`, are no instruction: too few, or not listed.
 fn front(first: u8, n: u8, part: u32) -> DecodeErr
     requires low { 1 ≤ n }
     requires high { n < need_of first }
@@ -47,13 +47,14 @@ fn front(first: u8, n: u8, part: u32) -> DecodeErr
     }
 }
 
-/// The instruction with whose spelling the bytes begin, and how many bytes it has. Short exactly where the bytes are a
-/// proper prefix of a listed spelling and none begins them; NotListed exactly where neither holds.
+/// Returns the instruction that the bytes begin with, and its length in bytes. If there is none,
+/// the answer is `Short` exactly if the bytes are the beginning of a listed instruction, and else
+/// `NotListed`.
 pub fn decode(bytes: &[u8]) -> Result<(Inst, usize), DecodeErr>
     ensures decoded { result ≡ decoded_of bytes.now }
     ensures size { IfOk result (λ p. (2 ≤ p.1) × (p.1 ≤ 4) × (p.1 ≤ length bytes.now)) }
 
-    // The same by the relation of bytes and instructions: each answer comes exactly where it says.
+    // Each answer by the relation of bytes and instructions: it is given exactly in its case.
     ensures ok { (i : InstData) (n : ℕ) → (result ≡ Ok (i, n)) ↔ Begins bytes.now i n }
     ensures short { (result ≡ Err DecodeErr.Short)
         ↔ (IsFront bytes.now × ((i : InstData) (n : ℕ) → Begins bytes.now i n → ⊥)) }
@@ -63,7 +64,7 @@ pub fn decode(bytes: &[u8]) -> Result<(Inst, usize), DecodeErr>
     decode_by_first(bytes)
 }
 
-/// The same, by the first byte: bit 0 of it tells the length.
+/// Decodes by the first byte: bit 0 of it gives the length.
 fn decode_by_first(bytes: &[u8]) -> Result<(Inst, usize), DecodeErr>
     ensures { result ≡ decoded_of bytes.now }
 {
@@ -77,7 +78,7 @@ fn decode_by_first(bytes: &[u8]) -> Result<(Inst, usize), DecodeErr>
     }
 }
 
-/// The same where the first byte is odd.
+/// Decodes bytes of which the first is odd.
 fn decode_long(bytes: &[u8]) -> Result<(Inst, usize), DecodeErr>
     requires { slice_index bytes.now 0 % 2 ≡ 1 }
     ensures { result ≡ decoded_of bytes.now }
@@ -95,7 +96,7 @@ fn decode_long(bytes: &[u8]) -> Result<(Inst, usize), DecodeErr>
     }
 }
 
-/// The same where the first byte is even.
+/// Decodes bytes of which the first is even.
 fn decode_short(bytes: &[u8]) -> Result<(Inst, usize), DecodeErr>
     requires { slice_index bytes.now 0 % 2 ≡ 0 }
     ensures { result ≡ decoded_of bytes.now }

@@ -4,7 +4,7 @@ ghost use Rattle.tc_isa.specs.Words.{IsBelow, bounds, second_bound, word, fields
 
 use tc_isa::{Fields, Form};
 
-/// The fields of a word.
+/// Returns the fields of a word.
 #[tactic(auto, unfolding(tc_isa::specs::Words::fields_of))]
 #[inline(always)]
 pub fn split(form: Form, w: u32) -> Fields
@@ -116,7 +116,7 @@ pub fn split(form: Form, w: u32) -> Fields
     }
 }
 
-/// The second code of a word.
+/// Returns the second code of a word.
 #[tactic(auto, unfolding(tc_isa::specs::Words::second_of))]
 pub fn second_code(form: Form, w: u32) -> u8
     requires { w < 2 ^ 32 }
@@ -133,7 +133,7 @@ pub fn second_code(form: Form, w: u32) -> u8
     }
 }
 
-/// The word of these fields.
+/// Returns the word of these codes and fields.
 #[tactic(auto, unfolding(tc_isa::specs::Words::word, tc_isa::specs::Words::bounds, tc_isa::specs::Words::second_bound))]
 pub fn join(form: Form, op1: u8, op2: u8, f: &Fields) -> u32
     requires second { op2 < second_bound form }

@@ -1,4 +1,4 @@
-// Fronts of spellings.
+// Beginnings of instructions: whether fewer bytes than an instruction has can be completed.
 ghost use Rattle.std.specs.Prelude.{◌≡◌, ◌<◌, ◌≤◌, ◌%◌, IfSome, IfNone, slice_get, Some};
 ghost use Rattle.tc_isa.specs.Rows.{row_of, listed, RowData};
 ghost use Rattle.tc_isa.specs.Codec.{least};
@@ -10,7 +10,7 @@ use crate::forms::{join, split};
 use crate::index::groups;
 use tc_isa::{Fields, Inst, Row, inst, rows};
 
-/// The instruction of this row that has the word.
+/// Returns the instruction of this row if the word is one.
 fn inst_by(place: u8, row: &Row, w: u32) -> Option<Inst>
     requires { slice_get listed place ≡ Some (row_of row.now) }
     ensures some { IfSome result (Makes w) }
@@ -27,7 +27,7 @@ fn inst_by(place: u8, row: &Row, w: u32) -> Option<Inst>
     Some(found)
 }
 
-/// The least fields that fit the row.
+/// Returns the least fields that fit the row.
 fn least_of(row: &Row) -> Fields
     ensures { result ≡ least (row_of row.now) }
 {
@@ -45,7 +45,7 @@ fn least_of(row: &Row) -> Fields
     }
 }
 
-/// 256 to the number of bytes.
+/// Returns 256 to the power of `n`: the number of values of `n` bytes.
 fn span_of(n: u8) -> u32
     requires low { 1 ≤ n }
     requires high { n ≤ 3 }
@@ -59,7 +59,7 @@ fn span_of(n: u8) -> u32
     }
 }
 
-/// An instruction of this row with these n low bytes.
+/// Returns an instruction of this row with these `n` low bytes, if there is one.
 fn completed_by(place: u8, row: &Row, n: u8, part: u32) -> Option<Inst>
     requires place { slice_get listed place ≡ Some (row_of row.now) }
     requires low { 1 ≤ n }
@@ -74,7 +74,8 @@ fn completed_by(place: u8, row: &Row, n: u8, part: u32) -> Option<Inst>
     inst_by(place, row, part + rest / span * span)
 }
 
-/// An instruction of the row at this place with these n low bytes, where the row begins with the lowest.
+/// Returns an instruction of the row at this place with these `n` low bytes, if the row's first
+/// code is the lowest of them.
 fn completed_at(place: u8, first: u8, n: u8, part: u32) -> Option<Inst>
     requires place { place < 142 }
     requires low { 1 ≤ n }
@@ -91,7 +92,7 @@ fn completed_at(place: u8, first: u8, n: u8, part: u32) -> Option<Inst>
     completed_by(place, row, n, part)
 }
 
-/// An instruction of a row from one place on and before the other with these n low bytes.
+/// Returns an instruction with these `n` low bytes, of a row from one place up to before another.
 fn completed_between(from: u8, to: u8, first: u8, n: u8, part: u32) -> Option<Inst>
     requires places { to ≤ 142 }
     requires low { 1 ≤ n }
@@ -110,7 +111,7 @@ fn completed_between(from: u8, to: u8, first: u8, n: u8, part: u32) -> Option<In
     None
 }
 
-/// An instruction with these n low bytes, and more.
+/// Returns an instruction that has more than these `n` bytes and begins with them, if there is one.
 pub fn completed(first: u8, n: u8, part: u32) -> Option<Inst>
     requires low { 1 ≤ n }
     requires high { n < need_of first }

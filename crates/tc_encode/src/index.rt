@@ -1,10 +1,10 @@
-// Between which places the rows of a first byte stand.
+// Index of the rows by their codes. Printed by tools/rows.py.
 ghost use Rattle.std.specs.Prelude.{◌≡◌, length, map, true, nat_le};
 ghost use Rattle.std.specs.List.{list_all};
 ghost use Rattle.tc_isa.specs.Rows.{listed};
 ghost use Rattle.tc_encode.specs.WordSearch.{hold_all, hold_places, names_all};
 
-// By the first byte, the place of the first row that begins with it.
+// By the first byte: the place of the first row with it.
 static STARTS: [u8; 256] = [
     111, 43, 124, 0, 0, 0, 0, 0, 0, 60, 0, 9, 0, 51, 0, 18, 0, 2, 0, 0, 0, 0, 0, 0, 0, 81, 0, 0, 0,
     109, 0, 0, 117, 0, 0, 0, 0, 0, 127, 0, 0, 0, 0, 0, 0, 49, 0, 0, 133, 0, 0, 0, 0, 0, 0, 0, 0, 0,
@@ -18,7 +18,7 @@ static STARTS: [u8; 256] = [
     100, 0, 104,
 ];
 
-// By the first byte, the place past the last row that begins with it; 0 where none does.
+// By the first byte: the place after the last row with it, or 0 if there is none.
 static ENDS: [u8; 256] = [
     114, 49, 125, 0, 0, 0, 0, 0, 0, 72, 0, 18, 0, 60, 0, 28, 0, 3, 0, 0, 0, 0, 0, 0, 0, 82, 0, 1,
     0, 110, 0, 0, 118, 0, 0, 0, 0, 0, 128, 0, 0, 0, 0, 0, 0, 51, 0, 0, 134, 0, 0, 0, 0, 0, 0, 0, 0,
@@ -32,7 +32,7 @@ static ENDS: [u8; 256] = [
     0, 101, 0, 107,
 ];
 
-/// The places of the first rows, and those past the last ones, by their first byte.
+/// Returns the places of the first rows, and those after the last rows, by the first byte.
 pub fn groups() -> (&'static [u8; 256], &'static [u8; 256])
     ensures starts { length result.0.now ≡ 256 }
     ensures start_within { list_all (λ n. nat_le n 141) result.0.now ≡ true }
@@ -43,7 +43,7 @@ pub fn groups() -> (&'static [u8; 256], &'static [u8; 256])
     (&STARTS, &ENDS)
 }
 
-// By the first byte, where its rows begin in the list below; 0 where it has none.
+// By the first byte: the place in `PLACES` at which its rows begin, or 0 if it has none.
 static BASES: [u16; 256] = [
     0, 10, 110, 0, 0, 0, 0, 0, 0, 111, 0, 150, 0, 182, 0, 202, 0, 218, 0, 0, 0, 0, 0, 0, 0, 219, 0,
     220, 0, 221, 0, 0, 222, 0, 0, 0, 0, 0, 223, 0, 0, 0, 0, 0, 0, 224, 0, 0, 228, 0, 0, 0, 0, 0, 0,
@@ -57,7 +57,7 @@ static BASES: [u16; 256] = [
     0, 405, 0, 406, 0, 0, 0, 0, 0, 0, 407, 0, 408,
 ];
 
-// The places of the rows of one first byte after another, each as far on as its second code says; 0 where there is none.
+// The places of rows: for each first byte from its base on, by the second code; 0 if there is none.
 static PLACES: [u8; 410] = [
     111, 0, 0, 0, 0, 0, 0, 0, 112, 113, 43, 44, 45, 0, 0, 0, 0, 0, 0, 0, 0, 0, 0, 0, 0, 0, 0, 0, 0,
     0, 0, 0, 0, 0, 0, 0, 0, 0, 0, 0, 0, 0, 0, 0, 0, 0, 0, 0, 0, 0, 0, 0, 0, 0, 0, 0, 0, 0, 0, 0, 0,
@@ -76,7 +76,8 @@ static PLACES: [u8; 410] = [
     8, 139, 84, 116, 114, 101, 102, 115, 108, 121, 141, 123, 100, 104, 106,
 ];
 
-/// By the first byte where its rows begin in the list of places, and that list.
+/// Returns for each first byte the place at which its rows begin in the list of places, and that
+/// list.
 pub fn codes() -> (&'static [u16; 256], &'static [u8; 410])
     ensures bases { length result.0.now ≡ 256 }
     ensures places { length result.1.now ≡ 410 }
@@ -86,7 +87,7 @@ pub fn codes() -> (&'static [u16; 256], &'static [u8; 410])
     (&BASES, &PLACES)
 }
 
-// Whether a row names all fields of its form, by its place.
+// For each row: whether it has all fields of its form.
 static PLAIN: [bool; 142] = [
     true, true, true, false, false, false, false, false, false, false, false, false, false, false,
     false, false, false, false, false, false, false, false, false, false, false, false, false,
@@ -100,7 +101,7 @@ static PLAIN: [bool; 142] = [
     true, true, true, true, true, true, true, true,
 ];
 
-/// Whether each row names all fields of its form, in the order of the rows.
+/// Returns for each row, in the order of the rows, whether it has all fields of its form.
 #[tactic(auto, unfolding(tc_isa::specs::Words::bounds))]
 pub fn plain_rows() -> &'static [bool; 142]
     ensures { result.now ≡ map names_all listed }

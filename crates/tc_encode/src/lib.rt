@@ -1,4 +1,4 @@
-//! Instructions as bytes.
+//! Instructions as bytes: encoded and decoded.
 #![tactic(auto)]
 
 mod code;

@@ -1,4 +1,4 @@
-// The instruction that has a word.
+// Finds the instruction of a word by the index of codes.
 ghost use Rattle.std.specs.Prelude.{◌≡◌, ◌<◌, ◌%◌, ◌^◌, ℕ, IfSome, IfNone, slice_get, Some};
 ghost use Rattle.tc_isa.specs.Rows.{RowData, row_of, listed};
 ghost use Rattle.tc_isa.specs.Words.{second_of, form_index, IsBelow, bounds};
@@ -10,7 +10,7 @@ use crate::forms::{second_code, split};
 use crate::index::{codes, groups, plain_rows};
 use tc_isa::{Fields, Form, Inst, Row, Uses, rows, uses};
 
-/// The instruction that has the word. A word that begins with an even byte has two bytes.
+/// Returns the instruction of a word. If the lowest byte is even, only the low 16 bits count.
 pub fn find(w: u32) -> Option<Inst>
     requires { w % 2 ≡ 0 → w < 2 ^ 16 }
     ensures some { IfSome result (Makes w) }
@@ -24,7 +24,7 @@ pub fn find(w: u32) -> Option<Inst>
     inst_at(place, first, second, w)
 }
 
-/// The second code of the word, as the rows that begin with this byte have it.
+/// Returns the second code of the word, in the form of the rows that begin with this byte.
 fn second_by(first: u8, w: u32) -> u8
     ensures { (place : ℕ) (r : RowData) → slice_get listed place ≡ Some r → r.op1 ≡ first
         → result ≡ second_of r.form w }
@@ -32,7 +32,7 @@ fn second_by(first: u8, w: u32) -> u8
     second_code(form_by(first), w)
 }
 
-/// The place of the row with these codes, if any.
+/// Returns the place of the row with these codes, if there is one.
 fn place_by(first: u8, second: u8) -> Option<u8>
     ensures within { IfSome result (λ p. p < 142) }
     ensures only { (place : ℕ) (r : RowData) → slice_get listed place ≡ Some r → r.op1 ≡ first
@@ -47,7 +47,7 @@ fn place_by(first: u8, second: u8) -> Option<u8>
     }
 }
 
-/// The form of the rows that begin with this byte, where there are any.
+/// Returns the form of the rows that begin with this byte. If there are none, any form will do.
 fn form_by(first: u8) -> Form
     ensures { (place : ℕ) (r : RowData) → slice_get listed place ≡ Some r → r.op1 ≡ first
         → form_index r.form ≡ form_index result }
@@ -56,7 +56,7 @@ fn form_by(first: u8) -> Form
     rows()[usize::from(starts[usize::from(first)])].form
 }
 
-/// The instruction of the row at this place that has the word, with these codes.
+/// Returns the instruction of the row at this place if it has these codes and the word.
 fn inst_at(place: u8, first: u8, second: u8, w: u32) -> Option<Inst>
     requires place { place < 142 }
     requires first { first ≡ w % 256 }
@@ -77,7 +77,8 @@ fn inst_at(place: u8, first: u8, second: u8, w: u32) -> Option<Inst>
     inst_of(place, row, w)
 }
 
-/// The instruction of this row, which has the word's codes, where the rest of the word is its spelling.
+/// Returns the instruction of this row, which has the word's codes, if the rest of the word is its
+/// spelling.
 fn inst_of(place: u8, row: &Row, w: u32) -> Option<Inst>
     requires place { slice_get listed place ≡ Some (row_of row.now) }
     requires within { place < 142 }
@@ -107,7 +108,7 @@ fn inst_of(place: u8, row: &Row, w: u32) -> Option<Inst>
     })
 }
 
-/// Whether the bits that the form has for no field are 0.
+/// Returns true if all bits that the form has for no field are 0.
 #[tactic(auto, unfolding(crate::specs::WordSearch::has_no_gap))]
 fn is_full(form: Form, w: u32) -> bool
     ensures { result ≡ has_no_gap form w }
@@ -119,7 +120,7 @@ fn is_full(form: Form, w: u32) -> bool
     }
 }
 
-/// Whether the fields that the row at this place doesn't name are 0.
+/// Returns true if the fields that the row at this place doesn't have are 0.
 fn has_no_other(place: u8, row: &Row, f: &Fields) -> bool
     requires place { slice_get listed place ≡ Some (row_of row.now) }
     requires within { place < 142 }
@@ -130,7 +131,7 @@ fn has_no_other(place: u8, row: &Row, f: &Fields) -> bool
     plain_rows()[at] || is_zero_elsewhere(&uses()[at], f)
 }
 
-/// Whether the fields that aren't used are 0.
+/// Returns true if the fields that the row doesn't have are 0.
 fn is_zero_elsewhere(uses: &Uses, f: &Fields) -> bool
     ensures { result ≡ rest_is_zero uses.now f.now }
 {
@@ -141,7 +142,8 @@ fn is_zero_elsewhere(uses: &Uses, f: &Fields) -> bool
         && (uses.k || f.k == 0)
 }
 
-/// Whether the row may have these registers: a post-increment of an address register isn't of the base itself.
+/// Returns true if the row allows these registers: an address register that is loaded or stored
+/// with post-increment can't be the base too.
 fn parts_differ(row: &Row, f: &Fields) -> bool
     ensures { result ≡ is_apart (row_of row.now) f.now }
 {
