@@ -1,5 +1,5 @@
-//! Context save areas: the links that name them, the words that are saved to them, and the laws of their chains.
-//! No call takes memory.
+//! Context save areas (CSAs): links, the words of a saved context, and the laws of chains.
+//! No function allocates.
 #![tactic(auto)]
 
 mod contexts;
@@ -15,7 +15,7 @@ ghost use Rattle.csa_chain.specs.ContextChanges.{FieldsComeBack, UpperComesBack,
 pub use contexts::{load_lower, load_upper, lower_words, upper_words};
 pub use links::{PcxiParts, address_of, link_of, pcxi_parts, pcxi_word};
 
-/// What a save, a restore and a store do to the chains.
+/// The laws of chains: what a save, a restore and a store do to the free list and the used list.
 pub fn chain_laws()
     ensures save { (mem : Memory) (pcxi fcx f : ℕ) (free used : List ℕ)
         → SaveMoves mem pcxi fcx f free used }
@@ -26,20 +26,21 @@ pub fn chain_laws()
         → StoreLeaves old new word links }
 {}
 
-/// What a save and a restore by the owner of one of several chains do to all of them.
+/// The laws of several chains: what a save or a restore by the owner of one chain does to all.
 pub fn several_chains_laws()
     ensures saves { OwnerSaves }
     ensures restores { OwnerRestores }
 {}
 
-/// What fields and registers are once they have gone into words and come back.
+/// The laws of contexts: fields and registers that are written to words are read back.
 pub fn context_laws()
     ensures fields { FieldsComeBack }
     ensures upper { UpperComesBack }
     ensures lower { LowerComesBack }
 {}
 
-/// What is read after words are written, and that bytes stay bytes and words stay words.
+/// The laws of memory: words that are written are read back, bytes stay below 2^8 and words below
+/// 2^32.
 pub fn memory_laws()
     ensures written { WordsComeBack }
     ensures bytes { BytesStay }
