@@ -1,4 +1,4 @@
--- A document in which nothing is refused tells a plan.
+-- A document that isn't refused gives a plan.
 use Rattle.std.proofs.Common.{◌≡◌, ℕ, ◌+◌, ◌*◌, ◌%◌, ◌/◌, ◌<◌, ◌≤◌, ◌^◌, true, List, codes, length, map, get_or, None, ◌==◌, nat_le, nat_lt, arith, lit<}
 use Rattle.std.proofs.lemmas.Bool.{and_parts, leb-true, ltb-true, eqb-true}
 use Rattle.std.proofs.lemmas.List.{length-map}
@@ -12,7 +12,7 @@ use Rattle.tcd_base.specs.declared.range.Range.{Range}
 use Rattle.tcd_plan.specs.declared.rows.Holder.TheVariants.{Rom, Ram, Devices}
 use Rattle.tcd_plan.proofs.Small.{first_some_none, four_hold, option_map_none, where_none}
 
--- what the save areas meet, on numbers
+-- the limits of the save areas, over numbers
 pub record AreasHold (at areas reserve : ℕ) : Type 0 where
   pub some : 1 ≤ areas
   pub few : areas ≤ 4096
@@ -44,7 +44,7 @@ accepted d e =
       overlap = stands d e 7 (lit< tt);
     }
 
--- the tests of what a document tells, one by one
+-- the tests of a document's values, one by one
 pub few_ranges : (p : PlanData) → too_many_of p ≡ None → (are_few p.rom ≡ true) × (are_few p.ram ≡ true) × (nat_le (length p.devices) 16 ≡ true) × (nat_le (length p.irqs) 32 ≡ true)
 unfolding too_many_of
 few_ranges p e = four_hold (are_few p.rom) (are_few p.ram) (nat_le (length p.devices) 16) (nat_le (length p.irqs) 32) (numbered 1) (numbered 4) (numbered 7) (numbered 20) e

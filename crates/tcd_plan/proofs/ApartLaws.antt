@@ -13,7 +13,7 @@ range_fits : (r : Range) → is_range r ≡ true → r.at + r.len ≤ 2 ^ 32
 range_fits r h =
     leb-true (r.at + r.len) (2 ^ 32) (and_parts ((r.at % 4 == 0) && (r.len % 4 == 0) && nat_lt 0 r.len) (nat_le (r.at + r.len) (2 ^ 32)) h).1
 
--- what lies in a range doesn't pass 2^32
+-- addresses inside a range don't pass 2^32
 pub IsInOne-fits : (x n : ℕ) (rs : List Range) → list_all is_range rs ≡ true → IsInOne x n rs → x + n ≤ 2 ^ 32
 IsInOne-fits x n [] all h = absurd h
 IsInOne-fits x n (r ∷ rs) all (inl h) = let fits = range_fits r (and_parts _ _ all).0 in omega arith
@@ -31,7 +31,7 @@ apart_each x r [] e h g = g
 apart_each x r (s ∷ ss) e h (inl g) = apart_one x r s (and_parts _ _ e).0 h g
 apart_each x r (s ∷ ss) e h (inr g) = apart_each x r ss (and_parts _ _ e).1 h g
 
--- no address lies in one range and in a later one
+-- no address is inside a range and inside a later one
 pub all_apart-before : (x : ℕ) (rs ss : List Range) → all_apart (rs ++ ss) ≡ true → IsInOne x 1 rs → IsInOne x 1 ss → ⊥
 all_apart-before x [] ss e h g = h
 all_apart-before x (r ∷ rs) ss e (inl h) g =
@@ -47,7 +47,7 @@ all_apart-behind (r ∷ rs) ss e = all_apart-behind rs ss (and_parts _ _ e).1
 pub rom_fits : {plan : PlanData} → IsPlan plan → (x n : ℕ) → IsInOne x n plan.rom → x + n ≤ 2 ^ 32
 rom_fits {plan = plan} ok x n h = let k = ok.ranges in IsInOne-fits x n plan.rom k.rom h
 
--- no address of the areas lies in rom
+-- no address of the areas is inside rom
 pub rom_apart : {plan : PlanData} → IsPlan plan → (x : ℕ) → IsInOne x 1 plan.rom → IsInAreas plan x → ⊥
 rom_apart {plan = plan} ok x rom at =
     let devices = map (λ d. d.range) plan.devices in

@@ -1,4 +1,4 @@
--- What stands at each key of a document in which no value is bad.
+-- The values of a document in which no value is bad.
 use Rattle.std.proofs.Common.{◌≡◌, ℕ, ◌<◌, true, false, [], ◌∷◌, codes, length, get_or, None, refl, subst, lit<}
 use Rattle.std.specs.List.{list_all, list_any}
 use Rattle.serde_json.specs.Data.{Data}
@@ -9,14 +9,14 @@ use Rattle.tcd_plan.specs.declared.rows.Form.TheVariants.{Ranges, Object, At, Le
 use Rattle.tcd_plan.specs.declared.rows.Holder.TheVariants.{Root, Rom, Ram, Devices, Start}
 use Rattle.tcd_plan.proofs.Small.{none_fails, not_found, option_map_none}
 
--- the value at a row has its form in each object
+-- the value of a row's key has its form in each object
 form_at : (d : Data) → bad_value_of d ≡ None → (i : ℕ) → i < length key_rows → (r : KeyRow) → get_or key_rows i (row 0 Root [] Word) ≡ r → list_all (has_form r.form r.name) (objects_of r.holder d) ≡ true
 unfolding bad_value_of
 form_at d e i within r is =
     let fails = not_found (λ s. list_any (is_bad s) (objects_of s.holder d)) key_rows i (row 0 Root [] Word) (option_map_none _ _ e) within in
     none_fails (has_form r.form r.name) (objects_of r.holder d) (subst (λ s. list_any (is_bad s) (objects_of s.holder d) ≡ false) is fails)
 
--- the same at one written row of the list
+-- form_at, for one row of the list that is written out
 at_row : (d : Data) → bad_value_of d ≡ None → (i : ℕ) → i < 31 → (r : KeyRow) → get_or key_rows i (row 0 Root [] Word) ≡ r → list_all (has_form r.form r.name) (objects_of r.holder d) ≡ true
 unfolding key_rows
 at_row d e i within r is = form_at d e i within r is

@@ -14,7 +14,7 @@ use Rattle.tcd_plan.specs.declared.plans.PlanErr.TheVariants.{Overlap}
 abbrev pub sharing : Range → List Range → Option ℕ
 sharing r rs = position (λ s. not (ranges_apart r s)) rs
 
--- one range on: the answer of the ranges after it, else what the later ones give
+-- one range after another: the answer of the ranges after it, else that of the later ones
 pub overlap_step : (ranges : List Range) (i : ℕ) (r : Range) (found : Option ℕ) → i < length ranges → found ≡ sharing (get_or ranges i r) (take (length ranges - (i + 1)) (drop (i + 1) ranges))
     → overlap_from i (drop i ranges) ≡ option_map_or (λ k. Some (Overlap i (i + 1 + k))) found (overlap_from (i + 1) (drop (i + 1) ranges))
 overlap_step ranges i r found within is =

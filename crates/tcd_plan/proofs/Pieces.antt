@@ -1,4 +1,4 @@
--- What each piece of a document tells, where its values have their forms.
+-- What each part of a document gives, if its values have their forms.
 use Rattle.std.proofs.Common.{◌≡◌, ℕ, zero, suc, ◌<◌, ◌%◌, ◌^◌, Bool, true, ◌&&◌, ◌==◌, nat_lt, nat_le, cond, List, [], ◌∷◌, codes, length, map, get_or, Option, Some, None, unwrap_or, option_and_then, option_to_list, All, refl, sym, subst, arith, add-one}
 use Rattle.std.specs.List.{list_all}
 use Rattle.std.specs.List.Sorted.{IsStrictlyIncreasing}
@@ -40,7 +40,7 @@ devices_are (o ∷ os) at len hi =
     let here_hi = and_parts (has_form Hi (codes "hi") o) _ hi in
     and_from _ _ (device_is o here_at.0 here_len.0 here_hi.0) (devices_are os here_at.1 here_len.1 here_hi.1)
 
--- an array of objects with one at least has them all
+-- an array of at least one object has all of its objects
 pub some_objects : (o : Option (List Data)) → passes (λ ds. nat_lt 0 (length ds) && list_all is_object ds) o ≡ true → 0 < length (cond (passes (list_all is_object) o) (unwrap_or o []) [])
 some_objects None e = cc
 some_objects (Some ds) e =

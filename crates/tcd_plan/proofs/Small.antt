@@ -28,7 +28,7 @@ cond_none : {T : Type 0} (b : Bool) (x : T) (o : Option T) → cond (not b) (Som
 cond_none true x o e = (refl, e)
 cond_none false x o e = cc
 
--- four tests in turn, of which none fails
+-- four tests one after another, none of which fails
 pub four_hold : {T : Type 0} (a b c d : Bool) (w x y z : T) → cond (not a) (Some w) (cond (not b) (Some x) (cond (not c) (Some y) (cond (not d) (Some z) None))) ≡ None → (a ≡ true) × (b ≡ true) × (c ≡ true) × (d ≡ true)
 four_hold a b c d w x y z e =
     let first = cond_none a w _ e in
@@ -36,7 +36,7 @@ four_hold a b c d w x y z e =
     let third = cond_none c y _ second.1 in
     (first.0, second.0, third.0, (cond_none d z _ third.1).0)
 
--- a value that passes is there, or stands for itself
+-- a value that passes is there, or the default
 pub passes-unwrap_or : {T : Type 0} (test : T → Bool) (o : Option T) (d : T) → passes test o ≡ true → test (unwrap_or o d) ≡ true
 passes-unwrap_or test None d e = cc
 passes-unwrap_or test (Some x) d e = e
@@ -47,7 +47,7 @@ not_found test (x ∷ xs) zero d e within = elim (test x) as (λ b. cond b (Some
 not_found test (x ∷ xs) (suc i) d e within =
     not_found test xs i d (elim (test x) as (λ b. cond b (Some x) (find test xs) ≡ None → find test xs ≡ None) [ true ↦ λ h. cc | false ↦ λ h. h ] e) (omega arith)
 
--- where no element fails, each passes
+-- if no element fails, each passes
 pub none_fails : {T : Type 0} (test : T → Bool) (xs : List T) → list_any (λ x. not (test x)) xs ≡ false → list_all test xs ≡ true
 none_fails test [] e = refl
 none_fails test (x ∷ xs) e =

@@ -1,4 +1,4 @@
--- Tables of the code beside the lists of specs/.
+-- Tables of the code, compared with the lists of specs/.
 use Rattle.std.proofs.Common.{◌≡◌, ℕ, ◌<◌, List, length, get_or, map, Some, slice_get, Bor, option_map, sym, ap, ◌∙◌}
 use Rattle.std.proofs.lemmas.Option.{slice_get-map, slice_get-get_or}
 

@@ -1,4 +1,4 @@
--- A document in which nothing is refused tells a plan.
+-- A document that isn't refused gives a plan.
 use Rattle.std.proofs.Common.{◌≡◌, ℕ, ◌<◌, ◌≤◌, ◌^◌, ◌%◌, Bool, true, ◌==◌, nat_lt, List, [], ◌∷◌, codes, length, map, None, Some, Option, sum_by, ◌+◌, nat_le, refl, arith}
 use Rattle.std.specs.List.{list_all}
 use Rattle.std.specs.Option.{option_map_or}
@@ -20,7 +20,7 @@ use Rattle.tcd_plan.proofs.Pieces.{devices_are, inner_word, irqs_each, irqs_rise
 use Rattle.tcd_plan.proofs.Small.{no_position, passes-unwrap_or}
 use Rattle.tcd_plan.proofs.Words.{word_at-lt, word_in-lt}
 
--- what holds of the whole document, which is one object of its own
+-- what holds of the whole document, as the only object of its list
 alone : (test : Data → Bool) (d : Data) → list_all test (d ∷ []) ≡ true → test d ≡ true
 alone test d e = (and_parts (test d) true e).0
 

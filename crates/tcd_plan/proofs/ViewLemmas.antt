@@ -1,4 +1,4 @@
--- The values of the code beside the data that they stand for.
+-- The values of the code, compared with the data that they stand for.
 use Rattle.std.proofs.Common.{Bool, length, ◌≤◌, arith, ℕ, Option, Some, ◌∙◌, sym, ◌≡◌, List, [], ◌∷◌, map, String, string_bytes, refl, ap}
 use Rattle.std.specs.declared.alloc.Global.{Global}
 use Rattle.std.specs.List.{list_all}

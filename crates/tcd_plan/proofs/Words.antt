@@ -1,4 +1,4 @@
--- The numbers that a document tells fit 32 bits.
+-- The numbers in a document are below 2^32.
 use Rattle.std.proofs.Common.{◌≡◌, ℕ, ◌<◌, ◌≤◌, ◌^◌, Bool, true, false, ◌&&◌, ◌==◌, cond, nat_lt, nat_le, List, [], ◌∷◌, length, Option, Some, None, option_and_then, unwrap_or, refl, arith}
 use Rattle.std.specs.List.{list_all}
 use Rattle.std.specs.Str.Parse.{digits_value, AllDigits}

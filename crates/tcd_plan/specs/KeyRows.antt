@@ -1,4 +1,4 @@
--- Where each key of a plan stands in its document, and what may stand there.
+-- The table of keys: the object that each key is in, and the form of its value.
 use Rattle.std.specs.Prelude.{ℕ, ◌==◌, Bool, List, [], ◌∷◌, ◌++◌, codes, if◌then◌else◌, slice_get, unwrap_or}
 use Rattle.std.specs.Str.{bytes_eq}
 use Rattle.tcd_plan.specs.Keys.{key_texts}
@@ -8,22 +8,23 @@ use Rattle.tcd_plan.specs.declared.rows.Form.TheVariants.{Ranges, Objects, Objec
 use Rattle.tcd_plan.specs.declared.rows.Holder.{Holder}
 use Rattle.tcd_plan.specs.declared.rows.Holder.TheVariants.{Root, Rom, Ram, Devices, Csa, Start, Globals}
 
--- the number of a printed key, the object or objects in which it stands, its name there, and what stands at it
+-- the number of a printed key, the object or objects that it is in, its name there, and the form of
+-- its value
 pub record KeyRow : Type 0 where
   pub key : ℕ
   pub holder : Holder
   pub name : List ℕ
   pub form : Form
 
--- a row of the code without where its name lies
+-- a row of the code, with its name as bytes
 abbrev pub row_of : Row → KeyRow
 row_of r = record { key = r.key; holder = r.holder; name = r.name.now; form = r.form }
 
--- the row of a key: its number, its object, its name there, and what stands at it
+-- builds a row from the key's number, its object, its name there, and the form of its value
 abbrev pub row : ℕ → Holder → List ℕ → Form → KeyRow
 row key holder name form = record { key = key; holder = holder; name = name; form = form }
 
--- the keys in the order in which they are printed; `root` stands in no object
+-- the keys in the order in which they are printed; `root` is in no object
 unfoldable pub key_rows : List KeyRow
 key_rows =
     row 1 Root (codes "rom") Ranges ∷
@@ -63,7 +64,7 @@ key_rows =
 abbrev pub holders : List Holder
 holders = Root ∷ Rom ∷ Ram ∷ Devices ∷ Csa ∷ Start ∷ Globals ∷ []
 
--- the number of the key that stands for an object
+-- the number of the key that an object has in the document
 abbrev pub holder_key : Holder → ℕ
 holder_key Root = 0
 holder_key Rom = 1
@@ -73,10 +74,10 @@ holder_key Csa = 12
 holder_key Start = 22
 holder_key Globals = 26
 
--- how a key is printed
+-- the printed text of a key
 abbrev pub text_of : ℕ → List ℕ
 text_of key = unwrap_or (slice_get key_texts key) []
 
--- a key is printed by its name, behind the key of the objects in which it stands
+-- a key is printed by its name, after the key of the objects that it is in
 abbrev pub is_printed : KeyRow → Bool
 is_printed r = bytes_eq (text_of r.key) (if holder_key r.holder == 0 then r.name else text_of (holder_key r.holder) ++ codes "." ++ r.name)

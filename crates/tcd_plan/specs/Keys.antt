@@ -1,7 +1,7 @@
 -- The printed keys of a plan.
 use Rattle.std.specs.Prelude.{ℕ, List, [], ◌∷◌, codes}
 
--- the texts of the keys in the order of their numbers, which count from 0; `root` is the whole document
+-- the texts of the keys in the order of their numbers, from 0; `root` is the whole document
 abbrev pub key_texts : List (List ℕ)
 key_texts =
     codes "root" ∷

@@ -1,4 +1,4 @@
--- Plans: what every plan meets, and which plan a document is.
+-- Definitions of plans: what holds of every plan, and the plan in a document.
 pub mod PlanData
 pub mod Keys
 pub mod KeyRows

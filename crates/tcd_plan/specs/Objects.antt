@@ -1,4 +1,4 @@
--- The objects of a document, and whether what stands in them has its form.
+-- The objects of a document, and the tests of their values.
 use Rattle.std.specs.Prelude.{ℕ, ◌+◌, ◌%◌, ◌^◌, ◌&&◌, ◌||◌, ◌==◌, List, [], ◌∷◌, codes, length, count_by, Bool, true, false, not, nat_lt, nat_le, if◌then◌else◌, Option, is_none, is_some, option_to_list, unwrap_or}
 use Rattle.std.specs.List.{list_all, list_any}
 use Rattle.std.specs.Option.{option_map_or}
@@ -12,19 +12,19 @@ use Rattle.tcd_plan.specs.declared.rows.Form.TheVariants.{Ranges, Objects, Objec
 use Rattle.tcd_plan.specs.declared.rows.Holder.{Holder}
 use Rattle.tcd_plan.specs.declared.rows.Holder.TheVariants.{Root, Rom, Ram, Devices, Csa, Start, Globals}
 
--- a value that is there and passes a test
+-- a value that is present and passes a test
 abbrev pub passes : {T : Type 0} → (T → Bool) → Option T → Bool
 passes test o = option_map_or test o false
 
--- an array of objects has its places; one with another place is none
+-- the elements of an array of objects; if an element is no object, none
 abbrev pub objects_at : List ℕ → Data → List Data
 objects_at name d = if passes (list_all is_object) (places_at name d) then unwrap_or (places_at name d) [] else []
 
--- the object that stands at a key, if it is one
+-- the object at a key, if it is one
 abbrev pub object_at : List ℕ → Data → List Data
 object_at name d = if passes is_object (get name d) then option_to_list (get name d) else []
 
--- the objects in which keys stand
+-- the objects that a holder names
 abbrev pub objects_of : Holder → Data → List Data
 objects_of Root d = d ∷ []
 objects_of Rom d = objects_at (codes "rom") d
@@ -43,19 +43,19 @@ ascend_above low (d ∷ ds) = passes (λ q. nat_lt low q && nat_lt q 256 && asce
 abbrev pub is_trap : Data → Bool
 is_trap d = is_text (codes "sys") d || is_text (codes "aln") d
 
--- a list without repeats of `sys` and `aln`
+-- a list of `sys` and `aln` without repeats
 abbrev pub are_traps : List Data → Bool
 are_traps ds = list_all is_trap ds && nat_le (count_by (is_text (codes "sys")) ds) 1 && nat_le (count_by (is_text (codes "aln")) ds) 1
 
--- a multiple of 4, not 0, that doesn't pass 2^32 from `at` on
+-- a multiple of 4, not 0, and with `at` at most 2^32
 abbrev pub is_len : ℕ → ℕ → Bool
 is_len at len = nat_lt 0 len && (len % 4 == 0) && nat_le (at + len) (2 ^ 32)
 
--- `1.3` or `1.6`, or nothing at all
+-- `1.3` or `1.6`, or absent
 abbrev pub is_core : Option Data → Bool
 is_core o = option_map_or (λ d. is_text (codes "1.3") d || is_text (codes "1.6") d) o true
 
--- what stands at a key of an object has the form
+-- the value of a key in an object has the form
 abbrev pub has_form : Form → List ℕ → Data → Bool
 has_form Ranges name o = passes (λ ds. nat_lt 0 (length ds) && list_all is_object ds) (places_at name o)
 has_form Objects name o = passes (list_all is_object) (places_at name o)
@@ -70,7 +70,7 @@ has_form Irqs name o = passes (ascend_above 0) (places_at name o)
 has_form Traps name o = passes are_traps (places_at name o)
 has_form CoreText name o = is_core (get name o)
 
--- only `core` may be left out
+-- only `core` can be absent
 abbrev pub may_be_absent : Form → Bool
 may_be_absent CoreText = true
 may_be_absent _ = false
@@ -79,7 +79,7 @@ may_be_absent _ = false
 abbrev pub lacks : KeyRow → Data → Bool
 lacks r o = not (may_be_absent r.form) && is_none (get r.name o)
 
--- something else stands at a key of an object than may stand there
+-- the value of a key in an object doesn't have its form
 abbrev pub is_bad : KeyRow → Data → Bool
 is_bad r o = not (has_form r.form r.name o)
 
@@ -87,7 +87,7 @@ is_bad r o = not (has_form r.form r.name o)
 abbrev pub is_named : Holder → List ℕ → KeyRow → Bool
 is_named h name r = (holder_key r.holder == holder_key h) && bytes_eq r.name name
 
--- the object, or each of the objects, may have the key
+-- the object, or each of the objects, can have the key
 abbrev pub is_known : Holder → List ℕ → Bool
 is_known h name = list_any (is_named h name) key_rows
 

@@ -1,4 +1,4 @@
--- Plans as plain data, and what every plan meets.
+-- Plans as plain data, and what holds of every plan.
 use Rattle.std.specs.Prelude.{◌≡◌, ◌≤◌, ◌<◌, ◌+◌, ◌*◌, ◌/◌, ◌%◌, ◌^◌, ℕ, List, [], ◌∷◌, ◌++◌, length, map, sum_by, Bool, true, IsTrue, nat_le, nat_lt, ◌&&◌, ◌||◌, ◌==◌}
 use Rattle.std.specs.List.{list_all}
 use Rattle.std.specs.List.Sorted.{IsStrictlyIncreasing}
@@ -51,11 +51,11 @@ plan_data p = record {
   core = p.core;
 }
 
--- a range of whole words, with one at least, that doesn't pass 2^32
+-- a range of whole words, at least one, that ends at 2^32 or below
 abbrev pub is_range : Range → Bool
 is_range r = (r.at % 4 == 0) && (r.len % 4 == 0) && nat_lt 0 r.len && nat_le (r.at + r.len) (2 ^ 32)
 
--- a range with bounds in order, for the words that it answers
+-- a range, and bounds in order for the words that it answers
 abbrev pub is_device : Device → Bool
 is_device d = is_range d.range && nat_le d.lo d.hi && nat_lt d.hi (2 ^ 32)
 
@@ -63,11 +63,11 @@ is_device d = is_range d.range && nat_le d.lo d.hi && nat_lt d.hi (2 ^ 32)
 abbrev pub areas_range : PlanData → Range
 areas_range p = record { at = p.csa_at; len = 64 * p.areas }
 
--- all ranges of the plan, in the order in which an overlap counts them
+-- all ranges of the plan, in the order in which overlaps number them
 abbrev pub all_ranges : PlanData → List Range
 all_ranges p = p.rom ++ p.ram ++ map (λ d. d.range) p.devices ++ areas_range p ∷ []
 
--- two ranges that share no byte
+-- two ranges share no byte
 abbrev pub ranges_apart : Range → Range → Bool
 ranges_apart r s = nat_le (r.at + r.len) s.at || nat_le (s.at + s.len) r.at
 
@@ -118,7 +118,7 @@ pub record AreIrqs (irqs : List ℕ) : Type 0 where
   pub rising : IsStrictlyIncreasing irqs
   pub each : IsTrue (list_all (λ q. nat_lt 0 q && nat_lt q (2 ^ 8)) irqs)
 
--- what every plan meets
+-- what holds of every plan
 pub record IsPlan (p : PlanData) : Type 0 where
   pub ranges : AreRanges p
   pub areas : AreAreas p

@@ -1,4 +1,4 @@
--- Which plan a document is, or the first refusal.
+-- The plan in a document, or the first refusal.
 use Rattle.std.specs.Prelude.{◌≡◌, ℕ, ◌+◌, ◌*◌, ◌/◌, ◌%◌, ◌^◌, ◌<◌, ◌≤◌, ◌&&◌, ◌==◌, List, [], ◌∷◌, codes, length, map, sum_by, Bool, not, nat_lt, nat_le, if◌then◌else◌, Option, Some, None, option_map, unwrap_or, position, Result, Ok, Err, IsUtf8}
 use Rattle.std.specs.List.{find, list_any}
 use Rattle.std.specs.Option.{option_map_or, option_or}
@@ -19,11 +19,11 @@ use Rattle.tcd_plan.specs.declared.plans.PlanErr.{PlanErr}
 use Rattle.tcd_plan.specs.declared.plans.PlanErr.TheVariants.{NotJson, Missing, Unknown, BadValue, TooMany, BadCsa, BadVector, Overlap, NoMemory}
 use Rattle.tcd_plan.specs.declared.rows.Holder.TheVariants.{Rom, Ram, Devices}
 
--- the key of this number
+-- the key with this number
 abbrev pub numbered : ℕ → PlanKey
 numbered key = record { 0 = key }
 
--- the first key of the list at which a test of an object in which it stands is met
+-- the first key of the list for which an object that it is in meets the test
 abbrev pub first_key : (KeyRow → Data → Bool) → Data → Option PlanKey
 first_key test d = option_map (λ r. numbered r.key) (find (λ r. list_any (test r) (objects_of r.holder d)) key_rows)
 
@@ -35,27 +35,27 @@ missing_of d = first_key lacks d
 unfoldable pub unknown_of : Data → Option PlanKey
 unknown_of d = option_map (λ h. numbered (holder_key h)) (find (λ h. list_any (has_unknown h) (objects_of h d)) holders)
 
--- the first key at which something else stands than may stand there
+-- the first key whose value doesn't have its form
 unfoldable pub bad_value_of : Data → Option PlanKey
 bad_value_of d = first_key is_bad d
 
--- the range that an object tells
+-- the range in an object
 abbrev pub range_of : Data → Range
 range_of o = record { at = word_at (codes "at") o; len = word_at (codes "len") o }
 
--- the device that an object tells
+-- the device in an object
 abbrev pub device_of : Data → Device
 device_of o = record { range = range_of o; lo = word_at (codes "lo") o; hi = word_at (codes "hi") o }
 
--- the places of an array at a key of the whole document
+-- the elements of the array with this key in the document
 abbrev pub places_of : List ℕ → Data → List Data
 places_of name d = unwrap_or (places_at name d) []
 
--- the interrupt that a place of an array tells
+-- the interrupt in an element of an array
 abbrev pub irq_of : Data → ℕ
 irq_of q = unwrap_or (number_of q) 0
 
--- the layout of the word PCXI, without the key the first
+-- the version of the core, V13 if the key is absent
 abbrev pub core_of : Data → Core
 core_of d = if passes (is_text (codes "1.6")) (get (codes "core") d) then V16 else V13
 
@@ -63,7 +63,7 @@ core_of d = if passes (is_text (codes "1.6")) (get (codes "core") d) then V16 el
 abbrev pub globals_of : Data → List ℕ
 globals_of d = map (λ name. word_in (codes "globals") name d) (codes "a0" ∷ codes "a1" ∷ codes "a8" ∷ codes "a9" ∷ [])
 
--- what the document tells, where nothing is refused
+-- the plan in a document that isn't refused
 unfoldable pub told_by : Data → PlanData
 told_by d = record {
   rom = map range_of (objects_of Rom d);
@@ -86,20 +86,20 @@ told_by d = record {
   core = core_of d;
 }
 
--- at most 16 ranges, of 2^22 bytes together
+-- at most 16 ranges, with at most 2^22 bytes together
 abbrev pub are_few : List Range → Bool
 are_few rs = nat_le (length rs) 16 && nat_le (sum_by (λ r. r.len) rs) (2 ^ 22)
 
--- the first array that is too long, or whose ranges are
+-- the first array with too many elements, or with too many bytes in its ranges
 unfoldable pub too_many_of : PlanData → Option PlanKey
 too_many_of p = if not (are_few p.rom) then Some (numbered 1) else if not (are_few p.ram) then Some (numbered 4) else if not (nat_le (length p.devices) 16) then Some (numbered 7) else if not (nat_le (length p.irqs) 32) then Some (numbered 20) else None
 
--- 1 to 4096 areas of 64 bytes from `at` on, in one segment of 2^22 bytes, whose first link isn't 0; 1 at least is kept
--- in reserve (TriCore 1 architecture manual, volume 1, context management)
+-- 1 to 4096 areas of 64 bytes from `at` on, in one segment of 2^22 bytes, whose first link isn't 0;
+-- at least 1 is in reserve (TriCore 1 architecture manual, volume 1, context management)
 abbrev pub are_areas : ℕ → ℕ → ℕ → Bool
 are_areas at areas reserve = nat_le 1 areas && nat_le areas 4096 && nat_le 1 reserve && nat_le reserve areas && (at % 64 == 0) && (at / 2 ^ 22 % 2 ^ 6 == 0) && nat_lt 0 at && nat_le (at % 2 ^ 22 + 64 * areas) (2 ^ 22)
 
--- the plan's save areas meet this
+-- the save areas are within their limits
 unfoldable pub has_areas : PlanData → Bool
 has_areas p = are_areas p.csa_at p.areas p.reserve
 
@@ -107,7 +107,7 @@ has_areas p = are_areas p.csa_at p.areas p.reserve
 unfoldable pub has_vectors : PlanData → Bool
 has_vectors p = (p.biv % 2 == 0) && (p.btv % 2 == 0)
 
--- no array of a document is too long, and neither are the save areas
+-- no array of a document is too long, and there are not too many save areas
 pub record AreFew (d : Data) : Type 0 where
   pub rom : length (objects_of Rom d) ≤ 16
   pub ram : length (objects_of Ram d) ≤ 16
@@ -124,16 +124,16 @@ overlap_from i (r ∷ rs) = option_map_or (λ k. Some (Overlap i (i + 1 + k))) (
 unfoldable pub overlap_of : PlanData → Option PlanErr
 overlap_of p = overlap_from 0 (all_ranges p)
 
--- this refusal, where it stands
+-- this refusal, if it applies
 abbrev pub where_it : Bool → PlanErr → Option PlanErr
 where_it b e = if b then Some e else None
 
--- the first of these that there is
+-- the first of the options that is there
 abbrev pub first_some : {T : Type 0} → List (Option T) → Option T
 first_some [] = None
 first_some (o ∷ os) = option_or o (first_some os)
 
--- the refusals that stand, each tried over the whole document, in the order of their numbers
+-- the refusals that apply, in the order of their numbers
 abbrev pub refusals : Data → List (Option PlanErr)
 refusals d =
     where_it (not (is_object d)) NotJson ∷
@@ -154,12 +154,12 @@ refusal_of d = first_some (refusals d)
 abbrev pub plan_of : Data → Result PlanData PlanErr
 plan_of d = option_map_or Err (refusal_of d) (Ok (told_by d))
 
--- the bytes are the text of a document (by the stated reading of serde_json) that gives the answer
+-- the bytes are the text of a document, as serde_json reads it, that gives the answer
 abbrev pub Gives : List ℕ → Result PlanData PlanErr → Type 0
 Gives bytes r = (d : Data) × IsUtf8 bytes × (read bytes ≡ Some d) × (plan_of d ≡ r)
 
--- an answer on a file's bytes: NotJson where they are no text of a document that is an object, else what the document
--- gives; want of memory is free
+-- an answer for a file's bytes: NotJson if they are not the text of a JSON object, else the
+-- document's answer; out of memory is always possible
 abbrev pub Answers : List ℕ → Result PlanData PlanErr → Type 0
 Answers bytes (Err NoMemory) = Unit {0}
 Answers bytes (Err NotJson) = (d : Data) → IsUtf8 bytes → read bytes ≡ Some d → plan_of d ≡ Err NotJson

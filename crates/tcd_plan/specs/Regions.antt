@@ -1,15 +1,15 @@
--- What a plan maps, where its devices are, and what they may answer.
+-- What a plan maps, and what its devices can answer.
 use Rattle.std.specs.Prelude.{◌≡◌, ℕ, ◌+◌, ◌*◌, ◌^◌, ◌<◌, ◌≤◌, ◌⊎◌, List, [], ◌∷◌, Option, All, IfSome}
 use Rattle.tcd_base.specs.Ranges.{IsWithin, IsInOne}
 use Rattle.tcd_plan.specs.declared.plans.Device.{Device}
 use Rattle.tcd_plan.specs.PlanData.{PlanData}
 
--- they lie in the range of one device
+-- the n addresses from x on are in the range of one device
 abbrev pub IsInDevice : ℕ → ℕ → List Device → Type 0
 IsInDevice x n [] = ⊥
 IsInDevice x n (d ∷ ds) = IsWithin x n d.range ⊎ IsInDevice x n ds
 
--- the address lies in the save areas
+-- the address is in the save areas
 abbrev pub IsInAreas : PlanData → ℕ → Type 0
 IsInAreas plan x = (plan.csa_at ≤ x) × (x < plan.csa_at + 64 * plan.areas)
 
@@ -17,14 +17,14 @@ IsInAreas plan x = (plan.csa_at ≤ x) × (x < plan.csa_at + 64 * plan.areas)
 abbrev pub IsMappedBy : PlanData → ℕ → Type 0
 IsMappedBy plan x = IsInOne x 1 plan.rom ⊎ IsInOne x 1 plan.ram ⊎ IsInAreas plan x
 
--- the input lies in the bounds of each device that has the four bytes at x
+-- the input is within the bounds of each device that has the four bytes at x
 abbrev pub AnswersAt : ℕ → ℕ → List Device → Type 0
 AnswersAt x input ds = All (λ d. IsWithin x 4 d.range → (d.lo ≤ input) × (input ≤ d.hi)) ds
 
--- a word that is loaded from a device lies in the device's bounds
+-- a word that is loaded from a device is within the device's bounds
 abbrev pub AnswersLoad : PlanData → ℕ → Option (ℕ × ℕ) → Type 0
 AnswersLoad plan input load = IfSome load (λ l. l.1 ≡ 4 → AnswersAt l.0 input plan.devices)
 
--- a store doesn't pass 2^32, and lies wholly in one ram range or one device range
+-- a store doesn't pass 2^32, and is wholly in one ram range or one device range
 abbrev pub IsStoreInRange : PlanData → ℕ × ℕ → Type 0
 IsStoreInRange plan at = (at.0 + at.1 ≤ 2 ^ 32) × (IsInOne at.0 at.1 plan.ram ⊎ IsInDevice at.0 at.1 plan.devices)

@@ -1,4 +1,4 @@
--- What stands in the document of a plan: objects, arrays, texts, and numbers of 32 bits.
+-- The values of a plan's document: objects, arrays, texts, and numbers of 32 bits.
 use Rattle.std.specs.Prelude.{ℕ, ◌^◌, ◌&&◌, ◌==◌, List, [], ◌∷◌, length, Bool, false, nat_lt, nat_le, if◌then◌else◌, Option, Some, None, option_map, option_and_then, is_some, unwrap_or}
 use Rattle.std.specs.Char.{digit_value}
 use Rattle.std.specs.List.{list_all}
@@ -8,7 +8,7 @@ use Rattle.std.specs.Str.Parse.{digits_value}
 use Rattle.serde_json.specs.Data.{Data, null, boolean, number, string, array, object, Items, no_items, item, Members, no_members, member}
 use Rattle.serde_json.specs.Find.{get, as_array, as_object, as_str, as_u64}
 
--- the places of an array
+-- the elements of an array
 abbrev pub list_of : Items → List Data
 list_of no_items = []
 list_of (item d ds) = d ∷ list_of ds
@@ -18,7 +18,7 @@ abbrev pub names_of : Members → List (List ℕ)
 names_of no_members = []
 names_of (member name d ms) = name ∷ names_of ms
 
--- it is an object
+-- the value is an object
 abbrev pub is_object : Data → Bool
 is_object d = is_some (as_object d)
 
@@ -26,11 +26,11 @@ is_object d = is_some (as_object d)
 abbrev pub names_in : Data → List (List ℕ)
 names_in d = option_map_or names_of (as_object d) []
 
--- the places of the array that stands at a key
+-- the elements of the array at a key
 abbrev pub places_at : List ℕ → Data → Option (List Data)
 places_at name d = option_map list_of (option_and_then as_array (get name d))
 
--- it is this text
+-- the value is this text
 abbrev pub is_text : List ℕ → Data → Bool
 is_text text d = option_map_or (λ s. bytes_eq s text) (as_str d) false
 
@@ -60,14 +60,14 @@ number_of (string s) = text_word s
 number_of (array ds) = None
 number_of (object ms) = None
 
--- the number that stands at a key
+-- the number at a key
 abbrev pub number_at : List ℕ → Data → Option ℕ
 number_at name d = option_and_then number_of (get name d)
 
--- the number that stands at a key, and 0 where none does
+-- the number at a key, 0 if there is none
 abbrev pub word_at : List ℕ → Data → ℕ
 word_at name d = unwrap_or (number_at name d) 0
 
--- the number that stands at a key of the object at a key
+-- the number at a key of the object at another key, 0 if there is none
 abbrev pub word_in : List ℕ → List ℕ → Data → ℕ
 word_in outer name d = unwrap_or (option_and_then (number_at name) (get outer d)) 0

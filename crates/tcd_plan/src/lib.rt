@@ -1,4 +1,4 @@
-//! Plans: what is told of the board, the start state, the interrupts and the traps.
+//! Plans: what is known of a board, its start state, its interrupts and its traps, read from JSON.
 #![tactic(auto)]
 
 mod limits;

@@ -1,4 +1,4 @@
-// The refusals by what a document tells: too many, the save areas, the vectors, ranges that overlap.
+// Refusals by values: arrays that are too long, save areas, vectors, and ranges that overlap.
 ghost use Rattle.std.specs.Prelude.{◌≡◌, ◌<◌, ◌≤◌, ◌+◌, IfSome, None, length, map, not, position, sum_by, true};
 ghost use Rattle.serde_json.specs.View.{view};
 ghost use Rattle.tcd_plan.specs.PlanData.{areas_range, ranges_apart};
@@ -13,7 +13,7 @@ use arrayvec::ArrayVec;
 use serde_json::Value;
 use tcd_base::Range;
 
-/// The first array that is too long, or whose ranges are.
+/// Returns the first array with too many elements, or with too many bytes in its ranges.
 #[tactic(auto, unfolding(crate::specs::Plans::told_by, crate::specs::Plans::too_many_of))]
 pub fn too_many(value: &Value) -> Option<PlanKey>
     ensures { result ≡ too_many_of (told_by (view value.now)) }
@@ -33,14 +33,14 @@ pub fn too_many(value: &Value) -> Option<PlanKey>
     None
 }
 
-/// Whether there are at most 16 ranges, of 2^22 bytes together.
+/// Returns true if there are at most 16 ranges, with at most 2^22 bytes together.
 fn are_few(objects: &[Value]) -> bool
     ensures { result ≡ are_few (map range_of (map view objects.now)) }
 {
     objects.len() <= 16 && total_len(objects) <= 1 << 22
 }
 
-/// The bytes of all ranges together.
+/// Returns the number of bytes in all ranges together.
 fn total_len(objects: &[Value]) -> u64
     requires { length objects.now ≤ 16 }
     ensures { result ≡ sum_by (λ r. r.len) (map range_of (map view objects.now)) }
@@ -52,6 +52,7 @@ fn total_len(objects: &[Value]) -> u64
     total
 }
 
+/// Returns true if the save areas are within their limits.
 #[tactic(auto, unfolding(crate::specs::Plans::told_by, crate::specs::Plans::has_areas))]
 pub fn has_areas(value: &Value) -> bool
     ensures { result ≡ has_areas (told_by (view value.now)) }
@@ -63,7 +64,8 @@ pub fn has_areas(value: &Value) -> bool
     )
 }
 
-/// Whether whole save areas, from `at` on, lie in one segment of 2^22 bytes, and the first link isn't 0.
+/// Returns true if the save areas from `at` on are whole, in one segment of 2^22 bytes, and the
+/// first link isn't 0.
 fn are_areas(at: u32, areas: u32, reserve: u32) -> bool
     ensures { result ≡ are_areas at areas reserve }
 {
@@ -77,6 +79,7 @@ fn are_areas(at: u32, areas: u32, reserve: u32) -> bool
         && at % 0x40_0000 + 64 * areas <= 0x40_0000
 }
 
+/// Returns true if BIV and BTV are even.
 #[tactic(auto, unfolding(crate::specs::Plans::told_by, crate::specs::Plans::has_vectors))]
 pub fn has_vectors(value: &Value) -> bool
     ensures { result ≡ has_vectors (told_by (view value.now)) }
@@ -84,7 +87,8 @@ pub fn has_vectors(value: &Value) -> bool
     word_at(value, "biv") % 2 == 0 && word_at(value, "btv") % 2 == 0
 }
 
-/// The first pair of ranges that share a byte, counted over rom, ram, devices and the save areas.
+/// Returns the first pair of ranges that share a byte, numbered over rom, ram, devices and the save
+/// areas.
 pub fn overlap(value: &Value) -> Option<PlanErr>
     requires { AreFew (view value.now) }
     ensures { result ≡ overlap_of (told_by (view value.now)) }

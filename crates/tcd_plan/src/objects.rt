@@ -1,4 +1,4 @@
-// The objects of a document, and whether what stands in them has its form.
+// The objects of a document, and the tests of their values.
 ghost use Rattle.std.specs.Prelude.{◌≡◌, [], map, count_by, option_map, unwrap_or};
 ghost use Rattle.std.specs.List.{list_all};
 ghost use Rattle.serde_json.specs.View.{view};
@@ -11,7 +11,8 @@ use crate::values::{is_text, number_at, number_of, places_at, word_at};
 use serde_json::Value;
 use std::slice;
 
-/// The objects of a document in which keys stand. An array with a place that is no object holds none.
+/// Returns the objects of a document that a holder names. An array with an element that is no
+/// object has none.
 pub fn objects_of(holder: Holder, value: &Value) -> &[Value]
     ensures { map view result.now ≡ objects_of holder (view value.now) }
 {
@@ -50,7 +51,7 @@ fn are_objects(places: &[Value]) -> bool
     places.iter().all(|place| place.is_object())
 }
 
-/// Whether an object lacks a key.
+/// Returns true if an object lacks the row's key.
 pub fn lacks(row: &Row, object: &Value) -> bool
     ensures { result ≡ lacks (row_of row.now) (view object.now) }
 {
@@ -63,7 +64,7 @@ fn may_be_absent(form: Form) -> bool
     matches!(form, Form::CoreText)
 }
 
-/// Whether what stands at a key of an object has the form.
+/// Returns true if the value of a key in an object has the form.
 pub fn has_form(form: Form, name: &str, object: &Value) -> bool
     ensures { result ≡ has_form form name.now (view object.now) }
 {

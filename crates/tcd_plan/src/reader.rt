@@ -1,4 +1,4 @@
-// A plan from the bytes of a file.
+// Reads a plan from the bytes of a file.
 ghost use Rattle.std.specs.Prelude.{◌≡◌, ◌≤◌, ◌^◌, ◌⊎◌, IfErr, None, length};
 ghost use Rattle.serde_json.specs.Errors.{IsMemory};
 ghost use Rattle.serde_json.specs.View.{view};
@@ -17,7 +17,7 @@ use serde_json::{Error, Value};
 use std::alloc::Global;
 
 impl Plan {
-    /// The plan that the bytes of a file are. What allocates is the reading of the JSON document alone.
+    /// Reads a plan from the bytes of a file. Only the reader of JSON allocates.
     pub fn read(alloc: Global, bytes: &[u8]) -> Result<Plan, PlanErr>
         requires { length bytes.now ≤ 2 ^ 30 }
         ensures answer { Answers bytes.now result }
@@ -50,7 +50,7 @@ fn plan_of(value: &Value) -> Result<Plan, PlanErr>
     }
 }
 
-/// What a document tells in which nothing is refused.
+/// Returns the plan in a document that isn't refused.
 #[tactic(auto, unfolding(crate::specs::Plans::told_by))]
 fn told_by(value: &Value) -> Plan
     requires { refusal_of (view value.now) ≡ None }
@@ -78,7 +78,7 @@ fn told_by(value: &Value) -> Plan
     }
 }
 
-/// The first refusal, in the order of their numbers.
+/// Returns the first refusal, in the order of their numbers.
 #[tactic(auto, unfolding(crate::specs::Plans::refusal_of))]
 fn refusal(value: &Value) -> Option<PlanErr>
     ensures { result ≡ refusal_of (view value.now) }

@@ -1,4 +1,4 @@
-// What a document tells, piece by piece.
+// Reads the parts of a plan from its document.
 ghost use Rattle.std.specs.Prelude.{◌≡◌, ◌<◌, ◌≤◌, ◌+◌, ◌^◌, ◌++◌, [], codes, All, length, map, if◌then◌else◌};
 ghost use Rattle.std.specs.List.{list_all, list_any};
 ghost use Rattle.arrayvec.specs.ArrayVec.{array_vec_len};
@@ -12,6 +12,7 @@ use arrayvec::ArrayVec;
 use serde_json::Value;
 use tcd_base::{Core, Range};
 
+/// Reads a range.
 pub fn range_of(object: &Value) -> Range
     ensures { result ≡ range_of (view object.now) }
 {
@@ -41,6 +42,7 @@ pub fn push_ranges<const N: usize>(ranges: &mut ArrayVec<Range, N>, objects: &[V
     }
 }
 
+/// Reads the ranges of the objects.
 pub fn ranges_of(objects: &[Value]) -> ArrayVec<Range, 16>
     requires { length objects.now ≤ 16 }
     ensures { result.items ≡ map range_of (map view objects.now) }
@@ -50,6 +52,7 @@ pub fn ranges_of(objects: &[Value]) -> ArrayVec<Range, 16>
     ranges
 }
 
+/// Reads the devices of the objects.
 pub fn devices_of(objects: &[Value]) -> ArrayVec<Device, 16>
     requires { length objects.now ≤ 16 }
     ensures { result.items ≡ map device_of (map view objects.now) }
@@ -61,13 +64,14 @@ pub fn devices_of(objects: &[Value]) -> ArrayVec<Device, 16>
     devices
 }
 
-/// The places of an array at a key of the whole document.
+/// Returns the elements of the array with this key in the document.
 pub fn places_of<'a>(value: &'a Value, name: &str) -> &'a [Value]
     ensures { map view result.now ≡ places_of name.now (view value.now) }
 {
     places_at(value, name).unwrap_or(&[])
 }
 
+/// Reads the priorities of the interrupts.
 pub fn irqs_of(places: &[Value]) -> ArrayVec<u8, 32>
     requires few { length places.now ≤ 32 }
     requires bytes { All (λ q. irq_of q < 2 ^ 8) (map view places.now) }
@@ -80,13 +84,14 @@ pub fn irqs_of(places: &[Value]) -> ArrayVec<u8, 32>
     irqs
 }
 
-/// Whether a text is one of the texts that stand at the places.
+/// Returns true if one of the elements is this text.
 pub fn lists(places: &[Value], text: &str) -> bool
     ensures { result ≡ list_any (is_text text.now) (map view places.now) }
 {
     places.iter().any(|place| is_text(place, text))
 }
 
+/// Reads a number below 256 at a key of an object in the document.
 pub fn byte_in(value: &Value, outer: &str, name: &str) -> u8
     requires { word_in outer.now name.now (view value.now) < 2 ^ 8 }
     ensures { result ≡ word_in outer.now name.now (view value.now) }
@@ -94,6 +99,7 @@ pub fn byte_in(value: &Value, outer: &str, name: &str) -> u8
     word_in(value, outer, name) as u8
 }
 
+/// Reads the version of the core, which is `V13` if the key is absent.
 pub fn core_of(value: &Value) -> Core
     ensures { result ≡ core_of (view value.now) }
 {
@@ -103,7 +109,7 @@ pub fn core_of(value: &Value) -> Core
     }
 }
 
-/// The words of A0, A1, A8 and A9.
+/// Reads the words of A0, A1, A8 and A9.
 pub fn globals_of(value: &Value) -> [u32; 4]
     ensures { result ≡ globals_of (view value.now) }
 {

@@ -1,4 +1,4 @@
-// The refusals of a document, each tried over the whole of it.
+// Refusals by keys: each is checked over the whole document.
 ghost use Rattle.std.specs.Prelude.{◌≡◌, map, not, option_map, string_bytes};
 ghost use Rattle.std.specs.List.{find, list_all, list_any};
 ghost use Rattle.std.specs.BTreeMap.{keys};
@@ -13,7 +13,7 @@ use crate::objects::{has_form, lacks, objects_of};
 use crate::rows::{Holder, Row, holder_key, holders, rows};
 use serde_json::{Map, Value};
 
-/// The first key that an object lacks.
+/// Returns the first key that an object lacks.
 pub fn missing(value: &Value) -> Option<PlanKey>
     ensures { result ≡ missing_of (view value.now) }
 {
@@ -29,7 +29,7 @@ fn is_missing(row: &Row, value: &Value) -> bool
         .any(|object| lacks(row, object))
 }
 
-/// The first key at which something else stands than may stand there.
+/// Returns the first key whose value doesn't have its form.
 pub fn bad_value(value: &Value) -> Option<PlanKey>
     ensures { result ≡ bad_value_of (view value.now) }
 {
@@ -51,7 +51,7 @@ fn key_of(row: Option<&Row>) -> Option<PlanKey>
     row.map(|row| PlanKey(row.key))
 }
 
-/// The first object, or array of objects, with a key that isn't one of its own.
+/// Returns the first object, or array of objects, with a key that isn't one of its own.
 pub fn unknown(value: &Value) -> Option<PlanKey>
     ensures { result ≡ unknown_of (view value.now) }
 {

@@ -1,9 +1,9 @@
-// Where each key of a plan stands in its document, and what may stand there.
+// The table of keys: the object that each key is in, and the form of its value.
 ghost use Rattle.std.specs.Prelude.{◌≡◌, map, true};
 ghost use Rattle.std.specs.List.{list_all, range_with_len};
 ghost use Rattle.tcd_plan.specs.KeyRows.{holder_key, holders, is_printed, key_rows, row_of};
 
-/// The objects of a document in which keys stand.
+/// The object, or array of objects, that keys are in.
 #[derive(Clone, Copy, Debug, PartialEq, Eq)]
 pub enum Holder {
     Root,
@@ -15,19 +15,20 @@ pub enum Holder {
     Globals,
 }
 
-/// What may stand at a key.
+/// The form of a key's value.
 #[derive(Clone, Copy, Debug, PartialEq, Eq)]
 pub enum Form {
-    /// An array of objects, one at least.
+    /// An array of at least one object.
     Ranges,
     /// An array of objects.
     Objects,
     Object,
     /// The address of a range, in bytes: a multiple of 4.
     At,
-    /// The length of a range, in bytes: a multiple of 4, not 0, that doesn't pass 2^32 from `at` on.
+    /// The length of a range, in bytes: a multiple of 4, not 0, so that `at` plus the length is at
+    /// most 2^32.
     Len,
-    /// A number that isn't below `lo`.
+    /// A number that is at least `lo`.
     Hi,
     Word,
     /// A number up to 255.
@@ -36,12 +37,14 @@ pub enum Form {
     Truth,
     /// An array of ascending numbers from 1 to 255.
     Irqs,
-    /// An array of `sys` and `aln`, each once at most.
+    /// An array of `sys` and `aln`, each at most once.
     Traps,
     /// `1.3` or `1.6`; the key may be absent.
     CoreText,
 }
 
+/// A row of the table: the number of the key, the object that it is in, its name there, and the
+/// form of its value.
 #[derive(Clone, Copy)]
 pub struct Row {
     pub key: u8,
@@ -249,6 +252,7 @@ static HOLDERS: [Holder; 7] = [
     Holder::Globals,
 ];
 
+/// Returns the rows of the table, in the order of the keys' numbers.
 #[tactic(auto, unfolding(crate::specs::KeyRows::key_rows))]
 pub fn rows() -> &'static [Row]
     ensures rows { map row_of result.now ≡ key_rows }
@@ -258,13 +262,14 @@ pub fn rows() -> &'static [Row]
     &ROWS
 }
 
+/// Returns the objects of a document, in the order in which their keys are printed.
 pub fn holders() -> &'static [Holder]
     ensures { result.now ≡ holders }
 {
     &HOLDERS
 }
 
-/// The number of the key that stands for an object.
+/// Returns the number of the key that an object has in the document.
 pub fn holder_key(holder: Holder) -> u8
     ensures { result ≡ holder_key holder }
 {

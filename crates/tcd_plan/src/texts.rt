@@ -1,4 +1,4 @@
-// The texts of the keys.
+// The printed texts of the keys.
 ghost use Rattle.std.specs.Prelude.{◌≡◌, ◌<◌, Some, length, map, slice_get};
 ghost use Rattle.tcd_plan.specs.Keys.{key_texts};
 
@@ -46,7 +46,7 @@ fn texts() -> &'static [&'static str]
     &KEY_TEXTS
 }
 
-/// The text of a key as it is printed.
+/// Returns the text of a key as it is printed.
 pub fn key_text(key: PlanKey) -> &'static str
     requires { key.0 < length key_texts }
     ensures { slice_get key_texts key.0 ≡ Some result.now }

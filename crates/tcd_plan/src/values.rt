@@ -1,4 +1,4 @@
-// What stands in the document of a plan.
+// Reads the values of a JSON document: arrays, texts, and numbers of 32 bits.
 ghost use Rattle.std.specs.Prelude.{◌≡◌, ◌<◌, ◌≤◌, ◌^◌, Some, None, length, map, is_some, option_map, if◌then◌else◌};
 ghost use Rattle.std.specs.List.{list_all};
 ghost use Rattle.std.specs.Str.Parse.{digits_value};
@@ -8,7 +8,7 @@ ghost use Rattle.tcd_plan.specs.Values.{is_hex, is_text, number_of, number_at, p
 use serde_json::Value;
 
 #[tactic(auto, using(crate::proofs::ViewLemmas::list_of_items))]
-/// The places of the array that stands at a key.
+/// Returns the elements of the array at a key.
 pub fn places_at<'a>(value: &'a Value, name: &str) -> Option<&'a [Value]>
     ensures { option_map (λ s. map view s.now) result ≡ places_at name.now (view value.now) }
 {
@@ -16,6 +16,7 @@ pub fn places_at<'a>(value: &'a Value, name: &str) -> Option<&'a [Value]>
     Some(list.as_slice())
 }
 
+/// Returns true if the value is this text.
 pub fn is_text(value: &Value, text: &str) -> bool
     ensures { result ≡ is_text text.now (view value.now) }
 {
@@ -25,14 +26,14 @@ pub fn is_text(value: &Value, text: &str) -> bool
     }
 }
 
-/// The number that stands at a key, 0 where there is none.
+/// Returns the number at a key, or 0 if there is none.
 pub fn word_at(value: &Value, name: &str) -> u32
     ensures { result ≡ word_at name.now (view value.now) }
 {
     number_at(value, name).unwrap_or(0)
 }
 
-/// The number that stands at a key of the object at a key, 0 where there is none.
+/// Returns the number at a key of the object at another key, or 0 if there is none.
 pub fn word_in(value: &Value, outer: &str, name: &str) -> u32
     ensures { result ≡ word_in outer.now name.now (view value.now) }
 {
@@ -42,14 +43,15 @@ pub fn word_in(value: &Value, outer: &str, name: &str) -> u32
     }
 }
 
-/// The number that stands at a key.
+/// Returns the number at a key.
 pub fn number_at(value: &Value, name: &str) -> Option<u32>
     ensures { result ≡ number_at name.now (view value.now) }
 {
     value.get(name).and_then(number_of)
 }
 
-/// A JSON number that is an unsigned integer of 32 bits, or a text `0x` with 1 to 8 hex digits.
+/// Returns the number that a value is: a JSON number that is an unsigned integer of 32 bits, or a
+/// text `0x` with 1 to 8 hex digits.
 pub fn number_of(value: &Value) -> Option<u32>
     ensures { result ≡ number_of (view value.now) }
 {
