@@ -1,4 +1,4 @@
--- Reads and writes of a page that was found, and of one that wasn't, seen as those of the memory.
+-- Reads and writes of a page that was found, and of one that wasn't, as those of the memory.
 use Rattle.std.proofs.Common.{◌≡◌, ◌≢◌, ◌+◌, ◌-◌, ◌*◌, ◌/◌, ◌%◌, ◌^◌, ◌<◌, ◌≤◌, ◌==◌, ℕ, Bool, true, false, cond, List, length, get_or, set, All, Option, Some, None, sym, ap, ◌∙◌, arith, add_assoc}
 use Rattle.std.proofs.lemmas.Bool.{eqb-true}
 use Rattle.std.specs.Prelude.{is_some, IfSome}
@@ -53,7 +53,7 @@ write_kept old new a b true is written = tt
 write_kept old new a b false is written = written ∙ with_byte_gone old a b (sym is)
 
 -- ---- areas
--- an area lies inside one page
+-- an area is inside one page
 pub record IsArea (ps : List Page) (i a : ℕ) : Type 0 where
   pub at : IsAt ps i (a / 4096)
   pub aligned : a % 64 ≡ 0
@@ -76,7 +76,7 @@ area_is ps i a area =
     sym (area_mapped ps i (a / 4096) (a % 4096) area.at (offset_aligned a area.aligned) (offset_below a) area.fits)
     ∙ ap (λ (x : ℕ). are_mapped (memory_of ps) x 64) (place a)
 
--- the bits of an area whose word says that all are mapped
+-- the bits of an area are one word, which is all ones if all bytes are mapped
 full : (ps : List Page) (i a : ℕ) → IsArea ps i a → (get_or (get_or ps i no_page).mapped (a % 4096 / 64) 0 == 2 ^ 64 - 1) ≡ true → (j : ℕ) → j < 64 → is_set (get_or ps i no_page).mapped (a % 4096 + j) ≡ true
 full ps i a area all = all_set (get_or ps i no_page).mapped (a % 4096) (offset_aligned a area.aligned) (eqb-true _ _ all)
 

@@ -28,7 +28,7 @@ low n j lt = omega arith
 high : (n j : ℕ) → j < 4096 → n ≡ (n * 4096 + j) / 4096
 high n j lt = omega arith
 
--- whether a byte of a page is mapped, and which it is
+-- a byte of a page: its bit says if it is mapped
 pub mapped_at : (ps : List Page) (i n j : ℕ) → IsAt ps i n → j < 4096 → is_mapped (memory_of ps) (n * 4096 + j) ≡ is_set (get_or ps i no_page).mapped j
 mapped_at ps i n j at lt = mapped_found (n * 4096 + j) ps i at.pages at.within (at.number ∙ high n j lt) ∙ ap (is_set (get_or ps i no_page).mapped) (low n j lt)
 
@@ -87,7 +87,7 @@ set_all mapped o aligned fits each =
     same_from_bits_below 64 (get_or mapped (o / 64) 0) (2 ^ 64 - 1) fits (omega arith) (λ j lt.
     eqb-true (bit_at (get_or mapped (o / 64) 0) j) 1 (sym (bit_is mapped o j aligned lt) ∙ each j lt) ∙ sym (bit_at_ones 64 j lt))
 
--- whether the area is mapped: its one word says so
+-- an area is mapped if the word of its bits is all ones
 pub area_mapped : (ps : List Page) (i n o : ℕ) → IsAt ps i n → o % 64 ≡ 0 → o < 4096 → get_or (get_or ps i no_page).mapped (o / 64) 0 < 2 ^ 64 → are_mapped (memory_of ps) (n * 4096 + o) 64 ≡ (get_or (get_or ps i no_page).mapped (o / 64) 0 == 2 ^ 64 - 1)
 area_mapped ps i n o at aligned lt fits =
     elim (cases_eq (get_or (get_or ps i no_page).mapped (o / 64) 0) (2 ^ 64 - 1)) [
@@ -100,7 +100,7 @@ area_mapped ps i n o at aligned lt fits =
           ∙ sym (ne_eqb (get_or (get_or ps i no_page).mapped (o / 64) 0) (2 ^ 64 - 1) less)
     ]
 
--- no page of that number: nothing is mapped there
+-- if no page has the number, nothing is mapped
 pub get_none : (ps : List Page) (a : ℕ) → ArePages ps → All (λ p. number_of p ≢ a / 4096) ps → finite.get (memory_of ps) a ≡ None
 get_none ps a pages none = get-memory_of ps a pages.whole ∙ byte_in_none a ps none
 

@@ -1,4 +1,4 @@
--- Words and halfwords of a page, inside one block of 64 bytes, seen as those of the memory.
+-- Words and halfwords of a page, inside one block of 64 bytes, as those of the memory.
 use Rattle.std.proofs.Common.{◌≡◌, ◌≢◌, ◌+◌, ◌-◌, ◌*◌, ◌/◌, ◌%◌, ◌^◌, ◌<◌, ◌≤◌, ◌==◌, ◌&&◌, ℕ, Bool, true, false, cond, List, [], ◌∷◌, length, get_or, set, All, Option, Some, None, refl, sym, ap, ◌∙◌, arith, nat_le, add-zero, length-set, inl, inr}
 use Rattle.std.specs.Prelude.{is_some, IfSome}
 use Rattle.std.specs.Int.{bit_at}
@@ -47,7 +47,7 @@ set_is mapped o n j fits lt =
     ap (λ (k : ℕ). bit_at (get_or mapped k 0) ((o + j) % 64) == 1) (bit_place o n j fits lt)
     ∙ ap (λ (k : ℕ). bit_at (get_or mapped (o / 64) 0) k == 1) (bit_number o n j fits lt)
 
--- all are set, each of them
+-- if n bits are set, each of them is
 pub set_each : (n : ℕ) (mapped : List ℕ) (o : ℕ) → o % 64 + n ≤ 64 → are_set n mapped o ≡ true → (j : ℕ) → j < n → is_set mapped (o + j) ≡ true
 set_each n mapped o fits all j lt =
     set_is mapped o n j fits lt
@@ -91,7 +91,7 @@ module _ (ps : List Page) (i a n : ℕ) (at : IsAt ps i (a / 4096)) (fits : a % 
   pub block_is : are_set n (get_or ps i no_page).mapped (a % 4096) ≡ are_in_block (memory_of ps) a n
   block_is = block_mapped ∙ ap (λ (t : Bool). t && are_mapped (memory_of ps) a n) (sym (le-leb (a % 64 + n) 64 fits))
 
-  -- a write of other bytes into the page, where these are mapped
+  -- a write of other bytes into the page, if these are mapped
   pub block_written : (bytes : List ℕ) (new : Memory) → (are_set n (get_or ps i no_page).mapped (a % 4096) ≡ true → memory_of (changed ps i bytes) ≡ new) → (t : Bool) → t ≡ are_set n (get_or ps i no_page).mapped (a % 4096) →
       memory_of (set ps i (put_in (get_or ps i no_page) t bytes)) ≡ cond (are_in_block (memory_of ps) a n) new (memory_of ps)
   block_written bytes new is true here = is (sym here) ∙ ap (λ (t : Bool). cond t new (memory_of ps)) (here ∙ block_is)
@@ -105,7 +105,7 @@ and_false : (b : Bool) → (b && false) ≡ false
 and_false true = refl
 and_false false = refl
 
--- no page of that number
+-- no page has the number
 none_mapped : (ps : List Page) (a n : ℕ) → ArePages ps → All (λ p. number_of p ≢ a / 4096) ps → 0 < n → are_mapped (memory_of ps) a n ≡ false
 none_mapped ps a n pages none some =
     not_true (are_mapped (memory_of ps) a n) (λ all.

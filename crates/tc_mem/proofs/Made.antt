@@ -1,4 +1,4 @@
--- Pages that are made for ranges.
+-- The pages of ranges.
 use Rattle.std.proofs.Common.{◌≡◌, ◌≢◌, ◌/◌, ◌<◌, ℕ, Bool, cond, List, map, length, get_or, All, Contains, IsTrue, Option, Some, None, inl, inr, sym, ap, ◌∙◌, subst, arith}
 use Rattle.std.specs.List.Sorted.{IsStrictlyIncreasing}
 use Rattle.std.proofs.lemmas.List.{length-map}
@@ -11,25 +11,26 @@ use Rattle.tc_mem.specs.Pages.{byte_of, is_in, memory_of, IsPage, ArePages, AreS
 use Rattle.tc_mem.specs.declared.page.Page.{Page}
 use Rattle.tcd_base.specs.declared.range.Range.{Range}
 
--- a page whose bytes in the ranges are zeros, and no others mapped
+-- a page in which the bytes of the ranges are zeros, and no others are mapped
 abbrev pub IsZeroPage : List Range → Page → Type 0
 IsZeroPage ranges p = (q : ℕ) → q / 4096 ≡ number_of p → byte_of q p ≡ cond (is_in ranges q) (Some 0) None
 
--- such pages, with these numbers
+-- the zero pages of these numbers
 pub record AreMade (ranges : List Range) (numbers : List ℕ) (ps : List Page) : Type 0 where
   pub numbers_are : map number_of ps ≡ numbers
   pub pages : All IsPage ps
   pub zeros : All (IsZeroPage ranges) ps
   pub small : AreSmall ps
 
--- pages with ascending numbers are a memory's
+-- zero pages with ascending numbers are the pages of a memory
 pub made_mem : (ranges : List Range) (numbers : List ℕ) (ps : List Page) → AreMade ranges numbers ps → IsStrictlyIncreasing numbers → IsMem ps
 made_mem ranges numbers ps made rising = record {
   pages = record { whole = made.pages; rising = subst IsStrictlyIncreasing (sym made.numbers_are) rising };
   small = made.small;
 }
 
--- pages with ascending numbers, for all the numbers that the ranges need, are the ranges' zeros
+-- zero pages with ascending numbers, for all the numbers that the ranges need, map the ranges to
+-- zeros
 pub made_zeros : (ranges : List Range) (numbers : List ℕ) (ps : List Page) → AreMade ranges numbers ps → IsStrictlyIncreasing numbers → ((q : ℕ) → IsTrue (is_in ranges q) → Contains numbers (q / 4096)) → IsZeros ranges (memory_of ps)
 made_zeros ranges numbers ps made rising all q =
     let pages : ArePages ps = record { whole = made.pages; rising = subst IsStrictlyIncreasing (sym made.numbers_are) rising } in

@@ -1,4 +1,4 @@
--- The memory that pages are: what it has at an address, and what a byte that is written changes.
+-- The memory of a list of pages: its byte at an address, and what a write of a byte changes.
 use Rattle.std.proofs.Common.{◌≡◌, ◌≢◌, ◌+◌, ◌-◌, ◌*◌, ◌/◌, ◌%◌, ◌<◌, ◌==◌, ℕ, zero, suc, Bool, true, false, cond, List, [], ◌∷◌, ◌++◌, map, length, get_or, set, All, Option, Some, None, inl, inr, refl, sym, ap, ◌∙◌, arith}
 use Rattle.std.specs.Prelude.{nat_le, slice_get}
 use Rattle.std.proofs.lemmas.Bool.{cases_lt, cases_eq, cases_order, eq-eqb, ne_eqb, le-leb, lt-leb}
@@ -87,7 +87,7 @@ byte_of_other q p other =
     let no : (q / 4096 == p.number) ≡ false = ne_eqb (q / 4096) p.number (λ e. other (sym e)) in
     ap (λ (t : Bool). cond t (cond (is_set p.mapped (q % 4096)) (Some (get_or p.bytes (q % 4096) 0)) None) None) no
 
--- the page of that number has the byte where its bit is set
+-- the page of that number has the byte if its bit is set
 pub byte_of_same : (q : ℕ) (p : Page) → number_of p ≡ q / 4096 → byte_of q p ≡ cond (is_set p.mapped (q % 4096)) (Some (get_or p.bytes (q % 4096) 0)) None
 byte_of_same q p same =
     let yes : (q / 4096 == p.number) ≡ true = eq-eqb (q / 4096) p.number (sym same) in
@@ -132,7 +132,7 @@ pub get-memory_of : (ps : List Page) (q : ℕ) → All IsPage ps → finite.get 
 unfolding memory_of
 get-memory_of ps q whole = get-from_entries nat_cmp_total (entries_of ps) q ∙ all_find q ps whole
 
--- no page of that number: no byte
+-- no page has the number: no byte
 pub byte_in_none : (q : ℕ) (ps : List Page) → All (λ p. number_of p ≢ q / 4096) ps → byte_in q ps ≡ None
 byte_in_none q [] none = refl
 byte_in_none q (p ∷ ps) none =

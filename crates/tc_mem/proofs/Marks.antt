@@ -51,14 +51,14 @@ is_set-zeros k lt =
 or_one : (b c : Bool) → c ≡ true → true ≡ (b || c)
 or_one b c is = rw is (sym (or_true b))
 
--- in the word
+-- an offset inside the word of bits
 within_word : (o k : ℕ) → o % 64 ≡ 0 → k / 64 ≡ o / 64 → (nat_le o k && nat_lt k (o + 64)) ≡ true
 within_word o k aligned same =
     let low : nat_le o k ≡ true = le-leb o k (omega arith) in
     let high : nat_lt k (o + 64) ≡ true = lt-ltb k (o + 64) (omega arith) in
     rw (low, high) refl
 
--- outside it
+-- an offset outside the word of bits
 beside_word : (o k : ℕ) → o % 64 ≡ 0 → k / 64 ≢ o / 64 → (nat_le o k && nat_lt k (o + 64)) ≡ false
 beside_word o k aligned other =
     elim (cases_lt k o) [

@@ -53,6 +53,6 @@ place_of (y ∷ ys) x =
       ]
     ]
 
--- what is contained has a place
+-- a number that is contained has a place
 pub not_contained : (xs : List ℕ) (x : ℕ) → ((k : ℕ) → k < length xs → get_or xs k 0 ≢ x) → Contains xs x → ⊥
 not_contained xs x none has = none has.0 has.1 (sym (get_or_default_zero xs has.0 x has.1) ∙ has.2)

@@ -28,7 +28,7 @@ rises xs h i (suc j) lt below =
       | inr g ↦ let same : i ≡ j = omega arith in rw same last
     ]
 
--- and no later one is lower
+-- a later number is not lower
 pub rises_or_stays : (xs : List ℕ) → IsStrictlyIncreasing xs → (i j : ℕ) → i ≤ j → j < length xs → get_or xs i 0 ≤ get_or xs j 0
 rises_or_stays xs h i j le below =
     elim (cases_lt i j) [
@@ -36,7 +36,7 @@ rises_or_stays xs h i j le below =
       | inr g ↦ let same : i ≡ j = omega arith in rw same (omega arith)
     ]
 
--- no page: what a place past the end has
+-- the value of a place after the last page: an empty page
 abbrev pub no_page : Page
 no_page = record { number = 0; mapped = []; bytes = [] }
 
@@ -69,7 +69,7 @@ narrowed_down ps number from to middle up n above below other high = record {
       omega arith;
 }
 
--- nothing is left: no page has the number
+-- if no place is left, no page has the number
 pub narrowed_out : (ps : List Page) (number from to : ℕ) → Narrowed ps number from to → to ≤ from → (k : ℕ) (d : Page) → k < length ps → number_of (get_or ps k d) ≡ number → ⊥
 narrowed_out ps number from to n out k d lt e =
     let at : number_at ps k ≡ number = get_or-map number_of ps k d 0 lt ∙ e in

@@ -11,7 +11,7 @@ use Rattle.tc_mem.proofs.Accesses.{put_in}
 abbrev pub IsSmall : Page → Type 0
 IsSmall p = (k : ℕ) → get_or p.bytes k 0 < 256
 
--- one byte anew
+-- a byte that is replaced
 pub set_small : (bytes : List ℕ) (o b : ℕ) → ((k : ℕ) → get_or bytes k 0 < 256) → b < 256 → (k : ℕ) → get_or (set bytes o b) k 0 < 256
 set_small [] o b small lt k = small k
 set_small (x ∷ xs) zero b small lt zero = lt
@@ -19,7 +19,7 @@ set_small (x ∷ xs) zero b small lt (suc k) = small (suc k)
 set_small (x ∷ xs) (suc o) b small lt zero = small zero
 set_small (x ∷ xs) (suc o) b small lt (suc k) = set_small xs o b (λ j. small (suc j)) lt k
 
--- words anew
+-- words that are replaced
 pub bytes_with_small : (bytes : List ℕ) (o : ℕ) (ws : List ℕ) → ((k : ℕ) → get_or bytes k 0 < 256) → (k : ℕ) → get_or (bytes_with bytes o ws) k 0 < 256
 unfolding bytes_with
 bytes_with_small bytes o [] small k = small k

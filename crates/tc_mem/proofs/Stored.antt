@@ -15,7 +15,7 @@ use Rattle.tc_mem.specs.declared.page.Page.{Page}
 use Rattle.tc_mem.proofs.Search.{no_page}
 use Rattle.tc_mem.proofs.Mapped.{byte_in, byte_of_same, byte_of_other, get-memory_of, byte_in_found, byte_in_set, ArePages-set}
 
--- the bytes of a page stay as many
+-- the number of a page's bytes doesn't change
 pub length-bytes_with : (bytes : List ℕ) (o : ℕ) (ws : List ℕ) → length (bytes_with bytes o ws) ≡ length bytes
 unfolding bytes_with
 length-bytes_with bytes o [] = refl
@@ -26,7 +26,7 @@ pub bytes_with_all : (bytes : List ℕ) (o : ℕ) (ws : List ℕ) (i : ℕ) → 
 unfolding bytes_with
 bytes_with_all bytes o ws i past = let none : drop i ws ≡ [] = drop_of_length-le ws past in rw none refl
 
--- one word more, before those that were written
+-- one more word, before those that were written
 pub bytes_with_more : (bytes now : List ℕ) (o : ℕ) (ws : List ℕ) (i j : ℕ) → i ≡ j + 1 → j < length ws → now ≡ bytes_with bytes (o + 4 * i) (drop i ws) → bytes_with now (o + 4 * j) (get_or ws j 0 ∷ []) ≡ bytes_with bytes (o + 4 * j) (drop j ws)
 unfolding bytes_with
 bytes_with_more bytes now o ws i j next lt is =
@@ -51,7 +51,7 @@ ArePages-changed ps i bytes pages lt size =
     let page = page_at ps i pages lt in
     ArePages-set ps i (with_bytes (get_or ps i no_page) bytes) pages (record { bytes = size; bits = page.bits }) refl
 
--- the byte of a page at an address, with one byte anew
+-- the byte of a page at an address, if one byte is replaced
 written_same : (a b : ℕ) (p : Page) → IsPage p → number_of p ≡ a / 4096 → is_set p.mapped (a % 4096) ≡ true → byte_of a (with_bytes p (set p.bytes (a % 4096) b)) ≡ Some b
 written_same a b p page is here =
     let size = page.bytes in
@@ -70,7 +70,7 @@ written_other a b q p is other =
       | inr ne ↦ byte_of_other q (with_bytes p (set p.bytes (a % 4096) b)) ne ∙ sym (byte_of_other q p ne)
     ]
 
--- the byte at an address of a page that is there
+-- the byte at an address of a page that was found
 pub get_found : (a : ℕ) (ps : List Page) (i : ℕ) → ArePages ps → i < length ps → number_of (get_or ps i no_page) ≡ a / 4096 → finite.get (memory_of ps) a ≡ byte_of a (get_or ps i no_page)
 get_found a ps i pages lt is = get-memory_of ps a pages.whole ∙ byte_in_found a ps i pages lt is
 
@@ -116,13 +116,13 @@ changed_again ps i bytes others lt =
     ap (λ (p : Page). set (changed ps i bytes) i (with_bytes p others)) (changed_there ps i bytes lt)
     ∙ set-set ps i (with_bytes (get_or ps i no_page) bytes) (with_bytes (get_or ps i no_page) others)
 
--- pages, one of them by its place and number
+-- a list of pages, one of which has this place and number
 pub record IsAt (ps : List Page) (i n : ℕ) : Type 0 where
   pub pages : ArePages ps
   pub within : i < length ps
   pub number : number_of (get_or ps i no_page) ≡ n
 
--- one byte more
+-- one more byte
 pub step : (ps : List Page) (i n : ℕ) (bytes : List ℕ) (j b : ℕ) → IsAt ps i n → length bytes ≡ 4096 → j < 4096 → is_set (get_or ps i no_page).mapped j ≡ true → memory_of (changed ps i (set bytes j b)) ≡ with_byte (memory_of (changed ps i bytes)) (n * 4096 + j) b
 step ps i n bytes j b at size lt here =
     let a : ℕ = n * 4096 + j in
@@ -135,7 +135,7 @@ step ps i n bytes j b at size lt here =
     ∙ ap (λ (p : Page). memory_of (changed (changed ps i bytes) i (set p.bytes (a % 4096) b))) (sym there)
     ∙ after
 
--- four bytes more: a word
+-- four more bytes: a word
 word_step : (ps : List Page) (i n : ℕ) (bytes : List ℕ) (o w : ℕ) → IsAt ps i n → length bytes ≡ 4096 → o + 4 ≤ 4096 → ((k : ℕ) → k < 4 → is_set (get_or ps i no_page).mapped (o + k) ≡ true) →
     memory_of (changed ps i (set (set (set (set bytes o (w % 2 ^ 8)) (o + 1) (w / 2 ^ 8 % 2 ^ 8)) (o + 2) (w / 2 ^ 16 % 2 ^ 8)) (o + 3) (w / 2 ^ 24 % 2 ^ 8))) ≡ with_word (memory_of (changed ps i bytes)) (n * 4096 + o) w
 unfolding with_word

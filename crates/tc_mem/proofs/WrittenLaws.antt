@@ -134,7 +134,7 @@ page_written ps i a new at fit =
           ];
     }
 
--- no page has them
+-- no page has the bytes
 pub none_written : (ps : List Page) (a : ℕ) (new : List ℕ) → ArePages ps → All (λ p. number_of p ≢ a / 4096) ps → a % 4096 + length new ≤ 4096 → IsWritten (memory_of ps) a new (memory_of ps)
 none_written ps a new pages none fit = record {
   mapped = λ q. refl;

@@ -2,10 +2,10 @@
 use Rattle.std.specs.Prelude.{ℕ, List, Option, Some, None, if◌then◌else◌}
 use Rattle.csa_chain.specs.Memory.{Memory, are_mapped, words_at, with_words}
 
--- the 16 words from an address on, where all their bytes are mapped
+-- the 16 words from an address on, if all their bytes are mapped
 abbrev pub area_of : Memory → ℕ → Option (List ℕ)
 area_of m x = if are_mapped m x 64 then Some (words_at m x 16) else None
 
--- the memory with these words there, where all their bytes are mapped
+-- the memory with these words from an address on, if all their bytes are mapped
 abbrev pub with_area : Memory → ℕ → List ℕ → Memory
 with_area m x words = if are_mapped m x 64 then with_words m x words else m

@@ -1,4 +1,4 @@
--- Pages of 4,096 bytes, and the memory that a list of them is.
+-- Pages of 4,096 bytes, and the memory of a list of pages.
 use Rattle.std.specs.Prelude.{◌≡◌, ◌<◌, ◌+◌, ◌-◌, ◌*◌, ◌/◌, ◌%◌, ◌^◌, ℕ, Bool, ◌==◌, ◌&&◌, nat_le, nat_lt, if◌then◌else◌, List, [], ◌∷◌, ◌++◌, map, length, take, drop, slice_index, slice_set, Option, Some, None, All}
 use Rattle.std.specs.List.{list_any}
 use Rattle.std.specs.List.Sorted.{IsStrictlyIncreasing}
@@ -8,15 +8,15 @@ use Rattle.csa_chain.specs.Memory.{Memory}
 use Rattle.tcd_base.specs.declared.range.Range.{Range}
 use Rattle.tc_mem.specs.declared.page.Page.{Page}
 
--- whether the byte at an offset of a page is mapped: a bit for each, 64 to a word
+-- the byte at an offset of a page is mapped: a bit for each, 64 to a word
 abbrev pub is_set : List ℕ → ℕ → Bool
 is_set mapped offset = bit_at (slice_index mapped (offset / 64)) (offset % 64) == 1
 
--- whether the bits of the n bytes from an offset on are all set, where one word has them
+-- the bits of the n bytes from an offset on are in one word, and all set
 abbrev pub are_set : ℕ → List ℕ → ℕ → Bool
 are_set n mapped offset = slice_index mapped (offset / 64) / 2 ^ (offset % 64) % 2 ^ n == 2 ^ n - 1
 
--- the byte at an address, where it lies in the page and is mapped
+-- the byte at an address, if it is in the page and mapped
 abbrev pub byte_of : ℕ → Page → Option ℕ
 byte_of q p = if q / 4096 == p.number then (if is_set p.mapped (q % 4096) then Some (slice_index p.bytes (q % 4096)) else None) else None
 
@@ -25,12 +25,12 @@ unfoldable pub entries_from : List ℕ → ℕ → List ℕ → List (ℕ × ℕ
 entries_from mapped at [] = []
 entries_from mapped at (b ∷ bs) = if is_set mapped (at % 4096) then (at, b) ∷ entries_from mapped (at + 1) bs else entries_from mapped (at + 1) bs
 
--- those of all pages
+-- the mapped bytes of all pages, each with its address
 unfoldable pub entries_of : List Page → List (ℕ × ℕ)
 entries_of [] = []
 entries_of (p ∷ ps) = entries_from p.mapped (p.number * 4096) p.bytes ++ entries_of ps
 
--- the memory that these pages are
+-- the memory of a list of pages
 unfoldable pub memory_of : List Page → Memory
 memory_of ps = finite.from_entries (entries_of ps)
 
@@ -52,12 +52,12 @@ pub record ArePages (ps : List Page) : Type 0 where
 abbrev pub AreSmall : List Page → Type 0
 AreSmall ps = All (λ p. (k : ℕ) → slice_index p.bytes k < 256) ps
 
--- what the pages of a memory keep
+-- what holds of the pages of a memory
 pub record IsMem (ps : List Page) : Type 0 where
   pub pages : ArePages ps
   pub small : AreSmall ps
 
--- whether an address lies in one of the ranges
+-- an address is in one of the ranges
 abbrev pub is_in : List Range → ℕ → Bool
 is_in ranges q = list_any (λ r. nat_le r.at q && nat_lt q (r.at + r.len)) ranges
 
@@ -69,7 +69,7 @@ IsZeros ranges m = (q : ℕ) → finite.get m q ≡ (if is_in ranges q then Some
 abbrev pub with_bytes_at : List ℕ → ℕ → List ℕ → List ℕ
 with_bytes_at bytes offset new = take offset bytes ++ (new ++ drop (offset + length new) bytes)
 
--- the 32-bit words from an offset on, the last ones first, written into the bytes of a page
+-- the 32-bit words from an offset on, written into the bytes of a page, the last word first
 unfoldable pub bytes_with : List ℕ → ℕ → List ℕ → List ℕ
 bytes_with bytes offset [] = bytes
 bytes_with bytes offset (w ∷ ws) =

@@ -7,10 +7,10 @@ use Rattle.tcd_base.specs.Ranges.{IsInOne}
 use Rattle.tcd_plan.specs.PlanData.{PlanData}
 use Rattle.tcd_plan.specs.Regions.{IsMappedBy}
 
--- the rom bytes that a segment holds are the image's
+-- each rom byte that a segment of the image holds is in the memory
 abbrev pub HoldsRom : ImageData → PlanData → Memory → Type 0
 HoldsRom image plan mem = (x b : ℕ) → IsInOne x 1 plan.rom → image_byte image x ≡ Some b → map.get mem x ≡ Some b
 
--- the mapped memory is the plan's
+-- the mapped addresses are those of the plan
 abbrev pub IsPlanMemory : PlanData → Memory → Type 0
 IsPlanMemory plan mem = (x : ℕ) → (is_mapped mem x ≡ true) ↔ IsMappedBy plan x

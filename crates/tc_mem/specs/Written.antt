@@ -3,8 +3,8 @@ use Rattle.std.specs.Prelude.{◌≡◌, ◌<◌, ◌≤◌, ◌⊎◌, ◌+◌,
 use Rattle.std.specs.FinMap as finite
 use Rattle.csa_chain.specs.Memory.{Memory, is_mapped}
 
--- A memory with these bytes from an address on: the mapped ones among them are there, all else is as it was, and no
--- byte is mapped or unmapped.
+-- A memory after a write of these bytes from an address on: those that are mapped are written, all
+-- else is as it was, and no byte is mapped or unmapped.
 pub record IsWritten (m : Memory) (x : ℕ) (bytes : List ℕ) (new : Memory) : Type 0 where
   pub mapped : (q : ℕ) → is_mapped new q ≡ is_mapped m q
   pub here : (k : ℕ) → k < length bytes → is_mapped m (x + k) ≡ true → finite.get new (x + k) ≡ Some (slice_index bytes k)

@@ -1,4 +1,4 @@
-// A memory: its pages, and its public calls.
+// The type `Mem`: a sorted list of pages, and its public functions.
 ghost use Rattle.std.specs.Prelude.{◌≡◌, ◌≤◌, ◌+◌, ◌%◌, ◌^◌, All, IfOk, length};
 ghost use Rattle.std.specs.Bool.{OnFalse};
 ghost use Rattle.std.specs.FinMap as finite;
@@ -18,8 +18,8 @@ use std::alloc::Global;
 use std::marker::Model;
 use tcd_base::{NoMemory, Range};
 
-/// Bytes at addresses: a sorted list of pages of 4,096 bytes, each with a bit for each byte that tells whether it is
-/// mapped.
+/// Bytes at addresses, as a sorted list of pages of 4,096 bytes. Each page has a bit for each byte:
+/// it is set if the byte is mapped.
 #[derive(Drop)]
 pub struct Mem {
     pages: Vec<Page>,
@@ -41,7 +41,7 @@ impl Model for Mem {
 }
 
 impl Mem {
-    /// The memory in which the bytes of the ranges are mapped, all of them zero.
+    /// Returns the memory in which the bytes of the ranges are mapped, all zero.
     pub fn of(alloc: Global, ranges: &[Range]) -> Result<Mem, NoMemory>
         requires { All (λ r. r.at + r.len ≤ 2 ^ 32) ranges.now }
         ensures zeros { IfOk result (λ m. IsZeros ranges.now m) }
@@ -52,7 +52,7 @@ impl Mem {
         })
     }
 
-    /// The byte at an address, or nothing where none is mapped.
+    /// Returns the byte at an address, or `None` if it isn't mapped.
     pub fn get(&self, addr: u32) -> Option<u8>
         ensures byte { result ≡ finite.get self.now addr }
         ensures bytes { HasBytes self.now }
@@ -60,7 +60,7 @@ impl Mem {
         read(&self.pages, addr)
     }
 
-    /// Writes a mapped byte. Where none is mapped the answer is false, and nothing changes.
+    /// Writes a mapped byte. If it isn't mapped, the answer is false, and nothing changes.
     pub fn set(&mut self, addr: u32, byte: u8) -> bool
         ensures mapped { result ≡ is_mapped self.old addr }
         ensures written { self.new ≡ with_byte self.old addr byte }
@@ -70,7 +70,7 @@ impl Mem {
         write(&mut self.pages, addr, byte)
     }
 
-    /// Writes bytes from an address on, one after another. Those whose address isn't mapped are dropped.
+    /// Writes bytes from an address on. Those at addresses that aren't mapped are dropped.
     pub fn set_bytes(&mut self, addr: u32, bytes: &[u8])
         requires { addr + length bytes.now ≤ 2 ^ 32 }
         ensures written { IsWritten self.old addr bytes.now self.new }
@@ -79,8 +79,8 @@ impl Mem {
         write_bytes(&mut self.pages, addr, bytes);
     }
 
-    /// The 16 words of the 64 bytes from an address on, each with its lowest byte first, or nothing where one of the
-    /// bytes isn't mapped.
+    /// Returns the 16 words of the 64 bytes from an address on, each with its lowest byte first. If
+    /// one of the bytes isn't mapped, the answer is `None`.
     pub fn area(&self, addr: u32) -> Option<[u32; 16]>
         requires { addr % 64 ≡ 0 }
         ensures words { result ≡ area_of self.now addr }
@@ -89,8 +89,8 @@ impl Mem {
         read_area(&self.pages, addr)
     }
 
-    /// Writes 16 words into the 64 bytes from an address on, each with its lowest byte first. Where one of the bytes
-    /// isn't mapped the answer is false, and nothing changes.
+    /// Writes 16 words to the 64 bytes from an address on, each with its lowest byte first. If one
+    /// of the bytes isn't mapped, the answer is false, and nothing changes.
     pub fn set_area(&mut self, addr: u32, words: &[u32; 16]) -> bool
         requires { addr % 64 ≡ 0 }
         ensures mapped { result ≡ are_mapped self.old addr 64 }
@@ -101,8 +101,8 @@ impl Mem {
         write_area(&mut self.pages, addr, words)
     }
 
-    /// The word of the four bytes from an address on, its lowest byte first, or nothing where one of them isn't mapped
-    /// or they cross a multiple of 64.
+    /// Returns the word of the four bytes from an address on, its lowest byte first. If one of them
+    /// isn't mapped, or they cross a multiple of 64, the answer is `None`.
     pub fn word(&self, addr: u32) -> Option<u32>
         ensures word { result ≡ word_of self.now addr }
         ensures bytes { HasBytes self.now }
@@ -110,8 +110,8 @@ impl Mem {
         read_word(&self.pages, addr)
     }
 
-    /// The halfword of the two bytes from an address on, its lower byte first, or nothing where one of them isn't
-    /// mapped or they cross a multiple of 64.
+    /// Returns the halfword of the two bytes from an address on, its lower byte first. If one of
+    /// them isn't mapped, or they cross a multiple of 64, the answer is `None`.
     pub fn half(&self, addr: u32) -> Option<u16>
         ensures half { result ≡ half_of self.now addr }
         ensures bytes { HasBytes self.now }
@@ -119,8 +119,8 @@ impl Mem {
         read_half(&self.pages, addr)
     }
 
-    /// Writes a word into the four bytes from an address on, its lowest byte first. Where one of them isn't mapped, or
-    /// they cross a multiple of 64, the answer is false, and nothing changes.
+    /// Writes a word to the four bytes from an address on, its lowest byte first. If one of them
+    /// isn't mapped, or they cross a multiple of 64, the answer is false, and nothing changes.
     pub fn set_word(&mut self, addr: u32, word: u32) -> bool
         ensures mapped { result ≡ are_in_block self.old addr 4 }
         ensures written { self.new ≡ with_word_in self.old addr word }
@@ -129,8 +129,8 @@ impl Mem {
         write_word(&mut self.pages, addr, word)
     }
 
-    /// Writes a halfword into the two bytes from an address on, its lower byte first. Where one of them isn't mapped,
-    /// or they cross a multiple of 64, the answer is false, and nothing changes.
+    /// Writes a halfword to the two bytes from an address on, its lower byte first. If one of them
+    /// isn't mapped, or they cross a multiple of 64, the answer is false, and nothing changes.
     pub fn set_half(&mut self, addr: u32, half: u16) -> bool
         ensures mapped { result ≡ are_in_block self.old addr 2 }
         ensures written { self.new ≡ with_half_in self.old addr half }
@@ -139,8 +139,9 @@ impl Mem {
         write_half(&mut self.pages, addr, half)
     }
 
-    /// The first word of the 64 bytes from an address on, or nothing where one of the 64 isn't mapped. `near` keeps the
-    /// place where the last such call found its page, and any number may be given.
+    /// Returns the first word of the 64 bytes from an address on, or `None` if one of the 64 isn't
+    /// mapped. `near` is a hint: the place at which the last such call found its page; any number
+    /// is allowed.
     pub fn first_word(&self, addr: u32, near: &mut usize) -> Option<u32>
         requires { addr % 64 ≡ 0 }
         ensures word { result ≡ first_word_of self.now addr }
@@ -150,7 +151,7 @@ impl Mem {
     }
 }
 
-// The byte at an address.
+// Returns the byte at an address, or `None` if it isn't mapped.
 pub(crate) fn read(pages: &[Page], addr: u32) -> Option<u8>
     requires { IsMem pages.now }
     ensures byte { result ≡ finite.get (memory_of pages.now) addr }
@@ -162,7 +163,7 @@ pub(crate) fn read(pages: &[Page], addr: u32) -> Option<u8>
     byte(&pages[i], addr)
 }
 
-// Writes a mapped byte, and says whether it is mapped.
+// Writes a byte if it is mapped, and returns whether it is.
 pub(crate) fn write(pages: &mut [Page], addr: u32, byte: u8) -> bool
     requires { IsMem pages.old }
     ensures mapped { result ≡ has_byte (memory_of pages.old) addr }
@@ -177,7 +178,7 @@ pub(crate) fn write(pages: &mut [Page], addr: u32, byte: u8) -> bool
     put_byte(&mut pages[i], (addr % 4096) as usize, byte)
 }
 
-// Writes the mapped ones of bytes from an address on, all in one page.
+// Writes bytes from an address on, all in one page. Those that aren't mapped are dropped.
 fn write_in_page(pages: &mut [Page], addr: u32, bytes: &[u8])
     requires pages { IsMem pages.old }
     requires within { addr % 4096 + length bytes.now ≤ 4096 }
@@ -190,7 +191,7 @@ fn write_in_page(pages: &mut [Page], addr: u32, bytes: &[u8])
     put_bytes(&mut pages[i], (addr % 4096) as usize, bytes);
 }
 
-// Writes the mapped ones of bytes from an address on.
+// Writes bytes from an address on. Those that aren't mapped are dropped.
 pub(crate) fn write_bytes(pages: &mut [Page], addr: u32, bytes: &[u8])
     requires pages { IsMem pages.old }
     requires fits { addr + length bytes.now ≤ 2 ^ 32 }
@@ -207,7 +208,7 @@ pub(crate) fn write_bytes(pages: &mut [Page], addr: u32, bytes: &[u8])
     }
 }
 
-// The words of an area that is wholly mapped.
+// Returns the words of an area that is wholly mapped.
 pub(crate) fn read_area(pages: &[Page], addr: u32) -> Option<[u32; 16]>
     requires pages { IsMem pages.now }
     requires aligned { addr % 64 ≡ 0 }
@@ -220,7 +221,7 @@ pub(crate) fn read_area(pages: &[Page], addr: u32) -> Option<[u32; 16]>
     area_in(&pages[i], (addr % 4096) as usize)
 }
 
-// Writes an area that is wholly mapped, and says whether it is.
+// Writes an area if it is wholly mapped, and returns whether it is.
 pub(crate) fn write_area(pages: &mut [Page], addr: u32, words: &[u32; 16]) -> bool
     requires pages { IsMem pages.old }
     requires aligned { addr % 64 ≡ 0 }
@@ -235,7 +236,7 @@ pub(crate) fn write_area(pages: &mut [Page], addr: u32, words: &[u32; 16]) -> bo
     put_area(&mut pages[i], (addr % 4096) as usize, words)
 }
 
-// The word at an address, where its bytes are in one block.
+// Returns the word at an address if its bytes are mapped and in one block of 64.
 pub(crate) fn read_word(pages: &[Page], addr: u32) -> Option<u32>
     requires { IsMem pages.now }
     ensures word { result ≡ word_of (memory_of pages.now) addr }
@@ -250,7 +251,7 @@ pub(crate) fn read_word(pages: &[Page], addr: u32) -> Option<u32>
     mapped_word(&pages[i], (addr % 4096) as usize)
 }
 
-// The halfword at an address, where its bytes are in one block.
+// Returns the halfword at an address if its bytes are mapped and in one block of 64.
 pub(crate) fn read_half(pages: &[Page], addr: u32) -> Option<u16>
     requires { IsMem pages.now }
     ensures half { result ≡ half_of (memory_of pages.now) addr }
@@ -265,7 +266,7 @@ pub(crate) fn read_half(pages: &[Page], addr: u32) -> Option<u16>
     mapped_half(&pages[i], (addr % 4096) as usize)
 }
 
-// Writes a word whose bytes are in one block, and says whether they are.
+// Writes a word if its bytes are mapped and in one block of 64, and returns whether they are.
 pub(crate) fn write_word(pages: &mut [Page], addr: u32, word: u32) -> bool
     requires { IsMem pages.old }
     ensures mapped { result ≡ are_in_block (memory_of pages.old) addr 4 }
@@ -282,7 +283,7 @@ pub(crate) fn write_word(pages: &mut [Page], addr: u32, word: u32) -> bool
     put_mapped_word(&mut pages[i], (addr % 4096) as usize, word)
 }
 
-// Writes a halfword whose bytes are in one block, and says whether they are.
+// Writes a halfword if its bytes are mapped and in one block of 64, and returns whether they are.
 pub(crate) fn write_half(pages: &mut [Page], addr: u32, half: u16) -> bool
     requires { IsMem pages.old }
     ensures mapped { result ≡ are_in_block (memory_of pages.old) addr 2 }
@@ -299,7 +300,8 @@ pub(crate) fn write_half(pages: &mut [Page], addr: u32, half: u16) -> bool
     put_mapped_half(&mut pages[i], (addr % 4096) as usize, half)
 }
 
-// The first word of an area that is wholly mapped. Its page is looked for first at this place, which becomes the page's.
+// Returns the first word of an area that is wholly mapped. The search for its page begins at
+// `near`, which is then set to the place of the page.
 pub(crate) fn read_first(pages: &[Page], addr: u32, near: &mut usize) -> Option<u32>
     requires pages { IsMem pages.now }
     requires aligned { addr % 64 ≡ 0 }

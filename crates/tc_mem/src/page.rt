@@ -1,12 +1,12 @@
-// One page: which of its bytes are mapped, and what is read and written in it.
+// One page: its bytes, their bits, and what reads and writes them.
 ghost use Rattle.std.specs.Prelude.{◌≡◌, ◌≢◌, ◌<◌, ◌≤◌, ◌+◌, ◌-◌, ◌==◌, [], ◌∷◌, ℕ, ◌*◌, ◌/◌, ◌%◌, ◌^◌, All, IfSome, IfNone, is_some, map, length, slice_index, slice_set, if◌then◌else◌, ◌||◌, ◌&&◌, nat_le, nat_lt};
 ghost use Rattle.tcd_base.specs.Bytes.{word_at, half_at};
 ghost use Rattle.tc_mem.specs.Pages.{is_set, byte_of, bytes_with, with_bytes_at, are_set};
 
 use tcd_base::Range;
 
-/// A page of 4,096 bytes: its first address divided by 4,096, a bit for each byte that tells whether it is mapped, 64
-/// to a word and the lowest first, and the bytes.
+/// A page of 4,096 bytes: its first address divided by 4,096, the bits that say which bytes are
+/// mapped (64 to a word, the lowest first), and the bytes.
 #[derive(Drop)]
 pub(crate) struct Page {
     pub number: u32,
@@ -14,7 +14,7 @@ pub(crate) struct Page {
     pub bytes: [u8; 4096],
 }
 
-// Whether the byte at an offset is mapped.
+// Returns true if the byte at an offset is mapped.
 fn is_mapped(page: &Page, offset: usize) -> bool
     requires { offset < 4096 }
     ensures { result ≡ is_set page.now.mapped offset }
@@ -22,7 +22,7 @@ fn is_mapped(page: &Page, offset: usize) -> bool
     (page.mapped[offset / 64] >> (offset % 64)) % 2 == 1
 }
 
-// The byte at an address of the page.
+// Returns the byte at an address of the page, or `None` if it isn't mapped.
 pub(crate) fn byte(page: &Page, addr: u32) -> Option<u8>
     requires { page.now.number ≡ addr / 4096 }
     ensures { result ≡ byte_of addr page.now }
@@ -35,7 +35,7 @@ pub(crate) fn byte(page: &Page, addr: u32) -> Option<u8>
     }
 }
 
-// Writes the byte at an offset where it is mapped, and says whether it is.
+// Writes the byte at an offset if it is mapped, and returns whether it is.
 pub(crate) fn put_byte(page: &mut Page, offset: usize, byte: u8) -> bool
     requires { offset < 4096 }
     ensures mapped { result ≡ is_set page.old.mapped offset }
@@ -52,7 +52,7 @@ pub(crate) fn put_byte(page: &mut Page, offset: usize, byte: u8) -> bool
     mapped
 }
 
-// Puts bytes at an offset. What an unmapped byte holds is never seen.
+// Writes bytes from an offset on, mapped or not: nobody reads an unmapped one.
 pub(crate) fn put_bytes(page: &mut Page, offset: usize, bytes: &[u8])
     requires { offset + length bytes.now ≤ 4096 }
     ensures written { page.new
@@ -62,7 +62,7 @@ pub(crate) fn put_bytes(page: &mut Page, offset: usize, bytes: &[u8])
     page.bytes[offset..offset + bytes.len()].copy_from_slice(bytes);
 }
 
-// The word of the four bytes from an offset on, the lowest byte first.
+// Returns the word of the four bytes from an offset on, the lowest byte first.
 pub(crate) fn word_in(bytes: &[u8; 4096], offset: usize) -> u32
     requires { offset + 4 ≤ 4096 }
     ensures { result ≡ word_at bytes.now offset }
@@ -75,7 +75,7 @@ pub(crate) fn word_in(bytes: &[u8; 4096], offset: usize) -> u32
     ])
 }
 
-// Puts a word into the four bytes from an offset on, the lowest byte first.
+// Writes a word to the four bytes from an offset on, the lowest byte first.
 #[tactic(auto, unfolding(crate::specs::Pages::bytes_with))]
 pub(crate) fn put_word(bytes: &mut [u8; 4096], offset: usize, word: u32)
     requires { offset + 4 ≤ 4096 }
@@ -88,7 +88,7 @@ pub(crate) fn put_word(bytes: &mut [u8; 4096], offset: usize, word: u32)
     bytes[offset + 3] = parts[3];
 }
 
-// The 16 words from an offset on, each with its lowest byte first.
+// Returns the 16 words from an offset on, each with its lowest byte first.
 fn words_from(bytes: &[u8; 4096], offset: usize) -> [u32; 16]
     requires { offset + 64 ≤ 4096 }
     ensures size { length result ≡ 16 }
@@ -101,7 +101,7 @@ fn words_from(bytes: &[u8; 4096], offset: usize) -> [u32; 16]
     words
 }
 
-// The 16 words from an offset on, where the one word of their bits says that all are mapped.
+// Returns the 16 words from an offset on if all are mapped. Their 64 bits are one word.
 pub(crate) fn area_in(page: &Page, offset: usize) -> Option<[u32; 16]>
     requires aligned { offset % 64 ≡ 0 }
     requires within { offset < 4096 }
@@ -117,7 +117,7 @@ pub(crate) fn area_in(page: &Page, offset: usize) -> Option<[u32; 16]>
     Some(words_from(&page.bytes, offset))
 }
 
-// Puts 16 words at an offset, each with its lowest byte first.
+// Writes 16 words from an offset on, each with its lowest byte first.
 fn put_words(bytes: &mut [u8; 4096], offset: usize, words: &[u32; 16])
     requires { offset + 64 ≤ 4096 }
     ensures { bytes.new ≡ bytes_with bytes.old offset words.now }
@@ -129,7 +129,8 @@ fn put_words(bytes: &mut [u8; 4096], offset: usize, words: &[u32; 16])
     }
 }
 
-// Puts 16 words at an offset where the one word of their bits says that all are mapped, and says whether it does.
+// Writes 16 words from an offset on if all are mapped, and returns whether they are. Their 64 bits
+// are one word.
 pub(crate) fn put_area(page: &mut Page, offset: usize, words: &[u32; 16]) -> bool
     requires aligned { offset % 64 ≡ 0 }
     requires within { offset < 4096 }
@@ -148,7 +149,8 @@ pub(crate) fn put_area(page: &mut Page, offset: usize, words: &[u32; 16]) -> boo
     mapped
 }
 
-// The first word of the 64 bytes from an offset on, where the one word of their bits says that all are mapped.
+// Returns the first word of the 64 bytes from an offset on if all are mapped. Their 64 bits are one
+// word.
 pub(crate) fn first_in(page: &Page, offset: usize) -> Option<u32>
     requires aligned { offset % 64 ≡ 0 }
     requires within { offset < 4096 }
@@ -164,7 +166,7 @@ pub(crate) fn first_in(page: &Page, offset: usize) -> Option<u32>
     }
 }
 
-// Whether the four bytes from an offset on are mapped.
+// Returns true if the four bytes from an offset on are mapped.
 fn is_word_mapped(page: &Page, offset: usize) -> bool
     requires { offset < 4096 }
     ensures { result ≡ are_set 4 page.now.mapped offset }
@@ -172,7 +174,7 @@ fn is_word_mapped(page: &Page, offset: usize) -> bool
     (page.mapped[offset / 64] >> (offset % 64)) % 16 == 15
 }
 
-// Whether the two bytes from an offset on are mapped.
+// Returns true if the two bytes from an offset on are mapped.
 fn is_half_mapped(page: &Page, offset: usize) -> bool
     requires { offset < 4096 }
     ensures { result ≡ are_set 2 page.now.mapped offset }
@@ -180,7 +182,7 @@ fn is_half_mapped(page: &Page, offset: usize) -> bool
     (page.mapped[offset / 64] >> (offset % 64)) % 4 == 3
 }
 
-// The word at an offset, where it is mapped.
+// Returns the word at an offset if it is mapped.
 pub(crate) fn mapped_word(page: &Page, offset: usize) -> Option<u32>
     requires { offset + 4 ≤ 4096 }
     ensures mapped { is_some result ≡ are_set 4 page.now.mapped offset }
@@ -193,7 +195,7 @@ pub(crate) fn mapped_word(page: &Page, offset: usize) -> Option<u32>
     }
 }
 
-// The halfword of the two bytes from an offset on, the lower byte first.
+// Returns the halfword of the two bytes from an offset on, the lower byte first.
 fn half_in(bytes: &[u8; 4096], offset: usize) -> u16
     requires { offset + 2 ≤ 4096 }
     ensures { result ≡ half_at bytes.now offset }
@@ -201,7 +203,7 @@ fn half_in(bytes: &[u8; 4096], offset: usize) -> u16
     u16::from_le_bytes([bytes[offset], bytes[offset + 1]])
 }
 
-// The halfword at an offset, where it is mapped.
+// Returns the halfword at an offset if it is mapped.
 pub(crate) fn mapped_half(page: &Page, offset: usize) -> Option<u16>
     requires { offset + 2 ≤ 4096 }
     ensures mapped { is_some result ≡ are_set 2 page.now.mapped offset }
@@ -214,7 +216,7 @@ pub(crate) fn mapped_half(page: &Page, offset: usize) -> Option<u16>
     }
 }
 
-// Puts a word at an offset where it is mapped, and says whether it is.
+// Writes a word at an offset if it is mapped, and returns whether it is.
 pub(crate) fn put_mapped_word(page: &mut Page, offset: usize, word: u32) -> bool
     requires { offset + 4 ≤ 4096 }
     ensures mapped { result ≡ are_set 4 page.old.mapped offset }
@@ -231,7 +233,7 @@ pub(crate) fn put_mapped_word(page: &mut Page, offset: usize, word: u32) -> bool
     mapped
 }
 
-// Puts a halfword into the two bytes from an offset on, the lower byte first.
+// Writes a halfword to the two bytes from an offset on, the lower byte first.
 fn put_half(bytes: &mut [u8; 4096], offset: usize, half: u16)
     requires { offset + 2 ≤ 4096 }
     ensures { bytes.new
@@ -243,7 +245,7 @@ fn put_half(bytes: &mut [u8; 4096], offset: usize, half: u16)
     bytes[offset + 1] = parts[1];
 }
 
-// Puts a halfword at an offset where it is mapped, and says whether it is.
+// Writes a halfword at an offset if it is mapped, and returns whether it is.
 pub(crate) fn put_mapped_half(page: &mut Page, offset: usize, half: u16) -> bool
     requires { offset + 2 ≤ 4096 }
     ensures mapped { result ≡ are_set 2 page.old.mapped offset }
@@ -269,7 +271,7 @@ fn mark_byte(mapped: &mut [u64; 64], offset: usize)
     mapped[offset / 64] |= 1u64 << (offset % 64);
 }
 
-// Sets the 64 bits from an offset on, which are one word.
+// Sets the 64 bits from an offset on, which are one word of the list.
 fn mark_block(mapped: &mut [u64; 64], offset: usize)
     requires aligned { offset % 64 ≡ 0 }
     requires within { offset < 4096 }
@@ -279,7 +281,7 @@ fn mark_block(mapped: &mut [u64; 64], offset: usize)
     mapped[offset / 64] = u64::MAX;
 }
 
-// Sets the bits from one offset on up to another.
+// Sets the bits from one offset on up to before another.
 fn mark_between(mapped: &mut [u64; 64], from: usize, to: usize)
     requires ordered { from ≤ to }
     requires within { to ≤ 4096 }
@@ -298,7 +300,7 @@ fn mark_between(mapped: &mut [u64; 64], from: usize, to: usize)
     }
 }
 
-// Sets the bits of the bytes of a page that a range has.
+// Sets the bits of the bytes that a range has in the page.
 pub(crate) fn mark_range(mapped: &mut [u64; 64], number: u32, range: &Range)
     ensures { (k : ℕ) → k < 4096
         → is_set mapped.new k

@@ -8,7 +8,7 @@ use crate::page::{Page, mark_range};
 use std::alloc::Global;
 use tcd_base::{NoMemory, Range};
 
-// The place of the page with this number, by a binary search.
+// Returns the place of the page with this number, by binary search.
 fn search_page(pages: &[Page], number: u32) -> Option<usize>
     requires { IsStrictlyIncreasing (map number_of pages.now) }
     ensures within { IfSome result (λ i. i < length pages.now) }
@@ -32,7 +32,7 @@ fn search_page(pages: &[Page], number: u32) -> Option<usize>
     None
 }
 
-// The place of the page with this number, which is looked for first at a place where it may be.
+// Returns the place of the page with this number, which is looked for at `near` first.
 pub(crate) fn find_near(pages: &[Page], number: u32, near: usize) -> Option<usize>
     requires { IsStrictlyIncreasing (map number_of pages.now) }
     ensures within { IfSome result (λ i. i < length pages.now) }
@@ -45,7 +45,8 @@ pub(crate) fn find_near(pages: &[Page], number: u32, near: usize) -> Option<usiz
     search_page(pages, number)
 }
 
-// Where the page with this number is if all pages between it and the first one, or the last one, are there.
+// Returns the place of the page with this number if all pages between it and the first one, or the
+// last one, are there. A guess that saves the search.
 fn likely_place(pages: &[Page], number: u32) -> usize {
     let count = pages.len();
     if count == 0 {
@@ -63,7 +64,7 @@ fn likely_place(pages: &[Page], number: u32) -> usize {
     }
 }
 
-// The place of the page with this number.
+// Returns the place of the page with this number.
 pub(crate) fn find_page(pages: &[Page], number: u32) -> Option<usize>
     requires { IsStrictlyIncreasing (map number_of pages.now) }
     ensures within { IfSome result (λ i. i < length pages.now) }
@@ -73,7 +74,7 @@ pub(crate) fn find_page(pages: &[Page], number: u32) -> Option<usize>
     find_near(pages, number, likely_place(pages, number))
 }
 
-// The bytes of a new page.
+// Returns the bytes of a new page.
 fn zeros() -> [u8; 4096]
     ensures size { length result ≡ 4096 }
     ensures zeros { (k : ℕ) → k < 4096 → slice_index result k ≡ 0 }
@@ -82,7 +83,7 @@ fn zeros() -> [u8; 4096]
     [0; 4096]
 }
 
-// The bits of a page in which nothing is mapped.
+// Returns the bits of a page in which nothing is mapped.
 fn no_bits() -> [u64; 64]
     ensures size { length result ≡ 64 }
     ensures clear { (k : ℕ) → k < 4096 → is_set result k ≡ false }
@@ -90,7 +91,7 @@ fn no_bits() -> [u64; 64]
     [0; 64]
 }
 
-// The page with this number, in which the bytes of the ranges are mapped.
+// Returns the page with this number in which the bytes of the ranges are mapped.
 fn page_of(number: u32, ranges: &[Range]) -> Page
     ensures number { result.number ≡ number }
     ensures page { IsPage result }
@@ -124,7 +125,7 @@ fn add_numbers(numbers: &mut Vec<u32>, range: &Range) -> Result<(), NoMemory>
     Ok(())
 }
 
-// The numbers of the pages in which the ranges have bytes, ascending.
+// Returns the numbers of the pages in which the ranges have bytes, ascending.
 fn page_numbers(alloc: Global, ranges: &[Range]) -> Result<Vec<u32>, NoMemory>
     ensures rising { IfOk result (λ v. IsStrictlyIncreasing v.items) }
     ensures all { IfOk result
@@ -139,7 +140,7 @@ fn page_numbers(alloc: Global, ranges: &[Range]) -> Result<Vec<u32>, NoMemory>
     Ok(numbers)
 }
 
-// The pages of the ranges.
+// Returns the pages of the ranges.
 pub(crate) fn pages_of(alloc: Global, ranges: &[Range]) -> Result<Vec<Page>, NoMemory>
     ensures pages { IfOk result (λ v. IsMem v.items) }
     ensures bytes { IfOk result (λ v. HasBytes (memory_of v.items)) }
