@@ -1,4 +1,4 @@
--- The save areas of a plan in a state: the used ones and the free ones, after saves and restores and at the start.
+-- The save areas of a plan in a state, after saves, restores and at the start.
 use Rattle.std.proofs.Common.{◌≡◌, ◌≢◌, ℕ, zero, suc, ◌+◌, ◌-◌, ◌^◌, ◌<◌, ◌≤◌, inr, Bool, true, false, cond, List, [], ◌∷◌, length, refl, sym, ap, ◌∙◌, subst, arith}
 use Rattle.std.proofs.lemmas.Bool.{le-ltb, lt-ltb, ltb-true}
 use Rattle.std.specs.Prelude.{nat_lt}
@@ -14,14 +14,15 @@ use Rattle.tc_machine.specs.PlanAreas.{links_up, first_link, plan_areas}
 use Rattle.tc_machine.specs.Safe.{Starts, ChainsAreWhole}
 use Rattle.tc_machine.proofs.PlanLaws.{length-links_up, Distinct-links_up, length-reverse_onto, place_of, link_address-area, some_link, link_lt}
 
--- the free areas are a chain, with the used ones they are the plan's, and the list's limit lies before the reserve
+-- the free areas are a chain, with the used ones they are the plan's, and the limit of the list is
+-- before the reserve
 pub record Areas (plan : PlanData) (mem : Memory) (fcx lcx : ℕ) (used free : List ℕ) : Type 0 where
   pub links : Links mem fcx free
   pub whole : reverse_onto used free ≡ plan_areas plan
   pub fcx_word : fcx < 2 ^ 32
   pub lcx_is : link_in lcx ≡ first_link plan + (plan.areas - plan.reserve)
 
--- the first free area, where one more may be used
+-- the first free area, if one more may be used
 pub record HasFree (plan : PlanData) (mem : Memory) (fcx lcx : ℕ) (used : List ℕ) : Type 0 where
   pub rest : List ℕ
   pub some : link_in fcx ≢ 0

@@ -45,7 +45,7 @@ nothing : (o : Option ℕ) (x : ℕ) → o ≡ None → o ≡ Some x → ⊥
 nothing o x none some = cc
 
 -- ---- one segment
--- no byte of it lies in the range
+-- no byte of the segment is in the range
 pub none_copied : (s : SegmentData) (r : Range) (m : Memory) → min (s.at + length s.bytes) (r.at + r.len) ≤ max s.at r.at → IsCopied (s ∷ []) r m m
 none_copied s r m beside = record {
   mapped = λ q. refl;
@@ -58,7 +58,7 @@ none_copied s r m beside = record {
   none = λ q e. refl;
 }
 
--- those that lie in it are written
+-- the bytes of the segment that are in the range are written
 pub segment_copied : (s : SegmentData) (r : Range) (start end f l : ℕ) (bytes : List ℕ) (m new : Memory) → IsWritten m start (take (l - f) (drop f bytes)) new → bytes ≡ s.bytes → start ≡ max s.at r.at → end ≡ min (s.at + length s.bytes) (r.at + r.len) → start < end → f ≡ start - s.at → l ≡ end - s.at →
     IsCopied (s ∷ []) r m new
 segment_copied s r start end f l bytes m new w same start_is end_is some f_is l_is =
@@ -88,7 +88,7 @@ segment_copied s r start end f l bytes m new w same start_is end_is some f_is l_
           ];
     }
 
--- ---- one segment after those behind it
+-- ---- one segment after the later ones
 no_segments : (r : Range) (m : Memory) → IsCopied [] r m m
 no_segments r m = record { mapped = λ q. refl; held = λ q b low high is e. cc; outside = λ q out. refl; none = λ q e. refl }
 

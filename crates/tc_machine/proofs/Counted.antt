@@ -6,7 +6,7 @@ use Rattle.std.specs.Option.{option_map}
 use Rattle.csa_chain.specs.Memory.{Memory}
 use Rattle.csa_chain.specs.Chain.{link_in, is_area, area_word, chain_within, chain}
 
--- how many links a chain of at most so many has, and n more
+-- the length of a chain of at most `most` links, plus n
 abbrev pub counted : ℕ → ℕ → Memory → ℕ → Option ℕ
 counted most n m word = option_map (λ ls. n + length ls) (chain_within most m word)
 
@@ -53,7 +53,7 @@ counted_more (suc most) rest n m word e ne mapped =
     rw (ne_eqb (link_in word) 0 ne, mapped) (more n (link_in word) (chain_within most m (area_word m (link_in word) 0)))
     ∙ ap (λ k. counted k (n + 1) m (area_word m (link_in word) 0)) same
 
--- ---- by the word that comes next in the chain, where its area is mapped
+-- ---- by the word that is next in the chain, if its area is mapped
 none_false : (b : Bool) (x : ℕ) → cond b (Some x) None ≡ None → b ≡ false
 none_false true x e = cc
 none_false false x e = refl

@@ -19,7 +19,7 @@ use Rattle.tc_machine.specs.Instructions.{trap, access_address, with_base, traps
 use Rattle.tc_machine.specs.Stepping.{is_taken, executed, done, step}
 use Rattle.tc_machine.specs.MachineLaws.{DeathChanges}
 
--- n is m after what it did: where it's dead, and not of Fcd, only the end changed
+-- n is m after an event: if it died, and not of Fcd, only the end changed
 abbrev OnlyEnd : Machine → Machine → Type 0
 OnlyEnd m n = (cause : Cause) → n.end ≡ Dead cause → cause ≢ Fcd → n ≡ record m { end = Dead cause }
 
@@ -33,7 +33,7 @@ only_died m cause other dead isnt = ap (λ (end : End). record m { end = end }) 
 of_fcd : (m n : Machine) → OnlyEnd m (died Fcd n)
 of_fcd m n cause dead other = absurd (other (let same : Dead cause ≡ Dead Fcd = sym dead in cc))
 
--- what comes next leaves a running machine running
+-- if the rest keeps a running machine running, so does the whole
 only_goes_on : (m s : Machine) (end : End) (next : Machine → Machine) → s.end ≡ end → ((n : Machine) → (next n).end ≡ n.end) → OnlyEnd m s → OnlyEnd m (goes_on end s next)
 only_goes_on m s Running next e keeps only = only_running m (next s) (keeps s ∙ e)
 only_goes_on m s (Dead cause) next e keeps only = only

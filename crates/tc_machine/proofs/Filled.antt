@@ -41,7 +41,7 @@ module _ (image : ImageData) where
   mapped_stays m x y (Some c) = is_mapped-with_byte m x c y
   mapped_stays m x y None = refl
 
-  -- where the image has nothing, nothing changes
+  -- if the image has no byte there, nothing changes
   none_stays : (m : Memory) (x y : ℕ) → image_byte image y ≡ None → map.get (with_some m x (image_byte image x)) y ≡ map.get m y
   none_stays m x y none =
       elim (cases_eq y x) [
@@ -127,7 +127,7 @@ module _ (at first n : ℕ) (m : Memory) where
   links_bytes h zero = h
   links_bytes h (suc k) = HasBytes-with_words (with_links at first n m k) (at + 64 * k) (next_link first n k ∷ []) (links_bytes h k)
 
-  -- what lies outside the links' own words
+  -- what is outside the links' own words
   pub links_outside : (k y : ℕ) → ((j : ℕ) → j < k → (y < at + 64 * j) ⊎ (at + 64 * j + 4 ≤ y)) → map.get (with_links at first n m k) y ≡ map.get m y
   unfolding with_links
   links_outside zero y out = refl

@@ -21,7 +21,7 @@ use Rattle.tc_machine.specs.Fetching.{fetched, mapped_bytes, shaped}
 use Rattle.tc_machine.specs.Instructions.{does, with_base, lowered, access_address}
 use Rattle.tc_machine.specs.Stepping.{is_taken, executed, done, step, keeps_of, used_of}
 
--- two states with the same memory and PCXI
+-- two states with equal memory and PCXI
 pub record Same (m n : Machine) : Type 0 where
   pub mem : n.mem ≡ m.mem
   pub pcxi : n.pcxi ≡ m.pcxi
@@ -97,7 +97,7 @@ unfolding step
 kept_areas m e shape n free at k =
     same_used m _ (same_then m m.end (λ m. then_ (done m e) (λ n. record n { psw = with_status n.psw e.status })) (through m (done m e) _ (same_done m e shape n free at k) (status_set (done m e) e (done m e).end)))
 
--- no interrupt is taken where interrupts are off, or its priority isn't above the current one
+-- no interrupt is taken if interrupts are disabled, or its priority isn't above the current one
 pub none_when_off : (m : Machine) (e : Event) → m.ie ≡ false → is_taken m e ≡ false
 none_when_off m e off = ap (λ (t : Bool). t && nat_lt m.ccpn e.irq) off
 

@@ -65,7 +65,7 @@ area_some at i some below aligned segment = omega arith
 area_below : (at areas i : ℕ) → at < 2 ^ 32 → at / 2 ^ 22 % 2 ^ 6 ≡ 0 → at % 2 ^ 22 + 64 * areas ≤ 2 ^ 22 → i < areas → at / 2 ^ 28 * 2 ^ 16 + at % 2 ^ 28 / 64 + i < 2 ^ 20
 area_below at areas i below segment fits lt = omega arith
 
--- where area i lies
+-- the address of area i
 pub link_address-area : {plan : PlanData} → IsPlan plan → (i : ℕ) → i < plan.areas → link_address (first_link plan + i) ≡ plan.csa_at + 64 * i
 link_address-area {plan = plan} ok i lt = let k = ok.areas in area_at plan.csa_at plan.areas i k.aligned k.in_segment k.fit lt
 

@@ -1,4 +1,4 @@
--- Saves and restores where they meet what they need.
+-- Saves and restores that succeed.
 use Rattle.std.proofs.Common.{◌≡◌, ◌≢◌, ℕ, ◌^◌, ◌<◌, Bool, true, false, cond, length, refl, ap, ◌∙◌, arith, ◌==◌}
 use Rattle.std.proofs.lemmas.Bool.{ne_eqb}
 use Rattle.csa_chain.specs.Chain.{link_in, is_area}
@@ -8,7 +8,7 @@ use Rattle.tc_machine.specs.declared.state.Machine.{Machine}
 use Rattle.tc_machine.specs.Machine.{died, goes_on, then_, moved}
 use Rattle.tc_machine.specs.Contexts.{context_of, saved, save, has_kind, restored, restore}
 
--- a save stands where the first free area is mapped and isn't the list's limit
+-- a save succeeds if the first free area is mapped and isn't the limit of the list
 pub save-is : (m : Machine) (upper : Bool) → link_in m.fcx ≢ 0 → is_area m.mem (link_in m.fcx) ≡ true → link_in m.fcx ≢ link_in m.lcx → save m upper ≡ saved m upper
 unfolding save
 save-is m upper some here last =
@@ -16,7 +16,7 @@ save-is m upper some here last =
     ∙ ap (λ t. cond t (cond (link_in m.fcx == link_in m.lcx) (died Fcd (saved m upper)) (saved m upper)) (died NoArea m)) here
     ∙ ap (λ t. cond t (died Fcd (saved m upper)) (saved m upper)) (ne_eqb _ _ last)
 
--- a restore stands where PCXI names a mapped area with a context of its kind
+-- a restore succeeds if PCXI names a mapped area with a context of its kind
 pub restore-is : (m : Machine) (upper : Bool) → link_in m.pcxi ≢ 0 → has_kind m upper ≡ true → is_area m.mem (link_in m.pcxi) ≡ true → restore m upper ≡ restored m upper
 unfolding restore
 restore-is m upper some kind here =

@@ -24,7 +24,8 @@ IsTarget (target.Reg r) = Unit {0}
 abbrev pub IsSize : ℕ → Type 0
 IsSize size = (size ≡ 1) ⊎ (size ≡ 2) ⊎ (size ≡ 4)
 
--- the numbers that may get into registers are words, the priority of BISR is one, and loads are of 1, 2 or 4 bytes
+-- the numbers that can get into registers are words, the priority of BISR is a byte, and loads are
+-- of 1, 2 or 4 bytes
 abbrev pub IsShape : Shape → Type 0
 IsShape (Compute op dst x y) = IsArg x × IsArg y
 IsShape (Load dst base offset size signed after) = IsSize size

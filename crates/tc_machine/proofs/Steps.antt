@@ -1,4 +1,4 @@
--- One step at a time: what an event of a running machine does, and what some instructions do.
+-- Laws of single steps: what an event of a running machine does, and what some instructions do.
 use Rattle.std.proofs.Common.{◌≡◌, ℕ, ◌/◌, ◌*◌, true, false, cond, set, Result, Ok, None, refl, ap, ◌∙◌}
 use Rattle.tc_isa.specs.declared.shapes.Target.{Target}
 use Rattle.tc_isa.specs.declared.shapes.Shape.{Shape}
@@ -14,7 +14,7 @@ use Rattle.tc_machine.specs.Instructions.{interrupt, target_of, does}
 use Rattle.tc_machine.specs.Stepping.{is_taken, executed, done, step, store_in, where_running, stored}
 use Rattle.tc_machine.proofs.Saves.{then_-running}
 
--- where no interrupt is taken, the instruction at pc is done
+-- if no interrupt is taken, the instruction at pc is executed
 pub done-is : (m : Machine) (e : Event) (shape : Shape) (n : ℕ) → is_taken m e ≡ false → fetched m ≡ Ok (shape, n) → done m e ≡ does m e shape n
 done-is m e shape n none at = ap (λ t. cond t (interrupt m e.irq) (executed m e (fetched m))) none ∙ ap (executed m e) at
 
@@ -32,7 +32,7 @@ step_does m e shape n here none at after =
     let is = done-is m e shape n none at in
     step-is m e here (ap (λ r. r.end) is ∙ after) ∙ ap (λ r. with_event r e) is
 
--- what stores is the instruction at pc, where the machine runs and no interrupt is taken
+-- what stores is the instruction at pc, if the machine runs and no interrupt is taken
 pub stored-is : (m : Machine) (e : Event) (found : Result (Shape × ℕ) Cause) → m.end ≡ Running → is_taken m e ≡ false → fetched m ≡ found → stored m e ≡ store_in m e found
 unfolding stored
 stored-is m e found here none at =

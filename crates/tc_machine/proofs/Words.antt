@@ -1,4 +1,4 @@
--- Words and bytes: what operations, loads and stores make of them.
+-- Bounds of words and bytes after operations, loads and stores.
 use Rattle.std.proofs.Common.{◌≡◌, ℕ, zero, suc, ◌+◌, ◌-◌, ◌*◌, ◌/◌, ◌%◌, ◌^◌, ◌<◌, inl, inr, Bool, true, false, not, cond, List, length, get_or, set, Option, Some, None, refl, sym, subst, ◌∙◌, arith, length-set, bit_and, bit_or, bit_xor, unwrap_or, ◌==◌, nat_lt, nat_le}
 use Rattle.std.proofs.lemmas.Bool.{cases_lt, cond_both}
 use Rattle.std.proofs.lemmas.List.{get_or_past}

@@ -11,7 +11,8 @@ use Rattle.tc_machine.specs.Machine.{died}
 abbrev pub context_of : Machine → Bool → List ℕ
 context_of m upper = if upper then upper_words_of m.pcxi m.psw m.d m.a else lower_words_of m.pcxi m.d m.a
 
--- The machine once a context has gone into the first free area. Word 0 of that area was the link of the next free one.
+-- The machine after a context was saved to the first free area. Word 0 of that area was the link of
+-- the next free one.
 abbrev pub saved : Machine → Bool → Machine
 saved m upper =
     let free = link_in m.fcx in
@@ -21,7 +22,8 @@ saved m upper =
       fcx = with_link m.fcx (link_in (area_word m.mem free 0));
     }
 
--- A save: it dies of an empty list, of an area that isn't mapped, and, once the save stands, of the list's limit.
+-- A save. The machine dies if the free list is empty or its first area isn't mapped. After the save
+-- it dies if the limit of the list is reached.
 unfoldable pub save : Machine → Bool → Machine
 save m upper =
     if link_in m.fcx == 0 then died Fcu m
@@ -29,11 +31,11 @@ save m upper =
     (if link_in m.fcx == link_in m.lcx then died Fcd (saved m upper) else saved m upper)
     else died NoArea m
 
--- PCXI tells that the last context saved is of this kind
+-- the last context that was saved is of this kind, as PCXI says
 abbrev pub has_kind : Machine → Bool → Bool
 has_kind m upper = if upper then ul_of m.core m.pcxi else not (ul_of m.core m.pcxi)
 
--- the machine once the area that PCXI names has gone back to the front of the free list
+-- the machine after the area that PCXI names was moved to the front of the free list
 abbrev pub released : Machine → Machine
 released m =
     let used = link_in m.pcxi in
@@ -47,11 +49,11 @@ released m =
 abbrev pub area_words : Memory → ℕ → List ℕ
 area_words mem link = map (area_word mem link) (0 ∷ 1 ∷ 2 ∷ 3 ∷ 4 ∷ 5 ∷ 6 ∷ 7 ∷ 8 ∷ 9 ∷ 10 ∷ 11 ∷ 12 ∷ 13 ∷ 14 ∷ 15 ∷ [])
 
--- those of the area that PCXI names
+-- the 16 words of the area that PCXI names
 abbrev pub last_context : Machine → List ℕ
 last_context m = area_words m.mem (link_in m.pcxi)
 
--- the machine once the upper context, PSW with it, has come back from that area
+-- the machine after the upper context, PSW included, was restored from the area that PCXI names
 abbrev pub restored_upper : Machine → Machine
 restored_upper m = record (released m) {
   psw = area_word m.mem (link_in m.pcxi) 1;
@@ -59,18 +61,19 @@ restored_upper m = record (released m) {
   a = a_after_upper (last_context m) m.a;
 }
 
--- the machine once the lower context has come back from that area
+-- the machine after the lower context was restored from the area that PCXI names
 abbrev pub restored_lower : Machine → Machine
 restored_lower m = record (released m) {
   d = d_after_lower (last_context m) m.d;
   a = a_after_lower (last_context m) m.a;
 }
 
--- the machine once the upper or the lower context has come back from that area
+-- the machine after the upper or the lower context was restored from the area that PCXI names
 abbrev pub restored : Machine → Bool → Machine
 restored m upper = if upper then restored_upper m else restored_lower m
 
--- a restore: it dies where there is no context, of one of the other kind, and of an area that isn't mapped
+-- a restore: the machine dies if there is no context, if it is of the other kind, or if its area
+-- isn't mapped
 unfoldable pub restore : Machine → Bool → Machine
 restore m upper =
     if link_in m.pcxi == 0 then died Csu m

@@ -12,7 +12,7 @@ use Rattle.tc_machine.specs.declared.events.Cause.{Cause}
 use Rattle.tc_machine.specs.declared.events.Cause.TheVariants.{NotListed, NoCode}
 use Rattle.tc_machine.specs.declared.state.Machine.{Machine}
 
--- a byte in front of others; none of them where it isn't mapped
+-- a byte before others; if it isn't mapped, none
 abbrev pub in_front : Option ℕ → List ℕ → List ℕ
 in_front None bytes = []
 in_front (Some b) bytes = b ∷ bytes
@@ -22,7 +22,7 @@ unfoldable pub mapped_bytes : ℕ → Memory → ℕ → List ℕ
 mapped_bytes zero m x = []
 mapped_bytes (suc n) m x = in_front (map.get m x) (mapped_bytes n m ((x + 1) % 2 ^ 32))
 
--- bytes that are the front of an instruction are no code; others that aren't listed are that
+-- bytes that are the beginning of an instruction are no code; others aren't listed
 abbrev pub cause_of : DecodeErr → Cause
 cause_of Short = NoCode
 cause_of _ = NotListed

@@ -1,5 +1,5 @@
--- What the definitions under the headline say, concluded from plain equations or told in them: the statements of the
--- guard laws. A definition that asked for more would break one of them.
+-- The guard laws: what the definitions under the headline say, in plain equations.
+-- A definition that requires more would break one of them.
 use Rattle.std.specs.Prelude.{◌≡◌, ◌≢◌, ◌↔◌, ℕ, zero, suc, ◌+◌, ◌-◌, ◌*◌, ◌/◌, ◌%◌, ◌^◌, ◌<◌, ◌≤◌, ◌⊎◌, ◌==◌, Bool, true, false, List, [], ◌∷◌, ◌++◌, length, reverse, map, slice_get, slice_index, All, Contains, Some, Ok}
 use Rattle.std.specs.FinMap as bytes
 use Rattle.csa_chain.specs.Memory.{Memory, is_mapped}
@@ -23,9 +23,9 @@ use Rattle.tc_machine.specs.Stepping.{is_taken, load_at_pc, step, run, stored}
 use Rattle.tc_machine.specs.Safe.{Starts, Fits, AllFit, Safe}
 
 -- ---- events
--- Every event fits whose interrupt is none or one of the plan's and whose input, where no interrupt is taken and a word
--- is loaded that lies in the range of a device, lies in that device's bounds. Its status is any byte, and a misaligned
--- access may trap or not.
+-- An event fits if its interrupt is none or one of the plan's, and its input is within bounds. If
+-- no interrupt is taken, these are the bounds of the device that has the loaded word. The status is
+-- any byte, and a misaligned access may trap or not.
 abbrev pub EveryEventFits : Type 0
 EveryEventFits =
     (plan : PlanData) (m : Machine) (irq input status : ℕ) (aln : Bool) → (irq ≡ 0) ⊎ Contains plan.irqs irq → input < 2 ^ 32 → status < 2 ^ 8
@@ -33,7 +33,7 @@ EveryEventFits =
     → d.range.at ≤ x → x + 4 ≤ d.range.at + d.range.len → (d.lo ≤ input) × (input ≤ d.hi))
     → Fits plan m (record { irq = irq; input = input; status = status; aln = aln })
 
--- the states of a run written out: each is the step of the one before
+-- a run, state by state: each state is the step of the one before
 abbrev pub IsRun : (ℕ → Machine) → (ℕ → Event) → Type 0
 IsRun states events = (k : ℕ) → states (suc k) ≡ step (states k) (events k)
 
@@ -42,15 +42,16 @@ abbrev pub first_events : ℕ → (ℕ → Event) → List Event
 first_events zero events = []
 first_events (suc n) events = events 0 ∷ first_events n (λ k. events (suc k))
 
--- Where each of the first n events fits the state that it meets, they all fit, and the run of them ends in the state n.
+-- If each of the first n events fits the state before it, they all fit, and their run ends in state
+-- n.
 abbrev pub EveryRunFits : Type 0
 EveryRunFits =
     (plan : PlanData) (states : ℕ → Machine) (events : ℕ → Event) (n : ℕ) → IsRun states events → ((k : ℕ) → k < n → Fits plan (states k) (events k))
     → AllFit plan (states 0) (first_events n events) × (run (states 0) (first_events n events) ≡ states n)
 
 -- ---- start states
--- Every machine starts the image under the plan whose fields are the stated ones: with any other registers, any other
--- bits of PSW and any other bytes.
+-- A machine starts the image under the plan if its fields are the stated ones. All other registers,
+-- bits of PSW and bytes can be anything.
 abbrev pub EveryStartStarts : Type 0
 EveryStartStarts =
     (image : ImageData) (plan : PlanData) (d a : List ℕ) (psw : ℕ) (mem : Memory) → IsImage image → IsPlan plan
@@ -81,14 +82,14 @@ EveryStartStarts =
     })
 
 -- ---- what is safe
--- The links that a word leads to: its low 20 bits name a mapped area of 64 bytes, whose word 0 leads to the next one; those
--- of the last are 0.
+-- The links that a word leads to: its low 20 bits name a mapped area of 64 bytes, whose word 0
+-- leads to the next one. The last area has 0 there.
 abbrev pub IsWalk : Memory → ℕ → List ℕ → Type 0
 IsWalk mem word [] = word % 2 ^ 20 ≡ 0
 IsWalk mem word (l ∷ ls) =
     (l ≢ 0) × (word % 2 ^ 20 ≡ l) × ((i : ℕ) → i < 64 → is_mapped mem (link_address l + i) ≡ true) × IsWalk mem (area_word mem l 0) ls
 
--- one of the ranges has the n addresses from x on
+-- the n addresses from x on are inside one of the ranges
 pub record LiesInRange (ranges : List Range) (x n : ℕ) : Type 0 where
   pub place : ℕ
   pub range : Range
@@ -96,10 +97,10 @@ pub record LiesInRange (ranges : List Range) (x n : ℕ) : Type 0 where
   pub from : range.at ≤ x
   pub to : x + n ≤ range.at + range.len
 
--- The five parts of what is safe, by the memory, PCXI and FCX: the machine runs; the words PCXI and FCX lead to two lists
--- of areas, in which each area of the plan has its one place, the used ones from the last to the first and then the free
--- ones; at most so many are used; the bytes at pc, in the memory and in the image, spell an instruction in one rom range;
--- and what the next event stores at lies in one range of ram or of a device.
+-- What is safe, in five parts. The machine runs. PCXI and FCX lead to two lists of areas: the used
+-- ones in reverse and then the free ones are the areas of the plan, each in its place. At most
+-- `most` are used. The bytes at pc, in memory and in the image, spell an instruction in one rom
+-- range. What the next event stores at is in one range of ram or of a device.
 pub record HasFiveParts (image : ImageData) (plan : PlanData) (most : ℕ) (m : Machine) (e : Event) : Type 0 where
   pub running : m.end ≡ Running
   pub used : List ℕ
@@ -117,14 +118,16 @@ pub record HasFiveParts (image : ImageData) (plan : PlanData) (most : ℕ) (m : 
   pub there : (i : ℕ) → i < length code → bytes.get m.mem (m.pc + i) ≡ Some (slice_index code i)
   pub store : (x n : ℕ) → stored m e ≡ Some (x, n) → (x + n ≤ 2 ^ 32) × (LiesInRange plan.ram x n ⊎ LiesInRange (map (λ d. d.range) plan.devices) x n)
 
--- what is safe has these parts at each state of each run that is written out, whatever event that fits comes next
+-- in each state of each run that is written out, and for each next event that fits, what is safe
+-- has these five parts
 abbrev pub SafeSays : Type 0
 SafeSays =
     (image : ImageData) (plan : PlanData) (most : ℕ) (states : ℕ → Machine) (events : ℕ → Event) (n : ℕ) (e : Event) → Safe image plan most
     → IsRun states events → Starts image plan (states 0) → ((k : ℕ) → k < n → Fits plan (states k) (events k)) → Fits plan (states n) e
     → HasFiveParts image plan most (states n) e
 
--- where no interrupt is taken, and the access is aligned or may be misaligned, a store instruction stores at its address
+-- if no interrupt is taken, and the access is aligned or doesn't trap, a store instruction stores
+-- at its address
 abbrev pub StoresTold : Type 0
 StoresTold =
     (m : Machine) (e : Event) (src : ℕ) (base : Arg) (offset size : ℕ) (after : Bool) (n : ℕ) → m.end ≡ Running → is_taken m e ≡ false

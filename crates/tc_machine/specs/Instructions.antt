@@ -15,11 +15,12 @@ use Rattle.tc_machine.specs.Contexts.{save, restore}
 use Rattle.csa_chain.specs.Memory.{load_number, with_bytes, extend}
 
 -- ---- entries of handlers
--- the stack pointer of a handler: the interrupt stack's, or A10 where that is in use already
+-- the stack pointer of a handler: the interrupt stack's, or A10 if that stack is in use already
 abbrev pub handler_stack : Machine → ℕ
 handler_stack m = if is_of m.psw then a10 m else m.isp
 
--- The saved machine at the entry of a handler that goes back to an address: A11, A10, PSW and IE are set.
+-- The machine at the entry of a handler that returns to an address, after the save: A11, A10, PSW
+-- and IE are set.
 abbrev pub at_handler : Machine → Machine → ℕ → ℕ → Machine
 at_handler m s back entry = record s {
   a = slice_set (slice_set s.a 11 back) 10 (handler_stack m);
@@ -48,7 +49,7 @@ abbrev pub with_base : Machine → Arg → ℕ → Bool → Machine
 with_base m (Reg r) offset after = if after then with_reg m r (moved (reg m r) offset) else m
 with_base m (Word w) offset after = m
 
--- an access traps where its address is no multiple of its size and the event says so
+-- an access traps if its address is no multiple of its size and the event says so
 abbrev pub traps_at : Event → ℕ → ℕ → Bool
 traps_at e x size = e.aln && not (x % size == 0)
 
@@ -57,11 +58,11 @@ abbrev pub misaligned : Machine → Machine
 misaligned m = trap m 2 4 m.pc
 
 -- ---- core registers
--- ICR: CCPN in bits 7:0, IE in bit 8, the rest from outside
+-- ICR: CCPN in bits 7:0, IE in bit 8, the other bits from the input
 abbrev pub icr_of : Machine → ℕ → ℕ
 icr_of m input = input / 2 ^ 9 * 2 ^ 9 + (if m.ie then 2 ^ 8 else 0) + m.ccpn
 
--- the core register of a number; others read as the event's input
+-- the core register with this number; any other number reads the event's input
 abbrev pub core_register : Machine → Event → ℕ → ℕ
 core_register m e number =
     if number == 0xfe00 then m.pcxi
@@ -74,7 +75,8 @@ core_register m e number =
     else if number == 0xfe3c then m.lcx
     else e.input
 
--- the machine with a word in that register; BIV and BTV drop bit 0, ICR takes bits 8:0, another number changes nothing
+-- the machine after a write to the core register with this number; BIV and BTV drop bit 0, ICR
+-- takes bits 8:0, any other number changes nothing
 abbrev pub with_core_register : Machine → ℕ → ℕ → Machine
 with_core_register m number w =
     if number == 0xfe00 then record m { pcxi = w }
@@ -88,13 +90,13 @@ with_core_register m number w =
     else m
 
 -- ---- instructions
--- where a jump or a call goes; bit 0 of a register's value is dropped
+-- the address that a jump or a call goes to; bit 0 of a register's value is dropped
 abbrev pub target_of : Machine → Target → ℕ
 target_of m (target.Rel by) = moved m.pc by
 target_of m (target.Abs x) = x
 target_of m (target.Reg r) = reg m r / 2 * 2
 
--- the machine after the branch's register was lowered by 1
+-- the machine after the branch's register was decremented by 1, if the branch does that
 abbrev pub lowered : Machine → ℕ → Bool → Machine
 lowered m x lowers = if lowers then with_reg m x (moved (reg m x) (2 ^ 32 - 1)) else m
 

@@ -1,14 +1,14 @@
--- Kinds of instructions, each of which one function does.
+-- Kinds of instructions, one for each function that executes them.
 use Rattle.tc_isa.specs.declared.shapes.Shape.{Shape}
 use Rattle.tc_isa.specs.declared.shapes.Shape.TheVariants.{Load, Store, Call, Ret, Rfe, Svlcx, Rslcx, Bisr, Enable, Disable, Syscall, Mfcr, Mtcr}
 
--- P of a load or a store; of other instructions nothing
+-- P for a load or a store; no statement for other instructions
 abbrev pub OnAccess : Shape → Type 0 → Type 0
 OnAccess (Load dst base offset size signed after) P = P
 OnAccess (Store src base offset size after) P = P
 OnAccess _ P = Unit {0}
 
--- P of an instruction that saves or restores a context; of others nothing
+-- P for an instruction that saves or restores a context; no statement for others
 abbrev pub OnContext : Shape → Type 0 → Type 0
 OnContext (Call to) P = P
 OnContext Ret P = P
@@ -19,7 +19,7 @@ OnContext (Bisr c) P = P
 OnContext (Syscall tin) P = P
 OnContext _ P = Unit {0}
 
--- P of an instruction on core registers or the interrupt system; of others nothing
+-- P for an instruction on core registers or the interrupt system; no statement for others
 abbrev pub OnSystem : Shape → Type 0 → Type 0
 OnSystem Enable P = P
 OnSystem Disable P = P

@@ -1,4 +1,4 @@
--- The machine: its state, what instructions and events do to it, where it starts, and when it's safe.
+-- Definitions of the machine: its state, instructions, events, start states, and safety.
 pub mod Machine
 pub mod Contexts
 pub mod Fetching

@@ -40,23 +40,23 @@ handler_psw psw = psw / 2 ^ 14 * 2 ^ 14 + 2 * 2 ^ 10 + 2 ^ 9 + psw % 2 ^ 8
 abbrev pub with_status : ℕ → ℕ → ℕ
 with_status psw status = status * 2 ^ 24 + psw % 2 ^ 24
 
--- the address that is so many bytes on
+-- the address by bytes after x, modulo 2 ^ 32
 abbrev pub moved : ℕ → ℕ → ℕ
 moved at by = (at + by) % 2 ^ 32
 
--- the machine after an instruction of n bytes that goes on with the next one
+-- the machine after an instruction of n bytes that is followed by the next one
 abbrev pub advanced : ℕ → Machine → Machine
 advanced n m = record m { pc = moved m.pc n }
 
--- a machine that dies: nothing else changes
+-- a machine that dies: only its end changes
 abbrev pub died : Cause → Machine → Machine
 died cause m = record m { end = Dead cause }
 
--- what comes next while the machine runs, and this machine once it's dead
+-- what follows if the machine still runs; a dead machine doesn't change
 abbrev pub goes_on : End → Machine → (Machine → Machine) → Machine
 goes_on Running m next = next m
 goes_on (Dead cause) m next = m
 
--- what comes next where the machine runs: a dead machine doesn't change
+-- what follows if the machine still runs; a dead machine doesn't change
 abbrev pub then_ : Machine → (Machine → Machine) → Machine
 then_ m next = goes_on m.end m next

@@ -7,7 +7,7 @@ abbrev pub links_up : ℕ → ℕ → List ℕ
 links_up link zero = []
 links_up link (suc n) = link ∷ links_up (link + 1) n
 
--- the link of the first area: its segment and its place there in areas
+-- the link of the first area: its segment, and its number in the segment
 abbrev pub first_link : PlanData → ℕ
 first_link p = p.csa_at / 2 ^ 28 * 2 ^ 16 + p.csa_at % 2 ^ 28 / 64
 

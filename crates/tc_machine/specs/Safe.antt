@@ -1,4 +1,4 @@
--- Which states start an image under a plan, which events fit, and when every run is safe.
+-- Start states, events that fit, and what safe means: the definitions under the headline.
 use Rattle.std.specs.Prelude.{◌≡◌, ℕ, ◌+◌, ◌-◌, ◌/◌, ◌%◌, ◌^◌, ◌<◌, ◌≤◌, ◌⊎◌, false, nat_lt, if◌then◌else◌, List, [], ◌∷◌, ◌++◌, length, reverse, slice_index, Some, IfSome, All, Contains}
 use Rattle.std.specs.FinMap as map
 use Rattle.csa_chain.specs.Memory.{Memory}
@@ -18,12 +18,12 @@ use Rattle.tcd_plan.specs.Regions.{AnswersLoad, IsStoreInRange}
 use Rattle.tc_mem.specs.PlanMemory.{HoldsRom, IsPlanMemory}
 use Rattle.tc_machine.specs.PlanAreas.{first_link, plan_areas}
 
--- 16 words
+-- 16 words below 2 ^ 32
 pub record AreRegisters (ws : List ℕ) : Type 0 where
   pub count : length ws ≡ 16
   pub words : All (λ w. w < 2 ^ 32) ws
 
--- words, addresses, bytes and truth values in the registers and the memory of a machine
+-- bounds of the registers and the memory of a machine: words, addresses, bytes and truth values
 pub record IsMachine (m : Machine) : Type 0 where
   pub d : AreRegisters m.d
   pub a : AreRegisters m.a
@@ -47,7 +47,7 @@ IsLinkedUp plan mem =
 abbrev pub HasGlobals : PlanData → List ℕ → Type 0
 HasGlobals plan a = slice_index a 0 ∷ slice_index a 1 ∷ slice_index a 8 ∷ slice_index a 9 ∷ [] ≡ plan.globals
 
--- A state that starts the image under the plan. All other bytes and registers are any.
+-- A state that starts the image under the plan. All other bytes and registers can be anything.
 pub record Starts (image : ImageData) (plan : PlanData) (m : Machine) : Type 0 where
   pub machine : IsMachine m
   pub memory : IsPlanMemory plan m.mem
@@ -69,20 +69,21 @@ pub record Starts (image : ImageData) (plan : PlanData) (m : Machine) : Type 0 w
   pub end : m.end ≡ Running
   pub core : m.core ≡ plan.core
 
--- An event that fits the plan and the state: its interrupt is none or a stated one, and, where no interrupt is taken, a
--- word that the instruction loads from a device lies in that device's bounds.
+-- An event that fits the plan and the state. Its interrupt is none or a stated one. If no interrupt
+-- is taken, a word that the instruction loads from a device is within that device's bounds.
 pub record Fits (plan : PlanData) (m : Machine) (e : Event) : Type 0 where
   pub irq : (e.irq ≡ 0) ⊎ Contains plan.irqs e.irq
   pub input : e.input < 2 ^ 32
   pub status : e.status < 2 ^ 8
   pub answers : is_taken m e ≡ false → AnswersLoad plan e.input (load_at_pc m)
 
--- each event fits the state that it meets
+-- each event fits the state before it
 abbrev pub AllFit : PlanData → Machine → List Event → Type 0
 AllFit plan m [] = Unit {0}
 AllFit plan m (e ∷ es) = Fits plan m e × AllFit plan (step m e) es
 
--- The areas, each once, are the used ones and the free ones; at most so many are in use.
+-- The areas of the plan, each once, are those of the used list and the free list, and at most
+-- `most` are in use.
 pub record ChainsAreWhole (plan : PlanData) (most : ℕ) (m : Machine) : Type 0 where
   pub used : List ℕ
   pub free : List ℕ
@@ -97,22 +98,23 @@ pub record SpellsAt (image : ImageData) (plan : PlanData) (p : ℕ) (bytes : Lis
   pub in_rom : IsInOne p (length bytes) plan.rom
   pub held : (i : ℕ) → i < length bytes → image_byte image (p + i) ≡ Some (slice_index bytes i)
 
--- the bytes at pc begin with a spelling in one rom range, held by segments, and have the image's values
+-- the bytes at pc spell an instruction in one rom range, are held by segments, and are the image's
 pub record IsAtCode (image : ImageData) (plan : PlanData) (m : Machine) : Type 0 where
   pub bytes : List ℕ
   pub inst : InstData
   pub spells : SpellsAt image plan m.pc bytes inst
   pub there : (i : ℕ) → i < length bytes → map.get m.mem (m.pc + i) ≡ Some (slice_index bytes i)
 
--- a state of a run, and what its next event may do
+-- what is safe in a state of a run, and about its next event
 pub record IsSafeAt (image : ImageData) (plan : PlanData) (most : ℕ) (m : Machine) (e : Event) : Type 0 where
   pub running : m.end ≡ Running
   pub chains : ChainsAreWhole plan most m
   pub code_in_rom : IsAtCode image plan m
   pub stores_in_range : IfSome (stored m e) (IsStoreInRange plan)
 
--- In every run from every start state, under every list of fitting events and every next one: the machine runs, the
--- areas are the used and the free list, at most so many are in use, the code lies in rom, and stores are in range.
+-- What is safe holds in every run from every start state, under every list of events that fit and
+-- every next one. The machine runs, and the areas are the used and the free list, of which at most
+-- `most` are in use. The code is in rom, and stores are in range.
 abbrev pub Safe : ImageData → PlanData → ℕ → Type 0
 Safe image plan most =
     (m : Machine) (es : List Event) (e : Event) → Starts image plan m → AllFit plan m es → Fits plan (run m es) e → IsSafeAt image plan most (run m es) e

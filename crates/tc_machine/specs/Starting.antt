@@ -1,4 +1,4 @@
--- The state that a machine is made in, and how its memory is filled.
+-- The state that a machine starts in, and how its memory is filled.
 use Rattle.std.specs.Prelude.{◌≡◌, ℕ, zero, suc, ◌+◌, ◌*◌, ◌/◌, ◌%◌, ◌^◌, ◌<◌, ◌≤◌, ◌⊎◌, Bool, true, nat_lt, if◌then◌else◌, List, [], ◌∷◌, ◌++◌, slice_index, Option, Some, None}
 use Rattle.std.specs.FinMap as map
 use Rattle.csa_chain.specs.Memory.{Memory, is_mapped, with_byte, with_words}
@@ -24,13 +24,13 @@ unfoldable pub with_image : ImageData → Memory → ℕ → ℕ → Memory
 with_image image m x zero = m
 with_image image m x (suc n) = with_some (with_image image m x n) (x + n) (image_byte image (x + n))
 
--- and in all of these ranges
+-- the memory with the image's bytes in all of these ranges
 abbrev pub with_images : ImageData → Memory → List Range → Memory
 with_images image m [] = m
 with_images image m (r ∷ rs) = with_images image (with_image image m r.at r.len) rs
 
--- The memory after the copy of segments' bytes into a range: each mapped byte of the range that a segment holds is its
--- byte, all else is as it was, and no byte is mapped or unmapped.
+-- The memory after the copy of segments' bytes into a range. Each mapped byte of the range that a
+-- segment holds is the segment's. All else is as it was, and no byte is mapped or unmapped.
 pub record IsCopied (segments : List SegmentData) (r : Range) (m new : Memory) : Type 0 where
   pub mapped : (q : ℕ) → is_mapped new q ≡ is_mapped m q
   pub held : (q b : ℕ) → r.at ≤ q → q < r.at + r.len → is_mapped m q ≡ true → byte_in segments q ≡ Some b → map.get new q ≡ Some b
@@ -41,7 +41,7 @@ pub record IsCopied (segments : List SegmentData) (r : Range) (m new : Memory) :
 abbrev pub next_link : ℕ → ℕ → ℕ → ℕ
 next_link first n i = if nat_lt (i + 1) n then first + (i + 1) else 0
 
--- the memory with the links of n areas in the first k of them, which lie from an address on
+-- the memory with links in the first k of n areas, from the address `at` on
 unfoldable pub with_links : ℕ → ℕ → ℕ → Memory → ℕ → Memory
 with_links at first n m zero = m
 with_links at first n m (suc k) = with_words (with_links at first n m k) (at + 64 * k) (next_link first n k ∷ [])
@@ -54,7 +54,7 @@ link_at at = at / 2 ^ 28 * 2 ^ 16 + at % 2 ^ 28 / 64
 abbrev pub mapped_ranges_of : List Range → List Range → ℕ → ℕ → List Range
 mapped_ranges_of rom ram at n = rom ++ ram ++ record { at = at; len = 64 * n } ∷ []
 
--- a memory made of zeros in those ranges, the image's bytes in rom, and the links
+-- a memory of zeros in those ranges, with the image's bytes in rom, and the links
 pub record IsFilled (image : ImageData) (rom ram : List Range) (at n : ℕ) (mem : Memory) : Type 0 where
   pub zeros : Memory
   pub are_zeros : IsZeros (mapped_ranges_of rom ram at n) zeros
@@ -72,9 +72,10 @@ a_at_start plan =
 abbrev pub psw_at_start : Bool → ℕ
 psw_at_start is = if is then 2 * 2 ^ 10 + 2 ^ 9 else 2 * 2 ^ 10
 
--- The state that starts the image under the plan, in which all that a start state may choose is 0: the registers that
--- the plan doesn't give, the other bits of PSW, the bytes of ram, those of rom that no segment holds, and the words of
--- the save areas that are no link.
+-- The state that starts the image under the plan, and in which all that a start state may choose is
+-- 0. These are the registers that the plan doesn't give, the other bits of PSW, and the bytes of
+-- ram. So are the rom bytes that no segment holds, and the words of the save areas that are no
+-- link.
 pub record StartsInZeros (image : ImageData) (plan : PlanData) (m : Machine) : Type 0 where
   pub starts : Starts image plan m
   pub d : m.d ≡ 0 ∷ 0 ∷ 0 ∷ 0 ∷ 0 ∷ 0 ∷ 0 ∷ 0 ∷ 0 ∷ 0 ∷ 0 ∷ 0 ∷ 0 ∷ 0 ∷ 0 ∷ 0 ∷ []

@@ -1,4 +1,4 @@
--- One event, and runs.
+-- Steps and runs.
 use Rattle.std.specs.Prelude.{ℕ, Bool, true, false, not, ◌&&◌, nat_lt, if◌then◌else◌, List, [], ◌∷◌, length, Option, Some, None, Result, Ok, Err}
 use Rattle.std.specs.Option.{option_map}
 use Rattle.csa_chain.specs.Chain.{chain}
@@ -14,11 +14,11 @@ use Rattle.tc_machine.specs.Machine.{died, then_, with_status}
 use Rattle.tc_machine.specs.Fetching.{fetched, mapped_bytes, shaped}
 use Rattle.tc_machine.specs.Instructions.{does, interrupt, access_address, traps_at}
 
--- the event's interrupt is taken: interrupts are on, and its priority is above the current one
+-- the event's interrupt is taken: interrupts are enabled, and its priority is above the current one
 abbrev pub is_taken : Machine → Event → Bool
 is_taken m e = m.ie && nat_lt m.ccpn e.irq
 
--- what the instruction found does
+-- the machine after the instruction that was found
 abbrev pub executed : Machine → Event → Result (Shape × ℕ) Cause → Machine
 executed m e (Ok found) = does m e found.0 found.1
 executed m e (Err cause) = died cause m
@@ -27,7 +27,8 @@ executed m e (Err cause) = died cause m
 abbrev pub done : Machine → Event → Machine
 done m e = if is_taken m e then interrupt m e.irq else executed m e (fetched m)
 
--- One event. A dead machine doesn't change; after an event that didn't end the machine the status byte is the event's.
+-- One event. A dead machine doesn't change. If the machine still runs after the event, the status
+-- byte of PSW is the event's.
 unfoldable pub step : Machine → Event → Machine
 step m e = then_ m (λ m. then_ (done m e) (λ n. record n { psw = with_status n.psw e.status }))
 
@@ -36,32 +37,32 @@ abbrev pub run : Machine → List Event → Machine
 run m [] = m
 run m (e ∷ es) = run (step m e) es
 
--- what was found, where the machine runs
+-- what was found, if the machine runs
 abbrev pub where_running : End → Option (ℕ × ℕ) → Option (ℕ × ℕ)
 where_running Running found = found
 where_running (Dead cause) found = None
 
--- the address and the size of the load that this instruction is
+-- the address and the size of the load that this instruction does
 abbrev pub load_in : Machine → Result (Shape × ℕ) Cause → Option (ℕ × ℕ)
 load_in m (Ok (Load dst base offset size signed after, n)) = Some (access_address m base offset after, size)
 load_in m _ = None
 
--- the address and the size of the load that the instruction at pc is
+-- the address and the size of the load that the instruction at pc does
 abbrev pub load_at_pc : Machine → Option (ℕ × ℕ)
 load_at_pc m = load_in m (fetched m)
 
--- The address and the size of the load that the bytes at pc are, whether pc is odd or even: none where the machine is
--- dead, where they decode to nothing, and where they are no load.
+-- The address and the size of the load that the bytes at pc do, whether pc is odd or even. There is
+-- none if the machine is dead, the bytes don't decode, or the instruction is no load.
 abbrev pub next_load_of : Machine → Option (ℕ × ℕ)
 next_load_of m = where_running m.end (load_in m (shaped (decoded_of (mapped_bytes 4 m.mem m.pc))))
 
--- how many areas the chain that begins in PCXI has: none where it has no end within 4,096 links or meets an area that
--- isn't mapped
+-- the length of the chain that begins in PCXI; none if it has more than 4,096 links or reaches an
+-- area that isn't mapped
 abbrev pub used_of : Machine → Option ℕ
 used_of m = option_map length (chain m.mem m.pcxi)
 
--- whether an instruction leaves the memory and PCXI as they are in every state: it is no store, saves and restores no
--- context, writes no core register, and can't trap
+-- an instruction never changes the memory or PCXI: it is no store, saves and restores no context,
+-- writes no core register, and can't trap
 abbrev pub keeps_of : Event → Shape → Bool
 keeps_of e (Load dst base offset size signed after) = not e.aln
 keeps_of e (Compute op dst x y) = true
@@ -74,22 +75,22 @@ keeps_of e Disable = true
 keeps_of e Nothing = true
 keeps_of e _ = false
 
--- what was found is an instruction that leaves them
+-- what was found is an instruction that never changes them
 abbrev pub keeps_found : Event → Result (Shape × ℕ) Cause → Bool
 keeps_found e (Ok found) = keeps_of e found.0
 keeps_found e (Err cause) = false
 
--- no interrupt is taken, and what was found at pc leaves the memory and PCXI as they are
+-- no interrupt is taken, and what was found at pc never changes the memory or PCXI
 abbrev pub keeps_at : Machine → Event → Result (Shape × ℕ) Cause → Bool
 keeps_at m e found = not (is_taken m e) && keeps_found e found
 
--- the address and the size that this instruction stores at, unless the access traps
+-- the address and the size that this instruction stores at, if the access doesn't trap
 abbrev pub store_in : Machine → Event → Result (Shape × ℕ) Cause → Option (ℕ × ℕ)
 store_in m e (Ok (Store src base offset size after, n)) =
     if traps_at e (access_address m base offset after) size then None else Some (access_address m base offset after, size)
 store_in m e _ = None
 
--- The address and the size that the step of this event stores at: none where the machine is dead, an interrupt or the
--- trap of a misaligned access is taken, or the instruction is no store.
+-- The address and the size that the step of this event stores at. There is none if the machine is
+-- dead, an interrupt or the trap of a misaligned access is taken, or the instruction is no store.
 unfoldable pub stored : Machine → Event → Option (ℕ × ℕ)
 stored m e = where_running m.end (if is_taken m e then None else store_in m e (fetched m))

@@ -1,4 +1,4 @@
-// Loads and stores.
+// Loads and stores of 1, 2 or 4 bytes. A byte that isn't mapped is read from the event's input.
 ghost use Rattle.std.specs.Prelude.{◌≡◌, ◌<◌, ◌%◌, ◌^◌, unwrap_or};
 ghost use Rattle.std.specs.Bool.{MatchBool};
 ghost use Rattle.std.specs.FinMap as map;
@@ -9,14 +9,14 @@ use crate::registers::ahead;
 use tc_mem::Mem;
 use tcd_base::sext;
 
-/// The byte at an address, or the low byte of the input where none is mapped.
+/// Returns the byte at an address, or the low byte of the input if it isn't mapped.
 fn byte(mem: &Mem, input: u32, addr: u32) -> u8
     ensures { result ≡ unwrap_or (map.get mem.now addr) (input % 2 ^ 8) }
 {
     mem.get(addr).unwrap_or((input % 256) as u8)
 }
 
-/// The two bytes from an address on, each looked up on its own.
+/// Returns the halfword at an address, byte by byte.
 #[tactic(auto, unfolding(csa_chain::specs::Memory::load_number))]
 fn half_by_bytes(mem: &Mem, input: u32, addr: u32) -> u16
     ensures { result ≡ load_number mem.now input addr 2 }
@@ -26,7 +26,7 @@ fn half_by_bytes(mem: &Mem, input: u32, addr: u32) -> u16
     u16::from(low) + 256 * u16::from(high)
 }
 
-/// The two bytes from an address on.
+/// Returns the halfword at an address.
 fn half(mem: &Mem, input: u32, addr: u32) -> u16
     ensures { result ≡ load_number mem.now input addr 2 }
 {
@@ -36,7 +36,7 @@ fn half(mem: &Mem, input: u32, addr: u32) -> u16
     }
 }
 
-/// The four bytes from an address on, each looked up on its own.
+/// Returns the word at an address, byte by byte.
 #[tactic(auto, unfolding(csa_chain::specs::Memory::load_number))]
 fn word_by_bytes(mem: &Mem, input: u32, addr: u32) -> u32
     ensures { result ≡ load_number mem.now input addr 4 }
@@ -47,7 +47,7 @@ fn word_by_bytes(mem: &Mem, input: u32, addr: u32) -> u32
     u32::from(low) + 256 * (u32::from(second) + 256 * u32::from(high))
 }
 
-/// The four bytes from an address on.
+/// Returns the word at an address.
 fn word(mem: &Mem, input: u32, addr: u32) -> u32
     ensures { result ≡ load_number mem.now input addr 4 }
 {
@@ -57,7 +57,7 @@ fn word(mem: &Mem, input: u32, addr: u32) -> u32
     }
 }
 
-/// The one byte from an address on, as a number.
+/// Returns the byte at an address, for a load.
 #[tactic(auto, unfolding(csa_chain::specs::Memory::load_number))]
 fn single(mem: &Mem, input: u32, addr: u32) -> u8
     ensures { result ≡ load_number mem.now input addr 1 }
@@ -65,7 +65,7 @@ fn single(mem: &Mem, input: u32, addr: u32) -> u8
     byte(mem, input, addr)
 }
 
-/// What a load of so many bytes from an address gives.
+/// Returns the value of a load of `size` bytes from an address, extended to a word.
 pub(crate) fn load(mem: &Mem, input: u32, addr: u32, size: u8, signed: bool) -> u32
     requires { IsSize size }
     ensures { result ≡ extend signed size (load_number mem.now input addr size) }
@@ -85,7 +85,7 @@ pub(crate) fn load(mem: &Mem, input: u32, addr: u32, size: u8, signed: bool) -> 
     }
 }
 
-/// Stores the low n bytes of a word from an address on, each on its own.
+/// Stores the low `n` bytes of a word from an address on, byte by byte.
 #[tactic(auto, unfolding(csa_chain::specs::Memory::with_bytes))]
 fn store_bytes(mem: &mut Mem, addr: u32, word: u32, n: u8)
     ensures { mem.new ≡ with_bytes mem.old addr word n }
@@ -96,7 +96,8 @@ fn store_bytes(mem: &mut Mem, addr: u32, word: u32, n: u8)
     }
 }
 
-/// Stores a word, or the low half of one, at once, where its bytes are in a block of the memory, and says whether it did.
+/// Stores a word, or its low half, in one step if its bytes are in one block of the memory. Returns
+/// whether it did.
 fn store_whole(mem: &mut Mem, addr: u32, word: u32, n: u8) -> bool
     ensures { MatchBool result (mem.new ≡ with_bytes mem.old addr word n) (mem.new ≡ mem.old) }
 {
@@ -107,7 +108,7 @@ fn store_whole(mem: &mut Mem, addr: u32, word: u32, n: u8) -> bool
     }
 }
 
-/// Stores the low n bytes of a word from an address on.
+/// Stores the low `n` bytes of a word from an address on.
 pub(crate) fn store(mem: &mut Mem, addr: u32, word: u32, n: u8)
     ensures { mem.new ≡ with_bytes mem.old addr word n }
 {

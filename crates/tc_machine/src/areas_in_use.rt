@@ -1,4 +1,4 @@
-// What a machine says of itself: the load that comes next, and how many areas are in use.
+// Questions about a machine: its next load, and the number of areas in use.
 ghost use Rattle.std.specs.Prelude.{◌≡◌, Ok, Some, None, IfOk, if◌then◌else◌};
 ghost use Rattle.std.specs.Bool.{OnTrue};
 ghost use Rattle.csa_chain.specs.Chain.{link_in, is_area, area_word};
@@ -12,7 +12,7 @@ use crate::{Cause, End, Event, Machine};
 use csa_chain::address_of;
 use tc_isa::Shape;
 
-/// Whether an instruction leaves the memory and PCXI as they are, whatever the state.
+/// Returns true if an instruction never changes the memory or PCXI.
 fn keeps(event: &Event, shape: Shape) -> bool
     ensures { result ≡ keeps_of event.now shape }
 {
@@ -26,7 +26,7 @@ fn keeps(event: &Event, shape: Shape) -> bool
 }
 
 impl Machine {
-    /// The address and the size in bytes of the load that an instruction is.
+    /// Returns the address and the size in bytes of the load that an instruction does.
     fn load_of(&self, shape: Shape) -> Option<(u32, u8)>
         requires { IsShape shape }
         ensures { result ≡ load_in self.now (Ok (shape, 0)) }
@@ -43,7 +43,7 @@ impl Machine {
         }
     }
 
-    /// The load that comes next, as `next_load` tells it, where this is what the bytes at pc do.
+    /// Returns the next load as `next_load` does; `found` is what the bytes at pc do.
     pub fn load_by(&self, found: &Result<(Shape, u32), Cause>) -> Option<(u32, u8)>
         requires found { found.now ≡ shaped (decoded_of (mapped_bytes 4 self.now.mem self.now.pc)) }
         requires bounded { IfOk found.now (λ it. IsShape it.0) }
@@ -58,15 +58,17 @@ impl Machine {
         }
     }
 
-    /// The address and the size in bytes of the load that the instruction at pc would do. None where the machine is
-    /// dead, the bytes there don't decode, or the instruction isn't a load.
+    /// Returns the address and the size in bytes of the load that the instruction at pc would do.
+    /// The answer is `None` if the machine is dead, the bytes there don't decode, or the
+    /// instruction is no load.
     pub fn next_load(&self) -> Option<(u32, u8)>
         ensures { result ≡ next_load_of self.now }
     {
         self.load_by(&self.shape_at_pc())
     }
 
-    /// Word 0 of the area that a word of a chain names. Its place in memory is looked for near the one before.
+    /// Returns word 0 of the area that a word of a chain names. The search in memory begins near
+    /// the last area's place.
     #[tactic(auto, using(crate::proofs::WholeAccesses::first_of_area))]
     fn word_after(&self, word: u32, near: &mut usize) -> Option<u32>
         ensures { result ≡
@@ -76,9 +78,9 @@ impl Machine {
         self.mem.first_word(address_of(link(word)), near)
     }
 
-    /// Whether an event leaves the memory and PCXI, and so the areas in use, as they are whatever the registers hold: no
-    /// interrupt is taken, and the instruction found at pc is no store, saves and restores no context, writes no core
-    /// register and can't trap. `found` is what the bytes at pc do.
+    /// Returns true if an event never changes the memory or PCXI, so that the areas in use stay. No
+    /// interrupt is taken, and `found`, which is what the bytes at pc do, is an instruction that
+    /// can't trap. It stores nothing, saves and restores no context and writes no core register.
     pub fn keeps_areas(&self, event: &Event, found: &Result<(Shape, u32), Cause>) -> bool
         requires { found.now ≡ shaped (decoded_of (mapped_bytes 4 self.now.mem self.now.pc)) }
         ensures is { result ≡ keeps_at self.now event.now found.now }
@@ -93,8 +95,8 @@ impl Machine {
         }
     }
 
-    /// How many areas are in use: the length of the chain from PCXI. None exactly where it doesn't end within 4,096
-    /// links, or meets an area that isn't wholly mapped.
+    /// Returns the number of areas in use: the length of the chain from PCXI. The answer is `None`
+    /// exactly if the chain has more than 4,096 links, or reaches an area that isn't wholly mapped.
     pub fn used(&self) -> Option<u32>
         ensures { result ≡ used_of self.now }
     {

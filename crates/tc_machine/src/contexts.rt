@@ -1,4 +1,4 @@
-// Saving and restoring contexts.
+// Saves and restores contexts.
 ghost use Rattle.std.specs.Prelude.{◌≡◌, ◌<◌, ◌%◌, ◌^◌, Some, None, if◌then◌else◌, slice_index, true, [], ◌∷◌, ◌+◌};
 ghost use Rattle.csa_chain.specs.Memory.{with_word};
 ghost use Rattle.csa_chain.specs.Chain.{link_in, link_address, is_area, area_word};
@@ -12,14 +12,14 @@ use csa_chain::{
 };
 use tc_mem::Mem;
 
-/// The link in bits 19:0 of a word.
+/// Returns the link in bits 19:0 of a word.
 pub(crate) fn link(word: u32) -> u32
     ensures { result ≡ link_in word }
 {
     word % 0x10_0000
 }
 
-/// Puts a word into the four bytes from an address on, one after another.
+/// Writes a word to the four bytes from an address on, byte by byte.
 #[tactic(auto, unfolding(csa_chain::specs::Memory::with_word))]
 fn put_bytes(mem: &mut Mem, addr: u32, word: u32)
     requires { addr + 3 < 2 ^ 32 }
@@ -31,7 +31,7 @@ fn put_bytes(mem: &mut Mem, addr: u32, word: u32)
     mem.set(addr + 3, (word / 16777216 % 256) as u8);
 }
 
-/// Puts a word into the four bytes from an address on.
+/// Writes a word to the four bytes from an address on.
 pub(crate) fn put_word(mem: &mut Mem, addr: u32, word: u32)
     requires { addr + 3 < 2 ^ 32 }
     ensures { mem.new ≡ with_word mem.old addr word }
@@ -43,7 +43,7 @@ pub(crate) fn put_word(mem: &mut Mem, addr: u32, word: u32)
 }
 
 impl Machine {
-    /// The words of the upper or the lower context.
+    /// Returns the words of the upper or the lower context.
     fn context(&self, upper: bool) -> [u32; 16]
         ensures { result ≡ context_of self.now upper }
     {
@@ -54,7 +54,7 @@ impl Machine {
         }
     }
 
-    /// PCXI once a context has gone into the area of a link.
+    /// Returns PCXI after a context was saved to the area of the link `free`.
     fn pcxi_after(&self, upper: bool, free: u32) -> u32
         ensures { result ≡ pcxi_word_of self.now.core self.now.ccpn self.now.ie upper
             (link_in free) }
@@ -70,7 +70,7 @@ impl Machine {
 }
 
 impl Machine {
-    /// The words of the area that a link names, where it is mapped.
+    /// Returns the words of the area that a link names, if it is mapped.
     #[tactic(auto, using(crate::proofs::ContextWords::area_of_words))]
     pub(crate) fn words_of(&self, named: u32) -> Option<[u32; 16]>
         requires { named < 2 ^ 20 }
@@ -80,7 +80,7 @@ impl Machine {
         self.mem.area(address_of(named))
     }
 
-    /// Puts the context into the area of the first free link, whose word 0 is the link of the next free one.
+    /// Saves the context to the first free area. Its word 0 was the link of the next one.
     fn save_to(&mut self, free: u32, next: u32, upper: bool)
         requires free { free ≡ link_in self.old.fcx }
         requires mapped { is_area self.old.mem free ≡ true }
@@ -93,8 +93,9 @@ impl Machine {
         self.fcx = self.fcx / 0x10_0000 * 0x10_0000 + link(next);
     }
 
-    /// Saves a context, or dies of an empty list, of an area that isn't mapped, or, once the save stands, of the list's
-    /// limit (TriCore 1 architecture manual, volume 1, context management).
+    /// Saves a context. The machine dies if the free list is empty or its first area isn't mapped.
+    /// After the save it dies if the limit of the list is reached.
+    /// (TriCore 1 architecture manual, volume 1, context management)
     #[tactic(auto, unfolding(crate::specs::Contexts::save))]
     pub(crate) fn save(&mut self, upper: bool)
         ensures { self.new ≡ save self.old upper }
@@ -115,7 +116,8 @@ impl Machine {
         }
     }
 
-    /// Gives the area that PCXI names back to the front of the free list; the word 0 that it had becomes PCXI.
+    /// Moves the area that PCXI names to the front of the free list. Its old word 0 is the new
+    /// PCXI.
     #[tactic(auto, unfolding(csa_chain::specs::Memory::with_words))]
     fn release(&mut self, used: u32, before: u32)
         requires used { used ≡ link_in self.old.pcxi }
@@ -127,7 +129,7 @@ impl Machine {
         self.fcx = self.fcx / 0x10_0000 * 0x10_0000 + used;
     }
 
-    /// Takes the registers of an upper context from the words of the area that PCXI names, and gives that area back.
+    /// Restores the upper registers from the words of the area that PCXI names, and frees the area.
     fn restore_upper(&mut self, used: u32, words: &[u32; 16])
         requires used { used ≡ link_in self.old.pcxi }
         requires words { words.now ≡ last_context self.old }
@@ -138,7 +140,7 @@ impl Machine {
         self.release(used, before);
     }
 
-    /// Takes the registers of a lower context from the words of the area that PCXI names, and gives that area back.
+    /// Restores the lower registers from the words of the area that PCXI names, and frees the area.
     fn restore_lower(&mut self, used: u32, words: &[u32; 16])
         requires used { used ≡ link_in self.old.pcxi }
         requires words { words.now ≡ last_context self.old }
@@ -148,8 +150,9 @@ impl Machine {
         self.release(used, before);
     }
 
-    /// Restores a context, or dies where there is none, of one of the other kind, or of an area that isn't mapped
-    /// (TriCore 1 architecture manual, volume 1, context management).
+    /// Restores a context. The machine dies if there is none, if it is of the other kind, or if its
+    /// area isn't mapped.
+    /// (TriCore 1 architecture manual, volume 1, context management)
     #[tactic(auto, unfolding(crate::specs::Contexts::restore))]
     pub(crate) fn restore(&mut self, upper: bool)
         ensures { self.new ≡ restore self.old upper }

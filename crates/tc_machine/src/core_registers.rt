@@ -20,7 +20,7 @@ const FCX: u16 = 0xfe38;
 
 const LCX: u16 = 0xfe3c;
 
-/// ICR: CCPN in bits 7:0, IE in bit 8, the rest from outside.
+/// Returns ICR: CCPN in bits 7:0, IE in bit 8, and the other bits from the input.
 fn icr(ccpn: u8, ie: bool, input: u32) -> u32
     ensures { result ≡ input / 2 ^ 9 * 2 ^ 9 + (if ie then 2 ^ 8 else 0) + ccpn }
 {
@@ -29,7 +29,7 @@ fn icr(ccpn: u8, ie: bool, input: u32) -> u32
 }
 
 impl Machine {
-    /// The core register of a number; others read as the event's input.
+    /// Returns the core register with this number. Any other number reads the event's input.
     pub(crate) fn core_register(&self, event: &Event, number: u16) -> u32
         ensures { result ≡ core_register self.now event.now number }
     {
@@ -46,8 +46,8 @@ impl Machine {
         }
     }
 
-    /// Puts a word into the core register of a number. BIV and BTV drop bit 0, ICR takes bits 8:0, another number
-    /// changes nothing.
+    /// Writes the core register with this number. BIV and BTV drop bit 0, ICR takes bits 8:0, and
+    /// any other number changes nothing.
     pub(crate) fn set_core_register(&mut self, number: u16, word: u32)
         ensures { self.new ≡ with_core_register self.old number word }
     {

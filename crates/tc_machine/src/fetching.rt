@@ -1,4 +1,4 @@
-// The instruction at pc.
+// Fetches and decodes the instruction at pc.
 ghost use Rattle.std.specs.Prelude.{◌≡◌, ◌<◌, ◌≤◌, IfOk};
 ghost use Rattle.tcd_base.specs.Bytes.{bytes_of_word};
 ghost use Rattle.tc_isa.specs.Bounded.{IsShape};
@@ -11,7 +11,7 @@ use tc_encode::{DecodeErr, decode};
 use tc_isa::{Inst, Shape, shape};
 use tc_mem::Mem;
 
-/// The instruction that the bytes begin with, and how many bytes it has.
+/// Returns the instruction that the bytes begin with, and its length in bytes.
 fn decode_front(bytes: &[u8]) -> Result<(Inst, usize), DecodeErr>
     ensures decoded { result ≡ decoded_of bytes.now }
     ensures small { IfOk result (λ found. found.1 ≤ 4) }
@@ -19,15 +19,15 @@ fn decode_front(bytes: &[u8]) -> Result<(Inst, usize), DecodeErr>
     decode(bytes)
 }
 
-/// The bytes of a word, the lowest first.
+/// Returns the bytes of a word, the lowest first.
 fn word_bytes(word: u32) -> [u8; 4]
     ensures { result ≡ bytes_of_word word }
 {
     word.to_le_bytes()
 }
 
-/// The instruction that at most four mapped bytes from an address on begin with, each looked up on its own, and how
-/// many bytes it has.
+/// Decodes the instruction that at most four mapped bytes from an address on begin with, read byte
+/// by byte. Returns its length in bytes too.
 #[tactic(auto, unfolding(crate::specs::Fetching::mapped_bytes))]
 fn decode_by_bytes(mem: &Mem, addr: u32) -> Result<(Inst, usize), DecodeErr>
     ensures decoded { result ≡ decoded_of (mapped_bytes 4 mem.now addr) }
@@ -50,7 +50,8 @@ fn decode_by_bytes(mem: &Mem, addr: u32) -> Result<(Inst, usize), DecodeErr>
     decode_front(&[a, b, c, d])
 }
 
-/// The instruction that at most four mapped bytes from an address on begin with, and how many bytes it has.
+/// Decodes the instruction that at most four mapped bytes from an address on begin with. Returns
+/// its length in bytes too.
 fn decode_at(mem: &Mem, addr: u32) -> Result<(Inst, usize), DecodeErr>
     ensures decoded { result ≡ decoded_of (mapped_bytes 4 mem.now addr) }
     ensures small { IfOk result (λ found. found.1 ≤ 4) }
@@ -61,7 +62,7 @@ fn decode_at(mem: &Mem, addr: u32) -> Result<(Inst, usize), DecodeErr>
     }
 }
 
-/// Why a machine dies where the bytes are no instruction.
+/// Returns why a machine dies if its bytes are no instruction.
 fn cause(e: DecodeErr) -> Cause
     ensures { result ≡ cause_of e }
 {
@@ -72,7 +73,8 @@ fn cause(e: DecodeErr) -> Cause
 }
 
 impl Machine {
-    /// What the bytes at pc do, be it odd or even, and how many bytes that instruction has.
+    /// Returns what the bytes at pc do, and the length of the instruction in bytes. Here pc may be
+    /// odd.
     pub fn shape_at_pc(&self) -> Result<(Shape, u32), Cause>
         ensures shape { result ≡ shaped (decoded_of (mapped_bytes 4 self.now.mem self.now.pc)) }
         ensures bounded { IfOk result (λ found. IsShape found.0) }
@@ -83,7 +85,8 @@ impl Machine {
         }
     }
 
-    /// The instruction at pc, where this is what the bytes there do; there is none at an odd address.
+    /// Returns the instruction at pc; `found` is what the bytes there do. At an odd address there
+    /// is none.
     #[tactic(auto, unfolding(crate::specs::Fetching::fetched))]
     pub(crate) fn fetch(&self, found: Result<(Shape, u32), Cause>) -> Result<(Shape, u32), Cause>
         requires found { found ≡ shaped (decoded_of (mapped_bytes 4 self.now.mem self.now.pc)) }

@@ -1,4 +1,4 @@
-// How the memory of a start state is filled.
+// Fills the memory of a start state.
 ghost use Rattle.std.specs.Prelude.{◌≡◌, ◌<◌, ◌≤◌, ◌+◌, ◌*◌, ◌^◌, [], ◌∷◌, ◌++◌, map, length, All, IsTrue, IfOk};
 ghost use Rattle.std.specs.List.{list_all};
 ghost use Rattle.elf_image.specs.Images.{segment_data, is_segment};
@@ -11,7 +11,7 @@ use std::alloc::Global;
 use tc_mem::Mem;
 use tcd_base::{NoMemory, Range};
 
-/// The mapped ranges: rom, ram and the save areas.
+/// Returns the mapped ranges: rom, ram and the save areas.
 fn mapped_ranges(
     alloc: Global,
     rom: &[Range],
@@ -27,7 +27,7 @@ fn mapped_ranges(
     Ok(ranges)
 }
 
-/// Puts the bytes of a segment that lie in a range there.
+/// Copies the bytes of a segment that are in a range.
 fn copy_segment(mem: &mut Mem, segment: &Segment, range: &Range)
     requires segment { segment.now.at + length segment.now.bytes.items ≤ 2 ^ 32 }
     requires range { range.now.at + range.now.len ≤ 2 ^ 32 }
@@ -44,7 +44,7 @@ fn copy_segment(mem: &mut Mem, segment: &Segment, range: &Range)
     }
 }
 
-/// Puts the bytes of segments that lie in a range there, those of the first segment last.
+/// Copies the bytes of segments that are in a range, those of the first segment last.
 fn copy_segments(mem: &mut Mem, segments: &[Segment], range: &Range)
     requires segments { IsTrue (list_all is_segment (map segment_data segments.now)) }
     requires range { range.now.at + range.now.len ≤ 2 ^ 32 }
@@ -58,7 +58,7 @@ fn copy_segments(mem: &mut Mem, segments: &[Segment], range: &Range)
     }
 }
 
-/// Puts the image's bytes into a range.
+/// Copies the image's bytes into a range.
 fn copy_range(mem: &mut Mem, image: &Image, range: &Range)
     requires { range.now.at + range.now.len ≤ 2 ^ 32 }
     ensures copied { mem.new ≡ with_image image.now mem.old range.now.at range.now.len }
@@ -67,7 +67,7 @@ fn copy_range(mem: &mut Mem, image: &Image, range: &Range)
     copy_segments(mem, &image.segments, range);
 }
 
-/// Puts the image's bytes into the ranges.
+/// Copies the image's bytes into the ranges.
 fn copy_image(mem: &mut Mem, image: &Image, ranges: &[Range])
     requires { All (λ r. r.at + r.len ≤ 2 ^ 32) ranges.now }
     ensures copied { mem.new ≡ with_images image.now mem.old ranges.now }
@@ -78,7 +78,7 @@ fn copy_image(mem: &mut Mem, image: &Image, ranges: &[Range])
     }
 }
 
-/// The link of the area after area i of n: 0 after the last one.
+/// Returns the link of the area after area `i` of `n`, or 0 after the last one.
 fn next_link(first: u32, n: u32, i: u32) -> u32
     requires i { i < n }
     requires first { first + n < 2 ^ 32 }
@@ -87,7 +87,7 @@ fn next_link(first: u32, n: u32, i: u32) -> u32
     if i + 1 < n { first + (i + 1) } else { 0 }
 }
 
-/// Links up n areas, which lie from an address on, the first of them at this link.
+/// Links `n` areas from the address `at` on; `first` is the link of the first.
 #[tactic(auto, unfolding(crate::specs::Starting::with_links, csa_chain::specs::Memory::with_words))]
 fn link_areas(mem: &mut Mem, at: u32, first: u32, n: u32)
     requires areas { at + 64 * n ≤ 2 ^ 32 }
@@ -99,15 +99,15 @@ fn link_areas(mem: &mut Mem, at: u32, first: u32, n: u32)
     }
 }
 
-/// The link of the area at an address.
+/// Returns the link of the area at an address.
 pub(crate) fn area_link(at: u32) -> u32
     ensures { result ≡ link_at at }
 {
     at / 0x1000_0000 * 0x1_0000 + at % 0x1000_0000 / 64
 }
 
-/// The memory of a start state: zeros in rom, ram and n save areas from an address on, in rom the image's bytes, and
-/// in each area the link of the next one.
+/// Returns the memory of a start state: zeros in rom, ram and `n` save areas, then the image's
+/// bytes in rom, and in each area the link of the next one.
 pub(crate) fn filled(
     alloc: Global,
     image: &Image,

@@ -1,11 +1,11 @@
-// Entries of handlers.
+// Enters handlers of interrupts and traps.
 ghost use Rattle.std.specs.Prelude.{◌≡◌, ◌<◌, ◌*◌, ◌^◌, slice_set, false};
 ghost use Rattle.tc_machine.specs.Machine.{is_of, handler_psw, moved};
 ghost use Rattle.tc_machine.specs.Instructions.{handler_stack, interrupt, trap};
 
 use crate::{End, Machine};
 
-/// PSW in a handler.
+/// Returns PSW in a handler.
 fn psw_of_handler(psw: u32) -> u32
     ensures { result ≡ handler_psw psw }
 {
@@ -13,7 +13,8 @@ fn psw_of_handler(psw: u32) -> u32
 }
 
 impl Machine {
-    /// The stack pointer of a handler: the interrupt stack's, or A10 where that is in use already.
+    /// Returns the stack pointer of a handler: the interrupt stack's, or A10 if that stack is in
+    /// use already.
     fn stack_of_handler(&self) -> u32
         ensures { result ≡ handler_stack self.now }
     {
@@ -24,7 +25,7 @@ impl Machine {
         }
     }
 
-    /// Goes to a handler that goes back to an address.
+    /// Enters a handler that returns to the address `back`.
     fn enter(&mut self, back: u32, entry: u32, stack: u32, psw: u32)
         ensures { self.new ≡ record self.old {
           a = slice_set (slice_set self.old.a 11 back) 10 stack;
@@ -58,7 +59,8 @@ impl Machine {
         }
     }
 
-    /// Takes a trap of a class, with its identification number in D15 (TriCore 1 architecture manual, volume 1, traps).
+    /// Takes a trap of a class, with its identification number in D15 (TriCore 1 architecture
+    /// manual, volume 1, traps).
     pub(crate) fn trap(&mut self, class: u8, tin: u8, back: u32)
         ensures { self.new ≡ trap self.old class tin back }
     {

@@ -1,4 +1,4 @@
-// What each instruction does.
+// Executes instructions.
 ghost use Rattle.std.specs.Prelude.{◌≡◌, ◌<◌};
 ghost use Rattle.tc_isa.specs.Bounded.{IsShape, IsArg, IsTarget, IsSize};
 ghost use Rattle.tc_machine.specs.declared.events.Event.{Event};
@@ -12,7 +12,8 @@ use crate::{End, Event, Machine};
 use csa_chain::pcxi_parts;
 use tc_isa::{Arg, Cond, Op, Shape, Target, alu, taken};
 
-/// A load's or a store's operand, offset and size in bytes, and whether the base register is increased afterwards.
+/// The operand, offset and size in bytes of a load or a store, and whether the base register is
+/// increased afterwards.
 #[derive(Clone, Copy)]
 struct Access {
     base: Arg,
@@ -21,7 +22,7 @@ struct Access {
     after: bool,
 }
 
-/// A branch's condition, with the register and the operand that it compares.
+/// The condition of a branch, with the register and the operand that it compares.
 #[derive(Clone, Copy)]
 struct Comparison {
     cond: Cond,
@@ -30,7 +31,7 @@ struct Comparison {
 }
 
 impl Machine {
-    /// An operation on two words.
+    /// Executes an operation on two words.
     #[tactic(auto, unfolding(crate::specs::Instructions::does))]
     fn compute(&mut self, op: Op, dst: u8, x: Arg, y: Arg, n: u32)
         requires { IsShape (Shape.Compute op dst x y) }
@@ -41,7 +42,7 @@ impl Machine {
         self.advance(n);
     }
 
-    /// A base plus a shifted index.
+    /// Executes the sum of a base and a shifted index.
     #[tactic(auto, unfolding(crate::specs::Instructions::does))]
     fn scaled(&mut self, dst: u8, base: u8, index: u8, k: u8, n: u32)
         requires { IsShape (Shape.Scaled dst base index k) }
@@ -53,7 +54,7 @@ impl Machine {
         self.advance(n);
     }
 
-    /// A load, or the trap of a misaligned one.
+    /// Executes a load, or takes the trap of a misaligned one.
     #[tactic(auto, unfolding(crate::specs::Instructions::does))]
     fn load(&mut self, event: &Event, dst: u8, at: Access, signed: bool, n: u32)
         requires { IsShape (Shape.Load dst at.base at.offset at.size signed at.after) }
@@ -71,7 +72,7 @@ impl Machine {
         self.advance(n);
     }
 
-    /// A store, or the trap of a misaligned one.
+    /// Executes a store, or takes the trap of a misaligned one.
     #[tactic(auto, unfolding(crate::specs::Instructions::does))]
     fn store(&mut self, event: &Event, src: u8, at: Access, n: u32)
         requires { IsShape (Shape.Store src at.base at.offset at.size at.after) }
@@ -89,7 +90,7 @@ impl Machine {
         self.advance(n);
     }
 
-    /// A branch, taken or not.
+    /// Executes a branch, which is taken or not.
     #[tactic(auto, unfolding(crate::specs::Instructions::does))]
     fn branch(&mut self, test: Comparison, by: u32, lowers: bool, n: u32)
         requires { IsShape (Shape.Branch test.cond test.x test.y by lowers) }
@@ -102,7 +103,7 @@ impl Machine {
         self.advance(distance);
     }
 
-    /// A call.
+    /// Executes a call.
     #[tactic(auto, unfolding(crate::specs::Instructions::does))]
     fn call(&mut self, to: Target, n: u32)
         requires { IsShape (Shape.Call to) }
@@ -120,7 +121,7 @@ impl Machine {
         }
     }
 
-    /// A return from a call.
+    /// Executes a return from a call.
     #[tactic(auto, unfolding(crate::specs::Instructions::does))]
     fn go_back(&mut self, n: u32)
         ensures { (event : Event) → self.new ≡ does self.old event Shape.Ret n }
@@ -133,7 +134,7 @@ impl Machine {
         }
     }
 
-    /// A return from a handler, which takes IE and CCPN from PCXI.
+    /// Executes a return from a handler, which restores IE and CCPN from PCXI.
     #[tactic(auto, unfolding(crate::specs::Instructions::does))]
     fn leave_handler(&mut self, n: u32)
         ensures { (event : Event) → self.new ≡ does self.old event Shape.Rfe n }
@@ -151,7 +152,7 @@ impl Machine {
         }
     }
 
-    /// A save of the lower context.
+    /// Executes a save of the lower context.
     #[tactic(auto, unfolding(crate::specs::Instructions::does))]
     fn save_lower(&mut self, n: u32)
         ensures { (event : Event) → self.new ≡ does self.old event Shape.Svlcx n }
@@ -163,7 +164,7 @@ impl Machine {
         }
     }
 
-    /// A restore of the lower context.
+    /// Executes a restore of the lower context.
     #[tactic(auto, unfolding(crate::specs::Instructions::does))]
     fn take_lower(&mut self, n: u32)
         ensures { (event : Event) → self.new ≡ does self.old event Shape.Rslcx n }
@@ -175,7 +176,7 @@ impl Machine {
         }
     }
 
-    /// A save of the lower context, with a new priority and interrupts on.
+    /// Executes `bisr`: saves the lower context, sets CCPN and enables interrupts.
     #[tactic(auto, unfolding(crate::specs::Instructions::does))]
     fn begin_interruptible(&mut self, c: u8, n: u32)
         ensures { (event : Event) → self.new ≡ does self.old event (Shape.Bisr c) n }
@@ -193,7 +194,7 @@ impl Machine {
 }
 
 impl Machine {
-    /// What a load or a store does.
+    /// Executes a load or a store.
     #[tactic(auto, unfolding(crate::specs::Instructions::does))]
     fn execute_access(&mut self, event: &Event, shape: Shape, n: u32)
         requires { IsShape shape }
@@ -235,7 +236,7 @@ impl Machine {
         }
     }
 
-    /// What an instruction does that saves or restores a context.
+    /// Executes an instruction that saves or restores a context.
     #[tactic(auto, unfolding(crate::specs::Instructions::does))]
     fn execute_context(&mut self, event: &Event, shape: Shape, n: u32)
         requires { IsShape shape }
@@ -253,7 +254,7 @@ impl Machine {
         }
     }
 
-    /// What an instruction on core registers or the interrupt system does.
+    /// Executes an instruction on core registers or the interrupt system.
     #[tactic(auto, unfolding(crate::specs::Instructions::does))]
     fn execute_system(&mut self, event: &Event, shape: Shape, n: u32)
         requires { IsShape shape }
@@ -281,7 +282,8 @@ impl Machine {
         }
     }
 
-    /// What an instruction of n bytes does (TriCore 1 architecture manual, volume 2, instruction set).
+    /// Executes an instruction of `n` bytes (TriCore 1 architecture manual, volume 2, instruction
+    /// set).
     #[tactic(auto, unfolding(crate::specs::Instructions::does))]
     pub(crate) fn execute(&mut self, event: &Event, shape: Shape, n: u32)
         requires { IsShape shape }

@@ -1,9 +1,10 @@
-// What holds of machines whatever the program is, and what the definitions under the headline say in plain equations.
+// Laws of the machine for all programs, and laws that pin the definitions under the headline.
 
 ghost use Rattle.tc_machine.specs.Guards.{EveryEventFits, EveryRunFits, EveryStartStarts, SafeSays, StoresTold};
 ghost use Rattle.tc_machine.specs.MachineLaws.{StartsWhole, FetchesSpelled, SaveStands, RestoreStands, StepDoes, DeathChanges, StepStays, RunStays};
 
-/// What holds of the machine's areas at the start, of what it fetches, and of saves, restores, steps and deaths.
+/// The laws of the machine: its areas at the start, what it fetches, saves, restores, steps and
+/// deaths.
 pub fn machine_laws()
     ensures start { StartsWhole }
     ensures fetch { FetchesSpelled }
@@ -15,7 +16,8 @@ pub fn machine_laws()
     ensures runs { RunStays }
 {}
 
-/// Which events fit, which machines start and what is safe, each from plain equations.
+/// The laws that pin the definitions: which events fit, which machines start, and what is safe,
+/// each in plain equations.
 pub fn guard_laws()
     ensures events { EveryEventFits }
     ensures runs { EveryRunFits }

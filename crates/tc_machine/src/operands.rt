@@ -8,7 +8,8 @@ use crate::registers::ahead;
 use crate::{Event, Machine};
 use tc_isa::{Arg, Target};
 
-/// Whether an access traps: its address is no multiple of its size, and the event says so.
+/// Returns true if an access traps: its address is no multiple of its size, and the event says that
+/// such accesses trap.
 pub(crate) fn traps(event: &Event, addr: u32, size: u8) -> bool
     requires { IsSize size }
     ensures { result ≡ traps_at event.now addr size }
@@ -17,7 +18,7 @@ pub(crate) fn traps(event: &Event, addr: u32, size: u8) -> bool
 }
 
 impl Machine {
-    /// The address of an access.
+    /// Returns the address of an access.
     pub(crate) fn access(&self, base: Arg, offset: u32, after: bool) -> u32
         requires { IsArg base }
         ensures { result ≡ access_address self.now base offset after }
@@ -45,7 +46,7 @@ impl Machine {
         }
     }
 
-    /// Where a jump or a call goes.
+    /// Returns the address that a jump or a call goes to.
     pub(crate) fn target(&self, to: Target) -> u32
         requires { IsTarget to }
         ensures { result ≡ target_of self.now to }
@@ -57,7 +58,7 @@ impl Machine {
         }
     }
 
-    /// Lowers the register of a branch by 1, where the branch does that.
+    /// Decrements the register of a branch by 1, if the branch does that.
     pub(crate) fn lower(&mut self, x: u8, lowers: bool)
         requires { x < 32 }
         ensures { self.new ≡ lowered self.old x lowers }

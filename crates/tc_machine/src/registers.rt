@@ -1,4 +1,4 @@
-// Registers and operands.
+// Reads and writes registers and operands.
 ghost use Rattle.std.specs.Prelude.{◌≡◌, ◌<◌};
 ghost use Rattle.tc_isa.specs.Bounded.{IsArg};
 ghost use Rattle.tc_machine.specs.Machine.{reg, with_reg, arg, moved, advanced, died};
@@ -6,7 +6,7 @@ ghost use Rattle.tc_machine.specs.Machine.{reg, with_reg, arg, moved, advanced, 
 use crate::{Cause, End, Machine};
 use tc_isa::Arg;
 
-/// The address that is so many bytes on.
+/// Returns the address `by` bytes after `at`, modulo 2^32.
 pub(crate) fn ahead(at: u32, by: u32) -> u32
     ensures { result ≡ moved at by }
 {
@@ -14,7 +14,7 @@ pub(crate) fn ahead(at: u32, by: u32) -> u32
 }
 
 impl Machine {
-    /// The word in a register: 0 to 15 is Dn, 16 to 31 is A(n - 16).
+    /// Returns the word in a register: 0 to 15 for D0 to D15, 16 to 31 for A0 to A15.
     pub(crate) fn reg(&self, r: u8) -> u32
         requires { r < 32 }
         ensures { result ≡ reg self.now r }
@@ -26,7 +26,7 @@ impl Machine {
         }
     }
 
-    /// Puts a word into a register.
+    /// Writes a word to a register.
     pub(crate) fn set_reg(&mut self, r: u8, word: u32)
         requires { r < 32 }
         ensures { self.new ≡ with_reg self.old r word }
@@ -38,7 +38,7 @@ impl Machine {
         }
     }
 
-    /// The value of an operand.
+    /// Returns the value of an operand.
     pub(crate) fn arg(&self, x: Arg) -> u32
         requires { IsArg x }
         ensures { result ≡ arg self.now x }
@@ -49,14 +49,14 @@ impl Machine {
         }
     }
 
-    /// Goes on with the next instruction, after one of n bytes.
+    /// Moves pc to the next instruction, after one of `n` bytes.
     pub(crate) fn advance(&mut self, n: u32)
         ensures { self.new ≡ advanced n self.old }
     {
         self.pc = ahead(self.pc, n);
     }
 
-    /// Dies.
+    /// Ends the machine.
     pub(crate) fn die(&mut self, cause: Cause)
         ensures { self.new ≡ died cause self.old }
     {

@@ -9,7 +9,7 @@ use std::alloc::Global;
 use tcd_base::NoMemory;
 use tcd_plan::Plan;
 
-/// PSW at the start: IO is 2, IS the plan's, and the other bits are 0.
+/// Returns PSW at the start: IO is 2, IS the plan's, and the other bits are 0.
 fn start_psw(is: bool) -> u32
     ensures { result ≡ psw_at_start is }
 {
@@ -17,7 +17,8 @@ fn start_psw(is: bool) -> u32
 }
 
 impl Machine {
-    /// The state that starts the image under the plan, in which all that a start state may choose is 0.
+    /// Returns the state that starts the image under the plan. All that a start state may choose is
+    /// 0.
     pub fn start(alloc: Global, image: &Image, plan: &Plan) -> Result<Machine, NoMemory>
         ensures { IfOk result (λ m. StartsInZeros image.now plan.now m) }
     {

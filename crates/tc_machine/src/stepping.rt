@@ -1,4 +1,4 @@
-// One event, and runs.
+// Steps and runs.
 ghost use Rattle.std.specs.Prelude.{◌≡◌, IfOk};
 ghost use Rattle.tc_isa.specs.Bounded.{IsShape};
 ghost use Rattle.tc_encode.specs.Decoding.{decoded_of};
@@ -9,8 +9,8 @@ use crate::{Cause, End, Event, Machine};
 use tc_isa::Shape;
 
 impl Machine {
-    /// An event of a machine that runs: its interrupt, where interrupts are on and its priority is above the current
-    /// one, else the instruction at pc.
+    /// Performs an event of a machine that runs. Its interrupt is taken if interrupts are enabled
+    /// and its priority is above the current one; otherwise the instruction at pc is executed.
     fn perform(&mut self, event: &Event, found: Result<(Shape, u32), Cause>)
         requires found { found ≡ shaped (decoded_of (mapped_bytes 4 self.old.mem self.old.pc)) }
         requires bounded { IfOk found (λ it. IsShape it.0) }
@@ -26,7 +26,7 @@ impl Machine {
         }
     }
 
-    /// Does one event as `step` does, where what the bytes at pc do was found before.
+    /// Performs one event as `step` does; `found` is what the bytes at pc do.
     #[tactic(auto, unfolding(crate::specs::Stepping::step))]
     pub fn step_by(&mut self, event: &Event, found: Result<(Shape, u32), Cause>)
         requires found { found ≡ shaped (decoded_of (mapped_bytes 4 self.old.mem self.old.pc)) }
@@ -45,15 +45,16 @@ impl Machine {
         }
     }
 
-    /// Does one event: takes its interrupt, or does the instruction at pc; a machine that still runs then has the
-    /// event's status byte in PSW. A dead machine doesn't change (TriCore 1 architecture manual, volumes 1 and 2).
+    /// Performs one event: takes its interrupt, or executes the instruction at pc. If the machine
+    /// still runs afterwards, the event's status byte is written to PSW. A dead machine doesn't
+    /// change (TriCore 1 architecture manual, volumes 1 and 2).
     pub fn step(&mut self, event: &Event)
         ensures { self.new ≡ step self.old event.now }
     {
         self.step_by(event, self.shape_at_pc());
     }
 
-    /// Does all events, one after another.
+    /// Performs the events, one after another.
     pub fn run(&mut self, events: &[Event])
         ensures { self.new ≡ run self.old events.now }
     {
