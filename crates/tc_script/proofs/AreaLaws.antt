@@ -1,4 +1,4 @@
--- What events make of the areas in use, where these lie in a row.
+-- Effects of events on the areas in use, if these are consecutive.
 use Rattle.std.proofs.Common.{◌≡◌, ◌≢◌, ℕ, zero, suc, ◌+◌, ◌-◌, ◌%◌, ◌^◌, ◌<◌, ◌≤◌, ◌⊎◌, inl, inr, Bool, true, false, cond, set, List, [], ◌∷◌, length, get_or, Option, Some, Ok, Err, unwrap_or, refl, sym, ap, subst, ◌∙◌, arith, add-one, ◌==◌, nat_lt}
 use Rattle.std.specs.Bool.{OnTrue}
 use Rattle.std.specs.Option.{option_map}
@@ -58,7 +58,7 @@ counted_row u m small row = record { count = used_in_row m u.first u.count row; 
 pub the_row : (u : AreasUsed) (m : Machine) → IsCounted u m → u.in_row ≡ true → AreInRow u.first u.count m
 the_row u m h is = from_true u.in_row is h.row
 
--- no area is in use where PCXI has no link
+-- no area is in use if PCXI has no link
 pub none_used : (m : Machine) → link_in m.pcxi ≡ 0 → chain m.mem m.pcxi ≡ Some []
 none_used m e = chain_within-Links m.mem 4096 m.pcxi [] e (omega arith)
 
@@ -75,7 +75,7 @@ counted_anew m u count first none = record {
   ] none;
 }
 
--- what has the same memory and PCXI is counted alike
+-- machines with equal memory and PCXI have equal counts
 pub counted_same : (u : AreasUsed) (m n : Machine) → Same m n → IsCounted u m → IsCounted u n
 counted_same u m n s h =
     let e : chain n.mem n.pcxi ≡ chain m.mem m.pcxi = ap (λ (mem : Memory). chain mem n.pcxi) s.mem ∙ ap (λ (w : ℕ). chain m.mem w) s.pcxi in
@@ -179,7 +179,7 @@ told_store u m after x size h is fits out s =
 dead_running : {P : Type 0} (cause : Cause) → Dead cause ≡ Running → P
 dead_running cause e = cc
 
--- what goes on from a machine that must run
+-- what follows from a machine that must run
 from_running : (m : Machine) (next : Machine → Machine) → (then_ m next).end ≡ Running → (m.end ≡ Running) × (then_ m next ≡ next m)
 from_running m next run =
     elim m.end as (λ end. m.end ≡ end → (goes_on end m next).end ≡ Running → (m.end ≡ Running) × (goes_on end m next ≡ next m)) [
@@ -343,7 +343,7 @@ module _ (m : Machine) (e : Event) where
   unfolding does
   rslcx_restores n run = restores_then m false _ (λ s. record { mem = refl; pcxi = refl }) run
 
--- ---- what an effect tells of an instruction
+-- ---- what an effect says of an instruction
 module _ (effect : Effect) (u : AreasUsed) (m : Machine) (e : Event) where
   pub told_call : (s : Shape) {to : Target} → s ≡ Call to → ((k : Machine) → HasSaved m k → Tells effect u k) → IsToldBy effect u m e s
   told_call s {to = to} is tells = subst (λ x. IsToldBy effect u m e x) (sym is) (λ n run. tells (does m e (Call to) n) (call_saves m e to n run))
@@ -398,7 +398,7 @@ end_same : (k : Machine) (e : Event) (end : End) → k.end ≡ end → Same k (g
 end_same k e Running is = record { mem = refl; pcxi = refl }
 end_same k e (Dead cause) is = record { mem = refl; pcxi = refl }
 
--- what an event did to a machine that runs, where it runs after it
+-- the effect of an event on a machine that runs before and after it
 record Went (m : Machine) (e : Event) : Type 0 where
   running : (done m e).end ≡ Running
   same : Same (done m e) (step m e)
@@ -433,7 +433,7 @@ told_found effect u m e shape n here free at tells run =
           dead_running NoCode (ap (λ (k : Machine). k.end) (sym is) ∙ w.running)
     ] refl
 
--- where the areas in use aren't known to be in a row, their number alone stays
+-- if the areas in use aren't known to be consecutive, their number alone stays
 pub told_kept : (u : AreasUsed) (m n : Machine) → IsCounted u m → u.in_row ≡ false → used_of n ≡ used_of m → Tells Stays u n
 told_kept u m n h off same = record {
   count = h.count ∙ ap (λ (o : Option ℕ). unwrap_or o 0) (sym same);

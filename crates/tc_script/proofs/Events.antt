@@ -107,7 +107,7 @@ where_running-sized : (end : End) (load : Option (ℕ × ℕ)) → HasBytesOf lo
 where_running-sized Running load h = h
 where_running-sized (Dead cause) load h = tt
 
--- the load that comes next has bytes
+-- the next load has bytes
 pub next_load-sized : (m : Machine) → HasBytesOf (next_load_of m)
 next_load-sized m = where_running-sized m.end _ (sized m (decoded_at m) (λ i n is. (decode_laws.decoded _ i n is).inst))
 

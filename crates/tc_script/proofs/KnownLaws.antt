@@ -16,7 +16,7 @@ use Rattle.tc_machine.proofs.WholeAccesses.{mapped_word}
 use Rattle.tc_script.specs.declared.known_words.KnownWord.{KnownWord}
 use Rattle.tc_script.specs.KnownWords.{Does, IsKnown, StandsAt}
 
--- what is the same as some word is it
+-- an entry that equals one of some word is that word's
 pub named : (o : Option ℕ) (w : ℕ) → true ≡ option_eq nat_eq o (Some w) → o ≡ Some w
 named None w is = absurd (false≢true (sym is))
 named (Some v) w is = ap Some (eqb-true v w (sym is))
@@ -26,11 +26,11 @@ pub known_of : (word : Option ℕ) (found : Result (Shape × ℕ) Cause) (bytes 
 known_of None found bytes is does = tt
 known_of (Some w) found bytes is does = subst (λ bs. Does found bs) (sym is) does
 
--- what is put at a place stands there
+-- what is written to a place is there
 pub put_stands : (words : List KnownWord) (place : ℕ) (k : KnownWord) (bytes : List ℕ) → place < length words → Does k.found bytes → StandsAt (set words place k) place bytes
 put_stands words place k bytes within does behind = subst (λ (it : KnownWord). Does it.found bytes) (sym (get_or-set_at words place place k behind refl within)) does
 
--- the word at an address is known at a place, so what the bytes there do stands at it
+-- the word at an address is known at a place, so the place has what the bytes there do
 pub known_there : (words : List KnownWord) (place : ℕ) (d : KnownWord) (m : Memory) (x w : ℕ) → All IsKnown words → place < length words → (get_or words place d).word ≡ Some w → HasBytes m → x < 2 ^ 32 →
     Some w ≡ word_of m x → StandsAt words place (mapped_bytes 4 m x)
 known_there words place d m x w known within is bytes small there behind =

@@ -1,4 +1,4 @@
--- One line after another.
+-- Laws of lines, one after another.
 use Rattle.std.proofs.Common.{◌≡◌, ℕ, ◌+◌, List, [], ◌∷◌, Result, Ok, Err, refl, sym, ap, ◌∙◌}
 use Rattle.tcd_plan.specs.PlanData.{PlanData}
 use Rattle.tc_script.specs.declared.errors.ScriptErr.{ScriptErr}

@@ -1,4 +1,4 @@
--- The areas in use where they lie in a row, and what an event makes of them.
+-- Areas in use that are consecutive, and the effects of events on them.
 use Rattle.std.specs.Prelude.{◌≡◌, ◌≢◌, ℕ, zero, suc, ◌+◌, ◌-◌, ◌<◌, ◌≤◌, ◌^◌, Bool, true, List, [], ◌∷◌, Some, unwrap_or}
 use Rattle.std.specs.Bool.{OnTrue}
 use Rattle.csa_chain.specs.Memory.{with_bytes}
@@ -14,22 +14,22 @@ use Rattle.tc_script.specs.declared.counting.AreasUsed.{AreasUsed}
 use Rattle.tc_script.specs.declared.counting.Effect.{Effect}
 use Rattle.tc_script.specs.declared.counting.Effect.TheVariants.{Stays, Saves, Restores, Unknown}
 
--- the links of n areas in a row, of which this is the first one; the last one comes first
+-- the links of n consecutive areas, of which this is the first one; the last area's link is first
 abbrev pub row_of : ℕ → ℕ → List ℕ
 row_of first zero = []
 row_of first (suc n) = (first + n) ∷ row_of first n
 
--- the areas in use are n in a row
+-- the areas in use are n consecutive ones
 abbrev pub AreInRow : ℕ → ℕ → Machine → Type 0
 AreInRow first n m = chain m.mem m.pcxi ≡ Some (row_of first n)
 
--- so many areas are in use, and they lie in a row where that is said
+-- this number of areas is in use, and they are consecutive if the count says so
 pub record IsCounted (u : AreasUsed) (m : Machine) : Type 0 where
   pub count : u.count ≡ unwrap_or (used_of m) 0
   pub first : u.first < 2 ^ 20
   pub row : OnTrue u.in_row (AreInRow u.first u.count m)
 
--- the machine after a save of a context, and what else keeps the memory and PCXI
+-- the machine after a save of a context, up to changes that keep the memory and PCXI
 pub record HasSaved (m after : Machine) : Type 0 where
   pub upper : Bool
   pub some : link_in m.fcx ≢ 0
@@ -37,31 +37,31 @@ pub record HasSaved (m after : Machine) : Type 0 where
   pub mem : after.mem ≡ (saved m upper).mem
   pub pcxi : after.pcxi ≡ (saved m upper).pcxi
 
--- the machine after a restore of a context, and what else keeps the memory and PCXI
+-- the machine after a restore of a context, up to changes that keep the memory and PCXI
 pub record HasRestored (m after : Machine) : Type 0 where
   pub upper : Bool
   pub some : link_in m.pcxi ≢ 0
   pub mem : after.mem ≡ (restored m upper).mem
   pub pcxi : after.pcxi ≡ (restored m upper).pcxi
 
--- the machine after a store of so many bytes, and what else keeps the memory and PCXI
+-- the machine after a store of size bytes, up to changes that keep the memory and PCXI
 pub record HasStored (x size : ℕ) (m after : Machine) : Type 0 where
   pub word : ℕ
   pub mem : after.mem ≡ with_bytes m.mem x word size
   pub pcxi : after.pcxi ≡ m.pcxi
 
--- what keeps the memory and PCXI
+-- a machine with the memory and PCXI of the one before
 pub record HasStayed (m after : Machine) : Type 0 where
   pub mem : after.mem ≡ m.mem
   pub pcxi : after.pcxi ≡ m.pcxi
 
--- What is said of a machine by this effect of an event before which so many areas were in use.
+-- What an effect says of the machine after an event, by the areas in use before it.
 abbrev pub Tells : Effect → AreasUsed → Machine → Type 0
 Tells Stays u after = IsCounted u after
 Tells Saves u after = (u.count < 4096) × IsCounted (record u { count = u.count + 1 }) after
 Tells Restores u after = (1 ≤ u.count) × IsCounted (record u { count = u.count - 1 }) after
 Tells Unknown u after = Unit {0}
 
--- this effect is told of an instruction that leaves the machine running
+-- what this effect says is true of an instruction that leaves the machine running
 abbrev pub IsToldBy : Effect → AreasUsed → Machine → Event → Shape → Type 0
 IsToldBy effect u m e shape = (n : ℕ) → (does m e shape n).end ≡ Running → Tells effect u (does m e shape n)

@@ -1,4 +1,4 @@
--- Scripts: the statements of their lines, what these say together, and runs of the machine by them.
+-- Definitions of scripts: their statements, their effect together, and runs of the machine.
 pub mod Parts
 pub mod Numbers
 pub mod Statements

@@ -4,13 +4,13 @@ use Rattle.std.specs.Char.{is_ascii_digit}
 use Rattle.std.specs.List.{list_all}
 use Rattle.std.specs.Str.Parse.{digits_value}
 
--- digits, one at least, and the first of them 0 only where it stands alone
+-- digits, at least one; the first is 0 only if it is the only one
 abbrev pub is_decimal : List ℕ → Bool
 is_decimal word =
     if length word == 0 then false
     else if list_all is_ascii_digit word then (length word == 1 || not (slice_index word 0 == 48))
     else false
 
--- the number below 2^32 that a word writes
+-- the number below 2^32 that a word spells
 unfoldable pub number_of : List ℕ → Option ℕ
 number_of word = if is_decimal word && nat_lt (digits_value 10 word) (2 ^ 32) then Some (digits_value 10 word) else None

@@ -1,4 +1,4 @@
--- What the lines of a script say, one after another.
+-- The lines of a script, one after another.
 use Rattle.std.specs.Prelude.{◌≡◌, ℕ, ◌+◌, ◌==◌, ◌&&◌, nat_le, Bool, false, if◌then◌else◌, List, [], ◌∷◌, ◌++◌, length, map, replicate, slice_set, slice_get, Option, Some, None, Result, Ok, Err}
 use Rattle.std.specs.List.{list_any, slice_split}
 use Rattle.tcd_plan.specs.declared.plans.Device.{Device}
@@ -16,11 +16,11 @@ use Rattle.tc_script.specs.Statements.{words_of, statement_of}
 abbrev pub own_bounds : Device → AnswerRange
 own_bounds d = record { lo = d.lo; hi = d.lo }
 
--- in front of the first line: no turns, and misaligned accesses don't trap
+-- before the first line: no turns, and misaligned accesses don't trap
 abbrev pub begun : PlanData → Draft
 begun plan = record { script = record { turns = []; bounds = map own_bounds plan.devices }; aln = false }
 
--- so many turns more with this interrupt, on the line of this number
+-- n more turns with this interrupt, on the line with this number
 abbrev pub with_turns : ℕ → ℕ → ℕ → Draft → Result Draft ScriptErr
 with_turns line count irq d =
     if nat_le (length d.script.turns + count) 100000
@@ -31,16 +31,16 @@ with_turns line count irq d =
 abbrev pub is_source : PlanData → ℕ → Bool
 is_source plan irq = list_any (λ q. q == irq) plan.irqs
 
--- the device is there, and its own bounds hold these
+-- the device exists, and these bounds are inside its own
 abbrev pub holds_bounds : Option Device → ℕ → ℕ → Bool
 holds_bounds None lo hi = false
 holds_bounds (Some d) lo hi = nat_le d.lo lo && nat_le hi d.hi
 
--- these bounds for a device
+-- the draft with these bounds for a device
 abbrev pub with_bounds : ℕ → ℕ → ℕ → Draft → Draft
 with_bounds device lo hi d = record d { script = record d.script { bounds = slice_set d.script.bounds device (record { lo = lo; hi = hi }) } }
 
--- what a statement does, on the line of this number
+-- the draft after a statement, on the line with this number
 unfoldable pub stated : PlanData → ℕ → Statement → Draft → Result Draft ScriptErr
 stated plan line Blank d = Ok d
 stated plan line (Step n) d = with_turns line n 0 d
@@ -48,39 +48,39 @@ stated plan line (Irq irq) d = if is_source plan irq then with_turns line 1 irq 
 stated plan line (Aln aln) d = Ok (record d { aln = aln })
 stated plan line (In device lo hi) d = if holds_bounds (slice_get plan.devices device) lo hi then Ok (with_bounds device lo hi d) else Err (OutOfRange line)
 
--- what a line does by its statement; a line that is none is bad
+-- the draft after a line, by its statement; a line without a statement is bad
 abbrev pub if_said : PlanData → ℕ → Option Statement → Draft → Result Draft ScriptErr
 if_said plan line None d = Err (BadLine line)
 if_said plan line (Some said) d = stated plan line said d
 
--- what a line does
+-- the draft after a line
 abbrev pub line_read : PlanData → ℕ → List ℕ → Draft → Result Draft ScriptErr
 line_read plan number line d = if_said plan number (statement_of (words_of line)) d
 
--- what is read next, unless a line was refused
+-- what is read next, if no line was refused
 abbrev pub then_read : Result Draft ScriptErr → (Draft → Result Draft ScriptErr) → Result Draft ScriptErr
 then_read (Ok d) next = next d
 then_read (Err e) next = Err e
 
--- what lines do, the first with this number
+-- the draft after lines, the first with this number
 unfoldable pub lines_read : PlanData → ℕ → List (List ℕ) → Draft → Result Draft ScriptErr
 lines_read plan number [] d = Ok d
 lines_read plan number (line ∷ lines) d = then_read (line_read plan number line d) (λ d. lines_read plan (number + 1) lines d)
 
--- the lines of a text; what stands behind the last line feed is a line, too, and may be empty
+-- the lines of a text; what follows the last line feed is a line too, and may be empty
 abbrev pub lines_of : List ℕ → List (List ℕ)
 lines_of text = slice_split (λ b. b == 10) text
 
--- the script that the lines have put together, or their refusal
+-- the script that the lines give, or their refusal
 abbrev pub script_in : Result Draft ScriptErr → Result ScriptData ScriptErr
 script_in (Ok d) = Ok d.script
 script_in (Err e) = Err e
 
--- the script that the bytes of a file are, or the first bad line and the least refusal there
+-- the script that the bytes of a file give, or the refusal of the first bad line
 abbrev pub script_of : PlanData → List ℕ → Result ScriptData ScriptErr
 script_of plan bytes = script_in (lines_read plan 1 (lines_of bytes) (begun plan))
 
--- a refusal; want of memory is free
+-- a refusal; out of memory is always possible
 abbrev pub Refuses : {A : Type 0} → ScriptErr → Result A ScriptErr → Type 0
 Refuses (BadLine n) answer = answer ≡ Err (BadLine n)
 Refuses (NoSource n) answer = answer ≡ Err (NoSource n)

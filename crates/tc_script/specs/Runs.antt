@@ -12,11 +12,12 @@ use Rattle.tc_machine.specs.Safe.{AllFit}
 use Rattle.tc_script.specs.declared.driving.Peak.{Peak}
 use Rattle.tc_script.specs.declared.scripts.Turn.{Turn}
 
--- what answers: the words that may come at an address and at the number of an event
+-- answers: the words that are possible at an address and at the number of an event
 abbrev pub Answers : Type 1
 Answers = ℕ → ℕ → ℕ → Type 0
 
--- The input at an event: an answer for the load's address, where the load lies wholly in one device range, else 0.
+-- The input at an event: an answer for the load's address if the load is wholly inside one device
+-- range, else 0.
 abbrev pub IsInput : List Device → Answers → ℕ → Option (ℕ × ℕ) → ℕ → Type 0
 IsInput devices answers t None input = input ≡ 0
 IsInput devices answers t (Some load) input =
@@ -29,20 +30,21 @@ pub record IsEventOf (devices : List Device) (answers : Answers) (t : ℕ) (turn
   pub status : e.status ≡ 0
   pub input : IsInput devices answers t (next_load_of m) e.input
 
--- the machine has died, of any cause
+-- the machine is dead, of any cause
 abbrev pub IsDead : End → Type 0
 IsDead Running = ⊥
 IsDead (Dead cause) = Unit {0}
 
--- The events of these turns, in order, until the machine is dead or the turns end; the first one has this number.
+-- The events of these turns, in order, until the machine is dead or the turns end. The first one
+-- has this number.
 abbrev pub ScriptedRun : PlanData → Answers → ℕ → List Turn → Machine → List Event → Type 0
 ScriptedRun plan answers t turns m [] = (turns ≡ []) ⊎ IsDead m.end
 ScriptedRun plan answers t [] m (e ∷ es) = ⊥
 ScriptedRun plan answers t (turn ∷ turns) m (e ∷ es) =
     (m.end ≡ Running) × IsEventOf plan.devices answers t turn m e × ScriptedRun plan answers (t + 1) turns (step m e) es
 
--- The greatest number of areas in use, over the state before the first event and the states after each event. A state
--- without a chain counts as 0, and so it is 0 where none has one.
+-- The greatest number of areas in use, over the state before the first event and the states after
+-- each event. A state without a chain counts as 0, so the peak is 0 if no state has one.
 abbrev pub peak_of : Machine → List Event → ℕ
 peak_of m [] = unwrap_or (used_of m) 0
 peak_of m (e ∷ es) = max (unwrap_or (used_of m) 0) (peak_of (step m e) es)

@@ -8,12 +8,12 @@ pub record ScriptData : Type 0 where
   pub turns : List Turn
   pub bounds : List AnswerRange
 
--- what every script keeps
+-- what holds of every script
 pub record IsScript (turns : List Turn) (bounds : List AnswerRange) : Type 0 where
   pub few : length turns ≤ 100000
   pub few_devices : length bounds ≤ 16
   pub ordered : All (λ b. b.lo ≤ b.hi) bounds
 
--- what stands at an event, counted from 0: the words from lo up to hi, over and over
+-- the answer at an event, numbered from 0: the words from lo to hi, in turn and over again
 abbrev pub answer_of : AnswerRange → ℕ → ℕ
 answer_of b t = b.lo + t % (b.hi - b.lo + 1)

@@ -1,4 +1,4 @@
--- Runs by a script that answers for the devices itself: there is one list of events.
+-- Runs by a script that answers for the devices: there is one list of events.
 use Rattle.std.specs.Prelude.{◌≡◌, ℕ, ◌+◌, if◌then◌else◌, List, [], ◌∷◌, length, Option, Some, None}
 use Rattle.std.specs.List.{list_any}
 use Rattle.tcd_plan.specs.declared.plans.Device.{Device}
@@ -16,13 +16,14 @@ use Rattle.tc_script.specs.ScriptData.{ScriptData, answer_of}
 use Rattle.tcd_base.specs.Ranges.{is_within}
 use Rattle.tc_script.specs.Runs.{Answers, ScriptedRun, peak_of}
 
--- what the device that has the address answers at an event, 0 where none has it
+-- what the device at the address answers at an event, 0 if no device is there
 abbrev pub answer_at : List Device → List AnswerRange → ℕ → ℕ → ℕ
 answer_at [] bounds x t = 0
 answer_at (d ∷ ds) [] x t = 0
 answer_at (d ∷ ds) (b ∷ bs) x t = if is_within x 1 d.range then answer_of b t else answer_at ds bs x t
 
--- the input at an event: the answer at the load's address, where the load lies wholly in one device range, else 0
+-- the input at an event: the answer at the load's address if the load is wholly inside one device
+-- range, else 0
 abbrev pub input_of : List Device → List AnswerRange → ℕ → Option (ℕ × ℕ) → ℕ
 input_of devices bounds t None = 0
 input_of devices bounds t (Some load) = if list_any (λ d. is_within load.0 load.1 d.range) devices then answer_at devices bounds load.0 t else 0
@@ -31,12 +32,13 @@ input_of devices bounds t (Some load) = if list_any (λ d. is_within load.0 load
 abbrev pub event_of : List Device → List AnswerRange → ℕ → Turn → Machine → Event
 event_of devices bounds t turn m = record { irq = turn.irq; input = input_of devices bounds t (next_load_of m); status = 0; aln = turn.aln }
 
--- these events where the machine runs, and none where it's dead
+-- these events if the machine runs, none if it is dead
 abbrev pub while_running : End → List Event → List Event
 while_running Running events = events
 while_running (Dead cause) events = []
 
--- the events of these turns until the machine is dead or the turns end; the first one has this number
+-- the events of these turns until the machine is dead or the turns end; the first one has this
+-- number
 abbrev pub events_of : List Device → List AnswerRange → ℕ → List Turn → Machine → List Event
 events_of devices bounds t [] m = []
 events_of devices bounds t (turn ∷ turns) m =
@@ -47,15 +49,16 @@ events_of devices bounds t (turn ∷ turns) m =
 abbrev pub script_events : PlanData → ScriptData → Machine → List Event
 script_events plan script m = events_of plan.devices script.bounds 0 script.turns m
 
--- what the devices answer by a script
+-- the answers of the devices by a script
 abbrev pub answers_by : PlanData → ScriptData → Answers
 answers_by plan script = λ x t w. w ≡ answer_at plan.devices script.bounds x t
 
--- the events are one for each turn of the script, until the machine is dead or the turns end, with the script's answers
+-- the events are one for each turn of the script, until the machine is dead or the turns end, with
+-- the script's answers
 abbrev pub IsOfScript : PlanData → ScriptData → Machine → List Event → Type 0
 IsOfScript plan script m es = ScriptedRun plan (answers_by plan script) 0 script.turns m es
 
--- these are the only such list
+-- there is one such list of events
 abbrev pub HasOneRun : Type 0
 HasOneRun = (plan : PlanData) (script : ScriptData) (m : Machine) (es : List Event) → IsOfScript plan script m es → es ≡ script_events plan script m
 

@@ -1,4 +1,4 @@
--- The lines of a script, each a statement: words parted by one blank.
+-- The lines of a script: each is a statement of words, separated by one blank each.
 use Rattle.std.specs.Prelude.{ℕ, ◌≤◌, nat_le, ◌==◌, ◌&&◌, Bool, if◌then◌else◌, List, [], ◌∷◌, Option, Some, None, codes}
 use Rattle.std.specs.Option.{option_and_then}
 use Rattle.std.specs.List.{slice_split}
@@ -7,16 +7,16 @@ use Rattle.tc_script.specs.declared.statements.Statement.{Statement}
 use Rattle.tc_script.specs.declared.statements.Statement.TheVariants.{Blank, Step, Irq, Aln, In}
 use Rattle.tc_script.specs.Numbers.{number_of}
 
--- the words of a line, parted by one blank each
+-- the words of a line, separated by one blank each
 abbrev pub words_of : List ℕ → List (List ℕ)
 words_of line = slice_split (λ b. b == 32) line
 
--- the statement of a line of one word: an empty line says nothing, and no other word is one
+-- the statement of a line of one word: an empty line says nothing, and any other word is bad
 abbrev pub is_blank : List ℕ → Option Statement
 is_blank [] = Some Blank
 is_blank word = None
 
--- this statement, where its numbers are in their bounds
+-- this statement, if its numbers are within their bounds
 abbrev pub some_if : Bool → Statement → Option Statement
 some_if test s = if test then Some s else None
 
@@ -28,11 +28,11 @@ of_one_number verb n =
     else if bytes_eq verb (codes "aln") then some_if (nat_le n 1) (Aln (n == 1))
     else None
 
--- `in DEVICE LO HI`, HI not below LO
+-- `in DEVICE LO HI`, with LO at most HI
 abbrev pub of_three_numbers : List ℕ → ℕ → ℕ → ℕ → Option Statement
 of_three_numbers verb device lo hi = if bytes_eq verb (codes "in") then some_if (nat_le lo hi) (In device lo hi) else None
 
--- the statement that these words are
+-- the statement of these words
 unfoldable pub statement_of : List (List ℕ) → Option Statement
 statement_of (word ∷ []) = is_blank word
 statement_of (verb ∷ x ∷ []) = option_and_then (of_one_number verb) (number_of x)

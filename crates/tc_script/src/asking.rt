@@ -1,4 +1,4 @@
-// What answers for the devices.
+// The answers of devices: the ports that a run is driven with.
 ghost use Rattle.std.specs.Prelude.{◌≡◌, ◌<◌};
 ghost use Rattle.tcd_base.specs.Ranges.{is_within};
 ghost use Rattle.std.specs.List.{list_any};
@@ -8,9 +8,10 @@ use arrayvec::ArrayVec;
 use std::marker::Model;
 use tcd_plan::{Device, Plan};
 
-/// The devices of a plan, and a closure that answers for them: for an address of a device and the number of an event a
-/// word within that device's bounds. A struct can't keep a fact about a closure, so `new` ensures this and each call
-/// that asks requires it.
+/// The devices of a plan, and a closure that answers for them: for an address of a device and the
+/// number of an event, a word within that device's bounds.
+/// A struct can't keep a fact about a closure. So `new` ensures this, and each call that asks
+/// requires it.
 #[derive(Drop)]
 pub struct Ports<F: Fn(u32, u32) -> u32> {
     devices: ArrayVec<Device, 16>,
@@ -26,7 +27,7 @@ impl<F: Fn(u32, u32) -> u32> Model for Ports<F> {
 }
 
 impl<F: Fn(u32, u32) -> u32> Ports<F> {
-    /// Ports for a plan's devices.
+    /// Returns the ports of a plan's devices.
     pub fn new(plan: &Plan, answer: F) -> Ports<F>
         requires askable { IsAskable (F.pre answer) plan.now.devices }
         requires bounded { IsBounded (F.post answer) plan.now.devices }
@@ -42,7 +43,7 @@ impl<F: Fn(u32, u32) -> u32> Ports<F> {
         Ports { devices, answer }
     }
 
-    /// Whether the bytes from an address on lie wholly in one device range.
+    /// Returns true if the bytes from an address on are wholly inside one device range.
     pub(crate) fn holds(&self, addr: u32, size: u8) -> bool
         ensures { result ≡ list_any (λ d. is_within addr size d.range) self.now.devices }
     {
@@ -51,7 +52,7 @@ impl<F: Fn(u32, u32) -> u32> Ports<F> {
             .any(|device| device.range.holds(addr, u32::from(size)))
     }
 
-    /// The closure's answer.
+    /// Returns the closure's answer.
     pub(crate) fn ask(&self, addr: u32, t: u32) -> u32
         requires { F.pre self.now.answer addr t }
         ensures { F.post self.now.answer addr t result }

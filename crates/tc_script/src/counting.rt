@@ -1,4 +1,5 @@
-// How many save areas are in use, kept from event to event where that can be told.
+// Counts the save areas in use, event by event.
+// A recount of the chain is needed only if the effect of an event isn't known.
 ghost use Rattle.std.specs.Prelude.{◌≡◌, ◌<◌, ◌^◌, ◌+◌, ◌*◌, true, false, IfOk, unwrap_or};
 ghost use Rattle.tc_isa.specs.Bounded.{IsShape, IsArg, IsSize};
 ghost use Rattle.tc_encode.specs.Decoding.{decoded_of};
@@ -13,7 +14,8 @@ use csa_chain::address_of;
 use tc_isa::{Arg, Shape};
 use tc_machine::{Cause, End, Event, Machine};
 
-/// How many areas are in use, and whether they are known to lie in a row from the one of this link on.
+/// The number of areas in use, and whether they are known to be consecutive from the one with this
+/// link on.
 #[derive(Clone, Copy, Debug, PartialEq, Eq)]
 pub(crate) struct AreasUsed {
     pub count: u32,
@@ -21,7 +23,7 @@ pub(crate) struct AreasUsed {
     pub first: u32,
 }
 
-/// What an event makes of the areas in use.
+/// The effect of an event on the areas in use.
 #[derive(Clone, Copy, Debug, PartialEq, Eq)]
 pub(crate) enum Effect {
     Stays,
@@ -30,14 +32,15 @@ pub(crate) enum Effect {
     Unknown,
 }
 
-/// How many areas are in use, 0 where that isn't known.
+/// Returns the number of areas in use, or 0 if it isn't known.
 fn used(m: &Machine) -> u32
     ensures { result ≡ unwrap_or (used_of m.now) 0 }
 {
     m.used().unwrap_or(0)
 }
 
-/// The areas in use, counted along their chain. Where there are none, the first free one begins the row.
+/// Counts the areas in use along their chain. If there are none, consecutive areas begin at the
+/// first free one.
 pub(crate) fn count_areas(m: &Machine) -> AreasUsed
     ensures { IsCounted result m.now }
 {
@@ -49,7 +52,8 @@ pub(crate) fn count_areas(m: &Machine) -> AreasUsed
     }
 }
 
-/// The effect of a save: one area more, where the first free one is the next one of the row.
+/// Returns the effect of a save: one more area, if the first free one is the next one after those
+/// in use.
 fn of_save(m: &Machine, used: AreasUsed) -> Effect
     requires counted { IsCounted used m.now }
     requires row { used.in_row ≡ true }
@@ -68,7 +72,7 @@ fn of_save(m: &Machine, used: AreasUsed) -> Effect
     Effect::Saves
 }
 
-/// The effect of a restore: one area less.
+/// Returns the effect of a restore: one area less.
 fn of_restore(m: &Machine, used: AreasUsed) -> Effect
     requires counted { IsCounted used m.now }
     requires row { used.in_row ≡ true }
@@ -81,7 +85,7 @@ fn of_restore(m: &Machine, used: AreasUsed) -> Effect
     Effect::Restores
 }
 
-/// The effect of a store: none, where it meets no area in use.
+/// Returns the effect of a store: none, if it misses all areas in use.
 fn of_store(m: &Machine, used: AreasUsed, addr: u32, size: u8) -> Effect
     requires counted { IsCounted used m.now }
     requires row { used.in_row ≡ true }
@@ -107,7 +111,7 @@ fn of_store(m: &Machine, used: AreasUsed, addr: u32, size: u8) -> Effect
     Effect::Unknown
 }
 
-/// The word in a register: 0 to 15 is Dn, 16 to 31 is A(n - 16).
+/// Returns the word in a register: 0 to 15 for D0 to D15, 16 to 31 for A0 to A15.
 fn register(m: &Machine, r: u8) -> u32
     requires { r < 32 }
     ensures { result ≡ reg m.now r }
@@ -119,7 +123,7 @@ fn register(m: &Machine, r: u8) -> u32
     }
 }
 
-/// The value of an operand.
+/// Returns the value of an operand.
 fn operand(m: &Machine, x: Arg) -> u32
     requires { IsArg x }
     ensures { result ≡ arg m.now x }
@@ -130,7 +134,7 @@ fn operand(m: &Machine, x: Arg) -> u32
     }
 }
 
-/// The address of an access.
+/// Returns the address of an access.
 fn address(m: &Machine, base: Arg, offset: u32, after: bool) -> u32
     requires { IsArg base }
     ensures { result ≡ access_address m.now base offset after }
@@ -143,7 +147,8 @@ fn address(m: &Machine, base: Arg, offset: u32, after: bool) -> u32
     }
 }
 
-/// Whether an access traps: its address is no multiple of its size, and the event says so.
+/// Returns true if an access traps: its address is no multiple of its size, and the event says that
+/// such accesses trap.
 fn traps(event: &Event, addr: u32, size: u8) -> bool
     requires { IsSize size }
     ensures { result ≡ traps_at event.now addr size }
@@ -151,7 +156,7 @@ fn traps(event: &Event, addr: u32, size: u8) -> bool
     event.aln && addr % u32::from(size) != 0
 }
 
-/// The effect of a load: none, unless it traps.
+/// Returns the effect of a load: none, if it doesn't trap.
 fn of_load(m: &Machine, event: &Event, used: AreasUsed, addr: u32, size: u8) -> Effect
     requires counted { IsCounted used m.now }
     requires row { used.in_row ≡ true }
@@ -167,7 +172,7 @@ fn of_load(m: &Machine, event: &Event, used: AreasUsed, addr: u32, size: u8) -> 
     }
 }
 
-/// The effect of a store that may trap.
+/// Returns the effect of a store that may trap.
 fn of_any_store(m: &Machine, event: &Event, used: AreasUsed, addr: u32, size: u8) -> Effect
     requires counted { IsCounted used m.now }
     requires row { used.in_row ≡ true }
@@ -183,7 +188,8 @@ fn of_any_store(m: &Machine, event: &Event, used: AreasUsed, addr: u32, size: u8
     }
 }
 
-/// The effect of an instruction that accesses no memory but that of an area, and leaves the machine running.
+/// Returns the effect of an instruction that accesses no memory except that of an area. The machine
+/// runs after it.
 fn of_other(m: &Machine, event: &Event, shape: Shape, used: AreasUsed) -> Effect
     requires counted { IsCounted used m.now }
     requires row { used.in_row ≡ true }
@@ -201,7 +207,7 @@ fn of_other(m: &Machine, event: &Event, shape: Shape, used: AreasUsed) -> Effect
     }
 }
 
-/// The effect of an instruction that leaves the machine running.
+/// Returns the effect of an instruction. The machine runs after it.
 fn of_shape(m: &Machine, event: &Event, shape: Shape, used: AreasUsed) -> Effect
     requires counted { IsCounted used m.now }
     requires row { used.in_row ≡ true }
@@ -241,14 +247,14 @@ fn of_shape(m: &Machine, event: &Event, shape: Shape, used: AreasUsed) -> Effect
     }
 }
 
-/// Whether the event's interrupt is taken.
+/// Returns true if the event's interrupt is taken.
 fn takes(m: &Machine, event: &Event) -> bool
     ensures { result ≡ is_taken m.now event.now }
 {
     m.ie && m.ccpn < event.irq
 }
 
-/// The effect of an event where the areas in use lie in a row.
+/// Returns the effect of an event if the areas in use are consecutive.
 fn effect_in_row(
     m: &Machine,
     event: &Event,
@@ -272,7 +278,7 @@ fn effect_in_row(
     }
 }
 
-/// What an event of a machine that runs makes of the areas in use, where it leaves the machine running.
+/// Returns the effect of an event on the areas in use. The machine runs before it and after it.
 pub(crate) fn effect_of_event(
     m: &Machine,
     event: &Event,
@@ -297,7 +303,8 @@ pub(crate) fn effect_of_event(
     }
 }
 
-/// Makes the areas in use those after an event with this effect; they are counted anew where it isn't known.
+/// Updates the areas in use after an event with this effect. If the effect isn't known, they are
+/// counted again.
 fn used_by_effect(m: &Machine, used: &mut AreasUsed, effect: Effect)
     requires { Tells effect used.old m.now }
     ensures { IsCounted used.new m.now }
@@ -310,7 +317,7 @@ fn used_by_effect(m: &Machine, used: &mut AreasUsed, effect: Effect)
     }
 }
 
-/// Makes the areas in use those after an event that has this effect where the machine still runs.
+/// Updates the areas in use after an event that has this effect if the machine still runs.
 pub(crate) fn used_after(m: &Machine, used: &mut AreasUsed, effect: Effect)
     requires { m.now.end ≡ End.Running → Tells effect used.old m.now }
     ensures { IsCounted used.new m.now }

@@ -1,4 +1,4 @@
-// The machine, driven by the turns of a script.
+// Drives the machine by the turns of a script.
 ghost use Rattle.std.specs.Prelude.{◌≡◌, ◌≤◌, ◌<◌, ◌^◌, Some, IfSome, IfOk};
 ghost use Rattle.std.specs.Bool.{MatchBool};
 ghost use Rattle.tc_isa.specs.Bounded.{IsShape};
@@ -16,14 +16,14 @@ use tc_isa::Shape;
 use tc_machine::{Cause, End, Event, Machine};
 use tcd_plan::Plan;
 
-/// How many events were done, and the greatest number of save areas that were in use.
+/// The number of events performed, and the greatest number of save areas in use.
 #[derive(Clone, Copy, Debug, PartialEq, Eq)]
 pub struct Peak {
     pub events: u32,
     pub peak: u32,
 }
 
-/// Whether the machine runs.
+/// Returns true if the machine runs.
 fn is_running(m: &Machine) -> bool
     ensures { MatchBool result (m.now.end ≡ End.Running) (IsDead m.now.end) }
 {
@@ -33,8 +33,8 @@ fn is_running(m: &Machine) -> bool
     }
 }
 
-/// The input of an event whose load is this one: the closure's answer where the load lies wholly in one device range,
-/// else 0.
+/// Returns the input of an event with this load: the closure's answer if the load is wholly inside
+/// one device range, else 0.
 fn input_at<F: Fn(u32, u32) -> u32>(ports: &Ports<F>, addr: u32, size: u8, t: u32) -> u32
     requires some { 1 ≤ size }
     requires askable { IsAskable (F.pre ports.now.answer) ports.now.devices }
@@ -47,7 +47,7 @@ fn input_at<F: Fn(u32, u32) -> u32>(ports: &Ports<F>, addr: u32, size: u8, t: u3
     }
 }
 
-/// The input of an event, 0 where no load comes.
+/// Returns the input of an event, 0 if it loads nothing.
 fn input<F: Fn(u32, u32) -> u32>(ports: &Ports<F>, load: Option<(u32, u8)>, t: u32) -> u32
     requires some { IfSome load (λ l. 1 ≤ l.1) }
     requires askable { IsAskable (F.pre ports.now.answer) ports.now.devices }
@@ -59,7 +59,7 @@ fn input<F: Fn(u32, u32) -> u32>(ports: &Ports<F>, load: Option<(u32, u8)>, t: u
     }
 }
 
-/// The event of a turn, where this is what the bytes at pc do.
+/// Returns the event of a turn; `found` is what the bytes at pc do.
 fn event<F: Fn(u32, u32) -> u32>(
     ports: &Ports<F>,
     m: &Machine,
@@ -82,9 +82,9 @@ fn event<F: Fn(u32, u32) -> u32>(
     }
 }
 
-/// Does one event for each turn of the script, until the machine is dead or the turns end. An event has the turn's
-/// interrupt and its way with misaligned accesses, status 0, and as input the answer of the ports where the load at pc
-/// lies wholly in one device range, else 0.
+/// Performs one event for each turn of the script, until the machine is dead or the turns end.
+/// An event has the turn's interrupt, the turn's `traps`, and status 0. Its input is the answer of
+/// the ports if the load at pc is wholly inside one device range, else 0.
 pub fn drive<F: Fn(u32, u32) -> u32>(
     m: &mut Machine,
     plan: &Plan,

@@ -1,15 +1,18 @@
 // Why the bytes of a file are no script.
 use std::alloc::{AllocError, AllocFailed};
 
-/// Why the bytes of a file are no script, each with the number of the line, counted from 1: a line of no form
-/// (`BadLine`), an interrupt that isn't one of the plan's (`NoSource`), a device that isn't there or a bound outside its
-/// own (`OutOfRange`), and more than 100,000 turns (`TooMany`).
+/// Why the bytes of a file are no script. The number is that of the line, from 1.
 #[derive(Clone, Copy, Debug, PartialEq, Eq)]
 pub enum ScriptErr {
+    /// The line is no statement.
     BadLine(u32),
+    /// The interrupt isn't one of the plan's.
     NoSource(u32),
+    /// The device doesn't exist, or a bound is outside the device's own.
     OutOfRange(u32),
+    /// There are more than 100,000 turns.
     TooMany(u32),
+    /// An allocation failed.
     NoMemory,
 }
 

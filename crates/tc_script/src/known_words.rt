@@ -1,4 +1,4 @@
-// What words of code do, kept from event to event.
+// A cache of decoded words of code, kept from event to event.
 ghost use Rattle.std.specs.Prelude.{◌≡◌, ◌<◌, All, IfSome};
 ghost use Rattle.tcd_base.specs.Bytes.{bytes_of_word};
 ghost use Rattle.tc_machine.specs.Fetching.{mapped_bytes};
@@ -7,29 +7,29 @@ ghost use Rattle.tc_script.specs.KnownWords.{IsKnown, StandsAt};
 use tc_isa::{Arg, Op, Shape};
 use tc_machine::{Cause, Machine};
 
-/// A word, and what its four bytes do; with no word it says nothing of any.
+/// A word, and what its four bytes do. Without a word the entry says nothing.
 #[derive(Clone, Copy)]
 pub(crate) struct KnownWord {
     pub word: Option<u32>,
     pub found: Result<(Shape, u32), Cause>,
 }
 
-/// Words that were met lately, each at a place that it gives itself; one that is met later takes the place of one
-/// before it.
+/// Words that were decoded lately, each at a place that its hash gives. A later word replaces an
+/// earlier one at its place.
 #[derive(Drop)]
 pub(crate) struct KnownWords {
     pub words: [KnownWord; 1024],
 }
 
-/// The place of a word: the highest ten bits of its product with 2^32 by the golden ratio, which tells words that differ
-/// by equal steps apart.
+/// Returns the place of a word: the highest ten bits of its product with 2^32 divided by the golden
+/// ratio, which spreads words that differ by equal steps.
 fn place_of(word: u32) -> usize
     ensures { result < 1024 }
 {
     (word.wrapping_mul(0x9E37_79B9) / 0x40_0000) as usize
 }
 
-/// No word. All of it is zeros, so that a table of it is filled at once.
+/// Returns an entry without a word. It is all zeros, so that a table of them is filled at once.
 fn no_word() -> KnownWord
     ensures { IsKnown result }
 {
@@ -46,7 +46,7 @@ fn no_word() -> KnownWord
 }
 
 impl KnownWords {
-    /// No word is known.
+    /// Returns a cache without words.
     pub(crate) fn new() -> KnownWords
         ensures { All IsKnown result.words }
     {
@@ -55,7 +55,8 @@ impl KnownWords {
         }
     }
 
-    /// Puts what the bytes at pc do at a place, as known of the word that they are, or of none.
+    /// Writes what the bytes at pc do to a place of the table, for the word that they are, or for
+    /// none.
     #[inline(never)]
     fn learn(&mut self, m: &Machine, place: usize, word: Option<u32>)
         requires place { place < 1024 }
@@ -68,8 +69,8 @@ impl KnownWords {
         self.words[place] = KnownWord { word, found };
     }
 
-    /// The place at which stands what the bytes at pc do, and how many bytes that instruction has: as it is known of the
-    /// word there, else decoded, and known from then on.
+    /// Returns the place of the table at which what the bytes at pc do is kept. If it isn't there
+    /// yet, the bytes are decoded.
     pub(crate) fn place_at_pc(&mut self, m: &Machine) -> usize
         requires { All IsKnown self.old.words }
         ensures place { result < 1024 }

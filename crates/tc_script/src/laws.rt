@@ -1,7 +1,7 @@
-// What holds of all scripts.
+// Laws of scripts.
 ghost use Rattle.tc_script.specs.ScriptRuns.{HasOneRun};
 
-/// A script has one list of events from a machine.
+/// The law of scripts: from a machine, a script has one list of events.
 pub fn script_laws()
     ensures { HasOneRun }
 {}

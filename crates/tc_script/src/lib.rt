@@ -1,4 +1,4 @@
-//! Scripts: the turns of a run and what the devices answer in it; the machine driven by them.
+//! Scripts: the turns of a run, the answers of devices in it, and the machine driven by them.
 #![tactic(auto)]
 
 mod asking;

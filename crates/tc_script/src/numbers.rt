@@ -1,18 +1,18 @@
-// Numbers in a script.
+// Reads the numbers of a script.
 ghost use Rattle.std.specs.Prelude.{◌≡◌, ◌^◌, min, true, IsTrue};
 ghost use Rattle.std.specs.Char.{is_ascii_digit};
 ghost use Rattle.std.specs.List.{list_all};
 ghost use Rattle.std.specs.Str.Parse.{digits_value};
 ghost use Rattle.tc_script.specs.Numbers.{is_decimal, number_of};
 
-/// Whether all bytes are decimal digits.
+/// Returns true if all bytes are decimal digits.
 fn all_digits(word: &[u8]) -> bool
     ensures { result ≡ list_all is_ascii_digit word.now }
 {
     word.iter().all(|c| c.is_ascii_digit())
 }
 
-/// Whether a word is decimal digits, without leading zeros.
+/// Returns true if a word is decimal digits without leading zeros.
 fn is_decimal(word: &[u8]) -> bool
     ensures value { result ≡ is_decimal word.now }
     ensures digits { IsTrue result → list_all is_ascii_digit word.now ≡ true }
@@ -26,7 +26,7 @@ fn is_decimal(word: &[u8]) -> bool
     word.len() == 1 || word[0] != b'0'
 }
 
-/// The number that decimal digits write, and 2^32 for all numbers above it.
+/// Returns the number that decimal digits spell, or 2^32 for all numbers above it.
 fn value(word: &[u8]) -> u64
     requires { list_all is_ascii_digit word.now ≡ true }
     ensures { result ≡ min (digits_value 10 word.now) (2 ^ 32) }
@@ -38,7 +38,7 @@ fn value(word: &[u8]) -> u64
     value
 }
 
-/// The number that a word writes in decimal without leading zeros, at most 2^32 - 1.
+/// Returns the number that a word spells in decimal without leading zeros, at most 2^32 - 1.
 #[tactic(auto, unfolding(crate::specs::Numbers::number_of))]
 pub(crate) fn number(word: &[u8]) -> Option<u32>
     ensures { result ≡ number_of word.now }

@@ -1,4 +1,4 @@
-// A script from the bytes of a file.
+// Reads a script from the bytes of a file.
 ghost use Rattle.std.specs.Prelude.{◌≡◌, ◌<◌, ◌≤◌, ◌^◌, IsTrue, IfOk, length, map, slice_get};
 ghost use Rattle.tcd_plan.specs.PlanData.{IsPlan};
 ghost use Rattle.tc_script.specs.Fitting.{FitsPlan};
@@ -12,7 +12,7 @@ use arrayvec::ArrayVec;
 use std::alloc::Global;
 use tcd_plan::{Device, Plan};
 
-/// What is read so far, and whether a misaligned access traps in the turns that follow.
+/// What was read so far, and whether a misaligned access traps in the turns that follow.
 #[derive(Drop)]
 pub(crate) struct Draft {
     pub(crate) script: Script,
@@ -33,14 +33,14 @@ fn bounds_of(devices: &[Device]) -> ArrayVec<AnswerRange, 16>
     bounds
 }
 
-/// Whether an interrupt is one of the plan's.
+/// Returns true if an interrupt is one of the plan's.
 fn is_source(plan: &Plan, irq: u8) -> bool
     ensures { result ≡ is_source plan.now irq }
 {
     plan.irqs.iter().any(|q| *q == irq)
 }
 
-/// Whether the device is there, and its own bounds hold these.
+/// Returns true if the device exists, and these bounds are inside its own.
 fn holds_bounds(devices: &[Device], device: usize, lo: u32, hi: u32) -> bool
     ensures value { result ≡ holds_bounds (slice_get devices.now device) lo hi }
     ensures there { IsTrue result → device < length devices.now }
@@ -52,7 +52,7 @@ fn holds_bounds(devices: &[Device], device: usize, lo: u32, hi: u32) -> bool
 }
 
 impl Draft {
-    /// In front of the first line.
+    /// Returns the draft before the first line.
     fn new(alloc: Global, plan: &Plan) -> Draft
         ensures begun { result ≡ begun plan.now }
         ensures plan { IsPlan plan.now }
@@ -66,7 +66,7 @@ impl Draft {
         }
     }
 
-    /// So many turns more with this interrupt.
+    /// Adds `count` turns with this interrupt.
     fn add_turns(&mut self, line: u32, count: u32, irq: u8) -> Result<(), ScriptErr>
         ensures turns { Takes result self.new (with_turns line count irq self.old) }
         ensures devices { length self.new.script.bounds ≡ length self.old.script.bounds }
@@ -82,7 +82,7 @@ impl Draft {
         Ok(())
     }
 
-    /// Other bounds for a device.
+    /// Sets the bounds of a device's answers.
     fn set_bounds(&mut self, device: usize, lo: u32, hi: u32)
         requires there { device < length self.old.script.bounds }
         requires ordered { lo ≤ hi }
@@ -91,7 +91,7 @@ impl Draft {
         self.script.bounds[device] = AnswerRange { lo, hi };
     }
 
-    /// What a statement does.
+    /// Applies a statement.
     #[tactic(auto, unfolding(crate::specs::Reading::stated))]
     fn state(&mut self, plan: &Plan, line: u32, said: Statement) -> Result<(), ScriptErr>
         requires ordered { IsOrdered said }
@@ -123,7 +123,7 @@ impl Draft {
         }
     }
 
-    /// What a line does.
+    /// Reads a line and applies its statement.
     fn read_line(&mut self, plan: &Plan, number: u32, line: &[u8]) -> Result<(), ScriptErr>
         requires { length self.old.script.bounds ≡ length plan.now.devices }
         ensures read { Takes result self.new (line_read plan.now number line.now self.old) }
@@ -137,8 +137,9 @@ impl Draft {
 }
 
 impl Script {
-    /// The script that the bytes of a file are: lines `step N`, `irq P`, `aln 0`, `aln 1` and `in DEVICE LO HI`, and
-    /// empty ones. The first bad line decides, and there the least refusal.
+    /// Reads a script from the bytes of a file.
+    /// Its lines are `step N`, `irq P`, `aln 0`, `aln 1`, `in DEVICE LO HI`, or empty. The error is
+    /// that of the first bad line, and there the first one in the order of `ScriptErr`.
     pub fn read(alloc: Global, bytes: &[u8], plan: &Plan) -> Result<Script, ScriptErr>
         requires { length bytes.now ≤ 2 ^ 30 }
         ensures script { Gives result (script_of plan.now bytes.now) }

@@ -1,4 +1,4 @@
-// The machine, driven by a script that answers for the devices, too.
+// Drives the machine by a script that answers for the devices too.
 ghost use Rattle.std.specs.Prelude.{◌≡◌, length};
 ghost use Rattle.tc_script.specs.Fitting.{FitsPlan};
 ghost use Rattle.tc_script.specs.ScriptRuns.{answer_at, IsScriptRun};
@@ -7,7 +7,7 @@ use crate::{Peak, Ports, Script, drive};
 use tc_machine::Machine;
 use tcd_plan::{Device, Plan};
 
-/// What the device that has an address answers at an event, 0 where none has it.
+/// Returns what the device at an address answers at an event, or 0 if no device is there.
 fn answer_at(devices: &[Device], script: &Script, addr: u32, t: u32) -> u32
     requires { length script.now.bounds ≡ length devices.now }
     ensures { result ≡ answer_at devices.now script.now.bounds addr t }
@@ -20,8 +20,8 @@ fn answer_at(devices: &[Device], script: &Script, addr: u32, t: u32) -> u32
     0
 }
 
-/// Does one event for each turn of the script, until the machine is dead or the turns end; what the device that has an
-/// address answers is what the script says.
+/// Performs one event for each turn of the script, until the machine is dead or the turns end. The
+/// devices answer as the script says.
 pub fn drive_by_script(m: &mut Machine, plan: &Plan, script: &Script) -> Peak
     requires { FitsPlan plan.now script.now }
     ensures { IsScriptRun plan.now script.now m.old m.new result }

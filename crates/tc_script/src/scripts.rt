@@ -1,11 +1,12 @@
-// A script.
+// Scripts as data.
 ghost use Rattle.std.specs.Prelude.{◌≡◌, ◌<◌, ◌≤◌, length, slice_get, Some, option_map};
 ghost use Rattle.tc_script.specs.ScriptData.{answer_of};
 
 use arrayvec::ArrayVec;
 use std::marker::Model;
 
-/// What stands at an event, counted from 0: the words from `lo` up to `hi`, one after another and over again.
+/// Returns the answer at an event, numbered from 0: the words from `lo` to `hi`, in turn and over
+/// again.
 fn answer(bounds: AnswerRange, at: u32) -> u32
     requires { bounds.lo ≤ bounds.hi }
     ensures { result ≡ answer_of bounds at }
@@ -14,21 +15,22 @@ fn answer(bounds: AnswerRange, at: u32) -> u32
     (u64::from(bounds.lo) + u64::from(at) % count) as u32
 }
 
-/// One turn: the interrupt that asks (0 for none), and whether a misaligned access traps.
+/// A turn: the priority of the interrupt that is requested (0 for none), and whether a misaligned
+/// access traps.
 #[derive(Clone, Copy, Debug, PartialEq, Eq)]
 pub struct Turn {
     pub irq: u8,
     pub aln: bool,
 }
 
-/// What a device answers: words from `lo` up to `hi`.
+/// The bounds of a device's answers: words from `lo` to `hi`.
 #[derive(Clone, Copy, Debug, Default, PartialEq, Eq)]
 pub struct AnswerRange {
     pub lo: u32,
     pub hi: u32,
 }
 
-/// At most 100,000 turns, and for each device of the plan the bounds of its answers.
+/// A script: at most 100,000 turns, and for each device of the plan the bounds of its answers.
 #[derive(Drop)]
 pub struct Script {
     pub(crate) turns: Vec<Turn>,
@@ -46,7 +48,7 @@ impl Model for Script {
 }
 
 impl Script {
-    /// The number of turns.
+    /// Returns the number of turns.
     pub fn len(&self) -> u32
         ensures len { result ≡ length self.now.turns }
         ensures few { result ≤ 100000 }
@@ -54,7 +56,7 @@ impl Script {
         self.turns.len() as u32
     }
 
-    /// A turn, counted from 0.
+    /// Returns a turn, numbered from 0.
     pub fn turn(&self, at: u32) -> Turn
         requires { at < length self.now.turns }
         ensures { slice_get self.now.turns at ≡ Some result }
@@ -62,8 +64,8 @@ impl Script {
         self.turns[at as usize]
     }
 
-    /// What a device answers at an event, both counted from 0: the words from the device's `lo` up to its `hi`, one
-    /// after another and over again.
+    /// Returns what a device answers at an event, both numbered from 0: the words from the device's
+    /// `lo` to its `hi`, in turn and over again.
     pub fn answer(&self, device: usize, at: u32) -> u32
         requires { device < length self.now.bounds }
         ensures { option_map (λ b. answer_of b at) (slice_get self.now.bounds device)

@@ -1,12 +1,13 @@
-// The statement that a line is.
+// Reads the statement of a line.
 ghost use Rattle.std.specs.Prelude.{◌≡◌, [], ◌∷◌, IfSome};
 ghost use Rattle.tc_script.specs.Statements.{of_one_number, of_three_numbers, words_of, statement_of, IsOrdered};
 
 use crate::numbers::number;
 use crate::parts::cut;
 
-/// What a line says: nothing, so many turns without an interrupt, a turn with one, whether a misaligned access traps in
-/// the turns that follow, or what a device may answer.
+/// The statement of a line: nothing; a number of turns without an interrupt; one turn with an
+/// interrupt; whether a misaligned access traps in the turns that follow; or the bounds of a
+/// device's answers.
 #[derive(Clone, Copy, Debug, PartialEq, Eq)]
 pub(crate) enum Statement {
     Blank,
@@ -36,7 +37,7 @@ fn of_three_numbers(verb: &[u8], device: u32, lo: u32, hi: u32) -> Option<Statem
     }
 }
 
-/// The statement that a line of one word is.
+/// Returns the statement of a line of one word.
 #[tactic(auto, unfolding(crate::specs::Statements::statement_of))]
 fn of_one_word(word: &[u8]) -> Option<Statement>
     ensures { result ≡ statement_of (word.now ∷ []) }
@@ -48,7 +49,7 @@ fn of_one_word(word: &[u8]) -> Option<Statement>
     }
 }
 
-/// The statement that a line of two words is.
+/// Returns the statement of a line of two words.
 #[tactic(auto, unfolding(crate::specs::Statements::statement_of))]
 fn of_two_words(verb: &[u8], word: &[u8]) -> Option<Statement>
     ensures { result ≡ statement_of (verb.now ∷ word.now ∷ []) }
@@ -59,7 +60,7 @@ fn of_two_words(verb: &[u8], word: &[u8]) -> Option<Statement>
     }
 }
 
-/// The statement that a line of four words is.
+/// Returns the statement of a line of four words.
 #[tactic(auto, unfolding(crate::specs::Statements::statement_of))]
 fn of_four_words(verb: &[u8], first: &[u8], second: &[u8], third: &[u8]) -> Option<Statement>
     ensures { result ≡ statement_of (verb.now ∷ first.now ∷ second.now ∷ third.now ∷ []) }
@@ -70,7 +71,7 @@ fn of_four_words(verb: &[u8], first: &[u8], second: &[u8], third: &[u8]) -> Opti
     of_three_numbers(verb, device, lo, hi)
 }
 
-/// The statement of three words and the words of what is left of the line.
+/// Returns the statement of three words and the rest of the line.
 fn of_last_words(verb: &[u8], first: &[u8], second: &[u8], rest: &[u8]) -> Option<Statement>
     ensures { result ≡ statement_of (verb.now ∷ first.now ∷ second.now ∷ words_of rest.now) }
 {
@@ -81,7 +82,7 @@ fn of_last_words(verb: &[u8], first: &[u8], second: &[u8], rest: &[u8]) -> Optio
     }
 }
 
-/// The statement of two words and the words of what is left of the line.
+/// Returns the statement of two words and the rest of the line.
 fn of_more_words(verb: &[u8], first: &[u8], rest: &[u8]) -> Option<Statement>
     ensures { result ≡ statement_of (verb.now ∷ first.now ∷ words_of rest.now) }
 {
@@ -92,7 +93,7 @@ fn of_more_words(verb: &[u8], first: &[u8], rest: &[u8]) -> Option<Statement>
     }
 }
 
-/// The statement of a word and the words of what is left of the line.
+/// Returns the statement of one word and the rest of the line.
 fn of_words(verb: &[u8], rest: &[u8]) -> Option<Statement>
     ensures { result ≡ statement_of (verb.now ∷ words_of rest.now) }
 {
@@ -103,7 +104,7 @@ fn of_words(verb: &[u8], rest: &[u8]) -> Option<Statement>
     }
 }
 
-/// The statement that a line is.
+/// Returns the statement of a line.
 pub(crate) fn statement_in(line: &[u8]) -> Option<Statement>
     ensures said { result ≡ statement_of (words_of line.now) }
     ensures ordered { IfSome result IsOrdered }
