@@ -283,7 +283,7 @@ cover_least b xs limits good = record {
       rw value.own at (cover_mono b xs (members w) good.some (λ x i. among_member w x (has_step w value.well) (held x i)) z m);
 }
 
--- values with the same members are one
+-- values with equal members are equal
 pub same_value : (b : Limits) (v w : Val) → IsValue b v → IsValue b w → IsBelow v w → IsBelow w v → v ≡ w
 same_value b v w vv vw there back =
     sym vv.own

@@ -1,4 +1,4 @@
--- The bounds and the step of a set decide its cover, where it is large.
+-- The bounds and the step of a set decide its cover, if the set is large.
 use Rattle.std.proofs.Common.{◌≡◌, ℕ, ◌+◌, ◌-◌, ◌*◌, ◌/◌, ◌^◌, ◌<◌, ◌≤◌, ◌⊎◌, inl, inr, List, [], ◌∷◌, length, refl, sym, ap, ◌∙◌, subst, arith, min, max, ◌++◌}
 use Rattle.std.proofs.Math.Nat.{mul-le-mul_right, mul-one}
 use Rattle.std.proofs.lemmas.Bool.{cases_lt}
@@ -44,7 +44,7 @@ pub some_length : (xs : List ℕ) (z : ℕ) → Among z xs → 1 ≤ length xs
 some_length [] z i = absurd i
 some_length (x ∷ xs) z i = omega arith
 
--- the cover of a part may stand for the part
+-- the cover of a part can replace the part
 pub cover-part : (b : Limits) (xs ys : List ℕ) → 1 ≤ length xs → cover b (members (cover b xs) ++ ys) ≡ cover b (xs ++ ys)
 cover-part b xs ys some =
     let x : ℕ = least xs in
@@ -66,7 +66,7 @@ cover-part b xs ys some =
       | inr k ↦ cover_holds b (members (cover b xs) ++ ys) z (append_right z (members (cover b xs)) ys k)
     ])
 
--- the same for one more number
+-- the bounds and the step of a set with one more number
 pub cover-more : (b : Limits) (xs : List ℕ) (x : ℕ) → 1 ≤ length xs → cover b (x ∷ members (cover b xs)) ≡ cover b (xs ++ x ∷ [])
 cover-more b xs x some =
     cover-same b (x ∷ members (cover b xs)) (members (cover b xs) ++ x ∷ [])

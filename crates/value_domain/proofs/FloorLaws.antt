@@ -116,7 +116,7 @@ above_least (t ∷ ts) x s among more =
     ]
 
 -- ---- the thresholds in order
--- the thresholds that lie before a place are those not above x
+-- the thresholds before a place are those that are at most x
 pub record AreParted (ws : List ℕ) (x at : ℕ) : Type 0 where
   pub within : at ≤ length ws
   pub before : (k : ℕ) → k < at → get_or ws k 0 ≤ x
@@ -172,7 +172,7 @@ above-first ws x at small ordered parted some =
       | inr ge ↦ let o : get_or ws at 0 ≤ get_or ws p.0 0 = ordered at p.0 0 ge p.1 in omega (arith, p.2)
     ])
 
--- lists with the same numbers have the same thresholds next to a word
+-- lists with equal numbers have equal thresholds next to a word
 pub floor-same : (ws ts : List ℕ) (x : ℕ) → Within ws ts → Within ts ws → floor ws x ≡ floor ts x
 floor-same ws ts x there back =
     let low : floor ws x ≤ floor ts x = half ws ts x there in

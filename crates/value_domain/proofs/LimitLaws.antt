@@ -14,7 +14,7 @@ unfolding floor
 floor_mono [] x y h = omega arith
 floor_mono (t ∷ ts) x y h = let rest : floor ts x ≤ floor ts y = floor_mono ts x y h in grind (arith, nat_tests)
 
--- nothing lies between
+-- nothing is between
 pub floor_same : (ts : List ℕ) (x y : ℕ) → floor ts x ≤ y → y ≤ x → floor ts y ≡ floor ts x
 unfolding floor
 floor_same [] x y low high = refl

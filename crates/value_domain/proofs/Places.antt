@@ -22,7 +22,7 @@ rising_order xs r =
       | inr ge ↦ let e : i ≡ j = omega arith in let o : get_or xs i 0 ≡ get_or xs j 0 = ap (λ (k : ℕ). get_or xs k 0) e in omega arith
     ])
 
--- where the last word is below x, all are
+-- if the last word is below x, all are
 pub below_last : (xs : List ℕ) (x : ℕ) → Rising xs → get_or xs (length xs - 1) 0 < x → (k : ℕ) → k < length xs → get_or xs k 0 < x
 below_last xs x r last k h =
     elim (cases_lt k (length xs - 1)) [
@@ -34,7 +34,7 @@ below_last xs x r last k h =
 abbrev pub Below : List ℕ → ℕ → ℕ → Type 0
 Below xs k x = (j : ℕ) → j < k → get_or xs j 0 < x
 
--- where the word that is reached isn't x, x is none of them
+-- if the word that is reached isn't x, x is none of them
 pub not_among : (xs : List ℕ) (k x : ℕ) → Rising xs → Below xs k x → (k < length xs → x ≤ get_or xs k 0) → (k < length xs → get_or xs k 0 ≡ x → ⊥) → Among x xs → ⊥
 not_among xs k x rising below reached other i =
     let p = among_place xs x i in
@@ -50,7 +50,7 @@ not_among xs k x rising below reached other i =
           ]
     ]
 
--- where x is one of the words, it is the one that is reached
+-- if x is one of the words, it is the one that is reached
 pub reached_is : (xs : List ℕ) (k x : ℕ) → Rising xs → Below xs k x → (k < length xs → x ≤ get_or xs k 0) → Among x xs → get_or xs k 0 ≡ x
 reached_is xs k x rising below reached i =
     elim (cases_eq (get_or xs k 0) x) [ inl e ↦ e | inr other ↦ absurd (not_among xs k x rising below reached (λ h e. other e) i) ]

@@ -201,7 +201,7 @@ any_cover b limits =
 pub any_value : (b : Limits) → AreLimits b → IsValue b any_val
 any_value b limits = subst (λ (v : Val). IsValue b v) (any_cover b limits) (range_value b 0 (2 ^ 32 - 1) 0 limits (omega arith) (omega arith) (omega arith))
 
--- each value lies in that of all words
+-- each value is below that of all words
 pub below_any : (v : Val) → IsWell v → IsBelow v any_val
 below_any v well z m = (omega arith, omega (arith, members_below v well z (among_member v z (has_step v well) m)), omega arith)
 

@@ -1,4 +1,4 @@
--- What holds of all values.
+-- The laws of values.
 use Rattle.std.specs.Prelude.{◌<◌, ◌≤◌, ◌^◌, ◌++◌, ◌↔◌, ℕ, List, length}
 use Rattle.value_domain.specs.declared.values.Val.{Val}
 use Rattle.tcd_plan.specs.PlanData.{PlanData}
@@ -39,11 +39,11 @@ abbrev pub AreJoins : Type 0
 AreJoins =
     (b : Limits) (v w : Val) → AreLimits b → IsValue b v → IsValue b w → IsLeastAbove b v w (cover b (members v ++ members w))
 
--- a word and the thresholds of a plan next to it
+-- the thresholds of a plan next to a word
 pub record HasThresholds (ts : List ℕ) (x : ℕ) : Type 0 where
   pub floor : IsFloor ts x (floor ts x)
   pub above : IsAbove ts x (above ts x)
 
--- each word lies between the greatest threshold not above it and the least above it
+-- each word is between the greatest threshold that is at most it and the least above it
 abbrev pub AreThresholds : Type 0
 AreThresholds = (plan : PlanData) (x : ℕ) → x < 2 ^ 32 → HasThresholds (thresholds_of plan) x

@@ -1,4 +1,4 @@
--- Values and states, the least one above others, and the thresholds of a plan.
+-- Definitions of values, states, their order and joins, and the thresholds of a plan.
 pub mod Ends
 pub mod Floors
 pub mod Laws

@@ -1,4 +1,4 @@
--- What of a value lies in a range or among words.
+-- Meets: the members of a value that are in a range or among given words.
 use Rattle.std.specs.Prelude.{ℕ, nat_le, ◌==◌, Bool, ◌&&◌, List, [], ◌∷◌, Option, Some, None}
 use Rattle.std.specs.List.{list_any}
 use Rattle.value_domain.specs.declared.values.Val.{Val}
@@ -7,12 +7,12 @@ use Rattle.value_domain.specs.Sets.{alignment_log2}
 use Rattle.value_domain.specs.Limits.{Limits}
 use Rattle.value_domain.specs.Values.{cover}
 
--- the cover, or none for no words
+-- the cover of the words, or none if there are no words
 abbrev pub cover_some : Limits → List ℕ → Option Val
 cover_some b [] = None
 cover_some b (x ∷ xs) = Some (cover b (x ∷ xs))
 
--- a word lies in a range
+-- a word is in a range
 abbrev pub in_span : ℕ → ℕ → ℕ → ℕ → Bool
 in_span lo last step x = nat_le lo x && nat_le x last && nat_le step (alignment_log2 x)
 

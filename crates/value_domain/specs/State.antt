@@ -1,23 +1,23 @@
--- States, the covering of one by another, and the least state that covers two.
+-- States, their order, and the least state that covers two.
 use Rattle.std.specs.Prelude.{◌<◌, ◌≤◌, ℕ, Bool, ◌&&◌, ◌||◌, ◌==◌, if◌then◌else◌, min, List, [], ◌∷◌, ◌++◌, length, Option, Some, None, IsTrue, slice_index_or, nat_lt, nat_le}
 use Rattle.value_domain.specs.declared.values.Val.{Val}
 use Rattle.value_domain.specs.declared.states.State.{State}
 use Rattle.value_domain.specs.Limits.{Limits}
 use Rattle.value_domain.specs.Values.{IsWell, IsValue, IsBelow, cover, members, any_val}
 
--- each register of a list has a well-formed value
+-- each value of a list is well-formed
 abbrev pub AreWell : List Val → Type 0
 AreWell vs = (r : ℕ) → r < length vs → IsWell (slice_index_or vs r any_val)
 
--- each register of a list has a value of the plan and the version
+-- each value of a list is one of the plan's lattice at the limits of the version
 abbrev pub AreValues : Limits → List Val → Type 0
 AreValues b vs = (r : ℕ) → r < length vs → IsValue b (slice_index_or vs r any_val)
 
--- each register's value is below that of the same register in another list
+-- each value is below the one at its place in the other list
 abbrev pub AreBelow : List Val → List Val → Type 0
 AreBelow vs ws = (r : ℕ) → r < length vs → IsBelow (slice_index_or vs r any_val) (slice_index_or ws r any_val)
 
--- as many flags, and each implies the other's
+-- equally many flags, and each of the first list implies the one at its place in the second
 abbrev pub ImpliedBy : List Bool → List Bool → Type 0
 ImpliedBy [] [] = Unit {0}
 ImpliedBy [] (y ∷ ys) = ⊥
@@ -44,7 +44,7 @@ joined_regs b [] ws = []
 joined_regs b (v ∷ vs) [] = []
 joined_regs b (v ∷ vs) (w ∷ ws) = join_of b v w ∷ joined_regs b vs ws
 
--- the flags of two states' locals, each set where both have it
+-- the flags of two states' locals, each set if both have it
 abbrev pub joined_locals : List Bool → List Bool → List Bool
 joined_locals [] ys = []
 joined_locals (x ∷ xs) [] = []
@@ -60,10 +60,10 @@ joined_of b s t = record {
   locals = record { items = joined_locals s.locals.items t.locals.items };
 }
 
--- none for unequal numbers of locals
+-- the least state that covers both; none if they have different numbers of locals
 abbrev pub joined_states : Limits → State → State → Option State
 joined_states b s t = if length s.locals.items == length t.locals.items then Some (joined_of b s t) else None
 
--- the places of the lower registers D0..D7 and A2..A7
+-- the places of the lower registers D0..D7 and A2..A7 in a state
 abbrev pub is_lower_slot : ℕ → Bool
 is_lower_slot i = nat_lt i 8 || (nat_le 16 i && nat_lt i 22)

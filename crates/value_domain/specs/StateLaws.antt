@@ -1,4 +1,4 @@
--- What holds of the joining of states.
+-- The law of the join of states.
 use Rattle.std.specs.Prelude.{◌≡◌, length}
 use Rattle.value_domain.specs.declared.states.State.{State}
 use Rattle.value_domain.specs.Limits.{Limits, AreLimits}
@@ -11,7 +11,7 @@ pub record IsJoin (b : Limits) (s t j : State) : Type 0 where
   pub right : Covers j t
   pub least : (u : State) → length u.regs ≡ length s.regs → AreValues b u.regs → Covers u s → Covers u t → Covers u j
 
--- two states with as many registers and locals are joined to the least state that covers both
+-- two states with equally many registers and locals are joined to the least state that covers both
 abbrev pub AreJoined : Type 0
 AreJoined =
     (b : Limits) (s t : State) → AreLimits b → length s.regs ≡ length t.regs → length s.locals.items ≡ length t.locals.items

@@ -10,10 +10,10 @@ unfoldable pub powers_of_two : ℕ → List ℕ
 powers_of_two zero = []
 powers_of_two (suc n) = powers_of_two n ++ 2 ^ n ∷ []
 
--- 0, the powers of two from 1 to 2^32, and where each range of the plan begins and ends
+-- 0, the powers of two from 1 to 2^32, and the two ends of each range of the plan
 abbrev pub thresholds_of : PlanData → List ℕ
 thresholds_of p = (0 ∷ powers_of_two 33) ++ ends (all_ranges p)
 
--- the plan's thresholds, and the most words of a Set and the most locals in a certificate of the version
+-- the plan's thresholds, and the limits of the version
 abbrev pub limits_for : PlanData → ℕ → Limits
 limits_for p version = record { thresholds = thresholds_of p; most_words = most_words_of version; most_locals = most_locals_of version }

@@ -11,11 +11,11 @@ abbrev pub IsMember : ℕ → Val → Type 0
 IsMember x (Set ws) = Among x ws
 IsMember x (Span lo last step) = (lo ≤ x) × (x ≤ last) × (step ≤ alignment_log2 x)
 
--- a range's first multiple of 2 ^ step, in units, and how many it has
+-- the first multiple of 2 ^ step from lo on, divided by 2 ^ step
 abbrev pub first_in : ℕ → ℕ → ℕ
 first_in lo step = (lo + (2 ^ step - 1)) / 2 ^ step
 
--- how many multiples of 2 ^ step lie in lo..=last
+-- the number of multiples of 2 ^ step in lo..=last
 abbrev pub count_in : ℕ → ℕ → ℕ → ℕ
 count_in lo last step = (last / 2 ^ step + 1) - first_in lo step
 
@@ -23,7 +23,7 @@ count_in lo last step = (last / 2 ^ step + 1) - first_in lo step
 abbrev pub range : ℕ → ℕ → ℕ → List ℕ
 range lo last step = multiples (count_in lo last step) (first_in lo step) (2 ^ step)
 
--- the words that a value stands for; of a Span in ascending order
+-- the members of a value; those of a Span in ascending order
 abbrev pub members : Val → List ℕ
 members (Set ws) = ws
 members (Span lo last step) = range lo last step
@@ -53,7 +53,8 @@ pub record IsValue (b : Limits) (v : Val) : Type 0 where
 abbrev pub IsBelow : Val → Val → Type 0
 IsBelow v w = (x : ℕ) → IsMember x v → IsMember x w
 
--- lo and hi are the least and the greatest of a set, and s is the greatest step up to 2 that fits all of it
+-- lo and hi are the least and the greatest of a set, and s is the greatest step up to 2 that fits
+-- all of it
 pub record IsExtent (xs : List ℕ) (lo hi s : ℕ) : Type 0 where
   pub low_in : Among lo xs
   pub high_in : Among hi xs
@@ -67,7 +68,7 @@ pub record IsExtent (xs : List ℕ) (lo hi s : ℕ) : Type 0 where
 abbrev pub any_val : Val
 any_val = Span 0 4294967295 0
 
--- the words of a Set; a Span doesn't list any
+-- the words of a Set; none for a Span
 abbrev pub words_of : Val → Option (List ℕ)
 words_of (Set ws) = Some ws
 words_of (Span lo last step) = None

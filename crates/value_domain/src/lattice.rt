@@ -1,4 +1,4 @@
-// The least value that holds a set.
+// Operations of the lattice of values: order, join, and the least value that holds a set.
 ghost use Rattle.std.specs.Prelude.{◌≡◌, ◌==◌, ◌≤◌, ◌<◌, ◌+◌, ◌-◌, ◌*◌, ◌/◌, ◌^◌, IsTrue, length, min, max, [], ◌∷◌, ◌++◌, List, ℕ, ◌↔◌, IsSome, IsNone, slice_index};
 ghost use Rattle.value_domain.specs.Values as values;
 ghost use Rattle.value_domain.specs.Sets.{AreWords, Among, Within, Rising, least, greatest, step_of};
@@ -13,7 +13,8 @@ use crate::values::{has, set_span};
 use crate::{Bounds, Val, Words};
 use arrayvec::ArrayVec;
 
-/// The least and the greatest member of a value, and its step.
+/// The least and the greatest member of a value, and its step: the greatest one up to 2 such that
+/// 2^`step` divides all members.
 #[derive(Clone, Copy)]
 pub struct Extent {
     pub least: u32,
@@ -21,7 +22,7 @@ pub struct Extent {
     pub step: u8,
 }
 
-/// How often two divides a word, counted up to 2.
+/// Returns how many times two divides a word, counted up to 2.
 #[tactic(auto, unfolding(crate::specs::Sets::alignment_log2))]
 pub fn alignment_log2(x: u32) -> u8
     ensures { result ≡ sets.alignment_log2 x }
@@ -35,6 +36,7 @@ pub fn alignment_log2(x: u32) -> u8
     }
 }
 
+/// Returns true if the word is a member of the value.
 pub fn member(x: u32, v: &Val) -> bool
     requires { IsWell v.now }
     ensures { IsTrue result ↔ IsMember x v.now }
@@ -56,14 +58,14 @@ fn set_extent(words: &[u32]) -> Extent
     }
 }
 
-/// The greatest step that fits all words.
+/// Returns the greatest step that fits all words.
 fn least_step(words: &[u32]) -> u8
     ensures { result ≡ step_of words.now }
 {
     alignment_log2(bits_of(words))
 }
 
-/// The bits that are set in any of the words.
+/// Returns the bits that are set in at least one of the words.
 fn bits_of(words: &[u32]) -> u32
     ensures { sets.alignment_log2 result ≡ step_of words.now }
 {
@@ -86,6 +88,7 @@ fn span_extent(lo: u32, last: u32, step: u8) -> Extent
     }
 }
 
+/// Returns the extent of a value.
 pub fn extent_of(v: &Val) -> Extent
     requires { IsWell v.now }
     ensures { IsExtent (members v.now) result.least result.greatest result.step }
@@ -96,7 +99,8 @@ pub fn extent_of(v: &Val) -> Extent
     }
 }
 
-/// The Span from the greatest threshold that isn't above `least` up to the least one above `greatest`.
+/// Returns the Span from the greatest threshold that is at most `least` to the least one above
+/// `greatest`.
 pub fn span(b: &Bounds, least: u32, greatest: u32, step: u8) -> Val
     ensures { result
         ≡ Span (floor b.now.thresholds least) (above b.now.thresholds greatest - 1) step }
@@ -108,7 +112,7 @@ pub fn span(b: &Bounds, least: u32, greatest: u32, step: u8) -> Val
     }
 }
 
-/// The value with one more word.
+/// Returns the least value that holds `v` and the word.
 pub fn with_word(b: &Bounds, v: Val, x: u32) -> Val
     requires { IsValue b.now v }
     ensures cover { result ≡ cover b.now (x ∷ members v) }
@@ -119,7 +123,7 @@ pub fn with_word(b: &Bounds, v: Val, x: u32) -> Val
     out
 }
 
-/// Adds a word to a value, which becomes the least one that holds it too.
+/// Widens a value to the least one that holds the word too.
 pub fn add_word(b: &Bounds, v: &mut Val, x: u32)
     requires { IsValue b.now v.old }
     ensures cover { v.new ≡ cover b.now (x ∷ members v.old) }
@@ -161,7 +165,7 @@ fn wider(b: &Bounds, e: &Extent, x: u32) -> Val
     )
 }
 
-/// Adds words to a value, which becomes the least one that holds them too.
+/// Widens a value to the least one that holds the words too.
 pub fn add_words(b: &Bounds, v: &mut Val, words: &[u32])
     requires { IsValue b.now v.old }
     ensures cover { v.new ≡ cover b.now (members v.old ++ words.now) }
@@ -178,14 +182,14 @@ pub fn add_words(b: &Bounds, v: &mut Val, words: &[u32])
     }
 }
 
-/// Whether a value is written out.
+/// Returns true if a value is a Set.
 pub fn is_set(v: &Val) -> bool
     ensures { IsTrue result ↔ IsSome (words_of v.now) }
 {
     v.words().is_some()
 }
 
-/// Writes the value that holds all words over another.
+/// Overwrites a value with the one that holds all words.
 #[inline(always)]
 pub fn write_any(out: &mut Val)
     ensures { out.new ≡ any_val }
@@ -193,7 +197,7 @@ pub fn write_any(out: &mut Val)
     set_span(out, 0, u32::MAX, 0);
 }
 
-/// Adds words to a Span.
+/// Widens a Span to the least value that holds the words too.
 fn widen(b: &Bounds, v: &mut Val, words: &[u32])
     requires span { IsNone (words_of v.old) }
     requires value { IsValue b.now v.old }
@@ -203,7 +207,7 @@ fn widen(b: &Bounds, v: &mut Val, words: &[u32])
     *v = span(b, e.least, e.greatest, e.step);
 }
 
-/// The extent of words that have this one, and of more.
+/// Returns the extent of these words and those of another extent together.
 pub fn extent_with(e: &Extent, words: &[u32]) -> Extent
     ensures { (xs : List ℕ) → IsExtent xs e.now.least e.now.greatest e.now.step
         → IsExtent (xs ++ words.now) result.least result.greatest result.step }
@@ -223,7 +227,7 @@ pub fn extent_with(e: &Extent, words: &[u32]) -> Extent
     }
 }
 
-/// The least value that holds the words.
+/// Returns the least value that holds the words.
 pub fn cover_words(b: &Bounds, words: &[u32]) -> Val
     requires { 1 ≤ length words.now }
     ensures cover { result ≡ cover b.now words.now }
@@ -235,7 +239,7 @@ pub fn cover_words(b: &Bounds, words: &[u32]) -> Val
     out
 }
 
-/// Whether two values are the same.
+/// Returns true if two values are equal.
 pub(crate) fn are_same(v: &Val, w: &Val) -> bool
     ensures { IsTrue result ↔ (v.now ≡ w.now) }
 {
@@ -261,7 +265,7 @@ fn is_the_span(v: &Val, lo: u32, last: u32, step: u8) -> bool
     }
 }
 
-/// The least value that holds both.
+/// Returns the least value that holds both.
 pub fn join(b: &Bounds, v: &Val, w: &Val) -> Val
     requires left { IsValue b.now v.now }
     requires right { IsValue b.now w.now }
@@ -290,7 +294,7 @@ fn join_set(b: &Bounds, v: &Val, words: &Words) -> Val
     }
 }
 
-/// The least value that holds an ascending list of words.
+/// Returns the least value that holds an ascending list of words.
 fn value_of(b: &Bounds, words: &[u32]) -> Val
     requires some { 1 ≤ length words.now }
     requires rising { Rising words.now }
@@ -317,7 +321,7 @@ fn join_span(b: &Bounds, v: &Val, lo: u32, last: u32, step: u8) -> Val
     )
 }
 
-/// Whether each member of `v` is one of `w`.
+/// Returns true if each member of `v` is a member of `w`.
 pub fn leq(v: &Val, w: &Val) -> bool
     requires left { IsWell v.now }
     requires right { IsWell w.now }
@@ -332,7 +336,7 @@ pub fn leq(v: &Val, w: &Val) -> bool
     }
 }
 
-/// Whether each member of `v` is a multiple of `2 ^ step` in `lo..=last`.
+/// Returns true if each member of `v` is a multiple of `2 ^ step` in `lo..=last`.
 fn is_below_span(v: &Val, lo: u32, last: u32, step: u8) -> bool
     requires left { IsWell v.now }
     requires step { step ≤ 2 }
@@ -345,7 +349,7 @@ fn is_below_span(v: &Val, lo: u32, last: u32, step: u8) -> bool
     is_inside(&e, lo, last, step)
 }
 
-/// Whether a Span has all words.
+/// Returns true if a Span has all words.
 fn is_all(lo: u32, last: u32, step: u8) -> bool
     ensures { IsTrue result ↔ ((lo ≡ 0) × (last ≡ 4294967295) × (step ≡ 0)) }
 {
@@ -358,7 +362,7 @@ fn is_inside(e: &Extent, lo: u32, last: u32, step: u8) -> bool
     lo <= e.least && e.greatest <= last && step <= e.step
 }
 
-/// Whether each of the words is one of the others: both ascend and are walked once.
+/// Returns true if each of the words is one of the others. Both lists ascend and are walked once.
 fn are_among(own: &[u32], words: &[u32]) -> bool
     requires own { Rising own.now }
     requires words { Rising words.now }
@@ -374,7 +378,8 @@ fn are_among(own: &[u32], words: &[u32]) -> bool
     true
 }
 
-/// The first place from `k` on whose word isn't below `x`, or the number of words where all are.
+/// Returns the first place from `k` on whose word is at least `x`, or the number of words if there
+/// is none.
 fn first_from(words: &[u32], k: usize, x: u32) -> usize
     requires start { k ≤ length words.now }
     ensures start { k ≤ result }
@@ -405,7 +410,7 @@ fn is_range_among(lo: u32, last: u32, step: u8, words: &[u32]) -> bool
     true
 }
 
-/// Whether a value is one of the plan and the version.
+/// Returns true if a value is one of the plan's lattice at the limits of the version.
 pub fn is_value(b: &Bounds, v: &Val) -> bool
     ensures { IsTrue result ↔ IsValue b.now v.now }
 {
@@ -432,7 +437,7 @@ fn is_span(b: &Bounds, lo: u32, last: u32, step: u8) -> bool
     lo == b.floor(e.least) && u64::from(last) + 1 == b.above(e.greatest)
 }
 
-/// How many multiples of `2 ^ step` a range has.
+/// Returns the number of multiples of `2 ^ step` in a range.
 pub fn count_of(lo: u32, last: u32, step: u8) -> u64
     requires { step ≤ 2 }
     ensures { result ≡ count_in lo last step }
@@ -441,7 +446,7 @@ pub fn count_of(lo: u32, last: u32, step: u8) -> u64
     (u64::from(last) / unit + 1).saturating_sub((u64::from(lo) + (unit - 1)) / unit)
 }
 
-/// The least value that holds the multiples of `2 ^ step` in `first..=last`.
+/// Returns the least value that holds the multiples of `2 ^ step` in `first..=last`.
 pub fn cover(b: &Bounds, first: u32, last: u32, step: u8) -> Val
     requires step { step ≤ 2 }
     requires some { 1 ≤ count_in first last step }

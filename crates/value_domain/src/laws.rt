@@ -1,9 +1,10 @@
-// What holds of all values and states.
+// Laws of values and states.
 ghost use Rattle.value_domain.specs.Laws.{AreJoins, AreMembers, AreThresholds, IsClosure};
 ghost use Rattle.value_domain.specs.StateLaws.{AreJoined};
 
-/// A value is its members; `cover` gives the least value that holds a set, `join` the least value above two; a span's
-/// ends are the thresholds next to its least and greatest member.
+/// The laws of values: a value is given by its members; `cover` is the least value that holds a
+/// set, and `join` the least value above two; the ends of a Span are the thresholds next to its
+/// least and greatest member.
 pub fn value_laws()
     ensures members { AreMembers }
     ensures closure { IsClosure }
@@ -11,7 +12,7 @@ pub fn value_laws()
     ensures thresholds { AreThresholds }
 {}
 
-/// Joining gives the least state that covers both.
+/// The law of states: the join is the least state that covers both.
 pub fn state_laws()
     ensures { AreJoined }
 {}

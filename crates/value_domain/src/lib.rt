@@ -1,4 +1,4 @@
-//! Values: a finite lattice of sets of words, and states of 27 registers over it.
+//! Values, a finite lattice of sets of words, and states of 27 registers over them.
 #![tactic(auto)]
 
 mod lattice;

@@ -1,4 +1,4 @@
-// What of a value lies in a range, among words, or in either of two.
+// Meets: the members of a value that are in a range or among given words.
 ghost use Rattle.std.specs.Prelude.{◌≡◌, ◌==◌, ◌≤◌, List, ℕ, [], ◌∷◌, ◌++◌, filter, IfSome};
 ghost use Rattle.std.specs.List.{list_any};
 ghost use Rattle.value_domain.specs.Values.{IsValue, IsWell, members, range};
@@ -8,7 +8,7 @@ ghost use Rattle.value_domain.specs.Meets.{cover_some, in_span, is_member};
 use crate::lattice::{alignment_log2, count_of, cover, join, with_word};
 use crate::{Bounds, Val};
 
-/// One more word.
+/// Adds a word to a value, if there is one; else returns the value of the word alone.
 fn add(b: &Bounds, v: Option<Val>, x: u32) -> Option<Val>
     requires { IfSome v (IsValue b.now) }
     ensures more { (xs : List ℕ) → v ≡ cover_some b.now xs
@@ -22,7 +22,7 @@ fn add(b: &Bounds, v: Option<Val>, x: u32) -> Option<Val>
     }
 }
 
-/// Either of two, or both joined.
+/// Joins two values, if there are both; else returns the one that there is.
 pub fn join_some(b: &Bounds, v: Option<Val>, w: Option<Val>) -> Option<Val>
     requires left { IfSome v (IsValue b.now) }
     requires right { IfSome w (IsValue b.now) }
@@ -39,7 +39,8 @@ pub fn join_some(b: &Bounds, v: Option<Val>, w: Option<Val>) -> Option<Val>
     }
 }
 
-/// The cover of the members that are multiples of `2 ^ step` in `lo..=last`.
+/// Returns the cover of the members that are multiples of `2 ^ step` in `lo..=last`, or `None` if
+/// there are none.
 pub fn meet(b: &Bounds, v: &Val, lo: u32, last: u32, step: u8) -> Option<Val>
     requires value { IsValue b.now v.now }
     requires step { step ≤ 2 }
@@ -86,7 +87,7 @@ fn is_in(lo: u32, last: u32, step: u8, x: u32) -> bool
     lo <= x && x <= last && step <= alignment_log2(x)
 }
 
-/// The cover of the words that are members of `v`.
+/// Returns the cover of the words that are members of `v`, or `None` if there are none.
 pub fn cover_of_words(b: &Bounds, words: &[u32], v: &Val) -> Option<Val>
     requires { IsWell v.now }
     ensures kept { result ≡ cover_some b.now (filter (λ x. is_member x v.now) words.now) }

@@ -1,4 +1,4 @@
-// States of 27 registers.
+// States of 27 registers: copies, order and join.
 ghost use Rattle.std.specs.Prelude.{◌≡◌, ◌≤◌, ◌<◌, ◌↔◌, IsTrue, length, ℕ, slice_index_or, ◌&&◌};
 ghost use Rattle.value_domain.specs.Values.{IsWell, IsValue, IsBelow, any_val};
 ghost use Rattle.value_domain.specs.State.{Covers, AreWell, AreValues, joined_states, joined_regs, joined_locals, AreBelow, ImpliedBy};
@@ -8,7 +8,10 @@ use crate::values::{copy_of, copy_to};
 use crate::{Bounds, Val, join, leq};
 use arrayvec::ArrayVec;
 
-/// The values of the registers D0..D15, A2..A7, A10, A12..A15, and what is known of the context.
+/// What is known before an instruction. `regs` has the values of D0 to D15, A2 to A7, A10 and A12
+/// to A15, in this order. `ie`: interrupts may be enabled. `ccpn`: CCPN is at least this. `lower`:
+/// the lower registers are those of the entry. `locals`: a flag for each lower context that the
+/// frame saved itself and hasn't restored: it holds the lower registers of the entry.
 #[derive(Drop)]
 pub struct State {
     pub regs: [Val; 27],
@@ -19,6 +22,7 @@ pub struct State {
 }
 
 impl State {
+    /// Returns a copy of the state.
     pub fn copy(&self) -> State
         ensures { result ≡ self.now }
     {
@@ -42,7 +46,7 @@ fn copy_regs(regs: &[Val; 27]) -> [Val; 27]
     copy
 }
 
-/// Whether each run that a state allows is allowed by the upper one.
+/// Returns true if each run that a state allows is allowed by the upper one.
 pub fn covers(upper: &State, s: &State) -> bool
     requires upper { AreWell upper.now.regs }
     requires state { AreWell s.now.regs }
@@ -57,7 +61,7 @@ pub fn covers(upper: &State, s: &State) -> bool
     are_below(&s.regs, &upper.regs)
 }
 
-/// Whether the context of a state covers this one.
+/// Returns true if the context of a state covers this one.
 pub fn covers_context(upper: &State, ie: bool, ccpn: u8, lower: bool) -> bool
     ensures { IsTrue result
         ↔ ((IsTrue ie → IsTrue upper.now.ie) × (upper.now.ccpn ≤ ccpn)
@@ -85,7 +89,8 @@ fn are_below(low: &[Val; 27], high: &[Val; 27]) -> bool
     true
 }
 
-/// Whether there are as many flags, and each implies the other's.
+/// Returns true if there are equally many flags, and each of `flags` implies the other at its
+/// place.
 pub fn are_implied(flags: &[bool], others: &[bool]) -> bool
     ensures { IsTrue result ↔ ImpliedBy flags.now others.now }
 {
@@ -100,7 +105,7 @@ pub fn are_implied(flags: &[bool], others: &[bool]) -> bool
     true
 }
 
-/// The least state that covers both, if they have as many locals.
+/// Returns the least state that covers both, or `None` if they have different numbers of locals.
 pub fn join_states(b: &Bounds, s: &State, t: &State) -> Option<State>
     requires left { AreValues b.now s.now.regs }
     requires right { AreValues b.now t.now.regs }

@@ -1,4 +1,5 @@
-// A value is a set of words: at most so many written out, or the multiples of a power of two in a range.
+// Values: sets of words.
+// A value is a list of at most 128 words, or the multiples of a power of two in a range.
 ghost use Rattle.std.specs.Prelude.{◌≡◌, ◌≤◌, ◌<◌, ◌+◌, ◌-◌, ◌^◌, IsTrue, length, IfSome, IfNone, [], ◌∷◌, List, ℕ, option_map, ◌↔◌, slice_index};
 ghost use Rattle.std.specs.Prelude.{IsSome};
 ghost use Rattle.std.specs.List.Sorted.{IsStrictlyIncreasing};
@@ -26,6 +27,7 @@ impl Model for Words {
 }
 
 impl Words {
+    /// Returns the list of one word.
     pub fn one(x: u32) -> Words
         ensures { result ≡ x ∷ [] }
     {
@@ -34,7 +36,7 @@ impl Words {
         Words { words }
     }
 
-    /// The words, if they ascend and are neither none nor too many.
+    /// Returns the list of these words, or `None` if they don't ascend or aren't 1 to 128.
     pub fn of(words: &[u32]) -> Option<Words>
         ensures some { IsSome result
             ↔ ((1 ≤ length words.now) × (length words.now ≤ 128) × IsStrictlyIncreasing words.now) }
@@ -47,7 +49,7 @@ impl Words {
         Some(Words { words: copy })
     }
 
-    /// The words, which are a set written out.
+    /// Returns the list of these words, which is known to be valid.
     pub(crate) fn held(words: &[u32]) -> Words
         requires { AreWords words.now }
         ensures { result ≡ words.now }
@@ -57,7 +59,7 @@ impl Words {
         }
     }
 
-    /// The words of a vector, which ascend.
+    /// Returns the list of a vector's words, which ascend.
     pub fn from_ascending(words: ArrayVec<u32, 128>) -> Words
         requires some { 1 ≤ length words.items }
         requires few { length words.items ≤ 128 }
@@ -68,6 +70,7 @@ impl Words {
         Words { words }
     }
 
+    /// Returns the words as a slice.
     pub fn as_slice(&self) -> &[u32]
         ensures items { result.now ≡ self.now }
         ensures words { AreWords self.now }
@@ -75,6 +78,7 @@ impl Words {
         self.words.as_slice()
     }
 
+    /// Returns a copy of the list.
     pub fn copy(&self) -> Words
         ensures { result ≡ self.now }
     {
@@ -83,7 +87,7 @@ impl Words {
         }
     }
 
-    /// Becomes these words, where it stands.
+    /// Overwrites the list with these words, in place.
     fn set(&mut self, words: &[u32])
         requires { AreWords words.now }
         ensures { self.new ≡ words.now }
@@ -92,7 +96,7 @@ impl Words {
         self.words.try_extend_from_slice(words).unwrap();
     }
 
-    /// Puts a word in its place.
+    /// Inserts a word at its place.
     pub fn put(&mut self, x: u32)
         requires room { length self.old < 128 }
         requires absent { ¬ Among x self.old }
@@ -103,7 +107,7 @@ impl Words {
     }
 }
 
-/// Words that ascend are a set written out.
+/// Establishes that ascending words make a valid Set.
 fn are_words(words: &[u32])
     requires some { 1 ≤ length words.now }
     requires few { length words.now ≤ 128 }
@@ -122,7 +126,7 @@ fn are_ascending(words: &[u32]) -> bool
     true
 }
 
-/// Whether there are words, and all of them, which ascend, are below `x`.
+/// Returns true if there are words, and all of these ascending words are below `x`.
 fn is_past(words: &[u32], x: u32) -> bool
     requires { Rising words.now }
     ensures { IsTrue result → (k : ℕ) → k < length words.now → slice_index words.now k < x }
@@ -133,7 +137,7 @@ fn is_past(words: &[u32], x: u32) -> bool
     words[words.len() - 1] < x
 }
 
-/// How many of the words, which ascend, are below `x`.
+/// Returns the number of ascending words that are below `x`.
 fn place(words: &[u32], x: u32) -> usize
     requires { Rising words.now }
     ensures within { result ≤ length words.now }
@@ -146,7 +150,7 @@ fn place(words: &[u32], x: u32) -> usize
     words.partition_point(|w| *w < x)
 }
 
-/// Whether `x` is one of the words, which ascend.
+/// Returns true if `x` is one of the ascending words.
 pub(crate) fn has(words: &[u32], x: u32) -> bool
     requires { Rising words.now }
     ensures { IsTrue result ↔ Among x words.now }
@@ -155,7 +159,7 @@ pub(crate) fn has(words: &[u32], x: u32) -> bool
     at < words.len() && words[at] == x
 }
 
-/// A vector of these elements.
+/// Returns a vector of these elements.
 pub(crate) fn copy_of<T: Copy + Default, const N: usize>(items: &[T]) -> ArrayVec<T, N>
     requires { length items.now ≤ N }
     ensures { result.items ≡ items.now }
@@ -165,8 +169,8 @@ pub(crate) fn copy_of<T: Copy + Default, const N: usize>(items: &[T]) -> ArrayVe
     copy
 }
 
-/// A set of words: a Set has the words that it lists, a Span the multiples of 2^`step` (`step` is at most 2) in
-/// `lo..=last`.
+/// A value: a set of words. A Set has the words of its list. A Span has the multiples of 2^`step`
+/// in `lo..=last`; `step` is at most 2.
 #[derive(Drop)]
 pub enum Val {
     Set(Words),
@@ -177,6 +181,7 @@ impl Val {
     ghost use Rattle.value_domain.specs.Values.{any_val, words_of};
     ghost use Rattle.value_domain.specs.declared.values.Val.TheVariants.{Set};
 
+    /// Returns the value that holds all words.
     pub fn any() -> Val
         ensures { result ≡ any_val }
     {
@@ -187,12 +192,14 @@ impl Val {
         }
     }
 
+    /// Returns the value that holds one word.
     pub fn one(x: u32) -> Val
         ensures { result ≡ Set (x ∷ []) }
     {
         Val::Set(Words::one(x))
     }
 
+    /// Returns the words of a Set; of a Span, `None`.
     pub fn words(&self) -> Option<&[u32]>
         ensures { option_map (λ s. s.now) result ≡ words_of self.now }
     {
@@ -202,6 +209,7 @@ impl Val {
         }
     }
 
+    /// Returns a copy of the value.
     pub fn copy(&self) -> Val
         ensures { result ≡ self.now }
     {
@@ -216,7 +224,7 @@ impl Val {
     }
 }
 
-/// Makes a value the same as another, in its place.
+/// Overwrites `out` with a copy of a value. If both are of one kind, only its parts are written.
 pub(crate) fn copy_to(v: &Val, out: &mut Val)
     ensures { out.new ≡ v.now }
 {
@@ -226,7 +234,7 @@ pub(crate) fn copy_to(v: &Val, out: &mut Val)
     }
 }
 
-/// Makes a value a Set of these words; where it is one only its words are written.
+/// Overwrites a value with the Set of these words. If it is a Set, only its words are written.
 pub fn set_words(out: &mut Val, words: &[u32])
     requires { AreWords words.now }
     ensures { out.new ≡ Set words.now }
@@ -237,7 +245,7 @@ pub fn set_words(out: &mut Val, words: &[u32])
     }
 }
 
-// A function of its own, so that the others have no room of a value to fill.
+// A function of its own, so that its callers need no stack for a value.
 #[inline(never)]
 fn set_from_span(out: &mut Val, words: &[u32])
     requires { AreWords words.now }
@@ -246,7 +254,7 @@ fn set_from_span(out: &mut Val, words: &[u32])
     *out = Val::Set(Words::held(words));
 }
 
-/// Makes a value a Span; where it is one only its ends and step are written.
+/// Overwrites a value with a Span. If it is a Span, only its ends and step are written.
 pub fn set_span(out: &mut Val, lo: u32, last: u32, step: u8)
     ensures { out.new ≡ Span lo last step }
 {
