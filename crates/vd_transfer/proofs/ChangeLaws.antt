@@ -1,4 +1,4 @@
--- What a change makes of a state.
+-- The state after a change.
 use Rattle.std.proofs.Common.{◌≡◌, ℕ, ◌+◌, ◌<◌, not, ◌&&◌, List, length, get_or, Bool, true, false, refl, sym, ap, ◌∙◌, arith, Option, Some, None, cond, subst}
 use Rattle.std.specs.Prelude.{IsTrue, ◌↔◌}
 use Rattle.std.proofs.lemmas.List.{get_or-set_same, get_or-set_other, length-replicate}
@@ -66,7 +66,7 @@ bare-regs s c none free = free-regs s c free ∙ ap (λ (o : Option ℕ). value_
 pub one-is : (s : State) (c : Change) (x : ℕ) (v : Val) → state_after s (record (kept_in c s) { first = reg_put x v }) ≡ set_reg s x v
 one-is s c x v = sym (set_at-is s v (slot x))
 
--- a second value, where none stands behind the first
+-- a second value, if no later one is put at its place
 pub second-is : (s : State) (c : Change) (y : Arg) (w : Val) → c.second.at ≡ None → c.third.at ≡ None
     → state_after s (record c { second = record { at = arg_slot y; value = w } }) ≡ set_arg (state_after s c) y w
 second-is s c (Word z) w none free =

@@ -1,4 +1,4 @@
--- What instructions do to words that lie in a state lies in what they do to the state.
+-- If a state holds the words of registers, the changed state holds the words after the instruction.
 use Rattle.std.proofs.Common.{◌≡◌, ℕ, ◌+◌, ◌-◌, ◌*◌, ◌%◌, ◌^◌, ◌<◌, ◌≤◌, inl, inr, Bool, true, false, cond, not, List, [], ◌∷◌, length, get_or, set, refl, sym, ap, ◌∙◌, subst, arith, Option, Some, None, eqb, IsTrue, IsSome, eq-eqb, if◌then◌else◌}
 use Rattle.std.specs.Prelude.{IsSomeAnd}
 use Rattle.std.specs.List.{list_any}
@@ -60,7 +60,8 @@ reg_of-here : (p : PlanData) (s : State) (r : ℕ) (v : Val) (o : Option ℕ) �
 reg_of-here p s r v (Some i) len e some = get_or-set_same s.regs i v any_val (omega (arith, (slot_is r i (sym e)).within))
 reg_of-here p s r v None len e some = absurd (let f : false ≡ true = some in cc)
 
--- the words lie in a state with register r set, where r's word does and the others are as they were
+-- a state with register r set holds the words if r's new word is held and the others are as they
+-- were
 held_set : (p : PlanData) (s : State) (word word2 : ℕ → ℕ) (ie : Bool) (ccpn r : ℕ) (v : Val) → IsMember (word2 r) (value_at p (set_at s v (slot r)) r (slot r))
     → ((q : ℕ) → (q ≡ r → ⊥) → word2 q ≡ word q) → Holds p word ie ccpn s → Holds p word2 ie ccpn (set_reg s r v)
 held_set p s word word2 ie ccpn r v here others h = record {

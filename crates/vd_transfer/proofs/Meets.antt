@@ -1,4 +1,4 @@
--- What members stand in a relation to some of another value.
+-- The members that are in a relation to some member of another value.
 use Rattle.std.proofs.Common.{◌≡◌, ℕ, ◌^◌, ◌<◌, ◌≤◌, ◌⊎◌, inl, inr, Bool, true, false, not, List, ◌++◌, append-nil, refl, sym, ap, ◌∙◌, subst, arith, leb, ltb, eqb}
 use Rattle.std.specs.List.{filter, list_any}
 use Rattle.std.proofs.lemmas.Bool.{cases_Bool, leb-true, le-leb, cases_order, eqb-true, eqb-false, eq-eqb, ne_eqb, lt-ltb, ltb-true, not-true, not_from_false}
@@ -51,7 +51,7 @@ reaches AtMost x low high s ws order e = (
   (λ r. among_any (λ y. leb x y) high ws e.high_in (le-leb x high r)),
 )
 
--- no word lies in an empty interval
+-- no word is in an empty interval
 not_in : (lo last z : ℕ) → last < lo → in_span lo last 0 z ≡ false
 not_in lo last z lt =
     elim (cases_Bool (in_span lo last 0 z)) [

@@ -42,7 +42,7 @@ high_below v w = members_below v w (high v) (bounds_of v w).high_in
 pub lies : (v : Val) → IsWell v → (x : ℕ) → Among x (members v) → Lies x (low v) (high v) (step v)
 lies v w x i = let e = bounds_of v w in record { from = e.low x i; to = e.high x i; fits = e.fits x i }
 
--- the bounds of a smaller value lie inside
+-- the bounds of a smaller value are inside
 pub record Narrower (v v2 : Val) : Type 0 where
   pub low_in : low v2 ≤ low v
   pub high_in : high v ≤ high v2
@@ -65,7 +65,8 @@ low_high v w = let e = bounds_of v w in e.low (high v) e.high_in
 all_have : (x : ℕ) → x < 2 ^ 32 → Among x (all_of 0)
 all_have x h = among_range x 0 (2 ^ 32 - 1) 0 (omega arith) (omega arith, omega arith, omega arith)
 
--- what is known of a kind of shifts: they hold the shifted words, grow with the bounds, and give words
+-- what is known of a kind of shifts: they hold the shifted words, grow with the bounds, and give
+-- words below 2 ^ 32
 pub record AreShifts (shift : Shifts) (by : ℕ → ℕ → ℕ) : Type 0 where
   pub have : (x a b p n : ℕ) → p ≤ 2 → Lies x a b p → b < 2 ^ 32 → Among (by x n) (range_of (shift a b p n))
   pub grow : (a b p n a2 b2 p2 : ℕ) → p ≤ 2 → b < 2 ^ 32 → a2 ≤ a → b ≤ b2 → p2 ≤ p → Within (range_of (shift a b p n)) (range_of (shift a2 b2 p2 n))
@@ -349,7 +350,7 @@ some_results op v w wv ww =
 pub within_members : (b : Limits) (v w : Val) → IsValue b v → IsValue b w → IsBelow v w → Within (members v) (members w)
 within_members b v w vv vw below z i = among_member w z (has_step w vw.well) (below z (member_among v z (has_step v vv.well) i))
 
--- where both are Sets, each result is a result of the larger pair
+-- if both are Sets, each result is a result of the larger pair
 sets_below : (b : Limits) (op : Op) (xs ys : List ℕ) (v2 w2 : Val) → IsValue b (Set xs) → IsValue b (Set ys) → IsValue b v2 → IsValue b w2
     → IsBelow (Set xs) v2 → IsBelow (Set ys) w2 → IsBelow (value_of b op (Set xs) (Set ys)) (value_of b op v2 w2)
 unfolding results
@@ -361,7 +362,7 @@ sets_below b op xs ys v2 w2 vv vw vv2 vw2 there here =
     (cover_holds b (results op v2 w2) (alu_of op r.0 r.1)
     (results_have op v2 w2 vv2.well vw2.well r.0 r.1 (within_members b (Set xs) v2 vv vv2 there r.0 r.2) (within_members b (Set ys) w2 vw vw2 here r.1 r.3))))
 
--- where one is a Span, its larger value is one too
+-- if one is a Span, its larger value is one too
 rows_below : (b : Limits) (op : Op) (v w v2 w2 : Val) → IsValue b v → IsValue b w → IsValue b v2 → IsValue b w2 → IsBelow v v2 → IsBelow w w2
     → results op v w ≡ row op v w → results op v2 w2 ≡ row op v2 w2 → IsBelow (value_of b op v w) (value_of b op v2 w2)
 rows_below b op v w v2 w2 vv vw vv2 vw2 there here e f =
@@ -503,11 +504,11 @@ met_kept b v ms x well met i lt = stays b v (x ∷ members v) (get_or ms i 0) we
 pub met_one : (n x : ℕ) → HasMet (Set (x ∷ [])) (replicate n x)
 met_one n x i lt = inl (get_or-replicate n i x 0 (omega (arith, length-replicate n x)))
 
--- where no bit differs, two words are the same
+-- if no bit differs, two words are equal
 no_bits : (x y : ℕ) → bit_xor x y ≡ 0 → x ≡ y
 no_bits x y e = omega (arith, xor_add_and x y, and_le_l x y, and_le_r x y)
 
--- one more word of eight that are the same at both places
+-- one more word of eight that are equal at both places
 pub same_next : (ms ws : List ℕ) (k i j missed : ℕ) → (missed ≡ 0 → (n : ℕ) → n < j → get_or ms (k + n) 0 ≡ get_or ws (i + n) 0)
     → bit_or missed (bit_xor (get_or ms (k + j) 0) (get_or ws (i + j) 0)) ≡ 0 → (n : ℕ) → n < j + 1 → get_or ms (k + n) 0 ≡ get_or ws (i + n) 0
 same_next ms ws k i j missed before none n lt =
@@ -519,7 +520,7 @@ same_next ms ws k i j missed before none n lt =
       | inr g ↦ let e : j ≡ n = omega arith in subst (λ (m : ℕ). get_or ms (k + m) 0 ≡ get_or ws (i + m) 0) e same
     ]
 
--- words that are the same as some that were met are among these
+-- words that equal some that were added lately are among these
 same_within : (ms ws : List ℕ) (k i n : ℕ) → k + n ≤ length ms → ((m : ℕ) → m < n → get_or ms (k + m) 0 ≡ get_or ws (i + m) 0) → Within (take n (drop i ws)) ms
 same_within ms ws k i n fits same z a =
     let p = among_place (take n (drop i ws)) z a in

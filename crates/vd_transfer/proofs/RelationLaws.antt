@@ -49,7 +49,7 @@ related_holds cond.Ge side x y e = cc
 related_holds cond.GeU true x y e = refl
 related_holds cond.GeU false x y e = sym (not_leb y x)
 
--- the same in the signed order
+-- the laws in the signed order
 pub related_signed : (c : Cond) (side : Bool) (x y : ℕ) → is_signed c ≡ true → is_related (relation_of c side) (signed_place x) (signed_place y) ≡ holds c side x y
 unfolding is_related relation_of is_signed taken_of
 related_signed cond.Eq side x y e = cc

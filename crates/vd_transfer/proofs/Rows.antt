@@ -17,7 +17,7 @@ range_inside lo last s lo2 last2 s2 small a b c z i =
     let m = range_among z lo last s small i in
     among_range z lo2 last2 s2 (omega arith) (omega (arith, m.0), omega (arith, m.1), omega (arith, m.2))
 
--- x lies between a and b, and has step p
+-- x is from a to b, and has step p
 pub record Lies (x a b p : ℕ) : Type 0 where
   pub from : a ≤ x
   pub to : x ≤ b

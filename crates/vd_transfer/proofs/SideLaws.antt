@@ -85,7 +85,7 @@ words_side b cond side s x y u w value_u value_w own other =
           ∙ ap (λ (l : List ℕ). with_two s x y (cover_some b l) (cover_some b (kept_right cond side (u ∷ []) (w ∷ [])))) (sym (left_none cond side u w f))
     ]
 
--- ---- against a constant: something is left of it where something is left of the register
+-- ---- comparison with a constant: if something is left of the register, something is left of it
 pick : (b : Limits) (s : State) (x z : ℕ) (ls rs : List ℕ) → (1 ≤ length ls → 1 ≤ length rs) → with_one s x (cover_some b ls) ≡ with_two s x (Word z) (cover_some b ls) (cover_some b rs)
 pick b s x z [] rs h = refl
 pick b s x z (l ∷ ls) [] h = absurd (let n : 1 ≤ 0 = h (omega arith) in omega arith)

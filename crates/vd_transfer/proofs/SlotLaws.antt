@@ -14,7 +14,7 @@ none_some i e = absurd (let f : None ≡ Some i = e in cc)
 abbrev pub unslot : ℕ → ℕ
 unslot i = if ltb i 16 then i else if ltb i 22 then i + 2 else if ltb i 23 then 26 else i + 5
 
--- a place is one of 27, and tells its register
+-- a place is one of 27, and gives its register
 pub record IsSlot (r i : ℕ) : Type 0 where
   pub within : i < 27
   pub back : unslot i ≡ r

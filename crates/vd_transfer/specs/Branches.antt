@@ -21,7 +21,7 @@ abbrev pub is_reg : ℕ → Arg → Bool
 is_reg x (Reg y) = x == y
 is_reg x (Word w) = false
 
--- the state with an operand's value, where the operand is a register
+-- the state with an operand's value, if the operand is a register
 abbrev pub set_arg : State → Arg → Val → State
 set_arg s (Reg r) v = set_reg s r v
 set_arg s (Word w) v = s
@@ -31,12 +31,12 @@ abbrev pub possible : Bool → State → Option State
 possible true s = Some s
 possible false s = None
 
--- the register takes what is left of its value, if anything is
+-- the register is narrowed to the members that are possible, if there are any
 abbrev pub with_one : State → ℕ → Option Val → Option State
 with_one s x None = None
 with_one s x (Some z) = Some (set_reg s x z)
 
--- both operands do
+-- both operands are narrowed to the members that are possible, if each has any
 abbrev pub with_two : State → ℕ → Arg → Option Val → Option Val → Option State
 with_two s x y None w = None
 with_two s x y (Some v) None = None
@@ -51,7 +51,7 @@ state_on_side b p cond x y s side =
     (cover_some b (kept_left cond side (members (reg_of p s x)) (members (arg_of p s y))))
     (cover_some b (kept_right cond side (members (reg_of p s x)) (members (arg_of p s y))))
 
--- a loop lowers its register by 1, on both sides
+-- a loop decrements its register by 1, on both sides
 abbrev pub with_lowered_counter : Limits → PlanData → ℕ → Bool → Option State → Option State
 with_lowered_counter b p x lowers None = None
 with_lowered_counter b p x lowers (Some s) = Some (if lowers then write_reg s x (value_of b Sub (reg_of p s x) (word_val 1)) else s)

@@ -1,4 +1,4 @@
--- What an instruction changes of a state, and the state that it makes of it.
+-- Changes: what an instruction changes of a state, and the state afterwards.
 use Rattle.std.specs.Prelude.{ℕ, List, replicate, Option, Some, None, slice_set}
 use Rattle.tc_isa.specs.declared.shapes.Arg.{Arg}
 use Rattle.tc_isa.specs.declared.shapes.Arg.TheVariants.{Reg, Word}
@@ -15,12 +15,13 @@ use Rattle.vd_transfer.specs.declared.change.Change.{Change}
 use Rattle.vd_transfer.specs.Registers.{slot}
 use Rattle.vd_transfer.specs.Effects.{forgotten_from}
 
--- what was loaded is a value of the limits, where an instruction of this shape writes it
+-- what was loaded is a value of the limits, if an instruction of this shape writes it
 abbrev pub HasLoaded : Limits → Shape → Val → Type 0
 HasLoaded b (Load dst base offset size signed after) loaded = IsValue b loaded
 HasLoaded b _ loaded = Unit {0}
 
--- the values that a change starts from: the state's own, those with the lower registers any, or any at each place
+-- the values that a change starts from: the state's own, those with the lower registers unknown, or
+-- unknown everywhere
 abbrev pub base_of : Base → List Val → List Val
 base_of Same regs = regs
 base_of Forgotten regs = forgotten_from 0 regs
@@ -49,16 +50,16 @@ state_after s c = record {
 abbrev pub no_put : Put
 no_put = record { at = None; value = any_val }
 
--- a register takes a value, where a state has one for it
+-- the put of a register's value, if a state has one for it
 abbrev pub reg_put : ℕ → Val → Put
 reg_put r v = record { at = slot r; value = v }
 
--- where a state has an operand's value
+-- the place of an operand's value in a state
 abbrev pub arg_slot : Arg → Option ℕ
 arg_slot (Reg r) = slot r
 arg_slot (Word w) = None
 
--- the change that keeps all of a state
+-- the change that keeps the whole state
 abbrev pub kept_of : State → Change
 kept_of s = record {
   base = Same;
@@ -71,6 +72,6 @@ kept_of s = record {
   locals = s.locals;
 }
 
--- the same, with another's values at no place
+-- the change that keeps the whole state, with the values of another change at no place
 abbrev pub kept_in : Change → State → Change
 kept_in c s = record (kept_of s) { first = record c.first { at = None }; second = record c.second { at = None }; third = record c.third { at = None } }

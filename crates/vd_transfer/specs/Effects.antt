@@ -14,7 +14,7 @@ use Rattle.vd_transfer.specs.Operations.{value_of}
 use Rattle.vd_transfer.specs.Registers.{reg_of, arg_of, write_reg, word_val}
 use Rattle.value_domain.specs.State.{is_lower_slot}
 
--- the base register is increased by the offset where the access says so
+-- the base register is increased by the offset, if the access does that
 abbrev pub with_base : Limits → PlanData → State → Arg → ℕ → Bool → State
 with_base b p s (Reg r) offset after = if after then write_reg s r (value_of b Add (reg_of p s r) (word_val offset)) else s
 with_base b p s (Word w) offset after = s
@@ -23,16 +23,18 @@ with_base b p s (Word w) offset after = s
 abbrev pub access_of : Limits → PlanData → State → Arg → ℕ → Bool → Val
 access_of b p s base offset after = if after then arg_of p s base else value_of b Add (arg_of p s base) (word_val offset)
 
--- a lower context is saved: whether the lower registers are the entry's becomes a local
+-- a lower context is saved: the mark that the lower registers are those of the entry becomes a
+-- local
 abbrev pub saved_lower : State → State
 saved_lower s = record s { locals = record { items = s.locals.items ++ s.lower ∷ [] } }
 
--- values from place i on, those of lower registers any
+-- values from place i on, those of lower registers unknown
 unfoldable pub forgotten_from : ℕ → List Val → List Val
 forgotten_from i [] = []
 forgotten_from i (v ∷ vs) = (if is_lower_slot i then any_val else v) ∷ forgotten_from (i + 1) vs
 
--- the last lower context is restored: the lower registers may be any, and are the entry's where its local says so
+-- the last lower context is restored: the lower registers are unknown, and they are those of the
+-- entry if its local says so
 abbrev pub restored_lower : State → State
 restored_lower s = record s {
   regs = forgotten_from 0 s.regs;
@@ -40,7 +42,8 @@ restored_lower s = record s {
   locals = record { items = take (length s.locals.items - 1) s.locals.items };
 }
 
--- the state after an instruction that stays in its frame and isn't a branch or a jump; a load writes what was loaded
+-- the state after an instruction that stays in its frame and isn't a branch or a jump; a load
+-- writes the value that was loaded
 unfoldable pub transfer_of : Limits → PlanData → Shape → State → Val → State
 transfer_of b p (Compute op dst x y) s loaded = write_reg s dst (value_of b op (arg_of p s x) (arg_of p s y))
 transfer_of b p (Scaled dst base index n) s loaded = write_reg s dst (value_of b Add (reg_of p s base) (value_of b Sh (reg_of p s index) (word_val n)))
@@ -67,7 +70,8 @@ address_of b p (Load dst base offset size signed after) s = access_of b p s base
 address_of b p (Store src base offset size after) s = access_of b p s base offset after
 address_of b p _ s = any_val
 
--- lower contexts are saved only where a local has room, and restored only where there is one
+-- an instruction that saves a lower context has room for a local, and one that restores one has a
+-- local
 abbrev pub HasRoom : Limits → Shape → State → Type 0
 HasRoom b Svlcx s = length s.locals.items < b.most_locals
 HasRoom b (Bisr c) s = length s.locals.items < b.most_locals

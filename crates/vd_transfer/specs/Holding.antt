@@ -1,4 +1,4 @@
--- Words of registers that lie in a state, and what instructions do to them.
+-- Words of registers that a state holds, and what instructions do to them.
 use Rattle.std.specs.Prelude.{◌+◌, ◌-◌, ◌*◌, ◌%◌, ◌^◌, ◌<◌, ◌≤◌, ℕ, Bool, true, false, ◌==◌, if◌then◌else◌, IsTrue, IsSome}
 use Rattle.tcd_plan.specs.PlanData.{PlanData}
 use Rattle.tc_isa.specs.declared.shapes.Arg.{Arg}
@@ -11,8 +11,9 @@ use Rattle.value_domain.specs.declared.states.State.{State}
 use Rattle.value_domain.specs.Values.{IsMember}
 use Rattle.vd_transfer.specs.Registers.{slot, reg_of}
 
--- Each of the 32 registers has a member of its value (so A0, A1, A8 and A9 have the plan's words), interrupts are
--- enabled only where they may be, and CCPN isn't below the state's number. Registers are 0 to 15 for D, 16 to 31 for A.
+-- Each of the 32 registers has a member of its value (so A0, A1, A8 and A9 have the plan's words).
+-- Interrupts are enabled only if the state allows it, and CCPN is at least the state's. Registers
+-- are 0 to 15 for D, 16 to 31 for A.
 pub record Holds (p : PlanData) (word : ℕ → ℕ) (ie : Bool) (ccpn : ℕ) (s : State) : Type 0 where
   pub regs : (r : ℕ) → r < 32 → IsMember (word r) (reg_of p s r)
   pub enabled : IsTrue ie → IsTrue s.ie
@@ -36,7 +37,8 @@ abbrev pub with_base_word : (ℕ → ℕ) → Arg → ℕ → Bool → ℕ → �
 with_base_word word (Reg r) offset after = if after then set_word word r ((word r + offset) % 2 ^ 32) else word
 with_base_word word (Word w) offset after = word
 
--- the words after an instruction that read this word from outside; contexts are saved and restored elsewhere
+-- the words after an instruction that read this word from memory or a device; saving and restoring
+-- contexts is defined elsewhere
 unfoldable pub words_after : Shape → ℕ → (ℕ → ℕ) → ℕ → ℕ
 words_after (Compute op dst x y) input word = set_word word dst (alu_of op (word_of word x) (word_of word y))
 words_after (Scaled dst base index n) input word = set_word word dst ((word base + word index * 2 ^ n) % 2 ^ 32)
@@ -46,15 +48,15 @@ words_after (Branch cond x y by lowers) input word = if lowers then set_word wor
 words_after (Mfcr dst number) input word = set_word word dst input
 words_after _ input word = word
 
--- whether interrupts are enabled, and CCPN, after it
+-- interrupts are enabled after the instruction
 unfoldable pub ie_after : Shape → Bool → Bool
 ie_after (Bisr c) ie = true
 ie_after Enable ie = true
 ie_after Disable ie = false
 ie_after _ ie = ie
 
--- CCPN after it: BISR sets it, and contexts are restored elsewhere (TriCore 1 architecture manual, volume 2,
--- instruction set)
+-- CCPN after the instruction: BISR sets it, and restoring contexts is defined elsewhere (TriCore 1
+-- architecture manual, volume 2, instruction set)
 unfoldable pub ccpn_after : Shape → ℕ → ℕ
 ccpn_after (Bisr c) ccpn = c
 ccpn_after _ ccpn = ccpn
@@ -68,7 +70,7 @@ abbrev pub HasBaseValue : Arg → Bool → Type 0
 HasBaseValue (Reg r) after = IsTrue after → HasValue r
 HasBaseValue (Word w) after = Unit {0}
 
--- the instruction writes only such registers, and isn't MTCR
+-- the instruction writes only registers that a state has values for, and isn't MTCR
 abbrev pub WritesNoFixedRegister : Shape → Type 0
 WritesNoFixedRegister (Compute op dst x y) = HasValue dst
 WritesNoFixedRegister (Scaled dst base index n) = HasValue dst
@@ -79,7 +81,7 @@ WritesNoFixedRegister (Mfcr dst number) = HasValue dst
 WritesNoFixedRegister (Mtcr src number) = ⊥
 WritesNoFixedRegister _ = Unit {0}
 
--- the instruction stays in its frame, goes on with the next one, and restores nothing
+-- the instruction stays in its frame, is followed by the next one, and restores nothing
 abbrev pub StaysPlain : Shape → Type 0
 StaysPlain (Branch cond x y by lowers) = ⊥
 StaysPlain (Jump to) = ⊥
@@ -90,7 +92,7 @@ StaysPlain (Syscall tin) = ⊥
 StaysPlain Rslcx = ⊥
 StaysPlain _ = Unit {0}
 
--- a load reads a member of what is loaded
+-- a load reads a member of the value that was loaded
 abbrev pub ReadsMember : Shape → ℕ → Val → Type 0
 ReadsMember (Load dst base offset size signed after) input loaded = IsMember input loaded
 ReadsMember _ input loaded = Unit {0}

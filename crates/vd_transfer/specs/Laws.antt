@@ -1,4 +1,4 @@
--- What holds of operations.
+-- The laws of operations and refinement.
 use Rattle.std.specs.Prelude.{◌≡◌, ℕ, List, true}
 use Rattle.value_domain.specs.Sets.{Among, Within}
 use Rattle.vd_transfer.specs.declared.refinement.Relation.{Relation}
@@ -22,11 +22,11 @@ AreMonotone =
     (b : Limits) (op : Op) (v w v2 w2 : Val) → AreLimits b → IsValue b v → IsValue b w → IsValue b v2 → IsValue b w2
     → IsBelow v v2 → IsBelow w w2 → IsBelow (value_of b op v w) (value_of b op v2 w2)
 
--- what refinement keeps holds each word for which the relation holds, and grows with both sets
+-- refinement keeps each word for which the relation holds, and it grows with both sets
 pub record RefinesWell (rel : Relation) : Type 0 where
   pub sound : (vs ws : List ℕ) (x y : ℕ) → Among x vs → Among y ws → is_related rel x y ≡ true → Among x (kept_by rel vs ws)
   pub monotone : (vs ws vs2 ws2 : List ℕ) → Within vs vs2 → Within ws ws2 → Within (kept_by rel vs ws) (kept_by rel vs2 ws2)
 
--- refinement by each relation does so
+-- refinement by each relation keeps this law
 abbrev pub AreRefined : Type 0
 AreRefined = (rel : Relation) → RefinesWell rel

@@ -1,4 +1,4 @@
--- What instructions and branches do to states, and that the registers of the machine stay in them.
+-- Definitions of the effects of instructions and branches on states, and of their soundness.
 pub mod Branches
 pub mod Changes
 pub mod Effects

@@ -1,5 +1,6 @@
--- Operations on values. Where both operands are Sets the result covers all results; else it covers the set that the
--- row of the operation gives, by the bounds and the steps of its operands.
+-- Operations on values.
+-- If both operands are Sets, the value covers all results. Otherwise it covers the set that the row
+-- of the operation gives, by the bounds and the steps of its operands.
 use Rattle.std.specs.Prelude.{◌+◌, ◌-◌, ◌*◌, ◌/◌, ◌%◌, ◌^◌, ℕ, Bool, true, false, ◌||◌, nat_lt, nat_le, ◌<◌, if◌then◌else◌, min, max, List, [], ◌∷◌, ◌++◌, map, length, slice_index}
 use Rattle.tc_isa.specs.declared.shapes.Op.{Op}
 use Rattle.tc_isa.specs.declared.shapes.Op.TheVariants.{Second, Add, Sub, And, Nand, Or, Nor, Xor, Xnor, Andn, Orn, Eq, Ne, Lt, LtU, Ge, GeU, Sh, Sha}
@@ -12,7 +13,7 @@ use Rattle.value_domain.specs.Limits.{Limits}
 use Rattle.value_domain.specs.Values.{IsMember, cover, members, range}
 use Rattle.vd_transfer.specs.declared.strided_interval.StridedInterval.{StridedInterval}
 
--- a value's least and greatest member, and its step
+-- a value's least member
 abbrev pub low : Val → ℕ
 low v = least (members v)
 
@@ -24,7 +25,7 @@ high v = greatest (members v)
 abbrev pub step : Val → ℕ
 step v = step_of (members v)
 
--- the words of a run
+-- the words of a strided interval
 abbrev pub range_of : StridedInterval → List ℕ
 range_of r = range r.first r.last r.step
 
@@ -54,22 +55,25 @@ differences a b c d m =
     else if nat_lt b c then run (a + 2 ^ 32 - d) (b + 2 ^ 32 - c) m
     else whole m
 
--- shifts of a..=b of step p by the six bits n: left by n below 32, else right by 64 - n, filled with zeros
+-- shifts of a..=b of step p by the six bits n: to the left by n if it is below 32, else to the
+-- right by 64 - n, filled with zeros
 unfoldable pub shifts : ℕ → ℕ → ℕ → ℕ → StridedInterval
 shifts a b p n =
     if nat_lt n 32
     then (if nat_lt (b * 2 ^ n) (2 ^ 32) then run (a * 2 ^ n) (b * 2 ^ n) (min 2 (p + n)) else whole (min 2 (p + n)))
     else run (a / 2 ^ (64 - n)) (b / 2 ^ (64 - n)) 0
 
--- the same, but to the right filled with the sign bit
+-- shifts of a..=b of step p by the six bits n: to the left by n if it is below 32, else to the
+-- right by 64 - n, filled with the sign bit
 unfoldable pub signed_shifts : ℕ → ℕ → ℕ → ℕ → StridedInterval
 signed_shifts a b p n = if nat_lt n 32 || nat_lt b (2 ^ 31) then shifts a b p n else whole 0
 
--- a shift of words: the run of the results, by the words' ends and step and by the six bits of the count
+-- a shift of words: the run of the results, by the words' ends and step and by the six bits of the
+-- count
 abbrev pub Shifts : Type 0
 Shifts = ℕ → ℕ → ℕ → ℕ → StridedInterval
 
--- the run of shifts by the count that a value is, if it is one word; else any
+-- the run of shifts by the count, if the count's value is one word; else all words
 abbrev pub by_count : Shifts → ℕ → ℕ → ℕ → Val → StridedInterval
 by_count shift a b p (Set (y ∷ [])) = shift a b p (y % 64)
 by_count shift a b p (Set []) = whole 0
@@ -129,7 +133,7 @@ abbrev pub row_of : Bool → Op → Val → Val → List ℕ
 row_of true op v w = 0 ∷ 1 ∷ []
 row_of false op v w = range_of (runs op (bounds v) (bounds w) w)
 
--- the set that an operation's row gives, where an operand is a Span
+-- the set that an operation's row gives, if an operand is a Span
 unfoldable pub row : Op → Val → Val → List ℕ
 row Second v w = members w
 row op v w = row_of (gives_truth op) op v w

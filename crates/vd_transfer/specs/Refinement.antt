@@ -12,10 +12,10 @@ holds cond side x y = if side then taken_of cond x y else not (taken_of cond x y
 unfoldable pub kept_left : Cond → Bool → List ℕ → List ℕ → List ℕ
 kept_left cond side vs ws = filter (λ x. list_any (λ y. holds cond side x y) ws) vs
 
--- the words of ws for which some word of vs does so
+-- the words of ws for which some word of vs makes the condition go to the side
 unfoldable pub kept_right : Cond → Bool → List ℕ → List ℕ → List ℕ
 kept_right cond side vs ws = filter (λ y. list_any (λ x. holds cond side x y) vs) ws
 
--- the words that make it go to the side against themselves
+-- the words that make the condition go to the side if compared with themselves
 unfoldable pub kept_both : Cond → Bool → List ℕ → List ℕ
 kept_both cond side zs = filter (λ z. holds cond side z z) zs

@@ -1,5 +1,6 @@
--- The registers of a state: D0..D15, A2..A7, A10 and A12..A15 have a value each; A0, A1, A8 and A9 are the plan's, and
--- A11 is any. Registers are numbered 0 to 15 for D and 16 to 31 for A.
+-- The registers of a state: D0..D15, A2..A7, A10 and A12..A15 have a value each.
+-- A0, A1, A8 and A9 are the plan's, and A11 is unknown. Registers are numbered 0 to 15 for D and
+-- 16 to 31 for A.
 use Rattle.std.specs.Prelude.{◌-◌, ℕ, Bool, not, ◌&&◌, ◌||◌, ◌==◌, nat_lt, nat_le, if◌then◌else◌, [], ◌∷◌, Option, Some, None, slice_index, slice_index_or, slice_set}
 use Rattle.tcd_plan.specs.PlanData.{PlanData}
 use Rattle.tc_isa.specs.declared.shapes.Arg.{Arg}
@@ -9,7 +10,7 @@ use Rattle.value_domain.specs.declared.values.Val.TheVariants.{Set}
 use Rattle.value_domain.specs.declared.states.State.{State}
 use Rattle.value_domain.specs.Values.{any_val}
 
--- where a state has the value of a register
+-- the place of a register's value in a state
 unfoldable pub slot : ℕ → Option ℕ
 slot r =
     if nat_lt r 16 then Some r
@@ -26,11 +27,11 @@ word_val w = Set (w ∷ [])
 abbrev pub global_of : PlanData → ℕ → ℕ
 global_of p r = slice_index p.globals (if r == 16 then 0 else if r == 17 then 1 else if r == 24 then 2 else 3)
 
--- the value of a register that a state has none for
+-- the value of a register that a state has no place for
 abbrev pub fixed_of : PlanData → ℕ → Val
 fixed_of p r = if r == 27 then any_val else word_val (global_of p r)
 
--- the value of a register by its place in a state, or what it always is where it has none
+-- the value of a register by its place in a state, or its fixed value if it has no place
 abbrev pub value_at : PlanData → State → ℕ → Option ℕ → Val
 value_at p s r (Some i) = slice_index_or s.regs i any_val
 value_at p s r None = fixed_of p r
@@ -49,7 +50,7 @@ abbrev pub set_at : State → Val → Option ℕ → State
 set_at s v (Some i) = record s { regs = slice_set s.regs i v }
 set_at s v None = s
 
--- the state with a register's value, where it has one
+-- the state with a register's value, if it has one
 abbrev pub set_reg : State → ℕ → Val → State
 set_reg s r v = set_at s v (slot r)
 

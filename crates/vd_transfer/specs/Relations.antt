@@ -23,7 +23,7 @@ is_signed cond.LtU = false
 is_signed cond.Ge = true
 is_signed cond.GeU = false
 
--- the relation the other way round
+-- the relation with its operands exchanged
 unfoldable pub converse : Relation → Relation
 converse Same = Same
 converse Other = Other
@@ -32,7 +32,7 @@ converse AtLeast = AtMost
 converse More = Less
 converse AtMost = AtLeast
 
--- the condition of a word and itself goes to the side
+-- the condition goes to the side for a word and itself
 unfoldable pub self_holds : Cond → Bool → Bool
 self_holds cond.Eq side = side
 self_holds cond.Ne side = not side

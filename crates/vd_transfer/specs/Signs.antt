@@ -6,7 +6,7 @@ use Rattle.vd_transfer.specs.declared.refinement.Relation.{Relation}
 use Rattle.tc_isa.specs.Arithmetic.{signed_place}
 use Rattle.vd_transfer.specs.Intervals.{is_related}
 
--- the words of vs that stand in a relation to some word of ws in the signed order
+-- the words of vs that are in a relation to some word of ws in the signed order
 unfoldable pub kept_signed : Relation → List ℕ → List ℕ → List ℕ
 kept_signed rel vs ws = filter (λ x. list_any (λ y. is_related rel (signed_place x) (signed_place y)) ws) vs
 

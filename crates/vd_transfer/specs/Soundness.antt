@@ -1,4 +1,4 @@
--- What instructions do to words of registers lies in what they do to a state: the statements of the laws.
+-- States hold the machine's words: the statements of the laws of effects.
 use Rattle.std.specs.Prelude.{◌≡◌, ◌<◌, ◌^◌, ℕ, Bool, false, length, IsSomeAnd}
 use Rattle.tcd_plan.specs.PlanData.{PlanData, IsPlan}
 use Rattle.tc_isa.specs.declared.shapes.Arg.{Arg}
@@ -24,20 +24,20 @@ pub record IsSetting (b : Limits) (p : PlanData) (s : State) : Type 0 where
   pub regs : length s.regs ≡ 27
   pub values : AreValues b s.regs
 
--- after an instruction that restores nothing the words lie in its state
+-- after an instruction that restores nothing, the changed state holds the words
 abbrev pub TransferHolds : Type 0
 TransferHolds =
     (b : Limits) (p : PlanData) (shape : Shape) (s : State) (loaded : Val) (word : ℕ → ℕ) (ie : Bool) (ccpn input : ℕ) → IsSetting b p s
     → IsShape shape → WritesNoFixedRegister shape → StaysPlain shape → input < 2 ^ 32 → ReadsMember shape input loaded → Holds p word ie ccpn s
     → Holds p (words_after shape input word) (ie_after shape ie) (ccpn_after shape ccpn) (transfer_of b p shape s loaded)
 
--- after a lower context was restored, whatever words it had
+-- after a lower context was restored, the changed state holds the words, whatever the context had
 abbrev pub RestoreHolds : Type 0
 RestoreHolds =
     (p : PlanData) (s : State) (word word2 : ℕ → ℕ) (ie : Bool) (ccpn : ℕ) → length s.regs ≡ 27 → ((r : ℕ) → r < 32 → word2 r < 2 ^ 32)
     → ((r : ℕ) → r < 32 → is_lower r ≡ false → word2 r ≡ word r) → Holds p word ie ccpn s → Holds p word2 ie ccpn (restored_lower s)
 
--- the side that a branch takes is possible, and the words lie in its state
+-- the side that a branch takes is possible, and its state holds the words
 abbrev pub BranchHolds : Type 0
 BranchHolds =
     (b : Limits) (p : PlanData) (cond : Cond) (x : ℕ) (y : Arg) (by : ℕ) (lowers : Bool) (s : State) (side : Bool) (word : ℕ → ℕ) (ie : Bool) (ccpn : ℕ)

@@ -11,7 +11,8 @@ use tc_isa::{Arg, Op, Shape};
 use tcd_plan::Plan;
 use value_domain::{Bounds, State, Val, write_any};
 
-/// How an access comes to its address: by a base and an offset, or by the base alone, which is increased afterwards.
+/// How the address of an access is computed: from a base and an offset, or from the base alone,
+/// which is increased by the offset afterwards.
 #[derive(Clone, Copy)]
 pub(crate) struct Addressing {
     pub(crate) base: Arg,
@@ -20,7 +21,7 @@ pub(crate) struct Addressing {
 }
 
 impl Addressing {
-    /// The addressing by this base and offset.
+    /// Returns the addressing with this base and offset.
     pub(crate) fn by(base: Arg, offset: u32, after: bool) -> Addressing
         ensures { result ≡ record { base = base; offset = offset; after = after } }
     {
@@ -32,7 +33,7 @@ impl Addressing {
     }
 }
 
-/// Writes the addresses of an access of this shape over another value.
+/// Overwrites a value with the addresses of an access of this shape.
 #[tactic(auto, unfolding(crate::specs::Effects::address_of))]
 pub fn write_address(b: &Bounds, plan: &Plan, shape: Shape, s: &State, out: &mut Val)
     requires shape { IsShape shape }
@@ -58,7 +59,7 @@ pub fn write_address(b: &Bounds, plan: &Plan, shape: Shape, s: &State, out: &mut
     }
 }
 
-/// The addresses of an access of this shape.
+/// Returns the addresses of an access of this shape.
 #[inline(always)]
 pub fn address_by(b: &Bounds, plan: &Plan, shape: Shape, s: &State) -> Val
     requires shape { IsShape shape }

@@ -1,4 +1,4 @@
-// What a side of a branch changes.
+// The change of a state on a side of a branch.
 ghost use Rattle.std.specs.Prelude.{◌≡◌, ◌<◌, ◌∷◌, [], IfSome, Some, None};
 ghost use Rattle.value_domain.specs.Values.{IsValue, members};
 ghost use Rattle.value_domain.specs.State.{AreValues};
@@ -32,7 +32,7 @@ struct Comparison {
     y: Arg,
 }
 
-/// The relation that the operands are in on a side of a condition.
+/// Returns the relation between the operands on a side of a condition.
 #[tactic(auto, unfolding(crate::specs::Relations::relation_of))]
 fn relation(cond: Cond, side: bool) -> Relation
     ensures { result ≡ relation_of cond side }
@@ -69,7 +69,7 @@ fn relation(cond: Cond, side: bool) -> Relation
     }
 }
 
-/// Whether a condition is of the signed order.
+/// Returns true if a condition is of the signed order.
 #[tactic(auto, unfolding(crate::specs::Relations::is_signed))]
 fn is_signed(cond: Cond) -> bool
     ensures { result ≡ is_signed cond }
@@ -80,7 +80,7 @@ fn is_signed(cond: Cond) -> bool
     }
 }
 
-/// The relation of the operands the other way round.
+/// Returns the relation with its operands exchanged.
 #[tactic(auto, unfolding(crate::specs::Relations::converse))]
 fn converse(rel: Relation) -> Relation
     ensures { result ≡ converse rel }
@@ -95,7 +95,8 @@ fn converse(rel: Relation) -> Relation
     }
 }
 
-/// The cover of the members of `v` for which some member of `w` makes the condition go to the side.
+/// Returns the cover of the members of `v` for which some member of `w` makes the condition go to
+/// the side.
 pub(crate) fn narrow_left(b: &Bounds, cond: Cond, side: bool, v: &Val, w: &Val) -> Option<Val>
     requires left { IsValue b.now v.now }
     requires right { IsValue b.now w.now }
@@ -110,7 +111,8 @@ pub(crate) fn narrow_left(b: &Bounds, cond: Cond, side: bool, v: &Val, w: &Val) 
     }
 }
 
-/// The cover of the members of `w` for which some member of `v` does so.
+/// Returns the cover of the members of `w` for which some member of `v` makes the condition go to
+/// the side.
 pub(crate) fn narrow_right(b: &Bounds, cond: Cond, side: bool, v: &Val, w: &Val) -> Option<Val>
     requires left { IsValue b.now v.now }
     requires right { IsValue b.now w.now }
@@ -126,7 +128,7 @@ pub(crate) fn narrow_right(b: &Bounds, cond: Cond, side: bool, v: &Val, w: &Val)
     }
 }
 
-/// Whether a condition of a word and itself goes to the side.
+/// Returns true if a condition goes to the side for a word and itself.
 #[tactic(auto, unfolding(crate::specs::Relations::self_holds))]
 fn holds_itself(cond: Cond, side: bool) -> bool
     ensures { result ≡ self_holds cond side }
@@ -137,7 +139,7 @@ fn holds_itself(cond: Cond, side: bool) -> bool
     }
 }
 
-/// Whether a condition of two words goes to the side.
+/// Returns true if a condition goes to the side for two words.
 fn goes(cond: Cond, side: bool, x: u32, y: u32) -> bool
     ensures { result ≡ holds cond side x y }
 {
@@ -157,10 +159,10 @@ pub(crate) fn is_same(x: u8, y: Arg) -> bool
     }
 }
 
-// What a side changes is written into the change that the caller has, whatever that was. Whatever has a value of its own to
-// fill stands in a function of its own.
+// The functions below write the change of a side into the caller's `Change`, whatever it held. A
+// function that builds a value is a function of its own, so that its callers need no stack for it.
 
-/// The register takes what is left of its value, if anything is.
+/// Narrows the register to the members that are possible. Returns false if there are none.
 #[inline(never)]
 fn narrow_one(b: &Bounds, test: Comparison, s: &State, v: &Val, w: &Val, c: &mut Change) -> bool
     requires values { AreValues b.now s.now.regs }
@@ -183,7 +185,7 @@ fn narrow_one(b: &Bounds, test: Comparison, s: &State, v: &Val, w: &Val, c: &mut
     }
 }
 
-/// Both operands take what is left of theirs.
+/// Narrows both operands to the members that are possible. Returns false if one has none.
 #[inline(never)]
 fn narrow_two(b: &Bounds, test: Comparison, s: &State, v: &Val, w: &Val, c: &mut Change) -> bool
     requires values { AreValues b.now s.now.regs }
@@ -209,7 +211,7 @@ fn narrow_two(b: &Bounds, test: Comparison, s: &State, v: &Val, w: &Val, c: &mut
     }
 }
 
-/// The same against a constant, of which nothing is to be kept.
+/// Narrows the register of a comparison with a constant. Returns false if no member is possible.
 #[inline(never)]
 fn narrow_constant(b: &Bounds, test: Comparison, s: &State, v: &Val, z: u32, c: &mut Change) -> bool
     requires values { AreValues b.now s.now.regs }
@@ -224,7 +226,7 @@ fn narrow_constant(b: &Bounds, test: Comparison, s: &State, v: &Val, z: u32, c: 
     narrow_one(b, test, s, v, &constant(b, z), c)
 }
 
-/// The same of values that are made.
+/// Narrows operands whose values have to be built. Returns false if the side isn't possible.
 #[inline(never)]
 fn narrow_made(b: &Bounds, plan: &Plan, test: Comparison, s: &State, c: &mut Change) -> bool
     requires operands { (test.x < 32) × IsArg test.y }
@@ -242,7 +244,8 @@ fn narrow_made(b: &Bounds, plan: &Plan, test: Comparison, s: &State, c: &mut Cha
     narrow_two(b, test, s, &v, &arg(b, plan, s, test.y), c)
 }
 
-/// The same of the state's own values, where it has them.
+/// Narrows operands by the state's own values if it has them. Returns false if the side isn't
+/// possible.
 fn narrow_values(b: &Bounds, plan: &Plan, test: Comparison, s: &State, c: &mut Change) -> bool
     requires operands { (test.x < 32) × IsArg test.y }
     requires values { AreValues b.now s.now.regs }
@@ -267,7 +270,8 @@ fn narrow_values(b: &Bounds, plan: &Plan, test: Comparison, s: &State, c: &mut C
     }
 }
 
-/// What a side of a condition changes, if the side is possible. A word against a word stays as it is.
+/// Writes the change on a side of a condition, and returns whether the side is possible. A
+/// comparison of two constants changes nothing.
 fn narrow_by(b: &Bounds, plan: &Plan, test: Comparison, s: &State, c: &mut Change) -> bool
     requires operands { (test.x < 32) × IsArg test.y }
     requires values { AreValues b.now s.now.regs }
@@ -294,7 +298,7 @@ fn narrow_by(b: &Bounds, plan: &Plan, test: Comparison, s: &State, c: &mut Chang
     }
 }
 
-/// Lowers a register by 1.
+/// Decrements a register by 1.
 #[inline(never)]
 fn lower(b: &Bounds, plan: &Plan, x: u8, s: &State, c: &mut Change)
     requires register { x < 32 }
@@ -310,7 +314,7 @@ fn lower(b: &Bounds, plan: &Plan, x: u8, s: &State, c: &mut Change)
     write_last(b, s, c, x);
 }
 
-/// A loop lowers its register by 1.
+/// Decrements the register of a loop by 1.
 fn lower_counter(b: &Bounds, plan: &Plan, x: u8, lowers: bool, s: &State, c: &mut Change)
     requires register { x < 32 }
     requires values { AreValues b.now (state_after s.now c.old).regs }
@@ -324,7 +328,7 @@ fn lower_counter(b: &Bounds, plan: &Plan, x: u8, lowers: bool, s: &State, c: &mu
     }
 }
 
-/// What a side of a branch changes, if the side is possible.
+/// Writes the change on a side of a branch, and returns whether the side is possible.
 fn change_by(
     b: &Bounds,
     plan: &Plan,
@@ -347,7 +351,8 @@ fn change_by(
     true
 }
 
-/// What a side of a branch changes, written into `c`, whatever that was. False where the side isn't possible.
+/// Writes the change on a side of a branch into `c`, whatever it held. Returns false if the side
+/// isn't possible.
 #[tactic(auto, unfolding(crate::specs::Branches::refine_of))]
 pub fn change_on(
     b: &Bounds,

@@ -1,4 +1,4 @@
-// What an instruction changes of a state.
+// Changes: what an instruction changes of a state.
 ghost use Rattle.std.specs.Prelude.{◌≡◌, ◌&&◌, not, None};
 ghost use Rattle.value_domain.specs.Values.{IsValue};
 ghost use Rattle.value_domain.specs.State.{AreValues};
@@ -9,22 +9,26 @@ use crate::registers::slot_of;
 use arrayvec::ArrayVec;
 use value_domain::{Bounds, State, Val};
 
-/// The values that a change starts from: those of its state, those with the lower registers any, or any at each place.
+/// The values that a change starts from.
 #[derive(Clone, Copy, PartialEq, Eq)]
 pub enum Base {
+    /// Those of its state.
     Same,
+    /// Those of its state, with the lower registers unknown.
     Forgotten,
+    /// Unknown everywhere.
     Any,
 }
 
-/// A value at a place of a state; nothing without a place.
+/// A value for a place of a state. Without a place it changes nothing.
 #[derive(Drop)]
 pub struct Put {
     pub at: Option<usize>,
     pub value: Val,
 }
 
-/// What a state becomes: values put one after another, from a base, and what is known of the context.
+/// A change of a state: the values that it starts from, up to three values that are put one after
+/// another, and the context afterwards.
 #[derive(Drop)]
 pub struct Change {
     pub base: Base,
@@ -37,7 +41,7 @@ pub struct Change {
     pub locals: ArrayVec<bool, 8>,
 }
 
-/// No value anywhere.
+/// Returns a put that changes nothing.
 #[inline(always)]
 pub(crate) fn no_value() -> Put
     ensures { result ≡ no_put }
@@ -48,7 +52,8 @@ pub(crate) fn no_value() -> Put
     }
 }
 
-/// A register's value, where a state has one for it.
+/// Returns the put of a register's value. It changes nothing if a state has no value for the
+/// register.
 #[inline(always)]
 pub fn put_register(r: u8, v: Val) -> Put
     ensures { result ≡ reg_put r v }
@@ -68,7 +73,7 @@ pub(crate) fn copy_of(locals: &ArrayVec<bool, 8>) -> ArrayVec<bool, 8>
     copy
 }
 
-/// The change that keeps all of a state.
+/// Returns the change that keeps the whole state.
 #[inline(always)]
 pub fn unchanged(s: &State) -> Change
     ensures kept { result ≡ kept_of s.now }
@@ -90,7 +95,7 @@ impl Change {
     ghost use Rattle.std.specs.Prelude.{◌≡◌};
     ghost use Rattle.vd_transfer.specs.Changes.{kept_in, state_after};
 
-    /// Keeps all of a state: nothing is put any more, whatever values were.
+    /// Overwrites a change with the one that keeps the whole state.
     pub fn keep(&mut self, s: &State)
         ensures kept { self.new ≡ kept_in self.old s.now }
         ensures same { state_after s.now self.new ≡ s.now }
@@ -106,8 +111,8 @@ impl Change {
     }
 }
 
-/// Puts a value where a state has the value of a register, and tells what is left of the mark that
-/// the lower registers are the entry's.
+/// Puts a register's value at its place, if a state has one. Clears the mark that the lower
+/// registers are those of the entry, if the register is one of them.
 #[inline(always)]
 pub(crate) fn put_for(put: &mut Put, mark: &mut bool, r: u8)
     ensures put { put.new ≡ record put.old { at = slot r } }

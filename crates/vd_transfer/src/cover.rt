@@ -1,4 +1,5 @@
-// The values of a changed state, and whether another state covers it.
+// The values of a changed state, and the test that another state covers it.
+// The changed state is never built.
 ghost use Rattle.std.specs.Prelude.{◌≡◌, ◌<◌, ◌↔◌, IsTrue, Some, slice_index_or};
 ghost use Rattle.value_domain.specs.Values.{IsValue, any_val};
 ghost use Rattle.value_domain.specs.State.{Covers, AreBelow, AreWell, AreValues};
@@ -20,7 +21,7 @@ fn is_at(put: &Put, i: usize) -> bool
     }
 }
 
-/// The value that a change starts from at a place.
+/// Returns the value that a change starts from at a place.
 #[inline(always)]
 fn base_value<'a>(s: &'a State, base: Base, any: &'a Val, i: usize) -> &'a Val
     requires place { i < 27 }
@@ -35,7 +36,8 @@ fn base_value<'a>(s: &'a State, base: Base, any: &'a Val, i: usize) -> &'a Val
     }
 }
 
-/// The value of a changed state at a place; `any` stands for each that is no more known.
+/// Returns the value of a changed state at a place. `any` is the value that holds all words; it is
+/// returned for what is unknown.
 #[inline(always)]
 pub fn changed_value<'a>(s: &'a State, c: &'a Change, any: &'a Val, i: usize) -> &'a Val
     requires place { i < 27 }
@@ -55,7 +57,7 @@ pub fn changed_value<'a>(s: &'a State, c: &'a Change, any: &'a Val, i: usize) ->
     base_value(s, c.base, any, i)
 }
 
-/// The value of a register in a changed state.
+/// Returns the value of a register in a changed state.
 pub(crate) fn changed_reg(b: &Bounds, plan: &Plan, s: &State, c: &Change, r: u8) -> Val
     requires register { r < 32 }
     requires values { AreValues b.now (state_after s.now c.now).regs }
@@ -85,7 +87,7 @@ fn are_below(s: &State, c: &Change, high: &[Val; 27]) -> bool
     true
 }
 
-/// Whether a state covers a changed one, which is never built.
+/// Returns true if a state covers a changed one.
 pub fn covers_changed(upper: &State, s: &State, c: &Change) -> bool
     requires upper { AreWell upper.now.regs }
     requires state { AreWell (state_after s.now c.now).regs }

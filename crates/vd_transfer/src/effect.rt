@@ -1,4 +1,4 @@
-// What each instruction changes.
+// The change of a state by each instruction.
 ghost use Rattle.std.specs.Prelude.{◌≡◌, ◌<◌, ◌≤◌, length, true, None};
 ghost use Rattle.value_domain.specs.Values.{IsValue, any_val};
 ghost use Rattle.value_domain.specs.State.{AreValues};
@@ -18,7 +18,7 @@ use tc_isa::{Arg, Op, Shape};
 use tcd_plan::Plan;
 use value_domain::{Bounds, State, write_any};
 
-/// The registers of a scaled address, a base plus an index shifted left by n.
+/// The registers of a scaled address: a base plus an index shifted left by `n`.
 #[derive(Clone, Copy)]
 struct ScaledAddress {
     base: u8,
@@ -26,7 +26,7 @@ struct ScaledAddress {
     n: u8,
 }
 
-// Each function below writes into the change that its caller has, where it stays.
+// Each function below writes into the caller's `Change`, which isn't moved.
 
 fn compute(b: &Bounds, plan: &Plan, s: &State, dst: u8, of: Operation, c: &mut Change)
     requires operands { IsArg of.x × IsArg of.y }
@@ -42,7 +42,7 @@ fn compute(b: &Bounds, plan: &Plan, s: &State, dst: u8, of: Operation, c: &mut C
     operate(b, plan, s, of, &mut c.second.value);
 }
 
-/// A register takes a base plus an index shifted left.
+/// Writes a base plus a shifted index to a register.
 #[inline(never)]
 fn scale(b: &Bounds, plan: &Plan, s: &State, dst: u8, at: ScaledAddress, c: &mut Change)
     requires registers { (at.base < 32) × (at.index < 32) }
@@ -70,7 +70,7 @@ fn scale(b: &Bounds, plan: &Plan, s: &State, dst: u8, at: ScaledAddress, c: &mut
     );
 }
 
-/// Increases the base register by the offset, where the access says so.
+/// Increases the base register by the offset, if the access does that.
 fn increase_base(b: &Bounds, plan: &Plan, s: &State, at: Addressing, c: &mut Change)
     requires base { IsArg at.base }
     requires values { AreValues b.now s.now.regs }
@@ -94,7 +94,7 @@ fn increase_base(b: &Bounds, plan: &Plan, s: &State, at: Addressing, c: &mut Cha
     }
 }
 
-/// A register takes what was loaded, the third value.
+/// Writes what was loaded, the third value, to a register.
 fn load_into(b: &Bounds, plan: &Plan, s: &State, at: Addressing, dst: u8, c: &mut Change)
     requires base { IsArg at.base }
     requires values { AreValues b.now s.now.regs }
@@ -108,7 +108,7 @@ fn load_into(b: &Bounds, plan: &Plan, s: &State, at: Addressing, dst: u8, c: &mu
     write_last(b, s, c, dst);
 }
 
-/// A register takes any value.
+/// Writes the value that holds all words to a register.
 fn put_any(b: &Bounds, s: &State, dst: u8, c: &mut Change)
     requires { AreValues b.now s.now.regs }
     ensures write { state_after s.now c.new ≡ write_reg s.now dst any_val }
@@ -120,7 +120,7 @@ fn put_any(b: &Bounds, s: &State, dst: u8, c: &mut Change)
     write_any(&mut c.second.value);
 }
 
-/// Saves a lower context: whether the lower registers are the entry's becomes a local.
+/// Saves a lower context: the mark that the lower registers are those of the entry becomes a local.
 fn save_lower(s: &State, c: &mut Change)
     requires { length s.now.locals.items < 8 }
     ensures { state_after s.now c.new ≡ saved_lower s.now }
@@ -160,9 +160,11 @@ fn set_enable(s: &State, ie: bool, c: &mut Change)
     c.ie = ie;
 }
 
-/// What an instruction of this shape changes, where it stays in its frame and isn't a branch or a jump, written into `c`. A
-/// load writes what `c` has as its third value; all else that `c` had is of no account. There is room where it saves a lower
-/// context, and one to restore where it restores one.
+/// Writes into `c` what an instruction of this shape changes. The instruction stays in its frame
+/// and isn't a branch or a jump.
+/// A load writes the third value of `c` to its register; all else that `c` held is ignored.
+/// An instruction that saves a lower context needs room for a local, one that restores one needs a
+/// local.
 #[tactic(auto, unfolding(crate::specs::Effects::transfer_of))]
 pub fn change_of(b: &Bounds, plan: &Plan, shape: Shape, s: &State, c: &mut Change)
     requires shape { IsShape shape }

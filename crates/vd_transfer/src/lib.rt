@@ -1,4 +1,4 @@
-//! Effects of instructions on values.
+//! Effects of instructions and branches on states.
 #![tactic(auto)]
 
 mod access;

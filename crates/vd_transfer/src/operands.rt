@@ -20,8 +20,9 @@ pub(crate) struct Operation {
     pub(crate) y: Arg,
 }
 
-/// Writes the value of an operation over another: at once where the operands are one word each, else by the state's own values
-/// where it has them. What is made stands in functions of its own.
+/// Overwrites a value with that of an operation. If the operands are one word each, it is computed
+/// directly; else by the state's own values if it has them. What has to build a value is a function
+/// of its own.
 pub(crate) fn operate(b: &Bounds, plan: &Plan, s: &State, of: Operation, out: &mut Val)
     requires operands { IsArg of.x × IsArg of.y }
     requires values { AreValues b.now s.now.regs }

@@ -12,7 +12,8 @@ use value_domain::{
     Bounds, Val, add_word, add_words, cover, cover_words, extent_of, extent_with, is_set, span,
 };
 
-/// Writes a word over a value; by itself, so that the others have no room of a value to fill.
+/// Overwrites a value with that of one word. It is a function of its own, so that its callers need
+/// no stack for a value.
 #[inline(never)]
 pub(crate) fn write_word(b: &Bounds, x: u32, out: &mut Val)
     ensures word { out.new ≡ word_val x }
@@ -21,7 +22,7 @@ pub(crate) fn write_word(b: &Bounds, x: u32, out: &mut Val)
     *out = constant(b, x);
 }
 
-/// Writes the value of an operation over another.
+/// Overwrites a value with that of an operation.
 pub fn operation(b: &Bounds, op: Op, v: &Val, w: &Val, out: &mut Val)
     requires left { IsValue b.now v.now }
     requires right { IsValue b.now w.now }
@@ -37,7 +38,8 @@ pub fn operation(b: &Bounds, op: Op, v: &Val, w: &Val, out: &mut Val)
     }
 }
 
-/// Writes the results of all pairs: at once where there is one, one by one where there are few.
+/// Writes the cover of the results of all pairs: directly if there is one pair, one by one if there
+/// are few.
 fn all_pairs(b: &Bounds, op: Op, xs: &[u32], ys: &[u32], out: &mut Val)
     requires left { 1 ≤ length xs.now }
     requires right { 1 ≤ length ys.now }
@@ -57,7 +59,7 @@ fn all_pairs(b: &Bounds, op: Op, xs: &[u32], ys: &[u32], out: &mut Val)
     many_pairs(b, op, xs, ys, out);
 }
 
-/// Writes the results of all pairs, added one by one.
+/// Writes the cover of the results of all pairs, added one by one.
 fn few_pairs(b: &Bounds, op: Op, xs: &[u32], ys: &[u32], out: &mut Val)
     requires left { 1 ≤ length xs.now }
     requires right { 1 ≤ length ys.now }
@@ -71,7 +73,7 @@ fn few_pairs(b: &Bounds, op: Op, xs: &[u32], ys: &[u32], out: &mut Val)
     }
 }
 
-/// Adds the results of a word and each of the others to a value.
+/// Adds the results of a word with each of the others to a value.
 fn add_few(b: &Bounds, v: &mut Val, op: Op, x: u32, ys: &[u32])
     requires { IsValue b.now v.old }
     ensures cover { v.new ≡ cover b.now (members v.old ++ map (alu_of op x) ys.now) }
@@ -82,8 +84,8 @@ fn add_few(b: &Bounds, v: &mut Val, op: Op, x: u32, ys: &[u32])
     }
 }
 
-/// Writes the results of all pairs, collected row by row: looked at one by one while they are a Set, else by their extent. The
-/// words that were met lately have a table, which is to be filled.
+/// Writes the cover of the results of all pairs, row by row. While they are a Set, each is looked
+/// up; later only their extent counts. A table keeps the words that were added lately.
 #[inline(never)]
 fn many_pairs(b: &Bounds, op: Op, xs: &[u32], ys: &[u32], out: &mut Val)
     requires left { 1 ≤ length xs.now }
@@ -127,8 +129,9 @@ fn widen(b: &Bounds, v: &mut Val, op: Op, xs: &[u32], ys: &[u32], row: &mut [u32
     *v = span(b, e.least, e.greatest, e.step);
 }
 
-/// Adds words to a value, eight at a time, and none of eight that were met together lately. Of the words that the value has,
-/// `met` holds those that were met lately, and `eights` those that were met eight at a time.
+/// Adds words to a value, eight at a time, except eight that were added together lately. `met` has
+/// some of the value's words, those added lately; `eights` has words that were added eight at a
+/// time.
 fn add_row(b: &Bounds, v: &mut Val, met: &mut [u32; 512], eights: &mut [u32; 2048], words: &[u32])
     requires value { IsValue b.now v.old }
     requires met { HasMet v.old met.old }
@@ -156,7 +159,8 @@ fn add_row(b: &Bounds, v: &mut Val, met: &mut [u32; 512], eights: &mut [u32; 204
     }
 }
 
-/// Adds eight words to a value, which are met together now. By itself, so that its callers keep nothing at hand for it.
+/// Adds eight words to a value, and notes that they were added together. It is a function of its
+/// own, so that its callers need no stack for it.
 #[inline(never)]
 fn add_eight(
     b: &Bounds,
@@ -182,7 +186,7 @@ fn add_eight(
     }
 }
 
-/// Adds a word, unless it was met lately.
+/// Adds a word, except one that was added lately.
 #[inline(always)]
 fn add_result(b: &Bounds, v: &mut Val, met: &mut [u32; 512], z: u32)
     requires value { IsValue b.now v.old }
@@ -199,14 +203,16 @@ fn add_result(b: &Bounds, v: &mut Val, met: &mut [u32; 512], z: u32)
     met[k] = z;
 }
 
-/// Where a word that was met is kept: the highest bits of its product with a number that tells words at even steps apart.
+/// Returns the place of a word in `met`: the highest bits of its product with a number that spreads
+/// words at even steps.
 fn slot_of(z: u32) -> usize
     ensures { result < 512 }
 {
     (z.wrapping_mul(0x9683_8B77) >> 23) as usize
 }
 
-/// The results of a word and each of the others: a loop of its own for each operation, so that none asks which it is.
+/// Fills the row with the results of a word and each of the others. Each operation has a loop of
+/// its own.
 fn fill(op: Op, x: u32, ys: &[u32], row: &mut [u32])
     requires { length row.old ≡ length ys.now }
     ensures { row.new ≡ map (alu_of op x) ys.now }
@@ -244,7 +250,7 @@ fn fill_by(op: Op, x: u32, ys: &[u32], row: &mut [u32])
     }
 }
 
-/// Writes the row of an operation.
+/// Writes the value that the operation's row in the table of operations gives.
 #[inline(never)]
 fn from_row(b: &Bounds, op: Op, v: &Val, w: &Val, out: &mut Val)
     requires left { IsValue b.now v.now }

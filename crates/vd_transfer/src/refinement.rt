@@ -1,4 +1,4 @@
-// Refinement of two values by a comparison.
+// Refinement: the members of two values for which a comparison holds.
 ghost use Rattle.std.specs.Prelude.{◌≡◌, ◌==◌, ◌<◌, ◌≤◌, ◌+◌, ◌-◌, ◌^◌, ℕ, IfSome, ◌↔◌, ◌⊎◌, ◌≢◌};
 ghost use Rattle.value_domain.specs.Values.{IsValue, members};
 ghost use Rattle.value_domain.specs.declared.values.Val.TheVariants.{Set, Span};
@@ -9,7 +9,7 @@ ghost use Rattle.vd_transfer.specs.declared.refinement.Relation.TheVariants.{Sam
 
 use value_domain::{Bounds, Val, cover_of_words, extent_of, join_some, meet};
 
-/// Relations of words.
+/// A relation between two words.
 #[derive(Clone, Copy, PartialEq, Eq)]
 pub enum Relation {
     Same,
@@ -20,14 +20,14 @@ pub enum Relation {
     AtMost,
 }
 
-/// A word's place in the signed order.
+/// Returns a word's position in the signed order.
 pub(crate) fn signed(x: u32) -> u32
     ensures { result ≡ signed_place x }
 {
     x.wrapping_add(1 << 31)
 }
 
-/// An interval of words; one whose `last` is below its `lo` is empty.
+/// An interval of words. If `last` is below `lo`, it is empty.
 #[derive(Clone, Copy)]
 pub struct Interval {
     pub lo: u32,
@@ -71,7 +71,7 @@ fn words_past(low: u32) -> Interval
     }
 }
 
-/// The words that stand in a relation to some word from `low` to `high`.
+/// Returns the words that are in a relation to some word from `low` to `high`, as two intervals.
 #[tactic(auto, unfolding(crate::specs::Intervals::Reaches))]
 pub(crate) fn words_reached(rel: Relation, low: u32, high: u32) -> (Interval, Interval)
     ensures { (x : ℕ) → x < 2 ^ 32 → (IsIn result.0 x ⊎ IsIn result.1 x) ↔ Reaches rel low high x }
@@ -86,7 +86,7 @@ pub(crate) fn words_reached(rel: Relation, low: u32, high: u32) -> (Interval, In
     }
 }
 
-/// The cover of the members of `v` that stand in a relation to some member of `w`.
+/// Returns the cover of the members of `v` that are in a relation to some member of `w`.
 pub fn narrow(b: &Bounds, rel: Relation, v: &Val, w: &Val) -> Option<Val>
     requires left { IsValue b.now v.now }
     requires right { IsValue b.now w.now }
@@ -116,7 +116,7 @@ fn by_intervals(b: &Bounds, rel: Relation, v: &Val, w: &Val) -> Option<Val>
     join_some(b, here, there)
 }
 
-/// The cover of the members of both.
+/// Returns the cover of the members of both.
 fn common(b: &Bounds, v: &Val, w: &Val) -> Option<Val>
     requires left { IsValue b.now v.now }
     requires right { IsValue b.now w.now }

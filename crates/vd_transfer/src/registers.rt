@@ -1,4 +1,4 @@
-// The registers of a state.
+// Reads the registers of a state.
 ghost use Rattle.std.specs.Prelude.{◌≡◌, ◌<◌, IfSome};
 ghost use Rattle.value_domain.specs.Values.{IsValue};
 ghost use Rattle.value_domain.specs.State.{AreValues, is_lower_slot};
@@ -10,7 +10,7 @@ use tc_isa::Arg;
 use tcd_plan::Plan;
 use value_domain::{Bounds, State, Val};
 
-/// Where a state has the value of a register.
+/// Returns the place of a register's value in a state, if a state has one.
 #[tactic(auto, unfolding(crate::specs::Registers::slot))]
 #[inline(always)]
 pub(crate) fn slot_of(r: u8) -> Option<usize>
@@ -30,7 +30,7 @@ pub(crate) fn slot_of(r: u8) -> Option<usize>
     }
 }
 
-/// Where a state has the value of an operand.
+/// Returns the place of an operand's value in a state, if a state has one.
 pub(crate) fn operand_slot(a: Arg) -> Option<usize>
     ensures { result ≡ arg_slot a }
 {
@@ -40,7 +40,7 @@ pub(crate) fn operand_slot(a: Arg) -> Option<usize>
     }
 }
 
-/// The word of a value that has only one.
+/// Returns the word of a value that has only one.
 #[inline(always)]
 pub fn only_word(v: &Val) -> Option<u32>
     ensures { IfSome result (λ w. v.now ≡ word_val w) }
@@ -58,7 +58,8 @@ pub fn only_word(v: &Val) -> Option<u32>
     }
 }
 
-/// The value of a register: the state's, or the plan's for A0, A1, A8 and A9; A11 is any.
+/// Returns the value of a register: the state's, or the plan's for A0, A1, A8 and A9. The value of
+/// A11 is unknown.
 #[inline(always)]
 pub fn reg(plan: &Plan, s: &State, r: u8) -> Val
     requires { r < 32 }
@@ -89,7 +90,8 @@ pub(crate) fn fixed(plan: &Plan, r: u8) -> Val
     Val::one(plan.globals[i])
 }
 
-/// The value of a register, which is one of the plan and the version.
+/// Returns the value of a register, which is one of the plan's lattice at the limits of the
+/// version.
 #[inline(always)]
 pub(crate) fn reg_value(b: &Bounds, plan: &Plan, s: &State, r: u8) -> Val
     requires register { r < 32 }
@@ -102,7 +104,7 @@ pub(crate) fn reg_value(b: &Bounds, plan: &Plan, s: &State, r: u8) -> Val
     reg(plan, s, r)
 }
 
-/// The value of a register in its place, where the state has one for it.
+/// Returns the value of a register in place, if a state has one for it.
 #[inline(always)]
 pub(crate) fn reg_in<'a>(b: &Bounds, plan: &Plan, s: &'a State, r: u8) -> Option<&'a Val>
     requires register { r < 32 }
@@ -118,7 +120,7 @@ pub(crate) fn reg_in<'a>(b: &Bounds, plan: &Plan, s: &'a State, r: u8) -> Option
     }
 }
 
-/// The value of an operand in its place, where the state has one for it.
+/// Returns the value of an operand in place, if a state has one for it.
 #[inline(always)]
 pub(crate) fn arg_in<'a>(b: &Bounds, plan: &Plan, s: &'a State, a: Arg) -> Option<&'a Val>
     requires operand { IsArg a }
@@ -132,7 +134,7 @@ pub(crate) fn arg_in<'a>(b: &Bounds, plan: &Plan, s: &'a State, a: Arg) -> Optio
     }
 }
 
-/// The word of an operand that has only one, and isn't one of the plan's.
+/// Returns the word of an operand that has only one word and isn't one of the plan's registers.
 #[inline(always)]
 pub(crate) fn arg_word(b: &Bounds, plan: &Plan, s: &State, a: Arg) -> Option<u32>
     requires operand { IsArg a }
@@ -150,7 +152,7 @@ pub(crate) fn arg_word(b: &Bounds, plan: &Plan, s: &State, a: Arg) -> Option<u32
     }
 }
 
-/// A constant.
+/// Returns the value of a constant.
 #[inline(always)]
 pub(crate) fn constant(b: &Bounds, w: u32) -> Val
     ensures word { result ≡ word_val w }
@@ -160,7 +162,8 @@ pub(crate) fn constant(b: &Bounds, w: u32) -> Val
     Val::one(w)
 }
 
-/// The value of an operand; by itself, so that its caller has no value to fill where it needs none made.
+/// Returns the value of an operand. It is a function of its own, so that a caller that needs none
+/// built needs no stack for it.
 #[inline(never)]
 pub(crate) fn arg(b: &Bounds, plan: &Plan, s: &State, a: Arg) -> Val
     requires operand { IsArg a }
@@ -174,7 +177,8 @@ pub(crate) fn arg(b: &Bounds, plan: &Plan, s: &State, a: Arg) -> Val
     }
 }
 
-/// Writes the value of an operand over another; by itself, so that its caller has no value to fill.
+/// Overwrites a value with that of an operand. It is a function of its own, so that its callers
+/// need no stack for a value.
 #[inline(never)]
 pub(crate) fn write_arg(b: &Bounds, plan: &Plan, s: &State, a: Arg, out: &mut Val)
     requires operand { IsArg a }
@@ -185,7 +189,7 @@ pub(crate) fn write_arg(b: &Bounds, plan: &Plan, s: &State, a: Arg, out: &mut Va
     *out = arg(b, plan, s, a);
 }
 
-/// Whether a place of a state is that of a lower register.
+/// Returns true if a place of a state is that of a lower register.
 pub fn is_lower_slot(i: usize) -> bool
     ensures { result ≡ is_lower_slot i }
 {

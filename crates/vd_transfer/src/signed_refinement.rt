@@ -13,7 +13,7 @@ use value_domain::{Bounds, Val, extent_of, join_some, meet};
 
 const HALF: u32 = 1 << 31;
 
-/// The words whose places in the signed order are those of an interval.
+/// Returns the words whose positions in the signed order are in an interval, as two intervals.
 fn parts(i: Interval) -> (Interval, Interval)
     ensures { (x : ℕ) → x < 2 ^ 32 → (IsIn result.0 x ⊎ IsIn result.1 x) ↔ IsIn i (signed_place x) }
 {
@@ -36,7 +36,7 @@ fn parts(i: Interval) -> (Interval, Interval)
     (first, second)
 }
 
-/// The least and the greatest member in the signed order.
+/// Returns the least and the greatest member in the signed order.
 fn signed_range(v: &Val) -> (u32, u32)
     requires { IsWell v.now }
     ensures { IsSignedRange (members v.now) result.0 result.1 }
@@ -73,7 +73,8 @@ fn signed_span(lo: u32, last: u32, step: u8) -> (u32, u32)
     }
 }
 
-/// The cover of the members of `v` that stand in a relation to some member of `w` in the signed order.
+/// Returns the cover of the members of `v` that are in a relation to some member of `w` in the
+/// signed order.
 pub fn narrow_signed(b: &Bounds, rel: Relation, v: &Val, w: &Val) -> Option<Val>
     requires left { IsValue b.now v.now }
     requires right { IsValue b.now w.now }

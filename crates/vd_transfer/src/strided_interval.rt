@@ -1,11 +1,11 @@
-// The sets that the rows of operations cover.
+// The sets that the rows of the table of operations cover: multiples of a power of two in a range.
 ghost use Rattle.std.specs.Prelude.{◌≡◌, ◌<◌, ◌≤◌, ◌||◌, min, max, nat_lt, ◌^◌};
 ghost use Rattle.vd_transfer.specs.Operations.{sums, differences, shifts, signed_shifts, runs, gives_truth};
 
 use tc_isa::Op;
 use value_domain::{Extent, Val};
 
-/// How many words there are.
+/// The number of words.
 const WORDS: u64 = 1 << 32;
 
 /// The multiples of 2^`step` in `first..=last`.
@@ -22,7 +22,7 @@ const ANY: StridedInterval = StridedInterval {
     step: 0,
 };
 
-/// Whether an operation gives 1 or 0.
+/// Returns true if an operation gives 1 or 0.
 #[tactic(auto, unfolding(crate::specs::Operations::gives_truth))]
 pub(crate) fn gives_truth(op: Op) -> bool
     ensures { result ≡ gives_truth op }
@@ -33,7 +33,7 @@ pub(crate) fn gives_truth(op: Op) -> bool
     }
 }
 
-/// The run that a row covers.
+/// Returns the multiples that a row covers.
 #[tactic(auto, unfolding(crate::specs::Operations::runs))]
 pub(crate) fn interval_of_row(op: Op, e: &Extent, f: &Extent, w: &Val) -> StridedInterval
     requires left { e.now.least ≤ e.now.greatest }
