@@ -27,7 +27,7 @@ found_all p q (x ∷ xs) r all e =
       | false ↦ λ h. found_all p q xs r (and_parts (q x) (list_all q xs) all).1 h
     ] e
 
--- what lies in a range that is found lies in one of the list
+-- what is in a range that is found is in one of the list
 pub found_one : (p : Range → Bool) (rs : List Range) (r : Range) (y n : ℕ) → find p rs ≡ Some r → IsWithin y n r → IsInOne y n rs
 found_one p [] r y n e w = absurd (let f : None ≡ Some r = e in cc)
 found_one p (s ∷ rs) r y n e w =

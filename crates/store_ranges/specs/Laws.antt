@@ -1,4 +1,4 @@
--- What holds of all loads.
+-- The law of loads.
 use Rattle.std.specs.Prelude.{ℕ, Bool}
 use Rattle.elf_image.specs.Images.{ImageData, IsImage}
 use Rattle.tcd_plan.specs.PlanData.{PlanData, IsPlan}
@@ -8,7 +8,7 @@ use Rattle.value_domain.specs.Values.{IsValue, IsBelow}
 use Rattle.store_ranges.specs.Accesses.{IsSize}
 use Rattle.store_ranges.specs.Loads.{loaded_of}
 
--- fewer addresses give fewer words
+-- a value with fewer members gives fewer loaded words
 abbrev pub LoadsGrow : Type 0
 LoadsGrow =
     (b : Limits) (image : ImageData) (plan : PlanData) (v w : Val) (size : ℕ) (signed : Bool) → IsPlan plan → IsImage image → IsSize size →

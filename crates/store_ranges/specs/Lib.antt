@@ -1,4 +1,4 @@
--- Where the accesses from the members of a value lie, and what loads may give.
+-- Definitions of the accesses from the members of a value: their ranges, and what loads give.
 pub mod Accesses
 pub mod Laws
 pub mod Loads

@@ -1,4 +1,4 @@
--- What a load from the members of a value may give.
+-- The value that a load from the members of a value gives.
 use Rattle.std.specs.Prelude.{◌<◌, ◌+◌, ◌-◌, ◌*◌, ◌^◌, ◌==◌, ℕ, zero, suc, Bool, List, [], ◌∷◌, map, find, if◌then◌else◌, Option, Some, None, IsSome, option_and_then}
 use Rattle.std.specs.List.{list_all, list_any, flat_map}
 use Rattle.std.specs.Option.{option_map}
@@ -15,21 +15,21 @@ use Rattle.value_domain.specs.Limits.{Limits}
 use Rattle.value_domain.specs.Values.{IsMember, cover, range}
 use Rattle.tcd_plan.specs.Regions.{AnswersLoad}
 
--- the n bytes from x on lie in one rom range and are held by segments of the image
+-- the n bytes from x on are in one rom range and held by segments of the image
 pub record IsLoadedRom (image : ImageData) (plan : PlanData) (x n : ℕ) : Type 0 where
   pub in_rom : IsInOne x n plan.rom
   pub held : (i : ℕ) → i < n → IsSome (image_byte image (x + i))
 
--- the number in the n bytes from x on, the lowest byte first, where segments of the image hold them
+-- the number in the n bytes from x on, the lowest byte first, if segments of the image hold them
 unfoldable pub held_number : ImageData → ℕ → ℕ → Option ℕ
 held_number image x zero = Some 0
 held_number image x (suc n) = option_and_then (λ b. option_map (λ w. b + 2 ^ 8 * w) (held_number image (x + 1) n)) (image_byte image x)
 
--- the number in the n bytes from x on, where they lie in one rom range and are held
+-- the number in the n bytes from x on, if they are in one rom range and held by segments
 abbrev pub rom_number : ImageData → PlanData → ℕ → ℕ → Option ℕ
 rom_number image plan x n = if list_any (is_within x n) plan.rom then held_number image x n else None
 
--- the device in whose range each access lies; only words are loaded from devices
+-- the device whose range has each access; only words are loaded from devices
 abbrev pub device_of : PlanData → ℕ → List ℕ → Option Device
 device_of plan size xs = if size == 4 then find (λ d. list_all (λ x. is_within x 4 d.range) xs) plan.devices else None
 
@@ -37,28 +37,29 @@ device_of plan size xs = if size == 4 then find (λ d. list_all (λ x. is_within
 abbrev pub all_extended : ℕ → Bool → List ℕ
 all_extended size signed = map (extend signed size) (range 0 (2 ^ (8 * size) - 1) 0)
 
--- what a device may answer; without a device, anything
+-- the words that a device can answer; without a device, all words of that size and sign
 abbrev pub answers : ℕ → Bool → Option Device → List ℕ
 answers size signed None = all_extended size signed
 answers size signed (Some d) = range d.lo d.hi 0
 
--- the loaded word of a number that is known, else what the device may answer
+-- the loaded word of a number that is known, else what the device can answer
 abbrev pub number_or : ℕ → Bool → Option Device → Option ℕ → List ℕ
 number_or size signed device None = answers size signed device
 number_or size signed device (Some w) = extend signed size w ∷ []
 
--- what one address gives: the word in rom, else what the device may answer, else anything
+-- what an address gives: the word in rom, else what the device can answer, else any word
 abbrev pub words_at : ImageData → PlanData → ℕ → Bool → ℕ → List ℕ
 words_at image plan size signed x = number_or size signed (device_of plan size (x ∷ [])) (rom_number image plan x size)
 
--- the least value that holds what the loads from all members give: from a Span, what one device answers where all
--- accesses lie in its range, else anything
+-- The least value that holds what the loads from all members give. For a Span that is what one
+-- device answers if all accesses are in its range, else any word.
 abbrev pub loaded_of : Limits → ImageData → PlanData → Val → ℕ → Bool → Val
 loaded_of b image plan (Set ws) size signed = cover b (flat_map (words_at image plan size signed) ws)
 loaded_of b image plan (Span lo last step) size signed = cover b (answers size signed (device_of plan size (range lo last step)))
 
--- Each word that the machine may load from a member is one of the value: from a memory that is the plan's and has the
--- image's bytes in rom, with an input that lies in a device's bounds where the device has the word.
+-- Each word that the machine can load from a member is one of the value. The memory is the plan's
+-- and has the image's bytes in rom, and the input is within a device's bounds if the device has the
+-- word.
 abbrev pub HoldsLoads : ImageData → PlanData → Val → ℕ → Bool → Val → Type 0
 HoldsLoads image plan at size signed v =
     (mem : Memory) (x input : ℕ) → HasBytes mem → IsPlanMemory plan mem → HoldsRom image plan mem → input < 2 ^ 32

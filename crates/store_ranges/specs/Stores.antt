@@ -1,4 +1,4 @@
--- Where the accesses from the members of a value lie.
+-- The accesses from the members of a value: are they in range, are they aligned?
 use Rattle.std.specs.Prelude.{◌≡◌, ◌<◌, ◌≤◌, ◌+◌, ◌%◌, ◌^◌, ℕ}
 use Rattle.tcd_plan.specs.PlanData.{PlanData}
 use Rattle.tcd_plan.specs.Regions.{IsStoreInRange}
@@ -6,11 +6,11 @@ use Rattle.value_domain.specs.declared.values.Val.{Val}
 use Rattle.value_domain.specs.Sets.{alignment_log2}
 use Rattle.value_domain.specs.Values.{IsMember}
 
--- every access from a member doesn't pass 2^32 and lies wholly in one ram range or one device range
+-- each access from a member doesn't pass 2^32 and is wholly in one ram range or one device range
 abbrev pub AreStoresInRange : PlanData → Val → ℕ → Type 0
 AreStoresInRange plan v size = (x : ℕ) → IsMember x v → IsStoreInRange plan (x, size)
 
--- every member is a multiple of the size
+-- each member is a multiple of the size
 abbrev pub AreAligned : Val → ℕ → Type 0
 AreAligned v size = (x : ℕ) → IsMember x v → x % size ≡ 0
 

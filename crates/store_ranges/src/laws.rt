@@ -1,7 +1,7 @@
-// What holds of all loads.
+// The law of loads.
 ghost use Rattle.store_ranges.specs.Laws.{LoadsGrow};
 
-/// Of two values, the loads from the members of the one that the other holds give no more words.
+/// The law of loads: a value with fewer members gives fewer loaded words.
 pub fn load_laws()
     ensures { LoadsGrow }
 {}

@@ -1,4 +1,4 @@
-//! The addresses that stores and loads reach, and what loads give.
+//! The addresses that stores and loads reach, and the values that loads give.
 #![tactic(auto)]
 
 mod laws;

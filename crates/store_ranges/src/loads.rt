@@ -1,4 +1,4 @@
-// What a load from the members of a value may give.
+// The value that a load from the members of a value gives.
 ghost use Rattle.std.specs.Prelude.{◌≡◌, ◌≤◌, ◌<◌, ◌+◌, ◌-◌, ◌*◌, ◌^◌, ◌&&◌, ◌==◌, if◌then◌else◌, find, length, List, ℕ, IfSome};
 ghost use Rattle.std.specs.List.{flat_map};
 ghost use Rattle.csa_chain.specs.Memory as memory;
@@ -16,8 +16,9 @@ use tcd_base::sext;
 use tcd_plan::{Device, Plan};
 use value_domain::{Bounds, Val, cover, cover_words, extent_of, join};
 
-/// The least value that holds what the loads of 1, 2 or 4 bytes (`size`) from all members of `at` may give. An address
-/// in rom gives the image's word, a word of a device what the plan lets the device answer, any other address anything.
+/// Returns the least value that holds what loads of 1, 2 or 4 bytes (`size`) from all members of
+/// `at` give. An address in rom gives the image's word, a word of a device what the plan lets the
+/// device answer, any other address any word.
 pub fn load_of(b: &Bounds, image: &Image, plan: &Plan, at: &Val, size: u8, signed: bool) -> Val
     requires at { IsValue b.now at.now }
     requires size { IsSize size }
@@ -25,7 +26,7 @@ pub fn load_of(b: &Bounds, image: &Image, plan: &Plan, at: &Val, size: u8, signe
     ensures value { IsValue b.now result }
     ensures sound { HoldsLoads image.now plan.now at.now size signed result }
 {
-    // The promises that every plan keeps are known once it is read.
+    // Reading the plan gives the facts that hold of every plan.
     let _areas = plan.areas;
     match at {
         Val::Set(words) => load_each(b, image, plan, words.as_slice(), size, signed),
@@ -33,7 +34,7 @@ pub fn load_of(b: &Bounds, image: &Image, plan: &Plan, at: &Val, size: u8, signe
     }
 }
 
-/// The join of what each address gives.
+/// Returns the join of what each address gives.
 fn load_each(b: &Bounds, image: &Image, plan: &Plan, words: &[u32], size: u8, signed: bool) -> Val
     requires some { 1 ≤ length words.now }
     requires size { IsSize size }
@@ -74,7 +75,8 @@ fn load_span(b: &Bounds, plan: &Plan, at: &Val, size: u8, signed: bool) -> Val
     answers(b, device, size, signed)
 }
 
-/// The device in whose range an access of a word lies both at `low` and at `high`; none for smaller accesses.
+/// Returns the device whose range has a word both at `low` and at `high`. For smaller accesses
+/// there is none.
 fn device_for(plan: &Plan, low: u32, high: u32, size: u8) -> Option<Device>
     ensures device { result
         ≡ (if size == 4
@@ -88,7 +90,7 @@ fn device_for(plan: &Plan, low: u32, high: u32, size: u8) -> Option<Device>
     device_at(plan.devices.as_slice(), low, high, 4)
 }
 
-/// A loaded number of `size` bytes as a word.
+/// Extends a loaded number of `size` bytes to a word.
 fn extended(number: u32, size: u8, signed: bool) -> u32
     requires size { IsSize size }
     requires below { number < 2 ^ (8 * size) }
@@ -101,7 +103,7 @@ fn extended(number: u32, size: u8, signed: bool) -> u32
     }
 }
 
-/// What a device may answer; without one, anything.
+/// Returns the words that a device can answer; without a device, any word.
 fn answers(b: &Bounds, device: Option<Device>, size: u8, signed: bool) -> Val
     requires size { IsSize size }
     requires bounds { IfSome device (λ d. d.lo ≤ d.hi) }
@@ -115,7 +117,7 @@ fn answers(b: &Bounds, device: Option<Device>, size: u8, signed: bool) -> Val
     }
 }
 
-/// All words that a load of this size and sign may give.
+/// Returns all words that a load of this size and sign can give.
 fn anything(b: &Bounds, size: u8, signed: bool) -> Val
     requires { IsSize size }
     ensures cover { result ≡ cover b.now (all_extended size signed) }
@@ -129,7 +131,7 @@ fn anything(b: &Bounds, size: u8, signed: bool) -> Val
     }
 }
 
-/// The greatest number of `size` bytes.
+/// Returns the greatest number of `size` bytes.
 fn greatest_of(size: u8) -> u32
     requires { IsSize size }
     ensures { result ≡ 2 ^ (8 * size) - 1 }

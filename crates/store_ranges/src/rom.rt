@@ -11,8 +11,8 @@ use elf_image::Image;
 use tcd_base::any_holds;
 use tcd_plan::Plan;
 
-/// Whether the `len` bytes from `addr` on lie, without passing 2^32, in one rom range and are held by segments of the
-/// image.
+/// Returns true if the `len` bytes from `addr` on are in one rom range and held by segments of the
+/// image. Addresses don't wrap at 2^32.
 pub fn loaded_rom(image: &Image, plan: &Plan, addr: u32, len: u8) -> bool
     ensures { IsTrue result ↔ IsLoadedRom image.now plan.now addr len }
 {
@@ -41,7 +41,8 @@ fn are_held(image: &Image, x: u32, n: u8) -> bool
     true
 }
 
-/// The number in the `n` bytes from `x` on, little-endian, where they lie in one rom range and are held.
+/// Returns the number in the `n` bytes from `x` on, little-endian, if they are in one rom range and
+/// held by segments.
 pub(crate) fn rom_number(image: &Image, plan: &Plan, x: u32, n: u8) -> Option<u32>
     requires { n ≤ 4 }
     ensures value { result ≡ loads.rom_number image.now plan.now x n }

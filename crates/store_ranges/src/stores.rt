@@ -1,4 +1,4 @@
-// Whether stores stay in range, and whether accesses are aligned.
+// Checks of stores (is each in range?) and of accesses (is each aligned?).
 ghost use Rattle.std.specs.Prelude.{◌≡◌, ◌≤◌, ◌<◌, ◌+◌, ◌-◌, ◌*◌, ◌/◌, ◌^◌, ◌↔◌, ℕ, All, IsTrue, MatchOption};
 ghost use Rattle.tcd_plan.specs.Regions.{IsStoreInRange};
 ghost use Rattle.value_domain.specs.Sets as sets;
@@ -11,8 +11,8 @@ use crate::ranges::{device_at, range_at};
 use tcd_plan::Plan;
 use value_domain::{Val, alignment_log2, extent_of};
 
-/// Whether every store of 1, 2 or 4 bytes (`size`) at a member of the value lies, without passing 2^32, wholly in one ram
-/// range or in one device range.
+/// Returns true if each store of 1, 2 or 4 bytes (`size`) at a member of the value is wholly in one
+/// ram range or one device range. Addresses don't wrap at 2^32.
 pub fn store_ok(plan: &Plan, at: &Val, size: u8) -> bool
     requires well { IsWell at.now }
     requires size { IsSize size }
@@ -30,7 +30,7 @@ pub fn store_ok(plan: &Plan, at: &Val, size: u8) -> bool
     }
 }
 
-/// Whether every member of the value is a multiple of 1, 2 or 4 (`size`).
+/// Returns true if each member of the value is a multiple of 1, 2 or 4 (`size`).
 pub fn aligned(at: &Val, size: u8) -> bool
     requires well { IsWell at.now }
     requires size { IsSize size }
@@ -56,7 +56,7 @@ fn is_in_range(plan: &Plan, x: u32, size: u8) -> bool
     range_end(plan, x, size).is_some()
 }
 
-/// The end of a ram range or device range that holds the access.
+/// Returns the end of a ram range or device range that holds the access.
 fn range_end(plan: &Plan, x: u32, size: u8) -> Option<u64>
     ensures { MatchOption result (¬ IsStoreInRange plan.now (x, size))
         (λ end. StaysInRange plan.now size x end) }
@@ -70,7 +70,8 @@ fn range_end(plan: &Plan, x: u32, size: u8) -> Option<u64>
     }
 }
 
-/// Goes from range to range: the first member whose access leaves one range is looked for in the others.
+/// Walks from range to range: the first member whose access isn't in the last range is looked for
+/// in the others.
 fn is_span_in_range(plan: &Plan, least: u32, last: u32, step: u8, size: u8) -> bool
     requires step { step ≤ 2 }
     requires least { step ≤ sets.alignment_log2 least }
@@ -86,7 +87,7 @@ fn is_span_in_range(plan: &Plan, least: u32, last: u32, step: u8, size: u8) -> b
     true
 }
 
-/// The least multiple of `2 ^ step` above `x`.
+/// Returns the least multiple of `2 ^ step` above `x`.
 fn next_multiple(x: u64, step: u8) -> u64
     requires step { step ≤ 2 }
     requires small { x ≤ 2 ^ 32 }
