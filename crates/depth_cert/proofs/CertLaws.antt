@@ -1,4 +1,4 @@
--- What the grammar gives: a certificate with its order and limits, of which the bytes are the spelling.
+-- The order and limits of a certificate that the grammar gives.
 use Rattle.std.proofs.Common.{◌≡◌, ℕ, zero, suc, ◌+◌, ◌≤◌, ◌^◌, List, [], ◌∷◌, ◌++◌, length, map, Bool, true, Ok, refl, sym, ap, ◌∙◌, subst, arith, leb, eqb}
 use Rattle.std.proofs.lemmas.Bool.{leb-true}
 use Rattle.std.proofs.lemmas.List.Elements.{All-nil, All-push}

@@ -1,4 +1,4 @@
--- The values of the lower registers of a state, and of a state in which they are replaced by those of an exit.
+-- The values of the lower registers of a state, and of a state in which an exit replaced them.
 use Rattle.std.proofs.Common.{◌≡◌, ℕ, zero, suc, ◌+◌, ◌-◌, ◌<◌, ◌≤◌, cond, List, [], ◌∷◌, ◌++◌, length, refl, sym, ap, ◌∙◌, arith, get_or, take, drop, set, ltb}
 use Rattle.std.proofs.lemmas.List.{take_more, take_more_set, get_or-take, get_or-drop, get_or_append_left, get_or-append_right, length-take, length-drop, length-append}
 use Rattle.value_domain.specs.declared.values.Val.{Val}

@@ -1,4 +1,4 @@
--- What the grammar gives: a certificate with its order and limits, of which the bytes are the spelling.
+-- What the grammar gives is within its limits, and the bytes are its spelling.
 use Rattle.std.proofs.Common.{◌≡◌, ℕ, zero, suc, ◌+◌, ◌-◌, ◌<◌, ◌≤◌, ◌^◌, ◌⊎◌, inl, inr, List, [], ◌∷◌, ◌++◌, length, Bool, true, false, cond, Result, Ok, Err, refl, sym, ap, ◌∙◌, subst, arith, ltb, leb, eqb, not, ◌&&◌}
 use Rattle.std.proofs.lemmas.Bool.{lt-ltb, ltb-true, leb-true, and_parts, eqb-true}
 use Rattle.std.proofs.lemmas.Bool.Decides.{nat_tests}
@@ -22,7 +22,7 @@ use Rattle.depth_cert.specs.Spelling.{bytes_of_value}
 use Rattle.depth_cert.proofs.ManyLaws.{rising_push}
 use Rattle.tcd_base.proofs.PassedLaws.{AreBytes, Passed, passed_bytes, passed_both, ok_pair, passed_test, byte_passed, word_passed, many_passed}
 
--- the reading that follows stands after the part
+-- the next reading begins after the part
 pub next : {A : Type 0} {part front rest : List ℕ} {q : Place} (read : Place → Result A FormErr) (y : Result A FormErr) (h : Passed part front rest q) → read q ≡ y → read (place_between (front ++ part) h.after) ≡ y
 next read y h e = ap read (sym h.at) ∙ e
 
@@ -112,7 +112,7 @@ span_passed version step start front rest v q bytes small e =
     not_true true h = sym h
     not_true false h = refl
 
--- which of four comes
+-- one of the four cases
 chosen : {A : Type 0} (b c d : Bool) (x y z w r : A) → cond b x (cond c y (cond d z w)) ≡ r
     → ((b ≡ true) × (x ≡ r)) ⊎ ((b ≡ false) × (c ≡ true) × (y ≡ r)) ⊎ ((d ≡ true) × (z ≡ r)) ⊎ (w ≡ r)
 chosen true c d x y z w r e = inl (refl, e)

@@ -1,11 +1,11 @@
--- A number names one key, and what is found in a list stands in it.
+-- A number is that of one key, and what is found in a list is in the list.
 use Rattle.std.proofs.Common.{◌≡◌, ℕ, suc, ◌+◌, ◌*◌, ◌^◌, ◌<◌, Bool, true, false, cond, List, [], ◌∷◌, Some, refl, ap, ◌∙◌, subst, arith, Contains}
 use Rattle.std.specs.List.{find}
 use Rattle.std.specs.Prelude.{None}
 use Rattle.depth_cert.specs.declared.keys.Key.{Key}
 use Rattle.depth_cert.specs.Keys.{byte_of, key_number, number_of_key, IsKey}
 
--- what is found stands in the list, and passes the test
+-- what is found is in the list, and passes the test
 pub found_in : {X : Type 0} (p : X → Bool) (xs : List X) (x : X) → find p xs ≡ Some x → Contains xs x × (p x ≡ true)
 found_in p [] x h = absurd (let f : None ≡ Some x = h in cc)
 found_in p (y ∷ ys) x h =
@@ -37,7 +37,7 @@ number_parts a b c d e f g h b_lt c_lt d_lt f_lt g_lt h_lt same =
 made : ℕ → ℕ → ℕ → Bool → Key
 made kind entry prio is = record { kind = kind; entry = entry; prio = prio; is = is }
 
--- keys of the same number are the same
+-- keys with equal numbers are equal
 pub one_number : (j k : Key) → IsKey j → IsKey k → number_of_key j ≡ number_of_key k → j ≡ k
 unfolding made
 one_number j k hj hk e =

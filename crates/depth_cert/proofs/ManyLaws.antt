@@ -49,7 +49,7 @@ pub some_elements : (n : ℕ) → false ≡ eqb n 0 → 1 ≤ n
 some_elements zero h = cc
 some_elements (suc n) h = omega arith
 
--- the same of a number of the last element
+-- the last element of a list by its number
 pub is_above-map : {A : Type 0} (f : A → ℕ) (xs : List A) (x : ℕ) (d : A) → 1 ≤ length xs → is_above (map f xs) x ≡ ltb (f (get_or xs (length xs - 1) d)) x
 is_above-map f xs x d h =
     is_above-last (map f xs) x (omega (arith, length-map xs f))

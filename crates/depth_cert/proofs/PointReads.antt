@@ -1,4 +1,4 @@
--- How a point is read behind others: its address, and then its state into its place.
+-- The reading of a point after others: its address, and then its state in place.
 use Rattle.std.specs.Prelude.{◌≡◌, ℕ, List, [], ◌∷◌, ◌++◌, length, slice_set, slice_index_or, Ok, Err}
 use Rattle.std.proofs.Common.{◌∙◌, refl}
 use Rattle.std.proofs.Math.Seq.{set-append_seam, get_or-append_seam}

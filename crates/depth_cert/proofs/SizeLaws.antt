@@ -19,7 +19,7 @@ use Rattle.depth_cert.specs.Grammar.{is_any}
 use Rattle.depth_cert.specs.Spelling.{bytes_of_value, bytes_of_state, bytes_of_point, bytes_of_key, bytes_of_exit, bytes_of_node, bytes_of}
 use Rattle.depth_cert.proofs.GrammarLaws.{width_le, most_le}
 
--- parts of at most so many bytes each
+-- parts of at most n bytes each
 parts_most : {A : Type 0} (f : A → List ℕ) (most : ℕ) (xs : List A) → All (λ x. length (f x) ≤ most) xs → length (flat_map f xs) ≤ length xs * most
 parts_most {A} f most xs h = let sum = sum_by-le (λ (x : A). length (f x)) most xs h in omega (arith, length-flat_map f xs)
 

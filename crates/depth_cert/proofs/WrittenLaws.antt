@@ -25,7 +25,7 @@ use Rattle.depth_cert.specs.Spelling.{bytes_of_value}
 use Rattle.depth_cert.proofs.ManyLaws.{is_above-last}
 use Rattle.depth_cert.proofs.GrammarLaws.{width_le}
 
--- the part is read as x, whatever stands before and after it
+-- the part is read as x, whatever is before and after it
 pub record IsRead {A : Type 0} (read : Place → Result (A × Place) FormErr) (part : List ℕ) (x : A) : Type 0 where
   pub at : (front rest : List ℕ) → read (place_between front (part ++ rest)) ≡ Ok (x, place_between (front ++ part) rest)
 

@@ -1,4 +1,4 @@
--- Certificates as plain data, and what they keep.
+-- Certificates as plain data, and what holds of them.
 use Rattle.std.specs.Prelude.{◌≡◌, ◌≤◌, ◌⊎◌, ◌^◌, ◌==◌, ℕ, List, length, map, sum_by, find, Option}
 use Rattle.std.specs.List.{All}
 use Rattle.std.specs.List.Sorted.{IsStrictlyIncreasing}
@@ -15,11 +15,12 @@ pub record CertData : Type 0 where
 abbrev pub key_numbers : List NodeData → List ℕ
 key_numbers ns = map (λ n. number_of_key n.key) ns
 
--- how many points nodes have together
+-- the number of points of the nodes together
 abbrev pub count_points : List NodeData → ℕ
 count_points ns = sum_by (λ n. length n.points) ns
 
--- the order and the limits of a certificate: nodes by ascending key, at most 2,048 of them with at most 65,536 points
+-- the order and the limits of a certificate: nodes by ascending key, at most 2,048 of them with at
+-- most 65,536 points
 pub record IsCert (c : CertData) : Type 0 where
   pub version : (c.version ≡ 1) ⊎ (c.version ≡ 2)
   pub few : length c.nodes ≤ 2048

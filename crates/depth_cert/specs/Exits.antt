@@ -1,4 +1,4 @@
--- Exits of frames: what a state says of one, what it makes of its caller's state, and which covers which.
+-- Exits of frames: the exit of a state, the state after a return by it, and their order.
 use Rattle.std.specs.Prelude.{◌+◌, ◌-◌, ◌==◌, ℕ, false, nat_lt, if◌then◌else◌, List, [], ◌∷◌, ◌++◌, take, drop, slice_index_or, ◌≤◌, IsTrue}
 use Rattle.depth_cert.specs.Keys.{call_kind}
 use Rattle.value_domain.specs.declared.values.Val.{Val}
@@ -8,11 +8,12 @@ use Rattle.value_domain.specs.State.{is_lower_slot, AreBelow}
 use Rattle.depth_cert.specs.declared.points.Exit.{Exit}
 
 -- ---- exits
--- the values of the lower registers D0..D7 and A2..A7, which have the places 0 to 7 and 16 to 21 in a state
+-- the values of the lower registers D0..D7 and A2..A7, which have the places 0 to 7 and 16 to 21 in
+-- a state
 abbrev pub lower_values : List Val → List Val
 lower_values regs = take 8 regs ++ take 6 (drop 16 regs)
 
--- what a state says of an exit
+-- the exit of a state
 abbrev pub exit_of : State → Exit
 exit_of s = record { ie = s.ie; ccpn = s.ccpn; lower = lower_values s.regs }
 
@@ -22,8 +23,8 @@ with_lower_from i lower [] = []
 with_lower_from i lower (v ∷ vs) =
     (if is_lower_slot i then slice_index_or lower (if nat_lt i 8 then i else i - 8) any_val else v) ∷ with_lower_from (i + 1) lower vs
 
--- the state after a call or a system call (by its kind) that came back by this exit; a system call brings back the caller's
--- IE and CCPN
+-- the state after a call or a system call (by its kind) that returned by this exit; a return from a
+-- system call restores the caller's IE and CCPN
 abbrev pub after_of : State → Exit → ℕ → State
 after_of s x kind = record s {
   regs = with_lower_from 0 x.lower s.regs;

@@ -1,5 +1,5 @@
--- The grammar of certificates: fields read from left to right, and the first fault. Its kinds are 1 Short (of every
--- field), 2 Magic, 3 Order, 4 BadValue, 5 Limit, 6 Trailing.
+-- The grammar of certificates: fields read from left to right, and the first fault.
+-- Its kinds are SHORT, BAD_MAGIC, BAD_ORDER, BAD_VALUE, ABOVE_LIMIT and TRAILING of tcd_base.
 use Rattle.std.specs.Prelude.{◌+◌, ◌-◌, ◌^◌, ◌==◌, ◌&&◌, ◌||◌, not, nat_lt, nat_le, if◌then◌else◌, ℕ, Bool, true, List, [], ◌∷◌, length, Option, Some, None, Result, Ok}
 use Rattle.depth_cert.specs.Keys.{call_kind, sys_kind, key_number}
 use Rattle.tcd_base.specs.declared.errors.FormErr.{FormErr}
@@ -18,7 +18,7 @@ use Rattle.depth_cert.specs.Nodes.{NodeData}
 use Rattle.depth_cert.specs.Certs.{CertData, key_numbers, count_points}
 
 -- ---- fields
--- a number that a field may have, or a fault of this kind at the field
+-- a valid number, or a fault of this kind at the field
 abbrev pub checked : ℕ → Bool → Place → ℕ × Place → Result (ℕ × Place) FormErr
 checked kind good p x = if good then Ok x else fault_at kind p
 
@@ -41,11 +41,12 @@ word_after before p = u32_at p >>= λ w. checked 4 (is_above before w.0) p w
 unfoldable pub set_at : ℕ → Place → Result (Val × Place) FormErr
 set_at n p = many_at word_after n [] p >>= λ ws. Ok (Set ws.0, ws.1)
 
--- the Span of all words
+-- the Span has all words
 abbrev pub is_any : ℕ → ℕ → ℕ → Bool
 is_any lo last step = lo == 0 && last == 4294967295 && step == 0
 
--- more members than a Set may have (so lo isn't above last), and not all words, which have their own spelling
+-- the Span has more members than a Set can have (so lo isn't above last), but not all words, which
+-- are spelled otherwise
 abbrev pub is_span : ℕ → ℕ → ℕ → ℕ → Bool
 is_span version lo last step = nat_lt (most_words_of version) (count_in lo last step) && not (is_any lo last step)
 
@@ -89,7 +90,7 @@ point_after version before p =
     address_after (addresses before) p >>= λ addr. state_at version addr.1 >>= λ s. Ok (record { addr = addr.0; state = s.0 }, s.1)
 
 -- ---- nodes
--- a key after those whose numbers are given; its order is told at its kind, once `is` was read
+-- a key whose number is above these; a fault of the order is at the kind, after `is` was read
 unfoldable pub key_after : List ℕ → Place → Result (Key × Place) FormErr
 key_after before p =
     u8_at p >>= λ kind. checked 4 (nat_le kind.0 4) p kind >>= λ kind. u32_at kind.1 >>= λ entry. u8_at entry.1 >>= λ prio. u8_at prio.1 >>= λ is.
@@ -100,7 +101,7 @@ key_after before p =
 unfoldable pub need_at : Place → Result (ℕ × Place) FormErr
 need_at p = u16_at p >>= λ need. checked 5 (nat_le need.0 4096) p need
 
--- only calls and system calls may have an exit
+-- a flag: only calls and system calls can have an exit
 unfoldable pub has_exit_at : ℕ → Place → Result (Bool × Place) FormErr
 has_exit_at kind p = flag_at p >>= λ exit. if exit.0 && not (kind == call_kind || kind == sys_kind) then fault_at 4 p else Ok exit
 
@@ -118,7 +119,7 @@ exits_at version kind p =
 unfoldable pub point_count_at : ℕ → Place → Result (ℕ × Place) FormErr
 point_count_at used p = u32_at p >>= λ n. checked 5 (nat_le (used + n.0) (2 ^ 16)) p n
 
--- a node's points: how many, and each one behind those before
+-- a node's points: their number, and each one after those before
 unfoldable pub points_at : ℕ → ℕ → Place → Result (List Point × Place) FormErr
 points_at version used p = point_count_at used p >>= λ n. many_at (point_after version) n.0 [] n.1
 

@@ -35,11 +35,11 @@ key_number kind entry prio is = ((kind * 2 ^ 32 + entry) * 2 ^ 8 + prio) * 2 ^ 8
 abbrev pub number_of_key : Key → ℕ
 number_of_key k = key_number k.kind k.entry k.prio (byte_of k.is)
 
--- one key
+-- two keys are equal
 abbrev pub same_key : Key → Key → Bool
 same_key k j = k.kind == j.kind && k.entry == j.entry && k.prio == j.prio && byte_of k.is == byte_of j.is
 
--- the kinds are start, call, irq, sys and aln
+-- the kind of the key is one of start, call, irq, sys and aln
 pub record IsKey (k : Key) : Type 0 where
   pub kind : k.kind ≤ aln_kind
   pub entry : k.entry < 2 ^ 32

@@ -1,4 +1,4 @@
--- What is known at a place of a frame: a state at a point, or an exit; what covers it, and what joins it.
+-- What is known at a place of a frame (the state of a point, or an exit), its order and joins.
 use Rattle.std.specs.Prelude.{◌||◌, min, Option, Some, None, option_map, ℕ, ◌≡◌, ◌≤◌, length}
 use Rattle.value_domain.specs.declared.states.State.{State}
 use Rattle.value_domain.specs.Limits.{Limits}
@@ -22,30 +22,31 @@ CoversKnown (leaving y) (state s) = ⊥
 abbrev pub joined_exit : Limits → Exit → Exit → Exit
 joined_exit b x y = record { ie = x.ie || y.ie; ccpn = min x.ccpn y.ccpn; lower = joined_regs b x.lower y.lower }
 
--- the least that covers both; none for states with unequal numbers of locals
+-- the least that covers both; none for states with different numbers of locals
 abbrev pub joined_known : Limits → Known → Known → Option Known
 joined_known b (state s) (state t) = option_map state (joined_states b s t)
 joined_known b (leaving x) (leaving y) = Some (leaving (joined_exit b x y))
 joined_known b (state s) (leaving y) = None
 joined_known b (leaving x) (state t) = None
 
--- the priority of a state, of an exit
+-- the lower bound of CCPN in a state or an exit
 abbrev pub priority_of : Known → ℕ
 priority_of (state s) = s.ccpn
 priority_of (leaving x) = x.ccpn
 
--- a state of the plan and the version: 27 values, and no more locals than it may have
+-- a state at the limits: 27 values of the plan's lattice, and no more locals than the version
+-- allows
 pub record IsProper (b : Limits) (s : State) : Type 0 where
   pub regs : length s.regs ≡ 27
   pub values : AreValues b s.regs
   pub few : length s.locals.items ≤ b.most_locals
 
--- an exit of the plan and the version: 14 values
+-- an exit at the limits: 14 values of the plan's lattice
 pub record IsProperExit (b : Limits) (x : Exit) : Type 0 where
   pub regs : length x.lower ≡ 14
   pub values : AreValues b x.lower
 
--- what is known is of the plan and the version
+-- what is known is within the limits
 abbrev pub IsProperKnown : Limits → Known → Type 0
 IsProperKnown b (state s) = IsProper b s
 IsProperKnown b (leaving x) = IsProperExit b x

@@ -1,4 +1,4 @@
--- Certificates: keys, nodes and points, the grammar, and the one spelling.
+-- Definitions of certificates: keys, nodes and points, the grammar, and the spelling.
 pub mod Answers
 pub mod Certs
 pub mod Grammar

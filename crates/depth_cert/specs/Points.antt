@@ -1,4 +1,4 @@
--- Points and exits, and what they keep.
+-- Points and exits, and what holds of them.
 use Rattle.std.specs.Prelude.{◌≡◌, ◌≤◌, ◌<◌, ◌^◌, ◌==◌, ℕ, List, length, map, find, Option}
 use Rattle.std.specs.List.{All}
 use Rattle.std.specs.List.Sorted.{IsStrictlyIncreasing}
@@ -16,19 +16,19 @@ abbrev pub IsWellOf : ℕ → Val → Type 0
 IsWellOf version (Set ws) = AreWords ws × (length ws ≤ most_words_of version)
 IsWellOf version (Span lo last step) = (step ≤ 2) × (most_words_of version < count_in lo last step) × (last < 2 ^ 32)
 
--- a state that a certificate of the version may have
+-- a state that a certificate of the version can have
 pub record IsState (version : ℕ) (s : State) : Type 0 where
   pub regs : length s.regs ≡ 27
   pub values : All (IsWellOf version) s.regs
   pub ccpn : s.ccpn < 2 ^ 8
   pub locals : length s.locals.items ≤ most_locals_of version
 
--- a point that a certificate of the version may have
+-- a point that a certificate of the version can have
 pub record IsPoint (version : ℕ) (p : Point) : Type 0 where
   pub addr : p.addr < 2 ^ 32
   pub state : IsState version p.state
 
--- an exit that a certificate of the version may have: values of the 14 lower registers, and a CCPN
+-- an exit that a certificate of the version can have: values of the 14 lower registers, and a CCPN
 pub record IsExit (version : ℕ) (e : Exit) : Type 0 where
   pub lower : length e.lower ≡ 14
   pub values : All (IsWellOf version) e.lower
@@ -38,7 +38,7 @@ pub record IsExit (version : ℕ) (e : Exit) : Type 0 where
 abbrev pub addresses : List Point → List ℕ
 addresses ps = map (λ p. p.addr) ps
 
--- points stand by ascending address
+-- points are in ascending order of their addresses
 abbrev pub ArePoints : List Point → Type 0
 ArePoints ps = IsStrictlyIncreasing (addresses ps)
 

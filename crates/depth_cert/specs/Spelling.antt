@@ -1,4 +1,4 @@
--- The one spelling of a certificate.
+-- The only bytes that spell a certificate.
 use Rattle.std.specs.Prelude.{◌+◌, if◌then◌else◌, ℕ, List, [], ◌∷◌, ◌++◌, length, map, Option, Some, None}
 use Rattle.std.specs.List.{flat_map}
 use Rattle.tcd_base.specs.Bytes.{bytes_of_half, bytes_of_word}
@@ -18,7 +18,7 @@ unfoldable pub bytes_of_value : Val → List ℕ
 bytes_of_value (Set ws) = length ws ∷ flat_map bytes_of_word ws
 bytes_of_value (Span lo last step) = if is_any lo last step then 0 ∷ [] else (240 + step) ∷ bytes_of_word lo ++ bytes_of_word last
 
--- ie, ccpn, lower, the locals behind their number, and the registers' values
+-- ie, ccpn, lower, the number of locals and the locals, and the registers' values
 unfoldable pub bytes_of_state : State → List ℕ
 bytes_of_state s =
     byte_of s.ie ∷ s.ccpn ∷ byte_of s.lower ∷ length s.locals.items ∷ map byte_of s.locals.items ++ flat_map bytes_of_value s.regs
@@ -36,11 +36,11 @@ unfoldable pub bytes_of_exit : Option Exit → List ℕ
 bytes_of_exit None = 0 ∷ []
 bytes_of_exit (Some e) = 1 ∷ byte_of e.ie ∷ e.ccpn ∷ flat_map bytes_of_value e.lower
 
--- the key, the need, the exit, and the points behind their number
+-- the key, the need, the exit, the number of points and the points
 unfoldable pub bytes_of_node : NodeData → List ℕ
 bytes_of_node n =
     bytes_of_key n.key ++ (bytes_of_half n.need ++ (bytes_of_exit n.exit ++ (bytes_of_word (length n.points) ++ flat_map bytes_of_point n.points)))
 
--- the magic word, the version, how many nodes, and the nodes
+-- the magic word, the version, the number of nodes and the nodes
 unfoldable pub bytes_of : CertData → List ℕ
 bytes_of c = bytes_of_word 0x43444354 ++ (bytes_of_half c.version ++ (bytes_of_half (length c.nodes) ++ flat_map bytes_of_node c.nodes))

@@ -1,4 +1,4 @@
-// The fields of a certificate, read.
+// Reads the head of a certificate, and its nodes.
 ghost use Rattle.std.specs.Prelude.{◌≡◌, ◌≤◌, ◌+◌, ◌^◌, ◌-◌, ◌⊎◌, [], length, true, Ok, Err, IfOk, IfErr};
 ghost use Rattle.tcd_base.specs.Reading.{Reads, many_at};
 ghost use Rattle.depth_cert.specs.Answers.{IsFaultOf};
@@ -11,7 +11,7 @@ use crate::{CertErr, Node};
 use std::alloc::Global;
 use tcd_base::{Cursor, FormErr, read_u16, read_u32};
 
-/// The bytes 54 43 44 43.
+/// Reads the magic bytes 54 43 44 43.
 #[tactic(auto, unfolding(crate::specs::Grammar::magic_at))]
 pub fn read_magic(c: &mut Cursor<'_>) -> Result<u32, FormErr>
     requires { length c.old.bytes ≤ 2 ^ 30 }
@@ -26,7 +26,7 @@ pub fn read_magic(c: &mut Cursor<'_>) -> Result<u32, FormErr>
     Ok(magic)
 }
 
-/// Version 1 or 2.
+/// Reads the version, 1 or 2.
 #[tactic(auto, unfolding(crate::specs::Grammar::version_at))]
 pub fn read_version(c: &mut Cursor<'_>) -> Result<u8, FormErr>
     requires { length c.old.bytes ≤ 2 ^ 30 }
@@ -43,7 +43,7 @@ pub fn read_version(c: &mut Cursor<'_>) -> Result<u8, FormErr>
     }
 }
 
-/// How many nodes: at most 2,048.
+/// Reads the number of nodes, at most 2,048.
 #[tactic(auto, unfolding(crate::specs::Grammar::node_count_at))]
 pub fn read_node_count(c: &mut Cursor<'_>) -> Result<u16, FormErr>
     requires { length c.old.bytes ≤ 2 ^ 30 }
@@ -86,7 +86,8 @@ fn count_of(node: &Node) -> usize
     node.points.len()
 }
 
-/// The version and the nodes of the certificate that the bytes spell, or their first fault.
+/// Reads the version and the nodes of the certificate that the bytes spell, or returns their first
+/// fault.
 #[tactic(auto, unfolding(crate::specs::Grammar::certificate_of, crate::specs::Grammar::cert_at))]
 pub(crate) fn read_parts(alloc: Global, bytes: &[u8]) -> Result<(u8, Vec<Node>), CertErr>
     requires { length bytes.now ≤ 2 ^ 30 }

@@ -1,4 +1,4 @@
-// Certificates, with the facts that they always keep.
+// The type `Cert`: a certificate in memory, with the facts that always hold.
 ghost use Rattle.std.specs.Prelude.{◌≡◌, ◌≤◌, ◌^◌, length, Ok, IfOk, IfErr};
 ghost use Rattle.std.specs.Option.{option_map};
 ghost use Rattle.depth_cert.specs.declared.errors.CertErr.TheVariants.{NoMemory};
@@ -35,7 +35,7 @@ impl Cert {
     ghost use Rattle.depth_cert.specs.Grammar.{certificate_of};
     ghost use Rattle.depth_cert.specs.Spelling.{bytes_of};
 
-    /// The certificate that the bytes spell, or their first fault.
+    /// Reads the certificate that the bytes spell, or returns their first fault.
     pub fn read(alloc: Global, bytes: &[u8]) -> Result<Cert, CertErr>
         requires { length bytes.now ≤ 2 ^ 30 }
         ensures ok { IfOk result (λ c. certificate_of bytes.now ≡ Ok c) }
@@ -48,13 +48,13 @@ impl Cert {
         Ok(Cert { version, nodes })
     }
 
-    /// The bytes that spell the certificate: at most 1,073,741,824.
+    /// Writes the bytes that spell the certificate: at most 1,073,741,824.
     pub fn write(&self, alloc: Global) -> Result<Vec<u8>, CertErr>
         ensures ok { IfOk result (λ out. out.items ≡ bytes_of self.now) }
         ensures small { IfOk result (λ out. length out.items ≤ 2 ^ 30) }
         ensures err { IfErr result (λ e. e ≡ NoMemory) }
 
-        // Reading them gives the certificate back.
+        // These bytes are read back as this certificate.
         ensures back { IfOk result (λ out. certificate_of out.items ≡ Ok self.now) }
     {
         let _version = self.version;
@@ -74,7 +74,7 @@ impl Cert {
         Ok(out)
     }
 
-    /// The node of a key, or nothing where there is none.
+    /// Returns the node of a key, or `None` if there is none.
     pub fn node(&self, key: &Key) -> Option<&Node>
         ensures { option_map (λ n. n.now) result ≡ find_node key.now self.now.nodes }
     {

@@ -5,7 +5,7 @@ ghost use Rattle.depth_cert.specs.declared.errors.CertErr.TheVariants.{Bad, NoMe
 use std::alloc::AllocFailed;
 use tcd_base::FormErr;
 
-/// Why there is no certificate: the first fault of the bytes, or want of memory.
+/// Why there is no certificate: the first fault of the bytes, or out of memory.
 #[derive(Clone, Copy, Debug, PartialEq, Eq)]
 pub enum CertErr {
     Bad(FormErr),

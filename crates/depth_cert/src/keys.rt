@@ -1,4 +1,4 @@
-// The names of kinds of frames.
+// Kinds of frames, and the keys of nodes.
 
 /// The kind of the frame in which a run starts.
 pub const START: u8 = 0;
@@ -15,13 +15,15 @@ pub const SYS: u8 = 3;
 /// The kind of frames of handlers of misaligned accesses.
 pub const ALN: u8 = 4;
 
-/// One kind of frame: `kind` (0 start, 1 call, 2 irq, 3 sys, 4 aln), the address of its first instruction, the priority
-/// of the innermost interrupt (0 for none), and whether it runs on the interrupt stack (PSW.IS). Keys are ordered by
-/// these four, in this order.
+/// The key of a node. Keys are ordered by these four fields, in this order.
 #[derive(Clone, Copy, Debug, PartialEq, Eq, PartialOrd, Ord, Hash)]
 pub struct Key {
+    /// The kind of frame: `START` to `ALN`.
     pub kind: u8,
+    /// The address of its first instruction.
     pub entry: u32,
+    /// The priority of the innermost interrupt, 0 for none.
     pub prio: u8,
+    /// The frame runs on the interrupt stack (PSW.IS).
     pub is: bool,
 }

@@ -1,4 +1,4 @@
-//! Certificates: nodes with their points, and the file that spells them.
+//! Certificates: nodes with their points, and the file format that spells them.
 #![tactic(auto)]
 
 mod cert_fields;

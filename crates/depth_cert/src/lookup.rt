@@ -1,4 +1,4 @@
-// Nodes by their keys.
+// Finds nodes by their keys.
 ghost use Rattle.std.specs.Prelude.{◌≡◌, nat_lt, ◌==◌, true, false, find};
 ghost use Rattle.std.specs.Option.{option_map};
 ghost use Rattle.std.specs.List.Sorted.{IsPartitionPoint, IsStrictlyIncreasing};
@@ -20,7 +20,7 @@ fn is_node(node: &Node, number: u64) -> bool
     number_of(&node.key) == number
 }
 
-/// The place before which all keys are below.
+/// Returns the number of nodes whose keys are below.
 pub(crate) fn node_place(nodes: &[Node], number: u64) -> usize
     requires { IsStrictlyIncreasing (key_numbers nodes.now) }
     ensures { IsPartitionPoint (λ n. nat_lt (number_of_key n.key) number ≡ true)

@@ -5,7 +5,7 @@ ghost use Rattle.depth_cert.specs.Exits.{lower_values};
 
 use value_domain::Val;
 
-/// The value of a lower register, by its number among them.
+/// Returns the value of a lower register, by its number among them: D0 to D7, A2 to A7.
 #[inline(always)]
 pub fn lower_value(regs: &[Val; 27], i: usize) -> &Val
     requires { i < 14 }

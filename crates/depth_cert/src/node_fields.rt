@@ -1,4 +1,4 @@
-// The fields of nodes, read.
+// Reads the fields of nodes.
 ghost use Rattle.std.specs.Prelude.{◌≡◌, ◌≤◌, ◌<◌, ◌+◌, ◌^◌, ◌-◌, [], length, false, true, Ok, Err, OnOk, IfOk, IfErr};
 ghost use Rattle.tcd_base.specs.Reading.{Reads};
 ghost use Rattle.depth_cert.specs.Answers.{IsFaultOf};
@@ -13,7 +13,7 @@ use std::alloc::Global;
 use tcd_base::{Cursor, FormErr, read_u8, read_u16, read_u32};
 use value_domain::Val;
 
-/// The fields of a key as one number, which orders keys.
+/// Returns the fields of a key as one number. Keys are ordered by it.
 fn number(kind: u8, entry: u32, prio: u8, is: u8) -> u64
     ensures { result ≡ key_number kind entry prio is }
 {
@@ -21,14 +21,14 @@ fn number(kind: u8, entry: u32, prio: u8, is: u8) -> u64
         + u64::from(is)
 }
 
-/// A key's fields as one number, which orders keys.
+/// Returns the number of a key. Keys are ordered by it.
 pub fn number_of(key: &Key) -> u64
     ensures { result ≡ number_of_key key.now }
 {
     number(key.kind, key.entry, key.prio, if key.is { 1 } else { 0 })
 }
 
-/// Whether a key's number is above that of the last node.
+/// Returns true if a key's number is above that of the last node.
 fn is_next(before: &[Node], key: u64) -> bool
     ensures { result ≡ is_above (key_numbers before.now) key }
 {
@@ -68,7 +68,7 @@ fn read_key(c: &mut Cursor<'_>, before: &[Node]) -> Result<Key, FormErr>
     })
 }
 
-/// The need of a node: at most 4,096.
+/// Reads the need of a node, at most 4,096 areas.
 #[tactic(auto, unfolding(crate::specs::Grammar::need_at))]
 pub fn read_need(c: &mut Cursor<'_>) -> Result<u16, FormErr>
     requires { length c.old.bytes ≤ 2 ^ 30 }
@@ -83,7 +83,7 @@ pub fn read_need(c: &mut Cursor<'_>) -> Result<u16, FormErr>
     Ok(need)
 }
 
-/// Whether a node of a kind has an exit; only calls and system calls have one.
+/// Reads whether a node of a kind has an exit. Only calls and system calls can have one.
 #[tactic(auto, unfolding(crate::specs::Grammar::has_exit_at))]
 pub fn read_has_exit(c: &mut Cursor<'_>, kind: u8) -> Result<bool, FormErr>
     requires { length c.old.bytes ≤ 2 ^ 30 }
@@ -98,7 +98,7 @@ pub fn read_has_exit(c: &mut Cursor<'_>, kind: u8) -> Result<bool, FormErr>
     Ok(exit)
 }
 
-/// Reads an exit into its place: IE, CCPN, and the values of the lower context.
+/// Reads an exit in place: IE, CCPN, and the values of the lower registers.
 #[tactic(auto, unfolding(crate::specs::Grammar::exit_at))]
 pub fn read_exit(c: &mut Cursor<'_>, version: u8, out: &mut Exit) -> Result<(), FormErr>
     requires { length c.old.bytes ≤ 2 ^ 30 }
@@ -112,7 +112,7 @@ pub fn read_exit(c: &mut Cursor<'_>, version: u8, out: &mut Exit) -> Result<(), 
     Ok(())
 }
 
-/// An exit of which nothing is known.
+/// Returns an exit that knows nothing.
 pub fn no_exit() -> Exit
     ensures ie { result.ie ≡ false }
     ensures ccpn { result.ccpn ≡ 0 }
@@ -138,7 +138,7 @@ fn read_exits(c: &mut Cursor<'_>, version: u8, kind: u8) -> Result<Option<Exit>,
     Ok(Some(exit))
 }
 
-/// A node after those before, which have `used` points together.
+/// Reads a node after those before it, which have `used` points together.
 #[tactic(auto, unfolding(crate::specs::Grammar::node_after))]
 pub(crate) fn read_node(
     alloc: Global,

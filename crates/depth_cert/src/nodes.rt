@@ -1,4 +1,4 @@
-// Nodes: one kind of frame with its points.
+// The type `Node`: a kind of frame with its points.
 ghost use Rattle.std.specs.Prelude.{◌≡◌, ◌<◌, nat_lt, true, false};
 ghost use Rattle.std.specs.Option.{option_map};
 ghost use Rattle.std.specs.List.Sorted.{IsPartitionPoint};
@@ -7,7 +7,8 @@ ghost use Rattle.depth_cert.specs.Points.{ArePoints, find_point};
 use crate::{Exit, Key, Point};
 use std::marker::Model;
 
-/// A kind of frame: how many save areas it may need at most, its exit, and its points by ascending address.
+/// A kind of frame: the greatest number of save areas that it needs, its exit, and its points by
+/// ascending address.
 #[derive(Drop)]
 pub struct Node {
     pub key: Key,
@@ -28,7 +29,7 @@ impl Model for Node {
 }
 
 impl Node {
-    /// The point at an address, or nothing where there is none.
+    /// Returns the point at an address, or `None` if there is none.
     pub fn point(&self, addr: u32) -> Option<&Point>
         ensures { option_map (λ p. p.now) result ≡ find_point addr self.now.points }
     {
@@ -44,7 +45,7 @@ fn is_below(point: &Point, addr: u32) -> bool
     point.addr < addr
 }
 
-/// The place before which all addresses are below.
+/// Returns the number of points whose addresses are below.
 fn point_place(points: &[Point], addr: u32) -> usize
     requires { ArePoints points.now }
     ensures { IsPartitionPoint (λ p. nat_lt p.addr addr ≡ true)

@@ -1,4 +1,4 @@
-// The fields of points, read.
+// Reads the fields of points.
 ghost use Rattle.std.specs.Prelude.{◌≡◌, ◌≤◌, ◌+◌, ◌^◌, ◌-◌, [], length, vec_len, true, Ok, Err, OnOk, IfOk, IfErr};
 ghost use Rattle.tcd_base.specs.Reading.{Reads, many_at};
 ghost use Rattle.depth_cert.specs.Grammar.{flag_at, locals_at, state_at, address_after, point_count_at, points_at, is_above};
@@ -12,7 +12,7 @@ use std::alloc::Global;
 use tcd_base::{Cursor, FormErr, read_u8, read_u32};
 use value_domain::{State, Val};
 
-/// A list of truth values: how many, at most 4 in version 1 and 8 in version 2, and each.
+/// Reads a list of flags: their number, at most 4 in version 1 and 8 in version 2, and each flag.
 #[tactic(auto, unfolding(crate::specs::Grammar::locals_at))]
 pub fn read_locals(c: &mut Cursor<'_>, version: u8) -> Result<ArrayVec<bool, 8>, FormErr>
     requires { length c.old.bytes ≤ 2 ^ 30 }
@@ -46,7 +46,7 @@ fn read_flags(c: &mut Cursor<'_>, count: u8) -> Result<ArrayVec<bool, 8>, FormEr
     Ok(flags)
 }
 
-/// Reads a state into a place, or tells the first fault.
+/// Reads a state in place, or returns the first fault.
 #[tactic(auto, unfolding(crate::specs::Grammar::state_at))]
 pub fn read_state(c: &mut Cursor<'_>, version: u8, out: &mut State) -> Result<(), FormErr>
     requires { length c.old.bytes ≤ 2 ^ 30 }
@@ -61,7 +61,7 @@ pub fn read_state(c: &mut Cursor<'_>, version: u8, out: &mut State) -> Result<()
     read_values(c, version, &mut out.regs)
 }
 
-/// A point at an address of which nothing is known.
+/// Returns a point at an address, whose state knows nothing.
 fn blank(addr: u32) -> Point
     ensures { result.addr ≡ addr }
 {
@@ -77,7 +77,7 @@ fn blank(addr: u32) -> Point
     }
 }
 
-/// Whether an address is above that of the last point.
+/// Returns true if an address is above that of the last point.
 fn is_next(before: &[Point], addr: u32) -> bool
     ensures { result ≡ is_above (addresses before.now) addr }
 {
@@ -99,7 +99,8 @@ fn read_address(c: &mut Cursor<'_>, before: &[Point]) -> Result<u32, FormErr>
     Ok(addr)
 }
 
-/// How many points a node has, where those before it have `used`; all together at most 65,536.
+/// Reads the number of a node's points. The nodes before have `used`; all together are at most
+/// 65,536.
 #[tactic(auto, unfolding(crate::specs::Grammar::point_count_at))]
 pub fn read_point_count(c: &mut Cursor<'_>, used: usize) -> Result<u32, FormErr>
     requires short { length c.old.bytes ≤ 2 ^ 30 }
@@ -116,7 +117,7 @@ pub fn read_point_count(c: &mut Cursor<'_>, used: usize) -> Result<u32, FormErr>
     Ok(count)
 }
 
-/// How many points, and each; those before the node are `used`.
+/// Reads the number of a node's points, and each point. The nodes before have `used`.
 #[tactic(auto, unfolding(crate::specs::Grammar::points_at))]
 pub(crate) fn read_points(
     alloc: Global,

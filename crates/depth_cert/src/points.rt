@@ -1,8 +1,8 @@
 // Points of a frame, and its exit.
 use value_domain::{State, Val};
 
-/// What is known where a call or a system call goes on after the frame: whether interrupts may be enabled, a number
-/// that CCPN isn't below, and the values of the lower registers D0..D7, A2..A7.
+/// What is known after a call or a system call has returned: whether interrupts may be enabled, a
+/// lower bound of CCPN, and the values of the lower registers D0..D7, A2..A7.
 #[derive(Drop)]
 pub struct Exit {
     pub ie: bool,

@@ -1,4 +1,4 @@
-// The fields of values, read.
+// Reads the fields of values.
 ghost use Rattle.std.specs.Prelude.{◌≡◌, ◌≤◌, ◌<◌, ◌^◌, ◌-◌, ◌∷◌, [], IsTrue, ℕ, length, Ok, Err, OnOk, IfOk, IfErr, true};
 ghost use Rattle.tcd_base.specs.Reading.{Reads};
 ghost use Rattle.value_domain.specs.declared.values.Val.TheVariants.{Set, Span};
@@ -9,7 +9,7 @@ use arrayvec::ArrayVec;
 use tcd_base::{Cursor, FormErr, read_u8, read_u32};
 use value_domain::{Val, Words, count_of, write_any};
 
-/// A fault of a kind at a place.
+/// Returns a fault of a kind at an offset.
 pub fn fault(kind: u8, at: usize) -> FormErr
     requires { at ≤ 2 ^ 30 }
     ensures { result ≡ record { kind = kind; at = at } }
@@ -20,7 +20,7 @@ pub fn fault(kind: u8, at: usize) -> FormErr
     }
 }
 
-/// A truth value: a byte 0 or 1. Another one is a BadValue at its place.
+/// Reads a flag: a byte 0 or 1. Any other byte is a `BAD_VALUE`.
 #[tactic(auto, unfolding(crate::specs::Grammar::flag_at))]
 pub fn read_flag(c: &mut Cursor<'_>) -> Result<bool, FormErr>
     requires { length c.old.bytes ≤ 2 ^ 30 }
@@ -35,7 +35,7 @@ pub fn read_flag(c: &mut Cursor<'_>) -> Result<bool, FormErr>
     Ok(byte == 1)
 }
 
-/// Whether a word is above the last of those before it.
+/// Returns true if a word is above the last of those before it.
 fn is_next(before: &[u32], x: u32) -> bool
     ensures { result ≡ is_above before.now x }
 {
@@ -57,7 +57,7 @@ fn read_word(c: &mut Cursor<'_>, before: &[u32]) -> Result<u32, FormErr>
     Ok(word)
 }
 
-/// A Set of so many words.
+/// Reads a Set of `n` words.
 #[tactic(auto, unfolding(crate::specs::Grammar::set_at))]
 fn read_set(c: &mut Cursor<'_>, n: usize) -> Result<Val, FormErr>
     requires short { length c.old.bytes ≤ 2 ^ 30 }
@@ -74,7 +74,7 @@ fn read_set(c: &mut Cursor<'_>, n: usize) -> Result<Val, FormErr>
     Ok(Val::Set(Words::from_ascending(words)))
 }
 
-/// A Span whose first byte was read from `start`.
+/// Reads the ends of a Span, whose first byte was read at `start`.
 #[tactic(auto, unfolding(crate::specs::Grammar::span_at))]
 fn read_span(c: &mut Cursor<'_>, version: u8, step: u8, start: usize) -> Result<Val, FormErr>
     requires short { length c.old.bytes ≤ 2 ^ 30 }
@@ -100,7 +100,7 @@ fn is_span(version: u8, lo: u32, last: u32, step: u8) -> bool
     width < count_of(lo, last, step) && !(lo == 0 && last == u32::MAX && step == 0)
 }
 
-/// Reads a value of a version into a place, or tells its first fault.
+/// Reads a value of a version in place, or returns its first fault.
 #[tactic(auto, unfolding(crate::specs::Grammar::value_at))]
 pub fn read_value(c: &mut Cursor<'_>, version: u8, out: &mut Val) -> Result<(), FormErr>
     requires { length c.old.bytes ≤ 2 ^ 30 }
@@ -126,7 +126,7 @@ pub fn read_value(c: &mut Cursor<'_>, version: u8, out: &mut Val) -> Result<(), 
     Ok(())
 }
 
-/// Reads a value into each place of `out`, or tells the first fault.
+/// Reads a value into each place of `out`, or returns the first fault.
 #[tactic(auto, unfolding(crate::specs::Grammar::values_at))]
 pub fn read_values(c: &mut Cursor<'_>, version: u8, out: &mut [Val]) -> Result<(), FormErr>
     requires { length c.old.bytes ≤ 2 ^ 30 }

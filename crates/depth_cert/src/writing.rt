@@ -1,4 +1,4 @@
-// The one spelling of a certificate, written.
+// Writes the only bytes that spell a certificate.
 ghost use Rattle.std.specs.Prelude.{◌≡◌, ◌≤◌, ◌<◌, ◌+◌, ◌^◌, ◌∷◌, [], ◌++◌, ◌⊎◌, length, map, OnOk, IfSome};
 ghost use Rattle.std.specs.List.{All, flat_map};
 ghost use Rattle.tcd_base.specs.Bytes.{bytes_of_half, bytes_of_word};
@@ -20,7 +20,7 @@ fn put_u8(out: &mut Vec<u8>, x: u8) -> Result<(), NoMemory>
     Ok(())
 }
 
-/// Adds the two bytes of a number, the low one first, to `out`.
+/// Appends the two bytes of a number, the low one first.
 pub fn put_u16(out: &mut Vec<u8>, x: u16) -> Result<(), NoMemory>
     ensures { OnOk result (out.new.items ≡ out.old.items ++ bytes_of_half x) }
 {
@@ -65,7 +65,7 @@ fn write_span(out: &mut Vec<u8>, lo: u32, last: u32, step: u8) -> Result<(), NoM
     put_u32(out, last)
 }
 
-/// Adds the one spelling of a value to `out`.
+/// Appends the only bytes that spell a value.
 pub fn write_value(out: &mut Vec<u8>, v: &Val) -> Result<(), NoMemory>
     requires { IsWell v.now }
     ensures { OnOk result (out.new.items ≡ out.old.items ++ bytes_of_value v.now) }
@@ -76,7 +76,7 @@ pub fn write_value(out: &mut Vec<u8>, v: &Val) -> Result<(), NoMemory>
     }
 }
 
-/// Adds the bytes that spell the values, one after another, to `out`.
+/// Appends the bytes that spell the values, one after another.
 pub fn write_values(out: &mut Vec<u8>, values: &[Val]) -> Result<(), NoMemory>
     requires { All IsWell values.now }
     ensures { OnOk result (out.new.items ≡ out.old.items ++ flat_map bytes_of_value values.now) }
@@ -96,7 +96,7 @@ fn write_flags(out: &mut Vec<u8>, flags: &[bool]) -> Result<(), NoMemory>
     Ok(())
 }
 
-/// Adds the bytes that spell a state to `out`.
+/// Appends the bytes that spell a state.
 #[tactic(auto, unfolding(crate::specs::Spelling::bytes_of_state))]
 pub fn write_state(out: &mut Vec<u8>, s: &State) -> Result<(), NoMemory>
     requires { All IsWell s.now.regs }
@@ -120,7 +120,7 @@ fn write_point(out: &mut Vec<u8>, p: &Point) -> Result<(), NoMemory>
     write_state(out, &p.state)
 }
 
-/// Adds the bytes that spell a key to `out`.
+/// Appends the bytes that spell a key.
 #[tactic(auto, unfolding(crate::specs::Spelling::bytes_of_key))]
 pub fn write_key(out: &mut Vec<u8>, key: &Key) -> Result<(), NoMemory>
     ensures { OnOk result (out.new.items ≡ out.old.items ++ bytes_of_key key.now) }
@@ -131,7 +131,7 @@ pub fn write_key(out: &mut Vec<u8>, key: &Key) -> Result<(), NoMemory>
     put_flag(out, key.is)
 }
 
-/// Adds the bytes that spell an exit, or that there is none, to `out`.
+/// Appends the bytes that spell an exit, or that there is none.
 #[tactic(auto, unfolding(crate::specs::Spelling::bytes_of_exit))]
 pub fn write_exit(out: &mut Vec<u8>, exit: &Option<Exit>) -> Result<(), NoMemory>
     requires { IfSome exit.now (λ e. All IsWell e.lower) }
