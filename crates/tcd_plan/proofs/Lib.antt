@@ -1,5 +1,4 @@
 pub mod Tables
-pub mod HexLemmas
 pub mod ViewLemmas
 pub mod Finds
 pub mod Overlaps

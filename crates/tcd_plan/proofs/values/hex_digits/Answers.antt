@@ -4,7 +4,7 @@ use Rattle.std.proofs.lemmas.Int.Digits.{digits_value_more, digits_more}
 use Rattle.std.proofs.lemmas.List.Folds.{list_all_more}
 use Rattle.std.proofs.lemmas.Bool.{lt-ltb}
 use Rattle.tcd_plan.specs.Values.{is_hex}
-use Rattle.tcd_plan.proofs.HexLemmas.{seven}
+use Rattle.tcd_base.proofs.HexDigits.{seven}
 use Rattle.tcd_plan.proofs.values.hex_digits.Goals as goal
 
 pub overflow_mul-value : goal.overflow_mul-value

@@ -4,7 +4,8 @@ use Rattle.std.proofs.lemmas.Int.Digits.{digits_value_more, digits_more}
 use Rattle.std.proofs.lemmas.List.Folds.{list_all_more}
 use Rattle.std.proofs.lemmas.Bool.{ltb-true}
 use Rattle.tcd_text.specs.HexNumbers.{is_upper_hex}
-use Rattle.tcd_text.proofs.HexLaws.{seven, chosen}
+use Rattle.tcd_base.proofs.HexDigits.{seven}
+use Rattle.tcd_text.proofs.HexLaws.{chosen}
 use Rattle.tcd_text.proofs.hex_numbers.digits_of.Goals as goal
 
 pub overflow_mul-value : goal.overflow_mul-value

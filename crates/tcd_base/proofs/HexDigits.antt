@@ -5,7 +5,7 @@ use Rattle.std.proofs.lemmas.List.{length-take}
 use Rattle.std.proofs.lemmas.Int.Digits.{digits_value-lt}
 use Rattle.std.proofs.Math.Nat.{pow-le-pow_right}
 
--- at most seven hex digits
+-- the value of at most seven hex digits
 pub seven : (cs : List ℕ) (i : ℕ) → AllDigits 16 (take i cs) → i ≤ 7 → digits_value 16 (take i cs) < 2 ^ 28
 seven cs i digits few =
     let most : digits_value 16 (take i cs) < 16 ^ length (take i cs) = digits_value-lt 16 (take i cs) digits in
