@@ -5,7 +5,10 @@ ghost use Rattle.std.specs.Option.{option_map};
 ghost use Rattle.elf_image.specs.Elf.{e_phnum, header_at, headers_of, is_bad, start_refusal, segment_refusal, meets, loads_of, is_large, overlap_refusal, segment_of};
 ghost use Rattle.elf_image.specs.Images.{segment_data};
 
-use crate::headers::{Header, half_at, has_bytes, header_at, is_bad, meets};
+use crate::headers::{
+    E_MACHINE, E_PHENTSIZE, E_PHNUM, E_TYPE, EM_TRICORE, ET_EXEC, Header, half_at, has_bytes,
+    header_at, is_bad, meets,
+};
 use crate::{ImageErr, Segment};
 use std::alloc::Global;
 
@@ -21,10 +24,10 @@ pub(crate) fn check_start(bytes: &[u8]) -> Result<(), ImageErr>
     if !bytes.starts_with(&[127, 69, 76, 70, 1, 1]) {
         return Err(ImageErr::NotElf32Le);
     }
-    if half_at(bytes, 18) != 44 {
+    if half_at(bytes, E_MACHINE) != EM_TRICORE {
         return Err(ImageErr::NotTriCore);
     }
-    if half_at(bytes, 16) != 2 {
+    if half_at(bytes, E_TYPE) != ET_EXEC {
         return Err(ImageErr::NotExec);
     }
     Ok(())
@@ -35,7 +38,7 @@ fn first_bad(bytes: &[u8]) -> Option<u32>
     requires { 52 ≤ length bytes.now }
     ensures { result ≡ option_map (λ h. h.number) (find (is_bad bytes.now) (headers_of bytes.now)) }
 {
-    let count = half_at(bytes, 44);
+    let count = half_at(bytes, E_PHNUM);
     for number in 0..count {
         if is_bad(bytes, number) {
             return Some(u32::from(number));
@@ -50,7 +53,7 @@ pub(crate) fn check_segments(bytes: &[u8]) -> Result<(), ImageErr>
     requires { 52 ≤ length bytes.now }
     ensures { result_err result ≡ segment_refusal bytes.now }
 {
-    if half_at(bytes, 44) > 0 && half_at(bytes, 42) != 32 {
+    if half_at(bytes, E_PHNUM) > 0 && half_at(bytes, E_PHENTSIZE) != 32 {
         return Err(ImageErr::BadSegment(0));
     }
     match first_bad(bytes) {
@@ -96,7 +99,7 @@ pub(crate) fn loads_of(alloc: Global, bytes: &[u8]) -> Result<Vec<Header>, Image
 {
     let mut loads = Vec::new(alloc);
     let mut total = 0u32;
-    let count = half_at(bytes, 44);
+    let count = half_at(bytes, E_PHNUM);
     for number in 0..count {
         let header = header_at(bytes, number);
         if has_bytes(&header) {

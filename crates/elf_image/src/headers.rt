@@ -2,6 +2,33 @@
 ghost use Rattle.std.specs.Prelude.{◌≡◌, ◌+◌, ◌*◌, ◌≤◌, ◌<◌, ◌^◌, length};
 ghost use Rattle.elf_image.specs.Elf.{half_at, word_at, place_of, header_at, passes_bounds, is_bad, has_bytes, meets};
 
+/// The offset of the kind of file in the ELF header.
+pub(crate) const E_TYPE: usize = 16;
+
+/// The offset of the machine in the ELF header.
+pub(crate) const E_MACHINE: usize = 18;
+
+/// The offset of the address at which the program begins in the ELF header.
+pub(crate) const E_ENTRY: usize = 24;
+
+/// The offset of the place of the program headers in the ELF header.
+const E_PHOFF: usize = 28;
+
+/// The offset of the size of a program header in the ELF header.
+pub(crate) const E_PHENTSIZE: usize = 42;
+
+/// The offset of the number of program headers in the ELF header.
+pub(crate) const E_PHNUM: usize = 44;
+
+/// The kind of file: an executable.
+pub(crate) const ET_EXEC: u16 = 2;
+
+/// The machine: TriCore.
+pub(crate) const EM_TRICORE: u16 = 44;
+
+/// The type of a program header whose bytes are loaded.
+const PT_LOAD: u32 = 1;
+
 /// A program header, with its number in the file.
 #[derive(Clone, Copy)]
 pub(crate) struct Header {
@@ -35,7 +62,7 @@ pub(crate) fn place_of(bytes: &[u8], number: u16) -> usize
     ensures place { result ≡ place_of bytes.now number }
     ensures small { result < 2 ^ 33 }
 {
-    word_at(bytes, 28) as usize + 32 * number as usize
+    word_at(bytes, E_PHOFF) as usize + 32 * number as usize
 }
 
 // Reads the program header with this number, which is wholly in the file.
@@ -78,7 +105,7 @@ pub(crate) fn is_bad(bytes: &[u8], number: u16) -> bool
         return true;
     }
     let header = header_at(bytes, number);
-    header.kind == 1 && passes_bounds(bytes.len(), &header)
+    header.kind == PT_LOAD && passes_bounds(bytes.len(), &header)
 }
 
 // Returns true if the program header loads bytes of the file (type PT_LOAD).
@@ -86,7 +113,7 @@ pub(crate) fn is_bad(bytes: &[u8], number: u16) -> bool
 pub(crate) fn has_bytes(header: &Header) -> bool
     ensures { result ≡ has_bytes header.now }
 {
-    header.kind == 1 && header.file_size > 0
+    header.kind == PT_LOAD && header.file_size > 0
 }
 
 // Returns true if two program headers that load bytes share an address.

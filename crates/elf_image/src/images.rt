@@ -2,7 +2,7 @@
 use crate::ImageErr;
 use crate::file_bytes::file_of;
 use crate::file_checks::{check_apart, check_segments, check_start, loads_of, segments_of};
-use crate::headers::word_at;
+use crate::headers::{E_ENTRY, word_at};
 use crate::segment::{Segment, byte_of, is_held};
 use std::alloc::Global;
 use std::marker::Model;
@@ -44,7 +44,7 @@ impl Image {
         check_apart(&loads)?;
         let segments = segments_of(alloc, bytes, &loads)?;
         Ok(Image {
-            entry: word_at(bytes, 24),
+            entry: word_at(bytes, E_ENTRY),
             segments,
         })
     }
