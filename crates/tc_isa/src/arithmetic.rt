@@ -16,13 +16,13 @@ pub fn alu(op: Op, x: u32, y: u32) -> u32
         Op::Add => x.wrapping_add(y),
         Op::Sub => x.wrapping_sub(y),
         Op::And => x & y,
-        Op::Nand => turned(x & y),
+        Op::Nand => complement(x & y),
         Op::Or => x | y,
-        Op::Nor => turned(x | y),
+        Op::Nor => complement(x | y),
         Op::Xor => x ^ y,
-        Op::Xnor => turned(x ^ y),
-        Op::Andn => x & turned(y),
-        Op::Orn => x | turned(y),
+        Op::Xnor => complement(x ^ y),
+        Op::Andn => x & complement(y),
+        Op::Orn => x | complement(y),
         Op::Eq => word_of_truth(x == y),
         Op::Ne => word_of_truth(x != y),
         Op::Lt => word_of_truth(place_of(x) < place_of(y)),
@@ -50,7 +50,7 @@ pub fn taken(cond: Cond, x: u32, y: u32) -> bool
 }
 
 /// Returns the word with all bits inverted.
-fn turned(x: u32) -> u32
+fn complement(x: u32) -> u32
     ensures { result ≡ complement x }
 {
     u32::MAX - x
@@ -94,6 +94,6 @@ fn shift_signed(x: u32, n: u8) -> u32
     if n < 32 || x < 0x8000_0000 {
         shift(x, n)
     } else {
-        turned(shift(turned(x), n))
+        complement(shift(complement(x), n))
     }
 }

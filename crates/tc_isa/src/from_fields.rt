@@ -8,6 +8,15 @@ use crate::bounds::{bounds_of, is_below};
 use crate::row_uses::uses;
 use crate::{Fields, Inst, Row, Uses, rows};
 
+/// The first code of loads with a base and an offset of 10 bits, post-increment among them.
+const LOAD_AFTER: u8 = 0x09;
+
+/// The first code of stores with a base and an offset of 10 bits, post-increment among them.
+const STORE_AFTER: u8 = 0x89;
+
+/// The second code of both with post-increment for an address register (`ld.a`, `st.a`).
+const OF_ADDRESS: u8 = 0x06;
+
 /// Returns the instruction of the row with this number and these raw fields. The answer is `None`
 /// exactly if there is no such row, or the fields don't fit it. A field that the row doesn't have
 /// has to be 0.
@@ -47,7 +56,8 @@ fn do_fit(row: &Row, uses: &Uses, fields: &Fields) -> bool
 }
 
 /// Returns true if the fields that the row doesn't have are 0.
-fn is_zero_elsewhere(uses: &Uses, f: &Fields) -> bool
+#[inline(always)]
+pub fn is_zero_elsewhere(uses: &Uses, f: &Fields) -> bool
     ensures { result ≡ rest_is_zero uses.now f.now }
 {
     (uses.c || f.c == 0)
@@ -59,8 +69,9 @@ fn is_zero_elsewhere(uses: &Uses, f: &Fields) -> bool
 
 /// Returns true if the row allows these registers: an address register that is loaded or stored
 /// with post-increment can't be the base too.
+#[inline(always)]
 pub fn parts_differ(row: &Row, f: &Fields) -> bool
     ensures { result ≡ is_apart (row_of row.now) f.now }
 {
-    !((row.op1 == 9 || row.op1 == 137) && row.op2 == 6) || f.s1 != f.s2
+    !((row.op1 == LOAD_AFTER || row.op1 == STORE_AFTER) && row.op2 == OF_ADDRESS) || f.s1 != f.s2
 }

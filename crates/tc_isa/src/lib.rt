@@ -17,7 +17,7 @@ mod written_registers;
 pub use arithmetic::{alu, taken};
 pub use bounds::bounds_of;
 pub use fields::{Fields, Uses};
-pub use from_fields::{inst, parts_differ};
+pub use from_fields::{inst, is_zero_elsewhere, parts_differ};
 pub use inst_shape::{shape, shape_laws};
 pub use instruction::Inst;
 pub use row_uses::uses;
