@@ -5,7 +5,7 @@ ghost use Rattle.tc_isa.specs.Spelling.{Begins, IsFront};
 ghost use Rattle.tc_encode.specs.Decoding.{decoded_of, need_of, number_of};
 
 use crate::errors::DecodeErr;
-use crate::fronts::completed;
+use crate::fronts::completion;
 use crate::word_search::find;
 use tc_isa::Inst;
 
@@ -41,7 +41,7 @@ fn front(first: u8, n: u8, part: u32) -> DecodeErr
         → number_of bytes ≡ part
         → decoded_of bytes ≡ Err result }
 {
-    match completed(first, n, part) {
+    match completion(first, n, part) {
         Some(_) => DecodeErr::Short,
         None => DecodeErr::NotListed,
     }

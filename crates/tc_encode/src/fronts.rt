@@ -60,7 +60,7 @@ fn span_of(n: u8) -> u32
 }
 
 /// Returns an instruction of this row with these `n` low bytes, if there is one.
-fn completed_by(place: u8, row: &Row, n: u8, part: u32) -> Option<Inst>
+fn completion_by(place: u8, row: &Row, n: u8, part: u32) -> Option<Inst>
     requires place { slice_get listed place ≡ Some (row_of row.now) }
     requires low { 1 ≤ n }
     requires high { n ≤ 3 }
@@ -76,7 +76,7 @@ fn completed_by(place: u8, row: &Row, n: u8, part: u32) -> Option<Inst>
 
 /// Returns an instruction of the row at this place with these `n` low bytes, if the row's first
 /// code is the lowest of them.
-fn completed_at(place: u8, first: u8, n: u8, part: u32) -> Option<Inst>
+fn completion_at(place: u8, first: u8, n: u8, part: u32) -> Option<Inst>
     requires place { place < 142 }
     requires low { 1 ≤ n }
     requires high { n < need_of first }
@@ -89,11 +89,11 @@ fn completed_at(place: u8, first: u8, n: u8, part: u32) -> Option<Inst>
     if row.op1 != first {
         return None;
     }
-    completed_by(place, row, n, part)
+    completion_by(place, row, n, part)
 }
 
 /// Returns an instruction with these `n` low bytes, of a row from one place up to before another.
-fn completed_between(from: u8, to: u8, first: u8, n: u8, part: u32) -> Option<Inst>
+fn completion_between(from: u8, to: u8, first: u8, n: u8, part: u32) -> Option<Inst>
     requires places { to ≤ 142 }
     requires low { 1 ≤ n }
     requires high { n < need_of first }
@@ -104,7 +104,7 @@ fn completed_between(from: u8, to: u8, first: u8, n: u8, part: u32) -> Option<In
         ((i : InstData) → GoesOn n part i → from ≤ i.row → i.row < to → ⊥) }
 {
     for place in from..to {
-        if let Some(found) = completed_at(place, first, n, part) {
+        if let Some(found) = completion_at(place, first, n, part) {
             return Some(found);
         }
     }
@@ -112,7 +112,7 @@ fn completed_between(from: u8, to: u8, first: u8, n: u8, part: u32) -> Option<In
 }
 
 /// Returns an instruction that has more than these `n` bytes and begins with them, if there is one.
-pub fn completed(first: u8, n: u8, part: u32) -> Option<Inst>
+pub fn completion(first: u8, n: u8, part: u32) -> Option<Inst>
     requires low { 1 ≤ n }
     requires high { n < need_of first }
     requires part { part < span n }
@@ -122,5 +122,5 @@ pub fn completed(first: u8, n: u8, part: u32) -> Option<Inst>
 {
     let (starts, ends) = groups();
     let place = usize::from(first);
-    completed_between(starts[place], ends[place], first, n, part)
+    completion_between(starts[place], ends[place], first, n, part)
 }

@@ -2,15 +2,15 @@
 ghost use Rattle.std.specs.Prelude.{◌≡◌, ◌<◌, ◌%◌, ◌^◌, ℕ, IfSome, IfNone, slice_get, Some};
 ghost use Rattle.tc_isa.specs.Rows.{RowData, row_of, listed};
 ghost use Rattle.tc_isa.specs.Words.{second_of, form_index, IsBelow, bounds};
-ghost use Rattle.tc_isa.specs.Codec.{uses_of, rest_is_zero, is_apart};
+ghost use Rattle.tc_isa.specs.Codec.{uses_of, rest_is_zero};
 ghost use Rattle.tc_isa.specs.Insts.{InstData};
 ghost use Rattle.tc_encode.specs.WordSearch.{Makes, has_no_gap};
 
 use crate::forms::{second_code, split};
 use crate::index::{codes, groups, plain_rows};
-use tc_isa::{Fields, Form, Inst, Row, Uses, rows, uses};
+use tc_isa::{Fields, Form, Inst, Row, is_zero_elsewhere, parts_differ, rows, uses};
 
-/// Returns the instruction of a word. If the lowest byte is even, only the low 16 bits count.
+/// Returns the instruction of a word, which has 16 bits if its lowest byte is even.
 pub fn find(w: u32) -> Option<Inst>
     requires { w % 2 ≡ 0 → w < 2 ^ 16 }
     ensures some { IfSome result (Makes w) }
@@ -129,23 +129,4 @@ fn has_no_other(place: u8, row: &Row, f: &Fields) -> bool
 {
     let at = usize::from(place);
     plain_rows()[at] || is_zero_elsewhere(&uses()[at], f)
-}
-
-/// Returns true if the fields that the row doesn't have are 0.
-fn is_zero_elsewhere(uses: &Uses, f: &Fields) -> bool
-    ensures { result ≡ rest_is_zero uses.now f.now }
-{
-    (uses.c || f.c == 0)
-        && (uses.s1 || f.s1 == 0)
-        && (uses.s2 || f.s2 == 0)
-        && (uses.n || f.n == 0)
-        && (uses.k || f.k == 0)
-}
-
-/// Returns true if the row allows these registers: an address register that is loaded or stored
-/// with post-increment can't be the base too.
-fn parts_differ(row: &Row, f: &Fields) -> bool
-    ensures { result ≡ is_apart (row_of row.now) f.now }
-{
-    !((row.op1 == 9 || row.op1 == 137) && row.op2 == 6) || f.s1 != f.s2
 }

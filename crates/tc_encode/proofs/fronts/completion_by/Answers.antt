@@ -6,7 +6,7 @@ use Rattle.tc_isa.specs.Codec.{word_of}
 use Rattle.tc_isa.proofs.TableFacts.{row_at}
 use Rattle.tc_encode.proofs.Finds.{none_map}
 use Rattle.tc_encode.proofs.Goes.{goes_from, goes_least, both_some}
-use Rattle.tc_encode.proofs.fronts.completed_by.Goals as goal
+use Rattle.tc_encode.proofs.fronts.completion_by.Goals as goal
 
 pub join-rest-requires-clause-second : goal.join-rest-requires-clause-second
 join-rest-requires-clause-second c = (row_at c.args.place _ c.requires.place).second
