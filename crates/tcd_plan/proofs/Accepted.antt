@@ -5,7 +5,7 @@ use Rattle.std.proofs.lemmas.List.{length-map}
 use Rattle.serde_json.specs.Data.{Data}
 use Rattle.tcd_plan.specs.Objects.{objects_of}
 use Rattle.tcd_plan.specs.PlanData.{PlanData}
-use Rattle.tcd_plan.specs.Plans.{AreFew, are_areas, are_few, bad_value_of, has_areas, has_vectors, device_of, irq_of, numbered, overlap_of, places_of, range_of, refusal_of, refusals, told_by, too_many_of}
+use Rattle.tcd_plan.specs.Plans.{AreFew, are_areas, are_few, bad_value_of, has_areas, has_vectors, device_of, irq_of, numbered, overlap_of, places_of, range_of, refusal_of, refusals, plan_in, too_many_of}
 use Rattle.tcd_plan.specs.Values.{word_in}
 use Rattle.tcd_plan.specs.declared.plans.PlanErr.TheVariants.{BadValue, TooMany, BadCsa, BadVector}
 use Rattle.tcd_base.specs.declared.range.Range.{Range}
@@ -25,10 +25,10 @@ pub record AreasHold (at areas reserve : ℕ) : Type 0 where
 
 pub record IsAccepted (d : Data) : Type 0 where
   pub bad_value : bad_value_of d ≡ None
-  pub too_many : too_many_of (told_by d) ≡ None
-  pub areas : has_areas (told_by d) ≡ true
-  pub vectors : has_vectors (told_by d) ≡ true
-  pub overlap : overlap_of (told_by d) ≡ None
+  pub too_many : too_many_of (plan_in d) ≡ None
+  pub areas : has_areas (plan_in d) ≡ true
+  pub vectors : has_vectors (plan_in d) ≡ true
+  pub overlap : overlap_of (plan_in d) ≡ None
 
 stands : (d : Data) → refusal_of d ≡ None → (i : ℕ) → i < 8 → get_or (refusals d) i None ≡ None
 unfolding refusal_of
@@ -38,9 +38,9 @@ pub accepted : (d : Data) → refusal_of d ≡ None → IsAccepted d
 accepted d e =
     record {
       bad_value = option_map_none BadValue (bad_value_of d) (stands d e 3 (lit< tt));
-      too_many = option_map_none TooMany (too_many_of (told_by d)) (stands d e 4 (lit< tt));
-      areas = where_none (has_areas (told_by d)) BadCsa (stands d e 5 (lit< tt));
-      vectors = where_none (has_vectors (told_by d)) BadVector (stands d e 6 (lit< tt));
+      too_many = option_map_none TooMany (too_many_of (plan_in d)) (stands d e 4 (lit< tt));
+      areas = where_none (has_areas (plan_in d)) BadCsa (stands d e 5 (lit< tt));
+      vectors = where_none (has_vectors (plan_in d)) BadVector (stands d e 6 (lit< tt));
       overlap = stands d e 7 (lit< tt);
     }
 
@@ -72,10 +72,10 @@ are_areas_parts at areas reserve e =
       fit = leb-true _ _ fit.1;
     }
 
-pub few_arrays : (d : Data) → too_many_of (told_by d) ≡ None → has_areas (told_by d) ≡ true → AreFew d
-unfolding told_by has_areas
+pub few_arrays : (d : Data) → too_many_of (plan_in d) ≡ None → has_areas (plan_in d) ≡ true → AreFew d
+unfolding plan_in has_areas
 few_arrays d many areas =
-    let few = few_ranges (told_by d) many in
+    let few = few_ranges (plan_in d) many in
     let rom = few_of (map range_of (objects_of Rom d)) few.0 in
     let ram = few_of (map range_of (objects_of Ram d)) few.1 in
     let devices = leb-true (length (map device_of (objects_of Devices d))) 16 few.2 in

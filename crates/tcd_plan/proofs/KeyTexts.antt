@@ -8,7 +8,7 @@ use Rattle.tcd_base.specs.declared.range.Range.{Range}
 use Rattle.tcd_plan.specs.KeyRows.{KeyRow, holder_key, holders, key_rows}
 use Rattle.tcd_plan.specs.Objects.{has_unknown, is_bad, lacks, objects_of}
 use Rattle.tcd_plan.specs.PlanData.{PlanData, all_ranges, ranges_apart}
-use Rattle.tcd_plan.specs.Plans.{HasText, are_few, bad_value_of, first_key, has_areas, has_vectors, missing_of, numbered, overlap_from, overlap_of, refusal_of, told_by, too_many_of, unknown_of, where_it}
+use Rattle.tcd_plan.specs.Plans.{HasText, are_few, bad_value_of, first_key, has_areas, has_vectors, missing_of, numbered, overlap_from, overlap_of, refusal_of, plan_in, too_many_of, unknown_of, refusal_if}
 use Rattle.tcd_plan.specs.Values.{is_object}
 use Rattle.tcd_plan.specs.declared.plans.PlanErr.{PlanErr}
 use Rattle.tcd_plan.specs.declared.plans.PlanErr.TheVariants.{NotJson, Missing, Unknown, BadValue, TooMany, BadCsa, BadVector, Overlap}
@@ -75,7 +75,7 @@ wrapped : (err : PlanKey → PlanErr) (o : Option PlanKey) → ((key : PlanKey) 
 wrapped err None tells h = tt
 wrapped err (Some key) tells h = tells key h
 
-stated : (b : Bool) (err : PlanErr) → HasText err → IfSome (where_it b err) HasText
+stated : (b : Bool) (err : PlanErr) → HasText err → IfSome (refusal_if b err) HasText
 stated true err h = h
 stated false err h = tt
 
@@ -94,14 +94,14 @@ overlap_of-text p = overlap-text 0 (all_ranges p)
 pub refusal_of-text : (d : Data) → IfSome (refusal_of d) HasText
 unfolding refusal_of
 refusal_of-text d =
-    either HasText (where_it (not (is_object d)) NotJson) _ (stated _ NotJson tt)
+    either HasText (refusal_if (not (is_object d)) NotJson) _ (stated _ NotJson tt)
     (either HasText (option_map Missing (missing_of d)) _ (wrapped Missing _ (λ key h. h) (missing-small d))
     (either HasText (option_map Unknown (unknown_of d)) _ (wrapped Unknown _ (λ key h. h) (unknown-small d))
     (either HasText (option_map BadValue (bad_value_of d)) _ (wrapped BadValue _ (λ key h. h) (bad_value-small d))
-    (either HasText (option_map TooMany (too_many_of (told_by d))) _ (wrapped TooMany _ (λ key h. h) (too_many-small (told_by d)))
-    (either HasText (where_it (not (has_areas (told_by d))) BadCsa) _ (stated _ BadCsa tt)
-    (either HasText (where_it (not (has_vectors (told_by d))) BadVector) _ (stated _ BadVector tt)
-    (either HasText (overlap_of (told_by d)) None (overlap_of-text (told_by d)) tt)))))))
+    (either HasText (option_map TooMany (too_many_of (plan_in d))) _ (wrapped TooMany _ (λ key h. h) (too_many-small (plan_in d)))
+    (either HasText (refusal_if (not (has_areas (plan_in d))) BadCsa) _ (stated _ BadCsa tt)
+    (either HasText (refusal_if (not (has_vectors (plan_in d))) BadVector) _ (stated _ BadVector tt)
+    (either HasText (overlap_of (plan_in d)) None (overlap_of-text (plan_in d)) tt)))))))
 
 pub refused-text : (d : Data) (err : PlanErr) → refusal_of d ≡ Some err → HasText err
 refused-text d err e = let P : Option PlanErr → Type 0 = λ o. IfSome o HasText in subst P e (refusal_of-text d)

@@ -7,7 +7,7 @@ use Rattle.serde_json.specs.Data.{Data}
 use Rattle.tcd_base.specs.declared.range.Range.{Range}
 use Rattle.tcd_plan.specs.PlanData.{all_ranges, areas_range, ranges_apart}
 use Rattle.tcd_plan.specs.Objects.{objects_of}
-use Rattle.tcd_plan.specs.Plans.{device_of, overlap_from, range_of, told_by}
+use Rattle.tcd_plan.specs.Plans.{device_of, overlap_from, range_of, plan_in}
 use Rattle.tcd_plan.specs.declared.rows.Holder.TheVariants.{Rom, Ram, Devices}
 use Rattle.tcd_plan.specs.declared.plans.PlanErr.TheVariants.{Overlap}
 
@@ -28,7 +28,7 @@ ranges_of_devices (o ∷ objects) = ap (λ rs. range_of o ∷ rs) (ranges_of_dev
 
 -- rom, ram, devices and the save areas, one after another
 pub all_gathered : (d : Data) (rom ram devices all : List Range) → rom ≡ map range_of (objects_of Rom d) → ram ≡ rom ++ map range_of (objects_of Ram d) → devices ≡ ram ++ map range_of (objects_of Devices d)
-    → all ≡ devices ++ areas_range (told_by d) ∷ [] → all ≡ all_ranges (told_by d)
-unfolding told_by
+    → all ≡ devices ++ areas_range (plan_in d) ∷ [] → all ≡ all_ranges (plan_in d)
+unfolding plan_in
 all_gathered d rom ram devices all is_rom is_ram is_devices is_all =
     let e = ranges_of_devices (objects_of Devices d) in cc

@@ -4,7 +4,7 @@ use Rattle.std.specs.List.{find, list_all, list_any, position, prefix_len}
 use Rattle.std.specs.Option.{option_or}
 use Rattle.std.proofs.lemmas.Bool.{and_from, or_parts, ltb-false}
 use Rattle.tcd_plan.specs.Objects.{passes}
-use Rattle.tcd_plan.specs.Plans.{first_some, where_it}
+use Rattle.tcd_plan.specs.Plans.{first_some, refusal_if}
 use Rattle.tcd_plan.specs.declared.plans.PlanErr.{PlanErr}
 
 pub option_or_none : {T : Type 0} (a b : Option T) → option_or a b ≡ None → (a ≡ None) × (b ≡ None)
@@ -20,7 +20,7 @@ pub option_map_none : {X Y : Type 0} (f : X → Y) (o : Option X) → option_map
 option_map_none f None e = refl
 option_map_none f (Some x) e = cc
 
-pub where_none : (b : Bool) (err : PlanErr) → where_it (not b) err ≡ None → b ≡ true
+pub where_none : (b : Bool) (err : PlanErr) → refusal_if (not b) err ≡ None → b ≡ true
 where_none true err e = refl
 where_none false err e = cc
 

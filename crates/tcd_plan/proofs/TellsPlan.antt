@@ -9,7 +9,7 @@ use Rattle.serde_json.specs.Find.{get}
 use Rattle.tcd_base.specs.declared.range.Range.{Range}
 use Rattle.tcd_plan.specs.Objects.{ascend_above, has_form, objects_of}
 use Rattle.tcd_plan.specs.PlanData.{AreAreas, AreIrqs, AreRanges, AreWords, IsPlan, PlanData, all_apart, all_ranges, ranges_apart}
-use Rattle.tcd_plan.specs.Plans.{are_few, bad_value_of, has_areas, has_vectors, overlap_from, overlap_of, places_of, range_of, refusal_of, told_by}
+use Rattle.tcd_plan.specs.Plans.{are_few, bad_value_of, has_areas, has_vectors, overlap_from, overlap_of, places_of, range_of, refusal_of, plan_in}
 use Rattle.tcd_plan.specs.Values.{places_at, word_at, word_in}
 use Rattle.tcd_plan.specs.declared.plans.PlanErr.TheVariants.{Overlap}
 use Rattle.tcd_plan.specs.declared.rows.Form.TheVariants.{Irqs, Object, Ranges}
@@ -37,10 +37,10 @@ rom_some d e = some_objects (places_at (codes "rom") d) (alone (has_form Ranges 
 sum_of : (rs : List Range) → are_few rs ≡ true → sum_by (λ r. r.len) rs ≤ 2 ^ 22
 sum_of rs e = leb-true _ _ (and_parts (nat_le (length rs) 16) _ e).1
 
-are_ranges : (d : Data) → IsAccepted d → AreRanges (told_by d)
-unfolding told_by
+are_ranges : (d : Data) → IsAccepted d → AreRanges (plan_in d)
+unfolding plan_in
 are_ranges d a =
-    let few = few_ranges (told_by d) a.too_many in
+    let few = few_ranges (plan_in d) a.too_many in
     let some = rom_some d a.bad_value in
     record {
       some = omega (arith, some, length-map (objects_of Rom d) range_of);
@@ -54,8 +54,8 @@ are_ranges d a =
       small_ram = sum_of (map range_of (objects_of Ram d)) few.1;
     }
 
-are_areas : (d : Data) → IsAccepted d → AreAreas (told_by d)
-unfolding told_by has_areas
+are_areas : (d : Data) → IsAccepted d → AreAreas (plan_in d)
+unfolding plan_in has_areas
 are_areas d a =
     let hold = are_areas_parts (word_in (codes "csa") (codes "at") d) (word_in (codes "csa") (codes "areas") d) (word_in (codes "csa") (codes "reserve") d) a.areas in
     record {
@@ -74,8 +74,8 @@ words_small : (d : Data) (names : List (List ℕ)) → list_all (λ w. nat_lt w 
 words_small d [] = refl
 words_small d (name ∷ names) = and_from _ _ (lt-ltb _ _ (word_in-lt (codes "globals") name d)) (words_small d names)
 
-are_words : (d : Data) → IsAccepted d → AreWords (told_by d)
-unfolding told_by has_vectors
+are_words : (d : Data) → IsAccepted d → AreWords (plan_in d)
+unfolding plan_in has_vectors
 are_words d a =
     let even = and_parts (word_at (codes "biv") d % 2 == 0) (word_at (codes "btv") d % 2 == 0) a.vectors in
     record {
@@ -90,10 +90,10 @@ are_words d a =
       globals = words_small d (codes "a0" ∷ codes "a1" ∷ codes "a8" ∷ codes "a9" ∷ []);
     }
 
-are_irqs : (d : Data) → IsAccepted d → AreIrqs (told_by d).irqs
-unfolding told_by
+are_irqs : (d : Data) → IsAccepted d → AreIrqs (plan_in d).irqs
+unfolding plan_in
 are_irqs d a =
-    let few = few_ranges (told_by d) a.too_many in
+    let few = few_ranges (plan_in d) a.too_many in
     record {
       few = leb-true _ _ few.3;
       rising = irqs_rise 0 (places_of (codes "irqs") d) (ascending d a.bad_value);
@@ -114,7 +114,7 @@ are_apart : (p : PlanData) → overlap_of p ≡ None → all_apart (all_ranges p
 unfolding overlap_of
 are_apart p e = apart_from 0 (all_ranges p) e
 
-pub tells_plan : (d : Data) → refusal_of d ≡ None → IsPlan (told_by d)
+pub tells_plan : (d : Data) → refusal_of d ≡ None → IsPlan (plan_in d)
 tells_plan d e =
     let a = accepted d e in
     record {
@@ -122,5 +122,5 @@ tells_plan d e =
       areas = are_areas d a;
       words = are_words d a;
       irqs = are_irqs d a;
-      apart = are_apart (told_by d) a.overlap;
+      apart = are_apart (plan_in d) a.overlap;
     }

@@ -64,8 +64,8 @@ abbrev pub globals_of : Data → List ℕ
 globals_of d = map (λ name. word_in (codes "globals") name d) (codes "a0" ∷ codes "a1" ∷ codes "a8" ∷ codes "a9" ∷ [])
 
 -- the plan in a document that isn't refused
-unfoldable pub told_by : Data → PlanData
-told_by d = record {
+unfoldable pub plan_in : Data → PlanData
+plan_in d = record {
   rom = map range_of (objects_of Rom d);
   ram = map range_of (objects_of Ram d);
   devices = map device_of (objects_of Devices d);
@@ -125,8 +125,8 @@ unfoldable pub overlap_of : PlanData → Option PlanErr
 overlap_of p = overlap_from 0 (all_ranges p)
 
 -- this refusal, if it applies
-abbrev pub where_it : Bool → PlanErr → Option PlanErr
-where_it b e = if b then Some e else None
+abbrev pub refusal_if : Bool → PlanErr → Option PlanErr
+refusal_if b e = if b then Some e else None
 
 -- the first of the options that is there
 abbrev pub first_some : {T : Type 0} → List (Option T) → Option T
@@ -136,14 +136,14 @@ first_some (o ∷ os) = option_or o (first_some os)
 -- the refusals that apply, in the order of their numbers
 abbrev pub refusals : Data → List (Option PlanErr)
 refusals d =
-    where_it (not (is_object d)) NotJson ∷
+    refusal_if (not (is_object d)) NotJson ∷
     option_map Missing (missing_of d) ∷
     option_map Unknown (unknown_of d) ∷
     option_map BadValue (bad_value_of d) ∷
-    option_map TooMany (too_many_of (told_by d)) ∷
-    where_it (not (has_areas (told_by d))) BadCsa ∷
-    where_it (not (has_vectors (told_by d))) BadVector ∷
-    overlap_of (told_by d) ∷
+    option_map TooMany (too_many_of (plan_in d)) ∷
+    refusal_if (not (has_areas (plan_in d))) BadCsa ∷
+    refusal_if (not (has_vectors (plan_in d))) BadVector ∷
+    overlap_of (plan_in d) ∷
     []
 
 -- the first refusal, if there is one
@@ -152,7 +152,7 @@ refusal_of d = first_some (refusals d)
 
 -- the plan, or the first refusal
 abbrev pub plan_of : Data → Result PlanData PlanErr
-plan_of d = option_map_or Err (refusal_of d) (Ok (told_by d))
+plan_of d = option_map_or Err (refusal_of d) (Ok (plan_in d))
 
 -- the bytes are the text of a document, as serde_json reads it, that gives the answer
 abbrev pub Gives : List ℕ → Result PlanData PlanErr → Type 0

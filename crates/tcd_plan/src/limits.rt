@@ -2,11 +2,11 @@
 ghost use Rattle.std.specs.Prelude.{◌≡◌, ◌<◌, ◌≤◌, ◌+◌, IfSome, None, length, map, not, position, sum_by, true};
 ghost use Rattle.serde_json.specs.View.{view};
 ghost use Rattle.tcd_plan.specs.PlanData.{areas_range, ranges_apart};
-ghost use Rattle.tcd_plan.specs.Plans.{AreFew, are_areas, are_few, has_areas, has_vectors, overlap_from, overlap_of, range_of, told_by, too_many_of};
+ghost use Rattle.tcd_plan.specs.Plans.{AreFew, are_areas, are_few, has_areas, has_vectors, overlap_from, overlap_of, range_of, plan_in, too_many_of};
 
 use crate::objects::objects_of;
 use crate::readings::{places_of, push_ranges};
-use crate::rows::Holder;
+use crate::rows::{DEVICES, Holder, IRQS, RAM, ROM};
 use crate::values::{word_at, word_in};
 use crate::{PlanErr, PlanKey};
 use arrayvec::ArrayVec;
@@ -14,21 +14,21 @@ use serde_json::Value;
 use tcd_base::Range;
 
 /// Returns the first array with too many elements, or with too many bytes in its ranges.
-#[tactic(auto, unfolding(crate::specs::Plans::told_by, crate::specs::Plans::too_many_of))]
+#[tactic(auto, unfolding(crate::specs::Plans::plan_in, crate::specs::Plans::too_many_of))]
 pub fn too_many(value: &Value) -> Option<PlanKey>
-    ensures { result ≡ too_many_of (told_by (view value.now)) }
+    ensures { result ≡ too_many_of (plan_in (view value.now)) }
 {
     if !are_few(objects_of(Holder::Rom, value)) {
-        return Some(PlanKey(1));
+        return Some(PlanKey(ROM));
     }
     if !are_few(objects_of(Holder::Ram, value)) {
-        return Some(PlanKey(4));
+        return Some(PlanKey(RAM));
     }
     if objects_of(Holder::Devices, value).len() > 16 {
-        return Some(PlanKey(7));
+        return Some(PlanKey(DEVICES));
     }
     if places_of(value, "irqs").len() > 32 {
-        return Some(PlanKey(20));
+        return Some(PlanKey(IRQS));
     }
     None
 }
@@ -53,9 +53,9 @@ fn total_len(objects: &[Value]) -> u64
 }
 
 /// Returns true if the save areas are within their limits.
-#[tactic(auto, unfolding(crate::specs::Plans::told_by, crate::specs::Plans::has_areas))]
+#[tactic(auto, unfolding(crate::specs::Plans::plan_in, crate::specs::Plans::has_areas))]
 pub fn has_areas(value: &Value) -> bool
-    ensures { result ≡ has_areas (told_by (view value.now)) }
+    ensures { result ≡ has_areas (plan_in (view value.now)) }
 {
     are_areas(
         word_in(value, "csa", "at"),
@@ -80,9 +80,9 @@ fn are_areas(at: u32, areas: u32, reserve: u32) -> bool
 }
 
 /// Returns true if BIV and BTV are even.
-#[tactic(auto, unfolding(crate::specs::Plans::told_by, crate::specs::Plans::has_vectors))]
+#[tactic(auto, unfolding(crate::specs::Plans::plan_in, crate::specs::Plans::has_vectors))]
 pub fn has_vectors(value: &Value) -> bool
-    ensures { result ≡ has_vectors (told_by (view value.now)) }
+    ensures { result ≡ has_vectors (plan_in (view value.now)) }
 {
     word_at(value, "biv") % 2 == 0 && word_at(value, "btv") % 2 == 0
 }
@@ -91,7 +91,7 @@ pub fn has_vectors(value: &Value) -> bool
 /// areas.
 pub fn overlap(value: &Value) -> Option<PlanErr>
     requires { AreFew (view value.now) }
-    ensures { result ≡ overlap_of (told_by (view value.now)) }
+    ensures { result ≡ overlap_of (plan_in (view value.now)) }
 {
     let mut ranges: ArrayVec<Range, 49> = ArrayVec::new();
     push_ranges(&mut ranges, objects_of(Holder::Rom, value));
@@ -101,10 +101,10 @@ pub fn overlap(value: &Value) -> Option<PlanErr>
     first_overlap(ranges.as_slice())
 }
 
-#[tactic(auto, unfolding(crate::specs::Plans::told_by))]
+#[tactic(auto, unfolding(crate::specs::Plans::plan_in))]
 fn areas_range(value: &Value) -> Range
     requires { AreFew (view value.now) }
-    ensures { result ≡ areas_range (told_by (view value.now)) }
+    ensures { result ≡ areas_range (plan_in (view value.now)) }
 {
     Range {
         at: word_in(value, "csa", "at"),

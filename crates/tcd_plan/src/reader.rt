@@ -2,7 +2,7 @@
 ghost use Rattle.std.specs.Prelude.{◌≡◌, ◌≤◌, ◌^◌, ◌⊎◌, IfErr, None, length};
 ghost use Rattle.serde_json.specs.Errors.{IsMemory};
 ghost use Rattle.serde_json.specs.View.{view};
-ghost use Rattle.tcd_plan.specs.Plans.{Answers, HasText, plan_of, refusal_of, told_by};
+ghost use Rattle.tcd_plan.specs.Plans.{Answers, HasText, plan_of, refusal_of, plan_in};
 
 use crate::limits::{has_areas, has_vectors, overlap, too_many};
 use crate::objects::objects_of;
@@ -25,12 +25,12 @@ impl Plan {
     {
         match Value::from_slice(alloc, bytes) {
             Ok(value) => plan_of(&value),
-            Err(e) => Err(unread(&e)),
+            Err(e) => Err(read_error(&e)),
         }
     }
 }
 
-fn unread(e: &Error) -> PlanErr
+fn read_error(e: &Error) -> PlanErr
     ensures either { (result ≡ PlanErr.NoMemory) ⊎ ((result ≡ PlanErr.NotJson) × ¬ IsMemory e.now) }
 {
     if e.is_memory() {
@@ -46,15 +46,15 @@ fn plan_of(value: &Value) -> Result<Plan, PlanErr>
 {
     match refusal(value) {
         Some(err) => Err(err),
-        None => Ok(told_by(value)),
+        None => Ok(plan_in(value)),
     }
 }
 
 /// Returns the plan in a document that isn't refused.
-#[tactic(auto, unfolding(crate::specs::Plans::told_by))]
-fn told_by(value: &Value) -> Plan
+#[tactic(auto, unfolding(crate::specs::Plans::plan_in))]
+fn plan_in(value: &Value) -> Plan
     requires { refusal_of (view value.now) ≡ None }
-    ensures { result ≡ told_by (view value.now) }
+    ensures { result ≡ plan_in (view value.now) }
 {
     Plan {
         rom: ranges_of(objects_of(Holder::Rom, value)),

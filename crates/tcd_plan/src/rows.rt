@@ -3,6 +3,30 @@ ghost use Rattle.std.specs.Prelude.{◌≡◌, map, true};
 ghost use Rattle.std.specs.List.{list_all, range_with_len};
 ghost use Rattle.tcd_plan.specs.KeyRows.{holder_key, holders, is_printed, key_rows, row_of};
 
+/// The number of the key `root`, which is the whole document.
+const ROOT: u8 = 0;
+
+/// The number of the key `rom`.
+pub(crate) const ROM: u8 = 1;
+
+/// The number of the key `ram`.
+pub(crate) const RAM: u8 = 4;
+
+/// The number of the key `devices`.
+pub(crate) const DEVICES: u8 = 7;
+
+/// The number of the key `csa`.
+const CSA: u8 = 12;
+
+/// The number of the key `irqs`.
+pub(crate) const IRQS: u8 = 20;
+
+/// The number of the key `start`.
+const START: u8 = 22;
+
+/// The number of the key `globals`.
+const GLOBALS: u8 = 26;
+
 /// The object, or array of objects, that keys are in.
 #[derive(Clone, Copy, Debug, PartialEq, Eq)]
 pub enum Holder {
@@ -274,12 +298,12 @@ pub fn holder_key(holder: Holder) -> u8
     ensures { result ≡ holder_key holder }
 {
     match holder {
-        Holder::Root => 0,
-        Holder::Rom => 1,
-        Holder::Ram => 4,
-        Holder::Devices => 7,
-        Holder::Csa => 12,
-        Holder::Start => 22,
-        Holder::Globals => 26,
+        Holder::Root => ROOT,
+        Holder::Rom => ROM,
+        Holder::Ram => RAM,
+        Holder::Devices => DEVICES,
+        Holder::Csa => CSA,
+        Holder::Start => START,
+        Holder::Globals => GLOBALS,
     }
 }

@@ -1,12 +1,12 @@
 use Rattle.std.proofs.Common.{◌≡◌, None, true, sym, ◌∙◌}
 use Rattle.serde_json.specs.View.{view}
-use Rattle.tcd_plan.specs.Plans.{has_areas, told_by, too_many_of}
+use Rattle.tcd_plan.specs.Plans.{has_areas, plan_in, too_many_of}
 use Rattle.tcd_plan.proofs.Accepted.{few_arrays}
 use Rattle.tcd_plan.proofs.reader.refusal.Goals as goal
 
 pub overlap-requires : goal.overlap-requires
 overlap-requires c =
     let d = view c.args.value.now in
-    let many : too_many_of (told_by d) ≡ None = sym c.in_default-too_many.ensures in
-    let areas : has_areas (told_by d) ≡ true = sym c.has_areas.ensures ∙ c.if-not-has_areas.false in
+    let many : too_many_of (plan_in d) ≡ None = sym c.in_default-too_many.ensures in
+    let areas : has_areas (plan_in d) ≡ true = sym c.has_areas.ensures ∙ c.if-not-has_areas.false in
     few_arrays d many areas

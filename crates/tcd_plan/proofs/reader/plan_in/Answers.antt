@@ -2,18 +2,18 @@ use Rattle.std.proofs.Common.{◌≡◌, ◌<◌, ◌^◌, List, None, All, rule
 use Rattle.serde_json.specs.Data.{Data}
 use Rattle.serde_json.specs.View.{view}
 use Rattle.tcd_plan.specs.PlanData.{IsPlan, PlanData}
-use Rattle.tcd_plan.specs.Plans.{AreFew, irq_of, refusal_of, told_by}
+use Rattle.tcd_plan.specs.Plans.{AreFew, irq_of, refusal_of, plan_in}
 use Rattle.tcd_plan.proofs.Accepted.{accepted, few_arrays}
 use Rattle.tcd_plan.proofs.Pieces.{irqs_small}
 use Rattle.tcd_plan.proofs.TellsPlan.{ascending, ccpn-lt, tells_plan}
 use Rattle.tcd_plan.proofs.ViewLemmas.{length-seen}
-use Rattle.tcd_plan.proofs.reader.told_by.Goals as goal
+use Rattle.tcd_plan.proofs.reader.plan_in.Goals as goal
 
 few_in : (d : Data) → refusal_of d ≡ None → AreFew d
 few_in d e = few_arrays d (accepted d e).too_many (accepted d e).areas
 
-is_told : (d : Data) (p : PlanData) → p ≡ told_by d → refusal_of d ≡ None → IsPlan p
-is_told d p same e = subst (λ (q : PlanData). IsPlan q) (sym same) (tells_plan d e)
+is_plan_in : (d : Data) (p : PlanData) → p ≡ plan_in d → refusal_of d ≡ None → IsPlan p
+is_plan_in d p same e = subst (λ (q : PlanData). IsPlan q) (sym same) (tells_plan d e)
 
 pub ranges_of-requires : goal.ranges_of-requires
 ranges_of-requires c = length-seen _ _ 16 c.objects_of.ensures (few_in (view c.args.value.now) c.requires).rom
@@ -40,7 +40,7 @@ byte_in-requires c =
     ccpn-lt d (accepted d c.requires).bad_value
 
 pub invariant_of-result : goal.invariant_of-result
-unfolding told_by
+unfolding plan_in
 invariant_of-result c =
     let d = view c.args.value.now in
-    is_told d _ (search rules) c.requires
+    is_plan_in d _ (search rules) c.requires
