@@ -8,7 +8,7 @@ ghost use Rattle.value_domain.specs.Limits.{AreLimits};
 ghost use Rattle.value_domain.specs.Values.{IsMember, IsWell, IsValue, IsBelow, IsExtent, cover, members, range, count_in, first_in, any_val, words_of};
 ghost use Rattle.value_domain.specs.declared.values.Val.TheVariants.{Set, Span};
 
-use crate::merging::merged;
+use crate::merging::merge;
 use crate::values::{has, set_span};
 use crate::{Bounds, Val, Words};
 use arrayvec::ArrayVec;
@@ -285,7 +285,7 @@ fn join_set(b: &Bounds, v: &Val, words: &Words) -> Val
     ensures { result ≡ cover b.now (members v.now ++ words.now) }
 {
     match v {
-        Val::Set(own) => value_of(b, merged(own.as_slice(), words.as_slice()).as_slice()),
+        Val::Set(own) => value_of(b, merge(own.as_slice(), words.as_slice()).as_slice()),
         Val::Span { .. } => {
             let mut out = v.copy();
             widen(b, &mut out, words.as_slice());
@@ -301,7 +301,7 @@ fn value_of(b: &Bounds, words: &[u32]) -> Val
     ensures { result ≡ values.value_of b.now words.now }
 {
     if words.len() <= b.most_words() {
-        return Val::Set(Words::held(words));
+        return Val::Set(Words::from_slice(words));
     }
     span(b, words[0], words[words.len() - 1], least_step(words))
 }

@@ -16,5 +16,5 @@ pub use lattice::{
 pub use laws::{state_laws, value_laws};
 pub use limits::Bounds;
 pub use meets::{cover_of_words, join_some, meet};
-pub use states::{State, are_implied, covers, covers_context, join_states};
+pub use states::{A10_SLOT, State, are_implied, covers, covers_context, join_states};
 pub use values::{Val, Words, set_span, set_words};

@@ -8,6 +8,9 @@ use crate::values::{copy_of, copy_to};
 use crate::{Bounds, Val, join, leq};
 use arrayvec::ArrayVec;
 
+/// The place of A10, the stack pointer, among the registers of a state.
+pub const A10_SLOT: usize = 22;
+
 /// What is known before an instruction. `regs` has the values of D0 to D15, A2 to A7, A10 and A12
 /// to A15, in this order. `ie`: interrupts may be enabled. `ccpn`: CCPN is at least this. `lower`:
 /// the lower registers are those of the entry. `locals`: a flag for each lower context that the

@@ -50,7 +50,7 @@ impl Words {
     }
 
     /// Returns the list of these words, which is known to be valid.
-    pub(crate) fn held(words: &[u32]) -> Words
+    pub(crate) fn from_slice(words: &[u32]) -> Words
         requires { AreWords words.now }
         ensures { result ≡ words.now }
     {
@@ -251,7 +251,7 @@ fn set_from_span(out: &mut Val, words: &[u32])
     requires { AreWords words.now }
     ensures { out.new ≡ Set words.now }
 {
-    *out = Val::Set(Words::held(words));
+    *out = Val::Set(Words::from_slice(words));
 }
 
 /// Overwrites a value with a Span. If it is a Span, only its ends and step are written.

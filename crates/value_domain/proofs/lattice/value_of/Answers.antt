@@ -4,14 +4,14 @@ use Rattle.value_domain.proofs.WordLaws.{words_rising}
 use Rattle.value_domain.proofs.MergeLaws.{span_words}
 use Rattle.value_domain.proofs.lattice.value_of.Goals as goal
 
-pub held-requires : goal.held-requires
-held-requires c =
+pub from_slice-requires : goal.from_slice-requires
+from_slice-requires c =
     words_rising c.args.words.now c.requires.some (omega (arith, c.if-words-most_words.true, c.most_words.ensures.most_words, c.most_words.ensures.limits.wide)) c.requires.rising
     (λ k. (c.type_inv.words k).fits)
 
 pub returns-then-words-most_words : goal.returns-then-words-most_words
 returns-then-words-most_words c =
-    rw (c.held.ensures, le-leb (length c.args.words.now) c.args.b.now.most_words (omega (arith, c.if-words-most_words.true, c.most_words.ensures.most_words))) refl
+    rw (c.from_slice.ensures, le-leb (length c.args.words.now) c.args.b.now.most_words (omega (arith, c.if-words-most_words.true, c.most_words.ensures.most_words))) refl
 
 pub returns : goal.returns
 returns c =
