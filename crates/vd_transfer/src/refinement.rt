@@ -21,7 +21,7 @@ pub enum Relation {
 }
 
 /// Returns a word's position in the signed order.
-pub(crate) fn signed(x: u32) -> u32
+pub(crate) fn signed_place(x: u32) -> u32
     ensures { result ≡ signed_place x }
 {
     x.wrapping_add(1 << 31)

@@ -8,7 +8,7 @@ ghost use Rattle.vd_transfer.specs.Registers.{slot, reg_of, arg_of, fixed_of, wo
 
 use tc_isa::Arg;
 use tcd_plan::Plan;
-use value_domain::{Bounds, State, Val};
+use value_domain::{A10_SLOT, Bounds, State, Val};
 
 /// Returns the place of a register's value in a state, if a state has one.
 #[tactic(auto, unfolding(crate::specs::Registers::slot))]
@@ -22,7 +22,7 @@ pub(crate) fn slot_of(r: u8) -> Option<usize>
     } else if 18 <= r && r <= 23 {
         Some(r as usize - 2)
     } else if r == 26 {
-        Some(22)
+        Some(A10_SLOT)
     } else if 28 <= r && r <= 31 {
         Some(r as usize - 5)
     } else {
@@ -193,5 +193,5 @@ pub(crate) fn write_arg(b: &Bounds, plan: &Plan, s: &State, a: Arg, out: &mut Va
 pub fn is_lower_slot(i: usize) -> bool
     ensures { result ≡ is_lower_slot i }
 {
-    i < 8 || 16 <= i && i < 22
+    i < 8 || 16 <= i && i < A10_SLOT
 }

@@ -8,7 +8,7 @@ ghost use Rattle.vd_transfer.specs.Intervals.{IsIn};
 ghost use Rattle.vd_transfer.specs.Signs.{IsSignedRange, kept_signed};
 ghost use Rattle.vd_transfer.specs.declared.refinement.Relation.TheVariants.{Same};
 
-use crate::refinement::{Interval, NONE, Relation, signed, words_reached};
+use crate::refinement::{Interval, NONE, Relation, signed_place, words_reached};
 use value_domain::{Bounds, Val, extent_of, join_some, meet};
 
 const HALF: u32 = 1 << 31;
@@ -83,7 +83,7 @@ pub fn narrow_signed(b: &Bounds, rel: Relation, v: &Val, w: &Val) -> Option<Val>
     ensures value { IfSome result (IsValue b.now) }
 {
     let (low, high) = signed_range(w);
-    let (i, j) = words_reached(rel, signed(low), signed(high));
+    let (i, j) = words_reached(rel, signed_place(low), signed_place(high));
     let (first, second) = parts(i);
     let (third, fourth) = parts(j);
     let here = join_some(
@@ -104,7 +104,11 @@ fn signed_min(x: u32, low: u32) -> u32
     ensures below_x { signed_place result ≤ signed_place x }
     ensures below_low { signed_place result ≤ signed_place low }
 {
-    if signed(x) < signed(low) { x } else { low }
+    if signed_place(x) < signed_place(low) {
+        x
+    } else {
+        low
+    }
 }
 
 fn signed_max(x: u32, high: u32) -> u32
@@ -112,5 +116,9 @@ fn signed_max(x: u32, high: u32) -> u32
     ensures above_x { signed_place x ≤ signed_place result }
     ensures above_high { signed_place high ≤ signed_place result }
 {
-    if signed(high) < signed(x) { x } else { high }
+    if signed_place(high) < signed_place(x) {
+        x
+    } else {
+        high
+    }
 }

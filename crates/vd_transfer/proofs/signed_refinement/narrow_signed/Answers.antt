@@ -11,7 +11,7 @@ returns-clause-kept c =
     let i2 = c.parts.result.1 in
     let j1 = c.parts-2.result.0 in
     let j2 = c.parts-2.result.1 in
-    let reached = rw (c.signed.ensures, c.signed-2.ensures) at c.words_reached.ensures in
+    let reached = rw (c.signed_place.ensures, c.signed_place-2.ensures) at c.words_reached.ensures in
     c.join_some.ensures.both (part i1 vs ++ part i2 vs) (part j1 vs ++ part j2 vs)
     (c.join_some-here.ensures.both (part i1 vs) (part i2 vs) c.meet.ensures.meet c.meet-2.ensures.meet)
     (c.join_some-there.ensures.both (part j1 vs) (part j2 vs) c.meet-3.ensures.meet c.meet-4.ensures.meet)
