@@ -58,7 +58,7 @@ fn load_at(b: &Bounds, image: &Image, plan: &Plan, x: u32, size: u8, signed: boo
 {
     let device = device_for(plan, x, x, size);
     match rom_number(image, plan, x, size) {
-        Some(number) => cover_words(b, &[extended(number, size, signed)]),
+        Some(number) => cover_words(b, &[extend(number, size, signed)]),
         None => answers(b, device, size, signed),
     }
 }
@@ -91,7 +91,7 @@ fn device_for(plan: &Plan, low: u32, high: u32, size: u8) -> Option<Device>
 }
 
 /// Extends a loaded number of `size` bytes to a word.
-fn extended(number: u32, size: u8, signed: bool) -> u32
+fn extend(number: u32, size: u8, signed: bool) -> u32
     requires size { IsSize size }
     requires below { number < 2 ^ (8 * size) }
     ensures { result ≡ memory.extend signed size number }
@@ -103,7 +103,8 @@ fn extended(number: u32, size: u8, signed: bool) -> u32
     }
 }
 
-/// Returns the words that a device can answer; without a device, any word.
+/// Returns the cover of the words that a device can answer. Without a device, it is that of
+/// `anything`.
 fn answers(b: &Bounds, device: Option<Device>, size: u8, signed: bool) -> Val
     requires size { IsSize size }
     requires bounds { IfSome device (λ d. d.lo ≤ d.hi) }
@@ -117,7 +118,7 @@ fn answers(b: &Bounds, device: Option<Device>, size: u8, signed: bool) -> Val
     }
 }
 
-/// Returns all words that a load of this size and sign can give.
+/// Returns the cover of all words that a load of this size and sign can give.
 fn anything(b: &Bounds, size: u8, signed: bool) -> Val
     requires { IsSize size }
     ensures cover { result ≡ cover b.now (all_extended size signed) }

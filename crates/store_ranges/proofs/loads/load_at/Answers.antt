@@ -6,4 +6,4 @@ use Rattle.store_ranges.proofs.loads.load_at.Goals as goal
 pub returns-in-Some-clause-loaded : goal.returns-in-Some-clause-loaded
 returns-in-Some-clause-loaded c =
     c.cover_words.ensures.cover
-    ∙ rw c.extended.ensures (ap (λ o. cover c.args.b.now (number_or c.args.size c.args.signed (device_of c.args.plan.now c.args.size (c.args.x ∷ [])) o)) c.in-Some.ensures.value)
+    ∙ rw c.extend.ensures (ap (λ o. cover c.args.b.now (number_or c.args.size c.args.signed (device_of c.args.plan.now c.args.size (c.args.x ∷ [])) o)) c.in-Some.ensures.value)
