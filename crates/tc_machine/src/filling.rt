@@ -108,7 +108,7 @@ pub(crate) fn area_link(at: u32) -> u32
 
 /// Returns the memory of a start state: zeros in rom, ram and `n` save areas, then the image's
 /// bytes in rom, and in each area the link of the next one.
-pub(crate) fn filled(
+pub(crate) fn start_memory(
     alloc: Global,
     image: &Image,
     rom: &[Range],

@@ -12,6 +12,15 @@ use crate::{End, Event, Machine};
 use csa_chain::pcxi_parts;
 use tc_isa::{Arg, Cond, Op, Shape, Target, alu, taken};
 
+/// The class of traps that instruction errors take, a misaligned access among them.
+const INSTRUCTION_ERRORS: u8 = 2;
+
+/// The identification number of the trap that a misaligned access takes.
+const ALN: u8 = 4;
+
+/// The class of traps that system calls take.
+const SYSTEM_CALLS: u8 = 6;
+
 /// The operand, offset and size in bytes of a load or a store, and whether the base register is
 /// increased afterwards.
 #[derive(Clone, Copy)]
@@ -63,7 +72,7 @@ impl Machine {
     {
         let addr = self.access(at.base, at.offset, at.after);
         if traps(event, addr, at.size) {
-            self.trap(2, 4, self.pc);
+            self.trap(INSTRUCTION_ERRORS, ALN, self.pc);
             return;
         }
         let word = load(&self.mem, event.input, addr, at.size, signed);
@@ -81,7 +90,7 @@ impl Machine {
     {
         let addr = self.access(at.base, at.offset, at.after);
         if traps(event, addr, at.size) {
-            self.trap(2, 4, self.pc);
+            self.trap(INSTRUCTION_ERRORS, ALN, self.pc);
             return;
         }
         let word = self.reg(src);
@@ -249,7 +258,7 @@ impl Machine {
             Shape::Svlcx => self.save_lower(n),
             Shape::Rslcx => self.take_lower(n),
             Shape::Bisr { c } => self.begin_interruptible(c, n),
-            Shape::Syscall { tin } => self.trap(6, tin, ahead(self.pc, n)),
+            Shape::Syscall { tin } => self.trap(SYSTEM_CALLS, tin, ahead(self.pc, n)),
             _ => {}
         }
     }

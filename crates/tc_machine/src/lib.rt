@@ -19,4 +19,5 @@ mod stepping;
 
 pub use events::{Cause, End, Event};
 pub use laws::{guard_laws, machine_laws};
+pub use operands::traps;
 pub use state::Machine;

@@ -10,7 +10,7 @@ use tc_isa::{Arg, Target};
 
 /// Returns true if an access traps: its address is no multiple of its size, and the event says that
 /// such accesses trap.
-pub(crate) fn traps(event: &Event, addr: u32, size: u8) -> bool
+pub fn traps(event: &Event, addr: u32, size: u8) -> bool
     requires { IsSize size }
     ensures { result ≡ traps_at event.now addr size }
 {
@@ -19,7 +19,7 @@ pub(crate) fn traps(event: &Event, addr: u32, size: u8) -> bool
 
 impl Machine {
     /// Returns the address of an access.
-    pub(crate) fn access(&self, base: Arg, offset: u32, after: bool) -> u32
+    pub fn access(&self, base: Arg, offset: u32, after: bool) -> u32
         requires { IsArg base }
         ensures { result ≡ access_address self.now base offset after }
     {

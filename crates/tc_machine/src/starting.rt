@@ -2,7 +2,7 @@
 ghost use Rattle.std.specs.Prelude.{◌≡◌, IfOk};
 ghost use Rattle.tc_machine.specs.Starting.{psw_at_start, StartsInZeros};
 
-use crate::filling::{area_link, filled};
+use crate::filling::{area_link, start_memory};
 use crate::{End, Machine};
 use elf_image::Image;
 use std::alloc::Global;
@@ -24,7 +24,7 @@ impl Machine {
     {
         let csa_at = plan.csa_at;
         let areas = plan.areas;
-        let mem = filled(
+        let mem = start_memory(
             alloc,
             image,
             plan.rom.as_slice(),

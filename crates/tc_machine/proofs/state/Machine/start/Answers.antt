@@ -6,8 +6,8 @@ use Rattle.tc_machine.proofs.StartMemory.{filled_memory}
 use Rattle.tc_machine.proofs.Started.{mapped_fit, state_of, starts_in_zeros}
 use Rattle.tc_machine.proofs.state.Machine.start.Goals as goal
 
-pub filled-requires-clause-all : goal.filled-requires-clause-all
-filled-requires-clause-all c =
+pub start_memory-requires-clause-all : goal.start_memory-requires-clause-all
+start_memory-requires-clause-all c =
     rw (c.as_slice.ensures.value, c.as_slice-2.ensures.value) (mapped_fit (plan_data c.plan.inside) c.plan.invariant)
 
 pub returns : goal.returns

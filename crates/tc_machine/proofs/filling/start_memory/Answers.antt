@@ -4,7 +4,7 @@ use Rattle.tc_mem.specs.Pages.{IsZeros}
 use Rattle.csa_chain.specs.MemoryChanges.{HasBytes}
 use Rattle.tc_machine.specs.Starting.{mapped_ranges_of}
 use Rattle.tc_machine.proofs.Zeros.{zeros_bytes}
-use Rattle.tc_machine.proofs.filling.filled.Goals as goal
+use Rattle.tc_machine.proofs.filling.start_memory.Goals as goal
 
 pub returns : goal.returns
 returns c =
