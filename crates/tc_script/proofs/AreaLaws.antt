@@ -32,7 +32,7 @@ use Rattle.tc_machine.proofs.Saves.{then_-running, length-context_of}
 use Rattle.tc_script.specs.declared.counting.AreasUsed.{AreasUsed}
 use Rattle.tc_script.specs.declared.counting.Effect.{Effect}
 use Rattle.tc_script.specs.declared.counting.Effect.TheVariants.{Stays, Saves, Restores, Unknown}
-use Rattle.tc_script.specs.AreaRows.{row_of, AreInRow, IsCounted, HasSaved, HasRestored, HasStored, HasStayed, Tells, IsToldBy}
+use Rattle.tc_script.specs.AreaRows.{row_of, AreInRow, IsCounted, HasSaved, HasRestored, HasStored, HasStayed, EffectHolds, IsEffectOf}
 
 -- ---- rows
 row_length : (first n : ℕ) → length (row_of first n) ≡ n
@@ -85,13 +85,13 @@ counted_same u m n s h =
       row = elim u.in_row as (λ b. OnTrue b (AreInRow u.first u.count m) → OnTrue b (AreInRow u.first u.count n)) [ true ↦ λ r. e ∙ r | false ↦ λ r. tt ] h.row;
     }
 
-pub told_same : (effect : Effect) (u : AreasUsed) (m n : Machine) → Same m n → Tells effect u m → Tells effect u n
+pub told_same : (effect : Effect) (u : AreasUsed) (m n : Machine) → Same m n → EffectHolds effect u m → EffectHolds effect u n
 told_same Stays u m n s h = counted_same u m n s h
 told_same Unknown u m n s h = tt
 told_same _ u m n s h = (h.0, counted_same _ m n s h.1)
 
-pub as_told : (effect other : Effect) (u : AreasUsed) (n : Machine) → effect ≡ other → Tells effect u n → Tells other u n
-as_told effect other u n is h = subst (λ x. Tells x u n) is h
+pub as_told : (effect other : Effect) (u : AreasUsed) (n : Machine) → effect ≡ other → EffectHolds effect u n → EffectHolds other u n
+as_told effect other u n is h = subst (λ x. EffectHolds x u n) is h
 
 -- ---- saves and restores
 avoids_row : (first k n : ℕ) → n ≤ k → Avoids (first + k) (row_of first n)
@@ -102,7 +102,7 @@ first_word : (m : Machine) (upper : Bool) → get_or (context_of m upper) 0 0 �
 first_word m true = refl
 first_word m false = refl
 
-pub told_save : (u : AreasUsed) (m after : Machine) → IsCounted u m → u.in_row ≡ true → m.pcxi < 2 ^ 32 → u.count < 4096 → m.fcx % 2 ^ 20 ≡ u.first + u.count → HasSaved m after → Tells Saves u after
+pub told_save : (u : AreasUsed) (m after : Machine) → IsCounted u m → u.in_row ≡ true → m.pcxi < 2 ^ 32 → u.count < 4096 → m.fcx % 2 ^ 20 ≡ u.first + u.count → HasSaved m after → EffectHolds Saves u after
 told_save u m after h is small few next s =
     let f = link_in m.fcx in
     let at : f ≡ u.first + u.count = next in
@@ -140,7 +140,7 @@ less_row : (m after : Machine) (first n : ℕ) → HasRestored m after → 1 ≤
 less_row m after first zero s some row = absurd (omega arith)
 less_row m after first (suc n) s some row = let e : n ≡ suc n - 1 = omega arith in subst (λ k. AreInRow first k after) e (restored_row m after first n s row)
 
-pub told_restore : (u : AreasUsed) (m after : Machine) → IsCounted u m → u.in_row ≡ true → 1 ≤ u.count → HasRestored m after → Tells Restores u after
+pub told_restore : (u : AreasUsed) (m after : Machine) → IsCounted u m → u.in_row ≡ true → 1 ≤ u.count → HasRestored m after → EffectHolds Restores u after
 told_restore u m after h is some s = (some, counted_row (record u { count = u.count - 1 }) after h.first (less_row m after u.first u.count s some (the_row u m h is)))
 
 -- ---- stores
@@ -168,7 +168,7 @@ misses x size first (suc n) m row (inr (inr above)) =
     let high = subst (λ l. link_address l + 64 ≤ x) at above in
     (inr high, above_row x size first n n (omega arith) high)
 
-pub told_store : (u : AreasUsed) (m after : Machine) (x size : ℕ) → IsCounted u m → u.in_row ≡ true → x + size ≤ 2 ^ 32 → (u.count ≡ 0) ⊎ ((x + size ≤ link_address u.first) ⊎ (link_address (link_in m.pcxi) + 64 ≤ x)) → HasStored x size m after → Tells Stays u after
+pub told_store : (u : AreasUsed) (m after : Machine) (x size : ℕ) → IsCounted u m → u.in_row ≡ true → x + size ≤ 2 ^ 32 → (u.count ≡ 0) ⊎ ((x + size ≤ link_address u.first) ⊎ (link_address (link_in m.pcxi) + 64 ≤ x)) → HasStored x size m after → EffectHolds Stays u after
 told_store u m after x size h is fits out s =
     let row = the_row u m h is in
     let miss = misses x size u.first u.count m row out in
@@ -345,31 +345,31 @@ module _ (m : Machine) (e : Event) where
 
 -- ---- what an effect says of an instruction
 module _ (effect : Effect) (u : AreasUsed) (m : Machine) (e : Event) where
-  pub told_call : (s : Shape) {to : Target} → s ≡ Call to → ((k : Machine) → HasSaved m k → Tells effect u k) → IsToldBy effect u m e s
-  told_call s {to = to} is tells = subst (λ x. IsToldBy effect u m e x) (sym is) (λ n run. tells (does m e (Call to) n) (call_saves m e to n run))
+  pub told_call : (s : Shape) {to : Target} → s ≡ Call to → ((k : Machine) → HasSaved m k → EffectHolds effect u k) → IsEffectOf effect u m e s
+  told_call s {to = to} is tells = subst (λ x. IsEffectOf effect u m e x) (sym is) (λ n run. tells (does m e (Call to) n) (call_saves m e to n run))
 
-  pub told_svlcx : (s : Shape) → s ≡ Svlcx → ((k : Machine) → HasSaved m k → Tells effect u k) → IsToldBy effect u m e s
-  told_svlcx s is tells = subst (λ x. IsToldBy effect u m e x) (sym is) (λ n run. tells (does m e Svlcx n) (svlcx_saves m e n run))
+  pub told_svlcx : (s : Shape) → s ≡ Svlcx → ((k : Machine) → HasSaved m k → EffectHolds effect u k) → IsEffectOf effect u m e s
+  told_svlcx s is tells = subst (λ x. IsEffectOf effect u m e x) (sym is) (λ n run. tells (does m e Svlcx n) (svlcx_saves m e n run))
 
-  pub told_bisr : (s : Shape) {c : ℕ} → s ≡ Bisr c → ((k : Machine) → HasSaved m k → Tells effect u k) → IsToldBy effect u m e s
-  told_bisr s {c = c} is tells = subst (λ x. IsToldBy effect u m e x) (sym is) (λ n run. tells (does m e (Bisr c) n) (bisr_saves m e c n run))
+  pub told_bisr : (s : Shape) {c : ℕ} → s ≡ Bisr c → ((k : Machine) → HasSaved m k → EffectHolds effect u k) → IsEffectOf effect u m e s
+  told_bisr s {c = c} is tells = subst (λ x. IsEffectOf effect u m e x) (sym is) (λ n run. tells (does m e (Bisr c) n) (bisr_saves m e c n run))
 
-  pub told_syscall : (s : Shape) {tin : ℕ} → s ≡ Syscall tin → ((k : Machine) → HasSaved m k → Tells effect u k) → IsToldBy effect u m e s
-  told_syscall s {tin = tin} is tells = subst (λ x. IsToldBy effect u m e x) (sym is) (λ n run. tells (does m e (Syscall tin) n) (syscall_saves m e tin n run))
+  pub told_syscall : (s : Shape) {tin : ℕ} → s ≡ Syscall tin → ((k : Machine) → HasSaved m k → EffectHolds effect u k) → IsEffectOf effect u m e s
+  told_syscall s {tin = tin} is tells = subst (λ x. IsEffectOf effect u m e x) (sym is) (λ n run. tells (does m e (Syscall tin) n) (syscall_saves m e tin n run))
 
-  pub told_ret : (s : Shape) → s ≡ Ret → ((k : Machine) → HasRestored m k → Tells effect u k) → IsToldBy effect u m e s
-  told_ret s is tells = subst (λ x. IsToldBy effect u m e x) (sym is) (λ n run. tells (does m e Ret n) (ret_restores m e n run))
+  pub told_ret : (s : Shape) → s ≡ Ret → ((k : Machine) → HasRestored m k → EffectHolds effect u k) → IsEffectOf effect u m e s
+  told_ret s is tells = subst (λ x. IsEffectOf effect u m e x) (sym is) (λ n run. tells (does m e Ret n) (ret_restores m e n run))
 
-  pub told_rfe : (s : Shape) → s ≡ Rfe → ((k : Machine) → HasRestored m k → Tells effect u k) → IsToldBy effect u m e s
-  told_rfe s is tells = subst (λ x. IsToldBy effect u m e x) (sym is) (λ n run. tells (does m e Rfe n) (rfe_restores m e n run))
+  pub told_rfe : (s : Shape) → s ≡ Rfe → ((k : Machine) → HasRestored m k → EffectHolds effect u k) → IsEffectOf effect u m e s
+  told_rfe s is tells = subst (λ x. IsEffectOf effect u m e x) (sym is) (λ n run. tells (does m e Rfe n) (rfe_restores m e n run))
 
-  pub told_rslcx : (s : Shape) → s ≡ Rslcx → ((k : Machine) → HasRestored m k → Tells effect u k) → IsToldBy effect u m e s
-  told_rslcx s is tells = subst (λ x. IsToldBy effect u m e x) (sym is) (λ n run. tells (does m e Rslcx n) (rslcx_restores m e n run))
+  pub told_rslcx : (s : Shape) → s ≡ Rslcx → ((k : Machine) → HasRestored m k → EffectHolds effect u k) → IsEffectOf effect u m e s
+  told_rslcx s is tells = subst (λ x. IsEffectOf effect u m e x) (sym is) (λ n run. tells (does m e Rslcx n) (rslcx_restores m e n run))
 
   pub told_load : (s : Shape) {dst : ℕ} {base : Arg} {offset size : ℕ} {signed after : Bool} (x : ℕ) → s ≡ Load dst base offset size signed after → x ≡ access_address m base offset after →
-      ((k : Machine) → (traps_at e x size ≡ true → HasSaved m k) → (traps_at e x size ≡ false → HasStayed m k) → Tells effect u k) → IsToldBy effect u m e s
+      ((k : Machine) → (traps_at e x size ≡ true → HasSaved m k) → (traps_at e x size ≡ false → HasStayed m k) → EffectHolds effect u k) → IsEffectOf effect u m e s
   told_load s {dst = dst} {base = base} {offset = offset} {size = size} {signed = signed} {after = after} x is at tells =
-      subst (λ y. IsToldBy effect u m e y) (sym is)
+      subst (λ y. IsEffectOf effect u m e y) (sym is)
       (λ n run.
       let traps : traps_at e (access_address m base offset after) size ≡ traps_at e x size = ap (λ (y : ℕ). traps_at e y size) (sym at) in
       tells (does m e (Load dst base offset size signed after) n)
@@ -377,9 +377,9 @@ module _ (effect : Effect) (u : AreasUsed) (m : Machine) (e : Event) where
       (λ t. let same = load_same m e dst base offset size signed after n (traps ∙ t) in record { mem = same.mem; pcxi = same.pcxi }))
 
   pub told_any_store : (s : Shape) {src : ℕ} {base : Arg} {offset size : ℕ} {after : Bool} (x : ℕ) → s ≡ Store src base offset size after → x ≡ access_address m base offset after →
-      ((k : Machine) → (traps_at e x size ≡ true → HasSaved m k) → (traps_at e x size ≡ false → HasStored x size m k) → Tells effect u k) → IsToldBy effect u m e s
+      ((k : Machine) → (traps_at e x size ≡ true → HasSaved m k) → (traps_at e x size ≡ false → HasStored x size m k) → EffectHolds effect u k) → IsEffectOf effect u m e s
   told_any_store s {src = src} {base = base} {offset = offset} {size = size} {after = after} x is at tells =
-      subst (λ y. IsToldBy effect u m e y) (sym is)
+      subst (λ y. IsEffectOf effect u m e y) (sym is)
       (λ n run.
       let traps : traps_at e (access_address m base offset after) size ≡ traps_at e x size = ap (λ (y : ℕ). traps_at e y size) (sym at) in
       tells (does m e (Store src base offset size after) n)
@@ -387,11 +387,11 @@ module _ (effect : Effect) (u : AreasUsed) (m : Machine) (e : Event) where
       (λ t. subst (λ y. HasStored y size m (does m e (Store src base offset size after) n)) (sym at) (store_stores m e src base offset size after n (traps ∙ t))))
 
 -- what leaves the memory and PCXI
-pub told_stayed : (u : AreasUsed) (m n : Machine) → IsCounted u m → HasStayed m n → Tells Stays u n
+pub told_stayed : (u : AreasUsed) (m n : Machine) → IsCounted u m → HasStayed m n → EffectHolds Stays u n
 told_stayed u m n h s = counted_same u m n (record { mem = s.mem; pcxi = s.pcxi }) h
 
-pub told_plain : (u : AreasUsed) (m : Machine) (e : Event) (s t : Shape) → s ≡ t → keeps_of e t ≡ true → IsCounted u m → IsToldBy Stays u m e s
-told_plain u m e s t is k h = subst (λ x. IsToldBy Stays u m e x) (sym is) (λ n run. counted_same u m (does m e t n) (same_does e t k m n) h)
+pub told_plain : (u : AreasUsed) (m : Machine) (e : Event) (s t : Shape) → s ≡ t → keeps_of e t ≡ true → IsCounted u m → IsEffectOf Stays u m e s
+told_plain u m e s t is k h = subst (λ x. IsEffectOf Stays u m e x) (sym is) (λ n run. counted_same u m (does m e t n) (same_does e t k m n) h)
 
 -- ---- events
 end_same : (k : Machine) (e : Event) (end : End) → k.end ≡ end → Same k (goes_on end k (λ n. record n { psw = with_status n.psw e.status }))
@@ -412,29 +412,29 @@ went m e here run =
     record { running = both.0; same = subst (Same (done m e)) (sym is) (end_same (done m e) e (done m e).end refl) }
 
 -- an interrupt
-pub told_interrupt : (effect : Effect) (u : AreasUsed) (m : Machine) (e : Event) → m.end ≡ Running → is_taken m e ≡ true → ((after : Machine) → HasSaved m after → Tells effect u after) → (step m e).end ≡ Running → Tells effect u (step m e)
+pub told_interrupt : (effect : Effect) (u : AreasUsed) (m : Machine) (e : Event) → m.end ≡ Running → is_taken m e ≡ true → ((after : Machine) → HasSaved m after → EffectHolds effect u after) → (step m e).end ≡ Running → EffectHolds effect u (step m e)
 told_interrupt effect u m e here taken tells run =
     let w = went m e here run in
     let is : done m e ≡ interrupt m e.irq = cond-true _ _ _ taken in
     told_same effect u (done m e) (step m e) w.same (tells (done m e) (subst (HasSaved m) (sym is) (interrupt_saves m e.irq (subst (λ (k : Machine). k.end ≡ Running) is w.running))))
 
 -- the instruction at pc
-pub told_found : (effect : Effect) (u : AreasUsed) (m : Machine) (e : Event) (shape : Shape) (n : ℕ) → m.end ≡ Running → is_taken m e ≡ false → Ok (shape, n) ≡ shaped (decoded_of (mapped_bytes 4 m.mem m.pc)) → ((does m e shape n).end ≡ Running → Tells effect u (does m e shape n)) → (step m e).end ≡ Running → Tells effect u (step m e)
+pub told_found : (effect : Effect) (u : AreasUsed) (m : Machine) (e : Event) (shape : Shape) (n : ℕ) → m.end ≡ Running → is_taken m e ≡ false → Ok (shape, n) ≡ shaped (decoded_of (mapped_bytes 4 m.mem m.pc)) → ((does m e shape n).end ≡ Running → EffectHolds effect u (does m e shape n)) → (step m e).end ≡ Running → EffectHolds effect u (step m e)
 unfolding fetched
 told_found effect u m e shape n here free at tells run =
     let w = went m e here run in
     let found = shaped (decoded_of (mapped_bytes 4 m.mem m.pc)) in
-    elim (m.pc % 2 == 0) as (λ t. m.pc % 2 == 0 ≡ t → Tells effect u (step m e)) [
+    elim (m.pc % 2 == 0) as (λ t. m.pc % 2 == 0 ≡ t → EffectHolds effect u (step m e)) [
       | true ↦ λ even.
           let is : done m e ≡ does m e shape n = cond-false _ _ _ free ∙ ap (λ t. executed m e (cond t found (Err NoCode))) even ∙ ap (executed m e) (sym at) in
-          told_same effect u (done m e) (step m e) w.same (subst (Tells effect u) (sym is) (tells (subst (λ (k : Machine). k.end ≡ Running) is w.running)))
+          told_same effect u (done m e) (step m e) w.same (subst (EffectHolds effect u) (sym is) (tells (subst (λ (k : Machine). k.end ≡ Running) is w.running)))
       | false ↦ λ odd.
           let is : done m e ≡ died NoCode m = cond-false _ _ _ free ∙ ap (λ t. executed m e (cond t found (Err NoCode))) odd in
           dead_running NoCode (ap (λ (k : Machine). k.end) (sym is) ∙ w.running)
     ] refl
 
 -- if the areas in use aren't known to be consecutive, their number alone stays
-pub told_kept : (u : AreasUsed) (m n : Machine) → IsCounted u m → u.in_row ≡ false → used_of n ≡ used_of m → Tells Stays u n
+pub told_kept : (u : AreasUsed) (m n : Machine) → IsCounted u m → u.in_row ≡ false → used_of n ≡ used_of m → EffectHolds Stays u n
 told_kept u m n h off same = record {
   count = h.count ∙ ap (λ (o : Option ℕ). unwrap_or o 0) (sym same);
   first = h.first;

@@ -56,12 +56,12 @@ pub record HasStayed (m after : Machine) : Type 0 where
   pub pcxi : after.pcxi ≡ m.pcxi
 
 -- What an effect says of the machine after an event, by the areas in use before it.
-abbrev pub Tells : Effect → AreasUsed → Machine → Type 0
-Tells Stays u after = IsCounted u after
-Tells Saves u after = (u.count < 4096) × IsCounted (record u { count = u.count + 1 }) after
-Tells Restores u after = (1 ≤ u.count) × IsCounted (record u { count = u.count - 1 }) after
-Tells Unknown u after = Unit {0}
+abbrev pub EffectHolds : Effect → AreasUsed → Machine → Type 0
+EffectHolds Stays u after = IsCounted u after
+EffectHolds Saves u after = (u.count < 4096) × IsCounted (record u { count = u.count + 1 }) after
+EffectHolds Restores u after = (1 ≤ u.count) × IsCounted (record u { count = u.count - 1 }) after
+EffectHolds Unknown u after = Unit {0}
 
 -- what this effect says is true of an instruction that leaves the machine running
-abbrev pub IsToldBy : Effect → AreasUsed → Machine → Event → Shape → Type 0
-IsToldBy effect u m e shape = (n : ℕ) → (does m e shape n).end ≡ Running → Tells effect u (does m e shape n)
+abbrev pub IsEffectOf : Effect → AreasUsed → Machine → Event → Shape → Type 0
+IsEffectOf effect u m e shape = (n : ℕ) → (does m e shape n).end ≡ Running → EffectHolds effect u (does m e shape n)

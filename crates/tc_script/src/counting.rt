@@ -1,18 +1,17 @@
 // Counts the save areas in use, event by event.
 // A recount of the chain is needed only if the effect of an event isn't known.
 ghost use Rattle.std.specs.Prelude.{◌≡◌, ◌<◌, ◌^◌, ◌+◌, ◌*◌, true, false, IfOk, unwrap_or};
-ghost use Rattle.tc_isa.specs.Bounded.{IsShape, IsArg, IsSize};
+ghost use Rattle.tc_isa.specs.Bounded.{IsShape, IsSize};
 ghost use Rattle.tc_encode.specs.Decoding.{decoded_of};
 ghost use Rattle.tc_machine.specs.declared.state.Machine.{Machine};
 ghost use Rattle.tc_machine.specs.Fetching.{mapped_bytes, shaped};
-ghost use Rattle.tc_machine.specs.Machine.{reg, arg};
-ghost use Rattle.tc_machine.specs.Instructions.{access_address, traps_at};
+ghost use Rattle.tc_machine.specs.Instructions.{traps_at};
 ghost use Rattle.tc_machine.specs.Stepping.{step, used_of, is_taken};
-ghost use Rattle.tc_script.specs.AreaRows.{IsCounted, HasSaved, HasRestored, HasStored, HasStayed, Tells, IsToldBy};
+ghost use Rattle.tc_script.specs.AreaRows.{IsCounted, HasSaved, HasRestored, HasStored, HasStayed, EffectHolds, IsEffectOf};
 
 use csa_chain::address_of;
-use tc_isa::{Arg, Shape};
-use tc_machine::{Cause, End, Event, Machine};
+use tc_isa::Shape;
+use tc_machine::{Cause, End, Event, Machine, traps};
 
 /// The number of areas in use, and whether they are known to be consecutive from the one with this
 /// link on.
@@ -57,7 +56,7 @@ pub(crate) fn count_areas(m: &Machine) -> AreasUsed
 fn of_save(m: &Machine, used: AreasUsed) -> Effect
     requires counted { IsCounted used m.now }
     requires row { used.in_row ≡ true }
-    ensures { (after : Machine) → HasSaved m.now after → Tells result used after }
+    ensures { (after : Machine) → HasSaved m.now after → EffectHolds result used after }
 {
     let _pcxi = m.pcxi;
     let count = used.count;
@@ -76,7 +75,7 @@ fn of_save(m: &Machine, used: AreasUsed) -> Effect
 fn of_restore(m: &Machine, used: AreasUsed) -> Effect
     requires counted { IsCounted used m.now }
     requires row { used.in_row ≡ true }
-    ensures { (after : Machine) → HasRestored m.now after → Tells result used after }
+    ensures { (after : Machine) → HasRestored m.now after → EffectHolds result used after }
 {
     let count = used.count;
     if count == 0 {
@@ -89,7 +88,7 @@ fn of_restore(m: &Machine, used: AreasUsed) -> Effect
 fn of_store(m: &Machine, used: AreasUsed, addr: u32, size: u8) -> Effect
     requires counted { IsCounted used m.now }
     requires row { used.in_row ≡ true }
-    ensures { (after : Machine) → HasStored addr size m.now after → Tells result used after }
+    ensures { (after : Machine) → HasStored addr size m.now after → EffectHolds result used after }
 {
     let count = used.count;
     if addr > 0xFFFF_F000 {
@@ -111,51 +110,6 @@ fn of_store(m: &Machine, used: AreasUsed, addr: u32, size: u8) -> Effect
     Effect::Unknown
 }
 
-/// Returns the word in a register: 0 to 15 for D0 to D15, 16 to 31 for A0 to A15.
-fn register(m: &Machine, r: u8) -> u32
-    requires { r < 32 }
-    ensures { result ≡ reg m.now r }
-{
-    if r < 16 {
-        m.d[usize::from(r)]
-    } else {
-        m.a[usize::from(r - 16)]
-    }
-}
-
-/// Returns the value of an operand.
-fn operand(m: &Machine, x: Arg) -> u32
-    requires { IsArg x }
-    ensures { result ≡ arg m.now x }
-{
-    match x {
-        Arg::Reg(r) => register(m, r),
-        Arg::Word(word) => word,
-    }
-}
-
-/// Returns the address of an access.
-fn address(m: &Machine, base: Arg, offset: u32, after: bool) -> u32
-    requires { IsArg base }
-    ensures { result ≡ access_address m.now base offset after }
-{
-    let word = operand(m, base);
-    if after {
-        word
-    } else {
-        word.wrapping_add(offset)
-    }
-}
-
-/// Returns true if an access traps: its address is no multiple of its size, and the event says that
-/// such accesses trap.
-fn traps(event: &Event, addr: u32, size: u8) -> bool
-    requires { IsSize size }
-    ensures { result ≡ traps_at event.now addr size }
-{
-    event.aln && addr % u32::from(size) != 0
-}
-
 /// Returns the effect of a load: none, if it doesn't trap.
 fn of_load(m: &Machine, event: &Event, used: AreasUsed, addr: u32, size: u8) -> Effect
     requires counted { IsCounted used m.now }
@@ -163,7 +117,7 @@ fn of_load(m: &Machine, event: &Event, used: AreasUsed, addr: u32, size: u8) -> 
     requires size { IsSize size }
     ensures { (after : Machine) → (traps_at event.now addr size ≡ true → HasSaved m.now after)
         → (traps_at event.now addr size ≡ false → HasStayed m.now after)
-        → Tells result used after }
+        → EffectHolds result used after }
 {
     if traps(event, addr, size) {
         of_save(m, used)
@@ -179,7 +133,7 @@ fn of_any_store(m: &Machine, event: &Event, used: AreasUsed, addr: u32, size: u8
     requires size { IsSize size }
     ensures { (after : Machine) → (traps_at event.now addr size ≡ true → HasSaved m.now after)
         → (traps_at event.now addr size ≡ false → HasStored addr size m.now after)
-        → Tells result used after }
+        → EffectHolds result used after }
 {
     if traps(event, addr, size) {
         of_save(m, used)
@@ -193,7 +147,7 @@ fn of_any_store(m: &Machine, event: &Event, used: AreasUsed, addr: u32, size: u8
 fn of_other(m: &Machine, event: &Event, shape: Shape, used: AreasUsed) -> Effect
     requires counted { IsCounted used m.now }
     requires row { used.in_row ≡ true }
-    ensures { IsToldBy result used m.now event.now shape }
+    ensures { IsEffectOf result used m.now event.now shape }
 {
     match shape {
         Shape::Call { .. } => of_save(m, used),
@@ -212,7 +166,7 @@ fn of_shape(m: &Machine, event: &Event, shape: Shape, used: AreasUsed) -> Effect
     requires counted { IsCounted used m.now }
     requires row { used.in_row ≡ true }
     requires bounded { IsShape shape }
-    ensures { IsToldBy result used m.now event.now shape }
+    ensures { IsEffectOf result used m.now event.now shape }
 {
     match shape {
         Shape::Load {
@@ -222,7 +176,7 @@ fn of_shape(m: &Machine, event: &Event, shape: Shape, used: AreasUsed) -> Effect
             after,
             ..
         } => {
-            let addr = address(m, base, offset, after);
+            let addr = m.access(base, offset, after);
             of_load(m, event, used, addr, size)
         }
         Shape::Store {
@@ -232,7 +186,7 @@ fn of_shape(m: &Machine, event: &Event, shape: Shape, used: AreasUsed) -> Effect
             after,
             ..
         } => {
-            let addr = address(m, base, offset, after);
+            let addr = m.access(base, offset, after);
             of_any_store(m, event, used, addr, size)
         }
         Shape::Compute { .. } => Effect::Stays,
@@ -267,7 +221,7 @@ fn effect_in_row(
     requires counted { IsCounted used m.now }
     requires row { used.in_row ≡ true }
     ensures { (step m.now event.now).end ≡ End.Running
-        → Tells result used (step m.now event.now) }
+        → EffectHolds result used (step m.now event.now) }
 {
     if takes(m, event) {
         return of_save(m, used);
@@ -290,7 +244,7 @@ pub(crate) fn effect_of_event(
     requires bounded { IfOk found.now (λ it. IsShape it.0) }
     requires counted { IsCounted used m.now }
     ensures { (step m.now event.now).end ≡ End.Running
-        → Tells result used (step m.now event.now) }
+        → EffectHolds result used (step m.now event.now) }
 {
     let in_row = used.in_row;
     if in_row {
@@ -306,7 +260,7 @@ pub(crate) fn effect_of_event(
 /// Updates the areas in use after an event with this effect. If the effect isn't known, they are
 /// counted again.
 fn used_by_effect(m: &Machine, used: &mut AreasUsed, effect: Effect)
-    requires { Tells effect used.old m.now }
+    requires { EffectHolds effect used.old m.now }
     ensures { IsCounted used.new m.now }
 {
     match effect {
@@ -319,7 +273,7 @@ fn used_by_effect(m: &Machine, used: &mut AreasUsed, effect: Effect)
 
 /// Updates the areas in use after an event that has this effect if the machine still runs.
 pub(crate) fn used_after(m: &Machine, used: &mut AreasUsed, effect: Effect)
-    requires { m.now.end ≡ End.Running → Tells effect used.old m.now }
+    requires { m.now.end ≡ End.Running → EffectHolds effect used.old m.now }
     ensures { IsCounted used.new m.now }
 {
     match m.end {

@@ -83,8 +83,8 @@ fn event<F: Fn(u32, u32) -> u32>(
 }
 
 /// Performs one event for each turn of the script, until the machine is dead or the turns end.
-/// An event has the turn's interrupt, the turn's `traps`, and status 0. Its input is the answer of
-/// the ports if the load at pc is wholly inside one device range, else 0.
+/// An event has the turn's `irq` and `aln`, and status 0. Its input is the answer of the ports if
+/// the load at pc is wholly inside one device range, else 0.
 pub fn drive<F: Fn(u32, u32) -> u32>(
     m: &mut Machine,
     plan: &Plan,

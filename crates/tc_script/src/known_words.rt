@@ -55,8 +55,7 @@ impl KnownWords {
         }
     }
 
-    /// Writes what the bytes at pc do to a place of the table, for the word that they are, or for
-    /// none.
+    /// Decodes the bytes at pc into a place of the table, for the word that they are, or for none.
     #[inline(never)]
     fn learn(&mut self, m: &Machine, place: usize, word: Option<u32>)
         requires place { place < 1024 }
@@ -69,8 +68,8 @@ impl KnownWords {
         self.words[place] = KnownWord { word, found };
     }
 
-    /// Returns the place of the table at which what the bytes at pc do is kept. If it isn't there
-    /// yet, the bytes are decoded.
+    /// Returns the place of the table that holds what the bytes at pc do. If none does yet, the
+    /// bytes are decoded into it.
     pub(crate) fn place_at_pc(&mut self, m: &Machine) -> usize
         requires { All IsKnown self.old.words }
         ensures place { result < 1024 }

@@ -3,7 +3,7 @@ use Rattle.std.specs.Prelude.{Contains}
 use Rattle.std.proofs.lemmas.List.{drop_all}
 use Rattle.tc_machine.specs.declared.events.End.TheVariants.{Running}
 use Rattle.tc_machine.specs.declared.state.Machine.{Machine}
-use Rattle.tc_script.specs.AreaRows.{Tells}
+use Rattle.tc_script.specs.AreaRows.{EffectHolds}
 use Rattle.tc_script.specs.Runs.{IsEventOf}
 use Rattle.tc_script.proofs.Events.{fits_event, all_at, drop_at}
 use Rattle.tc_script.proofs.Runs.{one_more, ended}
@@ -14,7 +14,7 @@ returns-then-not-is_running g c = ended c.loop-t.t c.loop-t.m c.loop-t.done c.lo
 
 pub used_after-requires : goal.used_after-requires
 used_after-requires g c =
-    subst (λ (k : Machine). k.end ≡ Running → Tells c.effect_of_event-effect.result c.loop-t.areas k) (sym c.step_by.ensures) c.effect_of_event-effect.ensures
+    subst (λ (k : Machine). k.end ≡ Running → EffectHolds c.effect_of_event-effect.result c.loop-t.areas k) (sym c.step_by.ensures) c.effect_of_event-effect.ensures
 
 pub loop-t-preserved : goal.loop-t-preserved
 loop-t-preserved g c =
