@@ -6,10 +6,15 @@ ghost use Rattle.depth_cert.specs.Grammar.{magic_at, version_at, node_count_at, 
 ghost use Rattle.depth_cert.specs.Certs.{count_points};
 
 use crate::node_fields::read_node;
-use crate::value_fields::fault;
 use crate::{CertErr, Node};
 use std::alloc::Global;
-use tcd_base::{Cursor, FormErr, read_u16, read_u32};
+use tcd_base::{ABOVE_LIMIT, BAD_MAGIC, Cursor, FormErr, TRAILING, fault, read_u16, read_u32};
+
+/// The magic bytes 54 43 44 43, as a little-endian word.
+pub(crate) const MAGIC: u32 = 0x4344_4354;
+
+/// The greatest number of nodes.
+const MOST_NODES: u16 = 2048;
 
 /// Reads the magic bytes 54 43 44 43.
 #[tactic(auto, unfolding(crate::specs::Grammar::magic_at))]
@@ -20,8 +25,8 @@ pub fn read_magic(c: &mut Cursor<'_>) -> Result<u32, FormErr>
 {
     let start = c.place();
     let magic = read_u32(c)?;
-    if magic != 0x4344_4354 {
-        return Err(fault(2, start));
+    if magic != MAGIC {
+        return Err(fault(BAD_MAGIC, start));
     }
     Ok(magic)
 }
@@ -39,7 +44,7 @@ pub fn read_version(c: &mut Cursor<'_>) -> Result<u8, FormErr>
     if version == 1 || version == 2 {
         Ok(version as u8)
     } else {
-        Err(fault(2, start))
+        Err(fault(BAD_MAGIC, start))
     }
 }
 
@@ -52,8 +57,8 @@ pub fn read_node_count(c: &mut Cursor<'_>) -> Result<u16, FormErr>
 {
     let start = c.place();
     let count = read_u16(c)?;
-    if count > 2048 {
-        return Err(fault(5, start));
+    if count > MOST_NODES {
+        return Err(fault(ABOVE_LIMIT, start));
     }
     Ok(count)
 }
@@ -102,7 +107,7 @@ pub(crate) fn read_parts(alloc: Global, bytes: &[u8]) -> Result<(u8, Vec<Node>),
     let nodes = read_nodes(alloc, &mut c, version, count)?;
     let end = c.place();
     if end != bytes.len() {
-        return Err(CertErr::Bad(fault(6, end)));
+        return Err(CertErr::Bad(fault(TRAILING, end)));
     }
     Ok((version, nodes))
 }

@@ -4,14 +4,14 @@ ghost use Rattle.std.specs.Option.{option_map};
 ghost use Rattle.depth_cert.specs.declared.errors.CertErr.TheVariants.{NoMemory};
 ghost use Rattle.depth_cert.specs.Answers.{IsFaultOf};
 
-use crate::cert_fields::read_parts;
+use crate::cert_fields::{MAGIC, read_parts};
 use crate::lookup::{node_at, node_place};
 use crate::node_fields::number_of;
-use crate::writing::{put_u16, write_nodes};
+use crate::writing::write_nodes;
 use crate::{CertErr, Key, Node};
 use std::alloc::Global;
 use std::marker::Model;
-use tcd_base::put_u32;
+use tcd_base::{put_u16, put_u32};
 
 /// A certificate of version 1 or 2: nodes by ascending key.
 #[derive(Drop)]
@@ -58,16 +58,16 @@ impl Cert {
         ensures back { IfOk result (λ out. certificate_of out.items ≡ Ok self.now) }
     {
         let _version = self.version;
-        let out = self.spelled(alloc)?;
+        let out = self.spell(alloc)?;
         Ok(out)
     }
 
     #[tactic(auto, unfolding(crate::specs::Spelling::bytes_of))]
-    fn spelled(&self, alloc: Global) -> Result<Vec<u8>, tcd_base::NoMemory>
+    fn spell(&self, alloc: Global) -> Result<Vec<u8>, tcd_base::NoMemory>
         ensures { IfOk result (λ out. out.items ≡ bytes_of self.now) }
     {
         let mut out = Vec::new(alloc);
-        put_u32(&mut out, 0x4344_4354)?;
+        put_u32(&mut out, MAGIC)?;
         put_u16(&mut out, u16::from(self.version))?;
         put_u16(&mut out, self.nodes.len() as u16)?;
         write_nodes(&mut out, self.version, &self.nodes)?;

@@ -23,5 +23,6 @@ pub use node_fields::{no_exit, number_of, read_exit, read_has_exit, read_need};
 pub use nodes::Node;
 pub use point_fields::{read_locals, read_point_count, read_state};
 pub use points::{Exit, Point};
-pub use value_fields::{fault, read_flag, read_value, read_values};
-pub use writing::{put_u16, write_exit, write_key, write_state, write_value, write_values};
+pub use tcd_base::{fault, put_u16};
+pub use value_fields::{read_flag, read_value, read_values};
+pub use writing::{write_exit, write_key, write_state, write_value, write_values};

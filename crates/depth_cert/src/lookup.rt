@@ -20,7 +20,7 @@ fn is_node(node: &Node, number: u64) -> bool
     number_of(&node.key) == number
 }
 
-/// Returns the number of nodes whose keys are below.
+/// Returns the number of nodes whose keys are below `number`.
 pub(crate) fn node_place(nodes: &[Node], number: u64) -> usize
     requires { IsStrictlyIncreasing (key_numbers nodes.now) }
     ensures { IsPartitionPoint (λ n. nat_lt (number_of_key n.key) number ≡ true)

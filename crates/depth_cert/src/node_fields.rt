@@ -7,10 +7,12 @@ ghost use Rattle.depth_cert.specs.Keys.{key_number, number_of_key};
 ghost use Rattle.depth_cert.specs.Certs.{key_numbers, count_points};
 
 use crate::point_fields::read_points;
-use crate::value_fields::{fault, read_flag, read_values};
-use crate::{CertErr, Exit, Key, Node};
+use crate::value_fields::{read_flag, read_values};
+use crate::{ALN, CALL, CertErr, Exit, Key, Node, SYS};
 use std::alloc::Global;
-use tcd_base::{Cursor, FormErr, read_u8, read_u16, read_u32};
+use tcd_base::{
+    ABOVE_LIMIT, BAD_ORDER, BAD_VALUE, Cursor, FormErr, fault, read_u8, read_u16, read_u32,
+};
 use value_domain::Val;
 
 /// Returns the fields of a key as one number. Keys are ordered by it.
@@ -47,18 +49,18 @@ fn read_key(c: &mut Cursor<'_>, before: &[Node]) -> Result<Key, FormErr>
 {
     let start = c.place();
     let kind = read_u8(c)?;
-    if kind > 4 {
-        return Err(fault(4, start));
+    if kind > ALN {
+        return Err(fault(BAD_VALUE, start));
     }
     let entry = read_u32(c)?;
     let prio = read_u8(c)?;
     let at = c.place();
     let is = read_u8(c)?;
     if !is_next(before, number(kind, entry, prio, is)) {
-        return Err(fault(3, start));
+        return Err(fault(BAD_ORDER, start));
     }
     if is > 1 {
-        return Err(fault(4, at));
+        return Err(fault(BAD_VALUE, at));
     }
     Ok(Key {
         kind,
@@ -67,6 +69,9 @@ fn read_key(c: &mut Cursor<'_>, before: &[Node]) -> Result<Key, FormErr>
         is: is == 1,
     })
 }
+
+/// The greatest need of a node, in areas.
+const MOST_NEED: u16 = 4096;
 
 /// Reads the need of a node, at most 4,096 areas.
 #[tactic(auto, unfolding(crate::specs::Grammar::need_at))]
@@ -77,8 +82,8 @@ pub fn read_need(c: &mut Cursor<'_>) -> Result<u16, FormErr>
 {
     let start = c.place();
     let need = read_u16(c)?;
-    if need > 4096 {
-        return Err(fault(5, start));
+    if need > MOST_NEED {
+        return Err(fault(ABOVE_LIMIT, start));
     }
     Ok(need)
 }
@@ -92,8 +97,8 @@ pub fn read_has_exit(c: &mut Cursor<'_>, kind: u8) -> Result<bool, FormErr>
 {
     let start = c.place();
     let exit = read_flag(c)?;
-    if exit && !(kind == 1 || kind == 3) {
-        return Err(fault(4, start));
+    if exit && !(kind == CALL || kind == SYS) {
+        return Err(fault(BAD_VALUE, start));
     }
     Ok(exit)
 }

@@ -45,7 +45,7 @@ fn is_below(point: &Point, addr: u32) -> bool
     point.addr < addr
 }
 
-/// Returns the number of points whose addresses are below.
+/// Returns the number of points whose addresses are below `addr`.
 fn point_place(points: &[Point], addr: u32) -> usize
     requires { ArePoints points.now }
     ensures { IsPartitionPoint (λ p. nat_lt p.addr addr ≡ true)

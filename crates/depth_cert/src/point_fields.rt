@@ -5,11 +5,11 @@ ghost use Rattle.depth_cert.specs.Grammar.{flag_at, locals_at, state_at, address
 ghost use Rattle.depth_cert.specs.Answers.{IsFaultOf};
 ghost use Rattle.depth_cert.specs.Points.{addresses, ArePoints};
 
-use crate::value_fields::{fault, read_flag, read_values};
+use crate::value_fields::{read_flag, read_values};
 use crate::{CertErr, Point};
 use arrayvec::ArrayVec;
 use std::alloc::Global;
-use tcd_base::{Cursor, FormErr, read_u8, read_u32};
+use tcd_base::{ABOVE_LIMIT, BAD_ORDER, Cursor, FormErr, fault, read_u8, read_u32};
 use value_domain::{State, Val};
 
 /// Reads a list of flags: their number, at most 4 in version 1 and 8 in version 2, and each flag.
@@ -24,7 +24,7 @@ pub fn read_locals(c: &mut Cursor<'_>, version: u8) -> Result<ArrayVec<bool, 8>,
     let count = read_u8(c)?;
     let most = if version == 1 { 4 } else { 8 };
     if count > most {
-        return Err(fault(5, start));
+        return Err(fault(ABOVE_LIMIT, start));
     }
     read_flags(c, count)
 }
@@ -94,10 +94,13 @@ fn read_address(c: &mut Cursor<'_>, before: &[Point]) -> Result<u32, FormErr>
     let start = c.place();
     let addr = read_u32(c)?;
     if !is_next(before, addr) {
-        return Err(fault(3, start));
+        return Err(fault(BAD_ORDER, start));
     }
     Ok(addr)
 }
+
+/// The greatest number of points in a certificate.
+const MOST_POINTS: u64 = 65536;
 
 /// Reads the number of a node's points. The nodes before have `used`; all together are at most
 /// 65,536.
@@ -111,8 +114,8 @@ pub fn read_point_count(c: &mut Cursor<'_>, used: usize) -> Result<u32, FormErr>
 {
     let start = c.place();
     let count = read_u32(c)?;
-    if used as u64 + u64::from(count) > 65536 {
-        return Err(fault(5, start));
+    if used as u64 + u64::from(count) > MOST_POINTS {
+        return Err(fault(ABOVE_LIMIT, start));
     }
     Ok(count)
 }

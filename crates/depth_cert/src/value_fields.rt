@@ -6,19 +6,14 @@ ghost use Rattle.std.specs.List.Sorted.{IsStrictlyIncreasing};
 ghost use Rattle.depth_cert.specs.Grammar.{flag_at, word_after, set_at, span_at, value_at, values_at, is_above, is_span};
 
 use arrayvec::ArrayVec;
-use tcd_base::{Cursor, FormErr, read_u8, read_u32};
+use tcd_base::{BAD_VALUE, Cursor, FormErr, fault, read_u8, read_u32};
 use value_domain::{Val, Words, count_of, write_any};
 
-/// Returns a fault of a kind at an offset.
-pub fn fault(kind: u8, at: usize) -> FormErr
-    requires { at ≤ 2 ^ 30 }
-    ensures { result ≡ record { kind = kind; at = at } }
-{
-    FormErr {
-        kind,
-        at: at as u32,
-    }
-}
+/// The first byte of a Span is this plus its step.
+pub(crate) const SPAN: u8 = 240;
+
+/// The first byte of a Span of the greatest step, which is 2.
+const LAST_SPAN: u8 = 242;
 
 /// Reads a flag: a byte 0 or 1. Any other byte is a `BAD_VALUE`.
 #[tactic(auto, unfolding(crate::specs::Grammar::flag_at))]
@@ -30,7 +25,7 @@ pub fn read_flag(c: &mut Cursor<'_>) -> Result<bool, FormErr>
     let at = c.place();
     let byte = read_u8(c)?;
     if byte > 1 {
-        return Err(fault(4, at));
+        return Err(fault(BAD_VALUE, at));
     }
     Ok(byte == 1)
 }
@@ -52,7 +47,7 @@ fn read_word(c: &mut Cursor<'_>, before: &[u32]) -> Result<u32, FormErr>
     let at = c.place();
     let word = read_u32(c)?;
     if !is_next(before, word) {
-        return Err(fault(4, at));
+        return Err(fault(BAD_VALUE, at));
     }
     Ok(word)
 }
@@ -87,7 +82,7 @@ fn read_span(c: &mut Cursor<'_>, version: u8, step: u8, start: usize) -> Result<
     let lo = read_u32(c)?;
     let last = read_u32(c)?;
     if !is_span(version, lo, last, step) {
-        return Err(fault(4, start));
+        return Err(fault(BAD_VALUE, start));
     }
     Ok(Val::Span { lo, last, step })
 }
@@ -119,10 +114,10 @@ pub fn read_value(c: &mut Cursor<'_>, version: u8, out: &mut Val) -> Result<(), 
         *out = read_set(c, byte as usize)?;
         return Ok(());
     }
-    if byte < 240 || byte > 242 {
-        return Err(fault(4, start));
+    if byte < SPAN || byte > LAST_SPAN {
+        return Err(fault(BAD_VALUE, start));
     }
-    *out = read_span(c, version, byte - 240, start)?;
+    *out = read_span(c, version, byte - SPAN, start)?;
     Ok(())
 }
 

@@ -1,7 +1,7 @@
 // Writes the only bytes that spell a certificate.
 ghost use Rattle.std.specs.Prelude.{◌≡◌, ◌≤◌, ◌<◌, ◌+◌, ◌^◌, ◌∷◌, [], ◌++◌, ◌⊎◌, length, map, OnOk, IfSome};
 ghost use Rattle.std.specs.List.{All, flat_map};
-ghost use Rattle.tcd_base.specs.Bytes.{bytes_of_half, bytes_of_word};
+ghost use Rattle.tcd_base.specs.Bytes.{bytes_of_word};
 ghost use Rattle.depth_cert.specs.Keys.{byte_of};
 ghost use Rattle.depth_cert.specs.Spelling.{bytes_of_value, bytes_of_state, bytes_of_point, bytes_of_key, bytes_of_exit, bytes_of_node};
 ghost use Rattle.depth_cert.specs.Nodes.{IsNode};
@@ -9,22 +9,15 @@ ghost use Rattle.depth_cert.specs.Certs.{count_points};
 ghost use Rattle.value_domain.specs.Values.{IsWell};
 ghost use Rattle.value_domain.specs.declared.values.Val.TheVariants.{Set, Span};
 
+use crate::value_fields::SPAN;
 use crate::{Exit, Key, Node, Point};
-use tcd_base::{NoMemory, put_u32};
+use tcd_base::{NoMemory, put_u16, put_u32};
 use value_domain::{State, Val};
 
 fn put_u8(out: &mut Vec<u8>, x: u8) -> Result<(), NoMemory>
     ensures { OnOk result (out.new.items ≡ out.old.items ++ x ∷ []) }
 {
     out.push(x)?;
-    Ok(())
-}
-
-/// Appends the two bytes of a number, the low one first.
-pub fn put_u16(out: &mut Vec<u8>, x: u16) -> Result<(), NoMemory>
-    ensures { OnOk result (out.new.items ≡ out.old.items ++ bytes_of_half x) }
-{
-    out.extend_from_slice(&x.to_le_bytes())?;
     Ok(())
 }
 
@@ -60,7 +53,7 @@ fn write_span(out: &mut Vec<u8>, lo: u32, last: u32, step: u8) -> Result<(), NoM
     if lo == 0 && last == u32::MAX && step == 0 {
         return put_u8(out, 0);
     }
-    put_u8(out, 240 + step)?;
+    put_u8(out, SPAN + step)?;
     put_u32(out, lo)?;
     put_u32(out, last)
 }
