@@ -11,16 +11,19 @@ use arrayvec::ArrayVec;
 /// The place of A10, the stack pointer, among the registers of a state.
 pub const A10_SLOT: usize = 22;
 
-/// What is known before an instruction. `regs` has the values of D0 to D15, A2 to A7, A10 and A12
-/// to A15, in this order. `ie`: interrupts may be enabled. `ccpn`: CCPN is at least this. `lower`:
-/// the lower registers are those of the entry. `locals`: a flag for each lower context that the
-/// frame saved itself and hasn't restored: it holds the lower registers of the entry.
+/// What is known before an instruction.
 #[derive(Drop)]
 pub struct State {
+    /// The values of D0 to D15, A2 to A7, A10 and A12 to A15, in this order.
     pub regs: [Val; 27],
+    /// Interrupts may be enabled.
     pub ie: bool,
+    /// CCPN is at least this.
     pub ccpn: u8,
+    /// The lower registers are those of the entry.
     pub lower: bool,
+    /// A flag for each lower context that the frame saved itself and hasn't restored: it holds the
+    /// lower registers of the entry.
     pub locals: ArrayVec<bool, 8>,
 }
 
