@@ -7,13 +7,14 @@ ghost use Rattle.depth_cert.specs.Points.{ArePoints, find_point};
 use crate::{Exit, Key, Point};
 use std::marker::Model;
 
-/// A kind of frame: the greatest number of save areas that it needs, its exit, and its points by
-/// ascending address.
+/// A kind of frame with its points.
 #[derive(Drop)]
 pub struct Node {
     pub key: Key,
+    /// The greatest number of save areas in use that the frame adds to those at its entry.
     pub need: u16,
     pub exit: Option<Exit>,
+    /// By ascending address.
     pub points: Vec<Point>,
 }
 

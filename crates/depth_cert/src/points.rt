@@ -1,12 +1,14 @@
 // Points of a frame, and its exit.
 use value_domain::{State, Val};
 
-/// What is known after a call or a system call has returned: whether interrupts may be enabled, a
-/// lower bound of CCPN, and the values of the lower registers D0..D7, A2..A7.
+/// What is known after a call or a system call has returned.
 #[derive(Drop)]
 pub struct Exit {
+    /// Interrupts may be enabled.
     pub ie: bool,
+    /// CCPN is at least this.
     pub ccpn: u8,
+    /// The values of the lower registers D0 to D7 and A2 to A7.
     pub lower: [Val; 14],
 }
 
