@@ -1,4 +1,4 @@
--- What is spelled is read back.
+-- Reading the spelling of an object gives the object.
 use Rattle.std.proofs.Common.{◌≡◌, ℕ, suc, ◌+◌, ◌<◌, ◌≤◌, ◌^◌, List, [], ◌∷◌, ◌++◌, length, Bool, true, not, cond, Option, Some, None, Result, Ok, Err, refl, ap, ◌∙◌, arith, append_assoc, eqb, ◌&&◌}
 use Rattle.std.proofs.lemmas.List.{append-nil}
 use Rattle.std.proofs.lemmas.Bool.{le-leb, lt-ltb}
@@ -15,11 +15,11 @@ use Rattle.tc_object.specs.Objects.{SectionData, SymbolData, ObjectData, InTurn,
 use Rattle.tc_object.specs.Grammar.{name_length_at, name_bytes_at, name_after, section_after, section_with, kind_at, symbol_section_at, symbol_offset_at, symbol_after, symbol_with, symbol_named, reloc_section_at, reloc_offset_at, reloc_symbol_at, reloc_after, magic_at, section_count_at, parts_at, object_at, object_of}
 use Rattle.tc_object.specs.Spelling.{bytes_of_name, bytes_of_section, bytes_of_symbol, bytes_of_reloc, bytes_of_header, bytes_of}
 
--- a reading that goes well, and what follows it
+-- a successful reading, and what follows it
 pub then_ok : {A B : Type 0} (r : Result A FormErr) (f : A → Result B FormErr) (x : A) (y : Result B FormErr) → r ≡ Ok x → f x ≡ y → r >>= f ≡ y
 then_ok {A} r f x y h k = ap (λ (v : Result A FormErr). v >>= f) h ∙ k
 
--- a test that holds lets the value pass
+-- a test that holds passes the value on
 checked_ok : {A : Type 0} (good : Bool) (x : A) (e : FormErr) → good ≡ true → cond {A = Result A FormErr} good (Ok x) (Err e) ≡ Ok x
 checked_ok good x e h = rw h refl
 
@@ -76,7 +76,7 @@ symbol_back sections before s good front rest =
     simp append_assoc (simp append_assoc at inner)
 
 -- ---- relocations
--- a place behind another isn't in a section below
+-- a place after another isn't in a lower section
 not_below_of_behind : (last : Option Reloc) (section offset : ℕ) → is_behind last section offset ≡ true → is_not_below last section ≡ true
 not_below_of_behind None section offset h = refl
 not_below_of_behind (Some r) section offset h = le-leb r.section section (grind (arith, nat_tests))

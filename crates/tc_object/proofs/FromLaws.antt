@@ -1,4 +1,4 @@
--- What the grammar gives: an object that keeps its limits, of which the bytes are the spelling.
+-- What is read keeps the limits of objects, and the bytes are its spelling.
 use Rattle.std.proofs.Common.{◌≡◌, ℕ, ◌+◌, ◌<◌, ◌≤◌, ◌^◌, List, [], ◌∷◌, ◌++◌, length, get_or, take, Bool, true, false, not, Result, Ok, refl, sym, ap, ◌∙◌, subst, arith, append_assoc, length-append, leb, ltb, eqb, ◌&&◌}
 use Rattle.std.proofs.lemmas.Bool.{leb-true, ltb-true, eqb-true, and_parts}
 use Rattle.std.proofs.lemmas.List.{append-nil, length-take-le}
@@ -16,21 +16,21 @@ use Rattle.tc_object.specs.Grammar.{checked, name_length_at, name_bytes_at, name
 use Rattle.tc_object.specs.Spelling.{bytes_of_name, bytes_of_section, bytes_of_symbol, bytes_of_reloc, bytes_of_header, bytes_of}
 use Rattle.tcd_base.proofs.PassedLaws.{AreBytes, bytes_from, Passed, passed_bytes, passed_both, ok_pair, passed_test, took_passed, byte_passed, half_passed, word_passed, many_passed}
 
--- the reading that follows stands after the part
+-- the next reading starts after the part
 next : {A : Type 0} {part front rest : List ℕ} {q : Place} (read : Place → Result A FormErr) (y : Result A FormErr) (h : Passed part front rest q) → read q ≡ y → read (place_between (front ++ part) h.after) ≡ y
 next read y h e = ap read (sym h.at) ∙ e
 
--- the same bytes, and the same place
+-- equal parts end at equal places
 passed_as : {a b front rest : List ℕ} {p q : Place} → a ≡ b → p ≡ q → Passed a front rest p → Passed b front rest q
 passed_as {a} {b} {front} {rest} {p} {q} e f h = subst (λ (r : Place). Passed b front rest r) f (subst (λ (l : List ℕ). Passed l front rest p) e h)
 
--- good in turn, and one more
-turn_push : {A : Type 0} (good : List A → A → Type 0) (before xs : List A) (x : A) → InTurn good before xs → good (before ++ xs) x → InTurn good before (xs ++ x ∷ [])
+-- if items have a property in turn, so does the list with the next item
+pub turn_push : {A : Type 0} (good : List A → A → Type 0) (before xs : List A) (x : A) → InTurn good before xs → good (before ++ xs) x → InTurn good before (xs ++ x ∷ [])
 turn_push good before [] x h g = (subst (λ (l : List _). good l x) (append-nil before) g, tt)
 turn_push good before (y ∷ ys) x h g = (h.0, turn_push good (before ++ y ∷ []) ys x h.1 (subst (λ (l : List _). good l x) (sym (append_assoc before (y ∷ []) ys)) g))
 
 -- ---- fields
--- n bytes as they stand
+-- n bytes are read unchanged
 bytes_passed : (n : ℕ) (front rest xs : List ℕ) (q : Place) → bytes_at n (place_between front rest) ≡ Ok (xs, q) → Passed xs front rest q × (length xs ≡ n)
 bytes_passed n front rest xs q e =
     let t = bytes_at_ok n (place_between front rest) xs q e in
@@ -206,7 +206,7 @@ reloc_passed sections symbols before front rest r q bytes good e =
     )
 
 -- ---- objects
--- many items, from none on
+-- many items, from an empty list on
 all_passed : {A : Type 0} (item : List A → Place → Result (A × Place) FormErr) (spell : A → List ℕ) (Good : List A → Type 0)
     → ((before : List A) (front rest : List ℕ) (x : A) (q : Place) → AreBytes rest → Good before → item before (place_between front rest) ≡ Ok (x, q) → Passed (spell x) front rest q × Good (before ++ x ∷ []))
     → (n : ℕ) (xs : List A) (front rest : List ℕ) (q : Place) → AreBytes rest → Good [] → many_at item n [] (place_between front rest) ≡ Ok (xs, q) → Passed (flat_map spell xs) front rest q × (n ≡ length xs) × Good xs

@@ -1,4 +1,4 @@
--- What stands in a fixed number of bytes, read at once: a relocation, and what follows a symbol's name.
+-- A record of fixed size, read at once: a relocation, and the part of a symbol after its name.
 use Rattle.std.proofs.Common.{◌≡◌, ◌+◌, ◌<◌, ◌≤◌, ℕ, List, length, take, drop, get_or, Bool, true, false, ◌&&◌, Result, Ok, Err, refl, sym, ap, ◌∙◌, arith}
 use Rattle.std.specs.Prelude.{nat_le, nat_lt, Option, Some, None, IsSome, ◌↔◌}
 use Rattle.std.proofs.lemmas.Bool.{le-leb}
@@ -50,7 +50,7 @@ unfolding u32_at
 word_here p n x h e f = rw (e, f) (chosen _ _ _ (le-leb _ _ h))
 
 -- ---- tests, and what follows them
--- a value where there is no fault
+-- the value, if there is no fault
 abbrev pub told : {A : Type 0} → Option FormErr → A → Result A FormErr
 told None x = Ok x
 told (Some e) x = Err e
@@ -121,7 +121,7 @@ end_then : {B : Type 0} (sections : List SectionData) (kind section : ℕ) (p : 
 unfolding symbol_offset_at
 end_then sections kind section p n x f next y h k = rw h (one_test (is_offset_of sections kind section x) 4 p (x, further p n) f next y k)
 
--- a symbol of which the bytes behind the name are there
+-- a symbol whose bytes after the name are all there
 pub whole_symbol : (sections : List SectionData) (name : List ℕ) (p : Place) → p.place + 7 ≤ length p.bytes
     → symbol_named sections name p
     ≡ told (symbol_fault sections (symbol_in name (take 7 (drop p.place p.bytes))) p.place) (symbol_in name (take 7 (drop p.place p.bytes)), further p (p.place + 7))
@@ -135,18 +135,18 @@ whole_symbol sections name p h =
     (place_then sections s.kind (further p (p.place + 1)) (p.place + 3) s.section _ _ _ e1
     (end_then sections s.kind s.section (further p (p.place + 3)) (p.place + 7) s.offset _ _ _ e2 refl))
 
--- ---- what a test of the fields tells
--- bytes that were taken are there
+-- ---- a test of the fields, and the reading
+-- a successful take means that the bytes are there
 pub taken : {A : Type 0} (r : Option A) (x : A) (P : Type 0) → (IsSome r ↔ P) → r ≡ Some x → P
 taken (Some y) x P h e = h.0 refl
 taken None x P h e = cc
 
--- no fault of what the bytes hold: it was read
+-- if the record has no fault, the reading gives it
 pub none_told : {A : Type 0} (read : Result (A × Place) FormErr) (fault : A → ℕ → Option FormErr) (x y : A) (i j : ℕ) (p q : Place) → read ≡ told (fault x i) (x, p) → y ≡ x → j ≡ i → q ≡ p → fault y j ≡ None → read ≡ Ok (y, q)
 none_told read fault x y i j p q h e f g none =
     h ∙ ap (λ v. told (fault v i) (v, p)) (sym e) ∙ ap (λ v. told (fault y v) (y, p)) (sym f) ∙ ap (λ v. told (fault y j) (y, v)) (sym g) ∙ ap (λ v. told v (y, q)) none
 
--- a fault of what the bytes hold: it is that of the reading
+-- if the record has a fault, the reading gives that fault
 pub fault_told : {A : Type 0} (read : Result (A × Place) FormErr) (fault : A → ℕ → Option FormErr) (x y : A) (i j : ℕ) (p : Place) (e : FormErr) → read ≡ told (fault x i) (x, p) → y ≡ x → j ≡ i → fault y j ≡ Some e → read ≡ Err e
 fault_told read fault x y i j p e h s f is =
     h ∙ ap (λ v. told (fault v i) (x, p)) (sym s) ∙ ap (λ v. told (fault y v) (x, p)) (sym f) ∙ ap (λ v. told v (x, p)) is

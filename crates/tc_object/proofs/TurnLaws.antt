@@ -1,4 +1,4 @@
--- What holds of each item that is good in turn.
+-- What follows for each item of a list that is valid in turn.
 use Rattle.std.proofs.Common.{◌<◌, ◌≤◌, ◌^◌, zero, suc, List, [], ◌∷◌, ◌++◌, length, arith}
 use Rattle.std.specs.List.{All}
 use Rattle.tc_object.specs.Objects.{SectionData, SymbolData, InTurn, IsSection, IsSymbol}

@@ -1,14 +1,15 @@
--- The first fault of what stands in a fixed number of bytes, at the place where the field stands.
+-- The first fault of a record of fixed size, at the byte offset of the field that has it.
 use Rattle.std.specs.Prelude.{◌+◌, ◌&&◌, nat_lt, nat_le, if◌then◌else◌, ℕ, Bool, List, length, Option, Some, None}
 use Rattle.tcd_base.specs.declared.errors.FormErr.{FormErr}
 use Rattle.tc_object.specs.declared.relocs.Reloc.{Reloc}
 use Rattle.tc_object.specs.Objects.{SectionData, SymbolData, is_section_of, is_offset_of, last_of, is_not_below, is_behind, size_at}
 
--- a fault of this kind at the place where something isn't so, else the next one
+-- if the test fails, the fault of this kind at this offset, else the next one
 abbrev pub unless_good : Bool → ℕ → ℕ → Option FormErr → Option FormErr
 unless_good good kind at next = if good then next else Some (record { kind = kind; at = at })
 
--- a relocation behind others: its section, offset, kind and symbol, which stand at 0, 2, 6 and 7 from its start on
+-- the first fault of a relocation: its section, offset, kind and symbol are at 0, 2, 6 and 7 from
+-- its start
 unfoldable pub reloc_fault : List SectionData → ℕ → List Reloc → Reloc → ℕ → Option FormErr
 reloc_fault sections symbols before r start =
     unless_good (is_not_below (last_of before) r.section) 3 start
@@ -18,7 +19,8 @@ reloc_fault sections symbols before r start =
     (unless_good (nat_le 1 r.kind && nat_le r.kind 7) 4 (start + 6)
     (unless_good (nat_lt r.symbol symbols) 4 (start + 7) None)))))
 
--- a symbol: its kind, section and offset, which stand at 0, 1 and 3 from the end of its name on
+-- the first fault of a symbol: its kind, section and offset are at 0, 1 and 3 from the end of its
+-- name
 unfoldable pub symbol_fault : List SectionData → SymbolData → ℕ → Option FormErr
 symbol_fault sections s start =
     unless_good (nat_le 0 s.kind && nat_le s.kind 2) 4 start

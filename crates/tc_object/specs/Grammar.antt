@@ -1,5 +1,5 @@
--- The grammar of object files: fields read from left to right, and the first fault. Its kinds are 1 Short (of every
--- field), 2 Magic, 3 Order, 4 BadValue, 5 Limit, 6 Trailing.
+-- The grammar of object files: fields read from left to right, and the first fault.
+-- Kinds of faults: 1 Short (any field), 2 Magic, 3 Order, 4 BadValue, 5 Limit, 6 Trailing.
 use Rattle.std.specs.Prelude.{◌+◌, ◌==◌, ◌&&◌, not, nat_lt, nat_le, if◌then◌else◌, ℕ, Bool, List, [], length, Result, Ok}
 use Rattle.tcd_base.specs.declared.errors.FormErr.{FormErr}
 use Rattle.tcd_base.specs.Place.{Place}
@@ -9,7 +9,7 @@ use Rattle.tc_object.specs.Names.{is_length, is_name}
 use Rattle.tc_object.specs.Objects.{SectionData, SymbolData, ObjectData, is_section_name, is_symbol_name, size_at, is_section_of, is_offset_of, last_of, is_not_below, is_behind}
 
 -- ---- fields
--- a value that a field may have, or a fault of this kind at the place
+-- the value if the test holds, else the fault of this kind at this place
 abbrev pub checked : {A : Type 0} → ℕ → Bool → Place → A × Place → Result (A × Place) FormErr
 checked kind good p x = if good then Ok x else fault_at kind p
 
@@ -22,7 +22,7 @@ name_length_at p = u8_at p >>= λ n. checked 4 (is_length n.0) p n
 unfoldable pub name_bytes_at : ℕ → Place → Result (List ℕ × Place) FormErr
 name_bytes_at n p = bytes_at n p >>= λ name. checked 4 (is_name name.0) p name
 
--- a name that isn't used yet
+-- a name that isn't used yet; the fault of a used one is at its bytes
 unfoldable pub name_after : (List ℕ → Bool) → Place → Result (List ℕ × Place) FormErr
 name_after is_used p = name_length_at p >>= λ n. name_bytes_at n.0 n.1 >>= λ name. checked 4 (not (is_used name.0)) n.1 name
 
@@ -32,7 +32,7 @@ unfoldable pub section_with : (List ℕ → Bool) → Place → Result (SectionD
 section_with is_used p =
     name_after is_used p >>= λ name. u32_at name.1 >>= λ len. bytes_at len.0 len.1 >>= λ bytes. Ok (record { name = name.0; bytes = bytes.0 }, bytes.1)
 
--- a section behind those before, of which none has its name
+-- a section after these, with a name that none of them has
 unfoldable pub section_after : List SectionData → Place → Result (SectionData × Place) FormErr
 section_after before p = section_with (is_section_name before) p
 
@@ -41,11 +41,11 @@ section_after before p = section_with (is_section_name before) p
 unfoldable pub kind_at : ℕ → ℕ → Place → Result (ℕ × Place) FormErr
 kind_at low high p = u8_at p >>= λ k. checked 4 (nat_le low k.0 && nat_le k.0 high) p k
 
--- a symbol's section: 0 where it's undefined, else the number of one that is there
+-- a symbol's section: 0 if it is undefined, else the number of a section of the object
 unfoldable pub symbol_section_at : List SectionData → ℕ → Place → Result (ℕ × Place) FormErr
 symbol_section_at sections kind p = u16_at p >>= λ s. checked 4 (is_section_of sections kind s.0) p s
 
--- a symbol's offset: 0 where it's undefined, else within its section or at its end
+-- a symbol's offset: 0 if it is undefined, else within its section or at its end
 unfoldable pub symbol_offset_at : List SectionData → ℕ → ℕ → Place → Result (ℕ × Place) FormErr
 symbol_offset_at sections kind section p = u32_at p >>= λ o. checked 4 (is_offset_of sections kind section o.0) p o
 
@@ -60,26 +60,26 @@ symbol_named sections name p =
 unfoldable pub symbol_with : List SectionData → (List ℕ → Bool) → Place → Result (SymbolData × Place) FormErr
 symbol_with sections is_used p = name_after is_used p >>= λ name. symbol_named sections name.0 name.1
 
--- a symbol behind those before, of which none has its name
+-- a symbol after these, with a name that none of them has
 unfoldable pub symbol_after : List SectionData → List SymbolData → Place → Result (SymbolData × Place) FormErr
 symbol_after sections before p = symbol_with sections (is_symbol_name before) p
 
 -- ---- relocations
--- a section below that of the relocation before is out of order, whatever the offset
+-- a section below that of the last relocation is out of order, whatever the offset
 unfoldable pub reloc_section_at : List SectionData → List Reloc → Place → Result (ℕ × Place) FormErr
 reloc_section_at sections before p =
     u16_at p >>= λ s. checked 3 (is_not_below (last_of before) s.0) p s >>= λ s. checked 4 (nat_lt s.0 (length sections)) p s
 
--- an offset in the section whose field is at start, where an offset out of order is told
+-- an offset in a section; the fault of a wrong order is at start, the relocation's section field
 unfoldable pub reloc_offset_at : List SectionData → List Reloc → ℕ → Place → Place → Result (ℕ × Place) FormErr
 reloc_offset_at sections before section start p =
     u32_at p >>= λ o. checked 3 (is_behind (last_of before) section o.0) start o >>= λ o. checked 4 (nat_le (o.0 + 4) (size_at sections section)) p o
 
--- the number of a relocation's symbol, of so many symbols
+-- a symbol's number, below the number of symbols
 unfoldable pub reloc_symbol_at : ℕ → Place → Result (ℕ × Place) FormErr
 reloc_symbol_at symbols p = u16_at p >>= λ s. checked 4 (nat_lt s.0 symbols) p s
 
--- a relocation behind those before: section, offset, kind, symbol and addend
+-- a relocation after these: section, offset, kind, symbol and addend
 unfoldable pub reloc_after : List SectionData → ℕ → List Reloc → Place → Result (Reloc × Place) FormErr
 reloc_after sections symbols before p =
     reloc_section_at sections before p >>= λ section. reloc_offset_at sections before section.0 p section.1 >>= λ offset. kind_at 1 7 offset.1 >>= λ kind.
@@ -101,7 +101,7 @@ parts_at n m k p =
     many_at section_after n [] p >>= λ sections. many_at (symbol_after sections.0) m [] sections.1 >>= λ symbols. many_at (reloc_after sections.0 m) k [] symbols.1 >>= λ relocs.
     Ok (record { sections = sections.0; symbols = symbols.0; relocs = relocs.0 }, relocs.1)
 
--- an object: the magic bytes, the numbers of sections, symbols and relocations, and these
+-- an object: the magic bytes, the numbers of sections, symbols and relocations, and all of them
 unfoldable pub object_at : Place → Result (ObjectData × Place) FormErr
 object_at p =
     magic_at p >>= λ magic. section_count_at magic.1 >>= λ n. u16_at n.1 >>= λ m. u16_at m.1 >>= λ k. parts_at n.0 m.0 k.0 k.1

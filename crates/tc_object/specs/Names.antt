@@ -4,15 +4,15 @@ use Rattle.std.specs.List.{list_all}
 use Rattle.std.specs.Bool.{then_some}
 use Rattle.tcd_base.specs.NameBytes.{is_name_byte, is_name_first}
 
--- the bytes of a name, which doesn't begin with a digit
+-- the bytes may stand in a name, and the first is no digit
 abbrev pub is_name : List ℕ → Bool
 is_name bs = not (length bs == 0) && (is_name_first (slice_index bs 0) && list_all is_name_byte bs)
 
--- how many bytes a name may have
+-- the number of bytes that a name may have
 abbrev pub is_length : ℕ → Bool
 is_length n = nat_le 1 n && nat_le n 64
 
--- the name that these bytes are
+-- the bytes as a name, if they are one
 abbrev pub name_of : List ℕ → Option (List ℕ)
 name_of bs = then_some (is_length (length bs) && is_name bs) bs
 

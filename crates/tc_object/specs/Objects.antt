@@ -1,11 +1,11 @@
--- Objects as plain data, and what they keep.
+-- Objects as plain data, and the invariant of objects.
 use Rattle.std.specs.Prelude.{◌≡◌, ◌≤◌, ◌<◌, ◌+◌, ◌-◌, ◌^◌, ◌==◌, ◌&&◌, ◌||◌, nat_lt, nat_le, if◌then◌else◌, ℕ, Bool, true, List, [], ◌∷◌, ◌++◌, length, slice_get, Option, Some, None}
 use Rattle.tc_object.specs.declared.relocs.Reloc.{Reloc}
 use Rattle.std.specs.List.{list_any}
 use Rattle.std.specs.Str.{bytes_eq}
 use Rattle.tc_object.specs.Names.{IsName}
 
--- the kind of symbols that are used and not defined here
+-- the kind of symbols that are used here and defined in another object
 abbrev pub undefined_symbol : ℕ
 undefined_symbol = 0
 
@@ -22,57 +22,58 @@ pub record SectionData : Type 0 where
   pub name : List ℕ
   pub bytes : List ℕ
 
--- kind 0 is undefined, 1 local, 2 global; a section's number and an offset in it
+-- a symbol: its name, its kind, the number of its section, and its offset there
 pub record SymbolData : Type 0 where
   pub name : List ℕ
   pub kind : ℕ
   pub section : ℕ
   pub offset : ℕ
 
--- an object: its sections, symbols and relocations, each in their order
+-- an object: its sections, symbols and relocations, in the order of the file
 pub record ObjectData : Type 0 where
   pub sections : List SectionData
   pub symbols : List SymbolData
   pub relocs : List Reloc
 
--- one of the sections has the name
+-- some section has the name
 abbrev pub is_section_name : List SectionData → List ℕ → Bool
 is_section_name ss name = list_any (λ s. bytes_eq name s.name) ss
 
--- one of the symbols has the name
+-- some symbol has the name
 abbrev pub is_symbol_name : List SymbolData → List ℕ → Bool
 is_symbol_name ss name = list_any (λ s. bytes_eq name s.name) ss
 
--- each item is good in the light of those before it
+-- each item has the property, given the items before it
 abbrev pub InTurn : {A : Type 0} → (List A → A → Type 0) → List A → List A → Type 0
 InTurn good before [] = Unit {0}
 InTurn good before (x ∷ xs) = good before x × InTurn good (before ++ x ∷ []) xs
 
 -- ---- sections
--- a section with a name that none before it has, and a length that is a word
+-- a section whose name no earlier section has, and whose length fits 32 bits
 pub record IsSection (before : List SectionData) (s : SectionData) : Type 0 where
   pub name : IsName (is_section_name before) s.name
   pub small : length s.bytes < 2 ^ 32
 
--- the length of a section, and 0 where there is none
+-- the length of a section, and 0 if there is none
 abbrev pub size_of : Option SectionData → ℕ
 size_of None = 0
 size_of (Some s) = length s.bytes
 
--- the length of a section
+-- the length of the section with this number
 abbrev pub size_at : List SectionData → ℕ → ℕ
 size_at ss n = size_of (slice_get ss n)
 
 -- ---- symbols
--- the section of an undefined symbol is 0, that of a defined one is there
+-- the section of an undefined symbol is 0, that of a defined symbol is one of the object's
 abbrev pub is_section_of : List SectionData → ℕ → ℕ → Bool
 is_section_of ss kind section = if kind == undefined_symbol then section == 0 else nat_lt section (length ss)
 
--- the offset of an undefined symbol is 0, that of a defined one is within its section or at its end
+-- the offset of an undefined symbol is 0, that of a defined symbol is at most its section's length
 abbrev pub is_offset_of : List SectionData → ℕ → ℕ → ℕ → Bool
 is_offset_of ss kind section offset = if kind == undefined_symbol then offset == 0 else nat_le offset (size_at ss section)
 
--- a symbol with a name that none before it has, of a known kind, that stands in a section, or nowhere if undefined
+-- a symbol of a known kind, with a name that no earlier symbol has; a defined one has a section and
+-- an offset in it
 pub record IsSymbol (sections : List SectionData) (before : List SymbolData) (s : SymbolData) : Type 0 where
   pub name : IsName (is_symbol_name before) s.name
   pub kind : s.kind ≤ global_symbol
@@ -86,17 +87,18 @@ pub record IsSymbol (sections : List SectionData) (before : List SymbolData) (s 
 abbrev pub last_of : List Reloc → Option Reloc
 last_of rs = slice_get rs (length rs - 1)
 
--- a section's number isn't below that of the relocation before, if there is one
+-- a section's number isn't below that of the last relocation, if there is one
 abbrev pub is_not_below : Option Reloc → ℕ → Bool
 is_not_below None section = true
 is_not_below (Some r) section = nat_le r.section section
 
--- a place is behind that of the relocation before: in a later section, or further on in the same
+-- a place comes after that of the last relocation: in a later section, or at a greater offset
 abbrev pub is_behind : Option Reloc → ℕ → ℕ → Bool
 is_behind None section offset = true
 is_behind (Some r) section offset = nat_lt r.section section || (r.section == section && nat_lt r.offset offset)
 
--- a relocation of a known kind, behind those before it: four bytes of a section, and the number of a symbol
+-- a relocation of a known kind, after the earlier ones: four bytes of a section, and a symbol's
+-- number
 pub record IsReloc (sections : List SectionData) (symbols : ℕ) (before : List Reloc) (r : Reloc) : Type 0 where
   pub section : r.section < length sections
   pub behind : is_behind (last_of before) r.section r.offset ≡ true
@@ -109,7 +111,7 @@ pub record IsReloc (sections : List SectionData) (symbols : ℕ) (before : List 
   pub addend : r.addend < 2 ^ 32
 
 -- ---- objects
--- at most 64 sections, and 65,535 symbols and relocations, each good in the light of those before it
+-- at most 64 sections, 65,535 symbols and 65,535 relocations, each valid given the earlier ones
 pub record IsObject (o : ObjectData) : Type 0 where
   pub few_sections : length o.sections ≤ 64
   pub few_symbols : length o.symbols < 2 ^ 16

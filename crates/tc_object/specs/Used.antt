@@ -1,4 +1,4 @@
--- Names in a map, as a test.
+-- The used names, as a map's test.
 use Rattle.std.specs.Prelude.{ℕ, Bool, List, is_some}
 use Rattle.std.specs.Borrow.{Bor}
 use Rattle.std.specs.HashMap.{HashMap, get_by}

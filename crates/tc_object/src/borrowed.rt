@@ -1,4 +1,4 @@
-// Objects whose names and bytes stay where they lie.
+// Objects that borrow their names and bytes.
 ghost use Rattle.std.specs.Prelude.{◌≡◌, IfOk};
 
 use crate::reading::read_parts;
@@ -7,11 +7,14 @@ use std::alloc::Global;
 use std::marker::Model;
 use tcd_base::NoMemory;
 
-/// An object whose names and bytes stay where they lie: in another object, or in the bytes that spell it.
+/// An object that borrows its names and bytes, from another object or from the bytes of a file.
 #[derive(Drop)]
 pub struct ObjectRef<'a> {
+    /// The sections, at most 64.
     pub sections: Vec<SectionRef<'a>>,
+    /// The symbols, at most 65,535.
     pub symbols: Vec<SymbolRef<'a>>,
+    /// The relocations, at most 65,535, in ascending order of section and offset.
     pub relocs: Vec<Reloc>,
 }
 
@@ -37,7 +40,7 @@ impl<'a> ObjectRef<'a> {
         ensures ok { IfOk result (λ o. object_of bytes.now ≡ Ok o) }
         ensures err { IfErr result (IsFaultOf (object_of bytes.now)) }
 
-        // An object has one spelling.
+        // each object has exactly one spelling
         ensures one { IfOk result (λ o. bytes_of o ≡ bytes.now) }
     {
         let parts = read_parts(alloc, bytes)?;
@@ -48,7 +51,7 @@ impl<'a> ObjectRef<'a> {
         })
     }
 
-    /// An object in its place.
+    /// Borrows an object.
     pub fn of(alloc: Global, object: &'a Object) -> Result<ObjectRef<'a>, NoMemory>
         ensures { IfOk result (λ o. o ≡ object.now) }
     {
@@ -62,7 +65,7 @@ impl<'a> ObjectRef<'a> {
         })
     }
 
-    /// The object, with names and bytes of its own.
+    /// Copies the names and bytes into an object that owns them.
     pub(crate) fn into_object(self, alloc: Global) -> Result<Object, NoMemory>
         ensures { IfOk result (λ o. o ≡ self.entry) }
     {
@@ -81,7 +84,7 @@ impl<'a> ObjectRef<'a> {
     }
 }
 
-// Sections in their places.
+// Borrows each section.
 fn borrow_sections(alloc: Global, sections: &[Section]) -> Result<Vec<SectionRef<'_>>, NoMemory>
     ensures { IfOk result (λ parts. parts.items ≡ sections.now) }
 {
@@ -95,7 +98,7 @@ fn borrow_sections(alloc: Global, sections: &[Section]) -> Result<Vec<SectionRef
     Ok(parts)
 }
 
-// Symbols in their places.
+// Borrows each symbol.
 fn borrow_symbols(alloc: Global, symbols: &[Symbol]) -> Result<Vec<SymbolRef<'_>>, NoMemory>
     ensures { IfOk result (λ parts. parts.items ≡ symbols.now) }
 {
@@ -111,7 +114,7 @@ fn borrow_symbols(alloc: Global, symbols: &[Symbol]) -> Result<Vec<SymbolRef<'_>
     Ok(parts)
 }
 
-// Copies of sections.
+// Copies the names and bytes of each section.
 fn copy_sections(alloc: Global, sections: &[SectionRef<'_>]) -> Result<Vec<Section>, NoMemory>
     ensures { IfOk result (λ copies. copies.items ≡ sections.now) }
 {
@@ -124,7 +127,7 @@ fn copy_sections(alloc: Global, sections: &[SectionRef<'_>]) -> Result<Vec<Secti
     Ok(copies)
 }
 
-// Copies of symbols.
+// Copies the name of each symbol.
 fn copy_symbols(alloc: Global, symbols: &[SymbolRef<'_>]) -> Result<Vec<Symbol>, NoMemory>
     ensures { IfOk result (λ copies. copies.items ≡ symbols.now) }
 {

@@ -1,14 +1,16 @@
-// Why there is no object.
+// Why no object was read or written.
 ghost use Rattle.std.specs.Prelude.{◌≡◌};
 ghost use Rattle.tc_object.specs.declared.errors.ObjErr.TheVariants.{Bad, NoMemory};
 
 use std::alloc::{AllocError, AllocFailed};
 use tcd_base::FormErr;
 
-/// Why there is no object: the first fault of the bytes, or want of memory.
+/// Why there is no object: the first fault of the bytes, or out of memory.
 #[derive(Clone, Copy, Debug, PartialEq, Eq)]
 pub enum ObjErr {
+    /// The first fault of the file, with its kind and byte offset.
     Bad(FormErr),
+    /// Out of memory.
     NoMemory,
 }
 

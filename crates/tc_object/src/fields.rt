@@ -1,11 +1,32 @@
-// Fields of object files, read.
+// Readers of single fields of an object file.
 ghost use Rattle.std.specs.Prelude.{◌≡◌, ◌≤◌, ◌^◌, ◌&&◌, nat_le, length};
 ghost use Rattle.tcd_base.specs.Reading.{Reads};
 ghost use Rattle.tc_object.specs.Grammar.{magic_at, section_count_at, kind_at};
 
 use tcd_base::{Cursor, FormErr, read_u8, read_u16, read_u32};
 
-/// A fault of a kind at a place.
+/// The kind of fault: the file doesn't begin with the magic bytes.
+pub(crate) const BAD_MAGIC: u8 = 2;
+
+/// The kind of fault: a relocation isn't after the last one.
+pub(crate) const BAD_ORDER: u8 = 3;
+
+/// The kind of fault: a value that the field can't have.
+pub(crate) const BAD_VALUE: u8 = 4;
+
+/// The kind of fault: more items than an object may have.
+pub(crate) const PAST_LIMIT: u8 = 5;
+
+/// The kind of fault: bytes after the object.
+pub(crate) const TRAILING_BYTES: u8 = 6;
+
+/// The magic bytes 54 43 4F 31 ("TCO1") as a little-endian word.
+pub(crate) const MAGIC: u32 = 0x314f_4354;
+
+/// The most sections of an object.
+const MOST_SECTIONS: u16 = 64;
+
+/// The fault of this kind at a byte offset of the file.
 pub(crate) fn fault(kind: u8, at: usize) -> FormErr
     requires { at ≤ 2 ^ 30 }
     ensures { result ≡ record { kind = kind; at = at } }
@@ -16,7 +37,7 @@ pub(crate) fn fault(kind: u8, at: usize) -> FormErr
     }
 }
 
-/// The bytes 54 43 4F 31.
+/// Reads the magic bytes 54 43 4F 31 ("TCO1").
 #[tactic(auto, unfolding(crate::specs::Grammar::magic_at))]
 pub(crate) fn read_magic(c: &mut Cursor<'_>) -> Result<u32, FormErr>
     requires { length c.old.bytes ≤ 2 ^ 30 }
@@ -25,13 +46,13 @@ pub(crate) fn read_magic(c: &mut Cursor<'_>) -> Result<u32, FormErr>
 {
     let start = c.place();
     let magic = read_u32(c)?;
-    if magic != 0x314f_4354 {
-        return Err(fault(2, start));
+    if magic != MAGIC {
+        return Err(fault(BAD_MAGIC, start));
     }
     Ok(magic)
 }
 
-/// How many sections: at most 64.
+/// Reads the number of sections, at most 64.
 #[tactic(auto, unfolding(crate::specs::Grammar::section_count_at))]
 pub(crate) fn read_section_count(c: &mut Cursor<'_>) -> Result<u16, FormErr>
     requires { length c.old.bytes ≤ 2 ^ 30 }
@@ -40,20 +61,20 @@ pub(crate) fn read_section_count(c: &mut Cursor<'_>) -> Result<u16, FormErr>
 {
     let start = c.place();
     let count = read_u16(c)?;
-    if count > 64 {
-        return Err(fault(5, start));
+    if count > MOST_SECTIONS {
+        return Err(fault(PAST_LIMIT, start));
     }
     Ok(count)
 }
 
-/// Whether a kind is one from `low` to `high`.
+/// Whether `kind` is in `low..=high`.
 pub(crate) fn is_kind(low: u8, high: u8, kind: u8) -> bool
     ensures { result ≡ (nat_le low kind && nat_le kind high) }
 {
     low <= kind && kind <= high
 }
 
-/// A kind from `low` to `high`.
+/// Reads a kind, which must be in `low..=high`.
 #[tactic(auto, unfolding(crate::specs::Grammar::kind_at))]
 pub(crate) fn read_kind(c: &mut Cursor<'_>, low: u8, high: u8) -> Result<u8, FormErr>
     requires { length c.old.bytes ≤ 2 ^ 30 }
@@ -65,6 +86,6 @@ pub(crate) fn read_kind(c: &mut Cursor<'_>, low: u8, high: u8) -> Result<u8, For
     if is_kind(low, high, kind) {
         Ok(kind)
     } else {
-        Err(fault(4, start))
+        Err(fault(BAD_VALUE, start))
     }
 }

@@ -22,4 +22,4 @@ pub use names::name_of;
 pub use objects::Object;
 pub use relocs::Reloc;
 pub use sections::{Section, SectionRef};
-pub use symbols::{Symbol, SymbolRef};
+pub use symbols::{GLOBAL_SYMBOL, LOCAL_SYMBOL, Symbol, SymbolRef, UNDEFINED_SYMBOL};

@@ -1,21 +1,21 @@
-// Names of sections and symbols.
+// Names of sections and symbols: which bytes are one, and readers of them.
 ghost use Rattle.std.specs.Prelude.{◌≡◌, ◌≤◌, ◌^◌, length, true, Err, IfOk, IfErr, MatchResult};
 ghost use Rattle.tcd_base.specs.Reading.{Reads};
 ghost use Rattle.std.specs.Option.{option_copied};
 ghost use Rattle.tc_object.specs.Names.{is_name, name_of};
 ghost use Rattle.tc_object.specs.Grammar.{name_length_at, name_bytes_at};
 
-use crate::fields::fault;
+use crate::fields::{BAD_VALUE, fault};
 use tcd_base::{Cursor, FormErr, are_name_bytes, is_name_first, read_bytes, read_u8};
 
-/// Whether these bytes make a name, apart from how many they are.
+/// Whether these bytes are a name, apart from the bound on their number.
 fn is_name(bytes: &[u8]) -> bool
     ensures { result ≡ is_name bytes.now }
 {
     !bytes.is_empty() && is_name_first(bytes[0]) && are_name_bytes(bytes)
 }
 
-/// The name that these bytes are: 1 to 64 letters, digits, `_`, `.` and `$`, the first of them no digit.
+/// The bytes as a name: 1 to 64 letters, digits, `_`, `.` and `$`, of which the first is no digit.
 pub fn name_of(bytes: &[u8]) -> Option<&str>
     ensures { option_copied result ≡ name_of bytes.now }
 {
@@ -26,7 +26,7 @@ pub fn name_of(bytes: &[u8]) -> Option<&str>
     }
 }
 
-/// The length of a name, in bytes: from 1 to 64.
+/// Reads the length of a name in bytes, from 1 to 64.
 #[tactic(auto, unfolding(crate::specs::Grammar::name_length_at))]
 pub(crate) fn read_name_length(c: &mut Cursor<'_>) -> Result<u8, FormErr>
     requires { length c.old.bytes ≤ 2 ^ 30 }
@@ -38,11 +38,11 @@ pub(crate) fn read_name_length(c: &mut Cursor<'_>) -> Result<u8, FormErr>
     if 1 <= count && count <= 64 {
         Ok(count)
     } else {
-        Err(fault(4, start))
+        Err(fault(BAD_VALUE, start))
     }
 }
 
-/// The bytes of a name.
+/// Reads the bytes of a name of this length.
 #[tactic(auto, unfolding(crate::specs::Grammar::name_bytes_at))]
 pub(crate) fn read_name_bytes<'a>(c: &mut Cursor<'a>, count: u8) -> Result<&'a str, FormErr>
     requires { length c.old.bytes ≤ 2 ^ 30 }
@@ -53,12 +53,12 @@ pub(crate) fn read_name_bytes<'a>(c: &mut Cursor<'a>, count: u8) -> Result<&'a s
     let start = c.place();
     let bytes = read_bytes(c, count as usize)?;
     if !is_name(bytes) {
-        return Err(fault(4, start));
+        return Err(fault(BAD_VALUE, start));
     }
     Ok(text_of(bytes))
 }
 
-// A name as text.
+// The bytes of a name are ASCII, so they are a text.
 fn text_of(bytes: &[u8]) -> &str
     requires { is_name bytes.now ≡ true }
     ensures { result.now ≡ bytes.now }

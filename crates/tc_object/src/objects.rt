@@ -1,16 +1,21 @@
-// Objects, with the facts that they always keep.
+// Objects that own their names and bytes, with the invariant of each object.
+use crate::fields::MAGIC;
 use crate::writing::{put_u16, write_relocs, write_sections, write_symbols};
 use crate::{ObjErr, ObjectRef, Reloc, Section, Symbol};
 use std::alloc::Global;
 use std::marker::Model;
 use tcd_base::put_u32;
 
-/// Sections, symbols for places in them, and relocations by ascending section and offset. At most 64 sections, and
-/// 65,535 symbols and relocations. Names of sections, and of symbols, are distinct and have 1 to 64 bytes.
+/// An object file: sections, symbols for offsets in them, and relocations in ascending order of
+/// section and offset. At most 64 sections, 65,535 symbols and 65,535 relocations. Names have 1 to
+/// 64 bytes; no two sections share a name, and no two symbols do.
 #[derive(Drop)]
 pub struct Object {
+    /// The sections, at most 64.
     pub sections: Vec<Section>,
+    /// The symbols, at most 65,535.
     pub symbols: Vec<Symbol>,
+    /// The relocations, at most 65,535, in ascending order of section and offset.
     pub relocs: Vec<Reloc>,
 }
 
@@ -37,14 +42,14 @@ impl Object {
         ensures ok { IfOk result (λ o. object_of bytes.now ≡ Ok o) }
         ensures err { IfErr result (IsFaultOf (object_of bytes.now)) }
 
-        // An object has one spelling.
+        // each object has exactly one spelling
         ensures one { IfOk result (λ o. bytes_of o ≡ bytes.now) }
     {
         let object = ObjectRef::read(alloc, bytes)?;
         Ok(object.into_object(alloc)?)
     }
 
-    /// The bytes that spell the object. `read` gives the object again.
+    /// The bytes that spell the object: `read` reads the same object from them.
     #[tactic(auto, unfolding(crate::specs::Spelling::bytes_of, crate::specs::Spelling::bytes_of_header))]
     pub fn write(&self, alloc: Global) -> Result<Vec<u8>, ObjErr>
         ensures bytes { IfOk result (λ out. out.items ≡ bytes_of self.now) }
@@ -52,7 +57,7 @@ impl Object {
         ensures err { IfErr result (λ e. e ≡ NoMemory) }
     {
         let mut out = Vec::new(alloc);
-        put_u32(&mut out, 0x314f_4354)?;
+        put_u32(&mut out, MAGIC)?;
         put_u16(&mut out, self.sections.len() as u16)?;
         put_u16(&mut out, self.symbols.len() as u16)?;
         put_u16(&mut out, self.relocs.len() as u16)?;

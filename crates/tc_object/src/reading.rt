@@ -1,9 +1,9 @@
-// The parts of an object, read.
+// Reads a whole object: the header, the sections, the symbols and the relocations.
 ghost use Rattle.std.specs.Prelude.{◌≡◌, ◌≤◌, ◌^◌, length, Ok, IfOk, IfErr};
 ghost use Rattle.tc_object.specs.Answers.{IsFaultOf};
 ghost use Rattle.tc_object.specs.Grammar.{object_of};
 
-use crate::fields::{fault, read_magic, read_section_count};
+use crate::fields::{TRAILING_BYTES, fault, read_magic, read_section_count};
 use crate::reloc_fields::read_relocs;
 use crate::section_fields::read_sections;
 use crate::symbol_fields::read_symbols;
@@ -11,7 +11,7 @@ use crate::{ObjErr, Reloc, SectionRef, SymbolRef};
 use std::alloc::Global;
 use tcd_base::{Cursor, read_u16};
 
-/// The parts of an object.
+/// What the bytes of an object hold, with names and bytes borrowed.
 #[derive(Drop)]
 pub(crate) struct Parts<'a> {
     pub(crate) sections: Vec<SectionRef<'a>>,
@@ -41,7 +41,7 @@ pub(crate) fn read_parts(alloc: Global, bytes: &[u8]) -> Result<Parts<'_>, ObjEr
     let relocs = read_relocs(alloc, &mut c, &sections, symbol_count, reloc_count)?;
     let end = c.place();
     if end != bytes.len() {
-        return Err(ObjErr::Bad(fault(6, end)));
+        return Err(ObjErr::Bad(fault(TRAILING_BYTES, end)));
     }
     Ok(Parts {
         sections,

@@ -1,4 +1,4 @@
-// Relocations, read.
+// Readers of relocations.
 ghost use Rattle.std.specs.Prelude.{◌≡◌, ◌≤◌, ◌+◌, ◌^◌, ◌-◌, [], length, slice_index, Ok, Err, Some, None, IfOk, IfErr, MatchResult};
 ghost use Rattle.tcd_base.specs.Bytes.{half_at, word_at};
 ghost use Rattle.tcd_base.specs.Reading.{Reads, many_at};
@@ -7,13 +7,22 @@ ghost use Rattle.tc_object.specs.Objects.{size_at, last_of, is_not_below, is_beh
 ghost use Rattle.tc_object.specs.Grammar.{reloc_section_at, reloc_offset_at, reloc_symbol_at, reloc_after};
 ghost use Rattle.tc_object.specs.Faults.{reloc_fault};
 
-use crate::fields::{fault, is_kind, read_kind};
+use crate::fields::{BAD_ORDER, BAD_VALUE, fault, is_kind, read_kind};
 use crate::symbol_fields::size_at;
 use crate::{ObjErr, Reloc, SectionRef};
 use std::alloc::Global;
 use tcd_base::{Cursor, FormErr, read_u16, read_u32};
 
-// Whether a section isn't below that of the last relocation.
+// The least kind of relocations.
+const FIRST_KIND: u8 = 1;
+
+// The greatest kind of relocations.
+const LAST_KIND: u8 = 7;
+
+// The size of a relocation in the file.
+const RELOC_BYTES: usize = 13;
+
+// Whether a section isn't below the section of the last relocation.
 fn is_not_below(before: &[Reloc], section: u16) -> bool
     ensures { result ≡ is_not_below (last_of before.now) section }
 {
@@ -23,7 +32,7 @@ fn is_not_below(before: &[Reloc], section: u16) -> bool
     }
 }
 
-// Whether a place is behind that of the last relocation.
+// Whether an offset of a section comes after the place of the last relocation.
 fn is_behind(before: &[Reloc], section: u16, offset: u32) -> bool
     ensures { result ≡ is_behind (last_of before.now) section offset }
 {
@@ -33,7 +42,7 @@ fn is_behind(before: &[Reloc], section: u16, offset: u32) -> bool
     }
 }
 
-/// The section of a relocation behind these.
+/// Reads the section of the relocation after these.
 #[tactic(auto, unfolding(crate::specs::Grammar::reloc_section_at))]
 fn read_section_number(
     c: &mut Cursor<'_>,
@@ -47,15 +56,16 @@ fn read_section_number(
     let start = c.place();
     let section = read_u16(c)?;
     if !is_not_below(before, section) {
-        return Err(fault(3, start));
+        return Err(fault(BAD_ORDER, start));
     }
     if section as usize >= sections.len() {
-        return Err(fault(4, start));
+        return Err(fault(BAD_VALUE, start));
     }
     Ok(section)
 }
 
-/// The offset of a relocation behind these, in the section whose field is at `section_at`.
+/// Reads the offset of the relocation after these. The fault of a wrong order is at `section_at`,
+/// the byte offset of the relocation's section field.
 #[tactic(auto, unfolding(crate::specs::Grammar::reloc_offset_at))]
 fn read_offset(
     c: &mut Cursor<'_>,
@@ -74,15 +84,15 @@ fn read_offset(
     let start = c.place();
     let offset = read_u32(c)?;
     if !is_behind(before, section, offset) {
-        return Err(fault(3, section_at));
+        return Err(fault(BAD_ORDER, section_at));
     }
     if offset as usize + 4 > size_at(sections, section) {
-        return Err(fault(4, start));
+        return Err(fault(BAD_VALUE, start));
     }
     Ok(offset)
 }
 
-/// The number of one of so many symbols.
+/// Reads the number of a symbol, which must be below `symbols`.
 #[tactic(auto, unfolding(crate::specs::Grammar::reloc_symbol_at))]
 fn read_symbol_number(c: &mut Cursor<'_>, symbols: u16) -> Result<u16, FormErr>
     requires { length c.old.bytes ≤ 2 ^ 30 }
@@ -92,12 +102,13 @@ fn read_symbol_number(c: &mut Cursor<'_>, symbols: u16) -> Result<u16, FormErr>
     let start = c.place();
     let symbol = read_u16(c)?;
     if symbol >= symbols {
-        return Err(fault(4, start));
+        return Err(fault(BAD_VALUE, start));
     }
     Ok(symbol)
 }
 
-/// A relocation behind these, field by field: the first fault where its bytes end early.
+/// Reads the relocation after these field by field. `read_reloc` calls it if the file ends within
+/// the relocation, so that the fault is at the first field that is cut off.
 #[inline(never)]
 #[tactic(auto, unfolding(crate::specs::Grammar::reloc_after))]
 fn read_reloc_fields(
@@ -113,7 +124,7 @@ fn read_reloc_fields(
     let start = c.place();
     let section = read_section_number(c, sections, before)?;
     let offset = read_offset(c, sections, before, section, start)?;
-    let kind = read_kind(c, 1, 7)?;
+    let kind = read_kind(c, FIRST_KIND, LAST_KIND)?;
     let symbol = read_symbol_number(c, symbols)?;
     let addend = read_u32(c)?;
     Ok(Reloc {
@@ -125,7 +136,7 @@ fn read_reloc_fields(
     })
 }
 
-// The fields of a relocation in their bytes.
+// The relocation in these 13 bytes.
 fn reloc_of(bytes: &[u8]) -> Reloc
     requires { length bytes.now ≡ 13 }
     ensures { result ≡ record {
@@ -145,7 +156,7 @@ fn reloc_of(bytes: &[u8]) -> Reloc
     }
 }
 
-// The first fault of a relocation behind these, whose bytes begin at `start`.
+// The first fault of the relocation after these, whose bytes begin at the byte offset `start`.
 #[tactic(auto, unfolding(crate::specs::Faults::reloc_fault))]
 fn check_reloc(
     sections: &[SectionRef<'_>],
@@ -160,27 +171,27 @@ fn check_reloc(
         (λ e. reloc_fault sections.now symbols before.now reloc.now start ≡ Some e) }
 {
     if !is_not_below(before, reloc.section) {
-        return Err(fault(3, start));
+        return Err(fault(BAD_ORDER, start));
     }
     if reloc.section as usize >= sections.len() {
-        return Err(fault(4, start));
+        return Err(fault(BAD_VALUE, start));
     }
     if !is_behind(before, reloc.section, reloc.offset) {
-        return Err(fault(3, start));
+        return Err(fault(BAD_ORDER, start));
     }
     if reloc.offset as usize + 4 > size_at(sections, reloc.section) {
-        return Err(fault(4, start + 2));
+        return Err(fault(BAD_VALUE, start + 2));
     }
-    if !is_kind(1, 7, reloc.kind) {
-        return Err(fault(4, start + 6));
+    if !is_kind(FIRST_KIND, LAST_KIND, reloc.kind) {
+        return Err(fault(BAD_VALUE, start + 6));
     }
     if reloc.symbol >= symbols {
-        return Err(fault(4, start + 7));
+        return Err(fault(BAD_VALUE, start + 7));
     }
     Ok(())
 }
 
-/// A relocation behind these: its bytes at once, where they are there.
+/// Reads the relocation after these from its 13 bytes at once, if the file holds all of them.
 fn read_reloc(
     c: &mut Cursor<'_>,
     sections: &[SectionRef<'_>],
@@ -192,7 +203,7 @@ fn read_reloc(
     ensures bytes { c.new.bytes ≡ c.old.bytes }
 {
     let start = c.place();
-    let Some(bytes) = c.take(13) else {
+    let Some(bytes) = c.take(RELOC_BYTES) else {
         return read_reloc_fields(c, sections, symbols, before);
     };
     let reloc = reloc_of(bytes);
@@ -200,7 +211,7 @@ fn read_reloc(
     Ok(reloc)
 }
 
-/// So many relocations.
+/// Reads `count` relocations.
 #[inline(never)]
 pub(crate) fn read_relocs(
     alloc: Global,

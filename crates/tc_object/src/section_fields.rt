@@ -1,24 +1,24 @@
-// Sections, read.
+// Readers of sections.
 ghost use Rattle.std.specs.Prelude.{◌≡◌, ◌≤◌, ◌^◌, ◌-◌, [], length, Ok, Err, IfOk, IfErr, MatchResult};
 ghost use Rattle.tc_object.specs.Answers.{IsFaultOf};
 ghost use Rattle.tcd_base.specs.Reading.{Reads, many_at};
 ghost use Rattle.tc_object.specs.Objects.{is_section_name};
 ghost use Rattle.tc_object.specs.Grammar.{name_after, section_after};
 
-use crate::fields::fault;
+use crate::fields::{BAD_VALUE, fault};
 use crate::names::{read_name_bytes, read_name_length};
 use crate::{ObjErr, SectionRef};
 use std::alloc::Global;
 use tcd_base::{Cursor, FormErr, read_bytes, read_u32};
 
-// Whether one of these sections, which are few, has the name.
+// Whether one of these sections has the name. A search by hand is enough: there are at most 64.
 fn is_section_name(sections: &[SectionRef<'_>], name: &str) -> bool
     ensures { result ≡ is_section_name sections.now name.now }
 {
     sections.iter().any(|section| name == section.name)
 }
 
-/// A name that none of these sections has.
+/// Reads a name that none of these sections has.
 #[tactic(auto, unfolding(crate::specs::Grammar::name_after))]
 fn read_section_name<'a>(c: &mut Cursor<'a>, before: &[SectionRef<'_>]) -> Result<&'a str, FormErr>
     requires { length c.old.bytes ≤ 2 ^ 30 }
@@ -31,12 +31,12 @@ fn read_section_name<'a>(c: &mut Cursor<'a>, before: &[SectionRef<'_>]) -> Resul
     let start = c.place();
     let name = read_name_bytes(c, count)?;
     if is_section_name(before, name) {
-        return Err(fault(4, start));
+        return Err(fault(BAD_VALUE, start));
     }
     Ok(name)
 }
 
-/// A section behind these.
+/// Reads the section after these.
 #[tactic(auto, unfolding(crate::specs::Grammar::section_after, crate::specs::Grammar::section_with))]
 fn read_section<'a>(
     c: &mut Cursor<'a>,
@@ -52,7 +52,7 @@ fn read_section<'a>(
     Ok(SectionRef { name, bytes })
 }
 
-/// So many sections.
+/// Reads `count` sections.
 pub(crate) fn read_sections<'a>(
     alloc: Global,
     c: &mut Cursor<'a>,

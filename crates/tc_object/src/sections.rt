@@ -1,10 +1,12 @@
-// Sections.
+// A section, with names and bytes owned or borrowed.
 use std::marker::Model;
 
-/// Bytes under a name.
+/// A section: its name and its bytes.
 #[derive(Drop)]
 pub struct Section {
+    /// The name, of 1 to 64 bytes.
     pub name: String,
+    /// The contents.
     pub bytes: Vec<u8>,
 }
 
@@ -17,10 +19,12 @@ impl Model for Section {
     ghost view = { λ s. record { name = string_bytes s.name; bytes = s.bytes.items } };
 }
 
-/// A section whose name and bytes stay where they lie.
+/// A section that borrows its name and bytes.
 #[derive(Drop)]
 pub struct SectionRef<'a> {
+    /// The name, of 1 to 64 bytes.
     pub name: &'a str,
+    /// The contents.
     pub bytes: &'a [u8],
 }
 

@@ -1,4 +1,4 @@
-// Symbols, read.
+// Readers of symbols.
 ghost use Rattle.std.specs.Prelude.{◌≡◌, ◌≤◌, ◌+◌, ◌^◌, ◌-◌, ◌||◌, [], ℕ, List, length, slice_index, Ok, Err, Some, None, IfOk, IfErr, MatchResult};
 ghost use Rattle.tcd_base.specs.Bytes.{half_at, word_at};
 ghost use Rattle.std.specs.Str.{bytes_eq};
@@ -9,14 +9,17 @@ ghost use Rattle.tc_object.specs.Grammar.{symbol_section_at, symbol_offset_at, s
 ghost use Rattle.tc_object.specs.Faults.{symbol_fault};
 ghost use Rattle.tc_object.specs.Used.{is_among};
 
-use crate::fields::{fault, is_kind, read_kind};
+use crate::fields::{BAD_VALUE, fault, is_kind, read_kind};
 use crate::used_names::{no_names, read_new_name};
-use crate::{ObjErr, SectionRef, SymbolRef};
+use crate::{GLOBAL_SYMBOL, ObjErr, SectionRef, SymbolRef, UNDEFINED_SYMBOL};
 use std::alloc::Global;
 use std::collections::HashMap;
 use tcd_base::{Cursor, FormErr, read_u16, read_u32};
 
-/// The length of a section in bytes; 0 where there is none of this number.
+// The size of a symbol's kind, section and offset in the file.
+const SYMBOL_BYTES: usize = 7;
+
+/// The length in bytes of the section with this number, and 0 if there is no such section.
 pub(crate) fn size_at(sections: &[SectionRef<'_>], number: u16) -> usize
     ensures { result ≡ size_at sections.now number }
 {
@@ -26,12 +29,12 @@ pub(crate) fn size_at(sections: &[SectionRef<'_>], number: u16) -> usize
     }
 }
 
-// Whether a symbol of this kind may have this section.
+// Whether a symbol of this kind may have this section number.
 fn is_section_of(sections: &[SectionRef<'_>], kind: u8, section: u16) -> bool
     ensures { result ≡ is_section_of sections.now kind section }
 {
     match kind {
-        0 => section == 0,
+        UNDEFINED_SYMBOL => section == 0,
         _ => (section as usize) < sections.len(),
     }
 }
@@ -41,12 +44,12 @@ fn is_offset_of(sections: &[SectionRef<'_>], kind: u8, section: u16, offset: u32
     ensures { result ≡ is_offset_of sections.now kind section offset }
 {
     match kind {
-        0 => offset == 0,
+        UNDEFINED_SYMBOL => offset == 0,
         _ => offset as usize <= size_at(sections, section),
     }
 }
 
-/// The section of a symbol of this kind.
+/// Reads the section number of a symbol of this kind.
 #[tactic(auto, unfolding(crate::specs::Grammar::symbol_section_at))]
 fn read_section_number(
     c: &mut Cursor<'_>,
@@ -60,12 +63,12 @@ fn read_section_number(
     let start = c.place();
     let section = read_u16(c)?;
     if !is_section_of(sections, kind, section) {
-        return Err(fault(4, start));
+        return Err(fault(BAD_VALUE, start));
     }
     Ok(section)
 }
 
-/// The offset of a symbol of this kind in a section.
+/// Reads the offset of a symbol of this kind in a section.
 #[tactic(auto, unfolding(crate::specs::Grammar::symbol_offset_at))]
 fn read_offset(
     c: &mut Cursor<'_>,
@@ -80,12 +83,13 @@ fn read_offset(
     let start = c.place();
     let offset = read_u32(c)?;
     if !is_offset_of(sections, kind, section, offset) {
-        return Err(fault(4, start));
+        return Err(fault(BAD_VALUE, start));
     }
     Ok(offset)
 }
 
-/// A symbol of this name, field by field: the first fault where its bytes end early.
+/// Reads the symbol of this name field by field. `read_named` calls it if the file ends within the
+/// symbol, so that the fault is at the first field that is cut off.
 #[inline(never)]
 #[tactic(auto, unfolding(crate::specs::Grammar::symbol_named))]
 fn read_named_fields<'a>(
@@ -98,7 +102,7 @@ fn read_named_fields<'a>(
     ensures name { IfOk result (λ s. s.name ≡ name.now) }
     ensures bytes { c.new.bytes ≡ c.old.bytes }
 {
-    let kind = read_kind(c, 0, 2)?;
+    let kind = read_kind(c, UNDEFINED_SYMBOL, GLOBAL_SYMBOL)?;
     let section = read_section_number(c, sections, kind)?;
     let offset = read_offset(c, sections, kind, section)?;
     Ok(SymbolRef {
@@ -109,7 +113,7 @@ fn read_named_fields<'a>(
     })
 }
 
-// The symbol of this name whose kind, section and offset stand in these bytes.
+// The symbol of this name whose kind, section and offset are in these 7 bytes.
 fn symbol_of<'a>(bytes: &[u8], name: &'a str) -> SymbolRef<'a>
     requires { length bytes.now ≡ 7 }
     ensures { result ≡ record {
@@ -127,7 +131,7 @@ fn symbol_of<'a>(bytes: &[u8], name: &'a str) -> SymbolRef<'a>
     }
 }
 
-// The first fault of a symbol whose bytes behind its name begin at `start`.
+// The first fault of a symbol whose kind is at the byte offset `start`.
 #[tactic(auto, unfolding(crate::specs::Faults::symbol_fault))]
 fn check_symbol(
     sections: &[SectionRef<'_>],
@@ -138,19 +142,20 @@ fn check_symbol(
     ensures { MatchResult result (λ _. symbol_fault sections.now symbol.now start ≡ None)
         (λ e. symbol_fault sections.now symbol.now start ≡ Some e) }
 {
-    if !is_kind(0, 2, symbol.kind) {
-        return Err(fault(4, start));
+    if !is_kind(UNDEFINED_SYMBOL, GLOBAL_SYMBOL, symbol.kind) {
+        return Err(fault(BAD_VALUE, start));
     }
     if !is_section_of(sections, symbol.kind, symbol.section) {
-        return Err(fault(4, start + 1));
+        return Err(fault(BAD_VALUE, start + 1));
     }
     if !is_offset_of(sections, symbol.kind, symbol.section, symbol.offset) {
-        return Err(fault(4, start + 3));
+        return Err(fault(BAD_VALUE, start + 3));
     }
     Ok(())
 }
 
-/// A symbol of this name: the bytes of its kind, section and offset at once, where they are there.
+/// Reads the kind, section and offset of the symbol of this name from 7 bytes at once, if the file
+/// holds all of them.
 fn read_named<'a>(
     c: &mut Cursor<'_>,
     sections: &[SectionRef<'_>],
@@ -162,7 +167,7 @@ fn read_named<'a>(
     ensures bytes { c.new.bytes ≡ c.old.bytes }
 {
     let start = c.place();
-    let Some(bytes) = c.take(7) else {
+    let Some(bytes) = c.take(SYMBOL_BYTES) else {
         return read_named_fields(c, sections, name);
     };
     let symbol = symbol_of(bytes, name);
@@ -170,7 +175,7 @@ fn read_named<'a>(
     Ok(symbol)
 }
 
-/// A symbol with a name that isn't used yet.
+/// Reads a symbol whose name isn't used yet.
 #[tactic(auto, unfolding(crate::specs::Grammar::symbol_with))]
 fn read_symbol<'a>(
     c: &mut Cursor<'a>,
@@ -190,7 +195,7 @@ fn read_symbol<'a>(
     Ok(symbol)
 }
 
-/// So many symbols.
+/// Reads `count` symbols.
 #[inline(never)]
 pub(crate) fn read_symbols<'a>(
     alloc: Global,

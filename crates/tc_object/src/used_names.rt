@@ -1,4 +1,4 @@
-// Names that aren't used yet, read. The names that are used stand in a map, so that each is looked up in few steps.
+// Reads names that aren't used yet. A map holds the used ones, so each look-up is a few steps.
 ghost use Rattle.std.specs.Prelude.{◌≡◌, ◌≤◌, ◌^◌, ◌||◌, not, false, true, ℕ, List, length, Ok, Err, OnOk, IfOk, IfErr};
 ghost use Rattle.std.specs.Str.{bytes_eq};
 ghost use Rattle.tc_object.specs.Answers.{IsFaultOf};
@@ -6,13 +6,13 @@ ghost use Rattle.tc_object.specs.Grammar.{name_after};
 ghost use Rattle.tc_object.specs.Used.{is_among};
 
 use crate::ObjErr;
-use crate::fields::fault;
+use crate::fields::{BAD_VALUE, fault};
 use crate::names::{read_name_bytes, read_name_length};
 use std::alloc::{AllocError, AllocFailed, Global};
 use std::collections::HashMap;
 use tcd_base::Cursor;
 
-/// No names, with room for so many.
+/// A map without names, with capacity for `count` of them.
 pub(crate) fn no_names<'a>(alloc: Global, count: u16) -> Result<HashMap<&'a str, ()>, AllocError>
     ensures { IfOk result (λ names. (q : List ℕ) → is_among names q ≡ false) }
 {
@@ -20,7 +20,7 @@ pub(crate) fn no_names<'a>(alloc: Global, count: u16) -> Result<HashMap<&'a str,
     Ok(names)
 }
 
-/// Adds a name; false where it is there already.
+/// Adds a name, and returns whether it is new.
 fn add_name<'a>(
     names: &mut HashMap<&'a str, ()>,
     name: &'a str,
@@ -33,7 +33,7 @@ fn add_name<'a>(
     Ok(old.is_none())
 }
 
-/// A name that isn't among those used, and then is.
+/// Reads a name that isn't used yet, and adds it to the used ones.
 #[tactic(auto, unfolding(crate::specs::Grammar::name_after))]
 pub(crate) fn read_new_name<'a>(
     c: &mut Cursor<'a>,
@@ -52,7 +52,7 @@ pub(crate) fn read_new_name<'a>(
     let name = read_name_bytes(c, count)?;
     let is_new = add_name(names, name)?;
     if !is_new {
-        return Err(ObjErr::Bad(fault(4, start)));
+        return Err(ObjErr::Bad(fault(BAD_VALUE, start)));
     }
     Ok(name)
 }

@@ -1,4 +1,4 @@
-// The one spelling of an object, written.
+// Writes an object in its one spelling.
 ghost use Rattle.std.specs.Prelude.{◌≡◌, ◌≤◌, ◌<◌, ◌^◌, [], ◌∷◌, ◌++◌, length, OnOk};
 ghost use Rattle.std.specs.List.{All, flat_map};
 ghost use Rattle.tcd_base.specs.Bytes.{bytes_of_half};

@@ -9,7 +9,7 @@ use Rattle.tc_object.proofs.ManyLaws.{many_fault}
 use Rattle.tc_object.proofs.UsedLaws.{used_more, same_test}
 use Rattle.tc_object.proofs.symbol_fields.read_symbols.Goals as goal
 
--- the map tells the names of the items so far
+-- the map holds exactly the names of the items so far
 by_names : (sections : List SectionData) (items : List SymbolData) (among : List ℕ → Bool) → ((q : List ℕ) → among q ≡ is_symbol_name items q) → (p : Place) → symbol_after sections items p ≡ symbol_with sections among p
 unfolding symbol_after
 by_names sections items among same p = ap (λ (f : List ℕ → Bool). symbol_with sections f p) (sym (same_test among (is_symbol_name items) same))
