@@ -1,3 +1,4 @@
+-- Cutting a text into tokens, step by step.
 use Rattle.std.proofs.Common.{◌≡◌, ◌<◌, ◌≤◌, ◌+◌, ◌-◌, zero, suc, ℕ, List, [], ◌∷◌, ◌++◌, length, drop, Result, Ok, Err, refl, ap, sym, ◌∙◌, arith, append_assoc, append-nil, add-zero, length-drop}
 use Rattle.std.proofs.Math.Dec.{eqb-suc-zero}
 use Rattle.std.proofs.lemmas.List.{drop_all, drop-drop}
@@ -6,7 +7,7 @@ use Rattle.tc_lex.specs.declared.kinds.TokenKind.{TokenKind}
 use Rattle.tc_lex.specs.declared.kinds.Front.TheVariants as front
 use Rattle.tc_lex.specs.Cut.{cut, front_of, follow, with_front, token}
 
--- bytes that are passed over
+-- bytes that are skipped
 pub cut-skip : (text : List ℕ) (room at n : ℕ) → cut text room at n ≡ cut (drop n text) room (at + n) 0
 unfolding cut
 cut-skip [] room at zero = refl
@@ -14,7 +15,7 @@ cut-skip [] room at (suc n) = refl
 cut-skip (c ∷ cs) room at zero = rw add-zero refl
 cut-skip (c ∷ cs) room at (suc n) = cut-skip cs room (at + 1) n ∙ ap (λ p. cut (drop n cs) room p 0) (omega arith)
 
--- what the front says
+-- the first step follows from the front
 pub cut-some : (text : List ℕ) (room at : ℕ) → 0 < length text → cut text room at 0 ≡ follow (front_of text) room at (cut (drop 1 text))
 unfolding cut
 cut-some [] room at h = absurd (omega arith)

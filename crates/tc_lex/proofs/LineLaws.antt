@@ -1,4 +1,5 @@
--- A line that is cut gives its tokens, each the longest at its place, or the byte that can't be taken.
+-- The answer for a line is its tokens, each the longest at its place, or the byte that can't be
+-- taken.
 use Rattle.std.proofs.Common.{◌≡◌, ◌+◌, ◌-◌, ◌<◌, ◌≤◌, ℕ, zero, suc, ◌⊎◌, inl, inr, Bool, true, false, ◌||◌, cond, List, [], ◌∷◌, length, drop, get_or, Result, Ok, Err, refl, sym, ap, subst, ◌∙◌, arith, length-drop, get_or-drop}
 use Rattle.std.specs.Prelude.{◌==◌}
 use Rattle.std.proofs.lemmas.List.{drop-drop}
@@ -18,7 +19,7 @@ use Rattle.tc_lex.specs.Lines.{is_blank, AreBlanks, IsNext, AreTokens, IsCut, Is
 use Rattle.tc_lex.proofs.TextLaws.{empty_none}
 use Rattle.tc_lex.proofs.LongestLaws.{comma_longest, colon_longest, open_longest, close_longest, plus_longest, minus_longest, word_longest, number_longest, begins_none}
 
--- ---- what the front of a text says of it
+-- ---- the meaning of a front
 data Says (c : ℕ) (cs : List ℕ) : Front → Type 0 where
   ended : c ≡ 35 → Says c cs front.End
   blank : is_blank c ≡ true → Says c cs front.Blank
@@ -63,7 +64,7 @@ module _ (line : List ℕ) where
   Meaning low most (Ok ts) = IsCut line low most ts
   Meaning low most (Err at) = IsFault line low most at
 
-  -- from a place on, nothing
+  -- no blanks from a place on
   none_from : (at : ℕ) → at ≤ length line → AreBlanks line at at
   none_from at h = record { ordered = omega arith; within = h; each = λ q low high. absurd (omega arith) }
 
@@ -82,7 +83,7 @@ module _ (line : List ℕ) where
   earlier at most (Ok ts) b more = record { stop = more.stop; ends = more.ends; tokens = tokens_earlier at more.stop ts b more.tokens; few = more.few }
   earlier at most (Err e) b more = record { before = more.before; tokens = tokens_earlier at e more.before b more.tokens; fault = more.fault }
 
-  -- a token in front of what follows it
+  -- a token before what follows it
   in_front : (at most : ℕ) (t : Token) (r : Result (List Token) ℕ) → IsNext line at t → Meaning t.to most r → Meaning at (suc most) (with_front (t ∷ []) r)
   in_front at most t (Ok ts) next more = record { stop = more.stop; ends = more.ends; tokens = (next, more.tokens); few = omega (arith, more.few) }
   in_front at most t (Err e) next more = record { before = t ∷ more.before; tokens = (next, more.tokens); fault = by more.fault }
@@ -123,7 +124,7 @@ module _ (line : List ℕ) where
         let less : suc room - 1 ≡ room = omega arith in
         rw (eqb-suc-zero room, less) (in_front at room (token kind at len) (next room (at + 1) (len - 1)) (next_is kind len longest) (rw there at (rest room (len - 1) fits)))
 
-  -- what is left of the line behind a place
+  -- the rest of the line after a place
   pub cut_means : (text : List ℕ) (room at skip : ℕ) → drop at line ≡ text → at + skip ≤ length line → Meaning (at + skip) room (cut text room at skip)
   unfolding cut
   cut_means [] room at skip e h =
@@ -141,7 +142,7 @@ whole_means line =
     let same : 0 + 0 ≡ 0 = omega arith in
     rw same at (cut_means line line 64 0 0 refl (omega arith))
 
--- what an answer means
+-- the meaning of an answer
 pub cut_reads : (line : List ℕ) (ts : List Token) → tokens_of line ≡ Ok ts → IsCut line 0 64 ts
 cut_reads line ts e = subst (λ (r : Result (List Token) ℕ). Meaning line 0 64 r) e (whole_means line)
 

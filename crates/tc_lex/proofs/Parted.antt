@@ -12,11 +12,13 @@ use Rattle.tc_lex.specs.Operands.{OperandData, operand, operands, is_comma}
 use Rattle.tc_lex.proofs.Mapped.{position-map}
 use Rattle.std.proofs.lemmas.Bool.{ltb-true, ltb-false}
 
-some_from : (b : Bool) (n i : ℕ) → cond b (Some n) None ≡ Some i → (b ≡ true) × (n ≡ i)
+-- a test guards this answer, so it passed
+pub some_from : (b : Bool) (n i : ℕ) → cond b (Some n) None ≡ Some i → (b ≡ true) × (n ≡ i)
 some_from true n i e = (refl, cc)
 some_from false n i e = cc
 
-none_from : (b : Bool) (n : ℕ) → cond b (Some n) None ≡ None → b ≡ false
+-- a test guards no answer, so it failed
+pub none_from : (b : Bool) (n : ℕ) → cond b (Some n) None ≡ None → b ≡ false
 none_from true n e = cc
 none_from false n e = refl
 

@@ -7,7 +7,7 @@ use Rattle.tc_lex.specs.Cut.{cut, front_of, with_front, token}
 use Rattle.tc_lex.specs.Pieces.{PieceData, piece_in, pieces_of}
 use Rattle.tc_lex.proofs.CutLaws.{cut_done, cut_end, cut_bad, cut_blank, cut_full, cut_token}
 
--- these tokens, and behind them those of the rest; a fault of the rest stays
+-- these tokens, then those of the rest; a fault of the rest remains the answer
 abbrev pub with_pieces : List PieceData → Result (List PieceData) ℕ → Result (List PieceData) ℕ
 with_pieces ps (Ok qs) = Ok (ps ++ qs)
 with_pieces ps (Err at) = Err at

@@ -24,7 +24,7 @@ module _ (a b : List ℕ) (i : ℕ) (all : Bool) (so_far : bytes_eq (drop i a) (
   pub byte_differs : (d : ℕ) → i < length a → i < length b → get_or a i d ≢ get_or b i d → false ≡ all
   byte_differs d h k other = other_heads (get_or a i d) (get_or b i d) (drop (i + 1) a) (drop (i + 1) b) all (parts d h k) other
 
-  -- one that is the same
+  -- the texts agree at one byte and after it
   pub byte_same : (d : ℕ) → i < length a → i < length b → get_or a i d ≡ get_or b i d → bytes_eq (drop (i + 1) a) (drop (i + 1) b) ≡ all
   byte_same d h k same = heads_same (get_or a i d) (get_or b i d) (drop (i + 1) a) (drop (i + 1) b) all same (parts d h k)
     where

@@ -1,4 +1,4 @@
--- Runs of bytes, and first bytes that tell the kind of a token.
+-- Runs of bytes, and the kinds of tokens by their first bytes.
 use Rattle.std.proofs.Common.{◌≡◌, ◌+◌, ◌<◌, ◌≤◌, ℕ, zero, suc, Bool, true, false, ◌&&◌, cond, List, [], ◌∷◌, length, take, refl, ap, ◌∙◌, arith}
 use Rattle.std.specs.Prelude.{◌==◌}
 use Rattle.std.specs.List.{prefix_len, list_all}
@@ -43,7 +43,7 @@ pub zero_of_digit : (c : ℕ) → is_digit c ≡ false → (c == 48) ≡ false
 unfolding is_digit
 zero_of_digit c h = grind (arith, nat_tests)
 
--- ---- the first byte tells the kind
+-- ---- the first byte determines the kind
 abbrev pub starts : TokenKind → ℕ → Bool
 starts Word c = is_name_first c
 starts Number c = is_digit c

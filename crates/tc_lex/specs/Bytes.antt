@@ -1,4 +1,4 @@
--- Which bytes stand in which tokens.
+-- Tests of single bytes: digits and hex digits.
 use Rattle.std.specs.Prelude.{ℕ, Bool, nat_le, ◌&&◌, ◌||◌}
 
 -- 0 to 9

@@ -3,23 +3,23 @@ use Rattle.std.specs.Prelude.{◌≡◌, ℕ, ◌+◌, ◌-◌, ◌*◌, ◌^◌
 use Rattle.tc_lex.specs.Bytes.{is_digit}
 use Rattle.tc_lex.specs.Cut.{has_hex_front}
 
--- the number that a digit of either base stands for
+-- the value of a digit of base 10 or 16
 unfoldable pub digit_of : ℕ → ℕ
 digit_of c = if is_digit c then c - 48 else (c - 55) - (if nat_le 97 c then 32 else 0)
 
--- a number below 2^128; no field is as wide
+-- the number if it is below 2^128; no field is as wide
 abbrev pub below_2_128 : ℕ → Option ℕ
 below_2_128 n = if nat_lt n (2 ^ 128) then Some n else None
 
--- one digit more
+-- the number with one more digit
 unfoldable pub add_digit : ℕ → Option ℕ → ℕ → Option ℕ
 add_digit base o c = option_and_then (λ n. below_2_128 (n * base + digit_of c)) o
 
--- the number that these digits spell, where it is below 2^128
+-- the number that these digits spell, if it is below 2^128
 abbrev pub digits_of : ℕ → List ℕ → Option ℕ
 digits_of base text = fold (add_digit base) (Some 0) text
 
--- the number of a token: hexadecimal behind `0x`, else decimal
+-- the number of a token: hexadecimal after `0x`, else decimal
 unfoldable pub number_of : List ℕ → Option ℕ
 number_of text = if has_hex_front text then digits_of 16 (drop 2 text) else digits_of 10 text
 
@@ -31,6 +31,6 @@ exact base text = fold (λ n c. n * base + digit_of c) 0 text
 unfoldable pub exact_of : List ℕ → ℕ
 exact_of text = if has_hex_front text then exact 16 (drop 2 text) else exact 10 text
 
--- a token's number is what its digits spell, where that is below 2^128
+-- a token's number is what its digits spell, if that is below 2^128
 abbrev pub NumberLaw : Type 0
 NumberLaw = (text : List ℕ) → number_of text ≡ below_2_128 (exact_of text)

@@ -11,7 +11,8 @@ use Rattle.tc_lex.specs.declared.operand.Operand.{Operand}
 use Rattle.tc_lex.specs.Pieces.{PieceData, is_kind, text_at, kind_index}
 use Rattle.tc_lex.specs.Numbers.{number_of}
 
--- a value without where its name lies; a wide one adds a number of 2^128 or more to its name, which no field holds
+-- a value as plain data; a wide one adds a number of 2^128 or more to its name, which no field
+-- holds
 pub record ValueData : Type 0 where
   pub shape : Shape
   pub name : List ℕ
@@ -19,18 +20,18 @@ pub record ValueData : Type 0 where
   pub size : ℕ
   pub wide : Bool
 
--- a value of the code as such a record
+-- the plain data of a value
 abbrev pub value_of : Value → ValueData
 value_of v = record { shape = v.shape; name = v.name.now; minus = v.minus; size = v.size; wide = v.wide }
 
--- an operand: a value, or `[BASE]` or `[BASE+]` with a value behind it
+-- an operand: a value, or `[BASE]` or `[BASE+]` followed by a value
 pub record OperandData : Type 0 where
   pub is_memory : Bool
   pub plus : Bool
   pub base : List ℕ
   pub value : ValueData
 
--- an operand without where its names lie
+-- the plain data of an operand
 abbrev pub operand_of : Operand → OperandData
 operand_of o = record { is_memory = o.is_memory; plus = o.plus; base = o.base.now; value = value_of o.value }
 
@@ -42,24 +43,25 @@ value s name minus size = record { shape = s; name = name; minus = minus; size =
 abbrev pub bad : ValueData
 bad = value shape.Bad [] false 0
 
--- a number with an optional `-` from this place to the end: whether there is the `-`, and the number where it is below 2^128
+-- a number with an optional `-` that ends the operand: whether there is the `-`, and the number if
+-- it is below 2^128
 unfoldable pub number_at : List PieceData → ℕ → Option (Bool × Option ℕ)
 number_at ps at =
     if is_kind ps at kind.Number && length ps == at + 1 then Some (false, number_of (text_at ps at))
     else (if is_kind ps at kind.Minus && is_kind ps (at + 1) kind.Number && length ps == at + 2 then Some (true, number_of (text_at ps (at + 1)))
     else None)
 
--- a number by itself
+-- the value that is a number alone
 abbrev pub plain_number : Bool → Option ℕ → ValueData
 plain_number minus (Some n) = value shape.Number [] minus n
 plain_number minus None = value shape.Huge [] minus 0
 
--- a name with a number added, or with one of 2^128 or more
+-- the value that is a name plus a number; None is a number of 2^128 or more
 abbrev pub with_number : Shape → List ℕ → Bool → Option ℕ → ValueData
 with_number s name minus (Some n) = value s name minus n
 with_number s name minus None = record (value s name minus 0) { wide = true }
 
--- a name at this place, with or without a number added
+-- the name at this place, with or without a number added
 unfoldable pub sum_at : List PieceData → ℕ → Shape → Shape → ValueData
 sum_at ps at plain summed =
     if is_kind ps at kind.Word
@@ -69,7 +71,7 @@ sum_at ps at plain summed =
     else bad)))
     else bad
 
--- a half of a symbol, or a symbol
+-- the upper or lower half of a symbol, or a symbol
 unfoldable pub named_at : List PieceData → ℕ → ValueData
 named_at ps at =
     if is_kind ps (at + 1) kind.Colon
@@ -78,7 +80,7 @@ named_at ps at =
     else bad))
     else sum_at ps at shape.Word shape.Sum
 
--- a value from this place to the end
+-- the value from this place to the end
 unfoldable pub value_at : List PieceData → ℕ → ValueData
 value_at ps at =
     if length ps == at then value shape.Absent [] false 0
@@ -88,7 +90,7 @@ value_at ps at =
 abbrev pub plain : ValueData → OperandData
 plain v = record { is_memory = false; plus = false; base = []; value = v }
 
--- the operand `[BASE]`, or `[BASE+]`, with a value behind it
+-- the operand `[BASE]` or `[BASE+]`, followed by a value
 abbrev pub memory : Bool → List ℕ → ValueData → OperandData
 memory plus base v = record { is_memory = true; plus = plus; base = base; value = v }
 
@@ -103,11 +105,11 @@ operand ps =
     else plain bad)
     else plain (value_at ps 0)
 
--- the token that parts operands
+-- the token that separates operands
 abbrev pub is_comma : PieceData → Bool
 is_comma p = kind_index p.kind == 2
 
--- the operands, parted by commas
+-- the operands, separated by commas
 unfoldable pub operands : List PieceData → List OperandData
 operands [] = []
 operands (p ∷ ps) = map operand (slice_split is_comma (p ∷ ps))

@@ -1,4 +1,4 @@
--- The tokens of a line, with their texts.
+-- Tokens with their texts.
 use Rattle.std.specs.Prelude.{◌≡◌, ℕ, ◌==◌, ◌&&◌, nat_le, if◌then◌else◌, Bool, false, List, [], length, map, slice_get, slice_range, Result, Ok, Err}
 use Rattle.std.specs.Option.{option_map_or}
 use Rattle.tc_lex.specs.declared.kinds.TokenKind.{TokenKind}
@@ -6,16 +6,16 @@ use Rattle.tc_lex.specs.declared.kinds.TokenKind.TheVariants.{Word, Number, Comm
 use Rattle.tc_lex.specs.declared.kinds.Token.{Token}
 use Rattle.tc_lex.specs.declared.pieces.Piece.{Piece}
 
--- a token without where its text lies
+-- a token with its text, as plain data
 pub record PieceData : Type 0 where
   pub kind : TokenKind
   pub text : List ℕ
 
--- a token of the code as such a record
+-- the plain data of a token
 abbrev pub piece_of : Piece → PieceData
 piece_of p = record { kind = p.kind; text = p.text.now }
 
--- the kinds of tokens by their numbers, so that they can be compared
+-- a number for each kind of token, so that kinds can be compared
 unfoldable pub kind_index : TokenKind → ℕ
 kind_index Word = 0
 kind_index Number = 1
@@ -26,15 +26,15 @@ kind_index Close = 5
 kind_index Plus = 6
 kind_index Minus = 7
 
--- a token of this kind stands at this place
+-- the token at this place exists and has this kind
 unfoldable pub is_kind : List PieceData → ℕ → TokenKind → Bool
 is_kind ps i kind = option_map_or (λ p. kind_index p.kind == kind_index kind) (slice_get ps i) false
 
--- the text of the token at this place
+-- the text of the token at this place, and an empty text if there is none
 unfoldable pub text_at : List PieceData → ℕ → List ℕ
 text_at ps i = option_map_or (λ p. p.text) (slice_get ps i) []
 
--- the bytes from one place to another; tokens always lie within their line
+-- the bytes from one place to another; a token is always within its line
 abbrev pub text_in : List ℕ → ℕ → ℕ → List ℕ
 text_in line from to = if nat_le from to && nat_le to (length line) then slice_range line from to else []
 
@@ -42,12 +42,12 @@ text_in line from to = if nat_le from to && nat_le to (length line) then slice_r
 abbrev pub piece_in : List ℕ → Token → PieceData
 piece_in line t = record { kind = t.kind; text = text_in line t.from t.to }
 
--- the tokens that a line is cut into, with their texts, or the place where it can't be cut
+-- the tokens of a line with their texts, or the place that can't be cut
 abbrev pub pieces_of : List ℕ → Result (List Token) ℕ → Result (List PieceData) ℕ
 pieces_of line (Ok ts) = Ok (map (piece_in line) ts)
 pieces_of line (Err at) = Err at
 
--- these are the tokens of a line with their texts, or that is the place
+-- the code's answer is this: the tokens with their texts, or the place of a fault
 abbrev pub CutsPieces : {U : Type 0} → Result U ℕ → List PieceData → Result (List PieceData) ℕ → Type 0
 CutsPieces (Ok u) ps r = r ≡ Ok ps
 CutsPieces (Err at) ps r = r ≡ Err at

@@ -7,7 +7,7 @@ use Rattle.tc_lex.specs.declared.kinds.TokenKind.TheVariants.{Word, Number, Comm
 use Rattle.tcd_base.specs.NameBytes.{is_name_byte, is_name_first}
 use Rattle.tc_lex.specs.Bytes.{is_digit, is_hex}
 
--- a first byte and further ones, each of which passes its test
+-- a first byte that passes one test, and bytes that all pass another
 abbrev pub is_run : (ℕ → Bool) → (ℕ → Bool) → List ℕ → Bool
 is_run first each [] = false
 is_run first each (c ∷ cs) = first c && list_all each (c ∷ cs)
@@ -28,12 +28,12 @@ is_token Close text = bytes_eq text (codes "]")
 is_token Plus text = bytes_eq text (codes "+")
 is_token Minus text = bytes_eq text (codes "-")
 
--- the first `len` bytes are a token, and no longer front of the text is one of any kind
+-- the first `len` bytes are a token, and no longer start of the text is a token of any kind
 pub record IsLongest (kind : TokenKind) (len : ℕ) (text : List ℕ) : Type 0 where
   pub within : len ≤ length text
   pub stands : is_token kind (take len text) ≡ true
   pub longest : (other : TokenKind) (n : ℕ) → len < n → n ≤ length text → is_token other (take n text) ≡ false
 
--- no front of the text is a token
+-- no start of the text is a token
 abbrev pub BeginsNone : List ℕ → Type 0
 BeginsNone text = (kind : TokenKind) (n : ℕ) → n ≤ length text → is_token kind (take n text) ≡ false

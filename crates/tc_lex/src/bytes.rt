@@ -1,4 +1,4 @@
-// Which bytes stand in which tokens.
+// Tests of single bytes: digits and hex digits.
 ghost use Rattle.std.specs.Prelude.{◌≡◌};
 ghost use Rattle.tc_lex.specs.Bytes.{is_digit, is_hex};
 
@@ -9,7 +9,7 @@ pub(crate) fn is_digit(c: u8) -> bool
     b'0' <= c && c <= b'9'
 }
 
-/// A digit, A to F, a to f.
+/// Whether a byte is a hex digit: 0 to 9, A to F or a to f.
 #[tactic(auto, unfolding(crate::specs::Bytes::is_hex))]
 pub fn is_hex(c: u8) -> bool
     ensures { result ≡ is_hex c }

@@ -1,4 +1,4 @@
-// A line, cut.
+// Cuts a line into tokens.
 ghost use Rattle.std.specs.Prelude.{◌≡◌, ◌<◌, ◌≤◌, length};
 ghost use Rattle.tc_lex.specs.Cut.{tokens_of, Cuts, CutsInto};
 ghost use Rattle.tc_lex.specs.Lines.{Reads};
@@ -7,8 +7,9 @@ use crate::fronts::front;
 use crate::kinds::{Front, Token};
 use arrayvec::ArrayVec;
 
-/// Puts the tokens of a line in the place of what `out` holds; or tells the place of the first byte that begins no token or is
-/// the first of a 65th one. Blanks, tabs and a comment, from `#` on, are passed over.
+/// Replaces the contents of `out` by the tokens of a line. The error is the byte offset of the
+/// first byte that begins no token, or that begins a 65th one. Blanks, tabs and a comment, from `#`
+/// on, are skipped.
 pub fn cut_into(line: &[u8], out: &mut ArrayVec<Token, 64>) -> Result<(), usize>
     ensures { CutsInto result out.new.items (tokens_of line.now) }
 {
@@ -35,12 +36,13 @@ pub fn cut_into(line: &[u8], out: &mut ArrayVec<Token, 64>) -> Result<(), usize>
     Ok(())
 }
 
-/// The tokens of a line, or the place of the first byte that begins no token or is the first of a 65th one. Blanks, tabs
-/// and a comment, from `#` on, are passed over.
+/// The tokens of a line. The error is the byte offset of the first byte that begins no token, or
+/// that begins a 65th one. Blanks, tabs and a comment, from `#` on, are skipped.
 pub fn tokens(line: &[u8]) -> Result<ArrayVec<Token, 64>, usize>
     ensures cut { Cuts result (tokens_of line.now) }
 
-    // The tokens are slices of the line in order, each the longest at its place, with blanks alone around them.
+    // The tokens are slices of the line in order, each the longest at its place. Between them are
+    // only blanks and tabs.
     ensures read { Reads line.now result }
 {
     let mut out = ArrayVec::new();

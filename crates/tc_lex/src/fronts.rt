@@ -1,4 +1,4 @@
-// The longest token at the front.
+// Finds the longest token at the start of a text.
 ghost use Rattle.std.specs.Prelude.{◌≡◌, ◌<◌, ◌≤◌, ◌-◌, drop, length, IsTrue, slice_index, true};
 ghost use Rattle.std.specs.List.{prefix_len};
 ghost use Rattle.tc_lex.specs.Bytes.{is_digit, is_hex};
@@ -30,8 +30,9 @@ fn word_len(rest: &[u8]) -> usize
     rest.iter().take_while(|c| is_name_byte(**c)).count()
 }
 
+/// Whether the text begins with `0x` and a hex digit.
 #[tactic(auto, unfolding(crate::specs::Cut::has_hex_front))]
-fn has_hex_front(rest: &[u8]) -> bool
+pub(crate) fn has_hex_front(rest: &[u8]) -> bool
     ensures value { result ≡ has_hex_front rest.now }
     ensures long { IsTrue result → 2 < length rest.now }
 {
@@ -51,7 +52,7 @@ fn number_len(rest: &[u8]) -> usize
     }
 }
 
-// What a text with this first byte begins with.
+// What the text begins with; `c` is its first byte.
 #[tactic(auto, unfolding(crate::specs::Cut::front_at))]
 fn front_at(c: u8, text: &[u8]) -> Front
     requires some { 0 < length text.now }
@@ -86,7 +87,7 @@ fn front_at(c: u8, text: &[u8]) -> Front
     }
 }
 
-/// What stands at a place of the line.
+/// What the line holds at the byte offset `at`.
 pub(crate) fn front(line: &[u8], at: usize) -> Front
     requires { at < length line.now }
     ensures value { result ≡ front_of (drop at line.now) }

@@ -1,38 +1,47 @@
-// What a line is cut into.
+// The types of tokens.
 
-/// What a token is.
+/// The kind of a token.
 #[derive(Clone, Copy, Debug, PartialEq, Eq, Default)]
 pub enum TokenKind {
-    /// Letters, digits, `_`, `.` and `$`, the first of them no digit.
+    /// Letters, digits, `_`, `.` and `$`; the first byte is no digit.
     #[default]
     Word,
     /// Decimal digits, or `0x` and hex digits.
     Number,
+    /// `,`
     Comma,
+    /// `:`
     Colon,
+    /// `[`
     Open,
+    /// `]`
     Close,
+    /// `+`
     Plus,
+    /// `-`
     Minus,
 }
 
 /// A token: the bytes `from..to` of its line.
 #[derive(Clone, Copy, Debug, PartialEq, Eq, Default)]
 pub struct Token {
+    /// The kind of the token.
     pub kind: TokenKind,
+    /// The offset of its first byte in the line.
     pub from: usize,
+    /// The offset after its last byte.
     pub to: usize,
 }
 
-/// What stands at the front of the rest of a line.
+/// What the rest of a line begins with.
 #[derive(Clone, Copy, Debug, PartialEq, Eq)]
 pub enum Front {
-    /// The end, or a comment.
+    /// The end of the line, or a comment.
     End,
     /// A blank or a tab.
     Blank,
     /// A byte that begins no token.
     Bad,
-    /// A token of so many bytes.
+    /// A token of this kind, with its length in bytes.
     Token(TokenKind, usize),
 }

@@ -1,4 +1,4 @@
-// A line, cut into tokens with their texts.
+// Cuts a line into tokens with their texts.
 ghost use Rattle.std.specs.Prelude.{◌≡◌, ◌<◌, ◌≤◌, ◌+◌, length, map};
 ghost use Rattle.tc_lex.specs.Cut.{tokens_of, token};
 ghost use Rattle.tc_lex.specs.Pieces.{piece_of, piece_in, pieces_of, CutsPieces};
@@ -8,7 +8,7 @@ use crate::kinds::{Front, TokenKind};
 use crate::pieces::Piece;
 use arrayvec::ArrayVec;
 
-// The token of so many bytes at this place, with its text.
+// The token of this kind and length at the byte offset `at`, with its text.
 fn piece_at(line: &[u8], kind: TokenKind, at: usize, len: usize) -> Piece<'_>
     requires { at + len ≤ length line.now }
     ensures { piece_of result ≡ piece_in line.now (token kind at len) }
@@ -19,8 +19,8 @@ fn piece_at(line: &[u8], kind: TokenKind, at: usize, len: usize) -> Piece<'_>
     }
 }
 
-/// Puts the tokens of a line with their texts in the place of what `out` holds; or tells the place of the first byte that
-/// can't be taken.
+/// Replaces the contents of `out` by the tokens of a line with their texts. The error is the byte
+/// offset of the first byte that begins no token, or that begins a 65th one.
 pub fn cut_pieces<'a>(line: &'a [u8], out: &mut ArrayVec<Piece<'a>, 64>) -> Result<(), usize>
     ensures pieces { CutsPieces result
         (map piece_of out.new.items) (pieces_of line.now (tokens_of line.now)) }

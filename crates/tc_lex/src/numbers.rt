@@ -1,20 +1,20 @@
-// The numbers that tokens spell.
+// Reads the numbers that tokens spell.
 ghost use Rattle.std.specs.Prelude.{◌≡◌, ◌<◌, Some, length, true};
-ghost use Rattle.tc_lex.specs.Cut.{has_hex_front};
 ghost use Rattle.tc_lex.specs.Numbers.{digit_of, add_digit, digits_of, number_of};
 
-use crate::is_hex;
+use crate::fronts::has_hex_front;
 
+// The value of a digit of base 10 or 16.
 #[tactic(auto, unfolding(crate::specs::Numbers::digit_of, crate::specs::Bytes::is_digit))]
 fn digit_of(c: u8) -> u8
     ensures { result ≡ digit_of c }
 {
-    if 48 <= c && c <= 57 {
-        c - 48
-    } else if 97 <= c {
-        c - 87
+    if b'0' <= c && c <= b'9' {
+        c - b'0'
+    } else if b'a' <= c {
+        c - (b'a' - 10)
     } else {
-        c.saturating_sub(55)
+        c.saturating_sub(b'A' - 10)
     }
 }
 
@@ -34,7 +34,7 @@ fn add_digit(base: u8, so_far: Option<u128>, c: u8) -> Option<u128>
     }
 }
 
-// A digit more behind a number that may be too great for it.
+// Adds a digit to a number of 2^64 or more, for which the product may not fit 128 bits.
 #[inline(never)]
 #[tactic(auto, unfolding(crate::specs::Numbers::add_digit))]
 fn add_far_digit(base: u8, n: u128, c: u8) -> Option<u128>
@@ -56,15 +56,7 @@ fn digits(base: u8, text: &[u8]) -> Option<u128>
     so_far
 }
 
-#[tactic(auto, unfolding(crate::specs::Cut::has_hex_front))]
-fn has_hex_front(text: &[u8]) -> bool
-    ensures value { result ≡ has_hex_front text.now }
-    ensures long { result ≡ true → 2 < length text.now }
-{
-    text.len() > 2 && text[0] == b'0' && text[1] == b'x' && is_hex(text[2])
-}
-
-/// The number that a token spells, where it is below 2^128.
+/// The number that a token spells, if it is below 2^128.
 #[tactic(auto, unfolding(crate::specs::Numbers::number_of))]
 pub(crate) fn number_of(text: &[u8]) -> Option<u128>
     ensures { result ≡ number_of text.now }

@@ -1,4 +1,4 @@
-// The operands, parted by commas.
+// Splits the tokens of a statement at its commas into operands.
 ghost use Rattle.std.specs.Prelude.{◌≡◌, ◌≤◌, ◌<◌, map, length, position, IfSome, take, drop, ◌+◌, ◌++◌, ◌∷◌, []};
 ghost use Rattle.tc_lex.specs.Pieces.{piece_of, kind_index};
 ghost use Rattle.tc_lex.specs.Operands.{operand_of, operands, is_comma, operand};
@@ -15,7 +15,7 @@ fn find_comma(ps: &[Piece]) -> Option<usize>
     ps.iter().position(|p| kind_index(p.kind) == 2)
 }
 
-// Puts the operand before this place behind the others.
+// Adds the operand that ends before token `i` to the list.
 fn put_before<'a>(ps: &[Piece<'a>], i: usize, out: &mut ArrayVec<Operand<'a>, 65>)
     requires place { i ≤ length ps.now }
     requires room { length out.old.items < 65 }
@@ -26,15 +26,15 @@ fn put_before<'a>(ps: &[Piece<'a>], i: usize, out: &mut ArrayVec<Operand<'a>, 65
     put_operand(&ps[..i], out);
 }
 
-// What follows the comma at this place.
-fn after<'b, 'a>(ps: &'b [Piece<'a>], i: usize) -> &'b [Piece<'a>]
+// The tokens after the comma at `i`.
+fn tokens_after<'b, 'a>(ps: &'b [Piece<'a>], i: usize) -> &'b [Piece<'a>]
     requires { i < length ps.now }
     ensures { result.now ≡ drop (i + 1) ps.now }
 {
     &ps[i + 1..]
 }
 
-/// Puts the operands that these tokens are in the place of what `out` holds.
+/// Replaces the contents of `out` by the operands that these tokens spell.
 pub fn operands<'a>(ps: &[Piece<'a>], out: &mut ArrayVec<Operand<'a>, 65>)
     requires { length ps.now ≤ 64 }
     ensures { map operand_of out.new.items ≡ operands (map piece_of ps.now) }
@@ -46,7 +46,7 @@ pub fn operands<'a>(ps: &[Piece<'a>], out: &mut ArrayVec<Operand<'a>, 65>)
     let mut rest = ps;
     'parts: while let Some(i) = find_comma(rest) {
         put_before(rest, i, out);
-        rest = after(rest, i);
+        rest = tokens_after(rest, i);
     }
     put_operand(rest, out);
 }

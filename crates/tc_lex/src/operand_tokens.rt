@@ -1,4 +1,4 @@
-// The forms of operands.
+// Reads an operand from its tokens.
 ghost use Rattle.std.specs.Prelude.{◌≡◌, ◌≢◌, ◌<◌, ◌≤◌, ◌+◌, ◌++◌, ◌∷◌, [], map, length, not, true};
 ghost use Rattle.tc_lex.specs.declared.kinds.TokenKind.TheVariants.{Word, Number, Colon, Open};
 ghost use Rattle.tc_lex.specs.Pieces.{piece_of, is_kind as is_kind_at};
@@ -22,7 +22,7 @@ fn make_value(shape: Shape, name: &[u8], minus: bool, size: u128) -> Value<'_>
     }
 }
 
-// A number by itself.
+// The value that is a number alone; `None` is a number of 2^128 or more.
 fn plain_number<'a>(minus: bool, n: Option<u128>) -> Value<'a>
     ensures { value_of result ≡ number_value minus n }
 {
@@ -32,7 +32,7 @@ fn plain_number<'a>(minus: bool, n: Option<u128>) -> Value<'a>
     }
 }
 
-// A name with a number added, or with one of 2^128 or more.
+// The value that is a name plus a number; `None` is a number of 2^128 or more.
 fn add_number(shape: Shape, name: &[u8], minus: bool, n: Option<u128>) -> Value<'_>
     ensures { value_of result ≡ sum_value shape name.now minus n }
 {
@@ -62,10 +62,10 @@ fn number_at(ps: &[Piece], at: usize) -> Option<(bool, Option<u128>)>
     }
 }
 
-// A name at this place, with a number added to it.
+// Reads the name at this token, with the number that is added to it.
 #[inline(never)]
 #[tactic(auto, unfolding(crate::specs::Operands::sum_at))]
-fn added_at<'a>(ps: &[Piece<'a>], at: usize, plain: Shape, summed: Shape) -> Value<'a>
+fn name_plus_number_at<'a>(ps: &[Piece<'a>], at: usize, plain: Shape, summed: Shape) -> Value<'a>
     requires place { at ≤ length ps.now }
     requires word { is_kind_at (map piece_of ps.now) at Word ≡ true }
     requires more { length ps.now ≢ at + 1 }
@@ -95,14 +95,14 @@ fn sum_at<'a>(ps: &[Piece<'a>], at: usize, plain: Shape, summed: Shape) -> Value
         if ps.len() - at == 1 {
             make_value(plain, text_at(ps, at), false, 0)
         } else {
-            added_at(ps, at, plain, summed)
+            name_plus_number_at(ps, at, plain, summed)
         }
     } else {
         make_value(Shape::Bad, &[], false, 0)
     }
 }
 
-// A half of a symbol.
+// Reads the upper or lower half of a symbol, as in `hi:NAME`.
 #[inline(never)]
 #[tactic(auto, unfolding(crate::specs::Operands::named_at))]
 fn half_at<'a>(ps: &[Piece<'a>], at: usize) -> Value<'a>
@@ -171,10 +171,10 @@ fn memory<'a>(plus: bool, base: &'a [u8], value: Value<'a>) -> Operand<'a>
     }
 }
 
-// An operand that begins with a `[`.
+// Reads an operand that begins with a `[`.
 #[inline(never)]
 #[tactic(auto, unfolding(crate::specs::Operands::operand))]
-fn bracketed<'a>(ps: &[Piece<'a>]) -> Operand<'a>
+fn memory_operand<'a>(ps: &[Piece<'a>]) -> Operand<'a>
     requires { is_kind_at (map piece_of ps.now) 0 Open ≡ true }
     ensures { operand_of result ≡ operand (map piece_of ps.now) }
 {
@@ -191,7 +191,7 @@ fn bracketed<'a>(ps: &[Piece<'a>]) -> Operand<'a>
     }
 }
 
-// Puts an operand behind the others.
+// Adds an operand to the list.
 fn put<'a>(operand: Operand<'a>, out: &mut ArrayVec<Operand<'a>, 65>)
     requires { length out.old.items < 65 }
     ensures operands { map operand_of out.new.items
@@ -201,7 +201,8 @@ fn put<'a>(operand: Operand<'a>, out: &mut ArrayVec<Operand<'a>, 65>)
     out.push(operand);
 }
 
-// An operand of more than one token, or of none, or of one that is no value.
+// Adds an operand that isn't a single word or number. Its locals are large, so they have a function
+// of their own.
 #[inline(never)]
 #[tactic(auto, unfolding(crate::specs::Operands::operand))]
 fn put_longer<'a>(ps: &[Piece<'a>], out: &mut ArrayVec<Operand<'a>, 65>)
@@ -211,13 +212,13 @@ fn put_longer<'a>(ps: &[Piece<'a>], out: &mut ArrayVec<Operand<'a>, 65>)
     ensures one_more { length out.new.items ≡ length out.old.items + 1 }
 {
     if is_kind(ps, 0, TokenKind::Open) {
-        put(bracketed(ps), out);
+        put(memory_operand(ps), out);
     } else {
         put(plain(value_at(ps, 0)), out);
     }
 }
 
-// An operand that is one Word.
+// The operand that is one word.
 fn lone_word<'a>(ps: &[Piece<'a>]) -> Operand<'a>
     requires one { length ps.now ≡ 1 }
     requires word { is_kind_at (map piece_of ps.now) 0 Word ≡ true }
@@ -226,7 +227,7 @@ fn lone_word<'a>(ps: &[Piece<'a>]) -> Operand<'a>
     plain(make_value(Shape::Word, text_at(ps, 0), false, 0))
 }
 
-// An operand that is one number.
+// The operand that is one number.
 fn lone_number<'a>(ps: &[Piece<'a>]) -> Operand<'a>
     requires one { length ps.now ≡ 1 }
     requires number { is_kind_at (map piece_of ps.now) 0 Number ≡ true }
@@ -235,7 +236,8 @@ fn lone_number<'a>(ps: &[Piece<'a>]) -> Operand<'a>
     plain(plain_number(false, number_of(text_at(ps, 0))))
 }
 
-/// Puts the operand that these tokens are behind the others; what is one token is written where it stays.
+/// Adds the operand that these tokens spell to the list. Each arm of one token builds the operand
+/// in the list, so that its 96 bytes aren't copied.
 pub(crate) fn put_operand<'a>(ps: &[Piece<'a>], out: &mut ArrayVec<Operand<'a>, 65>)
     requires { length out.old.items < 65 }
     ensures operands { map operand_of out.new.items

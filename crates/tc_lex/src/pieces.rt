@@ -1,4 +1,4 @@
-// The tokens of a line, with their texts.
+// Tokens with their texts.
 ghost use Rattle.std.specs.Prelude.{◌≡◌, ◌<◌, map, length, true};
 ghost use Rattle.std.specs.Str.{bytes_eq};
 ghost use Rattle.tc_lex.specs.Pieces.{piece_of, kind_index, is_kind, text_at};
@@ -9,7 +9,9 @@ use crate::same_bytes::is_same;
 /// A token and its text.
 #[derive(Clone, Copy, Default)]
 pub struct Piece<'a> {
+    /// The kind of the token.
     pub kind: TokenKind,
+    /// Its bytes in the line.
     pub text: &'a [u8],
 }
 
@@ -29,7 +31,7 @@ pub(crate) fn kind_index(kind: TokenKind) -> u8
     }
 }
 
-/// Whether a token of this kind stands at a place.
+/// Whether token `i` exists and has this kind.
 #[tactic(auto, unfolding(crate::specs::Pieces::is_kind))]
 pub fn is_kind(ps: &[Piece], i: usize, kind: TokenKind) -> bool
     ensures value { result ≡ is_kind (map piece_of ps.now) i kind }
@@ -42,7 +44,7 @@ pub fn is_kind(ps: &[Piece], i: usize, kind: TokenKind) -> bool
     }
 }
 
-/// The text of the token at a place; empty where there is none.
+/// The text of token `i`, and an empty text if there is no such token.
 #[tactic(auto, unfolding(crate::specs::Pieces::text_at))]
 pub fn text_at<'a>(ps: &[Piece<'a>], i: usize) -> &'a [u8]
     ensures { result.now ≡ text_at (map piece_of ps.now) i }
@@ -50,7 +52,7 @@ pub fn text_at<'a>(ps: &[Piece<'a>], i: usize) -> &'a [u8]
     if i < ps.len() { ps[i].text } else { &[] }
 }
 
-/// Whether bytes are this text.
+/// Whether the bytes are this text.
 pub fn is_text(bytes: &[u8], text: &str) -> bool
     ensures { result ≡ bytes_eq bytes.now text.now }
 {

@@ -1,8 +1,8 @@
-// Short texts, compared.
+// Compares short texts.
 ghost use Rattle.std.specs.Prelude.{◌≡◌};
 ghost use Rattle.std.specs.Str.{bytes_eq};
 
-/// Whether two texts are the same, byte by byte: names are too short for more.
+/// Whether two texts are equal. A loop over bytes is fastest here, since names are short.
 pub fn is_same(a: &[u8], b: &[u8]) -> bool
     ensures { result ≡ bytes_eq a.now b.now }
 {
