@@ -1,8 +1,8 @@
--- A fact of each of the seven kinds.
+-- Facts of each of the seven kinds.
 use Rattle.std.proofs.Common.{◌≡◌, ◌<◌, ◌≤◌, ℕ, ◌⊎◌, inl, inr, subst, arith}
 use Rattle.std.proofs.lemmas.Bool.{cases_lt}
 
--- one kind after another
+-- case analysis on a kind, from the least kind up
 up_to : (P : ℕ → Type 0) (kind low : ℕ) → P low → (low < kind → P kind) → low ≤ kind → P kind
 up_to P kind low here above h = by (cases_lt low kind)
   where

@@ -1,4 +1,4 @@
--- Fields: what was written is held, all else stays, and what is held reaches the value.
+-- A written field holds its number, keeps all other bits, and reaches the value.
 use Rattle.std.proofs.Common.{◌≡◌, ◌+◌, ◌^◌, ◌<◌, ◌≤◌, ℕ, None, arith}
 use Rattle.std.proofs.lemmas.Bool.Decides.{nat_tests}
 use Rattle.tc_reloc.specs.Refusals.{refusal_of}
@@ -41,7 +41,7 @@ module _ (w k : ℕ) (word : w < 2 ^ 32) where
     word = λ h. omega arith;
   }
 
-  -- the field holds what was written
+  -- the field holds the number that was written
   pub held_of-written : (kind : ℕ) → 1 ≤ kind → kind ≤ 7 → k < room_of kind → held_of kind (rest_of kind w + spread_of kind k) ≡ k
   held_of-written kind some most = at_kind Held held_each kind some most
 
@@ -80,7 +80,7 @@ module _ (place value : ℕ) (place_word : place < 2 ^ 32) (value_word : value <
     word = omega arith;
   }
 
-  -- what is written fits the field
+  -- the number fits the field
   pub content_below : (kind k : ℕ) → k ≡ content_of kind place value → 1 ≤ kind → kind ≤ 7 → k < room_of kind
   content_below kind k is some most = rw is (at_kind Below below_each kind some most)
 
@@ -99,11 +99,11 @@ module _ (place value : ℕ) (place_word : place < 2 ^ 32) (value_word : value <
     word = λ h. grind (arith, nat_tests);
   }
 
-  -- what is written where nothing refuses it reaches the value
+  -- if nothing is refused, the written number reaches the value
   pub reached_by-content_of : (kind : ℕ) → 1 ≤ kind → kind ≤ 7 → refusal_of kind place value ≡ None → reached_by kind place value (content_of kind place value) ≡ value
   reached_by-content_of kind some most = at_kind Reaches reaches_each kind some most
 
--- a whole word takes the value, and nothing of it stays
+-- a whole word becomes the value, and keeps none of its bits
 pub whole_word : (w place value : ℕ) → value ≡ rest_of 7 w + spread_of 7 (content_of 7 place value)
 unfolding content_of rest_of spread_of
 whole_word w place value = omega arith

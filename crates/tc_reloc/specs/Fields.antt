@@ -1,5 +1,5 @@
--- What a relocation writes, and into which bits of the little-endian word. Where the fields stand: TriCore 1 architecture
--- manual, volume 2, instruction formats.
+-- The number that a relocation writes, and the bits of the little-endian word that hold it.
+-- The fields are those of the TriCore 1 architecture manual, volume 2, instruction formats.
 use Rattle.std.specs.Prelude.{◌+◌, ◌*◌, ◌/◌, ◌%◌, ◌^◌, ◌==◌, ◌||◌, if◌then◌else◌, ℕ}
 use Rattle.tc_isa.specs.Relocations.{rel24, abs24, rel15, hi16, lo16, offset16, word32}
 use Rattle.tc_reloc.specs.Refusals.{distance}
@@ -13,7 +13,7 @@ content_of kind place value =
     else if kind == abs24 then value / 2 ^ 28 * 2 ^ 20 + value / 2 % 2 ^ 20
     -- the displacement in halfwords, of 15 bits
     else if kind == rel15 then distance place value / 2 % 2 ^ 15
-    -- the upper half, one more where the lower half is negative as a signed number
+    -- the upper half, plus one if the lower half is negative as a signed number
     else if kind == hi16 then (value + 0x8000) / 2 ^ 16 % 2 ^ 16
     -- the lower half
     else if kind == lo16 || kind == offset16 then value % 2 ^ 16

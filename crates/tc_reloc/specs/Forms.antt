@@ -1,4 +1,4 @@
--- Relocations and the instructions whose constant they fill.
+-- Relocations and the instructions whose constants they fill.
 use Rattle.std.specs.Prelude.{◌≡◌, ◌<◌, ℕ, true, slice_get, Some}
 use Rattle.tc_isa.specs.declared.fields.Fields.{Fields}
 use Rattle.tc_isa.specs.Rows.{RowData, listed}
@@ -11,12 +11,12 @@ use Rattle.tc_reloc.specs.Applied.{with_field}
 abbrev pub with_constant : Fields → ℕ → Fields
 with_constant f n = record f { k = n }
 
--- a number that the field of a relocation can hold, written there, is the constant of the instruction, and nothing else of
--- it changes
+-- if the field of a relocation can hold a number, writing it there changes the constant of the
+-- instruction and nothing else
 abbrev pub WrittenLaw : Type 0
 WrittenLaw = (place : ℕ) (row : RowData) (f : Fields) (kind n : ℕ) → slice_get listed place ≡ Some row → Fits row f → is_long row ≡ true → fills row.form kind ≡ true → n < room_of kind
     → with_field kind (spelling row f) n ≡ spelling row (with_constant f n)
 
--- and fits the instruction
+-- if the field of a relocation can hold a number, the instruction with that constant is valid
 abbrev pub FitsLaw : Type 0
 FitsLaw = (place : ℕ) (row : RowData) (f : Fields) (kind n : ℕ) → slice_get listed place ≡ Some row → Fits row f → fills row.form kind ≡ true → n < room_of kind → Fits row (with_constant f n)

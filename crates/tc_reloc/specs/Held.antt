@@ -1,4 +1,4 @@
--- What a written field means: the instruction that holds it reaches the value.
+-- The address that the instruction reaches by a written field.
 use Rattle.std.specs.Prelude.{◌+◌, ◌*◌, ◌/◌, ◌%◌, ◌^◌, ◌==◌, ◌||◌, if◌then◌else◌, ℕ}
 use Rattle.tc_isa.specs.Relocations.{rel24, abs24, rel15, hi16, lo16, offset16}
 use Rattle.tcd_base.specs.Fields.{sext_of}
@@ -13,13 +13,14 @@ held_of kind w =
     else if kind == offset16 then w / 2 ^ 16 % 2 ^ 6 + w / 2 ^ 28 * 2 ^ 6 + w / 2 ^ 22 % 2 ^ 6 * 2 ^ 10
     else w
 
--- an upper half, to which a lower half is added with its sign
+-- the sum of an upper half and a lower half, which has a sign
 abbrev pub sum_of_halves : ℕ → ℕ → ℕ
 sum_of_halves upper lower = (upper * 2 ^ 16 + sext_of lower 16) % 2 ^ 32
 
--- the address that an instruction at the place reaches by this number in its field; kind 4 with the lower half of the
--- value in a later instruction, kinds 5 and 6 with the upper half in an earlier one (TriCore 1 architecture manual,
--- volume 2: CALL and J, CALLA and JA, JEQ and its like, MOVH.A with LEA or ADDI)
+-- The address that an instruction at the place reaches by this number in its field. Kind 4 also
+-- uses the lower half of the value, in a later instruction. Kinds 5 and 6 also use the upper half,
+-- in an earlier one. Source: TriCore 1 architecture manual, volume 2, CALL and J, CALLA and JA, JEQ
+-- and its like, MOVH.A with LEA or ADDI.
 unfoldable pub reached_by : ℕ → ℕ → ℕ → ℕ → ℕ
 reached_by kind place value k =
     if kind == rel24 then (place + sext_of k 24 * 2) % 2 ^ 32

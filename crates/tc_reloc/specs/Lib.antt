@@ -1,4 +1,4 @@
--- Relocations: what is refused, what is written into which bits, and what that reaches.
+-- Relocations: refusals, the bits that are written, and the address that the field reaches.
 pub mod Refusals
 pub mod Fields
 pub mod Applied

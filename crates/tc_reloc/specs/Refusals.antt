@@ -1,14 +1,14 @@
--- When a value can't be written.
+-- The reasons why a value can't be written into a field.
 use Rattle.std.specs.Prelude.{◌+◌, ◌-◌, ◌/◌, ◌%◌, ◌^◌, ◌==◌, ◌&&◌, ◌||◌, not, nat_lt, nat_le, if◌then◌else◌, ℕ, Bool, Option, Some, None}
 use Rattle.tc_isa.specs.Relocations.{rel24, rel15, abs24}
 use Rattle.tc_reloc.specs.declared.refusals.RelocErr.{RelocErr}
 use Rattle.tc_reloc.specs.declared.refusals.RelocErr.TheVariants.{Odd, FarOff, Segment}
 
--- how far a value is from a place, modulo 2^32
+-- the distance from a place to a value, modulo 2^32
 abbrev pub distance : ℕ → ℕ → ℕ
 distance place value = (value + 2 ^ 32 - place) % 2 ^ 32
 
--- a distance, read as a signed word, is twice a signed number of so many bits: from -2^bits on, and below 2^bits
+-- half of a distance, as a signed word, is a signed number of this many bits
 abbrev pub is_near : ℕ → ℕ → Bool
 is_near bits d = nat_lt d (2 ^ bits) || nat_le (2 ^ 32 - 2 ^ bits) d
 
@@ -24,7 +24,7 @@ is_far kind place value = (kind == rel24 && not (is_near 24 (distance place valu
 abbrev pub is_outside : ℕ → ℕ → Bool
 is_outside kind value = kind == abs24 && nat_lt 0 (value / 2 ^ 21 % 2 ^ 7)
 
--- the first of these that is so
+-- the first refusal, if there is one
 unfoldable pub refusal_of : ℕ → ℕ → ℕ → Option RelocErr
 refusal_of kind place value =
     if is_odd kind place value then Some Odd

@@ -1,49 +1,50 @@
-// What a relocation writes, and where.
+// The fields of relocations: the number to write, and the bits that hold it.
 ghost use Rattle.std.specs.Prelude.{◌≡◌, ◌<◌};
 ghost use Rattle.tc_reloc.specs.Fields.{content_of, rest_of, spread_of, room_of};
 
 use crate::refusals::distance;
+use crate::{ABS24, HI16, LO16, OFFSET16, REL15, REL24};
 
-/// The number that the field takes.
+/// The number that goes into the field.
 #[tactic(auto, unfolding(crate::specs::Fields::content_of))]
 pub(crate) fn content(kind: u8, place: u32, value: u32) -> u32
     ensures { result ≡ content_of kind place value }
 {
     match kind {
-        1 => distance(place, value) / 2 % 0x100_0000,
-        2 => value / 0x1000_0000 * 0x10_0000 + value / 2 % 0x10_0000,
-        3 => distance(place, value) / 2 % 0x8000,
-        4 => ((u64::from(value) + 0x8000) / 0x1_0000 % 0x1_0000) as u32,
-        5 | 6 => value % 0x1_0000,
+        REL24 => distance(place, value) / 2 % 0x100_0000,
+        ABS24 => value / 0x1000_0000 * 0x10_0000 + value / 2 % 0x10_0000,
+        REL15 => distance(place, value) / 2 % 0x8000,
+        HI16 => ((u64::from(value) + 0x8000) / 0x1_0000 % 0x1_0000) as u32,
+        LO16 | OFFSET16 => value % 0x1_0000,
         _ => value,
     }
 }
 
-/// The bits outside of the field.
+/// The bits outside the field.
 #[tactic(auto, unfolding(crate::specs::Fields::rest_of))]
 pub(crate) fn rest(kind: u8, word: u32) -> u32
     ensures { result ≡ rest_of kind word }
 {
     match kind {
-        1 | 2 => word % 0x100,
-        3 => word % 0x1_0000 + word / 0x8000_0000 * 0x8000_0000,
-        4 | 5 => word % 0x1000 + word / 0x1000_0000 * 0x1000_0000,
-        6 => word % 0x1_0000,
+        REL24 | ABS24 => word % 0x100,
+        REL15 => word % 0x1_0000 + word / 0x8000_0000 * 0x8000_0000,
+        HI16 | LO16 => word % 0x1000 + word / 0x1000_0000 * 0x1000_0000,
+        OFFSET16 => word % 0x1_0000,
         _ => 0,
     }
 }
 
-/// The word that has this number in the field and zeros elsewhere.
+/// The word with this number in the field and zeros elsewhere.
 #[tactic(auto, unfolding(crate::specs::Fields::spread_of, crate::specs::Fields::room_of))]
 pub(crate) fn spread(kind: u8, content: u32) -> u32
     requires { content < room_of kind }
     ensures { result ≡ spread_of kind content }
 {
     match kind {
-        1 | 2 => content / 0x1_0000 * 0x100 + content % 0x1_0000 * 0x1_0000,
-        3 => content * 0x1_0000,
-        4 | 5 => content * 0x1000,
-        6 => {
+        REL24 | ABS24 => content / 0x1_0000 * 0x100 + content % 0x1_0000 * 0x1_0000,
+        REL15 => content * 0x1_0000,
+        HI16 | LO16 => content * 0x1000,
+        OFFSET16 => {
             content % 0x40 * 0x1_0000
                 + content / 0x400 * 0x40_0000
                 + content / 0x40 % 0x10 * 0x1000_0000

@@ -1,8 +1,9 @@
-// Laws of relocations and the instructions that they fill.
+// Public laws of relocations and of the instructions whose constants they fill.
 ghost use Rattle.tc_reloc.specs.Forms.{FitsLaw, WrittenLaw};
 
-/// A number that the field of a relocation can hold fits the constant of the instructions whose constant it fills, and written
-/// there it is that constant: the bytes are the instruction's spelling with it.
+/// If the field of a relocation can hold a number, that number fits the constant of each
+/// instruction whose constant the relocation fills. Writing it into the field gives the spelling of
+/// the instruction with that constant.
 pub fn filling_laws()
     ensures fits { FitsLaw }
     ensures written { WrittenLaw }

@@ -8,7 +8,7 @@ use Rattle.tc_reloc.proofs.applying.apply.Goals as goal
 
 -- the word that was written
 word_is : (c : goal.After-to_le_bytes) → word_at c.to_le_bytes.result 0 ≡ rest_of c.args.kind c.from_le_bytes.result + spread_of c.args.kind (content_of c.args.kind c.args.place c.args.value)
-word_is c = ap (λ b. word_at b 0) c.to_le_bytes.ensures ∙ word_at-bytes_of_word c.filled-word.result [] (omega arith) ∙ c.filled-word.ensures
+word_is c = ap (λ b. word_at b 0) c.to_le_bytes.ensures ∙ word_at-bytes_of_word c.fill_field-word.result [] (omega arith) ∙ c.fill_field-word.ensures
 
 pub returns-clause-held : goal.returns-clause-held
 returns-clause-held c =
