@@ -10,7 +10,7 @@ use crate::draft::Draft;
 use crate::symbols::Symbols;
 use tc_encode::{Code, encode};
 use tc_isa::{Fields, Row, inst, rows};
-use tc_stmt::{NO_RULE, Reference, RowFields, displaced};
+use tc_stmt::{NO_RULE, Reference, RowFields, with_displacement};
 
 /// The bytes of the row with this number and these fields; none where they are no listed instruction.
 pub(crate) fn code_of(row: u8, f: &Fields) -> Code
@@ -112,7 +112,7 @@ impl<'a> Draft<'a> {
                 rule: 10,
                 reference: None,
             },
-            Some((minus, size)) => displaced(row, minus, size, found(*fields)),
+            Some((minus, size)) => with_displacement(row, minus, size, found(*fields)),
         }
     }
 

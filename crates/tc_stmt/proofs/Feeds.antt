@@ -1,4 +1,4 @@
--- Where a line ends, by a search of several bytes at once.
+-- The end of a line, by a search of several bytes at once.
 use Rattle.std.proofs.Common.{◌≡◌, ◌<◌, ◌==◌, ℕ, Bool, true, false, List, length, Option, Some, None, refl, arith}
 use Rattle.std.specs.Prelude.{IfSome, position}
 use Rattle.std.specs.List.{position_or_len}

@@ -1,4 +1,4 @@
--- A line adds few things: as many as a byte counts.
+-- The number of items of a line fits a byte.
 use Rattle.std.proofs.Common.{◌≡◌, ◌≤◌, ◌+◌, ◌==◌, ℕ, List, [], ◌∷◌, length, take, drop, map, Option, Some, None, Result, Ok, Err, refl, length-drop, arith}
 use Rattle.std.specs.Prelude.{codes}
 use Rattle.std.specs.List.{slice_split}
@@ -21,7 +21,7 @@ use Rattle.tc_stmt.specs.Items.{ItemData, section, global}
 use Rattle.tc_stmt.specs.Values.{value_item}
 use Rattle.tc_stmt.specs.Lines.{LineData, line_data, word_of, named_line, space_line, values_line, code_line, stated_line, line_from, has_label, pieces_line, piece_in, label_of, label_before, cut_line, line_in}
 
--- a line that adds at most so many things
+-- a line that adds at most this many items
 record Few (most : ℕ) (l : LineData) : Type 0 where
   items : length l.items ≤ most
 
@@ -95,7 +95,7 @@ cut_few line (Err at) e = before_few (take at line) (tokens_of (take at line))
 pub line_few : (line : List ℕ) → length (line_in line).items ≤ 66
 line_few line = let h = cut_few line (tokens_of line) refl in h.items
 
--- ---- where a line can't be cut
+-- ---- lines that can't be cut
 tokens_within : (line : List ℕ) (low stop : ℕ) (ts : List Token) → AreTokens line low stop ts → stop ≤ length line
 tokens_within line low stop [] h = h.within
 tokens_within line low stop (t ∷ ts) h = tokens_within line t.to stop ts h.1

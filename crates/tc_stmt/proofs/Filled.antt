@@ -1,4 +1,4 @@
--- Operands, one after another.
+-- Filling a row from operands, in order.
 use Rattle.std.proofs.Common.{◌≡◌, ◌<◌, ◌≤◌, ◌+◌, ◌≢◌, suc, ℕ, Bool, true, false, cond, List, [], ◌∷◌, length, get_or, drop, map, Option, Some, None, refl, ap, sym, ◌∙◌, arith}
 use Rattle.std.specs.Prelude.{option_and_then}
 use Rattle.std.proofs.lemmas.List.{drop_more, drop_all, length-map, get_or-map}
@@ -12,7 +12,7 @@ none_of : (next : RowFieldsData → Option RowFieldsData) → ((f : RowFieldsDat
 none_of next none None = refl
 none_of next none (Some f) = none f
 
--- other numbers of operands never fit
+-- another number of operands never fits
 pub fill_all-uneven : (r : RowData) (ws : List Want) (os : List OperandData) (acc : RowFieldsData) → length ws ≢ length os → fill_all r ws os acc ≡ None
 unfolding fill_all
 fill_all-uneven r [] [] acc h = absurd (h refl)
@@ -45,13 +45,13 @@ fill_step r ws os i w o acc found e h even =
 -- ---- a loop over operands
 module _ (r : RowData) (ws : List Want) (os : List Operand) (i : ℕ) (acc : RowFieldsData) (all : Option RowFieldsData)
     (so_far : fill_all r (drop i ws) (drop i (map operand_of os)) acc ≡ all) where
-  -- one operand that is of its form
+  -- a further operand of the form that is wanted
   pub fill_more : (w : Want) (o : Operand) (next : RowFieldsData) (fits : Bool) → cond fits (Some next) None ≡ fill r (get_or ws i w) (operand_of (get_or os i o)) acc → fits ≡ true
       → i < length ws → length ws ≡ length os → fill_all r (drop (i + 1) ws) (drop (i + 1) (map operand_of os)) next ≡ all
   fill_more w o next true e is h even = sym (fill_step r ws os i w o acc (Some next) e h even) ∙ so_far
   fill_more w o next false e is h even = cc
 
-  -- one that isn't
+  -- a further operand of another form
   pub fill_none : (w : Want) (o : Operand) (next : RowFieldsData) (fits : Bool) → cond fits (Some next) None ≡ fill r (get_or ws i w) (operand_of (get_or os i o)) acc → fits ≡ false
       → i < length ws → length ws ≡ length os → None ≡ all
   fill_none w o next true e is h even = cc

@@ -1,10 +1,10 @@
--- Items of lists that stand behind one another.
+-- Items of lists that are joined.
 use Rattle.std.proofs.Common.{◌≡◌, ◌<◌, ◌≤◌, ◌+◌, ◌⊎◌, inl, inr, ℕ, zero, suc, Bool, true, false, cond, List, [], ◌∷◌, ◌++◌, length, take, drop, map, Option, Some, refl, sym, ap, subst, ◌∙◌, arith, append_assoc}
 use Rattle.std.specs.Prelude.{slice_get, slice_set, filter, find}
 use Rattle.std.specs.List.{flat_map}
 use Rattle.std.proofs.lemmas.Option.{slice_get_within}
 
--- ---- an item and those before and behind it
+-- ---- an item with those before and after it
 pub parted_at : {A : Type 0} (xs : List A) (i : ℕ) (x : A) → slice_get xs i ≡ Some x → xs ≡ take i xs ++ x ∷ drop (suc i) xs
 parted_at [] i x e = cc
 parted_at {A} (y ∷ ys) zero x e = let same : y ≡ x = cc in ap (λ (z : A). z ∷ ys) same
@@ -56,7 +56,7 @@ in_front_or_rest {A} (y ∷ xs) ys (suc i) x e = further (in_front_or_rest xs ys
     further (inl h) = inl h
     further (inr r) = inr (record { at = r.at; is = r.is; place = let p = r.place in omega arith })
 
--- ---- a seam
+-- ---- the item between two lists
 pub seam_get : {A : Type 0} (xs ys : List A) (x : A) → slice_get (xs ++ x ∷ ys) (length xs) ≡ Some x
 seam_get [] ys x = refl
 seam_get (y ∷ xs) ys x = seam_get xs ys x
@@ -94,7 +94,7 @@ flat_at {X} {A} f (x ∷ xs) i y e = by (λ k g. flat_at f xs k y g) (in_front_o
           front = take_behind (f x) (flat_map f xs) i r.at r.place ∙ ap (λ (zs : List A). f x ++ zs) more.front ∙ sym (append_assoc (f x) (flat_map f (take more.outer xs)) (take more.inner (f more.item)));
         }
 
--- the list before and behind an item of one of the lists
+-- the lists before and after an item of one of the lists
 pub flat_parted : {X A : Type 0} (f : X → List A) (xs : List X) (i : ℕ) (x : X) (j : ℕ) (y : A) → slice_get xs i ≡ Some x → slice_get (f x) j ≡ Some y →
     flat_map f xs ≡ (flat_map f (take i xs) ++ take j (f x)) ++ y ∷ (drop (suc j) (f x) ++ flat_map f (drop (suc i) xs))
 flat_parted f [] i x j y e h = cc
@@ -114,7 +114,7 @@ map_get f [] i x e = cc
 map_get {A} {B} f (y ∷ ys) zero x e = let same : y ≡ x = cc in ap (λ (z : A). Some (f z)) same
 map_get f (y ∷ ys) (suc i) x e = map_get f ys i x e
 
--- the item that a mapped one was
+-- the item before mapping
 pub record MapAt (A B : Type 0) (f : A → B) (xs : List A) (i : ℕ) (y : B) : Type 0 where
   pub item : A
   pub is_item : slice_get xs i ≡ Some item
@@ -131,7 +131,7 @@ map_take f [] (suc i) = refl
 map_take f (x ∷ xs) zero = refl
 map_take {A} {B} f (x ∷ xs) (suc i) = ap (λ (zs : List B). f x ∷ zs) (map_take f xs i)
 
--- the item that a filtered one was
+-- a filtered item is in the list, and passes
 pub record FilterAt (A : Type 0) (p : A → Bool) (xs : List A) (y : A) : Type 0 where
   pub at : ℕ
   pub is_item : slice_get xs at ≡ Some y
@@ -166,7 +166,7 @@ filter_in {A} p (x ∷ xs) (suc i) y e h = by (p x) (filter_in p xs i y e h)
     by true g = record { at = suc g.at; is = g.is }
     by false g = g
 
--- the item that was found, and none before it
+-- the item that was found, and no earlier one
 pub record FindAt (A : Type 0) (p : A → Bool) (xs : List A) (y : A) : Type 0 where
   pub at : ℕ
   pub is_item : slice_get xs at ≡ Some y
@@ -183,6 +183,6 @@ find_at {A} p (x ∷ xs) y e = by (λ g. find_at p xs y g) (p x) refl e
     by rec true h f = let same : x ≡ y = cc in record { at = 0; is_item = f; holds = sym (ap p same) ∙ h }
     by rec false h f = further (rec f)
 
--- one of two equal answers
+-- two equal answers have equal contents
 pub one_of : {A : Type 0} (o : Option A) (x y : A) → o ≡ Some x → o ≡ Some y → x ≡ y
 one_of o x y e f = cc

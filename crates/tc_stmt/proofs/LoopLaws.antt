@@ -1,4 +1,4 @@
--- Steps of loops over lists that are seen as other lists.
+-- Steps of loops over lists that are viewed as other lists.
 use Rattle.std.proofs.Common.{◌≡◌, ◌≢◌, ◌<◌, ◌≤◌, ◌+◌, ◌++◌, min, ℕ, zero, suc, Bool, true, false, cond, List, [], ◌∷◌, length, get_or, take, drop, map, None, Some, refl, ap, sym, ◌∙◌, append_assoc, arith}
 use Rattle.std.specs.Prelude.{fold, position, nat_lt, slice_get, ◌==◌}
 use Rattle.std.specs.List.{slice_split, position_or_len}
@@ -11,8 +11,9 @@ use Rattle.tc_lex.specs.Operands.{operand_of}
 use Rattle.tc_stmt.specs.Values.{value_rule, space_rule, space_item}
 use Rattle.tc_stmt.specs.Items.{zeros}
 use Rattle.tc_stmt.specs.Lines.{line_data, is_word_operand, word_of, space_line}
+use Rattle.tc_lex.proofs.Parted.{some_from, none_from}
 
--- one more at the end of what stands for a front of a list
+-- a further item at the end of a mapped start of a list
 pub pushed : {B C : Type 0} (g : B → C) (pre : List C) (xs : List B) (i : ℕ) (d : B) (out new : List C) (x : C)
     → i < length xs → new ≡ out ++ x ∷ [] → x ≡ g (get_or xs i d) → out ≡ pre ++ map g (take i xs) → new ≡ pre ++ map g (take (i + 1) xs)
 pushed g pre xs i d out new x within e is so_far =
@@ -22,12 +23,12 @@ pushed g pre xs i d out new x within e is so_far =
     ∙ append_assoc pre (map g (take i xs)) (g (get_or xs i d) ∷ [])
     ∙ ap (λ ys. pre ++ ys) (sym (map_push g (take i xs) (get_or xs i d)) ∙ ap (map g) (sym (take_more xs i d within)))
 
--- the same, of a list that is seen by f
+-- a further item at the end, if the result is viewed through f
 pub pushed_by : {A B C : Type 0} (f : A → C) (g : B → C) (xs : List B) (i : ℕ) (d : B) (out new : List A) (x : A)
     → i < length xs → new ≡ out ++ x ∷ [] → f x ≡ g (get_or xs i d) → map f out ≡ map g (take i xs) → map f new ≡ map g (take (i + 1) xs)
 pushed_by f g xs i d out new x within e is so_far = pushed g [] xs i d (map f out) (map f new) (f x) within (ap (map f) e ∙ map_push f out x) is so_far
 
--- the same, over a list that is seen by v
+-- a further item at the end, if the list is viewed through v and the result through f
 pub pushed_over : {A B C D : Type 0} (f : A → C) (g : D → C) (v : B → D) (xs : List B) (i : ℕ) (d : B) (out new : List A) (x : A)
     → i < length xs → new ≡ out ++ x ∷ [] → f x ≡ g (v (get_or xs i d)) → map f out ≡ map g (take i (map v xs)) → map f new ≡ map g (take (i + 1) (map v xs))
 pushed_over f g v xs i d out new x within e is so_far =
@@ -70,14 +71,6 @@ space_line-other (o ∷ []) h = absurd (h refl)
 space_line-other (o ∷ p ∷ os) h = refl
 
 -- ---- lines
-some_from : (b : Bool) (n i : ℕ) → cond b (Some n) None ≡ Some i → (b ≡ true) × (n ≡ i)
-some_from true n i e = (refl, cc)
-some_from false n i e = cc
-
-none_from : (b : Bool) (n : ℕ) → cond b (Some n) None ≡ None → b ≡ false
-none_from true n e = cc
-none_from false n e = refl
-
 abbrev pub is_feed : ℕ → Bool
 is_feed c = c == 10
 
@@ -93,7 +86,7 @@ lines_end out rest e =
     let past : length rest ≤ position_or_len is_feed rest = ltb-false _ _ (none_from (nat_lt (position_or_len is_feed rest) (length rest)) (position_or_len is_feed rest) e) in
     ap (λ parts. out ++ parts) (sym (slice_split_none is_feed rest (λ k d h. fails_before_first is_feed rest k d (omega (arith, past)))))
 
--- ---- pushes in the words of indexes
+-- ---- items that are pushed, by their numbers
 pub pushed_seen : {B C D : Type 0} (v : B → D) (g : D → C) (pre : List C) (xs : List B) (i : ℕ) (b : B) (out new : List C) (x : C)
     → i < length xs → b ≡ get_or xs i b → new ≡ out ++ x ∷ [] → x ≡ g (v b) → out ≡ pre ++ map g (take i (map v xs)) → new ≡ pre ++ map g (take (i + 1) (map v xs))
 pushed_seen v g pre xs i b out new x within at e is so_far =

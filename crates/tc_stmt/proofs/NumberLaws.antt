@@ -5,11 +5,11 @@ use Rattle.std.proofs.lemmas.Bool.{ltb-true, ltb-false}
 use Rattle.tc_lex.specs.Cut.{has_hex_front}
 use Rattle.tc_lex.specs.Numbers.{digit_of, below_2_128, add_digit, number_of, exact_of, NumberLaw}
 
--- one digit more of a number that is too large is too large
+-- a further digit of a number that is too large is too large
 grown : (base n d : ℕ) → 1 ≤ base → 2 ^ 128 ≤ n → 2 ^ 128 ≤ n * base + d
 grown base n d some large = let h : n * 1 ≤ n * base = mul-le-mul_left n some in omega (arith, h)
 
--- a number that is too large isn't below
+-- a number that is too large isn't below the bound
 past : (k : ℕ) → 2 ^ 128 ≤ k → nat_lt k (2 ^ 128) ≡ false
 past k h = by_less (nat_lt k (2 ^ 128)) refl
   where

@@ -1,4 +1,4 @@
--- One row after another.
+-- Rows tried in turn.
 use Rattle.std.proofs.Common.{◌≡◌, ◌<◌, ◌≤◌, ◌+◌, ℕ, List, [], length, get_or, drop, map, Result, Ok, Err, ap, subst, ◌∙◌}
 use Rattle.std.proofs.lemmas.List.{drop_more, drop_all, length-map}
 use Rattle.tc_isa.specs.declared.table.Row.{Row}

@@ -1,4 +1,4 @@
--- Lines that are read, one more, and the things that they add.
+-- Reading the next line, and the items that it adds.
 use Rattle.std.proofs.Common.{◌≡◌, ◌≤◌, ◌+◌, ◌++◌, ℕ, suc, List, [], ◌∷◌, length, take, drop, map, Some, None, refl, sym, ap, subst, ◌∙◌, arith}
 use Rattle.std.specs.Prelude.{position}
 use Rattle.std.specs.List.{slice_split}
@@ -34,7 +34,7 @@ read_more lines next l old new x e rule count more ls h = record {
       ∙ sym (flat_map-append (λ (k : LineData). k.items) ls (x ∷ []));
 }
 
--- the lines that are read are these
+-- the lines so far are these
 read_back : (lines : List Line) (is : List ItemData) (ls : List LineData) → map (λ (l : Line). l.rule) lines ≡ map (λ (l : LineData). l.rule) ls
     → map (λ (l : Line). l.count) lines ≡ map (λ (l : LineData). length l.items) ls → is ≡ items_in ls → lines_read lines is ≡ ls
 read_back [] is [] r c e = refl
@@ -69,7 +69,7 @@ read_back (l ∷ lines) is (x ∷ ls) r c e = joined (read_back lines (drop l.co
 pub read_lines : (lines : List Line) (items : List Item) (ls : List LineData) → AreRead lines items ls → lines_read lines (map item_of items) ≡ ls
 read_lines lines items ls h = read_back lines (map item_of items) ls h.rules h.counts h.items_are
 
--- as many as were read
+-- the number of lines so far
 pub length-lines_read : (lines : List Line) (is : List ItemData) → length (lines_read lines is) ≡ length lines
 length-lines_read [] is = refl
 length-lines_read (l ∷ lines) is = ap suc (length-lines_read lines (drop l.count is))
@@ -92,7 +92,7 @@ module _ (source : List ℕ) (lines next : List Line) (old new : List Item) (res
       let P : List ℕ → Type 0 = λ k. AreRead next new (map line_in r.parts ++ line_in k ∷ []) in
       one_more r.parts next new l (subst P e (more (map line_in r.parts) r.are_read))
 
-  -- a line more
+  -- a further line
   pub reading_more : (i : ℕ) (behind : List ℕ) → position is_feed rest ≡ Some i → line ≡ take i rest → behind ≡ drop (i + 1) rest → Reading source next new behind
   reading_more i behind found e f = record {
     parts = r.parts ++ take i rest ∷ [];
@@ -106,7 +106,7 @@ module _ (source : List ℕ) (lines next : List Line) (old new : List Item) (res
       let P : List (List ℕ) → Type 0 = λ parts. AreRead next new (map line_in parts) in
       subst P (lines_end r.parts rest none ∙ r.parted) (with_line rest e)
 
--- as many lines as line feeds, and one
+-- one line more than line feeds
 pub few_read : (source : List ℕ) (lines : List Line) (is : List ItemData) → lines_read lines is ≡ lines_in source → length lines ≤ length source + 1
 few_read source lines is e =
     let long = sym (length-lines_read lines is) ∙ ap length e ∙ length-map (slice_split is_feed source) line_in ∙ length-slice_split is_feed source in

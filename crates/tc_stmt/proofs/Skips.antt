@@ -1,4 +1,4 @@
--- Rows of another key than a statement's name are passed over.
+-- A search can skip rows with another key than the statement's name.
 use Rattle.std.proofs.Common.{◌≡◌, ◌<◌, ◌+◌, ◌-◌, ◌==◌, ◌&&◌, ℕ, zero, suc, Bool, true, false, List, [], ◌∷◌, length, get_or, drop, map, Err, refl, sym, ap, ◌∙◌, eq-eqb, arith}
 use Rattle.std.specs.Prelude.{not, nat_lt}
 use Rattle.std.specs.Str.{bytes_eq}
@@ -60,7 +60,7 @@ first_of c rs (n ∷ ns) (suc k) within h =
     let parts = and_parts (none_has n c rs) (are_first (c + 1) rs ns) h in
     ap (λ d. none_has (get_or ns k 0) d rs) (omega arith) ∙ first_of (c + 1) rs ns k (omega arith) parts.1
 
--- what a place of the second table is
+-- a place in the table of next rows
 pub record IsNextRow (rs : List RowData) (k i n : ℕ) (r : RowData) : Type 0 where
   pub later : k + i < n
   pub none : none_has (n - (k + i + 1)) (name_key r.name) (drop (i + 1) rs) ≡ true
@@ -86,7 +86,7 @@ next_of k (r ∷ rs) (n ∷ ns) (suc i) d within there h =
       none = ap (λ j. none_has far c (drop j (r ∷ rs))) place ∙ ap (λ m. none_has m c (drop (i + 1) rs)) same ∙ more.none;
     }
 
--- the place behind a row that has the key of a name
+-- the place after a row that has the key of a name
 pub next_behind : (rs : List RowData) (ns : List ℕ) (i : ℕ) (name : List ℕ) (d : RowData) → i < length rs → i < length ns → are_next 0 rs ns ≡ true
     → (name_key (get_or rs i d).name == name_key name) ≡ true → (i < get_or ns i 0) × (none_has (get_or ns i 0 - (i + 1)) (name_key name) (drop (i + 1) rs) ≡ true)
 next_behind rs ns i name d within there h alike =
@@ -95,7 +95,7 @@ next_behind rs ns i name d within there h alike =
     let same : get_or ns i 0 - (i + 1) ≡ get_or ns i 0 - (0 + i + 1) = omega arith in
     (omega (arith, is.later), ap (λ m. none_has m (name_key name) (drop (i + 1) rs)) same ∙ ap (λ c. none_has (get_or ns i 0 - (0 + i + 1)) c (drop (i + 1) rs)) (sym letter) ∙ is.none)
 
--- ---- the same in the words of the code
+-- ---- the tables, for values of the code
 pub first_right : (rows : List RowData) (ns name : List ℕ) (key result : ℕ) → key < length ns → result ≡ get_or ns key 0 → key ≡ name_key name → are_first 0 rows ns ≡ true
     → none_has result (name_key name) rows ≡ true
 first_right rows ns name key result within e f h =

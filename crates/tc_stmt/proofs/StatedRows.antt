@@ -1,4 +1,4 @@
--- The fields that operands give fit the row, and so do symbols.
+-- The fields that operands fill fit the row, and so do symbols.
 use Rattle.std.proofs.Common.{◌≡◌, ◌<◌, ◌≤◌, ◌+◌, ◌-◌, ◌*◌, ◌/◌, ◌%◌, ◌^◌, ◌&&◌, ◌||◌, ◌==◌, min, ℕ, zero, suc, Bool, true, false, cond, List, [], ◌∷◌, Option, Some, None, Result, Ok, Err, refl, sym, ap, subst, ◌∙◌, arith}
 use Rattle.std.specs.Prelude.{slice_get, nat_lt, nat_le, not, codes, option_and_then}
 use Rattle.std.specs.List.{list_all}
@@ -31,7 +31,7 @@ use Rattle.tc_stmt.specs.Stated.{is_short_jump, TakesSymbol, Symbols, Stated, Is
 use Rattle.tc_stmt.proofs.Cases.{by_test, one_passes}
 use Rattle.tc_stmt.proofs.ZeroConstants.{zero_judged}
 
--- ---- rows and what they want
+-- ---- rows and their wants
 -- the row's text names the field
 abbrev is_used : Field → Uses → Bool
 is_used C u = u.c
@@ -40,7 +40,7 @@ is_used S2 u = u.s2
 is_used N u = u.n
 is_used K u = u.k
 
--- the row has a field for what it wants, wide enough
+-- the row has a field for the want, wide enough
 abbrev suits : RowData → Want → Bool
 suits r (Reg bank field) = is_used field (uses_of r) && nat_le 16 (field_of field (bounds r.form))
 suits r A10 = true
@@ -63,7 +63,7 @@ all_suit = refl
 row_suit : (k : ℕ) (r : RowData) → slice_get listed k ≡ Some r → (list_all (suits r) (wants_of r) ≡ true) × (halves_long r ≡ true)
 row_suit k r at = and_parts (list_all (suits r) (wants_of r)) (halves_long r) (one_passes row_suits listed k r all_suit at)
 
--- ---- what a row has so far
+-- ---- the fields so far
 pub record Sound (r : RowData) (f : RowFieldsData) : Type 0 where
   pub below : IsBelow f.fields (bounds r.form)
   pub zero : rest_is_zero (uses_of r) f.fields ≡ true
@@ -81,7 +81,7 @@ sound_none r = record { some = λ g e. cc }
 sound_broken : (r : RowData) (n : ℕ) (f : RowFieldsData) → Sound r f → Sound r (with_rule n f)
 sound_broken r n f s = record { below = s.below; zero = s.zero; symbols = s.symbols }
 
--- ---- one field
+-- ---- a single field
 abbrev all_five : Bool → Bool → Bool → Bool → Bool → Bool
 all_five a b c d e = a && b && c && d && e
 
@@ -396,7 +396,7 @@ sound_judged k r os f at e rule =
     by None h e = cc
     by (Some g) h e = let same : kept_apart r g ≡ f = cc in sound_apart r g f (h.some g refl) same rule
 
--- the row that a statement is
+-- the row of a statement
 record Chosen (os : List OperandData) (rows : List RowData) (place k : ℕ) (f : RowFieldsData) : Type 0 where
   at : ℕ
   row : RowData

@@ -1,4 +1,4 @@
--- The constant of a row is 0 where a symbol is to fill it.
+-- The constant of a row is 0 if a symbol is to fill it.
 use Rattle.std.proofs.Common.{◌≡◌, ◌+◌, ◌*◌, ◌/◌, ◌%◌, ◌^◌, ◌&&◌, ◌||◌, ◌==◌, ℕ, Bool, true, false, cond, List, [], ◌∷◌, Option, Some, None, refl, sym, subst, ◌∙◌}
 use Rattle.std.specs.Prelude.{slice_get, nat_le, not, codes, option_and_then}
 use Rattle.std.specs.List.{list_all}
@@ -35,7 +35,7 @@ takes r _ = true
 abbrev none_takes : RowData → List Want → Bool
 none_takes r ws = list_all (λ w. not (takes r w)) ws
 
--- at most one of a row's operands does
+-- at most one of a row's operands sets the constant or the symbol
 abbrev one_takes : RowData → List Want → Bool
 one_takes r [] = true
 one_takes r (w ∷ ws) = cond (takes r w) (none_takes r ws) (one_takes r ws)
@@ -47,13 +47,13 @@ all_take : list_all row_takes listed ≡ true
 unfolding wants_of want_of form_index half_kind shape_index
 all_take = refl
 
--- ---- what a row has so far
--- neither a constant nor a symbol
+-- ---- the fields so far
+-- neither a constant nor a symbol so far
 record IsFree (f : RowFieldsData) : Type 0 where
   none : f.reference ≡ None
   zero : f.fields.k ≡ 0
 
--- no constant where there is a symbol
+-- no constant if there is a symbol
 pub record IsZero (f : RowFieldsData) : Type 0 where
   pub some : (s : ReferenceData) → f.reference ≡ Some s → f.fields.k ≡ 0
 
@@ -86,7 +86,7 @@ zero_free f h = record { some = λ s e. h.zero }
 zero_none : (f : RowFieldsData) → f.reference ≡ None → IsZero f
 zero_none f h = record { some = λ s e. cc }
 
--- ---- operands that set neither
+-- ---- operands that set neither constant nor symbol
 kept_same : (f : RowFieldsData) → IsKept f f
 kept_same f = record { reference = refl; constant = refl }
 
@@ -157,7 +157,7 @@ kept_fill r (Number signed field) o f h = by_test (IfSo (IsKept f)) o.is_memory 
 kept_fill r (Memory plus offset) o f h = kept_memory r plus offset o f h
 kept_fill r _ o f h = cc
 
--- ---- operands that set one of both
+-- ---- operands that set the constant or the symbol
 none_put : (field : Field) (v : ℕ) (f : RowFieldsData) → IsFree f → IsZero (with_value field v f)
 none_put field v f h = zero_none (with_value field v f) h.none
 
@@ -263,7 +263,7 @@ one_all r (w ∷ ws) (o ∷ os) f h z = by (takes r w) refl h (λ g k. one_all r
 zero_apart : (r : RowData) (f : RowFieldsData) → IsZero f → IsZero (kept_apart r f)
 zero_apart r f h = by_test IsZero (is_apart r f.fields) f (with_rule 12 f) (λ e. h) (λ e. zero_kept f (with_rule 12 f) h (kept_broken 12 f))
 
--- what a listed row makes of operands has no constant where it has a symbol
+-- a listed row's fields have no constant if they have a symbol
 pub zero_judged : (k : ℕ) (r : RowData) (os : List OperandData) (f : RowFieldsData) → slice_get listed k ≡ Some r → fields_of_row r (wants_of r) os ≡ Some f → IsZero f
 unfolding fields_of_row
 zero_judged k r os f at e =

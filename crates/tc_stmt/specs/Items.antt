@@ -1,12 +1,12 @@
--- What the lines of a source add to it, one thing after another.
+-- The items that the lines of a source add to it, in order.
 use Rattle.std.specs.Prelude.{ℕ, List, take, Option, option_map}
 use Rattle.tc_isa.specs.declared.fields.Fields.{Fields}
 use Rattle.tc_stmt.specs.RowFields.{ReferenceData, reference_of}
 use Rattle.tc_stmt.specs.declared.item.Item.{Item}
 use Rattle.tc_stmt.specs.declared.item.Item.TheVariants as item
 
--- A label; a section that begins or goes on; a name made global; an instruction of the row with this number, with these
--- fields and perhaps a symbol; bytes, perhaps with a symbol; so many zeros.
+-- A label; a section to continue or begin; a global name; an instruction of the row with this
+-- number, with its fields and perhaps a symbol; bytes, perhaps with a symbol; a number of zeros.
 pub data ItemData : Type 0 where
   label : List ℕ → ItemData
   section : List ℕ → ItemData
@@ -15,7 +15,7 @@ pub data ItemData : Type 0 where
   bytes : List ℕ → Option ReferenceData → ItemData
   zeros : ℕ → ItemData
 
--- a thing of the code without where its bytes lie
+-- the plain data of an item
 abbrev pub item_of : Item → ItemData
 item_of (item.Label name) = label name.now
 item_of (item.Section name) = section name.now

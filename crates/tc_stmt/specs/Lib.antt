@@ -1,4 +1,4 @@
--- Statements: tokens, operands, what a row wants of them, and the row that a statement is.
+-- Statements: tokens, operands, the operands that rows want, and the row of a statement.
 pub mod Names
 pub mod Wants
 pub mod RowFields

@@ -1,4 +1,4 @@
--- What a line is by itself.
+-- The meaning of a line by itself.
 use Rattle.std.specs.Prelude.{◌≡◌, ℕ, ◌+◌, ◌++◌, IfOk, ◌==◌, ◌&&◌, min, Bool, false, if◌then◌else◌, List, [], ◌∷◌, codes, take, drop, length, map, fold, find, Option, Some, None, Result, Ok, Err}
 use Rattle.std.specs.Option.{option_map_or}
 use Rattle.std.specs.List.{flat_map, slice_split}
@@ -17,57 +17,58 @@ use Rattle.tc_stmt.specs.declared.item.Item.{Item}
 use Rattle.tc_stmt.specs.Items.{ItemData, item_of, label, section, global, code, zeros}
 use Rattle.tc_stmt.specs.Values.{value_rule, value_item, space_rule, space_item}
 
--- the least rule that a line breaks by itself (15 is none), and what it adds to its source
+-- the least rule that a line breaks by itself (15 is none), and the items that it adds to its
+-- source
 pub record LineData : Type 0 where
   pub rule : ℕ
   pub items : List ItemData
 
--- a line that breaks this rule by itself and adds these things
+-- a line that breaks this rule by itself and adds these items
 abbrev pub line_data : ℕ → List ItemData → LineData
 line_data rule items = record { rule = rule; items = items }
 
--- a line whose things stand behind these
+-- a line whose items come after these
 abbrev pub behind : List ItemData → LineData → LineData
 behind is l = line_data l.rule (is ++ l.items)
 
--- a line was read: its rule is told, and its things stand behind those before
+-- the code read this line: it returned the rule, and added the items to the list
 abbrev pub Adds : {E : Type 0} → LineData → Result ℕ E → List Item → List Item → Type 0
 Adds l result old new = IfOk result (λ rule. line_data rule (map item_of new) ≡ behind (map item_of old) l)
 
 -- ---- statements
--- the one operand of `.section` and `.global`: a Word
+-- the only operand of `.section` and `.global` is a word
 unfoldable pub is_word_operand : OperandData → Bool
 is_word_operand o = if o.is_memory then false else is_word o.value.shape
 
--- the name that is the one operand, if it is so
+-- the name that is the only operand, if it is so
 unfoldable pub word_of : List OperandData → Option (List ℕ)
 word_of [] = None
 word_of (o ∷ []) = if is_word_operand o then Some o.value.name else None
 word_of (o ∷ p ∷ os) = None
 
--- `.section NAME` or `.global NAME`; else rule 3
+-- `.section NAME` or `.global NAME`; any other operands break rule 3
 unfoldable pub named_line : (List ℕ → ItemData) → List OperandData → LineData
 named_line make os = option_map_or (λ name. line_data no_rule (make name ∷ [])) (word_of os) (line_data wrong_operands [])
 
--- `.space N`; without its one operand rule 3
+-- `.space N`; any other operands break rule 3
 unfoldable pub space_line : List OperandData → LineData
 space_line [] = line_data wrong_operands (zeros 0 ∷ [])
 space_line (o ∷ []) = line_data (space_rule o) (space_item o ∷ [])
 space_line (o ∷ p ∷ os) = line_data wrong_operands (zeros 0 ∷ [])
 
--- the least rule that values break, of which there is one at least
+-- the least rule that values break; no values break rule 3
 unfoldable pub values_rule : ℕ → List OperandData → ℕ
 values_rule width os = fold (λ rule o. min rule (value_rule width o)) (if length os == 0 then wrong_operands else no_rule) os
 
--- `.byte`, `.half` or `.word` with values of so many bytes
+-- `.byte`, `.half` or `.word` with values of this many bytes
 unfoldable pub values_line : ℕ → List OperandData → LineData
 values_line width os = line_data (values_rule width os) (map (value_item width) os)
 
--- how many bytes the instructions of this name have; 0 where there is none
+-- the size in bytes of the instructions with this name, and 0 if there are none
 unfoldable pub size_of_name : List ℕ → ℕ
 size_of_name name = option_map_or (λ r. if is_long r then 4 else 2) (find (λ r. bytes_eq r.name name) listed) 0
 
--- an instruction; where it breaks a rule, as many zeros as instructions of its name have bytes
+-- an instruction; if it breaks a rule, zeros in the size of the instructions with its name
 abbrev pub code_line : List ℕ → Result (ℕ × RowFieldsData) ℕ → LineData
 code_line name (Ok found) = line_data no_rule (code found.0 found.1.fields found.1.reference ∷ [])
 code_line name (Err rule) = line_data rule (zeros (size_of_name name) ∷ [])
@@ -90,15 +91,15 @@ line_from ps at =
     if length ps == at then line_data no_rule []
     else (if is_kind ps at kind.Word then stated_line (text_at ps at) (operands (drop (at + 1) ps)) else line_data 1 [])
 
--- a label in front: a Word and a `:`
+-- the line begins with a label: a word and a `:`
 abbrev pub has_label : List PieceData → Bool
 has_label ps = is_kind ps 0 kind.Word && is_kind ps 1 kind.Colon
 
--- a line with this label in front
+-- a line after this label
 abbrev pub line_with_label : List ℕ → LineData → LineData
 line_with_label name l = line_data l.rule (label name ∷ l.items)
 
--- a label, where the line begins with one, and what follows it
+-- a label, if the line begins with one, and what follows it
 unfoldable pub pieces_line : List PieceData → LineData
 pieces_line ps = if has_label ps then line_with_label (text_at ps 0) (line_from ps 2) else line_from ps 0
 
@@ -110,16 +111,17 @@ text_in line from to = text_between line from to
 abbrev pub piece_in : List ℕ → Token → PieceData
 piece_in line t = with_text line t
 
--- the label alone that tokens begin with
+-- the label at the start of these tokens, if there is one
 unfoldable pub label_of : List PieceData → List ItemData
 label_of ps = if has_label ps then label (text_at ps 0) ∷ [] else []
 
--- the label that a text begins with, which is cut into these tokens
+-- the label at the start of a text with these tokens, if there is one
 abbrev pub label_before : List ℕ → Result (List Token) ℕ → List ItemData
 label_before text (Ok ts) = label_of (map (piece_in text) ts)
 label_before text (Err at) = []
 
--- a line that is cut into these tokens; rule 1 where it can't be cut, and the label before that place defines its name even so
+-- the line with these tokens; a line that can't be cut breaks rule 1, but the label before the
+-- fault still defines its name
 abbrev pub cut_line : List ℕ → Result (List Token) ℕ → LineData
 cut_line line (Ok ts) = pieces_line (map (piece_in line) ts)
 cut_line line (Err at) = line_data 1 (label_before (take at line) (tokens_of (take at line)))
@@ -128,10 +130,10 @@ cut_line line (Err at) = line_data 1 (label_before (take at line) (tokens_of (ta
 abbrev pub line_in : List ℕ → LineData
 line_in line = cut_line line (tokens_of line)
 
--- the lines of a source, parted by line feeds
+-- the lines of a source, separated by line feeds
 abbrev pub lines_in : List ℕ → List LineData
 lines_in source = map line_in (slice_split (λ c. c == 10) source)
 
--- all that the lines add, in order
+-- the items of all lines, in order
 abbrev pub items_in : List LineData → List ItemData
 items_in lines = flat_map (λ (l : LineData). l.items) lines

@@ -1,4 +1,4 @@
--- What a source is that was read.
+-- The plain data of a source that was read.
 use Rattle.std.specs.Prelude.{◌≡◌, List, [], ◌∷◌, length, map, take, drop}
 use Rattle.tc_stmt.specs.declared.source.Line.{Line}
 use Rattle.tc_stmt.specs.declared.source.Source.{Source}
@@ -6,16 +6,16 @@ use Rattle.tc_stmt.specs.declared.item.Item.{Item}
 use Rattle.tc_stmt.specs.Items.{ItemData, item_of}
 use Rattle.tc_stmt.specs.Lines.{LineData, line_data, items_in}
 
--- lines that are read, each with its number of the things
+-- the plain data of lines, each with its own items
 abbrev pub lines_read : List Line → List ItemData → List LineData
 lines_read [] is = []
 lines_read (l ∷ ls) is = line_data l.rule (take l.count is) ∷ lines_read ls (drop l.count is)
 
--- the lines of a source that is read
+-- the plain data of the lines of a source
 abbrev pub lines_of : Source → List LineData
 lines_of s = lines_read s.lines.items (map item_of s.items.items)
 
--- these are the rules of the lines so far, how many things each adds, and the things
+-- the lines and items so far are those of these lines
 pub record AreRead (lines : List Line) (items : List Item) (ls : List LineData) : Type 0 where
   pub rules : map (λ (l : Line). l.rule) lines ≡ map (λ (l : LineData). l.rule) ls
   pub counts : map (λ (l : Line). l.count) lines ≡ map (λ (l : LineData). length l.items) ls

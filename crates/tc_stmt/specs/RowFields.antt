@@ -1,4 +1,4 @@
--- What operands give a row: its fields, a symbol, and the least rule that they break.
+-- The fields and the symbol that operands fill in a row, and the least rule that they break.
 use Rattle.std.specs.Prelude.{◌≡◌, ℕ, ◌+◌, ◌-◌, ◌*◌, ◌/◌, ◌%◌, ◌^◌, ◌==◌, ◌&&◌, ◌||◌, not, nat_lt, nat_le, min, Bool, true, if◌then◌else◌, List, [], ◌∷◌, length, codes, slice_index, Option, Some, None, option_map, option_and_then}
 use Rattle.std.specs.Str.{bytes_eq}
 use Rattle.tc_isa.specs.Relocations.{hi16, lo16, offset16, rel24, rel15, abs24}
@@ -20,36 +20,37 @@ use Rattle.tc_stmt.specs.declared.row_fields.Reference.{Reference}
 use Rattle.tc_stmt.specs.Names.{is_name}
 use Rattle.tc_lex.specs.Operands.{ValueData, OperandData}
 
--- A symbol whose address, with a number added, goes to a field: by a relocation of this kind, or at once where the kind is 0.
+-- A symbol whose address, plus or minus a number, goes into a field. The kind is that of the
+-- relocation; 0 means that the address is used at once.
 pub record ReferenceData : Type 0 where
   pub kind : ℕ
   pub name : List ℕ
   pub minus : Bool
   pub size : ℕ
 
--- a symbol's reference without where its name lies
+-- the plain data of a symbol's reference
 abbrev pub reference_of : Reference → ReferenceData
 reference_of r = record { kind = r.kind; name = r.name.now; minus = r.minus; size = r.size }
 
--- what a row has so far; rule 15 is none
+-- the fields and the symbol so far, and the least rule broken; 15 is none
 pub record RowFieldsData : Type 0 where
   pub fields : Fields
   pub rule : ℕ
   pub reference : Option ReferenceData
 
--- what a row has so far, without where a symbol's name lies
+-- the plain data of a row's fields
 abbrev pub row_fields_of : RowFields → RowFieldsData
 row_fields_of f = record { fields = f.fields; rule = f.rule; reference = option_map reference_of f.reference }
 
--- what operands give a row is this, where they are of its forms
+-- the code's answer is this: false for None, else the fields in the record
 abbrev pub Fills : Bool → RowFields → Option RowFieldsData → Type 0
 Fills fits f given = (if fits then Some (row_fields_of f) else None) ≡ given
 
--- what a row has before its first operand: fields that are all zero, no rule broken, no symbol
+-- the state before the first operand: zero fields, no rule broken, no symbol
 abbrev pub no_fields : RowFieldsData
 no_fields = record { fields = fields 0 0 0 0 0; rule = no_rule; reference = None }
 
--- what a row has once a rule is broken: the least rule counts
+-- the state after a rule is broken: the least rule counts
 abbrev pub with_rule : ℕ → RowFieldsData → RowFieldsData
 with_rule rule acc = record acc { rule = min acc.rule rule }
 
@@ -70,11 +71,11 @@ field_of S2 f = f.s2
 field_of N f = f.n
 field_of K f = f.k
 
--- what a row has once a field got its value
+-- the state after a field got its value
 abbrev pub with_value : Field → ℕ → RowFieldsData → RowFieldsData
 with_value field v acc = record acc { fields = set_field field v acc.fields }
 
--- the forms of a value by their numbers, so that they can be compared
+-- a number for each form of values, so that forms can be compared
 unfoldable pub shape_index : Shape → ℕ
 shape_index shape.Absent = 0
 shape_index shape.Number = 1
@@ -85,27 +86,27 @@ shape_index shape.Low = 5
 shape_index shape.Bad = 6
 shape_index shape.Huge = 7
 
--- nothing stands there
+-- there is no value
 abbrev pub is_absent : Shape → Bool
 is_absent s = shape_index s == 0
 
--- it is a number below 2^128
+-- the value is a number below 2^128
 abbrev pub is_number : Shape → Bool
 is_number s = shape_index s == 1
 
--- it is a name alone
+-- the value is a name alone
 abbrev pub is_word : Shape → Bool
 is_word s = shape_index s == 2
 
--- it is a name with a number added
+-- the value is a name plus a number
 abbrev pub is_sum : Shape → Bool
 is_sum s = shape_index s == 3
 
--- it is the upper half of an address
+-- the value is the upper half of an address
 abbrev pub is_high : Shape → Bool
 is_high s = shape_index s == 4
 
--- it is a number of 2^128 or more
+-- the value is a number of 2^128 or more
 abbrev pub is_huge : Shape → Bool
 is_huge s = shape_index s == 7
 
@@ -124,14 +125,14 @@ put_register bank field name acc =
     if register_of name / 16 == (if bank then 1 else 0) then with_value field (register_of name % 16) acc else with_rule wrong_register acc
 
 -- ---- numbers
--- whether a number fits a field with this bound
+-- a number fits a field with this bound
 unfoldable pub fits : Bool → ℕ → Bool → ℕ → Bool
 fits signed bound minus size =
     if signed
     then (if minus then nat_le size (bound / 2) else nat_lt size (bound / 2))
     else (if minus then size == 0 else nat_lt size bound)
 
--- modulo the bound
+-- a number modulo the bound
 abbrev pub wrap : ℕ → Bool → ℕ → ℕ
 wrap bound minus size = if minus && not (size == 0) then bound - size else size
 
@@ -141,11 +142,11 @@ put_number form signed field minus size acc =
     if fits signed (field_of field (bounds form)) minus size then with_value field (wrap (field_of field (bounds form)) minus size) acc else with_rule wide_number acc
 
 -- ---- symbols
--- the least rule that a symbol breaks anywhere
+-- the least rule that a symbol breaks in every place
 unfoldable pub symbol_rule : ValueData → ℕ
 symbol_rule v = if v.wide || nat_le (2 ^ 32) v.size then wide_number else (if is_name v.name then no_rule else bad_name)
 
--- a symbol's reference by a relocation of this kind, with the number that the value adds
+-- a symbol's reference by a relocation of this kind, with the number that is added
 abbrev pub reference : ℕ → ValueData → ReferenceData
 reference kind v = record { kind = kind; name = v.name; minus = v.minus; size = v.size }
 
@@ -153,7 +154,7 @@ reference kind v = record { kind = kind; name = v.name; minus = v.minus; size = 
 unfoldable pub with_symbol : ℕ → ValueData → RowFieldsData → RowFieldsData
 with_symbol kind v acc = if symbol_rule v == no_rule then record acc { reference = Some (reference kind v) } else with_rule (symbol_rule v) acc
 
--- a symbol where none may stand
+-- a symbol in a place that takes none
 abbrev pub with_misplaced : ValueData → RowFieldsData → RowFieldsData
 with_misplaced v acc = with_rule (min misplaced_symbol (symbol_rule v)) acc
 
@@ -161,7 +162,7 @@ with_misplaced v acc = with_rule (min misplaced_symbol (symbol_rule v)) acc
 abbrev pub is_named : RowData → List ℕ → Bool
 is_named r name = bytes_eq r.name name
 
--- the relocation of a half in this row, or 0
+-- the relocation of a half of an address in this row, or 0 if it has none
 unfoldable pub half_kind : RowData → Shape → ℕ
 half_kind r s =
     if is_high s
@@ -176,8 +177,8 @@ is_symbol i = i == 2 || i == 3
 abbrev pub is_half : ℕ → Bool
 is_half i = i == 4 || i == 5
 
--- ---- operands at their places; None where an operand's form doesn't belong there
--- a value at the place of a constant
+-- ---- operands, each at its own place; None if the operand has another form
+-- a value as a constant
 unfoldable pub fill_value : RowData → Bool → Field → ValueData → RowFieldsData → Option RowFieldsData
 fill_value r signed field v acc =
     if is_number v.shape then Some (put_number r.form signed field v.minus v.size acc)
@@ -186,7 +187,7 @@ fill_value r signed field v acc =
     else (if is_half (shape_index v.shape) then (if half_kind r v.shape == 0 then Some (with_misplaced v acc) else Some (with_symbol (half_kind r v.shape) v acc))
     else None)))
 
--- `[BASE]` or `[BASE+]` at its place, with an offset where the row has one: base plus offset and post-increment
+-- `[BASE]` or `[BASE+]`, with an offset if the row has one: base plus offset and post-increment
 -- (TriCore 1 architecture manual, volume 1, addressing modes)
 unfoldable pub fill_memory : RowData → Bool → Bool → OperandData → RowFieldsData → Option RowFieldsData
 fill_memory r plus offset o acc =
@@ -195,7 +196,7 @@ fill_memory r plus offset o acc =
     else (if offset then fill_value r true K o.value (put_register true S2 o.base acc) else None))
     else None
 
--- a displacement of so many bytes that doesn't fit: SBR (form 13) only reaches forwards
+-- a displacement of this many bytes doesn't fit; SBR (form 13) only reaches forwards
 abbrev pub is_far : Form → ℕ → Bool → ℕ → Bool
 is_far form bound minus size =
     if is_sbr form
@@ -206,22 +207,23 @@ is_far form bound minus size =
 abbrev pub is_odd : ℕ → Bool
 is_odd size = size % 2 == 1
 
--- the least rule that a displacement of so many bytes breaks
+-- the least rule that a displacement of this many bytes breaks
 unfoldable pub displacement_rule : RowData → Bool → ℕ → ℕ
 displacement_rule r minus size =
     min (if is_far r.form (bounds r.form).k minus size then (if is_long r then wide_number else far_target) else no_rule) (if is_odd size then odd_displacement else no_rule)
 
--- a displacement of so many bytes
+-- the fields with a displacement of this many bytes
 unfoldable pub with_displacement : RowData → Bool → ℕ → RowFieldsData → RowFieldsData
 with_displacement r minus size acc =
     if displacement_rule r minus size == no_rule then with_value K (wrap (bounds r.form).k minus (size / 2)) acc else with_rule (displacement_rule r minus size) acc
 
--- the relocation of a target: rel24 in a B row, rel15 in the other rows of 32 bits, none in those of 16
+-- the relocation of a target: rel24 in a B row, rel15 in other rows of 32 bits, and none in rows of
+-- 16 bits
 unfoldable pub target_kind : RowData → ℕ
 target_kind r = if is_long r then (if is_b r.form then rel24 else rel15) else 0
 
--- a value at the place of a jump's or call's target: a displacement from the instruction, or a symbol; a displacement of 2^128
--- bytes or more is a number that doesn't fit, in every row
+-- A value as the target of a jump or call: a displacement from the instruction, or a symbol. A
+-- displacement of 2^128 bytes or more doesn't fit any row.
 unfoldable pub fill_target : RowData → ValueData → RowFieldsData → Option RowFieldsData
 fill_target r v acc =
     if is_sum v.shape && bytes_eq v.name (codes ".")
@@ -230,7 +232,7 @@ fill_target r v acc =
     else (if is_half (shape_index v.shape) then Some (with_misplaced v acc)
     else None))
 
--- an absolute address, which has to have zeros between its segment and its field
+-- an absolute address, with zeros between its segment and its field
 unfoldable pub put_absolute : Form → Bool → ℕ → RowFieldsData → RowFieldsData
 put_absolute form minus size acc =
     if (minus && not (size == 0)) || nat_le (2 ^ 32) size then with_rule wide_number acc
@@ -238,7 +240,7 @@ put_absolute form minus size acc =
     then (if size / 2 ^ 14 % 2 ^ 14 == 0 then with_value K (size / 2 ^ 28 * 2 ^ 14 + size % 2 ^ 14) acc else with_rule wide_number acc)
     else (if size / 2 ^ 21 % 2 ^ 7 == 0 && size % 2 == 0 then with_value K (size / 2 ^ 28 * 2 ^ 20 + size % 2 ^ 21 / 2) acc else with_rule wide_number acc))
 
--- a value at the place of an absolute address: a number, or a symbol in the rows of jumps and calls
+-- a value as an absolute address: a number, or a symbol in the rows of jumps and calls
 unfoldable pub fill_absolute : RowData → ValueData → RowFieldsData → Option RowFieldsData
 fill_absolute r v acc =
     if is_number v.shape then Some (put_absolute r.form v.minus v.size acc)
@@ -247,16 +249,16 @@ fill_absolute r v acc =
     else (if is_half (shape_index v.shape) then Some (with_misplaced v acc)
     else None)))
 
--- a value at the place of a register: a name
+-- a value as a register: a name
 unfoldable pub fill_register : Bool → Field → ValueData → RowFieldsData → Option RowFieldsData
 fill_register bank field v acc = if is_word v.shape then Some (put_register bank field v.name acc) else None
 
--- a value at the place of a10, the stack pointer, which stands in no field (TriCore 1 architecture manual, volume 1,
--- general purpose and system registers)
+-- The value a10, the stack pointer, which no field holds. Source: TriCore 1 architecture manual,
+-- volume 1, general purpose and system registers.
 unfoldable pub fill_a10 : ValueData → RowFieldsData → Option RowFieldsData
 fill_a10 v acc = if is_word v.shape then (if bytes_eq v.name (codes "a10") then Some acc else Some (with_rule wrong_register acc)) else None
 
--- an operand without brackets at its place
+-- an operand without brackets
 unfoldable pub fill_plain : RowData → Want → ValueData → RowFieldsData → Option RowFieldsData
 fill_plain r (Reg bank field) v acc = fill_register bank field v acc
 fill_plain r A10 v acc = fill_a10 v acc
@@ -265,7 +267,7 @@ fill_plain r Target v acc = fill_target r v acc
 fill_plain r Absolute v acc = fill_absolute r v acc
 fill_plain r (Memory plus offset) v acc = None
 
--- an operand at the place where the row wants this
+-- the operand that the row wants here
 unfoldable pub fill : RowData → Want → OperandData → RowFieldsData → Option RowFieldsData
 fill r (Memory plus offset) o acc = fill_memory r plus offset o acc
 fill r w o acc = if o.is_memory then None else fill_plain r w o.value acc
@@ -277,10 +279,10 @@ fill_all r [] (o ∷ os) acc = None
 fill_all r (w ∷ ws) [] acc = None
 fill_all r (w ∷ ws) (o ∷ os) acc = option_and_then (fill_all r ws os) (fill r w o acc)
 
--- registers that have to differ
+-- registers that must differ break rule 12 if they are equal
 abbrev pub kept_apart : RowData → RowFieldsData → RowFieldsData
 kept_apart r f = if is_apart r f.fields then f else with_rule equal_registers f
 
--- what a row makes of operands; None where their forms aren't its own
+-- the row's fields after all operands; None if their forms aren't those of the row
 unfoldable pub fields_of_row : RowData → List Want → List OperandData → Option RowFieldsData
 fields_of_row r ws os = option_and_then (λ f. Some (kept_apart r f)) (fill_all r ws os no_fields)

@@ -37,7 +37,7 @@ no_section = 8
 abbrev pub bad_name : ℕ
 bad_name = 9
 
--- a symbol where none may stand
+-- a symbol in a place that takes none
 abbrev pub misplaced_symbol : ℕ
 misplaced_symbol = 10
 
@@ -57,6 +57,6 @@ past_limits = 13
 abbrev pub undefined_global : ℕ
 undefined_global = 14
 
--- no rule is broken: more than the number of each rule
+-- no rule is broken; the number is above those of all rules
 abbrev pub no_rule : ℕ
 no_rule = 15

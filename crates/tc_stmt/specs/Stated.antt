@@ -1,4 +1,4 @@
--- What a statement's row has: fields that fit it, and a symbol that it takes.
+-- A statement that breaks no rule: its fields fit its row, and the row takes its symbol.
 use Rattle.std.specs.Prelude.{◌≡◌, ◌||◌, ℕ, Bool, true, List, slice_get, Option, Some, Ok}
 use Rattle.tc_isa.specs.Rows.{RowData, listed}
 use Rattle.tc_isa.specs.declared.table.Form.{Form}
@@ -14,14 +14,14 @@ use Rattle.tc_stmt.specs.StatementRow.{statement}
 abbrev pub is_short_jump : Form → Bool
 is_short_jump form = is_sb form || is_sbr form
 
--- A symbol that the row has a field for: its relocation, if it waits for one, fills the constant of this row of 32 bits; a
--- jump of 16 bits, which takes none, has a constant of its form.
+-- The row has a field for the symbol. In a row of 32 bits the symbol's relocation fills the
+-- constant. A jump of 16 bits has no relocation, and its form has a constant.
 pub record TakesSymbol (r : RowData) (s : ReferenceData) : Type 0 where
   pub named : is_name s.name ≡ true
   pub long : is_reloc s.kind ≡ true → (is_long r ≡ true) × (fills r.form s.kind ≡ true)
   pub target : s.kind ≡ 0 → ((uses_of r).k ≡ true) × (is_short_jump r.form ≡ true)
 
--- a symbol, if there is one, that the row has a field for
+-- if there is a symbol, the row has a field for it
 pub record Symbols (r : RowData) (o : Option ReferenceData) : Type 0 where
   pub some : (s : ReferenceData) → o ≡ Some s → TakesSymbol r s
 
@@ -30,13 +30,14 @@ pub record Stated (r : RowData) (f : RowFieldsData) : Type 0 where
   pub fits : Fits r f.fields
   pub symbols : Symbols r f.reference
 
--- the row of this number is listed, the fields fit it, and it takes the symbol; where there is one, the constant is 0
+-- the row of this number is listed, the fields fit it, and it takes the symbol; with a symbol, the
+-- constant is 0
 pub record IsStated (k : ℕ) (f : RowFieldsData) : Type 0 where
   pub row : RowData
   pub at : slice_get listed k ≡ Some row
   pub stated : Stated row f
   pub zero : (s : ReferenceData) → f.reference ≡ Some s → f.fields.k ≡ 0
 
--- what a statement that breaks no rule is, fits its row
+-- a statement that breaks no rule fits its row
 abbrev pub StatedLaw : Type 0
 StatedLaw = (name : List ℕ) (os : List OperandData) (k : ℕ) (f : RowFieldsData) → statement name os ≡ Ok (k, f) → IsStated k f

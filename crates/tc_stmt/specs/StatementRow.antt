@@ -1,4 +1,4 @@
--- Which row a statement is, or the least rule that it breaks.
+-- The row of a statement, or the least rule that the statement breaks.
 use Rattle.std.specs.Prelude.{◌≡◌, ℕ, ◌+◌, ◌==◌, min, true, false, if◌then◌else◌, List, [], ◌∷◌, Result, Ok, Err}
 use Rattle.std.specs.Option.{option_map_or}
 use Rattle.std.specs.Str.{bytes_eq}
@@ -10,27 +10,28 @@ use Rattle.tc_stmt.specs.Wants.{wants_of}
 use Rattle.tc_lex.specs.Operands.{OperandData}
 use Rattle.tc_stmt.specs.RowFields.{RowFieldsData, row_fields_of, fields_of_row}
 
--- before the first row: none had the name, none fit, no rule was broken
+-- the tally before the first row: none had the name, none had the forms, no rule was broken
 abbrev pub start : Tally
 start = record { named = false; fits = false; least = no_rule }
 
--- a row: what it makes of the operands where it breaks no rule, else what is known after it
+-- the row's fields if the statement fits it, else the tally after the row
 unfoldable pub after_row : List ℕ → List OperandData → RowData → Tally → Result RowFieldsData Tally
 after_row name os r t =
     if bytes_eq r.name name
     then option_map_or (λ f. if f.rule == no_rule then Ok f else Err (record { named = true; fits = true; least = min t.least f.rule })) (fields_of_row r (wants_of r) os) (Err (record t { named = true }))
     else Err t
 
--- the least rule that is broken where no row fits
+-- the least rule that is broken if no row fits
 abbrev pub rule_of : Tally → ℕ
 rule_of t = if t.named then (if t.fits then t.least else wrong_operands) else unknown_statement
 
--- the row of this number, where it is the statement, else what the next rows give
+-- the row of this number if the statement fits it, else the outcome of the next rows
 abbrev pub or_next : Result RowFieldsData Tally → ℕ → (Tally → Result (ℕ × RowFieldsData) ℕ) → Result (ℕ × RowFieldsData) ℕ
 or_next (Ok f) place next = Ok (place, f)
 or_next (Err t) place next = next t
 
--- the first of these rows, numbered from a place on, that the statement is, or the least rule that it breaks
+-- the first of these rows, numbered from this place on, that the statement fits, or the least rule
+-- that it breaks
 unfoldable pub outcome : List ℕ → List OperandData → List RowData → ℕ → Tally → Result (ℕ × RowFieldsData) ℕ
 outcome name os [] place t = Err (rule_of t)
 outcome name os (r ∷ rs) place t = or_next (after_row name os r t) place (outcome name os rs (place + 1))
@@ -39,12 +40,12 @@ outcome name os (r ∷ rs) place t = or_next (after_row name os r t) place (outc
 abbrev pub statement : List ℕ → List OperandData → Result (ℕ × RowFieldsData) ℕ
 statement name os = outcome name os listed 0 start
 
--- what the code makes of a row is this
+-- the code's answer for a row is this
 abbrev pub Steps : Result RowFields Tally → Result RowFieldsData Tally → Type 0
 Steps (Ok f) r = r ≡ Ok (row_fields_of f)
 Steps (Err t) r = r ≡ Err t
 
--- what the code makes of a statement is this
+-- the code's answer for a statement is this
 abbrev pub Judges : Result (ℕ × RowFields) ℕ → Result (ℕ × RowFieldsData) ℕ → Type 0
 Judges (Ok p) r = r ≡ Ok (p.0, row_fields_of p.1)
 Judges (Err e) r = r ≡ Err e

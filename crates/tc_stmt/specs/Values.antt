@@ -7,11 +7,11 @@ use Rattle.tc_lex.specs.Operands.{OperandData}
 use Rattle.tc_stmt.specs.RowFields.{shape_index, is_symbol, is_half, symbol_rule, wrap, reference, is_number, is_huge}
 use Rattle.tc_stmt.specs.Items.{ItemData, bytes, zeros}
 
--- a number fits a width of so many bits, signed or unsigned
+-- a number fits this many bits, signed or unsigned
 abbrev pub fits_width : ℕ → Bool → ℕ → Bool
 fits_width bits minus size = if minus then nat_le size (2 ^ bits / 2) else nat_lt size (2 ^ bits)
 
--- the least rule that a value of so many bytes breaks; 15 is none
+-- the least rule that a value of this many bytes breaks; 15 is none
 unfoldable pub value_rule : ℕ → OperandData → ℕ
 value_rule width o =
     if o.is_memory then wrong_operands
@@ -20,14 +20,14 @@ value_rule width o =
     else (if is_symbol (shape_index o.value.shape) then (if width == 4 then symbol_rule o.value else min misplaced_symbol (symbol_rule o.value))
     else (if is_half (shape_index o.value.shape) then min misplaced_symbol (symbol_rule o.value) else wrong_operands))))
 
--- what a value of so many bytes adds: the lowest byte first; zeros where it breaks a rule
+-- the item for a value of this many bytes: the lowest byte first, and zeros if it breaks a rule
 unfoldable pub value_item : ℕ → OperandData → ItemData
 value_item width o =
     if not (value_rule width o == no_rule) then zeros width
     else (if is_number o.value.shape then bytes (take width (four_bytes (wrap (2 ^ 32) o.value.minus o.value.size))) None
     else bytes (take width (0 ∷ 0 ∷ 0 ∷ 0 ∷ [])) (Some (reference word32 o.value)))
 
--- the least rule that the number of zeros breaks by itself
+-- the least rule that the operand of `.space` breaks by itself
 unfoldable pub space_rule : OperandData → ℕ
 space_rule o =
     if o.is_memory then wrong_operands
@@ -35,6 +35,6 @@ space_rule o =
     else (if is_huge o.value.shape then wide_number
     else (if is_symbol (shape_index o.value.shape) || is_half (shape_index o.value.shape) then min misplaced_symbol (symbol_rule o.value) else wrong_operands)))
 
--- zeros; none where a rule is broken
+-- the item for `.space`: zeros, and none of them if a rule is broken
 unfoldable pub space_item : OperandData → ItemData
 space_item o = zeros (if space_rule o == no_rule then o.value.size else 0)

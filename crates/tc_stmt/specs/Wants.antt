@@ -1,4 +1,4 @@
--- What the operand texts of the rows mean.
+-- The meaning of the operand texts of the rows.
 use Rattle.std.specs.Prelude.{ℕ, ◌==◌, true, false, if◌then◌else◌, List, [], ◌∷◌, map, codes}
 use Rattle.std.specs.Borrow.{Bor}
 use Rattle.std.specs.List.{slice_split}
@@ -29,15 +29,15 @@ want_of text =
     else (if bytes_eq text (codes "[As2]sk") then Memory false true
     else Memory true true)))))))))))))))
 
--- a text without the blank that it begins with
+-- a text without its leading blank
 abbrev pub without_blank : List ℕ → List ℕ
 without_blank (c ∷ cs) = if c == 32 then cs else (c ∷ cs)
 without_blank [] = []
 
--- what a row wants: its operand text, parted by commas
+-- the operands that a row wants: its operand text, split at commas
 unfoldable pub wants_of : RowData → List Want
 wants_of r = if bytes_eq r.operands [] then [] else map (λ t. want_of (without_blank t)) (slice_split (λ c. c == 44) r.operands)
 
--- a row's wants that are lent
+-- the wants of a row, as values
 abbrev pub now_of : Bor (List Want) → List Want
 now_of w = w.now

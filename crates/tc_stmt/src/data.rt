@@ -13,10 +13,10 @@ use crate::value_shapes::{HIGH, HUGE, LOW, NUMBER, SUM, WORD};
 use crate::{Reference, shape_index, symbol_rule};
 use tc_lex::Operand;
 
-// The kind of relocations that fill a word of data.
+// The relocation that fills a word of data.
 const WORD32: u8 = 7;
 
-// A number of at most four bytes, modulo 2^32, the lowest byte first.
+// A number of at most 32 bits, modulo 2^32, as little-endian bytes.
 fn word_bytes(minus: bool, size: u32) -> [u8; 4]
     ensures { result ≡ four_bytes (wrap (2 ^ 32) minus size) }
 {
@@ -24,7 +24,7 @@ fn word_bytes(minus: bool, size: u32) -> [u8; 4]
     word.to_le_bytes()
 }
 
-// Whether a number fits a width of so many bytes.
+// Whether a number fits `width` bytes, signed or unsigned.
 fn fits_width(width: u8, minus: bool, size: u128) -> bool
     requires { (width ≡ 1) ⊎ ((width ≡ 2) ⊎ (width ≡ 4)) }
     ensures value { result ≡ fits_width (8 * width) minus size }
@@ -44,7 +44,7 @@ fn fits_width(width: u8, minus: bool, size: u128) -> bool
     }
 }
 
-/// The least rule that a value of so many bytes breaks, or no rule.
+/// The least rule that a value of `width` bytes breaks, or no rule.
 #[tactic(auto, unfolding(crate::specs::Values::value_rule))]
 pub(crate) fn value_rule(width: u8, o: Operand<'_>) -> u8
     requires { (width ≡ 1) ⊎ ((width ≡ 2) ⊎ (width ≡ 4)) }
@@ -76,7 +76,7 @@ pub(crate) fn value_rule(width: u8, o: Operand<'_>) -> u8
     }
 }
 
-/// What a value of so many bytes adds: zeros where it breaks a rule.
+/// The item for a value of `width` bytes. If the value breaks a rule, its bytes are zeros.
 #[tactic(auto, unfolding(crate::specs::Values::value_item))]
 pub(crate) fn value_item<'a>(width: u8, o: Operand<'a>) -> Item<'a>
     requires { (width ≡ 1) ⊎ ((width ≡ 2) ⊎ (width ≡ 4)) }
@@ -98,7 +98,7 @@ pub(crate) fn value_item<'a>(width: u8, o: Operand<'a>) -> Item<'a>
     Item::Data(width, [0; 4], Some(reference))
 }
 
-/// The least rule that a number of zeros breaks by itself, or no rule.
+/// The least rule that the operand of `.space` breaks by itself, or no rule.
 #[tactic(auto, unfolding(crate::specs::Values::space_rule))]
 pub(crate) fn space_rule(o: Operand<'_>) -> u8
     ensures value { result ≡ space_rule (operand_of o.entry) }
@@ -124,7 +124,7 @@ pub(crate) fn space_rule(o: Operand<'_>) -> u8
     }
 }
 
-/// Zeros; none where a rule is broken.
+/// The item for `.space`: zeros, and none of them if the operand breaks a rule.
 #[tactic(auto, unfolding(crate::specs::Values::space_item))]
 pub(crate) fn space_item<'a>(o: Operand<'a>) -> Item<'a>
     ensures { item_of result ≡ space_item (operand_of o.entry) }

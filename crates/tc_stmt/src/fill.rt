@@ -1,4 +1,4 @@
-// What operands give a row.
+// Fills the fields of a row from the operands of a statement.
 ghost use Rattle.std.specs.Prelude.{◌≡◌, ◌<◌, ◌≤◌, ◌+◌, ◌^◌, map, length, true, if◌then◌else◌, ◌==◌, false, ◌*◌};
 ghost use Rattle.tc_isa.specs.Rows.{row_of};
 ghost use Rattle.tc_isa.specs.Words.{bounds};
@@ -7,16 +7,13 @@ ghost use Rattle.tc_stmt.specs.SourceRules.{no_rule};
 ghost use Rattle.tc_stmt.specs.RowFields.{Fills, row_fields_of, set_field, field_of, register_of, put_register, fits, wrap, put_number, half_kind, fill_value, fill_memory, displacement_rule, with_displacement, target_kind, fill_target, put_absolute, fill_absolute, fill_register, fill_a10, fill_plain, fill, with_value as put_in, is_named as named, is_far};
 
 use crate::form_numbers::{ABS, B, BOL, SBR, form_index};
-use crate::row_fields::RowFields;
+use crate::row_fields::{NO_RELOC, RowFields};
 use crate::source_rules::{FAR_TARGET, NO_RULE, ODD_DISPLACEMENT, WIDE_NUMBER, WRONG_REGISTER};
 use crate::symbols::{break_rule, misplace, with_symbol};
 use crate::value_shapes::{ABSENT, HIGH, HUGE, LOW, NUMBER, SUM, WORD, shape_index};
 use crate::want::{Field, Want};
 use tc_isa::{Fields, Form, Row, bounds_of};
 use tc_lex::{Operand, Shape, Value, is_text};
-
-// No relocation.
-const NO_KIND: u8 = 0;
 
 // The relocation of half the displacement of a jump or a call, in 24 bits.
 const REL24: u8 = 1;
@@ -27,7 +24,7 @@ const ABS24: u8 = 2;
 // The relocation of half the displacement of a branch, in 15 bits.
 const REL15: u8 = 3;
 
-// The relocation of the upper half of an address, one more where its lower half is negative.
+// The relocation of the upper half of an address, plus one if its lower half is negative.
 const HI16: u8 = 4;
 
 // The relocation of the lower half of an address, in the constant of an operation.
@@ -36,7 +33,7 @@ const LO16: u8 = 5;
 // The relocation of the lower half of an address, in the offset of an access.
 const OFFSET16: u8 = 6;
 
-// More than the number of each register: what a letter or a number that names none counts.
+// The number of a name that is no register: above the numbers of all registers.
 const NO_REGISTER: u8 = 64;
 
 #[tactic(auto, unfolding(crate::specs::RowFields::set_field))]
@@ -52,8 +49,9 @@ fn set_field(field: Field, v: u32, f: &mut Fields)
     }
 }
 
+/// The value in a field.
 #[tactic(auto, unfolding(crate::specs::RowFields::field_of))]
-fn field_of(field: Field, f: &Fields) -> u32
+pub fn field_of(field: Field, f: &Fields) -> u32
     ensures { result ≡ field_of field f.now }
 {
     match field {
@@ -77,14 +75,16 @@ fn bank_of(c: u8) -> u8
     }
 }
 
+// The number of a register: 0 to 15 for d0 to d15, 16 to 31 for a0 to a15, and `NO_REGISTER` or
+// more for any other name.
 #[tactic(auto, unfolding(crate::specs::RowFields::register_of, tc_lex::specs::Bytes::is_digit))]
 fn register_of(name: &[u8]) -> u8
     ensures value { result ≡ register_of name.now }
 {
-    if name.len() == 2 && 48 <= name[1] && name[1] <= 57 {
-        bank_of(name[0]) + (name[1] - 48)
-    } else if name.len() == 3 && name[1] == b'1' && 48 <= name[2] && name[2] <= 53 {
-        bank_of(name[0]) + (name[2] - 38)
+    if name.len() == 2 && b'0' <= name[1] && name[1] <= b'9' {
+        bank_of(name[0]) + (name[1] - b'0')
+    } else if name.len() == 3 && name[1] == b'1' && b'0' <= name[2] && name[2] <= b'5' {
+        bank_of(name[0]) + (name[2] - (b'0' - 10))
     } else if name.is_empty() {
         NO_REGISTER + NO_REGISTER
     } else {
@@ -178,14 +178,14 @@ fn half_kind(row: &Row, shape: Shape) -> u8
         {
             HI16
         } else {
-            NO_KIND
+            NO_RELOC
         }
     } else if is_named(row, "addi") {
         LO16
     } else if form_index(row.form) == BOL {
         OFFSET16
     } else {
-        NO_KIND
+        NO_RELOC
     }
 }
 
@@ -212,7 +212,7 @@ fn fill_value<'a>(
         true
     } else if shape == HIGH || shape == LOW {
         let kind = half_kind(row, v.shape);
-        if kind == NO_KIND {
+        if kind == NO_RELOC {
             misplace(v, acc);
         } else {
             with_symbol(kind, v, acc);
@@ -249,7 +249,7 @@ fn fill_memory<'a>(
     }
 }
 
-// The bound of the constant of a form that has a target.
+// The number of constants that a form with a target can hold.
 #[tactic(auto, unfolding(tc_isa::specs::Words::bounds))]
 fn bound_of(form: Form) -> u32
     ensures value { result ≡ (bounds form).k }
@@ -278,7 +278,7 @@ fn is_far(form: Form, bound: u32, minus: bool, size: u128) -> bool
     }
 }
 
-// The least rule that a displacement of so many bytes breaks, or no rule.
+// The least rule that a displacement of `size` bytes breaks, or no rule.
 #[tactic(auto, unfolding(crate::specs::RowFields::displacement_rule))]
 fn displacement_rule(row: &Row, minus: bool, size: u128) -> u8
     ensures value { result ≡ displacement_rule (row_of row.now) minus size }
@@ -319,8 +319,13 @@ fn displace(row: &Row, minus: bool, size: u128, acc: &mut RowFields<'_>)
     }
 }
 
-/// What a displacement of so many bytes adds.
-pub fn displaced<'a>(row: &Row, minus: bool, size: u128, acc: RowFields<'a>) -> RowFields<'a>
+/// The row's fields with a displacement of `size` bytes, and the least rule that is broken then.
+pub fn with_displacement<'a>(
+    row: &Row,
+    minus: bool,
+    size: u128,
+    acc: RowFields<'a>,
+) -> RowFields<'a>
     ensures { row_fields_of result
         ≡ with_displacement (row_of row.now) minus size (row_fields_of acc.entry) }
 {
@@ -340,7 +345,7 @@ fn target_kind(row: &Row) -> u8
             REL15
         }
     } else {
-        NO_KIND
+        NO_RELOC
     }
 }
 
@@ -449,7 +454,8 @@ fn fill_a10(v: &Value<'_>, acc: &mut RowFields<'_>) -> bool
     }
 }
 
-/// What the operand at this place adds; false where its form doesn't belong there.
+/// Fills the fields of an operand that the row wants here. Returns false if the operand has another
+/// form.
 #[tactic(auto, unfolding(crate::specs::RowFields::fill, crate::specs::RowFields::fill_plain))]
 pub(crate) fn fill<'a>(row: &Row, want: Want, o: &Operand<'a>, acc: &mut RowFields<'a>) -> bool
     ensures { Fills result acc.new

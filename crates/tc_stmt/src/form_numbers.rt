@@ -1,4 +1,4 @@
-// The forms of instructions by their numbers.
+// Numbers for the forms of instructions.
 ghost use Rattle.std.specs.Prelude.{◌≡◌};
 ghost use Rattle.tc_isa.specs.Words.{form_index};
 
@@ -16,7 +16,7 @@ pub(crate) const ABS: u8 = 8;
 /// Branches of 16 bits, which only go forwards.
 pub(crate) const SBR: u8 = 13;
 
-/// The number of a form, so that forms can be compared.
+/// A number for each form, so that forms can be compared.
 #[tactic(auto, unfolding(tc_isa::specs::Words::form_index))]
 pub(crate) fn form_index(form: Form) -> u8
     ensures { result ≡ form_index form }

@@ -1,5 +1,4 @@
-//! The statements of the assembler's language: what a row of the instruction table wants of operands, which row a statement
-//! is, and the lines of a source, read.
+//! Statements of assembler sources: the wants of rows, the row of a statement, and a line reader.
 #![tactic(auto)]
 
 mod data;
@@ -19,13 +18,15 @@ mod tally;
 mod value_shapes;
 mod want;
 
-pub use fill::displaced;
+pub use fill::{field_of, with_displacement};
 pub use item::Item;
 pub use laws::statement_laws;
-pub use row_fields::{Reference, RowFields};
+pub use row_fields::{NO_RELOC, Reference, RowFields};
 pub use row_wants::wants;
 pub use source::{Line, Source, read_source};
-pub use source_rules::{BAD_NAME, LABEL_TWICE, NO_RULE, NO_SECTION, PAST_LIMITS, UNDEFINED_GLOBAL};
+pub use source_rules::{
+    BAD_NAME, LABEL_TWICE, MISPLACED_SYMBOL, NO_RULE, NO_SECTION, PAST_LIMITS, UNDEFINED_GLOBAL,
+};
 pub use statement_row::statement;
 pub use symbols::{is_name, symbol_rule};
 pub use value_shapes::shape_index;

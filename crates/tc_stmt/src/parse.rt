@@ -1,4 +1,4 @@
-// Lines, read.
+// Reads a line: its label, its statement and its operands.
 ghost use Rattle.std.specs.Prelude.{◌≡◌, ◌++◌, OnOk, IfOk, ◌≤◌, ◌<◌, ◌+◌, map, length, find, option_map, drop, true, [], ◌∷◌, ◌⊎◌, ◌==◌, if◌then◌else◌, min};
 ghost use Rattle.std.specs.Option.{option_copied};
 ghost use Rattle.std.specs.Str.{bytes_eq};
@@ -22,15 +22,15 @@ use std::alloc::AllocError;
 use tc_isa::{Row, rows};
 use tc_lex::{Operand, Piece, TokenKind, cut_pieces, is_kind, is_text, operands, text_at};
 
-// Adds nothing.
-fn nothing(rule: u8, items: &mut Vec<Item<'_>>) -> Result<u8, AllocError>
+// Adds no item, and returns the rule.
+fn add_nothing(rule: u8, items: &mut Vec<Item<'_>>) -> Result<u8, AllocError>
     ensures { Adds (line_data rule []) result items.old.items items.new.items }
 {
     Ok(rule)
 }
 
-// Adds one thing.
-fn one<'a>(rule: u8, item: Item<'a>, items: &mut Vec<Item<'a>>) -> Result<u8, AllocError>
+// Adds one item, and returns the rule.
+fn add_item<'a>(rule: u8, item: Item<'a>, items: &mut Vec<Item<'a>>) -> Result<u8, AllocError>
     ensures { Adds (line_data rule
         (item_of item.entry ∷ [])) result items.old.items items.new.items }
 {
@@ -45,7 +45,7 @@ fn is_word_operand(o: Operand<'_>) -> bool
     !o.is_memory && shape_index(o.value.shape) == WORD
 }
 
-// The one operand, where it is a Word.
+// The name that is the only operand, if it is so.
 fn word_of<'a>(os: &[Operand<'a>]) -> Option<&'a [u8]>
     ensures { option_copied result ≡ word_of (map operand_of os.now) }
 {
@@ -66,8 +66,8 @@ fn section_line<'a>(os: &[Operand<'a>], items: &mut Vec<Item<'a>>) -> Result<u8,
         (map operand_of os.now)) result items.old.items items.new.items }
 {
     match word_of(os) {
-        None => nothing(WRONG_OPERANDS, items),
-        Some(name) => one(NO_RULE, Item::Section(name), items),
+        None => add_nothing(WRONG_OPERANDS, items),
+        Some(name) => add_item(NO_RULE, Item::Section(name), items),
     }
 }
 
@@ -77,8 +77,8 @@ fn global_line<'a>(os: &[Operand<'a>], items: &mut Vec<Item<'a>>) -> Result<u8, 
         (map operand_of os.now)) result items.old.items items.new.items }
 {
     match word_of(os) {
-        None => nothing(WRONG_OPERANDS, items),
-        Some(name) => one(NO_RULE, Item::Global(name), items),
+        None => add_nothing(WRONG_OPERANDS, items),
+        Some(name) => add_item(NO_RULE, Item::Global(name), items),
     }
 }
 
@@ -87,19 +87,19 @@ fn one_space<'a>(o: Operand<'a>, items: &mut Vec<Item<'a>>) -> Result<u8, AllocE
         (space_item_of (operand_of o.entry) ∷ []))
         result items.old.items items.new.items }
 {
-    one(space_rule(o), space_item(o), items)
+    add_item(space_rule(o), space_item(o), items)
 }
 
 fn space_line<'a>(os: &[Operand<'a>], items: &mut Vec<Item<'a>>) -> Result<u8, AllocError>
     ensures { Adds (space_line (map operand_of os.now)) result items.old.items items.new.items }
 {
     if os.len() != 1 {
-        return one(WRONG_OPERANDS, Item::Zeros(0), items);
+        return add_item(WRONG_OPERANDS, Item::Zeros(0), items);
     }
     one_space(os[0], items)
 }
 
-// The rule that values of this number break by it.
+// The rule that an empty list of values breaks, or no rule.
 fn count_rule(os: &[Operand<'_>]) -> u8
     ensures { result ≡ (if length (map operand_of os.now) == 0 then 3 else 15) }
 {
@@ -164,7 +164,7 @@ fn find_row<'a>(rows: &'a [Row], name: &[u8]) -> Option<&'a Row>
     rows.iter().find(|r| r.name.as_bytes() == name)
 }
 
-// The first row of a name.
+// The first row of an instruction's name.
 fn row_of_name(name: &[u8]) -> Option<&'static Row>
     ensures { option_map (λ r. row_of r.now) result ≡ find (λ r. bytes_eq r.name name.now) listed }
 {
@@ -190,12 +190,12 @@ fn code_line<'a>(
         (statement_of name.now (map operand_of os.now))) result items.old.items items.new.items }
 {
     match statement(name, os) {
-        Ok((row, found)) => one(
+        Ok((row, found)) => add_item(
             NO_RULE,
             Item::Code(row, found.fields, found.reference),
             items,
         ),
-        Err(rule) => one(rule, Item::Zeros(size_of_name(name)), items),
+        Err(rule) => add_item(rule, Item::Zeros(size_of_name(name)), items),
     }
 }
 
@@ -225,7 +225,7 @@ fn stated_line<'a>(
     }
 }
 
-// The pieces behind the one at this place.
+// The tokens after token `at`.
 fn pieces_behind<'p, 'a>(ps: &'p [Piece<'a>], at: usize) -> &'p [Piece<'a>]
     requires { at < length ps.now }
     ensures { result.now ≡ drop (at + 1) ps.now }
@@ -233,7 +233,7 @@ fn pieces_behind<'p, 'a>(ps: &'p [Piece<'a>], at: usize) -> &'p [Piece<'a>]
     &ps[at + 1..]
 }
 
-// The operands behind the piece at this place.
+// Reads the operands after token `at`.
 fn operands_behind<'a>(ps: &[Piece<'a>], at: usize, out: &mut ArrayVec<Operand<'a>, 65>)
     requires few { length ps.now ≤ 64 }
     requires place { at < length ps.now }
@@ -242,7 +242,7 @@ fn operands_behind<'a>(ps: &[Piece<'a>], at: usize, out: &mut ArrayVec<Operand<'
     operands(pieces_behind(ps, at), out)
 }
 
-// The statement whose Word is the piece at this place.
+// Reads the statement whose name is token `at`.
 fn statement_at<'a>(
     ps: &[Piece<'a>],
     at: usize,
@@ -271,15 +271,15 @@ fn line_from<'a>(
     ensures { Adds (line_from (map piece_of ps.now) at) result items.old.items items.new.items }
 {
     if ps.len() == at {
-        nothing(NO_RULE, items)
+        add_nothing(NO_RULE, items)
     } else if is_kind(ps, at, TokenKind::Word) {
         statement_at(ps, at, operands, items)
     } else {
-        nothing(BAD_TOKEN, items)
+        add_nothing(BAD_TOKEN, items)
     }
 }
 
-// Whether these pieces begin with a label.
+// Whether these tokens begin with a label.
 fn has_label(ps: &[Piece]) -> bool
     ensures value { result ≡ has_label (map piece_of ps.now) }
     ensures long { result ≡ true → 2 ≤ length ps.now }
@@ -295,7 +295,7 @@ fn add_label<'a>(name: &'a [u8], items: &mut Vec<Item<'a>>) -> Result<(), AllocE
     Ok(())
 }
 
-// A line that begins with a label.
+// Reads a line that begins with a label.
 fn labelled_line<'a>(
     ps: &[Piece<'a>],
     operands: &mut ArrayVec<Operand<'a>, 65>,
@@ -327,15 +327,15 @@ fn pieces_line<'a>(
     }
 }
 
-// A line that breaks rule 1, with its label.
+// Adds the label of a line that breaks rule 1.
 fn broken_label<'a>(name: &'a [u8], items: &mut Vec<Item<'a>>) -> Result<u8, AllocError>
     ensures { Adds (line_data 1
         (label name.entry.now ∷ [])) result items.old.items items.new.items }
 {
-    one(BAD_TOKEN, Item::Label(name), items)
+    add_item(BAD_TOKEN, Item::Label(name), items)
 }
 
-// A line that breaks rule 1, with the label that these pieces begin with.
+// Adds the label that these tokens begin with, if there is one. Their line breaks rule 1.
 #[tactic(auto, unfolding(crate::specs::Lines::label_of))]
 fn label_line<'a>(ps: &[Piece<'a>], items: &mut Vec<Item<'a>>) -> Result<u8, AllocError>
     ensures { Adds (line_data 1
@@ -345,11 +345,11 @@ fn label_line<'a>(ps: &[Piece<'a>], items: &mut Vec<Item<'a>>) -> Result<u8, All
     if has_label(ps) {
         broken_label(name, items)
     } else {
-        nothing(BAD_TOKEN, items)
+        add_nothing(BAD_TOKEN, items)
     }
 }
 
-// A line that can't be cut, of which this stands before the byte that can't be taken.
+// Reads a line that can't be cut into tokens; `front` is its text before the first bad byte.
 #[tactic(auto, using(crate::proofs::PieceLines::label_pieces, crate::proofs::PieceLines::label_unread))]
 fn uncut_line<'a>(
     front: &'a [u8],
@@ -361,11 +361,11 @@ fn uncut_line<'a>(
 {
     match cut_pieces(front, pieces) {
         Ok(()) => label_line(pieces.as_slice(), items),
-        Err(_) => nothing(BAD_TOKEN, items),
+        Err(_) => add_nothing(BAD_TOKEN, items),
     }
 }
 
-// The least rule that a line breaks by itself; what it adds to its source goes behind the items.
+// Adds the items of a line, and returns the least rule that the line breaks by itself.
 #[tactic(auto, using(crate::proofs::PieceLines::line_pieces, crate::proofs::PieceLines::line_unread))]
 fn line_rule<'a>(
     line: &'a [u8],
@@ -381,7 +381,8 @@ fn line_rule<'a>(
     }
 }
 
-/// Reads a line: what it adds to its source goes behind the items. The other lists have room for what is known of one line.
+/// Reads a line: adds its items, and returns the least rule that it breaks by itself. The two lists
+/// are scratch space, which each line uses again.
 pub(crate) fn read_line<'a>(
     line: &'a [u8],
     pieces: &mut ArrayVec<Piece<'a>, 64>,

@@ -1,11 +1,11 @@
-// Rows that are passed over, since their names have another key.
+// An index of the rows by a key of their names, so that a search skips most rows.
 ghost use Rattle.std.specs.Prelude.{◌≡◌, ◌<◌, ◌+◌, ◌-◌, ◌==◌, List, map, length, drop, true, slice_index};
 ghost use Rattle.tc_isa.specs.Rows.{RowData, row_of, listed};
 ghost use Rattle.tc_stmt.specs.RowIndex.{name_key, none_has, are_next, are_first};
 
 use tc_isa::Row;
 
-// The place of the first row of each key; how many rows there are, where none has it.
+// The number of the first row with each key, and the number of rows if no row has the key.
 static FIRST: [u8; 256] = [
     142, 142, 142, 142, 142, 142, 16, 142, 142, 125, 142, 133, 95, 142, 142, 142, 142, 142, 142,
     142, 142, 142, 45, 64, 142, 81, 97, 142, 142, 127, 142, 142, 142, 142, 142, 142, 142, 142, 142,
@@ -22,7 +22,8 @@ static FIRST: [u8; 256] = [
     142, 8, 142, 44, 142, 142, 142, 142, 142, 142, 142, 142, 142, 142, 142,
 ];
 
-// For each row the place of the next one of its key; how many rows there are, where none has it.
+// For each row, the number of the next row with the same key, and the number of rows if there is
+// none.
 static NEXT: [u8; 142] = [
     142, 142, 142, 17, 46, 142, 142, 91, 142, 28, 142, 30, 31, 32, 33, 34, 35, 96, 36, 37, 38, 53,
     39, 142, 40, 142, 142, 142, 142, 112, 142, 142, 142, 142, 142, 142, 100, 63, 142, 142, 142,
@@ -34,7 +35,7 @@ static NEXT: [u8; 142] = [
     142, 141, 142,
 ];
 
-/// The first row of each key.
+/// For each key, the number of the first row that has it.
 #[tactic(auto, unfolding(crate::specs::RowIndex::name_key))]
 pub(crate) fn first_rows() -> &'static [u8]
     ensures { are_first 0 listed result.now ≡ true }
@@ -42,7 +43,7 @@ pub(crate) fn first_rows() -> &'static [u8]
     &FIRST
 }
 
-/// The next row of the key of each row.
+/// For each row, the number of the next row with the same key.
 #[tactic(auto, unfolding(crate::specs::RowIndex::name_key))]
 pub(crate) fn next_rows() -> &'static [u8]
     ensures { are_next 0 listed result.now ≡ true }
@@ -50,7 +51,7 @@ pub(crate) fn next_rows() -> &'static [u8]
     &NEXT
 }
 
-// The byte at this place, or 0 where there is none.
+// The byte at this place, and 0 after the end.
 fn byte_at(text: &[u8], i: usize) -> usize
     ensures value { result ≡ slice_index text.now i }
     ensures small { result < 256 }
@@ -76,7 +77,7 @@ fn has_key(row: &Row, name: &[u8]) -> bool
     name_key(row.name.as_bytes()) == name_key(name)
 }
 
-/// A place before which no row has this name's key.
+/// A row number such that no earlier row has the key of this name.
 pub(crate) fn first_row(first: &[u8], name: &[u8]) -> usize
     ensures { (rows : List RowData) → are_first 0 rows first.now ≡ true
         → none_has result (name_key name.now) rows ≡ true }
@@ -89,7 +90,7 @@ pub(crate) fn first_row(first: &[u8], name: &[u8]) -> usize
     }
 }
 
-/// A place behind a row's, up to which no row has this name's key.
+/// A row number after `i` such that no row between them has the key of this name.
 pub(crate) fn next_row(rows: &[Row], next: &[u8], i: usize, name: &[u8]) -> usize
     requires place { i < length rows.now }
     requires next { are_next 0 (map row_of rows.now) next.now ≡ true }

@@ -1,10 +1,11 @@
-// What each row's operand text wants.
+// The operands that each row wants.
 ghost use Rattle.std.specs.Prelude.{◌≡◌, map};
 ghost use Rattle.tc_isa.specs.Rows.{listed};
 ghost use Rattle.tc_stmt.specs.Wants.{wants_of, now_of};
 
 use crate::want::{Field, Want};
 
+/// The operands that each row wants, in the order of the rows.
 pub static WANTS: [&[Want]; 142] = [
     &[
         Want::Reg(false, Field::C),
@@ -355,7 +356,7 @@ pub static WANTS: [&[Want]; 142] = [
     &[Want::Memory(false, false), Want::Reg(true, Field::S1)],
 ];
 
-/// What each row wants, in the order of the rows.
+/// The operands that each row wants, in the order of the rows.
 #[tactic(auto, unfolding(crate::specs::Wants::wants_of, crate::specs::Wants::want_of))]
 pub fn wants() -> &'static [&'static [Want]]
     ensures { map now_of result.now ≡ map wants_of listed }

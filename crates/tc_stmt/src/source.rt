@@ -1,4 +1,4 @@
-// A source that is read, line by line.
+// Reads a source line by line.
 ghost use Rattle.std.specs.Prelude.{◌≡◌, ◌≤◌, ◌<◌, ◌+◌, ◌++◌, List, [], ◌∷◌, map, length, position, take, drop, IfOk, OnOk, IfSome, ◌==◌};
 ghost use Rattle.tc_stmt.specs.Items.{item_of};
 ghost use Rattle.tc_stmt.specs.Lines.{LineData, line_in, lines_in, items_in};
@@ -11,18 +11,22 @@ use memchr::memchr;
 use std::alloc::{AllocError, Global};
 use tc_lex::{Operand, Piece};
 
-/// A line that is read: the least rule that it breaks by itself (15, more than the number of each rule, where it breaks
-/// none), and how many things it adds.
+/// A line of a source: the least rule that it breaks by itself, or `NO_RULE`, and the number of its
+/// items.
 #[derive(Clone, Copy)]
 pub struct Line {
+    /// The least rule that the line breaks by itself, or `NO_RULE`.
     pub rule: u8,
+    /// The number of items of the line.
     pub count: u8,
 }
 
-/// A source that is read: its lines, and all that they add, one thing after another.
+/// A source: its lines, and the items of all lines in order.
 #[derive(Drop)]
 pub struct Source<'a> {
+    /// The lines, in order.
     pub lines: Vec<Line>,
+    /// The items of all lines, in order.
     pub items: Vec<Item<'a>>,
 }
 
@@ -33,23 +37,23 @@ fn find_feed(rest: &[u8]) -> Option<usize>
     memchr(b'\n', rest)
 }
 
-// The bytes before this place.
-fn front(rest: &[u8], i: usize) -> &[u8]
+// The bytes before the line feed at `i`.
+fn bytes_before(rest: &[u8], i: usize) -> &[u8]
     requires { i ≤ length rest.now }
     ensures { result.now ≡ take i rest.now }
 {
     &rest[..i]
 }
 
-// The bytes behind the one at this place.
-fn back(rest: &[u8], i: usize) -> &[u8]
+// The bytes after the line feed at `i`.
+fn bytes_after(rest: &[u8], i: usize) -> &[u8]
     requires { i < length rest.now }
     ensures { result.now ≡ drop (i + 1) rest.now }
 {
     &rest[i + 1..]
 }
 
-// Reads one line more. The lists in between have room for what is known of one line.
+// Reads the next line, with two lists as scratch space.
 fn add_line<'a>(
     line: &'a [u8],
     pieces: &mut ArrayVec<Piece<'a>, 64>,
@@ -64,7 +68,7 @@ fn add_line<'a>(
     Ok(())
 }
 
-/// Reads each line of a source, which line feeds part.
+/// Reads each line of a source. Line feeds separate the lines.
 pub fn read_source<'a>(alloc: Global, source: &'a [u8]) -> Result<Source<'a>, AllocError>
     ensures lines { IfOk result (λ s. lines_of s ≡ lines_in source.now) }
     ensures items { IfOk result (λ s. map item_of s.items.items ≡ items_in (lines_in source.now)) }
@@ -75,9 +79,9 @@ pub fn read_source<'a>(alloc: Global, source: &'a [u8]) -> Result<Source<'a>, Al
     let mut items = Vec::new(alloc);
     let mut rest = source;
     'lines: while let Some(i) = find_feed(rest) {
-        let line = front(rest, i);
+        let line = bytes_before(rest, i);
         add_line(line, &mut pieces, &mut operands, &mut lines, &mut items)?;
-        rest = back(rest, i);
+        rest = bytes_after(rest, i);
     }
     add_line(rest, &mut pieces, &mut operands, &mut lines, &mut items)?;
     Ok(Source { lines, items })

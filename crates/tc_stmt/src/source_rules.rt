@@ -27,7 +27,7 @@ pub const NO_SECTION: u8 = 8;
 /// A bad name.
 pub const BAD_NAME: u8 = 9;
 
-/// A symbol where none may stand.
+/// A symbol in a place that takes none.
 pub const MISPLACED_SYMBOL: u8 = 10;
 
 /// A target too far for 16 bits.
@@ -42,5 +42,5 @@ pub const PAST_LIMITS: u8 = 13;
 /// A global name that is never defined.
 pub const UNDEFINED_GLOBAL: u8 = 14;
 
-/// No rule is broken: more than the number of each rule.
+/// No rule is broken. The number is above those of all rules.
 pub const NO_RULE: u8 = 15;

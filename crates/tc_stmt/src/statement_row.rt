@@ -1,4 +1,4 @@
-// Which row a statement is.
+// Finds the row of a statement.
 ghost use Rattle.std.specs.Prelude.{◌≡◌, ◌<◌, map, option_map, length, slice_index_or as get_or, drop, ◌≤◌, ◌+◌, true};
 ghost use Rattle.std.specs.Str.{bytes_eq};
 ghost use Rattle.tc_isa.specs.Rows.{row_of, listed};
@@ -35,7 +35,7 @@ fn no_fields<'a>() -> RowFields<'a>
     }
 }
 
-// What all operands add, each at its own place; false where their forms aren't the row's.
+// Fills the fields of all operands. Returns false if their forms aren't those that the row wants.
 fn fill_all<'a>(row: &Row, wants: &[Want], os: &[Operand<'a>], acc: &mut RowFields<'a>) -> bool
     ensures { Fills result acc.new
         (fill_all (row_of row.now) wants.now (map operand_of os.now) (row_fields_of acc.old)) }
@@ -72,7 +72,7 @@ fn judge_row<'a>(row: &Row, wants: &[Want], os: &[Operand<'a>]) -> Option<RowFie
     Some(found)
 }
 
-// A row of this name, where it is the one, or what is known after it.
+// Tries a row with this name: its fields if the statement fits, else the tally after it.
 #[inline(never)]
 #[tactic(auto, unfolding(crate::specs::StatementRow::after_row))]
 fn named_step<'a>(
@@ -123,7 +123,7 @@ fn step<'a>(
     }
 }
 
-// The row at this place, where it is the one, or what is known after it.
+// Tries the row at this place: its fields if the statement fits, else the tally after it.
 fn step_at<'a>(
     rows: &[Row],
     wants: &[&[Want]],
@@ -141,8 +141,8 @@ fn step_at<'a>(
     step(&rows[i], wants[i], name, os, so_far)
 }
 
-/// The row that a statement is, and what its operands give; or the least rule that it breaks. Only rows that have
-/// the name's key are looked at.
+/// The row of a statement with its fields, or the least rule that the statement breaks. The search
+/// visits only rows with the key of the name.
 fn judge<'a>(
     rows: &[Row],
     wants: &[&[Want]],
@@ -184,7 +184,8 @@ fn rule_of(t: Tally) -> u8
     }
 }
 
-/// The same, of the table.
+/// The row of a statement in the instruction table with its fields, or the least rule that the
+/// statement breaks.
 pub fn statement<'a>(name: &[u8], os: &[Operand<'a>]) -> Result<(u8, RowFields<'a>), u8>
     ensures { Judges result (statement name.now (map operand_of os.now)) }
 {

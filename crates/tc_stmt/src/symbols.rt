@@ -1,4 +1,4 @@
-// Names, and symbols in places that take one.
+// Names, and symbols as values of operands.
 ghost use Rattle.std.specs.Prelude.{◌≡◌, ◌<◌, ◌^◌, true};
 ghost use Rattle.tc_stmt.specs.Names.{is_name};
 ghost use Rattle.tc_stmt.specs.SourceRules.{no_rule};
@@ -10,7 +10,7 @@ use crate::source_rules::{BAD_NAME, MISPLACED_SYMBOL, NO_RULE, WIDE_NUMBER};
 use tc_lex::{Value, is_text};
 use tcd_base::{are_name_bytes, is_name_first};
 
-/// Whether bytes are a name that a source may use: a Word of at most 64 bytes, and no lone `.`.
+/// Whether bytes are a name that a source may use: a word of at most 64 bytes, but not a lone `.`.
 #[tactic(auto, unfolding(crate::specs::Names::is_name), using(crate::proofs::Named::some_name))]
 pub fn is_name(bytes: &[u8]) -> bool
     ensures { result ≡ is_name bytes.now }
@@ -22,7 +22,7 @@ pub fn is_name(bytes: &[u8]) -> bool
         && !is_text(bytes, ".")
 }
 
-/// The least rule that a symbol breaks anywhere; 15, more than the number of each rule, where it breaks none.
+/// The least rule that a symbol breaks in every place, or `NO_RULE`.
 #[tactic(auto, unfolding(crate::specs::RowFields::symbol_rule))]
 pub fn symbol_rule(v: Value<'_>) -> u8
     ensures value { result ≡ symbol_rule (value_of v.entry) }
@@ -37,14 +37,14 @@ pub fn symbol_rule(v: Value<'_>) -> u8
     }
 }
 
-/// One rule more that is broken: the least counts.
+/// Notes that a rule is broken. The least one counts.
 pub(crate) fn break_rule(rule: u8, acc: &mut RowFields<'_>)
     ensures { row_fields_of acc.new ≡ with_rule rule (row_fields_of acc.old) }
 {
     acc.rule = acc.rule.min(rule);
 }
 
-/// A symbol in a place that takes one.
+/// Notes a symbol in a place that takes one.
 #[tactic(auto, unfolding(crate::specs::RowFields::with_symbol))]
 pub(crate) fn with_symbol<'a>(kind: u8, v: &Value<'a>, acc: &mut RowFields<'a>)
     ensures { row_fields_of acc.new
@@ -63,7 +63,7 @@ pub(crate) fn with_symbol<'a>(kind: u8, v: &Value<'a>, acc: &mut RowFields<'a>)
     });
 }
 
-/// A symbol where none may stand.
+/// Notes a symbol in a place that takes none.
 pub(crate) fn misplace(v: &Value<'_>, acc: &mut RowFields<'_>)
     ensures { row_fields_of acc.new ≡ with_misplaced (value_of v.now) (row_fields_of acc.old) }
 {

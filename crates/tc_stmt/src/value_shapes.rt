@@ -1,10 +1,10 @@
-// The forms of values by their numbers.
+// Numbers for the forms of values.
 ghost use Rattle.std.specs.Prelude.{◌≡◌};
 ghost use Rattle.tc_stmt.specs.RowFields.{shape_index};
 
 use tc_lex::Shape;
 
-/// Nothing.
+/// No value.
 pub(crate) const ABSENT: u8 = 0;
 
 /// A number below 2^128.
@@ -13,7 +13,7 @@ pub(crate) const NUMBER: u8 = 1;
 /// A name.
 pub(crate) const WORD: u8 = 2;
 
-/// A name with a number added.
+/// A name plus a number.
 pub(crate) const SUM: u8 = 3;
 
 /// The upper half of an address.
@@ -28,7 +28,7 @@ const BAD: u8 = 6;
 /// A number of 2^128 or more.
 pub(crate) const HUGE: u8 = 7;
 
-/// The number of a form of values, so that forms can be compared.
+/// A number for each form of values, so that forms can be compared.
 #[tactic(auto, unfolding(crate::specs::RowFields::shape_index))]
 pub fn shape_index(shape: Shape) -> u8
     ensures { result ≡ shape_index shape }

@@ -1,4 +1,4 @@
-// What the operands of a row are.
+// The kinds of operands that rows want.
 
 /// A field of an instruction.
 #[derive(Clone, Copy, Debug, PartialEq, Eq)]
@@ -10,8 +10,9 @@ pub enum Field {
     K,
 }
 
-/// What stands at an operand's place: a register of a bank (true: address registers) in a field, the register a10,
-/// a number in a field (true: signed), a target, an absolute address, or `[As2]`, with a `+` and with an offset.
+/// The operand that a row wants: a register of a bank (true: address registers) in a field, the
+/// register a10, a number in a field (true: signed), a target, an absolute address, or `[As2]` with
+/// a `+` or with an offset.
 #[derive(Clone, Copy, Debug, PartialEq, Eq)]
 pub enum Want {
     Reg(bool, Field),

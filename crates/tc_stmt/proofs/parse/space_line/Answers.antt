@@ -5,8 +5,8 @@ use Rattle.tc_stmt.proofs.parse.space_line.Goals as goal
 
 pub returns-then-os-ne1 : goal.returns-then-os-ne1
 returns-then-os-ne1 c =
-    let P : LineData → Type 0 = λ l. Adds l c.one.result c.args.items.now.items c.one.new.items.items in
-    subst P (sym (space_line-other c.args.os.now c.if-os-ne1.true)) c.one.ensures
+    let P : LineData → Type 0 = λ l. Adds l c.add_item.result c.args.items.now.items c.add_item.new.items.items in
+    subst P (sym (space_line-other c.args.os.now c.if-os-ne1.true)) c.add_item.ensures
 
 pub returns : goal.returns
 returns c =

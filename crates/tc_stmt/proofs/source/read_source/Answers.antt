@@ -8,8 +8,8 @@ lines-init c = reading_none c.args.source.now _ _ c.new-lines.ensures.items c.ne
 
 pub lines-preserved : goal.lines-preserved
 lines-preserved c =
-    reading_more c.args.source.now c.lines.lines.items _ c.lines.items.items _ c.lines.rest.now c.front-line.result.now c.lines.invariant c.in_ok-add_line.ensures
-    c.in-Some.i _ (sym c.find_feed.ensures.value ∙ c.in-Some.is) c.front-line.ensures c.back-rest.ensures
+    reading_more c.args.source.now c.lines.lines.items _ c.lines.items.items _ c.lines.rest.now c.bytes_before-line.result.now c.lines.invariant c.in_ok-add_line.ensures
+    c.in-Some.i _ (sym c.find_feed.ensures.value ∙ c.in-Some.is) c.bytes_before-line.ensures c.bytes_after-rest.ensures
 
 pub returns-clause-lines : goal.returns-clause-lines
 returns-clause-lines c =
