@@ -1,4 +1,4 @@
--- Both passes over a source give the same symbols.
+-- Both passes over a source find the same symbols.
 use Rattle.std.proofs.Common.{◌≡◌, ◌<◌, ◌≤◌, ◌+◌, ◌^◌, ◌&&◌, ℕ, zero, suc, Bool, true, false, cond, List, [], ◌∷◌, ◌++◌, length, map, get_or, take, replicate, Option, Some, None, refl, sym, ap, subst, ◌∙◌, arith, length-append}
 use Rattle.std.specs.Prelude.{All, fold, nat_lt, nat_le, not, position, slice_get, unwrap_or}
 use Rattle.std.specs.Option.{option_map_or}
@@ -26,9 +26,9 @@ use Rattle.tc_asm.proofs.ListLaws.{changed, changed-set, size_at-get}
 use Rattle.tc_asm.specs.Contents.{symbols_in}
 use Rattle.tc_asm.proofs.SourceItems.{source_are}
 use Rattle.tc_asm.proofs.CodeSizes.{code_length}
-use Rattle.tc_asm.proofs.SourceParts.{lines_items}
+use Rattle.tc_asm.proofs.LaidLaws.{lines-items}
 
--- ---- alike
+-- ---- drafts with the same symbols and sizes
 pub alike_same : (d : DraftData) → Alike d d
 alike_same d = record { section = refl; sizes = refl; symbols = refl; total = refl }
 
@@ -100,7 +100,7 @@ module _ (d e : DraftData) (h : Alike d e) where
       ap (λ o. unwrap_or o (length d.parts)) (position-map (λ (s : SizeData). bytes_eq name s.name) size_of d.parts ∙ ap (position (λ (s : SizeData). bytes_eq name s.name)) h.sizes ∙ sym (position-map (λ (s : SizeData). bytes_eq name s.name) size_of e.parts))
       ∙ ap (unwrap_or (position (λ (p : PartData). bytes_eq name p.name) e.parts)) long
 
-  -- ---- one step
+  -- ---- a single step
   label_alike : (name : List ℕ) → Alike (with_label d name) (with_label e name)
   unfolding with_label
   label_alike name =
@@ -152,7 +152,7 @@ module _ (d e : DraftData) (h : Alike d e) where
           let size : length (p.bytes ++ bs) ≡ length (q.bytes ++ cs) = omega (arith, length-append p.bytes bs, length-append q.bytes cs, ap (λ (s : SizeData). s.size) e) in
           ap (λ (name : List ℕ). sized name (length (p.bytes ++ bs))) (ap (λ (s : SizeData). s.name) e) ∙ ap (sized q.name) size
 
--- uses of symbols change nothing of it
+-- uses of symbols don't change symbols and sizes
 use_alike : (d : DraftData) (n : ℕ) (r : ReferenceData) → Alike (with_use d n r) d
 unfolding with_use used
 use_alike d n r =
@@ -194,13 +194,13 @@ items_alike : (labels others : List SymbolData) (is : List ItemData) (d e : Draf
 items_alike labels others [] d e good h = h
 items_alike labels others (i ∷ is) d e good h = items_alike labels others is (stepped labels d i) (stepped others e i) good.1 (step_alike labels others d e i good.0 h)
 
--- the symbols that jumps of 16 bits were resolved by are those of the source
+-- the symbols that resolve jumps of 16 bits are those of the source
 pub passes_agree : (source : List ℕ) → symbols_in source ≡ symbols_of (lines_in source)
 passes_agree source =
     let labels : List SymbolData = symbols_of (lines_in source) in
-    ap (λ (d : DraftData). d.symbols) (lines_items labels (lines_in source) start)
+    ap (λ (d : DraftData). d.symbols) (lines-items labels (lines_in source) start)
     ∙ (items_alike labels [] (items_in (lines_in source)) start start (source_are source) (alike_same start)).symbols
-    ∙ sym (ap (λ (d : DraftData). d.symbols) (lines_items [] (lines_in source) start))
+    ∙ sym (ap (λ (d : DraftData). d.symbols) (lines-items [] (lines_in source) start))
 
 -- ---- the first pass
 abbrev zeros_of : ℕ → List ℕ
@@ -210,7 +210,7 @@ pub sized : (k : ℕ) → option_map_or (λ (row : RowData). cond (is_long row) 
 unfolding code_size
 sized k = refl
 
--- zeros in place of an instruction's bytes
+-- zeros instead of an instruction's bytes
 pub count_alike : (d e mid next : DraftData) (k : ℕ) (f : Fields) (o : Option ReferenceData) (bs : List ℕ) → IsCode k f o
     → mid ≡ with_reference d 0 o → next ≡ with_bytes mid bs → bs ≡ zeros_of (code_size k) → Alike d e → Alike next (stepped [] e (code k f o))
 unfolding stepped code_size
@@ -230,12 +230,12 @@ count_alike d e mid next k f o bs is m n b h =
         ∙ by (is_long is.row)
         ∙ sym (code_length [] e k f o is)
 
--- what other things make
+-- the step of an item other than an instruction
 pub step_counted : (d e next : DraftData) (labels : List SymbolData) (i : ItemData) → IsItem i → labels ≡ [] → next ≡ stepped labels d i → Alike d e → Alike next (stepped [] e i)
 step_counted d e next labels i good none made h =
     subst (λ (x : DraftData). Alike x (stepped [] e i)) (sym (made ∙ ap (λ (ls : List SymbolData). stepped ls d i) none)) (step_alike [] [] d e i good h)
 
--- one thing more
+-- a further item
 module _ (items : List Item) (i : ℕ) (draft first : DraftData) (so_far : Alike draft (fold (stepped []) first (take i (map item_of items)))) where
   pub alike_next : (d : Item) (next : DraftData) → i < length items → ((e : DraftData) → Alike draft e → Alike next (stepped [] e (item_of (get_or items i d)))) → Alike next (fold (stepped []) first (take (i + 1) (map item_of items)))
   alike_next d next within step =
@@ -247,7 +247,7 @@ module _ (items : List Item) (i : ℕ) (draft first : DraftData) (so_far : Alike
   pub alike_end : length items ≤ i → draft.symbols ≡ (fold (stepped []) first (map item_of items)).symbols
   alike_end past = so_far.symbols ∙ ap (λ (is : List ItemData). (fold (stepped []) first is).symbols) (take_all i (map item_of items) (rw (length-map items item_of) past))
 
--- all things of a source
+-- all items of a source
 each_all : (items : List Item) → Each IsItem (map item_of items) → (k : ℕ) (d : Item) → k < length items → IsItem (item_of (get_or items k d))
 each_all [] h k d within = absurd (omega arith)
 each_all (x ∷ xs) h zero d within = h.0

@@ -1,4 +1,4 @@
--- Which fields fit a row, as a test.
+-- Fields that fit a row, as a test.
 use Rattle.std.proofs.Common.{◌≡◌, ◌<◌, ◌≤◌, ◌==◌, ◌&&◌, ◌∷◌, zero, suc, length, get_or, map, ℕ, Bool, true, false, cond, List, [], Option, None, Some, refl, ap, sym, subst, ◌∙◌, arith}
 use Rattle.std.specs.Prelude.{slice_get, option_map}
 use Rattle.std.proofs.lemmas.List.{length-map}
@@ -17,7 +17,8 @@ use Rattle.tc_stmt.specs.RowFields.{ReferenceData}
 use Rattle.tc_asm.specs.Symbols.{SymbolData}
 use Rattle.tc_asm.specs.Drafts.{DraftData, is_fit, spelled_code, bytes_of, found, targeted, resolved}
 
-below_true : (f b : Fields) → IsBelow f b → is_below_test f b ≡ true
+-- fields below their bounds pass the test
+pub below_true : (f b : Fields) → IsBelow f b → is_below_test f b ≡ true
 below_true f b h =
     let c = h.c in let s1 = h.s1 in let s2 = h.s2 in let n = h.n in let k = h.k in
     grind (arith, nat_tests)
@@ -43,7 +44,7 @@ fit_from row f h =
     let q = and_parts _ _ p.0 in
     record { below = below_from f (bounds row.form) q.0; zero = q.1; apart = p.1 }
 
--- what spells an instruction is the bytes of its row and fields
+-- the spelling of an instruction is the bytes of its row and fields
 pub spells-bytes_of : (k : ℕ) (f : Fields) (i : InstData) (bs : List ℕ) → i ≡ record { row = k; c = f.c; s1 = f.s1; s2 = f.s2; n = f.n; k = f.k } → Spells bs i → bs ≡ bytes_of k f
 unfolding spelled_code
 spells-bytes_of k f i bs e s =
@@ -55,7 +56,7 @@ spells-bytes_of k f i bs e s =
     ∙ sym (ap (λ b. cond b (spelling s.inst.row f) []) (fit_true s.inst.row f fits))
     ∙ sym (ap (λ o. option_map_or (λ row. spelled_code row f) o []) at)
 
--- and where they are no instruction there are none
+-- fields that are no instruction have no bytes
 pub unlisted-bytes_of : (k : ℕ) (f : Fields) → ¬ IsInst (record { row = k; c = f.c; s1 = f.s1; s2 = f.s2; n = f.n; k = f.k }) → [] ≡ bytes_of k f
 unfolding spelled_code
 unlisted-bytes_of k f none = by (slice_get listed k) refl

@@ -1,12 +1,12 @@
--- The bytes of instructions are as many whatever their targets are, and symbols that wait have four bytes.
-use Rattle.std.proofs.Common.{◌≡◌, ◌&&◌, ◌==◌, ℕ, Bool, true, false, cond, List, [], ◌∷◌, length, Option, Some, None, refl, sym, ap, subst, ◌∙◌, arith}
+-- The size of an instruction doesn't depend on its target; bytes that wait for an address are four.
+use Rattle.std.proofs.Common.{◌≡◌, ◌&&◌, ◌==◌, ℕ, Bool, true, false, cond, List, [], ◌∷◌, length, Option, Some, None, refl, sym, ap, subst, ◌∙◌}
 use Rattle.std.specs.Prelude.{slice_get}
 use Rattle.std.specs.Option.{option_map_or}
-use Rattle.std.proofs.lemmas.Bool.Decides.{nat_tests, Decides-eqb}
+use Rattle.std.proofs.lemmas.Bool.Decides.{Decides-eqb}
 use Rattle.tc_isa.specs.declared.fields.Fields.{Fields}
 use Rattle.tc_isa.specs.Rows.{RowData, listed}
-use Rattle.tc_isa.specs.Words.{IsBelow, bounds}
-use Rattle.tc_isa.specs.Codec.{Fits, is_below_test, uses_of, is_apart, is_long, spelling_of, spelling, word_of}
+use Rattle.tc_isa.specs.Words.{bounds}
+use Rattle.tc_isa.specs.Codec.{Fits, uses_of, is_apart, is_long, spelling_of, spelling, word_of}
 use Rattle.tc_stmt.specs.RowFields.{ReferenceData, RowFieldsData, set_field, with_rule, displacement_rule, with_displacement}
 use Rattle.tc_stmt.specs.Items.{ItemData, code, bytes}
 use Rattle.tc_asm.specs.Symbols.{SymbolData}
@@ -19,10 +19,11 @@ use Rattle.tc_asm.specs.Contents.{is_open}
 use Rattle.tc_stmt.specs.Stated.{Symbols}
 use Rattle.tc_stmt.proofs.StatedRows.{Sound, sound_displaced}
 use Rattle.tc_asm.specs.Added.{IsCode, IsItem}
+use Rattle.tc_asm.proofs.CodeLaws.{below_true}
 use Rattle.tc_asm.proofs.SourceItems.{source_are}
 use Rattle.tc_asm.proofs.Uses.{GoodItem, GoodItems}
 
--- ---- a target resolved
+-- ---- a target that is resolved at once
 fit_sound : (row : RowData) (f : Fields) → Fits row f → Sound row (found f)
 fit_sound row f h = record { below = h.below; zero = h.zero; symbols = record { some = λ s e. cc } }
 
@@ -54,11 +55,6 @@ resolved_fits labels d k f o row at s h =
     subst (λ (q : Option RowData). Fits row (option_map_or (λ x. targeted labels d x f o) q (found f)).fields) (sym at) (targeted_fits labels d row f o s h)
 
 -- ---- the bytes of an instruction
-below_true : (f b : Fields) → IsBelow f b → is_below_test f b ≡ true
-below_true f b h =
-    let c = h.c in let s1 = h.s1 in let s2 = h.s2 in let n = h.n in let k = h.k in
-    grind (arith, nat_tests)
-
 pub fit_true : (row : RowData) (f : Fields) → Fits row f → is_fit row f ≡ true
 fit_true row f h = all_true _ _ _ (below_true f (bounds row.form) h.below) h.zero h.apart
   where
@@ -79,7 +75,7 @@ code_length labels d k f o c =
     ap (λ (q : Option RowData). length (option_map_or (λ row. spelled_code row (resolved labels d k f o).fields) q [])) c.at
     ∙ spelled_length c.row (resolved labels d k f o).fields (resolved_fits labels d k f o c.row c.at c.symbols c.fits)
 
--- ---- good items
+-- ---- valid items
 open_long : (row : RowData) (o : Option ReferenceData) → Symbols row o → is_open o ≡ true → is_long row ≡ true
 open_long row None s e = cc
 open_long row (Some r) s e = ((s.some r refl).long e).0

@@ -1,4 +1,4 @@
--- What the parts of a draft keep, of the types of the code.
+-- The invariant of a draft's parts, for the types of the code.
 use Rattle.std.proofs.Common.{◌≡◌, ◌<◌, ◌≤◌, ◌+◌, ◌^◌, ◌&&◌, ◌++◌, ℕ, zero, suc, Bool, true, List, [], ◌∷◌, length, map, Option, None, Some, refl, ap, arith}
 use Rattle.std.specs.Prelude.{is_some, All}
 use Rattle.std.specs.Bool.{then_some}
@@ -41,8 +41,8 @@ parts_named parts h = all_from_each _ parts (parts_each [] parts h)
 pub symbols_named : (ss : List SymbolData) → InTurn IsNew [] (symbol_names ss) → All (λ (s : SymbolData). is_some (name_of s.name) ≡ true) ss
 symbols_named ss h = all_from_each _ ss (symbols_each [] ss h)
 
--- no section is longer than all together
-size_small : (names : List (List ℕ)) (total : ℕ) (parts : List PartData) → Each (IsPart names total) parts → (n : ℕ) → size_at parts n ≤ total
+-- no section is longer than all sections together
+pub size_small : (names : List (List ℕ)) (total : ℕ) (parts : List PartData) → Each (IsPart names total) parts → (n : ℕ) → size_at parts n ≤ total
 size_small names total [] h n = omega arith
 size_small names total (p ∷ ps) h zero = h.0.small
 size_small names total (p ∷ ps) h (suc n) = size_small names total ps h.1 n

@@ -1,4 +1,4 @@
--- Instructions of a source that breaks no rule: they stand, and spell their rows.
+-- Instructions of a source that breaks no rule are statements, and spell their rows.
 use Rattle.std.proofs.Common.{◌≡◌, ◌≤◌, ◌+◌, ◌&&◌, ◌++◌, min, ℕ, Bool, true, cond, List, [], ◌∷◌, length, Option, Some, refl, ap, subst, ◌∙◌, arith}
 use Rattle.std.specs.Prelude.{slice_get, fold}
 use Rattle.tc_isa.specs.declared.fields.Fields.{Fields}
@@ -30,7 +30,7 @@ code_spells labels d k f o c = record {
   spelled = code_spelled labels d k f o c;
 }
 
--- there are a section and room where no rule is broken
+-- if no rule is broken, there are a section and room
 pub code_stands : (labels : List SymbolData) (d : DraftData) (k : ℕ) (f : Fields) (o : Option ReferenceData) → 15 ≤ item_rule labels d (code k f o) → (has_section d && has_room d (length (code_bytes labels d k f o))) ≡ true
 unfolding item_rule
 code_stands labels d k f o rule =

@@ -1,4 +1,4 @@
--- What each thing of a source keeps.
+-- Each item of a source keeps the invariant of drafts.
 use Rattle.std.proofs.Common.{◌≡◌, ◌<◌, ◌≤◌, ◌+◌, ◌^◌, ◌++◌, ◌||◌, ◌&&◌, ◌==◌, min, ℕ, Bool, true, false, cond, List, [], ◌∷◌, length, replicate, Option, None, Some, refl, ap, sym, subst, ◌∙◌, arith, length-append, lit<}
 use Rattle.std.specs.Prelude.{option_map, find, unwrap_or, is_some, nat_lt, not, fold, codes, if◌then◌else◌}
 use Rattle.std.specs.Bool.{then_some}
@@ -79,7 +79,7 @@ put_known ss name e =
     ap (λ ns. is_among ns name) (names_put ss name e)
     ∙ by_test (λ (ns : List (List ℕ)). is_among ns name ≡ true) (is_among (symbol_names ss) name) (symbol_names ss) (symbol_names ss ++ name ∷ []) (λ a. a) (λ a. among_last (symbol_names ss) name (same_name name))
 
--- a part in the light of more symbols and more bytes in all
+-- a part remains valid with more symbols and more bytes in all sections
 IsPart-more : (names more : List (List ℕ)) (total most : ℕ) → ((n : List ℕ) → is_among names n ≡ true → is_among more n ≡ true) → total ≤ most → (p : PartData) → IsPart names total p → IsPart more most p
 IsPart-more names more total most mono le p h = record {
   small = let s = h.small in omega arith;
@@ -140,7 +140,7 @@ unfolding with_global made_global
 IsDraft-global d name h room =
     by_test IsDraft (is_name name) _ d (λ b. IsDraft-put d name (record (entry_of d.symbols name) { is_global = true }) h b (room_from _ room) (old_placed d name h)) (λ b. h)
 
--- labels stay where they stand when sections grow
+-- labels remain within their sections if sections grow
 IsPlace-more : (parts more : List PartData) → length parts ≤ length more → ((n : ℕ) → size_at parts n ≤ size_at more n) → (o : Option Place) → IsPlaced parts o → IsPlaced more o
 IsPlace-more parts more long big None h = tt
 IsPlace-more parts more long big (Some p) h = record {
@@ -200,7 +200,7 @@ IsDraft-section d name h =
     }
 
 -- ---- bytes, and their use
--- one section changed: it keeps its name, and has more bytes and perhaps uses
+-- a change of one section: it keeps its name, and has more bytes and perhaps further uses
 IsDraft-changed : (d : DraftData) (f : PartData → PartData) (total count k : ℕ) → IsDraft d → d.section < length d.parts
     → ((p : PartData) → (f p).name ≡ p.name) → ((p : PartData) → length p.bytes ≤ length (f p).bytes) → ((p : PartData) → length (f p).uses ≡ length p.uses + k)
     → d.total ≤ total → total ≤ 2 ^ 24 → count ≡ d.count + k → count < 2 ^ 16
@@ -308,7 +308,7 @@ module _ (d : DraftData) (bs : List ℕ) (r : ReferenceData) (h : IsDraft d) (kn
       subst IsDraft (sym (used_bytes-is p1.0 p1.1)) (use_kept p1.0 p1.1 ((Decides-eqb (length bs) 4).0 p2.1) p3.1 (ltb-true d.count 65535 p4.1)))
       (λ b. IsDraft-bytes d bs h)
 
--- ---- a thing, a line
+-- ---- an item, a line
 IsDraft-content : (d : DraftData) (bs : List ℕ) (o : Option ReferenceData) → IsDraft d → 15 ≤ reference_rule d o → IsDraft (with_content d bs o)
 unfolding with_reference seen
 IsDraft-content d bs None h room = IsDraft-bytes d bs h

@@ -1,10 +1,11 @@
--- A section is its statements, one behind the other.
+-- A section is the bytes of its statements in order.
 use Rattle.std.proofs.Common.{◌≡◌, ◌<◌, ◌+◌, ◌^◌, zero, suc, ℕ, Bool, true, false, cond, List, [], ◌∷◌, ◌++◌, length, replicate, Option, Some, None, refl, ap, sym, ◌∙◌, append_assoc, append-nil, arith, ◌&&◌, ◌==◌, length-append, take, drop}
 use Rattle.std.specs.Prelude.{fold, nat_lt, nat_le, not, slice_get}
 use Rattle.std.proofs.Math.Dec.{eqb-zero-suc, eqb-suc-zero, eqb-suc-suc}
 use Rattle.std.proofs.lemmas.Bool.{ltb-true, and_parts}
 use Rattle.std.proofs.lemmas.Bool.Decides.{Decides-eqb}
 use Rattle.std.proofs.lemmas.List.Concat.{flat_map-append}
+use Rattle.std.proofs.lemmas.List.Sums.{fold-append}
 use Rattle.tc_stmt.specs.Names.{is_name}
 use Rattle.tc_stmt.specs.RowFields.{ReferenceData}
 use Rattle.tc_stmt.specs.Items.{ItemData, label, section, global, code, bytes, zeros}
@@ -36,7 +37,7 @@ bytes_at-grown bs (p ∷ ps) zero (suc s) h = rw (eqb-zero-suc s) (sym (append-n
 bytes_at-grown bs (p ∷ ps) (suc i) zero h = rw (eqb-suc-zero i) (sym (append-nil p.bytes))
 bytes_at-grown bs (p ∷ ps) (suc i) (suc s) h = rw (eqb-suc-suc i s) (bytes_at-grown bs ps i s (omega arith))
 
--- what a symbol in a place leaves as it was
+-- a symbol leaves sections and bytes as they are
 record Keeps (d e : DraftData) : Type 0 where
   same_section : e.section ≡ d.section
   same_count : length e.parts ≡ length d.parts
@@ -125,17 +126,13 @@ module _ (s : ℕ) where
       ∙ append_assoc (bytes_at d.parts s) (section_bytes s (standing d (content_of labels d i))) (section_bytes s (statements_from labels (stepped labels d i) is))
       ∙ ap (λ bs. bytes_at d.parts s ++ bs) (sym (flat_map-append (λ (t : StatementData). cond (t.section == s) t.bytes []) (standing d (content_of labels d i)) (statements_from labels (stepped labels d i) is)))
 
-fold-append : (labels : List SymbolData) (xs ys : List ItemData) (d : DraftData) → fold (stepped labels) d (xs ++ ys) ≡ fold (stepped labels) (fold (stepped labels) d xs) ys
-fold-append labels [] ys d = refl
-fold-append labels (x ∷ xs) ys d = fold-append labels xs ys (stepped labels d x)
-
--- all that lines add, one thing after another
+-- the items of all lines, in order
 pub lines-items : (labels : List SymbolData) (lines : List LineData) (d : DraftData) → fold (with_line labels) d lines ≡ fold (stepped labels) d (items_in lines)
 unfolding with_line
 lines-items labels [] d = refl
-lines-items labels (l ∷ ls) d = lines-items labels ls (fold (stepped labels) d l.items) ∙ sym (fold-append labels l.items (items_in ls) d)
+lines-items labels (l ∷ ls) d = lines-items labels ls (fold (stepped labels) d l.items) ∙ sym (fold-append (stepped labels) d l.items (items_in ls))
 
--- a section is the bytes of its statements, one behind the other
+-- a section of a draft is the bytes of its statements in order
 pub drafted-bytes : (labels : List SymbolData) (lines : List LineData) (s : ℕ) → bytes_at (drafted labels lines).parts s ≡ section_bytes s (statements labels lines)
 drafted-bytes labels lines s = ap (λ (d : DraftData). bytes_at d.parts s) (lines-items labels lines start) ∙ from-bytes s labels (items_in lines) start
 
@@ -149,7 +146,7 @@ drop-behind [] ys m n e = let same : m ≡ n = omega arith in ap (λ k. drop k y
 drop-behind (x ∷ xs) ys zero n e = absurd (omega arith)
 drop-behind (x ∷ xs) ys (suc m) n e = drop-behind xs ys m n (omega arith)
 
--- a statement's bytes stand at its offset
+-- a statement's bytes are at its offset
 pub stands : (ts : List StatementData) (place : ℕ) (t : StatementData) → slice_get ts place ≡ Some t
     → take (length t.bytes) (drop (offset_of ts place t.section) (section_bytes t.section ts)) ≡ t.bytes
 stands [] place t e = cc

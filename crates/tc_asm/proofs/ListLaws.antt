@@ -1,4 +1,4 @@
--- Lists in which each item is good in the light of those before it, and one section changed.
+-- Lists in which each item is valid given the earlier ones, and changes of one section.
 use Rattle.std.proofs.Common.{◌≡◌, ◌<◌, ◌≤◌, ◌+◌, ◌++◌, ◌||◌, ℕ, zero, suc, Bool, true, false, cond, List, [], ◌∷◌, length, set, Option, None, Some, refl, ap, sym, subst, ◌∙◌, append_assoc, append-nil, arith}
 use Rattle.std.specs.Prelude.{slice_get, option_map, find, unwrap_or, position, not}
 use Rattle.std.proofs.lemmas.List.Sums.{sum_by-cons}
@@ -64,7 +64,7 @@ each_put P (s ∷ ss) name e h p =
     by_test (λ (us : List SymbolData). Each (λ (t : SymbolData). P t.entry) us) (bytes_eq name s.name) (symbol s.name e ∷ ss) (s ∷ put_entry ss name e)
     (λ b. (p, h.1)) (λ b. (h.0, each_put P ss name e h.1 p))
 
--- what is known of a name has what each entry has
+-- a property of each entry holds of the entry of a name
 pub entry_has : (P : Entry → Type 0) (ss : List SymbolData) (name : List ℕ) (none : Entry) → Each (λ (s : SymbolData). P s.entry) ss → P none
     → P (unwrap_or (option_map (λ (s : SymbolData). s.entry) (find (λ s. bytes_eq name s.name) ss)) none)
 entry_has P [] name none h p = p
@@ -92,7 +92,7 @@ among_known (x ∷ ss) name s h = by (bytes_eq name x.name) h (among_known ss na
     by true e rest = refl
     by false e rest = rest e
 
--- ---- one section changed
+-- ---- a change of one section
 abbrev pub changed : (PartData → PartData) → List PartData → ℕ → List PartData
 changed f [] i = []
 changed f (p ∷ ps) zero = f p ∷ ps
@@ -145,7 +145,7 @@ count-changed f k h (p ∷ ps) (suc i) less =
     let rest : count_of (changed f ps i) ≡ count_of ps + k = count-changed f k h ps i (omega arith) in
     sum_by-cons (λ (r : PartData). length r.uses) p (changed f ps i) ∙ omega (arith, rest, sum_by-cons (λ (r : PartData). length r.uses) p ps)
 
--- ---- a section more
+-- ---- a further section
 pub size-push : (parts : List PartData) (p : PartData) (n : ℕ) → size_at parts n ≤ size_at (parts ++ p ∷ []) n
 size-push [] p n = omega arith
 size-push (q ∷ qs) p zero = omega arith

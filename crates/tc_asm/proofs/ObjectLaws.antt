@@ -1,4 +1,4 @@
--- What a source that breaks no rule puts together is an object.
+-- The draft of a source that breaks no rule is an object.
 use Rattle.std.proofs.Common.{◌≡◌, ◌<◌, ◌≤◌, ◌+◌, ◌-◌, ◌^◌, ◌%◌, ◌++◌, ◌||◌, ◌&&◌, ◌==◌, ◌⊎◌, inl, inr, ℕ, zero, suc, Bool, true, false, cond, List, [], ◌∷◌, length, map, Option, None, Some, refl, ap, sym, subst, ◌∙◌, arith, length-append, lit<}
 use Rattle.std.specs.Prelude.{slice_get, unwrap_or, nat_lt, nat_le}
 use Rattle.std.specs.List.{list_any}
@@ -17,6 +17,7 @@ use Rattle.tc_asm.specs.Symbols.{SymbolData}
 use Rattle.tc_asm.specs.Drafts.{UseData, PartData, DraftData}
 use Rattle.tc_asm.specs.Objects.{section_of, symbol_at, symbol_of, number_of, addend_of, reloc_of, relocs_from, object_of}
 use Rattle.tc_asm.specs.Kept.{Each, is_among, IsNew, part_names, symbol_names, size_at, IsPlace, IsPlaced, Spaced, IsUse, IsPart, count_of, IsDraft}
+use Rattle.tc_asm.proofs.FinishLaws.{size_small}
 use Rattle.tc_asm.proofs.ListLaws.{each_weaker, any_first, position_first, spaced_end}
 
 -- ---- sections
@@ -36,12 +37,6 @@ size-sections : (parts : List PartData) (n : ℕ) → object.size_at (map sectio
 size-sections [] n = refl
 size-sections (p ∷ ps) zero = refl
 size-sections (p ∷ ps) (suc n) = size-sections ps n
-
--- no section is longer than all together
-size_small : (names : List (List ℕ)) (total : ℕ) (parts : List PartData) → Each (IsPart names total) parts → (n : ℕ) → size_at parts n ≤ total
-size_small names total [] h n = omega arith
-size_small names total (p ∷ ps) h zero = h.0.small
-size_small names total (p ∷ ps) h (suc n) = size_small names total ps h.1 n
 
 -- ---- symbols
 symbol_among : (ss : List object.SymbolData) (name : List ℕ) → is_symbol_name ss name ≡ is_among (map (λ (s : object.SymbolData). s.name) ss) name
@@ -98,7 +93,7 @@ last-push rs r = ap (λ n. slice_get (rs ++ r ∷ []) n) (let l = length-append 
     there [] = refl
     there (s ∷ ss) = there ss
 
--- places in later sections, and in this one from low on, are behind those before
+-- places in later sections, and in this one from low on, come after these relocations
 abbrev Behind : List Reloc → ℕ → ℕ → Type 0
 Behind before s low = (t o : ℕ) → (s < t) ⊎ ((t ≡ s) × (low ≤ o)) → is_behind (last_of before) t o ≡ true
 
@@ -208,7 +203,7 @@ IsObject-draft d h =
       relocs = relocs_turn d.symbols h.few_symbols d.parts h.few_parts d.total h.total h.parts 0 d.parts [] (zero_more (length d.parts)) (λ n. ap (size_at d.parts) (zero_more n)) h.parts (λ t o any. refl);
     }
 
--- the same of parts that are equal to those
+-- the object of parts that are equal to those of the draft
 pub object_whole : (d : DraftData) (ss : List SectionData) (ys : List object.SymbolData) (rs : List Reloc) → IsDraft d
     → ss ≡ map section_of d.parts → ys ≡ map symbol_of d.symbols → rs ≡ relocs_from d.symbols 0 d.parts → IsObject (record { sections = ss; symbols = ys; relocs = rs })
 object_whole d ss ys rs h e f g =

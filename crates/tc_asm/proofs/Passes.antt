@@ -1,4 +1,4 @@
--- One line more.
+-- A further line in both passes.
 use Rattle.std.proofs.Common.{◌≡◌, ◌≢◌, ◌<◌, ◌≤◌, ◌+◌, ℕ, List, [], ◌∷◌, map, length, get_or, take, drop, min, refl, ap, sym, subst, ◌∙◌, inl, inr, arith, length-drop, get_or-drop}
 use Rattle.std.specs.Prelude.{fold}
 use Rattle.std.proofs.lemmas.List.{length-map, get_or-map, drop_more, drop_all, drop-drop, take_all, take-map}
@@ -21,7 +21,7 @@ use Rattle.tc_asm.specs.Drafts.{DraftData, start, stepped}
 use Rattle.tc_asm.specs.Rules.{item_rule}
 use Rattle.tc_asm.specs.Sources.{items_rule, with_line, line_rule, drafted, rule_in, symbols_of, KeepsRules, IsLeast}
 
--- the line at a place, with those behind it
+-- the line at a place, with the lines after it
 module _ (ls : List LineData) (i : ℕ) (x : LineData) (zs : List LineData) (here : drop i ls ≡ x ∷ zs) where
   within : i < length ls
   within = omega (arith, length-drop i ls, ap length here)
@@ -71,7 +71,7 @@ module _ (ls : List LineData) (i : ℕ) (x : LineData) (zs : List LineData) (her
     before = before;
   }
 
--- one thing more of a line
+-- a further item of a line
 module _ (labels : List SymbolData) (items : List Item) (i : ℕ) (d : Item) (within : i < length items) where
   rest : ℕ → List ItemData
   rest n = drop n (map item_of items)
@@ -96,7 +96,7 @@ module _ (labels : List SymbolData) (items : List Item) (i : ℕ) (d : Item) (wi
       joined : (a b c : ℕ) → min (min a b) c ≡ min b (min a c)
       joined a b c = omega arith
 
-  -- both facts of a loop over things, for one more
+  -- the draft and the rule of a loop over items, after a further item
   pub items_step : (draft next : DraftData) (all : DraftData) → next ≡ stepped labels draft (item_of (get_or items i d))
       → fold (stepped labels) draft (drop i (map item_of items)) ≡ all → fold (stepped labels) next (drop (i + 1) (map item_of items)) ≡ all
   items_step draft next all e so_far = items_more draft next e ∙ so_far
@@ -129,12 +129,12 @@ rules_end labels items i draft rule all past small e =
 pub drafted_end : (ls : List LineData) (i : ℕ) (labels : List SymbolData) (draft : DraftData) → length ls ≤ i → draft ≡ drafted labels (take i ls) → draft ≡ drafted labels ls
 drafted_end ls i labels draft past e = e ∙ ap (drafted labels) (take_all i ls past)
 
--- ---- lines that are read
+-- ---- the lines of the code
 pub first_things : (items first : List Item) (n : ℕ) → first ≡ take n items → map item_of first ≡ take n (map item_of items)
 first_things items front n e = ap (map item_of) e ∙ sym (take-map item_of n items)
 
 module _ (lines : List Line) (i : ℕ) (d : Line) (items : List Item) (within : i < length lines) where
-  -- the next line is that of the next things
+  -- the next line has the next items
   pub read_here : (ls : List LineData) → drop i ls ≡ lines_read (drop i lines) (map item_of items)
       → drop i ls ≡ line_data (get_or lines i d).rule (take (get_or lines i d).count (map item_of items)) ∷ lines_read (drop (i + 1) lines) (drop (get_or lines i d).count (map item_of items))
   read_here ls e = e ∙ ap (λ (ks : List Line). lines_read ks (map item_of items)) (drop_more lines i d within)
@@ -156,7 +156,7 @@ module _ (source : List ℕ) (read : Source) (same : lines_of read ≡ lines_in 
   pub bad_source : (e : AsmErr) → IfBad (IsLeast (lines_of read)) e → IfBad (IsLeast (lines_in source)) e
   bad_source e h = subst (λ (ls : List LineData). IfBad (IsLeast ls) e) same h
 
--- the symbols of all that the lines add are those of the lines
+-- the symbols of the items of all lines are those of the lines
 pub labels_source : (source : List ℕ) (read : Source) (items : List Item) (labels : List SymbolData) → labels ≡ (fold (stepped []) start (map item_of items)).symbols
     → items ≡ read.items.items → map item_of read.items.items ≡ items_in (lines_in source) → lines_of read ≡ lines_in source → labels ≡ symbols_of (lines_of read)
 labels_source source read items labels e f g same =

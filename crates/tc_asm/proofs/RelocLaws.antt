@@ -1,4 +1,4 @@
--- The relocations of sections, one section behind the other.
+-- The relocations of sections, section by section.
 use Rattle.std.proofs.Common.{◌≡◌, ◌<◌, ◌≤◌, ◌+◌, ◌++◌, ℕ, List, ◌∷◌, map, length, get_or, drop, ap, sym, ◌∙◌, append_assoc, append-nil}
 use Rattle.std.proofs.lemmas.List.{drop_more, drop_all, length-map, get_or-map}
 use Rattle.tc_object.specs.declared.relocs.Reloc.{Reloc}

@@ -107,7 +107,7 @@ at_most row minus s = by (is_far row.form (bounds row.form).k minus s) (is_long 
     by far long true = omega arith
     by far long false = omega arith
 
--- ---- a jump resolved
+-- ---- a jump that is resolved at once
 not_both : (b : Bool) → b ≡ true → b ≡ false → ⊥
 not_both b e g = cc
 
@@ -196,7 +196,7 @@ distant labels d r minus size e = by (place_in labels r.name) refl e
     by None is g = cc
     by (Some a) is g = by_section a (has_section d && a.section == d.section) refl is g
 
--- a distance that fits, gone from where the jump stands
+-- a jump over a distance that fits, from the address of the jump
 gone : (less minus : Bool) (base place offset size s far : ℕ) → place + cond less size 0 + cond minus 0 s ≡ offset + cond less 0 size + cond minus s 0 → far ≡ cond minus ((2 ^ 32 - s) % 2 ^ 32) s → (minus ≡ true → s ≤ 2 ^ 32) →
     (base + place + far) % 2 ^ 32 ≡ ((base + offset) % 2 ^ 32 + cond less ((2 ^ 32 - size % 2 ^ 32) % 2 ^ 32) (size % 2 ^ 32)) % 2 ^ 32
 gone true true base place offset size s far e h small = let less = small refl in omega arith

@@ -1,4 +1,4 @@
--- What a source that breaks no rule puts together.
+-- The draft of a source that breaks no rule.
 use Rattle.std.proofs.Common.{◌≡◌, ◌<◌, ◌≤◌, min, ℕ, suc, List, [], ◌∷◌, ◌++◌, length, take, get_or, sym, ap, subst, ◌∙◌, arith, append_assoc, append-nil}
 use Rattle.std.specs.Prelude.{fold}
 use Rattle.std.proofs.lemmas.List.Sums.{fold-append}
@@ -15,8 +15,8 @@ use Rattle.tc_asm.specs.Objects.{object_of}
 use Rattle.tc_asm.proofs.ObjectLaws.{IsObject-draft}
 use Rattle.tc_asm.specs.Contents.{draft_in}
 
--- ---- the lines behind others break no rule
-abbrev KeepsFrom : List SymbolData → DraftData → List LineData → Type 0
+-- ---- lines after others break no rule
+abbrev pub KeepsFrom : List SymbolData → DraftData → List LineData → Type 0
 KeepsFrom labels d [] = Unit {0}
 KeepsFrom labels d (l ∷ ls) = (line_rule labels d l ≡ 15) × KeepsFrom labels (with_line labels d l) ls
 

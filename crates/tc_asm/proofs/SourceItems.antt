@@ -1,4 +1,4 @@
--- What the lines of a source add: instructions whose fields fit their row, and symbols that their bytes have room for.
+-- The items of a source: fields of instructions fit their rows, and symbols fit their bytes.
 use Rattle.std.proofs.Common.{◌≡◌, ◌+◌, ◌*◌, ◌^◌, ◌&&◌, ◌||◌, ◌==◌, min, ℕ, Bool, true, false, cond, List, [], ◌∷◌, ◌++◌, length, take, drop, map, Option, Some, None, Result, Ok, Err, refl, sym, ap, ◌∙◌}
 use Rattle.std.specs.Prelude.{nat_le, not, codes}
 use Rattle.std.specs.List.{slice_split}

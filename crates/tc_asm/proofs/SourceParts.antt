@@ -1,21 +1,20 @@
--- The sections of a source: the bytes of their statements, and the uses of those that wait for addresses.
+-- The sections of a source: the bytes and the uses of its statements.
 use Rattle.std.proofs.Common.{◌≡◌, ◌≤◌, ◌+◌, ℕ, zero, suc, Bool, true, false, cond, List, [], ◌∷◌, ◌++◌, Some, refl, sym, ap, ◌∙◌, arith, map}
-use Rattle.std.specs.Prelude.{slice_get, fold}
-use Rattle.std.proofs.lemmas.List.Sums.{fold-append}
+use Rattle.std.specs.Prelude.{slice_get}
 use Rattle.tc_object.specs.Objects.{SectionData}
 use Rattle.tc_stmt.specs.Items.{ItemData, code, bytes, zeros}
-use Rattle.tc_stmt.specs.Lines.{LineData, lines_in, items_in}
+use Rattle.tc_stmt.specs.Lines.{lines_in, items_in}
 use Rattle.tc_asm.specs.Symbols.{SymbolData}
 use Rattle.tc_asm.specs.Drafts.{PartData, DraftData, start, stepped}
-use Rattle.tc_asm.specs.Sources.{with_line, symbols_of, items_rule}
+use Rattle.tc_asm.specs.Sources.{symbols_of, items_rule}
 use Rattle.tc_asm.specs.Objects.{section_of}
 use Rattle.tc_asm.specs.Statements.{StatementData, content_of, standing, statements_from, section_bytes, bytes_at}
-use Rattle.tc_asm.proofs.LaidLaws.{drafted-bytes}
+use Rattle.tc_asm.proofs.LaidLaws.{drafted-bytes, lines-items}
 use Rattle.tc_asm.specs.Contents.{draft_in, statements_in, sections_from, sections_in}
 use Rattle.tc_asm.proofs.Uses.{HasField, HaveFields, uses_from, uses_in, GoodItems, GoodItem, all_uses}
 use Rattle.tc_asm.specs.Kept.{part_names}
 
--- ---- one part
+-- ---- a single part
 pub part_bytes : (ps : List PartData) (s : ℕ) (q : PartData) → slice_get ps s ≡ Some q → bytes_at ps s ≡ q.bytes
 part_bytes [] s q e = cc
 part_bytes (p ∷ ps) zero q e = let same : p ≡ q = cc in ap (λ (x : PartData). x.bytes) same
@@ -26,13 +25,7 @@ part_uses [] s q e = cc
 part_uses (p ∷ ps) zero q e = let same : p ≡ q = cc in ap (λ (x : PartData). x.uses) same
 part_uses (p ∷ ps) (suc s) q e = part_uses ps s q e
 
--- the lines of a source, thing by thing
-pub lines_items : (labels : List SymbolData) (lines : List LineData) (d : DraftData) → fold (with_line labels) d lines ≡ fold (stepped labels) d (items_in lines)
-unfolding with_line
-lines_items labels [] d = refl
-lines_items labels (l ∷ ls) d = lines_items labels ls (fold (stepped labels) d l.items) ∙ sym (fold-append (stepped labels) d l.items (items_in ls))
-
--- ---- the fields of good items
+-- ---- the fields of valid items
 fields_behind : (xs ys : List StatementData) → HaveFields xs → HaveFields ys → HaveFields (xs ++ ys)
 fields_behind [] ys h k = k
 fields_behind (x ∷ xs) ys h k = (h.0, fields_behind xs ys h.1 k)
@@ -61,7 +54,7 @@ module _ (source : List ℕ) (good : GoodItems (symbols_of (lines_in source)) st
   part_is s q e = (
     sym (part_bytes (draft_in source).parts s q e) ∙ drafted-bytes (symbols_of (lines_in source)) (lines_in source) s,
     sym (part_uses (draft_in source).parts s q e)
-        ∙ ap (λ (d : DraftData). uses_in d.parts s) (lines_items (symbols_of (lines_in source)) (lines_in source) start)
+        ∙ ap (λ (d : DraftData). uses_in d.parts s) (lines-items (symbols_of (lines_in source)) (lines_in source) start)
         ∙ all_uses s (symbols_of (lines_in source)) (items_in (lines_in source)) good rules,
   )
 
@@ -79,7 +72,7 @@ from_parts ts number (p ∷ ps) same =
     moved : (n s : ℕ) → n + suc s ≡ n + 1 + s
     moved n s = omega arith
 
--- those of one source
+-- the sections of a single source
 pub sections_are : (source : List ℕ) → sections_in source ≡ map section_of (draft_in source).parts
 unfolding sections_in
 sections_are source = from_parts (statements_in source) 0 (draft_in source).parts (λ s. drafted-bytes (symbols_of (lines_in source)) (lines_in source) s ∙ ap (λ n. section_bytes n (statements_in source)) (none_add s))

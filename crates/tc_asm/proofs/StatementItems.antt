@@ -1,4 +1,4 @@
--- The things that add statements, each behind those before it.
+-- The items that add statements, each after the earlier ones.
 use Rattle.std.proofs.Common.{◌≡◌, ◌≤◌, ◌⊎◌, ◌&&◌, ◌++◌, ℕ, zero, suc, Bool, true, false, cond, List, [], ◌∷◌, length, take, Option, Some, None, refl, sym, ap, ◌∙◌, inl, inr}
 use Rattle.std.specs.Prelude.{slice_get, fold}
 use Rattle.tc_stmt.specs.Items.{ItemData}
@@ -11,7 +11,7 @@ use Rattle.tc_asm.specs.Statements.{StatementData, content_of, standing, stateme
 use Rattle.tc_stmt.proofs.ListItems.{InRest, in_front_or_rest, take_behind}
 use Rattle.tc_asm.proofs.Uses.{place_bytes, items_bytes, fits, fits_too}
 
--- the thing that adds this statement, with those before and behind it
+-- the item that adds this statement, with the items before and after it
 pub record ItemAt (labels : List SymbolData) (d : DraftData) (items : List ItemData) (j : ℕ) (t : StatementData) : Type 0 where
   pub before : List ItemData
   pub item : ItemData
@@ -63,17 +63,17 @@ item_at labels (i ∷ is) d j t e =
           content = a.content;
         }
 
--- what is so of each thing is so of this one
+-- a property of all items holds of this one
 pub each_there : (P : ItemData → Type 0) (before after : List ItemData) (i : ItemData) → Each P (before ++ i ∷ after) → P i
 each_there P [] after i h = h.0
 each_there P (x ∷ xs) after i h = each_there P xs after i h.1
 
--- and it breaks no rule where none does
+-- an item of a source that breaks no rule breaks none
 pub rule_there : (labels : List SymbolData) (before after : List ItemData) (i : ItemData) (d : DraftData) → 15 ≤ items_rule labels d (before ++ i ∷ after) → 15 ≤ item_rule labels (fold (stepped labels) d before) i
 rule_there labels [] after i d h = fits (item_rule labels d i) (items_rule labels (stepped labels d i) after) h
 rule_there labels (x ∷ xs) after i d h = rule_there labels xs after i (stepped labels d x) (fits_too (item_rule labels d x) (items_rule labels (stepped labels d x) (xs ++ i ∷ after)) h)
 
--- a statement stands where the next byte of its section would
+-- the offset of a statement is that of the next byte of its section
 pub offset_there : (labels : List SymbolData) (items : List ItemData) (j : ℕ) (t : StatementData) (a : ItemAt labels start items j t) → (fold (stepped labels) start a.before).section ≡ t.section →
     offset_of (statements_from labels start items) j t.section ≡ place_of (fold (stepped labels) start a.before)
 offset_there labels items j t a same =

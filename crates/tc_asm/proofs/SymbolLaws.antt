@@ -1,4 +1,4 @@
--- Symbols in a map, as a list.
+-- The map of symbols, as a list.
 use Rattle.std.proofs.Common.{◌≡◌, ℕ, Bool, true, false, cond, List, [], ◌∷◌, map, Option, Some, None, refl, ap, sym, ◌∙◌}
 use Rattle.std.specs.Prelude.{find, option_map, slice_get, position, is_some, unwrap_or}
 use Rattle.std.specs.Borrow.{Bor}
@@ -47,7 +47,7 @@ position-known es k =
 pub at-known : (es : List (Key × Entry)) (i : ℕ) (e : Key × Entry) → slice_get es i ≡ Some e → slice_get (map known_of es) i ≡ Some (known_of e)
 at-known es i e h = slice_get-map known_of es i ∙ ap (option_map known_of) h
 
--- ---- a name that is seen
+-- ---- a name that is used
 put_same : (ss : List SymbolData) (name : List ℕ) (e : Entry) → entry_in ss name ≡ Some e → put_entry ss name e ≡ ss
 put_same [] name e h = cc
 put_same (s ∷ ss) name e h = by (bytes_eq name s.name) (λ k. put_same ss name e k) h
@@ -57,7 +57,7 @@ put_same (s ∷ ss) name e h = by (bytes_eq name s.name) (λ k. put_same ss name
     by true rec h = let same : e ≡ s.entry = cc in ap (λ (x : Entry). symbol s.name x ∷ ss) same
     by false rec h = ap (λ (xs : List SymbolData). s ∷ xs) (rec h)
 
--- stays as it is
+-- a known name changes nothing
 pub seen_known : (ss : List SymbolData) (name : List ℕ) (o : Option Entry) → o ≡ entry_in ss name → is_some o ≡ true → ss ≡ seen ss name
 unfolding seen
 seen_known ss name None is h = cc
@@ -65,14 +65,14 @@ seen_known ss name (Some e) is h =
     let known : entry_of ss name ≡ e = ap (λ (o : Option Entry). unwrap_or o unseen) (sym is) in
     sym (ap (put_entry ss name) known ∙ put_same ss name e (sym is))
 
--- and a new one is put with nothing known
+-- a new name gets the entry of an undefined name
 pub seen_new : (ss next : List SymbolData) (name : List ℕ) (o : Option Entry) → o ≡ entry_in ss name → is_some o ≡ false → next ≡ put_entry ss name unseen → next ≡ seen ss name
 unfolding seen
 seen_new ss next name None is h e = e ∙ ap (put_entry ss name) (sym (ap (λ (o : Option Entry). unwrap_or o unseen) (sym is)))
 seen_new ss next name (Some x) is h e = cc
 
 -- ---- a name that gets its label
--- what is put at a name twice is there as it was put last
+-- the second of two entries for a name replaces the first
 pub put_again : (ss : List SymbolData) (name : List ℕ) (e f : Entry) → put_entry (put_entry ss name e) name f ≡ put_entry ss name f
 put_again [] name e f = ap (λ (q : Bool). cond q (symbol name f ∷ []) (symbol name e ∷ symbol name f ∷ [])) ((bytes_eq-Decides name name).1 refl)
 put_again (s ∷ ss) name e f = by (bytes_eq name s.name) refl (put_again ss name e f)

@@ -33,7 +33,7 @@ code_spelled labels d k f o c =
     ap (λ (q : Option RowData). option_map_or (λ row. spelled_code row (resolved labels d k f o).fields) q []) c.at
     ∙ ap (λ b. cond b (spelling c.row (resolved labels d k f o).fields) []) (fit_true c.row (resolved labels d k f o).fields (resolved_fits labels d k f o c.row c.at c.symbols c.fits))
 
--- only a target that is resolved changes a field
+-- only a target that is resolved at once changes a field
 pub given_fields : (labels : List SymbolData) (d : DraftData) (k : ℕ) (f : Fields) (o : Option ReferenceData) (row : RowData) → slice_get listed k ≡ Some row → is_resolved o ≡ false → (resolved labels d k f o).fields ≡ f
 given_fields labels d k f None row at e = ap (λ (q : Option RowData). (option_map_or (λ x. targeted labels d x f None) q (found f)).fields) at
 given_fields labels d k f (Some r) row at e =

@@ -1,4 +1,4 @@
--- The uses of a section are those of its statements that wait for addresses, in their order.
+-- The uses of a section are those of its statements that wait for addresses, in order.
 use Rattle.std.proofs.Common.{◌≡◌, ◌<◌, ◌≤◌, ◌+◌, ◌&&◌, ◌==◌, min, ℕ, zero, suc, Bool, true, false, cond, List, [], ◌∷◌, ◌++◌, length, replicate, Option, Some, None, refl, sym, ap, subst, ◌∙◌, arith, append_assoc, append-nil}
 use Rattle.std.specs.Prelude.{fold, nat_lt, not, if◌then◌else◌}
 use Rattle.std.proofs.Math.Dec.{eqb-zero-suc, eqb-suc-zero, eqb-suc-suc}
@@ -23,12 +23,12 @@ use Rattle.tc_asm.specs.Added.{IsGood}
 use Rattle.tc_asm.specs.Contents.{is_open}
 
 -- ---- statements and their uses
--- the use of a statement with these bytes behind so many
+-- the use of a statement with these bytes at this offset
 abbrev pub use_at : ℕ → Option ReferenceData → List UseData
 use_at n None = []
 use_at n (Some r) = if is_open (Some r) then record { offset = n; reference = r } ∷ [] else []
 
--- the uses of a section's statements, of which there are so many bytes before
+-- the uses of a section's statements, of which the first is at this offset
 abbrev pub uses_from : ℕ → ℕ → List StatementData → List UseData
 uses_from s n [] = []
 uses_from s n (t ∷ ts) = if t.section == s then use_at n t.reference ++ uses_from s (n + length t.bytes) ts else uses_from s n ts
@@ -68,7 +68,7 @@ uses_in-grown us (p ∷ ps) zero (suc s) h = rw (eqb-zero-suc s) (sym (append-ni
 uses_in-grown us (p ∷ ps) (suc i) zero h = rw (eqb-suc-zero i) (sym (append-nil p.uses))
 uses_in-grown us (p ∷ ps) (suc i) (suc s) h = rw (eqb-suc-suc i s) (uses_in-grown us ps i s (omega arith))
 
--- how far a section is
+-- the size of a section is the number of its bytes
 size_bytes : (ps : List PartData) (s : ℕ) → size_at ps s ≡ length (bytes_at ps s)
 size_bytes [] s = refl
 size_bytes (p ∷ ps) zero = refl
@@ -78,7 +78,7 @@ pub place_bytes : (d : DraftData) → place_of d ≡ length (bytes_at d.parts d.
 unfolding place_of
 place_bytes d = size_at-get d.parts d.section ∙ size_bytes d.parts d.section
 
--- ---- what an item has to be
+-- ---- valid items
 abbrev pub GoodItem : List SymbolData → DraftData → ItemData → Type 0
 GoodItem labels d (code k f r) = IsGood (code_bytes labels d k f r) r
 GoodItem labels d (bytes bs r) = IsGood bs r
@@ -91,7 +91,7 @@ GoodItems labels d (i ∷ is) = GoodItem labels d i × GoodItems labels (stepped
 abbrev a_use : ℕ → ReferenceData → UseData
 a_use n r = record { offset = n; reference = r }
 
--- ---- one item more
+-- ---- a further item
 pub fits : (a b : ℕ) → 15 ≤ min a b → 15 ≤ a
 fits a b h = omega arith
 
@@ -111,7 +111,7 @@ module _ (s : ℕ) where
       (λ b. ap (λ (ps : List PartData). uses_in ps s) (changed-set (λ p. record p { bytes = p.bytes ++ bs }) d.parts d.section) ∙ uses_in-same (λ p. record p { bytes = p.bytes ++ bs }) (λ p. refl) d.parts d.section s)
       (λ b. refl)
 
-  -- no use comes of a statement that doesn't wait
+  -- a statement that doesn't wait has no use
   closed_uses : (n : ℕ) (d : DraftData) (bs : List ℕ) (o : Option ReferenceData) → is_open o ≡ false → uses_from s n (standing d (Some (statement d.section bs o))) ≡ []
   closed_uses n d bs o closed = by (has_section d && has_room d (length bs))
     where
@@ -162,7 +162,7 @@ module _ (s : ℕ) where
         not_both : (b : Bool) → b ≡ true → b ≡ false → ⊥
         not_both b e f = cc
 
-    -- where it waits
+    -- a statement that waits
     waiting : IsGood bs (Some r) → 15 ≤ content_rule d (length bs) (Some r) → is_reloc r.kind ≡ true
         → uses_in (with_content d bs (Some r)).parts s ≡ uses_in d.parts s ++ uses_from s (length (bytes_at d.parts s)) (standing d (Some (statement d.section bs (Some r))))
     unfolding with_reference
@@ -198,7 +198,7 @@ module _ (s : ℕ) where
                 ∙ ap (λ b. cond {A = List UseData} b (a_use (length (bytes_at d.parts s)) r ∷ []) [] ++ []) (sym kind)
             by_section false e = refl
 
-    -- where it doesn't
+    -- a statement that doesn't wait
     done : is_reloc r.kind ≡ false → uses_in (with_content d bs (Some r)).parts s ≡ uses_in d.parts s ++ uses_from s (length (bytes_at d.parts s)) (standing d (Some (statement d.section bs (Some r))))
     unfolding with_reference
     done kind =
@@ -263,14 +263,14 @@ module _ (s : ℕ) where
           ∙ ap (λ k. (use_at n x.reference ++ uses_from s (n + length x.bytes) xs) ++ uses_from s k ys) far
       by false rec = rec n
 
-  -- the statements of items behind others
+  -- the statements of two lists of items
   pub statements-append : (labels : List SymbolData) (d : DraftData) (xs ys : List ItemData) → statements_from labels d (xs ++ ys) ≡ statements_from labels d xs ++ statements_from labels (fold (stepped labels) d xs) ys
   statements-append labels d [] ys = refl
   statements-append labels d (x ∷ xs) ys =
       ap (λ (ts : List StatementData). standing d (content_of labels d x) ++ ts) (statements-append labels (stepped labels d x) xs ys)
       ∙ sym (append_assoc (standing d (content_of labels d x)) (statements_from labels (stepped labels d x) xs) (statements_from labels (fold (stepped labels) (stepped labels d x) xs) ys))
 
-  -- the bytes that items put together, by those of one line
+  -- the bytes of items in a section
   pub items_bytes : (labels : List SymbolData) (is : List ItemData) → bytes_at (fold (stepped labels) start is).parts s ≡ section_bytes s (statements_from labels start is)
   unfolding with_line
   items_bytes labels is =

@@ -1,4 +1,4 @@
--- What the things that a line adds to its source are.
+-- The items that the lines of a source can add to it.
 use Rattle.std.specs.Prelude.{◌≡◌, ℕ, true, List, [], ◌∷◌, length, slice_get, Option, Some}
 use Rattle.tc_isa.specs.declared.fields.Fields.{Fields}
 use Rattle.tc_isa.specs.Rows.{RowData, listed}
@@ -10,12 +10,13 @@ use Rattle.tc_stmt.specs.Stated.{Symbols}
 use Rattle.tc_stmt.specs.Items.{ItemData, label, section, global, code, bytes, zeros}
 use Rattle.tc_asm.specs.Contents.{is_open}
 
--- the symbol of these bytes has a name, and they are four, where it waits for its address
+-- the symbol of these bytes has a name, and if it waits for its address, there are four bytes
 pub record IsGood (bs : List ℕ) (o : Option ReferenceData) : Type 0 where
   pub named : (r : ReferenceData) → o ≡ Some r → is_reloc r.kind ≡ true → is_name r.name ≡ true
   pub four : is_open o ≡ true → length bs ≡ 4
 
--- an instruction of the listed row with this number, whose fields fit it, with a symbol that it takes
+-- an instruction of the listed row with this number; its fields fit the row, and the row takes its
+-- symbol
 pub record IsCode (k : ℕ) (f : Fields) (o : Option ReferenceData) : Type 0 where
   pub row : RowData
   pub at : slice_get listed k ≡ Some row
@@ -23,13 +24,13 @@ pub record IsCode (k : ℕ) (f : Fields) (o : Option ReferenceData) : Type 0 whe
   pub symbols : Symbols row o
   pub zero : (r : ReferenceData) → o ≡ Some r → f.k ≡ 0
 
--- bytes, which are a word of zeros where a symbol goes to them
+-- bytes of data; if they have a symbol, they are a word of zeros
 pub record IsData (bs : List ℕ) (o : Option ReferenceData) : Type 0 where
   pub good : IsGood bs o
   pub kind : (r : ReferenceData) → o ≡ Some r → r.kind ≡ 7
   pub zero : (r : ReferenceData) → o ≡ Some r → bs ≡ 0 ∷ 0 ∷ 0 ∷ 0 ∷ []
 
--- a thing that some line of a source adds
+-- an item that some line of a source adds
 abbrev pub IsItem : ItemData → Type 0
 IsItem (label name) = Unit {0}
 IsItem (section name) = Unit {0}

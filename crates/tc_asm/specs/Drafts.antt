@@ -1,4 +1,4 @@
--- What the lines of a source have put together.
+-- The draft of an object, as the lines of a source build it.
 use Rattle.std.specs.Prelude.{ℕ, ◌+◌, ◌-◌, ◌^◌, ◌==◌, ◌&&◌, not, nat_lt, nat_le, Bool, true, false, if◌then◌else◌, List, [], ◌∷◌, ◌++◌, length, replicate, slice_get, slice_set, Option, Some, None, position, unwrap_or}
 use Rattle.std.specs.Option.{option_map_or}
 use Rattle.std.specs.Str.{bytes_eq}
@@ -14,19 +14,20 @@ use Rattle.tc_asm.specs.declared.symbols.Place.{Place}
 use Rattle.tc_stmt.specs.Items.{ItemData, label, section, global, code, bytes, zeros}
 use Rattle.tc_asm.specs.Symbols.{SymbolData, place_in, seen, labelled, made_global}
 
--- four bytes at an offset that a symbol's value goes to
+-- four bytes at an offset that wait for the value of a symbol
 pub record UseData : Type 0 where
   pub offset : ℕ
   pub reference : ReferenceData
 
--- a section so far: its name, its bytes, and where values of symbols go
+-- a section of a draft: its name, its bytes, and its uses of symbols
 pub record PartData : Type 0 where
   pub name : List ℕ
   pub bytes : List ℕ
   pub uses : List UseData
 
--- The sections so far, and which one goes on (none where it isn't the number of one); the symbols; how many bytes all
--- sections have, and how many relocations.
+-- A draft: the sections so far, the number of the current one, the symbols, and the numbers of
+-- bytes and relocations in all sections. Without a current section, the number is that of no
+-- section.
 pub record DraftData : Type 0 where
   pub section : ℕ
   pub parts : List PartData
@@ -34,7 +35,7 @@ pub record DraftData : Type 0 where
   pub total : ℕ
   pub count : ℕ
 
--- before the first line: no section, no symbol
+-- the draft before the first line: no section, no symbol
 abbrev pub start : DraftData
 start = record { section = 64; parts = []; symbols = []; total = 0; count = 0 }
 
@@ -42,32 +43,33 @@ start = record { section = 64; parts = []; symbols = []; total = 0; count = 0 }
 abbrev pub part : List ℕ → List ℕ → List UseData → PartData
 part name bs uses = record { name = name; bytes = bs; uses = uses }
 
--- how far the current section is
+-- the offset of the next byte in the current section
 unfoldable pub place_of : DraftData → ℕ
 place_of d = option_map_or (λ p. length p.bytes) (slice_get d.parts d.section) 0
 
--- some section goes on
+-- there is a current section
 abbrev pub has_section : DraftData → Bool
 has_section d = nat_lt d.section (length d.parts)
 
--- so many bytes more: at most 16,777,216 in all sections
+-- n more bytes are within the limit of 16,777,216 in all sections
 abbrev pub has_room : DraftData → ℕ → Bool
 has_room d n = nat_le (d.total + n) (2 ^ 24)
 
 -- ---- labels and sections
--- where the next byte will stand
+-- the place of the next byte
 abbrev pub here : DraftData → Place
 here d = record { section = d.section; offset = place_of d }
 
--- a label that stands here, if it is a name; outside of all sections it defines its name too, though its line breaks a rule
+-- A label here, if it is a name. Before the first section its line breaks a rule, but the label
+-- still defines its name.
 unfoldable pub with_label : DraftData → List ℕ → DraftData
 with_label d name = if is_name name then record d { symbols = labelled d.symbols name (here d) } else d
 
--- the number of the section of this name, and of the next section where none has it
+-- the number of the section with this name, and the number of sections if none has it
 abbrev pub number_of_part : List PartData → List ℕ → ℕ
 number_of_part parts name = unwrap_or (position (λ p. bytes_eq name p.name) parts) (length parts)
 
--- the section of this name goes on, or begins; there are at most 64
+-- the section with this name becomes the current one; a new one begins if there are fewer than 64
 unfoldable pub entered : DraftData → List ℕ → DraftData
 entered d name =
     if not (is_name name) then d
@@ -80,27 +82,27 @@ unfoldable pub with_global : DraftData → List ℕ → DraftData
 with_global d name = if is_name name then record d { symbols = made_global d.symbols name } else d
 
 -- ---- bytes
--- bytes at the end of the section of this number
+-- bytes added at the end of the section of this number
 unfoldable pub extended : List PartData → ℕ → List ℕ → List PartData
 extended parts i bs = option_map_or (λ p. slice_set parts i (record p { bytes = p.bytes ++ bs })) (slice_get parts i) parts
 
--- bytes at the end of the current section, where there is room
+-- bytes added at the end of the current section, if they are within the limit
 unfoldable pub with_bytes : DraftData → List ℕ → DraftData
 with_bytes d bs =
     if has_section d && has_room d (length bs) then record d { parts = extended d.parts d.section bs; total = d.total + length bs } else d
 
--- one more use of a symbol in the section of this number
+-- a further use of a symbol in the section of this number
 unfoldable pub used : List PartData → ℕ → UseData → List PartData
 used parts i u = option_map_or (λ p. slice_set parts i (record p { uses = p.uses ++ u ∷ [] })) (slice_get parts i) parts
 
--- a relocation for four bytes that stand here, where there is room: at most 65,535
+-- a relocation for the next four bytes, if there are fewer than 65,535
 unfoldable pub with_use : DraftData → ℕ → ReferenceData → DraftData
 with_use d size r =
     if has_section d && has_room d size && size == 4 && is_reloc r.kind && nat_lt d.count 65535
     then record d { parts = used d.parts d.section (record { offset = place_of d; reference = r }); count = d.count + 1 }
     else d
 
--- the symbol of so many bytes that stand here
+-- the symbol of the next bytes, of which there are this many
 unfoldable pub with_reference : DraftData → ℕ → Option ReferenceData → DraftData
 with_reference d size None = d
 with_reference d size (Some r) = if is_name r.name then with_use (record d { symbols = seen d.symbols r.name }) size r else d
@@ -110,7 +112,8 @@ abbrev pub with_content : DraftData → List ℕ → Option ReferenceData → Dr
 with_content d bs r = with_bytes (with_reference d (length bs) r) bs
 
 -- ---- instructions
--- how far a symbol lies from here, and whether before it; None where it isn't a label of this section
+-- the distance from here to a symbol, and whether the symbol is before here; None if it is no label
+-- of this section
 unfoldable pub distance : List SymbolData → DraftData → ReferenceData → Option (Bool × ℕ)
 distance labels d r =
     option_map_or
@@ -125,11 +128,12 @@ distance labels d r =
 abbrev pub found : Fields → RowFieldsData
 found f = record { fields = f; rule = no_rule; reference = None }
 
--- an instruction with a target that is resolved at once: its fields, and the least rule that the target breaks
+-- the fields of an instruction whose target is resolved at once, and the least rule that the target
+-- breaks
 unfoldable pub jumped : List SymbolData → DraftData → RowData → Fields → ReferenceData → RowFieldsData
 jumped labels d row f r = option_map_or (λ n. with_displacement row n.0 n.1 (found f)) (distance labels d r) (with_rule misplaced_symbol (found f))
 
--- an instruction's fields, where a symbol that takes no relocation is resolved at once
+-- an instruction's fields, with its target resolved if it needs no relocation
 abbrev pub targeted : List SymbolData → DraftData → RowData → Fields → Option ReferenceData → RowFieldsData
 targeted labels d row f None = found f
 targeted labels d row f (Some r) = if r.kind == 0 then jumped labels d row f r else found f
@@ -138,11 +142,11 @@ targeted labels d row f (Some r) = if r.kind == 0 then jumped labels d row f r e
 abbrev pub is_fit : RowData → Fields → Bool
 is_fit row f = is_below_test f (bounds row.form) && rest_is_zero (uses_of row) f && is_apart row f
 
--- the spelling of an instruction of the row, where the fields fit it
+-- the spelling of an instruction of the row, if the fields fit it
 unfoldable pub spelled_code : RowData → Fields → List ℕ
 spelled_code row f = if is_fit row f then spelling row f else []
 
--- what the row with this number makes of the fields and the symbol
+-- the fields of the row with this number, with its target resolved if it needs no relocation
 abbrev pub resolved : List SymbolData → DraftData → ℕ → Fields → Option ReferenceData → RowFieldsData
 resolved labels d k f r = option_map_or (λ row. targeted labels d row f r) (slice_get listed k) (found f)
 
@@ -150,12 +154,12 @@ resolved labels d k f r = option_map_or (λ row. targeted labels d row f r) (sli
 abbrev pub bytes_of : ℕ → Fields → List ℕ
 bytes_of k f = option_map_or (λ row. spelled_code row f) (slice_get listed k) []
 
--- the bytes of an instruction here: its spelling, once its target is resolved
+-- the bytes of an instruction here: its spelling with its target resolved
 unfoldable pub code_bytes : List SymbolData → DraftData → ℕ → Fields → Option ReferenceData → List ℕ
 code_bytes labels d k f r = bytes_of k (resolved labels d k f r).fields
 
--- ---- one thing more, where the whole source has these symbols
--- a draft with one thing more
+-- ---- a further item, given the symbols of the whole source
+-- the draft after a further item
 unfoldable pub stepped : List SymbolData → DraftData → ItemData → DraftData
 stepped labels d (label name) = with_label d name
 stepped labels d (section name) = entered d name

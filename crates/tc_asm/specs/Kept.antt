@@ -1,4 +1,4 @@
--- What the lines of a source that break no rule keep.
+-- What holds of drafts whose lines break no rule.
 use Rattle.std.specs.Prelude.{◌≡◌, ◌≤◌, ◌<◌, ◌+◌, ◌^◌, ℕ, zero, suc, Bool, true, List, [], ◌∷◌, length, map, sum_by, Option, Some, None, IfSome}
 use Rattle.std.specs.List.{list_any}
 use Rattle.std.specs.Str.{bytes_eq}
@@ -9,20 +9,20 @@ use Rattle.tc_asm.specs.Symbols.{SymbolData}
 use Rattle.tc_isa.specs.Relocations.{is_reloc}
 use Rattle.tc_asm.specs.Drafts.{UseData, PartData, DraftData}
 
--- each of these is so
+-- each element has the property
 abbrev pub Each : {A : Type 0} → (A → Type 0) → List A → Type 0
 Each P [] = Unit {0}
 Each P (x ∷ xs) = P x × Each P xs
 
--- one of these names is this
+-- the list holds the name
 abbrev pub is_among : List (List ℕ) → List ℕ → Bool
 is_among names name = list_any (λ n. bytes_eq name n) names
 
--- a name that isn't among those before
+-- a name that isn't in the list
 abbrev pub IsNew : List (List ℕ) → List ℕ → Type 0
 IsNew before name = IsName (is_among before) name
 
--- names, each of them once
+-- a list without a name that occurs twice
 abbrev pub AreNames : List (List ℕ) → Type 0
 AreNames names = InTurn IsNew [] names
 
@@ -40,12 +40,12 @@ size_at [] n = 0
 size_at (p ∷ ps) zero = length p.bytes
 size_at (p ∷ ps) (suc n) = size_at ps n
 
--- a label stands in a section that there is, within it or at its end
+-- a label is in a section of the draft, within it or at its end
 pub record IsPlace (parts : List PartData) (p : Place) : Type 0 where
   pub section : p.section < length parts
   pub offset : p.offset ≤ size_at parts p.section
 
--- a symbol has no label, or one that stands in a section
+-- a symbol has no label, or one in a section of the draft
 abbrev pub IsPlaced : List PartData → Option Place → Type 0
 IsPlaced parts None = Unit {0}
 IsPlaced parts (Some p) = IsPlace parts p
@@ -54,7 +54,7 @@ IsPlaced parts (Some p) = IsPlace parts p
 abbrev pub IsSmall : Option Place → Type 0
 IsSmall o = IfSome o (λ p. (p.section < 2 ^ 16) × (p.offset < 2 ^ 32))
 
--- each use begins behind the four bytes of the one before, and its own four bytes end by `size`
+-- each use begins after the four bytes of the last one, and its own four bytes end by `size`
 abbrev pub Spaced : ℕ → List UseData → ℕ → Type 0
 Spaced low [] size = low ≤ size
 Spaced low (u ∷ us) size = (low ≤ u.offset) × Spaced (u.offset + 4) us size
@@ -64,17 +64,18 @@ pub record IsUse (names : List (List ℕ)) (u : UseData) : Type 0 where
   pub kind : is_reloc u.reference.kind ≡ true
   pub known : is_among names u.reference.name ≡ true
 
--- a section that is no longer than all together, with uses of known symbols that lie apart in its bytes
+-- a section no longer than the total, with uses of known symbols that don't overlap
 pub record IsPart (names : List (List ℕ)) (total : ℕ) (p : PartData) : Type 0 where
   pub small : length p.bytes ≤ total
   pub spaced : Spaced 0 p.uses (length p.bytes)
   pub uses : Each (IsUse names) p.uses
 
--- how many uses of symbols the sections have
+-- the number of uses of symbols in the sections
 abbrev pub count_of : List PartData → ℕ
 count_of parts = sum_by (λ (p : PartData). length p.uses) parts
 
--- what lines without a broken rule put together: names that differ, true counts, all within the limits of an object
+-- the draft of lines that break no rule: distinct names, right counts, all within the limits of an
+-- object
 pub record IsDraft (d : DraftData) : Type 0 where
   pub few_parts : length d.parts ≤ 64
   pub few_symbols : length d.symbols < 2 ^ 16

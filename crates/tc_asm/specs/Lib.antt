@@ -1,4 +1,4 @@
--- Sources: what a line is by itself, what lines put together, the rules that they break, and the object.
+-- Sources: the meaning of a line, the draft of all lines, their rules, and the object.
 pub mod Symbols
 pub mod Drafts
 pub mod Views

@@ -1,4 +1,4 @@
--- The object of what a source puts together.
+-- The object of a draft.
 use Rattle.std.specs.Prelude.{ℕ, Bool, ◌+◌, ◌-◌, ◌%◌, ◌^◌, if◌then◌else◌, List, [], ◌∷◌, ◌++◌, map, Option, Some, None, position, unwrap_or}
 use Rattle.std.specs.Str.{bytes_eq}
 use Rattle.tc_object.specs.Objects.{undefined_symbol, SectionData, ObjectData}
@@ -9,16 +9,16 @@ use Rattle.tc_asm.specs.declared.symbols.Place.{Place}
 use Rattle.tc_asm.specs.Symbols.{SymbolData}
 use Rattle.tc_asm.specs.Drafts.{UseData, PartData, DraftData}
 
--- a section of the source as one of the object
+-- a section of the draft as one of the object
 abbrev pub section_of : PartData → SectionData
 section_of p = record { name = p.name; bytes = p.bytes }
 
--- kind 0 where no label stands, 1 for a label, 2 for a global one
+-- the symbol is undefined (0) without a label, else local (1) or global (2)
 abbrev pub symbol_at : List ℕ → Bool → Option Place → object.SymbolData
 symbol_at name is_global None = record { name = name; kind = undefined_symbol; section = 0; offset = 0 }
 symbol_at name is_global (Some p) = record { name = name; kind = if is_global then 2 else 1; section = p.section; offset = p.offset }
 
--- a symbol of the source as one of the object
+-- a symbol of the draft as one of the object
 abbrev pub symbol_of : SymbolData → object.SymbolData
 symbol_of s = symbol_at s.name s.entry.is_global s.entry.place
 
@@ -34,11 +34,12 @@ addend_of r = if r.minus then (2 ^ 32 - r.size % 2 ^ 32) % 2 ^ 32 else r.size % 
 abbrev pub reloc_of : List SymbolData → ℕ → UseData → Reloc
 reloc_of ss section u = record { section = section; offset = u.offset; kind = u.reference.kind; symbol = number_of ss u.reference.name; addend = addend_of u.reference }
 
--- the relocations of these sections, the first of which has this number
+-- the relocations of these sections, numbered from this number on
 abbrev pub relocs_from : List SymbolData → ℕ → List PartData → List Reloc
 relocs_from ss section [] = []
 relocs_from ss section (p ∷ ps) = map (reloc_of ss section) p.uses ++ relocs_from ss (section + 1) ps
 
--- the object: sections and symbols in the order of the source, relocations in that of their places
+-- the object: sections and symbols in the order of the source, relocations in the order of their
+-- places
 abbrev pub object_of : DraftData → ObjectData
 object_of d = record { sections = map section_of d.parts; symbols = map symbol_of d.symbols; relocs = relocs_from d.symbols 0 d.parts }

@@ -1,4 +1,4 @@
--- The relocations of a source's object, and the fields that they are to fill.
+-- The relocations of a source's object, and the fields that they fill.
 use Rattle.std.specs.Prelude.{◌≡◌, ◌+◌, ◌==◌, ◌++◌, ℕ, true, if◌then◌else◌, List, [], ◌∷◌, length, slice_get, Option, Some, None}
 use Rattle.tc_isa.specs.Relocations.{is_reloc}
 use Rattle.tc_reloc.specs.Applied.{with_field}
@@ -11,7 +11,8 @@ use Rattle.tc_asm.specs.Objects.{number_of, addend_of, object_of}
 use Rattle.tc_asm.specs.Statements.{StatementData}
 use Rattle.tc_asm.specs.Contents.{draft_in, symbols_in, statements_in, names_in, sections_in, is_open}
 
--- the relocation of a statement of this section at this offset; none where its symbol waits for no address
+-- the relocation of a statement in this section at this offset; none if it doesn't wait for an
+-- address
 abbrev pub reloc_at : List SymbolData → ℕ → ℕ → Option ReferenceData → List Reloc
 reloc_at symbols section offset None = []
 reloc_at symbols section offset (Some r) =
@@ -19,7 +20,7 @@ reloc_at symbols section offset (Some r) =
     then record { section = section; offset = offset; kind = r.kind; symbol = number_of symbols r.name; addend = addend_of r } ∷ []
     else []
 
--- one for each statement of this section that waits, in their order, behind so many bytes of the section
+-- the relocations of this section's statements, in order; the first of them is at this offset
 abbrev pub relocs_behind : List SymbolData → ℕ → ℕ → List StatementData → List Reloc
 relocs_behind symbols section offset [] = []
 relocs_behind symbols section offset (t ∷ ts) =
@@ -27,22 +28,22 @@ relocs_behind symbols section offset (t ∷ ts) =
     then reloc_at symbols section offset t.reference ++ relocs_behind symbols section (offset + length t.bytes) ts
     else relocs_behind symbols section offset ts
 
--- those of sections with these names, the first of which has this number, one section after another
+-- the relocations of sections with these names, numbered from this number on
 abbrev pub relocs_of : List SymbolData → List StatementData → ℕ → List (List ℕ) → List Reloc
 relocs_of symbols ts section [] = []
 relocs_of symbols ts section (name ∷ names) = relocs_behind symbols section 0 ts ++ relocs_of symbols ts (section + 1) names
 
 -- ---- laws
--- the sections of an object are the source's
+-- the sections of an object are those of the source
 abbrev pub ObjectSectionsLaw : Type 0
 ObjectSectionsLaw = (source : List ℕ) → (object_of (draft_in source)).sections ≡ sections_in source
 
--- its relocations are those of the statements that wait for addresses
+-- the relocations of an object are those of the statements that wait for addresses
 abbrev pub RelocationsLaw : Type 0
 RelocationsLaw = (source : List ℕ) → KeepsRules (lines_in source) (length (lines_in source))
     → (object_of (draft_in source)).relocs ≡ relocs_of (symbols_in source) (statements_in source) 0 (names_in source)
 
--- and the fields that they are to fill are zero: zero written there changes nothing
+-- the fields that relocations fill are zero: writing zero there changes nothing
 abbrev pub UnfilledLaw : Type 0
 UnfilledLaw = (source : List ℕ) (index : ℕ) (t : StatementData) (r : ReferenceData) → slice_get (statements_in source) index ≡ Some t → t.reference ≡ Some r → is_reloc r.kind ≡ true
     → with_field r.kind t.bytes 0 ≡ t.bytes

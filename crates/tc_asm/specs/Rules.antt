@@ -1,4 +1,4 @@
--- The rules that the lines before and the whole source decide; 15 is none.
+-- The rules that depend on the earlier lines or on the whole source; 15 is none.
 use Rattle.std.specs.Prelude.{ℕ, ◌&&◌, ◌||◌, not, nat_lt, min, if◌then◌else◌, List, length, Option, Some, None, is_some}
 use Rattle.tc_stmt.specs.SourceRules.{label_twice, no_rule, no_section, bad_name, past_limits, undefined_global}
 use Rattle.tc_stmt.specs.Names.{is_name}
@@ -20,7 +20,7 @@ section_rule d = if has_section d then no_rule else no_section
 abbrev pub name_rule : List ℕ → ℕ
 name_rule name = if is_name name then no_rule else bad_name
 
--- 13: a 65th section; a 65,536th symbol or relocation; more than 16,777,216 bytes
+-- 13: a 65th section
 abbrev pub section_room : DraftData → List ℕ → ℕ
 section_room d name = if nat_lt (number_of_part d.parts name) (length d.parts) || nat_lt (length d.parts) 64 then no_rule else past_limits
 
@@ -45,12 +45,12 @@ abbrev pub reference_rule : DraftData → Option ReferenceData → ℕ
 reference_rule d None = no_rule
 reference_rule d (Some r) = min (symbol_room d r.name) (reloc_room d r)
 
--- the least rule that so many bytes break here, with the symbol that goes to them
+-- the least rule that this many bytes break here, with their symbol
 abbrev pub content_rule : DraftData → ℕ → Option ReferenceData → ℕ
 content_rule d size r = min (section_rule d) (min (bytes_room d size) (reference_rule d r))
 
--- the least rule that a thing breaks behind this draft, where the whole source has these symbols; 6, 10 and 11 are of
--- targets that are resolved at once
+-- The least rule that an item breaks after this draft, given the symbols of the whole source. Rules
+-- 6, 10 and 11 are those of targets that are resolved at once.
 unfoldable pub item_rule : List SymbolData → DraftData → ItemData → ℕ
 item_rule labels d (label name) = min (min (label_rule d name) (section_rule d)) (min (name_rule name) (symbol_room d name))
 item_rule labels d (section name) = min (name_rule name) (section_room d name)

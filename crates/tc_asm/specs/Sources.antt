@@ -1,4 +1,4 @@
--- What a source is.
+-- The draft of a source, and the rules that its lines break.
 use Rattle.std.specs.Prelude.{◌≡◌, ◌≢◌, ℕ, ◌+◌, ◌<◌, min, List, [], ◌∷◌, length, take, slice_index_or, fold}
 use Rattle.tc_stmt.specs.SourceRules.{no_rule}
 use Rattle.tc_stmt.specs.Items.{ItemData}
@@ -7,24 +7,24 @@ use Rattle.tc_asm.specs.Symbols.{SymbolData}
 use Rattle.tc_asm.specs.Drafts.{DraftData, start, stepped}
 use Rattle.tc_asm.specs.Rules.{item_rule}
 
--- the least rule that these break, one behind the other
+-- the least rule that these items break, each after the one before it
 abbrev pub items_rule : List SymbolData → DraftData → List ItemData → ℕ
 items_rule labels d [] = no_rule
 items_rule labels d (i ∷ is) = min (item_rule labels d i) (items_rule labels (stepped labels d i) is)
 
--- one line more
+-- the draft after a further line
 unfoldable pub with_line : List SymbolData → DraftData → LineData → DraftData
 with_line labels d l = fold (stepped labels) d l.items
 
--- the least rule that a line breaks behind these
+-- the least rule that a line breaks after this draft
 unfoldable pub line_rule : List SymbolData → DraftData → LineData → ℕ
 line_rule labels d l = min l.rule (items_rule labels d l.items)
 
--- what lines put together, where the whole source has these symbols
+-- the draft of these lines, given the symbols of the whole source
 abbrev pub drafted : List SymbolData → List LineData → DraftData
 drafted labels lines = fold (with_line labels) start lines
 
--- the symbols of a source don't depend on where its jumps go
+-- the symbols of a source, which don't depend on the targets of its jumps
 abbrev pub symbols_of : List LineData → List SymbolData
 symbols_of lines = (drafted [] lines).symbols
 

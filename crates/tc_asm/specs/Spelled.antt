@@ -1,4 +1,4 @@
--- The instructions of a source: they spell their rows, and jumps of 16 bits reach their labels.
+-- Laws of instructions: they spell their rows, and jumps of 16 bits reach their labels.
 use Rattle.std.specs.Prelude.{◌≡◌, ◌+◌, ◌%◌, ◌^◌, ◌==◌, ◌++◌, ℕ, Bool, false, if◌then◌else◌, List, ◌∷◌, length, slice_get, Option, Some, None}
 use Rattle.tc_isa.specs.declared.fields.Fields.{Fields}
 use Rattle.tc_isa.specs.Rows.{RowData, listed}
@@ -29,8 +29,8 @@ abbrev pub is_resolved : Option ReferenceData → Bool
 is_resolved None = false
 is_resolved (Some r) = r.kind == 0
 
--- An instruction behind these things of a source: it spells its row, with the fields that its operands gave unless a target is
--- resolved, and is the statement behind those that these things add.
+-- An instruction after these items of a source: it spells its row, with the fields of its operands
+-- unless its target is resolved at once. It is the statement after those of these items.
 pub record IsInstruction (source : List ℕ) (before : List ItemData) (place : ℕ) (f : Fields) (o : Option ReferenceData) : Type 0 where
   pub bytes : List ℕ
   pub spells : Spells place bytes
@@ -38,18 +38,20 @@ pub record IsInstruction (source : List ℕ) (before : List ItemData) (place : �
   pub section : ℕ
   pub stands : slice_get (statements_in source) (length (statements_from (symbols_of (lines_in source)) start before)) ≡ Some (statement section bytes o)
 
--- wherever an instruction stands among all that the lines of a source add, which break no rule
+-- each instruction among the items of a source that breaks no rule spells its row
 abbrev pub InstructionsLaw : Type 0
 InstructionsLaw = (source : List ℕ) (before after : List ItemData) (place : ℕ) (f : Fields) (o : Option ReferenceData) → KeepsRules (lines_in source) (length (lines_in source))
     → items_in (lines_in source) ≡ before ++ code place f o ∷ after → IsInstruction source before place f o
 
 -- ---- jumps of 16 bits
--- how far a jump or call of 16 bits goes, modulo 2^32: SBR (form 13) only forwards, SB both ways
+-- the distance of a jump or call of 16 bits, modulo 2^32: SBR (form 13) only goes forwards, SB both
+-- ways
 abbrev pub displacement : RowData → Fields → ℕ
 displacement row f = if is_sbr row.form then ahead_only f else doubled_displacement 8 f
 
--- A statement with a symbol that takes no relocation spells a row, and its displacement goes from it to the symbol's label, in
--- the same section, with the number added, wherever the section begins.
+-- A statement with a symbol that takes no relocation spells a row. Wherever the section begins, its
+-- displacement reaches the symbol's label plus the number that is added. The label is in the same
+-- section.
 pub record ReachesLabel (source : List ℕ) (index : ℕ) (t : StatementData) (r : ReferenceData) : Type 0 where
   pub place : ℕ
   pub spells : Spells place t.bytes
@@ -58,7 +60,7 @@ pub record ReachesLabel (source : List ℕ) (index : ℕ) (t : StatementData) (r
   pub here : label.section ≡ t.section
   pub reaches : (base : ℕ) → (base + offset_of (statements_in source) index t.section + displacement spells.row spells.fields) % 2 ^ 32 ≡ ((base + label.offset) % 2 ^ 32 + addend_of r) % 2 ^ 32
 
--- so of each in a source that breaks no rule
+-- each such statement of a source that breaks no rule reaches its label
 abbrev pub ShortJumpsLaw : Type 0
 ShortJumpsLaw = (source : List ℕ) (index : ℕ) (t : StatementData) (r : ReferenceData) → KeepsRules (lines_in source) (length (lines_in source)) → slice_get (statements_in source) index ≡ Some t → t.reference ≡ Some r → r.kind ≡ 0
     → ReachesLabel source index t r

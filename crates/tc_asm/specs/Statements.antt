@@ -1,4 +1,4 @@
--- Each statement that has bytes, and where it stands.
+-- The statements of a source that have bytes, and their offsets.
 use Rattle.std.specs.Prelude.{◌≡◌, ℕ, ◌==◌, ◌&&◌, if◌then◌else◌, zero, suc, List, [], ◌∷◌, ◌++◌, length, take, drop, replicate, slice_get, Option, Some, None}
 use Rattle.std.specs.List.{flat_map}
 use Rattle.tc_stmt.specs.RowFields.{ReferenceData}
@@ -8,7 +8,7 @@ use Rattle.tc_asm.specs.Symbols.{SymbolData}
 use Rattle.tc_asm.specs.Drafts.{PartData, DraftData, start, has_section, has_room, code_bytes, stepped}
 use Rattle.tc_asm.specs.Sources.{drafted}
 
--- a statement: its section, its bytes with the field of a symbol zero, and the symbol
+-- a statement: its section, its bytes, in which the field of a symbol is zero, and its symbol
 pub record StatementData : Type 0 where
   pub section : ℕ
   pub bytes : List ℕ
@@ -27,25 +27,25 @@ content_of labels d (code k f r) = Some (statement d.section (code_bytes labels 
 content_of labels d (bytes bs r) = Some (statement d.section bs r)
 content_of labels d (zeros n) = Some (statement d.section (replicate n 0) None)
 
--- where there is a section, and room in it
+-- the statement, if there is a current section and the bytes are within the limit
 abbrev pub standing : DraftData → Option StatementData → List StatementData
 standing d None = []
 standing d (Some t) = if has_section d && has_room d (length t.bytes) then t ∷ [] else []
 
--- the statements that these things are behind a draft, in order
+-- the statements of these items after a draft, in order
 abbrev pub statements_from : List SymbolData → DraftData → List ItemData → List StatementData
 statements_from labels d [] = []
 statements_from labels d (i ∷ is) = standing d (content_of labels d i) ++ statements_from labels (stepped labels d i) is
 
--- the statements of a source, in order, where it has these symbols
+-- the statements of a source with these symbols, in order
 abbrev pub statements : List SymbolData → List LineData → List StatementData
 statements labels lines = statements_from labels start (items_in lines)
 
--- the bytes of a section: those of its statements, one behind the other
+-- the bytes of a section: those of its statements in order
 abbrev pub section_bytes : ℕ → List StatementData → List ℕ
 section_bytes s ts = flat_map (λ (t : StatementData). if t.section == s then t.bytes else []) ts
 
--- the offset of a statement: the sizes of the earlier statements of its section, together
+-- the offset of a statement: the total size of the earlier statements of its section
 abbrev pub offset_of : List StatementData → ℕ → ℕ → ℕ
 offset_of ts place s = length (section_bytes s (take place ts))
 
@@ -55,11 +55,11 @@ bytes_at [] s = []
 bytes_at (p ∷ ps) zero = p.bytes
 bytes_at (p ∷ ps) (suc s) = bytes_at ps s
 
--- a section is the bytes of its statements, one behind the other, whatever the lines are
+-- for all lines, a section is the bytes of its statements in order
 abbrev pub SectionLaw : Type 0
 SectionLaw = (labels : List SymbolData) (lines : List LineData) (s : ℕ) → bytes_at (drafted labels lines).parts s ≡ section_bytes s (statements labels lines)
 
--- the bytes of a statement stand in its section at its offset
+-- the bytes of a statement are in its section at its offset
 abbrev pub OffsetLaw : Type 0
 OffsetLaw = (ts : List StatementData) (place : ℕ) (t : StatementData) → slice_get ts place ≡ Some t
     → take (length t.bytes) (drop (offset_of ts place t.section) (section_bytes t.section ts)) ≡ t.bytes

@@ -1,14 +1,14 @@
--- What the types of the code are, without where their bytes lie.
+-- The code's types as plain data.
 use Rattle.std.specs.Prelude.{map}
 use Rattle.tc_stmt.specs.RowFields.{reference_of}
 use Rattle.tc_asm.specs.declared.sections.Use.{Use}
 use Rattle.tc_asm.specs.declared.sections.Part.{Part}
 use Rattle.tc_asm.specs.Drafts.{UseData, PartData}
 
--- a use of a symbol
+-- the plain data of a use of a symbol
 abbrev pub use_of : Use → UseData
 use_of u = record { offset = u.offset; reference = reference_of u.reference }
 
--- a section so far
+-- the plain data of a section
 abbrev pub part_of : Part → PartData
 part_of p = record { name = p.name.now; bytes = p.bytes.items; uses = map use_of p.uses.items }

@@ -1,4 +1,4 @@
-// A source, put together.
+// Assembles a source in two passes: first for its symbols, then for its bytes.
 ghost use Rattle.std.specs.Prelude.{◌≡◌, ◌≤◌, ◌<◌, ◌^◌, All, map, length, IfOk, OnOk, IfErr, fold, take, drop, []};
 ghost use Rattle.tc_stmt.specs.Items.{item_of};
 ghost use Rattle.tc_stmt.specs.Lines.{line_data, lines_in};
@@ -18,7 +18,7 @@ use std::alloc::{AllocError, Global};
 use tc_object::Object;
 use tc_stmt::{Item, Line, NO_RULE, Source, read_source};
 
-// Puts things one behind the other, as far as symbols depend on them.
+// Adds items as far as symbols depend on them: section names, labels and sizes.
 fn count_items<'a>(
     alloc: Global,
     draft: &mut Draft<'a>,
@@ -35,7 +35,7 @@ fn count_items<'a>(
     Ok(())
 }
 
-// The symbols of all that lines add, which don't depend on where jumps go.
+// The symbols of all items, which don't depend on the targets of jumps.
 fn symbols_of<'a>(alloc: Global, items: &[Item<'a>]) -> Result<Symbols<'a>, AllocError>
     requires { All (λ i. IsItem (item_of i)) items.now }
     ensures { IfOk result (λ s. s ≡ (fold (stepped []) start (map item_of items.now)).symbols) }
@@ -45,7 +45,7 @@ fn symbols_of<'a>(alloc: Global, items: &[Item<'a>]) -> Result<Symbols<'a>, Allo
     Ok(draft.symbols)
 }
 
-// Puts things one behind the other, and tells the least rule that they break.
+// Adds items, and returns the least rule that they break.
 fn add_items<'a>(
     alloc: Global,
     draft: &mut Draft<'a>,
@@ -64,21 +64,21 @@ fn add_items<'a>(
     Ok(rule)
 }
 
-// The first so many things.
+// The first `count` items.
 fn first_items<'p, 'a>(items: &'p [Item<'a>], count: u8) -> &'p [Item<'a>]
     ensures { result.now ≡ take count items.now }
 {
     &items[..usize::from(count).min(items.len())]
 }
 
-// The things behind the first so many.
+// The items after the first `count`.
 fn later_items<'p, 'a>(items: &'p [Item<'a>], count: u8) -> &'p [Item<'a>]
     ensures { result.now ≡ drop count items.now }
 {
     &items[usize::from(count).min(items.len())..]
 }
 
-// Puts a line more, whose things come first, and tells the least rule that it breaks.
+// Adds a line, whose items are first in `items`, and returns the least rule that it breaks.
 #[tactic(auto, unfolding(crate::specs::Sources::with_line, crate::specs::Sources::line_rule))]
 fn add_line<'a>(
     alloc: Global,
@@ -99,8 +99,8 @@ fn add_line<'a>(
     Ok(line.rule.min(rule))
 }
 
-// All lines, up to one that breaks a rule.
-fn checked<'a>(
+// The draft of all lines, or the first line that breaks a rule with the least rule there.
+fn draft_of_lines<'a>(
     alloc: Global,
     labels: &Symbols<'a>,
     source: &Source<'a>,
@@ -129,7 +129,8 @@ fn checked<'a>(
     Ok(draft)
 }
 
-/// The object of a source, or the least line that breaks a rule, counted from 1, and the least rule there.
+/// The object of a source, or the least line that breaks a rule, counted from 1, and the least rule
+/// there.
 pub fn assemble(alloc: Global, source: &[u8]) -> Result<Object, AsmErr>
     requires { length source.now ≤ 2 ^ 30 }
     ensures ok { IfOk result
@@ -139,6 +140,6 @@ pub fn assemble(alloc: Global, source: &[u8]) -> Result<Object, AsmErr>
 {
     let read = read_source(alloc, source)?;
     let labels = symbols_of(alloc, &read.items)?;
-    let draft = checked(alloc, &labels, &read)?;
+    let draft = draft_of_lines(alloc, &labels, &read)?;
     Ok(finish(alloc, draft)?)
 }

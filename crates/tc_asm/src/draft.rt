@@ -1,4 +1,4 @@
-// What the lines so far have put together.
+// The draft of an object: the sections and symbols of the lines so far.
 use crate::encode::{code_size, first_bytes};
 use crate::rules::is_reloc;
 use crate::sections::{Part, extend_part, number_of_part, use_part};
@@ -8,13 +8,19 @@ use std::marker::Model;
 use tc_isa::Fields;
 use tc_stmt::{Item, Reference, is_name};
 
-/// The sections so far, which one goes on, the symbols, and how many bytes and relocations there are.
+/// The number of the current section, all sections and symbols so far, and the numbers of bytes and
+/// relocations in all sections.
 #[derive(Drop)]
 pub struct Draft<'a> {
+    /// The number of the current section, or `NO_NUMBER`.
     pub section: usize,
+    /// The sections so far, in the order of their first `.section`.
     pub parts: Vec<Part<'a>>,
+    /// The symbols so far, in the order of first use.
     pub symbols: Symbols<'a>,
+    /// The number of bytes in all sections.
     pub total: usize,
+    /// The number of relocations in all sections.
     pub count: usize,
 }
 
@@ -28,13 +34,16 @@ impl<'a> Model for Draft<'a> {
     ghost view = { λ d. record { section = d.section; parts = map part_of d.parts.items; symbols = d.symbols; total = d.total; count = d.count } };
 }
 
-// The most bytes that all sections have.
+// The most bytes of all sections together.
 const MOST_BYTES: usize = 0x100_0000;
 
-/// The most sections that a source has.
+/// The most relocations of a source.
+pub(crate) const MOST_RELOCS: usize = 65535;
+
+/// The most sections of a source.
 pub(crate) const MOST_SECTIONS: usize = 64;
 
-// The number of the section that goes on where none does: past the number of each.
+// The number of the current section before the first `.section`: above the number of each section.
 const NO_NUMBER: usize = 64;
 
 impl<'a> Draft<'a> {
@@ -45,6 +54,7 @@ impl<'a> Draft<'a> {
     ghost use Rattle.tc_asm.specs.Alike.{Alike};
     ghost use Rattle.tc_asm.specs.Drafts.{DraftData, start, place_of, has_section, has_room, with_label, entered, with_global, with_bytes, with_use, with_reference, with_content, stepped};
 
+    /// An empty draft.
     pub fn new(alloc: Global) -> Draft<'a>
         ensures { result ≡ start }
     {
@@ -57,6 +67,7 @@ impl<'a> Draft<'a> {
         }
     }
 
+    /// The offset of the next byte in the current section, and 0 if there is no current section.
     #[tactic(auto, unfolding(crate::specs::Drafts::place_of))]
     pub fn place(&self) -> usize
         ensures { result ≡ place_of self.now }
@@ -68,12 +79,14 @@ impl<'a> Draft<'a> {
         }
     }
 
+    /// Whether there is a current section.
     pub fn has_section(&self) -> bool
         ensures { result ≡ has_section self.now }
     {
         self.section < self.parts.len()
     }
 
+    /// Whether `n` more bytes are within the limit of all sections.
     pub fn has_room(&self, n: usize) -> bool
         ensures { result ≡ has_room self.now n }
     {
@@ -147,7 +160,7 @@ impl<'a> Draft<'a> {
             && self.has_room(size)
             && size == 4
             && is_reloc(r.kind)
-            && self.count < 65535
+            && self.count < MOST_RELOCS
         {
             let offset = self.place();
             use_part(&mut self.parts, self.section, offset, r)?;
@@ -197,7 +210,7 @@ impl<'a> Draft<'a> {
         Ok(())
     }
 
-    /// Puts one thing more, where the whole source has these symbols.
+    /// Adds an item. `labels` are the symbols of the whole source.
     #[tactic(auto, unfolding(crate::specs::Drafts::stepped))]
     pub fn step(
         &mut self,
@@ -220,7 +233,8 @@ impl<'a> Draft<'a> {
         }
     }
 
-    // Puts zeros for the bytes of an instruction, of which only the number is needed, and notes its symbol.
+    // Adds as many zeros as an instruction has bytes, and notes its symbol. The first pass needs no
+    // more.
     fn count_code(
         &mut self,
         row: u8,
@@ -236,7 +250,7 @@ impl<'a> Draft<'a> {
         Ok(())
     }
 
-    // Puts one thing more that is no instruction, where no symbols are known.
+    // Adds an item other than an instruction, with an empty table of labels.
     fn count_other(
         &mut self,
         alloc: Global,
@@ -252,7 +266,7 @@ impl<'a> Draft<'a> {
         Ok(())
     }
 
-    /// Puts one thing more that a line of a source adds, as far as symbols depend on it.
+    /// Adds an item as far as symbols depend on it. `none` is an empty table of labels.
     pub fn count(
         &mut self,
         alloc: Global,

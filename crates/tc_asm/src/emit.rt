@@ -1,4 +1,4 @@
-// The object of what a source put together.
+// Turns a draft into an object.
 ghost use Rattle.std.specs.Prelude.{◌≡◌, ◌<◌, ◌≤◌, ◌++◌, ◌+◌, ◌^◌, map, length, All, IfOk, OnOk, is_some, true, string_bytes};
 ghost use Rattle.tc_object.specs.Names.{name_of as name_in};
 ghost use Rattle.tc_stmt.specs.RowFields.{reference_of};
@@ -11,10 +11,12 @@ use crate::draft::Draft;
 use crate::sections::{Part, Use};
 use crate::symbols::{Entry, Symbols};
 use std::alloc::{AllocError, Global};
-use tc_object::{Object, Reloc, Section, Symbol, name_of};
+use tc_object::{
+    GLOBAL_SYMBOL, LOCAL_SYMBOL, Object, Reloc, Section, Symbol, UNDEFINED_SYMBOL, name_of,
+};
 use tc_stmt::Reference;
 
-// A name as text.
+// A name as an owned text.
 fn text(alloc: Global, name: &[u8]) -> Result<String, AllocError>
     requires { is_some (name_in name.now) ≡ true }
     ensures { IfOk result (λ s. string_bytes s ≡ name.now) }
@@ -52,13 +54,17 @@ fn symbol(alloc: Global, name: &[u8], entry: Entry) -> Result<Symbol, AllocError
     match entry.place {
         None => Ok(Symbol {
             name,
-            kind: 0,
+            kind: UNDEFINED_SYMBOL,
             section: 0,
             offset: 0,
         }),
         Some(place) => Ok(Symbol {
             name,
-            kind: if entry.is_global { 2 } else { 1 },
+            kind: if entry.is_global {
+                GLOBAL_SYMBOL
+            } else {
+                LOCAL_SYMBOL
+            },
             section: place.section as u16,
             offset: place.offset as u32,
         }),
@@ -79,7 +85,7 @@ fn symbols(alloc: Global, known: &Symbols) -> Result<Vec<Symbol>, AllocError>
     Ok(out)
 }
 
-// The number added to a symbol, modulo 2^32.
+// The number that is added to a symbol, modulo 2^32.
 fn addend(r: Reference<'_>) -> u32
     ensures { result ≡ addend_of (reference_of r.entry) }
 {
@@ -105,7 +111,7 @@ fn reloc(known: &Symbols, section: usize, u: Use<'_>) -> Reloc
     }
 }
 
-// Puts the relocations of a section behind the others.
+// Adds the relocations of a section to the list.
 fn add_relocs(
     out: &mut Vec<Reloc>,
     known: &Symbols,

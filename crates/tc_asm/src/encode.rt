@@ -1,4 +1,4 @@
-// The bytes of an instruction, once a target that takes no relocation is resolved.
+// The bytes of an instruction, with a target in the same section resolved at once.
 ghost use Rattle.std.specs.Prelude.{◌≡◌, take, if◌then◌else◌};
 ghost use Rattle.tc_isa.specs.Codec.{is_long};
 ghost use Rattle.tc_isa.specs.Rows.{row_of};
@@ -10,9 +10,10 @@ use crate::draft::Draft;
 use crate::symbols::Symbols;
 use tc_encode::{Code, encode};
 use tc_isa::{Fields, Row, inst, rows};
-use tc_stmt::{NO_RULE, Reference, RowFields, with_displacement};
+use tc_stmt::{MISPLACED_SYMBOL, NO_RELOC, NO_RULE, Reference, RowFields, with_displacement};
 
-/// The bytes of the row with this number and these fields; none where they are no listed instruction.
+/// The bytes of the row with this number and these fields, and no bytes if they are no listed
+/// instruction.
 pub(crate) fn code_of(row: u8, f: &Fields) -> Code
     ensures { take result.len result.bytes ≡ bytes_of row f.now }
 {
@@ -25,7 +26,7 @@ pub(crate) fn code_of(row: u8, f: &Fields) -> Code
     }
 }
 
-/// The first so many of four bytes.
+/// The first `len` of four bytes.
 pub(crate) fn first_bytes(bytes: &[u8; 4], len: u8) -> &[u8]
     ensures { result.now ≡ take len bytes.now }
 {
@@ -39,7 +40,7 @@ fn row_size(row: &Row) -> u8
     if row.op1 % 2 == 1 { 4 } else { 2 }
 }
 
-/// How many bytes an instruction of the row with this number has; none where no row has it.
+/// The size in bytes of instructions of the row with this number, and 0 if there is no such row.
 pub(crate) fn code_size(row: u8) -> u8
     ensures { result ≡ size_of_code row }
 {
@@ -52,9 +53,9 @@ pub(crate) fn code_size(row: u8) -> u8
     }
 }
 
-// Fields, with no symbol and no rule broken.
+// Fields without a symbol or a broken rule.
 #[inline(always)]
-fn found<'a>(fields: Fields) -> RowFields<'a>
+fn unbroken_fields<'a>(fields: Fields) -> RowFields<'a>
     ensures { row_fields_of result ≡ found_in fields }
 {
     RowFields {
@@ -70,7 +71,8 @@ impl<'a> Draft<'a> {
     ghost use Rattle.tc_stmt.specs.RowFields.{reference_of};
     ghost use Rattle.tc_asm.specs.Drafts.{distance, jumped, targeted, resolved, code_bytes};
 
-    // How far a symbol lies from here, and whether before it; None where it isn't a label of this section.
+    // The distance in bytes from the current place to a symbol, and whether the symbol is before
+    // it. None if the symbol is no label of the current section.
     #[tactic(auto, unfolding(crate::specs::Drafts::distance))]
     fn distance(&self, labels: &Symbols<'a>, r: Reference<'a>) -> Option<(bool, u128)>
         ensures { result ≡ distance labels.now self.now (reference_of r.entry) }
@@ -96,7 +98,7 @@ impl<'a> Draft<'a> {
 
     #[inline(never)]
     #[tactic(auto, unfolding(crate::specs::Drafts::jumped))]
-    fn jumped(
+    fn resolve_jump(
         &self,
         labels: &Symbols<'a>,
         row: &Row,
@@ -109,16 +111,17 @@ impl<'a> Draft<'a> {
         match self.distance(labels, r) {
             None => RowFields {
                 fields: *fields,
-                rule: 10,
+                rule: MISPLACED_SYMBOL,
                 reference: None,
             },
-            Some((minus, size)) => with_displacement(row, minus, size, found(*fields)),
+            Some((minus, size)) => with_displacement(row, minus, size, unbroken_fields(*fields)),
         }
     }
 
-    // What a target makes of the fields; `item_rule` asks for it of any symbol, so what is resolved at once is told here too.
+    // The fields once the target is resolved, if it needs no relocation. `item_rule` calls this for
+    // each symbol, so symbols that need a relocation are handled here too.
     #[inline(always)]
-    fn targeted(
+    fn resolve_target(
         &self,
         labels: &Symbols<'a>,
         row: &Row,
@@ -130,20 +133,20 @@ impl<'a> Draft<'a> {
             (option_map reference_of r.now) }
     {
         match r {
-            None => found(*fields),
+            None => unbroken_fields(*fields),
             Some(r) => {
-                if r.kind == 0 {
-                    self.jumped(labels, row, fields, *r)
+                if r.kind == NO_RELOC {
+                    self.resolve_jump(labels, row, fields, *r)
                 } else {
-                    found(*fields)
+                    unbroken_fields(*fields)
                 }
             }
         }
     }
 
-    /// What the row with this number makes of the fields and the symbol.
+    /// The fields of the row with this number, once its target is resolved.
     #[inline(always)]
-    pub(crate) fn resolved(
+    pub(crate) fn resolve(
         &self,
         labels: &Symbols<'a>,
         row: u8,
@@ -156,13 +159,13 @@ impl<'a> Draft<'a> {
         let rows = rows();
         let place = usize::from(row);
         if place < rows.len() {
-            self.targeted(labels, &rows[place], fields, r)
+            self.resolve_target(labels, &rows[place], fields, r)
         } else {
-            found(*fields)
+            unbroken_fields(*fields)
         }
     }
 
-    /// The bytes of an instruction.
+    /// The bytes of an instruction here.
     #[tactic(auto, unfolding(crate::specs::Drafts::code_bytes))]
     pub(crate) fn code(
         &self,
@@ -174,7 +177,7 @@ impl<'a> Draft<'a> {
         ensures { take result.len result.bytes
             ≡ code_bytes labels.now self.now row fields.now (option_map reference_of r.now) }
     {
-        let found = self.resolved(labels, row, fields, r);
+        let found = self.resolve(labels, row, fields, r);
         code_of(row, &found.fields)
     }
 }

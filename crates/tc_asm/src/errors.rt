@@ -4,11 +4,13 @@ ghost use Rattle.tc_asm.specs.declared.errors.AsmErr.TheVariants.{NoMemory};
 
 use std::alloc::{AllocError, AllocFailed};
 
-/// Why a source has no object: the least line that breaks a rule, counted from 1, and the least rule there; or want of
-/// memory.
+/// Why a source has no object: the least line that breaks a rule, counted from 1, and the least
+/// rule there; or out of memory.
 #[derive(Clone, Copy, Debug, PartialEq, Eq)]
 pub enum AsmErr {
+    /// The least line that breaks a rule, counted from 1, and the least rule there.
     Bad { line: u32, rule: u8 },
+    /// Out of memory.
     NoMemory,
 }
 

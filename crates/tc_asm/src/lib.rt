@@ -1,4 +1,4 @@
-//! The assembler: the object of a source, or the least line that breaks a rule and the least rule there.
+//! The assembler: the object of a source, or the least bad line and the least rule there.
 #![tactic(auto)]
 
 mod assemble_source;
@@ -7,6 +7,7 @@ mod emit;
 mod encode;
 mod errors;
 mod laws;
+mod put_items;
 mod rules;
 mod sections;
 mod symbols;

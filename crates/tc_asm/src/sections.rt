@@ -1,4 +1,4 @@
-// Sections so far.
+// The sections of a draft.
 ghost use Rattle.std.specs.Prelude.{◌≡◌, ◌<◌, ◌≤◌, map, OnOk, length, position};
 ghost use Rattle.std.specs.Str.{bytes_eq};
 ghost use Rattle.tc_stmt.specs.RowFields.{reference_of};
@@ -9,18 +9,23 @@ use std::alloc::AllocError;
 use tc_lex::is_same;
 use tc_stmt::Reference;
 
-/// Four bytes of a section that a symbol's value goes to.
+/// Four bytes of a section that wait for the value of a symbol.
 #[derive(Clone, Copy)]
 pub struct Use<'a> {
+    /// The offset of the four bytes in their section.
     pub offset: usize,
+    /// The symbol, with the number that is added.
     pub reference: Reference<'a>,
 }
 
-/// A section so far.
+/// A section of a draft: its name, its bytes so far, and its uses of symbols.
 #[derive(Drop)]
 pub struct Part<'a> {
+    /// The name of the section.
     pub name: &'a [u8],
+    /// Its bytes so far.
     pub bytes: Vec<u8>,
+    /// Its uses of symbols, in ascending order of offsets.
     pub uses: Vec<Use<'a>>,
 }
 
@@ -30,7 +35,7 @@ fn find_part(parts: &[Part], name: &[u8]) -> Option<usize>
     parts.iter().position(|p| is_same(name, p.name))
 }
 
-/// The number of the section of this name, or how many sections there are.
+/// The number of the section with this name, or the number of sections if none has it.
 pub(crate) fn number_of_part(parts: &[Part], name: &[u8]) -> usize
     ensures value { result ≡ number_of_part (map part_of parts.now) name.now }
     ensures within { result ≤ length parts.now }
@@ -41,7 +46,7 @@ pub(crate) fn number_of_part(parts: &[Part], name: &[u8]) -> usize
     }
 }
 
-/// Puts bytes at the end of a section.
+/// Adds bytes at the end of a section.
 pub(crate) fn extend_part(parts: &mut Vec<Part>, i: usize, bytes: &[u8]) -> Result<(), AllocError>
     requires { i < length parts.old.items }
     ensures { OnOk result
@@ -52,7 +57,7 @@ pub(crate) fn extend_part(parts: &mut Vec<Part>, i: usize, bytes: &[u8]) -> Resu
     Ok(())
 }
 
-/// Notes a relocation.
+/// Notes a use of a symbol.
 pub(crate) fn use_part<'a>(
     parts: &mut Vec<Part<'a>>,
     i: usize,

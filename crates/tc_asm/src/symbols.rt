@@ -1,4 +1,4 @@
-// Symbols by name, in the order of first sight, with what is known of each.
+// A table of symbols by name, in the order of first use.
 ghost use Rattle.std.specs.Prelude.{◌≡◌};
 ghost use Rattle.tc_asm.specs.Symbols.{labelled_at, with_label_at};
 
@@ -6,28 +6,32 @@ use indexmap::IndexMap;
 use std::alloc::{AllocError, Global};
 use std::marker::Model;
 
-/// A place in a section: the section's number, and an offset.
+/// A place in a source: the number of a section, and an offset in it.
 #[derive(Clone, Copy, Debug, PartialEq, Eq)]
 pub struct Place {
+    /// The number of the section.
     pub section: usize,
+    /// The offset in the section, in bytes.
     pub offset: usize,
 }
 
-/// Where a symbol's label stands, if one does, and whether the symbol is global.
+/// The place of a symbol's label, if it has one, and whether the symbol is global.
 #[derive(Clone, Copy, Debug, PartialEq, Eq)]
 pub struct Entry {
+    /// The place of the label, if the source has defined it so far.
     pub place: Option<Place>,
+    /// Whether a `.global` names the symbol.
     pub is_global: bool,
 }
 
-// Of a name that wasn't seen.
+// The entry of a name that is used, but not defined so far.
 const UNSEEN: Entry = Entry {
     place: None,
     is_global: false,
 };
 
-// Of a name whose label stands here, and of which no more is known.
-fn labelled_at(place: Place) -> Entry
+// The entry of a new name whose label is at this place.
+fn label_entry(place: Place) -> Entry
     ensures { result ≡ labelled_at place }
 {
     Entry {
@@ -36,7 +40,7 @@ fn labelled_at(place: Place) -> Entry
     }
 }
 
-// The same of a name of which more is known: a label that stood somewhere before stays there.
+// The entry of a known name after a label at this place. An earlier label keeps its place.
 fn with_label(entry: Entry, place: Place) -> Entry
     ensures { result ≡ with_label_at entry place }
 {
@@ -50,9 +54,10 @@ fn with_label(entry: Entry, place: Place) -> Entry
     }
 }
 
-/// What is known of each symbol, in the order of first sight.
+/// A table of symbols by name, in the order of first use.
 #[derive(Drop)]
 pub struct Symbols<'a> {
+    /// The entry of each name, in the order of first use.
     pub known: IndexMap<&'a [u8], Entry>,
 }
 
@@ -70,6 +75,7 @@ impl<'a> Symbols<'a> {
     ghost use Rattle.tc_asm.specs.Objects.{number_of};
     ghost use Rattle.tc_asm.specs.Symbols.{symbol, entry_in, entry_of, put_entry, place_in, seen, labelled, made_global};
 
+    /// An empty table.
     pub fn new(alloc: Global) -> Symbols<'a>
         ensures { result ≡ [] }
     {
@@ -78,13 +84,14 @@ impl<'a> Symbols<'a> {
         }
     }
 
+    /// The number of symbols.
     pub fn len(&self) -> usize
         ensures { result ≡ length self.now }
     {
         self.known.len()
     }
 
-    /// The name and what is known of the symbol of this number.
+    /// The name and the entry of the symbol with this number.
     pub fn at(&self, i: usize) -> (&'a [u8], Entry)
         requires { i < length self.now }
         ensures { slice_get self.now i ≡ Some (symbol result.0.now result.1) }
@@ -93,7 +100,7 @@ impl<'a> Symbols<'a> {
         (*name, *entry)
     }
 
-    /// The number of a name; 0 for one that isn't known.
+    /// The number of a name, and 0 if it isn't in the table.
     pub fn number(&self, name: &[u8]) -> usize
         ensures value { result ≡ number_of self.now name.now }
         ensures within { result ≤ length self.now }
@@ -101,28 +108,28 @@ impl<'a> Symbols<'a> {
         self.known.get_index_of(&name).unwrap_or(0)
     }
 
-    /// What is known of a name.
+    /// The entry of a name, if it is in the table.
     pub fn get(&self, name: &[u8]) -> Option<Entry>
         ensures { result ≡ entry_in self.now name.now }
     {
         self.known.get(&name).copied()
     }
 
-    // What is known of a name, or that nothing is.
+    // The entry of a name, or `UNSEEN` if it isn't in the table.
     fn entry_of(&self, name: &[u8]) -> Entry
         ensures { result ≡ entry_of self.now name.now }
     {
         self.get(name).unwrap_or(UNSEEN)
     }
 
-    /// Where a name's label stands.
+    /// The place of a name's label, if it has one.
     pub fn place(&self, name: &[u8]) -> Option<Place>
         ensures { result ≡ place_in self.now name.now }
     {
         self.entry_of(name).place
     }
 
-    // Puts what is known of a name, and tells what was.
+    // Sets the entry of a name, and returns its earlier entry.
     fn put(&mut self, name: &'a [u8], entry: Entry) -> Result<Option<Entry>, AllocError>
         ensures put { OnOk result (self.new ≡ put_entry self.old name.entry.now entry) }
         ensures old { IfOk result (λ old. old ≡ entry_in self.old name.entry.now) }
@@ -130,7 +137,7 @@ impl<'a> Symbols<'a> {
         Ok(self.known.insert(name, entry)?)
     }
 
-    /// Adds a name that isn't known.
+    /// Adds a name, if it isn't in the table.
     #[tactic(auto, using(crate::proofs::SymbolLaws::seen_known, crate::proofs::SymbolLaws::seen_new))]
     pub fn see(&mut self, name: &'a [u8]) -> Result<(), AllocError>
         ensures { OnOk result (self.new ≡ seen self.old name.entry.now) }
@@ -142,7 +149,8 @@ impl<'a> Symbols<'a> {
         Ok(())
     }
 
-    /// Notes where a name's label stands, if none stood anywhere before, and tells where one did. A new name is looked for once.
+    /// Defines a name at this place, unless it has a label already, and returns the place of that
+    /// label. A new name is looked up once.
     #[tactic(auto, using(crate::proofs::SymbolLaws::labelled_new, crate::proofs::SymbolLaws::labelled_known))]
     pub(crate) fn define(
         &mut self,
@@ -152,7 +160,7 @@ impl<'a> Symbols<'a> {
         ensures symbols { OnOk result (self.new ≡ labelled self.old name.entry.now place) }
         ensures before { IfOk result (λ old. old ≡ place_in self.old name.entry.now) }
     {
-        match self.put(name, labelled_at(place))? {
+        match self.put(name, label_entry(place))? {
             None => Ok(None),
             Some(old) => {
                 self.put(name, with_label(old, place))?;
@@ -161,7 +169,7 @@ impl<'a> Symbols<'a> {
         }
     }
 
-    /// Notes where a name's label stands, if none stood anywhere before.
+    /// Defines a name at this place, unless it has a label already.
     pub fn label(&mut self, name: &'a [u8], place: Place) -> Result<(), AllocError>
         ensures { OnOk result (self.new ≡ labelled self.old name.entry.now place) }
     {

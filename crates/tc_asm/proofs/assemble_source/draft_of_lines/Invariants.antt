@@ -3,7 +3,7 @@ use Rattle.tc_stmt.specs.Items.{item_of}
 use Rattle.tc_asm.specs.Sources.{drafted, KeepsRules}
 use Rattle.tc_asm.specs.Kept.{IsDraft}
 use Rattle.tc_stmt.specs.Readings.{lines_read, lines_of}
-use Rattle.tc_asm.proofs.assemble_source.checked.Given as goal
+use Rattle.tc_asm.proofs.assemble_source.draft_of_lines.Given as goal
 
 abbrev pub invariant-loop-i : goal.invariant-loop-i
 invariant-loop-i l = record {

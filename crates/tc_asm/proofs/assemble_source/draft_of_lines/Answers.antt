@@ -4,7 +4,7 @@ use Rattle.tc_stmt.specs.Readings.{lines_of}
 use Rattle.tc_asm.proofs.Passes.{drafted_more, kept_more, least_here, behind_here, read_here, read_behind, drafted_end}
 use Rattle.tc_stmt.proofs.ReadLines.{length-lines_read}
 use Rattle.tc_asm.proofs.KeptLaws.{IsDraft-more}
-use Rattle.tc_asm.proofs.assemble_source.checked.Goals as goal
+use Rattle.tc_asm.proofs.assemble_source.draft_of_lines.Goals as goal
 
 pub loop-i-preserved : goal.loop-i-preserved
 loop-i-preserved c =

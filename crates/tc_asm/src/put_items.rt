@@ -1,0 +1,143 @@
+// Adds items to a draft, with the least rule that each of them breaks.
+ghost use Rattle.std.specs.Prelude.{◌≡◌, ◌==◌, false, option_map};
+ghost use Rattle.std.specs.Option.{option_map_or};
+ghost use Rattle.tc_stmt.specs.RowFields.{reference_of};
+
+use crate::draft::Draft;
+use crate::encode::{code_of, first_bytes};
+use crate::symbols::{Place, Symbols};
+use std::alloc::{AllocError, Global};
+use tc_isa::Fields;
+use tc_stmt::{Item, LABEL_TWICE, NO_RELOC, NO_RULE, Reference, is_name};
+
+// Whether a target is resolved at once, without a relocation.
+fn has_near_target(r: &Option<Reference<'_>>) -> bool
+    ensures { result ≡ option_map_or (λ q. q.kind == 0) (option_map reference_of r.now) false }
+{
+    match r {
+        None => false,
+        Some(r) => r.kind == NO_RELOC,
+    }
+}
+
+impl<'a> Draft<'a> {
+    ghost use Rattle.std.specs.Prelude.{option_map, length, OnOk, IfOk};
+    ghost use Rattle.tc_stmt.specs.RowFields.{reference_of};
+    ghost use Rattle.tc_stmt.specs.Items.{item_of, label, code};
+    ghost use Rattle.tc_asm.specs.Drafts.{stepped, with_content};
+    ghost use Rattle.tc_asm.specs.Rules.{content_rule, item_rule};
+
+    // Adds bytes with their symbol, and returns the least rule that they break.
+    fn put_bytes(&mut self, bytes: &[u8], r: &Option<Reference<'a>>) -> Result<u8, AllocError>
+        ensures draft { OnOk result
+            (self.new ≡ with_content self.old bytes.now (option_map reference_of r.now)) }
+        ensures rule { IfOk result
+            (λ rule. rule
+            ≡ content_rule self.old (length bytes.now) (option_map reference_of r.now)) }
+    {
+        let rule = self.content_rule(bytes.len(), r);
+        self.add_content(bytes, r)?;
+        Ok(rule)
+    }
+
+    // Adds an instruction whose target is resolved at once, and returns the least rule that it
+    // breaks.
+    #[inline(never)]
+    #[tactic(auto, unfolding(crate::specs::Rules::item_rule, crate::specs::Drafts::stepped, crate::specs::Drafts::code_bytes))]
+    fn put_jump(
+        &mut self,
+        labels: &Symbols<'a>,
+        row: u8,
+        fields: &Fields,
+        r: &Option<Reference<'a>>,
+    ) -> Result<u8, AllocError>
+        ensures draft { OnOk result
+            (self.new ≡ stepped labels.now self.old
+            (code row fields.now (option_map reference_of r.now))) }
+        ensures rule { IfOk result
+            (λ rule. rule
+            ≡ item_rule labels.now self.old (code row fields.now (option_map reference_of r.now))) }
+    {
+        let found = self.resolve(labels, row, fields, r);
+        let code = code_of(row, &found.fields);
+        let rule = self.put_bytes(first_bytes(&code.bytes, code.len), r)?;
+        Ok(found.rule.min(rule))
+    }
+
+    // Adds an instruction, and returns the least rule that it breaks.
+    #[tactic(auto, unfolding(crate::specs::Rules::item_rule, crate::specs::Drafts::stepped, crate::specs::Drafts::code_bytes), using(crate::proofs::CodeLaws::found_far))]
+    fn put_code(
+        &mut self,
+        labels: &Symbols<'a>,
+        row: u8,
+        fields: &Fields,
+        r: &Option<Reference<'a>>,
+    ) -> Result<u8, AllocError>
+        ensures draft { OnOk result
+            (self.new ≡ stepped labels.now self.old
+            (code row fields.now (option_map reference_of r.now))) }
+        ensures rule { IfOk result
+            (λ rule. rule
+            ≡ item_rule labels.now self.old (code row fields.now (option_map reference_of r.now))) }
+    {
+        if has_near_target(r) {
+            return self.put_jump(labels, row, fields, r);
+        }
+        let code = code_of(row, fields);
+        let rule = self.put_bytes(first_bytes(&code.bytes, code.len), r)?;
+        // The target breaks no rule.
+        Ok(NO_RULE.min(rule))
+    }
+
+    // Adds a label, and returns the least rule that it breaks. The name is looked up once.
+    #[inline(never)]
+    #[tactic(auto, unfolding(crate::specs::Rules::item_rule, crate::specs::Drafts::stepped, crate::specs::Drafts::with_label))]
+    fn put_label(&mut self, labels: &Symbols<'a>, name: &'a [u8]) -> Result<u8, AllocError>
+        ensures draft { OnOk result
+            (self.new ≡ stepped labels.now self.old (label name.entry.now)) }
+        ensures rule { IfOk result
+            (λ rule. rule ≡ item_rule labels.now self.old (label name.entry.now)) }
+    {
+        if !is_name(name) {
+            return Ok(self.item_rule(labels, &Item::Label(name)));
+        }
+        let section = self.section_rule();
+        let room = self.symbol_room(name);
+        let place = Place {
+            section: self.section,
+            offset: self.place(),
+        };
+        let before = self.symbols.define(name, place)?;
+        let twice = if before.is_some() {
+            LABEL_TWICE
+        } else {
+            NO_RULE
+        };
+        Ok(twice.min(section).min(NO_RULE.min(room)))
+    }
+
+    /// Adds an item, and returns the least rule that it breaks, or no rule. `labels` are the
+    /// symbols of the whole source.
+    #[tactic(auto, unfolding(crate::specs::Rules::item_rule, crate::specs::Drafts::stepped))]
+    pub(crate) fn put(
+        &mut self,
+        alloc: Global,
+        labels: &Symbols<'a>,
+        item: &Item<'a>,
+    ) -> Result<u8, AllocError>
+        ensures draft { OnOk result (self.new ≡ stepped labels.now self.old (item_of item.now)) }
+        ensures rule { IfOk result
+            (λ rule. rule ≡ item_rule labels.now self.old (item_of item.now)) }
+    {
+        match item {
+            Item::Label(name) => self.put_label(labels, *name),
+            Item::Code(row, fields, r) => self.put_code(labels, *row, fields, r),
+            Item::Data(len, bytes, r) => self.put_bytes(first_bytes(bytes, *len), r),
+            _ => {
+                let rule = self.item_rule(labels, item);
+                self.step(alloc, labels, item)?;
+                Ok(rule)
+            }
+        }
+    }
+}
