@@ -5,7 +5,7 @@ use Rattle.std.specs.Option.{option_map_or}
 use Rattle.std.proofs.lemmas.List.{map_more}
 use Rattle.tc_link.specs.Placing.{GlobalData, PlacedData, symbol_address, symbol_addresses}
 
--- one item more
+-- a further item
 pub map_next : {A B : Type 0} (f : A → B) (xs : List A) (i : ℕ) (x : A) (ys : List B) (y : B) → i < length xs → x ≡ get_or xs i x
     → ys ≡ map f (take i xs) → y ≡ f x → ys ++ y ∷ [] ≡ map f (take (i + 1) xs)
 map_next {A} {B} f xs i x ys y h is e g =
@@ -13,7 +13,7 @@ map_next {A} {B} f xs i x ys y h is e g =
     ∙ ap (λ (z : B). map f (take i xs) ++ z ∷ []) (g ∙ ap f is)
     ∙ sym (map_more f xs i x h)
 
--- the item of a number, and 0 where there is none
+-- the item with this number, and 0 if there is none
 mapped_at : {A : Type 0} (f : A → ℕ) (xs : List A) (n : ℕ) → get_or (map f xs) n 0 ≡ option_map_or f (slice_get xs n) 0
 mapped_at f [] zero = refl
 mapped_at f [] (suc n) = refl

@@ -4,7 +4,7 @@ use Rattle.std.specs.Prelude.{is_some, IfSome}
 use Rattle.std.specs.Option.{option_map}
 use Rattle.std.specs.List.{flat_map, count_by}
 use Rattle.std.specs.Str.{bytes_eq}
-use Rattle.std.proofs.lemmas.Bool.Decides.{same_from_decides, Decides-like, nat_tests}
+use Rattle.std.proofs.lemmas.Bool.Decides.{nat_tests}
 use Rattle.std.proofs.lemmas.Slice.Eq.{bytes_eq-Decides}
 use Rattle.std.proofs.lemmas.List.{take_more, append-nil}
 use Rattle.std.proofs.lemmas.List.Concat.{flat_map-append}
@@ -13,11 +13,9 @@ use Rattle.tc_object.specs.Objects.{SymbolData, ObjectData}
 use Rattle.tc_link.specs.declared.definitions.Definition.{Definition}
 use Rattle.tc_link.specs.Names.{twice_of_count}
 use Rattle.tc_link.specs.Linked.{has_global_name, globals_named}
+use Rattle.tc_object.proofs.UsedLaws.{bytes_eq-sym}
 
-pub bytes_eq-sym : (xs ys : List ℕ) → bytes_eq xs ys ≡ bytes_eq ys xs
-bytes_eq-sym xs ys = same_from_decides (bytes_eq xs ys) (bytes_eq ys xs) (bytes_eq-Decides xs ys) (Decides-like (bytes_eq ys xs) sym sym (bytes_eq-Decides ys xs))
-
--- a name that so many have is kept, and one more
+-- a name that n symbols have, and a further symbol
 kept_more : (n : ℕ) → Some (is_some (twice_of_count n)) ≡ twice_of_count (n + 1)
 kept_more zero = refl
 kept_more (suc n) = grind (arith, nat_tests)
@@ -46,7 +44,7 @@ not_zero n = grind (arith, nat_tests)
 kept_suc : (n : ℕ) → twice_of_count (suc n) ≡ Some (ltb 1 (suc n))
 kept_suc n = ap (λ b. cond {A = Option Bool} b None (Some (ltb 1 (suc n)))) (not_zero n)
 
--- a name of which not more than one is kept
+-- a name for which the map has at most one symbol
 single_of : (n : ℕ) (o : Option Bool) → o ≡ twice_of_count n → IfSome o (λ t. t ≡ false) → ltb 1 n ≡ false
 single_of zero o e h = refl
 single_of (suc n) o e h = subst (λ (x : Option Bool). IfSome x (λ t. t ≡ false)) (e ∙ kept_suc n) h
@@ -62,7 +60,7 @@ named_off b c n new t e = e ∙ ap twice_of_count (sym (add-zero n)) ∙ ap (λ 
 pub named_on : (b c : Bool) (n : ℕ) (new : Option Bool) → b ≡ true → new ≡ twice_of_count (n + cond c 1 0) → new ≡ twice_of_count (n + cond (b && c) 1 0)
 named_on b c n new t e = e ∙ ap (λ (x : Bool). twice_of_count (n + cond (x && c) 1 0)) (sym t)
 
--- one symbol more
+-- a further symbol
 pub symbols_more : (symbols : List SymbolData) (i : ℕ) (x : SymbolData) (q : List ℕ) (n : ℕ) → i < length symbols → x ≡ get_or symbols i x
     → n + count_by (has_global_name q) (take i symbols) + cond (has_global_name q x) 1 0 ≡ n + count_by (has_global_name q) (take (i + 1) symbols)
 symbols_more symbols i x q n h is =

@@ -59,14 +59,14 @@ more_item f xs i x h is e g = first_more f xs i x h e (ap (f i) (sym is) ∙ g)
 pub found_item : {A B : Type 0} (f : ℕ → A → Option B) (xs : List A) (i : ℕ) (x : A) (r : B) → i < length xs → x ≡ get_or xs i x → first_at f 0 (take i xs) ≡ None → f i x ≡ Some r → first_at f 0 xs ≡ Some r
 found_item f xs i x r h is e g = first_found f xs i x r h e (ap (f i) (sym is) ∙ g)
 
--- what a test tells
+-- the answer of a test
 pub then_yes : {A : Type 0} (b t : Bool) (x : A) → t ≡ b → t ≡ true → then_some b x ≡ Some x
 then_yes {A} b t x e f = ap (λ (c : Bool). then_some {T = A} c x) (sym e ∙ f)
 
 pub then_no : {A : Type 0} (b t : Bool) (x : A) → t ≡ b → t ≡ false → then_some b x ≡ None
 then_no {A} b t x e f = ap (λ (c : Bool). then_some {T = A} c x) (sym e ∙ f)
 
--- what the item at hand tells, all items do
+-- the answer of the current item is that of all items
 pub told_item : {A B : Type 0} (f : ℕ → A → Option B) (xs : List A) (i : ℕ) (x : A) (o : Option B) → i < length xs → x ≡ get_or xs i x → first_at f 0 (take i xs) ≡ None → IfSome o (λ r. f i x ≡ Some r) → IfSome o (λ r. first_at f 0 xs ≡ Some r)
 told_item f xs i x None h is e t = tt
 told_item f xs i x (Some r) h is e t = found_item f xs i x r h is e t

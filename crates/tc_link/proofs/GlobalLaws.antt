@@ -11,7 +11,7 @@ use Rattle.std.proofs.lemmas.List.Concat.{flat_map-append}
 use Rattle.std.proofs.lemmas.List.Elements.{filter-append}
 use Rattle.tc_object.specs.Objects.{SymbolData}
 use Rattle.tc_link.specs.Placing.{GlobalData, PlacedData, is_global, global_data, globals_of, global_address}
-use Rattle.tc_link.proofs.CountLaws.{bytes_eq-sym}
+use Rattle.tc_object.proofs.UsedLaws.{bytes_eq-sym}
 
 map_or : {A B : Type 0} (f : A → B) (a b : Option A) → option_map f (option_or a b) ≡ option_or (option_map f a) (option_map f b)
 map_or f None b = refl
@@ -25,7 +25,7 @@ one_global : (b : Bool) (g : GlobalData) → option_map (λ (x : GlobalData). x.
 one_global true g = refl
 one_global false g = refl
 
--- one global symbol more
+-- a further global symbol
 pub global_push : (before : List GlobalData) (g : GlobalData) (q : List ℕ) → global_address (before ++ g ∷ []) q ≡ option_or (global_address before q) (cond (bytes_eq q g.name) (Some g.address) None)
 global_push before g q =
     let p : GlobalData → Bool = λ x. bytes_eq q x.name in
@@ -42,7 +42,7 @@ none_or : {A : Type 0} (a b : Option A) → is_some a ≡ false → b ≡ option
 none_or None b e = refl
 none_or (Some x) b e = cc
 
--- a name that is there keeps its address
+-- a name in the map keeps its address
 pub keep_global : (old : List ℕ → Option ℕ) (name : List ℕ) (address : ℕ) (q : List ℕ) → is_some (old name) ≡ true → old q ≡ option_or (old q) (cond (bytes_eq q name) (Some address) None)
 keep_global old name address q there = by_test (bytes_eq q name) refl
   where
@@ -64,7 +64,7 @@ put_global old name address q new none u = by_test (bytes_eq q name) refl
         ∙ none_or (old q) (Some address) (ap (λ (x : List ℕ). is_some (old x)) same ∙ none)
     by_test false t = u ∙ ap (λ b. cond b (Some address) (old q)) (bytes_eq-sym name q ∙ t) ∙ or_none (old q)
 
--- what is told of a value that is put at a name
+-- a fact of a value that is put at a name
 pub map_cond : {A B : Type 0} (f : A → B) (b : Bool) (x : A) (o : Option A) → option_map f (cond b (Some x) o) ≡ cond b (Some (f x)) (option_map f o)
 map_cond f true x o = refl
 map_cond f false x o = refl
@@ -74,7 +74,7 @@ pub put_twice : {A : Type 0} (b : Bool) (x y old new last : Option A) → new �
 put_twice true x y old new last e f = f
 put_twice false x y old new last e f = f ∙ e
 
--- what a name has, put there again
+-- putting the value of a name again changes nothing
 pub same_global : (old : List ℕ → Option ℕ) (name q : List ℕ) (a : ℕ) → old name ≡ Some a → cond (bytes_eq name q) (Some a) (old q) ≡ old q
 same_global old name q a h = by_test (bytes_eq name q) refl
   where

@@ -58,7 +58,7 @@ abbrev ApartFrom : PlaceData → List PlaceData → Type 0
 ApartFrom p [] = Unit {0}
 ApartFrom p (q ∷ qs) = (shares q p ≡ false) × ApartFrom p qs
 
--- what holds of no place of a list doesn't hold of p
+-- a test that fails for each place of the list fails for p
 abbrev IsOf : List PlaceData → PlaceData → Type 0
 IsOf before p = (f : PlaceData → Bool) → list_any f before ≡ false → f p ≡ false
 
@@ -133,7 +133,7 @@ small_segments contents sections (p ∷ ps) same =
     by_bytes rest false = omega arith
 
 -- ---- the image
--- the limits of an image, but for what its bytes are
+-- the limits of an image, except that of its bytes
 pub record KeepsLimits (i : ImageData) : Type 0 where
   pub entry : i.entry < 2 ^ 32
   pub few : length i.segments ≤ 64

@@ -12,7 +12,7 @@ some_same x y e = cc
 pub same_item : {A : Type 0} (xs : List A) (i : ℕ) (d e : A) → i < length xs → get_or xs i d ≡ get_or xs i e
 same_item xs i d e h = some_same _ _ (sym (slice_get-get_or xs i d h) ∙ slice_get-get_or xs i e h)
 
--- what holds of the items so far and the next
+-- a property of the first i items and of the next one holds of the first i + 1
 pub good_more : {A : Type 0} (P : A → Type 0) (xs : List A) (i : ℕ) (x : A) → i < length xs → x ≡ get_or xs i x → P x → ((k : ℕ) (d : A) → k < i → P (get_or xs k d)) → (k : ℕ) (d : A) → k < i + 1 → P (get_or xs k d)
 good_more {A} P xs i x h is p below k d l = by_test (ltb k i) refl
   where
@@ -34,7 +34,7 @@ zero_at n k = by_test (ltb k n) refl
         let short : length (replicate {A = ℕ} n 0) ≤ k = omega (arith, past, len) in
         get_or-eq_default (replicate {A = ℕ} n 0) 0 short
 
--- the same item of an equal list
+-- items at equal places of equal lists are equal
 pub item_of : {A : Type 0} (ds rs : List A) (i : ℕ) (d : A) → ds ≡ rs → i < length ds → get_or ds i d ≡ get_or rs i (get_or ds i d)
 item_of {A} ds rs i d e h = ap (λ (l : List A). get_or l i d) e ∙ same_item rs i d (get_or ds i d) (subst (λ (l : List A). i < length l) e h)
 

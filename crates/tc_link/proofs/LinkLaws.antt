@@ -1,4 +1,4 @@
--- What linking gives, by what its steps find.
+-- The result of linking, from the results of its steps.
 use Rattle.std.proofs.Common.{◌≡◌, ◌<◌, ◌^◌, [], ◌∷◌, ◌++◌, ℕ, suc, List, length, get_or, map, Option, Some, None, Result, Ok, Err, refl, sym, ap, ◌∙◌}
 use Rattle.std.specs.Prelude.{IfSome, IfOk, IfErr, OnOk}
 use Rattle.std.specs.Option.{option_or}
@@ -16,7 +16,7 @@ use Rattle.tc_link.proofs.RoomLaws.{room_end, room_start}
 use Rattle.tc_link.proofs.RelocLaws.{contents_shapes}
 use Rattle.tc_link.proofs.ImageLaws.{KeepsLimits, image_is}
 
--- ---- before anything is relocated
+-- ---- before relocations are written
 or_next : {A : Type 0} (a b c : Option A) → a ≡ None → b ≡ c → option_or a b ≡ c
 or_next {A} a b c e f = ap (λ (o : Option A). option_or o b) e ∙ f
 
@@ -39,7 +39,7 @@ early_room : (objects : List ObjectData) (layout : LayoutData) (r : Refusal) →
     → no_room_after layout.places [] (sections_of objects) ≡ Some r → refused_early layout objects ≡ Some r
 early_room objects layout r a b c e = or_next _ _ _ a (or_next _ _ _ b (or_next _ _ _ c e))
 
--- an error that tells a refusal
+-- an error with a refusal
 told : {A : Type 0} (o : Option Refusal) (x : Option Refusal) (f : Refusal → A) (all : A) → ((r : Refusal) → o ≡ Some r → all ≡ f r) → IfSome x (λ r. o ≡ Some r) → IfSome x (λ r. all ≡ f r)
 told o None f all g h = tt
 told o (Some r) f all g h = g r h
@@ -58,7 +58,7 @@ pub told_room : (objects : List ObjectData) (layout : LayoutData) (x : Option Re
     → IfSome x (λ r. no_room_after layout.places [] (sections_of objects) ≡ Some r) → IfSome x (λ r. refused_early layout objects ≡ Some r)
 told_room objects layout x a b c h = told {A = Option Refusal} (no_room_after layout.places [] (sections_of objects)) x (λ r. Some r) (refused_early layout objects) (λ r e. early_room objects layout r a b c e) h
 
--- ---- what is made of placed objects
+-- ---- the image of placed objects
 pub made_reloc : (layout : LayoutData) (placed : List PlacedData) (x : Option Refusal) → IfSome x (λ r. reloc_in (globals_of placed) placed ≡ Some r) → IfSome x (λ r. made_of layout placed ≡ Err r)
 made_reloc layout placed x h =
     told {A = Result ImageData Refusal} (reloc_in (globals_of placed) placed) x (λ r. Err r) (made_of layout placed) (λ r e. ap (λ (o : Option Refusal). unless o (image_of layout placed)) e) h

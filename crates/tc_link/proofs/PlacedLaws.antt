@@ -42,7 +42,7 @@ placed_at placed objects i o same h is =
 pub whole_placed : (placed : List PlacedData) (objects : List ObjectData) (i : ℕ) → map (λ (p : PlacedData). p.object) placed ≡ objects → length objects ≤ i → take i placed ≡ placed
 whole_placed placed objects i same h = take_all i placed (omega (arith, h, as_many placed objects same))
 
--- a global symbol of an object that lies there
+-- a global symbol of an object with these addresses
 pub symbol_globals : (placed : List PlacedData) (p : PlacedData) (object : ℕ) (v : SymbolData) (before : List GlobalData) (q : List ℕ) → slice_get placed object ≡ Some p → is_global v ≡ true
     → global_address (before ++ record { name = v.name; address = address_of placed (record { object = object; section = v.section; offset = v.offset; is_twice = false }) } ∷ []) q
     ≡ global_address (before ++ map (global_data p.bases) (filter is_global (v ∷ []))) q

@@ -13,7 +13,7 @@ use Rattle.tcd_base.specs.Refusing.{unless}
 use Rattle.tc_link.specs.Faults.{entry_in, region_in, entries_of, places_of, fault_of, first_fault, layout_in, with_entry, IsFault, IsFaultOf}
 use Rattle.tc_link.specs.Seen.{DraftData, with_line}
 
--- n of all lines were read without a fault and gave the draft; the text is the rest
+-- the first n lines have no fault and lead to the draft; the text is the rest
 pub record Reached (all : List (List ℕ)) (n : ℕ) (rest : List ℕ) (d : DraftData) : Type 0 where
   pub rest_lines : drop n all ≡ lines_of rest
   pub count : n ≤ length all
@@ -32,7 +32,7 @@ as_list (Some x) = refl
 pushed : {A : Type 0} (f : LineData → Option A) (lines : List (List ℕ)) (line : List ℕ) → filter_map (λ l. option_and_then f (line_of l)) (lines ++ line ∷ []) ≡ filter_map (λ l. option_and_then f (line_of l)) lines ++ option_to_list (option_and_then f (line_of line))
 pushed f lines line = filter_map-append (λ l. option_and_then f (line_of l)) lines (line ∷ []) ∙ ap (λ ys. filter_map (λ l. option_and_then f (line_of l)) lines ++ ys) (as_list (option_and_then f (line_of line)))
 
--- one line more
+-- a further line
 step_all : (all : List (List ℕ)) (n : ℕ) (line : List ℕ) (more : List (List ℕ)) → drop n all ≡ line ∷ more → (take (n + 1) all ≡ take n all ++ line ∷ []) × (drop (n + 1) all ≡ more) × (n + 1 ≤ length all)
 step_all [] zero line more e = cc
 step_all [] (suc n) line more e = cc

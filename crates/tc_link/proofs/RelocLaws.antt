@@ -59,7 +59,7 @@ pub size_at-shapes : (ss ts : List SectionData) (n : ℕ) → map shape_of ss �
 size_at-shapes ss ts n e =
     sizes_are (slice_get ss n) ∙ ap size_in (sym (slice_get-map shape_of ss n) ∙ ap (λ (l : List Shape). slice_get l n) e ∙ slice_get-map shape_of ts n) ∙ sym (sizes_are (slice_get ts n))
 
--- one relocation keeps the shapes
+-- a single relocation keeps the shapes
 pub with_reloc_shapes : (g : List GlobalData) (p : PlacedData) (ss : List SectionData) (r : Reloc) → r.offset + 4 ≤ size_at ss r.section → map shape_of (with_reloc g p ss r) ≡ map shape_of ss
 with_reloc_shapes g p ss r h = by_section (slice_get ss r.section) refl
   where
@@ -112,7 +112,7 @@ room_in ss sections n k same h = omega (arith, h, size_at-shapes ss sections n s
 pub size_here : (ss : List SectionData) (n : ℕ) (x : SectionData) → n < length ss → x ≡ get_or ss n x → size_at ss n ≡ length x.bytes
 size_here ss n x h is = ap size_of (slice_get-get_or ss n x h) ∙ ap (λ (s : SectionData). length s.bytes) (sym is)
 
--- one relocation written
+-- a single relocation is written
 pub written_in : (g : List GlobalData) (p : PlacedData) (r : Reloc) (ss new : List SectionData) (x : SectionData) (place value : ℕ) → r.section < length ss → x ≡ get_or ss r.section x
     → new ≡ set ss r.section (with_filled_field r place value x) → place ≡ field_place p r → value ≡ value_of g p r → new ≡ with_reloc g p ss r
 written_in g p r ss new x place value h is e pl va =
@@ -129,7 +129,7 @@ shapes_in r ss new x place value h is room e =
 pub refusal_in : (g : List GlobalData) (p : PlacedData) (r : Reloc) (place value : ℕ) → place ≡ field_place p r → value ≡ value_of g p r → reloc_refusal g p r ≡ refusal_of r.kind place value
 refusal_in g p r place value pl va = ap (λ v. refusal_of r.kind (field_place p r) v) (sym va) ∙ ap (λ k. refusal_of r.kind k value) (sym pl)
 
--- one relocation more
+-- a further relocation
 pub relocs_next : (g : List GlobalData) (p : PlacedData) (sections ss new : List SectionData) (rs : List Reloc) (i : ℕ) (r : Reloc) → i < length rs → r ≡ get_or rs i r
     → ss ≡ fold (with_reloc g p) sections (take i rs) → new ≡ with_reloc g p ss r → new ≡ fold (with_reloc g p) sections (take (i + 1) rs)
 relocs_next g p sections ss new rs i r h is s e =
@@ -159,7 +159,7 @@ pub reloc_here : (o : ObjectData) (ds : List Reloc) (i : ℕ) (d : Reloc) → Is
 reloc_here o ds i d good e h =
     subst (λ (r : Reloc). IsReloc o.sections (length o.symbols) (take i o.relocs) r) (ap (λ (l : List Reloc). get_or l i d) (sym e)) (reloc_at o i d good (subst (λ (l : List Reloc). i < length l) e h))
 
--- the same of the section that stands there, whatever is read past the end
+-- the section at this number keeps its shape, for every default past the end
 pub shapes_at : (r : Reloc) (ss : List SectionData) (y d : SectionData) (place value : ℕ) → r.section < length ss → r.offset + 4 ≤ size_at ss r.section → y ≡ with_filled_field r place value (get_or ss r.section d)
     → map shape_of (set ss r.section y) ≡ map shape_of ss
 shapes_at r ss y d place value h room e =

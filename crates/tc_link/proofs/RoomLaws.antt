@@ -1,4 +1,4 @@
--- Sections behind one another.
+-- Sections in a place, one after another.
 use Rattle.std.proofs.Common.{◌≡◌, ◌+◌, ◌<◌, ◌≤◌, ◌∷◌, ◌++◌, ◌||◌, ◌^◌, [], ℕ, Bool, true, false, cond, ltb, List, length, take, drop, get_or, Option, Some, None, refl, sym, ap, ◌∙◌, subst, arith, append_assoc}
 use Rattle.std.proofs.lemmas.List.{append-nil, take_more, take-append-drop}
 use Rattle.std.proofs.lemmas.List.Sums.{fold-append}
@@ -24,7 +24,7 @@ pub taken_none : (name : List ℕ) → taken_bytes name [] ≡ 0
 unfolding taken_bytes
 taken_none name = refl
 
--- one section more
+-- a further section
 pub taken_more : (name : List ℕ) (before : List SectionData) (s : SectionData) → taken_bytes name (before ++ s ∷ []) ≡ with_size name (taken_bytes name before) s
 unfolding taken_bytes
 taken_more name before s = fold-append (with_size name) 0 before (s ∷ [])
@@ -56,7 +56,7 @@ or_none : {A : Type 0} (a : Option A) → option_or a None ≡ a
 or_none None = refl
 or_none (Some x) = refl
 
--- room so far, and what one section more tells
+-- room so far, and the answer of a further section
 pub no_room_push : (places : List PlaceData) (before ss : List SectionData) (s : SectionData) → no_room_after places before ss ≡ None → no_room_after places before (ss ++ s ∷ []) ≡ no_room_of places (before ++ ss) s
 unfolding no_room_after
 no_room_push places before ss s e = no_room_parts places before ss (s ∷ []) ∙ none_or _ _ e ∙ or_none (no_room_of places (before ++ ss) s)
@@ -106,7 +106,7 @@ find_some {A} p xs i d e =
 pub base_none : (places : List PlaceData) (before : List SectionData) (s : SectionData) → position (λ p. bytes_eq s.name p.section) places ≡ None → 0 ≡ base_of places before s
 base_none places before s e = sym (ap (λ (o : Option PlaceData). option_map_or (λ p. p.at + round_up (taken_bytes s.name before)) o 0) (find_none (λ p. bytes_eq s.name p.section) places e))
 
--- a section begins behind those of its place
+-- a section begins after the earlier sections of its place
 pub base_some : (places : List PlaceData) (before : List SectionData) (s : SectionData) (i : ℕ) (p : PlaceData) (sizes : List ℕ) → AreTaken places before sizes
     → position (λ p. bytes_eq s.name p.section) places ≡ Some i → p ≡ get_or places i p → p.at + round_up (get_or sizes i 0) ≡ base_of places before s
 base_some places before s i p sizes t e is =
@@ -125,7 +125,7 @@ none_parts : {A : Type 0} (a b : Option A) → option_or a b ≡ None → (a ≡
 none_parts None b e = (refl, e)
 none_parts (Some x) b e = cc
 
--- where there is room with each section, there is at the end
+-- if there is room for each section, there is room for all
 pub room_end : (places : List PlaceData) (before ss : List SectionData) → is_over places before ≡ false → no_room_after places before ss ≡ None → is_over places (before ++ ss) ≡ false
 unfolding no_room_after
 room_end places before [] room e = ap (is_over places) (append-nil before) ∙ room
@@ -228,7 +228,7 @@ room_past places objects i o r h is e f =
     ∙ no_room_front places [] (sections_of (take i objects) ++ o.sections) (sections_of (drop (i + 1) objects)) r
     (no_room_parts places [] (sections_of (take i objects)) o.sections ∙ none_or _ _ e ∙ f)
 
--- what an object without room tells, all objects do
+-- an object without room is a refusal for all objects
 pub room_told : (places : List PlaceData) (objects : List ObjectData) (i : ℕ) (o : ObjectData) (x : Option Refusal) → i < length objects → o ≡ get_or objects i o
     → no_room_after places [] (sections_of (take i objects)) ≡ None → IfSome x (λ r. no_room_after places (sections_of (take i objects)) o.sections ≡ Some r)
     → IfSome x (λ r. no_room_after places [] (sections_of objects) ≡ Some r)

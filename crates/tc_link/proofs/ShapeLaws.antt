@@ -10,7 +10,7 @@ use Rattle.tc_link.specs.Shapes.{Shape, shape_of}
 use Rattle.tc_link.specs.Relocated.{with_field_at, with_filled_field, with_padding, with_section, joined_sections}
 
 -- ---- lengths of joined sections
-padded_length : (bytes : List ℕ) → length (with_padding bytes) ≡ round_up (length bytes)
+pub padded_length : (bytes : List ℕ) → length (with_padding bytes) ≡ round_up (length bytes)
 padded_length bytes = omega (arith, length-append bytes (replicate (round_up (length bytes) - length bytes) 0), length-replicate {A = ℕ} (round_up (length bytes) - length bytes) 0)
 
 section_length : (name bytes : List ℕ) (s : SectionData) → length (with_section name bytes s) ≡ with_size name (length bytes) s

@@ -1,12 +1,8 @@
--- Items that are good in turn.
-use Rattle.std.proofs.Common.{[], ◌∷◌, ◌++◌, List, sym, subst, append_assoc}
-use Rattle.std.proofs.lemmas.List.{append-nil}
+-- Items that are valid in turn.
+use Rattle.std.proofs.Common.{[], ◌∷◌, ◌++◌, List}
 use Rattle.tc_object.specs.Objects.{InTurn}
+use Rattle.tc_object.proofs.FromLaws as object
 
--- good in turn, and one more
-turn_from : {A : Type 0} (good : List A → A → Type 0) (before xs : List A) (x : A) → InTurn good before xs → good (before ++ xs) x → InTurn good before (xs ++ x ∷ [])
-turn_from good before [] x h g = (subst (λ (l : List _). good l x) (append-nil before) g, tt)
-turn_from good before (y ∷ ys) x h g = (h.0, turn_from good (before ++ y ∷ []) ys x h.1 (subst (λ (l : List _). good l x) (sym (append_assoc before (y ∷ []) ys)) g))
-
+-- if items have a property in turn, so does the list with the next item
 pub turn_push : {A : Type 0} (good : List A → A → Type 0) (xs : List A) (x : A) → InTurn good [] xs → good xs x → InTurn good [] (xs ++ x ∷ [])
-turn_push good xs x h g = turn_from good [] xs x h g
+turn_push good xs x h g = object.turn_push good [] xs x h g

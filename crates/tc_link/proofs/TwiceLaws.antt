@@ -1,4 +1,4 @@
--- No symbol is defined twice where no name is.
+-- If no name is defined twice, no symbol is.
 use Rattle.std.proofs.Common.{◌≡◌, ◌+◌, ◌∷◌, [], ℕ, Bool, true, false, ltb, ◌&&◌, List, Option, None, refl, ap, ◌∙◌}
 use Rattle.std.specs.Bool.{then_some}
 use Rattle.std.specs.Option.{option_or}

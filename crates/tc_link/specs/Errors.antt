@@ -1,10 +1,10 @@
--- What an error of linking says.
+-- The refusals of the linker, as errors of the code.
 use Rattle.std.specs.Prelude.{◌≡◌, Option, Some, None, string_bytes, IfSome}
 use Rattle.tc_link.specs.declared.errors.LinkErr.{LinkErr}
 use Rattle.tc_link.specs.declared.errors.LinkErr.TheVariants.{Twice, Missing, NoPlace, NoRoom, Reloc, NoEntry, NoMemory}
 use Rattle.tc_link.specs.Linked.{Refusal, twice, missing, no_place, no_room, reloc, no_entry}
 
--- the refusal that an error is; None for want of memory
+-- the refusal in an error; None for out of memory
 abbrev pub refusal_of : LinkErr → Option Refusal
 refusal_of (Twice name) = Some (twice (string_bytes name))
 refusal_of (Missing name) = Some (missing (string_bytes name))
@@ -14,6 +14,6 @@ refusal_of (Reloc object section offset err) = Some (reloc object section offset
 refusal_of NoEntry = Some no_entry
 refusal_of NoMemory = None
 
--- the error is this refusal; want of memory says nothing
+-- the error is this refusal; out of memory says nothing of the objects
 abbrev pub IsRefusal : Option Refusal → LinkErr → Type 0
 IsRefusal r e = IfSome (refusal_of e) (λ x. r ≡ Some x)

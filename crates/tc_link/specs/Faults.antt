@@ -10,27 +10,27 @@ use Rattle.tc_link.specs.Lines.{LineData, blank, entry, place, line_of}
 use Rattle.tc_link.specs.declared.layout_errors.LayoutErr.{LayoutErr}
 use Rattle.tc_link.specs.declared.layout_errors.LayoutErr.TheVariants.{BadLine, Twice, TooMany, Overlap, NoMemory}
 
--- the name in an entry's line
+-- the name in the line of an entry
 abbrev pub entry_in : LineData → Option (List ℕ)
 entry_in blank = None
 entry_in (entry name) = Some name
 entry_in (place p) = None
 
--- the place in a place's line
+-- the place in the line of a place
 abbrev pub region_in : LineData → Option PlaceData
 region_in blank = None
 region_in (entry name) = None
 region_in (place p) = Some p
 
--- the names of the entries that lines give, in their order
+-- the names of entries in these lines, in order
 unfoldable pub entries_of : List (List ℕ) → List (List ℕ)
 entries_of lines = filter_map (λ l. option_and_then entry_in (line_of l)) lines
 
--- the places that lines give, in their order
+-- the places in these lines, in order
 unfoldable pub places_of : List (List ℕ) → List PlaceData
 places_of lines = filter_map (λ l. option_and_then region_in (line_of l)) lines
 
--- the fault of line n, behind lines with these entries and places, by what it says
+-- the fault of line n with these contents, after lines with these entries and places
 abbrev pub fault_of : ℕ → List (List ℕ) → List PlaceData → Option LineData → Option LayoutErr
 fault_of n entries places None = Some (BadLine n)
 fault_of n entries places (Some blank) = None
@@ -40,16 +40,16 @@ fault_of n entries places (Some (place p)) =
     else if nat_le 64 (length places) then Some (TooMany n)
     else then_some (list_any (shares p) places) (Overlap n)
 
--- the fault of a line behind these, if it has one
+-- the fault of a line after these lines, if it has one
 abbrev pub fault_after : List (List ℕ) → List ℕ → Option LayoutErr
 fault_after before line = fault_of (length before + 1) (entries_of before) (places_of before) (line_of line)
 
--- the fault of the first line that has one, behind those before
+-- the fault of the first line that has one, after these lines
 unfoldable pub first_fault : List (List ℕ) → List (List ℕ) → Option LayoutErr
 first_fault before [] = None
 first_fault before (line ∷ lines) = option_or (fault_after before line) (first_fault (before ++ line ∷ []) lines)
 
--- without an entry the fault is at the line behind the last
+-- the layout with its first entry; without an entry, a fault at the line after the last
 abbrev pub with_entry : ℕ → List (List ℕ) → List PlaceData → Result LayoutData LayoutErr
 with_entry n [] places = Err (BadLine (n + 1))
 with_entry n (name ∷ names) places = Ok (record { entry = name; places = places })
@@ -62,7 +62,7 @@ layout_in lines = unless (first_fault [] lines) (with_entry (length lines) (entr
 abbrev pub layout_of : List ℕ → Result LayoutData LayoutErr
 layout_of text = layout_in (lines_of text)
 
--- it is this fault; want of memory says nothing
+-- the error is this fault; out of memory says nothing of the text
 abbrev pub IsFault : Option LayoutErr → LayoutErr → Type 0
 IsFault fault (BadLine n) = fault ≡ Some (BadLine n)
 IsFault fault (Twice n) = fault ≡ Some (Twice n)
@@ -70,7 +70,7 @@ IsFault fault (TooMany n) = fault ≡ Some (TooMany n)
 IsFault fault (Overlap n) = fault ≡ Some (Overlap n)
 IsFault fault NoMemory = Unit {0}
 
--- the fault is that of this answer; want of memory says nothing of it
+-- the error is the fault in this answer; out of memory says nothing of the text
 abbrev pub IsFaultOf : Result LayoutData LayoutErr → LayoutErr → Type 0
 IsFaultOf answer (BadLine n) = answer ≡ Err (BadLine n)
 IsFaultOf answer (Twice n) = answer ≡ Err (Twice n)

@@ -1,4 +1,4 @@
--- Layouts, and what objects are linked to by one.
+-- Layouts, and the image or refusal of linking objects.
 pub mod Layouts
 pub mod Lines
 pub mod Faults

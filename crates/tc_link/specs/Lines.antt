@@ -8,7 +8,7 @@ use Rattle.tcd_text.specs.Lines.{words_of}
 use Rattle.tc_object.specs.Names.{name_of}
 use Rattle.tc_link.specs.Layouts.{PlaceData}
 
--- what a line says: nothing, the entry, or a place
+-- the contents of a line: nothing, the entry, or a place
 pub data LineData : Type 0 where
   blank : LineData
   entry : List ℕ → LineData
@@ -28,6 +28,6 @@ line_in (word ∷ name ∷ []) = if bytes_eq word (codes "entry") then option_ma
 line_in (word ∷ section ∷ at ∷ most ∷ []) = if bytes_eq word (codes "place") then place_of_words (name_of section) (hex_number_of at) (hex_number_of most) else None
 line_in _ = None
 
--- what a line says, its words parted by one space each; None for a line of none of these forms
+-- the contents of a line, with one space between two words; None for a line in none of these forms
 unfoldable pub line_of : List ℕ → Option LineData
 line_of line = line_in (words_of line)

@@ -1,4 +1,4 @@
--- What linking makes of objects by a layout: an image, or the first refusal.
+-- The result of linking objects by a layout: an image, or the first refusal.
 use Rattle.std.specs.Prelude.{◌+◌, ◌^◌, ◌==◌, ◌&&◌, ◌||◌, not, nat_lt, ℕ, Bool, List, [], ◌∷◌, ◌++◌, length, sum_by, count_by, Option, Some, None, Result, Ok, Err}
 use Rattle.std.specs.Bool.{then_some}
 use Rattle.std.specs.Option.{option_map, option_or}
@@ -22,25 +22,26 @@ pub data Refusal : Type 0 where
   reloc : ℕ → ℕ → ℕ → RelocErr → Refusal
   no_entry : Refusal
 
--- the first answer that there is, over the items of a list with their numbers, counted from n on
+-- the first answer over the items of a list with their numbers, counted from n on
 unfoldable pub first_at : {A B : Type 0} → (ℕ → A → Option B) → ℕ → List A → Option B
 first_at f n [] = None
 first_at f n (x ∷ xs) = option_or (f n x) (first_at f (n + 1) xs)
 
--- the first answer that there is, over the items of a list with their numbers, counted from 0 on
+-- the first answer over the items of a list with their numbers, counted from 0 on
 abbrev pub first_some : {A B : Type 0} → (ℕ → A → Option B) → List A → Option B
 first_some f xs = first_at f 0 xs
 
 -- ---- symbols
--- a symbol counts for a name: it's global and has the name
+-- the symbol is global and has the name
 abbrev pub has_global_name : List ℕ → SymbolData → Bool
 has_global_name name s = is_global s && bytes_eq name s.name
 
--- the symbols of objects, one object after another
+-- the symbols of all objects, in order
 abbrev pub symbols_of : List ObjectData → List SymbolData
 symbols_of objects = flat_map (λ o. o.symbols) objects
 
--- how many global symbols of these objects have the name; those of one object have distinct names
+-- the number of global symbols of these objects with this name; those of one object have distinct
+-- names
 unfoldable pub globals_named : List ObjectData → List ℕ → ℕ
 globals_named objects name = count_by (has_global_name name) (symbols_of objects)
 
@@ -77,19 +78,19 @@ no_place_of places symbols number s = then_some ((nat_lt 0 (length s.bytes) || h
 unfoldable pub no_place_in : List PlaceData → List ObjectData → Option Refusal
 no_place_in places objects = first_some (λ _ o. first_some (no_place_of places o.symbols) o.sections) objects
 
--- how many bytes the sections take in all places
+-- the number of bytes that the sections use in all places
 unfoldable pub total : List PlaceData → List SectionData → ℕ
 total places sections = sum_by (λ p. taken_bytes p.section sections) places
 
--- with these sections a place, or the 16,777,216 bytes of an image, is passed
+-- these sections are too large for a place, or for the 16,777,216 bytes of an image
 unfoldable pub is_over : List PlaceData → List SectionData → Bool
 is_over places sections = list_any (λ p. nat_lt p.most (taken_bytes p.section sections)) places || nat_lt (2 ^ 24) (total places sections)
 
--- a section with which, behind those before it, there is no room
+-- a section for which there is no room after these sections
 abbrev pub no_room_of : List PlaceData → List SectionData → SectionData → Option Refusal
 no_room_of places before s = then_some (is_over places (before ++ s ∷ [])) (no_room s.name)
 
--- the first section, of those behind others, with which there is no room
+-- the first section for which there is no room, after these sections and those before it
 unfoldable pub no_room_after : List PlaceData → List SectionData → List SectionData → Option Refusal
 no_room_after places before [] = None
 no_room_after places before (s ∷ ss) = option_or (no_room_of places before s) (no_room_after places (before ++ s ∷ []) ss)
@@ -99,12 +100,12 @@ no_room_after places before (s ∷ ss) = option_or (no_room_of places before s) 
 abbrev pub refusal_at : List GlobalData → ℕ → PlacedData → ℕ → Reloc → Option Refusal
 refusal_at globals object p number r = option_map (λ err. reloc object r.section r.offset err) (reloc_refusal globals p r)
 
--- the first relocation that can't be written, one object after another, if there is one
+-- the first relocation that can't be written, in the order of the objects, if there is one
 unfoldable pub reloc_in : List GlobalData → List PlacedData → Option Refusal
 reloc_in globals placed = first_some (λ object p. first_some (refusal_at globals object p) p.object.relocs) placed
 
 -- ---- objects
--- the objects with the addresses that the layout gives their sections
+-- the objects with the addresses of their sections in the layout
 abbrev pub placed_of : LayoutData → List ObjectData → List PlacedData
 placed_of layout objects = placed_after layout.places [] objects
 
@@ -112,16 +113,16 @@ placed_of layout objects = placed_after layout.places [] objects
 unfoldable pub contents_of : List PlacedData → List SectionData
 contents_of placed = flat_map (relocated_sections (globals_of placed)) placed
 
--- the image that begins at this address; a refusal where the entry is no global symbol
+-- the image with this entry address; a refusal if the entry is no global symbol
 abbrev pub entry_of : Option ℕ → List PlaceData → List PlacedData → Result ImageData Refusal
 entry_of None places placed = Err no_entry
 entry_of (Some address) places placed = Ok (record { entry = address; segments = segments_of places (contents_of placed) })
 
--- the image, where no relocation is refused
+-- the image of placed objects, if no relocation is refused
 abbrev pub image_of : LayoutData → List PlacedData → Result ImageData Refusal
 image_of layout placed = entry_of (global_address (globals_of placed) layout.entry) layout.places placed
 
--- what is refused before anything is relocated, the first in this order
+-- the first refusal before relocations are written, in this order
 abbrev pub refused_early : LayoutData → List ObjectData → Option Refusal
 refused_early layout objects =
     option_or (twice_in objects)

@@ -1,4 +1,4 @@
--- What contracts see of the names of global symbols in a map.
+-- Views of the map of global symbols, for contracts.
 use Rattle.std.specs.Prelude.{◌≡◌, ◌==◌, nat_lt, if◌then◌else◌, ℕ, Bool, List, map, slice_get, Option, Some, None}
 use Rattle.std.specs.Borrow.{Bor}
 use Rattle.std.specs.HashMap.{HashMap, get_by}
@@ -9,36 +9,36 @@ use Rattle.tc_link.specs.declared.definitions.Definition.{Definition}
 use Rattle.tc_link.specs.Placing.{PlacedData, GlobalData, address_in, globals_of, global_address}
 use Rattle.tc_link.specs.Linked.{globals_named}
 
--- what the map has at a key with these bytes
+-- the value of the map at a name
 abbrev pub at_name : {X S : Type 0} → HashMap (Bor (List ℕ)) X S → List ℕ → Option X
 at_name names q = get_by (λ k. bytes_eq q k.now) names
 
--- ---- how many symbols have a name
--- what the map tells of a name that it has: whether several symbols have it
+-- ---- the number of symbols with a name
+-- for a name in the map, whether several symbols have it
 abbrev pub twice_at : {S : Type 0} → HashMap (Bor (List ℕ)) Definition S → List ℕ → Option Bool
 twice_at names q = option_map (λ d. d.is_twice) (at_name names q)
 
--- what is kept of a name that so many symbols have: whether they are more than one
+-- for a name that n symbols have: None if there are none, else whether there are several
 abbrev pub twice_of_count : ℕ → Option Bool
 twice_of_count n = if n == 0 then None else Some (nat_lt 1 n)
 
--- the map tells of each name whether several objects define it as a global symbol
+-- for each name, the map knows whether several objects define it as a global symbol
 abbrev pub CountsGlobals : {S : Type 0} → HashMap (Bor (List ℕ)) Definition S → List ObjectData → Type 0
 CountsGlobals names objects = (q : List ℕ) → twice_at names q ≡ twice_of_count (globals_named objects q)
 
--- ---- where they lie
--- the address of what is defined in one of these objects
+-- ---- addresses
+-- the address of a definition in these objects
 abbrev pub address_of : List PlacedData → Definition → ℕ
 address_of placed d = option_map_or (λ p. address_in p.bases d.section d.offset) (slice_get placed d.object) 0
 
--- the address that a map gives a name, where the objects lie so
+-- the address of a name in the map, for objects with these addresses
 abbrev pub address_named : {S : Type 0} → HashMap (Bor (List ℕ)) Definition S → List PlacedData → List ℕ → Option ℕ
 address_named names placed q = option_map (address_of placed) (at_name names q)
 
--- the map gives each of these global symbols its address, and no other name
+-- the map holds exactly these global symbols with their addresses
 abbrev pub AreGlobals : {S : Type 0} → HashMap (Bor (List ℕ)) Definition S → List PlacedData → List GlobalData → Type 0
 AreGlobals names placed all = (q : List ℕ) → address_named names placed q ≡ global_address all q
 
--- wherever the objects lie, the map gives their global symbols their addresses
+-- for all addresses of the objects, the map holds exactly their global symbols
 abbrev pub DefinesGlobals : {S : Type 0} → HashMap (Bor (List ℕ)) Definition S → List ObjectData → Type 0
 DefinesGlobals names objects = (placed : List PlacedData) → map (λ p. p.object) placed ≡ objects → AreGlobals names placed (globals_of placed)

@@ -1,4 +1,4 @@
--- Where the sections and symbols of objects lie.
+-- The addresses of the sections and symbols of objects.
 use Rattle.std.specs.Prelude.{◌+◌, ◌*◌, ◌/◌, ◌%◌, ◌^◌, ◌==◌, if◌then◌else◌, ℕ, Bool, List, [], ◌∷◌, ◌++◌, length, map, filter, fold, find, slice_index, Option}
 use Rattle.std.specs.Option.{option_map, option_map_or}
 use Rattle.std.specs.List.{flat_map}
@@ -7,19 +7,19 @@ use Rattle.tc_object.specs.Objects.{global_symbol, undefined_symbol, SectionData
 use Rattle.tc_link.specs.Layouts.{PlaceData}
 
 -- ---- sections
--- the sections of objects, one object after another
+-- the sections of all objects, in order
 abbrev pub sections_of : List ObjectData → List SectionData
 sections_of objects = flat_map (λ o. o.sections) objects
 
--- the least multiple of 4 that isn't below
+-- the least multiple of 4 that isn't below n
 abbrev pub round_up : ℕ → ℕ
 round_up n = (n + 3) / 4 * 4
 
--- how many bytes of the place for this name are taken, where n were, with one section more
+-- the number of used bytes of the place for this name after a further section
 abbrev pub with_size : List ℕ → ℕ → SectionData → ℕ
 with_size name n s = if bytes_eq name s.name then round_up n + length s.bytes else n
 
--- how many bytes of their place the sections of this name take, each beginning at a multiple of 4
+-- the number of bytes of their place that the sections of this name use, each at a multiple of 4
 unfoldable pub taken_bytes : List ℕ → List SectionData → ℕ
 taken_bytes name sections = fold (with_size name) 0 sections
 
@@ -27,21 +27,21 @@ taken_bytes name sections = fold (with_size name) 0 sections
 abbrev pub place_of : List PlaceData → List ℕ → Option PlaceData
 place_of places name = find (λ p. bytes_eq name p.section) places
 
--- where a section behind others begins; 0 where it has no place
+-- the address of a section after these sections, and 0 if it has no place
 abbrev pub base_of : List PlaceData → List SectionData → SectionData → ℕ
 base_of places before s = option_map_or (λ p. p.at + round_up (taken_bytes s.name before)) (place_of places s.name) 0
 
--- where sections behind others begin, each behind those before it
+-- the addresses of sections after these sections, each after the one before it
 unfoldable pub bases_after : List PlaceData → List SectionData → List SectionData → List ℕ
 bases_after places before [] = []
 bases_after places before (s ∷ ss) = base_of places before s ∷ bases_after places (before ++ s ∷ []) ss
 
--- an object, and where each of its sections begins
+-- an object, and the address of each of its sections
 pub record PlacedData : Type 0 where
   pub object : ObjectData
   pub bases : List ℕ
 
--- objects behind sections of others, one object after another
+-- objects with their addresses, after these sections, in order
 unfoldable pub placed_after : List PlaceData → List SectionData → List ObjectData → List PlacedData
 placed_after places before [] = []
 placed_after places before (o ∷ os) = record { object = o; bases = bases_after places before o.sections } ∷ placed_after places (before ++ o.sections) os
@@ -60,7 +60,7 @@ pub record GlobalData : Type 0 where
   pub name : List ℕ
   pub address : ℕ
 
--- a global symbol's name, and its address where its sections begin at these
+-- a global symbol's name, with its address if its sections begin at these addresses
 abbrev pub global_data : List ℕ → SymbolData → GlobalData
 global_data bases s = record { name = s.name; address = address_in bases s.section s.offset }
 
@@ -72,7 +72,8 @@ globals_of placed = flat_map (λ p. map (global_data p.bases) (filter is_global 
 abbrev pub global_address : List GlobalData → List ℕ → Option ℕ
 global_address globals name = option_map (λ g. g.address) (find (λ g. bytes_eq name g.name) globals)
 
--- the address of a symbol of a placed object: its own, or of the global one for which it stands; 0 where there is none
+-- The address of a symbol of a placed object. A defined symbol has its own address, an undefined
+-- one that of the global symbol with its name, or 0 if there is none.
 abbrev pub symbol_address : List GlobalData → List ℕ → SymbolData → ℕ
 symbol_address globals bases s = if s.kind == undefined_symbol then option_map_or (λ a. a) (global_address globals s.name) 0 else address_in bases s.section s.offset
 

@@ -1,8 +1,8 @@
--- What relocations keep of sections.
+-- The parts of sections that relocations don't change.
 use Rattle.std.specs.Prelude.{ℕ, List, length}
 use Rattle.tc_object.specs.Objects.{SectionData}
 
--- the name of a section and how many bytes it has
+-- the name and the length of a section
 pub record Shape : Type 0 where
   pub name : List ℕ
   pub size : ℕ

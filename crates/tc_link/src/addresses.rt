@@ -1,4 +1,4 @@
-// Addresses of symbols.
+// Computes the addresses of symbols.
 ghost use Rattle.std.specs.Prelude.{◌≡◌, List, slice_index, map, IfOk, IfErr};
 ghost use Rattle.tc_link.specs.Placing.{GlobalData, PlacedData, address_in, symbol_address, symbol_addresses};
 ghost use Rattle.tc_link.specs.Relocated.{value_of};
@@ -10,7 +10,7 @@ use crate::definitions::Definition;
 use crate::placed::Placed;
 use std::alloc::Global;
 use std::collections::HashMap;
-use tc_object::{Reloc, SymbolRef};
+use tc_object::{Reloc, SymbolRef, UNDEFINED_SYMBOL};
 
 /// The address of an offset in a section of this number.
 pub(crate) fn address_in(bases: &[u64], section: u16, offset: u32) -> u32
@@ -23,7 +23,7 @@ pub(crate) fn address_in(bases: &[u64], section: u16, offset: u32) -> u32
     (base.wrapping_add(u64::from(offset)) % 4_294_967_296) as u32
 }
 
-// The address of what is defined in one of these objects.
+// The address of a definition in these objects.
 fn address_of(placed: &[Placed<'_, '_>], definition: Definition) -> u32
     ensures { result ≡ address_of placed.now definition }
 {
@@ -33,7 +33,7 @@ fn address_of(placed: &[Placed<'_, '_>], definition: Definition) -> u32
     }
 }
 
-/// The address of a global symbol of these objects, if one has the name.
+/// The address of the global symbol with this name, if there is one.
 pub(crate) fn address_named(
     names: &HashMap<&str, Definition>,
     placed: &[Placed<'_, '_>],
@@ -47,7 +47,7 @@ pub(crate) fn address_named(
     }
 }
 
-// The address of a symbol of an object whose sections begin there; 0 where it has none.
+// The address of a symbol of an object whose sections begin at `bases`, and 0 if it has none.
 fn symbol_address(
     names: &HashMap<&str, Definition>,
     placed: &[Placed<'_, '_>],
@@ -57,7 +57,7 @@ fn symbol_address(
     ensures { (all : List GlobalData) → AreGlobals names.now placed.now all
         → result ≡ symbol_address all bases.now symbol.now }
 {
-    if symbol.kind != 0 {
+    if symbol.kind != UNDEFINED_SYMBOL {
         return address_in(bases, symbol.section, symbol.offset);
     }
     match address_named(names, placed, symbol.name) {
@@ -66,7 +66,7 @@ fn symbol_address(
     }
 }
 
-// The addresses of symbols of an object whose sections begin there, one after another.
+// The addresses of the symbols of an object whose sections begin at `bases`, in order.
 fn addresses_in(
     alloc: Global,
     names: &HashMap<&str, Definition>,
@@ -86,7 +86,7 @@ fn addresses_in(
     Ok(addresses)
 }
 
-/// The addresses of the symbols of an object, by their numbers.
+/// The addresses of the symbols of a placed object, by their numbers.
 pub(crate) fn symbol_addresses(
     alloc: Global,
     names: &HashMap<&str, Definition>,
@@ -102,7 +102,7 @@ pub(crate) fn symbol_addresses(
     addresses_in(alloc, names, placed, &each.bases, &object.symbols)
 }
 
-// The address of the symbol of this number; 0 where there is none.
+// The address of the symbol with this number, and 0 if there is no such symbol.
 fn address_at(addresses: &[u32], number: u16) -> u32
     ensures { result ≡ slice_index addresses.now number }
 {
@@ -112,7 +112,7 @@ fn address_at(addresses: &[u32], number: u16) -> u32
     }
 }
 
-/// What a relocation takes, of symbols at these addresses: that of its symbol and the addend.
+/// The value of a relocation: the address of its symbol plus the addend.
 pub(crate) fn value_of(addresses: &[u32], reloc: &Reloc) -> u32
     ensures { (all : List GlobalData) (p : PlacedData) → addresses.now ≡ symbol_addresses all p
         → result ≡ value_of all p reloc.now }

@@ -1,7 +1,7 @@
-// Where global symbols are defined.
+// The definition of a global symbol.
 
-/// Where the first global symbol of a name stands: the number of its object, and its section and offset there; and
-/// whether another one has the name.
+/// The first definition of a name as a global symbol: the number of its object, its section and its
+/// offset. `is_twice` is set if another object defines the name too.
 #[derive(Clone, Copy)]
 pub(crate) struct Definition {
     pub(crate) object: usize,

@@ -1,4 +1,4 @@
-// The entry and the places of the lines so far.
+// Builds a layout line by line, with the first fault.
 ghost use Rattle.std.specs.Prelude.{◌≡◌};
 ghost use Rattle.tc_link.specs.Layouts.{shares_at};
 
@@ -7,6 +7,10 @@ use crate::{Layout, LayoutErr, Place};
 use std::alloc::Global;
 use std::marker::Model;
 
+// The most places of a layout.
+const MOST_PLACES: usize = 64;
+
+/// The entry and the places of the lines so far.
 #[derive(Drop)]
 pub(crate) struct Draft {
     entry: Option<String>,
@@ -36,7 +40,7 @@ impl Draft {
     ghost use Rattle.tc_link.specs.Seen.{with_line, line_data, IsGood};
     ghost use Rattle.tc_link.specs.declared.layout_errors.LayoutErr.TheVariants.{Twice, TooMany, Overlap, NoMemory};
 
-    /// No line.
+    /// A draft without lines.
     pub(crate) fn new(alloc: Global) -> Draft
         ensures { result ≡ record { entries = []; places = [] } }
     {
@@ -55,14 +59,14 @@ impl Draft {
             .any(|place| section == place.section.as_str())
     }
 
-    // Whether there is a place that shares a byte with this one.
+    // Whether some place shares a byte with this one.
     fn shares(&self, at: u32, most: u32) -> bool
         ensures { result ≡ list_any (λ q. shares_at at most q) self.now.places }
     {
         self.places.iter().any(|other| share(at, most, other))
     }
 
-    // The fault of a place behind these lines, at line `number`.
+    // The fault of a place in line `number`, if it has one.
     fn fault_at(&self, number: u32, section: &str, at: u32, most: u32) -> Option<LayoutErr>
         requires { IsPlace (record { section = section.now; at = at; most = most }) }
         ensures fault { result ≡ fault_of number self.now.entries self.now.places
@@ -74,7 +78,7 @@ impl Draft {
         if self.is_placed(section) {
             return Some(LayoutErr::Twice(number));
         }
-        if self.places.len() >= 64 {
+        if self.places.len() >= MOST_PLACES {
             return Some(LayoutErr::TooMany(number));
         }
         if self.shares(at, most) {
@@ -117,7 +121,7 @@ impl Draft {
         Ok(())
     }
 
-    // Adds what line `number` says, or tells its fault.
+    // Adds the contents of line `number`, or returns the line's fault.
     fn add_good(&mut self, alloc: Global, number: u32, line: Line<'_>) -> Result<(), LayoutErr>
         requires { IsGood (line_data line) }
         ensures good { OnOk result
@@ -144,7 +148,7 @@ impl Draft {
         }
     }
 
-    /// Adds what line `number` says, or tells its fault.
+    /// Adds line `number`, or returns its fault.
     pub(crate) fn add_line(
         &mut self,
         alloc: Global,
@@ -163,7 +167,7 @@ impl Draft {
         }
     }
 
-    /// The layout of so many lines.
+    /// The layout after `count` lines, or the fault of a layout without an entry.
     pub(crate) fn finish(self, count: u32) -> Result<Layout, LayoutErr>
         requires { count < 2 ^ 31 }
         ensures ok { IfOk result (λ l. with_entry count self.entries self.places ≡ Ok l) }
@@ -177,7 +181,7 @@ impl Draft {
     }
 }
 
-// Whether a place of these bytes shares one with another.
+// Whether `most` bytes from `at` on share a byte with another place.
 fn share(at: u32, most: u32, other: &Place) -> bool
     ensures { result ≡ shares_at at most other.now }
 {

@@ -4,11 +4,12 @@ ghost use Rattle.tc_link.specs.declared.layout_errors.LayoutErr.TheVariants.{NoM
 
 use std::alloc::{AllocError, AllocFailed};
 
-/// Why a text is no layout: the first line with a fault, counted from 1, and its first fault in this order; or want of
-/// memory.
+/// Why a text is no layout: the first line with a fault, counted from 1, and its first fault in
+/// this order; or out of memory.
 #[derive(Clone, Copy, Debug, PartialEq, Eq)]
 pub enum LayoutErr {
-    /// A line of no form, a place past 2^32 or at no multiple of 4; the line behind the last where there is no entry.
+    /// A line in none of the forms, a place past 2^32, or one at no multiple of 4. For a layout
+    /// without an entry, the line after the last.
     BadLine(u32),
     /// A second entry, or a second place for the same sections.
     Twice(u32),
@@ -16,6 +17,7 @@ pub enum LayoutErr {
     TooMany(u32),
     /// A place that shares a byte with an earlier one.
     Overlap(u32),
+    /// Out of memory.
     NoMemory,
 }
 

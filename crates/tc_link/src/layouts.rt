@@ -1,16 +1,19 @@
-// Layouts, with the facts that they always keep.
+// Layouts, with the invariant of each layout.
 use crate::LayoutErr;
 use crate::drafts::Draft;
 use std::alloc::Global;
 use std::marker::Model;
 use tcd_text::cut_line;
 
-/// The bytes from `at` on, at most `most` of them, for the sections of one name. `at` is a multiple of 4, and no byte
-/// passes 2^32.
+/// A place for the sections of one name: at most `most` bytes from `at` on. `at` is a multiple of
+/// 4, and no byte is past 2^32.
 #[derive(Drop)]
 pub struct Place {
+    /// The name of the sections that go here.
     pub section: String,
+    /// The address of the first byte, a multiple of 4.
     pub at: u32,
+    /// The most bytes of these sections together.
     pub most: u32,
 }
 
@@ -25,11 +28,13 @@ impl Model for Place {
     ghost invariant = { λ p. IsPlace (record { section = string_bytes p.section; at = p.at; most = p.most }) };
 }
 
-/// The name of the symbol at which the program begins, and at most 64 places, each for other sections, no two of which
-/// share a byte.
+/// The name of the symbol at which the program begins, and at most 64 places. Each place is for
+/// other sections, and no two places share a byte.
 #[derive(Drop)]
 pub struct Layout {
+    /// The name of the symbol at which the program begins.
     pub entry: String,
+    /// The places, at most 64, in the order of the text.
     pub places: Vec<Place>,
 }
 
@@ -48,8 +53,9 @@ impl Layout {
     ghost use Rattle.std.specs.Prelude.{◌≡◌, ◌≤◌, ◌^◌, length, Ok, IfOk, IfErr};
     ghost use Rattle.tc_link.specs.Faults.{layout_of, IsFaultOf};
 
-    /// The layout that a text gives, or its first fault. The lines are `entry NAME` and `place SECTION AT MOST`, the
-    /// numbers of eight upper-case hex digits, the words parted by one space; empty lines say nothing.
+    /// The layout in a text, or its first fault. The lines are `entry NAME` and `place SECTION AT
+    /// MOST`, with numbers of eight upper-case hex digits. One space separates two words. Empty
+    /// lines are skipped.
     pub fn read(alloc: Global, bytes: &[u8]) -> Result<Layout, LayoutErr>
         requires { length bytes.now ≤ 2 ^ 30 }
         ensures ok { IfOk result (λ l. layout_of bytes.now ≡ Ok l) }

@@ -1,4 +1,4 @@
-//! Layouts of the sections of programs, and the linker, which puts objects together as an image.
+//! Layouts of the sections of programs, and the linker, which links objects to an image.
 #![tactic(auto)]
 
 mod addresses;

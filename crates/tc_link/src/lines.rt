@@ -1,4 +1,4 @@
-// The lines of a layout.
+// Reads the lines of a layout.
 ghost use Rattle.std.specs.Prelude.{◌≡◌, codes, if◌then◌else◌, IfSome, Some, None};
 ghost use Rattle.std.specs.Option.{option_map, option_copied};
 ghost use Rattle.std.specs.Str.{bytes_eq};
@@ -11,7 +11,10 @@ use crate::text::is_text;
 use tc_object::name_of;
 use tcd_text::{cut_word, hex_number};
 
-/// What a line says.
+// The end of the address space.
+const ADDRESS_END: u64 = 0x1_0000_0000;
+
+/// The contents of a line.
 #[derive(Clone, Copy)]
 pub(crate) enum Line<'a> {
     Blank,
@@ -23,7 +26,7 @@ pub(crate) enum Line<'a> {
     },
 }
 
-// The name that a word is.
+// A word as a name, if it is one.
 fn name_in(word: &[u8]) -> Option<&str>
     ensures value { option_copied result ≡ name_of word.now }
     ensures good { IfSome result (λ name. name_of name.now ≡ Some name.now) }
@@ -46,14 +49,14 @@ fn entry_line<'a>(word: &[u8], name: &'a [u8]) -> Option<Line<'a>>
     }
 }
 
-// A place for sections of this name.
+// The place for sections of this name, if it is aligned and ends by 2^32.
 fn region<'a>(section: &'a str, at: u32, most: u32) -> Option<Line<'a>>
     requires { name_of section.now ≡ Some section.now }
     ensures line { option_map line_data result
         ≡ place_of_words (Some section.now) (Some at) (Some most) }
     ensures good { IfSome result (λ line. IsGood (line_data line)) }
 {
-    if at % 4 == 0 && u64::from(at) + u64::from(most) <= 4_294_967_296 {
+    if at % 4 == 0 && u64::from(at) + u64::from(most) <= ADDRESS_END {
         Some(Line::Region { section, at, most })
     } else {
         None
@@ -82,7 +85,7 @@ fn region_line<'a>(word: &[u8], section: &'a [u8], at: &[u8], most: &[u8]) -> Op
     region(section, at, most)
 }
 
-/// What a line says; nothing where it has none of the forms.
+/// The contents of a line; None if it has none of the forms.
 #[tactic(auto, using(crate::proofs::LineLaws::five_words), unfolding(crate::specs::Lines::line_of))]
 pub(crate) fn line_of(line: &[u8]) -> Option<Line<'_>>
     ensures line { option_map line_data result ≡ line_of line.now }

@@ -1,4 +1,4 @@
-// Linking.
+// Links objects to an image.
 ghost use Rattle.std.specs.Prelude.{◌≡◌, ◌≤◌, ◌<◌, ◌^◌, ℕ, length, slice_index_or, None, Ok, Err, OnOk, IfOk, IfErr, IfSome};
 ghost use Rattle.elf_image.specs.Images.{ImageData, AreBytes, IsImage};
 ghost use Rattle.tc_object.specs.Objects.{ObjectData, IsObject};
@@ -24,7 +24,8 @@ use std::collections::HashMap;
 use tc_object::{Object, ObjectRef};
 use tcd_base::NoMemory;
 
-// The objects with the addresses of their sections, or what is refused before anything is relocated.
+// The objects with the addresses of their sections, or the first refusal before relocations are
+// written.
 fn place_all<'a, 'b>(
     alloc: Global,
     names: &HashMap<&str, Definition>,
@@ -69,7 +70,7 @@ fn make(
     Ok(Image { entry, segments })
 }
 
-/// The image of objects that stay where they lie, as `link` makes it.
+/// The image of borrowed objects, or the first refusal, as for `link`.
 pub fn link_borrowed(
     alloc: Global,
     objects: &[ObjectRef<'_>],
@@ -85,7 +86,7 @@ pub fn link_borrowed(
     make(alloc, &names, &placed, layout)
 }
 
-// Objects in their places.
+// Borrows each object.
 fn borrow_objects(alloc: Global, objects: &[Object]) -> Result<Vec<ObjectRef<'_>>, NoMemory>
     ensures { IfOk result (λ parts. parts.items ≡ objects.now) }
 {
@@ -97,9 +98,11 @@ fn borrow_objects(alloc: Global, objects: &[Object]) -> Result<Vec<ObjectRef<'_>
     Ok(parts)
 }
 
-/// The image of objects that are laid out this way, or the first refusal. The sections of one name stand in their place
-/// one after another, in the order of the objects, each at a multiple of 4, the gaps zero; each place with bytes gives
-/// one segment, in the order of the layout.
+/// The image of objects in this layout, or the first refusal.
+///
+/// The sections of one name are in their place one after another, in the order of the objects. Each
+/// begins at a multiple of 4, and the gaps are zero. Each place with bytes becomes one segment, in
+/// the order of the layout.
 pub fn link(alloc: Global, objects: &[Object], layout: &Layout) -> Result<Image, LinkErr>
     requires { length objects.now ≤ 65535 }
     ensures ok { IfOk result (λ image. image_of_objects objects.now layout.now ≡ Ok image) }

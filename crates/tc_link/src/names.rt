@@ -1,4 +1,4 @@
-// The global symbols of objects by name, in a map, so that each is looked up in few steps.
+// A map of the global symbols of objects by name, so that each look-up is a few steps.
 ghost use Rattle.std.specs.Prelude.{◌≡◌, ◌+◌, ◌++◌, ◌∷◌, nat_lt, ◌==◌, ℕ, List, [], true, false, count_by, map, filter, slice_get, OnOk, IfOk, IfErr, if◌then◌else◌, None, Some};
 ghost use Rattle.std.specs.Str.{bytes_eq};
 ghost use Rattle.tc_object.specs.Objects.{ObjectData};
@@ -11,9 +11,9 @@ use crate::LinkErr;
 use crate::definitions::Definition;
 use std::alloc::Global;
 use std::collections::HashMap;
-use tc_object::{ObjectRef, SymbolRef};
+use tc_object::{GLOBAL_SYMBOL, ObjectRef, SymbolRef};
 
-// One more symbol of this name; the first one stays.
+// Adds a definition of this name. The first one keeps its place.
 fn add_name<'a>(
     names: &mut HashMap<&'a str, Definition>,
     name: &'a str,
@@ -41,7 +41,7 @@ fn add_name<'a>(
     Ok(())
 }
 
-// One more symbol of the object of this number, where it is global.
+// Adds a symbol of object number `object`, if it is global.
 fn add_symbol<'a>(
     names: &mut HashMap<&'a str, Definition>,
     object: usize,
@@ -56,7 +56,7 @@ fn add_symbol<'a>(
         (before ++ map (global_data p.bases) (filter is_global (symbol.now ∷ [])))) }
     ensures err { IfErr result (λ e. e ≡ NoMemory) }
 {
-    let is_global = symbol.kind == 2;
+    let is_global = symbol.kind == GLOBAL_SYMBOL;
     if !is_global {
         return Ok(());
     }
@@ -69,7 +69,7 @@ fn add_symbol<'a>(
     add_name(names, symbol.name, definition)
 }
 
-// The global ones of these symbols of the object of this number more.
+// Adds the global symbols of object number `object`.
 fn add_symbols<'a>(
     names: &mut HashMap<&'a str, Definition>,
     object: usize,
@@ -89,12 +89,12 @@ fn add_symbols<'a>(
     Ok(())
 }
 
-// How many symbols of objects are global: no more names than these.
+// The number of global symbols of all objects, which bounds the number of names.
 fn count_globals(objects: &[ObjectRef<'_>]) -> usize {
     let mut count = 0usize;
     for object in objects {
         for symbol in &object.symbols {
-            if symbol.kind == 2 {
+            if symbol.kind == GLOBAL_SYMBOL {
                 count = count.saturating_add(1);
             }
         }
@@ -102,7 +102,7 @@ fn count_globals(objects: &[ObjectRef<'_>]) -> usize {
     count
 }
 
-// No names, with room for so many.
+// An empty map, with capacity for `count` names.
 fn no_names<'a>(alloc: Global, count: usize) -> Result<HashMap<&'a str, Definition>, LinkErr>
     ensures none { IfOk result (λ names. (q : List ℕ) → at_name names q ≡ None) }
     ensures err { IfErr result (λ e. e ≡ NoMemory) }
@@ -111,7 +111,7 @@ fn no_names<'a>(alloc: Global, count: usize) -> Result<HashMap<&'a str, Definiti
     Ok(names)
 }
 
-/// The global symbols of objects by name.
+/// The map of the global symbols of objects by name.
 pub(crate) fn names_of<'a>(
     alloc: Global,
     objects: &[ObjectRef<'a>],
@@ -127,7 +127,7 @@ pub(crate) fn names_of<'a>(
     Ok(names)
 }
 
-/// Whether no name is that of more than one global symbol. It goes over the names, and looks none up.
+/// Whether no name has two definitions. This visits the names once, without look-ups.
 pub(crate) fn are_single(names: &HashMap<&str, Definition>) -> bool
     ensures { result ≡ true → (objects : List ObjectData) → CountsGlobals names.now objects
         → (q : List ℕ) → nat_lt 1 (globals_named objects q) ≡ false }
@@ -135,7 +135,7 @@ pub(crate) fn are_single(names: &HashMap<&str, Definition>) -> bool
     names.values().all(|definition| !definition.is_twice)
 }
 
-/// Whether more than one global symbol has the name.
+/// Whether several global symbols have the name.
 pub(crate) fn is_twice(names: &HashMap<&str, Definition>, name: &str) -> bool
     ensures { (n : ℕ) → twice_at names.now name.now ≡ twice_of_count n → result ≡ nat_lt 1 n }
 {

@@ -1,4 +1,4 @@
-// How full the places are, and where sections begin.
+// Computes the sizes of places, and the addresses of sections.
 ghost use Rattle.std.specs.Prelude.{◌≡◌, ◌≤◌, ◌<◌, ◌+◌, ◌++◌, ◌∷◌, [], ◌*◌, ◌^◌, ℕ, List, length, slice_index, position, IfSome, OnOk, IfOk, IfErr, None, false};
 ghost use Rattle.tc_object.specs.Objects.{SectionData};
 ghost use Rattle.std.specs.Str.{bytes_eq};
@@ -11,7 +11,10 @@ use crate::{LinkErr, Place};
 use std::alloc::Global;
 use tc_object::SectionRef;
 
-/// The least multiple of 4 that isn't below.
+// The most bytes of an image.
+const MOST_BYTES: u64 = 0x100_0000;
+
+/// The least multiple of 4 that isn't below `size`.
 pub(crate) fn round_up(size: u64) -> u64
     requires { size ≤ 2 ^ 33 }
     ensures { result ≡ round_up size }
@@ -19,7 +22,7 @@ pub(crate) fn round_up(size: u64) -> u64
     (size + 3) / 4 * 4
 }
 
-/// How many bytes of a place are taken, with this section.
+/// The number of used bytes of a place after a further section.
 fn with_size(place: &Place, size: u64, section: &SectionRef<'_>) -> u64
     requires { size ≤ 2 ^ 32 }
     ensures { result ≡ with_size place.now.section size section.now }
@@ -31,7 +34,7 @@ fn with_size(place: &Place, size: u64, section: &SectionRef<'_>) -> u64
     }
 }
 
-// How many bytes of each place are taken, with one section more.
+// Adds a section to the number of used bytes of its place.
 fn add_size(places: &[Place], sizes: &mut [u64], section: &SectionRef<'_>)
     requires count { length sizes.old ≡ length places.now }
     requires small { AreSmall sizes.old }
@@ -43,7 +46,7 @@ fn add_size(places: &[Place], sizes: &mut [u64], section: &SectionRef<'_>)
     }
 }
 
-// Whether a place or the bytes of an image are passed.
+// Whether a place is too small, or all places together are above the limit of an image.
 #[tactic(auto, unfolding(crate::specs::Linked::is_over, crate::specs::Linked::total))]
 fn is_over(places: &[Place], sizes: &[u64]) -> bool
     requires count { length sizes.now ≡ length places.now }
@@ -59,7 +62,7 @@ fn is_over(places: &[Place], sizes: &[u64]) -> bool
         }
         total += sizes[i];
     }
-    total > 16_777_216
+    total > MOST_BYTES
 }
 
 fn find_place(places: &[Place], name: &str) -> Option<usize>
@@ -71,7 +74,7 @@ fn find_place(places: &[Place], name: &str) -> Option<usize>
         .position(|place| name == place.section.as_str())
 }
 
-// Where a section begins behind those that take so many bytes of each place.
+// The address of a section after sections that use these numbers of bytes.
 fn base_of(places: &[Place], sizes: &[u64], section: &SectionRef<'_>) -> u64
     requires count { length sizes.now ≡ length places.now }
     requires small { AreSmall sizes.now }
@@ -87,7 +90,7 @@ fn base_of(places: &[Place], sizes: &[u64], section: &SectionRef<'_>) -> u64
     }
 }
 
-/// Where the sections of an object begin.
+/// The addresses of the sections of an object, or the first section without room.
 pub(crate) fn bases_of(
     alloc: Global,
     places: &[Place],

@@ -1,4 +1,4 @@
-// Objects whose sections have their addresses.
+// Gives the sections of objects their addresses.
 ghost use Rattle.std.specs.Prelude.{◌≡◌, ◌≤◌, ◌<◌, [], ℕ, IfOk, IfErr, length, slice_index, slice_index_or, None};
 ghost use Rattle.tc_object.specs.Objects.{ObjectData, IsObject};
 ghost use Rattle.tc_link.specs.Placing.{placed_after, sections_of};
@@ -13,7 +13,7 @@ use std::alloc::Global;
 use std::marker::Model;
 use tc_object::ObjectRef;
 
-/// An object, and where each of its sections begins.
+/// An object, and the address of each of its sections.
 #[derive(Drop)]
 pub(crate) struct Placed<'a, 'b> {
     pub(crate) object: &'a ObjectRef<'b>,
@@ -28,8 +28,8 @@ impl<'a, 'b> Model for Placed<'a, 'b> {
     ghost view = { λ p. record { object = p.object.now; bases = p.bases.items } };
 }
 
-// No byte of a place is taken.
-fn none_taken(alloc: Global, places: &[Place]) -> Result<Vec<u64>, LinkErr>
+// The numbers of used bytes before the first section: zero for each place.
+fn empty_sizes(alloc: Global, places: &[Place]) -> Result<Vec<u64>, LinkErr>
     ensures count { IfOk result (λ sizes. length sizes.items ≡ length places.now) }
     ensures none { IfOk result (λ sizes. (k : ℕ) → slice_index sizes.items k ≡ 0) }
     ensures err { IfErr result (λ e. e ≡ NoMemory) }
@@ -38,7 +38,8 @@ fn none_taken(alloc: Global, places: &[Place]) -> Result<Vec<u64>, LinkErr>
     Ok(sizes)
 }
 
-// The same for places of which so many bytes are taken by no section.
+// The objects with the addresses of their sections, or the first section without room. `sizes` are
+// the numbers of used bytes of the places, all zero at first.
 fn place_objects<'a, 'b>(
     alloc: Global,
     places: &[Place],
@@ -63,7 +64,7 @@ fn place_objects<'a, 'b>(
     Ok(placed)
 }
 
-/// The objects with the addresses of their sections, or the first section with which there is no room.
+/// The objects with the addresses of their sections, or the first section without room.
 pub(crate) fn placed_of<'a, 'b>(
     alloc: Global,
     places: &[Place],
@@ -76,6 +77,6 @@ pub(crate) fn placed_of<'a, 'b>(
     ensures room { IfOk result (λ _. no_room_after places.now [] (sections_of objects.now) ≡ None) }
     ensures err { IfErr result (IsRefusal (no_room_after places.now [] (sections_of objects.now))) }
 {
-    let mut sizes = none_taken(alloc, places)?;
+    let mut sizes = empty_sizes(alloc, places)?;
     place_objects(alloc, places, &mut sizes, objects)
 }

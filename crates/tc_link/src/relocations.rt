@@ -1,4 +1,4 @@
-// Sections with their relocations.
+// Writes relocations into sections.
 ghost use Rattle.std.specs.Prelude.{◌≡◌, ◌≤◌, ◌<◌, ◌+◌, ◌++◌, ◌^◌, [], ℕ, List, length, map, fold, take, drop, slice_get, Option, Some, None, OnOk, OnErr, IfOk, IfErr, MatchResult};
 ghost use Rattle.tc_object.specs.Objects.{SectionData, size_at};
 ghost use Rattle.tc_reloc.specs.Refusals.{refusal_of};
@@ -20,7 +20,7 @@ use std::collections::HashMap;
 use tc_object::{Reloc, SectionRef};
 use tc_reloc::{RelocErr, apply};
 
-// A copy of a section.
+// A section with a copy of its bytes.
 fn copy_of<'a>(alloc: Global, section: &SectionRef<'a>) -> Result<WrittenSection<'a>, LinkErr>
     ensures ok { IfOk result (λ copy. copy ≡ section.now) }
     ensures err { IfErr result (λ e. e ≡ NoMemory) }
@@ -32,7 +32,7 @@ fn copy_of<'a>(alloc: Global, section: &SectionRef<'a>) -> Result<WrittenSection
     })
 }
 
-// Copies of sections.
+// Sections with copies of their bytes.
 fn copies_of<'a>(
     alloc: Global,
     sections: &[SectionRef<'a>],
@@ -55,7 +55,7 @@ fn field_at(bytes: &[u8], at: usize) -> [u8; 4]
     [bytes[at], bytes[at + 1], bytes[at + 2], bytes[at + 3]]
 }
 
-// Four bytes written at an offset.
+// Writes four bytes at an offset.
 fn put_field(bytes: &mut [u8], at: usize, field: [u8; 4])
     requires { at + 4 ≤ length bytes.old }
     ensures { bytes.new ≡ with_field_at bytes.old at field }
@@ -63,7 +63,7 @@ fn put_field(bytes: &mut [u8], at: usize, field: [u8; 4])
     bytes[at..at + 4].copy_from_slice(&field);
 }
 
-// One relocation of a section, written.
+// Writes a relocation into its section.
 fn write_reloc(
     section: &mut WrittenSection<'_>,
     reloc: &Reloc,
@@ -84,7 +84,7 @@ fn write_reloc(
     Ok(())
 }
 
-// One relocation of the sections of an object, written.
+// Writes a relocation into the sections of its object.
 fn write_in(
     addresses: &[u32],
     placed: &Placed<'_, '_>,
@@ -108,7 +108,7 @@ fn write_in(
     write_reloc(&mut sections[reloc.section as usize], reloc, place, value)
 }
 
-// The relocations of an object, written in its sections, or the first that can't be written.
+// Writes the relocations of an object into its sections, or returns the first that is refused.
 #[inline(never)]
 fn write_all(
     addresses: &[u32],
@@ -141,7 +141,7 @@ fn write_all(
     Ok(())
 }
 
-// The sections of an object with its relocations written, or the first that can't be written.
+// The sections of an object with its relocations written, or the first relocation that is refused.
 fn relocate<'a>(
     alloc: Global,
     names: &HashMap<&str, Definition>,
@@ -163,7 +163,7 @@ fn relocate<'a>(
     Ok(sections)
 }
 
-// More sections.
+// Adds sections to the list.
 fn append<'a>(
     contents: &mut Vec<WrittenSection<'a>>,
     more: Vec<WrittenSection<'a>>,
@@ -177,7 +177,7 @@ fn append<'a>(
     Ok(())
 }
 
-/// All sections with their relocations written, or the first relocation that can't be written.
+/// All sections with their relocations written, or the first relocation that is refused.
 #[tactic(auto, unfolding(crate::specs::Linked::contents_of, crate::specs::Linked::reloc_in))]
 pub(crate) fn contents_of<'a>(
     alloc: Global,

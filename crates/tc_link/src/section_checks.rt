@@ -1,4 +1,4 @@
-// Sections without a place.
+// Checks that sections have places.
 ghost use Rattle.std.specs.Prelude.{◌≡◌, ◌<◌, ◌==◌, ◌&&◌, ◌||◌, nat_lt, not, ℕ, Bool, List, length, slice_index_or, None, OnOk, IfOk, IfErr};
 ghost use Rattle.std.specs.Option.{option_map};
 ghost use Rattle.tc_object.specs.Objects.{SymbolData};
@@ -10,7 +10,7 @@ ghost use Rattle.tc_link.specs.declared.errors.LinkErr.TheVariants.{NoMemory};
 use crate::symbol_checks::mark;
 use crate::{LinkErr, Place};
 use std::alloc::Global;
-use tc_object::{ObjectRef, SectionRef};
+use tc_object::{ObjectRef, SectionRef, UNDEFINED_SYMBOL};
 
 /// Whether there is a place for sections of this name.
 pub(crate) fn is_placed(places: &[Place], name: &str) -> bool
@@ -19,7 +19,7 @@ pub(crate) fn is_placed(places: &[Place], name: &str) -> bool
     places.iter().any(|place| name == place.section.as_str())
 }
 
-// In which sections of an object a symbol is defined.
+// For each section of an object, whether a symbol is defined in it.
 fn sections_with_symbols(alloc: Global, object: &ObjectRef<'_>) -> Result<Vec<bool>, LinkErr>
     ensures held { IfOk result (λ held. (k : ℕ) (d : Bool) → k < length object.now.sections
         → slice_index_or held.items k d ≡ has_symbol object.now.symbols k) }
@@ -28,14 +28,14 @@ fn sections_with_symbols(alloc: Global, object: &ObjectRef<'_>) -> Result<Vec<bo
 {
     let mut held = vec![in alloc; false; object.sections.len()]?;
     for symbol in &object.symbols {
-        if symbol.kind != 0 {
+        if symbol.kind != UNDEFINED_SYMBOL {
             mark(&mut held, symbol.section as usize);
         }
     }
     Ok(held)
 }
 
-// Whether a section in which a symbol is defined or not needs a place and has none.
+// Whether a section needs a place and has none. `held` says whether a symbol is defined in it.
 fn is_unplaced(places: &[Place], held: bool, section: &SectionRef<'_>) -> bool
     ensures { result
         ≡ ((nat_lt 0 (length section.now.bytes) || held)
@@ -65,7 +65,7 @@ fn first_unplaced<'a>(
     None
 }
 
-/// That each section that has bytes or in which a symbol is defined has a place.
+/// Checks that each section with bytes, or with a symbol, has a place.
 pub(crate) fn check_places(
     alloc: Global,
     places: &[Place],

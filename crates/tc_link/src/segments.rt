@@ -1,4 +1,4 @@
-// The bytes of places.
+// Joins sections to the segments of an image.
 ghost use Rattle.std.specs.Prelude.{◌≡◌, ◌≤◌, ◌<◌, ◌-◌, ◌++◌, ◌∷◌, length, nat_lt, map, filter, [], OnOk, IfOk, IfErr, replicate};
 ghost use Rattle.elf_image.specs.Images.{segment_data};
 ghost use Rattle.tc_link.specs.Placing.{round_up};
@@ -12,7 +12,7 @@ use std::alloc::Global;
 
 static ZEROS: [u8; 4] = [0, 0, 0, 0];
 
-// So many zeros, at most 4.
+// This number of zeros, at most 4.
 fn zeros(count: usize) -> &'static [u8]
     requires { count ≤ 4 }
     ensures { result.now ≡ replicate count 0 }
@@ -20,7 +20,7 @@ fn zeros(count: usize) -> &'static [u8]
     &ZEROS[..count]
 }
 
-// Zeros up to a multiple of 4.
+// Adds zeros up to a multiple of 4.
 fn pad(bytes: &mut Vec<u8>) -> Result<(), LinkErr>
     ensures ok { OnOk result (bytes.new.items ≡ with_padding bytes.old.items) }
     ensures err { IfErr result (λ e. e ≡ NoMemory) }
@@ -30,7 +30,7 @@ fn pad(bytes: &mut Vec<u8>) -> Result<(), LinkErr>
     Ok(())
 }
 
-// One section more, where it has the name.
+// Adds a section, if it has the name.
 fn add_section(bytes: &mut Vec<u8>, name: &str, section: &WrittenSection<'_>) -> Result<(), LinkErr>
     ensures ok { OnOk result (bytes.new.items ≡ with_section name.now bytes.old.items section.now) }
     ensures err { IfErr result (λ e. e ≡ NoMemory) }
@@ -59,7 +59,7 @@ fn join_sections(
     Ok(bytes)
 }
 
-// One segment more, where it has bytes.
+// Adds a segment, if it has bytes.
 fn add_segment(segments: &mut Vec<Segment>, at: u32, bytes: Vec<u8>) -> Result<(), LinkErr>
     ensures ok { OnOk result (map segment_data segments.new.items
         ≡ map segment_data segments.old.items
@@ -74,7 +74,7 @@ fn add_segment(segments: &mut Vec<Segment>, at: u32, bytes: Vec<u8>) -> Result<(
     Ok(())
 }
 
-/// The places with bytes.
+/// The segments of an image: one for each place with bytes.
 #[tactic(auto, unfolding(crate::specs::Relocated::segments_of))]
 pub(crate) fn segments_of(
     alloc: Global,

@@ -1,4 +1,4 @@
-// Symbols that are defined twice, or missing.
+// Checks for symbols that are defined twice or not at all.
 ghost use Rattle.std.specs.Prelude.{◌≡◌, ◌<◌, ◌==◌, ◌&&◌, nat_lt, ℕ, Bool, List, length, slice_index_or, slice_set, true, Option, None, OnOk, IfOk, IfErr};
 ghost use Rattle.std.specs.Option.{option_map};
 ghost use Rattle.tc_object.specs.declared.relocs.Reloc.{Reloc};
@@ -14,17 +14,17 @@ use crate::definitions::Definition;
 use crate::names::{are_single, is_missing, is_twice};
 use std::alloc::Global;
 use std::collections::HashMap;
-use tc_object::{ObjectRef, SymbolRef};
+use tc_object::{GLOBAL_SYMBOL, ObjectRef, SymbolRef, UNDEFINED_SYMBOL};
 
-// Whether a symbol is global, and another one too under its name.
+// Whether a symbol is global and several objects define its name.
 fn is_repeated(names: &HashMap<&str, Definition>, symbol: &SymbolRef<'_>) -> bool
     ensures { (objects : List ObjectData) → CountsGlobals names.now objects
         → result ≡ (is_global symbol.now && nat_lt 1 (globals_named objects symbol.now.name)) }
 {
-    symbol.kind == 2 && is_twice(names, symbol.name)
+    symbol.kind == GLOBAL_SYMBOL && is_twice(names, symbol.name)
 }
 
-// The name of the first of these symbols that is defined in two objects.
+// The name of the first of these symbols that several objects define.
 fn first_repeated<'a>(
     names: &HashMap<&str, Definition>,
     symbols: &[SymbolRef<'a>],
@@ -40,7 +40,7 @@ fn first_repeated<'a>(
     None
 }
 
-/// That no global symbol is defined in two objects.
+/// Checks that no two objects define the same global symbol.
 pub(crate) fn check_repeated(
     alloc: Global,
     names: &HashMap<&str, Definition>,
@@ -61,7 +61,7 @@ pub(crate) fn check_repeated(
     Ok(())
 }
 
-/// Marks the place of this number, where there is one.
+/// Sets the mark of this number, if there is one.
 pub(crate) fn mark(marks: &mut Vec<bool>, number: usize)
     ensures { marks.new.items ≡ slice_set marks.old.items number true }
 {
@@ -70,7 +70,7 @@ pub(crate) fn mark(marks: &mut Vec<bool>, number: usize)
     }
 }
 
-// Which symbols of an object its relocations use.
+// For each symbol of an object, whether a relocation uses it.
 fn used_symbols(alloc: Global, object: &ObjectRef<'_>) -> Result<Vec<bool>, LinkErr>
     ensures used { IfOk result (λ used. (k : ℕ) (d : Bool) → k < length object.now.symbols
         → slice_index_or used.items k d ≡ is_used object.now.relocs k) }
@@ -84,15 +84,16 @@ fn used_symbols(alloc: Global, object: &ObjectRef<'_>) -> Result<Vec<bool>, Link
     Ok(used)
 }
 
-// Whether a symbol that is used or not is undefined here and in all objects.
+// Whether a symbol is used, and undefined in its object and all others. `used` says whether a
+// relocation uses it.
 fn is_lost(names: &HashMap<&str, Definition>, used: bool, symbol: &SymbolRef<'_>) -> bool
     ensures { (objects : List ObjectData) → CountsGlobals names.now objects
         → result ≡ (symbol.now.kind == 0 && used && globals_named objects symbol.now.name == 0) }
 {
-    symbol.kind == 0 && used && is_missing(names, symbol.name)
+    symbol.kind == UNDEFINED_SYMBOL && used && is_missing(names, symbol.name)
 }
 
-// The name of the first of these symbols that is used, and undefined here and in all objects.
+// The name of the first of these symbols that is used, and undefined in all objects.
 fn first_missing<'a>(
     names: &HashMap<&str, Definition>,
     used: &[bool],
@@ -114,7 +115,7 @@ fn first_missing<'a>(
     None
 }
 
-/// That each symbol that a relocation uses is defined.
+/// Checks that each symbol that a relocation uses is defined.
 pub(crate) fn check_missing(
     alloc: Global,
     names: &HashMap<&str, Definition>,

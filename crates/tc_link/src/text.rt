@@ -1,4 +1,4 @@
-// A word of a line.
+// Compares a word of a line with a text.
 ghost use Rattle.std.specs.Prelude.{◌≡◌};
 ghost use Rattle.std.specs.Str.{bytes_eq};
 

@@ -1,7 +1,7 @@
-// Sections whose relocations are written.
+// A section whose relocations are written.
 use std::marker::Model;
 
-/// A section with bytes of its own, under a name that stays where it lies.
+/// A section with a borrowed name and with bytes of its own.
 #[derive(Drop)]
 pub(crate) struct WrittenSection<'a> {
     pub(crate) name: &'a str,
