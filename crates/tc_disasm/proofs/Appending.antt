@@ -5,7 +5,7 @@ use Rattle.std.proofs.lemmas.List.{drop-drop, drop_all, take_more, flat_map_more
 use Rattle.elf_image.specs.Images.{SegmentData}
 use Rattle.tc_disasm.specs.Listing.{size_at, line_at, lines_from, section_text, sections_from}
 
--- one item more
+-- a further item
 pub flat_map_on : {X : Type 0} (f : X → List ℕ) (xs : List X) (i : ℕ) (d : X) (start before after : List ℕ) → i < length xs
     → before ≡ start ++ flat_map f (take i xs) → after ≡ before ++ f (get_or xs i d) → after ≡ start ++ flat_map f (take (i + 1) xs)
 flat_map_on f xs i d start before after h inv is =
@@ -31,7 +31,7 @@ lines-front address (b ∷ bs) (suc n) some more e =
     ap (λ m. line_at address (b ∷ bs) ++ lines_from (address + 1) bs m) one
     ∙ ap (λ ls. line_at address (b ∷ bs) ++ ls) (lines-skip (address + 1) bs n ∙ ap (λ a. lines_from a (drop n bs) 0) (omega arith))
 
--- one line more
+-- a further line
 pub lines_on : (address at n : ℕ) (bs start before after : List ℕ) → at < length bs → 0 < n → n ≡ size_at (drop at bs)
     → before ++ lines_from (address + at) (drop at bs) 0 ≡ start
     → after ≡ before ++ line_at (address + at) (drop at bs)
@@ -51,7 +51,7 @@ unfolding lines_from
 lines_end address at bs start text h inv =
     sym (append-nil text) ∙ sym (ap (λ ds. text ++ lines_from (address + at) ds 0) (drop_all at bs h)) ∙ inv
 
--- one section more
+-- a further section
 pub sections_on : (ss : List SegmentData) (i : ℕ) (d : SegmentData) (start before after : List ℕ) → i < length ss
     → before ++ sections_from i (drop i ss) ≡ start
     → after ≡ before ++ section_text i (get_or ss i d)

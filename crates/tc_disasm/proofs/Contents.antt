@@ -51,7 +51,7 @@ more_lines t u ls ms a b = record {
 }
 
 -- ---- the bytes of a segment
--- the lines of these bytes put them behind what a section has
+-- the lines of these bytes add the bytes to the current section
 pub record Content (address : ℕ) (bs : List ℕ) : Type 0 where
   pub ls : List LineData
   pub lines : AreLines (lines_from address bs 0) ls
@@ -149,7 +149,7 @@ below-fresh n (p ∷ ps) small e =
     let other : bytes_eq (115 ∷ decimal n) p.name ≡ false = ap (bytes_eq (115 ∷ decimal n)) e.0.2 ∙ other_name n e.0.0 e.0.1 small in
     ap (λ b. not b && is_fresh (115 ∷ decimal n) ps) other ∙ below-fresh n ps small e.1
 
--- the lines of these segments put them behind the sections that there are
+-- the lines of these segments add them after the earlier sections
 pub record Sections (n : ℕ) (ss : List SegmentData) : Type 0 where
   pub ls : List LineData
   pub lines : AreLines (sections_from n ss) ls

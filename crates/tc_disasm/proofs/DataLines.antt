@@ -1,4 +1,4 @@
--- Lines of data, and those that begin a section, are read as what they say.
+-- Lines of data, and lines that begin a section, are read as they were printed.
 use Rattle.std.proofs.Common.{◌≡◌, ◌<◌, ◌+◌, ◌*◌, ◌/◌, ◌%◌, ◌^◌, ◌==◌, ℕ, true, false, cond, List, [], ◌∷◌, ◌++◌, take, Some, None, refl, ap, ◌∙◌, arith}
 use Rattle.std.specs.Prelude.{codes, nat_lt, fold}
 use Rattle.std.specs.Fmt.{decimal}

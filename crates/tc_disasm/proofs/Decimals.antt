@@ -1,5 +1,5 @@
 -- Decimal numbers are read back.
-use Rattle.std.proofs.Common.{◌≡◌, ◌<◌, ◌≤◌, ◌+◌, ◌*◌, ◌/◌, ◌%◌, ◌^◌, ◌==◌, ◌&&◌, ◌++◌, ℕ, Bool, true, false, cond, List, [], ◌∷◌, length, refl, ap, ◌∙◌, arith, drop, length-append, Some, None}
+use Rattle.std.proofs.Common.{◌≡◌, ◌<◌, ◌≤◌, ◌+◌, ◌*◌, ◌/◌, ◌%◌, ◌^◌, ◌==◌, ◌&&◌, ◌++◌, ℕ, Bool, true, false, cond, List, [], ◌∷◌, length, refl, ap, ◌∙◌, arith, drop, length-append, Option, Some, None}
 use Rattle.std.specs.Prelude.{fold, nat_lt}
 use Rattle.std.specs.List.{list_all}
 use Rattle.std.specs.Fmt.{decimal}
@@ -22,7 +22,7 @@ digit_of-of n h = rw (is_digit-of n h) (omega arith)
 pub bounded-small : (n : ℕ) → n < 2 ^ 64 → below_2_128 n ≡ Some n
 bounded-small n h = let small : nat_lt n (2 ^ 128) ≡ true = grind (arith, nat_tests) in ap (λ b. cond b (Some n) None) small
 
--- one digit more
+-- a further digit
 added-digit : (m d n : ℕ) → d < 10 → m * 10 + d ≡ n → n < 2 ^ 64 → add_digit 10 (Some m) (48 + d) ≡ Some n
 unfolding add_digit
 added-digit m d n digit e small = ap (λ x. below_2_128 (m * 10 + x)) (digit_of-of d digit) ∙ ap below_2_128 e ∙ bounded-small n small
@@ -56,6 +56,11 @@ more n ds h before =
 pub decimal_is : (n : ℕ) → n < 2 ^ 64 → IsDigits n (decimal n)
 decimal_is n h = decimal_by_steps IsDigits one more n h
 
+-- equal contents of equal answers
+pub some_is : {X : Type 0} (a b : X) → ◌≡◌ {A = Option X} (Some a) (Some b) → a ≡ b
+some_is a b e = cc
+
+-- both tests pass
 pub both : (a b : Bool) → (a && b) ≡ true → (a ≡ true) × (b ≡ true)
 both true true e = (refl, refl)
 both true false e = cc

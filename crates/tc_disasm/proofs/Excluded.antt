@@ -143,7 +143,7 @@ refused-plus r acc false false offset text v e = absurd (false≢true e)
 refused-plus r acc true false offset text v e = tt
 refused-plus r acc false true offset text v e = tt
 
--- what is printed for a want that excludes another is refused there
+-- the operand printed for a want is refused by each want that it excludes
 pub refused-there : (r : RowData) (acc : RowFieldsData) (w v : Want) (o : OperandData) → excludes w v ≡ true → Prints w o → IsRefused (fill r v o acc)
 unfolding excludes fill fill_plain fill_register fill_a10 fill_value fill_memory fill_target fill_absolute shape_index
 refused-there r acc (Reg p x) (Reg q y) o e b = subst (λ (q2 : OperandData). IsRefused (fill r (Reg q y) q2 acc)) (sym b.2) (refused-bank acc p q y b.0 b.1 e)

@@ -68,7 +68,7 @@ fill-number r signed field v acc h even small =
     ∙ ap (λ f. Some f) (put_number-printed r signed field v acc h even)
 
 -- ---- targets
--- what is printed of a displacement isn't too far
+-- a printed displacement isn't too far
 near : (one_way : Bool) (bound v : ℕ) → v < bound → bound % 2 ≡ 0
     → cond one_way (cond (is_minus (not one_way) bound v) (not (2 * size_of (not one_way) bound v == 0)) (nat_lt (2 * (bound - 1)) (2 * size_of (not one_way) bound v)))
     (cond (is_minus (not one_way) bound v) (nat_lt bound (2 * size_of (not one_way) bound v)) (nat_lt (bound - 2) (2 * size_of (not one_way) bound v))) ≡ false

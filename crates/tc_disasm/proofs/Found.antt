@@ -21,7 +21,7 @@ then_refused : (next : RowFieldsData → Option RowFieldsData) (o : Option RowFi
 then_refused next None k = tt
 then_refused next (Some f) k = k f refl
 
--- a rule once broken refuses, whatever comes
+-- a broken rule refuses the row, whatever operands follow
 stays-refused : (r : RowData) (vs : List Want) (os : List OperandData) (acc : RowFieldsData) → acc.rule < 15 → IsRefused (fill_all r vs os acc)
 unfolding fill_all
 stays-refused r [] [] acc h = h
@@ -55,7 +55,7 @@ pub refused-judged : (r : RowData) (ws vs : List Want) (os : List OperandData) �
 unfolding fields_of_row
 refused-judged r ws vs os d p = then_refused (λ f. Some (kept_apart r f)) (fill_all r vs os no_fields) (λ f e. lower r f (subst IsRefused e (refused-all r ws vs os no_fields d p)))
 
--- a row that refuses goes on to the next
+-- the search continues after a row that refuses
 pub goes_on : (name : List ℕ) (os : List OperandData) (r : RowData) (t : Tally) → IsRefused (fields_of_row r (wants_of r) os) → (u : Tally) × (after_row name os r t ≡ Err u)
 unfolding after_row
 goes_on name os r t refused = by_name (bytes_eq r.name name) (fields_of_row r (wants_of r) os) refused

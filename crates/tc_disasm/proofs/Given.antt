@@ -101,7 +101,7 @@ joined true true x y = refl
 joined true false x y = refl
 joined false c x y = refl
 
--- a field is f's where some want names it, else as it was
+-- a field that some want names is f's, and any other keeps its value
 pub field_of-fold : (x : Field) (f g : Fields) (ws : List Want) → AreSmall f → field_of x (fold (given f) g ws) ≡ cond (list_any (names x) ws) (field_of x f) (field_of x g)
 field_of-fold x f g [] h = refl
 field_of-fold x f g (w ∷ ws) h =

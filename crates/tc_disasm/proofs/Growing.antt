@@ -26,7 +26,7 @@ use Rattle.tc_disasm.proofs.Runs.{Runs, Adds}
 abbrev pub draft : ℕ → List PartData → ℕ → DraftData
 draft number ps total = record { section = number; parts = ps; symbols = []; total = total; count = 0 }
 
--- one whose last section goes on
+-- a draft whose last section is the current one
 abbrev pub growing : List PartData → List ℕ → List ℕ → ℕ → DraftData
 growing ps name bs total = draft (length ps) (ps ++ part name bs [] ∷ []) total
 

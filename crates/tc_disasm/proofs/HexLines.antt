@@ -1,4 +1,4 @@
--- Hex digits with what stands round them.
+-- Hex digits and the bytes before and after them.
 use Rattle.std.proofs.Common.{◌≡◌, ◌<◌, ◌^◌, ◌∷◌, ◌++◌, [], ℕ, List, Result, Ok, Err, get_or, ap, ◌∙◌, arith}
 use Rattle.std.specs.Prelude.{codes, OnOk}
 use Rattle.std.specs.Str.{IsAscii}
@@ -6,7 +6,7 @@ use Rattle.std.proofs.lemmas.Str.Ascii.{IsAscii-nil, IsAscii-cons}
 use Rattle.tcd_text.specs.Digits.{hex_byte, hex_word}
 use Rattle.tcd_text.proofs.DigitLaws.{hex_byte-front, hex_word-front}
 
--- an address behind its mark
+-- an address after its mark
 pub address_line : (x : ℕ) (w : List ℕ) → w ≡ hex_word x
     → 32 ∷ 35 ∷ 32 ∷ get_or w 0 0 ∷ get_or w 1 0 ∷ get_or w 2 0 ∷ get_or w 3 0 ∷ get_or w 4 0 ∷ get_or w 5 0 ∷ get_or w 6 0 ∷ get_or w 7 0 ∷ 32 ∷ []
     ≡ codes " # " ++ (hex_word x ++ (32 ∷ []))
@@ -43,7 +43,7 @@ four_line x y z u a b c d e f g h =
 four_ascii : (x y z u : ℕ) → x < 256 → y < 256 → z < 256 → u < 256 → IsAscii (hex_byte x ++ (hex_byte y ++ (hex_byte z ++ (hex_byte u ++ (10 ∷ [])))))
 four_ascii x y z u a b c d = hex_byte-front x _ a (hex_byte-front y _ b (half_ascii z u c d))
 
--- an address behind its mark, and what follows
+-- an address after its mark, and what follows
 address_front : (x : ℕ) (w t : List ℕ) → w ≡ hex_word x
     → 32 ∷ 35 ∷ 32 ∷ get_or w 0 0 ∷ get_or w 1 0 ∷ get_or w 2 0 ∷ get_or w 3 0 ∷ get_or w 4 0 ∷ get_or w 5 0 ∷ get_or w 6 0 ∷ get_or w 7 0 ∷ 32 ∷ t
     ≡ codes " # " ++ (hex_word x ++ (32 ∷ t))
@@ -56,7 +56,7 @@ front_ascii x t h ascii =
     IsAscii-cons 32 (35 ∷ 32 ∷ line) (omega arith) (IsAscii-cons 35 (32 ∷ line) (omega arith) (IsAscii-cons 32 line (omega arith)
     (hex_word-front x (32 ∷ t) h (IsAscii-cons 32 t (omega arith) ascii))))
 
--- behind it two bytes and a line feed
+-- then two bytes and a line feed
 pub half_remark : (p x y : ℕ) (w a b : List ℕ) → w ≡ hex_word p → a ≡ hex_byte x → b ≡ hex_byte y
     → 32 ∷ 35 ∷ 32 ∷ get_or w 0 0 ∷ get_or w 1 0 ∷ get_or w 2 0 ∷ get_or w 3 0 ∷ get_or w 4 0 ∷ get_or w 5 0 ∷ get_or w 6 0 ∷ get_or w 7 0 ∷ 32
     ∷ get_or a 0 0 ∷ get_or a 1 0 ∷ get_or b 0 0 ∷ get_or b 1 0 ∷ 10 ∷ []
@@ -67,7 +67,7 @@ half_remark p x y w a b e f g =
 pub half_remark_ascii : (p x y : ℕ) → p < 2 ^ 32 → x < 256 → y < 256 → IsAscii (codes " # " ++ (hex_word p ++ (32 ∷ (hex_byte x ++ (hex_byte y ++ (10 ∷ []))))))
 half_remark_ascii p x y h f g = front_ascii p _ h (half_ascii x y f g)
 
--- behind it four bytes and a line feed
+-- then four bytes and a line feed
 pub four_remark : (p x y z u : ℕ) (w a b c d : List ℕ) → w ≡ hex_word p → a ≡ hex_byte x → b ≡ hex_byte y → c ≡ hex_byte z → d ≡ hex_byte u
     → 32 ∷ 35 ∷ 32 ∷ get_or w 0 0 ∷ get_or w 1 0 ∷ get_or w 2 0 ∷ get_or w 3 0 ∷ get_or w 4 0 ∷ get_or w 5 0 ∷ get_or w 6 0 ∷ get_or w 7 0 ∷ 32
     ∷ get_or a 0 0 ∷ get_or a 1 0 ∷ get_or b 0 0 ∷ get_or b 1 0 ∷ get_or c 0 0 ∷ get_or c 1 0 ∷ get_or d 0 0 ∷ get_or d 1 0 ∷ 10 ∷ []
@@ -79,7 +79,7 @@ pub four_remark_ascii : (p x y z u : ℕ) → p < 2 ^ 32 → x < 256 → y < 256
     → IsAscii (codes " # " ++ (hex_word p ++ (32 ∷ (hex_byte x ++ (hex_byte y ++ (hex_byte z ++ (hex_byte u ++ (10 ∷ []))))))))
 four_remark_ascii p x y z u h e f g i = front_ascii p _ h (four_ascii x y z u e f g i)
 
--- what was put behind a text, in other words
+-- an appended text can be written in another way
 pub on_text : {T E : Type 0} (r : Result T E) (old new xs ys : List ℕ) → xs ≡ ys → OnOk r (new ≡ old ++ xs) → OnOk r (new ≡ old ++ ys)
 on_text (Ok x) old new xs ys e h = h ∙ ap (λ (l : List ℕ). old ++ l) e
 on_text (Err x) old new xs ys e h = tt

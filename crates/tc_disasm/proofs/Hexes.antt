@@ -16,12 +16,12 @@ digit_of-hex : (n : ℕ) → n < 16 → digit_of (hex_digit n) ≡ n
 unfolding digit_of is_digit hex_digit
 digit_of-hex n h = grind (arith, nat_tests)
 
--- one digit more
+-- a further digit
 added-hex : (m d : ℕ) → d < 16 → m < 2 ^ 32 → add_digit 16 (Some m) (hex_digit d) ≡ Some (m * 16 + d)
 unfolding add_digit
 added-hex m d digit h = ap (λ x. below_2_128 (m * 16 + x)) (digit_of-hex d digit) ∙ bounded-small (m * 16 + d) (omega arith)
 
--- one byte more
+-- a further byte
 pub added-byte : (m b : ℕ) (rest : List ℕ) → b < 256 → m < 2 ^ 24 → fold (add_digit 16) (Some m) (hex_byte b ++ rest) ≡ fold (add_digit 16) (Some (m * 256 + b)) rest
 unfolding hex_byte
 added-byte m b rest h small =

@@ -1,4 +1,4 @@
--- What stands at the front of a text is its first token.
+-- The token at the start of a text is its first token.
 use Rattle.std.proofs.Common.{◌≡◌, ◌<◌, ◌+◌, ◌-◌, ◌==◌, ◌||◌, zero, suc, ℕ, Bool, true, false, cond, List, [], ◌∷◌, ◌++◌, length, take, drop, Option, None, refl, ap, sym, ◌∙◌, arith, inl, inr}
 use Rattle.std.specs.Prelude.{option_map, nat_lt, slice_index}
 use Rattle.std.specs.List.{prefix_len, list_all}

@@ -23,7 +23,7 @@ use Rattle.tc_disasm.proofs.RowLines.{reads-row}
 use Rattle.tc_disasm.proofs.DataLines.{reads-half, reads-byte, reads-section}
 use Rattle.tc_disasm.proofs.Runs.{Adds, adds-bytes, adds-code}
 
--- ---- behind a text: an address and bytes, as a comment
+-- ---- after a text: an address and bytes, as a comment
 hex_digit-plain : (n : ℕ) → is_plain (hex_digit n) ≡ true
 unfolding hex_digit
 hex_digit-plain n = by_test (nat_lt n 10)

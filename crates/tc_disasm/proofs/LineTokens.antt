@@ -1,4 +1,4 @@
--- A text is cut into these tokens, wherever it stands in a line.
+-- A text is cut into these tokens, at every place of a line.
 use Rattle.std.proofs.Common.{◌≡◌, ◌≤◌, ◌+◌, ◌-◌, ◌==◌, zero, suc, ℕ, Bool, true, cond, List, [], ◌∷◌, ◌++◌, length, take, map, Ok, Err, refl, ap, sym, ◌∙◌, arith, append_assoc, length-append}
 use Rattle.std.specs.Prelude.{nat_le, not}
 use Rattle.std.specs.List.{list_all}
@@ -15,7 +15,7 @@ use Rattle.tc_lex.specs.Pieces.{PieceData}
 use Rattle.tc_stmt.specs.Lines.{LineData, line_in, cut_line, pieces_line, piece_in, text_in}
 use Rattle.tc_disasm.specs.Tokens.{piece}
 
--- the tokens of a text behind `pre` in its line, at most `room`
+-- the tokens of a text after `pre` in its line, at most `room`
 pub record Cut (pre text : List ℕ) (room : ℕ) (ps : List PieceData) : Type 0 where
   pub ts : List Token
   pub is : cut text room (length pre) 0 ≡ Ok ts
@@ -25,7 +25,7 @@ pub record Cut (pre text : List ℕ) (room : ℕ) (ps : List PieceData) : Type 0
 abbrev pub is_plain : ℕ → Bool
 is_plain c = not (c == 10)
 
--- the text has these tokens, and stands in one line
+-- the text has these tokens, and no line feed
 pub record Lexes (text : List ℕ) (ps : List PieceData) : Type 0 where
   pub tokens : (pre : List ℕ) (room : ℕ) → length ps ≤ room → Cut pre text room ps
   pub plain : list_all is_plain text ≡ true
@@ -96,7 +96,7 @@ pub record Reads (text : List ℕ) (l : LineData) : Type 0 where
   pub is : line_in text ≡ l
   pub plain : list_all is_plain text ≡ true
 
--- a line of at most 64 tokens is what they make it
+-- the meaning of a line with at most 64 tokens depends only on the tokens
 pub reads-tokens : (text : List ℕ) (ps : List PieceData) (l : LineData) → Lexes text ps → length ps ≤ 64 → pieces_line ps ≡ l → Reads text l
 reads-tokens text ps l h few e =
     let whole = h.tokens [] 64 few in

@@ -64,7 +64,7 @@ lexes-base false n rest ps small h =
     (as_parted (register_text true n) (codes "]") rest (piece kind.Word (register_text true n) ∷ tail)
     (lexes-register true n (93 ∷ rest) tail small refl (lexes-close rest ps h)))
 
--- what is printed for a want
+-- the text printed for a want
 below_16 : (n b : ℕ) → n < b → b ≤ 16 → n < 2 ^ 64
 below_16 n b h most = omega arith
 
@@ -97,7 +97,7 @@ lexes-operand r f (Memory plus false) rest ps s h stop go =
     (subst (λ (qs : List PieceData). Lexes (base_text plus f.s2 ++ rest) qs) (sym (append_assoc (base plus f.s2) [] ps))
     (lexes-base plus f.s2 rest ps (below_16 f.s2 (bounds r.form).s2 h.s2 (at_most (bounds r.form).s2 16 s)) go))
 
--- ---- operands behind the first
+-- ---- operands after the first
 abbrev pub comma : PieceData
 comma = piece kind.Comma (44 ∷ [])
 

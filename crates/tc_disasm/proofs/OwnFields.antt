@@ -55,7 +55,7 @@ address-small r f = by_form (form_index r.form == 8)
     by_form true = omega arith
     by_form false = omega arith
 
--- what fills in an absolute address, by the form
+-- the constant of an absolute address, by the form
 put_absolute-printed : (r : RowData) (f : Fields) (acc : RowFieldsData) → suits r.form Absolute ≡ true → IsBelow f (bounds r.form) → put_absolute r.form false (address_in r.form f) acc ≡ with_value K f.k acc
 unfolding put_absolute address_in suits
 put_absolute-printed r f acc s h = by_form (form_index r.form == 8) ((bounds r.form).k == 2 ^ 18) ((bounds r.form).k == 2 ^ 24) refl refl s

@@ -13,14 +13,11 @@ use Rattle.tc_stmt.specs.RowFields.{RowFieldsData, fields_of_row}
 use Rattle.tc_stmt.specs.StatementRow.{after_row, outcome, or_next, start, statement}
 use Rattle.tc_disasm.specs.Refused.{AllPrint}
 use Rattle.tc_disasm.specs.Apart.{differ, entry, Entry, apart_from, all_apart}
-use Rattle.tc_disasm.proofs.Decimals.{both}
+use Rattle.tc_disasm.proofs.Decimals.{some_is, both}
 use Rattle.tc_disasm.proofs.Found.{refused-judged, goes_on}
 use Rattle.tc_disasm.proofs.Tables.{rows_apart}
 
-some_is : {X : Type 0} (a b : X) → ◌≡◌ {A = Option X} (Some a) (Some b) → a ≡ b
-some_is a b e = cc
-
--- the row at a place, where those before it go on
+-- the row at a place, if the search continues after all earlier rows
 walks : (name : List ℕ) (os : List OperandData) (r : RowData) (f : RowFieldsData) → ((t : Tally) → after_row name os r t ≡ Ok f)
     → (rows : List RowData) (place k : ℕ) (t : Tally) → slice_get rows k ≡ Some r
     → ((j : ℕ) (s : RowData) → j < k → slice_get rows j ≡ Some s → (t : Tally) → (u : Tally) × (after_row name os s t ≡ Err u))
@@ -50,7 +47,7 @@ apart_at (x ∷ xs) zero (suc k) s r e h a b =
 apart_at (x ∷ xs) (suc j) zero s r e h a b = absurd (omega arith)
 apart_at (x ∷ xs) (suc j) (suc k) s r e h a b = apart_at xs j k s r (both (list_all (apart_from (entry x)) (map entry xs)) (all_apart (map entry xs)) e).1 (omega arith) a b
 
--- a row of another name goes on
+-- the search continues after a row of another name
 skips : (r s : RowData) (os : List OperandData) (t : Tally) → bytes_eq s.name r.name ≡ false → (u : Tally) × (after_row r.name os s t ≡ Err u)
 unfolding after_row
 skips r s os t other =

@@ -17,7 +17,7 @@ module _ {X : Type 0} (p : X → Bool) where
       by_test true e ih = cc
       by_test false e ih = ap (onto_first x) ih
 
-  -- where none passes
+  -- a list without an item that passes
   pub split_whole : (xs : List X) → list_all (λ x. not (p x)) xs ≡ true → slice_split p xs ≡ xs ∷ []
   split_whole [] none = refl
   split_whole (x ∷ xs) none =

@@ -1,5 +1,5 @@
 -- A printed instruction is judged as the same row, with the same fields.
-use Rattle.std.proofs.Common.{◌≡◌, ◌*◌, ◌==◌, ◌||◌, ℕ, zero, suc, Bool, true, false, cond, List, [], ◌∷◌, Option, Some, Ok, refl, ap, sym, ◌∙◌, arith, map, append-nil}
+use Rattle.std.proofs.Common.{◌≡◌, ◌*◌, ◌==◌, ◌||◌, ℕ, zero, suc, Bool, true, false, cond, List, [], ◌∷◌, Some, Ok, refl, ap, sym, ◌∙◌, arith, map, append-nil}
 use Rattle.std.specs.Prelude.{slice_get, fold, option_and_then, codes}
 use Rattle.std.specs.List.{list_all, list_any}
 use Rattle.std.specs.Fmt.{decimal}
@@ -24,7 +24,7 @@ use Rattle.tc_disasm.specs.Tokens.{operand_tokens, printed_operands, base}
 use Rattle.tc_disasm.specs.Apart.{uses_by, names}
 use Rattle.tc_disasm.specs.Puts.{given}
 use Rattle.tc_disasm.specs.Refused.{Prints, AllPrint}
-use Rattle.tc_disasm.proofs.Decimals.{both, number_of-decimal}
+use Rattle.tc_disasm.proofs.Decimals.{some_is, both, number_of-decimal}
 use Rattle.tc_disasm.proofs.Bounds.{field_of-below}
 use Rattle.tc_disasm.proofs.Given.{field_of-fold}
 use Rattle.tc_disasm.proofs.Hexes.{number_of-hex}
@@ -36,9 +36,6 @@ use Rattle.tc_disasm.proofs.Suits.{suits, wants_suit}
 use Rattle.tc_disasm.proofs.Tables.{uses_are}
 
 -- ---- the fields come back
-some_is : {X : Type 0} (a b : X) → ◌≡◌ {A = Option X} (Some a) (Some b) → a ≡ b
-some_is a b e = cc
-
 uses_at : (rows : List RowData) (k : ℕ) (r : RowData) → map uses_of rows ≡ map (λ s. uses_by (wants_of s)) rows → slice_get rows k ≡ Some r → uses_of r ≡ uses_by (wants_of r)
 uses_at [] k r e at = cc
 uses_at (x ∷ xs) zero r e at =
@@ -65,7 +62,7 @@ fields_back f ws small rest =
     let k : g.k ≡ f.k = field_of-fold K f (fields 0 0 0 0 0) ws small ∙ zero_of (list_any (names K) ws) f.k four.1 in
     ap (λ x. fields x g.s1 g.s2 g.n g.k) c ∙ ap (λ x. fields f.c x g.s2 g.n g.k) s1 ∙ ap (λ x. fields f.c f.s1 x g.n g.k) s2 ∙ ap (λ x. fields f.c f.s1 f.s2 x g.k) n ∙ ap (λ x. fields f.c f.s1 f.s2 f.n x) k
 
--- ---- what is printed for each want
+-- ---- the text printed for each want
 printed_one : (r : RowData) (f : Fields) (w : Want) → suits r.form w ≡ true → IsBelow f (bounds r.form) → Prints w (operand (operand_tokens r.form f w))
 unfolding suits operand_tokens
 printed_one r f (Reg bank field) s h =

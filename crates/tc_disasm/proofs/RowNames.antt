@@ -1,5 +1,5 @@
 -- Names of rows: words that are no directives.
-use Rattle.std.proofs.Common.{◌≡◌, ◌≤◌, ◌&&◌, ◌||◌, ℕ, zero, suc, Bool, true, false, cond, List, [], ◌∷◌, length, Option, Some, refl, ap, sym, ◌∙◌, arith}
+use Rattle.std.proofs.Common.{◌≡◌, ◌≤◌, ◌&&◌, ◌||◌, ℕ, zero, suc, Bool, true, false, cond, List, [], ◌∷◌, length, Some, refl, ap, sym, ◌∙◌, arith}
 use Rattle.std.specs.Prelude.{slice_get, nat_le, not, codes}
 use Rattle.std.specs.List.{list_all}
 use Rattle.std.specs.Str.{bytes_eq}
@@ -13,7 +13,7 @@ use Rattle.tc_lex.specs.Operands.{OperandData}
 use Rattle.tc_stmt.specs.StatementRow.{statement}
 use Rattle.tc_stmt.specs.Items.{section, global}
 use Rattle.tc_stmt.specs.Lines.{LineData, named_line, values_line, space_line, code_line, stated_line}
-use Rattle.tc_disasm.proofs.Decimals.{both}
+use Rattle.tc_disasm.proofs.Decimals.{some_is, both}
 
 abbrev pub is_directive : List ℕ → Bool
 is_directive name =
@@ -26,15 +26,12 @@ rows_named : list_all is_mnemonic listed ≡ true
 unfolding wants_of want_of is_name_first is_name_byte is_digit
 rows_named = refl
 
-some_is : {X : Type 0} (a b : X) → ◌≡◌ {A = Option X} (Some a) (Some b) → a ≡ b
-some_is a b e = cc
-
 all_at : (p : RowData → Bool) (rows : List RowData) (k : ℕ) (r : RowData) → list_all p rows ≡ true → slice_get rows k ≡ Some r → p r ≡ true
 all_at p [] k r e at = cc
 all_at p (x ∷ xs) zero r e at = ap p (sym (some_is x r at)) ∙ (both (p x) (list_all p xs) e).0
 all_at p (x ∷ xs) (suc k) r e at = all_at p xs k r (both (p x) (list_all p xs) e).1 at
 
--- what is known of a row's name, and how many operands the row has
+-- facts of a row's name, and the number of its operands
 pub record Named (r : RowData) : Type 0 where
   pub word : is_run is_name_first is_name_byte r.name ≡ true
   pub other : is_directive r.name ≡ false

@@ -1,4 +1,4 @@
--- Lines that break no rule, and what they put together.
+-- Lines that break no rule, and the draft that they lead to.
 use Rattle.std.proofs.Common.{◌≡◌, ◌<◌, ℕ, zero, suc, Bool, true, false, cond, List, [], ◌∷◌, ◌++◌, length, take, get_or, None, refl, ap, sym, subst, ◌∙◌, arith}
 use Rattle.std.specs.Prelude.{min, fold}
 use Rattle.std.specs.Option.{option_map_or}
@@ -12,13 +12,10 @@ use Rattle.tc_asm.specs.Symbols.{SymbolData}
 use Rattle.tc_asm.specs.Drafts.{DraftData, has_section, has_room, with_bytes, with_reference, found, targeted, spelled_code, resolved, bytes_of, code_bytes, stepped}
 use Rattle.tc_asm.specs.Rules.{content_rule, item_rule}
 use Rattle.tc_asm.specs.Sources.{with_line, line_rule}
+use Rattle.tc_asm.proofs.SourceDrafts.{KeepsFrom as Keeps}
 
 -- ---- lines one after another
-abbrev pub Keeps : List SymbolData → DraftData → List LineData → Type 0
-Keeps labels d [] = Unit {0}
-Keeps labels d (l ∷ ls) = (line_rule labels d l ≡ 15) × Keeps labels (with_line labels d l) ls
-
--- behind a draft these lines break no rule, and make it another
+-- after a draft these lines break no rule, and they lead to the other draft
 pub record Runs (labels : List SymbolData) (d : DraftData) (ls : List LineData) (e : DraftData) : Type 0 where
   pub keeps : Keeps labels d ls
   pub makes : fold (with_line labels) d ls ≡ e
@@ -37,7 +34,7 @@ module _ (labels : List SymbolData) where
     makes = fold-append (with_line labels) d ls ms ∙ ap (λ x. fold (with_line labels) x ms) a.makes ∙ b.makes;
   }
 
-  -- each line of them breaks no rule behind those before it
+  -- each of the lines breaks no rule after the earlier ones
   pub keeps-at : (d : DraftData) (ls : List LineData) → Keeps labels d ls → (k : ℕ) (x : LineData) → k < length ls → line_rule labels (fold (with_line labels) d (take k ls)) (get_or ls k x) ≡ 15
   keeps-at d [] h k x less = absurd (omega arith)
   keeps-at d (l ∷ ls) h zero x less = h.0

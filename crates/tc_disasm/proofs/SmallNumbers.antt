@@ -7,7 +7,7 @@ use Rattle.std.proofs.lemmas.Fmt.{decimal_digit, decimal_step}
 pub one_digit : (n : ℕ) → n < 10 → decimal n ≡ (48 + n) ∷ []
 one_digit n small = decimal_digit n small
 
--- the last digit behind the others
+-- the last digit after the others
 pub digit_on : {T E : Type 0} (r : Result T E) (old mid new : List ℕ) (n : ℕ) → 10 ≤ n → n < 2 ^ 64 → mid ≡ old ++ decimal (n / 10)
     → OnOk r (new ≡ mid ++ ((48 + n % 10) ∷ [])) → OnOk r (new ≡ old ++ decimal n)
 digit_on (Ok x) old mid new n big small e h =

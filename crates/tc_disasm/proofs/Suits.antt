@@ -1,5 +1,5 @@
--- What each row's form has for what the row wants.
-use Rattle.std.proofs.Common.{◌≡◌, ◌%◌, ◌^◌, ◌==◌, ◌&&◌, ℕ, zero, suc, Bool, true, false, cond, List, [], ◌∷◌, Option, Some, refl, ap, sym, ◌∙◌}
+-- Each row's form has the fields that the row's wants need.
+use Rattle.std.proofs.Common.{◌≡◌, ◌%◌, ◌^◌, ◌==◌, ◌&&◌, ℕ, zero, suc, Bool, true, false, cond, List, [], ◌∷◌, Some, refl, ap, sym, ◌∙◌}
 use Rattle.std.specs.Prelude.{slice_get, nat_le}
 use Rattle.std.specs.List.{list_all}
 use Rattle.tc_isa.specs.Rows.{RowData, listed}
@@ -9,7 +9,7 @@ use Rattle.tc_stmt.specs.declared.want.Want.{Want}
 use Rattle.tc_stmt.specs.declared.want.Want.TheVariants.{Reg, A10, Number, Target, Absolute, Memory}
 use Rattle.tc_stmt.specs.Wants.{wants_of, want_of}
 use Rattle.tc_stmt.specs.RowFields.{field_of}
-use Rattle.tc_disasm.proofs.Decimals.{both}
+use Rattle.tc_disasm.proofs.Decimals.{some_is, both}
 
 -- an even bound of at most 24 bits
 abbrev pub is_bound : ℕ → Bool
@@ -31,9 +31,6 @@ all_suit r = list_all (suits r.form) (wants_of r)
 rows_suit : list_all all_suit listed ≡ true
 unfolding wants_of want_of suits bounds form_index field_of
 rows_suit = refl
-
-some_is : {X : Type 0} (a b : X) → ◌≡◌ {A = Option X} (Some a) (Some b) → a ≡ b
-some_is a b e = cc
 
 suit_at : (rows : List RowData) (k : ℕ) (r : RowData) → list_all all_suit rows ≡ true → slice_get rows k ≡ Some r → all_suit r ≡ true
 suit_at [] k r e at = cc

@@ -19,7 +19,7 @@ use Rattle.tc_disasm.proofs.Hexes.{is_hex-digit}
 use Rattle.tc_disasm.proofs.Lexing.{front_of-word, front_of-digits, prefix_len-front}
 use Rattle.tc_disasm.proofs.LineTokens.{Lexes, is_plain, lexes-token}
 
--- ---- bytes that stand in one line
+-- ---- bytes within one line
 list_all-from : (p q : ℕ → Bool) → ((c : ℕ) → p c ≡ true → q c ≡ true) → (cs : List ℕ) → list_all p cs ≡ true → list_all q cs ≡ true
 list_all-from p q h [] e = refl
 list_all-from p q h (c ∷ cs) e =

@@ -1,4 +1,4 @@
--- Rows of one name are told apart by the forms of their operands; a row's wants are the fields that its text names.
+-- The rows of one name differ in their operands, and a row's wants are the fields of its text.
 use Rattle.std.specs.Prelude.{ℕ, ◌&&◌, ◌||◌, not, Bool, true, false, List, [], ◌∷◌}
 use Rattle.std.specs.List.{list_all, list_any}
 use Rattle.std.specs.Str.{bytes_eq}
@@ -11,7 +11,7 @@ use Rattle.tc_stmt.specs.declared.want.Want.{Want}
 use Rattle.tc_stmt.specs.declared.want.Want.TheVariants.{Reg, A10, Number, Target, Absolute, Memory}
 use Rattle.tc_stmt.specs.Wants.{wants_of}
 
--- what is printed for the first breaks a rule, or has another form, at the place of the second
+-- the operand printed for the first want breaks a rule of the second, or has another form
 unfoldable pub excludes : Want → Want → Bool
 excludes (Reg p f) (Reg q g) = not (same_test p q)
 excludes (Reg p f) (Number s g) = true
@@ -36,14 +36,15 @@ excludes (Memory p o) Target = true
 excludes (Memory p o) Absolute = true
 excludes a b = false
 
--- what is printed for the first wants isn't taken for the second: another number of operands, or one that is excluded
+-- the operands printed for the first wants don't fit the second: their number differs, or one of
+-- them is excluded
 unfoldable pub differ : List Want → List Want → Bool
 differ [] [] = false
 differ [] (v ∷ vs) = true
 differ (w ∷ ws) [] = true
 differ (w ∷ ws) (v ∷ vs) = excludes w v || differ ws vs
 
--- a row's name, and what stands at its operands' places
+-- the name and the wants of a row
 pub record Entry : Type 0 where
   pub name : List ℕ
   pub wants : List Want
@@ -52,11 +53,11 @@ pub record Entry : Type 0 where
 abbrev pub entry : RowData → Entry
 entry r = record { name = r.name; wants = wants_of r }
 
--- two rows have other names, or neither takes what is printed for the other
+-- two rows have different names, or neither takes the printed operands of the other
 abbrev pub apart_from : Entry → Entry → Bool
 apart_from a b = not (bytes_eq a.name b.name) || (differ a.wants b.wants && differ b.wants a.wants)
 
--- each of the rows is told apart from each other one
+-- each row is apart from each other one
 abbrev pub all_apart : List Entry → Bool
 all_apart [] = true
 all_apart (a ∷ es) = list_all (apart_from a) es && all_apart es

@@ -1,4 +1,4 @@
--- What the listing of an image is assembled to.
+-- The object of an image's listing.
 use Rattle.std.specs.Prelude.{◌≡◌, ◌≤◌, ◌<◌, ◌^◌, ◌++◌, ℕ, List, [], codes, length, map, slice_index_or}
 use Rattle.std.specs.Fmt.{decimal}
 use Rattle.std.specs.List.Sorted.{IsPermutation, IsNonDecreasing}
@@ -13,7 +13,8 @@ use Rattle.tc_disasm.specs.Listing.{listing_of}
 abbrev pub section_name : ℕ → List ℕ
 section_name n = codes "s" ++ decimal n
 
--- the segments in ascending order of their addresses are the object's sections, byte by byte; it has nothing else
+-- the object's sections are the segments in ascending order of addresses, byte by byte, and it has
+-- nothing else
 pub record HoldsSegments (segments : List SegmentData) (o : ObjectData) : Type 0 where
   pub ordered : List SegmentData
   pub same : IsPermutation segments ordered
@@ -23,14 +24,14 @@ pub record HoldsSegments (segments : List SegmentData) (o : ObjectData) : Type 0
   pub symbols : o.symbols ≡ []
   pub relocs : o.relocs ≡ []
 
--- The listing of the image is a source that isn't too long, none of its lines breaks a rule, so there's no least one
--- that does, and the object that the lines put together has the segments as its sections.
+-- The listing of the image is short enough for a source, and no line breaks a rule. So there is no
+-- first line that breaks one. The object of the listing has the segments as its sections.
 pub record ReadsBack (i : ImageData) : Type 0 where
   pub short : length (listing_of i) ≤ 2 ^ 30
   pub keeps : KeepsRules (lines_in (listing_of i)) (length (lines_in (listing_of i)))
   pub never : (line rule : ℕ) → IsLeast (lines_in (listing_of i)) line rule → ⊥
   pub holds : HoldsSegments i.segments (object_of (drafted (symbols_of (lines_in (listing_of i))) (lines_in (listing_of i))))
 
--- of every image
+-- each image reads back
 abbrev pub ListingLaw : Type 0
 ListingLaw = (i : ImageData) → IsImage i → ReadsBack i

@@ -1,4 +1,4 @@
--- Listings: the text of an instruction, the listing of an image, and what that is read as.
+-- Listings: the text of an instruction, the listing of an image, and its object.
 pub mod Texts
 pub mod Listing
 pub mod Views

@@ -9,49 +9,49 @@ use Rattle.tc_encode.specs.Decoding.{decoded_of}
 use Rattle.tcd_text.specs.Digits.{hex_byte, hex_word}
 use Rattle.tc_disasm.specs.Texts.{text_of}
 
--- two bytes as a number, the first one lowest, or a last byte
+-- two bytes as a little-endian number, or a single last byte
 abbrev pub data_text : List ℕ → List ℕ
 data_text [] = []
 data_text (a ∷ []) = codes ".byte 0x" ++ hex_byte a
 data_text (a ∷ b ∷ bs) = codes ".half 0x" ++ (hex_byte b ++ hex_byte a)
 
--- the instruction that the bytes begin with, else data
+-- the instruction that was decoded from the start of the bytes, else data
 abbrev pub piece_text : Result (InstData × ℕ) DecodeErr → List ℕ → List ℕ
 piece_text (Ok found) bytes = text_of found.0
 piece_text (Err e) bytes = data_text bytes
 
--- and how many bytes it has
+-- the number of bytes of that instruction or data
 abbrev pub piece_size : Result (InstData × ℕ) DecodeErr → List ℕ → ℕ
 piece_size (Ok found) bytes = found.1
 piece_size (Err e) bytes = min 2 (length bytes)
 
--- the text of what the bytes begin with, an instruction or data
+-- the text of the instruction or data at the start of the bytes
 unfoldable pub text_at : List ℕ → List ℕ
 text_at bytes = piece_text (decoded_of bytes) bytes
 
--- how many bytes that is
+-- the size in bytes of the instruction or data at the start of the bytes
 unfoldable pub size_at : List ℕ → ℕ
 size_at bytes = piece_size (decoded_of bytes) bytes
 
--- behind a text: an address, the bytes there, and the line's end
+-- the comment of a line: an address, its bytes, and a line feed
 unfoldable pub remark : ℕ → List ℕ → List ℕ
 remark address bytes = codes " # " ++ (hex_word address ++ (32 ∷ (flat_map hex_byte bytes ++ 10 ∷ [])))
 
--- the line of what the bytes from an address on begin with
+-- the line of the instruction or data at the start of the bytes, which begin at an address
 unfoldable pub line_at : ℕ → List ℕ → List ℕ
 line_at address bytes = text_at bytes ++ remark address (take (size_at bytes) bytes)
 
--- the lines of the bytes from an address on, once `skip` bytes are passed over
+-- the lines of bytes that begin at an address, after the first `skip` bytes
 unfoldable pub lines_from : ℕ → List ℕ → ℕ → List ℕ
 lines_from address [] skip = []
 lines_from address (b ∷ bs) zero = line_at address (b ∷ bs) ++ lines_from (address + 1) bs (size_at (b ∷ bs) - 1)
 lines_from address (b ∷ bs) (suc skip) = lines_from (address + 1) bs skip
 
--- the line that begins the section of a number
+-- the line that begins the section of this number
 unfoldable pub section_line : ℕ → ℕ → List ℕ
 section_line number address = codes ".section s" ++ (decimal number ++ (codes " # " ++ (hex_word address ++ 10 ∷ [])))
 
--- the lines of a segment: that of its section, and those of its bytes
+-- the lines of a segment: the line of its section, and those of its bytes
 unfoldable pub section_text : ℕ → SegmentData → List ℕ
 section_text number s = section_line number s.at ++ lines_from s.at s.bytes 0
 
@@ -60,7 +60,7 @@ unfoldable pub sections_from : ℕ → List SegmentData → List ℕ
 sections_from number [] = []
 sections_from number (s ∷ ss) = section_text number s ++ sections_from (number + 1) ss
 
--- a segment among those in ascending order of their addresses
+-- a segment inserted into segments in ascending order of addresses
 unfoldable pub with_segment : SegmentData → List SegmentData → List SegmentData
 with_segment s [] = s ∷ []
 with_segment s (t ∷ ts) = if nat_lt s.at t.at then s ∷ t ∷ ts else t ∷ with_segment s ts
@@ -69,6 +69,6 @@ with_segment s (t ∷ ts) = if nat_lt s.at t.at then s ∷ t ∷ ts else t ∷ w
 abbrev pub by_address : List SegmentData → List SegmentData
 by_address ss = fold (λ sorted s. with_segment s sorted) [] ss
 
--- the listing: the segments in ascending order of their addresses, numbered so from 0
+-- the listing: the segments in ascending order of addresses, numbered from 0
 unfoldable pub listing_of : ImageData → List ℕ
 listing_of i = sections_from 0 (by_address i.segments)

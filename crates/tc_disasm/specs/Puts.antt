@@ -1,4 +1,4 @@
--- The fields that printed operands give back, one want after another.
+-- The fields that printed operands set, want by want.
 use Rattle.std.specs.Prelude.{true, false, List, fold}
 use Rattle.tc_isa.specs.declared.fields.Fields.{Fields}
 use Rattle.tc_isa.specs.Words.{fields}
@@ -7,7 +7,7 @@ use Rattle.tc_stmt.specs.declared.want.Want.{Want}
 use Rattle.tc_stmt.specs.declared.want.Want.TheVariants.{Reg, A10, Number, Target, Absolute, Memory}
 use Rattle.tc_stmt.specs.RowFields.{set_field, field_of}
 
--- a want's fields of f, in g
+-- g with the fields of f that a want names
 unfoldable pub given : Fields → Fields → Want → Fields
 given f g (Reg p x) = set_field x (field_of x f) g
 given f g A10 = g
@@ -17,6 +17,6 @@ given f g Absolute = set_field K f.k g
 given f g (Memory p true) = set_field K f.k (set_field S2 f.s2 g)
 given f g (Memory p false) = set_field S2 f.s2 g
 
--- the fields of f that wants give back, and zeros
+-- the fields of f that some want names, and zeros elsewhere
 abbrev pub all_given : Fields → List Want → Fields
 all_given f ws = fold (given f) (fields 0 0 0 0 0) ws

@@ -19,11 +19,11 @@ use Rattle.tc_stmt.specs.RowFields.{field_of}
 unfoldable pub register_text : Bool → ℕ → List ℕ
 register_text bank n = (if bank then 97 else 100) ∷ decimal n
 
--- whether the raw value of a field below a bound is a number below 0, and how far from 0 the number is
+-- the raw value of a field below a bound is a negative number
 abbrev pub is_minus : Bool → ℕ → ℕ → Bool
 is_minus signed bound v = signed && nat_le (bound / 2) v
 
--- how far from 0 the number in a field is
+-- the absolute value of the number in a field
 abbrev pub size_of : Bool → ℕ → ℕ → ℕ
 size_of signed bound v = if is_minus signed bound v then bound - v else v
 
@@ -31,7 +31,7 @@ size_of signed bound v = if is_minus signed bound v then bound - v else v
 unfoldable pub number_text : Bool → ℕ → ℕ → List ℕ
 number_text signed bound v = if is_minus signed bound v then 45 ∷ decimal (bound - v) else decimal v
 
--- a displacement reaches both ways, but in SBR rows
+-- a displacement can be negative, except in SBR rows
 unfoldable pub is_two_way : Form → Bool
 is_two_way form = not (is_sbr form)
 
@@ -39,7 +39,7 @@ is_two_way form = not (is_sbr form)
 unfoldable pub target_text : Bool → ℕ → ℕ → List ℕ
 target_text both bound k = 46 ∷ (if is_minus both bound k then 45 ∷ decimal (2 * (bound - k)) else 43 ∷ decimal (2 * k))
 
--- the address that the fields of an ABS row, or of a B row, name
+-- the address in the fields of an ABS row or of a B row
 unfoldable pub address_in : Form → Fields → ℕ
 address_in form f = if is_abs form then place f else code_place f
 
@@ -51,7 +51,7 @@ absolute_text form f = 48 ∷ 120 ∷ hex_word (address_in form f)
 unfoldable pub base_text : Bool → ℕ → List ℕ
 base_text plus n = 91 ∷ (register_text true n ++ (if plus then codes "+]" else codes "]"))
 
--- what stands at an operand's place, with these fields
+-- the operand that the row wants, with these fields
 unfoldable pub operand_text : Form → Fields → Want → List ℕ
 operand_text form f (Reg bank field) = register_text bank (field_of field f)
 operand_text form f A10 = codes "a10"
@@ -60,7 +60,7 @@ operand_text form f Target = target_text (is_two_way form) (bounds form).k f.k
 operand_text form f Absolute = absolute_text form f
 operand_text form f (Memory plus offset) = base_text plus f.s2 ++ (if offset then number_text true (bounds form).k f.k else [])
 
--- the operands behind a blank, parted by a comma and a blank
+-- the operands after a blank, separated by a comma and a blank
 unfoldable pub operands_text : Form → Fields → List Want → List ℕ
 operands_text form f [] = []
 operands_text form f (w ∷ ws) = 32 ∷ (operand_text form f w ++ flat_map (λ v. codes ", " ++ operand_text form f v) ws)

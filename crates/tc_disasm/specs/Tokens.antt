@@ -35,7 +35,7 @@ target both bound k = piece kind.Word (codes ".") ∷ (if is_minus both bound k 
 abbrev pub base : Bool → ℕ → List PieceData
 base plus n = piece kind.Open (91 ∷ []) ∷ piece kind.Word (register_text true n) ∷ (if plus then piece kind.Plus (43 ∷ []) ∷ piece kind.Close (93 ∷ []) ∷ [] else piece kind.Close (93 ∷ []) ∷ [])
 
--- the tokens of what stands at an operand's place
+-- the tokens of the operand that the row wants, with these fields
 unfoldable pub operand_tokens : Form → Fields → Want → List PieceData
 operand_tokens form f (Reg bank field) = piece kind.Word (register_text bank (field_of field f)) ∷ []
 operand_tokens form f A10 = piece kind.Word (codes "a10") ∷ []

@@ -1,8 +1,8 @@
--- Segments that are lent.
+-- Borrowed segments as plain data.
 use Rattle.std.specs.Borrow.{Bor}
 use Rattle.elf_image.specs.declared.segment.Segment.{Segment}
 use Rattle.elf_image.specs.Images.{SegmentData, segment_data}
 
--- the segment that is lent
+-- the plain data of a borrowed segment
 abbrev pub lent_data : Bor Segment → SegmentData
 lent_data s = segment_data s.now

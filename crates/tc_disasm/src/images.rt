@@ -1,4 +1,4 @@
-// The listing of an image.
+// Lists an image: its sections, with a line for each instruction.
 ghost use Rattle.std.specs.Prelude.{◌≡◌, ◌++◌, ◌≤◌, ◌+◌, ◌^◌, length, IfOk, OnOk, string_bytes, IsTrue, map};
 ghost use Rattle.std.specs.List.{list_all};
 ghost use Rattle.elf_image.specs.Images.{segment_data, is_segment};
@@ -14,7 +14,7 @@ use std::alloc::Global;
 use tcd_base::NoMemory;
 use tcd_text::append_hex_word;
 
-// The line that begins a section.
+// Appends the line that begins a section.
 #[tactic(auto, unfolding(crate::specs::Listing::section_line))]
 fn append_section_line(text: &mut String, number: u32, address: u32) -> Result<(), NoMemory>
     ensures { OnOk result
@@ -38,7 +38,7 @@ fn append_section(text: &mut String, number: u32, segment: &Segment) -> Result<(
     append_lines(text, segment.at, &segment.bytes)
 }
 
-// The sections, one behind the other.
+// Appends the sections, numbered from 0.
 fn append_sections(text: &mut String, segments: &[&Segment]) -> Result<(), NoMemory>
     requires few { length segments.now ≤ 64 }
     requires segments { IsTrue (list_all is_segment (map lent_data segments.now)) }
@@ -52,9 +52,14 @@ fn append_sections(text: &mut String, segments: &[&Segment]) -> Result<(), NoMem
     Ok(())
 }
 
-/// The listing of an image: for each segment, in ascending order of the addresses, a line `.section` with its number
-/// and address, and then a line for each instruction, with its address and bytes. Bytes that are no instruction are
-/// `.half`, or `.byte` for a last one. Each line ends with a line feed. Takes time linear in the image's size.
+/// The listing of an image.
+///
+/// For each segment, in ascending order of addresses, it has a line `.section` with the section's
+/// number and address. After it is a line for each instruction, with its address and bytes. Bytes
+/// that are no instruction are `.half`, or `.byte` for a single last one. Each line ends with a
+/// line feed.
+///
+/// The time is linear in the size of the image.
 #[tactic(auto, unfolding(crate::specs::Listing::listing_of))]
 pub fn listing(alloc: Global, image: &Image) -> Result<String, NoMemory>
     ensures { IfOk result (λ text. string_bytes text ≡ listing_of image.now) }

@@ -1,4 +1,4 @@
-// The text of an instruction.
+// Appends the text of an instruction.
 ghost use Rattle.std.specs.Prelude.{◌≡◌, ◌++◌, OnOk, string_bytes, codes};
 ghost use Rattle.std.specs.List.{flat_map};
 ghost use Rattle.tc_isa.specs.Words.{IsBelow, bounds};
@@ -13,7 +13,7 @@ use tc_isa::{Fields, Form, Inst, Row, rows};
 use tc_stmt::{Want, wants};
 use tcd_base::NoMemory;
 
-// An operand behind another one.
+// Appends a comma and an operand.
 fn append_next(text: &mut String, form: Form, f: &Fields, want: Want) -> Result<(), NoMemory>
     requires { IsBelow f.now (bounds form) }
     ensures { OnOk result
@@ -24,7 +24,7 @@ fn append_next(text: &mut String, form: Form, f: &Fields, want: Want) -> Result<
     append_operand(text, form, f, want)
 }
 
-// The operands behind the first one.
+// Appends the operands after the first one.
 fn append_others(text: &mut String, form: Form, f: &Fields, wants: &[Want]) -> Result<(), NoMemory>
     requires { IsBelow f.now (bounds form) }
     ensures { OnOk result
@@ -68,7 +68,7 @@ fn append_row(text: &mut String, row: &Row, wants: &[Want], f: &Fields) -> Resul
     append_operands(text, row.form, f, wants)
 }
 
-/// Puts the text of an instruction there.
+/// Appends the text of an instruction.
 pub(crate) fn append_instruction(text: &mut String, inst: &Inst) -> Result<(), NoMemory>
     ensures { OnOk result (string_bytes text.new ≡ string_bytes text.old ++ text_of inst.now) }
 {

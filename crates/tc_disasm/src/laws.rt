@@ -1,4 +1,4 @@
-// What is printed is read back.
+// Public laws of listings: assembling a listing gives the image again.
 ghost use Rattle.std.specs.Prelude.{◌≡◌, ◌<◌, ◌^◌, ◌++◌, ◌∷◌, ℕ, suc, true, Bool, if◌then◌else◌, ◌+◌, List, length, Ok, Some, option_map};
 ghost use Rattle.std.specs.Fmt.{decimal};
 ghost use Rattle.std.specs.List.{list_all};
@@ -18,7 +18,7 @@ ghost use Rattle.tc_disasm.specs.Tokens.{piece, printed_operands};
 ghost use Rattle.tc_disasm.specs.Lexed.{IsStop, lexed};
 ghost use Rattle.tc_disasm.specs.Assembled.{ListingLaw};
 
-/// The numbers, addresses and registers of a listing are read back as what was printed.
+/// The numbers, addresses and registers of a listing are read as the values that were printed.
 pub fn number_laws()
     ensures decimals { (n : ℕ) → n < 2 ^ 64 → number_of (decimal n) ≡ Some n }
     ensures addresses { (x : ℕ) → x < 2 ^ 32 → number_of (48 ∷ 120 ∷ hex_word x) ≡ Some x }
@@ -26,7 +26,8 @@ pub fn number_laws()
         → register_of (register_text bank n) ≡ (if bank then 16 else 0) + n }
 {}
 
-/// A word or decimal number that stands at the front of a text is its first token, and the rest's tokens follow.
+/// A word or decimal number at the start of a text is its first token, and the tokens of the rest
+/// follow.
 pub fn token_laws()
     ensures words { (c : ℕ) (cs rest : List ℕ) → is_name_first c ≡ true
         → list_all is_name_byte (c ∷ cs) ≡ true
@@ -39,16 +40,16 @@ pub fn token_laws()
         ≡ option_map (λ ps. piece k (c ∷ cs) ∷ ps) (lexed rest room 0) }
 {}
 
-/// The statement of an instruction's name and of its operands as they are printed is the instruction: its row, its
-/// fields, no rule broken and no symbol.
+/// An instruction's name and its printed operands are a statement of that instruction: its row and
+/// its fields, with no symbol, and no rule broken.
 pub fn statement_law()
     ensures { (i : InstData) (is : IsInst i)
         → statement is.row.name (printed_operands is.row (fields_in i))
         ≡ Ok (i.row, record no_fields { fields = fields_in i }) }
 {}
 
-/// The listing of an image is assembled: it is a source that `assemble` takes, none of its lines breaks a rule, and the
-/// object has the image's segments as its sections, in ascending order of the addresses.
+/// The listing of an image can be assembled: it is short enough for `assemble`, and no line breaks
+/// a rule. The sections of its object are the image's segments in ascending order of addresses.
 pub fn listing_law()
     ensures { ListingLaw }
 {}

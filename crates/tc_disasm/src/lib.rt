@@ -1,4 +1,4 @@
-//! Images as text.
+//! The disassembler: prints an image as a listing.
 #![tactic(auto)]
 
 mod images;
@@ -12,4 +12,4 @@ mod texts;
 
 pub use images::listing;
 pub use laws::{listing_law, number_laws, statement_law, token_laws};
-pub use reassembling::reassembled;
+pub use reassembling::reassemble;

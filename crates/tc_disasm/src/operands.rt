@@ -1,4 +1,4 @@
-// The text of an operand.
+// Appends the text of an operand.
 ghost use Rattle.std.specs.Prelude.{◌≡◌, ◌≤◌, ◌*◌, ◌++◌, OnOk, string_bytes, ◌<◌, ◌^◌};
 ghost use Rattle.std.specs.Fmt.{decimal};
 ghost use Rattle.tc_isa.specs.Words.{IsBelow, bounds};
@@ -9,11 +9,11 @@ ghost use Rattle.tc_disasm.specs.Texts.{register_text, number_text, is_two_way, 
 
 use crate::texts::{append, append_digit};
 use tc_isa::{Fields, Form, bounds_of};
-use tc_stmt::{Field, Want};
+use tc_stmt::{Field, Want, field_of};
 use tcd_base::NoMemory;
 use tcd_text::append_hex_word;
 
-// Puts a number below 100 there, digit by digit.
+// Appends a number below 100, digit by digit.
 #[tactic(auto, using(crate::proofs::SmallNumbers::one_digit))]
 fn append_small(text: &mut String, n: u32) -> Result<(), NoMemory>
     requires { n < 100 }
@@ -26,7 +26,7 @@ fn append_small(text: &mut String, n: u32) -> Result<(), NoMemory>
     append_digit(text, n % 10)
 }
 
-/// Puts a number there, in decimal.
+/// Appends a number in decimal.
 pub(crate) fn append_decimal(text: &mut String, n: u32) -> Result<(), NoMemory>
     ensures { OnOk result (string_bytes text.new ≡ string_bytes text.old ++ decimal n) }
 {
@@ -39,19 +39,6 @@ pub(crate) fn append_decimal(text: &mut String, n: u32) -> Result<(), NoMemory>
     }
     write!(text, "{n}")?;
     Ok(())
-}
-
-#[tactic(auto, unfolding(tc_stmt::specs::RowFields::field_of))]
-fn field_of(field: Field, f: &Fields) -> u32
-    ensures { result ≡ field_of field f.now }
-{
-    match field {
-        Field::C => u32::from(f.c),
-        Field::S1 => u32::from(f.s1),
-        Field::S2 => u32::from(f.s2),
-        Field::N => u32::from(f.n),
-        Field::K => f.k,
-    }
 }
 
 #[tactic(auto, unfolding(crate::specs::Texts::register_text))]
@@ -164,7 +151,7 @@ fn append_memory(
     Ok(())
 }
 
-/// Puts what stands at an operand's place there.
+/// Appends the operand that the row wants here.
 #[tactic(auto, unfolding(crate::specs::Texts::operand_text))]
 pub(crate) fn append_operand(
     text: &mut String,

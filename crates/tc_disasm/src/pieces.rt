@@ -1,4 +1,4 @@
-// The lines of the bytes from an address on.
+// Appends a line for each instruction or piece of data of a segment.
 ghost use Rattle.std.specs.Prelude.{◌≡◌, ◌<◌, ◌≤◌, ◌+◌, ◌^◌, ◌++◌, ◌∷◌, [], OnOk, IfOk, string_bytes, codes, length, min, drop};
 ghost use Rattle.std.specs.List.{flat_map};
 ghost use Rattle.tcd_text.specs.Digits.{hex_byte, hex_word};
@@ -10,7 +10,7 @@ use tc_encode::decode;
 use tcd_base::NoMemory;
 use tcd_text::{append_ascii, append_hex_byte, hex_byte, hex_word};
 
-// The data that bytes begin with, which are no instruction.
+// Appends the first one or two bytes as data.
 fn append_data(text: &mut String, bytes: &[u8]) -> Result<(), NoMemory>
     ensures { OnOk result (string_bytes text.new ≡ string_bytes text.old ++ data_text bytes.now) }
 {
@@ -28,7 +28,7 @@ fn append_data(text: &mut String, bytes: &[u8]) -> Result<(), NoMemory>
     }
 }
 
-// What bytes begin with, and how many bytes it has.
+// Appends the first instruction, or data if there is none, and returns its size in bytes.
 #[tactic(auto, unfolding(crate::specs::Listing::text_at, crate::specs::Listing::size_at))]
 fn append_text(text: &mut String, bytes: &[u8]) -> Result<usize, NoMemory>
     requires { 0 < length bytes.now }
@@ -50,7 +50,7 @@ fn append_text(text: &mut String, bytes: &[u8]) -> Result<usize, NoMemory>
     }
 }
 
-// An address, two bytes and the line's end.
+// Appends an address, two bytes and a line feed.
 fn append_half_remark(text: &mut String, address: u32, a: u8, b: u8) -> Result<(), NoMemory>
     ensures { OnOk result (string_bytes text.new ≡ string_bytes text.old ++ (codes " # "
         ++ (hex_word address ++ (32 ∷ (hex_byte a ++ (hex_byte b ++ (10 ∷ []))))))) }
@@ -65,7 +65,7 @@ fn append_half_remark(text: &mut String, address: u32, a: u8, b: u8) -> Result<(
     append_ascii(text, &line)
 }
 
-// An address, four bytes and the line's end.
+// Appends an address, four bytes and a line feed.
 fn append_four_remark(
     text: &mut String,
     address: u32,
@@ -90,7 +90,7 @@ fn append_four_remark(
     append_ascii(text, &line)
 }
 
-// Bytes, in hex digits.
+// Appends bytes in hex digits.
 fn append_each(text: &mut String, bytes: &[u8]) -> Result<(), NoMemory>
     ensures { OnOk result (string_bytes text.new
         ≡ string_bytes text.old ++ flat_map hex_byte bytes.now) }
@@ -101,7 +101,7 @@ fn append_each(text: &mut String, bytes: &[u8]) -> Result<(), NoMemory>
     Ok(())
 }
 
-// An address, any bytes and the line's end.
+// Appends an address, any number of bytes and a line feed.
 #[tactic(auto, unfolding(crate::specs::Listing::remark))]
 fn append_long_remark(text: &mut String, address: u32, bytes: &[u8]) -> Result<(), NoMemory>
     ensures { OnOk result
@@ -112,7 +112,7 @@ fn append_long_remark(text: &mut String, address: u32, bytes: &[u8]) -> Result<(
     append(text, "\n")
 }
 
-// An address, the bytes there, and the line's end.
+// Appends an address, its bytes and a line feed.
 #[tactic(auto, unfolding(crate::specs::Listing::remark))]
 fn append_remark(text: &mut String, address: u32, bytes: &[u8]) -> Result<(), NoMemory>
     ensures { OnOk result
@@ -125,7 +125,7 @@ fn append_remark(text: &mut String, address: u32, bytes: &[u8]) -> Result<(), No
     }
 }
 
-// A line, and how many bytes it lists.
+// Appends the line of the first instruction or data, and returns its size in bytes.
 #[tactic(auto, unfolding(crate::specs::Listing::line_at))]
 fn append_line(text: &mut String, address: u32, bytes: &[u8]) -> Result<usize, NoMemory>
     requires { 0 < length bytes.now }
@@ -140,7 +140,7 @@ fn append_line(text: &mut String, address: u32, bytes: &[u8]) -> Result<usize, N
     Ok(size)
 }
 
-// The line at a place of the bytes, and how many bytes it lists.
+// Appends the line of the instruction or data at the offset `at`, and returns its size in bytes.
 fn append_line_at(
     text: &mut String,
     address: u32,
@@ -159,7 +159,7 @@ fn append_line_at(
     append_line(text, address + at as u32, &bytes[at..])
 }
 
-/// Puts the lines of the bytes from an address on there; each byte is looked at a bounded number of times.
+/// Appends the lines of bytes that begin at an address. The time is linear in their number.
 pub(crate) fn append_lines(text: &mut String, address: u32, bytes: &[u8]) -> Result<(), NoMemory>
     requires { address + length bytes.now ≤ 2 ^ 32 }
     ensures { OnOk result

@@ -1,4 +1,4 @@
-// The object of an image's listing.
+// Assembles the listing of an image.
 ghost use Rattle.std.specs.Prelude.{◌≡◌, IfOk, IfErr};
 ghost use Rattle.tc_asm.specs.declared.errors.AsmErr.TheVariants.{NoMemory};
 ghost use Rattle.tc_disasm.specs.Assembled.{HoldsSegments};
@@ -9,13 +9,13 @@ use std::alloc::Global;
 use tc_asm::{AsmErr, assemble};
 use tc_object::Object;
 
-/// The object of the listing of an image: its sections are the segments' bytes, in ascending order of the addresses. A
-/// listing breaks no rule of a source, so only want of memory keeps its object.
-pub fn reassembled(alloc: Global, image: &Image) -> Result<Object, AsmErr>
+/// The object of the listing of an image. Its sections are the bytes of the segments in ascending
+/// order of addresses. No listing breaks a rule of sources, so the only error is out of memory.
+pub fn reassemble(alloc: Global, image: &Image) -> Result<Object, AsmErr>
     ensures holds { IfOk result (λ o. HoldsSegments image.now.segments o) }
     ensures never { IfErr result (λ e. e ≡ NoMemory) }
 {
-    // What holds of each image is known of one that is looked at.
+    // A look at a field tells the prover the invariant of the image.
     let _entry = image.entry;
     match listing(alloc, image) {
         Ok(text) => assemble(alloc, text.as_bytes()),

@@ -1,11 +1,11 @@
-// Texts, put behind one another.
+// Appends short texts and addresses.
 ghost use Rattle.std.specs.Prelude.{◌≡◌, ◌<◌, ◌+◌, ◌++◌, ◌∷◌, [], OnOk, string_bytes, codes};
 ghost use Rattle.tcd_text.specs.Digits.{hex_word};
 
 use tcd_base::NoMemory;
 use tcd_text::{append_ascii, hex_word};
 
-/// Puts a text behind what stands there.
+/// Appends a text.
 pub(crate) fn append(text: &mut String, more: &str) -> Result<(), NoMemory>
     ensures { OnOk result (string_bytes text.new ≡ string_bytes text.old ++ more.now) }
 {
@@ -13,7 +13,7 @@ pub(crate) fn append(text: &mut String, more: &str) -> Result<(), NoMemory>
     Ok(())
 }
 
-/// Puts a decimal digit there.
+/// Appends a decimal digit.
 pub(crate) fn append_digit(text: &mut String, n: u32) -> Result<(), NoMemory>
     requires { n < 10 }
     ensures { OnOk result (string_bytes text.new ≡ string_bytes text.old ++ ((48 + n) ∷ [])) }
@@ -22,7 +22,7 @@ pub(crate) fn append_digit(text: &mut String, n: u32) -> Result<(), NoMemory>
     Ok(())
 }
 
-/// Puts the mark of a remark and an address there.
+/// Appends the mark of a comment and an address.
 pub(crate) fn append_address(text: &mut String, address: u32) -> Result<(), NoMemory>
     ensures { OnOk result (string_bytes text.new
         ≡ string_bytes text.old ++ (codes " # " ++ (hex_word address ++ (32 ∷ [])))) }

@@ -1,7 +1,7 @@
 use Rattle.std.proofs.Common.{◌∙◌}
 use Rattle.elf_image.specs.Images.{image_data}
 use Rattle.tc_disasm.proofs.Whole.{reads_back-of, short_source, holds_of, never_of}
-use Rattle.tc_disasm.proofs.reassembling.reassembled.Goals as goal
+use Rattle.tc_disasm.proofs.reassembling.reassemble.Goals as goal
 
 pub assemble-requires : goal.assemble-requires
 assemble-requires c =
