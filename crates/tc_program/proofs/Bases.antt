@@ -1,4 +1,4 @@
--- Where the sections of sources begin.
+-- The addresses of the sections of sources.
 use Rattle.std.proofs.Common.{◌≡◌, ◌+◌, ◌&&◌, ◌||◌, ℕ, zero, suc, Bool, true, false, cond, List, [], ◌∷◌, ◌++◌, length, take, Option, Some, None, refl, sym, ap, ◌∙◌, arith, append_assoc, append-nil}
 use Rattle.std.specs.Prelude.{slice_get, slice_index, nat_lt, not}
 use Rattle.std.specs.Option.{option_map_or, option_or}
@@ -16,7 +16,7 @@ use Rattle.tc_asm.proofs.SourceParts.{sections_are}
 use Rattle.tc_program.proofs.Sections.{AreObjects, all_sections, objects_take}
 
 -- ---- none of the items is refused
-none_parts : {B : Type 0} (a b : Option B) → option_or a b ≡ None → (a ≡ None) × (b ≡ None)
+pub none_parts : {B : Type 0} (a b : Option B) → option_or a b ≡ None → (a ≡ None) × (b ≡ None)
 none_parts None b e = (refl, e)
 none_parts (Some x) b e = cc
 
@@ -31,7 +31,7 @@ none_at {A} {B} f n (y ∷ ys) (suc i) x e h =
     let moved : n + suc i ≡ n + 1 + i = omega arith in
     ap (λ k. f k x) moved ∙ none_at f (n + 1) ys i x (none_parts (f n y) (first_at f (n + 1) ys) e).1 h
 
--- ---- the objects where they are placed
+-- ---- the objects at their addresses
 abbrev placed : ObjectData → List ℕ → PlacedData
 placed o bases = record { object = o; bases = bases }
 

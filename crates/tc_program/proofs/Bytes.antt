@@ -54,7 +54,7 @@ module _ (source : List ℕ) (good : GoodItems (symbols_of (lines_in source)) st
         section_data : List ℕ → List ℕ → SectionData
         section_data name bs = record { name = name; bytes = bs }
 
-    -- a statement's bytes stand there at its offset
+    -- a statement's bytes are at its offset
     pub statement_there : (j : ℕ) (t : StatementData) → slice_get (statements_in source) j ≡ Some t → (k b : ℕ) →
         slice_get (filled_bytes g p (draft_in source).symbols t.section (0 + offset_of (statements_in source) j t.section) t.reference t.bytes) k ≡ Some b →
         slice_get (section_bytes t.section (filled_from g p (draft_in source).symbols t.section 0 (statements_in source))) (offset_of (statements_in source) j t.section + k) ≡ Some b

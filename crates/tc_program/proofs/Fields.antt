@@ -1,4 +1,4 @@
--- The bytes of sections whose relocations are written: those of their statements, with the fields of symbols filled.
+-- The bytes of sections after relocations: those of their statements, with filled fields.
 use Rattle.std.proofs.Common.{◌≡◌, ◌+◌, ℕ, zero, suc, Bool, true, false, cond, List, [], ◌∷◌, ◌++◌, length, take, drop, map, Option, Some, None, refl, sym, ap, ◌∙◌, arith, append_assoc, ◌==◌}
 use Rattle.std.specs.Prelude.{slice_get, slice_set, fold, if◌then◌else◌}
 use Rattle.std.specs.Option.{option_map_or}
@@ -37,7 +37,7 @@ module _ (g : List GlobalData) (p : PlacedData) (symbols : List SymbolData) wher
       ap (λ (ss : List SectionData). fold (with_reloc g p) ss (map (reloc_of symbols n) us ++ rest)) (reloc_here before after sec n u e)
       ∙ relocs_here before after (stepped n sec u) n us rest e
 
-  -- the sections of parts, the first of which has this number, with their uses written
+  -- the sections of parts, numbered from this number on, with their uses written
   abbrev pub finished : ℕ → List PartData → List SectionData
   finished n [] = []
   finished n (q ∷ qs) = fold (stepped n) (section_of q) q.uses ∷ finished (n + 1) qs
@@ -66,7 +66,7 @@ module _ (g : List GlobalData) (p : PlacedData) (symbols : List SymbolData) wher
       finished_at (n + 1) i xs q e ∙ ap (λ k. Some (fold (stepped k) (section_of q) q.uses)) moved
 
   -- ---- the bytes of a section
-  -- the bytes of a statement of this section behind so many
+  -- the bytes of a statement of this section at this offset, with its field filled
   abbrev pub filled_bytes : ℕ → ℕ → Option ReferenceData → List ℕ → List ℕ
   filled_bytes s n None bytes = bytes
   filled_bytes s n (Some r) bytes =
@@ -74,13 +74,13 @@ module _ (g : List GlobalData) (p : PlacedData) (symbols : List SymbolData) wher
       then with_field r.kind bytes (content_of r.kind (field_place p (reloc_of symbols s (record { offset = n; reference = r }))) (value_of g p (reloc_of symbols s (record { offset = n; reference = r }))))
       else bytes
 
-  -- the statements of this section, of which there are so many bytes before, with their fields filled
+  -- the statements of this section from this offset on, with their fields filled
   abbrev pub filled_from : ℕ → ℕ → List StatementData → List StatementData
   filled_from s n [] = []
   filled_from s n (t ∷ ts) =
       if t.section == s then record t { bytes = filled_bytes s n t.reference t.bytes } ∷ filled_from s (n + length t.bytes) ts else t ∷ filled_from s n ts
 
-  -- one field
+  -- a single field
   field_written : (name before bytes rest : List ℕ) (s : ℕ) (r : ReferenceData) → is_open (Some r) ≡ true → length bytes ≡ 4 →
       stepped s (record { name = name; bytes = before ++ (bytes ++ rest) }) (record { offset = length before; reference = r }) ≡ record { name = name; bytes = before ++ (filled_bytes s (length before) (Some r) bytes ++ rest) }
   field_written name before bytes rest s r waits four =
@@ -164,7 +164,7 @@ module _ (g : List GlobalData) (p : PlacedData) (symbols : List SymbolData) wher
           ∙ ap (λ b. whole name (before ++ (cond b (filled_bytes s (length before) t.reference t.bytes) [] ++ section_bytes s (filled_from s (length before + length t.bytes) ts)))) (sym e)
       by false e rec = rec before ∙ ap (λ b. whole name (before ++ (cond b t.bytes [] ++ section_bytes s (filled_from s (length before) ts)))) (sym e)
 
-  -- a statement with its field filled is at its own place, behind the same bytes
+  -- a statement with its field filled is at its own place, after the same bytes
   pub filled_at : (s n j : ℕ) (ts : List StatementData) (t : StatementData) → HaveFields ts → slice_get ts j ≡ Some t → (t.section == s) ≡ true →
       slice_get (filled_from s n ts) j ≡ Some (record t { bytes = filled_bytes s (n + offset_of ts j s) t.reference t.bytes })
   filled_at s n j [] t h e here = cc

@@ -1,10 +1,10 @@
--- Where the bytes of sections stand in the segments of an image.
+-- The addresses of the bytes of sections in the segments of an image.
 use Rattle.std.proofs.Common.{◌≡◌, ◌<◌, ◌≤◌, ◌+◌, ◌-◌, ◌⊎◌, ◌&&◌, ◌||◌, inl, inr, ℕ, zero, suc, Bool, true, false, cond, List, [], ◌∷◌, ◌++◌, length, take, map, replicate, Some, refl, sym, ap, ◌∙◌, arith, append_assoc}
 use Rattle.std.specs.Prelude.{slice_get, fold, find, nat_lt, nat_le}
 use Rattle.std.specs.List.{list_all}
 use Rattle.std.specs.Str.{bytes_eq}
 use Rattle.std.proofs.lemmas.Bool.{ltb-true, leb-true, lt-ltb, le-leb, and_parts}
-use Rattle.std.proofs.lemmas.List.{length-append, append-nil, length-replicate}
+use Rattle.std.proofs.lemmas.List.{append-nil}
 use Rattle.std.proofs.lemmas.List.Sums.{fold-append}
 use Rattle.std.proofs.lemmas.Option.{slice_get_within}
 use Rattle.std.proofs.lemmas.Slice.Eq.{bytes_eq-Decides}
@@ -16,9 +16,10 @@ use Rattle.tc_link.specs.Relocated.{with_padding, with_section, joined_sections}
 use Rattle.tc_link.specs.Shapes.{Shape, shape_of}
 use Rattle.tc_link.proofs.ShapeLaws.{length-joined, taken-shapes}
 use Rattle.tc_stmt.proofs.ListItems.{get_short, in_front_or_rest, InRest, map_get, map_at, map_take}
+use Rattle.tc_link.proofs.ShapeLaws.{padded_length}
 
 -- ---- the bytes of a place
--- what was put together stays in front
+-- the bytes so far remain at the start
 record Longer (name before : List ℕ) (ss : List SectionData) : Type 0 where
   more : List ℕ
   is : fold (with_section name) before ss ≡ before ++ more
@@ -37,10 +38,7 @@ stays name (s ∷ ss) before = by (bytes_eq name s.name) refl (stays name ss (wi
     }
     by false e h = record { more = h.more; is = h.is ∙ ap (λ b. cond b (with_padding before ++ s.bytes) before ++ h.more) e }
 
-padded_length : (bytes : List ℕ) → length (with_padding bytes) ≡ round_up (length bytes)
-padded_length bytes = omega (arith, length-append bytes (replicate (round_up (length bytes) - length bytes) 0), length-replicate {A = ℕ} (round_up (length bytes) - length bytes) 0)
-
--- a section stands behind those of its name, at a multiple of 4
+-- a section is after those of its name, at a multiple of 4
 pub record Stands (name : List ℕ) (before : List SectionData) (s : SectionData) (after : List SectionData) : Type 0 where
   pub front : List ℕ
   pub rest : List ℕ
@@ -60,8 +58,8 @@ stands name before s after e =
       place = padded_length (fold (with_section name) [] before) ∙ ap round_up (length-joined name before);
     }
 
--- ---- what a byte of a place is
--- in a section of this name, that begins behind those before it
+-- ---- the bytes of a place
+-- a place in a section of this name, which begins after the sections before it
 pub record InSection (name : List ℕ) (ss : List SectionData) (start : List SectionData → ℕ) (k : ℕ) : Type 0 where
   pub at : ℕ
   pub section : SectionData
@@ -190,7 +188,7 @@ not_both s t x apart low high = by (holds s x) refl (or_parts (nat_le (s.at + le
         let less = leb-true (t.at + length t.bytes) s.at l in
         absurd (omega arith)
 
--- where no two segments share an address, the byte at one is that of the segment that holds it
+-- if no two segments share an address, the byte at an address is that of the segment that holds it
 pub byte_here : (ss : List SegmentData) (i : ℕ) (t : SegmentData) (k b : ℕ) → all_apart ss ≡ true → slice_get ss i ≡ Some t → slice_get t.bytes k ≡ Some b → byte_in ss (t.at + k) ≡ Some b
 byte_here [] i t k b apart e h = cc
 byte_here (s ∷ ss) zero t k b apart e h =

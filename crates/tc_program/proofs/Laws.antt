@@ -2,7 +2,6 @@
 use Rattle.std.proofs.Common.{◌≡◌, ◌<◌, ℕ, zero, suc, List, [], ◌∷◌, length, get_or, map, Option, Some, None, Ok, refl, sym, ap, subst, ◌∙◌, arith}
 use Rattle.std.specs.Prelude.{slice_get}
 use Rattle.std.specs.List.{flat_map}
-use Rattle.std.specs.Option.{option_or}
 use Rattle.elf_image.specs.Images.{ImageData}
 use Rattle.tc_object.specs.Objects.{ObjectData, IsObject}
 use Rattle.tc_asm.specs.Kept.{IsDraft}
@@ -21,6 +20,7 @@ use Rattle.tc_program.proofs.Sections.{AreObjects, all_sections}
 use Rattle.tc_asm.proofs.SourceDrafts.{source_draft, source_object}
 use Rattle.tc_program.proofs.Names.{global_at}
 use Rattle.tc_program.proofs.Spans.{spans}
+use Rattle.tc_program.proofs.Bases.{none_parts}
 
 -- ---- sources and their objects
 pub are_objects : (sources : List (List ℕ)) (objects : List ObjectData) → AreAssembled sources objects → AreObjects sources objects
@@ -42,7 +42,7 @@ objects_good (x ∷ xs) [] h k d less = absurd h
 objects_good (x ∷ xs) (o ∷ os) h zero d less = subst IsObject (sym h.0.1) (source_object x h.0.0)
 objects_good (x ∷ xs) (o ∷ os) h (suc k) d less = objects_good xs os h.1 k d (omega arith)
 
--- ---- what linking found
+-- ---- the results of the linker's checks
 pub record Parts (objects : List ObjectData) (layout : LayoutData) (image : ImageData) : Type 0 where
   pub early : refused_early layout objects ≡ None
   pub relocs : reloc_in (globals_of (placed_of layout objects)) (placed_of layout objects) ≡ None
@@ -73,10 +73,6 @@ parts_of objects layout image e = by_early (refused_early layout objects) refl e
     by_early : (r : Option Refusal) → refused_early layout objects ≡ r → unless r (made_of layout (placed_of layout objects)) ≡ Ok image → Parts objects layout image
     by_early (Some x) is f = cc
     by_early None is f = by_reloc (reloc_in (globals_of (placed_of layout objects)) (placed_of layout objects)) refl is f
-
-none_parts : {B : Type 0} (a b : Option B) → option_or a b ≡ None → (a ≡ None) × (b ≡ None)
-none_parts None b e = (refl, e)
-none_parts (Some x) b e = cc
 
 pub placeable : (objects : List ObjectData) (layout : LayoutData) → refused_early layout objects ≡ None → no_place_in layout.places objects ≡ None
 placeable objects layout e = (none_parts _ _ (none_parts _ _ (none_parts _ _ e).1).1).0

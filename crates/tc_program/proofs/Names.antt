@@ -91,13 +91,13 @@ part_there [] n h = absurd (omega arith)
 part_there (p ∷ ps) zero h = (p, refl)
 part_there (p ∷ ps) (suc n) h = part_there ps n (omega arith)
 
--- ---- where a label stands
+-- ---- the address of a label
 module _ (layout_places : List PlaceData) (sources : List (List ℕ)) (objects : List ObjectData) (are : AreObjects sources objects) (placeable : no_place_in layout_places objects ≡ None)
     (good : (i : ℕ) (source : List ℕ) → slice_get sources i ≡ Some source → IsDraft (draft_in source)) where
   abbrev pub bases : ℕ → List ℕ → List ℕ
   bases i source = bases_after layout_places (placing.sections_of (take i objects)) (object_of (draft_in source)).sections
 
-  -- a section in which a label stands has a base
+  -- a section with a label has a base
   labelled : (i : ℕ) (source : List ℕ) (k : ℕ) (s : SymbolData) (p : Place) → slice_get sources i ≡ Some source → slice_get (draft_in source).symbols k ≡ Some s → s.entry.place ≡ Some p →
       Begins layout_places sources i p.section (slice_index (bases i source) p.section)
   labelled i source k s p at there placed =

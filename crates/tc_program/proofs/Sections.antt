@@ -8,7 +8,7 @@ use Rattle.tc_asm.specs.Contents.{draft_in}
 use Rattle.tc_program.specs.Addresses.{sections_of}
 use Rattle.tc_asm.proofs.SourceParts.{sections_are}
 
--- objects of sources, each of its own
+-- the objects of sources, one for each source
 abbrev pub AreObjects : List (List ℕ) → List ObjectData → Type 0
 AreObjects [] [] = Unit {0}
 AreObjects [] (o ∷ os) = ⊥

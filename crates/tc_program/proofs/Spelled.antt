@@ -42,7 +42,8 @@ code_fills labels d k f o r c is waits =
       filled = λ n room. (filled_fits k c.row (resolved labels d k f o).fields r.kind n c.at fit takes.1 room, ap (λ (bs : List ℕ). with_field r.kind bs n) bytes_are ∙ filled_row c.row (resolved labels d k f o).fields r.kind n (row_at k c.row c.at) fit takes.0 takes.1 room);
     }
 
--- what a statement is by its symbol
+-- a statement that waits for an address is a word of data, or an instruction with a constant to
+-- fill
 record Waits (t : StatementData) : Type 0 where
   so : (r : ReferenceData) → t.reference ≡ Some r → is_reloc r.kind ≡ true → (r.kind ≡ 7) ⊎ FillsRow r.kind t.bytes
 

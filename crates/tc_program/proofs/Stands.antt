@@ -1,4 +1,4 @@
--- Each statement with bytes stands at its address in the image.
+-- Each statement with bytes is at its address in the image.
 use Rattle.std.proofs.Common.{◌≡◌, ◌<◌, ◌≤◌, ◌+◌, ◌%◌, ◌^◌, ◌||◌, ◌==◌, ℕ, zero, suc, Bool, true, false, cond, List, [], ◌∷◌, ◌++◌, length, take, drop, map, get_or, Option, Some, None, refl, sym, ap, subst, ◌∙◌, arith}
 use Rattle.std.specs.Prelude.{slice_get, slice_index, unwrap_or, nat_lt, not}
 use Rattle.std.specs.Option.{option_map, option_map_or, option_or}

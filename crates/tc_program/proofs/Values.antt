@@ -1,7 +1,7 @@
--- What relocations write: the addresses that names mean.
+-- The values that relocations write are the addresses of names.
 use Rattle.std.proofs.Common.{◌≡◌, ◌+◌, ◌&&◌, ◌==◌, ℕ, Bool, true, false, cond, List, [], ◌∷◌, ◌++◌, map, Option, Some, None, refl, sym, ap, subst, ◌∙◌, arith}
 use Rattle.std.specs.Prelude.{slice_get, find, filter, count_by}
-use Rattle.std.specs.Option.{option_map, option_map_or, option_or}
+use Rattle.std.specs.Option.{option_map, option_map_or}
 use Rattle.std.specs.Bool.{then_some}
 use Rattle.std.specs.Str.{bytes_eq}
 use Rattle.std.proofs.lemmas.Bool.Decides.{Decides-eqb}
@@ -20,15 +20,11 @@ use Rattle.tc_link.specs.Placing.{GlobalData, placed_after, bases_after, is_glob
 use Rattle.tc_asm.specs.Contents.{draft_in, symbols_in}
 use Rattle.tc_program.specs.Addresses.{Means, own, other}
 use Rattle.tc_stmt.proofs.ListItems.{map_get}
-use Rattle.tc_program.proofs.Bases.{none_at}
+use Rattle.tc_program.proofs.Bases.{none_at, none_parts}
 use Rattle.tc_program.proofs.Sections.{AreObjects, object_at}
 use Rattle.tc_program.proofs.Names.{entry_at, label_at, global_at, bases}
 
 -- ---- a name that objects use and don't define is global in one
-or_none : {A : Type 0} (a b : Option A) → option_or a b ≡ None → (a ≡ None) × (b ≡ None)
-or_none None b e = (refl, e)
-or_none (Some x) b e = cc
-
 abbrev is_named : List ℕ → GlobalData → Bool
 is_named name x = bytes_eq name x.name
 
@@ -51,7 +47,7 @@ none_all name places before [] e = refl
 none_all name places before (o ∷ os) e =
     let first : List GlobalData = map (global_data (bases_after places before o.sections)) (filter is_global o.symbols) in
     let rest : List GlobalData = globals_of (placed_after places (before ++ o.sections) os) in
-    let parts = or_none (find (is_named name) first) (find (is_named name) rest) (sym (find-append (is_named name) first rest) ∙ e) in
+    let parts = none_parts (find (is_named name) first) (find (is_named name) rest) (sym (find-append (is_named name) first rest) ∙ e) in
     let here = none_in name (bases_after places before o.sections) o.symbols parts.0 in
     let more = none_all name places (before ++ o.sections) os parts.1 in
     sum_by-append (λ x. cond (has_global_name name x) 1 0) o.symbols (symbols_of os) ∙ omega arith
@@ -80,7 +76,7 @@ global_there places objects i o k x e at there kind uses =
     by None f some = absurd (never (globals_named objects x.name) (none_all x.name places [] objects f) some)
     by (Some y) f some = (y.address, ap (option_map (λ (z : GlobalData). z.address)) f)
 
--- ---- what a symbol of a source means
+-- ---- the address of a symbol of a source
 module _ (layout_places : List PlaceData) (sources : List (List ℕ)) (objects : List ObjectData) (are : AreObjects sources objects) (placeable : no_place_in layout_places objects ≡ None)
     (good : (i : ℕ) (source : List ℕ) → slice_get sources i ≡ Some source → IsDraft (draft_in source)) (known : missing_in objects ≡ None) where
   abbrev globals : List GlobalData

@@ -1,4 +1,4 @@
--- All bytes of the image that stand in no statement are 0.
+-- All bytes of the image outside statements are 0.
 use Rattle.std.proofs.Common.{◌≡◌, ◌<◌, ◌≤◌, ◌+◌, ◌-◌, ◌⊎◌, ◌==◌, inl, inr, ℕ, suc, Bool, true, false, cond, List, [], ◌∷◌, ◌++◌, length, take, map, Some, refl, sym, ap, subst, ◌∙◌, arith}
 use Rattle.std.specs.Prelude.{slice_get, nat_lt}
 use Rattle.std.proofs.lemmas.Bool.{ltb-false, ltb-true}
@@ -37,7 +37,7 @@ record Covering (s : ℕ) (ts : List StatementData) (m : ℕ) : Type 0 where
   low : offset_of ts index s ≤ m
   high : m < offset_of ts index s + length statement.bytes
 
--- behind a statement of this section, or of another
+-- after a statement of this section, or of another
 later : (s : ℕ) (x : StatementData) (xs : List StatementData) (m n : ℕ) (b : Bool) → (x.section == s) ≡ b → n ≡ length {A = ℕ} (cond b x.bytes []) + m → Covering s xs m → Covering s (x ∷ xs) n
 later s x xs m n b e far c =
     let low = c.low in
@@ -73,7 +73,7 @@ section_is source s x e =
 
 -- ---- the bytes of places
 module _ (sources : List (List ℕ)) (layout : LayoutData) (good : IsLayout layout) where
-  -- an address in a section that goes to a place is in a statement
+  -- an address in a section with a place is in a statement
   in_statement : (place : PlaceData) (i q : ℕ) → slice_get layout.places i ≡ Some place → place.at ≤ q → InSection place.section (sections_of sources) (λ before. round_up (taken_bytes place.section before)) (q - place.at) → IsCovered layout.places sources q
   in_statement place i q is_place above h = by (flat_at sections_in sources h.at h.section h.is_section)
     where

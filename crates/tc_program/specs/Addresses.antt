@@ -1,4 +1,5 @@
--- Where the sections and labels of sources stand once they are linked, and what names mean. No object is spoken of.
+-- The addresses of the sections, labels and names of sources after linking.
+-- No object is mentioned.
 use Rattle.std.specs.Prelude.{◌≡◌, ◌+◌, ◌%◌, ◌^◌, ℕ, true, List, ◌++◌, take, slice_get, Some, None}
 use Rattle.std.specs.List.{flat_map}
 use Rattle.tc_object.specs.Objects.{SectionData}
@@ -8,12 +9,12 @@ use Rattle.tc_asm.specs.Contents.{symbols_in, sections_in}
 use Rattle.tc_link.specs.Layouts.{PlaceData}
 use Rattle.tc_link.specs.Placing.{round_up, taken_bytes, place_of}
 
--- the sections of sources, one source after another
+-- the sections of all sources, in order
 abbrev pub sections_of : List (List ℕ) → List SectionData
 sections_of sources = flat_map sections_in sources
 
--- where a section of a source begins: in the place of its name, behind the sections of this name in earlier sources, at a
--- multiple of 4
+-- The address of a section of a source: in the place for its name, after the sections of this name
+-- in earlier sources, at a multiple of 4.
 pub record Begins (places : List PlaceData) (sources : List (List ℕ)) (number section base : ℕ) : Type 0 where
   pub source : List ℕ
   pub is_source : slice_get sources number ≡ Some source
@@ -23,7 +24,7 @@ pub record Begins (places : List PlaceData) (sources : List (List ℕ)) (number 
   pub is_place : place_of places data_of.name ≡ Some place
   pub is : base ≡ place.at + round_up (taken_bytes data_of.name (sections_of (take number sources) ++ take section (sections_in source)))
 
--- a label of a source stands at an address
+-- a label of a source has an address
 pub record HasLabel (places : List PlaceData) (sources : List (List ℕ)) (number : ℕ) (name : List ℕ) (address : ℕ) : Type 0 where
   pub source : List ℕ
   pub is_source : slice_get sources number ≡ Some source
@@ -33,13 +34,13 @@ pub record HasLabel (places : List PlaceData) (sources : List (List ℕ)) (numbe
   pub begins : Begins places sources number label.section base
   pub is : address ≡ (base + label.offset) % 2 ^ 32
 
--- a global label of one of the sources
+-- a global label of some source has an address
 pub record HasGlobal (places : List PlaceData) (sources : List (List ℕ)) (name : List ℕ) (address : ℕ) : Type 0 where
   pub number : ℕ
   pub stands : HasLabel places sources number name address
   pub is_global : (entry_of (symbols_in stands.source) name).is_global ≡ true
 
--- the address that a name means in a source: that of its own label, or else of a global one
+-- the address of a name in a source: that of its own label, or else that of a global one
 pub data Means (places : List PlaceData) (sources : List (List ℕ)) (number : ℕ) (name : List ℕ) : ℕ → Type 0 where
   own : (address : ℕ) → HasLabel places sources number name address → Means places sources number name address
   other :

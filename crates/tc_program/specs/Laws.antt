@@ -20,35 +20,35 @@ use Rattle.tc_link.specs.Linked.{image_of_objects}
 use Rattle.tc_program.specs.Addresses.{sections_of, Begins, HasGlobal, Means}
 use Rattle.tc_program.specs.Placed.{value_at, span_of, place_span, Placed}
 
--- objects of sources that break no rule, each its own
+-- the objects of sources that break no rule, one for each source
 abbrev pub AreAssembled : List (List ℕ) → List ObjectData → Type 0
 AreAssembled [] [] = Unit {0}
 AreAssembled [] (o ∷ os) = ⊥
 AreAssembled (x ∷ xs) [] = ⊥
 AreAssembled (x ∷ xs) (o ∷ os) = (KeepsRules (lines_in x) (length (lines_in x)) × (o ≡ object_of (draft_in x))) × AreAssembled xs os
 
--- where such objects are linked, each place with bytes is one segment
+-- in an image linked from such objects, each place with bytes is one segment
 abbrev pub SegmentsLaw : Type 0
 SegmentsLaw = (sources : List (List ℕ)) (objects : List ObjectData) (layout : LayoutData) (image : ImageData) → AreAssembled sources objects → image_of_objects objects layout ≡ Ok image
     → map span_of image.segments ≡ filter (λ s. nat_lt 0 s.size) (map (place_span (sections_of sources)) layout.places)
 
--- and the entry is the address of the layout's entry symbol
+-- in an image linked from such objects, the entry is the address of the layout's entry symbol
 abbrev pub EntryLaw : Type 0
 EntryLaw = (sources : List (List ℕ)) (objects : List ObjectData) (layout : LayoutData) (image : ImageData) → AreAssembled sources objects → image_of_objects objects layout ≡ Ok image
     → HasGlobal layout.places sources layout.entry image.entry
 
--- where they are linked by a layout, the image is the sources'
+-- an image linked from such objects by a layout has the bytes of the sources
 abbrev pub PlacedLaw : Type 0
 PlacedLaw = (sources : List (List ℕ)) (objects : List ObjectData) (layout : LayoutData) (image : ImageData) → IsLayout layout → AreAssembled sources objects → image_of_objects objects layout ≡ Ok image
     → Placed sources layout image
 
--- the symbols by which a source's jumps of 16 bits are resolved are those that all its lines put together
+-- the symbols that resolve a source's jumps of 16 bits are those of all its lines
 abbrev pub SymbolsLaw : Type 0
 SymbolsLaw = (source : List ℕ) → symbols_of (lines_in source) ≡ symbols_in source
 
 -- ---- filled fields
--- The bytes spell an instruction of a listed row; with any number that the field of this kind can hold they spell it with that
--- number as its constant.
+-- The bytes spell an instruction of a listed row. With a number in the field of this kind, they
+-- spell the instruction with that number as its constant.
 pub record FillsRow (kind : ℕ) (bytes : List ℕ) : Type 0 where
   pub place : ℕ
   pub row : RowData
@@ -58,13 +58,15 @@ pub record FillsRow (kind : ℕ) (bytes : List ℕ) : Type 0 where
   pub spelled : bytes ≡ spelling row fields
   pub filled : (n : ℕ) → n < room_of kind → Fits row (record fields { k = n }) × (with_field kind bytes n ≡ spelling row (record fields { k = n }))
 
--- the bytes of a statement that waits for an address are a word of data, or an instruction with the constant to be filled
+-- the bytes of a statement that waits for an address are a word of data, or an instruction with the
+-- constant to fill
 abbrev pub FieldsLaw : Type 0
 FieldsLaw = (source : List ℕ) (index : ℕ) (t : StatementData) (r : ReferenceData) → slice_get (statements_in source) index ≡ Some t → t.reference ≡ Some r → is_reloc r.kind ≡ true → (r.kind ≡ 7) ⊎ FillsRow r.kind t.bytes
 
 -- ---- jumps of 16 bits
--- A jump or call of 16 bits with these bytes at an address of the image: it spells an instruction, whose displacement goes from
--- there to the address that its name means in the source, with the number added.
+-- A jump or call of 16 bits with these bytes, at an address of the image. It spells an instruction,
+-- whose displacement goes from there to the address of its name in the source, plus the number that
+-- is added.
 pub record Reaches (places : List PlaceData) (sources : List (List ℕ)) (number : ℕ) (r : ReferenceData) (at : ℕ) (bytes : List ℕ) : Type 0 where
   pub place : ℕ
   pub spells : Spells place bytes
@@ -72,7 +74,7 @@ pub record Reaches (places : List PlaceData) (sources : List (List ℕ)) (number
   pub means : Means places sources number r.name address
   pub is : (at + displacement spells.row spells.fields) % 2 ^ 32 ≡ value_at address r
 
--- so of each statement whose symbol takes no relocation, where it stands in the image
+-- each statement of the image whose symbol takes no relocation reaches the address of its name
 abbrev pub JumpsLaw : Type 0
 JumpsLaw = (sources : List (List ℕ)) (objects : List ObjectData) (layout : LayoutData) (number index : ℕ) (source : List ℕ) (t : StatementData) (r : ReferenceData) (base : ℕ)
     → AreAssembled sources objects → slice_get sources number ≡ Some source → slice_get (statements_in source) index ≡ Some t → t.reference ≡ Some r → r.kind ≡ 0

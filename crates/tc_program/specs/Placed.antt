@@ -1,4 +1,4 @@
--- Where the statements of sources stand in an image that was assembled and linked from them.
+-- The addresses of the statements of sources in an image that was linked from them.
 use Rattle.std.specs.Prelude.{◌≡◌, ◌≤◌, ◌<◌, ◌+◌, ◌%◌, ◌^◌, ◌⊎◌, nat_lt, ℕ, true, false, List, length, map, filter, slice_get, Some, None}
 use Rattle.elf_image.specs.Images.{SegmentData, ImageData, image_byte}
 use Rattle.tc_isa.specs.Relocations.{is_reloc}
@@ -15,12 +15,13 @@ use Rattle.tc_link.specs.Placing.{taken_bytes}
 use Rattle.tc_program.specs.Addresses.{sections_of, Begins, HasGlobal, Means}
 
 -- ---- bytes
--- the number that the field of a symbol takes
+-- the number to write into the field of a symbol
 abbrev pub value_at : ℕ → ReferenceData → ℕ
 value_at address r = (address + addend_of r) % 2 ^ 32
 
--- The bytes of a statement that stands at this address: its data, or its instruction's spelling; with the field of its
--- symbol, if it has one, filled so that it reaches the symbol's address with the number added, which the field can hold.
+-- The bytes of a statement at this address: its data, or its instruction's spelling. If it has a
+-- symbol, the field can hold the symbol's address plus the number that is added, and is filled to
+-- reach it.
 pub data BytesAt (places : List PlaceData) (sources : List (List ℕ)) (number : ℕ) (t : StatementData) (at : ℕ) : List ℕ → Type 0 where
   plain : is_open t.reference ≡ false → BytesAt places sources number t at t.bytes
   filled :
@@ -32,7 +33,7 @@ pub data BytesAt (places : List PlaceData) (sources : List (List ℕ)) (number :
 abbrev pub HoldsFrom : ImageData → ℕ → List ℕ → Type 0
 HoldsFrom image at bytes = (k b : ℕ) → slice_get bytes k ≡ Some b → image_byte image (at + k) ≡ Some b
 
--- The statement with this index stands behind the earlier ones of its section.
+-- The statement with this index is after the earlier ones of its section.
 pub record StandsAt (places : List PlaceData) (sources : List (List ℕ)) (image : ImageData) (number index : ℕ) (ts : List StatementData) (t : StatementData) : Type 0 where
   pub base : ℕ
   pub begins : Begins places sources number t.section base
@@ -40,7 +41,7 @@ pub record StandsAt (places : List PlaceData) (sources : List (List ℕ)) (image
   pub are : BytesAt places sources number t (base + offset_of ts index t.section) bytes
   pub there : HoldsFrom image (base + offset_of ts index t.section) bytes
 
--- an address in a statement
+-- an address within a statement
 pub record IsCovered (places : List PlaceData) (sources : List (List ℕ)) (q : ℕ) : Type 0 where
   pub number : ℕ
   pub source : List ℕ
@@ -54,22 +55,24 @@ pub record IsCovered (places : List PlaceData) (sources : List (List ℕ)) (q : 
   pub high : q < base + offset_of (statements_in source) index statement.section + length statement.bytes
 
 -- ---- images
--- an address and how many bytes stand there
+-- an address, and the number of bytes there
 pub record SpanData : Type 0 where
   pub at : ℕ
   pub size : ℕ
 
--- where a segment of an image stands, and how many bytes it has
+-- the address of a segment, and the number of its bytes
 abbrev pub span_of : SegmentData → SpanData
 span_of s = record { at = s.at; size = length s.bytes }
 
--- where a place of a layout begins, and how many bytes the sections of its name take there
+-- the address of a place, and the number of bytes that the sections of its name use
 abbrev pub place_span : List SectionData → PlaceData → SpanData
 place_span sections p = record { at = p.at; size = taken_bytes p.section sections }
 
--- The image is the sources' by the layout: each place with bytes is one segment at its address, in the layout's order; each
--- statement with bytes stands there, its symbols replaced by their addresses; all other bytes are 0; and the entry is the
--- address of the layout's entry symbol.
+-- The image holds the sources, laid out by the layout:
+-- - Each place with bytes is one segment at its address, in the layout's order.
+-- - Each statement with bytes is at its address, with the addresses of its symbols filled in.
+-- - All other bytes are 0.
+-- - The entry is the address of the layout's entry symbol.
 pub record Placed (sources : List (List ℕ)) (layout : LayoutData) (image : ImageData) : Type 0 where
   pub segments : map span_of image.segments ≡ filter (λ s. nat_lt 0 s.size) (map (place_span (sections_of sources)) layout.places)
   pub statements : (number index : ℕ) (source : List ℕ) (t : StatementData) → slice_get sources number ≡ Some source → slice_get (statements_in source) index ≡ Some t → 0 < length t.bytes

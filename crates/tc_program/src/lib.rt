@@ -1,5 +1,4 @@
-//! What assembler and linker give together: where the statements of sources stand in the image that is linked from their
-//! objects.
+//! Laws of assembling and linking together: the addresses of statements in the linked image.
 #![tactic(auto)]
 
 mod placing;
