@@ -1,4 +1,4 @@
--- What it is to boot safely, by plain equations.
+-- Consequences of a safe boot, in plain equations.
 use Rattle.std.proofs.Common.{◌≡◌, List, [], ◌∷◌, ◌++◌, refl, sym, subst}
 use Rattle.tcd_plan.specs.PlanData.{PlanData}
 use Rattle.tc_machine.specs.declared.events.Event.{Event}

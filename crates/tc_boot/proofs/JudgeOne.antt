@@ -1,4 +1,4 @@
--- What stands against a boot sequence is one thing, or nothing.
+-- A boot sequence has a single first reason against it, or none.
 use Rattle.std.proofs.Common.{◌≡◌, ℕ, ◌+◌, ◌%◌, ◌⊎◌, inl, inr, true, false, Ok, Err, refl, sym, ap, ◌∙◌, subst, arith}
 use Rattle.std.specs.Prelude.{IsSome}
 use Rattle.std.proofs.lemmas.Bool.{cases_lt}
@@ -27,7 +27,7 @@ module _ (image : ImageData) (plan : PlanData) (at : ℕ) where
   may : HasBoot image plan at → MayBoot image plan at
   may has = record { off = has.off; even = has.even; even_entry = has.even_entry }
 
-  -- the sequence stands there, or something is against it
+  -- the sequence is there, or there is a reason against it
   pub not_both : (e : BootErr) → HasBoot image plan at → Judges image plan at (Err e) → ⊥
   not_both Enabled has bad = on_and_off bad has.off
   not_both Odd has bad = odd_and_even bad.1 has.even has.even_entry

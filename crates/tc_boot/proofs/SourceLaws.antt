@@ -8,7 +8,7 @@ use Rattle.tc_boot.specs.Sequence.{boot_bytes_of, boot_image_of}
 abbrev pub image_at : ℕ → List SegmentData → ImageData
 image_at at segments = record { entry = at; segments = segments }
 
--- an image made of what was pushed
+-- the image with the segment that was pushed
 pub boot_image-is : (plan : PlanData) (entry at : ℕ) (old new : List Segment) (s : Segment) → old ≡ [] → new ≡ old ++ s ∷ [] → s.at ≡ at → s.bytes.items ≡ boot_bytes_of plan entry
     → image_at at (map segment_data new) ≡ boot_image_of plan entry at
 boot_image-is plan entry at old new s none pushed there code =

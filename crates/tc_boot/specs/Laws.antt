@@ -1,4 +1,4 @@
--- What the definitions of this crate let in, told by plain equations.
+-- Consequences of this crate's definitions, in plain equations.
 use Rattle.std.specs.Prelude.{◌≡◌, ◌+◌, ◌*◌, ◌<◌, ℕ, false, List, ◌++◌, length, take, Result}
 use Rattle.elf_image.specs.Images.{ImageData}
 use Rattle.tcd_plan.specs.PlanData.{PlanData}
@@ -12,22 +12,26 @@ use Rattle.tc_boot.specs.declared.judging.BootErr.{BootErr}
 use Rattle.tc_boot.specs.Reset.{Reset, BootsFrom, BootsSafely}
 use Rattle.tc_boot.specs.Judging.{Judges}
 
--- The project's own reading of a reset: every machine that runs at the address with interrupts off, with the plan's core and
--- memory and the image's bytes in rom, is at reset, whatever its registers, ram and save areas hold.
+-- The project's reading of a reset. A machine is at reset if it runs at the address with interrupts
+-- off, has the plan's core and memory, and has the image's bytes in rom. Its registers, ram and
+-- CSAs can hold anything.
 abbrev pub AllAreAtReset : Type 0
 AllAreAtReset =
     (image : ImageData) (plan : PlanData) (at : ℕ) (m : Machine) → IsMachine m → m.end ≡ Running → m.pc ≡ at → m.ie ≡ false → m.core ≡ plan.core
     → IsPlanMemory plan m.mem → HoldsRom image plan m.mem → Reset image plan at m
 
--- Before the last event of a boot the machine runs with interrupts off at one of 56 places, four bytes apart.
+-- Before the last event of a boot the machine runs with interrupts off at one of 56 places, four
+-- bytes apart.
 abbrev pub BootsInside : Type 0
 BootsInside =
     (image : ImageData) (plan : PlanData) (at : ℕ) (m : Machine) (es : List Event) (n : ℕ) → BootsFrom image plan at m es → n < length es
     → ((run m (take n es)).end ≡ Running) × ((run m (take n es)).ie ≡ false) × ((place : ℕ) × (place < 56) × ((run m (take n es)).pc ≡ at + 4 * place))
 
--- Where an image boots safely from an address, take any machine that runs there with interrupts off, with the plan's core and
--- memory and the image's bytes in rom, and any events that fit, 53 and three for each area, and then any more: before each of the
--- former it runs with interrupts off at one of 56 places, four bytes apart; they lead to a start state; and each later state is safe.
+-- Suppose that an image boots safely from an address. Take a machine that runs there with
+-- interrupts off, with the plan's core and memory and the image's bytes in rom. Take fitting
+-- events, 53 and three for each CSA, and then any number more. Before each of the former, the
+-- machine runs with interrupts off at one of 56 places, four bytes apart. They lead to a start
+-- state, and each later state is safe.
 abbrev pub EveryBootIsSafe : Type 0
 EveryBootIsSafe =
     (image : ImageData) (plan : PlanData) (at most : ℕ) (m : Machine) (boot es : List Event) (e : Event) → BootsSafely image plan at most

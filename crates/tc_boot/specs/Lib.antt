@@ -1,3 +1,4 @@
+-- The boot sequence: its code, the states at reset, and its promises.
 pub mod Sequence
 pub mod Reset
 pub mod Judging

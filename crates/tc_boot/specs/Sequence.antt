@@ -8,7 +8,8 @@ use Rattle.tc_isa.specs.Rows.{RowData, listed}
 use Rattle.tc_isa.specs.Codec.{spelling}
 use Rattle.tc_machine.specs.PlanAreas.{first_link}
 
--- ---- the instructions that are used, by their place in the table of rows and their fields; the names are the architecture's
+-- ---- the instructions in use, by their rows in the instruction table and their fields; the names
+-- are the architecture's
 -- an instruction without a bit number
 abbrev pub inst : ℕ → ℕ → ℕ → ℕ → ℕ → InstData
 inst row c s1 s2 k = record { row = row; c = c; s1 = s1; s2 = s2; n = 0; k = k }
@@ -57,7 +58,8 @@ st_w_l s2 k s1 = inst 83 0 s1 s2 k
 abbrev pub lea_l : ℕ → ℕ → ℕ → InstData
 lea_l s1 s2 k = inst 84 0 s1 s2 k
 
--- loop As2: one less in a register, and a jump by twice the signed field k unless it was 0
+-- loop As2: subtracts one from a register, and jumps by twice the signed field k unless the
+-- register was 0
 abbrev pub loop_at : ℕ → ℕ → InstData
 loop_at s2 k = inst 100 0 0 s2 k
 
@@ -66,24 +68,27 @@ loop_at s2 k = inst 100 0 0 s2 k
 abbrev pub lower_half : ℕ → ℕ
 lower_half x = x % 2 ^ 16
 
--- the upper half of a word, one more where the lower half is negative as a signed number, so that their sum is the word
+-- The upper half of a word, plus one if the lower half is negative as a signed number. With the
+-- signed lower half added, it is the word.
 abbrev pub upper_half : ℕ → ℕ
 upper_half x = (x + 0x8000) / 2 ^ 16 % 2 ^ 16
 
--- a core register becomes x, by D0, and holds it from the next instruction on
+-- sets a core register to x, by D0; the register holds x from the next instruction on
 abbrev pub set_core : ℕ → ℕ → List InstData
 set_core number x = movh 0 (upper_half x) ∷ addi 0 0 (lower_half x) ∷ mtcr number 0 ∷ isync ∷ []
 
--- an address register becomes x
+-- sets an address register to x
 abbrev pub set_address : ℕ → ℕ → List InstData
 set_address r x = movh_a r (upper_half x) ∷ lea_l r r (lower_half x) ∷ []
 
--- ---- the sequence, the project's own; the numbers of core registers are the architecture's
--- the link that LCX gets: that of the first area of the reserve
+-- ---- the sequence, which is the project's own; the numbers of core registers are the
+-- architecture's
+-- the link word for LCX: that of the first CSA of the reserve
 abbrev pub limit_link : PlanData → ℕ
 limit_link plan = first_link plan + (plan.areas - plan.reserve)
 
--- the word that PSW gets: IO 2, IS as the plan says, GW 1 so that A0, A1, A8 and A9 can be written, and no call depth counted
+-- The word for PSW. IO is 2, IS is the plan's, and the call depth isn't counted. GW is 1, so that
+-- A0, A1, A8 and A9 can be written.
 abbrev pub boot_psw : PlanData → ℕ
 boot_psw plan = if plan.start_is then 0xb7f else 0x97f
 
@@ -93,21 +98,21 @@ core_part plan =
     set_core 0xfe2c plan.start_ccpn ++ set_core 0xfe00 0 ++ set_core 0xfe38 (first_link plan) ++ set_core 0xfe3c (limit_link plan)
     ++ set_core 0xfe20 plan.biv ++ set_core 0xfe24 plan.btv ++ set_core 0xfe28 plan.isp ++ set_core 0xfe04 (boot_psw plan)
 
--- D0 becomes the first link, A2 the first area, A3 the number of areas less one
+-- sets D0 to the first link word, A2 to the first CSA, A3 to the number of CSAs less one
 abbrev pub first_part : PlanData → List InstData
 first_part plan =
     movh 0 (upper_half (first_link plan)) ∷ addi 0 0 (lower_half (first_link plan)) ∷ set_address 2 plan.csa_at
     ++ mov 1 (plan.areas - 1) ∷ mov_a 3 1 ∷ []
 
--- each area gets the link of the next one; loop goes back by two instructions
+-- writes into each CSA the link word of the next one; loop goes back by two instructions
 abbrev pub link_part : List InstData
 link_part = addi 0 0 1 ∷ st_w_after 2 64 0 ∷ loop_at 3 (2 ^ 15 - 4) ∷ []
 
--- the last area gets 0 in its place
+-- writes 0 into the last CSA, as the end of the list
 abbrev pub last_part : List InstData
 last_part = mov 1 0 ∷ st_w_l 2 (2 ^ 16 - 64) 1 ∷ []
 
--- the globals and the stack pointer
+-- sets the global registers and the stack pointer
 abbrev pub address_part : PlanData → List InstData
 address_part plan =
     set_address 0 (slice_index plan.globals 0) ++ set_address 1 (slice_index plan.globals 1) ++ set_address 8 (slice_index plan.globals 2)
@@ -122,7 +127,7 @@ abbrev pub boot_sequence : PlanData → ℕ → List InstData
 boot_sequence plan entry = core_part plan ++ first_part plan ++ link_part ++ last_part ++ address_part plan ++ jump_part entry
 
 -- ---- its bytes
--- the bytes that a row of the table gives an instruction
+-- the bytes of an instruction by its row of the table, if it has one
 abbrev pub spelling_by : Option RowData → InstData → List ℕ
 spelling_by None i = []
 spelling_by (Some r) i = spelling r (fields_in i)
@@ -131,11 +136,12 @@ spelling_by (Some r) i = spelling r (fields_in i)
 abbrev pub spelling_of : InstData → List ℕ
 spelling_of i = spelling_by (slice_get listed i.row) i
 
--- the bytes of all, one after another
+-- the bytes of the sequence
 abbrev pub boot_bytes_of : PlanData → ℕ → List ℕ
 boot_bytes_of plan entry = flat_map spelling_of (boot_sequence plan entry)
 
--- how many events the sequence takes: three for each area in the loop, and one for each of the other 53 instructions
+-- the number of events of the sequence: three for each CSA in the loop, and one for each of the
+-- other 53 instructions
 abbrev pub boot_events : PlanData → ℕ
 boot_events plan = 53 + 3 * plan.areas
 

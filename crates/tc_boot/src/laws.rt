@@ -1,16 +1,17 @@
-// What the boot sequence does.
+// Public laws of the boot sequence.
 ghost use Rattle.tc_boot.specs.Laws.{AllAreAtReset, BootsInside, EveryBootIsSafe, JudgesOne};
 ghost use Rattle.tc_boot.specs.Reset.{BootReachesStart, SafeBoots};
 
-/// From every state at reset the boot sequence reaches a start state, after three events for each area and 53 more. Where an
-/// image is safe from its start states, it is so from reset on.
+/// From every state at reset, the boot sequence reaches a start state. It takes three events for
+/// each CSA, and 53 more. If an image is safe from its start states, it is safe from reset on.
 pub fn boot_reaches_the_start()
     ensures starts { BootReachesStart }
     ensures safe { SafeBoots }
 {}
 
-/// Which machines are at reset, where a machine is while it boots, and what it is to boot safely, by plain equations; and that the
-/// test of a boot sequence has one answer.
+/// Consequences of this crate's definitions in plain equations: the machines at reset, the
+/// addresses of a machine that boots, and what a safe boot promises. The test of a boot sequence
+/// has a single answer.
 pub fn states_of_boots()
     ensures reset { AllAreAtReset }
     ensures inside { BootsInside }

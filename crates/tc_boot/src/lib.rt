@@ -1,4 +1,4 @@
-//! The boot sequence: code that builds the list of areas and sets the registers that a plan gives.
+//! The boot sequence: code that builds the free list of CSAs and sets the registers of a plan.
 #![tactic(auto)]
 
 mod bytes;

@@ -1,4 +1,4 @@
-// The boot sequence as a source.
+// Prints the boot sequence as an assembler source.
 ghost use Rattle.std.specs.Prelude.{◌≡◌, ◌≤◌, ◌+◌, ◌^◌, IfOk, string_bytes};
 ghost use Rattle.tc_disasm.specs.Listing.{listing_of};
 ghost use Rattle.tc_boot.specs.Sequence.{boot_image_of};
@@ -25,7 +25,8 @@ fn boot_image(alloc: Global, plan: &Plan, entry: u32, at: u32) -> Result<Image, 
     })
 }
 
-/// The boot sequence of a plan and an entry at an address, as a source: the listing of the image whose one segment it is.
+/// The boot sequence of a plan and an entry at an address, as a source: the listing of the image
+/// whose one segment it is.
 pub fn boot_source(alloc: Global, plan: &Plan, entry: u32, at: u32) -> Result<String, NoMemory>
     requires { at + 224 ≤ 2 ^ 32 }
     ensures { IfOk result (λ text. string_bytes text
